@@ -1,0 +1,207 @@
+-- What each call of a wrapper asks and changes.
+use Rattle.std.specs.Prelude.{◌≡◌, ◌≢◌, ◌+◌, ◌-◌, ◌^◌, ◌<◌, ◌≤◌, ℕ, Bool, true, false, List, [], ◌∷◌, Option, Some, None, IsSome, min, map, Contains, IsPermutation, nat_eq}
+use Rattle.std.specs.List.{IsDistinct}
+use Rattle.std.specs.Ordering.{nat_cmp}
+use Rattle.std.specs.FinMap as finmap
+use Rattle.med_value.specs.Datum.{Tuple, tuple}
+use Rattle.med_value.specs.declared.cause.Cause.{Cause}
+use Rattle.med_value.specs.declared.cause.Cause.TheVariants.{NumbersUsedUp}
+use Rattle.fdw_api.specs.declared.scan.ScanSpec.{ScanSpec}
+use Rattle.fdw_api.specs.Scan.{Spec, spec_of, filter_of, Filter, GivenRow, IsComing, params_fit}
+use Rattle.fdw_api.specs.Kinds.{Column, Setting, Entry, Holding, Known, Unknown, Reading, held, phase}
+use Rattle.fdw_api.specs.State.{Nature, Bound, Scan, Staging, Ledger, Content, BoxState, is_honest, table_of, scan_of, rows_of, set_at}
+use Rattle.fdw_api.specs.declared.interface.Fault.{Fault}
+use Rattle.fdw_api.specs.declared.interface.Fault.TheVariants.{NoMemory, Source, Refused}
+use Rattle.fdw_api.specs.declared.interface.SourceRow.{SourceRow}
+
+-- one more, staying at 2^64 - 1
+abbrev pub bumped : ℕ → ℕ
+bumped n = min (n + 1) (2 ^ 64 - 1)
+
+-- how `faults` stands after this fault
+abbrev pub faults_after : Fault → ℕ → ℕ
+faults_after Source n = bumped n
+faults_after NoMemory n = n
+faults_after (Refused c) n = n
+
+abbrev pub row_of : SourceRow → GivenRow
+row_of row = record { id = row.id.number; cells = tuple row.cells }
+
+-- the contents of a box that these tickets, tables and remote names may have changed, and no other
+pub record Leaves (tickets tables : ℕ → Type 0) (remotes : List ℕ → Type 0) (old new : BoxState) : Type 0 where
+  pub coming : (q : ℕ) → IsSome (scan_of old q) → (tickets q → ⊥) → new.content.coming q ≡ old.content.coming q
+  pub rows : (t : ℕ) → (tables t → ⊥) → new.content.rows t ≡ old.content.rows t
+  pub holdings : (r : List ℕ) → (remotes r → ⊥) → new.content.holdings r ≡ old.content.holdings r
+
+abbrev pub none_of : {X : Type 0} → X → Type 0
+none_of x = ⊥
+
+abbrev pub LeavesAll : BoxState → BoxState → Type 0
+LeavesAll = Leaves none_of none_of none_of
+
+abbrev pub LeavesOthers : ℕ → BoxState → BoxState → Type 0
+LeavesOthers number = Leaves (λ q. q ≡ number) none_of none_of
+
+-- no scan of a table is live
+abbrev pub NoScan : BoxState → ℕ → Type 0
+NoScan s t = (q : ℕ) (scan : Scan) → scan_of s q ≡ Some scan → scan.table ≢ t
+
+-- a refused call that may begin: `next` may rise in a box round a box
+pub record Refuses (fault : Fault) (old new : BoxState) : Type 0 where
+  pub nature : new.nature ≡ old.nature
+  pub next : ℕ
+  pub rises : old.ledger.next ≤ next
+  pub ledger : new.ledger ≡ record old.ledger { next = next; faults = faults_after fault old.ledger.faults }
+  pub leaves : is_honest old → LeavesAll old new
+
+-- the bytes under a remote name, any where they are unknown
+abbrev pub Picks : Holding → Option Entry → Type 0
+Picks (Known e) picked = picked ≡ e
+Picks Unknown picked = Unit {0}
+
+-- bind: no table has this remote, and no cause of names, rights or types stands
+pub record CanBind (s : BoxState) (remote : List ℕ) (columns : List Column) (settings : List Setting) : Type 0 where
+  pub free : (t : ℕ) (b : Bound) → table_of s t ≡ Some b → b.remote ≢ remote
+  pub no_objection : s.nature.kind.objections columns settings ≡ []
+
+pub record Binds (old : BoxState) (remote : List ℕ) (columns : List Column) (settings : List Setting) (t : ℕ) (new : BoxState) : Type 0 where
+  pub nature : new.nature ≡ old.nature
+  pub fresh : table_of old t ≡ None
+  pub bound : Bound
+  pub remote_is : bound.remote ≡ remote
+  pub kinds_are : bound.kinds ≡ map (λ c. c.kind) columns
+  pub line_is : bound.line ≡ old.nature.kind.line columns settings
+  pub image_is : bound.image ≡ old.nature.kind.image columns settings
+  pub refuses_is : bound.refuses ≡ old.nature.kind.refuses columns settings
+  pub ledger : new.ledger ≡ record old.ledger { tables = set_at old.ledger.tables t (Some bound) }
+  pub entry : Option Entry
+  pub picked : is_honest old → Picks (old.content.holdings remote) entry
+  pub no_cause : is_honest old → (old.nature.kind.reads columns settings entry).causes ≡ []
+  pub rows : is_honest old → IsPermutation (map held (rows_of new t)) (old.nature.kind.reads columns settings entry).rows
+  pub once : is_honest old → IsDistinct nat_eq (map (λ r. r.id) (rows_of new t))
+  pub leaves : is_honest old → Leaves none_of (λ u. u ≡ t) none_of old new
+
+-- a cause of a reading in the least phase in which one stands
+pub record IsLeast (causes : List Cause) (c : Cause) : Type 0 where
+  pub stands : Contains causes c
+  pub least : (d : Cause) → Contains causes d → phase c ≤ phase d
+
+abbrev pub BindCause : BoxState → List ℕ → List Column → List Setting → Fault → Type 0
+BindCause old remote columns settings (Refused c) =
+    is_honest old → (entry : Option Entry) × Picks (old.content.holdings remote) entry × IsLeast (old.nature.kind.reads columns settings entry).causes c
+BindCause old remote columns settings NoMemory = Unit {0}
+BindCause old remote columns settings Source = Unit {0}
+
+pub record RefusesBind (old : BoxState) (remote : List ℕ) (columns : List Column) (settings : List Setting) (fault : Fault) (new : BoxState) : Type 0 where
+  pub refuses : Refuses fault old new
+  pub cause : BindCause old remote columns settings fault
+
+-- unbind
+pub record CanUnbind (s : BoxState) (t : ℕ) : Type 0 where
+  pub is_bound : IsSome (table_of s t)
+  pub no_scan : NoScan s t
+  pub not_staged : s.ledger.staged ≡ None
+
+pub record Unbinds (old : BoxState) (t : ℕ) (new : BoxState) : Type 0 where
+  pub nature : new.nature ≡ old.nature
+  pub ledger : new.ledger ≡ record old.ledger { tables = set_at old.ledger.tables t None }
+  pub leaves : is_honest old → Leaves none_of (λ u. u ≡ t) none_of old new
+
+-- plan
+pub record Allows (s : BoxState) (t : ℕ) (spec : Spec) : Type 0 where
+  pub bound : Bound
+  pub is : table_of s t ≡ Some bound
+  pub allowed : bound.allows spec ≡ true
+
+-- begin
+pub record CanBegin (s : BoxState) (t : ℕ) (spec : ScanSpec) (params : Tuple) : Type 0 where
+  pub bound : Bound
+  pub is : table_of s t ≡ Some bound
+  pub allowed : bound.allows (spec_of spec) ≡ true
+  pub typed : params_fit bound.kinds (map filter_of spec.offered.items) params ≡ true
+
+-- a scan that is whole
+abbrev pub new_scan : ℕ → Spec → Tuple → ℕ → Scan
+new_scan t spec params left = record { table = t; spec = spec; params = params; left = left; broken = false }
+
+pub record Begins (old : BoxState) (t : ℕ) (spec : Spec) (params : Tuple) (number : ℕ) (new : BoxState) : Type 0 where
+  pub nature : new.nature ≡ old.nature
+  pub is_next : number ≡ old.ledger.next
+  pub room : number < 2 ^ 64 - 1
+  pub fresh : scan_of old number ≡ None
+  pub left : ℕ
+  pub ledger : new.ledger ≡ record old.ledger { live = finmap.insert old.ledger.live number (new_scan t spec params left); next = number + 1 }
+  pub coming : is_honest old → IsComing (rows_of old t) spec params (new.content.coming number)
+  pub leaves : is_honest old → LeavesOthers number old new
+
+-- 54000 only where numbers are used up, and no other cause
+abbrev pub BeginCause : Fault → ℕ → Type 0
+BeginCause NoMemory next = Unit {0}
+BeginCause Source next = Unit {0}
+BeginCause (Refused c) next = (c ≡ NumbersUsedUp) × (next ≡ 2 ^ 64 - 1)
+
+pub record RefusesBegin (fault : Fault) (old new : BoxState) : Type 0 where
+  pub refuses : Refuses fault old new
+  pub cause : BeginCause fault old.ledger.next
+
+-- iterate and rescan
+abbrev pub IsOpen : BoxState → ℕ → Type 0
+IsOpen s number = (scan : Scan) × (scan_of s number ≡ Some scan) × (scan.broken ≡ false)
+
+abbrev pub not_refused : Fault → Type 0
+not_refused NoMemory = Unit {0}
+not_refused Source = Unit {0}
+not_refused (Refused c) = ⊥
+
+pub record GivesRow (old : BoxState) (number : ℕ) (row : GivenRow) (new : BoxState) : Type 0 where
+  pub nature : new.nature ≡ old.nature
+  pub scan : Scan
+  pub at : scan_of old number ≡ Some scan
+  pub left : ℕ
+  pub fewer : left < scan.left
+  pub ledger : new.ledger ≡ record old.ledger { live = finmap.insert old.ledger.live number (record scan { left = left }); pulled = bumped old.ledger.pulled }
+  pub coming : is_honest old → old.content.coming number ≡ row ∷ new.content.coming number
+  pub leaves : is_honest old → LeavesOthers number old new
+
+pub record GivesNone (old : BoxState) (number : ℕ) (new : BoxState) : Type 0 where
+  pub nature : new.nature ≡ old.nature
+  pub ledger : new.ledger ≡ old.ledger
+  pub coming : is_honest old → old.content.coming number ≡ []
+  pub still : is_honest old → new.content.coming number ≡ []
+  pub leaves : is_honest old → LeavesOthers number old new
+
+abbrev pub Gives : BoxState → ℕ → Option SourceRow → BoxState → Type 0
+Gives old number None new = GivesNone old number new
+Gives old number (Some row) new = GivesRow old number (row_of row) new
+
+pub record Breaks (old : BoxState) (number : ℕ) (fault : Fault) (new : BoxState) : Type 0 where
+  pub nature : new.nature ≡ old.nature
+  pub no_cause : not_refused fault
+  pub scan : Scan
+  pub at : scan_of old number ≡ Some scan
+  pub ledger : new.ledger ≡ record old.ledger { live = finmap.insert old.ledger.live number (record scan { broken = true }); faults = faults_after fault old.ledger.faults }
+  pub leaves : is_honest old → LeavesOthers number old new
+
+-- rescan asks for a whole scan and parameters of its restrictions
+pub record CanRescan (s : BoxState) (number : ℕ) (params : Tuple) : Type 0 where
+  pub scan : Scan
+  pub at : scan_of s number ≡ Some scan
+  pub whole : scan.broken ≡ false
+  pub bound : Bound
+  pub is : table_of s scan.table ≡ Some bound
+  pub typed : params_fit bound.kinds scan.spec.offered params ≡ true
+
+pub record Rescans (old : BoxState) (number : ℕ) (params : Tuple) (new : BoxState) : Type 0 where
+  pub nature : new.nature ≡ old.nature
+  pub scan : Scan
+  pub at : scan_of old number ≡ Some scan
+  pub left : ℕ
+  pub ledger : new.ledger ≡ record old.ledger { live = finmap.insert old.ledger.live number (new_scan scan.table scan.spec params left) }
+  pub coming : is_honest old → IsComing (rows_of old scan.table) scan.spec params (new.content.coming number)
+  pub leaves : is_honest old → LeavesOthers number old new
+
+-- end
+pub record Ends (old : BoxState) (number : ℕ) (new : BoxState) : Type 0 where
+  pub nature : new.nature ≡ old.nature
+  pub ledger : new.ledger ≡ record old.ledger { live = finmap.remove old.ledger.live number }
+  pub leaves : is_honest old → LeavesOthers number old new

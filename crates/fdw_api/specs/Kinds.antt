@@ -1,0 +1,78 @@
+-- What a kind of source makes of what it stores.
+use Rattle.std.specs.Prelude.{◌≡◌, ◌≤◌, ℕ, ℤ, Bool, true, false, List, [], ◌∷◌, ◌++◌, map, filter, flat_map, Option, Some, None, Contains, nat_eq, if◌then◌else◌}
+use Rattle.std.specs.String.{string_bytes}
+use Rattle.med_value.specs.Datum.{Datum, Tuple}
+use Rattle.med_value.specs.declared.value.ColType.{ColType}
+use Rattle.med_value.specs.declared.value.ColumnDef.{ColumnDef}
+use Rattle.med_value.specs.declared.cause.Cause.{Cause}
+use Rattle.med_value.specs.declared.cause.Cause.TheVariants.{InUse, TableNotFound, InvalidDataType, NumbersUsedUp, InvalidFormat, InvalidText, NotNull, NotUnique, NotInState, TooLarge}
+use Rattle.fdw_api.specs.declared.interface.Opt.{Opt}
+use Rattle.fdw_api.specs.Scan.{TableRow}
+
+abbrev pub phase : Cause → ℕ
+phase InUse = 5
+phase TableNotFound = 5
+phase InvalidDataType = 5
+phase NumbersUsedUp = 5
+phase InvalidFormat = 6
+phase InvalidText = 6
+phase NotNull = 6
+phase NotUnique = 6
+phase NotInState = 6
+phase TooLarge = 6
+
+pub record Column : Type 0 where
+  pub name : List ℕ
+  pub kind : ColType
+  pub not_null : Bool
+
+abbrev pub column_of : ColumnDef → Column
+column_of c = record { name = string_bytes c.name; kind = c.kind; not_null = c.not_null }
+
+pub record Setting : Type 0 where
+  pub level : ℕ
+  pub key : List ℕ
+  pub text : List ℕ
+
+abbrev pub setting_of : Opt → Setting
+setting_of o = record { level = o.level; key = string_bytes o.key; text = string_bytes o.text }
+
+-- what stands under a remote name: bytes, or column types and rows
+pub data Entry : Type 0 where
+  Bytes : List ℕ → Entry
+  Stored : List ColType → List Tuple → Entry
+
+pub data Holding : Type 0 where
+  Known : Option Entry → Holding
+  Unknown : Holding
+
+-- a row with the record or line that it was read from
+pub record Held : Type 0 where
+  pub cells : Tuple
+  pub origin : List (List ℕ)
+
+abbrev pub held : TableRow → Held
+held r = record { cells = r.cells; origin = r.origin }
+
+-- what binding an entry gives: the causes that stand, and where there is none its rows
+pub record Reading : Type 0 where
+  pub causes : List Cause
+  pub rows : List Held
+
+-- a staged change
+pub data Change : Type 0 where
+  Inserts : Tuple → Change
+  Updates : ℕ → Tuple → Change
+  Deletes : ℕ → Change
+
+-- a kind, with what binding and writing mean for it
+pub record Kind : Type 0 where
+  -- the causes of names, rights and types that columns and options show
+  pub objections : List Column → List Setting → List Cause
+  pub reads : List Column → List Setting → Option Entry → Reading
+  -- the record or line of a written row
+  pub line : List Column → List Setting → Tuple → List (List ℕ)
+  -- what stands under the remote name when these rows, in this order, were written
+  pub image : List Column → List Setting → Option Entry → List Held → Option Entry
+  -- the causes that stand for all staged changes together
+  pub refuses : List Column → List Setting → List TableRow → List Change → List Cause

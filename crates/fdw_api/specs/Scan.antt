@@ -1,0 +1,161 @@
+-- What a scan is asked for, and which rows it may give.
+use Rattle.std.specs.Prelude.{◌≡◌, ◌<◌, ℕ, Bool, true, false, not, ◌&&◌, if◌then◌else◌, List, [], ◌∷◌, ◌++◌, map, length, replicate, All, IsPermutation, slice_index_or, Option, Some, None, slice_get, nat_lt}
+use Rattle.std.specs.List.{list_all}
+use Rattle.std.specs.declared.cmp.Ordering.{Ordering}
+use Rattle.std.specs.Ordering.{is_lt, is_le, is_eq, is_gt, is_ge}
+use Rattle.med_value.specs.Datum.{Datum, NoValue, Whole, Chars, Logic, Tuple, datum}
+use Rattle.med_value.specs.Order.{datum_cmp}
+use Rattle.med_value.specs.declared.value.ColType.{ColType}
+use Rattle.med_value.specs.declared.value.ColType.TheVariants.{Int as IntType, Text as TextType, Bool as BoolType}
+use Rattle.fdw_api.specs.declared.scan.Comparison.{Comparison}
+use Rattle.fdw_api.specs.declared.scan.Comparison.TheVariants.{Equal, Apart, Below, AtMost, Above, AtLeast}
+use Rattle.fdw_api.specs.declared.scan.Operand.{Operand}
+use Rattle.fdw_api.specs.declared.scan.Operand.TheVariants.{Constant, Parameter}
+use Rattle.fdw_api.specs.declared.scan.Test.{Test}
+use Rattle.fdw_api.specs.declared.scan.Test.TheVariants.{Compare, IsNull, IsNotNull}
+use Rattle.fdw_api.specs.declared.scan.Restriction.{Restriction}
+use Rattle.fdw_api.specs.declared.scan.Agree.{Agree}
+use Rattle.fdw_api.specs.declared.scan.Agree.TheVariants.{Ignored, Hint, Exact}
+use Rattle.fdw_api.specs.declared.scan.Agreement.{Agreement}
+use Rattle.fdw_api.specs.declared.scan.ScanSpec.{ScanSpec}
+
+-- a restriction with the meaning of its constant
+pub data Other : Type 0 where
+  Given : Datum → Other
+  Slot : ℕ → Other
+
+pub data Check : Type 0 where
+  Compares : Comparison → Other → Check
+  Missing : Check
+  Present : Check
+
+pub record Filter : Type 0 where
+  pub column : ℕ
+  pub check : Check
+
+abbrev pub other_of : Operand → Other
+other_of (Constant v) = Given (datum v)
+other_of (Parameter at) = Slot at
+
+abbrev pub check_of : Test → Check
+check_of (Compare op o) = Compares op (other_of o)
+check_of IsNull = Missing
+check_of IsNotNull = Present
+
+abbrev pub filter_of : Restriction → Filter
+filter_of r = record { column = r.column; check = check_of r.test }
+
+pub record Spec : Type 0 where
+  pub wanted : List ℕ
+  pub offered : List Filter
+  pub answers : List Agree
+  pub narrow : Bool
+
+abbrev pub spec_of : ScanSpec → Spec
+spec_of s = record { wanted = s.wanted.items; offered = map filter_of s.offered.items; answers = s.agreement.answers.items; narrow = s.agreement.narrow }
+
+-- the spec of a scan with this agreement
+abbrev pub spec_by : List ℕ → List Filter → Agreement → Spec
+spec_by wanted offered a = record { wanted = wanted; offered = offered; answers = a.answers.items; narrow = a.narrow }
+
+-- nothing is taken over
+abbrev pub plain_spec : List ℕ → List Filter → Spec
+plain_spec wanted offered = record { wanted = wanted; offered = offered; answers = replicate (length offered) Ignored; narrow = false }
+
+-- the cell of a column
+abbrev pub cell : Tuple → ℕ → Datum
+cell cells column = slice_index_or cells column NoValue
+
+abbrev pub holds : Comparison → Ordering → Bool
+holds Equal o = is_eq o
+holds Apart o = not (is_eq o)
+holds Below o = is_lt o
+holds AtMost o = is_le o
+holds Above o = is_gt o
+holds AtLeast o = is_ge o
+
+abbrev pub is_null : Datum → Bool
+is_null NoValue = true
+is_null (Whole m) = false
+is_null (Chars s) = false
+is_null (Logic p) = false
+
+-- a comparison is true: with NULL it never is
+abbrev pub compares_true : Comparison → Datum → Datum → Bool
+compares_true op v w = if is_null v then false else (if is_null w then false else holds op (datum_cmp v w))
+
+abbrev pub value_of : Tuple → Other → Datum
+value_of params (Given v) = v
+value_of params (Slot at) = cell params at
+
+abbrev pub checks : Tuple → Check → Datum → Bool
+checks params (Compares op o) v = compares_true op v (value_of params o)
+checks params Missing v = is_null v
+checks params Present v = not (is_null v)
+
+-- a restriction is true of a row
+abbrev pub meets : Tuple → Tuple → Filter → Bool
+meets params cells f = checks params f.check (cell cells f.column)
+
+abbrev pub meets_all : List Filter → Tuple → Tuple → Bool
+meets_all offered params cells = list_all (meets params cells) offered
+
+-- each restriction answered Exact is true of a row
+abbrev pub meets_exact : List Filter → List Agree → Tuple → Tuple → Bool
+meets_exact [] answers params cells = true
+meets_exact (f ∷ fs) [] params cells = true
+meets_exact (f ∷ fs) (Exact ∷ answers) params cells = meets params cells f && meets_exact fs answers params cells
+meets_exact (f ∷ fs) (Ignored ∷ answers) params cells = meets_exact fs answers params cells
+meets_exact (f ∷ fs) (Hint ∷ answers) params cells = meets_exact fs answers params cells
+
+-- a row of a table: its id, its cells, and the record or line that it was read from
+pub record TableRow : Type 0 where
+  pub id : ℕ
+  pub cells : Tuple
+  pub origin : List (List ℕ)
+
+-- a row as a scan gives it
+pub record GivenRow : Type 0 where
+  pub id : ℕ
+  pub cells : Tuple
+
+abbrev pub pick : List ℕ → Tuple → Tuple
+pick wanted cells = map (cell cells) wanted
+
+-- all columns, or the wanted ones
+abbrev pub shown_cells : Spec → Tuple → Tuple
+shown_cells spec cells = if spec.narrow then pick spec.wanted cells else cells
+
+abbrev pub shown : Spec → TableRow → GivenRow
+shown spec r = record { id = r.id; cells = shown_cells spec r.cells }
+
+-- the rows that a scan may give: each row of the table at most once, every row that meets all restrictions, none that fails an Exact one
+pub record IsComing (rows : List TableRow) (spec : Spec) (params : Tuple) (coming : List GivenRow) : Type 0 where
+  pub taken : List TableRow
+  pub left_out : List TableRow
+  pub parts : IsPermutation rows (taken ++ left_out)
+  pub failing : All (λ r. meets_all spec.offered params r.cells ≡ false) left_out
+  pub exact : All (λ r. meets_exact spec.offered spec.answers params r.cells ≡ true) taken
+  pub is : coming ≡ map (shown spec) taken
+
+-- a value is of a type, or NULL
+abbrev pub has_kind : ColType → Datum → Bool
+has_kind k NoValue = true
+has_kind IntType (Whole m) = true
+has_kind TextType (Chars s) = true
+has_kind BoolType (Logic b) = true
+has_kind k v = false
+
+abbrev pub kind_is : Option ColType → Datum → Bool
+kind_is None v = false
+kind_is (Some k) v = has_kind k v
+
+-- a parameter is there, with a value of its column's type
+abbrev pub check_fits : List ColType → Tuple → ℕ → Check → Bool
+check_fits kinds params column (Compares op (Slot at)) = nat_lt at (length params) && kind_is (slice_get kinds column) (cell params at)
+check_fits kinds params column (Compares op (Given v)) = true
+check_fits kinds params column Missing = true
+check_fits kinds params column Present = true
+
+abbrev pub params_fit : List ColType → List Filter → Tuple → Bool
+params_fit kinds offered params = list_all (λ f. check_fits kinds params f.column f.check) offered

@@ -1,0 +1,235 @@
+//! What a scan is asked for, and what a box agrees to take over.
+ghost use Rattle.std.specs.Prelude.{◌≡◌, map, IfOk};
+ghost use Rattle.med_value.specs.Datum.{datum, tuple};
+ghost use Rattle.fdw_api.specs.Scan.{other_of, check_of, filter_of, spec_of, is_null, holds, compares_true, cell, checks, meets, meets_exact, pick, shown_cells};
+
+use std::alloc::Global;
+use std::cmp::Ordering;
+
+use med_value::{NoMemory, Row, Value};
+use med_value::order::compare_values;
+
+#[derive(Clone, Copy, Debug, PartialEq, Eq)]
+pub enum Comparison {
+    Equal,
+    Apart,
+    Below,
+    AtMost,
+    Above,
+    AtLeast,
+}
+
+/// What a column is compared with.
+#[derive(Debug, Drop)]
+pub enum Operand {
+    Constant(Value),
+    Parameter(usize),
+}
+
+#[derive(Debug, Drop)]
+pub enum Test {
+    Compare(Comparison, Operand),
+    IsNull,
+    IsNotNull,
+}
+
+/// A test of one column.
+#[derive(Debug, Drop)]
+pub struct Restriction {
+    pub column: usize,
+    pub test: Test,
+}
+
+/// What a box does about one restriction: nothing; rows that fail it may be missing; no row that fails it comes.
+#[derive(Clone, Copy, Debug, PartialEq, Eq)]
+pub enum Agree {
+    Ignored,
+    Hint,
+    Exact,
+}
+
+/// One answer for each restriction, and whether rows hold the wanted columns only.
+#[derive(Debug, Drop)]
+pub struct Agreement {
+    pub answers: Vec<Agree>,
+    pub narrow: bool,
+}
+
+#[derive(Debug, Drop)]
+pub struct ScanSpec {
+    pub wanted: Vec<usize>,
+    pub offered: Vec<Restriction>,
+    pub agreement: Agreement,
+}
+
+pub fn copy_values(values: &[Value], alloc: Global) -> Result<Vec<Value>, NoMemory>
+    ensures { IfOk result (λ copies. map datum copies.items ≡ map datum values.now) }
+{
+    let mut copies = Vec::new(alloc);
+    for value in values {
+        copies.push(value.copy(alloc)?)?;
+    }
+    Ok(copies)
+}
+
+impl Operand {
+    fn copy(&self, alloc: Global) -> Result<Operand, NoMemory>
+        ensures { IfOk result (λ o. other_of o ≡ other_of self.now) }
+    {
+        match self {
+            Operand::Constant(value) => Ok(Operand::Constant(value.copy(alloc)?)),
+            Operand::Parameter(at) => Ok(Operand::Parameter(*at)),
+        }
+    }
+}
+
+impl Test {
+    fn copy(&self, alloc: Global) -> Result<Test, NoMemory>
+        ensures { IfOk result (λ t. check_of t ≡ check_of self.now) }
+    {
+        match self {
+            Test::Compare(comparison, operand) => Ok(Test::Compare(*comparison, operand.copy(alloc)?)),
+            Test::IsNull => Ok(Test::IsNull),
+            Test::IsNotNull => Ok(Test::IsNotNull),
+        }
+    }
+}
+
+fn is_missing(value: &Value) -> bool
+    ensures { result ≡ is_null (datum value.now) }
+{
+    matches!(value, Value::Null)
+}
+
+impl Comparison {
+    fn accepts(self, order: Ordering) -> bool
+        ensures { result ≡ holds self order }
+    {
+        match self {
+            Comparison::Equal => order.is_eq(),
+            Comparison::Apart => order.is_ne(),
+            Comparison::Below => order.is_lt(),
+            Comparison::AtMost => order.is_le(),
+            Comparison::Above => order.is_gt(),
+            Comparison::AtLeast => order.is_ge(),
+        }
+    }
+
+    /// Whether a comparison is true: with NULL it never is.
+    pub fn is_true(self, left: &Value, right: &Value) -> bool
+        ensures { result ≡ compares_true self (datum left.now) (datum right.now) }
+    {
+        if is_missing(left) || is_missing(right) {
+            return false;
+        }
+        self.accepts(compare_values(left, right))
+    }
+}
+
+/// Whether a comparison with a cell that may not be there is true.
+fn compares(comparison: Comparison, left: &Value, params: &[Value], at: usize) -> bool
+    ensures { result ≡ compares_true comparison (datum left.now) (cell (map datum params.now) at) }
+{
+    match params.get(at) {
+        Some(right) => comparison.is_true(left, right),
+        None => false,
+    }
+}
+
+impl Test {
+    fn passes(&self, value: &Value, params: &[Value]) -> bool
+        ensures { result ≡ checks (map datum params.now) (check_of self.now) (datum value.now) }
+    {
+        match self {
+            Test::Compare(comparison, Operand::Constant(right)) => comparison.is_true(value, right),
+            Test::Compare(comparison, Operand::Parameter(at)) => compares(*comparison, value, params, *at),
+            Test::IsNull => is_missing(value),
+            Test::IsNotNull => !is_missing(value),
+        }
+    }
+}
+
+impl Restriction {
+    pub fn copy(&self, alloc: Global) -> Result<Restriction, NoMemory>
+        ensures { IfOk result (λ r. filter_of r ≡ filter_of self.now) }
+    {
+        Ok(Restriction {
+            column: self.column,
+            test: self.test.copy(alloc)?,
+        })
+    }
+
+    /// Whether the restriction is true of a row.
+    pub fn is_met(&self, row: &Row, params: &[Value]) -> bool
+        ensures { result ≡ meets (map datum params.now) (tuple row.now) (filter_of self.now) }
+    {
+        match row.cells.get(self.column) {
+            Some(value) => self.test.passes(value, params),
+            None => self.test.passes(&Value::Null, params),
+        }
+    }
+}
+
+/// Whether each restriction answered Exact is true of a row.
+pub fn meets_taken(offered: &[Restriction], answers: &[Agree], row: &Row, params: &[Value]) -> bool
+    ensures { result ≡ meets_exact (map filter_of offered.now) answers.now (map datum params.now) (tuple row.now) }
+{
+    let mut offered = offered;
+    let mut answers = answers;
+    while let Some((restriction, further)) = offered.split_first() {
+        let Some((answer, others)) = answers.split_first() else {
+            return true;
+        };
+        if matches!(answer, Agree::Exact) && !restriction.is_met(row, params) {
+            return false;
+        }
+        offered = further;
+        answers = others;
+    }
+    true
+}
+
+/// The wanted cells of a row.
+pub fn pick_cells(row: &Row, wanted: &[usize], alloc: Global) -> Result<Row, NoMemory>
+    ensures { IfOk result (λ r. tuple r ≡ pick wanted.now (tuple row.now)) }
+{
+    let mut cells = Vec::new(alloc);
+    for column in wanted {
+        let value = match row.cells.get(*column) {
+            Some(value) => value.copy(alloc)?,
+            None => Value::Null,
+        };
+        cells.push(value)?;
+    }
+    Ok(Row { cells })
+}
+
+impl ScanSpec {
+    pub fn copy(&self, alloc: Global) -> Result<ScanSpec, NoMemory>
+        ensures { IfOk result (λ s. spec_of s ≡ spec_of self.now) }
+    {
+        let mut offered = Vec::new(alloc);
+        for restriction in &self.offered {
+            offered.push(restriction.copy(alloc)?)?;
+        }
+        Ok(ScanSpec {
+            wanted: self.wanted.clone()?,
+            offered,
+            agreement: Agreement {
+                answers: self.agreement.answers.clone()?,
+                narrow: self.agreement.narrow,
+            },
+        })
+    }
+
+    /// A row as the scan shows it.
+    pub fn show(&self, row: &Row, alloc: Global) -> Result<Row, NoMemory>
+        ensures { IfOk result (λ r. tuple r ≡ shown_cells (spec_of self.now) (tuple row.now)) }
+    {
+        if self.agreement.narrow {
+            pick_cells(row, &self.wanted, alloc)
+        } else {
+            row.copy(alloc)
+        }
+    }
+}

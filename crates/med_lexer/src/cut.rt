@@ -1,0 +1,154 @@
+//! The tokens of a text.
+
+ghost use Rattle.std.specs.Prelude.{◌≡◌, ℕ, ◌<◌, length, suc, List, map};
+ghost use Rattle.med_lexer.specs.Lexemes as spec;
+ghost use Rattle.med_lexer.specs.Lexemes.{Lexeme, Lexes, Shape};
+ghost use Rattle.med_lexer.specs.Printing.{AreShapes, printed};
+ghost use Rattle.med_lexer.specs.Cutting as cutting;
+ghost use Rattle.med_lexer.specs.View.{Gives, views};
+ghost use Rattle.med_lexer.specs.Steps.{Steps, Tokens};
+ghost use Rattle.std.specs.Char.{is_ascii_digit};
+
+use crate::bytes::{Class, behind, cut_run, first, is_blank, is_start};
+use crate::error::LexFault;
+use crate::marks::{double, single};
+use crate::quotes::unquoted;
+use crate::{Kind, Token};
+use std::alloc::Global;
+
+/// What stands at the front of a text.
+#[derive(Debug, Drop)]
+enum Step<'a> {
+    Done,
+    Blank(&'a str),
+    Cut(Kind, &'a str),
+}
+
+fn word(alloc: Global, text: &str) -> Result<Step<'_>, LexFault>
+    ensures { Steps result (cutting.word_next (cutting.run spec.is_part text.now)) }
+{
+    let (raw, after) = cut_run(text, Class::Part);
+    Ok(Step::Cut(Kind::Word(raw.to_ascii_lowercase(alloc)?), after))
+}
+
+fn number(alloc: Global, text: &str) -> Result<Step<'_>, LexFault>
+    ensures { Steps result (cutting.number_next (cutting.run is_ascii_digit text.now)) }
+{
+    let (digits, after) = cut_run(text, Class::Digit);
+    let bytes = after.as_bytes();
+    if !bytes.is_empty() && is_start(bytes[0]) {
+        return Err(LexFault::BadToken);
+    }
+    Ok(Step::Cut(Kind::Number(String::from_str(alloc, digits)?), after))
+}
+
+fn name(alloc: Global, text: &str) -> Result<Step<'_>, LexFault>
+    ensures { Steps result (cutting.name_next (cutting.quote 34 text.now)) }
+{
+    let (name, after) = unquoted(alloc, b'"', text)?;
+    if name.is_empty() {
+        return Err(LexFault::BadToken);
+    }
+    Ok(Step::Cut(Kind::Quoted(name), after))
+}
+
+fn literal(alloc: Global, text: &str) -> Result<Step<'_>, LexFault>
+    ensures { Steps result (cutting.literal_next (cutting.quote 39 text.now)) }
+{
+    let (literal, after) = unquoted(alloc, b'\'', text)?;
+    Ok(Step::Cut(Kind::Literal(literal), after))
+}
+
+fn remark(text: &str) -> Result<Step<'_>, LexFault>
+    ensures { Steps result (cutting.remark_next (cutting.run spec.is_text text.now)) }
+{
+    let (_, after) = cut_run(text, Class::Text);
+    if after.is_empty() {
+        Ok(Step::Done)
+    } else {
+        Err(LexFault::BadToken)
+    }
+}
+
+/// The mark whose first byte stands before the text.
+fn mark(b: u8, text: &str) -> Result<Step<'_>, LexFault>
+    ensures { Steps result (cutting.mark_next (cutting.double b (cutting.first text.now)) (cutting.single b) text.now) }
+{
+    match double(b, first(text.as_bytes())) {
+        Some(m) => Ok(Step::Cut(Kind::Mark(m), behind(text))),
+        None => match single(b) {
+            Some(m) => Ok(Step::Cut(Kind::Mark(m), text)),
+            None => Err(LexFault::BadToken),
+        },
+    }
+}
+
+#[tactic(auto, unfolding(crate::specs::Cutting::next))]
+fn next(alloc: Global, text: &str) -> Result<Step<'_>, LexFault>
+    ensures { Steps result (cutting.next text.now) }
+{
+    let bytes = text.as_bytes();
+    if bytes.is_empty() {
+        return Ok(Step::Done);
+    }
+    let b = bytes[0];
+    if is_start(b) {
+        return word(alloc, text);
+    }
+    if b.is_ascii_digit() {
+        return number(alloc, text);
+    }
+    if b >= 128 {
+        return Err(LexFault::BadToken);
+    }
+    let after = behind(text);
+    if is_blank(b) {
+        Ok(Step::Blank(after))
+    } else if b == b'"' {
+        name(alloc, after)
+    } else if b == b'\'' {
+        literal(alloc, after)
+    } else if b == b'-' && first(after.as_bytes()) == b'-' {
+        remark(text)
+    } else {
+        mark(b, after)
+    }
+}
+
+/// The tokens of the text, as the list function gives them.
+fn cut(alloc: Global, text: &str) -> Result<Vec<Token>, LexFault>
+    ensures { Gives (λ v. views v.items) result (cutting.lex (suc (length text.now)) 0 text.now) }
+{
+    let mut out = Vec::new(alloc);
+    let mut rest = text;
+    loop {
+        match next(alloc, rest)? {
+            Step::Done => return Ok(out),
+            Step::Blank(after) => rest = after,
+            Step::Cut(kind, after) => {
+                let start = text.len() - rest.len();
+                let end = text.len() - after.len();
+                out.push(Token { kind, start, end })?;
+                rest = after;
+            }
+        }
+    }
+}
+
+/// The tokens of a text, each the longest, in the order of the text.
+pub fn tokens(alloc: Global, text: &str) -> Result<Vec<Token>, LexFault>
+    // What is returned are the text's tokens, and BadToken says that it has none.
+    ensures { Tokens result text.now }
+{
+    cut(alloc, text)
+}
+
+/// A text has at most one list of tokens.
+pub fn one_list()
+    ensures { (text : List ℕ) (ts us : List Lexeme) → Lexes 0 text ts → Lexes 0 text us → ts ≡ us }
+{}
+
+/// What is written with one space between tokens has those tokens.
+pub fn printed_again()
+    ensures { (ss : List Shape) → AreShapes ss → (ts : List Lexeme) × Lexes 0 (printed ss) ts × (map (λ (t : Lexeme). t.shape) ts ≡ ss) }
+{}
