@@ -1,0 +1,152 @@
+-- The causes of refusal, one for each phase and SQLSTATE (ISO/IEC 9075-2 and 9075-9, and PostgreSQL's subclasses):
+-- phase 1 the frame, 2 syntax, 3 names and rights, 4 types, 5 state and limits, 6 the run.
+use Rattle.std.specs.Prelude.{ℕ, List, codes, Option, Some, None}
+use Rattle.med_value.specs.declared.cause.Cause.{Cause}
+use Rattle.med_value.specs.declared.cause.Cause.TheVariants.{Protocol, NoConnection, Syntax, LiteralOutOfRange, NameTooLong, TooDeep, FetchZero, NoPrivilege, UndefinedObject, UndefinedTable, UndefinedColumn, AmbiguousColumn, DuplicateAlias, DuplicateColumn, DuplicateObject, DuplicateTable, DuplicateCursor, InvalidCursorName, InvalidColumnReference, MisplacedName, UndefinedHandler, InvalidOptionName, OptionNameNotFound, DatatypeMismatch, UndefinedFunction, Grouping, ValuesSyntax, InvalidEscape, FeatureNotSupported, InvalidOptionValue, LimitExceeded, InUse, DependentObjects, UnableToConnect, TableNotFound, InvalidDataType, DivisionByZero, OutOfRange, NotNull, NotUnique, InvalidFormat, InvalidText, NotInState, TooLarge, OutOfMemory, SourceFault}
+
+-- the SQLSTATE that a reply tells
+abbrev pub code_of : Cause → List ℕ
+code_of Protocol = codes "08P01"
+code_of NoConnection = codes "08003"
+code_of Syntax = codes "42601"
+code_of LiteralOutOfRange = codes "22003"
+code_of NameTooLong = codes "42622"
+code_of TooDeep = codes "54000"
+code_of FetchZero = codes "0A000"
+code_of NoPrivilege = codes "42501"
+code_of UndefinedObject = codes "42704"
+code_of UndefinedTable = codes "42P01"
+code_of UndefinedColumn = codes "42703"
+code_of AmbiguousColumn = codes "42702"
+code_of DuplicateAlias = codes "42712"
+code_of DuplicateColumn = codes "42701"
+code_of DuplicateObject = codes "42710"
+code_of DuplicateTable = codes "42P07"
+code_of DuplicateCursor = codes "42P03"
+code_of InvalidCursorName = codes "34000"
+code_of InvalidColumnReference = codes "42P10"
+code_of MisplacedName = codes "42601"
+code_of UndefinedHandler = codes "42883"
+code_of InvalidOptionName = codes "HV00D"
+code_of OptionNameNotFound = codes "HV00J"
+code_of DatatypeMismatch = codes "42804"
+code_of UndefinedFunction = codes "42883"
+code_of Grouping = codes "42803"
+code_of ValuesSyntax = codes "42601"
+code_of InvalidEscape = codes "22025"
+code_of FeatureNotSupported = codes "0A000"
+code_of InvalidOptionValue = codes "22P02"
+code_of LimitExceeded = codes "54000"
+code_of InUse = codes "55006"
+code_of DependentObjects = codes "2BP01"
+code_of UnableToConnect = codes "HV00N"
+code_of TableNotFound = codes "HV00R"
+code_of InvalidDataType = codes "HV004"
+code_of DivisionByZero = codes "22012"
+code_of OutOfRange = codes "22003"
+code_of NotNull = codes "23502"
+code_of NotUnique = codes "23505"
+code_of InvalidFormat = codes "HV00A"
+code_of InvalidText = codes "22P02"
+code_of NotInState = codes "55000"
+code_of TooLarge = codes "54000"
+code_of OutOfMemory = codes "53200"
+code_of SourceFault = codes "HV000"
+
+-- the name of the condition, which stands behind the code in a reply
+abbrev pub name_of : Cause → List ℕ
+name_of Protocol = codes "protocol_violation"
+name_of NoConnection = codes "connection_does_not_exist"
+name_of Syntax = codes "syntax_error"
+name_of LiteralOutOfRange = codes "numeric_value_out_of_range"
+name_of NameTooLong = codes "name_too_long"
+name_of TooDeep = codes "program_limit_exceeded"
+name_of FetchZero = codes "feature_not_supported"
+name_of NoPrivilege = codes "insufficient_privilege"
+name_of UndefinedObject = codes "undefined_object"
+name_of UndefinedTable = codes "undefined_table"
+name_of UndefinedColumn = codes "undefined_column"
+name_of AmbiguousColumn = codes "ambiguous_column"
+name_of DuplicateAlias = codes "duplicate_alias"
+name_of DuplicateColumn = codes "duplicate_column"
+name_of DuplicateObject = codes "duplicate_object"
+name_of DuplicateTable = codes "duplicate_table"
+name_of DuplicateCursor = codes "duplicate_cursor"
+name_of InvalidCursorName = codes "invalid_cursor_name"
+name_of InvalidColumnReference = codes "invalid_column_reference"
+name_of MisplacedName = codes "syntax_error"
+name_of UndefinedHandler = codes "undefined_function"
+name_of InvalidOptionName = codes "fdw_invalid_option_name"
+name_of OptionNameNotFound = codes "fdw_option_name_not_found"
+name_of DatatypeMismatch = codes "datatype_mismatch"
+name_of UndefinedFunction = codes "undefined_function"
+name_of Grouping = codes "grouping_error"
+name_of ValuesSyntax = codes "syntax_error"
+name_of InvalidEscape = codes "invalid_escape_sequence"
+name_of FeatureNotSupported = codes "feature_not_supported"
+name_of InvalidOptionValue = codes "invalid_text_representation"
+name_of LimitExceeded = codes "program_limit_exceeded"
+name_of InUse = codes "object_in_use"
+name_of DependentObjects = codes "dependent_objects_still_exist"
+name_of UnableToConnect = codes "fdw_unable_to_establish_connection"
+name_of TableNotFound = codes "fdw_table_not_found"
+name_of InvalidDataType = codes "fdw_invalid_data_type"
+name_of DivisionByZero = codes "division_by_zero"
+name_of OutOfRange = codes "numeric_value_out_of_range"
+name_of NotNull = codes "not_null_violation"
+name_of NotUnique = codes "unique_violation"
+name_of InvalidFormat = codes "fdw_invalid_string_format"
+name_of InvalidText = codes "invalid_text_representation"
+name_of NotInState = codes "object_not_in_prerequisite_state"
+name_of TooLarge = codes "program_limit_exceeded"
+name_of OutOfMemory = codes "out_of_memory"
+name_of SourceFault = codes "fdw_error"
+
+-- the phase in which the cause is looked for; want of memory and a source's fault have none
+abbrev pub phase_of : Cause → Option ℕ
+phase_of Protocol = Some 1
+phase_of NoConnection = Some 1
+phase_of Syntax = Some 2
+phase_of LiteralOutOfRange = Some 2
+phase_of NameTooLong = Some 2
+phase_of TooDeep = Some 2
+phase_of FetchZero = Some 2
+phase_of NoPrivilege = Some 3
+phase_of UndefinedObject = Some 3
+phase_of UndefinedTable = Some 3
+phase_of UndefinedColumn = Some 3
+phase_of AmbiguousColumn = Some 3
+phase_of DuplicateAlias = Some 3
+phase_of DuplicateColumn = Some 3
+phase_of DuplicateObject = Some 3
+phase_of DuplicateTable = Some 3
+phase_of DuplicateCursor = Some 3
+phase_of InvalidCursorName = Some 3
+phase_of InvalidColumnReference = Some 3
+phase_of MisplacedName = Some 3
+phase_of UndefinedHandler = Some 3
+phase_of InvalidOptionName = Some 3
+phase_of OptionNameNotFound = Some 3
+phase_of DatatypeMismatch = Some 4
+phase_of UndefinedFunction = Some 4
+phase_of Grouping = Some 4
+phase_of ValuesSyntax = Some 4
+phase_of InvalidEscape = Some 4
+phase_of FeatureNotSupported = Some 4
+phase_of InvalidOptionValue = Some 4
+phase_of LimitExceeded = Some 5
+phase_of InUse = Some 5
+phase_of DependentObjects = Some 5
+phase_of UnableToConnect = Some 5
+phase_of TableNotFound = Some 5
+phase_of InvalidDataType = Some 5
+phase_of DivisionByZero = Some 6
+phase_of OutOfRange = Some 6
+phase_of NotNull = Some 6
+phase_of NotUnique = Some 6
+phase_of InvalidFormat = Some 6
+phase_of InvalidText = Some 6
+phase_of NotInState = Some 6
+phase_of TooLarge = Some 6
+phase_of OutOfMemory = None
+phase_of SourceFault = None
