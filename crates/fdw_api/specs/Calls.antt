@@ -1,15 +1,14 @@
 -- What each call of a wrapper asks and changes.
-use Rattle.std.specs.Prelude.{◌≡◌, ◌≢◌, ◌+◌, ◌-◌, ◌^◌, ◌<◌, ◌≤◌, ℕ, Bool, true, false, List, [], ◌∷◌, Option, Some, None, IsSome, min, map, Contains, IsPermutation, nat_eq}
+use Rattle.std.specs.Prelude.{◌≡◌, ◌≢◌, ◌+◌, ◌-◌, ◌^◌, ◌<◌, ◌≤◌, ℕ, true, false, List, [], ◌∷◌, Option, Some, None, IsSome, min, map, Contains, IsPermutation, nat_eq}
 use Rattle.std.specs.List.{IsDistinct}
-use Rattle.std.specs.Ordering.{nat_cmp}
 use Rattle.std.specs.FinMap as finmap
 use Rattle.med_value.specs.Datum.{Tuple, tuple}
 use Rattle.med_value.specs.declared.cause.Cause.{Cause}
 use Rattle.med_value.specs.declared.cause.Cause.TheVariants.{NumbersUsedUp}
 use Rattle.fdw_api.specs.declared.scan.ScanSpec.{ScanSpec}
-use Rattle.fdw_api.specs.Scan.{Spec, spec_of, filter_of, Filter, GivenRow, IsComing, params_fit}
-use Rattle.fdw_api.specs.Kinds.{Column, Setting, Entry, Holding, Known, Unknown, Reading, held, phase}
-use Rattle.fdw_api.specs.State.{Nature, Bound, Scan, Staging, Ledger, Content, BoxState, is_honest, table_of, scan_of, rows_of, set_at}
+use Rattle.fdw_api.specs.Scan.{Spec, spec_of, filter_of, GivenRow, IsComing, params_fit}
+use Rattle.fdw_api.specs.Kinds.{Column, Setting, Entry, Holding, Known, Unknown, held, phase}
+use Rattle.fdw_api.specs.State.{Bound, Scan, BoxState, is_honest, table_of, scan_of, rows_of, set_at}
 use Rattle.fdw_api.specs.declared.interface.Fault.{Fault}
 use Rattle.fdw_api.specs.declared.interface.Fault.TheVariants.{NoMemory, Source, Refused}
 use Rattle.fdw_api.specs.declared.interface.SourceRow.{SourceRow}
@@ -70,9 +69,6 @@ pub record Binds (old : BoxState) (remote : List ℕ) (columns : List Column) (s
   pub bound : Bound
   pub remote_is : bound.remote ≡ remote
   pub kinds_are : bound.kinds ≡ map (λ c. c.kind) columns
-  pub line_is : bound.line ≡ old.nature.kind.line columns settings
-  pub image_is : bound.image ≡ old.nature.kind.image columns settings
-  pub refuses_is : bound.refuses ≡ old.nature.kind.refuses columns settings
   pub ledger : new.ledger ≡ record old.ledger { tables = set_at old.ledger.tables t (Some bound) }
   pub entry : Option Entry
   pub picked : is_honest old → Picks (old.content.holdings remote) entry
@@ -107,12 +103,6 @@ pub record Unbinds (old : BoxState) (t : ℕ) (new : BoxState) : Type 0 where
   pub ledger : new.ledger ≡ record old.ledger { tables = set_at old.ledger.tables t None }
   pub leaves : is_honest old → Leaves none_of (λ u. u ≡ t) none_of old new
 
--- plan
-pub record Allows (s : BoxState) (t : ℕ) (spec : Spec) : Type 0 where
-  pub bound : Bound
-  pub is : table_of s t ≡ Some bound
-  pub allowed : bound.allows spec ≡ true
-
 -- begin
 pub record CanBegin (s : BoxState) (t : ℕ) (spec : ScanSpec) (params : Tuple) : Type 0 where
   pub bound : Bound
@@ -144,7 +134,7 @@ pub record RefusesBegin (fault : Fault) (old new : BoxState) : Type 0 where
   pub refuses : Refuses fault old new
   pub cause : BeginCause fault old.ledger.next
 
--- iterate and rescan
+-- iterate
 abbrev pub IsOpen : BoxState → ℕ → Type 0
 IsOpen s number = (scan : Scan) × (scan_of s number ≡ Some scan) × (scan.broken ≡ false)
 
@@ -180,24 +170,6 @@ pub record Breaks (old : BoxState) (number : ℕ) (fault : Fault) (new : BoxStat
   pub scan : Scan
   pub at : scan_of old number ≡ Some scan
   pub ledger : new.ledger ≡ record old.ledger { live = finmap.insert old.ledger.live number (record scan { broken = true }); faults = faults_after fault old.ledger.faults }
-  pub leaves : is_honest old → LeavesOthers number old new
-
--- rescan asks for a whole scan and parameters of its restrictions
-pub record CanRescan (s : BoxState) (number : ℕ) (params : Tuple) : Type 0 where
-  pub scan : Scan
-  pub at : scan_of s number ≡ Some scan
-  pub whole : scan.broken ≡ false
-  pub bound : Bound
-  pub is : table_of s scan.table ≡ Some bound
-  pub typed : params_fit bound.kinds scan.spec.offered params ≡ true
-
-pub record Rescans (old : BoxState) (number : ℕ) (params : Tuple) (new : BoxState) : Type 0 where
-  pub nature : new.nature ≡ old.nature
-  pub scan : Scan
-  pub at : scan_of old number ≡ Some scan
-  pub left : ℕ
-  pub ledger : new.ledger ≡ record old.ledger { live = finmap.insert old.ledger.live number (new_scan scan.table scan.spec params left) }
-  pub coming : is_honest old → IsComing (rows_of old scan.table) scan.spec params (new.content.coming number)
   pub leaves : is_honest old → LeavesOthers number old new
 
 -- end

@@ -1,7 +1,7 @@
 -- What a kind of source makes of what it stores.
-use Rattle.std.specs.Prelude.{◌≡◌, ◌≤◌, ℕ, ℤ, Bool, true, false, List, [], ◌∷◌, ◌++◌, map, filter, flat_map, Option, Some, None, Contains, nat_eq, if◌then◌else◌}
+use Rattle.std.specs.Prelude.{ℕ, Bool, List, Option}
 use Rattle.std.specs.String.{string_bytes}
-use Rattle.med_value.specs.Datum.{Datum, Tuple}
+use Rattle.med_value.specs.Datum.{Tuple}
 use Rattle.med_value.specs.declared.value.ColType.{ColType}
 use Rattle.med_value.specs.declared.value.ColumnDef.{ColumnDef}
 use Rattle.med_value.specs.declared.cause.Cause.{Cause}
@@ -65,14 +65,9 @@ pub data Change : Type 0 where
   Updates : ℕ → Tuple → Change
   Deletes : ℕ → Change
 
--- a kind, with what binding and writing mean for it
+-- a kind of source, with what binding means for it
 pub record Kind : Type 0 where
   -- the causes of names, rights and types that columns and options show
   pub objections : List Column → List Setting → List Cause
+  -- what the entry under the remote name gives a table of these columns and options
   pub reads : List Column → List Setting → Option Entry → Reading
-  -- the record or line of a written row
-  pub line : List Column → List Setting → Tuple → List (List ℕ)
-  -- what stands under the remote name when these rows, in this order, were written
-  pub image : List Column → List Setting → Option Entry → List Held → Option Entry
-  -- the causes that stand for all staged changes together
-  pub refuses : List Column → List Setting → List TableRow → List Change → List Cause

@@ -1,5 +1,5 @@
 -- What a scan is asked for, and which rows it may give.
-use Rattle.std.specs.Prelude.{◌≡◌, ◌<◌, ℕ, Bool, true, false, not, ◌&&◌, if◌then◌else◌, List, [], ◌∷◌, ◌++◌, map, length, replicate, All, IsPermutation, slice_index_or, Option, Some, None, slice_get, nat_lt}
+use Rattle.std.specs.Prelude.{◌≡◌, ℕ, Bool, true, false, not, ◌&&◌, if◌then◌else◌, List, [], ◌∷◌, ◌++◌, map, length, replicate, All, IsPermutation, slice_index_or, Option, Some, None, slice_get, nat_lt}
 use Rattle.std.specs.List.{list_all}
 use Rattle.std.specs.declared.cmp.Ordering.{Ordering}
 use Rattle.std.specs.Ordering.{is_lt, is_le, is_eq, is_gt, is_ge}
@@ -16,7 +16,6 @@ use Rattle.fdw_api.specs.declared.scan.Test.TheVariants.{Compare, IsNull, IsNotN
 use Rattle.fdw_api.specs.declared.scan.Restriction.{Restriction}
 use Rattle.fdw_api.specs.declared.scan.Agree.{Agree}
 use Rattle.fdw_api.specs.declared.scan.Agree.TheVariants.{Ignored, Hint, Exact}
-use Rattle.fdw_api.specs.declared.scan.Agreement.{Agreement}
 use Rattle.fdw_api.specs.declared.scan.ScanSpec.{ScanSpec}
 
 -- a restriction with the meaning of its constant
@@ -53,10 +52,6 @@ pub record Spec : Type 0 where
 
 abbrev pub spec_of : ScanSpec → Spec
 spec_of s = record { wanted = s.wanted.items; offered = map filter_of s.offered.items; answers = s.agreement.answers.items; narrow = s.agreement.narrow }
-
--- the spec of a scan with this agreement
-abbrev pub spec_by : List ℕ → List Filter → Agreement → Spec
-spec_by wanted offered a = record { wanted = wanted; offered = offered; answers = a.answers.items; narrow = a.narrow }
 
 -- nothing is taken over
 abbrev pub plain_spec : List ℕ → List Filter → Spec

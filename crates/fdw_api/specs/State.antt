@@ -1,12 +1,11 @@
 -- What the interface shows of a boxed wrapper.
-use Rattle.std.specs.Prelude.{◌≡◌, ℕ, Bool, true, false, List, [], ◌∷◌, map, Option, Some, None, nat_eq, if◌then◌else◌}
+use Rattle.std.specs.Prelude.{◌≡◌, ℕ, Bool, true, List, Option, nat_eq, if◌then◌else◌}
 use Rattle.std.specs.Ordering.{nat_cmp}
 use Rattle.std.specs.FinMap as map
 use Rattle.med_value.specs.Datum.{Tuple}
 use Rattle.med_value.specs.declared.value.ColType.{ColType}
-use Rattle.med_value.specs.declared.cause.Cause.{Cause}
 use Rattle.fdw_api.specs.Scan.{Spec, Filter, plain_spec, TableRow, GivenRow}
-use Rattle.fdw_api.specs.Kinds.{Kind, Holding, Entry, Held, Change}
+use Rattle.fdw_api.specs.Kinds.{Kind, Holding, Change}
 
 -- fixed for a box's life
 pub record Nature : Type 0 where
@@ -19,9 +18,6 @@ pub record Bound : Type 0 where
   pub kinds : List ColType
   pub allows : Spec → Bool
   pub allows_plain : (wanted : List ℕ) (offered : List Filter) → allows (plain_spec wanted offered) ≡ true
-  pub line : Tuple → List (List ℕ)
-  pub image : Option Entry → List Held → Option Entry
-  pub refuses : List TableRow → List Change → List Cause
 
 -- a live scan, without its rows to come. `left` is a bound on their number, which falls; a broken scan is good for `end` alone
 pub record Scan : Type 0 where

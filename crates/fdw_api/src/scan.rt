@@ -1,67 +1,93 @@
-//! What a scan is asked for, and what a box agrees to take over.
-ghost use Rattle.std.specs.Prelude.{◌≡◌, map, IfOk};
+//! What a scan is asked for, and what a wrapper agrees to take over.
+ghost use Rattle.std.specs.Prelude.{◌≡◌, ℕ, [], map, IfOk, IsSome};
 ghost use Rattle.med_value.specs.Datum.{datum, tuple};
-ghost use Rattle.fdw_api.specs.Scan.{other_of, check_of, filter_of, spec_of, is_null, holds, compares_true, cell, checks, meets, meets_exact, pick, shown_cells};
+ghost use Rattle.fdw_api.specs.Scan.{other_of, check_of, filter_of, spec_of, plain_spec, is_null, holds, compares_true, cell, checks, meets, meets_exact, pick, shown_cells};
+ghost use Rattle.fdw_api.specs.State.{BoxState, table_of};
+ghost use Rattle.fdw_api.specs.Calls.{CanBegin};
 
+use med_value::order::compare_values;
+use med_value::{NoMemory, Row, Value};
 use std::alloc::Global;
 use std::cmp::Ordering;
 
-use med_value::{NoMemory, Row, Value};
-use med_value::order::compare_values;
-
+/// A comparison of two values of one type.
 #[derive(Clone, Copy, Debug, PartialEq, Eq)]
 pub enum Comparison {
+    /// `=`
     Equal,
+    /// `<>`
     Apart,
+    /// `<`
     Below,
+    /// `<=`
     AtMost,
+    /// `>`
     Above,
+    /// `>=`
     AtLeast,
 }
 
 /// What a column is compared with.
 #[derive(Debug, Drop)]
 pub enum Operand {
+    /// This value.
     Constant(Value),
+    /// The parameter of this number, counted from 0.
     Parameter(usize),
 }
 
+/// A test of a value.
 #[derive(Debug, Drop)]
 pub enum Test {
+    /// The comparison with the operand is true. With NULL it never is.
     Compare(Comparison, Operand),
+    /// The value is NULL.
     IsNull,
+    /// The value is not NULL.
     IsNotNull,
 }
 
-/// A test of one column.
+/// A test of one column, that a scan may leave to the wrapper.
 #[derive(Debug, Drop)]
 pub struct Restriction {
+    /// The column, counted from 0.
     pub column: usize,
+    /// What is asked of its cells.
     pub test: Test,
 }
 
-/// What a box does about one restriction: nothing; rows that fail it may be missing; no row that fails it comes.
+/// What a wrapper does about one restriction.
 #[derive(Clone, Copy, Debug, PartialEq, Eq)]
 pub enum Agree {
+    /// Nothing.
     Ignored,
+    /// Rows that fail it may be missing.
     Hint,
+    /// No row that fails it comes.
     Exact,
 }
 
-/// One answer for each restriction, and whether rows hold the wanted columns only.
+/// What a wrapper does about a scan's restrictions and columns.
 #[derive(Debug, Drop)]
 pub struct Agreement {
+    /// One answer for each restriction.
     pub answers: Vec<Agree>,
+    /// Rows hold the wanted columns only.
     pub narrow: bool,
 }
 
+/// What a scan is asked for.
 #[derive(Debug, Drop)]
 pub struct ScanSpec {
+    /// The columns that the caller reads, counted from 0.
     pub wanted: Vec<usize>,
+    /// The restrictions that the caller offers.
     pub offered: Vec<Restriction>,
+    /// What the wrapper agreed to do about them.
     pub agreement: Agreement,
 }
 
+/// Copies of these values, in order.
 pub fn copy_values(values: &[Value], alloc: Global) -> Result<Vec<Value>, NoMemory>
     ensures { IfOk result (λ copies. map datum copies.items ≡ map datum values.now) }
 {
@@ -88,7 +114,10 @@ impl Test {
         ensures { IfOk result (λ t. check_of t ≡ check_of self.now) }
     {
         match self {
-            Test::Compare(comparison, operand) => Ok(Test::Compare(*comparison, operand.copy(alloc)?)),
+            Test::Compare(comparison, operand) => Ok(Test::Compare(
+                *comparison,
+                operand.copy(alloc)?,
+            )),
             Test::IsNull => Ok(Test::IsNull),
             Test::IsNotNull => Ok(Test::IsNotNull),
         }
@@ -142,7 +171,12 @@ impl Test {
     {
         match self {
             Test::Compare(comparison, Operand::Constant(right)) => comparison.is_true(value, right),
-            Test::Compare(comparison, Operand::Parameter(at)) => compares(*comparison, value, params, *at),
+            Test::Compare(comparison, Operand::Parameter(at)) => compares(
+                *comparison,
+                value,
+                params,
+                *at,
+            ),
             Test::IsNull => is_missing(value),
             Test::IsNotNull => !is_missing(value),
         }
@@ -150,6 +184,7 @@ impl Test {
 }
 
 impl Restriction {
+    /// A copy, that tests the same.
     pub fn copy(&self, alloc: Global) -> Result<Restriction, NoMemory>
         ensures { IfOk result (λ r. filter_of r ≡ filter_of self.now) }
     {
@@ -189,7 +224,7 @@ pub fn meets_taken(offered: &[Restriction], answers: &[Agree], row: &Row, params
     true
 }
 
-/// The wanted cells of a row.
+/// The wanted cells of a row, NULL for a column that it does not have.
 pub fn pick_cells(row: &Row, wanted: &[usize], alloc: Global) -> Result<Row, NoMemory>
     ensures { IfOk result (λ r. tuple r ≡ pick wanted.now (tuple row.now)) }
 {
@@ -205,6 +240,22 @@ pub fn pick_cells(row: &Row, wanted: &[usize], alloc: Global) -> Result<Row, NoM
 }
 
 impl ScanSpec {
+    /// A scan of whole rows that offers no restriction: any bound table allows it.
+    pub fn plain(alloc: Global) -> ScanSpec
+        ensures is { spec_of result ≡ plain_spec [] [] }
+        ensures allowed { (s : BoxState) (t : ℕ) → IsSome (table_of s t) → CanBegin s t result [] }
+    {
+        ScanSpec {
+            wanted: Vec::new(alloc),
+            offered: Vec::new(alloc),
+            agreement: Agreement {
+                answers: Vec::new(alloc),
+                narrow: false,
+            },
+        }
+    }
+
+    /// A copy, that asks for the same scan.
     pub fn copy(&self, alloc: Global) -> Result<ScanSpec, NoMemory>
         ensures { IfOk result (λ s. spec_of s ≡ spec_of self.now) }
     {
@@ -222,7 +273,7 @@ impl ScanSpec {
         })
     }
 
-    /// A row as the scan shows it.
+    /// A row as the scan shows it: its wanted cells where the scan is narrow, else all.
     pub fn show(&self, row: &Row, alloc: Global) -> Result<Row, NoMemory>
         ensures { IfOk result (λ r. tuple r ≡ shown_cells (spec_of self.now) (tuple row.now)) }
     {
