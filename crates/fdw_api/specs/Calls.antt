@@ -4,10 +4,11 @@ use Rattle.std.specs.List.{IsDistinct}
 use Rattle.std.specs.FinMap as finmap
 use Rattle.med_value.specs.Datum.{Tuple, tuple}
 use Rattle.med_value.specs.declared.cause.Cause.{Cause}
-use Rattle.med_value.specs.declared.cause.Cause.TheVariants.{NumbersUsedUp}
+use Rattle.med_value.specs.declared.cause.Cause.TheVariants.{LimitExceeded}
+use Rattle.med_value.specs.Causes.{phase_of}
 use Rattle.fdw_api.specs.declared.scan.ScanSpec.{ScanSpec}
 use Rattle.fdw_api.specs.Scan.{Spec, spec_of, filter_of, GivenRow, IsComing, params_fit}
-use Rattle.fdw_api.specs.Kinds.{Column, Setting, Entry, Holding, Known, Unknown, held, phase}
+use Rattle.fdw_api.specs.Kinds.{Column, Setting, Entry, Holding, Known, Unknown, held}
 use Rattle.fdw_api.specs.State.{Bound, Scan, BoxState, is_honest, table_of, scan_of, rows_of, set_at}
 use Rattle.fdw_api.specs.declared.interface.Fault.{Fault}
 use Rattle.fdw_api.specs.declared.interface.Fault.TheVariants.{NoMemory, Source, Refused}
@@ -80,7 +81,9 @@ pub record Binds (old : BoxState) (remote : List ℕ) (columns : List Column) (s
 -- a cause of a reading in the least phase in which one stands
 pub record IsLeast (causes : List Cause) (c : Cause) : Type 0 where
   pub stands : Contains causes c
-  pub least : (d : Cause) → Contains causes d → phase c ≤ phase d
+  pub phase : ℕ
+  pub has : phase_of c ≡ Some phase
+  pub least : (d : Cause) (p : ℕ) → Contains causes d → phase_of d ≡ Some p → phase ≤ p
 
 abbrev pub BindCause : BoxState → List ℕ → List Column → List Setting → Fault → Type 0
 BindCause old remote columns settings (Refused c) =
@@ -128,7 +131,7 @@ pub record Begins (old : BoxState) (t : ℕ) (spec : Spec) (params : Tuple) (num
 abbrev pub BeginCause : Fault → ℕ → Type 0
 BeginCause NoMemory next = Unit {0}
 BeginCause Source next = Unit {0}
-BeginCause (Refused c) next = (c ≡ NumbersUsedUp) × (next ≡ 2 ^ 64 - 1)
+BeginCause (Refused c) next = (c ≡ LimitExceeded) × (next ≡ 2 ^ 64 - 1)
 
 pub record RefusesBegin (fault : Fault) (old new : BoxState) : Type 0 where
   pub refuses : Refuses fault old new

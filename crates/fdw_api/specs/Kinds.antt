@@ -5,21 +5,8 @@ use Rattle.med_value.specs.Datum.{Tuple}
 use Rattle.med_value.specs.declared.value.ColType.{ColType}
 use Rattle.med_value.specs.declared.value.ColumnDef.{ColumnDef}
 use Rattle.med_value.specs.declared.cause.Cause.{Cause}
-use Rattle.med_value.specs.declared.cause.Cause.TheVariants.{InUse, TableNotFound, InvalidDataType, NumbersUsedUp, InvalidFormat, InvalidText, NotNull, NotUnique, NotInState, TooLarge}
 use Rattle.fdw_api.specs.declared.interface.Opt.{Opt}
 use Rattle.fdw_api.specs.Scan.{TableRow}
-
-abbrev pub phase : Cause → ℕ
-phase InUse = 5
-phase TableNotFound = 5
-phase InvalidDataType = 5
-phase NumbersUsedUp = 5
-phase InvalidFormat = 6
-phase InvalidText = 6
-phase NotNull = 6
-phase NotUnique = 6
-phase NotInState = 6
-phase TooLarge = 6
 
 pub record Column : Type 0 where
   pub name : List ℕ
