@@ -6,8 +6,8 @@ use Rattle.med_lexer.specs.declared.error.LexFault.{LexFault}
 use Rattle.med_lexer.specs.declared.error.LexFault.TheVariants.{NoMemory, BadToken}
 use Rattle.med_lexer.specs.Lexemes.{Shape, Lexeme}
 use Rattle.med_lexer.specs.Cutting.{Next, done, blank, token, bad, next, continued, lex}
-use Rattle.med_lexer.specs.View.{view, views, Gives}
-use Rattle.med_lexer.specs.Steps.{Tokens, Steps}
+use Rattle.med_lexer.specs.View.{view, views, Tokens}
+use Rattle.med_lexer.specs.Steps.{Steps, Gives}
 use Rattle.med_lexer.proofs.Exact.{lex_sound, lex_none, next_shorter, blank_shorter}
 
 abbrev pub after_these : List Lexeme → Option (List Lexeme) → Option (List Lexeme)
@@ -44,9 +44,13 @@ token_at text ts rest s after start end (suc k) enough short same n a b =
     let l = next_shorter rest s after n in
     let e : (length text - length rest) + (length rest - length after) ≡ end = omega arith in
     let go : lex (suc k) (length text - length rest) rest ≡ option_map (λ us. record { shape = s; start = start; end = end } ∷ us) (lex k (length text - length after) after) =
-        lex_at k (length text - length rest) rest (token s after) n ∙ (rw e (rw (← a) (rw (← b) refl))) in
-    record { k = k; enough = omega arith; short = omega arith;
-      same = same ∙ ap (after_these ts) go ∙ one_more ts (record { shape = s; start = start; end = end }) (lex k (length text - length after) after) }
+    lex_at k (length text - length rest) rest (token s after) n ∙ (rw e (rw (← a) (rw (← b) refl))) in
+    record {
+      k = k;
+      enough = omega arith;
+      short = omega arith;
+      same = same ∙ ap (after_these ts) go ∙ one_more ts (record { shape = s; start = start; end = end }) (lex k (length text - length after) after);
+    }
 
 pub cut_token : (text : List ℕ) (ts : List Lexeme) (rest : List ℕ) (s : Shape) (after : List ℕ) (start end : ℕ) → CutLoop text ts rest → next rest ≡ token s after → start ≡ length text - length rest → end ≡ length text - length after → CutLoop text (ts ++ record { shape = s; start = start; end = end } ∷ []) after
 cut_token text ts rest s after start end loop n a b = token_at text ts rest s after start end loop.k loop.enough loop.short loop.same n a b
@@ -56,8 +60,12 @@ blank_at text ts rest after zero enough short same n = absurd (omega arith)
 blank_at text ts rest after (suc k) enough short same n =
     let l = blank_shorter rest after n in
     let e : (length text - length rest) + 1 ≡ length text - length after = omega arith in
-    record { k = k; enough = omega arith; short = omega arith;
-      same = same ∙ ap (after_these ts) (lex_at k (length text - length rest) rest (blank after) n) ∙ ap (λ m. after_these ts (lex k m after)) e }
+    record {
+      k = k;
+      enough = omega arith;
+      short = omega arith;
+      same = same ∙ ap (after_these ts) (lex_at k (length text - length rest) rest (blank after) n) ∙ ap (λ m. after_these ts (lex k m after)) e;
+    }
 
 pub cut_blank : (text : List ℕ) (ts : List Lexeme) (rest after : List ℕ) → CutLoop text ts rest → next rest ≡ blank after → CutLoop text ts after
 cut_blank text ts rest after loop n = blank_at text ts rest after loop.k loop.enough loop.short loop.same n

@@ -29,8 +29,9 @@ quote_again : (q : ℕ) (w rest : List ℕ) → Every is_text w → Without (λ 
 quote_again q [] rest e n = quote_end q rest n
 quote_again q (b ∷ bs) rest e n =
     let go : (v : Bool) → (b == q) ≡ v → quote q (cond v (q ∷ q ∷ doubled q bs) (b ∷ doubled q bs) ++ q ∷ rest) ≡ Some (b ∷ bs, rest) = elim [
-        true ↦ (λ is. quote_both q (doubled q bs ++ q ∷ rest) ∙ ap (ahead (q ∷ [])) (quote_again q bs rest e.1 n) ∙ ap (λ y. Some (y ∷ bs, rest)) (sym (is_same b q is)))
-      | false ↦ (λ is. quote_step q b (doubled q bs ++ q ∷ rest) is e.0 ∙ ap (ahead (b ∷ [])) (quote_again q bs rest e.1 n)) ]
+      | true ↦ (λ is. quote_both q (doubled q bs ++ q ∷ rest) ∙ ap (ahead (q ∷ [])) (quote_again q bs rest e.1 n) ∙ ap (λ y. Some (y ∷ bs, rest)) (sym (is_same b q is)))
+      | false ↦ (λ is. quote_step q b (doubled q bs ++ q ∷ rest) is e.0 ∙ ap (ahead (b ∷ [])) (quote_again q bs rest e.1 n))
+    ]
     in go (b == q) refl
 
 start_not_blank : (b : ℕ) → is_start b ≡ true → is_blank b ≡ false
@@ -214,8 +215,8 @@ quote_tells q (b ∷ []) t =
 quote_tells q (b ∷ c ∷ cs) t =
     test_quoted q (b ∷ c ∷ cs) (b == q) _ _
     (λ is. test_quoted q (b ∷ c ∷ cs) (c == q) (ahead (q ∷ []) (quote q cs)) (Some ([], c ∷ cs))
-        (λ is2. subst (λ x. Quoted q x (ahead (q ∷ []) (quote q cs))) ((λ i. sym (is_same b q is) i ∷ sym (is_same c q is2) i ∷ cs)) (quoted_twice q cs (quote q cs) t (quote_tells q cs t)))
-        (λ n. record { all = tt; ends = n; whole = ap (λ y. y ∷ c ∷ cs) (is_same b q is) }))
+    (λ is2. subst (λ x. Quoted q x (ahead (q ∷ []) (quote q cs))) ((λ i. sym (is_same b q is) i ∷ sym (is_same c q is2) i ∷ cs)) (quoted_twice q cs (quote q cs) t (quote_tells q cs t)))
+    (λ n. record { all = tt; ends = n; whole = ap (λ y. y ∷ c ∷ cs) (is_same b q is) }))
     (λ n. test_quoted q (b ∷ c ∷ cs) (is_text b) (ahead (b ∷ []) (quote q (c ∷ cs))) None (λ is. quoted_ahead q b (c ∷ cs) (quote q (c ∷ cs)) n is (quote_tells q (c ∷ cs) t)) (λ _. tt))
 
 pub record Front (text : List ℕ) (s : Shape) (rest : List ℕ) : Type 0 where
@@ -259,16 +260,22 @@ tells_name : (b : ℕ) (bs : List ℕ) (o : Option (List ℕ × List ℕ)) → b
 tells_name b bs None is x = tt
 tells_name b bs (Some ([], rest)) is x = tt
 tells_name b bs (Some (c ∷ cs, rest)) is x =
-    record { raw = 34 ∷ (doubled 34 (c ∷ cs) ++ 34 ∷ []);
+    record {
+      raw = 34 ∷ (doubled 34 (c ∷ cs) ++ 34 ∷ []);
       whole = (λ i. is i ∷ (x.whole ∙ sym (append_assoc (doubled 34 (c ∷ cs)) (34 ∷ []) rest)) i);
-      spells = (refl, x.all, omega arith); ends = x.ends }
+      spells = (refl, x.all, omega arith);
+      ends = x.ends;
+    }
 
 tells_literal : (b : ℕ) (bs : List ℕ) (o : Option (List ℕ × List ℕ)) → b ≡ 39 → Quoted 39 bs o → Tells (b ∷ bs) (literal_next o)
 tells_literal b bs None is x = tt
 tells_literal b bs (Some y) is x =
-    record { raw = 39 ∷ (doubled 39 y.0 ++ 39 ∷ []);
+    record {
+      raw = 39 ∷ (doubled 39 y.0 ++ 39 ∷ []);
       whole = (λ i. is i ∷ (x.whole ∙ sym (append_assoc (doubled 39 y.0) (39 ∷ []) y.1)) i);
-      spells = (refl, x.all); ends = x.ends }
+      spells = (refl, x.all);
+      ends = x.ends;
+    }
 
 tells_remark : (b : ℕ) (bs w rest : List ℕ) → b ≡ 45 → first bs ≡ 45 → Part is_text (b ∷ bs) w rest → Tells (b ∷ bs) (ended rest)
 tells_remark b [] w rest is two p = absurd (omega (arith, two))
@@ -321,8 +328,9 @@ IsSingle b bs (Some m) = (mark_bytes m ≡ b ∷ []) × Without (joins m) bs
 test_single : (b : ℕ) (bs : List ℕ) (p : ℕ) (m : Mark) (y : Option Mark) → mark_bytes m ≡ p ∷ [] → (b ≡ p → Without (joins m) bs) → IsSingle b bs y → IsSingle b bs (cond (b == p) (Some m) y)
 test_single b bs p m y is f g =
     let go : (v : Bool) → (b == p) ≡ v → IsSingle b bs (cond v (Some m) y) = elim [
-        true ↦ (λ h. (is ∙ ap (λ z. z ∷ []) (sym (is_same b p h)), f (is_same b p h)))
-      | false ↦ (λ h. g) ]
+      | true ↦ (λ h. (is ∙ ap (λ z. z ∷ []) (sym (is_same b p h)), f (is_same b p h)))
+      | false ↦ (λ h. g)
+    ]
     in go (b == p) refl
 
 some_none : {A : Type 0} {P : Type 0} (x : A) → ◌≡◌ {A = Option A} (Some x) None → P
@@ -331,15 +339,17 @@ some_none x h = absurd (cc)
 less_alone : (c : ℕ) → double 60 c ≡ None → joins marks.Less c ≡ false
 less_alone c h =
     let go : (v w : Bool) → (c == 62) ≡ v → (c == 61) ≡ w → cond v (Some marks.Differ) (cond w (Some marks.AtMost) None) ≡ None → joins marks.Less c ≡ false = elim [
-        true ↦ (λ w p q f. some_none marks.Differ f)
-      | false ↦ elim [ true ↦ (λ p q f. some_none marks.AtMost f) | false ↦ (λ p q f. rw (p, q) refl) ] ]
+      | true ↦ (λ w p q f. some_none marks.Differ f)
+      | false ↦ elim [ true ↦ (λ p q f. some_none marks.AtMost f) | false ↦ (λ p q f. rw (p, q) refl) ]
+    ]
     in go (c == 62) (c == 61) refl refl h
 
 greater_alone : (c : ℕ) → double 62 c ≡ None → joins marks.Greater c ≡ false
 greater_alone c h =
     let go : (v : Bool) → (c == 61) ≡ v → cond v (Some marks.AtLeast) None ≡ None → joins marks.Greater c ≡ false = elim [
-        true ↦ (λ p f. some_none marks.AtLeast f)
-      | false ↦ (λ p f. p) ]
+      | true ↦ (λ p f. some_none marks.AtLeast f)
+      | false ↦ (λ p f. p)
+    ]
     in go (c == 61) refl h
 
 minus_alone : (b c : ℕ) → b ≡ 45 → (b == 45 && c == 45) ≡ false → joins marks.Minus c ≡ false
@@ -408,9 +418,12 @@ no_zero marks.AtLeast b h = no_second 62 61 b (omega arith) h
 tells_double : (m : Mark) (b : ℕ) (bs : List ℕ) → IsDouble b (first bs) (Some m) → Front (b ∷ bs) (mark m) (behind bs)
 tells_double m b [] is = absurd (elim (is.0) [ inl e ↦ no_zero m b e | inr e ↦ (let h : 0 ≡ 61 = e.2 in omega arith) ])
 tells_double m b (c ∷ cs) is =
-    record { raw = b ∷ c ∷ []; whole = refl;
+    record {
+      raw = b ∷ c ∷ [];
+      whole = refl;
       spells = elim (is.0) [ inl e ↦ inl (sym e) | inr e ↦ inr (e.0, (λ i. e.1 i ∷ e.2 i ∷ [])) ];
-      ends = is.1 cs }
+      ends = is.1 cs;
+    }
 
 tells_mark : (b : ℕ) (bs : List ℕ) (o : Option Mark) → double b (first bs) ≡ o → (b == 45 && first bs == 45) ≡ false → Tells (b ∷ bs) (mark_next o (single b) bs)
 tells_mark b bs None d n = tells_single b bs (single b) (single_is b bs d n)

@@ -69,11 +69,12 @@ pub stripped : (q : ℕ) (r h more : List ℕ) → strip_of q r ≡ Some (h, mor
 stripped q [] h more e = absurd (cc)
 stripped q (b ∷ bs) h more e =
     let go : (v : Bool) → (b == q) ≡ v → cond {A = Option (List ℕ × List ℕ)} v (Some (b ∷ [], bs)) None ≡ Some (h, more) → (b ∷ bs ≡ q ∷ more) × (h ≡ q ∷ []) = elim [
-        true ↦ (λ is f.
-            let p : (b ∷ [], bs) ≡ (h, more) = some_same (b ∷ [], bs) (h, more) f in
-            let bq : b ≡ q = is_same b q is in
-            ((λ i. bq i ∷ (p i).1), ap (λ (x : List ℕ × List ℕ). x.0) (sym p) ∙ ap (λ y. y ∷ []) bq))
-      | false ↦ (λ is f. absurd (let bad : ◌≡◌ {A = Option (List ℕ × List ℕ)} None (Some (h, more)) = f in cc)) ]
+      | true ↦ (λ is f.
+          let p : (b ∷ [], bs) ≡ (h, more) = some_same (b ∷ [], bs) (h, more) f in
+          let bq : b ≡ q = is_same b q is in
+          ((λ i. bq i ∷ (p i).1), ap (λ (x : List ℕ × List ℕ). x.0) (sym p) ∙ ap (λ y. y ∷ []) bq))
+      | false ↦ (λ is f. absurd (let bad : ◌≡◌ {A = Option (List ℕ × List ℕ)} None (Some (h, more)) = f in cc))
+    ]
     in go (b == q) refl e
 
 quote_end : (q : ℕ) (more : List ℕ) → strip_of q more ≡ None → quote q (q ∷ more) ≡ Some ([], more)

@@ -79,8 +79,9 @@ part p [] = record { all = tt; ends = tt; whole = refl }
 part p (b ∷ bs) =
     let r : Part p bs (run p bs).0 (run p bs).1 = part p bs in
     let go : (v : Bool) → p b ≡ v → (let x : List ℕ × List ℕ = cond v (b ∷ (run p bs).0, (run p bs).1) ([], b ∷ bs) in Part p (b ∷ bs) x.0 x.1) = elim [
-        true ↦ (λ is. record { all = (is, r.all); ends = r.ends; whole = ap (λ y. b ∷ y) r.whole })
-      | false ↦ (λ is. record { all = tt; ends = is; whole = refl }) ]
+      | true ↦ (λ is. record { all = (is, r.all); ends = r.ends; whole = ap (λ y. b ∷ y) r.whole })
+      | false ↦ (λ is. record { all = tt; ends = is; whole = refl })
+    ]
     in go (p b) refl
 
 pub run_again : (p : ℕ → Bool) (w rest : List ℕ) → Every p w → Without p rest → run p (w ++ rest) ≡ (w, rest)

@@ -32,6 +32,10 @@ abbrev pub doubled : ℕ → List ℕ → List ℕ
 doubled q [] = []
 doubled q (b ∷ bs) = cond (b == q) (q ∷ q ∷ doubled q bs) (b ∷ doubled q bs)
 
+-- one digit or more, and nothing else
+abbrev pub IsDigits : List ℕ → Type 0
+IsDigits d = Every is_ascii_digit d × (0 < length d)
+
 -- what a token says
 pub data Shape : Type 0 where
   word : List ℕ → Shape
@@ -57,7 +61,6 @@ mark_bytes marks.Less = 60 ∷ []
 mark_bytes marks.AtMost = 60 ∷ 61 ∷ []
 mark_bytes marks.Greater = 62 ∷ []
 mark_bytes marks.AtLeast = 62 ∷ 61 ∷ []
-
 
 -- a mark goes on with it, or begins a comment with it
 abbrev pub joins : Mark → ℕ → Bool

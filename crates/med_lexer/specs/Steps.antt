@@ -1,13 +1,11 @@
--- What the functions of `cut` answer.
-use Rattle.std.specs.Prelude.{◌≡◌, ℕ, List, Result, Ok, Err, Vec}
-use Rattle.med_lexer.specs.declared.Token.{Token}
+-- What the functions that cut a text answer.
+use Rattle.std.specs.Prelude.{◌≡◌, Result, Ok, Err, Option, Some, None}
 use Rattle.med_lexer.specs.declared.cut.Step.{Step}
 use Rattle.med_lexer.specs.declared.cut.Step.TheVariants as s
 use Rattle.med_lexer.specs.declared.error.LexFault.{LexFault}
 use Rattle.med_lexer.specs.declared.error.LexFault.TheVariants.{NoMemory, BadToken}
-use Rattle.med_lexer.specs.Lexemes.{Lexeme, Lexes}
 use Rattle.med_lexer.specs.Cutting.{Next, done, blank, token, bad}
-use Rattle.med_lexer.specs.View.{shape_of, views}
+use Rattle.med_lexer.specs.View.{shape_of}
 
 abbrev pub next_of : Step → Next
 next_of s.Done = done
@@ -19,8 +17,8 @@ Steps (Ok x) n = n ≡ next_of x
 Steps (Err NoMemory) n = Unit {0}
 Steps (Err BadToken) n = n ≡ bad
 
--- the tokens of the text, or that it has none, or that memory ran out
-abbrev pub Tokens : {A : Type 0} → Result (Vec Token A) LexFault → List ℕ → Type 0
-Tokens (Ok v) text = Lexes 0 text (views v.items)
-Tokens (Err NoMemory) text = Unit {0}
-Tokens (Err BadToken) text = (ts : List Lexeme) → Lexes 0 text ts → ⊥
+-- what was returned, seen by f, is this, unless memory ran out
+abbrev pub Gives : {X Y : Type 0} → (X → Y) → Result X LexFault → Option Y → Type 0
+Gives f (Ok x) o = o ≡ Some (f x)
+Gives f (Err NoMemory) o = Unit {0}
+Gives f (Err BadToken) o = o ≡ None

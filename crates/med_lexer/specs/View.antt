@@ -1,12 +1,12 @@
--- A token without where its text lies in memory, and what the functions answer.
-use Rattle.std.specs.Prelude.{◌≡◌, List, map, Result, Ok, Err, Option, Some, None}
+-- A token without where its text lies in memory, and what `tokens` answers.
+use Rattle.std.specs.Prelude.{◌≡◌, ℕ, List, map, Result, Ok, Err, Option, Some, None, Vec}
 use Rattle.std.specs.String.{string_bytes}
 use Rattle.med_lexer.specs.declared.Kind.{Kind}
 use Rattle.med_lexer.specs.declared.Kind.TheVariants as k
 use Rattle.med_lexer.specs.declared.Token.{Token}
 use Rattle.med_lexer.specs.declared.error.LexFault.{LexFault}
 use Rattle.med_lexer.specs.declared.error.LexFault.TheVariants.{NoMemory, BadToken}
-use Rattle.med_lexer.specs.Lexemes.{Shape, word, quoted, literal, number, mark, Lexeme}
+use Rattle.med_lexer.specs.Lexemes.{Shape, word, quoted, literal, number, mark, Lexeme, Lexes}
 
 abbrev pub shape_of : Kind → Shape
 shape_of (k.Word s) = word (string_bytes s)
@@ -21,8 +21,8 @@ view t = record { shape = shape_of t.kind; start = t.start; end = t.end }
 abbrev pub views : List Token → List Lexeme
 views = map view
 
--- what was returned, seen by f, is this, unless memory ran out
-abbrev pub Gives : {X Y : Type 0} → (X → Y) → Result X LexFault → Option Y → Type 0
-Gives f (Ok x) o = o ≡ Some (f x)
-Gives f (Err NoMemory) o = Unit {0}
-Gives f (Err BadToken) o = o ≡ None
+-- the tokens of the text, or that it has none, or that memory ran out
+abbrev pub Tokens : {A : Type 0} → Result (Vec Token A) LexFault → List ℕ → Type 0
+Tokens (Ok v) text = Lexes 0 text (views v.items)
+Tokens (Err NoMemory) text = Unit {0}
+Tokens (Err BadToken) text = (ts : List Lexeme) → Lexes 0 text ts → ⊥

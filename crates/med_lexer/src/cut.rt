@@ -5,8 +5,8 @@ ghost use Rattle.med_lexer.specs.Lexemes as spec;
 ghost use Rattle.med_lexer.specs.Lexemes.{Lexeme, Lexes, Shape};
 ghost use Rattle.med_lexer.specs.Printing.{AreShapes, printed};
 ghost use Rattle.med_lexer.specs.Cutting as cutting;
-ghost use Rattle.med_lexer.specs.View.{Gives, views};
-ghost use Rattle.med_lexer.specs.Steps.{Steps, Tokens};
+ghost use Rattle.med_lexer.specs.View.{views, Tokens};
+ghost use Rattle.med_lexer.specs.Steps.{Steps, Gives};
 ghost use Rattle.std.specs.Char.{is_ascii_digit};
 
 use crate::bytes::{Class, behind, cut_run, first, is_blank, is_start};

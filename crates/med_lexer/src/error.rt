@@ -1,13 +1,19 @@
-//! Why a text has no tokens.
+//! Why no tokens were given.
 
 ghost use Rattle.std.specs.Prelude.{◌≡◌};
 ghost use Rattle.med_lexer.specs.declared.error.LexFault.TheVariants.{NoMemory};
 
 use std::alloc::{AllocError, AllocFailed};
+use thiserror::Error;
 
-#[derive(Debug, Drop)]
+/// Why no tokens were given.
+#[derive(Clone, Copy, Debug, PartialEq, Eq, Error)]
 pub enum LexFault {
+    /// Memory ran out.
+    #[error("out of memory")]
     NoMemory,
+    /// The text has no list of tokens.
+    #[error("a part of the text is no token")]
     BadToken,
 }
 

@@ -3,7 +3,7 @@
 ghost use Rattle.std.specs.Prelude.{◌≡◌, ◌<◌, length};
 ghost use Rattle.std.specs.String.{string_bytes};
 ghost use Rattle.med_lexer.specs.Cutting as cutting;
-ghost use Rattle.med_lexer.specs.View.{Gives};
+ghost use Rattle.med_lexer.specs.Steps.{Gives};
 
 use crate::bytes::{Class, cut_run, strip};
 use crate::error::LexFault;

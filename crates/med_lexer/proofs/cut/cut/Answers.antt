@@ -19,9 +19,9 @@ loop-out-smaller-in-Blank c = omega (arith, blank_shorter c.loop-out.rest.now c.
 
 pub loop-out-preserved-in-Blank : goal.loop-out-preserved-in-Blank
 loop-out-preserved-in-Blank c = record {
-    text = search rules;
-    loop = cut_blank c.args.text.now (views c.loop-out.out.items) c.loop-out.rest.now c.in-Blank.after.now c.loop-out.invariant.loop (c.in_ok-next.ensures ∙ ap next_of c.in-Blank.is);
-  }
+  text = search rules;
+  loop = cut_blank c.args.text.now (views c.loop-out.out.items) c.loop-out.rest.now c.in-Blank.after.now c.loop-out.invariant.loop (c.in_ok-next.ensures ∙ ap next_of c.in-Blank.is);
+}
 
 pub overflow_sub-end : goal.overflow_sub-end
 overflow_sub-end c =
@@ -32,7 +32,7 @@ loop-out-smaller c = next_shorter c.loop-out.rest.now (shape_of c.in-Cut.kind) c
 
 pub loop-out-preserved : goal.loop-out-preserved
 loop-out-preserved c = record {
-    text = search rules;
-    loop = subst (λ ts. CutLoop c.args.text.now ts c.in-Cut.after.now) (sym (ap views c.in_ok-push-in-Cut.ensures.items ∙ views_push c.loop-out.out.items _))
+  text = search rules;
+  loop = subst (λ ts. CutLoop c.args.text.now ts c.in-Cut.after.now) (sym (ap views c.in_ok-push-in-Cut.ensures.items ∙ views_push c.loop-out.out.items _))
       (cut_token c.args.text.now (views c.loop-out.out.items) c.loop-out.rest.now (shape_of c.in-Cut.kind) c.in-Cut.after.now _ _ c.loop-out.invariant.loop (c.in_ok-next.ensures ∙ ap next_of c.in-Cut.is) (omega arith) (omega arith));
-  }
+}

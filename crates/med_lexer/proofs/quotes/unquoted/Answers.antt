@@ -16,7 +16,7 @@ loop-out-smaller c = loop_shorter c.args.quote c.loop-out.rest.now _ _ _ _ _ _ c
 
 pub loop-out-preserved : goal.loop-out-preserved
 loop-out-preserved c = record {
-    text = search rules;
-    same = loop_more c.args.quote c.args.text.now (string_bytes c.loop-out.out) c.loop-out.rest.now _ _ _ _ _ _ (string_bytes c.push_str-in-loop-out.new.self) c.loop-out.invariant.same c.cut_run.ensures c.in-Some.ensures c.in-Some-strip.ensures
+  text = search rules;
+  same = loop_more c.args.quote c.args.text.now (string_bytes c.loop-out.out) c.loop-out.rest.now _ _ _ _ _ _ (string_bytes c.push_str-in-loop-out.new.self) c.loop-out.invariant.same c.cut_run.ensures c.in-Some.ensures c.in-Some-strip.ensures
       (c.in_ok-push_str-2.ensures.bytes ∙ ap (λ y. y ++ c.in-Some-strip.again.now) c.in_ok-push_str.ensures.bytes);
-  }
+}
