@@ -1,5 +1,5 @@
--- The causes of refusal, one for each phase and SQLSTATE (ISO/IEC 9075-2 and 9075-9, and PostgreSQL's subclasses):
--- phase 1 the frame, 2 syntax, 3 names and rights, 4 types, 5 state and limits, 6 the run.
+-- The causes of refusal, one for each phase and SQLSTATE (ISO/IEC 9075-2, ISO/IEC 9075-9 for class HV, and PostgreSQL's
+-- error codes). The phases: 1 the line's frame, 2 syntax, 3 names and rights, 4 types, 5 state and limits, 6 the run.
 use Rattle.std.specs.Prelude.{ℕ, List, codes, Option, Some, None}
 use Rattle.med_value.specs.declared.cause.Cause.{Cause}
 use Rattle.med_value.specs.declared.cause.Cause.TheVariants.{Protocol, NoConnection, Syntax, LiteralOutOfRange, NameTooLong, TooDeep, FetchZero, NoPrivilege, UndefinedObject, UndefinedTable, UndefinedColumn, AmbiguousColumn, DuplicateAlias, DuplicateColumn, DuplicateObject, DuplicateTable, DuplicateCursor, InvalidCursorName, InvalidColumnReference, MisplacedName, UndefinedHandler, InvalidOptionName, OptionNameNotFound, DatatypeMismatch, UndefinedFunction, Grouping, ValuesSyntax, InvalidEscape, FeatureNotSupported, InvalidOptionValue, LimitExceeded, InUse, DependentObjects, UnableToConnect, TableNotFound, InvalidDataType, DivisionByZero, OutOfRange, NotNull, NotUnique, InvalidFormat, InvalidText, NotInState, TooLarge, OutOfMemory, SourceFault}
