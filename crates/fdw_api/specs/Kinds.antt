@@ -1,4 +1,4 @@
--- What a kind of source makes of what it stores.
+-- What a kind of source makes of what stands under a remote name.
 use Rattle.std.specs.Prelude.{ℕ, Bool, List, Option}
 use Rattle.std.specs.String.{string_bytes}
 use Rattle.med_value.specs.Datum.{Tuple}
@@ -8,6 +8,7 @@ use Rattle.med_value.specs.declared.cause.Cause.{Cause}
 use Rattle.fdw_api.specs.declared.interface.Opt.{Opt}
 use Rattle.fdw_api.specs.Scan.{TableRow}
 
+-- a column of a foreign table, as CREATE FOREIGN TABLE declares it
 pub record Column : Type 0 where
   pub name : List ℕ
   pub kind : ColType
@@ -16,6 +17,7 @@ pub record Column : Type 0 where
 abbrev pub column_of : ColumnDef → Column
 column_of c = record { name = string_bytes c.name; kind = c.kind; not_null = c.not_null }
 
+-- an option of a foreign table (level 0) or of its k-th column (level k)
 pub record Setting : Type 0 where
   pub level : ℕ
   pub key : List ℕ
@@ -29,6 +31,7 @@ pub data Entry : Type 0 where
   Bytes : List ℕ → Entry
   Stored : List ColType → List Tuple → Entry
 
+-- what is known of a remote name: the entry or that there is none; or nothing
 pub data Holding : Type 0 where
   Known : Option Entry → Holding
   Unknown : Holding
@@ -46,7 +49,7 @@ pub record Reading : Type 0 where
   pub causes : List Cause
   pub rows : List Held
 
--- a staged change
+-- a change of a write: a new row, another row in a row's place, or a row that goes
 pub data Change : Type 0 where
   Inserts : Tuple → Change
   Updates : ℕ → Tuple → Change
@@ -54,7 +57,7 @@ pub data Change : Type 0 where
 
 -- a kind of source, with what binding means for it
 pub record Kind : Type 0 where
-  -- the causes of names, rights and types that columns and options show
+  -- the causes of refusal by names and types (phases 3 and 4) that these columns and options show for this kind
   pub objections : List Column → List Setting → List Cause
   -- what the entry under the remote name gives a table of these columns and options
   pub reads : List Column → List Setting → Option Entry → Reading

@@ -1,6 +1,6 @@
 -- What a scan is asked for, and which rows it may give.
-use Rattle.std.specs.Prelude.{◌≡◌, ℕ, Bool, true, false, not, ◌&&◌, if◌then◌else◌, List, [], ◌∷◌, ◌++◌, map, length, replicate, All, IsPermutation, slice_index_or, Option, Some, None, slice_get, nat_lt}
-use Rattle.std.specs.List.{list_all}
+use Rattle.std.specs.Prelude.{◌≡◌, ℕ, Bool, true, false, not, ◌&&◌, if◌then◌else◌, List, [], ◌∷◌, ◌++◌, map, length, replicate, All, IsPermutation, slice_index_or, Option, Some, None, slice_get, nat_lt, nat_eq}
+use Rattle.std.specs.List.{list_all, list_any}
 use Rattle.std.specs.declared.cmp.Ordering.{Ordering}
 use Rattle.std.specs.Ordering.{is_lt, is_le, is_eq, is_gt, is_ge}
 use Rattle.med_value.specs.Datum.{Datum, NoValue, Whole, Chars, Logic, Tuple, datum}
@@ -18,20 +18,23 @@ use Rattle.fdw_api.specs.declared.scan.Agree.{Agree}
 use Rattle.fdw_api.specs.declared.scan.Agree.TheVariants.{Ignored, Hint, Exact}
 use Rattle.fdw_api.specs.declared.scan.ScanSpec.{ScanSpec}
 
--- a restriction with the meaning of its constant
+-- the operand of a restriction: a value, or the parameter of a number
 pub data Other : Type 0 where
   Given : Datum → Other
   Slot : ℕ → Other
 
+-- the test of a restriction: a comparison, IS NULL or IS NOT NULL
 pub data Check : Type 0 where
   Compares : Comparison → Other → Check
   Missing : Check
   Present : Check
 
+-- a restriction: a column, and the test of its cells
 pub record Filter : Type 0 where
   pub column : ℕ
   pub check : Check
 
+-- what an operand, a test and a restriction of the program mean
 abbrev pub other_of : Operand → Other
 other_of (Constant v) = Given (datum v)
 other_of (Parameter at) = Slot at
@@ -44,6 +47,8 @@ check_of IsNotNull = Present
 abbrev pub filter_of : Restriction → Filter
 filter_of r = record { column = r.column; check = check_of r.test }
 
+-- what a scan is asked for: the columns that are wanted, the restrictions that are offered, one answer for each, and whether rows hold
+-- the wanted columns only
 pub record Spec : Type 0 where
   pub wanted : List ℕ
   pub offered : List Filter
@@ -53,14 +58,15 @@ pub record Spec : Type 0 where
 abbrev pub spec_of : ScanSpec → Spec
 spec_of s = record { wanted = s.wanted.items; offered = map filter_of s.offered.items; answers = s.agreement.answers.items; narrow = s.agreement.narrow }
 
--- nothing is taken over
+-- the scan of whole rows for which the wrapper takes nothing over
 abbrev pub plain_spec : List ℕ → List Filter → Spec
 plain_spec wanted offered = record { wanted = wanted; offered = offered; answers = replicate (length offered) Ignored; narrow = false }
 
--- the cell of a column
+-- the cell of a column, NULL past the row's end
 abbrev pub cell : Tuple → ℕ → Datum
 cell cells column = slice_index_or cells column NoValue
 
+-- a comparison holds where its sides stand in this order
 abbrev pub holds : Comparison → Ordering → Bool
 holds Equal o = is_eq o
 holds Apart o = not (is_eq o)
@@ -75,14 +81,16 @@ is_null (Whole m) = false
 is_null (Chars s) = false
 is_null (Logic p) = false
 
--- a comparison is true: with NULL it never is
+-- a comparison is true: with NULL it never is (it is unknown)
 abbrev pub compares_true : Comparison → Datum → Datum → Bool
 compares_true op v w = if is_null v then false else (if is_null w then false else holds op (datum_cmp v w))
 
+-- the value of an operand under these parameters
 abbrev pub value_of : Tuple → Other → Datum
 value_of params (Given v) = v
 value_of params (Slot at) = cell params at
 
+-- a test is true of a value
 abbrev pub checks : Tuple → Check → Datum → Bool
 checks params (Compares op o) v = compares_true op v (value_of params o)
 checks params Missing v = is_null v
@@ -92,6 +100,7 @@ checks params Present v = not (is_null v)
 abbrev pub meets : Tuple → Tuple → Filter → Bool
 meets params cells f = checks params f.check (cell cells f.column)
 
+-- all restrictions are true of a row
 abbrev pub meets_all : List Filter → Tuple → Tuple → Bool
 meets_all offered params cells = list_all (meets params cells) offered
 
@@ -114,17 +123,20 @@ pub record GivenRow : Type 0 where
   pub id : ℕ
   pub cells : Tuple
 
+-- the cells of the wanted columns
 abbrev pub pick : List ℕ → Tuple → Tuple
 pick wanted cells = map (cell cells) wanted
 
--- all columns, or the wanted ones
+-- the cells that a scan shows of a row: all, or the wanted ones
 abbrev pub shown_cells : Spec → Tuple → Tuple
 shown_cells spec cells = if spec.narrow then pick spec.wanted cells else cells
 
+-- a row as this scan gives it
 abbrev pub shown : Spec → TableRow → GivenRow
 shown spec r = record { id = r.id; cells = shown_cells spec r.cells }
 
--- the rows that a scan may give: each row of the table at most once, every row that meets all restrictions, none that fails an Exact one
+-- the rows that a scan may give, in an order of the wrapper's choice: each row of the table at most once, every row of which all
+-- restrictions are true, and none of which an Exact one is not true
 pub record IsComing (rows : List TableRow) (spec : Spec) (params : Tuple) (coming : List GivenRow) : Type 0 where
   pub taken : List TableRow
   pub left_out : List TableRow
@@ -141,6 +153,7 @@ has_kind TextType (Chars s) = true
 has_kind BoolType (Logic b) = true
 has_kind k v = false
 
+-- a value of the column's type, if there is such a column
 abbrev pub kind_is : Option ColType → Datum → Bool
 kind_is None v = false
 kind_is (Some k) v = has_kind k v
@@ -152,5 +165,18 @@ check_fits kinds params column (Compares op (Given v)) = true
 check_fits kinds params column Missing = true
 check_fits kinds params column Present = true
 
+-- all parameters that the restrictions name are there, with values of their columns' types
 abbrev pub params_fit : List ColType → List Filter → Tuple → Bool
 params_fit kinds offered params = list_all (λ f. check_fits kinds params f.column f.check) offered
+
+-- a text has no U+0000
+abbrev pub is_clean : Datum → Bool
+is_clean (Chars t) = not (list_any (nat_eq 0) t)
+is_clean v = true
+
+-- a row of these types, without U+0000
+abbrev pub row_fits : List ColType → Tuple → Bool
+row_fits [] [] = true
+row_fits (k ∷ ks) (v ∷ vs) = has_kind k v && is_clean v && row_fits ks vs
+row_fits (k ∷ ks) [] = false
+row_fits [] (v ∷ vs) = false

@@ -88,7 +88,7 @@ pub struct ScanSpec {
 }
 
 /// Copies of these values, in order.
-pub fn copy_values(values: &[Value], alloc: Global) -> Result<Vec<Value>, NoMemory>
+pub fn copy_values(alloc: Global, values: &[Value]) -> Result<Vec<Value>, NoMemory>
     ensures { IfOk result (λ copies. map datum copies.items ≡ map datum values.now) }
 {
     let mut copies = Vec::new(alloc);
@@ -225,7 +225,7 @@ pub fn meets_taken(offered: &[Restriction], answers: &[Agree], row: &Row, params
 }
 
 /// The wanted cells of a row, NULL for a column that it does not have.
-pub fn pick_cells(row: &Row, wanted: &[usize], alloc: Global) -> Result<Row, NoMemory>
+pub fn pick_cells(alloc: Global, row: &Row, wanted: &[usize]) -> Result<Row, NoMemory>
     ensures { IfOk result (λ r. tuple r ≡ pick wanted.now (tuple row.now)) }
 {
     let mut cells = Vec::new(alloc);
@@ -274,11 +274,11 @@ impl ScanSpec {
     }
 
     /// A row as the scan shows it: its wanted cells where the scan is narrow, else all.
-    pub fn show(&self, row: &Row, alloc: Global) -> Result<Row, NoMemory>
+    pub fn show(&self, alloc: Global, row: &Row) -> Result<Row, NoMemory>
         ensures { IfOk result (λ r. tuple r ≡ shown_cells (spec_of self.now) (tuple row.now)) }
     {
         if self.agreement.narrow {
-            pick_cells(row, &self.wanted, alloc)
+            pick_cells(alloc, row, &self.wanted)
         } else {
             row.copy(alloc)
         }
