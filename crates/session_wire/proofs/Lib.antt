@@ -1,0 +1,9 @@
+pub mod Pieces
+pub mod FirstLine
+pub mod FrontOfLine
+pub mod Codec
+pub mod Digits
+pub mod FirstSpace
+pub mod UniqueFrames
+pub mod Runs
+pub mod ServerLemmas

@@ -1,0 +1,32 @@
+use Rattle.std.proofs.Common.{◌≡◌, ◌+◌, ◌-◌, ◌≤◌, ◌==◌, ℕ, List, [], ◌++◌, Bool, false, true, not, ◌<◌, length, Some, refl, sym, ap, ◌∙◌, subst, append-nil, arith, rules}
+use Rattle.std.proofs.lemmas.Bool.{leb-true}
+use Rattle.std.specs.List.{list_any}
+use Rattle.session_wire.specs.Lines.{IsFrontOfLine, rest, lines_of, line_limit, unread_after}
+use Rattle.session_wire.specs.Run.{Run}
+use Rattle.session_wire.proofs.FrontOfLine.{front-append, front_is_rest}
+use Rattle.session_wire.proofs.Runs.{front_stops}
+use Rattle.session_wire.proofs.answers.answer_piece.Goals.{then-piece-len, else-piece-len}
+use Rattle.session_wire.proofs.answers.answer_piece.Goals as goal
+
+negated : (b : Bool) → not b ≡ true → b ≡ false
+negated true e = cc
+negated false e = refl
+
+pub returns-then-is_err-clause-err : goal.returns-then-is_err-clause-err
+returns-then-is_err-clause-err g c = ([], sym (append-nil _), front_stops _ _ _)
+
+pub returns-then-is_front-clause-ok : goal.returns-then-is_front-clause-ok
+returns-then-is_front-clause-ok g c =
+    let front : IsFrontOfLine (c.args.unread.now.items ++ c.args.piece.now) =
+      elim c.if-piece-len.branch [
+        | then-piece-len w ↦
+          let none : w.contains.result ≡ false = negated _ (sym w.is_front-is ∙ c.if-is_front.true) in
+          front-append _ _ c.requires.front (sym w.contains.ensures.value ∙ none) (omega arith)
+        | else-piece-len w ↦
+          let long : 65536 - c.len.result < length c.args.piece.now = w.if-piece-len.false in
+          let short : length c.args.piece.now ≤ 65536 - c.len.result = leb-true _ _ (sym w.is_front-is ∙ c.if-is_front.true) in
+          absurd (omega arith)
+      ] in
+    let lines = front_is_rest _ front in
+    let added : c.extend_from_slice.new.self.items ≡ c.args.unread.now.items ++ c.args.piece.now = grind arith in
+    ([], sym (append-nil _), rw lines (refl, refl), ap unread_after lines ∙ ap Some (sym added))

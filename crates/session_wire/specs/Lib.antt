@@ -1,0 +1,7 @@
+pub mod Lines
+pub mod Finds
+pub mod Frames
+pub mod Replies
+pub mod Run
+pub mod Ends
+pub mod Servers

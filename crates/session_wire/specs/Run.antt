@@ -1,0 +1,54 @@
+-- What is answered to the lines of a stream.
+use Rattle.std.specs.Prelude.{◌≡◌, ℕ, suc, ◌⊎◌, Option, List, [], ◌++◌}
+use Rattle.med_session.specs.Requests.{Asked}
+use Rattle.session_wire.specs.Lines.{Lines, line, rest, closed, lines_of, unread_after}
+use Rattle.session_wire.specs.Frames.{IsFrame, IsReplySid}
+use Rattle.session_wire.specs.Replies.{refusal, closing_replies}
+
+-- From old, a request in this session may be answered by this text, and new is what it leaves.
+abbrev pub Steps : Type 0 → Type 1
+Steps W = W → ℕ → Asked → List ℕ → W → Type 0
+
+-- A line that is in the grammar is answered by a step. Any other is refused by the number that it begins
+-- with, and changes nothing.
+abbrev pub IsAnswered : {W : Type 0} → Steps W → W → List ℕ → List ℕ → W → Type 0
+IsAnswered step old text reply new =
+    ((sid : ℕ) × (request : Asked) × IsFrame text sid request × step old sid request reply new)
+    ⊎ (((sid : ℕ) (request : Asked) → IsFrame text sid request → ⊥)
+    × ((sid : ℕ) × IsReplySid text sid × (reply ≡ refusal sid)) × (new ≡ old))
+
+-- The lines lead, one after another, from old to these replies and to new. A line that closes the stream
+-- is answered by the closing replies, and ends every session.
+abbrev pub Run : {W : Type 0} → Steps W → (W → W → Type 0) → W → Lines → List ℕ → W → Type 0
+Run {W} step ended old (line text more) replies new =
+    (reply : List ℕ) × (others : List ℕ) × (mid : W) × IsAnswered step old text reply mid
+    × Run step ended mid more others new × (replies ≡ reply ++ others)
+Run step ended old (rest after) replies new = (replies ≡ []) × (new ≡ old)
+Run step ended old closed replies new = (replies ≡ closing_replies) × ended old new
+
+-- some of the lines, from the first on, do, none of them a closing one
+abbrev pub RunFront : {W : Type 0} → Steps W → W → Lines → List ℕ → W → Type 0
+RunFront {W} step old (line text more) replies new =
+    ((replies ≡ []) × (new ≡ old))
+    ⊎ ((reply : List ℕ) × (others : List ℕ) × (mid : W) × IsAnswered step old text reply mid
+    × RunFront step mid more others new × (replies ≡ reply ++ others))
+RunFront step old (rest after) replies new = (replies ≡ []) × (new ≡ old)
+RunFront step old closed replies new = (replies ≡ []) × (new ≡ old)
+
+-- These bytes are answered by the text of a run of their lines, which leads from old to new, and these
+-- bytes are left unread, or the stream is closed.
+pub record Fed {W : Type 0} (step : Steps W) (ended : W → W → Type 0) (old : W) (bytes text : List ℕ) (new : W) (left : Option (List ℕ)) : Type 0 where
+  pub run : Run step ended old (lines_of bytes) text new
+  pub unread : unread_after (lines_of bytes) ≡ left
+
+-- Some lines at the front of these bytes are answered by this text, and then every session was ended.
+pub record BrokenOff {W : Type 0} (step : Steps W) (ended : W → W → Type 0) (old : W) (bytes text : List ℕ) (new : W) : Type 0 where
+  pub last : W
+  pub front : RunFront step old (lines_of bytes) text last
+  pub sessions : ended last new
+
+-- how many lines there are
+abbrev pub line_count : Lines → ℕ
+line_count (line text more) = suc (line_count more)
+line_count (rest after) = 0
+line_count closed = 0

@@ -1,0 +1,93 @@
+// What a piece of a stream is answered.
+ghost use Rattle.std.specs.Prelude.{◌≡◌, ◌++◌, ℕ, List, IfOk, OnOk, OnErr};
+ghost use Rattle.session_wire.specs.Lines.{IsFrontOfLine, lines_of};
+ghost use Rattle.session_wire.specs.Run.{IsAnswered, Run, RunFront};
+ghost use Rattle.session_wire.specs.Ends.{Leaves};
+
+use crate::frames::frame;
+use crate::handler::Handler;
+use crate::lines::{Found, LINE_LIMIT, new_codec, next_line};
+use crate::replies::{write_closing, write_refusal};
+use bytes::BytesMut;
+use med_session::NoRoom;
+
+// How the lines of a piece end.
+#[derive(Clone, Copy, Debug)]
+pub(crate) enum End {
+    // The stream goes on.
+    Open,
+    // A line closed it.
+    Closed,
+}
+
+// Answers the lines that a piece makes with the unread bytes before it.
+pub(crate) fn answer_piece<H: Handler>(
+    handler: &mut H,
+    unread: &mut BytesMut,
+    piece: &[u8],
+    out: &mut Vec<u8>,
+) -> Result<End, NoRoom>
+    requires sound { H.sound handler.old }
+    requires front { IsFrontOfLine unread.old.items }
+    ensures ok { IfOk result (λ end. (text : List ℕ) × (out.new.items ≡ out.old.items ++ text)
+        × Run H.step H.ended handler.old (lines_of (unread.old.items ++ piece.now)) text handler.new
+        × Leaves end (lines_of (unread.old.items ++ piece.now)) unread.new.items) }
+    ensures err { OnErr result ((text : List ℕ) × (out.new.items ≡ out.old.items ++ text)
+        × RunFront H.step handler.old (lines_of (unread.old.items ++ piece.now)) text handler.new) }
+    ensures sound { H.sound handler.new }
+{
+    // Bytes that end no line are not searched again when more come.
+    let is_front = piece.len() <= LINE_LIMIT - unread.len() && !piece.contains(&b'\n');
+    if unread.extend_from_slice(piece).is_err() {
+        return Err(NoRoom);
+    }
+    if is_front {
+        return Ok(End::Open);
+    }
+    answer_lines(handler, unread, out)
+}
+
+// Answers the whole lines that stand at the front of the unread bytes, and leaves the rest.
+fn answer_lines<H: Handler>(
+    handler: &mut H,
+    unread: &mut BytesMut,
+    out: &mut Vec<u8>,
+) -> Result<End, NoRoom>
+    requires { H.sound handler.old }
+    ensures ok { IfOk result (λ end. (text : List ℕ) × (out.new.items ≡ out.old.items ++ text)
+        × Run H.step H.ended handler.old (lines_of unread.old.items) text handler.new
+        × Leaves end (lines_of unread.old.items) unread.new.items) }
+    ensures err { OnErr result ((text : List ℕ) × (out.new.items ≡ out.old.items ++ text)
+        × RunFront H.step handler.old (lines_of unread.old.items) text handler.new) }
+    ensures sound { H.sound handler.new }
+{
+    let mut codec = new_codec();
+    loop {
+        let Ok(found) = next_line(&mut codec, unread) else {
+            return Err(NoRoom);
+        };
+        match found {
+            Found::Line(text) => answer_line(handler, text.as_str(), out)?,
+            Found::Nothing => return Ok(End::Open),
+            Found::Closing => {
+                write_closing(out)?;
+                handler.close_sessions();
+                return Ok(End::Closed);
+            }
+        }
+    }
+}
+
+// Answers one line.
+fn answer_line<H: Handler>(handler: &mut H, line: &str, out: &mut Vec<u8>) -> Result<(), NoRoom>
+    requires { H.sound handler.old }
+    ensures ok { OnOk result ((reply : List ℕ) × (out.new.items ≡ out.old.items ++ reply)
+        × IsAnswered H.step handler.old line.now reply handler.new) }
+    ensures refused { OnErr result ((handler.new ≡ handler.old) × (out.new.items ≡ out.old.items)) }
+    ensures sound { H.sound handler.new }
+{
+    match frame(line) {
+        Ok((sid, request)) => handler.request(sid, request, out),
+        Err(bad) => write_refusal(bad.sid, out),
+    }
+}

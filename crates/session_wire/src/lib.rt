@@ -1,0 +1,14 @@
+//! Request lines of a byte stream: how bytes are cut into lines, the grammar of a line, and a server
+//! that answers each line by a handler.
+#![tactic(auto)]
+
+mod answers;
+pub mod frames;
+pub mod handler;
+pub mod lines;
+mod replies;
+pub mod server;
+
+pub use frames::{BadFrame, frame};
+pub use handler::Handler;
+pub use server::{FeedFault, Server};

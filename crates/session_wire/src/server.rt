@@ -1,0 +1,150 @@
+//! A stream of request lines before a handler.
+ghost use Rattle.std.specs.Prelude.{◌≡◌, false};
+ghost use Rattle.session_wire.specs.Lines.{IsFrontOfLine};
+
+use crate::answers::{End, answer_piece};
+use crate::handler::Handler;
+use bytes::BytesMut;
+use med_session::NoRoom;
+use med_value::NoMemory;
+use std::alloc::Global;
+
+/// Room for the first unread bytes, taken when a server is made.
+const FIRST_ROOM: usize = 8_192;
+
+/// Why a piece was refused.
+#[derive(Clone, Copy, Debug, PartialEq, Eq)]
+pub enum FeedFault {
+    /// Room was refused. The stream is closed, and its sessions.
+    NoRoom,
+    /// The stream was closed before.
+    Closed,
+}
+
+/// A stream of request lines, in pieces of any size, before a handler that answers them.
+#[derive(Drop)]
+pub struct Server<H> {
+    handler: H,
+    unread: BytesMut,
+    is_closed: bool,
+    pub ghost between: { is_closed ≡ false → IsFrontOfLine unread.items },
+}
+
+impl<H: Handler> Server<H> {
+    ghost use Rattle.std.specs.Prelude.{◌++◌, ◌↔◌, ℕ, List, [], true, Some, Ok, Err, IfOk, IfErr, OnOk};
+    ghost use Rattle.std.specs.List.{flat_map};
+    ghost use Rattle.session_wire.specs.Run.{Fed, BrokenOff};
+    ghost use Rattle.session_wire.specs.Servers.{handler_of, is_closed, held_back, unread_of};
+
+    /// A server at the start of a stream. Refused for want of memory, it hands the handler back.
+    pub fn new(alloc: Global, handler: H) -> Result<Server<H>, (H, NoMemory)>
+        requires { H.sound handler }
+        ensures ok { IfOk result (λ server.
+            (handler_of server ≡ handler) × (unread_of server ≡ Some [])) }
+        ensures refused { IfErr result (λ back. back.0 ≡ handler) }
+    {
+        match BytesMut::with_capacity(alloc, FIRST_ROOM) {
+            Ok(unread) => Ok(Server {
+                handler,
+                unread,
+                is_closed: false,
+            }),
+            Err(_) => Err((handler, NoMemory)),
+        }
+    }
+
+    /// Whether the stream is closed.
+    pub fn is_closed(&self) -> bool
+        ensures { result ≡ is_closed self.now }
+    {
+        self.is_closed
+    }
+
+    /// Answers the next piece of the stream: `out` grows by the replies to the lines that the piece
+    /// makes with the bytes held back before it.
+    ///
+    /// `NoRoom` where room was refused: the lines answered before were a run, then the sessions were
+    /// ended, and the stream is closed. `Closed` where the stream was closed before: nothing changes.
+    pub fn feed(&mut self, piece: &[u8], out: &mut Vec<u8>) -> Result<(), FeedFault>
+        requires { H.sound (handler_of self.old) }
+        ensures ok { OnOk result ((is_closed self.old ≡ false)
+            × ((text : List ℕ) × (out.new.items ≡ out.old.items ++ text)
+            × Fed H.step H.ended (handler_of self.old) (held_back self.old ++ piece.now) text
+                (handler_of self.new) (unread_of self.new))) }
+        ensures no_room { result ≡ Err FeedFault.NoRoom → (is_closed self.new ≡ true)
+            × ((text : List ℕ) × (out.new.items ≡ out.old.items ++ text)
+            × BrokenOff H.step H.ended (handler_of self.old) (held_back self.old ++ piece.now) text
+                (handler_of self.new)) }
+        ensures closed { (result ≡ Err FeedFault.Closed) ↔ (is_closed self.old ≡ true) }
+        ensures unchanged { result ≡ Err FeedFault.Closed
+            → (handler_of self.new ≡ handler_of self.old) × (is_closed self.new ≡ true)
+            × (out.new.items ≡ out.old.items) }
+        ensures sound { H.sound (handler_of self.new) }
+    {
+        if self.is_closed {
+            return Err(FeedFault::Closed);
+        }
+        match answer_piece(&mut self.handler, &mut self.unread, piece, out) {
+            Ok(End::Open) => Ok(()),
+            Ok(End::Closed) => {
+                self.is_closed = true;
+                Ok(())
+            }
+            Err(NoRoom) => {
+                self.handler.close_sessions();
+                self.is_closed = true;
+                Err(FeedFault::NoRoom)
+            }
+        }
+    }
+
+    /// Answers pieces in order, up to the one that closes the stream. What is answered depends on the
+    /// bytes alone, and not on where they are cut.
+    ///
+    /// Faults are those of `feed`.
+    pub fn feed_all(&mut self, pieces: &[Vec<u8>], out: &mut Vec<u8>) -> Result<(), FeedFault>
+        requires { H.sound (handler_of self.old) }
+        ensures ok { OnOk result ((is_closed self.old ≡ false)
+            × ((text : List ℕ) × (out.new.items ≡ out.old.items ++ text)
+            × Fed H.step H.ended (handler_of self.old)
+                (held_back self.old ++ flat_map (λ piece. piece.items) pieces.now) text
+                (handler_of self.new) (unread_of self.new))) }
+        ensures no_room { result ≡ Err FeedFault.NoRoom → (is_closed self.new ≡ true)
+            × ((text : List ℕ) × (out.new.items ≡ out.old.items ++ text)
+            × BrokenOff H.step H.ended (handler_of self.old)
+                (held_back self.old ++ flat_map (λ piece. piece.items) pieces.now) text
+                (handler_of self.new)) }
+        ensures closed { (result ≡ Err FeedFault.Closed) ↔ (is_closed self.old ≡ true) }
+        ensures unchanged { result ≡ Err FeedFault.Closed
+            → (handler_of self.new ≡ handler_of self.old) × (is_closed self.new ≡ true)
+            × (out.new.items ≡ out.old.items) }
+        ensures sound { H.sound (handler_of self.new) }
+    {
+        if self.is_closed {
+            return Err(FeedFault::Closed);
+        }
+        for piece in pieces {
+            match self.feed(piece.as_slice(), out) {
+                Ok(()) => {}
+                Err(FeedFault::Closed) => return Ok(()),
+                Err(FeedFault::NoRoom) => return Err(FeedFault::NoRoom),
+            }
+        }
+        Ok(())
+    }
+
+    /// Ends the stream and every session, and hands the handler back. Bytes held back are dropped.
+    pub fn finish(self) -> H
+        requires { H.sound (handler_of self) }
+        ensures ended { H.ended (handler_of self) result }
+        ensures sound { H.sound result }
+    {
+        let Server {
+            mut handler,
+            unread: _,
+            is_closed: _,
+        } = self;
+        handler.close_sessions();
+        handler
+    }
+}
