@@ -1,7 +1,7 @@
 -- A map of the program as a finite map of what its values mean.
-use Rattle.std.proofs.Common.{◌≡◌, ◌≢◌, ℕ, ◌+◌, ◌<◌, ◌≤◌, ◌⊎◌, Bool, true, false, cond, not, List, [], ◌∷◌, Option, Some, None, length, map, zero, suc, option_map, refl, ap, sym, ◌∙◌, arith, rules, eqb, inl, inr, Ordering}
-use Rattle.std.specs.declared.cmp.Ordering.TheVariants.{Less, Equal, Greater}
-use Rattle.std.specs.Ordering.{nat_cmp, eq_by_cmp, is_eq}
+use Rattle.std.proofs.Common.{◌≡◌, ◌≢◌, ℕ, ◌+◌, ◌⊎◌, Bool, true, false, cond, List, [], ◌∷◌, Option, Some, None, length, map, option_map, refl, ap, sym, ◌∙◌, arith, rules, eqb, inl, inr, Ordering}
+use Rattle.std.specs.declared.cmp.Ordering.TheVariants.{Less}
+use Rattle.std.specs.Ordering.{nat_cmp, is_eq}
 use Rattle.std.specs.List.{AllByRecursion}
 use Rattle.std.specs.List.Sorted.{IsStrictlySortedBy}
 use Rattle.std.specs.Map.{lookup}
@@ -11,8 +11,7 @@ use Rattle.std.specs.FinMap as finmap
 use Rattle.std.specs.FinMap.{gets, nat_cmp-IsAntisymmetric, find, get-from_entries}
 use Rattle.std.specs.Cmp.{nat_cmp_total}
 use Rattle.std.proofs.lemmas.Bool.Decides.{eqb_tells}
-use Rattle.std.proofs.lemmas.Grind.{common_steps}
-use Rattle.probe_wrapper.specs.Lists.{mapped}
+use Rattle.probe_wrapper.specs.Scans.{mapped}
 
 branch : {X Y : Type 0} (f : X → Y) (b : Bool) (x : X) (o : Option Y) (p : Option X) → o ≡ option_map f p → cond b (Some (f x)) o ≡ option_map f (cond b (Some x) p)
 branch f true x o p e = refl
@@ -69,4 +68,3 @@ unfolding IsStrictlySortedBy
 mapped_len f [] h = finmap.len-empty nat_cmp _
 mapped_len f (e ∷ es) h =
     new_len (mapped f es) e.0 (f e.1) (get-from_entries nat_cmp_total (map (λ e. (e.0, f e.1)) es) e.0 ∙ find_none f e.0 es h.0) ∙ (let r = mapped_len f es h.1 in omega arith)
-

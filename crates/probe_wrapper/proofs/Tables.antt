@@ -1,36 +1,30 @@
 -- What binding does to a list wrapper.
-use Rattle.std.proofs.Common.{◌≡◌, ◌≢◌, ℕ, ◌+◌, ◌-◌, ◌^◌, ◌<◌, ◌≤◌, ◌⊎◌, Bool, true, false, cond, not, ◌&&◌, if◌then◌else◌, nat_eq, List, [], ◌∷◌, ◌++◌, Option, Some, None, IsSome, length, map, option_map, slice_get, slice_index_or, slice_set, IsPermutation, refl, ap, sym, ◌∙◌, subst, arith, rules, eqb, inl, inr}
+use Rattle.std.proofs.Common.{◌≡◌, ◌≢◌, ℕ, ◌+◌, ◌<◌, ◌≤◌, ◌⊎◌, Bool, true, false, ◌&&◌, nat_eq, List, [], ◌∷◌, Option, Some, None, length, map, option_map, slice_get, slice_index_or, slice_set, Contains, refl, ap, sym, ◌∙◌, subst, arith, rules, eqb, inl, inr}
 use Rattle.std.specs.List.{IsDistinct, AllByRecursion}
 use Rattle.std.specs.String.{string_bytes}
 use Rattle.std.specs.BTreeMap.{BTreeMap}
 use Rattle.std.proofs.lemmas.Bool.Decides.{eqb_tells}
 use Rattle.std.proofs.lemmas.List.Sorted.{IsPermutation-refl}
+use Rattle.std.proofs.lemmas.List.Elements.{Contains-push_cases}
 use lib.Pointwise.{bytes_decides}
-use Rattle.med_value.specs.Datum.{Tuple, tuple}
+use Rattle.med_value.specs.Datum.{tuple}
 use Rattle.med_value.specs.declared.value.Row.{Row}
+use Rattle.med_value.specs.Causes.{phase_of}
+use Rattle.med_value.specs.declared.cause.Cause.{Cause}
+use Rattle.med_value.specs.declared.cause.Cause.TheVariants.{TableNotFound, InvalidDataType}
 use Rattle.med_value.specs.declared.value.ColType.{ColType}
-use Rattle.med_value.specs.declared.value.ColType.TheVariants as kinds
-use Rattle.fdw_api.specs.Scan.{Spec, TableRow}
-use Rattle.fdw_api.specs.Kinds.{Column, Setting, Held, held, Stored}
-use Rattle.fdw_api.specs.State.{Bound, Ledger, BoxState, table_of, set_at}
-use Rattle.fdw_api.specs.Calls.{Allows, CanBind, Binds, Unbinds, Leaves}
+use Rattle.med_value.specs.declared.value.ColType.TheVariants as types
+use Rattle.fdw_api.specs.Kinds.{Column, Setting, Held, held, Reading}
+use Rattle.fdw_api.specs.declared.interface.Fault.TheVariants.{Refused}
+use Rattle.fdw_api.specs.State.{Bound, BoxState, set_at}
+use Rattle.fdw_api.specs.Calls.{CanBind, Binds, Unbinds, IsLeast, RefusesBind}
 use Rattle.probe_wrapper.specs.declared.list.ListTable.{ListTable}
 use Rattle.probe_wrapper.specs.declared.list.ListScan.{ListScan}
-use Rattle.probe_wrapper.specs.declared.list.Stage.{Stage}
-use Rattle.probe_wrapper.specs.Lists.{numbered, at_name, same_text, kinds_match, same_kind, types_of, rows_at, stored, stored_at, bound_of, marked_bound, list_state}
+use Rattle.probe_wrapper.specs.Lists.{list_reading, same_text, same_type, types_match, types_of, entry_of, listed}
+use Rattle.probe_wrapper.specs.Scans.{numbered, stored, entry_at, rows_at, bound_of, marked_bound, list_state}
 
 pub some_inj : {A : Type 0} (a b : A) → Some a ≡ Some b → a ≡ b
 some_inj a b q = cc
-
-bound_allows : (spec : Spec) (f : Bool) (o : Option ListTable) → IsSome (marked_bound f o) → (b : Bound) × (marked_bound f o ≡ Some b) × (b.allows spec ≡ true)
-bound_allows spec false o e = absurd cc
-bound_allows spec true None e = absurd cc
-bound_allows spec true (Some t) e = (bound_of t, refl, refl)
-
-pub list_allows : (tables : List ListTable) (bound : List Bool) (scans : BTreeMap ℕ ListScan) (staged : Option Stage) (next pulled t : ℕ) (spec : Spec) → IsSome (table_of (list_state tables bound scans staged next pulled) t) → Allows (list_state tables bound scans staged next pulled) t spec
-list_allows tables bound scans staged next pulled t spec e =
-    let w = bound_allows spec (slice_index_or bound t false) (slice_get tables t) e in
-    record { bound = w.0; is = w.1; allowed = w.2 }
 
 mark_same : (bs : List Bool) (i : ℕ) (b : Bool) → i < length bs → slice_index_or (slice_set bs i b) i false ≡ b
 mark_same bs i b lt = search rules
@@ -46,33 +40,33 @@ marks tables bound t b new lt e q = split (eqb_tells q t)
     split (inl s) = rw (s.0, s.1, mark_same bound t b lt) e
     split (inr s) = rw (s.0, mark_other bound t q b s.1) refl
 
-pub list_unbinds : (tables : List ListTable) (bound : List Bool) (scans : BTreeMap ℕ ListScan) (staged : Option Stage) (next pulled t : ℕ) → t < length bound → Unbinds (list_state tables bound scans staged next pulled) t (list_state tables (slice_set bound t false) scans staged next pulled)
-list_unbinds tables bound scans staged next pulled t lt = record {
+pub list_unbinds : (tables : List ListTable) (bound : List Bool) (scans : BTreeMap ℕ ListScan) (next pulled t : ℕ) → t < length bound → Unbinds (list_state tables bound scans next pulled) t (list_state tables (slice_set bound t false) scans next pulled)
+list_unbinds tables bound scans next pulled t lt = record {
   nature = refl;
-  ledger = ap (λ (f : ℕ → Option Bound). record (list_state tables bound scans staged next pulled).ledger { tables = f }) (λ i q. marks tables bound t false None lt refl q i);
+  ledger = ap (λ (f : ℕ → Option Bound). record (list_state tables bound scans next pulled).ledger { tables = f }) (λ i q. marks tables bound t false None lt refl q i);
   leaves = λ honest. record { coming = λ q l o. refl; rows = λ u o. refl; holdings = λ r o. refl };
 }
 
-same_kinds : (a b : ColType) → same_kind a b ≡ true → a ≡ b
-same_kinds kinds.Int kinds.Int e = refl
-same_kinds kinds.Text kinds.Text e = refl
-same_kinds kinds.Bool kinds.Bool e = refl
-same_kinds kinds.Int kinds.Text e = absurd cc
-same_kinds kinds.Int kinds.Bool e = absurd cc
-same_kinds kinds.Text kinds.Int e = absurd cc
-same_kinds kinds.Text kinds.Bool e = absurd cc
-same_kinds kinds.Bool kinds.Int e = absurd cc
-same_kinds kinds.Bool kinds.Text e = absurd cc
+same_types : (a b : ColType) → same_type a b ≡ true → a ≡ b
+same_types types.Int types.Int e = refl
+same_types types.Text types.Text e = refl
+same_types types.Bool types.Bool e = refl
+same_types types.Int types.Text e = absurd cc
+same_types types.Int types.Bool e = absurd cc
+same_types types.Text types.Int e = absurd cc
+same_types types.Text types.Bool e = absurd cc
+same_types types.Bool types.Int e = absurd cc
+same_types types.Bool types.Text e = absurd cc
 
 both : (a b : Bool) → (a && b) ≡ true → (a ≡ true) × (b ≡ true)
 both true b e = (refl, e)
 both false b e = absurd cc
 
-kinds_same : (xs ys : List ColType) → kinds_match xs ys ≡ true → xs ≡ ys
-kinds_same [] [] e = refl
-kinds_same [] (y ∷ ys) e = absurd cc
-kinds_same (x ∷ xs) [] e = absurd cc
-kinds_same (x ∷ xs) (y ∷ ys) e = let w = both (same_kind x y) (kinds_match xs ys) e in rw (same_kinds x y w.0, kinds_same xs ys w.1) refl
+types_same : (xs ys : List ColType) → types_match xs ys ≡ true → xs ≡ ys
+types_same [] [] e = refl
+types_same [] (y ∷ ys) e = absurd cc
+types_same (x ∷ xs) [] e = absurd cc
+types_same (x ∷ xs) (y ∷ ys) e = let w = both (same_type x y) (types_match xs ys) e in rw (same_types x y w.0, types_same xs ys w.1) refl
 
 held_numbered : (n : ℕ) (rs : List Row) → map held (numbered n rs) ≡ map (λ r. record { cells = r; origin = [] }) (map tuple rs)
 held_numbered n [] = refl
@@ -91,25 +85,52 @@ not_marked : (s : BoxState) (t : ℕ) (x : ListTable) (f : Bool) (remote : List 
 not_marked s t x true remote free e = absurd (free (bound_of x) refl e)
 not_marked s t x false remote free e = refl
 
-pub list_binds : (tables : List ListTable) (bound : List Bool) (scans : BTreeMap ℕ ListScan) (staged : Option Stage) (next pulled t : ℕ) (remote : List ℕ) (columns : List Column) (settings : List Setting) (x : ListTable) → t < length bound → CanBind (list_state tables bound scans staged next pulled) remote columns settings → at_name tables remote 0 ≡ Some t → slice_get tables t ≡ Some x → same_text (string_bytes x.name) remote ≡ true → kinds_match x.kinds.items (types_of columns) ≡ true → Binds (list_state tables bound scans staged next pulled) remote columns settings t (list_state tables (slice_set bound t true) scans staged next pulled)
-list_binds tables bound scans staged next pulled t remote columns settings x lt can first at same fits =
+pub list_binds : (tables : List ListTable) (bound : List Bool) (scans : BTreeMap ℕ ListScan) (next pulled t : ℕ) (remote : List ℕ) (columns : List Column) (settings : List Setting) (x : ListTable) → t < length bound → CanBind (list_state tables bound scans next pulled) remote columns settings → entry_of (map listed tables) remote ≡ entry_at tables (Some t) → slice_get tables t ≡ Some x → same_text (string_bytes x.name) remote ≡ true → types_match x.kinds.items (types_of columns) ≡ true → Binds (list_state tables bound scans next pulled) remote columns settings t (list_state tables (slice_set bound t true) scans next pulled)
+list_binds tables bound scans next pulled t remote columns settings x lt can is_entry at same fits =
     let named : string_bytes x.name ≡ remote = (bytes_decides (string_bytes x.name) remote).0 same in
-    let kinds = kinds_same x.kinds.items (types_of columns) fits in
-    let free : slice_index_or bound t false ≡ false = not_marked (list_state tables bound scans staged next pulled) t x (slice_index_or bound t false) remote (λ b e. can.free t b (ap (marked_bound (slice_index_or bound t false)) at ∙ e)) named in
+    let kinds = types_same x.kinds.items (types_of columns) fits in
+    let free : slice_index_or bound t false ≡ false = not_marked (list_state tables bound scans next pulled) t x (slice_index_or bound t false) remote (λ b e. can.free t b (ap (marked_bound (slice_index_or bound t false)) at ∙ e)) named in
     record {
       nature = refl;
       fresh = ap (λ (f : Bool). marked_bound f (slice_get tables t)) free;
       bound = bound_of x;
       remote_is = named;
       kinds_are = kinds;
-      line_is = refl;
-      image_is = ap (λ (ks : List ColType). λ entry rows. Some (Stored ks (map (λ r. r.cells) rows))) kinds;
-      refuses_is = refl;
-      ledger = ap (λ (f : ℕ → Option Bound). record (list_state tables bound scans staged next pulled).ledger { tables = f }) (λ i q. marks tables bound t true (Some (bound_of x)) lt (ap (marked_bound true) at) q i);
+      ledger = ap (λ (f : ℕ → Option Bound). record (list_state tables bound scans next pulled).ledger { tables = f }) (λ i q. marks tables bound t true (Some (bound_of x)) lt (ap (marked_bound true) at) q i);
       entry = Some (stored x);
-      picked = λ honest. sym (ap (stored_at tables) first ∙ ap (option_map stored) at);
+      picked = λ honest. sym (is_entry ∙ ap (option_map stored) at);
       no_cause = λ honest. rw fits refl;
       rows = λ honest. rw (fits, at, ← held_numbered 0 x.rows.items) (IsPermutation-refl _);
       once = λ honest. numbered_once 0 (rows_at tables t);
       leaves = λ honest. record { coming = λ q l o. refl; rows = λ u o. refl; holdings = λ r o. refl };
     }
+
+-- the only cause is the least
+only_cause : (c : Cause) (p : ℕ) → phase_of c ≡ Some p → IsLeast (c ∷ []) c
+only_cause c p has = record {
+  stands = (0, omega arith, refl);
+  phase = p;
+  has = has;
+  least = λ d q is d_has. at_one d q d_has (Contains-push_cases [] c d is);
+}
+  where
+    at_one : (d : Cause) (q : ℕ) → phase_of d ≡ Some q → Contains [] d ⊎ (c ≡ d) → p ≤ q
+    at_one d q d_has (inl (k, lt, e)) = absurd (omega arith)
+    at_one d q d_has (inr same) = let e = some_inj p q (sym has ∙ ap phase_of same ∙ d_has) in omega arith
+
+-- a list source refuses a table that it does not have
+pub list_lacks : (tables : List ListTable) (bound : List Bool) (scans : BTreeMap ℕ ListScan) (next pulled : ℕ) (remote : List ℕ) (columns : List Column) (settings : List Setting) → entry_of (map listed tables) remote ≡ None → RefusesBind (list_state tables bound scans next pulled) remote columns settings (Refused TableNotFound) (list_state tables bound scans next pulled)
+list_lacks tables bound scans next pulled remote columns settings none = record {
+  refuses = record { nature = refl; next = next; rises = omega arith; ledger = refl; leaves = λ honest. record { coming = λ q l o. refl; rows = λ u o. refl; holdings = λ r o. refl } };
+  cause = λ honest. (None, sym none, only_cause TableNotFound 5 refl);
+}
+
+-- and columns of other types
+pub list_mismatches : (tables : List ListTable) (bound : List Bool) (scans : BTreeMap ℕ ListScan) (next pulled t : ℕ) (remote : List ℕ) (columns : List Column) (settings : List Setting) (x : ListTable) → entry_of (map listed tables) remote ≡ entry_at tables (Some t) → slice_get tables t ≡ Some x → types_match x.kinds.items (types_of columns) ≡ false → RefusesBind (list_state tables bound scans next pulled) remote columns settings (Refused InvalidDataType) (list_state tables bound scans next pulled)
+list_mismatches tables bound scans next pulled t remote columns settings x is_entry at differs = record {
+  refuses = record { nature = refl; next = next; rises = omega arith; ledger = refl; leaves = λ honest. record { coming = λ q l o. refl; rows = λ u o. refl; holdings = λ r o. refl } };
+  cause = λ honest. (Some (stored x), sym (is_entry ∙ ap (option_map stored) at), subst (λ (r : Reading). IsLeast r.causes InvalidDataType) (sym reading) (only_cause InvalidDataType 5 refl));
+}
+  where
+    reading : list_reading (types_of columns) (Some (stored x)) ≡ record { causes = InvalidDataType ∷ []; rows = [] }
+    reading = rw differs refl

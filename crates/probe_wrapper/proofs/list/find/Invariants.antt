@@ -1,9 +1,9 @@
-use Rattle.std.proofs.Common.{◌≡◌, ◌-◌, drop, length}
-use Rattle.probe_wrapper.specs.Lists.{at_name}
+use Rattle.std.proofs.Common.{◌≡◌, ◌-◌, drop, length, map}
+use Rattle.probe_wrapper.specs.Lists.{entry_of, listed}
 use Rattle.probe_wrapper.proofs.list.find.Given as goal
 
 abbrev pub invariant-loop-at : goal.invariant-loop-at
-invariant-loop-at l = at_name l.tables.items l.name 0 ≡ at_name (drop l.at l.tables.items) l.name l.at
+invariant-loop-at l = entry_of (map listed l.tables.items) l.name ≡ entry_of (map listed (drop l.at l.tables.items)) l.name
 
 abbrev pub decreases-loop-at : goal.decreases-loop-at
 decreases-loop-at l = length l.tables.items - l.at
