@@ -1,0 +1,11 @@
+use Rattle.std.proofs.Common.{map}
+use Rattle.med_value.specs.Datum.{tuple}
+use Rattle.fdw_api.specs.State.{scan_of}
+use Rattle.med_exec.specs.Reading.{HasGiven, left_of}
+use Rattle.med_exec.proofs.scans.read_all.Given as goal
+
+abbrev pub invariant-loop-rows : goal.invariant-loop-rows
+invariant-loop-rows g l = HasGiven l.ticket.number (g.W.Wrapper.meaning l.fn.b) (map tuple l.rows.items) (g.W.Wrapper.meaning l.b)
+
+abbrev pub decreases-loop-rows : goal.decreases-loop-rows
+decreases-loop-rows g l = left_of (scan_of (g.W.Wrapper.meaning l.b) l.ticket.number)

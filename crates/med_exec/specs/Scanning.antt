@@ -1,0 +1,37 @@
+-- Reading a table whole: BeginForeignScan, IterateForeignScan until no row is left or one fails, EndForeignScan.
+use Rattle.std.specs.Prelude.{◌≡◌, ◌+◌, ◌-◌, ◌^◌, ◌<◌, ◌≤◌, ℕ, List, map, length, IsPermutation}
+use Rattle.med_value.specs.Datum.{Tuple}
+use Rattle.fdw_api.specs.Scan.{pick}
+use Rattle.fdw_api.specs.State.{BoxState, is_honest, rows_of}
+use Rattle.fdw_api.specs.Calls.{LeavesAll, faults_after, BeginCause}
+use Rattle.fdw_api.specs.declared.interface.Fault.{Fault}
+use Rattle.med_exec.specs.Reading.{pulled_after}
+
+-- the rows of a bound table, as tuples
+abbrev pub tuples_of : BoxState → ℕ → List Tuple
+tuples_of s table = map (λ r. r.cells) (rows_of s table)
+
+-- one scan was begun, gave these rows and was ended: they are the table's, each once, in any order
+pub record ReadsTable (old : BoxState) (table : ℕ) (given : List Tuple) (new : BoxState) : Type 0 where
+  pub nature : new.nature ≡ old.nature
+  pub room : old.ledger.next < 2 ^ 64 - 1
+  pub ledger : new.ledger ≡ record old.ledger { next = old.ledger.next + 1; pulled = pulled_after (length given) old.ledger.pulled }
+  pub leaves : is_honest old → LeavesAll old new
+  pub rows : is_honest old → IsPermutation (tuples_of old table) given
+
+-- a fault stood against the scan, and no scan is left: 54000 only where ticket numbers were used up, and a source's fault is counted
+pub record FailsTable (fault : Fault) (old new : BoxState) : Type 0 where
+  pub nature : new.nature ≡ old.nature
+  pub next : ℕ
+  pub rises : old.ledger.next ≤ next
+  pub given : ℕ
+  pub ledger : new.ledger ≡ record old.ledger { next = next; pulled = pulled_after given old.ledger.pulled; faults = faults_after fault old.ledger.faults }
+  pub leaves : is_honest old → LeavesAll old new
+  pub cause : BeginCause fault old.ledger.next
+
+-- SELECT columns FROM table: the table was read, and each row given is cut to these columns, in this order
+pub record SelectsTable (old : BoxState) (table : ℕ) (places : List ℕ) (given : List Tuple) (new : BoxState) : Type 0 where
+  pub rows : List Tuple
+  pub reads : ReadsTable old table rows new
+  pub projected : given ≡ map (pick places) rows
+  pub any_order : is_honest old → IsPermutation (map (pick places) (tuples_of old table)) given
