@@ -1,21 +1,12 @@
 -- What a kind of source makes of what stands under a remote name.
-use Rattle.std.specs.Prelude.{ℕ, Bool, List, Option}
+use Rattle.std.specs.Prelude.{ℕ, List, Option}
 use Rattle.std.specs.String.{string_bytes}
 use Rattle.med_value.specs.Datum.{Tuple}
 use Rattle.med_value.specs.declared.value.ColType.{ColType}
-use Rattle.med_value.specs.declared.value.ColumnDef.{ColumnDef}
+pub use Rattle.med_value.specs.Column.{Column, column_of}
 use Rattle.med_value.specs.declared.cause.Cause.{Cause}
 use Rattle.fdw_api.specs.declared.interface.Opt.{Opt}
 use Rattle.fdw_api.specs.Scan.{TableRow}
-
--- a column of a foreign table, as CREATE FOREIGN TABLE declares it
-pub record Column : Type 0 where
-  pub name : List ℕ
-  pub kind : ColType
-  pub not_null : Bool
-
-abbrev pub column_of : ColumnDef → Column
-column_of c = record { name = string_bytes c.name; kind = c.kind; not_null = c.not_null }
 
 -- an option of a foreign table (level 0) or of its k-th column (level k)
 pub record Setting : Type 0 where

@@ -4,20 +4,49 @@
 //! (`IterateForeignScan`) and ends (`EndForeignScan`).
 ghost use Rattle.std.specs.Prelude.{◌≡◌, ℕ, map, IfOk, IfErr, IsSome};
 ghost use Rattle.std.specs.FinMap as finmap;
+ghost use Rattle.fdw_api.specs.declared.interface.Fault.TheVariants.{NoMemory};
 
 use crate::scan::ScanSpec;
 use med_value::{Cause, ColumnDef, Row, Value};
-use std::alloc::Global;
+use std::alloc::{AllocError, AllocFailed, Global};
+use thiserror::Error;
 
 /// Why a call of a wrapper failed.
-#[derive(Clone, Copy, Debug, PartialEq, Eq)]
+#[derive(Clone, Copy, Debug, PartialEq, Eq, Error)]
 pub enum Fault {
-    /// A growth of memory was refused.
+    /// Memory was asked for and refused.
+    #[error("out of memory")]
     NoMemory,
     /// The source failed. Each of these is counted in `Counts::faults`.
+    #[error("the source failed")]
     Source,
     /// What was asked is refused for this cause.
+    #[error("refused by {}", .0.code())]
     Refused(Cause),
+}
+
+impl From<med_value::NoMemory> for Fault {
+    ghost from_gives = { λ _ fault. fault ≡ NoMemory };
+
+    fn from(_: med_value::NoMemory) -> Fault {
+        Fault::NoMemory
+    }
+}
+
+impl From<AllocError> for Fault {
+    ghost from_gives = { λ _ fault. fault ≡ NoMemory };
+
+    fn from(_: AllocError) -> Fault {
+        Fault::NoMemory
+    }
+}
+
+impl<T: Drop> From<AllocFailed<T>> for Fault {
+    ghost from_gives = { λ _ fault. fault ≡ NoMemory };
+
+    fn from(_: AllocFailed<T>) -> Fault {
+        Fault::NoMemory
+    }
 }
 
 /// An option of a foreign table, or of one of its columns.

@@ -166,7 +166,3 @@ is_whole tables bound m next pulled n s scan is at whole =
 pub if_some : {X : Type 0} (o : Option X) (P : X → Type 0) (x : X) → o ≡ Some x → IfSome o P → P x
 if_some None P x e p = absurd cc
 if_some (Some y) P x e p = subst P (some_inj y x e) p
-
-pub at_ok : {T E P : Type 0} (r : Result T E) → is_err r ≡ false → OnOk r P → P
-at_ok (Ok x) e p = p
-at_ok (Err y) e p = absurd cc

@@ -198,10 +198,7 @@ impl Wrapper for ListWrapper {
     }
 
     fn unbind(&mut self, t: TableNo) {
-        let at = t.number as usize;
-        if at < self.bound.len() {
-            self.bound[at] = false;
-        }
+        self.bound[t.number as usize] = false;
     }
 
     fn begin(
@@ -214,12 +211,8 @@ impl Wrapper for ListWrapper {
         if self.next == u64::MAX {
             return Err(Fault::Refused(Cause::LimitExceeded));
         }
-        let Ok(spec) = spec.copy(alloc) else {
-            return Err(Fault::NoMemory);
-        };
-        let Ok(params) = copy_values(alloc, params) else {
-            return Err(Fault::NoMemory);
-        };
+        let spec = spec.copy(alloc)?;
+        let params = copy_values(alloc, params)?;
         let scan = ListScan {
             table: t.number as usize,
             spec,
@@ -228,9 +221,7 @@ impl Wrapper for ListWrapper {
             broken: false,
         };
         let number = self.next;
-        if self.scans.insert(number, scan).is_err() {
-            return Err(Fault::NoMemory);
-        }
+        self.scans.insert(number, scan)?;
         self.next += 1;
         Ok(Ticket { number })
     }
