@@ -8,7 +8,8 @@ use Rattle.med_lexer.specs.Lexemes.{Shape, Lexeme}
 use Rattle.med_lexer.specs.Cutting.{Next, done, blank, token, bad, next, continued, lex}
 use Rattle.med_lexer.specs.View.{view, views, Tokens}
 use Rattle.med_lexer.specs.Steps.{Steps, Gives}
-use Rattle.med_lexer.proofs.Exact.{lex_sound, lex_none, next_shorter, blank_shorter}
+use Rattle.med_lexer.proofs.Exact.{next_shorter, blank_shorter}
+use Rattle.med_lexer.proofs.Stops.{lexes_of_lex, none_of_lex}
 
 abbrev pub after_these : List Lexeme → Option (List Lexeme) → Option (List Lexeme)
 after_these ts o = option_map (λ us. ts ++ us) o
@@ -93,9 +94,9 @@ views_push [] x = refl
 views_push (y ∷ ys) x = ap (λ z. view y ∷ z) (views_push ys x)
 
 pub is_tokens : {A : Type 0} (text : List ℕ) (r : Result (Vec Token A) LexFault) → Gives (λ v. views v.items) r (lex (suc (length text)) 0 text) → Tokens r text
-is_tokens text (Ok v) h = lex_sound (suc (length text)) 0 text (views v.items) h
+is_tokens text (Ok v) h = lexes_of_lex (suc (length text)) 0 text (views v.items) h
 is_tokens text (Err NoMemory) h = tt
-is_tokens text (Err BadToken) h = λ ts x. lex_none text ts h x
+is_tokens text (Err BadToken) h = λ ts x. none_of_lex text ts h x
 
 pub cut_failed : {A : Type 0} (text : List ℕ) (ts : List Lexeme) (rest : List ℕ) (e : LexFault) (r : Result (Vec Token A) LexFault) → CutLoop text ts rest → Steps (Err e) (next rest) → r ≡ Err e → Gives (λ v. views v.items) r (lex (suc (length text)) 0 text)
 cut_failed text ts rest NoMemory r loop n is = rw is tt

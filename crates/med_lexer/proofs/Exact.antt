@@ -5,17 +5,18 @@ use Rattle.std.specs.Char.{is_ascii_digit}
 use Rattle.std.proofs.lemmas.Bool.Decides.{nat_tests}
 use Rattle.med_lexer.specs.declared.Mark.{Mark}
 use Rattle.med_lexer.specs.declared.Mark.TheVariants as marks
-use Rattle.med_lexer.specs.Lexemes.{is_blank, is_start, is_part, is_text, Every, Without, doubled, Shape, word, quoted, literal, number, mark, mark_bytes, joins, is_number_joint, Spells, Ends, IsRemark, Lexeme, Lexes}
-use Rattle.med_lexer.specs.Cutting.{Next, done, blank, token, bad, run, ahead, quote, word_next, number_as, number_next, name_next, literal_next, ended, remark_next, first, behind, single, double, single_next, mark_next, next, continued, lex}
+use Rattle.med_lexer.specs.Lexemes.{is_blank, is_start, is_part, is_text, Every, Without, doubled, Shape, word, quoted, literal, number, mark, mark_bytes, Spells, IsComment, Lexeme}
+use Rattle.med_lexer.specs.Cutting.{Next, done, blank, token, bad, run, ahead, quote, word_next, number_as, number_next, name_next, literal_next, ended, comment_next, first, behind, single, double, single_next, mark_next, next, continued, lex}
+use Rattle.med_lexer.proofs.Cuts.{joins, is_number_joint, Ends, Cuts}
 use Rattle.med_lexer.proofs.Runs.{Part, part, run_again}
 use Rattle.med_lexer.proofs.Quoting.{quote_step}
 
 -- ---- a token that stands at the front is cut
 
-same_is : (q : ℕ) → (q == q) ≡ true
+pub same_is : (q : ℕ) → (q == q) ≡ true
 same_is q = grind (arith, nat_tests)
 
-is_same : (b q : ℕ) → (b == q) ≡ true → b ≡ q
+pub is_same : (b q : ℕ) → (b == q) ≡ true → b ≡ q
 is_same b q h = grind (arith, nat_tests)
 
 quote_end : (q : ℕ) (rest : List ℕ) → Without (λ b. b == q) rest → quote q (q ∷ rest) ≡ Some ([], rest)
@@ -25,7 +26,7 @@ quote_end q (c ∷ cs) n = rw (same_is q) (rw n refl)
 quote_both : (q : ℕ) (rest : List ℕ) → quote q (q ∷ q ∷ rest) ≡ ahead (q ∷ []) (quote q rest)
 quote_both q rest = rw (same_is q) refl
 
-quote_again : (q : ℕ) (w rest : List ℕ) → Every is_text w → Without (λ b. b == q) rest → quote q (doubled q w ++ q ∷ rest) ≡ Some (w, rest)
+pub quote_again : (q : ℕ) (w rest : List ℕ) → Every is_text w → Without (λ b. b == q) rest → quote q (doubled q w ++ q ∷ rest) ≡ Some (w, rest)
 quote_again q [] rest e n = quote_end q rest n
 quote_again q (b ∷ bs) rest e n =
     let go : (v : Bool) → (b == q) ≡ v → quote q (cond v (q ∷ q ∷ doubled q bs) (b ∷ doubled q bs) ++ q ∷ rest) ≡ Some (b ∷ bs, rest) = elim [
@@ -103,20 +104,20 @@ next_token (quoted (b ∷ bs)) raw rest s e =
     rw s.0 (rw (append_assoc (doubled 34 (b ∷ bs)) (34 ∷ []) rest) (rw (quote_again 34 (b ∷ bs) rest s.1 e) refl))
 next_token (literal q) raw rest s e =
     rw s.0 (rw (append_assoc (doubled 39 q) (39 ∷ []) rest) (rw (quote_again 39 q rest s.1 e) refl))
-next_token (number []) raw rest s e = absurd (omega (arith, s.2))
+next_token (number []) raw rest s e = absurd (omega (arith, (s.1).1))
 next_token (number (b ∷ bs)) raw rest s e =
-    rw s.0 (rw (digit_not_blank b (s.1).0) (rw (digit_not_start b (s.1).0) (rw (s.1).0 (rw (run_again is_ascii_digit bs rest (s.1).1 (no_digit rest e)) (number_ends (b ∷ bs) rest e)))))
+    rw s.0 (rw (digit_not_blank b ((s.1).0).0) (rw (digit_not_start b ((s.1).0).0) (rw ((s.1).0).0 (rw (run_again is_ascii_digit bs rest ((s.1).0).1 (no_digit rest e)) (number_ends (b ∷ bs) rest e)))))
 next_token (mark m) raw rest (inl s) e = single_mark m raw rest s e
 next_token (mark m) raw rest (inr s) e = other_mark m raw rest s.0 s.1
 
-next_remark : (rest : List ℕ) → IsRemark rest → next rest ≡ done
+next_comment : (rest : List ℕ) → IsComment rest → next rest ≡ done
 unfolding next
-next_remark [] h = refl
-next_remark (b ∷ []) h = absurd h
-next_remark (b ∷ c ∷ cs) h =
+next_comment [] h = refl
+next_comment (b ∷ []) h = absurd h
+next_comment (b ∷ c ∷ cs) h =
     let all : Every is_text (45 ∷ 45 ∷ cs) = (refl, (refl, h.2)) in
     let go : run is_text (45 ∷ 45 ∷ cs) ≡ (45 ∷ 45 ∷ cs, []) = ap (run is_text) (sym (append-nil (45 ∷ 45 ∷ cs))) ∙ run_again is_text (45 ∷ 45 ∷ cs) [] all tt in
-    rw (h.0, h.1) (ap remark_next go)
+    rw (h.0, h.1) (ap comment_next go)
 
 mark_length : (m : Mark) → 0 < length (mark_bytes m)
 mark_length marks.LeftParen = omega arith
@@ -136,7 +137,7 @@ mark_length marks.AtMost = omega arith
 mark_length marks.Greater = omega arith
 mark_length marks.AtLeast = omega arith
 
-some_bytes : (s : Shape) (raw : List ℕ) → Spells s raw → 0 < length raw
+pub some_bytes : (s : Shape) (raw : List ℕ) → Spells s raw → 0 < length raw
 some_bytes (word w) [] s = absurd s
 some_bytes (word w) (b ∷ bs) s = omega arith
 some_bytes (quoted q) raw s = omega (arith, ap length s.0)
@@ -147,10 +148,10 @@ some_bytes (mark m) raw (inr s) = omega (arith, ap length s.1)
 
 -- ---- the whole text
 
-lex_end : (blanks rest : List ℕ) (k at : ℕ) → Every is_blank blanks → IsRemark rest → length (blanks ++ rest) < k → lex k at (blanks ++ rest) ≡ Some []
+lex_end : (blanks rest : List ℕ) (k at : ℕ) → Every is_blank blanks → IsComment rest → length (blanks ++ rest) < k → lex k at (blanks ++ rest) ≡ Some []
 unfolding lex
 lex_end blanks rest zero at b r h = absurd (omega arith)
-lex_end [] rest (suc k) at b r h = rw (next_remark rest r) refl
+lex_end [] rest (suc k) at b r h = rw (next_comment rest r) refl
 lex_end (c ∷ cs) rest (suc k) at b r h = rw (next_blank c (cs ++ rest) b.0) (lex_end cs rest k (at + 1) b.1 r (omega arith))
 
 lex_token : (blanks raw rest : List ℕ) (t : Lexeme) (ts : List Lexeme) (k at : ℕ) → Every is_blank blanks → Spells t.shape raw → Ends t.shape rest → t.start ≡ at + length blanks → t.end ≡ t.start + length raw → length (blanks ++ (raw ++ rest)) < k →
@@ -165,14 +166,14 @@ lex_token [] raw rest t ts (suc k) at b s e start end h more =
 lex_token (c ∷ cs) raw rest t ts (suc k) at b s e start end h more =
     rw (next_blank c (cs ++ (raw ++ rest)) b.0) (lex_token cs raw rest t ts k (at + 1) b.1 s e (omega arith) end (omega arith) more)
 
-pub lexes_again : (ts : List Lexeme) (k at : ℕ) (text : List ℕ) → Lexes at text ts → length text < k → lex k at text ≡ Some ts
+pub lexes_again : (ts : List Lexeme) (k at : ℕ) (text : List ℕ) → Cuts at text ts → length text < k → lex k at text ≡ Some ts
 lexes_again [] k at text (blanks, rest, b, is, r) h = rw is (lex_end blanks rest k at b r (omega (arith, ap length is)))
 lexes_again (t ∷ ts) k at text (blanks, raw, rest, b, is, s, e, start, end, more) h =
     rw is (lex_token blanks raw rest t ts k at b s e start end (omega (arith, ap length is)) (λ j l. lexes_again ts j t.end rest more l))
 
 -- A text is at most one list of tokens.
-pub one_list : (at : ℕ) (text : List ℕ) (ts us : List Lexeme) → Lexes at text ts → Lexes at text us → ts ≡ us
-one_list at text ts us x y =
+pub one_list_cut : (at : ℕ) (text : List ℕ) (ts us : List Lexeme) → Cuts at text ts → Cuts at text us → ts ≡ us
+one_list_cut at text ts us x y =
     let p = lexes_again ts (suc (length text)) at text x (omega arith) in
     let q = lexes_again us (suc (length text)) at text y (omega arith) in
     cc
@@ -183,7 +184,7 @@ split_cond : {A : Type 0} (b : Bool) (x y z : A) → cond b x y ≡ z → ((b �
 split_cond true x y z h = inl (refl, h)
 split_cond false x y z h = inr (refl, h)
 
-some_same : {A : Type 0} (x y : A) → ◌≡◌ {A = Option A} (Some x) (Some y) → x ≡ y
+pub some_same : {A : Type 0} (x y : A) → ◌≡◌ {A = Option A} (Some x) (Some y) → x ≡ y
 some_same x y h = cc
 
 pub record Quote (q : ℕ) (ts w rest : List ℕ) : Type 0 where
@@ -227,7 +228,7 @@ pub record Front (text : List ℕ) (s : Shape) (rest : List ℕ) : Type 0 where
 
 -- what stands at the front, by what `next` answers
 abbrev pub Tells : List ℕ → Next → Type 0
-Tells text done = IsRemark text
+Tells text done = IsComment text
 Tells text (blank rest) = (b : ℕ) × (text ≡ b ∷ rest) × (is_blank b ≡ true)
 Tells text (token s rest) = Front text s rest
 Tells text bad = Unit {0}
@@ -244,7 +245,7 @@ not_joint [] n s = tt
 not_joint (c ∷ cs) n s = rw n s
 
 tells_number_at : (b : ℕ) (bs d rest : List ℕ) → 0 < length d → Part is_ascii_digit (b ∷ bs) d rest → Without is_start rest → Front (b ∷ bs) (number d) rest
-tells_number_at b bs d rest h p n = record { raw = d; whole = p.whole; spells = (refl, p.all, h); ends = not_joint rest p.ends n }
+tells_number_at b bs d rest h p n = record { raw = d; whole = p.whole; spells = (refl, (p.all, h)); ends = not_joint rest p.ends n }
 
 either : (text : List ℕ) (v : Bool) (x y : Next) → (v ≡ true → Tells text x) → (v ≡ false → Tells text y) → Tells text (cond v x y)
 either text true x y f g = f refl
@@ -277,11 +278,11 @@ tells_literal b bs (Some y) is x =
       ends = x.ends;
     }
 
-tells_remark : (b : ℕ) (bs w rest : List ℕ) → b ≡ 45 → first bs ≡ 45 → Part is_text (b ∷ bs) w rest → Tells (b ∷ bs) (ended rest)
-tells_remark b [] w rest is two p = absurd (omega (arith, two))
-tells_remark b (c ∷ cs) w [] is two p =
+tells_comment : (b : ℕ) (bs w rest : List ℕ) → b ≡ 45 → first bs ≡ 45 → Part is_text (b ∷ bs) w rest → Tells (b ∷ bs) (ended rest)
+tells_comment b [] w rest is two p = absurd (omega (arith, two))
+tells_comment b (c ∷ cs) w [] is two p =
     let all : Every is_text (b ∷ c ∷ cs) = subst (Every is_text) (sym (p.whole ∙ append-nil w)) p.all in (is, two, (all.1).1)
-tells_remark b (c ∷ cs) w (d ∷ ds) is two p = tt
+tells_comment b (c ∷ cs) w (d ∷ ds) is two p = tt
 
 -- ---- marks
 
@@ -438,10 +439,10 @@ next_tells (b ∷ bs) =
     either (b ∷ bs) (is_ascii_digit b) (number_next (run is_ascii_digit (b ∷ bs))) _ (λ h. tells_number b bs (run is_ascii_digit (b ∷ bs)).0 (run is_ascii_digit (b ∷ bs)).1 h (part is_ascii_digit (b ∷ bs))) (λ _.
     either (b ∷ bs) (b == 34) (name_next (quote 34 bs)) _ (λ h. tells_name b bs (quote 34 bs) (is_same b 34 h) (quote_tells 34 bs refl)) (λ _.
     either (b ∷ bs) (b == 39) (literal_next (quote 39 bs)) _ (λ h. tells_literal b bs (quote 39 bs) (is_same b 39 h) (quote_tells 39 bs refl)) (λ _.
-    either (b ∷ bs) (b == 45 && first bs == 45) (remark_next (run is_text (b ∷ bs))) _ (λ h. tells_remark b bs (run is_text (b ∷ bs)).0 (run is_text (b ∷ bs)).1 (both_left b (first bs) 45 45 h) (both_right b (first bs) 45 45 h) (part is_text (b ∷ bs))) (λ n.
+    either (b ∷ bs) (b == 45 && first bs == 45) (comment_next (run is_text (b ∷ bs))) _ (λ h. tells_comment b bs (run is_text (b ∷ bs)).0 (run is_text (b ∷ bs)).1 (both_left b (first bs) 45 45 h) (both_right b (first bs) 45 45 h) (part is_text (b ∷ bs))) (λ n.
     tells_mark b bs (double b (first bs)) refl n))))))
 
-after_blank : (at : ℕ) (b : ℕ) (rest : List ℕ) (ts : List Lexeme) → is_blank b ≡ true → Lexes (at + 1) rest ts → Lexes at (b ∷ rest) ts
+after_blank : (at : ℕ) (b : ℕ) (rest : List ℕ) (ts : List Lexeme) → is_blank b ≡ true → Cuts (at + 1) rest ts → Cuts at (b ∷ rest) ts
 after_blank at b rest [] h (blanks, more, e, is, r) = (b ∷ blanks, more, (h, e), ap (λ y. b ∷ y) is, r)
 after_blank at b rest (t ∷ ts) h (blanks, raw, more, e, is, s, n, start, end, l) = (b ∷ blanks, raw, more, (h, e), ap (λ y. b ∷ y) is, s, n, omega arith, end, l)
 
@@ -449,22 +450,22 @@ map_some : (o : Option (List Lexeme)) (t : Lexeme) (us : List Lexeme) → option
 map_some None t us h = absurd (cc)
 map_some (Some ts) t us h = (ts, refl, sym (some_same (t ∷ ts) us h))
 
-lex_front : (at k : ℕ) (text : List ℕ) (us : List Lexeme) (n : Next) → Tells text n → ((at' : ℕ) (rest : List ℕ) (ts : List Lexeme) → lex k at' rest ≡ Some ts → Lexes at' rest ts) → continued at text (lex k) n ≡ Some us → Lexes at text us
-lex_front at k text us done tells ih h = subst (λ y. Lexes at text y) (some_same [] us h) ([], text, tt, refl, tells)
+lex_front : (at k : ℕ) (text : List ℕ) (us : List Lexeme) (n : Next) → Tells text n → ((at' : ℕ) (rest : List ℕ) (ts : List Lexeme) → lex k at' rest ≡ Some ts → Cuts at' rest ts) → continued at text (lex k) n ≡ Some us → Cuts at text us
+lex_front at k text us done tells ih h = subst (λ y. Cuts at text y) (some_same [] us h) ([], text, tt, refl, tells)
 lex_front at k text us (blank rest) tells ih h = rw tells.1 (after_blank at tells.0 rest us tells.2 (ih (at + 1) rest us h))
 lex_front at k text us (token s rest) tells ih h =
     let end : ℕ = at + (length text - length rest) in
     let m = map_some (lex k end rest) (record { shape = s; start = at; end = end }) us h in
-    let go : Lexes at text (record { shape = s; start = at; end = end } ∷ m.0) = ([], tells.raw, rest, tt, tells.whole, tells.spells, tells.ends, omega arith, omega (arith, ap length tells.whole, length-append tells.raw rest), ih end rest m.0 m.1) in
-    subst (λ y. Lexes at text y) (sym m.2) go
+    let go : Cuts at text (record { shape = s; start = at; end = end } ∷ m.0) = ([], tells.raw, rest, tt, tells.whole, tells.spells, tells.ends, omega arith, omega (arith, ap length tells.whole, length-append tells.raw rest), ih end rest m.0 m.1) in
+    subst (λ y. Cuts at text y) (sym m.2) go
 lex_front at k text us bad tells ih h = absurd (cc)
 
-pub lex_sound : (k at : ℕ) (text : List ℕ) (us : List Lexeme) → lex k at text ≡ Some us → Lexes at text us
+pub lex_sound : (k at : ℕ) (text : List ℕ) (us : List Lexeme) → lex k at text ≡ Some us → Cuts at text us
 unfolding lex
 lex_sound zero at text us h = absurd (cc)
 lex_sound (suc k) at text us h = lex_front at k text us (next text) (next_tells text) (lex_sound k) h
 
-pub lex_none : (text : List ℕ) (ts : List Lexeme) → lex (suc (length text)) 0 text ≡ None → Lexes 0 text ts → ⊥
+pub lex_none : (text : List ℕ) (ts : List Lexeme) → lex (suc (length text)) 0 text ≡ None → Cuts 0 text ts → ⊥
 lex_none text ts h x = let e = lexes_again ts (suc (length text)) 0 text x (omega arith) in let bad : ◌≡◌ {A = Option (List Lexeme)} None (Some ts) = sym h ∙ e in cc
 
 -- ---- the loop

@@ -69,8 +69,8 @@ abbrev pub ended : List ℕ → Next
 ended [] = done
 ended (b ∷ bs) = bad
 
-abbrev pub remark_next : List ℕ × List ℕ → Next
-remark_next x = ended x.1
+abbrev pub comment_next : List ℕ × List ℕ → Next
+comment_next x = ended x.1
 
 -- 0, which stands in no token, where there is none
 abbrev pub first : List ℕ → ℕ
@@ -109,7 +109,7 @@ next (b ∷ bs) =
     (cond (is_ascii_digit b) (number_next (run is_ascii_digit (b ∷ bs)))
     (cond (b == 34) (name_next (quote 34 bs))
     (cond (b == 39) (literal_next (quote 39 bs))
-    (cond (b == 45 && first bs == 45) (remark_next (run is_text (b ∷ bs)))
+    (cond (b == 45 && first bs == 45) (comment_next (run is_text (b ∷ bs)))
     (mark_next (double b (first bs)) (single b) bs))))))
 
 abbrev pub continued : ℕ → List ℕ → (ℕ → List ℕ → Option (List Lexeme)) → Next → Option (List Lexeme)

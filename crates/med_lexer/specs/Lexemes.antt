@@ -1,28 +1,36 @@
--- The tokens of a text: the longest ones, with blanks between them and perhaps a comment at the end.
-use Rattle.std.specs.Prelude.{◌≡◌, ℕ, ◌+◌, ◌<◌, Bool, true, false, ◌||◌, not, ◌==◌, cond, List, [], ◌∷◌, ◌++◌, length, map, ◌⊎◌}
-use Rattle.std.specs.Char.{is_ascii_alphabetic, is_ascii_digit, to_ascii_lowercase}
+-- The tokens of a text: the one list of longest tokens that, with the blanks between them and perhaps a comment behind the last,
+-- makes up the text. The kinds of token are those of SQL:2016, part 2, 5.2 "<token> and <separator>" and 5.3 "<literal>", in this
+-- profile: regular identifiers and key words are one kind, numbers are runs of digits, and a text is a list of bytes in UTF-8.
+use Rattle.std.specs.Prelude.{◌≡◌, ℕ, ◌+◌, ◌<◌, ◌≤◌, Bool, true, false, ◌||◌, not, ◌==◌, cond, List, [], ◌∷◌, ◌++◌, length, drop, slice_range, ◌⊎◌}
+use Rattle.std.specs.Char.{is_ascii_alphabetic, is_ascii_digit}
+use Rattle.std.specs.Str.{str_to_ascii_lowercase}
 use Rattle.med_lexer.specs.declared.Mark.{Mark}
 use Rattle.med_lexer.specs.declared.Mark.TheVariants as marks
 
+-- ---- bytes
+
+-- space, TAB, CR, LF
 abbrev pub is_blank : ℕ → Bool
 is_blank b = b == 32 || b == 9 || b == 13 || b == 10
 
+-- a letter or '_', with which a word begins
 abbrev pub is_start : ℕ → Bool
 is_start b = is_ascii_alphabetic b || b == 95
 
+-- a letter, a digit, '_' or '$', with which it goes on
 abbrev pub is_part : ℕ → Bool
 is_part b = is_start b || is_ascii_digit b || b == 36
 
--- U+0000 stands nowhere
+-- U+0000 stands nowhere in a text
 abbrev pub is_text : ℕ → Bool
 is_text b = not (b == 0)
 
--- every element passes
+-- each byte passes
 abbrev pub Every : (ℕ → Bool) → List ℕ → Type 0
 Every p [] = Unit {0}
 Every p (b ∷ bs) = (p b ≡ true) × Every p bs
 
--- the text does not begin with a byte that passes
+-- the bytes do not begin with one that passes
 abbrev pub Without : (ℕ → Bool) → List ℕ → Type 0
 Without p [] = Unit {0}
 Without p (b ∷ bs) = p b ≡ false
@@ -32,11 +40,17 @@ abbrev pub doubled : ℕ → List ℕ → List ℕ
 doubled q [] = []
 doubled q (b ∷ bs) = cond (b == q) (q ∷ q ∷ doubled q bs) (b ∷ doubled q bs)
 
+-- between two quotes
+abbrev pub between : ℕ → List ℕ → List ℕ
+between q bs = q ∷ (doubled q bs ++ q ∷ [])
+
 -- one digit or more, and nothing else
 abbrev pub IsDigits : List ℕ → Type 0
 IsDigits d = Every is_ascii_digit d × (0 < length d)
 
--- what a token says
+-- ---- one token
+
+-- What a token says: a word in lower case, a quoted name or a text without its quotes, digits, or a mark.
 pub data Shape : Type 0 where
   word : List ℕ → Shape
   quoted : List ℕ → Shape
@@ -62,38 +76,34 @@ mark_bytes marks.AtMost = 60 ∷ 61 ∷ []
 mark_bytes marks.Greater = 62 ∷ []
 mark_bytes marks.AtLeast = 62 ∷ 61 ∷ []
 
--- a mark goes on with it, or begins a comment with it
-abbrev pub joins : Mark → ℕ → Bool
-joins marks.Less b = b == 61 || b == 62
-joins marks.Greater b = b == 61
-joins marks.Minus b = b == 45
-joins _ b = false
-
-abbrev pub is_number_joint : ℕ → Bool
-is_number_joint b = is_ascii_digit b || is_start b
-
--- the bytes are spelled as such a token
+-- The bytes are one token that says this. A word folds to lower case. A quoted name is between double quotes and not empty, a text
+-- between single ones, and a quote in either is written twice. The mark '<>' may be written '!='. A comment is no token.
 abbrev pub Spells : Shape → List ℕ → Type 0
 Spells (word w) [] = ⊥
-Spells (word w) (b ∷ bs) = (is_start b ≡ true) × Every is_part bs × (w ≡ map to_ascii_lowercase (b ∷ bs))
-Spells (quoted q) raw = (raw ≡ 34 ∷ (doubled 34 q ++ 34 ∷ [])) × Every is_text q × (0 < length q)
-Spells (literal q) raw = (raw ≡ 39 ∷ (doubled 39 q ++ 39 ∷ [])) × Every is_text q
-Spells (number d) raw = (raw ≡ d) × Every is_ascii_digit d × (0 < length d)
+Spells (word w) (b ∷ bs) = (is_start b ≡ true) × Every is_part bs × (w ≡ str_to_ascii_lowercase (b ∷ bs))
+Spells (quoted q) raw = (raw ≡ between 34 q) × Every is_text q × (0 < length q)
+Spells (literal q) raw = (raw ≡ between 39 q) × Every is_text q
+Spells (number d) raw = (raw ≡ d) × IsDigits d
 Spells (mark m) raw = (raw ≡ mark_bytes m) ⊎ ((m ≡ marks.Differ) × (raw ≡ 33 ∷ 61 ∷ []))
 
--- A token of this kind ends before these bytes: with the first of them it would go on. A number ends before no letter either.
-abbrev pub Ends : Shape → List ℕ → Type 0
-Ends (word w) rest = Without is_part rest
-Ends (quoted q) rest = Without (λ b. b == 34) rest
-Ends (literal q) rest = Without (λ b. b == 39) rest
-Ends (number d) rest = Without is_number_joint rest
-Ends (mark m) rest = Without (joins m) rest
+-- `raw` is the longest token at its place: with more of the bytes behind it, it is no token of any kind.
+abbrev pub IsLongest : List ℕ → List ℕ → Type 0
+IsLongest raw rest = (s : Shape) (more after : List ℕ) → rest ≡ more ++ after → Spells s (raw ++ more) → more ≡ []
 
--- nothing, or a comment to the end of the text
-abbrev pub IsRemark : List ℕ → Type 0
-IsRemark [] = Unit {0}
-IsRemark (b ∷ []) = ⊥
-IsRemark (b ∷ c ∷ cs) = (b ≡ 45) × (c ≡ 45) × Every is_text cs
+-- The token may stand directly before these bytes: a number before no letter and no '_', and a minus before no minus, since two begin
+-- a comment.
+abbrev pub MayPrecede : Shape → List ℕ → Type 0
+MayPrecede (number d) rest = Without is_start rest
+MayPrecede (mark m) rest = m ≡ marks.Minus → Without (λ b. b == 45) rest
+MayPrecede _ rest = Unit {0}
+
+-- ---- the text
+
+-- nothing, or a comment: two minuses, and what follows them to the end of the text
+abbrev pub IsComment : List ℕ → Type 0
+IsComment [] = Unit {0}
+IsComment (b ∷ []) = ⊥
+IsComment (b ∷ c ∷ cs) = (b ≡ 45) × (c ≡ 45) × Every is_text cs
 
 -- a token, and the bytes that it covers
 pub record Lexeme : Type 0 where
@@ -101,9 +111,14 @@ pub record Lexeme : Type 0 where
   pub start : ℕ
   pub end : ℕ
 
--- The text, which begins at the place `at`, is these tokens, each the longest, with blanks before them.
+-- The text, whose first byte is at the place `at`, has these tokens.
 abbrev pub Lexes : ℕ → List ℕ → List Lexeme → Type 0
-Lexes at text [] = (blanks rest : List ℕ) × Every is_blank blanks × (text ≡ blanks ++ rest) × IsRemark rest
+Lexes at text [] = (blanks rest : List ℕ) × Every is_blank blanks × (text ≡ blanks ++ rest) × IsComment rest
 Lexes at text (t ∷ ts) =
-    (blanks raw rest : List ℕ) × Every is_blank blanks × (text ≡ blanks ++ (raw ++ rest)) × Spells t.shape raw × Ends t.shape rest
-    × (t.start ≡ at + length blanks) × (t.end ≡ t.start + length raw) × Lexes t.end rest ts
+    (blanks raw rest : List ℕ) × Every is_blank blanks × (text ≡ blanks ++ (raw ++ rest)) × Spells t.shape raw × IsLongest raw rest
+    × MayPrecede t.shape rest × (t.start ≡ at + length blanks) × (t.end ≡ t.start + length raw) × Lexes t.end rest ts
+
+-- In the text the bytes of the token spell it, and no longer run of bytes from its start spells a token.
+pub record IsLongestAt (text : List ℕ) (t : Lexeme) : Type 0 where
+  pub spelled : Spells t.shape (slice_range text t.start t.end)
+  pub longest : (s : Shape) (raw rest : List ℕ) → drop t.start text ≡ raw ++ rest → Spells s raw → t.start + length raw ≤ t.end

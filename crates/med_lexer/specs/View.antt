@@ -1,5 +1,5 @@
 -- A token without where its text lies in memory, and what `tokens` answers.
-use Rattle.std.specs.Prelude.{◌≡◌, ℕ, List, map, Result, Ok, Err, Option, Some, None, Vec}
+use Rattle.std.specs.Prelude.{ℕ, List, map, Result, Ok, Err, Vec}
 use Rattle.std.specs.String.{string_bytes}
 use Rattle.med_lexer.specs.declared.Kind.{Kind}
 use Rattle.med_lexer.specs.declared.Kind.TheVariants as k

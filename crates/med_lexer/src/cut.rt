@@ -1,9 +1,7 @@
 //! The tokens of a text.
 
-ghost use Rattle.std.specs.Prelude.{◌≡◌, ℕ, ◌<◌, length, suc, List, map};
+ghost use Rattle.std.specs.Prelude.{length, suc};
 ghost use Rattle.med_lexer.specs.Lexemes as spec;
-ghost use Rattle.med_lexer.specs.Lexemes.{Lexeme, Lexes, Shape};
-ghost use Rattle.med_lexer.specs.Printing.{AreShapes, printed};
 ghost use Rattle.med_lexer.specs.Cutting as cutting;
 ghost use Rattle.med_lexer.specs.View.{views, Tokens};
 ghost use Rattle.med_lexer.specs.Steps.{Steps, Gives};
@@ -59,8 +57,8 @@ fn literal(alloc: Global, text: &str) -> Result<Step<'_>, LexFault>
     Ok(Step::Cut(Kind::Literal(literal), after))
 }
 
-fn remark(text: &str) -> Result<Step<'_>, LexFault>
-    ensures { Steps result (cutting.remark_next (cutting.run spec.is_text text.now)) }
+fn comment(text: &str) -> Result<Step<'_>, LexFault>
+    ensures { Steps result (cutting.comment_next (cutting.run spec.is_text text.now)) }
 {
     let (_, after) = cut_run(text, Class::Text);
     if after.is_empty() {
@@ -109,7 +107,7 @@ fn next(alloc: Global, text: &str) -> Result<Step<'_>, LexFault>
     } else if b == b'\'' {
         literal(alloc, after)
     } else if b == b'-' && first(after.as_bytes()) == b'-' {
-        remark(text)
+        comment(text)
     } else {
         mark(b, after)
     }
@@ -142,13 +140,3 @@ pub fn tokens(alloc: Global, text: &str) -> Result<Vec<Token>, LexFault>
 {
     cut(alloc, text)
 }
-
-/// A text has at most one list of tokens.
-pub fn one_list()
-    ensures { (text : List ℕ) (ts us : List Lexeme) → Lexes 0 text ts → Lexes 0 text us → ts ≡ us }
-{}
-
-/// What is written with one space between tokens has those tokens.
-pub fn printed_again()
-    ensures { (ss : List Shape) → AreShapes ss → (ts : List Lexeme) × Lexes 0 (printed ss) ts × (map (λ (t : Lexeme). t.shape) ts ≡ ss) }
-{}

@@ -1,9 +1,9 @@
-use Rattle.std.proofs.Common.{◌≡◌, ◌≢◌, ℕ, ◌+◌, ◌^◌, ◌<◌, ◌≤◌, List, length, get_or, ap, sym, ◌∙◌, arith, rules}
-use Rattle.std.specs.Prelude.{Result, Ok, Err}
+use Rattle.std.proofs.Common.{◌≢◌, ℕ, get_or, ap, arith, rules}
+use Rattle.std.specs.Prelude.{Ok, Err}
 use Rattle.std.specs.Char.{is_ascii_digit}
-use Rattle.std.specs.Str.Parse.{digits_value, digits_value_after, ParsesUnsigned}
+use Rattle.std.specs.Str.Parse.{digits_value, digits_value_after}
 use Rattle.std.proofs.lemmas.Str.Parse.{IsNumeralModel, numerals_by_fold, parse_plain}
-use Rattle.med_lexer.specs.Lexemes.{Every, IsDigits}
+use Rattle.med_lexer.specs.Lexemes.{Every}
 use Rattle.med_lexer.proofs.numbers.number_value.Goals as goal
 
 own : IsNumeralModel (λ ds. Every is_ascii_digit ds) (digits_value 10)

@@ -1,5 +1,5 @@
 use Rattle.med_lexer.proofs.Prints.{prints}
-use Rattle.med_lexer.proofs.cut.printed_again.Goals as goal
+use Rattle.med_lexer.proofs.laws.printed_again.Goals as goal
 
 pub returns : goal.returns
 returns c = prints

@@ -1,0 +1,25 @@
+//! Laws of the tokens of a text. Each is the contract of a function that does nothing.
+
+ghost use Rattle.std.specs.Prelude.{◌≡◌, ℕ, List, map, All};
+ghost use Rattle.med_lexer.specs.Lexemes.{IsLongestAt, Lexeme, Lexes, Shape};
+ghost use Rattle.med_lexer.specs.Printing.{AreShapes, printed};
+
+/// A text has at most one list of tokens.
+pub fn one_list()
+    ensures { (text : List ℕ) (ts us : List Lexeme) → Lexes 0 text ts → Lexes 0 text us → ts ≡ us }
+{}
+
+/// In the list of a text's tokens each is spelled by the bytes that it covers, and is the longest token at its place.
+pub fn longest()
+    ensures { (text : List ℕ) (ts : List Lexeme) → Lexes 0 text ts → All (IsLongestAt text) ts }
+{}
+
+/// What the tokens of a text say can be written, so that `printed_again` speaks of it.
+pub fn tokens_can_be_printed()
+    ensures { (text : List ℕ) (ts : List Lexeme) → Lexes 0 text ts → AreShapes (map (λ (t : Lexeme). t.shape) ts) }
+{}
+
+/// What is written with one space between tokens has those tokens.
+pub fn printed_again()
+    ensures { (ss : List Shape) → AreShapes ss → (ts : List Lexeme) × Lexes 0 (printed ss) ts × (map (λ (t : Lexeme). t.shape) ts ≡ ss) }
+{}
