@@ -4,7 +4,7 @@ use Rattle.std.specs.Prelude.{Bool, false, ◌||◌, ◌==◌}
 use Rattle.std.specs.Char.{is_ascii_digit}
 use Rattle.med_lexer.specs.declared.Mark.{Mark}
 use Rattle.med_lexer.specs.declared.Mark.TheVariants as marks
-use Rattle.med_lexer.specs.Lexemes.{is_blank, is_start, is_part, Every, Without, Shape, word, quoted, literal, number, mark, Spells, IsComment, Lexeme}
+use Rattle.med_lexer.specs.Lexemes.{is_blank, is_start, is_part, Every, Without, Shape, word, quoted, literal, number, mark, Spells, IsEnd, Lexeme}
 
 -- a mark goes on with it, or begins a comment with it
 abbrev pub joins : Mark → ℕ → Bool
@@ -25,7 +25,7 @@ Ends (number d) rest = Without is_number_joint rest
 Ends (mark m) rest = Without (joins m) rest
 
 abbrev pub Cuts : ℕ → List ℕ → List Lexeme → Type 0
-Cuts at text [] = (blanks rest : List ℕ) × Every is_blank blanks × (text ≡ blanks ++ rest) × IsComment rest
+Cuts at text [] = (blanks rest : List ℕ) × Every is_blank blanks × (text ≡ blanks ++ rest) × IsEnd rest
 Cuts at text (t ∷ ts) =
     (blanks raw rest : List ℕ) × Every is_blank blanks × (text ≡ blanks ++ (raw ++ rest)) × Spells t.shape raw × Ends t.shape rest
     × (t.start ≡ at + length blanks) × (t.end ≡ t.start + length raw) × Cuts t.end rest ts

@@ -5,7 +5,7 @@ use Rattle.std.specs.Char.{is_ascii_digit}
 use Rattle.std.proofs.lemmas.Bool.Decides.{nat_tests}
 use Rattle.med_lexer.specs.declared.Mark.{Mark}
 use Rattle.med_lexer.specs.declared.Mark.TheVariants as marks
-use Rattle.med_lexer.specs.Lexemes.{is_blank, is_start, is_part, is_text, Every, Without, doubled, Shape, word, quoted, literal, number, mark, mark_bytes, Spells, IsComment, Lexeme}
+use Rattle.med_lexer.specs.Lexemes.{is_blank, is_start, is_part, is_text, Every, Without, doubled, Shape, word, quoted, literal, number, mark, mark_bytes, Spells, IsEnd, Lexeme}
 use Rattle.med_lexer.specs.Cutting.{Next, done, blank, token, bad, run, ahead, quote, word_next, number_as, number_next, name_next, literal_next, ended, comment_next, first, behind, single, double, single_next, mark_next, next, continued, lex}
 use Rattle.med_lexer.proofs.Cuts.{joins, is_number_joint, Ends, Cuts}
 use Rattle.med_lexer.proofs.Runs.{Part, part, run_again}
@@ -110,7 +110,7 @@ next_token (number (b ∷ bs)) raw rest s e =
 next_token (mark m) raw rest (inl s) e = single_mark m raw rest s e
 next_token (mark m) raw rest (inr s) e = other_mark m raw rest s.0 s.1
 
-next_comment : (rest : List ℕ) → IsComment rest → next rest ≡ done
+next_comment : (rest : List ℕ) → IsEnd rest → next rest ≡ done
 unfolding next
 next_comment [] h = refl
 next_comment (b ∷ []) h = absurd h
@@ -148,7 +148,7 @@ some_bytes (mark m) raw (inr s) = omega (arith, ap length s.1)
 
 -- ---- the whole text
 
-lex_end : (blanks rest : List ℕ) (k at : ℕ) → Every is_blank blanks → IsComment rest → length (blanks ++ rest) < k → lex k at (blanks ++ rest) ≡ Some []
+lex_end : (blanks rest : List ℕ) (k at : ℕ) → Every is_blank blanks → IsEnd rest → length (blanks ++ rest) < k → lex k at (blanks ++ rest) ≡ Some []
 unfolding lex
 lex_end blanks rest zero at b r h = absurd (omega arith)
 lex_end [] rest (suc k) at b r h = rw (next_comment rest r) refl
@@ -228,7 +228,7 @@ pub record Front (text : List ℕ) (s : Shape) (rest : List ℕ) : Type 0 where
 
 -- what stands at the front, by what `next` answers
 abbrev pub Tells : List ℕ → Next → Type 0
-Tells text done = IsComment text
+Tells text done = IsEnd text
 Tells text (blank rest) = (b : ℕ) × (text ≡ b ∷ rest) × (is_blank b ≡ true)
 Tells text (token s rest) = Front text s rest
 Tells text bad = Unit {0}

@@ -5,7 +5,7 @@ use Rattle.std.specs.Char.{is_ascii_digit}
 use Rattle.std.specs.Str.{str_to_ascii_lowercase}
 use Rattle.med_lexer.specs.declared.Mark.{Mark}
 use Rattle.med_lexer.specs.declared.Mark.TheVariants as marks
-use Rattle.med_lexer.specs.Lexemes.{is_blank, is_start, is_part, is_text, Every, Without, doubled, between, Shape, word, quoted, literal, number, mark, Spells, IsLongest, MayPrecede, IsComment, Lexeme, Lexes}
+use Rattle.med_lexer.specs.Lexemes.{is_blank, is_start, is_part, is_text, Every, Without, doubled, between, Shape, word, quoted, literal, number, mark, Spells, IsLongest, MayPrecede, IsEnd, Lexeme, Lexes}
 use Rattle.med_lexer.specs.Cutting.{first, behind, lex}
 use Rattle.med_lexer.proofs.Cuts.{joins, is_number_joint, Ends, Cuts}
 use Rattle.med_lexer.proofs.Exact.{is_same, same_is, some_bytes, one_list_cut, lex_sound, lex_none}
@@ -104,7 +104,7 @@ closed_token q (b ∷ bs) rest r s closes sp is =
     let c : Closes q bs = closes s bs (subst (λ x. Spells s (x ∷ bs)) e sp) in
     (c.0, rest, ap behind is ∙ ap (λ x. x ++ rest) c.1, c.2)
 
-no_comment : (q : ℕ) (r : List ℕ) → (q ≡ 45 → ⊥) → IsComment (q ∷ r) → ⊥
+no_comment : (q : ℕ) (r : List ℕ) → (q ≡ 45 → ⊥) → IsEnd (q ∷ r) → ⊥
 no_comment q [] n h = h
 no_comment q (c ∷ cs) n h = n h.0
 
@@ -118,7 +118,7 @@ record IsQuote (q : ℕ) : Type 0 where
   closes : (t : Shape) (bs : List ℕ) → Spells t (q ∷ bs) → Closes q bs
 
 closed : (q : ℕ) → IsQuote q → (ts : List Lexeme) (at : ℕ) (r : List ℕ) → Lexes at (q ∷ r) ts → Quoted q r
-closed q o [] at r ([], rest, b, is, c) = absurd (no_comment q r o.no_minus (subst IsComment (sym is) c))
+closed q o [] at r ([], rest, b, is, c) = absurd (no_comment q r o.no_minus (subst IsEnd (sym is) c))
 closed q o [] at r (x ∷ xs, rest, b, is, c) = begins_blank q x r (xs ++ rest) o.no_blank b.0 is
 closed q o (t ∷ ts) at r ([], raw, rest, b, is, s, long, n, start, end, more) = closed_token q raw rest r t.shape o.closes s is
 closed q o (t ∷ ts) at r (x ∷ xs, raw, rest, b, is, s, long, n, start, end, more) = begins_blank q x r (xs ++ (raw ++ rest)) o.no_blank b.0 is

@@ -99,11 +99,11 @@ MayPrecede _ rest = Unit {0}
 
 -- ---- the text
 
--- nothing, or a comment: two minuses, and what follows them to the end of the text
-abbrev pub IsComment : List ℕ → Type 0
-IsComment [] = Unit {0}
-IsComment (b ∷ []) = ⊥
-IsComment (b ∷ c ∷ cs) = (b ≡ 45) × (c ≡ 45) × Every is_text cs
+-- the end of a text: nothing, or a comment, which is two minuses and what follows them to the end
+abbrev pub IsEnd : List ℕ → Type 0
+IsEnd [] = Unit {0}
+IsEnd (b ∷ []) = ⊥
+IsEnd (b ∷ c ∷ cs) = (b ≡ 45) × (c ≡ 45) × Every is_text cs
 
 -- a token, and the bytes that it covers
 pub record Lexeme : Type 0 where
@@ -113,7 +113,7 @@ pub record Lexeme : Type 0 where
 
 -- The text, whose first byte is at the place `at`, has these tokens.
 abbrev pub Lexes : ℕ → List ℕ → List Lexeme → Type 0
-Lexes at text [] = (blanks rest : List ℕ) × Every is_blank blanks × (text ≡ blanks ++ rest) × IsComment rest
+Lexes at text [] = (blanks rest : List ℕ) × Every is_blank blanks × (text ≡ blanks ++ rest) × IsEnd rest
 Lexes at text (t ∷ ts) =
     (blanks raw rest : List ℕ) × Every is_blank blanks × (text ≡ blanks ++ (raw ++ rest)) × Spells t.shape raw × IsLongest raw rest
     × MayPrecede t.shape rest × (t.start ≡ at + length blanks) × (t.end ≡ t.start + length raw) × Lexes t.end rest ts

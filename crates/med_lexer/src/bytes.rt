@@ -7,33 +7,38 @@ ghost use Rattle.med_lexer.specs.Cutting as cutting;
 /// What a byte of a run is.
 #[derive(Clone, Copy, Debug, Drop)]
 pub enum Class {
-    /// of a word
+    /// a letter, a digit, `_` or `$`
     Part,
+    /// a digit
     Digit,
     /// anything but U+0000
     Text,
-    /// text, and not this quote
+    /// anything but U+0000 and this quote
     Plain(u8),
 }
 
+/// Does the byte part tokens?
 pub fn is_blank(b: u8) -> bool
     ensures { result ≡ spec.is_blank b }
 {
     b == b' ' || b == b'\t' || b == b'\r' || b == b'\n'
 }
 
+/// Does a word begin with the byte?
 pub fn is_start(b: u8) -> bool
     ensures { result ≡ spec.is_start b }
 {
     b.is_ascii_alphabetic() || b == b'_'
 }
 
+/// Does a word go on with the byte?
 fn is_part(b: u8) -> bool
     ensures { result ≡ spec.is_part b }
 {
     is_start(b) || b.is_ascii_digit() || b == b'$'
 }
 
+/// Is the byte of the class?
 fn in_class(class: Class, b: u8) -> bool
     ensures { result ≡ cutting.in_class class b }
 {

@@ -17,11 +17,15 @@ use std::alloc::Global;
 /// What stands at the front of a text.
 #[derive(Debug, Drop)]
 enum Step<'a> {
+    /// nothing, or a comment
     Done,
+    /// a blank, and the text behind it
     Blank(&'a str),
+    /// a token, and the text behind it
     Cut(Kind, &'a str),
 }
 
+/// The word at the front of a text.
 fn word(alloc: Global, text: &str) -> Result<Step<'_>, LexFault>
     ensures { Steps result (cutting.word_next (cutting.run spec.is_part text.now)) }
 {
@@ -29,6 +33,7 @@ fn word(alloc: Global, text: &str) -> Result<Step<'_>, LexFault>
     Ok(Step::Cut(Kind::Word(raw.to_ascii_lowercase(alloc)?), after))
 }
 
+/// The number at the front of a text.
 fn number(alloc: Global, text: &str) -> Result<Step<'_>, LexFault>
     ensures { Steps result (cutting.number_next (cutting.run is_ascii_digit text.now)) }
 {
@@ -40,6 +45,7 @@ fn number(alloc: Global, text: &str) -> Result<Step<'_>, LexFault>
     Ok(Step::Cut(Kind::Number(String::from_str(alloc, digits)?), after))
 }
 
+/// The quoted name of which the first quote stands before the text.
 fn name(alloc: Global, text: &str) -> Result<Step<'_>, LexFault>
     ensures { Steps result (cutting.name_next (cutting.quote 34 text.now)) }
 {
@@ -50,6 +56,7 @@ fn name(alloc: Global, text: &str) -> Result<Step<'_>, LexFault>
     Ok(Step::Cut(Kind::Quoted(name), after))
 }
 
+/// The text literal of which the first quote stands before the text.
 fn literal(alloc: Global, text: &str) -> Result<Step<'_>, LexFault>
     ensures { Steps result (cutting.literal_next (cutting.quote 39 text.now)) }
 {
@@ -57,6 +64,7 @@ fn literal(alloc: Global, text: &str) -> Result<Step<'_>, LexFault>
     Ok(Step::Cut(Kind::Literal(literal), after))
 }
 
+/// The comment at the front of a text.
 fn comment(text: &str) -> Result<Step<'_>, LexFault>
     ensures { Steps result (cutting.comment_next (cutting.run spec.is_text text.now)) }
 {
@@ -81,6 +89,7 @@ fn mark(b: u8, text: &str) -> Result<Step<'_>, LexFault>
     }
 }
 
+/// What stands at the front of a text.
 #[tactic(auto, unfolding(crate::specs::Cutting::next))]
 fn next(alloc: Global, text: &str) -> Result<Step<'_>, LexFault>
     ensures { Steps result (cutting.next text.now) }
@@ -113,7 +122,7 @@ fn next(alloc: Global, text: &str) -> Result<Step<'_>, LexFault>
     }
 }
 
-/// The tokens of the text, as the list function gives them.
+/// The tokens of the text, one after another.
 fn cut(alloc: Global, text: &str) -> Result<Vec<Token>, LexFault>
     ensures { Gives (λ v. views v.items) result (cutting.lex (suc (length text.now)) 0 text.now) }
 {
@@ -133,9 +142,12 @@ fn cut(alloc: Global, text: &str) -> Result<Vec<Token>, LexFault>
     }
 }
 
-/// The tokens of a text, each the longest, in the order of the text.
+/// The tokens of a text, each the longest at its place, in the order of the text.
+///
+/// `BadToken` says that the text has no list of tokens. It holds a character outside quotes that begins no token, U+0000, an empty
+/// quoted name, a quote that is not closed, or a number directly before a letter or `_`.
 pub fn tokens(alloc: Global, text: &str) -> Result<Vec<Token>, LexFault>
-    // What is returned are the text's tokens, and BadToken says that it has none.
+    // the one list of the text's tokens, or that it has none
     ensures { Tokens result text.now }
 {
     cut(alloc, text)

@@ -29,6 +29,6 @@ impl<T: Drop> From<AllocFailed<T>> for LexFault {
     ghost from_gives = { λ _ e. e ≡ NoMemory };
 
     fn from(_e: AllocFailed<T>) -> LexFault {
-        LexFault::NoMemory
+        LexFault::from(AllocError)
     }
 }

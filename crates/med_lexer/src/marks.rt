@@ -5,6 +5,7 @@ ghost use Rattle.med_lexer.specs.Cutting as cutting;
 
 use crate::Mark;
 
+/// The mark that is this byte.
 pub fn single(b: u8) -> Option<Mark>
     ensures { result ≡ cutting.single b }
 {
@@ -26,6 +27,7 @@ pub fn single(b: u8) -> Option<Mark>
     }
 }
 
+/// The mark that is these two bytes.
 pub fn double(b: u8, c: u8) -> Option<Mark>
     ensures { result ≡ cutting.double b c }
 {
