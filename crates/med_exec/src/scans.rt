@@ -21,9 +21,7 @@ fn read_all<W: Wrapper>(b: &mut W, alloc: Global, ticket: &Ticket) -> Result<Vec
 {
     let mut rows = Vec::new(alloc);
     while let Some(row) = b.iterate(alloc, ticket)? {
-        if rows.push(row.cells).is_err() {
-            return Err(Fault::NoMemory);
-        }
+        rows.push(row.cells)?;
     }
     Ok(rows)
 }
@@ -89,8 +87,5 @@ pub fn select_table<W: Wrapper>(
         (λ old new. FailsTable fault old new) (states W.meaning slots.new.items)) }
 {
     let rows = read_table(slots, alloc, slot, table)?;
-    let Ok(cut) = project(alloc, rows, places) else {
-        return Err(Fault::NoMemory);
-    };
-    Ok(cut)
+    Ok(project(alloc, rows, places)?)
 }
