@@ -17,8 +17,23 @@ use Rattle.fdw_api.specs.State.{Nature, Scan, Ledger, BoxState, is_honest, scan_
 use Rattle.fdw_api.specs.Calls.{LeavesOthers, LeavesAll, bumped, faults_after, not_refused, IsOpen, GivesRow, GivesNone, Breaks, BeginCause, Begins, Ends, RefusesBegin}
 use Rattle.fdw_api.specs.declared.interface.Fault.{Fault}
 use Rattle.fdw_api.specs.declared.interface.Fault.TheVariants.{NoMemory, Source, Refused}
-use Rattle.med_exec.specs.Reading.{pulled_after, cells_of, left_of, Keeps, HasGiven, GivesAll, StopsBy}
+use Rattle.med_exec.specs.Reading.{pulled_after, cells_of, Keeps, GivesAll, StopsBy}
 use Rattle.med_exec.specs.Scanning.{tuples_of, ReadsTable, FailsTable, SelectsTable}
+
+-- how many rows a scan may still give at most
+abbrev pub left_of : Option Scan → ℕ
+left_of None = 0
+left_of (Some s) = s.left
+
+-- the scan has given these rows, and is good for more
+pub record HasGiven (number : ℕ) (old : BoxState) (given : List Tuple) (new : BoxState) : Type 0 where
+  pub scan : Scan
+  pub now : scan_of new number ≡ Some scan
+  pub whole : scan.broken ≡ false
+  pub keeps : Keeps number old new
+  pub pulled : new.ledger.pulled ≡ pulled_after (length given) old.ledger.pulled
+  pub faults : new.ledger.faults ≡ old.ledger.faults
+  pub coming : is_honest old → cells_of (old.content.coming number) ≡ given ++ cells_of (new.content.coming number)
 
 get_same : {X : Type 0} (m : finmap.FinMap nat_cmp X) (k : ℕ) (v : X) → finmap.get (finmap.insert m k v) k ≡ Some v
 get_same m k v = grind (gets, rules)

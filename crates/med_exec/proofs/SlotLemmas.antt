@@ -1,18 +1,40 @@
 -- A box in a list changes, and the list of states with it.
-use Rattle.std.proofs.Common.{◌≡◌, ℕ, List, Option, Some, None, Result, Ok, Err, IfOk, IfErr, slice_get, slice_set, slice_index_or, length, option_map, refl, ap, sym, ◌∙◌}
+use Rattle.std.proofs.Common.{◌≡◌, ◌≢◌, ℕ, zero, suc, [], ◌∷◌, List, Option, Some, None, Result, Ok, Err, IfOk, IfErr, slice_get, slice_set, slice_index_or, length, option_map, refl, ap, sym, ◌∙◌}
 use Rattle.std.proofs.lemmas.List.{map-set}
 use Rattle.std.proofs.lemmas.Option.{slice_get-map, slice_get_within, slice_get_read}
 use Rattle.fdw_api.specs.State.{BoxState}
 use Rattle.med_exec.specs.Slots.{states, BoxAt, ChangesAt}
 
-pub changes_at : {B : Type 0} (meaning : B → BoxState) (P : BoxState → BoxState → Type 0) (slots : List (Option B)) (i : ℕ) (b c : B) → slice_get slots i ≡ Some (Some b) → P (meaning b) (meaning c) → ChangesAt (states meaning slots) i P (states meaning (slice_set slots i (Some c)))
-changes_at meaning P slots i b c at p = record {
-  before = meaning b;
-  after = meaning c;
-  there = slice_get-map (option_map meaning) slots i ∙ ap (option_map (option_map meaning)) at;
-  slots = map-set (option_map meaning) slots i (Some c);
+set_same : {A : Type 0} (xs : List A) (i : ℕ) (x y : A) → slice_get xs i ≡ Some x → slice_get (slice_set xs i y) i ≡ Some y
+set_same [] i x y h = absurd cc
+set_same (z ∷ zs) zero x y h = refl
+set_same (z ∷ zs) (suc i) x y h = set_same zs i x y h
+
+set_other : {A : Type 0} (xs : List A) (i j : ℕ) (y : A) → j ≢ i → slice_get (slice_set xs i y) j ≡ slice_get xs j
+set_other [] i j y ne = refl
+set_other (z ∷ zs) zero zero y ne = absurd (ne refl)
+set_other (z ∷ zs) zero (suc j) y ne = refl
+set_other (z ∷ zs) (suc i) zero y ne = refl
+set_other (z ∷ zs) (suc i) (suc j) y ne = set_other zs i j y (λ e. ne (ap suc e))
+
+-- an equation of lists gives the slots one by one
+changed_list : (P : BoxState → BoxState → Type 0) (old new : List (Option BoxState)) (i : ℕ) (s t : BoxState) → slice_get old i ≡ Some (Some s) → new ≡ slice_set old i (Some t) → P s t → ChangesAt old i P new
+changed_list P old new i s t at e p = record {
+  before = s;
+  after = t;
+  there = at;
+  now = ap (λ (l : List (Option BoxState)). slice_get l i) e ∙ set_same old i (Some s) (Some t) at;
+  others = λ j ne. ap (λ (l : List (Option BoxState)). slice_get l j) e ∙ set_other old i j (Some t) ne;
+  slots = e;
   change = p;
 }
+
+pub changes_at : {B : Type 0} (meaning : B → BoxState) (P : BoxState → BoxState → Type 0) (slots : List (Option B)) (i : ℕ) (b c : B) → slice_get slots i ≡ Some (Some b) → P (meaning b) (meaning c) → ChangesAt (states meaning slots) i P (states meaning (slice_set slots i (Some c)))
+changes_at meaning P slots i b c at p =
+    changed_list P _ _ i (meaning b) (meaning c)
+    (slice_get-map (option_map meaning) slots i ∙ ap (option_map (option_map meaning)) at)
+    (map-set (option_map meaning) slots i (Some c))
+    p
 
 some_of_map : {A B : Type 0} (f : A → B) (x : Option A) (y : B) → option_map f x ≡ Some y → (a : A) × (x ≡ Some a)
 some_of_map f None y e = absurd cc
@@ -39,6 +61,8 @@ change_to P Q old slot new f c = record {
   before = c.before;
   after = c.after;
   there = c.there;
+  now = c.now;
+  others = c.others;
   slots = c.slots;
   change = f c.before c.after c.change;
 }

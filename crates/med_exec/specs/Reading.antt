@@ -1,5 +1,5 @@
 -- One scan, from its begin to its end.
-use Rattle.std.specs.Prelude.{◌≡◌, ◌≢◌, ℕ, zero, suc, false, List, ◌++◌, map, length, Option, Some, None}
+use Rattle.std.specs.Prelude.{◌≡◌, ◌≢◌, ℕ, zero, suc, List, map, length, Some}
 use Rattle.med_value.specs.Datum.{Tuple}
 use Rattle.fdw_api.specs.Scan.{GivenRow}
 use Rattle.fdw_api.specs.State.{Scan, BoxState, is_honest, scan_of}
@@ -23,21 +23,6 @@ pub record Keeps (number : ℕ) (old new : BoxState) : Type 0 where
 -- the cells of the rows that a scan gives
 abbrev pub cells_of : List GivenRow → List Tuple
 cells_of rows = map (λ r. r.cells) rows
-
--- how many rows a scan may still give at most
-abbrev pub left_of : Option Scan → ℕ
-left_of None = 0
-left_of (Some s) = s.left
-
--- the scan has given these rows, and is good for more
-pub record HasGiven (number : ℕ) (old : BoxState) (given : List Tuple) (new : BoxState) : Type 0 where
-  pub scan : Scan
-  pub now : scan_of new number ≡ Some scan
-  pub whole : scan.broken ≡ false
-  pub keeps : Keeps number old new
-  pub pulled : new.ledger.pulled ≡ pulled_after (length given) old.ledger.pulled
-  pub faults : new.ledger.faults ≡ old.ledger.faults
-  pub coming : is_honest old → cells_of (old.content.coming number) ≡ given ++ cells_of (new.content.coming number)
 
 -- the scan has given all its rows, and is live still
 pub record GivesAll (number : ℕ) (old : BoxState) (given : List Tuple) (new : BoxState) : Type 0 where

@@ -1,19 +1,19 @@
 //! Whole scans of a table of the box in a slot.
-ghost use Rattle.std.specs.Prelude.{◌≡◌, IfOk, IfErr, IsSome, map};
+ghost use Rattle.std.specs.Prelude.{IfOk, IfErr, IsSome, map};
 ghost use Rattle.med_value.specs.Datum.{tuple};
-ghost use Rattle.fdw_api.specs.Scan.{pick};
 ghost use Rattle.fdw_api.specs.State.{table_of};
 ghost use Rattle.fdw_api.specs.Calls.{IsOpen};
 ghost use Rattle.med_exec.specs.Slots.{states, HasTable, ChangesAt};
 ghost use Rattle.med_exec.specs.Reading.{GivesAll, StopsBy};
 ghost use Rattle.med_exec.specs.Scanning.{ReadsTable, FailsTable, SelectsTable};
 
+use crate::columns::project;
 use fdw_api::interface::{Fault, TableNo, Ticket, Wrapper};
-use fdw_api::scan::{ScanSpec, pick_cells};
-use med_value::{NoMemory, Row};
+use fdw_api::scan::ScanSpec;
+use med_value::Row;
 use std::alloc::Global;
 
-/// Reads a scan to its end.
+/// Reads a scan to its end. The scan stays live.
 fn read_all<W: Wrapper>(b: &mut W, alloc: Global, ticket: &Ticket) -> Result<Vec<Row>, Fault>
     requires { IsOpen (W.meaning b.old) ticket.now.number }
     ensures ok { IfOk result (λ rows. GivesAll ticket.now.number (W.meaning b.old) (map tuple rows.items) (W.meaning b.new)) }
@@ -21,9 +21,7 @@ fn read_all<W: Wrapper>(b: &mut W, alloc: Global, ticket: &Ticket) -> Result<Vec
 {
     let mut rows = Vec::new(alloc);
     while let Some(row) = b.iterate(alloc, ticket)? {
-        if rows.push(row.cells).is_err() {
-            return Err(Fault::NoMemory);
-        }
+        rows.push(row.cells)?;
     }
     Ok(rows)
 }
@@ -68,19 +66,6 @@ pub fn read_table<W: Wrapper>(
     }
 }
 
-/// Each row cut to the cells at these places, in the order of the places; one that is past a row's end gives NULL.
-///
-/// A row goes as soon as it is cut, so no second copy of the rows is made.
-pub fn project(alloc: Global, rows: Vec<Row>, places: &[usize]) -> Result<Vec<Row>, NoMemory>
-    ensures { IfOk result (λ cut. map tuple cut.items ≡ map (pick places.now) (map tuple rows.items)) }
-{
-    let mut cut = Vec::new(alloc);
-    for row in rows {
-        cut.push(pick_cells(alloc, &row, places)?)?;
-    }
-    Ok(cut)
-}
-
 /// Reads a bound table of the slot's box, and cuts each row to the columns at these places: `SELECT` columns `FROM` table.
 ///
 /// Rows come in the box's order, and columns in the order of the places.
@@ -102,8 +87,5 @@ pub fn select_table<W: Wrapper>(
         (λ old new. FailsTable fault old new) (states W.meaning slots.new.items)) }
 {
     let rows = read_table(slots, alloc, slot, table)?;
-    let Ok(cut) = project(alloc, rows, places) else {
-        return Err(Fault::NoMemory);
-    };
-    Ok(cut)
+    Ok(project(alloc, rows, places)?)
 }

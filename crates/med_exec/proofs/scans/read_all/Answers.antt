@@ -22,8 +22,10 @@ loop-rows-smaller g c = fewer _ _ _ _ (rw c.in-Some.is at c.in_ok-row.ensures.ok
 pub returns-clause-ok : goal.returns-clause-ok
 returns-clause-ok g c = done _ _ _ _ _ c.loop-rows.invariant (rw c.in_default.is at c.in_ok-row.ensures.ok)
 
-pub returns-then-is_err-clause-err : goal.returns-then-is_err-clause-err
-returns-then-is_err-clause-err g c = stops _ _ _ _ _ _ c.loop-rows.invariant (rw c.in-Some.is at c.in_ok-row.ensures.ok)
+pub returns-in_err-push-clause-err : goal.returns-in_err-push-clause-err
+returns-in_err-push-clause-err g c =
+    let p = err_from_is_err_and c.from_residual-in_err-push.result c.from_residual-in_err-push.ensures.1 in
+    rw (p.1, p.2) (stops _ _ _ _ _ _ c.loop-rows.invariant (rw c.in-Some.is at c.in_ok-row.ensures.ok))
 
 pub returns-in_err-row-clause-err : goal.returns-in_err-row-clause-err
 returns-in_err-row-clause-err g c =

@@ -1,7 +1,7 @@
 use Rattle.std.proofs.Common.{map}
 use Rattle.med_value.specs.Datum.{tuple}
 use Rattle.fdw_api.specs.State.{scan_of}
-use Rattle.med_exec.specs.Reading.{HasGiven, left_of}
+use Rattle.med_exec.proofs.ScanLemmas.{HasGiven, left_of}
 use Rattle.med_exec.proofs.scans.read_all.Given as goal
 
 abbrev pub invariant-loop-rows : goal.invariant-loop-rows
