@@ -3,7 +3,7 @@ use Rattle.std.proofs.Common.{◌≡◌, ◌≢◌, ℕ, Bool, true, false, List
 use Rattle.std.proofs.lemmas.Bool.{eqb-true, eq-eqb}
 use Rattle.std.proofs.lemmas.List.Elements.{All-append, All-cons, All-nil}
 use Rattle.med_value.specs.Datum.{NoValue}
-use Rattle.med_value.specs.Text.{escaped, escaped_text, field_text, read_back, letter_of, IsUnbroken}
+use Rattle.med_value.specs.Text.{escaped, escaped_text, field_text, read_back, IsUnbroken}
 
 read_plain : (c : ℕ) (tail : List ℕ) → nat_eq c 92 ≡ false → read_back (c ∷ tail) ≡ c ∷ read_back tail
 read_plain c [] e = refl
