@@ -42,9 +42,9 @@ bad_at : (limit : ℕ) (xs : List ℕ) (error : Error) (t : LinesCodec) (ys : Li
 bad_at limit xs error t ys (found bytes after) k e (inl a) =
     by_test (is_utf8 bytes) refl
   where
-  by_test : (b : Bool) → is_utf8 bytes ≡ b → lines_within limit xs ≡ closed
-  by_test true u = absurd (a.0.1 (IsUtf8-from_is_utf8 bytes u))
-  by_test false u = rw u at e
+    by_test : (b : Bool) → is_utf8 bytes ≡ b → lines_within limit xs ≡ closed
+    by_test true u = absurd (a.0.1 (IsUtf8-from_is_utf8 bytes u))
+    by_test false u = rw u at e
 bad_at limit xs error t ys (found bytes after) k e (inr a) = let no : InvalidData ≡ OutOfMemory = sym k ∙ a.0 in cc
 bad_at limit xs error t ys (too_long after) k e a = e
 bad_at limit xs error t ys (unfinished is_dropped kept) k e a = absurd a
@@ -132,9 +132,9 @@ unfolding newline_from
 missing_more from ys more h free =
     elim (cases_lt (length ys) from) [
       | inl past ↦
-        let behind : newline_from from (ys ++ more) ≡ from + length (drop (from - length ys) more) =
+          let behind : newline_from from (ys ++ more) ≡ from + length (drop (from - length ys) more) =
           ap (λ l. from + position_or_len (λ b. b == 10) l) (drop_past from ys more (omega arith)) ∙ ap (λ n. from + n) (free_place _ (free_drop (from - length ys) more free)) in
-        omega (arith, behind, length-append ys more, length-drop (from - length ys) more)
+          omega (arith, behind, length-append ys more, length-drop (from - length ys) more)
       | inr within ↦ omega (arith, newline_from-append_missing from ys more within h, newline_is more, free_place more free, length-append ys more)
     ]
 
@@ -154,10 +154,10 @@ settled_dropping max ys s (inl within) =
     let e : read_line max 0 (drop (newline_from 0 ys + 1) ys) ≡ unfinished true ys = sym (skip_line_found max ys within) ∙ s in
     no (reads max 0 (drop (newline_from 0 ys + 1) ys)) e
   where
-  no : {zs : List ℕ} → Reads max 0 zs → read_line max 0 zs ≡ unfinished true ys → ys ≡ []
-  no {zs} (inl r) e = let f : found r.0 r.1 ≡ unfinished true ys = sym r.3 ∙ e in cc
-  no {zs} (inr (inl r)) e = let f : too_long zs ≡ unfinished true ys = sym r.1 ∙ e in cc
-  no {zs} (inr (inr r)) e = let f : unfinished false zs ≡ unfinished true ys = sym r.2 ∙ e in cc
+    no : {zs : List ℕ} → Reads max 0 zs → read_line max 0 zs ≡ unfinished true ys → ys ≡ []
+    no {zs} (inl r) e = let f : found r.0 r.1 ≡ unfinished true ys = sym r.3 ∙ e in cc
+    no {zs} (inr (inl r)) e = let f : too_long zs ≡ unfinished true ys = sym r.1 ∙ e in cc
+    no {zs} (inr (inr r)) e = let f : unfinished false zs ≡ unfinished true ys = sym r.2 ∙ e in cc
 settled_dropping max ys s (inr past) = let f : unfinished true [] ≡ unfinished true ys = sym (skip_line_missing max ys past) ∙ s in cc
 
 kept_by : (limit : ℕ) (xs : List ℕ) (t : LinesCodec) (ys : List ℕ) (b : Bool) → t.is_discarding ≡ b → Resumes gives_lines (at_line_start limit) xs t ys → IsSettled t ys → ys ≡ xs

@@ -38,7 +38,7 @@ shapes ds n small e =
     elim (cases_lt n 10) [
       | inl one ↦ let d : ds ≡ (48 + n) ∷ [] = e ∙ decimal_digit n one in inl (record { long = rw d refl; small = one; first = rw d refl })
       | inr two ↦
-        let same : n ≡ 10 * (n / 10) + n % 10 = omega arith in
-        let d : ds ≡ (48 + n / 10) ∷ (48 + n % 10) ∷ [] = e ∙ ap decimal same ∙ decimal_two (n / 10) (n % 10) (omega arith) (omega arith) (omega arith) in
-        inr (record { long = rw d refl; large = two; first = rw d refl; second = rw d refl })
+          let same : n ≡ 10 * (n / 10) + n % 10 = omega arith in
+          let d : ds ≡ (48 + n / 10) ∷ (48 + n % 10) ∷ [] = e ∙ ap decimal same ∙ decimal_two (n / 10) (n % 10) (omega arith) (omega arith) (omega arith) in
+          inr (record { long = rw d refl; large = two; first = rw d refl; second = rw d refl })
     ]

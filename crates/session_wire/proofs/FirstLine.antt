@@ -26,7 +26,6 @@ place_lf b bs e = rw e refl
 pub place_other : (b : ℕ) (bs : List ℕ) → (b == 10) ≡ false → position_or_len (λ c. c == 10) (b ∷ bs) ≡ 1 + position_or_len (λ c. c == 10) bs
 place_other b bs e = rw e refl
 
-
 abbrev lf_at : List ℕ → ℕ
 lf_at xs = position_or_len (λ c. c == 10) xs
 
@@ -74,12 +73,12 @@ front_first limit r ys h e (inr short) =
     let back : drop (length r + 1) (r ++ 10 ∷ ys) ≡ ys = drop_behind r ys in
     lines_first limit r ys h ∙ rw (test, read, front, back) refl
   where
-  drop_behind : (r ys : List ℕ) → drop (length r + 1) (r ++ 10 ∷ ys) ≡ ys
-  drop_behind r ys = rw add-one (drop_past r ys)
-    where
-    drop_past : (r ys : List ℕ) → drop (suc (length r)) (r ++ 10 ∷ ys) ≡ ys
-    drop_past [] ys = refl
-    drop_past (b ∷ r) ys = drop_past r ys
+    drop_behind : (r ys : List ℕ) → drop (length r + 1) (r ++ 10 ∷ ys) ≡ ys
+    drop_behind r ys = rw add-one (drop_past r ys)
+      where
+        drop_past : (r ys : List ℕ) → drop (suc (length r)) (r ++ 10 ∷ ys) ≡ ys
+        drop_past [] ys = refl
+        drop_past (b ∷ r) ys = drop_past r ys
 front_first limit r ys h e (inl long) =
     let test : nat_le (length r) limit ≡ false = grind (arith, nat_tests) in
     lines_first limit r ys h ∙ rw (test, read_line_long limit 0 (r ++ 10 ∷ ys) (omega arith) (omega (arith, length-append r (10 ∷ ys)))) refl
@@ -96,14 +95,14 @@ lines_by_scan limit xs = at_parts limit xs (parts xs)
 ends_with_rest : (limit : ℕ) (ls : List (List ℕ)) (r after : List ℕ) → unread_after (up_to_closing limit ls r) ≡ Some after → (after ≡ r) × (nat_lt limit (length r) ≡ false)
 ends_with_rest limit [] r after e = at_rest (nat_lt limit (length r)) refl
   where
-  at_rest : (t : Bool) → nat_lt limit (length r) ≡ t → (after ≡ r) × (nat_lt limit (length r) ≡ false)
-  at_rest true t = let no : None ≡ Some after = rw t at e in cc
-  at_rest false t = let same : Some r ≡ Some after = rw t at e in (cc, t)
+    at_rest : (t : Bool) → nat_lt limit (length r) ≡ t → (after ≡ r) × (nat_lt limit (length r) ≡ false)
+    at_rest true t = let no : None ≡ Some after = rw t at e in cc
+    at_rest false t = let same : Some r ≡ Some after = rw t at e in (cc, t)
 ends_with_rest limit (l ∷ ls) r after e = at_line (is_line limit l) refl (ends_with_rest limit ls r after)
   where
-  at_line : (t : Bool) → is_line limit l ≡ t → (unread_after (up_to_closing limit ls r) ≡ Some after → (after ≡ r) × (nat_lt limit (length r) ≡ false)) → (after ≡ r) × (nat_lt limit (length r) ≡ false)
-  at_line true t k = k (rw t at e)
-  at_line false t k = let no : None ≡ Some after = rw t at e in cc
+    at_line : (t : Bool) → is_line limit l ≡ t → (unread_after (up_to_closing limit ls r) ≡ Some after → (after ≡ r) × (nat_lt limit (length r) ≡ false)) → (after ≡ r) × (nat_lt limit (length r) ≡ false)
+    at_line true t k = k (rw t at e)
+    at_line false t k = let no : None ≡ Some after = rw t at e in cc
 
 pub within_ends : (limit : ℕ) (xs after : List ℕ) → unread_after (lines_within limit xs) ≡ Some after → (after ≡ (split xs).1) × (nat_lt limit (length (split xs).1) ≡ false)
 unfolding lines_within

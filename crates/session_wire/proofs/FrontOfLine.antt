@@ -11,9 +11,9 @@ no_lf-from_test : (bs : List ℕ) → list_any (λ b. b == 10) bs ≡ false → 
 no_lf-from_test [] e = tt
 no_lf-from_test (b ∷ bs) e = at_first (b == 10) refl (no_lf-from_test bs)
   where
-  at_first : (t : Bool) → (b == 10) ≡ t → (list_any (λ b. b == 10) bs ≡ false → HasNoLf bs) → HasNoLf (b ∷ bs)
-  at_first true u k = let no : true ≡ false = rw u at e in cc
-  at_first false u k = (u, k (rw u at e))
+    at_first : (t : Bool) → (b == 10) ≡ t → (list_any (λ b. b == 10) bs ≡ false → HasNoLf bs) → HasNoLf (b ∷ bs)
+    at_first true u k = let no : true ≡ false = rw u at e in cc
+    at_first false u k = (u, k (rw u at e))
 
 test-from_no_lf : (bs : List ℕ) → HasNoLf bs → list_any (λ b. b == 10) bs ≡ false
 test-from_no_lf [] h = refl

@@ -7,3 +7,4 @@ pub mod FirstSpace
 pub mod UniqueFrames
 pub mod Runs
 pub mod ServerLemmas
+pub mod Worlds

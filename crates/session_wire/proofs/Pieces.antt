@@ -51,8 +51,8 @@ rest_has_no_lf (b ∷ bs) = by_test_rest b bs (rest_has_no_lf bs) (b == 10) refl
 on_first-before : (b : ℕ) (ys : List ℕ) (p : List (List ℕ) × List ℕ) → (b == 10) ≡ false → on_first b (before p.0 (split (p.1 ++ ys))) ≡ before (on_first b p).0 (split ((on_first b p).1 ++ ys))
 on_first-before b ys ([], after) e = before_nil _ ∙ sym (split_other b (after ++ ys) e) ∙ sym (before_nil _)
   where
-  before_nil : (q : List (List ℕ) × List ℕ) → q ≡ q
-  before_nil q = refl
+    before_nil : (q : List (List ℕ) × List ℕ) → q ≡ q
+    before_nil q = refl
 on_first-before b ys (l ∷ ls, after) e = refl
 
 by_test_append : (b : ℕ) (bs ys : List ℕ) → split (bs ++ ys) ≡ before (split bs).0 (split ((split bs).1 ++ ys)) → (t : Bool) → (b == 10) ≡ t → split (b ∷ bs ++ ys) ≡ before (split (b ∷ bs)).0 (split ((split (b ∷ bs)).1 ++ ys))
@@ -74,14 +74,14 @@ after_lines : (limit : ℕ) (ls : List (List ℕ)) (r ys : List ℕ) → HasNoLf
 unfolding lines_within
 after_lines limit [] r ys h = at_rest (nat_lt limit (length r)) refl
   where
-  at_rest : (t : Bool) → nat_lt limit (length r) ≡ t → up_to_closing limit (split (r ++ ys)).0 (split (r ++ ys)).1 ≡ go_on (up_to_closing limit [] r) (λ after. lines_within limit (after ++ ys))
-  at_rest true e = rw (e, split_front r ys h) (long_stays limit r (split ys) (omega (arith, ltb-true)))
-  at_rest false e = rw e refl
+    at_rest : (t : Bool) → nat_lt limit (length r) ≡ t → up_to_closing limit (split (r ++ ys)).0 (split (r ++ ys)).1 ≡ go_on (up_to_closing limit [] r) (λ after. lines_within limit (after ++ ys))
+    at_rest true e = rw (e, split_front r ys h) (long_stays limit r (split ys) (omega (arith, ltb-true)))
+    at_rest false e = rw e refl
 after_lines limit (l ∷ ls) r ys h = at_line (is_line limit l) refl (after_lines limit ls r ys h)
   where
-  at_line : (t : Bool) → is_line limit l ≡ t → up_to_closing limit (ls ++ (split (r ++ ys)).0) (split (r ++ ys)).1 ≡ go_on (up_to_closing limit ls r) (λ after. lines_within limit (after ++ ys)) → up_to_closing limit (l ∷ ls ++ (split (r ++ ys)).0) (split (r ++ ys)).1 ≡ go_on (up_to_closing limit (l ∷ ls) r) (λ after. lines_within limit (after ++ ys))
-  at_line true e k = rw e (ap (line (without_carriage_return l)) k)
-  at_line false e k = rw e refl
+    at_line : (t : Bool) → is_line limit l ≡ t → up_to_closing limit (ls ++ (split (r ++ ys)).0) (split (r ++ ys)).1 ≡ go_on (up_to_closing limit ls r) (λ after. lines_within limit (after ++ ys)) → up_to_closing limit (l ∷ ls ++ (split (r ++ ys)).0) (split (r ++ ys)).1 ≡ go_on (up_to_closing limit (l ∷ ls) r) (λ after. lines_within limit (after ++ ys))
+    at_line true e k = rw e (ap (line (without_carriage_return l)) k)
+    at_line false e k = rw e refl
 
 pub lines-append : (limit : ℕ) (xs ys : List ℕ) → lines_within limit (xs ++ ys) ≡ go_on (lines_within limit xs) (λ after. lines_within limit (after ++ ys))
 unfolding lines_within

@@ -123,7 +123,7 @@ broken_between step ended old bytes replies mid after piece others new more h k 
     let joined = lines-append line_limit bytes piece in
     let all = lines-append line_limit (bytes ++ piece) more in
     let front : RunFront step old (lines_of (bytes ++ piece)) (replies ++ others) k.last =
-      rw joined (run_front_on step ended old (lines_of bytes) (λ a. lines_of (a ++ piece)) after replies others mid k.last h.run h.unread k.front) in
+    rw joined (run_front_on step ended old (lines_of bytes) (λ a. lines_of (a ++ piece)) after replies others mid k.last h.run h.unread k.front) in
     record {
       last = k.last;
       front = rw all (front_on step old (lines_of (bytes ++ piece)) (λ a. lines_of (a ++ more)) (replies ++ others) k.last front);
@@ -137,3 +137,24 @@ pub record Answering {W : Type 0} (step : Steps W) (ended : W → W → Type 0) 
   pub so_far : SoFar step ended old (lines_of bytes) now (lines_of left) replies
   pub ready : IsReady line_limit codec left
   pub kept : sound now
+
+-- a run of all the lines is one of those of the first piece, and then one of what its rest and the second make
+run_parts : {W : Type 0} (step : Steps W) (ended : W → W → Type 0) (old : W) (lines : Lines) (f : List ℕ → Lines) (after all : List ℕ) (new : W)
+    → unread_after lines ≡ Some after → Run step ended old (go_on lines f) all new
+    → (mid : W) × (text : List ℕ) × (others : List ℕ) × Run step ended old lines text mid × Run step ended mid (f after) others new × (all ≡ text ++ others)
+run_parts step ended old (line text more) f after all new e h =
+    let tail = run_parts step ended h.2 more f after h.1 new e h.4 in
+    (tail.0, h.0 ++ tail.1, tail.2, (h.0, tail.1, h.2, h.3, tail.3, refl), tail.4, h.5 ∙ ap (λ l. h.0 ++ l) tail.5 ∙ sym (append_assoc h.0 tail.1 tail.2))
+run_parts step ended old (rest left) f after all new e h =
+    let same : left ≡ after = cc in
+    (old, [], all, (refl, refl), subst (λ l. Run step ended old (f l) all new) same h, refl)
+run_parts step ended old closed f after all new e h = cc
+
+pub fed_parts : {W : Type 0} (step : Steps W) (ended : W → W → Type 0) (old new : W) (bytes more all after : List ℕ) (left : Option (List ℕ))
+    → unread_after (lines_of bytes) ≡ Some after → Fed step ended old (bytes ++ more) all new left
+    → (mid : W) × (text : List ℕ) × (others : List ℕ) × Fed step ended old bytes text mid (Some after) × Fed step ended mid (after ++ more) others new left × (all ≡ text ++ others)
+fed_parts step ended old new bytes more all after left e h =
+    let joined = lines-append line_limit bytes more in
+    let parts = run_parts step ended old (lines_of bytes) (λ a. lines_of (a ++ more)) after all new e (subst (λ l. Run step ended old l all new) joined h.run) in
+    let unread = sym (unread_on (lines_of bytes) (λ a. lines_of (a ++ more)) after e) ∙ ap unread_after (sym joined) ∙ h.unread in
+    (parts.0, parts.1, parts.2, record { run = parts.3; unread = e }, record { run = parts.4; unread = unread }, parts.5)

@@ -4,7 +4,7 @@ use Rattle.std.proofs.lemmas.Bool.{cases_lt}
 use Rattle.std.proofs.lemmas.Fmt.{decimal_digit, decimal_injective}
 use Rattle.std.specs.Fmt.{decimal}
 use Rattle.med_session.specs.Requests.{Asked, opening, sql, bye}
-use Rattle.session_wire.specs.Frames.{IsRequest, IsFrame}
+use Rattle.session_wire.specs.Frames.{BeginsWithSid, IsRequest, IsFrame, IsReplySid}
 use Rattle.session_wire.proofs.Digits.{decimal_two}
 
 -- no space in it
@@ -17,9 +17,9 @@ spaceless_number n small =
     elim (cases_lt n 10) [
       | inl one ↦ subst HasNoSpace (sym (decimal_digit n one)) (λ e. omega arith, tt)
       | inr two ↦
-        let same : n ≡ 10 * (n / 10) + n % 10 = omega arith in
-        let d : decimal n ≡ (48 + n / 10) ∷ (48 + n % 10) ∷ [] = ap decimal same ∙ decimal_two (n / 10) (n % 10) (omega arith) (omega arith) (omega arith) in
-        subst HasNoSpace (sym d) (λ e. omega arith, (λ e. omega arith, tt))
+          let same : n ≡ 10 * (n / 10) + n % 10 = omega arith in
+          let d : decimal n ≡ (48 + n / 10) ∷ (48 + n % 10) ∷ [] = ap decimal same ∙ decimal_two (n / 10) (n % 10) (omega arith) (omega arith) (omega arith) in
+          subst HasNoSpace (sym d) (λ e. omega arith, (λ e. omega arith, tt))
     ]
 
 cut_once : (r s a b : List ℕ) → HasNoSpace r → HasNoSpace s → r ++ 32 ∷ a ≡ s ++ 32 ∷ b → (r ≡ s) × (a ≡ b)
@@ -47,7 +47,18 @@ one_request text bye (opening user) h k = absurd (apart 66 79 _ _ (λ e. omega a
 one_request text bye (sql query) h k = absurd (apart 66 81 _ _ (λ e. omega arith) (sym h ∙ k))
 one_request text bye bye h k = refl
 
+one_sid : (text : List ℕ) (m n : ℕ) (a b : List ℕ) → BeginsWithSid text m a → BeginsWithSid text n b → (m ≡ n) × (a ≡ b)
+one_sid text m n a b h k =
+    let both = cut_once (decimal m) (decimal n) a b (spaceless_number m (omega arith)) (spaceless_number n (omega arith)) (sym h.1 ∙ k.1) in
+    (decimal_injective m n (omega arith) (omega arith) both.0, both.1)
+
 pub one_frame : (text : List ℕ) (m n : ℕ) (p q : Asked) → IsFrame text m p → IsFrame text n q → (m ≡ n) × (p ≡ q)
 one_frame text m n p q f g =
-    let both = cut_once (decimal m) (decimal n) f.0 g.0 (spaceless_number m (omega arith)) (spaceless_number n (omega arith)) (sym f.1.1 ∙ g.1.1) in
-    (decimal_injective m n (omega arith) (omega arith) both.0, one_request g.0 p q (subst (λ l. IsRequest l p) both.1 f.2) g.2)
+    let both = one_sid text m n f.0 g.0 f.1 g.1 in
+    (both.0, one_request g.0 p q (subst (λ l. IsRequest l p) both.1 f.2) g.2)
+
+pub one_reply_sid : (text : List ℕ) (m n : ℕ) → IsReplySid text m → IsReplySid text n → m ≡ n
+one_reply_sid text m n (inl h) (inl k) = (one_sid text m n h.0 k.0 h.1 k.1).0
+one_reply_sid text m n (inl h) (inr k) = absurd (k.1 m h.0 h.1)
+one_reply_sid text m n (inr h) (inl k) = absurd (h.1 n k.0 k.1)
+one_reply_sid text m n (inr h) (inr k) = h.0 ∙ sym k.0

@@ -38,12 +38,12 @@ pub fn frame(text: &str) -> Result<(Sid, Request<'_>), BadFrame>
     }
 }
 
-/// A text has at most one frame.
+/// A text is at most one line, and the reply to one that is none begins with one number alone.
 pub fn frames_are_unique()
-    ensures { (text : List ℕ) (m n : ℕ) (p q : Asked)
+    ensures frame { (text : List ℕ) (m n : ℕ) (p q : Asked)
         → IsFrame text m p → IsFrame text n q → (m ≡ n) × (p ≡ q) }
-{
-}
+    ensures sid { (text : List ℕ) (m n : ℕ) → IsReplySid text m → IsReplySid text n → m ≡ n }
+{}
 
 // The session of these digits.
 fn sid_of(digits: &[u8]) -> Option<Sid>
@@ -101,7 +101,15 @@ fn request_of(text: &str) -> Option<Request<'_>>
         return Some(Request::Sql(query));
     }
     if let Some(user) = text.strip_prefix("OPEN ") {
-        return if is_user(user) { Some(Request::Open(user)) } else { None };
+        return if is_user(user) {
+            Some(Request::Open(user))
+        } else {
+            None
+        };
     }
-    if text == "BYE" { Some(Request::Bye) } else { None }
+    if text == "BYE" {
+        Some(Request::Bye)
+    } else {
+        None
+    }
 }

@@ -19,12 +19,7 @@ pub trait Handler: Drop {
     /// Answers one request: the reply is put behind what `out` has.
     ///
     /// Refused where room is refused before the request is begun. Then nothing was done.
-    fn request(
-        &mut self,
-        sid: Sid,
-        request: Request<'_>,
-        out: &mut Vec<u8>,
-    ) -> Result<(), NoRoom>
+    fn request(&mut self, sid: Sid, request: Request<'_>, out: &mut Vec<u8>) -> Result<(), NoRoom>
         requires { sound self.old }
         ensures ok { OnOk result ((reply : List ℕ) × (out.new.items ≡ out.old.items ++ reply)
             × step self.old sid.number (asked request.entry) reply self.new) }

@@ -12,3 +12,6 @@ pub mod server;
 pub use frames::{BadFrame, frame};
 pub use handler::Handler;
 pub use server::{FeedFault, Server};
+
+#[cfg(test)]
+mod tests;

@@ -56,5 +56,4 @@ pub fn next_line(codec: &mut LinesCodec, unread: &mut BytesMut) -> Result<Found,
 pub fn pieces_join()
     ensures { (xs ys : List ℕ)
         → lines_of (xs ++ ys) ≡ go_on (lines_of xs) (λ after. lines_of (after ++ ys)) }
-{
-}
+{}

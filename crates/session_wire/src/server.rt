@@ -1,6 +1,7 @@
 //! A stream of request lines before a handler.
-ghost use Rattle.std.specs.Prelude.{◌≡◌, false};
-ghost use Rattle.session_wire.specs.Lines.{IsFrontOfLine};
+ghost use Rattle.std.specs.Prelude.{◌≡◌, ◌++◌, ℕ, List, Option, Some, false};
+ghost use Rattle.session_wire.specs.Lines.{IsFrontOfLine, lines_of, unread_after};
+ghost use Rattle.session_wire.specs.Run.{Fed};
 
 use crate::answers::{End, answer_piece};
 use crate::handler::Handler;
@@ -31,9 +32,9 @@ pub struct Server<H> {
 }
 
 impl<H: Handler> Server<H> {
-    ghost use Rattle.std.specs.Prelude.{◌++◌, ◌↔◌, ℕ, List, [], true, Some, Ok, Err, IfOk, IfErr, OnOk};
+    ghost use Rattle.std.specs.Prelude.{◌↔◌, [], true, Err, IfOk, IfErr, OnOk};
     ghost use Rattle.std.specs.List.{flat_map};
-    ghost use Rattle.session_wire.specs.Run.{Fed, BrokenOff};
+    ghost use Rattle.session_wire.specs.Run.{BrokenOff};
     ghost use Rattle.session_wire.specs.Servers.{handler_of, is_closed, held_back, unread_of};
 
     /// A server at the start of a stream. Refused for want of memory, it hands the handler back.
@@ -41,6 +42,7 @@ impl<H: Handler> Server<H> {
         requires { H.sound handler }
         ensures ok { IfOk result (λ server.
             (handler_of server ≡ handler) × (unread_of server ≡ Some [])) }
+        ensures sound { IfOk result (λ server. H.sound (handler_of server)) }
         ensures refused { IfErr result (λ back. back.0 ≡ handler) }
     {
         match BytesMut::with_capacity(alloc, FIRST_ROOM) {
@@ -70,11 +72,11 @@ impl<H: Handler> Server<H> {
         ensures ok { OnOk result ((is_closed self.old ≡ false)
             × ((text : List ℕ) × (out.new.items ≡ out.old.items ++ text)
             × Fed H.step H.ended (handler_of self.old) (held_back self.old ++ piece.now) text
-                (handler_of self.new) (unread_of self.new))) }
+            (handler_of self.new) (unread_of self.new))) }
         ensures no_room { result ≡ Err FeedFault.NoRoom → (is_closed self.new ≡ true)
             × ((text : List ℕ) × (out.new.items ≡ out.old.items ++ text)
             × BrokenOff H.step H.ended (handler_of self.old) (held_back self.old ++ piece.now) text
-                (handler_of self.new)) }
+            (handler_of self.new)) }
         ensures closed { (result ≡ Err FeedFault.Closed) ↔ (is_closed self.old ≡ true) }
         ensures unchanged { result ≡ Err FeedFault.Closed
             → (handler_of self.new ≡ handler_of self.old) × (is_closed self.new ≡ true)
@@ -107,20 +109,20 @@ impl<H: Handler> Server<H> {
         ensures ok { OnOk result ((is_closed self.old ≡ false)
             × ((text : List ℕ) × (out.new.items ≡ out.old.items ++ text)
             × Fed H.step H.ended (handler_of self.old)
-                (held_back self.old ++ flat_map (λ piece. piece.items) pieces.now) text
-                (handler_of self.new) (unread_of self.new))) }
+            (held_back self.old ++ flat_map (λ piece. piece.items) pieces.now) text
+            (handler_of self.new) (unread_of self.new))) }
         ensures no_room { result ≡ Err FeedFault.NoRoom → (is_closed self.new ≡ true)
             × ((text : List ℕ) × (out.new.items ≡ out.old.items ++ text)
             × BrokenOff H.step H.ended (handler_of self.old)
-                (held_back self.old ++ flat_map (λ piece. piece.items) pieces.now) text
-                (handler_of self.new)) }
+            (held_back self.old ++ flat_map (λ piece. piece.items) pieces.now) text
+            (handler_of self.new)) }
         ensures closed { (result ≡ Err FeedFault.Closed) ↔ (is_closed self.old ≡ true) }
         ensures unchanged { result ≡ Err FeedFault.Closed
             → (handler_of self.new ≡ handler_of self.old) × (is_closed self.new ≡ true)
             × (out.new.items ≡ out.old.items) }
         ensures sound { H.sound (handler_of self.new) }
     {
-        if self.is_closed {
+        if self.is_closed() {
             return Err(FeedFault::Closed);
         }
         for piece in pieces {
@@ -148,3 +150,19 @@ impl<H: Handler> Server<H> {
         handler
     }
 }
+
+/// The law of runs: a run of the lines of some bytes, and then one of what their rest and more bytes
+/// make, is a run of the lines of all of them; and each run of the lines of all of them is two such
+/// runs.
+pub fn runs_join<H: Handler>()
+    ensures joined { (old mid new : H) (bytes more text others after : List ℕ)
+        (left : Option (List ℕ)) → Fed H.step H.ended old bytes text mid (Some after)
+        → Fed H.step H.ended mid (after ++ more) others new left
+        → Fed H.step H.ended old (bytes ++ more) (text ++ others) new left }
+    ensures parted { (old new : H) (bytes more all after : List ℕ) (left : Option (List ℕ))
+        → unread_after (lines_of bytes) ≡ Some after
+        → Fed H.step H.ended old (bytes ++ more) all new left
+        → (mid : H) × (text : List ℕ) × (others : List ℕ)
+        × Fed H.step H.ended old bytes text mid (Some after)
+        × Fed H.step H.ended mid (after ++ more) others new left × (all ≡ text ++ others) }
+{}

@@ -43,8 +43,8 @@ loop-found-preserved g c =
       replies = kept.replies ++ answered.0;
       written = answered.1 ∙ ap (λ l. l ++ answered.0) kept.written ∙ append_assoc _ kept.replies answered.0;
       so_far = so_far_more g.H.Handler.step g.H.Handler.ended _ _ _ (string_bytes c.in-Line.text) _ kept.replies answered.0 _
-        (subst (λ l. SoFar g.H.Handler.step g.H.Handler.ended c.args.handler.now (lines_of c.args.unread.now.items) c.loop-found.handler l kept.replies) found.0 kept.so_far)
-        (subst (λ t. IsAnswered g.H.Handler.step c.loop-found.handler t answered.0 c.answer_line.new.handler) c.as_str.ensures.value answered.2);
+          (subst (λ l. SoFar g.H.Handler.step g.H.Handler.ended c.args.handler.now (lines_of c.args.unread.now.items) c.loop-found.handler l kept.replies) found.0 kept.so_far)
+          (subst (λ t. IsAnswered g.H.Handler.step c.loop-found.handler t answered.0 c.answer_line.new.handler) c.as_str.ensures.value answered.2);
       ready = found.1;
       kept = c.in_ok-answer_line-in-Line.ensures.sound;
     }

@@ -18,15 +18,15 @@ returns-then-is_err-clause-err g c = ([], sym (append-nil _), front_stops _ _ _)
 pub returns-then-is_front-clause-ok : goal.returns-then-is_front-clause-ok
 returns-then-is_front-clause-ok g c =
     let front : IsFrontOfLine (c.args.unread.now.items ++ c.args.piece.now) =
-      elim c.if-piece-len.branch [
-        | then-piece-len w ↦
+    elim c.if-piece-len.branch [
+      | then-piece-len w ↦
           let none : w.contains.result ≡ false = negated _ (sym w.is_front-is ∙ c.if-is_front.true) in
           front-append _ _ c.requires.front (sym w.contains.ensures.value ∙ none) (omega arith)
-        | else-piece-len w ↦
+      | else-piece-len w ↦
           let long : 65536 - c.len.result < length c.args.piece.now = w.if-piece-len.false in
           let short : length c.args.piece.now ≤ 65536 - c.len.result = leb-true _ _ (sym w.is_front-is ∙ c.if-is_front.true) in
           absurd (omega arith)
-      ] in
+    ] in
     let lines = front_is_rest _ front in
     let added : c.extend_from_slice.new.self.items ≡ c.args.unread.now.items ++ c.args.piece.now = grind arith in
     ([], sym (append-nil _), rw lines (refl, refl), ap unread_after lines ∙ ap Some (sym added))

@@ -15,8 +15,11 @@ returns-in_default-sid_of-clause-bad c = λ sid request f.
     c.in_default-sid_of.ensures.none sid f.1.0 (c.as_bytes.ensures.value ∙ (some_begins _ _ _ c.in-Some.is c.split_once.ensures.cases sid f.0 f.1).0)
 
 pub returns-in_default-sid_of-clause-sid : goal.returns-in_default-sid_of-clause-sid
-returns-in_default-sid_of-clause-sid c = inr (refl, λ n after b.
-    c.in_default-sid_of.ensures.none n b.0 (c.as_bytes.ensures.value ∙ (some_begins _ _ _ c.in-Some.is c.split_once.ensures.cases n after b).0))
+returns-in_default-sid_of-clause-sid c = inr (
+  refl,
+  λ n after b.
+      c.in_default-sid_of.ensures.none n b.0 (c.as_bytes.ensures.value ∙ (some_begins _ _ _ c.in-Some.is c.split_once.ensures.cases n after b).0),
+)
 
 pub returns-in-Some-request_of-clause-ok : goal.returns-in-Some-request_of-clause-ok
 returns-in-Some-request_of-clause-ok c =

@@ -1,5 +1,5 @@
-use Rattle.session_wire.proofs.UniqueFrames.{one_frame}
+use Rattle.session_wire.proofs.UniqueFrames.{one_frame, one_reply_sid}
 use Rattle.session_wire.proofs.frames.frames_are_unique.Goals as goal
 
 pub returns : goal.returns
-returns c = one_frame
+returns c = record { frame = one_frame; sid = one_reply_sid }

@@ -26,7 +26,7 @@ pieces_all before xs i =
 
 pub loop-piece-init : goal.loop-piece-init
 loop-piece-init g c =
-    ([], sym (append-nil _), fed_none _ _ _ c.args.self.now.unread.items _ (front_is_rest _ (c.args.self.now.between c.if-self.false)) (unread_of-open c.args.self.now c.if-self.false), c.requires)
+    ([], sym (append-nil _), fed_none _ _ _ c.args.self.now.unread.items _ (front_is_rest _ (c.args.self.now.between (sym c.is_closed.ensures ∙ c.if-is_closed.false))) (unread_of-open c.args.self.now (sym c.is_closed.ensures ∙ c.if-is_closed.false)), c.requires)
 
 pub returns-in-Err-Closed-clause-ok : goal.returns-in-Err-Closed-clause-ok
 returns-in-Err-Closed-clause-ok g c =
@@ -38,7 +38,7 @@ returns-in-Err-Closed-clause-ok g c =
     let all = fed_closed _ _ _ _ _ _ (flat_map text_of (drop c.loop-piece.piece-index c.args.pieces.now)) (subst before none kept.2) in
     let whole = subst (λ bytes. Fed g.H.Handler.step g.H.Handler.ended c.args.self.now.handler bytes kept.0 c.loop-piece.self.handler None) (pieces_all _ c.args.pieces.now c.loop-piece.piece-index) all in
     let moved = subst (λ h. Fed g.H.Handler.step g.H.Handler.ended c.args.self.now.handler (c.args.self.now.unread.items ++ flat_map text_of c.args.pieces.now) kept.0 h None) (sym same.0) whole in
-    (c.if-self.false, (kept.0, same.2 ∙ kept.1, record { run = moved.run; unread = moved.unread ∙ sym (unread_of-closed c.feed.new.self same.1) }))
+    ((sym c.is_closed.ensures ∙ c.if-is_closed.false), (kept.0, same.2 ∙ kept.1, record { run = moved.run; unread = moved.unread ∙ sym (unread_of-closed c.feed.new.self same.1) }))
 
 -- a server whose call was refused for want of room was open
 was_open : (r : Result (Unit {0}) FeedFault) (b : Bool) → r ≡ Err NoRoom → (b ≡ true → r ≡ Err Closed) → b ≡ false
@@ -52,12 +52,17 @@ returns-in-Err-NoRoom-clause-no_room g c = λ _.
     let opened = unread_of-open c.loop-piece.self (was_open c.feed.result _ (c.in-Err-NoRoom.is ∙ ap Err c.in-Err-NoRoom.field-0-is) c.feed.ensures.closed.1) in
     let before = Fed g.H.Handler.step g.H.Handler.ended c.args.self.now.handler (c.args.self.now.unread.items ++ flat_map text_of (take c.loop-piece.piece-index c.args.pieces.now)) kept.0 c.loop-piece.self.handler in
     let broken : BrokenOff g.H.Handler.step g.H.Handler.ended c.loop-piece.self.handler (c.loop-piece.self.unread.items ++ c.piece-item.result.items) stopped.1.0 c.feed.new.self.handler =
-      rw (← c.as_slice.ensures.value) stopped.1.2 in
+    rw (← c.as_slice.ensures.value) stopped.1.2 in
     let all = broken_between _ _ _ _ _ _ c.loop-piece.self.unread.items c.piece-item.result.items stopped.1.0 c.feed.new.self.handler (flat_map text_of (drop (c.loop-piece.piece-index + 1) c.args.pieces.now)) (subst before opened kept.2) broken in
     let bytes = ap (λ l. l ++ flat_map text_of (drop (c.loop-piece.piece-index + 1) c.args.pieces.now)) (pieces_more c.args.self.now.unread.items c.args.pieces.now c.loop-piece.piece-index c.piece-item.result c.loop-piece-test.true c.piece-item.is)
-      ∙ pieces_all _ c.args.pieces.now (c.loop-piece.piece-index + 1) in
-    (stopped.0, (kept.0 ++ stopped.1.0, stopped.1.1 ∙ ap (λ l. l ++ stopped.1.0) kept.1 ∙ append_assoc _ kept.0 stopped.1.0,
-    subst (λ bytes. BrokenOff g.H.Handler.step g.H.Handler.ended c.args.self.now.handler bytes (kept.0 ++ stopped.1.0) c.feed.new.self.handler) bytes all))
+    ∙ pieces_all _ c.args.pieces.now (c.loop-piece.piece-index + 1) in (
+      stopped.0,
+      (
+        kept.0 ++ stopped.1.0,
+        stopped.1.1 ∙ ap (λ l. l ++ stopped.1.0) kept.1 ∙ append_assoc _ kept.0 stopped.1.0,
+        subst (λ bytes. BrokenOff g.H.Handler.step g.H.Handler.ended c.args.self.now.handler bytes (kept.0 ++ stopped.1.0) c.feed.new.self.handler) bytes all,
+      ),
+    )
 
 pub loop-piece-preserved : goal.loop-piece-preserved
 loop-piece-preserved g c =
@@ -66,9 +71,11 @@ loop-piece-preserved g c =
     let opened : unread_of c.loop-piece.self ≡ Some c.loop-piece.self.unread.items = unread_of-open c.loop-piece.self fed.0 in
     let before = Fed g.H.Handler.step g.H.Handler.ended c.args.self.now.handler (c.args.self.now.unread.items ++ flat_map text_of (take c.loop-piece.piece-index c.args.pieces.now)) kept.0 c.loop-piece.self.handler in
     let next : Fed g.H.Handler.step g.H.Handler.ended c.loop-piece.self.handler (c.loop-piece.self.unread.items ++ c.piece-item.result.items) fed.1.0 c.feed.new.self.handler (unread_of c.feed.new.self) =
-      rw (← c.as_slice.ensures.value) fed.1.2 in
-    let more = fed_more _ _ _ _ _ _ c.loop-piece.self.unread.items c.piece-item.result.items fed.1.0 c.feed.new.self.handler (unread_of c.feed.new.self) (subst before opened kept.2) next in
-    (kept.0 ++ fed.1.0, fed.1.1 ∙ ap (λ l. l ++ fed.1.0) kept.1 ∙ append_assoc _ kept.0 fed.1.0,
-    subst (λ bytes. Fed g.H.Handler.step g.H.Handler.ended c.args.self.now.handler bytes (kept.0 ++ fed.1.0) c.feed.new.self.handler (unread_of c.feed.new.self))
-    (pieces_more _ c.args.pieces.now c.loop-piece.piece-index c.piece-item.result c.loop-piece-test.true c.piece-item.is) more,
-    c.in-Ok.ensures.sound)
+    rw (← c.as_slice.ensures.value) fed.1.2 in
+    let more = fed_more _ _ _ _ _ _ c.loop-piece.self.unread.items c.piece-item.result.items fed.1.0 c.feed.new.self.handler (unread_of c.feed.new.self) (subst before opened kept.2) next in (
+      kept.0 ++ fed.1.0,
+      fed.1.1 ∙ ap (λ l. l ++ fed.1.0) kept.1 ∙ append_assoc _ kept.0 fed.1.0,
+      subst (λ bytes. Fed g.H.Handler.step g.H.Handler.ended c.args.self.now.handler bytes (kept.0 ++ fed.1.0) c.feed.new.self.handler (unread_of c.feed.new.self))
+          (pieces_more _ c.args.pieces.now c.loop-piece.piece-index c.piece-item.result c.loop-piece-test.true c.piece-item.is) more,
+      c.in-Ok.ensures.sound,
+    )
