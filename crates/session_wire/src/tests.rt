@@ -1,6 +1,7 @@
 // Worked lines, and the limits of a line.
 ghost use Rattle.std.specs.Prelude.{◌≡◌, ⊤, true, IsOk};
 
+use crate::server::runs_join;
 use crate::{BadFrame, FeedFault, Handler, Server, frame};
 use med_session::{NoRoom, Request, Sid};
 use std::alloc::Global;
@@ -95,6 +96,7 @@ fn cuts_do_not_matter(rt: HostRuntime) -> Result<(), Fail> {
     assert!(rt; !server.is_closed());
     let echo = server.finish();
     assert!(rt; echo.is_ended);
+    runs_join::<Echo>();
     Ok(())
 }
 

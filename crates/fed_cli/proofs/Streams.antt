@@ -1,0 +1,94 @@
+-- What is served so far, and one read more.
+use Rattle.std.proofs.Common.{◌≡◌, ℕ, List, [], ◌++◌, take, Option, Some, None, IsSome, Result, Ok, Err, refl, sym, ap, ◌∙◌, subst, append_assoc, append-nil}
+use Rattle.std.specs.Io.KnownBytes.{Consumes, Appends, Keeps, IsAtEnd}
+use Rattle.session_wire.specs.Lines.{lines_of, rest, IsFrontOfLine}
+use Rattle.session_wire.specs.Run.{Steps, Run, Fed, BrokenOff}
+use Rattle.session_wire.proofs.FrontOfLine.{front_is_rest}
+use Rattle.session_wire.proofs.Runs.{fed_none, fed_more}
+use Rattle.fed_cli.specs.Served.{Served, Ran, Stopped, Serves, Fails}
+use Rattle.fed_cli.specs.declared.stream.StreamFault.{StreamFault}
+use Rattle.fed_cli.specs.declared.stream.StreamFault.TheVariants as faults
+
+Consumes-nil : (a : Option (List ℕ)) → Consumes a a []
+Consumes-nil None = tt
+Consumes-nil (Some x) = refl
+
+Appends-nil : (a : Option (List ℕ)) → Appends a a []
+Appends-nil None = tt
+Appends-nil (Some x) = sym (append-nil x)
+
+Appends-trans : (a b c : Option (List ℕ)) (bs cs : List ℕ) → Appends a b bs → Appends b c cs → Appends a c (bs ++ cs)
+Appends-trans None b c bs cs p q = tt
+Appends-trans (Some x) None c bs cs p q = absurd p
+Appends-trans (Some x) (Some y) None bs cs p q = absurd q
+Appends-trans (Some x) (Some y) (Some z) bs cs p q = q ∙ ap (λ l. l ++ cs) p ∙ append_assoc x bs cs
+
+Consumes-trans : (a b c : Option (List ℕ)) (bs cs : List ℕ) → Consumes a b bs → Consumes b c cs → Consumes a c (bs ++ cs)
+Consumes-trans None b c bs cs p q = tt
+Consumes-trans (Some x) None c bs cs p q = absurd p
+Consumes-trans (Some x) (Some y) None bs cs p q = absurd q
+Consumes-trans (Some x) (Some y) (Some z) bs cs p q = p ∙ ap (λ l. bs ++ l) q ∙ sym (append_assoc bs cs z)
+
+Consumes-kept : (a b c : Option (List ℕ)) (bs : List ℕ) → Consumes a b bs → Keeps b c → Consumes a c bs
+Consumes-kept None b c bs p q = tt
+Consumes-kept (Some x) None c bs p q = absurd p
+Consumes-kept (Some x) (Some y) None bs p q = absurd q
+Consumes-kept (Some x) (Some y) (Some z) bs p q = p ∙ ap (λ l. bs ++ l) (sym q)
+
+keeps_none : (a b : Option (List ℕ)) → Consumes a b [] → Keeps a b
+keeps_none None b p = tt
+keeps_none (Some x) None p = absurd p
+keeps_none (Some x) (Some y) p = sym p
+
+pub served_none : {W : Type 0} (step : Steps W) (ends : W → W → Type 0) (old : W) (before : List ℕ) (left had held : Option (List ℕ)) → IsFrontOfLine before → left ≡ Some before → Served step ends old before old left had had held held
+served_none step ends old before left had held h e =
+    record { bytes = []; text = []; read = Consumes-nil had; written = Appends-nil held; fed = fed_none step ends old before left (front_is_rest before h) e }
+
+-- a read that gave nothing
+pub served_kept : {W : Type 0} (step : Steps W) (ends : W → W → Type 0) (old : W) (before : List ℕ) (new : W) (left had has held holds now : Option (List ℕ))
+    → Served step ends old before new left had has held holds → Keeps has now → Served step ends old before new left had now held holds
+served_kept step ends old before new left had has held holds now h k =
+    record { bytes = h.bytes; text = h.text; read = Consumes-kept had has now h.bytes h.read k; written = h.written; fed = h.fed }
+
+pub served_end : {W : Type 0} (step : Steps W) (ends : W → W → Type 0) (old : W) (before : List ℕ) (new : W) (left had has held holds now : Option (List ℕ))
+    → Served step ends old before new left had has held holds → Consumes has now [] → Served step ends old before new left had now held holds
+served_end step ends old before new left had has held holds now h k = served_kept step ends old before new left had has held holds now h (keeps_none has now k)
+
+-- bytes so far with a piece
+joined : {W : Type 0} (step : Steps W) (ends : W → W → Type 0) (old : W) (before bytes piece text : List ℕ) (new : W) (left : Option (List ℕ)) → Fed step ends old ((before ++ bytes) ++ piece) text new left → Fed step ends old (before ++ (bytes ++ piece)) text new left
+joined step ends old before bytes piece text new left h = subst (λ l. Fed step ends old l text new left) (append_assoc before bytes piece) h
+
+-- a piece was read and answered
+pub served_more : {W : Type 0} (step : Steps W) (ends : W → W → Type 0) (old : W) (before : List ℕ) (mid : W) (after : List ℕ) (had has held holds : Option (List ℕ)) (piece others : List ℕ) (new : W) (left now writes : Option (List ℕ))
+    → Served step ends old before mid (Some after) had has held holds → Consumes has now piece → Appends holds writes others
+    → Fed step ends mid (after ++ piece) others new left
+    → Served step ends old before new left had now held writes
+served_more step ends old before mid after had has held holds piece others new left now writes h c a f = record {
+  bytes = h.bytes ++ piece;
+  text = h.text ++ others;
+  read = Consumes-trans had has now h.bytes piece h.read c;
+  written = Appends-trans held holds writes h.text others h.written a;
+  fed = joined step ends old before h.bytes piece (h.text ++ others) new left (fed_more step ends old (before ++ h.bytes) h.text mid after piece others new left h.fed f);
+}
+
+pub failed : {W : Type 0} (step : Steps W) (ends : W → W → Type 0) (old : W) (before : List ℕ) (mid : W) (after : List ℕ) (had has held holds : Option (List ℕ)) (piece : List ℕ) (new : W) (left now writes : Option (List ℕ)) (fault : StreamFault)
+    → Served step ends old before mid (Some after) had has held holds → Consumes has now piece → Fails step ends mid (after ++ piece) new left holds writes fault
+    → Serves step ends old before new left had now held writes (Err fault)
+failed step ends old before mid after had has held holds piece new left now writes faults.Write h c f = record {
+  bytes = h.bytes ++ piece;
+  text = h.text ++ f.0;
+  read = Consumes-trans had has now h.bytes piece h.read c;
+  fed = joined step ends old before h.bytes piece (h.text ++ f.0) new left (fed_more step ends old (before ++ h.bytes) h.text mid after piece f.0 new left h.fed f.1);
+}
+failed step ends old before mid after had has held holds piece new left now writes faults.NoRoom h c f = (record {
+  between = has;
+  mid = mid;
+  after = after;
+  served = subst (λ w. Served step ends old before mid (Some after) had has held w) (sym f.2) h;
+  piece = piece;
+  read = c;
+  text = f.0;
+  broken = f.1;
+}, f.3)
+failed step ends old before mid after had has held holds piece new left now writes faults.Read h c f = absurd f
+failed step ends old before mid after had has held holds piece new left now writes faults.TooLong h c f = absurd f

@@ -1,0 +1,6 @@
+//! What the program is made of.
+#![tactic(auto)]
+
+pub mod stream;
+
+pub use stream::{Ended, StreamFault, serve_stream};

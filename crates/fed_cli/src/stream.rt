@@ -1,0 +1,124 @@
+//! A server between a reader and a writer.
+ghost use Rattle.std.specs.Prelude.{◌≡◌, ◌++◌, ℕ, List, true, false, Ok, OnOk, IfErr};
+ghost use Rattle.std.specs.Io.KnownBytes.{Appends};
+ghost use Rattle.session_wire.specs.Run.{Fed};
+ghost use Rattle.session_wire.specs.Servers.{handler_of, is_closed, held_back, unread_of};
+ghost use Rattle.fed_cli.specs.Served.{Serves, Fails};
+
+use session_wire::{Handler, Server};
+use std::alloc::Global;
+use std::io::{ErrorKind, Read, Write};
+
+/// The most bytes of one read.
+const PIECE: usize = 8_192;
+
+/// The most reads of one stream.
+const READS: u32 = 4_294_967_295;
+
+/// How a stream ended.
+#[derive(Clone, Copy, Debug, PartialEq, Eq)]
+pub enum Ended {
+    /// The input ended.
+    Eof,
+    /// A line closed the stream.
+    Closed,
+}
+
+/// Why a stream was given up.
+#[derive(Clone, Copy, Debug, PartialEq, Eq)]
+pub enum StreamFault {
+    /// The input could not be read.
+    Read,
+    /// A reply could not be written.
+    Write,
+    /// The input did not end in 4,294,967,295 reads.
+    TooLong,
+    /// Room for a piece or its replies was refused.
+    NoRoom,
+}
+
+/// Serves an input to its end, or to the line that closes the stream.
+///
+/// It reads pieces of at most 8,192 bytes, and writes and flushes the replies to each piece before it
+/// reads the next. It reads at most 4,294,967,295 times, and an interrupted read counts and is tried
+/// again. Of a server that is closed before, nothing is read.
+///
+/// After `Eof` the writer has got the text of the run of all bytes that the reader had; after `Closed` of
+/// those up to the closing line. After `Read` and `TooLong` what was read is a run, and its text was
+/// written; after `NoRoom` too, but for the last piece. After `Write` the run alone is known.
+pub fn serve_stream<H: Handler, R: Read, W: Write>(
+    alloc: Global,
+    server: &mut Server<H>,
+    reader: &mut R,
+    writer: &mut W,
+) -> Result<Ended, StreamFault>
+    requires { H.sound (handler_of server.old) }
+    ensures serves { is_closed server.old ≡ false
+        → Serves H.step H.ended (handler_of server.old) (held_back server.old)
+            (handler_of server.new) (unread_of server.new)
+            (R.remaining reader.old) (R.remaining reader.new)
+            (W.contents writer.old) (W.contents writer.new) result }
+    ensures closed_before { is_closed server.old ≡ true → (result ≡ Ok Ended.Closed)
+        × (handler_of server.new ≡ handler_of server.old) × (is_closed server.new ≡ true)
+        × (R.remaining reader.new ≡ R.remaining reader.old)
+        × (W.contents writer.new ≡ W.contents writer.old) }
+    ensures sound { H.sound (handler_of server.new) }
+{
+    if server.is_closed() {
+        return Ok(Ended::Closed);
+    }
+    let mut piece = [0u8; PIECE];
+    let mut out = Vec::new(alloc);
+    for _ in 0..READS {
+        let count = match reader.read(&mut piece) {
+            Ok(count) => count,
+            Err(error) => match error.kind() {
+                ErrorKind::Interrupted => continue,
+                _ => return Err(StreamFault::Read),
+            },
+        };
+        if count == 0 {
+            return Ok(Ended::Eof);
+        }
+        match answer_piece(server, &piece[..count], &mut out, writer) {
+            Ok(()) => {}
+            Err(fault) => return Err(fault),
+        }
+        if server.is_closed() {
+            return Ok(Ended::Closed);
+        }
+    }
+    Err(StreamFault::TooLong)
+}
+
+// Answers one piece, and writes the answer.
+fn answer_piece<H: Handler, W: Write>(
+    server: &mut Server<H>,
+    piece: &[u8],
+    out: &mut Vec<u8>,
+    writer: &mut W,
+) -> Result<(), StreamFault>
+    requires open { is_closed server.old ≡ false }
+    requires sound { H.sound (handler_of server.old) }
+    ensures ok { OnOk result ((text : List ℕ)
+        × Appends (W.contents writer.old) (W.contents writer.new) text
+        × Fed H.step H.ended (handler_of server.old) (held_back server.old ++ piece.now) text
+            (handler_of server.new) (unread_of server.new)) }
+    ensures fault { IfErr result (Fails H.step H.ended (handler_of server.old)
+        (held_back server.old ++ piece.now) (handler_of server.new) (unread_of server.new)
+        (W.contents writer.old) (W.contents writer.new)) }
+    ensures sound { H.sound (handler_of server.new) }
+{
+    out.clear();
+    match server.feed(piece, out) {
+        Ok(()) => {}
+        Err(_) => return Err(StreamFault::NoRoom),
+    }
+    if writer.write_all(out.as_slice()).is_err() || writer.flush().is_err() {
+        return Err(StreamFault::Write);
+    }
+    Ok(())
+}
+
+#[cfg(test)]
+mod tests;
