@@ -1,1 +1,2 @@
 pub mod PlainScans
+pub mod CallLemmas

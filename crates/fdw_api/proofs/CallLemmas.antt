@@ -1,0 +1,126 @@
+-- How the calls of a wrapper go together.
+use Rattle.std.proofs.Common.{◌≡◌, ◌≢◌, ℕ, ◌⊎◌, eqb, true, false, List, [], Option, Some, None, IsSome, refl, ap, sym, ◌∙◌, subst, rules, inl, inr}
+use Rattle.std.specs.Ordering.{nat_cmp}
+use Rattle.std.specs.FinMap as finmap
+use Rattle.std.specs.FinMap.{gets}
+use Rattle.std.proofs.lemmas.Bool.Decides.{eqb_tells}
+use Rattle.med_value.specs.Datum.{Tuple}
+use Rattle.fdw_api.specs.Scan.{Spec}
+use Rattle.fdw_api.specs.Kinds.{Column, Setting}
+use Rattle.fdw_api.specs.State.{Scan, BoxState, IsIdle, table_of, scan_of, set_at}
+use Rattle.fdw_api.specs.Calls.{CanBind, Binds, RefusesBind, CanUnbind, Unbinds, Begins, IsOpen, Gives, Breaks, Ends, Refuses}
+use Rattle.fdw_api.specs.declared.interface.Fault.{Fault}
+use Rattle.fdw_api.specs.declared.interface.SourceRow.{SourceRow}
+
+put_same : {X : Type 0} (m : finmap.FinMap nat_cmp X) (k : ℕ) (v : X) → finmap.get (finmap.insert m k v) k ≡ Some v
+put_same m k v = grind (gets, rules)
+
+put_other : {X : Type 0} (m : finmap.FinMap nat_cmp X) (k q : ℕ) (v : X) → q ≢ k → finmap.get (finmap.insert m k v) q ≡ finmap.get m q
+put_other m k q v ne = grind (gets, rules)
+
+taken_other : {X : Type 0} (m : finmap.FinMap nat_cmp X) (k q : ℕ) → q ≢ k → finmap.get (finmap.remove m k) q ≡ finmap.get m q
+taken_other m k q ne = grind (gets, rules)
+
+some_inj : {A : Type 0} (a b : A) → Some a ≡ Some b → a ≡ b
+some_inj a b q = cc
+
+not_none : {X : Type 0} (o : Option X) (x : X) → o ≡ None → o ≡ Some x → ⊥
+not_none o x e f = absurd cc
+
+set_same : {X : Type 0} (f : ℕ → X) (k : ℕ) (x : X) → set_at f k x k ≡ x
+set_same f k x = search rules
+
+-- on an idle wrapper every remote name is free
+pub idle_can_bind : (s : BoxState) (remote : List ℕ) (columns : List Column) (settings : List Setting) → IsIdle s → s.nature.kind.objections columns settings ≡ [] → CanBind s remote columns settings
+idle_can_bind s remote columns settings idle no_objection = record {
+  free = λ t b is. absurd (not_none (table_of s t) b (idle.no_table t) is);
+  no_objection = no_objection;
+}
+
+-- a refused bind leaves a wrapper idle
+pub refused_is_idle : (old new : BoxState) (remote : List ℕ) (columns : List Column) (settings : List Setting) (fault : Fault) → IsIdle old → RefusesBind old remote columns settings fault new → IsIdle new
+refused_is_idle old new remote columns settings fault idle r = record {
+  no_table = λ t. ap (λ z. z.tables t) r.refuses.ledger ∙ idle.no_table t;
+  no_scan = λ q. ap (λ z. finmap.get z.live q) r.refuses.ledger ∙ idle.no_scan q;
+  no_staging = ap (λ z. z.staged) r.refuses.ledger ∙ idle.no_staging;
+}
+
+-- a refused call leaves all scans and tables
+pub refused_keeps : (fault : Fault) (old new : BoxState) (q : ℕ) → Refuses fault old new → scan_of new q ≡ scan_of old q
+refused_keeps fault old new q r = ap (λ z. finmap.get z.live q) r.ledger
+
+-- what is bound is a table
+pub bound_is_table : (old new : BoxState) (remote : List ℕ) (columns : List Column) (settings : List Setting) (t : ℕ) (b : Binds old remote columns settings t new) → table_of new t ≡ Some b.bound
+bound_is_table old new remote columns settings t b = ap (λ z. z.tables t) b.ledger ∙ set_same old.ledger.tables t (Some b.bound)
+
+some_is : {X : Type 0} (o : Option X) (x : X) → o ≡ Some x → IsSome o
+some_is o x e = subst IsSome (sym e) refl
+
+pub bound_is_some : (old new : BoxState) (remote : List ℕ) (columns : List Column) (settings : List Setting) (t : ℕ) → Binds old remote columns settings t new → IsSome (table_of new t)
+bound_is_some old new remote columns settings t b = some_is _ _ (bound_is_table old new remote columns settings t b)
+
+-- a table bound on an idle wrapper may be let go
+pub bound_can_unbind : (old new : BoxState) (remote : List ℕ) (columns : List Column) (settings : List Setting) (t : ℕ) → IsIdle old → Binds old remote columns settings t new → CanUnbind new t
+bound_can_unbind old new remote columns settings t idle b = record {
+  is_bound = bound_is_some old new remote columns settings t b;
+  no_scan = λ q scan is. absurd (not_none (scan_of new q) scan (ap (λ z. finmap.get z.live q) b.ledger ∙ idle.no_scan q) is);
+  not_staged = ap (λ z. z.staged) b.ledger ∙ idle.no_staging;
+}
+
+-- and the wrapper is idle again
+pub unbound_is_idle : (old mid new : BoxState) (remote : List ℕ) (columns : List Column) (settings : List Setting) (t : ℕ) → IsIdle old → Binds old remote columns settings t mid → Unbinds mid t new → IsIdle new
+unbound_is_idle old mid new remote columns settings t idle b u = record {
+  no_table = λ q. ap (λ z. z.tables q) u.ledger ∙ split q (eqb_tells q t);
+  no_scan = λ q. ap (λ z. finmap.get z.live q) u.ledger ∙ ap (λ z. finmap.get z.live q) b.ledger ∙ idle.no_scan q;
+  no_staging = ap (λ z. z.staged) u.ledger ∙ ap (λ z. z.staged) b.ledger ∙ idle.no_staging;
+}
+  where
+    split : (q : ℕ) → ((eqb q t ≡ true) × (q ≡ t)) ⊎ ((eqb q t ≡ false) × (q ≢ t)) → set_at mid.ledger.tables t None q ≡ None
+    split q (inl s) = rw s.0 refl
+    split q (inr s) = rw s.0 (ap (λ z. z.tables q) b.ledger ∙ rw s.0 (idle.no_table q))
+
+-- a scan that was just begun is open
+pub begun_is_open : (old new : BoxState) (t : ℕ) (spec : Spec) (params : Tuple) (n : ℕ) → Begins old t spec params n new → IsOpen new n
+begun_is_open old new t spec params n b = (_, ap (λ z. finmap.get z.live n) b.ledger ∙ put_same old.ledger.live n _, refl)
+
+-- its number was not live before
+pub begun_differs : (old new : BoxState) (t : ℕ) (spec : Spec) (params : Tuple) (n q : ℕ) → Begins old t spec params n new → IsOpen old q → q ≢ n
+begun_differs old new t spec params n q b is_open same = not_none (scan_of old q) is_open.0 (subst (λ (k : ℕ). scan_of old k ≡ None) (sym same) b.fresh) is_open.1
+
+-- the other scans and the tables are as before
+pub begun_keeps : (old new : BoxState) (t : ℕ) (spec : Spec) (params : Tuple) (n q : ℕ) → Begins old t spec params n new → q ≢ n → scan_of new q ≡ scan_of old q
+begun_keeps old new t spec params n q b ne = ap (λ z. finmap.get z.live q) b.ledger ∙ put_other old.ledger.live n q _ ne
+
+pub begun_has_table : (old new : BoxState) (t : ℕ) (spec : Spec) (params : Tuple) (n u : ℕ) → Begins old t spec params n new → IsSome (table_of old u) → IsSome (table_of new u)
+begun_has_table old new t spec params n u b is = subst IsSome (sym (ap (λ z. z.tables u) b.ledger)) is
+
+-- an open scan is live, and one that reads as an open one is open
+pub open_is_live : (s : BoxState) (n : ℕ) → IsOpen s n → IsSome (scan_of s n)
+open_is_live s n is_open = some_is _ _ is_open.1
+
+pub open_stays : (old new : BoxState) (n : ℕ) → scan_of new n ≡ scan_of old n → IsOpen old n → IsOpen new n
+open_stays old new n same is_open = (is_open.0, same ∙ is_open.1, is_open.2)
+
+pub live_stays : (old new : BoxState) (n : ℕ) → scan_of new n ≡ scan_of old n → IsSome (scan_of old n) → IsSome (scan_of new n)
+live_stays old new n same live = subst IsSome (sym same) live
+
+-- a scan that answers stays open, and the others are as before
+pub given_is_open : (old new : BoxState) (n : ℕ) (row : Option SourceRow) → Gives old n row new → IsOpen old n → IsOpen new n
+given_is_open old new n None g is_open = open_stays old new n (ap (λ z. finmap.get z.live n) g.ledger) is_open
+given_is_open old new n (Some row) g is_open =
+    (record g.scan { left = g.left }, ap (λ z. finmap.get z.live n) g.ledger ∙ put_same old.ledger.live n _, ap (λ (z : Scan). z.broken) (some_inj g.scan is_open.0 (sym g.at ∙ is_open.1)) ∙ is_open.2)
+
+pub given_keeps : (old new : BoxState) (n q : ℕ) (row : Option SourceRow) → Gives old n row new → q ≢ n → scan_of new q ≡ scan_of old q
+given_keeps old new n q None g ne = ap (λ z. finmap.get z.live q) g.ledger
+given_keeps old new n q (Some row) g ne = ap (λ z. finmap.get z.live q) g.ledger ∙ put_other old.ledger.live n q _ ne
+
+-- a scan that fails is still live
+pub broken_is_live : (old new : BoxState) (n : ℕ) (fault : Fault) → Breaks old n fault new → IsSome (scan_of new n)
+broken_is_live old new n fault b = some_is _ _ (ap (λ z. finmap.get z.live n) b.ledger ∙ put_same old.ledger.live n _)
+
+pub broken_keeps : (old new : BoxState) (n q : ℕ) (fault : Fault) → Breaks old n fault new → q ≢ n → scan_of new q ≡ scan_of old q
+broken_keeps old new n q fault b ne = ap (λ z. finmap.get z.live q) b.ledger ∙ put_other old.ledger.live n q _ ne
+
+-- the end of one scan leaves the others
+pub ended_keeps : (old new : BoxState) (n q : ℕ) → Ends old n new → q ≢ n → scan_of new q ≡ scan_of old q
+ended_keeps old new n q e ne = ap (λ z. finmap.get z.live q) e.ledger ∙ taken_other old.ledger.live n q ne

@@ -1,0 +1,29 @@
+use Rattle.std.proofs.Common.{Result, Ok, Err, OnOk}
+use Rattle.fdw_api.proofs.CallLemmas.{given_is_open, given_keeps, open_is_live, broken_is_live, broken_keeps}
+use Rattle.probe_wrapper.proofs.tests.take_row.Goals as goal
+
+always : {T E P : Type 0} (r : Result T E) → P → OnOk r P
+always (Ok x) p = p
+always (Err e) p = tt
+
+pub returns-in_err-row-clause-live : goal.returns-in_err-row-clause-live
+returns-in_err-row-clause-live g c = broken_is_live _ _ _ _ c.in_err-row.ensures.err
+
+pub returns-in_err-row-clause-others : goal.returns-in_err-row-clause-others
+returns-in_err-row-clause-others g c = λ q ne. broken_keeps _ _ _ q _ c.in_err-row.ensures.err ne
+
+pub returns-clause-open : goal.returns-clause-open
+returns-clause-open g c =
+    let old = g.W.Wrapper.meaning c.args.source.now in
+    let new = g.W.Wrapper.meaning c.iterate.new.self in
+    always c.write_row.result (given_is_open old new c.args.ticket.now.number c.in_ok-row.row c.in_ok-row.ensures.ok c.requires)
+
+pub returns-clause-live : goal.returns-clause-live
+returns-clause-live g c =
+    let old = g.W.Wrapper.meaning c.args.source.now in
+    let new = g.W.Wrapper.meaning c.iterate.new.self in
+    let n = c.args.ticket.now.number in
+    open_is_live new n (given_is_open old new n c.in_ok-row.row c.in_ok-row.ensures.ok c.requires)
+
+pub returns-clause-others : goal.returns-clause-others
+returns-clause-others g c = λ q ne. given_keeps _ _ _ q c.in_ok-row.row c.in_ok-row.ensures.ok ne
