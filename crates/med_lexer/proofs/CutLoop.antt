@@ -8,7 +8,7 @@ use Rattle.med_lexer.specs.Lexemes.{Shape, Lexeme}
 use Rattle.med_lexer.specs.Cutting.{Next, done, blank, token, bad, next, continued, lex}
 use Rattle.med_lexer.specs.View.{view, views, Tokens}
 use Rattle.med_lexer.specs.Steps.{Steps, Gives}
-use Rattle.med_lexer.proofs.Exact.{next_shorter, blank_shorter}
+use Rattle.med_lexer.proofs.Tells.{next_shorter, blank_shorter}
 use Rattle.med_lexer.proofs.Stops.{lexes_of_lex, none_of_lex}
 
 abbrev pub after_these : List Lexeme → Option (List Lexeme) → Option (List Lexeme)

@@ -223,13 +223,13 @@ stop_longest (number d) (b ∷ bs) t more after s e sp = number_longest b bs t m
 stop_longest (mark m) raw t more after (inl s) e sp = mark_longest m t more after e (subst (λ x. Spells t (x ++ more)) s sp)
 stop_longest (mark m) raw t more after (inr s) e sp = double_longest 33 61 t more refl (subst (λ x. Spells t (x ++ more)) s.1 sp)
 
-longest_of : (s : Shape) (raw rest : List ℕ) → Spells s raw → Ends s rest → IsLongest raw rest
+pub longest_of : (s : Shape) (raw rest : List ℕ) → Spells s raw → Ends s rest → IsLongest raw rest
 longest_of s raw rest sp e = λ t more after is tp. stop_longest s raw t more after sp (subst (Ends s) is e) tp
 
 joint_start : (c : ℕ) → is_number_joint c ≡ false → is_start c ≡ false
 joint_start c h = grind (arith, nat_tests)
 
-precedes_of : (s : Shape) (rest : List ℕ) → Ends s rest → MayPrecede s rest
+pub precedes_of : (s : Shape) (rest : List ℕ) → Ends s rest → MayPrecede s rest
 precedes_of (word w) rest e = tt
 precedes_of (quoted q) rest e = tt
 precedes_of (literal q) rest e = tt
@@ -238,6 +238,7 @@ precedes_of (number d) (c ∷ cs) e = joint_start c e
 precedes_of (mark m) rest e = λ is. subst (λ k. Without (joins k) rest) is e
 
 pub lexes_of_cuts : (ts : List Lexeme) (at : ℕ) (text : List ℕ) → Cuts at text ts → Lexes at text ts
-lexes_of_cuts [] at text h = h
-lexes_of_cuts (t ∷ ts) at text (blanks, raw, rest, b, is, s, e, start, end, more) =
-    (blanks, raw, rest, b, is, s, longest_of t.shape raw rest s e, precedes_of t.shape rest e, start, end, lexes_of_cuts ts t.end rest more)
+lexes_of_cuts [] at text (blanks, rest, b, is, end) = (rest, (blanks, b, is), end)
+lexes_of_cuts (t ∷ ts) at text (blanks, raw, more, b, is, s, e, start, end, go) =
+    let l : Lexes t.end more ts = lexes_of_cuts ts t.end more go in
+    (l.0, (blanks, raw, more, b, is, s, longest_of t.shape raw more s e, precedes_of t.shape more e, start, end, l.1), l.2)

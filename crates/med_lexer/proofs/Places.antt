@@ -4,7 +4,7 @@ use Rattle.std.proofs.Math.Seq.{drop-append_seam, drop-append-add, take-append_s
 use Rattle.std.proofs.lemmas.Bool.Decides.{leb_tells}
 use Rattle.std.specs.Prelude.{map}
 use Rattle.med_lexer.specs.Printing.{AreShapes}
-use Rattle.med_lexer.specs.Lexemes.{Shape, Spells, IsLongest, Lexeme, Lexes, IsLongestAt}
+use Rattle.med_lexer.specs.Lexemes.{Shape, Spells, IsLongest, Lexeme, Begins, Lexes, IsLongestAt}
 
 -- of two fronts of a list one goes on with the other
 pub record GoesOn (a b c d : List ℕ) : Type 0 where
@@ -63,15 +63,15 @@ further at end text front rest t is e p =
       longest = λ s start after h fs. p.longest s start after (sym found ∙ h) fs;
     }
 
-placed : (ts : List Lexeme) (at : ℕ) (text : List ℕ) → Lexes at text ts → (k : ℕ) (d : Lexeme) → k < length ts → IsPlaced at text (get_or ts k d)
-placed [] at text h k d l = absurd (omega arith)
-placed (t ∷ ts) at text (blanks, raw, rest, b, is, s, long, n, start, end, more) zero d l = here at text blanks raw rest t is s long start end
-placed (t ∷ ts) at text (blanks, raw, rest, b, is, s, long, n, start, end, more) (suc k) d l =
-    further at t.end text (blanks ++ raw) rest (get_or ts k d) (is ∙ sym (append_assoc blanks raw rest)) (omega (arith, start, end, length-append blanks raw)) (placed ts t.end rest more k d (omega arith))
+placed : (ts : List Lexeme) (at : ℕ) (text rest : List ℕ) → Begins at text ts rest → (k : ℕ) (d : Lexeme) → k < length ts → IsPlaced at text (get_or ts k d)
+placed [] at text rest h k d l = absurd (omega arith)
+placed (t ∷ ts) at text rest (blanks, raw, more, b, is, s, long, n, start, end, go) zero d l = here at text blanks raw more t is s long start end
+placed (t ∷ ts) at text rest (blanks, raw, more, b, is, s, long, n, start, end, go) (suc k) d l =
+    further at t.end text (blanks ++ raw) more (get_or ts k d) (is ∙ sym (append_assoc blanks raw more)) (omega (arith, start, end, length-append blanks raw)) (placed ts t.end more rest go k d (omega arith))
 
 pub longest_at : (text : List ℕ) (ts : List Lexeme) → Lexes 0 text ts → (k : ℕ) (d : Lexeme) → k < length ts → IsLongestAt text (get_or ts k d)
 longest_at text ts h k d l =
-    let p : IsPlaced 0 text (get_or ts k d) = placed ts 0 text h k d l in
+    let p : IsPlaced 0 text (get_or ts k d) = placed ts 0 text h.0 h.1 k d l in
     let same : (get_or ts k d).start - 0 ≡ (get_or ts k d).start = omega arith in
     record {
       spelled = subst (λ n. Spells (get_or ts k d).shape (take ((get_or ts k d).end - (get_or ts k d).start) (drop n text))) same p.spelled;
@@ -79,6 +79,6 @@ longest_at text ts h k d l =
     }
 
 -- what the tokens of a text say, some bytes spell
-pub shapes_spelled : (ts : List Lexeme) (at : ℕ) (text : List ℕ) → Lexes at text ts → AreShapes (map (λ t. t.shape) ts)
-shapes_spelled [] at text h = tt
-shapes_spelled (t ∷ ts) at text (blanks, raw, rest, b, is, s, long, n, start, end, more) = ((raw, s), shapes_spelled ts t.end rest more)
+pub shapes_spelled : (ts : List Lexeme) (at : ℕ) (text rest : List ℕ) → Begins at text ts rest → AreShapes (map (λ t. t.shape) ts)
+shapes_spelled [] at text rest h = tt
+shapes_spelled (t ∷ ts) at text rest (blanks, raw, more, b, is, s, long, n, start, end, go) = ((raw, s), shapes_spelled ts t.end more rest go)

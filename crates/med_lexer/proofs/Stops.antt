@@ -8,7 +8,8 @@ use Rattle.med_lexer.specs.declared.Mark.TheVariants as marks
 use Rattle.med_lexer.specs.Lexemes.{is_blank, is_start, is_part, is_text, Every, Without, doubled, between, Shape, word, quoted, literal, number, mark, Spells, IsLongest, MayPrecede, IsEnd, Lexeme, Lexes}
 use Rattle.med_lexer.specs.Cutting.{first, behind, lex}
 use Rattle.med_lexer.proofs.Cuts.{joins, is_number_joint, Ends, Cuts}
-use Rattle.med_lexer.proofs.Exact.{is_same, same_is, some_bytes, one_list_cut, lex_sound, lex_none}
+use Rattle.med_lexer.proofs.Exact.{is_same, same_is, some_bytes, one_list_cut, lex_none}
+use Rattle.med_lexer.proofs.Tells.{lex_sound}
 use Rattle.med_lexer.proofs.Maximal.{Closes, name_closes, text_closes, lexes_of_cuts}
 
 every_append : (p : ℕ → Bool) (bs cs : List ℕ) → Every p bs → Every p cs → Every p (bs ++ cs)
@@ -118,10 +119,10 @@ record IsQuote (q : ℕ) : Type 0 where
   closes : (t : Shape) (bs : List ℕ) → Spells t (q ∷ bs) → Closes q bs
 
 closed : (q : ℕ) → IsQuote q → (ts : List Lexeme) (at : ℕ) (r : List ℕ) → Lexes at (q ∷ r) ts → Quoted q r
-closed q o [] at r ([], rest, b, is, c) = absurd (no_comment q r o.no_minus (subst IsEnd (sym is) c))
-closed q o [] at r (x ∷ xs, rest, b, is, c) = begins_blank q x r (xs ++ rest) o.no_blank b.0 is
-closed q o (t ∷ ts) at r ([], raw, rest, b, is, s, long, n, start, end, more) = closed_token q raw rest r t.shape o.closes s is
-closed q o (t ∷ ts) at r (x ∷ xs, raw, rest, b, is, s, long, n, start, end, more) = begins_blank q x r (xs ++ (raw ++ rest)) o.no_blank b.0 is
+closed q o [] at r (rest, ([], b, is), end) = absurd (no_comment q r o.no_minus (subst IsEnd (sym is) end))
+closed q o [] at r (rest, (x ∷ xs, b, is), end) = begins_blank q x r (xs ++ rest) o.no_blank b.0 is
+closed q o (t ∷ ts) at r (rest, ([], raw, more, b, is, s, long, n, start, end, go), e) = closed_token q raw more r t.shape o.closes s is
+closed q o (t ∷ ts) at r (rest, (x ∷ xs, raw, more, b, is, s, long, n, start, end, go), e) = begins_blank q x r (xs ++ (raw ++ more)) o.no_blank b.0 is
 
 cond_append : (v : Bool) (x y r : List ℕ) → cond v x y ++ r ≡ cond v (x ++ r) (y ++ r)
 cond_append true x y r = refl
@@ -171,9 +172,9 @@ stops (number d) raw rest s long n ts at h = number_stops d raw rest s long n
 stops (mark m) raw rest s long n ts at h = mark_stops m raw rest s long n
 
 pub cuts_of_lexes : (ts : List Lexeme) (at : ℕ) (text : List ℕ) → Lexes at text ts → Cuts at text ts
-cuts_of_lexes [] at text h = h
-cuts_of_lexes (t ∷ ts) at text (blanks, raw, rest, b, is, s, long, n, start, end, more) =
-    (blanks, raw, rest, b, is, s, stops t.shape raw rest s long n ts t.end more, start, end, cuts_of_lexes ts t.end rest more)
+cuts_of_lexes [] at text (rest, (blanks, b, is), end) = (blanks, rest, b, is, end)
+cuts_of_lexes (t ∷ ts) at text (rest, (blanks, raw, more, b, is, s, long, n, start, end, go), e) =
+    (blanks, raw, more, b, is, s, stops t.shape raw more s long n ts t.end (rest, go, e), start, end, cuts_of_lexes ts t.end more (rest, go, e))
 
 -- ---- the list that is cut is the list of longest tokens
 

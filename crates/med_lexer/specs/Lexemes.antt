@@ -111,12 +111,17 @@ pub record Lexeme : Type 0 where
   pub start : ℕ
   pub end : ℕ
 
+-- The text, whose first byte is at the place `at`, begins with these tokens, each behind some blanks, and with some blanks behind the
+-- last. `rest` is what follows.
+abbrev pub Begins : ℕ → List ℕ → List Lexeme → List ℕ → Type 0
+Begins at text [] rest = (blanks : List ℕ) × Every is_blank blanks × (text ≡ blanks ++ rest)
+Begins at text (t ∷ ts) rest =
+    (blanks raw more : List ℕ) × Every is_blank blanks × (text ≡ blanks ++ (raw ++ more)) × Spells t.shape raw × IsLongest raw more
+    × MayPrecede t.shape more × (t.start ≡ at + length blanks) × (t.end ≡ t.start + length raw) × Begins t.end more ts rest
+
 -- The text, whose first byte is at the place `at`, has these tokens.
 abbrev pub Lexes : ℕ → List ℕ → List Lexeme → Type 0
-Lexes at text [] = (blanks rest : List ℕ) × Every is_blank blanks × (text ≡ blanks ++ rest) × IsEnd rest
-Lexes at text (t ∷ ts) =
-    (blanks raw rest : List ℕ) × Every is_blank blanks × (text ≡ blanks ++ (raw ++ rest)) × Spells t.shape raw × IsLongest raw rest
-    × MayPrecede t.shape rest × (t.start ≡ at + length blanks) × (t.end ≡ t.start + length raw) × Lexes t.end rest ts
+Lexes at text ts = (rest : List ℕ) × Begins at text ts rest × IsEnd rest
 
 -- In the text the bytes of the token spell it, and no longer run of bytes from its start spells a token.
 pub record IsLongestAt (text : List ℕ) (t : Lexeme) : Type 0 where

@@ -2,7 +2,7 @@ use Rattle.std.proofs.Common.{sym, ap, ◌∙◌, subst, rules, arith}
 use Rattle.std.proofs.lemmas.Result.{err_from_is_err_and}
 use Rattle.med_lexer.specs.Steps.{next_of}
 use Rattle.med_lexer.specs.View.{views, shape_of}
-use Rattle.med_lexer.proofs.Exact.{next_shorter, blank_shorter}
+use Rattle.med_lexer.proofs.Tells.{next_shorter, blank_shorter}
 use Rattle.med_lexer.proofs.CutLoop.{CutLoop, cut_done, cut_blank, cut_token, cut_failed, views_push}
 use Rattle.med_lexer.proofs.cut.cut.Goals as goal
 
