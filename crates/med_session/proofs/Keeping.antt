@@ -1,5 +1,5 @@
 -- A whole scan leaves an engine sound, and in agreement with the same worlds.
-use Rattle.std.proofs.Common.{◌≡◌, ◌≢◌, ℕ, ◌≤◌, ◌<◌, ◌⊎◌, Bool, true, false, List, [], ◌∷◌, Option, Some, None, IsSome, All, slice_get, slice_set, length, map, refl, ap, sym, ◌∙◌, subst, zero, suc, IsPermutation}
+use Rattle.std.proofs.Common.{◌≡◌, ◌≢◌, ℕ, ◌≤◌, ◌<◌, ◌⊎◌, Bool, true, false, List, [], ◌∷◌, Option, Some, None, IsSome, All, slice_get, slice_set, slice_index_or, length, map, refl, ap, sym, ◌∙◌, subst, zero, suc, IsPermutation}
 use Rattle.med_value.specs.Datum.{Tuple}
 use Rattle.fdw_api.specs.Scan.{TableRow}
 use Rattle.fdw_api.specs.State.{BoxState, Bound, is_honest, scan_of, table_of}
@@ -30,7 +30,10 @@ honest_kept : (b c : BoxState) → Keeps b c → is_honest b → is_honest c
 honest_kept b c k h = ap (λ n. n.honest) k.nature ∙ h
 
 bound_kept : (old new : List (Option BoxState)) (tables : List Attached) → Onward Keeps old new → All (λ a. HasTable old a.source a.number) tables → All (λ a. HasTable new a.source a.number) tables
-bound_kept old new tables on h = ?
+bound_kept old new tables on h k d lt =
+    let t = h k d lt in
+    let now = on (slice_index_or tables k d).source t.box t.there in
+    record { box = now.0; there = now.1; holds = subst (λ (f : ℕ → Option Bound). IsSome (f (slice_index_or tables k d).number)) (sym now.2.tables) t.holds }
 
 attached_kept : (old new : List (Option BoxState)) (tables : List Attached) → Backward Keeps old new → BoundAreAttached old tables → BoundAreAttached new tables
 attached_kept old new tables back h slot c t bound at is =
@@ -66,8 +69,8 @@ sources_kept (l ∷ ls) (x ∷ xs) zero b c at e =
     ap (λ (s : SourceState). record { name = l.name; kind = l.kind; state = s } ∷ sources_of ls xs) (e ∙ sym (ap state_of x_is))
 sources_kept (l ∷ ls) (x ∷ xs) (suc slot) b c at e = ap (λ (ss : List Source). record { name = l.name; kind = l.kind; state = state_of x } ∷ ss) (sources_kept ls xs slot b c at e)
 
-table_kept : (e : Shown) (new : List (Option BoxState)) (a : Attached) (t : ForeignTable) → EachBox is_honest e.boxes → Onward Keeps e.boxes new → TableAgrees e a t → TableAgrees (with_boxes e new) a t
-table_kept e new a t honest on h =
+table_kept : (labels : List Label) (old new : List (Option BoxState)) (a : Attached) (t : ForeignTable) → EachBox is_honest old → Onward Keeps old new → TableAgrees labels old a t → TableAgrees labels new a t
+table_kept labels old new a t honest on h =
     let now = on a.source h.rows.box h.rows.there in
     record {
       name = h.name;
@@ -81,11 +84,11 @@ table_kept e new a t honest on h =
       };
     }
 
-tables_kept : (e : Shown) (new : List (Option BoxState)) → EachBox is_honest e.boxes → Onward Keeps e.boxes new → (rest : List Attached) (ts : List ForeignTable) → TablesAgree e rest ts → TablesAgree (with_boxes e new) rest ts
-tables_kept e new honest on [] [] h = tt
-tables_kept e new honest on [] (t ∷ ts) h = h
-tables_kept e new honest on (a ∷ rest) [] h = h
-tables_kept e new honest on (a ∷ rest) (t ∷ ts) h = (table_kept e new a t honest on h.0, tables_kept e new honest on rest ts h.1)
+tables_kept : (labels : List Label) (old new : List (Option BoxState)) → EachBox is_honest old → Onward Keeps old new → (rest : List Attached) (ts : List ForeignTable) → TablesAgree labels old rest ts → TablesAgree labels new rest ts
+tables_kept labels old new honest on [] [] h = tt
+tables_kept labels old new honest on [] (t ∷ ts) h = h
+tables_kept labels old new honest on (a ∷ rest) [] h = h
+tables_kept labels old new honest on (a ∷ rest) (t ∷ ts) h = (table_kept labels old new a t honest on h.0, tables_kept labels old new honest on rest ts h.1)
 
 pub agrees_kept : (Q : BoxState → BoxState → Type 0) (e : Shown) (new : List (Option BoxState)) (slot : ℕ) → ((b c : BoxState) → Q b c → Keeps b c) → ChangesAt e.boxes slot Q new → (w : World) → Agrees e w → Agrees (with_boxes e new) w
 agrees_kept Q e new slot keeps change w h =
@@ -95,7 +98,7 @@ agrees_kept Q e new slot keeps change w h =
       honest = each_kept is_honest e.boxes new honest_kept back h.honest;
       sources = h.sources ∙ sym (ap (sources_of e.labels) change.slots
         ∙ sources_kept e.labels e.boxes slot change.before change.after change.there (state_kept change.before change.after (h.honest slot change.before change.there) (keeps change.before change.after change.change)));
-      tables = tables_kept e new h.honest on e.tables w.tables h.tables;
+      tables = tables_kept e.labels e.boxes new h.honest on e.tables w.tables h.tables;
       sessions = h.sessions;
       at_rest = each_kept IsAtRest e.boxes new rest_kept back h.at_rest;
     }

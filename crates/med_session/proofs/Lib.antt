@@ -1,4 +1,9 @@
 pub mod Told
 pub mod Boxes
 pub mod Keeping
+pub mod Finding
 pub mod Leading
+pub mod Querying
+pub mod Selections
+pub mod Telling
+pub mod Beginning

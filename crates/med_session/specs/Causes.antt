@@ -1,5 +1,6 @@
 -- The causes of refusal that stand for a request in a world: a set of causes, with no order of checks.
-use Rattle.std.specs.Prelude.{◌≡◌, ◌<◌, ◌≤◌, ◌⊎◌, ℕ, List, Option, Some, None, Any, Contains, unwrap_or}
+use Rattle.std.specs.Prelude.{◌≡◌, ◌<◌, ◌≤◌, ◌⊎◌, ℕ, false, List, Option, Some, None, unwrap_or}
+use Rattle.std.specs.List.{list_all}
 use Rattle.med_value.specs.Causes.{phase_of}
 use Rattle.med_value.specs.declared.cause.Cause.{Cause}
 use Rattle.med_value.specs.declared.cause.Cause.TheVariants.{Protocol, NoConnection, UndefinedTable, UndefinedColumn}
@@ -7,7 +8,7 @@ use Rattle.med_parser.specs.Tree.{Tree, select}
 use Rattle.med_parser.specs.Grammar.{HasTree}
 use Rattle.med_parser.specs.Causes.{SyntaxCauses}
 use Rattle.med_session.specs.Requests.{Asked, opening, sql, bye, IsUser}
-use Rattle.med_session.specs.World.{World, ForeignTable, IsOpen, table_named, column_names}
+use Rattle.med_session.specs.World.{World, ForeignTable, IsOpen, table_named, has_column}
 
 -- Phase 1, the frame. 08P01: OPEN of a session that is open, or with a user who is none by the protocol.
 -- 08003: a statement or BYE of a session that is not open.
@@ -20,7 +21,7 @@ FrameCauses w sid bye c = (c ≡ NoConnection) × (IsOpen w sid → ⊥)
 abbrev pub NameCauses : World → Tree → Cause → Type 0
 NameCauses w (select columns table) c =
     ((c ≡ UndefinedTable) × (table_named table w.tables ≡ None))
-    ⊎ ((c ≡ UndefinedColumn) × ((t : ForeignTable) × (table_named table w.tables ≡ Some t) × Any (λ name. Contains (column_names t.columns) name → ⊥) columns))
+    ⊎ ((c ≡ UndefinedColumn) × ((t : ForeignTable) × (table_named table w.tables ≡ Some t) × (list_all (has_column t.columns) columns ≡ false)))
 
 -- Of a statement: phase 2, its syntax, and what the tree that its text has shows.
 abbrev pub StatementCauses : World → Asked → Cause → Type 0

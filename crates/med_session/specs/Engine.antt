@@ -1,5 +1,5 @@
 -- What an engine shows, when its calls may be made, and when a world agrees with it.
-use Rattle.std.specs.Prelude.{◌≡◌, ◌<◌, ◌≤◌, ◌+◌, ◌-◌, ◌^◌, ◌⊎◌, ℕ, Bool, true, false, List, [], ◌∷◌, map, length, Option, Some, None, IsSome, option_map, slice_get, All, IsPermutation, find, bytes_eq, string_bytes}
+use Rattle.std.specs.Prelude.{◌≡◌, ◌<◌, ◌≤◌, ◌+◌, ◌-◌, ◌^◌, ◌⊎◌, ℕ, Bool, true, false, List, [], ◌∷◌, map, length, Option, Some, None, IsSome, option_map, min, slice_get, All, IsPermutation, find, bytes_eq, string_bytes}
 use Rattle.std.specs.List.{IsDistinct}
 use Rattle.med_value.specs.Datum.{Tuple}
 use Rattle.fdw_api.specs.Kinds.{Column, column_of, Holding, Known, Kind}
@@ -116,24 +116,24 @@ abbrev pub IsNamedAt : List Label → ℕ → List ℕ → Type 0
 IsNamedAt labels place name = (l : Label) × (slice_get labels place ≡ Some l) × (l.name ≡ name)
 
 -- the table is the attached one, with the rows that its box shows, in any order
-pub record TableAgrees (e : Shown) (a : Attached) (t : ForeignTable) : Type 0 where
+pub record TableAgrees (labels : List Label) (boxes : List (Option BoxState)) (a : Attached) (t : ForeignTable) : Type 0 where
   pub name : t.name ≡ a.name
-  pub source : IsNamedAt e.labels a.source t.source
+  pub source : IsNamedAt labels a.source t.source
   pub remote : t.remote ≡ a.remote
   pub columns : t.columns ≡ a.columns
-  pub rows : BoxAt e.boxes a.source (λ s. IsPermutation (tuples_of s a.number) t.rows)
+  pub rows : BoxAt boxes a.source (λ s. IsPermutation (tuples_of s a.number) t.rows)
 
-abbrev pub TablesAgree : Shown → List Attached → List ForeignTable → Type 0
-TablesAgree e [] [] = Unit {0}
-TablesAgree e (a ∷ rest) (t ∷ ts) = TableAgrees e a t × TablesAgree e rest ts
-TablesAgree e [] (t ∷ ts) = ⊥
-TablesAgree e (a ∷ rest) [] = ⊥
+abbrev pub TablesAgree : List Label → List (Option BoxState) → List Attached → List ForeignTable → Type 0
+TablesAgree labels boxes [] [] = Unit {0}
+TablesAgree labels boxes (a ∷ rest) (t ∷ ts) = TableAgrees labels boxes a t × TablesAgree labels boxes rest ts
+TablesAgree labels boxes [] (t ∷ ts) = ⊥
+TablesAgree labels boxes (a ∷ rest) [] = ⊥
 
 -- An engine stands for a world. Its boxes are honest, since of no other box the rows are known. No scan is live and nothing is staged.
 pub record Agrees (e : Shown) (w : World) : Type 0 where
   pub honest : EachBox is_honest e.boxes
   pub sources : w.sources ≡ sources_of e.labels e.boxes
-  pub tables : TablesAgree e e.tables w.tables
+  pub tables : TablesAgree e.labels e.boxes e.tables w.tables
   pub sessions : (sid : ℕ) → IsSid sid → w.sessions sid ≡ user_of e.users sid
   pub at_rest : EachBox IsAtRest e.boxes
 
@@ -146,13 +146,13 @@ pub record BoxBecomes (old new : List (Option BoxState)) (P : BoxState → BoxSt
   pub is : slice_get new slot ≡ Some (Some after)
   pub holds : P before after
 
--- a source's fault was counted, or the count stood at its end
+-- a source's fault was counted, or the count stands at its end
 abbrev pub HasFailed : BoxState → BoxState → Type 0
-HasFailed old new = (old.ledger.faults < new.ledger.faults) ⊎ (new.ledger.faults ≡ 2 ^ 64 - 1)
+HasFailed old new = (old.ledger.faults < new.ledger.faults) ⊎ (2 ^ 64 - 1 ≤ new.ledger.faults)
 
--- the box has given all its ticket numbers
+-- the box has given all its ticket numbers, which end before 2^64 - 1
 abbrev pub IsUsedUp : BoxState → BoxState → Type 0
-IsUsedUp old new = new.ledger.next ≡ 2 ^ 64 - 1
+IsUsedUp old new = 2 ^ 64 - 1 ≤ new.ledger.next
 
 -- What trouble may be told of a request between these states: that a source failed or that numbers are used up only where a box shows
 -- it. Whether memory was refused, no box shows.
@@ -160,16 +160,21 @@ pub record Befell (old new : List (Option BoxState)) (t : Trouble) : Type 0 wher
   pub source : t.source ≡ true → BoxBecomes old new HasFailed
   pub numbers : t.numbers ≡ true → BoxBecomes old new IsUsedUp
 
--- the counts of a box go up alone
+-- a box keeps its nature, and what it counts goes up alone, faults to 2^64 - 1
 pub record Rises (old new : BoxState) : Type 0 where
   pub nature : new.nature ≡ old.nature
   pub next : old.ledger.next ≤ new.ledger.next
-  pub faults : old.ledger.faults ≤ new.ledger.faults
+  pub faults : min old.ledger.faults (2 ^ 64 - 1) ≤ new.ledger.faults
+
+abbrev pub EachRises : List (Option BoxState) → List (Option BoxState) → Type 0
+EachRises old new =
+    (slot : ℕ) (s : BoxState) → slice_get old slot ≡ Some (Some s) → (t : BoxState) × (slice_get new slot ≡ Some (Some t)) × Rises s t
 
 -- The request is answered by this reply: from each world that agrees before, a step leads to it and to a world that agrees after.
 pub record Leads (old : Shown) (sid : ℕ) (request : Asked) (reply : Reply) (new : Shown) : Type 0 where
   pub trouble : Trouble
   pub befell : Befell old.boxes new.boxes trouble
+  pub rises : EachRises old.boxes new.boxes
   pub step : (w : World) → Agrees old w → (after : World) × Step w sid request trouble reply after × Agrees new after
 
 -- The request is answered by the bytes of a reply.

@@ -1,5 +1,6 @@
 -- The world of the SQL meaning: sources, foreign tables as lists of rows, and open sessions. No box, scan or memory is in it.
-use Rattle.std.specs.Prelude.{ℕ, List, [], Option, None, IsSome, find, bytes_eq, map}
+use Rattle.std.specs.Prelude.{ℕ, Bool, List, [], Option, None, IsSome, find, bytes_eq, map}
+use Rattle.std.specs.List.{list_any}
 use Rattle.med_value.specs.Datum.{Tuple}
 use Rattle.fdw_api.specs.Kinds.{Kind, Column, Holding}
 use Rattle.med_session.specs.declared.sources.SourceKind.{SourceKind}
@@ -36,6 +37,10 @@ IsOpen w sid = IsSome (w.sessions sid)
 -- the table of this name
 abbrev pub table_named : List ℕ → List ForeignTable → Option ForeignTable
 table_named name tables = find (λ (t : ForeignTable). bytes_eq t.name name) tables
+
+-- some column has this name
+abbrev pub has_column : List Column → List ℕ → Bool
+has_column columns name = list_any (λ (c : Column). bytes_eq c.name name) columns
 
 abbrev pub column_names : List Column → List (List ℕ)
 column_names columns = map (λ (c : Column). c.name) columns

@@ -1,20 +1,18 @@
 //! The engine.
-ghost use Rattle.std.specs.Prelude.{◌≡◌, None, map, option_map, replicate, string_bytes, IfOk, IfErr, IsErrOf};
+ghost use Rattle.std.specs.Prelude.{◌≡◌, ◌++◌, ℕ, List, IfOk, IfErr, OnOk, OnErr, IsErrOf};
 
 use fdw_api::interface::Wrapper;
-use med_parser::{Statement, parse};
-use med_value::{Cause, NoMemory};
+use med_parser::{one_tree, parse};
+use med_value::Cause;
 use std::alloc::Global;
 use thiserror::Error;
 
+use crate::places::{close_all, closed_sessions, is_open, set_user};
 use crate::replies::{Outcome, write_reply};
-use crate::select::run_select;
+use crate::select::{query_of, run_select};
 use crate::session::{NoRoom, Request, Sid};
 use crate::sources::{AttachedTable, NamedSource};
 use crate::users::is_user;
-
-/// How many sessions there are.
-const SESSIONS: usize = 64;
 
 /// The room in the output that is taken before a request is begun.
 const ROOM: usize = 128;
@@ -40,21 +38,11 @@ pub enum NewFault {
     BadName,
 }
 
-// The places of the sessions, all closed.
-fn closed_sessions(alloc: Global) -> Result<Vec<Option<String>>, NoMemory>
-    ensures { IfOk result (λ users. map (option_map string_bytes) users.items ≡ replicate 64 None) }
-{
-    let mut users = Vec::new(alloc);
-    for _ in 0..SESSIONS {
-        users.push(None)?;
-    }
-    Ok(users)
-}
-
 impl<W: Wrapper> Engine<W> {
-    ghost use Rattle.med_session.specs.Requests.{IsUser};
+    ghost use Rattle.med_session.specs.Requests.{IsUser, asked, opening, sql, bye};
     ghost use Rattle.med_session.specs.World.{empty_world};
-    ghost use Rattle.med_session.specs.Engine.{shown, IsSound, Agrees};
+    ghost use Rattle.med_session.specs.Outcomes.{reply_of};
+    ghost use Rattle.med_session.specs.Engine.{shown, IsSound, Agrees, Leads, IsAnswered};
 
     /// An engine with no source and no table, and every session closed.
     ///
@@ -83,5 +71,88 @@ impl<W: Wrapper> Engine<W> {
             tables: Vec::new(alloc),
             users,
         })
+    }
+
+    /// Answers one request of a session: the reply is put behind what `out` has.
+    ///
+    /// `NoRoom` where room for 128 bytes is refused before the request is begun. Then nothing was done. Where a later growth is refused,
+    /// the reply is 53200, for which that room is enough.
+    pub fn request(&mut self, alloc: Global, sid: Sid, request: Request<'_>, out: &mut Vec<u8>) -> Result<(), NoRoom>
+        requires { IsSound (shown W.meaning self.old) }
+        ensures sound { IsSound (shown W.meaning self.new) }
+        ensures answered { OnOk result ((text : List ℕ) × (out.new.items ≡ out.old.items ++ text)
+            × IsAnswered (shown W.meaning self.old) sid.number (asked request.entry) text (shown W.meaning self.new)) }
+        ensures no_room { OnErr result ((self.new ≡ self.old) × (out.new.items ≡ out.old.items)) }
+    {
+        if out.reserve(ROOM).is_err() {
+            return Err(NoRoom);
+        }
+        let outcome = self.answer(alloc, sid, request);
+        write_reply(alloc, sid.number, &outcome, out);
+        Ok(())
+    }
+
+    // Does a request.
+    fn answer(&mut self, alloc: Global, sid: Sid, request: Request<'_>) -> Outcome
+        requires { IsSound (shown W.meaning self.old) }
+        ensures sound { IsSound (shown W.meaning self.new) }
+        ensures leads { Leads (shown W.meaning self.old) sid.number (asked request.entry) (reply_of result) (shown W.meaning self.new) }
+    {
+        match request {
+            Request::Open(user) => self.open(alloc, sid, user),
+            Request::Sql(text) => self.statement(alloc, sid, text),
+            Request::Bye => self.bye(sid),
+        }
+    }
+
+    // Opens a session.
+    fn open(&mut self, alloc: Global, sid: Sid, user: &str) -> Outcome
+        requires { IsSound (shown W.meaning self.old) }
+        ensures sound { IsSound (shown W.meaning self.new) }
+        ensures leads { Leads (shown W.meaning self.old) sid.number (opening user.now) (reply_of result) (shown W.meaning self.new) }
+    {
+        if is_open(&self.users, sid) || !is_user(user) {
+            return Outcome::Refused(Cause::Protocol);
+        }
+        match String::from_str(alloc, user) {
+            Ok(name) => {
+                set_user(&mut self.users, sid, Some(name));
+                Outcome::Opened
+            }
+            Err(_) => Outcome::Refused(Cause::OutOfMemory),
+        }
+    }
+
+    // Closes a session.
+    fn bye(&mut self, sid: Sid) -> Outcome
+        requires { IsSound (shown W.meaning self.old) }
+        ensures sound { IsSound (shown W.meaning self.new) }
+        ensures leads { Leads (shown W.meaning self.old) sid.number bye (reply_of result) (shown W.meaning self.new) }
+    {
+        if !is_open(&self.users, sid) {
+            return Outcome::Refused(Cause::NoConnection);
+        }
+        set_user(&mut self.users, sid, None);
+        Outcome::Closed
+    }
+
+    // Does a statement.
+    fn statement(&mut self, alloc: Global, sid: Sid, text: &str) -> Outcome
+        requires { IsSound (shown W.meaning self.old) }
+        ensures sound { IsSound (shown W.meaning self.new) }
+        ensures leads { Leads (shown W.meaning self.old) sid.number (sql text.now) (reply_of result) (shown W.meaning self.new) }
+    {
+        if !is_open(&self.users, sid) {
+            return Outcome::Refused(Cause::NoConnection);
+        }
+        one_tree();
+        let statement = match parse(alloc, text) {
+            Ok(statement) => statement,
+            Err(cause) => return Outcome::Refused(cause),
+        };
+        match run_select(&mut self.slots, &self.tables, alloc, query_of(statement)) {
+            Ok(set) => Outcome::Rows(set),
+            Err(cause) => Outcome::Refused(cause),
+        }
     }
 }

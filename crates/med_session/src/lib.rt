@@ -2,6 +2,7 @@
 #![tactic(auto)]
 
 pub mod engine;
+mod places;
 mod replies;
 mod select;
 pub mod session;

@@ -11,14 +11,14 @@ use med_value::{Cause, NoMemory, Row};
 use std::alloc::Global;
 
 /// The rows that a query gives, under its output names.
-#[derive(Debug, Drop)]
+#[derive(Drop)]
 pub struct RowSet {
     pub names: Vec<String>,
     pub rows: Vec<Row>,
 }
 
 /// What a request is answered with.
-#[derive(Debug, Drop)]
+#[derive(Drop)]
 pub enum Outcome {
     /// The session was opened.
     Opened,
@@ -152,12 +152,13 @@ fn write_answer(alloc: Global, sid: u8, set: &RowSet, out: &mut Vec<u8>)
     requires { vec_len out.old + 128 ≤ vec_capacity out.old }
     ensures { Tells sid (answered (map string_bytes set.now.names.items) (map tuple set.now.rows.items)) out.old.items out.new.items }
 {
-    if let Ok(text) = answer_text(alloc, sid, set) {
-        if out.extend_from_slice(&text).is_ok() {
-            return;
-        }
+    match answer_text(alloc, sid, set) {
+        Ok(text) => match out.extend_from_slice(&text) {
+            Ok(()) => {}
+            Err(_) => write_refusal(sid, Cause::OutOfMemory, out),
+        },
+        Err(NoMemory) => write_refusal(sid, Cause::OutOfMemory, out),
     }
-    write_refusal(sid, Cause::OutOfMemory, out)
 }
 
 /// Writes a reply whole behind what `out` has: that of the outcome, or 53200 in place of rows for which memory was refused.

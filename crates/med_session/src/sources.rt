@@ -17,14 +17,14 @@ pub enum SourceKind {
 }
 
 /// A source that was added. Its box is in the slot of the same place.
-#[derive(Debug, Drop)]
+#[derive(Drop)]
 pub struct NamedSource {
     pub name: String,
     pub kind: SourceKind,
 }
 
 /// A foreign table that was attached: the place of its source, and its number in the source's box.
-#[derive(Debug, Drop)]
+#[derive(Drop)]
 pub struct AttachedTable {
     pub name: String,
     pub columns: Vec<ColumnDef>,
