@@ -9,3 +9,4 @@ mod words;
 
 pub use parser::{one_tree, parse};
 pub use statement::{Select, Statement};
+pub use words::is_reserved;

@@ -77,7 +77,7 @@ impl<W: Wrapper> Engine<W> {
     ///
     /// `NoRoom` where room for 128 bytes is refused before the request is begun. Then nothing was done. Where a later growth is refused,
     /// the reply is 53200, for which that room is enough.
-    pub fn request(&mut self, alloc: Global, sid: Sid, request: Request<'_>, out: &mut Vec<u8>) -> Result<(), NoRoom>
+    pub fn request(&mut self, sid: Sid, request: Request<'_>, out: &mut Vec<u8>) -> Result<(), NoRoom>
         requires { IsSound (shown W.meaning self.old) }
         ensures sound { IsSound (shown W.meaning self.new) }
         ensures answered { OnOk result ((text : List ℕ) × (out.new.items ≡ out.old.items ++ text)
@@ -87,26 +87,26 @@ impl<W: Wrapper> Engine<W> {
         if out.reserve(ROOM).is_err() {
             return Err(NoRoom);
         }
-        let outcome = self.answer(alloc, sid, request);
-        write_reply(alloc, sid.number, &outcome, out);
+        let outcome = self.answer(sid, request);
+        write_reply(*self.users.allocator(), sid.number, &outcome, out);
         Ok(())
     }
 
     // Does a request.
-    fn answer(&mut self, alloc: Global, sid: Sid, request: Request<'_>) -> Outcome
+    fn answer(&mut self, sid: Sid, request: Request<'_>) -> Outcome
         requires { IsSound (shown W.meaning self.old) }
         ensures sound { IsSound (shown W.meaning self.new) }
         ensures leads { Leads (shown W.meaning self.old) sid.number (asked request.entry) (reply_of result) (shown W.meaning self.new) }
     {
         match request {
-            Request::Open(user) => self.open(alloc, sid, user),
-            Request::Sql(text) => self.statement(alloc, sid, text),
+            Request::Open(user) => self.open(sid, user),
+            Request::Sql(text) => self.statement(sid, text),
             Request::Bye => self.bye(sid),
         }
     }
 
     // Opens a session.
-    fn open(&mut self, alloc: Global, sid: Sid, user: &str) -> Outcome
+    fn open(&mut self, sid: Sid, user: &str) -> Outcome
         requires { IsSound (shown W.meaning self.old) }
         ensures sound { IsSound (shown W.meaning self.new) }
         ensures leads { Leads (shown W.meaning self.old) sid.number (opening user.now) (reply_of result) (shown W.meaning self.new) }
@@ -114,7 +114,7 @@ impl<W: Wrapper> Engine<W> {
         if is_open(&self.users, sid) || !is_user(user) {
             return Outcome::Refused(Cause::Protocol);
         }
-        match String::from_str(alloc, user) {
+        match String::from_str(*self.users.allocator(), user) {
             Ok(name) => {
                 set_user(&mut self.users, sid, Some(name));
                 Outcome::Opened
@@ -137,7 +137,7 @@ impl<W: Wrapper> Engine<W> {
     }
 
     // Does a statement.
-    fn statement(&mut self, alloc: Global, sid: Sid, text: &str) -> Outcome
+    fn statement(&mut self, sid: Sid, text: &str) -> Outcome
         requires { IsSound (shown W.meaning self.old) }
         ensures sound { IsSound (shown W.meaning self.new) }
         ensures leads { Leads (shown W.meaning self.old) sid.number (sql text.now) (reply_of result) (shown W.meaning self.new) }
@@ -145,6 +145,7 @@ impl<W: Wrapper> Engine<W> {
         if !is_open(&self.users, sid) {
             return Outcome::Refused(Cause::NoConnection);
         }
+        let alloc = *self.users.allocator();
         one_tree();
         let statement = match parse(alloc, text) {
             Ok(statement) => statement,

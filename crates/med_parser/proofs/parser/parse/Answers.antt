@@ -12,6 +12,11 @@ use Rattle.med_parser.proofs.parser.parse.Goals as goal
 abbrev HasLong : List Token → Type 0
 HasLong = Any (λ (t : Token). IsLongName (shape_of t.kind))
 
+pub returns-in_err-tokens-clause-refused : goal.returns-in_err-tokens-clause-refused
+returns-in_err-tokens-clause-refused c =
+    let p = err_from_is_err_and c.from_residual.result c.from_residual.ensures.1 in
+    told_refused c.args.text.now c.in_err-tokens.field-0.0 c.from_residual.result (lexed_told Global c.args.text.now c.in_err-tokens.field-0.0 c.in_err-tokens.ensures) (cc)
+
 pub returns-in_err-tokens-clause-read : goal.returns-in_err-tokens-clause-read
 returns-in_err-tokens-clause-read c =
     let p = err_from_is_err_and c.from_residual.result c.from_residual.ensures.1 in
