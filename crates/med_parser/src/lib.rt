@@ -1,4 +1,4 @@
-//! Parses one statement of the profile of SQL.
+//! Parses a line of this profile of SQL: `SELECT name {, name} FROM name [;]`, until further forms come.
 #![tactic(auto)]
 
 mod fault;
@@ -9,3 +9,6 @@ mod words;
 
 pub use parser::{one_tree, parse};
 pub use statement::{Select, Statement};
+
+#[cfg(test)]
+mod tests;
