@@ -1,4 +1,4 @@
--- For which causes of the phase of syntax a text may be refused.
+-- The causes of the phase of syntax, and the texts for which each stands.
 use Rattle.std.specs.Prelude.{◌≡◌, ℕ, ◌<◌, Bool, true, false, List, [], ◌∷◌, ◌++◌, length, codes, Any, count_by}
 use Rattle.std.specs.Str.{bytes_eq}
 use Rattle.std.specs.Str.Parse.{digits_value}
@@ -9,13 +9,14 @@ use Rattle.med_lexer.specs.Lexemes.{Shape, word, quoted, number, mark, Lexeme, L
 use Rattle.med_parser.specs.Tree.{Tree}
 use Rattle.med_parser.specs.Grammar.{IsStatement, shapes, HasTree}
 
--- a word or a quoted name of over 63 bytes
+-- A name has at most 63 bytes, as in PostgreSQL. An unquoted word counts as a name here.
 abbrev pub IsLongName : Shape → Type 0
 IsLongName (word w) = 63 < length w
 IsLongName (quoted q) = 63 < length q
 IsLongName _ = ⊥
 
--- The digits write a number over 2^63 - 1, behind these tokens. Directly behind a minus, where a negative number begins, 2^63 is in range.
+-- These digits, behind these tokens, write a number over 2^63 - 1. Directly behind a minus, with which they write a negative number, 2^63 is in
+-- range.
 abbrev pub IsOutOfRange : List Shape → List ℕ → Type 0
 IsOutOfRange before digits =
     (9223372036854775807 < digits_value 10 digits)
@@ -24,7 +25,7 @@ IsOutOfRange before digits =
 abbrev pub HasLargeNumber : List Shape → Type 0
 HasLargeNumber ts = (before behind : List Shape) × (digits : List ℕ) × (ts ≡ before ++ number digits ∷ behind) × IsOutOfRange before digits
 
--- the tokens by which an expression gets deeper
+-- The tokens with which an expression can get deeper without bound: ( + - * / % and the word NOT.
 abbrev pub deepens : Shape → Bool
 deepens (mark marks.LeftParen) = true
 deepens (mark marks.Plus) = true
@@ -35,10 +36,10 @@ deepens (mark marks.Percent) = true
 deepens (word w) = bytes_eq w (codes "not")
 deepens _ = false
 
--- Syntax: the text has no tree, be its names and numbers of any length.
--- NameTooLong, LiteralOutOfRange: among its tokens is a name over 63 bytes, or a number out of range.
--- TooDeep: its tokens are no statement, and over 64 of them deepen an expression.
--- No other cause is one of this phase.
+-- 42601 Syntax: the text has no tree, its names and numbers taken at any length. So it stands where the text has no tokens.
+-- 42622 NameTooLong and 22003 LiteralOutOfRange: among its tokens is a name over 63 bytes, or a number out of range.
+-- 54000 TooDeep: its tokens are not in the grammar, and over 64 of them can deepen an expression.
+-- No other cause stands for a text.
 abbrev pub SyntaxCauses : List ℕ → Cause → Type 0
 SyntaxCauses text causes.Syntax = (tree : Tree) → HasTree text tree → ⊥
 SyntaxCauses text causes.NameTooLong = (ts : List Lexeme) × Lexes 0 text ts × Any IsLongName (shapes ts)

@@ -1,4 +1,4 @@
--- The words that are no names unless they are quoted.
+-- The reserved words of this profile (SQL:2016, <reserved word>): they are names only where they are quoted.
 use Rattle.std.specs.Prelude.{ℕ, List, [], ◌∷◌, codes}
 
 -- in lower case, as tokens have them

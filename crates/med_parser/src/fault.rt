@@ -7,10 +7,12 @@ ghost use Rattle.med_parser.specs.View.{cause_of};
 use med_value::Cause;
 use std::alloc::{AllocError, AllocFailed};
 
+/// Why nothing was read.
 #[derive(Clone, Copy, Debug)]
 pub enum ParseFault {
+    /// Memory was refused.
     NoMemory,
-    /// The tokens are not in the grammar.
+    /// The text has no tokens, or its tokens are not in the grammar.
     Syntax,
 }
 

@@ -1,4 +1,4 @@
-//! Parses one statement of the profile of SQL.
+//! Parses a line of this profile of SQL: `SELECT name {, name} FROM name [;]`, until further forms come.
 #![tactic(auto)]
 
 mod fault;
@@ -10,3 +10,7 @@ mod words;
 pub use parser::{one_tree, parse};
 pub use statement::{Select, Statement};
 pub use words::is_reserved;
+
+
+#[cfg(test)]
+mod tests;

@@ -21,14 +21,11 @@ const MAX_NAME: usize = 63;
 fn behind_keyword<'a>(keyword: &str, tokens: &'a [Token]) -> Result<&'a [Token], ParseFault>
     ensures { Gives (λ r. shapes_of r.now) result (reading.behind_word keyword.now (shapes_of tokens.now)) }
 {
-    match tokens {
-        [
-            Token {
-                kind: Kind::Word(word),
-                ..
-            },
-            rest @ ..,
-        ] if word.as_str() == keyword => Ok(rest),
+    let [token, rest @ ..] = tokens else {
+        return Err(ParseFault::Syntax);
+    };
+    match &token.kind {
+        Kind::Word(word) if word.as_str() == keyword => Ok(rest),
         _ => Err(ParseFault::Syntax),
     }
 }
@@ -38,13 +35,7 @@ fn behind_comma(tokens: &[Token]) -> Option<&[Token]>
     ensures { reading.behind_comma (shapes_of tokens.now) ≡ option_map (λ r. shapes_of r.now) result }
 {
     match tokens {
-        [
-            Token {
-                kind: Kind::Mark(Mark::Comma),
-                ..
-            },
-            rest @ ..,
-        ] => Some(rest),
+        [token, rest @ ..] if matches!(&token.kind, Kind::Mark(Mark::Comma)) => Some(rest),
         _ => None,
     }
 }
@@ -54,13 +45,8 @@ fn is_end(tokens: &[Token]) -> bool
     ensures { result ≡ reading.is_end (shapes_of tokens.now) }
 {
     match tokens {
-        []
-        | [
-            Token {
-                kind: Kind::Mark(Mark::Semicolon),
-                ..
-            },
-        ] => true,
+        [] => true,
+        [token] => matches!(&token.kind, Kind::Mark(Mark::Semicolon)),
         _ => false,
     }
 }
@@ -69,21 +55,12 @@ fn is_end(tokens: &[Token]) -> bool
 fn name(tokens: &[Token]) -> Result<(String, &[Token]), ParseFault>
     ensures { Gives (λ x. (string_bytes x.0, shapes_of x.1.now)) result (reading.read_name (shapes_of tokens.now)) }
 {
-    match tokens {
-        [
-            Token {
-                kind: Kind::Word(word),
-                ..
-            },
-            rest @ ..,
-        ] if !is_reserved(word) => Ok((word.clone()?, rest)),
-        [
-            Token {
-                kind: Kind::Quoted(name),
-                ..
-            },
-            rest @ ..,
-        ] => Ok((name.clone()?, rest)),
+    let [token, rest @ ..] = tokens else {
+        return Err(ParseFault::Syntax);
+    };
+    match &token.kind {
+        Kind::Word(word) if !is_reserved(word) => Ok((word.clone()?, rest)),
+        Kind::Quoted(name) => Ok((name.clone()?, rest)),
         _ => Err(ParseFault::Syntax),
     }
 }
