@@ -1,5 +1,5 @@
 -- Requests of sessions lead to their replies.
-use Rattle.std.proofs.Common.{◌≡◌, ◌≢◌, ℕ, ◌+◌, ◌-◌, ◌<◌, ◌≤◌, ◌⊎◌, Bool, true, false, cond, List, [], ◌∷◌, ◌++◌, Option, Some, None, IsSome, is_some, slice_get, slice_set, slice_index_or, length, map, codes, refl, ap, sym, ◌∙◌, subst, arith, rules, inl, inr, eqb, zero, suc}
+use Rattle.std.proofs.Common.{◌≡◌, ◌≢◌, ℕ, ◌+◌, ◌-◌, ◌<◌, ◌≤◌, ◌⊎◌, Bool, true, false, cond, List, [], ◌∷◌, ◌++◌, Option, Some, None, IsSome, is_some, slice_get, slice_set, slice_index_or, length, map, codes, refl, ap, sym, ◌∙◌, subst, arith, rules, inl, inr, eqb, zero, suc, replicate}
 use Rattle.std.proofs.lemmas.Bool.{false≢true}
 use Rattle.std.proofs.lemmas.Bool.Decides.{eqb_tells}
 use Rattle.std.proofs.lemmas.List.{length-set}
@@ -9,12 +9,12 @@ use Rattle.med_value.specs.declared.cause.Cause.{Cause}
 use Rattle.med_value.specs.declared.cause.Cause.TheVariants.{Protocol, NoConnection, OutOfMemory}
 use Rattle.fdw_api.specs.State.{BoxState, set_at}
 use Rattle.med_session.specs.Requests.{Asked, opening, sql, bye, IsSid, IsUser}
-use Rattle.med_session.specs.World.{World, IsOpen}
+use Rattle.med_session.specs.World.{World, IsOpen, without_sessions}
 use Rattle.med_session.specs.Causes.{Stands, IsTold, NoneStands}
 use Rattle.med_session.specs.Replies.{Reply, done, answered, refused, reply_text}
 use Rattle.med_session.specs.Steps.{Trouble, TakesMemory, with_session, Does, Step, is_refused, is_done, lacks_memory, source_fails, numbers_end}
 use Rattle.med_session.specs.Outcomes.{HasRows, Tells}
-use Rattle.med_session.specs.Engine.{Shown, user_in, user_of, IsSound, Agrees, Befell, Rises, EachRises, Leads, IsAnswered}
+use Rattle.med_session.specs.Engine.{Shown, user_in, user_of, IsSound, Agrees, Closes, ClosesAll, Befell, Rises, EachRises, Leads, IsAnswered}
 use Rattle.med_session.proofs.Boxes.{set_same, set_other}
 use Rattle.med_session.proofs.Told.{told_protocol, told_bye, told_closed}
 
@@ -192,3 +192,24 @@ answers e new sid request meant old out h t = (reply_text sid t.reply, t.is, rec
     leads : (t.reply ≡ meant) ⊎ (HasRows meant × (t.reply ≡ refused OutOfMemory)) → Leads e sid request t.reply new
     leads (inl same) = subst (λ (r : Reply). Leads e sid request r new) (sym same) h
     leads (inr (has, same)) = subst (λ (r : Reply). Leads e sid request r new) (sym same) (memory_told e new sid request meant has h)
+
+-- a session, or every one, is closed
+pub closes : (e : Shown) (sid : ℕ) → IsSid sid → length e.users ≡ 64 → Closes e sid (with_users e (slice_set e.users (sid - 1) None))
+closes e sid is long = record { others = refl; world = λ w a. seats_agree e w sid None is long a }
+
+none_at : (n k : ℕ) → user_in (slice_get (replicate n None) k) ≡ None
+none_at zero k = refl
+none_at (suc n) zero = refl
+none_at (suc n) (suc k) = none_at n k
+
+pub closes_all : (e : Shown) (users : List (Option (List ℕ))) → users ≡ replicate 64 None → ClosesAll e (with_users e users)
+closes_all e users closed = record {
+  others = refl;
+  world = λ w a. record {
+    honest = a.honest;
+    sources = a.sources;
+    tables = a.tables;
+    sessions = λ sid is. sym (ap (λ (u : List (Option (List ℕ))). user_of u sid) closed ∙ none_at 64 (sid - 1));
+    at_rest = a.at_rest;
+  };
+}

@@ -7,8 +7,8 @@ use Rattle.fdw_api.specs.State.{BoxState, Bound, is_honest, table_of, scan_of}
 use Rattle.med_exec.specs.Slots.{states, BoxAt, HasTable}
 use Rattle.med_exec.specs.Scanning.{tuples_of}
 use Rattle.med_session.specs.Requests.{Asked, IsSid, IsUser}
-use Rattle.med_session.specs.World.{World, Source, SourceState, free, dropped, ForeignTable, column_names}
-use Rattle.med_session.specs.Steps.{Trouble, Step}
+use Rattle.med_session.specs.World.{World, Source, SourceState, free, dropped, ForeignTable, without_sessions}
+use Rattle.med_session.specs.Steps.{Trouble, Step, with_session}
 use Rattle.med_session.specs.Replies.{Reply, reply_text}
 use Rattle.med_session.specs.declared.sources.SourceKind.{SourceKind}
 use Rattle.med_session.specs.declared.sources.NamedSource.{NamedSource}
@@ -183,8 +183,12 @@ pub record IsAnswered (old : Shown) (sid : ℕ) (request : Asked) (text : List �
   pub is : text ≡ reply_text sid reply
   pub leads : Leads old sid request reply new
 
--- The sessions are closed, and nothing else has changed.
-pub record IsClosed (old : Shown) (sids : ℕ → Type 0) (new : Shown) : Type 0 where
+-- The session is closed, and its user is gone. Nothing else changes.
+pub record Closes (old : Shown) (sid : ℕ) (new : Shown) : Type 0 where
   pub others : new ≡ record old { users = new.users }
-  pub closed : (sid : ℕ) → IsSid sid → sids sid → user_of new.users sid ≡ None
-  pub left : (sid : ℕ) → IsSid sid → (sids sid → ⊥) → user_of new.users sid ≡ user_of old.users sid
+  pub world : (w : World) → Agrees old w → Agrees new (with_session w sid None)
+
+-- every session is
+pub record ClosesAll (old new : Shown) : Type 0 where
+  pub others : new ≡ record old { users = new.users }
+  pub world : (w : World) → Agrees old w → Agrees new (without_sessions w)

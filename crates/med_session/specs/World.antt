@@ -52,3 +52,7 @@ source_named name sources = find (λ (s : Source). bytes_eq s.name name) sources
 -- no source, no table, and every session closed
 abbrev pub empty_world : World
 empty_world = record { sources = []; tables = []; sessions = λ sid. None }
+
+-- every session closed
+abbrev pub without_sessions : World → World
+without_sessions w = record w { sessions = λ sid. None }

@@ -42,7 +42,7 @@ impl<W: Wrapper> Engine<W> {
     ghost use Rattle.med_session.specs.Requests.{IsUser, asked, opening, sql, bye};
     ghost use Rattle.med_session.specs.World.{empty_world};
     ghost use Rattle.med_session.specs.Outcomes.{reply_of};
-    ghost use Rattle.med_session.specs.Engine.{shown, IsSound, Agrees, Leads, IsAnswered};
+    ghost use Rattle.med_session.specs.Engine.{shown, IsSound, Agrees, Leads, IsAnswered, Closes, ClosesAll};
 
     /// An engine with no source and no table, and every session closed.
     ///
@@ -92,6 +92,24 @@ impl<W: Wrapper> Engine<W> {
         Ok(())
     }
 
+    /// Closes a session. It always succeeds, also where the session is closed.
+    pub fn close_session(&mut self, sid: Sid)
+        requires { IsSound (shown W.meaning self.old) }
+        ensures sound { IsSound (shown W.meaning self.new) }
+        ensures closes { Closes (shown W.meaning self.old) sid.number (shown W.meaning self.new) }
+    {
+        set_user(&mut self.users, sid, None);
+    }
+
+    /// Closes every session. It always succeeds.
+    pub fn close_sessions(&mut self)
+        requires { IsSound (shown W.meaning self.old) }
+        ensures sound { IsSound (shown W.meaning self.new) }
+        ensures closes { ClosesAll (shown W.meaning self.old) (shown W.meaning self.new) }
+    {
+        close_all(&mut self.users);
+    }
+
     // Does a request.
     fn answer(&mut self, sid: Sid, request: Request<'_>) -> Outcome
         requires { IsSound (shown W.meaning self.old) }
@@ -129,7 +147,8 @@ impl<W: Wrapper> Engine<W> {
         ensures sound { IsSound (shown W.meaning self.new) }
         ensures leads { Leads (shown W.meaning self.old) sid.number bye (reply_of result) (shown W.meaning self.new) }
     {
-        if !is_open(&self.users, sid) {
+        let was_open = is_open(&self.users, sid);
+        if !was_open {
             return Outcome::Refused(Cause::NoConnection);
         }
         set_user(&mut self.users, sid, None);

@@ -9,6 +9,9 @@ pub mod session;
 pub mod sources;
 pub mod users;
 
+#[cfg(test)]
+mod tests;
+
 pub use engine::Engine;
 pub use session::{NoRoom, Request, Sid};
 pub use sources::SourceKind;
