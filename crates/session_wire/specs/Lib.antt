@@ -4,4 +4,5 @@ pub mod Frames
 pub mod Replies
 pub mod Run
 pub mod Ends
+pub mod Engines
 pub mod Servers

@@ -3,6 +3,7 @@
 #![tactic(auto)]
 
 mod answers;
+mod engine;
 pub mod frames;
 pub mod handler;
 pub mod lines;
