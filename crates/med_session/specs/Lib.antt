@@ -1,1 +1,9 @@
 pub mod Requests
+pub mod World
+pub mod Causes
+pub mod Steps
+pub mod Replies
+pub mod Outcomes
+pub mod Engine
+pub mod Selecting
+pub mod Attaching

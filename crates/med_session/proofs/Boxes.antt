@@ -1,0 +1,109 @@
+-- A box in one slot changes, and all others stay.
+use Rattle.std.proofs.Common.{◌≡◌, ◌≢◌, ℕ, ◌⊎◌, Bool, true, false, List, [], ◌∷◌, Option, Some, None, IsSome, slice_get, slice_set, length, refl, ap, sym, ◌∙◌, subst, zero, suc, eqb, inl, inr}
+use Rattle.std.proofs.lemmas.Bool.Decides.{eqb_tells}
+use Rattle.std.proofs.lemmas.List.{length-set}
+use Rattle.fdw_api.specs.State.{BoxState, is_honest, scan_of, table_of}
+use Rattle.fdw_api.specs.Calls.{LeavesAll, Refuses}
+use Rattle.fdw_api.specs.Kinds.{Holding}
+use Rattle.fdw_api.specs.Scan.{TableRow}
+use Rattle.fdw_api.specs.declared.interface.Fault.{Fault}
+use Rattle.med_value.specs.Datum.{Tuple}
+use Rattle.med_exec.specs.Slots.{ChangesAt}
+use Rattle.med_exec.specs.Scanning.{ReadsTable, FailsTable}
+
+-- what a whole scan leaves of a box
+pub record Keeps (b c : BoxState) : Type 0 where
+  pub nature : c.nature ≡ b.nature
+  pub tables : c.ledger.tables ≡ b.ledger.tables
+  pub live : c.ledger.live ≡ b.ledger.live
+  pub staged : c.ledger.staged ≡ b.ledger.staged
+  pub rows : is_honest b → c.content.rows ≡ b.content.rows
+  pub holdings : is_honest b → c.content.holdings ≡ b.content.holdings
+
+pub keeps_itself : (b : BoxState) → Keeps b b
+keeps_itself b = record { nature = refl; tables = refl; live = refl; staged = refl; rows = λ h. refl; holdings = λ h. refl }
+
+same_rows : (b c : BoxState) → LeavesAll b c → c.content.rows ≡ b.content.rows
+same_rows b c h = λ i t. h.rows t (λ x. x) i
+
+same_holdings : (b c : BoxState) → LeavesAll b c → c.content.holdings ≡ b.content.holdings
+same_holdings b c h = λ i r. h.holdings r (λ x. x) i
+
+pub reads_keeps : (b c : BoxState) (t : ℕ) (rows : List Tuple) → ReadsTable b t rows c → Keeps b c
+reads_keeps b c t rows h = record {
+  nature = h.nature;
+  tables = ap (λ l. l.tables) h.ledger;
+  live = ap (λ l. l.live) h.ledger;
+  staged = ap (λ l. l.staged) h.ledger;
+  rows = λ honest. same_rows b c (h.leaves honest);
+  holdings = λ honest. same_holdings b c (h.leaves honest);
+}
+
+pub fails_keeps : (b c : BoxState) (fault : Fault) → FailsTable fault b c → Keeps b c
+fails_keeps b c fault h = record {
+  nature = h.nature;
+  tables = ap (λ l. l.tables) h.ledger;
+  live = ap (λ l. l.live) h.ledger;
+  staged = ap (λ l. l.staged) h.ledger;
+  rows = λ honest. same_rows b c (h.leaves honest);
+  holdings = λ honest. same_holdings b c (h.leaves honest);
+}
+
+pub refuses_keeps : (b c : BoxState) (fault : Fault) → Refuses fault b c → Keeps b c
+refuses_keeps b c fault h = record {
+  nature = h.nature;
+  tables = ap (λ l. l.tables) h.ledger;
+  live = ap (λ l. l.live) h.ledger;
+  staged = ap (λ l. l.staged) h.ledger;
+  rows = λ honest. same_rows b c (h.leaves honest);
+  holdings = λ honest. same_holdings b c (h.leaves honest);
+}
+
+pub set_same : {A : Type 0} (xs : List A) (i : ℕ) (x y : A) → slice_get xs i ≡ Some x → slice_get (slice_set xs i y) i ≡ Some y
+set_same [] i x y h = absurd cc
+set_same (z ∷ zs) zero x y h = refl
+set_same (z ∷ zs) (suc i) x y h = set_same zs i x y h
+
+pub set_other : {A : Type 0} (xs : List A) (i j : ℕ) (y : A) → j ≢ i → slice_get (slice_set xs i y) j ≡ slice_get xs j
+set_other [] i j y ne = refl
+set_other (z ∷ zs) zero zero y ne = absurd (ne refl)
+set_other (z ∷ zs) zero (suc j) y ne = refl
+set_other (z ∷ zs) (suc i) zero y ne = refl
+set_other (z ∷ zs) (suc i) (suc j) y ne = set_other zs i j y (λ e. ne (ap suc e))
+
+pub same_box : (x y : BoxState) → Some (Some x) ≡ Some (Some y) → x ≡ y
+same_box x y e = cc
+
+-- each box that was there is there, changed so
+abbrev pub Onward : (BoxState → BoxState → Type 0) → List (Option BoxState) → List (Option BoxState) → Type 0
+Onward P old new = (i : ℕ) (b : BoxState) → slice_get old i ≡ Some (Some b) → (c : BoxState) × (slice_get new i ≡ Some (Some c)) × P b c
+
+-- each box that is there was there
+abbrev pub Backward : (BoxState → BoxState → Type 0) → List (Option BoxState) → List (Option BoxState) → Type 0
+Backward P old new = (i : ℕ) (c : BoxState) → slice_get new i ≡ Some (Some c) → (b : BoxState) × (slice_get old i ≡ Some (Some b)) × P b c
+
+pub onward : (P Q : BoxState → BoxState → Type 0) (old new : List (Option BoxState)) (slot : ℕ) → ((b : BoxState) → P b b) → ((b c : BoxState) → Q b c → P b c) → ChangesAt old slot Q new → Onward P old new
+onward P Q old new slot same changed h i x at = split (eqb_tells i slot)
+  where
+    split : ((eqb i slot ≡ true) × (i ≡ slot)) ⊎ ((eqb i slot ≡ false) × (i ≢ slot)) → (z : BoxState) × (slice_get new i ≡ Some (Some z)) × P x z
+    split (inl s) =
+        let q : x ≡ h.before = same_box x h.before (sym at ∙ ap (λ (k : ℕ). slice_get old k) s.1 ∙ h.there) in
+        (h.after, ap (λ (l : List (Option BoxState)). slice_get l i) h.slots ∙ ap (λ (k : ℕ). slice_get (slice_set old slot (Some h.after)) k) s.1 ∙ set_same old slot (Some h.before) (Some h.after) h.there,
+          subst (λ (z : BoxState). P z h.after) (sym q) (changed h.before h.after h.change))
+    split (inr s) = (x, ap (λ (l : List (Option BoxState)). slice_get l i) h.slots ∙ set_other old slot i (Some h.after) s.1 ∙ at, same x)
+
+pub backward : (P Q : BoxState → BoxState → Type 0) (old new : List (Option BoxState)) (slot : ℕ) → ((b : BoxState) → P b b) → ((b c : BoxState) → Q b c → P b c) → ChangesAt old slot Q new → Backward P old new
+backward P Q old new slot same changed h i x at = split (eqb_tells i slot)
+  where
+    split : ((eqb i slot ≡ true) × (i ≡ slot)) ⊎ ((eqb i slot ≡ false) × (i ≢ slot)) → (z : BoxState) × (slice_get old i ≡ Some (Some z)) × P z x
+    split (inl s) =
+        let now : slice_get new i ≡ Some (Some h.after) = ap (λ (l : List (Option BoxState)). slice_get l i) h.slots ∙ ap (λ (k : ℕ). slice_get (slice_set old slot (Some h.after)) k) s.1 ∙ set_same old slot (Some h.before) (Some h.after) h.there in
+        let q : h.after ≡ x = same_box h.after x (sym now ∙ at) in
+        (h.before, ap (λ (k : ℕ). slice_get old k) s.1 ∙ h.there, subst (λ (z : BoxState). P h.before z) q (changed h.before h.after h.change))
+    split (inr s) = (x, sym (ap (λ (l : List (Option BoxState)). slice_get l i) h.slots ∙ set_other old slot i (Some h.after) s.1) ∙ at, same x)
+
+pub now_there : (Q : BoxState → BoxState → Type 0) (old new : List (Option BoxState)) (slot : ℕ) (h : ChangesAt old slot Q new) → slice_get new slot ≡ Some (Some h.after)
+now_there Q old new slot h = ap (λ (l : List (Option BoxState)). slice_get l slot) h.slots ∙ set_same old slot (Some h.before) (Some h.after) h.there
+
+pub as_many : (Q : BoxState → BoxState → Type 0) (old new : List (Option BoxState)) (slot : ℕ) → ChangesAt old slot Q new → length new ≡ length old
+as_many Q old new slot h = ap (λ (l : List (Option BoxState)). length l) h.slots ∙ length-set old slot (Some h.after)

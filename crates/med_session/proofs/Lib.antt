@@ -1,0 +1,4 @@
+pub mod Told
+pub mod Boxes
+pub mod Keeping
+pub mod Leading
