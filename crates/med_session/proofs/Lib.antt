@@ -7,3 +7,5 @@ pub mod Querying
 pub mod Selections
 pub mod Telling
 pub mod Beginning
+pub mod AddingLists
+pub mod AddingSources

@@ -7,3 +7,4 @@ pub mod Outcomes
 pub mod Engine
 pub mod Selecting
 pub mod Attaching
+pub mod Adding

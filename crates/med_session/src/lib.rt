@@ -1,6 +1,7 @@
 //! The engine: sessions over boxed sources.
 #![tactic(auto)]
 
+pub mod adding;
 pub mod engine;
 mod places;
 mod replies;
@@ -12,6 +13,7 @@ pub mod users;
 #[cfg(test)]
 mod tests;
 
-pub use engine::Engine;
+pub use adding::{AddFault, Sources};
+pub use engine::{Engine, NewFault};
 pub use session::{NoRoom, Request, Sid};
 pub use sources::SourceKind;
