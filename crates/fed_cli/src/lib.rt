@@ -1,6 +1,8 @@
 //! What the program is made of.
 #![tactic(auto)]
 
+pub mod demo;
 pub mod stream;
+pub mod words;
 
 pub use stream::{Ended, StreamFault, serve_stream};
