@@ -29,10 +29,9 @@ attached_push : (boxes : List (Option BoxState)) (b : BoxState) (tables : List A
 attached_push boxes b tables idle h slot s t bound at is =
     let r = push_cases boxes (Some b) slot (Some s) at in
     elim r as (λ _. (k : ℕ) × (a : Attached) × (slice_get tables k ≡ Some a) × (a.source ≡ slot) × (a.remote ≡ bound.remote)) [
-      inl old ↦ h slot s t bound old is
-    | inr new ↦ (let e : b ≡ s = cc in let none : table_of s t ≡ None = subst (λ (x : BoxState). table_of x t ≡ None) e (idle.no_table t) in absurd cc)
+      | inl old ↦ h slot s t bound old is
+      | inr new ↦ (let e : b ≡ s = cc in let none : table_of s t ≡ None = subst (λ (x : BoxState). table_of x t ≡ None) e (idle.no_table t) in absurd cc)
     ]
-
 
 labelled : (labels : List Label) (name : List ℕ) (i : ℕ) → slice_get (map (λ (l : Label). l.name) labels) i ≡ Some name → IsNamedAt labels i name
 labelled [] name i h = absurd cc
@@ -53,7 +52,7 @@ added_sound e name kind b h none room idle takes = record {
   tables_bound = bound_push e.boxes b e.tables h.tables_bound;
   bound_attached = attached_push e.boxes b e.tables idle h.bound_attached;
   source_names = subst (λ names. IsDistinct bytes_eq names) (sym (map-append (λ (l : Label). l.name) e.labels (record { name = name; kind = kind } ∷ [])))
-    (distinct_push (map (λ (l : Label). l.name) e.labels) name (λ i at. none (i, labelled e.labels name i at)) h.source_names);
+      (distinct_push (map (λ (l : Label). l.name) e.labels) name (λ i at. none (i, labelled e.labels name i at)) h.source_names);
   table_names = h.table_names;
 }
 

@@ -9,3 +9,9 @@ pub mod Telling
 pub mod Beginning
 pub mod AddingLists
 pub mod AddingSources
+pub mod AttachingWorlds
+pub mod AttachingCauses
+pub mod AttachingColumns
+pub mod AttachingTables
+pub mod AttachingPlaces
+pub mod AttachingBinds

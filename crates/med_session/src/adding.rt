@@ -5,12 +5,11 @@ ghost use Rattle.med_exec.specs.Slots.{states};
 ghost use Rattle.med_session.specs.Engine.{label, IsNamedAt};
 ghost use Rattle.med_session.specs.Adding.{HasSource};
 
+use crate::engine::Engine;
+use crate::sources::{NamedSource, SourceKind};
 use fdw_api::interface::{Counts, Wrapper};
 use med_exec::slots::ledger_at;
 use thiserror::Error;
-
-use crate::engine::Engine;
-use crate::sources::{NamedSource, SourceKind};
 
 /// How many sources an engine takes.
 const SOURCES: usize = 64;
@@ -40,7 +39,9 @@ pub(crate) fn place_of_source(sources: &[NamedSource], name: &str) -> Option<usi
     ensures found { IfSome result (λ place. IsNamedAt (map label sources.now) place name.now) }
     ensures none { IfNone result (HasSource (map label sources.now) name.now → ⊥) }
 {
-    sources.iter().position(|source| source.name.as_str() == name)
+    sources
+        .iter()
+        .position(|source| source.name.as_str() == name)
 }
 
 impl<W: Wrapper> Engine<W> {
@@ -57,7 +58,12 @@ impl<W: Wrapper> Engine<W> {
     /// `NoMemory` where memory was refused. The wrapper is handed back, and the engine is as it was.
     ///
     /// PostgreSQL: `CREATE SERVER` names such a source.
-    pub fn add_source(&mut self, name: &str, kind: SourceKind, wrapper: W) -> Result<(), (W, AddFault)>
+    pub fn add_source(
+        &mut self,
+        name: &str,
+        kind: SourceKind,
+        wrapper: W,
+    ) -> Result<(), (W, AddFault)>
         requires engine { IsSound (shown W.meaning self.old) }
         requires idle { IsIdle (W.meaning wrapper) }
         requires takes_columns { TakesColumns (W.meaning wrapper) }
@@ -78,7 +84,9 @@ impl<W: Wrapper> Engine<W> {
         let Ok(name) = String::from_str(*self.sources.allocator(), name) else {
             return Err((wrapper, AddFault::NoMemory));
         };
-        if self.slots.reserve(1).is_err() || self.sources.push(NamedSource { name, kind }).is_err() {
+        if self.slots.reserve(1).is_err()
+            || self.sources.push(NamedSource { name, kind }).is_err()
+        {
             return Err((wrapper, AddFault::NoMemory));
         }
         if self.slots.push(Some(wrapper)).is_err() {

@@ -2,6 +2,7 @@
 #![tactic(auto)]
 
 pub mod adding;
+mod attaching;
 pub mod engine;
 mod places;
 mod replies;

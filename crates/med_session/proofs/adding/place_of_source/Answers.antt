@@ -1,4 +1,4 @@
-use Rattle.std.proofs.Common.{◌≡◌, ◌≢◌, ℕ, ◌<◌, List, Option, Some, None, IfSome, IfNone, MatchOption, option_map, slice_get, slice_index_or, length, map, refl, ap, sym, ◌∙◌, arith, rules, tests, string_bytes}
+use Rattle.std.proofs.Common.{◌≡◌, ◌≢◌, ℕ, ◌<◌, List, Option, Some, None, IfSome, IfNone, MatchOption, option_map, slice_get, length, map, refl, ap, sym, ◌∙◌, arith, rules, tests, string_bytes}
 use Rattle.std.specs.List.{HoldsAt, AllWithin}
 use Rattle.std.proofs.lemmas.Iterator.{IsFirst-from_position, YieldsList-from_slice}
 use Rattle.std.proofs.lemmas.Slice.Eq.{bytes_eq-Decides}
@@ -35,7 +35,7 @@ none xs name (Some i) h = tt
 none xs name None h = λ has.
     let s = some_label (slice_get xs has.0) has.1.0 (sym (slice_get-map label xs has.0) ∙ has.1.1) in
     h has.0 s.0 (omega arith) (slice_get_within xs has.0 s.0 s.1)
-      (ap (λ (x : NamedSource). string_bytes x.name) (get_or_from_slice_get xs has.0 s.0 s.0 s.1) ∙ ap (λ (x : Label). x.name) s.2 ∙ has.1.2)
+    (ap (λ (x : NamedSource). string_bytes x.name) (get_or_from_slice_get xs has.0 s.0 s.0 s.1) ∙ ap (λ (x : Label). x.name) s.2 ∙ has.1.2)
 
 pub returns-clause-found : goal.returns-clause-found
 returns-clause-found c =
