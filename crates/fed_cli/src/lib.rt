@@ -2,6 +2,7 @@
 #![tactic(auto)]
 
 pub mod demo;
+pub mod program;
 pub mod stream;
 pub mod words;
 
