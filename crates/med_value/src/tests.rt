@@ -1,7 +1,7 @@
 use crate::{
     Cause, ColType, ColumnDef, NoMemory, Row, Value, compare_for_order, escaped_text, row_text,
 };
-use std::alloc::Global;
+use std::alloc::{AllocError, Global};
 use std::cmp::Ordering;
 use std::test::Fail;
 
@@ -101,6 +101,12 @@ fn order_of_keys(rt: HostRuntime) -> Result<(), Fail> {
     Ok(())
 }
 
+fn pushed(alloc: Global) -> Result<Vec<u8>, Cause> {
+    let mut bytes = Vec::new(alloc);
+    bytes.push(1)?;
+    Ok(bytes)
+}
+
 #[test]
 fn causes_as_told(rt: HostRuntime) {
     let cases = [
@@ -131,4 +137,7 @@ fn causes_as_told(rt: HostRuntime) {
         assert_eq!(rt; cause.code(), code, "{cause:?}");
         assert_eq!(rt; cause.name(), name, "{cause:?}");
     }
+    assert_eq!(rt; Cause::from(NoMemory), Cause::OutOfMemory);
+    assert_eq!(rt; Cause::from(AllocError), Cause::OutOfMemory);
+    assert!(rt; matches!(pushed(rt.alloc()), Ok(_) | Err(Cause::OutOfMemory)));
 }
