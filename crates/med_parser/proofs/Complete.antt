@@ -1,12 +1,12 @@
 -- What is spelled so is read so.
-use Rattle.std.proofs.Common.{◌≡◌, ℕ, zero, suc, ◌≤◌, Bool, true, false, cond, List, [], ◌∷◌, ◌++◌, length, refl, sym, ◌∙◌, ap, subst, arith, append_assoc, append-nil, length-append, ◌⊎◌, inl, inr, Contains, codes}
-use Rattle.std.specs.Prelude.{Option, Some, None}
+use Rattle.std.proofs.Common.{◌≡◌, ℕ, zero, suc, ◌≤◌, Bool, true, false, List, [], ◌∷◌, ◌++◌, length, refl, sym, ◌∙◌, ap, subst, arith, append_assoc, length-append, inl, inr, Contains, codes}
+use Rattle.std.specs.Prelude.{Some, None}
 use Rattle.med_lexer.specs.declared.Mark.TheVariants as marks
 use Rattle.med_lexer.specs.Lexemes.{Shape, word, quoted, literal, number, mark}
 use Rattle.med_parser.specs.Words.{reserved}
 use Rattle.med_parser.specs.Tree.{Name, Tree, select}
 use Rattle.med_parser.specs.Grammar.{IsName, SpellsName, SpellsOthers, SpellsList, SpellsSelect, Spells, IsEnd, IsStatement}
-use Rattle.med_parser.specs.Reading.{Parser, ◌>>=◌, is_reserved, behind_comma, name_of, read_name, others, list_of, read_select, is_end, read_line}
+use Rattle.med_parser.specs.Reading.{Parser, is_reserved, behind_comma, name_of, read_name, others, list_of, read_select, is_end, read_line}
 use Rattle.med_parser.proofs.ReservedWords.{is_reserved-Decides}
 
 -- What is spelled as x and stands before such a rest is read as x, up to the rest.

@@ -1,12 +1,11 @@
 -- The loop over the items of a list.
 use Rattle.std.proofs.Common.{◌≡◌, ℕ, zero, suc, ◌≤◌, ◌<◌, List, [], ◌∷◌, ◌++◌, length, refl, sym, ◌∙◌, ap, subst, arith, append_assoc, append-nil, length-append}
-use Rattle.std.specs.Prelude.{Result, Ok, Err, Option, Some, None, map}
+use Rattle.std.specs.Prelude.{Result, Err, Option, Some, None, map}
 use Rattle.med_lexer.specs.declared.Mark.TheVariants as marks
 use Rattle.med_lexer.specs.Lexemes.{Shape, mark}
 use Rattle.med_parser.specs.declared.fault.ParseFault.{ParseFault}
 use Rattle.med_parser.specs.declared.fault.ParseFault.TheVariants as faults
 use Rattle.med_parser.specs.Tree.{Name}
-use Rattle.med_parser.specs.Grammar.{SpellsName}
 use Rattle.med_parser.specs.Reading.{Parser, ◌>>=◌, behind_comma, read_name, others, list_of}
 use Rattle.med_parser.specs.View.{Gives}
 use Rattle.med_parser.proofs.Sound.{comma_is, name_sound}

@@ -7,10 +7,10 @@ use Rattle.std.specs.List.{slice_index_or}
 use Rattle.med_value.specs.declared.cause.Cause.{Cause}
 use Rattle.med_value.specs.declared.cause.Cause.TheVariants as causes
 use Rattle.med_lexer.specs.declared.Token.{Token}
-use Rattle.med_lexer.specs.Lexemes.{Shape, word, quoted, literal, number, mark, Lexeme, Lexes}
+use Rattle.med_lexer.specs.Lexemes.{Shape, number, Lexeme, Lexes}
 use Rattle.med_lexer.specs.View.{views, shape_of}
 use Rattle.med_parser.specs.Tree.{Name, Tree, select}
-use Rattle.med_parser.specs.Grammar.{IsName, SpellsName, SpellsOthers, SpellsList, SpellsSelect, Spells, IsEnd, IsStatement, shapes, HasTree}
+use Rattle.med_parser.specs.Grammar.{IsName, SpellsName, SpellsOthers, SpellsList, Spells, IsEnd, IsStatement, shapes, HasTree}
 use Rattle.med_parser.specs.Causes.{IsLongName, HasLargeNumber, SyntaxCauses}
 use Rattle.med_parser.specs.Reading.{read_line}
 use Rattle.med_parser.specs.declared.fault.ParseFault.{ParseFault}

@@ -1,5 +1,5 @@
 -- The test of a word against the reserved words.
-use Rattle.std.proofs.Common.{◌≡◌, ℕ, ◌<◌, Bool, true, false, List, length, Decides, Contains, Any, subst, refl}
+use Rattle.std.proofs.Common.{◌≡◌, ℕ, List, Decides, Contains, subst, refl}
 use Rattle.std.specs.List.{list_any, slice_index_or}
 use Rattle.std.specs.Str.{bytes_eq}
 use Rattle.std.proofs.lemmas.List.Folds.{Any-from_list_any, list_any-from_Any}

@@ -1,5 +1,5 @@
 -- What is read so is spelled so.
-use Rattle.std.proofs.Common.{◌≡◌, ℕ, zero, suc, ◌<◌, Bool, true, false, cond, List, [], ◌∷◌, ◌++◌, length, refl, sym, ◌∙◌, ap, subst, arith, append_assoc, inl, inr, Contains, codes}
+use Rattle.std.proofs.Common.{◌≡◌, ℕ, zero, suc, Bool, true, false, cond, List, [], ◌∷◌, ◌++◌, length, refl, sym, ◌∙◌, ap, subst, append_assoc, inl, inr, Contains, codes}
 use Rattle.std.specs.Prelude.{Option, Some, None}
 use Rattle.std.specs.Option.{option_map_or}
 use Rattle.std.specs.Str.{bytes_eq}
@@ -8,7 +8,7 @@ use Rattle.med_lexer.specs.declared.Mark.TheVariants as marks
 use Rattle.med_lexer.specs.Lexemes.{Shape, word, quoted, literal, number, mark}
 use Rattle.med_parser.specs.Words.{reserved}
 use Rattle.med_parser.specs.Tree.{Name, Tree, select}
-use Rattle.med_parser.specs.Grammar.{IsName, SpellsName, SpellsOthers, SpellsList, SpellsSelect, Spells, IsEnd, IsStatement}
+use Rattle.med_parser.specs.Grammar.{IsName, SpellsName, SpellsOthers, SpellsList, Spells, IsEnd, IsStatement}
 use Rattle.med_parser.specs.Reading.{Parser, ◌>>=◌, is_reserved, behind_word, behind_comma, name_of, read_name, others, list_of, read_select, is_end, read_line}
 use Rattle.med_parser.proofs.ReservedWords.{is_reserved-Decides}
 

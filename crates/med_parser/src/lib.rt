@@ -11,6 +11,5 @@ pub use parser::{one_tree, parse};
 pub use statement::{Select, Statement};
 pub use words::is_reserved;
 
-
 #[cfg(test)]
 mod tests;

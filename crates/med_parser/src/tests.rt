@@ -1,4 +1,4 @@
-use crate::{Statement, parse};
+use crate::{Statement, is_reserved, parse};
 use med_value::Cause;
 use std::test::Fail;
 
@@ -64,6 +64,19 @@ fn syntax_errors(rt: HostRuntime) {
             matches!(&parse(rt.alloc(), text), Err(Cause::Syntax)),
             "at {text}"
         );
+    }
+}
+
+#[test]
+fn reserved_words(rt: HostRuntime) {
+    for (word, reserved) in [
+        ("all", true),
+        ("natural", true),
+        ("with", true),
+        ("row", false),
+        ("", false),
+    ] {
+        assert_eq!(rt; is_reserved(word), reserved, "at {word}");
     }
 }
 

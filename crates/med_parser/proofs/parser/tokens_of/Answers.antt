@@ -1,5 +1,4 @@
-use Rattle.std.proofs.Common.{◌≡◌, List}
-use Rattle.med_lexer.specs.Lexemes.{Lexeme, Lexes}
+use Rattle.med_lexer.specs.Lexemes.{Lexes}
 use Rattle.med_lexer.specs.View.{views}
 use Rattle.med_parser.proofs.parser.tokens_of.Goals as goal
 
