@@ -1,5 +1,5 @@
 -- Reading a table whole: BeginForeignScan, IterateForeignScan until no row is left or one fails, EndForeignScan.
-use Rattle.std.specs.Prelude.{◌≡◌, ◌+◌, ◌-◌, ◌^◌, ◌<◌, ◌≤◌, ℕ, List, map, length, IsPermutation}
+use Rattle.std.specs.Prelude.{◌≡◌, ◌+◌, ◌-◌, ◌^◌, ◌<◌, ◌≤◌, ◌⊎◌, ℕ, List, map, length, IsPermutation}
 use Rattle.med_value.specs.Datum.{Tuple}
 use Rattle.fdw_api.specs.Scan.{pick}
 use Rattle.fdw_api.specs.State.{BoxState, is_honest, rows_of}
@@ -19,12 +19,14 @@ pub record ReadsTable (old : BoxState) (table : ℕ) (given : List Tuple) (new :
   pub leaves : is_honest old → LeavesAll old new
   pub rows : is_honest old → IsPermutation (tuples_of old table) given
 
--- a fault stood against the scan, and no scan is left: 54000 only where ticket numbers were used up, and a source's fault is counted
+-- a fault stood against the scan: it was not begun and gave no row, or was begun, gave some rows and was ended. 54000 comes only where
+-- ticket numbers were used up, and a source's fault is counted
 pub record FailsTable (fault : Fault) (old new : BoxState) : Type 0 where
   pub nature : new.nature ≡ old.nature
   pub next : ℕ
   pub rises : old.ledger.next ≤ next
   pub given : ℕ
+  pub once : (given ≡ 0) ⊎ (next ≡ old.ledger.next + 1)
   pub ledger : new.ledger ≡ record old.ledger { next = next; pulled = pulled_after given old.ledger.pulled; faults = faults_after fault old.ledger.faults }
   pub leaves : is_honest old → LeavesAll old new
   pub cause : BeginCause fault old.ledger.next
