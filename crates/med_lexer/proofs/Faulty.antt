@@ -1,8 +1,8 @@
 -- Where the tokens of a text come to no end there is a fault.
 use Rattle.std.proofs.Common.{◌≡◌, ℕ, zero, suc, ◌+◌, ◌-◌, ◌<◌, List, [], ◌∷◌, length, sym, refl, ap, ◌∙◌, subst, arith, length-append}
 use Rattle.std.specs.Prelude.{true, Option, Some, None, option_map}
-use Rattle.med_lexer.specs.Lexemes.{is_blank, Lexeme, Begins, Lexes}
-use Rattle.med_lexer.specs.Faults.{IsFaulty}
+use Rattle.med_lexer.specs.Lexemes.{is_blank, Lexeme, Lexes}
+use Rattle.med_lexer.specs.Faults.{Begins, IsFaulty}
 use Rattle.med_lexer.specs.Cutting.{Next, done, blank, token, bad, next, continued, lex}
 use Rattle.med_lexer.proofs.Tells.{Tells, next_tells}
 use Rattle.med_lexer.proofs.Exact.{some_bytes}
@@ -11,8 +11,22 @@ use Rattle.med_lexer.proofs.Stops.{lexes_of_lex}
 
 begins_behind_blank : (at b : ℕ) (bs rest : List ℕ) (ts : List Lexeme) → is_blank b ≡ true → Begins (at + 1) bs ts rest → Begins at (b ∷ bs) ts rest
 begins_behind_blank at b bs rest [] h (blanks, e, is) = (b ∷ blanks, (h, e), ap (λ y. b ∷ y) is)
-begins_behind_blank at b bs rest (t ∷ ts) h (blanks, raw, more, e, is, s, long, n, start, end, go) =
-    (b ∷ blanks, raw, more, (h, e), ap (λ y. b ∷ y) is, s, long, n, omega arith, end, go)
+begins_behind_blank at b bs rest (t ∷ ts) h (more, f, go) =
+    let start : t.start ≡ (at + 1) + length f.blanks = f.start in (
+      more,
+      record {
+        blanks = b ∷ f.blanks;
+        raw = f.raw;
+        parted = (h, f.parted);
+        whole = ap (λ y. b ∷ y) f.whole;
+        spelled = f.spelled;
+        longest = f.longest;
+        apart = f.apart;
+        start = omega (arith, start);
+        end = f.end;
+      },
+      go,
+    )
 
 map_none : (o : Option (List Lexeme)) (t : Lexeme) → option_map (λ ts. t ∷ ts) o ≡ None → o ≡ None
 map_none None t h = refl
@@ -35,12 +49,24 @@ faulty_front k at text (token s rest) tells l ih h =
     let t : Lexeme = record { shape = s; start = at; end = end } in
     let size : length text ≡ length tells.raw + length rest = ap length tells.whole ∙ length-append tells.raw rest in
     let f : IsFaulty end rest = ih end rest (omega (arith, size, some_bytes s tells.raw tells.spells)) (map_none (lex k end rest) t h) in
-    let longest = longest_of s tells.raw rest tells.spells tells.ends in
-    let apart = precedes_of s rest tells.ends in
     record {
       tokens = t ∷ f.tokens;
       rest = f.rest;
-      begins = ([], tells.raw, rest, tt, tells.whole, tells.spells, longest, apart, omega arith, omega (arith, size), f.begins);
+      begins = (
+        rest,
+        record {
+          blanks = [];
+          raw = tells.raw;
+          parted = tt;
+          whole = tells.whole;
+          spelled = tells.spells;
+          longest = longest_of s tells.raw rest tells.spells tells.ends;
+          apart = precedes_of s rest tells.ends;
+          start = omega arith;
+          end = omega (arith, size);
+        },
+        f.begins,
+      );
       fault = f.fault;
     }
 faulty_front k at text bad tells l ih h = record { tokens = []; rest = text; begins = ([], tt, refl); fault = tells }

@@ -238,7 +238,19 @@ precedes_of (number d) (c ∷ cs) e = joint_start c e
 precedes_of (mark m) rest e = λ is. subst (λ k. Without (joins k) rest) is e
 
 pub lexes_of_cuts : (ts : List Lexeme) (at : ℕ) (text : List ℕ) → Cuts at text ts → Lexes at text ts
-lexes_of_cuts [] at text (blanks, rest, b, is, end) = (rest, (blanks, b, is), end)
-lexes_of_cuts (t ∷ ts) at text (blanks, raw, more, b, is, s, e, start, end, go) =
-    let l : Lexes t.end more ts = lexes_of_cuts ts t.end more go in
-    (l.0, (blanks, raw, more, b, is, s, longest_of t.shape raw more s e, precedes_of t.shape more e, start, end, l.1), l.2)
+lexes_of_cuts [] at text h = h
+lexes_of_cuts (t ∷ ts) at text (blanks, raw, more, b, is, s, e, start, end, go) = (
+  more,
+  record {
+    blanks = blanks;
+    raw = raw;
+    parted = b;
+    whole = is;
+    spelled = s;
+    longest = longest_of t.shape raw more s e;
+    apart = precedes_of t.shape more e;
+    start = start;
+    end = end;
+  },
+  lexes_of_cuts ts t.end more go,
+)

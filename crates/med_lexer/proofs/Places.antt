@@ -4,7 +4,7 @@ use Rattle.std.proofs.Math.Seq.{drop-append_seam, drop-append-add, take-append_s
 use Rattle.std.proofs.lemmas.Bool.Decides.{leb_tells}
 use Rattle.std.specs.Prelude.{map}
 use Rattle.med_lexer.specs.Printing.{AreShapes}
-use Rattle.med_lexer.specs.Lexemes.{Shape, Spells, IsLongest, Lexeme, Begins, Lexes, IsLongestAt}
+use Rattle.med_lexer.specs.Lexemes.{Shape, Spells, IsLongest, Lexeme, BeginsWith, Lexes, IsLongestAt}
 
 -- of two fronts of a list one goes on with the other
 pub record GoesOn (a b c d : List ℕ) : Type 0 where
@@ -37,20 +37,27 @@ record IsPlaced (at : ℕ) (text : List ℕ) (t : Lexeme) : Type 0 where
   pub spelled : Spells t.shape (take (t.end - t.start) (drop (t.start - at) text))
   pub longest : (s : Shape) (front after : List ℕ) → drop (t.start - at) text ≡ front ++ after → Spells s front → t.start + length front ≤ t.end
 
-here : (at : ℕ) (text blanks raw rest : List ℕ) (t : Lexeme) → text ≡ blanks ++ (raw ++ rest) → Spells t.shape raw → IsLongest raw rest →
-    t.start ≡ at + length blanks → t.end ≡ t.start + length raw → IsPlaced at text t
-here at text blanks raw rest t is sp long start end =
-    let from : t.start - at ≡ length blanks = omega (arith, start) in
-    let to : t.end - t.start ≡ length raw = omega (arith, end) in
-    let found : drop (t.start - at) text ≡ raw ++ rest = (λ i. drop (from i) (is i)) ∙ drop-append_seam blanks (raw ++ rest) in
-    let covered : take (t.end - t.start) (drop (t.start - at) text) ≡ raw = (λ i. take (to i) (found i)) ∙ take-append_seam raw rest in
+here : (at : ℕ) (text rest : List ℕ) (t : Lexeme) → BeginsWith at text t rest → IsPlaced at text t
+here at text rest t f =
+    let start : t.start ≡ at + length f.blanks = f.start in
+    let end : t.end ≡ t.start + length f.raw = f.end in
+    let from : t.start - at ≡ length f.blanks = omega (arith, start) in
+    let to : t.end - t.start ≡ length f.raw = omega (arith, end) in
+    let found : drop (t.start - at) text ≡ f.raw ++ rest = (λ i. drop (from i) (f.whole i)) ∙ drop-append_seam f.blanks (f.raw ++ rest) in
+    let bytes : take (t.end - t.start) (drop (t.start - at) text) ≡ f.raw = (λ i. take (to i) (found i)) ∙ take-append_seam f.raw rest in
     record {
       behind = omega (arith, start);
-      spelled = subst (Spells t.shape) (sym covered) sp;
+      spelled = subst (Spells t.shape) (sym bytes) f.spelled;
       longest = λ s front after e fs.
-          let short : length front ≤ length raw = no_longer raw rest front after s long (sym found ∙ e) fs in
+          let short : length front ≤ length f.raw = no_longer f.raw rest front after s f.longest (sym found ∙ e) fs in
           omega (arith, short, end);
     }
+
+covered : (at : ℕ) (text rest : List ℕ) (t : Lexeme) (f : BeginsWith at text t rest) → t.end ≡ at + length (f.blanks ++ f.raw)
+covered at text rest t f =
+    let start : t.start ≡ at + length f.blanks = f.start in
+    let end : t.end ≡ t.start + length f.raw = f.end in
+    omega (arith, start, end, length-append f.blanks f.raw)
 
 further : (at end : ℕ) (text front rest : List ℕ) (t : Lexeme) → text ≡ front ++ rest → end ≡ at + length front → IsPlaced end rest t → IsPlaced at text t
 further at end text front rest t is e p =
@@ -63,15 +70,15 @@ further at end text front rest t is e p =
       longest = λ s start after h fs. p.longest s start after (sym found ∙ h) fs;
     }
 
-placed : (ts : List Lexeme) (at : ℕ) (text rest : List ℕ) → Begins at text ts rest → (k : ℕ) (d : Lexeme) → k < length ts → IsPlaced at text (get_or ts k d)
-placed [] at text rest h k d l = absurd (omega arith)
-placed (t ∷ ts) at text rest (blanks, raw, more, b, is, s, long, n, start, end, go) zero d l = here at text blanks raw more t is s long start end
-placed (t ∷ ts) at text rest (blanks, raw, more, b, is, s, long, n, start, end, go) (suc k) d l =
-    further at t.end text (blanks ++ raw) more (get_or ts k d) (is ∙ sym (append_assoc blanks raw more)) (omega (arith, start, end, length-append blanks raw)) (placed ts t.end more rest go k d (omega arith))
+placed : (ts : List Lexeme) (at : ℕ) (text : List ℕ) → Lexes at text ts → (k : ℕ) (d : Lexeme) → k < length ts → IsPlaced at text (get_or ts k d)
+placed [] at text h k d l = absurd (omega arith)
+placed (t ∷ ts) at text (rest, f, go) zero d l = here at text rest t f
+placed (t ∷ ts) at text (rest, f, go) (suc k) d l =
+    further at t.end text (f.blanks ++ f.raw) rest (get_or ts k d) (f.whole ∙ sym (append_assoc f.blanks f.raw rest)) (covered at text rest t f) (placed ts t.end rest go k d (omega arith))
 
 pub longest_at : (text : List ℕ) (ts : List Lexeme) → Lexes 0 text ts → (k : ℕ) (d : Lexeme) → k < length ts → IsLongestAt text (get_or ts k d)
 longest_at text ts h k d l =
-    let p : IsPlaced 0 text (get_or ts k d) = placed ts 0 text h.0 h.1 k d l in
+    let p : IsPlaced 0 text (get_or ts k d) = placed ts 0 text h k d l in
     let same : (get_or ts k d).start - 0 ≡ (get_or ts k d).start = omega arith in
     record {
       spelled = subst (λ n. Spells (get_or ts k d).shape (take ((get_or ts k d).end - (get_or ts k d).start) (drop n text))) same p.spelled;
@@ -79,6 +86,6 @@ longest_at text ts h k d l =
     }
 
 -- what the tokens of a text say, some bytes spell
-pub shapes_spelled : (ts : List Lexeme) (at : ℕ) (text rest : List ℕ) → Begins at text ts rest → AreShapes (map (λ t. t.shape) ts)
-shapes_spelled [] at text rest h = tt
-shapes_spelled (t ∷ ts) at text rest (blanks, raw, more, b, is, s, long, n, start, end, go) = ((raw, s), shapes_spelled ts t.end more rest go)
+pub shapes_spelled : (ts : List Lexeme) (at : ℕ) (text : List ℕ) → Lexes at text ts → AreShapes (map (λ t. t.shape) ts)
+shapes_spelled [] at text h = tt
+shapes_spelled (t ∷ ts) at text (rest, f, go) = ((f.raw, f.spelled), shapes_spelled ts t.end rest go)

@@ -118,11 +118,14 @@ record IsQuote (q : ℕ) : Type 0 where
   no_minus : q ≡ 45 → ⊥
   closes : (t : Shape) (bs : List ℕ) → Spells t (q ∷ bs) → Closes q bs
 
+closed_front : (q : ℕ) → IsQuote q → (blanks raw rest r : List ℕ) (s : Shape) → Every is_blank blanks → q ∷ r ≡ blanks ++ (raw ++ rest) → Spells s raw → Quoted q r
+closed_front q o [] raw rest r s b is sp = closed_token q raw rest r s o.closes sp is
+closed_front q o (x ∷ xs) raw rest r s b is sp = begins_blank q x r (xs ++ (raw ++ rest)) o.no_blank b.0 is
+
 closed : (q : ℕ) → IsQuote q → (ts : List Lexeme) (at : ℕ) (r : List ℕ) → Lexes at (q ∷ r) ts → Quoted q r
-closed q o [] at r (rest, ([], b, is), end) = absurd (no_comment q r o.no_minus (subst IsEnd (sym is) end))
-closed q o [] at r (rest, (x ∷ xs, b, is), end) = begins_blank q x r (xs ++ rest) o.no_blank b.0 is
-closed q o (t ∷ ts) at r (rest, ([], raw, more, b, is, s, long, n, start, end, go), e) = closed_token q raw more r t.shape o.closes s is
-closed q o (t ∷ ts) at r (rest, (x ∷ xs, raw, more, b, is, s, long, n, start, end, go), e) = begins_blank q x r (xs ++ (raw ++ more)) o.no_blank b.0 is
+closed q o [] at r ([], rest, b, is, end) = absurd (no_comment q r o.no_minus (subst IsEnd (sym is) end))
+closed q o [] at r (x ∷ xs, rest, b, is, end) = begins_blank q x r (xs ++ rest) o.no_blank b.0 is
+closed q o (t ∷ ts) at r (rest, f, go) = closed_front q o f.blanks f.raw rest r t.shape f.parted f.whole f.spelled
 
 cond_append : (v : Bool) (x y r : List ℕ) → cond v x y ++ r ≡ cond v (x ++ r) (y ++ r)
 cond_append true x y r = refl
@@ -172,9 +175,9 @@ stops (number d) raw rest s long n ts at h = number_stops d raw rest s long n
 stops (mark m) raw rest s long n ts at h = mark_stops m raw rest s long n
 
 pub cuts_of_lexes : (ts : List Lexeme) (at : ℕ) (text : List ℕ) → Lexes at text ts → Cuts at text ts
-cuts_of_lexes [] at text (rest, (blanks, b, is), end) = (blanks, rest, b, is, end)
-cuts_of_lexes (t ∷ ts) at text (rest, (blanks, raw, more, b, is, s, long, n, start, end, go), e) =
-    (blanks, raw, more, b, is, s, stops t.shape raw more s long n ts t.end (rest, go, e), start, end, cuts_of_lexes ts t.end more (rest, go, e))
+cuts_of_lexes [] at text h = h
+cuts_of_lexes (t ∷ ts) at text (rest, f, go) =
+    (f.blanks, f.raw, rest, f.parted, f.whole, f.spelled, stops t.shape f.raw rest f.spelled f.longest f.apart ts t.end go, f.start, f.end, cuts_of_lexes ts t.end rest go)
 
 -- ---- the list that is cut is the list of longest tokens
 

@@ -1,6 +1,6 @@
 -- Why a text has no tokens.
-use Rattle.std.specs.Prelude.{◌≡◌, ℕ, true, false, ◌==◌, List, ◌∷◌, ◌++◌, ◌⊎◌}
-use Rattle.med_lexer.specs.Lexemes.{is_blank, is_start, is_text, Every, Without, doubled, IsDigits, Shape, Spells, Lexeme, Begins}
+use Rattle.std.specs.Prelude.{◌≡◌, ℕ, true, false, ◌==◌, List, [], ◌∷◌, ◌++◌, ◌⊎◌}
+use Rattle.med_lexer.specs.Lexemes.{is_blank, is_start, is_text, Every, Without, doubled, IsDigits, Shape, Spells, Lexeme, BeginsWith}
 
 -- no front of the bytes is a token of any kind
 abbrev pub BeginsNoToken : List ℕ → Type 0
@@ -22,6 +22,11 @@ pub data IsFault : List ℕ → Type 0 where
   number_before_letter : (d : List ℕ) (c : ℕ) (after : List ℕ) → IsDigits d → is_start c ≡ true → IsFault (d ++ c ∷ after)
   -- a comment with U+0000 in it
   zero_in_comment : (front after : List ℕ) → IsFault (45 ∷ 45 ∷ (front ++ 0 ∷ after))
+
+-- The text, whose first byte is at the place `at`, begins with these tokens and blanks behind them, and `rest` follows.
+abbrev pub Begins : ℕ → List ℕ → List Lexeme → List ℕ → Type 0
+Begins at text [] rest = (blanks : List ℕ) × Every is_blank blanks × (text ≡ blanks ++ rest)
+Begins at text (t ∷ ts) rest = (more : List ℕ) × BeginsWith at text t more × Begins t.end more ts rest
 
 -- The text, whose first byte is at the place `at`, begins with some tokens, and a fault stands behind them.
 pub record IsFaulty (at : ℕ) (text : List ℕ) : Type 0 where

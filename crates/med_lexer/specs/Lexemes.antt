@@ -111,17 +111,22 @@ pub record Lexeme : Type 0 where
   pub start : ℕ
   pub end : ℕ
 
--- The text, whose first byte is at the place `at`, begins with these tokens, each behind some blanks, and with some blanks behind the
--- last. `rest` is what follows.
-abbrev pub Begins : ℕ → List ℕ → List Lexeme → List ℕ → Type 0
-Begins at text [] rest = (blanks : List ℕ) × Every is_blank blanks × (text ≡ blanks ++ rest)
-Begins at text (t ∷ ts) rest =
-    (blanks raw more : List ℕ) × Every is_blank blanks × (text ≡ blanks ++ (raw ++ more)) × Spells t.shape raw × IsLongest raw more
-    × MayPrecede t.shape more × (t.start ≡ at + length blanks) × (t.end ≡ t.start + length raw) × Begins t.end more ts rest
+-- The text, whose first byte is at the place `at`, begins with this token behind some blanks, and `rest` follows the token.
+pub record BeginsWith (at : ℕ) (text : List ℕ) (t : Lexeme) (rest : List ℕ) : Type 0 where
+  pub blanks : List ℕ
+  pub raw : List ℕ
+  pub parted : Every is_blank blanks
+  pub whole : text ≡ blanks ++ (raw ++ rest)
+  pub spelled : Spells t.shape raw
+  pub longest : IsLongest raw rest
+  pub apart : MayPrecede t.shape rest
+  pub start : t.start ≡ at + length blanks
+  pub end : t.end ≡ t.start + length raw
 
--- The text, whose first byte is at the place `at`, has these tokens.
+-- The text, whose first byte is at the place `at`, has these tokens, and behind them blanks and perhaps a comment.
 abbrev pub Lexes : ℕ → List ℕ → List Lexeme → Type 0
-Lexes at text ts = (rest : List ℕ) × Begins at text ts rest × IsEnd rest
+Lexes at text [] = (blanks rest : List ℕ) × Every is_blank blanks × (text ≡ blanks ++ rest) × IsEnd rest
+Lexes at text (t ∷ ts) = (rest : List ℕ) × BeginsWith at text t rest × Lexes t.end rest ts
 
 -- In the text the bytes of the token spell it, and no longer run of bytes from its start spells a token.
 pub record IsLongestAt (text : List ℕ) (t : Lexeme) : Type 0 where
