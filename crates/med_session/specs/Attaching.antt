@@ -6,7 +6,7 @@ use Rattle.med_value.specs.declared.cause.Cause.TheVariants.{DuplicateTable, Dup
 use Rattle.fdw_api.specs.Kinds.{Kind, Column, Entry, Holding, Held, Reading}
 use Rattle.fdw_api.specs.Calls.{Picks}
 use Rattle.med_value.specs.Datum.{Tuple}
-use Rattle.med_session.specs.World.{World, Source, SourceState, free, dropped, ForeignTable, table_named, source_named, column_names}
+use Rattle.med_session.specs.World.{World, Source, free, dropped, ForeignTable, table_named, source_named, column_names}
 use Rattle.med_session.specs.declared.sources.SourceKind.{SourceKind}
 
 -- one more source, that is free

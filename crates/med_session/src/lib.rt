@@ -7,10 +7,9 @@ mod replies;
 mod select;
 pub mod session;
 pub mod sources;
-pub mod users;
-
 #[cfg(test)]
 mod tests;
+pub mod users;
 
 pub use engine::Engine;
 pub use session::{NoRoom, Request, Sid};
