@@ -1,11 +1,11 @@
 -- A new engine, with no source and no table.
-use Rattle.std.proofs.Common.{◌≡◌, ℕ, ◌-◌, ◌<◌, ◌≤◌, List, [], Option, Some, None, slice_get, replicate, length, map, option_map, refl, ap, sym, ◌∙◌, subst, arith, string_bytes, bytes_eq, lit≤, zero, suc}
+use Rattle.std.proofs.Common.{◌≡◌, ℕ, ◌-◌, List, [], Option, Some, None, slice_get, replicate, length, refl, ap, sym, ◌∙◌, arith, lit≤, zero, suc}
 use Rattle.std.proofs.lemmas.List.{length-replicate}
 use Rattle.std.specs.List.{IsDistinct}
 use Rattle.fdw_api.specs.State.{BoxState}
-use Rattle.med_session.specs.Requests.{IsSid, IsUser}
+use Rattle.med_session.specs.Requests.{IsUser}
 use Rattle.med_session.specs.World.{empty_world}
-use Rattle.med_session.specs.Engine.{Shown, Label, Attached, user_in, user_of, IsSound, Agrees}
+use Rattle.med_session.specs.Engine.{Shown, user_in, user_of, IsSound, Agrees}
 
 -- what an empty engine shows
 abbrev pub empty_shown : List ℕ → List (Option (List ℕ)) → Shown

@@ -1,11 +1,9 @@
 -- A box in one slot changes, and all others stay.
-use Rattle.std.proofs.Common.{◌≡◌, ◌≢◌, ℕ, ◌⊎◌, Bool, true, false, List, [], ◌∷◌, Option, Some, None, IsSome, slice_get, slice_set, length, refl, ap, sym, ◌∙◌, subst, zero, suc, eqb, inl, inr}
+use Rattle.std.proofs.Common.{◌≡◌, ◌≢◌, ℕ, ◌⊎◌, true, false, List, [], ◌∷◌, Option, Some, slice_get, slice_set, length, refl, ap, sym, ◌∙◌, subst, zero, suc, eqb, inl, inr}
 use Rattle.std.proofs.lemmas.Bool.Decides.{eqb_tells}
 use Rattle.std.proofs.lemmas.List.{length-set}
-use Rattle.fdw_api.specs.State.{BoxState, is_honest, scan_of, table_of}
+use Rattle.fdw_api.specs.State.{BoxState, is_honest}
 use Rattle.fdw_api.specs.Calls.{LeavesAll, Refuses}
-use Rattle.fdw_api.specs.Kinds.{Holding}
-use Rattle.fdw_api.specs.Scan.{TableRow}
 use Rattle.fdw_api.specs.declared.interface.Fault.{Fault}
 use Rattle.med_value.specs.Datum.{Tuple}
 use Rattle.med_exec.specs.Slots.{ChangesAt}
@@ -87,9 +85,11 @@ onward P Q old new slot same changed h i x at = split (eqb_tells i slot)
   where
     split : ((eqb i slot ≡ true) × (i ≡ slot)) ⊎ ((eqb i slot ≡ false) × (i ≢ slot)) → (z : BoxState) × (slice_get new i ≡ Some (Some z)) × P x z
     split (inl s) =
-        let q : x ≡ h.before = same_box x h.before (sym at ∙ ap (λ (k : ℕ). slice_get old k) s.1 ∙ h.there) in
-        (h.after, ap (λ (l : List (Option BoxState)). slice_get l i) h.slots ∙ ap (λ (k : ℕ). slice_get (slice_set old slot (Some h.after)) k) s.1 ∙ set_same old slot (Some h.before) (Some h.after) h.there,
-          subst (λ (z : BoxState). P z h.after) (sym q) (changed h.before h.after h.change))
+        let q : x ≡ h.before = same_box x h.before (sym at ∙ ap (λ (k : ℕ). slice_get old k) s.1 ∙ h.there) in (
+          h.after,
+          ap (λ (l : List (Option BoxState)). slice_get l i) h.slots ∙ ap (λ (k : ℕ). slice_get (slice_set old slot (Some h.after)) k) s.1 ∙ set_same old slot (Some h.before) (Some h.after) h.there,
+          subst (λ (z : BoxState). P z h.after) (sym q) (changed h.before h.after h.change),
+        )
     split (inr s) = (x, ap (λ (l : List (Option BoxState)). slice_get l i) h.slots ∙ set_other old slot i (Some h.after) s.1 ∙ at, same x)
 
 pub backward : (P Q : BoxState → BoxState → Type 0) (old new : List (Option BoxState)) (slot : ℕ) → ((b : BoxState) → P b b) → ((b c : BoxState) → Q b c → P b c) → ChangesAt old slot Q new → Backward P old new

@@ -1,10 +1,7 @@
 -- What is found in a list from a place on.
-use Rattle.std.proofs.Common.{◌≡◌, ℕ, ◌+◌, ◌<◌, ◌≤◌, Bool, true, false, cond, ◌&&◌, ◌||◌, List, [], ◌∷◌, ◌++◌, Option, Some, None, slice_get, slice_index_or, length, map, take, drop, refl, ap, sym, ◌∙◌, subst, zero, suc, arith, add-one, drop-cons, drop-drop, find, bytes_eq, All}
-use Rattle.std.specs.List.{list_any, list_all}
-use Rattle.med_value.specs.Datum.{Datum, NoValue, Tuple}
+use Rattle.std.proofs.Common.{◌≡◌, ℕ, ◌+◌, ◌<◌, Bool, true, false, cond, ◌||◌, List, [], ◌∷◌, Option, Some, None, slice_index_or, length, map, drop, refl, ap, sym, ◌∙◌, subst, suc, arith, add-one, drop-cons, drop-drop, find, bytes_eq, All}
+use Rattle.med_value.specs.Datum.{NoValue, Tuple}
 use Rattle.fdw_api.specs.Kinds.{Column}
-use Rattle.fdw_api.specs.Scan.{cell}
-use Rattle.med_exec.specs.Slots.{HasTable}
 use Rattle.fdw_api.specs.State.{BoxState}
 use Rattle.med_session.specs.World.{has_column, ForeignTable, table_named}
 use Rattle.med_session.specs.Steps.{cell_named}

@@ -1,11 +1,9 @@
 -- A whole scan leaves an engine sound, and in agreement with the same worlds.
-use Rattle.std.proofs.Common.{◌≡◌, ◌≢◌, ℕ, ◌≤◌, ◌<◌, ◌⊎◌, Bool, true, false, List, [], ◌∷◌, Option, Some, None, IsSome, All, slice_get, slice_set, slice_index_or, length, map, refl, ap, sym, ◌∙◌, subst, zero, suc, IsPermutation}
-use Rattle.med_value.specs.Datum.{Tuple}
+use Rattle.std.proofs.Common.{◌≡◌, ℕ, List, [], ◌∷◌, Option, Some, IsSome, All, slice_get, slice_set, slice_index_or, map, refl, ap, sym, ◌∙◌, subst, zero, suc, IsPermutation}
 use Rattle.fdw_api.specs.Scan.{TableRow}
-use Rattle.fdw_api.specs.State.{BoxState, Bound, is_honest, scan_of, table_of}
-use Rattle.med_exec.specs.Slots.{ChangesAt, BoxAt, HasTable}
-use Rattle.med_exec.specs.Scanning.{tuples_of}
-use Rattle.med_session.specs.World.{World, Source, SourceState, free, dropped, ForeignTable}
+use Rattle.fdw_api.specs.State.{BoxState, Bound, is_honest, scan_of}
+use Rattle.med_exec.specs.Slots.{ChangesAt, HasTable}
+use Rattle.med_session.specs.World.{World, Source, SourceState, free, ForeignTable}
 use Rattle.med_session.specs.Engine.{Label, Attached, Shown, IsAtRest, EachBox, TakesColumns, BoundAreAttached, IsSound, state_of, sources_of, TableAgrees, TablesAgree, Agrees}
 use Rattle.med_session.proofs.Boxes.{Keeps, keeps_itself, Onward, Backward, onward, backward, as_many}
 
@@ -97,7 +95,7 @@ agrees_kept Q e new slot keeps change w h =
     record {
       honest = each_kept is_honest e.boxes new honest_kept back h.honest;
       sources = h.sources ∙ sym (ap (sources_of e.labels) change.slots
-        ∙ sources_kept e.labels e.boxes slot change.before change.after change.there (state_kept change.before change.after (h.honest slot change.before change.there) (keeps change.before change.after change.change)));
+          ∙ sources_kept e.labels e.boxes slot change.before change.after change.there (state_kept change.before change.after (h.honest slot change.before change.there) (keeps change.before change.after change.change)));
       tables = tables_kept e.labels e.boxes new h.honest on e.tables w.tables h.tables;
       sessions = h.sessions;
       at_rest = each_kept IsAtRest e.boxes new rest_kept back h.at_rest;

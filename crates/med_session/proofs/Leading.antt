@@ -1,5 +1,5 @@
 -- Requests of sessions lead to their replies.
-use Rattle.std.proofs.Common.{◌≡◌, ◌≢◌, ℕ, ◌+◌, ◌-◌, ◌<◌, ◌≤◌, ◌⊎◌, Bool, true, false, cond, List, [], ◌∷◌, ◌++◌, Option, Some, None, IsSome, is_some, slice_get, slice_set, slice_index_or, length, map, codes, refl, ap, sym, ◌∙◌, subst, arith, rules, inl, inr, eqb, zero, suc, replicate}
+use Rattle.std.proofs.Common.{◌≡◌, ◌≢◌, ℕ, ◌-◌, ◌<◌, ◌⊎◌, true, false, cond, List, ◌++◌, Option, Some, None, IsSome, is_some, slice_get, slice_set, slice_index_or, length, codes, refl, ap, sym, ◌∙◌, subst, arith, inl, inr, eqb, zero, suc, replicate}
 use Rattle.std.proofs.lemmas.Bool.{false≢true}
 use Rattle.std.proofs.lemmas.Bool.Decides.{eqb_tells}
 use Rattle.std.proofs.lemmas.List.{length-set}
@@ -9,8 +9,8 @@ use Rattle.med_value.specs.declared.cause.Cause.{Cause}
 use Rattle.med_value.specs.declared.cause.Cause.TheVariants.{Protocol, NoConnection, OutOfMemory}
 use Rattle.fdw_api.specs.State.{BoxState, set_at}
 use Rattle.med_session.specs.Requests.{Asked, opening, sql, bye, IsSid, IsUser}
-use Rattle.med_session.specs.World.{World, IsOpen, without_sessions}
-use Rattle.med_session.specs.Causes.{Stands, IsTold, NoneStands}
+use Rattle.med_session.specs.World.{World, IsOpen}
+use Rattle.med_session.specs.Causes.{IsTold, NoneStands}
 use Rattle.med_session.specs.Replies.{Reply, done, answered, refused, reply_text}
 use Rattle.med_session.specs.Steps.{Trouble, TakesMemory, with_session, Does, Step, is_refused, is_done, lacks_memory, source_fails, numbers_end}
 use Rattle.med_session.specs.Outcomes.{HasRows, Tells}
@@ -78,7 +78,7 @@ seated users f sid s u (one, most) (one', most') long same = split (eqb_tells s 
     split (inl e) =
         let within : sid - 1 < length users = omega arith in
         rw e.0 (sym (ap (λ (k : ℕ). user_in (slice_get (slice_set users (sid - 1) u) (k - 1))) e.1
-          ∙ ap user_in (set_same users (sid - 1) (slice_index_or users (sid - 1) None) u (slice_get-get_or users (sid - 1) None within))))
+        ∙ ap user_in (set_same users (sid - 1) (slice_index_or users (sid - 1) None) u (slice_get-get_or users (sid - 1) None within))))
     split (inr e) =
         let apart : s - 1 ≢ sid - 1 = λ h. e.1 (omega arith) in
         rw e.0 (same ∙ sym (ap user_in (set_other users (sid - 1) (s - 1) u apart)))

@@ -1,27 +1,27 @@
 -- A query leads to its reply.
-use Rattle.std.proofs.Common.{◌≡◌, ◌≢◌, ℕ, ◌+◌, ◌-◌, ◌^◌, ◌<◌, ◌≤◌, ◌⊎◌, min, Bool, true, false, List, [], ◌∷◌, Option, Some, None, is_some, slice_get, length, map, refl, ap, sym, ◌∙◌, subst, arith, inl, inr, IsPermutation}
+use Rattle.std.proofs.Common.{◌≡◌, ℕ, ◌+◌, ◌-◌, ◌^◌, ◌<◌, ◌≤◌, ◌⊎◌, min, true, false, List, Option, Some, None, is_some, slice_get, map, refl, ap, sym, ◌∙◌, subst, arith, inl, inr, IsPermutation}
 use Rattle.std.proofs.lemmas.Bool.{false≢true, cases_lt}
 use Rattle.std.proofs.lemmas.List.Sorted.{IsPermutation-trans, IsPermutation-sym}
 use Rattle.std.specs.List.{list_all}
 use Rattle.med_value.specs.Datum.{Tuple}
 use Rattle.med_value.specs.declared.cause.Cause.{Cause}
-use Rattle.med_value.specs.declared.cause.Cause.TheVariants.{UndefinedTable, UndefinedColumn, OutOfMemory, SourceFault, LimitExceeded}
+use Rattle.med_value.specs.declared.cause.Cause.TheVariants.{OutOfMemory}
 use Rattle.fdw_api.specs.Kinds.{Column}
 use Rattle.fdw_api.specs.State.{BoxState}
-use Rattle.fdw_api.specs.Calls.{bumped, faults_after, BeginCause}
+use Rattle.fdw_api.specs.Calls.{bumped, faults_after}
 use Rattle.fdw_api.specs.declared.interface.Fault.{Fault}
 use Rattle.fdw_api.specs.declared.interface.Fault.TheVariants.{NoMemory, Source, Refused}
-use Rattle.med_exec.specs.Slots.{ChangesAt, BoxAt}
+use Rattle.med_exec.specs.Slots.{ChangesAt}
 use Rattle.med_exec.specs.Scanning.{ReadsTable, FailsTable, tuples_of}
 use Rattle.med_parser.specs.Tree.{Tree, select}
 use Rattle.med_parser.specs.Grammar.{HasTree}
 use Rattle.med_parser.specs.Causes.{SyntaxCauses}
-use Rattle.med_session.specs.Requests.{Asked, sql, IsSid}
-use Rattle.med_session.specs.World.{World, ForeignTable, IsOpen, table_named, has_column}
-use Rattle.med_session.specs.Causes.{NameCauses, NoneStands, NoneBeforeState}
+use Rattle.med_session.specs.Requests.{sql, IsSid}
+use Rattle.med_session.specs.World.{World, ForeignTable, table_named, has_column}
+use Rattle.med_session.specs.Causes.{NameCauses, NoneStands}
 use Rattle.med_session.specs.Replies.{Reply, answered, refused}
-use Rattle.med_session.specs.Steps.{Trouble, Answer, Step, is_refused, is_done, lacks_memory, source_fails, numbers_end, cell_named}
-use Rattle.med_session.specs.Engine.{Shown, Attached, named, user_of, TableAgrees, IsSound, Agrees, Befell, BoxBecomes, HasFailed, IsUsedUp, Rises, EachRises, Leads}
+use Rattle.med_session.specs.Steps.{Answer, is_done, source_fails, numbers_end, cell_named}
+use Rattle.med_session.specs.Engine.{Shown, Attached, named, user_of, TableAgrees, IsSound, Agrees, Rises, Leads}
 use Rattle.med_session.specs.Selecting.{cause_of, GivesRows, IsKnown, Selects, SelectFails, no_table, no_column, no_memory, scan_fails}
 use Rattle.med_session.proofs.Boxes.{Keeps, reads_keeps, fails_keeps, onward, now_there, same_box}
 use Rattle.med_session.proofs.Keeping.{with_boxes, agrees_kept, sound_kept}
@@ -114,8 +114,11 @@ selects e new sid text names table given read h = record {
   trouble = calm;
   befell = calm_befell e.boxes new;
   rises = onward Rises (GivesRows at names given) e.boxes new at.source rises_itself (λ b c g. reads_rises b c at.number g.rows g.reads) h.changes;
-  step = λ w a. (w, is_done (none_against e w sid text names table a read h.known) ((select names table, read.has, found w a), refl),
-    agrees_kept (GivesRows at names given) e new at.source (gives_keeps at names given) h.changes w a);
+  step = λ w a. (
+    w,
+    is_done (none_against e w sid text names table a read h.known) ((select names table, read.has, found w a), refl),
+    agrees_kept (GivesRows at names given) e new at.source (gives_keeps at names given) h.changes w a,
+  );
 }
   where
     at : Attached
@@ -146,8 +149,11 @@ fails e new sid text names table read known Source h = record {
     numbers = λ q. absurd (false≢true q);
   };
   rises = onward Rises (FailsTable Source) e.boxes new known.at.source rises_itself (λ b c f. fails_rises b c Source f) h;
-  step = λ w a. (w, source_fails refl tt (none_before w sid (sql text) (none_against e w sid text names table a read known)) refl refl,
-    agrees_kept (FailsTable Source) e new known.at.source (λ b c f. fails_keeps b c Source f) h w a);
+  step = λ w a. (
+    w,
+    source_fails refl tt (none_before w sid (sql text) (none_against e w sid text names table a read known)) refl refl,
+    agrees_kept (FailsTable Source) e new known.at.source (λ b c f. fails_keeps b c Source f) h w a,
+  );
 }
 fails e new sid text names table read known (Refused c) h = record {
   trouble = record { memory = false; source = false; numbers = true };
@@ -163,8 +169,11 @@ fails e new sid text names table read known (Refused c) h = record {
     };
   };
   rises = onward Rises (FailsTable (Refused c)) e.boxes new known.at.source rises_itself (λ b d f. fails_rises b d (Refused c) f) h;
-  step = λ w a. (w, numbers_end refl tt (none_before w sid (sql text) (none_against e w sid text names table a read known)) (ap refused h.change.cause.0) refl,
-    agrees_kept (FailsTable (Refused c)) e new known.at.source (λ b d f. fails_keeps b d (Refused c) f) h w a);
+  step = λ w a. (
+    w,
+    numbers_end refl tt (none_before w sid (sql text) (none_against e w sid text names table a read known)) (ap refused h.change.cause.0) refl,
+    agrees_kept (FailsTable (Refused c)) e new known.at.source (λ b d f. fails_keeps b d (Refused c) f) h w a,
+  );
 }
 
 back_to : (e : Shown) (new : List (Option BoxState)) (sid : ℕ) (text : List ℕ) (r : Reply) → new ≡ e.boxes → Leads e sid (sql text) r e → Leads e sid (sql text) r (with_boxes e new)
@@ -174,12 +183,12 @@ pub select_fails : (e : Shown) (new : List (Option BoxState)) (sid : ℕ) (text 
     → SelectFails e.tables names table e.boxes c new → Leads e sid (sql text) (refused c) (with_boxes e new)
 select_fails e new sid text names table c read (no_table is none same) =
     back_to e new sid text (refused c) same (leads_refused e sid (sql text) c (λ w a.
-      told_name w sid text (select names table) c (is_open_by e w sid a read.is_sid read.is_open) read.clear read.has (inl (is, no_table_of e w table a none))))
+    told_name w sid text (select names table) c (is_open_by e w sid a read.is_sid read.is_open) read.clear read.has (inl (is, no_table_of e w table a none))))
 select_fails e new sid text names table c read (no_column at found is lacks same) =
     back_to e new sid text (refused c) same (leads_refused e sid (sql text) c (λ w a.
-      let t = table_of e w table at a found in
-      told_name w sid text (select names table) c (is_open_by e w sid a read.is_sid read.is_open) read.clear read.has
-        (inr (is, (t.0, t.1, ap (λ (cs : List Column). list_all (has_column cs) names) t.2.columns ∙ lacks)))))
+    let t = table_of e w table at a found in
+    told_name w sid text (select names table) c (is_open_by e w sid a read.is_sid read.is_open) read.clear read.has
+    (inr (is, (t.0, t.1, ap (λ (cs : List Column). list_all (has_column cs) names) t.2.columns ∙ lacks)))))
 select_fails e new sid text names table c read (no_memory is same) =
     back_to e new sid text (refused c) same (subst (λ (d : Cause). Leads e sid (sql text) (refused d) e) (sym is) (leads_memory e e sid (sql text) tt (none_rises e.boxes) (λ w a. a)))
 select_fails e new sid text names table c read (scan_fails known fault is h) =

@@ -1,16 +1,13 @@
 -- The parts of a query.
-use Rattle.std.proofs.Common.{◌≡◌, ℕ, ◌⊎◌, Bool, true, false, List, Option, Some, None, map, refl, ap, sym, ◌∙◌, inl, inr}
-use Rattle.std.specs.List.{list_all}
+use Rattle.std.proofs.Common.{◌≡◌, ℕ, List, Option, Some, map, refl, ◌∙◌, inl, inr}
 use Rattle.med_value.specs.Datum.{Tuple}
 use Rattle.med_value.specs.declared.cause.Cause.{Cause}
-use Rattle.fdw_api.specs.Scan.{pick}
 use Rattle.fdw_api.specs.State.{BoxState}
 use Rattle.fdw_api.specs.declared.interface.Fault.{Fault}
 use Rattle.med_exec.specs.Slots.{ChangesAt}
 use Rattle.med_exec.specs.Scanning.{SelectsTable, FailsTable}
-use Rattle.med_session.specs.Steps.{cell_named}
 use Rattle.med_session.specs.Engine.{Attached, named}
-use Rattle.med_session.specs.Selecting.{ArePlaces, NoPlaces, cause_of, GivesRows, IsKnown, Selects, SelectFails, no_column, no_memory, scan_fails}
+use Rattle.med_session.specs.Selecting.{ArePlaces, NoPlaces, cause_of, IsKnown, Selects, SelectFails, no_column, no_memory, scan_fails}
 
 pub places_fail : (tables : List Attached) (names : List (List ℕ)) (table : List ℕ) (old : List (Option BoxState)) (c : Cause) (a : Attached) → named table tables ≡ Some a → NoPlaces a.columns names c → SelectFails tables names table old c old
 places_fail tables names table old c a found (inl h) = no_column a found h.0 h.1 refl

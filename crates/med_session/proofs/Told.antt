@@ -1,14 +1,13 @@
 -- Which cause is told.
-use Rattle.std.proofs.Common.{◌≡◌, ℕ, ◌<◌, ◌≤◌, ◌⊎◌, List, Option, Some, None, IsSome, refl, ap, sym, ◌∙◌, subst, arith, inl, inr, unwrap_or, lit≤}
-use Rattle.med_value.specs.Causes.{phase_of}
+use Rattle.std.proofs.Common.{◌≡◌, ℕ, ◌≤◌, ◌⊎◌, List, refl, ap, subst, arith, inl, inr, lit≤}
 use Rattle.med_value.specs.declared.cause.Cause.{Cause}
-use Rattle.med_value.specs.declared.cause.Cause.TheVariants.{Protocol, NoConnection, Syntax, LiteralOutOfRange, NameTooLong, TooDeep, UndefinedTable, UndefinedColumn}
+use Rattle.med_value.specs.declared.cause.Cause.TheVariants.{Protocol, NoConnection, Syntax, LiteralOutOfRange, NameTooLong, TooDeep}
 use Rattle.med_parser.specs.Tree.{Tree, select}
 use Rattle.med_parser.specs.Grammar.{HasTree}
 use Rattle.med_parser.specs.Causes.{SyntaxCauses}
 use Rattle.med_session.specs.Requests.{Asked, opening, sql, bye, IsUser}
-use Rattle.med_session.specs.World.{World, ForeignTable, IsOpen, table_named}
-use Rattle.med_session.specs.Causes.{FrameCauses, NameCauses, StatementCauses, Stands, phase, IsTold, NoneStands, NoneBeforeState}
+use Rattle.med_session.specs.World.{World, IsOpen}
+use Rattle.med_session.specs.Causes.{NameCauses, Stands, phase, IsTold, NoneStands, NoneBeforeState}
 
 -- a cause of the phase of syntax is of phase 2
 pub syntax_phase : (text : List ℕ) (c : Cause) → SyntaxCauses text c → phase c ≡ 2

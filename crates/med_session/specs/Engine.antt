@@ -1,8 +1,7 @@
 -- What an engine shows, when its calls may be made, and when a world agrees with it.
-use Rattle.std.specs.Prelude.{◌≡◌, ◌<◌, ◌≤◌, ◌+◌, ◌-◌, ◌^◌, ◌⊎◌, ℕ, Bool, true, false, List, [], ◌∷◌, map, length, Option, Some, None, IsSome, option_map, min, slice_get, All, IsPermutation, find, bytes_eq, string_bytes}
+use Rattle.std.specs.Prelude.{◌≡◌, ◌<◌, ◌≤◌, ◌-◌, ◌^◌, ◌⊎◌, ℕ, true, List, [], ◌∷◌, map, length, Option, Some, None, option_map, min, slice_get, All, IsPermutation, find, bytes_eq, string_bytes}
 use Rattle.std.specs.List.{IsDistinct}
-use Rattle.med_value.specs.Datum.{Tuple}
-use Rattle.fdw_api.specs.Kinds.{Column, column_of, Holding, Known, Kind}
+use Rattle.fdw_api.specs.Kinds.{Column, column_of}
 use Rattle.fdw_api.specs.State.{BoxState, Bound, is_honest, table_of, scan_of}
 use Rattle.med_exec.specs.Slots.{states, BoxAt, HasTable}
 use Rattle.med_exec.specs.Scanning.{tuples_of}

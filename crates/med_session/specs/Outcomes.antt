@@ -2,7 +2,6 @@
 use Rattle.std.specs.Prelude.{◌≡◌, ◌⊎◌, ℕ, List, ◌++◌, map, codes, string_bytes}
 use Rattle.med_value.specs.Datum.{tuple}
 use Rattle.med_value.specs.declared.cause.Cause.TheVariants.{OutOfMemory}
-use Rattle.med_session.specs.declared.replies.RowSet.{RowSet}
 use Rattle.med_session.specs.declared.replies.Outcome.{Outcome}
 use Rattle.med_session.specs.declared.replies.Outcome.TheVariants.{Opened, Closed, Rows, Refused}
 use Rattle.med_session.specs.Replies.{Reply, done, answered, refused, reply_text}

@@ -1,5 +1,5 @@
 -- Replies to requests, and their text.
-use Rattle.std.specs.Prelude.{ℕ, List, [], ◌∷◌, ◌++◌, codes, length, flat_map, decimal}
+use Rattle.std.specs.Prelude.{ℕ, List, ◌∷◌, ◌++◌, codes, length, flat_map, decimal}
 use Rattle.med_value.specs.Datum.{Tuple}
 use Rattle.med_value.specs.Text.{escaped, field_text}
 use Rattle.med_value.specs.Causes.{code_of, name_of}

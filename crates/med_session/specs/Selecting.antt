@@ -1,9 +1,9 @@
 -- What a query does to the boxes, and why it is refused.
 use Rattle.std.specs.Prelude.{◌≡◌, ◌⊎◌, ℕ, true, false, List, map, Option, Some, None}
 use Rattle.std.specs.List.{list_all}
-use Rattle.med_value.specs.Datum.{Datum, Tuple}
+use Rattle.med_value.specs.Datum.{Tuple}
 use Rattle.med_value.specs.declared.cause.Cause.{Cause}
-use Rattle.med_value.specs.declared.cause.Cause.TheVariants.{UndefinedTable, UndefinedColumn, OutOfMemory, SourceFault, LimitExceeded}
+use Rattle.med_value.specs.declared.cause.Cause.TheVariants.{UndefinedTable, UndefinedColumn, OutOfMemory, SourceFault}
 use Rattle.fdw_api.specs.Kinds.{Column}
 use Rattle.fdw_api.specs.Scan.{cell, pick}
 use Rattle.fdw_api.specs.State.{BoxState}

@@ -9,7 +9,7 @@ use Rattle.med_parser.specs.Tree.{Tree, select}
 use Rattle.med_parser.specs.Grammar.{HasTree}
 use Rattle.med_session.specs.Requests.{Asked, opening, sql, bye}
 use Rattle.med_session.specs.World.{World, ForeignTable, table_named}
-use Rattle.med_session.specs.Causes.{Stands, IsTold, NoneStands, NoneBeforeState}
+use Rattle.med_session.specs.Causes.{IsTold, NoneStands, NoneBeforeState}
 use Rattle.med_session.specs.Replies.{Reply, done, answered, refused}
 
 -- the cell of the column of this name

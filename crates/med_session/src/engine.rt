@@ -1,18 +1,17 @@
 //! The engine.
 ghost use Rattle.std.specs.Prelude.{◌≡◌, ◌++◌, ℕ, List, IfOk, IfErr, OnOk, OnErr, IsErrOf};
 
-use fdw_api::interface::Wrapper;
-use med_parser::{one_tree, parse};
-use med_value::Cause;
-use std::alloc::Global;
-use thiserror::Error;
-
 use crate::places::{close_all, closed_sessions, is_open, set_user};
 use crate::replies::{Outcome, write_reply};
 use crate::select::{query_of, run_select};
 use crate::session::{NoRoom, Request, Sid};
 use crate::sources::{AttachedTable, NamedSource};
 use crate::users::is_user;
+use fdw_api::interface::Wrapper;
+use med_parser::{one_tree, parse};
+use med_value::Cause;
+use std::alloc::Global;
+use thiserror::Error;
 
 /// The room in the output that is taken before a request is begun.
 const ROOM: usize = 128;
@@ -77,7 +76,12 @@ impl<W: Wrapper> Engine<W> {
     ///
     /// `NoRoom` where room for 128 bytes is refused before the request is begun. Then nothing was done. Where a later growth is refused,
     /// the reply is 53200, for which that room is enough.
-    pub fn request(&mut self, sid: Sid, request: Request<'_>, out: &mut Vec<u8>) -> Result<(), NoRoom>
+    pub fn request(
+        &mut self,
+        sid: Sid,
+        request: Request<'_>,
+        out: &mut Vec<u8>,
+    ) -> Result<(), NoRoom>
         requires { IsSound (shown W.meaning self.old) }
         ensures sound { IsSound (shown W.meaning self.new) }
         ensures answered { OnOk result ((text : List ℕ) × (out.new.items ≡ out.old.items ++ text)

@@ -9,10 +9,9 @@ mod replies;
 mod select;
 pub mod session;
 pub mod sources;
-pub mod users;
-
 #[cfg(test)]
 mod tests;
+pub mod users;
 
 pub use adding::{AddFault, Sources};
 pub use engine::{Engine, NewFault};

@@ -2,10 +2,9 @@
 ghost use Rattle.std.specs.Prelude.{◌≡◌, ◌-◌, ◌≤◌, None, is_some, map, option_map, replicate, slice_set, string_bytes, vec_len, IfOk};
 ghost use Rattle.med_session.specs.Engine.{user_of};
 
+use crate::session::Sid;
 use med_value::NoMemory;
 use std::alloc::Global;
-
-use crate::session::Sid;
 
 /// How many sessions there are.
 const SESSIONS: usize = 64;

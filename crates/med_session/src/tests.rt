@@ -51,7 +51,8 @@ fn sessions_closed_by_the_server(rt: HostRuntime) -> Result<(), Fail> {
     engine.request(two, Request::Open("bob"), &mut out)?;
     engine.close_sessions();
     engine.request(two, Request::Bye, &mut out)?;
-    let want = b"2 T OPEN\n2 E 08003 connection_does_not_exist\n2 T OPEN\n2 E 08003 connection_does_not_exist\n";
+    let want =
+        b"2 T OPEN\n2 E 08003 connection_does_not_exist\n2 T OPEN\n2 E 08003 connection_does_not_exist\n";
     assert_eq!(rt; out.as_slice(), want.as_slice());
     Ok(())
 }
@@ -71,13 +72,23 @@ fn text(alloc: Global, bytes: &str) -> Result<Value, Fail> {
 #[test]
 fn text_of_rows(rt: HostRuntime) -> Result<(), Fail> {
     let alloc = rt.alloc();
-    let names = vec![in alloc; String::from_str(alloc, "id")?, String::from_str(alloc, "a\tb")?]?;
-    let first = Row { cells: vec![in alloc; Value::Int(1), Value::Null]? };
-    let second = Row { cells: vec![in alloc; Value::Bool(true), text(alloc, "a\\b\n")?]? };
+    let names = vec![in alloc;
+        String::from_str(alloc, "id")?,
+        String::from_str(alloc, "a\tb")?,
+    ]?;
+    let first = Row {
+        cells: vec![in alloc; Value::Int(1), Value::Null]?,
+    };
+    let second = Row {
+        cells: vec![in alloc; Value::Bool(true), text(alloc, "a\\b\n")?]?,
+    };
     let rows = vec![in alloc; first, second]?;
     let mut out = Vec::new(alloc);
     out.reserve(128)?;
     write_reply(alloc, 7, &Outcome::Rows(RowSet { names, rows }), &mut out);
-    assert_eq!(rt; out.as_slice(), b"7 H\tid\ta\\tb\n7 R\t1\t\\N\n7 R\tt\ta\\\\b\\n\n7 T SELECT 2\n".as_slice());
+    assert_eq!(rt;
+        out.as_slice(),
+        b"7 H\tid\ta\\tb\n7 R\t1\t\\N\n7 R\tt\ta\\\\b\\n\n7 T SELECT 2\n".as_slice()
+    );
     Ok(())
 }

@@ -1,4 +1,4 @@
-use Rattle.std.proofs.Common.{◌≡◌, ◌≤◌, ◌-◌, None, Option, List, ℕ, map, option_map, replicate, vec_len, string_bytes}
+use Rattle.std.proofs.Common.{◌≡◌, ◌≤◌, ◌-◌, None, map, option_map, replicate, vec_len, string_bytes}
 use Rattle.med_session.proofs.places.closed_sessions.Given as goal
 
 abbrev pub invariant-loop-users : goal.invariant-loop-users

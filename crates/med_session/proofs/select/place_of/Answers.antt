@@ -1,4 +1,4 @@
-use Rattle.std.proofs.Common.{◌≡◌, ◌<◌, false, map, length, slice_index_or, sym, ◌∙◌, ap, rules, arith, bytes_eq, string_bytes}
+use Rattle.std.proofs.Common.{◌≡◌, ◌<◌, false, map, length, slice_index_or, sym, ◌∙◌, ap, arith, bytes_eq}
 use Rattle.std.proofs.lemmas.List.{length-map, get_or-map, drop-map}
 use Rattle.fdw_api.specs.Kinds.{column_of}
 use Rattle.med_session.proofs.Finding.{column_next, cells_next}

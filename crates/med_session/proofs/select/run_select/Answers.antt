@@ -27,9 +27,11 @@ pub returns-in-Ok-clause-ok : goal.returns-in-Ok-clause-ok
 returns-in-Ok-clause-ok g c =
     let tables = map attached c.args.tables.now in
     let name = string_bytes c.args.select.table in
-    let found : named name tables ≡ Some (attached c.in-Some.table.now) = ap (λ n. named n tables) (sym c.as_str.ensures.value) ∙ sym c.in-Some.ensures in
-    (refl, select_ok tables (map string_bytes c.args.select.columns.items) name c.in_ok-places.places.items _ (map tuple c.in-Ok.rows.items) _ (attached c.in-Some.table.now) found
-      (rw (c.deref.ensures.value, c.deref-2.ensures.value) at c.in_ok-places.ensures.ok) (rw c.deref-3.ensures.value at c.in-Ok.ensures.ok))
+    let found : named name tables ≡ Some (attached c.in-Some.table.now) = ap (λ n. named n tables) (sym c.as_str.ensures.value) ∙ sym c.in-Some.ensures in (
+      refl,
+      select_ok tables (map string_bytes c.args.select.columns.items) name c.in_ok-places.places.items _ (map tuple c.in-Ok.rows.items) _ (attached c.in-Some.table.now) found
+          (rw (c.deref.ensures.value, c.deref-2.ensures.value) at c.in_ok-places.ensures.ok) (rw c.deref-3.ensures.value at c.in-Ok.ensures.ok),
+    )
 
 pub returns-in-Err-clause-err : goal.returns-in-Err-clause-err
 returns-in-Err-clause-err g c =
@@ -37,4 +39,4 @@ returns-in-Err-clause-err g c =
     let name = string_bytes c.args.select.table in
     let found : named name tables ≡ Some (attached c.in-Some.table.now) = ap (λ n. named n tables) (sym c.as_str.ensures.value) ∙ sym c.in-Some.ensures in
     select_err tables (map string_bytes c.args.select.columns.items) name c.in_ok-places.places.items _ c.in-Err.fault _ _ (attached c.in-Some.table.now) found
-      (rw (c.deref.ensures.value, c.deref-2.ensures.value) at c.in_ok-places.ensures.ok) c.cause_of.ensures c.in-Err.ensures.err
+    (rw (c.deref.ensures.value, c.deref-2.ensures.value) at c.in_ok-places.ensures.ok) c.cause_of.ensures c.in-Err.ensures.err

@@ -1,9 +1,6 @@
-use Rattle.std.proofs.Common.{◌≡◌, ◌-◌, Some, None, true, false, is_some, map, option_map, length, slice_set, ap, sym, ◌∙◌, rules, string_bytes}
-use Rattle.med_session.specs.Engine.{shown, user_of}
-use Rattle.med_session.specs.Requests.{bye}
-use Rattle.med_session.specs.Replies.{done}
-use Rattle.med_session.proofs.Leading.{closed, closed_twice, with_users}
-use Rattle.med_session.specs.Engine.{Leads}
+use Rattle.std.proofs.Common.{◌≡◌, true, false, sym, ◌∙◌, rules}
+use Rattle.med_session.specs.Engine.{shown}
+use Rattle.med_session.proofs.Leading.{closed, closed_twice}
 use Rattle.med_session.proofs.engine.Engine.bye.Goals as goal
 
 pub returns-then-not-was_open-clause-leads : goal.returns-then-not-was_open-clause-leads

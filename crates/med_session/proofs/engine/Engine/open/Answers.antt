@@ -1,4 +1,4 @@
-use Rattle.std.proofs.Common.{◌≡◌, ◌-◌, ◌⊎◌, Some, true, false, is_some, map, option_map, length, slice_set, ap, sym, ◌∙◌, rules, inl, inr, string_bytes}
+use Rattle.std.proofs.Common.{◌≡◌, ◌⊎◌, true, false, is_some, sym, ◌∙◌, rules, inl, inr, string_bytes}
 use Rattle.std.proofs.lemmas.Bool.{false≢true}
 use Rattle.med_session.specs.Requests.{opening, IsUser}
 use Rattle.med_session.specs.Engine.{shown, user_of}
@@ -10,10 +10,10 @@ pub returns-then-is_open-clause-leads : goal.returns-then-is_open-clause-leads
 returns-then-is_open-clause-leads g c =
     let e = shown g.W.Wrapper.meaning c.args.self.now in
     let why : (is_some (user_of e.users c.args.sid.number) ≡ true) ⊎ (IsUser c.args.user.now → ⊥) =
-      elim c.then-is_open.branch [
-        then-is_open-via-then-is_open w ↦ inl (sym c.is_open.ensures ∙ w.if-is_open.true)
+    elim c.then-is_open.branch [
+      | then-is_open-via-then-is_open w ↦ inl (sym c.is_open.ensures ∙ w.if-is_open.true)
       | then-is_open-via-else-is_open+then-not-is_user w ↦ inr (λ u. let no : w.is_user.result ≡ false = search rules in false≢true (sym no ∙ w.is_user.ensures.1 u))
-      ] in
+    ] in
     opened_twice e c.args.sid.number c.args.user.now c.args.sid.in_range why
 
 pub returns-in-Ok-clause-leads : goal.returns-in-Ok-clause-leads

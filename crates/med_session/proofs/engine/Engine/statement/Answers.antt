@@ -1,7 +1,7 @@
-use Rattle.std.proofs.Common.{◌≡◌, true, false, is_some, map, ap, sym, subst, ◌∙◌, rules, string_bytes}
+use Rattle.std.proofs.Common.{◌≡◌, true, false, map, sym, subst, ◌∙◌, rules, string_bytes}
 use Rattle.med_parser.specs.Tree.{Tree}
 use Rattle.med_parser.specs.Grammar.{HasTree}
-use Rattle.med_session.specs.Engine.{shown, user_of}
+use Rattle.med_session.specs.Engine.{shown}
 use Rattle.med_session.proofs.Leading.{not_open}
 use Rattle.med_session.proofs.Querying.{IsRead, not_read, selects, select_fails, selects_sound, fails_sound}
 use Rattle.med_session.proofs.engine.Engine.statement.Goals as goal
