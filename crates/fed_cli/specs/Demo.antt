@@ -26,8 +26,8 @@ parts = record {
   name = codes "parts";
   kinds = types.Int ∷ types.Text ∷ types.Int ∷ types.Bool ∷ [];
   rows = (Whole (pos 1) ∷ Chars (codes "bolt") ∷ Whole (pos 10) ∷ Logic true ∷ [])
-    ∷ (Whole (pos 2) ∷ Chars (codes "nut") ∷ NoValue ∷ Logic true ∷ [])
-    ∷ (Whole (pos 3) ∷ NoValue ∷ Whole (pos 0) ∷ Logic false ∷ []) ∷ [];
+      ∷ (Whole (pos 2) ∷ Chars (codes "nut") ∷ NoValue ∷ Logic true ∷ [])
+      ∷ (Whole (pos 3) ∷ NoValue ∷ Whole (pos 0) ∷ Logic false ∷ []) ∷ [];
 }
 
 abbrev pub orders : Listed

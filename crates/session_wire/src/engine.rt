@@ -13,12 +13,7 @@ impl<W: Wrapper> Handler for Engine<W> {
 
     ghost sound = { λ engine. EngineIsSound W.meaning engine };
 
-    fn request(
-        &mut self,
-        sid: Sid,
-        request: Request<'_>,
-        out: &mut Vec<u8>,
-    ) -> Result<(), NoRoom> {
+    fn request(&mut self, sid: Sid, request: Request<'_>, out: &mut Vec<u8>) -> Result<(), NoRoom> {
         self.request(sid, request, out)
     }
 

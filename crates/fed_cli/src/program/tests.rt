@@ -12,7 +12,8 @@ use std::test::Fail;
 
 const STORED: &[u8] = b"1 OPEN ann\n1 Q SELECT id, name FROM parts\n";
 
-const ANSWER: &[u8] = b"1 T OPEN\n1 H\tid\tname\n1 R\t1\tbolt\n1 R\t2\tnut\n1 R\t3\t\\N\n1 T SELECT 3\n";
+const ANSWER: &[u8] =
+    b"1 T OPEN\n1 H\tid\tname\n1 R\t1\tbolt\n1 R\t2\tnut\n1 R\t3\t\\N\n1 T SELECT 3\n";
 
 const CLOSED: &[u8] = b"0 E 08P01 protocol_violation\n0 T CLOSED\n";
 
@@ -51,7 +52,10 @@ fn stored_stream_in_pieces_of_every_size(rt: HostRuntime) -> Result<(), Fail> {
 fn each_line_gets_its_reply(rt: HostRuntime) -> Result<(), Fail> {
     let cases: [(&[u8], &[u8]); 17] = [
         (b"1 OPEN ann", b"1 E 08P01 protocol_violation\n"),
-        (b"1 Q SELECT nope FROM parts", b"1 E 42703 undefined_column\n"),
+        (
+            b"1 Q SELECT nope FROM parts",
+            b"1 E 42703 undefined_column\n",
+        ),
         (b"1 Q SELECT id FROM none", b"1 E 42P01 undefined_table\n"),
         (b"1 Q SELEC 1", b"1 E 42601 syntax_error\n"),
         (b"1 Q ", b"1 E 42601 syntax_error\n"),
@@ -67,9 +71,15 @@ fn each_line_gets_its_reply(rt: HostRuntime) -> Result<(), Fail> {
         (b"", b"0 E 08P01 protocol_violation\n"),
         (b"3 OPEN public", b"3 E 08P01 protocol_violation\n"),
         (b"64 OPEN bob", b"64 T OPEN\n"),
-        (b"64 Q SELECT n FROM orders;", b"64 H\tn\n64 R\t4\n64 R\t6\n64 R\t1\n64 T SELECT 3\n"),
+        (
+            b"64 Q SELECT n FROM orders;",
+            b"64 H\tn\n64 R\t4\n64 R\t6\n64 R\t1\n64 T SELECT 3\n",
+        ),
         (b"64 BYE\r", b"64 T BYE\n"),
-        (b"1 Q SELECT LIVE, \"live\" FROM Parts -- all", b"1 H\tlive\tlive\n1 R\tt\tt\n1 R\tt\tt\n1 R\tf\tf\n1 T SELECT 3\n"),
+        (
+            b"1 Q SELECT LIVE, \"live\" FROM Parts -- all",
+            b"1 H\tlive\tlive\n1 R\tt\tt\n1 R\tt\tt\n1 R\tf\tf\n1 T SELECT 3\n",
+        ),
     ];
     let mut input = Vec::new(rt.alloc());
     input.extend_from_slice(b"1 OPEN ann\n")?;
@@ -105,13 +115,22 @@ fn filled(alloc: Global, length: usize) -> Result<Vec<u8>, Fail> {
 fn long_lines_are_answered_up_to_the_limit(rt: HostRuntime) -> Result<(), Fail> {
     let input = filled(rt.alloc(), 65_536)?;
     let mut out = Vec::new(rt.alloc());
-    assert_eq!(rt; serve(rt.alloc(), Some("demo"), &mut input.as_slice(), &mut out), Ok(()));
-    assert_eq!(rt; out.as_slice(), b"1 T OPEN\n1 H\tn\n1 R\t4\n1 R\t6\n1 R\t1\n1 T SELECT 3\n1 T BYE\n".as_slice());
+    assert_eq!(rt;
+        serve(rt.alloc(), Some("demo"), &mut input.as_slice(), &mut out),
+        Ok(())
+    );
+    assert_eq!(rt;
+        out.as_slice(),
+        b"1 T OPEN\n1 H\tn\n1 R\t4\n1 R\t6\n1 R\t1\n1 T SELECT 3\n1 T BYE\n".as_slice()
+    );
     let input = filled(rt.alloc(), 65_537)?;
     let mut out = Vec::new(rt.alloc());
     let ended = serve(rt.alloc(), Some("demo"), &mut input.as_slice(), &mut out);
     assert_eq!(rt; ended, Err(RunFault::ProtocolViolation));
-    assert_eq!(rt; &out.as_slice()[..], b"1 T OPEN\n0 E 08P01 protocol_violation\n0 T CLOSED\n".as_slice());
+    assert_eq!(rt;
+        &out.as_slice()[..],
+        b"1 T OPEN\n0 E 08P01 protocol_violation\n0 T CLOSED\n".as_slice()
+    );
     Ok(())
 }
 
@@ -128,7 +147,10 @@ fn line_that_is_no_text_closes(rt: HostRuntime) -> Result<(), Fail> {
 #[test]
 fn sources_and_tables_are_refused(rt: HostRuntime) -> Result<(), Fail> {
     let alloc = rt.alloc();
-    assert_eq!(rt; Engine::<ListWrapper>::new(alloc, "Bad").err(), Some(NewFault::BadName));
+    assert_eq!(rt;
+        Engine::<ListWrapper>::new(alloc, "Bad").err(),
+        Some(NewFault::BadName)
+    );
     let mut engine: Engine<ListWrapper> = Engine::new(alloc, "admin")?;
     let list = ListWrapper::new(alloc, demo_tables(alloc)?)?;
     add_demo(alloc, &mut engine, "demo", list)?;
@@ -140,10 +162,17 @@ fn sources_and_tables_are_refused(rt: HostRuntime) -> Result<(), Fail> {
         ("p", "demo", "other", Cause::TableNotFound),
     ];
     for (table, source, remote, cause) in cases {
-        assert_eq!(rt; engine.attach(table, source, remote, &columns), Err(cause), "{cause:?}");
+        assert_eq!(rt;
+            engine.attach(table, source, remote, &columns),
+            Err(cause),
+            "{cause:?}"
+        );
     }
     columns.extend(parts_columns(alloc)?)?;
-    assert_eq!(rt; engine.attach("p", "demo", "parts", &columns), Err(Cause::DuplicateColumn));
+    assert_eq!(rt;
+        engine.attach("p", "demo", "parts", &columns),
+        Err(Cause::DuplicateColumn)
+    );
     let second = ListWrapper::new(alloc, Vec::new(alloc))?;
     let refused = engine.add_source("demo", SourceKind::List, second).err();
     assert_eq!(rt; refused.map(|back| back.1), Some(AddFault::Taken));

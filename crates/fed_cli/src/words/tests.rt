@@ -5,9 +5,15 @@ use std::test::Fail;
 #[test]
 fn good_words_ask_to_run(rt: HostRuntime) -> Result<(), Fail> {
     let plain = ["fedq", "run"];
-    assert_eq!(rt; read_words(rt.alloc(), &plain).ok(), Some(Asked::Run { list: None }));
+    assert_eq!(rt;
+        read_words(rt.alloc(), &plain).ok(),
+        Some(Asked::Run { list: None })
+    );
     let listed = ["fedq", "run", "--list", "demo"];
-    assert_eq!(rt; read_words(rt.alloc(), &listed).ok(), Some(Asked::Run { list: Some("demo") }));
+    assert_eq!(rt;
+        read_words(rt.alloc(), &listed).ok(),
+        Some(Asked::Run { list: Some("demo") })
+    );
     Ok(())
 }
 
@@ -16,9 +22,21 @@ fn other_words_are_refused_with_a_text(rt: HostRuntime) -> Result<(), Fail> {
     let cases: [(&[&str], u8, &str); 6] = [
         (&["fedq"], 2, "Usage: fedq <COMMAND>"),
         (&["fedq", "walk"], 2, "unrecognized subcommand 'walk'"),
-        (&["fedq", "run", "--lists"], 2, "unexpected argument '--lists' found"),
-        (&["fedq", "run", "--list", "Bad"], 2, "fedq: bad name: Bad\n"),
-        (&["fedq", "run", "--list", "select"], 2, "fedq: bad name: select\n"),
+        (
+            &["fedq", "run", "--lists"],
+            2,
+            "unexpected argument '--lists' found",
+        ),
+        (
+            &["fedq", "run", "--list", "Bad"],
+            2,
+            "fedq: bad name: Bad\n",
+        ),
+        (
+            &["fedq", "run", "--list", "select"],
+            2,
+            "fedq: bad name: select\n",
+        ),
         (&["fedq", "--help"], 0, "Usage: fedq <COMMAND>"),
     ];
     for (words, status, part) in cases {

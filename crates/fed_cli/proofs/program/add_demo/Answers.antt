@@ -12,8 +12,7 @@ returns-in-Ok-attach-2-clause-world g c = λ w agrees honest.
     let listed = with_source w name kinds.List list.nature.kind list.content.holdings in
     let first = c.in-Ok.ensures.world w agrees honest in
     let second = c.in-Ok-attach.ensures.world listed first in
-    let third = c.in-Ok-attach-2.ensures.world second.0 second.2 in
-    (
+    let third = c.in-Ok-attach-2.ensures.world second.0 second.2 in (
       third.0,
       record {
         mid = second.0;
