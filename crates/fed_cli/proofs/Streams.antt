@@ -1,11 +1,11 @@
 -- What is served so far, and one read more.
-use Rattle.std.proofs.Common.{◌≡◌, ℕ, List, [], ◌++◌, take, Option, Some, None, IsSome, Result, Ok, Err, refl, sym, ap, ◌∙◌, subst, append_assoc, append-nil}
-use Rattle.std.specs.Io.KnownBytes.{Consumes, Appends, Keeps, IsAtEnd}
-use Rattle.session_wire.specs.Lines.{lines_of, rest, IsFrontOfLine}
-use Rattle.session_wire.specs.Run.{Steps, Run, Fed, BrokenOff}
+use Rattle.std.proofs.Common.{◌≡◌, ℕ, List, [], ◌++◌, Option, Some, None, Err, refl, sym, ap, ◌∙◌, subst, append_assoc, append-nil}
+use Rattle.std.specs.Io.KnownBytes.{Consumes, Appends, Keeps}
+use Rattle.session_wire.specs.Lines.{IsFrontOfLine}
+use Rattle.session_wire.specs.Run.{Steps, Fed}
 use Rattle.session_wire.proofs.FrontOfLine.{front_is_rest}
 use Rattle.session_wire.proofs.Runs.{fed_none, fed_more}
-use Rattle.fed_cli.specs.Served.{Served, Ran, Stopped, Serves, Fails}
+use Rattle.fed_cli.specs.Served.{Served, Serves, Fails}
 use Rattle.fed_cli.specs.declared.stream.StreamFault.{StreamFault}
 use Rattle.fed_cli.specs.declared.stream.StreamFault.TheVariants as faults
 

@@ -1,7 +1,6 @@
 -- The demo list: two tables, their columns as they are declared, and their rows.
 use Rattle.std.specs.Prelude.{ℕ, pos, true, false, List, [], ◌∷◌, codes}
-use Rattle.med_value.specs.Datum.{Datum, NoValue, Whole, Chars, Logic, Tuple}
-use Rattle.med_value.specs.declared.value.ColType.{ColType}
+use Rattle.med_value.specs.Datum.{NoValue, Whole, Chars, Logic, Tuple}
 use Rattle.med_value.specs.declared.value.ColType.TheVariants as types
 use Rattle.fdw_api.specs.Kinds.{Column}
 use Rattle.probe_wrapper.specs.Lists.{Listed}

@@ -1,10 +1,9 @@
 -- A source that is added leaves an engine sound, and in agreement with the worlds that have it too.
-use Rattle.std.proofs.Common.{◌≡◌, ℕ, ◌+◌, ◌<◌, ◌≤◌, ◌⊎◌, List, [], ◌∷◌, ◌++◌, Option, Some, None, All, slice_get, slice_index_or, length, map, refl, ap, sym, ◌∙◌, subst, zero, suc, inl, inr, arith, bytes_eq}
+use Rattle.std.proofs.Common.{◌≡◌, ℕ, ◌+◌, ◌<◌, ◌≤◌, List, [], ◌∷◌, ◌++◌, Option, Some, None, All, slice_get, slice_index_or, length, map, refl, ap, sym, ◌∙◌, subst, zero, suc, inl, inr, arith, bytes_eq}
 use Rattle.std.specs.List.{IsDistinct}
 use Rattle.std.proofs.lemmas.List.{length_push, map-append}
-use Rattle.std.proofs.lemmas.Option.{slice_get-map}
-use Rattle.fdw_api.specs.State.{BoxState, Bound, IsIdle, is_honest, table_of}
-use Rattle.med_exec.specs.Slots.{BoxAt, HasTable}
+use Rattle.fdw_api.specs.State.{BoxState, IsIdle, is_honest, table_of}
+use Rattle.med_exec.specs.Slots.{HasTable}
 use Rattle.med_session.specs.World.{World, Source, ForeignTable, free}
 use Rattle.med_session.specs.Engine.{Label, Attached, Shown, IsAtRest, EachBox, TakesColumns, BoundAreAttached, IsSound, state_of, sources_of, IsNamedAt, TableAgrees, TablesAgree, Agrees}
 use Rattle.med_session.specs.Adding.{HasSource, with_box, Adds}

@@ -1,7 +1,6 @@
 -- What a call of `decode` says of the lines of the bytes that it is given.
-use Rattle.std.proofs.Common.{◌≡◌, ℕ, suc, zero, ◌+◌, ◌-◌, ◌<◌, ◌≤◌, ◌==◌, nat_lt, nat_le, Bool, true, false, cond, List, [], ◌∷◌, ◌++◌, length, take, drop, get_or, replicate, refl, sym, ap, ◌∙◌, subst, arith, append_assoc, append-nil, length-append, inl, inr, ◌⊎◌, Some, None, Ok, Err, Option, Result, Global, String, string_bytes}
+use Rattle.std.proofs.Common.{◌≡◌, ℕ, suc, zero, ◌+◌, ◌-◌, ◌<◌, ◌≤◌, ◌==◌, Bool, true, false, List, [], ◌∷◌, ◌++◌, length, take, drop, refl, sym, ap, ◌∙◌, subst, arith, append-nil, length-append, inl, inr, ◌⊎◌, Some, None, Ok, Err, Global, String, string_bytes}
 use Rattle.std.proofs.lemmas.Bool.{cases_lt}
-use Rattle.std.proofs.lemmas.Bool.Decides.{nat_tests}
 use Rattle.std.proofs.lemmas.Str.{IsUtf8-from_is_utf8, is_utf8-from_IsUtf8, IsUtf8-string_bytes}
 use Rattle.std.specs.Str.{is_utf8, IsUtf8}
 use Rattle.std.specs.IoError.{error_kind}
@@ -10,9 +9,9 @@ use Rattle.std.specs.declared.io.ErrorKind.TheVariants.{InvalidData, OutOfMemory
 use Rattle.tokio_util.specs.declared.codec.lines_codec.LinesCodec.{LinesCodec}
 use Rattle.tokio_util.specs.declared.codec.lines_codec.LinesCodecError.{LinesCodecError}
 use Rattle.tokio_util.specs.declared.codec.lines_codec.LinesCodecError.TheVariants.{MaxLineLengthExceeded, Io}
-use Rattle.tokio_util.specs.Codec.Next.{Next, decoded, partial, at_end, Decodes, Resumes}
-use Rattle.tokio_util.specs.Codec.Lines.{without_carriage_return, Scan, line as found, too_long, unfinished, newline_from, read_line, skip_line, scan, at_line_start, discarding, max_length, gives_lines, Answers, IsSettled, IsUnfinished, IsTextOf}
-use Rattle.session_wire.specs.Lines.{Lines, line, rest, closed, lines_within}
+use Rattle.tokio_util.specs.Codec.Next.{Next, decoded, partial, Decodes, Resumes}
+use Rattle.tokio_util.specs.Codec.Lines.{Scan, line as found, too_long, unfinished, newline_from, read_line, skip_line, scan, at_line_start, discarding, gives_lines, Answers, IsSettled, IsUnfinished}
+use Rattle.session_wire.specs.Lines.{line, rest, closed, lines_within}
 use Rattle.session_wire.specs.Finds.{IsReady}
 use Rattle.std.specs.List.{position_or_len}
 use Rattle.std.proofs.lemmas.List.{length-drop}

@@ -1,5 +1,5 @@
 -- What the codec finds at the front of some bytes is the first of their lines.
-use Rattle.std.proofs.Common.{◌≡◌, ℕ, suc, ◌+◌, ◌<◌, ◌≤◌, ◌==◌, nat_lt, nat_le, ◌&&◌, Bool, true, false, cond, List, [], ◌∷◌, ◌++◌, length, take, drop, get_or, refl, sym, ap, ◌∙◌, subst, Some, None, arith, append_assoc, append-nil, length-append, inl, inr, ◌⊎◌, take-append-drop, add-one, drop-cons}
+use Rattle.std.proofs.Common.{◌≡◌, ℕ, suc, ◌+◌, ◌<◌, ◌≤◌, ◌==◌, nat_lt, nat_le, Bool, true, false, cond, List, [], ◌∷◌, ◌++◌, length, take, drop, refl, sym, ap, ◌∙◌, subst, Some, None, arith, append-nil, length-append, inl, inr, ◌⊎◌, add-one}
 use Rattle.std.proofs.lemmas.Bool.{cases_lt}
 use lib.Seq.{take-append_seam}
 use Rattle.std.proofs.lemmas.Bool.Decides.{nat_tests}
@@ -7,8 +7,8 @@ use Rattle.std.specs.Str.{is_utf8}
 use Rattle.std.specs.List.{position_or_len}
 use Rattle.tokio_util.specs.Codec.Lines.{without_carriage_return, Scan, line as found, too_long, unfinished, newline_from, read_line}
 use Rattle.tokio_util.specs.Codec.LinesLaws.{read_line_found, read_line_long, read_line_short}
-use Rattle.session_wire.specs.Lines.{Lines, line, rest, closed, on_first, split, is_line, up_to_closing, lines_within, go_on, unread_after}
-use Rattle.session_wire.proofs.Pieces.{HasNoLf, on_front, split_front, rest_has_no_lf}
+use Rattle.session_wire.specs.Lines.{Lines, line, rest, closed, split, is_line, up_to_closing, lines_within, unread_after}
+use Rattle.session_wire.proofs.Pieces.{HasNoLf, split_front, rest_has_no_lf}
 
 -- the lines that begin with what a scan found
 abbrev pub from_scan : ℕ → Scan → Lines

@@ -1,9 +1,9 @@
 -- Bytes that are the front of a line, and lead to no line yet.
-use Rattle.std.proofs.Common.{◌≡◌, ℕ, ◌+◌, ◌-◌, ◌<◌, ◌≤◌, ◌==◌, nat_lt, ◌||◌, Bool, true, false, cond, List, [], ◌∷◌, ◌++◌, length, refl, sym, ap, ◌∙◌, arith, length-append, Option, Some}
+use Rattle.std.proofs.Common.{◌≡◌, ℕ, ◌-◌, ◌≤◌, ◌==◌, nat_lt, Bool, true, false, List, [], ◌∷◌, ◌++◌, length, refl, ◌∙◌, arith, length-append, Some}
 use Rattle.std.proofs.lemmas.Bool.Decides.{nat_tests}
 use Rattle.std.proofs.lemmas.List.Folds.{list_any-append}
 use Rattle.std.specs.List.{list_any}
-use Rattle.session_wire.specs.Lines.{rest, lines_of, line_limit, lines_within, unread_after, split, IsFrontOfLine}
+use Rattle.session_wire.specs.Lines.{rest, lines_of, line_limit, unread_after, IsFrontOfLine}
 use Rattle.session_wire.proofs.Pieces.{HasNoLf, rest_has_no_lf}
 use Rattle.session_wire.proofs.FirstLine.{lines_free, within_ends}
 

@@ -1,9 +1,9 @@
 -- Lines of two pieces joined is Lines of the first, then of its rest with the second.
-use Rattle.std.proofs.Common.{◌≡◌, ℕ, ◌+◌, ◌<◌, ◌≤◌, ◌==◌, eqb, Bool, true, false, cond, List, [], ◌∷◌, ◌++◌, length, refl, sym, ap, ◌∙◌, arith, append_assoc, append-nil, length-append, inl, inr, ◌⊎◌, nat_lt}
+use Rattle.std.proofs.Common.{◌≡◌, ℕ, ◌<◌, ◌==◌, Bool, true, false, List, [], ◌∷◌, ◌++◌, length, refl, sym, ap, ◌∙◌, arith, length-append, nat_lt}
 use borrow.Author.Tests.{ltb-true}
 use Rattle.tokio_util.specs.Codec.Lines.{without_carriage_return}
 use Rattle.std.proofs.lemmas.Bool.Decides.{nat_tests}
-use Rattle.session_wire.specs.Lines.{Lines, line, rest, closed, on_first, split, is_line, up_to_closing, lines_within, go_on}
+use Rattle.session_wire.specs.Lines.{line, closed, on_first, split, is_line, up_to_closing, lines_within, go_on}
 
 -- no LF in it
 abbrev pub HasNoLf : List ℕ → Type 0

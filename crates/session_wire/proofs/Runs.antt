@@ -1,10 +1,10 @@
 -- Runs that go on by one line, or by another piece.
-use Rattle.std.proofs.Common.{◌≡◌, ℕ, ◌<◌, List, [], ◌∷◌, ◌++◌, refl, sym, ap, ◌∙◌, subst, append_assoc, append-nil, inl, inr, Option, Some, None, arith, Result, Ok, Err, OnErr}
+use Rattle.std.proofs.Common.{◌≡◌, ℕ, List, [], ◌++◌, refl, sym, ap, ◌∙◌, subst, append_assoc, append-nil, inl, inr, Option, Some, None, Result, Ok, Err, OnErr}
 use Rattle.tokio_util.specs.declared.codec.lines_codec.LinesCodec.{LinesCodec}
 use Rattle.session_wire.specs.Finds.{IsReady}
 use Rattle.session_wire.specs.Lines.{unread_after, Lines, line, rest, closed, go_on, lines_of, line_limit}
 use Rattle.session_wire.proofs.Pieces.{lines-append}
-use Rattle.session_wire.specs.Run.{Steps, IsAnswered, Run, RunFront, Fed, BrokenOff, line_count}
+use Rattle.session_wire.specs.Run.{Steps, IsAnswered, Run, RunFront, Fed, BrokenOff}
 use Rattle.session_wire.specs.Replies.{closing_replies}
 
 -- the lines so far lead from old to now and to these replies, and these lines are left

@@ -1,5 +1,5 @@
 -- What is left unread of a server, by whether its stream is closed.
-use Rattle.std.proofs.Common.{◌≡◌, ℕ, List, Bool, true, false, cond, Option, Some, None, ap}
+use Rattle.std.proofs.Common.{◌≡◌, Bool, true, false, cond, Some, None, ap}
 use Rattle.session_wire.specs.declared.server.Server.{Server}
 use Rattle.session_wire.specs.Servers.{is_closed, held_back, unread_of}
 

@@ -1,8 +1,7 @@
 -- Runs of a handler's states, and of what the states stand for.
-use Rattle.std.proofs.Common.{◌≡◌, ℕ, List, [], ◌∷◌, ◌++◌, refl, sym, ap, ◌∙◌, subst, inl, inr, ◌⊎◌, Option}
+use Rattle.std.proofs.Common.{ℕ, List, refl, sym, subst, inl, inr, Option}
 use Rattle.med_session.specs.Requests.{Asked}
 use Rattle.session_wire.specs.Lines.{Lines, line, rest, closed, lines_of}
-use Rattle.session_wire.specs.Frames.{IsFrame, IsReplySid}
 use Rattle.session_wire.specs.Run.{Steps, IsAnswered, Run, RunFront, Fed, BrokenOff}
 
 -- each step of a state is a step of every world that it stands for

@@ -1,4 +1,4 @@
-use Rattle.std.proofs.Common.{◌≡◌, ◌∙◌, ap, subst, List, map, codes}
+use Rattle.std.proofs.Common.{◌∙◌, ap, subst, List, map, codes}
 use Rattle.fdw_api.specs.Kinds.{Column, column_of}
 use Rattle.med_session.specs.Attaching.{Attaches, with_source}
 use Rattle.med_session.specs.declared.sources.SourceKind.TheVariants as kinds

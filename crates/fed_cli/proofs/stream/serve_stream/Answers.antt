@@ -1,5 +1,5 @@
-use Rattle.std.proofs.Common.{◌≡◌, ℕ, List, ◌++◌, Option, Some, None, true, false, refl, sym, ap, ◌∙◌, subst}
-use Rattle.session_wire.specs.Servers.{handler_of, is_closed, held_back, unread_of}
+use Rattle.std.proofs.Common.{sym, ◌∙◌, subst}
+use Rattle.session_wire.specs.Servers.{handler_of, held_back}
 use Rattle.session_wire.proofs.ServerLemmas.{unread_of-open, unread_of-closed}
 use Rattle.fed_cli.specs.Served.{Served}
 use Rattle.fed_cli.proofs.Streams.{served_none, served_more, failed}

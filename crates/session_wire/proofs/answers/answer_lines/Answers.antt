@@ -1,6 +1,6 @@
-use Rattle.std.proofs.Common.{◌≡◌, ◌<◌, ℕ, suc, Some, string_bytes, List, [], ◌++◌, refl, sym, ap, ◌∙◌, subst, append_assoc, append-nil, arith, rules}
-use Rattle.session_wire.specs.Lines.{unread_after, Lines, lines_of}
-use Rattle.session_wire.specs.Run.{Run, RunFront, IsAnswered, line_count}
+use Rattle.std.proofs.Common.{◌≡◌, suc, Some, string_bytes, [], ◌++◌, sym, ap, ◌∙◌, subst, append_assoc, append-nil, arith}
+use Rattle.session_wire.specs.Lines.{unread_after, lines_of}
+use Rattle.session_wire.specs.Run.{RunFront, IsAnswered, line_count}
 use Rattle.session_wire.specs.Replies.{closing_replies}
 use Rattle.session_wire.proofs.Runs.{SoFar, so_far_none, so_far_more, so_far_stops, so_far_rest, so_far_closed, on_stop}
 use Rattle.session_wire.proofs.answers.answer_lines.Goals as goal

@@ -1,8 +1,6 @@
-use Rattle.std.proofs.Common.{◌≡◌, ◌+◌, ◌-◌, ◌≤◌, ◌==◌, ℕ, List, [], ◌++◌, Bool, false, true, not, ◌<◌, length, Some, refl, sym, ap, ◌∙◌, subst, append-nil, arith, rules}
+use Rattle.std.proofs.Common.{◌≡◌, ◌-◌, ◌≤◌, [], ◌++◌, Bool, false, true, not, ◌<◌, length, Some, refl, sym, ap, ◌∙◌, append-nil, arith}
 use Rattle.std.proofs.lemmas.Bool.{leb-true}
-use Rattle.std.specs.List.{list_any}
-use Rattle.session_wire.specs.Lines.{IsFrontOfLine, rest, lines_of, line_limit, unread_after}
-use Rattle.session_wire.specs.Run.{Run}
+use Rattle.session_wire.specs.Lines.{IsFrontOfLine, unread_after}
 use Rattle.session_wire.proofs.FrontOfLine.{front-append, front_is_rest}
 use Rattle.session_wire.proofs.Runs.{front_stops}
 use Rattle.session_wire.proofs.answers.answer_piece.Goals.{then-piece-len, else-piece-len}

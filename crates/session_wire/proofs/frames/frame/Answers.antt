@@ -1,6 +1,6 @@
-use Rattle.std.proofs.Common.{◌≡◌, ℕ, List, ◌∷◌, ◌++◌, inl, inr, refl, sym, ap, ◌∙◌, subst}
+use Rattle.std.proofs.Common.{◌≡◌, ◌∷◌, ◌++◌, inl, inr, refl, sym, ap, ◌∙◌, subst}
 use Rattle.std.specs.Fmt.{decimal}
-use Rattle.session_wire.specs.Frames.{IsRequest, BeginsWithSid}
+use Rattle.session_wire.specs.Frames.{IsRequest}
 use Rattle.session_wire.proofs.FirstSpace.{none_begins, some_begins, some_whole}
 use Rattle.session_wire.proofs.frames.frame.Goals as goal
 

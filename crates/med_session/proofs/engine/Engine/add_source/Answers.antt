@@ -1,4 +1,4 @@
-use Rattle.std.proofs.Common.{arith, rules}
+use Rattle.std.proofs.Common.{arith}
 use Rattle.std.proofs.lemmas.Grind.{common_steps}
 use Rattle.med_session.specs.Engine.{shown}
 use Rattle.med_session.proofs.AddingSources.{sound_of, agrees_of}
