@@ -155,19 +155,14 @@ fn sources_and_tables_are_refused(rt: HostRuntime) -> Result<(), Fail> {
     let list = ListWrapper::new(alloc, demo_tables(alloc)?)?;
     add_demo(alloc, &mut engine, "demo", list)?;
     let mut columns = parts_columns(alloc)?;
-    let cases = [
-        ("parts", "demo", "parts", Cause::DuplicateTable),
-        ("p", "none", "parts", Cause::UnableToConnect),
-        ("p", "demo", "parts", Cause::InUse),
-        ("p", "demo", "other", Cause::TableNotFound),
-    ];
-    for (table, source, remote, cause) in cases {
-        assert_eq!(rt;
-            engine.attach(table, source, remote, &columns),
-            Err(cause),
-            "{cause:?}"
-        );
-    }
+    let taken = engine.attach("parts", "demo", "parts", &columns);
+    assert_eq!(rt; taken, Err(Cause::DuplicateTable));
+    let unknown = engine.attach("p", "none", "parts", &columns);
+    assert_eq!(rt; unknown, Err(Cause::UnableToConnect));
+    let bound = engine.attach("p", "demo", "parts", &columns);
+    assert_eq!(rt; bound, Err(Cause::InUse));
+    let missing = engine.attach("p", "demo", "other", &columns);
+    assert_eq!(rt; missing, Err(Cause::TableNotFound));
     columns.extend(parts_columns(alloc)?)?;
     assert_eq!(rt;
         engine.attach("p", "demo", "parts", &columns),
