@@ -80,15 +80,18 @@ failed step ends old before mid after had has held holds piece new left now writ
   read = Consumes-trans had has now h.bytes piece h.read c;
   fed = joined step ends old before h.bytes piece (h.text ++ f.0) new left (fed_more step ends old (before ++ h.bytes) h.text mid after piece f.0 new left h.fed f.1);
 }
-failed step ends old before mid after had has held holds piece new left now writes faults.NoRoom h c f = (record {
-  between = has;
-  mid = mid;
-  after = after;
-  served = subst (λ w. Served step ends old before mid (Some after) had has held w) (sym f.2) h;
-  piece = piece;
-  read = c;
-  text = f.0;
-  broken = f.1;
-}, f.3)
+failed step ends old before mid after had has held holds piece new left now writes faults.NoRoom h c f = (
+  record {
+    between = has;
+    mid = mid;
+    after = after;
+    served = subst (λ w. Served step ends old before mid (Some after) had has held w) (sym f.2) h;
+    piece = piece;
+    read = c;
+    text = f.0;
+    broken = f.1;
+  },
+  f.3,
+)
 failed step ends old before mid after had has held holds piece new left now writes faults.Read h c f = absurd f
 failed step ends old before mid after had has held holds piece new left now writes faults.TooLong h c f = absurd f

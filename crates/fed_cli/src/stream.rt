@@ -8,6 +8,7 @@ ghost use Rattle.fed_cli.specs.Served.{Serves, Fails};
 use session_wire::{Handler, Server};
 use std::alloc::Global;
 use std::io::{ErrorKind, Read, Write};
+use thiserror::Error;
 
 /// The most bytes of one read.
 const PIECE: usize = 8_192;
@@ -25,15 +26,19 @@ pub enum Ended {
 }
 
 /// Why a stream was given up.
-#[derive(Clone, Copy, Debug, PartialEq, Eq)]
+#[derive(Clone, Copy, Debug, PartialEq, Eq, Error)]
 pub enum StreamFault {
     /// The input could not be read.
+    #[error("read fault")]
     Read,
     /// A reply could not be written.
+    #[error("write fault")]
     Write,
     /// The input did not end in 4,294,967,295 reads.
+    #[error("too many reads")]
     TooLong,
     /// Room for a piece or its replies was refused.
+    #[error("out of memory")]
     NoRoom,
 }
 
@@ -55,9 +60,9 @@ pub fn serve_stream<H: Handler, R: Read, W: Write>(
     requires { H.sound (handler_of server.old) }
     ensures serves { is_closed server.old ≡ false
         → Serves H.step H.ended (handler_of server.old) (held_back server.old)
-            (handler_of server.new) (unread_of server.new)
-            (R.remaining reader.old) (R.remaining reader.new)
-            (W.contents writer.old) (W.contents writer.new) result }
+        (handler_of server.new) (unread_of server.new)
+        (R.remaining reader.old) (R.remaining reader.new)
+        (W.contents writer.old) (W.contents writer.new) result }
     ensures closed_before { is_closed server.old ≡ true → (result ≡ Ok Ended.Closed)
         × (handler_of server.new ≡ handler_of server.old) × (is_closed server.new ≡ true)
         × (R.remaining reader.new ≡ R.remaining reader.old)
@@ -103,7 +108,7 @@ fn answer_piece<H: Handler, W: Write>(
     ensures ok { OnOk result ((text : List ℕ)
         × Appends (W.contents writer.old) (W.contents writer.new) text
         × Fed H.step H.ended (handler_of server.old) (held_back server.old ++ piece.now) text
-            (handler_of server.new) (unread_of server.new)) }
+        (handler_of server.new) (unread_of server.new)) }
     ensures fault { IfErr result (Fails H.step H.ended (handler_of server.old)
         (held_back server.old ++ piece.now) (handler_of server.new) (unread_of server.new)
         (W.contents writer.old) (W.contents writer.new)) }

@@ -175,9 +175,9 @@ kept_by limit xs t ys false e h s =
     let more = filler (suc t.max_length) in
     let far = missing_more t.next_index ys more free.0 (free_filler (suc t.max_length)) in
     let long : t.max_length < length (ys ++ more) = omega (arith, length-append ys more, length_filler (suc t.max_length)) in
-    let tooLong : scan t (ys ++ more) ≡ too_long (ys ++ more) = rw e (read_line_long t.max_length t.next_index (ys ++ more) (omega arith) long) in
+    let past_limit : scan t (ys ++ more) ≡ too_long (ys ++ more) = rw e (read_line_long t.max_length t.next_index (ys ++ more) (omega arith) long) in
     shown limit xs ys more (discarding t.max_length) (reads limit 0 (xs ++ more))
-    (h more (decoded (Err MaxLineLengthExceeded) (discarding t.max_length) (ys ++ more)) (rw tooLong (refl, refl, refl)))
+    (h more (decoded (Err MaxLineLengthExceeded) (discarding t.max_length) (ys ++ more)) (rw past_limit (refl, refl, refl)))
 
 pub ready_none : (limit : ℕ) (c : LinesCodec) (xs : List ℕ) (t : LinesCodec) (ys : List ℕ) → IsReady limit c xs → Decodes gives_lines c xs (Ok None) t ys → IsSettled t ys → (lines_within limit xs ≡ rest xs) × (ys ≡ xs) × IsReady limit t ys
 ready_none limit c xs t ys h d s =

@@ -49,10 +49,7 @@ rest_has_no_lf [] = tt
 rest_has_no_lf (b ∷ bs) = by_test_rest b bs (rest_has_no_lf bs) (b == 10) refl
 
 on_first-before : (b : ℕ) (ys : List ℕ) (p : List (List ℕ) × List ℕ) → (b == 10) ≡ false → on_first b (before p.0 (split (p.1 ++ ys))) ≡ before (on_first b p).0 (split ((on_first b p).1 ++ ys))
-on_first-before b ys ([], after) e = before_nil _ ∙ sym (split_other b (after ++ ys) e) ∙ sym (before_nil _)
-  where
-    before_nil : (q : List (List ℕ) × List ℕ) → q ≡ q
-    before_nil q = refl
+on_first-before b ys ([], after) e = sym (split_other b (after ++ ys) e)
 on_first-before b ys (l ∷ ls, after) e = refl
 
 by_test_append : (b : ℕ) (bs ys : List ℕ) → split (bs ++ ys) ≡ before (split bs).0 (split ((split bs).1 ++ ys)) → (t : Bool) → (b == 10) ≡ t → split (b ∷ bs ++ ys) ≡ before (split (b ∷ bs)).0 (split ((split (b ∷ bs)).1 ++ ys))

@@ -10,9 +10,11 @@ ghost use Rattle.session_wire.specs.Frames.{IsRequest, IsFrame, IsReplySid};
 
 use med_session::users::is_user;
 use med_session::{Request, Sid};
+use thiserror::Error;
 
 /// A line that is not in the grammar, answered by 08P01 protocol_violation.
-#[derive(Clone, Copy, Debug, PartialEq, Eq)]
+#[derive(Clone, Copy, Debug, PartialEq, Eq, Error)]
+#[error("protocol violation")]
 pub struct BadFrame {
     /// The number that the reply begins with: that of the line, if it begins with a session's number
     /// and a space, else 0.
@@ -51,10 +53,7 @@ fn sid_of(digits: &[u8]) -> Option<Sid>
     ensures none { IfNone result ((n : ℕ) → IsSid n → digits.now ≢ decimal n) }
 {
     let number = number_of(digits)?;
-    if number < 1 || 64 < number {
-        return None;
-    }
-    Some(Sid { number })
+    Sid::new(number)
 }
 
 // The number below 100 of these digits, with no leading zero.

@@ -9,16 +9,19 @@ use bytes::BytesMut;
 use med_session::NoRoom;
 use med_value::NoMemory;
 use std::alloc::Global;
+use thiserror::Error;
 
 /// Room for the first unread bytes, taken when a server is made.
 const FIRST_ROOM: usize = 8_192;
 
 /// Why a piece was refused.
-#[derive(Clone, Copy, Debug, PartialEq, Eq)]
+#[derive(Clone, Copy, Debug, PartialEq, Eq, Error)]
 pub enum FeedFault {
-    /// Room was refused. The stream is closed, and its sessions.
+    /// Room was refused. The stream is closed, and its sessions are ended.
+    #[error("out of memory")]
     NoRoom,
     /// The stream was closed before.
+    #[error("the stream is closed")]
     Closed,
 }
 

@@ -98,10 +98,17 @@ fn make_server(alloc: Global, rt: &impl Abort, is_full: bool) -> Server<Echo> {
         is_full,
         is_ended: false,
     };
-    Server::new(alloc, echo).ok().expect(rt, "room for a server")
+    Server::new(alloc, echo)
+        .ok()
+        .expect(rt, "room for a server")
 }
 
-fn make_source(bytes: &'static [u8], step: usize, before: Option<usize>, fault: ErrorKind) -> Source {
+fn make_source(
+    bytes: &'static [u8],
+    step: usize,
+    before: Option<usize>,
+    fault: ErrorKind,
+) -> Source {
     Source {
         bytes,
         step,
@@ -183,6 +190,20 @@ fn write_fault_ends(rt: HostRuntime) -> Result<(), Fail> {
         let ended = serve_stream(rt.alloc(), &mut server, &mut reader, &mut writer);
         assert_eq!(rt; ended, Err(StreamFault::Write), "at {calls}");
         assert_eq!(rt; writer.bytes.as_slice(), wants[calls], "at {calls}");
+    }
+    Ok(())
+}
+
+#[test]
+fn faults_have_texts(rt: HostRuntime) -> Result<(), Fail> {
+    let texts = [
+        (StreamFault::Read, "read fault"),
+        (StreamFault::Write, "write fault"),
+        (StreamFault::TooLong, "too many reads"),
+        (StreamFault::NoRoom, "out of memory"),
+    ];
+    for (fault, want) in texts {
+        assert_eq!(rt; format!(in rt.alloc(); "{fault}")?.as_str(), want);
     }
     Ok(())
 }

@@ -20,15 +20,17 @@ pub returns-then-is_closed-2-clause-serves : goal.returns-then-is_closed-2-claus
 returns-then-is_closed-2-clause-serves g c = λ _.
     let kept = c.loop.invariant in
     let so_far = subst (λ left. Served g.H.Handler.step g.H.Handler.ended (handler_of c.args.server.now) (held_back c.args.server.now) (handler_of c.loop.server) left (g.R.Read.remaining c.args.reader.now) (g.R.Read.remaining c.loop.reader) (g.W.Write.contents c.args.writer.now) (g.W.Write.contents c.loop.writer)) (unread_of-open c.loop.server kept.1) kept.0 in
-    let answered = c.in-Ok-answer_piece.ensures.ok in
-    (served_more _ _ _ _ _ _ _ _ _ _ _ answered.0 _ _ _ _ so_far c.in-Ok.ensures.bytes.0 answered.1 answered.2,
-    unread_of-closed c.answer_piece.new.server (sym c.is_closed-in-loop.ensures ∙ c.if-is_closed-2.true))
+    let answered = c.in-Ok-answer_piece.ensures.ok in (
+      served_more _ _ _ _ _ _ _ _ _ _ _ answered.0 _ _ _ _ so_far c.in-Ok.ensures.bytes.0 answered.1 answered.2,
+      unread_of-closed c.answer_piece.new.server (sym c.is_closed-in-loop.ensures ∙ c.if-is_closed-2.true),
+    )
 
 pub loop-preserved : goal.loop-preserved
 loop-preserved g c =
     let kept = c.loop.invariant in
     let so_far = subst (λ left. Served g.H.Handler.step g.H.Handler.ended (handler_of c.args.server.now) (held_back c.args.server.now) (handler_of c.loop.server) left (g.R.Read.remaining c.args.reader.now) (g.R.Read.remaining c.loop.reader) (g.W.Write.contents c.args.writer.now) (g.W.Write.contents c.loop.writer)) (unread_of-open c.loop.server kept.1) kept.0 in
-    let answered = c.in-Ok-answer_piece.ensures.ok in
-    (served_more _ _ _ _ _ _ _ _ _ _ _ answered.0 _ _ _ _ so_far c.in-Ok.ensures.bytes.0 answered.1 answered.2,
-    sym c.is_closed-in-loop.ensures ∙ c.if-is_closed-2.false,
-    c.in-Ok-answer_piece.ensures.sound)
+    let answered = c.in-Ok-answer_piece.ensures.ok in (
+      served_more _ _ _ _ _ _ _ _ _ _ _ answered.0 _ _ _ _ so_far c.in-Ok.ensures.bytes.0 answered.1 answered.2,
+      sym c.is_closed-in-loop.ensures ∙ c.if-is_closed-2.false,
+      c.in-Ok-answer_piece.ensures.sound,
+    )

@@ -1,13 +1,16 @@
-use Rattle.std.proofs.Common.{◌≡◌, ◌<◌, ◌≤◌, ℕ, sym, ◌∙◌, arith}
+use Rattle.std.proofs.Common.{◌≡◌, ◌≢◌, ◌<◌, ◌^◌, ◌≤◌, ◌↔◌, ℕ, List, Option, Some, None, IsSome, IfNone, sym, ◌∙◌, subst, arith}
 use Rattle.std.proofs.lemmas.Fmt.{decimal_injective}
-use Rattle.session_wire.proofs.frames.sid_of.Goals.{then-number-lt1-via-then-number-lt1, then-number-lt1-via-else-number-lt1+then-number-gt64}
+use Rattle.std.specs.Fmt.{decimal}
+use Rattle.med_session.specs.Requests.{IsSid}
+use Rattle.med_session.specs.declared.session.Sid.{Sid}
 use Rattle.session_wire.proofs.frames.sid_of.Goals as goal
 
-pub returns-then-number-lt1-clause-none : goal.returns-then-number-lt1-clause-none
-returns-then-number-lt1-clause-none c = λ n range same.
-    let number = c.in_ok-number.number in
-    let equal : number ≡ n = decimal_injective number n (omega arith) (omega arith) (sym c.in_ok-number.ensures.some ∙ same) in
-    elim c.then-number-lt1.branch [
-      | then-number-lt1-via-then-number-lt1 w ↦ omega arith
-      | then-number-lt1-via-else-number-lt1+then-number-gt64 w ↦ omega arith
-    ]
+none_of : (ds : List ℕ) (n : ℕ) (r : Option Sid) → n < 2 ^ 64 → ds ≡ decimal n → (IsSome r ↔ IsSid n) → IfNone r ((m : ℕ) → IsSid m → ds ≢ decimal m)
+none_of ds n (Some sid) small e h = tt
+none_of ds n None small e h = λ m range same.
+    let equal : m ≡ n = decimal_injective m n (omega arith) small (sym same ∙ e) in
+    let some = h.1 (subst IsSid equal range) in
+    cc
+
+pub returns-clause-none : goal.returns-clause-none
+returns-clause-none c = none_of c.args.digits.now c.in_ok-number.number c.new.result (omega arith) c.in_ok-number.ensures.some c.new.ensures.exact
