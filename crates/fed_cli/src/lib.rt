@@ -4,5 +4,6 @@
 pub mod demo;
 pub mod stream;
 pub mod words;
+pub mod worlds;
 
 pub use stream::{Ended, StreamFault, serve_stream};
