@@ -5,5 +5,6 @@ pub mod demo;
 pub mod program;
 pub mod stream;
 pub mod words;
+pub mod worlds;
 
 pub use stream::{Ended, StreamFault, serve_stream};

@@ -7,4 +7,5 @@ pub mod FirstSpace
 pub mod UniqueFrames
 pub mod Runs
 pub mod ServerLemmas
-pub mod Worlds
+pub mod Follows
+pub mod EngineRuns

@@ -6,3 +6,4 @@ pub mod Run
 pub mod Ends
 pub mod Engines
 pub mod Servers
+pub mod Worlds

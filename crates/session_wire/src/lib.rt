@@ -9,6 +9,7 @@ pub mod handler;
 pub mod lines;
 mod replies;
 pub mod server;
+pub mod worlds;
 
 pub use frames::{BadFrame, frame};
 pub use handler::Handler;

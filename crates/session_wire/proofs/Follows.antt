@@ -81,15 +81,43 @@ answer_within : {W : Type 0} (step : Steps W) (before : W → W → Type 0) (fir
 answer_within step before first last old text reply new (inl h) b a = inl (h.0, h.1, h.2, (h.3, b, a))
 answer_within step before first last old text reply new (inr h) b a = inr h
 
-run_within_from : {W : Type 0} (step : Steps W) (ended before : W → W → Type 0) → IsKept step ended before → (first old : W) (lines : Lines) (replies : List ℕ) (new : W) → before first old → Run step ended old lines replies new
-    → Run (StepsWithin step before first new) ended old lines replies new
-run_within_from step ended before k first old (line text more) replies new b h =
+run_within : {W : Type 0} (step : Steps W) (ended before : W → W → Type 0) → IsKept step ended before → (first old : W) (lines : Lines) (replies : List ℕ) (new last : W) → before first old → before new last → Run step ended old lines replies new
+    → Run (StepsWithin step before first last) ended old lines replies new
+run_within step ended before k first old (line text more) replies new last b a h =
     let here = answer_kept step ended before k old text h.0 h.2 h.3 in
-    let after = run_kept step ended before k h.2 more h.1 new h.4 in
-    (h.0, h.1, h.2, answer_within step before first new old text h.0 h.2 h.3 b after, run_within_from step ended before k first h.2 more h.1 new (k.along first old h.2 b here) h.4, h.5)
-run_within_from step ended before k first old (rest after) replies new b h = h
-run_within_from step ended before k first old closed replies new b h = h
+    let after = k.along h.2 new last (run_kept step ended before k h.2 more h.1 new h.4) a in
+    (h.0, h.1, h.2, answer_within step before first last old text h.0 h.2 h.3 b after, run_within step ended before k first h.2 more h.1 new last (k.along first old h.2 b here) a h.4, h.5)
+run_within step ended before k first old (rest after) replies new last b a h = h
+run_within step ended before k first old closed replies new last b a h = h
 
-pub run_within : {W : Type 0} (step : Steps W) (ended before : W → W → Type 0) → IsKept step ended before → (old : W) (lines : Lines) (replies : List ℕ) (new : W) → Run step ended old lines replies new
-    → Run (StepsWithin step before old new) ended old lines replies new
-run_within step ended before k old lines replies new h = run_within_from step ended before k old old lines replies new (k.same old) h
+pub front_kept : {W : Type 0} (step : Steps W) (ended before : W → W → Type 0) → IsKept step ended before → (old : W) (lines : Lines) (replies : List ℕ) (new : W) → RunFront step old lines replies new → before old new
+front_kept step ended before k old (line text more) replies new (inl h) = subst (λ s. before old s) (sym h.1) (k.same old)
+front_kept step ended before k old (line text more) replies new (inr h) =
+    k.along old h.2 new (answer_kept step ended before k old text h.0 h.2 h.3) (front_kept step ended before k h.2 more h.1 new h.4)
+front_kept step ended before k old (rest after) replies new h = subst (λ s. before old s) (sym h.1) (k.same old)
+front_kept step ended before k old closed replies new h = subst (λ s. before old s) (sym h.1) (k.same old)
+
+front_within : {W : Type 0} (step : Steps W) (ended before : W → W → Type 0) → IsKept step ended before → (first old : W) (lines : Lines) (replies : List ℕ) (new last : W) → before first old → before new last → RunFront step old lines replies new
+    → RunFront (StepsWithin step before first last) old lines replies new
+front_within step ended before k first old (line text more) replies new last b a (inl h) = inl h
+front_within step ended before k first old (line text more) replies new last b a (inr h) =
+    let here = answer_kept step ended before k old text h.0 h.2 h.3 in
+    let after = k.along h.2 new last (front_kept step ended before k h.2 more h.1 new h.4) a in
+    inr (h.0, h.1, h.2, answer_within step before first last old text h.0 h.2 h.3 b after, front_within step ended before k first h.2 more h.1 new last (k.along first old h.2 b here) a h.4, h.5)
+front_within step ended before k first old (rest after) replies new last b a h = h
+front_within step ended before k first old closed replies new last b a h = h
+
+pub fed_within : {W : Type 0} (step : Steps W) (ended before : W → W → Type 0) → IsKept step ended before → (first old : W) (bytes text : List ℕ) (new last : W) (left : Option (List ℕ)) → before first old → before new last
+    → Fed step ended old bytes text new left → Fed (StepsWithin step before first last) ended old bytes text new left
+fed_within step ended before k first old bytes text new last left b a h =
+    record { run = run_within step ended before k first old (lines_of bytes) text new last b a h.run; unread = h.unread }
+
+pub broken_kept : {W : Type 0} (step : Steps W) (ended before : W → W → Type 0) → IsKept step ended before → (old : W) (bytes text : List ℕ) (new : W) → BrokenOff step ended old bytes text new → before old new
+broken_kept step ended before k old bytes text new h =
+    k.along old h.last new (front_kept step ended before k old (lines_of bytes) text h.last h.front) (k.ends h.last new h.sessions)
+
+pub broken_within : {W : Type 0} (step : Steps W) (ended before : W → W → Type 0) → IsKept step ended before → (first old : W) (bytes text : List ℕ) (new last : W) → before first old → before new last
+    → BrokenOff step ended old bytes text new → BrokenOff (StepsWithin step before first last) ended old bytes text new
+broken_within step ended before k first old bytes text new last b a h =
+    let after = k.along h.last new last (k.ends h.last new h.sessions) a in
+    record { last = h.last; front = front_within step ended before k first old (lines_of bytes) text h.last last b after h.front; sessions = h.sessions }
