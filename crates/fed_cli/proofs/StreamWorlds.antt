@@ -39,17 +39,20 @@ stopped_in_worlds meaning old before new had has held holds h w agrees =
     let up : Risen meaning old h.mid = run_kept (EngineSteps meaning) (EngineEnds meaning) (Risen meaning) kept old (lines_of (before ++ s.bytes)) s.text h.mid s.fed.run in
     let on : Risen meaning h.mid new = broken_kept (EngineSteps meaning) (EngineEnds meaning) (Risen meaning) kept h.mid (h.after ++ h.piece) h.text new h.broken in
     let one = fed_in_worlds meaning old old (before ++ s.bytes) s.text h.mid new (Some h.after) (each_same (shown meaning old).boxes) on s.fed w agrees in
-    let two = broken_in_worlds meaning old h.mid (h.after ++ h.piece) h.text new new up (each_same (shown meaning new).boxes) h.broken one.0 one.2 in
-    (two.0, record {
-      between = h.between;
-      mid = one.0;
-      after = h.after;
-      served = record { bytes = s.bytes; text = s.text; read = s.read; written = s.written; fed = one.1 };
-      piece = h.piece;
-      read = h.read;
-      text = h.text;
-      broken = two.1;
-    }, two.2)
+    let two = broken_in_worlds meaning old h.mid (h.after ++ h.piece) h.text new new up (each_same (shown meaning new).boxes) h.broken one.0 one.2 in (
+      two.0,
+      record {
+        between = h.between;
+        mid = one.0;
+        after = h.after;
+        served = record { bytes = s.bytes; text = s.text; read = s.read; written = s.written; fed = one.1 };
+        piece = h.piece;
+        read = h.read;
+        text = h.text;
+        broken = two.1;
+      },
+      two.2,
+    )
 
 pub serves_in_worlds : {W : Type 0} (meaning : W → BoxState) (old : Engine W) (before : List ℕ) (new : Engine W) (left had has held holds : Option (List ℕ)) (result : Result Ended StreamFault)
     → Serves (EngineSteps meaning) (EngineEnds meaning) old before new left had has held holds result → (w : World) → Agrees (shown meaning old) w

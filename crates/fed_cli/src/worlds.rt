@@ -19,11 +19,10 @@ pub fn served_worlds_follow<W: Wrapper>()
     ensures { (old new : Engine W) (before : List ℕ)
         (left had has held holds : Option (List ℕ)) (result : Result Ended StreamFault)
         → Serves (EngineSteps W.meaning) (EngineEnds W.meaning) old before new left had has held holds
-            result
+        result
         → (w : World) → Agrees (shown W.meaning old) w
         → (after : World) × Serves
-            (WorldSteps (MayBefall (shown W.meaning old).boxes (shown W.meaning new).boxes))
-            WorldEnds w before after left had has held holds result
+        (WorldSteps (MayBefall (shown W.meaning old).boxes (shown W.meaning new).boxes))
+        WorldEnds w before after left had has held holds result
         × Agrees (shown W.meaning new) after }
-{
-}
+{}

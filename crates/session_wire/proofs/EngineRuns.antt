@@ -76,8 +76,8 @@ befall_since first old new last t h k b = record {
   numbers = λ e. box_since first old new last IsUsedUp h k (λ p q r s up f on. used_since r.ledger.next s.ledger.next f on.next) (b.numbers e);
 }
   where
-  used_since : (m n : ℕ) → 2 ^ 64 - 1 ≤ m → m ≤ n → 2 ^ 64 - 1 ≤ n
-  used_since m n f g = omega (arith, f, g)
+    used_since : (m n : ℕ) → 2 ^ 64 - 1 ≤ m → m ≤ n → 2 ^ 64 - 1 ≤ n
+    used_since m n f g = omega (arith, f, g)
 
 -- ---- worlds follow
 

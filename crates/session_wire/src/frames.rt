@@ -83,8 +83,7 @@ fn one_digit(unit: u8) -> Option<u8>
 fn two_digits(ten: u8, unit: u8) -> Option<u8>
     ensures some { IfSome result (λ n. (t : ℕ) × (u : ℕ) × (1 ≤ t) × (t < 10) × (u < 10)
         × (n ≡ 10 * t + u) × (ten ≡ 48 + t) × (unit ≡ 48 + u)) }
-    ensures none { IfNone result
-        ((t u : ℕ) → 1 ≤ t → t < 10 → u < 10 → ten ≡ 48 + t → unit ≡ 48 + u → ⊥) }
+    ensures none { IfNone result ((t u : ℕ) → 1 ≤ t → t < 10 → u < 10 → ten ≡ 48 + t → unit ≡ 48 + u → ⊥) }
 {
     if ten < b'1' || b'9' < ten || unit < b'0' || b'9' < unit {
         return None;

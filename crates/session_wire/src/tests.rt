@@ -2,9 +2,7 @@
 ghost use Rattle.std.specs.Prelude.{◌≡◌, ⊤, true, IsOk};
 
 use crate::server::runs_join;
-use crate::worlds::worlds_follow;
 use crate::{BadFrame, FeedFault, Handler, Server, frame};
-use fdw_api::interface::Wrapper;
 use med_session::{NoRoom, Request, Sid};
 use std::alloc::Global;
 use std::process::Abort;
@@ -99,7 +97,6 @@ fn cuts_do_not_matter(rt: HostRuntime) -> Result<(), Fail> {
     let echo = server.finish();
     assert!(rt; echo.is_ended);
     runs_join::<Echo>();
-    worlds_follow::<Box<dyn Wrapper>>();
     Ok(())
 }
 

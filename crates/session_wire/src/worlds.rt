@@ -18,15 +18,14 @@ pub fn worlds_follow<W: Wrapper>()
         → Fed (EngineSteps W.meaning) (EngineEnds W.meaning) old bytes text new left
         → (w : World) → Agrees (shown W.meaning old) w
         → (after : World) × Fed
-            (WorldSteps (MayBefall (shown W.meaning old).boxes (shown W.meaning new).boxes))
-            WorldEnds w bytes text after left
+        (WorldSteps (MayBefall (shown W.meaning old).boxes (shown W.meaning new).boxes))
+        WorldEnds w bytes text after left
         × Agrees (shown W.meaning new) after }
     ensures broken { (old new : Engine W) (bytes text : List ℕ)
         → BrokenOff (EngineSteps W.meaning) (EngineEnds W.meaning) old bytes text new
         → (w : World) → Agrees (shown W.meaning old) w
         → (after : World) × BrokenOff
-            (WorldSteps (MayBefall (shown W.meaning old).boxes (shown W.meaning new).boxes))
-            WorldEnds w bytes text after
+        (WorldSteps (MayBefall (shown W.meaning old).boxes (shown W.meaning new).boxes))
+        WorldEnds w bytes text after
         × Agrees (shown W.meaning new) after }
-{
-}
+{}
