@@ -1,12 +1,11 @@
 -- What is served over an engine is served over each world that it stands for.
-use Rattle.std.proofs.Common.{◌≡◌, ℕ, List, ◌++◌, Option, Some, None, Result, Ok, Err}
+use Rattle.std.proofs.Common.{ℕ, List, ◌++◌, Option, Some, Result, Ok, Err}
 use Rattle.fdw_api.specs.State.{BoxState}
 use Rattle.med_session.specs.World.{World}
 use Rattle.med_session.specs.Engine.{shown, Agrees}
 use Rattle.med_session.specs.declared.engine.Engine.{Engine}
 use Rattle.session_wire.specs.Lines.{lines_of}
 use Rattle.session_wire.specs.Engines.{EngineSteps, EngineEnds}
-use Rattle.session_wire.specs.Run.{Fed, BrokenOff}
 use Rattle.session_wire.specs.Worlds.{MayBefall, WorldSteps, WorldEnds}
 use Rattle.session_wire.proofs.Follows.{run_kept, broken_kept}
 use Rattle.session_wire.proofs.EngineRuns.{Risen, each_same, engine_kept, fed_in_worlds, broken_in_worlds, feed_in_worlds}
