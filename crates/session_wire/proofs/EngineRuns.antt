@@ -6,10 +6,11 @@ use Rattle.med_session.specs.World.{World, without_sessions}
 use Rattle.med_session.specs.Steps.{Trouble}
 use Rattle.med_session.specs.Engine.{shown, Agrees, BoxBecomes, HasFailed, IsUsedUp, Befell, Rises, EachRises}
 use Rattle.med_session.specs.declared.engine.Engine.{Engine}
-use Rattle.session_wire.specs.Engines.{EngineSteps, EngineEnds}
+use Rattle.session_wire.specs.Engines.{EngineSteps, EngineEnds, EngineRises}
+use Rattle.session_wire.specs.Lines.{lines_of}
 use Rattle.session_wire.specs.Run.{Fed, BrokenOff}
 use Rattle.session_wire.specs.Worlds.{MayBefall, WorldSteps, WorldEnds}
-use Rattle.session_wire.proofs.Follows.{StepsFollow, EndsFollow, StepsWithin, IsKept, fed_follows, broken_follows, fed_within, broken_within}
+use Rattle.session_wire.proofs.Follows.{StepsFollow, EndsFollow, StepsWithin, IsKept, run_kept, broken_kept, fed_follows, broken_follows, fed_within, broken_within}
 
 -- ---- what boxes count goes up
 
@@ -27,10 +28,6 @@ rises_along s t u h k = record {
   faults = min_along (2 ^ 64 - 1) s.ledger.faults t.ledger.faults u.ledger.faults h.faults k.faults;
 }
 
--- the boxes of the second engine have risen from those of the first
-abbrev pub Risen : {W : Type 0} → (W → BoxState) → Engine W → Engine W → Type 0
-Risen meaning old new = EachRises (shown meaning old).boxes (shown meaning new).boxes
-
 pub each_same : (boxes : List (Option BoxState)) → EachRises boxes boxes
 each_same boxes = record { stays = λ slot s is. (s, is, rises_same s); stood = λ slot s is. (s, is, rises_same s) }
 
@@ -46,7 +43,7 @@ each_along a b c h k = record {
       (one.0, one.1, rises_along one.0 two.0 s one.2 two.2);
 }
 
-pub engine_kept : {W : Type 0} (meaning : W → BoxState) → IsKept (EngineSteps meaning) (EngineEnds meaning) (Risen meaning)
+pub engine_kept : {W : Type 0} (meaning : W → BoxState) → IsKept (EngineSteps meaning) (EngineEnds meaning) (EngineRises meaning)
 engine_kept {W} meaning = record {
   same = λ e. each_same (shown meaning e).boxes;
   along = λ e f g. each_along (shown meaning e).boxes (shown meaning f).boxes (shown meaning g).boxes;
@@ -76,7 +73,7 @@ befall_since first old new last t h k b = record {
 -- ---- worlds follow
 
 steps_follow : {W : Type 0} (meaning : W → BoxState) (first last : Engine W)
-    → StepsFollow (StepsWithin (EngineSteps meaning) (Risen meaning) first last) (WorldSteps (MayBefall (shown meaning first).boxes (shown meaning last).boxes)) (λ e w. Agrees (shown meaning e) w)
+    → StepsFollow (StepsWithin (EngineSteps meaning) (EngineRises meaning) first last) (WorldSteps (MayBefall (shown meaning first).boxes (shown meaning last).boxes)) (λ e w. Agrees (shown meaning e) w)
 steps_follow meaning first last old sid request reply new h v a =
     let leads = h.0.leads in
     let one = leads.step v a in
@@ -86,21 +83,21 @@ ends_follow : {W : Type 0} (meaning : W → BoxState) → EndsFollow (EngineEnds
 ends_follow meaning old new h v a = (without_sessions v, refl, h.world v a)
 
 -- what a part of a run of engines is in worlds, seen from a first engine and a last
-pub fed_in_worlds : {W : Type 0} (meaning : W → BoxState) (first old : Engine W) (bytes text : List ℕ) (new last : Engine W) (left : Option (List ℕ)) → Risen meaning first old → Risen meaning new last
+pub fed_in_worlds : {W : Type 0} (meaning : W → BoxState) (first old : Engine W) (bytes text : List ℕ) (new last : Engine W) (left : Option (List ℕ)) → EngineRises meaning first old → EngineRises meaning new last
     → Fed (EngineSteps meaning) (EngineEnds meaning) old bytes text new left → (w : World) → Agrees (shown meaning old) w
     → (after : World) × Fed (WorldSteps (MayBefall (shown meaning first).boxes (shown meaning last).boxes)) WorldEnds w bytes text after left × Agrees (shown meaning new) after
 fed_in_worlds meaning first old bytes text new last left b a h w agrees =
-    fed_follows (StepsWithin (EngineSteps meaning) (Risen meaning) first last) (EngineEnds meaning) (WorldSteps (MayBefall (shown meaning first).boxes (shown meaning last).boxes)) WorldEnds (λ e v. Agrees (shown meaning e) v)
+    fed_follows (StepsWithin (EngineSteps meaning) (EngineRises meaning) first last) (EngineEnds meaning) (WorldSteps (MayBefall (shown meaning first).boxes (shown meaning last).boxes)) WorldEnds (λ e v. Agrees (shown meaning e) v)
     (steps_follow meaning first last) (ends_follow meaning) old bytes text new left
-    (fed_within (EngineSteps meaning) (EngineEnds meaning) (Risen meaning) (engine_kept meaning) first old bytes text new last left b a h) w agrees
+    (fed_within (EngineSteps meaning) (EngineEnds meaning) (EngineRises meaning) (engine_kept meaning) first old bytes text new last left b a h) w agrees
 
-pub broken_in_worlds : {W : Type 0} (meaning : W → BoxState) (first old : Engine W) (bytes text : List ℕ) (new last : Engine W) → Risen meaning first old → Risen meaning new last
+pub broken_in_worlds : {W : Type 0} (meaning : W → BoxState) (first old : Engine W) (bytes text : List ℕ) (new last : Engine W) → EngineRises meaning first old → EngineRises meaning new last
     → BrokenOff (EngineSteps meaning) (EngineEnds meaning) old bytes text new → (w : World) → Agrees (shown meaning old) w
     → (after : World) × BrokenOff (WorldSteps (MayBefall (shown meaning first).boxes (shown meaning last).boxes)) WorldEnds w bytes text after × Agrees (shown meaning new) after
 broken_in_worlds meaning first old bytes text new last b a h w agrees =
-    broken_follows (StepsWithin (EngineSteps meaning) (Risen meaning) first last) (EngineEnds meaning) (WorldSteps (MayBefall (shown meaning first).boxes (shown meaning last).boxes)) WorldEnds (λ e v. Agrees (shown meaning e) v)
+    broken_follows (StepsWithin (EngineSteps meaning) (EngineRises meaning) first last) (EngineEnds meaning) (WorldSteps (MayBefall (shown meaning first).boxes (shown meaning last).boxes)) WorldEnds (λ e v. Agrees (shown meaning e) v)
     (steps_follow meaning first last) (ends_follow meaning) old bytes text new
-    (broken_within (EngineSteps meaning) (EngineEnds meaning) (Risen meaning) (engine_kept meaning) first old bytes text new last b a h) w agrees
+    (broken_within (EngineSteps meaning) (EngineEnds meaning) (EngineRises meaning) (engine_kept meaning) first old bytes text new last b a h) w agrees
 
 -- a whole feed
 pub feed_in_worlds : {W : Type 0} (meaning : W → BoxState) (old new : Engine W) (bytes text : List ℕ) (left : Option (List ℕ))
@@ -114,3 +111,10 @@ pub broken_feed_in_worlds : {W : Type 0} (meaning : W → BoxState) (old new : E
     → (after : World) × BrokenOff (WorldSteps (MayBefall (shown meaning old).boxes (shown meaning new).boxes)) WorldEnds w bytes text after × Agrees (shown meaning new) after
 broken_feed_in_worlds meaning old new bytes text h w agrees =
     broken_in_worlds meaning old old bytes text new new (each_same (shown meaning old).boxes) (each_same (shown meaning new).boxes) h w agrees
+
+-- boxes rise while an engine is fed
+pub fed_rises : {W : Type 0} (meaning : W → BoxState) (old new : Engine W) (bytes text : List ℕ) (left : Option (List ℕ)) → Fed (EngineSteps meaning) (EngineEnds meaning) old bytes text new left → EngineRises meaning old new
+fed_rises meaning old new bytes text left h = run_kept (EngineSteps meaning) (EngineEnds meaning) (EngineRises meaning) (engine_kept meaning) old (lines_of bytes) text new h.run
+
+pub broken_rises : {W : Type 0} (meaning : W → BoxState) (old new : Engine W) (bytes text : List ℕ) → BrokenOff (EngineSteps meaning) (EngineEnds meaning) old bytes text new → EngineRises meaning old new
+broken_rises meaning old new bytes text h = broken_kept (EngineSteps meaning) (EngineEnds meaning) (EngineRises meaning) (engine_kept meaning) old bytes text new h
