@@ -8,11 +8,11 @@ use Rattle.fed_cli.specs.Served.{Served, Serves, Fails}
 use Rattle.fed_cli.specs.declared.stream.StreamFault.{StreamFault}
 use Rattle.fed_cli.specs.declared.stream.StreamFault.TheVariants as faults
 
-Consumes-nil : (a : Option (List ℕ)) → Consumes a a []
+pub Consumes-nil : (a : Option (List ℕ)) → Consumes a a []
 Consumes-nil None = tt
 Consumes-nil (Some x) = refl
 
-Appends-nil : (a : Option (List ℕ)) → Appends a a []
+pub Appends-nil : (a : Option (List ℕ)) → Appends a a []
 Appends-nil None = tt
 Appends-nil (Some x) = sym (append-nil x)
 
