@@ -1,0 +1,10 @@
+pub mod Outcome
+pub mod View
+pub mod Lists
+pub mod Like
+pub mod Reach
+pub mod Aggregate
+pub mod Tally
+pub mod Meaning
+pub mod Verdict
+pub mod Risky

@@ -1,0 +1,18 @@
+//! Expressions over rows: three-valued logic, exact whole numbers, and faults that only an answer that needs them tells.
+#![tactic(auto)]
+
+pub mod evaluate;
+pub mod expr;
+pub mod risk;
+pub mod verdicts;
+
+mod arithmetic;
+mod like;
+mod logic;
+mod tally;
+mod view;
+
+pub use evaluate::{eval, eval_class};
+pub use expr::{Comparison, EvalFault, Expr, Operation, SetFunction, Test};
+pub use risk::is_risky;
+pub use verdicts::{verdict, verdict_class};
