@@ -8,3 +8,4 @@ pub mod Tally
 pub mod Meaning
 pub mod Verdict
 pub mod Risky
+pub mod Tree

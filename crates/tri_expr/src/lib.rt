@@ -1,6 +1,8 @@
 //! Expressions over rows: three-valued logic, exact whole numbers, and faults that only an answer that needs them tells.
 #![tactic(auto)]
 
+pub mod condition;
+pub mod copy;
 pub mod evaluate;
 pub mod expr;
 pub mod risk;
@@ -12,6 +14,7 @@ mod logic;
 mod tally;
 mod view;
 
+pub use condition::conjuncts;
 pub use evaluate::{eval, eval_class};
 pub use expr::{Comparison, EvalFault, Expr, Operation, SetFunction, Test};
 pub use risk::is_risky;
