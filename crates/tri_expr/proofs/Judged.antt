@@ -3,12 +3,10 @@ use Rattle.std.proofs.Common.{◌≡◌, Bool, true, false, not, ◌&&◌, ◌||
 use Rattle.std.specs.List.{list_any, list_all}
 use Rattle.std.proofs.lemmas.List.{drop_all}
 use Rattle.med_value.specs.Datum.{Datum, NoValue, Whole, Chars, Logic}
-use Rattle.tri_expr.specs.declared.expr.EvalFault.{EvalFault}
-use Rattle.tri_expr.specs.declared.expr.EvalFault.TheVariants.{OutOfRange, ZeroDivisor, NoMemory}
-use Rattle.tri_expr.specs.Outcome.{Outcome, Is, Fails, Fault, Range, Zero, first_fault, or_else, truth, is_truth, settled, over}
-use Rattle.tri_expr.specs.View.{Sees}
-use Rattle.tri_expr.specs.Verdict.{is_refusal, is_met, fault_list, is_in, faults_told, AnswersVerdict, or_some}
-use Rattle.tri_expr.proofs.Chain.{fault_of, or_told, resumed}
+use Rattle.tri_expr.specs.declared.expr.Fault.{Fault}
+use Rattle.tri_expr.specs.Outcome.{Outcome, Is, Fails, first_fault, or_else, truth, is_truth, settled, over}
+use Rattle.tri_expr.specs.Verdict.{is_refusal, is_met, fault_list, is_in, faults_told, Judges, or_some}
+use Rattle.tri_expr.proofs.Chain.{or_told, resumed}
 
 abbrev pub hardened : Outcome → Outcome
 hardened (Is (Logic b)) = Is (Logic b)
@@ -96,14 +94,14 @@ judged-in os h n = let i : is_in os ≡ true = (in_all os h n).0 in judged_is os
 judged-told : (os : List Outcome) (c : Fault) → list_any is_refusal os ≡ false → first_fault os ≡ Some c → judged os ≡ Fails c
 judged-told os c h n = judged_is os ∙ rw (h, n) refl
 
-pub verdict_false : (os : List Outcome) → judged os ≡ truth false → AnswersVerdict (Ok false) os
+pub verdict_false : (os : List Outcome) → judged os ≡ truth false → Judges (Ok false) os
 verdict_false os e = elim (ending os) [
   ends_out h ↦ (sym (out_all os h), rw h refl)
   | ends_in h n ↦ let j = judged-in os h n in absurd cc
   | ends_told c h n ↦ let j = judged-told os c h n in absurd cc
 ]
 
-pub verdict_true : (os : List Outcome) → judged os ≡ truth true → AnswersVerdict (Ok true) os
+pub verdict_true : (os : List Outcome) → judged os ≡ truth true → Judges (Ok true) os
 verdict_true os e = elim (ending os) [
   ends_out h ↦ let j = judged-out os h in absurd cc
   | ends_in h n ↦ (sym (in_all os h n).0, rw h (in_all os h n).1)
@@ -117,10 +115,8 @@ told_contains os c e = elim (ending os) [
   | ends_told d h n ↦ let j = judged-told os d h n in rw h (told_all os c (let p : d ≡ c = cc in n ∙ ap Some p))
 ]
 
-pub verdict_told : (os : List Outcome) (f : EvalFault) → judged os ≡ Fails (fault_of f) → AnswersVerdict (Err f) os
-verdict_told os OutOfRange e = told_contains os Range e
-verdict_told os ZeroDivisor e = told_contains os Zero e
-verdict_told os NoMemory e = tt
+pub verdict_told : (os : List Outcome) (f : Fault) → judged os ≡ Fails f → Judges (Err f) os
+verdict_told = told_contains
 
 pub judged_step : {X C : Type 0} (m : X → C → Outcome) (c : C) (parts : List X) (i : ℕ) (d : X) → i < length parts → d ≡ get_or parts i d → map hardened (over (map m (drop i parts)) c) ≡ hardened (m d c) ∷ map hardened (over (map m (drop (i + 1) parts)) c)
 judged_step m c parts i d lt e = rw (add-one, drop-cons parts i d, ← e) refl
@@ -132,26 +128,21 @@ hardened_is (Chars t) = refl
 hardened_is (Logic b) = refl
 
 -- a conjunct that is false or unknown ends the loop
-pub step_refused : {X C : Type 0} (m : X → C → Outcome) (c : C) (parts : List X) (i : ℕ) (d : X) (told : Option EvalFault) (v : Datum) → i < length parts → d ≡ get_or parts i d → m d c ≡ Is v → is_met (Is v) ≡ false → judged (over (map m parts) c) ≡ resumed false told true (map hardened (over (map m (drop i parts)) c)) → judged (over (map m parts) c) ≡ truth false
+pub step_refused : {X C : Type 0} (m : X → C → Outcome) (c : C) (parts : List X) (i : ℕ) (d : X) (told : Option Fault) (v : Datum) → i < length parts → d ≡ get_or parts i d → m d c ≡ Is v → is_met (Is v) ≡ false → judged (over (map m parts) c) ≡ resumed false told true (map hardened (over (map m (drop i parts)) c)) → judged (over (map m parts) c) ≡ truth false
 step_refused m c parts i d told v lt e is refused inv = inv ∙ rw (judged_step m c parts i d lt e, is, hardened_is v, refused) refl
 
-pub step_met : {X C : Type 0} (m : X → C → Outcome) (c : C) (parts : List X) (i : ℕ) (d : X) (told : Option EvalFault) (v : Datum) → i < length parts → d ≡ get_or parts i d → m d c ≡ Is v → is_met (Is v) ≡ true → judged (over (map m parts) c) ≡ resumed false told true (map hardened (over (map m (drop i parts)) c)) → judged (over (map m parts) c) ≡ resumed false told true (map hardened (over (map m (drop (i + 1) parts)) c))
+pub step_met : {X C : Type 0} (m : X → C → Outcome) (c : C) (parts : List X) (i : ℕ) (d : X) (told : Option Fault) (v : Datum) → i < length parts → d ≡ get_or parts i d → m d c ≡ Is v → is_met (Is v) ≡ true → judged (over (map m parts) c) ≡ resumed false told true (map hardened (over (map m (drop i parts)) c)) → judged (over (map m parts) c) ≡ resumed false told true (map hardened (over (map m (drop (i + 1) parts)) c))
 step_met m c parts i d told v lt e is met inv = inv ∙ rw (judged_step m c parts i d lt e, is, hardened_is v, met) refl
 
-pub step_told : {X C : Type 0} (m : X → C → Outcome) (c : C) (parts : List X) (i : ℕ) (d : X) (f : EvalFault) → i < length parts → d ≡ get_or parts i d → m d c ≡ Fails (fault_of f) → judged (over (map m parts) c) ≡ resumed false None true (map hardened (over (map m (drop i parts)) c)) → judged (over (map m parts) c) ≡ resumed false (Some f) true (map hardened (over (map m (drop (i + 1) parts)) c))
+pub step_told : {X C : Type 0} (m : X → C → Outcome) (c : C) (parts : List X) (i : ℕ) (d : X) (f : Fault) → i < length parts → d ≡ get_or parts i d → m d c ≡ Fails f → judged (over (map m parts) c) ≡ resumed false None true (map hardened (over (map m (drop i parts)) c)) → judged (over (map m parts) c) ≡ resumed false (Some f) true (map hardened (over (map m (drop (i + 1) parts)) c))
 step_told m c parts i d f lt e is inv = inv ∙ rw (judged_step m c parts i d lt e, is) refl
 
-pub step_told_before : {X C : Type 0} (m : X → C → Outcome) (c : C) (parts : List X) (i : ℕ) (d : X) (f g : EvalFault) → i < length parts → d ≡ get_or parts i d → m d c ≡ Fails (fault_of f) → judged (over (map m parts) c) ≡ resumed false (Some g) true (map hardened (over (map m (drop i parts)) c)) → judged (over (map m parts) c) ≡ resumed false (Some g) true (map hardened (over (map m (drop (i + 1) parts)) c))
+pub step_told_before : {X C : Type 0} (m : X → C → Outcome) (c : C) (parts : List X) (i : ℕ) (d : X) (f g : Fault) → i < length parts → d ≡ get_or parts i d → m d c ≡ Fails f → judged (over (map m parts) c) ≡ resumed false (Some g) true (map hardened (over (map m (drop i parts)) c)) → judged (over (map m parts) c) ≡ resumed false (Some g) true (map hardened (over (map m (drop (i + 1) parts)) c))
 step_told_before m c parts i d f g lt e is inv = inv ∙ rw (judged_step m c parts i d lt e, is) refl
 
-pub at_end : {X C : Type 0} (m : X → C → Outcome) (c : C) (parts : List X) (i : ℕ) (told : Option EvalFault) → length parts ≤ i → judged (over (map m parts) c) ≡ resumed false told true (map hardened (over (map m (drop i parts)) c)) → judged (over (map m parts) c) ≡ or_told told (truth true)
+pub at_end : {X C : Type 0} (m : X → C → Outcome) (c : C) (parts : List X) (i : ℕ) (told : Option Fault) → length parts ≤ i → judged (over (map m parts) c) ≡ resumed false told true (map hardened (over (map m (drop i parts)) c)) → judged (over (map m parts) c) ≡ or_told told (truth true)
 at_end m c parts i told le inv = inv ∙ rw (drop_all i parts le) refl
 
-pub fault_from : (f : EvalFault) (o : Outcome) → f ≢ NoMemory → Sees (Err f) o → o ≡ Fails (fault_of f)
-fault_from OutOfRange o apart a = a
-fault_from ZeroDivisor o apart a = a
-fault_from NoMemory o apart a = absurd (apart refl)
-
-pub step_fault : {X C : Type 0} (m : X → C → Outcome) (c : C) (parts : List X) (i : ℕ) (d : X) (f : EvalFault) (told : Option EvalFault) → i < length parts → d ≡ get_or parts i d → m d c ≡ Fails (fault_of f) → judged (over (map m parts) c) ≡ resumed false told true (map hardened (over (map m (drop i parts)) c)) → judged (over (map m parts) c) ≡ resumed false (or_some told f) true (map hardened (over (map m (drop (i + 1) parts)) c))
+pub step_fault : {X C : Type 0} (m : X → C → Outcome) (c : C) (parts : List X) (i : ℕ) (d : X) (f : Fault) (told : Option Fault) → i < length parts → d ≡ get_or parts i d → m d c ≡ Fails f → judged (over (map m parts) c) ≡ resumed false told true (map hardened (over (map m (drop i parts)) c)) → judged (over (map m parts) c) ≡ resumed false (or_some told f) true (map hardened (over (map m (drop (i + 1) parts)) c))
 step_fault m c parts i d f None lt e is inv = step_told m c parts i d f lt e is inv
 step_fault m c parts i d f (Some g) lt e is inv = step_told_before m c parts i d f g lt e is inv

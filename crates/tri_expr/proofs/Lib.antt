@@ -6,3 +6,4 @@ pub mod Tallies
 pub mod Counted
 pub mod Steady
 pub mod Reaching
+pub mod Texts

@@ -1,3 +1,4 @@
+pub mod Told
 pub mod Outcome
 pub mod View
 pub mod Lists

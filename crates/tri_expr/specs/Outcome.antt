@@ -5,7 +5,7 @@ use Rattle.std.specs.List.{list_any, list_all}
 use Rattle.std.specs.declared.cmp.Ordering.{Ordering}
 use Rattle.std.specs.Ordering.{is_lt, is_le, is_eq, is_gt, is_ge}
 use Rattle.med_value.specs.declared.value.Value.{Value}
-use Rattle.med_value.specs.Datum.{Datum, NoValue, Whole, Chars, Logic, datum}
+use Rattle.med_value.specs.Datum.{Datum, NoValue, Whole, Chars, Logic, datum, is_text}
 use Rattle.med_value.specs.Order.{datum_cmp}
 use Rattle.tri_expr.specs.declared.expr.Comparison.{Comparison}
 use Rattle.tri_expr.specs.declared.expr.Comparison.TheVariants.{Equal, Apart, Below, AtMost, Above, AtLeast}
@@ -13,15 +13,12 @@ use Rattle.tri_expr.specs.declared.expr.Operation.{Operation}
 use Rattle.tri_expr.specs.declared.expr.Operation.TheVariants.{Add, Subtract, Multiply, Divide, Remainder}
 use Rattle.tri_expr.specs.declared.expr.Test.{Test}
 use Rattle.tri_expr.specs.declared.expr.Test.TheVariants.{Null, True, False, Unknown}
+use Rattle.tri_expr.specs.declared.expr.Fault.{Fault}
+use Rattle.tri_expr.specs.declared.expr.Fault.TheVariants.{Range, Zero}
 use Rattle.tri_expr.specs.declared.expr.EvalFault.{EvalFault}
 use Rattle.tri_expr.specs.declared.expr.EvalFault.TheVariants.{OutOfRange, ZeroDivisor, NoMemory}
 
--- a number out of the type's range (22003), or a divisor of zero (22012)
-pub data Fault : Type 0 where
-  Range : Fault
-  Zero : Fault
-
--- a value, NULL among them, or a fault
+-- a value, NULL among them, or a fault: a number out of the type's range, or a divisor of zero
 pub data Outcome : Type 0 where
   Is : Datum → Outcome
   Fails : Fault → Outcome
@@ -149,9 +146,14 @@ abbrev pub value_of : Outcome → Datum
 value_of (Is v) = v
 value_of (Fails c) = NoValue
 
--- a call answers the outcome; want of memory may stand in the place of any answer, and of nothing else
+-- only a text asks for memory
+abbrev pub is_text_value : Outcome → Bool
+is_text_value (Is v) = is_text v
+is_text_value (Fails c) = false
+
+-- A call answers the outcome. Want of memory may stand in the place of a text, and of nothing else.
 abbrev pub Answers : Result Value EvalFault → Outcome → Type 0
 Answers (Ok v) o = o ≡ Is (datum v)
 Answers (Err OutOfRange) o = o ≡ Fails Range
 Answers (Err ZeroDivisor) o = o ≡ Fails Zero
-Answers (Err NoMemory) o = Unit {0}
+Answers (Err NoMemory) o = is_text_value o ≡ true

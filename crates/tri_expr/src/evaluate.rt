@@ -10,7 +10,7 @@ ghost use Rattle.tri_expr.specs.Meaning.{liked, meaning, shared as spec_shared, 
 ghost use Rattle.tri_expr.specs.declared.expr.Comparison.TheVariants.{Equal};
 
 use crate::arithmetic::{compute, negate};
-use crate::expr::{Comparison, EvalFault, Expr, SetFunction};
+use crate::expr::{Comparison, EvalFault, Expr, Fault, SetFunction};
 use crate::like::is_like;
 use crate::logic::{argument, between, compare, does_pass, opposite, turn};
 use crate::tally::Tally;
@@ -63,15 +63,12 @@ fn shared(class: &[Row], at: usize) -> View<'_>
     }
 }
 
-fn like(alloc: Global, pattern: &str, v: View<'_>) -> Result<View<'static>, EvalFault>
-    ensures { Sees result (liked pattern.now (seen v.entry)) }
+fn like(pattern: &str, v: View<'_>) -> View<'static>
+    ensures { liked pattern.now (seen v.entry) ≡ Is (seen result) }
 {
     match v {
-        View::Text(text) => match is_like(alloc, pattern, text) {
-            Ok(b) => Ok(View::Bool(b)),
-            Err(_) => Err(EvalFault::NoMemory),
-        },
-        _ => Ok(View::Null),
+        View::Text(text) => View::Bool(is_like(pattern, text)),
+        _ => View::Null,
     }
 }
 
@@ -83,12 +80,12 @@ fn count_rows(class: &[Row]) -> View<'static>
 
 // An aggregate of the argument over each row of the class.
 #[cycle(look)]
-fn look_aggregate<'a>(alloc: Global, function: SetFunction, e: &'a Expr, class: &'a [Row], params: &'a [Value]) -> Result<View<'a>, EvalFault>
+fn look_aggregate<'a>(function: SetFunction, e: &'a Expr, class: &'a [Row], params: &'a [Value]) -> Result<View<'a>, Fault>
     ensures { Sees result (aggregated function (spec_argument (meaning (map datum params.now) e.now) (map tuple class.now))) }
 {
     let mut tally = Tally::new(function);
     for row in class {
-        let v = argument(look(alloc, e, slice::from_ref(row), params))?;
+        let v = argument(look(e, slice::from_ref(row), params));
         tally.add(v);
     }
     tally.finish()
@@ -96,19 +93,18 @@ fn look_aggregate<'a>(alloc: Global, function: SetFunction, e: &'a Expr, class: 
 
 // `v IN (parts)`; stops at the first part that is equal.
 #[cycle(look)]
-fn look_in<'a>(alloc: Global, v: View<'_>, parts: &'a [Expr], class: &'a [Row], params: &'a [Value]) -> Result<View<'a>, EvalFault>
+fn look_in<'a>(v: View<'_>, parts: &'a [Expr], class: &'a [Row], params: &'a [Value]) -> Result<View<'a>, Fault>
     ensures { Sees result (settled true (map (compared Equal (Is (seen v.entry))) (over (map (meaning (map datum params.now)) parts.now) (map tuple class.now)))) }
 {
-    let mut told: Option<EvalFault> = None;
+    let mut told: Option<Fault> = None;
     let mut all = true;
     for part in parts {
-        match look(alloc, part, class, params) {
+        match look(part, class, params) {
             Ok(w) => match compare(Comparison::Equal, v, w) {
                 View::Bool(true) => return Ok(View::Bool(true)),
                 View::Bool(false) => {}
                 _ => all = false,
             },
-            Err(EvalFault::NoMemory) => return Err(EvalFault::NoMemory),
             Err(fault) => {
                 if told.is_none() {
                     told = Some(fault);
@@ -130,20 +126,19 @@ fn look_in<'a>(alloc: Global, v: View<'_>, parts: &'a [Expr], class: &'a [Row], 
 
 // AND (`by` false) or OR (`by` true) of the parts; stops at the first part that decides.
 #[cycle(look)]
-fn look_chain<'a>(alloc: Global, by: bool, parts: &'a [Expr], class: &'a [Row], params: &'a [Value]) -> Result<View<'a>, EvalFault>
+fn look_chain<'a>(by: bool, parts: &'a [Expr], class: &'a [Row], params: &'a [Value]) -> Result<View<'a>, Fault>
     ensures { Sees result (settled by (over (map (meaning (map datum params.now)) parts.now) (map tuple class.now))) }
 {
-    let mut told: Option<EvalFault> = None;
+    let mut told: Option<Fault> = None;
     let mut all = true;
     for part in parts {
-        match look(alloc, part, class, params) {
+        match look(part, class, params) {
             Ok(View::Bool(b)) => {
                 if b == by {
                     return Ok(View::Bool(by));
                 }
             }
             Ok(_) => all = false,
-            Err(EvalFault::NoMemory) => return Err(EvalFault::NoMemory),
             Err(fault) => {
                 if told.is_none() {
                     told = Some(fault);
@@ -165,7 +160,7 @@ fn look_chain<'a>(alloc: Global, by: bool, parts: &'a [Expr], class: &'a [Row], 
 
 /// The value of an expression over a class of rows, its text left where it is.
 #[cycle(look)]
-pub(crate) fn look<'a>(alloc: Global, e: &'a Expr, class: &'a [Row], params: &'a [Value]) -> Result<View<'a>, EvalFault>
+pub(crate) fn look<'a>(e: &'a Expr, class: &'a [Row], params: &'a [Value]) -> Result<View<'a>, Fault>
     ensures { Sees result (meaning (map datum params.now) e.now (map tuple class.now)) }
 {
     match e {
@@ -173,63 +168,62 @@ pub(crate) fn look<'a>(alloc: Global, e: &'a Expr, class: &'a [Row], params: &'a
         Expr::Parameter(at) => Ok(cell(params, *at)),
         Expr::Literal(v) => Ok(view_of(v)),
         Expr::Compare(op, a, b) => {
-            let left = look(alloc, a, class, params)?;
-            let right = look(alloc, b, class, params)?;
+            let left = look(a, class, params)?;
+            let right = look(b, class, params)?;
             Ok(compare(*op, left, right))
         }
         Expr::Compute(op, a, b) => {
-            let left = look(alloc, a, class, params)?;
-            let right = look(alloc, b, class, params)?;
+            let left = look(a, class, params)?;
+            let right = look(b, class, params)?;
             compute(*op, left, right)
         }
         Expr::Negate(a) => {
-            let operand = look(alloc, a, class, params)?;
+            let operand = look(a, class, params)?;
             negate(operand)
         }
-        Expr::And(parts) => look_chain(alloc, false, parts, class, params),
-        Expr::Or(parts) => look_chain(alloc, true, parts, class, params),
+        Expr::And(parts) => look_chain(false, parts, class, params),
+        Expr::Or(parts) => look_chain(true, parts, class, params),
         Expr::Not(a) => {
-            let operand = look(alloc, a, class, params)?;
+            let operand = look(a, class, params)?;
             Ok(opposite(operand))
         }
         Expr::Is(test, negative, a) => {
-            let operand = look(alloc, a, class, params)?;
+            let operand = look(a, class, params)?;
             let passed = does_pass(*test, operand);
             Ok(View::Bool(if *negative { !passed } else { passed }))
         }
         Expr::Between(negative, x, low, high) => {
-            let v = look(alloc, x, class, params)?;
-            let least = look(alloc, low, class, params);
-            let most = look(alloc, high, class, params);
+            let v = look(x, class, params)?;
+            let least = look(low, class, params);
+            let most = look(high, class, params);
             turn(*negative, between(v, least, most))
         }
         Expr::In(negative, x, parts) => {
-            let v = look(alloc, x, class, params)?;
-            turn(*negative, look_in(alloc, v, parts, class, params))
+            let v = look(x, class, params)?;
+            turn(*negative, look_in(v, parts, class, params))
         }
         Expr::Like(negative, x, pattern) => {
-            let v = look(alloc, x, class, params)?;
-            turn(*negative, like(alloc, pattern.as_str(), v))
+            let v = look(x, class, params)?;
+            turn(*negative, Ok(like(pattern.as_str(), v)))
         }
-        Expr::Parenthesised(a) => look(alloc, a, class, params),
+        Expr::Parenthesised(a) => look(a, class, params),
         Expr::CountRows => Ok(count_rows(class)),
-        Expr::Aggregate(function, a) => look_aggregate(alloc, *function, a, class, params),
+        Expr::Aggregate(function, a) => look_aggregate(*function, a, class, params),
     }
 }
 
 /// The value of an expression over a class of rows: what `eval` is over one row. Aggregates go over the rows of the
-/// class; a column outside them is the value that all rows share.
-///
-/// Refused as `eval` is.
+/// class; a column outside them is the value that all rows share. Refused as `eval` is.
 pub fn eval_class(alloc: Global, e: &Expr, class: &[Row], params: &[Value]) -> Result<Value, EvalFault>
     ensures { Answers result (meaning (map datum params.now) e.now (map tuple class.now)) }
 {
-    match look(alloc, e, class, params) {
+    match look(e, class, params) {
         Ok(v) => match owned(alloc, v) {
             Ok(value) => Ok(value),
             Err(_) => Err(EvalFault::NoMemory),
         },
-        Err(fault) => Err(fault),
+        Err(Fault::Range) => Err(EvalFault::OutOfRange),
+        Err(Fault::Zero) => Err(EvalFault::ZeroDivisor),
     }
 }
 
@@ -237,7 +231,7 @@ pub fn eval_class(alloc: Global, e: &Expr, class: &[Row], params: &[Value]) -> R
 ///
 /// A false operand of AND and a true operand of OR decide, whatever faults stand beside them. Otherwise a fault of an
 /// operand, `OutOfRange` or `ZeroDivisor`, is the fault of the expression, of two the left one. `NoMemory` may stand in
-/// the place of any answer.
+/// the place of a text alone, for its copy: a text that is only compared is not copied.
 pub fn eval(alloc: Global, e: &Expr, row: &Row, params: &[Value]) -> Result<Value, EvalFault>
     ensures { Answers result (meaning (map datum params.now) e.now (tuple row.now ∷ [])) }
 {

@@ -1,6 +1,7 @@
 //! Expressions, and the faults of their evaluation.
 
 ghost use Rattle.std.specs.Prelude.{◌≡◌};
+ghost use Rattle.tri_expr.specs.Told.{told_as};
 ghost use Rattle.tri_expr.specs.declared.expr.EvalFault.TheVariants.{NoMemory as Refused};
 
 use med_value::{NoMemory, Value};
@@ -106,6 +107,17 @@ pub enum Expr {
 
 /// Why an expression has no value.
 #[derive(Clone, Copy, Debug, PartialEq, Eq, Error)]
+pub enum Fault {
+    /// A number would be outside the range from -2^63 to 2^63-1 (22003 numeric_value_out_of_range).
+    #[error("number out of range")]
+    Range,
+    /// The divisor of `/` or `%` is zero (22012 division_by_zero).
+    #[error("division by zero")]
+    Zero,
+}
+
+/// Why an evaluation has no answer.
+#[derive(Clone, Copy, Debug, PartialEq, Eq, Error)]
 pub enum EvalFault {
     /// A number would be outside the range from -2^63 to 2^63-1 (22003 numeric_value_out_of_range).
     #[error("number out of range")]
@@ -116,6 +128,17 @@ pub enum EvalFault {
     /// Memory was asked for and refused (53200 out_of_memory).
     #[error("out of memory")]
     NoMemory,
+}
+
+impl From<Fault> for EvalFault {
+    ghost from_gives = { λ fault told. told ≡ told_as fault };
+
+    fn from(fault: Fault) -> EvalFault {
+        match fault {
+            Fault::Range => EvalFault::OutOfRange,
+            Fault::Zero => EvalFault::ZeroDivisor,
+        }
+    }
 }
 
 impl From<NoMemory> for EvalFault {

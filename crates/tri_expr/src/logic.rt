@@ -5,7 +5,7 @@ ghost use Rattle.tri_expr.specs.declared.expr.Comparison.TheVariants.{AtLeast, A
 ghost use Rattle.tri_expr.specs.Outcome.{Outcome, Is, compared, compared_values, opposite_value, passes, settled, turned, value_of};
 ghost use Rattle.tri_expr.specs.View.{seen, Sees};
 
-use crate::expr::{Comparison, EvalFault, Test};
+use crate::expr::{Comparison, Fault, Test};
 use crate::view::{View, compare_views};
 
 /// A comparison; with NULL on either side unknown.
@@ -52,7 +52,7 @@ pub fn does_pass(test: Test, a: View<'_>) -> bool
 }
 
 /// The answer itself, or its opposite.
-pub fn turn<'a>(negative: bool, answer: Result<View<'a>, EvalFault>) -> Result<View<'a>, EvalFault>
+pub fn turn<'a>(negative: bool, answer: Result<View<'a>, Fault>) -> Result<View<'a>, Fault>
     ensures { (o : Outcome) → Sees answer.entry o → Sees result (turned negative o) }
 {
     match answer {
@@ -68,7 +68,7 @@ pub fn turn<'a>(negative: bool, answer: Result<View<'a>, EvalFault>) -> Result<V
 }
 
 /// What BETWEEN makes of its value and its two bounds.
-pub fn between(v: View<'_>, low: Result<View<'_>, EvalFault>, high: Result<View<'_>, EvalFault>) -> Result<View<'static>, EvalFault>
+pub fn between(v: View<'_>, low: Result<View<'_>, Fault>, high: Result<View<'_>, Fault>) -> Result<View<'static>, Fault>
     ensures { (a b : Outcome) → Sees low.entry a → Sees high.entry b → Sees result (settled false (compared AtLeast (Is (seen v.entry)) a ∷ compared AtMost (Is (seen v.entry)) b ∷ [])) }
 {
     let first = match low {
@@ -83,7 +83,7 @@ pub fn between(v: View<'_>, low: Result<View<'_>, EvalFault>, high: Result<View<
 }
 
 // AND of two operands
-fn both(first: Result<View<'static>, EvalFault>, second: Result<View<'static>, EvalFault>) -> Result<View<'static>, EvalFault>
+fn both(first: Result<View<'static>, Fault>, second: Result<View<'static>, Fault>) -> Result<View<'static>, Fault>
     ensures { (a b : Outcome) → Sees first.entry a → Sees second.entry b → Sees result (settled false (a ∷ b ∷ [])) }
 {
     match first {
@@ -100,19 +100,17 @@ fn both(first: Result<View<'static>, EvalFault>, second: Result<View<'static>, E
         },
         Err(fault) => match second {
             Ok(View::Bool(false)) => Ok(View::Bool(false)),
-            Err(EvalFault::NoMemory) => Err(EvalFault::NoMemory),
             _ => Err(fault),
         },
     }
 }
 
 /// What an aggregate sees of its argument on a row: a fault counts as NULL there, and is told by itself.
-pub fn argument<'a>(answer: Result<View<'a>, EvalFault>) -> Result<View<'a>, EvalFault>
-    ensures { (o : Outcome) → Sees answer.entry o → Sees result (Is (value_of o)) }
+pub fn argument<'a>(answer: Result<View<'a>, Fault>) -> View<'a>
+    ensures { (o : Outcome) → Sees answer.entry o → seen result ≡ value_of o }
 {
     match answer {
-        Ok(v) => Ok(v),
-        Err(EvalFault::NoMemory) => Err(EvalFault::NoMemory),
-        Err(_) => Ok(View::Null),
+        Ok(v) => v,
+        Err(_) => View::Null,
     }
 }

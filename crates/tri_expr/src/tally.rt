@@ -3,11 +3,11 @@
 ghost use Rattle.std.specs.Prelude.{◌≡◌, ◌<◌, ◌≤◌, ◌+◌, ◌*◌, ◌^◌, if◌then◌else◌, [], List};
 ghost use Rattle.med_value.specs.Datum.{Datum};
 ghost use Rattle.tri_expr.specs.Outcome.{ranged};
-ghost use Rattle.tri_expr.specs.View.{seen, SeesExactly};
+ghost use Rattle.tri_expr.specs.View.{seen, Sees};
 ghost use Rattle.tri_expr.specs.Aggregate.{aggregated, whole_of};
 ghost use Rattle.tri_expr.specs.Tally.{Tallied, IsAdded, magnitude, better_of, finished};
 
-use crate::expr::{EvalFault, SetFunction};
+use crate::expr::{Fault, SetFunction};
 use crate::view::{View, compare_views, is_null};
 
 /// An aggregate over the values that were added. The total is exact: it has room for 2^63 numbers of 64 bits.
@@ -43,12 +43,12 @@ fn is_better(function: SetFunction, v: View<'_>, best: View<'_>) -> bool
     }
 }
 
-fn in_range(total: i128) -> Result<View<'static>, EvalFault>
-    ensures { SeesExactly result (ranged total) }
+fn in_range(total: i128) -> Result<View<'static>, Fault>
+    ensures { Sees result (ranged total) }
 {
     match i64::try_from(total) {
         Ok(n) => Ok(View::Int(n)),
-        Err(_) => Err(EvalFault::OutOfRange),
+        Err(_) => Err(Fault::Range),
     }
 }
 
@@ -85,9 +85,9 @@ impl<'a> Tally<'a> {
         }
     }
 
-    fn answer(self) -> Result<View<'a>, EvalFault>
+    fn answer(self) -> Result<View<'a>, Fault>
         requires few { self.count < 2 ^ 63 }
-        ensures { SeesExactly result (finished self.entry.function self.entry.count self.entry.total (seen self.entry.best)) }
+        ensures { Sees result (finished self.entry.function self.entry.count self.entry.total (seen self.entry.best)) }
     {
         match self.function {
             SetFunction::Count => Ok(View::Int(self.count as i64)),
@@ -104,9 +104,9 @@ impl<'a> Tally<'a> {
     }
 
     /// The aggregate over all values that were added.
-    pub fn finish(self) -> Result<View<'a>, EvalFault>
+    pub fn finish(self) -> Result<View<'a>, Fault>
         requires few { self.count < 2 ^ 63 }
-        ensures { (vs : List Datum) → Tallied self.entry vs → SeesExactly result (aggregated self.entry.function vs) }
+        ensures { (vs : List Datum) → Tallied self.entry vs → Sees result (aggregated self.entry.function vs) }
     {
         self.answer()
     }

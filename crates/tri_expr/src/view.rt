@@ -1,7 +1,7 @@
 //! Values that are only looked at: a text stays where it is.
 
-ghost use Rattle.std.specs.Prelude.{◌≡◌, IfOk};
-ghost use Rattle.med_value.specs.Datum.{datum};
+ghost use Rattle.std.specs.Prelude.{◌≡◌, true, IfOk, IsErr};
+ghost use Rattle.med_value.specs.Datum.{datum, is_text};
 ghost use Rattle.med_value.specs.Order.{datum_cmp, is_missing, type_of};
 ghost use Rattle.tri_expr.specs.View.{seen};
 
@@ -31,7 +31,8 @@ pub fn view_of(value: &Value) -> View<'_>
 
 /// The value itself. Refused only for want of memory, which only a text asks for.
 pub fn owned(alloc: Global, view: View<'_>) -> Result<Value, NoMemory>
-    ensures { IfOk result (λ v. datum v ≡ seen view.entry) }
+    ensures same { IfOk result (λ v. datum v ≡ seen view.entry) }
+    ensures without_memory { IsErr result → is_text (seen view.entry) ≡ true }
 {
     match view {
         View::Null => Ok(Value::Null),

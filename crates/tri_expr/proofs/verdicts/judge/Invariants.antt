@@ -4,7 +4,7 @@ use Rattle.tri_expr.specs.Meaning.{meaning}
 use Rattle.tri_expr.specs.Outcome.{over}
 use Rattle.tri_expr.proofs.Chain.{resumed}
 use Rattle.tri_expr.proofs.Judged.{judged, hardened}
-use Rattle.tri_expr.proofs.verdicts.verdict_class.Given as goal
+use Rattle.tri_expr.proofs.verdicts.judge.Given as goal
 
 abbrev pub invariant-loop-conjunct : goal.invariant-loop-conjunct
 invariant-loop-conjunct l =

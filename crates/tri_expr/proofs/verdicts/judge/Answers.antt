@@ -3,9 +3,9 @@ use Rattle.med_value.specs.Datum.{datum, tuple}
 use Rattle.tri_expr.specs.View.{seen}
 use Rattle.tri_expr.specs.Meaning.{meaning}
 use Rattle.tri_expr.specs.Outcome.{truth, over}
-use Rattle.tri_expr.proofs.Chain.{or_told, resumed, fault_of}
-use Rattle.tri_expr.proofs.Judged.{judged, hardened, step_refused, step_met, step_told, step_told_before, at_end, fault_from, verdict_false, verdict_true, verdict_told}
-use Rattle.tri_expr.proofs.verdicts.verdict_class.Goals as goal
+use Rattle.tri_expr.proofs.Chain.{or_told, resumed}
+use Rattle.tri_expr.proofs.Judged.{judged, hardened, step_refused, step_met, step_told, step_told_before, at_end, verdict_false, verdict_true, verdict_told}
+use Rattle.tri_expr.proofs.verdicts.judge.Goals as goal
 
 pub returns-then-not-is_true : goal.returns-then-not-is_true
 returns-then-not-is_true c =
