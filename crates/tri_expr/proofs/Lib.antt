@@ -7,3 +7,6 @@ pub mod Counted
 pub mod Steady
 pub mod Reaching
 pub mod Texts
+pub mod Reading
+pub mod Safe
+pub mod Decides

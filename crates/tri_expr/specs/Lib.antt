@@ -10,3 +10,4 @@ pub mod Meaning
 pub mod Verdict
 pub mod Risky
 pub mod Tree
+pub mod Laws

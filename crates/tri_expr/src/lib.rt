@@ -5,6 +5,7 @@ pub mod condition;
 pub mod copy;
 pub mod evaluate;
 pub mod expr;
+pub mod law;
 pub mod risk;
 pub mod verdicts;
 
