@@ -96,21 +96,21 @@ judged-told os c h n = judged_is os ∙ rw (h, n) refl
 
 pub verdict_false : (os : List Outcome) → judged os ≡ truth false → Judges (Ok false) os
 verdict_false os e = elim (ending os) [
-  ends_out h ↦ (sym (out_all os h), rw h refl)
+  | ends_out h ↦ (sym (out_all os h), rw h refl)
   | ends_in h n ↦ let j = judged-in os h n in absurd cc
   | ends_told c h n ↦ let j = judged-told os c h n in absurd cc
 ]
 
 pub verdict_true : (os : List Outcome) → judged os ≡ truth true → Judges (Ok true) os
 verdict_true os e = elim (ending os) [
-  ends_out h ↦ let j = judged-out os h in absurd cc
+  | ends_out h ↦ let j = judged-out os h in absurd cc
   | ends_in h n ↦ (sym (in_all os h n).0, rw h (in_all os h n).1)
   | ends_told c h n ↦ let j = judged-told os c h n in absurd cc
 ]
 
 told_contains : (os : List Outcome) (c : Fault) → judged os ≡ Fails c → Contains (faults_told os) c
 told_contains os c e = elim (ending os) [
-  ends_out h ↦ let j = judged-out os h in absurd cc
+  | ends_out h ↦ let j = judged-out os h in absurd cc
   | ends_in h n ↦ let j = judged-in os h n in absurd cc
   | ends_told d h n ↦ let j = judged-told os d h n in rw h (told_all os c (let p : d ≡ c = cc in n ∙ ap Some p))
 ]

@@ -4,7 +4,6 @@ use Rattle.std.specs.Str.{chars}
 use Rattle.tri_expr.specs.declared.like.Piece.{Piece}
 use Rattle.tri_expr.specs.declared.like.Piece.TheVariants.{Run, One, This}
 
-
 -- `%`, `_`, and a backslash before a character that stands for itself
 abbrev pub pieces : List ℕ → List Piece
 pieces [] = []

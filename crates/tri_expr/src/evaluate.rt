@@ -80,7 +80,12 @@ fn count_rows(class: &[Row]) -> View<'static>
 
 // An aggregate of the argument over each row of the class.
 #[cycle(look)]
-fn look_aggregate<'a>(function: SetFunction, e: &'a Expr, class: &'a [Row], params: &'a [Value]) -> Result<View<'a>, Fault>
+fn look_aggregate<'a>(
+    function: SetFunction,
+    e: &'a Expr,
+    class: &'a [Row],
+    params: &'a [Value],
+) -> Result<View<'a>, Fault>
     ensures { Sees result (aggregated function (spec_argument (meaning (map datum params.now) e.now) (map tuple class.now))) }
 {
     let mut tally = Tally::new(function);
@@ -93,7 +98,12 @@ fn look_aggregate<'a>(function: SetFunction, e: &'a Expr, class: &'a [Row], para
 
 // `v IN (parts)`; stops at the first part that is equal.
 #[cycle(look)]
-fn look_in<'a>(v: View<'_>, parts: &'a [Expr], class: &'a [Row], params: &'a [Value]) -> Result<View<'a>, Fault>
+fn look_in<'a>(
+    v: View<'_>,
+    parts: &'a [Expr],
+    class: &'a [Row],
+    params: &'a [Value],
+) -> Result<View<'a>, Fault>
     ensures { Sees result (settled true (map (compared Equal (Is (seen v.entry))) (over (map (meaning (map datum params.now)) parts.now) (map tuple class.now)))) }
 {
     let mut told: Option<Fault> = None;
@@ -126,7 +136,12 @@ fn look_in<'a>(v: View<'_>, parts: &'a [Expr], class: &'a [Row], params: &'a [Va
 
 // AND (`by` false) or OR (`by` true) of the parts; stops at the first part that decides.
 #[cycle(look)]
-fn look_chain<'a>(by: bool, parts: &'a [Expr], class: &'a [Row], params: &'a [Value]) -> Result<View<'a>, Fault>
+fn look_chain<'a>(
+    by: bool,
+    parts: &'a [Expr],
+    class: &'a [Row],
+    params: &'a [Value],
+) -> Result<View<'a>, Fault>
     ensures { Sees result (settled by (over (map (meaning (map datum params.now)) parts.now) (map tuple class.now))) }
 {
     let mut told: Option<Fault> = None;
@@ -160,7 +175,11 @@ fn look_chain<'a>(by: bool, parts: &'a [Expr], class: &'a [Row], params: &'a [Va
 
 /// The value of an expression over a class of rows, its text left where it is.
 #[cycle(look)]
-pub(crate) fn look<'a>(e: &'a Expr, class: &'a [Row], params: &'a [Value]) -> Result<View<'a>, Fault>
+pub(crate) fn look<'a>(
+    e: &'a Expr,
+    class: &'a [Row],
+    params: &'a [Value],
+) -> Result<View<'a>, Fault>
     ensures { Sees result (meaning (map datum params.now) e.now (map tuple class.now)) }
 {
     match e {
@@ -214,7 +233,12 @@ pub(crate) fn look<'a>(e: &'a Expr, class: &'a [Row], params: &'a [Value]) -> Re
 
 /// The value of an expression over a class of rows: what `eval` is over one row. Aggregates go over the rows of the
 /// class; a column outside them is the value that all rows share. Refused as `eval` is.
-pub fn eval_class(alloc: Global, e: &Expr, class: &[Row], params: &[Value]) -> Result<Value, EvalFault>
+pub fn eval_class(
+    alloc: Global,
+    e: &Expr,
+    class: &[Row],
+    params: &[Value],
+) -> Result<Value, EvalFault>
     ensures { Answers result (meaning (map datum params.now) e.now (map tuple class.now)) }
 {
     match look(e, class, params) {

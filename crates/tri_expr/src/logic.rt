@@ -56,19 +56,17 @@ pub fn turn<'a>(negative: bool, answer: Result<View<'a>, Fault>) -> Result<View<
     ensures { (o : Outcome) → Sees answer.entry o → Sees result (turned negative o) }
 {
     match answer {
-        Ok(v) => {
-            if negative {
-                Ok(opposite(v))
-            } else {
-                Ok(v)
-            }
-        }
+        Ok(v) => { if negative { Ok(opposite(v)) } else { Ok(v) } }
         Err(fault) => Err(fault),
     }
 }
 
 /// What BETWEEN makes of its value and its two bounds.
-pub fn between(v: View<'_>, low: Result<View<'_>, Fault>, high: Result<View<'_>, Fault>) -> Result<View<'static>, Fault>
+pub fn between(
+    v: View<'_>,
+    low: Result<View<'_>, Fault>,
+    high: Result<View<'_>, Fault>,
+) -> Result<View<'static>, Fault>
     ensures { (a b : Outcome) → Sees low.entry a → Sees high.entry b → Sees result (settled false (compared AtLeast (Is (seen v.entry)) a ∷ compared AtMost (Is (seen v.entry)) b ∷ [])) }
 {
     let first = match low {
@@ -83,7 +81,10 @@ pub fn between(v: View<'_>, low: Result<View<'_>, Fault>, high: Result<View<'_>,
 }
 
 // AND of two operands
-fn both(first: Result<View<'static>, Fault>, second: Result<View<'static>, Fault>) -> Result<View<'static>, Fault>
+fn both(
+    first: Result<View<'static>, Fault>,
+    second: Result<View<'static>, Fault>,
+) -> Result<View<'static>, Fault>
     ensures { (a b : Outcome) → Sees first.entry a → Sees second.entry b → Sees result (settled false (a ∷ b ∷ [])) }
 {
     match first {

@@ -26,4 +26,3 @@ returns-in-None c =
     let k = map tuple c.args.class.now in
     let e = at_end m k c.args.conjuncts.now c.loop-conjunct.conjunct-index c.loop-conjunct.told (omega arith) c.loop-conjunct.invariant in
     verdict_true (over (map m c.args.conjuncts.now) k) (e ∙ ap (λ t. or_told t (truth true)) c.in-None.is)
-
