@@ -10,3 +10,4 @@ pub mod Texts
 pub mod Reading
 pub mod Safe
 pub mod Decides
+pub mod SameVerdicts

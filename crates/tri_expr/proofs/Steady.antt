@@ -36,7 +36,7 @@ has_own : (at : ℕ) (r : Tuple) → has_cell at (cell at r) r ≡ true
 has_own at r = ap is_eq (datum_cmp_self (cell at r))
 
 -- all rows of the class have v
-all_have : (at : ℕ) (v : Datum) (s : Tuple) (ss : List Tuple) → list_all (has_cell at v) (s ∷ ss) ≡ true → shared at (s ∷ ss) ≡ v
+pub all_have : (at : ℕ) (v : Datum) (s : Tuple) (ss : List Tuple) → list_all (has_cell at v) (s ∷ ss) ≡ true → shared at (s ∷ ss) ≡ v
 all_have at v s ss e =
     let h = both_true (has_cell at v s) (list_all (has_cell at v) ss) e in
     let is : cell at s ≡ v = datum_cmp_equal (cell at s) v (eq_only (datum_cmp (cell at s) v) h.0) in

@@ -12,7 +12,7 @@ ghost use Rattle.tri_expr.specs.declared.expr.Comparison.TheVariants.{Equal};
 use crate::arithmetic::{compute, negate};
 use crate::expr::{Comparison, EvalFault, Expr, Fault, SetFunction};
 use crate::like::is_like;
-use crate::logic::{argument, between, compare, does_pass, opposite, turn};
+use crate::logic::{argument, ask, between, compare, opposite, turn};
 use crate::tally::Tally;
 use crate::view::{View, compare_views, owned, view_of};
 use med_value::{Row, Value};
@@ -196,21 +196,11 @@ pub(crate) fn look<'a>(
             let right = look(b, class, params)?;
             compute(*op, left, right)
         }
-        Expr::Negate(a) => {
-            let operand = look(a, class, params)?;
-            negate(operand)
-        }
+        Expr::Negate(a) => negate(look(a, class, params)?),
         Expr::And(parts) => look_chain(false, parts, class, params),
         Expr::Or(parts) => look_chain(true, parts, class, params),
-        Expr::Not(a) => {
-            let operand = look(a, class, params)?;
-            Ok(opposite(operand))
-        }
-        Expr::Is(test, negative, a) => {
-            let operand = look(a, class, params)?;
-            let passed = does_pass(*test, operand);
-            Ok(View::Bool(if *negative { !passed } else { passed }))
-        }
+        Expr::Not(a) => Ok(opposite(look(a, class, params)?)),
+        Expr::Is(test, negative, a) => Ok(ask(*test, *negative, look(a, class, params)?)),
         Expr::Between(negative, x, low, high) => {
             let v = look(x, class, params)?;
             let least = look(low, class, params);

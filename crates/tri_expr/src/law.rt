@@ -1,17 +1,18 @@
 //! Laws of expressions. A call does nothing: its contract is the law, proved for all expressions, rows and parameters.
 
-ghost use Rattle.std.specs.Prelude.{◌≡◌, List, map, false};
+ghost use Rattle.std.specs.Prelude.{◌≡◌, ℕ, List, ◌∷◌, map, false, true};
+ghost use Rattle.std.specs.List.{list_all};
 ghost use Rattle.std.specs.List.Sorted.{IsPermutation};
 ghost use Rattle.med_value.specs.Datum.{Datum, Tuple};
 ghost use Rattle.tri_expr.specs.declared.expr.Expr.{Expr as Any};
 ghost use Rattle.tri_expr.specs.declared.expr.SetFunction.{SetFunction as AnyFunction};
-ghost use Rattle.tri_expr.specs.Outcome.{over};
+ghost use Rattle.tri_expr.specs.Outcome.{Outcome, over};
 ghost use Rattle.tri_expr.specs.Aggregate.{aggregated};
-ghost use Rattle.tri_expr.specs.Meaning.{meaning};
+ghost use Rattle.tri_expr.specs.Meaning.{meaning, has_cell, shared};
 ghost use Rattle.tri_expr.specs.Verdict.{is_met, is_in};
 ghost use Rattle.tri_expr.specs.Risky.{is_risky};
 ghost use Rattle.tri_expr.specs.Tree.{tree, conjunct_trees};
-ghost use Rattle.tri_expr.specs.Laws.{HasValue, IgnoresOrder};
+ghost use Rattle.tri_expr.specs.Laws.{HasValue, IgnoresOrder, SameVerdict};
 
 /// An aggregate does not depend on the order in which the values come: so a sum is out of range exactly where its exact
 /// total is, and never on the way.
@@ -42,4 +43,14 @@ pub fn safe_expression_has_value()
 /// All conjuncts of a condition are true exactly where the condition is true.
 pub fn conjuncts_decide_condition()
     ensures { (params : Tuple) (class : List Tuple) (e : Any) (parts : List Any) → map tree parts ≡ conjunct_trees (tree e) → is_in (over (map (meaning params) parts) class) ≡ is_met (meaning params e class) }
+{}
+
+/// The verdict of conjuncts does not depend on their order.
+pub fn verdicts_ignore_order()
+    ensures { (os us : List Outcome) → IsPermutation os us → SameVerdict os us }
+{}
+
+/// A column over rows that all have one value there is that value: so over a group a key reads its value.
+pub fn column_over_equal_rows_is_their_value()
+    ensures { (at : ℕ) (v : Datum) (row : Tuple) (rows : List Tuple) → list_all (has_cell at v) (row ∷ rows) ≡ true → shared at (row ∷ rows) ≡ v }
 {}

@@ -16,7 +16,7 @@ mod view;
 
 pub use condition::conjuncts;
 pub use evaluate::{eval, eval_class};
-pub use expr::{Comparison, EvalFault, Expr, Operation, SetFunction, Test};
+pub use expr::{Comparison, EvalFault, Expr, Fault, Operation, SetFunction, Test};
 pub use risk::is_risky;
 pub use verdicts::{verdict, verdict_class};
 

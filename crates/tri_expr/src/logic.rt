@@ -2,7 +2,7 @@
 
 ghost use Rattle.std.specs.Prelude.{◌≡◌, false, [], ◌∷◌};
 ghost use Rattle.tri_expr.specs.declared.expr.Comparison.TheVariants.{AtLeast, AtMost};
-ghost use Rattle.tri_expr.specs.Outcome.{Outcome, Is, compared, compared_values, opposite_value, passes, settled, turned, value_of};
+ghost use Rattle.tri_expr.specs.Outcome.{Outcome, Is, compared, compared_values, opposite_value, passes, settled, tested, turned, value_of};
 ghost use Rattle.tri_expr.specs.View.{seen, Sees};
 
 use crate::expr::{Comparison, Fault, Test};
@@ -39,8 +39,8 @@ pub fn opposite(a: View<'_>) -> View<'static>
     }
 }
 
-/// Whether IS finds what it asks for.
-pub fn does_pass(test: Test, a: View<'_>) -> bool
+// Whether IS finds what it asks for.
+fn does_pass(test: Test, a: View<'_>) -> bool
     ensures { result ≡ passes test (seen a.entry) }
 {
     match test {
@@ -49,6 +49,14 @@ pub fn does_pass(test: Test, a: View<'_>) -> bool
         Test::True => matches!(a, View::Bool(true)),
         Test::False => matches!(a, View::Bool(false)),
     }
+}
+
+/// IS and its test, or under NOT what it does not find.
+pub fn ask(test: Test, negative: bool, a: View<'_>) -> View<'static>
+    ensures { tested test negative (Is (seen a.entry)) ≡ Is (seen result) }
+{
+    let passed = does_pass(test, a);
+    View::Bool(if negative { !passed } else { passed })
 }
 
 /// The answer itself, or its opposite.

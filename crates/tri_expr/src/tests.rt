@@ -235,4 +235,6 @@ fn laws_can_be_called() {
     crate::law::same_tree_has_same_risk();
     crate::law::safe_expression_has_value();
     crate::law::conjuncts_decide_condition();
+    crate::law::verdicts_ignore_order();
+    crate::law::column_over_equal_rows_is_their_value();
 }
