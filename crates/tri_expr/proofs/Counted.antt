@@ -1,11 +1,11 @@
 -- An aggregate row by row.
-use Rattle.std.proofs.Common.{◌≡◌, ◌≤◌, ◌<◌, ◌+◌, ◌*◌, ◌^◌, ℕ, List, [], ◌∷◌, ◌++◌, map, take, length, get_or, refl, sym, ap, ◌∙◌, arith, subst, add-one}
-use Rattle.std.proofs.lemmas.List.{map-append, map_more}
+use Rattle.std.proofs.Common.{◌≡◌, ◌≤◌, ◌<◌, ◌+◌, ◌*◌, ◌^◌, ℕ, List, [], ◌∷◌, ◌++◌, map, take, length, get_or, refl, sym, ap, ◌∙◌, arith, subst}
+use Rattle.std.proofs.lemmas.List.{map_more}
 use Rattle.med_value.specs.Datum.{Datum, Tuple, tuple}
 use Rattle.med_value.specs.declared.value.Row.{Row}
 use Rattle.tri_expr.specs.declared.expr.SetFunction.{SetFunction}
 use Rattle.tri_expr.specs.declared.tally.Tally.{Tally}
-use Rattle.tri_expr.specs.Outcome.{Outcome, Is, value_of}
+use Rattle.tri_expr.specs.Outcome.{Is, value_of}
 use Rattle.tri_expr.specs.Meaning.{OnClass, argument}
 use Rattle.tri_expr.specs.Tally.{Tallied, IsAdded, magnitude}
 use Rattle.tri_expr.proofs.Tallies.{tallied_more}

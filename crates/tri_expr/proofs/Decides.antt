@@ -1,10 +1,10 @@
 -- A condition is true exactly where each of its conjuncts is.
-use Rattle.std.proofs.Common.{◌≡◌, Bool, true, false, not, ◌&&◌, cond, List, [], ◌∷◌, ◌++◌, map, refl, sym, ap, ◌∙◌, subst, Option, Some, None}
+use Rattle.std.proofs.Common.{◌≡◌, Bool, true, false, ◌&&◌, cond, List, [], ◌∷◌, ◌++◌, map, refl, sym, ap, ◌∙◌, Option, Some, None}
 use Rattle.std.specs.List.{list_any, list_all}
 use Rattle.med_value.specs.Datum.{NoValue, Whole, Chars, Logic, Tuple}
 use Rattle.tri_expr.specs.declared.expr.Fault.{Fault}
 use Rattle.tri_expr.specs.declared.expr.Expr.{Expr}
-use Rattle.tri_expr.specs.Outcome.{Outcome, Is, Fails, truth, is_truth, first_fault, or_else, settled, over}
+use Rattle.tri_expr.specs.Outcome.{Outcome, Is, Fails, truth, is_truth, first_fault, settled, over}
 use Rattle.tri_expr.specs.Meaning.{OnClass, meaning}
 use Rattle.tri_expr.specs.Verdict.{is_met, is_in}
 use Rattle.tri_expr.specs.Tree.{Tree, column, parameter, literal, compare, compute, negate, all_of, some_of, opposite, asks, between, within, matches, parenthesised, count_rows, aggregate, Trees, none, part, tree, conjunct_trees, conjuncts_of_all}

@@ -1,5 +1,5 @@
 -- A verdict, conjunct by conjunct: AND in which unknown counts as false.
-use Rattle.std.proofs.Common.{◌≡◌, Bool, true, false, not, ◌&&◌, ◌||◌, cond, List, [], ◌∷◌, map, refl, sym, ap, Option, Some, None, ◌∙◌, Result, Ok, Err, Contains, ◌<◌, ◌≤◌, ◌≢◌, ◌+◌, ℕ, drop, length, get_or, add-one, drop-cons, arith}
+use Rattle.std.proofs.Common.{◌≡◌, Bool, true, false, cond, List, [], ◌∷◌, map, refl, sym, ap, Option, Some, None, ◌∙◌, Ok, Err, Contains, ◌<◌, ◌≤◌, ◌+◌, ℕ, drop, length, get_or, add-one, drop-cons, arith}
 use Rattle.std.specs.List.{list_any, list_all}
 use Rattle.std.proofs.lemmas.List.{drop_all}
 use Rattle.med_value.specs.Datum.{Datum, NoValue, Whole, Chars, Logic}

@@ -1,12 +1,12 @@
 -- What a tree means and whether it is risky: so two expressions of one tree mean the same and are as risky.
-use Rattle.std.proofs.Common.{◌≡◌, ℕ, pos, Bool, true, false, ◌||◌, List, [], ◌∷◌, map, length, refl, sym, ap, ◌∙◌, subst}
+use Rattle.std.proofs.Common.{◌≡◌, pos, Bool, true, false, ◌||◌, List, [], ◌∷◌, map, length, refl, sym, ap, ◌∙◌, subst}
 use Rattle.std.specs.String.{string_bytes}
-use Rattle.med_value.specs.Datum.{Datum, Whole, Tuple, datum}
+use Rattle.med_value.specs.Datum.{Whole, Tuple}
 use Rattle.tri_expr.specs.declared.expr.Expr.{Expr}
 use Rattle.tri_expr.specs.declared.expr.Expr.TheOpen as layer
-use Rattle.tri_expr.specs.declared.expr.Expr.TheFolds.{fold-Expr, fold-roll-Expr, ind-Expr, map-Expr}
+use Rattle.tri_expr.specs.declared.expr.Expr.TheFolds.{fold-roll-Expr, ind-Expr, map-Expr}
 use Rattle.tri_expr.specs.declared.expr.Comparison.TheVariants.{Equal as Same, AtMost, AtLeast}
-use Rattle.tri_expr.specs.Outcome.{Outcome, Is, compared, computed, negated, opposite as not_of, turned, settled, tested, strict, over}
+use Rattle.tri_expr.specs.Outcome.{Is, compared, computed, negated, opposite as not_of, turned, settled, tested, strict, over}
 use Rattle.tri_expr.specs.Aggregate.{aggregated}
 use Rattle.tri_expr.specs.Meaning.{OnClass, cell, shared, argument, liked, meaning_step, meaning}
 use Rattle.tri_expr.specs.Risky.{is_sum, some_true, risky_step, is_risky}

@@ -1,5 +1,5 @@
 -- An expression that is not risky has no fault.
-use Rattle.std.proofs.Common.{◌≡◌, ℕ, Bool, true, false, not, ◌||◌, cond, List, [], ◌∷◌, map, refl, sym, ap, ◌∙◌, subst, None}
+use Rattle.std.proofs.Common.{◌≡◌, ℕ, Bool, true, false, not, ◌||◌, cond, List, [], ◌∷◌, map, refl, ◌∙◌, subst, None}
 use Rattle.std.specs.List.{list_any, list_all}
 use Rattle.med_value.specs.Datum.{Datum, NoValue, Whole, Chars, Logic, Tuple}
 use Rattle.tri_expr.specs.declared.expr.Expr.{Expr}
@@ -7,7 +7,7 @@ use Rattle.tri_expr.specs.declared.expr.Comparison.{Comparison}
 use Rattle.tri_expr.specs.declared.expr.Comparison.TheVariants.{Equal as Same, AtMost, AtLeast}
 use Rattle.tri_expr.specs.declared.expr.SetFunction.{SetFunction}
 use Rattle.tri_expr.specs.declared.expr.SetFunction.TheVariants.{Count, Sum, Min, Max}
-use Rattle.tri_expr.specs.Outcome.{Outcome, Is, Fails, truth, compared_values, compared, opposite_value, opposite as not_of, turned, is_truth, first_fault, settled, tested, strict, over}
+use Rattle.tri_expr.specs.Outcome.{Outcome, Is, Fails, truth, compared_values, compared, opposite_value, turned, is_truth, first_fault, settled, strict, over}
 use Rattle.tri_expr.specs.Aggregate.{aggregated}
 use Rattle.tri_expr.specs.Meaning.{OnClass, argument, liked, meaning}
 use Rattle.tri_expr.specs.Risky.{is_sum, some_true, is_risky}

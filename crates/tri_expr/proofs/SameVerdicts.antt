@@ -1,11 +1,11 @@
 -- A verdict does not depend on the order of the conjuncts.
-use Rattle.std.proofs.Common.{◌≡◌, Bool, true, false, cond, List, [], ◌∷◌, Contains, subst}
+use Rattle.std.proofs.Common.{Bool, true, false, cond, List, [], ◌∷◌, Contains, subst}
 use Rattle.std.specs.List.{list_any}
 use Rattle.std.specs.List.Sorted.{IsPermutation}
 use Rattle.std.proofs.lemmas.List.Sorted.{Contains-permutation}
 use Rattle.tri_expr.specs.declared.expr.Fault.{Fault}
 use Rattle.tri_expr.specs.Outcome.{Outcome, Is, Fails}
-use Rattle.tri_expr.specs.Verdict.{is_refusal, is_met, fault_list, faults_told}
+use Rattle.tri_expr.specs.Verdict.{is_refusal, is_met, fault_list}
 use Rattle.tri_expr.specs.Laws.{SameVerdict}
 use Rattle.tri_expr.proofs.Shuffled.{Shuffled, none, skip, turn, both, same, from_swaps, to_swaps, any_kept, all_kept}
 

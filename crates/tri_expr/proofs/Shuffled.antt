@@ -1,6 +1,6 @@
 -- One list is another in another order, as an inductive type, and what lists of other lists make of it.
-use Rattle.std.proofs.Common.{◌≡◌, ◌≢◌, ℕ, zero, suc, ◌+◌, ◌<◌, ◌≤◌, Bool, true, false, not, ◌||◌, ◌&&◌, cond, List, [], ◌∷◌, ◌++◌, length, filter, map, flat_map, refl, sym, ap, ◌∙◌, arith, get_or, set, IsPermutation, subst, add-one}
-use Rattle.std.proofs.lemmas.List.Sorted.{IsPermutation-refl, IsPermutation-sym, IsPermutation-trans, IsPermutation-cons, IsPermutation-keeps, IsPermutation-swap}
+use Rattle.std.proofs.Common.{◌≡◌, ℕ, zero, suc, ◌<◌, Bool, true, false, ◌||◌, ◌&&◌, cond, List, [], ◌∷◌, ◌++◌, length, filter, map, flat_map, refl, ap, ◌∙◌, arith, get_or, set, IsPermutation}
+use Rattle.std.proofs.lemmas.List.Sorted.{IsPermutation-refl, IsPermutation-trans, IsPermutation-cons, IsPermutation-keeps, IsPermutation-swap}
 use Rattle.std.specs.List.{swap, list_any, list_all}
 use Rattle.tri_expr.specs.Lists.{gather}
 

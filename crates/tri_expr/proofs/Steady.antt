@@ -1,21 +1,20 @@
 -- What an expression means over a class does not depend on the order of the class's rows.
-use Rattle.std.proofs.Common.{◌≡◌, ℕ, pos, Bool, true, false, ◌&&◌, cond, List, [], ◌∷◌, map, length, refl, sym, ap, ◌∙◌, subst}
+use Rattle.std.proofs.Common.{◌≡◌, ℕ, pos, Bool, true, false, ◌&&◌, List, [], ◌∷◌, map, refl, sym, ap, ◌∙◌, subst}
 use Rattle.std.specs.List.{list_all}
 use Rattle.std.specs.declared.cmp.Ordering.{Ordering}
 use Rattle.std.specs.declared.cmp.Ordering.TheVariants.{Less, Equal, Greater}
 use Rattle.std.specs.Ordering.{is_eq}
 use Rattle.std.specs.String.{string_bytes}
-use Rattle.med_value.specs.Datum.{Datum, NoValue, Whole, Tuple}
+use Rattle.med_value.specs.Datum.{Datum, Whole, Tuple}
 use Rattle.med_value.specs.Order.{datum_cmp}
 use Rattle.med_value.proofs.OrderLemmas.{datum_cmp_equal}
 use Rattle.tri_expr.proofs.Choice.{datum_cmp_self}
 use Rattle.tri_expr.proofs.Shuffled.{Shuffled, back, mapped, as_long, all_kept, none_left}
 use Rattle.tri_expr.specs.declared.expr.Expr.{Expr}
 use Rattle.tri_expr.specs.declared.expr.Expr.TheOpen as layer
-use Rattle.tri_expr.specs.declared.expr.Expr.TheFolds.{fold-Expr, fold-roll-Expr, ind-Expr, map-Expr}
+use Rattle.tri_expr.specs.declared.expr.Expr.TheFolds.{fold-roll-Expr, ind-Expr, map-Expr}
 use Rattle.tri_expr.specs.declared.expr.Comparison.TheVariants.{Equal as Same, AtMost, AtLeast}
 use Rattle.tri_expr.specs.Outcome.{Outcome, Is, compared, computed, negated, opposite, turned, settled, tested, strict, over, value_of}
-use Rattle.tri_expr.specs.Aggregate.{aggregated}
 use Rattle.tri_expr.specs.Meaning.{OnClass, cell, has_cell, shared, argument, liked, meaning_step, meaning}
 use Rattle.tri_expr.proofs.Tallies.{aggregated_shuffled}
 use Rattle.tri_expr.proofs.Counted.{argument-map}

@@ -1,11 +1,8 @@
 -- An accumulator step by step, and aggregates in any order.
-use Rattle.std.proofs.Common.{◌≡◌, ◌≢◌, ℕ, ◌+◌, ◌<◌, ◌≤◌, ℤ, pos, ◌+ℤ◌, Bool, true, false, not, ◌||◌, cond, eqb, subst, List, [], ◌∷◌, ◌++◌, length, filter, map, refl, sym, ap, ◌∙◌, arith, take, get_or, add-one}
-use Rattle.std.specs.List.{list_any}
-use Rattle.std.specs.declared.cmp.Ordering.{Ordering}
-use Rattle.std.specs.declared.cmp.Ordering.TheVariants.{Less, Equal, Greater}
-use Rattle.std.specs.Ordering.{is_lt, ordering_reverse}
+use Rattle.std.proofs.Common.{◌≡◌, ℕ, ◌+◌, ℤ, pos, ◌+ℤ◌, Bool, true, false, cond, List, [], ◌∷◌, ◌++◌, length, filter, refl, sym, ap, ◌∙◌, arith}
+use Rattle.std.specs.declared.cmp.Ordering.TheVariants.{Equal}
 use Rattle.std.specs.Cmp.{IsTotalOrder}
-use Rattle.std.proofs.Math.IntN.{+ℤ_comm, +ℤ_assoc, +ℤ_idl, +ℤ_idr}
+use Rattle.std.proofs.Math.IntN.{+ℤ_comm, +ℤ_assoc}
 use Rattle.med_value.specs.Datum.{Datum, NoValue, Whole, Chars, Logic}
 use Rattle.med_value.specs.Order.{datum_cmp, is_missing}
 use Rattle.med_value.proofs.OrderLemmas.{datum_cmp_total, datum_cmp_equal}
@@ -13,11 +10,11 @@ use Rattle.tri_expr.proofs.Choice.{either, three, turned_over, turned_over_total
 use Rattle.tri_expr.specs.declared.expr.SetFunction.{SetFunction}
 use Rattle.tri_expr.specs.declared.expr.SetFunction.TheVariants.{Count, Sum, Min, Max}
 use Rattle.tri_expr.specs.declared.tally.Tally.{Tally}
-use Rattle.tri_expr.specs.Outcome.{Outcome, Is, ranged}
+use Rattle.tri_expr.specs.Outcome.{Is}
 use Rattle.tri_expr.specs.View.{seen}
 use Rattle.tri_expr.specs.Aggregate.{is_present, whole_of, total, lesser, greater, skipping, aggregated}
 use Rattle.tri_expr.specs.Lists.{gather}
-use Rattle.tri_expr.proofs.Shuffled.{Shuffled, none, skip, turn, both, gathered, filtered, as_long, any_kept, mapped, back, same}
+use Rattle.tri_expr.proofs.Shuffled.{Shuffled, skip, turn, both, gathered, filtered, as_long, same}
 use Rattle.tri_expr.specs.Tally.{Tallied, IsAdded, best_of, better_of, finished}
 
 finished_by : (k : SetFunction) (vs : List Datum) → finished k (length (filter is_present vs)) (total vs) (best_of k vs) ≡ aggregated k vs

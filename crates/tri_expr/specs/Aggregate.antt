@@ -2,12 +2,12 @@
 -- (SQL standard, 10.9 <aggregate function>).
 use Rattle.std.specs.Prelude.{ℕ, ℤ, pos, ◌+ℤ◌, Bool, not, ◌==◌, if◌then◌else◌, List, length, filter}
 use Rattle.std.specs.Ordering.{is_lt}
-use Rattle.med_value.specs.Datum.{Datum, NoValue, Whole, Chars, Logic}
+use Rattle.med_value.specs.Datum.{Datum, NoValue, Whole}
 use Rattle.med_value.specs.Order.{datum_cmp, is_missing}
 use Rattle.tri_expr.specs.Lists.{gather}
 use Rattle.tri_expr.specs.declared.expr.SetFunction.{SetFunction}
 use Rattle.tri_expr.specs.declared.expr.SetFunction.TheVariants.{Count, Sum, Min, Max}
-use Rattle.tri_expr.specs.Outcome.{Outcome, Is, Fails, ranged}
+use Rattle.tri_expr.specs.Outcome.{Outcome, Is, ranged}
 
 abbrev pub is_present : Datum → Bool
 is_present v = not (is_missing v)

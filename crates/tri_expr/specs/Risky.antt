@@ -5,7 +5,7 @@ use Rattle.tri_expr.specs.declared.expr.Expr.{Expr}
 use Rattle.tri_expr.specs.declared.expr.Expr.TheOpen as layer
 use Rattle.tri_expr.specs.declared.expr.Expr.TheFolds.{fold-Expr}
 use Rattle.tri_expr.specs.declared.expr.SetFunction.{SetFunction}
-use Rattle.tri_expr.specs.declared.expr.SetFunction.TheVariants.{Count, Sum, Min, Max}
+use Rattle.tri_expr.specs.declared.expr.SetFunction.TheVariants.{Sum}
 
 abbrev pub is_sum : SetFunction → Bool
 is_sum Sum = true

@@ -228,6 +228,20 @@ fn column_over_a_class_is_the_value_that_its_rows_share(rt: HostRuntime) -> Resu
 }
 
 #[test]
+fn like_tries_nothing_twice(rt: HostRuntime) -> Result<(), Fail> {
+    let alloc = rt.alloc();
+    let mut text = "".to_string(alloc)?;
+    for _ in 0..20_000u16 {
+        text.push('a')?;
+    }
+    let long = Box::new(alloc, Expr::Literal(Value::Text(text)))?;
+    let e = Expr::Like(false, long, "%a%a%a%a%a%a%a%a%b".to_string(alloc)?);
+    let row = part(alloc, 1)?;
+    assert!(rt; matches!(eval(alloc, &e, &row, &[]), Ok(Value::Bool(false))));
+    Ok(())
+}
+
+#[test]
 fn laws_can_be_called() {
     crate::law::aggregates_ignore_order();
     crate::law::values_ignore_order();

@@ -246,7 +246,12 @@ fn assert_class_row(alloc: Global, rt: &impl Abort, class: &[Row], line: &str) -
 }
 
 /// Each line has an expression over a class of rows, its steps, and the value that is wanted.
-pub fn assert_class_rows(alloc: Global, rt: &impl Abort, class: &[Row], table: &str) -> Result<(), Fail> {
+pub fn assert_class_rows(
+    alloc: Global,
+    rt: &impl Abort,
+    class: &[Row],
+    table: &str,
+) -> Result<(), Fail> {
     for line in table.lines() {
         if !line.is_empty() {
             assert_class_row(alloc, rt, class, line)?;

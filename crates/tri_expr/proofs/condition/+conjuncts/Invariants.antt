@@ -1,4 +1,4 @@
-use Rattle.std.proofs.Common.{◌≡◌, ◌++◌, map, take, drop}
+use Rattle.std.proofs.Common.{◌≡◌, ◌++◌, map, drop}
 use Rattle.tri_expr.specs.Tree.{tree, trees, conjuncts_of_all}
 use Rattle.tri_expr.proofs.condition.+conjuncts.Given as goal
 

@@ -1,5 +1,5 @@
-use Rattle.std.proofs.Common.{rules, arith, refl, map, ◌≡◌, subst, sym, List, ap, ◌∙◌}
-use Rattle.med_value.specs.Datum.{datum, tuple, Tuple}
+use Rattle.std.proofs.Common.{rules, arith, map, ◌≡◌, subst, sym, ap, ◌∙◌}
+use Rattle.med_value.specs.Datum.{datum, tuple}
 use Rattle.tri_expr.specs.View.{Sees}
 use Rattle.tri_expr.specs.Aggregate.{aggregated}
 use Rattle.tri_expr.specs.Meaning.{meaning, meaning_step, argument, OnClass}

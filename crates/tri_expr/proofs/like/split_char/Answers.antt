@@ -1,4 +1,4 @@
-use Rattle.std.proofs.Common.{◌≡◌, ℕ, List, ◌++◌, length, ap, sym, ◌∙◌}
+use Rattle.std.proofs.Common.{ℕ, List, ◌++◌, length, ap, sym, ◌∙◌}
 use Rattle.std.proofs.Math.Utf8.{encode}
 use Rattle.tri_expr.proofs.Texts.{no_chars, char_first}
 use Rattle.tri_expr.proofs.like.split_char.Goals as goal

@@ -1,10 +1,10 @@
-use Rattle.std.proofs.Common.{rules, arith, ◌≡◌, map, ◌∙◌, ap, sym, Some, true, false, List}
+use Rattle.std.proofs.Common.{rules, arith, map, ◌∙◌, ap, true}
 use Rattle.med_value.specs.Datum.{datum, tuple}
 use Rattle.tri_expr.specs.View.{seen}
 use Rattle.tri_expr.specs.Meaning.{meaning}
 use Rattle.tri_expr.specs.Outcome.{truth, over}
-use Rattle.tri_expr.proofs.Chain.{or_told, resumed}
-use Rattle.tri_expr.proofs.Judged.{judged, hardened, step_refused, step_met, step_told, step_told_before, at_end, verdict_false, verdict_true, verdict_told}
+use Rattle.tri_expr.proofs.Chain.{or_told}
+use Rattle.tri_expr.proofs.Judged.{step_refused, at_end, verdict_false, verdict_true, verdict_told}
 use Rattle.tri_expr.proofs.verdicts.judge.Goals as goal
 
 pub returns-then-not-is_true : goal.returns-then-not-is_true
