@@ -9,9 +9,11 @@ use Rattle.tri_expr.specs.declared.expr.SetFunction.{SetFunction}
 use Rattle.tri_expr.specs.declared.expr.SetFunction.TheVariants.{Count, Sum, Min, Max}
 use Rattle.tri_expr.specs.Outcome.{Outcome, Is, ranged}
 
+-- not NULL
 abbrev pub is_present : Datum → Bool
 is_present v = not (is_missing v)
 
+-- how many values there are
 abbrev pub number : List Datum → ℕ
 number vs = length (filter is_present vs)
 

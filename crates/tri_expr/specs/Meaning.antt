@@ -23,10 +23,11 @@ abbrev pub liked : List ℕ → Datum → Outcome
 liked pattern (Chars t) = truth (is_like pattern t)
 liked pattern v = Is NoValue
 
--- NULL past the end
+-- the cell at a place of a row; NULL past the end
 abbrev pub cell : ℕ → Tuple → Datum
 cell at r = slice_index_or r at NoValue
 
+-- a row has this value at a place, NULL being equal to NULL
 abbrev pub has_cell : ℕ → Datum → Tuple → Bool
 has_cell at v r = is_eq (datum_cmp (cell at r) v)
 
@@ -60,5 +61,6 @@ meaning_step params (layer.Parenthesised a) c = a.value c
 meaning_step params layer.CountRows c = Is (Whole (pos (length c)))
 meaning_step params (layer.Aggregate function a) c = aggregated function (argument a.value c)
 
+-- the value of a whole expression with these parameters
 abbrev pub meaning : Tuple → Expr → OnClass
 meaning params = fold-Expr OnClass (meaning_step params)

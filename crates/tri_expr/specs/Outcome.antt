@@ -32,6 +32,7 @@ abbrev pub strict : (Datum → Outcome) → Outcome → Outcome
 strict f (Is v) = f v
 strict f (Fails c) = Fails c
 
+-- the same of two operands
 abbrev pub strict_two : (Datum → Datum → Outcome) → Outcome → Outcome → Outcome
 strict_two f (Is v) (Is w) = f v w
 strict_two f (Is v) (Fails c) = Fails c
@@ -54,6 +55,7 @@ compared_values op (Chars s) NoValue = Is NoValue
 compared_values op (Logic p) NoValue = Is NoValue
 compared_values op v w = truth (holds op (datum_cmp v w))
 
+-- a comparison of two operands
 abbrev pub compared : Comparison → Outcome → Outcome → Outcome
 compared op = strict_two (compared_values op)
 
@@ -62,9 +64,11 @@ abbrev pub size_of : ℤ → ℕ
 size_of (pos n) = n
 size_of (negsuc n) = n
 
+-- the number, where it is in range
 abbrev pub ranged : ℤ → Outcome
 ranged z = if nat_lt (size_of z) (2 ^ 63) then Is (Whole z) else Fails Range
 
+-- a divisor of zero
 abbrev pub is_zero : ℤ → Bool
 is_zero (pos n) = n == 0
 is_zero (negsuc n) = false
@@ -82,9 +86,11 @@ abbrev pub computed_values : Operation → Datum → Datum → Outcome
 computed_values op (Whole m) (Whole n) = computed_numbers op m n
 computed_values op v w = Is NoValue
 
+-- arithmetic on two operands
 abbrev pub computed : Operation → Outcome → Outcome → Outcome
 computed op = strict_two (computed_values op)
 
+-- unary minus
 abbrev pub negated_value : Datum → Outcome
 negated_value (Whole n) = ranged (neg_ℤ n)
 negated_value v = Is NoValue
@@ -104,16 +110,19 @@ opposite = strict opposite_value
 abbrev pub turned : Bool → Outcome → Outcome
 turned negative = strict (λ v. if negative then opposite_value v else Is v)
 
+-- a truth value, and this one
 abbrev pub is_truth : Bool → Outcome → Bool
 is_truth true (Is (Logic p)) = p
 is_truth false (Is (Logic p)) = not p
 is_truth b o = false
 
+-- the fault that stands first, from the left
 abbrev pub first_fault : List Outcome → Option Fault
 first_fault [] = None
 first_fault (Is v ∷ os) = first_fault os
 first_fault (Fails c ∷ os) = Some c
 
+-- the fault, if there is one
 abbrev pub or_else : Option Fault → Outcome → Outcome
 or_else None o = o
 or_else (Some c) o = Fails c
@@ -134,6 +143,7 @@ passes True (Logic b) = b
 passes False (Logic b) = not b
 passes t v = false
 
+-- IS [NOT] of an operand, whose fault stays
 abbrev pub tested : Test → Bool → Outcome → Outcome
 tested t negative = strict (λ v. truth (if negative then not (passes t v) else passes t v))
 

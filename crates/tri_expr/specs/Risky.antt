@@ -7,13 +7,16 @@ use Rattle.tri_expr.specs.declared.expr.Expr.TheFolds.{fold-Expr}
 use Rattle.tri_expr.specs.declared.expr.SetFunction.{SetFunction}
 use Rattle.tri_expr.specs.declared.expr.SetFunction.TheVariants.{Sum}
 
+-- a sum may be out of range; count, min and max may not
 abbrev pub is_sum : SetFunction → Bool
 is_sum Sum = true
 is_sum function = false
 
+-- one of them is
 abbrev pub some_true : List Bool → Bool
 some_true = list_any (λ b. b)
 
+-- one form, with the risk of each operand in its place
 abbrev pub risky_step : layer.Expr-F Bool → Bool
 risky_step (layer.Column at) = false
 risky_step (layer.Parameter at) = false
@@ -32,5 +35,6 @@ risky_step (layer.Parenthesised a) = a.value
 risky_step layer.CountRows = false
 risky_step (layer.Aggregate function a) = is_sum function || a.value
 
+-- the risk of a whole expression
 abbrev pub is_risky : Expr → Bool
 is_risky = fold-Expr Bool risky_step

@@ -10,16 +10,19 @@ use Rattle.tri_expr.specs.Outcome.{Outcome, Is, ranged}
 use Rattle.tri_expr.specs.View.{seen}
 use Rattle.tri_expr.specs.Aggregate.{is_present, whole_of, total, lesser, greater}
 
+-- a bound on the size of a number, which leaves room in 128 bits for the sum of 2^63 numbers of 64 bits
 abbrev pub magnitude : ℤ → ℕ
 magnitude (pos n) = n
 magnitude (negsuc n) = n + 1
 
+-- what min and max hold after one more value; the others hold none
 abbrev pub better_of : SetFunction → Datum → Datum → Datum
 better_of Count best v = best
 better_of Sum best v = best
 better_of Min best v = lesser best v
 better_of Max best v = greater best v
 
+-- what they hold after all values
 abbrev pub best_of : SetFunction → List Datum → Datum
 best_of Count vs = NoValue
 best_of Sum vs = NoValue
@@ -32,6 +35,7 @@ pub record Tallied (t : Tally) (vs : List Datum) : Type 0 where
   pub total : t.total ≡ total vs
   pub best : seen t.best ≡ best_of t.function vs
 
+-- the aggregate that an accumulator ends in
 abbrev pub finished : SetFunction → ℕ → ℤ → Datum → Outcome
 finished Count count total best = Is (Whole (pos count))
 finished Sum count total best = if count == 0 then Is NoValue else ranged total

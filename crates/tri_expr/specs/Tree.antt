@@ -10,6 +10,7 @@ use Rattle.tri_expr.specs.declared.expr.Operation.{Operation}
 use Rattle.tri_expr.specs.declared.expr.Test.{Test}
 use Rattle.tri_expr.specs.declared.expr.SetFunction.{SetFunction}
 
+-- one case for each form; AND, OR and IN have their parts as a list
 mutual
   pub data Tree : Type 0 where
     column : ℕ → Tree
@@ -33,10 +34,12 @@ mutual
     none : Trees
     part : Tree → Trees → Trees
 
+-- a list of parts
 abbrev pub trees : List Tree → Trees
 trees [] = none
 trees (t ∷ ts) = part t (trees ts)
 
+-- one form, with the tree of each operand in its place
 abbrev pub tree_step : layer.Expr-F Tree → Tree
 tree_step (layer.Column at) = column at
 tree_step (layer.Parameter at) = parameter at
@@ -55,6 +58,7 @@ tree_step (layer.Parenthesised a) = parenthesised a.value
 tree_step layer.CountRows = count_rows
 tree_step (layer.Aggregate function a) = aggregate function a.value
 
+-- the tree of a whole expression
 abbrev pub tree : Expr → Tree
 tree = fold-Expr Tree tree_step
 

@@ -6,6 +6,7 @@ use Rattle.tri_expr.specs.declared.view.View.TheVariants.{Null, Int, Text, Bool}
 use Rattle.tri_expr.specs.declared.expr.Fault.{Fault}
 use Rattle.tri_expr.specs.Outcome.{Outcome, Is, Fails}
 
+-- the value that is looked at
 abbrev pub seen : View → Datum
 seen Null = NoValue
 seen (Int n) = Whole n

@@ -101,7 +101,8 @@ pub enum Expr {
     Parenthesised(Box<Expr>),
     /// `count(*)`: the number of rows of the class.
     CountRows,
-    /// An aggregate of its argument over the rows of the class one by one.
+    /// An aggregate of its argument over the rows of the class one by one. A fault of the argument on a row counts as NULL
+    /// here: whoever evaluates an aggregate also evaluates its argument on each row, and tells that fault.
     Aggregate(SetFunction, Box<Expr>),
 }
 
