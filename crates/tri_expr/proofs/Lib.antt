@@ -1,0 +1,13 @@
+pub mod Shuffled
+pub mod Choice
+pub mod Chain
+pub mod Judged
+pub mod Tallies
+pub mod Counted
+pub mod Steady
+pub mod Reaching
+pub mod Texts
+pub mod Reading
+pub mod Safe
+pub mod Decides
+pub mod SameVerdicts

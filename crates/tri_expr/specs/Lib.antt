@@ -1,0 +1,13 @@
+pub mod Told
+pub mod Outcome
+pub mod View
+pub mod Lists
+pub mod Like
+pub mod Reach
+pub mod Aggregate
+pub mod Tally
+pub mod Meaning
+pub mod Verdict
+pub mod Risky
+pub mod Tree
+pub mod Laws

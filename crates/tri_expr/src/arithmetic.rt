@@ -1,0 +1,73 @@
+//! Exact arithmetic on 64-bit whole numbers.
+
+ghost use Rattle.tri_expr.specs.declared.expr.Operation.TheVariants.{Divide};
+ghost use Rattle.tri_expr.specs.Outcome.{computed_numbers, computed_values, negated_value};
+ghost use Rattle.tri_expr.specs.View.{seen, Sees};
+
+use crate::expr::{Fault, Operation};
+use crate::view::View;
+
+fn compute_numbers(op: Operation, a: i64, b: i64) -> Result<View<'static>, Fault>
+    ensures { Sees result (computed_numbers op a b) }
+{
+    match op {
+        Operation::Add => match a.checked_add(b) {
+            Some(n) => Ok(View::Int(n)),
+            None => Err(Fault::Range),
+        },
+        Operation::Subtract => match a.checked_sub(b) {
+            Some(n) => Ok(View::Int(n)),
+            None => Err(Fault::Range),
+        },
+        Operation::Multiply => match a.checked_mul(b) {
+            Some(n) => Ok(View::Int(n)),
+            None => Err(Fault::Range),
+        },
+        Operation::Divide => divide(a, b),
+        Operation::Remainder => {
+            if b == 0 {
+                return Err(Fault::Zero);
+            }
+            match a.checked_rem(b) {
+                Some(n) => Ok(View::Int(n)),
+                // the least number and -1
+                None => Ok(View::Int(0)),
+            }
+        }
+    }
+}
+
+fn divide(a: i64, b: i64) -> Result<View<'static>, Fault>
+    ensures { Sees result (computed_numbers Divide a b) }
+{
+    if b == 0 {
+        return Err(Fault::Zero);
+    }
+    match a.checked_div(b) {
+        Some(n) => Ok(View::Int(n)),
+        None => Err(Fault::Range),
+    }
+}
+
+/// `+ - * / %`; with NULL on either side NULL.
+pub fn compute(op: Operation, a: View<'_>, b: View<'_>) -> Result<View<'static>, Fault>
+    ensures { Sees result (computed_values op (seen a.entry) (seen b.entry)) }
+{
+    match (a, b) {
+        (View::Int(m), View::Int(n)) => compute_numbers(op, m, n),
+        _ => Ok(View::Null),
+    }
+}
+
+/// Unary minus.
+pub fn negate(a: View<'_>) -> Result<View<'static>, Fault>
+    ensures { Sees result (negated_value (seen a.entry)) }
+{
+    match a {
+        View::Int(n) => match n.checked_neg() {
+            Some(n) => Ok(View::Int(n)),
+            None => Err(Fault::Range),
+        },
+        _ => Ok(View::Null),
+    }
+}

@@ -1,0 +1,125 @@
+//! Comparisons, NOT, IS and BETWEEN on values.
+
+ghost use Rattle.std.specs.Prelude.{◌≡◌, false, [], ◌∷◌};
+ghost use Rattle.tri_expr.specs.declared.expr.Comparison.TheVariants.{AtLeast, AtMost};
+ghost use Rattle.tri_expr.specs.Outcome.{Outcome, Is, compared, compared_values, opposite_value, passes, settled, tested, turned, value_of};
+ghost use Rattle.tri_expr.specs.View.{seen, Sees};
+
+use crate::expr::{Comparison, Fault, Test};
+use crate::view::{View, compare_views};
+
+/// A comparison; with NULL on either side unknown.
+pub fn compare(op: Comparison, a: View<'_>, b: View<'_>) -> View<'static>
+    ensures { compared_values op (seen a.entry) (seen b.entry) ≡ Is (seen result) }
+{
+    match (a, b) {
+        (View::Null, _) => View::Null,
+        (_, View::Null) => View::Null,
+        _ => {
+            let order = compare_views(a, b);
+            View::Bool(match op {
+                Comparison::Equal => order.is_eq(),
+                Comparison::Apart => !order.is_eq(),
+                Comparison::Below => order.is_lt(),
+                Comparison::AtMost => order.is_le(),
+                Comparison::Above => order.is_gt(),
+                Comparison::AtLeast => order.is_ge(),
+            })
+        }
+    }
+}
+
+/// NOT; of unknown it is unknown.
+pub fn opposite(a: View<'_>) -> View<'static>
+    ensures { opposite_value (seen a.entry) ≡ Is (seen result) }
+{
+    match a {
+        View::Bool(b) => View::Bool(!b),
+        _ => View::Null,
+    }
+}
+
+// Whether IS finds what it asks for.
+fn does_pass(test: Test, a: View<'_>) -> bool
+    ensures { result ≡ passes test (seen a.entry) }
+{
+    match test {
+        Test::Null => matches!(a, View::Null),
+        Test::Unknown => matches!(a, View::Null),
+        Test::True => matches!(a, View::Bool(true)),
+        Test::False => matches!(a, View::Bool(false)),
+    }
+}
+
+/// IS and its test, or under NOT what it does not find.
+pub fn ask(test: Test, negative: bool, a: View<'_>) -> View<'static>
+    ensures { tested test negative (Is (seen a.entry)) ≡ Is (seen result) }
+{
+    let passed = does_pass(test, a);
+    View::Bool(if negative { !passed } else { passed })
+}
+
+/// The answer itself, or its opposite.
+pub fn turn<'a>(negative: bool, answer: Result<View<'a>, Fault>) -> Result<View<'a>, Fault>
+    ensures { (o : Outcome) → Sees answer.entry o → Sees result (turned negative o) }
+{
+    match answer {
+        Ok(v) => { if negative { Ok(opposite(v)) } else { Ok(v) } }
+        Err(fault) => Err(fault),
+    }
+}
+
+/// What BETWEEN makes of its value and its two bounds.
+pub fn between(
+    v: View<'_>,
+    low: Result<View<'_>, Fault>,
+    high: Result<View<'_>, Fault>,
+) -> Result<View<'static>, Fault>
+    ensures { (a b : Outcome) → Sees low.entry a → Sees high.entry b → Sees result (settled false (compared AtLeast (Is (seen v.entry)) a ∷ compared AtMost (Is (seen v.entry)) b ∷ [])) }
+{
+    let first = match low {
+        Ok(low) => Ok(compare(Comparison::AtLeast, v, low)),
+        Err(fault) => Err(fault),
+    };
+    let second = match high {
+        Ok(high) => Ok(compare(Comparison::AtMost, v, high)),
+        Err(fault) => Err(fault),
+    };
+    both(first, second)
+}
+
+// AND of two operands
+fn both(
+    first: Result<View<'static>, Fault>,
+    second: Result<View<'static>, Fault>,
+) -> Result<View<'static>, Fault>
+    ensures { (a b : Outcome) → Sees first.entry a → Sees second.entry b → Sees result (settled false (a ∷ b ∷ [])) }
+{
+    match first {
+        Ok(View::Bool(true)) => match second {
+            Ok(View::Bool(q)) => Ok(View::Bool(q)),
+            Ok(_) => Ok(View::Null),
+            Err(fault) => Err(fault),
+        },
+        Ok(View::Bool(false)) => Ok(View::Bool(false)),
+        Ok(_) => match second {
+            Ok(View::Bool(false)) => Ok(View::Bool(false)),
+            Ok(_) => Ok(View::Null),
+            Err(fault) => Err(fault),
+        },
+        Err(fault) => match second {
+            Ok(View::Bool(false)) => Ok(View::Bool(false)),
+            _ => Err(fault),
+        },
+    }
+}
+
+/// What an aggregate sees of its argument on a row: a fault counts as NULL there, and is told by itself.
+pub fn argument<'a>(answer: Result<View<'a>, Fault>) -> View<'a>
+    ensures { (o : Outcome) → Sees answer.entry o → seen result ≡ value_of o }
+{
+    match answer {
+        Ok(v) => v,
+        Err(_) => View::Null,
+    }
+}
