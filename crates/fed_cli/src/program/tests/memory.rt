@@ -6,6 +6,7 @@ ghost use Rattle.session_wire.specs.Servers.{handler_of};
 
 use super::served::{counts_after, counts_at_end, demo_engine, demo_server};
 use super::{ANSWER, STORED};
+use crate::program::RunFault;
 use crate::stream::{StreamFault, serve_stream};
 use fdw_api::interface::Counts;
 use med_session::{Engine, NoRoom, Request, Sid};
@@ -47,7 +48,10 @@ impl<H: Handler> Handler for Tight<H> {
 }
 
 // A server over the demo list that refuses room for each request after so many.
-fn tight_server(alloc: Global, before: usize) -> Result<Server<Tight<Engine<ListWrapper>>>, Fail>
+fn tight_server(
+    alloc: Global,
+    before: usize,
+) -> Result<Server<Tight<Engine<ListWrapper>>>, RunFault<'static>>
     ensures { IfOk result (λ server. IsSound (shown box_of (handler_of server).inner)) }
 {
     let handler = Tight {
@@ -56,8 +60,56 @@ fn tight_server(alloc: Global, before: usize) -> Result<Server<Tight<Engine<List
     };
     match Server::new(alloc, handler) {
         Ok(server) => Ok(server),
-        Err(_) => Err(Fail::new("no room for a server")),
+        Err(_) => Err(RunFault::NoMemory),
     }
+}
+
+// The answers to the stored stream, then to `LATER`, where at most one request lacks memory.
+const LACKING: [&[u8]; 5] = [
+    b"1 T OPEN\n1 H\tid\tname\n1 R\t1\tbolt\n1 R\t2\tnut\n1 R\t3\t\\N\n1 T SELECT 3\n2 T OPEN\n2 H\tn\n2 R\t4\n2 R\t6\n2 R\t1\n2 T SELECT 3\n",
+    b"1 E 53200 out_of_memory\n1 E 08003 connection_does_not_exist\n2 T OPEN\n2 H\tn\n2 R\t4\n2 R\t6\n2 R\t1\n2 T SELECT 3\n",
+    b"1 T OPEN\n1 E 53200 out_of_memory\n2 T OPEN\n2 H\tn\n2 R\t4\n2 R\t6\n2 R\t1\n2 T SELECT 3\n",
+    b"1 T OPEN\n1 H\tid\tname\n1 R\t1\tbolt\n1 R\t2\tnut\n1 R\t3\t\\N\n1 T SELECT 3\n2 E 53200 out_of_memory\n2 E 08003 connection_does_not_exist\n",
+    b"1 T OPEN\n1 H\tid\tname\n1 R\t1\tbolt\n1 R\t2\tnut\n1 R\t3\t\\N\n1 T SELECT 3\n2 T OPEN\n2 E 53200 out_of_memory\n",
+];
+
+const LATER: &[u8] = b"2 OPEN bob\n2 Q SELECT n FROM orders\n";
+
+// The answers before the request that gets no room.
+const CUT_OFF: [&[u8]; 2] = [b"", b"1 T OPEN\n"];
+
+const CUT_OFF_LATER: [&[u8]; 2] = [
+    b"1 T OPEN\n1 H\tid\tname\n1 R\t1\tbolt\n1 R\t2\tnut\n1 R\t3\t\\N\n1 T SELECT 3\n",
+    b"1 T OPEN\n1 H\tid\tname\n1 R\t1\tbolt\n1 R\t2\tnut\n1 R\t3\t\\N\n1 T SELECT 3\n2 T OPEN\n",
+];
+
+// The answers that may stand after two feeds that ended so.
+fn answers_after(
+    first: Result<(), FeedFault>,
+    second: Result<(), FeedFault>,
+) -> &'static [&'static [u8]] {
+    match (first, second) {
+        (Ok(()), Ok(())) => &LACKING,
+        (Ok(()), Err(FeedFault::NoRoom)) => &CUT_OFF_LATER,
+        (Err(FeedFault::NoRoom), Err(FeedFault::Closed)) => &CUT_OFF,
+        _ => &[],
+    }
+}
+
+// Holds whichever allocation is refused: `rt try --test --fail-alloc N` refuses the Nth.
+#[test]
+fn refused_allocation_touches_one_request(rt: HostRuntime) -> Result<(), Fail> {
+    let Ok(mut server) = demo_server(rt.alloc()) else {
+        return Ok(());
+    };
+    let mut out = Vec::new(rt.alloc());
+    let first = server.feed(STORED, &mut out);
+    let second = server.feed(LATER, &mut out);
+    let answers = answers_after(first, second);
+    assert!(rt; answers.contains(&out.as_slice()));
+    let live = counts_at_end(server.finish()).map(|counts| counts.live);
+    assert_eq!(rt; live, Some(0));
+    Ok(())
 }
 
 // What two feeds answer, and what the demo list then counts.

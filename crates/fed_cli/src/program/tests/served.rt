@@ -5,32 +5,33 @@ ghost use Rattle.probe_wrapper.specs.ListBoxes.{box_of};
 ghost use Rattle.session_wire.specs.Servers.{handler_of};
 
 use crate::demo::demo_tables;
-use crate::program::add_demo;
+use crate::program::{RunFault, add_demo};
 use fdw_api::interface::Counts;
 use med_exec::ledger_at;
 use med_session::Engine;
 use probe_wrapper::ListWrapper;
 use session_wire::Server;
 use std::alloc::Global;
-use std::test::Fail;
 
 /// An engine with the demo list as the source `demo`.
-pub fn demo_engine(alloc: Global) -> Result<Engine<ListWrapper>, Fail>
+pub fn demo_engine(alloc: Global) -> Result<Engine<ListWrapper>, RunFault<'static>>
     ensures { IfOk result (λ engine. IsSound (shown box_of engine)) }
 {
-    let mut engine: Engine<ListWrapper> = Engine::new(alloc, "admin")?;
+    let Ok(mut engine) = Engine::<ListWrapper>::new(alloc, "admin") else {
+        return Err(RunFault::NoMemory);
+    };
     let list = ListWrapper::new(alloc, demo_tables(alloc)?)?;
     add_demo(alloc, &mut engine, "demo", list)?;
     Ok(engine)
 }
 
 /// A server over such an engine.
-pub fn demo_server(alloc: Global) -> Result<Server<Engine<ListWrapper>>, Fail>
+pub fn demo_server(alloc: Global) -> Result<Server<Engine<ListWrapper>>, RunFault<'static>>
     ensures { IfOk result (λ server. IsSound (shown box_of (handler_of server))) }
 {
     match Server::new(alloc, demo_engine(alloc)?) {
         Ok(server) => Ok(server),
-        Err(_) => Err(Fail::new("no room for a server")),
+        Err(_) => Err(RunFault::NoMemory),
     }
 }
 
