@@ -1,2 +1,1 @@
 pub mod PlainScans
-pub mod CallLemmas

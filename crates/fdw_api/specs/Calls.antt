@@ -50,11 +50,13 @@ LeavesOthers number = Leaves (λ q. q ≡ number) none_of none_of
 abbrev pub NoScan : BoxState → ℕ → Type 0
 NoScan s t = (q : ℕ) (scan : Scan) → scan_of s q ≡ Some scan → scan.table ≢ t
 
--- a call that may open something is refused: nothing changes but `faults` and, in a wrapper round another, `next`, which may rise
+-- a call that may open something is refused: nothing changes but `faults` and, in a wrapper round another, `next`, which may rise, but
+-- not past its end
 pub record Refuses (fault : Fault) (old new : BoxState) : Type 0 where
   pub nature : new.nature ≡ old.nature
   pub next : ℕ
   pub rises : old.ledger.next ≤ next
+  pub stays : old.ledger.next ≡ 2 ^ 64 - 1 → next ≡ 2 ^ 64 - 1
   pub ledger : new.ledger ≡ record old.ledger { next = next; faults = faults_after fault old.ledger.faults }
   pub leaves : is_honest old → LeavesAll old new
 

@@ -1,6 +1,8 @@
 -- What a kind of source makes of what stands under a remote name.
-use Rattle.std.specs.Prelude.{ℕ, List, Option}
+use Rattle.std.specs.Prelude.{◌≡◌, ℕ, Bool, true, false, nat_le, List, Option, Some, None}
+use Rattle.std.specs.List.{list_all}
 use Rattle.std.specs.String.{string_bytes}
+use Rattle.med_value.specs.Causes.{phase_of}
 use Rattle.med_value.specs.Datum.{Tuple}
 use Rattle.med_value.specs.declared.value.ColType.{ColType}
 pub use Rattle.med_value.specs.Column.{Column, column_of}
@@ -35,10 +37,17 @@ pub record Held : Type 0 where
 abbrev pub held : TableRow → Held
 held r = record { cells = r.cells; origin = r.origin }
 
--- what binding an entry gives: the causes that stand, and where there is none its rows
+-- state and limits, and the run: phases 5 and 6
+abbrev pub is_late : Option ℕ → Bool
+is_late None = false
+is_late (Some phase) = nat_le 5 phase
+
+-- what binding an entry gives: the causes that stand, and where there is none its rows. They are causes of state or of the run: those of
+-- names and types show before an entry is read
 pub record Reading : Type 0 where
   pub causes : List Cause
   pub rows : List Held
+  pub late : list_all (λ c. is_late (phase_of c)) causes ≡ true
 
 -- a change of a write: a new row, another row in a row's place, or a row that goes
 pub data Change : Type 0 where

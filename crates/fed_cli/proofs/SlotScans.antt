@@ -1,17 +1,35 @@
 -- Scans of a table of the box in a slot, one after the other.
-use Rattle.std.proofs.Common.{◌≡◌, ℕ, List, [], Option, Some, IsSome, sym, ◌∙◌, ap, subst}
+use Rattle.std.proofs.Common.{◌≡◌, ℕ, List, [], Option, Some, None, IsSome, refl, sym, ◌∙◌, ap, subst, rules}
 use Rattle.std.specs.FinMap as finmap
 use Rattle.med_value.specs.Datum.{Tuple}
 use Rattle.fdw_api.specs.Kinds.{Column, Setting}
-use Rattle.fdw_api.specs.State.{BoxState, IsIdle}
+use Rattle.fdw_api.specs.State.{BoxState, IsIdle, set_at}
 use Rattle.fdw_api.specs.Calls.{CanBind, Binds, CanUnbind}
-use Rattle.fdw_api.proofs.CallLemmas.{idle_can_bind, bound_can_unbind}
 use Rattle.med_exec.specs.Slots.{BoxAt, ChangesAt, HasTable}
 use Rattle.med_exec.specs.Scanning.{ReadsTable, SelectsTable}
 use Rattle.med_session.specs.Engine.{TakesColumns}
 
 some_inj : {A : Type 0} (a b : A) → Some a ≡ Some b → a ≡ b
 some_inj a b e = cc
+
+not_none : {A : Type 0} (o : Option A) (a : A) → o ≡ None → o ≡ Some a → ⊥
+not_none o a e f = absurd cc
+
+set_same : {A : Type 0} (f : ℕ → A) (k : ℕ) (a : A) → set_at f k a k ≡ a
+set_same f k a = search rules
+
+idle_can_bind : (s : BoxState) (remote : List ℕ) (columns : List Column) (settings : List Setting) → IsIdle s → s.nature.kind.objections columns settings ≡ [] → CanBind s remote columns settings
+idle_can_bind s remote columns settings idle no_objection = record {
+  free = λ t b is. absurd (not_none (s.ledger.tables t) b (idle.no_table t) is);
+  no_objection = no_objection;
+}
+
+bound_can_unbind : (old new : BoxState) (remote : List ℕ) (columns : List Column) (settings : List Setting) (t : ℕ) → IsIdle old → Binds old remote columns settings t new → CanUnbind new t
+bound_can_unbind old new remote columns settings t idle b = record {
+  is_bound = subst IsSome (sym (ap (λ z. z.tables t) b.ledger ∙ set_same old.ledger.tables t (Some b.bound))) refl;
+  no_scan = λ n scan is. absurd (not_none (finmap.get new.ledger.live n) scan (ap (λ z. finmap.get z.live n) b.ledger ∙ idle.no_scan n) is);
+  not_staged = ap (λ z. z.staged) b.ledger ∙ idle.no_staging;
+}
 
 -- what holds of the box holds of what the change makes of it
 moves_on : (Q R : BoxState → Type 0) (P : BoxState → BoxState → Type 0) (old new : List (Option BoxState)) (slot : ℕ) → ((s t : BoxState) → Q s → P s t → R t) → BoxAt old slot Q → ChangesAt old slot P new → BoxAt new slot R

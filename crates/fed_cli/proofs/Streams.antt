@@ -1,19 +1,18 @@
 -- What is served so far, and one read more.
-use Rattle.std.proofs.Common.{◌≡◌, ℕ, List, [], ◌++◌, Option, Some, None, Err, refl, sym, ap, ◌∙◌, subst, append_assoc, append-nil}
+use Rattle.std.proofs.Common.{◌≡◌, ℕ, Bool, true, false, cond, List, [], ◌++◌, Option, Some, None, Err, refl, sym, ap, ◌∙◌, subst, append_assoc, append-nil}
 use Rattle.std.specs.Io.KnownBytes.{Consumes, Appends, Keeps}
-use Rattle.session_wire.specs.Lines.{IsFrontOfLine}
 use Rattle.session_wire.specs.Run.{Steps, Fed}
-use Rattle.session_wire.proofs.FrontOfLine.{front_is_rest}
-use Rattle.session_wire.proofs.Runs.{fed_none, fed_more}
+use Rattle.session_wire.specs.Servers.{is_closed, held_back, unread_of}
+use Rattle.session_wire.specs.declared.server.Server.{Server}
 use Rattle.fed_cli.specs.Served.{Served, Serves, Fails}
 use Rattle.fed_cli.specs.declared.stream.StreamFault.{StreamFault}
 use Rattle.fed_cli.specs.declared.stream.StreamFault.TheVariants as faults
 
-Consumes-nil : (a : Option (List ℕ)) → Consumes a a []
+pub Consumes-nil : (a : Option (List ℕ)) → Consumes a a []
 Consumes-nil None = tt
 Consumes-nil (Some x) = refl
 
-Appends-nil : (a : Option (List ℕ)) → Appends a a []
+pub Appends-nil : (a : Option (List ℕ)) → Appends a a []
 Appends-nil None = tt
 Appends-nil (Some x) = sym (append-nil x)
 
@@ -40,9 +39,26 @@ keeps_none None b p = tt
 keeps_none (Some x) None p = absurd p
 keeps_none (Some x) (Some y) p = sym p
 
-pub served_none : {W : Type 0} (step : Steps W) (ends : W → W → Type 0) (old : W) (before : List ℕ) (left had held : Option (List ℕ)) → IsFrontOfLine before → left ≡ Some before → Served step ends old before old left had had held held
-served_none step ends old before left had held h e =
-    record { bytes = []; text = []; read = Consumes-nil had; written = Appends-nil held; fed = fed_none step ends old before left (front_is_rest before h) e }
+-- what is left unread of a server, by whether its stream is closed
+pub unread_of-open : {H : Type 0} (server : Server H) → is_closed server ≡ false → unread_of server ≡ Some (held_back server)
+unread_of-open server e = ap (λ (b : Bool). cond b None (Some (held_back server))) e
+
+pub unread_of-closed : {H : Type 0} (server : Server H) → is_closed server ≡ true → unread_of server ≡ None
+unread_of-closed server e = ap (λ (b : Bool). cond b None (Some (held_back server))) e
+
+-- a run, and then one of what it leaves with more bytes, is a run of all of them
+abbrev pub Joins : {W : Type 0} → Steps W → (W → W → Type 0) → Type 0
+Joins {W} step ends = (old mid new : W) (bytes more text others after : List ℕ) (left : Option (List ℕ))
+    → Fed step ends old bytes text mid (Some after) → Fed step ends mid (after ++ more) others new left → Fed step ends old (bytes ++ more) (text ++ others) new left
+
+pub served_none : {W : Type 0} (step : Steps W) (ends : W → W → Type 0) (old : W) (before : List ℕ) (left had held : Option (List ℕ)) → Fed step ends old before [] old (Some before) → left ≡ Some before → Served step ends old before old left had had held held
+served_none step ends old before left had held f e = record {
+  bytes = [];
+  text = [];
+  read = Consumes-nil had;
+  written = Appends-nil held;
+  fed = subst (λ l. Fed step ends old (before ++ []) [] old l) (sym e) (subst (λ bs. Fed step ends old bs [] old (Some before)) (sym (append-nil before)) f);
+}
 
 -- a read that gave nothing
 pub served_kept : {W : Type 0} (step : Steps W) (ends : W → W → Type 0) (old : W) (before : List ℕ) (new : W) (left had has held holds now : Option (List ℕ))
@@ -60,27 +76,27 @@ joined step ends old before bytes piece text new left h = subst (λ l. Fed step 
 
 -- a piece was read and answered
 pub served_more : {W : Type 0} (step : Steps W) (ends : W → W → Type 0) (old : W) (before : List ℕ) (mid : W) (after : List ℕ) (had has held holds : Option (List ℕ)) (piece others : List ℕ) (new : W) (left now writes : Option (List ℕ))
-    → Served step ends old before mid (Some after) had has held holds → Consumes has now piece → Appends holds writes others
+    → Joins step ends → Served step ends old before mid (Some after) had has held holds → Consumes has now piece → Appends holds writes others
     → Fed step ends mid (after ++ piece) others new left
     → Served step ends old before new left had now held writes
-served_more step ends old before mid after had has held holds piece others new left now writes h c a f = record {
+served_more step ends old before mid after had has held holds piece others new left now writes j h c a f = record {
   bytes = h.bytes ++ piece;
   text = h.text ++ others;
   read = Consumes-trans had has now h.bytes piece h.read c;
   written = Appends-trans held holds writes h.text others h.written a;
-  fed = joined step ends old before h.bytes piece (h.text ++ others) new left (fed_more step ends old (before ++ h.bytes) h.text mid after piece others new left h.fed f);
+  fed = joined step ends old before h.bytes piece (h.text ++ others) new left (j old mid new (before ++ h.bytes) piece h.text others after left h.fed f);
 }
 
 pub failed : {W : Type 0} (step : Steps W) (ends : W → W → Type 0) (old : W) (before : List ℕ) (mid : W) (after : List ℕ) (had has held holds : Option (List ℕ)) (piece : List ℕ) (new : W) (left now writes : Option (List ℕ)) (fault : StreamFault)
-    → Served step ends old before mid (Some after) had has held holds → Consumes has now piece → Fails step ends mid (after ++ piece) new left holds writes fault
+    → Joins step ends → Served step ends old before mid (Some after) had has held holds → Consumes has now piece → Fails step ends mid (after ++ piece) new left holds writes fault
     → Serves step ends old before new left had now held writes (Err fault)
-failed step ends old before mid after had has held holds piece new left now writes faults.Write h c f = record {
+failed step ends old before mid after had has held holds piece new left now writes faults.Write j h c f = record {
   bytes = h.bytes ++ piece;
   text = h.text ++ f.0;
   read = Consumes-trans had has now h.bytes piece h.read c;
-  fed = joined step ends old before h.bytes piece (h.text ++ f.0) new left (fed_more step ends old (before ++ h.bytes) h.text mid after piece f.0 new left h.fed f.1);
+  fed = joined step ends old before h.bytes piece (h.text ++ f.0) new left (j old mid new (before ++ h.bytes) piece h.text f.0 after left h.fed f.1);
 }
-failed step ends old before mid after had has held holds piece new left now writes faults.NoRoom h c f = (
+failed step ends old before mid after had has held holds piece new left now writes faults.NoRoom j h c f = (
   record {
     between = has;
     mid = mid;
@@ -93,5 +109,5 @@ failed step ends old before mid after had has held holds piece new left now writ
   },
   f.3,
 )
-failed step ends old before mid after had has held holds piece new left now writes faults.Read h c f = absurd f
-failed step ends old before mid after had has held holds piece new left now writes faults.TooLong h c f = absurd f
+failed step ends old before mid after had has held holds piece new left now writes faults.Read j h c f = absurd f
+failed step ends old before mid after had has held holds piece new left now writes faults.TooLong j h c f = absurd f

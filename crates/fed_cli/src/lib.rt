@@ -3,6 +3,7 @@
 
 pub mod demo;
 pub mod program;
+pub mod serving;
 pub mod stream;
 pub mod words;
 pub mod worlds;

@@ -1,18 +1,21 @@
 //! The program: what it serves, and how it ends.
-ghost use Rattle.std.specs.Prelude.{OnOk};
-ghost use Rattle.fdw_api.specs.State.{IsIdle, is_honest};
+ghost use Rattle.std.specs.Prelude.{◌≡◌, Ok, OnOk, option_map};
 ghost use Rattle.med_session.specs.World.{World};
-ghost use Rattle.med_session.specs.Engine.{shown, IsSound, Agrees, TakesColumns};
+ghost use Rattle.med_session.specs.Engine.{shown, IsSound, Agrees};
+ghost use Rattle.probe_wrapper.specs.Lists.{IsNewList};
+ghost use Rattle.fed_cli.specs.Demo.{demo_list};
 ghost use Rattle.fed_cli.specs.Setup.{HasDemo};
+ghost use Rattle.fed_cli.specs.Answered.{AnswersAll};
+ghost use Rattle.fed_cli.specs.declared.stream.Ended.TheVariants.{Eof};
 
 use crate::demo::{demo_tables, orders_columns, parts_columns};
-use crate::stream::{Ended, StreamFault, serve_stream};
+use crate::serving::serve_engine;
+use crate::stream::{Ended, StreamFault};
 use crate::words::{Asked, WordsFault, read_words};
 use fdw_api::interface::Wrapper;
 use med_session::{AddFault, Engine, SourceKind};
 use med_value::{Cause, NoMemory};
 use probe_wrapper::ListWrapper;
-use session_wire::Server;
 use std::alloc::{AllocError, Global};
 use std::io::{ErrorKind, Read, Write};
 use std::rt::Env;
@@ -93,11 +96,10 @@ pub fn add_demo<'a, W: Wrapper>(
     list: W,
 ) -> Result<(), RunFault<'a>>
     requires engine { IsSound (shown W.meaning engine.old) }
-    requires idle { IsIdle (W.meaning list) }
-    requires takes_columns { TakesColumns (W.meaning list) }
+    requires demo { IsNewList (W.meaning list) demo_list }
     ensures sound { IsSound (shown W.meaning engine.new) }
-    ensures world { OnOk result ((w : World) → Agrees (shown W.meaning engine.old) w → is_honest (W.meaning list)
-        → (after : World) × HasDemo w name.entry.now (W.meaning list) after × Agrees (shown W.meaning engine.new) after) }
+    ensures world { OnOk result ((w : World) → Agrees (shown W.meaning engine.old) w
+        → (after : World) × HasDemo w name.entry.now after × Agrees (shown W.meaning engine.new) after) }
 {
     let parts = parts_columns(alloc)?;
     let orders = orders_columns(alloc)?;
@@ -115,21 +117,10 @@ pub fn add_demo<'a, W: Wrapper>(
     }
 }
 
-// Serves an input by an engine to its end.
-fn serve_engine<'a, B: Wrapper, R: Read, W: Write>(
-    alloc: Global,
-    engine: Engine<B>,
-    reader: &mut R,
-    writer: &mut W,
-) -> Result<(), RunFault<'a>>
-    requires { IsSound (shown B.meaning engine) }
+// How a stream that ended so is told.
+fn told<'a>(ended: Result<Ended, StreamFault>) -> Result<(), RunFault<'a>>
+    ensures { OnOk result (ended ≡ Ok Eof) }
 {
-    let mut server = match Server::new(alloc, engine) {
-        Ok(server) => server,
-        Err(_) => return Err(RunFault::NoMemory),
-    };
-    let ended = serve_stream(alloc, &mut server, reader, writer);
-    let _ = server.finish().finish();
     match ended {
         Ok(Ended::Eof) => Ok(()),
         Ok(Ended::Closed) => Err(RunFault::ProtocolViolation),
@@ -143,12 +134,17 @@ pub fn serve<'a, R: Read, W: Write>(
     list: Option<&'a str>,
     reader: &mut R,
     writer: &mut W,
-) -> Result<(), RunFault<'a>> {
+) -> Result<(), RunFault<'a>>
+    ensures { OnOk result (AnswersAll (option_map (λ s. s.now) list.entry)
+        (R.remaining reader.old) (R.remaining reader.new)
+        (W.contents writer.old) (W.contents writer.new)) }
+{
     let Ok(mut engine) = Engine::<Box<dyn Wrapper>>::new(alloc, OWNER) else {
         return Err(RunFault::NoMemory);
     };
     let Some(name) = list else {
-        return serve_engine(alloc, engine, reader, writer);
+        let (ended, _) = serve_engine(alloc, engine, reader, writer);
+        return told(ended);
     };
     let demo = ListWrapper::new(alloc, demo_tables(alloc)?)?;
     let boxed: Box<dyn Wrapper> = match Box::new(alloc, demo) {
@@ -156,7 +152,8 @@ pub fn serve<'a, R: Read, W: Write>(
         Err(_) => return Err(RunFault::NoMemory),
     };
     add_demo(alloc, &mut engine, name, boxed)?;
-    serve_engine(alloc, engine, reader, writer)
+    let (ended, _) = serve_engine(alloc, engine, reader, writer);
+    told(ended)
 }
 
 // Does what the words ask, and gives the exit status.

@@ -5,6 +5,7 @@ ghost use Rattle.session_wire.specs.Run.{Fed};
 ghost use Rattle.session_wire.specs.Servers.{handler_of, is_closed, held_back, unread_of};
 ghost use Rattle.fed_cli.specs.Served.{Serves, Fails};
 
+use session_wire::server::runs_join;
 use session_wire::{Handler, Server};
 use std::alloc::Global;
 use std::io::{ErrorKind, Read, Write};
@@ -72,6 +73,7 @@ pub fn serve_stream<H: Handler, R: Read, W: Write>(
     if server.is_closed() {
         return Ok(Ended::Closed);
     }
+    runs_join::<H>();
     let mut piece = [0u8; PIECE];
     let mut out = Vec::new(alloc);
     for _ in 0..READS {

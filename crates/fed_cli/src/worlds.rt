@@ -10,6 +10,7 @@ ghost use Rattle.fed_cli.specs.declared.stream.StreamFault.{StreamFault};
 ghost use Rattle.fed_cli.specs.Served.{Serves};
 
 use fdw_api::interface::Wrapper;
+use session_wire::worlds::{boxes_rise, parts_follow};
 
 /// The law of worlds: what `serve_stream` answers over an engine is, for each world that agrees with the
 /// engine before, what a run of worlds answers, and leads to a world that agrees with the engine after.
@@ -25,4 +26,7 @@ pub fn served_worlds_follow<W: Wrapper>()
         (WorldSteps (MayBefall (shown W.meaning old).boxes (shown W.meaning new).boxes))
         WorldEnds w before after left had has held holds result
         × Agrees (shown W.meaning new) after }
-{}
+{
+    boxes_rise::<W>();
+    parts_follow::<W>();
+}

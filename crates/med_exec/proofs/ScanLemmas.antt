@@ -252,6 +252,7 @@ fails t n spec params fault old begun last new b g e = record {
   nature = e.nature ∙ g.keeps.nature ∙ b.nature;
   next = old.ledger.next + 1;
   rises = omega arith;
+  stays = λ e. let r : old.ledger.next < 2 ^ 64 - 1 = subst (λ (x : ℕ). x < 2 ^ 64 - 1) b.is_next b.room in omega (arith, e, r);
   given = g.given;
   once = inr refl;
   ledger = ledger_again t spec params n _ _ old begun last new b g.keeps (g.pulled ∙ ap (λ (z : Ledger). pulled_after g.given z.pulled) b.ledger) (g.faults ∙ ap (λ (z : Ledger). faults_after fault z.faults) b.ledger) e;
@@ -264,6 +265,7 @@ begin_fails fault old new r = record {
   nature = r.refuses.nature;
   next = r.refuses.next;
   rises = r.refuses.rises;
+  stays = r.refuses.stays;
   given = 0;
   once = inl refl;
   ledger = r.refuses.ledger;
@@ -296,6 +298,7 @@ reads_in_vain t rows old new r = record {
   nature = r.nature;
   next = old.ledger.next + 1;
   rises = omega arith;
+  stays = λ e. let k : old.ledger.next < 2 ^ 64 - 1 = r.room in omega (arith, e, k);
   given = length rows;
   once = inr refl;
   ledger = r.ledger;

@@ -25,6 +25,7 @@ pub record FailsTable (fault : Fault) (old new : BoxState) : Type 0 where
   pub nature : new.nature ≡ old.nature
   pub next : ℕ
   pub rises : old.ledger.next ≤ next
+  pub stays : old.ledger.next ≡ 2 ^ 64 - 1 → next ≡ 2 ^ 64 - 1
   pub given : ℕ
   pub once : (given ≡ 0) ⊎ (next ≡ old.ledger.next + 1)
   pub ledger : new.ledger ≡ record old.ledger { next = next; pulled = pulled_after given old.ledger.pulled; faults = faults_after fault old.ledger.faults }

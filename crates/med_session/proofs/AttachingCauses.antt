@@ -1,18 +1,20 @@
 -- Which cause is told of a foreign table that is not attached.
 use Rattle.std.proofs.Common.{◌≡◌, ℕ, ◌+◌, ◌-◌, ◌^◌, ◌<◌, ◌≤◌, ◌⊎◌, ◌||◌, cond, Bool, true, false, List, [], ◌∷◌, Option, Some, None, IsSome, Contains, slice_get, length, min, refl, ap, sym, ◌∙◌, subst, inl, inr, arith, lit≤, find, bytes_eq, unwrap_or}
 use Rattle.std.specs.List.{list_any}
-use Rattle.std.proofs.lemmas.Bool.{false≢true, cases_lt}
+use Rattle.std.proofs.lemmas.Bool.{false≢true, cases_lt, leb-true}
+use Rattle.std.proofs.lemmas.List.Elements.{All-contains}
+use Rattle.std.proofs.lemmas.List.Sums.{AllPass-from_list_all}
 use Rattle.med_value.specs.Causes.{phase_of}
 use Rattle.med_value.specs.declared.cause.Cause.{Cause}
 use Rattle.med_value.specs.declared.cause.Cause.TheVariants.{Protocol}
-use Rattle.fdw_api.specs.Kinds.{Kind, Column, Entry, Holding, Reading}
+use Rattle.fdw_api.specs.Kinds.{Kind, Column, Entry, Holding, Reading, is_late}
 use Rattle.fdw_api.specs.Calls.{Picks, Refuses, RefusesBind, IsLeast}
 use Rattle.fdw_api.specs.State.{BoxState}
 use Rattle.fdw_api.specs.declared.interface.Fault.TheVariants.{NoMemory, Source as SourceFailed, Refused}
 use Rattle.med_session.specs.World.{World, ForeignTable, table_named, column_names}
 use Rattle.med_session.specs.Causes.{phase}
 use Rattle.med_session.specs.Engine.{Shown, IsSound, Agrees, HasFailed}
-use Rattle.med_session.specs.Attaching.{repeats, IsFree, Reads, Objects, table_exists, column_twice, no_source, is_bound, limit_passed, not_read, ReadsState, IsToldOf, AttachCause, is_told, lacks_memory, source_fails, is_named, NameFault, name_taken, name_twice, NamesFree, StateFault, no_place, in_use, too_many, StateFree, before_bind, by_fault, AttachFails, by_names, by_state, by_memory, by_bind}
+use Rattle.med_session.specs.Attaching.{repeats, IsFree, Reads, Objects, table_exists, column_twice, no_source, is_bound, limit_passed, not_read, IsToldOf, AttachCause, is_told, lacks_memory, source_fails, is_named, NameFault, name_taken, name_twice, NamesFree, StateFault, no_place, in_use, too_many, StateFree, before_bind, by_fault, AttachFails, by_names, by_state, by_memory, by_bind}
 use Rattle.med_session.proofs.Boxes.{now_there, same_box}
 use Rattle.med_session.proofs.AttachingWorlds.{as_many_tables, same_names, same_bound, free_at, one_kind, one_holdings, free_serves, not_served, some_entry, some_picked}
 
@@ -50,38 +52,45 @@ least_phase causes c d h has = split (phase_of d) refl
         let l : h.phase ≤ p = h.least d p has e in
         omega arith
 
-state_phase : (w : World) (source remote : List ℕ) (columns : List Column) (entry : Option Entry) (d : Cause) → ReadsState w source → (reading : Reading) → Reads w source remote columns entry reading → Contains reading.causes d → 5 ≤ phase d
-state_phase w source remote columns entry d r reading reads has =
-    r reads.kind reads.holdings reads.is_free columns entry d (subst (λ (x : Reading). Contains x.causes d) reads.read has)
+late_phase : (c : Cause) → is_late (phase_of c) ≡ true → 5 ≤ phase c
+late_phase c h = split (phase_of c) h
+  where
+    split : (o : Option ℕ) → is_late o ≡ true → 5 ≤ unwrap_or o 7
+    split None e = absurd (false≢true e)
+    split (Some p) e = leb-true 5 p e
+
+state_phase : (reading : Reading) (d : Cause) → Contains reading.causes d → 5 ≤ phase d
+state_phase reading d has =
+    late_phase d (All-contains (λ c. is_late (phase_of c) ≡ true) reading.causes d (AllPass-from_list_all (λ c. is_late (phase_of c)) reading.causes reading.late) has)
 
 -- the phases of what stands against a table
-late : (w : World) (name source remote : List ℕ) (columns : List Column) (entry : Option Entry) (d : Cause) → ReadsState w source → Objects w name source remote columns entry d → 3 ≤ phase d
-late w name source remote columns entry d r (table_exists e h) = subst (λ x. 3 ≤ phase x) (sym e) (lit≤ tt)
-late w name source remote columns entry d r (column_twice e h) = subst (λ x. 3 ≤ phase x) (sym e) (lit≤ tt)
-late w name source remote columns entry d r (no_source e h) = subst (λ x. 3 ≤ phase x) (sym e) (lit≤ tt)
-late w name source remote columns entry d r (is_bound e h) = subst (λ x. 3 ≤ phase x) (sym e) (lit≤ tt)
-late w name source remote columns entry d r (limit_passed e h) = subst (λ x. 3 ≤ phase x) (sym e) (lit≤ tt)
-late w name source remote columns entry d r (not_read reading reads has) = at_three (phase d) (state_phase w source remote columns entry d r reading reads has)
+late : (w : World) (name source remote : List ℕ) (columns : List Column) (entry : Option Entry) (d : Cause) → Objects w name source remote columns entry d → 3 ≤ phase d
+late w name source remote columns entry d (table_exists e h) = subst (λ x. 3 ≤ phase x) (sym e) (lit≤ tt)
+late w name source remote columns entry d (column_twice e h) = subst (λ x. 3 ≤ phase x) (sym e) (lit≤ tt)
+late w name source remote columns entry d (no_source e h) = subst (λ x. 3 ≤ phase x) (sym e) (lit≤ tt)
+late w name source remote columns entry d (is_bound e h) = subst (λ x. 3 ≤ phase x) (sym e) (lit≤ tt)
+late w name source remote columns entry d (limit_passed e h) = subst (λ x. 3 ≤ phase x) (sym e) (lit≤ tt)
+late w name source remote columns entry d (not_read reading reads has) = at_three (phase d) (state_phase reading d has)
   where
     at_three : (n : ℕ) → 5 ≤ n → 3 ≤ n
     at_three n h = omega arith
 
 -- where no cause of names stands
-later : (w : World) (name source remote : List ℕ) (columns : List Column) (entry : Option Entry) (d : Cause) → (IsSome (table_named name w.tables) → ⊥) → repeats (column_names columns) ≡ false → ReadsState w source → Objects w name source remote columns entry d → 5 ≤ phase d
-later w name source remote columns entry d no_table once r (table_exists e h) = absurd (no_table h)
-later w name source remote columns entry d no_table once r (column_twice e h) = absurd (false≢true (sym once ∙ h))
-later w name source remote columns entry d no_table once r (no_source e h) = subst (λ x. 5 ≤ phase x) (sym e) (lit≤ tt)
-later w name source remote columns entry d no_table once r (is_bound e h) = subst (λ x. 5 ≤ phase x) (sym e) (lit≤ tt)
-later w name source remote columns entry d no_table once r (limit_passed e h) = subst (λ x. 5 ≤ phase x) (sym e) (lit≤ tt)
-later w name source remote columns entry d no_table once r (not_read reading reads has) = state_phase w source remote columns entry d r reading reads has
+later : (w : World) (name source remote : List ℕ) (columns : List Column) (entry : Option Entry) (d : Cause) → (IsSome (table_named name w.tables) → ⊥) → repeats (column_names columns) ≡ false → Objects w name source remote columns entry d → 5 ≤ phase d
+later w name source remote columns entry d no_table once (table_exists e h) = absurd (no_table h)
+later w name source remote columns entry d no_table once (column_twice e h) = absurd (false≢true (sym once ∙ h))
+later w name source remote columns entry d no_table once (no_source e h) = subst (λ x. 5 ≤ phase x) (sym e) (lit≤ tt)
+later w name source remote columns entry d no_table once (is_bound e h) = subst (λ x. 5 ≤ phase x) (sym e) (lit≤ tt)
+later w name source remote columns entry d no_table once (limit_passed e h) = subst (λ x. 5 ≤ phase x) (sym e) (lit≤ tt)
+later w name source remote columns entry d no_table once (not_read reading reads has) = state_phase reading d has
 
 told_by : (w : World) (name source remote : List ℕ) (columns : List Column) (c : Cause) (n : ℕ) → phase c ≡ n → Objects w name source remote columns (some_entry w source remote) c
-    → (ReadsState w source → (d : Cause) → Objects w name source remote columns (some_entry w source remote) d → n ≤ phase d) → IsToldOf w name source remote columns c
+    → ((d : Cause) → Objects w name source remote columns (some_entry w source remote) d → n ≤ phase d) → IsToldOf w name source remote columns c
 told_by w name source remote columns c n e stands least = record {
   entry = some_entry w source remote;
   picked = λ k f h. some_picked w source remote k f h;
   stands = stands;
-  least = λ r d h. subst (λ m. m ≤ phase d) (sym e) (least r d h);
+  least = λ d h. subst (λ m. m ≤ phase d) (sym e) (least d h);
 }
 
 no_table_in : (e : Shown) (w : World) (name : List ℕ) → Agrees e w → list_any (is_named name) e.tables ≡ false → IsSome (table_named name w.tables) → ⊥
@@ -91,21 +100,21 @@ told_names : (e : Shown) (w : World) (name source remote : List ℕ) (columns : 
 told_names e w name source remote columns c h (name_taken is t) =
     told_by w name source remote columns c 3 (ap phase is)
     (table_exists is (some_found (λ (t : ForeignTable). bytes_eq t.name name) w.tables (sym (same_names e.labels e.boxes name e.tables w.tables h.tables) ∙ t)))
-    (λ r d o. late w name source remote columns (some_entry w source remote) d r o)
+    (λ d o. late w name source remote columns (some_entry w source remote) d o)
 told_names e w name source remote columns c h (name_twice is t) =
-    told_by w name source remote columns c 3 (ap phase is) (column_twice is t) (λ r d o. late w name source remote columns (some_entry w source remote) d r o)
+    told_by w name source remote columns c 3 (ap phase is) (column_twice is t) (λ d o. late w name source remote columns (some_entry w source remote) d o)
 
 told_state : (e : Shown) (w : World) (name source remote : List ℕ) (columns : List Column) (c : Cause) → IsSound e → Agrees e w → NamesFree e.tables name columns → StateFault e source remote columns c → IsToldOf w name source remote columns c
 told_state e w name source remote columns c sound h names (no_place is none) =
     told_by w name source remote columns c 5 (ap phase is) (no_source is (not_served e w source h none))
-    (λ r d o. later w name source remote columns (some_entry w source remote) d (no_table_in e w name h names.no_table) names.columns_once r o)
+    (λ d o. later w name source remote columns (some_entry w source remote) d (no_table_in e w name h names.no_table) names.columns_once o)
 told_state e w name source remote columns c sound h names (in_use place at is t) =
     told_by w name source remote columns c 5 (ap phase is) (is_bound is (sym (same_bound e.labels e.boxes place source remote e.tables w.tables sound.source_names at.label h.tables) ∙ t))
-    (λ r d o. later w name source remote columns (some_entry w source remote) d (no_table_in e w name h names.no_table) names.columns_once r o)
+    (λ d o. later w name source remote columns (some_entry w source remote) d (no_table_in e w name h names.no_table) names.columns_once o)
 told_state e w name source remote columns c sound h names (too_many is over) =
     told_by w name source remote columns c 5 (ap phase is)
     (limit_passed is (subst (λ n. (256 ≤ n) ⊎ (64 < length columns)) (as_many_tables e.labels e.boxes e.tables w.tables h.tables) over))
-    (λ r d o. later w name source remote columns (some_entry w source remote) d (no_table_in e w name h names.no_table) names.columns_once r o)
+    (λ d o. later w name source remote columns (some_entry w source remote) d (no_table_in e w name h names.no_table) names.columns_once o)
 
 within : (a b m : ℕ) → a ≡ b → a < 256 → m ≤ 64 → (256 ≤ b) ⊎ (64 < m) → ⊥
 within a b m e below small (inl x) = omega arith
@@ -136,13 +145,13 @@ told_bind e w name source remote columns c place s t sound h names free there re
     reads : Reads w source remote columns because.0 (s.nature.kind.reads columns [] because.0)
     reads = record { kind = s.nature.kind; holdings = s.content.holdings; is_free = at_source; picked = because.1; read = refl }
 
-    least : ReadsState w source → (d : Cause) → Objects w name source remote columns because.0 d → phase c ≤ phase d
-    least r d (table_exists q x) = absurd (no_table_in e w name h names.no_table x)
-    least r d (column_twice q x) = absurd (false≢true (sym names.columns_once ∙ x))
-    least r d (no_source q x) = absurd (x (free_serves w source s.nature.kind s.content.holdings at_source))
-    least r d (is_bound q x) = absurd (false≢true (sym free.unbound ∙ same_bound e.labels e.boxes place source remote e.tables w.tables sound.source_names free.at.label h.tables ∙ x))
-    least r d (limit_passed q x) = absurd (within (length e.tables) (length w.tables) (length columns) (as_many_tables e.labels e.boxes e.tables w.tables h.tables) free.tables_within free.columns_within x)
-    least r d (not_read reading x has) =
+    least : (d : Cause) → Objects w name source remote columns because.0 d → phase c ≤ phase d
+    least d (table_exists q x) = absurd (no_table_in e w name h names.no_table x)
+    least d (column_twice q x) = absurd (false≢true (sym names.columns_once ∙ x))
+    least d (no_source q x) = absurd (x (free_serves w source s.nature.kind s.content.holdings at_source))
+    least d (is_bound q x) = absurd (false≢true (sym free.unbound ∙ same_bound e.labels e.boxes place source remote e.tables w.tables sound.source_names free.at.label h.tables ∙ x))
+    least d (limit_passed q x) = absurd (within (length e.tables) (length w.tables) (length columns) (as_many_tables e.labels e.boxes e.tables w.tables h.tables) free.tables_within free.columns_within x)
+    least d (not_read reading x has) =
         least_phase (s.nature.kind.reads columns [] because.0).causes c d because.2
         (subst (λ (k : Kind). Contains (k.reads columns [] because.0).causes d) (one_kind w source x.kind s.nature.kind x.holdings s.content.holdings x.is_free at_source) (subst (λ (g : Reading). Contains g.causes d) x.read has))
 

@@ -1,5 +1,5 @@
 -- A box in one slot changes, and all others stay.
-use Rattle.std.proofs.Common.{◌≡◌, ◌≢◌, ℕ, ◌⊎◌, true, false, List, [], ◌∷◌, Option, Some, slice_get, slice_set, length, refl, ap, sym, ◌∙◌, subst, zero, suc, eqb, inl, inr}
+use Rattle.std.proofs.Common.{◌≡◌, ◌≢◌, ℕ, ◌⊎◌, true, false, List, [], ◌∷◌, Option, Some, slice_get, slice_set, length, refl, ap, sym, ◌∙◌, subst, arith, zero, suc, eqb, inl, inr}
 use Rattle.std.proofs.lemmas.Bool.Decides.{eqb_tells}
 use Rattle.std.proofs.lemmas.List.{length-set}
 use Rattle.fdw_api.specs.State.{BoxState, is_honest}
@@ -8,6 +8,7 @@ use Rattle.fdw_api.specs.declared.interface.Fault.{Fault}
 use Rattle.med_value.specs.Datum.{Tuple}
 use Rattle.med_exec.specs.Slots.{ChangesAt}
 use Rattle.med_exec.specs.Scanning.{ReadsTable, FailsTable}
+use Rattle.med_session.specs.Engine.{Rises, EachRises}
 
 -- what a whole scan leaves of a box
 pub record Keeps (b c : BoxState) : Type 0 where
@@ -72,6 +73,9 @@ set_other (z ∷ zs) (suc i) (suc j) y ne = set_other zs i j y (λ e. ne (ap suc
 pub same_box : (x y : BoxState) → Some (Some x) ≡ Some (Some y) → x ≡ y
 same_box x y e = cc
 
+pub rises_itself : (s : BoxState) → Rises s s
+rises_itself s = record { nature = refl; next = omega arith; end = λ e. e; faults = omega arith }
+
 -- each box that was there is there, changed so
 abbrev pub Onward : (BoxState → BoxState → Type 0) → List (Option BoxState) → List (Option BoxState) → Type 0
 Onward P old new = (i : ℕ) (b : BoxState) → slice_get old i ≡ Some (Some b) → (c : BoxState) × (slice_get new i ≡ Some (Some c)) × P b c
@@ -101,6 +105,10 @@ backward P Q old new slot same changed h i x at = split (eqb_tells i slot)
         let q : h.after ≡ x = same_box h.after x (sym now ∙ at) in
         (h.before, ap (λ (k : ℕ). slice_get old k) s.1 ∙ h.there, subst (λ (z : BoxState). P h.before z) q (changed h.before h.after h.change))
     split (inr s) = (x, sym (ap (λ (l : List (Option BoxState)). slice_get l i) h.slots ∙ set_other old slot i (Some h.after) s.1) ∙ at, same x)
+
+-- both
+pub each_rises : (Q : BoxState → BoxState → Type 0) (old new : List (Option BoxState)) (slot : ℕ) → ((b c : BoxState) → Q b c → Rises b c) → ChangesAt old slot Q new → EachRises old new
+each_rises Q old new slot rises h = record { stays = onward Rises Q old new slot rises_itself rises h; stood = backward Rises Q old new slot rises_itself rises h }
 
 pub now_there : (Q : BoxState → BoxState → Type 0) (old new : List (Option BoxState)) (slot : ℕ) (h : ChangesAt old slot Q new) → slice_get new slot ≡ Some (Some h.after)
 now_there Q old new slot h = ap (λ (l : List (Option BoxState)). slice_get l slot) h.slots ∙ set_same old slot (Some h.before) (Some h.after) h.there

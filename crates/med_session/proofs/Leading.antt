@@ -14,8 +14,8 @@ use Rattle.med_session.specs.Causes.{IsTold, NoneStands}
 use Rattle.med_session.specs.Replies.{Reply, done, answered, refused, reply_text}
 use Rattle.med_session.specs.Steps.{Trouble, TakesMemory, with_session, Does, Step, is_refused, is_done, lacks_memory, source_fails, numbers_end}
 use Rattle.med_session.specs.Outcomes.{HasRows, Tells}
-use Rattle.med_session.specs.Engine.{Shown, user_in, user_of, IsSound, Agrees, Closes, ClosesAll, Befell, Rises, EachRises, Leads, IsAnswered}
-use Rattle.med_session.proofs.Boxes.{set_same, set_other}
+use Rattle.med_session.specs.Engine.{Shown, user_in, user_of, IsSound, Agrees, Closes, ClosesAll, Befell, EachRises, Leads, IsAnswered}
+use Rattle.med_session.proofs.Boxes.{set_same, set_other, rises_itself}
 use Rattle.med_session.proofs.Told.{told_protocol, told_bye, told_closed}
 
 pub calm : Trouble
@@ -32,11 +32,8 @@ memory_befell : (old new : List (Option BoxState)) → Befell old new refused_me
 unfolding refused_memory
 memory_befell old new = record { source = λ e. absurd (false≢true e); numbers = λ e. absurd (false≢true e) }
 
-rises_itself : (s : BoxState) → Rises s s
-rises_itself s = record { nature = refl; next = omega arith; faults = omega arith }
-
 pub none_rises : (boxes : List (Option BoxState)) → EachRises boxes boxes
-none_rises boxes slot s at = (s, at, rises_itself s)
+none_rises boxes = record { stays = λ slot s at. (s, at, rises_itself s); stood = λ slot s at. (s, at, rises_itself s) }
 
 -- a request that is refused by a cause, with nothing done
 pub leads_refused : (e : Shown) (sid : ℕ) (request : Asked) (c : Cause) → ((w : World) → Agrees e w → IsTold w sid request c) → Leads e sid request (refused c) e

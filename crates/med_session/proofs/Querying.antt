@@ -23,7 +23,7 @@ use Rattle.med_session.specs.Replies.{Reply, answered, refused}
 use Rattle.med_session.specs.Steps.{Answer, is_done, source_fails, numbers_end, cell_named}
 use Rattle.med_session.specs.Engine.{Shown, Attached, named, user_of, TableAgrees, IsSound, Agrees, Rises, Leads}
 use Rattle.med_session.specs.Selecting.{cause_of, GivesRows, IsKnown, Selects, SelectFails, no_table, no_column, no_memory, scan_fails}
-use Rattle.med_session.proofs.Boxes.{Keeps, reads_keeps, fails_keeps, onward, now_there, same_box}
+use Rattle.med_session.proofs.Boxes.{Keeps, reads_keeps, fails_keeps, each_rises, now_there, same_box}
 use Rattle.med_session.proofs.Keeping.{with_boxes, agrees_kept, sound_kept}
 use Rattle.med_session.proofs.Finding.{FoundAlike, found_alike}
 use Rattle.med_session.proofs.Told.{told_syntax, told_name, none_stands, none_before}
@@ -49,6 +49,7 @@ reads_rises : (b c : BoxState) (t : ℕ) (rows : List Tuple) → ReadsTable b t 
 reads_rises b c t rows h = record {
   nature = h.nature;
   next = let e : c.ledger.next ≡ b.ledger.next + 1 = ap (λ l. l.next) h.ledger in omega arith;
+  end = λ q. let r : b.ledger.next < 2 ^ 64 - 1 = h.room in omega (arith, q, r);
   faults = let e : c.ledger.faults ≡ b.ledger.faults = ap (λ l. l.faults) h.ledger in omega arith;
 }
 
@@ -56,11 +57,9 @@ fails_rises : (b c : BoxState) (f : Fault) → FailsTable f b c → Rises b c
 fails_rises b c f h = record {
   nature = h.nature;
   next = let e : c.ledger.next ≡ h.next = ap (λ l. l.next) h.ledger in let r = h.rises in omega arith;
+  end = λ q. ap (λ l. l.next) h.ledger ∙ h.stays q;
   faults = let e : c.ledger.faults ≡ faults_after f b.ledger.faults = ap (λ l. l.faults) h.ledger in let r : min b.ledger.faults (2 ^ 64 - 1) ≤ faults_after f b.ledger.faults = faults_rise f b.ledger.faults in omega arith;
 }
-
-rises_itself : (s : BoxState) → Rises s s
-rises_itself s = record { nature = refl; next = omega arith; faults = omega arith }
 
 pub gives_keeps : (a : Attached) (names : List (List ℕ)) (given : List Tuple) (b c : BoxState) → GivesRows a names given b c → Keeps b c
 gives_keeps a names given b c h = reads_keeps b c a.number h.rows h.reads
@@ -113,7 +112,7 @@ pub selects : (e : Shown) (new : List (Option BoxState)) (sid : ℕ) (text : Lis
 selects e new sid text names table given read h = record {
   trouble = calm;
   befell = calm_befell e.boxes new;
-  rises = onward Rises (GivesRows at names given) e.boxes new at.source rises_itself (λ b c g. reads_rises b c at.number g.rows g.reads) h.changes;
+  rises = each_rises (GivesRows at names given) e.boxes new at.source (λ b c g. reads_rises b c at.number g.rows g.reads) h.changes;
   step = λ w a. (
     w,
     is_done (none_against e w sid text names table a read h.known) ((select names table, read.has, found w a), refl),
@@ -133,7 +132,7 @@ selects e new sid text names table given read h = record {
 fails : (e : Shown) (new : List (Option BoxState)) (sid : ℕ) (text : List ℕ) (names : List (List ℕ)) (table : List ℕ) → IsRead e sid text names table
     → (known : IsKnown e.tables names table) (fault : Fault) → ChangesAt e.boxes known.at.source (FailsTable fault) new → Leads e sid (sql text) (refused (cause_of fault)) (with_boxes e new)
 fails e new sid text names table read known NoMemory h = leads_memory e (with_boxes e new) sid (sql text) tt
-    (onward Rises (FailsTable NoMemory) e.boxes new known.at.source rises_itself (λ b c f. fails_rises b c NoMemory f) h)
+    (each_rises (FailsTable NoMemory) e.boxes new known.at.source (λ b c f. fails_rises b c NoMemory f) h)
     (agrees_kept (FailsTable NoMemory) e new known.at.source (λ b c f. fails_keeps b c NoMemory f) h)
 fails e new sid text names table read known Source h = record {
   trouble = record { memory = false; source = true; numbers = false };
@@ -148,7 +147,7 @@ fails e new sid text names table read known Source h = record {
     };
     numbers = λ q. absurd (false≢true q);
   };
-  rises = onward Rises (FailsTable Source) e.boxes new known.at.source rises_itself (λ b c f. fails_rises b c Source f) h;
+  rises = each_rises (FailsTable Source) e.boxes new known.at.source (λ b c f. fails_rises b c Source f) h;
   step = λ w a. (
     w,
     source_fails refl tt (none_before w sid (sql text) (none_against e w sid text names table a read known)) refl refl,
@@ -165,10 +164,10 @@ fails e new sid text names table read known (Refused c) h = record {
       after = h.after;
       was = h.there;
       is = now_there (FailsTable (Refused c)) e.boxes new known.at.source h;
-      holds = let stood : h.before.ledger.next ≡ 2 ^ 64 - 1 = h.change.cause.1 in let rose : h.before.ledger.next ≤ h.change.next = h.change.rises in let now : h.after.ledger.next ≡ h.change.next = ap (λ l. l.next) h.change.ledger in omega arith;
+      holds = ap (λ l. l.next) h.change.ledger ∙ h.change.stays h.change.cause.1;
     };
   };
-  rises = onward Rises (FailsTable (Refused c)) e.boxes new known.at.source rises_itself (λ b d f. fails_rises b d (Refused c) f) h;
+  rises = each_rises (FailsTable (Refused c)) e.boxes new known.at.source (λ b d f. fails_rises b d (Refused c) f) h;
   step = λ w a. (
     w,
     numbers_end refl tt (none_before w sid (sql text) (none_against e w sid text names table a read known)) (ap refused h.change.cause.0) refl,

@@ -57,18 +57,12 @@ pub data Objects (w : World) (name source remote : List ℕ) (columns : List Col
   limit_passed : c ≡ LimitExceeded → (256 ≤ length w.tables) ⊎ (64 < length columns) → Objects w name source remote columns entry c
   not_read : (reading : Reading) → Reads w source remote columns entry reading → Contains reading.causes c → Objects w name source remote columns entry c
 
--- what the kind of this source says of what it holds is of state or of the run, phases 5 and 6
-abbrev pub ReadsState : World → List ℕ → Type 0
-ReadsState w source =
-    (kind : Kind) (holdings : List ℕ → Holding) → IsFree w source kind holdings
-    → (columns : List Column) (entry : Option Entry) (c : Cause) → Contains (kind.reads columns [] entry).causes c → 5 ≤ phase c
-
 -- A cause is told that stands, where the source holds some entry there that it may hold. It is of the least phase in which one stands.
 pub record IsToldOf (w : World) (name source remote : List ℕ) (columns : List Column) (c : Cause) : Type 0 where
   pub entry : Option Entry
   pub picked : (kind : Kind) (holdings : List ℕ → Holding) → IsFree w source kind holdings → Picks (holdings remote) entry
   pub stands : Objects w name source remote columns entry c
-  pub least : ReadsState w source → (d : Cause) → Objects w name source remote columns entry d → phase c ≤ phase d
+  pub least : (d : Cause) → Objects w name source remote columns entry d → phase c ≤ phase d
 
 -- why a foreign table is not attached: such a cause; or want of memory (53200); or its source failed, which the box shows (HV000)
 pub data AttachCause (w : World) (name source remote : List ℕ) (columns : List Column) (old new : List (Option BoxState)) (c : Cause) : Type 0 where

@@ -151,7 +151,7 @@ HasFailed old new = (old.ledger.faults < new.ledger.faults) ⊎ (2 ^ 64 - 1 ≤ 
 
 -- the box has given all its ticket numbers, which end before 2^64 - 1
 abbrev pub IsUsedUp : BoxState → BoxState → Type 0
-IsUsedUp old new = 2 ^ 64 - 1 ≤ new.ledger.next
+IsUsedUp old new = new.ledger.next ≡ 2 ^ 64 - 1
 
 -- What trouble may be told of a request between these states: that a source failed or that numbers are used up only where a box shows
 -- it. Whether memory was refused, no box shows.
@@ -159,15 +159,17 @@ pub record Befell (old new : List (Option BoxState)) (t : Trouble) : Type 0 wher
   pub source : t.source ≡ true → BoxBecomes old new HasFailed
   pub numbers : t.numbers ≡ true → BoxBecomes old new IsUsedUp
 
--- a box keeps its nature, and what it counts goes up alone, faults to 2^64 - 1
+-- a box keeps its nature, and what it counts goes up alone, to 2^64 - 1
 pub record Rises (old new : BoxState) : Type 0 where
   pub nature : new.nature ≡ old.nature
   pub next : old.ledger.next ≤ new.ledger.next
+  pub end : old.ledger.next ≡ 2 ^ 64 - 1 → new.ledger.next ≡ 2 ^ 64 - 1
   pub faults : min old.ledger.faults (2 ^ 64 - 1) ≤ new.ledger.faults
 
-abbrev pub EachRises : List (Option BoxState) → List (Option BoxState) → Type 0
-EachRises old new =
-    (slot : ℕ) (s : BoxState) → slice_get old slot ≡ Some (Some s) → (t : BoxState) × (slice_get new slot ≡ Some (Some t)) × Rises s t
+-- no box goes and none comes, and what each counts goes up alone
+pub record EachRises (old new : List (Option BoxState)) : Type 0 where
+  pub stays : (slot : ℕ) (s : BoxState) → slice_get old slot ≡ Some (Some s) → (t : BoxState) × (slice_get new slot ≡ Some (Some t)) × Rises s t
+  pub stood : (slot : ℕ) (t : BoxState) → slice_get new slot ≡ Some (Some t) → (s : BoxState) × (slice_get old slot ≡ Some (Some s)) × Rises s t
 
 -- The request is answered by this reply: from each world that agrees before, a step leads to it and to a world that agrees after.
 pub record Leads (old : Shown) (sid : ℕ) (request : Asked) (reply : Reply) (new : Shown) : Type 0 where

@@ -121,16 +121,16 @@ only_cause c p has = record {
 -- a list source refuses a table that it does not have
 pub list_lacks : (tables : List ListTable) (bound : List Bool) (scans : BTreeMap ℕ ListScan) (next pulled : ℕ) (remote : List ℕ) (columns : List Column) (settings : List Setting) → entry_of (map listed tables) remote ≡ None → RefusesBind (list_state tables bound scans next pulled) remote columns settings (Refused TableNotFound) (list_state tables bound scans next pulled)
 list_lacks tables bound scans next pulled remote columns settings none = record {
-  refuses = record { nature = refl; next = next; rises = omega arith; ledger = refl; leaves = λ honest. record { coming = λ q l o. refl; rows = λ u o. refl; holdings = λ r o. refl } };
+  refuses = record { nature = refl; next = next; rises = omega arith; stays = λ e. e; ledger = refl; leaves = λ honest. record { coming = λ q l o. refl; rows = λ u o. refl; holdings = λ r o. refl } };
   cause = λ honest. (None, sym none, only_cause TableNotFound 5 refl);
 }
 
 -- and columns of other types
 pub list_mismatches : (tables : List ListTable) (bound : List Bool) (scans : BTreeMap ℕ ListScan) (next pulled t : ℕ) (remote : List ℕ) (columns : List Column) (settings : List Setting) (x : ListTable) → entry_of (map listed tables) remote ≡ entry_at tables (Some t) → slice_get tables t ≡ Some x → types_match x.kinds.items (types_of columns) ≡ false → RefusesBind (list_state tables bound scans next pulled) remote columns settings (Refused InvalidDataType) (list_state tables bound scans next pulled)
 list_mismatches tables bound scans next pulled t remote columns settings x is_entry at differs = record {
-  refuses = record { nature = refl; next = next; rises = omega arith; ledger = refl; leaves = λ honest. record { coming = λ q l o. refl; rows = λ u o. refl; holdings = λ r o. refl } };
+  refuses = record { nature = refl; next = next; rises = omega arith; stays = λ e. e; ledger = refl; leaves = λ honest. record { coming = λ q l o. refl; rows = λ u o. refl; holdings = λ r o. refl } };
   cause = λ honest. (Some (stored x), sym (is_entry ∙ ap (option_map stored) at), subst (λ (r : Reading). IsLeast r.causes InvalidDataType) (sym reading) (only_cause InvalidDataType 5 refl));
 }
   where
-    reading : list_reading (types_of columns) (Some (stored x)) ≡ record { causes = InvalidDataType ∷ []; rows = [] }
+    reading : list_reading (types_of columns) (Some (stored x)) ≡ record { causes = InvalidDataType ∷ []; rows = []; late = refl }
     reading = rw differs refl

@@ -64,11 +64,11 @@ types_of columns = map (λ c. c.kind) columns
 
 -- HV00R where there is no list table of the name, HV004 where the number or types of the columns are not its own; else its rows
 abbrev pub list_reading : List ColType → Option Entry → Reading
-list_reading declared None = record { causes = TableNotFound ∷ []; rows = [] }
-list_reading declared (Some (Bytes content)) = record { causes = TableNotFound ∷ []; rows = [] }
+list_reading declared None = record { causes = TableNotFound ∷ []; rows = []; late = mathlib.Core.Path.refl }
+list_reading declared (Some (Bytes content)) = record { causes = TableNotFound ∷ []; rows = []; late = mathlib.Core.Path.refl }
 list_reading declared (Some (Stored own rows)) =
-    if types_match own declared then record { causes = []; rows = map (λ r. record { cells = r; origin = [] }) rows }
-    else record { causes = InvalidDataType ∷ []; rows = [] }
+    if types_match own declared then record { causes = []; rows = map (λ r. record { cells = r; origin = [] }) rows; late = mathlib.Core.Path.refl }
+    else record { causes = InvalidDataType ∷ []; rows = []; late = mathlib.Core.Path.refl }
 
 abbrev pub list_kind : Kind
 list_kind = record {

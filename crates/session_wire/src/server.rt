@@ -1,5 +1,5 @@
 //! A stream of request lines before a handler.
-ghost use Rattle.std.specs.Prelude.{◌≡◌, ◌++◌, ℕ, List, Option, Some, false};
+ghost use Rattle.std.specs.Prelude.{◌≡◌, ◌++◌, ℕ, List, [], Option, Some, false};
 ghost use Rattle.session_wire.specs.Lines.{IsFrontOfLine, lines_of, unread_after};
 ghost use Rattle.session_wire.specs.Run.{Fed};
 
@@ -35,7 +35,7 @@ pub struct Server<H> {
 }
 
 impl<H: Handler> Server<H> {
-    ghost use Rattle.std.specs.Prelude.{◌↔◌, [], true, Err, IfOk, IfErr, OnOk};
+    ghost use Rattle.std.specs.Prelude.{◌↔◌, true, Err, IfOk, IfErr, OnOk};
     ghost use Rattle.std.specs.List.{flat_map};
     ghost use Rattle.session_wire.specs.Run.{BrokenOff};
     ghost use Rattle.session_wire.specs.Servers.{handler_of, is_closed, held_back, unread_of};
@@ -154,10 +154,12 @@ impl<H: Handler> Server<H> {
     }
 }
 
-/// The law of runs: a run of the lines of some bytes, and then one of what their rest and more bytes
-/// make, is a run of the lines of all of them; and each run of the lines of all of them is two such
-/// runs.
+/// The law of runs: the front of a line leads to no reply; a run of the lines of some bytes, and then one
+/// of what their rest and more bytes make, is a run of the lines of all of them; and each run of the lines
+/// of all of them is two such runs.
 pub fn runs_join<H: Handler>()
+    ensures none { (old : H) (bytes : List ℕ) → IsFrontOfLine bytes
+        → Fed H.step H.ended old bytes [] old (Some bytes) }
     ensures joined { (old mid new : H) (bytes more text others after : List ℕ)
         (left : Option (List ℕ)) → Fed H.step H.ended old bytes text mid (Some after)
         → Fed H.step H.ended mid (after ++ more) others new left

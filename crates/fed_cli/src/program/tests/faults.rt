@@ -1,8 +1,10 @@
 // A reader that fails in mid-stream, and a writer that does, over the demo list.
-use super::served::{counts_after, counts_at_end, demo_server};
+use super::served::{counts_after, counts_at_end, demo_engine, demo_server};
 use super::{ANSWER, STORED};
+use crate::serving::serve_engine;
 use crate::stream::{Ended, StreamFault, serve_stream};
 use fdw_api::interface::Counts;
+use med_exec::ledger_at;
 use std::alloc::Global;
 use std::io;
 use std::io::{ErrorKind, Read, Write};
@@ -74,9 +76,9 @@ fn serve_demo<R: Read, W: Write>(
     reader: &mut R,
     writer: &mut W,
 ) -> Result<Served, Fail> {
-    let mut server = demo_server(alloc)?;
-    let ended = serve_stream(alloc, &mut server, reader, writer);
-    Ok((ended, counts_at_end(server.finish())))
+    let engine = demo_engine(alloc)?;
+    let (ended, sources) = serve_engine(alloc, engine, reader, writer);
+    Ok((ended, ledger_at(&sources.slots, 0)))
 }
 
 // Serves a stream over the demo list, and goes on where it ends.

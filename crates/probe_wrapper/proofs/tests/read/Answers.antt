@@ -1,4 +1,4 @@
-use Rattle.fdw_api.proofs.CallLemmas.{begun_is_open}
+use Rattle.probe_wrapper.proofs.CallLemmas.{begun_is_open}
 use Rattle.probe_wrapper.proofs.tests.read.Goals as goal
 
 pub begin-requires : goal.begin-requires

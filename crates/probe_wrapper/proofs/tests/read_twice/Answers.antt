@@ -1,5 +1,5 @@
 use Rattle.std.proofs.Common.{sym}
-use Rattle.fdw_api.proofs.CallLemmas.{begun_is_open, begun_has_table, begun_differs, begun_keeps, open_is_live, open_stays, live_stays, refused_keeps, ended_keeps}
+use Rattle.probe_wrapper.proofs.CallLemmas.{begun_is_open, begun_has_table, begun_differs, begun_keeps, open_is_live, open_stays, live_stays, refused_keeps, ended_keeps}
 use Rattle.probe_wrapper.proofs.tests.read_twice.Goals as goal
 
 pub begin-requires : goal.begin-requires

@@ -1,5 +1,5 @@
 use Rattle.std.proofs.Common.{refl}
-use Rattle.fdw_api.proofs.CallLemmas.{idle_can_bind, bound_can_unbind, bound_is_some, unbound_is_idle}
+use Rattle.probe_wrapper.proofs.CallLemmas.{idle_can_bind, bound_can_unbind, bound_is_some, unbound_is_idle}
 use Rattle.probe_wrapper.proofs.tests.scan_gives_rows_in_list_order.Goals as goal
 
 pub unbind-requires : goal.unbind-requires

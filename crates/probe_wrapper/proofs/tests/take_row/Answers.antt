@@ -1,5 +1,5 @@
 use Rattle.std.proofs.Common.{Result, Ok, Err, OnOk}
-use Rattle.fdw_api.proofs.CallLemmas.{given_is_open, given_keeps, open_is_live, broken_is_live, broken_keeps}
+use Rattle.probe_wrapper.proofs.CallLemmas.{given_is_open, given_keeps, open_is_live, broken_is_live, broken_keeps}
 use Rattle.probe_wrapper.proofs.tests.take_row.Goals as goal
 
 always : {T E P : Type 0} (r : Result T E) → P → OnOk r P

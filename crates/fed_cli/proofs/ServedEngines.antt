@@ -1,0 +1,99 @@
+-- An engine that is served to the end of its input, and handed back.
+use Rattle.std.proofs.Common.{◌≡◌, ℕ, Bool, true, false, cond, List, [], Option, Some, None, option_map, Result, Ok, Err, OnOk, Bor, refl, sym, ap, ◌∙◌, subst}
+use Rattle.fdw_api.specs.State.{BoxState}
+use Rattle.med_exec.specs.Slots.{states}
+use Rattle.med_session.specs.World.{World, empty_world, without_sessions}
+use Rattle.med_session.specs.Engine.{Shown, shown, Agrees}
+use Rattle.med_session.specs.declared.engine.Engine.{Engine}
+use Rattle.session_wire.specs.Lines.{lines_within}
+use Rattle.session_wire.specs.Engines.{EngineSteps, EngineEnds}
+use Rattle.session_wire.specs.Servers.{handler_of, is_closed, held_back, unread_of}
+use Rattle.session_wire.specs.Worlds.{MayBefall, WorldSteps, WorldEnds}
+use Rattle.session_wire.specs.declared.server.Server.{Server}
+use Rattle.fed_cli.specs.Served.{Serves}
+use Rattle.fed_cli.specs.Answered.{ServesWorld, IsFirstWorld, AnswersAll}
+use Rattle.fed_cli.specs.declared.stream.Ended.{Ended}
+use Rattle.fed_cli.specs.declared.stream.Ended.TheVariants.{Eof}
+use Rattle.fed_cli.specs.declared.stream.StreamFault.{StreamFault}
+use Rattle.fed_cli.specs.declared.stream.StreamFault.TheVariants.{NoRoom}
+use Rattle.fed_cli.proofs.Streams.{Consumes-nil, Appends-nil}
+
+-- a server of which some bytes are left unread is open, and holds them back
+open_server : {H : Type 0} (server : Server H) (bytes : List ℕ) → unread_of server ≡ Some bytes → (is_closed server ≡ false) × (held_back server ≡ bytes)
+open_server server bytes e = split (is_closed server) refl e
+  where
+    split : (b : Bool) → is_closed server ≡ b → cond b None (Some (held_back server)) ≡ Some bytes → (is_closed server ≡ false) × (held_back server ≡ bytes)
+    split true q r = absurd cc
+    split false q r = (q, cc)
+
+-- the law of worlds, as its public contract says it
+abbrev pub Law : {W : Type 0} → (W → BoxState) → Type 0
+Law {W} meaning = (old new : Engine W) (before : List ℕ) (left had has held holds : Option (List ℕ)) (result : Result Ended StreamFault)
+    → Serves (EngineSteps meaning) (EngineEnds meaning) old before new left had has held holds result → (w : World) → Agrees (shown meaning old) w
+    → (after : World) × Serves (WorldSteps (MayBefall (shown meaning old).boxes (shown meaning new).boxes)) WorldEnds w before after left had has held holds result × Agrees (shown meaning new) after
+
+-- a new server was served, and its engine is handed back
+pub serves_world : {W : Type 0} (meaning : W → BoxState) (server : Server (Engine W)) (engine new closed : Engine W) (slots : List (Option W)) (left had has held holds : Option (List ℕ)) (result : Result Ended StreamFault)
+    → Law meaning → handler_of server ≡ engine → unread_of server ≡ Some []
+    → (is_closed server ≡ false → Serves (EngineSteps meaning) (EngineEnds meaning) (handler_of server) (held_back server) new left had has held holds result)
+    → EngineEnds meaning new closed → states meaning slots ≡ (shown meaning closed).boxes
+    → (w : World) → Agrees (shown meaning engine) w → ServesWorld (shown meaning engine).boxes (states meaning slots) w had has held holds result
+serves_world meaning server engine new closed slots left had has held holds result law of unread serves ends is w agrees =
+    let both = open_server server [] unread in
+    let boxes : states meaning slots ≡ (shown meaning new).boxes = is ∙ ap (λ s. s.boxes) ends.others in
+    let begun = subst (λ b. Serves (EngineSteps meaning) (EngineEnds meaning) (handler_of server) b new left had has held holds result) both.1 (serves both.0) in
+    let run = subst (λ e. Serves (EngineSteps meaning) (EngineEnds meaning) e [] new left had has held holds result) of begun in
+    let one = law engine new [] left had has held holds result run w agrees in
+    record {
+      after = one.0;
+      left = left;
+      serves = subst (λ b. Serves (WorldSteps (MayBefall (shown meaning engine).boxes b)) WorldEnds w [] one.0 left had has held holds result) (sym boxes) one.1;
+      engine = shown meaning closed;
+      boxes = sym is;
+      agrees = ends.world one.0 one.2;
+    }
+
+-- there was no room for a server
+pub no_server : {W : Type 0} (meaning : W → BoxState) (back engine closed : Engine W) (slots : List (Option W)) (had held : Option (List ℕ))
+    → back ≡ engine → EngineEnds meaning back closed → states meaning slots ≡ (shown meaning closed).boxes
+    → (w : World) → Agrees (shown meaning engine) w → ServesWorld (shown meaning engine).boxes (states meaning slots) w had had held held (Err NoRoom)
+unfolding lines_within
+no_server meaning back engine closed slots had held same ends is w agrees =
+    record {
+      after = without_sessions w;
+      left = None;
+      serves = (
+        record {
+          between = had;
+          mid = w;
+          after = [];
+          served = record { bytes = []; text = []; read = Consumes-nil had; written = Appends-nil held; fed = record { run = (refl, refl); unread = refl } };
+          piece = [];
+          read = Consumes-nil had;
+          text = [];
+          broken = record { last = w; front = (refl, refl); sessions = refl };
+        },
+        refl,
+      );
+      engine = shown meaning closed;
+      boxes = sym is;
+      agrees = ends.world w (subst (λ e. Agrees (shown meaning e) w) (sym same) agrees);
+    }
+
+-- no source is named
+pub none_first : (o : Option (Bor (List ℕ))) → ((x : Bor (List ℕ)) → o ≡ Some x → ⊥) → IsFirstWorld (option_map (λ s. s.now) o) empty_world
+none_first None h = refl
+none_first (Some x) h = absurd (h x refl)
+
+-- where the end of the input is told, all is answered
+pub answers_all : {T E : Type 0} (r : Result T E) (source had has held holds : Option (List ℕ)) (world : World) (engine : Shown) (last : List (Option BoxState)) (ended : Result Ended StreamFault)
+    → IsFirstWorld source world → Agrees engine world → OnOk r (ended ≡ Ok Eof) → ServesWorld engine.boxes last world had has held holds ended → OnOk r (AnswersAll source had has held holds)
+answers_all (Ok x) source had has held holds world engine last ended is_first agrees e h = record {
+  world = world;
+  is_first = is_first;
+  engine = engine;
+  agrees = agrees;
+  last = last;
+  serves = subst (λ r. ServesWorld engine.boxes last world had has held holds r) e h;
+}
+answers_all (Err x) source had has held holds world engine last ended is_first agrees e h = tt

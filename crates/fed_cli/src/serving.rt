@@ -1,0 +1,44 @@
+//! An engine between a reader and a writer.
+ghost use Rattle.med_session.specs.World.{World};
+ghost use Rattle.med_session.specs.Engine.{shown, IsSound, Agrees, EachBox, IsAtRest};
+ghost use Rattle.med_exec.specs.Slots.{states};
+ghost use Rattle.fed_cli.specs.Answered.{ServesWorld};
+
+use crate::stream::{Ended, StreamFault, serve_stream};
+use crate::worlds::served_worlds_follow;
+use fdw_api::interface::Wrapper;
+use med_session::{Engine, Sources};
+use session_wire::Server;
+use std::alloc::Global;
+use std::io::{Read, Write};
+
+/// Serves an input by an engine to its end, as `serve_stream` does, and hands the sources back.
+///
+/// For each world that agrees with the engine, the bytes that were read lead by a run of the SQL meaning to
+/// the text that was written, and to the world that the sources then stand for, whatever pieces the bytes
+/// came in. Every scan begun has been ended, and nothing is staged. `NoRoom` comes also where there is no
+/// room for a server: then nothing was read.
+pub fn serve_engine<B: Wrapper, R: Read, W: Write>(
+    alloc: Global,
+    engine: Engine<B>,
+    reader: &mut R,
+    writer: &mut W,
+) -> (Result<Ended, StreamFault>, Sources<B>)
+    requires { IsSound (shown B.meaning engine) }
+    ensures worlds { (w : World) → Agrees (shown B.meaning engine) w
+        → ServesWorld (shown B.meaning engine).boxes (states B.meaning result.1.slots.items) w
+        (R.remaining reader.old) (R.remaining reader.new)
+        (W.contents writer.old) (W.contents writer.new) result.0 }
+    ensures at_rest { EachBox IsAtRest (states B.meaning result.1.slots.items) }
+{
+    served_worlds_follow::<B>();
+    let mut server = match Server::new(alloc, engine) {
+        Ok(server) => server,
+        Err((mut engine, _)) => {
+            engine.close_sessions();
+            return (Err(StreamFault::NoRoom), engine.finish());
+        }
+    };
+    let ended = serve_stream(alloc, &mut server, reader, writer);
+    (ended, server.finish().finish())
+}
