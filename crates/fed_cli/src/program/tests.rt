@@ -10,6 +10,12 @@ use std::io;
 use std::io::Read;
 use std::test::Fail;
 
+mod cuts;
+mod faults;
+mod memory;
+mod served;
+mod slots;
+
 const STORED: &[u8] = b"1 OPEN ann\n1 Q SELECT id, name FROM parts\n";
 
 const ANSWER: &[u8] =

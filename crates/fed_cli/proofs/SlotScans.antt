@@ -1,0 +1,66 @@
+-- Scans of a table of the box in a slot, one after the other.
+use Rattle.std.proofs.Common.{◌≡◌, ℕ, List, [], Option, Some, None, IsSome, refl, sym, ◌∙◌, ap, subst, rules}
+use Rattle.std.specs.FinMap as finmap
+use Rattle.med_value.specs.Datum.{Tuple}
+use Rattle.fdw_api.specs.Kinds.{Column, Setting}
+use Rattle.fdw_api.specs.State.{BoxState, IsIdle, set_at}
+use Rattle.fdw_api.specs.Calls.{CanBind, Binds, CanUnbind}
+use Rattle.med_exec.specs.Slots.{BoxAt, ChangesAt, HasTable}
+use Rattle.med_exec.specs.Scanning.{ReadsTable, SelectsTable}
+use Rattle.med_session.specs.Engine.{TakesColumns}
+
+some_inj : {A : Type 0} (a b : A) → Some a ≡ Some b → a ≡ b
+some_inj a b e = cc
+
+not_none : {A : Type 0} (o : Option A) (a : A) → o ≡ None → o ≡ Some a → ⊥
+not_none o a e f = absurd cc
+
+set_same : {A : Type 0} (f : ℕ → A) (k : ℕ) (a : A) → set_at f k a k ≡ a
+set_same f k a = search rules
+
+idle_can_bind : (s : BoxState) (remote : List ℕ) (columns : List Column) (settings : List Setting) → IsIdle s → s.nature.kind.objections columns settings ≡ [] → CanBind s remote columns settings
+idle_can_bind s remote columns settings idle no_objection = record {
+  free = λ t b is. absurd (not_none (s.ledger.tables t) b (idle.no_table t) is);
+  no_objection = no_objection;
+}
+
+bound_can_unbind : (old new : BoxState) (remote : List ℕ) (columns : List Column) (settings : List Setting) (t : ℕ) → IsIdle old → Binds old remote columns settings t new → CanUnbind new t
+bound_can_unbind old new remote columns settings t idle b = record {
+  is_bound = subst IsSome (sym (ap (λ z. z.tables t) b.ledger ∙ set_same old.ledger.tables t (Some b.bound))) refl;
+  no_scan = λ n scan is. absurd (not_none (finmap.get new.ledger.live n) scan (ap (λ z. finmap.get z.live n) b.ledger ∙ idle.no_scan n) is);
+  not_staged = ap (λ z. z.staged) b.ledger ∙ idle.no_staging;
+}
+
+-- what holds of the box holds of what the change makes of it
+moves_on : (Q R : BoxState → Type 0) (P : BoxState → BoxState → Type 0) (old new : List (Option BoxState)) (slot : ℕ) → ((s t : BoxState) → Q s → P s t → R t) → BoxAt old slot Q → ChangesAt old slot P new → BoxAt new slot R
+moves_on Q R P old new slot f b c = record {
+  box = c.after;
+  there = c.now;
+  holds = f c.before c.after (subst Q (some_inj b.box c.before (some_inj (Some b.box) (Some c.before) (sym b.there ∙ c.there))) b.holds) c.change;
+}
+
+-- what follows of the box
+follows_at : (Q R : BoxState → Type 0) (boxes : List (Option BoxState)) (slot : ℕ) → ((s : BoxState) → Q s → R s) → BoxAt boxes slot Q → BoxAt boxes slot R
+follows_at Q R boxes slot f b = record { box = b.box; there = b.there; holds = f b.box b.holds }
+
+pub new_can_bind : (boxes : List (Option BoxState)) (slot : ℕ) (remote : List ℕ) (columns : List Column) → BoxAt boxes slot (λ s. IsIdle s × TakesColumns s) → BoxAt boxes slot (λ s. CanBind s remote columns [])
+new_can_bind boxes slot remote columns = follows_at _ _ boxes slot (λ s q. idle_can_bind s remote columns [] q.0 (q.1 columns))
+
+pub bound_rests : (old new : List (Option BoxState)) (slot t : ℕ) (remote : List ℕ) (columns : List Column) (settings : List Setting) → BoxAt old slot (λ s. IsIdle s × TakesColumns s) → ChangesAt old slot (λ s r. Binds s remote columns settings t r) new → BoxAt new slot (λ s. CanUnbind s t)
+bound_rests old new slot t remote columns settings = moves_on _ _ _ old new slot (λ s r q b. bound_can_unbind s r remote columns settings t q.0 b)
+
+pub rests_has_table : (boxes : List (Option BoxState)) (slot t : ℕ) → BoxAt boxes slot (λ s. CanUnbind s t) → HasTable boxes slot t
+rests_has_table boxes slot t = follows_at _ _ boxes slot (λ s q. q.is_bound)
+
+read_rests : (old new : BoxState) (t u : ℕ) (rows : List Tuple) → CanUnbind old t → ReadsTable old u rows new → CanUnbind new t
+read_rests old new t u rows q r = record {
+  is_bound = subst IsSome (sym (ap (λ z. z.tables t) r.ledger)) q.is_bound;
+  no_scan = λ n scan is. q.no_scan n scan (sym (ap (λ z. finmap.get z.live n) r.ledger) ∙ is);
+  not_staged = ap (λ z. z.staged) r.ledger ∙ q.not_staged;
+}
+
+pub reading_rests : (old new : List (Option BoxState)) (slot t u : ℕ) (rows : List Tuple) → BoxAt old slot (λ s. CanUnbind s t) → ChangesAt old slot (λ s r. ReadsTable s u rows r) new → BoxAt new slot (λ s. CanUnbind s t)
+reading_rests old new slot t u rows = moves_on _ _ _ old new slot (λ s r q c. read_rests s r t u rows q c)
+
+pub selecting_rests : (old new : List (Option BoxState)) (slot t u : ℕ) (places : List ℕ) (rows : List Tuple) → BoxAt old slot (λ s. CanUnbind s t) → ChangesAt old slot (λ s r. SelectsTable s u places rows r) new → BoxAt new slot (λ s. CanUnbind s t)
+selecting_rests old new slot t u places rows = moves_on _ _ _ old new slot (λ s r q c. read_rests s r t u c.rows q c.reads)
