@@ -6,7 +6,7 @@ ghost use Rattle.session_wire.specs.Servers.{handler_of};
 
 use super::served::{counts_after, counts_at_end, demo_engine, demo_server};
 use super::{ANSWER, STORED};
-use crate::program::RunFault;
+use crate::program::{RunFault, serve};
 use crate::stream::{StreamFault, serve_stream};
 use fdw_api::interface::Counts;
 use med_session::{Engine, NoRoom, Request, Sid};
@@ -73,6 +73,13 @@ const LACKING: [&[u8]; 5] = [
     b"1 T OPEN\n1 H\tid\tname\n1 R\t1\tbolt\n1 R\t2\tnut\n1 R\t3\t\\N\n1 T SELECT 3\n2 T OPEN\n2 E 53200 out_of_memory\n",
 ];
 
+// The answers to the stored stream alone, where at most one request lacks memory.
+const LACKING_ONE: [&[u8]; 3] = [
+    ANSWER,
+    b"1 E 53200 out_of_memory\n1 E 08003 connection_does_not_exist\n",
+    b"1 T OPEN\n1 E 53200 out_of_memory\n",
+];
+
 const LATER: &[u8] = b"2 OPEN bob\n2 Q SELECT n FROM orders\n";
 
 // The answers before the request that gets no room.
@@ -109,6 +116,25 @@ fn refused_allocation_touches_one_request(rt: HostRuntime) -> Result<(), Fail> {
     assert!(rt; answers.contains(&out.as_slice()));
     let live = counts_at_end(server.finish()).map(|counts| counts.live);
     assert_eq!(rt; live, Some(0));
+    Ok(())
+}
+
+// The answers that may stand after a stream that ended so, all of which came in one piece.
+fn answers_to_piece(ended: Result<(), RunFault<'_>>) -> &'static [&'static [u8]] {
+    match ended {
+        Ok(()) => &LACKING_ONE,
+        Err(RunFault::NoMemory | RunFault::Write) => &[b""],
+        Err(_) => &[],
+    }
+}
+
+// Holds whichever allocation is refused, the writer's among them.
+#[test]
+fn refused_allocation_leaves_whole_replies(rt: HostRuntime) -> Result<(), Fail> {
+    let mut out = Vec::new(rt.alloc());
+    let mut input = STORED;
+    let ended = serve(rt.alloc(), Some("demo"), &mut input, &mut out);
+    assert!(rt; answers_to_piece(ended).contains(&out.as_slice()));
     Ok(())
 }
 
