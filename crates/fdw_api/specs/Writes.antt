@@ -1,6 +1,6 @@
 -- What the calls that write ask, and how the wrapper stands after them. The changes of a write are staged, and made or given up together
 -- by `end_modify`. `old` is before the call and `new` after it.
-use Rattle.std.specs.Prelude.{◌≡◌, ℕ, Bool, true, false, not, ◌&&◌, if◌then◌else◌, List, [], ◌∷◌, ◌++◌, Some, None, IsSome, map, flat_map, Contains, IsPermutation, nat_eq}
+use Rattle.std.specs.Prelude.{◌≡◌, ℕ, Bool, true, false, not, if◌then◌else◌, List, [], ◌∷◌, ◌++◌, Some, None, IsSome, map, flat_map, Contains, IsPermutation, nat_eq}
 use Rattle.std.specs.List.{list_any, IsDistinct}
 use Rattle.med_value.specs.Datum.{Tuple}
 use Rattle.med_value.specs.declared.value.ColType.{ColType}

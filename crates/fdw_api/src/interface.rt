@@ -5,7 +5,7 @@
 //!
 //! A write to a table begins (`BeginForeignModify`), stages its changes (`ExecForeignInsert`, `ExecForeignUpdate`, `ExecForeignDelete`)
 //! and ends (`EndForeignModify`): kept, all of its changes are made, or none where it is refused; given up, none.
-ghost use Rattle.std.specs.Prelude.{◌≡◌, ℕ, map, IfOk, IfErr, IsSome};
+ghost use Rattle.std.specs.Prelude.{◌≡◌, ℕ, map, length, IfOk, IfErr, IsSome};
 ghost use Rattle.std.specs.FinMap as finmap;
 ghost use Rattle.fdw_api.specs.declared.interface.Fault.TheVariants.{NoMemory};
 
@@ -138,7 +138,8 @@ pub trait Wrapper: Drop {
         ensures { Unbinds (meaning self.old) t.number (meaning self.new) };
 
     /// Answers which of these restrictions the wrapper would take over in a scan of a bound table, and whether it would give the
-    /// wanted columns alone (`GetForeignPlan`). A scan by this agreement is allowed as long as the table is bound.
+    /// wanted columns alone (`GetForeignPlan`): one answer for each restriction. A scan by this agreement is allowed as long as the
+    /// table is bound.
     ///
     /// It fails for want of memory alone.
     fn plan(
@@ -150,6 +151,7 @@ pub trait Wrapper: Drop {
     ) -> Result<Agreement, Fault>
         requires { IsSome (table_of (meaning self.now) t.number) }
         ensures ok { IfOk result (λ a. Allows (meaning self.now) t.number (spec_by wanted.now (map filter_of offered.now) a)) }
+        ensures each { IfOk result (λ a. length a.answers.items ≡ length offered.now) }
         ensures err { IfErr result (λ fault. fault ≡ NoMemory) };
 
     /// Begins a scan of a bound table (`BeginForeignScan`), by an agreement that the table allows, with a value of the
