@@ -78,6 +78,9 @@ pub record Binds (old : BoxState) (remote : List ℕ) (columns : List Column) (s
   pub bound : Bound
   pub remote_is : bound.remote ≡ remote
   pub kinds_are : bound.kinds ≡ map (λ c. c.kind) columns
+  pub line_is : bound.line ≡ old.nature.kind.line columns settings
+  pub image_is : bound.image ≡ old.nature.kind.image columns settings
+  pub refuses_is : bound.refuses ≡ old.nature.kind.refuses columns settings
   pub ledger : new.ledger ≡ record old.ledger { tables = set_at old.ledger.tables t (Some bound) }
   pub entry : Option Entry
   pub picked : is_honest old → Picks (old.content.holdings remote) entry
@@ -116,6 +119,12 @@ pub record Unbinds (old : BoxState) (t : ℕ) (new : BoxState) : Type 0 where
   pub nature : new.nature ≡ old.nature
   pub ledger : new.ledger ≡ record old.ledger { tables = set_at old.ledger.tables t None }
   pub leaves : is_honest old → Leaves none_of (λ u. u ≡ t) none_of old new
+
+-- planned (GetForeignPlan): the bound table allows this scan
+pub record Allows (s : BoxState) (t : ℕ) (spec : Spec) : Type 0 where
+  pub bound : Bound
+  pub is : table_of s t ≡ Some bound
+  pub allowed : bound.allows spec ≡ true
 
 -- begin asks for a bound table that allows this scan, and for a value of its column's type for each parameter
 pub record CanBegin (s : BoxState) (t : ℕ) (spec : ScanSpec) (params : Tuple) : Type 0 where
@@ -184,13 +193,32 @@ abbrev pub Gives : BoxState → ℕ → Option SourceRow → BoxState → Type 0
 Gives old number None new = GivesNone old number new
 Gives old number (Some row) new = GivesRow old number (row_of row) new
 
--- iterate fails, and the scan is broken
+-- iterate or rescan fails, and the scan is broken
 pub record Breaks (old : BoxState) (number : ℕ) (fault : Fault) (new : BoxState) : Type 0 where
   pub nature : new.nature ≡ old.nature
   pub no_cause : not_refused fault
   pub scan : Scan
   pub at : scan_of old number ≡ Some scan
   pub ledger : new.ledger ≡ record old.ledger { live = finmap.insert old.ledger.live number (record scan { broken = true }); faults = faults_after fault old.ledger.faults }
+  pub leaves : is_honest old → LeavesOthers number old new
+
+-- rescan asks for a live scan that is not broken, and for a value of its column's type for each parameter
+pub record CanRescan (s : BoxState) (number : ℕ) (params : Tuple) : Type 0 where
+  pub scan : Scan
+  pub at : scan_of s number ≡ Some scan
+  pub whole : scan.broken ≡ false
+  pub bound : Bound
+  pub is : table_of s scan.table ≡ Some bound
+  pub typed : params_fit bound.kinds scan.spec.offered params ≡ true
+
+-- begun again (ReScanForeignScan): the scan stands as one that was just begun with these parameters
+pub record Rescans (old : BoxState) (number : ℕ) (params : Tuple) (new : BoxState) : Type 0 where
+  pub nature : new.nature ≡ old.nature
+  pub scan : Scan
+  pub at : scan_of old number ≡ Some scan
+  pub left : ℕ
+  pub ledger : new.ledger ≡ record old.ledger { live = finmap.insert old.ledger.live number (new_scan scan.table scan.spec params left) }
+  pub coming : is_honest old → IsComing (rows_of old scan.table) scan.spec params (new.content.coming number)
   pub leaves : is_honest old → LeavesOthers number old new
 
 -- the scan is ended (EndForeignScan), and its number is not live any more

@@ -1,5 +1,5 @@
 -- What a kind of source makes of what stands under a remote name.
-use Rattle.std.specs.Prelude.{◌≡◌, ℕ, Bool, true, false, nat_le, List, Option, Some, None}
+use Rattle.std.specs.Prelude.{◌≡◌, ℕ, Bool, true, false, nat_le, nat_eq, List, Option, Some, None}
 use Rattle.std.specs.List.{list_all}
 use Rattle.std.specs.String.{string_bytes}
 use Rattle.med_value.specs.Causes.{phase_of}
@@ -55,9 +55,25 @@ pub data Change : Type 0 where
   Updates : ℕ → Tuple → Change
   Deletes : ℕ → Change
 
--- a kind of source, with what binding means for it
+-- the run: phase 6
+abbrev pub is_of_run : Option ℕ → Bool
+is_of_run None = false
+is_of_run (Some phase) = nat_eq 6 phase
+
+-- which causes stand for all changes of a write together, made to these rows. They are causes of the run, as of keys or sizes
+pub record Refusals : Type 0 where
+  pub causes : List TableRow → List Change → List Cause
+  pub of_run : (rows : List TableRow) (changes : List Change) → list_all (λ c. is_of_run (phase_of c)) (causes rows changes) ≡ true
+
+-- a kind of source, with what binding and writing mean for it
 pub record Kind : Type 0 where
   -- the causes of refusal by names and types (phases 3 and 4) that these columns and options show for this kind
   pub objections : List Column → List Setting → List Cause
   -- what the entry under the remote name gives a table of these columns and options
   pub reads : List Column → List Setting → Option Entry → Reading
+  -- the record or line that a written row becomes
+  pub line : List Column → List Setting → Tuple → List (List ℕ)
+  -- what stands under the remote name, where this entry stood, when these rows were written in this order
+  pub image : List Column → List Setting → Option Entry → List Held → Option Entry
+  -- the causes by which a write is refused
+  pub refuses : List Column → List Setting → Refusals

@@ -16,6 +16,7 @@ use Rattle.fdw_api.specs.declared.scan.Test.TheVariants.{Compare, IsNull, IsNotN
 use Rattle.fdw_api.specs.declared.scan.Restriction.{Restriction}
 use Rattle.fdw_api.specs.declared.scan.Agree.{Agree}
 use Rattle.fdw_api.specs.declared.scan.Agree.TheVariants.{Ignored, Hint, Exact}
+use Rattle.fdw_api.specs.declared.scan.Agreement.{Agreement}
 use Rattle.fdw_api.specs.declared.scan.ScanSpec.{ScanSpec}
 
 -- the operand of a restriction: a value, or the parameter of a number
@@ -57,6 +58,10 @@ pub record Spec : Type 0 where
 
 abbrev pub spec_of : ScanSpec → Spec
 spec_of s = record { wanted = s.wanted.items; offered = map filter_of s.offered.items; answers = s.agreement.answers.items; narrow = s.agreement.narrow }
+
+-- what a scan is asked for under an agreement
+abbrev pub spec_by : List ℕ → List Filter → Agreement → Spec
+spec_by wanted offered a = record { wanted = wanted; offered = offered; answers = a.answers.items; narrow = a.narrow }
 
 -- the scan of whole rows for which the wrapper takes nothing over
 abbrev pub plain_spec : List ℕ → List Filter → Spec

@@ -1,12 +1,15 @@
 //! The calls of a boxed wrapper, after the callbacks of PostgreSQL's "Writing a Foreign Data Wrapper".
 //!
-//! A wrapper binds remote tables, and gives their rows by scans. A scan begins (`BeginForeignScan`), gives rows one by one
-//! (`IterateForeignScan`) and ends (`EndForeignScan`).
-ghost use Rattle.std.specs.Prelude.{◌≡◌, ℕ, map, IfOk, IfErr, IsSome};
+//! A wrapper binds remote tables, and gives their rows by scans. A scan is planned (`GetForeignPlan`), begins (`BeginForeignScan`), gives
+//! rows one by one (`IterateForeignScan`), may begin again (`ReScanForeignScan`) and ends (`EndForeignScan`).
+//!
+//! A write to a table begins (`BeginForeignModify`), stages its changes (`ExecForeignInsert`, `ExecForeignUpdate`, `ExecForeignDelete`)
+//! and ends (`EndForeignModify`): kept, all of its changes are made, or none where it is refused; given up, none.
+ghost use Rattle.std.specs.Prelude.{◌≡◌, ℕ, map, length, IfOk, IfErr, IsSome};
 ghost use Rattle.std.specs.FinMap as finmap;
 ghost use Rattle.fdw_api.specs.declared.interface.Fault.TheVariants.{NoMemory};
 
-use crate::scan::ScanSpec;
+use crate::scan::{Agreement, Restriction, ScanSpec};
 use med_value::{Cause, ColumnDef, Row, Value};
 use std::alloc::{AllocError, AllocFailed, Global};
 use thiserror::Error;
@@ -104,11 +107,12 @@ pub struct Counts {
 /// `meaning` is what the interface shows of a wrapper: its nature (which never changes), its ledger (tables, live scans,
 /// staged changes and counts, known of every wrapper) and its content (rows and bytes, known of honest wrappers).
 pub trait Wrapper: Drop {
-    ghost use Rattle.med_value.specs.Datum.{datum};
-    ghost use Rattle.fdw_api.specs.Scan.{spec_of};
-    ghost use Rattle.fdw_api.specs.Kinds.{column_of, setting_of};
-    ghost use Rattle.fdw_api.specs.State.{BoxState, scan_of};
-    ghost use Rattle.fdw_api.specs.Calls.{CanBind, Binds, RefusesBind, CanUnbind, Unbinds, CanBegin, Begins, RefusesBegin, IsOpen, Gives, Breaks, Ends};
+    ghost use Rattle.med_value.specs.Datum.{datum, tuple};
+    ghost use Rattle.fdw_api.specs.Scan.{filter_of, spec_of, spec_by};
+    ghost use Rattle.fdw_api.specs.Kinds.{column_of, setting_of, Inserts, Updates, Deletes};
+    ghost use Rattle.fdw_api.specs.State.{BoxState, table_of, scan_of};
+    ghost use Rattle.fdw_api.specs.Calls.{CanBind, Binds, RefusesBind, CanUnbind, Unbinds, Allows, CanBegin, Begins, RefusesBegin, IsOpen, Gives, Breaks, CanRescan, Rescans, Ends};
+    ghost use Rattle.fdw_api.specs.Writes.{CanModify, Opens, RefusesModify, CanChange, Stages, RefusesChange, CanClose, Closes, RefusesClose};
 
     ghost meaning: { Self → BoxState };
 
@@ -132,6 +136,23 @@ pub trait Wrapper: Drop {
     fn unbind(&mut self, t: TableNo)
         requires { CanUnbind (meaning self.old) t.number }
         ensures { Unbinds (meaning self.old) t.number (meaning self.new) };
+
+    /// Answers which of these restrictions the wrapper would take over in a scan of a bound table, and whether it would give the
+    /// wanted columns alone (`GetForeignPlan`): one answer for each restriction. A scan by this agreement is allowed as long as the
+    /// table is bound.
+    ///
+    /// It fails for want of memory alone.
+    fn plan(
+        &self,
+        alloc: Global,
+        t: TableNo,
+        wanted: &[usize],
+        offered: &[Restriction],
+    ) -> Result<Agreement, Fault>
+        requires { IsSome (table_of (meaning self.now) t.number) }
+        ensures ok { IfOk result (λ a. Allows (meaning self.now) t.number (spec_by wanted.now (map filter_of offered.now) a)) }
+        ensures each { IfOk result (λ a. length a.answers.items ≡ length offered.now) }
+        ensures err { IfErr result (λ fault. fault ≡ NoMemory) };
 
     /// Begins a scan of a bound table (`BeginForeignScan`), by an agreement that the table allows, with a value of the
     /// column's type for each parameter.
@@ -157,10 +178,56 @@ pub trait Wrapper: Drop {
         ensures ok { IfOk result (λ row. Gives (meaning self.old) ticket.now.number row (meaning self.new)) }
         ensures err { IfErr result (λ fault. Breaks (meaning self.old) ticket.now.number fault (meaning self.new)) };
 
+    /// Begins a live scan again, with other parameters (`ReScanForeignScan`). It asks for a value of the column's type for each.
+    ///
+    /// It is never refused. After a fault the scan is good for `end` alone.
+    fn rescan(&mut self, alloc: Global, ticket: &Ticket, params: &[Value]) -> Result<(), Fault>
+        requires { CanRescan (meaning self.old) ticket.now.number (map datum params.now) }
+        ensures ok { IfOk result (λ _. Rescans (meaning self.old) ticket.now.number (map datum params.now) (meaning self.new)) }
+        ensures err { IfErr result (λ fault. Breaks (meaning self.old) ticket.now.number fault (meaning self.new)) };
+
     /// Ends a live scan (`EndForeignScan`).
     fn end(&mut self, ticket: Ticket)
         requires { IsSome (scan_of (meaning self.old) ticket.number) }
         ensures { Ends (meaning self.old) ticket.number (meaning self.new) };
+
+    /// Begins a write to a bound table without live scans (`BeginForeignModify`). It asks that no write is under way.
+    ///
+    /// No cause refuses it. After a fault nothing is staged.
+    fn begin_modify(&mut self, alloc: Global, t: TableNo) -> Result<(), Fault>
+        requires { CanModify (meaning self.old) t.number }
+        ensures ok { IfOk result (λ _. Opens (meaning self.old) t.number (meaning self.new)) }
+        ensures err { IfErr result (λ fault. RefusesModify fault (meaning self.old) (meaning self.new)) };
+
+    /// Stages a new row (`ExecForeignInsert`), which is of the columns' types.
+    ///
+    /// Refused, it tells a cause that stands whatever changes follow, and the write is good for `end_modify(false)` alone.
+    fn insert(&mut self, alloc: Global, row: Row) -> Result<(), Fault>
+        requires { CanChange (meaning self.old) (Inserts (tuple row)) }
+        ensures ok { IfOk result (λ _. Stages (meaning self.old) (Inserts (tuple row)) (meaning self.new)) }
+        ensures err { IfErr result (λ fault. RefusesChange (meaning self.old) (Inserts (tuple row)) fault (meaning self.new)) };
+
+    /// Stages another row in the place of one (`ExecForeignUpdate`), which no earlier change has named. Refused, it stands as a refused
+    /// `insert` does.
+    fn update(&mut self, alloc: Global, id: RowId, row: Row) -> Result<(), Fault>
+        requires { CanChange (meaning self.old) (Updates id.number (tuple row)) }
+        ensures ok { IfOk result (λ _. Stages (meaning self.old) (Updates id.number (tuple row)) (meaning self.new)) }
+        ensures err { IfErr result (λ fault. RefusesChange (meaning self.old) (Updates id.number (tuple row)) fault (meaning self.new)) };
+
+    /// Stages that a row goes (`ExecForeignDelete`), which no earlier change has named. Refused, it stands as a refused `insert` does.
+    fn delete(&mut self, alloc: Global, id: RowId) -> Result<(), Fault>
+        requires { CanChange (meaning self.old) (Deletes id.number) }
+        ensures ok { IfOk result (λ _. Stages (meaning self.old) (Deletes id.number) (meaning self.new)) }
+        ensures err { IfErr result (λ fault. RefusesChange (meaning self.old) (Deletes id.number) fault (meaning self.new)) };
+
+    /// Ends a write (`EndForeignModify`): to keep it, exactly the staged changes are made, whole or not at all; else none.
+    ///
+    /// To keep it asks that no change was refused and that the table has no live scan. Then it may be refused by a cause that stands for
+    /// all staged changes together, and leaves the old rows and nothing staged. Not to keep it is never refused.
+    fn end_modify(&mut self, alloc: Global, keep: bool) -> Result<(), Fault>
+        requires { CanClose (meaning self.old) keep }
+        ensures ok { IfOk result (λ _. Closes (meaning self.old) keep (meaning self.new)) }
+        ensures err { IfErr result (λ fault. RefusesClose (meaning self.old) keep fault (meaning self.new)) };
 
     /// What the wrapper counts.
     fn ledger(&self) -> Counts
@@ -187,6 +254,16 @@ impl Wrapper for Box<dyn Wrapper> {
         (**self).unbind(t)
     }
 
+    fn plan(
+        &self,
+        alloc: Global,
+        t: TableNo,
+        wanted: &[usize],
+        offered: &[Restriction],
+    ) -> Result<Agreement, Fault> {
+        (**self).plan(alloc, t, wanted, offered)
+    }
+
     fn begin(
         &mut self,
         alloc: Global,
@@ -201,8 +278,32 @@ impl Wrapper for Box<dyn Wrapper> {
         (**self).iterate(alloc, ticket)
     }
 
+    fn rescan(&mut self, alloc: Global, ticket: &Ticket, params: &[Value]) -> Result<(), Fault> {
+        (**self).rescan(alloc, ticket, params)
+    }
+
     fn end(&mut self, ticket: Ticket) {
         (**self).end(ticket)
+    }
+
+    fn begin_modify(&mut self, alloc: Global, t: TableNo) -> Result<(), Fault> {
+        (**self).begin_modify(alloc, t)
+    }
+
+    fn insert(&mut self, alloc: Global, row: Row) -> Result<(), Fault> {
+        (**self).insert(alloc, row)
+    }
+
+    fn update(&mut self, alloc: Global, id: RowId, row: Row) -> Result<(), Fault> {
+        (**self).update(alloc, id, row)
+    }
+
+    fn delete(&mut self, alloc: Global, id: RowId) -> Result<(), Fault> {
+        (**self).delete(alloc, id)
+    }
+
+    fn end_modify(&mut self, alloc: Global, keep: bool) -> Result<(), Fault> {
+        (**self).end_modify(alloc, keep)
     }
 
     fn ledger(&self) -> Counts {

@@ -15,7 +15,7 @@ unmarked zero t = refl
 unmarked (suc n) zero = refl
 unmarked (suc n) (suc t) = unmarked n t
 
-pub new_list : (tables : List ListTable) (bound : List Bool) (scans : BTreeMap ℕ ListScan) (n : ℕ) → bound ≡ replicate n false → ((q : ℕ) → tree.get nat_cmp scans q ≡ None) → IsNewList (list_state tables bound scans 0 0) (map listed tables)
+pub new_list : (tables : List ListTable) (bound : List Bool) (scans : BTreeMap ℕ ListScan) (n : ℕ) → bound ≡ replicate n false → ((q : ℕ) → tree.get nat_cmp scans q ≡ None) → IsNewList (list_state tables bound scans None 0 0) (map listed tables)
 new_list tables bound scans n none_bound none_live = record {
   kind = refl;
   honest = refl;

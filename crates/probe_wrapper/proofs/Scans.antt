@@ -1,5 +1,5 @@
 -- What the calls of a scan do to a list wrapper.
-use Rattle.std.proofs.Common.{◌≡◌, ◌≢◌, ℕ, ◌+◌, ◌-◌, ◌^◌, ◌<◌, ◌≤◌, ◌⊎◌, Bool, true, false, cond, not, ◌&&◌, if◌then◌else◌, List, [], ◌∷◌, Option, Some, None, IsSome, IfSome, map, filter, min, option_map, refl, ap, sym, ◌∙◌, subst, arith, eqb, inl, inr}
+use Rattle.std.proofs.Common.{◌≡◌, ◌≢◌, ℕ, ◌+◌, ◌-◌, ◌^◌, ◌<◌, ◌≤◌, ◌⊎◌, Bool, true, false, cond, not, ◌&&◌, if◌then◌else◌, List, [], ◌∷◌, Option, Some, None, IsSome, Result, Ok, Err, OnOk, is_err, IfSome, map, filter, min, option_map, refl, ap, sym, ◌∙◌, subst, arith, eqb, inl, inr}
 use Rattle.std.specs.Ordering.{nat_cmp}
 use Rattle.std.specs.BTreeMap as tree
 use Rattle.std.specs.BTreeMap.{BTreeMap}
@@ -13,11 +13,12 @@ use Rattle.fdw_api.specs.Scan.{Spec, spec_of, Filter, GivenRow, TableRow, IsComi
 use Rattle.fdw_api.specs.declared.scan.Agree.{Agree}
 use Rattle.fdw_api.specs.declared.scan.Agree.TheVariants.{Ignored, Hint, Exact}
 use Rattle.fdw_api.specs.State.{Scan, scan_of}
-use Rattle.fdw_api.specs.Calls.{LeavesOthers, new_scan, Begins, GivesRow, GivesNone, Breaks, Ends, row_of}
+use Rattle.fdw_api.specs.Calls.{LeavesOthers, new_scan, Begins, GivesRow, GivesNone, Breaks, Rescans, Ends, row_of}
 use Rattle.fdw_api.specs.declared.interface.Fault.TheVariants.{NoMemory}
 use Rattle.fdw_api.specs.declared.interface.SourceRow.{SourceRow}
 use Rattle.probe_wrapper.specs.declared.list.ListTable.{ListTable}
 use Rattle.probe_wrapper.specs.declared.list.ListScan.{ListScan}
+use Rattle.probe_wrapper.specs.declared.changes.ListWrite.{ListWrite}
 use Rattle.probe_wrapper.specs.Scans.{numbered, coming_from, rows_at, scan_is, scan_rows, mapped, list_state, NextIs}
 use Rattle.probe_wrapper.proofs.Maps.{mapped_get, mapped_insert, mapped_remove, apart}
 
@@ -67,11 +68,11 @@ pub at_some : {X : Type 0} (o : Option X) → IsSome o → (x : X) × (o ≡ Som
 at_some None e = absurd cc
 at_some (Some x) e = (x, refl)
 
-pub open_there : (tables : List ListTable) (bound : List Bool) (m : BTreeMap ℕ ListScan) (next pulled n : ℕ) (scan : Scan) → scan_of (list_state tables bound m next pulled) n ≡ Some scan → IsSome (tree.get nat_cmp m n)
-open_there tables bound m next pulled n scan e = there scan_is _ _ (sym (mapped_get scan_is m n) ∙ e)
+pub open_there : (tables : List ListTable) (bound : List Bool) (m : BTreeMap ℕ ListScan) (staged : Option ListWrite) (next pulled n : ℕ) (scan : Scan) → scan_of (list_state tables bound m staged next pulled) n ≡ Some scan → IsSome (tree.get nat_cmp m n)
+open_there tables bound m staged next pulled n scan e = there scan_is _ _ (sym (mapped_get scan_is m n) ∙ e)
 
-pub live_there : (tables : List ListTable) (bound : List Bool) (m : BTreeMap ℕ ListScan) (next pulled n : ℕ) → IsSome (scan_of (list_state tables bound m next pulled) n) → IsSome (tree.get nat_cmp m n)
-live_there tables bound m next pulled n e = let w = at_some _ e in open_there tables bound m next pulled n w.0 w.1
+pub live_there : (tables : List ListTable) (bound : List Bool) (m : BTreeMap ℕ ListScan) (staged : Option ListWrite) (next pulled n : ℕ) → IsSome (scan_of (list_state tables bound m staged next pulled) n) → IsSome (tree.get nat_cmp m n)
+live_there tables bound m staged next pulled n e = let w = at_some _ e in open_there tables bound m staged next pulled n w.0 w.1
 
 abbrev Fresh : BTreeMap ℕ ListScan → ℕ → Type 0
 Fresh m next = (k : ℕ) → next ≤ k → tree.get nat_cmp m k ≡ None
@@ -89,15 +90,15 @@ keeps_fresh m n number next w fresh is u k le = split (eqb_tells k number)
     split (inr s) = u.2 k (apart number k s.1) ∙ fresh k le
 
 -- only this ticket changes
-others : (tables : List ListTable) (bound : List Bool) (m n : BTreeMap ℕ ListScan) (number next next' pulled pulled' : ℕ) (w : Option ListScan) → tree.UpdatesBy nat_cmp (nat_cmp number) m n w → LeavesOthers number (list_state tables bound m next pulled) (list_state tables bound n next' pulled')
-others tables bound m n number next next' pulled pulled' w u = record {
+others : (tables : List ListTable) (bound : List Bool) (m n : BTreeMap ℕ ListScan) (staged : Option ListWrite) (number next next' pulled pulled' : ℕ) (w : Option ListScan) → tree.UpdatesBy nat_cmp (nat_cmp number) m n w → LeavesOthers number (list_state tables bound m staged next pulled) (list_state tables bound n staged next' pulled')
+others tables bound m n staged number next next' pulled pulled' w u = record {
   coming = λ q live other. ap (scan_rows tables) (u.2 q (apart number q other));
   rows = λ t other. refl;
   holdings = λ r other. refl;
 }
 
-pub list_begins : (tables : List ListTable) (bound : List Bool) (m n : BTreeMap ℕ ListScan) (t next pulled : ℕ) (spec : Spec) (params : Tuple) (s : ListScan) → tree.get nat_cmp m next ≡ None → next < 2 ^ 64 - 1 → tree.Updates nat_cmp m n next (Some s) → s.table ≡ t → spec_of s.spec ≡ spec → map datum s.params.items ≡ params → s.at ≡ 0 → s.broken ≡ false → Begins (list_state tables bound m next pulled) t spec params next (list_state tables bound n (next + 1) pulled)
-list_begins tables bound m n t next pulled spec params s fresh room u et es ep ea eb =
+pub list_begins : (tables : List ListTable) (bound : List Bool) (m n : BTreeMap ℕ ListScan) (staged : Option ListWrite) (t next pulled : ℕ) (spec : Spec) (params : Tuple) (s : ListScan) → tree.get nat_cmp m next ≡ None → next < 2 ^ 64 - 1 → tree.Updates nat_cmp m n next (Some s) → s.table ≡ t → spec_of s.spec ≡ spec → map datum s.params.items ≡ params → s.at ≡ 0 → s.broken ≡ false → Begins (list_state tables bound m staged next pulled) t spec params next (list_state tables bound n staged (next + 1) pulled)
+list_begins tables bound m n staged t next pulled spec params s fresh room u et es ep ea eb =
     let coming : scan_rows tables (tree.get nat_cmp n next) ≡ coming_from spec params 0 (rows_at tables t) = ap (scan_rows tables) u.1 ∙ rw (es, ep, ea, et) refl in
     record {
       nature = refl;
@@ -106,10 +107,10 @@ list_begins tables bound m n t next pulled spec params s fresh room u et es ep e
       fresh = mapped_get scan_is m next ∙ ap (option_map scan_is) fresh;
       left = 2 ^ 64 - s.at;
       ledger =
-          ap (λ (l : finmap.FinMap nat_cmp Scan). record (list_state tables bound n (next + 1) pulled).ledger { live = l })
+          ap (λ (l : finmap.FinMap nat_cmp Scan). record (list_state tables bound n staged (next + 1) pulled).ledger { live = l })
           (mapped_insert scan_is m n next s u ∙ ap (finmap.insert (mapped scan_is m.entries) next) (scan_same s t spec params et es ep eb));
       coming = λ honest. subst (λ (l : List GivenRow). IsComing (numbered 0 (rows_at tables t)) spec params l) (sym coming) (comes spec params (rows_at tables t));
-      leaves = λ honest. others tables bound m n next next (next + 1) pulled pulled (Some s) u;
+      leaves = λ honest. others tables bound m n staged next next (next + 1) pulled pulled (Some s) u;
     }
   where
     scan_same : (s : ListScan) (t : ℕ) (spec : Spec) (params : Tuple) → s.table ≡ t → spec_of s.spec ≡ spec → map datum s.params.items ≡ params → s.broken ≡ false → scan_is s ≡ new_scan t spec params (2 ^ 64 - s.at)
@@ -118,22 +119,22 @@ list_begins tables bound m n t next pulled spec params s fresh room u et es ep e
 some_inj : {A : Type 0} (a b : A) → Some a ≡ Some b → a ≡ b
 some_inj a b q = cc
 
-pub list_gives : (tables : List ListTable) (bound : List Bool) (m n : BTreeMap ℕ ListScan) (next pulled number : ℕ) (s : ListScan) (row : SourceRow) → tree.get nat_cmp m number ≡ Some s → NextIs (spec_of s.spec) (map datum s.params.items) (rows_at tables s.table) s.at (Some row) → tree.Updates nat_cmp m n number (Some (record s { at = row.id.number + 1 })) → GivesRow (list_state tables bound m next pulled) number (row_of row) (list_state tables bound n next (min (pulled + 1) (2 ^ 64 - 1)))
-list_gives tables bound m n next pulled number s row is next_is u = record {
+pub list_gives : (tables : List ListTable) (bound : List Bool) (m n : BTreeMap ℕ ListScan) (staged : Option ListWrite) (next pulled number : ℕ) (s : ListScan) (row : SourceRow) → tree.get nat_cmp m number ≡ Some s → NextIs (spec_of s.spec) (map datum s.params.items) (rows_at tables s.table) s.at (Some row) → tree.Updates nat_cmp m n number (Some (record s { at = row.id.number + 1 })) → GivesRow (list_state tables bound m staged next pulled) number (row_of row) (list_state tables bound n staged next (min (pulled + 1) (2 ^ 64 - 1)))
+list_gives tables bound m n staged next pulled number s row is next_is u = record {
   nature = refl;
   scan = scan_is s;
   at = mapped_get scan_is m number ∙ ap (option_map scan_is) is;
   left = 2 ^ 64 - (row.id.number + 1);
   fewer = let a = next_is.0 in let b = next_is.1 in omega arith;
   ledger =
-      ap (λ (l : finmap.FinMap nat_cmp Scan). record (list_state tables bound m next (min (pulled + 1) (2 ^ 64 - 1))).ledger { live = l })
+      ap (λ (l : finmap.FinMap nat_cmp Scan). record (list_state tables bound m staged next (min (pulled + 1) (2 ^ 64 - 1))).ledger { live = l })
       (mapped_insert scan_is m n number _ u);
   coming = λ honest. ap (scan_rows tables) is ∙ next_is.2 ∙ ap (λ (l : List GivenRow). row_of row ∷ l) (sym (ap (scan_rows tables) u.1));
-  leaves = λ honest. others tables bound m n number next next pulled _ _ u;
+  leaves = λ honest. others tables bound m n staged number next next pulled _ _ u;
 }
 
-pub list_gives_none : (tables : List ListTable) (bound : List Bool) (m : BTreeMap ℕ ListScan) (next pulled number : ℕ) (s : ListScan) → tree.get nat_cmp m number ≡ Some s → NextIs (spec_of s.spec) (map datum s.params.items) (rows_at tables s.table) s.at None → GivesNone (list_state tables bound m next pulled) number (list_state tables bound m next pulled)
-list_gives_none tables bound m next pulled number s is next_is = record {
+pub list_gives_none : (tables : List ListTable) (bound : List Bool) (m : BTreeMap ℕ ListScan) (staged : Option ListWrite) (next pulled number : ℕ) (s : ListScan) → tree.get nat_cmp m number ≡ Some s → NextIs (spec_of s.spec) (map datum s.params.items) (rows_at tables s.table) s.at None → GivesNone (list_state tables bound m staged next pulled) number (list_state tables bound m staged next pulled)
+list_gives_none tables bound m staged next pulled number s is next_is = record {
   nature = refl;
   ledger = refl;
   coming = λ honest. ap (scan_rows tables) is ∙ next_is;
@@ -141,28 +142,50 @@ list_gives_none tables bound m next pulled number s is next_is = record {
   leaves = λ honest. record { coming = λ q l o. refl; rows = λ t o. refl; holdings = λ r o. refl };
 }
 
-pub list_breaks : (tables : List ListTable) (bound : List Bool) (m n : BTreeMap ℕ ListScan) (next pulled number : ℕ) (s : ListScan) → tree.get nat_cmp m number ≡ Some s → tree.Updates nat_cmp m n number (Some (record s { broken = true })) → Breaks (list_state tables bound m next pulled) number NoMemory (list_state tables bound n next pulled)
-list_breaks tables bound m n next pulled number s is u = record {
+pub list_breaks : (tables : List ListTable) (bound : List Bool) (m n : BTreeMap ℕ ListScan) (staged : Option ListWrite) (next pulled number : ℕ) (s : ListScan) → tree.get nat_cmp m number ≡ Some s → tree.Updates nat_cmp m n number (Some (record s { broken = true })) → Breaks (list_state tables bound m staged next pulled) number NoMemory (list_state tables bound n staged next pulled)
+list_breaks tables bound m n staged next pulled number s is u = record {
   nature = refl;
   no_cause = tt;
   scan = scan_is s;
   at = mapped_get scan_is m number ∙ ap (option_map scan_is) is;
-  ledger = ap (λ (l : finmap.FinMap nat_cmp Scan). record (list_state tables bound m next pulled).ledger { live = l }) (mapped_insert scan_is m n number _ u);
-  leaves = λ honest. others tables bound m n number next next pulled pulled _ u;
+  ledger = ap (λ (l : finmap.FinMap nat_cmp Scan). record (list_state tables bound m staged next pulled).ledger { live = l }) (mapped_insert scan_is m n number _ u);
+  leaves = λ honest. others tables bound m n staged number next next pulled pulled _ u;
 }
 
-pub list_ends : (tables : List ListTable) (bound : List Bool) (m n : BTreeMap ℕ ListScan) (next pulled number : ℕ) → tree.UpdatesBy nat_cmp (nat_cmp number) m n None → Ends (list_state tables bound m next pulled) number (list_state tables bound n next pulled)
-list_ends tables bound m n next pulled number u = record {
+pub list_rescans : (tables : List ListTable) (bound : List Bool) (m n : BTreeMap ℕ ListScan) (staged : Option ListWrite) (next pulled number : ℕ) (params : Tuple) (s t : ListScan) → tree.get nat_cmp m number ≡ Some s → s.broken ≡ false → tree.Updates nat_cmp m n number (Some t) → t.table ≡ s.table → spec_of t.spec ≡ spec_of s.spec → map datum t.params.items ≡ params → t.at ≡ 0 → t.broken ≡ s.broken → Rescans (list_state tables bound m staged next pulled) number params (list_state tables bound n staged next pulled)
+list_rescans tables bound m n staged next pulled number params s t is whole u et es ep ea eb =
+    let coming : scan_rows tables (tree.get nat_cmp n number) ≡ coming_from (spec_of s.spec) params 0 (rows_at tables s.table) = ap (scan_rows tables) u.1 ∙ rw (es, ep, ea, et) refl in
+    record {
+      nature = refl;
+      scan = scan_is s;
+      at = mapped_get scan_is m number ∙ ap (option_map scan_is) is;
+      left = 2 ^ 64 - t.at;
+      ledger =
+          ap (λ (l : finmap.FinMap nat_cmp Scan). record (list_state tables bound m staged next pulled).ledger { live = l })
+          (mapped_insert scan_is m n number t u ∙ ap (finmap.insert (mapped scan_is m.entries) number) (same s t et es ep (eb ∙ whole)));
+      coming = λ honest. subst (λ (l : List GivenRow). IsComing (numbered 0 (rows_at tables s.table)) (spec_of s.spec) params l) (sym coming) (comes (spec_of s.spec) params (rows_at tables s.table));
+      leaves = λ honest. others tables bound m n staged number next next pulled pulled (Some t) u;
+    }
+  where
+    same : (s t : ListScan) → t.table ≡ s.table → spec_of t.spec ≡ spec_of s.spec → map datum t.params.items ≡ params → t.broken ≡ false → scan_is t ≡ new_scan s.table (spec_of s.spec) params (2 ^ 64 - t.at)
+    same s t et es ep eb = rw (es, ep, et, eb) refl
+
+pub list_ends : (tables : List ListTable) (bound : List Bool) (m n : BTreeMap ℕ ListScan) (staged : Option ListWrite) (next pulled number : ℕ) → tree.UpdatesBy nat_cmp (nat_cmp number) m n None → Ends (list_state tables bound m staged next pulled) number (list_state tables bound n staged next pulled)
+list_ends tables bound m n staged next pulled number u = record {
   nature = refl;
-  ledger = ap (λ (l : finmap.FinMap nat_cmp Scan). record (list_state tables bound m next pulled).ledger { live = l }) (mapped_remove scan_is m n number u);
-  leaves = λ honest. others tables bound m n number next next pulled pulled None u;
+  ledger = ap (λ (l : finmap.FinMap nat_cmp Scan). record (list_state tables bound m staged next pulled).ledger { live = l }) (mapped_remove scan_is m n number u);
+  leaves = λ honest. others tables bound m n staged number next next pulled pulled None u;
 }
 
 -- a scan that is open is whole
-pub is_whole : (tables : List ListTable) (bound : List Bool) (m : BTreeMap ℕ ListScan) (next pulled n : ℕ) (s : ListScan) (scan : Scan) → tree.get nat_cmp m n ≡ Some s → scan_of (list_state tables bound m next pulled) n ≡ Some scan → scan.broken ≡ false → s.broken ≡ false
-is_whole tables bound m next pulled n s scan is at whole =
+pub is_whole : (tables : List ListTable) (bound : List Bool) (m : BTreeMap ℕ ListScan) (staged : Option ListWrite) (next pulled n : ℕ) (s : ListScan) (scan : Scan) → tree.get nat_cmp m n ≡ Some s → scan_of (list_state tables bound m staged next pulled) n ≡ Some scan → scan.broken ≡ false → s.broken ≡ false
+is_whole tables bound m staged next pulled n s scan is at whole =
     ap (λ (z : Scan). z.broken) (some_inj (scan_is s) scan (sym (mapped_get scan_is m n ∙ ap (option_map scan_is) is) ∙ at)) ∙ whole
 
 pub if_some : {X : Type 0} (o : Option X) (P : X → Type 0) (x : X) → o ≡ Some x → IfSome o P → P x
 if_some None P x e p = absurd cc
 if_some (Some y) P x e p = subst P (some_inj y x e) p
+
+pub at_ok : {T E P : Type 0} (r : Result T E) → is_err r ≡ false → OnOk r P → P
+at_ok (Ok x) e p = p
+at_ok (Err y) e p = absurd cc

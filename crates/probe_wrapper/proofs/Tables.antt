@@ -1,5 +1,5 @@
 -- What binding does to a list wrapper.
-use Rattle.std.proofs.Common.{◌≡◌, ◌≢◌, ℕ, ◌+◌, ◌<◌, ◌≤◌, ◌⊎◌, Bool, true, false, ◌&&◌, nat_eq, List, [], ◌∷◌, Option, Some, None, length, map, option_map, slice_get, slice_index_or, slice_set, Contains, refl, ap, sym, ◌∙◌, subst, arith, rules, eqb, inl, inr}
+use Rattle.std.proofs.Common.{◌≡◌, ◌≢◌, ℕ, ◌+◌, ◌<◌, ◌≤◌, ◌⊎◌, Bool, true, false, ◌&&◌, nat_eq, List, [], ◌∷◌, Option, Some, None, IsSome, length, map, option_map, slice_get, slice_index_or, slice_set, Contains, refl, ap, sym, ◌∙◌, subst, arith, rules, eqb, inl, inr}
 use Rattle.std.specs.List.{IsDistinct, AllByRecursion}
 use Rattle.std.specs.String.{string_bytes}
 use Rattle.std.specs.BTreeMap.{BTreeMap}
@@ -16,15 +16,28 @@ use Rattle.med_value.specs.declared.value.ColType.{ColType}
 use Rattle.med_value.specs.declared.value.ColType.TheVariants as types
 use Rattle.fdw_api.specs.Kinds.{Column, Setting, Held, held, Reading}
 use Rattle.fdw_api.specs.declared.interface.Fault.TheVariants.{Refused}
-use Rattle.fdw_api.specs.State.{Bound, BoxState, set_at}
-use Rattle.fdw_api.specs.Calls.{CanBind, Binds, Unbinds, IsLeast, RefusesBind}
+use Rattle.fdw_api.specs.Scan.{Spec}
+use Rattle.fdw_api.specs.State.{Bound, BoxState, set_at, table_of}
+use Rattle.fdw_api.specs.Calls.{Allows, CanBind, Binds, Unbinds, IsLeast, RefusesBind}
 use Rattle.probe_wrapper.specs.declared.list.ListTable.{ListTable}
 use Rattle.probe_wrapper.specs.declared.list.ListScan.{ListScan}
-use Rattle.probe_wrapper.specs.Lists.{list_reading, same_text, same_type, types_match, types_of, entry_of, listed}
+use Rattle.probe_wrapper.specs.declared.changes.ListWrite.{ListWrite}
+use Rattle.probe_wrapper.specs.Lists.{list_image, list_reading, same_text, same_type, types_match, types_of, entry_of, listed}
 use Rattle.probe_wrapper.specs.Scans.{numbered, stored, entry_at, rows_at, bound_of, marked_bound, list_state}
 
 pub some_inj : {A : Type 0} (a b : A) → Some a ≡ Some b → a ≡ b
 some_inj a b q = cc
+
+bound_allows : (spec : Spec) (f : Bool) (o : Option ListTable) → IsSome (marked_bound f o) → (b : Bound) × (marked_bound f o ≡ Some b) × (b.allows spec ≡ true)
+bound_allows spec false o e = absurd cc
+bound_allows spec true None e = absurd cc
+bound_allows spec true (Some t) e = (bound_of t, refl, refl)
+
+-- a bound list allows every scan
+pub list_allows : (tables : List ListTable) (bound : List Bool) (scans : BTreeMap ℕ ListScan) (staged : Option ListWrite) (next pulled t : ℕ) (spec : Spec) → IsSome (table_of (list_state tables bound scans staged next pulled) t) → Allows (list_state tables bound scans staged next pulled) t spec
+list_allows tables bound scans staged next pulled t spec e =
+    let w = bound_allows spec (slice_index_or bound t false) (slice_get tables t) e in
+    record { bound = w.0; is = w.1; allowed = w.2 }
 
 mark_same : (bs : List Bool) (i : ℕ) (b : Bool) → i < length bs → slice_index_or (slice_set bs i b) i false ≡ b
 mark_same bs i b lt = search rules
@@ -40,10 +53,10 @@ marks tables bound t b new lt e q = split (eqb_tells q t)
     split (inl s) = rw (s.0, s.1, mark_same bound t b lt) e
     split (inr s) = rw (s.0, mark_other bound t q b s.1) refl
 
-pub list_unbinds : (tables : List ListTable) (bound : List Bool) (scans : BTreeMap ℕ ListScan) (next pulled t : ℕ) → t < length bound → Unbinds (list_state tables bound scans next pulled) t (list_state tables (slice_set bound t false) scans next pulled)
-list_unbinds tables bound scans next pulled t lt = record {
+pub list_unbinds : (tables : List ListTable) (bound : List Bool) (scans : BTreeMap ℕ ListScan) (staged : Option ListWrite) (next pulled t : ℕ) → t < length bound → Unbinds (list_state tables bound scans staged next pulled) t (list_state tables (slice_set bound t false) scans staged next pulled)
+list_unbinds tables bound scans staged next pulled t lt = record {
   nature = refl;
-  ledger = ap (λ (f : ℕ → Option Bound). record (list_state tables bound scans next pulled).ledger { tables = f }) (λ i q. marks tables bound t false None lt refl q i);
+  ledger = ap (λ (f : ℕ → Option Bound). record (list_state tables bound scans staged next pulled).ledger { tables = f }) (λ i q. marks tables bound t false None lt refl q i);
   leaves = λ honest. record { coming = λ q l o. refl; rows = λ u o. refl; holdings = λ r o. refl };
 }
 
@@ -85,18 +98,21 @@ not_marked : (s : BoxState) (t : ℕ) (x : ListTable) (f : Bool) (remote : List 
 not_marked s t x true remote free e = absurd (free (bound_of x) refl e)
 not_marked s t x false remote free e = refl
 
-pub list_binds : (tables : List ListTable) (bound : List Bool) (scans : BTreeMap ℕ ListScan) (next pulled t : ℕ) (remote : List ℕ) (columns : List Column) (settings : List Setting) (x : ListTable) → t < length bound → CanBind (list_state tables bound scans next pulled) remote columns settings → entry_of (map listed tables) remote ≡ entry_at tables (Some t) → slice_get tables t ≡ Some x → same_text (string_bytes x.name) remote ≡ true → types_match x.kinds.items (types_of columns) ≡ true → Binds (list_state tables bound scans next pulled) remote columns settings t (list_state tables (slice_set bound t true) scans next pulled)
-list_binds tables bound scans next pulled t remote columns settings x lt can is_entry at same fits =
+pub list_binds : (tables : List ListTable) (bound : List Bool) (scans : BTreeMap ℕ ListScan) (staged : Option ListWrite) (next pulled t : ℕ) (remote : List ℕ) (columns : List Column) (settings : List Setting) (x : ListTable) → t < length bound → CanBind (list_state tables bound scans staged next pulled) remote columns settings → entry_of (map listed tables) remote ≡ entry_at tables (Some t) → slice_get tables t ≡ Some x → same_text (string_bytes x.name) remote ≡ true → types_match x.kinds.items (types_of columns) ≡ true → Binds (list_state tables bound scans staged next pulled) remote columns settings t (list_state tables (slice_set bound t true) scans staged next pulled)
+list_binds tables bound scans staged next pulled t remote columns settings x lt can is_entry at same fits =
     let named : string_bytes x.name ≡ remote = (bytes_decides (string_bytes x.name) remote).0 same in
     let kinds = types_same x.kinds.items (types_of columns) fits in
-    let free : slice_index_or bound t false ≡ false = not_marked (list_state tables bound scans next pulled) t x (slice_index_or bound t false) remote (λ b e. can.free t b (ap (marked_bound (slice_index_or bound t false)) at ∙ e)) named in
+    let free : slice_index_or bound t false ≡ false = not_marked (list_state tables bound scans staged next pulled) t x (slice_index_or bound t false) remote (λ b e. can.free t b (ap (marked_bound (slice_index_or bound t false)) at ∙ e)) named in
     record {
       nature = refl;
       fresh = ap (λ (f : Bool). marked_bound f (slice_get tables t)) free;
       bound = bound_of x;
       remote_is = named;
       kinds_are = kinds;
-      ledger = ap (λ (f : ℕ → Option Bound). record (list_state tables bound scans next pulled).ledger { tables = f }) (λ i q. marks tables bound t true (Some (bound_of x)) lt (ap (marked_bound true) at) q i);
+      line_is = refl;
+      image_is = ap list_image kinds;
+      refuses_is = refl;
+      ledger = ap (λ (f : ℕ → Option Bound). record (list_state tables bound scans staged next pulled).ledger { tables = f }) (λ i q. marks tables bound t true (Some (bound_of x)) lt (ap (marked_bound true) at) q i);
       entry = Some (stored x);
       picked = λ honest. sym (is_entry ∙ ap (option_map stored) at);
       no_cause = λ honest. rw fits refl;
@@ -119,15 +135,15 @@ only_cause c p has = record {
     at_one d q d_has (inr same) = let e = some_inj p q (sym has ∙ ap phase_of same ∙ d_has) in omega arith
 
 -- a list source refuses a table that it does not have
-pub list_lacks : (tables : List ListTable) (bound : List Bool) (scans : BTreeMap ℕ ListScan) (next pulled : ℕ) (remote : List ℕ) (columns : List Column) (settings : List Setting) → entry_of (map listed tables) remote ≡ None → RefusesBind (list_state tables bound scans next pulled) remote columns settings (Refused TableNotFound) (list_state tables bound scans next pulled)
-list_lacks tables bound scans next pulled remote columns settings none = record {
+pub list_lacks : (tables : List ListTable) (bound : List Bool) (scans : BTreeMap ℕ ListScan) (staged : Option ListWrite) (next pulled : ℕ) (remote : List ℕ) (columns : List Column) (settings : List Setting) → entry_of (map listed tables) remote ≡ None → RefusesBind (list_state tables bound scans staged next pulled) remote columns settings (Refused TableNotFound) (list_state tables bound scans staged next pulled)
+list_lacks tables bound scans staged next pulled remote columns settings none = record {
   refuses = record { nature = refl; next = next; rises = omega arith; stays = λ e. e; ledger = refl; leaves = λ honest. record { coming = λ q l o. refl; rows = λ u o. refl; holdings = λ r o. refl } };
   cause = λ honest. (None, sym none, only_cause TableNotFound 5 refl);
 }
 
 -- and columns of other types
-pub list_mismatches : (tables : List ListTable) (bound : List Bool) (scans : BTreeMap ℕ ListScan) (next pulled t : ℕ) (remote : List ℕ) (columns : List Column) (settings : List Setting) (x : ListTable) → entry_of (map listed tables) remote ≡ entry_at tables (Some t) → slice_get tables t ≡ Some x → types_match x.kinds.items (types_of columns) ≡ false → RefusesBind (list_state tables bound scans next pulled) remote columns settings (Refused InvalidDataType) (list_state tables bound scans next pulled)
-list_mismatches tables bound scans next pulled t remote columns settings x is_entry at differs = record {
+pub list_mismatches : (tables : List ListTable) (bound : List Bool) (scans : BTreeMap ℕ ListScan) (staged : Option ListWrite) (next pulled t : ℕ) (remote : List ℕ) (columns : List Column) (settings : List Setting) (x : ListTable) → entry_of (map listed tables) remote ≡ entry_at tables (Some t) → slice_get tables t ≡ Some x → types_match x.kinds.items (types_of columns) ≡ false → RefusesBind (list_state tables bound scans staged next pulled) remote columns settings (Refused InvalidDataType) (list_state tables bound scans staged next pulled)
+list_mismatches tables bound scans staged next pulled t remote columns settings x is_entry at differs = record {
   refuses = record { nature = refl; next = next; rises = omega arith; stays = λ e. e; ledger = refl; leaves = λ honest. record { coming = λ q l o. refl; rows = λ u o. refl; holdings = λ r o. refl } };
   cause = λ honest. (Some (stored x), sym (is_entry ∙ ap (option_map stored) at), subst (λ (r : Reading). IsLeast r.causes InvalidDataType) (sym reading) (only_cause InvalidDataType 5 refl));
 }

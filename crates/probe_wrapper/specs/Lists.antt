@@ -1,5 +1,5 @@
 -- List sources: tables of rows in memory, and what binding one gives.
-use Rattle.std.specs.Prelude.{◌≡◌, ℕ, Bool, true, false, not, ◌&&◌, List, [], ◌∷◌, map, Option, Some, None, if◌then◌else◌, nat_eq}
+use Rattle.std.specs.Prelude.{◌≡◌, ℕ, Bool, true, false, not, ◌&&◌, List, [], ◌∷◌, map, length, Option, Some, None, if◌then◌else◌, nat_eq, nat_lt}
 use Rattle.std.specs.List.{list_all}
 use Rattle.std.specs.String.{string_bytes}
 use lib.Pointwise.{pointwise}
@@ -7,10 +7,12 @@ use Rattle.med_value.specs.Datum.{Tuple, tuple}
 use Rattle.med_value.specs.declared.value.ColType.{ColType}
 use Rattle.med_value.specs.declared.value.ColType.TheVariants as types
 use Rattle.med_value.specs.declared.cause.Cause.{Cause}
-use Rattle.med_value.specs.declared.cause.Cause.TheVariants.{InvalidOptionName, TableNotFound, InvalidDataType}
+use Rattle.med_value.specs.declared.cause.Cause.TheVariants.{InvalidOptionName, TableNotFound, InvalidDataType, TooLarge}
+use Rattle.med_value.specs.Causes.{phase_of}
 use Rattle.fdw_api.specs.Scan.{row_fits}
-use Rattle.fdw_api.specs.Kinds.{Kind, Column, Setting, Entry, Bytes, Stored, Known, Reading}
+use Rattle.fdw_api.specs.Kinds.{Kind, Column, Setting, Entry, Bytes, Stored, Known, Held, Reading, Refusals, is_of_run}
 use Rattle.fdw_api.specs.State.{BoxState, IsIdle, is_honest}
+use Rattle.fdw_api.specs.Writes.{rows_after}
 use Rattle.probe_wrapper.specs.declared.list.ListTable.{ListTable}
 
 -- a table of a list source: its name, the types of its columns and its rows
@@ -70,10 +72,36 @@ list_reading declared (Some (Stored own rows)) =
     if types_match own declared then record { causes = []; rows = map (λ r. record { cells = r; origin = [] }) rows; late = mathlib.Core.Path.refl }
     else record { causes = InvalidDataType ∷ []; rows = []; late = mathlib.Core.Path.refl }
 
+-- a list keeps no lines
+abbrev pub no_line : Tuple → List (List ℕ)
+no_line cells = []
+
+-- a written table has its types and these rows
+abbrev pub list_image : List ColType → Option Entry → List Held → Option Entry
+list_image declared entry rows = Some (Stored declared (map (λ r. r.cells) rows))
+
+abbrev pub size_causes : Bool → List Cause
+size_causes true = TooLarge ∷ []
+size_causes false = []
+
+pub size_is_of_run : (b : Bool) → list_all (λ c. is_of_run (phase_of c)) (size_causes b) ≡ true
+size_is_of_run true = mathlib.Core.Path.refl
+size_is_of_run false = mathlib.Core.Path.refl
+
+-- a write is refused by 54000 alone, where it would leave more than 1,000,000 rows
+abbrev pub list_refusals : Refusals
+list_refusals = record {
+  causes = λ rows changes. size_causes (nat_lt 1000000 (length (rows_after no_line rows changes)));
+  of_run = λ rows changes. size_is_of_run (nat_lt 1000000 (length (rows_after no_line rows changes)));
+}
+
 abbrev pub list_kind : Kind
 list_kind = record {
   objections = λ columns settings. list_objections settings;
   reads = λ columns settings entry. list_reading (types_of columns) entry;
+  line = λ columns settings. no_line;
+  image = λ columns settings. list_image (types_of columns);
+  refuses = λ columns settings. list_refusals;
 }
 
 -- a new list source of these tables: honest, nothing bound, live or staged, nothing counted, and each table under its name

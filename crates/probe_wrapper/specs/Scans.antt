@@ -14,7 +14,9 @@ use Rattle.fdw_api.specs.Calls.{row_of}
 use Rattle.fdw_api.specs.declared.interface.SourceRow.{SourceRow}
 use Rattle.probe_wrapper.specs.declared.list.ListTable.{ListTable}
 use Rattle.probe_wrapper.specs.declared.list.ListScan.{ListScan}
-use Rattle.probe_wrapper.specs.Lists.{entry_of, listed, list_kind}
+use Rattle.probe_wrapper.specs.declared.changes.ListWrite.{ListWrite}
+use Rattle.probe_wrapper.specs.Lists.{entry_of, listed, list_kind, list_image, list_refusals, no_line}
+use Rattle.probe_wrapper.specs.Changes.{write_is}
 
 -- rows with their places as ids
 abbrev pub numbered : ℕ → List Row → List TableRow
@@ -59,6 +61,9 @@ bound_of t = record {
   kinds = t.kinds.items;
   allows = λ spec. true;
   allows_plain = λ wanted offered. mathlib.Core.Path.refl;
+  line = no_line;
+  image = list_image t.kinds.items;
+  refuses = list_refusals;
 }
 
 -- the table at a place, where it is marked as bound
@@ -78,11 +83,11 @@ scan_rows tables None = []
 scan_rows tables (Some s) = coming_from (spec_of s.spec) (map datum s.params.items) s.at (drop s.at (rows_at tables s.table))
 
 -- a list never fails by its source, so that `faults` stays 0
-abbrev pub list_ledger : List ListTable → List Bool → BTreeMap ℕ ListScan → ℕ → ℕ → Ledger
-list_ledger tables bound scans next pulled = record {
+abbrev pub list_ledger : List ListTable → List Bool → BTreeMap ℕ ListScan → Option ListWrite → ℕ → ℕ → Ledger
+list_ledger tables bound scans staged next pulled = record {
   tables = λ t. marked_bound (slice_index_or bound t false) (slice_get tables t);
   live = mapped scan_is scans.entries;
-  staged = None;
+  staged = option_map write_is staged;
   next = next;
   pulled = pulled;
   faults = 0;
@@ -98,5 +103,5 @@ list_content tables scans = record {
 abbrev pub list_nature : Nature
 list_nature = record { kind = list_kind; honest = true }
 
-abbrev pub list_state : List ListTable → List Bool → BTreeMap ℕ ListScan → ℕ → ℕ → BoxState
-list_state tables bound scans next pulled = record { nature = list_nature; ledger = list_ledger tables bound scans next pulled; content = list_content tables scans }
+abbrev pub list_state : List ListTable → List Bool → BTreeMap ℕ ListScan → Option ListWrite → ℕ → ℕ → BoxState
+list_state tables bound scans staged next pulled = record { nature = list_nature; ledger = list_ledger tables bound scans staged next pulled; content = list_content tables scans }

@@ -1,17 +1,19 @@
 //! Tables of rows in memory.
-ghost use Rattle.std.specs.Prelude.{◌≡◌, ◌≤◌, ◌<◌, [], ℕ, List, map, length, Some, None, IfOk, IsSome, IfSome, IsTrue, true, slice_get};
+ghost use Rattle.std.specs.Prelude.{◌≡◌, ◌≤◌, ◌<◌, [], ℕ, List, map, length, replicate, Some, None, IfOk, IfErr, IsSome, IfSome, IsTrue, true, slice_get};
 ghost use Rattle.std.specs.Ordering.{nat_cmp};
 ghost use Rattle.std.specs.BTreeMap as tree;
 ghost use Rattle.std.specs.String.{string_bytes};
 ghost use Rattle.med_value.specs.Datum.{datum};
 ghost use Rattle.fdw_api.specs.Scan.{spec_of};
+ghost use Rattle.fdw_api.specs.declared.scan.Agree.TheVariants.{Exact};
 ghost use Rattle.fdw_api.specs.Kinds.{Column, column_of};
 ghost use Rattle.probe_wrapper.specs.declared.list.ListTable.{ListTable};
 ghost use Rattle.probe_wrapper.specs.Lists.{listed, entry_of, names_differ, rows_fit, IsNewList, same_text, types_match, types_of};
 ghost use Rattle.probe_wrapper.specs.Scans.{NextIs, entry_at, rows_at};
 
+use crate::changes::{ListChange, ListWrite, add_change, applied};
 use fdw_api::interface::{Counts, Fault, Opt, RowId, SourceRow, TableNo, Ticket, Wrapper};
-use fdw_api::scan::{ScanSpec, copy_values, meets_taken};
+use fdw_api::scan::{Agree, Agreement, Restriction, ScanSpec, copy_values, meets_taken};
 use med_value::{Cause, ColType, ColumnDef, NoMemory, Row, Value};
 use std::alloc::Global;
 use std::collections::BTreeMap;
@@ -40,15 +42,19 @@ struct ListScan {
 /// Tables of rows in memory, as a source of foreign tables.
 ///
 /// It answers `Fault::Source` never. Its kind is `list_kind`: the name of a table stands for it, and its columns may have any names.
-/// The number of a table is its place, and the id of a row is its place in its table.
+/// The number of a table is its place, and the id of a row is its place in its table. It takes over every restriction, and gives the
+/// wanted columns alone where it is asked to. A write that is kept leaves the rows that stay in list order, and then the new ones; over
+/// 1,000,000 rows it is refused by `Cause::TooLarge` (54000).
 #[derive(Drop)]
 pub struct ListWrapper {
     tables: Vec<ListTable>,
     bound: Vec<bool>,
     scans: BTreeMap<u64, ListScan>,
+    staged: Option<ListWrite>,
     next: u64,
     pulled: u64,
     ghost marked: { length bound.items ≡ length tables.items },
+    ghost distinct: { IsTrue (names_differ (map listed tables.items)) },
     ghost fresh: { (k : ℕ) → next ≤ k → tree.get nat_cmp scans k ≡ None },
 }
 
@@ -70,6 +76,7 @@ impl ListWrapper {
             tables,
             bound,
             scans: BTreeMap::new(alloc),
+            staged: None,
             next: 0,
             pulled: 0,
         })
@@ -156,6 +163,20 @@ fn spoil(scans: &mut BTreeMap<u64, ListScan>, number: u64)
     }
 }
 
+/// Begins a scan again.
+fn restart(scans: &mut BTreeMap<u64, ListScan>, number: u64, params: Vec<Value>)
+    requires { IsSome (tree.get nat_cmp scans.old number) }
+    ensures { IfSome (tree.get nat_cmp scans.old number) (λ s. tree.Updates nat_cmp scans.old scans.new number (Some (record s { params = params; at = 0 }))) }
+{
+    match scans.get_mut(&number) {
+        Some(scan) => {
+            scan.params = params;
+            scan.at = 0;
+        }
+        None => unreachable!(),
+    }
+}
+
 /// The next row of a live scan.
 fn row_of_scan(
     alloc: Global,
@@ -176,6 +197,9 @@ fn row_of_scan(
 }
 
 impl Wrapper for ListWrapper {
+    ghost use Rattle.fdw_api.specs.Scan.{filter_of, spec_by};
+    ghost use Rattle.fdw_api.specs.State.{table_of};
+    ghost use Rattle.fdw_api.specs.Calls.{Allows};
     ghost use Rattle.probe_wrapper.specs.ListBoxes.{box_of};
 
     ghost meaning = { box_of };
@@ -199,6 +223,28 @@ impl Wrapper for ListWrapper {
 
     fn unbind(&mut self, t: TableNo) {
         self.bound[t.number as usize] = false;
+    }
+
+    /// Takes over every restriction, and gives the wanted columns alone.
+    fn plan(
+        &self,
+        alloc: Global,
+        _t: TableNo,
+        _wanted: &[usize],
+        offered: &[Restriction],
+    ) -> Result<Agreement, Fault>
+        requires { IsSome (table_of (box_of self.now) _t.number) }
+        ensures ok { IfOk result (λ a. Allows (box_of self.now) _t.number (spec_by _wanted.now (map filter_of offered.now) a)) }
+        ensures each { IfOk result (λ a. length a.answers.items ≡ length offered.now) }
+        ensures err { IfErr result (λ fault. fault ≡ Fault.NoMemory) }
+        ensures takes_all { IfOk result (λ a. a.answers.items ≡ replicate (length offered.now) Exact) }
+        ensures narrow { IfOk result (λ a. a.narrow ≡ true) }
+    {
+        let answers = vec![in alloc; Agree::Exact; offered.len()]?;
+        Ok(Agreement {
+            answers,
+            narrow: true,
+        })
     }
 
     fn begin(
@@ -242,9 +288,64 @@ impl Wrapper for ListWrapper {
         }
     }
 
+    fn rescan(&mut self, alloc: Global, ticket: &Ticket, params: &[Value]) -> Result<(), Fault> {
+        match copy_values(alloc, params) {
+            Err(_) => {
+                spoil(&mut self.scans, ticket.number);
+                Err(Fault::NoMemory)
+            }
+            Ok(params) => {
+                restart(&mut self.scans, ticket.number, params);
+                Ok(())
+            }
+        }
+    }
+
     fn end(&mut self, ticket: Ticket) {
         let Ticket { number } = ticket;
         let _ = self.scans.remove(&number);
+    }
+
+    fn begin_modify(&mut self, alloc: Global, t: TableNo) -> Result<(), Fault> {
+        self.staged = Some(ListWrite {
+            table: t.number,
+            changes: Vec::new(alloc),
+            broken: false,
+        });
+        Ok(())
+    }
+
+    fn insert(&mut self, _alloc: Global, row: Row) -> Result<(), Fault> {
+        add_change(&mut self.staged, ListChange::Insert(row))
+    }
+
+    fn update(&mut self, _alloc: Global, id: RowId, row: Row) -> Result<(), Fault> {
+        add_change(&mut self.staged, ListChange::Update(id.number, row))
+    }
+
+    fn delete(&mut self, _alloc: Global, id: RowId) -> Result<(), Fault> {
+        add_change(&mut self.staged, ListChange::Delete(id.number))
+    }
+
+    fn end_modify(&mut self, alloc: Global, keep: bool) -> Result<(), Fault> {
+        let Some(staged) = self.staged.take() else {
+            return Ok(());
+        };
+        if !keep {
+            return Ok(());
+        }
+        let ListWrite {
+            table,
+            changes,
+            broken: _,
+        } = staged;
+        let at = table as usize;
+        let rows = applied(alloc, &self.tables[at].rows, changes)?;
+        if rows.len() > 1_000_000 {
+            return Err(Fault::Refused(Cause::TooLarge));
+        }
+        self.tables[at].rows = rows;
+        Ok(())
     }
 
     fn ledger(&self) -> Counts {

@@ -1,0 +1,71 @@
+-- What is said of the inner wrapper is said of a counting one.
+use Rattle.std.proofs.Common.{ℕ, Bool, true, false, List, ap, Result, Ok, Err, IfOk, IfErr}
+use Rattle.fdw_api.specs.Scan.{Spec}
+use Rattle.fdw_api.specs.Kinds.{Column, Setting, Change}
+use Rattle.fdw_api.specs.State.{BoxState, Ledger, Staging}
+use Rattle.fdw_api.specs.Calls.{Leaves, Binds, Allows}
+use Rattle.fdw_api.specs.Writes.{RefusesChange, Closes, Outcome, ChangeCause}
+use Rattle.fdw_api.specs.declared.interface.Fault.{Fault}
+use Rattle.fdw_api.specs.declared.interface.Fault.TheVariants.{NoMemory, Source, Refused}
+use Rattle.probe_wrapper.specs.Counting.{counted}
+
+pub if_ok : {T E : Type 0} (P Q : T → Type 0) (r : Result T E) → ((x : T) → P x → Q x) → IfOk r P → IfOk r Q
+if_ok P Q (Ok x) f p = f x p
+if_ok P Q (Err e) f p = tt
+
+pub if_err : {T E : Type 0} (P Q : E → Type 0) (r : Result T E) → ((x : E) → P x → Q x) → IfErr r P → IfErr r Q
+if_err P Q (Ok x) f p = tt
+if_err P Q (Err e) f p = f e p
+
+leaves : {tickets tables : ℕ → Type 0} {remotes : List ℕ → Type 0} (s t : BoxState) (p : ℕ) → Leaves tickets tables remotes s t → Leaves tickets tables remotes (counted s p) (counted t p)
+leaves s t p l = record { coming = l.coming; rows = l.rows; holdings = l.holdings }
+
+pub binds : (p : ℕ) (s t : BoxState) (remote : List ℕ) (columns : List Column) (settings : List Setting) (n : ℕ) → Binds s remote columns settings n t → Binds (counted s p) remote columns settings n (counted t p)
+binds p s t remote columns settings n b = record {
+  nature = b.nature;
+  fresh = b.fresh;
+  bound = b.bound;
+  remote_is = b.remote_is;
+  kinds_are = b.kinds_are;
+  line_is = b.line_is;
+  image_is = b.image_is;
+  refuses_is = b.refuses_is;
+  ledger = ap (λ (l : Ledger). record l { pulled = p }) b.ledger;
+  entry = b.entry;
+  picked = b.picked;
+  no_cause = b.no_cause;
+  rows = b.rows;
+  once = b.once;
+  leaves = λ h. leaves s t p (b.leaves h);
+}
+
+pub allows : (p : ℕ) (s : BoxState) (t : ℕ) (spec : Spec) → Allows s t spec → Allows (counted s p) t spec
+allows p s t spec a = record { bound = a.bound; is = a.is; allowed = a.allowed }
+
+cause : (p : ℕ) (s : BoxState) (staging : Staging) (change : Change) (fault : Fault) → ChangeCause s staging change fault → ChangeCause (counted s p) staging change fault
+cause p s staging change NoMemory c = tt
+cause p s staging change Source c = tt
+cause p s staging change (Refused x) c = c
+
+pub refuses_change : (p : ℕ) (s t : BoxState) (change : Change) (fault : Fault) → RefusesChange s change fault t → RefusesChange (counted s p) change fault (counted t p)
+refuses_change p s t change fault r = record {
+  nature = r.nature;
+  staging = r.staging;
+  is_staged = r.is_staged;
+  ledger = ap (λ (l : Ledger). record l { pulled = p }) r.ledger;
+  cause = cause p s r.staging change fault r.cause;
+  leaves = λ h. leaves s t p (r.leaves h);
+}
+
+outcome : (p : ℕ) (s t : BoxState) (keep : Bool) (staging : Staging) → Outcome s keep staging t → Outcome (counted s p) keep staging (counted t p)
+outcome p s t true staging w = record { bound = w.bound; is = w.is; no_cause = w.no_cause; rows = w.rows; once = w.once; holdings = w.holdings; leaves = leaves s t p w.leaves }
+outcome p s t false staging l = leaves s t p l
+
+pub closes : (p : ℕ) (s t : BoxState) (keep : Bool) → Closes s keep t → Closes (counted s p) keep (counted t p)
+closes p s t keep c = record {
+  nature = c.nature;
+  staging = c.staging;
+  is_staged = c.is_staged;
+  ledger = ap (λ (l : Ledger). record l { pulled = p }) c.ledger;
+  content = λ h. outcome p s t keep c.staging (c.content h);
+}
