@@ -9,3 +9,5 @@ pub mod ExprLoops
 pub mod ExprTerminals
 pub mod ExprWeighing
 pub mod ExprParsed
+pub mod ExprPrints
+pub mod ExprQuoting

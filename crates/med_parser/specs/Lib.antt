@@ -13,3 +13,4 @@ pub mod ExprAnswers
 pub mod ExprTerminals
 pub mod ExprGrammar
 pub mod ExprWeight
+pub mod ExprPrinting

@@ -10,6 +10,7 @@
 mod expr;
 mod expr_build;
 mod expr_laws;
+mod expr_print;
 mod expr_reader;
 mod expr_symbols;
 mod expr_text;
@@ -22,7 +23,8 @@ mod symbols;
 mod words;
 
 pub use expr::{BinaryOp, CompareOp, Expr, Joint, Status};
-pub use expr_laws::one_expression;
+pub use expr_laws::{one_expression, printed_expression};
+pub use expr_print::print_expression;
 pub use expr_text::expression;
 pub use parser::{one_tree, parse};
 pub use statement::{Select, Statement};
