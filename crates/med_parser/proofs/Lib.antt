@@ -3,3 +3,11 @@ pub mod Complete
 pub mod Sound
 pub mod ListLoop
 pub mod Parsed
+pub mod ExprComplete
+pub mod ExprSound
+pub mod ExprLoops
+pub mod ExprTerminals
+pub mod ExprWeighing
+pub mod ExprParsed
+pub mod ExprPrints
+pub mod ExprQuoting

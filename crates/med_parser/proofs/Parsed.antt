@@ -27,7 +27,7 @@ one_tree one text a b x y =
     let same : x.0 ≡ y.0 = one text x.0 y.0 x.1 y.1 in
     some_is a b (sym (line_takes (shapes x.0) a x.2) ∙ ap (λ ts. read_line (shapes ts)) same ∙ line_takes (shapes y.0) b y.2)
 
-shapes_are : (ts : List Token) → shapes (views ts) ≡ shapes_of ts
+pub shapes_are : (ts : List Token) → shapes (views ts) ≡ shapes_of ts
 shapes_are [] = refl
 shapes_are (t ∷ ts) = ap (λ ss. shape_of t.kind ∷ ss) (shapes_are ts)
 
@@ -87,10 +87,10 @@ any_map P f (x ∷ xs) (suc k) y l e p =
     let a = any_map P f xs k y (omega arith) e p in
     (suc a.0, a.1, omega (arith, a.2), a.3, a.4)
 
-short_names : (ts : List Token) → Any IsLongName (shapes_of ts) → Any (λ (t : Token). IsLongName (shape_of t.kind)) ts
+pub short_names : (ts : List Token) → Any IsLongName (shapes_of ts) → Any (λ (t : Token). IsLongName (shape_of t.kind)) ts
 short_names ts h = any_map IsLongName (λ (t : Token). shape_of t.kind) ts h.0 h.1 h.2 h.3 h.4
 
-long_name : (ts : List Token) → Any (λ (t : Token). IsLongName (shape_of t.kind)) ts → Any IsLongName (shapes_of ts)
+pub long_name : (ts : List Token) → Any (λ (t : Token). IsLongName (shape_of t.kind)) ts → Any IsLongName (shapes_of ts)
 long_name ts h =
     let f : Token → Shape = λ t. shape_of t.kind in
     (h.0, f h.1, omega (arith, h.2, length-map ts f), get_or-map f ts h.0 h.1 ∙ ap f h.3, h.4)

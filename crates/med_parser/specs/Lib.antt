@@ -4,3 +4,13 @@ pub mod Grammar
 pub mod Causes
 pub mod View
 pub mod Reading
+pub mod Terminal
+pub mod ExprTree
+pub mod ExprReading
+pub mod ExprView
+pub mod ExprSteps
+pub mod ExprAnswers
+pub mod ExprTerminals
+pub mod ExprGrammar
+pub mod ExprWeight
+pub mod ExprPrinting

@@ -15,7 +15,7 @@ use med_value::Cause;
 use std::alloc::Global;
 
 /// The tokens of a text.
-fn tokens_of(alloc: Global, text: &str) -> Result<Vec<Token>, ParseFault>
+pub fn tokens_of(alloc: Global, text: &str) -> Result<Vec<Token>, ParseFault>
     ensures { LexesOnly result text.now }
 {
     one_list();

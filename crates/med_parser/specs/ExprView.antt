@@ -1,0 +1,65 @@
+-- Expressions and symbols without where they lie in memory.
+use Rattle.std.specs.Prelude.{List, [], ◌∷◌, map, option_map}
+use Rattle.std.specs.String.{string_bytes}
+use Rattle.med_parser.specs.declared.expr.Expr.{Expr}
+use Rattle.med_parser.specs.declared.expr.Expr.TheOpen.{Expr-F}
+use Rattle.med_parser.specs.declared.expr.Expr.TheFolds.{fold-Expr}
+use Rattle.med_parser.specs.declared.symbols.Symbol.{Symbol}
+use Rattle.med_parser.specs.declared.symbols.Symbol.TheVariants as s
+use Rattle.med_parser.specs.Terminal.{Terminal}
+use Rattle.med_parser.specs.Terminal as t
+use Rattle.med_parser.specs.ExprTree.{ExprTree, ExprTrees, num, negative, text, truth, null, column, paren, minus, binary, between, among, like, compare, tested, negation, chain, none, more}
+
+abbrev pub terminal_of_symbol : Symbol → Terminal
+terminal_of_symbol s.LeftParen = t.LeftParen
+terminal_of_symbol s.RightParen = t.RightParen
+terminal_of_symbol s.Comma = t.Comma
+terminal_of_symbol s.Dot = t.Dot
+terminal_of_symbol s.Semicolon = t.Semicolon
+terminal_of_symbol (s.Binary op) = t.Binary op
+terminal_of_symbol (s.Compare op) = t.Compare op
+terminal_of_symbol (s.Joint j) = t.Joined j
+terminal_of_symbol s.Not = t.Not
+terminal_of_symbol s.Between = t.Between
+terminal_of_symbol s.In = t.In
+terminal_of_symbol s.Is = t.Is
+terminal_of_symbol s.Like = t.Like
+terminal_of_symbol s.Null = t.Null
+terminal_of_symbol (s.Truth b) = t.Truth b
+terminal_of_symbol s.Unknown = t.Unknown
+terminal_of_symbol (s.Number n) = t.Num n
+terminal_of_symbol (s.Text x) = t.Text (string_bytes x)
+terminal_of_symbol (s.Name x) = t.Name (string_bytes x)
+terminal_of_symbol (s.Reserved x) = t.Reserved (string_bytes x)
+
+abbrev pub terminals_of : List Symbol → List Terminal
+terminals_of = map terminal_of_symbol
+
+abbrev pub trees_of : List ExprTree → ExprTrees
+trees_of [] = none
+trees_of (e ∷ es) = more e (trees_of es)
+
+-- one layer, with the trees of its parts
+abbrev pub step : Expr-F ExprTree → ExprTree
+step (Expr-F.Number n) = num n
+step (Expr-F.Negative n) = negative n
+step (Expr-F.Text x) = text (string_bytes x)
+step (Expr-F.Truth b) = truth b
+step Expr-F.Null = null
+step (Expr-F.Column q n) = column (option_map string_bytes q) (string_bytes n)
+step (Expr-F.Paren e) = paren e.value
+step (Expr-F.Minus e) = minus e.value
+step (Expr-F.Binary op a b) = binary op a.value b.value
+step (Expr-F.Between neg e low high) = between neg e.value low.value high.value
+step (Expr-F.In neg e first others) = among neg e.value first.value (trees_of others.items)
+step (Expr-F.Like neg e x) = like neg e.value (string_bytes x)
+step (Expr-F.Compare op a b) = compare op a.value b.value
+step (Expr-F.Is neg e s) = tested neg e.value s
+step (Expr-F.Not e) = negation e.value
+step (Expr-F.Chain joint first others) = chain joint first.value (trees_of others.items)
+
+abbrev pub expr_tree : Expr → ExprTree
+expr_tree = fold-Expr ExprTree step
+
+abbrev pub expr_trees : List Expr → ExprTrees
+expr_trees es = trees_of (map expr_tree es)

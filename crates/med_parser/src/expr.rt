@@ -1,0 +1,92 @@
+//! Expressions, as they are written.
+
+/// An operator between two numbers (SQL:2016, 6.29 <numeric value expression>).
+#[derive(Clone, Copy, Debug, PartialEq, Eq, Drop)]
+pub enum BinaryOp {
+    /// `+`
+    Add,
+    /// `-`
+    Sub,
+    /// `*`
+    Mul,
+    /// `/`
+    Div,
+    /// `%`
+    Rem,
+}
+
+/// A comparison (SQL:2016, 8.2 <comparison predicate>).
+#[derive(Clone, Copy, Debug, PartialEq, Eq, Drop)]
+pub enum CompareOp {
+    /// `=`
+    Equal,
+    /// `<>`
+    Differ,
+    /// `<`
+    Less,
+    /// `<=`
+    AtMost,
+    /// `>`
+    Greater,
+    /// `>=`
+    AtLeast,
+}
+
+/// What joins conditions.
+#[derive(Clone, Copy, Debug, PartialEq, Eq, Drop)]
+pub enum Joint {
+    /// `OR`
+    Or,
+    /// `AND`
+    And,
+}
+
+/// What `IS` asks for (SQL:2016, 8.8 <null predicate> and 6.39 <boolean test>).
+#[derive(Clone, Copy, Debug, PartialEq, Eq, Drop)]
+pub enum Status {
+    /// `NULL`
+    Null,
+    /// `TRUE`
+    True,
+    /// `FALSE`
+    False,
+    /// `UNKNOWN`
+    Unknown,
+}
+
+/// An expression, with each pair of its parentheses. A `bool` at the front of a test says whether it is written with `NOT`.
+#[derive(Debug, PartialEq, Eq, Drop)]
+pub enum Expr {
+    /// A number without a sign, at most 9223372036854775807.
+    Number(u64),
+    /// A number directly behind a unary minus, at most 9223372036854775808.
+    Negative(u64),
+    /// `'text'`
+    Text(String),
+    /// `TRUE` or `FALSE`
+    Truth(bool),
+    /// `NULL`
+    Null,
+    /// `[qualifier .] column`
+    Column(Option<String>, String),
+    /// `( e )`
+    Paren(Box<Expr>),
+    /// `- e`
+    Minus(Box<Expr>),
+    /// `a op b`
+    Binary(BinaryOp, Box<Expr>, Box<Expr>),
+    /// `e [NOT] BETWEEN low AND high`
+    Between(bool, Box<Expr>, Box<Expr>, Box<Expr>),
+    /// `e [NOT] IN ( first {, other} )`
+    In(bool, Box<Expr>, Box<Expr>, Vec<Expr>),
+    /// `e [NOT] LIKE 'pattern'`
+    Like(bool, Box<Expr>, String),
+    /// `a op b`
+    Compare(CompareOp, Box<Expr>, Box<Expr>),
+    /// `e IS [NOT] status`
+    Is(bool, Box<Expr>, Status),
+    /// `NOT e`
+    Not(Box<Expr>),
+    /// `first AND other {AND other}`, or the same with `OR`
+    Chain(Joint, Box<Expr>, Vec<Expr>),
+}
