@@ -15,6 +15,7 @@ mod faults;
 mod memory;
 mod served;
 mod slots;
+mod sources;
 
 const STORED: &[u8] = b"1 OPEN ann\n1 Q SELECT id, name FROM parts\n";
 
