@@ -57,7 +57,8 @@ fn query_of_a_source_that_fails_is_refused_and_can_be_sent_again(
     rt: HostRuntime,
 ) -> Result<(), Fail> {
     let input = b"1 OPEN ann\n1 Q SELECT id, name FROM parts\n1 Q SELECT id, name FROM parts\n";
-    let wanted: &[u8] = b"1 T OPEN\n1 E HV000 fdw_error\n1 H\tid\tname\n1 R\t1\tbolt\n1 R\t2\tnut\n1 R\t3\t\\N\n1 T SELECT 3\n";
+    let wanted: &[u8] =
+        b"1 T OPEN\n1 E HV000 fdw_error\n1 H\tid\tname\n1 R\t1\tbolt\n1 R\t2\tnut\n1 R\t3\t\\N\n1 T SELECT 3\n";
     for (passes, next, pulled) in [(2, 1, 3), (3, 2, 3), (4, 2, 4), (5, 2, 5), (6, 2, 6)] {
         let mut out = Vec::new(rt.alloc());
         let (ended, counts) = serve_failing(rt.alloc(), passes, input, &mut out)?;
@@ -94,7 +95,11 @@ fn source_that_does_not_fail_yet_answers(rt: HostRuntime) -> Result<(), Fail> {
 fn source_that_fails_when_bound_cannot_be_opened(rt: HostRuntime) -> Result<(), Fail> {
     for passes in 0..2 {
         let refused = failing_engine(rt.alloc(), passes).err();
-        assert_eq!(rt; refused, Some(RunFault::CannotOpen("demo")), "after {passes} calls");
+        assert_eq!(rt;
+            refused,
+            Some(RunFault::CannotOpen("demo")),
+            "after {passes} calls"
+        );
     }
     Ok(())
 }
