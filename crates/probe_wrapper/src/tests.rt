@@ -393,7 +393,7 @@ fn insert_order<W: Wrapper>(source: &mut W, alloc: Global, table: TableNo) -> Re
 #[test]
 fn kept_write_is_read(rt: HostRuntime) -> Result<(), Fail> {
     let alloc = rt.alloc();
-    let mut source = in_failing(in_shy(in_counting(new_list(alloc)?)), 9);
+    let mut source = in_failing(in_shy(in_counting(new_list(alloc)?)), 20);
     let table = bind_orders(&mut source, alloc)?;
     insert_order(&mut source, alloc, table)?;
     let mut out = Vec::new(alloc);
