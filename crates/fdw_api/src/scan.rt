@@ -194,6 +194,13 @@ impl Restriction {
         })
     }
 
+    /// Whether the restriction is true of a row that has this value in its column.
+    pub fn is_met_by(&self, value: &Value, params: &[Value]) -> bool
+        ensures { result ≡ checks (map datum params.now) (check_of self.now.test) (datum value.now) }
+    {
+        self.test.passes(value, params)
+    }
+
     /// Whether the restriction is true of a row.
     pub fn is_met(&self, row: &Row, params: &[Value]) -> bool
         ensures { result ≡ meets (map datum params.now) (tuple row.now) (filter_of self.now) }

@@ -56,7 +56,7 @@ count_on given row pulled =
 some_inj : {A : Type 0} (a b : A) → Some a ≡ Some b → a ≡ b
 some_inj a b q = cc
 
-honest_on : (old new : BoxState) → new.nature ≡ old.nature → is_honest old → is_honest new
+pub honest_on : (old new : BoxState) → new.nature ≡ old.nature → is_honest old → is_honest new
 honest_on old new e h = ap (λ (n : Nature). n.honest) e ∙ h
 
 -- leaving other tickets alone goes on
@@ -187,7 +187,7 @@ live_again t spec params n old begun last b k = finmap.same_map nat_cmp_total na
     split q (inr s) = gone_other last.ledger.live n q s.1 ∙ k.others q s.1 ∙ begun_others t spec params n old begun b q s.1
 
 -- begun, read and ended: no other ticket, table or remote entry has changed
-left_again : (t : ℕ) (spec : Spec) (params : Tuple) (n : ℕ) (old begun last new : BoxState) → Begins old t spec params n begun → Keeps n begun last → Ends last n new → is_honest old → LeavesAll old new
+pub left_again : (t : ℕ) (spec : Spec) (params : Tuple) (n : ℕ) (old begun last new : BoxState) → Begins old t spec params n begun → Keeps n begun last → Ends last n new → is_honest old → LeavesAll old new
 left_again t spec params n old begun last new b k e h =
     let hb = honest_on old begun b.nature h in
     let hl = honest_on begun last k.nature hb in
@@ -202,7 +202,7 @@ left_again t spec params n old begun last new b k e h =
     }
 
 -- begun, read and ended: the ledger but for `pulled` and `faults`
-ledger_again : (t : ℕ) (spec : Spec) (params : Tuple) (n pulled faults : ℕ) (old begun last new : BoxState) → Begins old t spec params n begun → Keeps n begun last → last.ledger.pulled ≡ pulled → last.ledger.faults ≡ faults → Ends last n new → new.ledger ≡ record old.ledger { next = old.ledger.next + 1; pulled = pulled; faults = faults }
+pub ledger_again : (t : ℕ) (spec : Spec) (params : Tuple) (n pulled faults : ℕ) (old begun last new : BoxState) → Begins old t spec params n begun → Keeps n begun last → last.ledger.pulled ≡ pulled → last.ledger.faults ≡ faults → Ends last n new → new.ledger ≡ record old.ledger { next = old.ledger.next + 1; pulled = pulled; faults = faults }
 ledger_again t spec params n pulled faults old begun last new b k p f e =
     e.ledger ∙ same_ledger (record last.ledger { live = finmap.remove last.ledger.live n }) (record old.ledger { next = old.ledger.next + 1; pulled = pulled; faults = faults })
     (k.tables ∙ ap (λ z. z.tables) b.ledger)

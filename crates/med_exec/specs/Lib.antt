@@ -1,3 +1,4 @@
 pub mod Slots
 pub mod Reading
 pub mod Scanning
+pub mod Restricted

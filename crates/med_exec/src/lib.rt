@@ -5,9 +5,11 @@
 #![tactic(auto)]
 
 pub mod columns;
+pub mod restricted;
 pub mod scans;
 pub mod slots;
 
 pub use columns::project;
+pub use restricted::{read_restricted, select_restricted};
 pub use scans::{read_table, select_table};
 pub use slots::{bind_at, ledger_at, unbind_at};

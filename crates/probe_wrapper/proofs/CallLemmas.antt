@@ -1,16 +1,23 @@
 -- How the calls of a wrapper go together.
-use Rattle.std.proofs.Common.{◌≡◌, ◌≢◌, ℕ, ◌⊎◌, eqb, true, false, List, [], Option, Some, None, IsSome, refl, ap, sym, ◌∙◌, subst, rules, inl, inr}
+use Rattle.std.proofs.Common.{◌≡◌, ◌≢◌, ℕ, ◌⊎◌, eqb, true, false, List, [], map, Result, Ok, Err, IfOk, OnOk, Option, Some, None, IsSome, option_map, refl, ap, sym, ◌∙◌, subst, rules, inl, inr}
 use Rattle.std.specs.Ordering.{nat_cmp}
 use Rattle.std.specs.FinMap as finmap
 use Rattle.std.specs.FinMap.{gets}
 use Rattle.std.proofs.lemmas.Bool.Decides.{eqb_tells}
 use Rattle.med_value.specs.Datum.{Tuple}
-use Rattle.fdw_api.specs.Scan.{Spec}
-use Rattle.fdw_api.specs.Kinds.{Column, Setting}
-use Rattle.fdw_api.specs.State.{Scan, BoxState, IsIdle, table_of, scan_of, set_at}
-use Rattle.fdw_api.specs.Calls.{CanBind, Binds, RefusesBind, CanUnbind, Unbinds, Begins, IsOpen, Gives, Breaks, Ends, Refuses}
+use Rattle.med_value.specs.declared.value.ColType.{ColType}
+use Rattle.fdw_api.specs.Scan.{Spec, spec_of, filter_of, params_fit}
+use Rattle.fdw_api.specs.Kinds.{Column, Setting, Change, Inserts}
+use Rattle.fdw_api.specs.State.{Bound, Scan, Staging, BoxState, IsIdle, table_of, scan_of, set_at}
+use Rattle.fdw_api.specs.Calls.{CanBind, Binds, RefusesBind, Allows, CanBegin, CanUnbind, Unbinds, Begins, IsOpen, Gives, Breaks, CanRescan, Rescans, Ends, Refuses}
+use Rattle.fdw_api.specs.Writes.{CanModify, Opens, CanChange, Stages, CanClose, Closes, row_of_change_fits}
+use Rattle.fdw_api.specs.declared.scan.ScanSpec.{ScanSpec}
 use Rattle.fdw_api.specs.declared.interface.Fault.{Fault}
 use Rattle.fdw_api.specs.declared.interface.SourceRow.{SourceRow}
+use Rattle.probe_wrapper.specs.declared.failing.Failure.TheVariants.{Before}
+use Rattle.probe_wrapper.specs.Counting.{counted}
+use Rattle.probe_wrapper.specs.Shy.{shied, shied_bound}
+use Rattle.probe_wrapper.specs.Failing.{failed, staging_of}
 
 put_same : {X : Type 0} (m : finmap.FinMap nat_cmp X) (k : ℕ) (v : X) → finmap.get (finmap.insert m k v) k ≡ Some v
 put_same m k v = grind (gets, rules)
@@ -124,3 +131,106 @@ broken_keeps old new n q fault b ne = ap (λ z. finmap.get z.live q) b.ledger �
 -- the end of one scan leaves the others
 pub ended_keeps : (old new : BoxState) (n q : ℕ) → Ends old n new → q ≢ n → scan_of new q ≡ scan_of old q
 ended_keeps old new n q e ne = ap (λ z. finmap.get z.live q) e.ledger ∙ taken_other old.ledger.live n q ne
+
+-- an open scan may begin again where a scan of its table may begin
+pub rescan_is_open : (s : BoxState) (n : ℕ) (params : Tuple) → CanRescan s n params → IsOpen s n
+rescan_is_open s n params c = (c.scan, c.at, c.whole)
+
+pub given_can_rescan : (old new : BoxState) (n : ℕ) (row : Option SourceRow) (params : Tuple) → Gives old n row new → CanRescan old n params → CanRescan new n params
+given_can_rescan old new n None params g c = record {
+  scan = c.scan;
+  at = ap (λ z. finmap.get z.live n) g.ledger ∙ c.at;
+  whole = c.whole;
+  bound = c.bound;
+  is = ap (λ z. z.tables c.scan.table) g.ledger ∙ c.is;
+  typed = c.typed;
+}
+given_can_rescan old new n (Some row) params g c =
+    let same : g.scan ≡ c.scan = some_inj g.scan c.scan (sym g.at ∙ c.at) in
+    record {
+      scan = record c.scan { left = g.left };
+      at = ap (λ z. finmap.get z.live n) g.ledger ∙ put_same old.ledger.live n _ ∙ ap (λ (z : Scan). Some (record z { left = g.left })) same;
+      whole = c.whole;
+      bound = c.bound;
+      is = ap (λ z. z.tables c.scan.table) g.ledger ∙ c.is;
+      typed = c.typed;
+    }
+
+pub again_is_open : (old new : BoxState) (n : ℕ) (params : Tuple) → Rescans old n params new → IsOpen new n
+again_is_open old new n params r = (_, ap (λ z. finmap.get z.live n) r.ledger ∙ put_same old.ledger.live n _, refl)
+
+-- a scan without restrictions may begin by the wrapper's own answer
+pub planned_begins : (s : BoxState) (t : ℕ) (spec : ScanSpec) → spec.offered.items ≡ [] → Allows s t (spec_of spec) → CanBegin s t spec []
+planned_begins s t spec none a = record { bound = a.bound; is = a.is; allowed = a.allowed; typed = ap (λ l. params_fit a.bound.kinds (map filter_of l) []) none }
+
+-- and begun, it may begin again
+pub begun_can_rescan : (old new : BoxState) (t : ℕ) (spec : Spec) (n : ℕ) → spec.offered ≡ [] → IsSome (table_of old t) → Begins old t spec [] n new → CanRescan new n []
+begun_can_rescan old new t spec n none is b = at_table (table_of old t) refl is
+  where
+    at_table : (o : Option Bound) → table_of old t ≡ o → IsSome o → CanRescan new n []
+    at_table None e is = absurd cc
+    at_table (Some bound) e is = record {
+      scan = _;
+      at = ap (λ z. finmap.get z.live n) b.ledger ∙ put_same old.ledger.live n _;
+      whole = refl;
+      bound = bound;
+      is = ap (λ z. z.tables t) b.ledger ∙ e;
+      typed = ap (λ l. params_fit bound.kinds l []) none;
+    }
+
+-- wrappers round an idle wrapper are idle
+pub idle_counted : (s : BoxState) (pulled : ℕ) → IsIdle s → IsIdle (counted s pulled)
+idle_counted s pulled i = record { no_table = i.no_table; no_scan = i.no_scan; no_staging = i.no_staging }
+
+pub idle_shied : (s : BoxState) → IsIdle s → IsIdle (shied s)
+idle_shied s i = record { no_table = λ t. ap (option_map shied_bound) (i.no_table t); no_scan = i.no_scan; no_staging = i.no_staging }
+
+pub idle_failed : (s : BoxState) (passes : ℕ) → IsIdle s → IsIdle (failed s (Before passes))
+idle_failed s passes i = record { no_table = i.no_table; no_scan = i.no_scan; no_staging = ap (option_map (staging_of (Before passes))) i.no_staging }
+
+-- a table bound on an idle wrapper may be written
+pub bound_can_modify : (old new : BoxState) (remote : List ℕ) (columns : List Column) (settings : List Setting) (t : ℕ) → IsIdle old → Binds old remote columns settings t new → CanModify new t
+bound_can_modify old new remote columns settings t idle b = let c = bound_can_unbind old new remote columns settings t idle b in record { is_bound = c.is_bound; no_scan = c.no_scan; not_staged = c.not_staged }
+
+pub bound_kinds : (old new : BoxState) (remote : List ℕ) (columns : List Column) (settings : List Setting) (kinds : List ColType) (t : ℕ) (b : Binds old remote columns settings t new) → map (λ c. c.kind) columns ≡ kinds → (bound : Bound) → table_of new t ≡ Some bound → bound.kinds ≡ kinds
+bound_kinds old new remote columns settings kinds t b e bound is = ap (λ (z : Bound). z.kinds) (some_inj bound b.bound (sym is ∙ bound_is_table old new remote columns settings t b)) ∙ b.kinds_are ∙ e
+
+-- a row may be inserted where it is of the columns' types
+pub opened_can_insert : (old s : BoxState) (t : ℕ) (row : Tuple) (kinds : List ColType) → CanModify old t → ((bound : Bound) → table_of old t ≡ Some bound → bound.kinds ≡ kinds) → row_of_change_fits kinds (Inserts row) ≡ true → Opens old t s → CanChange s (Inserts row)
+opened_can_insert old s t row kinds can typed fits o = at_table (table_of old t) refl can.is_bound
+  where
+    at_table : (x : Option Bound) → table_of old t ≡ x → IsSome x → CanChange s (Inserts row)
+    at_table None e is = absurd cc
+    at_table (Some bound) e is = record {
+      staging = _;
+      is_staged = ap (λ z. z.staged) o.ledger;
+      whole = refl;
+      bound = bound;
+      is = ap (λ z. z.tables t) o.ledger ∙ e;
+      fits = ap (λ k. row_of_change_fits k (Inserts row)) (typed bound e) ∙ fits;
+      there = λ h. refl;
+      once = refl;
+    }
+
+staged_same : (old s u : BoxState) (t : ℕ) (change : Change) (o : Opens old t s) (g : Stages s change u) → g.staging ≡ record { table = t; changes = []; broken = false }
+staged_same old s u t change o g = some_inj _ _ (sym g.is_staged ∙ ap (λ z. z.staged) o.ledger)
+
+pub staged_can_close : (old s u : BoxState) (t : ℕ) (change : Change) → CanModify old t → Opens old t s → Stages s change u → CanClose u true
+staged_can_close old s u t change can o g =
+    let same = staged_same old s u t change o g in
+    let table : g.staging.table ≡ t = ap (λ (z : Staging). z.table) same in
+    record {
+      staging = _;
+      is_staged = ap (λ z. z.staged) g.ledger;
+      is_bound = subst IsSome (sym (ap (λ z. z.tables g.staging.table) g.ledger ∙ ap (λ z. z.tables g.staging.table) o.ledger ∙ ap (table_of old) table)) can.is_bound;
+      whole = λ k. ap (λ (z : Staging). z.broken) same;
+      no_scan = λ k q scan is on. can.no_scan q scan (sym (ap (λ z. finmap.get z.live q) g.ledger ∙ ap (λ z. finmap.get z.live q) o.ledger) ∙ is) (on ∙ table);
+    }
+
+-- the table is bound after the write
+pub written_has_table : (old s u new : BoxState) (t : ℕ) (change : Change) → CanModify old t → Opens old t s → Stages s change u → Closes u true new → IsSome (table_of new t)
+written_has_table old s u new t change can o g c = subst IsSome (sym (ap (λ z. z.tables t) c.ledger ∙ ap (λ z. z.tables t) g.ledger ∙ ap (λ z. z.tables t) o.ledger)) can.is_bound
+
+pub on_ok : {T E : Type 0} (P : T → Type 0) (Q : Type 0) (r : Result T E) → ((x : T) → P x → Q) → IfOk r P → OnOk r Q
+on_ok P Q (Ok x) f p = f x p
+on_ok P Q (Err e) f p = tt

@@ -1,5 +1,5 @@
 use Rattle.std.proofs.Common.{Result, Ok, Err, OnOk}
-use Rattle.probe_wrapper.proofs.CallLemmas.{given_is_open, given_keeps, open_is_live, broken_is_live, broken_keeps}
+use Rattle.probe_wrapper.proofs.CallLemmas.{given_is_open, given_can_rescan, given_keeps, open_is_live, broken_is_live, broken_keeps}
 use Rattle.probe_wrapper.proofs.tests.take_row.Goals as goal
 
 always : {T E P : Type 0} (r : Result T E) → P → OnOk r P
@@ -27,3 +27,9 @@ returns-clause-live g c =
 
 pub returns-clause-others : goal.returns-clause-others
 returns-clause-others g c = λ q ne. given_keeps _ _ _ q c.in_ok-row.row c.in_ok-row.ensures.ok ne
+
+pub returns-clause-again : goal.returns-clause-again
+returns-clause-again g c =
+    let old = g.W.Wrapper.meaning c.args.source.now in
+    let new = g.W.Wrapper.meaning c.iterate.new.self in
+    always c.write_row.result (λ params can. given_can_rescan old new c.args.ticket.now.number c.in_ok-row.row params c.in_ok-row.ensures.ok can)
