@@ -31,4 +31,6 @@ pub use statement::{Select, Statement};
 pub use words::is_reserved;
 
 #[cfg(test)]
+mod expr_tests;
+#[cfg(test)]
 mod tests;
