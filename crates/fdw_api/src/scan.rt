@@ -206,7 +206,7 @@ impl Restriction {
         ensures { result ≡ meets (map datum params.now) (tuple row.now) (filter_of self.now) }
     {
         match row.cells.get(self.column) {
-            Some(value) => self.test.passes(value, params),
+            Some(value) => self.is_met_by(value, params),
             None => self.test.passes(&Value::Null, params),
         }
     }
