@@ -4,7 +4,7 @@ ghost use Rattle.std.specs.Prelude.{◌≡◌, ℕ, List, ◌∷◌, map, false,
 ghost use Rattle.std.specs.List.{list_all};
 ghost use Rattle.std.specs.List.Sorted.{IsPermutation};
 ghost use Rattle.med_value.specs.Datum.{Datum, Tuple};
-ghost use Rattle.tri_expr.specs.declared.expr.Expr.{Expr as Any};
+ghost use Rattle.tri_expr.specs.declared.expr.Expr.{Expr as Written};
 ghost use Rattle.tri_expr.specs.declared.expr.SetFunction.{SetFunction as AnyFunction};
 ghost use Rattle.tri_expr.specs.Outcome.{Outcome, over};
 ghost use Rattle.tri_expr.specs.Aggregate.{aggregated};
@@ -22,27 +22,27 @@ pub fn aggregates_ignore_order()
 
 /// The value of an expression over a class does not depend on the order of the class's rows.
 pub fn values_ignore_order()
-    ensures { (params : Tuple) (e : Any) → IgnoresOrder (meaning params e) }
+    ensures { (params : Tuple) (e : Written) → IgnoresOrder (meaning params e) }
 {}
 
 /// Expressions of one tree have the same value over every class of rows: so a copy means what its source means.
 pub fn same_tree_has_same_value()
-    ensures { (params : Tuple) (a b : Any) → tree a ≡ tree b → meaning params a ≡ meaning params b }
+    ensures { (params : Tuple) (a b : Written) → tree a ≡ tree b → meaning params a ≡ meaning params b }
 {}
 
 /// Expressions of one tree are equally risky.
 pub fn same_tree_has_same_risk()
-    ensures { (a b : Any) → tree a ≡ tree b → is_risky a ≡ is_risky b }
+    ensures { (a b : Written) → tree a ≡ tree b → is_risky a ≡ is_risky b }
 {}
 
 /// An expression that is not risky has a value over every class of rows.
 pub fn safe_expression_has_value()
-    ensures { (params : Tuple) (e : Any) (class : List Tuple) → is_risky e ≡ false → HasValue (meaning params e class) }
+    ensures { (params : Tuple) (e : Written) (class : List Tuple) → is_risky e ≡ false → HasValue (meaning params e class) }
 {}
 
 /// All conjuncts of a condition are true exactly where the condition is true.
 pub fn conjuncts_decide_condition()
-    ensures { (params : Tuple) (class : List Tuple) (e : Any) (parts : List Any) → map tree parts ≡ conjunct_trees (tree e) → is_in (over (map (meaning params) parts) class) ≡ is_met (meaning params e class) }
+    ensures { (params : Tuple) (class : List Tuple) (e : Written) (parts : List Written) → map tree parts ≡ conjunct_trees (tree e) → is_in (over (map (meaning params) parts) class) ≡ is_met (meaning params e class) }
 {}
 
 /// The verdict of conjuncts does not depend on their order.
