@@ -234,3 +234,7 @@ written_has_table old s u new t change can o g c = subst IsSome (sym (ap (λ z. 
 pub on_ok : {T E : Type 0} (P : T → Type 0) (Q : Type 0) (r : Result T E) → ((x : T) → P x → Q) → IfOk r P → OnOk r Q
 on_ok P Q (Ok x) f p = f x p
 on_ok P Q (Err e) f p = tt
+
+-- a scan whose restrictions name no parameter may begin by the wrapper's own answer
+pub planned_fits : (s : BoxState) (t : ℕ) (spec : ScanSpec) → ((kinds : List ColType) → params_fit kinds (map filter_of spec.offered.items) [] ≡ true) → Allows s t (spec_of spec) → CanBegin s t spec []
+planned_fits s t spec fits a = record { bound = a.bound; is = a.is; allowed = a.allowed; typed = fits a.bound.kinds }

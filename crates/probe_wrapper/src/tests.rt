@@ -17,7 +17,7 @@ use crate::failing::Failing;
 use crate::list::{ListTable, ListWrapper};
 use crate::shy::Shy;
 use fdw_api::interface::{Counts, Fault, SourceRow, TableNo, Ticket, Wrapper};
-use fdw_api::scan::ScanSpec;
+use fdw_api::scan::{Comparison, Operand, Restriction, ScanSpec, Test};
 use med_value::text::row_text;
 use med_value::{Cause, ColType, ColumnDef, NoMemory, Row, Value};
 use std::alloc::Global;
@@ -220,6 +220,33 @@ fn read_again<W: Wrapper>(
     taken
 }
 
+/// Reads the first column of the orders of more than 1, by one scan under the source's own agreement.
+fn read_above_one<W: Wrapper>(
+    source: &mut W,
+    alloc: Global,
+    table: TableNo,
+    out: &mut Vec<u8>,
+) -> Result<(), Fault>
+    requires { IsSome (table_of (W.meaning source.old) table.number) }
+{
+    let above_one = Restriction {
+        column: 2,
+        test: Test::Compare(Comparison::Above, Operand::Constant(Value::Int(1))),
+    };
+    let wanted = vec![in alloc; 0]?;
+    let offered = vec![in alloc; above_one]?;
+    let agreement = source.plan(alloc, table, &wanted, &offered)?;
+    let spec = ScanSpec {
+        wanted,
+        offered,
+        agreement,
+    };
+    let ticket = source.begin(alloc, table, &spec, &[])?;
+    let taken = take_four(source, alloc, &ticket, out);
+    source.end(ticket);
+    taken
+}
+
 /// Binds the orders on a new source.
 fn bind_orders<W: Wrapper>(source: &mut W, alloc: Global) -> Result<TableNo, Fault>
     requires idle { IsIdle (W.meaning source.old) }
@@ -388,6 +415,25 @@ fn insert_order<W: Wrapper>(source: &mut W, alloc: Global, table: TableNo) -> Re
     source.begin_modify(alloc, table)?;
     source.insert(alloc, row)?;
     source.end_modify(alloc, true)
+}
+
+#[test]
+fn list_takes_over_what_shy_leaves(rt: HostRuntime) -> Result<(), Fail> {
+    let alloc = rt.alloc();
+    let mut list = new_list(alloc)?;
+    let table = bind_orders(&mut list, alloc)?;
+    let mut out = Vec::new(alloc);
+    read_above_one(&mut list, alloc, table, &mut out)?;
+    assert_eq!(rt; out.as_slice(), b"10\n11\nend\nend\n".as_slice());
+    let mut shy = in_shy(new_list(alloc)?);
+    let table = bind_orders(&mut shy, alloc)?;
+    out.clear();
+    read_above_one(&mut shy, alloc, table, &mut out)?;
+    assert_eq!(rt;
+        out.as_slice(),
+        b"10\t1\t4\n11\t1\t6\n12\t9\t1\nend\n".as_slice()
+    );
+    Ok(())
 }
 
 #[test]
