@@ -8,7 +8,8 @@ use Rattle.tri_expr.specs.Outcome.{Outcome, Is, Fails, truth, is_truth, first_fa
 use Rattle.tri_expr.specs.Meaning.{OnClass, meaning}
 use Rattle.tri_expr.specs.Verdict.{is_met, is_in}
 use Rattle.tri_expr.specs.Tree.{Tree, column, parameter, literal, compare, compute, negate, all_of, some_of, opposite, asks, between, within, matches, parenthesised, count_rows, aggregate, Trees, none, part, tree, conjunct_trees, conjuncts_of_all}
-use Rattle.tri_expr.proofs.Reading.{read, read_all, reads}
+use Rattle.tri_expr.specs.TreeMeaning.{tree_meaning, tree_meanings}
+use Rattle.tri_expr.proofs.Reading.{reads}
 
 and_assoc : (p q r : Bool) → ((p && q) && r) ≡ (p && (q && r))
 and_assoc true q r = refl
@@ -80,21 +81,21 @@ pub settled_in : (os : List Outcome) → is_met (settled false os) ≡ is_in os
 settled_in os = settled_by os (list_any (is_truth false) os) (first_fault os) refl refl
 
 abbrev parts_in : Tuple → List Tuple → List Tree → Bool
-parts_in ps c ts = is_in (over (map (read ps) ts) c)
+parts_in ps c ts = is_in (over (map (tree_meaning ps) ts) c)
 
 parts_append : (ps : Tuple) (c : List Tuple) (ts us : List Tree) → parts_in ps c (ts ++ us) ≡ (parts_in ps c ts && parts_in ps c us)
 parts_append ps c ts us =
-    ap (λ (l : List OnClass). is_in (over l c)) (map_append (read ps) ts us) ∙ ap is_in (over_append (map (read ps) ts) (map (read ps) us) c) ∙ in_append (over (map (read ps) ts) c) (over (map (read ps) us) c)
+    ap (λ (l : List OnClass). is_in (over l c)) (map_append (tree_meaning ps) ts us) ∙ ap is_in (over_append (map (tree_meaning ps) ts) (map (tree_meaning ps) us) c) ∙ in_append (over (map (tree_meaning ps) ts) c) (over (map (tree_meaning ps) us) c)
 
 mutual
-  tree_decides : (ps : Tuple) (c : List Tuple) (t : Tree) → parts_in ps c (conjunct_trees t) ≡ is_met (read ps t c)
+  tree_decides : (ps : Tuple) (c : List Tuple) (t : Tree) → parts_in ps c (conjunct_trees t) ≡ is_met (tree_meaning ps t c)
   tree_decides ps c (column at) = and_true _
   tree_decides ps c (parameter at) = and_true _
   tree_decides ps c (literal v) = and_true _
   tree_decides ps c (compare op a b) = and_true _
   tree_decides ps c (compute op a b) = and_true _
   tree_decides ps c (negate a) = and_true _
-  tree_decides ps c (all_of ts) = trees_decide ps c ts ∙ sym (settled_in (over (read_all ps ts) c))
+  tree_decides ps c (all_of ts) = trees_decide ps c ts ∙ sym (settled_in (over (tree_meanings ps ts) c))
   tree_decides ps c (some_of ts) = and_true _
   tree_decides ps c (opposite a) = and_true _
   tree_decides ps c (asks t negative a) = and_true _
@@ -105,14 +106,14 @@ mutual
   tree_decides ps c count_rows = and_true _
   tree_decides ps c (aggregate function a) = and_true _
 
-  trees_decide : (ps : Tuple) (c : List Tuple) (ts : Trees) → parts_in ps c (conjuncts_of_all ts) ≡ is_in (over (read_all ps ts) c)
+  trees_decide : (ps : Tuple) (c : List Tuple) (ts : Trees) → parts_in ps c (conjuncts_of_all ts) ≡ is_in (over (tree_meanings ps ts) c)
   trees_decide ps c none = refl
   trees_decide ps c (part t ts) =
-      parts_append ps c (conjunct_trees t) (conjuncts_of_all ts) ∙ ap (λ b. b && parts_in ps c (conjuncts_of_all ts)) (tree_decides ps c t) ∙ ap (λ b. is_met (read ps t c) && b) (trees_decide ps c ts)
+      parts_append ps c (conjunct_trees t) (conjuncts_of_all ts) ∙ ap (λ b. b && parts_in ps c (conjuncts_of_all ts)) (tree_decides ps c t) ∙ ap (λ b. is_met (tree_meaning ps t c) && b) (trees_decide ps c ts)
 
-all_same : (ps : Tuple) (es : List Expr) → map (meaning ps) es ≡ map (read ps) (map tree es)
+all_same : (ps : Tuple) (es : List Expr) → map (meaning ps) es ≡ map (tree_meaning ps) (map tree es)
 all_same ps [] = refl
-all_same ps (e ∷ es) = ap (λ (m : OnClass). m ∷ map (meaning ps) es) (sym (reads ps e)) ∙ ap (λ (l : List OnClass). read ps (tree e) ∷ l) (all_same ps es)
+all_same ps (e ∷ es) = ap (λ (m : OnClass). m ∷ map (meaning ps) es) (sym (reads ps e)) ∙ ap (λ (l : List OnClass). tree_meaning ps (tree e) ∷ l) (all_same ps es)
 
 pub decided : (ps : Tuple) (c : List Tuple) (e : Expr) (parts : List Expr) → map tree parts ≡ conjunct_trees (tree e) → is_in (over (map (meaning ps) parts) c) ≡ is_met (meaning ps e c)
 decided ps c e parts h =

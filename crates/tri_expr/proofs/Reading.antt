@@ -1,67 +1,45 @@
 -- What a tree means and whether it is risky: so two expressions of one tree mean the same and are as risky.
-use Rattle.std.proofs.Common.{◌≡◌, pos, Bool, true, false, ◌||◌, List, [], ◌∷◌, map, length, refl, sym, ap, ◌∙◌, subst}
+use Rattle.std.proofs.Common.{◌≡◌, Bool, true, false, ◌||◌, List, [], ◌∷◌, map, refl, sym, ap, ◌∙◌, subst}
 use Rattle.std.specs.String.{string_bytes}
-use Rattle.med_value.specs.Datum.{Whole, Tuple}
+use Rattle.med_value.specs.Datum.{Tuple}
 use Rattle.tri_expr.specs.declared.expr.Expr.{Expr}
 use Rattle.tri_expr.specs.declared.expr.Expr.TheOpen as layer
 use Rattle.tri_expr.specs.declared.expr.Expr.TheFolds.{fold-roll-Expr, ind-Expr, map-Expr}
 use Rattle.tri_expr.specs.declared.expr.Comparison.TheVariants.{Equal as Same, AtMost, AtLeast}
 use Rattle.tri_expr.specs.Outcome.{Is, compared, computed, negated, opposite as not_of, turned, settled, tested, strict, over}
 use Rattle.tri_expr.specs.Aggregate.{aggregated}
-use Rattle.tri_expr.specs.Meaning.{OnClass, cell, shared, argument, liked, meaning_step, meaning}
+use Rattle.tri_expr.specs.Meaning.{OnClass, argument, liked, meaning_step, meaning}
 use Rattle.tri_expr.specs.Risky.{is_sum, some_true, risky_step, is_risky}
+use Rattle.tri_expr.specs.TreeMeaning.{tree_meaning, tree_meanings}
 use Rattle.tri_expr.specs.Tree.{Tree, column, parameter, literal, compare, compute, negate, all_of, some_of, opposite, asks, between, within, matches, parenthesised, count_rows, aggregate, Trees, none, part, trees, tree_step, tree}
 
-abbrev mutual
-  pub read : Tuple → Tree → OnClass
-  read ps (column at) c = Is (shared at c)
-  read ps (parameter at) c = Is (cell at ps)
-  read ps (literal v) c = Is v
-  read ps (compare op a b) c = compared op (read ps a c) (read ps b c)
-  read ps (compute op a b) c = computed op (read ps a c) (read ps b c)
-  read ps (negate a) c = negated (read ps a c)
-  read ps (all_of ts) c = settled false (over (read_all ps ts) c)
-  read ps (some_of ts) c = settled true (over (read_all ps ts) c)
-  read ps (opposite a) c = not_of (read ps a c)
-  read ps (asks t negative a) c = tested t negative (read ps a c)
-  read ps (between negative x a b) c = turned negative (settled false (compared AtLeast (read ps x c) (read ps a c) ∷ compared AtMost (read ps x c) (read ps b c) ∷ []))
-  read ps (within negative x ts) c = turned negative (strict (λ v. settled true (map (compared Same (Is v)) (over (read_all ps ts) c))) (read ps x c))
-  read ps (matches negative x pattern) c = turned negative (strict (liked pattern) (read ps x c))
-  read ps (parenthesised a) c = read ps a c
-  read ps count_rows c = Is (Whole (pos (length c)))
-  read ps (aggregate function a) c = aggregated function (argument (read ps a) c)
-
-  pub read_all : Tuple → Trees → List OnClass
-  read_all ps none = []
-  read_all ps (part t ts) = read ps t ∷ read_all ps ts
-
 abbrev Such : Tuple → Type 0
-Such ps = (e : Expr) × (read ps (tree e) ≡ meaning ps e)
+Such ps = (e : Expr) × (tree_meaning ps (tree e) ≡ meaning ps e)
 
 abbrev outer : (ps : Tuple) → layer.Expr-F (Such ps) → layer.Expr-F Expr
 outer ps y = map-Expr (Such ps) Expr (λ e. e.0) y
 
-all_read : (ps : Tuple) (es : List (Such ps)) → read_all ps (trees (map tree (map (λ e. e.0) es))) ≡ map (meaning ps) (map (λ e. e.0) es)
+all_read : (ps : Tuple) (es : List (Such ps)) → tree_meanings ps (trees (map tree (map (λ e. e.0) es))) ≡ map (meaning ps) (map (λ e. e.0) es)
 all_read ps [] = refl
-all_read ps (e ∷ es) = ap (λ (m : OnClass). m ∷ read_all ps (trees (map tree (map (λ e. e.0) es)))) e.1 ∙ ap (λ (l : List OnClass). meaning ps e.0 ∷ l) (all_read ps es)
+all_read ps (e ∷ es) = ap (λ (m : OnClass). m ∷ tree_meanings ps (trees (map tree (map (λ e. e.0) es)))) e.1 ∙ ap (λ (l : List OnClass). meaning ps e.0 ∷ l) (all_read ps es)
 
-layer_read : (ps : Tuple) (y : layer.Expr-F (Such ps)) → read ps (tree_step (map-Expr Expr Tree tree (outer ps y))) ≡ meaning_step ps (map-Expr Expr OnClass (meaning ps) (outer ps y))
+layer_read : (ps : Tuple) (y : layer.Expr-F (Such ps)) → tree_meaning ps (tree_step (map-Expr Expr Tree tree (outer ps y))) ≡ meaning_step ps (map-Expr Expr OnClass (meaning ps) (outer ps y))
 layer_read ps (layer.Column at) = refl
 layer_read ps (layer.Parameter at) = refl
 layer_read ps (layer.Literal v) = refl
-layer_read ps (layer.Compare op a b) = ap {B = OnClass} (λ (m : OnClass) (c : List Tuple). compared op (m c) (read ps (tree b.value.0) c)) a.value.1 ∙ ap {B = OnClass} (λ (m : OnClass) (c : List Tuple). compared op (meaning ps a.value.0 c) (m c)) b.value.1
-layer_read ps (layer.Compute op a b) = ap {B = OnClass} (λ (m : OnClass) (c : List Tuple). computed op (m c) (read ps (tree b.value.0) c)) a.value.1 ∙ ap {B = OnClass} (λ (m : OnClass) (c : List Tuple). computed op (meaning ps a.value.0 c) (m c)) b.value.1
+layer_read ps (layer.Compare op a b) = ap {B = OnClass} (λ (m : OnClass) (c : List Tuple). compared op (m c) (tree_meaning ps (tree b.value.0) c)) a.value.1 ∙ ap {B = OnClass} (λ (m : OnClass) (c : List Tuple). compared op (meaning ps a.value.0 c) (m c)) b.value.1
+layer_read ps (layer.Compute op a b) = ap {B = OnClass} (λ (m : OnClass) (c : List Tuple). computed op (m c) (tree_meaning ps (tree b.value.0) c)) a.value.1 ∙ ap {B = OnClass} (λ (m : OnClass) (c : List Tuple). computed op (meaning ps a.value.0 c) (m c)) b.value.1
 layer_read ps (layer.Negate a) = ap {B = OnClass} (λ (m : OnClass) (c : List Tuple). negated (m c)) a.value.1
 layer_read ps (layer.And parts) = ap {B = OnClass} (λ (l : List OnClass) (c : List Tuple). settled false (over l c)) (all_read ps parts.items)
 layer_read ps (layer.Or parts) = ap {B = OnClass} (λ (l : List OnClass) (c : List Tuple). settled true (over l c)) (all_read ps parts.items)
 layer_read ps (layer.Not a) = ap {B = OnClass} (λ (m : OnClass) (c : List Tuple). not_of (m c)) a.value.1
 layer_read ps (layer.Is test negative a) = ap {B = OnClass} (λ (m : OnClass) (c : List Tuple). tested test negative (m c)) a.value.1
 layer_read ps (layer.Between negative x a b) =
-    ap {B = OnClass} (λ (m : OnClass) (c : List Tuple). turned negative (settled false (compared AtLeast (m c) (read ps (tree a.value.0) c) ∷ compared AtMost (m c) (read ps (tree b.value.0) c) ∷ []))) x.value.1
-    ∙ ap {B = OnClass} (λ (m : OnClass) (c : List Tuple). turned negative (settled false (compared AtLeast (meaning ps x.value.0 c) (m c) ∷ compared AtMost (meaning ps x.value.0 c) (read ps (tree b.value.0) c) ∷ []))) a.value.1
+    ap {B = OnClass} (λ (m : OnClass) (c : List Tuple). turned negative (settled false (compared AtLeast (m c) (tree_meaning ps (tree a.value.0) c) ∷ compared AtMost (m c) (tree_meaning ps (tree b.value.0) c) ∷ []))) x.value.1
+    ∙ ap {B = OnClass} (λ (m : OnClass) (c : List Tuple). turned negative (settled false (compared AtLeast (meaning ps x.value.0 c) (m c) ∷ compared AtMost (meaning ps x.value.0 c) (tree_meaning ps (tree b.value.0) c) ∷ []))) a.value.1
     ∙ ap {B = OnClass} (λ (m : OnClass) (c : List Tuple). turned negative (settled false (compared AtLeast (meaning ps x.value.0 c) (meaning ps a.value.0 c) ∷ compared AtMost (meaning ps x.value.0 c) (m c) ∷ []))) b.value.1
 layer_read ps (layer.In negative x parts) =
-    ap {B = OnClass} (λ (m : OnClass) (c : List Tuple). turned negative (strict (λ v. settled true (map (compared Same (Is v)) (over (read_all ps (trees (map tree (map (λ e. e.0) parts.items)))) c))) (m c))) x.value.1
+    ap {B = OnClass} (λ (m : OnClass) (c : List Tuple). turned negative (strict (λ v. settled true (map (compared Same (Is v)) (over (tree_meanings ps (trees (map tree (map (λ e. e.0) parts.items)))) c))) (m c))) x.value.1
     ∙ ap {B = OnClass} (λ (l : List OnClass) (c : List Tuple). turned negative (strict (λ v. settled true (map (compared Same (Is v)) (over l c))) (meaning ps x.value.0 c))) (all_read ps parts.items)
 layer_read ps (layer.Like negative x pattern) = ap {B = OnClass} (λ (m : OnClass) (c : List Tuple). turned negative (strict (liked (string_bytes pattern)) (m c))) x.value.1
 layer_read ps (layer.Parenthesised a) = a.value.1
@@ -69,13 +47,13 @@ layer_read ps layer.CountRows = refl
 layer_read ps (layer.Aggregate function a) = ap {B = OnClass} (λ (m : OnClass) (c : List Tuple). aggregated function (argument m c)) a.value.1
 
 -- an expression means what its tree means
-pub reads : (ps : Tuple) (e : Expr) → read ps (tree e) ≡ meaning ps e
-reads ps = ind-Expr (λ e. read ps (tree e) ≡ meaning ps e) (λ x y is.
-    let l : read ps (tree_step (map-Expr Expr Tree tree x)) ≡ meaning_step ps (map-Expr Expr OnClass (meaning ps) x) = subst (λ z. read ps (tree_step (map-Expr Expr Tree tree z)) ≡ meaning_step ps (map-Expr Expr OnClass (meaning ps) z)) is (layer_read ps y) in
-    ap (read ps) (fold-roll-Expr Tree tree_step x) ∙ l ∙ sym (fold-roll-Expr OnClass (meaning_step ps) x))
+pub reads : (ps : Tuple) (e : Expr) → tree_meaning ps (tree e) ≡ meaning ps e
+reads ps = ind-Expr (λ e. tree_meaning ps (tree e) ≡ meaning ps e) (λ x y is.
+    let l : tree_meaning ps (tree_step (map-Expr Expr Tree tree x)) ≡ meaning_step ps (map-Expr Expr OnClass (meaning ps) x) = subst (λ z. tree_meaning ps (tree_step (map-Expr Expr Tree tree z)) ≡ meaning_step ps (map-Expr Expr OnClass (meaning ps) z)) is (layer_read ps y) in
+    ap (tree_meaning ps) (fold-roll-Expr Tree tree_step x) ∙ l ∙ sym (fold-roll-Expr OnClass (meaning_step ps) x))
 
 pub same_meaning : (ps : Tuple) (a b : Expr) → tree a ≡ tree b → meaning ps a ≡ meaning ps b
-same_meaning ps a b e = sym (reads ps a) ∙ ap (read ps) e ∙ reads ps b
+same_meaning ps a b e = sym (reads ps a) ∙ ap (tree_meaning ps) e ∙ reads ps b
 
 -- risk
 abbrev mutual

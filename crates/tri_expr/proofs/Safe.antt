@@ -13,7 +13,8 @@ use Rattle.tri_expr.specs.Meaning.{OnClass, argument, liked, meaning}
 use Rattle.tri_expr.specs.Risky.{is_sum, some_true, is_risky}
 use Rattle.tri_expr.specs.Laws.{HasValue}
 use Rattle.tri_expr.specs.Tree.{Tree, column, parameter, literal, compare, compute, negate, all_of, some_of, opposite, asks, between, within, matches, parenthesised, count_rows, aggregate, Trees, none, part, tree}
-use Rattle.tri_expr.proofs.Reading.{read, read_all, reads, risk, risks, reads_risk}
+use Rattle.tri_expr.specs.TreeMeaning.{tree_meaning, tree_meanings}
+use Rattle.tri_expr.proofs.Reading.{reads, risk, risks, reads_risk}
 
 left_off : (p q : Bool) → (p || q) ≡ false → p ≡ false
 left_off true q e = e
@@ -95,30 +96,30 @@ of_aggregate Min vs e = tt
 of_aggregate Max vs e = tt
 
 mutual
-  tree_safe : (ps : Tuple) (t : Tree) (c : List Tuple) → risk t ≡ false → HasValue (read ps t c)
+  tree_safe : (ps : Tuple) (t : Tree) (c : List Tuple) → risk t ≡ false → HasValue (tree_meaning ps t c)
   tree_safe ps (column at) c e = tt
   tree_safe ps (parameter at) c e = tt
   tree_safe ps (literal v) c e = tt
-  tree_safe ps (compare op a b) c e = of_compared op (read ps a c) (read ps b c) (tree_safe ps a c (left_off (risk a) (risk b) e)) (tree_safe ps b c (right_off (risk a) (risk b) e))
+  tree_safe ps (compare op a b) c e = of_compared op (tree_meaning ps a c) (tree_meaning ps b c) (tree_safe ps a c (left_off (risk a) (risk b) e)) (tree_safe ps b c (right_off (risk a) (risk b) e))
   tree_safe ps (compute op a b) c e = absurd cc
   tree_safe ps (negate a) c e = absurd cc
-  tree_safe ps (all_of ts) c e = of_settled false (over (read_all ps ts) c) (trees_safe ps ts c e)
-  tree_safe ps (some_of ts) c e = of_settled true (over (read_all ps ts) c) (trees_safe ps ts c e)
-  tree_safe ps (opposite a) c e = of_strict opposite_value of_opposite (read ps a c) (tree_safe ps a c e)
-  tree_safe ps (asks t negative a) c e = of_strict _ (λ v. tt) (read ps a c) (tree_safe ps a c e)
+  tree_safe ps (all_of ts) c e = of_settled false (over (tree_meanings ps ts) c) (trees_safe ps ts c e)
+  tree_safe ps (some_of ts) c e = of_settled true (over (tree_meanings ps ts) c) (trees_safe ps ts c e)
+  tree_safe ps (opposite a) c e = of_strict opposite_value of_opposite (tree_meaning ps a c) (tree_safe ps a c e)
+  tree_safe ps (asks t negative a) c e = of_strict _ (λ v. tt) (tree_meaning ps a c) (tree_safe ps a c e)
   tree_safe ps (between negative x a b) c e =
       let hx = tree_safe ps x c (left_off (risk x) (risk a || risk b) e) in
       let r = right_off (risk x) (risk a || risk b) e in
-      let both : AllValues (compared AtLeast (read ps x c) (read ps a c) ∷ compared AtMost (read ps x c) (read ps b c) ∷ []) = (of_compared AtLeast (read ps x c) (read ps a c) hx (tree_safe ps a c (left_off (risk a) (risk b) r)), (of_compared AtMost (read ps x c) (read ps b c) hx (tree_safe ps b c (right_off (risk a) (risk b) r)), tt)) in
-      of_turned negative _ (of_settled false (compared AtLeast (read ps x c) (read ps a c) ∷ compared AtMost (read ps x c) (read ps b c) ∷ []) both)
+      let both : AllValues (compared AtLeast (tree_meaning ps x c) (tree_meaning ps a c) ∷ compared AtMost (tree_meaning ps x c) (tree_meaning ps b c) ∷ []) = (of_compared AtLeast (tree_meaning ps x c) (tree_meaning ps a c) hx (tree_safe ps a c (left_off (risk a) (risk b) r)), (of_compared AtMost (tree_meaning ps x c) (tree_meaning ps b c) hx (tree_safe ps b c (right_off (risk a) (risk b) r)), tt)) in
+      of_turned negative _ (of_settled false (compared AtLeast (tree_meaning ps x c) (tree_meaning ps a c) ∷ compared AtMost (tree_meaning ps x c) (tree_meaning ps b c) ∷ []) both)
   tree_safe ps (within negative x ts) c e =
-      of_turned negative _ (of_strict _ (λ v. of_settled true _ (of_each v (over (read_all ps ts) c) (trees_safe ps ts c (right_off (risk x) (some_true (risks ts)) e)))) (read ps x c) (tree_safe ps x c (left_off (risk x) (some_true (risks ts)) e)))
-  tree_safe ps (matches negative x pattern) c e = of_turned negative _ (of_strict _ (of_liked pattern) (read ps x c) (tree_safe ps x c e))
+      of_turned negative _ (of_strict _ (λ v. of_settled true _ (of_each v (over (tree_meanings ps ts) c) (trees_safe ps ts c (right_off (risk x) (some_true (risks ts)) e)))) (tree_meaning ps x c) (tree_safe ps x c (left_off (risk x) (some_true (risks ts)) e)))
+  tree_safe ps (matches negative x pattern) c e = of_turned negative _ (of_strict _ (of_liked pattern) (tree_meaning ps x c) (tree_safe ps x c e))
   tree_safe ps (parenthesised a) c e = tree_safe ps a c e
   tree_safe ps count_rows c e = tt
-  tree_safe ps (aggregate function a) c e = of_aggregate function (argument (read ps a) c) (left_off (is_sum function) (risk a) e)
+  tree_safe ps (aggregate function a) c e = of_aggregate function (argument (tree_meaning ps a) c) (left_off (is_sum function) (risk a) e)
 
-  trees_safe : (ps : Tuple) (ts : Trees) (c : List Tuple) → some_true (risks ts) ≡ false → AllValues (over (read_all ps ts) c)
+  trees_safe : (ps : Tuple) (ts : Trees) (c : List Tuple) → some_true (risks ts) ≡ false → AllValues (over (tree_meanings ps ts) c)
   trees_safe ps none c e = tt
   trees_safe ps (part t ts) c e = (tree_safe ps t c (left_off (risk t) (some_true (risks ts)) e), trees_safe ps ts c (right_off (risk t) (some_true (risks ts)) e))
 

@@ -7,12 +7,15 @@ ghost use Rattle.med_value.specs.Datum.{Datum, Tuple};
 ghost use Rattle.tri_expr.specs.declared.expr.Expr.{Expr as Written};
 ghost use Rattle.tri_expr.specs.declared.expr.SetFunction.{SetFunction as AnyFunction};
 ghost use Rattle.tri_expr.specs.Outcome.{Outcome, over};
+ghost use Rattle.tri_expr.specs.Lists.{distinct};
 ghost use Rattle.tri_expr.specs.Aggregate.{aggregated};
 ghost use Rattle.tri_expr.specs.Meaning.{meaning, has_cell, shared};
 ghost use Rattle.tri_expr.specs.Verdict.{is_met, is_in};
 ghost use Rattle.tri_expr.specs.Risky.{is_risky};
 ghost use Rattle.tri_expr.specs.Tree.{tree, conjunct_trees};
-ghost use Rattle.tri_expr.specs.Laws.{HasValue, IgnoresOrder, SameVerdict};
+ghost use Rattle.tri_expr.specs.TreeMeaning.{tree_meaning};
+ghost use Rattle.tri_expr.specs.Query.{Query, Tables, SameRows, Output, output_eq, senses};
+ghost use Rattle.tri_expr.specs.Laws.{HasValue, IgnoresOrder, SameVerdict, AllIgnoreOrder, IsSteady, AnswersIgnoreOrder};
 
 /// An aggregate does not depend on the order in which the values come: so a sum is out of range exactly where its exact
 /// total is, and never on the way.
@@ -23,6 +26,11 @@ pub fn aggregates_ignore_order()
 /// The value of an expression over a class does not depend on the order of the class's rows.
 pub fn values_ignore_order()
     ensures { (params : Tuple) (e : Written) → IgnoresOrder (meaning params e) }
+{}
+
+/// An expression has the value that its tree has.
+pub fn expression_means_its_tree()
+    ensures { (params : Tuple) (e : Written) → tree_meaning params (tree e) ≡ meaning params e }
 {}
 
 /// Expressions of one tree have the same value over every class of rows: so a copy means what its source means.
@@ -53,4 +61,21 @@ pub fn verdicts_ignore_order()
 /// A column over rows that all have one value there is that value: so over a group a key reads its value.
 pub fn column_over_equal_rows_is_their_value()
     ensures { (at : ℕ) (v : Datum) (row : Tuple) (rows : List Tuple) → list_all (has_cell at v) (row ∷ rows) ≡ true → shared at (row ∷ rows) ≡ v }
+{}
+
+/// An answer to a query over tables is an answer over the same rows in any other order, and the same faults may be told
+/// (SQL standard, <query expression>): so a source may give its rows in any order.
+pub fn answers_ignore_order()
+    ensures { (q : Query) (db other : Tables) → IsSteady q → SameRows db other → AnswersIgnoreOrder q db other }
+{}
+
+/// Expressions in HAVING, in order keys and in items do not see the order of a class's rows: so a query made of expressions
+/// is one whose answers ignore order.
+pub fn expressions_ignore_order()
+    ensures { (params : Tuple) (es : List Written) → AllIgnoreOrder (senses params es) }
+{}
+
+/// DISTINCT of the same outputs in another order gives the same outputs (SQL standard, <set quantifier>).
+pub fn distinct_ignores_order()
+    ensures { (os us : List Output) → IsPermutation os us → IsPermutation (distinct output_eq os) (distinct output_eq us) }
 {}
