@@ -178,6 +178,17 @@ begun_can_rescan old new t spec n none is b = at_table (table_of old t) refl is
       typed = ap (λ l. params_fit bound.kinds l []) none;
     }
 
+-- no call of a scan changes the tables
+pub given_tables : (old new : BoxState) (n t : ℕ) (row : Option SourceRow) → Gives old n row new → table_of new t ≡ table_of old t
+given_tables old new n t None g = ap (λ z. z.tables t) g.ledger
+given_tables old new n t (Some row) g = ap (λ z. z.tables t) g.ledger
+
+pub broken_tables : (old new : BoxState) (n t : ℕ) (fault : Fault) → Breaks old n fault new → table_of new t ≡ table_of old t
+broken_tables old new n t fault b = ap (λ z. z.tables t) b.ledger
+
+pub scanned_has_table : (old begun last new : BoxState) (t : ℕ) (spec : Spec) (params : Tuple) (n : ℕ) → Begins old t spec params n begun → ((u : ℕ) → table_of last u ≡ table_of begun u) → Ends last n new → IsSome (table_of old t) → IsSome (table_of new t)
+scanned_has_table old begun last new t spec params n b same e is = subst IsSome (sym (ap (λ z. z.tables t) e.ledger ∙ same t ∙ ap (λ z. z.tables t) b.ledger)) is
+
 -- wrappers round an idle wrapper are idle
 pub idle_counted : (s : BoxState) (pulled : ℕ) → IsIdle s → IsIdle (counted s pulled)
 idle_counted s pulled i = record { no_table = i.no_table; no_scan = i.no_scan; no_staging = i.no_staging }
@@ -238,3 +249,7 @@ on_ok P Q (Err e) f p = tt
 -- a scan whose restrictions name no parameter may begin by the wrapper's own answer
 pub planned_fits : (s : BoxState) (t : ℕ) (spec : ScanSpec) → ((kinds : List ColType) → params_fit kinds (map filter_of spec.offered.items) [] ≡ true) → Allows s t (spec_of spec) → CanBegin s t spec []
 planned_fits s t spec fits a = record { bound = a.bound; is = a.is; allowed = a.allowed; typed = fits a.bound.kinds }
+
+pub on_ok_any : {T E P : Type 0} (r : Result T E) → P → OnOk r P
+on_ok_any (Ok x) p = p
+on_ok_any (Err e) p = tt

@@ -81,7 +81,8 @@ pub struct Failing<W> {
 impl<W: Wrapper> Failing<W> {
     /// A wrapper round this one, that passes this many counted calls, fails at the next, and then passes all.
     pub fn new(inner: W, passes: u64) -> Self
-        ensures { failed (W.meaning result.inner) result.failure ≡ failed (W.meaning inner) (Before passes) }
+        ensures shows { failed (W.meaning result.inner) result.failure ≡ failed (W.meaning inner) (Before passes) }
+        ensures passes { result.failure ≡ Before passes }
     {
         Failing {
             inner,

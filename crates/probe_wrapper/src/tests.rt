@@ -12,6 +12,9 @@ ghost use Rattle.probe_wrapper.specs.Counting.{counted};
 ghost use Rattle.probe_wrapper.specs.Shy.{shied};
 ghost use Rattle.probe_wrapper.specs.Failing.{failed};
 
+mod parameters;
+mod turning;
+
 use crate::counting::Counting;
 use crate::failing::Failing;
 use crate::list::{ListTable, ListWrapper};
@@ -83,6 +86,7 @@ fn take_row<W: Wrapper>(
     ensures open { OnOk result (IsOpen (W.meaning source.new) ticket.now.number) }
     ensures again { OnOk result ((params : Tuple) → CanRescan (W.meaning source.old) ticket.now.number params → CanRescan (W.meaning source.new) ticket.now.number params) }
     ensures live { IsSome (scan_of (W.meaning source.new) ticket.now.number) }
+    ensures tables { (t : ℕ) → table_of (W.meaning source.new) t ≡ table_of (W.meaning source.old) t }
     ensures others { (q : ℕ) → q ≢ ticket.now.number → scan_of (W.meaning source.new) q ≡ scan_of (W.meaning source.old) q }
 {
     let row = source.iterate(alloc, ticket)?;
@@ -97,7 +101,8 @@ fn take_four<W: Wrapper>(
     out: &mut Vec<u8>,
 ) -> Result<(), Fault>
     requires { IsOpen (W.meaning source.old) ticket.now.number }
-    ensures { IsSome (scan_of (W.meaning source.new) ticket.now.number) }
+    ensures live { IsSome (scan_of (W.meaning source.new) ticket.now.number) }
+    ensures tables { (t : ℕ) → table_of (W.meaning source.new) t ≡ table_of (W.meaning source.old) t }
 {
     for _ in 0..4 {
         take_row(source, alloc, ticket, out)?;
@@ -134,6 +139,7 @@ fn read<W: Wrapper>(
     out: &mut Vec<u8>,
 ) -> Result<(), Fault>
     requires { IsSome (table_of (W.meaning source.old) table.number) }
+    ensures { OnOk result (IsSome (table_of (W.meaning source.new) table.number)) }
 {
     let ticket = source.begin(alloc, table, &ScanSpec::plain(alloc), &[])?;
     let taken = take_four(source, alloc, &ticket, out);

@@ -1,10 +1,5 @@
-use Rattle.std.proofs.Common.{Result, Ok, Err, OnOk}
-use Rattle.probe_wrapper.proofs.CallLemmas.{given_is_open, given_can_rescan, given_keeps, open_is_live, broken_is_live, broken_keeps}
+use Rattle.probe_wrapper.proofs.CallLemmas.{given_is_open, on_ok_any, given_can_rescan, given_keeps, given_tables, broken_tables, open_is_live, broken_is_live, broken_keeps}
 use Rattle.probe_wrapper.proofs.tests.take_row.Goals as goal
-
-always : {T E P : Type 0} (r : Result T E) → P → OnOk r P
-always (Ok x) p = p
-always (Err e) p = tt
 
 pub returns-in_err-row-clause-live : goal.returns-in_err-row-clause-live
 returns-in_err-row-clause-live g c = broken_is_live _ _ _ _ c.in_err-row.ensures.err
@@ -16,7 +11,7 @@ pub returns-clause-open : goal.returns-clause-open
 returns-clause-open g c =
     let old = g.W.Wrapper.meaning c.args.source.now in
     let new = g.W.Wrapper.meaning c.iterate.new.self in
-    always c.write_row.result (given_is_open old new c.args.ticket.now.number c.in_ok-row.row c.in_ok-row.ensures.ok c.requires)
+    on_ok_any c.write_row.result (given_is_open old new c.args.ticket.now.number c.in_ok-row.row c.in_ok-row.ensures.ok c.requires)
 
 pub returns-clause-live : goal.returns-clause-live
 returns-clause-live g c =
@@ -32,4 +27,10 @@ pub returns-clause-again : goal.returns-clause-again
 returns-clause-again g c =
     let old = g.W.Wrapper.meaning c.args.source.now in
     let new = g.W.Wrapper.meaning c.iterate.new.self in
-    always c.write_row.result (λ params can. given_can_rescan old new c.args.ticket.now.number c.in_ok-row.row params c.in_ok-row.ensures.ok can)
+    on_ok_any c.write_row.result (λ params can. given_can_rescan old new c.args.ticket.now.number c.in_ok-row.row params c.in_ok-row.ensures.ok can)
+
+pub returns-in_err-row-clause-tables : goal.returns-in_err-row-clause-tables
+returns-in_err-row-clause-tables g c = λ t. broken_tables _ _ _ t _ c.in_err-row.ensures.err
+
+pub returns-clause-tables : goal.returns-clause-tables
+returns-clause-tables g c = λ t. given_tables _ _ _ t c.in_ok-row.row c.in_ok-row.ensures.ok

@@ -1,0 +1,10 @@
+use Rattle.probe_wrapper.specs.Shuffled.{turns_of}
+use Rattle.probe_wrapper.proofs.CountingLemmas.{if_ok, if_err}
+use Rattle.probe_wrapper.proofs.ShuffledCalls.{stages, refuses_change}
+use Rattle.probe_wrapper.proofs.shuffled.ShuffledWrapper.insert.Goals as goal
+
+pub returns-clause-ok : goal.returns-clause-ok
+returns-clause-ok g c = if_ok _ _ c.insert.result (λ _ r. stages (turns_of c.args.self.now.scans) c.args.self.now.pulled (g.W.Wrapper.meaning c.args.self.now.inner) (g.W.Wrapper.meaning c.insert.new.self) _ r) c.insert.ensures.ok
+
+pub returns-clause-err : goal.returns-clause-err
+returns-clause-err g c = if_err _ _ c.insert.result (λ f r. refuses_change (turns_of c.args.self.now.scans) c.args.self.now.pulled (g.W.Wrapper.meaning c.args.self.now.inner) (g.W.Wrapper.meaning c.insert.new.self) _ f r) c.insert.ensures.err

@@ -1,0 +1,322 @@
+//! A wrapper round a wrapper, that gives rows in another order.
+ghost use Rattle.std.specs.Prelude.{◌≡◌, ◌<◌, ◌^◌, true, map, length, IfOk, IfErr, IfSome, IsSome, Some, None};
+ghost use Rattle.std.specs.Ordering.{nat_cmp};
+ghost use Rattle.std.specs.BTreeMap as tree;
+ghost use Rattle.fdw_api.specs.State.{IsIdle};
+ghost use Rattle.fdw_api.specs.Calls.{row_of, IsOpen, Gives, Breaks, bumped};
+ghost use Rattle.probe_wrapper.specs.Shuffled.{turned, turns_of, reordered, is_unread, IsRead, TakesFirst, TurnsRows, ReadsOut, StopsOut};
+
+use fdw_api::interface::{Counts, Fault, Opt, RowId, SourceRow, TableNo, Ticket, Wrapper};
+use fdw_api::scan::{Agreement, Restriction, ScanSpec};
+use med_value::{ColumnDef, Row, Value};
+use std::alloc::Global;
+use std::collections::{BTreeMap, VecDeque};
+
+/// A live scan: by how many places its rows are turned left, and those of them that are still to be given.
+#[derive(Drop)]
+pub(crate) struct TurnedScan {
+    places: u64,
+    /// None before the first row is asked for.
+    rows: Option<VecDeque<SourceRow>>,
+    broken: bool,
+}
+
+/// Whether no row of a scan was asked for yet.
+fn is_unread(scans: &BTreeMap<u64, TurnedScan>, number: u64) -> bool
+    ensures { result ≡ is_unread (turns_of scans.now number) }
+{
+    match scans.get(&number) {
+        Some(scan) => scan.rows.is_none(),
+        None => false,
+    }
+}
+
+/// Marks a scan as good for `end` alone.
+fn spoil(scans: &mut BTreeMap<u64, TurnedScan>, number: u64)
+    requires { IsSome (tree.get nat_cmp scans.old number) }
+    ensures { IfSome (tree.get nat_cmp scans.old number) (λ s. tree.Updates nat_cmp scans.old scans.new number (Some (record s { broken = true }))) }
+{
+    match scans.get_mut(&number) {
+        Some(scan) => scan.broken = true,
+        None => unreachable!(),
+    }
+}
+
+/// Begins a scan again, turned by so many places.
+fn restart(scans: &mut BTreeMap<u64, TurnedScan>, number: u64, places: u64)
+    requires { IsSome (tree.get nat_cmp scans.old number) }
+    ensures { IfSome (tree.get nat_cmp scans.old number) (λ s. tree.Updates nat_cmp scans.old scans.new number (Some (record s { places = places; rows = None }))) }
+{
+    match scans.get_mut(&number) {
+        Some(scan) => {
+            scan.places = places;
+            scan.rows = None;
+        }
+        None => unreachable!(),
+    }
+}
+
+/// Takes the first of the rows that wait.
+fn take_first(scans: &mut BTreeMap<u64, TurnedScan>, number: u64) -> Option<SourceRow>
+    requires { IsRead (turns_of scans.old number) }
+    ensures { TakesFirst (turns_of scans.old) number result (turns_of scans.new) }
+{
+    match scans.get_mut(&number) {
+        Some(scan) => match &mut scan.rows {
+            Some(rows) => rows.pop_front(),
+            None => unreachable!(),
+        },
+        None => unreachable!(),
+    }
+}
+
+/// By how many places a scan is turned.
+fn places_of(scans: &BTreeMap<u64, TurnedScan>, number: u64) -> u64
+    requires { IsSome (tree.get nat_cmp scans.now number) }
+    ensures { IfSome (tree.get nat_cmp scans.now number) (λ s. result ≡ s.places) }
+{
+    match scans.get(&number) {
+        Some(scan) => scan.places,
+        None => unreachable!(),
+    }
+}
+
+/// Lets rows of a scan wait.
+fn keep_rows(scans: &mut BTreeMap<u64, TurnedScan>, number: u64, rows: VecDeque<SourceRow>)
+    requires { IsSome (tree.get nat_cmp scans.old number) }
+    ensures { IfSome (tree.get nat_cmp scans.old number) (λ s. tree.Updates nat_cmp scans.old scans.new number (Some (record s { rows = Some rows }))) }
+{
+    match scans.get_mut(&number) {
+        Some(scan) => scan.rows = Some(rows),
+        None => unreachable!(),
+    }
+}
+
+/// Turns rows left by so many places.
+fn turn_left(rows: &mut Vec<SourceRow>, places: u64)
+    ensures turned { rows.new.items ≡ turned places rows.old.items }
+    ensures small { length rows.old.items < 2 ^ 64 }
+{
+    let count = rows.len();
+    if count != 0 {
+        rows.rotate_left((places % count as u64) as usize);
+    }
+}
+
+/// Turns the rows of a scan, takes the first of them and lets the rest wait.
+fn turn_rows(
+    scans: &mut BTreeMap<u64, TurnedScan>,
+    number: u64,
+    rows: Vec<SourceRow>,
+) -> Option<SourceRow>
+    requires { IsSome (tree.get nat_cmp scans.old number) }
+    ensures { TurnsRows (turns_of scans.old) number (map row_of rows.items) result (turns_of scans.new) }
+{
+    let mut rows = rows;
+    turn_left(&mut rows, places_of(scans, number));
+    let mut waiting = VecDeque::from_vec(rows);
+    match waiting.pop_front() {
+        None => None,
+        Some(row) => {
+            keep_rows(scans, number, waiting);
+            Some(row)
+        }
+    }
+}
+
+/// Reads a scan to its end. The scan stays live.
+fn read_out<W: Wrapper>(
+    inner: &mut W,
+    alloc: Global,
+    ticket: &Ticket,
+) -> Result<Vec<SourceRow>, Fault>
+    requires { IsOpen (W.meaning inner.old) ticket.now.number }
+    ensures ok { IfOk result (λ rows. ReadsOut (W.meaning inner.old) ticket.now.number (map row_of rows.items) (W.meaning inner.new)) }
+    ensures err { IfErr result (λ fault. StopsOut (W.meaning inner.old) ticket.now.number fault (W.meaning inner.new)) }
+{
+    let mut rows = Vec::new(alloc);
+    while let Some(row) = inner.iterate(alloc, ticket)? {
+        rows.push(row)?;
+    }
+    Ok(rows)
+}
+
+/// Gives the rows of its inner wrapper in another order: its k-th begin or rescan, counted from 1 and k staying at 2^64 - 1, gives the
+/// rows of the inner scan turned left k places. All else is as its inner wrapper does it, but that it counts itself the rows that it gives.
+///
+/// A scan is read from the inner wrapper whole when its first row is asked for.
+#[derive(Drop)]
+pub struct Shuffled<W> {
+    inner: W,
+    scans: BTreeMap<u64, TurnedScan>,
+    turns: u64,
+    pulled: u64,
+}
+
+impl<W: Wrapper> Shuffled<W> {
+    /// A wrapper round this one, that has begun no scan yet. It takes no memory.
+    pub fn new(alloc: Global, inner: W) -> Self
+        ensures shows { reordered (W.meaning result.inner) (turns_of result.scans) result.pulled ≡ reordered (W.meaning inner) (λ q. None) 0 }
+        ensures turns { result.turns ≡ 0 }
+        ensures idle { IsIdle (W.meaning inner) → IsIdle (reordered (W.meaning result.inner) (turns_of result.scans) result.pulled) }
+    {
+        Shuffled {
+            inner,
+            scans: BTreeMap::new(alloc),
+            turns: 0,
+            pulled: 0,
+        }
+    }
+
+    /// Reads a scan of the inner wrapper, turns its rows and gives the first.
+    fn read_first(&mut self, alloc: Global, ticket: &Ticket) -> Result<Option<SourceRow>, Fault>
+        requires open { IsOpen (reordered (W.meaning self.old.inner) (turns_of self.old.scans) self.old.pulled) ticket.now.number }
+        requires unread { is_unread (turns_of self.old.scans ticket.now.number) ≡ true }
+        ensures ok { IfOk result (λ row. Gives (reordered (W.meaning self.old.inner) (turns_of self.old.scans) self.old.pulled) ticket.now.number row (reordered (W.meaning self.new.inner) (turns_of self.new.scans) self.new.pulled)) }
+        ensures err { IfErr result (λ fault. Breaks (reordered (W.meaning self.old.inner) (turns_of self.old.scans) self.old.pulled) ticket.now.number fault (reordered (W.meaning self.new.inner) (turns_of self.new.scans) self.new.pulled)) }
+    {
+        match read_out(&mut self.inner, alloc, ticket) {
+            Err(fault) => {
+                spoil(&mut self.scans, ticket.number);
+                Err(fault)
+            }
+            Ok(rows) => match turn_rows(&mut self.scans, ticket.number, rows) {
+                None => Ok(None),
+                Some(row) => {
+                    self.pulled = self.pulled.saturating_add(1);
+                    Ok(Some(row))
+                }
+            },
+        }
+    }
+}
+
+impl<W: Wrapper> Wrapper for Shuffled<W> {
+    ghost use Rattle.std.specs.Prelude.{OnErr};
+    ghost use Rattle.med_value.specs.Datum.{datum};
+    ghost use Rattle.fdw_api.specs.Scan.{spec_of};
+    ghost use Rattle.fdw_api.specs.Calls.{CanBegin, Begins, RefusesBegin, CanRescan, Rescans};
+    ghost use Rattle.probe_wrapper.specs.Shuffled.{IsTurned};
+
+    ghost meaning = { λ b. reordered (W.meaning b.inner) (turns_of b.scans) b.pulled };
+
+    fn bind(
+        &mut self,
+        alloc: Global,
+        remote: &str,
+        columns: &[ColumnDef],
+        options: &[Opt],
+    ) -> Result<TableNo, Fault> {
+        self.inner.bind(alloc, remote, columns, options)
+    }
+
+    fn unbind(&mut self, t: TableNo) {
+        self.inner.unbind(t)
+    }
+
+    fn plan(
+        &self,
+        alloc: Global,
+        t: TableNo,
+        wanted: &[usize],
+        offered: &[Restriction],
+    ) -> Result<Agreement, Fault> {
+        self.inner.plan(alloc, t, wanted, offered)
+    }
+
+    /// Begins a scan, that is to give the rows of the inner scan turned left by one place more than the scan begun before it.
+    fn begin(
+        &mut self,
+        alloc: Global,
+        t: TableNo,
+        spec: &ScanSpec,
+        params: &[Value],
+    ) -> Result<Ticket, Fault>
+        requires { CanBegin (reordered (W.meaning self.old.inner) (turns_of self.old.scans) self.old.pulled) t.number spec.now (map datum params.now) }
+        ensures ok { IfOk result (λ ticket. Begins (reordered (W.meaning self.old.inner) (turns_of self.old.scans) self.old.pulled) t.number (spec_of spec.now) (map datum params.now) ticket.number (reordered (W.meaning self.new.inner) (turns_of self.new.scans) self.new.pulled)) }
+        ensures err { IfErr result (λ fault. RefusesBegin fault (reordered (W.meaning self.old.inner) (turns_of self.old.scans) self.old.pulled) (reordered (W.meaning self.new.inner) (turns_of self.new.scans) self.new.pulled)) }
+        ensures turned { IfOk result (λ ticket. IsTurned self.old.turns ticket.number (W.meaning self.new.inner) (reordered (W.meaning self.new.inner) (turns_of self.new.scans) self.new.pulled) self.new.turns) }
+        ensures uncounted { OnErr result (self.new.turns ≡ self.old.turns) }
+    {
+        let ticket = self.inner.begin(alloc, t, spec, params)?;
+        let places = self.turns.saturating_add(1);
+        let scan = TurnedScan {
+            places,
+            rows: None,
+            broken: false,
+        };
+        match self.scans.insert(ticket.number, scan) {
+            Ok(_) => {
+                self.turns = places;
+                Ok(ticket)
+            }
+            Err(_) => {
+                self.inner.end(ticket);
+                Err(Fault::NoMemory)
+            }
+        }
+    }
+
+    fn iterate(&mut self, alloc: Global, ticket: &Ticket) -> Result<Option<SourceRow>, Fault> {
+        if is_unread(&self.scans, ticket.number) {
+            return self.read_first(alloc, ticket);
+        }
+        match take_first(&mut self.scans, ticket.number) {
+            None => Ok(None),
+            Some(row) => {
+                self.pulled = self.pulled.saturating_add(1);
+                Ok(Some(row))
+            }
+        }
+    }
+
+    /// Begins a scan again, with the rows of the inner scan turned left by one place more than the scan begun before it.
+    fn rescan(&mut self, alloc: Global, ticket: &Ticket, params: &[Value]) -> Result<(), Fault>
+        requires { CanRescan (reordered (W.meaning self.old.inner) (turns_of self.old.scans) self.old.pulled) ticket.now.number (map datum params.now) }
+        ensures ok { IfOk result (λ _. Rescans (reordered (W.meaning self.old.inner) (turns_of self.old.scans) self.old.pulled) ticket.now.number (map datum params.now) (reordered (W.meaning self.new.inner) (turns_of self.new.scans) self.new.pulled)) }
+        ensures err { IfErr result (λ fault. Breaks (reordered (W.meaning self.old.inner) (turns_of self.old.scans) self.old.pulled) ticket.now.number fault (reordered (W.meaning self.new.inner) (turns_of self.new.scans) self.new.pulled)) }
+        ensures turned { IfOk result (λ _. IsTurned self.old.turns ticket.now.number (W.meaning self.new.inner) (reordered (W.meaning self.new.inner) (turns_of self.new.scans) self.new.pulled) self.new.turns) }
+        ensures uncounted { OnErr result (self.new.turns ≡ self.old.turns) }
+    {
+        match self.inner.rescan(alloc, ticket, params) {
+            Err(fault) => Err(fault),
+            Ok(()) => {
+                self.turns = self.turns.saturating_add(1);
+                restart(&mut self.scans, ticket.number, self.turns);
+                Ok(())
+            }
+        }
+    }
+
+    fn end(&mut self, ticket: Ticket) {
+        let _ = self.scans.remove(&ticket.number);
+        self.inner.end(ticket)
+    }
+
+    fn begin_modify(&mut self, alloc: Global, t: TableNo) -> Result<(), Fault> {
+        self.inner.begin_modify(alloc, t)
+    }
+
+    fn insert(&mut self, alloc: Global, row: Row) -> Result<(), Fault> {
+        self.inner.insert(alloc, row)
+    }
+
+    fn update(&mut self, alloc: Global, id: RowId, row: Row) -> Result<(), Fault> {
+        self.inner.update(alloc, id, row)
+    }
+
+    fn delete(&mut self, alloc: Global, id: RowId) -> Result<(), Fault> {
+        self.inner.delete(alloc, id)
+    }
+
+    fn end_modify(&mut self, alloc: Global, keep: bool) -> Result<(), Fault> {
+        self.inner.end_modify(alloc, keep)
+    }
+
+    fn ledger(&self) -> Counts {
+        Counts {
+            pulled: self.pulled,
+            ..self.inner.ledger()
+        }
+    }
+}
