@@ -24,7 +24,11 @@ idle_can_bind s remote columns settings idle no_objection = record {
   no_objection = no_objection;
 }
 
-bound_can_unbind : (old new : BoxState) (remote : List ℕ) (columns : List Column) (settings : List Setting) (t : ℕ) → IsIdle old → Binds old remote columns settings t new → CanUnbind new t
+-- on an idle box that takes all columns any table may be bound
+pub takes_bind : (s : BoxState) (remote : List ℕ) (columns : List Column) → IsIdle s → TakesColumns s → CanBind s remote columns []
+takes_bind s remote columns idle takes = idle_can_bind s remote columns [] idle (takes columns)
+
+pub bound_can_unbind : (old new : BoxState) (remote : List ℕ) (columns : List Column) (settings : List Setting) (t : ℕ) → IsIdle old → Binds old remote columns settings t new → CanUnbind new t
 bound_can_unbind old new remote columns settings t idle b = record {
   is_bound = subst IsSome (sym (ap (λ z. z.tables t) b.ledger ∙ set_same old.ledger.tables t (Some b.bound))) refl;
   no_scan = λ n scan is. absurd (not_none (finmap.get new.ledger.live n) scan (ap (λ z. finmap.get z.live n) b.ledger ∙ idle.no_scan n) is);
@@ -44,7 +48,7 @@ follows_at : (Q R : BoxState → Type 0) (boxes : List (Option BoxState)) (slot 
 follows_at Q R boxes slot f b = record { box = b.box; there = b.there; holds = f b.box b.holds }
 
 pub new_can_bind : (boxes : List (Option BoxState)) (slot : ℕ) (remote : List ℕ) (columns : List Column) → BoxAt boxes slot (λ s. IsIdle s × TakesColumns s) → BoxAt boxes slot (λ s. CanBind s remote columns [])
-new_can_bind boxes slot remote columns = follows_at _ _ boxes slot (λ s q. idle_can_bind s remote columns [] q.0 (q.1 columns))
+new_can_bind boxes slot remote columns = follows_at _ _ boxes slot (λ s q. takes_bind s remote columns q.0 q.1)
 
 pub bound_rests : (old new : List (Option BoxState)) (slot t : ℕ) (remote : List ℕ) (columns : List Column) (settings : List Setting) → BoxAt old slot (λ s. IsIdle s × TakesColumns s) → ChangesAt old slot (λ s r. Binds s remote columns settings t r) new → BoxAt new slot (λ s. CanUnbind s t)
 bound_rests old new slot t remote columns settings = moves_on _ _ _ old new slot (λ s r q b. bound_can_unbind s r remote columns settings t q.0 b)

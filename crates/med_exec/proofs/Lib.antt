@@ -1,3 +1,17 @@
 pub mod SlotLemmas
 pub mod ScanLemmas
 pub mod RestrictedLemmas
+pub mod SelectLemmas
+pub mod Telling
+pub mod RowByRow
+pub mod Runs
+pub mod GroupRuns
+pub mod Pages
+pub mod KeyOrder
+pub mod SafeJoins
+pub mod Joining
+pub mod ToldParts
+pub mod Ungrouped
+pub mod PartLemmas
+pub mod Grouped
+pub mod Finished

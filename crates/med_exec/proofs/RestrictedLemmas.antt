@@ -29,7 +29,7 @@ not_true true e = absurd cc
 not_true false e = refl
 
 -- a wanted cell is where its column stands among the wanted ones
-picked : (whole : Tuple) (ws : List ℕ) (c : ℕ) → list_any (λ w. nat_eq w c) ws ≡ true → cell (pick ws whole) (place_in ws c) ≡ cell whole c
+pub picked : (whole : Tuple) (ws : List ℕ) (c : ℕ) → list_any (λ w. nat_eq w c) ws ≡ true → cell (pick ws whole) (place_in ws c) ≡ cell whole c
 picked whole [] c e = absurd cc
 picked whole (w ∷ ws) c e = at (eqb_tells w c) (picked whole ws c)
   where

@@ -1,5 +1,5 @@
 -- How the calls of one scan go together.
-use Rattle.std.proofs.Common.{◌≡◌, ◌≢◌, ℕ, ◌+◌, ◌-◌, ◌^◌, ◌<◌, ◌⊎◌, suc, add-one, eqb, inl, inr, Result, Ok, Err, IfOk, IfErr, true, false, List, [], ◌∷◌, ◌++◌, length, map, Option, Some, None, IsSome, refl, ap, sym, ◌∙◌, subst, arith, rules, append_assoc}
+use Rattle.std.proofs.Common.{◌≡◌, ◌≢◌, ℕ, ◌+◌, ◌-◌, ◌^◌, ◌<◌, ◌⊎◌, suc, add-one, eqb, inl, inr, Result, Ok, Err, IfOk, IfErr, Bool, true, false, if◌then◌else◌, List, [], ◌∷◌, ◌++◌, length, map, Option, Some, None, IsSome, refl, ap, sym, ◌∙◌, subst, arith, rules, append_assoc}
 use Rattle.std.specs.Ordering.{nat_cmp}
 use Rattle.std.specs.FinMap as finmap
 use Rattle.std.specs.FinMap.{gets, nat_cmp-IsAntisymmetric}
@@ -12,13 +12,13 @@ use Rattle.std.proofs.lemmas.List.Sorted.{IsPermutation-map}
 use Rattle.std.proofs.lemmas.Bool.{false≢true}
 use Rattle.std.proofs.lemmas.Bool.Decides.{eqb_tells}
 use Rattle.med_value.specs.Datum.{Tuple}
-use Rattle.fdw_api.specs.Scan.{TableRow, GivenRow, Spec, IsComing, plain_spec, pick, shown, meets_all}
+use Rattle.fdw_api.specs.Scan.{TableRow, GivenRow, Spec, Filter, IsComing, pick, shown, shown_cells, meets_all}
 use Rattle.fdw_api.specs.State.{Nature, Scan, Ledger, BoxState, is_honest, scan_of, rows_of}
 use Rattle.fdw_api.specs.Calls.{LeavesOthers, LeavesAll, bumped, faults_after, not_refused, IsOpen, GivesRow, GivesNone, Breaks, BeginCause, Begins, Ends, RefusesBegin}
 use Rattle.fdw_api.specs.declared.interface.Fault.{Fault}
 use Rattle.fdw_api.specs.declared.interface.Fault.TheVariants.{NoMemory, Source, Refused}
 use Rattle.med_exec.specs.Reading.{pulled_after, cells_of, Keeps, GivesAll, StopsBy}
-use Rattle.med_exec.specs.Scanning.{tuples_of, ReadsTable, FailsTable, SelectsTable}
+use Rattle.med_exec.specs.Scanning.{tuples_of, ReadsTable, ScansTable, FailsTable, SelectsTable}
 
 -- how many rows a scan may still give at most
 abbrev pub left_of : Option Scan → ℕ
@@ -219,26 +219,38 @@ none_left : (rows : List TableRow) → All (λ r. meets_all [] [] r.cells ≡ fa
 none_left [] a = refl
 none_left (r ∷ rs) a = absurd (false≢true (sym (All-head (λ r. meets_all [] [] r.cells ≡ false) r rs a)))
 
--- rows that are not narrow are shown with all their cells
-shown_whole : (taken : List TableRow) → map (λ r. r.cells) taken ≡ cells_of (map (shown (plain_spec [] [])) taken)
-shown_whole [] = refl
-shown_whole (r ∷ rs) = ap (λ (l : List Tuple). r.cells ∷ l) (shown_whole rs)
+-- the rows that a scan shows
+shown_all : (spec : Spec) (taken : List TableRow) → cells_of (map (shown spec) taken) ≡ map (λ r. shown_cells spec r.cells) taken
+shown_all spec [] = refl
+shown_all spec (r ∷ rs) = ap (λ (l : List Tuple). shown_cells spec r.cells ∷ l) (shown_all spec rs)
 
--- the rows to come of a plain scan are the table's
-all_come : (rows : List TableRow) (coming : List GivenRow) → IsComing rows (plain_spec [] []) [] coming → IsPermutation (map (λ r. r.cells) rows) (cells_of coming)
-all_come rows coming c =
-    let whole : IsPermutation rows c.taken = subst (λ (l : List TableRow). IsPermutation rows l) (ap (λ (l : List TableRow). c.taken ++ l) (none_left c.left_out c.failing) ∙ append-nil c.taken) c.parts in
-    subst (λ (l : List Tuple). IsPermutation (map (λ r. r.cells) rows) l) (shown_whole c.taken ∙ sym (ap cells_of c.is)) (IsPermutation-map (λ (r : TableRow). r.cells) rows c.taken whole)
+-- the rows to come of a scan without restrictions are the table's
+pub all_come : (rows : List TableRow) (spec : Spec) (params : Tuple) (coming : List GivenRow) → spec.offered ≡ [] → params ≡ [] → IsComing rows spec params coming → (taken : List TableRow) × IsPermutation rows taken × (cells_of coming ≡ map (λ r. shown_cells spec r.cells) taken)
+all_come rows spec params coming none no_params c =
+    let out : c.left_out ≡ [] = none_left c.left_out
+    (subst (λ (l : List Filter). All (λ r. meets_all l [] r.cells ≡ false) c.left_out) none (subst (λ (l : Tuple). All (λ r. meets_all spec.offered l r.cells ≡ false) c.left_out) no_params c.failing)) in
+    (c.taken, subst (λ (l : List TableRow). IsPermutation rows l) (ap (λ (l : List TableRow). c.taken ++ l) out ∙ append-nil c.taken) c.parts, ap cells_of c.is ∙ shown_all spec c.taken)
 
-pub reads : (t n : ℕ) (spec : Spec) (params : Tuple) (old begun last new : BoxState) (given : List Tuple) → spec ≡ plain_spec [] [] → params ≡ [] → Begins old t spec params n begun → GivesAll n begun given last → Ends last n new → ReadsTable old t given new
-reads t n spec params old begun last new given plain none b g e = record {
+pub reads : (t n : ℕ) (spec : Spec) (params : Tuple) (old begun last new : BoxState) (given : List Tuple) → spec.offered ≡ [] → params ≡ [] → Begins old t spec params n begun → GivesAll n begun given last → Ends last n new → ScansTable old t spec given new
+reads t n spec params old begun last new given none no_params b g e = record {
   nature = e.nature ∙ g.keeps.nature ∙ b.nature;
   room = subst (λ (x : ℕ). x < 2 ^ 64 - 1) b.is_next b.room;
   ledger = ledger_again t spec params n _ _ old begun last new b g.keeps (g.pulled ∙ ap (λ (z : Ledger). pulled_after (length given) z.pulled) b.ledger) (g.faults ∙ ap (λ z. z.faults) b.ledger) e;
   leaves = left_again t spec params n old begun last new b g.keeps e;
+  rows = λ h. let w = all_come (rows_of old t) spec params (begun.content.coming n) none no_params (b.coming h) in (w.0, w.1, sym (g.all (honest_on old begun b.nature h)) ∙ w.2);
+}
+
+-- a scan that is not narrow shows the rows whole
+pub reads_whole : (t : ℕ) (spec : Spec) (given : List Tuple) (old new : BoxState) → spec.narrow ≡ false → ScansTable old t spec given new → ReadsTable old t given new
+reads_whole t spec given old new wide s = record {
+  nature = s.nature;
+  room = s.room;
+  ledger = s.ledger;
+  leaves = s.leaves;
   rows = λ h.
-      let whole : IsComing (rows_of old t) (plain_spec [] []) [] (begun.content.coming n) = subst (λ (z : Spec). IsComing (rows_of old t) z [] (begun.content.coming n)) plain (subst (λ (z : Tuple). IsComing (rows_of old t) spec z (begun.content.coming n)) none (b.coming h)) in
-      subst (λ (l : List Tuple). IsPermutation (tuples_of old t) l) (g.all (honest_on old begun b.nature h)) (all_come (rows_of old t) (begun.content.coming n) whole);
+      let w = s.rows h in
+      let whole : given ≡ map (λ r. r.cells) w.0 = w.2 ∙ ap (λ (b : Bool). map (λ (r : TableRow). if b then pick spec.wanted r.cells else r.cells) w.0) wide in
+      subst (λ (l : List Tuple). IsPermutation (tuples_of old t) l) (sym whole) (IsPermutation-map (λ (r : TableRow). r.cells) (rows_of old t) w.0 w.1);
 }
 
 -- after a begun scan the fault has no cause
@@ -247,7 +259,7 @@ uncaused NoMemory next h = tt
 uncaused Source next h = tt
 uncaused (Refused c) next h = absurd h
 
-fails : (t n : ℕ) (spec : Spec) (params : Tuple) (fault : Fault) (old begun last new : BoxState) → Begins old t spec params n begun → StopsBy n fault begun last → Ends last n new → FailsTable fault old new
+pub fails : (t n : ℕ) (spec : Spec) (params : Tuple) (fault : Fault) (old begun last new : BoxState) → Begins old t spec params n begun → StopsBy n fault begun last → Ends last n new → FailsTable fault old new
 fails t n spec params fault old begun last new b g e = record {
   nature = e.nature ∙ g.keeps.nature ∙ b.nature;
   next = old.ledger.next + 1;
@@ -273,7 +285,7 @@ begin_fails fault old new r = record {
   cause = r.cause;
 }
 
-pub ok_reads : {T : Type 0} (rows : T → List Tuple) (t n : ℕ) (spec : Spec) (params : Tuple) (old begun last new : BoxState) (r : Result T Fault) → spec ≡ plain_spec [] [] → params ≡ [] → Begins old t spec params n begun → IfOk r (λ x. GivesAll n begun (rows x) last) → Ends last n new → IfOk r (λ x. ReadsTable old t (rows x) new)
+pub ok_reads : {T : Type 0} (rows : T → List Tuple) (t n : ℕ) (spec : Spec) (params : Tuple) (old begun last new : BoxState) (r : Result T Fault) → spec.offered ≡ [] → params ≡ [] → Begins old t spec params n begun → IfOk r (λ x. GivesAll n begun (rows x) last) → Ends last n new → IfOk r (λ x. ScansTable old t spec (rows x) new)
 ok_reads rows t n spec params old begun last new (Ok x) plain none b g e = reads t n spec params old begun last new (rows x) plain none b g e
 ok_reads rows t n spec params old begun last new (Err f) plain none b g e = tt
 
@@ -293,8 +305,8 @@ selects t places rows given old new is r = record {
 }
 
 -- the table was read, and memory was refused after it
-pub reads_in_vain : (t : ℕ) (rows : List Tuple) (old new : BoxState) → ReadsTable old t rows new → FailsTable NoMemory old new
-reads_in_vain t rows old new r = record {
+pub reads_in_vain : (t : ℕ) (spec : Spec) (rows : List Tuple) (old new : BoxState) → ScansTable old t spec rows new → FailsTable NoMemory old new
+reads_in_vain t spec rows old new r = record {
   nature = r.nature;
   next = old.ledger.next + 1;
   rises = omega arith;

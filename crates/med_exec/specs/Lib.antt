@@ -2,3 +2,10 @@ pub mod Slots
 pub mod Reading
 pub mod Scanning
 pub mod Restricted
+pub mod Answering
+pub mod TableAnswers
+pub mod Select
+pub mod Staging
+pub mod Ordering
+pub mod Grouping
+pub mod Finishing

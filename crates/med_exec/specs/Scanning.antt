@@ -1,7 +1,7 @@
 -- Reading a table whole: BeginForeignScan, IterateForeignScan until no row is left or one fails, EndForeignScan.
 use Rattle.std.specs.Prelude.{◌≡◌, ◌+◌, ◌-◌, ◌^◌, ◌<◌, ◌≤◌, ◌⊎◌, ℕ, List, map, length, IsPermutation}
 use Rattle.med_value.specs.Datum.{Tuple}
-use Rattle.fdw_api.specs.Scan.{pick}
+use Rattle.fdw_api.specs.Scan.{Spec, TableRow, pick, shown_cells}
 use Rattle.fdw_api.specs.State.{BoxState, is_honest, rows_of}
 use Rattle.fdw_api.specs.Calls.{LeavesAll, faults_after, BeginCause}
 use Rattle.fdw_api.specs.declared.interface.Fault.{Fault}
@@ -18,6 +18,15 @@ pub record ReadsTable (old : BoxState) (table : ℕ) (given : List Tuple) (new :
   pub ledger : new.ledger ≡ record old.ledger { next = old.ledger.next + 1; pulled = pulled_after (length given) old.ledger.pulled }
   pub leaves : is_honest old → LeavesAll old new
   pub rows : is_honest old → IsPermutation (tuples_of old table) given
+
+-- one scan by this agreement, for which no restriction was offered, was begun, gave these rows and was ended: they are the table's, each
+-- once, in any order, as the scan shows them
+pub record ScansTable (old : BoxState) (table : ℕ) (spec : Spec) (given : List Tuple) (new : BoxState) : Type 0 where
+  pub nature : new.nature ≡ old.nature
+  pub room : old.ledger.next < 2 ^ 64 - 1
+  pub ledger : new.ledger ≡ record old.ledger { next = old.ledger.next + 1; pulled = pulled_after (length given) old.ledger.pulled }
+  pub leaves : is_honest old → LeavesAll old new
+  pub rows : is_honest old → (taken : List TableRow) × IsPermutation (rows_of old table) taken × (given ≡ map (λ r. shown_cells spec r.cells) taken)
 
 -- a fault stood against the scan: it was not begun and gave no row, or was begun, gave some rows and was ended. 54000 comes only where
 -- ticket numbers were used up, and a source's fault is counted

@@ -25,7 +25,7 @@ fn place_of(wanted: &[usize], column: usize) -> usize
 }
 
 /// Where a scan shows a column.
-fn shown_at(spec: &ScanSpec, column: usize) -> usize
+pub(crate) fn shown_at(spec: &ScanSpec, column: usize) -> usize
     ensures { result ≡ place_shown (spec_of spec.now) column }
 {
     if spec.agreement.narrow {

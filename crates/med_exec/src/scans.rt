@@ -1,16 +1,19 @@
 //! Whole scans of a table of the box in a slot.
-ghost use Rattle.std.specs.Prelude.{IfOk, IfErr, IsSome, map};
+ghost use Rattle.std.specs.Prelude.{◌≡◌, [], IfOk, IfErr, IsSome, map};
 ghost use Rattle.med_value.specs.Datum.{tuple};
 ghost use Rattle.fdw_api.specs.State.{table_of};
-ghost use Rattle.fdw_api.specs.Calls.{IsOpen};
+ghost use Rattle.fdw_api.specs.Scan.{spec_of};
+ghost use Rattle.fdw_api.specs.Calls.{CanBegin, IsOpen};
 ghost use Rattle.med_exec.specs.Slots.{states, HasTable, ChangesAt};
 ghost use Rattle.med_exec.specs.Reading.{GivesAll, StopsBy};
-ghost use Rattle.med_exec.specs.Scanning.{ReadsTable, FailsTable, SelectsTable};
+ghost use Rattle.med_exec.specs.Scanning.{ReadsTable, ScansTable, FailsTable, SelectsTable};
+ghost use Rattle.med_exec.specs.Restricted.{place_shown};
 
 use crate::columns::project;
+use crate::restricted::shown_at;
 use fdw_api::interface::{Fault, TableNo, Ticket, Wrapper};
 use fdw_api::scan::ScanSpec;
-use med_value::Row;
+use med_value::{NoMemory, Row};
 use std::alloc::Global;
 
 /// Reads a scan to its end. The scan stays live.
@@ -26,21 +29,69 @@ fn read_all<W: Wrapper>(b: &mut W, alloc: Global, ticket: &Ticket) -> Result<Vec
     Ok(rows)
 }
 
-/// Reads a table of a box whole, and ends the scan.
-fn read_box<W: Wrapper>(b: &mut W, alloc: Global, table: TableNo) -> Result<Vec<Row>, Fault>
-    requires { IsSome (table_of (W.meaning b.old) table.number) }
-    ensures ok { IfOk result (λ rows. ReadsTable (W.meaning b.old) table.number (map tuple rows.items) (W.meaning b.new)) }
+/// Reads a table of a box by one scan without restrictions, under an agreement that the table allows.
+fn scan_box<W: Wrapper>(
+    b: &mut W,
+    alloc: Global,
+    table: TableNo,
+    spec: &ScanSpec,
+) -> Result<Vec<Row>, Fault>
+    requires begin { CanBegin (W.meaning b.old) table.number spec.now [] }
+    requires none { spec.now.offered.items ≡ [] }
+    ensures ok { IfOk result (λ rows. ScansTable (W.meaning b.old) table.number (spec_of spec.now) (map tuple rows.items) (W.meaning b.new)) }
     ensures err { IfErr result (λ fault. FailsTable fault (W.meaning b.old) (W.meaning b.new)) }
 {
-    let ticket = b.begin(alloc, table, &ScanSpec::plain(alloc), &[])?;
+    let ticket = b.begin(alloc, table, spec, &[])?;
     let rows = read_all(b, alloc, &ticket);
     b.end(ticket);
     rows
 }
 
+/// Reads a table of a box whole.
+fn read_box<W: Wrapper>(b: &mut W, alloc: Global, table: TableNo) -> Result<Vec<Row>, Fault>
+    requires { IsSome (table_of (W.meaning b.old) table.number) }
+    ensures ok { IfOk result (λ rows. ReadsTable (W.meaning b.old) table.number (map tuple rows.items) (W.meaning b.new)) }
+    ensures err { IfErr result (λ fault. FailsTable fault (W.meaning b.old) (W.meaning b.new)) }
+{
+    scan_box(b, alloc, table, &ScanSpec::plain(alloc))
+}
+
+/// Where a scan shows each of these columns.
+fn shown_places(alloc: Global, spec: &ScanSpec, places: &[usize]) -> Result<Vec<usize>, NoMemory>
+    ensures { IfOk result (λ shown. shown.items ≡ map (place_shown (spec_of spec.now)) places.now) }
+{
+    let mut shown = Vec::new(alloc);
+    for place in places {
+        shown.push(shown_at(spec, *place))?;
+    }
+    Ok(shown)
+}
+
+/// Reads the columns at these places of a table of a box, by a scan under the box's own agreement.
+fn select_box<W: Wrapper>(
+    b: &mut W,
+    alloc: Global,
+    table: TableNo,
+    places: &[usize],
+) -> Result<Vec<Row>, Fault>
+    requires { IsSome (table_of (W.meaning b.old) table.number) }
+    ensures ok { IfOk result (λ rows. SelectsTable (W.meaning b.old) table.number places.now (map tuple rows.items) (W.meaning b.new)) }
+    ensures err { IfErr result (λ fault. FailsTable fault (W.meaning b.old) (W.meaning b.new)) }
+{
+    let spec = ScanSpec {
+        wanted: Vec::from_slice(alloc, places)?,
+        offered: Vec::new(alloc),
+        agreement: b.plan(alloc, table, places, &[])?,
+    };
+    let rows = scan_box(b, alloc, table, &spec)?;
+    let shown = shown_places(alloc, &spec, places)?;
+    Ok(project(alloc, rows, &shown)?)
+}
+
 /// Reads a bound table of the slot's box whole, in the box's order.
 ///
-/// One scan is begun and ended, also where it fails. Nothing is offered to the box, so each row comes once, with all its cells.
+/// One scan is begun and ended, also where it fails. Nothing is offered to the box, so each row comes once, with all its cells: this every
+/// box allows unasked.
 ///
 /// # Errors
 ///
@@ -66,9 +117,10 @@ pub fn read_table<W: Wrapper>(
     }
 }
 
-/// Reads a bound table of the slot's box, and cuts each row to the columns at these places: `SELECT` columns `FROM` table.
+/// Reads the columns at these places of a bound table of the slot's box: `SELECT` columns `FROM` table.
 ///
-/// Rows come in the box's order, and columns in the order of the places.
+/// Rows come in the box's order, and columns in the order of the places. The box is asked whether it gives these columns alone
+/// (`GetForeignPlan`), and the scan begins by its answer, which does not show in the rows.
 ///
 /// # Errors
 ///
@@ -86,6 +138,8 @@ pub fn select_table<W: Wrapper>(
     ensures err { IfErr result (λ fault. ChangesAt (states W.meaning slots.old.items) slot
         (λ old new. FailsTable fault old new) (states W.meaning slots.new.items)) }
 {
-    let rows = read_table(slots, alloc, slot, table)?;
-    Ok(project(alloc, rows, places)?)
+    let Some(b) = &mut slots[slot] else {
+        unreachable!()
+    };
+    select_box(b, alloc, table, places)
 }

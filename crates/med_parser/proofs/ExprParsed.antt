@@ -9,8 +9,7 @@ use Rattle.med_lexer.specs.declared.Token.{Token}
 use Rattle.med_lexer.specs.Lexemes.{Shape, word, quoted, literal, number, mark, Lexeme, Lexes}
 use Rattle.med_lexer.specs.Printing.{AreShapes}
 use Rattle.med_lexer.specs.View.{views, shape_of}
-use Rattle.med_parser.specs.Grammar.{shapes}
-use Rattle.med_parser.specs.Causes.{IsLongName}
+use Rattle.med_parser.specs.Shapes.{shapes, IsLongName}
 use Rattle.med_parser.specs.View.{shapes_of, LexesOnly, cause_of}
 use Rattle.med_parser.specs.declared.fault.ParseFault.{ParseFault}
 use Rattle.med_parser.specs.declared.fault.ParseFault.TheVariants as parse_faults
@@ -24,7 +23,7 @@ use Rattle.med_parser.specs.ExprWeight.{bounded_of, weight}
 use Rattle.med_parser.specs.ExprGrammar.{IsExpression, HasExpr, IsHuge, in_range, TokenCauses, ExprCauses}
 use Rattle.med_parser.specs.ExprView.{expr_tree}
 use Rattle.med_parser.specs.ExprAnswers.{Gives, cause_of_read}
-use Rattle.med_parser.proofs.Parsed.{OneList, shapes_are}
+use Rattle.med_parser.proofs.TokenShapes.{OneList, shapes_are}
 use Rattle.med_parser.proofs.ExprComplete.{one_tree, low_or_high}
 use Rattle.med_parser.proofs.ExprTerminals.{to_terminals, of_terminals}
 use Rattle.med_parser.proofs.ExprWeighing.{bounded_sound, bounded_out, bounded_told, weight_is}
@@ -75,7 +74,7 @@ shape_small : (s : Shape) → IsReadable s → IsHuge s → ⊥
 shape_small (number d) r h = absurd (omega (arith, r.1, h))
 shape_small s r h = h
 
-small_at : (ss : List Shape) (k : ℕ) (y : Shape) → AreReadable ss → k < length ss → slice_index_or ss k y ≡ y → IsHuge y → ⊥
+pub small_at : (ss : List Shape) (k : ℕ) (y : Shape) → AreReadable ss → k < length ss → slice_index_or ss k y ≡ y → IsHuge y → ⊥
 small_at [] k y r l e p = absurd (omega arith)
 small_at (s ∷ ss) zero y r l e p = shape_small s r.0 (subst IsHuge (sym e) p)
 small_at (s ∷ ss) (suc k) y r l e p = small_at ss k y r.1 (omega arith) e p

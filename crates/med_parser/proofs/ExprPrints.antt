@@ -19,8 +19,8 @@ use Rattle.med_parser.specs.declared.expr.Joint.{Joint}
 use Rattle.med_parser.specs.declared.expr.Joint.TheVariants.{Or, And}
 use Rattle.med_parser.specs.declared.expr.Status.{Status}
 use Rattle.med_parser.specs.declared.expr.Status.TheVariants as statuses
-use Rattle.med_parser.specs.Grammar.{shapes}
-use Rattle.med_parser.specs.Reading.{is_reserved}
+use Rattle.med_parser.specs.Shapes.{shapes}
+use Rattle.med_parser.specs.Words.{is_reserved}
 use Rattle.med_parser.specs.Terminal.{Terminal, terminal_of, mark_terminal, plain_word, word_terminal, IsTerminal, AreTerminals}
 use Rattle.med_parser.specs.Terminal as t
 use Rattle.med_parser.specs.ExprTree.{ExprTree, ExprTrees, num, negative, text, truth, null, column, paren, minus, binary, between, among, like, compare, tested, negation, chain, none, more, perhaps_not, status_terminal, spelling, spellings}
@@ -29,7 +29,7 @@ use Rattle.med_parser.specs.ExprPrinting.{binary_mark, compare_mark, shape_for, 
 
 -- ---- writing one after the other
 
-spaces_append : (xs ys : List Terminal) → behind_spaces (shapes_for (xs ++ ys)) ≡ behind_spaces (shapes_for xs) ++ behind_spaces (shapes_for ys)
+pub spaces_append : (xs ys : List Terminal) → behind_spaces (shapes_for (xs ++ ys)) ≡ behind_spaces (shapes_for xs) ++ behind_spaces (shapes_for ys)
 spaces_append [] ys = refl
 spaces_append (x ∷ xs) ys = ap (λ bs. 32 ∷ bs) (ap (λ bs. raw_of (shape_for x) ++ bs) (spaces_append xs ys) ∙ sym (append_assoc (raw_of (shape_for x)) (behind_spaces (shapes_for xs)) (behind_spaces (shapes_for ys))))
 
@@ -107,20 +107,20 @@ removed b n rest p h = h (rw p (omega arith)) ∙ (rw p refl)
 
 -- ---- terminals that can be written
 
-abbrev Writable : Terminal → Type 0
+abbrev pub Writable : Terminal → Type 0
 Writable (t.Num n) = n < 2 ^ 64
 Writable (t.Reserved w) = ⊥
 Writable u = Unit {0}
 
-abbrev AreWritable : List Terminal → Type 0
+abbrev pub AreWritable : List Terminal → Type 0
 AreWritable [] = Unit {0}
 AreWritable (u ∷ us) = Writable u × AreWritable us
 
-both_left : (a b : Bool) → (a && b) ≡ true → a ≡ true
+pub both_left : (a b : Bool) → (a && b) ≡ true → a ≡ true
 both_left true b h = refl
 both_left false b h = absurd (cc)
 
-both_right : (a b : Bool) → (a && b) ≡ true → b ≡ true
+pub both_right : (a b : Bool) → (a && b) ≡ true → b ≡ true
 both_right true b h = h
 both_right false b h = absurd (cc)
 
@@ -138,7 +138,7 @@ status_writable statuses.False = tt
 status_writable statuses.Unknown = tt
 
 mutual
-  writable : (e : ExprTree) (rest : List Terminal) → in_range e ≡ true → AreWritable rest → AreWritable (spelling e ++ rest)
+  pub writable : (e : ExprTree) (rest : List Terminal) → in_range e ≡ true → AreWritable rest → AreWritable (spelling e ++ rest)
   writable (num n) rest r g = (omega (arith, at_most n 9223372036854775807 r), g)
   writable (negative n) rest r g = (tt, (omega (arith, at_most n 9223372036854775808 r), g))
   writable (text x) rest r g = (tt, g)
@@ -184,7 +184,7 @@ mutual
 number_terminal : (n : ℕ) → n < 2 ^ 64 → IsTerminal (number (decimal n)) (t.Num n)
 number_terminal n h = inl (ap t.Num (sym (decimal_is_IsNumeral n h).1))
 
-written_terminal : (u : Terminal) → Writable u → IsTerminal (shape_for u) u
+pub written_terminal : (u : Terminal) → Writable u → IsTerminal (shape_for u) u
 written_terminal t.Unknown h = inr (refl, refl)
 written_terminal (t.Num n) h = number_terminal n h
 written_terminal (t.Reserved w) h = absurd h
@@ -211,13 +211,13 @@ written_terminals (u ∷ us) h = (written_terminal u h.0, written_terminals us h
 
 -- ---- what is written for a token's terminal is a token
 
-abbrev IsNameOf : Shape → List ℕ → Type 0
+abbrev pub IsNameOf : Shape → List ℕ → Type 0
 IsNameOf (word w) n = n ≡ w
 IsNameOf (quoted q) n = n ≡ q
 IsNameOf s n = ⊥
 
 -- what a token says of the name or the text that it is
-abbrev Says : Shape → Terminal → Type 0
+abbrev pub Says : Shape → Terminal → Type 0
 Says s (t.Name n) = IsNameOf s n
 Says s (t.Text x) = s ≡ literal x
 Says s u = Unit {0}
@@ -246,7 +246,7 @@ says_it (literal x) = refl
 says_it (number d) = tt
 says_it (mark m) = says_mark m
 
-says : (s : Shape) (u : Terminal) → IsTerminal s u → Says s u
+pub says : (s : Shape) (u : Terminal) → IsTerminal s u → Says s u
 says s u (inl h) = subst (Says s) (sym h) (says_it s)
 says s u (inr h) = subst (Says s) (sym h.1) tt
 
@@ -264,7 +264,7 @@ word_name : (w raw : List ℕ) → Spells (word w) raw → Every is_text w × (0
 word_name w [] h = absurd h
 word_name w (b ∷ bs) h = subst (λ v. Every is_text v × (0 < length v)) (sym h.2) (low_texts (b ∷ bs) (start_part b h.0, h.1), omega arith)
 
-name_shape : (s : Shape) (n : List ℕ) → IsShape s → IsNameOf s n → IsShape (quoted n)
+pub name_shape : (s : Shape) (n : List ℕ) → IsShape s → IsNameOf s n → IsShape (quoted n)
 name_shape (word w) n h p = let x = word_name w h.0 h.1 in subst (λ v. IsShape (quoted v)) (sym p) (raw_of (quoted w), (refl, x.0, x.1))
 name_shape (quoted q) n h p = subst (λ v. IsShape (quoted v)) (sym p) h
 name_shape (literal x) n h p = absurd p
@@ -280,7 +280,7 @@ number_shape n h = let d = (decimal_is_IsNumeral n h).0 in (decimal n, (refl, (o
 a_mark : (m : Mark) → IsShape (mark m)
 a_mark m = (mark_bytes m, inl refl)
 
-written_shape : (s : Shape) (u : Terminal) → IsShape s → Says s u → Writable u → IsShape (shape_for u)
+pub written_shape : (s : Shape) (u : Terminal) → IsShape s → Says s u → Writable u → IsShape (shape_for u)
 written_shape s t.LeftParen h p w = a_mark marks.LeftParen
 written_shape s t.RightParen h p w = a_mark marks.RightParen
 written_shape s t.Comma h p w = a_mark marks.Comma

@@ -13,7 +13,7 @@ use Rattle.med_parser.specs.Terminal as t
 use Rattle.med_parser.specs.ExprTerminals.{follows, terminal_at, terminals_at}
 use Rattle.med_parser.specs.ExprTree.{ExprTree, ExprTrees, num, negative, text, truth, null, column, paren, minus, binary, between, among, like, compare, tested, negation, chain, none, more, perhaps_not, spelling, spellings, IsExpr}
 use Rattle.med_parser.specs.ExprGrammar.{IsExpression}
-use Rattle.med_parser.specs.Reading.{is_reserved}
+use Rattle.med_parser.specs.Words.{is_reserved}
 use Rattle.med_parser.specs.ExprView.{terminal_of_symbol, terminals_of}
 
 -- ---- tokens are the terminals that they are read as
@@ -36,12 +36,12 @@ terminals_are b (s ∷ ss) = (terminal_is b s, terminals_are (follows b (termina
 
 -- ---- where UNKNOWN is the keyword, no name stands, and elsewhere it is none
 
-abbrev Allowed : Bool → Terminal → Type 0
+abbrev pub Allowed : Bool → Terminal → Type 0
 Allowed true (t.Name n) = ⊥
 Allowed false t.Unknown = ⊥
 Allowed b u = Unit {0}
 
-abbrev Good : Bool → List Terminal → Type 0
+abbrev pub Good : Bool → List Terminal → Type 0
 Good b [] = Unit {0}
 Good b (u ∷ us) = Allowed b u × Good (follows b u) us
 
@@ -68,7 +68,7 @@ same_terminal b (mark m) u (inl h) a = h
 consed : (b : Bool) (s : Shape) (ss : List Shape) (u : Terminal) (us : List Terminal) → u ≡ terminal_at b s → us ≡ terminals_at (follows b u) ss → u ∷ us ≡ terminal_at b s ∷ terminals_at (follows b (terminal_at b s)) ss
 consed b s ss u us p q = (λ i. p i ∷ (q ∙ ap (λ v. terminals_at (follows b v) ss) p) i)
 
-same_terminals : (b : Bool) (ss : List Shape) (us : List Terminal) → AreTerminals ss us → Good b us → us ≡ terminals_at b ss
+pub same_terminals : (b : Bool) (ss : List Shape) (us : List Terminal) → AreTerminals ss us → Good b us → us ≡ terminals_at b ss
 same_terminals b [] [] h g = refl
 same_terminals b [] (u ∷ us) h g = absurd h
 same_terminals b (s ∷ ss) [] h g = absurd h
@@ -81,7 +81,7 @@ not_good true us g = (tt, g)
 not_good false us g = g
 
 mutual
-  good : (e : ExprTree) (rest : List Terminal) → Good false rest → Good false (spelling e ++ rest)
+  pub good : (e : ExprTree) (rest : List Terminal) → Good false rest → Good false (spelling e ++ rest)
   good (num n) rest g = (tt, g)
   good (negative n) rest g = (tt, (tt, g))
   good (text x) rest g = (tt, g)

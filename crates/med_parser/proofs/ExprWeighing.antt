@@ -11,8 +11,8 @@ use Rattle.med_lexer.specs.Lexemes.{Shape, word, quoted, literal, number, mark}
 use Rattle.med_parser.specs.declared.expr.Joint.TheVariants.{Or, And}
 use Rattle.med_parser.specs.declared.refusal.Refusal.{Refusal}
 use Rattle.med_parser.specs.declared.refusal.Refusal.TheVariants.{Syntax, TooHigh}
-use Rattle.med_parser.specs.Causes.{deepens}
-use Rattle.med_parser.specs.Reading.{is_reserved}
+use Rattle.med_parser.specs.Shapes.{deepens}
+use Rattle.med_parser.specs.Words.{is_reserved}
 use Rattle.med_parser.specs.Terminal.{Terminal, mark_terminal, plain_word, word_terminal}
 use Rattle.med_parser.specs.Terminal as t
 use Rattle.med_parser.specs.ExprTerminals.{follows, terminal_at, terminals_at}
@@ -26,11 +26,11 @@ weight_cons : (u : Terminal) (us vs : List Terminal) → weight (us ++ vs) ≡ w
 weight_cons u us vs h =
     let go : (b : Bool) → cond b (suc (weight (us ++ vs))) (weight (us ++ vs)) ≡ cond b (suc (weight us)) (weight us) + weight vs = elim [ true ↦ omega arith | false ↦ omega arith ] in go (is_heavy u)
 
-weight_append : (us vs : List Terminal) → weight (us ++ vs) ≡ weight us + weight vs
+pub weight_append : (us vs : List Terminal) → weight (us ++ vs) ≡ weight us + weight vs
 weight_append [] vs = omega arith
 weight_append (u ∷ us) vs = weight_cons u us vs (weight_append us vs)
 
-weight_more : (u : Terminal) (us : List Terminal) → weight us ≤ weight (u ∷ us)
+pub weight_more : (u : Terminal) (us : List Terminal) → weight us ≤ weight (u ∷ us)
 weight_more u us =
     let go : (b : Bool) → weight us ≤ cond b (suc (weight us)) (weight us) = elim [ true ↦ omega arith | false ↦ omega arith ] in go (is_heavy u)
 
@@ -43,7 +43,7 @@ raise : (h w m n : ℕ) → h ≤ 7 * w + suc (6 - n) → m ≤ n → h ≤ 7 * 
 raise h w m n b l = omega arith
 
 mutual
-  bound : (e : ExprTree) → Fits e → height e ≤ 7 * weight (spelling e) + suc (6 - level e)
+  pub bound : (e : ExprTree) → Fits e → height e ≤ 7 * weight (spelling e) + suc (6 - level e)
   bound (paren e) f =
       let b = raise (height e) (weight (spelling e)) 0 (level e) (bound e f) (omega arith) in
       omega (arith, weight_append (spelling e) (t.RightParen ∷ []))

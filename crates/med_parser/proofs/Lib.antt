@@ -1,8 +1,5 @@
 pub mod ReservedWords
-pub mod Complete
-pub mod Sound
-pub mod ListLoop
-pub mod Parsed
+pub mod TokenShapes
 pub mod ExprComplete
 pub mod ExprSound
 pub mod ExprLoops
@@ -11,3 +8,10 @@ pub mod ExprWeighing
 pub mod ExprParsed
 pub mod ExprPrints
 pub mod ExprQuoting
+pub mod QueryComplete
+pub mod QuerySound
+pub mod QueryWeighing
+pub mod QueryTerminals
+pub mod QueryParsed
+pub mod QueryLoop
+pub mod QueryPrints

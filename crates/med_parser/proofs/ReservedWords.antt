@@ -4,8 +4,7 @@ use Rattle.std.specs.List.{list_any, slice_index_or}
 use Rattle.std.specs.Str.{bytes_eq}
 use Rattle.std.proofs.lemmas.List.Folds.{Any-from_list_any, list_any-from_Any}
 use Rattle.std.proofs.lemmas.Slice.Eq.{bytes_eq-Decides}
-use Rattle.med_parser.specs.Words.{reserved}
-use Rattle.med_parser.specs.Reading.{is_reserved}
+use Rattle.med_parser.specs.Words.{reserved, is_reserved}
 
 member : (ws : List (List ℕ)) (w : List ℕ) → Decides (list_any (λ r. bytes_eq r w) ws) (Contains ws w)
 member ws w = (

@@ -4,8 +4,7 @@ use Rattle.std.specs.Str.Parse.{digits_value}
 use Rattle.med_value.specs.declared.cause.Cause.{Cause}
 use Rattle.med_value.specs.declared.cause.Cause.TheVariants as causes
 use Rattle.med_lexer.specs.Lexemes.{Shape, number, Lexeme, Lexes}
-use Rattle.med_parser.specs.Causes.{IsLongName, deepens}
-use Rattle.med_parser.specs.Grammar.{shapes}
+use Rattle.med_parser.specs.Shapes.{IsLongName, deepens, shapes}
 use Rattle.med_parser.specs.Terminal.{AreTerminals}
 use Rattle.med_parser.specs.ExprTree.{ExprTree, ExprTrees, num, negative, paren, minus, binary, between, among, like, compare, tested, negation, chain, none, more, Fits, spelling, height}
 

@@ -19,11 +19,11 @@ weight [] = 0
 weight (u ∷ us) = cond (is_heavy u) (suc (weight us)) (weight us)
 
 -- what was found with room for any tree of few heavy terminals, where there was none with room 64
-abbrev pub again : Result ExprTree Refusal → Result ExprTree Refusal
+abbrev pub again : {X : Type 0} → Result X Refusal → Result X Refusal
 again (Ok e) = Err TooHigh
 again (Err f) = Err Syntax
 
-abbrev pub judged : Bool → Result ExprTree Refusal → Result ExprTree Refusal → Result ExprTree Refusal
+abbrev pub judged : {X : Type 0} → Bool → Result X Refusal → Result X Refusal → Result X Refusal
 judged few (Err TooHigh) wide = cond few (again wide) (Err TooHigh)
 judged few (Err Syntax) wide = Err Syntax
 judged few (Ok e) wide = Ok e

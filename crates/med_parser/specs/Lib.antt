@@ -1,9 +1,7 @@
 pub mod Words
 pub mod Tree
-pub mod Grammar
-pub mod Causes
+pub mod Shapes
 pub mod View
-pub mod Reading
 pub mod Terminal
 pub mod ExprTree
 pub mod ExprReading
@@ -14,3 +12,9 @@ pub mod ExprTerminals
 pub mod ExprGrammar
 pub mod ExprWeight
 pub mod ExprPrinting
+pub mod QueryTree
+pub mod QueryGrammar
+pub mod QueryCauses
+pub mod QueryReading
+pub mod QueryView
+pub mod QueryPrinting

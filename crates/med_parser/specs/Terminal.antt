@@ -11,7 +11,7 @@ use Rattle.med_parser.specs.declared.expr.CompareOp.{CompareOp}
 use Rattle.med_parser.specs.declared.expr.CompareOp.TheVariants.{Equal, Differ, Less, AtMost, Greater, AtLeast}
 use Rattle.med_parser.specs.declared.expr.Joint.{Joint}
 use Rattle.med_parser.specs.declared.expr.Joint.TheVariants.{Or, And}
-use Rattle.med_parser.specs.Reading.{is_reserved}
+use Rattle.med_parser.specs.Words.{is_reserved}
 
 pub data Terminal : Type 0 where
   LeftParen : Terminal

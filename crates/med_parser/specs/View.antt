@@ -1,6 +1,5 @@
--- Statements and tokens without where they lie in memory, and what the functions of the crate answer.
-use Rattle.std.specs.Prelude.{◌≡◌, ℕ, List, map, Vec, Result, Ok, Err, Option, Some, None}
-use Rattle.std.specs.String.{string_bytes}
+-- Tokens without where they lie in memory, and what the functions of the crate answer.
+use Rattle.std.specs.Prelude.{◌≡◌, ℕ, List, map, Vec, Result, Ok, Err}
 use Rattle.med_lexer.specs.declared.Token.{Token}
 use Rattle.med_lexer.specs.Lexemes.{Shape, Lexeme, Lexes}
 use Rattle.med_lexer.specs.View.{shape_of, views}
@@ -8,25 +7,9 @@ use Rattle.med_value.specs.declared.cause.Cause.{Cause}
 use Rattle.med_value.specs.declared.cause.Cause.TheVariants as causes
 use Rattle.med_parser.specs.declared.fault.ParseFault.{ParseFault}
 use Rattle.med_parser.specs.declared.fault.ParseFault.TheVariants as faults
-use Rattle.med_parser.specs.declared.statement.Select.{Select}
-use Rattle.med_parser.specs.declared.statement.Statement.{Statement}
-use Rattle.med_parser.specs.declared.statement.Statement.TheVariants as statements
-use Rattle.med_parser.specs.Tree.{Tree, select}
-
-abbrev pub select_tree : Select → Tree
-select_tree s = select (map string_bytes s.columns.items) (string_bytes s.table)
-
-abbrev pub tree : Statement → Tree
-tree (statements.Select s) = select_tree s
 
 abbrev pub shapes_of : List Token → List Shape
 shapes_of = map (λ (t : Token). shape_of t.kind)
-
--- What was returned is what is read, seen by f; Syntax says that nothing can be read; NoMemory says nothing.
-abbrev pub Gives : {X Y : Type 0} → (X → Y) → Result X ParseFault → Option Y → Type 0
-Gives f (Ok x) o = o ≡ Some (f x)
-Gives f (Err faults.NoMemory) o = Unit {0}
-Gives f (Err faults.Syntax) o = o ≡ None
 
 abbrev pub cause_of : ParseFault → Cause
 cause_of faults.NoMemory = causes.OutOfMemory

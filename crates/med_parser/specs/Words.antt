@@ -1,5 +1,7 @@
 -- The reserved words of this profile (SQL:2016, <reserved word>): they are names only where they are quoted.
-use Rattle.std.specs.Prelude.{ℕ, List, [], ◌∷◌, codes}
+use Rattle.std.specs.Prelude.{ℕ, Bool, List, [], ◌∷◌, codes}
+use Rattle.std.specs.List.{list_any}
+use Rattle.std.specs.Str.{bytes_eq}
 
 -- in lower case, as tokens have them
 abbrev pub reserved : List (List ℕ)
@@ -11,3 +13,6 @@ reserved =
     codes "like" ∷ codes "limit" ∷ codes "natural" ∷ codes "not" ∷ codes "null" ∷ codes "offset" ∷ codes "on" ∷ codes "or" ∷ codes "order" ∷
     codes "outer" ∷ codes "right" ∷ codes "select" ∷ codes "set" ∷ codes "then" ∷ codes "true" ∷ codes "union" ∷ codes "update" ∷ codes "user" ∷
     codes "using" ∷ codes "values" ∷ codes "when" ∷ codes "where" ∷ codes "with" ∷ []
+
+unfoldable pub is_reserved : List ℕ → Bool
+is_reserved w = list_any (λ r. bytes_eq r w) reserved

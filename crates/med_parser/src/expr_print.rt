@@ -84,7 +84,7 @@ fn fixed_text(fixed: Fixed) -> &'static str
 }
 
 /// Writes a space and the symbol.
-fn write_fixed(fixed: Fixed, out: &mut String) -> Result<(), AllocError>
+pub fn write_fixed(fixed: Fixed, out: &mut String) -> Result<(), AllocError>
     ensures { IfOk result (λ _. Wrote (string_bytes out.old) (string_bytes out.new) (fixed_terminal fixed ∷ [])) }
 {
     out.push(' ')?;
@@ -110,7 +110,7 @@ fn write_quoted(quote: char, text: &str, out: &mut String) -> Result<(), AllocEr
 }
 
 /// Writes a space and the name in double quotes.
-fn write_name(name: &String, out: &mut String) -> Result<(), AllocError>
+pub fn write_name(name: &String, out: &mut String) -> Result<(), AllocError>
     ensures { IfOk result (λ _. Wrote (string_bytes out.old) (string_bytes out.new) (t.Name (string_bytes name.now) ∷ [])) }
 {
     write_quoted('"', name.as_str(), out)
@@ -163,7 +163,7 @@ fn write_not(negated: bool, out: &mut String) -> Result<(), AllocError>
 
 /// Writes the expression, each of its tokens behind a space.
 #[cycle(writer)]
-fn write(alloc: Global, expr: &Expr, out: &mut String) -> Result<(), AllocError>
+pub fn write(alloc: Global, expr: &Expr, out: &mut String) -> Result<(), AllocError>
     ensures { IfOk result (λ _. Wrote (string_bytes out.old) (string_bytes out.new) (spelling (expr_tree expr.now))) }
 {
     match expr {

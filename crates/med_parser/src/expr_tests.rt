@@ -342,7 +342,7 @@ fn reserved_words(rt: HostRuntime) -> Result<(), Fail> {
 }
 
 /// The text so often, then the middle, and the other text so often.
-fn around(
+pub fn around(
     alloc: Global,
     times: u32,
     before: &str,

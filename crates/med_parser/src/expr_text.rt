@@ -15,19 +15,18 @@ ghost use Rattle.med_parser.specs.ExprAnswers.{Gives};
 use crate::expr::Expr;
 use crate::expr_reader::whole;
 use crate::expr_symbols::{has_unreadable, symbols_of};
-use crate::parser::tokens_of;
-use crate::reader::has_long_name;
 use crate::refusal::{ReadFault, Refusal};
 use crate::symbols::Symbol;
+use crate::token_list::{has_long_name, tokens_of};
 use med_lexer::{Token, tokens_can_be_printed};
 use med_value::Cause;
 use std::alloc::Global;
 
 /// The greatest height of an expression, and how many heavy symbols are few.
-const MAX_HEIGHT: u32 = 64;
+pub const MAX_HEIGHT: u32 = 64;
 
 /// Higher than any expression of few heavy symbols.
-const ROOM: u32 = 455;
+pub const ROOM: u32 = 455;
 
 /// Whether an expression can get deeper without bound by such symbols.
 fn is_heavy(symbol: &Symbol) -> bool
@@ -37,7 +36,7 @@ fn is_heavy(symbol: &Symbol) -> bool
 }
 
 /// How many symbols are heavy.
-fn weight(symbols: &[Symbol]) -> usize
+pub fn weight(symbols: &[Symbol]) -> usize
     ensures { result ≡ spec.weight (terminals_of symbols.now) }
 {
     let mut heavy = 0;
@@ -134,7 +133,7 @@ pub fn expression(alloc: Global, text: &str) -> Result<Expr, Cause>
 
 /// Whether each number of the expression is in range.
 #[cycle(range)]
-fn is_in_range(expr: &Expr) -> bool
+pub fn is_in_range(expr: &Expr) -> bool
     ensures { result ≡ in_range (expr_tree expr.now) }
 {
     match expr {

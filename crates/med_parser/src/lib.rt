@@ -1,10 +1,20 @@
-//! Parses a line of this profile of SQL: `SELECT name {, name} FROM name [;]`, until further forms come, and expressions, which no line
-//! has yet.
+//! Parses a line of this profile of SQL, a statement and perhaps a semicolon, and writes statements out:
+//! `SELECT item {, item} [FROM entry] [WHERE expr] [;]`. `expression` reads the text of one expression.
 //!
-//! The grammar of expressions stands apart from the reader: `specs/ExprTree.antt` says what each tree is spelled by, how tightly each form
-//! binds, and which trees the grammar has; the reader is proved to find each of these trees, and no other. A form is added there as a
-//! constructor with a line in each definition, then in the list reader (`specs/ExprReading.antt`) at the level on which it binds, in the
-//! case lemmas of `proofs/ExprComplete.antt` and `proofs/ExprSound.antt`, and last in `src/expr_reader.rt`.
+//! The grammar stands apart from the readers. `specs/ExprTree.antt` says what each expression is spelled by, how tightly each form binds, and
+//! which trees the grammar has; `specs/QueryGrammar.antt` says which terminals spell which statement. The readers are proved to find each of
+//! these trees, and no other.
+//!
+//! A form of expressions is added in `specs/ExprTree.antt` as a constructor with a line in each definition, then in the list reader
+//! (`specs/ExprReading.antt`) at the level on which it binds, in the case lemmas of `proofs/ExprComplete.antt` and `proofs/ExprSound.antt`, and
+//! last in `src/expr_reader.rt`.
+//!
+//! A clause of a query is a field of `SelectTree` (`specs/QueryTree.antt`) and of `Select`, with a line in their view, height and range, a
+//! `Spells` relation (`specs/QueryGrammar.antt`), a part of the list reader (`specs/QueryReading.antt`), a lemma `_takes` and one `_sound`
+//! (`proofs/QueryComplete.antt`, `proofs/QuerySound.antt`), a line in `proofs/QueryWeighing.antt`, `proofs/QueryTerminals.antt` and
+//! `proofs/QueryPrints.antt`, and last a function in `src/query_reader.rt` and one in `src/query_print.rt`. The part before it has to stop at
+//! its keyword (`Stops`). A word that is optional in the text is no part of the tree: its relation allows both spellings, and the printed one is
+//! in `specs/QueryPrinting.antt`. A kind of statement is a constructor of `StatementTree` with the same.
 #![tactic(auto)]
 
 mod expr;
@@ -16,21 +26,26 @@ mod expr_symbols;
 mod expr_text;
 mod fault;
 mod parser;
-mod reader;
+mod query_laws;
+mod query_print;
+mod query_reader;
 mod refusal;
 mod statement;
 mod symbols;
+mod token_list;
 mod words;
 
 pub use expr::{BinaryOp, CompareOp, Expr, Joint, Status};
 pub use expr_laws::{one_expression, printed_expression};
 pub use expr_print::print_expression;
 pub use expr_text::expression;
-pub use parser::{one_tree, parse};
-pub use statement::{Select, Statement};
+pub use parser::parse;
+pub use query_laws::{one_tree, printed_statement};
+pub use query_print::print;
+pub use statement::{Entry, Item, Select, Statement};
 pub use words::is_reserved;
 
 #[cfg(test)]
 mod expr_tests;
 #[cfg(test)]
-mod tests;
+mod query_tests;

@@ -1,56 +1,136 @@
 //! Text to statements.
 
-ghost use Rattle.std.specs.Prelude.{◌≡◌, ◌⊎◌, ℕ, List, IfOk, OnOk, IfErr};
+ghost use Rattle.std.specs.Prelude.{◌≡◌, ◌⊎◌, ℕ, List, IfOk, OnOk, IfErr, false};
 ghost use Rattle.med_value.specs.declared.cause.Cause.{Cause};
-ghost use Rattle.med_parser.specs.Tree.{Tree};
-ghost use Rattle.med_parser.specs.Grammar.{HasTree};
-ghost use Rattle.med_parser.specs.Causes.{SyntaxCauses};
-ghost use Rattle.med_parser.specs.View.{LexesOnly, tree};
+ghost use Rattle.med_lexer.specs.Printing.{AreShapes};
+ghost use Rattle.med_parser.specs.ExprTerminals.{AreReadable, terminals_at};
+ghost use Rattle.med_parser.specs.ExprView.{terminals_of};
+ghost use Rattle.med_parser.specs.ExprAnswers.{Gives};
+ghost use Rattle.med_parser.specs.View.{shapes_of};
+ghost use Rattle.med_parser.specs.QueryGrammar.{HasStatement, IsStatement};
+ghost use Rattle.med_parser.specs.QueryCauses.{SyntaxCauses, TokenCauses, item_in_range, items_in_range, statement_in_range};
+ghost use Rattle.med_parser.specs.QueryReading.{bounded_line};
+ghost use Rattle.med_parser.specs.QueryView.{item_tree, items_tree, statement_tree};
 
-use crate::fault::ParseFault;
-use crate::reader::{has_long_name, statement};
-use crate::statement::Statement;
-use med_lexer::{LexFault, Token, one_list, tokens};
+use crate::expr_symbols::{has_unreadable, symbols_of};
+use crate::expr_text::{MAX_HEIGHT, ROOM, is_in_range, weight};
+use crate::query_reader::line;
+use crate::refusal::{ReadFault, Refusal};
+use crate::statement::{Item, Statement};
+use crate::symbols::Symbol;
+use crate::token_list::{has_long_name, tokens_of};
+use med_lexer::{Token, tokens_can_be_printed};
 use med_value::Cause;
 use std::alloc::Global;
 
-/// The tokens of a text.
-pub fn tokens_of(alloc: Global, text: &str) -> Result<Vec<Token>, ParseFault>
-    ensures { LexesOnly result text.now }
+/// The statement that all of the symbols are. Where few of them are heavy, what is told to be too high is a statement.
+#[tactic(auto, unfolding(crate::specs::QueryReading::bounded_line))]
+fn bounded(alloc: Global, symbols: &[Symbol]) -> Result<Statement, ReadFault>
+    ensures { Gives statement_tree result (bounded_line (terminals_of symbols.now)) }
 {
-    one_list();
-    match tokens(alloc, text) {
-        Ok(tokens) => Ok(tokens),
-        Err(LexFault::NoMemory) => Err(ParseFault::NoMemory),
-        Err(LexFault::BadToken) => Err(ParseFault::Syntax),
+    match line(alloc, MAX_HEIGHT, symbols) {
+        Err(ReadFault::Refused(Refusal::TooHigh)) => {
+            if weight(symbols) > 64 {
+                return Err(ReadFault::Refused(Refusal::TooHigh));
+            }
+            match line(alloc, ROOM, symbols) {
+                Ok(_) => Err(ReadFault::Refused(Refusal::TooHigh)),
+                Err(ReadFault::Refused(_)) => Err(ReadFault::Refused(Refusal::Syntax)),
+                Err(ReadFault::NoMemory) => Err(ReadFault::NoMemory),
+            }
+        }
+        Err(fault) => Err(fault),
+        Ok(statement) => Ok(statement),
     }
 }
 
-/// The statement of a text, or why it is refused: 42601 where the text is not in the grammar, 42622 where it is and a name
-/// has over 63 bytes, 53200 where memory was refused.
+/// The statement that all of the tokens are.
+fn statement_of(alloc: Global, tokens: &[Token]) -> Result<Statement, ReadFault>
+    requires { AreReadable (shapes_of tokens.now) }
+    ensures { Gives statement_tree result (bounded_line (terminals_at false (shapes_of tokens.now))) }
+{
+    let symbols = symbols_of(alloc, tokens)?;
+    bounded(alloc, &symbols)
+}
+
+/// Whether each number of the item is in range.
+fn is_item_in_range(item: &Item) -> bool
+    ensures { result ≡ item_in_range (item_tree item.now) }
+{
+    match item {
+        Item::All | Item::AllOf(_) => true,
+        Item::Expression(expr, _) => is_in_range(expr),
+    }
+}
+
+/// Whether each number of the items is in range.
+fn are_items_in_range(items: &[Item]) -> bool
+    ensures { result ≡ items_in_range (items_tree items.now) }
+{
+    let mut left = items;
+    while let [item, rest @ ..] = left {
+        if !is_item_in_range(item) {
+            return false;
+        }
+        left = rest;
+    }
+    true
+}
+
+/// Whether each number of the statement is in range.
+fn is_statement_in_range(statement: &Statement) -> bool
+    ensures { result ≡ statement_in_range (statement_tree statement.now) }
+{
+    match statement {
+        Statement::Select(select) => {
+            are_items_in_range(&select.items)
+                && match &select.condition {
+                    Some(condition) => is_in_range(condition),
+                    None => true,
+                }
+        }
+    }
+}
+
+/// The statement that all of the tokens are, or why it is refused.
+fn checked_statement(alloc: Global, tokens: &[Token]) -> Result<Statement, Cause>
+    requires { AreShapes (shapes_of tokens.now) }
+    ensures found { IfOk result (λ s. IsStatement (shapes_of tokens.now) (statement_tree s)) }
+    ensures clear { OnOk result ((c : Cause) → TokenCauses (shapes_of tokens.now) c → ⊥) }
+    ensures refused { IfErr result (λ c. (c ≡ Cause.OutOfMemory) ⊎ TokenCauses (shapes_of tokens.now) c) }
+    ensures syntax { TokenCauses (shapes_of tokens.now) Cause.Syntax → IfErr result (λ c. c ≡ Cause.NameTooLong → ⊥) }
+{
+    if has_unreadable(tokens) {
+        return Err(Cause::LiteralOutOfRange);
+    }
+    let statement = statement_of(alloc, tokens)?;
+    if has_long_name(tokens) {
+        return Err(Cause::NameTooLong);
+    }
+    if is_statement_in_range(&statement) {
+        Ok(statement)
+    } else {
+        Err(Cause::LiteralOutOfRange)
+    }
+}
+
+/// The statement of a text, or why it is refused: 42601 where the text is not in the grammar, 22003 where a number is out of range,
+/// 42622 where a name has over 63 bytes, 54000 where an expression is higher than 64, or the text is not in the grammar and has over 64 of
+/// the tokens `( + - * / %` and NOT, and 53200 where memory was refused. Where several stand, any of them may be told, but of a text that
+/// is not in the grammar never 42622.
 pub fn parse(alloc: Global, text: &str) -> Result<Statement, Cause>
     // What is answered is the text's one tree.
-    ensures found { IfOk result (λ s. HasTree text.now (tree s)) }
+    ensures found { IfOk result (λ s. HasStatement text.now (statement_tree s)) }
     // A text for which a cause of this phase stands is not answered.
     ensures clear { OnOk result ((c : Cause) → SyntaxCauses text.now c → ⊥) }
     // A refusal tells a cause that stands for the text, or that memory was refused.
     ensures refused { IfErr result (λ c. (c ≡ Cause.OutOfMemory) ⊎ SyntaxCauses text.now c) }
     // Where no cause stands, only memory can be refused.
     ensures read { ((c : Cause) → SyntaxCauses text.now c → ⊥) → IfErr result (λ c. c ≡ Cause.OutOfMemory) }
-    // Of a text that is not in the grammar 42601 is told, whatever else stands.
-    ensures syntax { SyntaxCauses text.now Cause.Syntax → IfErr result (λ c. (c ≡ Cause.OutOfMemory) ⊎ (c ≡ Cause.Syntax)) }
+    // Of a text that is not in the grammar a long name is not told.
+    ensures syntax { SyntaxCauses text.now Cause.Syntax → IfErr result (λ c. c ≡ Cause.NameTooLong → ⊥) }
 {
     let tokens = tokens_of(alloc, text)?;
-    let statement = statement(alloc, &tokens)?;
-    if has_long_name(&tokens) {
-        return Err(Cause::NameTooLong);
-    }
-    Ok(statement)
-}
-
-/// A text has at most one tree.
-pub fn one_tree()
-    ensures { (text : List ℕ) (a b : Tree) → HasTree text a → HasTree text b → a ≡ b }
-{
-    one_list();
+    tokens_can_be_printed();
+    checked_statement(alloc, &tokens)
 }

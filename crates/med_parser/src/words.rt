@@ -2,7 +2,7 @@
 
 ghost use Rattle.std.specs.Prelude.{◌≡◌, ◌↔◌, IsTrue, Contains};
 ghost use Rattle.med_parser.specs.Words.{reserved};
-ghost use Rattle.med_parser.specs.Reading as reading;
+ghost use Rattle.med_parser.specs.Words as words;
 
 const RESERVED: [&str; 57] = [
     "all",
@@ -67,7 +67,7 @@ const RESERVED: [&str; 57] = [
 /// Whether a word in lower case is reserved, and so no name unless it is quoted.
 pub fn is_reserved(word: &str) -> bool
     ensures exact { IsTrue result ↔ Contains reserved word.now }
-    ensures test { result ≡ reading.is_reserved word.now }
+    ensures test { result ≡ words.is_reserved word.now }
 {
     RESERVED.contains(&word)
 }

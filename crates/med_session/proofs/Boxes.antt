@@ -8,6 +8,7 @@ use Rattle.fdw_api.specs.declared.interface.Fault.{Fault}
 use Rattle.med_value.specs.Datum.{Tuple}
 use Rattle.med_exec.specs.Slots.{ChangesAt}
 use Rattle.med_exec.specs.Scanning.{ReadsTable, FailsTable}
+use Rattle.med_exec.specs.TableAnswers.{LeavesOff}
 use Rattle.med_session.specs.Engine.{Rises, EachRises}
 
 -- what a whole scan leaves of a box
@@ -30,6 +31,16 @@ same_holdings b c h = λ i r. h.holdings r (λ x. x) i
 
 pub reads_keeps : (b c : BoxState) (t : ℕ) (rows : List Tuple) → ReadsTable b t rows c → Keeps b c
 reads_keeps b c t rows h = record {
+  nature = h.nature;
+  tables = ap (λ l. l.tables) h.ledger;
+  live = ap (λ l. l.live) h.ledger;
+  staged = ap (λ l. l.staged) h.ledger;
+  rows = λ honest. same_rows b c (h.leaves honest);
+  holdings = λ honest. same_holdings b c (h.leaves honest);
+}
+
+pub part_keeps : (b c : BoxState) (t : ℕ) (rows : List Tuple) → LeavesOff b t rows c → Keeps b c
+part_keeps b c t rows h = record {
   nature = h.nature;
   tables = ap (λ l. l.tables) h.ledger;
   live = ap (λ l. l.live) h.ledger;

@@ -1,76 +1,70 @@
--- What is found in a list from a place on.
-use Rattle.std.proofs.Common.{◌≡◌, ℕ, ◌+◌, ◌<◌, Bool, true, false, cond, ◌||◌, List, [], ◌∷◌, Option, Some, None, slice_index_or, length, map, drop, refl, ap, sym, ◌∙◌, subst, suc, arith, add-one, drop-cons, drop-drop, find, bytes_eq, All}
-use Rattle.med_value.specs.Datum.{NoValue, Tuple}
-use Rattle.fdw_api.specs.Kinds.{Column}
+-- What is found in lists of tables.
+use Rattle.std.proofs.Common.{◌≡◌, ℕ, ◌+◌, ◌<◌, Bool, true, false, cond, List, [], ◌∷◌, Option, Some, None, length, map, slice_index_or, All, refl, sym, ap, ◌∙◌, subst, zero, suc, arith, slice_get, bytes_eq, IsPermutation}
+use Rattle.std.proofs.lemmas.List.{length-map}
 use Rattle.fdw_api.specs.State.{BoxState}
-use Rattle.med_session.specs.World.{has_column, ForeignTable, table_named}
-use Rattle.med_session.specs.Steps.{cell_named}
-use Rattle.med_session.specs.Engine.{Label, Attached, named, TableAgrees, TablesAgree}
+use Rattle.med_exec.specs.Slots.{BoxAt}
+use Rattle.med_exec.specs.Scanning.{tuples_of}
+use Rattle.med_parser.specs.Tree.{Name}
+use Rattle.med_parser.specs.QueryTree.{EntryTree, StatementTree, select}
+use Rattle.med_binder.specs.Scope.{TableShape, place_from, from_place}
+use Rattle.med_session.specs.World.{ForeignTable, shapes, rows_in}
+use Rattle.med_session.specs.Selecting.{shape_of, meant_in, IsPlaceIn}
+use Rattle.med_binder.specs.declared.table.AttachedTable.{AttachedTable}
+use Rattle.med_session.specs.Engine.{Label, Attached, attached, TableAgrees, TablesAgree}
 
--- the element at a place is the first of the rest
-pub drop_read : {X : Type 0} (xs : List X) (i : ℕ) (x : X) → i < length xs → x ≡ slice_index_or xs i x → drop i xs ≡ x ∷ drop (i + 1) xs
-drop_read xs i x lt read = rw (add-one, drop-cons xs i x) (ap (λ y. y ∷ drop (suc i) xs) (sym read))
+-- the tables of an engine and of a world that agree have the same names and columns
+pub shapes_agree : (labels : List Label) (boxes : List (Option BoxState)) (tables : List Attached) (ts : List ForeignTable) → TablesAgree labels boxes tables ts → map shape_of tables ≡ shapes ts
+shapes_agree labels boxes [] [] h = refl
+shapes_agree labels boxes [] (t ∷ ts) h = absurd h
+shapes_agree labels boxes (a ∷ more) [] h = absurd h
+shapes_agree labels boxes (a ∷ more) (t ∷ ts) (h, rest) =
+    ap (λ (x : TableShape). x ∷ map shape_of more) (same h.name h.columns) ∙ ap (λ (xs : List TableShape). record { name = t.name; columns = t.columns } ∷ xs) (shapes_agree labels boxes more ts rest)
+  where
+    same : t.name ≡ a.name → t.columns ≡ a.columns → shape_of a ≡ record { name = t.name; columns = t.columns }
+    same p q = λ i. record { name = sym p i; columns = sym q i }
 
 some_same : {X : Type 0} (y x : X) → Some y ≡ Some x → y ≡ x
 some_same y x e = cc
 
-pub find_here : {X Y : Type 0} (p : Y → Bool) (f : X → Y) (xs : List X) (i : ℕ) (x : X) → i < length xs → x ≡ slice_index_or xs i x → p (f x) ≡ true → find p (map f (drop i xs)) ≡ Some (f x)
-find_here {X} {Y} p f xs i x lt read is =
-    ap (λ (l : List X). find p (map f l)) (drop_read xs i x lt read) ∙ ap (λ (b : Bool). cond b (Some (f x)) (find p (map f (drop (i + 1) xs)))) is
+-- and the same rows, in any order
+pub rows_agree : (labels : List Label) (boxes : List (Option BoxState)) (tables : List Attached) (ts : List ForeignTable) (place : ℕ) (a : Attached) → TablesAgree labels boxes tables ts → slice_get tables place ≡ Some a
+    → BoxAt boxes a.source (λ s. IsPermutation (tuples_of s a.number) (rows_in ts place))
+rows_agree labels boxes [] [] place a h at = absurd cc
+rows_agree labels boxes [] (t ∷ ts) place a h at = absurd h
+rows_agree labels boxes (b ∷ more) [] place a h at = absurd h
+rows_agree labels boxes (b ∷ more) (t ∷ ts) zero a h at = subst (λ (x : Attached). BoxAt boxes x.source (λ s. IsPermutation (tuples_of s x.number) t.rows)) (some_same b a at) h.0.rows
+rows_agree labels boxes (b ∷ more) (t ∷ ts) (suc place) a h at = rows_agree labels boxes more ts place a h.1 at
 
-pub find_next : {X Y : Type 0} (p : Y → Bool) (f : X → Y) (xs : List X) (i : ℕ) (x : X) → i < length xs → x ≡ slice_index_or xs i x → p (f x) ≡ false → find p (map f (drop i xs)) ≡ find p (map f (drop (i + 1) xs))
-find_next {X} {Y} p f xs i x lt read is =
-    ap (λ (l : List X). find p (map f l)) (drop_read xs i x lt read) ∙ ap (λ (b : Bool). cond b (Some (f x)) (find p (map f (drop (i + 1) xs)))) is
+-- the place of a table is one in the list
+below_here : (b : Bool) (at n k : ℕ) (later : Option ℕ) → cond b (Some at) later ≡ Some k → (later ≡ Some k → k < suc at + n) → k < at + suc n
+below_here true at n k later e rest = let p : at ≡ k = some_same at k e in omega arith
+below_here false at n k later e rest = let p : k < suc at + n = rest e in omega arith
 
--- what is found has what all have
-found_in : {X : Type 0} (P : X → Type 0) (b : Bool) (y x : X) (o : Option X) → cond b (Some y) o ≡ Some x → P y → (o ≡ Some x → P x) → P x
-found_in P true y x o e h rest = subst P (some_same y x e) h
-found_in P false y x o e h rest = rest e
+place_below : (at : ℕ) (ts : List TableShape) (name : Name) (k : ℕ) → place_from at ts name ≡ Some k → k < at + length ts
+place_below at [] name k e = absurd cc
+place_below at (t ∷ ts) name k e = below_here (bytes_eq t.name name) at (length ts) k (place_from (suc at) ts name) e (place_below (suc at) ts name k)
 
-pub found_all : {X : Type 0} (P : X → Type 0) (p : X → Bool) (xs : List X) (x : X) → find p xs ≡ Some x → All P xs → P x
-found_all P p [] x e h = absurd cc
-found_all P p (y ∷ ys) x e h = found_in P (p y) y x (find p ys) e (h 0 y (omega arith)) (λ q. found_all P p ys x q (λ k d lt. h (suc k) d (omega arith)))
+entry_below : (ts : List TableShape) (entry : Option EntryTree) (k : ℕ) → from_place ts entry ≡ Some k → k < length ts
+entry_below ts None k e = absurd cc
+entry_below ts (Some x) k e = let p : k < 0 + length ts = place_below 0 ts x.table k e in omega arith
 
--- the tables of a world and of an engine that agree are found alike
-abbrev pub FoundAlike : List Label → List (Option BoxState) → Option Attached → Option ForeignTable → Type 0
-FoundAlike labels boxes None o = o ≡ None
-FoundAlike labels boxes (Some a) o = (t : ForeignTable) × (o ≡ Some t) × TableAgrees labels boxes a t
+within : (tables : List Attached) (from : Option ℕ) → ((k : ℕ) → from ≡ Some k → k < length tables) → IsPlaceIn from tables
+within tables None h = tt
+within tables (Some k) h = h k refl
 
-alike_at : (labels : List Label) (boxes : List (Option BoxState)) (b c : Bool) (a : Attached) (t : ForeignTable) (o : Option Attached) (p : Option ForeignTable) → c ≡ b → TableAgrees labels boxes a t → FoundAlike labels boxes o p
-    → FoundAlike labels boxes (cond b (Some a) o) (cond c (Some t) p)
-alike_at labels boxes true true a t o p e h rest = (t, refl, h)
-alike_at labels boxes false false a t o p e h rest = rest
-alike_at labels boxes true false a t o p e h rest = absurd (cc)
-alike_at labels boxes false true a t o p e h rest = absurd (cc)
+pub place_in : (tables : List Attached) (tree : StatementTree) → IsPlaceIn (meant_in tables tree).from tables
+place_in tables (select q) =
+    within tables (from_place (map shape_of tables) q.entry) (λ k e.
+    let p : k < length (map shape_of tables) = entry_below (map shape_of tables) q.entry k e in
+    subst (λ (n : ℕ). k < n) (length-map tables shape_of) p)
 
-pub found_alike : (labels : List Label) (boxes : List (Option BoxState)) (name : List ℕ) (tables : List Attached) (ts : List ForeignTable) → TablesAgree labels boxes tables ts → FoundAlike labels boxes (named name tables) (table_named name ts)
-found_alike labels boxes name [] [] h = refl
-found_alike labels boxes name [] (t ∷ ts) h = absurd h
-found_alike labels boxes name (a ∷ more) [] h = absurd h
-found_alike labels boxes name (a ∷ more) (t ∷ ts) h =
-    alike_at labels boxes (bytes_eq a.name name) (bytes_eq t.name name) a t (named name more) (table_named name ts) (ap (λ n. bytes_eq n name) h.0.name) h.0 (found_alike labels boxes name more ts h.1)
+-- the table that stands in a place
+pub attached_at : (tables : List AttachedTable) (place : ℕ) (t : AttachedTable) → place < length tables → t ≡ slice_index_or tables place t → slice_get (map attached tables) place ≡ Some (attached t)
+attached_at [] place t lt e = absurd (omega arith)
+attached_at (x ∷ xs) zero t lt e = ap (λ (y : AttachedTable). Some (attached y)) (sym e)
+attached_at (x ∷ xs) (suc place) t lt e = attached_at xs place t (omega arith) e
 
--- a column that is not the one of the name is passed by
-pub column_next : (columns : List Column) (i : ℕ) (c : Column) (name : List ℕ) → i < length columns → c ≡ slice_index_or columns i c → bytes_eq c.name name ≡ false
-    → has_column (drop i columns) name ≡ has_column (drop (i + 1) columns) name
-column_next columns i c name lt read other =
-    ap (λ (l : List Column). has_column l name) (drop_read columns i c lt read) ∙ ap (λ (b : Bool). b || has_column (drop (i + 1) columns) name) other
-
-one_more : (row : Tuple) (i : ℕ) → drop (i + 1) row ≡ drop 1 (drop i row)
-one_more row i = sym (drop-drop 1 i row)
-
-none_named : (cs : List Column) (name : List ℕ) → cell_named cs [] name ≡ NoValue
-none_named [] name = refl
-none_named (c ∷ cs) name = refl
-
-cell_past : (row rest : Tuple) (cs : List Column) (c : Column) (name : List ℕ) → bytes_eq c.name name ≡ false → rest ≡ drop 1 row → cell_named (c ∷ cs) row name ≡ cell_named cs rest name
-cell_past [] rest cs c name other e = sym (ap (λ (r : Tuple). cell_named cs r name) e ∙ none_named cs name)
-cell_past (v ∷ vs) rest cs c name other e = rw other (ap (λ (r : Tuple). cell_named cs r name) (sym e))
-
-cell_at : (row : Tuple) (i : ℕ) (cs : List Column) (c : Column) (name : List ℕ) → bytes_eq c.name name ≡ false → cell_named (c ∷ cs) (drop i row) name ≡ cell_named cs (drop (i + 1) row) name
-cell_at row i cs c name other = cell_past (drop i row) (drop (i + 1) row) cs c name other (one_more row i)
-
-pub cells_next : (columns : List Column) (i : ℕ) (c : Column) (name : List ℕ) → i < length columns → c ≡ slice_index_or columns i c → bytes_eq c.name name ≡ false
-    → (row : Tuple) → cell_named (drop i columns) (drop i row) name ≡ cell_named (drop (i + 1) columns) (drop (i + 1) row) name
-cells_next columns i c name lt read other row =
-    ap (λ (l : List Column). cell_named l (drop i row) name) (drop_read columns i c lt read) ∙ cell_at row i (drop (i + 1) columns) c name other
+pub all_at : {X : Type 0} (P : X → Type 0) (xs : List X) (place : ℕ) (x : X) → All P xs → slice_get xs place ≡ Some x → P x
+all_at P [] place x h e = absurd cc
+all_at P (y ∷ ys) zero x h e = subst P (some_same y x e) (h 0 y (omega arith))
+all_at P (y ∷ ys) (suc place) x h e = all_at P ys place x (λ k d lt. h (suc k) d (omega arith)) e

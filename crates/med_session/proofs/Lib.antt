@@ -1,3 +1,4 @@
+pub mod Phases
 pub mod Told
 pub mod Boxes
 pub mod Keeping

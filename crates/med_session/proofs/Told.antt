@@ -1,13 +1,18 @@
 -- Which cause is told.
-use Rattle.std.proofs.Common.{◌≡◌, ℕ, ◌≤◌, ◌⊎◌, List, refl, ap, subst, arith, inl, inr, lit≤}
+use Rattle.std.proofs.Common.{◌≡◌, ℕ, ◌<◌, ◌≤◌, ◌⊎◌, List, refl, ap, subst, arith, inl, inr, lit≤}
 use Rattle.med_value.specs.declared.cause.Cause.{Cause}
 use Rattle.med_value.specs.declared.cause.Cause.TheVariants.{Protocol, NoConnection, Syntax, LiteralOutOfRange, NameTooLong, TooDeep}
-use Rattle.med_parser.specs.Tree.{Tree, select}
-use Rattle.med_parser.specs.Grammar.{HasTree}
-use Rattle.med_parser.specs.Causes.{SyntaxCauses}
+use Rattle.tri_expr.specs.declared.expr.Fault.TheVariants.{Range, Zero}
+use Rattle.med_parser.specs.QueryTree.{StatementTree}
+use Rattle.med_parser.specs.QueryGrammar.{HasStatement}
+use Rattle.med_parser.specs.QueryCauses.{SyntaxCauses}
+use Rattle.med_binder.specs.Naming.{NameCauses}
+use Rattle.med_binder.specs.Typing.{TypeCauses}
+use Rattle.med_binder.specs.Binding.{BindCauses}
 use Rattle.med_session.specs.Requests.{Asked, opening, sql, bye, IsUser}
-use Rattle.med_session.specs.World.{World, IsOpen}
-use Rattle.med_session.specs.Causes.{NameCauses, Stands, phase, IsTold, NoneStands, NoneBeforeState}
+use Rattle.med_session.specs.World.{World, IsOpen, shapes}
+use Rattle.med_session.specs.Causes.{RunCauses, TreeCauses, Stands, phase, IsTold, NoneStands, NoneBeforeState}
+use Rattle.med_session.proofs.Phases.{name_phase, type_phase}
 
 -- a cause of the phase of syntax is of phase 2
 pub syntax_phase : (text : List ℕ) (c : Cause) → SyntaxCauses text c → phase c ≡ 2
@@ -15,12 +20,17 @@ syntax_phase text Syntax h = refl
 syntax_phase text LiteralOutOfRange h = refl
 syntax_phase text NameTooLong h = refl
 syntax_phase text TooDeep h = refl
-syntax_phase text _ h = absurd h
+syntax_phase text _ h = absurd h.2
 
--- one of names is of phase 3
-pub name_phase : (w : World) (tree : Tree) (c : Cause) → NameCauses w tree c → phase c ≡ 3
-name_phase w (select columns table) c (inl h) = ap phase h.0
-name_phase w (select columns table) c (inr h) = ap phase h.0
+-- those of names, of types and of a run are of phases 3, 4 and 6
+pub run_phase : (w : World) (tree : StatementTree) (c : Cause) → RunCauses w tree c → phase c ≡ 6
+run_phase w tree c (Range, h, e) = ap phase e
+run_phase w tree c (Zero, h, e) = ap phase e
+
+pub tree_phase : (w : World) (tree : StatementTree) (c : Cause) → TreeCauses w tree c → 3 ≤ phase c
+tree_phase w tree c (inl h) = let p : phase c ≡ 3 = name_phase (shapes w.tables) tree c h in omega arith
+tree_phase w tree c (inr (inl h)) = let p : phase c ≡ 4 = type_phase (shapes w.tables) tree c h in omega arith
+tree_phase w tree c (inr (inr h)) = let p : phase c ≡ 6 = run_phase w tree c h in omega arith
 
 le_by : (a b n : ℕ) → a ≡ n → b ≡ n → a ≤ b
 le_by a b n p q = omega arith
@@ -48,7 +58,14 @@ told_closed w sid text h = record { stands = inl (refl, h); least = least }
     least : (d : Cause) → Stands w sid (sql text) d → 1 ≤ phase d
     least d (inl s) = le_by 1 (phase d) 1 refl (ap phase s.0)
     least d (inr (inl s)) = le_two 1 (phase d) 1 2 refl (syntax_phase text d s) (lit≤ tt)
-    least d (inr (inr s)) = le_two 1 (phase d) 1 3 refl (name_phase w s.0 d s.2) (lit≤ tt)
+    least d (inr (inr s)) = let p : 3 ≤ phase d = tree_phase w s.0 d s.2 in omega arith
+
+-- In this world the session is open, and the text is a statement with this one tree, against which no cause of syntax stands.
+pub record IsKnownAs (w : World) (sid : ℕ) (text : List ℕ) (tree : StatementTree) : Type 0 where
+  pub is_open : IsOpen w sid
+  pub clear : (d : Cause) → SyntaxCauses text d → ⊥
+  pub has : HasStatement text tree
+  pub one : (a b : StatementTree) → HasStatement text a → HasStatement text b → a ≡ b
 
 pub told_syntax : (w : World) (sid : ℕ) (text : List ℕ) (c : Cause) → IsOpen w sid → SyntaxCauses text c → IsTold w sid (sql text) c
 told_syntax w sid text c is_open h = record { stands = inr (inl h); least = least }
@@ -56,23 +73,57 @@ told_syntax w sid text c is_open h = record { stands = inr (inl h); least = leas
     least : (d : Cause) → Stands w sid (sql text) d → phase c ≤ phase d
     least d (inl s) = absurd (s.1 is_open)
     least d (inr (inl s)) = le_two (phase c) (phase d) 2 2 (syntax_phase text c h) (syntax_phase text d s) (lit≤ tt)
-    least d (inr (inr s)) = le_two (phase c) (phase d) 2 3 (syntax_phase text c h) (name_phase w s.0 d s.2) (lit≤ tt)
+    least d (inr (inr s)) = let p : 3 ≤ phase d = tree_phase w s.0 d s.2 in let q : phase c ≡ 2 = syntax_phase text c h in omega arith
 
--- where the text is a statement, a cause of names is told
-pub told_name : (w : World) (sid : ℕ) (text : List ℕ) (tree : Tree) (c : Cause) → IsOpen w sid → ((d : Cause) → SyntaxCauses text d → ⊥) → HasTree text tree → NameCauses w tree c → IsTold w sid (sql text) c
-told_name w sid text tree c is_open clear has h = record { stands = inr (inr (tree, has, h)); least = least }
+-- what stands is shown by the tree
+shown_by : (w : World) (sid : ℕ) (text : List ℕ) (tree : StatementTree) → IsKnownAs w sid text tree → (d : Cause) → Stands w sid (sql text) d → TreeCauses w tree d
+shown_by w sid text tree k d (inl s) = absurd (s.1 k.is_open)
+shown_by w sid text tree k d (inr (inl s)) = absurd (k.clear d s)
+shown_by w sid text tree k d (inr (inr s)) = subst (λ (t : StatementTree). TreeCauses w t d) (k.one s.0 tree s.1 k.has) s.2
+
+pub told_name : (w : World) (sid : ℕ) (text : List ℕ) (tree : StatementTree) (c : Cause) → IsKnownAs w sid text tree → NameCauses (shapes w.tables) tree c → IsTold w sid (sql text) c
+told_name w sid text tree c k h = record { stands = inr (inr (tree, k.has, inl h)); least = least }
   where
     least : (d : Cause) → Stands w sid (sql text) d → phase c ≤ phase d
-    least d (inl s) = absurd (s.1 is_open)
-    least d (inr (inl s)) = absurd (clear d s)
-    least d (inr (inr s)) = le_two (phase c) (phase d) 3 3 (name_phase w tree c h) (name_phase w s.0 d s.2) (lit≤ tt)
+    least d s =
+        let p : 3 ≤ phase d = tree_phase w tree d (shown_by w sid text tree k d s) in
+        let q : phase c ≡ 3 = name_phase (shapes w.tables) tree c h in omega arith
 
--- none stands against a statement whose table and columns are there
-pub none_stands : (w : World) (sid : ℕ) (text : List ℕ) (tree : Tree) → IsOpen w sid → ((d : Cause) → SyntaxCauses text d → ⊥) → HasTree text tree
-    → ((a b : Tree) → HasTree text a → HasTree text b → a ≡ b) → ((d : Cause) → NameCauses w tree d → ⊥) → NoneStands w sid (sql text)
-none_stands w sid text tree is_open clear has one names d (inl s) = s.1 is_open
-none_stands w sid text tree is_open clear has one names d (inr (inl s)) = clear d s
-none_stands w sid text tree is_open clear has one names d (inr (inr s)) = names d (subst (λ (t : Tree). NameCauses w t d) (one s.0 tree s.1 has) s.2)
+-- where none of names stands, one of types is told
+pub told_type : (w : World) (sid : ℕ) (text : List ℕ) (tree : StatementTree) (c : Cause) → IsKnownAs w sid text tree → ((d : Cause) → NameCauses (shapes w.tables) tree d → ⊥) → TypeCauses (shapes w.tables) tree c
+    → IsTold w sid (sql text) c
+told_type w sid text tree c k names h = record { stands = inr (inr (tree, k.has, inr (inl h))); least = λ d s. later d (shown_by w sid text tree k d s) }
+  where
+    is : phase c ≡ 4
+    is = type_phase (shapes w.tables) tree c h
 
-pub none_before : (w : World) (sid : ℕ) (request : Asked) → NoneStands w sid request → NoneBeforeState w sid request
-none_before w sid request none c h = absurd (none c h)
+    later : (d : Cause) → TreeCauses w tree d → phase c ≤ phase d
+    later d (inl s) = absurd (names d s)
+    later d (inr (inl s)) = le_two (phase c) (phase d) 4 4 is (type_phase (shapes w.tables) tree d s) (lit≤ tt)
+    later d (inr (inr s)) = le_two (phase c) (phase d) 4 6 is (run_phase w tree d s) (lit≤ tt)
+
+-- where none of either stands, one of the run is told
+pub told_run : (w : World) (sid : ℕ) (text : List ℕ) (tree : StatementTree) (c : Cause) → IsKnownAs w sid text tree → ((d : Cause) → BindCauses (shapes w.tables) tree d → ⊥) → RunCauses w tree c → IsTold w sid (sql text) c
+told_run w sid text tree c k binds h = record { stands = inr (inr (tree, k.has, inr (inr h))); least = λ d s. later d (shown_by w sid text tree k d s) }
+  where
+    later : (d : Cause) → TreeCauses w tree d → phase c ≤ phase d
+    later d (inl s) = absurd (binds d (inl s))
+    later d (inr (inl s)) = absurd (binds d (inr s))
+    later d (inr (inr s)) = le_two (phase c) (phase d) 6 6 (run_phase w tree c h) (run_phase w tree d s) (lit≤ tt)
+
+pub none_stands : (w : World) (sid : ℕ) (text : List ℕ) (tree : StatementTree) → IsKnownAs w sid text tree → ((d : Cause) → BindCauses (shapes w.tables) tree d → ⊥) → ((d : Cause) → RunCauses w tree d → ⊥) → NoneStands w sid (sql text)
+none_stands w sid text tree k binds runs d s = none (shown_by w sid text tree k d s)
+  where
+    none : TreeCauses w tree d → ⊥
+    none (inl h) = binds d (inl h)
+    none (inr (inl h)) = binds d (inr h)
+    none (inr (inr h)) = runs d h
+
+-- what stands against a statement that is bound is of the run
+pub none_before : (w : World) (sid : ℕ) (text : List ℕ) (tree : StatementTree) → IsKnownAs w sid text tree → ((d : Cause) → BindCauses (shapes w.tables) tree d → ⊥) → NoneBeforeState w sid (sql text)
+none_before w sid text tree k binds c s = later (shown_by w sid text tree k c s)
+  where
+    later : TreeCauses w tree c → 4 < phase c
+    later (inl h) = absurd (binds c (inl h))
+    later (inr (inl h)) = absurd (binds c (inr h))
+    later (inr (inr h)) = let p : phase c ≡ 6 = run_phase w tree c h in omega arith

@@ -1,14 +1,20 @@
 -- The causes of refusal that stand for a request in a world: a set of causes, with no order of checks.
-use Rattle.std.specs.Prelude.{◌≡◌, ◌<◌, ◌≤◌, ◌⊎◌, ℕ, false, Some, None, unwrap_or}
-use Rattle.std.specs.List.{list_all}
+use Rattle.std.specs.Prelude.{◌≡◌, ◌<◌, ◌≤◌, ◌⊎◌, ℕ, unwrap_or, Contains}
 use Rattle.med_value.specs.Causes.{phase_of}
 use Rattle.med_value.specs.declared.cause.Cause.{Cause}
-use Rattle.med_value.specs.declared.cause.Cause.TheVariants.{Protocol, NoConnection, UndefinedTable, UndefinedColumn}
-use Rattle.med_parser.specs.Tree.{Tree, select}
-use Rattle.med_parser.specs.Grammar.{HasTree}
-use Rattle.med_parser.specs.Causes.{SyntaxCauses}
+use Rattle.med_value.specs.declared.cause.Cause.TheVariants.{Protocol, NoConnection, OutOfRange, DivisionByZero}
+use Rattle.tri_expr.specs.declared.expr.Fault.{Fault}
+use Rattle.tri_expr.specs.declared.expr.Fault.TheVariants.{Range, Zero}
+use Rattle.tri_expr.specs.Query.{faults}
+use Rattle.med_parser.specs.QueryTree.{StatementTree}
+use Rattle.med_parser.specs.QueryGrammar.{HasStatement}
+use Rattle.med_parser.specs.QueryCauses.{SyntaxCauses}
+use Rattle.med_binder.specs.Naming.{NameCauses}
+use Rattle.med_binder.specs.Typing.{TypeCauses}
+use Rattle.med_binder.specs.Meaning.{meant}
 use Rattle.med_session.specs.Requests.{Asked, opening, sql, bye, IsUser}
-use Rattle.med_session.specs.World.{World, ForeignTable, IsOpen, table_named, has_column}
+use Rattle.med_session.specs.World.{World, IsOpen, shapes, rows_in}
+use Rattle.med_session.specs.Queries.{query_of}
 
 -- Phase 1, the frame. 08P01: OPEN of a session that is open, or with a user who is none by the protocol.
 -- 08003: a statement or BYE of a session that is not open.
@@ -17,16 +23,23 @@ FrameCauses w sid (opening user) c = (c ≡ Protocol) × (IsOpen w sid ⊎ (IsUs
 FrameCauses w sid (sql text) c = (c ≡ NoConnection) × (IsOpen w sid → ⊥)
 FrameCauses w sid bye c = (c ≡ NoConnection) × (IsOpen w sid → ⊥)
 
--- Phase 3, names. 42P01: no such foreign table. 42703: no such column in view, where the table is known.
-abbrev pub NameCauses : World → Tree → Cause → Type 0
-NameCauses w (select columns table) c =
-    ((c ≡ UndefinedTable) × (table_named table w.tables ≡ None))
-    ⊎ ((c ≡ UndefinedColumn) × ((t : ForeignTable) × (table_named table w.tables ≡ Some t) × (list_all (has_column t.columns) columns ≡ false)))
+-- 22003 and 22012
+abbrev pub fault_cause : Fault → Cause
+fault_cause Range = OutOfRange
+fault_cause Zero = DivisionByZero
 
--- Of a statement: phase 2, its syntax, and what the tree that its text has shows.
+-- Phase 6: the faults that the query shows over the rows of its tables.
+abbrev pub RunCauses : World → StatementTree → Cause → Type 0
+RunCauses w tree c = (f : Fault) × Contains (faults (query_of (meant (shapes w.tables) tree)) (rows_in w.tables)) f × (c ≡ fault_cause f)
+
+-- What the tree that a text has shows: phases 3 and 4, names and types, as they are found in the world's tables, and phase 6.
+abbrev pub TreeCauses : World → StatementTree → Cause → Type 0
+TreeCauses w tree c = NameCauses (shapes w.tables) tree c ⊎ (TypeCauses (shapes w.tables) tree c ⊎ RunCauses w tree c)
+
+-- Of a statement: phase 2, its syntax, and what its tree shows.
 abbrev pub StatementCauses : World → Asked → Cause → Type 0
 StatementCauses w (opening user) c = ⊥
-StatementCauses w (sql text) c = SyntaxCauses text c ⊎ ((tree : Tree) × HasTree text tree × NameCauses w tree c)
+StatementCauses w (sql text) c = SyntaxCauses text c ⊎ ((tree : StatementTree) × HasStatement text tree × TreeCauses w tree c)
 StatementCauses w bye c = ⊥
 
 abbrev pub Stands : World → ℕ → Asked → Cause → Type 0

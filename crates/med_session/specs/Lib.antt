@@ -1,5 +1,6 @@
 pub mod Requests
 pub mod World
+pub mod Queries
 pub mod Causes
 pub mod Steps
 pub mod Replies

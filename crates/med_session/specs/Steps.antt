@@ -1,29 +1,18 @@
 -- The direct meaning of a request: from a world to a reply and a world.
-use Rattle.std.specs.Prelude.{◌≡◌, ℕ, Bool, true, List, [], ◌∷◌, map, codes, bytes_eq, if◌then◌else◌, Option, Some, None, IsPermutation}
-use Rattle.med_value.specs.Datum.{Datum, NoValue, Tuple}
+use Rattle.std.specs.Prelude.{◌≡◌, ℕ, Bool, true, List, codes, Option, Some, None}
+use Rattle.med_value.specs.Datum.{Tuple}
 use Rattle.med_value.specs.declared.cause.Cause.{Cause}
 use Rattle.med_value.specs.declared.cause.Cause.TheVariants.{LimitExceeded, OutOfMemory, SourceFault}
-use Rattle.fdw_api.specs.Kinds.{Column}
+use Rattle.tri_expr.specs.Query.{IsAnswer}
 use Rattle.fdw_api.specs.State.{set_at}
-use Rattle.med_parser.specs.Tree.{Tree, select}
-use Rattle.med_parser.specs.Grammar.{HasTree}
+use Rattle.med_parser.specs.QueryTree.{StatementTree}
+use Rattle.med_parser.specs.QueryGrammar.{HasStatement}
+use Rattle.med_binder.specs.Meaning.{meant}
 use Rattle.med_session.specs.Requests.{Asked, opening, sql, bye}
-use Rattle.med_session.specs.World.{World, ForeignTable, table_named}
+use Rattle.med_session.specs.World.{World, shapes, rows_in}
+use Rattle.med_session.specs.Queries.{query_of}
 use Rattle.med_session.specs.Causes.{IsTold, NoneStands, NoneBeforeState}
 use Rattle.med_session.specs.Replies.{Reply, done, answered, refused}
-
--- the cell of the column of this name
-abbrev pub cell_named : List Column → Tuple → List ℕ → Datum
-cell_named [] cells name = NoValue
-cell_named (c ∷ cs) [] name = NoValue
-cell_named (c ∷ cs) (v ∷ vs) name = if bytes_eq c.name name then v else cell_named cs vs name
-
--- SELECT names FROM table (ISO/IEC 9075-2, query specification): the rows of the table in some order, of each the cells of the named
--- columns, in the order in which they are named.
-pub record Answer (table : ForeignTable) (names : List (List ℕ)) (answer : List Tuple) : Type 0 where
-  pub ordered : List Tuple
-  pub all : IsPermutation table.rows ordered
-  pub projected : answer ≡ map (λ row. map (cell_named table.columns row) names) ordered
 
 -- What befell one request: a growth was refused; a source failed; a box has given all its ticket numbers.
 pub record Trouble : Type 0 where
@@ -47,15 +36,16 @@ AsksSources bye = ⊥
 abbrev pub with_session : World → ℕ → Option (List ℕ) → World
 with_session w sid user = record w { sessions = set_at w.sessions sid user }
 
--- what a statement answers: its output names are the columns' names
-abbrev pub Answers : World → Tree → Reply → Type 0
-Answers w (select names table) reply =
-    (t : ForeignTable) × (table_named table w.tables ≡ Some t) × ((rows : List Tuple) × Answer t names rows × (reply ≡ answered names rows))
+-- What a statement answers: its output names, and an answer to its query over the rows of the world's tables.
+abbrev pub Answers : World → StatementTree → Reply → Type 0
+Answers w tree reply =
+    let m = meant (shapes w.tables) tree in
+    (rows : List Tuple) × IsAnswer (query_of m) (rows_in w.tables) rows × (reply ≡ answered m.names rows)
 
 -- what a request for which no cause stands is answered, and what it changes
 abbrev pub Does : World → ℕ → Asked → Reply → World → Type 0
 Does w sid (opening user) reply new = (reply ≡ done (codes "OPEN")) × (new ≡ with_session w sid (Some user))
-Does w sid (sql text) reply new = ((tree : Tree) × HasTree text tree × Answers w tree reply) × (new ≡ w)
+Does w sid (sql text) reply new = ((tree : StatementTree) × HasStatement text tree × Answers w tree reply) × (new ≡ w)
 Does w sid bye reply new = (reply ≡ done (codes "BYE")) × (new ≡ with_session w sid None)
 
 -- One request in a world, under the trouble that befell it. What a case does not name stays as it was.

@@ -1,8 +1,8 @@
 -- The world of the SQL meaning: sources, foreign tables as lists of rows, and open sessions. No box, scan or memory is in it.
-use Rattle.std.specs.Prelude.{ℕ, Bool, List, [], Option, None, IsSome, find, bytes_eq, map}
-use Rattle.std.specs.List.{list_any}
+use Rattle.std.specs.Prelude.{ℕ, zero, suc, List, [], ◌∷◌, Option, None, IsSome, find, bytes_eq, map}
 use Rattle.med_value.specs.Datum.{Tuple}
 use Rattle.fdw_api.specs.Kinds.{Kind, Column, Holding}
+use Rattle.med_binder.specs.Scope.{TableShape}
 use Rattle.med_session.specs.declared.sources.SourceKind.{SourceKind}
 
 -- A source is free, with what its kind means and what it stores under each remote name, or it was dropped and holds nothing.
@@ -38,9 +38,15 @@ IsOpen w sid = IsSome (w.sessions sid)
 abbrev pub table_named : List ℕ → List ForeignTable → Option ForeignTable
 table_named name tables = find (λ (t : ForeignTable). bytes_eq t.name name) tables
 
--- some column has this name
-abbrev pub has_column : List Column → List ℕ → Bool
-has_column columns name = list_any (λ (c : Column). bytes_eq c.name name) columns
+-- the tables by their names and columns: what the names of a statement are found in
+abbrev pub shapes : List ForeignTable → List TableShape
+shapes = map (λ (t : ForeignTable). record { name = t.name; columns = t.columns })
+
+-- the rows of the table in each place; none past the end
+abbrev pub rows_in : List ForeignTable → ℕ → List Tuple
+rows_in [] place = []
+rows_in (t ∷ ts) zero = t.rows
+rows_in (t ∷ ts) (suc place) = rows_in ts place
 
 abbrev pub column_names : List Column → List (List ℕ)
 column_names columns = map (λ (c : Column). c.name) columns

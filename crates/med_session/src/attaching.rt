@@ -11,8 +11,9 @@ ghost use Rattle.med_session.specs.Attaching.{repeats, is_named, stands_for, IsA
 use crate::adding::place_of_source;
 use crate::engine::Engine;
 use crate::select::cause_of;
-use crate::sources::{AttachedTable, NamedSource};
+use crate::sources::NamedSource;
 use fdw_api::interface::Wrapper;
+use med_binder::AttachedTable;
 use med_exec::slots::{bind_at, ledger_at};
 use med_value::{Cause, ColumnDef, NoMemory};
 use std::alloc::Global;

@@ -1,13 +1,14 @@
 //! The engine.
 ghost use Rattle.std.specs.Prelude.{◌≡◌, ◌++◌, ℕ, List, IfOk, IfErr, OnOk, OnErr, IsErrOf};
 
-use crate::places::{close_all, closed_sessions, is_open, set_user};
+use crate::places::{close_all, closed_sessions, is_open, set_user, user_in};
 use crate::replies::{Outcome, write_reply};
-use crate::select::{query_of, run_select};
+use crate::select::run_select;
 use crate::session::{NoRoom, Request, Sid};
-use crate::sources::{AttachedTable, NamedSource};
+use crate::sources::NamedSource;
 use crate::users::is_user;
 use fdw_api::interface::Wrapper;
+use med_binder::AttachedTable;
 use med_parser::{one_tree, parse};
 use med_value::Cause;
 use std::alloc::Global;
@@ -165,16 +166,16 @@ impl<W: Wrapper> Engine<W> {
         ensures sound { IsSound (shown W.meaning self.new) }
         ensures leads { Leads (shown W.meaning self.old) sid.number (sql text.now) (reply_of result) (shown W.meaning self.new) }
     {
-        if !is_open(&self.users, sid) {
+        let Some(user) = user_in(&self.users, sid) else {
             return Outcome::Refused(Cause::NoConnection);
-        }
+        };
         let alloc = *self.users.allocator();
         one_tree();
         let statement = match parse(alloc, text) {
             Ok(statement) => statement,
             Err(cause) => return Outcome::Refused(cause),
         };
-        match run_select(&mut self.slots, &self.tables, alloc, query_of(statement)) {
+        match run_select(&mut self.slots, &self.tables, alloc, user, statement) {
             Ok(set) => Outcome::Rows(set),
             Err(cause) => Outcome::Refused(cause),
         }

@@ -28,6 +28,17 @@ pub(crate) fn is_open(users: &Vec<Option<String>>, sid: Sid) -> bool
     users[usize::from(sid.number) - 1].is_some()
 }
 
+// The user of an open session.
+pub(crate) fn user_in(users: &Vec<Option<String>>, sid: Sid) -> Option<&str>
+    requires { vec_len users.now ≡ 64 }
+    ensures { option_map (λ name. name.now) result ≡ user_of (map (option_map string_bytes) users.now.items) sid.number }
+{
+    match &users[usize::from(sid.number) - 1] {
+        Some(name) => Some(name.as_str()),
+        None => None,
+    }
+}
+
 // Opens a session for a user, or closes it.
 pub(crate) fn set_user(users: &mut Vec<Option<String>>, sid: Sid, user: Option<String>)
     requires { vec_len users.old ≡ 64 }

@@ -1,8 +1,5 @@
 //! What an engine holds of its sources and tables.
 
-use fdw_api::interface::{TableNo, Wrapper};
-use med_value::ColumnDef;
-
 /// A kind of source, as HANDLER names it.
 #[derive(Clone, Copy, Debug, PartialEq, Eq)]
 pub enum SourceKind {
@@ -21,14 +18,4 @@ pub enum SourceKind {
 pub struct NamedSource {
     pub name: String,
     pub kind: SourceKind,
-}
-
-/// A foreign table that was attached: the place of its source, and its number in the source's box.
-#[derive(Drop)]
-pub struct AttachedTable {
-    pub name: String,
-    pub columns: Vec<ColumnDef>,
-    pub source: usize,
-    pub remote: String,
-    pub number: TableNo,
 }

@@ -10,9 +10,12 @@ use std::io;
 use std::io::Read;
 use std::test::Fail;
 
+mod boxes;
 mod cuts;
 mod faults;
 mod memory;
+mod queries;
+mod restricted;
 mod served;
 mod slots;
 mod sources;

@@ -26,7 +26,7 @@ fn demo_slots(alloc: Global) -> Result<Vec<Option<ListWrapper>>, Fail>
 }
 
 // The text of rows, each with an LF.
-fn text_of(alloc: Global, rows: &[Row]) -> Result<Vec<u8>, NoMemory> {
+pub fn text_of(alloc: Global, rows: &[Row]) -> Result<Vec<u8>, NoMemory> {
     let mut text = Vec::new(alloc);
     for row in rows {
         row_text(row, &mut text)?;

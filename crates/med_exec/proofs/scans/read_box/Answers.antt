@@ -1,16 +1,12 @@
-use Rattle.std.proofs.Common.{map, refl}
+use Rattle.std.proofs.Common.{map, ap}
 use Rattle.med_value.specs.Datum.{tuple}
-use Rattle.med_exec.proofs.ScanLemmas.{open_begun, ok_reads, err_fails}
+use Rattle.fdw_api.specs.Scan.{Spec, spec_of}
+use Rattle.med_exec.proofs.SelectLemmas.{ok_whole}
 use Rattle.med_exec.proofs.scans.read_box.Goals as goal
 
-pub begin-requires : goal.begin-requires
-begin-requires g c = c.plain.ensures.allowed _ _ c.requires
-
-pub read_all-rows-requires : goal.read_all-rows-requires
-read_all-rows-requires g c = open_begun _ _ _ _ _ _ c.in_ok-ticket.ensures.ok
+pub scan_box-requires-clause-begin : goal.scan_box-requires-clause-begin
+scan_box-requires-clause-begin g c = c.plain.ensures.allowed _ _ c.requires
 
 pub returns-clause-ok : goal.returns-clause-ok
-returns-clause-ok g c = ok_reads (λ v. map tuple v.items) _ _ _ _ _ _ _ _ c.read_all-rows.result c.plain.ensures.is refl c.in_ok-ticket.ensures.ok c.read_all-rows.ensures.ok c.end.ensures
-
-pub returns-clause-err : goal.returns-clause-err
-returns-clause-err g c = err_fails _ _ _ _ _ _ _ _ c.read_all-rows.result c.in_ok-ticket.ensures.ok c.read_all-rows.ensures.err c.end.ensures
+returns-clause-ok g c =
+    ok_whole (λ v. map tuple v.items) c.args.table.number (spec_of c.plain.result) (g.W.Wrapper.meaning c.args.b.now) (g.W.Wrapper.meaning c.scan_box.new.b) c.scan_box.result (ap (λ (s : Spec). s.narrow) c.plain.ensures.is) c.scan_box.ensures.ok

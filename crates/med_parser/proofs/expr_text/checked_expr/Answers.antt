@@ -2,7 +2,7 @@ use Rattle.std.proofs.Common.{◌≡◌, true, false, sym, ◌∙◌, inl, inr}
 use Rattle.std.proofs.lemmas.Result.{err_from_is_err_and}
 use Rattle.med_parser.specs.View.{shapes_of}
 use Rattle.med_parser.specs.ExprView.{expr_tree}
-use Rattle.med_parser.proofs.Parsed.{short_names}
+use Rattle.med_parser.proofs.TokenShapes.{short_names}
 use Rattle.med_parser.proofs.ExprParsed.{huge, readable, told, told_refused, read_expr, no_cause}
 use Rattle.med_parser.proofs.expr_text.checked_expr.Goals as goal
 

@@ -3,7 +3,7 @@ use Rattle.std.proofs.lemmas.Result.{err_from_is_err_and}
 use Rattle.med_lexer.specs.declared.Token.{Token}
 use Rattle.med_lexer.specs.Lexemes.{Lexes}
 use Rattle.med_lexer.specs.View.{views}
-use Rattle.med_parser.proofs.Parsed.{OneList}
+use Rattle.med_parser.proofs.TokenShapes.{OneList}
 use Rattle.med_parser.proofs.ExprParsed.{lexed_read, printable, text_found, text_none, text_refused, only_memory}
 use Rattle.med_parser.proofs.expr_text.expression.Goals as goal
 

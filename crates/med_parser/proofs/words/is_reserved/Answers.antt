@@ -1,6 +1,5 @@
 use Rattle.std.proofs.Common.{subst, sym, IsTrue, ◌↔◌, Contains}
-use Rattle.med_parser.specs.Words.{reserved}
-use Rattle.med_parser.specs.Reading.{is_reserved}
+use Rattle.med_parser.specs.Words.{reserved, is_reserved}
 use Rattle.med_parser.proofs.ReservedWords.{is_reserved-Decides}
 use Rattle.med_parser.proofs.words.is_reserved.Goals as goal
 

@@ -1,0 +1,107 @@
+// The engine over the demo list inside wrappers round a wrapper.
+ghost use Rattle.probe_wrapper.specs.Lists.{IsNewList};
+ghost use Rattle.probe_wrapper.specs.ListBoxes.{box_of};
+ghost use Rattle.probe_wrapper.specs.Counting.{counted};
+ghost use Rattle.probe_wrapper.specs.Shy.{shied};
+ghost use Rattle.probe_wrapper.specs.Failing.{failed};
+ghost use Rattle.probe_wrapper.specs.Shuffled.{reordered, turns_of};
+ghost use Rattle.std.specs.Prelude.{IfOk};
+ghost use Rattle.fed_cli.specs.Demo.{demo_list};
+
+use super::{ANSWER, STORED};
+use crate::demo::demo_tables;
+use crate::program::{RunFault, add_demo};
+use crate::serving::serve_engine;
+use crate::stream::Ended;
+use fdw_api::interface::Wrapper;
+use med_session::Engine;
+use med_value::NoMemory;
+use probe_wrapper::{Counting, Failing, ListWrapper, Shuffled, Shy};
+use std::alloc::Global;
+use std::str::from_utf8;
+use std::test::Fail;
+
+// The demo list.
+fn new_list(alloc: Global) -> Result<ListWrapper, NoMemory>
+    ensures { IfOk result (λ w. IsNewList (box_of w) demo_list) }
+{
+    ListWrapper::new(alloc, demo_tables(alloc)?)
+}
+
+fn in_counting<W: Wrapper>(inner: W) -> Counting<W>
+    requires { IsNewList (W.meaning inner) demo_list }
+    ensures { IsNewList (counted (W.meaning result.inner) result.pulled) demo_list }
+{
+    Counting::new(inner)
+}
+
+fn in_shy<W: Wrapper>(inner: W) -> Shy<W>
+    requires { IsNewList (W.meaning inner) demo_list }
+    ensures { IsNewList (shied (W.meaning result.inner)) demo_list }
+{
+    Shy::new(inner)
+}
+
+fn in_failing<W: Wrapper>(inner: W, passes: u64) -> Failing<W>
+    requires { IsNewList (W.meaning inner) demo_list }
+    ensures { IsNewList (failed (W.meaning result.inner) result.failure) demo_list }
+{
+    Failing::new(inner, passes)
+}
+
+fn in_shuffled<W: Wrapper>(alloc: Global, inner: W) -> Shuffled<W>
+    requires { IsNewList (W.meaning inner) demo_list }
+    ensures { IsNewList (reordered (W.meaning result.inner) (turns_of result.scans) result.pulled) demo_list }
+{
+    Shuffled::new(alloc, inner)
+}
+
+// Whether a text is the answer to the stored stream, with its rows in any order.
+fn is_answer(text: &[u8]) -> bool {
+    match from_utf8(text) {
+        Err(_) => false,
+        Ok(text) => {
+            text.len() == ANSWER.len()
+                && text.starts_with("1 T OPEN\n1 H\tid\tname\n")
+                && text.contains("\n1 R\t1\tbolt\n")
+                && text.contains("\n1 R\t2\tnut\n")
+                && text.contains("\n1 R\t3\t\\N\n")
+                && text.ends_with("\n1 T SELECT 3\n")
+        }
+    }
+}
+
+// Whether an engine with the demo list in this box answers the stored stream.
+fn answers<W: Wrapper>(alloc: Global, list: W) -> Result<bool, RunFault<'static>>
+    requires { IsNewList (W.meaning list) demo_list }
+{
+    let Ok(mut engine) = Engine::<W>::new(alloc, "admin") else {
+        return Err(RunFault::NoMemory);
+    };
+    add_demo(alloc, &mut engine, "demo", list)?;
+    let mut out = Vec::new(alloc);
+    let mut input = STORED;
+    let (ended, _) = serve_engine(alloc, engine, &mut input, &mut out);
+    Ok(ended == Ok(Ended::Eof) && is_answer(&out))
+}
+
+#[test]
+fn stored_query_over_each_box_gives_the_rows(rt: HostRuntime) -> Result<(), Fail> {
+    let alloc = rt.alloc();
+    assert!(rt; answers(alloc, new_list(alloc)?)?);
+    assert!(rt; answers(alloc, in_counting(new_list(alloc)?))?);
+    assert!(rt; answers(alloc, in_shy(new_list(alloc)?))?);
+    assert!(rt; answers(alloc, in_shuffled(alloc, new_list(alloc)?))?);
+    Ok(())
+}
+
+#[test]
+fn stored_query_over_shuffled_in_each_box_gives_the_rows(rt: HostRuntime) -> Result<(), Fail> {
+    let alloc = rt.alloc();
+    assert!(rt; answers(alloc, in_shy(in_shuffled(alloc, new_list(alloc)?)))?);
+    assert!(rt; answers(alloc, in_counting(in_shuffled(alloc, new_list(alloc)?)))?);
+    assert!(rt; answers(alloc, in_failing(in_shuffled(alloc, new_list(alloc)?), 99))?);
+    assert!(rt; answers(alloc, in_shuffled(alloc, in_shy(new_list(alloc)?)))?);
+    assert!(rt; answers(alloc, in_shuffled(alloc, in_counting(new_list(alloc)?)))?);
+    Ok(())
+}

@@ -1,0 +1,11 @@
+pub mod Places
+pub mod Causes
+pub mod Trees
+pub mod Escapes
+pub mod Parts
+pub mod Types
+pub mod Added
+pub mod Binds
+pub mod Phases
+pub mod Views
+pub mod Tables

@@ -1,0 +1,138 @@
+-- Phase 4, types: the type of an expression in a scope, and the causes of refusal that stand for a statement over tables. A list is read
+-- as a set. A cause stands at a part by the types of its operands, whether or not an operand is itself refused.
+use Rattle.std.specs.Prelude.{ℕ, Bool, true, false, ◌||◌, ◌==◌, List, [], ◌∷◌, ◌++◌, Option, Some, None, if◌then◌else◌, Contains, flat_map}
+use Rattle.std.specs.List.{list_all}
+use Rattle.med_value.specs.declared.value.ColType.{ColType}
+use Rattle.med_value.specs.declared.value.ColType.TheVariants.{Int, Text, Bool as Truth}
+use Rattle.med_value.specs.declared.cause.Cause.{Cause}
+use Rattle.med_value.specs.declared.cause.Cause.TheVariants.{DatatypeMismatch, UndefinedFunction, InvalidEscape}
+use Rattle.med_parser.specs.declared.expr.Status.{Status}
+use Rattle.med_parser.specs.declared.expr.Status.TheVariants as statuses
+use Rattle.med_parser.specs.ExprTree.{ExprTree, ExprTrees, num, negative, text, truth, null, column, paren, minus, binary, between, among, like, compare, tested, negation, chain, none, more}
+use Rattle.med_parser.specs.QueryTree.{ItemTree, all, all_of, value, SelectTree, StatementTree, select}
+use Rattle.med_binder.specs.Scope.{TableShape, Scope, candidates, kind_at, from_scope}
+
+-- the type of the one column that a name means
+abbrev pub kind_among : Scope → List ℕ → Option ColType
+kind_among s [] = None
+kind_among s (p ∷ []) = kind_at s p
+kind_among s (p ∷ r ∷ rs) = None
+
+-- The type of an expression; none for a NULL literal, which takes the type that its place asks.
+abbrev pub type_of : Scope → ExprTree → Option ColType
+type_of s (num n) = Some Int
+type_of s (negative n) = Some Int
+type_of s (text x) = Some Text
+type_of s (truth b) = Some Truth
+type_of s null = None
+type_of s (column q n) = kind_among s (candidates s q n)
+type_of s (paren e) = type_of s e
+type_of s (minus e) = Some Int
+type_of s (binary op a b) = Some Int
+type_of s (between neg e low high) = Some Truth
+type_of s (among neg e first others) = Some Truth
+type_of s (like neg e x) = Some Truth
+type_of s (compare op a b) = Some Truth
+type_of s (tested neg e t) = Some Truth
+type_of s (negation e) = Some Truth
+type_of s (chain joint first others) = Some Truth
+
+abbrev pub types_of : Scope → ExprTrees → List (Option ColType)
+types_of s none = []
+types_of s (more e es) = type_of s e ∷ types_of s es
+
+abbrev pub same_type : ColType → ColType → Bool
+same_type Int Int = true
+same_type Text Text = true
+same_type Truth Truth = true
+same_type t u = false
+
+-- an operand of this type can stand where that one is asked
+abbrev pub takes : ColType → Option ColType → Bool
+takes asked None = true
+takes asked (Some t) = same_type asked t
+
+-- there is one type that all operands can have
+abbrev pub have_one_type : List (Option ColType) → Bool
+have_one_type ts = list_all (takes Int) ts || (list_all (takes Text) ts || list_all (takes Truth) ts)
+
+-- the cause, unless the test holds
+abbrev pub unless : Bool → Cause → List Cause
+unless holds c = if holds then [] else c ∷ []
+
+-- 42883 for operands that are compared and have two types
+abbrev pub comparing : List (Option ColType) → List Cause
+comparing ts = unless (have_one_type ts) UndefinedFunction
+
+-- 42883 for what is not a whole number, and for what is not a text
+abbrev pub as_number : Option ColType → List Cause
+as_number t = unless (takes Int t) UndefinedFunction
+
+abbrev pub as_text : Option ColType → List Cause
+as_text t = unless (takes Text t) UndefinedFunction
+
+-- 42804 for what is not boolean
+abbrev pub as_condition : Option ColType → List Cause
+as_condition t = unless (takes Truth t) DatatypeMismatch
+
+-- IS NULL takes any type, IS TRUE, FALSE and UNKNOWN a condition
+abbrev pub as_tested : Status → Option ColType → List Cause
+as_tested statuses.Null t = []
+as_tested statuses.True t = as_condition t
+as_tested statuses.False t = as_condition t
+as_tested statuses.Unknown t = as_condition t
+
+-- a backslash (92) takes what follows as itself; at the end it is alone
+abbrev pub ends_in_escape : List ℕ → Bool
+ends_in_escape [] = false
+ends_in_escape (c ∷ []) = c == 92
+ends_in_escape (c ∷ d ∷ cs) = if c == 92 then ends_in_escape cs else ends_in_escape (d ∷ cs)
+
+-- 22025
+abbrev pub as_pattern : List ℕ → List Cause
+as_pattern x = if ends_in_escape x then InvalidEscape ∷ [] else []
+
+abbrev mutual
+  pub type_causes : Scope → ExprTree → List Cause
+  type_causes s (paren e) = type_causes s e
+  type_causes s (minus e) = type_causes s e ++ as_number (type_of s e)
+  type_causes s (binary op a b) = (type_causes s a ++ as_number (type_of s a)) ++ (type_causes s b ++ as_number (type_of s b))
+  type_causes s (between neg e low high) = (type_causes s e ++ (type_causes s low ++ type_causes s high)) ++ comparing (type_of s e ∷ type_of s low ∷ type_of s high ∷ [])
+  type_causes s (among neg e first others) = (type_causes s e ++ (type_causes s first ++ type_causes_of_all s others)) ++ comparing (type_of s e ∷ type_of s first ∷ types_of s others)
+  type_causes s (like neg e x) = (type_causes s e ++ as_text (type_of s e)) ++ as_pattern x
+  type_causes s (compare op a b) = (type_causes s a ++ type_causes s b) ++ comparing (type_of s a ∷ type_of s b ∷ [])
+  type_causes s (tested neg e t) = type_causes s e ++ as_tested t (type_of s e)
+  type_causes s (negation e) = type_causes s e ++ as_condition (type_of s e)
+  type_causes s (chain joint first others) = (type_causes s first ++ as_condition (type_of s first)) ++ condition_causes s others
+  type_causes s _ = []
+
+  pub type_causes_of_all : Scope → ExprTrees → List Cause
+  type_causes_of_all s none = []
+  type_causes_of_all s (more e es) = type_causes s e ++ type_causes_of_all s es
+
+  -- of operands of AND or OR
+  pub condition_causes : Scope → ExprTrees → List Cause
+  condition_causes s none = []
+  condition_causes s (more e es) = (type_causes s e ++ as_condition (type_of s e)) ++ condition_causes s es
+
+abbrev pub item_type_causes : Scope → ItemTree → List Cause
+item_type_causes s all = []
+item_type_causes s (all_of q) = []
+item_type_causes s (value e alias) = type_causes s e
+
+-- of WHERE
+abbrev pub condition_type_causes : Scope → Option ExprTree → List Cause
+condition_type_causes s None = []
+condition_type_causes s (Some e) = type_causes s e ++ as_condition (type_of s e)
+
+-- those of its items and of its condition, where its table is known
+abbrev pub select_type_causes : Option Scope → SelectTree → List Cause
+select_type_causes None q = []
+select_type_causes (Some s) q = flat_map (item_type_causes s) q.items ++ condition_type_causes s q.condition
+
+abbrev pub statement_type_causes : List TableShape → StatementTree → List Cause
+statement_type_causes tables (select q) = select_type_causes (from_scope tables q.entry) q
+
+-- the cause stands for the statement
+abbrev pub TypeCauses : List TableShape → StatementTree → Cause → Type 0
+TypeCauses tables tree c = Contains (statement_type_causes tables tree) c

@@ -1,0 +1,203 @@
+//! Expressions with their names resolved.
+#![tactic(auto, using(crate::proofs::Causes::tells_left, crate::proofs::Causes::tells_right, crate::proofs::Causes::tells_memory, crate::proofs::Causes::tells_one, crate::proofs::Causes::none_of_two, crate::proofs::Causes::tells_first, crate::proofs::Causes::next_causes, crate::proofs::Trees::next_part, crate::proofs::Trees::all_parts))]
+
+ghost use Rattle.std.specs.Prelude.{◌≡◌, ◌++◌, map};
+ghost use Rattle.med_parser.specs.ExprView.{expr_tree, expr_trees};
+ghost use Rattle.tri_expr.specs.Tree.{tree, trees, part, compare, compute, between, within};
+ghost use Rattle.med_binder.specs.Scope.{scope_of};
+ghost use Rattle.med_binder.specs.Naming.{name_causes, name_causes_of_all};
+ghost use Rattle.med_binder.specs.Meaning.{operation_of, comparison_of, test_of, joined, resolved, resolved_all};
+ghost use Rattle.med_binder.specs.Telling.{Gives};
+
+use crate::numbers::{negative, number};
+use crate::scope::{Visible, find_column};
+use med_parser::{BinaryOp, CompareOp, Expr as Written, Joint, Status};
+use med_value::{Cause, Value};
+use std::alloc::Global;
+use tri_expr::{Comparison, Expr, Operation, Test};
+
+fn operation(op: BinaryOp) -> Operation
+    ensures { result ≡ operation_of op }
+{
+    match op {
+        BinaryOp::Add => Operation::Add,
+        BinaryOp::Sub => Operation::Subtract,
+        BinaryOp::Mul => Operation::Multiply,
+        BinaryOp::Div => Operation::Divide,
+        BinaryOp::Rem => Operation::Remainder,
+    }
+}
+
+fn comparison(op: CompareOp) -> Comparison
+    ensures { result ≡ comparison_of op }
+{
+    match op {
+        CompareOp::Equal => Comparison::Equal,
+        CompareOp::Differ => Comparison::Apart,
+        CompareOp::Less => Comparison::Below,
+        CompareOp::AtMost => Comparison::AtMost,
+        CompareOp::Greater => Comparison::Above,
+        CompareOp::AtLeast => Comparison::AtLeast,
+    }
+}
+
+fn test(status: Status) -> Test
+    ensures { result ≡ test_of status }
+{
+    match status {
+        Status::Null => Test::Null,
+        Status::True => Test::True,
+        Status::False => Test::False,
+        Status::Unknown => Test::Unknown,
+    }
+}
+
+fn chain(joint: Joint, parts: Vec<Expr>) -> Expr
+    ensures { tree result ≡ joined joint (trees (map tree parts.items)) }
+{
+    match joint {
+        Joint::And => Expr::And(parts),
+        Joint::Or => Expr::Or(parts),
+    }
+}
+
+#[cycle(resolve)]
+fn boxed(alloc: Global, scope: Option<Visible<'_>>, e: &Written) -> Result<Box<Expr>, Cause>
+    ensures { Gives (λ b. tree b.value) (name_causes (scope_of scope.entry) (expr_tree e.now)) (resolved (scope_of scope.entry) (expr_tree e.now)) result }
+{
+    let resolved = resolve(alloc, scope, e)?;
+    Ok(Box::new(alloc, resolved)?)
+}
+
+/// A list that begins with this expression and goes on with the others, resolved.
+#[cycle(resolve)]
+fn listed(
+    alloc: Global,
+    scope: Option<Visible<'_>>,
+    first: Expr,
+    others: &[Written],
+) -> Result<Vec<Expr>, Cause>
+    ensures { Gives (λ v. trees (map tree v.items)) (name_causes_of_all (scope_of scope.entry) (expr_trees others.now)) (part (tree first) (resolved_all (scope_of scope.entry) (expr_trees others.now))) result }
+{
+    let mut parts = Vec::new(alloc);
+    parts.push(first)?;
+    for other in others {
+        let part = resolve(alloc, scope, other)?;
+        parts.push(part)?;
+    }
+    Ok(parts)
+}
+
+#[cycle(resolve)]
+fn compared(
+    alloc: Global,
+    scope: Option<Visible<'_>>,
+    op: CompareOp,
+    a: &Written,
+    b: &Written,
+) -> Result<Expr, Cause>
+    ensures { Gives tree (name_causes (scope_of scope.entry) (expr_tree a.now) ++ name_causes (scope_of scope.entry) (expr_tree b.now)) (compare (comparison_of op) (resolved (scope_of scope.entry) (expr_tree a.now)) (resolved (scope_of scope.entry) (expr_tree b.now))) result }
+{
+    let a = boxed(alloc, scope, a)?;
+    let b = boxed(alloc, scope, b)?;
+    Ok(Expr::Compare(comparison(op), a, b))
+}
+
+#[cycle(resolve)]
+fn computed(
+    alloc: Global,
+    scope: Option<Visible<'_>>,
+    op: BinaryOp,
+    a: &Written,
+    b: &Written,
+) -> Result<Expr, Cause>
+    ensures { Gives tree (name_causes (scope_of scope.entry) (expr_tree a.now) ++ name_causes (scope_of scope.entry) (expr_tree b.now)) (compute (operation_of op) (resolved (scope_of scope.entry) (expr_tree a.now)) (resolved (scope_of scope.entry) (expr_tree b.now))) result }
+{
+    let a = boxed(alloc, scope, a)?;
+    let b = boxed(alloc, scope, b)?;
+    Ok(Expr::Compute(operation(op), a, b))
+}
+
+#[cycle(resolve)]
+fn bounded(
+    alloc: Global,
+    scope: Option<Visible<'_>>,
+    negated: bool,
+    e: &Written,
+    low: &Written,
+    high: &Written,
+) -> Result<Expr, Cause>
+    ensures { Gives tree (name_causes (scope_of scope.entry) (expr_tree e.now) ++ (name_causes (scope_of scope.entry) (expr_tree low.now) ++ name_causes (scope_of scope.entry) (expr_tree high.now))) (between negated (resolved (scope_of scope.entry) (expr_tree e.now)) (resolved (scope_of scope.entry) (expr_tree low.now)) (resolved (scope_of scope.entry) (expr_tree high.now))) result }
+{
+    let e = boxed(alloc, scope, e)?;
+    let low = boxed(alloc, scope, low)?;
+    let high = boxed(alloc, scope, high)?;
+    Ok(Expr::Between(negated, e, low, high))
+}
+
+#[cycle(resolve)]
+fn contained(
+    alloc: Global,
+    scope: Option<Visible<'_>>,
+    negated: bool,
+    e: &Written,
+    first: &Written,
+    others: &[Written],
+) -> Result<Expr, Cause>
+    ensures { Gives tree (name_causes (scope_of scope.entry) (expr_tree e.now) ++ (name_causes (scope_of scope.entry) (expr_tree first.now) ++ name_causes_of_all (scope_of scope.entry) (expr_trees others.now))) (within negated (resolved (scope_of scope.entry) (expr_tree e.now)) (part (resolved (scope_of scope.entry) (expr_tree first.now)) (resolved_all (scope_of scope.entry) (expr_trees others.now)))) result }
+{
+    let e = boxed(alloc, scope, e)?;
+    let first = resolve(alloc, scope, first)?;
+    let parts = listed(alloc, scope, first, others)?;
+    Ok(Expr::In(negated, e, parts))
+}
+
+#[cycle(resolve)]
+fn chained(
+    alloc: Global,
+    scope: Option<Visible<'_>>,
+    joint: Joint,
+    first: &Written,
+    others: &[Written],
+) -> Result<Expr, Cause>
+    ensures { Gives tree (name_causes (scope_of scope.entry) (expr_tree first.now) ++ name_causes_of_all (scope_of scope.entry) (expr_trees others.now)) (joined joint (part (resolved (scope_of scope.entry) (expr_tree first.now)) (resolved_all (scope_of scope.entry) (expr_trees others.now)))) result }
+{
+    let first = resolve(alloc, scope, first)?;
+    let parts = listed(alloc, scope, first, others)?;
+    Ok(chain(joint, parts))
+}
+
+/// The expression with its names resolved, or why a name in it is refused.
+#[cycle(resolve)]
+pub fn resolve(alloc: Global, scope: Option<Visible<'_>>, e: &Written) -> Result<Expr, Cause>
+    ensures { Gives tree (name_causes (scope_of scope.entry) (expr_tree e.now)) (resolved (scope_of scope.entry) (expr_tree e.now)) result }
+{
+    match e {
+        Written::Number(n) => Ok(Expr::Literal(Value::Int(number(*n)))),
+        Written::Negative(n) => Ok(Expr::Literal(Value::Int(negative(*n)))),
+        Written::Text(text) => Ok(Expr::Literal(Value::Text(text.as_str().to_string(alloc)?))),
+        Written::Truth(b) => Ok(Expr::Literal(Value::Bool(*b))),
+        Written::Null => Ok(Expr::Literal(Value::Null)),
+        Written::Column(qualifier, name) => {
+            Ok(Expr::Column(find_column(scope, qualifier, name)?))
+        }
+        Written::Paren(e) => Ok(Expr::Parenthesised(boxed(alloc, scope, e)?)),
+        Written::Minus(e) => Ok(Expr::Negate(boxed(alloc, scope, e)?)),
+        Written::Binary(op, a, b) => computed(alloc, scope, *op, a, b),
+        Written::Between(negated, e, low, high) => bounded(alloc, scope, *negated, e, low, high),
+        Written::In(negated, e, first, others) => {
+            contained(alloc, scope, *negated, e, first, others)
+        }
+        Written::Like(negated, e, pattern) => {
+            let e = boxed(alloc, scope, e)?;
+            let pattern = pattern.as_str().to_string(alloc)?;
+            Ok(Expr::Like(*negated, e, pattern))
+        }
+        Written::Compare(op, a, b) => compared(alloc, scope, *op, a, b),
+        Written::Is(negated, e, status) => {
+            Ok(Expr::Is(test(*status), *negated, boxed(alloc, scope, e)?))
+        }
+        Written::Not(e) => Ok(Expr::Not(boxed(alloc, scope, e)?)),
+        Written::Chain(joint, first, others) => chained(alloc, scope, *joint, first, others),
+    }
+}

@@ -1,0 +1,260 @@
+//! The types of expressions.
+#![tactic(auto, using(crate::proofs::Causes::tells_left, crate::proofs::Causes::tells_right, crate::proofs::Causes::tells_memory, crate::proofs::Causes::tells_one, crate::proofs::Causes::none_of_two))]
+
+ghost use Rattle.std.specs.Prelude.{◌≡◌, ◌++◌, ◌∷◌, [], string_bytes};
+ghost use Rattle.med_parser.specs.ExprView.{expr_tree, expr_trees};
+ghost use Rattle.med_binder.specs.Scope.{scope_of};
+ghost use Rattle.med_binder.specs.Typing as spec;
+ghost use Rattle.med_binder.specs.Telling.{Gives, Passes, Meets};
+
+use crate::scope::{Visible, find_column, kind_of};
+use med_parser::{Expr as Written, Status};
+use med_value::{Cause, ColType};
+
+/// Whether an operand of this type can stand where that one is asked.
+fn takes(asked: ColType, kind: Option<ColType>) -> bool
+    ensures { result ≡ spec.takes asked kind }
+{
+    match (asked, kind) {
+        (_, None) => true,
+        (ColType::Int, Some(ColType::Int)) => true,
+        (ColType::Text, Some(ColType::Text)) => true,
+        (ColType::Bool, Some(ColType::Bool)) => true,
+        (_, Some(_)) => false,
+    }
+}
+
+/// Refuses by the cause, unless the operand can stand where the type is asked.
+fn ask(asked: ColType, kind: Option<ColType>, cause: Cause) -> Result<(), Cause>
+    ensures { Passes (spec.unless (spec.takes asked kind) cause) result }
+{
+    if takes(asked, kind) {
+        Ok(())
+    } else {
+        Err(cause)
+    }
+}
+
+/// The type that both operands can have.
+#[tactic(auto, using(crate::proofs::Types::meets_same, crate::proofs::Types::meets_apart))]
+fn common(a: Option<ColType>, b: Option<ColType>) -> Result<Option<ColType>, Cause>
+    ensures { Meets a b result }
+{
+    match (a, b) {
+        (None, _) => Ok(b),
+        (_, None) => Ok(a),
+        (Some(asked), Some(_)) => {
+            if takes(asked, b) {
+                Ok(a)
+            } else {
+                Err(Cause::UndefinedFunction)
+            }
+        }
+    }
+}
+
+/// Refuses two operands of two types.
+fn check_two(a: Option<ColType>, b: Option<ColType>) -> Result<(), Cause>
+    ensures { Passes (spec.comparing (a ∷ b ∷ [])) result }
+{
+    match common(a, b) {
+        Ok(_) => Ok(()),
+        Err(cause) => Err(cause),
+    }
+}
+
+/// Refuses three operands of more than one type.
+fn check_three(a: Option<ColType>, b: Option<ColType>, c: Option<ColType>) -> Result<(), Cause>
+    ensures { Passes (spec.comparing (a ∷ b ∷ c ∷ [])) result }
+{
+    match common(a, b) {
+        Ok(both) => check_two(both, c),
+        Err(cause) => Err(cause),
+    }
+}
+
+/// Refuses a pattern of LIKE that ends in a lone backslash.
+fn check_pattern(pattern: &str) -> Result<(), Cause>
+    ensures { Passes (spec.as_pattern pattern.now) result }
+{
+    let mut escapes = false;
+    for byte in pattern.as_bytes() {
+        escapes = *byte == b'\\' && !escapes;
+    }
+    if escapes {
+        Err(Cause::InvalidEscape)
+    } else {
+        Ok(())
+    }
+}
+
+/// The type of an expression; NULL takes any.
+fn kind(scope: Option<Visible<'_>>, e: &Written) -> Option<ColType>
+    ensures { result ≡ spec.type_of (scope_of scope.entry) (expr_tree e.now) }
+{
+    match e {
+        Written::Number(_) | Written::Negative(_) => Some(ColType::Int),
+        Written::Minus(_) | Written::Binary(_, _, _) => Some(ColType::Int),
+        Written::Text(_) => Some(ColType::Text),
+        Written::Null => None,
+        Written::Column(qualifier, name) => match find_column(scope, qualifier, name) {
+            Ok(place) => kind_of(scope, place),
+            Err(_) => None,
+        },
+        Written::Paren(e) => kind(scope, e),
+        Written::Truth(_) | Written::Not(_) | Written::Chain(_, _, _) => Some(ColType::Bool),
+        Written::Between(_, _, _, _) | Written::In(_, _, _, _) => Some(ColType::Bool),
+        Written::Like(_, _, _) | Written::Compare(_, _, _) => Some(ColType::Bool),
+        Written::Is(_, _, _) => Some(ColType::Bool),
+    }
+}
+
+/// Refuses an operand by the cause, unless it can stand where the type is asked.
+#[cycle(check)]
+pub fn operand(
+    scope: Option<Visible<'_>>,
+    e: &Written,
+    asked: ColType,
+    cause: Cause,
+) -> Result<(), Cause>
+    ensures { Passes (spec.type_causes (scope_of scope.entry) (expr_tree e.now) ++ spec.unless (spec.takes asked (spec.type_of (scope_of scope.entry) (expr_tree e.now))) cause) result }
+{
+    let kind = type_of(scope, e)?;
+    ask(asked, kind, cause)
+}
+
+#[cycle(check)]
+fn computed(scope: Option<Visible<'_>>, a: &Written, b: &Written) -> Result<(), Cause>
+    ensures { Passes ((spec.type_causes (scope_of scope.entry) (expr_tree a.now) ++ spec.as_number (spec.type_of (scope_of scope.entry) (expr_tree a.now))) ++ (spec.type_causes (scope_of scope.entry) (expr_tree b.now) ++ spec.as_number (spec.type_of (scope_of scope.entry) (expr_tree b.now)))) result }
+{
+    operand(scope, a, ColType::Int, Cause::UndefinedFunction)?;
+    operand(scope, b, ColType::Int, Cause::UndefinedFunction)
+}
+
+#[cycle(check)]
+fn compared(scope: Option<Visible<'_>>, a: &Written, b: &Written) -> Result<(), Cause>
+    ensures { Passes ((spec.type_causes (scope_of scope.entry) (expr_tree a.now) ++ spec.type_causes (scope_of scope.entry) (expr_tree b.now)) ++ spec.comparing (spec.type_of (scope_of scope.entry) (expr_tree a.now) ∷ spec.type_of (scope_of scope.entry) (expr_tree b.now) ∷ [])) result }
+{
+    let a = type_of(scope, a)?;
+    let b = type_of(scope, b)?;
+    check_two(a, b)
+}
+
+#[cycle(check)]
+fn bounded(
+    scope: Option<Visible<'_>>,
+    e: &Written,
+    low: &Written,
+    high: &Written,
+) -> Result<(), Cause>
+    ensures { Passes ((spec.type_causes (scope_of scope.entry) (expr_tree e.now) ++ (spec.type_causes (scope_of scope.entry) (expr_tree low.now) ++ spec.type_causes (scope_of scope.entry) (expr_tree high.now))) ++ spec.comparing (spec.type_of (scope_of scope.entry) (expr_tree e.now) ∷ spec.type_of (scope_of scope.entry) (expr_tree low.now) ∷ spec.type_of (scope_of scope.entry) (expr_tree high.now) ∷ [])) result }
+{
+    let e = type_of(scope, e)?;
+    let low = type_of(scope, low)?;
+    let high = type_of(scope, high)?;
+    check_three(e, low, high)
+}
+
+/// Refuses expressions that are compared with one of this type.
+#[cycle(check)]
+fn listed(
+    scope: Option<Visible<'_>>,
+    kind: Option<ColType>,
+    others: &[Written],
+) -> Result<(), Cause>
+    ensures { Passes (spec.type_causes_of_all (scope_of scope.entry) (expr_trees others.now) ++ spec.comparing (kind ∷ spec.types_of (scope_of scope.entry) (expr_trees others.now))) result }
+{
+    let mut all = kind;
+    for other in others {
+        let one = type_of(scope, other)?;
+        all = common(all, one)?;
+    }
+    Ok(())
+}
+
+#[cycle(check)]
+fn contained(
+    scope: Option<Visible<'_>>,
+    e: &Written,
+    first: &Written,
+    others: &[Written],
+) -> Result<(), Cause>
+    ensures { Passes ((spec.type_causes (scope_of scope.entry) (expr_tree e.now) ++ (spec.type_causes (scope_of scope.entry) (expr_tree first.now) ++ spec.type_causes_of_all (scope_of scope.entry) (expr_trees others.now))) ++ spec.comparing (spec.type_of (scope_of scope.entry) (expr_tree e.now) ∷ spec.type_of (scope_of scope.entry) (expr_tree first.now) ∷ spec.types_of (scope_of scope.entry) (expr_trees others.now))) result }
+{
+    let e = type_of(scope, e)?;
+    let first = type_of(scope, first)?;
+    let both = common(e, first)?;
+    listed(scope, both, others)
+}
+
+#[cycle(check)]
+fn liked(scope: Option<Visible<'_>>, e: &Written, pattern: &String) -> Result<(), Cause>
+    ensures { Passes ((spec.type_causes (scope_of scope.entry) (expr_tree e.now) ++ spec.as_text (spec.type_of (scope_of scope.entry) (expr_tree e.now))) ++ spec.as_pattern (string_bytes pattern.now)) result }
+{
+    operand(scope, e, ColType::Text, Cause::UndefinedFunction)?;
+    check_pattern(pattern.as_str())
+}
+
+#[cycle(check)]
+fn tested(scope: Option<Visible<'_>>, e: &Written, status: Status) -> Result<(), Cause>
+    ensures { Passes (spec.type_causes (scope_of scope.entry) (expr_tree e.now) ++ spec.as_tested status (spec.type_of (scope_of scope.entry) (expr_tree e.now))) result }
+{
+    match status {
+        Status::Null => {
+            type_of(scope, e)?;
+            Ok(())
+        }
+        Status::True | Status::False | Status::Unknown => {
+            operand(scope, e, ColType::Bool, Cause::DatatypeMismatch)
+        }
+    }
+}
+
+/// Refuses expressions that are no conditions.
+#[cycle(check)]
+fn conditions(scope: Option<Visible<'_>>, others: &[Written]) -> Result<(), Cause>
+    ensures { Passes (spec.condition_causes (scope_of scope.entry) (expr_trees others.now)) result }
+{
+    for other in others {
+        operand(scope, other, ColType::Bool, Cause::DatatypeMismatch)?;
+    }
+    Ok(())
+}
+
+#[cycle(check)]
+fn chained(scope: Option<Visible<'_>>, first: &Written, others: &[Written]) -> Result<(), Cause>
+    ensures { Passes ((spec.type_causes (scope_of scope.entry) (expr_tree first.now) ++ spec.as_condition (spec.type_of (scope_of scope.entry) (expr_tree first.now))) ++ spec.condition_causes (scope_of scope.entry) (expr_trees others.now)) result }
+{
+    operand(scope, first, ColType::Bool, Cause::DatatypeMismatch)?;
+    conditions(scope, others)
+}
+
+/// Refuses what stands at the parts of an expression.
+#[cycle(check)]
+fn check(scope: Option<Visible<'_>>, e: &Written) -> Result<(), Cause>
+    ensures { Passes (spec.type_causes (scope_of scope.entry) (expr_tree e.now)) result }
+{
+    match e {
+        Written::Number(_) | Written::Negative(_) | Written::Text(_) => Ok(()),
+        Written::Truth(_) | Written::Null | Written::Column(_, _) => Ok(()),
+        Written::Paren(e) => check(scope, e),
+        Written::Minus(e) => operand(scope, e, ColType::Int, Cause::UndefinedFunction),
+        Written::Binary(_, a, b) => computed(scope, a, b),
+        Written::Between(_, e, low, high) => bounded(scope, e, low, high),
+        Written::In(_, e, first, others) => contained(scope, e, first, others),
+        Written::Like(_, e, pattern) => liked(scope, e, pattern),
+        Written::Compare(_, a, b) => compared(scope, a, b),
+        Written::Is(_, e, status) => tested(scope, e, *status),
+        Written::Not(e) => operand(scope, e, ColType::Bool, Cause::DatatypeMismatch),
+        Written::Chain(_, first, others) => chained(scope, first, others),
+    }
+}
+
+/// The type of an expression, or why a part of it is refused.
+#[cycle(check)]
+pub fn type_of(scope: Option<Visible<'_>>, e: &Written) -> Result<Option<ColType>, Cause>
+    ensures { Gives (λ t. t) (spec.type_causes (scope_of scope.entry) (expr_tree e.now)) (spec.type_of (scope_of scope.entry) (expr_tree e.now)) result }
+{
+    check(scope, e)?;
+    Ok(kind(scope, e))
+}

@@ -1,0 +1,97 @@
+-- The loop over the items of a list, and over items that are in range.
+use Rattle.std.proofs.Common.{◌≡◌, ℕ, zero, suc, ◌≤◌, ◌<◌, List, [], ◌∷◌, ◌++◌, length, refl, sym, ◌∙◌, ap, subst, arith, append_assoc, append-nil, length-append}
+use Rattle.std.specs.Prelude.{Result, Ok, Err, Some, None, map}
+use Rattle.med_parser.specs.declared.refusal.ReadFault.{ReadFault}
+use Rattle.med_parser.specs.declared.refusal.ReadFault.TheVariants as faults
+use Rattle.med_parser.specs.declared.refusal.Refusal.{Refusal}
+use Rattle.med_parser.specs.declared.symbols.Separator.TheVariants.{Comma}
+use Rattle.med_parser.specs.Terminal.{Terminal}
+use Rattle.med_parser.specs.Terminal as t
+use Rattle.med_parser.specs.ExprAnswers.{Gives}
+use Rattle.med_parser.specs.ExprReading.{◌>>=◌}
+use Rattle.med_parser.specs.ExprSteps.{behind_of}
+use Rattle.med_parser.specs.QueryTree.{ItemTree}
+use Rattle.med_parser.specs.QueryReading.{Parser, item_of, others, list_of}
+use Rattle.med_parser.proofs.QuerySound.{comma_is, item_sound}
+
+abbrev pub after_these : {X : Type 0} → List X → Result (List X × List Terminal) Refusal → Result (List X × List Terminal) Refusal
+after_these xs r = r >>= λ y. Ok (xs ++ y.0, y.1)
+
+-- The items xs stand in front of the rest.
+pub record ListLoop {X : Type 0} (item : Parser X) (terminals : List Terminal) (xs : List X) (rest : List Terminal) : Type 0 where
+  pub k : ℕ
+  pub enough : length rest ≤ k
+  pub same : list_of item terminals ≡ after_these xs (others item k rest)
+
+start_at : {X : Type 0} (item : Parser X) (ts : List Terminal) (x : X) (rest : List Terminal) → item ts ≡ Ok (x, rest) → list_of item ts ≡ after_these (x ∷ []) (others item (length rest) rest)
+unfolding list_of
+start_at item ts x rest h = rw h refl
+
+pub list_start : {X : Type 0} (item : Parser X) (ts : List Terminal) (x : X) (xs : List X) (rest : List Terminal) → item ts ≡ Ok (x, rest) → xs ≡ x ∷ [] → ListLoop item ts xs rest
+list_start item ts x xs rest h is = subst (λ ys. ListLoop item ts ys rest) (sym is) (record { k = length rest; enough = omega arith; same = start_at item ts x rest h })
+
+one_more : {X : Type 0} (xs : List X) (x : X) (r : Result (List X × List Terminal) Refusal) → after_these xs (r >>= λ y. Ok (x ∷ y.0, y.1)) ≡ after_these (xs ++ x ∷ []) r
+one_more xs x (Err e) = refl
+one_more xs x (Ok y) = ap (λ z. Ok (z, y.1)) (sym (append_assoc xs (x ∷ []) y.0))
+
+others_at : {X : Type 0} (item : Parser X) (k : ℕ) (after : List Terminal) (x : X) (more : List Terminal) → item after ≡ Ok (x, more) → others item (suc k) (t.Comma ∷ after) ≡ (others item k more >>= λ y. Ok (x ∷ y.0, y.1))
+unfolding others
+others_at item k after x more h = rw h refl
+
+more_at : {X : Type 0} (item : Parser X) (k : ℕ) (ts : List Terminal) (xs : List X) (after : List Terminal) (x : X) (more : List Terminal) → length (t.Comma ∷ after) ≤ k → list_of item ts ≡ after_these xs (others item k (t.Comma ∷ after)) → item after ≡ Ok (x, more) → length more ≤ length after → ListLoop item ts (xs ++ x ∷ []) more
+more_at item zero ts xs after x more enough same h short = absurd (omega arith)
+more_at item (suc k) ts xs after x more enough same h short =
+    record { k = k; enough = omega arith; same = same ∙ ap (after_these xs) (others_at item k after x more h) ∙ one_more xs x (others item k more) }
+
+list_more : {X : Type 0} (item : Parser X) (ts : List Terminal) (xs : List X) (rest after : List Terminal) (x : X) (more : List Terminal) → ListLoop item ts xs rest → behind_of Comma rest ≡ Some after → item after ≡ Ok (x, more) → length more ≤ length after → ListLoop item ts (xs ++ x ∷ []) more
+list_more item ts xs rest after x more loop b h short =
+    let e = comma_is rest after b in
+    more_at item loop.k ts xs after x more (omega (arith, ap length e, loop.enough)) (subst (λ z. list_of item ts ≡ after_these xs (others item loop.k z)) e loop.same) h short
+
+no_more : {X : Type 0} (item : Parser X) (k : ℕ) (rest : List Terminal) → behind_of Comma rest ≡ None → others item k rest ≡ Ok ([], rest)
+unfolding others
+no_more item zero rest h = refl
+no_more item (suc k) rest h = rw h refl
+
+pub list_end : {X : Type 0} (item : Parser X) (ts : List Terminal) (xs : List X) (rest : List Terminal) → ListLoop item ts xs rest → behind_of Comma rest ≡ None → list_of item ts ≡ Ok (xs, rest)
+list_end item ts xs rest loop b = loop.same ∙ ap (after_these xs) (no_more item loop.k rest b) ∙ ap (λ z. Ok (z, rest)) (append-nil xs)
+
+others_failed : {X : Type 0} (item : Parser X) (k : ℕ) (after : List Terminal) (f : Refusal) → item after ≡ Err f → others item (suc k) (t.Comma ∷ after) ≡ Err f
+unfolding others
+others_failed item k after f h = rw h refl
+
+failed_at : {X : Type 0} (item : Parser X) (k : ℕ) (ts : List Terminal) (xs : List X) (after : List Terminal) (f : Refusal) → length (t.Comma ∷ after) ≤ k → list_of item ts ≡ after_these xs (others item k (t.Comma ∷ after)) → item after ≡ Err f → list_of item ts ≡ Err f
+failed_at item zero ts xs after f enough same h = absurd (omega arith)
+failed_at item (suc k) ts xs after f enough same h = same ∙ ap (after_these xs) (others_failed item k after f h)
+
+pub list_failed : {X Y Z : Type 0} (view : Y → List X × List Terminal) (seen : Z → X × List Terminal) (item : Parser X) (ts : List Terminal) (xs : List X) (rest after : List Terminal) (e : ReadFault) (r : Result Y ReadFault) →
+    ListLoop item ts xs rest → behind_of Comma rest ≡ Some after → Gives seen (Err e) (item after) → r ≡ Err e → Gives view r (list_of item ts)
+list_failed view seen item ts xs rest after faults.NoMemory r loop b h is = rw is tt
+list_failed view seen item ts xs rest after (faults.Refused f) r loop b h is =
+    let e = comma_is rest after b in
+    rw is (failed_at item loop.k ts xs after f (omega (arith, ap length e, loop.enough)) (subst (λ z. list_of item ts ≡ after_these xs (others item loop.k z)) e loop.same) h)
+
+start_none : {X : Type 0} (item : Parser X) (ts : List Terminal) (f : Refusal) → item ts ≡ Err f → list_of item ts ≡ Err f
+unfolding list_of
+start_none item ts f h = rw h refl
+
+pub list_unstarted : {X Y Z : Type 0} (view : Y → List X × List Terminal) (seen : Z → X × List Terminal) (item : Parser X) (ts : List Terminal) (e : ReadFault) (r : Result Y ReadFault) → Gives seen (Err e) (item ts) → r ≡ Err e → Gives view r (list_of item ts)
+list_unstarted view seen item ts faults.NoMemory r h is = rw is tt
+list_unstarted view seen item ts (faults.Refused f) r h is = rw is (start_none item ts f h)
+
+pub map-push : {X Y : Type 0} (f : X → Y) (xs : List X) (x : X) → map f (xs ++ x ∷ []) ≡ map f xs ++ f x ∷ []
+map-push f [] x = refl
+map-push f (y ∷ ys) x = ap (λ z. f y ∷ z) (map-push f ys x)
+
+-- ---- items
+
+pub items_shorter : (room : ℕ) (rest after : List Terminal) (x : ItemTree) (more : List Terminal) → behind_of Comma rest ≡ Some after → item_of room after ≡ Ok (x, more) → length more < length rest
+items_shorter room rest after x more b h =
+    let f = item_sound room after x more h in
+    omega (arith, ap length (comma_is rest after b), ap length f.is, length-append f.front more)
+
+pub items_more : {S : Type 0} (room : ℕ) (view : S → ItemTree) (ts : List Terminal) (old new : List S) (s : S) (rest after more : List Terminal) → ListLoop (item_of room) ts (map view old) rest → behind_of Comma rest ≡ Some after → item_of room after ≡ Ok (view s, more) → new ≡ old ++ s ∷ [] → ListLoop (item_of room) ts (map view new) more
+items_more room view ts old new s rest after more loop b h is =
+    let f = item_sound room after (view s) more h in
+    subst (λ z. ListLoop (item_of room) ts z more) (sym (ap (map view) is ∙ map-push view old s))
+    (list_more (item_of room) ts (map view old) rest after (view s) more loop b h (omega (arith, ap length f.is, length-append f.front more)))
