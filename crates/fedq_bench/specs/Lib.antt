@@ -1,0 +1,3 @@
+pub mod Setup
+pub mod Tables
+pub mod Words

@@ -1,0 +1,13 @@
+//! The program `fedq_bench`: measures the time of one statement over a list of rows in memory.
+#![tactic(auto)]
+
+mod measure;
+mod setup;
+mod tables;
+mod words;
+
+use std::process::ExitCode;
+
+fn main(rt: HostRuntime) -> ExitCode {
+    ExitCode::from(measure::run(&rt))
+}
