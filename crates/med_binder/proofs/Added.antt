@@ -1,28 +1,28 @@
--- Outputs added one after the other.
-use Rattle.std.proofs.Common.{◌≡◌, List, [], ◌∷◌, ◌++◌, map, sym, ap, ◌∙◌, append_assoc, append-nil, subst, string_bytes}
-use Rattle.std.proofs.lemmas.List.{map-append}
-use Rattle.tri_expr.specs.Tree.{tree}
-use Rattle.med_binder.specs.Meaning.{Output}
-use Rattle.med_binder.specs.Telling.{HasAdded}
-use Rattle.med_binder.specs.declared.outputs.Outputs.{Outputs}
+-- Things added one after the other.
+use Rattle.std.proofs.Common.{◌≡◌, ℕ, ◌+◌, ◌<◌, List, [], ◌++◌, Option, length, drop, get_or, if◌then◌else◌, ap, sym, ◌∙◌, append_assoc, append-nil}
+use Rattle.std.proofs.lemmas.List.{length-map}
+use Rattle.med_value.specs.Column.{column_of}
+use Rattle.med_parser.specs.Tree.{Name}
+use Rattle.med_binder.specs.Scope.{scope_of, visible, is_meant}
+use Rattle.med_binder.specs.Meaning.{Output, columns_from, starred}
+use Rattle.med_binder.specs.declared.scope.Visible.{Visible}
+use Rattle.med_binder.proofs.Parts.{drop_read}
 
-joined : {X : Type 0} (f : Output → X) (a b c : List X) (xs ys : List Output) → b ≡ a ++ map f xs → c ≡ b ++ map f ys → c ≡ a ++ map f (xs ++ ys)
-joined f a b c xs ys p q = q ∙ ap (λ zs. zs ++ map f ys) p ∙ append_assoc a (map f xs) (map f ys) ∙ ap (λ zs. a ++ zs) (sym (map-append f xs ys))
+-- these behind those
+pub added_after : {X : Type 0} (all old new more rest : List X) → old ++ (more ++ rest) ≡ all → new ≡ old ++ more → new ++ rest ≡ all
+added_after all old new more rest e h = ap (λ xs. xs ++ rest) h ∙ append_assoc old more rest ∙ e
 
-pub added_then : (xs ys : List Output) (a b c : Outputs) → HasAdded xs a b → HasAdded ys b c → HasAdded (xs ++ ys) a c
-added_then xs ys a b c p q = record {
-  names = joined (λ (o : Output). o.name) _ _ _ xs ys p.names q.names;
-  items = joined (λ (o : Output). o.value) _ _ _ xs ys p.items q.items;
-}
+pub added_end : {X : Type 0} (xs : List X) → xs ++ [] ≡ xs
+added_end xs = append-nil xs
 
-pub added_none : (a : Outputs) → HasAdded [] a a
-added_none a = record { names = sym (append-nil _); items = sym (append-nil _) }
+-- ---- each column of each entry
 
-pub added_end : (xs : List Output) (a b : Outputs) → HasAdded xs a b → HasAdded (xs ++ []) a b
-added_end xs a b h = subst (λ zs. HasAdded zs a b) (sym (append-nil xs)) h
-
-pub added_one : (x : Output) (a b : Outputs) → map string_bytes b.names.items ≡ map string_bytes a.names.items ++ x.name ∷ [] → map tree b.items.items ≡ map tree a.items.items ++ x.value ∷ [] → HasAdded (x ∷ []) a b
-added_one x a b p q = record { names = p; items = q }
-
-pub added_same : (xs ys : List Output) (a b : Outputs) → xs ≡ ys → HasAdded ys a b → HasAdded xs a b
-added_same xs ys a b e h = subst (λ zs. HasAdded zs a b) (sym e) h
+pub starred_step : (all old new : List Output) (xs : List Visible) (i at end : ℕ) (v : Visible) (q : Option Name) → old ++ starred at q (scope_of (drop i xs)) ≡ all → i < length xs → v ≡ get_or xs i v
+    → new ≡ old ++ (if is_meant q (visible v) then columns_from at (visible v).columns else []) → end ≡ at + length v.columns.now
+    → new ++ starred end q (scope_of (drop (i + 1) xs)) ≡ all
+starred_step all old new xs i at end v q e lt read f g =
+    let rest = scope_of (drop (i + 1) xs) in
+    let m = length-map v.columns.now column_of in
+    ap (λ k. new ++ starred k q rest) g ∙ ap (λ k. new ++ starred (at + k) q rest) (sym m)
+    ∙ added_after all old new (if is_meant q (visible v) then columns_from at (visible v).columns else []) (starred (at + length (visible v).columns) q rest)
+    (ap (λ ys. old ++ starred at q (scope_of ys)) (sym (drop_read xs i v lt read)) ∙ e) f

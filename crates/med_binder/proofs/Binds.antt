@@ -1,32 +1,34 @@
--- A query with an entry is one in the entry's scope, and what is told in turn may be told.
-use Rattle.std.proofs.Common.{◌≡◌, ◌⊎◌, ℕ, List, [], ◌∷◌, Option, Some, Result, Ok, Err, IfErr, Contains, unwrap_or, option_map, slice_get, sym, ap, subst, inl, inr, ◌∙◌, arith}
-use Rattle.std.specs.Option.{option_and_then}
+-- What is told in turn may be told.
+use Rattle.std.proofs.Common.{◌≡◌, ◌⊎◌, List, [], ◌∷◌, Result, Ok, Err, IfErr, Contains, inl, inr, arith}
 use Rattle.med_value.specs.declared.cause.Cause.{Cause}
 use Rattle.med_value.specs.declared.cause.Cause.TheVariants.{OutOfMemory}
-use Rattle.med_parser.specs.QueryTree.{EntryTree, SelectTree, StatementTree}
+use Rattle.med_parser.specs.QueryTree.{StatementTree}
 use Rattle.med_binder.specs.declared.bound.Bound.{Bound}
-use Rattle.med_binder.specs.Scope.{TableShape, Scope, exposed_name, place_named, table_named, from_scope, from_place}
-use Rattle.med_binder.specs.Naming.{select_name_causes, statement_name_causes}
-use Rattle.med_binder.specs.Typing.{select_type_causes, statement_type_causes}
-use Rattle.med_binder.specs.Meaning.{meant_in, meant}
+use Rattle.med_binder.specs.Scope.{TableShape}
+use Rattle.med_binder.specs.Naming.{statement_name_causes}
+use Rattle.med_binder.specs.Typing.{statement_type_causes}
+use Rattle.med_binder.specs.Meaning.{meant}
 use Rattle.med_binder.specs.Binding.{BindCauses, BindTells}
-use Rattle.med_binder.specs.Telling.{Binds}
+use Rattle.med_binder.specs.Telling.{Tells}
+use Rattle.med_binder.specs.Turns.{TellsInTurn, Binds}
 
-abbrev BindsAs : SelectTree → Result Bound Cause → Option Scope → Option ℕ → Type 0
-BindsAs q r scope from = Binds (select_name_causes scope q) (select_type_causes scope q) (meant_in from (unwrap_or scope []) q) r
+-- ---- one after the other
 
-table_at : (tables : List TableShape) (name : List ℕ) (place : ℕ) (t : TableShape) → place_named tables name ≡ Some place → slice_get tables place ≡ Some t → table_named tables name ≡ Some t
-table_at tables name place t p q = ap (option_and_then (slice_get tables)) p ∙ q
+names_told : (names types : List Cause) (c : Cause) → (c ≡ OutOfMemory) ⊎ Contains names c → (c ≡ OutOfMemory) ⊎ Contains names c ⊎ ((names ≡ []) × Contains types c)
+names_told names types c (inl h) = inl h
+names_told names types c (inr h) = inr (inl h)
 
--- the table is there
-pub binds_over : (tables : List TableShape) (e : EntryTree) (q : SelectTree) (place : ℕ) (t v : TableShape) (r : Result Bound Cause)
-    → place_named tables e.table ≡ Some place → slice_get tables place ≡ Some t → record { name = exposed_name e; columns = t.columns } ≡ v
-    → Binds (select_name_causes (Some (v ∷ [])) q) (select_type_causes (Some (v ∷ [])) q) (meant_in (Some place) (v ∷ []) q) r
-    → Binds (select_name_causes (from_scope tables (Some e)) q) (select_type_causes (from_scope tables (Some e)) q) (meant_in (from_place tables (Some e)) (unwrap_or (from_scope tables (Some e)) []) q) r
-binds_over tables e q place t v r found there seen h =
-    let same : from_scope tables (Some e) ≡ Some (v ∷ []) =
-    ap (option_map (λ (u : TableShape). record { name = exposed_name e; columns = u.columns } ∷ [])) (table_at tables e.table place t found there) ∙ ap (λ (u : TableShape). Some (u ∷ [])) seen in
-    subst (λ (o : Option Scope). BindsAs q r o (from_place tables (Some e))) (sym same) (subst (λ (p : Option ℕ). BindsAs q r (Some (v ∷ [])) p) (sym found) h)
+pub names_first : (names types : List Cause) (c : Cause) → Tells names c → TellsInTurn names types c
+names_first names types c t = record { told = names_told names types c t.told }
+
+types_told : (names types : List Cause) (c : Cause) → names ≡ [] → (c ≡ OutOfMemory) ⊎ Contains types c → (c ≡ OutOfMemory) ⊎ Contains names c ⊎ ((names ≡ []) × Contains types c)
+types_told names types c e (inl h) = inl h
+types_told names types c e (inr h) = inr (inr (e, h))
+
+pub types_then : (names types : List Cause) (c : Cause) → names ≡ [] → Tells types c → TellsInTurn names types c
+types_then names types c e t = record { told = types_told names types c e t.told }
+
+-- ---- the clauses
 
 -- where no cause stands, only memory can be refused
 pub only_memory : {X : Type 0} (r : Result X Cause) (P Q : Cause → Type 0) → ((c : Cause) → Q c → P c) → IfErr r (λ c. (c ≡ OutOfMemory) ⊎ Q c) → ((c : Cause) → P c → ⊥) → IfErr r (λ c. c ≡ OutOfMemory)

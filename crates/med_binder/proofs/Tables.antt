@@ -1,32 +1,45 @@
--- The table of a query is one of the tables.
-use Rattle.std.proofs.Common.{◌≡◌, ℕ, List, [], ◌∷◌, Option, Some, None, Contains, length, slice_get, unwrap_or, option_map, refl, sym, ap, ◌∙◌, append-nil}
-use Rattle.std.specs.Option.{option_and_then}
-use Rattle.med_value.specs.declared.cause.Cause.{Cause}
-use Rattle.med_parser.specs.QueryTree.{EntryTree, SelectTree, StatementTree, select}
-use Rattle.med_binder.specs.Scope.{TableShape, Scope, exposed_name, columns_of, from_scope, from_place}
-use Rattle.med_binder.specs.Naming.{select_name_causes, statement_name_causes}
-use Rattle.med_binder.specs.Meaning.{meant}
-use Rattle.med_binder.specs.Within.{view_width, StandsAt}
-use Rattle.med_binder.proofs.Views.{none_stands}
+-- The tables that entries of FROM stand for.
+use Rattle.std.proofs.Common.{◌≡◌, ℕ, suc, ◌+◌, ◌<◌, true, drop, bytes_eq, string_bytes, All, ◌++◌, List, [], ◌∷◌, Bool, Option, Some, None, if◌then◌else◌, length, map, slice_get, get_or, unwrap_or, option_map, refl, ap, sym, ◌∙◌}
+use Rattle.std.specs.Option.{option_and_then, is_some}
+use Rattle.std.proofs.lemmas.Option.{slice_get_read, slice_get-map}
+use Rattle.std.proofs.lemmas.List.Elements.{All-append, All-cons, All-nil}
+use Rattle.med_value.specs.Column.{column_of}
+use Rattle.med_value.specs.declared.cause.Cause.TheVariants.{UndefinedTable}
+use Rattle.med_parser.specs.Tree.{Name}
+use Rattle.med_parser.specs.QueryTree.{EntryTree}
+use Rattle.med_binder.proofs.Parts.{drop_read}
+use Rattle.med_binder.specs.Scope.{TableShape, table_shape, place_from, place_named, entry_place, entry_columns}
+use Rattle.med_binder.specs.Naming.{entry_causes}
+use Rattle.med_binder.specs.declared.table.AttachedTable.{AttachedTable}
+use Rattle.med_binder.specs.declared.bound.BoundEntry.{BoundEntry}
+use Rattle.med_binder.specs.Binding.{IsEntryOf}
 
-abbrev scope_over : EntryTree → Option TableShape → Option Scope
-scope_over e o = option_map (λ (t : TableShape). record { name = exposed_name e; columns = t.columns } ∷ []) o
+pub get_read : {X : Type 0} (xs : List X) (i : ℕ) (x : X) → i < length xs → x ≡ get_or xs i x → slice_get xs i ≡ Some x
+get_read xs i x lt read = slice_get_read xs (length xs) i x refl lt read
 
-there : (tables : List TableShape) (e : EntryTree) (q : SelectTree) (place : ℕ) (o : Option TableShape) → slice_get tables place ≡ o → from_scope tables (Some e) ≡ scope_over e o → select_name_causes (from_scope tables (Some e)) q ≡ []
-    → StandsAt tables place (length (columns_of (unwrap_or (from_scope tables (Some e)) [])))
-there tables e q place None at scope h = absurd (let k : select_name_causes None q ≡ [] = ap (λ s. select_name_causes s q) (sym scope) ∙ h in cc)
-there tables e q place (Some t) at scope h = record {
-  table = t;
-  is = at;
-  width = ap (λ s. length (columns_of (unwrap_or s []))) scope ∙ ap (λ cs. length cs) (append-nil t.columns);
-}
+pub columns_missing : (tables : List TableShape) (e : EntryTree) → place_named tables e.table ≡ None → [] ≡ entry_columns tables e
+columns_missing tables e h = sym (ap (λ p. unwrap_or (option_map (λ (t : TableShape). t.columns) (option_and_then (slice_get tables) p)) []) h)
 
-placed : (tables : List TableShape) (o : Option EntryTree) (q : SelectTree) (place : ℕ) → from_place tables o ≡ Some place → select_name_causes (from_scope tables o) q ≡ []
-    → StandsAt tables place (length (columns_of (unwrap_or (from_scope tables o) [])))
-placed tables None q place found h = absurd cc
-placed tables (Some e) q place found h =
-    there tables e q place (slice_get tables place) refl (ap (λ p. scope_over e (option_and_then (slice_get tables) p)) found) h
+pub columns_found : (tables : List AttachedTable) (e : EntryTree) (p : ℕ) (t : AttachedTable) → place_named (map table_shape tables) e.table ≡ Some p → slice_get tables p ≡ Some t
+    → map column_of t.columns.items ≡ entry_columns (map table_shape tables) e
+columns_found tables e p t h there =
+    let at : slice_get (map table_shape tables) p ≡ Some (table_shape t) = slice_get-map table_shape tables p ∙ ap (option_map table_shape) there in
+    sym (ap (λ r. unwrap_or (option_map (λ (t : TableShape). t.columns) (option_and_then (slice_get (map table_shape tables)) r)) []) h
+    ∙ ap (λ r. unwrap_or (option_map (λ (t : TableShape). t.columns) r) []) at)
 
-pub table_stands : (tables : List TableShape) (statement : StatementTree) (place : ℕ) → ((c : Cause) → Contains (statement_name_causes tables statement) c → ⊥) → (meant tables statement).from ≡ Some place
-    → StandsAt tables place (view_width tables statement)
-table_stands tables (select q) place n found = placed tables q.entry q place found (none_stands (select_name_causes (from_scope tables q.entry) q) n)
+pub entry_unknown : (tables : List TableShape) (e : EntryTree) → place_named tables e.table ≡ None → entry_causes tables e ≡ UndefinedTable ∷ []
+entry_unknown tables e h = ap (λ (p : Option ℕ). if is_some p then [] else UndefinedTable ∷ []) h
+
+pub entry_known : (tables : List TableShape) (e : EntryTree) (p : ℕ) → place_named tables e.table ≡ Some p → entry_causes tables e ≡ []
+entry_known tables e p h = ap (λ (p : Option ℕ). if is_some p then [] else UndefinedTable ∷ []) h
+
+pub entry_placed : (tables : List TableShape) (e : EntryTree) (p : ℕ) → place_named tables e.table ≡ Some p → p ≡ entry_place tables e
+entry_placed tables e p h = sym (ap (λ p. unwrap_or p 0) h)
+
+pub found_at : (all : Option ℕ) (xs : List AttachedTable) (i : ℕ) (t : AttachedTable) (n : Name) → all ≡ place_from i (map table_shape (drop i xs)) n → i < length xs → t ≡ get_or xs i t → bytes_eq (string_bytes t.name) n ≡ true → all ≡ Some i
+found_at all xs i t n e lt read h =
+    e ∙ ap (λ ys. place_from i (map table_shape ys) n) (drop_read xs i t lt read)
+    ∙ ap (λ (b : Bool). if b then Some i else place_from (suc i) (map table_shape (drop (i + 1) xs)) n) h
+
+pub all_and : (tables : List AttachedTable) (xs : List BoundEntry) (x : BoundEntry) → All (IsEntryOf tables) xs → IsEntryOf tables x → All (IsEntryOf tables) (xs ++ x ∷ [])
+all_and tables xs x h k = All-append (IsEntryOf tables) xs (x ∷ []) h (All-cons (IsEntryOf tables) x [] k (All-nil (IsEntryOf tables)))

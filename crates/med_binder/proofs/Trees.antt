@@ -1,6 +1,10 @@
 -- Parts, one list after the other.
-use Rattle.std.proofs.Common.{◌≡◌, List, [], ◌∷◌, ◌++◌, refl, ap, sym, ◌∙◌}
-use Rattle.tri_expr.specs.Tree.{Tree, Trees, none, part, trees}
+use Rattle.std.proofs.Common.{◌≡◌, List, [], ◌∷◌, ◌++◌, length, map, Some, refl, ap, sym, ◌∙◌}
+use Rattle.med_value.specs.Datum.{NoValue}
+use Rattle.tri_expr.specs.declared.expr.Expr.{Expr}
+use Rattle.tri_expr.specs.declared.expr.SetFunction.{SetFunction}
+use Rattle.med_binder.specs.Meaning.{aggregate_of}
+use Rattle.tri_expr.specs.Tree.{Tree, Trees, none, part, tree, trees, literal}
 
 abbrev pub trees_then : List Tree → Trees → Trees
 trees_then [] us = us
@@ -21,3 +25,10 @@ next_part ts t u us all e h = then_more ts t us ∙ ap (λ x. trees_then ts (par
 
 pub all_parts : (ts : List Tree) (all : Trees) → trees_then ts none ≡ all → trees ts ≡ all
 all_parts ts all e = sym (then_none ts) ∙ e
+
+-- ---- calls
+
+pub not_one : (f : SetFunction) (xs : List Expr) → (length xs ≡ 1 → ⊥) → literal NoValue ≡ aggregate_of (Some f) (trees (map tree xs))
+not_one f [] h = refl
+not_one f (x ∷ []) h = absurd (h refl)
+not_one f (x ∷ y ∷ xs) h = refl

@@ -1,20 +1,29 @@
 -- What binding a statement answers.
-use Rattle.std.specs.Prelude.{◌≡◌, ◌⊎◌, List, map, string_bytes}
+use Rattle.std.specs.Prelude.{◌≡◌, ◌⊎◌, List, map, length, Some, slice_get, string_bytes}
 use Rattle.med_value.specs.declared.cause.Cause.{Cause}
 use Rattle.med_parser.specs.QueryTree.{StatementTree}
-use Rattle.tri_expr.specs.Tree.{tree}
+use Rattle.tri_expr.specs.Form.{form_of}
 use Rattle.med_binder.specs.Scope.{TableShape}
 use Rattle.med_binder.specs.Naming.{NameCauses}
 use Rattle.med_binder.specs.Typing.{TypeCauses}
 use Rattle.med_binder.specs.Meaning.{Meant, meant}
+use Rattle.med_binder.specs.declared.table.AttachedTable.{AttachedTable}
+use Rattle.med_binder.specs.declared.bound.BoundEntry.{BoundEntry}
 use Rattle.med_binder.specs.declared.bound.Bound.{Bound}
 
 -- the bound query is this one
 pub record IsMeant (m : Meant) (b : Bound) : Type 0 where
   pub names : map string_bytes b.names.items ≡ m.names
-  pub from : b.from ≡ m.from
-  pub conditions : map tree b.conditions.items ≡ m.conditions
-  pub items : map tree b.items.items ≡ m.items
+  pub entries : map (λ (e : BoundEntry). e.place) b.entries.items ≡ m.entries
+  pub form : form_of b.select ≡ m.form
+
+-- an entry is the table in its place
+pub record IsEntryOf (tables : List AttachedTable) (e : BoundEntry) : Type 0 where
+  pub table : AttachedTable
+  pub there : slice_get tables e.place ≡ Some table
+  pub source : e.source ≡ table.source
+  pub number : e.table ≡ table.number
+  pub width : e.width ≡ length table.columns.items
 
 -- the bound query is the statement over these tables
 abbrev pub IsBound : List TableShape → StatementTree → Bound → Type 0

@@ -1,11 +1,11 @@
 -- Which columns an expression sees, and which of them a name means (SQL:2016, 6.7 <column reference> and 5.4 "Names and identifiers").
-use Rattle.std.specs.Prelude.{ℕ, suc, ◌+◌, Bool, true, List, [], ◌∷◌, ◌++◌, length, map, Option, Some, None, option_map, unwrap_or, if◌then◌else◌, bytes_eq, slice_get, string_bytes}
-use Rattle.std.specs.Option.{option_and_then}
+use Rattle.std.specs.Prelude.{ℕ, suc, ◌+◌, Bool, true, List, [], ◌∷◌, ◌++◌, length, map, Option, Some, None, option_map, unwrap_or, flat_map, if◌then◌else◌, bytes_eq, slice_get, string_bytes}
+use Rattle.std.specs.Option.{option_and_then, is_some}
 use Rattle.std.specs.List.{list_any}
 use Rattle.med_value.specs.Column.{Column, column_of}
 use Rattle.med_value.specs.declared.value.ColType.{ColType}
 use Rattle.med_parser.specs.Tree.{Name}
-use Rattle.med_parser.specs.QueryTree.{EntryTree}
+use Rattle.med_parser.specs.QueryTree.{EntryTree, JoinTree, inner_join, left_join, cross_join, ChainTree}
 use Rattle.med_binder.specs.declared.table.AttachedTable.{AttachedTable}
 use Rattle.med_binder.specs.declared.scope.Visible.{Visible}
 
@@ -22,13 +22,12 @@ table_shape t = record { name = string_bytes t.name; columns = map column_of t.c
 abbrev pub Scope : Type 0
 Scope = List TableShape
 
--- the one entry in view, or none
+-- an entry in view
 abbrev pub visible : Visible → TableShape
 visible v = record { name = v.name.now; columns = map column_of v.columns.now }
 
-abbrev pub scope_of : Option Visible → Scope
-scope_of None = []
-scope_of (Some v) = visible v ∷ []
+abbrev pub scope_of : List Visible → Scope
+scope_of = map visible
 
 -- a qualifier names the entry; without one each entry is meant
 abbrev pub is_meant : Option Name → TableShape → Bool
@@ -59,8 +58,12 @@ abbrev pub columns_of : Scope → List Column
 columns_of [] = []
 columns_of (e ∷ es) = e.columns ++ columns_of es
 
+-- the type of the column at a place
+abbrev pub kind_there : List Column → ℕ → Option ColType
+kind_there columns place = option_map (λ (c : Column). c.kind) (slice_get columns place)
+
 abbrev pub kind_at : Scope → ℕ → Option ColType
-kind_at scope place = option_map (λ (c : Column). c.kind) (slice_get (columns_of scope) place)
+kind_at scope = kind_there (columns_of scope)
 
 -- the place of the first table of this name
 abbrev pub place_from : ℕ → List TableShape → Name → Option ℕ
@@ -78,12 +81,36 @@ table_named tables name = option_and_then (slice_get tables) (place_named tables
 abbrev pub exposed_name : EntryTree → Name
 exposed_name e = unwrap_or e.alias e.table
 
--- what FROM brings into view, where its table is known; without FROM nothing
-abbrev pub from_scope : List TableShape → Option EntryTree → Option Scope
-from_scope tables None = Some []
-from_scope tables (Some e) = option_map (λ (t : TableShape). record { name = exposed_name e; columns = t.columns } ∷ []) (table_named tables e.table)
+-- the entry that a join brings
+abbrev pub joined_entry : JoinTree → EntryTree
+joined_entry (inner_join e on) = e
+joined_entry (left_join e on) = e
+joined_entry (cross_join e) = e
 
--- the place of FROM's table among the tables
-abbrev pub from_place : List TableShape → Option EntryTree → Option ℕ
-from_place tables None = None
-from_place tables (Some e) = place_named tables e.table
+-- the entries of FROM, in the order in which they are written
+abbrev pub chain_entries : ChainTree → List EntryTree
+chain_entries c = c.first ∷ map joined_entry c.joins
+
+abbrev pub entries_of : List ChainTree → List EntryTree
+entries_of = flat_map chain_entries
+
+-- there is a table of the entry's name
+abbrev pub is_known : List TableShape → EntryTree → Bool
+is_known tables e = is_some (place_named tables e.table)
+
+-- the place of the entry's table, and what the entry brings into view; of a table that is not there nothing is known
+abbrev pub entry_place : List TableShape → EntryTree → ℕ
+entry_place tables e = unwrap_or (place_named tables e.table) 0
+
+abbrev pub entry_columns : List TableShape → EntryTree → List Column
+entry_columns tables e = unwrap_or (option_map (λ (t : TableShape). t.columns) (table_named tables e.table)) []
+
+abbrev pub entry_shape : List TableShape → EntryTree → TableShape
+entry_shape tables e = record { name = exposed_name e; columns = entry_columns tables e }
+
+-- what FROM brings into view, and the places of its tables
+abbrev pub from_scope : List TableShape → List ChainTree → Scope
+from_scope tables chains = map (entry_shape tables) (entries_of chains)
+
+abbrev pub from_places : List TableShape → List ChainTree → List ℕ
+from_places tables chains = map (entry_place tables) (entries_of chains)

@@ -1,9 +1,16 @@
--- Expressions over rows of so many cells: each of their columns is one of these.
-use Rattle.std.specs.Prelude.{◌≡◌, ℕ, ◌<◌, List, [], ◌∷◌, length, Some, slice_get, unwrap_or}
+-- What is asked over rows of so many cells: each column of it is one of these. The entries of FROM are in view from the left on, each with
+-- the columns of its table.
+use Rattle.std.specs.Prelude.{ℕ, suc, ◌-◌, ◌<◌, List, length, map, sum, take, drop, All, Option, Some, None}
 use Rattle.med_parser.specs.QueryTree.{StatementTree, select}
 use Rattle.tri_expr.specs.Tree.{Tree, Trees, column, parameter, literal, compare, compute, negate, all_of, some_of, opposite, asks, between, within, matches, parenthesised, count_rows, aggregate, none, part}
-use Rattle.med_binder.specs.Scope.{TableShape, columns_of, from_scope}
+use Rattle.tri_expr.specs.Form.{JoinForm, cross_form, inner_form, left_form, ChainForm, GroupForm, Form}
+use Rattle.med_binder.specs.Scope.{TableShape, Scope, from_scope}
 
+-- each place in a list of tables is that of one of them
+abbrev pub ArePlacesOf : List TableShape → List ℕ → Type 0
+ArePlacesOf tables = All (λ (place : ℕ). place < length tables)
+
+-- each column of an expression stands below this place, in an argument of an aggregate too
 abbrev mutual
   pub IsWithin : ℕ → Tree → Type 0
   IsWithin w (column at) = at < w
@@ -27,16 +34,35 @@ abbrev mutual
   AreWithin w none = Unit {0}
   AreWithin w (part t ts) = IsWithin w t × AreWithin w ts
 
-abbrev pub EachWithin : ℕ → List Tree → Type 0
-EachWithin w [] = Unit {0}
-EachWithin w (t ∷ ts) = IsWithin w t × EachWithin w ts
+-- how many columns each entry of FROM brings
+abbrev pub widths : Scope → List ℕ
+widths = map (λ (e : TableShape). length e.columns)
 
--- how many columns a statement has in view
-abbrev pub view_width : List TableShape → StatementTree → ℕ
-view_width tables (select q) = length (columns_of (unwrap_or (from_scope tables q.entry) []))
+abbrev pub widths_of : List TableShape → StatementTree → List ℕ
+widths_of tables (select q) = widths (from_scope tables q.from)
 
--- a table with so many columns stands at this place
-pub record StandsAt (tables : List TableShape) (place columns : ℕ) : Type 0 where
-  pub table : TableShape
-  pub is : slice_get tables place ≡ Some table
-  pub width : columns ≡ length table.columns
+-- how many columns the entries from one number to another bring, both of them with theirs
+abbrev pub width_between : List ℕ → ℕ → ℕ → ℕ
+width_between ws first last = sum (take (suc last - first) (drop first ws))
+
+-- ON of a join sees the entries of its chain up to its own
+abbrev pub JoinWithin : List ℕ → ℕ → JoinForm → Type 0
+JoinWithin ws first (cross_form number) = Unit {0}
+JoinWithin ws first (inner_form number on) = All (IsWithin (width_between ws first number)) on
+JoinWithin ws first (left_form number width on) = All (IsWithin (width_between ws first number)) on
+
+abbrev pub ChainWithin : List ℕ → ChainForm → Type 0
+ChainWithin ws c = All (JoinWithin ws c.first) c.joins
+
+-- the keys of GROUP BY, the arguments of aggregates and HAVING
+abbrev pub GroupWithin : ℕ → Option GroupForm → Type 0
+GroupWithin w None = Unit {0}
+GroupWithin w (Some g) = All (λ (place : ℕ). place < w) g.keys × All (IsWithin w) g.arguments × All (IsWithin w) g.having
+
+-- ON sees the entries on its left, all else the columns of all entries
+pub record FormWithin (ws : List ℕ) (f : Form) : Type 0 where
+  pub joins : All (ChainWithin ws) f.from
+  pub conditions : All (IsWithin (sum ws)) f.conditions
+  pub group : GroupWithin (sum ws) f.group
+  pub items : All (IsWithin (sum ws)) f.items
+  pub keys : All (IsWithin (sum ws)) f.keys

@@ -1,16 +1,28 @@
 //! Queries with their names resolved.
 
-use tri_expr::Expr;
+use fdw_api::interface::TableNo;
+use tri_expr::Select;
+
+/// An entry of FROM: the table that it stands for.
+#[derive(Clone, Copy, Debug, PartialEq, Eq, Drop)]
+pub struct BoundEntry {
+    /// The place of the table in the list of tables.
+    pub place: usize,
+    /// The place of the table's source.
+    pub source: usize,
+    /// The table's number in its source's box.
+    pub table: TableNo,
+    /// How many columns it has.
+    pub width: usize,
+}
 
 /// A query over tables: its names are places, and its types fit.
 #[derive(Debug, Drop)]
 pub struct Bound {
     /// The names of the answer's columns.
     pub names: Vec<String>,
-    /// The place of its table in the list of tables; a query without FROM has none, and is over one row of no columns.
-    pub from: Option<usize>,
-    /// What must be true of a row: the conjuncts of WHERE, in their order.
-    pub conditions: Vec<Expr>,
-    /// What is answered of a row, one expression for each name.
-    pub items: Vec<Expr>,
+    /// The entries of FROM in their order, all chains together. The query counts its tables by them, from 0.
+    pub entries: Vec<BoundEntry>,
+    /// The query.
+    pub select: Select,
 }

@@ -1,20 +1,22 @@
 //! Expressions with their names resolved.
 #![tactic(auto, using(crate::proofs::Causes::tells_left, crate::proofs::Causes::tells_right, crate::proofs::Causes::tells_memory, crate::proofs::Causes::tells_one, crate::proofs::Causes::none_of_two, crate::proofs::Causes::tells_first, crate::proofs::Causes::next_causes, crate::proofs::Trees::next_part, crate::proofs::Trees::all_parts))]
 
-ghost use Rattle.std.specs.Prelude.{◌≡◌, ◌++◌, map};
+ghost use Rattle.std.specs.Prelude.{◌≡◌, ◌++◌, [], map, bytes_eq, codes, if◌then◌else◌, Some};
 ghost use Rattle.med_parser.specs.ExprView.{expr_tree, expr_trees};
-ghost use Rattle.tri_expr.specs.Tree.{tree, trees, part, compare, compute, between, within};
+ghost use Rattle.tri_expr.specs.Tree.{tree, trees, part, literal, compare, compute, between, within, count_rows};
+ghost use Rattle.med_value.specs.Datum.{NoValue};
 ghost use Rattle.med_binder.specs.Scope.{scope_of};
 ghost use Rattle.med_binder.specs.Naming.{name_causes, name_causes_of_all};
-ghost use Rattle.med_binder.specs.Meaning.{operation_of, comparison_of, test_of, joined, resolved, resolved_all};
+ghost use Rattle.med_binder.specs.Meaning.{operation_of, comparison_of, test_of, joined, function_named, aggregate_of, resolved, resolved_all};
 ghost use Rattle.med_binder.specs.Telling.{Gives};
 
+use crate::functions::function_named;
 use crate::numbers::{negative, number};
 use crate::scope::{Visible, find_column};
 use med_parser::{BinaryOp, CompareOp, Expr as Written, Joint, Status};
 use med_value::{Cause, Value};
 use std::alloc::Global;
-use tri_expr::{Comparison, Expr, Operation, Test};
+use tri_expr::{Comparison, Expr, Operation, SetFunction, Test};
 
 fn operation(op: BinaryOp) -> Operation
     ensures { result ≡ operation_of op }
@@ -61,23 +63,82 @@ fn chain(joint: Joint, parts: Vec<Expr>) -> Expr
     }
 }
 
+/// `count(*)`.
+fn count_of_rows(name: &str) -> Expr
+    ensures { tree result ≡ (if bytes_eq name.now (codes "count") then count_rows else literal NoValue) }
+{
+    if name == "count" {
+        Expr::CountRows
+    } else {
+        Expr::Literal(Value::Null)
+    }
+}
+
+/// What stands for a call that is refused.
+fn nothing() -> Expr
+    ensures { tree result ≡ literal NoValue }
+{
+    Expr::Literal(Value::Null)
+}
+
+/// A call of a function.
+fn applied(alloc: Global, function: SetFunction, mut arguments: Vec<Expr>) -> Result<Expr, Cause>
+    ensures { Gives tree [] (aggregate_of (Some function) (trees (map tree arguments.items))) result }
+{
+    let count = arguments.as_slice().len();
+    if count != 1 {
+        return Ok(nothing());
+    }
+    match arguments.pop() {
+        Some(argument) => Ok(Expr::Aggregate(function, Box::new(alloc, argument)?)),
+        None => Ok(nothing()),
+    }
+}
+
+/// A call.
+fn aggregate(
+    alloc: Global,
+    function: Option<SetFunction>,
+    arguments: Vec<Expr>,
+) -> Result<Expr, Cause>
+    ensures { Gives tree [] (aggregate_of function (trees (map tree arguments.items))) result }
+{
+    match function {
+        Some(function) => applied(alloc, function, arguments),
+        None => Ok(nothing()),
+    }
+}
+
 #[cycle(resolve)]
-fn boxed(alloc: Global, scope: Option<Visible<'_>>, e: &Written) -> Result<Box<Expr>, Cause>
-    ensures { Gives (λ b. tree b.value) (name_causes (scope_of scope.entry) (expr_tree e.now)) (resolved (scope_of scope.entry) (expr_tree e.now)) result }
+fn boxed(alloc: Global, scope: &[Visible<'_>], e: &Written) -> Result<Box<Expr>, Cause>
+    ensures { Gives (λ b. tree b.value) (name_causes (scope_of scope.now) (expr_tree e.now)) (resolved (scope_of scope.now) (expr_tree e.now)) result }
 {
     let resolved = resolve(alloc, scope, e)?;
     Ok(Box::new(alloc, resolved)?)
+}
+
+/// Each of them, resolved.
+#[cycle(resolve)]
+fn arguments(alloc: Global, scope: &[Visible<'_>], written: &[Written]) -> Result<Vec<Expr>, Cause>
+    ensures { Gives (λ v. trees (map tree v.items)) (name_causes_of_all (scope_of scope.now) (expr_trees written.now)) (resolved_all (scope_of scope.now) (expr_trees written.now)) result }
+{
+    let mut parts = Vec::new(alloc);
+    for e in written {
+        let part = resolve(alloc, scope, e)?;
+        parts.push(part)?;
+    }
+    Ok(parts)
 }
 
 /// A list that begins with this expression and goes on with the others, resolved.
 #[cycle(resolve)]
 fn listed(
     alloc: Global,
-    scope: Option<Visible<'_>>,
+    scope: &[Visible<'_>],
     first: Expr,
     others: &[Written],
 ) -> Result<Vec<Expr>, Cause>
-    ensures { Gives (λ v. trees (map tree v.items)) (name_causes_of_all (scope_of scope.entry) (expr_trees others.now)) (part (tree first) (resolved_all (scope_of scope.entry) (expr_trees others.now))) result }
+    ensures { Gives (λ v. trees (map tree v.items)) (name_causes_of_all (scope_of scope.now) (expr_trees others.now)) (part (tree first) (resolved_all (scope_of scope.now) (expr_trees others.now))) result }
 {
     let mut parts = Vec::new(alloc);
     parts.push(first)?;
@@ -91,12 +152,12 @@ fn listed(
 #[cycle(resolve)]
 fn compared(
     alloc: Global,
-    scope: Option<Visible<'_>>,
+    scope: &[Visible<'_>],
     op: CompareOp,
     a: &Written,
     b: &Written,
 ) -> Result<Expr, Cause>
-    ensures { Gives tree (name_causes (scope_of scope.entry) (expr_tree a.now) ++ name_causes (scope_of scope.entry) (expr_tree b.now)) (compare (comparison_of op) (resolved (scope_of scope.entry) (expr_tree a.now)) (resolved (scope_of scope.entry) (expr_tree b.now))) result }
+    ensures { Gives tree (name_causes (scope_of scope.now) (expr_tree a.now) ++ name_causes (scope_of scope.now) (expr_tree b.now)) (compare (comparison_of op) (resolved (scope_of scope.now) (expr_tree a.now)) (resolved (scope_of scope.now) (expr_tree b.now))) result }
 {
     let a = boxed(alloc, scope, a)?;
     let b = boxed(alloc, scope, b)?;
@@ -106,12 +167,12 @@ fn compared(
 #[cycle(resolve)]
 fn computed(
     alloc: Global,
-    scope: Option<Visible<'_>>,
+    scope: &[Visible<'_>],
     op: BinaryOp,
     a: &Written,
     b: &Written,
 ) -> Result<Expr, Cause>
-    ensures { Gives tree (name_causes (scope_of scope.entry) (expr_tree a.now) ++ name_causes (scope_of scope.entry) (expr_tree b.now)) (compute (operation_of op) (resolved (scope_of scope.entry) (expr_tree a.now)) (resolved (scope_of scope.entry) (expr_tree b.now))) result }
+    ensures { Gives tree (name_causes (scope_of scope.now) (expr_tree a.now) ++ name_causes (scope_of scope.now) (expr_tree b.now)) (compute (operation_of op) (resolved (scope_of scope.now) (expr_tree a.now)) (resolved (scope_of scope.now) (expr_tree b.now))) result }
 {
     let a = boxed(alloc, scope, a)?;
     let b = boxed(alloc, scope, b)?;
@@ -119,15 +180,28 @@ fn computed(
 }
 
 #[cycle(resolve)]
+fn called(
+    alloc: Global,
+    scope: &[Visible<'_>],
+    name: &str,
+    written: &[Written],
+) -> Result<Expr, Cause>
+    ensures { Gives tree (name_causes_of_all (scope_of scope.now) (expr_trees written.now)) (aggregate_of (function_named name.now) (resolved_all (scope_of scope.now) (expr_trees written.now))) result }
+{
+    let parts = arguments(alloc, scope, written)?;
+    aggregate(alloc, function_named(name), parts)
+}
+
+#[cycle(resolve)]
 fn bounded(
     alloc: Global,
-    scope: Option<Visible<'_>>,
+    scope: &[Visible<'_>],
     negated: bool,
     e: &Written,
     low: &Written,
     high: &Written,
 ) -> Result<Expr, Cause>
-    ensures { Gives tree (name_causes (scope_of scope.entry) (expr_tree e.now) ++ (name_causes (scope_of scope.entry) (expr_tree low.now) ++ name_causes (scope_of scope.entry) (expr_tree high.now))) (between negated (resolved (scope_of scope.entry) (expr_tree e.now)) (resolved (scope_of scope.entry) (expr_tree low.now)) (resolved (scope_of scope.entry) (expr_tree high.now))) result }
+    ensures { Gives tree (name_causes (scope_of scope.now) (expr_tree e.now) ++ (name_causes (scope_of scope.now) (expr_tree low.now) ++ name_causes (scope_of scope.now) (expr_tree high.now))) (between negated (resolved (scope_of scope.now) (expr_tree e.now)) (resolved (scope_of scope.now) (expr_tree low.now)) (resolved (scope_of scope.now) (expr_tree high.now))) result }
 {
     let e = boxed(alloc, scope, e)?;
     let low = boxed(alloc, scope, low)?;
@@ -138,13 +212,13 @@ fn bounded(
 #[cycle(resolve)]
 fn contained(
     alloc: Global,
-    scope: Option<Visible<'_>>,
+    scope: &[Visible<'_>],
     negated: bool,
     e: &Written,
     first: &Written,
     others: &[Written],
 ) -> Result<Expr, Cause>
-    ensures { Gives tree (name_causes (scope_of scope.entry) (expr_tree e.now) ++ (name_causes (scope_of scope.entry) (expr_tree first.now) ++ name_causes_of_all (scope_of scope.entry) (expr_trees others.now))) (within negated (resolved (scope_of scope.entry) (expr_tree e.now)) (part (resolved (scope_of scope.entry) (expr_tree first.now)) (resolved_all (scope_of scope.entry) (expr_trees others.now)))) result }
+    ensures { Gives tree (name_causes (scope_of scope.now) (expr_tree e.now) ++ (name_causes (scope_of scope.now) (expr_tree first.now) ++ name_causes_of_all (scope_of scope.now) (expr_trees others.now))) (within negated (resolved (scope_of scope.now) (expr_tree e.now)) (part (resolved (scope_of scope.now) (expr_tree first.now)) (resolved_all (scope_of scope.now) (expr_trees others.now)))) result }
 {
     let e = boxed(alloc, scope, e)?;
     let first = resolve(alloc, scope, first)?;
@@ -155,12 +229,12 @@ fn contained(
 #[cycle(resolve)]
 fn chained(
     alloc: Global,
-    scope: Option<Visible<'_>>,
+    scope: &[Visible<'_>],
     joint: Joint,
     first: &Written,
     others: &[Written],
 ) -> Result<Expr, Cause>
-    ensures { Gives tree (name_causes (scope_of scope.entry) (expr_tree first.now) ++ name_causes_of_all (scope_of scope.entry) (expr_trees others.now)) (joined joint (part (resolved (scope_of scope.entry) (expr_tree first.now)) (resolved_all (scope_of scope.entry) (expr_trees others.now)))) result }
+    ensures { Gives tree (name_causes (scope_of scope.now) (expr_tree first.now) ++ name_causes_of_all (scope_of scope.now) (expr_trees others.now)) (joined joint (part (resolved (scope_of scope.now) (expr_tree first.now)) (resolved_all (scope_of scope.now) (expr_trees others.now)))) result }
 {
     let first = resolve(alloc, scope, first)?;
     let parts = listed(alloc, scope, first, others)?;
@@ -169,8 +243,8 @@ fn chained(
 
 /// The expression with its names resolved, or why a name in it is refused.
 #[cycle(resolve)]
-pub fn resolve(alloc: Global, scope: Option<Visible<'_>>, e: &Written) -> Result<Expr, Cause>
-    ensures { Gives tree (name_causes (scope_of scope.entry) (expr_tree e.now)) (resolved (scope_of scope.entry) (expr_tree e.now)) result }
+pub fn resolve(alloc: Global, scope: &[Visible<'_>], e: &Written) -> Result<Expr, Cause>
+    ensures { Gives tree (name_causes (scope_of scope.now) (expr_tree e.now)) (resolved (scope_of scope.now) (expr_tree e.now)) result }
 {
     match e {
         Written::Number(n) => Ok(Expr::Literal(Value::Int(number(*n)))),
@@ -181,6 +255,8 @@ pub fn resolve(alloc: Global, scope: Option<Visible<'_>>, e: &Written) -> Result
         Written::Column(qualifier, name) => {
             Ok(Expr::Column(find_column(scope, qualifier, name)?))
         }
+        Written::CallAll(name) => Ok(count_of_rows(name.as_str())),
+        Written::Call(name, arguments) => called(alloc, scope, name.as_str(), arguments),
         Written::Paren(e) => Ok(Expr::Parenthesised(boxed(alloc, scope, e)?)),
         Written::Minus(e) => Ok(Expr::Negate(boxed(alloc, scope, e)?)),
         Written::Binary(op, a, b) => computed(alloc, scope, *op, a, b),

@@ -77,14 +77,22 @@ fn row(alloc: Global, from: Option<usize>) -> Result<Row, Fail> {
 }
 
 /// What the text is bound to over the three tables.
-fn bound(alloc: Global, text: &str) -> Result<Result<Bound, Cause>, Fail> {
+pub fn bound(alloc: Global, text: &str) -> Result<Result<Bound, Cause>, Fail> {
     let statement = parse(alloc, text).ok().ok_or(text)?;
     let tables = vec![in alloc; parts(alloc)?, orders(alloc)?, odd(alloc)?]?;
     Ok(bind(alloc, &statement, &tables, "ann"))
 }
 
+/// The place of the first entry's table; none without FROM.
+fn place(bound: &Bound) -> Option<usize> {
+    match bound.entries.get(0) {
+        Some(entry) => Some(entry.place),
+        None => None,
+    }
+}
+
 /// The names with a space between each two.
-fn names_text(alloc: Global, names: &[String]) -> Result<String, Fail> {
+pub fn names_text(alloc: Global, names: &[String]) -> Result<String, Fail> {
     let mut line = "".to_string(alloc)?;
     for name in names {
         if !line.is_empty() {
@@ -112,7 +120,7 @@ fn row_line(alloc: Global, row: &Row) -> Result<Vec<u8>, Fail> {
 }
 
 /// The code of the refusal, or none.
-fn code(answer: &Result<Bound, Cause>) -> &'static str {
+pub fn code(answer: &Result<Bound, Cause>) -> &'static str {
     match answer {
         Ok(_) => "none",
         Err(cause) => cause.code(),
@@ -274,7 +282,7 @@ fn queries_answer_their_items(rt: HostRuntime) -> Result<(), Fail> {
         let bound = bound(alloc, query)?.ok().ok_or(query)?;
         let line = names_text(alloc, &bound.names)?;
         assert_eq!(rt; line.as_str(), names, "{query}");
-        let answer = values(alloc, &bound.items, &row(alloc, bound.from)?)?;
+        let answer = values(alloc, &bound.select.items, &row(alloc, place(&bound))?)?;
         let line = row_line(alloc, &answer)?;
         assert!(rt; line.as_slice() == want.as_bytes(), "{query}");
     }
@@ -320,9 +328,13 @@ fn conditions_are_the_conjuncts(rt: HostRuntime) -> Result<(), Fail> {
     let alloc = rt.alloc();
     for (query, count, want) in CONDITIONS {
         let bound = bound(alloc, query)?.ok().ok_or(query)?;
-        assert_eq!(rt; bound.conditions.len(), count, "{query}");
-        let row = row(alloc, bound.from)?;
-        assert_eq!(rt; verdict(&bound.conditions, &row, &[]), Ok(want), "{query}");
+        assert_eq!(rt; bound.select.conditions.len(), count, "{query}");
+        let row = row(alloc, place(&bound))?;
+        assert_eq!(rt;
+            verdict(&bound.select.conditions, &row, &[]),
+            Ok(want),
+            "{query}"
+        );
     }
     Ok(())
 }
@@ -340,7 +352,7 @@ fn tables_are_told_by_their_places(rt: HostRuntime) -> Result<(), Fail> {
     let alloc = rt.alloc();
     for (query, want) in TABLES {
         let bound = bound(alloc, query)?.ok().ok_or(query)?;
-        assert_eq!(rt; bound.from, want, "{query}");
+        assert_eq!(rt; place(&bound), want, "{query}");
     }
     Ok(())
 }
@@ -532,11 +544,4 @@ fn patterns_end_behind_their_escapes(rt: HostRuntime) -> Result<(), Fail> {
         assert_eq!(rt; code(&answer), want, "{query}");
     }
     Ok(())
-}
-
-#[test]
-fn laws_can_be_called() {
-    crate::law::causes_have_their_phase();
-    crate::law::columns_are_in_view();
-    crate::law::table_is_there();
 }

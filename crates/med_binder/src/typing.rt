@@ -4,12 +4,16 @@
 ghost use Rattle.std.specs.Prelude.{◌≡◌, ◌++◌, ◌∷◌, [], string_bytes};
 ghost use Rattle.med_parser.specs.ExprView.{expr_tree, expr_trees};
 ghost use Rattle.med_binder.specs.Scope.{scope_of};
+ghost use Rattle.med_binder.specs.Meaning.{function_named};
 ghost use Rattle.med_binder.specs.Typing as spec;
-ghost use Rattle.med_binder.specs.Telling.{Gives, Passes, Meets};
+ghost use Rattle.med_binder.specs.Telling.{Gives, Passes, FindsKind};
+ghost use Rattle.med_binder.specs.Kinds.{Meets};
 
-use crate::scope::{Visible, find_column, kind_of};
+use crate::functions::function_named;
+use crate::scope::{Visible, column_kind};
 use med_parser::{Expr as Written, Status};
 use med_value::{Cause, ColType};
+use tri_expr::SetFunction;
 
 /// Whether an operand of this type can stand where that one is asked.
 fn takes(asked: ColType, kind: Option<ColType>) -> bool
@@ -88,52 +92,128 @@ fn check_pattern(pattern: &str) -> Result<(), Cause>
     }
 }
 
-/// The type of an expression; NULL takes any.
-fn kind(scope: Option<Visible<'_>>, e: &Written) -> Option<ColType>
-    ensures { result ≡ spec.type_of (scope_of scope.entry) (expr_tree e.now) }
+/// The type of `name(*)`.
+fn all_rows_kind(function: Option<SetFunction>) -> Option<ColType>
+    ensures { result ≡ spec.all_rows_type function }
+{
+    match function {
+        Some(SetFunction::Count) => Some(ColType::Int),
+        _ => None,
+    }
+}
+
+/// The type of a call of one argument.
+fn call_kind(function: Option<SetFunction>, argument: Option<ColType>) -> Option<ColType>
+    ensures { result ≡ spec.call_type function (argument ∷ []) }
+{
+    match function {
+        None => None,
+        Some(SetFunction::Count) | Some(SetFunction::Sum) => Some(ColType::Int),
+        Some(SetFunction::Min) | Some(SetFunction::Max) => match argument {
+            Some(kind) => Some(kind),
+            None => Some(ColType::Text),
+        },
+    }
+}
+
+/// Refuses `name(*)`, unless it is `count(*)`.
+fn check_call_all(function: Option<SetFunction>) -> Result<(), Cause>
+    ensures { Passes (spec.as_call_all function) result }
+{
+    match function {
+        Some(SetFunction::Count) => Ok(()),
+        _ => Err(Cause::UndefinedFunction),
+    }
+}
+
+/// Refuses an argument that has no least and no greatest value.
+fn check_ordered(kind: Option<ColType>) -> Result<(), Cause>
+    ensures { Passes (spec.as_ordered kind) result }
+{
+    if takes(ColType::Int, kind) || takes(ColType::Text, kind) {
+        Ok(())
+    } else {
+        Err(Cause::UndefinedFunction)
+    }
+}
+
+/// Refuses a call of one argument of this type, unless there is such a function.
+fn check_call(function: Option<SetFunction>, argument: Option<ColType>) -> Result<(), Cause>
+    ensures { Passes (spec.as_call function (argument ∷ [])) result }
+{
+    match function {
+        None => Err(Cause::UndefinedFunction),
+        Some(SetFunction::Count) => Ok(()),
+        Some(SetFunction::Sum) => ask(ColType::Int, argument, Cause::UndefinedFunction),
+        Some(SetFunction::Min) | Some(SetFunction::Max) => check_ordered(argument),
+    }
+}
+
+/// The type of a call; none where it is refused.
+#[cycle(kind)]
+#[tactic(auto, using(crate::proofs::Calls::several_untyped))]
+fn called_kind(
+    scope: &[Visible<'_>],
+    name: &String,
+    arguments: &[Written],
+) -> Result<Option<ColType>, Cause>
+    ensures { FindsKind (spec.call_type (function_named (string_bytes name.now)) (spec.types_of (scope_of scope.now) (expr_trees arguments.now))) result }
+{
+    match arguments {
+        [argument] => {
+            let argument = kind(scope, argument)?;
+            Ok(call_kind(function_named(name.as_str()), argument))
+        }
+        _ => Ok(None),
+    }
+}
+
+/// The type of an expression; none for NULL, which takes any. Refused only with 53200, where more columns are in view than there are places.
+#[cycle(kind)]
+fn kind(scope: &[Visible<'_>], e: &Written) -> Result<Option<ColType>, Cause>
+    ensures { FindsKind (spec.type_of (scope_of scope.now) (expr_tree e.now)) result }
 {
     match e {
-        Written::Number(_) | Written::Negative(_) => Some(ColType::Int),
-        Written::Minus(_) | Written::Binary(_, _, _) => Some(ColType::Int),
-        Written::Text(_) => Some(ColType::Text),
-        Written::Null => None,
-        Written::Column(qualifier, name) => match find_column(scope, qualifier, name) {
-            Ok(place) => kind_of(scope, place),
-            Err(_) => None,
-        },
+        Written::Number(_) | Written::Negative(_) => Ok(Some(ColType::Int)),
+        Written::Minus(_) | Written::Binary(_, _, _) => Ok(Some(ColType::Int)),
+        Written::Text(_) => Ok(Some(ColType::Text)),
+        Written::Null => Ok(None),
+        Written::Column(qualifier, name) => column_kind(scope, qualifier, name),
+        Written::CallAll(name) => Ok(all_rows_kind(function_named(name.as_str()))),
+        Written::Call(name, arguments) => called_kind(scope, name, arguments),
         Written::Paren(e) => kind(scope, e),
-        Written::Truth(_) | Written::Not(_) | Written::Chain(_, _, _) => Some(ColType::Bool),
-        Written::Between(_, _, _, _) | Written::In(_, _, _, _) => Some(ColType::Bool),
-        Written::Like(_, _, _) | Written::Compare(_, _, _) => Some(ColType::Bool),
-        Written::Is(_, _, _) => Some(ColType::Bool),
+        Written::Truth(_) | Written::Not(_) | Written::Chain(_, _, _) => Ok(Some(ColType::Bool)),
+        Written::Between(_, _, _, _) | Written::In(_, _, _, _) => Ok(Some(ColType::Bool)),
+        Written::Like(_, _, _) | Written::Compare(_, _, _) => Ok(Some(ColType::Bool)),
+        Written::Is(_, _, _) => Ok(Some(ColType::Bool)),
     }
 }
 
 /// Refuses an operand by the cause, unless it can stand where the type is asked.
 #[cycle(check)]
 pub fn operand(
-    scope: Option<Visible<'_>>,
+    scope: &[Visible<'_>],
     e: &Written,
     asked: ColType,
     cause: Cause,
 ) -> Result<(), Cause>
-    ensures { Passes (spec.type_causes (scope_of scope.entry) (expr_tree e.now) ++ spec.unless (spec.takes asked (spec.type_of (scope_of scope.entry) (expr_tree e.now))) cause) result }
+    ensures { Passes (spec.type_causes (scope_of scope.now) (expr_tree e.now) ++ spec.unless (spec.takes asked (spec.type_of (scope_of scope.now) (expr_tree e.now))) cause) result }
 {
     let kind = type_of(scope, e)?;
     ask(asked, kind, cause)
 }
 
 #[cycle(check)]
-fn computed(scope: Option<Visible<'_>>, a: &Written, b: &Written) -> Result<(), Cause>
-    ensures { Passes ((spec.type_causes (scope_of scope.entry) (expr_tree a.now) ++ spec.as_number (spec.type_of (scope_of scope.entry) (expr_tree a.now))) ++ (spec.type_causes (scope_of scope.entry) (expr_tree b.now) ++ spec.as_number (spec.type_of (scope_of scope.entry) (expr_tree b.now)))) result }
+fn computed(scope: &[Visible<'_>], a: &Written, b: &Written) -> Result<(), Cause>
+    ensures { Passes ((spec.type_causes (scope_of scope.now) (expr_tree a.now) ++ spec.as_number (spec.type_of (scope_of scope.now) (expr_tree a.now))) ++ (spec.type_causes (scope_of scope.now) (expr_tree b.now) ++ spec.as_number (spec.type_of (scope_of scope.now) (expr_tree b.now)))) result }
 {
     operand(scope, a, ColType::Int, Cause::UndefinedFunction)?;
     operand(scope, b, ColType::Int, Cause::UndefinedFunction)
 }
 
 #[cycle(check)]
-fn compared(scope: Option<Visible<'_>>, a: &Written, b: &Written) -> Result<(), Cause>
-    ensures { Passes ((spec.type_causes (scope_of scope.entry) (expr_tree a.now) ++ spec.type_causes (scope_of scope.entry) (expr_tree b.now)) ++ spec.comparing (spec.type_of (scope_of scope.entry) (expr_tree a.now) ∷ spec.type_of (scope_of scope.entry) (expr_tree b.now) ∷ [])) result }
+fn compared(scope: &[Visible<'_>], a: &Written, b: &Written) -> Result<(), Cause>
+    ensures { Passes ((spec.type_causes (scope_of scope.now) (expr_tree a.now) ++ spec.type_causes (scope_of scope.now) (expr_tree b.now)) ++ spec.comparing (spec.type_of (scope_of scope.now) (expr_tree a.now) ∷ spec.type_of (scope_of scope.now) (expr_tree b.now) ∷ [])) result }
 {
     let a = type_of(scope, a)?;
     let b = type_of(scope, b)?;
@@ -141,13 +221,8 @@ fn compared(scope: Option<Visible<'_>>, a: &Written, b: &Written) -> Result<(), 
 }
 
 #[cycle(check)]
-fn bounded(
-    scope: Option<Visible<'_>>,
-    e: &Written,
-    low: &Written,
-    high: &Written,
-) -> Result<(), Cause>
-    ensures { Passes ((spec.type_causes (scope_of scope.entry) (expr_tree e.now) ++ (spec.type_causes (scope_of scope.entry) (expr_tree low.now) ++ spec.type_causes (scope_of scope.entry) (expr_tree high.now))) ++ spec.comparing (spec.type_of (scope_of scope.entry) (expr_tree e.now) ∷ spec.type_of (scope_of scope.entry) (expr_tree low.now) ∷ spec.type_of (scope_of scope.entry) (expr_tree high.now) ∷ [])) result }
+fn bounded(scope: &[Visible<'_>], e: &Written, low: &Written, high: &Written) -> Result<(), Cause>
+    ensures { Passes ((spec.type_causes (scope_of scope.now) (expr_tree e.now) ++ (spec.type_causes (scope_of scope.now) (expr_tree low.now) ++ spec.type_causes (scope_of scope.now) (expr_tree high.now))) ++ spec.comparing (spec.type_of (scope_of scope.now) (expr_tree e.now) ∷ spec.type_of (scope_of scope.now) (expr_tree low.now) ∷ spec.type_of (scope_of scope.now) (expr_tree high.now) ∷ [])) result }
 {
     let e = type_of(scope, e)?;
     let low = type_of(scope, low)?;
@@ -157,12 +232,8 @@ fn bounded(
 
 /// Refuses expressions that are compared with one of this type.
 #[cycle(check)]
-fn listed(
-    scope: Option<Visible<'_>>,
-    kind: Option<ColType>,
-    others: &[Written],
-) -> Result<(), Cause>
-    ensures { Passes (spec.type_causes_of_all (scope_of scope.entry) (expr_trees others.now) ++ spec.comparing (kind ∷ spec.types_of (scope_of scope.entry) (expr_trees others.now))) result }
+fn listed(scope: &[Visible<'_>], kind: Option<ColType>, others: &[Written]) -> Result<(), Cause>
+    ensures { Passes (spec.type_causes_of_all (scope_of scope.now) (expr_trees others.now) ++ spec.comparing (kind ∷ spec.types_of (scope_of scope.now) (expr_trees others.now))) result }
 {
     let mut all = kind;
     for other in others {
@@ -174,12 +245,12 @@ fn listed(
 
 #[cycle(check)]
 fn contained(
-    scope: Option<Visible<'_>>,
+    scope: &[Visible<'_>],
     e: &Written,
     first: &Written,
     others: &[Written],
 ) -> Result<(), Cause>
-    ensures { Passes ((spec.type_causes (scope_of scope.entry) (expr_tree e.now) ++ (spec.type_causes (scope_of scope.entry) (expr_tree first.now) ++ spec.type_causes_of_all (scope_of scope.entry) (expr_trees others.now))) ++ spec.comparing (spec.type_of (scope_of scope.entry) (expr_tree e.now) ∷ spec.type_of (scope_of scope.entry) (expr_tree first.now) ∷ spec.types_of (scope_of scope.entry) (expr_trees others.now))) result }
+    ensures { Passes ((spec.type_causes (scope_of scope.now) (expr_tree e.now) ++ (spec.type_causes (scope_of scope.now) (expr_tree first.now) ++ spec.type_causes_of_all (scope_of scope.now) (expr_trees others.now))) ++ spec.comparing (spec.type_of (scope_of scope.now) (expr_tree e.now) ∷ spec.type_of (scope_of scope.now) (expr_tree first.now) ∷ spec.types_of (scope_of scope.now) (expr_trees others.now))) result }
 {
     let e = type_of(scope, e)?;
     let first = type_of(scope, first)?;
@@ -188,16 +259,16 @@ fn contained(
 }
 
 #[cycle(check)]
-fn liked(scope: Option<Visible<'_>>, e: &Written, pattern: &String) -> Result<(), Cause>
-    ensures { Passes ((spec.type_causes (scope_of scope.entry) (expr_tree e.now) ++ spec.as_text (spec.type_of (scope_of scope.entry) (expr_tree e.now))) ++ spec.as_pattern (string_bytes pattern.now)) result }
+fn liked(scope: &[Visible<'_>], e: &Written, pattern: &String) -> Result<(), Cause>
+    ensures { Passes ((spec.type_causes (scope_of scope.now) (expr_tree e.now) ++ spec.as_text (spec.type_of (scope_of scope.now) (expr_tree e.now))) ++ spec.as_pattern (string_bytes pattern.now)) result }
 {
     operand(scope, e, ColType::Text, Cause::UndefinedFunction)?;
     check_pattern(pattern.as_str())
 }
 
 #[cycle(check)]
-fn tested(scope: Option<Visible<'_>>, e: &Written, status: Status) -> Result<(), Cause>
-    ensures { Passes (spec.type_causes (scope_of scope.entry) (expr_tree e.now) ++ spec.as_tested status (spec.type_of (scope_of scope.entry) (expr_tree e.now))) result }
+fn tested(scope: &[Visible<'_>], e: &Written, status: Status) -> Result<(), Cause>
+    ensures { Passes (spec.type_causes (scope_of scope.now) (expr_tree e.now) ++ spec.as_tested status (spec.type_of (scope_of scope.now) (expr_tree e.now))) result }
 {
     match status {
         Status::Null => {
@@ -212,8 +283,8 @@ fn tested(scope: Option<Visible<'_>>, e: &Written, status: Status) -> Result<(),
 
 /// Refuses expressions that are no conditions.
 #[cycle(check)]
-fn conditions(scope: Option<Visible<'_>>, others: &[Written]) -> Result<(), Cause>
-    ensures { Passes (spec.condition_causes (scope_of scope.entry) (expr_trees others.now)) result }
+fn conditions(scope: &[Visible<'_>], others: &[Written]) -> Result<(), Cause>
+    ensures { Passes (spec.condition_causes (scope_of scope.now) (expr_trees others.now)) result }
 {
     for other in others {
         operand(scope, other, ColType::Bool, Cause::DatatypeMismatch)?;
@@ -222,21 +293,43 @@ fn conditions(scope: Option<Visible<'_>>, others: &[Written]) -> Result<(), Caus
 }
 
 #[cycle(check)]
-fn chained(scope: Option<Visible<'_>>, first: &Written, others: &[Written]) -> Result<(), Cause>
-    ensures { Passes ((spec.type_causes (scope_of scope.entry) (expr_tree first.now) ++ spec.as_condition (spec.type_of (scope_of scope.entry) (expr_tree first.now))) ++ spec.condition_causes (scope_of scope.entry) (expr_trees others.now)) result }
+fn chained(scope: &[Visible<'_>], first: &Written, others: &[Written]) -> Result<(), Cause>
+    ensures { Passes ((spec.type_causes (scope_of scope.now) (expr_tree first.now) ++ spec.as_condition (spec.type_of (scope_of scope.now) (expr_tree first.now))) ++ spec.condition_causes (scope_of scope.now) (expr_trees others.now)) result }
 {
     operand(scope, first, ColType::Bool, Cause::DatatypeMismatch)?;
     conditions(scope, others)
 }
 
+/// Refuses a call, unless it is one of a function of one argument.
+#[cycle(check)]
+fn called(scope: &[Visible<'_>], name: &String, arguments: &[Written]) -> Result<(), Cause>
+    ensures { Passes (spec.type_causes_of_all (scope_of scope.now) (expr_trees arguments.now) ++ spec.as_call (function_named (string_bytes name.now)) (spec.types_of (scope_of scope.now) (expr_trees arguments.now))) result }
+{
+    match arguments {
+        [argument] => called_with(scope, name, argument),
+        _ => Err(Cause::UndefinedFunction),
+    }
+}
+
+/// Refuses a call of one argument.
+#[cycle(check)]
+fn called_with(scope: &[Visible<'_>], name: &String, argument: &Written) -> Result<(), Cause>
+    ensures { Passes ((spec.type_causes (scope_of scope.now) (expr_tree argument.now) ++ []) ++ spec.as_call (function_named (string_bytes name.now)) (spec.type_of (scope_of scope.now) (expr_tree argument.now) ∷ [])) result }
+{
+    let argument = type_of(scope, argument)?;
+    check_call(function_named(name.as_str()), argument)
+}
+
 /// Refuses what stands at the parts of an expression.
 #[cycle(check)]
-fn check(scope: Option<Visible<'_>>, e: &Written) -> Result<(), Cause>
-    ensures { Passes (spec.type_causes (scope_of scope.entry) (expr_tree e.now)) result }
+fn check(scope: &[Visible<'_>], e: &Written) -> Result<(), Cause>
+    ensures { Passes (spec.type_causes (scope_of scope.now) (expr_tree e.now)) result }
 {
     match e {
         Written::Number(_) | Written::Negative(_) | Written::Text(_) => Ok(()),
         Written::Truth(_) | Written::Null | Written::Column(_, _) => Ok(()),
+        Written::CallAll(name) => check_call_all(function_named(name.as_str())),
+        Written::Call(name, arguments) => called(scope, name, arguments),
         Written::Paren(e) => check(scope, e),
         Written::Minus(e) => operand(scope, e, ColType::Int, Cause::UndefinedFunction),
         Written::Binary(_, a, b) => computed(scope, a, b),
@@ -252,9 +345,9 @@ fn check(scope: Option<Visible<'_>>, e: &Written) -> Result<(), Cause>
 
 /// The type of an expression, or why a part of it is refused.
 #[cycle(check)]
-pub fn type_of(scope: Option<Visible<'_>>, e: &Written) -> Result<Option<ColType>, Cause>
-    ensures { Gives (λ t. t) (spec.type_causes (scope_of scope.entry) (expr_tree e.now)) (spec.type_of (scope_of scope.entry) (expr_tree e.now)) result }
+pub fn type_of(scope: &[Visible<'_>], e: &Written) -> Result<Option<ColType>, Cause>
+    ensures { Gives (λ t. t) (spec.type_causes (scope_of scope.now) (expr_tree e.now)) (spec.type_of (scope_of scope.now) (expr_tree e.now)) result }
 {
     check(scope, e)?;
-    Ok(kind(scope, e))
+    Ok(kind(scope, e)?)
 }

@@ -6,13 +6,15 @@ use Rattle.std.specs.Ordering.{on}
 use Rattle.med_value.specs.Datum.{Tuple, tuple}
 use Rattle.tri_expr.specs.Lists.{distinct}
 use Rattle.tri_expr.specs.Query.{Query, Tables, Output, output_eq, keys_cmp, limited, faults, outputs_all, IsAnswer, Chain, IsTold, joined_chains, senses}
-use Rattle.med_exec.specs.declared.select.SortDirection.{SortDirection}
+use Rattle.tri_expr.specs.declared.select.SortDirection.{SortDirection}
 use Rattle.med_exec.specs.declared.staging.Staged.{Staged}
 use Rattle.tri_expr.specs.declared.expr.Expr.{Expr}
-use Rattle.tri_expr.specs.declared.expr.EvalFault.{EvalFault}
-use Rattle.med_exec.specs.declared.select.Select.{Select}
-use Rattle.med_exec.specs.declared.select.JoinChain.{JoinChain}
-use Rattle.med_exec.specs.Select.{direction_of, chain_of, groups_of, query_of}
+use Rattle.med_exec.specs.declared.outputs.AnswerFault.{AnswerFault}
+use Rattle.med_exec.specs.declared.outputs.AnswerFault.TheVariants.{Evaluation, TooManyRows}
+use Rattle.med_exec.specs.Answering.{IsShown, IsTooLarge, IsSmall}
+use Rattle.tri_expr.specs.declared.select.Select.{Select}
+use Rattle.tri_expr.specs.declared.select.JoinChain.{JoinChain}
+use Rattle.tri_expr.specs.Select.{direction_of, chain_of, groups_of, query_of}
 use Rattle.med_exec.specs.Staging.{output_of, staged_query, Stages}
 use Rattle.med_exec.specs.Ordering.{staged_cmp}
 use Rattle.med_exec.specs.Finishing.{Finishes, made_unique}
@@ -53,10 +55,17 @@ finished_answer law q db outs rows quiet same f = record {
 moved : {A B C D : Type 0} (P : A → B → C → D → Type 0) (a a' : A) (b b' : B) (c c' : C) (d d' : D) → a ≡ a' → b ≡ b' → c ≡ c' → d ≡ d' → P a b c d → P a' b' c' d'
 moved P a a' b b' c c' d d' p q r s h = subst (λ x. P x b' c' d') p (subst (λ x. P a x c' d') q (subst (λ x. P a b x d') r (subst (λ x. P a b c x) s h)))
 
-pub told_all : (f : EvalFault) (select : Select) (db : Tables) (from : List JoinChain) (cs ks is : List Expr) (rows : List Tuple) → from ≡ select.from.items → cs ≡ select.conditions.items → ks ≡ select.keys.items → is ≡ select.items.items → rows ≡ joined_chains db (map chain_of from)
-    → ((chains : List Chain) (db : Tables) → joined_chains db chains ≡ rows → IsTold f (faults (staged_query chains (senses [] cs) (groups_of select.grouping) (senses [] ks) (senses [] is)) db)) → IsTold f (faults (query_of select) db)
-told_all f select db from cs ks is rows a b c d j h =
+pub told_all : (f : AnswerFault) (select : Select) (db : Tables) (from : List JoinChain) (cs ks is : List Expr) (rows : List Tuple) → from ≡ select.from.items → cs ≡ select.conditions.items → ks ≡ select.keys.items → is ≡ select.items.items → rows ≡ joined_chains db (map chain_of from)
+    → ((chains : List Chain) (db : Tables) → joined_chains db chains ≡ rows → IsShown f (staged_query chains (senses [] cs) (groups_of select.grouping) (senses [] ks) (senses [] is)) db) → IsShown f (query_of select) db
+told_all (Evaluation f) select db from cs ks is rows a b c d j h =
     moved (λ fs xs ys zs. IsTold f (faults (staged_query (map chain_of fs) (senses [] xs) (groups_of select.grouping) (senses [] ys) (senses [] zs)) db)) from select.from.items cs select.conditions.items ks select.keys.items is select.items.items a b c d (h (map chain_of from) db (sym j))
+told_all TooManyRows select db from cs ks is rows a b c d j h =
+    moved (λ fs xs ys zs. IsTooLarge (staged_query (map chain_of fs) (senses [] xs) (groups_of select.grouping) (senses [] ys) (senses [] zs)) db) from select.from.items cs select.conditions.items ks select.keys.items is select.items.items a b c d (h (map chain_of from) db (sym j))
+
+pub small_all : (select : Select) (db : Tables) (from : List JoinChain) (cs ks is : List Expr) (rows : List Tuple) → from ≡ select.from.items → cs ≡ select.conditions.items → ks ≡ select.keys.items → is ≡ select.items.items → rows ≡ joined_chains db (map chain_of from)
+    → ((chains : List Chain) (db : Tables) → joined_chains db chains ≡ rows → IsSmall (staged_query chains (senses [] cs) (groups_of select.grouping) (senses [] ks) (senses [] is)) db) → IsSmall (query_of select) db
+small_all select db from cs ks is rows a b c d j h =
+    moved (λ fs xs ys zs. IsSmall (staged_query (map chain_of fs) (senses [] xs) (groups_of select.grouping) (senses [] ys) (senses [] zs)) db) from select.from.items cs select.conditions.items ks select.keys.items is select.items.items a b c d (h (map chain_of from) db (sym j))
 
 pub answered_all : ((os us : List Output) → IsPermutation os us → IsPermutation (distinct output_eq os) (distinct output_eq us)) → (select : Select) (db : Tables) (from : List JoinChain) (cs ks is : List Expr) (ds : List SortDirection) (rows : List Tuple) (outs : List Output) (out : List Tuple) → from ≡ select.from.items → cs ≡ select.conditions.items → ks ≡ select.keys.items → is ≡ select.items.items → ds ≡ select.directions.items → rows ≡ joined_chains db (map chain_of from)
     → ((chains : List Chain) (db : Tables) → joined_chains db chains ≡ rows → Stages (staged_query chains (senses [] cs) (groups_of select.grouping) (senses [] ks) (senses [] is)) db outs)

@@ -1,5 +1,5 @@
 -- A query that groups: its outputs over its groups in any order.
-use Rattle.std.proofs.Common.{◌≡◌, ℕ, List, [], ◌∷◌, ◌++◌, map, filter, flat_map, refl, sym, ap, ◌∙◌, Result, Ok, Err, IfOk, Contains, subst, IsPermutation, arith}
+use Rattle.std.proofs.Common.{◌≡◌, ◌≤◌, ◌^◌, ℕ, List, [], ◌∷◌, ◌++◌, map, filter, flat_map, length, refl, sym, ap, ◌∙◌, Contains, subst, IsPermutation, arith}
 use Rattle.std.proofs.lemmas.List.Sorted.{IsPermutation-sym}
 use Rattle.std.proofs.lemmas.List.Elements.{Contains-append_left, Contains-append_right}
 use Rattle.med_value.specs.Datum.{Tuple}
@@ -10,9 +10,10 @@ use Rattle.tri_expr.specs.Outcome.{over}
 use Rattle.tri_expr.specs.Meaning.{OnClass}
 use Rattle.tri_expr.specs.Verdict.{is_in, faults_told}
 use Rattle.tri_expr.specs.Laws.{IsSteady, AllIgnoreOrder, AnswersIgnoreOrder}
-use Rattle.tri_expr.specs.Query.{Query, Chain, Table, Tables, SameRows, Output, senses, keeps, joined_chains, classes_by, faults, outputs_all, IsTold, Tells}
+use Rattle.tri_expr.specs.Query.{Query, Chain, Table, Tables, SameRows, Output, senses, keeps, joined_chains, classes_by, faults, outputs_all, IsTold}
 use Rattle.med_exec.specs.Grouping.{AreGroups}
 use Rattle.med_exec.specs.Staging.{staged_query, Stages, row_kept, where_told, arguments_told, output_told, class_output, class_staged, class_told, groups_by}
+use Rattle.med_exec.specs.Answering.{IsSmall}
 use Rattle.med_exec.proofs.Telling.{tells_more}
 use Rattle.med_exec.proofs.ToldParts.{both_told, quiet_parts, told_parts}
 use Rattle.med_exec.proofs.Joining.{all_kept}
@@ -61,7 +62,7 @@ nothing_in : (fs gs : List Fault) → ((c : Fault) → Contains fs c → Contain
 nothing_in [] gs h e = refl
 nothing_in (f ∷ fs) gs h e = absurd (let k : Contains [] f = subst (λ l. Contains l f) e (h f (0, omega arith, refl)) in let n = k.1 in omega arith)
 
-group_stages : AnyOrder → Steady → (from : List Chain) (fs : List OnClass) (at : List ℕ) (arguments : List OnClass) (having keys items : List Expr) (db : Tables) (rows kept : List Tuple) (gs : List (List Tuple)) (outs : List Output)
+pub group_stages : AnyOrder → Steady → (from : List Chain) (fs : List OnClass) (at : List ℕ) (arguments : List OnClass) (having keys items : List Expr) (db : Tables) (rows kept : List Tuple) (gs : List (List Tuple)) (outs : List Output)
     → joined_chains db from ≡ rows → kept ≡ flat_map (row_kept fs) rows → flat_map (where_told fs) rows ≡ [] → flat_map (arguments_told arguments) kept ≡ [] → AreGroups at kept gs
     → outs ≡ flat_map (class_staged (senses [] having) (senses [] keys) (senses [] items)) gs → flat_map (class_told (senses [] having) (senses [] keys) (senses [] items)) gs ≡ []
     → Stages (staged_query from fs (groups_by at arguments (senses [] having)) (senses [] keys) (senses [] items)) db outs
@@ -80,13 +81,6 @@ group_stages any law from fs at arguments having keys items db rows kept gs outs
       same = subst (λ l. IsPermutation l outs) same (subst (λ l. IsPermutation (outputs_all q (λ t. kept)) l) made moved.outputs);
     }
 
-pub groups_stage : {T : Type 0} (view : T → List Output) (r : Result T EvalFault) → AnyOrder → Steady → (fs : List OnClass) (at : List ℕ) (arguments : List OnClass) (having keys items : List Expr) (rows kept : List Tuple) (gs : List (List Tuple))
-    → kept ≡ flat_map (row_kept fs) rows → flat_map (where_told fs) rows ≡ [] → flat_map (arguments_told arguments) kept ≡ [] → AreGroups at kept gs
-    → IfOk r (λ out. view out ≡ flat_map (class_staged (senses [] having) (senses [] keys) (senses [] items)) gs) → IfOk r (λ _. flat_map (class_told (senses [] having) (senses [] keys) (senses [] items)) gs ≡ [])
-    → IfOk r (λ out. (from : List Chain) (db : Tables) → joined_chains db from ≡ rows → Stages (staged_query from fs (groups_by at arguments (senses [] having)) (senses [] keys) (senses [] items)) db (view out))
-groups_stage view (Ok out) any law fs at arguments having keys items rows kept gs k w a g o quiet = λ from db j. group_stages any law from fs at arguments having keys items db rows kept gs (view out) j k w a g o quiet
-groups_stage view (Err f) any law fs at arguments having keys items rows kept gs k w a g o quiet = tt
-
 -- the faults that it answers
 pub tells_where : (f : EvalFault) (from : List Chain) (fs : List OnClass) (at : List ℕ) (arguments having keys items : List OnClass) (db : Tables) (rows : List Tuple) → joined_chains db from ≡ rows → IsTold f (flat_map (where_told fs) rows) → IsTold f (faults (staged_query from fs (groups_by at arguments having) keys items) db)
 tells_where f from fs at arguments having keys items db rows j h =
@@ -97,10 +91,13 @@ pub tells_arguments : (f : EvalFault) (from : List Chain) (fs : List OnClass) (a
 tells_arguments f from fs at arguments having keys items db rows kept j k h =
     tells_more f _ _ (λ c t. rw (group_faults from fs at arguments having keys items db rows kept j k) (Contains-append_right (flat_map (where_told fs) rows) (flat_map (arguments_told arguments) kept ++ over_groups having keys items (classes_by at kept)) c (Contains-append_left (flat_map (arguments_told arguments) kept) (over_groups having keys items (classes_by at kept)) c t))) h
 
-pub tells_groups : {T : Type 0} (r : Result T EvalFault) → AnyOrder → Steady → (from : List Chain) (fs : List OnClass) (at : List ℕ) (arguments : List OnClass) (having keys items : List Expr) (db : Tables) (rows kept : List Tuple) (gs : List (List Tuple)) → joined_chains db from ≡ rows → kept ≡ flat_map (row_kept fs) rows → AreGroups at kept gs
-    → Tells r (flat_map (class_told (senses [] having) (senses [] keys) (senses [] items)) gs) → Tells r (faults (staged_query from fs (groups_by at arguments (senses [] having)) (senses [] keys) (senses [] items)) db)
-tells_groups (Ok x) any law from fs at arguments having keys items db rows kept gs j k g h = tt
-tells_groups (Err f) any law from fs at arguments having keys items db rows kept gs j k g h =
+-- how many rows it groups over
+pub groups_small : (from : List Chain) (fs : List OnClass) (at : List ℕ) (arguments having keys items : List OnClass) (db : Tables) (rows kept : List Tuple) → joined_chains db from ≡ rows → kept ≡ flat_map (row_kept fs) rows → length kept ≤ 2 ^ 62 → IsSmall (staged_query from fs (groups_by at arguments having) keys items) db
+groups_small from fs at arguments having keys items db rows kept j k h = λ g. subst (λ (l : List Tuple). length l ≤ 2 ^ 62) (k ∙ kept_filtered (keeps fs) rows ∙ ap (filter (keeps fs)) (sym j)) h
+
+pub tells_groups : (f : EvalFault) → AnyOrder → Steady → (from : List Chain) (fs : List OnClass) (at : List ℕ) (arguments : List OnClass) (having keys items : List Expr) (db : Tables) (rows kept : List Tuple) (gs : List (List Tuple)) → joined_chains db from ≡ rows → kept ≡ flat_map (row_kept fs) rows → AreGroups at kept gs
+    → IsTold f (flat_map (class_told (senses [] having) (senses [] keys) (senses [] items)) gs) → IsTold f (faults (staged_query from fs (groups_by at arguments (senses [] having)) (senses [] keys) (senses [] items)) db)
+tells_groups f any law from fs at arguments having keys items db rows kept gs j k g h =
     let hs = senses [] having in
     let ks = senses [] keys in
     let is = senses [] items in

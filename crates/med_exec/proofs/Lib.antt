@@ -12,6 +12,7 @@ pub mod SafeJoins
 pub mod Joining
 pub mod ToldParts
 pub mod Ungrouped
-pub mod PartLemmas
 pub mod Grouped
 pub mod Finished
+pub mod Served
+pub mod TableReads

@@ -55,14 +55,11 @@ pub err_changes : {B T E : Type 0} (meaning : B → BoxState) (P : E → BoxStat
 err_changes meaning P slots i b c (Ok t) at p = tt
 err_changes meaning P slots i b c (Err e) at p = changes_at meaning (P e) slots i b c at p
 
--- what follows of each change follows of the change in the slot
-pub change_to : (P Q : BoxState → BoxState → Type 0) (old : List (Option BoxState)) (slot : ℕ) (new : List (Option BoxState)) → ((s t : BoxState) → P s t → Q s t) → ChangesAt old slot P new → ChangesAt old slot Q new
-change_to P Q old slot new f c = record {
-  before = c.before;
-  after = c.after;
-  there = c.there;
-  now = c.now;
-  others = c.others;
-  slots = c.slots;
-  change = f c.before c.after c.change;
+-- of what a box answers in its slot
+pub ok_at : {B T E : Type 0} (meaning : B → BoxState) (P : T → BoxState → Type 0) (slots : List (Option B)) (i : ℕ) (b : B) (r : Result T E) → slice_get slots i ≡ Some (Some b) → IfOk r (λ t. P t (meaning b)) → IfOk r (λ t. BoxAt (states meaning slots) i (P t))
+ok_at meaning P slots i b (Ok t) at p = record {
+  box = meaning b;
+  there = slice_get-map (option_map meaning) slots i ∙ ap (option_map (option_map meaning)) at;
+  holds = p;
 }
+ok_at meaning P slots i b (Err e) at p = tt

@@ -1,16 +1,13 @@
 -- A query that does not group: its classes are its rows, one by one.
-use Rattle.std.proofs.Common.{IsPermutation, subst, ◌≡◌, ℕ, Bool, true, false, cond, List, [], ◌∷◌, ◌++◌, map, filter, flat_map, refl, sym, ap, ◌∙◌, Option, None, Result, Ok, Err, IfOk, IsSorted, ◌+◌, get_or}
+use Rattle.std.proofs.Common.{IsPermutation, subst, ◌≡◌, ℕ, Bool, true, false, cond, List, [], ◌∷◌, ◌++◌, map, filter, flat_map, refl, sym, ap, ◌∙◌, Option, None, Result, Ok, Err, IfOk}
 use Rattle.std.proofs.lemmas.List.Sorted.{IsPermutation-refl}
-use Rattle.std.specs.declared.cmp.Ordering.{Ordering}
-use Rattle.std.specs.declared.cmp.Ordering.TheVariants.{Equal}
 use Rattle.med_value.specs.Datum.{Tuple}
 use Rattle.tri_expr.specs.declared.expr.Fault.{Fault}
 use Rattle.tri_expr.specs.declared.expr.EvalFault.{EvalFault}
 use Rattle.tri_expr.specs.Outcome.{over}
 use Rattle.tri_expr.specs.Meaning.{OnClass}
 use Rattle.tri_expr.specs.Verdict.{faults_told, fault_list}
-use Rattle.tri_expr.specs.Query.{Query, Chain, Tables, Direction, Output, on_row, keeps, joined_chains, classes, kept_classes, class_faults, faults, output, outputs_all, output_cmp, IsAnswer, has_class, plain, Tells}
-use Rattle.med_exec.specs.Answering.{shown, row_shown, row_told}
+use Rattle.tri_expr.specs.Query.{Query, Chain, Tables, Direction, Output, on_row, keeps, joined_chains, classes, kept_classes, class_faults, faults, output, outputs_all, has_class, Tells}
 use Rattle.med_exec.specs.Staging.{staged_query, Stages, where_told, output_told, row_staged, row_told_all}
 use Rattle.med_exec.proofs.Telling.{tells_more}
 use Rattle.med_exec.proofs.ToldParts.{both_told, quiet_parts, told_parts}
@@ -58,8 +55,7 @@ pub ungrouped_outputs : (from : List Chain) (fs items : List OnClass) (unique : 
     → outputs_all (ungrouped from fs items unique keys towards offset limit) db ≡ map (output (ungrouped from fs items unique keys towards offset limit)) (map alone (filter (keeps fs) (joined_chains db from)))
 ungrouped_outputs from fs items unique keys towards offset limit db = ap (map (output (ungrouped from fs items unique keys towards offset limit))) (ones_kept (filter (keeps fs) (joined_chains db from)))
 
--- SELECT items FROM from WHERE conditions, row by row
-
+-- what a test keeps, one by one
 mapped_one : {X Y : Type 0} (p : X → Bool) (h : X → Y) (x : X) (xs : List X) (b : Bool) → p x ≡ b → flat_map (λ z. cond (p z) (h z ∷ []) []) xs ≡ map h (filter p xs) → flat_map (λ z. cond (p z) (h z ∷ []) []) (x ∷ xs) ≡ map h (filter p (x ∷ xs))
 mapped_one p h x xs true e inv = rw e (ap (λ ys. h x ∷ ys) inv)
 mapped_one p h x xs false e inv = rw e inv
@@ -75,56 +71,6 @@ filtered_one p x xs false e inv = rw e inv
 pub kept_filtered : {X : Type 0} (p : X → Bool) (xs : List X) → flat_map (λ z. cond (p z) (z ∷ []) []) xs ≡ filter p xs
 kept_filtered p [] = refl
 kept_filtered p (x ∷ xs) = filtered_one p x xs (p x) refl (kept_filtered p xs)
-
-pub shown_kept : (fs items : List OnClass) (rows : List Tuple) → flat_map (row_shown fs items) rows ≡ map (shown items) (filter (keeps fs) rows)
-shown_kept fs items rows = kept_mapped (keeps fs) (shown items) rows
-
--- the faults of WHERE, and of the items of the rows that it keeps
-abbrev parts_told : List OnClass → List OnClass → List Tuple → List Fault
-parts_told fs items rows = both_told (λ r. faults_told (on_row fs r)) (λ r. fault_list (on_row items r)) (keeps fs) rows
-
--- the faults of such a query
-items_told : (q : Query) (items : List OnClass) (rows : List Tuple) → ((r : Tuple) → class_faults q (alone r) ≡ fault_list (on_row items r)) → flat_map (class_faults q) (map alone rows) ≡ flat_map (λ r. fault_list (on_row items r)) rows
-items_told q items [] h = refl
-items_told q items (r ∷ rs) h = rw (h r) (ap (λ (gs : List Fault). fault_list (on_row items r) ++ gs) (items_told q items rs h))
-
-plain_faults : (from : List Chain) (fs items : List OnClass) (db : Tables) (rows : List Tuple) → joined_chains db from ≡ rows → faults (plain from fs items) db ≡ parts_told fs items rows
-plain_faults from fs items db rows j =
-    ungrouped_faults from fs items false [] [] 0 None db ∙ rw j (ap (λ (gs : List Fault). flat_map (λ r. faults_told (on_row fs r)) rows ++ gs) (items_told (plain from fs items) items (filter (keeps fs) rows) (λ r. refl)))
-
-plain_shown : (q : Query) (items : List OnClass) (rows : List Tuple) → ((r : Tuple) → (output q (alone r)).1 ≡ shown items r) → map (λ (o : Output). o.1) (map (output q) (map alone rows)) ≡ map (shown items) rows
-plain_shown q items [] h = refl
-plain_shown q items (r ∷ rs) h = rw (h r) (ap (λ (ts : List Tuple). shown items r ∷ ts) (plain_shown q items rs h))
-
-any_order : {X : Type 0} (cmp : X → X → Ordering) → ((x y : X) → cmp x y ≡ Equal) → (xs : List X) → IsSorted cmp xs
-any_order cmp h xs k d low high = rw (h (get_or xs (k + 1) d) (get_or xs k d)) refl
-
-pub plain_answer : (from : List Chain) (fs items : List OnClass) (db : Tables) (rows out : List Tuple) → joined_chains db from ≡ rows → flat_map (row_told fs items) rows ≡ [] → out ≡ flat_map (row_shown fs items) rows → IsAnswer (plain from fs items) db out
-plain_answer from fs items db rows out j quiet is =
-    let q = plain from fs items in
-    let made : outputs_all q db ≡ map (output q) (map alone (filter (keeps fs) rows)) = ungrouped_outputs from fs items false [] [] 0 None db ∙ rw j refl in
-    record {
-      no_fault = plain_faults from fs items db rows j ∙ quiet_parts (λ r. faults_told (on_row fs r)) (λ r. fault_list (on_row items r)) (keeps fs) rows quiet;
-      ordered = outputs_all q db;
-      same = IsPermutation-refl (outputs_all q db);
-      sorted = any_order (output_cmp q) (λ x y. refl) (outputs_all q db);
-      shown = is ∙ shown_kept fs items rows ∙ sym (ap (map (λ (o : Output). o.1)) made ∙ plain_shown q items (filter (keeps fs) rows) (λ r. refl));
-    }
-
-pub plain_tells : {T : Type 0} (r : Result T EvalFault) (from : List Chain) (fs items : List OnClass) (db : Tables) (rows : List Tuple) → joined_chains db from ≡ rows → Tells r (flat_map (row_told fs items) rows) → Tells r (faults (plain from fs items) db)
-plain_tells (Ok x) from fs items db rows j h = tt
-plain_tells (Err f) from fs items db rows j h = tells_more f _ _ (λ c t. rw (plain_faults from fs items db rows j) (told_parts (λ r. faults_told (on_row fs r)) (λ r. fault_list (on_row items r)) (keeps fs) rows c t)) h
-
--- the same of what a call answers
-pub in_order : {T : Type 0} (view : T → List Tuple) (r : Result T EvalFault) (fs items : List OnClass) (rows : List Tuple) → IfOk r (λ out. view out ≡ flat_map (row_shown fs items) rows) → IfOk r (λ out. view out ≡ map (shown items) (filter (keeps fs) rows))
-in_order view (Ok out) fs items rows h = h ∙ shown_kept fs items rows
-in_order view (Err f) fs items rows h = tt
-
-pub answered : {T : Type 0} (view : T → List Tuple) (r : Result T EvalFault) (fs items : List OnClass) (rows : List Tuple)
-    → IfOk r (λ out. view out ≡ flat_map (row_shown fs items) rows) → IfOk r (λ _. flat_map (row_told fs items) rows ≡ [])
-    → IfOk r (λ out. (from : List Chain) (db : Tables) → joined_chains db from ≡ rows → IsAnswer (plain from fs items) db (view out))
-answered view (Ok out) fs items rows h quiet = λ from db j. plain_answer from fs items db rows (view out) j quiet h
-answered view (Err f) fs items rows h quiet = tt
 
 -- the outputs of a query that does not group
 

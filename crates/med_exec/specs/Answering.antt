@@ -1,26 +1,38 @@
--- What a query that neither groups nor orders makes of rows, row by row.
-use Rattle.std.specs.Prelude.{if◌then◌else◌, List, [], ◌∷◌, ◌++◌, map, Option, Some, None}
-use Rattle.med_value.specs.Datum.{Tuple, tuple}
-use Rattle.med_value.specs.declared.value.Row.{Row}
-use Rattle.tri_expr.specs.declared.expr.Fault.{Fault}
-use Rattle.tri_expr.specs.Outcome.{value_of}
-use Rattle.tri_expr.specs.Meaning.{OnClass}
-use Rattle.tri_expr.specs.Verdict.{faults_told, fault_list}
-use Rattle.tri_expr.specs.Query.{on_row, keeps}
+-- Which faults a query shows over tables, that of its size among them.
+use Rattle.std.specs.Prelude.{◌<◌, ◌≤◌, ◌^◌, length, IsSome, Result, Ok, Err}
+use Rattle.med_value.specs.declared.cause.Cause.TheVariants.{OutOfRange, DivisionByZero, TooLarge}
+use Rattle.tri_expr.specs.declared.expr.EvalFault.{EvalFault}
+use Rattle.tri_expr.specs.declared.expr.EvalFault.TheVariants.{OutOfRange as Overflow, ZeroDivisor, NoMemory as LacksMemory}
+use Rattle.tri_expr.specs.Query.{Query, Tables, IsTold, faults, kept}
+use Rattle.fdw_api.specs.declared.interface.Fault.{Fault}
+use Rattle.fdw_api.specs.declared.interface.Fault.TheVariants.{NoMemory, Refused}
+use Rattle.med_exec.specs.declared.outputs.AnswerFault.{AnswerFault}
+use Rattle.med_exec.specs.declared.outputs.AnswerFault.TheVariants.{Evaluation, TooManyRows}
 
--- what a row shows
-abbrev pub shown : List OnClass → Tuple → Tuple
-shown items r = map value_of (on_row items r)
+-- the query groups over more than 2^62 kept rows
+abbrev pub IsTooLarge : Query → Tables → Type 0
+IsTooLarge q db = IsSome q.group × (2 ^ 62 < length (kept q db))
 
--- the same where WHERE keeps it, else nothing
-abbrev pub row_shown : List OnClass → List OnClass → Tuple → List Tuple
-row_shown conditions items r = if keeps conditions r then shown items r ∷ [] else []
+-- it groups over no more
+abbrev pub IsSmall : Query → Tables → Type 0
+IsSmall q db = IsSome q.group → length (kept q db) ≤ 2 ^ 62
 
--- the faults of WHERE on a row, and where it is kept those of its items
-abbrev pub row_told : List OnClass → List OnClass → Tuple → List Fault
-row_told conditions items r = faults_told (on_row conditions r) ++ (if keeps conditions r then fault_list (on_row items r) else [])
+-- a fault that the query shows: one that may be told, or that it is too large
+abbrev pub IsShown : AnswerFault → Query → Tables → Type 0
+IsShown (Evaluation f) q db = IsTold f (faults q db)
+IsShown TooManyRows q db = IsTooLarge q db
 
--- a row or none, as a list of rows
-abbrev pub tuples : Option Row → List Tuple
-tuples None = []
-tuples (Some r) = tuple r ∷ []
+-- a fault that is answered is one that the query shows
+abbrev pub Shows : {T : Type 0} → Result T AnswerFault → Query → Tables → Type 0
+Shows (Ok v) q db = Unit {0}
+Shows (Err f) q db = IsShown f q db
+
+-- a fault by its cause: 22003, 22012 and 54000; want of memory has none
+abbrev pub eval_refusal : EvalFault → Fault
+eval_refusal Overflow = Refused OutOfRange
+eval_refusal ZeroDivisor = Refused DivisionByZero
+eval_refusal LacksMemory = NoMemory
+
+abbrev pub refusal : AnswerFault → Fault
+refusal (Evaluation f) = eval_refusal f
+refusal TooManyRows = Refused TooLarge

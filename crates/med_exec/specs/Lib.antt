@@ -3,7 +3,9 @@ pub mod Reading
 pub mod Scanning
 pub mod Restricted
 pub mod Answering
-pub mod TableAnswers
+pub mod TablesRead
+pub mod Running
+pub mod Rests
 pub mod Select
 pub mod Staging
 pub mod Ordering

@@ -1,103 +1,23 @@
 //! The answer of a query over whole rows.
-ghost use Rattle.std.specs.Prelude.{◌≡◌, ◌∷◌, ◌++◌, [], IfOk, List, map, filter, flat_map, true, IsPermutation};
+ghost use Rattle.std.specs.Prelude.{◌≡◌, IfOk, map, true, IsPermutation};
 ghost use Rattle.med_value.specs.Datum.{tuple};
-ghost use Rattle.tri_expr.specs.Query.{Chain, Tables, IsAnswer, Tells, senses, keeps, joined_chains, plain, faults};
+ghost use Rattle.tri_expr.specs.Query.{IsAnswer};
 ghost use Rattle.std.specs.List.{list_all};
-ghost use Rattle.med_exec.specs.Select.{query_of, tables_of, direction_of, is_safe_chain};
+ghost use Rattle.tri_expr.specs.Select.{query_of, direction_of, is_safe_chain};
+ghost use Rattle.med_exec.specs.Select.{tables_of};
 ghost use Rattle.med_exec.specs.Staging.{output_of};
 ghost use Rattle.med_exec.specs.Finishing.{Finishes, made_unique};
-ghost use Rattle.med_exec.specs.Answering.{shown, row_shown, row_told, tuples};
+ghost use Rattle.med_exec.specs.Answering.{IsSmall, Shows};
 
 use crate::grouping::distinct_outputs;
 use crate::joins::joined_rows;
 use crate::ordering::{shown_page, sort_staged};
-use crate::outputs::query_outputs;
-use crate::select::{Select, SortDirection};
+use crate::outputs::{AnswerFault, query_outputs};
 use crate::staging::Staged;
-use crate::values::values_over;
 use med_value::{NoMemory, Row};
 use std::alloc::Global;
-use std::slice;
 use tri_expr::law::distinct_ignores_order;
-use tri_expr::{EvalFault, Expr, verdict};
-
-// What a row shows, where WHERE keeps it.
-pub(crate) fn shown_row(
-    alloc: Global,
-    conditions: &[Expr],
-    items: &[Expr],
-    row: &Row,
-) -> Result<Option<Row>, EvalFault>
-    ensures shows { IfOk result (λ shown. tuples shown ≡ row_shown (senses [] conditions.now) (senses [] items.now) (tuple row.now)) }
-    ensures no_fault { IfOk result (λ _. row_told (senses [] conditions.now) (senses [] items.now) (tuple row.now) ≡ []) }
-    ensures told { Tells result (row_told (senses [] conditions.now) (senses [] items.now) (tuple row.now)) }
-{
-    match verdict(conditions, row, &[]) {
-        Ok(true) => {}
-        Ok(false) => return Ok(None),
-        Err(fault) => return Err(fault),
-    }
-    match values_over(alloc, items, slice::from_ref(row)) {
-        Ok(values) => Ok(Some(values)),
-        Err(bad) => Err(bad),
-    }
-}
-
-pub(crate) fn push_some(shown: Option<Row>, rows: &mut Vec<Row>) -> Result<(), EvalFault>
-    ensures ok { IfOk result (λ _. map tuple rows.new.items ≡ map tuple rows.old.items ++ tuples shown) }
-    ensures told { Tells result [] }
-{
-    match shown {
-        None => Ok(()),
-        Some(row) => match rows.push(row) {
-            Ok(()) => Ok(()),
-            Err(_) => Err(EvalFault::NoMemory),
-        },
-    }
-}
-
-// What the rows that WHERE keeps show, in their order.
-pub(crate) fn shown_rows(
-    alloc: Global,
-    conditions: &[Expr],
-    items: &[Expr],
-    rows: Vec<Row>,
-) -> Result<Vec<Row>, EvalFault>
-    ensures rows { IfOk result (λ out. map tuple out.items ≡ flat_map (row_shown (senses [] conditions.now) (senses [] items.now)) (map tuple rows.items)) }
-    ensures no_fault { IfOk result (λ _. flat_map (row_told (senses [] conditions.now) (senses [] items.now)) (map tuple rows.items) ≡ []) }
-    ensures told { Tells result (flat_map (row_told (senses [] conditions.now) (senses [] items.now)) (map tuple rows.items)) }
-{
-    let mut out = Vec::new(alloc);
-    for row in rows {
-        match shown_row(alloc, conditions, items, &row) {
-            Ok(shown) => push_some(shown, &mut out)?,
-            Err(fault) => return Err(fault),
-        }
-    }
-    Ok(out)
-}
-
-/// The answer of `SELECT items FROM .. WHERE conditions` over the joined rows of FROM: what the rows that WHERE keeps show, in
-/// their order (SQL standard, <query specification>). The conditions are the conjuncts of WHERE.
-///
-/// Each row is looked at once, and goes as soon as its items are taken.
-///
-/// # Errors
-///
-/// A fault of WHERE on a row, or of an item on a row that WHERE keeps; [`EvalFault::NoMemory`] where memory was asked for
-/// and refused.
-pub fn answer_rows(
-    alloc: Global,
-    conditions: &[Expr],
-    items: &[Expr],
-    rows: Vec<Row>,
-) -> Result<Vec<Row>, EvalFault>
-    ensures in_order { IfOk result (λ out. map tuple out.items ≡ map (shown (senses [] items.now)) (filter (keeps (senses [] conditions.now)) (map tuple rows.items))) }
-    ensures answer { IfOk result (λ out. (from : List Chain) (db : Tables) → joined_chains db from ≡ map tuple rows.items → IsAnswer (plain from (senses [] conditions.now) (senses [] items.now)) db (map tuple out.items)) }
-    ensures told { (from : List Chain) (db : Tables) → joined_chains db from ≡ map tuple rows.items → Tells result (faults (plain from (senses [] conditions.now) (senses [] items.now)) db) }
-{
-    shown_rows(alloc, conditions, items, rows)
-}
+use tri_expr::{EvalFault, Select, SortDirection};
 
 // DISTINCT where it is asked.
 fn unique_outputs(
@@ -141,15 +61,17 @@ fn finished(
 ///
 /// A fault that may be told, whatever LIMIT says: of WHERE on a joined row, of an aggregate's argument on a kept row, of HAVING on a
 /// group, or of an order key or an item of a kept row or kept group. [`EvalFault::NoMemory`] where memory was asked for and refused.
-pub fn answer(alloc: Global, select: &Select, tables: &[Vec<Row>]) -> Result<Vec<Row>, EvalFault>
+/// [`AnswerFault::TooManyRows`] where the query groups over more than 2^62 kept rows, and only there.
+pub fn answer(alloc: Global, select: &Select, tables: &[Vec<Row>]) -> Result<Vec<Row>, AnswerFault>
     requires { list_all is_safe_chain select.now.from.items ≡ true }
     ensures answer { IfOk result (λ out. IsAnswer (query_of select.now) (tables_of tables.now) (map tuple out.items)) }
-    ensures told { Tells result (faults (query_of select.now) (tables_of tables.now)) }
+    ensures small { IfOk result (λ _. IsSmall (query_of select.now) (tables_of tables.now)) }
+    ensures told { Shows result (query_of select.now) (tables_of tables.now) }
 {
     distinct_ignores_order();
     let rows = match joined_rows(alloc, select.from.as_slice(), tables) {
         Ok(rows) => rows,
-        Err(_) => return Err(EvalFault::NoMemory),
+        Err(_) => return Err(AnswerFault::Evaluation(EvalFault::NoMemory)),
     };
     let staged = match query_outputs(
         alloc,
@@ -171,6 +93,6 @@ pub fn answer(alloc: Global, select: &Select, tables: &[Vec<Row>]) -> Result<Vec
         select.limit,
     ) {
         Ok(out) => Ok(out),
-        Err(_) => Err(EvalFault::NoMemory),
+        Err(_) => Err(AnswerFault::Evaluation(EvalFault::NoMemory)),
     }
 }

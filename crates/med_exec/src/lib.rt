@@ -1,31 +1,33 @@
-//! What stands between the interface of boxed wrappers and the engine: boxes in slots, and whole scans of their tables; and the
-//! answer of a query over tables that were read.
+//! Runs of plans: what stands between the interface of boxed wrappers and the engine.
 //!
-//! All calls on boxes are generic over the box. They take the engine's slots, in which a slot whose box was dropped holds `None`, and
-//! change the box of one slot alone.
+//! A box is asked how it would scan a table ([`plan_at`]). A run ([`start`], [`Run`]) reads each table of its plan whole by one scan, one
+//! after another, and answers the query over the rows ([`answer`]): joined rows, WHERE, groups, HAVING, items, DISTINCT, ORDER BY, OFFSET
+//! and LIMIT. Then it gives the answer row by row, and needs no box for it.
+//!
+//! All calls on boxes are generic over the box. They take the engine's slots, in which a slot whose box was dropped holds `None`. What a
+//! box holds stays as it is: a run changes nothing but the counts, and leaves no scan live.
 #![tactic(auto)]
 
-pub mod answering;
 pub mod answers;
 pub mod columns;
 mod filtering;
 mod grouping;
 mod joins;
 mod ordering;
-mod outputs;
+pub mod outputs;
 pub mod restricted;
+pub mod running;
 pub mod scans;
-pub mod select;
 pub mod slots;
 mod staging;
 mod values;
 
-pub use answering::{AnswerFault, answer_table};
-pub use answers::{answer, answer_rows};
+pub use answers::answer;
 pub use columns::project;
+pub use outputs::AnswerFault;
 pub use restricted::{read_restricted, select_restricted};
-pub use scans::{read_table, select_table};
-pub use select::{Grouping, Join, JoinChain, Select, SortDirection, is_safe_from};
+pub use running::{Run, plan_at, start};
+pub use scans::{read_scan, read_table, select_table};
 pub use slots::{bind_at, ledger_at, unbind_at};
 
 #[cfg(test)]

@@ -1,9 +1,10 @@
 //! Whole scans of a table of the box in a slot.
-ghost use Rattle.std.specs.Prelude.{◌≡◌, [], IfOk, IfErr, IsSome, map};
+ghost use Rattle.std.specs.Prelude.{◌≡◌, [], false, IfOk, IfErr, IsSome, map};
 ghost use Rattle.med_value.specs.Datum.{tuple};
 ghost use Rattle.fdw_api.specs.State.{table_of};
 ghost use Rattle.fdw_api.specs.Scan.{spec_of};
 ghost use Rattle.fdw_api.specs.Calls.{CanBegin, IsOpen};
+ghost use Rattle.pushdown.specs.Offered.{IsWhole};
 ghost use Rattle.med_exec.specs.Slots.{states, HasTable, ChangesAt};
 ghost use Rattle.med_exec.specs.Reading.{GivesAll, StopsBy};
 ghost use Rattle.med_exec.specs.Scanning.{ReadsTable, ScansTable, FailsTable, SelectsTable};
@@ -14,6 +15,7 @@ use crate::restricted::shown_at;
 use fdw_api::interface::{Fault, TableNo, Ticket, Wrapper};
 use fdw_api::scan::ScanSpec;
 use med_value::{NoMemory, Row};
+use pushdown::EntryScan;
 use std::alloc::Global;
 
 /// Reads a scan to its end. The scan stays live.
@@ -54,6 +56,23 @@ fn read_box<W: Wrapper>(b: &mut W, alloc: Global, table: TableNo) -> Result<Vec<
     ensures err { IfErr result (λ fault. FailsTable fault (W.meaning b.old) (W.meaning b.new)) }
 {
     scan_box(b, alloc, table, &ScanSpec::plain(alloc))
+}
+
+/// Reads a table of a box whole, by a scan of whole rows for which nothing is offered.
+fn read_box_by<W: Wrapper>(
+    b: &mut W,
+    alloc: Global,
+    table: TableNo,
+    spec: &ScanSpec,
+) -> Result<Vec<Row>, Fault>
+    requires bound { IsSome (table_of (W.meaning b.old) table.number) }
+    requires nothing { spec.now.offered.items ≡ [] }
+    requires answers { spec.now.agreement.answers.items ≡ [] }
+    requires narrow { spec.now.agreement.narrow ≡ false }
+    ensures ok { IfOk result (λ rows. ReadsTable (W.meaning b.old) table.number (map tuple rows.items) (W.meaning b.new)) }
+    ensures err { IfErr result (λ fault. FailsTable fault (W.meaning b.old) (W.meaning b.new)) }
+{
+    scan_box(b, alloc, table, spec)
 }
 
 /// Where a scan shows each of these columns.
@@ -113,6 +132,33 @@ pub fn read_table<W: Wrapper>(
 {
     match &mut slots[slot] {
         Some(b) => read_box(b, alloc, table),
+        None => unreachable!(),
+    }
+}
+
+/// Reads the table of an entry whole, in its box's order, by the scan that the entry's plan holds.
+///
+/// One scan is begun and ended, also where it fails. It offers nothing and takes whole rows, so each row comes once, with all its cells.
+///
+/// # Errors
+///
+/// As [`read_table`].
+///
+/// PostgreSQL: Writing a Foreign Data Wrapper, `BeginForeignScan`, `IterateForeignScan`, `EndForeignScan`.
+pub fn read_scan<W: Wrapper>(
+    slots: &mut Vec<Option<W>>,
+    alloc: Global,
+    scan: &EntryScan,
+) -> Result<Vec<Row>, Fault>
+    requires bound { HasTable (states W.meaning slots.old.items) scan.now.source scan.now.table.number }
+    requires whole { IsWhole scan.now }
+    ensures ok { IfOk result (λ rows. ChangesAt (states W.meaning slots.old.items) scan.now.source
+        (λ old new. ReadsTable old scan.now.table.number (map tuple rows.items) new) (states W.meaning slots.new.items)) }
+    ensures err { IfErr result (λ fault. ChangesAt (states W.meaning slots.old.items) scan.now.source
+        (λ old new. FailsTable fault old new) (states W.meaning slots.new.items)) }
+{
+    match &mut slots[scan.source] {
+        Some(b) => read_box_by(b, alloc, scan.table, &scan.spec),
         None => unreachable!(),
     }
 }

@@ -1,9 +1,16 @@
 //! Queries over the demo tables and the rows that they give.
-use crate::{Grouping, Join, JoinChain, Select, SortDirection, answer, answer_rows, is_safe_from};
+use crate::{AnswerFault, Run, answer, start};
+use fdw_api::interface::{Fault, Wrapper};
+use med_planner::Plan;
 use med_value::{Row, Value, row_text};
 use std::alloc::Global;
 use std::test::Fail;
-use tri_expr::{Comparison, EvalFault, Expr, Operation, SetFunction, Test};
+use tri_expr::{
+    Comparison, EvalFault, Expr, Grouping, Join, JoinChain, Operation, Select, SetFunction,
+    SortDirection, Test, is_safe_from,
+};
+
+type Boxes = Vec<Option<Box<dyn Wrapper>>>;
 
 const PARTS: usize = 0;
 
@@ -138,9 +145,10 @@ fn run(alloc: Global, select: &Select) -> Result<Vec<u8>, Fail> {
     }
     match answer(alloc, select, &tables) {
         Ok(rows) => lines(alloc, &rows),
-        Err(EvalFault::OutOfRange) => Ok(b"22003".to_vec(alloc)?),
-        Err(EvalFault::ZeroDivisor) => Ok(b"22012".to_vec(alloc)?),
-        Err(EvalFault::NoMemory) => Err("no memory".into()),
+        Err(AnswerFault::Evaluation(EvalFault::OutOfRange)) => Ok(b"22003".to_vec(alloc)?),
+        Err(AnswerFault::Evaluation(EvalFault::ZeroDivisor)) => Ok(b"22012".to_vec(alloc)?),
+        Err(AnswerFault::Evaluation(EvalFault::NoMemory)) => Err("no memory".into()),
+        Err(AnswerFault::TooManyRows) => Ok(b"54000".to_vec(alloc)?),
     }
 }
 
@@ -151,19 +159,6 @@ fn unknown_is_out(rt: HostRuntime) -> Result<(), Fail> {
     let unequal = compare(alloc, Comparison::Apart, Expr::Column(2), int(0))?;
     query.conditions.push(unequal)?;
     assert_eq!(rt; run(alloc, &query)?.as_slice(), b"1\n".as_slice());
-    Ok(())
-}
-
-#[test]
-fn answers_row_by_row(rt: HostRuntime) -> Result<(), Fail> {
-    let alloc = rt.alloc();
-    let unequal = compare(alloc, Comparison::Apart, Expr::Column(2), int(0))?;
-    let conditions = one(alloc, unequal)?;
-    let items = columns(alloc, &[1, 0])?;
-    match answer_rows(alloc, &conditions, &items, parts(alloc)?) {
-        Ok(rows) => { assert_eq!(rt; lines(alloc, &rows)?.as_slice(), b"bolt\t1\n".as_slice()) }
-        Err(_) => return Err("a fault".into()),
-    }
     Ok(())
 }
 
@@ -322,5 +317,67 @@ fn distinct_takes_nulls_as_equal(rt: HostRuntime) -> Result<(), Fail> {
     query.distinct = true;
     order_by(alloc, &mut query, 1, false)?;
     assert_eq!(rt; run(alloc, &query)?.as_slice(), b"1\n9\n\\N\n".as_slice());
+    Ok(())
+}
+
+/// The first rows that a run gives, at most so many.
+fn rest_of(alloc: Global, run: &mut Run, slots: &mut Boxes, most: usize) -> Result<Vec<u8>, Fail> {
+    let mut text = Vec::new(alloc);
+    for _row in 0..most {
+        let Ok(Some(row)) = run.next(slots) else {
+            return Ok(text);
+        };
+        row_text(&row, &mut text)?;
+        text.push(b'\n')?;
+    }
+    Ok(text)
+}
+
+/// The rows that a run of a query without tables gives, or the code of its fault.
+fn run_without_tables(alloc: Global, select: Select) -> Result<Vec<u8>, Fail> {
+    if !is_safe_from(select.from.as_slice()) {
+        return Err("a risky ON".into());
+    }
+    let mut slots: Boxes = Vec::new(alloc);
+    let plan = Plan {
+        scans: Vec::new(alloc),
+        select,
+    };
+    let mut run = match start(alloc, plan, &mut slots) {
+        Ok(run) => run,
+        Err(Fault::Refused(cause)) => return Ok(cause.code().as_bytes().to_vec(alloc)?),
+        Err(_) => return Err("no memory".into()),
+    };
+    let text = rest_of(alloc, &mut run, &mut slots, 3);
+    run.close(&mut slots);
+    text
+}
+
+#[test]
+fn runs_a_query_without_tables(rt: HostRuntime) -> Result<(), Fail> {
+    let alloc = rt.alloc();
+    let mut query = select(alloc, PARTS, one(alloc, int(1))?)?;
+    query.from = Vec::new(alloc);
+    assert_eq!(rt;
+        run_without_tables(alloc, query)?.as_slice(),
+        b"1\n".as_slice()
+    );
+    Ok(())
+}
+
+#[test]
+fn run_tells_a_zero_divisor(rt: HostRuntime) -> Result<(), Fail> {
+    let alloc = rt.alloc();
+    let quotient = Expr::Compute(
+        Operation::Divide,
+        Box::new(alloc, int(1))?,
+        Box::new(alloc, int(0))?,
+    );
+    let mut query = select(alloc, PARTS, one(alloc, quotient)?)?;
+    query.from = Vec::new(alloc);
+    assert_eq!(rt;
+        run_without_tables(alloc, query)?.as_slice(),
+        b"22012".as_slice()
+    );
     Ok(())
 }

@@ -14,8 +14,8 @@ use Rattle.med_parser.specs.declared.refusal.Refusal.TheVariants.{TooHigh}
 use Rattle.med_parser.specs.Tree.{Name}
 use Rattle.med_parser.specs.declared.expr.Status.{Status}
 use Rattle.med_parser.specs.declared.expr.Status.TheVariants as statuses
-use Rattle.med_parser.specs.ExprTree.{ExprTree, ExprTrees, num, negative, text, truth, null, column, paren, minus, binary, between, among, like, compare, tested, negation, chain, none, more, perhaps_not, status_terminal, binary_level, joint_level, height, highest, level, Fits, AllFit, is_num, spelling, spellings, IsExpr}
-use Rattle.med_parser.specs.ExprReading.{Reads, Parser, ◌>>=◌, within, Below, additive, multiplicative, is_comma, is_joint, left_more, left_of, others_after, chain_of, column_after, primary_of, after_minus, signed_of, product_of, sum_of, list_after, bounds_after, range_after, range_of, compare_after, compare_of, is_after, is_of, negated_of, conjunction_of, whole_of, below, all_of}
+use Rattle.med_parser.specs.ExprTree.{ExprTree, ExprTrees, num, negative, text, truth, null, column, call_all, call, paren, minus, binary, between, among, like, compare, tested, negation, chain, none, more, perhaps_not, status_terminal, binary_level, joint_level, height, highest, level, Fits, AllFit, is_num, spelling, parts_spelling, spellings, IsExpr}
+use Rattle.med_parser.specs.ExprReading.{Reads, Parser, ◌>>=◌, within, Below, additive, multiplicative, is_comma, is_joint, left_more, left_of, others_after, chain_of, parts_after, call_after, named_after, primary_of, after_minus, signed_of, product_of, sum_of, list_after, bounds_after, range_after, range_of, compare_after, compare_of, is_after, is_of, negated_of, conjunction_of, whole_of, below, all_of}
 
 -- ---- heights
 
@@ -45,6 +45,7 @@ reach_of (t.Binary Mul) = 8
 reach_of (t.Binary Div) = 8
 reach_of (t.Binary Rem) = 8
 reach_of t.Dot = 10
+reach_of t.LeftParen = 10
 reach_of _ = 0
 
 abbrev pub reach : List Terminal → ℕ
@@ -248,17 +249,75 @@ chain_takes j item room takes e rest f l r = chain_base j item room takes e rest
 
 -- ---- the levels below
 
-column_stops : (n : Name) (rest : List Terminal) → reach rest ≤ 9 → column_after n rest ≡ Ok (column None n, rest)
-column_stops n (t.Dot ∷ rest) h = absurd (omega arith)
-column_stops n rest h = refl
+column_stops : (b : Below) (n : Name) (rest : List Terminal) → reach rest ≤ 9 → named_after b n rest ≡ Ok (column None n, rest)
+column_stops b n (t.Dot ∷ rest) h = absurd (omega arith)
+column_stops b n (t.LeftParen ∷ rest) h = absurd (omega arith)
+column_stops b n rest h = refl
+
+-- no expression begins with `*` or a closing parenthesis
+call_skips : (b : Below) (f : Name) (e : ExprTree) (rest : List Terminal) → call_after b f (spelling e ++ rest) ≡ parts_after b f (spelling e ++ rest)
+call_skips b f (num m) rest = refl
+call_skips b f (negative m) rest = refl
+call_skips b f (text x) rest = refl
+call_skips b f (truth v) rest = refl
+call_skips b f null rest = refl
+call_skips b f (column None n) rest = refl
+call_skips b f (column (Some q) n) rest = refl
+call_skips b f (call_all n) rest = refl
+call_skips b f (call n parts) rest = refl
+call_skips b f (paren e) rest = refl
+call_skips b f (minus e) rest = refl
+call_skips b f (binary op x y) rest = rw (append_assoc (spelling x) (t.Binary op ∷ spelling y) rest) (call_skips b f x (t.Binary op ∷ (spelling y ++ rest)))
+call_skips b f (between neg e low high) rest =
+    let after : List Terminal = perhaps_not neg ++ t.Between ∷ (spelling low ++ t.Joined And ∷ spelling high) in
+    rw (append_assoc (spelling e) after rest) (call_skips b f e (after ++ rest))
+call_skips b f (among neg e first others) rest =
+    let after : List Terminal = perhaps_not neg ++ t.In ∷ t.LeftParen ∷ (spelling first ++ (spellings t.Comma others ++ t.RightParen ∷ [])) in
+    rw (append_assoc (spelling e) after rest) (call_skips b f e (after ++ rest))
+call_skips b f (like neg e x) rest =
+    let after : List Terminal = perhaps_not neg ++ t.Like ∷ t.Text x ∷ [] in
+    rw (append_assoc (spelling e) after rest) (call_skips b f e (after ++ rest))
+call_skips b f (compare op x y) rest = rw (append_assoc (spelling x) (t.Compare op ∷ spelling y) rest) (call_skips b f x (t.Compare op ∷ (spelling y ++ rest)))
+call_skips b f (tested neg e s) rest =
+    let after : List Terminal = t.Is ∷ (perhaps_not neg ++ status_terminal s ∷ []) in
+    rw (append_assoc (spelling e) after rest) (call_skips b f e (after ++ rest))
+call_skips b f (negation e) rest = refl
+call_skips b f (chain j first others) rest = rw (append_assoc (spelling first) (spellings (t.Joined j) others) rest) (call_skips b f first (spellings (t.Joined j) others ++ rest))
+
+comma_stops : (item : Parser) (k : ℕ) (rest : List Terminal) → others_after is_comma item k (t.RightParen ∷ rest) ≡ Ok (none, t.RightParen ∷ rest)
+comma_stops item zero rest = refl
+comma_stops item (suc k) rest = refl
+
+parts_take : (b : Below) (r : ℕ) → Completes b r → (n : Name) (first : ExprTree) (others : ExprTrees) (rest : List Terminal) → Fits (call n (more first others)) →
+    parts_after b n (spelling first ++ (spellings t.Comma others ++ t.RightParen ∷ rest)) ≡ within (suc r) (call n (more first others)) rest
+parts_take b r c n first others rest f =
+    let whole : ExprTree = call n (more first others) in
+    let m : Marks is_comma t.Comma 0 (t.RightParen ∷ rest) = record { is = refl; reaches = omega arith; rest_reaches = omega arith; stops = λ i k. comma_stops i k rest } in
+    let after : List Terminal = spellings t.Comma others ++ t.RightParen ∷ rest in
+    rw (c.whole first after f.0 (omega arith) (reach_others t.Comma 0 others (t.RightParen ∷ rest) (omega arith) (omega arith))) (elim (low_or_high (height first) r) [
+      | inr g ↦ (let g2 : suc r < height whole = omega arith in rw (within_high r first after g, within_high (suc r) whole rest g2) refl)
+      | inl g ↦ rw (within_low r first after g) (rw (others_take is_comma b.whole r 0 t.Comma (t.RightParen ∷ rest) m c.whole others (length after) f.2 (omega arith))
+          (elim (low_or_high (highest others) r) [
+            | inr g3 ↦ (let g2 : suc r < height whole = omega arith in rw (all_high r others (t.RightParen ∷ rest) g3, within_high (suc r) whole rest g2) refl)
+            | inl g3 ↦ (let g2 : height whole ≤ suc r = omega arith in rw (all_low r others (t.RightParen ∷ rest) g3, within_low (suc r) whole rest g2) refl)
+          ]))
+    ])
+
+call_takes : (b : Below) (r : ℕ) → Completes b r → (n : Name) (parts : ExprTrees) (rest : List Terminal) → AllFit 0 parts → call_after b n (parts_spelling parts ++ rest) ≡ within (suc r) (call n parts) rest
+call_takes b r c n none rest f = sym (within_low (suc r) (call n none) rest (omega arith))
+call_takes b r c n (more first others) rest f =
+    let same : parts_spelling (more first others) ++ rest ≡ spelling first ++ (spellings t.Comma others ++ t.RightParen ∷ rest) = simp append_assoc in
+    rw same (call_skips b n first (spellings t.Comma others ++ t.RightParen ∷ rest) ∙ parts_take b r c n first others rest f)
 
 primary_takes : (b : Below) (r : ℕ) → Completes b r → Takes 9 (primary_of b) (suc r)
 primary_takes b r c (num m) rest f l h = sym (within_low (suc r) (num m) rest (omega arith))
 primary_takes b r c (text x) rest f l h = sym (within_low (suc r) (text x) rest (omega arith))
 primary_takes b r c (truth v) rest f l h = sym (within_low (suc r) (truth v) rest (omega arith))
 primary_takes b r c null rest f l h = sym (within_low (suc r) null rest (omega arith))
-primary_takes b r c (column None n) rest f l h = column_stops n rest h ∙ sym (within_low (suc r) (column None n) rest (omega arith))
+primary_takes b r c (column None n) rest f l h = column_stops b n rest h ∙ sym (within_low (suc r) (column None n) rest (omega arith))
 primary_takes b r c (column (Some q) n) rest f l h = sym (within_low (suc r) (column (Some q) n) rest (omega arith))
+primary_takes b r c (call_all n) rest f l h = sym (within_low (suc r) (call_all n) rest (omega arith))
+primary_takes b r c (call n parts) rest f l h = call_takes b r c n parts rest f
 primary_takes b r c (paren e) rest f l h =
     rw (append_assoc (spelling e) (t.RightParen ∷ []) rest) (rw (c.whole e (t.RightParen ∷ rest) f (omega arith) (omega arith)) (elim (low_or_high (height e) r) [
       | inr g ↦ (let g2 : suc r < height (paren e) = omega arith in rw (within_high r e (t.RightParen ∷ rest) g, within_high (suc r) (paren e) rest g2) refl)
@@ -275,6 +334,8 @@ minus_skips b (truth v) rest l n = refl
 minus_skips b null rest l n = refl
 minus_skips b (column None m) rest l n = refl
 minus_skips b (column (Some q) m) rest l n = refl
+minus_skips b (call_all f) rest l n = refl
+minus_skips b (call f parts) rest l n = refl
 minus_skips b (paren e) rest l n = refl
 minus_skips b (negative m) rest l n = refl
 minus_skips b (minus e) rest l n = refl
@@ -289,6 +350,8 @@ signed_takes b r c (truth v) rest f l h = primary_takes b r c (truth v) rest f (
 signed_takes b r c null rest f l h = primary_takes b r c null rest f (omega arith) (omega arith)
 signed_takes b r c (column None n) rest f l h = primary_takes b r c (column None n) rest f (omega arith) (omega arith)
 signed_takes b r c (column (Some q) n) rest f l h = primary_takes b r c (column (Some q) n) rest f (omega arith) (omega arith)
+signed_takes b r c (call_all n) rest f l h = primary_takes b r c (call_all n) rest f (omega arith) (omega arith)
+signed_takes b r c (call n parts) rest f l h = primary_takes b r c (call n parts) rest f (omega arith) (omega arith)
 signed_takes b r c (paren e) rest f l h = primary_takes b r c (paren e) rest f (omega arith) (omega arith)
 signed_takes b r c (negative m) rest f l h = sym (within_low (suc r) (negative m) rest (omega arith))
 signed_takes b r c (minus e) rest f l h =
@@ -366,10 +429,6 @@ range_test b r c e whole after rest f l h higher reads =
       | inr g ↦ (let g2 : suc r < height whole = omega arith in rw (within_high (suc r) e after g, within_high (suc r) whole rest g2) refl)
       | inl g ↦ rw (within_low (suc r) e after g) (reads g)
     ])
-
-comma_stops : (item : Parser) (k : ℕ) (rest : List Terminal) → others_after is_comma item k (t.RightParen ∷ rest) ≡ Ok (none, t.RightParen ∷ rest)
-comma_stops item zero rest = refl
-comma_stops item (suc k) rest = refl
 
 list_takes : (b : Below) (r : ℕ) → Completes b r → (neg : Bool) (e first : ExprTree) (others : ExprTrees) (rest : List Terminal) → Fits (among neg e first others) → height e ≤ suc r →
     list_after b (suc r) neg e (spelling first ++ (spellings t.Comma others ++ t.RightParen ∷ rest)) ≡ within (suc r) (among neg e first others) rest
@@ -522,6 +581,8 @@ negated_skips b room (truth v) rest f l = refl
 negated_skips b room null rest f l = refl
 negated_skips b room (column None n) rest f l = refl
 negated_skips b room (column (Some q) n) rest f l = refl
+negated_skips b room (call_all n) rest f l = refl
+negated_skips b room (call n parts) rest f l = refl
 negated_skips b room (paren e) rest f l = refl
 negated_skips b room (negative m) rest f l = refl
 negated_skips b room (minus e) rest f l = refl

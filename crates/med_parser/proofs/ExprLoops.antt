@@ -2,18 +2,20 @@
 use Rattle.std.proofs.Common.{◌≡◌, ℕ, zero, suc, ◌≤◌, ◌<◌, Bool, true, false, cond, List, [], ◌∷◌, ◌++◌, length, refl, sym, ◌∙◌, ap, subst, arith, max, length-append}
 use Rattle.std.specs.Prelude.{nat_le, Result, Ok, Err, Option, Some, None}
 use Rattle.med_parser.specs.declared.expr.BinaryOp.{BinaryOp}
+use Rattle.med_parser.specs.declared.expr.BinaryOp.TheVariants.{Sub}
 use Rattle.med_parser.specs.declared.expr.Joint.{Joint}
 use Rattle.med_parser.specs.declared.expr.Joint.TheVariants.{Or, And}
 use Rattle.med_parser.specs.Terminal.{Terminal}
+use Rattle.med_parser.specs.Terminal as t
 use Rattle.med_parser.specs.declared.refusal.Refusal.{Refusal}
 use Rattle.med_parser.specs.declared.refusal.Refusal.TheVariants.{TooHigh}
 use Rattle.med_parser.specs.ExprTree.{ExprTree, ExprTrees, binary, chain, none, more, height, highest, level, spelling}
-use Rattle.med_parser.specs.ExprReading.{Read, Reads, Parser, ◌>>=◌, within, left_more, left_of, others_after, chained, signed_of, negated_of, below}
+use Rattle.med_parser.specs.ExprReading.{Read, Reads, Parser, ◌>>=◌, within, Below, is_comma, left_more, left_of, others_after, chained, primary_of, after_minus, signed_of, negated_of, below}
 use Rattle.med_parser.specs.declared.symbols.Separator.{Separator}
 use Rattle.med_parser.specs.declared.symbols.Separator.TheVariants.{Between, Comma}
 use Rattle.med_parser.specs.declared.symbols.Level.{Level}
 use Rattle.med_parser.specs.declared.symbols.Level.TheVariants.{Sum, Product}
-use Rattle.med_parser.specs.ExprSteps.{is_mark, behind_of, op_of, operator_of, item_of, joined_of, operand_of}
+use Rattle.med_parser.specs.ExprSteps.{is_mark, behind_of, behind_minus_of, op_of, operator_of, item_of, joined_of, operand_of}
 use Rattle.med_parser.specs.ExprView.{expr_tree, expr_trees}
 use Rattle.med_parser.specs.declared.expr.Expr.{Expr}
 use Rattle.std.specs.Prelude.{option_map, ◌-◌}
@@ -22,7 +24,7 @@ use Rattle.med_parser.specs.declared.expr_reader.Items.{Items}
 use Rattle.med_parser.specs.declared.refusal.ReadFault.{ReadFault}
 use Rattle.med_parser.specs.declared.refusal.ReadFault.TheVariants as errors
 use Rattle.med_parser.specs.declared.expr_reader.Found as was
-use Rattle.med_parser.proofs.ExprSound.{Found, sounds, ok_same, chain_sound, negated_sound, product_sound, signed_sound}
+use Rattle.med_parser.proofs.ExprSound.{Found, FoundAll, sounds, ok_same, is_comma_true, others_sound, chain_sound, negated_sound, product_sound, signed_sound}
 
 -- ---- what is left is no longer
 
@@ -320,3 +322,17 @@ chain_failed level room tokens e h rest op after (errors.Refused f) r loop o a i
 pub chain_made_of : (j : Joint) (room : ℕ) (first : ExprTree) (es : List Expr) (ts : List Terminal) (x : ExprTree) (r : Result was.Found ReadFault) → 0 < length es → x ≡ chain j first (expr_trees es) → Answers room r (within room x ts) →
     Answers room r (chained j room first (expr_trees es) ts)
 chain_made_of j room first es ts x r some is h = subst (λ (y : Read). Answers room r y) (ap (λ y. within room y ts) is ∙ sym (chained_many j room first es ts some)) h
+
+-- the parts of a call are lower than it
+pub parts_low : (room h : ℕ) (us : List Terminal) (others : ExprTrees) (vs : List Terminal) → 1 ≤ room → others_after is_comma (below (room - 1)).whole (length us) us ≡ Ok (others, vs) → h ≡ highest others → h < room
+parts_low room h us others vs some read is =
+    let g : FoundAll 0 (room - 1) t.Comma us others vs = others_sound is_comma t.Comma (below (room - 1)).whole (room - 1) 0 (length us) is_comma_true (sounds (room - 1)).whole us others vs read in
+    omega (arith, g.low)
+
+pub signed_plain : (b : Below) (ts : List Terminal) → behind_minus_of ts ≡ None → signed_of b ts ≡ primary_of b ts
+signed_plain b (t.Binary Sub ∷ ts) h = absurd (cc)
+signed_plain b ts h = refl
+
+pub signed_minus : (b : Below) (ts us : List Terminal) → behind_minus_of ts ≡ Some us → signed_of b ts ≡ after_minus b us
+signed_minus b (t.Binary Sub ∷ ts) us h = ap (after_minus b) (some_same ts us h)
+signed_minus b ts us h = absurd (cc)

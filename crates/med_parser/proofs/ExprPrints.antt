@@ -23,7 +23,7 @@ use Rattle.med_parser.specs.Shapes.{shapes}
 use Rattle.med_parser.specs.Words.{is_reserved}
 use Rattle.med_parser.specs.Terminal.{Terminal, terminal_of, mark_terminal, plain_word, word_terminal, IsTerminal, AreTerminals}
 use Rattle.med_parser.specs.Terminal as t
-use Rattle.med_parser.specs.ExprTree.{ExprTree, ExprTrees, num, negative, text, truth, null, column, paren, minus, binary, between, among, like, compare, tested, negation, chain, none, more, perhaps_not, status_terminal, spelling, spellings}
+use Rattle.med_parser.specs.ExprTree.{ExprTree, ExprTrees, num, negative, text, truth, null, column, call_all, call, paren, minus, binary, between, among, like, compare, tested, negation, chain, none, more, perhaps_not, status_terminal, spelling, parts_spelling, spellings}
 use Rattle.med_parser.specs.ExprGrammar.{HasExpr, in_range, are_in_range}
 use Rattle.med_parser.specs.ExprPrinting.{binary_mark, compare_mark, shape_for, shapes_for, printed_expr, Wrote}
 
@@ -85,6 +85,8 @@ begins (truth b) = (t.Truth b, [], refl)
 begins null = (t.Null, [], refl)
 begins (column None n) = (t.Name n, [], refl)
 begins (column (Some q) n) = (t.Name q, t.Dot ∷ t.Name n ∷ [], refl)
+begins (call_all f) = (t.Name f, t.LeftParen ∷ t.Binary Mul ∷ t.RightParen ∷ [], refl)
+begins (call f parts) = (t.Name f, t.LeftParen ∷ parts_spelling parts, refl)
 begins (paren e) = (t.LeftParen, spelling e ++ t.RightParen ∷ [], refl)
 begins (minus e) = (t.Binary Sub, spelling e, refl)
 begins (binary op a b) = begins_append (spelling a) _ (begins a)
@@ -146,6 +148,8 @@ mutual
   writable null rest r g = (tt, g)
   writable (column None n) rest r g = (tt, g)
   writable (column (Some q) n) rest r g = (tt, (tt, (tt, g)))
+  writable (call_all f) rest r g = (tt, (tt, (tt, (tt, g))))
+  writable (call f parts) rest r g = (tt, (tt, parts_writable parts rest r g))
   writable (paren e) rest r g = rw (append_assoc (spelling e) (t.RightParen ∷ []) rest) (tt, writable e (t.RightParen ∷ rest) r (tt, g))
   writable (minus e) rest r g = (tt, writable e rest r g)
   writable (binary op a b) rest r g = rw (append_assoc (spelling a) (t.Binary op ∷ spelling b) rest) (writable a (t.Binary op ∷ (spelling b ++ rest)) (both_left (in_range a) (in_range b) r) (tt, writable b rest (both_right (in_range a) (in_range b) r) g))
@@ -170,6 +174,12 @@ mutual
       rw same (writable e (t.Is ∷ (perhaps_not neg ++ status_terminal s ∷ rest)) r (tt, not_writable neg (status_terminal s ∷ rest) (status_writable s, g)))
   writable (negation e) rest r g = (tt, writable e rest r g)
   writable (chain j first others) rest r g = rw (append_assoc (spelling first) (spellings (t.Joined j) others) rest) (writable first (spellings (t.Joined j) others ++ rest) (both_left (in_range first) (are_in_range others) r) (joints_writable j others rest (both_right (in_range first) (are_in_range others) r) g))
+
+  parts_writable : (es : ExprTrees) (rest : List Terminal) → are_in_range es ≡ true → AreWritable rest → AreWritable (parts_spelling es ++ rest)
+  parts_writable none rest r g = (tt, g)
+  parts_writable (more e es) rest r g =
+      let same : parts_spelling (more e es) ++ rest ≡ spelling e ++ (spellings t.Comma es ++ t.RightParen ∷ rest) = simp append_assoc in
+      rw same (writable e (spellings t.Comma es ++ t.RightParen ∷ rest) (both_left (in_range e) (are_in_range es) r) (commas_writable es (t.RightParen ∷ rest) (both_right (in_range e) (are_in_range es) r) (tt, g)))
 
   commas_writable : (es : ExprTrees) (rest : List Terminal) → are_in_range es ≡ true → AreWritable rest → AreWritable (spellings t.Comma es ++ rest)
   commas_writable none rest r g = g

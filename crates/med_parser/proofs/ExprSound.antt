@@ -13,8 +13,8 @@ use Rattle.med_parser.specs.declared.refusal.Refusal.TheVariants.{Syntax, TooHig
 use Rattle.med_parser.specs.Tree.{Name}
 use Rattle.med_parser.specs.declared.expr.Status.{Status}
 use Rattle.med_parser.specs.declared.expr.Status.TheVariants as statuses
-use Rattle.med_parser.specs.ExprTree.{ExprTree, ExprTrees, num, negative, text, truth, null, column, paren, minus, binary, between, among, like, compare, tested, negation, chain, none, more, perhaps_not, status_terminal, binary_level, joint_level, height, highest, level, Fits, AllFit, is_num, spelling, spellings, IsExpr}
-use Rattle.med_parser.specs.ExprReading.{Read, Reads, Parser, ◌>>=◌, within, Below, choose, additive, multiplicative, is_comma, is_joint, status_of, left_more, left_of, others_after, chained, chain_of, closed, column_after, primary_of, after_minus, signed_of, product_of, sum_of, closed_in, list_after, high_after, bounds_after, test_after, range_after, range_of, compare_after, compare_of, status_after, is_after, is_of, negated_of, conjunction_of, whole_of, below, ended, all_of}
+use Rattle.med_parser.specs.ExprTree.{ExprTree, ExprTrees, num, negative, text, truth, null, column, call_all, call, paren, minus, binary, between, among, like, compare, tested, negation, chain, none, more, perhaps_not, status_terminal, binary_level, joint_level, height, highest, level, Fits, AllFit, is_num, spelling, spellings, IsExpr}
+use Rattle.med_parser.specs.ExprReading.{Read, Reads, Parser, ◌>>=◌, within, Below, choose, additive, multiplicative, is_comma, is_joint, status_of, left_more, left_of, others_after, chained, chain_of, closed, column_after, closed_call_all, closed_call, parts_after, call_after, named_after, primary_of, after_minus, signed_of, product_of, sum_of, closed_in, list_after, high_after, bounds_after, test_after, range_after, range_of, compare_after, compare_of, status_after, is_after, is_of, negated_of, conjunction_of, whole_of, below, ended, all_of}
 
 pub bind_ok : {A B : Type 0} (r : Result A Refusal) (f : A → Result B Refusal) (y : B) → (r >>= f) ≡ Ok y → (x : A) × (r ≡ Ok x) × (f x ≡ Ok y)
 bind_ok (Ok x) f y h = (x, refl, h)
@@ -103,7 +103,7 @@ returned_all n room mark ts ds es us rest h f =
     let p : (ds, us) ≡ (es, rest) = ok_same (ds, us) (es, rest) h in
     subst (λ (x : ExprTrees × List Terminal). FoundAll n room mark ts x.0 x.1) p f
 
-others_sound : (is_mark : Terminal → Bool) (mark : Terminal) (item : Parser) (room n k : ℕ) → ((u : Terminal) → is_mark u ≡ true → u ≡ mark) → Sound n item room → (ts : List Terminal) (es : ExprTrees) (rest : List Terminal) → others_after is_mark item k ts ≡ Ok (es, rest) → FoundAll n room mark ts es rest
+pub others_sound : (is_mark : Terminal → Bool) (mark : Terminal) (item : Parser) (room n k : ℕ) → ((u : Terminal) → is_mark u ≡ true → u ≡ mark) → Sound n item room → (ts : List Terminal) (es : ExprTrees) (rest : List Terminal) → others_after is_mark item k ts ≡ Ok (es, rest) → FoundAll n room mark ts es rest
 others_sound is_mark mark item room n zero m sound ts es rest h = returned_all n room mark ts none es ts rest h (record { fits = tt; low = omega arith; spelled = refl })
 others_sound is_mark mark item room n (suc k) m sound [] es rest h = returned_all n room mark [] none es [] rest h (record { fits = tt; low = omega arith; spelled = refl })
 others_sound is_mark mark item room n (suc k) m sound (u ∷ ts) es rest h =
@@ -167,12 +167,52 @@ column_sound r n (t.Dot ∷ t.Name m ∷ ts) e rest h = returned 9 (suc r) (t.Na
 column_sound r n (t.Dot ∷ ts) e rest h = absurd (cc)
 column_sound r n ts e rest h = returned 9 (suc r) (t.Name n ∷ ts) (column None n) e ts rest h (record { fits = tt; high = omega arith; low = omega arith; spelled = refl })
 
+call_all_sound : (r : ℕ) (n : Name) (ts : List Terminal) (e : ExprTree) (rest : List Terminal) → closed_call_all n ts ≡ Ok (e, rest) → Found 9 (suc r) (t.Name n ∷ t.LeftParen ∷ t.Binary Mul ∷ ts) e rest
+call_all_sound r n (t.RightParen ∷ ts) e rest h = returned 9 (suc r) (t.Name n ∷ t.LeftParen ∷ t.Binary Mul ∷ t.RightParen ∷ ts) (call_all n) e ts rest h (record { fits = tt; high = omega arith; low = omega arith; spelled = refl })
+call_all_sound r n ts e rest h = absurd (cc)
+
+-- `n ( first others )`, as it was read
+call_spelled : (us vs ws rest : List Terminal) (n : Name) (first : ExprTree) (others : ExprTrees) → us ≡ spelling first ++ vs → vs ≡ spellings t.Comma others ++ ws → ws ≡ t.RightParen ∷ rest → t.Name n ∷ t.LeftParen ∷ us ≡ spelling (call n (more first others)) ++ rest
+call_spelled us vs ws rest n first others p q i =
+    let same : spelling (call n (more first others)) ++ rest ≡ t.Name n ∷ t.LeftParen ∷ (spelling first ++ (spellings t.Comma others ++ t.RightParen ∷ rest)) = simp append_assoc in
+    cc
+
+closed_call_sound : (r : ℕ) (us vs : List Terminal) (n : Name) (first : ExprTree) (others : ExprTrees) (ws : List Terminal) (e : ExprTree) (rest : List Terminal) → Found 0 r us first vs → FoundAll 0 r t.Comma vs others ws → closed_call n first others ws ≡ Ok (e, rest) → Found 9 (suc r) (t.Name n ∷ t.LeftParen ∷ us) e rest
+closed_call_sound r us vs n first others (t.RightParen ∷ ws) e rest f g h =
+    returned 9 (suc r) (t.Name n ∷ t.LeftParen ∷ us) (call n (more first others)) e ws rest h (record {
+      fits = (f.fits, f.high, g.fits);
+      high = omega arith;
+      low = omega (arith, f.low, g.low);
+      spelled = call_spelled us vs (t.RightParen ∷ ws) ws n first others f.spelled g.spelled refl;
+    })
+closed_call_sound r us vs n first others ws e rest f g h = absurd (cc)
+
+pub is_comma_true : (u : Terminal) → is_comma u ≡ true → u ≡ t.Comma
+is_comma_true t.Comma h = refl
+is_comma_true u h = cc
+
+parts_sound : (b : Below) (r : ℕ) → Sounds b r → (n : Name) (us : List Terminal) (e : ExprTree) (rest : List Terminal) → parts_after b n us ≡ Ok (e, rest) → Found 9 (suc r) (t.Name n ∷ t.LeftParen ∷ us) e rest
+parts_sound b r s n us e rest h =
+    let x = bind_ok (b.whole us) (λ x. others_after is_comma b.whole (length x.1) x.1 >>= λ y. closed_call n x.0 y.0 y.1) (e, rest) h in
+    let y = bind_ok (others_after is_comma b.whole (length x.0.1) x.0.1) (λ y. closed_call n x.0.0 y.0 y.1) (e, rest) x.2 in
+    closed_call_sound r us x.0.1 n x.0.0 y.0.0 y.0.1 e rest (s.whole us x.0.0 x.0.1 x.1)
+    (others_sound is_comma t.Comma b.whole r 0 (length x.0.1) is_comma_true s.whole x.0.1 y.0.0 y.0.1 y.1) y.2
+
+call_sound : (b : Below) (r : ℕ) → Sounds b r → (n : Name) (ts : List Terminal) (e : ExprTree) (rest : List Terminal) → call_after b n ts ≡ Ok (e, rest) → Found 9 (suc r) (t.Name n ∷ t.LeftParen ∷ ts) e rest
+call_sound b r s n (t.Binary Mul ∷ ts) e rest h = call_all_sound r n ts e rest h
+call_sound b r s n (t.RightParen ∷ ts) e rest h = returned 9 (suc r) (t.Name n ∷ t.LeftParen ∷ t.RightParen ∷ ts) (call n none) e ts rest h (record { fits = tt; high = omega arith; low = omega arith; spelled = refl })
+call_sound b r s n ts e rest h = parts_sound b r s n ts e rest h
+
+named_sound : (b : Below) (r : ℕ) → Sounds b r → (n : Name) (ts : List Terminal) (e : ExprTree) (rest : List Terminal) → named_after b n ts ≡ Ok (e, rest) → Found 9 (suc r) (t.Name n ∷ ts) e rest
+named_sound b r s n (t.LeftParen ∷ ts) e rest h = call_sound b r s n ts e rest h
+named_sound b r s n ts e rest h = column_sound r n ts e rest h
+
 primary_sound : (b : Below) (r : ℕ) → Sounds b r → Sound 9 (primary_of b) (suc r)
 primary_sound b r s (t.Num n ∷ ts) e rest h = returned 9 (suc r) (t.Num n ∷ ts) (num n) e ts rest h (record { fits = tt; high = omega arith; low = omega arith; spelled = refl })
 primary_sound b r s (t.Text x ∷ ts) e rest h = returned 9 (suc r) (t.Text x ∷ ts) (text x) e ts rest h (record { fits = tt; high = omega arith; low = omega arith; spelled = refl })
 primary_sound b r s (t.Truth v ∷ ts) e rest h = returned 9 (suc r) (t.Truth v ∷ ts) (truth v) e ts rest h (record { fits = tt; high = omega arith; low = omega arith; spelled = refl })
 primary_sound b r s (t.Null ∷ ts) e rest h = returned 9 (suc r) (t.Null ∷ ts) null e ts rest h (record { fits = tt; high = omega arith; low = omega arith; spelled = refl })
-primary_sound b r s (t.Name n ∷ ts) e rest h = column_sound r n ts e rest h
+primary_sound b r s (t.Name n ∷ ts) e rest h = named_sound b r s n ts e rest h
 primary_sound b r s (t.LeftParen ∷ ts) e rest h =
     let x = bind_ok (b.whole ts) (λ x. closed x.0 x.1) (e, rest) h in
     closed_sound r ts x.0.1 x.0.0 e rest (s.whole ts x.0.0 x.0.1 x.1) x.2
@@ -252,10 +292,6 @@ closed_in_sound r ts us vs neg d first others (t.RightParen ∷ ws) e rest f g k
       spelled = among_spelled ts vs us (t.RightParen ∷ ws) ws neg d first others f.spelled g.spelled k.spelled refl;
     })
 closed_in_sound r ts us vs neg d first others ws e rest f g k h = absurd (cc)
-
-is_comma_true : (u : Terminal) → is_comma u ≡ true → u ≡ t.Comma
-is_comma_true t.Comma h = refl
-is_comma_true u h = cc
 
 list_sound : (b : Below) (r : ℕ) → Sounds b r → (ts us : List Terminal) (neg : Bool) (d e : ExprTree) (rest : List Terminal) → Found 6 (suc r) ts d (perhaps_not neg ++ t.In ∷ t.LeftParen ∷ us) → list_after b (suc r) neg d us ≡ Ok (e, rest) → Found 5 (suc r) ts e rest
 list_sound b r s ts us neg d e rest f h =

@@ -11,7 +11,7 @@ use Rattle.med_parser.specs.declared.symbols.Symbol.{Symbol}
 use Rattle.med_parser.specs.Terminal.{Terminal, terminal_of, word_terminal, IsTerminal, AreTerminals}
 use Rattle.med_parser.specs.Terminal as t
 use Rattle.med_parser.specs.ExprTerminals.{follows, terminal_at, terminals_at}
-use Rattle.med_parser.specs.ExprTree.{ExprTree, ExprTrees, num, negative, text, truth, null, column, paren, minus, binary, between, among, like, compare, tested, negation, chain, none, more, perhaps_not, spelling, spellings, IsExpr}
+use Rattle.med_parser.specs.ExprTree.{ExprTree, ExprTrees, num, negative, text, truth, null, column, call_all, call, paren, minus, binary, between, among, like, compare, tested, negation, chain, none, more, perhaps_not, spelling, parts_spelling, spellings, IsExpr}
 use Rattle.med_parser.specs.ExprGrammar.{IsExpression}
 use Rattle.med_parser.specs.Words.{is_reserved}
 use Rattle.med_parser.specs.ExprView.{terminal_of_symbol, terminals_of}
@@ -89,6 +89,8 @@ mutual
   good null rest g = (tt, g)
   good (column None n) rest g = (tt, g)
   good (column (Some q) n) rest g = (tt, (tt, (tt, g)))
+  good (call_all f) rest g = (tt, (tt, (tt, (tt, g))))
+  good (call f parts) rest g = (tt, (tt, parts_good parts rest g))
   good (paren e) rest g = rw (append_assoc (spelling e) (t.RightParen ∷ []) rest) (tt, good e (t.RightParen ∷ rest) (tt, g))
   good (minus e) rest g = (tt, good e rest g)
   good (binary op a b) rest g = rw (append_assoc (spelling a) (t.Binary op ∷ spelling b) rest) (good a (t.Binary op ∷ (spelling b ++ rest)) (tt, good b rest g))
@@ -114,6 +116,12 @@ mutual
   good (tested false e statuses.Unknown) rest g = rw (append_assoc (spelling e) (t.Is ∷ t.Unknown ∷ []) rest) (good e (t.Is ∷ t.Unknown ∷ rest) (tt, (tt, g)))
   good (negation e) rest g = (tt, good e rest g)
   good (chain j first others) rest g = rw (append_assoc (spelling first) (spellings (t.Joined j) others) rest) (good first (spellings (t.Joined j) others ++ rest) (joints_good j others rest g))
+
+  parts_good : (es : ExprTrees) (rest : List Terminal) → Good false rest → Good false (parts_spelling es ++ rest)
+  parts_good none rest g = (tt, g)
+  parts_good (more e es) rest g =
+      let same : parts_spelling (more e es) ++ rest ≡ spelling e ++ (spellings t.Comma es ++ t.RightParen ∷ rest) = simp append_assoc in
+      rw same (good e (spellings t.Comma es ++ t.RightParen ∷ rest) (commas_good es (t.RightParen ∷ rest) (tt, g)))
 
   commas_good : (es : ExprTrees) (rest : List Terminal) → Good false rest → Good false (spellings t.Comma es ++ rest)
   commas_good none rest g = g

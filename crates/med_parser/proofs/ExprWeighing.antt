@@ -16,7 +16,7 @@ use Rattle.med_parser.specs.Words.{is_reserved}
 use Rattle.med_parser.specs.Terminal.{Terminal, mark_terminal, plain_word, word_terminal}
 use Rattle.med_parser.specs.Terminal as t
 use Rattle.med_parser.specs.ExprTerminals.{follows, terminal_at, terminals_at}
-use Rattle.med_parser.specs.ExprTree.{ExprTree, ExprTrees, paren, minus, binary, between, among, like, compare, tested, negation, chain, none, more, perhaps_not, status_terminal, joint_level, height, highest, level, Fits, AllFit, spelling, spellings, IsExpr}
+use Rattle.med_parser.specs.ExprTree.{ExprTree, ExprTrees, call, paren, minus, binary, between, among, like, compare, tested, negation, chain, none, more, perhaps_not, status_terminal, joint_level, height, highest, level, Fits, AllFit, spelling, parts_spelling, spellings, IsExpr}
 use Rattle.med_parser.specs.ExprReading.{all_of}
 use Rattle.med_parser.specs.ExprWeight.{is_heavy, weight, again, judged, bounded_of}
 use Rattle.med_parser.proofs.ExprComplete.{binary_high, joint_low, low_or_high, reads_all, refuses_high}
@@ -44,6 +44,9 @@ raise h w m n b l = omega arith
 
 mutual
   pub bound : (e : ExprTree) → Fits e → height e ≤ 7 * weight (spelling e) + suc (6 - level e)
+  bound (call n parts) f =
+      let b = parts_bound parts f in
+      omega arith
   bound (paren e) f =
       let b = raise (height e) (weight (spelling e)) 0 (level e) (bound e f) (omega arith) in
       omega (arith, weight_append (spelling e) (t.RightParen ∷ []))
@@ -85,6 +88,13 @@ mutual
       let b = all_bound (t.Joined j) (suc (joint_level j)) others f.2 in
       omega (arith, weight_append (spelling first) (spellings (t.Joined j) others), joint_low j)
   bound e f = omega arith
+
+  parts_bound : (es : ExprTrees) → AllFit 0 es → highest es ≤ 7 * weight (parts_spelling es) + 7
+  parts_bound none f = omega arith
+  parts_bound (more e es) f =
+      let a = raise (height e) (weight (spelling e)) 0 (level e) (bound e f.0) (omega arith) in
+      let b = all_bound t.Comma 0 es f.2 in
+      omega (arith, weight_append (spelling e) (spellings t.Comma es ++ t.RightParen ∷ []), weight_append (spellings t.Comma es) (t.RightParen ∷ []))
 
   all_bound : (sep : Terminal) (n : ℕ) (es : ExprTrees) → AllFit n es → highest es ≤ 7 * weight (spellings sep es) + suc (6 - n)
   all_bound sep n none f = omega arith
@@ -204,7 +214,7 @@ heavy_word w =
     (light_cond (bytes_eq w (codes "like")) t.Like _ refl (light_cond (bytes_eq w (codes "null")) t.Null _ refl (light_cond (bytes_eq w (codes "true")) (t.Truth true) _ refl
     (light_cond (bytes_eq w (codes "false")) (t.Truth false) _ refl (light_plain (is_reserved w) w))))))))))
 
-heavy_at : (b : Bool) (s : Shape) → is_heavy (terminal_at b s) ≡ deepens s
+pub heavy_at : (b : Bool) (s : Shape) → is_heavy (terminal_at b s) ≡ deepens s
 heavy_at true (word w) = heavy_or_not (bytes_eq w (codes "unknown")) (bytes_eq w (codes "not")) t.Unknown (word_terminal w) (is_not_not w (codes "unknown") refl) refl (heavy_word w)
 heavy_at false (word w) = heavy_word w
 heavy_at b (quoted q) = refl
@@ -212,11 +222,11 @@ heavy_at b (literal x) = refl
 heavy_at b (number d) = refl
 heavy_at b (mark m) = heavy_mark m
 
-abbrev deep : List Shape → ℕ
+abbrev pub deep : List Shape → ℕ
 deep [] = 0
 deep (s ∷ ss) = cond (deepens s) (1 + deep ss) (deep ss)
 
-weight_step : (u v : Bool) (m n : ℕ) → u ≡ v → m ≡ n → cond u (suc m) m ≡ cond v (1 + n) n
+pub weight_step : (u v : Bool) (m n : ℕ) → u ≡ v → m ≡ n → cond u (suc m) m ≡ cond v (1 + n) n
 weight_step true true m n p q = omega arith
 weight_step false false m n p q = q
 weight_step true false m n p q = absurd (cc)

@@ -14,4 +14,5 @@ pub mod QueryWeighing
 pub mod QueryTerminals
 pub mod QueryParsed
 pub mod QueryLoop
+pub mod QuerySteps
 pub mod QueryPrints

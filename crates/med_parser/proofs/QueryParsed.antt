@@ -14,7 +14,9 @@ use Rattle.med_parser.specs.declared.statement.Statement.{Statement}
 use Rattle.med_parser.specs.declared.refusal.ReadFault.{ReadFault}
 use Rattle.med_parser.specs.declared.refusal.ReadFault.TheVariants as faults
 use Rattle.med_parser.specs.declared.refusal.Refusal.TheVariants.{Syntax, TooHigh}
-use Rattle.med_parser.specs.ExprTerminals.{terminals_at, AreReadable}
+use Rattle.med_parser.specs.ExprTerminals.{AreReadable}
+use Rattle.med_parser.specs.declared.query_symbols.Place.TheVariants.{Before}
+use Rattle.med_parser.specs.QueryTerminals.{words_at}
 use Rattle.med_parser.specs.ExprWeight.{weight}
 use Rattle.med_parser.specs.ExprAnswers.{Gives, cause_of_read}
 use Rattle.med_parser.specs.QueryTree.{StatementTree, statement_height}
@@ -23,30 +25,29 @@ use Rattle.med_parser.specs.QueryCauses.{statement_in_range, TokenCauses, Syntax
 use Rattle.med_parser.specs.QueryReading.{bounded_line}
 use Rattle.med_parser.specs.QueryView.{statement_tree}
 use Rattle.med_parser.proofs.TokenShapes.{OneList, shapes_are}
-use Rattle.med_parser.proofs.ExprWeighing.{weight_is}
 use Rattle.med_parser.proofs.ExprParsed.{small_at}
 use Rattle.med_parser.proofs.QueryComplete.{one_line}
 use Rattle.med_parser.proofs.QueryTerminals.{to_terminals, of_terminals}
-use Rattle.med_parser.proofs.QueryWeighing.{bounded_sound, bounded_out, bounded_told}
+use Rattle.med_parser.proofs.QueryWeighing.{words_weigh, bounded_sound, bounded_out, bounded_told}
 
 -- ---- causes of tokens
 
-deep_told : (ss : List Shape) → ((s : StatementTree) × IsLine (terminals_at false ss) s × (64 < statement_height s)) ⊎ (((s : StatementTree) → IsLine (terminals_at false ss) s → ⊥) × (64 < weight (terminals_at false ss))) → TokenCauses ss causes.TooDeep
+deep_told : (ss : List Shape) → ((s : StatementTree) × IsLine (words_at (Before false) false ss) s × (64 < statement_height s)) ⊎ (((s : StatementTree) → IsLine (words_at (Before false) false ss) s → ⊥) × (64 < weight (words_at (Before false) false ss))) → TokenCauses ss causes.TooDeep
 deep_told ss (inl h) = inl (h.0, of_terminals ss h.0 h.1, h.2)
-deep_told ss (inr h) = inr ((λ s x. h.0 s (to_terminals ss s x)), omega (arith, h.1, weight_is false ss))
+deep_told ss (inr h) = inr ((λ s x. h.0 s (to_terminals ss s x)), omega (arith, h.1, words_weigh (Before false) false ss))
 
-pub told : (ss : List Shape) (f : ReadFault) → Gives statement_tree (Err f) (bounded_line (terminals_at false ss)) → (cause_of_read f ≡ causes.OutOfMemory) ⊎ TokenCauses ss (cause_of_read f)
+pub told : (ss : List Shape) (f : ReadFault) → Gives statement_tree (Err f) (bounded_line (words_at (Before false) false ss)) → (cause_of_read f ≡ causes.OutOfMemory) ⊎ TokenCauses ss (cause_of_read f)
 told ss faults.NoMemory h = inl refl
-told ss (faults.Refused Syntax) h = inr (λ s x. bounded_out (terminals_at false ss) h s (to_terminals ss s x))
-told ss (faults.Refused TooHigh) h = inr (deep_told ss (bounded_told (terminals_at false ss) h))
+told ss (faults.Refused Syntax) h = inr (λ s x. bounded_out (words_at (Before false) false ss) h s (to_terminals ss s x))
+told ss (faults.Refused TooHigh) h = inr (deep_told ss (bounded_told (words_at (Before false) false ss) h))
 
-pub read_statement : (ss : List Shape) (s : StatementTree) → bounded_line (terminals_at false ss) ≡ Ok s → IsStatement ss s × (statement_height s ≤ 64)
+pub read_statement : (ss : List Shape) (s : StatementTree) → bounded_line (words_at (Before false) false ss) ≡ Ok s → IsStatement ss s × (statement_height s ≤ 64)
 read_statement ss s h =
-    let x = bounded_sound (terminals_at false ss) s h in
+    let x = bounded_sound (words_at (Before false) false ss) s h in
     (of_terminals ss s x.0, x.1)
 
 one_statement : (ss : List Shape) (r s : StatementTree) → IsStatement ss r → IsStatement ss s → r ≡ s
-one_statement ss r s x y = one_line (terminals_at false ss) r s (to_terminals ss r x) (to_terminals ss s y)
+one_statement ss r s x y = one_line (words_at (Before false) false ss) r s (to_terminals ss r x) (to_terminals ss s y)
 
 pub no_cause : (ss : List Shape) (s : StatementTree) → IsStatement ss s → statement_height s ≤ 64 → statement_in_range s ≡ true → AreReadable ss → (Any IsLongName ss → ⊥) → (c : Cause) → TokenCauses ss c → ⊥
 no_cause ss s x low range r short causes.Syntax h = h s x

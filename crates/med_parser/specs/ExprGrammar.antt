@@ -6,7 +6,7 @@ use Rattle.med_value.specs.declared.cause.Cause.TheVariants as causes
 use Rattle.med_lexer.specs.Lexemes.{Shape, number, Lexeme, Lexes}
 use Rattle.med_parser.specs.Shapes.{IsLongName, deepens, shapes}
 use Rattle.med_parser.specs.Terminal.{AreTerminals}
-use Rattle.med_parser.specs.ExprTree.{ExprTree, ExprTrees, num, negative, paren, minus, binary, between, among, like, compare, tested, negation, chain, none, more, Fits, spelling, height}
+use Rattle.med_parser.specs.ExprTree.{ExprTree, ExprTrees, num, negative, call, paren, minus, binary, between, among, like, compare, tested, negation, chain, none, more, Fits, spelling, height}
 
 -- the tokens are an expression with this tree
 abbrev pub IsExpression : List Shape → ExprTree → Type 0
@@ -21,6 +21,7 @@ abbrev mutual
   pub in_range : ExprTree → Bool
   in_range (num n) = nat_le n 9223372036854775807
   in_range (negative n) = nat_le n 9223372036854775808
+  in_range (call f parts) = are_in_range parts
   in_range (paren e) = in_range e
   in_range (minus e) = in_range e
   in_range (binary op a b) = in_range a && in_range b

@@ -11,7 +11,7 @@ use Rattle.med_parser.specs.declared.refusal.Refusal.TheVariants.{Syntax, TooHig
 use Rattle.med_parser.specs.Tree.{Name}
 use Rattle.med_parser.specs.Terminal.{Terminal}
 use Rattle.med_parser.specs.Terminal as t
-use Rattle.med_parser.specs.ExprTree.{ExprTree, ExprTrees, num, negative, text, truth, null, column, paren, minus, binary, between, among, like, compare, tested, negation, chain, none, more, height}
+use Rattle.med_parser.specs.ExprTree.{ExprTree, ExprTrees, num, negative, text, truth, null, column, call_all, call, paren, minus, binary, between, among, like, compare, tested, negation, chain, none, more, height}
 
 -- a tree and the terminals after it, or the refusal
 abbrev pub Read : Type 0
@@ -104,18 +104,44 @@ abbrev pub closed : ExprTree → Parser
 closed e (t.RightParen ∷ ts) = Ok (paren e, ts)
 closed e _ = Err Syntax
 
--- behind a name
+-- behind the name of a column, or of its table
 abbrev pub column_after : Name → Parser
 column_after n (t.Dot ∷ t.Name m ∷ ts) = Ok (column (Some n) m, ts)
 column_after n (t.Dot ∷ ts) = Err Syntax
 column_after n ts = Ok (column None n, ts)
+
+abbrev pub closed_call_all : Name → Parser
+closed_call_all f (t.RightParen ∷ ts) = Ok (call_all f, ts)
+closed_call_all f _ = Err Syntax
+
+abbrev pub closed_call : Name → ExprTree → ExprTrees → Parser
+closed_call f first others (t.RightParen ∷ ts) = Ok (call f (more first others), ts)
+closed_call f first others _ = Err Syntax
+
+-- the parts of a call that has some
+abbrev pub parts_after : Below → Name → Parser
+parts_after b f ts = do
+  x ← b.whole ts
+  y ← others_after is_comma b.whole (length x.1) x.1
+  closed_call f x.0 y.0 y.1
+
+-- behind a name and (
+abbrev pub call_after : Below → Name → Parser
+call_after b f (t.Binary Mul ∷ ts) = closed_call_all f ts
+call_after b f (t.RightParen ∷ ts) = Ok (call f none, ts)
+call_after b f ts = parts_after b f ts
+
+-- behind a name
+abbrev pub named_after : Below → Name → Parser
+named_after b n (t.LeftParen ∷ ts) = call_after b n ts
+named_after b n ts = column_after n ts
 
 abbrev pub primary_of : Below → Parser
 primary_of b (t.Num n ∷ ts) = Ok (num n, ts)
 primary_of b (t.Text x ∷ ts) = Ok (text x, ts)
 primary_of b (t.Truth v ∷ ts) = Ok (truth v, ts)
 primary_of b (t.Null ∷ ts) = Ok (null, ts)
-primary_of b (t.Name n ∷ ts) = column_after n ts
+primary_of b (t.Name n ∷ ts) = named_after b n ts
 primary_of b (t.LeftParen ∷ ts) = b.whole ts >>= λ x. closed x.0 x.1
 primary_of b _ = Err Syntax
 

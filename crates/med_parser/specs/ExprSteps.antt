@@ -1,6 +1,7 @@
 -- The levels that one function of the code reads, as it is told.
 use Rattle.std.specs.Prelude.{ℕ, Bool, cond, List, [], ◌∷◌, Option, Some, None, option_map}
 use Rattle.med_parser.specs.declared.expr.BinaryOp.{BinaryOp}
+use Rattle.med_parser.specs.declared.expr.BinaryOp.TheVariants.{Sub}
 use Rattle.med_parser.specs.declared.expr.Joint.{Joint}
 use Rattle.med_parser.specs.declared.expr.Joint.TheVariants.{Or, And}
 use Rattle.med_parser.specs.declared.symbols.Separator.{Separator}
@@ -8,6 +9,7 @@ use Rattle.med_parser.specs.declared.symbols.Separator.TheVariants.{Between, Com
 use Rattle.med_parser.specs.declared.symbols.Level.{Level}
 use Rattle.med_parser.specs.declared.symbols.Level.TheVariants.{Sum, Product}
 use Rattle.med_parser.specs.Terminal.{Terminal}
+use Rattle.med_parser.specs.Terminal as t
 use Rattle.med_parser.specs.ExprReading.{Parser, Below, additive, multiplicative, is_comma, is_joint, chain_of, signed_of, product_of, negated_of, conjunction_of}
 
 abbrev pub is_mark : Separator → Terminal → Bool
@@ -17,6 +19,10 @@ is_mark Comma = is_comma
 abbrev pub behind_of : Separator → List Terminal → Option (List Terminal)
 behind_of mark [] = None
 behind_of mark (u ∷ ts) = cond (is_mark mark u) (Some ts) None
+
+abbrev pub behind_minus_of : List Terminal → Option (List Terminal)
+behind_minus_of (t.Binary Sub ∷ ts) = Some ts
+behind_minus_of ts = None
 
 abbrev pub op_of : Level → Terminal → Option BinaryOp
 op_of Sum = additive

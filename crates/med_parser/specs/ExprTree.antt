@@ -1,12 +1,13 @@
--- The grammar of expressions: what each tree is spelled by, and which trees it has (SQL:2016, part 2, 6.28 <value expression>, 8 "Predicates").
+-- The grammar of expressions: what each tree is spelled by, and which trees it has (SQL:2016, part 2, 6.28 <value expression>, 8 "Predicates",
+-- 10.4 <routine invocation>, 10.9 <aggregate function>).
 --     expr  = conj {OR conj}           conj = neg {AND neg}
 --     neg   = NOT neg | test           test = comp [IS [NOT] (NULL | TRUE | FALSE | UNKNOWN)]
 --     comp  = range [(= | <> | < | <= | > | >=) range]
 --     range = sum [[NOT] (BETWEEN sum AND sum | IN ( expr {, expr} ) | LIKE text)]
 --     sum   = prod {(+ | -) prod}      prod = unary {(* | / | %) unary}
 --     unary = - num | - unary | prim
---     prim  = num | text | TRUE | FALSE | NULL | name [. name] | ( expr )
--- A minus directly before a number, in the place of a unary, makes a negative literal.
+--     prim  = num | text | TRUE | FALSE | NULL | name [. name] | name ( * ) | name ( [expr {, expr}] ) | ( expr )
+-- A minus directly before a number, in the place of a unary, makes a negative literal. A name before a parenthesis is a function.
 use Rattle.std.specs.Prelude.{◌≡◌, ℕ, suc, ◌≤◌, Bool, true, false, List, [], ◌∷◌, ◌++◌, max, Option, Some, None}
 use Rattle.med_parser.specs.declared.expr.BinaryOp.{BinaryOp}
 use Rattle.med_parser.specs.declared.expr.BinaryOp.TheVariants.{Add, Sub, Mul, Div, Rem}
@@ -20,7 +21,7 @@ use Rattle.med_parser.specs.Terminal.{Terminal}
 use Rattle.med_parser.specs.Terminal as t
 
 -- An expression without where it lies in memory. A new form is a constructor here, and a line each in `spelling`, `level`, `Fits`, `height`
--- and `HasLarge`. The truth value of a test says whether it is written with NOT.
+-- and `in_range`. The truth value of a test says whether it is written with NOT.
 mutual
   pub data ExprTree : Type 0 where
     num : ℕ → ExprTree
@@ -29,6 +30,8 @@ mutual
     truth : Bool → ExprTree
     null : ExprTree
     column : Option Name → Name → ExprTree
+    call_all : Name → ExprTree
+    call : Name → ExprTrees → ExprTree
     paren : ExprTree → ExprTree
     minus : ExprTree → ExprTree
     binary : BinaryOp → ExprTree → ExprTree → ExprTree
@@ -70,6 +73,8 @@ abbrev mutual
   spelling (truth b) = t.Truth b ∷ []
   spelling null = t.Null ∷ []
   spelling (column q n) = column_spelling q n
+  spelling (call_all f) = t.Name f ∷ t.LeftParen ∷ t.Binary Mul ∷ t.RightParen ∷ []
+  spelling (call f parts) = t.Name f ∷ t.LeftParen ∷ parts_spelling parts
   spelling (paren e) = t.LeftParen ∷ (spelling e ++ t.RightParen ∷ [])
   spelling (minus e) = t.Binary Sub ∷ spelling e
   spelling (binary op a b) = spelling a ++ t.Binary op ∷ spelling b
@@ -80,6 +85,11 @@ abbrev mutual
   spelling (tested neg e s) = spelling e ++ (t.Is ∷ (perhaps_not neg ++ status_terminal s ∷ []))
   spelling (negation e) = t.Not ∷ spelling e
   spelling (chain joint first others) = spelling first ++ spellings (t.Joined joint) others
+
+  -- [expr {, expr}] )
+  pub parts_spelling : ExprTrees → List Terminal
+  parts_spelling none = t.RightParen ∷ []
+  parts_spelling (more e es) = spelling e ++ (spellings t.Comma es ++ t.RightParen ∷ [])
 
   -- each behind a mark
   pub spellings : Terminal → ExprTrees → List Terminal
@@ -106,6 +116,8 @@ level (text x) = 9
 level (truth b) = 9
 level null = 9
 level (column q n) = 9
+level (call_all f) = 9
+level (call f parts) = 9
 level (paren e) = 9
 level (minus e) = 8
 level (binary op a b) = binary_level op
@@ -129,6 +141,7 @@ IsMany (more e es) = Unit {0}
 -- the trees of the grammar: each operand binds tightly enough
 abbrev mutual
   pub Fits : ExprTree → Type 0
+  Fits (call f parts) = AllFit 0 parts
   Fits (paren e) = Fits e
   Fits (minus e) = Fits e × (8 ≤ level e) × (is_num e ≡ false)
   Fits (binary op a b) = Fits a × Fits b × (binary_level op ≤ level a) × (suc (binary_level op) ≤ level b)
@@ -149,6 +162,7 @@ abbrev mutual
 
 abbrev mutual
   pub height : ExprTree → ℕ
+  height (call f parts) = suc (highest parts)
   height (paren e) = suc (height e)
   height (minus e) = suc (height e)
   height (binary op a b) = suc (max (height a) (height b))

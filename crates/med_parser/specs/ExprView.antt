@@ -8,7 +8,7 @@ use Rattle.med_parser.specs.declared.symbols.Symbol.{Symbol}
 use Rattle.med_parser.specs.declared.symbols.Symbol.TheVariants as s
 use Rattle.med_parser.specs.Terminal.{Terminal}
 use Rattle.med_parser.specs.Terminal as t
-use Rattle.med_parser.specs.ExprTree.{ExprTree, ExprTrees, num, negative, text, truth, null, column, paren, minus, binary, between, among, like, compare, tested, negation, chain, none, more}
+use Rattle.med_parser.specs.ExprTree.{ExprTree, ExprTrees, num, negative, text, truth, null, column, call_all, call, paren, minus, binary, between, among, like, compare, tested, negation, chain, none, more}
 
 abbrev pub terminal_of_symbol : Symbol → Terminal
 terminal_of_symbol s.LeftParen = t.LeftParen
@@ -47,6 +47,8 @@ step (Expr-F.Text x) = text (string_bytes x)
 step (Expr-F.Truth b) = truth b
 step Expr-F.Null = null
 step (Expr-F.Column q n) = column (option_map string_bytes q) (string_bytes n)
+step (Expr-F.CallAll f) = call_all (string_bytes f)
+step (Expr-F.Call f parts) = call (string_bytes f) (trees_of parts.items)
 step (Expr-F.Paren e) = paren e.value
 step (Expr-F.Minus e) = minus e.value
 step (Expr-F.Binary op a b) = binary op a.value b.value

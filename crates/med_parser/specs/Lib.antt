@@ -12,6 +12,7 @@ pub mod ExprTerminals
 pub mod ExprGrammar
 pub mod ExprWeight
 pub mod ExprPrinting
+pub mod QueryTerminals
 pub mod QueryTree
 pub mod QueryGrammar
 pub mod QueryCauses

@@ -1,12 +1,11 @@
 -- The causes of the phase of syntax, and the texts for which each stands.
-use Rattle.std.specs.Prelude.{◌≡◌, ℕ, ◌<◌, ◌⊎◌, Bool, true, false, ◌&&◌, List, [], ◌∷◌, Option, Some, None, Any, count_by}
+use Rattle.std.specs.Prelude.{◌≡◌, ℕ, ◌<◌, ◌⊎◌, Bool, true, false, ◌&&◌, List, [], ◌∷◌, Option, Some, None, nat_le, Any, count_by}
 use Rattle.med_value.specs.declared.cause.Cause.{Cause}
 use Rattle.med_value.specs.declared.cause.Cause.TheVariants as causes
 use Rattle.med_lexer.specs.Lexemes.{Shape, Lexeme, Lexes}
 use Rattle.med_parser.specs.Shapes.{shapes, IsLongName, deepens}
-use Rattle.med_parser.specs.ExprTree.{ExprTree}
 use Rattle.med_parser.specs.ExprGrammar.{in_range, IsHuge}
-use Rattle.med_parser.specs.QueryTree.{ItemTree, value, SelectTree, StatementTree, select, statement_height}
+use Rattle.med_parser.specs.QueryTree.{ItemTree, value, JoinTree, inner_join, left_join, cross_join, ChainTree, KeyTree, LimitTree, no_limit, rows, SelectTree, StatementTree, select, statement_height}
 use Rattle.med_parser.specs.QueryGrammar.{IsStatement, HasStatement}
 
 -- ---- each number is at most 2^63 - 1, and directly behind a unary minus at most 2^63
@@ -15,16 +14,38 @@ abbrev pub item_in_range : ItemTree → Bool
 item_in_range (value e label) = in_range e
 item_in_range _ = true
 
-abbrev pub items_in_range : List ItemTree → Bool
-items_in_range [] = true
-items_in_range (x ∷ xs) = item_in_range x && items_in_range xs
+-- Whether each of them is
+abbrev pub all_in_range : {X : Type 0} → (X → Bool) → List X → Bool
+all_in_range good [] = true
+all_in_range good (x ∷ xs) = good x && all_in_range good xs
 
-abbrev pub condition_in_range : Option ExprTree → Bool
-condition_in_range None = true
-condition_in_range (Some e) = in_range e
+abbrev pub perhaps_in_range : {X : Type 0} → (X → Bool) → Option X → Bool
+perhaps_in_range good None = true
+perhaps_in_range good (Some x) = good x
+
+abbrev pub join_in_range : JoinTree → Bool
+join_in_range (inner_join e on) = in_range on
+join_in_range (left_join e on) = in_range on
+join_in_range (cross_join e) = true
+
+abbrev pub chain_in_range : ChainTree → Bool
+chain_in_range c = all_in_range join_in_range c.joins
+
+abbrev pub key_in_range : KeyTree → Bool
+key_in_range k = in_range k.key
+
+-- a number of LIMIT or OFFSET
+abbrev pub count_in_range : ℕ → Bool
+count_in_range n = nat_le n 9223372036854775807
+
+abbrev pub limit_in_range : LimitTree → Bool
+limit_in_range no_limit = true
+limit_in_range (rows n) = count_in_range n
 
 abbrev pub select_in_range : SelectTree → Bool
-select_in_range q = items_in_range q.items && condition_in_range q.condition
+select_in_range q =
+    all_in_range item_in_range q.items && (all_in_range chain_in_range q.from && (perhaps_in_range in_range q.condition && (perhaps_in_range in_range q.having
+    && (all_in_range key_in_range q.keys && (perhaps_in_range limit_in_range q.limit && perhaps_in_range count_in_range q.offset)))))
 
 abbrev pub statement_in_range : StatementTree → Bool
 statement_in_range (select q) = select_in_range q

@@ -69,6 +69,10 @@ pub enum Expr {
     Null,
     /// `[qualifier .] column`
     Column(Option<String>, String),
+    /// `name ( * )`
+    CallAll(String),
+    /// `name ( [e {, e}] )`
+    Call(String, Vec<Expr>),
     /// `( e )`
     Paren(Box<Expr>),
     /// `- e`

@@ -50,6 +50,26 @@ pub fn column_of(qualifier: &String, name: &String) -> Result<Expr, AllocError>
     Ok(Expr::Column(Some(qualifier.clone()?), name.clone()?))
 }
 
+pub fn call_all(function: &String) -> Result<Expr, AllocError>
+    ensures { IfOk result (λ x. expr_tree x ≡ spec.call_all (string_bytes function.now)) }
+{
+    Ok(Expr::CallAll(function.clone()?))
+}
+
+pub fn call_of_nothing(alloc: Global, function: &String) -> Result<Expr, AllocError>
+    ensures { IfOk result (λ x. expr_tree x ≡ spec.call (string_bytes function.now) spec.none) }
+{
+    Ok(Expr::Call(function.clone()?, Vec::new(alloc)))
+}
+
+pub fn call_of(function: &String, first: Expr, others: Vec<Expr>) -> Result<Expr, AllocError>
+    ensures { IfOk result (λ x. expr_tree x ≡ spec.call (string_bytes function.now) (spec.more (expr_tree first) (expr_trees others.items))) }
+{
+    let mut parts = others;
+    parts.insert(0, first)?;
+    Ok(Expr::Call(function.clone()?, parts))
+}
+
 pub fn in_parens(alloc: Global, e: Expr) -> Result<Expr, AllocError>
     ensures { IfOk result (λ x. expr_tree x ≡ spec.paren (expr_tree e)) }
 {

@@ -5,9 +5,10 @@ ghost use Rattle.std.specs.Prelude.{◌≡◌, ◌<◌, ◌++◌, ◌∷◌, [],
 ghost use Rattle.std.specs.String.{string_bytes};
 ghost use Rattle.med_lexer.specs.Lexemes.{between};
 ghost use Rattle.med_lexer.specs.Printing.{raw_of};
+ghost use Rattle.med_parser.specs.declared.expr.BinaryOp.TheVariants.{Mul};
 ghost use Rattle.med_parser.specs.declared.expr.Joint.TheVariants.{And};
 ghost use Rattle.med_parser.specs.Terminal as t;
-ghost use Rattle.med_parser.specs.ExprTree.{spelling, spellings, column_spelling, perhaps_not, status_terminal};
+ghost use Rattle.med_parser.specs.ExprTree.{spelling, spellings, parts_spelling, column_spelling, perhaps_not, status_terminal};
 ghost use Rattle.med_parser.specs.ExprGrammar.{HasExpr, in_range};
 ghost use Rattle.med_parser.specs.ExprPrinting.{Wrote, fixed_terminal, shape_for, printed_expr};
 ghost use Rattle.med_parser.specs.ExprView.{expr_tree, expr_trees};
@@ -124,7 +125,7 @@ fn write_text(text: &String, out: &mut String) -> Result<(), AllocError>
 }
 
 /// Writes a space and the number.
-fn write_number(alloc: Global, n: u64, out: &mut String) -> Result<(), AllocError>
+pub fn write_number(alloc: Global, n: u64, out: &mut String) -> Result<(), AllocError>
     ensures { IfOk result (λ _. Wrote (string_bytes out.old) (string_bytes out.new) (t.Num n ∷ [])) }
 {
     let digits = n.to_string(alloc)?;
@@ -133,7 +134,7 @@ fn write_number(alloc: Global, n: u64, out: &mut String) -> Result<(), AllocErro
 }
 
 /// Writes the name, behind its qualifier where there is one.
-fn write_column(
+pub fn write_column(
     qualifier: &Option<String>,
     name: &String,
     out: &mut String,
@@ -148,6 +149,16 @@ fn write_column(
             write_name(name, out)
         }
     }
+}
+
+/// Writes the call of the function with `*`.
+fn write_call_all(function: &String, out: &mut String) -> Result<(), AllocError>
+    ensures { IfOk result (λ _. Wrote (string_bytes out.old) (string_bytes out.new) (t.Name (string_bytes function.now) ∷ t.LeftParen ∷ t.Binary Mul ∷ t.RightParen ∷ [])) }
+{
+    write_name(function, out)?;
+    write_fixed(Fixed::LeftParen, out)?;
+    write_fixed(Fixed::Binary(BinaryOp::Mul), out)?;
+    write_fixed(Fixed::RightParen, out)
 }
 
 /// Writes NOT where the test is negated.
@@ -177,6 +188,8 @@ pub fn write(alloc: Global, expr: &Expr, out: &mut String) -> Result<(), AllocEr
         Expr::Truth(false) => write_fixed(Fixed::Status(Status::False), out),
         Expr::Null => write_fixed(Fixed::Status(Status::Null), out),
         Expr::Column(qualifier, name) => write_column(qualifier, name, out),
+        Expr::CallAll(function) => write_call_all(function, out),
+        Expr::Call(function, parts) => write_call(alloc, function, parts, out),
         Expr::Paren(e) => write_paren(alloc, e, out),
         Expr::Minus(e) => {
             write_fixed(Fixed::Binary(BinaryOp::Sub), out)?;
@@ -193,6 +206,26 @@ pub fn write(alloc: Global, expr: &Expr, out: &mut String) -> Result<(), AllocEr
         Expr::In(negated, e, first, others) => write_in(alloc, *negated, e, first, others, out),
         Expr::Like(negated, e, pattern) => write_like(alloc, *negated, e, pattern, out),
         Expr::Is(negated, e, status) => write_is(alloc, *negated, e, *status, out),
+    }
+}
+
+/// Writes the call of the function with each of its parts.
+#[cycle(writer)]
+fn write_call(
+    alloc: Global,
+    function: &String,
+    parts: &[Expr],
+    out: &mut String,
+) -> Result<(), AllocError>
+    ensures { IfOk result (λ _. Wrote (string_bytes out.old) (string_bytes out.new) (t.Name (string_bytes function.now) ∷ t.LeftParen ∷ parts_spelling (expr_trees parts.now))) }
+{
+    write_name(function, out)?;
+    match parts {
+        [first, others @ ..] => write_list(alloc, first, others, out),
+        [] => {
+            write_fixed(Fixed::LeftParen, out)?;
+            write_fixed(Fixed::RightParen, out)
+        }
     }
 }
 

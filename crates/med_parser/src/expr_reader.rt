@@ -2,6 +2,7 @@
 #![tactic(auto, using(crate::proofs::ExprLoops::chained_many, crate::proofs::ExprLoops::whole_some, crate::proofs::ExprLoops::negated_some, crate::proofs::ExprLoops::signed_some, crate::proofs::ExprLoops::whole_none, crate::proofs::ExprLoops::negated_none, crate::proofs::ExprLoops::signed_none), unfolding(crate::specs::ExprReading::left_of, crate::specs::ExprReading::chain_of, crate::specs::ExprReading::range_of, crate::specs::ExprReading::compare_of, crate::specs::ExprReading::is_of))]
 
 ghost use Rattle.std.specs.Prelude.{◌≡◌, ◌≤◌, ◌<◌, ◌-◌, length};
+ghost use Rattle.std.specs.String.{string_bytes};
 ghost use Rattle.med_parser.specs.ExprTree.{height as spec_height, highest as spec_highest};
 ghost use Rattle.med_parser.specs.ExprReading as reading;
 ghost use Rattle.med_parser.specs.ExprView.{expr_tree, expr_trees, terminals_of};
@@ -10,11 +11,12 @@ ghost use Rattle.med_parser.specs.ExprAnswers.{Answers, AnswersAll};
 
 use crate::expr::{BinaryOp, Expr, Joint};
 use crate::expr_build::{
-    between, chained, column, column_of, comparison, in_parens, inverted, likeness, membership,
-    negated, negative_number, null, number, operation, test, text, truth,
+    between, call_all, call_of, call_of_nothing, chained, column, column_of, comparison, in_parens,
+    inverted, likeness, membership, negated, negative_number, null, number, operation, test, text,
+    truth,
 };
 use crate::refusal::{ReadFault, Refusal};
-use crate::symbols::{Level, Separator, Symbol, behind, operator, status};
+use crate::symbols::{Level, Separator, Symbol, behind, behind_minus, operator, status};
 use std::alloc::Global;
 
 /// An expression, its height, and the symbols behind it.
@@ -435,9 +437,9 @@ fn signed_here(alloc: Global, room: u32, symbols: &[Symbol]) -> Result<Found<'_>
     requires few { room < 1000 }
     ensures { Answers room result (reading.signed_of (reading.below (room - 1)) (terminals_of symbols.now)) }
 {
-    match symbols {
-        [Symbol::Binary(BinaryOp::Sub), rest @ ..] => minus(alloc, room, rest),
-        _ => primary(alloc, room, symbols),
+    match behind_minus(symbols) {
+        Some(rest) => minus(alloc, room, rest),
+        None => primary(alloc, room, symbols),
     }
 }
 
@@ -472,14 +474,7 @@ fn primary(alloc: Global, room: u32, symbols: &[Symbol]) -> Result<Found<'_>, Re
         [Symbol::Text(value), rest @ ..] => Ok(leaf(text(value)?, rest)),
         [Symbol::Truth(value), rest @ ..] => Ok(leaf(truth(*value), rest)),
         [Symbol::Null, rest @ ..] => Ok(leaf(null(), rest)),
-        [
-            Symbol::Name(qualifier),
-            Symbol::Dot,
-            Symbol::Name(name),
-            rest @ ..,
-        ] => { Ok(leaf(column_of(qualifier, name)?, rest)) }
-        [Symbol::Name(_), Symbol::Dot, ..] => Err(ReadFault::Refused(Refusal::Syntax)),
-        [Symbol::Name(name), rest @ ..] => Ok(leaf(column(name)?, rest)),
+        [Symbol::Name(name), rest @ ..] => named(alloc, room, name, rest),
         [Symbol::LeftParen, rest @ ..] => {
             let inner = whole(alloc, room - 1, rest)?;
             match inner.rest {
@@ -492,6 +487,92 @@ fn primary(alloc: Global, room: u32, symbols: &[Symbol]) -> Result<Found<'_>, Re
                 }
                 _ => Err(ReadFault::Refused(Refusal::Syntax)),
             }
+        }
+        _ => Err(ReadFault::Refused(Refusal::Syntax)),
+    }
+}
+
+/// The call or the column whose name is read.
+#[cycle(reader)]
+fn named<'a>(
+    alloc: Global,
+    room: u32,
+    name: &String,
+    symbols: &'a [Symbol],
+) -> Result<Found<'a>, ReadFault>
+    requires some { 1 ≤ room }
+    requires few { room < 1000 }
+    ensures { Answers room result (reading.named_after (reading.below (room - 1)) (string_bytes name.now) (terminals_of symbols.now)) }
+{
+    match symbols {
+        [Symbol::LeftParen, rest @ ..] => call(alloc, room, name, rest),
+        [Symbol::Dot, Symbol::Name(column), rest @ ..] => Ok(leaf(column_of(name, column)?, rest)),
+        [Symbol::Dot, ..] => Err(ReadFault::Refused(Refusal::Syntax)),
+        _ => Ok(leaf(column(name)?, symbols)),
+    }
+}
+
+/// The call of the function, behind its opening parenthesis.
+#[cycle(reader)]
+fn call<'a>(
+    alloc: Global,
+    room: u32,
+    function: &String,
+    symbols: &'a [Symbol],
+) -> Result<Found<'a>, ReadFault>
+    requires some { 1 ≤ room }
+    requires few { room < 1000 }
+    ensures { Answers room result (reading.call_after (reading.below (room - 1)) (string_bytes function.now) (terminals_of symbols.now)) }
+{
+    match symbols {
+        [Symbol::Binary(BinaryOp::Mul), Symbol::RightParen, rest @ ..] => {
+            Ok(leaf(call_all(function)?, rest))
+        }
+        [Symbol::Binary(BinaryOp::Mul), ..] => Err(ReadFault::Refused(Refusal::Syntax)),
+        [Symbol::RightParen, rest @ ..] => Ok(leaf(call_of_nothing(alloc, function)?, rest)),
+        _ => call_of_parts(alloc, room, function, symbols),
+    }
+}
+
+/// The call of the function with the parts that follow, up to the closing parenthesis.
+#[cycle(reader)]
+fn call_of_parts<'a>(
+    alloc: Global,
+    room: u32,
+    function: &String,
+    symbols: &'a [Symbol],
+) -> Result<Found<'a>, ReadFault>
+    requires some { 1 ≤ room }
+    requires few { room < 1000 }
+    ensures { Answers room result (reading.parts_after (reading.below (room - 1)) (string_bytes function.now) (terminals_of symbols.now)) }
+{
+    let first = whole(alloc, room - 1, symbols)?;
+    let others = others(alloc, Separator::Comma, room, first.rest)?;
+    call_made(room, function, first.expr, first.height, others)
+}
+
+/// The call of the function with these parts, where they are closed.
+fn call_made<'a>(
+    room: u32,
+    function: &String,
+    first: Expr,
+    first_height: u32,
+    others: Items<'a>,
+) -> Result<Found<'a>, ReadFault>
+    requires few { room < 1000 }
+    requires height { first_height ≡ spec_height (expr_tree first) }
+    requires highest { others.highest ≡ spec_highest (expr_trees others.list.items) }
+    requires low { (first_height < room) × (others.highest < room) }
+    ensures { Answers room result (reading.closed_call (string_bytes function.now) (expr_tree first) (expr_trees others.entry.list.items) (terminals_of others.entry.rest.now)) }
+{
+    match others.rest {
+        [Symbol::RightParen, rest @ ..] => {
+            let height = 1 + first_height.max(others.highest);
+            Ok(Found {
+                expr: call_of(function, first, others.list)?,
+                height,
+                rest,
+            })
         }
         _ => Err(ReadFault::Refused(Refusal::Syntax)),
     }

@@ -81,7 +81,7 @@ fn word_symbol(word: &String) -> Result<Symbol, AllocError>
 }
 
 /// Whether UNKNOWN is a keyword behind the symbol. Before it the answer was the given one.
-fn follows_is(before: bool, symbol: &Symbol) -> bool
+pub fn follows_is(before: bool, symbol: &Symbol) -> bool
     ensures { result ≡ spec.follows before (terminal_of_symbol symbol.now) }
 {
     match symbol {
@@ -92,7 +92,7 @@ fn follows_is(before: bool, symbol: &Symbol) -> bool
 }
 
 /// The symbol of a token.
-fn symbol(behind_is: bool, kind: &Kind) -> Result<Symbol, AllocError>
+pub fn symbol(behind_is: bool, kind: &Kind) -> Result<Symbol, AllocError>
     requires { spec.IsReadable (shape_of kind.now) }
     ensures { IfOk result (λ s. terminal_of_symbol s ≡ spec.terminal_at behind_is (shape_of kind.now)) }
 {

@@ -124,6 +124,58 @@ fn conditions(rt: HostRuntime) -> Result<(), Fail> {
 }
 
 #[test]
+fn calls(rt: HostRuntime) -> Result<(), Fail> {
+    let texts = [
+        ("count(*)", "\"count\" ( * )"),
+        ("COUNT( * )", "\"count\" ( * )"),
+        ("count(*) + 1", "\"count\" ( * ) + 1"),
+        ("count(*) * 2", "\"count\" ( * ) * 2"),
+        ("sum(n)", "\"sum\" ( \"n\" )"),
+        ("sum(a+1)", "\"sum\" ( \"a\" + 1 )"),
+        ("f()", "\"f\" ( )"),
+        ("f(a,b)", "\"f\" ( \"a\" , \"b\" )"),
+        ("f (1)", "\"f\" ( 1 )"),
+        ("f((1))", "\"f\" ( ( 1 ) )"),
+        ("f(1) + g(2)", "\"f\" ( 1 ) + \"g\" ( 2 )"),
+        ("min(f(x)) > 2", "\"min\" ( \"f\" ( \"x\" ) ) > 2"),
+        ("f(g(*), h())", "\"f\" ( \"g\" ( * ) , \"h\" ( ) )"),
+        (
+            "f(a or b, not c, t.d, 'x')",
+            "\"f\" ( \"a\" OR \"b\" , NOT \"c\" , \"t\" . \"d\" , 'x' )",
+        ),
+        ("\"f\"(x)", "\"f\" ( \"x\" )"),
+        ("\"left\"(1)", "\"left\" ( 1 )"),
+        ("unknown(1) is unknown", "\"unknown\" ( 1 ) IS UNKNOWN"),
+        ("- f(1)", "- \"f\" ( 1 )"),
+        ("f(-1)", "\"f\" ( - 1 )"),
+        ("a in (f(1), g())", "\"a\" IN ( \"f\" ( 1 ) , \"g\" ( ) )"),
+    ];
+    for (text, expected) in texts {
+        assert_eq!(rt; printed(rt.alloc(), text)?.as_str(), expected, "in {text}");
+    }
+    Ok(())
+}
+
+#[test]
+fn call_trees(rt: HostRuntime) -> Result<(), Fail> {
+    let all = expression(rt.alloc(), "count(*)").ok().ok_or("refused")?;
+    assert!(rt; matches!(&all, Expr::CallAll(name) if name.as_str() == "count"));
+    let none = expression(rt.alloc(), "now()").ok().ok_or("refused")?;
+    assert!(rt;
+        matches!(&none, Expr::Call(name, parts) if name.as_str() == "now" && parts.is_empty())
+    );
+    let two = expression(rt.alloc(), "F(1, a)").ok().ok_or("refused")?;
+    let Expr::Call(name, parts) = two else {
+        return Err(Fail::from("no call"));
+    };
+    assert_eq!(rt; name.as_str(), "f");
+    assert_eq!(rt; parts.len(), 2);
+    assert!(rt; matches!(parts.get(0), Some(Expr::Number(1))));
+    assert!(rt; matches!(parts.get(1), Some(Expr::Column(None, _))));
+    Ok(())
+}
+
+#[test]
 fn trees(rt: HostRuntime) -> Result<(), Fail> {
     // the product stands in the sum, and the sum of the first two in the whole
     let expr = expression(rt.alloc(), "1 - 2 - 3 * 4")
@@ -204,9 +256,28 @@ fn syntax_errors(rt: HostRuntime) {
         "a and",
         "and a",
         "a or or b",
-        "count(*)",
-        "f(1)",
-        "f()",
+        "count(*",
+        "count(",
+        "f(*, 1)",
+        "f(1, *)",
+        "f(**)",
+        "f(,)",
+        "f(1,)",
+        "f(,1)",
+        "f(1",
+        "f(1 2)",
+        "f(())",
+        "f)",
+        "a.f(1)",
+        "f(1).a",
+        "f(1)(2)",
+        "(f)(1)",
+        "1(2)",
+        "'f'(1)",
+        "true(1)",
+        "left(1)",
+        "all(a)",
+        "count(distinct a)",
         "a, b",
         "a;",
         "a as b",
@@ -238,6 +309,8 @@ fn numbers_out_of_range(rt: HostRuntime) {
         "a between 9223372036854775808 and 1",
         "not a like 'x' and 9223372036854775808 is null",
         "a = 1 or a = 9223372036854775808",
+        "f(9223372036854775808)",
+        "f(1, g(9223372036854775808))",
     ];
     for text in texts {
         assert!(rt;
@@ -254,6 +327,8 @@ fn long_names(rt: HostRuntime) -> Result<(), Fail> {
     assert!(rt; expression(rt.alloc(), &fits).is_ok());
     let column = format!(in rt.alloc(); "1 + {longest}4")?;
     assert!(rt; matches!(&expression(rt.alloc(), &column), Err(Cause::NameTooLong)));
+    let function = format!(in rt.alloc(); "{longest}4(1)")?;
+    assert!(rt; matches!(&expression(rt.alloc(), &function), Err(Cause::NameTooLong)));
     let qualifier = format!(in rt.alloc(); "\"{longest}4\".a")?;
     assert!(rt; matches!(&expression(rt.alloc(), &qualifier), Err(Cause::NameTooLong)));
     Ok(())
@@ -378,12 +453,31 @@ fn heights(rt: HostRuntime) -> Result<(), Fail> {
 }
 
 #[test]
+fn heights_of_calls(rt: HostRuntime) -> Result<(), Fail> {
+    assert!(rt; expression(rt.alloc(), &around(rt.alloc(), 63, "f(", "1", ")")?).is_ok());
+    let high = around(rt.alloc(), 64, "f(", "1", ")")?;
+    assert!(rt; matches!(&expression(rt.alloc(), &high), Err(Cause::TooDeep)));
+    // a call of nothing and one of all are as high as a number
+    assert!(rt; expression(rt.alloc(), &around(rt.alloc(), 63, "f(", "g()", ")")?).is_ok());
+    assert!(rt; expression(rt.alloc(), &around(rt.alloc(), 63, "f(1, ", "g(*)", ")")?).is_ok());
+    let all = around(rt.alloc(), 64, "f(", "g(*)", ")")?;
+    assert!(rt; matches!(&expression(rt.alloc(), &all), Err(Cause::TooDeep)));
+    // 64 tokens that deepen, and no expression
+    let open = around(rt.alloc(), 64, "f(", "1", "")?;
+    assert!(rt; matches!(&expression(rt.alloc(), &open), Err(Cause::Syntax)));
+    Ok(())
+}
+
+#[test]
 fn long_texts(rt: HostRuntime) -> Result<(), Fail> {
     // a chain and a list are one node each
     assert!(rt; expression(rt.alloc(), &around(rt.alloc(), 9000, "", "a", " and a")?).is_ok());
     let mut list = around(rt.alloc(), 9000, "", "a in (1", ", a")?;
     list.push(')')?;
     assert!(rt; expression(rt.alloc(), &list).is_ok());
+    let mut call = around(rt.alloc(), 9000, "", "f(1", ", a")?;
+    call.push(')')?;
+    assert!(rt; expression(rt.alloc(), &call).is_ok());
     assert!(rt; expression(rt.alloc(), &around(rt.alloc(), 30000, "(", "1", "")?).is_err());
     assert!(rt; expression(rt.alloc(), &around(rt.alloc(), 30000, "", "1", "+1")?).is_err());
     assert!(rt; expression(rt.alloc(), &around(rt.alloc(), 15000, "not ", "a", "")?).is_err());

@@ -139,7 +139,8 @@ pub fn is_in_range(expr: &Expr) -> bool
     match expr {
         Expr::Number(n) => *n <= 9223372036854775807,
         Expr::Negative(n) => *n <= 9223372036854775808,
-        Expr::Text(_) | Expr::Truth(_) | Expr::Null | Expr::Column(_, _) => true,
+        Expr::Text(_) | Expr::Truth(_) | Expr::Null | Expr::Column(_, _) | Expr::CallAll(_) => true,
+        Expr::Call(_, parts) => are_all_in_range(parts),
         Expr::Paren(e) | Expr::Minus(e) | Expr::Not(e) => is_in_range(e),
         Expr::Like(_, e, _) | Expr::Is(_, e, _) => is_in_range(e),
         Expr::Binary(_, a, b) | Expr::Compare(_, a, b) => is_in_range(a) && is_in_range(b),

@@ -1,5 +1,6 @@
 //! Parses a line of this profile of SQL, a statement and perhaps a semicolon, and writes statements out:
-//! `SELECT item {, item} [FROM entry] [WHERE expr] [;]`. `expression` reads the text of one expression.
+//! `SELECT [DISTINCT] item {, item} [FROM chain {, chain}] [WHERE expr] [GROUP BY col {, col}] [HAVING expr] [ORDER BY key {, key}]`
+//! `[LIMIT ..] [OFFSET ..] [;]`, where a chain is an entry with its joins. `expression` reads the text of one expression.
 //!
 //! The grammar stands apart from the readers. `specs/ExprTree.antt` says what each expression is spelled by, how tightly each form binds, and
 //! which trees the grammar has; `specs/QueryGrammar.antt` says which terminals spell which statement. The readers are proved to find each of
@@ -12,9 +13,14 @@
 //! A clause of a query is a field of `SelectTree` (`specs/QueryTree.antt`) and of `Select`, with a line in their view, height and range, a
 //! `Spells` relation (`specs/QueryGrammar.antt`), a part of the list reader (`specs/QueryReading.antt`), a lemma `_takes` and one `_sound`
 //! (`proofs/QueryComplete.antt`, `proofs/QuerySound.antt`), a line in `proofs/QueryWeighing.antt`, `proofs/QueryTerminals.antt` and
-//! `proofs/QueryPrints.antt`, and last a function in `src/query_reader.rt` and one in `src/query_print.rt`. The part before it has to stop at
-//! its keyword (`Stops`). A word that is optional in the text is no part of the tree: its relation allows both spellings, and the printed one is
-//! in `specs/QueryPrinting.antt`. A kind of statement is a constructor of `StatementTree` with the same.
+//! `proofs/QueryPrints.antt`, and last a function in `src/query_reader.rt`, `src/query_source.rt` or `src/query_keys.rt`, one in
+//! `src/query_range.rt` and one in `src/query_print.rt`. Lists, and parts that may be left out behind their keywords, have relations, readers
+//! and lemmas of their own (`SpellsListed`, `SpellsPerhaps`). The part before a clause has to stop at its keyword (`Clear`). A word that is
+//! optional in the text is no part of the tree: its relation allows both spellings, and the printed one is in `specs/QueryPrinting.antt`. A kind
+//! of statement is a constructor of `StatementTree` with the same.
+//!
+//! NULLS, FIRST, LAST, ROW and ROWS are keywords that are not reserved, so such a word is a name too, and only a name where it is quoted
+//! (`IsWord`). Which of the two a word is follows from what stands before it (`specs/QueryTerminals.antt`, `src/query_symbols.rt`).
 #![tactic(auto)]
 
 mod expr;
@@ -26,9 +32,13 @@ mod expr_symbols;
 mod expr_text;
 mod fault;
 mod parser;
+mod query_keys;
 mod query_laws;
 mod query_print;
+mod query_range;
 mod query_reader;
+mod query_source;
+mod query_symbols;
 mod refusal;
 mod statement;
 mod symbols;
@@ -42,7 +52,7 @@ pub use expr_text::expression;
 pub use parser::parse;
 pub use query_laws::{one_tree, printed_statement};
 pub use query_print::print;
-pub use statement::{Entry, Item, Select, Statement};
+pub use statement::{Chain, Entry, GroupColumn, Item, Join, Limit, OrderKey, Select, Statement};
 pub use words::is_reserved;
 
 #[cfg(test)]

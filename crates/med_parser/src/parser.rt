@@ -3,20 +3,23 @@
 ghost use Rattle.std.specs.Prelude.{◌≡◌, ◌⊎◌, ℕ, List, IfOk, OnOk, IfErr, false};
 ghost use Rattle.med_value.specs.declared.cause.Cause.{Cause};
 ghost use Rattle.med_lexer.specs.Printing.{AreShapes};
-ghost use Rattle.med_parser.specs.ExprTerminals.{AreReadable, terminals_at};
+ghost use Rattle.med_parser.specs.ExprTerminals.{AreReadable};
 ghost use Rattle.med_parser.specs.ExprView.{terminals_of};
 ghost use Rattle.med_parser.specs.ExprAnswers.{Gives};
 ghost use Rattle.med_parser.specs.View.{shapes_of};
 ghost use Rattle.med_parser.specs.QueryGrammar.{HasStatement, IsStatement};
-ghost use Rattle.med_parser.specs.QueryCauses.{SyntaxCauses, TokenCauses, item_in_range, items_in_range, statement_in_range};
+ghost use Rattle.med_parser.specs.QueryCauses.{SyntaxCauses, TokenCauses, statement_in_range};
 ghost use Rattle.med_parser.specs.QueryReading.{bounded_line};
-ghost use Rattle.med_parser.specs.QueryView.{item_tree, items_tree, statement_tree};
+ghost use Rattle.med_parser.specs.QueryTerminals.{words_at};
+ghost use Rattle.med_parser.specs.QueryView.{statement_tree};
 
-use crate::expr_symbols::{has_unreadable, symbols_of};
-use crate::expr_text::{MAX_HEIGHT, ROOM, is_in_range, weight};
+use crate::expr_symbols::has_unreadable;
+use crate::expr_text::{MAX_HEIGHT, ROOM, weight};
+use crate::query_range::is_statement_in_range;
 use crate::query_reader::line;
+use crate::query_symbols::{Place, words_of};
 use crate::refusal::{ReadFault, Refusal};
-use crate::statement::{Item, Statement};
+use crate::statement::Statement;
 use crate::symbols::Symbol;
 use crate::token_list::{has_long_name, tokens_of};
 use med_lexer::{Token, tokens_can_be_printed};
@@ -47,49 +50,10 @@ fn bounded(alloc: Global, symbols: &[Symbol]) -> Result<Statement, ReadFault>
 /// The statement that all of the tokens are.
 fn statement_of(alloc: Global, tokens: &[Token]) -> Result<Statement, ReadFault>
     requires { AreReadable (shapes_of tokens.now) }
-    ensures { Gives statement_tree result (bounded_line (terminals_at false (shapes_of tokens.now))) }
+    ensures { Gives statement_tree result (bounded_line (words_at (Place.Before false) false (shapes_of tokens.now))) }
 {
-    let symbols = symbols_of(alloc, tokens)?;
+    let symbols = words_of(alloc, tokens)?;
     bounded(alloc, &symbols)
-}
-
-/// Whether each number of the item is in range.
-fn is_item_in_range(item: &Item) -> bool
-    ensures { result ≡ item_in_range (item_tree item.now) }
-{
-    match item {
-        Item::All | Item::AllOf(_) => true,
-        Item::Expression(expr, _) => is_in_range(expr),
-    }
-}
-
-/// Whether each number of the items is in range.
-fn are_items_in_range(items: &[Item]) -> bool
-    ensures { result ≡ items_in_range (items_tree items.now) }
-{
-    let mut left = items;
-    while let [item, rest @ ..] = left {
-        if !is_item_in_range(item) {
-            return false;
-        }
-        left = rest;
-    }
-    true
-}
-
-/// Whether each number of the statement is in range.
-fn is_statement_in_range(statement: &Statement) -> bool
-    ensures { result ≡ statement_in_range (statement_tree statement.now) }
-{
-    match statement {
-        Statement::Select(select) => {
-            are_items_in_range(&select.items)
-                && match &select.condition {
-                    Some(condition) => is_in_range(condition),
-                    None => true,
-                }
-        }
-    }
 }
 
 /// The statement that all of the tokens are, or why it is refused.

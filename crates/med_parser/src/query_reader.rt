@@ -1,22 +1,26 @@
 //! Statements, by recursive descent.
-#![tactic(auto, unfolding(crate::specs::QueryReading::label_after, crate::specs::QueryReading::value_of, crate::specs::QueryReading::alias_after, crate::specs::QueryReading::entry_of, crate::specs::QueryReading::source_of, crate::specs::QueryReading::condition_of, crate::specs::QueryReading::select_of, crate::specs::QueryReading::statement_of, crate::specs::QueryReading::line_of))]
+#![tactic(auto, unfolding(crate::specs::QueryReading::label_after, crate::specs::QueryReading::value_of, crate::specs::QueryReading::seq, crate::specs::QueryReading::select_of, crate::specs::QueryReading::statement_of, crate::specs::QueryReading::line_of))]
 
-ghost use Rattle.std.specs.Prelude.{◌≡◌, ◌<◌, option_map};
+ghost use Rattle.std.specs.Prelude.{◌≡◌, ◌<◌, ◌∷◌, [], option_map};
 ghost use Rattle.std.specs.String.{string_bytes};
 ghost use Rattle.med_parser.specs.ExprView.{expr_tree, terminal_of_symbol, terminals_of};
 ghost use Rattle.med_parser.specs.ExprAnswers.{Gives};
+ghost use Rattle.med_parser.specs.ExprReading.{below};
 ghost use Rattle.med_parser.specs.QueryReading as reading;
-ghost use Rattle.med_parser.specs.QueryView.{item_tree, items_tree, entry_tree, select_tree, statement_tree};
+ghost use Rattle.med_parser.specs.QueryView.{item_tree, items_tree, select_tree, statement_tree};
 
 use crate::expr::{BinaryOp, Expr, Joint};
 use crate::expr_reader::whole;
+use crate::query_keys::{flag, groups, keys, limits};
+use crate::query_source::chains;
 use crate::refusal::{ReadFault, Refusal};
-use crate::statement::{Entry, Item, Select, Statement};
+use crate::statement::{Item, Select, Statement};
 use crate::symbols::{Separator, Symbol, behind};
+use crate::words::is_reserved;
 use std::alloc::Global;
 
-/// The symbols behind the reserved word, where it comes first.
-fn behind_word<'a>(word: &str, symbols: &'a [Symbol]) -> Option<&'a [Symbol]>
+/// The symbols behind the keyword, where it comes first.
+pub fn behind_word<'a>(word: &str, symbols: &'a [Symbol]) -> Option<&'a [Symbol]>
     ensures { reading.behind_word word.now (terminals_of symbols.now) ≡ option_map (λ x. terminals_of x.now) result }
 {
     match symbols {
@@ -25,8 +29,33 @@ fn behind_word<'a>(word: &str, symbols: &'a [Symbol]) -> Option<&'a [Symbol]>
     }
 }
 
+/// The symbols behind two keywords, where they come first.
+pub fn behind_two<'a>(first: &str, second: &str, symbols: &'a [Symbol]) -> Option<&'a [Symbol]>
+    ensures { reading.behind_words (first.now ∷ second.now ∷ []) (terminals_of symbols.now) ≡ option_map (λ x. terminals_of x.now) result }
+{
+    match behind_word(first, symbols) {
+        Some(after) => behind_word(second, after),
+        None => None,
+    }
+}
+
+/// The symbols behind three keywords, where they come first.
+pub fn behind_three<'a>(
+    first: &str,
+    second: &str,
+    third: &str,
+    symbols: &'a [Symbol],
+) -> Option<&'a [Symbol]>
+    ensures { reading.behind_words (first.now ∷ second.now ∷ third.now ∷ []) (terminals_of symbols.now) ≡ option_map (λ x. terminals_of x.now) result }
+{
+    match behind_word(first, symbols) {
+        Some(after) => behind_two(second, third, after),
+        None => None,
+    }
+}
+
 /// The name at the front, and the symbols behind it.
-fn name(symbols: &[Symbol]) -> Result<(String, &[Symbol]), ReadFault>
+pub fn name(symbols: &[Symbol]) -> Result<(String, &[Symbol]), ReadFault>
     ensures { Gives (λ x. (string_bytes x.0, terminals_of x.1.now)) result (reading.read_name (terminals_of symbols.now)) }
 {
     match symbols {
@@ -36,7 +65,7 @@ fn name(symbols: &[Symbol]) -> Result<(String, &[Symbol]), ReadFault>
 }
 
 /// The name at the front, where there is one.
-fn perhaps_name(symbols: &[Symbol]) -> Result<(Option<String>, &[Symbol]), ReadFault>
+pub fn perhaps_name(symbols: &[Symbol]) -> Result<(Option<String>, &[Symbol]), ReadFault>
     ensures { Gives (λ x. (option_map string_bytes x.0, terminals_of x.1.now)) result (reading.perhaps_name (terminals_of symbols.now)) }
 {
     match symbols {
@@ -61,7 +90,7 @@ fn word_of(symbol: &Symbol) -> Option<&str>
         Symbol::Truth(true) => Some("true"),
         Symbol::Truth(false) => Some("false"),
         Symbol::Name(name) => Some(name.as_str()),
-        Symbol::Reserved(word) => Some(word.as_str()),
+        Symbol::Reserved(word) if is_reserved(word) => Some(word.as_str()),
         _ => None,
     }
 }
@@ -134,51 +163,18 @@ fn items(alloc: Global, room: u32, symbols: &[Symbol]) -> Result<(Vec<Item>, &[S
     Ok((list, rest))
 }
 
-/// The name that a table has in the statement, where it has one of its own.
-fn alias(symbols: &[Symbol]) -> Result<(Option<String>, &[Symbol]), ReadFault>
-    ensures { Gives (λ x. (option_map string_bytes x.0, terminals_of x.1.now)) result (reading.alias_after (terminals_of symbols.now)) }
-{
-    match behind_word("as", symbols) {
-        Some(after) => {
-            let (name, rest) = name(after)?;
-            Ok((Some(name), rest))
-        }
-        None => perhaps_name(symbols),
-    }
-}
-
-/// The entry at the front, and the symbols behind it.
-fn entry(symbols: &[Symbol]) -> Result<(Entry, &[Symbol]), ReadFault>
-    ensures { Gives (λ x. (entry_tree x.0, terminals_of x.1.now)) result (reading.entry_of (terminals_of symbols.now)) }
-{
-    let (table, rest) = name(symbols)?;
-    let (alias, rest) = alias(rest)?;
-    Ok((Entry { table, alias }, rest))
-}
-
-/// The entry behind FROM, where there is one.
-fn source(symbols: &[Symbol]) -> Result<(Option<Entry>, &[Symbol]), ReadFault>
-    ensures { Gives (λ x. (option_map entry_tree x.0, terminals_of x.1.now)) result (reading.source_of (terminals_of symbols.now)) }
-{
-    match behind_word("from", symbols) {
-        Some(after) => {
-            let (entry, rest) = entry(after)?;
-            Ok((Some(entry), rest))
-        }
-        None => Ok((None, symbols)),
-    }
-}
-
-/// The condition behind WHERE, where there is one.
-fn condition(
+/// The condition behind the word, where it stands in front.
+#[tactic(auto, unfolding(crate::specs::QueryReading::perhaps_of))]
+fn clause<'a>(
     alloc: Global,
     room: u32,
-    symbols: &[Symbol],
-) -> Result<(Option<Expr>, &[Symbol]), ReadFault>
+    word: &str,
+    symbols: &'a [Symbol],
+) -> Result<(Option<Expr>, &'a [Symbol]), ReadFault>
     requires { room < 1000 }
-    ensures { Gives (λ x. (option_map expr_tree x.0, terminals_of x.1.now)) result (reading.condition_of room (terminals_of symbols.now)) }
+    ensures { Gives (λ x. (option_map expr_tree x.0, terminals_of x.1.now)) result (reading.perhaps_of (word.now ∷ []) (below room).whole (terminals_of symbols.now)) }
 {
-    match behind_word("where", symbols) {
+    match behind_word(word, symbols) {
         Some(after) => {
             let found = whole(alloc, room, after)?;
             Ok((Some(found.expr), found.rest))
@@ -187,22 +183,47 @@ fn condition(
     }
 }
 
-/// The query behind SELECT.
-fn select(alloc: Global, room: u32, symbols: &[Symbol]) -> Result<(Select, &[Symbol]), ReadFault>
+/// The query behind SELECT and its quantifier.
+fn select(
+    alloc: Global,
+    distinct: bool,
+    room: u32,
+    symbols: &[Symbol],
+) -> Result<(Select, &[Symbol]), ReadFault>
     requires { room < 1000 }
-    ensures { Gives (λ x. (select_tree x.0, terminals_of x.1.now)) result (reading.select_of room (terminals_of symbols.now)) }
+    ensures { Gives (λ x. (select_tree x.0, terminals_of x.1.now)) result (reading.select_of distinct room (terminals_of symbols.now)) }
 {
     let (items, rest) = items(alloc, room, symbols)?;
-    let (entry, rest) = source(rest)?;
-    let (condition, rest) = condition(alloc, room, rest)?;
+    let (from, rest) = chains(alloc, room, rest)?;
+    let (condition, rest) = clause(alloc, room, "where", rest)?;
+    let (groups, rest) = groups(alloc, rest)?;
+    let (having, rest) = clause(alloc, room, "having", rest)?;
+    let (keys, rest) = keys(alloc, room, rest)?;
+    let (limit, offset, rest) = limits(rest)?;
     Ok((
         Select {
+            distinct,
             items,
-            entry,
+            from,
             condition,
+            groups,
+            having,
+            keys,
+            limit,
+            offset,
         },
         rest,
     ))
+}
+
+/// The query behind SELECT.
+#[tactic(auto, unfolding(crate::specs::QueryReading::query_of))]
+fn query(alloc: Global, room: u32, symbols: &[Symbol]) -> Result<(Select, &[Symbol]), ReadFault>
+    requires { room < 1000 }
+    ensures { Gives (λ x. (select_tree x.0, terminals_of x.1.now)) result (reading.query_of room (terminals_of symbols.now)) }
+{
+    let (distinct, rest) = flag("distinct", "all", symbols);
+    select(alloc, distinct, room, rest)
 }
 
 /// The statement at the front, and the symbols behind it.
@@ -216,7 +237,7 @@ fn statement(
 {
     match behind_word("select", symbols) {
         Some(after) => {
-            let (query, rest) = select(alloc, room, after)?;
+            let (query, rest) = query(alloc, room, after)?;
             Ok((Statement::Select(query), rest))
         }
         None => Err(ReadFault::Refused(Refusal::Syntax)),

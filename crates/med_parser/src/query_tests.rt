@@ -1,5 +1,5 @@
 use crate::expr_tests::around;
-use crate::{Item, Statement, is_reserved, parse, print};
+use crate::{Item, Join, Limit, Statement, is_reserved, parse, print};
 use med_value::Cause;
 use std::alloc::Global;
 use std::test::Fail;
@@ -180,6 +180,280 @@ fn clauses(rt: HostRuntime) -> Result<(), Fail> {
 }
 
 #[test]
+fn joins(rt: HostRuntime) -> Result<(), Fail> {
+    let texts = [
+        ("SELECT * FROM a, b", "SELECT * FROM \"a\" , \"b\""),
+        (
+            "SELECT * FROM a x, b AS y, c",
+            "SELECT * FROM \"a\" AS \"x\" , \"b\" AS \"y\" , \"c\"",
+        ),
+        (
+            "SELECT * FROM a JOIN b ON x = y",
+            "SELECT * FROM \"a\" JOIN \"b\" ON \"x\" = \"y\"",
+        ),
+        (
+            "SELECT * FROM a INNER JOIN b ON x",
+            "SELECT * FROM \"a\" JOIN \"b\" ON \"x\"",
+        ),
+        (
+            "SELECT * FROM a LEFT JOIN b ON x",
+            "SELECT * FROM \"a\" LEFT JOIN \"b\" ON \"x\"",
+        ),
+        (
+            "SELECT * FROM a left outer join b y on x",
+            "SELECT * FROM \"a\" LEFT JOIN \"b\" AS \"y\" ON \"x\"",
+        ),
+        (
+            "SELECT * FROM a CROSS JOIN b AS c",
+            "SELECT * FROM \"a\" CROSS JOIN \"b\" AS \"c\"",
+        ),
+        (
+            "SELECT * FROM a z JOIN b ON x LEFT JOIN c ON y CROSS JOIN d, e JOIN f ON z WHERE w",
+            "SELECT * FROM \"a\" AS \"z\" JOIN \"b\" ON \"x\" LEFT JOIN \"c\" ON \"y\" CROSS JOIN \"d\" , \"e\" JOIN \"f\" ON \"z\" WHERE \"w\"",
+        ),
+    ];
+    for (text, expected) in texts {
+        assert_eq!(rt; printed(rt.alloc(), text)?.as_str(), expected, "in {text}");
+    }
+    Ok(())
+}
+
+#[test]
+fn groups_and_keys(rt: HostRuntime) -> Result<(), Fail> {
+    let texts = [
+        ("SELECT DISTINCT a", "SELECT DISTINCT \"a\""),
+        ("SELECT ALL a", "SELECT \"a\""),
+        ("SELECT distinct *", "SELECT DISTINCT *"),
+        (
+            "SELECT a FROM t GROUP BY a",
+            "SELECT \"a\" FROM \"t\" GROUP BY \"a\"",
+        ),
+        (
+            "SELECT a FROM t WHERE b GROUP BY t.a, \"B\" HAVING c",
+            "SELECT \"a\" FROM \"t\" WHERE \"b\" GROUP BY \"t\" . \"a\" , \"B\" HAVING \"c\"",
+        ),
+        ("SELECT 1 HAVING a", "SELECT 1 HAVING \"a\""),
+        (
+            "SELECT a ORDER BY a",
+            "SELECT \"a\" ORDER BY \"a\" ASC NULLS LAST",
+        ),
+        (
+            "SELECT a ORDER BY a ASC, b DESC",
+            "SELECT \"a\" ORDER BY \"a\" ASC NULLS LAST , \"b\" DESC NULLS FIRST",
+        ),
+        (
+            "SELECT a ORDER BY a NULLS FIRST, b DESC NULLS LAST, c + 1 asc nulls last",
+            "SELECT \"a\" ORDER BY \"a\" ASC NULLS FIRST , \"b\" DESC NULLS LAST , \"c\" + 1 ASC NULLS LAST",
+        ),
+        (
+            "SELECT a ORDER BY 1 DESC NULLS FIRST",
+            "SELECT \"a\" ORDER BY 1 DESC NULLS FIRST",
+        ),
+        (
+            "SELECT a FROM t ORDER BY a IS NULL, (b)",
+            "SELECT \"a\" FROM \"t\" ORDER BY \"a\" IS NULL ASC NULLS LAST , ( \"b\" ) ASC NULLS LAST",
+        ),
+    ];
+    for (text, expected) in texts {
+        assert_eq!(rt; printed(rt.alloc(), text)?.as_str(), expected, "in {text}");
+    }
+    Ok(())
+}
+
+#[test]
+fn limits(rt: HostRuntime) -> Result<(), Fail> {
+    let texts = [
+        ("SELECT a LIMIT 1", "SELECT \"a\" LIMIT 1"),
+        ("SELECT a LIMIT ALL", "SELECT \"a\" LIMIT ALL"),
+        ("SELECT a OFFSET 2", "SELECT \"a\" OFFSET 2"),
+        ("SELECT a OFFSET 2 ROW", "SELECT \"a\" OFFSET 2"),
+        ("SELECT a OFFSET 2 ROWS;", "SELECT \"a\" OFFSET 2"),
+        ("SELECT a LIMIT 1 OFFSET 2", "SELECT \"a\" LIMIT 1 OFFSET 2"),
+        ("SELECT a OFFSET 2 LIMIT 1", "SELECT \"a\" LIMIT 1 OFFSET 2"),
+        (
+            "SELECT a OFFSET 2 rows LIMIT ALL",
+            "SELECT \"a\" LIMIT ALL OFFSET 2",
+        ),
+        ("SELECT a LIMIT 0 OFFSET 0", "SELECT \"a\" LIMIT 0 OFFSET 0"),
+        (
+            "SELECT a LIMIT 9223372036854775807 OFFSET 9223372036854775807",
+            "SELECT \"a\" LIMIT 9223372036854775807 OFFSET 9223372036854775807",
+        ),
+        (
+            "SELECT DISTINCT a, b FROM t JOIN u ON c WHERE d GROUP BY a, b HAVING e ORDER BY a DESC LIMIT 3 OFFSET 4 ROWS",
+            "SELECT DISTINCT \"a\" , \"b\" FROM \"t\" JOIN \"u\" ON \"c\" WHERE \"d\" GROUP BY \"a\" , \"b\" HAVING \"e\" ORDER BY \"a\" DESC NULLS FIRST LIMIT 3 OFFSET 4",
+        ),
+    ];
+    for (text, expected) in texts {
+        assert_eq!(rt; printed(rt.alloc(), text)?.as_str(), expected, "in {text}");
+    }
+    Ok(())
+}
+
+#[test]
+fn keywords_that_are_names(rt: HostRuntime) -> Result<(), Fail> {
+    let texts = [
+        (
+            "SELECT nulls first FROM nulls first",
+            "SELECT \"nulls\" AS \"first\" FROM \"nulls\" AS \"first\"",
+        ),
+        (
+            "SELECT first, last AS nulls, 1 row, rows FROM t row",
+            "SELECT \"first\" , \"last\" AS \"nulls\" , 1 AS \"row\" , \"rows\" FROM \"t\" AS \"row\"",
+        ),
+        (
+            "SELECT a FROM t GROUP BY nulls, first.last",
+            "SELECT \"a\" FROM \"t\" GROUP BY \"nulls\" , \"first\" . \"last\"",
+        ),
+        (
+            "SELECT a ORDER BY nulls NULLS FIRST, first, nulls.last DESC, row + rows",
+            "SELECT \"a\" ORDER BY \"nulls\" ASC NULLS FIRST , \"first\" ASC NULLS LAST , \"nulls\" . \"last\" DESC NULLS FIRST , \"row\" + \"rows\" ASC NULLS LAST",
+        ),
+        (
+            "SELECT a ORDER BY \"nulls\" NULLS LAST",
+            "SELECT \"a\" ORDER BY \"nulls\" ASC NULLS LAST",
+        ),
+        (
+            "SELECT a AS order FROM nulls first",
+            "SELECT \"a\" AS \"order\" FROM \"nulls\" AS \"first\"",
+        ),
+        (
+            "SELECT a AS as ORDER BY a NULLS FIRST OFFSET 1 ROW LIMIT 2",
+            "SELECT \"a\" AS \"as\" ORDER BY \"a\" ASC NULLS FIRST LIMIT 2 OFFSET 1",
+        ),
+        (
+            "SELECT a AS offset, 1 row FROM t",
+            "SELECT \"a\" AS \"offset\" , 1 AS \"row\" FROM \"t\"",
+        ),
+    ];
+    for (text, expected) in texts {
+        assert_eq!(rt; printed(rt.alloc(), text)?.as_str(), expected, "in {text}");
+    }
+    Ok(())
+}
+
+#[test]
+fn trees_of_clauses(rt: HostRuntime) -> Result<(), Fail> {
+    let text =
+        "SELECT DISTINCT a FROM t JOIN u ON b LEFT JOIN v ON c CROSS JOIN w, x GROUP BY a, t.b HAVING c ORDER BY a, b DESC, c NULLS FIRST LIMIT 5 OFFSET 6";
+    let Statement::Select(select) = parse(rt.alloc(), text).ok().ok_or(text)?;
+    assert!(rt; select.distinct);
+    assert_eq!(rt; select.from.len(), 2);
+    let joins = &select.from[0].joins;
+    assert_eq!(rt; joins.len(), 3);
+    assert!(rt; matches!(&joins[0], Join::Inner(entry, _) if entry.table.as_str() == "u"));
+    assert!(rt; matches!(&joins[1], Join::Left(entry, _) if entry.table.as_str() == "v"));
+    assert!(rt; matches!(&joins[2], Join::Cross(entry) if entry.table.as_str() == "w"));
+    assert_eq!(rt; select.from[1].first.table.as_str(), "x");
+    assert!(rt; select.condition.is_none());
+    assert_eq!(rt; select.groups.len(), 2);
+    assert!(rt; select.groups[0].qualifier.is_none());
+    assert!(rt; select.groups[1].qualifier.is_some());
+    assert!(rt; select.having.is_some());
+    assert_eq!(rt; select.keys.len(), 3);
+    assert!(rt; !select.keys[0].descending && !select.keys[0].nulls_first);
+    assert!(rt; select.keys[1].descending && select.keys[1].nulls_first);
+    assert!(rt; !select.keys[2].descending && select.keys[2].nulls_first);
+    assert!(rt; matches!(select.limit, Some(Limit::Rows(5))));
+    assert!(rt; matches!(select.offset, Some(6)));
+    Ok(())
+}
+
+#[test]
+fn syntax_errors_of_clauses(rt: HostRuntime) {
+    let texts = [
+        "SELECT DISTINCT",
+        "SELECT DISTINCT ALL a",
+        "SELECT ALL DISTINCT a",
+        "SELECT a DISTINCT",
+        "SELECT a FROM t,",
+        "SELECT a FROM t, WHERE b",
+        "SELECT a FROM t JOIN u",
+        "SELECT a FROM t INNER u ON b",
+        "SELECT a FROM t LEFT u ON b",
+        "SELECT a FROM t OUTER JOIN u ON b",
+        "SELECT a FROM t INNER OUTER JOIN u ON b",
+        "SELECT a FROM t RIGHT JOIN u ON b",
+        "SELECT a FROM t FULL JOIN u ON b",
+        "SELECT a FROM t NATURAL JOIN u",
+        "SELECT a FROM t JOIN u USING (b)",
+        "SELECT a FROM t JOIN ON b",
+        "SELECT a FROM t JOIN u ON",
+        "SELECT a FROM t CROSS JOIN u ON b",
+        "SELECT a FROM t CROSS u",
+        "SELECT a FROM JOIN u ON b",
+        "SELECT a FROM (t JOIN u ON b)",
+        "SELECT a GROUP a",
+        "SELECT a GROUP BY",
+        "SELECT a GROUP BY 1",
+        "SELECT a GROUP BY a + b",
+        "SELECT a GROUP BY (a)",
+        "SELECT a GROUP BY a.b.c",
+        "SELECT a GROUP BY a,",
+        "SELECT a GROUP BY a b",
+        "SELECT a HAVING",
+        "SELECT a HAVING b WHERE c",
+        "SELECT a HAVING b GROUP BY c",
+        "SELECT a ORDER a",
+        "SELECT a ORDER BY",
+        "SELECT a ORDER BY a b",
+        "SELECT a ORDER BY a AS b",
+        "SELECT a ORDER BY a nulls",
+        "SELECT a ORDER BY a first",
+        "SELECT a ORDER BY a NULLS",
+        "SELECT a ORDER BY a NULLS row",
+        "SELECT a ORDER BY a \"nulls\" FIRST",
+        "SELECT a ORDER BY a NULLS \"first\"",
+        "SELECT a ORDER BY nulls FIRST",
+        "SELECT a ORDER BY NULLS FIRST",
+        "SELECT a ORDER BY a NULLS FIRST DESC",
+        "SELECT a ORDER BY a DESC ASC",
+        "SELECT a ORDER BY a NULLS FIRST NULLS LAST",
+        "SELECT a ORDER BY a GROUP BY b",
+        "SELECT a ORDER BY *",
+        "SELECT a LIMIT",
+        "SELECT a LIMIT -1",
+        "SELECT a LIMIT b",
+        "SELECT a LIMIT 1 + 1",
+        "SELECT a LIMIT (1)",
+        "SELECT a LIMIT 1 ROWS",
+        "SELECT a LIMIT 1 LIMIT 2",
+        "SELECT a LIMIT NULL",
+        "SELECT a OFFSET",
+        "SELECT a OFFSET ALL",
+        "SELECT a OFFSET 1 OFFSET 2",
+        "SELECT a OFFSET 1 LIMIT 2 OFFSET 3",
+        "SELECT a OFFSET 1 \"row\"",
+        "SELECT a OFFSET 1 row rows",
+        "SELECT a OFFSET ROW",
+        "SELECT a LIMIT 1 ORDER BY a",
+        "SELECT a OFFSET 1 FROM t",
+        "SELECT a FROM t ORDER BY a WHERE b",
+    ];
+    for text in texts {
+        assert!(rt; refused(rt.alloc(), text, Cause::Syntax), "at {text}");
+    }
+}
+
+#[test]
+fn counts_out_of_range(rt: HostRuntime) {
+    let texts = [
+        "SELECT a LIMIT 9223372036854775808",
+        "SELECT a OFFSET 9223372036854775808",
+        "SELECT a LIMIT 99999999999999999999",
+        "SELECT a FROM t JOIN u ON b = 9223372036854775808",
+        "SELECT a HAVING 9223372036854775808 = b",
+        "SELECT a ORDER BY a, 9223372036854775808",
+    ];
+    for text in texts {
+        assert!(rt;
+            refused(rt.alloc(), text, Cause::LiteralOutOfRange),
+            "at {text}"
+        );
+    }
+}
+
+#[test]
 fn trees(rt: HostRuntime) -> Result<(), Fail> {
     let text = "SELECT *, t.*, a + 1 x, b FROM t u WHERE c";
     let Statement::Select(select) = parse(rt.alloc(), text).ok().ok_or(text)?;
@@ -188,13 +462,21 @@ fn trees(rt: HostRuntime) -> Result<(), Fail> {
     assert!(rt; matches!(&select.items[1], Item::AllOf(_)));
     assert!(rt; matches!(&select.items[2], Item::Expression(_, Some(_))));
     assert!(rt; matches!(&select.items[3], Item::Expression(_, None)));
-    let entry = select.entry.ok_or("no entry")?;
-    assert_eq!(rt; entry.table.as_str(), "t");
-    assert_eq!(rt; entry.alias.ok_or("no alias")?.as_str(), "u");
+    assert_eq!(rt; select.from.len(), 1);
+    let chain = &select.from[0];
+    assert_eq!(rt; chain.first.table.as_str(), "t");
+    assert!(rt; matches!(&chain.first.alias, Some(alias) if alias.as_str() == "u"));
+    assert!(rt; chain.joins.is_empty());
     assert!(rt; select.condition.is_some());
     let Statement::Select(bare) = parse(rt.alloc(), "SELECT 1").ok().ok_or("refused")?;
-    assert!(rt; bare.entry.is_none());
+    assert!(rt; !bare.distinct);
+    assert!(rt; bare.from.is_empty());
     assert!(rt; bare.condition.is_none());
+    assert!(rt; bare.groups.is_empty());
+    assert!(rt; bare.having.is_none());
+    assert!(rt; bare.keys.is_empty());
+    assert!(rt; bare.limit.is_none());
+    assert!(rt; bare.offset.is_none());
     Ok(())
 }
 
@@ -489,7 +771,7 @@ fn is_read_or_lacks_memory(alloc: Global, text: &str, expected: &str) -> bool {
     }
 }
 
-// Each of the three holds whichever allocation is refused: `rt try --test --fail-alloc N` refuses the Nth.
+// Each of these holds whichever allocation is refused: `rt try --test --fail-alloc N` refuses the Nth.
 #[test]
 fn refused_allocation_of_items(rt: HostRuntime) {
     assert!(rt;
@@ -519,6 +801,28 @@ fn refused_allocation_of_expressions(rt: HostRuntime) {
             rt.alloc(),
             "SELECT -(a + 1) * -2 x WHERE a BETWEEN 1 AND b OR c IS NOT UNKNOWN OR t.d",
             "SELECT - ( \"a\" + 1 ) * - 2 AS \"x\" WHERE \"a\" BETWEEN 1 AND \"b\" OR \"c\" IS NOT UNKNOWN OR \"t\" . \"d\""
+        )
+    );
+}
+
+#[test]
+fn refused_allocation_of_joins(rt: HostRuntime) {
+    assert!(rt;
+        is_read_or_lacks_memory(
+            rt.alloc(),
+            "SELECT DISTINCT 1 FROM t u JOIN v ON a LEFT JOIN w x ON b CROSS JOIN y, z",
+            "SELECT DISTINCT 1 FROM \"t\" AS \"u\" JOIN \"v\" ON \"a\" LEFT JOIN \"w\" AS \"x\" ON \"b\" CROSS JOIN \"y\" , \"z\""
+        )
+    );
+}
+
+#[test]
+fn refused_allocation_of_keys(rt: HostRuntime) {
+    assert!(rt;
+        is_read_or_lacks_memory(
+            rt.alloc(),
+            "SELECT a GROUP BY a, t.b HAVING c ORDER BY a, b DESC NULLS LAST OFFSET 2 ROWS LIMIT 1",
+            "SELECT \"a\" GROUP BY \"a\" , \"t\" . \"b\" HAVING \"c\" ORDER BY \"a\" ASC NULLS LAST , \"b\" DESC NULLS LAST LIMIT 1 OFFSET 2"
         )
     );
 }

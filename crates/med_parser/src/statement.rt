@@ -8,12 +8,27 @@ pub enum Statement {
     Select(Select),
 }
 
-/// `SELECT items [FROM entry] [WHERE condition]` (SQL:2016, 7.16 <query specification>).
+/// A query (SQL:2016, 7.16 <query specification>, 7.17 <query expression>).
 #[derive(Debug, PartialEq, Eq, Drop)]
 pub struct Select {
+    /// Whether DISTINCT is written.
+    pub distinct: bool,
+    /// What is answered.
     pub items: Vec<Item>,
-    pub entry: Option<Entry>,
+    /// FROM: a comma stands between two chains; none where there is no FROM.
+    pub from: Vec<Chain>,
+    /// WHERE.
     pub condition: Option<Expr>,
+    /// GROUP BY; none where it is not written.
+    pub groups: Vec<GroupColumn>,
+    /// HAVING.
+    pub having: Option<Expr>,
+    /// ORDER BY; none where it is not written.
+    pub keys: Vec<OrderKey>,
+    /// LIMIT.
+    pub limit: Option<Limit>,
+    /// OFFSET.
+    pub offset: Option<u64>,
 }
 
 /// What a query answers (SQL:2016, 7.16 <select sublist>).
@@ -32,4 +47,47 @@ pub enum Item {
 pub struct Entry {
     pub table: String,
     pub alias: Option<String>,
+}
+
+/// One entry of FROM, and what is joined to it, from the left on (SQL:2016, 7.10 <joined table>).
+#[derive(Debug, PartialEq, Eq, Drop)]
+pub struct Chain {
+    pub first: Entry,
+    pub joins: Vec<Join>,
+}
+
+/// A join with one more entry.
+#[derive(Debug, PartialEq, Eq, Drop)]
+pub enum Join {
+    /// `[INNER] JOIN entry ON e`
+    Inner(Entry, Expr),
+    /// `LEFT [OUTER] JOIN entry ON e`
+    Left(Entry, Expr),
+    /// `CROSS JOIN entry`
+    Cross(Entry),
+}
+
+/// `[qualifier .] column`, in GROUP BY (SQL:2016, 7.13 <grouping column reference>).
+#[derive(Debug, PartialEq, Eq, Drop)]
+pub struct GroupColumn {
+    pub qualifier: Option<String>,
+    pub name: String,
+}
+
+/// A key of ORDER BY (SQL:2016, 10.10 <sort specification>). What is not written is as SQL has it: ASC, which puts NULL last; DESC puts it
+/// first.
+#[derive(Debug, PartialEq, Eq, Drop)]
+pub struct OrderKey {
+    pub key: Expr,
+    pub descending: bool,
+    pub nulls_first: bool,
+}
+
+/// How many rows LIMIT leaves.
+#[derive(Clone, Copy, Debug, PartialEq, Eq, Drop)]
+pub enum Limit {
+    /// `ALL`
+    All,
+    /// So many.
+    Rows(u64),
 }

@@ -2,7 +2,7 @@
 
 ghost use Rattle.std.specs.Prelude.{◌≡◌, option_map};
 ghost use Rattle.med_parser.specs.ExprReading as reading;
-ghost use Rattle.med_parser.specs.ExprSteps.{behind_of, operator_of};
+ghost use Rattle.med_parser.specs.ExprSteps.{behind_minus_of, behind_of, operator_of};
 ghost use Rattle.med_parser.specs.ExprView.{terminal_of_symbol, terminals_of};
 
 use crate::expr::{BinaryOp, CompareOp, Joint, Status};
@@ -56,6 +56,16 @@ pub fn behind(separator: Separator, symbols: &[Symbol]) -> Option<&[Symbol]>
         (Separator::Between(Joint::Or), [Symbol::Joint(Joint::Or), rest @ ..]) => Some(rest),
         (Separator::Between(Joint::And), [Symbol::Joint(Joint::And), rest @ ..]) => Some(rest),
         (Separator::Comma, [Symbol::Comma, rest @ ..]) => Some(rest),
+        _ => None,
+    }
+}
+
+/// The symbols behind a minus, where it comes first.
+pub fn behind_minus(symbols: &[Symbol]) -> Option<&[Symbol]>
+    ensures { behind_minus_of (terminals_of symbols.now) ≡ option_map (λ x. terminals_of x.now) result }
+{
+    match symbols {
+        [Symbol::Binary(BinaryOp::Sub), rest @ ..] => Some(rest),
         _ => None,
     }
 }

@@ -1,17 +1,15 @@
 -- A box in one slot changes, and all others stay.
-use Rattle.std.proofs.Common.{◌≡◌, ◌≢◌, ℕ, ◌⊎◌, true, false, List, [], ◌∷◌, Option, Some, slice_get, slice_set, length, refl, ap, sym, ◌∙◌, subst, arith, zero, suc, eqb, inl, inr}
+use Rattle.std.proofs.Common.{◌≡◌, ◌≢◌, ℕ, ◌⊎◌, true, false, List, [], ◌∷◌, Option, Some, None, slice_get, slice_set, length, refl, ap, sym, ◌∙◌, subst, arith, zero, suc, eqb, inl, inr}
 use Rattle.std.proofs.lemmas.Bool.Decides.{eqb_tells}
 use Rattle.std.proofs.lemmas.List.{length-set}
 use Rattle.fdw_api.specs.State.{BoxState, is_honest}
 use Rattle.fdw_api.specs.Calls.{LeavesAll, Refuses}
 use Rattle.fdw_api.specs.declared.interface.Fault.{Fault}
-use Rattle.med_value.specs.Datum.{Tuple}
 use Rattle.med_exec.specs.Slots.{ChangesAt}
-use Rattle.med_exec.specs.Scanning.{ReadsTable, FailsTable}
-use Rattle.med_exec.specs.TableAnswers.{LeavesOff}
+use Rattle.med_exec.specs.Running.{Served, AllServed}
 use Rattle.med_session.specs.Engine.{Rises, EachRises}
 
--- what a whole scan leaves of a box
+-- what serving a query leaves of a box
 pub record Keeps (b c : BoxState) : Type 0 where
   pub nature : c.nature ≡ b.nature
   pub tables : c.ledger.tables ≡ b.ledger.tables
@@ -29,28 +27,8 @@ same_rows b c h = λ i t. h.rows t (λ x. x) i
 same_holdings : (b c : BoxState) → LeavesAll b c → c.content.holdings ≡ b.content.holdings
 same_holdings b c h = λ i r. h.holdings r (λ x. x) i
 
-pub reads_keeps : (b c : BoxState) (t : ℕ) (rows : List Tuple) → ReadsTable b t rows c → Keeps b c
-reads_keeps b c t rows h = record {
-  nature = h.nature;
-  tables = ap (λ l. l.tables) h.ledger;
-  live = ap (λ l. l.live) h.ledger;
-  staged = ap (λ l. l.staged) h.ledger;
-  rows = λ honest. same_rows b c (h.leaves honest);
-  holdings = λ honest. same_holdings b c (h.leaves honest);
-}
-
-pub part_keeps : (b c : BoxState) (t : ℕ) (rows : List Tuple) → LeavesOff b t rows c → Keeps b c
-part_keeps b c t rows h = record {
-  nature = h.nature;
-  tables = ap (λ l. l.tables) h.ledger;
-  live = ap (λ l. l.live) h.ledger;
-  staged = ap (λ l. l.staged) h.ledger;
-  rows = λ honest. same_rows b c (h.leaves honest);
-  holdings = λ honest. same_holdings b c (h.leaves honest);
-}
-
-pub fails_keeps : (b c : BoxState) (fault : Fault) → FailsTable fault b c → Keeps b c
-fails_keeps b c fault h = record {
+pub served_keeps : (b c : BoxState) → Served b c → Keeps b c
+served_keeps b c h = record {
   nature = h.nature;
   tables = ap (λ l. l.tables) h.ledger;
   live = ap (λ l. l.live) h.ledger;
@@ -126,3 +104,76 @@ now_there Q old new slot h = ap (λ (l : List (Option BoxState)). slice_get l sl
 
 pub as_many : (Q : BoxState → BoxState → Type 0) (old new : List (Option BoxState)) (slot : ℕ) → ChangesAt old slot Q new → length new ≡ length old
 as_many Q old new slot h = ap (λ (l : List (Option BoxState)). length l) h.slots ∙ length-set old slot (Some h.after)
+
+-- ---- boxes that were served
+
+served_rises : (b c : BoxState) → Served b c → Rises b c
+served_rises b c h = record { nature = h.nature; next = h.next; end = h.end; faults = h.faults }
+
+served_itself : (s : BoxState) → Served s s
+served_itself s = record {
+  nature = refl;
+  ledger = refl;
+  next = omega arith;
+  end = λ p. p;
+  faults = omega arith;
+  leaves = λ h. record { coming = λ q live other. refl; rows = λ t other. refl; holdings = λ r other. refl };
+}
+
+-- nothing was asked
+pub all_served : (boxes : List (Option BoxState)) → AllServed boxes boxes
+all_served [] = tt
+all_served (None ∷ xs) = all_served xs
+all_served (Some s ∷ xs) = (served_itself s, all_served xs)
+
+served_onward : (old new : List (Option BoxState)) → AllServed old new → Onward Served old new
+served_onward [] [] h i b at = absurd cc
+served_onward [] (y ∷ ys) h i b at = absurd h
+served_onward (None ∷ xs) [] h i b at = absurd h
+served_onward (Some a ∷ xs) [] h i b at = absurd h
+served_onward (None ∷ xs) (Some y ∷ ys) h i b at = absurd h
+served_onward (Some a ∷ xs) (None ∷ ys) h i b at = absurd h
+served_onward (None ∷ xs) (None ∷ ys) h zero b at = absurd cc
+served_onward (None ∷ xs) (None ∷ ys) h (suc i) b at = served_onward xs ys h i b at
+served_onward (Some a ∷ xs) (Some c ∷ ys) h zero b at = (c, refl, subst (λ (z : BoxState). Served z c) (same_box a b at) h.0)
+served_onward (Some a ∷ xs) (Some c ∷ ys) h (suc i) b at = served_onward xs ys h.1 i b at
+
+served_backward : (old new : List (Option BoxState)) → AllServed old new → Backward Served old new
+served_backward [] [] h i c at = absurd cc
+served_backward [] (y ∷ ys) h i c at = absurd h
+served_backward (None ∷ xs) [] h i c at = absurd h
+served_backward (Some a ∷ xs) [] h i c at = absurd h
+served_backward (None ∷ xs) (Some y ∷ ys) h i c at = absurd h
+served_backward (Some a ∷ xs) (None ∷ ys) h i c at = absurd h
+served_backward (None ∷ xs) (None ∷ ys) h zero c at = absurd cc
+served_backward (None ∷ xs) (None ∷ ys) h (suc i) c at = served_backward xs ys h i c at
+served_backward (Some a ∷ xs) (Some b ∷ ys) h zero c at = (a, refl, subst (λ (z : BoxState). Served a z) (same_box b c at) h.0)
+served_backward (Some a ∷ xs) (Some b ∷ ys) h (suc i) c at = served_backward xs ys h.1 i c at
+
+pub served_as_many : (old new : List (Option BoxState)) → AllServed old new → length new ≡ length old
+served_as_many [] [] h = refl
+served_as_many [] (y ∷ ys) h = absurd h
+served_as_many (None ∷ xs) [] h = absurd h
+served_as_many (Some a ∷ xs) [] h = absurd h
+served_as_many (None ∷ xs) (Some y ∷ ys) h = absurd h
+served_as_many (Some a ∷ xs) (None ∷ ys) h = absurd h
+served_as_many (None ∷ xs) (None ∷ ys) h = ap suc (served_as_many xs ys h)
+served_as_many (Some a ∷ xs) (Some b ∷ ys) h = ap suc (served_as_many xs ys h.1)
+
+onward_by : (P Q : BoxState → BoxState → Type 0) (old new : List (Option BoxState)) → ((b c : BoxState) → P b c → Q b c) → Onward P old new → Onward Q old new
+onward_by P Q old new f h i b at = let n = h i b at in (n.0, n.1, f b n.0 n.2)
+
+backward_by : (P Q : BoxState → BoxState → Type 0) (old new : List (Option BoxState)) → ((b c : BoxState) → P b c → Q b c) → Backward P old new → Backward Q old new
+backward_by P Q old new f h i c at = let n = h i c at in (n.0, n.1, f n.0 c n.2)
+
+pub served_on : (old new : List (Option BoxState)) → AllServed old new → Onward Keeps old new
+served_on old new h = onward_by Served Keeps old new served_keeps (served_onward old new h)
+
+pub served_back : (old new : List (Option BoxState)) → AllServed old new → Backward Keeps old new
+served_back old new h = backward_by Served Keeps old new served_keeps (served_backward old new h)
+
+pub each_served_rises : (old new : List (Option BoxState)) → AllServed old new → EachRises old new
+each_served_rises old new h = record {
+  stays = onward_by Served Rises old new served_rises (served_onward old new h);
+  stood = backward_by Served Rises old new served_rises (served_backward old new h);
+}

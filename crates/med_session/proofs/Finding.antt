@@ -1,16 +1,18 @@
 -- What is found in lists of tables.
-use Rattle.std.proofs.Common.{◌≡◌, ℕ, ◌+◌, ◌<◌, Bool, true, false, cond, List, [], ◌∷◌, Option, Some, None, length, map, slice_index_or, All, refl, sym, ap, ◌∙◌, subst, zero, suc, arith, slice_get, bytes_eq, IsPermutation}
-use Rattle.std.proofs.lemmas.List.{length-map}
+use Rattle.std.proofs.Common.{◌≡◌, ℕ, List, [], ◌∷◌, Option, Some, map, All, refl, sym, ap, ◌∙◌, subst, zero, suc, arith, slice_get, IsPermutation}
+use Rattle.std.proofs.lemmas.List.Sorted.{IsPermutation-refl}
+use Rattle.med_value.specs.Datum.{Tuple}
+use Rattle.tri_expr.specs.Query.{SameRows}
 use Rattle.fdw_api.specs.State.{BoxState}
+use Rattle.pushdown.specs.Offered.{Place}
 use Rattle.med_exec.specs.Slots.{BoxAt}
 use Rattle.med_exec.specs.Scanning.{tuples_of}
-use Rattle.med_parser.specs.Tree.{Name}
-use Rattle.med_parser.specs.QueryTree.{EntryTree, StatementTree, select}
-use Rattle.med_binder.specs.Scope.{TableShape, place_from, from_place}
+use Rattle.med_exec.specs.Running.{rows_shown, entry_rows}
+use Rattle.med_binder.specs.Scope.{TableShape}
 use Rattle.med_session.specs.World.{ForeignTable, shapes, rows_in}
-use Rattle.med_session.specs.Selecting.{shape_of, meant_in, IsPlaceIn}
-use Rattle.med_binder.specs.declared.table.AttachedTable.{AttachedTable}
-use Rattle.med_session.specs.Engine.{Label, Attached, attached, TableAgrees, TablesAgree}
+use Rattle.med_session.specs.Queries.{entry_tables}
+use Rattle.med_session.specs.Selecting.{shape_of, IsPlaceOf, ArePlaces}
+use Rattle.med_session.specs.Engine.{Label, Attached, TablesAgree}
 
 -- the tables of an engine and of a world that agree have the same names and columns
 pub shapes_agree : (labels : List Label) (boxes : List (Option BoxState)) (tables : List Attached) (ts : List ForeignTable) → TablesAgree labels boxes tables ts → map shape_of tables ≡ shapes ts
@@ -35,34 +37,22 @@ rows_agree labels boxes (b ∷ more) [] place a h at = absurd h
 rows_agree labels boxes (b ∷ more) (t ∷ ts) zero a h at = subst (λ (x : Attached). BoxAt boxes x.source (λ s. IsPermutation (tuples_of s x.number) t.rows)) (some_same b a at) h.0.rows
 rows_agree labels boxes (b ∷ more) (t ∷ ts) (suc place) a h at = rows_agree labels boxes more ts place a h.1 at
 
--- the place of a table is one in the list
-below_here : (b : Bool) (at n k : ℕ) (later : Option ℕ) → cond b (Some at) later ≡ Some k → (later ≡ Some k → k < suc at + n) → k < at + suc n
-below_here true at n k later e rest = let p : at ≡ k = some_same at k e in omega arith
-below_here false at n k later e rest = let p : k < suc at + n = rest e in omega arith
+-- and so the rows of the entries of a query
+place_rows : (labels : List Label) (boxes : List (Option BoxState)) (tables : List Attached) (ts : List ForeignTable) (k : ℕ) (p : Place) → TablesAgree labels boxes tables ts → IsPlaceOf tables k p
+    → IsPermutation (rows_shown (slice_get boxes p.source) p.table) (rows_in ts k)
+place_rows labels boxes tables ts k p h i =
+    let b = rows_agree labels boxes tables ts k i.table h i.there in
+    let is : rows_shown (slice_get boxes p.source) p.table ≡ tuples_of b.box i.table.number =
+    ap (λ (s : ℕ). rows_shown (slice_get boxes s) p.table) i.source ∙ ap (λ (o : Option (Option BoxState)). rows_shown o p.table) b.there ∙ ap (λ (t : ℕ). tuples_of b.box t) i.number in
+    subst (λ (rows : List Tuple). IsPermutation rows (rows_in ts k)) (sym is) b.holds
 
-place_below : (at : ℕ) (ts : List TableShape) (name : Name) (k : ℕ) → place_from at ts name ≡ Some k → k < at + length ts
-place_below at [] name k e = absurd cc
-place_below at (t ∷ ts) name k e = below_here (bytes_eq t.name name) at (length ts) k (place_from (suc at) ts name) e (place_below (suc at) ts name k)
-
-entry_below : (ts : List TableShape) (entry : Option EntryTree) (k : ℕ) → from_place ts entry ≡ Some k → k < length ts
-entry_below ts None k e = absurd cc
-entry_below ts (Some x) k e = let p : k < 0 + length ts = place_below 0 ts x.table k e in omega arith
-
-within : (tables : List Attached) (from : Option ℕ) → ((k : ℕ) → from ≡ Some k → k < length tables) → IsPlaceIn from tables
-within tables None h = tt
-within tables (Some k) h = h k refl
-
-pub place_in : (tables : List Attached) (tree : StatementTree) → IsPlaceIn (meant_in tables tree).from tables
-place_in tables (select q) =
-    within tables (from_place (map shape_of tables) q.entry) (λ k e.
-    let p : k < length (map shape_of tables) = entry_below (map shape_of tables) q.entry k e in
-    subst (λ (n : ℕ). k < n) (length-map tables shape_of) p)
-
--- the table that stands in a place
-pub attached_at : (tables : List AttachedTable) (place : ℕ) (t : AttachedTable) → place < length tables → t ≡ slice_index_or tables place t → slice_get (map attached tables) place ≡ Some (attached t)
-attached_at [] place t lt e = absurd (omega arith)
-attached_at (x ∷ xs) zero t lt e = ap (λ (y : AttachedTable). Some (attached y)) (sym e)
-attached_at (x ∷ xs) (suc place) t lt e = attached_at xs place t (omega arith) e
+pub entries_agree : (labels : List Label) (boxes : List (Option BoxState)) (tables : List Attached) (ts : List ForeignTable) (ks : List ℕ) (ps : List Place) → TablesAgree labels boxes tables ts → ArePlaces tables ks ps
+    → SameRows (entry_rows boxes ps) (entry_tables ks (rows_in ts))
+entries_agree labels boxes tables ts [] [] h is t = IsPermutation-refl []
+entries_agree labels boxes tables ts [] (p ∷ ps) h is t = absurd is
+entries_agree labels boxes tables ts (k ∷ ks) [] h is t = absurd is
+entries_agree labels boxes tables ts (k ∷ ks) (p ∷ ps) h is zero = place_rows labels boxes tables ts k p h is.0
+entries_agree labels boxes tables ts (k ∷ ks) (p ∷ ps) h is (suc t) = entries_agree labels boxes tables ts ks ps h is.1 t
 
 pub all_at : {X : Type 0} (P : X → Type 0) (xs : List X) (place : ℕ) (x : X) → All P xs → slice_get xs place ≡ Some x → P x
 all_at P [] place x h e = absurd cc

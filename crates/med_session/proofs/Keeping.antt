@@ -1,11 +1,12 @@
--- A whole scan leaves an engine sound, and in agreement with the same worlds.
-use Rattle.std.proofs.Common.{◌≡◌, ℕ, List, [], ◌∷◌, Option, Some, IsSome, All, slice_get, slice_set, slice_index_or, map, refl, ap, sym, ◌∙◌, subst, zero, suc, IsPermutation}
+-- What a query does to boxes leaves an engine sound, and in agreement with the same worlds.
+use Rattle.std.proofs.Common.{◌≡◌, ℕ, List, [], ◌∷◌, Option, Some, None, IsSome, All, slice_get, slice_set, slice_index_or, map, length, refl, ap, sym, ◌∙◌, subst, zero, suc, IsPermutation}
 use Rattle.fdw_api.specs.Scan.{TableRow}
 use Rattle.fdw_api.specs.State.{BoxState, Bound, is_honest, scan_of}
 use Rattle.med_exec.specs.Slots.{ChangesAt, HasTable}
-use Rattle.med_session.specs.World.{World, Source, SourceState, free, ForeignTable}
+use Rattle.med_exec.specs.Running.{AllServed}
+use Rattle.med_session.specs.World.{World, Source, SourceState, free, dropped, ForeignTable}
 use Rattle.med_session.specs.Engine.{Label, Attached, Shown, IsAtRest, EachBox, TakesColumns, BoundAreAttached, IsSound, state_of, sources_of, TableAgrees, TablesAgree, Agrees}
-use Rattle.med_session.proofs.Boxes.{Keeps, keeps_itself, Onward, Backward, onward, backward, as_many}
+use Rattle.med_session.proofs.Boxes.{Keeps, keeps_itself, Onward, Backward, onward, backward, as_many, served_keeps, served_on, served_back, served_as_many}
 
 abbrev pub with_boxes : Shown → List (Option BoxState) → Shown
 with_boxes e boxes = record e { boxes = boxes }
@@ -38,23 +39,27 @@ attached_kept old new tables back h slot c t bound at is =
     let b = back slot c at in
     h slot b.0 t bound b.1 (sym (ap (λ f. f t) b.2.tables) ∙ is)
 
+sound_by : (e : Shown) (new : List (Option BoxState)) → Onward Keeps e.boxes new → Backward Keeps e.boxes new → length new ≡ length e.boxes → IsSound e → IsSound (with_boxes e new)
+sound_by e new on back many h = record {
+  owner = h.owner;
+  places = many ∙ h.places;
+  sources = h.sources;
+  tables = h.tables;
+  sessions = h.sessions;
+  at_rest = each_kept IsAtRest e.boxes new rest_kept back h.at_rest;
+  takes_columns = each_kept TakesColumns e.boxes new takes_kept back h.takes_columns;
+  tables_bound = bound_kept e.boxes new e.tables on h.tables_bound;
+  bound_attached = attached_kept e.boxes new e.tables back h.bound_attached;
+  source_names = h.source_names;
+  table_names = h.table_names;
+}
+
 pub sound_kept : (Q : BoxState → BoxState → Type 0) (e : Shown) (new : List (Option BoxState)) (slot : ℕ) → ((b c : BoxState) → Q b c → Keeps b c) → ChangesAt e.boxes slot Q new → IsSound e → IsSound (with_boxes e new)
-sound_kept Q e new slot keeps change h =
-    let on = onward Keeps Q e.boxes new slot keeps_itself keeps change in
-    let back = backward Keeps Q e.boxes new slot keeps_itself keeps change in
-    record {
-      owner = h.owner;
-      places = as_many Q e.boxes new slot change ∙ h.places;
-      sources = h.sources;
-      tables = h.tables;
-      sessions = h.sessions;
-      at_rest = each_kept IsAtRest e.boxes new rest_kept back h.at_rest;
-      takes_columns = each_kept TakesColumns e.boxes new takes_kept back h.takes_columns;
-      tables_bound = bound_kept e.boxes new e.tables on h.tables_bound;
-      bound_attached = attached_kept e.boxes new e.tables back h.bound_attached;
-      source_names = h.source_names;
-      table_names = h.table_names;
-    }
+sound_kept Q e new slot keeps change =
+    sound_by e new (onward Keeps Q e.boxes new slot keeps_itself keeps change) (backward Keeps Q e.boxes new slot keeps_itself keeps change) (as_many Q e.boxes new slot change)
+
+pub served_sound : (e : Shown) (new : List (Option BoxState)) → AllServed e.boxes new → IsSound e → IsSound (with_boxes e new)
+served_sound e new h = sound_by e new (served_on e.boxes new h) (served_back e.boxes new h) (served_as_many e.boxes new h)
 
 state_kept : (b c : BoxState) → is_honest b → Keeps b c → state_of (Some c) ≡ state_of (Some b)
 state_kept b c honest k = λ i. free (k.nature i).kind (k.holdings honest i)
@@ -88,15 +93,35 @@ tables_kept labels old new honest on [] (t ∷ ts) h = h
 tables_kept labels old new honest on (a ∷ rest) [] h = h
 tables_kept labels old new honest on (a ∷ rest) (t ∷ ts) h = (table_kept labels old new a t honest on h.0, tables_kept labels old new honest on rest ts h.1)
 
+agrees_by : (e : Shown) (new : List (Option BoxState)) → Onward Keeps e.boxes new → Backward Keeps e.boxes new → (EachBox is_honest e.boxes → sources_of e.labels new ≡ sources_of e.labels e.boxes)
+    → (w : World) → Agrees e w → Agrees (with_boxes e new) w
+agrees_by e new on back same w h = record {
+  honest = each_kept is_honest e.boxes new honest_kept back h.honest;
+  sources = h.sources ∙ sym (same h.honest);
+  tables = tables_kept e.labels e.boxes new h.honest on e.tables w.tables h.tables;
+  sessions = h.sessions;
+  at_rest = each_kept IsAtRest e.boxes new rest_kept back h.at_rest;
+}
+
 pub agrees_kept : (Q : BoxState → BoxState → Type 0) (e : Shown) (new : List (Option BoxState)) (slot : ℕ) → ((b c : BoxState) → Q b c → Keeps b c) → ChangesAt e.boxes slot Q new → (w : World) → Agrees e w → Agrees (with_boxes e new) w
-agrees_kept Q e new slot keeps change w h =
-    let on = onward Keeps Q e.boxes new slot keeps_itself keeps change in
-    let back = backward Keeps Q e.boxes new slot keeps_itself keeps change in
-    record {
-      honest = each_kept is_honest e.boxes new honest_kept back h.honest;
-      sources = h.sources ∙ sym (ap (sources_of e.labels) change.slots
-          ∙ sources_kept e.labels e.boxes slot change.before change.after change.there (state_kept change.before change.after (h.honest slot change.before change.there) (keeps change.before change.after change.change)));
-      tables = tables_kept e.labels e.boxes new h.honest on e.tables w.tables h.tables;
-      sessions = h.sessions;
-      at_rest = each_kept IsAtRest e.boxes new rest_kept back h.at_rest;
-    }
+agrees_kept Q e new slot keeps change =
+    agrees_by e new (onward Keeps Q e.boxes new slot keeps_itself keeps change) (backward Keeps Q e.boxes new slot keeps_itself keeps change)
+    (λ honest. ap (sources_of e.labels) change.slots
+    ∙ sources_kept e.labels e.boxes slot change.before change.after change.there (state_kept change.before change.after (honest slot change.before change.there) (keeps change.before change.after change.change)))
+
+sources_served : (labels : List Label) (old new : List (Option BoxState)) → AllServed old new → EachBox is_honest old → sources_of labels new ≡ sources_of labels old
+sources_served [] old new h honest = refl
+sources_served (l ∷ ls) [] [] h honest = refl
+sources_served (l ∷ ls) [] (y ∷ ys) h honest = absurd h
+sources_served (l ∷ ls) (None ∷ xs) [] h honest = absurd h
+sources_served (l ∷ ls) (Some a ∷ xs) [] h honest = absurd h
+sources_served (l ∷ ls) (None ∷ xs) (Some y ∷ ys) h honest = absurd h
+sources_served (l ∷ ls) (Some a ∷ xs) (None ∷ ys) h honest = absurd h
+sources_served (l ∷ ls) (None ∷ xs) (None ∷ ys) h honest =
+    ap (λ (ss : List Source). record { name = l.name; kind = l.kind; state = dropped } ∷ ss) (sources_served ls xs ys h (λ slot s at. honest (suc slot) s at))
+sources_served (l ∷ ls) (Some a ∷ xs) (Some b ∷ ys) h honest =
+    ap (λ (s : SourceState). record { name = l.name; kind = l.kind; state = s } ∷ sources_of ls ys) (state_kept a b (honest 0 a refl) (served_keeps a b h.0))
+    ∙ ap (λ (ss : List Source). record { name = l.name; kind = l.kind; state = state_of (Some a) } ∷ ss) (sources_served ls xs ys h.1 (λ slot s at. honest (suc slot) s at))
+
+pub served_agrees : (e : Shown) (new : List (Option BoxState)) → AllServed e.boxes new → (w : World) → Agrees e w → Agrees (with_boxes e new) w
+served_agrees e new h = agrees_by e new (served_on e.boxes new h) (served_back e.boxes new h) (sources_served e.labels e.boxes new h)

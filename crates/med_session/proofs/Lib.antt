@@ -7,6 +7,7 @@ pub mod Leading
 pub mod Querying
 pub mod Selections
 pub mod Telling
+pub mod Runs
 pub mod Beginning
 pub mod AddingLists
 pub mod AddingSources

@@ -1,125 +1,48 @@
--- The parts of a query.
-use Rattle.std.proofs.Common.{◌≡◌, ◌≢◌, ℕ, ◌⊎◌, true, false, List, [], ◌∷◌, ◌++◌, slice_get, Option, Some, None, map, refl, sym, ap, ◌∙◌, subst, eqb, inl, inr, IsPermutation, Result, Ok, Err, IfOk, IfErr}
-use Rattle.std.proofs.lemmas.Bool.Decides.{eqb_tells}
-use Rattle.std.proofs.lemmas.List.{append-nil}
-use Rattle.std.proofs.lemmas.List.Sorted.{IsPermutation-refl, IsPermutation-sym}
+-- The parts of a query: its entries, its scans, its run, and what it means in whatever order rows come.
+use Rattle.std.proofs.Common.{◌≡◌, ℕ, ◌⊎◌, ◌^◌, ◌<◌, ◌≤◌, string_bytes, List, [], ◌∷◌, slice_get, slice_index_or, Option, Some, None, option_map, map, length, All, refl, sym, ap, ◌∙◌, subst, suc, arith, inl, inr, Result, Ok, Err, IfOk, IfErr, filter}
+use Rattle.std.proofs.lemmas.List.{length-map}
+use Rattle.std.proofs.lemmas.List.Elements.{All-cons}
+use Rattle.std.proofs.lemmas.List.Sorted.{IsPermutation-sym, length_permutation}
+use Rattle.std.proofs.lemmas.Option.{slice_get-map}
 use Rattle.med_value.specs.Datum.{Tuple}
-use Rattle.tri_expr.specs.declared.expr.Expr.{Expr}
-use Rattle.tri_expr.specs.declared.expr.Fault.{Fault}
-use Rattle.tri_expr.specs.declared.expr.EvalFault.{EvalFault}
-use Rattle.tri_expr.specs.declared.expr.EvalFault.TheVariants.{OutOfRange, ZeroDivisor, NoMemory}
-use Rattle.tri_expr.specs.declared.expr.Fault.TheVariants.{Range, Zero}
-use Rattle.tri_expr.specs.Meaning.{OnClass, meaning}
-use Rattle.tri_expr.specs.Tree.{Tree, tree}
-use Rattle.tri_expr.specs.TreeMeaning.{tree_meaning}
-use Rattle.tri_expr.specs.Laws.{AllIgnoreOrder, IsSteady, AnswersIgnoreOrder}
-use Rattle.tri_expr.specs.Query.{Chain, Table, Query, Tables, SameRows, IsAnswer, IsTold, Tells, joined_chains, faults, plain, senses}
-use Rattle.fdw_api.specs.State.{set_at}
 use Rattle.med_value.specs.declared.cause.Cause.{Cause}
-use Rattle.med_value.specs.declared.cause.Cause.TheVariants.{OutOfMemory}
+use Rattle.med_value.specs.declared.cause.Cause.TheVariants.{LimitExceeded, OutOfMemory}
+use Rattle.tri_expr.specs.declared.expr.Expr.{Expr}
+use Rattle.tri_expr.specs.declared.select.Grouping.{Grouping}
+use Rattle.tri_expr.specs.declared.select.Select.{Select}
+use Rattle.tri_expr.specs.Form.{form_of, query_by}
+use Rattle.tri_expr.specs.Select.{query_of as written_query, groups_of}
+use Rattle.tri_expr.specs.Laws.{AllIgnoreOrder, IsSteady, AnswersIgnoreOrder}
+use Rattle.tri_expr.specs.Query.{Query, Tables, SameRows, senses, having_of, has_class, kept, plain, outputs_all, output, kept_classes}
+use Rattle.fdw_api.specs.State.{BoxState}
+use Rattle.fdw_api.specs.declared.interface.Fault.{Fault}
+use Rattle.fdw_api.specs.declared.interface.TableNo.{TableNo}
+use Rattle.fdw_api.specs.declared.scan.Agree.{Agree}
+use Rattle.fdw_api.specs.declared.scan.Agreement.{Agreement}
+use Rattle.fdw_api.specs.declared.scan.Restriction.{Restriction}
+use Rattle.pushdown.specs.Offered.{Place, IsOffer, AreOffers, IsScanOf, AreScans, entry_place, scan_place, IsWhole}
+use Rattle.pushdown.specs.declared.offers.Offer.{Offer}
+use Rattle.pushdown.specs.declared.accepting.EntryScan.{EntryScan}
+use Rattle.med_exec.specs.Slots.{HasTable}
+use Rattle.med_exec.specs.Running.{AllServed, AreBound, entry_rows, QueryCauses, Stops, lacks_memory, source_fails, numbers_end, query_shows}
 use Rattle.med_parser.specs.QueryTree.{StatementTree}
 use Rattle.med_binder.specs.Scope.{TableShape, table_shape}
 use Rattle.med_binder.specs.Meaning.{Meant, meant}
-use Rattle.med_binder.specs.Binding.{IsMeant, IsBound, BindCauses, BindTells}
+use Rattle.med_binder.specs.Binding.{IsMeant, IsBound, IsEntryOf, BindCauses, BindTells}
 use Rattle.med_binder.specs.declared.bound.Bound.{Bound}
+use Rattle.med_binder.specs.declared.bound.BoundEntry.{BoundEntry}
 use Rattle.med_binder.specs.declared.table.AttachedTable.{AttachedTable}
-use Rattle.med_session.specs.Queries.{chains_of, query_of}
+use Rattle.med_session.specs.Queries.{query_of}
 use Rattle.med_session.specs.Engine.{Attached, attached}
-use Rattle.med_exec.specs.declared.answering.AnswerFault.{AnswerFault}
-use Rattle.med_exec.specs.declared.answering.AnswerFault.TheVariants.{Scan as of_scan, Query as of_query}
-use Rattle.med_exec.specs.Slots.{ChangesAt}
-use Rattle.med_exec.specs.Scanning.{ReadsTable}
-use Rattle.med_exec.specs.TableAnswers.{Answered, Shows, LeavesOff, AnswersTable, TableStops}
-use Rattle.fdw_api.specs.State.{BoxState}
-use Rattle.med_session.specs.Selecting.{answer_cause, shape_of, meant_in, IsBindable, NotBound, ReadsFrom, no_table, one_table, no_part, table_part, AnswersFrom, answers_row, answers_table, FromStops, stops_row, stops_table, HoldsRows, HoldsPart, ShowsAlone, AnswersOver, FaultsOver, SelectFails, scan_fails, run_fails}
+use Rattle.med_session.specs.Selecting.{cause_of, answers_given, answers_wanted, shape_of, meant_in, IsBindable, NotBound, IsPlaceOf, ArePlaces, RunAnswers, AnswersOver, RunFails, no_memory, box_fails, numbers_out, shows_cause, Selects, SelectFails, run_fails, too_many}
+use Rattle.med_session.proofs.Finding.{all_at}
+
+-- ---- what was bound
 
 -- the shapes in which a statement is bound
 pub same_shapes : (tables : List AttachedTable) → map table_shape tables ≡ map shape_of (map attached tables)
 same_shapes [] = refl
 same_shapes (t ∷ ts) = ap (λ xs. table_shape t ∷ xs) (same_shapes ts)
-
--- expressions mean what their trees mean
-abbrev MeansItsTree : Type 0
-MeansItsTree = (params : Tuple) (e : Expr) → tree_meaning params (tree e) ≡ meaning params e
-
-senses_of : MeansItsTree → (es : List Expr) → senses [] es ≡ map (tree_meaning []) (map tree es)
-senses_of law [] = refl
-senses_of law (e ∷ es) = ap (λ (f : OnClass). f ∷ senses [] es) (sym (law [] e)) ∙ ap (λ (fs : List OnClass). tree_meaning [] (tree e) ∷ fs) (senses_of law es)
-
-pub senses_meant : MeansItsTree → (es : List Expr) (ts : List Tree) → map tree es ≡ ts → senses [] es ≡ map (tree_meaning []) ts
-senses_meant law es ts e = senses_of law es ∙ ap (map (tree_meaning [])) e
-
--- the query of what was bound is the statement's
-pub query_bound : MeansItsTree → (m : Meant) (conditions items : List Expr) → map tree conditions ≡ m.conditions → map tree items ≡ m.items → plain (chains_of m.from) (senses [] conditions) (senses [] items) ≡ query_of m
-query_bound law m conditions items p q =
-    ap (λ (fs : List OnClass). plain (chains_of m.from) fs (senses [] items)) (senses_meant law conditions m.conditions p)
-    ∙ ap (λ (fs : List OnClass). plain (chains_of m.from) (map (tree_meaning []) m.conditions) fs) (senses_meant law items m.items q)
-
-abbrev ExpressionsIgnoreOrder : Type 0
-ExpressionsIgnoreOrder = (params : Tuple) (es : List Expr) → AllIgnoreOrder (senses params es)
-
-pub steady : ExpressionsIgnoreOrder → (from : List Chain) (conditions : List OnClass) (items : List Expr) → IsSteady (plain from conditions (senses [] items))
-steady law from conditions items = record { having = tt; keys = tt; items = law [] items }
-
-abbrev AnswersInAnyOrder : Type 0
-AnswersInAnyOrder = (q : Query) (db other : Tables) → IsSteady q → SameRows db other → AnswersIgnoreOrder q db other
-
--- tables that have these rows in one place
-here : (rows : List Tuple) (db : Tables) (place : ℕ) → set_at db place rows place ≡ rows
-here rows db place = split (eqb_tells place place)
-  where
-    split : ((eqb place place ≡ true) × (place ≡ place)) ⊎ ((eqb place place ≡ false) × (place ≢ place)) → set_at db place rows place ≡ rows
-    split (inl e) = rw e.0 refl
-    split (inr e) = absurd (e.1 refl)
-
-same_rows : (rows : List Tuple) (db : Tables) (place : ℕ) → IsPermutation rows (db place) → SameRows (set_at db place rows) db
-same_rows rows db place h t = split (eqb_tells t place)
-  where
-    split : ((eqb t place ≡ true) × (t ≡ place)) ⊎ ((eqb t place ≡ false) × (t ≢ place)) → IsPermutation (set_at db place rows t) (db t)
-    split (inl e) = rw e.0 (subst (λ (n : ℕ). IsPermutation rows (db n)) (sym e.1) h)
-    split (inr e) = rw e.0 (IsPermutation-refl (db t))
-
--- what holds of the rows that were read holds of the rows in any order
-answers_any : AnswersInAnyOrder → (q : Query) → IsSteady q → (from : Option ℕ) (rows given : List Tuple) → ((db : Tables) → joined_chains db (chains_of from) ≡ rows → IsAnswer q db given) → (db : Tables) → HoldsRows from rows db → IsAnswer q db given
-answers_any law q is None rows given h db held = h db (sym held)
-answers_any law q is (Some place) rows given h db held =
-    (law q (set_at db place rows) db is (same_rows rows db place held)).answers given (h (set_at db place rows) (here rows db place))
-
-told_any : AnswersInAnyOrder → (q : Query) → IsSteady q → (db other : Tables) → SameRows db other → (fault : EvalFault) → IsTold fault (faults q db) → IsTold fault (faults q other)
-told_any law q is db other same OutOfRange h = (law q db other is same).told Range h
-told_any law q is db other same ZeroDivisor h = (law q db other is same).told Zero h
-told_any law q is db other same NoMemory h = tt
-
-faults_any : AnswersInAnyOrder → (from : Option ℕ) (conditions : List OnClass) (items : List OnClass) → IsSteady (plain (chains_of from) conditions items) → (rows : List Tuple) (fault : EvalFault) → Shows conditions items rows fault → (db : Tables) → HoldsPart from rows db
-    → IsTold fault (faults (plain (chains_of from) conditions items) db)
-faults_any law None conditions items is rows fault h db held = h [] [] db (sym held ∙ sym (append-nil rows))
-faults_any law (Some place) conditions items is rows fault h db (rest, held) =
-    told_any law (plain (Table place ∷ []) conditions items) is (set_at db place (rows ++ rest)) db (same_rows (rows ++ rest) db place held) fault (h rest (Table place ∷ []) (set_at db place (rows ++ rest)) (here (rows ++ rest) db place))
-
--- the same of what was bound
-pub answers_over : MeansItsTree → ExpressionsIgnoreOrder → AnswersInAnyOrder → (m : Meant) (conditions items : List Expr) (rows given : List Tuple) → map tree conditions ≡ m.conditions → map tree items ≡ m.items
-    → Answered (senses [] conditions) (senses [] items) rows given → AnswersOver m rows given
-answers_over means ignores any m conditions items rows given p q h = subst (λ (x : Query). (db : Tables) → HoldsRows m.from rows db → IsAnswer x db given) (query_bound means m conditions items p q)
-    (answers_any any (plain (chains_of m.from) (senses [] conditions) (senses [] items)) (steady ignores (chains_of m.from) (senses [] conditions) items) m.from rows given (h (chains_of m.from)))
-
-pub faults_over : MeansItsTree → ExpressionsIgnoreOrder → AnswersInAnyOrder → (m : Meant) (conditions items : List Expr) (rows : List Tuple) (fault : EvalFault) → map tree conditions ≡ m.conditions → map tree items ≡ m.items
-    → Shows (senses [] conditions) (senses [] items) rows fault → FaultsOver m rows fault
-faults_over means ignores any m conditions items rows fault p q h = subst (λ (x : Query). (db : Tables) → HoldsPart m.from rows db → IsTold fault (faults x db)) (query_bound means m conditions items p q)
-    (faults_any any m.from (senses [] conditions) (senses [] items) (steady ignores (chains_of m.from) (senses [] conditions) items) rows fault h)
-
-pub faults_alone : MeansItsTree → (m : Meant) (conditions items : List Expr) (fault : EvalFault) → map tree conditions ≡ m.conditions → map tree items ≡ m.items → m.from ≡ None
-    → ShowsAlone (senses [] conditions) (senses [] items) fault → FaultsOver m ([] ∷ []) fault
-faults_alone means m conditions items fault p q none h = subst (λ (x : Query). (db : Tables) → HoldsPart m.from ([] ∷ []) db → IsTold fault (faults x db)) (query_bound means m conditions items p q)
-    (λ db held. h (chains_of m.from) db (ap (λ (o : Option ℕ). joined_chains db (chains_of o)) none))
-
--- what holds of an answer, and of a fault, goes over to what follows from it
-pub ok_follows : {T E : Type 0} (P Q : T → Type 0) (r : Result T E) → ((x : T) → P x → Q x) → IfOk r P → IfOk r Q
-ok_follows P Q (Ok x) f h = f x h
-ok_follows P Q (Err e) f h = tt
-
-pub err_follows : {T E : Type 0} (P Q : E → Type 0) (r : Result T E) → ((e : E) → P e → Q e) → IfErr r P → IfErr r Q
-err_follows P Q (Ok x) f h = tt
-err_follows P Q (Err e) f h = f e h
 
 -- what was bound is what the statement means, and nothing stands against it
 pub bound_in : (tables : List AttachedTable) (statement : StatementTree) (b : Bound) → IsBound (map table_shape tables) statement b → IsMeant (meant_in (map attached tables) statement) b
@@ -131,39 +54,206 @@ bindable_in tables statement h = subst (λ (ts : List TableShape). (c : Cause) �
 pub unbound_in : (tables : List AttachedTable) (statement : StatementTree) (c : Cause) → (c ≡ OutOfMemory) ⊎ BindTells (map table_shape tables) statement c → NotBound (map attached tables) statement c
 unbound_in tables statement c h = subst (λ (ts : List TableShape). (c ≡ OutOfMemory) ⊎ BindTells ts statement c) (same_shapes tables) h
 
--- what answering over the rows of FROM does, and why it fails
-change_of : (old new : List (Option BoxState)) (slot : ℕ) (P Q : BoxState → BoxState → Type 0) (h : ChangesAt old slot P new) → Q h.before h.after → ChangesAt old slot Q new
-change_of old new slot P Q h c = record { before = h.before; after = h.after; there = h.there; now = h.now; others = h.others; slots = h.slots; change = c }
+-- as many entries
+pub entries_counted : (m : Meant) (b : Bound) → IsMeant m b → length m.entries ≡ length b.entries.items
+entries_counted m b is = sym (ap (λ (ks : List ℕ). length ks) is.entries) ∙ length-map b.entries.items (λ (e : BoundEntry). e.place)
 
-pub record ReadsAnswer (tables : List Attached) (from : Option ℕ) (fs items : List OnClass) (old : List (Option BoxState)) (out : List Tuple) (new : List (Option BoxState)) : Type 0 where
-  pub rows : List Tuple
-  pub reads : ReadsFrom tables from old rows new
-  pub answer : Answered fs items rows out
+-- ---- entries, offers and scans
 
-pub reads_answer : (tables : List Attached) (from : Option ℕ) (fs items : List OnClass) (old : List (Option BoxState)) (out : List Tuple) (new : List (Option BoxState)) → AnswersFrom tables from fs items old out new → ReadsAnswer tables from fs items old out new
-reads_answer tables from fs items old out new (answers_row none same answer) = record { rows = [] ∷ []; reads = no_table none refl same; answer = answer }
-reads_answer tables from fs items old out new (answers_table place a is at h) = record {
-  rows = h.change.rows;
-  reads = one_table place a is at (change_of old new a.source (λ b c. AnswersTable a.number fs items b out c) (λ b c. ReadsTable b a.number h.change.rows c) h h.change.reads);
-  answer = h.change.answer;
+entry_there : (tables : List AttachedTable) (e : BoundEntry) (i : IsEntryOf tables e) → slice_get (map attached tables) e.place ≡ Some (attached i.table)
+entry_there tables e i = slice_get-map attached tables e.place ∙ ap (option_map attached) i.there
+
+abbrev pub HasEntry : List (Option BoxState) → BoundEntry → Type 0
+HasEntry boxes e = HasTable boxes e.source e.table.number
+
+abbrev pub HasOffer : List (Option BoxState) → Offer → Type 0
+HasOffer boxes o = HasTable boxes o.source o.table.number
+
+pub entries_bound : (boxes : List (Option BoxState)) (tables : List AttachedTable) (es : List BoundEntry) → All (λ a. HasTable boxes a.source a.number) (map attached tables) → All (IsEntryOf tables) es → All (HasEntry boxes) es
+entries_bound boxes tables es bound entries k d lt =
+    let e = slice_index_or es k d in
+    let i = entries k d lt in
+    let h : HasTable boxes i.table.source i.table.number.number = all_at (λ (a : Attached). HasTable boxes a.source a.number) (map attached tables) e.place (attached i.table) bound (entry_there tables e i) in
+    subst (λ (s : ℕ). HasTable boxes s e.table.number) (sym i.source) (subst (λ (t : TableNo). HasTable boxes i.table.source t.number) (sym i.number) h)
+
+pub are_bound : (boxes : List (Option BoxState)) (es : List BoundEntry) → All (HasEntry boxes) es → AreBound boxes (map entry_place es)
+are_bound boxes [] h = tt
+are_bound boxes (e ∷ es) h = (h 0 e (omega arith), are_bound boxes es (λ k d lt. h (suc k) d (omega arith)))
+
+place_is : (tables : List AttachedTable) (e : BoundEntry) → IsEntryOf tables e → IsPlaceOf (map attached tables) e.place (entry_place e)
+place_is tables e i = record { table = attached i.table; there = entry_there tables e i; source = i.source; number = ap (λ (t : TableNo). t.number) i.number }
+
+pub are_places : (tables : List AttachedTable) (es : List BoundEntry) → All (IsEntryOf tables) es → ArePlaces (map attached tables) (map (λ (e : BoundEntry). e.place) es) (map entry_place es)
+are_places tables [] h = tt
+are_places tables (e ∷ es) h = (place_is tables e (h 0 e (omega arith)), are_places tables es (λ k d lt. h (suc k) d (omega arith)))
+
+none_all : {X : Type 0} (P : X → Type 0) → All P []
+none_all P k d lt = absurd (omega arith)
+
+offer_bound : (boxes : List (Option BoxState)) (e : BoundEntry) (o : Offer) → IsOffer e o → HasEntry boxes e → HasOffer boxes o
+offer_bound boxes e o i h = subst (λ (s : ℕ). HasTable boxes s o.table.number) (sym i.source) (subst (λ (t : TableNo). HasTable boxes e.source t.number) (sym i.table) h)
+
+pub offers_bound : (boxes : List (Option BoxState)) (es : List BoundEntry) (os : List Offer) → AreOffers es os → All (HasEntry boxes) es → All (HasOffer boxes) os
+offers_bound boxes [] [] is h = none_all (HasOffer boxes)
+offers_bound boxes [] (o ∷ os) is h = absurd is
+offers_bound boxes (e ∷ es) [] is h = absurd is
+offers_bound boxes (e ∷ es) (o ∷ os) is h = All-cons (HasOffer boxes) o os (offer_bound boxes e o is.0 (h 0 e (omega arith))) (offers_bound boxes es os is.1 (λ k d lt. h (suc k) d (omega arith)))
+
+scan_placed : (e : BoundEntry) (o : Offer) (a : Agreement) (s : EntryScan) → IsOffer e o → IsScanOf o a s → scan_place s ≡ entry_place e
+scan_placed e o a s i j =
+    let source : s.source ≡ e.source = j.source ∙ i.source in
+    let table : s.table ≡ e.table = j.table ∙ i.table in
+    λ k. record { source = source k; table = (table k).number }
+
+pub scans_placed : (es : List BoundEntry) (os : List Offer) (more : List Agreement) (ss : List EntryScan) → AreOffers es os → AreScans os more ss → map scan_place ss ≡ map entry_place es
+scans_placed [] [] [] [] is js = refl
+scans_placed [] [] [] (s ∷ ss) is js = absurd js
+scans_placed [] [] (a ∷ more) [] is js = absurd js
+scans_placed [] [] (a ∷ more) (s ∷ ss) is js = absurd js
+scans_placed [] (o ∷ os) more ss is js = absurd is
+scans_placed (e ∷ es) [] more ss is js = absurd is
+scans_placed (e ∷ es) (o ∷ os) [] [] is js = absurd js
+scans_placed (e ∷ es) (o ∷ os) [] (s ∷ ss) is js = absurd js
+scans_placed (e ∷ es) (o ∷ os) (a ∷ more) [] is js = absurd js
+scans_placed (e ∷ es) (o ∷ os) (a ∷ more) (s ∷ ss) is js =
+    ap (λ (p : Place). p ∷ map scan_place ss) (scan_placed e o a s is.0 js.0) ∙ ap (λ (ps : List Place). entry_place e ∷ ps) (scans_placed es os more ss is.1 js.1)
+
+no_answers : (xs : List Agree) → length xs ≡ 0 → xs ≡ []
+no_answers [] many = refl
+no_answers (x ∷ xs) many = absurd cc
+
+scan_whole : (e : BoundEntry) (o : Offer) (a : Agreement) (s : EntryScan) → IsOffer e o → answers_given a ≡ answers_wanted o → IsScanOf o a s → IsWhole s
+scan_whole e o a s i many j = record {
+  nothing = j.offered ∙ i.offered;
+  answers = j.answers ∙ no_answers a.answers.items (many ∙ ap (λ (l : List Restriction). length l) i.offered);
+  narrow = j.whole;
 }
 
-table_stops : (tables : List Attached) (tree : StatementTree) (place : ℕ) (a : Attached) (fs items : List OnClass) (fault : AnswerFault) (old new : List (Option BoxState)) → IsBindable tables tree → (meant_in tables tree).from ≡ Some place → slice_get tables place ≡ Some a
-    → ((rows : List Tuple) (e : EvalFault) → Shows fs items rows e → FaultsOver (meant_in tables tree) rows e) → ChangesAt old a.source (TableStops a.number fs items fault) new → SelectFails tables tree old (answer_cause fault) new
-table_stops tables tree place a fs items (of_scan fault) old new clear is at over h = scan_fails clear a fault refl h
-table_stops tables tree place a fs items (of_query fault) old new clear is at over h =
-    let c = h.change in
-    run_fails clear c.0 (table_part place a is at (change_of old new a.source (TableStops a.number fs items (of_query fault)) (λ x y. LeavesOff x a.number c.0 y) h c.1)) fault refl (over c.0 fault c.2)
+-- equal lists begin alike, and go on alike
+abbrev first_of : ℕ → List ℕ → ℕ
+first_of d [] = d
+first_of d (x ∷ xs) = x
 
-pub stops_fail : (tables : List Attached) (tree : StatementTree) (fs items : List OnClass) (fault : AnswerFault) (old new : List (Option BoxState)) → IsBindable tables tree
-    → ((rows : List Tuple) (e : EvalFault) → Shows fs items rows e → FaultsOver (meant_in tables tree) rows e) → ((e : EvalFault) → (meant_in tables tree).from ≡ None → ShowsAlone fs items e → FaultsOver (meant_in tables tree) ([] ∷ []) e)
-    → FromStops tables (meant_in tables tree).from fs items fault old new → SelectFails tables tree old (answer_cause fault) new
-stops_fail tables tree fs items fault old new clear over alone (stops_row none e is same shows) =
-    subst (λ (f : AnswerFault). SelectFails tables tree old (answer_cause f) new) (sym is) (run_fails clear ([] ∷ []) (no_part none refl same) e refl (alone e none shows))
-stops_fail tables tree fs items fault old new clear over alone (stops_table place a is at h) = table_stops tables tree place a fs items fault old new clear is at over h
+abbrev rest_of : List ℕ → List ℕ
+rest_of [] = []
+rest_of (x ∷ xs) = xs
 
--- a call that tells of one row of no columns
-pub shows_all : {T : Type 0} (rows : List Tuple) (fs items : List OnClass) (r : Result T EvalFault) → ((from : List Chain) (db : Tables) → joined_chains db from ≡ rows → Tells r (faults (plain from fs items) db)) → rows ≡ [] ∷ []
-    → IfErr r (λ fault. ShowsAlone fs items fault)
-shows_all rows fs items (Ok x) h e = tt
-shows_all rows fs items (Err f) h e = λ from db j. h from db (j ∙ sym e)
+pub scans_whole : (es : List BoundEntry) (os : List Offer) (more : List Agreement) (ss : List EntryScan) → AreOffers es os → map answers_given more ≡ map answers_wanted os → AreScans os more ss → All IsWhole ss
+scans_whole [] [] [] [] is many js = none_all IsWhole
+scans_whole [] [] [] (s ∷ ss) is many js = absurd js
+scans_whole [] [] (a ∷ more) [] is many js = absurd js
+scans_whole [] [] (a ∷ more) (s ∷ ss) is many js = absurd js
+scans_whole [] (o ∷ os) more ss is many js = absurd is
+scans_whole (e ∷ es) [] more ss is many js = absurd is
+scans_whole (e ∷ es) (o ∷ os) [] [] is many js = absurd js
+scans_whole (e ∷ es) (o ∷ os) [] (s ∷ ss) is many js = absurd js
+scans_whole (e ∷ es) (o ∷ os) (a ∷ more) [] is many js = absurd js
+scans_whole (e ∷ es) (o ∷ os) (a ∷ more) (s ∷ ss) is many js =
+    All-cons IsWhole s ss (scan_whole e o a s is.0 (ap (first_of 0) many) js.0) (scans_whole es os more ss is.1 (ap rest_of many) js.1)
+
+-- ---- the query
+
+abbrev MeansItsForm : Type 0
+MeansItsForm = (s : Select) → written_query s ≡ query_by (form_of s)
+
+-- two of one form are one query
+pub same_query : MeansItsForm → (a b : Select) → form_of a ≡ form_of b → written_query a ≡ written_query b
+same_query law a b same = law a ∙ ap query_by same ∙ sym (law b)
+
+-- the query of what was bound is the statement's
+pub query_bound : MeansItsForm → (m : Meant) (b : Bound) → IsMeant m b → written_query b.select ≡ query_of m
+query_bound law m b is = law b.select ∙ ap query_by is.form
+
+abbrev ExpressionsIgnoreOrder : Type 0
+ExpressionsIgnoreOrder = (params : Tuple) (es : List Expr) → AllIgnoreOrder (senses params es)
+
+having_steady : ExpressionsIgnoreOrder → (g : Option Grouping) → AllIgnoreOrder (having_of (groups_of g))
+having_steady law None = tt
+having_steady law (Some g) = law [] g.having.items
+
+pub steady : ExpressionsIgnoreOrder → (s : Select) → IsSteady (written_query s)
+steady law s = record { having = having_steady law s.grouping; keys = law [] s.keys.items; items = law [] s.items.items }
+
+abbrev AnswersInAnyOrder : Type 0
+AnswersInAnyOrder = (q : Query) (db other : Tables) → IsSteady q → SameRows db other → AnswersIgnoreOrder q db other
+
+same_back : (db other : Tables) → SameRows db other → SameRows other db
+same_back db other h t = IsPermutation-sym (db t) (other t) (h t)
+
+-- as many rows are kept, in whatever order they come
+one_each : (rows : List Tuple) → length (filter (has_class None) (map (λ r. r ∷ []) rows)) ≡ length rows
+one_each [] = refl
+one_each (r ∷ rows) = ap suc (one_each rows)
+
+shown_for_each : (q : Query) (db : Tables) → length (outputs_all (plain q.from q.where_ []) db) ≡ length (kept q db)
+shown_for_each q db = length-map (kept_classes (plain q.from q.where_ []) db) (output (plain q.from q.where_ [])) ∙ one_each (kept q db)
+
+kept_as_many : AnswersInAnyOrder → (q : Query) (db other : Tables) → SameRows db other → length (kept q db) ≡ length (kept q other)
+kept_as_many law q db other same =
+    let p = plain q.from q.where_ [] in
+    let h = law p db other (record { having = tt; keys = tt; items = tt }) same in
+    sym (shown_for_each q db) ∙ sym (length_permutation (outputs_all p db) (outputs_all p other) h.outputs) ∙ shown_for_each q other
+
+pub causes_any : AnswersInAnyOrder → (q : Query) → IsSteady q → (db other : Tables) → SameRows db other → (c : Cause) → QueryCauses q db c → QueryCauses q other c
+causes_any law q is db other same c (inl (f, told, e)) = inl (f, (law q db other is same).told f told, e)
+causes_any law q is db other same c (inr (grouped, big, e)) = inr (grouped, subst (λ (n : ℕ). 2 ^ 62 < n) (kept_as_many law q db other same) big, e)
+
+-- what holds over the rows as the boxes give them holds of them in any order
+pub answers_over : AnswersInAnyOrder → (q : Query) → IsSteady q → (places : List Place) (boxes : List (Option BoxState)) (rows : List Tuple) → RunAnswers q places boxes rows → AnswersOver q places boxes rows
+answers_over law q is places boxes rows h = record {
+  answers = λ honest db same. (law q (entry_rows boxes places) db is same).answers rows (h.answers honest);
+  clear = λ honest db same c shows. h.clear honest c (causes_any law q is db (entry_rows boxes places) (same_back (entry_rows boxes places) db same) c shows);
+}
+
+pub fails_over : AnswersInAnyOrder → (q : Query) → IsSteady q → (places : List Place) (fault : Fault) (old new : List (Option BoxState)) → Stops q places fault old new → RunFails q places (cause_of fault) old new
+fails_over law q is places fault old new (lacks_memory e) = no_memory (ap cause_of e)
+fails_over law q is places fault old new (source_fails e failed) = box_fails (ap cause_of e) failed
+fails_over law q is places fault old new (numbers_end e used) = numbers_out (ap cause_of e) used
+fails_over law q is places fault old new (query_shows c e shows) =
+    shows_cause (λ honest db same. subst (λ (d : Cause). QueryCauses q db d) (sym (ap cause_of e)) (causes_any law q is (entry_rows old places) db same c (shows honest)))
+
+-- ---- the whole
+
+pub selected : MeansItsForm → ExpressionsIgnoreOrder → AnswersInAnyOrder → (tables : List AttachedTable) (tree : StatementTree) (b : Bound) (rows : List Tuple) (old new : List (Option BoxState))
+    → IsBound (map table_shape tables) tree b → All (IsEntryOf tables) b.entries.items → ((c : Cause) → BindCauses (map table_shape tables) tree c → ⊥) → length b.entries.items ≤ 8 → AllServed old new
+    → RunAnswers (written_query b.select) (map entry_place b.entries.items) old rows → Selects (map attached tables) tree old (map string_bytes b.names.items) rows new
+selected form order any tables tree b rows old new bound entries clear few served run =
+    let m = meant_in (map attached tables) tree in
+    let places = map entry_place b.entries.items in
+    let is : IsMeant m b = bound_in tables tree b bound in
+    record {
+      bindable = bindable_in tables tree clear;
+      few = subst (λ (n : ℕ). n ≤ 8) (sym (entries_counted m b is)) few;
+      named = is.names;
+      served = served;
+      places = places;
+      are = subst (λ (ks : List ℕ). ArePlaces (map attached tables) ks places) is.entries (are_places tables b.entries.items entries);
+      answers = subst (λ (q : Query). AnswersOver q places old rows) (query_bound form m b is) (answers_over any (written_query b.select) (steady order b.select) places old rows run);
+    }
+
+pub unanswered : MeansItsForm → ExpressionsIgnoreOrder → AnswersInAnyOrder → (tables : List AttachedTable) (tree : StatementTree) (b : Bound) (fault : Fault) (old new : List (Option BoxState))
+    → IsBound (map table_shape tables) tree b → All (IsEntryOf tables) b.entries.items → ((c : Cause) → BindCauses (map table_shape tables) tree c → ⊥) → length b.entries.items ≤ 8 → AllServed old new
+    → Stops (written_query b.select) (map entry_place b.entries.items) fault old new → SelectFails (map attached tables) tree old (cause_of fault) new
+unanswered form order any tables tree b fault old new bound entries clear few served stops =
+    let m = meant_in (map attached tables) tree in
+    let places = map entry_place b.entries.items in
+    let is : IsMeant m b = bound_in tables tree b bound in
+    run_fails (bindable_in tables tree clear) (subst (λ (n : ℕ). n ≤ 8) (sym (entries_counted m b is)) few) served places
+    (subst (λ (ks : List ℕ). ArePlaces (map attached tables) ks places) is.entries (are_places tables b.entries.items entries))
+    (subst (λ (q : Query). RunFails q places (cause_of fault) old new) (query_bound form m b is) (fails_over any (written_query b.select) (steady order b.select) places fault old new stops))
+
+pub crowded : (tables : List AttachedTable) (tree : StatementTree) (b : Bound) (old : List (Option BoxState)) → IsBound (map table_shape tables) tree b → ((c : Cause) → BindCauses (map table_shape tables) tree c → ⊥)
+    → 8 < length b.entries.items → SelectFails (map attached tables) tree old LimitExceeded old
+crowded tables tree b old bound clear many =
+    let m = meant_in (map attached tables) tree in
+    let is : IsMeant m b = bound_in tables tree b bound in
+    too_many (bindable_in tables tree clear) (subst (λ (n : ℕ). 8 < n) (sym (entries_counted m b is)) many) refl refl
+
+-- what holds of an answer, and of a fault, goes over to what follows from it
+pub ok_follows : {T E : Type 0} (P Q : T → Type 0) (r : Result T E) → ((x : T) → P x → Q x) → IfOk r P → IfOk r Q
+ok_follows P Q (Ok x) f h = f x h
+ok_follows P Q (Err e) f h = tt
+
+pub err_follows : {T E : Type 0} (P Q : E → Type 0) (r : Result T E) → ((e : E) → P e → Q e) → IfErr r P → IfErr r Q
+err_follows P Q (Ok x) f h = tt
+err_follows P Q (Err e) f h = f e h

@@ -9,9 +9,9 @@ use Rattle.med_parser.specs.QueryCauses.{SyntaxCauses}
 use Rattle.med_binder.specs.Naming.{NameCauses}
 use Rattle.med_binder.specs.Typing.{TypeCauses}
 use Rattle.med_binder.specs.Binding.{BindCauses}
-use Rattle.med_session.specs.Requests.{Asked, opening, sql, bye, IsUser}
+use Rattle.med_session.specs.Requests.{opening, sql, bye, IsUser}
 use Rattle.med_session.specs.World.{World, IsOpen, shapes}
-use Rattle.med_session.specs.Causes.{RunCauses, TreeCauses, Stands, phase, IsTold, NoneStands, NoneBeforeState}
+use Rattle.med_session.specs.Causes.{StateCauses, RunCauses, TreeCauses, Stands, phase, IsTold, NoneStands, NoneBeforeState}
 use Rattle.med_session.proofs.Phases.{name_phase, type_phase}
 
 -- a cause of the phase of syntax is of phase 2
@@ -22,15 +22,20 @@ syntax_phase text NameTooLong h = refl
 syntax_phase text TooDeep h = refl
 syntax_phase text _ h = absurd h.2
 
--- those of names, of types and of a run are of phases 3, 4 and 6
+-- those of names, of types, of limits and of a run are of phases 3 to 6
+pub state_phase : (w : World) (tree : StatementTree) (c : Cause) → StateCauses w tree c → phase c ≡ 5
+state_phase w tree c (many, e) = ap phase e
+
 pub run_phase : (w : World) (tree : StatementTree) (c : Cause) → RunCauses w tree c → phase c ≡ 6
-run_phase w tree c (Range, h, e) = ap phase e
-run_phase w tree c (Zero, h, e) = ap phase e
+run_phase w tree c (inl (Range, h, e)) = ap phase e
+run_phase w tree c (inl (Zero, h, e)) = ap phase e
+run_phase w tree c (inr (grouped, big, e)) = ap phase e
 
 pub tree_phase : (w : World) (tree : StatementTree) (c : Cause) → TreeCauses w tree c → 3 ≤ phase c
 tree_phase w tree c (inl h) = let p : phase c ≡ 3 = name_phase (shapes w.tables) tree c h in omega arith
 tree_phase w tree c (inr (inl h)) = let p : phase c ≡ 4 = type_phase (shapes w.tables) tree c h in omega arith
-tree_phase w tree c (inr (inr h)) = let p : phase c ≡ 6 = run_phase w tree c h in omega arith
+tree_phase w tree c (inr (inr (inl h))) = let p : phase c ≡ 5 = state_phase w tree c h in omega arith
+tree_phase w tree c (inr (inr (inr h))) = let p : phase c ≡ 6 = run_phase w tree c h in omega arith
 
 le_by : (a b n : ℕ) → a ≡ n → b ≡ n → a ≤ b
 le_by a b n p q = omega arith
@@ -100,30 +105,46 @@ told_type w sid text tree c k names h = record { stands = inr (inr (tree, k.has,
     later : (d : Cause) → TreeCauses w tree d → phase c ≤ phase d
     later d (inl s) = absurd (names d s)
     later d (inr (inl s)) = le_two (phase c) (phase d) 4 4 is (type_phase (shapes w.tables) tree d s) (lit≤ tt)
-    later d (inr (inr s)) = le_two (phase c) (phase d) 4 6 is (run_phase w tree d s) (lit≤ tt)
+    later d (inr (inr (inl s))) = le_two (phase c) (phase d) 4 5 is (state_phase w tree d s) (lit≤ tt)
+    later d (inr (inr (inr s))) = le_two (phase c) (phase d) 4 6 is (run_phase w tree d s) (lit≤ tt)
 
--- where none of either stands, one of the run is told
-pub told_run : (w : World) (sid : ℕ) (text : List ℕ) (tree : StatementTree) (c : Cause) → IsKnownAs w sid text tree → ((d : Cause) → BindCauses (shapes w.tables) tree d → ⊥) → RunCauses w tree c → IsTold w sid (sql text) c
-told_run w sid text tree c k binds h = record { stands = inr (inr (tree, k.has, inr (inr h))); least = λ d s. later d (shown_by w sid text tree k d s) }
+-- where none of either stands, one of limits is told
+pub told_state : (w : World) (sid : ℕ) (text : List ℕ) (tree : StatementTree) (c : Cause) → IsKnownAs w sid text tree → ((d : Cause) → BindCauses (shapes w.tables) tree d → ⊥) → StateCauses w tree c → IsTold w sid (sql text) c
+told_state w sid text tree c k binds h = record { stands = inr (inr (tree, k.has, inr (inr (inl h)))); least = λ d s. later d (shown_by w sid text tree k d s) }
   where
     later : (d : Cause) → TreeCauses w tree d → phase c ≤ phase d
     later d (inl s) = absurd (binds d (inl s))
     later d (inr (inl s)) = absurd (binds d (inr s))
-    later d (inr (inr s)) = le_two (phase c) (phase d) 6 6 (run_phase w tree c h) (run_phase w tree d s) (lit≤ tt)
+    later d (inr (inr (inl s))) = le_two (phase c) (phase d) 5 5 (state_phase w tree c h) (state_phase w tree d s) (lit≤ tt)
+    later d (inr (inr (inr s))) = le_two (phase c) (phase d) 5 6 (state_phase w tree c h) (run_phase w tree d s) (lit≤ tt)
 
-pub none_stands : (w : World) (sid : ℕ) (text : List ℕ) (tree : StatementTree) → IsKnownAs w sid text tree → ((d : Cause) → BindCauses (shapes w.tables) tree d → ⊥) → ((d : Cause) → RunCauses w tree d → ⊥) → NoneStands w sid (sql text)
-none_stands w sid text tree k binds runs d s = none (shown_by w sid text tree k d s)
+-- where none of these stands, one of the run is told
+pub told_run : (w : World) (sid : ℕ) (text : List ℕ) (tree : StatementTree) (c : Cause) → IsKnownAs w sid text tree → ((d : Cause) → BindCauses (shapes w.tables) tree d → ⊥) → ((d : Cause) → StateCauses w tree d → ⊥) → RunCauses w tree c
+    → IsTold w sid (sql text) c
+told_run w sid text tree c k binds states h = record { stands = inr (inr (tree, k.has, inr (inr (inr h)))); least = λ d s. later d (shown_by w sid text tree k d s) }
+  where
+    later : (d : Cause) → TreeCauses w tree d → phase c ≤ phase d
+    later d (inl s) = absurd (binds d (inl s))
+    later d (inr (inl s)) = absurd (binds d (inr s))
+    later d (inr (inr (inl s))) = absurd (states d s)
+    later d (inr (inr (inr s))) = le_two (phase c) (phase d) 6 6 (run_phase w tree c h) (run_phase w tree d s) (lit≤ tt)
+
+pub none_stands : (w : World) (sid : ℕ) (text : List ℕ) (tree : StatementTree) → IsKnownAs w sid text tree → ((d : Cause) → BindCauses (shapes w.tables) tree d → ⊥) → ((d : Cause) → StateCauses w tree d → ⊥) → ((d : Cause) → RunCauses w tree d → ⊥)
+    → NoneStands w sid (sql text)
+none_stands w sid text tree k binds states runs d s = none (shown_by w sid text tree k d s)
   where
     none : TreeCauses w tree d → ⊥
     none (inl h) = binds d (inl h)
     none (inr (inl h)) = binds d (inr h)
-    none (inr (inr h)) = runs d h
+    none (inr (inr (inl h))) = states d h
+    none (inr (inr (inr h))) = runs d h
 
--- what stands against a statement that is bound is of the run
+-- what stands against a statement that is bound is of limits or of the run
 pub none_before : (w : World) (sid : ℕ) (text : List ℕ) (tree : StatementTree) → IsKnownAs w sid text tree → ((d : Cause) → BindCauses (shapes w.tables) tree d → ⊥) → NoneBeforeState w sid (sql text)
 none_before w sid text tree k binds c s = later (shown_by w sid text tree k c s)
   where
     later : TreeCauses w tree c → 4 < phase c
     later (inl h) = absurd (binds c (inl h))
     later (inr (inl h)) = absurd (binds c (inr h))
-    later (inr (inr h)) = let p : phase c ≡ 6 = run_phase w tree c h in omega arith
+    later (inr (inr (inl h))) = let p : phase c ≡ 5 = state_phase w tree c h in omega arith
+    later (inr (inr (inr h))) = let p : phase c ≡ 6 = run_phase w tree c h in omega arith

@@ -1,20 +1,19 @@
 -- The causes of refusal that stand for a request in a world: a set of causes, with no order of checks.
-use Rattle.std.specs.Prelude.{◌≡◌, ◌<◌, ◌≤◌, ◌⊎◌, ℕ, unwrap_or, Contains}
+use Rattle.std.specs.Prelude.{◌≡◌, ◌<◌, ◌≤◌, ◌⊎◌, ℕ, length, unwrap_or}
 use Rattle.med_value.specs.Causes.{phase_of}
 use Rattle.med_value.specs.declared.cause.Cause.{Cause}
-use Rattle.med_value.specs.declared.cause.Cause.TheVariants.{Protocol, NoConnection, OutOfRange, DivisionByZero}
-use Rattle.tri_expr.specs.declared.expr.Fault.{Fault}
-use Rattle.tri_expr.specs.declared.expr.Fault.TheVariants.{Range, Zero}
-use Rattle.tri_expr.specs.Query.{faults}
+use Rattle.med_value.specs.declared.cause.Cause.TheVariants.{Protocol, NoConnection, LimitExceeded}
+use Rattle.tri_expr.specs.Query.{Tables}
 use Rattle.med_parser.specs.QueryTree.{StatementTree}
 use Rattle.med_parser.specs.QueryGrammar.{HasStatement}
 use Rattle.med_parser.specs.QueryCauses.{SyntaxCauses}
 use Rattle.med_binder.specs.Naming.{NameCauses}
 use Rattle.med_binder.specs.Typing.{TypeCauses}
-use Rattle.med_binder.specs.Meaning.{meant}
+use Rattle.med_binder.specs.Meaning.{Meant, meant}
+use Rattle.med_exec.specs.Running.{QueryCauses}
 use Rattle.med_session.specs.Requests.{Asked, opening, sql, bye, IsUser}
 use Rattle.med_session.specs.World.{World, IsOpen, shapes, rows_in}
-use Rattle.med_session.specs.Queries.{query_of}
+use Rattle.med_session.specs.Queries.{query_of, entry_tables}
 
 -- Phase 1, the frame. 08P01: OPEN of a session that is open, or with a user who is none by the protocol.
 -- 08003: a statement or BYE of a session that is not open.
@@ -23,18 +22,25 @@ FrameCauses w sid (opening user) c = (c ≡ Protocol) × (IsOpen w sid ⊎ (IsUs
 FrameCauses w sid (sql text) c = (c ≡ NoConnection) × (IsOpen w sid → ⊥)
 FrameCauses w sid bye c = (c ≡ NoConnection) × (IsOpen w sid → ⊥)
 
--- 22003 and 22012
-abbrev pub fault_cause : Fault → Cause
-fault_cause Range = OutOfRange
-fault_cause Zero = DivisionByZero
+-- what the statement means over the world's tables
+abbrev pub meant_over : World → StatementTree → Meant
+meant_over w tree = meant (shapes w.tables) tree
 
--- Phase 6: the faults that the query shows over the rows of its tables.
+-- the rows of the entries of its FROM
+abbrev pub entries_in : World → StatementTree → Tables
+entries_in w tree = entry_tables (meant_over w tree).entries (rows_in w.tables)
+
+-- Phase 5: 54000 where FROM has more than 8 entries.
+abbrev pub StateCauses : World → StatementTree → Cause → Type 0
+StateCauses w tree c = (8 < length (meant_over w tree).entries) × (c ≡ LimitExceeded)
+
+-- Phase 6: the faults that the query shows over the rows of its entries, and 54000 where it groups too many of them.
 abbrev pub RunCauses : World → StatementTree → Cause → Type 0
-RunCauses w tree c = (f : Fault) × Contains (faults (query_of (meant (shapes w.tables) tree)) (rows_in w.tables)) f × (c ≡ fault_cause f)
+RunCauses w tree c = QueryCauses (query_of (meant_over w tree)) (entries_in w tree) c
 
--- What the tree that a text has shows: phases 3 and 4, names and types, as they are found in the world's tables, and phase 6.
+-- What the tree that a text has shows: phases 3 and 4, names and types, as they are found in the world's tables, and phases 5 and 6.
 abbrev pub TreeCauses : World → StatementTree → Cause → Type 0
-TreeCauses w tree c = NameCauses (shapes w.tables) tree c ⊎ (TypeCauses (shapes w.tables) tree c ⊎ RunCauses w tree c)
+TreeCauses w tree c = NameCauses (shapes w.tables) tree c ⊎ (TypeCauses (shapes w.tables) tree c ⊎ (StateCauses w tree c ⊎ RunCauses w tree c))
 
 -- Of a statement: phase 2, its syntax, and what its tree shows.
 abbrev pub StatementCauses : World → Asked → Cause → Type 0

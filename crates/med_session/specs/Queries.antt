@@ -1,14 +1,15 @@
 -- The query that a statement is, over tables that are told apart by their places.
-use Rattle.std.specs.Prelude.{ℕ, List, [], ◌∷◌, map, Option, Some, None}
-use Rattle.tri_expr.specs.TreeMeaning.{tree_meaning}
-use Rattle.tri_expr.specs.Query.{Chain, Table, Query, plain}
+use Rattle.std.specs.Prelude.{ℕ, zero, suc, List, [], ◌∷◌}
+use Rattle.tri_expr.specs.Query.{Query, Tables}
+use Rattle.tri_expr.specs.Form.{query_by}
 use Rattle.med_binder.specs.Meaning.{Meant}
 
--- FROM
-abbrev pub chains_of : Option ℕ → List Chain
-chains_of None = []
-chains_of (Some place) = Table place ∷ []
-
--- SELECT items FROM from WHERE conditions (ISO/IEC 9075-2, <query specification>)
+-- the query, over the entries of FROM, which are counted from 0 (ISO/IEC 9075-2, <query specification>)
 abbrev pub query_of : Meant → Query
-query_of m = plain (chains_of m.from) (map (tree_meaning []) m.conditions) (map (tree_meaning []) m.items)
+query_of m = query_by m.form
+
+-- an entry of FROM has the rows of the table in its place (ISO/IEC 9075-2, <from clause>)
+abbrev pub entry_tables : List ℕ → Tables → Tables
+entry_tables [] db k = []
+entry_tables (p ∷ ps) db zero = db p
+entry_tables (p ∷ ps) db (suc k) = entry_tables ps db k

@@ -1,21 +1,16 @@
 -- What a query does to the boxes, and why it is refused.
-use Rattle.std.specs.Prelude.{◌≡◌, ◌⊎◌, ◌<◌, ℕ, List, [], ◌∷◌, ◌++◌, length, map, Option, Some, None, slice_get, IsPermutation}
+use Rattle.std.specs.Prelude.{◌≡◌, ◌⊎◌, ◌<◌, ◌≤◌, ℕ, List, [], ◌∷◌, length, map, Option, Some, slice_get}
 use Rattle.med_value.specs.Datum.{Tuple}
 use Rattle.med_value.specs.declared.cause.Cause.{Cause}
-use Rattle.med_value.specs.declared.cause.Cause.TheVariants.{OutOfMemory, SourceFault, OutOfRange as range, DivisionByZero}
-use Rattle.tri_expr.specs.declared.expr.EvalFault.{EvalFault}
-use Rattle.tri_expr.specs.declared.expr.EvalFault.TheVariants.{OutOfRange, ZeroDivisor}
-use Rattle.tri_expr.specs.declared.expr.EvalFault.TheVariants as evaluation
-use Rattle.tri_expr.specs.Meaning.{OnClass}
-use Rattle.tri_expr.specs.Query.{Chain, Tables, joined_chains, IsAnswer, plain, faults, IsTold}
+use Rattle.med_value.specs.declared.cause.Cause.TheVariants.{LimitExceeded, OutOfMemory, SourceFault}
+use Rattle.tri_expr.specs.Query.{Query, Tables, SameRows, IsAnswer}
 use Rattle.fdw_api.specs.State.{BoxState}
 use Rattle.fdw_api.specs.declared.interface.Fault.{Fault}
 use Rattle.fdw_api.specs.declared.interface.Fault.TheVariants.{NoMemory, Source, Refused}
-use Rattle.med_exec.specs.Slots.{ChangesAt}
-use Rattle.med_exec.specs.declared.answering.AnswerFault.{AnswerFault}
-use Rattle.med_exec.specs.declared.answering.AnswerFault.TheVariants.{Scan as of_scan, Query as of_query}
-use Rattle.med_exec.specs.Scanning.{ReadsTable, FailsTable}
-use Rattle.med_exec.specs.TableAnswers.{Answered, LeavesOff, AnswersTable, TableStops}
+use Rattle.fdw_api.specs.declared.scan.Agreement.{Agreement}
+use Rattle.pushdown.specs.declared.offers.Offer.{Offer}
+use Rattle.pushdown.specs.Offered.{Place}
+use Rattle.med_exec.specs.Running.{AllServed, SlotShows, HasFailed, IsUsedUp, AllHonest, entry_rows, QueryCauses}
 use Rattle.med_parser.specs.QueryTree.{StatementTree}
 use Rattle.med_binder.specs.Scope.{TableShape}
 use Rattle.med_binder.specs.Meaning.{Meant, meant}
@@ -28,14 +23,12 @@ cause_of NoMemory = OutOfMemory
 cause_of Source = SourceFault
 cause_of (Refused c) = c
 
-abbrev pub eval_cause : EvalFault → Cause
-eval_cause OutOfRange = range
-eval_cause ZeroDivisor = DivisionByZero
-eval_cause evaluation.NoMemory = OutOfMemory
+-- how many answers a box gave, and how many restrictions it was asked about
+abbrev pub answers_given : Agreement → ℕ
+answers_given a = length a.answers.items
 
-abbrev pub answer_cause : AnswerFault → Cause
-answer_cause (of_scan fault) = cause_of fault
-answer_cause (of_query fault) = eval_cause fault
+abbrev pub answers_wanted : Offer → ℕ
+answers_wanted o = length o.offered.items
 
 -- an attached table by its name and its columns
 abbrev pub shape_of : Attached → TableShape
@@ -52,62 +45,51 @@ IsBindable tables tree = (c : Cause) → BindCauses (map shape_of tables) tree c
 abbrev pub NotBound : List Attached → StatementTree → Cause → Type 0
 NotBound tables tree c = (c ≡ OutOfMemory) ⊎ BindTells (map shape_of tables) tree c
 
--- FROM names no table, or one that is there
-abbrev pub IsPlaceIn : Option ℕ → List Attached → Type 0
-IsPlaceIn None tables = Unit {0}
-IsPlaceIn (Some place) tables = place < length tables
+-- the table in this place of the list: where its rows are
+pub record IsPlaceOf (tables : List Attached) (k : ℕ) (place : Place) : Type 0 where
+  pub table : Attached
+  pub there : slice_get tables k ≡ Some table
+  pub source : place.source ≡ table.source
+  pub number : place.table ≡ table.number
 
--- The rows of FROM were read: those of the table in this place, or one row of no columns without FROM.
-pub data ReadsFrom (tables : List Attached) (from : Option ℕ) (old : List (Option BoxState)) (rows : List Tuple) (new : List (Option BoxState)) : Type 0 where
-  no_table : from ≡ None → rows ≡ [] ∷ [] → new ≡ old → ReadsFrom tables from old rows new
-  one_table : (place : ℕ) (a : Attached) → from ≡ Some place → slice_get tables place ≡ Some a → ChangesAt old a.source (λ b c. ReadsTable b a.number rows c) new → ReadsFrom tables from old rows new
+-- of each entry
+abbrev pub ArePlaces : List Attached → List ℕ → List Place → Type 0
+ArePlaces tables [] [] = Unit {0}
+ArePlaces tables (k ∷ ks) (p ∷ ps) = IsPlaceOf tables k p × ArePlaces tables ks ps
+ArePlaces tables [] (p ∷ ps) = ⊥
+ArePlaces tables (k ∷ ks) [] = ⊥
 
--- Some of them were read: those rows of the table that were given before its scan was ended, or the one row of no columns.
-pub data ReadsPart (tables : List Attached) (from : Option ℕ) (old : List (Option BoxState)) (rows : List Tuple) (new : List (Option BoxState)) : Type 0 where
-  no_part : from ≡ None → rows ≡ [] ∷ [] → new ≡ old → ReadsPart tables from old rows new
-  table_part : (place : ℕ) (a : Attached) → from ≡ Some place → slice_get tables place ≡ Some a → ChangesAt old a.source (λ b c. LeavesOff b a.number rows c) new → ReadsPart tables from old rows new
+-- over these rows of its entries, where all boxes tell the truth, the query is answered so, and no cause of the run stands
+pub record RunAnswers (q : Query) (places : List Place) (boxes : List (Option BoxState)) (rows : List Tuple) : Type 0 where
+  pub answers : AllHonest boxes → IsAnswer q (entry_rows boxes places) rows
+  pub clear : AllHonest boxes → (c : Cause) → QueryCauses q (entry_rows boxes places) c → ⊥
 
--- without FROM the query shows this fault
-abbrev pub ShowsAlone : List OnClass → List OnClass → EvalFault → Type 0
-ShowsAlone conditions items fault = (from : List Chain) (db : Tables) → joined_chains db from ≡ [] ∷ [] → IsTold fault (faults (plain from conditions items) db)
+-- the same in whatever order the rows come
+pub record AnswersOver (q : Query) (places : List Place) (boxes : List (Option BoxState)) (rows : List Tuple) : Type 0 where
+  pub answers : AllHonest boxes → (db : Tables) → SameRows (entry_rows boxes places) db → IsAnswer q db rows
+  pub clear : AllHonest boxes → (db : Tables) → SameRows (entry_rows boxes places) db → (c : Cause) → QueryCauses q db c → ⊥
 
--- the query is answered over the rows of FROM
-pub data AnswersFrom (tables : List Attached) (from : Option ℕ) (conditions items : List OnClass) (old : List (Option BoxState)) (out : List Tuple) (new : List (Option BoxState)) : Type 0 where
-  answers_row : from ≡ None → new ≡ old → Answered conditions items ([] ∷ []) out → AnswersFrom tables from conditions items old out new
-  answers_table : (place : ℕ) (a : Attached) → from ≡ Some place → slice_get tables place ≡ Some a → ChangesAt old a.source (λ b c. AnswersTable a.number conditions items b out c) new → AnswersFrom tables from conditions items old out new
-
--- why it is not
-pub data FromStops (tables : List Attached) (from : Option ℕ) (conditions items : List OnClass) (fault : AnswerFault) (old new : List (Option BoxState)) : Type 0 where
-  stops_row : from ≡ None → (e : EvalFault) → fault ≡ of_query e → new ≡ old → ShowsAlone conditions items e → FromStops tables from conditions items fault old new
-  stops_table : (place : ℕ) (a : Attached) → from ≡ Some place → slice_get tables place ≡ Some a → ChangesAt old a.source (TableStops a.number conditions items fault) new → FromStops tables from conditions items fault old new
-
--- these are the rows of FROM's table in some order, or one row of no columns
-abbrev pub HoldsRows : Option ℕ → List Tuple → Tables → Type 0
-HoldsRows None rows db = rows ≡ [] ∷ []
-HoldsRows (Some place) rows db = IsPermutation rows (db place)
-
--- these are some of them
-abbrev pub HoldsPart : Option ℕ → List Tuple → Tables → Type 0
-HoldsPart None rows db = rows ≡ [] ∷ []
-HoldsPart (Some place) rows db = (rest : List Tuple) × IsPermutation (rows ++ rest) (db place)
-
--- the query is answered so over all tables that hold these rows
-abbrev pub AnswersOver : Meant → List Tuple → List Tuple → Type 0
-AnswersOver m rows given = (db : Tables) → HoldsRows m.from rows db → IsAnswer (query_of m) db given
-
--- it shows this fault over all tables that have these rows among theirs
-abbrev pub FaultsOver : Meant → List Tuple → EvalFault → Type 0
-FaultsOver m rows fault = (db : Tables) → HoldsPart m.from rows db → IsTold fault (faults (query_of m) db)
-
+-- The query was answered from the boxes: no cause of names or types stood, FROM has at most 8 entries, and each box keeps what it holds.
 pub record Selects (tables : List Attached) (tree : StatementTree) (old : List (Option BoxState)) (names : List (List ℕ)) (given : List Tuple) (new : List (Option BoxState)) : Type 0 where
   pub bindable : IsBindable tables tree
+  pub few : length (meant_in tables tree).entries ≤ 8
   pub named : names ≡ (meant_in tables tree).names
-  pub rows : List Tuple
-  pub reads : ReadsFrom tables (meant_in tables tree).from old rows new
-  pub answers : AnswersOver (meant_in tables tree) rows given
+  pub served : AllServed old new
+  pub places : List Place
+  pub are : ArePlaces tables (meant_in tables tree).entries places
+  pub answers : AnswersOver (query_of (meant_in tables tree)) places old given
 
+-- Why a run of the query has no rows: memory was refused; a box failed, or has given all its ticket numbers; or the query shows the cause
+-- over the rows of its entries, in whatever order they come.
+pub data RunFails (q : Query) (places : List Place) (c : Cause) (old new : List (Option BoxState)) : Type 0 where
+  no_memory : c ≡ OutOfMemory → RunFails q places c old new
+  box_fails : c ≡ SourceFault → SlotShows old new HasFailed → RunFails q places c old new
+  numbers_out : c ≡ LimitExceeded → SlotShows old new IsUsedUp → RunFails q places c old new
+  shows_cause : (AllHonest old → (db : Tables) → SameRows (entry_rows old places) db → QueryCauses q db c) → RunFails q places c old new
+
+-- why the query is not answered: it is not bound, FROM has more than 8 entries, or its run has no rows
 pub data SelectFails (tables : List Attached) (tree : StatementTree) (old : List (Option BoxState)) (c : Cause) (new : List (Option BoxState)) : Type 0 where
   not_bound : NotBound tables tree c → new ≡ old → SelectFails tables tree old c new
-  scan_fails : IsBindable tables tree → (a : Attached) (fault : Fault) → c ≡ cause_of fault → ChangesAt old a.source (FailsTable fault) new → SelectFails tables tree old c new
-  run_fails : IsBindable tables tree → (rows : List Tuple) → ReadsPart tables (meant_in tables tree).from old rows new → (fault : EvalFault) → c ≡ eval_cause fault
-      → FaultsOver (meant_in tables tree) rows fault → SelectFails tables tree old c new
+  too_many : IsBindable tables tree → 8 < length (meant_in tables tree).entries → c ≡ LimitExceeded → new ≡ old → SelectFails tables tree old c new
+  run_fails : IsBindable tables tree → length (meant_in tables tree).entries ≤ 8 → AllServed old new → (places : List Place)
+      → ArePlaces tables (meant_in tables tree).entries places → RunFails (query_of (meant_in tables tree)) places c old new → SelectFails tables tree old c new

@@ -7,11 +7,10 @@ use Rattle.tri_expr.specs.Query.{IsAnswer}
 use Rattle.fdw_api.specs.State.{set_at}
 use Rattle.med_parser.specs.QueryTree.{StatementTree}
 use Rattle.med_parser.specs.QueryGrammar.{HasStatement}
-use Rattle.med_binder.specs.Meaning.{meant}
 use Rattle.med_session.specs.Requests.{Asked, opening, sql, bye}
-use Rattle.med_session.specs.World.{World, shapes, rows_in}
+use Rattle.med_session.specs.World.{World}
 use Rattle.med_session.specs.Queries.{query_of}
-use Rattle.med_session.specs.Causes.{IsTold, NoneStands, NoneBeforeState}
+use Rattle.med_session.specs.Causes.{meant_over, entries_in, IsTold, NoneStands, NoneBeforeState}
 use Rattle.med_session.specs.Replies.{Reply, done, answered, refused}
 
 -- What befell one request: a growth was refused; a source failed; a box has given all its ticket numbers.
@@ -36,11 +35,11 @@ AsksSources bye = ⊥
 abbrev pub with_session : World → ℕ → Option (List ℕ) → World
 with_session w sid user = record w { sessions = set_at w.sessions sid user }
 
--- What a statement answers: its output names, and an answer to its query over the rows of the world's tables.
+-- What a statement answers: its output names, and an answer to its query over the rows of the entries of its FROM.
 abbrev pub Answers : World → StatementTree → Reply → Type 0
 Answers w tree reply =
-    let m = meant (shapes w.tables) tree in
-    (rows : List Tuple) × IsAnswer (query_of m) (rows_in w.tables) rows × (reply ≡ answered m.names rows)
+    let m = meant_over w tree in
+    (rows : List Tuple) × IsAnswer (query_of m) (entries_in w tree) rows × (reply ≡ answered m.names rows)
 
 -- what a request for which no cause stands is answered, and what it changes
 abbrev pub Does : World → ℕ → Asked → Reply → World → Type 0

@@ -16,7 +16,6 @@ use Rattle.fdw_api.specs.declared.interface.Fault.{Fault}
 use Rattle.fdw_api.specs.declared.interface.SourceRow.{SourceRow}
 use Rattle.probe_wrapper.specs.declared.failing.Failure.TheVariants.{Before}
 use Rattle.probe_wrapper.specs.Counting.{counted}
-use Rattle.probe_wrapper.specs.Shy.{shied, shied_bound}
 use Rattle.probe_wrapper.specs.Failing.{failed, staging_of}
 
 put_same : {X : Type 0} (m : finmap.FinMap nat_cmp X) (k : ℕ) (v : X) → finmap.get (finmap.insert m k v) k ≡ Some v
@@ -192,9 +191,6 @@ scanned_has_table old begun last new t spec params n b same e is = subst IsSome 
 -- wrappers round an idle wrapper are idle
 pub idle_counted : (s : BoxState) (pulled : ℕ) → IsIdle s → IsIdle (counted s pulled)
 idle_counted s pulled i = record { no_table = i.no_table; no_scan = i.no_scan; no_staging = i.no_staging }
-
-pub idle_shied : (s : BoxState) → IsIdle s → IsIdle (shied s)
-idle_shied s i = record { no_table = λ t. ap (option_map shied_bound) (i.no_table t); no_scan = i.no_scan; no_staging = i.no_staging }
 
 pub idle_failed : (s : BoxState) (passes : ℕ) → IsIdle s → IsIdle (failed s (Before passes))
 idle_failed s passes i = record { no_table = i.no_table; no_scan = i.no_scan; no_staging = ap (option_map (staging_of (Before passes))) i.no_staging }

@@ -11,7 +11,8 @@ use Rattle.fdw_api.specs.declared.interface.Fault.{Fault}
 use Rattle.fdw_api.specs.declared.interface.Fault.TheVariants.{NoMemory, Source, Refused}
 use Rattle.fdw_api.specs.declared.interface.SourceRow.{SourceRow}
 use Rattle.probe_wrapper.specs.Shuffled.{turned, Turn, unread, turned_rows, turned_coming, left_of, seen_scan, seen, reordered_ledger, reordered, Becomes, Stays, is_unread, TakesFirst, TurnsRows, ReadsOut, StopsOut}
-use Rattle.probe_wrapper.proofs.ShuffledLemmas.{Scans, Turns, put_other, seen_get, insert_of, change_of, remove_of, keep_of, gone_again, turned_come, turned_length, turned_nil, nil_turned}
+use Rattle.probe_wrapper.proofs.SeenScans.{Scans, put_other, gone_again}
+use Rattle.probe_wrapper.proofs.ShuffledLemmas.{Turns, seen_get, insert_of, change_of, remove_of, keep_of, turned_come, turned_length, turned_nil, nil_turned}
 
 some_inj : {A : Type 0} (a b : A) → Some a ≡ Some b → a ≡ b
 some_inj a b q = cc

@@ -8,7 +8,7 @@ use Rattle.fdw_api.specs.Calls.{LeavesOthers, bumped, faults_after, IsOpen, Give
 use Rattle.fdw_api.specs.declared.interface.Fault.{Fault}
 use Rattle.fdw_api.specs.declared.interface.Fault.TheVariants.{NoMemory}
 use Rattle.probe_wrapper.specs.Shuffled.{ReadsOut, StopsOut}
-use Rattle.probe_wrapper.proofs.ShuffledLemmas.{Scans, put_same, put_other, put_again, put_twice}
+use Rattle.probe_wrapper.proofs.SeenScans.{Scans, put_same, put_other, put_again, put_twice}
 
 -- how many rows a scan may still give at most
 abbrev pub left_in : Option Scan → ℕ

@@ -1,32 +1,33 @@
--- What is said of the inner wrapper is said of a shy one, and what a shy box asks the inner one asks.
-use Rattle.std.proofs.Common.{◌≡◌, ℕ, Bool, true, false, not, ◌&&◌, nat_eq, if◌then◌else◌, List, [], ◌∷◌, ◌++◌, Contains, length, replicate, map, Option, Some, None, IsSome, option_map, refl, ap, sym, ◌∙◌, subst}
+-- Plain scans and the bare inner ones that they stand on, and how the tables and scans of the inner wrapper are seen.
+use Rattle.std.proofs.Common.{◌≡◌, ◌≢◌, ℕ, Bool, true, false, not, ◌&&◌, ◌||◌, nat_eq, if◌then◌else◌, List, [], ◌∷◌, length, replicate, map, Option, Some, None, IsSome, option_map, refl, ap, sym, ◌∙◌, subst}
+use Rattle.std.specs.FinMap as finmap
+use Rattle.std.proofs.lemmas.List.Elements.{All-weaker}
 use Rattle.med_value.specs.Datum.{Tuple}
-use Rattle.fdw_api.specs.Scan.{Spec, spec_of, Filter, plain_spec, params_fit, filter_of}
-use Rattle.fdw_api.specs.declared.scan.ScanSpec.{ScanSpec}
+use Rattle.fdw_api.specs.Scan.{Spec, Filter, pick, shown, GivenRow, TableRow, IsComing, meets_all, meets_exact, params_fit}
+use Rattle.med_value.specs.declared.value.ColType.{ColType}
 use Rattle.fdw_api.specs.declared.scan.Agree.{Agree}
 use Rattle.fdw_api.specs.declared.scan.Agree.TheVariants.{Ignored, Hint, Exact}
-use Rattle.fdw_api.specs.Kinds.{Column, Setting, Change, Held, Holding, Known, Unknown}
-use Rattle.fdw_api.specs.State.{Bound, BoxState, Ledger, Staging, table_of, set_at}
-use Rattle.fdw_api.specs.Calls.{Leaves, Allows, CanBind, Binds, CanBegin, BeginCause, RefusesBegin, CanRescan, Gives}
-use Rattle.fdw_api.specs.Writes.{Opens, CanChange, RefusesChange, ChangeCause, Closes, Outcome, HoldsImage, row_of_change_fits}
-use Rattle.fdw_api.specs.declared.interface.Fault.{Fault}
-use Rattle.fdw_api.specs.declared.interface.Fault.TheVariants.{NoMemory, Source, Refused}
-use Rattle.fdw_api.specs.declared.interface.SourceRow.{SourceRow}
-use Rattle.probe_wrapper.specs.Shy.{all_ignored, is_plain, plain_is_ignored, shied_bound, shied}
+use Rattle.fdw_api.specs.State.{Bound, BoxState, Ledger, Scan, IsIdle, scan_of, set_at}
+use Rattle.fdw_api.specs.Calls.{Leaves, IsOpen, new_scan}
+use Rattle.probe_wrapper.specs.Shy.{all_ignored, is_plain, has_none, is_bare, Asked, asked_scan, shied_bound, shied_ledger, shied}
+use Rattle.probe_wrapper.proofs.SeenScans.{Scans, See, each_get, each_len, each_insert, each_change, each_remove, each_keep}
+
+abbrev pub Asks : Type 0
+Asks = ℕ → Option Asked
+
+pub some_inj : {A : Type 0} (a b : A) → Some a ≡ Some b → a ≡ b
+some_inj a b q = cc
 
 -- the inner wrapper's table
-inner_of : (o : Option Bound) (b : Bound) → option_map shied_bound o ≡ Some b → (a : Bound) × (o ≡ Some a) × (shied_bound a ≡ b)
+pub inner_of : (o : Option Bound) (b : Bound) → option_map shied_bound o ≡ Some b → (a : Bound) × (o ≡ Some a) × (shied_bound a ≡ b)
 inner_of None b e = absurd cc
-inner_of (Some a) b e = (a, refl, inj _ _ e)
-  where
-    inj : (x y : Bound) → Some x ≡ Some y → x ≡ y
-    inj x y e = cc
+inner_of (Some a) b e = (a, refl, some_inj _ _ e)
 
-some_of : (o : Option Bound) → IsSome (option_map shied_bound o) → IsSome o
+pub some_of : (o : Option Bound) → IsSome (option_map shied_bound o) → IsSome o
 some_of None e = absurd cc
 some_of (Some a) e = refl
 
-none_of_none : (o : Option Bound) → o ≡ None → option_map shied_bound o ≡ None
+pub none_of_none : (o : Option Bound) → o ≡ None → option_map shied_bound o ≡ None
 none_of_none o e = rw e refl
 
 -- all Ignored is what a plain scan answers
@@ -38,7 +39,7 @@ ignored_is (f ∷ fs) (Ignored ∷ answers) e = ap (λ (l : List Agree). Ignored
 ignored_is (f ∷ fs) (Hint ∷ answers) e = absurd cc
 ignored_is (f ∷ fs) (Exact ∷ answers) e = absurd cc
 
-both : (a b : Bool) → (a && b) ≡ true → (a ≡ true) × (b ≡ true)
+pub both : (a b : Bool) → (a && b) ≡ true → (a ≡ true) × (b ≡ true)
 both true b e = (refl, e)
 both false b e = absurd cc
 
@@ -46,159 +47,160 @@ not_true : (a : Bool) → not a ≡ true → a ≡ false
 not_true true e = absurd cc
 not_true false e = refl
 
-plain_is : (spec : Spec) → is_plain spec ≡ true → spec ≡ plain_spec spec.wanted spec.offered
-plain_is spec e =
-    let w = both (not spec.narrow) (all_ignored spec.offered spec.answers) e in
-    ap (λ (answers : List Agree). record spec { answers = answers }) (ignored_is spec.offered spec.answers w.1)
-    ∙ ap (λ (narrow : Bool). record (plain_spec spec.wanted spec.offered) { narrow = narrow }) (not_true spec.narrow w.0)
+none_there : (fs : List Filter) → has_none fs ≡ true → fs ≡ []
+none_there [] e = refl
+none_there (f ∷ fs) e = absurd cc
 
-allowed : (a : Bound) (spec : Spec) → is_plain spec ≡ true → a.allows spec ≡ true
-allowed a spec e = ap a.allows (plain_is spec e) ∙ a.allows_plain spec.wanted spec.offered
+pub bare_is_whole : (spec : Spec) → is_bare spec ≡ true → spec.narrow ≡ false
+bare_is_whole spec e = not_true spec.narrow (both (not spec.narrow) (has_none spec.offered) e).0
 
-leaves : {tickets tables : ℕ → Type 0} {remotes : List ℕ → Type 0} (s t : BoxState) → Leaves tickets tables remotes s t → Leaves tickets tables remotes (shied s) (shied t)
-leaves s t l = record { coming = l.coming; rows = l.rows; holdings = l.holdings }
+pub bare_offers : (spec : Spec) → is_bare spec ≡ true → spec.offered ≡ []
+bare_offers spec e = none_there spec.offered (both (not spec.narrow) (has_none spec.offered) e).1
 
-abbrev shied_ledger : Ledger → Ledger
-shied_ledger l = record l { tables = λ t. option_map shied_bound (l.tables t) }
+pub bare_fits : (kinds : List ColType) (spec : Spec) → is_bare spec ≡ true → params_fit kinds spec.offered [] ≡ true
+bare_fits kinds spec e = ap (λ (l : List Filter). params_fit kinds l []) (bare_offers spec e)
 
-pub can_bind : (s : BoxState) (remote : List ℕ) (columns : List Column) (settings : List Setting) → CanBind (shied s) remote columns settings → CanBind s remote columns settings
-can_bind s remote columns settings c = record { free = λ t b e. c.free t (shied_bound b) (ap (option_map shied_bound) e); no_objection = c.no_objection }
+-- a plain scan may give what its bare inner scan gives
+no_exact : (fs : List Filter) (answers : List Agree) (params cells : Tuple) → all_ignored fs answers ≡ true → meets_exact fs answers params cells ≡ true
+no_exact [] answers params cells e = refl
+no_exact (f ∷ fs) [] params cells e = refl
+no_exact (f ∷ fs) (Ignored ∷ answers) params cells e = no_exact fs answers params cells e
+no_exact (f ∷ fs) (Hint ∷ answers) params cells e = absurd cc
+no_exact (f ∷ fs) (Exact ∷ answers) params cells e = absurd cc
+
+whole_shown : (spec : Spec) (r : TableRow) → spec.narrow ≡ false → shown spec r ≡ record { id = r.id; cells = r.cells }
+whole_shown spec r e = ap (λ (b : Bool). record { id = r.id; cells = if b then pick spec.wanted r.cells else r.cells }) e
+
+clash : {X : Type 0} → true ≡ false → X
+clash e = absurd cc
+
+pub plain_come : (rows : List TableRow) (spec inner : Spec) (params : Tuple) (coming : List GivenRow) → is_plain spec ≡ true → is_bare inner ≡ true → IsComing rows inner [] coming → IsComing rows spec params coming
+plain_come rows spec inner params coming plain bare c =
+    let w = both (not spec.narrow) (all_ignored spec.offered spec.answers) plain in
+    let same : (r : TableRow) → shown inner r ≡ shown spec r = λ r. whole_shown inner r (bare_is_whole inner bare) ∙ sym (whole_shown spec r (not_true spec.narrow w.0)) in
+    record {
+      taken = c.taken;
+      left_out = c.left_out;
+      parts = c.parts;
+      failing = All-weaker _ (λ r. meets_all spec.offered params r.cells ≡ false) (λ r e. clash (sym (ap (λ (l : List Filter). meets_all l [] r.cells) (bare_offers inner bare)) ∙ e)) c.left_out c.failing;
+      exact = All-weaker (λ r. meets_exact inner.offered inner.answers [] r.cells ≡ true) _ (λ r e. no_exact spec.offered spec.answers params r.cells w.1) c.taken c.exact;
+      is = c.is ∙ ap (λ (f : TableRow → GivenRow). map f c.taken) (λ i r. same r i);
+    }
+
+-- the map of the scans as they are seen
+abbrev see : Asks → See
+see asked = λ q. asked_scan (asked q)
+
+pub seen_get : (s : BoxState) (asked : Asks) (q : ℕ) → scan_of (shied s asked) q ≡ option_map (asked_scan (asked q)) (scan_of s q)
+seen_get s asked q = each_get (see asked) s.ledger.live q
+
+pub seen_len : (asked : Asks) (l : Ledger) → finmap.len (shied_ledger asked l).live ≡ finmap.len l.live
+seen_len asked l = each_len (see asked) l.live
+
+pub insert_of : (old new : Asks) (l : Ledger) (m : Scans) (q : ℕ) (s : Scan) → ((x : ℕ) → x ≢ q → new x ≡ old x) → (shied_ledger new (record l { live = finmap.insert m q s })).live ≡ finmap.insert (shied_ledger old (record l { live = m })).live q (asked_scan (new q) s)
+insert_of old new l m q s others = each_insert (see old) (see new) m q s (λ x ne. ap asked_scan (others x ne))
+
+pub change_of : (old new : Asks) (l : Ledger) (q : ℕ) (s : Scan) → finmap.get l.live q ≡ Some s → ((x : ℕ) → x ≢ q → new x ≡ old x) → (shied_ledger new l).live ≡ finmap.insert (shied_ledger old l).live q (asked_scan (new q) s)
+change_of old new l q s is others = each_change (see old) (see new) l.live q s is (λ x ne. ap asked_scan (others x ne))
+
+pub remove_of : (old new : Asks) (l : Ledger) (q : ℕ) → ((x : ℕ) → x ≢ q → new x ≡ old x) → (shied_ledger new (record l { live = finmap.remove l.live q })).live ≡ finmap.remove (shied_ledger old l).live q
+remove_of old new l q others = each_remove (see old) (see new) l.live q (λ x ne. ap asked_scan (others x ne))
+
+pub keep_of : (old new : Asks) (l : Ledger) → ((x : ℕ) → new x ≡ old x) → shied_ledger new l ≡ shied_ledger old l
+keep_of old new l same = ap (λ (m : Scans). record (shied_ledger old l) { live = m }) (each_keep (see old) (see new) l.live (λ x. ap asked_scan (same x)))
+
+-- what is live or open outside is so inside
+some_seen : (t : Option Asked) (o : Option Scan) → IsSome (option_map (asked_scan t) o) → IsSome o
+some_seen t None e = absurd cc
+some_seen t (Some s) e = refl
+
+pub live_in : (s : BoxState) (asked : Asks) (q : ℕ) → IsSome (scan_of (shied s asked) q) → IsSome (scan_of s q)
+live_in s asked q live = some_seen (asked q) (scan_of s q) (subst IsSome (seen_get s asked q) live)
+
+-- an open scan, with what it was asked for and its inner scan
+pub record OpenInside (s : BoxState) (asked : Asks) (q : ℕ) (scan : Scan) : Type 0 where
+  pub ask : Asked
+  pub at : asked q ≡ Some ask
+  pub inner : Scan
+  pub is : scan_of s q ≡ Some inner
+  pub seen_as : scan ≡ asked_scan (Some ask) inner
+  pub whole : ask.broken ≡ false
+  pub whole_in : inner.broken ≡ false
+  pub plain : is_plain ask.spec ≡ true
+  pub bare : is_bare inner.spec ≡ true
+
+or_left : (a b : Bool) → (a || b) ≡ false → a ≡ false
+or_left true b e = absurd cc
+or_left false b e = refl
+
+or_right : (a b : Bool) → (a || b) ≡ false → b ≡ false
+or_right true b e = absurd cc
+or_right false b e = e
+
+not_false : (a : Bool) → not a ≡ false → a ≡ true
+not_false true e = refl
+not_false false e = absurd cc
+
+pub open_in : (s : BoxState) (asked : Asks) (q : ℕ) (scan : Scan) → scan_of (shied s asked) q ≡ Some scan → scan.broken ≡ false → OpenInside s asked q scan
+open_in s asked q scan at whole = go (asked q) (scan_of s q) refl refl (sym (seen_get s asked q) ∙ at)
+  where
+    go : (o : Option Asked) (i : Option Scan) → asked q ≡ o → scan_of s q ≡ i → option_map (asked_scan o) i ≡ Some scan → OpenInside s asked q scan
+    go o None e f h = absurd cc
+    go None (Some x) e f h =
+        let same = some_inj (record x { broken = true }) scan h in
+        clash (ap (λ (z : Scan). z.broken) same ∙ whole)
+    go (Some a) (Some x) e f h =
+        let same = some_inj (asked_scan (Some a) x) scan h in
+        let all : (a.broken || (x.broken || not (is_plain a.spec && is_bare x.spec))) ≡ false = ap (λ (z : Scan). z.broken) same ∙ whole in
+        let rest = or_right a.broken _ all in
+        let on = both (is_plain a.spec) (is_bare x.spec) (not_false _ (or_right x.broken _ rest)) in
+        record { ask = a; at = e; inner = x; is = f; seen_as = sym same; whole = or_left a.broken _ all; whole_in = or_left x.broken _ rest; plain = on.0; bare = on.1 }
+
+pub is_open_in : (s : BoxState) (asked : Asks) (q : ℕ) → IsOpen (shied s asked) q → IsOpen s q
+is_open_in s asked q o = let w = open_in s asked q o.0 o.1 o.2 in (w.inner, w.is, w.whole_in)
+
+-- an inner scan as it is seen
+pub seen_at : (s : BoxState) (asked : Asks) (q : ℕ) (scan : Scan) → scan_of s q ≡ Some scan → scan_of (shied s asked) q ≡ Some (asked_scan (asked q) scan)
+seen_at s asked q scan is = seen_get s asked q ∙ ap (option_map (asked_scan (asked q))) is
+
+pub seen_left : (o : Option Asked) (s : Scan) (n : ℕ) → asked_scan o (record s { left = n }) ≡ record (asked_scan o s) { left = n }
+seen_left None s n = refl
+seen_left (Some a) s n = refl
+
+pub left_seen : (o : Option Asked) (s : Scan) → (asked_scan o s).left ≡ s.left
+left_seen None s = refl
+left_seen (Some a) s = refl
+
+pub table_seen : (o : Option Asked) (s : Scan) → (asked_scan o s).table ≡ s.table
+table_seen None s = refl
+table_seen (Some a) s = refl
+
+pub seen_broken : (o : Option Asked) (s : Scan) → asked_scan o (record s { broken = true }) ≡ record (asked_scan o s) { broken = true }
+seen_broken None s = refl
+seen_broken (Some a) s = at a.broken
+  where
+    at : (b : Bool) → asked_scan (Some (record a { broken = b })) (record s { broken = true }) ≡ record (asked_scan (Some (record a { broken = b })) s) { broken = true }
+    at true = refl
+    at false = refl
+
+-- a scan of its asking that was just begun, where the inner one was
+pub seen_begun : (ask : Asked) (t : ℕ) (inner : Spec) (left : ℕ) → is_plain ask.spec ≡ true → is_bare inner ≡ true → ask.broken ≡ false → asked_scan (Some ask) (new_scan t inner [] left) ≡ new_scan t ask.spec ask.params left
+seen_begun ask t inner left plain bare whole =
+    ap (λ (b : Bool). record (new_scan t ask.spec ask.params left) { broken = b || (false || not (is_plain ask.spec && is_bare inner)) }) whole
+    ∙ ap (λ (b : Bool). record (new_scan t ask.spec ask.params left) { broken = not (b && is_bare inner) }) plain
+    ∙ ap (λ (b : Bool). record (new_scan t ask.spec ask.params left) { broken = not b }) bare
+
+pub leaves : {tickets tables : ℕ → Type 0} {remotes : List ℕ → Type 0} (s t : BoxState) (old new : Asks) → Leaves tickets tables remotes s t → Leaves tickets tables remotes (shied s old) (shied t new)
+leaves s t old new l = record { coming = λ q live other. l.coming q (live_in s old q live) other; rows = l.rows; holdings = l.holdings }
 
 setting : (f : ℕ → Option Bound) (t : ℕ) (x : Option Bound) (b : Bool) (q : ℕ) → option_map shied_bound (if b then x else f q) ≡ (if b then option_map shied_bound x else option_map shied_bound (f q))
 setting f t x true q = refl
 setting f t x false q = refl
 
 -- a table changed, seen from outside
-tables_set : (l : Ledger) (t : ℕ) (x : Option Bound) → shied_ledger (record l { tables = set_at l.tables t x }) ≡ record (shied_ledger l) { tables = set_at (λ q. option_map shied_bound (l.tables q)) t (option_map shied_bound x) }
-tables_set l t x = ap (λ (f : ℕ → Option Bound). record l { tables = f }) (λ i q. setting l.tables t x (nat_eq q t) q i)
+pub tables_set : (asked : Asks) (l : Ledger) (t : ℕ) (x : Option Bound) → shied_ledger asked (record l { tables = set_at l.tables t x }) ≡ record (shied_ledger asked l) { tables = set_at (λ q. option_map shied_bound (l.tables q)) t (option_map shied_bound x) }
+tables_set asked l t x = ap (λ (f : ℕ → Option Bound). record (shied_ledger asked l) { tables = f }) (λ i q. setting l.tables t x (nat_eq q t) q i)
 
-pub binds : (s t : BoxState) (remote : List ℕ) (columns : List Column) (settings : List Setting) (n : ℕ) → Binds s remote columns settings n t → Binds (shied s) remote columns settings n (shied t)
-binds s t remote columns settings n b = record {
-  nature = b.nature;
-  fresh = none_of_none _ b.fresh;
-  bound = shied_bound b.bound;
-  remote_is = b.remote_is;
-  kinds_are = b.kinds_are;
-  line_is = b.line_is;
-  image_is = b.image_is;
-  refuses_is = b.refuses_is;
-  ledger = ap shied_ledger b.ledger ∙ tables_set s.ledger n (Some b.bound);
-  entry = b.entry;
-  picked = b.picked;
-  no_cause = b.no_cause;
-  rows = b.rows;
-  once = b.once;
-  leaves = λ h. leaves s t (b.leaves h);
-}
-
-pub can_begin : (s : BoxState) (t : ℕ) (spec : ScanSpec) (params : Tuple) → CanBegin (shied s) t spec params → CanBegin s t spec params
-can_begin s t spec params c =
-    let w = inner_of (table_of s t) c.bound c.is in
-    record {
-      bound = w.0;
-      is = w.1;
-      allowed = allowed w.0 (spec_of spec) (subst (λ (b : Bound). b.allows (spec_of spec) ≡ true) (sym w.2) c.allowed);
-      typed = subst (λ (b : Bound). params_fit b.kinds (map filter_of spec.offered.items) params ≡ true) (sym w.2) c.typed;
-    }
-
-pub can_rescan : (s : BoxState) (number : ℕ) (params : Tuple) → CanRescan (shied s) number params → CanRescan s number params
-can_rescan s number params c =
-    let w = inner_of (table_of s c.scan.table) c.bound c.is in
-    record {
-      scan = c.scan;
-      at = c.at;
-      whole = c.whole;
-      bound = w.0;
-      is = w.1;
-      typed = subst (λ (b : Bound). params_fit b.kinds c.scan.spec.offered params ≡ true) (sym w.2) c.typed;
-    }
-
-cause : (fault : Fault) (next : ℕ) → BeginCause fault next → BeginCause fault next
-cause fault next c = c
-
-pub refuses_begin : (s t : BoxState) (fault : Fault) → RefusesBegin fault s t → RefusesBegin fault (shied s) (shied t)
-refuses_begin s t fault r = record {
-  refuses = record {
-    nature = r.refuses.nature;
-    next = r.refuses.next;
-    rises = r.refuses.rises;
-    stays = r.refuses.stays;
-    ledger = ap shied_ledger r.refuses.ledger;
-    leaves = λ h. leaves s t (r.refuses.leaves h);
-  };
-  cause = r.cause;
-}
-
-pub gives : (s t : BoxState) (number : ℕ) (row : Option SourceRow) → Gives s number row t → Gives (shied s) number row (shied t)
-gives s t number None g = record { nature = g.nature; ledger = ap shied_ledger g.ledger; coming = g.coming; still = g.still; leaves = λ h. leaves s t (g.leaves h) }
-gives s t number (Some row) g = record { nature = g.nature; scan = g.scan; at = g.at; left = g.left; fewer = g.fewer; ledger = ap shied_ledger g.ledger; coming = g.coming; leaves = λ h. leaves s t (g.leaves h) }
-
-pub opens : (s t : BoxState) (n : ℕ) → Opens s n t → Opens (shied s) n (shied t)
-opens s t n o = record { nature = o.nature; ledger = ap shied_ledger o.ledger; leaves = λ h. leaves s t (o.leaves h) }
-
-pub can_change : (s : BoxState) (change : Change) → CanChange (shied s) change → CanChange s change
-can_change s change c =
-    let w = inner_of (table_of s c.staging.table) c.bound c.is in
-    record {
-      staging = c.staging;
-      is_staged = c.is_staged;
-      whole = c.whole;
-      bound = w.0;
-      is = w.1;
-      fits = subst (λ (b : Bound). row_of_change_fits b.kinds change ≡ true) (sym w.2) c.fits;
-      there = c.there;
-      once = c.once;
-    }
-
-change_cause : (s : BoxState) (staging : Staging) (change : Change) (fault : Fault) → ChangeCause s staging change fault → ChangeCause (shied s) staging change fault
-change_cause s staging change NoMemory c = tt
-change_cause s staging change Source c = tt
-change_cause s staging change (Refused x) c =
-    λ h b e more. let w = inner_of (table_of s staging.table) b e in
-    subst (λ (z : Bound). Contains (z.refuses.causes (s.content.rows staging.table) (staging.changes ++ change ∷ more)) x) w.2 (c h w.0 w.1 more)
-
-pub refuses_change : (s t : BoxState) (change : Change) (fault : Fault) → RefusesChange s change fault t → RefusesChange (shied s) change fault (shied t)
-refuses_change s t change fault r = record {
-  nature = r.nature;
-  staging = r.staging;
-  is_staged = r.is_staged;
-  ledger = ap shied_ledger r.ledger;
-  cause = change_cause s r.staging change fault r.cause;
-  leaves = λ h. leaves s t (r.leaves h);
-}
-
-same_image : (b : Bound) (rows : List Held) (old new : Holding) → HoldsImage b rows old new → HoldsImage (shied_bound b) rows old new
-same_image b rows (Known e) new h = h
-same_image b rows Unknown new h = h
-
-outcome : (s t : BoxState) (keep : Bool) (staging : Staging) → Outcome s keep staging t → Outcome (shied s) keep staging (shied t)
-outcome s t true staging w = record {
-  bound = shied_bound w.bound;
-  is = ap (option_map shied_bound) w.is;
-  no_cause = w.no_cause;
-  rows = w.rows;
-  once = w.once;
-  holdings = same_image w.bound _ _ _ w.holdings;
-  leaves = leaves s t w.leaves;
-}
-outcome s t false staging l = leaves s t l
-
-pub closes : (s t : BoxState) (keep : Bool) → Closes s keep t → Closes (shied s) keep (shied t)
-closes s t keep c = record {
-  nature = c.nature;
-  staging = c.staging;
-  is_staged = c.is_staged;
-  ledger = ap shied_ledger c.ledger;
-  content = λ h. outcome s t keep c.staging (c.content h);
-}
-
-pub plain_allowed : (s : BoxState) (t : ℕ) (wanted : List ℕ) (offered : List Filter) (answers : List Agree) → IsSome (table_of (shied s) t) → answers ≡ replicate (length offered) Ignored → Allows (shied s) t (record { wanted = wanted; offered = offered; answers = answers; narrow = false })
-plain_allowed s t wanted offered answers is e = at_table (table_of s t) refl is
-  where
-    at_table : (o : Option Bound) → table_of s t ≡ o → IsSome (option_map shied_bound o) → Allows (shied s) t (record { wanted = wanted; offered = offered; answers = answers; narrow = false })
-    at_table None eq is = absurd cc
-    at_table (Some b) eq is = record {
-      bound = shied_bound b;
-      is = ap (option_map shied_bound) eq;
-      allowed = ap (all_ignored offered) e ∙ plain_is_ignored offered;
-    }
+-- a wrapper round an idle one is idle
+pub is_idle : (s : BoxState) (asked : Asks) → IsIdle s → IsIdle (shied s asked)
+is_idle s asked i = record { no_table = λ t. ap (option_map shied_bound) (i.no_table t); no_scan = λ q. seen_get s asked q ∙ ap (option_map (asked_scan (asked q))) (i.no_scan q); no_staging = i.no_staging }

@@ -9,6 +9,7 @@ use Rattle.fdw_api.specs.State.{Scan, Ledger, Content, BoxState, is_honest, scan
 use Rattle.fdw_api.specs.Calls.{bumped, LeavesOthers, faults_after, not_refused, row_of}
 use Rattle.fdw_api.specs.declared.interface.Fault.{Fault}
 use Rattle.fdw_api.specs.declared.interface.SourceRow.{SourceRow}
+use Rattle.probe_wrapper.specs.LiveScans.{each_seen}
 use Rattle.probe_wrapper.specs.declared.shuffled.TurnedScan.{TurnedScan}
 
 -- a list turned left some places: so many of its first elements go behind the others. As many places as it is long turn it once round
@@ -52,7 +53,7 @@ seen_scan None s = record s { broken = true }
 seen_scan (Some t) s = record s { left = left_of t.waiting; broken = t.broken || s.broken }
 
 abbrev pub seen : (ℕ → Option Turn) → finmap.FinMap nat_cmp Scan → finmap.FinMap nat_cmp Scan
-seen turns m = finmap.from_sorted (map (λ e. (e.0, seen_scan (turns e.0) e.1)) (finmap.entries m))
+seen turns m = each_seen (λ q. seen_scan (turns q)) m
 
 abbrev pub reordered_ledger : (ℕ → Option Turn) → ℕ → Ledger → Ledger
 reordered_ledger turns pulled l = record l { live = seen turns l.live; pulled = pulled }

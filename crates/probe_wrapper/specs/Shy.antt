@@ -1,9 +1,16 @@
--- What a shy wrapper shows: what its inner one shows, but that it allows only scans of whole rows for which nothing is taken over.
-use Rattle.std.specs.Prelude.{◌≡◌, Bool, true, false, not, ◌&&◌, List, [], ◌∷◌, length, replicate, option_map}
-use Rattle.fdw_api.specs.Scan.{Spec, Filter}
+-- What a shy wrapper shows: what its inner one shows, but that it allows only scans of whole rows for which nothing is taken over. Each
+-- scan is seen as it was asked for, while its inner scan offers nothing.
+use Rattle.std.specs.Prelude.{◌≡◌, ◌≢◌, ℕ, Bool, true, false, not, ◌&&◌, ◌||◌, List, [], ◌∷◌, length, map, replicate, Option, Some, None, option_map}
+use Rattle.std.specs.Ordering.{nat_cmp}
+use Rattle.std.specs.BTreeMap as tree
+use Rattle.std.specs.BTreeMap.{BTreeMap}
+use Rattle.med_value.specs.Datum.{Tuple, datum}
+use Rattle.fdw_api.specs.Scan.{Spec, Filter, spec_of}
 use Rattle.fdw_api.specs.declared.scan.Agree.{Agree}
 use Rattle.fdw_api.specs.declared.scan.Agree.TheVariants.{Ignored, Hint, Exact}
-use Rattle.fdw_api.specs.State.{Bound, BoxState}
+use Rattle.fdw_api.specs.State.{Bound, Scan, Ledger, BoxState, scan_of}
+use Rattle.probe_wrapper.specs.LiveScans.{each_seen}
+use Rattle.probe_wrapper.specs.declared.shy.AskedScan.{AskedScan}
 
 -- one Ignored for each restriction
 abbrev pub all_ignored : List Filter → List Agree → Bool
@@ -23,9 +30,60 @@ pub plain_is_ignored : (fs : List Filter) → all_ignored fs (replicate (length 
 plain_is_ignored [] = mathlib.Core.Path.refl
 plain_is_ignored (f ∷ fs) = plain_is_ignored fs
 
+-- no restriction
+abbrev pub has_none : List Filter → Bool
+has_none [] = true
+has_none (f ∷ fs) = false
+
+-- whole rows, and nothing offered
+abbrev pub is_bare : Spec → Bool
+is_bare spec = not spec.narrow && has_none spec.offered
+
+-- a scan as it was asked for, and whether it is good for `end` alone
+pub record Asked : Type 0 where
+  pub spec : Spec
+  pub params : Tuple
+  pub broken : Bool
+
+abbrev pub ask_of : AskedScan → Asked
+ask_of a = record { spec = spec_of a.spec; params = map datum a.params.items; broken = a.broken }
+
+-- the scans by ticket number
+abbrev pub asked_of : BTreeMap ℕ AskedScan → ℕ → Option Asked
+asked_of scans q = option_map ask_of (tree.get nat_cmp scans q)
+
+-- a scan that was just begun
+abbrev pub new_ask : Spec → Tuple → Asked
+new_ask spec params = record { spec = spec; params = params; broken = false }
+
+-- a plain scan stands on a bare inner one
+abbrev pub stands : Asked → Scan → Bool
+stands a s = is_plain a.spec && is_bare s.spec
+
+-- an inner scan as it is seen: as it was asked for. One that was not begun through this wrapper is good for `end` alone
+abbrev pub asked_scan : Option Asked → Scan → Scan
+asked_scan None s = record s { broken = true }
+asked_scan (Some a) s = record s { spec = a.spec; params = a.params; broken = a.broken || (s.broken || not (stands a s)) }
+
 -- a bound table, and all that is shown
 abbrev pub shied_bound : Bound → Bound
 shied_bound b = record b { allows = is_plain; allows_plain = λ wanted offered. plain_is_ignored offered }
 
-abbrev pub shied : BoxState → BoxState
-shied s = record { nature = s.nature; ledger = record s.ledger { tables = λ t. option_map shied_bound (s.ledger.tables t) }; content = s.content }
+abbrev pub shied_ledger : (ℕ → Option Asked) → Ledger → Ledger
+shied_ledger asked l = record l { tables = λ t. option_map shied_bound (l.tables t); live = each_seen (λ q. asked_scan (asked q)) l.live }
+
+abbrev pub shied : BoxState → (ℕ → Option Asked) → BoxState
+shied s asked = record { nature = s.nature; ledger = shied_ledger asked s.ledger; content = s.content }
+
+-- what is asked for under one number becomes this, and all else is as before
+pub record AsksNow (old : ℕ → Option Asked) (number : ℕ) (ask : Asked) (new : ℕ → Option Asked) : Type 0 where
+  pub now : new number ≡ Some ask
+  pub others : (q : ℕ) → q ≢ number → new q ≡ old q
+
+-- the scan of this number gives whole rows, offers no restriction and has no parameter
+pub record OffersNothing (s : BoxState) (number : ℕ) : Type 0 where
+  pub scan : Scan
+  pub at : scan_of s number ≡ Some scan
+  pub whole_rows : scan.spec.narrow ≡ false
+  pub offers_none : scan.spec.offered ≡ []
+  pub no_params : scan.params ≡ []

@@ -1,29 +1,94 @@
 //! A wrapper round a wrapper, that takes nothing over.
-ghost use Rattle.std.specs.Prelude.{◌≡◌};
-ghost use Rattle.probe_wrapper.specs.Shy.{shied};
+ghost use Rattle.std.specs.Prelude.{◌≡◌, [], true, IfOk, IfErr, IfSome, IsSome, Some, None, map};
+ghost use Rattle.std.specs.Ordering.{nat_cmp};
+ghost use Rattle.std.specs.BTreeMap as tree;
+ghost use Rattle.med_value.specs.Datum.{datum};
+ghost use Rattle.fdw_api.specs.Scan.{spec_of, plain_spec};
+ghost use Rattle.fdw_api.specs.State.{IsIdle};
+ghost use Rattle.probe_wrapper.specs.Shy.{shied, ask_of, asked_of, new_ask};
 
 use fdw_api::interface::{Counts, Fault, Opt, RowId, SourceRow, TableNo, Ticket, Wrapper};
-use fdw_api::scan::{Agree, Agreement, Restriction, ScanSpec};
-use med_value::{ColumnDef, Row, Value};
+use fdw_api::scan::{Agree, Agreement, Restriction, ScanSpec, copy_values};
+use med_value::{ColumnDef, NoMemory, Row, Value};
 use std::alloc::Global;
+use std::collections::BTreeMap;
 
-/// Answers Ignored to every restriction and gives whole rows, so that its inner wrapper takes nothing over.
+/// A live scan as it was asked for.
+#[derive(Drop)]
+pub(crate) struct AskedScan {
+    spec: ScanSpec,
+    params: Vec<Value>,
+    broken: bool,
+}
+
+/// Notes what is asked for.
+fn note(alloc: Global, spec: &ScanSpec, params: &[Value]) -> Result<AskedScan, NoMemory>
+    ensures { IfOk result (λ a. ask_of a ≡ new_ask (spec_of spec.now) (map datum params.now)) }
+{
+    Ok(AskedScan {
+        spec: spec.copy(alloc)?,
+        params: copy_values(alloc, params)?,
+        broken: false,
+    })
+}
+
+/// A scan of whole rows of which the same columns are wanted, and that offers nothing.
+fn bare(alloc: Global, spec: &ScanSpec) -> Result<ScanSpec, NoMemory>
+    ensures { IfOk result (λ s. spec_of s ≡ plain_spec spec.now.wanted.items []) }
+{
+    Ok(ScanSpec {
+        wanted: spec.wanted.clone()?,
+        ..ScanSpec::plain(alloc)
+    })
+}
+
+/// Marks a scan as good for `end` alone.
+fn spoil(scans: &mut BTreeMap<u64, AskedScan>, number: u64)
+    requires { IsSome (tree.get nat_cmp scans.old number) }
+    ensures { IfSome (tree.get nat_cmp scans.old number) (λ s. tree.Updates nat_cmp scans.old scans.new number (Some (record s { broken = true }))) }
+{
+    match scans.get_mut(&number) {
+        Some(scan) => scan.broken = true,
+        None => unreachable!(),
+    }
+}
+
+/// Notes that a scan began again with these parameters.
+fn ask_again(scans: &mut BTreeMap<u64, AskedScan>, number: u64, params: Vec<Value>)
+    requires { IsSome (tree.get nat_cmp scans.old number) }
+    ensures { IfSome (tree.get nat_cmp scans.old number) (λ s. tree.Updates nat_cmp scans.old scans.new number (Some (record s { params = params }))) }
+{
+    match scans.get_mut(&number) {
+        Some(scan) => scan.params = params,
+        None => unreachable!(),
+    }
+}
+
+/// Answers Ignored to every restriction and gives whole rows. Its inner wrapper is offered nothing: neither restrictions nor parameters.
 #[derive(Drop)]
 pub struct Shy<W> {
     inner: W,
+    scans: BTreeMap<u64, AskedScan>,
 }
 
 impl<W: Wrapper> Shy<W> {
-    /// A wrapper round this one.
-    pub fn new(inner: W) -> Self
-        ensures { shied (W.meaning result.inner) ≡ shied (W.meaning inner) }
+    /// A wrapper round this one, that has begun no scan yet. It takes no memory.
+    pub fn new(alloc: Global, inner: W) -> Self
+        ensures shows { shied (W.meaning result.inner) (asked_of result.scans) ≡ shied (W.meaning inner) (λ q. None) }
+        ensures idle { IsIdle (W.meaning inner) → IsIdle (shied (W.meaning result.inner) (asked_of result.scans)) }
     {
-        Shy { inner }
+        Shy {
+            inner,
+            scans: BTreeMap::new(alloc),
+        }
     }
 }
 
 impl<W: Wrapper> Wrapper for Shy<W> {
-    ghost meaning = { λ b. shied (W.meaning b.inner) };
+    ghost use Rattle.fdw_api.specs.Calls.{CanBegin, Begins, RefusesBegin, CanRescan, Rescans, Breaks};
+    ghost use Rattle.probe_wrapper.specs.Shy.{OffersNothing};
+
+    ghost meaning = { λ b. shied (W.meaning b.inner) (asked_of b.scans) };
 
     fn bind(
         &mut self,
@@ -53,25 +118,59 @@ impl<W: Wrapper> Wrapper for Shy<W> {
         })
     }
 
+    /// Begins a scan, for which the inner wrapper is offered nothing.
     fn begin(
         &mut self,
         alloc: Global,
         t: TableNo,
         spec: &ScanSpec,
         params: &[Value],
-    ) -> Result<Ticket, Fault> {
-        self.inner.begin(alloc, t, spec, params)
+    ) -> Result<Ticket, Fault>
+        requires { CanBegin (shied (W.meaning self.old.inner) (asked_of self.old.scans)) t.number spec.now (map datum params.now) }
+        ensures ok { IfOk result (λ ticket. Begins (shied (W.meaning self.old.inner) (asked_of self.old.scans)) t.number (spec_of spec.now) (map datum params.now) ticket.number (shied (W.meaning self.new.inner) (asked_of self.new.scans))) }
+        ensures err { IfErr result (λ fault. RefusesBegin fault (shied (W.meaning self.old.inner) (asked_of self.old.scans)) (shied (W.meaning self.new.inner) (asked_of self.new.scans))) }
+        ensures bare { IfOk result (λ ticket. OffersNothing (W.meaning self.new.inner) ticket.number) }
+    {
+        let scan = note(alloc, spec, params)?;
+        let bare = bare(alloc, spec)?;
+        let ticket = self.inner.begin(alloc, t, &bare, &[])?;
+        match self.scans.insert(ticket.number, scan) {
+            Ok(_) => Ok(ticket),
+            Err(_) => {
+                self.inner.end(ticket);
+                Err(Fault::NoMemory)
+            }
+        }
     }
 
     fn iterate(&mut self, alloc: Global, ticket: &Ticket) -> Result<Option<SourceRow>, Fault> {
         self.inner.iterate(alloc, ticket)
     }
 
-    fn rescan(&mut self, alloc: Global, ticket: &Ticket, params: &[Value]) -> Result<(), Fault> {
-        self.inner.rescan(alloc, ticket, params)
+    /// Begins a scan again, for which the inner wrapper is given no parameter.
+    fn rescan(&mut self, alloc: Global, ticket: &Ticket, params: &[Value]) -> Result<(), Fault>
+        requires { CanRescan (shied (W.meaning self.old.inner) (asked_of self.old.scans)) ticket.now.number (map datum params.now) }
+        ensures ok { IfOk result (λ _. Rescans (shied (W.meaning self.old.inner) (asked_of self.old.scans)) ticket.now.number (map datum params.now) (shied (W.meaning self.new.inner) (asked_of self.new.scans))) }
+        ensures err { IfErr result (λ fault. Breaks (shied (W.meaning self.old.inner) (asked_of self.old.scans)) ticket.now.number fault (shied (W.meaning self.new.inner) (asked_of self.new.scans))) }
+        ensures bare { IfOk result (λ _. OffersNothing (W.meaning self.new.inner) ticket.now.number) }
+    {
+        match copy_values(alloc, params) {
+            Err(_) => {
+                spoil(&mut self.scans, ticket.number);
+                Err(Fault::NoMemory)
+            }
+            Ok(params) => match self.inner.rescan(alloc, ticket, &[]) {
+                Err(fault) => Err(fault),
+                Ok(()) => {
+                    ask_again(&mut self.scans, ticket.number, params);
+                    Ok(())
+                }
+            },
+        }
     }
 
     fn end(&mut self, ticket: Ticket) {
+        let _ = self.scans.remove(&ticket.number);
         self.inner.end(ticket)
     }
 

@@ -9,7 +9,7 @@ ghost use Rattle.fdw_api.specs.Writes.{CanModify};
 ghost use Rattle.probe_wrapper.specs.Lists.{listed, names_differ, rows_fit};
 ghost use Rattle.probe_wrapper.specs.ListBoxes.{box_of};
 ghost use Rattle.probe_wrapper.specs.Counting.{counted};
-ghost use Rattle.probe_wrapper.specs.Shy.{shied};
+ghost use Rattle.probe_wrapper.specs.Shy.{shied, asked_of};
 ghost use Rattle.probe_wrapper.specs.Failing.{failed};
 
 mod parameters;
@@ -310,13 +310,13 @@ fn in_counting<W: Wrapper>(inner: W) -> Counting<W>
     Counting::new(inner)
 }
 
-fn in_shy<W: Wrapper>(inner: W) -> Shy<W>
+fn in_shy<W: Wrapper>(alloc: Global, inner: W) -> Shy<W>
     requires idle { IsIdle (W.meaning inner) }
     requires free { (columns : List Column) → (W.meaning inner).nature.kind.objections columns [] ≡ [] }
-    ensures idle { IsIdle (shied (W.meaning result.inner)) }
-    ensures free { (columns : List Column) → (shied (W.meaning result.inner)).nature.kind.objections columns [] ≡ [] }
+    ensures idle { IsIdle (shied (W.meaning result.inner) (asked_of result.scans)) }
+    ensures free { (columns : List Column) → (shied (W.meaning result.inner) (asked_of result.scans)).nature.kind.objections columns [] ≡ [] }
 {
-    Shy::new(inner)
+    Shy::new(alloc, inner)
 }
 
 fn in_failing<W: Wrapper>(inner: W, passes: u64) -> Failing<W>
@@ -431,7 +431,7 @@ fn list_takes_over_what_shy_leaves(rt: HostRuntime) -> Result<(), Fail> {
     let mut out = Vec::new(alloc);
     read_above_one(&mut list, alloc, table, &mut out)?;
     assert_eq!(rt; out.as_slice(), b"10\n11\nend\nend\n".as_slice());
-    let mut shy = in_shy(new_list(alloc)?);
+    let mut shy = in_shy(alloc, new_list(alloc)?);
     let table = bind_orders(&mut shy, alloc)?;
     out.clear();
     read_above_one(&mut shy, alloc, table, &mut out)?;
@@ -445,7 +445,7 @@ fn list_takes_over_what_shy_leaves(rt: HostRuntime) -> Result<(), Fail> {
 #[test]
 fn kept_write_is_read(rt: HostRuntime) -> Result<(), Fail> {
     let alloc = rt.alloc();
-    let mut source = in_failing(in_shy(in_counting(new_list(alloc)?)), 20);
+    let mut source = in_failing(in_shy(alloc, in_counting(new_list(alloc)?)), 20);
     let table = bind_orders(&mut source, alloc)?;
     insert_order(&mut source, alloc, table)?;
     let mut out = Vec::new(alloc);
@@ -462,7 +462,7 @@ fn scan_that_begins_again_gives_the_first_row(rt: HostRuntime) -> Result<(), Fai
     let alloc = rt.alloc();
     assert!(rt; reads_as_list(new_list(alloc)?, alloc)?);
     assert!(rt; reads_as_list(in_counting(new_list(alloc)?), alloc)?);
-    assert!(rt; reads_as_list(in_shy(new_list(alloc)?), alloc)?);
+    assert!(rt; reads_as_list(in_shy(alloc, new_list(alloc)?), alloc)?);
     assert!(rt; reads_as_list(in_failing(new_list(alloc)?, 9), alloc)?);
     Ok(())
 }
@@ -471,13 +471,13 @@ fn scan_that_begins_again_gives_the_first_row(rt: HostRuntime) -> Result<(), Fai
 fn each_wrapper_in_each_wrapper_reads_as_the_list(rt: HostRuntime) -> Result<(), Fail> {
     let alloc = rt.alloc();
     assert!(rt; reads_as_list(in_counting(in_counting(new_list(alloc)?)), alloc)?);
-    assert!(rt; reads_as_list(in_counting(in_shy(new_list(alloc)?)), alloc)?);
+    assert!(rt; reads_as_list(in_counting(in_shy(alloc, new_list(alloc)?)), alloc)?);
     assert!(rt; reads_as_list(in_counting(in_failing(new_list(alloc)?, 9)), alloc)?);
-    assert!(rt; reads_as_list(in_shy(in_counting(new_list(alloc)?)), alloc)?);
-    assert!(rt; reads_as_list(in_shy(in_shy(new_list(alloc)?)), alloc)?);
-    assert!(rt; reads_as_list(in_shy(in_failing(new_list(alloc)?, 9)), alloc)?);
+    assert!(rt; reads_as_list(in_shy(alloc, in_counting(new_list(alloc)?)), alloc)?);
+    assert!(rt; reads_as_list(in_shy(alloc, in_shy(alloc, new_list(alloc)?)), alloc)?);
+    assert!(rt; reads_as_list(in_shy(alloc, in_failing(new_list(alloc)?, 9)), alloc)?);
     assert!(rt; reads_as_list(in_failing(in_counting(new_list(alloc)?), 9), alloc)?);
-    assert!(rt; reads_as_list(in_failing(in_shy(new_list(alloc)?), 9), alloc)?);
+    assert!(rt; reads_as_list(in_failing(in_shy(alloc, new_list(alloc)?), 9), alloc)?);
     assert!(rt; reads_as_list(in_failing(in_failing(new_list(alloc)?, 9), 9), alloc)?);
     Ok(())
 }

@@ -111,7 +111,7 @@ mutual
   trees_decide ps c (part t ts) =
       parts_append ps c (conjunct_trees t) (conjuncts_of_all ts) ∙ ap (λ b. b && parts_in ps c (conjuncts_of_all ts)) (tree_decides ps c t) ∙ ap (λ b. is_met (tree_meaning ps t c) && b) (trees_decide ps c ts)
 
-all_same : (ps : Tuple) (es : List Expr) → map (meaning ps) es ≡ map (tree_meaning ps) (map tree es)
+pub all_same : (ps : Tuple) (es : List Expr) → map (meaning ps) es ≡ map (tree_meaning ps) (map tree es)
 all_same ps [] = refl
 all_same ps (e ∷ es) = ap (λ (m : OnClass). m ∷ map (meaning ps) es) (sym (reads ps e)) ∙ ap (λ (l : List OnClass). tree_meaning ps (tree e) ∷ l) (all_same ps es)
 

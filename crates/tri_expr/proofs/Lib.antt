@@ -14,3 +14,7 @@ pub mod SameVerdicts
 pub mod Distinct
 pub mod AnyOrder
 pub mod QueryRows
+pub mod TreeRisk
+pub mod SameTrees
+pub mod BareTrees
+pub mod Forms

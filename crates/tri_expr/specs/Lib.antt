@@ -13,3 +13,6 @@ pub mod Tree
 pub mod Query
 pub mod Laws
 pub mod TreeMeaning
+pub mod Select
+pub mod TreeParts
+pub mod Form

@@ -12,7 +12,11 @@ ghost use Rattle.tri_expr.specs.Aggregate.{aggregated};
 ghost use Rattle.tri_expr.specs.Meaning.{meaning, has_cell, shared};
 ghost use Rattle.tri_expr.specs.Verdict.{is_met, is_in};
 ghost use Rattle.tri_expr.specs.Risky.{is_risky};
-ghost use Rattle.tri_expr.specs.Tree.{tree, conjunct_trees};
+ghost use Rattle.tri_expr.specs.Tree.{Tree, tree, conjunct_trees};
+ghost use Rattle.tri_expr.specs.TreeParts.{is_risky_tree, bare, same_tree};
+ghost use Rattle.tri_expr.specs.Select.{is_safe_chain, query_of};
+ghost use Rattle.tri_expr.specs.Form.{form_of, query_by, is_safe_form};
+ghost use Rattle.tri_expr.specs.declared.select.Select.{Select as Selected};
 ghost use Rattle.tri_expr.specs.TreeMeaning.{tree_meaning};
 ghost use Rattle.tri_expr.specs.Query.{Query, Tables, SameRows, Output, output_eq, senses};
 ghost use Rattle.tri_expr.specs.Laws.{HasValue, IgnoresOrder, SameVerdict, AllIgnoreOrder, IsSteady, AnswersIgnoreOrder};
@@ -78,4 +82,30 @@ pub fn expressions_ignore_order()
 /// DISTINCT of the same outputs in another order gives the same outputs (SQL standard, <set quantifier>).
 pub fn distinct_ignores_order()
     ensures { (os us : List Output) → IsPermutation os us → IsPermutation (distinct output_eq os) (distinct output_eq us) }
+{}
+
+/// An expression is as risky as its tree.
+pub fn risk_is_of_tree()
+    ensures { (e : Written) → is_risky_tree (tree e) ≡ is_risky e }
+{}
+
+/// Two expressions are the same exactly where they are one tree without their parentheses.
+pub fn same_trees_are_equal()
+    ensures equal { (a b : Tree) → same_tree a b ≡ true → bare a ≡ bare b }
+    ensures same { (a b : Tree) → bare a ≡ bare b → same_tree a b ≡ true }
+{}
+
+/// Parentheses do not change what an expression means.
+pub fn bare_tree_means_the_same()
+    ensures { (params : Tuple) (t : Tree) → tree_meaning params (bare t) ≡ tree_meaning params t }
+{}
+
+/// A SELECT means what its form means: so a copy means what its source means.
+pub fn select_means_its_form()
+    ensures { (s : Selected) → query_of s ≡ query_by (form_of s) }
+{}
+
+/// The form of a SELECT says whether a conjunct of an ON is risky.
+pub fn safe_forms_are_safe()
+    ensures { (s : Selected) → list_all is_safe_chain s.from.items ≡ is_safe_form (form_of s) }
 {}

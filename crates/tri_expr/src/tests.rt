@@ -13,6 +13,7 @@ mod comparison_rows;
 mod like_rows;
 mod logic_rows;
 mod membership_rows;
+mod select_rows;
 
 /// The conjuncts of a condition, their answer on a row, and the answer that is wanted.
 const VERDICTS: [(&str, u8, &str); 22] = [
@@ -251,4 +252,9 @@ fn laws_can_be_called() {
     crate::law::conjuncts_decide_condition();
     crate::law::verdicts_ignore_order();
     crate::law::column_over_equal_rows_is_their_value();
+    crate::law::risk_is_of_tree();
+    crate::law::same_trees_are_equal();
+    crate::law::bare_tree_means_the_same();
+    crate::law::select_means_its_form();
+    crate::law::safe_forms_are_safe();
 }

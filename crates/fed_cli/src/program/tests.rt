@@ -15,12 +15,14 @@ mod cuts;
 mod faults;
 mod memory;
 mod queries;
+mod random;
 mod restricted;
+mod selects;
 mod served;
 mod slots;
 mod sources;
 
-const STORED: &[u8] = b"1 OPEN ann\n1 Q SELECT id, name FROM parts\n";
+const STORED: &[u8] = b"1 OPEN ann\n1 Q SELECT id, name FROM parts ORDER BY id\n";
 
 const ANSWER: &[u8] =
     b"1 T OPEN\n1 H\tid\tname\n1 R\t1\tbolt\n1 R\t2\tnut\n1 R\t3\t\\N\n1 T SELECT 3\n";

@@ -1,8 +1,9 @@
 //! Scans of the orders by a parameter, and a write that takes one away.
-ghost use Rattle.std.specs.Prelude.{◌≡◌, ◌∷◌, [], Some, OnOk, IsSome};
+ghost use Rattle.std.specs.Prelude.{◌≡◌, ◌∷◌, [], List, Some, OnOk, IsSome};
 ghost use Rattle.med_value.specs.Datum.{NoValue};
 ghost use Rattle.med_value.specs.declared.value.ColType.TheVariants.{Int};
-ghost use Rattle.fdw_api.specs.State.{Bound, table_of, scan_of};
+ghost use Rattle.fdw_api.specs.Kinds.{Column};
+ghost use Rattle.fdw_api.specs.State.{Bound, IsIdle, table_of, scan_of};
 ghost use Rattle.fdw_api.specs.Calls.{CanRescan};
 ghost use Rattle.fdw_api.specs.Writes.{CanModify};
 
@@ -13,7 +14,7 @@ use med_value::Value;
 use std::alloc::Global;
 use std::test::Fail;
 
-/// Takes a row of a scan, begins it again with NULL and takes a row more.
+/// Takes two rows of a scan, begins it again with NULL and takes a row more.
 fn take_again_with_null<W: Wrapper>(
     source: &mut W,
     alloc: Global,
@@ -23,6 +24,7 @@ fn take_again_with_null<W: Wrapper>(
     requires { CanRescan (W.meaning source.old) ticket.now.number (NoValue ∷ []) }
     ensures { IsSome (scan_of (W.meaning source.new) ticket.now.number) }
 {
+    take_row(source, alloc, ticket, out)?;
     take_row(source, alloc, ticket, out)?;
     source.rescan(alloc, ticket, &[Value::Null])?;
     take_row(source, alloc, ticket, out)
@@ -74,17 +76,52 @@ fn delete_first<W: Wrapper>(source: &mut W, alloc: Global, table: TableNo) -> Re
     }
 }
 
-#[test]
-fn scan_by_a_parameter_gives_the_rows_that_equal_it(rt: HostRuntime) -> Result<(), Fail> {
-    let alloc = rt.alloc();
-    let mut source = in_counting(new_list(alloc)?);
+/// What a new source gives of the orders of part 9, and then of those of part NULL.
+fn new_by_part<W: Wrapper>(source: W, alloc: Global) -> Result<Vec<u8>, Fault>
+    requires idle { IsIdle (W.meaning source) }
+    requires free { (columns : List Column) → (W.meaning source).nature.kind.objections columns [] ≡ [] }
+{
+    let mut source = source;
     let table = bind_orders(&mut source, alloc)?;
     let mut out = Vec::new(alloc);
     read_by_part(&mut source, alloc, table, &mut out)?;
+    Ok(out)
+}
+
+/// What a new source gives of the orders once the first is taken away.
+fn new_without_first<W: Wrapper>(source: W, alloc: Global) -> Result<Vec<u8>, Fault>
+    requires idle { IsIdle (W.meaning source) }
+    requires free { (columns : List Column) → (W.meaning source).nature.kind.objections columns [] ≡ [] }
+{
+    let mut source = source;
+    let table = bind_orders(&mut source, alloc)?;
+    delete_first(&mut source, alloc, table)?;
+    let mut out = Vec::new(alloc);
+    read(&mut source, alloc, table, &mut out)?;
+    Ok(out)
+}
+
+#[test]
+fn scan_by_a_parameter_gives_the_rows_that_equal_it(rt: HostRuntime) -> Result<(), Fail> {
+    let alloc = rt.alloc();
+    let list = new_by_part(new_list(alloc)?, alloc)?;
     assert_eq!(rt;
-        out.as_slice(),
-        b"12\t9\nend\n".as_slice(),
+        list.as_slice(),
+        b"12\t9\nend\nend\n".as_slice(),
         "no row equals NULL"
+    );
+    let counting = new_by_part(in_counting(new_list(alloc)?), alloc)?;
+    assert_eq!(rt; counting.as_slice(), list.as_slice());
+    Ok(())
+}
+
+#[test]
+fn scan_of_shy_by_a_parameter_gives_all_rows(rt: HostRuntime) -> Result<(), Fail> {
+    let alloc = rt.alloc();
+    let shy = new_by_part(in_shy(alloc, new_list(alloc)?), alloc)?;
+    assert_eq!(rt;
+        shy.as_slice(),
+        b"10\t1\t4\n11\t1\t6\n10\t1\t4\n".as_slice()
     );
     Ok(())
 }
@@ -92,14 +129,10 @@ fn scan_by_a_parameter_gives_the_rows_that_equal_it(rt: HostRuntime) -> Result<(
 #[test]
 fn deleted_row_is_gone(rt: HostRuntime) -> Result<(), Fail> {
     let alloc = rt.alloc();
-    let mut source = in_shy(new_list(alloc)?);
-    let table = bind_orders(&mut source, alloc)?;
-    delete_first(&mut source, alloc, table)?;
-    let mut out = Vec::new(alloc);
-    read(&mut source, alloc, table, &mut out)?;
-    assert_eq!(rt;
-        out.as_slice(),
-        b"11\t1\t6\n12\t9\t1\nend\nend\n".as_slice()
-    );
+    let want = b"11\t1\t6\n12\t9\t1\nend\nend\n";
+    let list = new_without_first(new_list(alloc)?, alloc)?;
+    assert_eq!(rt; list.as_slice(), want.as_slice());
+    let shy = new_without_first(in_shy(alloc, new_list(alloc)?), alloc)?;
+    assert_eq!(rt; shy.as_slice(), want.as_slice());
     Ok(())
 }

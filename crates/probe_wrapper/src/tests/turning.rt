@@ -75,7 +75,7 @@ fn each_scan_is_turned_one_place_more(rt: HostRuntime) -> Result<(), Fail> {
 #[test]
 fn rows_inside_shuffled_inside_shy_are_the_orders(rt: HostRuntime) -> Result<(), Fail> {
     let alloc = rt.alloc();
-    assert!(rt; gives_orders(in_shy(in_shuffled(alloc, new_list(alloc)?)), alloc)?);
+    assert!(rt; gives_orders(in_shy(alloc, in_shuffled(alloc, new_list(alloc)?)), alloc)?);
     Ok(())
 }
 
@@ -88,7 +88,7 @@ fn shuffled_in_each_wrapper_gives_the_orders(rt: HostRuntime) -> Result<(), Fail
             alloc
         )?
     );
-    assert!(rt; gives_orders(in_shuffled(alloc, in_shy(new_list(alloc)?)), alloc)?);
+    assert!(rt; gives_orders(in_shuffled(alloc, in_shy(alloc, new_list(alloc)?)), alloc)?);
     assert!(rt; gives_orders(in_shuffled(alloc, in_counting(new_list(alloc)?)), alloc)?);
     assert!(rt; gives_orders(in_shuffled(alloc, in_failing(new_list(alloc)?, 99)), alloc)?);
     assert!(rt; gives_orders(in_counting(in_shuffled(alloc, new_list(alloc)?)), alloc)?);
@@ -118,7 +118,7 @@ fn refused_allocation_leaves_no_scan(rt: HostRuntime) -> Result<(), Fail> {
     let Ok(list) = new_list(alloc) else {
         return Ok(());
     };
-    let mut source = in_shuffled(alloc, in_shy(in_counting(list)));
+    let mut source = in_shuffled(alloc, in_shy(alloc, in_counting(list)));
     let Ok(table) = bind_orders(&mut source, alloc) else {
         return Ok(());
     };

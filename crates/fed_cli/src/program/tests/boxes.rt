@@ -2,7 +2,7 @@
 ghost use Rattle.probe_wrapper.specs.Lists.{IsNewList};
 ghost use Rattle.probe_wrapper.specs.ListBoxes.{box_of};
 ghost use Rattle.probe_wrapper.specs.Counting.{counted};
-ghost use Rattle.probe_wrapper.specs.Shy.{shied};
+ghost use Rattle.probe_wrapper.specs.Shy.{shied, asked_of};
 ghost use Rattle.probe_wrapper.specs.Failing.{failed};
 ghost use Rattle.probe_wrapper.specs.Shuffled.{reordered, turns_of};
 ghost use Rattle.std.specs.Prelude.{IfOk};
@@ -35,11 +35,11 @@ fn in_counting<W: Wrapper>(inner: W) -> Counting<W>
     Counting::new(inner)
 }
 
-fn in_shy<W: Wrapper>(inner: W) -> Shy<W>
+fn in_shy<W: Wrapper>(alloc: Global, inner: W) -> Shy<W>
     requires { IsNewList (W.meaning inner) demo_list }
-    ensures { IsNewList (shied (W.meaning result.inner)) demo_list }
+    ensures { IsNewList (shied (W.meaning result.inner) (asked_of result.scans)) demo_list }
 {
-    Shy::new(inner)
+    Shy::new(alloc, inner)
 }
 
 fn in_failing<W: Wrapper>(inner: W, passes: u64) -> Failing<W>
@@ -71,8 +71,8 @@ fn is_answer(text: &[u8]) -> bool {
     }
 }
 
-// Whether an engine with the demo list in this box answers the stored stream.
-fn answers<W: Wrapper>(alloc: Global, list: W) -> Result<bool, RunFault<'static>>
+// What an engine with the demo list in this box answers to a stream; nothing where it was not read to its end.
+fn answered<W: Wrapper>(alloc: Global, list: W, stream: &[u8]) -> Result<Vec<u8>, RunFault<'static>>
     requires { IsNewList (W.meaning list) demo_list }
 {
     let Ok(mut engine) = Engine::<W>::new(alloc, "admin") else {
@@ -80,9 +80,19 @@ fn answers<W: Wrapper>(alloc: Global, list: W) -> Result<bool, RunFault<'static>
     };
     add_demo(alloc, &mut engine, "demo", list)?;
     let mut out = Vec::new(alloc);
-    let mut input = STORED;
+    let mut input = stream;
     let (ended, _) = serve_engine(alloc, engine, &mut input, &mut out);
-    Ok(ended == Ok(Ended::Eof) && is_answer(&out))
+    if ended != Ok(Ended::Eof) {
+        out.clear();
+    }
+    Ok(out)
+}
+
+// Whether it answers the stored stream.
+fn answers<W: Wrapper>(alloc: Global, list: W) -> Result<bool, RunFault<'static>>
+    requires { IsNewList (W.meaning list) demo_list }
+{
+    Ok(is_answer(&answered(alloc, list, STORED)?))
 }
 
 #[test]
@@ -90,7 +100,7 @@ fn stored_query_over_each_box_gives_the_rows(rt: HostRuntime) -> Result<(), Fail
     let alloc = rt.alloc();
     assert!(rt; answers(alloc, new_list(alloc)?)?);
     assert!(rt; answers(alloc, in_counting(new_list(alloc)?))?);
-    assert!(rt; answers(alloc, in_shy(new_list(alloc)?))?);
+    assert!(rt; answers(alloc, in_shy(alloc, new_list(alloc)?))?);
     assert!(rt; answers(alloc, in_shuffled(alloc, new_list(alloc)?))?);
     Ok(())
 }
@@ -98,10 +108,33 @@ fn stored_query_over_each_box_gives_the_rows(rt: HostRuntime) -> Result<(), Fail
 #[test]
 fn stored_query_over_shuffled_in_each_box_gives_the_rows(rt: HostRuntime) -> Result<(), Fail> {
     let alloc = rt.alloc();
-    assert!(rt; answers(alloc, in_shy(in_shuffled(alloc, new_list(alloc)?)))?);
+    assert!(rt; answers(alloc, in_shy(alloc, in_shuffled(alloc, new_list(alloc)?)))?);
     assert!(rt; answers(alloc, in_counting(in_shuffled(alloc, new_list(alloc)?)))?);
     assert!(rt; answers(alloc, in_failing(in_shuffled(alloc, new_list(alloc)?), 99))?);
-    assert!(rt; answers(alloc, in_shuffled(alloc, in_shy(new_list(alloc)?)))?);
+    assert!(rt; answers(alloc, in_shuffled(alloc, in_shy(alloc, new_list(alloc)?)))?);
     assert!(rt; answers(alloc, in_shuffled(alloc, in_counting(new_list(alloc)?)))?);
+    assert!(rt; answers(alloc, in_shuffled(alloc, in_failing(new_list(alloc)?, 99)))?);
+    assert!(rt;
+        answers(
+            alloc,
+            in_shuffled(alloc, in_shuffled(alloc, new_list(alloc)?))
+        )?
+    );
+    Ok(())
+}
+
+const JOINED: &[u8] = b"1 OPEN ann\n1 Q SELECT name, n FROM parts JOIN orders ON part = id\n";
+
+#[test]
+fn joined_rows_of_shuffled_lists_come_in_either_order(rt: HostRuntime) -> Result<(), Fail> {
+    let alloc = rt.alloc();
+    let out = answered(
+        alloc,
+        in_shy(alloc, in_shuffled(alloc, new_list(alloc)?)),
+        JOINED,
+    )?;
+    let forth = b"1 T OPEN\n1 H\tname\tn\n1 R\tbolt\t4\n1 R\tbolt\t6\n1 T SELECT 2\n";
+    let back = b"1 T OPEN\n1 H\tname\tn\n1 R\tbolt\t6\n1 R\tbolt\t4\n1 T SELECT 2\n";
+    assert!(rt; out.as_slice() == forth.as_slice() || out.as_slice() == back.as_slice());
     Ok(())
 }

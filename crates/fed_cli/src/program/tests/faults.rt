@@ -144,17 +144,18 @@ fn stream_goes_on_after_a_read_that_failed(rt: HostRuntime) -> Result<(), Fail> 
 
 #[test]
 fn write_that_fails_ends_the_stream(rt: HostRuntime) -> Result<(), Fail> {
-    // after the first reply one write and one flush, two flushes without a reply, then four writes and a flush
+    // after the first reply one write and one flush, three flushes without a reply, then four writes and a flush
     let written = [
         (0, 0),
         (1, 9),
         (2, 9),
         (3, 9),
         (4, 9),
-        (5, 25),
-        (6, 41),
-        (7, 57),
-        (8, 64),
+        (5, 9),
+        (6, 25),
+        (7, 41),
+        (8, 57),
+        (9, 64),
     ];
     for (calls, length) in written {
         let mut reader = Source {
@@ -173,7 +174,7 @@ fn write_that_fails_ends_the_stream(rt: HostRuntime) -> Result<(), Fail> {
             ANSWER.get(..length),
             "at call {calls}"
         );
-        let scans = if calls < 4 { 0 } else { 1 };
+        let scans = if calls < 5 { 0 } else { 1 };
         assert_eq!(rt; counts, counts_after(scans), "at call {calls}");
     }
     let mut reader = Source {

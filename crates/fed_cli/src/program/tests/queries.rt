@@ -23,7 +23,7 @@ fn answered(alloc: Global, query: &str) -> Result<Vec<u8>, Fail> {
 }
 
 // Whether a query is answered so.
-fn is_answered(alloc: Global, query: &str, wanted: &str) -> Result<bool, Fail> {
+pub(super) fn is_answered(alloc: Global, query: &str, wanted: &str) -> Result<bool, Fail> {
     let out = answered(alloc, query)?;
     let Some(reply) = out.strip_prefix(OPENED) else {
         return Ok(false);

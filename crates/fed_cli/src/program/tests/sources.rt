@@ -56,7 +56,8 @@ fn serve_failing(
 fn query_of_a_source_that_fails_is_refused_and_can_be_sent_again(
     rt: HostRuntime,
 ) -> Result<(), Fail> {
-    let input = b"1 OPEN ann\n1 Q SELECT id, name FROM parts\n1 Q SELECT id, name FROM parts\n";
+    let input =
+        b"1 OPEN ann\n1 Q SELECT id, name FROM parts ORDER BY id\n1 Q SELECT id, name FROM parts ORDER BY id\n";
     let wanted: &[u8] =
         b"1 T OPEN\n1 E HV000 fdw_error\n1 H\tid\tname\n1 R\t1\tbolt\n1 R\t2\tnut\n1 R\t3\t\\N\n1 T SELECT 3\n";
     for (passes, next, pulled) in [(2, 1, 3), (3, 2, 3), (4, 2, 4), (5, 2, 5), (6, 2, 6)] {

@@ -1,4 +1,4 @@
-use Rattle.med_binder.proofs.Phases.{names_are_of_phase, types_are_of_phase}
+use Rattle.med_binder.proofs.LawPhases.{names_are_of_phase, types_are_of_phase}
 use Rattle.med_binder.proofs.law.causes_have_their_phase.Goals as goal
 
 pub returns-clause-names : goal.returns-clause-names

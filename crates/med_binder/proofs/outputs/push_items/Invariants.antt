@@ -1,14 +1,13 @@
-use Rattle.std.proofs.Common.{◌≡◌, map, drop, flat_map}
+use Rattle.std.proofs.Common.{◌≡◌, ◌++◌, map, drop, flat_map}
 use Rattle.med_parser.specs.QueryView.{item_tree}
 use Rattle.med_binder.specs.Scope.{scope_of}
 use Rattle.med_binder.specs.Naming.{item_name_causes}
 use Rattle.med_binder.specs.Meaning.{item_outputs}
-use Rattle.med_binder.specs.Telling.{HasAdded}
-use Rattle.med_binder.specs.declared.outputs.Outputs.{Outputs}
+use Rattle.med_binder.specs.Shown.{shown}
 use Rattle.med_binder.proofs.outputs.push_items.Given as goal
 
 abbrev pub invariant-loop-item : goal.invariant-loop-item
 invariant-loop-item l = record {
   causes : flat_map (item_name_causes (scope_of l.scope)) (map item_tree l.items) ≡ flat_map (item_name_causes (scope_of l.scope)) (map item_tree (drop l.item-index l.items));
-  added : (new : Outputs) → HasAdded (flat_map (item_outputs (scope_of l.scope)) (map item_tree (drop l.item-index l.items))) l.out new → HasAdded (flat_map (item_outputs (scope_of l.scope)) (map item_tree l.items)) l.fn.out new;
+  added : map shown l.out.items ++ flat_map (item_outputs (scope_of l.scope)) (map item_tree (drop l.item-index l.items)) ≡ map shown l.initial.out.items ++ flat_map (item_outputs (scope_of l.scope)) (map item_tree l.items);
 }

@@ -38,3 +38,16 @@ invariant-listed-loop-other l = record {
   parts : trees_then (map tree l.parts.items) (resolved_all (scope_of l.scope) (expr_trees (drop l.other-index l.others))) ≡ part (tree l.fn.first) (resolved_all (scope_of l.scope) (expr_trees l.others));
   low : highest (expr_trees (drop l.other-index l.others)) ≤ highest (expr_trees l.others);
 }
+
+abbrev pub decreases-arguments : goal.decreases-arguments
+decreases-arguments l = 4 * highest (expr_trees l.written.now) + 1
+
+abbrev pub decreases-called : goal.decreases-called
+decreases-called l = 4 * highest (expr_trees l.written.now) + 2
+
+abbrev pub invariant-arguments-loop-e : goal.invariant-arguments-loop-e
+invariant-arguments-loop-e l = record {
+  causes : name_causes_of_all (scope_of l.scope) (expr_trees l.written) ≡ name_causes_of_all (scope_of l.scope) (expr_trees (drop l.e-index l.written));
+  parts : trees_then (map tree l.parts.items) (resolved_all (scope_of l.scope) (expr_trees (drop l.e-index l.written))) ≡ resolved_all (scope_of l.scope) (expr_trees l.written);
+  low : highest (expr_trees (drop l.e-index l.written)) ≤ highest (expr_trees l.written);
+}

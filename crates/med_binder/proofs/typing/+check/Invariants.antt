@@ -53,3 +53,9 @@ invariant-conditions-loop-other l = record {
   causes : condition_causes (scope_of l.scope) (expr_trees l.others) ≡ condition_causes (scope_of l.scope) (expr_trees (drop l.other-index l.others));
   low : highest (expr_trees (drop l.other-index l.others)) ≤ highest (expr_trees l.others);
 }
+
+abbrev pub decreases-called : goal.decreases-called
+decreases-called l = 5 * highest (expr_trees l.arguments.now) + 4
+
+abbrev pub decreases-called_with : goal.decreases-called_with
+decreases-called_with l = 5 * height (expr_tree l.argument.now) + 3

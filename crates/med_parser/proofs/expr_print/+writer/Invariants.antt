@@ -18,6 +18,9 @@ decreases-write_pair l = 4 * max (height (expr_tree l.a.now)) (height (expr_tree
 abbrev pub decreases-write_list : goal.decreases-write_list
 decreases-write_list l = 4 * max (height (expr_tree l.first.now)) (highest (expr_trees l.others.now)) + 2
 
+abbrev pub decreases-write_call : goal.decreases-write_call
+decreases-write_call l = 4 * highest (expr_trees l.parts.now) + 3
+
 abbrev pub decreases-write_chain : goal.decreases-write_chain
 decreases-write_chain l = 4 * max (height (expr_tree l.first.now)) (highest (expr_trees l.others.now)) + 2
 

@@ -1,8 +1,9 @@
 -- The goals of the parser that the search leaves.
-use Rattle.std.proofs.Common.{arith}
+use Rattle.std.proofs.Common.{arith, ◌-◌}
 use Rattle.std.proofs.lemmas.Result.{err_from_is_err_and}
+use Rattle.med_parser.specs.ExprReading.{below}
 use Rattle.med_parser.specs.ExprView.{expr_tree, expr_trees, terminals_of}
-use Rattle.med_parser.proofs.ExprLoops.{chain_preserved, chain_smaller, chain_failed, chain_end, others_smaller, others_preserved, others_failed, others_end}
+use Rattle.med_parser.proofs.ExprLoops.{chain_preserved, chain_smaller, chain_failed, chain_end, others_smaller, others_preserved, others_failed, others_end, parts_low, signed_plain, signed_minus}
 use Rattle.med_parser.proofs.expr_reader.+reader.Goals as goal
 
 pub chain-loop-op-smaller : goal.chain-loop-op-smaller
@@ -43,3 +44,13 @@ chain-returns-in_err-right t c =
 pub chain-returns : goal.chain-returns
 chain-returns t c =
     (chain_end c.args.level c.args.room (terminals_of c.args.symbols.now) (expr_tree c.loop-op.found.expr) c.loop-op.found.height (terminals_of c.loop-op.found.rest.now) c.loop-op.invariant c.in_default.ensures, c.loop-op.invariant.is_height, c.loop-op.invariant.low)
+
+pub signed_here-returns-in-None : goal.signed_here-returns-in-None
+signed_here-returns-in-None t c = rw (signed_plain (below (c.args.room - 1)) (terminals_of c.args.symbols.now) c.in-None.ensures) c.primary.ensures
+
+pub signed_here-returns-in-Some : goal.signed_here-returns-in-Some
+signed_here-returns-in-Some t c = rw (signed_minus (below (c.args.room - 1)) (terminals_of c.args.symbols.now) (terminals_of c.in-Some.rest.now) c.in-Some.ensures) c.minus.ensures
+
+pub call_of_parts-call_made-requires-clause-low : goal.call_of_parts-call_made-requires-clause-low
+call_of_parts-call_made-requires-clause-low t c =
+    (omega (arith, c.requires.some, c.in_ok-first.ensures.2), parts_low c.args.room c.in_ok-others.others.highest (terminals_of c.in_ok-first.first.rest.now) (expr_trees c.in_ok-others.others.list.items) (terminals_of c.in_ok-others.others.rest.now) c.requires.some c.in_ok-others.ensures.0 c.in_ok-others.ensures.1)

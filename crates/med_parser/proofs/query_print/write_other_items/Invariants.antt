@@ -1,13 +1,13 @@
-use Rattle.std.proofs.Common.{◌≡◌, ◌++◌, length}
+use Rattle.std.proofs.Common.{◌≡◌, ◌++◌, length, map}
 use Rattle.std.specs.String.{string_bytes}
 use Rattle.med_lexer.specs.Printing.{behind_spaces}
 use Rattle.med_parser.specs.ExprPrinting.{shapes_for}
-use Rattle.med_parser.specs.QueryPrinting.{others_written}
-use Rattle.med_parser.specs.QueryView.{items_tree}
+use Rattle.med_parser.specs.QueryPrinting.{others_written, item_written}
+use Rattle.med_parser.specs.QueryView.{item_tree}
 use Rattle.med_parser.proofs.query_print.write_other_items.Given as goal
 
 abbrev pub invariant-loop-item : goal.invariant-loop-item
-invariant-loop-item l = string_bytes l.out ++ behind_spaces (shapes_for (others_written (items_tree l.left))) ≡ string_bytes l.fn.out ++ behind_spaces (shapes_for (others_written (items_tree l.items)))
+invariant-loop-item l = string_bytes l.out ++ behind_spaces (shapes_for (others_written item_written (map item_tree l.left))) ≡ string_bytes l.fn.out ++ behind_spaces (shapes_for (others_written item_written (map item_tree l.items)))
 
 abbrev pub decreases-loop-item : goal.decreases-loop-item
 decreases-loop-item l = length l.left

@@ -1,12 +1,12 @@
-use Rattle.std.proofs.Common.{length}
+use Rattle.std.proofs.Common.{length, map}
 use Rattle.med_parser.specs.ExprView.{terminals_of}
 use Rattle.med_parser.specs.QueryReading.{item_of}
-use Rattle.med_parser.specs.QueryView.{items_tree}
+use Rattle.med_parser.specs.QueryView.{item_tree}
 use Rattle.med_parser.proofs.QueryLoop.{ListLoop}
 use Rattle.med_parser.proofs.query_reader.items.Given as goal
 
 abbrev pub invariant-loop-after : goal.invariant-loop-after
-invariant-loop-after l = ListLoop (item_of l.room) (terminals_of l.symbols) (items_tree l.list.items) (terminals_of l.rest)
+invariant-loop-after l = ListLoop (item_of l.room) (terminals_of l.symbols) (map item_tree l.list.items) (terminals_of l.rest)
 
 abbrev pub decreases-loop-after : goal.decreases-loop-after
 decreases-loop-after l = length (terminals_of l.rest)

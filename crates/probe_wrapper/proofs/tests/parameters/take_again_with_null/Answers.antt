@@ -7,5 +7,5 @@ take_row-requires g c = rescan_is_open _ _ _ c.requires
 pub returns-in_err-rescan : goal.returns-in_err-rescan
 returns-in_err-rescan g c = broken_is_live _ _ _ _ c.in_err-rescan.ensures.err
 
-pub take_row-requires-2 : goal.take_row-requires-2
-take_row-requires-2 g c = again_is_open _ _ _ _ c.in_ok-rescan.ensures.ok
+pub take_row-requires-3 : goal.take_row-requires-3
+take_row-requires-3 g c = again_is_open _ _ _ _ c.in_ok-rescan.ensures.ok

@@ -1,0 +1,169 @@
+//! The names of a query.
+#![tactic(auto, using(crate::proofs::Causes::tells_left, crate::proofs::Causes::tells_right, crate::proofs::Causes::tells_memory, crate::proofs::Causes::tells_one, crate::proofs::Causes::none_of_two, crate::proofs::LookSteps::table_told))]
+
+ghost use Rattle.std.specs.Prelude.{◌≡◌, map, option_map, unwrap_or};
+ghost use Rattle.med_parser.specs.QueryView.{select_tree, limit_tree};
+ghost use Rattle.med_binder.specs.Scope.{scope_of as seen_as, table_shape};
+ghost use Rattle.med_binder.specs.Meaning.{rows_left};
+ghost use Rattle.med_binder.specs.Shown.{shown};
+ghost use Rattle.med_binder.specs.Looking.{Asks, Splits, Assembles, LooksUp};
+
+use crate::bound::{Bound, BoundEntry};
+use crate::from::{bound_entries, check_names, entries_of, scope_of};
+use crate::grouping::grouping;
+use crate::joins::{chains, conditions};
+use crate::keys::{directions, keys, places};
+use crate::outputs::{Shown, outputs_of};
+use crate::scope::Visible;
+use crate::table::AttachedTable;
+use med_parser::{Limit, Select};
+use med_value::Cause;
+use std::alloc::Global;
+use tri_expr::{Expr, JoinChain, Select as Resolved};
+
+/// What is asked of the entries of FROM, its names being resolved.
+#[derive(Drop)]
+struct Asked {
+    /// FROM.
+    from: Vec<JoinChain>,
+    /// What is answered.
+    outputs: Vec<Shown>,
+    /// WHERE.
+    conditions: Vec<Expr>,
+    /// GROUP BY.
+    places: Vec<usize>,
+    /// HAVING.
+    having: Vec<Expr>,
+    /// ORDER BY.
+    keys: Vec<Expr>,
+}
+
+fn ask(
+    alloc: Global,
+    tables: &[AttachedTable],
+    scope: &[Visible<'_>],
+    select: &Select,
+) -> Result<Asked, Cause>
+    ensures { Asks (map table_shape tables.now) (seen_as scope.now) (select_tree select.now) result }
+{
+    let from = chains(alloc, tables, select.from.as_slice())?;
+    let outputs = outputs_of(alloc, scope, select.items.as_slice())?;
+    let conditions_met = conditions(alloc, scope, &select.condition)?;
+    let places = places(alloc, scope, select.groups.as_slice())?;
+    let having = conditions(alloc, scope, &select.having)?;
+    let keys = keys(
+        alloc,
+        scope,
+        select.distinct,
+        outputs.as_slice(),
+        select.keys.as_slice(),
+    )?;
+    Ok(Asked {
+        from,
+        outputs,
+        conditions: conditions_met,
+        places,
+        having,
+        keys,
+    })
+}
+
+/// Names and expressions, each in a list of its own.
+#[derive(Drop)]
+struct Columns {
+    names: Vec<String>,
+    items: Vec<Expr>,
+}
+
+fn split(alloc: Global, outputs: Vec<Shown>) -> Result<Columns, Cause>
+    ensures { Splits (map shown outputs.items) result }
+{
+    let mut names = Vec::new(alloc);
+    let mut items = Vec::new(alloc);
+    for output in outputs {
+        let Shown { name, value } = output;
+        names.push(name)?;
+        items.push(value)?;
+    }
+    Ok(Columns { names, items })
+}
+
+fn rows_left(limit: &Option<Limit>) -> Option<usize>
+    ensures { result ≡ rows_left (option_map limit_tree limit.now) }
+{
+    match limit {
+        None => None,
+        Some(limit) => match limit {
+            Limit::All => None,
+            Limit::Rows(n) => Some(*n as usize),
+        },
+    }
+}
+
+fn rows_skipped(offset: &Option<u64>) -> usize
+    ensures { result ≡ unwrap_or offset.now 0 }
+{
+    match offset {
+        None => 0,
+        Some(n) => *n as usize,
+    }
+}
+
+/// The query with these parts.
+fn assemble(
+    alloc: Global,
+    select: &Select,
+    entries: Vec<BoundEntry>,
+    asked: Asked,
+) -> Result<Bound, Cause>
+    ensures { Assembles (select_tree select.now) asked entries.items result }
+{
+    let Asked {
+        from,
+        outputs,
+        conditions,
+        places,
+        having,
+        keys,
+    } = asked;
+    let Columns { names, items } = split(alloc, outputs)?;
+    let directions = directions(alloc, select.keys.as_slice())?;
+    let grouping = grouping(
+        alloc,
+        select,
+        places,
+        having,
+        keys.as_slice(),
+        items.as_slice(),
+    )?;
+    let select = Resolved {
+        from,
+        conditions,
+        grouping,
+        items,
+        distinct: select.distinct,
+        keys,
+        directions,
+        offset: rows_skipped(&select.offset),
+        limit: rows_left(&select.limit),
+    };
+    Ok(Bound {
+        names,
+        entries,
+        select,
+    })
+}
+
+/// Looks the names of a query up: 42P01 where there is no such table or a qualifier names no visible entry, 42712 where two entries have one
+/// name, 42703 where a name means no column, 42702 where it can mean several columns or outputs, 42601 for `*` without FROM, 42P10 for an
+/// order key that is the position of no output, or no output under DISTINCT.
+pub fn look_up(alloc: Global, select: &Select, tables: &[AttachedTable]) -> Result<Bound, Cause>
+    ensures { LooksUp tables.now (select_tree select.now) result }
+{
+    let written = entries_of(alloc, select.from.as_slice())?;
+    let entries = bound_entries(alloc, tables, written.as_slice())?;
+    let scope = scope_of(alloc, tables, written.as_slice())?;
+    check_names(scope.as_slice())?;
+    let asked = ask(alloc, tables, scope.as_slice(), select)?;
+    assemble(alloc, select, entries, asked)
+}

@@ -1,0 +1,10 @@
+use Rattle.std.proofs.Common.{◌++◌, codes}
+use Rattle.med_parser.specs.ExprTree.{spelling}
+use Rattle.med_parser.specs.ExprView.{expr_tree}
+use Rattle.med_parser.proofs.ExprPrints.{then_if}
+use Rattle.med_parser.specs.QueryPrinting.{flag_written, nulls_written}
+use Rattle.med_parser.proofs.query_print.write_key.Goals as goal
+
+pub returns : goal.returns
+returns c =
+    then_if c.write_direction.result _ _ _ (spelling (expr_tree c.args.key.now.key)) (flag_written (codes "desc") (codes "asc") c.args.key.now.descending ++ nulls_written c.args.key.now.nulls_first) c.in_ok-write.ensures c.write_direction.ensures

@@ -1,0 +1,8 @@
+//! Plans: what is scanned, and the query over what the scans give.
+#![tactic(auto)]
+
+mod planning;
+mod plans;
+
+pub use planning::plan;
+pub use plans::Plan;

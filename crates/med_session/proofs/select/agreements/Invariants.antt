@@ -1,0 +1,10 @@
+use Rattle.std.proofs.Common.{◌≡◌, length, map, take}
+use Rattle.med_session.specs.Selecting.{answers_given, answers_wanted}
+use Rattle.med_session.proofs.select.agreements.Given as goal
+
+abbrev pub invariant-loop-offer : goal.invariant-loop-offer
+invariant-loop-offer g l =
+    record {
+      many : length l.all.items ≡ l.offer-index;
+      each : map answers_given l.all.items ≡ map answers_wanted (take l.offer-index l.offers);
+    }

@@ -1,0 +1,5 @@
+pub mod Told
+pub mod Lists
+pub mod Joins
+pub mod Places
+pub mod Whole

@@ -1,0 +1,14 @@
+use Rattle.std.proofs.Common.{ap, option_map}
+use Rattle.probe_wrapper.specs.Shy.{asked_of, ask_of}
+use Rattle.probe_wrapper.proofs.Maps.{apart}
+use Rattle.probe_wrapper.proofs.ShyLemmas.{live_in}
+use Rattle.probe_wrapper.proofs.ShyCalls.{ends}
+use Rattle.probe_wrapper.proofs.shy.ShyWrapper.end.Goals as goal
+
+pub end-requires : goal.end-requires
+end-requires g c = live_in (g.W.Wrapper.meaning c.args.self.now.inner) (asked_of c.args.self.now.scans) _ c.requires
+
+pub returns : goal.returns
+returns g c =
+    ends (asked_of c.args.self.now.scans) (asked_of c.remove.new.self) (g.W.Wrapper.meaning c.args.self.now.inner) (g.W.Wrapper.meaning c.end.new.self) c.args.ticket.number
+    (λ q ne. ap (option_map ask_of) (c.remove.ensures.updates.2 q (apart c.args.ticket.number q ne))) c.end.ensures
