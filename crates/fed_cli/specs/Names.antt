@@ -1,6 +1,6 @@
 -- Which words may name a source.
 use Rattle.std.specs.Prelude.{ℕ, List, Some, None, Contains}
-use Rattle.med_parser.specs.Words.{reserved}
+use Rattle.med_syntax.specs.Words.{reserved}
 use Rattle.med_session.specs.Requests.{IsUser}
 use Rattle.fed_cli.specs.declared.words.Asked.{Asked}
 use Rattle.fed_cli.specs.declared.words.Asked.TheVariants.{Run}

@@ -4,8 +4,8 @@ ghost use Rattle.fed_cli.specs.Names.{IsSourceName, MayName};
 
 use clap::error::ErrorKind;
 use clap::{Arg, ArgAction, Command};
-use med_parser::is_reserved;
 use med_session::users::is_user;
+use med_syntax::is_reserved;
 use std::alloc::{AllocError, Global};
 use std::convert::AsStr;
 use thiserror::Error;

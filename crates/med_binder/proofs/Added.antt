@@ -2,7 +2,7 @@
 use Rattle.std.proofs.Common.{◌≡◌, ℕ, ◌+◌, ◌<◌, List, [], ◌++◌, Option, length, drop, get_or, if◌then◌else◌, ap, sym, ◌∙◌, append_assoc, append-nil}
 use Rattle.std.proofs.lemmas.List.{length-map}
 use Rattle.med_value.specs.Column.{column_of}
-use Rattle.med_parser.specs.Tree.{Name}
+use Rattle.med_syntax.specs.Tree.{Name}
 use Rattle.med_binder.specs.Scope.{scope_of, visible, is_meant}
 use Rattle.med_binder.specs.Meaning.{Output, columns_from, starred}
 use Rattle.med_binder.specs.declared.scope.Visible.{Visible}

@@ -2,7 +2,7 @@
 use Rattle.std.proofs.Common.{◌≡◌, ◌⊎◌, List, [], ◌∷◌, Result, Ok, Err, IfErr, Contains, inl, inr, arith}
 use Rattle.med_value.specs.declared.cause.Cause.{Cause}
 use Rattle.med_value.specs.declared.cause.Cause.TheVariants.{OutOfMemory}
-use Rattle.med_parser.specs.QueryTree.{StatementTree}
+use Rattle.med_syntax.specs.QueryTree.{StatementTree}
 use Rattle.med_binder.specs.declared.bound.Bound.{Bound}
 use Rattle.med_binder.specs.Scope.{TableShape}
 use Rattle.med_binder.specs.Naming.{statement_name_causes}

@@ -2,8 +2,8 @@
 use Rattle.std.proofs.Common.{◌≡◌, ◌≤◌, List, [], ◌∷◌, ◌++◌, Option, Some, None, length, refl, arith}
 use Rattle.med_value.specs.declared.value.ColType.{ColType}
 use Rattle.med_value.specs.declared.cause.Cause.TheVariants.{UndefinedFunction}
-use Rattle.med_parser.specs.declared.expr.Expr.{Expr}
-use Rattle.med_parser.specs.ExprView.{expr_tree, expr_trees}
+use Rattle.med_syntax.specs.declared.expr.Expr.{Expr}
+use Rattle.med_syntax.specs.ExprView.{expr_tree, expr_trees}
 use Rattle.tri_expr.specs.declared.expr.SetFunction.{SetFunction}
 use Rattle.tri_expr.specs.declared.expr.SetFunction.TheVariants.{Count, Sum, Min, Max}
 use Rattle.med_binder.specs.Scope.{Scope}

@@ -3,10 +3,10 @@ use Rattle.std.proofs.Common.{◌≡◌, ℕ, suc, ◌+◌, ◌<◌, List, [], �
 use Rattle.std.proofs.lemmas.List.{map-append, length-map}
 use Rattle.med_value.specs.Column.{column_of}
 use Rattle.med_value.specs.declared.cause.Cause.{Cause}
-use Rattle.med_parser.specs.QueryTree.{EntryTree}
-use Rattle.med_parser.specs.QueryView.{join_tree, chain_tree}
-use Rattle.med_parser.specs.declared.statement.Chain.{Chain}
-use Rattle.med_parser.specs.declared.statement.Join.{Join}
+use Rattle.med_syntax.specs.QueryTree.{EntryTree}
+use Rattle.med_syntax.specs.QueryView.{join_tree, chain_tree}
+use Rattle.med_syntax.specs.declared.statement.Chain.{Chain}
+use Rattle.med_syntax.specs.declared.statement.Join.{Join}
 use Rattle.tri_expr.specs.Form.{JoinForm, ChainForm}
 use Rattle.med_binder.specs.Scope.{TableShape, Scope, visible, scope_of, entry_shape, entry_columns, joined_entry, chain_entries}
 use Rattle.med_binder.specs.Naming.{on_name_causes, joins_name_causes}

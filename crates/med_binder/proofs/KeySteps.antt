@@ -4,13 +4,13 @@ use Rattle.std.specs.List.{list_all}
 use Rattle.std.proofs.lemmas.Bool.{le-leb, leb-true}
 use Rattle.std.proofs.lemmas.List.{drop-map, length-map}
 use Rattle.med_value.specs.declared.cause.Cause.TheVariants.{InvalidColumnReference, AmbiguousColumn}
-use Rattle.med_parser.specs.Tree.{Name}
-use Rattle.med_parser.specs.declared.expr.Expr.{Expr}
-use Rattle.med_parser.specs.declared.expr.Expr.TheVariants.{Null, rolls-Null}
-use Rattle.med_parser.specs.declared.expr.Expr.TheFolds.{fold-roll-Expr}
-use Rattle.med_parser.specs.declared.expr.Expr.TheOpen as layer
-use Rattle.med_parser.specs.ExprTree.{ExprTree, null}
-use Rattle.med_parser.specs.ExprView.{step, expr_tree}
+use Rattle.med_syntax.specs.Tree.{Name}
+use Rattle.med_syntax.specs.declared.expr.Expr.{Expr}
+use Rattle.med_syntax.specs.declared.expr.Expr.TheVariants.{Null, rolls-Null}
+use Rattle.med_syntax.specs.declared.expr.Expr.TheFolds.{fold-roll-Expr}
+use Rattle.med_syntax.specs.declared.expr.Expr.TheOpen as layer
+use Rattle.med_syntax.specs.ExprTree.{ExprTree, null}
+use Rattle.med_syntax.specs.ExprView.{step, expr_tree}
 use Rattle.tri_expr.specs.Tree.{Tree, tree}
 use Rattle.tri_expr.specs.TreeParts.{bare, same_tree}
 use Rattle.med_binder.specs.Naming.{position_causes, output_name_causes, are_same}

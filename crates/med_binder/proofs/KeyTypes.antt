@@ -1,10 +1,10 @@
 -- The causes of order keys by their types do not depend on the outputs.
 use Rattle.std.proofs.Common.{◌≡◌, Bool, true, false, List, [], ◌∷◌, ◌++◌, Some, None, flat_map, if◌then◌else◌, refl, sym, ap, ◌∙◌}
 use Rattle.std.specs.List.{list_any}
-use Rattle.med_parser.specs.Tree.{Name}
-use Rattle.med_parser.specs.ExprTree.{ExprTree, num, negative, text, truth, null, column, call_all, call, paren, minus, binary, between, among, like, compare, tested, negation, chain}
+use Rattle.med_syntax.specs.Tree.{Name}
+use Rattle.med_syntax.specs.ExprTree.{ExprTree, num, negative, text, truth, null, column, call_all, call, paren, minus, binary, between, among, like, compare, tested, negation, chain}
 use Rattle.med_value.specs.declared.cause.Cause.{Cause}
-use Rattle.med_parser.specs.QueryTree.{KeyTree, SelectTree}
+use Rattle.med_syntax.specs.QueryTree.{KeyTree, SelectTree}
 use Rattle.med_binder.specs.Scope.{TableShape, Scope, from_scope}
 use Rattle.med_binder.specs.Meaning.{Output, output_name, expression, is_named, sort_key, outputs_of}
 use Rattle.med_binder.specs.Typing.{type_causes, item_type_causes, condition_type_causes, chain_type_causes, sort_key_type_causes, key_type_causes, written_type_causes}

@@ -5,12 +5,12 @@ use Rattle.std.proofs.lemmas.List.Sums.{sum_by-cons}
 use Rattle.med_value.specs.Column.{Column}
 use Rattle.med_value.specs.declared.cause.Cause.{Cause}
 use Rattle.med_value.specs.declared.cause.Cause.TheVariants.{UndefinedTable}
-use Rattle.med_parser.specs.Tree.{Name}
-use Rattle.med_parser.specs.declared.expr.Joint.{Joint}
-use Rattle.med_parser.specs.declared.expr.Joint.TheVariants.{Or, And}
-use Rattle.med_parser.specs.ExprTree.{ExprTree, ExprTrees}
-use Rattle.med_parser.specs.ExprTree as expr
-use Rattle.med_parser.specs.QueryTree.{ItemTree, all, all_of as all_of_entry, value, EntryTree, JoinTree, inner_join, left_join, cross_join, ChainTree, GroupTree, KeyTree, SelectTree, StatementTree, select}
+use Rattle.med_syntax.specs.Tree.{Name}
+use Rattle.med_syntax.specs.declared.expr.Joint.{Joint}
+use Rattle.med_syntax.specs.declared.expr.Joint.TheVariants.{Or, And}
+use Rattle.med_syntax.specs.ExprTree.{ExprTree, ExprTrees}
+use Rattle.med_syntax.specs.ExprTree as expr
+use Rattle.med_syntax.specs.QueryTree.{ItemTree, all, all_of as all_of_entry, value, EntryTree, JoinTree, inner_join, left_join, cross_join, ChainTree, GroupTree, KeyTree, SelectTree, StatementTree, select}
 use Rattle.tri_expr.specs.declared.expr.SetFunction.{SetFunction}
 use Rattle.tri_expr.specs.Tree.{Tree, Trees, conjunct_trees, conjuncts_of_all, column, parameter, literal, compare, compute, negate, all_of, some_of, opposite, asks, between, within, matches, parenthesised, count_rows, aggregate, none, part}
 use Rattle.tri_expr.specs.TreeParts.{arguments_in, arguments_in_all}

@@ -1,7 +1,7 @@
 -- Names of a query, looked up part by part.
 use Rattle.std.proofs.Common.{◌≡◌, inl, inr, List, [], ◌∷◌, map, flat_map, All, Result, Ok, Err, refl, ap, sym, subst, ◌∙◌, arith}
 use Rattle.med_value.specs.declared.cause.Cause.{Cause}
-use Rattle.med_parser.specs.QueryTree.{EntryTree, ItemTree, GroupTree, SelectTree}
+use Rattle.med_syntax.specs.QueryTree.{EntryTree, ItemTree, GroupTree, SelectTree}
 use Rattle.med_binder.specs.Scope.{TableShape, Scope, table_shape, visible, scope_of, exposed_name, entry_shape, entries_of, from_scope, entry_place}
 use Rattle.med_binder.specs.Naming.{chain_name_causes, item_name_causes, condition_name_causes, group_name_causes, entry_causes, alias_causes, from_causes, once_known, select_name_causes}
 use Rattle.med_binder.specs.Meaning.{Output, meant_in}

@@ -4,7 +4,7 @@ use Rattle.std.proofs.lemmas.List.{length-map}
 use Rattle.med_value.specs.Column.{Column}
 use Rattle.med_value.specs.declared.value.ColType.{ColType}
 use Rattle.med_value.specs.declared.cause.Cause.TheVariants.{UndefinedTable, UndefinedColumn, AmbiguousColumn}
-use Rattle.med_parser.specs.Tree.{Name}
+use Rattle.med_syntax.specs.Tree.{Name}
 use Rattle.med_value.specs.Column.{column_of}
 use Rattle.med_binder.proofs.Parts.{drop_read}
 use Rattle.med_binder.specs.declared.scope.Visible.{Visible}

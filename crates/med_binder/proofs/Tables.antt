@@ -5,8 +5,8 @@ use Rattle.std.proofs.lemmas.Option.{slice_get_read, slice_get-map}
 use Rattle.std.proofs.lemmas.List.Elements.{All-append, All-cons, All-nil}
 use Rattle.med_value.specs.Column.{column_of}
 use Rattle.med_value.specs.declared.cause.Cause.TheVariants.{UndefinedTable}
-use Rattle.med_parser.specs.Tree.{Name}
-use Rattle.med_parser.specs.QueryTree.{EntryTree}
+use Rattle.med_syntax.specs.Tree.{Name}
+use Rattle.med_syntax.specs.QueryTree.{EntryTree}
 use Rattle.med_binder.proofs.Parts.{drop_read}
 use Rattle.med_binder.specs.Scope.{TableShape, table_shape, place_from, place_named, entry_place, entry_columns}
 use Rattle.med_binder.specs.Naming.{entry_causes}

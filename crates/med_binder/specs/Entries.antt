@@ -1,9 +1,9 @@
 -- What looking up the tables of FROM answers.
 use Rattle.std.specs.Prelude.{◌≡◌, Bool, if◌then◌else◌, ℕ, suc, List, [], ◌∷◌, ◌++◌, length, map, All, flat_map, slice_get, Option, Some, None, Result, Ok, Err, Vec}
 use Rattle.med_value.specs.declared.cause.Cause.{Cause}
-use Rattle.med_parser.specs.Tree.{Name}
+use Rattle.med_syntax.specs.Tree.{Name}
 use Rattle.std.specs.Borrow.{Bor}
-use Rattle.med_parser.specs.QueryTree.{EntryTree, JoinTree}
+use Rattle.med_syntax.specs.QueryTree.{EntryTree, JoinTree}
 use Rattle.tri_expr.specs.declared.expr.Expr.{Expr}
 use Rattle.tri_expr.specs.Tree.{Tree, tree}
 use Rattle.tri_expr.specs.TreeParts.{arguments_in}

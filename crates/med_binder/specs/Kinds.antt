@@ -2,7 +2,7 @@
 use Rattle.std.specs.Prelude.{◌≡◌, List, [], ◌∷◌, ◌++◌, flat_map, Option, Result, Ok, Err}
 use Rattle.med_value.specs.declared.value.ColType.{ColType}
 use Rattle.med_value.specs.declared.cause.Cause.{Cause}
-use Rattle.med_parser.specs.QueryTree.{KeyTree, SelectTree}
+use Rattle.med_syntax.specs.QueryTree.{KeyTree, SelectTree}
 use Rattle.med_binder.specs.Scope.{Scope}
 use Rattle.med_binder.specs.Typing.{comparing, type_causes, item_type_causes, condition_type_causes}
 

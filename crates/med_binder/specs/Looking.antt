@@ -1,7 +1,7 @@
 -- What looking up the names of a query answers.
 use Rattle.std.specs.Prelude.{◌≡◌, List, [], ◌++◌, map, flat_map, string_bytes, All, unwrap_or, Result, Ok, Err}
 use Rattle.med_value.specs.declared.cause.Cause.{Cause}
-use Rattle.med_parser.specs.QueryTree.{SelectTree}
+use Rattle.med_syntax.specs.QueryTree.{SelectTree}
 use Rattle.tri_expr.specs.Tree.{tree}
 use Rattle.tri_expr.specs.Form.{Form, chain_form, form_of}
 use Rattle.med_binder.specs.Scope.{TableShape, Scope, table_shape}

@@ -4,17 +4,17 @@ use Rattle.std.specs.Option.{is_some}
 use Rattle.std.specs.List.{list_any}
 use Rattle.med_value.specs.Column.{Column}
 use Rattle.med_value.specs.Datum.{NoValue, Whole, Chars, Logic}
-use Rattle.med_parser.specs.Tree.{Name}
-use Rattle.med_parser.specs.declared.expr.BinaryOp.{BinaryOp}
-use Rattle.med_parser.specs.declared.expr.BinaryOp.TheVariants as arithmetic
-use Rattle.med_parser.specs.declared.expr.CompareOp.{CompareOp}
-use Rattle.med_parser.specs.declared.expr.CompareOp.TheVariants as comparisons
-use Rattle.med_parser.specs.declared.expr.Status.{Status}
-use Rattle.med_parser.specs.declared.expr.Status.TheVariants as statuses
-use Rattle.med_parser.specs.declared.expr.Joint.{Joint}
-use Rattle.med_parser.specs.declared.expr.Joint.TheVariants.{Or, And}
-use Rattle.med_parser.specs.ExprTree.{ExprTree, ExprTrees}
-use Rattle.med_parser.specs.ExprTree as w
+use Rattle.med_syntax.specs.Tree.{Name}
+use Rattle.med_syntax.specs.declared.expr.BinaryOp.{BinaryOp}
+use Rattle.med_syntax.specs.declared.expr.BinaryOp.TheVariants as arithmetic
+use Rattle.med_syntax.specs.declared.expr.CompareOp.{CompareOp}
+use Rattle.med_syntax.specs.declared.expr.CompareOp.TheVariants as comparisons
+use Rattle.med_syntax.specs.declared.expr.Status.{Status}
+use Rattle.med_syntax.specs.declared.expr.Status.TheVariants as statuses
+use Rattle.med_syntax.specs.declared.expr.Joint.{Joint}
+use Rattle.med_syntax.specs.declared.expr.Joint.TheVariants.{Or, And}
+use Rattle.med_syntax.specs.ExprTree.{ExprTree, ExprTrees}
+use Rattle.med_syntax.specs.ExprTree as w
 use Rattle.tri_expr.specs.declared.expr.Operation.{Operation}
 use Rattle.tri_expr.specs.declared.expr.Operation.TheVariants.{Add, Subtract, Multiply, Divide, Remainder}
 use Rattle.tri_expr.specs.declared.expr.Comparison.{Comparison}
@@ -28,7 +28,7 @@ use Rattle.tri_expr.specs.TreeParts.{arguments_in}
 use Rattle.tri_expr.specs.Form.{JoinForm, cross_form, inner_form, left_form, ChainForm, GroupForm, Form}
 use Rattle.med_binder.specs.Aggregates.{has_aggregate}
 use Rattle.tri_expr.specs.Tree.{Tree, Trees, conjunct_trees, column, literal, compare, compute, negate, all_of, some_of, opposite, asks, between, within, matches, parenthesised, count_rows, aggregate, none, part}
-use Rattle.med_parser.specs.QueryTree.{ItemTree, all, all_of as all_of_entry, value, JoinTree, inner_join, left_join, cross_join, ChainTree, GroupTree, KeyTree, LimitTree, no_limit, rows, SelectTree, StatementTree, select}
+use Rattle.med_syntax.specs.QueryTree.{ItemTree, all, all_of as all_of_entry, value, JoinTree, inner_join, left_join, cross_join, ChainTree, GroupTree, KeyTree, LimitTree, no_limit, rows, SelectTree, StatementTree, select}
 use Rattle.med_binder.specs.Scope.{TableShape, Scope, is_meant, candidates, joined_entry, chain_entries, entry_columns, entry_shape, from_scope, from_places}
 
 abbrev pub operation_of : BinaryOp → Operation

@@ -3,9 +3,9 @@ use Rattle.std.specs.Prelude.{ℕ, nat_le, Bool, true, not, ◌&&◌, List, [], 
 use Rattle.std.specs.List.{list_any, list_all}
 use Rattle.med_value.specs.declared.cause.Cause.{Cause}
 use Rattle.med_value.specs.declared.cause.Cause.TheVariants.{UndefinedTable, UndefinedColumn, AmbiguousColumn, DuplicateAlias, InvalidColumnReference, MisplacedName}
-use Rattle.med_parser.specs.Tree.{Name}
-use Rattle.med_parser.specs.ExprTree.{ExprTree, ExprTrees, column, call, paren, minus, binary, between, among, like, compare, tested, negation, chain, none, more}
-use Rattle.med_parser.specs.QueryTree.{ItemTree, all, all_of, value, EntryTree, JoinTree, inner_join, left_join, cross_join, ChainTree, GroupTree, KeyTree, SelectTree, StatementTree, select}
+use Rattle.med_syntax.specs.Tree.{Name}
+use Rattle.med_syntax.specs.ExprTree.{ExprTree, ExprTrees, column, call, paren, minus, binary, between, among, like, compare, tested, negation, chain, none, more}
+use Rattle.med_syntax.specs.QueryTree.{ItemTree, all, all_of, value, EntryTree, JoinTree, inner_join, left_join, cross_join, ChainTree, GroupTree, KeyTree, SelectTree, StatementTree, select}
 use Rattle.tri_expr.specs.Tree.{Tree}
 use Rattle.tri_expr.specs.TreeParts.{same_tree}
 use Rattle.med_binder.specs.Scope.{TableShape, Scope, has_entry, candidates, exposed_name, entries_of, is_known, entry_shape, from_scope}

@@ -4,8 +4,8 @@ use Rattle.std.specs.Option.{option_and_then, is_some}
 use Rattle.std.specs.List.{list_any}
 use Rattle.med_value.specs.Column.{Column, column_of}
 use Rattle.med_value.specs.declared.value.ColType.{ColType}
-use Rattle.med_parser.specs.Tree.{Name}
-use Rattle.med_parser.specs.QueryTree.{EntryTree, JoinTree, inner_join, left_join, cross_join, ChainTree}
+use Rattle.med_syntax.specs.Tree.{Name}
+use Rattle.med_syntax.specs.QueryTree.{EntryTree, JoinTree, inner_join, left_join, cross_join, ChainTree}
 use Rattle.med_binder.specs.declared.table.AttachedTable.{AttachedTable}
 use Rattle.med_binder.specs.declared.scope.Visible.{Visible}
 

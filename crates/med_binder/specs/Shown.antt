@@ -1,10 +1,10 @@
 -- What a query answers, without where it lies in memory.
 use Rattle.std.specs.Prelude.{string_bytes}
 use Rattle.std.specs.Borrow.{Bor}
-use Rattle.med_parser.specs.Tree.{Name}
-use Rattle.med_parser.specs.QueryTree.{EntryTree}
-use Rattle.med_parser.specs.QueryView.{entry_tree}
-use Rattle.med_parser.specs.declared.statement.Entry.{Entry}
+use Rattle.med_syntax.specs.Tree.{Name}
+use Rattle.med_syntax.specs.QueryTree.{EntryTree}
+use Rattle.med_syntax.specs.QueryView.{entry_tree}
+use Rattle.med_syntax.specs.declared.statement.Entry.{Entry}
 use Rattle.med_binder.specs.declared.scope.Visible.{Visible}
 use Rattle.tri_expr.specs.Tree.{tree}
 use Rattle.med_binder.specs.Meaning.{Output}

@@ -3,7 +3,7 @@ use Rattle.std.specs.Prelude.{◌≡◌, ◌⊎◌, ℕ, List, [], ◌∷◌, �
 use Rattle.med_value.specs.declared.value.ColType.{ColType}
 use Rattle.med_value.specs.declared.cause.Cause.{Cause}
 use Rattle.med_value.specs.declared.cause.Cause.TheVariants.{OutOfMemory}
-use Rattle.med_parser.specs.Tree.{Name}
+use Rattle.med_syntax.specs.Tree.{Name}
 use Rattle.med_binder.specs.Scope.{Scope, candidates}
 use Rattle.med_binder.specs.Naming.{column_causes}
 use Rattle.med_binder.specs.declared.scope.Found.{Found}

@@ -1,7 +1,7 @@
 -- What is asked over rows of so many cells: each column of it is one of these. The entries of FROM are in view from the left on, each with
 -- the columns of its table.
 use Rattle.std.specs.Prelude.{ℕ, suc, ◌-◌, ◌<◌, List, length, map, sum, take, drop, All, Option, Some, None}
-use Rattle.med_parser.specs.QueryTree.{StatementTree, select}
+use Rattle.med_syntax.specs.QueryTree.{StatementTree, select}
 use Rattle.tri_expr.specs.Tree.{Tree, Trees, column, parameter, literal, compare, compute, negate, all_of, some_of, opposite, asks, between, within, matches, parenthesised, count_rows, aggregate, none, part}
 use Rattle.tri_expr.specs.Form.{JoinForm, cross_form, inner_form, left_form, ChainForm, GroupForm, Form}
 use Rattle.med_binder.specs.Scope.{TableShape, Scope, from_scope}

@@ -3,8 +3,8 @@
 ghost use Rattle.std.specs.Prelude.{◌≡◌, ◌⊎◌, map, true, All, IfOk, OnOk, IfErr};
 ghost use Rattle.std.specs.List.{list_all};
 ghost use Rattle.med_value.specs.declared.cause.Cause.{Cause};
-ghost use Rattle.med_parser.specs.QueryTree.{select};
-ghost use Rattle.med_parser.specs.QueryView.{select_tree, statement_tree};
+ghost use Rattle.med_syntax.specs.QueryTree.{select};
+ghost use Rattle.med_syntax.specs.QueryView.{select_tree, statement_tree};
 ghost use Rattle.tri_expr.specs.Select.{is_safe_chain};
 ghost use Rattle.med_binder.specs.Scope.{table_shape};
 ghost use Rattle.med_binder.specs.Naming.{select_name_causes, statement_name_causes};
@@ -18,7 +18,7 @@ use crate::checks::check_written;
 use crate::forms::check_form;
 use crate::look_up::look_up;
 use crate::table::AttachedTable;
-use med_parser::{Select, Statement};
+use med_syntax::{Select, Statement};
 use med_value::Cause;
 use std::alloc::Global;
 

@@ -2,8 +2,8 @@
 #![tactic(auto, using(crate::proofs::Causes::tells_left, crate::proofs::Causes::tells_right, crate::proofs::Causes::tells_memory, crate::proofs::Causes::tells_one, crate::proofs::Causes::none_of_two))]
 
 ghost use Rattle.std.specs.Prelude.{◌≡◌, ◌++◌, ◌∷◌, [], map, flat_map, option_map};
-ghost use Rattle.med_parser.specs.ExprView.{expr_tree};
-ghost use Rattle.med_parser.specs.QueryView.{item_tree, join_tree, chain_tree, key_tree, select_tree};
+ghost use Rattle.med_syntax.specs.ExprView.{expr_tree};
+ghost use Rattle.med_syntax.specs.QueryView.{item_tree, join_tree, chain_tree, key_tree, select_tree};
 ghost use Rattle.med_binder.specs.Scope.{scope_of, table_shape, visible};
 ghost use Rattle.med_binder.specs.Typing as spec;
 ghost use Rattle.med_binder.specs.Telling.{Passes};
@@ -13,7 +13,7 @@ use crate::from::{from_in_view, joined_entry, visible_of};
 use crate::scope::Visible;
 use crate::table::AttachedTable;
 use crate::typing::{operand, type_of};
-use med_parser::{Chain, Expr as Written, Item, Join, OrderKey, Select};
+use med_syntax::{Chain, Expr as Written, Item, Join, OrderKey, Select};
 use med_value::{Cause, ColType};
 use std::alloc::Global;
 

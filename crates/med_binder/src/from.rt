@@ -4,7 +4,7 @@
 ghost use Rattle.std.specs.Prelude.{◌≡◌, ◌∷◌, [], map, flat_map, bytes_eq, string_bytes};
 ghost use Rattle.std.specs.List.{list_any};
 ghost use Rattle.med_value.specs.Column.{column_of};
-ghost use Rattle.med_parser.specs.QueryView.{entry_tree, join_tree, chain_tree};
+ghost use Rattle.med_syntax.specs.QueryView.{entry_tree, join_tree, chain_tree};
 ghost use Rattle.med_binder.specs.Scope as spec;
 ghost use Rattle.med_binder.specs.Scope.{table_shape, visible, entry_shape, entry_columns, chain_entries, from_scope};
 ghost use Rattle.med_binder.specs.Naming.{entry_causes, alias_causes};
@@ -15,7 +15,7 @@ ghost use Rattle.med_binder.specs.Entries.{FindsTable, BindsEntry, BindsEntries}
 use crate::bound::BoundEntry;
 use crate::scope::Visible;
 use crate::table::AttachedTable;
-use med_parser::{Chain, Entry, Join};
+use med_syntax::{Chain, Entry, Join};
 use med_value::{Cause, ColumnDef};
 use std::alloc::Global;
 

@@ -4,7 +4,7 @@
 ghost use Rattle.std.specs.Prelude.{◌≡◌, ◌++◌, [], not, ◌||◌, map, flat_map, option_map};
 ghost use Rattle.std.specs.Option.{is_some};
 ghost use Rattle.std.specs.List.{list_any};
-ghost use Rattle.med_parser.specs.QueryView.{select_tree};
+ghost use Rattle.med_syntax.specs.QueryView.{select_tree};
 ghost use Rattle.tri_expr.specs.Tree.{tree};
 ghost use Rattle.tri_expr.specs.TreeParts.{arguments_in};
 ghost use Rattle.tri_expr.specs.Form.{group_form};
@@ -13,7 +13,7 @@ ghost use Rattle.med_binder.specs.Entries.{group_of};
 ghost use Rattle.med_binder.specs.Telling.{Gives, Adds};
 
 use crate::aggregates::any_has_aggregate;
-use med_parser::Select as WrittenSelect;
+use med_syntax::Select as WrittenSelect;
 use med_value::Cause;
 use std::alloc::Global;
 use tri_expr::{Expr, Grouping, arguments};

@@ -2,8 +2,8 @@
 #![tactic(auto, using(crate::proofs::Causes::tells_left, crate::proofs::Causes::tells_right, crate::proofs::Causes::tells_memory, crate::proofs::Causes::tells_one, crate::proofs::Causes::none_of_two, crate::proofs::JoinSteps::one_suc, crate::proofs::JoinSteps::after_chain))]
 
 ghost use Rattle.std.specs.Prelude.{◌≡◌, ℕ, ◌+◌, ◌∷◌, [], map, flat_map, length, option_map, suc};
-ghost use Rattle.med_parser.specs.ExprView.{expr_tree};
-ghost use Rattle.med_parser.specs.QueryView.{entry_tree, join_tree, chain_tree};
+ghost use Rattle.med_syntax.specs.ExprView.{expr_tree};
+ghost use Rattle.med_syntax.specs.QueryView.{entry_tree, join_tree, chain_tree};
 ghost use Rattle.tri_expr.specs.Tree.{tree, conjunct_trees};
 ghost use Rattle.tri_expr.specs.Form.{join_form, chain_form};
 ghost use Rattle.med_binder.specs.Scope.{scope_of, table_shape, entry_shape, chain_entries};
@@ -16,7 +16,7 @@ use crate::from::{joined_entry, visible_of};
 use crate::resolve::resolve;
 use crate::scope::Visible;
 use crate::table::AttachedTable;
-use med_parser::{Chain, Entry, Expr as Written, Join as WrittenJoin};
+use med_syntax::{Chain, Entry, Expr as Written, Join as WrittenJoin};
 use med_value::Cause;
 use std::alloc::Global;
 use tri_expr::{Expr, Join, JoinChain, conjuncts};

@@ -3,8 +3,8 @@
 
 ghost use Rattle.std.specs.Prelude.{◌≡◌, ◌-◌, ◌++◌, ◌∷◌, [], map, filter, flat_map, drop, string_bytes};
 ghost use Rattle.std.specs.List.{list_any, list_all};
-ghost use Rattle.med_parser.specs.ExprView.{expr_tree};
-ghost use Rattle.med_parser.specs.QueryView.{key_tree, group_tree};
+ghost use Rattle.med_syntax.specs.ExprView.{expr_tree};
+ghost use Rattle.med_syntax.specs.QueryView.{key_tree, group_tree};
 ghost use Rattle.tri_expr.specs.Tree.{tree};
 ghost use Rattle.tri_expr.specs.TreeParts.{same_tree};
 ghost use Rattle.tri_expr.specs.Select.{direction_of};
@@ -19,7 +19,7 @@ ghost use Rattle.med_binder.specs.Entries.{IsFirst};
 use crate::outputs::Shown;
 use crate::resolve::resolve;
 use crate::scope::{Visible, find_column};
-use med_parser::{Expr as Written, GroupColumn, OrderKey};
+use med_syntax::{Expr as Written, GroupColumn, OrderKey};
 use med_value::{Cause, Value};
 use std::alloc::Global;
 use tri_expr::law::same_trees_are_equal;

@@ -4,7 +4,7 @@
 ghost use Rattle.std.specs.Prelude.{◌≡◌, List, Some};
 ghost use Rattle.med_value.specs.Causes.{phase_of};
 ghost use Rattle.med_value.specs.declared.cause.Cause.{Cause as AnyCause};
-ghost use Rattle.med_parser.specs.QueryTree.{StatementTree};
+ghost use Rattle.med_syntax.specs.QueryTree.{StatementTree};
 ghost use Rattle.med_binder.specs.Scope.{TableShape};
 ghost use Rattle.med_binder.specs.Naming.{NameCauses};
 ghost use Rattle.med_binder.specs.Typing.{TypeCauses};

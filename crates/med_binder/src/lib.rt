@@ -31,8 +31,3 @@ mod typing;
 pub use binding::bind;
 pub use bound::{Bound, BoundEntry};
 pub use table::AttachedTable;
-
-#[cfg(test)]
-mod query_tests;
-#[cfg(test)]
-mod tests;

@@ -2,7 +2,7 @@
 #![tactic(auto, using(crate::proofs::Causes::tells_left, crate::proofs::Causes::tells_right, crate::proofs::Causes::tells_memory, crate::proofs::Causes::tells_one, crate::proofs::Causes::none_of_two, crate::proofs::LookSteps::table_told))]
 
 ghost use Rattle.std.specs.Prelude.{◌≡◌, map, option_map, unwrap_or};
-ghost use Rattle.med_parser.specs.QueryView.{select_tree, limit_tree};
+ghost use Rattle.med_syntax.specs.QueryView.{select_tree, limit_tree};
 ghost use Rattle.med_binder.specs.Scope.{scope_of as seen_as, table_shape};
 ghost use Rattle.med_binder.specs.Meaning.{rows_left};
 ghost use Rattle.med_binder.specs.Shown.{shown};
@@ -16,7 +16,7 @@ use crate::keys::{directions, keys, places};
 use crate::outputs::{Shown, outputs_of};
 use crate::scope::Visible;
 use crate::table::AttachedTable;
-use med_parser::{Limit, Select};
+use med_syntax::{Limit, Select};
 use med_value::Cause;
 use std::alloc::Global;
 use tri_expr::{Expr, JoinChain, Select as Resolved};

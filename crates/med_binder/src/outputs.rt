@@ -4,9 +4,9 @@
 ghost use Rattle.std.specs.Prelude.{◌≡◌, ◌+◌, ◌≤◌, ◌∷◌, [], ◌++◌, map, length, flat_map, unwrap_or, option_map, string_bytes, if◌then◌else◌, Some, None, IfOk, IfErr};
 ghost use Rattle.med_value.specs.Column.{column_of};
 ghost use Rattle.med_value.specs.declared.cause.Cause.TheVariants.{OutOfMemory};
-ghost use Rattle.med_parser.specs.ExprView.{expr_tree};
-ghost use Rattle.med_parser.specs.QueryView.{item_tree};
-ghost use Rattle.med_parser.specs.QueryTree.{value};
+ghost use Rattle.med_syntax.specs.ExprView.{expr_tree};
+ghost use Rattle.med_syntax.specs.QueryView.{item_tree};
+ghost use Rattle.med_syntax.specs.QueryTree.{value};
 ghost use Rattle.med_binder.specs.Scope.{scope_of, visible, is_meant};
 ghost use Rattle.med_binder.specs.Naming.{item_name_causes};
 ghost use Rattle.med_binder.specs.Meaning.{columns_from, starred, expression_name, item_outputs, outputs_of};
@@ -15,7 +15,7 @@ ghost use Rattle.med_binder.specs.Telling.{Gives, Adds};
 
 use crate::resolve::resolve;
 use crate::scope::{Visible, is_any_named, is_named};
-use med_parser::{Expr as Written, Item};
+use med_syntax::{Expr as Written, Item};
 use med_value::{Cause, ColumnDef};
 use std::alloc::Global;
 use tri_expr::Expr;

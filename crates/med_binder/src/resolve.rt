@@ -2,7 +2,7 @@
 #![tactic(auto, using(crate::proofs::Causes::tells_left, crate::proofs::Causes::tells_right, crate::proofs::Causes::tells_memory, crate::proofs::Causes::tells_one, crate::proofs::Causes::none_of_two, crate::proofs::Causes::tells_first, crate::proofs::Causes::next_causes, crate::proofs::Trees::next_part, crate::proofs::Trees::all_parts))]
 
 ghost use Rattle.std.specs.Prelude.{◌≡◌, ◌++◌, [], map, bytes_eq, codes, if◌then◌else◌, Some};
-ghost use Rattle.med_parser.specs.ExprView.{expr_tree, expr_trees};
+ghost use Rattle.med_syntax.specs.ExprView.{expr_tree, expr_trees};
 ghost use Rattle.tri_expr.specs.Tree.{tree, trees, part, literal, compare, compute, between, within, count_rows};
 ghost use Rattle.med_value.specs.Datum.{NoValue};
 ghost use Rattle.med_binder.specs.Scope.{scope_of};
@@ -13,7 +13,7 @@ ghost use Rattle.med_binder.specs.Telling.{Gives};
 use crate::functions::function_named;
 use crate::numbers::{negative, number};
 use crate::scope::{Visible, find_column};
-use med_parser::{BinaryOp, CompareOp, Expr as Written, Joint, Status};
+use med_syntax::{BinaryOp, CompareOp, Expr as Written, Joint, Status};
 use med_value::{Cause, Value};
 use std::alloc::Global;
 use tri_expr::{Comparison, Expr, Operation, SetFunction, Test};

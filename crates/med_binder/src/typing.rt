@@ -2,7 +2,7 @@
 #![tactic(auto, using(crate::proofs::Causes::tells_left, crate::proofs::Causes::tells_right, crate::proofs::Causes::tells_memory, crate::proofs::Causes::tells_one, crate::proofs::Causes::none_of_two))]
 
 ghost use Rattle.std.specs.Prelude.{◌≡◌, ◌++◌, ◌∷◌, [], string_bytes};
-ghost use Rattle.med_parser.specs.ExprView.{expr_tree, expr_trees};
+ghost use Rattle.med_syntax.specs.ExprView.{expr_tree, expr_trees};
 ghost use Rattle.med_binder.specs.Scope.{scope_of};
 ghost use Rattle.med_binder.specs.Meaning.{function_named};
 ghost use Rattle.med_binder.specs.Typing as spec;
@@ -11,7 +11,7 @@ ghost use Rattle.med_binder.specs.Kinds.{Meets};
 
 use crate::functions::function_named;
 use crate::scope::{Visible, column_kind};
-use med_parser::{Expr as Written, Status};
+use med_syntax::{Expr as Written, Status};
 use med_value::{Cause, ColType};
 use tri_expr::SetFunction;
 

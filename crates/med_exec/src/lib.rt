@@ -29,6 +29,3 @@ pub use restricted::{read_restricted, select_restricted};
 pub use running::{Run, plan_at, start};
 pub use scans::{read_scan, read_table, select_table};
 pub use slots::{bind_at, ledger_at, unbind_at};
-
-#[cfg(test)]
-mod tests;

@@ -51,18 +51,3 @@ pub fn ledger_at<W: Wrapper>(slots: &Vec<Option<W>>, slot: usize) -> Option<Coun
         _ => None,
     }
 }
-
-#[cfg(test)]
-mod tests {
-    use super::*;
-    use std::test::Fail;
-
-    #[test]
-    fn counts_no_dropped_box(rt: HostRuntime) -> Result<(), Fail> {
-        let mut slots: Vec<Option<Box<dyn Wrapper>>> = Vec::new(rt.alloc());
-        assert_eq!(rt; ledger_at(&slots, 0), None, "there is no slot 0");
-        slots.push(None)?;
-        assert_eq!(rt; ledger_at(&slots, 0), None, "the box of slot 0 was dropped");
-        Ok(())
-    }
-}

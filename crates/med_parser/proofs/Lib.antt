@@ -1,13 +1,3 @@
-pub mod ReservedWords
-pub mod TokenShapes
-pub mod ExprComplete
-pub mod ExprSound
-pub mod ExprLoops
-pub mod ExprTerminals
-pub mod ExprWeighing
-pub mod ExprParsed
-pub mod ExprPrints
-pub mod ExprQuoting
 pub mod QueryComplete
 pub mod QuerySound
 pub mod QueryWeighing
@@ -15,4 +5,5 @@ pub mod QueryTerminals
 pub mod QueryParsed
 pub mod QueryLoop
 pub mod QuerySteps
+pub mod Writing
 pub mod QueryPrints

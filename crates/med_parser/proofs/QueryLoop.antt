@@ -1,17 +1,17 @@
 -- The loop over the items of a list, and over items that are in range.
 use Rattle.std.proofs.Common.{◌≡◌, ℕ, zero, suc, ◌≤◌, ◌<◌, List, [], ◌∷◌, ◌++◌, length, refl, sym, ◌∙◌, ap, subst, arith, append_assoc, append-nil, length-append}
 use Rattle.std.specs.Prelude.{Result, Ok, Err, Option, Some, None, map}
-use Rattle.med_parser.specs.declared.refusal.ReadFault.{ReadFault}
-use Rattle.med_parser.specs.declared.refusal.ReadFault.TheVariants as faults
-use Rattle.med_parser.specs.declared.refusal.Refusal.{Refusal}
-use Rattle.med_parser.specs.declared.symbols.Separator.TheVariants.{Comma}
-use Rattle.med_parser.specs.Terminal.{Terminal}
-use Rattle.med_parser.specs.Terminal as t
-use Rattle.med_parser.specs.ExprAnswers.{Gives}
-use Rattle.med_parser.specs.ExprReading.{◌>>=◌}
-use Rattle.med_parser.specs.ExprSteps.{behind_of}
+use Rattle.expr_parser.specs.declared.refusal.ReadFault.{ReadFault}
+use Rattle.expr_parser.specs.declared.refusal.ReadFault.TheVariants as faults
+use Rattle.expr_parser.specs.declared.refusal.Refusal.{Refusal}
+use Rattle.expr_parser.specs.declared.symbols.Separator.TheVariants.{Comma}
+use Rattle.med_syntax.specs.Terminal.{Terminal}
+use Rattle.med_syntax.specs.Terminal as t
+use Rattle.expr_parser.specs.ExprAnswers.{Gives}
+use Rattle.expr_parser.specs.ExprReading.{◌>>=◌}
+use Rattle.expr_parser.specs.ExprSteps.{behind_of}
 use Rattle.med_parser.specs.declared.query_source.JoinWay.{JoinWay}
-use Rattle.med_parser.specs.QueryTree.{JoinTree}
+use Rattle.med_syntax.specs.QueryTree.{JoinTree}
 use Rattle.med_parser.specs.QueryReading.{Parser, others, list_of, join_words, join_of, joins_of, all_joins_of}
 use Rattle.med_parser.proofs.QueryComplete.{join_long}
 use Rattle.med_parser.proofs.QuerySound.{Sound, comma_is, join_found}

@@ -11,15 +11,15 @@
 -- A label is a name or any word. An AS belongs to the nearest item. NULLS, FIRST, LAST, ROW and ROWS are not reserved.
 use Rattle.std.specs.Prelude.{◌≡◌, ℕ, ◌⊎◌, Bool, true, false, List, [], ◌∷◌, ◌++◌, codes, Option, Some, None}
 use Rattle.med_lexer.specs.Lexemes.{Shape, Lexeme, Lexes}
-use Rattle.med_parser.specs.declared.expr.BinaryOp.TheVariants.{Mul}
-use Rattle.med_parser.specs.Tree.{Name}
-use Rattle.med_parser.specs.Shapes.{shapes}
-use Rattle.med_parser.specs.Terminal.{Terminal, word_terminal}
-use Rattle.med_parser.specs.Terminal as t
-use Rattle.med_parser.specs.ExprTree.{ExprTree, column_spelling, IsExpr}
+use Rattle.med_syntax.specs.declared.expr.BinaryOp.TheVariants.{Mul}
+use Rattle.med_syntax.specs.Tree.{Name}
+use Rattle.expr_parser.specs.Shapes.{shapes}
+use Rattle.med_syntax.specs.Terminal.{Terminal, word_terminal}
+use Rattle.med_syntax.specs.Terminal as t
+use Rattle.med_syntax.specs.ExprTree.{ExprTree, column_spelling, IsExpr}
 use Rattle.med_parser.specs.QueryTerminals.{AreWords}
-use Rattle.med_parser.specs.QueryTree.{ItemTree, all, all_of, value, EntryTree, JoinTree, inner_join, left_join, cross_join, ChainTree, GroupTree, KeyTree, LimitTree, no_limit, rows, SelectTree, StatementTree, select}
-use Rattle.med_parser.specs.Words.{is_reserved}
+use Rattle.med_syntax.specs.QueryTree.{ItemTree, all, all_of, value, EntryTree, JoinTree, inner_join, left_join, cross_join, ChainTree, GroupTree, KeyTree, LimitTree, no_limit, rows, SelectTree, StatementTree, select}
+use Rattle.med_syntax.specs.Words.{is_reserved}
 
 -- these keywords, one after the other
 abbrev pub keywords : List (List ℕ) → List Terminal

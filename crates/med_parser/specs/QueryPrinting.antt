@@ -2,15 +2,15 @@
 -- each key, LIMIT before OFFSET, no optional word but these, and one space between tokens.
 use Rattle.std.specs.Prelude.{ℕ, Bool, true, false, List, [], ◌∷◌, ◌++◌, codes, Option, Some, None}
 use Rattle.med_lexer.specs.Printing.{printed}
-use Rattle.med_parser.specs.declared.expr.BinaryOp.TheVariants.{Mul}
+use Rattle.med_syntax.specs.declared.expr.BinaryOp.TheVariants.{Mul}
 use Rattle.med_parser.specs.declared.query_print.Keyword.{Keyword}
 use Rattle.med_parser.specs.declared.query_print.Keyword.TheVariants as k
-use Rattle.med_parser.specs.Tree.{Name}
-use Rattle.med_parser.specs.Terminal.{Terminal}
-use Rattle.med_parser.specs.Terminal as t
-use Rattle.med_parser.specs.ExprTree.{ExprTree, column_spelling, spelling}
-use Rattle.med_parser.specs.ExprPrinting.{shapes_for}
-use Rattle.med_parser.specs.QueryTree.{ItemTree, all, all_of, value, EntryTree, JoinTree, inner_join, left_join, cross_join, ChainTree, GroupTree, KeyTree, LimitTree, no_limit, rows, SelectTree, StatementTree, select}
+use Rattle.med_syntax.specs.Tree.{Name}
+use Rattle.med_syntax.specs.Terminal.{Terminal}
+use Rattle.med_syntax.specs.Terminal as t
+use Rattle.med_syntax.specs.ExprTree.{ExprTree, column_spelling, spelling}
+use Rattle.expr_parser.specs.ExprPrinting.{shapes_for}
+use Rattle.med_syntax.specs.QueryTree.{ItemTree, all, all_of, value, EntryTree, JoinTree, inner_join, left_join, cross_join, ChainTree, GroupTree, KeyTree, LimitTree, no_limit, rows, SelectTree, StatementTree, select}
 use Rattle.med_parser.specs.QueryGrammar.{keywords}
 
 abbrev pub keyword_word : Keyword → List ℕ

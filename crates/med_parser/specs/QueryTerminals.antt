@@ -5,9 +5,9 @@ use Rattle.std.specs.Str.{bytes_eq}
 use Rattle.med_lexer.specs.Lexemes.{Shape, word}
 use Rattle.med_parser.specs.declared.query_symbols.Place.{Place}
 use Rattle.med_parser.specs.declared.query_symbols.Place.TheVariants as p
-use Rattle.med_parser.specs.Terminal.{Terminal, IsTerminal}
-use Rattle.med_parser.specs.Terminal as t
-use Rattle.med_parser.specs.ExprTerminals.{follows, terminal_at}
+use Rattle.med_syntax.specs.Terminal.{Terminal, IsTerminal}
+use Rattle.med_syntax.specs.Terminal as t
+use Rattle.expr_parser.specs.ExprTerminals.{follows, terminal_at}
 
 abbrev pub is_one_of : List (List ℕ) → List ℕ → Bool
 is_one_of ws w = list_any (λ r. bytes_eq r w) ws

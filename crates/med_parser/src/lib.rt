@@ -1,16 +1,11 @@
 //! Parses a line of this profile of SQL, a statement and perhaps a semicolon, and writes statements out:
 //! `SELECT [DISTINCT] item {, item} [FROM chain {, chain}] [WHERE expr] [GROUP BY col {, col}] [HAVING expr] [ORDER BY key {, key}]`
-//! `[LIMIT ..] [OFFSET ..] [;]`, where a chain is an entry with its joins. `expression` reads the text of one expression.
+//! `[LIMIT ..] [OFFSET ..] [;]`, where a chain is an entry with its joins.
 //!
-//! The grammar stands apart from the readers. `specs/ExprTree.antt` says what each expression is spelled by, how tightly each form binds, and
-//! which trees the grammar has; `specs/QueryGrammar.antt` says which terminals spell which statement. The readers are proved to find each of
-//! these trees, and no other.
+//! The grammar stands apart from the readers: `specs/QueryGrammar.antt` says which terminals spell which statement. The readers are proved to
+//! find each of these trees, and no other.
 //!
-//! A form of expressions is added in `specs/ExprTree.antt` as a constructor with a line in each definition, then in the list reader
-//! (`specs/ExprReading.antt`) at the level on which it binds, in the case lemmas of `proofs/ExprComplete.antt` and `proofs/ExprSound.antt`, and
-//! last in `src/expr_reader.rt`.
-//!
-//! A clause of a query is a field of `SelectTree` (`specs/QueryTree.antt`) and of `Select`, with a line in their view, height and range, a
+//! A clause of a query is a field of `SelectTree` and of `Select`, in the crate of the trees, with a line in their view, height and range, a
 //! `Spells` relation (`specs/QueryGrammar.antt`), a part of the list reader (`specs/QueryReading.antt`), a lemma `_takes` and one `_sound`
 //! (`proofs/QueryComplete.antt`, `proofs/QuerySound.antt`), a line in `proofs/QueryWeighing.antt`, `proofs/QueryTerminals.antt` and
 //! `proofs/QueryPrints.antt`, and last a function in `src/query_reader.rt`, `src/query_source.rt` or `src/query_keys.rt`, one in
@@ -23,14 +18,6 @@
 //! (`IsWord`). Which of the two a word is follows from what stands before it (`specs/QueryTerminals.antt`, `src/query_symbols.rt`).
 #![tactic(auto)]
 
-mod expr;
-mod expr_build;
-mod expr_laws;
-mod expr_print;
-mod expr_reader;
-mod expr_symbols;
-mod expr_text;
-mod fault;
 mod parser;
 mod query_keys;
 mod query_laws;
@@ -39,23 +26,7 @@ mod query_range;
 mod query_reader;
 mod query_source;
 mod query_symbols;
-mod refusal;
-mod statement;
-mod symbols;
-mod token_list;
-mod words;
 
-pub use expr::{BinaryOp, CompareOp, Expr, Joint, Status};
-pub use expr_laws::{one_expression, printed_expression};
-pub use expr_print::print_expression;
-pub use expr_text::expression;
 pub use parser::parse;
 pub use query_laws::{one_tree, printed_statement};
 pub use query_print::print;
-pub use statement::{Chain, Entry, GroupColumn, Item, Join, Limit, OrderKey, Select, Statement};
-pub use words::is_reserved;
-
-#[cfg(test)]
-mod expr_tests;
-#[cfg(test)]
-mod query_tests;

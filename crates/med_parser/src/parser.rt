@@ -3,26 +3,26 @@
 ghost use Rattle.std.specs.Prelude.{◌≡◌, ◌⊎◌, ℕ, List, IfOk, OnOk, IfErr, false};
 ghost use Rattle.med_value.specs.declared.cause.Cause.{Cause};
 ghost use Rattle.med_lexer.specs.Printing.{AreShapes};
-ghost use Rattle.med_parser.specs.ExprTerminals.{AreReadable};
-ghost use Rattle.med_parser.specs.ExprView.{terminals_of};
-ghost use Rattle.med_parser.specs.ExprAnswers.{Gives};
-ghost use Rattle.med_parser.specs.View.{shapes_of};
+ghost use Rattle.expr_parser.specs.ExprTerminals.{AreReadable};
+ghost use Rattle.expr_parser.specs.SymbolView.{terminals_of};
+ghost use Rattle.expr_parser.specs.ExprAnswers.{Gives};
+ghost use Rattle.expr_parser.specs.View.{shapes_of};
 ghost use Rattle.med_parser.specs.QueryGrammar.{HasStatement, IsStatement};
 ghost use Rattle.med_parser.specs.QueryCauses.{SyntaxCauses, TokenCauses, statement_in_range};
 ghost use Rattle.med_parser.specs.QueryReading.{bounded_line};
 ghost use Rattle.med_parser.specs.QueryTerminals.{words_at};
-ghost use Rattle.med_parser.specs.QueryView.{statement_tree};
+ghost use Rattle.med_syntax.specs.QueryView.{statement_tree};
 
-use crate::expr_symbols::has_unreadable;
-use crate::expr_text::{MAX_HEIGHT, ROOM, weight};
 use crate::query_range::is_statement_in_range;
 use crate::query_reader::line;
 use crate::query_symbols::{Place, words_of};
-use crate::refusal::{ReadFault, Refusal};
-use crate::statement::Statement;
-use crate::symbols::Symbol;
-use crate::token_list::{has_long_name, tokens_of};
+use expr_parser::expr_symbols::has_unreadable;
+use expr_parser::expr_text::{MAX_HEIGHT, ROOM, weight};
+use expr_parser::refusal::{ReadFault, Refusal};
+use expr_parser::symbols::Symbol;
+use expr_parser::token_list::{has_long_name, tokens_of};
 use med_lexer::{Token, tokens_can_be_printed};
+use med_syntax::Statement;
 use med_value::Cause;
 use std::alloc::Global;
 

@@ -3,17 +3,17 @@
 
 ghost use Rattle.std.specs.Prelude.{◌≡◌, ◌<◌, ◌∷◌, [], codes, option_map, map};
 ghost use Rattle.std.specs.String.{string_bytes};
-ghost use Rattle.med_parser.specs.ExprView.{expr_tree, terminals_of};
-ghost use Rattle.med_parser.specs.ExprAnswers.{Gives};
+ghost use Rattle.med_syntax.specs.ExprView.{expr_tree};
+ghost use Rattle.expr_parser.specs.SymbolView.{terminals_of};
+ghost use Rattle.expr_parser.specs.ExprAnswers.{Gives};
 ghost use Rattle.med_parser.specs.QueryReading as reading;
-ghost use Rattle.med_parser.specs.QueryView.{group_tree, key_tree, limit_tree};
+ghost use Rattle.med_syntax.specs.QueryView.{group_tree, key_tree, limit_tree};
 
-use crate::expr::Expr;
-use crate::expr_reader::whole;
 use crate::query_reader::{behind_two, behind_word};
-use crate::refusal::{ReadFault, Refusal};
-use crate::statement::{GroupColumn, Limit, OrderKey};
-use crate::symbols::{Separator, Symbol, behind};
+use expr_parser::expr_reader::whole;
+use expr_parser::refusal::{ReadFault, Refusal};
+use expr_parser::symbols::{Separator, Symbol, behind};
+use med_syntax::{Expr, GroupColumn, Limit, OrderKey};
 use std::alloc::Global;
 
 /// Whether the first word stands in front, and the symbols behind it, or behind the other word in its place.

@@ -1,7 +1,7 @@
 //! Laws of statements. Each is the contract of a function that does nothing.
 
 ghost use Rattle.std.specs.Prelude.{◌≡◌, ℕ, true, List};
-ghost use Rattle.med_parser.specs.QueryTree.{StatementTree};
+ghost use Rattle.med_syntax.specs.QueryTree.{StatementTree};
 ghost use Rattle.med_parser.specs.QueryGrammar.{HasStatement};
 ghost use Rattle.med_parser.specs.QueryCauses.{statement_in_range};
 ghost use Rattle.med_parser.specs.QueryPrinting as printing;

@@ -1,23 +1,24 @@
 //! Writes statements out.
-#![tactic(auto, using(crate::proofs::ExprPrints::wrote_one, crate::proofs::ExprPrints::wrote_none, crate::proofs::ExprPrints::wrote_then, crate::proofs::ExprPrints::wrote_more, crate::proofs::ExprPrints::then_if, crate::proofs::ExprPrints::more_if, crate::proofs::ExprPrints::wrote_all, crate::proofs::QueryPrints::items_next, crate::proofs::QueryPrints::chains_next, crate::proofs::QueryPrints::groups_next, crate::proofs::QueryPrints::keys_next, crate::proofs::QueryPrints::joins_next))]
+#![tactic(auto, using(crate::proofs::Writing::wrote_one, crate::proofs::Writing::wrote_none, crate::proofs::Writing::wrote_then, crate::proofs::Writing::wrote_more, crate::proofs::Writing::then_if, crate::proofs::Writing::more_if, crate::proofs::Writing::wrote_all, crate::proofs::QueryPrints::items_next, crate::proofs::QueryPrints::chains_next, crate::proofs::QueryPrints::groups_next, crate::proofs::QueryPrints::keys_next, crate::proofs::QueryPrints::joins_next))]
 
 ghost use Rattle.std.specs.Prelude.{◌≡◌, ◌++◌, ◌∷◌, [], ℕ, List, IfOk, true, map, option_map, codes};
 ghost use Rattle.std.specs.String.{string_bytes};
 ghost use Rattle.med_lexer.specs.Printing.{raw_of};
-ghost use Rattle.med_parser.specs.ExprTree.{spelling};
-ghost use Rattle.med_parser.specs.Terminal as t;
-ghost use Rattle.med_parser.specs.ExprPrinting.{Wrote, shape_for};
-ghost use Rattle.med_parser.specs.ExprView.{expr_tree};
+ghost use Rattle.med_syntax.specs.ExprTree.{spelling};
+ghost use Rattle.med_syntax.specs.Terminal as t;
+ghost use Rattle.expr_parser.specs.ExprPrinting.{Wrote, shape_for};
+ghost use Rattle.med_syntax.specs.ExprView.{expr_tree};
 ghost use Rattle.med_parser.specs.QueryGrammar.{HasStatement};
-ghost use Rattle.med_parser.specs.QueryTree.{left_join, cross_join};
+ghost use Rattle.med_syntax.specs.QueryTree.{left_join, cross_join};
 ghost use Rattle.med_parser.specs.QueryCauses.{statement_in_range};
 ghost use Rattle.med_parser.specs.QueryPrinting.{keyword_word, keyword_terminal, alias_written, item_written, others_written, list_written, entry_written, on_written, join_written, joins_written, chain_written, group_written, flag_written, nulls_written, key_written, quantifier_written, limit_written, offset_written, perhaps_written, listed_written, tail_written, clauses_written, select_written, statement_written, printed_statement};
-ghost use Rattle.med_parser.specs.QueryView.{item_tree, items_tree, entry_tree, join_tree, chain_tree, group_tree, key_tree, limit_tree, select_tree, statement_tree};
+ghost use Rattle.med_syntax.specs.QueryView.{item_tree, items_tree, entry_tree, join_tree, chain_tree, group_tree, key_tree, limit_tree, select_tree, statement_tree};
 
-use crate::expr::{BinaryOp, Expr};
-use crate::expr_print::{Fixed, write, write_column, write_fixed, write_name, write_number};
 use crate::query_laws::printed_statement;
-use crate::statement::{Chain, Entry, GroupColumn, Item, Join, Limit, OrderKey, Select, Statement};
+use expr_parser::expr_print::{Fixed, write, write_column, write_fixed, write_name, write_number};
+use med_syntax::{
+    BinaryOp, Chain, Entry, Expr, GroupColumn, Item, Join, Limit, OrderKey, Select, Statement,
+};
 use std::alloc::{AllocError, Global};
 
 /// A keyword that no expression has.

@@ -3,20 +3,19 @@
 
 ghost use Rattle.std.specs.Prelude.{◌≡◌, ◌<◌, ◌∷◌, [], option_map};
 ghost use Rattle.std.specs.String.{string_bytes};
-ghost use Rattle.med_parser.specs.ExprView.{expr_tree, terminal_of_symbol, terminals_of};
-ghost use Rattle.med_parser.specs.ExprAnswers.{Gives};
-ghost use Rattle.med_parser.specs.ExprReading.{below};
+ghost use Rattle.med_syntax.specs.ExprView.{expr_tree};
+ghost use Rattle.expr_parser.specs.SymbolView.{terminal_of_symbol, terminals_of};
+ghost use Rattle.expr_parser.specs.ExprAnswers.{Gives};
+ghost use Rattle.expr_parser.specs.ExprReading.{below};
 ghost use Rattle.med_parser.specs.QueryReading as reading;
-ghost use Rattle.med_parser.specs.QueryView.{item_tree, items_tree, select_tree, statement_tree};
+ghost use Rattle.med_syntax.specs.QueryView.{item_tree, items_tree, select_tree, statement_tree};
 
-use crate::expr::{BinaryOp, Expr, Joint};
-use crate::expr_reader::whole;
 use crate::query_keys::{flag, groups, keys, limits};
 use crate::query_source::chains;
-use crate::refusal::{ReadFault, Refusal};
-use crate::statement::{Item, Select, Statement};
-use crate::symbols::{Separator, Symbol, behind};
-use crate::words::is_reserved;
+use expr_parser::expr_reader::whole;
+use expr_parser::refusal::{ReadFault, Refusal};
+use expr_parser::symbols::{Separator, Symbol, behind};
+use med_syntax::{BinaryOp, Expr, Item, Joint, Select, Statement, is_reserved};
 use std::alloc::Global;
 
 /// The symbols behind the keyword, where it comes first.

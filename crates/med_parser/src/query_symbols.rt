@@ -4,13 +4,13 @@
 ghost use Rattle.std.specs.Prelude.{◌≡◌, IfOk, false};
 ghost use Rattle.std.specs.String.{string_bytes};
 ghost use Rattle.med_lexer.specs.View.{shape_of};
-ghost use Rattle.med_parser.specs.ExprTerminals.{AreReadable, IsReadable};
-ghost use Rattle.med_parser.specs.ExprView.{terminal_of_symbol, terminals_of};
+ghost use Rattle.expr_parser.specs.ExprTerminals.{AreReadable, IsReadable};
+ghost use Rattle.expr_parser.specs.SymbolView.{terminal_of_symbol, terminals_of};
 ghost use Rattle.med_parser.specs.QueryTerminals as spec;
-ghost use Rattle.med_parser.specs.View.{shapes_of};
+ghost use Rattle.expr_parser.specs.View.{shapes_of};
 
-use crate::expr_symbols::{follows_is, symbol};
-use crate::symbols::Symbol;
+use expr_parser::expr_symbols::{follows_is, symbol};
+use expr_parser::symbols::Symbol;
 use med_lexer::{Kind, Token};
 use std::alloc::{AllocError, Global};
 

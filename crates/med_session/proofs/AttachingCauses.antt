@@ -13,7 +13,8 @@ use Rattle.fdw_api.specs.State.{BoxState}
 use Rattle.fdw_api.specs.declared.interface.Fault.TheVariants.{NoMemory, Source as SourceFailed, Refused}
 use Rattle.med_session.specs.World.{World, ForeignTable, table_named, column_names}
 use Rattle.med_session.specs.Causes.{phase}
-use Rattle.med_session.specs.Engine.{Shown, IsSound, Agrees, HasFailed}
+use Rattle.med_exec.specs.Running.{HasFailed}
+use Rattle.med_session.specs.Engine.{Shown, IsSound, Agrees}
 use Rattle.med_session.specs.Attaching.{repeats, IsFree, Reads, Objects, table_exists, column_twice, no_source, is_bound, limit_passed, not_read, IsToldOf, AttachCause, is_told, lacks_memory, source_fails, is_named, NameFault, name_taken, name_twice, NamesFree, StateFault, no_place, in_use, too_many, StateFree, before_bind, by_fault, AttachFails, by_names, by_state, by_memory, by_bind}
 use Rattle.med_session.proofs.Boxes.{now_there, same_box}
 use Rattle.med_session.proofs.AttachingWorlds.{as_many_tables, same_names, same_bound, free_at, one_kind, one_holdings, free_serves, not_served, some_entry, some_picked}

@@ -16,7 +16,7 @@ use Rattle.med_session.specs.Steps.{Trouble, TakesMemory, with_session, Does, St
 use Rattle.med_session.specs.Outcomes.{HasRows, Tells}
 use Rattle.med_session.specs.Engine.{Shown, user_in, user_of, IsSound, Agrees, Closes, ClosesAll, Befell, EachRises, Leads, IsAnswered}
 use Rattle.med_session.proofs.Boxes.{set_same, set_other, rises_itself}
-use Rattle.med_session.proofs.Told.{told_protocol, told_bye, told_closed}
+use Rattle.med_session.proofs.Told.{ArePhased, told_protocol, told_bye, told_closed}
 
 pub calm : Trouble
 calm = record { memory = false; source = false; numbers = false }
@@ -147,8 +147,8 @@ opened_twice e sid user is h = leads_refused e sid (opening user) Protocol (λ w
 pub closed_twice : (e : Shown) (sid : ℕ) → IsSid sid → is_some (user_of e.users sid) ≡ false → Leads e sid bye (refused NoConnection) e
 closed_twice e sid is h = leads_refused e sid bye NoConnection (λ w a. told_bye w sid (is_closed_by e w sid a is h))
 
-pub not_open : (e : Shown) (sid : ℕ) (text : List ℕ) → IsSid sid → is_some (user_of e.users sid) ≡ false → Leads e sid (sql text) (refused NoConnection) e
-not_open e sid text is h = leads_refused e sid (sql text) NoConnection (λ w a. told_closed w sid text (is_closed_by e w sid a is h))
+pub not_open : ArePhased → (e : Shown) (sid : ℕ) (text : List ℕ) → IsSid sid → is_some (user_of e.users sid) ≡ false → Leads e sid (sql text) (refused NoConnection) e
+not_open law e sid text is h = leads_refused e sid (sql text) NoConnection (λ w a. told_closed law w sid text (is_closed_by e w sid a is h))
 
 -- want of memory may take the place of rows
 with_memory : Trouble → Trouble

@@ -1,4 +1,3 @@
-pub mod Phases
 pub mod Told
 pub mod Boxes
 pub mod Keeping

@@ -8,7 +8,7 @@ use Rattle.tri_expr.specs.Query.{Tables, SameRows, IsAnswer}
 use Rattle.fdw_api.specs.State.{BoxState}
 use Rattle.pushdown.specs.Offered.{Place}
 use Rattle.med_exec.specs.Running.{AllServed, SlotShows, HasFailed, IsUsedUp, AllHonest, entry_rows, QueryCauses}
-use Rattle.med_parser.specs.QueryTree.{StatementTree}
+use Rattle.med_syntax.specs.QueryTree.{StatementTree}
 use Rattle.med_parser.specs.QueryGrammar.{HasStatement}
 use Rattle.med_parser.specs.QueryCauses.{SyntaxCauses}
 use Rattle.med_binder.specs.Scope.{TableShape}
@@ -27,11 +27,12 @@ use Rattle.med_session.specs.Selecting.{shape_of, meant_in, IsBindable, NotBound
 use Rattle.med_session.proofs.Boxes.{each_served_rises}
 use Rattle.med_session.proofs.Keeping.{with_boxes, served_agrees, served_sound}
 use Rattle.med_session.proofs.Finding.{shapes_agree, entries_agree}
-use Rattle.med_session.proofs.Told.{IsKnownAs, told_syntax, told_name, told_type, told_state, told_run, none_stands, none_before}
+use Rattle.med_session.proofs.Told.{ArePhased, IsKnownAs, told_syntax, told_name, told_type, told_state, told_run, none_stands, none_before}
 use Rattle.med_session.proofs.Leading.{calm, calm_befell, none_rises, leads_refused, leads_memory, is_open_by}
 
 -- what a statement's text and session give in every world that agrees
 pub record IsRead (e : Shown) (sid : ℕ) (text : List ℕ) (tree : StatementTree) : Type 0 where
+  pub phased : ArePhased
   pub is_sid : IsSid sid
   pub is_open : is_some (user_of e.users sid) ≡ true
   pub clear : (c : Cause) → SyntaxCauses text c → ⊥
@@ -39,7 +40,7 @@ pub record IsRead (e : Shown) (sid : ℕ) (text : List ℕ) (tree : StatementTre
   pub one : (a b : StatementTree) → HasStatement text a → HasStatement text b → a ≡ b
 
 known : (e : Shown) (w : World) (sid : ℕ) (text : List ℕ) (tree : StatementTree) → Agrees e w → IsRead e sid text tree → IsKnownAs w sid text tree
-known e w sid text tree a read = record { is_open = is_open_by e w sid a read.is_sid read.is_open; clear = read.clear; has = read.has; one = read.one }
+known e w sid text tree a read = record { phased = read.phased; is_open = is_open_by e w sid a read.is_sid read.is_open; clear = read.clear; has = read.has; one = read.one }
 
 -- the tables of a world that agrees have the engine's names and columns
 same_shapes_in : (e : Shown) (w : World) → Agrees e w → map shape_of e.tables ≡ shapes w.tables
@@ -172,6 +173,6 @@ fails_sound e new tree c sound (too_many clear many is same) = subst (λ (x : Li
 fails_sound e new tree c sound (run_fails clear few served places are h) = served_sound e new served sound
 
 -- a text that is not read
-pub not_read : (e : Shown) (sid : ℕ) (text : List ℕ) (c : Cause) → IsSid sid → is_some (user_of e.users sid) ≡ true → (c ≡ OutOfMemory) ⊎ SyntaxCauses text c → Leads e sid (sql text) (refused c) e
-not_read e sid text c is_sid is_open (inl is) = lacks e sid text c is
-not_read e sid text c is_sid is_open (inr h) = leads_refused e sid (sql text) c (λ w a. told_syntax w sid text c (is_open_by e w sid a is_sid is_open) h)
+pub not_read : ArePhased → (e : Shown) (sid : ℕ) (text : List ℕ) (c : Cause) → IsSid sid → is_some (user_of e.users sid) ≡ true → (c ≡ OutOfMemory) ⊎ SyntaxCauses text c → Leads e sid (sql text) (refused c) e
+not_read law e sid text c is_sid is_open (inl is) = lacks e sid text c is
+not_read law e sid text c is_sid is_open (inr h) = leads_refused e sid (sql text) c (λ w a. told_syntax law w sid text c (is_open_by e w sid a is_sid is_open) h)

@@ -25,7 +25,7 @@ use Rattle.pushdown.specs.declared.offers.Offer.{Offer}
 use Rattle.pushdown.specs.declared.accepting.EntryScan.{EntryScan}
 use Rattle.med_exec.specs.Slots.{HasTable}
 use Rattle.med_exec.specs.Running.{AllServed, AreBound, entry_rows, QueryCauses, Stops, lacks_memory, source_fails, numbers_end, query_shows}
-use Rattle.med_parser.specs.QueryTree.{StatementTree}
+use Rattle.med_syntax.specs.QueryTree.{StatementTree}
 use Rattle.med_binder.specs.Scope.{TableShape, table_shape}
 use Rattle.med_binder.specs.Meaning.{Meant, meant}
 use Rattle.med_binder.specs.Binding.{IsMeant, IsBound, IsEntryOf, BindCauses, BindTells}

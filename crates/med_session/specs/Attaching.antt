@@ -11,7 +11,8 @@ use Rattle.fdw_api.specs.declared.interface.Fault.{Fault}
 use Rattle.med_exec.specs.Slots.{ChangesAt}
 use Rattle.med_session.specs.World.{World, Source, free, dropped, ForeignTable, table_named, source_named, column_names}
 use Rattle.med_session.specs.Causes.{phase}
-use Rattle.med_session.specs.Engine.{Label, Attached, Shown, IsNamedAt, BoxBecomes, HasFailed}
+use Rattle.med_exec.specs.Running.{HasFailed}
+use Rattle.med_session.specs.Engine.{Label, Attached, Shown, IsNamedAt, BoxBecomes}
 use Rattle.med_session.specs.Selecting.{cause_of}
 use Rattle.med_session.specs.declared.sources.SourceKind.{SourceKind}
 

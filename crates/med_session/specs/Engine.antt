@@ -5,6 +5,7 @@ use Rattle.fdw_api.specs.Kinds.{Column, column_of}
 use Rattle.fdw_api.specs.State.{BoxState, Bound, is_honest, table_of, scan_of}
 use Rattle.med_exec.specs.Slots.{states, BoxAt, HasTable}
 use Rattle.med_exec.specs.Scanning.{tuples_of}
+use Rattle.med_exec.specs.Running.{HasFailed, IsUsedUp}
 use Rattle.med_session.specs.Requests.{Asked, IsSid, IsUser}
 use Rattle.med_session.specs.World.{World, Source, SourceState, free, dropped, ForeignTable, without_sessions}
 use Rattle.med_session.specs.Steps.{Trouble, Step, with_session}
@@ -144,14 +145,6 @@ pub record BoxBecomes (old new : List (Option BoxState)) (P : BoxState → BoxSt
   pub was : slice_get old slot ≡ Some (Some before)
   pub is : slice_get new slot ≡ Some (Some after)
   pub holds : P before after
-
--- a source's fault was counted, or the count stands at its end
-abbrev pub HasFailed : BoxState → BoxState → Type 0
-HasFailed old new = (old.ledger.faults < new.ledger.faults) ⊎ (2 ^ 64 - 1 ≤ new.ledger.faults)
-
--- the box has given all its ticket numbers, which end before 2^64 - 1
-abbrev pub IsUsedUp : BoxState → BoxState → Type 0
-IsUsedUp old new = new.ledger.next ≡ 2 ^ 64 - 1
 
 -- What trouble may be told of a request between these states: that a source failed or that numbers are used up only where a box shows
 -- it. Whether memory was refused, no box shows.

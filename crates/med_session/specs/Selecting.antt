@@ -11,7 +11,7 @@ use Rattle.fdw_api.specs.declared.scan.Agreement.{Agreement}
 use Rattle.pushdown.specs.declared.offers.Offer.{Offer}
 use Rattle.pushdown.specs.Offered.{Place}
 use Rattle.med_exec.specs.Running.{AllServed, SlotShows, HasFailed, IsUsedUp, AllHonest, entry_rows, QueryCauses}
-use Rattle.med_parser.specs.QueryTree.{StatementTree}
+use Rattle.med_syntax.specs.QueryTree.{StatementTree}
 use Rattle.med_binder.specs.Scope.{TableShape}
 use Rattle.med_binder.specs.Meaning.{Meant, meant}
 use Rattle.med_binder.specs.Binding.{BindCauses, BindTells}

@@ -5,7 +5,7 @@ use Rattle.med_value.specs.declared.cause.Cause.{Cause}
 use Rattle.med_value.specs.declared.cause.Cause.TheVariants.{LimitExceeded, OutOfMemory, SourceFault}
 use Rattle.tri_expr.specs.Query.{IsAnswer}
 use Rattle.fdw_api.specs.State.{set_at}
-use Rattle.med_parser.specs.QueryTree.{StatementTree}
+use Rattle.med_syntax.specs.QueryTree.{StatementTree}
 use Rattle.med_parser.specs.QueryGrammar.{HasStatement}
 use Rattle.med_session.specs.Requests.{Asked, opening, sql, bye}
 use Rattle.med_session.specs.World.{World}

@@ -9,6 +9,7 @@ use crate::sources::NamedSource;
 use crate::users::is_user;
 use fdw_api::interface::Wrapper;
 use med_binder::AttachedTable;
+use med_binder::law::causes_have_their_phase;
 use med_parser::{one_tree, parse};
 use med_value::Cause;
 use std::alloc::Global;
@@ -166,6 +167,7 @@ impl<W: Wrapper> Engine<W> {
         ensures sound { IsSound (shown W.meaning self.new) }
         ensures leads { Leads (shown W.meaning self.old) sid.number (sql text.now) (reply_of result) (shown W.meaning self.new) }
     {
+        causes_have_their_phase();
         let Some(user) = user_in(&self.users, sid) else {
             return Outcome::Refused(Cause::NoConnection);
         };

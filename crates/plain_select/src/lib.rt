@@ -11,6 +11,3 @@ mod rows;
 mod sorting;
 
 pub use answer::plain_answer;
-
-#[cfg(test)]
-mod tests;

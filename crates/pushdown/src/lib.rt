@@ -12,6 +12,3 @@ mod offers;
 pub use accepting::{EntryScan, Split, accept};
 pub use offering::offer;
 pub use offers::{Offer, Offers};
-
-#[cfg(test)]
-mod tests;

@@ -4,7 +4,8 @@ use Rattle.std.proofs.lemmas.Bool.{cases_lt}
 use Rattle.fdw_api.specs.State.{BoxState}
 use Rattle.med_session.specs.World.{World, without_sessions}
 use Rattle.med_session.specs.Steps.{Trouble}
-use Rattle.med_session.specs.Engine.{shown, Agrees, BoxBecomes, HasFailed, IsUsedUp, Befell, Rises, EachRises}
+use Rattle.med_exec.specs.Running.{HasFailed, IsUsedUp}
+use Rattle.med_session.specs.Engine.{shown, Agrees, BoxBecomes, Befell, Rises, EachRises}
 use Rattle.med_session.specs.declared.engine.Engine.{Engine}
 use Rattle.session_wire.specs.Engines.{EngineSteps, EngineEnds, EngineRises}
 use Rattle.session_wire.specs.Lines.{lines_of}

@@ -4,7 +4,8 @@ use Rattle.fdw_api.specs.State.{BoxState}
 use Rattle.med_session.specs.World.{World, without_sessions}
 use Rattle.med_session.specs.Replies.{Reply, reply_text}
 use Rattle.med_session.specs.Steps.{Trouble, Step}
-use Rattle.med_session.specs.Engine.{BoxBecomes, HasFailed, IsUsedUp}
+use Rattle.med_exec.specs.Running.{HasFailed, IsUsedUp}
+use Rattle.med_session.specs.Engine.{BoxBecomes}
 use Rattle.session_wire.specs.Run.{Steps}
 
 -- What trouble may befall a line between these states: that a source failed only where a box counted a fault since the first, or its

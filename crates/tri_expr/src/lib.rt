@@ -26,6 +26,3 @@ pub use risk::is_risky;
 pub use same::is_same;
 pub use select::{Grouping, Join, JoinChain, Select, SortDirection, is_safe_from};
 pub use verdicts::{verdict, verdict_class};
-
-#[cfg(test)]
-mod tests;

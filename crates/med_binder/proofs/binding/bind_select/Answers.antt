@@ -1,6 +1,6 @@
 use Rattle.std.proofs.Common.{map}
 use Rattle.std.proofs.lemmas.Result.{err_from_is_err_and}
-use Rattle.med_parser.specs.QueryView.{select_tree}
+use Rattle.med_syntax.specs.QueryView.{select_tree}
 use Rattle.med_binder.specs.Scope.{table_shape}
 use Rattle.med_binder.specs.Naming.{select_name_causes}
 use Rattle.med_binder.specs.Typing.{written_type_causes, select_type_causes, form_causes}

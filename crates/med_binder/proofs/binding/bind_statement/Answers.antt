@@ -1,5 +1,5 @@
 use Rattle.std.proofs.Common.{map, sym, subst}
-use Rattle.med_parser.specs.QueryTree.{StatementTree}
+use Rattle.med_syntax.specs.QueryTree.{StatementTree}
 use Rattle.med_binder.specs.Scope.{table_shape}
 use Rattle.med_binder.specs.Naming.{statement_name_causes}
 use Rattle.med_binder.specs.Typing.{statement_type_causes}

@@ -1,6 +1,6 @@
 use Rattle.std.proofs.Common.{flat_map}
 use Rattle.std.proofs.lemmas.Result.{err_from_is_err_and}
-use Rattle.med_parser.specs.QueryView.{select_tree}
+use Rattle.med_syntax.specs.QueryView.{select_tree}
 use Rattle.med_binder.specs.Scope.{scope_of}
 use Rattle.med_binder.specs.Typing.{item_type_causes, condition_type_causes}
 use Rattle.med_binder.proofs.Causes.{tells_left, tells_right}

@@ -1,5 +1,5 @@
 use Rattle.std.proofs.Common.{◌≡◌, map, drop, flat_map}
-use Rattle.med_parser.specs.QueryView.{chain_tree}
+use Rattle.med_syntax.specs.QueryView.{chain_tree}
 use Rattle.med_binder.specs.Scope.{table_shape}
 use Rattle.med_binder.specs.Typing.{chain_type_causes}
 use Rattle.med_binder.proofs.checks.check_from.Given as goal

@@ -1,7 +1,7 @@
 use Rattle.std.proofs.Common.{◌≡◌, ◌+◌, ◌<◌, ◌++◌, [], ◌∷◌, ◌∙◌, length, map, drop, ap, arith}
 use Rattle.std.proofs.lemmas.List.{map-append}
 use Rattle.std.proofs.lemmas.Result.{err_from_is_err_and}
-use Rattle.med_parser.specs.QueryView.{join_tree}
+use Rattle.med_syntax.specs.QueryView.{join_tree}
 use Rattle.med_binder.specs.Scope.{TableShape, Scope, scope_of, visible, table_shape, entry_shape}
 use Rattle.med_binder.specs.Meaning.{with_join}
 use Rattle.med_binder.specs.Typing.{on_type_causes, joins_type_causes}

@@ -1,5 +1,5 @@
 use Rattle.std.proofs.Common.{◌≡◌, [], ◌∷◌, map, drop}
-use Rattle.med_parser.specs.QueryView.{join_tree}
+use Rattle.med_syntax.specs.QueryView.{join_tree}
 use Rattle.med_binder.specs.Scope.{scope_of, table_shape, visible}
 use Rattle.med_binder.specs.Typing.{joins_type_causes}
 use Rattle.med_binder.proofs.checks.check_joins.Given as goal

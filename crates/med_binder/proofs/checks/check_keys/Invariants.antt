@@ -1,5 +1,5 @@
 use Rattle.std.proofs.Common.{◌≡◌, map, drop, flat_map}
-use Rattle.med_parser.specs.QueryView.{key_tree}
+use Rattle.med_syntax.specs.QueryView.{key_tree}
 use Rattle.med_binder.specs.Scope.{scope_of}
 use Rattle.med_binder.specs.Kinds.{written_key_causes}
 use Rattle.med_binder.proofs.checks.check_keys.Given as goal

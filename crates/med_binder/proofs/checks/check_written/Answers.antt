@@ -1,7 +1,7 @@
 use Rattle.std.proofs.Common.{◌≡◌, List, map, ap, subst, ◌∙◌}
 use Rattle.med_value.specs.declared.cause.Cause.{Cause}
-use Rattle.med_parser.specs.declared.statement.Chain.{Chain}
-use Rattle.med_parser.specs.QueryView.{chain_tree, select_tree}
+use Rattle.med_syntax.specs.declared.statement.Chain.{Chain}
+use Rattle.med_syntax.specs.QueryView.{chain_tree, select_tree}
 use Rattle.med_binder.specs.Scope.{Scope, scope_of, table_shape, from_scope}
 use Rattle.med_binder.specs.Telling.{Passes}
 use Rattle.med_binder.specs.Kinds.{asked_type_causes}

@@ -1,5 +1,5 @@
 use Rattle.std.proofs.Common.{◌∙◌, map, length, ap, sym, refl}
-use Rattle.med_parser.specs.QueryView.{entry_tree}
+use Rattle.med_syntax.specs.QueryView.{entry_tree}
 use Rattle.med_binder.specs.Scope.{table_shape, place_named}
 use Rattle.med_binder.proofs.Tables.{entry_placed, entry_known}
 use Rattle.med_binder.proofs.from.bound_entry.Goals as goal

@@ -1,5 +1,5 @@
 use Rattle.std.proofs.Common.{◌≡◌, ◌++◌, map, drop}
-use Rattle.med_parser.specs.QueryView.{chain_tree}
+use Rattle.med_syntax.specs.QueryView.{chain_tree}
 use Rattle.med_binder.specs.Scope.{entries_of}
 use Rattle.med_binder.specs.Shown.{seen_entry}
 use Rattle.med_binder.proofs.from.push_chains.Given as goal

@@ -1,5 +1,5 @@
 use Rattle.std.proofs.Common.{◌≡◌, ◌++◌, map, drop}
-use Rattle.med_parser.specs.QueryView.{join_tree}
+use Rattle.med_syntax.specs.QueryView.{join_tree}
 use Rattle.med_binder.specs.Scope.{joined_entry}
 use Rattle.med_binder.specs.Shown.{seen_entry}
 use Rattle.med_binder.proofs.from.push_joined.Given as goal

@@ -1,5 +1,5 @@
 use Rattle.std.proofs.Common.{◌≡◌, ◌++◌, map, flat_map, drop}
-use Rattle.med_parser.specs.QueryView.{chain_tree}
+use Rattle.med_syntax.specs.QueryView.{chain_tree}
 use Rattle.tri_expr.specs.Form.{chain_form}
 use Rattle.med_binder.specs.Scope.{table_shape}
 use Rattle.med_binder.specs.Naming.{chain_name_causes}

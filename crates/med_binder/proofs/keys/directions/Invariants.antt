@@ -1,5 +1,5 @@
 use Rattle.std.proofs.Common.{◌≡◌, ◌++◌, map, drop}
-use Rattle.med_parser.specs.QueryView.{key_tree}
+use Rattle.med_syntax.specs.QueryView.{key_tree}
 use Rattle.tri_expr.specs.Select.{direction_of}
 use Rattle.med_binder.specs.Meaning.{key_direction}
 use Rattle.med_binder.proofs.keys.directions.Given as goal

@@ -1,7 +1,7 @@
 use Rattle.std.proofs.Common.{◌<◌, ◌++◌, ◌∷◌, [], ◌∙◌, sym, length, map, flat_map, ap, arith}
 use Rattle.std.proofs.lemmas.List.{map-append}
 use Rattle.std.proofs.lemmas.Result.{err_from_is_err_and}
-use Rattle.med_parser.specs.QueryView.{key_tree}
+use Rattle.med_syntax.specs.QueryView.{key_tree}
 use Rattle.tri_expr.specs.Tree.{tree}
 use Rattle.med_binder.specs.Scope.{scope_of}
 use Rattle.med_binder.specs.Naming.{key_name_causes}

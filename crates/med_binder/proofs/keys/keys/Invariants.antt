@@ -1,5 +1,5 @@
 use Rattle.std.proofs.Common.{◌≡◌, ◌++◌, map, flat_map, drop}
-use Rattle.med_parser.specs.QueryView.{key_tree}
+use Rattle.med_syntax.specs.QueryView.{key_tree}
 use Rattle.tri_expr.specs.Tree.{tree}
 use Rattle.med_binder.specs.Scope.{scope_of}
 use Rattle.med_binder.specs.Naming.{key_name_causes}

@@ -1,5 +1,5 @@
 use Rattle.std.proofs.Common.{◌≡◌, ◌++◌, map, flat_map, drop}
-use Rattle.med_parser.specs.QueryView.{group_tree}
+use Rattle.med_syntax.specs.QueryView.{group_tree}
 use Rattle.med_binder.specs.Scope.{scope_of}
 use Rattle.med_binder.specs.Naming.{group_name_causes}
 use Rattle.med_binder.specs.Meaning.{group_place}

@@ -1,6 +1,6 @@
 use Rattle.std.proofs.Common.{◌≡◌, [], ◌∙◌, map, flat_map, ap, sym, subst}
 use Rattle.std.proofs.lemmas.Result.{err_from_is_err_and}
-use Rattle.med_parser.specs.QueryView.{chain_tree, select_tree}
+use Rattle.med_syntax.specs.QueryView.{chain_tree, select_tree}
 use Rattle.med_binder.specs.Scope.{table_shape, scope_of, entry_shape, entries_of}
 use Rattle.med_binder.specs.Naming.{entry_causes, alias_causes}
 use Rattle.med_binder.specs.Shown.{seen_entry, name_of}

@@ -1,5 +1,5 @@
 use Rattle.std.proofs.Common.{◌≡◌, ◌++◌, map, drop, flat_map}
-use Rattle.med_parser.specs.QueryView.{item_tree}
+use Rattle.med_syntax.specs.QueryView.{item_tree}
 use Rattle.med_binder.specs.Scope.{scope_of}
 use Rattle.med_binder.specs.Naming.{item_name_causes}
 use Rattle.med_binder.specs.Meaning.{item_outputs}

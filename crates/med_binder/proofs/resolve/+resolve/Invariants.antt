@@ -1,6 +1,6 @@
 use Rattle.std.proofs.Common.{◌≡◌, ◌≤◌, ◌+◌, ◌*◌, map, max, drop}
-use Rattle.med_parser.specs.ExprTree.{height, highest}
-use Rattle.med_parser.specs.ExprView.{expr_tree, expr_trees}
+use Rattle.med_syntax.specs.ExprTree.{height, highest}
+use Rattle.med_syntax.specs.ExprView.{expr_tree, expr_trees}
 use Rattle.tri_expr.specs.Tree.{tree, part}
 use Rattle.med_binder.specs.Scope.{scope_of}
 use Rattle.med_binder.specs.Naming.{name_causes_of_all}

@@ -1,7 +1,7 @@
 use Rattle.std.proofs.Common.{◌+◌, ◌<◌, ◌++◌, [], ◌∷◌, length, drop, ◌∙◌, ap, arith, string_bytes}
 use Rattle.std.proofs.lemmas.List.{drop_all}
 use Rattle.std.proofs.lemmas.Result.{err_from_is_err_and}
-use Rattle.med_parser.specs.ExprView.{expr_tree, expr_trees}
+use Rattle.med_syntax.specs.ExprView.{expr_tree, expr_trees}
 use Rattle.med_binder.specs.Scope.{scope_of}
 use Rattle.med_binder.specs.Meaning.{function_named}
 use Rattle.med_binder.specs.Typing.{type_of, types_of, comparing, as_condition, as_text, type_causes, type_causes_of_all, condition_causes}

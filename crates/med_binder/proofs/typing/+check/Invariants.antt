@@ -1,6 +1,6 @@
 use Rattle.std.proofs.Common.{◌≡◌, ◌≤◌, ◌+◌, ◌*◌, ◌∷◌, max, drop}
-use Rattle.med_parser.specs.ExprTree.{height, highest}
-use Rattle.med_parser.specs.ExprView.{expr_tree, expr_trees}
+use Rattle.med_syntax.specs.ExprTree.{height, highest}
+use Rattle.med_syntax.specs.ExprView.{expr_tree, expr_trees}
 use Rattle.med_binder.specs.Scope.{scope_of}
 use Rattle.med_binder.specs.Typing.{types_of, comparing, type_causes_of_all, condition_causes}
 use Rattle.med_binder.proofs.typing.+check.Given as goal

@@ -1,6 +1,6 @@
 use Rattle.std.proofs.Common.{map}
 use Rattle.med_value.specs.Datum.{tuple}
-use Rattle.med_exec.specs.Select.{tables_of}
+use Rattle.tri_expr.specs.Select.{tables_of}
 use Rattle.med_exec.specs.Staging.{output_of}
 use Rattle.med_exec.proofs.Finished.{told_all, small_all, answered_all}
 use Rattle.med_exec.proofs.answers.answer.Goals as goal

@@ -1,11 +1,10 @@
 use Rattle.std.proofs.Common.{List, map, refl, sym, subst}
 use Rattle.med_value.specs.Datum.{tuple}
 use Rattle.med_value.specs.declared.value.Row.{Row}
-use Rattle.tri_expr.specs.Select.{query_of}
+use Rattle.tri_expr.specs.Select.{query_of, tables_of}
 use Rattle.tri_expr.specs.Query.{IsAnswer}
 use Rattle.pushdown.specs.Offered.{scan_place}
 use Rattle.med_exec.specs.Slots.{states}
-use Rattle.med_exec.specs.Select.{tables_of}
 use Rattle.med_exec.specs.Staging.{tuples_in}
 use Rattle.med_exec.specs.Rests.{Rests}
 use Rattle.med_exec.proofs.TableReads.{begins, shown_stops}

@@ -1,11 +1,11 @@
 use Rattle.std.proofs.Common.{ap, ◌∙◌, List, [], ◌∷◌, ◌++◌, Bor, map}
 use Rattle.std.proofs.lemmas.Result.{err_from_is_err_and}
-use Rattle.med_parser.specs.declared.statement.GroupColumn.{GroupColumn}
-use Rattle.med_parser.specs.declared.symbols.Symbol.{Symbol}
-use Rattle.med_parser.specs.ExprView.{terminals_of}
+use Rattle.med_syntax.specs.declared.statement.GroupColumn.{GroupColumn}
+use Rattle.expr_parser.specs.declared.symbols.Symbol.{Symbol}
+use Rattle.expr_parser.specs.SymbolView.{terminals_of}
 use Rattle.med_parser.specs.QueryGrammar.{SpellsGroup}
 use Rattle.med_parser.specs.QueryReading.{group_of}
-use Rattle.med_parser.specs.QueryView.{group_tree}
+use Rattle.med_syntax.specs.QueryView.{group_tree}
 use Rattle.med_parser.proofs.QueryLoop.{list_start, list_end, list_failed, list_unstarted, parts_more, parts_shorter}
 use Rattle.med_parser.proofs.QuerySound.{flat, group_sound}
 use Rattle.med_parser.proofs.query_keys.group_list.Goals as goal

@@ -1,12 +1,12 @@
 use Rattle.std.proofs.Common.{ap, ◌∙◌, List, [], ◌∷◌, ◌++◌, Bor, map}
 use Rattle.std.proofs.lemmas.Result.{err_from_is_err_and}
-use Rattle.med_parser.specs.declared.statement.OrderKey.{OrderKey}
-use Rattle.med_parser.specs.declared.symbols.Symbol.{Symbol}
-use Rattle.med_parser.specs.ExprView.{terminals_of}
+use Rattle.med_syntax.specs.declared.statement.OrderKey.{OrderKey}
+use Rattle.expr_parser.specs.declared.symbols.Symbol.{Symbol}
+use Rattle.expr_parser.specs.SymbolView.{terminals_of}
 use Rattle.med_parser.specs.QueryGrammar.{SpellsKey}
 use Rattle.med_parser.specs.QueryReading.{key_of}
-use Rattle.med_parser.specs.QueryTree.{key_height}
-use Rattle.med_parser.specs.QueryView.{key_tree}
+use Rattle.med_syntax.specs.QueryTree.{key_height}
+use Rattle.med_syntax.specs.QueryView.{key_tree}
 use Rattle.med_parser.proofs.QueryLoop.{list_start, list_end, list_failed, list_unstarted, parts_more, parts_shorter}
 use Rattle.med_parser.proofs.QuerySound.{key_sound}
 use Rattle.med_parser.proofs.query_keys.key_list.Goals as goal

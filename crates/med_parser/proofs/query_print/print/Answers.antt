@@ -2,8 +2,8 @@ use Rattle.std.proofs.Common.{arith, List, ℕ, ◌≡◌, ◌∷◌, ap, sym, s
 use Rattle.std.specs.String.{string_bytes}
 use Rattle.med_parser.specs.QueryGrammar.{HasStatement}
 use Rattle.med_parser.specs.QueryPrinting.{printed_statement}
-use Rattle.med_parser.specs.QueryView.{statement_tree}
-use Rattle.med_parser.proofs.ExprPrints.{removed}
+use Rattle.med_syntax.specs.QueryView.{statement_tree}
+use Rattle.expr_parser.proofs.ExprPrints.{removed}
 use Rattle.med_parser.proofs.QueryPrints.{spaced}
 use Rattle.med_parser.proofs.query_print.print.Goals as goal
 

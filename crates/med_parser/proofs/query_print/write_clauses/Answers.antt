@@ -1,13 +1,13 @@
 use Rattle.std.proofs.Common.{◌++◌, ◌∷◌, List, [], codes, subst, map}
 use Rattle.std.specs.String.{string_bytes}
-use Rattle.med_parser.specs.ExprTree.{spelling}
-use Rattle.med_parser.specs.ExprPrinting.{Wrote}
-use Rattle.med_parser.proofs.ExprPrints.{then_if}
-use Rattle.med_parser.specs.declared.statement.Chain.{Chain}
-use Rattle.med_parser.specs.declared.statement.GroupColumn.{GroupColumn}
+use Rattle.med_syntax.specs.ExprTree.{spelling}
+use Rattle.expr_parser.specs.ExprPrinting.{Wrote}
+use Rattle.med_parser.proofs.Writing.{then_if}
+use Rattle.med_syntax.specs.declared.statement.Chain.{Chain}
+use Rattle.med_syntax.specs.declared.statement.GroupColumn.{GroupColumn}
 use Rattle.med_parser.specs.QueryPrinting.{chain_written, group_written, listed_written, perhaps_written, tail_written}
-use Rattle.med_parser.specs.QueryTree.{SelectTree}
-use Rattle.med_parser.specs.QueryView.{chain_tree, group_tree, select_tree}
+use Rattle.med_syntax.specs.QueryTree.{SelectTree}
+use Rattle.med_syntax.specs.QueryView.{chain_tree, group_tree, select_tree}
 use Rattle.med_parser.proofs.query_print.write_clauses.Goals as goal
 
 pub returns : goal.returns

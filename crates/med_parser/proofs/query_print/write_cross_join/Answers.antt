@@ -1,8 +1,8 @@
 use Rattle.std.proofs.Common.{◌∷◌, codes}
-use Rattle.med_parser.specs.Terminal as t
-use Rattle.med_parser.proofs.ExprPrints.{more_if}
+use Rattle.med_syntax.specs.Terminal as t
+use Rattle.med_parser.proofs.Writing.{more_if}
 use Rattle.med_parser.specs.QueryPrinting.{entry_written}
-use Rattle.med_parser.specs.QueryView.{entry_tree}
+use Rattle.med_syntax.specs.QueryView.{entry_tree}
 use Rattle.med_parser.proofs.query_print.write_cross_join.Goals as goal
 
 pub returns : goal.returns

@@ -1,7 +1,7 @@
 use Rattle.std.proofs.Common.{◌++◌, codes}
-use Rattle.med_parser.specs.ExprTree.{spelling}
-use Rattle.med_parser.specs.ExprView.{expr_tree}
-use Rattle.med_parser.proofs.ExprPrints.{then_if}
+use Rattle.med_syntax.specs.ExprTree.{spelling}
+use Rattle.med_syntax.specs.ExprView.{expr_tree}
+use Rattle.med_parser.proofs.Writing.{then_if}
 use Rattle.med_parser.specs.QueryPrinting.{flag_written, nulls_written}
 use Rattle.med_parser.proofs.query_print.write_key.Goals as goal
 

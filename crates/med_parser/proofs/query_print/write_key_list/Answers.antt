@@ -1,7 +1,7 @@
 use Rattle.std.proofs.Common.{map}
 use Rattle.med_parser.specs.QueryPrinting.{key_written, others_written}
-use Rattle.med_parser.specs.QueryView.{key_tree}
-use Rattle.med_parser.proofs.ExprPrints.{then_if}
+use Rattle.med_syntax.specs.QueryView.{key_tree}
+use Rattle.med_parser.proofs.Writing.{then_if}
 use Rattle.med_parser.proofs.query_print.write_key_list.Goals as goal
 
 pub returns : goal.returns

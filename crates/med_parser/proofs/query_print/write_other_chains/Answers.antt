@@ -1,6 +1,6 @@
 use Rattle.std.proofs.Common.{map, rules}
 use Rattle.std.specs.String.{string_bytes}
-use Rattle.med_parser.specs.QueryView.{chain_tree}
+use Rattle.med_syntax.specs.QueryView.{chain_tree}
 use Rattle.med_parser.proofs.QueryPrints.{chains_next}
 use Rattle.med_parser.proofs.query_print.write_other_chains.Goals as goal
 

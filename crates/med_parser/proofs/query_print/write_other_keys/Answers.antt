@@ -1,6 +1,6 @@
 use Rattle.std.proofs.Common.{map, rules}
 use Rattle.std.specs.String.{string_bytes}
-use Rattle.med_parser.specs.QueryView.{key_tree}
+use Rattle.med_syntax.specs.QueryView.{key_tree}
 use Rattle.med_parser.proofs.QueryPrints.{keys_next}
 use Rattle.med_parser.proofs.query_print.write_other_keys.Goals as goal
 

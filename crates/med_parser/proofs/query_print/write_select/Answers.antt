@@ -1,12 +1,12 @@
 use Rattle.std.proofs.Common.{◌++◌, List, codes, subst}
 use Rattle.std.specs.String.{string_bytes}
-use Rattle.med_parser.specs.Terminal as t
-use Rattle.med_parser.specs.ExprPrinting.{Wrote}
-use Rattle.med_parser.proofs.ExprPrints.{then_if, more_if}
-use Rattle.med_parser.specs.declared.statement.Item.{Item}
+use Rattle.med_syntax.specs.Terminal as t
+use Rattle.expr_parser.specs.ExprPrinting.{Wrote}
+use Rattle.med_parser.proofs.Writing.{then_if, more_if}
+use Rattle.med_syntax.specs.declared.statement.Item.{Item}
 use Rattle.med_parser.specs.QueryPrinting.{item_written, list_written, quantifier_written, clauses_written}
-use Rattle.med_parser.specs.QueryTree.{SelectTree}
-use Rattle.med_parser.specs.QueryView.{items_tree, select_tree}
+use Rattle.med_syntax.specs.QueryTree.{SelectTree}
+use Rattle.med_syntax.specs.QueryView.{items_tree, select_tree}
 use Rattle.med_parser.proofs.query_print.write_select.Goals as goal
 
 pub returns : goal.returns

@@ -1,11 +1,11 @@
 use Rattle.std.proofs.Common.{◌++◌, ◌∷◌, List, [], codes, subst, map}
 use Rattle.std.specs.String.{string_bytes}
-use Rattle.med_parser.specs.ExprPrinting.{Wrote}
-use Rattle.med_parser.proofs.ExprPrints.{then_if}
-use Rattle.med_parser.specs.declared.statement.OrderKey.{OrderKey}
+use Rattle.expr_parser.specs.ExprPrinting.{Wrote}
+use Rattle.med_parser.proofs.Writing.{then_if}
+use Rattle.med_syntax.specs.declared.statement.OrderKey.{OrderKey}
 use Rattle.med_parser.specs.QueryPrinting.{key_written, listed_written, limit_written, offset_written}
-use Rattle.med_parser.specs.QueryTree.{SelectTree}
-use Rattle.med_parser.specs.QueryView.{key_tree, select_tree}
+use Rattle.med_syntax.specs.QueryTree.{SelectTree}
+use Rattle.med_syntax.specs.QueryView.{key_tree, select_tree}
 use Rattle.med_parser.proofs.query_print.write_tail.Goals as goal
 
 pub returns : goal.returns

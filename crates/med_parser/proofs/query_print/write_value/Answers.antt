@@ -1,9 +1,9 @@
 use Rattle.std.specs.Prelude.{option_map}
 use Rattle.std.specs.String.{string_bytes}
-use Rattle.med_parser.specs.ExprTree.{spelling}
-use Rattle.med_parser.specs.ExprView.{expr_tree}
+use Rattle.med_syntax.specs.ExprTree.{spelling}
+use Rattle.med_syntax.specs.ExprView.{expr_tree}
 use Rattle.med_parser.specs.QueryPrinting.{alias_written}
-use Rattle.med_parser.proofs.ExprPrints.{then_if}
+use Rattle.med_parser.proofs.Writing.{then_if}
 use Rattle.med_parser.proofs.query_print.write_value.Goals as goal
 
 pub returns : goal.returns

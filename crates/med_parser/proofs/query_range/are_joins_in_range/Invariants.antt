@@ -1,6 +1,6 @@
 use Rattle.std.proofs.Common.{◌≡◌, length, map}
 use Rattle.med_parser.specs.QueryCauses.{all_in_range, join_in_range}
-use Rattle.med_parser.specs.QueryView.{join_tree}
+use Rattle.med_syntax.specs.QueryView.{join_tree}
 use Rattle.med_parser.proofs.query_range.are_joins_in_range.Given as goal
 
 abbrev pub invariant-loop-left : goal.invariant-loop-left

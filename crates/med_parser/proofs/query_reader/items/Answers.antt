@@ -1,12 +1,12 @@
 use Rattle.std.proofs.Common.{ap, ◌∙◌, List, [], ◌∷◌, ◌++◌, Bor, map}
 use Rattle.std.proofs.lemmas.Result.{err_from_is_err_and}
-use Rattle.med_parser.specs.declared.statement.Item.{Item}
-use Rattle.med_parser.specs.declared.symbols.Symbol.{Symbol}
-use Rattle.med_parser.specs.ExprView.{terminals_of}
+use Rattle.med_syntax.specs.declared.statement.Item.{Item}
+use Rattle.expr_parser.specs.declared.symbols.Symbol.{Symbol}
+use Rattle.expr_parser.specs.SymbolView.{terminals_of}
 use Rattle.med_parser.specs.QueryGrammar.{SpellsItem}
 use Rattle.med_parser.specs.QueryReading.{item_of}
-use Rattle.med_parser.specs.QueryTree.{item_height}
-use Rattle.med_parser.specs.QueryView.{item_tree}
+use Rattle.med_syntax.specs.QueryTree.{item_height}
+use Rattle.med_syntax.specs.QueryView.{item_tree}
 use Rattle.med_parser.proofs.QueryLoop.{list_start, list_end, list_failed, list_unstarted, parts_more, parts_shorter}
 use Rattle.med_parser.proofs.QuerySound.{item_sound}
 use Rattle.med_parser.proofs.query_reader.items.Goals as goal

@@ -1,9 +1,10 @@
 use Rattle.std.proofs.Common.{map, refl}
 use Rattle.std.specs.Prelude.{option_map}
 use Rattle.std.proofs.lemmas.Result.{err_from_is_err_and}
-use Rattle.med_parser.specs.ExprView.{expr_tree, terminals_of}
+use Rattle.med_syntax.specs.ExprView.{expr_tree}
+use Rattle.expr_parser.specs.SymbolView.{terminals_of}
 use Rattle.med_parser.specs.QueryReading.{select_of}
-use Rattle.med_parser.specs.QueryView.{item_tree, chain_tree, group_tree, key_tree, limit_tree}
+use Rattle.med_syntax.specs.QueryView.{item_tree, chain_tree, group_tree, key_tree, limit_tree}
 use Rattle.med_parser.proofs.QuerySteps.{seq_goes, seq_reads, seq_fails}
 use Rattle.med_parser.proofs.query_reader.select.Goals as goal
 

@@ -1,12 +1,12 @@
 use Rattle.std.proofs.Common.{ap, ◌∙◌, List, [], ◌∷◌, ◌++◌, Bor, map}
 use Rattle.std.proofs.lemmas.Result.{err_from_is_err_and}
-use Rattle.med_parser.specs.declared.statement.Chain.{Chain}
-use Rattle.med_parser.specs.declared.symbols.Symbol.{Symbol}
-use Rattle.med_parser.specs.ExprView.{terminals_of}
+use Rattle.med_syntax.specs.declared.statement.Chain.{Chain}
+use Rattle.expr_parser.specs.declared.symbols.Symbol.{Symbol}
+use Rattle.expr_parser.specs.SymbolView.{terminals_of}
 use Rattle.med_parser.specs.QueryGrammar.{SpellsChain}
 use Rattle.med_parser.specs.QueryReading.{source_of}
-use Rattle.med_parser.specs.QueryTree.{chain_height}
-use Rattle.med_parser.specs.QueryView.{chain_tree}
+use Rattle.med_syntax.specs.QueryTree.{chain_height}
+use Rattle.med_syntax.specs.QueryView.{chain_tree}
 use Rattle.med_parser.proofs.QueryLoop.{list_start, list_end, list_failed, list_unstarted, parts_more, parts_shorter}
 use Rattle.med_parser.proofs.QuerySound.{chain_sound}
 use Rattle.med_parser.proofs.query_source.chain_list.Goals as goal

@@ -1,7 +1,7 @@
 use Rattle.std.proofs.Common.{length, map}
-use Rattle.med_parser.specs.ExprView.{terminals_of}
+use Rattle.expr_parser.specs.SymbolView.{terminals_of}
 use Rattle.med_parser.specs.QueryReading.{source_of}
-use Rattle.med_parser.specs.QueryView.{chain_tree}
+use Rattle.med_syntax.specs.QueryView.{chain_tree}
 use Rattle.med_parser.proofs.QueryLoop.{ListLoop}
 use Rattle.med_parser.proofs.query_source.chain_list.Given as goal
 

@@ -1,6 +1,6 @@
 use Rattle.std.proofs.Common.{length, map}
-use Rattle.med_parser.specs.ExprView.{terminals_of}
-use Rattle.med_parser.specs.QueryView.{join_tree}
+use Rattle.expr_parser.specs.SymbolView.{terminals_of}
+use Rattle.med_syntax.specs.QueryView.{join_tree}
 use Rattle.med_parser.proofs.QueryLoop.{JoinsLoop}
 use Rattle.med_parser.proofs.query_source.joins.Given as goal
 

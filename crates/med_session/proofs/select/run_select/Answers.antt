@@ -2,7 +2,7 @@ use Rattle.std.proofs.Common.{◌≡◌, ◌∙◌, ◌<◌, ◌≤◌, refl, ma
 use Rattle.std.proofs.lemmas.Result.{err_from_is_err_and}
 use Rattle.med_value.specs.Datum.{tuple}
 use Rattle.med_exec.specs.Slots.{states}
-use Rattle.med_parser.specs.QueryView.{statement_tree}
+use Rattle.med_syntax.specs.QueryView.{statement_tree}
 use Rattle.med_session.specs.Selecting.{not_bound}
 use Rattle.med_session.proofs.Selections.{unbound_in, entries_bound, selected, unanswered, crowded}
 use Rattle.med_session.proofs.select.run_select.Goals as goal

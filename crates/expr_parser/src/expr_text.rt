@@ -1,0 +1,171 @@
+//! Text to expressions.
+
+ghost use Rattle.std.specs.Prelude.{◌≡◌, ◌⊎◌, ◌<◌, ◌≤◌, ℕ, List, IfOk, OnOk, IfErr, false};
+ghost use Rattle.med_value.specs.declared.cause.Cause.{Cause};
+ghost use Rattle.med_syntax.specs.ExprTree.{ExprTree};
+ghost use Rattle.expr_parser.specs.ExprReading.{all_of};
+ghost use Rattle.expr_parser.specs.ExprWeight as spec;
+ghost use Rattle.med_lexer.specs.Printing.{AreShapes};
+ghost use Rattle.expr_parser.specs.ExprGrammar.{HasExpr, ExprCauses, IsExpression, TokenCauses, in_range, are_in_range};
+ghost use Rattle.expr_parser.specs.ExprTerminals.{AreReadable, terminals_at};
+ghost use Rattle.expr_parser.specs.View.{shapes_of};
+ghost use Rattle.med_syntax.specs.ExprView.{expr_tree, expr_trees};
+ghost use Rattle.expr_parser.specs.SymbolView.{terminal_of_symbol, terminals_of};
+ghost use Rattle.expr_parser.specs.ExprAnswers.{Gives};
+
+use crate::expr_reader::whole;
+use crate::expr_symbols::{has_unreadable, symbols_of};
+use crate::refusal::{ReadFault, Refusal};
+use crate::symbols::Symbol;
+use crate::token_list::{has_long_name, tokens_of};
+use med_lexer::{Token, tokens_can_be_printed};
+use med_syntax::Expr;
+use med_value::Cause;
+use std::alloc::Global;
+
+/// The greatest height of an expression, and how many heavy symbols are few.
+pub const MAX_HEIGHT: u32 = 64;
+
+/// Higher than any expression of few heavy symbols.
+pub const ROOM: u32 = 455;
+
+/// Whether an expression can get deeper without bound by such symbols.
+fn is_heavy(symbol: &Symbol) -> bool
+    ensures { result ≡ spec.is_heavy (terminal_of_symbol symbol.now) }
+{
+    matches!(symbol, Symbol::LeftParen | Symbol::Binary(_) | Symbol::Not)
+}
+
+/// How many symbols are heavy.
+pub fn weight(symbols: &[Symbol]) -> usize
+    ensures { result ≡ spec.weight (terminals_of symbols.now) }
+{
+    let mut heavy = 0;
+    let mut left = symbols;
+    while let [symbol, rest @ ..] = left {
+        heavy = if is_heavy(symbol) { heavy + 1 } else { heavy };
+        left = rest;
+    }
+    heavy
+}
+
+/// The expression that all of the symbols are, where it is no higher than the room.
+#[tactic(auto, unfolding(crate::specs::ExprReading::all_of))]
+fn all(alloc: Global, room: u32, symbols: &[Symbol]) -> Result<Expr, ReadFault>
+    requires { room < 1000 }
+    ensures { Gives expr_tree result (all_of room (terminals_of symbols.now)) }
+{
+    let found = whole(alloc, room, symbols)?;
+    if found.rest.is_empty() {
+        Ok(found.expr)
+    } else {
+        Err(ReadFault::Refused(Refusal::Syntax))
+    }
+}
+
+/// The expression that all of the symbols are. Where few of them are heavy, what is told to be too high is an expression.
+#[tactic(auto, unfolding(crate::specs::ExprWeight::bounded_of))]
+fn bounded(alloc: Global, symbols: &[Symbol]) -> Result<Expr, ReadFault>
+    ensures { Gives expr_tree result (spec.bounded_of (terminals_of symbols.now)) }
+{
+    match all(alloc, MAX_HEIGHT, symbols) {
+        Err(ReadFault::Refused(Refusal::TooHigh)) => {
+            if weight(symbols) > 64 {
+                return Err(ReadFault::Refused(Refusal::TooHigh));
+            }
+            match all(alloc, ROOM, symbols) {
+                Ok(_) => Err(ReadFault::Refused(Refusal::TooHigh)),
+                Err(ReadFault::Refused(_)) => Err(ReadFault::Refused(Refusal::Syntax)),
+                Err(ReadFault::NoMemory) => Err(ReadFault::NoMemory),
+            }
+        }
+        Err(fault) => Err(fault),
+        Ok(expr) => Ok(expr),
+    }
+}
+
+/// The expression that all of the tokens are.
+fn expr_of(alloc: Global, tokens: &[Token]) -> Result<Expr, ReadFault>
+    requires { AreReadable (shapes_of tokens.now) }
+    ensures { Gives expr_tree result (spec.bounded_of (terminals_at false (shapes_of tokens.now))) }
+{
+    let symbols = symbols_of(alloc, tokens)?;
+    bounded(alloc, &symbols)
+}
+
+/// The expression that all of the tokens are, or why it is refused.
+fn checked_expr(alloc: Global, tokens: &[Token]) -> Result<Expr, Cause>
+    requires { AreShapes (shapes_of tokens.now) }
+    ensures found { IfOk result (λ e. IsExpression (shapes_of tokens.now) (expr_tree e)) }
+    ensures clear { OnOk result ((c : Cause) → TokenCauses (shapes_of tokens.now) c → ⊥) }
+    ensures refused { IfErr result (λ c. (c ≡ Cause.OutOfMemory) ⊎ TokenCauses (shapes_of tokens.now) c) }
+{
+    if has_long_name(tokens) {
+        return Err(Cause::NameTooLong);
+    }
+    if has_unreadable(tokens) {
+        return Err(Cause::LiteralOutOfRange);
+    }
+    let expr = expr_of(alloc, tokens)?;
+    if is_in_range(&expr) {
+        Ok(expr)
+    } else {
+        Err(Cause::LiteralOutOfRange)
+    }
+}
+
+/// The expression that a text is, or why it is refused: 42601 where the text is not in the grammar of expressions, 22003 where a number
+/// is out of range, 42622 where a name has over 63 bytes, 54000 where the expression is higher than 64, or is none and has over 64 of
+/// the tokens `( + - * / %` and NOT, and 53200 where memory was refused. Where several stand, any of them may be told.
+pub fn expression(alloc: Global, text: &str) -> Result<Expr, Cause>
+    // What is answered is the text's one tree.
+    ensures found { IfOk result (λ e. HasExpr text.now (expr_tree e)) }
+    // A text for which a cause of this phase stands is not answered.
+    ensures clear { OnOk result ((c : Cause) → ExprCauses text.now c → ⊥) }
+    // A refusal tells a cause that stands for the text, or that memory was refused.
+    ensures refused { IfErr result (λ c. (c ≡ Cause.OutOfMemory) ⊎ ExprCauses text.now c) }
+    // Where no cause stands, only memory can be refused.
+    ensures read { ((c : Cause) → ExprCauses text.now c → ⊥) → IfErr result (λ c. c ≡ Cause.OutOfMemory) }
+{
+    let tokens = tokens_of(alloc, text)?;
+    tokens_can_be_printed();
+    checked_expr(alloc, &tokens)
+}
+
+/// Whether each number of the expression is in range.
+#[cycle(range)]
+pub fn is_in_range(expr: &Expr) -> bool
+    ensures { result ≡ in_range (expr_tree expr.now) }
+{
+    match expr {
+        Expr::Number(n) => *n <= 9223372036854775807,
+        Expr::Negative(n) => *n <= 9223372036854775808,
+        Expr::Text(_) | Expr::Truth(_) | Expr::Null | Expr::Column(_, _) | Expr::CallAll(_) => true,
+        Expr::Call(_, parts) => are_all_in_range(parts),
+        Expr::Paren(e) | Expr::Minus(e) | Expr::Not(e) => is_in_range(e),
+        Expr::Like(_, e, _) | Expr::Is(_, e, _) => is_in_range(e),
+        Expr::Binary(_, a, b) | Expr::Compare(_, a, b) => is_in_range(a) && is_in_range(b),
+        Expr::Between(_, e, low, high) => {
+            is_in_range(e) && (is_in_range(low) && is_in_range(high))
+        }
+        Expr::In(_, e, first, others) => {
+            is_in_range(e) && (is_in_range(first) && are_all_in_range(others))
+        }
+        Expr::Chain(_, first, others) => is_in_range(first) && are_all_in_range(others),
+    }
+}
+
+/// Whether each number of the expressions is in range.
+#[cycle(range)]
+fn are_all_in_range(exprs: &[Expr]) -> bool
+    ensures { result ≡ are_in_range (expr_trees exprs.now) }
+{
+    let mut left = exprs;
+    while let [expr, rest @ ..] = left {
+        if !is_in_range(expr) {
+            return false;
+        }
+        left = rest;
+    }
+    true
+}

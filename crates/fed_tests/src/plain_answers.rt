@@ -1,0 +1,37 @@
+//! Answers by hand.
+use med_value::{Row, Value};
+use plain_select::plain_answer;
+use std::test::Fail;
+use tri_expr::{Expr, JoinChain, Select};
+
+#[test]
+fn select_of_one_table(rt: HostRuntime) -> Result<(), Fail> {
+    let alloc = rt.alloc();
+    let first = Row {
+        cells: vec![in alloc; Value::Int(1), Value::Int(5)]?,
+    };
+    let second = Row {
+        cells: vec![in alloc; Value::Int(2), Value::Null]?,
+    };
+    let table = vec![in alloc; first, second]?;
+    let tables = vec![in alloc; table]?;
+    let chain = JoinChain {
+        first: 0,
+        joins: Vec::new(alloc),
+    };
+    let select = Select {
+        from: vec![in alloc; chain]?,
+        conditions: Vec::new(alloc),
+        grouping: None,
+        items: vec![in alloc; Expr::Column(1)]?,
+        distinct: false,
+        keys: Vec::new(alloc),
+        directions: Vec::new(alloc),
+        offset: 1,
+        limit: None,
+    };
+    let rows = plain_answer(alloc, &select, &tables)?;
+    let shown = format!(in alloc; "{rows:?}")?;
+    assert_eq!(rt; shown.as_str(), "[Row { cells: [Null] }]");
+    Ok(())
+}
