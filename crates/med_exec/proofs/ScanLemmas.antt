@@ -18,7 +18,8 @@ use Rattle.fdw_api.specs.Calls.{LeavesOthers, LeavesAll, bumped, faults_after, n
 use Rattle.fdw_api.specs.declared.interface.Fault.{Fault}
 use Rattle.fdw_api.specs.declared.interface.Fault.TheVariants.{NoMemory, Source, Refused}
 use Rattle.med_exec.specs.Reading.{pulled_after, cells_of, Keeps, GivesAll, StopsBy}
-use Rattle.med_exec.specs.Scanning.{tuples_of, ReadsTable, ScansTable, FailsTable, SelectsTable}
+use Rattle.med_planner.specs.Planned.{tuples_of}
+use Rattle.med_exec.specs.Scanning.{ReadsTable, RunsScan, ScansTable, FailsTable, SelectsTable}
 
 -- how many rows a scan may still give at most
 abbrev pub left_of : Option Scan → ℕ
@@ -231,13 +232,23 @@ all_come rows spec params coming none no_params c =
     (subst (λ (l : List Filter). All (λ r. meets_all l [] r.cells ≡ false) c.left_out) none (subst (λ (l : Tuple). All (λ r. meets_all spec.offered l r.cells ≡ false) c.left_out) no_params c.failing)) in
     (c.taken, subst (λ (l : List TableRow). IsPermutation rows l) (ap (λ (l : List TableRow). c.taken ++ l) out ∙ append-nil c.taken) c.parts, ap cells_of c.is ∙ shown_all spec c.taken)
 
-pub reads : (t n : ℕ) (spec : Spec) (params : Tuple) (old begun last new : BoxState) (given : List Tuple) → spec.offered ≡ [] → params ≡ [] → Begins old t spec params n begun → GivesAll n begun given last → Ends last n new → ScansTable old t spec given new
-reads t n spec params old begun last new given none no_params b g e = record {
+pub reads : (t n : ℕ) (spec : Spec) (old begun last new : BoxState) (given : List Tuple) → Begins old t spec [] n begun → GivesAll n begun given last → Ends last n new → RunsScan old t spec given new
+reads t n spec old begun last new given b g e = record {
   nature = e.nature ∙ g.keeps.nature ∙ b.nature;
   room = subst (λ (x : ℕ). x < 2 ^ 64 - 1) b.is_next b.room;
-  ledger = ledger_again t spec params n _ _ old begun last new b g.keeps (g.pulled ∙ ap (λ (z : Ledger). pulled_after (length given) z.pulled) b.ledger) (g.faults ∙ ap (λ z. z.faults) b.ledger) e;
-  leaves = left_again t spec params n old begun last new b g.keeps e;
-  rows = λ h. let w = all_come (rows_of old t) spec params (begun.content.coming n) none no_params (b.coming h) in (w.0, w.1, sym (g.all (honest_on old begun b.nature h)) ∙ w.2);
+  ledger = ledger_again t spec [] n _ _ old begun last new b g.keeps (g.pulled ∙ ap (λ (z : Ledger). pulled_after (length given) z.pulled) b.ledger) (g.faults ∙ ap (λ z. z.faults) b.ledger) e;
+  leaves = left_again t spec [] n old begun last new b g.keeps e;
+  rows = λ h. (begun.content.coming n, b.coming h, sym (g.all (honest_on old begun b.nature h)));
+}
+
+-- where nothing was offered the rows are the table's
+pub plain_scan : (t : ℕ) (spec : Spec) (given : List Tuple) (old new : BoxState) → spec.offered ≡ [] → RunsScan old t spec given new → ScansTable old t spec given new
+plain_scan t spec given old new none r = record {
+  nature = r.nature;
+  room = r.room;
+  ledger = r.ledger;
+  leaves = r.leaves;
+  rows = λ h. let w = r.rows h in let all = all_come (rows_of old t) spec [] w.0 none refl w.1 in (all.0, all.1, w.2 ∙ all.2);
 }
 
 -- a scan that is not narrow shows the rows whole
@@ -285,9 +296,9 @@ begin_fails fault old new r = record {
   cause = r.cause;
 }
 
-pub ok_reads : {T : Type 0} (rows : T → List Tuple) (t n : ℕ) (spec : Spec) (params : Tuple) (old begun last new : BoxState) (r : Result T Fault) → spec.offered ≡ [] → params ≡ [] → Begins old t spec params n begun → IfOk r (λ x. GivesAll n begun (rows x) last) → Ends last n new → IfOk r (λ x. ScansTable old t spec (rows x) new)
-ok_reads rows t n spec params old begun last new (Ok x) plain none b g e = reads t n spec params old begun last new (rows x) plain none b g e
-ok_reads rows t n spec params old begun last new (Err f) plain none b g e = tt
+pub ok_reads : {T : Type 0} (rows : T → List Tuple) (t n : ℕ) (spec : Spec) (old begun last new : BoxState) (r : Result T Fault) → Begins old t spec [] n begun → IfOk r (λ x. GivesAll n begun (rows x) last) → Ends last n new → IfOk r (λ x. RunsScan old t spec (rows x) new)
+ok_reads rows t n spec old begun last new (Ok x) b g e = reads t n spec old begun last new (rows x) b g e
+ok_reads rows t n spec old begun last new (Err f) b g e = tt
 
 pub err_fails : {T : Type 0} (t n : ℕ) (spec : Spec) (params : Tuple) (old begun last new : BoxState) (r : Result T Fault) → Begins old t spec params n begun → IfErr r (λ f. StopsBy n f begun last) → Ends last n new → IfErr r (λ f. FailsTable f old new)
 err_fails t n spec params old begun last new (Ok x) b g e = tt
@@ -305,7 +316,7 @@ selects t places rows given old new is r = record {
 }
 
 -- the table was read, and memory was refused after it
-pub reads_in_vain : (t : ℕ) (spec : Spec) (rows : List Tuple) (old new : BoxState) → ScansTable old t spec rows new → FailsTable NoMemory old new
+pub reads_in_vain : (t : ℕ) (spec : Spec) (rows : List Tuple) (old new : BoxState) → RunsScan old t spec rows new → FailsTable NoMemory old new
 reads_in_vain t spec rows old new r = record {
   nature = r.nature;
   next = old.ledger.next + 1;

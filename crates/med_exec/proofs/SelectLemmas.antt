@@ -6,16 +6,16 @@ use Rattle.std.proofs.lemmas.List.{length-map}
 use Rattle.std.proofs.lemmas.List.Sorted.{IsPermutation-map}
 use Rattle.std.proofs.lemmas.Bool.Decides.{eqb_tells}
 use Rattle.med_value.specs.Datum.{Datum, Tuple}
-use Rattle.fdw_api.specs.Scan.{Spec, Filter, spec_of, plain_spec, filter_of, params_fit, TableRow, cell, pick}
+use Rattle.fdw_api.specs.Scan.{Spec, spec_of, filter_of, params_fit, TableRow, cell, pick}
 use Rattle.fdw_api.specs.Calls.{Allows, CanBegin}
-use Rattle.fdw_api.specs.declared.scan.Agree.{Agree}
 use Rattle.fdw_api.specs.declared.scan.ScanSpec.{ScanSpec}
 use Rattle.fdw_api.specs.declared.interface.Fault.{Fault}
-use Rattle.fdw_api.specs.State.{Bound, BoxState, table_of, is_honest, rows_of}
+use Rattle.fdw_api.specs.State.{BoxState, is_honest, rows_of}
 use Rattle.med_exec.specs.Reading.{pulled_after}
-use Rattle.med_exec.specs.Scanning.{tuples_of, ReadsTable, ScansTable, SelectsTable}
+use Rattle.med_planner.specs.Planned.{tuples_of}
+use Rattle.med_exec.specs.Scanning.{ReadsTable, RunsScan, ScansTable, SelectsTable}
 use Rattle.med_exec.specs.Restricted.{place_in, place_shown}
-use Rattle.med_exec.proofs.ScanLemmas.{reads_whole, selects}
+use Rattle.med_exec.proofs.ScanLemmas.{plain_scan, reads_whole, selects}
 use Rattle.med_exec.proofs.RestrictedLemmas.{picked}
 
 same_column : (q : ℕ) → nat_eq q q ≡ true
@@ -129,24 +129,6 @@ selects_shown t spec given cut old new e s = go spec.narrow refl
 pub planned_begins : (s : BoxState) (t : ℕ) (spec : ScanSpec) → spec.offered.items ≡ [] → Allows s t (spec_of spec) → CanBegin s t spec []
 planned_begins s t spec none a = record { bound = a.bound; is = a.is; allowed = a.allowed; typed = ap (λ l. params_fit a.bound.kinds (map filter_of l) []) none }
 
--- a scan of whole rows for which nothing is offered may begin on every bound table
-offers_none : (wanted : List ℕ) (offered : List Filter) (answers : List Agree) (narrow : Bool) → offered ≡ [] → answers ≡ [] → narrow ≡ false → record { wanted = wanted; offered = offered; answers = answers; narrow = narrow } ≡ plain_spec wanted []
-offers_none wanted offered answers narrow p q r = λ i. record { wanted = wanted; offered = p i; answers = q i; narrow = r i }
-
-whole_on : (s : BoxState) (t : ℕ) (spec : ScanSpec) → spec.offered.items ≡ [] → spec_of spec ≡ plain_spec spec.wanted.items [] → (o : Option Bound) → table_of s t ≡ o → IsSome o → CanBegin s t spec []
-whole_on s t spec none plain None at is_bound = absurd cc
-whole_on s t spec none plain (Some bound) at is_bound = record {
-  bound = bound;
-  is = at;
-  allowed = ap bound.allows plain ∙ bound.allows_plain spec.wanted.items [];
-  typed = ap (λ l. params_fit bound.kinds (map filter_of l) []) none;
-}
-
-pub whole_begins : (s : BoxState) (t : ℕ) (spec : ScanSpec) → IsSome (table_of s t) → spec.offered.items ≡ [] → spec.agreement.answers.items ≡ [] → spec.agreement.narrow ≡ false → CanBegin s t spec []
-whole_begins s t spec is_bound none silent wide =
-    let plain : spec_of spec ≡ plain_spec spec.wanted.items [] = offers_none spec.wanted.items (map filter_of spec.offered.items) spec.agreement.answers.items spec.agreement.narrow (ap (map filter_of) none) silent wide in
-    whole_on s t spec none plain (table_of s t) refl is_bound
-
-pub ok_whole : {T : Type 0} (rows : T → List Tuple) (t : ℕ) (spec : Spec) (old new : BoxState) (r : Result T Fault) → spec.narrow ≡ false → IfOk r (λ x. ScansTable old t spec (rows x) new) → IfOk r (λ x. ReadsTable old t (rows x) new)
-ok_whole rows t spec old new (Ok x) wide s = reads_whole t spec (rows x) old new wide s
-ok_whole rows t spec old new (Err f) wide s = tt
+pub ok_whole : {T : Type 0} (rows : T → List Tuple) (t : ℕ) (spec : Spec) (old new : BoxState) (r : Result T Fault) → spec.offered ≡ [] → spec.narrow ≡ false → IfOk r (λ x. RunsScan old t spec (rows x) new) → IfOk r (λ x. ReadsTable old t (rows x) new)
+ok_whole rows t spec old new (Ok x) none wide s = reads_whole t spec (rows x) old new wide (plain_scan t spec (rows x) old new none s)
+ok_whole rows t spec old new (Err f) none wide s = tt

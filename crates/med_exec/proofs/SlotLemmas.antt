@@ -1,5 +1,5 @@
 -- A box in a list changes, and the list of states with it.
-use Rattle.std.proofs.Common.{◌≡◌, ◌≢◌, ℕ, zero, suc, [], ◌∷◌, List, Option, Some, None, Result, Ok, Err, IfOk, IfErr, slice_get, slice_set, slice_index_or, length, option_map, refl, ap, sym, ◌∙◌}
+use Rattle.std.proofs.Common.{◌≡◌, ◌≢◌, ℕ, zero, suc, [], ◌∷◌, List, Option, Some, None, Result, Ok, Err, IfOk, IfErr, slice_get, slice_set, slice_index_or, length, option_map, refl, ap, sym, ◌∙◌, subst}
 use Rattle.std.proofs.lemmas.List.{map-set}
 use Rattle.std.proofs.lemmas.Option.{slice_get-map, slice_get_within, slice_get_read}
 use Rattle.fdw_api.specs.State.{BoxState}
@@ -46,6 +46,21 @@ read_at meaning Q slots i x b h read is =
     let m : option_map (option_map meaning) (slice_get slots i) ≡ Some (Some h.box) = sym (slice_get-map (option_map meaning) slots i) ∙ h.there in
     let w = some_of_map (option_map meaning) (slice_get slots i) (Some h.box) m in
     slice_get_read slots (length slots) i x refl (slice_get_within slots i w.0 w.1) read ∙ ap Some is
+
+-- what holds of it, and that it was not dropped
+pub held_at : {B : Type 0} (meaning : B → BoxState) (Q : BoxState → Type 0) (slots : List (Option B)) (i : ℕ) (x : Option B) (b : B) → BoxAt (states meaning slots) i Q → x ≡ slice_index_or slots i x → x ≡ Some b → Q (meaning b)
+held_at meaning Q slots i x b h read is =
+    let e : Some (Some (meaning b)) ≡ Some (Some h.box) = sym (ap (option_map (option_map meaning)) (read_at meaning Q slots i x b h read is)) ∙ sym (slice_get-map (option_map meaning) slots i) ∙ h.there in
+    let same : h.box ≡ meaning b = cc in
+    subst Q same h.holds
+
+pub not_dropped : {B : Type 0} (meaning : B → BoxState) (Q : BoxState → Type 0) (slots : List (Option B)) (i : ℕ) (x : Option B) → BoxAt (states meaning slots) i Q → x ≡ slice_index_or slots i x → x ≡ None → ⊥
+not_dropped meaning Q slots i x h read is =
+    let m : option_map (option_map meaning) (slice_get slots i) ≡ Some (Some h.box) = sym (slice_get-map (option_map meaning) slots i) ∙ h.there in
+    let w = some_of_map (option_map meaning) (slice_get slots i) (Some h.box) m in
+    let there : slice_get slots i ≡ Some x = slice_get_read slots (length slots) i x refl (slice_get_within slots i w.0 w.1) read in
+    let gone : Some None ≡ Some (Some h.box) = sym (ap (option_map (option_map meaning)) (there ∙ ap Some is)) ∙ m in
+    absurd cc
 
 pub ok_changes : {B T E : Type 0} (meaning : B → BoxState) (P : T → BoxState → BoxState → Type 0) (slots : List (Option B)) (i : ℕ) (b c : B) (r : Result T E) → slice_get slots i ≡ Some (Some b) → IfOk r (λ t. P t (meaning b) (meaning c)) → IfOk r (λ t. ChangesAt (states meaning slots) i (P t) (states meaning (slice_set slots i (Some c))))
 ok_changes meaning P slots i b c (Ok t) at p = changes_at meaning (P t) slots i b c at p

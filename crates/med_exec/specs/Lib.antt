@@ -3,7 +3,6 @@ pub mod Reading
 pub mod Scanning
 pub mod Restricted
 pub mod Answering
-pub mod TablesRead
 pub mod Running
 pub mod Rests
 pub mod Select

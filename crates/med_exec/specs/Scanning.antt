@@ -1,15 +1,12 @@
 -- Reading a table whole: BeginForeignScan, IterateForeignScan until no row is left or one fails, EndForeignScan.
-use Rattle.std.specs.Prelude.{◌≡◌, ◌+◌, ◌-◌, ◌^◌, ◌<◌, ◌≤◌, ◌⊎◌, ℕ, List, map, length, IsPermutation}
+use Rattle.std.specs.Prelude.{◌≡◌, ◌+◌, ◌-◌, ◌^◌, ◌<◌, ◌≤◌, ◌⊎◌, ℕ, List, [], map, length, IsPermutation}
 use Rattle.med_value.specs.Datum.{Tuple}
-use Rattle.fdw_api.specs.Scan.{Spec, TableRow, pick, shown_cells}
+use Rattle.fdw_api.specs.Scan.{Spec, GivenRow, TableRow, IsComing, pick, shown_cells}
 use Rattle.fdw_api.specs.State.{BoxState, is_honest, rows_of}
 use Rattle.fdw_api.specs.Calls.{LeavesAll, faults_after, BeginCause}
 use Rattle.fdw_api.specs.declared.interface.Fault.{Fault}
-use Rattle.med_exec.specs.Reading.{pulled_after}
-
--- the rows of a bound table, as tuples
-abbrev pub tuples_of : BoxState → ℕ → List Tuple
-tuples_of s table = map (λ r. r.cells) (rows_of s table)
+use Rattle.med_planner.specs.Planned.{tuples_of}
+use Rattle.med_exec.specs.Reading.{pulled_after, cells_of}
 
 -- one scan was begun, gave these rows and was ended: they are the table's, each once, in any order
 pub record ReadsTable (old : BoxState) (table : ℕ) (given : List Tuple) (new : BoxState) : Type 0 where
@@ -18,6 +15,15 @@ pub record ReadsTable (old : BoxState) (table : ℕ) (given : List Tuple) (new :
   pub ledger : new.ledger ≡ record old.ledger { next = old.ledger.next + 1; pulled = pulled_after (length given) old.ledger.pulled }
   pub leaves : is_honest old → LeavesAll old new
   pub rows : is_honest old → IsPermutation (tuples_of old table) given
+
+-- one scan by this specification, without parameters, was begun, gave these rows and was ended: they are some that it may give, whatever the
+-- wrapper took over
+pub record RunsScan (old : BoxState) (table : ℕ) (spec : Spec) (given : List Tuple) (new : BoxState) : Type 0 where
+  pub nature : new.nature ≡ old.nature
+  pub room : old.ledger.next < 2 ^ 64 - 1
+  pub ledger : new.ledger ≡ record old.ledger { next = old.ledger.next + 1; pulled = pulled_after (length given) old.ledger.pulled }
+  pub leaves : is_honest old → LeavesAll old new
+  pub rows : is_honest old → (coming : List GivenRow) × IsComing (rows_of old table) spec [] coming × (given ≡ cells_of coming)
 
 -- one scan by this agreement, for which no restriction was offered, was begun, gave these rows and was ended: they are the table's, each
 -- once, in any order, as the scan shows them

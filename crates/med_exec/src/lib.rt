@@ -1,11 +1,11 @@
 //! Runs of plans: what stands between the interface of boxed wrappers and the engine.
 //!
-//! A box is asked how it would scan a table ([`plan_at`]). A run ([`start`], [`Run`]) reads each table of its plan whole by one scan, one
-//! after another, and answers the query over the rows ([`answer`]): joined rows, WHERE, groups, HAVING, items, DISTINCT, ORDER BY, OFFSET
+//! A box is asked how it would scan a table ([`plan_at`]). A run ([`start`], [`Run`]) reads what each scan of its plan gives, one after
+//! another, and answers the plan's query over the rows ([`answer`]): joined rows, WHERE, groups, HAVING, items, DISTINCT, ORDER BY, OFFSET
 //! and LIMIT. Then it gives the answer row by row, and needs no box for it.
 //!
 //! All calls on boxes are generic over the box. They take the engine's slots, in which a slot whose box was dropped holds `None`. What a
-//! box holds stays as it is: a run changes nothing but the counts, and leaves no scan live.
+//! box holds stays as it is: a run changes nothing but the counts and its own scans, and leaves none live once it is closed.
 #![tactic(auto)]
 
 pub mod answers;
@@ -13,6 +13,7 @@ pub mod columns;
 mod filtering;
 mod grouping;
 mod joins;
+pub mod law;
 mod ordering;
 pub mod outputs;
 pub mod restricted;

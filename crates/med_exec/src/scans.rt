@@ -1,13 +1,12 @@
 //! Whole scans of a table of the box in a slot.
-ghost use Rattle.std.specs.Prelude.{◌≡◌, [], false, IfOk, IfErr, IsSome, map};
+ghost use Rattle.std.specs.Prelude.{◌≡◌, [], IfOk, IfErr, IsSome, map};
 ghost use Rattle.med_value.specs.Datum.{tuple};
 ghost use Rattle.fdw_api.specs.State.{table_of};
 ghost use Rattle.fdw_api.specs.Scan.{spec_of};
 ghost use Rattle.fdw_api.specs.Calls.{CanBegin, IsOpen};
-ghost use Rattle.pushdown.specs.Offered.{IsWhole};
-ghost use Rattle.med_exec.specs.Slots.{states, HasTable, ChangesAt};
+ghost use Rattle.med_exec.specs.Slots.{states, BoxAt, HasTable, ChangesAt};
 ghost use Rattle.med_exec.specs.Reading.{GivesAll, StopsBy};
-ghost use Rattle.med_exec.specs.Scanning.{ReadsTable, ScansTable, FailsTable, SelectsTable};
+ghost use Rattle.med_exec.specs.Scanning.{ReadsTable, RunsScan, FailsTable, SelectsTable};
 ghost use Rattle.med_exec.specs.Restricted.{place_shown};
 
 use crate::columns::project;
@@ -31,16 +30,15 @@ fn read_all<W: Wrapper>(b: &mut W, alloc: Global, ticket: &Ticket) -> Result<Vec
     Ok(rows)
 }
 
-/// Reads a table of a box by one scan without restrictions, under an agreement that the table allows.
+/// Reads what a scan of a table of a box gives, under an agreement that the table allows.
 fn scan_box<W: Wrapper>(
     b: &mut W,
     alloc: Global,
     table: TableNo,
     spec: &ScanSpec,
 ) -> Result<Vec<Row>, Fault>
-    requires begin { CanBegin (W.meaning b.old) table.number spec.now [] }
-    requires none { spec.now.offered.items ≡ [] }
-    ensures ok { IfOk result (λ rows. ScansTable (W.meaning b.old) table.number (spec_of spec.now) (map tuple rows.items) (W.meaning b.new)) }
+    requires { CanBegin (W.meaning b.old) table.number spec.now [] }
+    ensures ok { IfOk result (λ rows. RunsScan (W.meaning b.old) table.number (spec_of spec.now) (map tuple rows.items) (W.meaning b.new)) }
     ensures err { IfErr result (λ fault. FailsTable fault (W.meaning b.old) (W.meaning b.new)) }
 {
     let ticket = b.begin(alloc, table, spec, &[])?;
@@ -56,23 +54,6 @@ fn read_box<W: Wrapper>(b: &mut W, alloc: Global, table: TableNo) -> Result<Vec<
     ensures err { IfErr result (λ fault. FailsTable fault (W.meaning b.old) (W.meaning b.new)) }
 {
     scan_box(b, alloc, table, &ScanSpec::plain(alloc))
-}
-
-/// Reads a table of a box whole, by a scan of whole rows for which nothing is offered.
-fn read_box_by<W: Wrapper>(
-    b: &mut W,
-    alloc: Global,
-    table: TableNo,
-    spec: &ScanSpec,
-) -> Result<Vec<Row>, Fault>
-    requires bound { IsSome (table_of (W.meaning b.old) table.number) }
-    requires nothing { spec.now.offered.items ≡ [] }
-    requires answers { spec.now.agreement.answers.items ≡ [] }
-    requires narrow { spec.now.agreement.narrow ≡ false }
-    ensures ok { IfOk result (λ rows. ReadsTable (W.meaning b.old) table.number (map tuple rows.items) (W.meaning b.new)) }
-    ensures err { IfErr result (λ fault. FailsTable fault (W.meaning b.old) (W.meaning b.new)) }
-{
-    scan_box(b, alloc, table, spec)
 }
 
 /// Where a scan shows each of these columns.
@@ -136,9 +117,9 @@ pub fn read_table<W: Wrapper>(
     }
 }
 
-/// Reads the table of an entry whole, in its box's order, by the scan that the entry's plan holds.
+/// Reads what the scan of an entry gives, in its box's order.
 ///
-/// One scan is begun and ended, also where it fails. It offers nothing and takes whole rows, so each row comes once, with all its cells.
+/// One scan is begun and ended, also where it fails. Its rows are some that may come under what the box agreed to, whatever that is.
 ///
 /// # Errors
 ///
@@ -150,15 +131,14 @@ pub fn read_scan<W: Wrapper>(
     alloc: Global,
     scan: &EntryScan,
 ) -> Result<Vec<Row>, Fault>
-    requires bound { HasTable (states W.meaning slots.old.items) scan.now.source scan.now.table.number }
-    requires whole { IsWhole scan.now }
+    requires { BoxAt (states W.meaning slots.old.items) scan.now.source (λ s. CanBegin s scan.now.table.number scan.now.spec []) }
     ensures ok { IfOk result (λ rows. ChangesAt (states W.meaning slots.old.items) scan.now.source
-        (λ old new. ReadsTable old scan.now.table.number (map tuple rows.items) new) (states W.meaning slots.new.items)) }
+        (λ old new. RunsScan old scan.now.table.number (spec_of scan.now.spec) (map tuple rows.items) new) (states W.meaning slots.new.items)) }
     ensures err { IfErr result (λ fault. ChangesAt (states W.meaning slots.old.items) scan.now.source
         (λ old new. FailsTable fault old new) (states W.meaning slots.new.items)) }
 {
     match &mut slots[scan.source] {
-        Some(b) => read_box_by(b, alloc, scan.table, &scan.spec),
+        Some(b) => scan_box(b, alloc, scan.table, &scan.spec),
         None => unreachable!(),
     }
 }

@@ -1,6 +1,7 @@
 //! Plans: what is scanned, and the query over what the scans give.
 #![tactic(auto)]
 
+pub mod law;
 mod planning;
 mod plans;
 

@@ -1,21 +1,35 @@
 //! Bound queries to plans.
+#![tactic(auto)]
 
-ghost use Rattle.std.specs.Prelude.{◌≡◌, IfOk};
+ghost use Rattle.std.specs.Prelude.{◌≡◌, List, Option, IfOk, map};
 ghost use Rattle.tri_expr.specs.Form.{form_of};
+ghost use Rattle.tri_expr.specs.Select.{query_of};
+ghost use Rattle.fdw_api.specs.State.{BoxState};
+ghost use Rattle.pushdown.specs.Offered.{AreScansOf, entry_place};
+ghost use Rattle.med_planner.specs.Planned.{IsPlanOf};
 
+use crate::law::causes_ignore_order;
 use crate::plans::Plan;
 use med_binder::Bound;
 use med_value::NoMemory;
 use pushdown::Split;
 use std::alloc::Global;
+use tri_expr::law::{answers_ignore_order, expressions_ignore_order, select_means_its_form};
 
-/// The plan of a query by these scans.
+/// The plan of a query by these scans. Where they are the scans of the query's entries, whatever rows the boxes give under what they agreed to,
+/// each answer of the plan's query over these rows is an answer of the query over the tables, and the two show the same faults.
 ///
 /// Refused only for want of memory.
 pub fn plan(alloc: Global, bound: &Bound, split: Split) -> Result<Plan, NoMemory>
     ensures scans { IfOk result (λ p. p.scans.items ≡ split.scans.items) }
     ensures query { IfOk result (λ p. form_of p.select ≡ form_of bound.now.select) }
+    ensures plans { IfOk result (λ p. (boxes : List (Option BoxState)) → AreScansOf bound.now.entries.items split.scans.items
+        → IsPlanOf (query_of bound.now.select) (map entry_place bound.now.entries.items) boxes p) }
 {
+    answers_ignore_order();
+    expressions_ignore_order();
+    select_means_its_form();
+    causes_ignore_order();
     let select = bound.select.copy(alloc)?;
     Ok(Plan {
         scans: split.scans,

@@ -13,7 +13,7 @@ use Rattle.fdw_api.specs.Kinds.{Column, Held, held}
 use Rattle.fdw_api.specs.Calls.{Binds, Refuses}
 use Rattle.fdw_api.specs.State.{BoxState, Bound, is_honest, table_of, scan_of, rows_of, set_at}
 use Rattle.med_exec.specs.Slots.{ChangesAt, HasTable}
-use Rattle.med_exec.specs.Scanning.{tuples_of}
+use Rattle.med_planner.specs.Planned.{tuples_of}
 use Rattle.med_session.specs.World.{World, Source, SourceState, free, ForeignTable}
 use Rattle.med_session.specs.Engine.{Label, Attached, Shown, IsAtRest, EachBox, TakesColumns, BoundAreAttached, IsSound, state_of, sources_of, IsNamedAt, TableAgrees, TablesAgree, Agrees}
 use Rattle.med_session.specs.Attaching.{Attaches, is_named, before_bind, by_fault, BindsTable, AttachFails, by_names, by_state, by_memory, by_bind, IsUnattached, same, counted}

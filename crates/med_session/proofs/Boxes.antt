@@ -27,14 +27,18 @@ same_rows b c h = λ i t. h.rows t (λ x. x) i
 same_holdings : (b c : BoxState) → LeavesAll b c → c.content.holdings ≡ b.content.holdings
 same_holdings b c h = λ i r. h.holdings r (λ x. x) i
 
-pub served_keeps : (b c : BoxState) → Served b c → Keeps b c
+-- what a box was asked for by a run that holds no scan
+abbrev ServedAlone : BoxState → BoxState → Type 0
+ServedAlone = Served [] []
+
+pub served_keeps : (b c : BoxState) → ServedAlone b c → Keeps b c
 served_keeps b c h = record {
   nature = h.nature;
-  tables = ap (λ l. l.tables) h.ledger;
-  live = ap (λ l. l.live) h.ledger;
-  staged = ap (λ l. l.staged) h.ledger;
-  rows = λ honest. same_rows b c (h.leaves honest);
-  holdings = λ honest. same_holdings b c (h.leaves honest);
+  tables = h.tables;
+  live = h.others;
+  staged = h.staged;
+  rows = λ honest. λ i t. h.rows honest t i;
+  holdings = λ honest. λ i r. h.holdings honest r i;
 }
 
 pub refuses_keeps : (b c : BoxState) (fault : Fault) → Refuses fault b c → Keeps b c
@@ -107,26 +111,10 @@ as_many Q old new slot h = ap (λ (l : List (Option BoxState)). length l) h.slot
 
 -- ---- boxes that were served
 
-served_rises : (b c : BoxState) → Served b c → Rises b c
+served_rises : (b c : BoxState) → ServedAlone b c → Rises b c
 served_rises b c h = record { nature = h.nature; next = h.next; end = h.end; faults = h.faults }
 
-served_itself : (s : BoxState) → Served s s
-served_itself s = record {
-  nature = refl;
-  ledger = refl;
-  next = omega arith;
-  end = λ p. p;
-  faults = omega arith;
-  leaves = λ h. record { coming = λ q live other. refl; rows = λ t other. refl; holdings = λ r other. refl };
-}
-
--- nothing was asked
-pub all_served : (boxes : List (Option BoxState)) → AllServed boxes boxes
-all_served [] = tt
-all_served (None ∷ xs) = all_served xs
-all_served (Some s ∷ xs) = (served_itself s, all_served xs)
-
-served_onward : (old new : List (Option BoxState)) → AllServed old new → Onward Served old new
+served_onward : (old new : List (Option BoxState)) → AllServed old new → Onward ServedAlone old new
 served_onward [] [] h i b at = absurd cc
 served_onward [] (y ∷ ys) h i b at = absurd h
 served_onward (None ∷ xs) [] h i b at = absurd h
@@ -135,10 +123,10 @@ served_onward (None ∷ xs) (Some y ∷ ys) h i b at = absurd h
 served_onward (Some a ∷ xs) (None ∷ ys) h i b at = absurd h
 served_onward (None ∷ xs) (None ∷ ys) h zero b at = absurd cc
 served_onward (None ∷ xs) (None ∷ ys) h (suc i) b at = served_onward xs ys h i b at
-served_onward (Some a ∷ xs) (Some c ∷ ys) h zero b at = (c, refl, subst (λ (z : BoxState). Served z c) (same_box a b at) h.0)
+served_onward (Some a ∷ xs) (Some c ∷ ys) h zero b at = (c, refl, subst (λ (z : BoxState). ServedAlone z c) (same_box a b at) h.0)
 served_onward (Some a ∷ xs) (Some c ∷ ys) h (suc i) b at = served_onward xs ys h.1 i b at
 
-served_backward : (old new : List (Option BoxState)) → AllServed old new → Backward Served old new
+served_backward : (old new : List (Option BoxState)) → AllServed old new → Backward ServedAlone old new
 served_backward [] [] h i c at = absurd cc
 served_backward [] (y ∷ ys) h i c at = absurd h
 served_backward (None ∷ xs) [] h i c at = absurd h
@@ -147,7 +135,7 @@ served_backward (None ∷ xs) (Some y ∷ ys) h i c at = absurd h
 served_backward (Some a ∷ xs) (None ∷ ys) h i c at = absurd h
 served_backward (None ∷ xs) (None ∷ ys) h zero c at = absurd cc
 served_backward (None ∷ xs) (None ∷ ys) h (suc i) c at = served_backward xs ys h i c at
-served_backward (Some a ∷ xs) (Some b ∷ ys) h zero c at = (a, refl, subst (λ (z : BoxState). Served a z) (same_box b c at) h.0)
+served_backward (Some a ∷ xs) (Some b ∷ ys) h zero c at = (a, refl, subst (λ (z : BoxState). ServedAlone a z) (same_box b c at) h.0)
 served_backward (Some a ∷ xs) (Some b ∷ ys) h (suc i) c at = served_backward xs ys h.1 i c at
 
 pub served_as_many : (old new : List (Option BoxState)) → AllServed old new → length new ≡ length old
@@ -167,13 +155,13 @@ backward_by : (P Q : BoxState → BoxState → Type 0) (old new : List (Option B
 backward_by P Q old new f h i c at = let n = h i c at in (n.0, n.1, f n.0 c n.2)
 
 pub served_on : (old new : List (Option BoxState)) → AllServed old new → Onward Keeps old new
-served_on old new h = onward_by Served Keeps old new served_keeps (served_onward old new h)
+served_on old new h = onward_by ServedAlone Keeps old new served_keeps (served_onward old new h)
 
 pub served_back : (old new : List (Option BoxState)) → AllServed old new → Backward Keeps old new
-served_back old new h = backward_by Served Keeps old new served_keeps (served_backward old new h)
+served_back old new h = backward_by ServedAlone Keeps old new served_keeps (served_backward old new h)
 
 pub each_served_rises : (old new : List (Option BoxState)) → AllServed old new → EachRises old new
 each_served_rises old new h = record {
-  stays = onward_by Served Rises old new served_rises (served_onward old new h);
-  stood = backward_by Served Rises old new served_rises (served_backward old new h);
+  stays = onward_by ServedAlone Rises old new served_rises (served_onward old new h);
+  stood = backward_by ServedAlone Rises old new served_rises (served_backward old new h);
 }

@@ -6,8 +6,7 @@ use Rattle.tri_expr.specs.Query.{SameRows}
 use Rattle.fdw_api.specs.State.{BoxState}
 use Rattle.pushdown.specs.Offered.{Place}
 use Rattle.med_exec.specs.Slots.{BoxAt}
-use Rattle.med_exec.specs.Scanning.{tuples_of}
-use Rattle.med_exec.specs.Running.{rows_shown, entry_rows}
+use Rattle.med_planner.specs.Planned.{tuples_of, rows_shown, entry_rows}
 use Rattle.med_binder.specs.Scope.{TableShape}
 use Rattle.med_session.specs.World.{ForeignTable, shapes, rows_in}
 use Rattle.med_session.specs.Queries.{entry_tables}

@@ -7,7 +7,8 @@ use Rattle.med_value.specs.declared.cause.Cause.TheVariants.{LimitExceeded, OutO
 use Rattle.tri_expr.specs.Query.{Tables, SameRows, IsAnswer}
 use Rattle.fdw_api.specs.State.{BoxState}
 use Rattle.pushdown.specs.Offered.{Place}
-use Rattle.med_exec.specs.Running.{AllServed, SlotShows, HasFailed, IsUsedUp, AllHonest, entry_rows, QueryCauses}
+use Rattle.med_planner.specs.Planned.{entry_rows, QueryCauses}
+use Rattle.med_exec.specs.Running.{AllServed, SlotShows, HasFailed, IsUsedUp, AllHonest}
 use Rattle.med_syntax.specs.QueryTree.{StatementTree}
 use Rattle.med_parser.specs.QueryGrammar.{HasStatement}
 use Rattle.med_parser.specs.QueryCauses.{SyntaxCauses}

@@ -1,5 +1,5 @@
 -- The parts of a query: its entries, its scans, its run, and what it means in whatever order rows come.
-use Rattle.std.proofs.Common.{◌≡◌, ℕ, ◌⊎◌, ◌^◌, ◌<◌, ◌≤◌, string_bytes, List, [], ◌∷◌, slice_get, slice_index_or, Option, Some, None, option_map, map, length, All, refl, sym, ap, ◌∙◌, subst, suc, arith, inl, inr, Result, Ok, Err, IfOk, IfErr, filter}
+use Rattle.std.proofs.Common.{◌≡◌, ℕ, ◌⊎◌, ◌^◌, ◌<◌, ◌≤◌, string_bytes, List, [], ◌∷◌, slice_get, slice_index_or, Option, Some, None, option_map, map, length, All, refl, sym, ap, ◌∙◌, subst, suc, arith, inl, inr, Result, Ok, Err, IfOk, IfErr, filter, Bool, IsSome, false}
 use Rattle.std.proofs.lemmas.List.{length-map}
 use Rattle.std.proofs.lemmas.List.Elements.{All-cons}
 use Rattle.std.proofs.lemmas.List.Sorted.{IsPermutation-sym, length_permutation}
@@ -14,17 +14,21 @@ use Rattle.tri_expr.specs.Form.{form_of, query_by}
 use Rattle.tri_expr.specs.Select.{query_of as written_query, groups_of}
 use Rattle.tri_expr.specs.Laws.{AllIgnoreOrder, IsSteady, AnswersIgnoreOrder}
 use Rattle.tri_expr.specs.Query.{Query, Tables, SameRows, senses, having_of, has_class, kept, plain, outputs_all, output, kept_classes}
-use Rattle.fdw_api.specs.State.{BoxState}
+use Rattle.fdw_api.specs.Scan.{Filter, spec_of, plain_spec, filter_of, params_fit}
+use Rattle.fdw_api.specs.State.{BoxState, Bound as TableBound, table_of}
+use Rattle.fdw_api.specs.Calls.{CanBegin}
 use Rattle.fdw_api.specs.declared.interface.Fault.{Fault}
 use Rattle.fdw_api.specs.declared.interface.TableNo.{TableNo}
 use Rattle.fdw_api.specs.declared.scan.Agree.{Agree}
 use Rattle.fdw_api.specs.declared.scan.Agreement.{Agreement}
 use Rattle.fdw_api.specs.declared.scan.Restriction.{Restriction}
-use Rattle.pushdown.specs.Offered.{Place, IsOffer, AreOffers, IsScanOf, AreScans, entry_place, scan_place, IsWhole}
+use Rattle.fdw_api.specs.declared.scan.ScanSpec.{ScanSpec}
+use Rattle.pushdown.specs.Offered.{Place, IsOffer, AreOffers, IsScanOf, AreScans, entry_place}
 use Rattle.pushdown.specs.declared.offers.Offer.{Offer}
 use Rattle.pushdown.specs.declared.accepting.EntryScan.{EntryScan}
-use Rattle.med_exec.specs.Slots.{HasTable}
-use Rattle.med_exec.specs.Running.{AllServed, AreBound, entry_rows, QueryCauses, Stops, lacks_memory, source_fails, numbers_end, query_shows}
+use Rattle.med_planner.specs.Planned.{entry_rows, QueryCauses}
+use Rattle.med_exec.specs.Slots.{BoxAt, HasTable}
+use Rattle.med_exec.specs.Running.{AllServed, AllBegin, Stops, lacks_memory, source_fails, numbers_end, query_shows}
 use Rattle.med_syntax.specs.QueryTree.{StatementTree}
 use Rattle.med_binder.specs.Scope.{TableShape, table_shape}
 use Rattle.med_binder.specs.Meaning.{Meant, meant}
@@ -76,10 +80,6 @@ entries_bound boxes tables es bound entries k d lt =
     let h : HasTable boxes i.table.source i.table.number.number = all_at (λ (a : Attached). HasTable boxes a.source a.number) (map attached tables) e.place (attached i.table) bound (entry_there tables e i) in
     subst (λ (s : ℕ). HasTable boxes s e.table.number) (sym i.source) (subst (λ (t : TableNo). HasTable boxes i.table.source t.number) (sym i.number) h)
 
-pub are_bound : (boxes : List (Option BoxState)) (es : List BoundEntry) → All (HasEntry boxes) es → AreBound boxes (map entry_place es)
-are_bound boxes [] h = tt
-are_bound boxes (e ∷ es) h = (h 0 e (omega arith), are_bound boxes es (λ k d lt. h (suc k) d (omega arith)))
-
 place_is : (tables : List AttachedTable) (e : BoundEntry) → IsEntryOf tables e → IsPlaceOf (map attached tables) e.place (entry_place e)
 place_is tables e i = record { table = attached i.table; there = entry_there tables e i; source = i.source; number = ap (λ (t : TableNo). t.number) i.number }
 
@@ -99,35 +99,36 @@ offers_bound boxes [] (o ∷ os) is h = absurd is
 offers_bound boxes (e ∷ es) [] is h = absurd is
 offers_bound boxes (e ∷ es) (o ∷ os) is h = All-cons (HasOffer boxes) o os (offer_bound boxes e o is.0 (h 0 e (omega arith))) (offers_bound boxes es os is.1 (λ k d lt. h (suc k) d (omega arith)))
 
-scan_placed : (e : BoundEntry) (o : Offer) (a : Agreement) (s : EntryScan) → IsOffer e o → IsScanOf o a s → scan_place s ≡ entry_place e
-scan_placed e o a s i j =
-    let source : s.source ≡ e.source = j.source ∙ i.source in
-    let table : s.table ≡ e.table = j.table ∙ i.table in
-    λ k. record { source = source k; table = (table k).number }
-
-pub scans_placed : (es : List BoundEntry) (os : List Offer) (more : List Agreement) (ss : List EntryScan) → AreOffers es os → AreScans os more ss → map scan_place ss ≡ map entry_place es
-scans_placed [] [] [] [] is js = refl
-scans_placed [] [] [] (s ∷ ss) is js = absurd js
-scans_placed [] [] (a ∷ more) [] is js = absurd js
-scans_placed [] [] (a ∷ more) (s ∷ ss) is js = absurd js
-scans_placed [] (o ∷ os) more ss is js = absurd is
-scans_placed (e ∷ es) [] more ss is js = absurd is
-scans_placed (e ∷ es) (o ∷ os) [] [] is js = absurd js
-scans_placed (e ∷ es) (o ∷ os) [] (s ∷ ss) is js = absurd js
-scans_placed (e ∷ es) (o ∷ os) (a ∷ more) [] is js = absurd js
-scans_placed (e ∷ es) (o ∷ os) (a ∷ more) (s ∷ ss) is js =
-    ap (λ (p : Place). p ∷ map scan_place ss) (scan_placed e o a s is.0 js.0) ∙ ap (λ (ps : List Place). entry_place e ∷ ps) (scans_placed es os more ss is.1 js.1)
-
 no_answers : (xs : List Agree) → length xs ≡ 0 → xs ≡ []
 no_answers [] many = refl
 no_answers (x ∷ xs) many = absurd cc
 
-scan_whole : (e : BoundEntry) (o : Offer) (a : Agreement) (s : EntryScan) → IsOffer e o → answers_given a ≡ answers_wanted o → IsScanOf o a s → IsWhole s
-scan_whole e o a s i many j = record {
-  nothing = j.offered ∙ i.offered;
-  answers = j.answers ∙ no_answers a.answers.items (many ∙ ap (λ (l : List Restriction). length l) i.offered);
-  narrow = j.whole;
+-- a scan of whole rows for which nothing is offered may begin on every bound table
+offers_none : (wanted : List ℕ) (offered : List Filter) (answers : List Agree) (narrow : Bool) → offered ≡ [] → answers ≡ [] → narrow ≡ false → record { wanted = wanted; offered = offered; answers = answers; narrow = narrow } ≡ plain_spec wanted []
+offers_none wanted offered answers narrow p q r = λ i. record { wanted = wanted; offered = p i; answers = q i; narrow = r i }
+
+whole_on : (s : BoxState) (t : ℕ) (spec : ScanSpec) → spec.offered.items ≡ [] → spec_of spec ≡ plain_spec spec.wanted.items [] → (o : Option TableBound) → table_of s t ≡ o → IsSome o → CanBegin s t spec []
+whole_on s t spec none plain None at is_bound = absurd cc
+whole_on s t spec none plain (Some bound) at is_bound = record {
+  bound = bound;
+  is = at;
+  allowed = ap bound.allows plain ∙ bound.allows_plain spec.wanted.items [];
+  typed = ap (λ (l : List Restriction). params_fit bound.kinds (map filter_of l) []) none;
 }
+
+whole_begins : (s : BoxState) (t : ℕ) (spec : ScanSpec) → spec.offered.items ≡ [] → spec.agreement.answers.items ≡ [] → spec.agreement.narrow ≡ false → IsSome (table_of s t) → CanBegin s t spec []
+whole_begins s t spec none silent wide is_bound =
+    whole_on s t spec none (offers_none spec.wanted.items (map filter_of spec.offered.items) spec.agreement.answers.items spec.agreement.narrow (ap (map filter_of) none) silent wide) (table_of s t) refl is_bound
+
+scan_begins : (boxes : List (Option BoxState)) (e : BoundEntry) (o : Offer) (a : Agreement) (s : EntryScan) → IsOffer e o → answers_given a ≡ answers_wanted o → IsScanOf o a s → HasEntry boxes e → BoxAt boxes s.source (λ b. CanBegin b s.table.number s.spec [])
+scan_begins boxes e o a s i many j h =
+    let silent : s.spec.agreement.answers.items ≡ [] = j.answers ∙ no_answers a.answers.items (many ∙ ap (λ (l : List Restriction). length l) i.offered) in
+    let number : e.table.number ≡ s.table.number = sym (ap (λ (t : TableNo). t.number) (j.table ∙ i.table)) in
+    record {
+      box = h.box;
+      there = ap (λ (n : ℕ). slice_get boxes n) (j.source ∙ i.source) ∙ h.there;
+      holds = whole_begins h.box s.table.number s.spec (j.offered ∙ i.offered) silent j.whole (subst (λ (t : ℕ). IsSome (table_of h.box t)) number h.holds);
+    }
 
 -- equal lists begin alike, and go on alike
 abbrev first_of : ℕ → List ℕ → ℕ
@@ -138,18 +139,19 @@ abbrev rest_of : List ℕ → List ℕ
 rest_of [] = []
 rest_of (x ∷ xs) = xs
 
-pub scans_whole : (es : List BoundEntry) (os : List Offer) (more : List Agreement) (ss : List EntryScan) → AreOffers es os → map answers_given more ≡ map answers_wanted os → AreScans os more ss → All IsWhole ss
-scans_whole [] [] [] [] is many js = none_all IsWhole
-scans_whole [] [] [] (s ∷ ss) is many js = absurd js
-scans_whole [] [] (a ∷ more) [] is many js = absurd js
-scans_whole [] [] (a ∷ more) (s ∷ ss) is many js = absurd js
-scans_whole [] (o ∷ os) more ss is many js = absurd is
-scans_whole (e ∷ es) [] more ss is many js = absurd is
-scans_whole (e ∷ es) (o ∷ os) [] [] is many js = absurd js
-scans_whole (e ∷ es) (o ∷ os) [] (s ∷ ss) is many js = absurd js
-scans_whole (e ∷ es) (o ∷ os) (a ∷ more) [] is many js = absurd js
-scans_whole (e ∷ es) (o ∷ os) (a ∷ more) (s ∷ ss) is many js =
-    All-cons IsWhole s ss (scan_whole e o a s is.0 (ap (first_of 0) many) js.0) (scans_whole es os more ss is.1 (ap rest_of many) js.1)
+-- each scan may begin
+pub scans_begin : (boxes : List (Option BoxState)) (es : List BoundEntry) (os : List Offer) (more : List Agreement) (ss : List EntryScan) → AreOffers es os → map answers_given more ≡ map answers_wanted os → AreScans os more ss → All (HasEntry boxes) es → AllBegin boxes ss
+scans_begin boxes [] [] [] [] is many js h = tt
+scans_begin boxes [] [] [] (s ∷ ss) is many js h = absurd js
+scans_begin boxes [] [] (a ∷ more) [] is many js h = absurd js
+scans_begin boxes [] [] (a ∷ more) (s ∷ ss) is many js h = absurd js
+scans_begin boxes [] (o ∷ os) more ss is many js h = absurd is
+scans_begin boxes (e ∷ es) [] more ss is many js h = absurd is
+scans_begin boxes (e ∷ es) (o ∷ os) [] [] is many js h = absurd js
+scans_begin boxes (e ∷ es) (o ∷ os) [] (s ∷ ss) is many js h = absurd js
+scans_begin boxes (e ∷ es) (o ∷ os) (a ∷ more) [] is many js h = absurd js
+scans_begin boxes (e ∷ es) (o ∷ os) (a ∷ more) (s ∷ ss) is many js h =
+    (scan_begins boxes e o a s is.0 (ap (first_of 0) many) js.0 (h 0 e (omega arith)), scans_begin boxes es os more ss is.1 (ap rest_of many) js.1 (λ k d lt. h (suc k) d (omega arith)))
 
 -- ---- the query
 
@@ -180,44 +182,29 @@ AnswersInAnyOrder = (q : Query) (db other : Tables) → IsSteady q → SameRows 
 same_back : (db other : Tables) → SameRows db other → SameRows other db
 same_back db other h t = IsPermutation-sym (db t) (other t) (h t)
 
--- as many rows are kept, in whatever order they come
-one_each : (rows : List Tuple) → length (filter (has_class None) (map (λ r. r ∷ []) rows)) ≡ length rows
-one_each [] = refl
-one_each (r ∷ rows) = ap suc (one_each rows)
-
-shown_for_each : (q : Query) (db : Tables) → length (outputs_all (plain q.from q.where_ []) db) ≡ length (kept q db)
-shown_for_each q db = length-map (kept_classes (plain q.from q.where_ []) db) (output (plain q.from q.where_ [])) ∙ one_each (kept q db)
-
-kept_as_many : AnswersInAnyOrder → (q : Query) (db other : Tables) → SameRows db other → length (kept q db) ≡ length (kept q other)
-kept_as_many law q db other same =
-    let p = plain q.from q.where_ [] in
-    let h = law p db other (record { having = tt; keys = tt; items = tt }) same in
-    sym (shown_for_each q db) ∙ sym (length_permutation (outputs_all p db) (outputs_all p other) h.outputs) ∙ shown_for_each q other
-
-pub causes_any : AnswersInAnyOrder → (q : Query) → IsSteady q → (db other : Tables) → SameRows db other → (c : Cause) → QueryCauses q db c → QueryCauses q other c
-causes_any law q is db other same c (inl (f, told, e)) = inl (f, (law q db other is same).told f told, e)
-causes_any law q is db other same c (inr (grouped, big, e)) = inr (grouped, subst (λ (n : ℕ). 2 ^ 62 < n) (kept_as_many law q db other same) big, e)
+abbrev CausesInAnyOrder : Type 0
+CausesInAnyOrder = (q : Query) → IsSteady q → (db other : Tables) → SameRows db other → (c : Cause) → QueryCauses q db c → QueryCauses q other c
 
 -- what holds over the rows as the boxes give them holds of them in any order
-pub answers_over : AnswersInAnyOrder → (q : Query) → IsSteady q → (places : List Place) (boxes : List (Option BoxState)) (rows : List Tuple) → RunAnswers q places boxes rows → AnswersOver q places boxes rows
-answers_over law q is places boxes rows h = record {
+pub answers_over : AnswersInAnyOrder → CausesInAnyOrder → (q : Query) → IsSteady q → (places : List Place) (boxes : List (Option BoxState)) (rows : List Tuple) → RunAnswers q places boxes rows → AnswersOver q places boxes rows
+answers_over law causes q is places boxes rows h = record {
   answers = λ honest db same. (law q (entry_rows boxes places) db is same).answers rows (h.answers honest);
-  clear = λ honest db same c shows. h.clear honest c (causes_any law q is db (entry_rows boxes places) (same_back (entry_rows boxes places) db same) c shows);
+  clear = λ honest db same c shows. h.clear honest c (causes q is db (entry_rows boxes places) (same_back (entry_rows boxes places) db same) c shows);
 }
 
-pub fails_over : AnswersInAnyOrder → (q : Query) → IsSteady q → (places : List Place) (fault : Fault) (old new : List (Option BoxState)) → Stops q places fault old new → RunFails q places (cause_of fault) old new
+pub fails_over : CausesInAnyOrder → (q : Query) → IsSteady q → (places : List Place) (fault : Fault) (old new : List (Option BoxState)) → Stops q places fault old new → RunFails q places (cause_of fault) old new
 fails_over law q is places fault old new (lacks_memory e) = no_memory (ap cause_of e)
 fails_over law q is places fault old new (source_fails e failed) = box_fails (ap cause_of e) failed
 fails_over law q is places fault old new (numbers_end e used) = numbers_out (ap cause_of e) used
 fails_over law q is places fault old new (query_shows c e shows) =
-    shows_cause (λ honest db same. subst (λ (d : Cause). QueryCauses q db d) (sym (ap cause_of e)) (causes_any law q is (entry_rows old places) db same c (shows honest)))
+    shows_cause (λ honest db same. subst (λ (d : Cause). QueryCauses q db d) (sym (ap cause_of e)) (law q is (entry_rows old places) db same c (shows honest)))
 
 -- ---- the whole
 
-pub selected : MeansItsForm → ExpressionsIgnoreOrder → AnswersInAnyOrder → (tables : List AttachedTable) (tree : StatementTree) (b : Bound) (rows : List Tuple) (old new : List (Option BoxState))
+pub selected : MeansItsForm → ExpressionsIgnoreOrder → AnswersInAnyOrder → CausesInAnyOrder → (tables : List AttachedTable) (tree : StatementTree) (b : Bound) (rows : List Tuple) (old new : List (Option BoxState))
     → IsBound (map table_shape tables) tree b → All (IsEntryOf tables) b.entries.items → ((c : Cause) → BindCauses (map table_shape tables) tree c → ⊥) → length b.entries.items ≤ 8 → AllServed old new
     → RunAnswers (written_query b.select) (map entry_place b.entries.items) old rows → Selects (map attached tables) tree old (map string_bytes b.names.items) rows new
-selected form order any tables tree b rows old new bound entries clear few served run =
+selected form order any causes tables tree b rows old new bound entries clear few served run =
     let m = meant_in (map attached tables) tree in
     let places = map entry_place b.entries.items in
     let is : IsMeant m b = bound_in tables tree b bound in
@@ -228,19 +215,19 @@ selected form order any tables tree b rows old new bound entries clear few serve
       served = served;
       places = places;
       are = subst (λ (ks : List ℕ). ArePlaces (map attached tables) ks places) is.entries (are_places tables b.entries.items entries);
-      answers = subst (λ (q : Query). AnswersOver q places old rows) (query_bound form m b is) (answers_over any (written_query b.select) (steady order b.select) places old rows run);
+      answers = subst (λ (q : Query). AnswersOver q places old rows) (query_bound form m b is) (answers_over any causes (written_query b.select) (steady order b.select) places old rows run);
     }
 
-pub unanswered : MeansItsForm → ExpressionsIgnoreOrder → AnswersInAnyOrder → (tables : List AttachedTable) (tree : StatementTree) (b : Bound) (fault : Fault) (old new : List (Option BoxState))
+pub unanswered : MeansItsForm → ExpressionsIgnoreOrder → CausesInAnyOrder → (tables : List AttachedTable) (tree : StatementTree) (b : Bound) (fault : Fault) (old new : List (Option BoxState))
     → IsBound (map table_shape tables) tree b → All (IsEntryOf tables) b.entries.items → ((c : Cause) → BindCauses (map table_shape tables) tree c → ⊥) → length b.entries.items ≤ 8 → AllServed old new
     → Stops (written_query b.select) (map entry_place b.entries.items) fault old new → SelectFails (map attached tables) tree old (cause_of fault) new
-unanswered form order any tables tree b fault old new bound entries clear few served stops =
+unanswered form order causes tables tree b fault old new bound entries clear few served stops =
     let m = meant_in (map attached tables) tree in
     let places = map entry_place b.entries.items in
     let is : IsMeant m b = bound_in tables tree b bound in
     run_fails (bindable_in tables tree clear) (subst (λ (n : ℕ). n ≤ 8) (sym (entries_counted m b is)) few) served places
     (subst (λ (ks : List ℕ). ArePlaces (map attached tables) ks places) is.entries (are_places tables b.entries.items entries))
-    (subst (λ (q : Query). RunFails q places (cause_of fault) old new) (query_bound form m b is) (fails_over any (written_query b.select) (steady order b.select) places fault old new stops))
+    (subst (λ (q : Query). RunFails q places (cause_of fault) old new) (query_bound form m b is) (fails_over causes (written_query b.select) (steady order b.select) places fault old new stops))
 
 pub crowded : (tables : List AttachedTable) (tree : StatementTree) (b : Bound) (old : List (Option BoxState)) → IsBound (map table_shape tables) tree b → ((c : Cause) → BindCauses (map table_shape tables) tree c → ⊥)
     → 8 < length b.entries.items → SelectFails (map attached tables) tree old LimitExceeded old

@@ -10,7 +10,7 @@ use Rattle.med_parser.specs.QueryCauses.{SyntaxCauses}
 use Rattle.med_binder.specs.Naming.{NameCauses}
 use Rattle.med_binder.specs.Typing.{TypeCauses}
 use Rattle.med_binder.specs.Meaning.{Meant, meant}
-use Rattle.med_exec.specs.Running.{QueryCauses}
+use Rattle.med_planner.specs.Planned.{QueryCauses}
 use Rattle.med_session.specs.Requests.{Asked, opening, sql, bye, IsUser}
 use Rattle.med_session.specs.World.{World, IsOpen, shapes, rows_in}
 use Rattle.med_session.specs.Queries.{query_of, entry_tables}

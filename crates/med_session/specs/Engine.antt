@@ -4,7 +4,7 @@ use Rattle.std.specs.List.{IsDistinct}
 use Rattle.fdw_api.specs.Kinds.{Column, column_of}
 use Rattle.fdw_api.specs.State.{BoxState, Bound, is_honest, table_of, scan_of}
 use Rattle.med_exec.specs.Slots.{states, BoxAt, HasTable}
-use Rattle.med_exec.specs.Scanning.{tuples_of}
+use Rattle.med_planner.specs.Planned.{tuples_of}
 use Rattle.med_exec.specs.Running.{HasFailed, IsUsedUp}
 use Rattle.med_session.specs.Requests.{Asked, IsSid, IsUser}
 use Rattle.med_session.specs.World.{World, Source, SourceState, free, dropped, ForeignTable, without_sessions}

@@ -10,7 +10,8 @@ use Rattle.fdw_api.specs.declared.interface.Fault.TheVariants.{NoMemory, Source,
 use Rattle.fdw_api.specs.declared.scan.Agreement.{Agreement}
 use Rattle.pushdown.specs.declared.offers.Offer.{Offer}
 use Rattle.pushdown.specs.Offered.{Place}
-use Rattle.med_exec.specs.Running.{AllServed, SlotShows, HasFailed, IsUsedUp, AllHonest, entry_rows, QueryCauses}
+use Rattle.med_planner.specs.Planned.{entry_rows, QueryCauses}
+use Rattle.med_exec.specs.Running.{AllServed, SlotShows, HasFailed, IsUsedUp, AllHonest}
 use Rattle.med_syntax.specs.QueryTree.{StatementTree}
 use Rattle.med_binder.specs.Scope.{TableShape}
 use Rattle.med_binder.specs.Meaning.{Meant, meant}

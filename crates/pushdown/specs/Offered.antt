@@ -47,8 +47,9 @@ entry_place e = record { source = e.source; table = e.table.number }
 abbrev pub scan_place : EntryScan → Place
 scan_place s = record { source = s.source; table = s.table.number }
 
--- a scan of whole rows, for which nothing is offered and nothing answered
-pub record IsWhole (s : EntryScan) : Type 0 where
-  pub nothing : s.spec.offered.items ≡ []
-  pub answers : s.spec.agreement.answers.items ≡ []
-  pub narrow : s.spec.agreement.narrow ≡ false
+-- The scans of the entries of a query: by what was offered for them, and what was answered.
+pub record AreScansOf (entries : List BoundEntry) (scans : List EntryScan) : Type 0 where
+  pub offers : List Offer
+  pub agreements : List Agreement
+  pub offered : AreOffers entries offers
+  pub agreed : AreScans offers agreements scans

@@ -2,20 +2,16 @@ use Rattle.std.proofs.Common.{◌≡◌, ◌+◌, List, [], ◌∷◌, ◌++◌,
 use Rattle.std.proofs.lemmas.Grind.{common_steps}
 use Rattle.std.proofs.lemmas.Result.{err_from_is_err_and}
 use Rattle.med_value.specs.Datum.{Tuple, tuple}
-use Rattle.pushdown.specs.Offered.{scan_place, IsWhole}
-use Rattle.pushdown.specs.declared.accepting.EntryScan.{EntryScan}
+use Rattle.med_planner.specs.Planned.{AllMayGive}
 use Rattle.med_exec.specs.Slots.{states}
 use Rattle.med_exec.specs.Staging.{tuples_in}
-use Rattle.med_exec.specs.TablesRead.{AreRead}
-use Rattle.med_exec.proofs.Served.{all_on, change_served, reads_served, fails_served, still_bound}
-use Rattle.med_exec.proofs.TableReads.{bound_scan, read_next, read_stops}
+use Rattle.med_exec.proofs.Served.{all_on, change_served, reads_served, fails_served, still_begins}
+use Rattle.med_exec.proofs.TableReads.{begins_scan, read_next, read_stops}
 use Rattle.med_exec.proofs.running.read_scans.Goals as goal
 
-pub read_scan-requires-clause-bound : goal.read_scan-requires-clause-bound
-read_scan-requires-clause-bound g c = still_bound _ _ _ _ c.loop-scan.invariant.served (bound_scan _ c.args.scans.now c.loop-scan.scan-index c.scan-item.result (omega arith) c.scan-item.is c.requires.bound)
-
-pub read_scan-requires-clause-whole : goal.read_scan-requires-clause-whole
-read_scan-requires-clause-whole g c = subst (λ (s : EntryScan). IsWhole s) (sym c.scan-item.is) (c.requires.whole c.loop-scan.scan-index c.scan-item.result (omega arith))
+pub read_scan-requires : goal.read_scan-requires
+read_scan-requires g c =
+    still_begins _ _ _ _ c.scan-item.result.spec c.loop-scan.invariant.served (begins_scan _ c.args.scans.now c.loop-scan.scan-index c.scan-item.result (omega arith) c.scan-item.is c.requires)
 
 pub returns-in_err-rows-clause-served : goal.returns-in_err-rows-clause-served
 returns-in_err-rows-clause-served g c =
@@ -28,7 +24,7 @@ returns-in_err-rows-clause-served g c =
 pub returns-in_err-rows-clause-err : goal.returns-in_err-rows-clause-err
 returns-in_err-rows-clause-err g c =
     let p = err_from_is_err_and c.from_residual.result c.from_residual.ensures.1 in
-    rw (p.1, p.2) (read_stops _ _ _ _ _ _ c.loop-scan.invariant.served c.in_err-rows.ensures.err)
+    rw (p.1, p.2) (read_stops _ _ _ _ _ c.loop-scan.invariant.served c.in_err-rows.ensures.err)
 
 pub returns-in_err-push-clause-served : goal.returns-in_err-push-clause-served
 returns-in_err-push-clause-served g c =
@@ -36,7 +32,7 @@ returns-in_err-push-clause-served g c =
     let old = states m c.args.slots.now.items in
     let mid = states m c.loop-scan.slots.items in
     let new = states m c.read_scan.new.slots.items in
-    all_on old mid new c.loop-scan.invariant.served (change_served _ mid _ new (λ s t r. reads_served _ s t r) c.in_ok-rows.ensures.ok)
+    all_on old mid new c.loop-scan.invariant.served (change_served _ mid _ new (λ s t r. reads_served _ _ s t r) c.in_ok-rows.ensures.ok)
 
 pub loop-scan-preserved : goal.loop-scan-preserved
 loop-scan-preserved g c =
@@ -50,7 +46,7 @@ loop-scan-preserved g c =
     let rows = map tuple c.in_ok-rows.rows.items in
     let grown : map tuples_in c.push.new.self.items ≡ lists ++ rows ∷ [] = grind (arith, common_steps) in
     record {
-      served = all_on old mid new c.loop-scan.invariant.served (change_served _ mid _ new (λ s t r. reads_served _ s t r) c.in_ok-rows.ensures.ok);
-      read = λ honest. subst (λ (l : List (List Tuple)). AreRead old (map scan_place (take (i + 1) scans)) l) (sym grown)
+      served = all_on old mid new c.loop-scan.invariant.served (change_served _ mid _ new (λ s t r. reads_served _ _ s t r) c.in_ok-rows.ensures.ok);
+      read = λ honest. subst (λ (l : List (List Tuple)). AllMayGive old (take (i + 1) scans) l) (sym grown)
           (read_next old mid new scans i c.scan-item.result lists rows (omega arith) c.scan-item.is c.loop-scan.invariant.served c.in_ok-rows.ensures.ok c.loop-scan.invariant.read honest);
     }

@@ -7,7 +7,7 @@ use Rattle.fdw_api.specs.declared.scan.Restriction.{Restriction}
 use Rattle.fdw_api.specs.declared.interface.Fault.TheVariants.{NoMemory}
 use Rattle.med_exec.specs.Scanning.{SelectsTable}
 use Rattle.med_exec.specs.Restricted.{place_shown}
-use Rattle.med_exec.proofs.ScanLemmas.{reads_in_vain}
+use Rattle.med_exec.proofs.ScanLemmas.{plain_scan, reads_in_vain}
 use Rattle.med_exec.proofs.RestrictedLemmas.{not_begun}
 use Rattle.med_exec.proofs.SelectLemmas.{planned_begins, selects_shown}
 use Rattle.med_exec.proofs.scans.select_box.Goals as goal
@@ -17,8 +17,8 @@ returns-in_err-from_slice-clause-err g c =
     let p = err_from_is_err_and c.from_residual.result c.from_residual.ensures.1 in
     rw (p.1, p.2) (not_begun (g.W.Wrapper.meaning c.args.b.now) NoMemory refl)
 
-pub scan_box-requires-clause-begin : goal.scan_box-requires-clause-begin
-scan_box-requires-clause-begin g c =
+pub scan_box-requires : goal.scan_box-requires
+scan_box-requires g c =
     let s = g.W.Wrapper.meaning c.args.b.now in
     let t = c.args.table.number in
     let a = c.in_ok-plan.field-0 in
@@ -47,4 +47,5 @@ returns-clause-ok g c =
     let given = map tuple c.in_ok-rows.rows.items in
     let cut = map tuple c.in_ok-project.field-0.items in
     let shown : c.deref.result.now ≡ map (place_shown spec) spec.wanted = c.deref.ensures.value ∙ c.in_ok-shown.ensures ∙ ap (map (place_shown spec)) (sym w) in
-    subst (λ (x : List ℕ). SelectsTable old t x cut new) w (selects_shown t spec given cut old new (c.in_ok-project.ensures ∙ ap (λ (l : List ℕ). map (pick l) given) shown) c.in_ok-rows.ensures.ok)
+    let none : spec.offered ≡ [] = ap (map filter_of) c.new.ensures.items in
+    subst (λ (x : List ℕ). SelectsTable old t x cut new) w (selects_shown t spec given cut old new (c.in_ok-project.ensures ∙ ap (λ (l : List ℕ). map (pick l) given) shown) (plain_scan t spec given old new none c.in_ok-rows.ensures.ok))

@@ -1,15 +1,22 @@
-use Rattle.std.proofs.Common.{List, subst, sym}
-use Rattle.pushdown.specs.Offered.{Place}
+use Rattle.std.proofs.Common.{◌∙◌, ap, sym, map}
+use Rattle.tri_expr.specs.Form.{is_safe_form}
+use Rattle.tri_expr.specs.Select.{query_of}
+use Rattle.pushdown.specs.Offered.{entry_place}
 use Rattle.med_exec.specs.Slots.{states}
-use Rattle.med_exec.specs.Running.{AreBound}
-use Rattle.med_session.proofs.Boxes.{all_served}
-use Rattle.med_session.proofs.Selections.{are_bound}
+use Rattle.med_exec.specs.Running.{none_held}
+use Rattle.med_session.proofs.Selections.{err_follows}
 use Rattle.med_session.proofs.select.run_bound.Goals as goal
 
 pub returns-in-Err-clause-served : goal.returns-in-Err-clause-served
-returns-in-Err-clause-served g c = all_served (states g.W.Wrapper.meaning c.args.slots.now.items)
+returns-in-Err-clause-served g c = c.services_join.ensures.same none_held (states g.W.Wrapper.meaning c.args.slots.now.items)
 
-pub run_plan-requires-clause-bound : goal.run_plan-requires-clause-bound
-run_plan-requires-clause-bound g c =
-    let boxes = states g.W.Wrapper.meaning c.args.slots.now.items in
-    subst (λ (ps : List Place). AreBound boxes ps) (sym c.in-Ok.ensures.scans) (are_bound boxes c.args.bound.now.entries.items c.requires.bound)
+pub run_plan-requires : goal.run_plan-requires
+run_plan-requires g c = record {
+  begins = c.in-Ok.ensures.begins;
+  safe = c.safe_forms_are_safe.ensures c.in-Ok.plan.select ∙ ap is_safe_form c.in-Ok.ensures.query ∙ sym (c.safe_forms_are_safe.ensures c.args.bound.now.select) ∙ c.requires.safe;
+}
+
+pub returns-clause-err : goal.returns-clause-err
+returns-clause-err g c =
+    let bound = c.args.bound.now in
+    err_follows _ _ c.run_plan.result (λ fault h. h (query_of bound.select) (map entry_place bound.entries.items) c.in-Ok.ensures.plans) c.run_plan.ensures.err

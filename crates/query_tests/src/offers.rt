@@ -2,6 +2,7 @@
 use fdw_api::interface::TableNo;
 use fdw_api::scan::Agreement;
 use med_binder::{Bound, BoundEntry};
+use med_planner::{Plan, plan};
 use pushdown::{Offers, Split, accept, offer};
 use std::alloc::Global;
 use std::test::Fail;
@@ -90,5 +91,26 @@ fn rows_come_whole(rt: HostRuntime) -> Result<(), Fail> {
         "the columns of b"
     );
     assert!(rt; !scans[0].spec.agreement.narrow, "whole rows of a");
+    Ok(())
+}
+
+#[test]
+fn plan_has_the_scans_and_the_query(rt: HostRuntime) -> Result<(), Fail> {
+    let alloc = rt.alloc();
+    let mut bound = two_entries(alloc)?;
+    bound.select.limit = Some(3);
+    let offers = offer(alloc, &bound)?;
+    let mut agreements = Vec::new(alloc);
+    for _entry in 0..2 {
+        agreements.push(Agreement {
+            answers: Vec::new(alloc),
+            narrow: false,
+        })?;
+    }
+    assert_eq!(rt; offers.entries.len(), agreements.len());
+    let Plan { scans, select } = plan(alloc, &bound, accept(alloc, offers, agreements)?)?;
+    assert_eq!(rt; scans.len(), 2, "one scan for each entry");
+    assert_eq!(rt; scans[1].source, 3, "the source of b");
+    assert_eq!(rt; select.limit, Some(3));
     Ok(())
 }

@@ -1,7 +1,5 @@
 //! Queries over the demo tables and the rows that they give.
-use fdw_api::interface::{Fault, Wrapper};
-use med_exec::{AnswerFault, Run, answer, start};
-use med_planner::Plan;
+use med_exec::{AnswerFault, answer};
 use med_value::{Row, Value, row_text};
 use std::alloc::Global;
 use std::test::Fail;
@@ -9,8 +7,6 @@ use tri_expr::{
     Comparison, EvalFault, Expr, Grouping, Join, JoinChain, Operation, Select, SetFunction,
     SortDirection, Test, is_safe_from,
 };
-
-type Boxes = Vec<Option<Box<dyn Wrapper>>>;
 
 const PARTS: usize = 0;
 
@@ -61,7 +57,7 @@ fn more_orders(alloc: Global) -> Result<Vec<Row>, Fail> {
     Ok(rows)
 }
 
-fn compare(alloc: Global, op: Comparison, a: Expr, b: Expr) -> Result<Expr, Fail> {
+pub(crate) fn compare(alloc: Global, op: Comparison, a: Expr, b: Expr) -> Result<Expr, Fail> {
     Ok(Expr::Compare(op, Box::new(alloc, a)?, Box::new(alloc, b)?))
 }
 
@@ -69,7 +65,7 @@ fn aggregate(alloc: Global, function: SetFunction, column: usize) -> Result<Expr
     Ok(Expr::Aggregate(function, Box::new(alloc, Expr::Column(column))?))
 }
 
-fn int(n: i64) -> Expr {
+pub(crate) fn int(n: i64) -> Expr {
     Expr::Literal(Value::Int(n))
 }
 
@@ -83,7 +79,7 @@ fn ten_over_qty(alloc: Global) -> Result<Expr, Fail> {
     compare(alloc, Comparison::Equal, quotient, int(1))
 }
 
-fn columns(alloc: Global, places: &[usize]) -> Result<Vec<Expr>, Fail> {
+pub(crate) fn columns(alloc: Global, places: &[usize]) -> Result<Vec<Expr>, Fail> {
     let mut items = Vec::new(alloc);
     for place in places {
         items.push(Expr::Column(*place))?;
@@ -91,12 +87,12 @@ fn columns(alloc: Global, places: &[usize]) -> Result<Vec<Expr>, Fail> {
     Ok(items)
 }
 
-fn one(alloc: Global, e: Expr) -> Result<Vec<Expr>, Fail> {
+pub(crate) fn one(alloc: Global, e: Expr) -> Result<Vec<Expr>, Fail> {
     Ok(vec![in alloc; e]?)
 }
 
 /// SELECT items FROM table
-fn select(alloc: Global, table: usize, items: Vec<Expr>) -> Result<Select, Fail> {
+pub(crate) fn select(alloc: Global, table: usize, items: Vec<Expr>) -> Result<Select, Fail> {
     let chain = JoinChain {
         first: table,
         joins: Vec::new(alloc),
@@ -317,67 +313,5 @@ fn distinct_takes_nulls_as_equal(rt: HostRuntime) -> Result<(), Fail> {
     query.distinct = true;
     order_by(alloc, &mut query, 1, false)?;
     assert_eq!(rt; run(alloc, &query)?.as_slice(), b"1\n9\n\\N\n".as_slice());
-    Ok(())
-}
-
-/// The first rows that a run gives, at most so many.
-fn rest_of(alloc: Global, run: &mut Run, slots: &mut Boxes, most: usize) -> Result<Vec<u8>, Fail> {
-    let mut text = Vec::new(alloc);
-    for _row in 0..most {
-        let Ok(Some(row)) = run.next(slots) else {
-            return Ok(text);
-        };
-        row_text(&row, &mut text)?;
-        text.push(b'\n')?;
-    }
-    Ok(text)
-}
-
-/// The rows that a run of a query without tables gives, or the code of its fault.
-fn run_without_tables(alloc: Global, select: Select) -> Result<Vec<u8>, Fail> {
-    if !is_safe_from(select.from.as_slice()) {
-        return Err("a risky ON".into());
-    }
-    let mut slots: Boxes = Vec::new(alloc);
-    let plan = Plan {
-        scans: Vec::new(alloc),
-        select,
-    };
-    let mut run = match start(alloc, plan, &mut slots) {
-        Ok(run) => run,
-        Err(Fault::Refused(cause)) => return Ok(cause.code().as_bytes().to_vec(alloc)?),
-        Err(_) => return Err("no memory".into()),
-    };
-    let text = rest_of(alloc, &mut run, &mut slots, 3);
-    run.close(&mut slots);
-    text
-}
-
-#[test]
-fn runs_a_query_without_tables(rt: HostRuntime) -> Result<(), Fail> {
-    let alloc = rt.alloc();
-    let mut query = select(alloc, PARTS, one(alloc, int(1))?)?;
-    query.from = Vec::new(alloc);
-    assert_eq!(rt;
-        run_without_tables(alloc, query)?.as_slice(),
-        b"1\n".as_slice()
-    );
-    Ok(())
-}
-
-#[test]
-fn run_tells_a_zero_divisor(rt: HostRuntime) -> Result<(), Fail> {
-    let alloc = rt.alloc();
-    let quotient = Expr::Compute(
-        Operation::Divide,
-        Box::new(alloc, int(1))?,
-        Box::new(alloc, int(0))?,
-    );
-    let mut query = select(alloc, PARTS, one(alloc, quotient)?)?;
-    query.from = Vec::new(alloc);
-    assert_eq!(rt;
-        run_without_tables(alloc, query)?.as_slice(),
-        b"22012".as_slice()
-    );
     Ok(())
 }

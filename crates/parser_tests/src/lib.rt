@@ -1,0 +1,16 @@
+//! Tests of texts that are read and written out, by public functions alone: tokens, expressions and statements. They stand apart, so that no
+//! crate is proved a second time for its tests.
+#![tactic(auto)]
+
+#[cfg(test)]
+mod expressions_read;
+#[cfg(test)]
+mod statement_names;
+#[cfg(test)]
+mod statement_refusals;
+#[cfg(test)]
+mod statement_sizes;
+#[cfg(test)]
+mod statements;
+#[cfg(test)]
+mod tokens;
