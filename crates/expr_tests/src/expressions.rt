@@ -255,6 +255,6 @@ fn laws_can_be_called() {
     tri_expr::law::risk_is_of_tree();
     tri_expr::law::same_trees_are_equal();
     tri_expr::law::bare_tree_means_the_same();
-    tri_expr::law::select_means_its_form();
-    tri_expr::law::safe_forms_are_safe();
+    med_query::law::select_means_its_form();
+    med_query::law::safe_forms_are_safe();
 }

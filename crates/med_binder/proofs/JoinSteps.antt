@@ -7,7 +7,7 @@ use Rattle.med_syntax.specs.QueryTree.{EntryTree}
 use Rattle.med_syntax.specs.QueryView.{join_tree, chain_tree}
 use Rattle.med_syntax.specs.declared.statement.Chain.{Chain}
 use Rattle.med_syntax.specs.declared.statement.Join.{Join}
-use Rattle.tri_expr.specs.Form.{JoinForm, ChainForm}
+use Rattle.med_query.specs.Form.{JoinForm, ChainForm}
 use Rattle.med_binder.specs.Scope.{TableShape, Scope, visible, scope_of, entry_shape, entry_columns, joined_entry, chain_entries}
 use Rattle.med_binder.specs.Naming.{on_name_causes, joins_name_causes}
 use Rattle.med_binder.specs.Meaning.{with_join, join_meant, joins_meant, chain_meant, chains_meant}

@@ -14,7 +14,7 @@ use Rattle.med_syntax.specs.QueryTree.{ItemTree, all, all_of, value, EntryTree, 
 use Rattle.tri_expr.specs.declared.expr.SetFunction.{SetFunction}
 use Rattle.tri_expr.specs.declared.expr.SetFunction.TheVariants.{Count, Sum, Min, Max}
 use Rattle.tri_expr.specs.Tree.{Tree}
-use Rattle.tri_expr.specs.Form.{JoinForm, cross_form, inner_form, left_form, ChainForm, GroupForm, Form}
+use Rattle.med_query.specs.Form.{JoinForm, cross_form, inner_form, left_form, ChainForm, GroupForm, Form}
 use Rattle.med_binder.specs.Scope.{TableShape, Scope, has_entry, candidates, exposed_name, entries_of, is_known, entry_shape, from_scope}
 use Rattle.med_binder.specs.Meaning.{Output, outputs_of, SortKey, position, output_name, expression, is_named, sort_key, function_named, resolved, with_join, meant_in}
 use Rattle.med_binder.specs.Naming.{counted_causes, column_causes, name_causes, name_causes_of_all, star_causes, item_name_causes, condition_name_causes, on_name_causes, joins_name_causes, chain_name_causes, group_name_causes, are_same, distinct_causes, sort_key_causes, key_name_causes, entry_causes, alias_causes, from_causes, asked_causes, once_known, statement_name_causes, NameCauses}

@@ -4,7 +4,7 @@ use Rattle.std.specs.List.{list_any, list_all}
 use Rattle.med_value.specs.declared.cause.Cause.{Cause}
 use Rattle.tri_expr.specs.Tree.{Tree}
 use Rattle.tri_expr.specs.TreeParts.{is_risky_tree}
-use Rattle.tri_expr.specs.Form.{JoinForm, cross_form, inner_form, left_form, ChainForm, all_safe_trees, is_safe_join_form}
+use Rattle.med_query.specs.Form.{JoinForm, cross_form, inner_form, left_form, ChainForm, all_safe_trees, is_safe_join_form}
 use Rattle.med_binder.specs.Typing.{unless, no_aggregate, no_risk, join_causes, chain_causes}
 
 pub on_ok : {X : Type 0} (r : Result X Cause) (P : Type 0) → P → OnOk r P

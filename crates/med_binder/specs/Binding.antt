@@ -2,7 +2,7 @@
 use Rattle.std.specs.Prelude.{◌≡◌, ◌⊎◌, List, map, length, Some, slice_get, string_bytes}
 use Rattle.med_value.specs.declared.cause.Cause.{Cause}
 use Rattle.med_syntax.specs.QueryTree.{StatementTree}
-use Rattle.tri_expr.specs.Form.{form_of}
+use Rattle.med_query.specs.Form.{form_of}
 use Rattle.med_binder.specs.Scope.{TableShape}
 use Rattle.med_binder.specs.Naming.{NameCauses}
 use Rattle.med_binder.specs.Typing.{TypeCauses}

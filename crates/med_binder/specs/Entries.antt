@@ -7,7 +7,7 @@ use Rattle.med_syntax.specs.QueryTree.{EntryTree, JoinTree}
 use Rattle.tri_expr.specs.declared.expr.Expr.{Expr}
 use Rattle.tri_expr.specs.Tree.{Tree, tree}
 use Rattle.tri_expr.specs.TreeParts.{arguments_in}
-use Rattle.tri_expr.specs.Form.{JoinForm, GroupForm}
+use Rattle.med_query.specs.Form.{JoinForm, GroupForm}
 use Rattle.med_binder.specs.Scope.{TableShape, Scope, table_shape, place_named, entry_place, entry_columns, joined_entry}
 use Rattle.med_binder.specs.Naming.{entry_causes, on_name_causes}
 use Rattle.med_binder.specs.Meaning.{Output, first_value, with_join, join_meant}

@@ -3,7 +3,7 @@ use Rattle.std.specs.Prelude.{◌≡◌, List, [], ◌++◌, map, flat_map, stri
 use Rattle.med_value.specs.declared.cause.Cause.{Cause}
 use Rattle.med_syntax.specs.QueryTree.{SelectTree}
 use Rattle.tri_expr.specs.Tree.{tree}
-use Rattle.tri_expr.specs.Form.{Form, chain_form, form_of}
+use Rattle.med_query.specs.Form.{Form, chain_form, form_of}
 use Rattle.med_binder.specs.Scope.{TableShape, Scope, table_shape}
 use Rattle.med_binder.specs.Naming.{chain_name_causes, item_name_causes, condition_name_causes, group_name_causes, key_name_causes, select_name_causes}
 use Rattle.med_binder.specs.Meaning.{Output, outputs_of, conditions_of, chains_meant, group_place, key_meant, key_direction, rows_left, groups_rows, meant_in}

@@ -23,9 +23,9 @@ use Rattle.tri_expr.specs.declared.expr.Test.{Test}
 use Rattle.tri_expr.specs.declared.expr.Test.TheVariants as tests
 use Rattle.tri_expr.specs.declared.expr.SetFunction.{SetFunction}
 use Rattle.tri_expr.specs.declared.expr.SetFunction.TheVariants.{Count, Sum, Min, Max}
-use Rattle.tri_expr.specs.Query.{Direction}
+use Rattle.med_query.specs.Query.{Direction}
 use Rattle.tri_expr.specs.TreeParts.{arguments_in}
-use Rattle.tri_expr.specs.Form.{JoinForm, cross_form, inner_form, left_form, ChainForm, GroupForm, Form}
+use Rattle.med_query.specs.Form.{JoinForm, cross_form, inner_form, left_form, ChainForm, GroupForm, Form}
 use Rattle.med_binder.specs.Aggregates.{has_aggregate}
 use Rattle.tri_expr.specs.Tree.{Tree, Trees, conjunct_trees, column, literal, compare, compute, negate, all_of, some_of, opposite, asks, between, within, matches, parenthesised, count_rows, aggregate, none, part}
 use Rattle.med_syntax.specs.QueryTree.{ItemTree, all, all_of as all_of_entry, value, JoinTree, inner_join, left_join, cross_join, ChainTree, GroupTree, KeyTree, LimitTree, no_limit, rows, SelectTree, StatementTree, select}

@@ -14,7 +14,7 @@ use Rattle.tri_expr.specs.declared.expr.SetFunction.{SetFunction}
 use Rattle.tri_expr.specs.declared.expr.SetFunction.TheVariants.{Count, Sum, Min, Max}
 use Rattle.tri_expr.specs.Tree.{Tree}
 use Rattle.tri_expr.specs.TreeParts.{is_risky_tree}
-use Rattle.tri_expr.specs.Form.{JoinForm, cross_form, inner_form, left_form, ChainForm, GroupForm, Form}
+use Rattle.med_query.specs.Form.{JoinForm, cross_form, inner_form, left_form, ChainForm, GroupForm, Form}
 use Rattle.med_binder.specs.Scope.{TableShape, Scope, candidates, kind_at, entry_shape, from_scope}
 use Rattle.med_binder.specs.Aggregates.{has_aggregate, is_ungrouped}
 use Rattle.med_binder.specs.Meaning.{Output, outputs_of, SortKey, position, output_name, expression, sort_key, function_named, with_join, meant_in}

@@ -5,7 +5,7 @@ ghost use Rattle.std.specs.List.{list_all};
 ghost use Rattle.med_value.specs.declared.cause.Cause.{Cause};
 ghost use Rattle.med_syntax.specs.QueryTree.{select};
 ghost use Rattle.med_syntax.specs.QueryView.{select_tree, statement_tree};
-ghost use Rattle.tri_expr.specs.Select.{is_safe_chain};
+ghost use Rattle.med_query.specs.Select.{is_safe_chain};
 ghost use Rattle.med_binder.specs.Scope.{table_shape};
 ghost use Rattle.med_binder.specs.Naming.{select_name_causes, statement_name_causes};
 ghost use Rattle.med_binder.specs.Typing.{select_type_causes, statement_type_causes};

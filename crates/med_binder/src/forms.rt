@@ -5,16 +5,18 @@ ghost use Rattle.std.specs.Prelude.{◌≡◌, ◌++◌, map, flat_map, option_m
 ghost use Rattle.std.specs.List.{list_any, list_all};
 ghost use Rattle.tri_expr.specs.Tree.{tree, trees};
 ghost use Rattle.tri_expr.specs.TreeParts.{is_risky_tree};
-ghost use Rattle.tri_expr.specs.Form.{join_form, chain_form, group_form, form_of};
-ghost use Rattle.tri_expr.specs.Select.{is_safe_chain};
+ghost use Rattle.med_query.specs.Form.{join_form, chain_form, group_form, form_of};
+ghost use Rattle.med_query.specs.Select.{is_safe_chain};
 ghost use Rattle.med_binder.specs.Aggregates as spec;
 ghost use Rattle.med_binder.specs.Typing as causes;
 ghost use Rattle.med_binder.specs.Telling.{Passes};
 
 use crate::aggregates::has_aggregate;
+use med_query::law::safe_forms_are_safe;
+use med_query::{Grouping, Join, JoinChain, Select};
 use med_value::Cause;
-use tri_expr::law::{risk_is_of_tree, safe_forms_are_safe};
-use tri_expr::{Expr, Grouping, Join, JoinChain, Select, is_risky};
+use tri_expr::law::risk_is_of_tree;
+use tri_expr::{Expr, is_risky};
 
 /// Whether an expression has no one meaning over groups with these keys, given that it is a column.
 fn is_no_key(keys: &[usize], place: usize) -> bool

@@ -7,16 +7,17 @@ ghost use Rattle.std.specs.List.{list_any};
 ghost use Rattle.med_syntax.specs.QueryView.{select_tree};
 ghost use Rattle.tri_expr.specs.Tree.{tree};
 ghost use Rattle.tri_expr.specs.TreeParts.{arguments_in};
-ghost use Rattle.tri_expr.specs.Form.{group_form};
+ghost use Rattle.med_query.specs.Form.{group_form};
 ghost use Rattle.med_binder.specs.Meaning.{groups_rows};
 ghost use Rattle.med_binder.specs.Entries.{group_of};
 ghost use Rattle.med_binder.specs.Telling.{Gives, Adds};
 
 use crate::aggregates::any_has_aggregate;
+use med_query::Grouping;
 use med_syntax::Select as WrittenSelect;
 use med_value::Cause;
 use std::alloc::Global;
-use tri_expr::{Expr, Grouping, arguments};
+use tri_expr::{Expr, arguments};
 
 fn push_arguments(alloc: Global, es: &[Expr], out: &mut Vec<Expr>) -> Result<(), Cause>
     ensures { Adds [] (flat_map arguments_in (map tree es.now)) (map tree out.old.items) (map tree out.new.items) result }

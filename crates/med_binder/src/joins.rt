@@ -5,7 +5,7 @@ ghost use Rattle.std.specs.Prelude.{◌≡◌, ℕ, ◌+◌, ◌∷◌, [], map,
 ghost use Rattle.med_syntax.specs.ExprView.{expr_tree};
 ghost use Rattle.med_syntax.specs.QueryView.{entry_tree, join_tree, chain_tree};
 ghost use Rattle.tri_expr.specs.Tree.{tree, conjunct_trees};
-ghost use Rattle.tri_expr.specs.Form.{join_form, chain_form};
+ghost use Rattle.med_query.specs.Form.{join_form, chain_form};
 ghost use Rattle.med_binder.specs.Scope.{scope_of, table_shape, entry_shape, chain_entries};
 ghost use Rattle.med_binder.specs.Naming.{name_causes, condition_name_causes, on_name_causes, joins_name_causes, chain_name_causes};
 ghost use Rattle.med_binder.specs.Meaning.{resolved, conditions_of, join_meant, joins_meant, chain_meant, chains_meant};
@@ -16,10 +16,11 @@ use crate::from::{joined_entry, visible_of};
 use crate::resolve::resolve;
 use crate::scope::Visible;
 use crate::table::AttachedTable;
+use med_query::{Join, JoinChain};
 use med_syntax::{Chain, Entry, Expr as Written, Join as WrittenJoin};
 use med_value::Cause;
 use std::alloc::Global;
-use tri_expr::{Expr, Join, JoinChain, conjuncts};
+use tri_expr::{Expr, conjuncts};
 
 /// The conjuncts of a condition.
 fn conjuncts_of(

@@ -7,7 +7,7 @@ ghost use Rattle.med_syntax.specs.ExprView.{expr_tree};
 ghost use Rattle.med_syntax.specs.QueryView.{key_tree, group_tree};
 ghost use Rattle.tri_expr.specs.Tree.{tree};
 ghost use Rattle.tri_expr.specs.TreeParts.{same_tree};
-ghost use Rattle.tri_expr.specs.Select.{direction_of};
+ghost use Rattle.med_query.specs.Select.{direction_of};
 ghost use Rattle.med_binder.specs.Scope.{scope_of};
 ghost use Rattle.med_binder.specs.Naming.{name_causes, position_causes, output_name_causes, distinct_causes, sort_key_causes, key_name_causes, group_name_causes};
 ghost use Rattle.med_binder.specs.Meaning as spec;
@@ -19,11 +19,12 @@ ghost use Rattle.med_binder.specs.Entries.{IsFirst};
 use crate::outputs::Shown;
 use crate::resolve::resolve;
 use crate::scope::{Visible, find_column};
+use med_query::SortDirection;
 use med_syntax::{Expr as Written, GroupColumn, OrderKey};
 use med_value::{Cause, Value};
 use std::alloc::Global;
 use tri_expr::law::same_trees_are_equal;
-use tri_expr::{Expr, SortDirection, is_same};
+use tri_expr::{Expr, is_same};
 
 /// Whether an output has this name.
 fn is_output(outputs: &[Shown], name: &str) -> bool

@@ -16,10 +16,11 @@ use crate::keys::{directions, keys, places};
 use crate::outputs::{Shown, outputs_of};
 use crate::scope::Visible;
 use crate::table::AttachedTable;
+use med_query::{JoinChain, Select as Resolved};
 use med_syntax::{Limit, Select};
 use med_value::Cause;
 use std::alloc::Global;
-use tri_expr::{Expr, JoinChain, Select as Resolved};
+use tri_expr::Expr;
 
 /// What is asked of the entries of FROM, its names being resolved.
 #[derive(Drop)]

@@ -2,17 +2,5 @@ pub mod SlotLemmas
 pub mod ScanLemmas
 pub mod RestrictedLemmas
 pub mod SelectLemmas
-pub mod Telling
-pub mod RowByRow
-pub mod Runs
-pub mod GroupRuns
-pub mod Pages
-pub mod KeyOrder
-pub mod SafeJoins
-pub mod Joining
-pub mod ToldParts
-pub mod Ungrouped
-pub mod Grouped
-pub mod Finished
 pub mod Served
 pub mod TableReads

@@ -7,8 +7,8 @@ use Rattle.med_value.specs.declared.cause.Cause.TheVariants.{OutOfRange, Divisio
 use Rattle.tri_expr.specs.declared.expr.Fault.{Fault as Wrong}
 use Rattle.tri_expr.specs.declared.expr.Fault.TheVariants.{Range, Zero}
 use Rattle.tri_expr.specs.declared.expr.EvalFault.TheVariants.{OutOfRange as Overflow, ZeroDivisor, NoMemory as LacksMemory}
-use Rattle.tri_expr.specs.Select.{query_of}
-use Rattle.tri_expr.specs.Query.{Query, Tables, IsAnswer, faults, kept}
+use Rattle.med_query.specs.Select.{query_of}
+use Rattle.med_query.specs.Query.{Query, Tables, IsAnswer, faults, kept}
 use Rattle.fdw_api.specs.Scan.{TableRow, GivenRow, IsComing, spec_of}
 use Rattle.fdw_api.specs.State.{Ledger, BoxState, is_honest, rows_of}
 use Rattle.fdw_api.specs.Calls.{CanBegin}
@@ -22,9 +22,10 @@ use Rattle.med_exec.specs.Reading.{cells_of}
 use Rattle.med_exec.specs.Slots.{BoxAt, ChangesAt}
 use Rattle.med_exec.specs.Scanning.{RunsScan, FailsTable}
 use Rattle.med_exec.specs.Running.{none_held, AllServed, SlotShows, AllHonest, AllBegin, Stops, lacks_memory, source_fails, numbers_end, query_shows, Begun}
-use Rattle.med_exec.specs.Answering.{IsSmall, IsShown, refusal}
-use Rattle.med_exec.specs.declared.outputs.AnswerFault.{AnswerFault}
-use Rattle.med_exec.specs.declared.outputs.AnswerFault.TheVariants.{Evaluation, TooManyRows}
+use Rattle.med_exec.specs.Refusing.{refusal}
+use Rattle.med_query.specs.Answering.{IsSmall, IsShown}
+use Rattle.med_query.specs.declared.outputs.AnswerFault.{AnswerFault}
+use Rattle.med_query.specs.declared.outputs.AnswerFault.TheVariants.{Evaluation, TooManyRows}
 use Rattle.med_exec.proofs.ScanLemmas.{honest_on}
 use Rattle.med_exec.proofs.Served.{ServedAlone, ServedAt, before_service, box_inj, fails_counted}
 

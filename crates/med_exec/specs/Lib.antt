@@ -2,11 +2,6 @@ pub mod Slots
 pub mod Reading
 pub mod Scanning
 pub mod Restricted
-pub mod Answering
+pub mod Refusing
 pub mod Running
 pub mod Rests
-pub mod Select
-pub mod Staging
-pub mod Ordering
-pub mod Grouping
-pub mod Finishing

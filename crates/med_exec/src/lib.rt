@@ -1,31 +1,21 @@
 //! Runs of plans: what stands between the interface of boxed wrappers and the engine.
 //!
 //! A box is asked how it would scan a table ([`plan_at`]). A run ([`start`], [`Run`]) reads what each scan of its plan gives, one after
-//! another, and answers the plan's query over the rows ([`answer`]): joined rows, WHERE, groups, HAVING, items, DISTINCT, ORDER BY, OFFSET
-//! and LIMIT. Then it gives the answer row by row, and needs no box for it.
+//! another, and takes the answer of the plan's query over the rows (`answer` of `med_query`). Then it gives the answer row by row, and
+//! needs no box for it.
 //!
 //! All calls on boxes are generic over the box. They take the engine's slots, in which a slot whose box was dropped holds `None`. What a
 //! box holds stays as it is: a run changes nothing but the counts and its own scans, and leaves none live once it is closed.
 #![tactic(auto)]
 
-pub mod answers;
 pub mod columns;
-mod filtering;
-mod grouping;
-mod joins;
 pub mod law;
-mod ordering;
-pub mod outputs;
 pub mod restricted;
 pub mod running;
 pub mod scans;
 pub mod slots;
-mod staging;
-mod values;
 
-pub use answers::answer;
 pub use columns::project;
-pub use outputs::AnswerFault;
 pub use restricted::{read_restricted, select_restricted};
 pub use running::{Run, plan_at, start};
 pub use scans::{read_scan, read_table, select_table};

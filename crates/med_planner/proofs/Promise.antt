@@ -8,12 +8,12 @@ use Rattle.std.proofs.lemmas.List.Sorted.{IsPermutation-refl, IsPermutation-sym,
 use Rattle.med_value.specs.Datum.{Tuple}
 use Rattle.med_value.specs.declared.cause.Cause.{Cause}
 use Rattle.tri_expr.specs.declared.expr.Expr.{Expr}
-use Rattle.tri_expr.specs.declared.select.Grouping.{Grouping}
-use Rattle.tri_expr.specs.declared.select.Select.{Select}
-use Rattle.tri_expr.specs.Form.{form_of, query_by}
-use Rattle.tri_expr.specs.Select.{query_of, groups_of}
-use Rattle.tri_expr.specs.Laws.{AllIgnoreOrder, IsSteady, AnswersIgnoreOrder}
-use Rattle.tri_expr.specs.Query.{Query, Tables, SameRows, IsAnswer, senses, having_of, has_class, kept, plain, outputs_all, output, kept_classes}
+use Rattle.med_query.specs.declared.select.Grouping.{Grouping}
+use Rattle.med_query.specs.declared.select.Select.{Select}
+use Rattle.med_query.specs.Form.{form_of, query_by}
+use Rattle.med_query.specs.Select.{query_of, groups_of}
+use Rattle.med_query.specs.Laws.{AllIgnoreOrder, IsSteady, AnswersIgnoreOrder}
+use Rattle.med_query.specs.Query.{Query, Tables, SameRows, IsAnswer, senses, having_of, has_class, kept, plain, outputs_all, output, kept_classes}
 use Rattle.fdw_api.specs.Scan.{Spec, Filter, spec_of, filter_of, TableRow, GivenRow, IsComing, shown, shown_cells, pick, meets_all}
 use Rattle.fdw_api.specs.State.{BoxState, rows_of}
 use Rattle.fdw_api.specs.declared.interface.TableNo.{TableNo}

@@ -5,8 +5,8 @@ use Rattle.med_value.specs.declared.cause.Cause.{Cause}
 use Rattle.med_value.specs.declared.cause.Cause.TheVariants.{OutOfRange, DivisionByZero, TooLarge}
 use Rattle.tri_expr.specs.declared.expr.Fault.{Fault as Wrong}
 use Rattle.tri_expr.specs.declared.expr.Fault.TheVariants.{Range, Zero}
-use Rattle.tri_expr.specs.Query.{Query, Tables, IsAnswer, faults, kept}
-use Rattle.tri_expr.specs.Select.{query_of}
+use Rattle.med_query.specs.Query.{Query, Tables, IsAnswer, faults, kept}
+use Rattle.med_query.specs.Select.{query_of}
 use Rattle.fdw_api.specs.Scan.{GivenRow, IsComing, spec_of}
 use Rattle.fdw_api.specs.State.{BoxState, rows_of}
 use Rattle.pushdown.specs.Offered.{Place}

@@ -1,12 +1,12 @@
 //! Laws of what is planned.
 #![tactic(auto)]
 
-ghost use Rattle.tri_expr.specs.Query.{Query, Tables, SameRows};
-ghost use Rattle.tri_expr.specs.Laws.{IsSteady};
+ghost use Rattle.med_query.specs.Query.{Query, Tables, SameRows};
+ghost use Rattle.med_query.specs.Laws.{IsSteady};
 ghost use Rattle.med_value.specs.declared.cause.Cause.{Cause as Told};
 ghost use Rattle.med_planner.specs.Planned.{QueryCauses};
 
-use tri_expr::law::answers_ignore_order;
+use med_query::law::answers_ignore_order;
 
 /// A query over the same rows in any other order shows the same causes: so a source may give its rows in any order.
 pub fn causes_ignore_order()

@@ -2,8 +2,8 @@
 #![tactic(auto)]
 
 ghost use Rattle.std.specs.Prelude.{◌≡◌, List, Option, IfOk, map};
-ghost use Rattle.tri_expr.specs.Form.{form_of};
-ghost use Rattle.tri_expr.specs.Select.{query_of};
+ghost use Rattle.med_query.specs.Form.{form_of};
+ghost use Rattle.med_query.specs.Select.{query_of};
 ghost use Rattle.fdw_api.specs.State.{BoxState};
 ghost use Rattle.pushdown.specs.Offered.{AreScansOf, entry_place};
 ghost use Rattle.med_planner.specs.Planned.{IsPlanOf};
@@ -11,10 +11,10 @@ ghost use Rattle.med_planner.specs.Planned.{IsPlanOf};
 use crate::law::causes_ignore_order;
 use crate::plans::Plan;
 use med_binder::Bound;
+use med_query::law::{answers_ignore_order, expressions_ignore_order, select_means_its_form};
 use med_value::NoMemory;
 use pushdown::Split;
 use std::alloc::Global;
-use tri_expr::law::{answers_ignore_order, expressions_ignore_order, select_means_its_form};
 
 /// The plan of a query by these scans. Where they are the scans of the query's entries, whatever rows the boxes give under what they agreed to,
 /// each answer of the plan's query over these rows is an answer of the query over the tables, and the two show the same faults.

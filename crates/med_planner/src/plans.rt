@@ -1,7 +1,7 @@
 //! Plans.
 
+use med_query::Select;
 use pushdown::EntryScan;
-use tri_expr::Select;
 
 /// How a query is run: a scan for each entry, in order, and the query over the rows that they give.
 #[derive(Drop)]

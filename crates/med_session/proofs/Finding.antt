@@ -2,7 +2,7 @@
 use Rattle.std.proofs.Common.{◌≡◌, ℕ, List, [], ◌∷◌, Option, Some, map, All, refl, sym, ap, ◌∙◌, subst, zero, suc, arith, slice_get, IsPermutation}
 use Rattle.std.proofs.lemmas.List.Sorted.{IsPermutation-refl}
 use Rattle.med_value.specs.Datum.{Tuple}
-use Rattle.tri_expr.specs.Query.{SameRows}
+use Rattle.med_query.specs.Query.{SameRows}
 use Rattle.fdw_api.specs.State.{BoxState}
 use Rattle.pushdown.specs.Offered.{Place}
 use Rattle.med_exec.specs.Slots.{BoxAt}

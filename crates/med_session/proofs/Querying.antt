@@ -4,7 +4,7 @@ use Rattle.std.proofs.lemmas.Bool.{false≢true}
 use Rattle.med_value.specs.Datum.{Tuple}
 use Rattle.med_value.specs.declared.cause.Cause.{Cause}
 use Rattle.med_value.specs.declared.cause.Cause.TheVariants.{LimitExceeded, OutOfMemory, SourceFault}
-use Rattle.tri_expr.specs.Query.{Tables, SameRows, IsAnswer}
+use Rattle.med_query.specs.Query.{Tables, SameRows, IsAnswer}
 use Rattle.fdw_api.specs.State.{BoxState}
 use Rattle.pushdown.specs.Offered.{Place}
 use Rattle.med_planner.specs.Planned.{entry_rows, QueryCauses}

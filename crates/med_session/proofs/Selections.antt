@@ -8,12 +8,12 @@ use Rattle.med_value.specs.Datum.{Tuple}
 use Rattle.med_value.specs.declared.cause.Cause.{Cause}
 use Rattle.med_value.specs.declared.cause.Cause.TheVariants.{LimitExceeded, OutOfMemory}
 use Rattle.tri_expr.specs.declared.expr.Expr.{Expr}
-use Rattle.tri_expr.specs.declared.select.Grouping.{Grouping}
-use Rattle.tri_expr.specs.declared.select.Select.{Select}
-use Rattle.tri_expr.specs.Form.{form_of, query_by}
-use Rattle.tri_expr.specs.Select.{query_of as written_query, groups_of}
-use Rattle.tri_expr.specs.Laws.{AllIgnoreOrder, IsSteady, AnswersIgnoreOrder}
-use Rattle.tri_expr.specs.Query.{Query, Tables, SameRows, senses, having_of, has_class, kept, plain, outputs_all, output, kept_classes}
+use Rattle.med_query.specs.declared.select.Grouping.{Grouping}
+use Rattle.med_query.specs.declared.select.Select.{Select}
+use Rattle.med_query.specs.Form.{form_of, query_by}
+use Rattle.med_query.specs.Select.{query_of as written_query, groups_of}
+use Rattle.med_query.specs.Laws.{AllIgnoreOrder, IsSteady, AnswersIgnoreOrder}
+use Rattle.med_query.specs.Query.{Query, Tables, SameRows, senses, having_of, has_class, kept, plain, outputs_all, output, kept_classes}
 use Rattle.fdw_api.specs.Scan.{Filter, spec_of, plain_spec, filter_of, params_fit}
 use Rattle.fdw_api.specs.State.{BoxState, Bound as TableBound, table_of}
 use Rattle.fdw_api.specs.Calls.{CanBegin}

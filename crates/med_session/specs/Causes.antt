@@ -3,7 +3,7 @@ use Rattle.std.specs.Prelude.{◌≡◌, ◌<◌, ◌≤◌, ◌⊎◌, ℕ, len
 use Rattle.med_value.specs.Causes.{phase_of}
 use Rattle.med_value.specs.declared.cause.Cause.{Cause}
 use Rattle.med_value.specs.declared.cause.Cause.TheVariants.{Protocol, NoConnection, LimitExceeded}
-use Rattle.tri_expr.specs.Query.{Tables}
+use Rattle.med_query.specs.Query.{Tables}
 use Rattle.med_syntax.specs.QueryTree.{StatementTree}
 use Rattle.med_parser.specs.QueryGrammar.{HasStatement}
 use Rattle.med_parser.specs.QueryCauses.{SyntaxCauses}

@@ -1,7 +1,7 @@
 -- The query that a statement is, over tables that are told apart by their places.
 use Rattle.std.specs.Prelude.{ℕ, zero, suc, List, [], ◌∷◌}
-use Rattle.tri_expr.specs.Query.{Query, Tables}
-use Rattle.tri_expr.specs.Form.{query_by}
+use Rattle.med_query.specs.Query.{Query, Tables}
+use Rattle.med_query.specs.Form.{query_by}
 use Rattle.med_binder.specs.Meaning.{Meant}
 
 -- the query, over the entries of FROM, which are counted from 0 (ISO/IEC 9075-2, <query specification>)

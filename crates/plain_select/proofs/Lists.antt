@@ -3,8 +3,9 @@ use Rattle.std.proofs.Common.{◌≡◌, ◌<◌, ◌≤◌, filter, ◌+◌, �
 use Rattle.std.proofs.lemmas.List.{map-append, take-map, drop-map}
 use Rattle.med_value.specs.Datum.{Tuple, NoValue, datum}
 use Rattle.med_value.specs.declared.value.Value.{Value}
-use Rattle.tri_expr.specs.Lists.{datum_eq, tuple_eq, distinct}
-use Rattle.tri_expr.specs.Query.{limited, classes_by, has_key, key_of}
+use Rattle.tri_expr.specs.Lists.{datum_eq}
+use Rattle.med_query.specs.Lists.{tuple_eq, distinct}
+use Rattle.med_query.specs.Query.{limited, classes_by, has_key, key_of}
 
 off : (p q : Bool) → false ≡ q → false ≡ (p && q)
 off true q e = e

@@ -13,7 +13,7 @@ use Rattle.tri_expr.specs.declared.expr.EvalFault.TheVariants.{OutOfRange, ZeroD
 use Rattle.tri_expr.specs.Outcome.{Outcome, Is, Fails, Answers, over, value_of}
 use Rattle.tri_expr.specs.Meaning.{OnClass, meaning}
 use Rattle.tri_expr.specs.Verdict.{faults_told, fault_list, AnswersVerdict}
-use Rattle.tri_expr.specs.Query.{IsTold, senses}
+use Rattle.med_query.specs.Query.{IsTold, senses}
 
 pub tells_left : (f : EvalFault) (xs ys : List Fault) → IsTold f xs → IsTold f (xs ++ ys)
 tells_left OutOfRange xs ys h = Contains-append_left xs ys Range h

@@ -5,7 +5,7 @@ ghost use Rattle.med_value.specs.Datum.{datum, tuple};
 ghost use Rattle.tri_expr.specs.Outcome.{over, value_of};
 ghost use Rattle.tri_expr.specs.Meaning.{meaning};
 ghost use Rattle.tri_expr.specs.Verdict.{is_met, is_in, fault_list};
-ghost use Rattle.tri_expr.specs.Query.{senses, keeps as spec_keeps};
+ghost use Rattle.med_query.specs.Query.{senses, keeps as spec_keeps};
 ghost use Rattle.plain_select.specs.Plain.{Clears, tuples_in, where_told, arguments_told, having_told};
 
 use med_value::{NoMemory, Row, Value};

@@ -2,16 +2,16 @@
 
 ghost use Rattle.std.specs.Prelude.{◌≡◌, IfOk, map, filter, not, ◌∷◌, []};
 ghost use Rattle.med_value.specs.Datum.{tuple};
-ghost use Rattle.tri_expr.specs.Lists.{distinct, tuple_eq};
-ghost use Rattle.tri_expr.specs.Query.{key_of as spec_key_of, has_key as spec_has_key, classes_by as spec_classes_by, classes_of as spec_classes_of};
-ghost use Rattle.tri_expr.specs.Select.{groups_of};
+ghost use Rattle.med_query.specs.Lists.{distinct, tuple_eq};
+ghost use Rattle.med_query.specs.Query.{key_of as spec_key_of, has_key as spec_has_key, classes_by as spec_classes_by, classes_of as spec_classes_of};
+ghost use Rattle.med_query.specs.Select.{groups_of};
 ghost use Rattle.plain_select.specs.Plain.{tuples_in};
 
 use crate::cells::{is_same_row, key_of};
 use crate::rows::copied_rows;
+use med_query::Grouping;
 use med_value::{NoMemory, Row};
 use std::alloc::Global;
-use tri_expr::Grouping;
 
 fn keys_of(alloc: Global, places: &[usize], rows: &[Row]) -> Result<Vec<Row>, NoMemory>
     ensures { IfOk result (λ v. map tuple v.items ≡ map (spec_key_of places.now) (map tuple rows.now)) }

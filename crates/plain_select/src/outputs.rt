@@ -2,10 +2,10 @@
 
 ghost use Rattle.std.specs.Prelude.{◌≡◌, IfOk, map, filter, flat_map, not, [], ◌∷◌, ◌++◌};
 ghost use Rattle.med_value.specs.Datum.{tuple};
-ghost use Rattle.tri_expr.specs.Lists.{distinct};
+ghost use Rattle.med_query.specs.Lists.{distinct};
 ghost use Rattle.tri_expr.specs.Outcome.{over, value_of};
 ghost use Rattle.tri_expr.specs.Verdict.{is_in};
-ghost use Rattle.tri_expr.specs.Query.{senses, output_eq};
+ghost use Rattle.med_query.specs.Query.{senses, output_eq};
 ghost use Rattle.plain_select.specs.Plain.{Clears, tuples_in, shown_told, output_of};
 
 use crate::cells::is_same_row;

@@ -3,8 +3,8 @@ use Rattle.std.proofs.Common.{◌≡◌, ℕ, false, true, List, [], ◌∷◌, 
 use Rattle.std.specs.List.{list_all}
 use Rattle.std.proofs.lemmas.List.{length-map}
 use Rattle.med_value.specs.declared.value.ColType.{ColType}
-use Rattle.tri_expr.specs.Select.{is_safe_chain}
-use Rattle.tri_expr.specs.declared.select.Select.{Select}
+use Rattle.med_query.specs.Select.{is_safe_chain}
+use Rattle.med_query.specs.declared.select.Select.{Select}
 use Rattle.fdw_api.specs.Kinds.{Column, Setting}
 use Rattle.fdw_api.specs.Scan.{Filter, spec_of, plain_spec, filter_of, params_fit}
 use Rattle.fdw_api.specs.State.{Bound, Ledger, BoxState, table_of, set_at}

@@ -1,12 +1,11 @@
 //! Queries over the demo tables and the rows that they give.
-use med_exec::{AnswerFault, answer};
+use med_query::{
+    AnswerFault, Grouping, Join, JoinChain, Select, SortDirection, answer, is_safe_from,
+};
 use med_value::{Row, Value, row_text};
 use std::alloc::Global;
 use std::test::Fail;
-use tri_expr::{
-    Comparison, EvalFault, Expr, Grouping, Join, JoinChain, Operation, Select, SetFunction,
-    SortDirection, Test, is_safe_from,
-};
+use tri_expr::{Comparison, EvalFault, Expr, Operation, SetFunction, Test};
 
 const PARTS: usize = 0;
 

@@ -3,10 +3,10 @@ use fdw_api::interface::TableNo;
 use fdw_api::scan::Agreement;
 use med_binder::{Bound, BoundEntry};
 use med_planner::{Plan, plan};
+use med_query::Select;
 use pushdown::{Offers, Split, accept, offer};
 use std::alloc::Global;
 use std::test::Fail;
-use tri_expr::Select;
 
 // `SELECT .. FROM a, b`, of which `a` has two columns and `b` three.
 fn two_entries(alloc: Global) -> Result<Bound, Fail> {

@@ -1,8 +1,9 @@
 //! Answers by hand.
+use med_query::{JoinChain, Select};
 use med_value::{Row, Value};
 use plain_select::plain_answer;
 use std::test::Fail;
-use tri_expr::{Expr, JoinChain, Select};
+use tri_expr::Expr;
 
 #[test]
 fn select_of_one_table(rt: HostRuntime) -> Result<(), Fail> {

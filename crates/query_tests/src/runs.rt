@@ -2,7 +2,7 @@
 ghost use Rattle.std.specs.Prelude.{◌≡◌, ◌∷◌, [], true, List, length, map, IfOk};
 ghost use Rattle.std.specs.List.{list_all};
 ghost use Rattle.med_value.specs.Datum.{Whole, tuple};
-ghost use Rattle.tri_expr.specs.Select.{is_safe_chain};
+ghost use Rattle.med_query.specs.Select.{is_safe_chain};
 ghost use Rattle.fdw_api.specs.Kinds.{column_of};
 ghost use Rattle.fdw_api.specs.Scan.{filter_of, params_fit};
 ghost use Rattle.probe_wrapper.specs.Lists.{listed};
@@ -20,12 +20,13 @@ use fdw_api::scan::{
 use med_exec::law::running_is_held;
 use med_exec::{Run, ledger_at, plan_at, start};
 use med_planner::Plan;
+use med_query::{Select, is_safe_from};
 use med_value::{ColType, ColumnDef, Row, Value, row_text};
 use probe_wrapper::{ListTable, ListWrapper};
 use pushdown::EntryScan;
 use std::alloc::Global;
 use std::test::Fail;
-use tri_expr::{Comparison, Expr, Operation, Select, is_safe_from};
+use tri_expr::{Comparison, Expr, Operation};
 
 fn order(alloc: Global, number: i64, part: i64, quantity: i64) -> Result<Row, Fail>
     ensures { IfOk result (λ r. tuple r ≡ Whole number ∷ Whole part ∷ Whole quantity ∷ []) }

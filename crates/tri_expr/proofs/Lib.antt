@@ -11,10 +11,6 @@ pub mod Reading
 pub mod Safe
 pub mod Decides
 pub mod SameVerdicts
-pub mod Distinct
-pub mod AnyOrder
-pub mod QueryRows
 pub mod TreeRisk
 pub mod SameTrees
 pub mod BareTrees
-pub mod Forms

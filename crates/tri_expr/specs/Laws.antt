@@ -1,11 +1,10 @@
 -- What the laws of expressions say.
-use Rattle.std.specs.Prelude.{◌≡◌, Contains, List, [], ◌∷◌}
+use Rattle.std.specs.Prelude.{◌≡◌, Contains, List}
 use Rattle.std.specs.List.Sorted.{IsPermutation}
 use Rattle.med_value.specs.Datum.{Tuple}
 use Rattle.tri_expr.specs.declared.expr.Fault.{Fault}
 use Rattle.tri_expr.specs.Outcome.{Outcome, Is, Fails}
 use Rattle.tri_expr.specs.Meaning.{OnClass}
-use Rattle.tri_expr.specs.Query.{Query, Tables, IsAnswer, faults, having_of, outputs_all}
 use Rattle.tri_expr.specs.Verdict.{is_in, faults_told}
 
 -- a value, NULL among them, and no fault
@@ -21,20 +20,3 @@ IgnoresOrder f = (c d : List Tuple) → IsPermutation c d → f c ≡ f d
 pub record SameVerdict (os us : List Outcome) : Type 0 where
   pub within : is_in os ≡ is_in us
   pub told : (c : Fault) → Contains (faults_told os) c → Contains (faults_told us) c
-
--- the same of each
-abbrev pub AllIgnoreOrder : List OnClass → Type 0
-AllIgnoreOrder [] = Unit {0}
-AllIgnoreOrder (f ∷ fs) = IgnoresOrder f × AllIgnoreOrder fs
-
--- a query whose HAVING, order keys and items do not see the order of a class's rows
-pub record IsSteady (q : Query) : Type 0 where
-  pub having : AllIgnoreOrder (having_of q.group)
-  pub keys : AllIgnoreOrder q.keys
-  pub items : AllIgnoreOrder q.items
-
--- over the same rows in any order the outputs and the answers are the same, and the same faults may be told
-pub record AnswersIgnoreOrder (q : Query) (db other : Tables) : Type 0 where
-  pub outputs : IsPermutation (outputs_all q db) (outputs_all q other)
-  pub answers : (rows : List Tuple) → IsAnswer q db rows → IsAnswer q other rows
-  pub told : (c : Fault) → Contains (faults q db) c → Contains (faults q other) c

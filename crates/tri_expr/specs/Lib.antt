@@ -10,9 +10,6 @@ pub mod Meaning
 pub mod Verdict
 pub mod Risky
 pub mod Tree
-pub mod Query
 pub mod Laws
 pub mod TreeMeaning
-pub mod Select
 pub mod TreeParts
-pub mod Form

@@ -1,10 +1,9 @@
 //! The same expressions, the arguments of aggregates, and copies of a SELECT.
 use crate::expressions::build::{build, part, shown};
+use med_query::{Grouping, Join, JoinChain, Select, SortDirection, is_safe_from};
 use std::alloc::Global;
 use std::test::Fail;
-use tri_expr::{
-    Expr, Grouping, Join, JoinChain, Select, SortDirection, arguments, eval, is_safe_from, is_same,
-};
+use tri_expr::{Expr, arguments, eval, is_same};
 
 /// Two expressions, and whether they are the same.
 const PAIRS: [(&str, &str, bool); 34] = [

@@ -1,5 +1,5 @@
 use Rattle.std.proofs.Common.{◌∙◌, map}
-use Rattle.tri_expr.specs.Form.{chain_form}
+use Rattle.med_query.specs.Form.{chain_form}
 use Rattle.med_binder.proofs.Safety.{on_ok, safe_chains}
 use Rattle.med_binder.proofs.forms.check_form.Goals as goal
 

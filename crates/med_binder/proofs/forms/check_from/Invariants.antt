@@ -1,5 +1,5 @@
 use Rattle.std.proofs.Common.{◌≡◌, map, flat_map, drop}
-use Rattle.tri_expr.specs.Form.{chain_form}
+use Rattle.med_query.specs.Form.{chain_form}
 use Rattle.med_binder.specs.Typing.{chain_causes}
 use Rattle.med_binder.proofs.forms.check_from.Given as goal
 

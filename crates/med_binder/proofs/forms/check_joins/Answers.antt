@@ -1,6 +1,6 @@
 use Rattle.std.proofs.Common.{◌<◌, ◌∙◌, length, map, flat_map, ap, arith}
 use Rattle.std.proofs.lemmas.Result.{err_from_is_err_and}
-use Rattle.tri_expr.specs.Form.{join_form}
+use Rattle.med_query.specs.Form.{join_form}
 use Rattle.med_binder.specs.Typing.{join_causes}
 use Rattle.med_binder.proofs.Causes.{tells_first}
 use Rattle.med_binder.proofs.Parts.{drop_read}

@@ -1,5 +1,5 @@
 use Rattle.std.proofs.Common.{◌≡◌, map, flat_map, drop}
-use Rattle.tri_expr.specs.Form.{join_form}
+use Rattle.med_query.specs.Form.{join_form}
 use Rattle.med_binder.specs.Typing.{join_causes}
 use Rattle.med_binder.proofs.forms.check_joins.Given as goal
 

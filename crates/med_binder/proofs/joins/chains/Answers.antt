@@ -2,7 +2,7 @@ use Rattle.std.proofs.Common.{◌<◌, [], ◌∷◌, ◌++◌, ◌∙◌, map, 
 use Rattle.std.proofs.lemmas.List.{map-append}
 use Rattle.std.proofs.lemmas.Result.{err_from_is_err_and}
 use Rattle.med_syntax.specs.QueryView.{chain_tree}
-use Rattle.tri_expr.specs.Form.{chain_form}
+use Rattle.med_query.specs.Form.{chain_form}
 use Rattle.med_binder.specs.Scope.{table_shape}
 use Rattle.med_binder.specs.Naming.{chain_name_causes}
 use Rattle.med_binder.proofs.Causes.{tells_first, next_causes}

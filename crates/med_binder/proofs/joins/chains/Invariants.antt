@@ -1,6 +1,6 @@
 use Rattle.std.proofs.Common.{◌≡◌, ◌++◌, map, flat_map, drop}
 use Rattle.med_syntax.specs.QueryView.{chain_tree}
-use Rattle.tri_expr.specs.Form.{chain_form}
+use Rattle.med_query.specs.Form.{chain_form}
 use Rattle.med_binder.specs.Scope.{table_shape}
 use Rattle.med_binder.specs.Naming.{chain_name_causes}
 use Rattle.med_binder.specs.Meaning.{chains_meant}

@@ -1,6 +1,6 @@
 use Rattle.std.proofs.Common.{◌≡◌, ◌++◌, suc, [], ◌∷◌, map, drop}
 use Rattle.med_syntax.specs.QueryView.{entry_tree, join_tree}
-use Rattle.tri_expr.specs.Form.{join_form}
+use Rattle.med_query.specs.Form.{join_form}
 use Rattle.med_binder.specs.Scope.{scope_of, table_shape, entry_shape}
 use Rattle.med_binder.specs.Naming.{joins_name_causes}
 use Rattle.med_binder.specs.Meaning.{joins_meant}

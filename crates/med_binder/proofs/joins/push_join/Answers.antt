@@ -1,7 +1,7 @@
 use Rattle.std.proofs.Common.{◌≡◌, ◌++◌, [], ◌∷◌, suc, map, length, ap, sym, ◌∙◌}
 use Rattle.std.proofs.lemmas.List.{map-append}
 use Rattle.med_syntax.specs.QueryView.{join_tree}
-use Rattle.tri_expr.specs.Form.{join_form}
+use Rattle.med_query.specs.Form.{join_form}
 use Rattle.med_binder.specs.Scope.{scope_of, visible, table_shape, entry_shape, joined_entry}
 use Rattle.med_binder.specs.Naming.{on_name_causes}
 use Rattle.med_binder.specs.Meaning.{with_join, join_meant}

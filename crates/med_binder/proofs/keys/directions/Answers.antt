@@ -1,7 +1,7 @@
 use Rattle.std.proofs.Common.{◌<◌, ◌++◌, ◌∷◌, [], ◌∙◌, sym, length, map, ap, arith}
 use Rattle.std.proofs.lemmas.List.{map-append}
 use Rattle.med_syntax.specs.QueryView.{key_tree}
-use Rattle.tri_expr.specs.Select.{direction_of}
+use Rattle.med_query.specs.Select.{direction_of}
 use Rattle.med_binder.specs.Meaning.{key_direction}
 use Rattle.med_binder.proofs.Added.{added_after}
 use Rattle.med_binder.proofs.Parts.{drop_read}

@@ -1,6 +1,6 @@
 use Rattle.std.proofs.Common.{◌≡◌, ◌++◌, map, drop}
 use Rattle.med_syntax.specs.QueryView.{key_tree}
-use Rattle.tri_expr.specs.Select.{direction_of}
+use Rattle.med_query.specs.Select.{direction_of}
 use Rattle.med_binder.specs.Meaning.{key_direction}
 use Rattle.med_binder.proofs.keys.directions.Given as goal
 

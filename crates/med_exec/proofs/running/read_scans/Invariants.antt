@@ -1,7 +1,7 @@
 use Rattle.std.proofs.Common.{map, take}
 use Rattle.med_planner.specs.Planned.{AllMayGive}
 use Rattle.med_exec.specs.Slots.{states}
-use Rattle.med_exec.specs.Staging.{tuples_in}
+use Rattle.med_query.specs.Staging.{tuples_in}
 use Rattle.med_exec.specs.Running.{AllHonest, AllServed}
 use Rattle.med_exec.proofs.running.read_scans.Given as goal
 

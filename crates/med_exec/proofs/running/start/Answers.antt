@@ -1,11 +1,11 @@
 use Rattle.std.proofs.Common.{List, map, refl, sym, subst}
 use Rattle.med_value.specs.Datum.{tuple}
 use Rattle.med_value.specs.declared.value.Row.{Row}
-use Rattle.tri_expr.specs.Select.{query_of}
-use Rattle.tri_expr.specs.Query.{IsAnswer}
+use Rattle.med_query.specs.Select.{query_of}
+use Rattle.med_query.specs.Query.{IsAnswer}
 use Rattle.med_planner.specs.Planned.{in_order}
 use Rattle.med_exec.specs.Slots.{states}
-use Rattle.med_exec.specs.Staging.{tuples_in}
+use Rattle.med_query.specs.Staging.{tuples_in}
 use Rattle.med_exec.specs.Rests.{Rests}
 use Rattle.med_exec.proofs.TableReads.{begins, shown_stops}
 use Rattle.med_exec.proofs.running.start.Goals as goal

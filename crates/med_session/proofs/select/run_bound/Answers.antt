@@ -1,6 +1,6 @@
 use Rattle.std.proofs.Common.{◌∙◌, ap, sym, map}
-use Rattle.tri_expr.specs.Form.{is_safe_form}
-use Rattle.tri_expr.specs.Select.{query_of}
+use Rattle.med_query.specs.Form.{is_safe_form}
+use Rattle.med_query.specs.Select.{query_of}
 use Rattle.pushdown.specs.Offered.{entry_place}
 use Rattle.med_exec.specs.Slots.{states}
 use Rattle.med_exec.specs.Running.{none_held}

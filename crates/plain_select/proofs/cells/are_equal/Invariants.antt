@@ -1,6 +1,6 @@
 use Rattle.std.proofs.Common.{◌≡◌, map, drop}
 use Rattle.med_value.specs.Datum.{datum}
-use Rattle.tri_expr.specs.Lists.{tuple_eq}
+use Rattle.med_query.specs.Lists.{tuple_eq}
 use Rattle.plain_select.proofs.cells.are_equal.Given as goal
 
 abbrev pub invariant-loop-i : goal.invariant-loop-i

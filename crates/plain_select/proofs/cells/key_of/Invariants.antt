@@ -1,6 +1,6 @@
 use Rattle.std.proofs.Common.{◌≡◌, map, take}
 use Rattle.med_value.specs.Datum.{datum, tuple}
-use Rattle.tri_expr.specs.Query.{key_of}
+use Rattle.med_query.specs.Query.{key_of}
 use Rattle.plain_select.proofs.cells.key_of.Given as goal
 
 abbrev pub invariant-loop-at : goal.invariant-loop-at

@@ -1,7 +1,7 @@
 use Rattle.std.proofs.Common.{[], arith}
 use Rattle.med_value.specs.Datum.{tuple}
 use Rattle.plain_select.specs.Plain.{arguments_told}
-use Rattle.tri_expr.specs.Query.{senses}
+use Rattle.med_query.specs.Query.{senses}
 use Rattle.plain_select.proofs.Told.{told_at}
 use Rattle.plain_select.proofs.filtering.check_arguments.Goals as goal
 

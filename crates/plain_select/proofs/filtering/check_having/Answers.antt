@@ -1,7 +1,7 @@
 use Rattle.std.proofs.Common.{List, [], map, subst, arith}
 use Rattle.med_value.specs.Datum.{tuple}
 use Rattle.med_value.specs.declared.value.Row.{Row}
-use Rattle.tri_expr.specs.Query.{IsTold, senses}
+use Rattle.med_query.specs.Query.{IsTold, senses}
 use Rattle.plain_select.specs.Plain.{tuples_in, having_told}
 use Rattle.plain_select.proofs.Told.{told_at}
 use Rattle.plain_select.proofs.filtering.check_having.Goals as goal

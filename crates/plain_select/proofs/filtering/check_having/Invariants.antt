@@ -1,6 +1,6 @@
 use Rattle.std.proofs.Common.{◌≡◌, [], map, drop, flat_map}
 use Rattle.plain_select.specs.Plain.{having_told, tuples_in}
-use Rattle.tri_expr.specs.Query.{senses}
+use Rattle.med_query.specs.Query.{senses}
 use Rattle.plain_select.proofs.filtering.check_having.Given as goal
 
 abbrev pub invariant-loop-class : goal.invariant-loop-class

@@ -1,7 +1,7 @@
 use Rattle.std.proofs.Common.{◌≡◌, [], map, drop, flat_map}
 use Rattle.med_value.specs.Datum.{tuple}
 use Rattle.plain_select.specs.Plain.{where_told}
-use Rattle.tri_expr.specs.Query.{senses}
+use Rattle.med_query.specs.Query.{senses}
 use Rattle.plain_select.proofs.filtering.check_where.Given as goal
 
 abbrev pub invariant-loop-row : goal.invariant-loop-row

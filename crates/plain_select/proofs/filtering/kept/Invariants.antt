@@ -1,6 +1,6 @@
 use Rattle.std.proofs.Common.{◌≡◌, ◌++◌, [], map, drop, filter}
 use Rattle.med_value.specs.Datum.{tuple}
-use Rattle.tri_expr.specs.Query.{keeps, senses}
+use Rattle.med_query.specs.Query.{keeps, senses}
 use Rattle.plain_select.proofs.filtering.kept.Given as goal
 
 abbrev pub invariant-loop-row : goal.invariant-loop-row

@@ -1,7 +1,7 @@
 use Rattle.std.proofs.Common.{◌≡◌, List, map, filter, IfOk, sym, ap, ◌∙◌, subst, rules, arith}
 use Rattle.med_value.specs.Datum.{Tuple, tuple}
-use Rattle.tri_expr.specs.Lists.{distinct, tuple_eq}
-use Rattle.tri_expr.specs.Query.{key_of, has_key}
+use Rattle.med_query.specs.Lists.{distinct, tuple_eq}
+use Rattle.med_query.specs.Query.{key_of, has_key}
 use Rattle.plain_select.specs.Plain.{tuples_in}
 use Rattle.plain_select.proofs.Lists.{some_keys}
 use Rattle.plain_select.proofs.grouping.classes_by.Goals as goal

@@ -1,7 +1,7 @@
 use Rattle.std.proofs.Common.{◌≡◌, map, take, filter}
 use Rattle.med_value.specs.Datum.{tuple}
 use Rattle.plain_select.specs.Plain.{tuples_in}
-use Rattle.tri_expr.specs.Query.{has_key}
+use Rattle.med_query.specs.Query.{has_key}
 use Rattle.plain_select.proofs.grouping.classes_of_keys.Given as goal
 
 abbrev pub invariant-loop-key : goal.invariant-loop-key

@@ -1,6 +1,6 @@
 use Rattle.std.proofs.Common.{◌≡◌, ◌++◌, map, drop, filter}
 use Rattle.med_value.specs.Datum.{tuple}
-use Rattle.tri_expr.specs.Query.{has_key}
+use Rattle.med_query.specs.Query.{has_key}
 use Rattle.plain_select.proofs.grouping.members.Given as goal
 
 abbrev pub invariant-loop-row : goal.invariant-loop-row

@@ -1,6 +1,6 @@
 use Rattle.std.proofs.Common.{◌≡◌, ◌++◌, map, drop, filter, not}
 use Rattle.med_value.specs.Datum.{tuple}
-use Rattle.tri_expr.specs.Lists.{tuple_eq}
+use Rattle.med_query.specs.Lists.{tuple_eq}
 use Rattle.plain_select.proofs.grouping.others.Given as goal
 
 abbrev pub invariant-loop-row : goal.invariant-loop-row

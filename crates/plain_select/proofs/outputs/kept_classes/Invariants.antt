@@ -1,7 +1,7 @@
 use Rattle.std.proofs.Common.{◌≡◌, ◌++◌, [], map, drop, filter}
 use Rattle.plain_select.specs.Plain.{tuples_in}
 use Rattle.tri_expr.specs.Outcome.{over}
-use Rattle.tri_expr.specs.Query.{senses}
+use Rattle.med_query.specs.Query.{senses}
 use Rattle.tri_expr.specs.Verdict.{is_in}
 use Rattle.plain_select.proofs.outputs.kept_classes.Given as goal
 

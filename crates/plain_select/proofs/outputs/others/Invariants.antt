@@ -1,6 +1,6 @@
 use Rattle.std.proofs.Common.{◌≡◌, ◌++◌, map, drop, filter, not}
 use Rattle.plain_select.specs.Plain.{output_of}
-use Rattle.tri_expr.specs.Query.{output_eq}
+use Rattle.med_query.specs.Query.{output_eq}
 use Rattle.plain_select.proofs.outputs.others.Given as goal
 
 abbrev pub invariant-loop-o : goal.invariant-loop-o

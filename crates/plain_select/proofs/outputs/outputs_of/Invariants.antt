@@ -1,7 +1,7 @@
 use Rattle.std.proofs.Common.{◌≡◌, [], map, take, drop, flat_map}
 use Rattle.plain_select.specs.Plain.{output_of, shown_told, tuples_in}
 use Rattle.tri_expr.specs.Outcome.{over, value_of}
-use Rattle.tri_expr.specs.Query.{senses}
+use Rattle.med_query.specs.Query.{senses}
 use Rattle.plain_select.proofs.outputs.outputs_of.Given as goal
 
 abbrev pub invariant-loop-class : goal.invariant-loop-class

@@ -1,0 +1,18 @@
+-- How the fault of a query is told.
+use Rattle.med_value.specs.declared.cause.Cause.TheVariants.{OutOfRange, DivisionByZero, TooLarge}
+use Rattle.tri_expr.specs.declared.expr.EvalFault.{EvalFault}
+use Rattle.tri_expr.specs.declared.expr.EvalFault.TheVariants.{OutOfRange as Overflow, ZeroDivisor, NoMemory as LacksMemory}
+use Rattle.med_query.specs.declared.outputs.AnswerFault.{AnswerFault}
+use Rattle.med_query.specs.declared.outputs.AnswerFault.TheVariants.{Evaluation, TooManyRows}
+use Rattle.fdw_api.specs.declared.interface.Fault.{Fault}
+use Rattle.fdw_api.specs.declared.interface.Fault.TheVariants.{NoMemory, Refused}
+
+-- a fault by its cause: 22003, 22012 and 54000; want of memory has none
+abbrev pub eval_refusal : EvalFault → Fault
+eval_refusal Overflow = Refused OutOfRange
+eval_refusal ZeroDivisor = Refused DivisionByZero
+eval_refusal LacksMemory = NoMemory
+
+abbrev pub refusal : AnswerFault → Fault
+refusal (Evaluation f) = eval_refusal f
+refusal TooManyRows = Refused TooLarge

@@ -1,0 +1,16 @@
+pub mod Distinct
+pub mod AnyOrder
+pub mod QueryRows
+pub mod Forms
+pub mod Telling
+pub mod RowByRow
+pub mod Runs
+pub mod GroupRuns
+pub mod Pages
+pub mod KeyOrder
+pub mod SafeJoins
+pub mod Joining
+pub mod ToldParts
+pub mod Ungrouped
+pub mod Grouped
+pub mod Finished

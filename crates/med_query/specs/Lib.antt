@@ -1,0 +1,11 @@
+pub mod Lists
+pub mod Query
+pub mod Laws
+pub mod Select
+pub mod Form
+pub mod Chains
+pub mod Staging
+pub mod Ordering
+pub mod Grouping
+pub mod Finishing
+pub mod Answering

@@ -1,7 +1,0 @@
-use Rattle.std.proofs.Common.{◌≡◌, drop}
-use Rattle.std.specs.List.{list_all}
-use Rattle.tri_expr.specs.Select.{is_safe_chain}
-use Rattle.tri_expr.proofs.select.is_safe_from.Given as goal
-
-abbrev pub invariant-loop-chain : goal.invariant-loop-chain
-invariant-loop-chain l = list_all is_safe_chain l.from ≡ list_all is_safe_chain (drop l.chain-index l.from)
