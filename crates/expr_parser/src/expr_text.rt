@@ -1,8 +1,7 @@
 //! Text to expressions.
 
-ghost use Rattle.std.specs.Prelude.{◌≡◌, ◌⊎◌, ◌<◌, ◌≤◌, ℕ, List, IfOk, OnOk, IfErr, false};
+ghost use Rattle.std.specs.Prelude.{◌≡◌, ◌⊎◌, ◌<◌, IfOk, OnOk, IfErr, false};
 ghost use Rattle.med_value.specs.declared.cause.Cause.{Cause};
-ghost use Rattle.med_syntax.specs.ExprTree.{ExprTree};
 ghost use Rattle.expr_grammar.specs.ExprReading.{all_of};
 ghost use Rattle.expr_grammar.specs.ExprWeight as spec;
 ghost use Rattle.med_lexer.specs.Printing.{AreShapes};
