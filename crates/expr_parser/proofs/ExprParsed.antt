@@ -1,83 +1,30 @@
 -- What a text's tokens say of its expression and of its causes.
-use Rattle.std.proofs.Common.{◌≡◌, ℕ, zero, suc, ◌≤◌, ◌<◌, ◌⊎◌, inl, inr, arith, true, false, List, [], ◌∷◌, length, refl, sym, ◌∙◌, ap, subst}
+use Rattle.std.proofs.Common.{◌≡◌, ℕ, ◌≤◌, ◌<◌, ◌⊎◌, inl, inr, arith, true, false, List, refl, sym, ◌∙◌, ap, subst}
 use Rattle.std.specs.Prelude.{Any, Result, Ok, Err, IfOk, OnOk, IfErr}
-use Rattle.std.specs.List.{slice_index_or}
-use Rattle.std.specs.Str.Parse.{digits_value}
 use Rattle.med_value.specs.declared.cause.Cause.{Cause}
 use Rattle.med_value.specs.declared.cause.Cause.TheVariants as causes
 use Rattle.med_lexer.specs.declared.Token.{Token}
-use Rattle.med_lexer.specs.Lexemes.{Shape, word, quoted, literal, number, mark, Lexeme, Lexes}
-use Rattle.med_lexer.specs.Printing.{AreShapes}
-use Rattle.med_lexer.specs.View.{views, shape_of}
-use Rattle.expr_parser.specs.Shapes.{shapes, IsLongName}
-use Rattle.expr_parser.specs.View.{shapes_of, LexesOnly, cause_of}
-use Rattle.expr_parser.specs.declared.fault.ParseFault.{ParseFault}
-use Rattle.expr_parser.specs.declared.fault.ParseFault.TheVariants as parse_faults
+use Rattle.med_lexer.specs.Lexemes.{Shape, Lexeme, Lexes}
+use Rattle.med_lexer.specs.View.{views}
+use Rattle.expr_grammar.specs.Shapes.{shapes, IsLongName}
+use Rattle.expr_grammar.specs.View.{shapes_of, LexesOnly, cause_of}
+use Rattle.expr_grammar.specs.declared.fault.ParseFault.{ParseFault}
+use Rattle.expr_grammar.specs.declared.fault.ParseFault.TheVariants as parse_faults
 use Rattle.med_syntax.specs.declared.expr.Expr.{Expr}
-use Rattle.expr_parser.specs.declared.refusal.ReadFault.{ReadFault}
-use Rattle.expr_parser.specs.declared.refusal.ReadFault.TheVariants as faults
-use Rattle.expr_parser.specs.declared.refusal.Refusal.TheVariants.{Syntax, TooHigh}
+use Rattle.expr_grammar.specs.declared.refusal.ReadFault.{ReadFault}
+use Rattle.expr_grammar.specs.declared.refusal.ReadFault.TheVariants as faults
+use Rattle.expr_grammar.specs.declared.refusal.Refusal.TheVariants.{Syntax, TooHigh}
 use Rattle.med_syntax.specs.ExprTree.{ExprTree, IsExpr, height}
-use Rattle.expr_parser.specs.ExprTerminals.{terminals_at, IsReadable, AreReadable}
-use Rattle.expr_parser.specs.ExprWeight.{bounded_of, weight}
-use Rattle.expr_parser.specs.ExprGrammar.{IsExpression, HasExpr, IsHuge, in_range, TokenCauses, ExprCauses}
+use Rattle.expr_grammar.specs.ExprTerminals.{terminals_at, AreReadable}
+use Rattle.expr_grammar.specs.ExprWeight.{bounded_of, weight}
+use Rattle.expr_grammar.specs.ExprGrammar.{IsExpression, HasExpr, in_range, TokenCauses, ExprCauses}
 use Rattle.med_syntax.specs.ExprView.{expr_tree}
-use Rattle.expr_parser.specs.ExprAnswers.{Gives, cause_of_read}
-use Rattle.expr_parser.proofs.TokenShapes.{OneList, shapes_are}
-use Rattle.expr_parser.proofs.ExprComplete.{one_tree, low_or_high}
-use Rattle.expr_parser.proofs.ExprTerminals.{to_terminals, of_terminals}
-use Rattle.expr_parser.proofs.ExprWeighing.{bounded_sound, bounded_out, bounded_told, weight_is}
-
--- ---- numbers
-
-abbrev pub IsUnreadable : Token → Type 0
-IsUnreadable t = IsReadable (shape_of t.kind) → ⊥
-
-any_tail : {X : Type 0} (P : X → Type 0) (x : X) (xs : List X) → Any P xs → Any P (x ∷ xs)
-any_tail P x xs h = (suc h.0, h.1, omega (arith, h.2), h.3, h.4)
-
-shape_readable : (s : Shape) → AreShapes (s ∷ []) → ((IsReadable s → ⊥) → ⊥) → IsReadable s
-shape_readable (number d) a h =
-    elim (low_or_high (digits_value 10 d) 9223372036854775808) [
-      | inl l ↦ (a.0.1.1, l)
-      | inr l ↦ absurd (h (λ r. absurd (omega (arith, r.1))))
-    ]
-shape_readable (word w) a h = tt
-shape_readable (quoted q) a h = tt
-shape_readable (literal x) a h = tt
-shape_readable (mark m) a h = tt
-
-pub readable : (ts : List Token) → AreShapes (shapes_of ts) → (Any IsUnreadable ts → ⊥) → AreReadable (shapes_of ts)
-readable [] a h = tt
-readable (t ∷ ts) a h = (shape_readable (shape_of t.kind) (a.0, tt) (λ n. h (zero, t, omega arith, refl, n)), readable ts a.1 (λ x. h (any_tail IsUnreadable t ts x)))
-
-shape_huge : (s : Shape) → AreShapes (s ∷ []) → (IsReadable s → ⊥) → IsHuge s
-shape_huge (number d) a h =
-    elim (low_or_high (digits_value 10 d) 9223372036854775808) [
-      | inl l ↦ absurd (h (a.0.1.1, l))
-      | inr l ↦ l
-    ]
-shape_huge (word w) a h = h tt
-shape_huge (quoted q) a h = h tt
-shape_huge (literal x) a h = h tt
-shape_huge (mark m) a h = h tt
-
-huge_at : (ts : List Token) (k : ℕ) (y : Token) → AreShapes (shapes_of ts) → k < length ts → slice_index_or ts k y ≡ y → IsUnreadable y → Any IsHuge (shapes_of ts)
-huge_at [] k y a l e p = absurd (omega arith)
-huge_at (t ∷ ts) zero y a l e p = (zero, shape_of t.kind, omega arith, refl, shape_huge (shape_of t.kind) (a.0, tt) (subst IsUnreadable (sym e) p))
-huge_at (t ∷ ts) (suc k) y a l e p = any_tail IsHuge (shape_of t.kind) (shapes_of ts) (huge_at ts k y a.1 (omega arith) e p)
-
-pub huge : (ts : List Token) → AreShapes (shapes_of ts) → Any IsUnreadable ts → Any IsHuge (shapes_of ts)
-huge ts a h = huge_at ts h.0 h.1 a h.2 h.3 h.4
-
-shape_small : (s : Shape) → IsReadable s → IsHuge s → ⊥
-shape_small (number d) r h = absurd (omega (arith, r.1, h))
-shape_small s r h = h
-
-pub small_at : (ss : List Shape) (k : ℕ) (y : Shape) → AreReadable ss → k < length ss → slice_index_or ss k y ≡ y → IsHuge y → ⊥
-small_at [] k y r l e p = absurd (omega arith)
-small_at (s ∷ ss) zero y r l e p = shape_small s r.0 (subst IsHuge (sym e) p)
-small_at (s ∷ ss) (suc k) y r l e p = small_at ss k y r.1 (omega arith) e p
+use Rattle.expr_grammar.specs.ExprAnswers.{Gives, cause_of_read}
+use Rattle.expr_grammar.proofs.TokenShapes.{OneList, shapes_are}
+use Rattle.expr_grammar.proofs.TokenNumbers.{small_at}
+use Rattle.expr_grammar.proofs.ExprComplete.{one_tree}
+use Rattle.expr_grammar.proofs.ExprTerminals.{to_terminals, of_terminals}
+use Rattle.expr_grammar.proofs.ExprWeighing.{bounded_sound, bounded_out, bounded_told, weight_is}
 
 -- ---- causes of tokens
 
@@ -152,9 +99,6 @@ told_refused ss f r h is = rw is h
 pub lexed_read : {X : Type 0} (A : Type 0) (text : List ℕ) (f : ParseFault) (r : Result X Cause) → LexesOnly {A = A} (Err f) text → r ≡ Err (cause_of f) → ((c : Cause) → ExprCauses text c → ⊥) → IfErr r (λ c. c ≡ causes.OutOfMemory)
 lexed_read A text parse_faults.NoMemory r h is none = rw is refl
 lexed_read A text parse_faults.Syntax r h is none = absurd (none causes.Syntax (λ e x. h x.0 x.1))
-
-pub printable : (ts us : List Token) → us ≡ ts → AreShapes (shapes (views ts)) → AreShapes (shapes_of us)
-printable ts us p h = subst (λ xs. AreShapes (shapes_of xs)) (sym p) (subst AreShapes (shapes_are ts) h)
 
 pub text_found : (text : List ℕ) (ts : List Token) → Lexes 0 text (views ts) → (r : Result Expr Cause) → IfOk r (λ e. IsExpression (shapes_of ts) (expr_tree e)) → IfOk r (λ e. HasExpr text (expr_tree e))
 text_found text ts l (Ok e) h = text_has text ts (expr_tree e) l h

@@ -1,9 +1,1 @@
-pub mod TokenShapes
-pub mod ExprComplete
-pub mod ExprSound
-pub mod ExprLoops
-pub mod ExprTerminals
-pub mod ExprWeighing
 pub mod ExprParsed
-pub mod ExprPrints
-pub mod ExprQuoting

@@ -2,8 +2,8 @@
 
 ghost use Rattle.std.specs.Prelude.{◌≡◌, ℕ, true, List};
 ghost use Rattle.med_syntax.specs.ExprTree.{ExprTree};
-ghost use Rattle.expr_parser.specs.ExprGrammar.{HasExpr, in_range};
-ghost use Rattle.expr_parser.specs.ExprPrinting.{printed_expr};
+ghost use Rattle.expr_grammar.specs.ExprGrammar.{HasExpr, in_range};
+ghost use Rattle.expr_writer.specs.ExprPrinting.{printed_expr};
 
 use med_lexer::{one_list, printed_again, tokens_can_be_printed};
 

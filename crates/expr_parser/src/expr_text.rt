@@ -1,56 +1,31 @@
 //! Text to expressions.
 
-ghost use Rattle.std.specs.Prelude.{◌≡◌, ◌⊎◌, ◌<◌, ◌≤◌, ℕ, List, IfOk, OnOk, IfErr, false};
+ghost use Rattle.std.specs.Prelude.{◌≡◌, ◌⊎◌, ◌<◌, IfOk, OnOk, IfErr, false};
 ghost use Rattle.med_value.specs.declared.cause.Cause.{Cause};
-ghost use Rattle.med_syntax.specs.ExprTree.{ExprTree};
-ghost use Rattle.expr_parser.specs.ExprReading.{all_of};
-ghost use Rattle.expr_parser.specs.ExprWeight as spec;
+ghost use Rattle.expr_grammar.specs.ExprReading.{all_of};
+ghost use Rattle.expr_grammar.specs.ExprWeight as spec;
 ghost use Rattle.med_lexer.specs.Printing.{AreShapes};
-ghost use Rattle.expr_parser.specs.ExprGrammar.{HasExpr, ExprCauses, IsExpression, TokenCauses, in_range, are_in_range};
-ghost use Rattle.expr_parser.specs.ExprTerminals.{AreReadable, terminals_at};
-ghost use Rattle.expr_parser.specs.View.{shapes_of};
-ghost use Rattle.med_syntax.specs.ExprView.{expr_tree, expr_trees};
-ghost use Rattle.expr_parser.specs.SymbolView.{terminal_of_symbol, terminals_of};
-ghost use Rattle.expr_parser.specs.ExprAnswers.{Gives};
+ghost use Rattle.expr_grammar.specs.ExprGrammar.{HasExpr, ExprCauses, IsExpression, TokenCauses};
+ghost use Rattle.expr_grammar.specs.ExprTerminals.{AreReadable, terminals_at};
+ghost use Rattle.expr_grammar.specs.View.{shapes_of};
+ghost use Rattle.med_syntax.specs.ExprView.{expr_tree};
+ghost use Rattle.expr_grammar.specs.SymbolView.{terminals_of};
+ghost use Rattle.expr_grammar.specs.ExprAnswers.{Gives};
 
-use crate::expr_reader::whole;
-use crate::expr_symbols::{has_unreadable, symbols_of};
-use crate::refusal::{ReadFault, Refusal};
-use crate::symbols::Symbol;
-use crate::token_list::{has_long_name, tokens_of};
+use expr_grammar::expr_symbols::{has_unreadable, symbols_of};
+use expr_grammar::number_range::is_in_range;
+use expr_grammar::refusal::{ReadFault, Refusal};
+use expr_grammar::symbols::Symbol;
+use expr_grammar::token_list::{has_long_name, tokens_of};
+use expr_grammar::weighing::{MAX_HEIGHT, ROOM, weight};
+use expr_reader::whole;
 use med_lexer::{Token, tokens_can_be_printed};
 use med_syntax::Expr;
 use med_value::Cause;
 use std::alloc::Global;
 
-/// The greatest height of an expression, and how many heavy symbols are few.
-pub const MAX_HEIGHT: u32 = 64;
-
-/// Higher than any expression of few heavy symbols.
-pub const ROOM: u32 = 455;
-
-/// Whether an expression can get deeper without bound by such symbols.
-fn is_heavy(symbol: &Symbol) -> bool
-    ensures { result ≡ spec.is_heavy (terminal_of_symbol symbol.now) }
-{
-    matches!(symbol, Symbol::LeftParen | Symbol::Binary(_) | Symbol::Not)
-}
-
-/// How many symbols are heavy.
-pub fn weight(symbols: &[Symbol]) -> usize
-    ensures { result ≡ spec.weight (terminals_of symbols.now) }
-{
-    let mut heavy = 0;
-    let mut left = symbols;
-    while let [symbol, rest @ ..] = left {
-        heavy = if is_heavy(symbol) { heavy + 1 } else { heavy };
-        left = rest;
-    }
-    heavy
-}
-
 /// The expression that all of the symbols are, where it is no higher than the room.
-#[tactic(auto, unfolding(crate::specs::ExprReading::all_of))]
+#[tactic(auto, unfolding(expr_grammar::specs::ExprReading::all_of))]
 fn all(alloc: Global, room: u32, symbols: &[Symbol]) -> Result<Expr, ReadFault>
     requires { room < 1000 }
     ensures { Gives expr_tree result (all_of room (terminals_of symbols.now)) }
@@ -64,7 +39,7 @@ fn all(alloc: Global, room: u32, symbols: &[Symbol]) -> Result<Expr, ReadFault>
 }
 
 /// The expression that all of the symbols are. Where few of them are heavy, what is told to be too high is an expression.
-#[tactic(auto, unfolding(crate::specs::ExprWeight::bounded_of))]
+#[tactic(auto, unfolding(expr_grammar::specs::ExprWeight::bounded_of))]
 fn bounded(alloc: Global, symbols: &[Symbol]) -> Result<Expr, ReadFault>
     ensures { Gives expr_tree result (spec.bounded_of (terminals_of symbols.now)) }
 {
@@ -130,42 +105,4 @@ pub fn expression(alloc: Global, text: &str) -> Result<Expr, Cause>
     let tokens = tokens_of(alloc, text)?;
     tokens_can_be_printed();
     checked_expr(alloc, &tokens)
-}
-
-/// Whether each number of the expression is in range.
-#[cycle(range)]
-pub fn is_in_range(expr: &Expr) -> bool
-    ensures { result ≡ in_range (expr_tree expr.now) }
-{
-    match expr {
-        Expr::Number(n) => *n <= 9223372036854775807,
-        Expr::Negative(n) => *n <= 9223372036854775808,
-        Expr::Text(_) | Expr::Truth(_) | Expr::Null | Expr::Column(_, _) | Expr::CallAll(_) => true,
-        Expr::Call(_, parts) => are_all_in_range(parts),
-        Expr::Paren(e) | Expr::Minus(e) | Expr::Not(e) => is_in_range(e),
-        Expr::Like(_, e, _) | Expr::Is(_, e, _) => is_in_range(e),
-        Expr::Binary(_, a, b) | Expr::Compare(_, a, b) => is_in_range(a) && is_in_range(b),
-        Expr::Between(_, e, low, high) => {
-            is_in_range(e) && (is_in_range(low) && is_in_range(high))
-        }
-        Expr::In(_, e, first, others) => {
-            is_in_range(e) && (is_in_range(first) && are_all_in_range(others))
-        }
-        Expr::Chain(_, first, others) => is_in_range(first) && are_all_in_range(others),
-    }
-}
-
-/// Whether each number of the expressions is in range.
-#[cycle(range)]
-fn are_all_in_range(exprs: &[Expr]) -> bool
-    ensures { result ≡ are_in_range (expr_trees exprs.now) }
-{
-    let mut left = exprs;
-    while let [expr, rest @ ..] = left {
-        if !is_in_range(expr) {
-            return false;
-        }
-        left = rest;
-    }
-    true
 }

@@ -8,9 +8,9 @@ use Rattle.med_syntax.specs.declared.expr.BinaryOp.{BinaryOp}
 use Rattle.med_syntax.specs.declared.expr.BinaryOp.TheVariants.{Add, Sub, Mul, Div, Rem}
 use Rattle.med_syntax.specs.declared.expr.Joint.{Joint}
 use Rattle.med_syntax.specs.declared.expr.Joint.TheVariants.{Or, And}
-use Rattle.expr_parser.specs.declared.refusal.Refusal.{Refusal}
-use Rattle.expr_parser.specs.declared.refusal.Refusal.TheVariants.{Syntax, TooHigh}
-use Rattle.expr_parser.specs.declared.symbols.Separator.TheVariants.{Comma}
+use Rattle.expr_grammar.specs.declared.refusal.Refusal.{Refusal}
+use Rattle.expr_grammar.specs.declared.refusal.Refusal.TheVariants.{Syntax, TooHigh}
+use Rattle.expr_grammar.specs.declared.symbols.Separator.TheVariants.{Comma}
 use Rattle.med_parser.specs.declared.query_source.JoinWay.{JoinWay}
 use Rattle.med_parser.specs.declared.query_source.JoinWay.TheVariants as ways
 use Rattle.med_syntax.specs.Tree.{Name}
@@ -18,12 +18,12 @@ use Rattle.med_syntax.specs.Words.{is_reserved}
 use Rattle.med_syntax.specs.Terminal.{Terminal, plain_word, word_terminal}
 use Rattle.med_syntax.specs.Terminal as t
 use Rattle.med_syntax.specs.ExprTree.{ExprTree, ExprTrees, num, negative, text, truth, null, column, call_all, call, paren, minus, binary, between, among, like, compare, tested, negation, chain, none, more, perhaps_not, column_spelling, status_terminal, height, Fits, spelling, spellings, IsExpr}
-use Rattle.expr_parser.specs.ExprReading.{◌>>=◌, below, chain_of, is_of, compare_of, range_of, left_of}
-use Rattle.expr_parser.specs.ExprSteps.{behind_of}
+use Rattle.expr_grammar.specs.ExprReading.{◌>>=◌, below, chain_of, is_of, compare_of, range_of, left_of}
+use Rattle.expr_grammar.specs.ExprSteps.{behind_of}
 use Rattle.med_syntax.specs.QueryTree.{ItemTree, all, all_of, value, EntryTree, JoinTree, inner_join, left_join, cross_join, ChainTree, GroupTree, KeyTree, LimitTree, no_limit, rows, SelectTree, StatementTree, select, item_height, join_height, chain_height, key_height, highest_of, condition_height, select_height, statement_height}
 use Rattle.med_parser.specs.QueryGrammar.{keywords, SpellsOthers, SpellsList, IsLabel, SpellsLabel, SpellsAlias, SpellsItem, SpellsEntry, SpellsOn, SpellsJoin, SpellsJoins, SpellsChain, SpellsGroup, SpellsFlag, SpellsNulls, SpellsKey, SpellsLimit, SpellsOffset, SpellsLimits, SpellsPerhaps, SpellsListed, SpellsExpr, SpellsSelect, Spells, IsEnd, IsLine}
 use Rattle.med_parser.specs.QueryReading.{Parser, seq, behind_word, behind_words, flag_of, perhaps_name, label_of, label_after, value_of, item_of, others, list_of, alias_after, entry_of, perhaps_of, listed_of, join_words, on_of, join_of, joins_of, all_joins_of, source_of, group_of, nulls_of, key_after, key_of, limit_at, limit_of, behind_unit, offset_of, limit_after, limits_of, select_of, query_of, statement_of, is_end, line_of}
-use Rattle.expr_parser.proofs.ExprComplete.{low_or_high, reach, completes}
+use Rattle.expr_grammar.proofs.ExprComplete.{low_or_high, reach, completes}
 
 -- what is found, where its highest expression has room
 abbrev pub held : {X : Type 0} → ℕ → ℕ → X → List Terminal → Result (X × List Terminal) Refusal

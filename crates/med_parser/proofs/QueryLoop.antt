@@ -1,15 +1,15 @@
 -- The loop over the items of a list, and over items that are in range.
 use Rattle.std.proofs.Common.{◌≡◌, ℕ, zero, suc, ◌≤◌, ◌<◌, List, [], ◌∷◌, ◌++◌, length, refl, sym, ◌∙◌, ap, subst, arith, append_assoc, append-nil, length-append}
 use Rattle.std.specs.Prelude.{Result, Ok, Err, Option, Some, None, map}
-use Rattle.expr_parser.specs.declared.refusal.ReadFault.{ReadFault}
-use Rattle.expr_parser.specs.declared.refusal.ReadFault.TheVariants as faults
-use Rattle.expr_parser.specs.declared.refusal.Refusal.{Refusal}
-use Rattle.expr_parser.specs.declared.symbols.Separator.TheVariants.{Comma}
+use Rattle.expr_grammar.specs.declared.refusal.ReadFault.{ReadFault}
+use Rattle.expr_grammar.specs.declared.refusal.ReadFault.TheVariants as faults
+use Rattle.expr_grammar.specs.declared.refusal.Refusal.{Refusal}
+use Rattle.expr_grammar.specs.declared.symbols.Separator.TheVariants.{Comma}
 use Rattle.med_syntax.specs.Terminal.{Terminal}
 use Rattle.med_syntax.specs.Terminal as t
-use Rattle.expr_parser.specs.ExprAnswers.{Gives}
-use Rattle.expr_parser.specs.ExprReading.{◌>>=◌}
-use Rattle.expr_parser.specs.ExprSteps.{behind_of}
+use Rattle.expr_grammar.specs.ExprAnswers.{Gives}
+use Rattle.expr_grammar.specs.ExprReading.{◌>>=◌}
+use Rattle.expr_grammar.specs.ExprSteps.{behind_of}
 use Rattle.med_parser.specs.declared.query_source.JoinWay.{JoinWay}
 use Rattle.med_syntax.specs.QueryTree.{JoinTree}
 use Rattle.med_parser.specs.QueryReading.{Parser, others, list_of, join_words, join_of, joins_of, all_joins_of}

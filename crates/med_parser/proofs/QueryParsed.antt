@@ -6,26 +6,26 @@ use Rattle.med_value.specs.declared.cause.Cause.TheVariants as causes
 use Rattle.med_lexer.specs.declared.Token.{Token}
 use Rattle.med_lexer.specs.Lexemes.{Shape, Lexeme, Lexes}
 use Rattle.med_lexer.specs.View.{views}
-use Rattle.expr_parser.specs.Shapes.{shapes, IsLongName}
-use Rattle.expr_parser.specs.View.{shapes_of, LexesOnly, cause_of}
-use Rattle.expr_parser.specs.declared.fault.ParseFault.{ParseFault}
-use Rattle.expr_parser.specs.declared.fault.ParseFault.TheVariants as parse_faults
+use Rattle.expr_grammar.specs.Shapes.{shapes, IsLongName}
+use Rattle.expr_grammar.specs.View.{shapes_of, LexesOnly, cause_of}
+use Rattle.expr_grammar.specs.declared.fault.ParseFault.{ParseFault}
+use Rattle.expr_grammar.specs.declared.fault.ParseFault.TheVariants as parse_faults
 use Rattle.med_syntax.specs.declared.statement.Statement.{Statement}
-use Rattle.expr_parser.specs.declared.refusal.ReadFault.{ReadFault}
-use Rattle.expr_parser.specs.declared.refusal.ReadFault.TheVariants as faults
-use Rattle.expr_parser.specs.declared.refusal.Refusal.TheVariants.{Syntax, TooHigh}
-use Rattle.expr_parser.specs.ExprTerminals.{AreReadable}
+use Rattle.expr_grammar.specs.declared.refusal.ReadFault.{ReadFault}
+use Rattle.expr_grammar.specs.declared.refusal.ReadFault.TheVariants as faults
+use Rattle.expr_grammar.specs.declared.refusal.Refusal.TheVariants.{Syntax, TooHigh}
+use Rattle.expr_grammar.specs.ExprTerminals.{AreReadable}
 use Rattle.med_parser.specs.declared.query_symbols.Place.TheVariants.{Before}
 use Rattle.med_parser.specs.QueryTerminals.{words_at}
-use Rattle.expr_parser.specs.ExprWeight.{weight}
-use Rattle.expr_parser.specs.ExprAnswers.{Gives, cause_of_read}
+use Rattle.expr_grammar.specs.ExprWeight.{weight}
+use Rattle.expr_grammar.specs.ExprAnswers.{Gives, cause_of_read}
 use Rattle.med_syntax.specs.QueryTree.{StatementTree, statement_height}
 use Rattle.med_parser.specs.QueryGrammar.{IsLine, IsStatement, HasStatement}
 use Rattle.med_parser.specs.QueryCauses.{statement_in_range, TokenCauses, SyntaxCauses}
 use Rattle.med_parser.specs.QueryReading.{bounded_line}
 use Rattle.med_syntax.specs.QueryView.{statement_tree}
-use Rattle.expr_parser.proofs.TokenShapes.{OneList, shapes_are}
-use Rattle.expr_parser.proofs.ExprParsed.{small_at}
+use Rattle.expr_grammar.proofs.TokenShapes.{OneList, shapes_are}
+use Rattle.expr_grammar.proofs.TokenNumbers.{small_at}
 use Rattle.med_parser.proofs.QueryComplete.{one_line}
 use Rattle.med_parser.proofs.QueryTerminals.{to_terminals, of_terminals}
 use Rattle.med_parser.proofs.QueryWeighing.{words_weigh, bounded_sound, bounded_out, bounded_told}

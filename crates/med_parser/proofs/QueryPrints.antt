@@ -7,20 +7,20 @@ use Rattle.med_lexer.specs.Lexemes.{Shape, word, quoted, literal, number, mark, 
 use Rattle.med_lexer.specs.Printing.{IsShape, AreShapes, behind_spaces}
 use Rattle.med_syntax.specs.declared.expr.BinaryOp.TheVariants.{Mul}
 use Rattle.med_syntax.specs.Tree.{Name}
-use Rattle.expr_parser.specs.Shapes.{shapes}
+use Rattle.expr_grammar.specs.Shapes.{shapes}
 use Rattle.med_syntax.specs.Words.{is_reserved}
 use Rattle.med_syntax.specs.Terminal.{Terminal, terminal_of, mark_terminal}
 use Rattle.med_parser.specs.QueryTerminals.{IsWord, AreWords}
 use Rattle.med_syntax.specs.Terminal as t
 use Rattle.med_syntax.specs.ExprTree.{ExprTree, num, column_spelling, spelling, IsExpr}
-use Rattle.expr_parser.specs.ExprGrammar.{in_range}
-use Rattle.expr_parser.specs.ExprPrinting.{shape_for, shapes_for, Wrote}
+use Rattle.expr_grammar.specs.ExprGrammar.{in_range}
+use Rattle.expr_writer.specs.ExprPrinting.{shape_for, shapes_for, Wrote}
 use Rattle.med_syntax.specs.QueryTree.{ItemTree, all, all_of, value, EntryTree, JoinTree, inner_join, left_join, cross_join, ChainTree, GroupTree, KeyTree, LimitTree, no_limit, rows, SelectTree, StatementTree, select}
 use Rattle.med_parser.specs.QueryGrammar.{keywords, SpellsOthers, SpellsList, SpellsLabel, SpellsAlias, SpellsItem, SpellsEntry, SpellsOn, SpellsJoin, SpellsJoins, SpellsChain, SpellsGroup, SpellsFlag, SpellsNulls, SpellsKey, SpellsLimit, SpellsOffset, SpellsLimits, SpellsPerhaps, SpellsListed, SpellsExpr, Spells, IsStatement, HasStatement}
 use Rattle.med_parser.specs.QueryCauses.{all_in_range, perhaps_in_range, item_in_range, join_in_range, chain_in_range, key_in_range, limit_in_range, count_in_range, select_in_range, statement_in_range}
 use Rattle.med_parser.specs.QueryReading.{label_of}
 use Rattle.med_parser.specs.QueryPrinting.{alias_written, item_written, others_written, list_written, entry_written, on_written, join_written, joins_written, chain_written, group_written, flag_written, nulls_written, key_written, quantifier_written, limit_written, offset_written, perhaps_written, listed_written, tail_written, clauses_written, select_written, statement_written, printed_statement}
-use Rattle.expr_parser.proofs.ExprPrints.{Writable, AreWritable, both_left, both_right, writable, written_terminal, says, name_shape, written_shape, PrintedAgain, wrote_more, spaces_append}
+use Rattle.expr_writer.proofs.ExprPrints.{Writable, AreWritable, both_left, both_right, writable, written_terminal, says, name_shape, written_shape, PrintedAgain, wrote_more, spaces_append}
 use Rattle.med_parser.proofs.QueryComplete.{word_label, label_is}
 use Rattle.med_parser.proofs.QueryTerminals.{free_reserved}
 

@@ -5,9 +5,9 @@ use Rattle.std.specs.Str.{bytes_eq}
 use Rattle.std.proofs.lemmas.Slice.Eq.{bytes_eq-Decides}
 use Rattle.med_syntax.specs.declared.expr.BinaryOp.TheVariants.{Mul}
 use Rattle.med_syntax.specs.declared.expr.Joint.TheVariants.{Or, And}
-use Rattle.expr_parser.specs.declared.refusal.Refusal.{Refusal}
-use Rattle.expr_parser.specs.declared.refusal.Refusal.TheVariants.{Syntax}
-use Rattle.expr_parser.specs.declared.symbols.Separator.TheVariants.{Comma}
+use Rattle.expr_grammar.specs.declared.refusal.Refusal.{Refusal}
+use Rattle.expr_grammar.specs.declared.refusal.Refusal.TheVariants.{Syntax}
+use Rattle.expr_grammar.specs.declared.symbols.Separator.TheVariants.{Comma}
 use Rattle.med_parser.specs.declared.query_source.JoinWay.{JoinWay}
 use Rattle.med_parser.specs.declared.query_source.JoinWay.TheVariants as ways
 use Rattle.med_syntax.specs.Tree.{Name}
@@ -15,13 +15,13 @@ use Rattle.med_syntax.specs.Words.{is_reserved}
 use Rattle.med_syntax.specs.Terminal.{Terminal, word_terminal}
 use Rattle.med_syntax.specs.Terminal as t
 use Rattle.med_syntax.specs.ExprTree.{ExprTree, spelling, height}
-use Rattle.expr_parser.specs.ExprReading.{◌>>=◌, choose, below}
-use Rattle.expr_parser.specs.ExprSteps.{behind_of}
+use Rattle.expr_grammar.specs.ExprReading.{◌>>=◌, choose, below}
+use Rattle.expr_grammar.specs.ExprSteps.{behind_of}
 use Rattle.med_syntax.specs.QueryTree.{all, all_of, value, EntryTree, JoinTree, inner_join, left_join, cross_join, KeyTree, LimitTree, no_limit, rows, SelectTree, StatementTree, select, item_height, join_height, chain_height, key_height, highest_of, condition_height, statement_height}
 use Rattle.med_parser.specs.QueryGrammar.{keywords, SpellsOthers, SpellsList, IsLabel, SpellsLabel, SpellsAlias, SpellsItem, SpellsEntry, SpellsOn, SpellsJoin, SpellsJoins, SpellsChain, SpellsGroup, SpellsFlag, SpellsNulls, SpellsKey, SpellsLimit, SpellsOffset, SpellsLimits, SpellsPerhaps, SpellsListed, SpellsExpr, Spells, IsEnd, IsLine}
 use Rattle.med_parser.specs.QueryReading.{Parser, seq, behind_word, behind_words, flag_of, read_name, perhaps_name, label_of, label_at, label_after, value_of, item_of, others, list_of, alias_after, entry_of, perhaps_of, listed_of, join_words, on_of, join_of, joins_of, all_joins_of, source_of, group_of, nulls_of, key_after, key_of, number_of, limit_at, limit_of, behind_unit, offset_of, limit_after, limits_of, select_of, query_of, statement_of, is_end, line_of}
-use Rattle.expr_parser.proofs.ExprSound.{bind_ok, ok_same, sounds}
-use Rattle.expr_parser.proofs.ExprSound as expr
+use Rattle.expr_grammar.proofs.ExprSound.{bind_ok, ok_same, sounds}
+use Rattle.expr_grammar.proofs.ExprSound as expr
 
 -- the front of the terminals spells x, which has room, and the rest is left
 pub record Found {X : Type 0} (Spelling : X → List Terminal → Type 0) (high : X → ℕ) (room : ℕ) (ts : List Terminal) (x : X) (rest : List Terminal) : Type 0 where

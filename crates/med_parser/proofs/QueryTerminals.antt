@@ -13,12 +13,12 @@ use Rattle.med_syntax.specs.Tree.{Name}
 use Rattle.med_syntax.specs.Words.{is_reserved}
 use Rattle.med_syntax.specs.Terminal.{Terminal, word_terminal, IsTerminal}
 use Rattle.med_syntax.specs.Terminal as t
-use Rattle.expr_parser.specs.ExprTerminals.{follows, terminal_at}
+use Rattle.expr_grammar.specs.ExprTerminals.{follows, terminal_at}
 use Rattle.med_syntax.specs.ExprTree.{ExprTree, ExprTrees, num, negative, text, truth, null, column, call_all, call, paren, minus, binary, between, among, like, compare, tested, negation, chain, none, more, perhaps_not, column_spelling, spelling, spellings, parts_spelling, IsExpr}
 use Rattle.med_parser.specs.QueryTerminals.{is_one_of, is_free_keyword, IsWord, AreWords, keywords_at, behind_reserved, place_behind, word_at, words_at}
 use Rattle.med_syntax.specs.QueryTree.{all, all_of, value, EntryTree, JoinTree, inner_join, left_join, cross_join, ChainTree, GroupTree, KeyTree, LimitTree, no_limit, rows, SelectTree, StatementTree, select}
 use Rattle.med_parser.specs.QueryGrammar.{keywords, SpellsOthers, SpellsList, IsLabel, SpellsLabel, SpellsAlias, SpellsItem, SpellsEntry, SpellsOn, SpellsJoin, SpellsJoins, SpellsChain, SpellsGroup, SpellsFlag, SpellsNulls, SpellsKey, SpellsLimit, SpellsOffset, SpellsLimits, SpellsPerhaps, SpellsListed, SpellsExpr, SpellsSelect, Spells, IsEnd, IsLine, IsStatement}
-use Rattle.expr_parser.proofs.ExprTerminals.{Allowed, Good, good, same_terminals, terminals_are}
+use Rattle.expr_grammar.proofs.ExprTerminals.{Allowed, Good, good, same_terminals, terminals_are}
 
 -- ---- keywords that are not reserved
 

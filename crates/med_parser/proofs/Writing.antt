@@ -3,8 +3,8 @@ use Rattle.std.proofs.Common.{◌≡◌, ℕ, List, [], ◌∷◌, ◌++◌}
 use Rattle.std.specs.Prelude.{Result, IfOk}
 use Rattle.med_lexer.specs.Printing.{behind_spaces, raw_of}
 use Rattle.med_syntax.specs.Terminal.{Terminal}
-use Rattle.expr_parser.specs.ExprPrinting.{Wrote, shape_for, shapes_for}
-use Rattle.expr_parser.proofs.ExprPrints as printing
+use Rattle.expr_writer.specs.ExprPrinting.{Wrote, shape_for, shapes_for}
+use Rattle.expr_writer.proofs.ExprPrints as printing
 
 pub wrote_none : (a : List ℕ) → Wrote a a []
 wrote_none a = printing.wrote_none a

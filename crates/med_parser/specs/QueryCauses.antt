@@ -3,8 +3,8 @@ use Rattle.std.specs.Prelude.{◌≡◌, ℕ, ◌<◌, ◌⊎◌, Bool, true, fa
 use Rattle.med_value.specs.declared.cause.Cause.{Cause}
 use Rattle.med_value.specs.declared.cause.Cause.TheVariants as causes
 use Rattle.med_lexer.specs.Lexemes.{Shape, Lexeme, Lexes}
-use Rattle.expr_parser.specs.Shapes.{shapes, IsLongName, deepens}
-use Rattle.expr_parser.specs.ExprGrammar.{in_range, IsHuge}
+use Rattle.expr_grammar.specs.Shapes.{shapes, IsLongName, deepens}
+use Rattle.expr_grammar.specs.ExprGrammar.{in_range, IsHuge}
 use Rattle.med_syntax.specs.QueryTree.{ItemTree, value, JoinTree, inner_join, left_join, cross_join, ChainTree, KeyTree, LimitTree, no_limit, rows, SelectTree, StatementTree, select, statement_height}
 use Rattle.med_parser.specs.QueryGrammar.{IsStatement, HasStatement}
 

@@ -13,7 +13,7 @@ use Rattle.std.specs.Prelude.{◌≡◌, ℕ, ◌⊎◌, Bool, true, false, List
 use Rattle.med_lexer.specs.Lexemes.{Shape, Lexeme, Lexes}
 use Rattle.med_syntax.specs.declared.expr.BinaryOp.TheVariants.{Mul}
 use Rattle.med_syntax.specs.Tree.{Name}
-use Rattle.expr_parser.specs.Shapes.{shapes}
+use Rattle.expr_grammar.specs.Shapes.{shapes}
 use Rattle.med_syntax.specs.Terminal.{Terminal, word_terminal}
 use Rattle.med_syntax.specs.Terminal as t
 use Rattle.med_syntax.specs.ExprTree.{ExprTree, column_spelling, IsExpr}

@@ -9,7 +9,7 @@ use Rattle.med_syntax.specs.Tree.{Name}
 use Rattle.med_syntax.specs.Terminal.{Terminal}
 use Rattle.med_syntax.specs.Terminal as t
 use Rattle.med_syntax.specs.ExprTree.{ExprTree, column_spelling, spelling}
-use Rattle.expr_parser.specs.ExprPrinting.{shapes_for}
+use Rattle.expr_writer.specs.ExprPrinting.{shapes_for}
 use Rattle.med_syntax.specs.QueryTree.{ItemTree, all, all_of, value, EntryTree, JoinTree, inner_join, left_join, cross_join, ChainTree, GroupTree, KeyTree, LimitTree, no_limit, rows, SelectTree, StatementTree, select}
 use Rattle.med_parser.specs.QueryGrammar.{keywords}
 

@@ -3,9 +3,9 @@ use Rattle.std.specs.Prelude.{ℕ, zero, suc, Bool, true, false, cond, nat_le, L
 use Rattle.std.specs.Str.{bytes_eq}
 use Rattle.med_syntax.specs.declared.expr.BinaryOp.TheVariants.{Mul}
 use Rattle.med_syntax.specs.declared.expr.Joint.TheVariants.{Or, And}
-use Rattle.expr_parser.specs.declared.refusal.Refusal.{Refusal}
-use Rattle.expr_parser.specs.declared.refusal.Refusal.TheVariants.{Syntax}
-use Rattle.expr_parser.specs.declared.symbols.Separator.TheVariants.{Comma}
+use Rattle.expr_grammar.specs.declared.refusal.Refusal.{Refusal}
+use Rattle.expr_grammar.specs.declared.refusal.Refusal.TheVariants.{Syntax}
+use Rattle.expr_grammar.specs.declared.symbols.Separator.TheVariants.{Comma}
 use Rattle.med_parser.specs.declared.query_source.JoinWay.{JoinWay}
 use Rattle.med_parser.specs.declared.query_source.JoinWay.TheVariants as ways
 use Rattle.med_syntax.specs.Words.{is_reserved}
@@ -13,9 +13,9 @@ use Rattle.med_syntax.specs.Tree.{Name}
 use Rattle.med_syntax.specs.Terminal.{Terminal}
 use Rattle.med_syntax.specs.Terminal as t
 use Rattle.med_syntax.specs.ExprTree.{ExprTree}
-use Rattle.expr_parser.specs.ExprReading.{◌>>=◌, choose, below}
-use Rattle.expr_parser.specs.ExprSteps.{behind_of}
-use Rattle.expr_parser.specs.ExprWeight.{weight, judged}
+use Rattle.expr_grammar.specs.ExprReading.{◌>>=◌, choose, below}
+use Rattle.expr_grammar.specs.ExprSteps.{behind_of}
+use Rattle.expr_grammar.specs.ExprWeight.{weight, judged}
 use Rattle.med_syntax.specs.QueryTree.{ItemTree, all, all_of, value, EntryTree, JoinTree, inner_join, left_join, cross_join, ChainTree, GroupTree, KeyTree, LimitTree, no_limit, rows, SelectTree, StatementTree, select}
 
 -- what stands at the front and the terminals behind it, or the refusal

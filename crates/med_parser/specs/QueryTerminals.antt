@@ -7,7 +7,7 @@ use Rattle.med_parser.specs.declared.query_symbols.Place.{Place}
 use Rattle.med_parser.specs.declared.query_symbols.Place.TheVariants as p
 use Rattle.med_syntax.specs.Terminal.{Terminal, IsTerminal}
 use Rattle.med_syntax.specs.Terminal as t
-use Rattle.expr_parser.specs.ExprTerminals.{follows, terminal_at}
+use Rattle.expr_grammar.specs.ExprTerminals.{follows, terminal_at}
 
 abbrev pub is_one_of : List (List ℕ) → List ℕ → Bool
 is_one_of ws w = list_any (λ r. bytes_eq r w) ws

@@ -4,15 +4,15 @@
 ghost use Rattle.std.specs.Prelude.{◌≡◌, ◌<◌, ◌∷◌, [], codes, option_map, map};
 ghost use Rattle.std.specs.String.{string_bytes};
 ghost use Rattle.med_syntax.specs.ExprView.{expr_tree};
-ghost use Rattle.expr_parser.specs.SymbolView.{terminals_of};
-ghost use Rattle.expr_parser.specs.ExprAnswers.{Gives};
+ghost use Rattle.expr_grammar.specs.SymbolView.{terminals_of};
+ghost use Rattle.expr_grammar.specs.ExprAnswers.{Gives};
 ghost use Rattle.med_parser.specs.QueryReading as reading;
 ghost use Rattle.med_syntax.specs.QueryView.{group_tree, key_tree, limit_tree};
 
 use crate::query_reader::{behind_two, behind_word};
-use expr_parser::expr_reader::whole;
-use expr_parser::refusal::{ReadFault, Refusal};
-use expr_parser::symbols::{Separator, Symbol, behind};
+use expr_grammar::refusal::{ReadFault, Refusal};
+use expr_grammar::symbols::{Separator, Symbol, behind};
+use expr_reader::whole;
 use med_syntax::{Expr, GroupColumn, Limit, OrderKey};
 use std::alloc::Global;
 

@@ -6,7 +6,7 @@ ghost use Rattle.std.specs.String.{string_bytes};
 ghost use Rattle.med_lexer.specs.Printing.{raw_of};
 ghost use Rattle.med_syntax.specs.ExprTree.{spelling};
 ghost use Rattle.med_syntax.specs.Terminal as t;
-ghost use Rattle.expr_parser.specs.ExprPrinting.{Wrote, shape_for};
+ghost use Rattle.expr_writer.specs.ExprPrinting.{Wrote, shape_for};
 ghost use Rattle.med_syntax.specs.ExprView.{expr_tree};
 ghost use Rattle.med_parser.specs.QueryGrammar.{HasStatement};
 ghost use Rattle.med_syntax.specs.QueryTree.{left_join, cross_join};
@@ -15,7 +15,7 @@ ghost use Rattle.med_parser.specs.QueryPrinting.{keyword_word, keyword_terminal,
 ghost use Rattle.med_syntax.specs.QueryView.{item_tree, items_tree, entry_tree, join_tree, chain_tree, group_tree, key_tree, limit_tree, select_tree, statement_tree};
 
 use crate::query_laws::printed_statement;
-use expr_parser::expr_print::{Fixed, write, write_column, write_fixed, write_name, write_number};
+use expr_writer::{Fixed, write, write_column, write_fixed, write_name, write_number};
 use med_syntax::{
     BinaryOp, Chain, Entry, Expr, GroupColumn, Item, Join, Limit, OrderKey, Select, Statement,
 };

@@ -4,17 +4,17 @@
 ghost use Rattle.std.specs.Prelude.{◌≡◌, ◌<◌, ◌∷◌, [], option_map};
 ghost use Rattle.std.specs.String.{string_bytes};
 ghost use Rattle.med_syntax.specs.ExprView.{expr_tree};
-ghost use Rattle.expr_parser.specs.SymbolView.{terminal_of_symbol, terminals_of};
-ghost use Rattle.expr_parser.specs.ExprAnswers.{Gives};
-ghost use Rattle.expr_parser.specs.ExprReading.{below};
+ghost use Rattle.expr_grammar.specs.SymbolView.{terminal_of_symbol, terminals_of};
+ghost use Rattle.expr_grammar.specs.ExprAnswers.{Gives};
+ghost use Rattle.expr_grammar.specs.ExprReading.{below};
 ghost use Rattle.med_parser.specs.QueryReading as reading;
 ghost use Rattle.med_syntax.specs.QueryView.{item_tree, items_tree, select_tree, statement_tree};
 
 use crate::query_keys::{flag, groups, keys, limits};
 use crate::query_source::chains;
-use expr_parser::expr_reader::whole;
-use expr_parser::refusal::{ReadFault, Refusal};
-use expr_parser::symbols::{Separator, Symbol, behind};
+use expr_grammar::refusal::{ReadFault, Refusal};
+use expr_grammar::symbols::{Separator, Symbol, behind};
+use expr_reader::whole;
 use med_syntax::{BinaryOp, Expr, Item, Joint, Select, Statement, is_reserved};
 use std::alloc::Global;
 

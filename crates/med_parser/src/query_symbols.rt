@@ -4,13 +4,13 @@
 ghost use Rattle.std.specs.Prelude.{◌≡◌, IfOk, false};
 ghost use Rattle.std.specs.String.{string_bytes};
 ghost use Rattle.med_lexer.specs.View.{shape_of};
-ghost use Rattle.expr_parser.specs.ExprTerminals.{AreReadable, IsReadable};
-ghost use Rattle.expr_parser.specs.SymbolView.{terminal_of_symbol, terminals_of};
+ghost use Rattle.expr_grammar.specs.ExprTerminals.{AreReadable, IsReadable};
+ghost use Rattle.expr_grammar.specs.SymbolView.{terminal_of_symbol, terminals_of};
 ghost use Rattle.med_parser.specs.QueryTerminals as spec;
-ghost use Rattle.expr_parser.specs.View.{shapes_of};
+ghost use Rattle.expr_grammar.specs.View.{shapes_of};
 
-use expr_parser::expr_symbols::{follows_is, symbol};
-use expr_parser::symbols::Symbol;
+use expr_grammar::expr_symbols::{follows_is, symbol};
+use expr_grammar::symbols::Symbol;
 use med_lexer::{Kind, Token};
 use std::alloc::{AllocError, Global};
 

@@ -1,4 +1,4 @@
-use Rattle.expr_parser.proofs.ExprPrints.{printed_has}
+use Rattle.expr_writer.proofs.ExprPrints.{printed_has}
 use Rattle.expr_parser.proofs.expr_laws.printed_expression.Goals as goal
 
 pub returns : goal.returns

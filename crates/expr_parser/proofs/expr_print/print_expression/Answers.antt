@@ -1,9 +1,9 @@
 use Rattle.std.proofs.Common.{arith, List, ℕ, ◌≡◌, ◌∷◌, ap, sym, subst, length}
 use Rattle.std.specs.String.{string_bytes}
-use Rattle.expr_parser.specs.ExprGrammar.{HasExpr}
-use Rattle.expr_parser.specs.ExprPrinting.{printed_expr}
+use Rattle.expr_grammar.specs.ExprGrammar.{HasExpr}
+use Rattle.expr_writer.specs.ExprPrinting.{printed_expr}
 use Rattle.med_syntax.specs.ExprView.{expr_tree}
-use Rattle.expr_parser.proofs.ExprPrints.{spaced, removed}
+use Rattle.expr_writer.proofs.ExprPrints.{spaced, removed}
 use Rattle.expr_parser.proofs.expr_print.print_expression.Goals as goal
 
 pub remove-requires-clause-in_bounds : goal.remove-requires-clause-in_bounds

@@ -1,9 +1,10 @@
 use Rattle.std.proofs.Common.{◌≡◌, true, false, sym, ◌∙◌, inl, inr}
 use Rattle.std.proofs.lemmas.Result.{err_from_is_err_and}
-use Rattle.expr_parser.specs.View.{shapes_of}
+use Rattle.expr_grammar.specs.View.{shapes_of}
 use Rattle.med_syntax.specs.ExprView.{expr_tree}
-use Rattle.expr_parser.proofs.TokenShapes.{short_names}
-use Rattle.expr_parser.proofs.ExprParsed.{huge, readable, told, told_refused, read_expr, no_cause}
+use Rattle.expr_grammar.proofs.TokenShapes.{short_names}
+use Rattle.expr_grammar.proofs.TokenNumbers.{huge, readable}
+use Rattle.expr_parser.proofs.ExprParsed.{told, told_refused, read_expr, no_cause}
 use Rattle.expr_parser.proofs.expr_text.checked_expr.Goals as goal
 
 pub returns-then-has_unreadable-clause-refused : goal.returns-then-has_unreadable-clause-refused

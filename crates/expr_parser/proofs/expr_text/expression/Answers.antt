@@ -3,8 +3,8 @@ use Rattle.std.proofs.lemmas.Result.{err_from_is_err_and}
 use Rattle.med_lexer.specs.declared.Token.{Token}
 use Rattle.med_lexer.specs.Lexemes.{Lexes}
 use Rattle.med_lexer.specs.View.{views}
-use Rattle.expr_parser.proofs.TokenShapes.{OneList}
-use Rattle.expr_parser.proofs.ExprParsed.{lexed_read, printable, text_found, text_none, text_refused, only_memory}
+use Rattle.expr_grammar.proofs.TokenShapes.{OneList, printable}
+use Rattle.expr_parser.proofs.ExprParsed.{lexed_read, text_found, text_none, text_refused, only_memory}
 use Rattle.expr_parser.proofs.expr_text.expression.Goals as goal
 
 pub returns-in_err-tokens-clause-read : goal.returns-in_err-tokens-clause-read

@@ -1,9 +1,9 @@
 use Rattle.std.proofs.Common.{◌≡◌, true, false, sym, ◌∙◌, inl, inr}
 use Rattle.std.proofs.lemmas.Result.{err_from_is_err_and}
-use Rattle.expr_parser.specs.View.{shapes_of}
+use Rattle.expr_grammar.specs.View.{shapes_of}
 use Rattle.med_syntax.specs.QueryView.{statement_tree}
-use Rattle.expr_parser.proofs.TokenShapes.{short_names, long_name}
-use Rattle.expr_parser.proofs.ExprParsed.{huge, readable}
+use Rattle.expr_grammar.proofs.TokenShapes.{short_names, long_name}
+use Rattle.expr_grammar.proofs.TokenNumbers.{huge, readable}
 use Rattle.med_parser.proofs.QueryParsed.{told, told_refused, told_syntax, read_statement, no_cause}
 use Rattle.med_parser.proofs.parser.checked_statement.Goals as goal
 

@@ -1,8 +1,8 @@
 use Rattle.std.proofs.Common.{ap, ◌∙◌, List, [], ◌∷◌, ◌++◌, Bor, map}
 use Rattle.std.proofs.lemmas.Result.{err_from_is_err_and}
 use Rattle.med_syntax.specs.declared.statement.OrderKey.{OrderKey}
-use Rattle.expr_parser.specs.declared.symbols.Symbol.{Symbol}
-use Rattle.expr_parser.specs.SymbolView.{terminals_of}
+use Rattle.expr_grammar.specs.declared.symbols.Symbol.{Symbol}
+use Rattle.expr_grammar.specs.SymbolView.{terminals_of}
 use Rattle.med_parser.specs.QueryGrammar.{SpellsKey}
 use Rattle.med_parser.specs.QueryReading.{key_of}
 use Rattle.med_syntax.specs.QueryTree.{key_height}

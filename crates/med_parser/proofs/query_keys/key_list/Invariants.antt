@@ -1,5 +1,5 @@
 use Rattle.std.proofs.Common.{length, map}
-use Rattle.expr_parser.specs.SymbolView.{terminals_of}
+use Rattle.expr_grammar.specs.SymbolView.{terminals_of}
 use Rattle.med_parser.specs.QueryReading.{key_of}
 use Rattle.med_syntax.specs.QueryView.{key_tree}
 use Rattle.med_parser.proofs.QueryLoop.{ListLoop}

@@ -3,7 +3,7 @@ use Rattle.std.specs.String.{string_bytes}
 use Rattle.med_parser.specs.QueryGrammar.{HasStatement}
 use Rattle.med_parser.specs.QueryPrinting.{printed_statement}
 use Rattle.med_syntax.specs.QueryView.{statement_tree}
-use Rattle.expr_parser.proofs.ExprPrints.{removed}
+use Rattle.expr_writer.proofs.ExprPrints.{removed}
 use Rattle.med_parser.proofs.QueryPrints.{spaced}
 use Rattle.med_parser.proofs.query_print.print.Goals as goal
 

@@ -1,7 +1,7 @@
 use Rattle.std.proofs.Common.{◌++◌, ◌∷◌, List, [], codes, subst, map}
 use Rattle.std.specs.String.{string_bytes}
 use Rattle.med_syntax.specs.ExprTree.{spelling}
-use Rattle.expr_parser.specs.ExprPrinting.{Wrote}
+use Rattle.expr_writer.specs.ExprPrinting.{Wrote}
 use Rattle.med_parser.proofs.Writing.{then_if}
 use Rattle.med_syntax.specs.declared.statement.Chain.{Chain}
 use Rattle.med_syntax.specs.declared.statement.GroupColumn.{GroupColumn}

@@ -1,7 +1,7 @@
 use Rattle.std.proofs.Common.{◌≡◌, ◌++◌, length, map}
 use Rattle.std.specs.String.{string_bytes}
 use Rattle.med_lexer.specs.Printing.{behind_spaces}
-use Rattle.expr_parser.specs.ExprPrinting.{shapes_for}
+use Rattle.expr_writer.specs.ExprPrinting.{shapes_for}
 use Rattle.med_parser.specs.QueryPrinting.{others_written, chain_written}
 use Rattle.med_syntax.specs.QueryView.{chain_tree}
 use Rattle.med_parser.proofs.query_print.write_other_chains.Given as goal

@@ -1,7 +1,7 @@
 use Rattle.std.proofs.Common.{◌++◌, List, codes, subst}
 use Rattle.std.specs.String.{string_bytes}
 use Rattle.med_syntax.specs.Terminal as t
-use Rattle.expr_parser.specs.ExprPrinting.{Wrote}
+use Rattle.expr_writer.specs.ExprPrinting.{Wrote}
 use Rattle.med_parser.proofs.Writing.{then_if, more_if}
 use Rattle.med_syntax.specs.declared.statement.Item.{Item}
 use Rattle.med_parser.specs.QueryPrinting.{item_written, list_written, quantifier_written, clauses_written}

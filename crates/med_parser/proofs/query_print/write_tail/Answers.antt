@@ -1,6 +1,6 @@
 use Rattle.std.proofs.Common.{◌++◌, ◌∷◌, List, [], codes, subst, map}
 use Rattle.std.specs.String.{string_bytes}
-use Rattle.expr_parser.specs.ExprPrinting.{Wrote}
+use Rattle.expr_writer.specs.ExprPrinting.{Wrote}
 use Rattle.med_parser.proofs.Writing.{then_if}
 use Rattle.med_syntax.specs.declared.statement.OrderKey.{OrderKey}
 use Rattle.med_parser.specs.QueryPrinting.{key_written, listed_written, limit_written, offset_written}

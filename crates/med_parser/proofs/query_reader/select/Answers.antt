@@ -2,7 +2,7 @@ use Rattle.std.proofs.Common.{map, refl}
 use Rattle.std.specs.Prelude.{option_map}
 use Rattle.std.proofs.lemmas.Result.{err_from_is_err_and}
 use Rattle.med_syntax.specs.ExprView.{expr_tree}
-use Rattle.expr_parser.specs.SymbolView.{terminals_of}
+use Rattle.expr_grammar.specs.SymbolView.{terminals_of}
 use Rattle.med_parser.specs.QueryReading.{select_of}
 use Rattle.med_syntax.specs.QueryView.{item_tree, chain_tree, group_tree, key_tree, limit_tree}
 use Rattle.med_parser.proofs.QuerySteps.{seq_goes, seq_reads, seq_fails}

@@ -1,8 +1,8 @@
 use Rattle.std.proofs.Common.{ap, ◌∙◌, List, [], ◌∷◌, ◌++◌, Bor, map}
 use Rattle.std.proofs.lemmas.Result.{err_from_is_err_and}
 use Rattle.med_syntax.specs.declared.statement.Chain.{Chain}
-use Rattle.expr_parser.specs.declared.symbols.Symbol.{Symbol}
-use Rattle.expr_parser.specs.SymbolView.{terminals_of}
+use Rattle.expr_grammar.specs.declared.symbols.Symbol.{Symbol}
+use Rattle.expr_grammar.specs.SymbolView.{terminals_of}
 use Rattle.med_parser.specs.QueryGrammar.{SpellsChain}
 use Rattle.med_parser.specs.QueryReading.{source_of}
 use Rattle.med_syntax.specs.QueryTree.{chain_height}

@@ -1,8 +1,8 @@
 use Rattle.std.proofs.Common.{ap, List, Bor, map}
 use Rattle.std.proofs.lemmas.Result.{err_from_is_err_and}
 use Rattle.med_syntax.specs.declared.statement.Join.{Join}
-use Rattle.expr_parser.specs.declared.symbols.Symbol.{Symbol}
-use Rattle.expr_parser.specs.SymbolView.{terminals_of}
+use Rattle.expr_grammar.specs.declared.symbols.Symbol.{Symbol}
+use Rattle.expr_grammar.specs.SymbolView.{terminals_of}
 use Rattle.med_syntax.specs.QueryView.{join_tree}
 use Rattle.med_parser.proofs.QueryLoop.{joins_start, joins_end, joins_failed, joins_more, joins_shorter}
 use Rattle.med_parser.proofs.query_source.joins.Goals as goal

@@ -1,9 +1,9 @@
 use Rattle.std.proofs.Common.{◌≡◌, ◌++◌, false, length}
 use Rattle.med_parser.specs.declared.query_symbols.Place.TheVariants.{Before}
-use Rattle.expr_parser.specs.ExprTerminals.{AreReadable}
-use Rattle.expr_parser.specs.SymbolView.{terminals_of}
+use Rattle.expr_grammar.specs.ExprTerminals.{AreReadable}
+use Rattle.expr_grammar.specs.SymbolView.{terminals_of}
 use Rattle.med_parser.specs.QueryTerminals.{words_at}
-use Rattle.expr_parser.specs.View.{shapes_of}
+use Rattle.expr_grammar.specs.View.{shapes_of}
 use Rattle.med_parser.proofs.query_symbols.words_of.Given as goal
 
 abbrev pub invariant-loop-left : goal.invariant-loop-left

@@ -1,0 +1,6 @@
+pub mod TokenShapes
+pub mod TokenNumbers
+pub mod ExprComplete
+pub mod ExprSound
+pub mod ExprTerminals
+pub mod ExprWeighing

@@ -1,0 +1,140 @@
+//! The terminal symbols that tokens are in an expression.
+
+ghost use Rattle.std.specs.Prelude.{◌≡◌, ◌↔◌, IfOk, IsTrue, Any, false};
+ghost use Rattle.std.specs.String.{string_bytes};
+ghost use Rattle.med_lexer.specs.declared.Token.{Token};
+ghost use Rattle.med_lexer.specs.View.{shape_of};
+ghost use Rattle.med_syntax.specs.Terminal.{mark_terminal, plain_word, word_terminal};
+ghost use Rattle.expr_grammar.specs.ExprTerminals as spec;
+ghost use Rattle.expr_grammar.specs.SymbolView.{terminal_of_symbol, terminals_of};
+ghost use Rattle.expr_grammar.specs.View.{shapes_of};
+
+use crate::symbols::Symbol;
+use med_lexer::{Kind, Mark, Token, number_value};
+use med_syntax::{BinaryOp, CompareOp, Joint, is_reserved};
+use std::alloc::{AllocError, Global};
+
+/// The symbol of a mark.
+fn mark_symbol(mark: Mark) -> Symbol
+    ensures { terminal_of_symbol result ≡ mark_terminal mark }
+{
+    match mark {
+        Mark::LeftParen => Symbol::LeftParen,
+        Mark::RightParen => Symbol::RightParen,
+        Mark::Comma => Symbol::Comma,
+        Mark::Dot => Symbol::Dot,
+        Mark::Semicolon => Symbol::Semicolon,
+        Mark::Star => Symbol::Binary(BinaryOp::Mul),
+        Mark::Plus => Symbol::Binary(BinaryOp::Add),
+        Mark::Minus => Symbol::Binary(BinaryOp::Sub),
+        Mark::Slash => Symbol::Binary(BinaryOp::Div),
+        Mark::Percent => Symbol::Binary(BinaryOp::Rem),
+        Mark::Equal => Symbol::Compare(CompareOp::Equal),
+        Mark::Differ => Symbol::Compare(CompareOp::Differ),
+        Mark::Less => Symbol::Compare(CompareOp::Less),
+        Mark::AtMost => Symbol::Compare(CompareOp::AtMost),
+        Mark::Greater => Symbol::Compare(CompareOp::Greater),
+        Mark::AtLeast => Symbol::Compare(CompareOp::AtLeast),
+    }
+}
+
+/// The symbol of a word that no expression has as a keyword.
+fn plain_symbol(word: &String) -> Result<Symbol, AllocError>
+    ensures { IfOk result (λ s. terminal_of_symbol s ≡ plain_word (string_bytes word.now)) }
+{
+    if is_reserved(word) {
+        Ok(Symbol::Reserved(word.clone()?))
+    } else {
+        Ok(Symbol::Name(word.clone()?))
+    }
+}
+
+/// The symbol of a word that is not UNKNOWN behind IS.
+fn word_symbol(word: &String) -> Result<Symbol, AllocError>
+    ensures { IfOk result (λ s. terminal_of_symbol s ≡ word_terminal (string_bytes word.now)) }
+{
+    let text = word.as_str();
+    if text == "and" {
+        Ok(Symbol::Joint(Joint::And))
+    } else if text == "or" {
+        Ok(Symbol::Joint(Joint::Or))
+    } else if text == "not" {
+        Ok(Symbol::Not)
+    } else if text == "between" {
+        Ok(Symbol::Between)
+    } else if text == "in" {
+        Ok(Symbol::In)
+    } else if text == "is" {
+        Ok(Symbol::Is)
+    } else if text == "like" {
+        Ok(Symbol::Like)
+    } else if text == "null" {
+        Ok(Symbol::Null)
+    } else if text == "true" {
+        Ok(Symbol::Truth(true))
+    } else if text == "false" {
+        Ok(Symbol::Truth(false))
+    } else {
+        plain_symbol(word)
+    }
+}
+
+/// Whether UNKNOWN is a keyword behind the symbol. Before it the answer was the given one.
+pub fn follows_is(before: bool, symbol: &Symbol) -> bool
+    ensures { result ≡ spec.follows before (terminal_of_symbol symbol.now) }
+{
+    match symbol {
+        Symbol::Is => true,
+        Symbol::Not => before,
+        _ => false,
+    }
+}
+
+/// The symbol of a token.
+pub fn symbol(behind_is: bool, kind: &Kind) -> Result<Symbol, AllocError>
+    requires { spec.IsReadable (shape_of kind.now) }
+    ensures { IfOk result (λ s. terminal_of_symbol s ≡ spec.terminal_at behind_is (shape_of kind.now)) }
+{
+    match kind {
+        Kind::Word(word) if behind_is && word.as_str() == "unknown" => Ok(Symbol::Unknown),
+        Kind::Word(word) => word_symbol(word),
+        Kind::Quoted(name) => Ok(Symbol::Name(name.clone()?)),
+        Kind::Literal(text) => Ok(Symbol::Text(text.clone()?)),
+        Kind::Number(digits) => Ok(Symbol::Number(number_value(digits).unwrap_or(0))),
+        Kind::Mark(mark) => Ok(mark_symbol(*mark)),
+    }
+}
+
+/// The symbols of tokens, one by one.
+pub fn symbols_of(alloc: Global, tokens: &[Token]) -> Result<Vec<Symbol>, AllocError>
+    requires { spec.AreReadable (shapes_of tokens.now) }
+    ensures { IfOk result (λ v. terminals_of v.items ≡ spec.terminals_at false (shapes_of tokens.now)) }
+{
+    let mut symbols = Vec::new(alloc);
+    let mut behind_is = false;
+    let mut left = tokens;
+    while let [token, rest @ ..] = left {
+        let symbol = symbol(behind_is, &token.kind)?;
+        behind_is = follows_is(behind_is, &symbol);
+        symbols.push(symbol)?;
+        left = rest;
+    }
+    Ok(symbols)
+}
+
+/// Whether the token is a number that cannot be read.
+fn is_unreadable(kind: &Kind) -> bool
+    ensures { IsTrue result ↔ (spec.IsReadable (shape_of kind.now) → ⊥) }
+{
+    match kind {
+        Kind::Number(digits) => number_value(digits).is_none(),
+        _ => false,
+    }
+}
+
+/// Whether one of the tokens is a number that cannot be read.
+pub fn has_unreadable(tokens: &[Token]) -> bool
+    ensures { IsTrue result ↔ Any (λ (t : Token). spec.IsReadable (shape_of t.kind) → ⊥) tokens.now }
+{
+    tokens.iter().any(|token| is_unreadable(&token.kind))
+}

@@ -1,0 +1,98 @@
+//! The terminal symbols of the grammar of expressions, and what one or two of them are.
+
+ghost use Rattle.std.specs.Prelude.{◌≡◌, option_map};
+ghost use Rattle.expr_grammar.specs.ExprReading as reading;
+ghost use Rattle.expr_grammar.specs.ExprSteps.{behind_minus_of, behind_of, operator_of};
+ghost use Rattle.expr_grammar.specs.SymbolView.{terminal_of_symbol, terminals_of};
+
+use med_syntax::{BinaryOp, CompareOp, Joint, Status};
+
+/// A terminal symbol of the grammar.
+#[derive(Debug, Drop)]
+pub enum Symbol {
+    LeftParen,
+    RightParen,
+    Comma,
+    Dot,
+    Semicolon,
+    Binary(BinaryOp),
+    Compare(CompareOp),
+    Joint(Joint),
+    Not,
+    Between,
+    In,
+    Is,
+    Like,
+    Null,
+    Truth(bool),
+    Unknown,
+    /// The value of digits, at most 2^63.
+    Number(u64),
+    Text(String),
+    Name(String),
+    /// A reserved word that no expression has.
+    Reserved(String),
+}
+
+/// What parts the items of a list.
+#[derive(Clone, Copy, Debug, Drop)]
+pub enum Separator {
+    Between(Joint),
+    Comma,
+}
+
+/// A level of operators that associate to the left.
+#[derive(Clone, Copy, Debug, Drop)]
+pub enum Level {
+    Sum,
+    Product,
+}
+
+/// The symbols behind the separator, where it comes first.
+pub fn behind(separator: Separator, symbols: &[Symbol]) -> Option<&[Symbol]>
+    ensures { behind_of separator (terminals_of symbols.now) ≡ option_map (λ x. terminals_of x.now) result }
+{
+    match (separator, symbols) {
+        (Separator::Between(Joint::Or), [Symbol::Joint(Joint::Or), rest @ ..]) => Some(rest),
+        (Separator::Between(Joint::And), [Symbol::Joint(Joint::And), rest @ ..]) => Some(rest),
+        (Separator::Comma, [Symbol::Comma, rest @ ..]) => Some(rest),
+        _ => None,
+    }
+}
+
+/// The symbols behind a minus, where it comes first.
+pub fn behind_minus(symbols: &[Symbol]) -> Option<&[Symbol]>
+    ensures { behind_minus_of (terminals_of symbols.now) ≡ option_map (λ x. terminals_of x.now) result }
+{
+    match symbols {
+        [Symbol::Binary(BinaryOp::Sub), rest @ ..] => Some(rest),
+        _ => None,
+    }
+}
+
+/// The operator of the level, where one comes first, and the symbols behind it.
+pub fn operator(level: Level, symbols: &[Symbol]) -> Option<(BinaryOp, &[Symbol])>
+    ensures { operator_of level (terminals_of symbols.now) ≡ option_map (λ x. (x.0, terminals_of x.1.now)) result }
+{
+    match (level, symbols) {
+        (Level::Sum, [Symbol::Binary(BinaryOp::Add), rest @ ..]) => Some((BinaryOp::Add, rest)),
+        (Level::Sum, [Symbol::Binary(BinaryOp::Sub), rest @ ..]) => Some((BinaryOp::Sub, rest)),
+        (Level::Product, [Symbol::Binary(BinaryOp::Mul), rest @ ..]) => Some((BinaryOp::Mul, rest)),
+        (Level::Product, [Symbol::Binary(BinaryOp::Div), rest @ ..]) => Some((BinaryOp::Div, rest)),
+        (Level::Product, [Symbol::Binary(BinaryOp::Rem), rest @ ..]) => Some((BinaryOp::Rem, rest)),
+        _ => None,
+    }
+}
+
+/// What IS asks for, where the symbol is that.
+pub fn status(symbol: &Symbol) -> Option<Status>
+    ensures { result ≡ reading.status_of (terminal_of_symbol symbol.now) }
+{
+    match symbol {
+        Symbol::Null => Some(Status::Null),
+        Symbol::Truth(true) => Some(Status::True),
+        Symbol::Truth(false) => Some(Status::False),
+        Symbol::Unknown => Some(Status::Unknown),
+        _ => None,
+    }
+}

@@ -1,0 +1,43 @@
+//! The tokens of a text.
+
+ghost use Rattle.std.specs.Prelude.{◌↔◌, IsTrue, Any};
+ghost use Rattle.med_lexer.specs.declared.Token.{Token};
+ghost use Rattle.med_lexer.specs.View.{shape_of};
+ghost use Rattle.expr_grammar.specs.Shapes.{IsLongName};
+ghost use Rattle.expr_grammar.specs.View.{LexesOnly};
+
+use crate::fault::ParseFault;
+use med_lexer::{Kind, LexFault, Token, one_list, tokens};
+use std::alloc::Global;
+
+/// The most bytes that a name may have.
+const MAX_NAME: usize = 63;
+
+/// The tokens of a text.
+pub fn tokens_of(alloc: Global, text: &str) -> Result<Vec<Token>, ParseFault>
+    ensures { LexesOnly result text.now }
+{
+    one_list();
+    match tokens(alloc, text) {
+        Ok(tokens) => Ok(tokens),
+        Err(LexFault::NoMemory) => Err(ParseFault::NoMemory),
+        Err(LexFault::BadToken) => Err(ParseFault::Syntax),
+    }
+}
+
+/// Whether the token is a word or a quoted name that is too long for a name.
+fn is_long_name(kind: &Kind) -> bool
+    ensures { IsTrue result ↔ IsLongName (shape_of kind.now) }
+{
+    match kind {
+        Kind::Word(name) | Kind::Quoted(name) => name.len() > MAX_NAME,
+        _ => false,
+    }
+}
+
+/// Whether one of the tokens is too long for a name.
+pub fn has_long_name(tokens: &[Token]) -> bool
+    ensures { IsTrue result ↔ Any (λ (t : Token). IsLongName (shape_of t.kind)) tokens.now }
+{
+    tokens.iter().any(|token| is_long_name(&token.kind))
+}

@@ -1,0 +1,33 @@
+//! How many symbols an expression can get deeper by.
+
+ghost use Rattle.std.specs.Prelude.{◌≡◌};
+ghost use Rattle.expr_grammar.specs.ExprWeight as spec;
+ghost use Rattle.expr_grammar.specs.SymbolView.{terminal_of_symbol, terminals_of};
+
+use crate::symbols::Symbol;
+
+/// The greatest height of an expression, and how many heavy symbols are few.
+pub const MAX_HEIGHT: u32 = 64;
+
+/// Higher than any expression of few heavy symbols.
+pub const ROOM: u32 = 455;
+
+/// Whether an expression can get deeper without bound by such symbols.
+fn is_heavy(symbol: &Symbol) -> bool
+    ensures { result ≡ spec.is_heavy (terminal_of_symbol symbol.now) }
+{
+    matches!(symbol, Symbol::LeftParen | Symbol::Binary(_) | Symbol::Not)
+}
+
+/// How many symbols are heavy.
+pub fn weight(symbols: &[Symbol]) -> usize
+    ensures { result ≡ spec.weight (terminals_of symbols.now) }
+{
+    let mut heavy = 0;
+    let mut left = symbols;
+    while let [symbol, rest @ ..] = left {
+        heavy = if is_heavy(symbol) { heavy + 1 } else { heavy };
+        left = rest;
+    }
+    heavy
+}

@@ -1,0 +1,593 @@
+//! Expressions, by recursive descent.
+#![tactic(auto, using(crate::proofs::ExprLoops::chained_many, crate::proofs::ExprLoops::whole_some, crate::proofs::ExprLoops::negated_some, crate::proofs::ExprLoops::signed_some, crate::proofs::ExprLoops::whole_none, crate::proofs::ExprLoops::negated_none, crate::proofs::ExprLoops::signed_none), unfolding(expr_grammar::specs::ExprReading::left_of, expr_grammar::specs::ExprReading::chain_of, expr_grammar::specs::ExprReading::range_of, expr_grammar::specs::ExprReading::compare_of, expr_grammar::specs::ExprReading::is_of))]
+
+ghost use Rattle.std.specs.Prelude.{◌≡◌, ◌≤◌, ◌<◌, ◌-◌, length};
+ghost use Rattle.std.specs.String.{string_bytes};
+ghost use Rattle.med_syntax.specs.ExprTree.{height as spec_height, highest as spec_highest};
+ghost use Rattle.expr_grammar.specs.ExprReading as reading;
+ghost use Rattle.med_syntax.specs.ExprView.{expr_tree, expr_trees};
+ghost use Rattle.expr_grammar.specs.SymbolView.{terminals_of};
+ghost use Rattle.expr_grammar.specs.ExprSteps as steps;
+ghost use Rattle.expr_reader.specs.ReaderAnswers.{Answers, AnswersAll};
+
+use crate::build::{
+    between, call_all, call_of, call_of_nothing, chained, column, column_of, comparison, in_parens,
+    inverted, likeness, membership, negated, negative_number, null, number, operation, test, text,
+    truth,
+};
+use expr_grammar::refusal::{ReadFault, Refusal};
+use expr_grammar::symbols::{Level, Separator, Symbol, behind, behind_minus, operator, status};
+use med_syntax::{BinaryOp, Expr, Joint};
+use std::alloc::Global;
+
+/// An expression, its height, and the symbols behind it.
+#[derive(Debug, Drop)]
+pub struct Found<'a> {
+    pub expr: Expr,
+    pub height: u32,
+    pub rest: &'a [Symbol],
+}
+
+/// Expressions, the height of the highest, and the symbols behind them.
+#[derive(Debug, Drop)]
+struct Items<'a> {
+    list: Vec<Expr>,
+    highest: u32,
+    rest: &'a [Symbol],
+}
+
+/// The expression, if it has room.
+fn within(room: u32, expr: Expr, height: u32, rest: &[Symbol]) -> Result<Found<'_>, ReadFault>
+    requires { height ≡ spec_height (expr_tree expr) }
+    ensures { Answers room result (reading.within room (expr_tree expr) (terminals_of rest.now)) }
+{
+    if height <= room {
+        Ok(Found { expr, height, rest })
+    } else {
+        Err(ReadFault::Refused(Refusal::TooHigh))
+    }
+}
+
+#[cycle(reader)]
+pub fn whole(alloc: Global, room: u32, symbols: &[Symbol]) -> Result<Found<'_>, ReadFault>
+    requires { room < 1000 }
+    ensures { Answers room result ((reading.below room).whole (terminals_of symbols.now)) }
+{
+    if room == 0 {
+        return Err(ReadFault::Refused(Refusal::TooHigh));
+    }
+    joined(alloc, Joint::Or, room, symbols)
+}
+
+/// Items and the joint between them, or one item.
+#[cycle(reader)]
+fn joined(
+    alloc: Global,
+    joint: Joint,
+    room: u32,
+    symbols: &[Symbol],
+) -> Result<Found<'_>, ReadFault>
+    requires some { 1 ≤ room }
+    requires few { room < 1000 }
+    ensures { Answers room result (steps.joined_of joint (reading.below (room - 1)) room (terminals_of symbols.now)) }
+{
+    let first = item(alloc, Separator::Between(joint), room, symbols)?;
+    let others = others(alloc, Separator::Between(joint), room, first.rest)?;
+    chain_made(alloc, joint, room, first.expr, first.height, others)
+}
+
+/// The chain of these, or the first where it is alone.
+fn chain_made(
+    alloc: Global,
+    joint: Joint,
+    room: u32,
+    first: Expr,
+    first_height: u32,
+    others: Items<'_>,
+) -> Result<Found<'_>, ReadFault>
+    requires few { room < 1000 }
+    requires height { first_height ≡ spec_height (expr_tree first) }
+    requires highest { others.highest ≡ spec_highest (expr_trees others.list.items) }
+    requires low { (first_height ≤ room) × (others.highest ≤ room) }
+    ensures { Answers room result (reading.chained joint room (expr_tree first) (expr_trees others.entry.list.items) (terminals_of others.entry.rest.now)) }
+{
+    if others.list.is_empty() {
+        return Ok(Found {
+            expr: first,
+            height: first_height,
+            rest: others.rest,
+        });
+    }
+    let height = 1 + first_height.max(others.highest);
+    within(
+        room,
+        chained(alloc, joint, first, others.list)?,
+        height,
+        others.rest,
+    )
+}
+
+/// What a separator parts.
+#[cycle(reader)]
+fn item(
+    alloc: Global,
+    separator: Separator,
+    room: u32,
+    symbols: &[Symbol],
+) -> Result<Found<'_>, ReadFault>
+    requires some { 1 ≤ room }
+    requires few { room < 1000 }
+    ensures { Answers room result (steps.item_of separator (reading.below (room - 1)) room (terminals_of symbols.now)) }
+{
+    match separator {
+        Separator::Between(Joint::Or) => joined(alloc, Joint::And, room, symbols),
+        Separator::Between(Joint::And) => inversion_here(alloc, room, symbols),
+        Separator::Comma => whole(alloc, room - 1, symbols),
+    }
+}
+
+/// Each further item, behind its separator.
+#[cycle(reader)]
+fn others(
+    alloc: Global,
+    separator: Separator,
+    room: u32,
+    symbols: &[Symbol],
+) -> Result<Items<'_>, ReadFault>
+    requires some { 1 ≤ room }
+    requires few { room < 1000 }
+    ensures { AnswersAll room result (reading.others_after (steps.is_mark separator) (steps.item_of separator (reading.below (room - 1)) room) (length (terminals_of symbols.now)) (terminals_of symbols.now)) }
+{
+    let mut list = Vec::new(alloc);
+    let mut highest: u32 = 0;
+    let mut rest = symbols;
+    while let Some(after) = behind(separator, rest) {
+        let next = item(alloc, separator, room, after)?;
+        list.push(next.expr)?;
+        highest = highest.max(next.height);
+        rest = next.rest;
+    }
+    Ok(Items {
+        list,
+        highest,
+        rest,
+    })
+}
+
+#[cycle(reader)]
+fn inversion(alloc: Global, room: u32, symbols: &[Symbol]) -> Result<Found<'_>, ReadFault>
+    requires { room < 1000 }
+    ensures { Answers room result ((reading.below room).negated (terminals_of symbols.now)) }
+{
+    if room == 0 {
+        return Err(ReadFault::Refused(Refusal::TooHigh));
+    }
+    inversion_here(alloc, room, symbols)
+}
+
+#[cycle(reader)]
+fn inversion_here(alloc: Global, room: u32, symbols: &[Symbol]) -> Result<Found<'_>, ReadFault>
+    requires some { 1 ≤ room }
+    requires few { room < 1000 }
+    ensures { Answers room result (reading.negated_of (reading.below (room - 1)) room (terminals_of symbols.now)) }
+{
+    match symbols {
+        [Symbol::Not, rest @ ..] => {
+            let inner = inversion(alloc, room - 1, rest)?;
+            Ok(Found {
+                expr: inverted(alloc, inner.expr)?,
+                height: inner.height + 1,
+                rest: inner.rest,
+            })
+        }
+        _ => checked(alloc, room, symbols),
+    }
+}
+
+#[cycle(reader)]
+fn checked(alloc: Global, room: u32, symbols: &[Symbol]) -> Result<Found<'_>, ReadFault>
+    requires some { 1 ≤ room }
+    requires few { room < 1000 }
+    ensures { Answers room result (reading.is_of (reading.below (room - 1)) room (terminals_of symbols.now)) }
+{
+    let value = compared(alloc, room, symbols)?;
+    match value.rest {
+        [Symbol::Is, Symbol::Not, after @ ..] => is_status(
+            alloc,
+            room,
+            true,
+            value.expr,
+            value.height,
+            after,
+        ),
+        [Symbol::Is, after @ ..] => is_status(alloc, room, false, value.expr, value.height, after),
+        _ => Ok(value),
+    }
+}
+
+/// The value IS what follows.
+fn is_status(
+    alloc: Global,
+    room: u32,
+    negated: bool,
+    value: Expr,
+    value_height: u32,
+    symbols: &[Symbol],
+) -> Result<Found<'_>, ReadFault>
+    requires few { room < 1000 }
+    requires height { value_height ≡ spec_height (expr_tree value) }
+    requires low { value_height ≤ room }
+    ensures { Answers room result (reading.status_after room negated (expr_tree value) (terminals_of symbols.now)) }
+{
+    let [symbol, rest @ ..] = symbols else {
+        return Err(ReadFault::Refused(Refusal::Syntax));
+    };
+    match status(symbol) {
+        Some(status) => within(
+            room,
+            test(alloc, negated, value, status)?,
+            value_height + 1,
+            rest,
+        ),
+        None => Err(ReadFault::Refused(Refusal::Syntax)),
+    }
+}
+
+#[cycle(reader)]
+fn compared(alloc: Global, room: u32, symbols: &[Symbol]) -> Result<Found<'_>, ReadFault>
+    requires some { 1 ≤ room }
+    requires few { room < 1000 }
+    ensures { Answers room result (reading.compare_of (reading.below (room - 1)) room (terminals_of symbols.now)) }
+{
+    let left = ranged(alloc, room, symbols)?;
+    match left.rest {
+        [Symbol::Compare(op), after @ ..] => {
+            let right = ranged(alloc, room, after)?;
+            let height = 1 + left.height.max(right.height);
+            within(
+                room,
+                comparison(alloc, *op, left.expr, right.expr)?,
+                height,
+                right.rest,
+            )
+        }
+        _ => Ok(left),
+    }
+}
+
+#[cycle(reader)]
+fn ranged(alloc: Global, room: u32, symbols: &[Symbol]) -> Result<Found<'_>, ReadFault>
+    requires some { 1 ≤ room }
+    requires few { room < 1000 }
+    ensures { Answers room result (reading.range_of (reading.below (room - 1)) room (terminals_of symbols.now)) }
+{
+    let value = chain(alloc, Level::Sum, room, symbols)?;
+    match value.rest {
+        [Symbol::Not, after @ ..] => in_range(alloc, room, true, value.expr, value.height, after),
+        [Symbol::Between | Symbol::In | Symbol::Like, ..] => in_range(
+            alloc,
+            room,
+            false,
+            value.expr,
+            value.height,
+            value.rest,
+        ),
+        _ => Ok(value),
+    }
+}
+
+/// The value, perhaps NOT, BETWEEN, IN or LIKE what follows.
+#[cycle(reader)]
+fn in_range(
+    alloc: Global,
+    room: u32,
+    negated: bool,
+    value: Expr,
+    value_height: u32,
+    symbols: &[Symbol],
+) -> Result<Found<'_>, ReadFault>
+    requires some { 1 ≤ room }
+    requires few { room < 1000 }
+    requires height { value_height ≡ spec_height (expr_tree value) }
+    requires low { value_height ≤ room }
+    ensures { Answers room result (reading.test_after (reading.below (room - 1)) room negated (expr_tree value) (terminals_of symbols.now)) }
+{
+    match symbols {
+        [Symbol::Between, after @ ..] => in_bounds(
+            alloc,
+            room,
+            negated,
+            value,
+            value_height,
+            after,
+        ),
+        [Symbol::In, Symbol::LeftParen, after @ ..] => in_list(
+            alloc,
+            room,
+            negated,
+            value,
+            value_height,
+            after,
+        ),
+        [Symbol::Like, Symbol::Text(pattern), rest @ ..] => within(
+            room,
+            likeness(alloc, negated, value, pattern)?,
+            value_height + 1,
+            rest,
+        ),
+        _ => Err(ReadFault::Refused(Refusal::Syntax)),
+    }
+}
+
+/// The value between the two that follow.
+#[cycle(reader)]
+fn in_bounds(
+    alloc: Global,
+    room: u32,
+    negated: bool,
+    value: Expr,
+    value_height: u32,
+    symbols: &[Symbol],
+) -> Result<Found<'_>, ReadFault>
+    requires some { 1 ≤ room }
+    requires few { room < 1000 }
+    requires height { value_height ≡ spec_height (expr_tree value) }
+    requires low { value_height ≤ room }
+    ensures { Answers room result (reading.bounds_after (reading.below (room - 1)) room negated (expr_tree value) (terminals_of symbols.now)) }
+{
+    let low = chain(alloc, Level::Sum, room, symbols)?;
+    match low.rest {
+        [Symbol::Joint(Joint::And), after @ ..] => {
+            let high = chain(alloc, Level::Sum, room, after)?;
+            let height = 1 + value_height.max(low.height.max(high.height));
+            within(
+                room,
+                between(alloc, negated, value, low.expr, high.expr)?,
+                height,
+                high.rest,
+            )
+        }
+        _ => Err(ReadFault::Refused(Refusal::Syntax)),
+    }
+}
+
+/// The value among those that follow, up to the closing parenthesis.
+#[cycle(reader)]
+fn in_list(
+    alloc: Global,
+    room: u32,
+    negated: bool,
+    value: Expr,
+    value_height: u32,
+    symbols: &[Symbol],
+) -> Result<Found<'_>, ReadFault>
+    requires some { 1 ≤ room }
+    requires few { room < 1000 }
+    requires height { value_height ≡ spec_height (expr_tree value) }
+    requires low { value_height ≤ room }
+    ensures { Answers room result (reading.list_after (reading.below (room - 1)) room negated (expr_tree value) (terminals_of symbols.now)) }
+{
+    let first = whole(alloc, room - 1, symbols)?;
+    let others = others(alloc, Separator::Comma, room, first.rest)?;
+    match others.rest {
+        [Symbol::RightParen, rest @ ..] => {
+            let height = 1 + value_height.max(first.height.max(others.highest));
+            within(
+                room,
+                membership(alloc, negated, value, first.expr, others.list)?,
+                height,
+                rest,
+            )
+        }
+        _ => Err(ReadFault::Refused(Refusal::Syntax)),
+    }
+}
+
+/// What an operator of the level stands between.
+#[cycle(reader)]
+fn operand(
+    alloc: Global,
+    level: Level,
+    room: u32,
+    symbols: &[Symbol],
+) -> Result<Found<'_>, ReadFault>
+    requires some { 1 ≤ room }
+    requires few { room < 1000 }
+    ensures { Answers room result (steps.operand_of level (reading.below (room - 1)) room (terminals_of symbols.now)) }
+{
+    match level {
+        Level::Sum => chain(alloc, Level::Product, room, symbols),
+        Level::Product => signed_here(alloc, room, symbols),
+    }
+}
+
+#[cycle(reader)]
+fn chain(alloc: Global, level: Level, room: u32, symbols: &[Symbol]) -> Result<Found<'_>, ReadFault>
+    requires some { 1 ≤ room }
+    requires few { room < 1000 }
+    ensures { Answers room result (reading.left_of (steps.op_of level) (steps.operand_of level (reading.below (room - 1)) room) room (terminals_of symbols.now)) }
+{
+    let mut found = operand(alloc, level, room, symbols)?;
+    while let Some((op, after)) = operator(level, found.rest) {
+        let right = operand(alloc, level, room, after)?;
+        let height = 1 + found.height.max(right.height);
+        found = within(
+            room,
+            operation(alloc, op, found.expr, right.expr)?,
+            height,
+            right.rest,
+        )?;
+    }
+    Ok(found)
+}
+
+#[cycle(reader)]
+fn signed(alloc: Global, room: u32, symbols: &[Symbol]) -> Result<Found<'_>, ReadFault>
+    requires { room < 1000 }
+    ensures { Answers room result ((reading.below room).signed (terminals_of symbols.now)) }
+{
+    if room == 0 {
+        return Err(ReadFault::Refused(Refusal::TooHigh));
+    }
+    signed_here(alloc, room, symbols)
+}
+
+#[cycle(reader)]
+fn signed_here(alloc: Global, room: u32, symbols: &[Symbol]) -> Result<Found<'_>, ReadFault>
+    requires some { 1 ≤ room }
+    requires few { room < 1000 }
+    ensures { Answers room result (reading.signed_of (reading.below (room - 1)) (terminals_of symbols.now)) }
+{
+    match behind_minus(symbols) {
+        Some(rest) => minus(alloc, room, rest),
+        None => primary(alloc, room, symbols),
+    }
+}
+
+/// What stands behind a minus.
+#[cycle(reader)]
+fn minus(alloc: Global, room: u32, symbols: &[Symbol]) -> Result<Found<'_>, ReadFault>
+    requires some { 1 ≤ room }
+    requires few { room < 1000 }
+    ensures { Answers room result (reading.after_minus (reading.below (room - 1)) (terminals_of symbols.now)) }
+{
+    match symbols {
+        [Symbol::Number(n), rest @ ..] => Ok(leaf(negative_number(*n), rest)),
+        _ => {
+            let inner = signed(alloc, room - 1, symbols)?;
+            Ok(Found {
+                expr: negated(alloc, inner.expr)?,
+                height: inner.height + 1,
+                rest: inner.rest,
+            })
+        }
+    }
+}
+
+#[cycle(reader)]
+fn primary(alloc: Global, room: u32, symbols: &[Symbol]) -> Result<Found<'_>, ReadFault>
+    requires some { 1 ≤ room }
+    requires few { room < 1000 }
+    ensures { Answers room result (reading.primary_of (reading.below (room - 1)) (terminals_of symbols.now)) }
+{
+    match symbols {
+        [Symbol::Number(n), rest @ ..] => Ok(leaf(number(*n), rest)),
+        [Symbol::Text(value), rest @ ..] => Ok(leaf(text(value)?, rest)),
+        [Symbol::Truth(value), rest @ ..] => Ok(leaf(truth(*value), rest)),
+        [Symbol::Null, rest @ ..] => Ok(leaf(null(), rest)),
+        [Symbol::Name(name), rest @ ..] => named(alloc, room, name, rest),
+        [Symbol::LeftParen, rest @ ..] => {
+            let inner = whole(alloc, room - 1, rest)?;
+            match inner.rest {
+                [Symbol::RightParen, rest @ ..] => {
+                    Ok(Found {
+                        expr: in_parens(alloc, inner.expr)?,
+                        height: inner.height + 1,
+                        rest,
+                    })
+                }
+                _ => Err(ReadFault::Refused(Refusal::Syntax)),
+            }
+        }
+        _ => Err(ReadFault::Refused(Refusal::Syntax)),
+    }
+}
+
+/// The call or the column whose name is read.
+#[cycle(reader)]
+fn named<'a>(
+    alloc: Global,
+    room: u32,
+    name: &String,
+    symbols: &'a [Symbol],
+) -> Result<Found<'a>, ReadFault>
+    requires some { 1 ≤ room }
+    requires few { room < 1000 }
+    ensures { Answers room result (reading.named_after (reading.below (room - 1)) (string_bytes name.now) (terminals_of symbols.now)) }
+{
+    match symbols {
+        [Symbol::LeftParen, rest @ ..] => call(alloc, room, name, rest),
+        [Symbol::Dot, Symbol::Name(column), rest @ ..] => Ok(leaf(column_of(name, column)?, rest)),
+        [Symbol::Dot, ..] => Err(ReadFault::Refused(Refusal::Syntax)),
+        _ => Ok(leaf(column(name)?, symbols)),
+    }
+}
+
+/// The call of the function, behind its opening parenthesis.
+#[cycle(reader)]
+fn call<'a>(
+    alloc: Global,
+    room: u32,
+    function: &String,
+    symbols: &'a [Symbol],
+) -> Result<Found<'a>, ReadFault>
+    requires some { 1 ≤ room }
+    requires few { room < 1000 }
+    ensures { Answers room result (reading.call_after (reading.below (room - 1)) (string_bytes function.now) (terminals_of symbols.now)) }
+{
+    match symbols {
+        [Symbol::Binary(BinaryOp::Mul), Symbol::RightParen, rest @ ..] => {
+            Ok(leaf(call_all(function)?, rest))
+        }
+        [Symbol::Binary(BinaryOp::Mul), ..] => Err(ReadFault::Refused(Refusal::Syntax)),
+        [Symbol::RightParen, rest @ ..] => Ok(leaf(call_of_nothing(alloc, function)?, rest)),
+        _ => call_of_parts(alloc, room, function, symbols),
+    }
+}
+
+/// The call of the function with the parts that follow, up to the closing parenthesis.
+#[cycle(reader)]
+fn call_of_parts<'a>(
+    alloc: Global,
+    room: u32,
+    function: &String,
+    symbols: &'a [Symbol],
+) -> Result<Found<'a>, ReadFault>
+    requires some { 1 ≤ room }
+    requires few { room < 1000 }
+    ensures { Answers room result (reading.parts_after (reading.below (room - 1)) (string_bytes function.now) (terminals_of symbols.now)) }
+{
+    let first = whole(alloc, room - 1, symbols)?;
+    let others = others(alloc, Separator::Comma, room, first.rest)?;
+    call_made(room, function, first.expr, first.height, others)
+}
+
+/// The call of the function with these parts, where they are closed.
+fn call_made<'a>(
+    room: u32,
+    function: &String,
+    first: Expr,
+    first_height: u32,
+    others: Items<'a>,
+) -> Result<Found<'a>, ReadFault>
+    requires few { room < 1000 }
+    requires height { first_height ≡ spec_height (expr_tree first) }
+    requires highest { others.highest ≡ spec_highest (expr_trees others.list.items) }
+    requires low { (first_height < room) × (others.highest < room) }
+    ensures { Answers room result (reading.closed_call (string_bytes function.now) (expr_tree first) (expr_trees others.entry.list.items) (terminals_of others.entry.rest.now)) }
+{
+    match others.rest {
+        [Symbol::RightParen, rest @ ..] => {
+            let height = 1 + first_height.max(others.highest);
+            Ok(Found {
+                expr: call_of(function, first, others.list)?,
+                height,
+                rest,
+            })
+        }
+        _ => Err(ReadFault::Refused(Refusal::Syntax)),
+    }
+}
+
+/// An expression without parts.
+fn leaf(expr: Expr, rest: &[Symbol]) -> Found<'_>
+    ensures expr { result.expr ≡ expr }
+    ensures height { result.height ≡ 1 }
+    ensures rest { result.rest.now ≡ rest.now }
+{
+    Found {
+        expr,
+        height: 1,
+        rest,
+    }
+}

@@ -1,0 +1,2 @@
+pub mod ExprPrints
+pub mod ExprQuoting
