@@ -1,6 +1,6 @@
 //! Text to statements.
 
-ghost use Rattle.std.specs.Prelude.{◌≡◌, ◌⊎◌, ℕ, List, IfOk, OnOk, IfErr, false};
+ghost use Rattle.std.specs.Prelude.{◌≡◌, ◌⊎◌, ℕ, List, IfOk, OnOk, IfErr};
 ghost use Rattle.med_value.specs.declared.cause.Cause.{Cause};
 ghost use Rattle.med_lexer.specs.Printing.{AreShapes};
 ghost use Rattle.expr_parser.specs.View.{shapes_of};

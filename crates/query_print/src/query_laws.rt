@@ -10,7 +10,8 @@ use med_lexer::{printed_again, tokens_can_be_printed};
 
 /// What is written of a statement whose numbers are in range, with one space between tokens, is that statement.
 pub fn printed_statement()
-    ensures { (text : List ℕ) (s : StatementTree) → HasStatement text s → statement_in_range s ≡ true → HasStatement (printing.printed_statement s) s }
+    ensures { (text : List ℕ) (s : StatementTree) → HasStatement text s → statement_in_range s ≡ true
+        → HasStatement (printing.printed_statement s) s }
 {
     tokens_can_be_printed();
     printed_again();

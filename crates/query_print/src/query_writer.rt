@@ -103,7 +103,8 @@ fn write_value(
     alias: &Option<String>,
     out: &mut String,
 ) -> Result<(), AllocError>
-    ensures { IfOk result (λ _. Wrote (string_bytes out.old) (string_bytes out.new) (spelling (expr_tree expr.now) ++ alias_written (option_map string_bytes alias.now))) }
+    ensures { IfOk result (λ _. Wrote (string_bytes out.old) (string_bytes out.new)
+        (spelling (expr_tree expr.now) ++ alias_written (option_map string_bytes alias.now))) }
 {
     write(alloc, expr, out)?;
     write_alias(alias, out)
@@ -151,7 +152,8 @@ fn write_item_list(
     others: &[Item],
     out: &mut String,
 ) -> Result<(), AllocError>
-    ensures { IfOk result (λ _. Wrote (string_bytes out.old) (string_bytes out.new) (item_written (item_tree first.now) ++ others_written item_written (items_tree others.now))) }
+    ensures { IfOk result (λ _. Wrote (string_bytes out.old) (string_bytes out.new)
+        (item_written (item_tree first.now) ++ others_written item_written (items_tree others.now))) }
 {
     write_item(alloc, first, out)?;
     write_other_items(alloc, others, out)
@@ -177,7 +179,8 @@ fn write_entry(entry: &Entry, out: &mut String) -> Result<(), AllocError>
 
 /// Writes ON and the condition.
 fn write_on(alloc: Global, on: &Expr, out: &mut String) -> Result<(), AllocError>
-    ensures { IfOk result (λ _. Wrote (string_bytes out.old) (string_bytes out.new) (t.Reserved (codes "on") ∷ spelling (expr_tree on.now))) }
+    ensures { IfOk result (λ _. Wrote (string_bytes out.old) (string_bytes out.new)
+        (t.Reserved (codes "on") ∷ spelling (expr_tree on.now))) }
 {
     write_keyword(Keyword::On, out)?;
     write(alloc, on, out)
@@ -190,7 +193,8 @@ fn write_entry_on(
     on: &Expr,
     out: &mut String,
 ) -> Result<(), AllocError>
-    ensures { IfOk result (λ _. Wrote (string_bytes out.old) (string_bytes out.new) (t.Reserved (codes "join") ∷ on_written (entry_tree entry.now) (expr_tree on.now))) }
+    ensures { IfOk result (λ _. Wrote (string_bytes out.old) (string_bytes out.new)
+        (t.Reserved (codes "join") ∷ on_written (entry_tree entry.now) (expr_tree on.now))) }
 {
     write_keyword(Keyword::Join, out)?;
     write_entry(entry, out)?;
@@ -204,7 +208,8 @@ fn write_left_join(
     on: &Expr,
     out: &mut String,
 ) -> Result<(), AllocError>
-    ensures { IfOk result (λ _. Wrote (string_bytes out.old) (string_bytes out.new) (join_written (left_join (entry_tree entry.now) (expr_tree on.now)))) }
+    ensures { IfOk result (λ _. Wrote (string_bytes out.old) (string_bytes out.new)
+        (join_written (left_join (entry_tree entry.now) (expr_tree on.now)))) }
 {
     write_keyword(Keyword::Left, out)?;
     write_entry_on(alloc, entry, on, out)
@@ -252,7 +257,8 @@ fn write_chain(alloc: Global, chain: &Chain, out: &mut String) -> Result<(), All
 
 /// Writes each of the chains behind a comma.
 fn write_other_chains(alloc: Global, chains: &[Chain], out: &mut String) -> Result<(), AllocError>
-    ensures { IfOk result (λ _. Wrote (string_bytes out.old) (string_bytes out.new) (others_written chain_written (map chain_tree chains.now))) }
+    ensures { IfOk result (λ _. Wrote (string_bytes out.old) (string_bytes out.new)
+        (others_written chain_written (map chain_tree chains.now))) }
 {
     let mut left = chains;
     while let Some((chain, rest)) = left.split_first() {
@@ -270,7 +276,8 @@ fn write_chain_list(
     others: &[Chain],
     out: &mut String,
 ) -> Result<(), AllocError>
-    ensures { IfOk result (λ _. Wrote (string_bytes out.old) (string_bytes out.new) (chain_written (chain_tree first.now) ++ others_written chain_written (map chain_tree others.now))) }
+    ensures { IfOk result (λ _. Wrote (string_bytes out.old) (string_bytes out.new)
+        (chain_written (chain_tree first.now) ++ others_written chain_written (map chain_tree others.now))) }
 {
     write_chain(alloc, first, out)?;
     write_other_chains(alloc, others, out)
@@ -278,7 +285,8 @@ fn write_chain_list(
 
 /// Writes FROM and the chains, where there are any.
 fn write_from(alloc: Global, chains: &[Chain], out: &mut String) -> Result<(), AllocError>
-    ensures { IfOk result (λ _. Wrote (string_bytes out.old) (string_bytes out.new) (listed_written (codes "from" ∷ []) chain_written (map chain_tree chains.now))) }
+    ensures { IfOk result (λ _. Wrote (string_bytes out.old) (string_bytes out.new)
+        (listed_written (codes "from" ∷ []) chain_written (map chain_tree chains.now))) }
 {
     match chains {
         [] => Ok(()),
@@ -296,7 +304,8 @@ fn write_condition(
     condition: &Option<Expr>,
     out: &mut String,
 ) -> Result<(), AllocError>
-    ensures { IfOk result (λ _. Wrote (string_bytes out.old) (string_bytes out.new) (perhaps_written (keyword_word keyword ∷ []) spelling (option_map expr_tree condition.now))) }
+    ensures { IfOk result (λ _. Wrote (string_bytes out.old) (string_bytes out.new)
+        (perhaps_written (keyword_word keyword ∷ []) spelling (option_map expr_tree condition.now))) }
 {
     match condition {
         None => Ok(()),
@@ -316,7 +325,8 @@ fn write_group(group: &GroupColumn, out: &mut String) -> Result<(), AllocError>
 
 /// Writes each of the columns behind a comma.
 fn write_other_groups(groups: &[GroupColumn], out: &mut String) -> Result<(), AllocError>
-    ensures { IfOk result (λ _. Wrote (string_bytes out.old) (string_bytes out.new) (others_written group_written (map group_tree groups.now))) }
+    ensures { IfOk result (λ _. Wrote (string_bytes out.old) (string_bytes out.new)
+        (others_written group_written (map group_tree groups.now))) }
 {
     let mut left = groups;
     while let Some((group, rest)) = left.split_first() {
@@ -333,7 +343,8 @@ fn write_group_list(
     others: &[GroupColumn],
     out: &mut String,
 ) -> Result<(), AllocError>
-    ensures { IfOk result (λ _. Wrote (string_bytes out.old) (string_bytes out.new) (group_written (group_tree first.now) ++ others_written group_written (map group_tree others.now))) }
+    ensures { IfOk result (λ _. Wrote (string_bytes out.old) (string_bytes out.new)
+        (group_written (group_tree first.now) ++ others_written group_written (map group_tree others.now))) }
 {
     write_group(first, out)?;
     write_other_groups(others, out)
@@ -341,7 +352,8 @@ fn write_group_list(
 
 /// Writes GROUP BY and the columns, where there are any.
 fn write_groups(groups: &[GroupColumn], out: &mut String) -> Result<(), AllocError>
-    ensures { IfOk result (λ _. Wrote (string_bytes out.old) (string_bytes out.new) (listed_written (codes "group" ∷ codes "by" ∷ []) group_written (map group_tree groups.now))) }
+    ensures { IfOk result (λ _. Wrote (string_bytes out.old) (string_bytes out.new)
+        (listed_written (codes "group" ∷ codes "by" ∷ []) group_written (map group_tree groups.now))) }
 {
     match groups {
         [] => Ok(()),
@@ -355,7 +367,8 @@ fn write_groups(groups: &[GroupColumn], out: &mut String) -> Result<(), AllocErr
 
 /// Writes one of the keywords.
 fn write_flag(flag: bool, one: Keyword, other: Keyword, out: &mut String) -> Result<(), AllocError>
-    ensures { IfOk result (λ _. Wrote (string_bytes out.old) (string_bytes out.new) (flag_written (keyword_word one) (keyword_word other) flag)) }
+    ensures { IfOk result (λ _. Wrote (string_bytes out.old) (string_bytes out.new)
+        (flag_written (keyword_word one) (keyword_word other) flag)) }
 {
     if flag {
         write_keyword(one, out)
@@ -366,7 +379,8 @@ fn write_flag(flag: bool, one: Keyword, other: Keyword, out: &mut String) -> Res
 
 /// Writes the direction of a key, and where it puts NULL.
 fn write_direction(descending: bool, nulls_first: bool, out: &mut String) -> Result<(), AllocError>
-    ensures { IfOk result (λ _. Wrote (string_bytes out.old) (string_bytes out.new) (flag_written (codes "desc") (codes "asc") descending ++ nulls_written nulls_first)) }
+    ensures { IfOk result (λ _. Wrote (string_bytes out.old) (string_bytes out.new)
+        (flag_written (codes "desc") (codes "asc") descending ++ nulls_written nulls_first)) }
 {
     write_flag(descending, Keyword::Descending, Keyword::Ascending, out)?;
     write_keyword(Keyword::Nulls, out)?;
@@ -401,7 +415,8 @@ fn write_key_list(
     others: &[OrderKey],
     out: &mut String,
 ) -> Result<(), AllocError>
-    ensures { IfOk result (λ _. Wrote (string_bytes out.old) (string_bytes out.new) (key_written (key_tree first.now) ++ others_written key_written (map key_tree others.now))) }
+    ensures { IfOk result (λ _. Wrote (string_bytes out.old) (string_bytes out.new)
+        (key_written (key_tree first.now) ++ others_written key_written (map key_tree others.now))) }
 {
     write_key(alloc, first, out)?;
     write_other_keys(alloc, others, out)
@@ -409,7 +424,8 @@ fn write_key_list(
 
 /// Writes ORDER BY and the keys, where there are any.
 fn write_keys(alloc: Global, keys: &[OrderKey], out: &mut String) -> Result<(), AllocError>
-    ensures { IfOk result (λ _. Wrote (string_bytes out.old) (string_bytes out.new) (listed_written (codes "order" ∷ codes "by" ∷ []) key_written (map key_tree keys.now))) }
+    ensures { IfOk result (λ _. Wrote (string_bytes out.old) (string_bytes out.new)
+        (listed_written (codes "order" ∷ codes "by" ∷ []) key_written (map key_tree keys.now))) }
 {
     match keys {
         [] => Ok(()),
@@ -506,7 +522,9 @@ pub fn print(alloc: Global, statement: &Statement) -> Result<String, AllocError>
     // Its tokens are those that the tree is written by.
     ensures written { IfOk result (λ s. string_bytes s ≡ printed_statement (statement_tree statement.now)) }
     // What is written of a text's statement is that statement.
-    ensures again { (text : List ℕ) → HasStatement text (statement_tree statement.now) → statement_in_range (statement_tree statement.now) ≡ true → IfOk result (λ s. HasStatement (string_bytes s) (statement_tree statement.now)) }
+    ensures again { (text : List ℕ) → HasStatement text (statement_tree statement.now)
+        → statement_in_range (statement_tree statement.now) ≡ true
+        → IfOk result (λ s. HasStatement (string_bytes s) (statement_tree statement.now)) }
 {
     printed_statement();
     let mut out = String::new(alloc);

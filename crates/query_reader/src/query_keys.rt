@@ -64,7 +64,8 @@ fn group(symbols: &[Symbol]) -> Result<(GroupColumn, &[Symbol]), ReadFault>
 
 /// The columns at the front, with a comma between each two, and the symbols behind them.
 fn group_list(alloc: Global, symbols: &[Symbol]) -> Result<(Vec<GroupColumn>, &[Symbol]), ReadFault>
-    ensures { Gives (λ x. (map group_tree x.0.items, terminals_of x.1.now)) result (reading.list_of reading.group_of (terminals_of symbols.now)) }
+    ensures { Gives (λ x. (map group_tree x.0.items, terminals_of x.1.now))
+        result (reading.list_of reading.group_of (terminals_of symbols.now)) }
 {
     let mut list = Vec::new(alloc);
     let (first, behind_first) = group(symbols)?;
@@ -81,7 +82,8 @@ fn group_list(alloc: Global, symbols: &[Symbol]) -> Result<(Vec<GroupColumn>, &[
 /// The columns behind GROUP BY; none where it is not written.
 #[tactic(auto, unfolding(crate::specs::QueryReading::listed_of))]
 pub fn groups(alloc: Global, symbols: &[Symbol]) -> Result<(Vec<GroupColumn>, &[Symbol]), ReadFault>
-    ensures { Gives (λ x. (map group_tree x.0.items, terminals_of x.1.now)) result (reading.listed_of (codes "group" ∷ codes "by" ∷ []) reading.group_of (terminals_of symbols.now)) }
+    ensures { Gives (λ x. (map group_tree x.0.items, terminals_of x.1.now))
+        result (reading.listed_of (codes "group" ∷ codes "by" ∷ []) reading.group_of (terminals_of symbols.now)) }
 {
     match behind_two("group", "by", symbols) {
         Some(after) => group_list(alloc, after),
@@ -136,7 +138,8 @@ fn key_list(
     symbols: &[Symbol],
 ) -> Result<(Vec<OrderKey>, &[Symbol]), ReadFault>
     requires { room < 1000 }
-    ensures { Gives (λ x. (map key_tree x.0.items, terminals_of x.1.now)) result (reading.list_of (reading.key_of room) (terminals_of symbols.now)) }
+    ensures { Gives (λ x. (map key_tree x.0.items, terminals_of x.1.now))
+        result (reading.list_of (reading.key_of room) (terminals_of symbols.now)) }
 {
     let mut list = Vec::new(alloc);
     let (first, behind_first) = key(alloc, room, symbols)?;
@@ -158,7 +161,8 @@ pub fn keys(
     symbols: &[Symbol],
 ) -> Result<(Vec<OrderKey>, &[Symbol]), ReadFault>
     requires { room < 1000 }
-    ensures { Gives (λ x. (map key_tree x.0.items, terminals_of x.1.now)) result (reading.listed_of (codes "order" ∷ codes "by" ∷ []) (reading.key_of room) (terminals_of symbols.now)) }
+    ensures { Gives (λ x. (map key_tree x.0.items, terminals_of x.1.now))
+        result (reading.listed_of (codes "order" ∷ codes "by" ∷ []) (reading.key_of room) (terminals_of symbols.now)) }
 {
     match behind_two("order", "by", symbols) {
         Some(after) => key_list(alloc, room, after),
@@ -232,7 +236,8 @@ fn limit_after(
     before: Option<Limit>,
     symbols: &[Symbol],
 ) -> Result<(Option<Limit>, &[Symbol]), ReadFault>
-    ensures { Gives (λ x. (option_map limit_tree x.0, terminals_of x.1.now)) result (reading.limit_after (option_map limit_tree before) (terminals_of symbols.now)) }
+    ensures { Gives (λ x. (option_map limit_tree x.0, terminals_of x.1.now))
+        result (reading.limit_after (option_map limit_tree before) (terminals_of symbols.now)) }
 {
     match before {
         Some(limit) => Ok((Some(limit), symbols)),

@@ -145,7 +145,8 @@ fn chain_list(
     symbols: &[Symbol],
 ) -> Result<(Vec<Chain>, &[Symbol]), ReadFault>
     requires { room < 1000 }
-    ensures { Gives (λ x. (map chain_tree x.0.items, terminals_of x.1.now)) result (reading.list_of (reading.source_of room) (terminals_of symbols.now)) }
+    ensures { Gives (λ x. (map chain_tree x.0.items, terminals_of x.1.now))
+        result (reading.list_of (reading.source_of room) (terminals_of symbols.now)) }
 {
     let mut list = Vec::new(alloc);
     let (first, behind_first) = chain(alloc, room, symbols)?;
@@ -167,7 +168,8 @@ pub fn chains(
     symbols: &[Symbol],
 ) -> Result<(Vec<Chain>, &[Symbol]), ReadFault>
     requires { room < 1000 }
-    ensures { Gives (λ x. (map chain_tree x.0.items, terminals_of x.1.now)) result (reading.listed_of (codes "from" ∷ []) (reading.source_of room) (terminals_of symbols.now)) }
+    ensures { Gives (λ x. (map chain_tree x.0.items, terminals_of x.1.now))
+        result (reading.listed_of (codes "from" ∷ []) (reading.source_of room) (terminals_of symbols.now)) }
 {
     match behind_word("from", symbols) {
         Some(after) => chain_list(alloc, room, after),

@@ -46,7 +46,8 @@ pub fn behind_three<'a>(
     third: &str,
     symbols: &'a [Symbol],
 ) -> Option<&'a [Symbol]>
-    ensures { reading.behind_words (first.now ∷ second.now ∷ third.now ∷ []) (terminals_of symbols.now) ≡ option_map (λ x. terminals_of x.now) result }
+    ensures { reading.behind_words (first.now ∷ second.now ∷ third.now ∷ []) (terminals_of symbols.now)
+        ≡ option_map (λ x. terminals_of x.now) result }
 {
     match behind_word(first, symbols) {
         Some(after) => behind_two(second, third, after),
@@ -149,7 +150,8 @@ fn item(alloc: Global, room: u32, symbols: &[Symbol]) -> Result<(Item, &[Symbol]
 /// The items at the front, with a comma between each two, and the symbols behind them.
 fn items(alloc: Global, room: u32, symbols: &[Symbol]) -> Result<(Vec<Item>, &[Symbol]), ReadFault>
     requires { room < 1000 }
-    ensures { Gives (λ x. (items_tree x.0.items, terminals_of x.1.now)) result (reading.list_of (reading.item_of room) (terminals_of symbols.now)) }
+    ensures { Gives (λ x. (items_tree x.0.items, terminals_of x.1.now))
+        result (reading.list_of (reading.item_of room) (terminals_of symbols.now)) }
 {
     let mut list = Vec::new(alloc);
     let (first, behind_first) = item(alloc, room, symbols)?;
@@ -172,7 +174,8 @@ fn clause<'a>(
     symbols: &'a [Symbol],
 ) -> Result<(Option<Expr>, &'a [Symbol]), ReadFault>
     requires { room < 1000 }
-    ensures { Gives (λ x. (option_map expr_tree x.0, terminals_of x.1.now)) result (reading.perhaps_of (word.now ∷ []) (below room).whole (terminals_of symbols.now)) }
+    ensures { Gives (λ x. (option_map expr_tree x.0, terminals_of x.1.now))
+        result (reading.perhaps_of (word.now ∷ []) (below room).whole (terminals_of symbols.now)) }
 {
     match behind_word(word, symbols) {
         Some(after) => {
