@@ -1,9 +1,2 @@
-pub mod QueryComplete
-pub mod QuerySound
 pub mod QueryWeighing
-pub mod QueryTerminals
 pub mod QueryParsed
-pub mod QueryLoop
-pub mod QuerySteps
-pub mod Writing
-pub mod QueryPrints

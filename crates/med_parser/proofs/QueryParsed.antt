@@ -15,19 +15,19 @@ use Rattle.expr_grammar.specs.declared.refusal.ReadFault.{ReadFault}
 use Rattle.expr_grammar.specs.declared.refusal.ReadFault.TheVariants as faults
 use Rattle.expr_grammar.specs.declared.refusal.Refusal.TheVariants.{Syntax, TooHigh}
 use Rattle.expr_grammar.specs.ExprTerminals.{AreReadable}
-use Rattle.med_parser.specs.declared.query_symbols.Place.TheVariants.{Before}
-use Rattle.med_parser.specs.QueryTerminals.{words_at}
+use Rattle.query_grammar.specs.declared.query_symbols.Place.TheVariants.{Before}
+use Rattle.query_grammar.specs.QueryTerminals.{words_at}
 use Rattle.expr_grammar.specs.ExprWeight.{weight}
 use Rattle.expr_grammar.specs.ExprAnswers.{Gives, cause_of_read}
 use Rattle.med_syntax.specs.QueryTree.{StatementTree, statement_height}
-use Rattle.med_parser.specs.QueryGrammar.{IsLine, IsStatement, HasStatement}
-use Rattle.med_parser.specs.QueryCauses.{statement_in_range, TokenCauses, SyntaxCauses}
-use Rattle.med_parser.specs.QueryReading.{bounded_line}
+use Rattle.query_grammar.specs.QueryGrammar.{IsLine, IsStatement, HasStatement}
+use Rattle.query_grammar.specs.QueryCauses.{statement_in_range, TokenCauses, SyntaxCauses}
+use Rattle.query_reader.specs.QueryReading.{bounded_line}
 use Rattle.med_syntax.specs.QueryView.{statement_tree}
 use Rattle.expr_grammar.proofs.TokenShapes.{OneList, shapes_are}
 use Rattle.expr_grammar.proofs.TokenNumbers.{small_at}
-use Rattle.med_parser.proofs.QueryComplete.{one_line}
-use Rattle.med_parser.proofs.QueryTerminals.{to_terminals, of_terminals}
+use Rattle.query_reader.proofs.QueryComplete.{one_line}
+use Rattle.query_grammar.proofs.QueryTerminals.{to_terminals, of_terminals}
 use Rattle.med_parser.proofs.QueryWeighing.{words_weigh, bounded_sound, bounded_out, bounded_told}
 
 -- ---- causes of tokens

@@ -1,29 +1,28 @@
 -- The height of a statement's expressions is bounded by its heavy terminals.
 use Rattle.std.proofs.Common.{◌≡◌, ℕ, ◌+◌, ◌*◌, ◌≤◌, ◌<◌, ◌⊎◌, inl, inr, Bool, true, false, cond, List, [], ◌∷◌, ◌++◌, refl, sym, ◌∙◌, ap, subst, arith, codes}
-use Rattle.std.specs.Prelude.{Result, Ok, Err, Some, None, nat_le}
+use Rattle.std.specs.Prelude.{Result, Ok, Err, Some, None, nat_le, count_by}
 use Rattle.std.proofs.lemmas.Bool.{le-leb, lt-leb}
 use Rattle.expr_grammar.specs.declared.refusal.Refusal.{Refusal}
 use Rattle.expr_grammar.specs.declared.refusal.Refusal.TheVariants.{Syntax, TooHigh}
-use Rattle.std.specs.Prelude.{count_by}
 use Rattle.std.proofs.lemmas.List.Recursion.{is_count_by}
 use Rattle.med_lexer.specs.Lexemes.{Shape, word, quoted, literal, number, mark}
-use Rattle.med_parser.specs.declared.query_symbols.Place.{Place}
+use Rattle.query_grammar.specs.declared.query_symbols.Place.{Place}
 use Rattle.expr_grammar.specs.Shapes.{deepens}
 use Rattle.expr_grammar.specs.ExprTerminals.{follows, terminal_at}
-use Rattle.med_parser.specs.QueryTerminals.{is_one_of, keywords_at, word_at, words_at, place_behind}
+use Rattle.query_grammar.specs.QueryTerminals.{is_one_of, keywords_at, word_at, words_at, place_behind}
 use Rattle.med_syntax.specs.Terminal.{Terminal}
 use Rattle.med_syntax.specs.Terminal as t
 use Rattle.med_syntax.specs.ExprTree.{ExprTree, height, IsExpr}
 use Rattle.expr_grammar.specs.ExprWeight.{is_heavy, weight, again, judged}
 use Rattle.med_syntax.specs.QueryTree.{ItemTree, all, all_of, value, EntryTree, inner_join, left_join, cross_join, SelectTree, StatementTree, select, item_height, join_height, chain_height, key_height, highest_of, condition_height, select_height, statement_height}
-use Rattle.med_parser.specs.QueryGrammar.{keywords, SpellsOthers, SpellsList, SpellsItem, SpellsOn, SpellsJoin, SpellsJoins, SpellsChain, SpellsKey, SpellsPerhaps, SpellsListed, SpellsExpr, SpellsSelect, Spells, IsLine}
-use Rattle.med_parser.specs.QueryReading.{line_of, bounded_line}
+use Rattle.query_grammar.specs.QueryGrammar.{keywords, SpellsOthers, SpellsList, SpellsItem, SpellsOn, SpellsJoin, SpellsJoins, SpellsChain, SpellsKey, SpellsPerhaps, SpellsListed, SpellsExpr, SpellsSelect, Spells, IsLine}
+use Rattle.query_reader.specs.QueryReading.{line_of, bounded_line}
 use Rattle.expr_grammar.proofs.ExprComplete.{low_or_high}
 use Rattle.expr_grammar.proofs.ExprSound.{ok_same}
 use Rattle.expr_grammar.proofs.ExprWeighing.{weight_append, weight_more, weight_step, heavy_at, deep, bound}
-use Rattle.med_parser.proofs.QueryTerminals.{keyword_name}
-use Rattle.med_parser.proofs.QueryComplete.{reads_line, refuses_line}
-use Rattle.med_parser.proofs.QuerySound.{line_sound}
+use Rattle.query_grammar.proofs.QueryTerminals.{keyword_name}
+use Rattle.query_reader.proofs.QueryComplete.{reads_line, refuses_line}
+use Rattle.query_reader.proofs.QuerySound.{line_sound}
 
 expr_bound : (ts : List Terminal) (e : ExprTree) → IsExpr ts e → height e ≤ 7 * weight ts + 7
 expr_bound ts e x = omega (arith, bound e x.fits, ap weight x.spelled)

@@ -1,5 +1,4 @@
-pub mod QueryTerminals
-pub mod QueryGrammar
-pub mod QueryCauses
-pub mod QueryReading
-pub mod QueryPrinting
+pub use Rattle.query_grammar.specs.QueryTerminals
+pub use Rattle.query_grammar.specs.QueryGrammar
+pub use Rattle.query_grammar.specs.QueryCauses
+pub use Rattle.query_print.specs.QueryPrinting

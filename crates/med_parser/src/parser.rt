@@ -1,60 +1,21 @@
 //! Text to statements.
 
-ghost use Rattle.std.specs.Prelude.{◌≡◌, ◌⊎◌, ℕ, List, IfOk, OnOk, IfErr, false};
-ghost use Rattle.med_value.specs.declared.cause.Cause.{Cause};
-ghost use Rattle.med_lexer.specs.Printing.{AreShapes};
-ghost use Rattle.expr_grammar.specs.ExprTerminals.{AreReadable};
-ghost use Rattle.expr_grammar.specs.SymbolView.{terminals_of};
-ghost use Rattle.expr_grammar.specs.ExprAnswers.{Gives};
 ghost use Rattle.expr_grammar.specs.View.{shapes_of};
-ghost use Rattle.med_parser.specs.QueryGrammar.{HasStatement, IsStatement};
-ghost use Rattle.med_parser.specs.QueryCauses.{SyntaxCauses, TokenCauses, statement_in_range};
-ghost use Rattle.med_parser.specs.QueryReading.{bounded_line};
-ghost use Rattle.med_parser.specs.QueryTerminals.{words_at};
+ghost use Rattle.med_lexer.specs.Printing.{AreShapes};
 ghost use Rattle.med_syntax.specs.QueryView.{statement_tree};
+ghost use Rattle.med_value.specs.declared.cause.Cause.{Cause};
+ghost use Rattle.query_grammar.specs.QueryCauses.{SyntaxCauses, TokenCauses, statement_in_range};
+ghost use Rattle.query_grammar.specs.QueryGrammar.{HasStatement, IsStatement};
+ghost use Rattle.std.specs.Prelude.{◌≡◌, ◌⊎◌, ℕ, List, IfOk, OnOk, IfErr};
 
 use crate::query_range::is_statement_in_range;
-use crate::query_reader::line;
-use crate::query_symbols::{Place, words_of};
 use expr_grammar::expr_symbols::has_unreadable;
-use expr_grammar::refusal::{ReadFault, Refusal};
-use expr_grammar::symbols::Symbol;
 use expr_grammar::token_list::{has_long_name, tokens_of};
-use expr_grammar::weighing::{MAX_HEIGHT, ROOM, weight};
 use med_lexer::{Token, tokens_can_be_printed};
 use med_syntax::Statement;
 use med_value::Cause;
+use query_reader::statement_of;
 use std::alloc::Global;
-
-/// The statement that all of the symbols are. Where few of them are heavy, what is told to be too high is a statement.
-#[tactic(auto, unfolding(crate::specs::QueryReading::bounded_line))]
-fn bounded(alloc: Global, symbols: &[Symbol]) -> Result<Statement, ReadFault>
-    ensures { Gives statement_tree result (bounded_line (terminals_of symbols.now)) }
-{
-    match line(alloc, MAX_HEIGHT, symbols) {
-        Err(ReadFault::Refused(Refusal::TooHigh)) => {
-            if weight(symbols) > 64 {
-                return Err(ReadFault::Refused(Refusal::TooHigh));
-            }
-            match line(alloc, ROOM, symbols) {
-                Ok(_) => Err(ReadFault::Refused(Refusal::TooHigh)),
-                Err(ReadFault::Refused(_)) => Err(ReadFault::Refused(Refusal::Syntax)),
-                Err(ReadFault::NoMemory) => Err(ReadFault::NoMemory),
-            }
-        }
-        Err(fault) => Err(fault),
-        Ok(statement) => Ok(statement),
-    }
-}
-
-/// The statement that all of the tokens are.
-fn statement_of(alloc: Global, tokens: &[Token]) -> Result<Statement, ReadFault>
-    requires { AreReadable (shapes_of tokens.now) }
-    ensures { Gives statement_tree result (bounded_line (words_at (Place.Before false) false (shapes_of tokens.now))) }
-{
-    let symbols = words_of(alloc, tokens)?;
-    bounded(alloc, &symbols)
-}
 
 /// The statement that all of the tokens are, or why it is refused.
 fn checked_statement(alloc: Global, tokens: &[Token]) -> Result<Statement, Cause>

@@ -1,10 +1,10 @@
 //! Whether the numbers of a statement are in range.
 
-ghost use Rattle.std.specs.Prelude.{◌≡◌, map, option_map};
 ghost use Rattle.expr_grammar.specs.ExprGrammar.{in_range};
 ghost use Rattle.med_syntax.specs.ExprView.{expr_tree};
-ghost use Rattle.med_parser.specs.QueryCauses.{all_in_range, perhaps_in_range, item_in_range, join_in_range, chain_in_range, key_in_range, limit_in_range, count_in_range, select_in_range, statement_in_range};
 ghost use Rattle.med_syntax.specs.QueryView.{item_tree, items_tree, join_tree, chain_tree, key_tree, limit_tree, select_tree, statement_tree};
+ghost use Rattle.query_grammar.specs.QueryCauses.{all_in_range, perhaps_in_range, item_in_range, join_in_range, chain_in_range, key_in_range, limit_in_range, count_in_range, select_in_range, statement_in_range};
+ghost use Rattle.std.specs.Prelude.{◌≡◌, map, option_map};
 
 use expr_grammar::number_range::is_in_range;
 use med_syntax::{Chain, Expr, Item, Join, Limit, OrderKey, Select, Statement};

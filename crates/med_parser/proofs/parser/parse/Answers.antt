@@ -3,8 +3,7 @@ use Rattle.std.proofs.lemmas.Result.{err_from_is_err_and}
 use Rattle.med_lexer.specs.declared.Token.{Token}
 use Rattle.med_lexer.specs.Lexemes.{Lexes}
 use Rattle.med_lexer.specs.View.{views}
-use Rattle.expr_grammar.proofs.TokenShapes.{OneList}
-use Rattle.expr_grammar.proofs.TokenShapes.{printable}
+use Rattle.expr_grammar.proofs.TokenShapes.{OneList, printable}
 use Rattle.med_parser.proofs.QueryParsed.{lexed_read, lexed_syntax, text_found, text_none, text_refused, text_syntax, only_memory}
 use Rattle.med_parser.proofs.parser.parse.Goals as goal
 

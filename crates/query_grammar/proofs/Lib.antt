@@ -1,0 +1,2 @@
+pub mod QueryTerminals
+pub mod QueryLabels

@@ -1,0 +1,3 @@
+pub mod QueryTerminals
+pub mod QueryGrammar
+pub mod QueryCauses

@@ -1,0 +1,133 @@
+//! The terminal symbols that tokens are in a statement.
+#![tactic(auto)]
+
+ghost use Rattle.expr_grammar.specs.ExprTerminals.{AreReadable, IsReadable};
+ghost use Rattle.expr_grammar.specs.SymbolView.{terminal_of_symbol, terminals_of};
+ghost use Rattle.expr_grammar.specs.View.{shapes_of};
+ghost use Rattle.med_lexer.specs.View.{shape_of};
+ghost use Rattle.query_grammar.specs.QueryTerminals as spec;
+ghost use Rattle.std.specs.Prelude.{◌≡◌, IfOk, false};
+ghost use Rattle.std.specs.String.{string_bytes};
+
+use expr_grammar::expr_symbols::{follows_is, symbol};
+use expr_grammar::symbols::Symbol;
+use med_lexer::{Kind, Token};
+use std::alloc::{AllocError, Global};
+
+/// What the next token stands behind, as far as keywords that are not reserved need it. The truth value says whether it is among the keys
+/// of ORDER BY.
+#[derive(Clone, Copy, Debug, Drop)]
+pub enum Place {
+    /// An operand is to come.
+    Before(bool),
+    /// An operand, or ASC or DESC.
+    Behind(bool),
+    /// AS.
+    Label,
+    /// NULLS.
+    Nulls,
+    /// OFFSET.
+    Offset,
+    /// OFFSET and a number.
+    Counted,
+}
+
+/// Whether the word is a keyword at the place, though not reserved.
+fn is_keyword(place: Place, word: &str) -> bool
+    ensures { result ≡ spec.is_one_of (spec.keywords_at place) word.now }
+{
+    match place {
+        Place::Behind(true) => ["nulls"].contains(&word),
+        Place::Nulls => ["first", "last"].contains(&word),
+        Place::Counted => ["row", "rows"].contains(&word),
+        _ => false,
+    }
+}
+
+/// Whether the place is among the keys of ORDER BY, or behind them.
+fn is_ordering(place: Place) -> bool
+    ensures { result ≡ spec.is_ordering place }
+{
+    match place {
+        Place::Before(ordering) | Place::Behind(ordering) => ordering,
+        Place::Nulls => true,
+        _ => false,
+    }
+}
+
+/// The place behind a keyword that no expression has.
+fn behind_reserved(ordering: bool, word: &str) -> Place
+    ensures { result ≡ spec.behind_reserved ordering word.now }
+{
+    if word == "as" {
+        Place::Label
+    } else if word == "order" {
+        Place::Before(true)
+    } else if word == "offset" {
+        Place::Offset
+    } else if word == "nulls" {
+        Place::Nulls
+    } else if ["asc", "desc"].contains(&word) {
+        Place::Behind(ordering)
+    } else {
+        Place::Before(ordering)
+    }
+}
+
+/// The place behind the symbol.
+fn behind_symbol(ordering: bool, symbol: &Symbol) -> Place
+    ensures { result ≡ spec.behind_terminal ordering (terminal_of_symbol symbol.now) }
+{
+    match symbol {
+        Symbol::Reserved(word) => behind_reserved(ordering, word),
+        Symbol::Name(_)
+        | Symbol::Number(_)
+        | Symbol::Text(_)
+        | Symbol::Truth(_)
+        | Symbol::Null
+        | Symbol::Unknown
+        | Symbol::RightParen => Place::Behind(ordering),
+        _ => Place::Before(ordering),
+    }
+}
+
+/// The place behind the symbol at the place.
+fn place_behind(place: Place, symbol: &Symbol) -> Place
+    ensures { result ≡ spec.place_behind place (terminal_of_symbol symbol.now) }
+{
+    match (place, symbol) {
+        (Place::Label, _) => Place::Behind(false),
+        (Place::Offset, Symbol::Number(_)) => Place::Counted,
+        _ => behind_symbol(is_ordering(place), symbol),
+    }
+}
+
+/// The symbol of a token at the place.
+fn word_symbol(place: Place, behind_is: bool, kind: &Kind) -> Result<Symbol, AllocError>
+    requires { IsReadable (shape_of kind.now) }
+    ensures { IfOk result (λ s. terminal_of_symbol s ≡ spec.word_at place behind_is (shape_of kind.now)) }
+{
+    match kind {
+        Kind::Word(word) if is_keyword(place, word) => Ok(Symbol::Reserved(word.clone()?)),
+        _ => symbol(behind_is, kind),
+    }
+}
+
+/// The symbols of the tokens of a statement, one by one.
+pub fn words_of(alloc: Global, tokens: &[Token]) -> Result<Vec<Symbol>, AllocError>
+    requires { AreReadable (shapes_of tokens.now) }
+    ensures { IfOk result (λ v. terminals_of v.items ≡ spec.words_at (Place.Before false) false (shapes_of tokens.now)) }
+{
+    let mut symbols = Vec::new(alloc);
+    let mut place = Place::Before(false);
+    let mut behind_is = false;
+    let mut left = tokens;
+    while let [token, rest @ ..] = left {
+        let symbol = word_symbol(place, behind_is, &token.kind)?;
+        place = place_behind(place, &symbol);
+        behind_is = follows_is(behind_is, &symbol);
+        symbols.push(symbol)?;
+        left = rest;
+    }
+    Ok(symbols)
+}

@@ -1,0 +1,10 @@
+//! Writes statements out, so that what is written is read as the same tree.
+//!
+//! What a tree is written by stands in `specs/QueryPrinting.antt`: of a word that is optional in the text, it has the printed spelling.
+#![tactic(auto)]
+
+mod query_laws;
+mod query_writer;
+
+pub use query_laws::printed_statement;
+pub use query_writer::print;

@@ -1,0 +1,4 @@
+pub mod QueryComplete
+pub mod QuerySound
+pub mod QueryLoop
+pub mod QuerySteps

@@ -1,0 +1,38 @@
+use Rattle.std.proofs.Common.{ap, ◌∙◌, List, [], ◌∷◌, ◌++◌, Bor, map}
+use Rattle.std.proofs.lemmas.Result.{err_from_is_err_and}
+use Rattle.med_syntax.specs.declared.statement.Item.{Item}
+use Rattle.expr_grammar.specs.declared.symbols.Symbol.{Symbol}
+use Rattle.expr_grammar.specs.SymbolView.{terminals_of}
+use Rattle.query_grammar.specs.QueryGrammar.{SpellsItem}
+use Rattle.query_reader.specs.QueryReading.{item_of}
+use Rattle.med_syntax.specs.QueryTree.{item_height}
+use Rattle.med_syntax.specs.QueryView.{item_tree}
+use Rattle.query_reader.proofs.QueryLoop.{list_start, list_end, list_failed, list_unstarted, parts_more, parts_shorter}
+use Rattle.query_reader.proofs.QuerySound.{item_sound}
+use Rattle.query_reader.proofs.query_statement.items.Goals as goal
+
+pub returns-in_err-first : goal.returns-in_err-first
+returns-in_err-first c =
+    let p = err_from_is_err_and c.from_residual.result c.from_residual.ensures.1 in
+    list_unstarted (λ x. (map item_tree x.0.items, terminals_of x.1.now)) (λ (x : Item × Bor (List Symbol)). (item_tree x.0, terminals_of x.1.now)) (item_of c.args.room) (terminals_of c.args.symbols.now) c.in_err-first.field-0.0 c.from_residual.result c.in_err-first.ensures (cc)
+
+pub loop-after-init : goal.loop-after-init
+loop-after-init c =
+    list_start (item_of c.args.room) (terminals_of c.args.symbols.now) (item_tree c.in_ok-first.first) (map item_tree c.push.new.self.items) (terminals_of c.in_ok-first.behind_first.now) c.in_ok-first.ensures
+    (ap (map item_tree) (c.in_ok-push.ensures.items ∙ ap (λ l. l ++ c.in_ok-first.first ∷ []) c.new-list.ensures.items))
+
+pub returns-in_err-next : goal.returns-in_err-next
+returns-in_err-next c =
+    let p = err_from_is_err_and c.from_residual-in_err-next.result c.from_residual-in_err-next.ensures.1 in
+    list_failed (λ x. (map item_tree x.0.items, terminals_of x.1.now)) (λ (x : Item × Bor (List Symbol)). (item_tree x.0, terminals_of x.1.now)) (item_of c.args.room) (terminals_of c.args.symbols.now) (map item_tree c.loop-after.list.items) (terminals_of c.loop-after.rest.now) (terminals_of c.in-Some.after.now) c.in_err-next.field-0.0 c.from_residual-in_err-next.result
+    c.loop-after.invariant c.in-Some.ensures c.in_err-next.ensures (cc)
+
+pub loop-after-smaller : goal.loop-after-smaller
+loop-after-smaller c = parts_shorter SpellsItem item_height c.args.room (item_of c.args.room) (item_sound c.args.room) (terminals_of c.loop-after.rest.now) (terminals_of c.in-Some.after.now) (item_tree c.in_ok-next.next) (terminals_of c.in_ok-next.more.now) c.in-Some.ensures c.in_ok-next.ensures
+
+pub loop-after-preserved : goal.loop-after-preserved
+loop-after-preserved c =
+    parts_more SpellsItem item_height c.args.room (item_of c.args.room) (item_sound c.args.room) item_tree (terminals_of c.args.symbols.now) c.loop-after.list.items c.push-in-Some.new.self.items c.in_ok-next.next (terminals_of c.loop-after.rest.now) (terminals_of c.in-Some.after.now) (terminals_of c.in_ok-next.more.now) c.loop-after.invariant c.in-Some.ensures c.in_ok-next.ensures c.in_ok-push-2.ensures.items
+
+pub returns : goal.returns
+returns c = list_end (item_of c.args.room) (terminals_of c.args.symbols.now) (map item_tree c.loop-after.list.items) (terminals_of c.loop-after.rest.now) c.loop-after.invariant c.in_default.ensures

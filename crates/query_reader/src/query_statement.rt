@@ -1,0 +1,268 @@
+//! Statements, by recursive descent.
+#![tactic(auto, unfolding(crate::specs::QueryReading::label_after, crate::specs::QueryReading::value_of, crate::specs::QueryReading::seq, crate::specs::QueryReading::select_of, crate::specs::QueryReading::statement_of, crate::specs::QueryReading::line_of))]
+
+ghost use Rattle.expr_grammar.specs.ExprAnswers.{Gives};
+ghost use Rattle.expr_grammar.specs.ExprReading.{below};
+ghost use Rattle.expr_grammar.specs.SymbolView.{terminal_of_symbol, terminals_of};
+ghost use Rattle.med_syntax.specs.ExprView.{expr_tree};
+ghost use Rattle.med_syntax.specs.QueryView.{item_tree, items_tree, select_tree, statement_tree};
+ghost use Rattle.query_grammar.specs.QueryTerminals.{label_of};
+ghost use Rattle.query_reader.specs.QueryReading as reading;
+ghost use Rattle.std.specs.Prelude.{◌≡◌, ◌<◌, ◌∷◌, [], option_map};
+ghost use Rattle.std.specs.String.{string_bytes};
+
+use crate::query_keys::{flag, groups, keys, limits};
+use crate::query_source::chains;
+use expr_grammar::refusal::{ReadFault, Refusal};
+use expr_grammar::symbols::{Separator, Symbol, behind};
+use expr_reader::whole;
+use med_syntax::{BinaryOp, Expr, Item, Joint, Select, Statement, is_reserved};
+use std::alloc::Global;
+
+/// The symbols behind the keyword, where it comes first.
+pub fn behind_word<'a>(word: &str, symbols: &'a [Symbol]) -> Option<&'a [Symbol]>
+    ensures { reading.behind_word word.now (terminals_of symbols.now) ≡ option_map (λ x. terminals_of x.now) result }
+{
+    match symbols {
+        [Symbol::Reserved(reserved), rest @ ..] if reserved.as_str() == word => Some(rest),
+        _ => None,
+    }
+}
+
+/// The symbols behind two keywords, where they come first.
+pub fn behind_two<'a>(first: &str, second: &str, symbols: &'a [Symbol]) -> Option<&'a [Symbol]>
+    ensures { reading.behind_words (first.now ∷ second.now ∷ []) (terminals_of symbols.now) ≡ option_map (λ x. terminals_of x.now) result }
+{
+    match behind_word(first, symbols) {
+        Some(after) => behind_word(second, after),
+        None => None,
+    }
+}
+
+/// The symbols behind three keywords, where they come first.
+pub fn behind_three<'a>(
+    first: &str,
+    second: &str,
+    third: &str,
+    symbols: &'a [Symbol],
+) -> Option<&'a [Symbol]>
+    ensures { reading.behind_words (first.now ∷ second.now ∷ third.now ∷ []) (terminals_of symbols.now)
+        ≡ option_map (λ x. terminals_of x.now) result }
+{
+    match behind_word(first, symbols) {
+        Some(after) => behind_two(second, third, after),
+        None => None,
+    }
+}
+
+/// The name at the front, and the symbols behind it.
+pub fn name(symbols: &[Symbol]) -> Result<(String, &[Symbol]), ReadFault>
+    ensures { Gives (λ x. (string_bytes x.0, terminals_of x.1.now)) result (reading.read_name (terminals_of symbols.now)) }
+{
+    match symbols {
+        [Symbol::Name(name), rest @ ..] => Ok((name.clone()?, rest)),
+        _ => Err(ReadFault::Refused(Refusal::Syntax)),
+    }
+}
+
+/// The name at the front, where there is one.
+pub fn perhaps_name(symbols: &[Symbol]) -> Result<(Option<String>, &[Symbol]), ReadFault>
+    ensures { Gives (λ x. (option_map string_bytes x.0, terminals_of x.1.now)) result (reading.perhaps_name (terminals_of symbols.now)) }
+{
+    match symbols {
+        [Symbol::Name(name), rest @ ..] => Ok((Some(name.clone()?), rest)),
+        _ => Ok((None, symbols)),
+    }
+}
+
+/// The word that the symbol is, or its name.
+fn word_of(symbol: &Symbol) -> Option<&str>
+    ensures { label_of (terminal_of_symbol symbol.now) ≡ option_map (λ w. w.now) result }
+{
+    match symbol {
+        Symbol::Joint(Joint::And) => Some("and"),
+        Symbol::Joint(Joint::Or) => Some("or"),
+        Symbol::Not => Some("not"),
+        Symbol::Between => Some("between"),
+        Symbol::In => Some("in"),
+        Symbol::Is => Some("is"),
+        Symbol::Like => Some("like"),
+        Symbol::Null => Some("null"),
+        Symbol::Truth(true) => Some("true"),
+        Symbol::Truth(false) => Some("false"),
+        Symbol::Name(name) => Some(name.as_str()),
+        Symbol::Reserved(word) if is_reserved(word) => Some(word.as_str()),
+        _ => None,
+    }
+}
+
+/// The label behind AS.
+fn label_at(alloc: Global, symbols: &[Symbol]) -> Result<(Option<String>, &[Symbol]), ReadFault>
+    ensures { Gives (λ x. (option_map string_bytes x.0, terminals_of x.1.now)) result (reading.label_at (terminals_of symbols.now)) }
+{
+    let [symbol, rest @ ..] = symbols else {
+        return Err(ReadFault::Refused(Refusal::Syntax));
+    };
+    match word_of(symbol) {
+        Some(word) => Ok((Some(String::from_str(alloc, word)?), rest)),
+        None => Err(ReadFault::Refused(Refusal::Syntax)),
+    }
+}
+
+/// The label of an item: behind AS any word or a name, and else perhaps a name.
+fn label(alloc: Global, symbols: &[Symbol]) -> Result<(Option<String>, &[Symbol]), ReadFault>
+    ensures { Gives (λ x. (option_map string_bytes x.0, terminals_of x.1.now)) result (reading.label_after (terminals_of symbols.now)) }
+{
+    match behind_word("as", symbols) {
+        Some(after) => label_at(alloc, after),
+        None => perhaps_name(symbols),
+    }
+}
+
+/// The expression at the front with its label.
+fn value(alloc: Global, room: u32, symbols: &[Symbol]) -> Result<(Item, &[Symbol]), ReadFault>
+    requires { room < 1000 }
+    ensures { Gives (λ x. (item_tree x.0, terminals_of x.1.now)) result (reading.value_of room (terminals_of symbols.now)) }
+{
+    let found = whole(alloc, room, symbols)?;
+    let (label, rest) = label(alloc, found.rest)?;
+    Ok((Item::Expression(found.expr, label), rest))
+}
+
+/// The item at the front, and the symbols behind it.
+#[tactic(auto)]
+fn item(alloc: Global, room: u32, symbols: &[Symbol]) -> Result<(Item, &[Symbol]), ReadFault>
+    requires { room < 1000 }
+    ensures { Gives (λ x. (item_tree x.0, terminals_of x.1.now)) result (reading.item_of room (terminals_of symbols.now)) }
+{
+    match symbols {
+        [Symbol::Binary(BinaryOp::Mul), rest @ ..] => Ok((Item::All, rest)),
+        [
+            Symbol::Name(name),
+            Symbol::Dot,
+            Symbol::Binary(BinaryOp::Mul),
+            rest @ ..,
+        ] => Ok((Item::AllOf(name.clone()?), rest)),
+        _ => value(alloc, room, symbols),
+    }
+}
+
+/// The items at the front, with a comma between each two, and the symbols behind them.
+fn items(alloc: Global, room: u32, symbols: &[Symbol]) -> Result<(Vec<Item>, &[Symbol]), ReadFault>
+    requires { room < 1000 }
+    ensures { Gives (λ x. (items_tree x.0.items, terminals_of x.1.now))
+        result (reading.list_of (reading.item_of room) (terminals_of symbols.now)) }
+{
+    let mut list = Vec::new(alloc);
+    let (first, behind_first) = item(alloc, room, symbols)?;
+    list.push(first)?;
+    let mut rest = behind_first;
+    while let Some(after) = behind(Separator::Comma, rest) {
+        let (next, more) = item(alloc, room, after)?;
+        list.push(next)?;
+        rest = more;
+    }
+    Ok((list, rest))
+}
+
+/// The condition behind the word, where it stands in front.
+#[tactic(auto, unfolding(crate::specs::QueryReading::perhaps_of))]
+fn clause<'a>(
+    alloc: Global,
+    room: u32,
+    word: &str,
+    symbols: &'a [Symbol],
+) -> Result<(Option<Expr>, &'a [Symbol]), ReadFault>
+    requires { room < 1000 }
+    ensures { Gives (λ x. (option_map expr_tree x.0, terminals_of x.1.now))
+        result (reading.perhaps_of (word.now ∷ []) (below room).whole (terminals_of symbols.now)) }
+{
+    match behind_word(word, symbols) {
+        Some(after) => {
+            let found = whole(alloc, room, after)?;
+            Ok((Some(found.expr), found.rest))
+        }
+        None => Ok((None, symbols)),
+    }
+}
+
+/// The query behind SELECT and its quantifier.
+fn select(
+    alloc: Global,
+    distinct: bool,
+    room: u32,
+    symbols: &[Symbol],
+) -> Result<(Select, &[Symbol]), ReadFault>
+    requires { room < 1000 }
+    ensures { Gives (λ x. (select_tree x.0, terminals_of x.1.now)) result (reading.select_of distinct room (terminals_of symbols.now)) }
+{
+    let (items, rest) = items(alloc, room, symbols)?;
+    let (from, rest) = chains(alloc, room, rest)?;
+    let (condition, rest) = clause(alloc, room, "where", rest)?;
+    let (groups, rest) = groups(alloc, rest)?;
+    let (having, rest) = clause(alloc, room, "having", rest)?;
+    let (keys, rest) = keys(alloc, room, rest)?;
+    let (limit, offset, rest) = limits(rest)?;
+    Ok((
+        Select {
+            distinct,
+            items,
+            from,
+            condition,
+            groups,
+            having,
+            keys,
+            limit,
+            offset,
+        },
+        rest,
+    ))
+}
+
+/// The query behind SELECT.
+#[tactic(auto, unfolding(crate::specs::QueryReading::query_of))]
+fn query(alloc: Global, room: u32, symbols: &[Symbol]) -> Result<(Select, &[Symbol]), ReadFault>
+    requires { room < 1000 }
+    ensures { Gives (λ x. (select_tree x.0, terminals_of x.1.now)) result (reading.query_of room (terminals_of symbols.now)) }
+{
+    let (distinct, rest) = flag("distinct", "all", symbols);
+    select(alloc, distinct, room, rest)
+}
+
+/// The statement at the front, and the symbols behind it.
+fn statement(
+    alloc: Global,
+    room: u32,
+    symbols: &[Symbol],
+) -> Result<(Statement, &[Symbol]), ReadFault>
+    requires { room < 1000 }
+    ensures { Gives (λ x. (statement_tree x.0, terminals_of x.1.now)) result (reading.statement_of room (terminals_of symbols.now)) }
+{
+    match behind_word("select", symbols) {
+        Some(after) => {
+            let (query, rest) = query(alloc, room, after)?;
+            Ok((Statement::Select(query), rest))
+        }
+        None => Err(ReadFault::Refused(Refusal::Syntax)),
+    }
+}
+
+/// Whether nothing is left but perhaps one semicolon.
+fn is_end(symbols: &[Symbol]) -> bool
+    ensures { result ≡ reading.is_end (terminals_of symbols.now) }
+{
+    matches!(symbols, [] | [Symbol::Semicolon])
+}
+
+/// The statement that all of the symbols are, where no expression is higher than the room.
+pub fn line(alloc: Global, room: u32, symbols: &[Symbol]) -> Result<Statement, ReadFault>
+    requires { room < 1000 }
+    ensures { Gives statement_tree result (reading.line_of room (terminals_of symbols.now)) }
+{
+    let (statement, rest) = statement(alloc, room, symbols)?;
+    if is_end(rest) {
+        Ok(statement)
+    } else {
+        Err(ReadFault::Refused(Refusal::Syntax))
+    }
+}

@@ -1,0 +1,49 @@
+//! Tokens to statements.
+
+ghost use Rattle.expr_grammar.specs.ExprAnswers.{Gives};
+ghost use Rattle.expr_grammar.specs.ExprTerminals.{AreReadable};
+ghost use Rattle.expr_grammar.specs.SymbolView.{terminals_of};
+ghost use Rattle.expr_grammar.specs.View.{shapes_of};
+ghost use Rattle.med_syntax.specs.QueryView.{statement_tree};
+ghost use Rattle.query_grammar.specs.QueryTerminals.{words_at};
+ghost use Rattle.query_reader.specs.QueryReading.{bounded_line};
+ghost use Rattle.std.specs.Prelude.{false};
+
+use crate::query_statement::line;
+use expr_grammar::refusal::{ReadFault, Refusal};
+use expr_grammar::symbols::Symbol;
+use expr_grammar::weighing::{MAX_HEIGHT, ROOM, weight};
+use med_lexer::Token;
+use med_syntax::Statement;
+use query_grammar::{Place, words_of};
+use std::alloc::Global;
+
+/// The statement that all of the symbols are. Where few of them are heavy, what is told to be too high is a statement.
+#[tactic(auto, unfolding(crate::specs::QueryReading::bounded_line))]
+fn bounded(alloc: Global, symbols: &[Symbol]) -> Result<Statement, ReadFault>
+    ensures { Gives statement_tree result (bounded_line (terminals_of symbols.now)) }
+{
+    match line(alloc, MAX_HEIGHT, symbols) {
+        Err(ReadFault::Refused(Refusal::TooHigh)) => {
+            if weight(symbols) > 64 {
+                return Err(ReadFault::Refused(Refusal::TooHigh));
+            }
+            match line(alloc, ROOM, symbols) {
+                Ok(_) => Err(ReadFault::Refused(Refusal::TooHigh)),
+                Err(ReadFault::Refused(_)) => Err(ReadFault::Refused(Refusal::Syntax)),
+                Err(ReadFault::NoMemory) => Err(ReadFault::NoMemory),
+            }
+        }
+        Err(fault) => Err(fault),
+        Ok(statement) => Ok(statement),
+    }
+}
+
+/// The statement that all of the tokens are.
+pub fn statement_of(alloc: Global, tokens: &[Token]) -> Result<Statement, ReadFault>
+    requires { AreReadable (shapes_of tokens.now) }
+    ensures { Gives statement_tree result (bounded_line (words_at (Place.Before false) false (shapes_of tokens.now))) }
+{
+    let symbols = words_of(alloc, tokens)?;
+    bounded(alloc, &symbols)
+}
