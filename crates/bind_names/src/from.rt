@@ -38,7 +38,7 @@ pub fn table_named<'a>(tables: &'a [AttachedTable], name: &str) -> Option<Locate
     None
 }
 
-/// The name by which an entry is called.
+// The name by which an entry is called.
 fn exposed_name(entry: &Entry) -> &str
     ensures { result.now ≡ spec.exposed_name (entry_tree entry.now) }
 {
@@ -93,7 +93,7 @@ pub fn entries_of(alloc: Global, chains: &[Chain]) -> Result<Vec<&Entry>, Cause>
     Ok(out)
 }
 
-/// The columns of an entry's table; none where there is no such table.
+// The columns of an entry's table; none where there is no such table.
 fn columns_of<'a>(tables: &'a [AttachedTable], entry: &Entry) -> &'a [ColumnDef]
     ensures { map column_of result.now ≡ entry_columns (map table_shape tables.now) (entry_tree entry.now) }
 {

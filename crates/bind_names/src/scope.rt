@@ -28,7 +28,7 @@ pub enum Found {
     Several,
 }
 
-/// One more was found in this place.
+// One more was found in this place.
 fn one_more(found: Found, place: usize) -> Found
     ensures { result ≡ with_place found place }
 {
@@ -38,7 +38,7 @@ fn one_more(found: Found, place: usize) -> Found
     }
 }
 
-/// What was found, with the columns of this name, the first column standing at a place.
+// What was found, with the columns of this name, the first column standing at a place.
 #[tactic(auto, using(crate::proofs::Places::found_then))]
 fn find_in(columns: &[ColumnDef], name: &str, at: usize, found: Found) -> Found
     requires { at + length columns.now ≤ 18446744073709551615 }
@@ -60,7 +60,7 @@ pub fn is_named(entry: Visible<'_>, name: &str) -> bool
     entry.name == name
 }
 
-/// Whether the qualifier, if there is one, names the entry.
+// Whether the qualifier, if there is one, names the entry.
 fn is_called(entry: Visible<'_>, qualifier: &Option<String>) -> bool
     ensures { result ≡ is_meant (option_map string_bytes qualifier.now) (visible entry.entry) }
 {
@@ -82,7 +82,7 @@ pub fn is_any_named(scope: &[Visible<'_>], name: &str) -> bool
     false
 }
 
-/// Whether the qualifier, if there is one, names an entry in view.
+// Whether the qualifier, if there is one, names an entry in view.
 fn has_entry(scope: &[Visible<'_>], qualifier: &Option<String>) -> bool
     ensures { result ≡ has_entry (scope_of scope.now) (option_map string_bytes qualifier.now) }
 {
@@ -92,7 +92,7 @@ fn has_entry(scope: &[Visible<'_>], qualifier: &Option<String>) -> bool
     }
 }
 
-/// The same in an entry, where it is meant.
+// The same in an entry, where it is meant.
 fn find_under(
     entry: Visible<'_>,
     qualifier: &Option<String>,
@@ -110,7 +110,7 @@ fn find_under(
     }
 }
 
-/// The columns that a name can mean. Refused only where there are more columns in view than places.
+// The columns that a name can mean. Refused only where there are more columns in view than places.
 #[tactic(auto, using(crate::proofs::Places::found_past_entry))]
 fn gather(scope: &[Visible<'_>], qualifier: &Option<String>, name: &str) -> Result<Found, Cause>
     ensures { Gathers (candidates (scope_of scope.now) (option_map string_bytes qualifier.now) name.now) result }
@@ -157,7 +157,7 @@ fn kind_in(columns: &[ColumnDef], place: usize) -> Option<ColType>
     }
 }
 
-/// The type of the column at a place.
+// The type of the column at a place.
 #[tactic(auto, using(crate::proofs::Places::kind_at_entry, crate::proofs::Places::kind_past_entry))]
 fn kind_of(scope: &[Visible<'_>], place: usize) -> Option<ColType>
     ensures { result ≡ kind_at (scope_of scope.now) place }

@@ -28,7 +28,7 @@ fn push_arguments(alloc: Global, es: &[Expr], out: &mut Vec<Expr>) -> Result<(),
     Ok(())
 }
 
-/// The arguments of the aggregates of HAVING, order keys and items.
+// The arguments of the aggregates of HAVING, order keys and items.
 fn all_arguments(
     alloc: Global,
     having: &[Expr],
@@ -44,7 +44,7 @@ fn all_arguments(
     Ok(out)
 }
 
-/// Whether the query groups: it has GROUP BY, HAVING or an aggregate.
+// Whether the query groups: it has GROUP BY, HAVING or an aggregate.
 fn groups_rows(select: &WrittenSelect, keys: &[Expr], items: &[Expr]) -> bool
     ensures { result ≡ groups_rows (select_tree select.now) (map tree keys.now ++ map tree items.now) }
 {

@@ -19,7 +19,7 @@ use med_value::Cause;
 use std::alloc::Global;
 use tri_expr::{Expr, Join, JoinChain, conjuncts};
 
-/// The conjuncts of a condition.
+// The conjuncts of a condition.
 fn conjuncts_of(
     alloc: Global,
     scope: &[Visible<'_>],
@@ -45,7 +45,7 @@ pub fn conditions(
     }
 }
 
-/// A join with the entry of this number.
+// A join with the entry of this number.
 fn join(
     alloc: Global,
     scope: &[Visible<'_>],
@@ -68,7 +68,7 @@ fn join(
     }
 }
 
-/// One join more, behind the entry of a number; what its entry brings stands behind the scope. Answers the number of its entry.
+// One join more, behind the entry of a number; what its entry brings stands behind the scope. Answers the number of its entry.
 fn push_join<'a>(
     alloc: Global,
     tables: &'a [AttachedTable],
@@ -91,7 +91,7 @@ fn push_join<'a>(
     Ok(table)
 }
 
-/// The joins behind the entry of this number. ON sees what stands on its left in its own chain, and its own entry.
+// The joins behind the entry of this number. ON sees what stands on its left in its own chain, and its own entry.
 fn joins(
     alloc: Global,
     tables: &[AttachedTable],
@@ -111,7 +111,7 @@ fn joins(
     Ok(out)
 }
 
-/// A chain whose first entry has this number.
+// A chain whose first entry has this number.
 fn chain(
     alloc: Global,
     tables: &[AttachedTable],
@@ -127,7 +127,7 @@ fn chain(
     })
 }
 
-/// The number of the first entry behind a chain.
+// The number of the first entry behind a chain.
 fn after_chain(number: usize, chain: &Chain) -> Result<usize, Cause>
     ensures { Gives (λ (n : ℕ). n) [] (number + length (chain_entries (chain_tree chain.now))) result }
 {

@@ -25,7 +25,7 @@ use std::alloc::Global;
 use tri_expr::law::same_trees_are_equal;
 use tri_expr::{Expr, SortDirection, is_same};
 
-/// Whether an output has this name.
+// Whether an output has this name.
 fn is_output(outputs: &[Shown], name: &str) -> bool
     ensures { result ≡ list_any (spec.is_named name.now) (map shown outputs.now) }
 {
@@ -37,7 +37,7 @@ fn is_output(outputs: &[Shown], name: &str) -> bool
     false
 }
 
-/// What the output in this position shows, counted from 1: 42P10 where there is none.
+// What the output in this position shows, counted from 1: 42P10 where there is none.
 fn at_position(alloc: Global, outputs: &[Shown], number: u64) -> Result<Expr, Cause>
     ensures { Gives tree (position_causes (map shown outputs.now) number) (first_value (drop (number - 1) (map shown outputs.now))) result }
 {
@@ -51,7 +51,7 @@ fn at_position(alloc: Global, outputs: &[Shown], number: u64) -> Result<Expr, Ca
     Ok(outputs[place].value.copy(alloc)?)
 }
 
-/// Whether an output shows the same.
+// Whether an output shows the same.
 fn shows(outputs: &[Shown], value: &Expr) -> bool
     ensures { result ≡ list_any (λ (o : Output). same_tree o.value (tree value.now)) (map shown outputs.now) }
 {
@@ -63,7 +63,7 @@ fn shows(outputs: &[Shown], value: &Expr) -> bool
     false
 }
 
-/// What the first output of this name shows.
+// What the first output of this name shows.
 fn first_named<'a>(outputs: &'a [Shown], name: &str) -> Option<&'a Expr>
     ensures { IsFirst (filter (spec.is_named name.now) (map shown outputs.now)) result }
 {
@@ -75,7 +75,7 @@ fn first_named<'a>(outputs: &'a [Shown], name: &str) -> Option<&'a Expr>
     None
 }
 
-/// Whether each output of this name shows the same.
+// Whether each output of this name shows the same.
 fn are_same(outputs: &[Shown], name: &str, value: &Expr) -> bool
     ensures { result ≡ list_all (λ (o : Output). same_tree (tree value.now) o.value) (filter (spec.is_named name.now) (map shown outputs.now)) }
 {
@@ -87,7 +87,7 @@ fn are_same(outputs: &[Shown], name: &str, value: &Expr) -> bool
     true
 }
 
-/// What the outputs of this name show: 42702 where two are not the same.
+// What the outputs of this name show: 42702 where two are not the same.
 fn named(alloc: Global, outputs: &[Shown], name: &str) -> Result<Expr, Cause>
     ensures { Gives tree (output_name_causes (map shown outputs.now) name.now) (first_value (filter (spec.is_named name.now) (map shown outputs.now))) result }
 {
@@ -103,7 +103,7 @@ fn named(alloc: Global, outputs: &[Shown], name: &str) -> Result<Expr, Cause>
     }
 }
 
-/// An expression over what is in view: 42P10 under DISTINCT where no output shows it.
+// An expression over what is in view: 42P10 under DISTINCT where no output shows it.
 fn expressed(
     alloc: Global,
     scope: &[Visible<'_>],
@@ -118,7 +118,7 @@ fn expressed(
     Ok(value)
 }
 
-/// 42P10 under DISTINCT where no output shows this.
+// 42P10 under DISTINCT where no output shows this.
 fn check_shown(distinct: bool, outputs: &[Shown], value: &Expr) -> Result<(), Cause>
     ensures { Passes (distinct_causes distinct (map shown outputs.now) (tree value.now)) result }
 {
@@ -132,7 +132,7 @@ fn check_shown(distinct: bool, outputs: &[Shown], value: &Expr) -> Result<(), Ca
     }
 }
 
-/// A key of ORDER BY: the position of an output, the name of one, or an expression.
+// A key of ORDER BY: the position of an output, the name of one, or an expression.
 fn key(
     alloc: Global,
     scope: &[Visible<'_>],

@@ -29,7 +29,7 @@ pub struct Shown {
     pub value: Expr,
 }
 
-/// Each column, in order, the first standing at a place.
+// Each column, in order, the first standing at a place.
 fn push_columns(
     alloc: Global,
     at: usize,
@@ -47,7 +47,7 @@ fn push_columns(
     Ok(())
 }
 
-/// `*`: each column of each entry.
+// `*`: each column of each entry.
 fn push_all(alloc: Global, scope: &[Visible<'_>], out: &mut Vec<Shown>) -> Result<(), Cause>
     ensures { Adds [] (starred 0 None (scope_of scope.now)) (map shown out.old.items) (map shown out.new.items) result }
 {
@@ -63,7 +63,7 @@ fn push_all(alloc: Global, scope: &[Visible<'_>], out: &mut Vec<Shown>) -> Resul
     Ok(())
 }
 
-/// The columns of an entry, if it has this name.
+// The columns of an entry, if it has this name.
 fn push_named(
     alloc: Global,
     at: usize,
@@ -81,7 +81,7 @@ fn push_named(
     }
 }
 
-/// `name.*`: each column of each entry of this name.
+// `name.*`: each column of each entry of this name.
 fn push_all_of(
     alloc: Global,
     scope: &[Visible<'_>],
@@ -102,7 +102,7 @@ fn push_all_of(
     Ok(())
 }
 
-/// The name of an expression without an alias: the column's name, else the function's, parentheses looked through.
+// The name of an expression without an alias: the column's name, else the function's, parentheses looked through.
 fn expression_name(e: &Written) -> &str
     ensures { result.now ≡ expression_name (expr_tree e.now) }
 {
@@ -115,7 +115,7 @@ fn expression_name(e: &Written) -> &str
     }
 }
 
-/// The name of an item.
+// The name of an item.
 fn output_name(alloc: Global, e: &Written, alias: &Option<String>) -> Result<String, Cause>
     ensures ok { IfOk result (λ name. string_bytes name ≡ unwrap_or (option_map string_bytes alias.now) (expression_name (expr_tree e.now))) }
     ensures err { IfErr result (λ c. c ≡ OutOfMemory) }
@@ -126,7 +126,7 @@ fn output_name(alloc: Global, e: &Written, alias: &Option<String>) -> Result<Str
     }
 }
 
-/// An expression as an item.
+// An expression as an item.
 fn push_value(
     alloc: Global,
     scope: &[Visible<'_>],
@@ -142,7 +142,7 @@ fn push_value(
     Ok(())
 }
 
-/// What an item stands for.
+// What an item stands for.
 fn push_item(
     alloc: Global,
     scope: &[Visible<'_>],

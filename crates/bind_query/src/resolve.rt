@@ -62,7 +62,7 @@ fn chain(joint: Joint, parts: Vec<Expr>) -> Expr
     }
 }
 
-/// `count(*)`.
+// `count(*)`.
 fn count_of_rows(name: &str) -> Expr
     ensures { tree result ≡ (if bytes_eq name.now (codes "count") then count_rows else literal NoValue) }
 {
@@ -73,14 +73,14 @@ fn count_of_rows(name: &str) -> Expr
     }
 }
 
-/// What stands for a call that is refused.
+// What stands for a call that is refused.
 fn nothing() -> Expr
     ensures { tree result ≡ literal NoValue }
 {
     Expr::Literal(Value::Null)
 }
 
-/// A call of a function.
+// A call of a function.
 fn applied(alloc: Global, function: SetFunction, mut arguments: Vec<Expr>) -> Result<Expr, Cause>
     ensures { Gives tree [] (aggregate_of (Some function) (trees (map tree arguments.items))) result }
 {
@@ -94,7 +94,7 @@ fn applied(alloc: Global, function: SetFunction, mut arguments: Vec<Expr>) -> Re
     }
 }
 
-/// A call.
+// A call.
 fn aggregate(
     alloc: Global,
     function: Option<SetFunction>,
@@ -116,7 +116,7 @@ fn boxed(alloc: Global, scope: &[Visible<'_>], e: &Written) -> Result<Box<Expr>,
     Ok(Box::new(alloc, resolved)?)
 }
 
-/// Each of them, resolved.
+// Each of them, resolved.
 #[cycle(resolve)]
 fn arguments(alloc: Global, scope: &[Visible<'_>], written: &[Written]) -> Result<Vec<Expr>, Cause>
     ensures { Gives (λ v. trees (map tree v.items)) (name_causes_of_all (scope_of scope.now) (expr_trees written.now)) (resolved_all (scope_of scope.now) (expr_trees written.now)) result }
@@ -129,7 +129,7 @@ fn arguments(alloc: Global, scope: &[Visible<'_>], written: &[Written]) -> Resul
     Ok(parts)
 }
 
-/// A list that begins with this expression and goes on with the others, resolved.
+// A list that begins with this expression and goes on with the others, resolved.
 #[cycle(resolve)]
 fn listed(
     alloc: Global,

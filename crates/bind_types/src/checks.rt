@@ -31,7 +31,7 @@ fn check_join(scope: &[Visible<'_>], join: &Join) -> Result<(), Cause>
     }
 }
 
-/// Refuses an ON by its types. It sees what stands on its left in its own chain, and its own entry.
+// Refuses an ON by its types. It sees what stands on its left in its own chain, and its own entry.
 fn check_joins<'a>(
     alloc: Global,
     first: Visible<'a>,
@@ -90,7 +90,7 @@ fn check_items(scope: &[Visible<'_>], items: &[Item]) -> Result<(), Cause>
     Ok(())
 }
 
-/// Refuses WHERE or HAVING by its types.
+// Refuses WHERE or HAVING by its types.
 fn check_condition(scope: &[Visible<'_>], condition: &Option<Written>) -> Result<(), Cause>
     ensures { Passes (spec.condition_type_causes (scope_of scope.now) (option_map expr_tree condition.now)) result }
 {
@@ -100,7 +100,7 @@ fn check_condition(scope: &[Visible<'_>], condition: &Option<Written>) -> Result
     }
 }
 
-/// Refuses an order key by its types: the position and the name of an output have none.
+// Refuses an order key by its types: the position and the name of an output have none.
 fn check_key(scope: &[Visible<'_>], key: &OrderKey) -> Result<(), Cause>
     ensures { Passes (written_key_causes (scope_of scope.now) (key_tree key.now)) result }
 {
@@ -117,7 +117,7 @@ fn check_keys(scope: &[Visible<'_>], keys: &[OrderKey]) -> Result<(), Cause>
     Ok(())
 }
 
-/// Refuses what is asked of the entries in view by its types.
+// Refuses what is asked of the entries in view by its types.
 fn check_asked(scope: &[Visible<'_>], select: &Select) -> Result<(), Cause>
     ensures { Passes (asked_type_causes (scope_of scope.now) (select_tree select.now)) result }
 {

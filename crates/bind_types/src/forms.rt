@@ -16,7 +16,7 @@ use med_value::Cause;
 use tri_expr::law::{risk_is_of_tree, safe_forms_are_safe};
 use tri_expr::{Expr, Grouping, Join, JoinChain, Select, is_risky};
 
-/// Whether an expression has no one meaning over groups with these keys, given that it is a column.
+// Whether an expression has no one meaning over groups with these keys, given that it is a column.
 fn is_no_key(keys: &[usize], place: usize) -> bool
     ensures { result ≡ spec.is_ungrouped keys.now (Rattle.tri_expr.specs.Tree.column place) }
 {
@@ -40,8 +40,8 @@ fn some_ungrouped(keys: &[usize], parts: &[Expr]) -> bool
     false
 }
 
-/// Whether an expression has no one meaning over groups with these keys: a column outside aggregates is no key, or an aggregate stands in
-/// an aggregate (SQL:2016, 7.13 <group by clause>, 10.9 <aggregate function>).
+// Whether an expression has no one meaning over groups with these keys: a column outside aggregates is no key, or an aggregate stands in
+// an aggregate (SQL:2016, 7.13 <group by clause>, 10.9 <aggregate function>).
 #[cycle(is_ungrouped)]
 fn is_ungrouped(keys: &[usize], e: &Expr) -> bool
     ensures { result ≡ spec.is_ungrouped keys.now (tree e.now) }
@@ -90,7 +90,7 @@ fn any_ungrouped(keys: &[usize], shown: &[Expr]) -> bool
     false
 }
 
-/// Whether an expression may fault, as its tree says.
+// Whether an expression may fault, as its tree says.
 fn may_fault(e: &Expr) -> bool
     ensures { result ≡ is_risky_tree (tree e.now) }
 {
@@ -109,7 +109,7 @@ fn any_fault(conjuncts: &[Expr]) -> bool
     false
 }
 
-/// Refuses an aggregate in WHERE or ON.
+// Refuses an aggregate in WHERE or ON.
 fn check_no_aggregate(conjuncts: &[Expr]) -> Result<(), Cause>
     ensures { Passes (causes.no_aggregate (map tree conjuncts.now)) result }
 {
@@ -120,7 +120,7 @@ fn check_no_aggregate(conjuncts: &[Expr]) -> Result<(), Cause>
     }
 }
 
-/// Refuses an ON that may fault.
+// Refuses an ON that may fault.
 fn check_no_risk(conjuncts: &[Expr]) -> Result<(), Cause>
     ensures { Passes (causes.no_risk (map tree conjuncts.now)) result }
 {
@@ -172,7 +172,7 @@ fn check_from(chains: &[JoinChain]) -> Result<(), Cause>
     Ok(())
 }
 
-/// Refuses what has no one meaning over groups.
+// Refuses what has no one meaning over groups.
 fn check_groups(groups: &Grouping, keys: &[Expr], items: &[Expr]) -> Result<(), Cause>
     ensures { Passes (causes.unless (Rattle.std.specs.Prelude.not (list_any (spec.is_ungrouped (group_form groups.now).keys) ((group_form groups.now).having ++ (map tree keys.now ++ map tree items.now)))) Cause.Grouping) result }
 {

@@ -14,7 +14,7 @@ use med_syntax::{Expr as Written, Status};
 use med_value::{Cause, ColType};
 use tri_expr::SetFunction;
 
-/// Whether an operand of this type can stand where that one is asked.
+// Whether an operand of this type can stand where that one is asked.
 fn takes(asked: ColType, kind: Option<ColType>) -> bool
     ensures { result ≡ spec.takes asked kind }
 {
@@ -27,7 +27,7 @@ fn takes(asked: ColType, kind: Option<ColType>) -> bool
     }
 }
 
-/// Refuses by the cause, unless the operand can stand where the type is asked.
+// Refuses by the cause, unless the operand can stand where the type is asked.
 fn ask(asked: ColType, kind: Option<ColType>, cause: Cause) -> Result<(), Cause>
     ensures { Passes (spec.unless (spec.takes asked kind) cause) result }
 {
@@ -38,7 +38,7 @@ fn ask(asked: ColType, kind: Option<ColType>, cause: Cause) -> Result<(), Cause>
     }
 }
 
-/// The type that both operands can have.
+// The type that both operands can have.
 #[tactic(auto, using(crate::proofs::Types::meets_same, crate::proofs::Types::meets_apart))]
 fn common(a: Option<ColType>, b: Option<ColType>) -> Result<Option<ColType>, Cause>
     ensures { Meets a b result }
@@ -56,7 +56,7 @@ fn common(a: Option<ColType>, b: Option<ColType>) -> Result<Option<ColType>, Cau
     }
 }
 
-/// Refuses two operands of two types.
+// Refuses two operands of two types.
 fn check_two(a: Option<ColType>, b: Option<ColType>) -> Result<(), Cause>
     ensures { Passes (spec.comparing (a ∷ b ∷ [])) result }
 {
@@ -66,7 +66,7 @@ fn check_two(a: Option<ColType>, b: Option<ColType>) -> Result<(), Cause>
     }
 }
 
-/// Refuses three operands of more than one type.
+// Refuses three operands of more than one type.
 fn check_three(a: Option<ColType>, b: Option<ColType>, c: Option<ColType>) -> Result<(), Cause>
     ensures { Passes (spec.comparing (a ∷ b ∷ c ∷ [])) result }
 {
@@ -76,7 +76,7 @@ fn check_three(a: Option<ColType>, b: Option<ColType>, c: Option<ColType>) -> Re
     }
 }
 
-/// Refuses a pattern of LIKE that ends in a lone backslash.
+// Refuses a pattern of LIKE that ends in a lone backslash.
 fn check_pattern(pattern: &str) -> Result<(), Cause>
     ensures { Passes (spec.as_pattern pattern.now) result }
 {
@@ -91,7 +91,7 @@ fn check_pattern(pattern: &str) -> Result<(), Cause>
     }
 }
 
-/// The type of `name(*)`.
+// The type of `name(*)`.
 fn all_rows_kind(function: Option<SetFunction>) -> Option<ColType>
     ensures { result ≡ spec.all_rows_type function }
 {
@@ -101,7 +101,7 @@ fn all_rows_kind(function: Option<SetFunction>) -> Option<ColType>
     }
 }
 
-/// The type of a call of one argument.
+// The type of a call of one argument.
 fn call_kind(function: Option<SetFunction>, argument: Option<ColType>) -> Option<ColType>
     ensures { result ≡ spec.call_type function (argument ∷ []) }
 {
@@ -115,7 +115,7 @@ fn call_kind(function: Option<SetFunction>, argument: Option<ColType>) -> Option
     }
 }
 
-/// Refuses `name(*)`, unless it is `count(*)`.
+// Refuses `name(*)`, unless it is `count(*)`.
 fn check_call_all(function: Option<SetFunction>) -> Result<(), Cause>
     ensures { Passes (spec.as_call_all function) result }
 {
@@ -125,7 +125,7 @@ fn check_call_all(function: Option<SetFunction>) -> Result<(), Cause>
     }
 }
 
-/// Refuses an argument that has no least and no greatest value.
+// Refuses an argument that has no least and no greatest value.
 fn check_ordered(kind: Option<ColType>) -> Result<(), Cause>
     ensures { Passes (spec.as_ordered kind) result }
 {
@@ -136,7 +136,7 @@ fn check_ordered(kind: Option<ColType>) -> Result<(), Cause>
     }
 }
 
-/// Refuses a call of one argument of this type, unless there is such a function.
+// Refuses a call of one argument of this type, unless there is such a function.
 fn check_call(function: Option<SetFunction>, argument: Option<ColType>) -> Result<(), Cause>
     ensures { Passes (spec.as_call function (argument ∷ [])) result }
 {
@@ -148,7 +148,7 @@ fn check_call(function: Option<SetFunction>, argument: Option<ColType>) -> Resul
     }
 }
 
-/// The type of a call; none where it is refused.
+// The type of a call; none where it is refused.
 #[cycle(kind)]
 #[tactic(auto, using(crate::proofs::Calls::several_untyped))]
 fn called_kind(
@@ -167,7 +167,7 @@ fn called_kind(
     }
 }
 
-/// The type of an expression; none for NULL, which takes any. Refused only with 53200, where more columns are in view than there are places.
+// The type of an expression; none for NULL, which takes any. Refused only with 53200, where more columns are in view than there are places.
 #[cycle(kind)]
 fn kind(scope: &[Visible<'_>], e: &Written) -> Result<Option<ColType>, Cause>
     ensures { FindsKind (spec.type_of (scope_of scope.now) (expr_tree e.now)) result }
@@ -229,7 +229,7 @@ fn bounded(scope: &[Visible<'_>], e: &Written, low: &Written, high: &Written) ->
     check_three(e, low, high)
 }
 
-/// Refuses expressions that are compared with one of this type.
+// Refuses expressions that are compared with one of this type.
 #[cycle(check)]
 fn listed(scope: &[Visible<'_>], kind: Option<ColType>, others: &[Written]) -> Result<(), Cause>
     ensures { Passes (spec.type_causes_of_all (scope_of scope.now) (expr_trees others.now) ++ spec.comparing (kind ∷ spec.types_of (scope_of scope.now) (expr_trees others.now))) result }
@@ -280,7 +280,7 @@ fn tested(scope: &[Visible<'_>], e: &Written, status: Status) -> Result<(), Caus
     }
 }
 
-/// Refuses expressions that are no conditions.
+// Refuses expressions that are no conditions.
 #[cycle(check)]
 fn conditions(scope: &[Visible<'_>], others: &[Written]) -> Result<(), Cause>
     ensures { Passes (spec.condition_causes (scope_of scope.now) (expr_trees others.now)) result }
@@ -299,7 +299,7 @@ fn chained(scope: &[Visible<'_>], first: &Written, others: &[Written]) -> Result
     conditions(scope, others)
 }
 
-/// Refuses a call, unless it is one of a function of one argument.
+// Refuses a call, unless it is one of a function of one argument.
 #[cycle(check)]
 fn called(scope: &[Visible<'_>], name: &String, arguments: &[Written]) -> Result<(), Cause>
     ensures { Passes (spec.type_causes_of_all (scope_of scope.now) (expr_trees arguments.now) ++ spec.as_call (function_named (string_bytes name.now)) (spec.types_of (scope_of scope.now) (expr_trees arguments.now))) result }
@@ -310,7 +310,7 @@ fn called(scope: &[Visible<'_>], name: &String, arguments: &[Written]) -> Result
     }
 }
 
-/// Refuses a call of one argument.
+// Refuses a call of one argument.
 #[cycle(check)]
 fn called_with(scope: &[Visible<'_>], name: &String, argument: &Written) -> Result<(), Cause>
     ensures { Passes ((spec.type_causes (scope_of scope.now) (expr_tree argument.now) ++ []) ++ spec.as_call (function_named (string_bytes name.now)) (spec.type_of (scope_of scope.now) (expr_tree argument.now) ∷ [])) result }
@@ -319,7 +319,7 @@ fn called_with(scope: &[Visible<'_>], name: &String, argument: &Written) -> Resu
     check_call(function_named(name.as_str()), argument)
 }
 
-/// Refuses what stands at the parts of an expression.
+// Refuses what stands at the parts of an expression.
 #[cycle(check)]
 fn check(scope: &[Visible<'_>], e: &Written) -> Result<(), Cause>
     ensures { Passes (spec.type_causes (scope_of scope.now) (expr_tree e.now)) result }

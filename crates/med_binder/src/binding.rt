@@ -21,7 +21,7 @@ use med_syntax::{Select, Statement};
 use med_value::Cause;
 use std::alloc::Global;
 
-/// A query over the tables: its names, then its types, then where its aggregates and columns stand.
+// A query over the tables: its names, then its types, then where its aggregates and columns stand.
 fn bind_select(alloc: Global, select: &Select, tables: &[AttachedTable]) -> Result<Bound, Cause>
     ensures binds { Binds (select_name_causes (map table_shape tables.now) (select_tree select.now)) (select_type_causes (map table_shape tables.now) (select_tree select.now)) (meant_in (map table_shape tables.now) (select_tree select.now)) result }
     ensures entries { IfOk result (λ b. All (IsEntryOf tables.now) b.entries.items) }
@@ -33,7 +33,7 @@ fn bind_select(alloc: Global, select: &Select, tables: &[AttachedTable]) -> Resu
     Ok(bound)
 }
 
-/// The query that a statement is.
+// The query that a statement is.
 fn query_of(statement: &Statement) -> &Select
     ensures { statement_tree statement.now ≡ select (select_tree result.now) }
 {
@@ -42,7 +42,7 @@ fn query_of(statement: &Statement) -> &Select
     }
 }
 
-/// A statement over the tables.
+// A statement over the tables.
 fn bind_statement(
     alloc: Global,
     statement: &Statement,

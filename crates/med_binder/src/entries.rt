@@ -12,7 +12,7 @@ use med_syntax::Entry;
 use med_value::Cause;
 use std::alloc::Global;
 
-/// The table that an entry stands for.
+// The table that an entry stands for.
 fn bound_entry(tables: &[AttachedTable], entry: &Entry) -> Result<BoundEntry, Cause>
     ensures { BindsEntry tables.now (entry_tree entry.now) result }
 {

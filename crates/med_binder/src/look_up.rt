@@ -20,20 +20,20 @@ use med_value::Cause;
 use std::alloc::Global;
 use tri_expr::{Expr, JoinChain, Select as Resolved};
 
-/// What is asked of the entries of FROM, its names being resolved.
+// What is asked of the entries of FROM, its names being resolved.
 #[derive(Drop)]
 struct Asked {
-    /// FROM.
+    // FROM.
     from: Vec<JoinChain>,
-    /// What is answered.
+    // What is answered.
     outputs: Vec<Shown>,
-    /// WHERE.
+    // WHERE.
     conditions: Vec<Expr>,
-    /// GROUP BY.
+    // GROUP BY.
     places: Vec<usize>,
-    /// HAVING.
+    // HAVING.
     having: Vec<Expr>,
-    /// ORDER BY.
+    // ORDER BY.
     keys: Vec<Expr>,
 }
 
@@ -67,7 +67,7 @@ fn ask(
     })
 }
 
-/// Names and expressions, each in a list of its own.
+// Names and expressions, each in a list of its own.
 #[derive(Drop)]
 struct Columns {
     names: Vec<String>,
@@ -108,7 +108,7 @@ fn rows_skipped(offset: &Option<u64>) -> usize
     }
 }
 
-/// The query with these parts.
+// The query with these parts.
 fn assemble(
     alloc: Global,
     select: &Select,
