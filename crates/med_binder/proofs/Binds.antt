@@ -4,12 +4,12 @@ use Rattle.med_value.specs.declared.cause.Cause.{Cause}
 use Rattle.med_value.specs.declared.cause.Cause.TheVariants.{OutOfMemory}
 use Rattle.med_syntax.specs.QueryTree.{StatementTree}
 use Rattle.med_binder.specs.declared.bound.Bound.{Bound}
-use Rattle.med_binder.specs.Scope.{TableShape}
-use Rattle.med_binder.specs.Naming.{statement_name_causes}
-use Rattle.med_binder.specs.Typing.{statement_type_causes}
-use Rattle.med_binder.specs.Meaning.{meant}
+use Rattle.bind_names.specs.Scope.{TableShape}
+use Rattle.bind_names.specs.Naming.{statement_name_causes}
+use Rattle.bind_types.specs.Typing.{statement_type_causes}
+use Rattle.bind_names.specs.Meaning.{meant}
 use Rattle.med_binder.specs.Binding.{BindCauses, BindTells}
-use Rattle.med_binder.specs.Telling.{Tells}
+use Rattle.bind_names.specs.Telling.{Tells}
 use Rattle.med_binder.specs.Turns.{TellsInTurn, Binds}
 
 -- ---- one after the other

@@ -6,9 +6,9 @@ use Rattle.med_value.specs.declared.cause.Cause.{Cause}
 use Rattle.med_value.specs.declared.cause.Cause.TheVariants.{UndefinedTable}
 use Rattle.med_syntax.specs.Tree.{Name}
 use Rattle.med_syntax.specs.QueryTree.{EntryTree, SelectTree, StatementTree, select}
-use Rattle.med_binder.specs.Scope.{TableShape, exposed_name, entries_of, place_from, place_named, entry_place}
-use Rattle.med_binder.specs.Naming.{entry_causes, alias_causes, from_causes, asked_causes, once_known, statement_name_causes, NameCauses}
-use Rattle.med_binder.specs.Meaning.{meant}
+use Rattle.bind_names.specs.Scope.{TableShape, exposed_name, entries_of, place_from, place_named, entry_place}
+use Rattle.bind_names.specs.Naming.{entry_causes, alias_causes, from_causes, asked_causes, once_known, statement_name_causes, NameCauses}
+use Rattle.bind_names.specs.Meaning.{meant}
 use Rattle.med_binder.specs.Within.{ArePlacesOf}
 
 -- ---- lists without elements

@@ -16,9 +16,9 @@ use Rattle.tri_expr.specs.Tree.{Tree, Trees, conjunct_trees, conjuncts_of_all, c
 use Rattle.tri_expr.specs.TreeParts.{arguments_in, arguments_in_all}
 use Rattle.med_query.specs.Form.{GroupForm}
 use Rattle.med_value.specs.Datum.{NoValue}
-use Rattle.med_binder.specs.Scope.{TableShape, Scope, is_meant, has_entry, places_from, candidates_from, candidates, columns_of, joined_entry, chain_entries, entries_of, entry_columns, entry_shape, from_scope}
-use Rattle.med_binder.specs.Naming.{counted_causes, column_causes, name_causes, name_causes_of_all, item_name_causes, condition_name_causes, on_name_causes, joins_name_causes, chain_name_causes, group_name_causes, distinct_causes, sort_key_causes, key_name_causes, NameCauses}
-use Rattle.med_binder.specs.Meaning.{Output, one_place, joined, function_named, aggregate_of, resolved, resolved_all, columns_from, starred, item_outputs, outputs_of, conditions_of, SortKey, position, output_name, expression, is_named, sort_key, first_value, sorted_by, key_meant, join_meant, with_join, joins_meant, chain_meant, chains_meant, group_place, groups_rows, group_meant, meant}
+use Rattle.bind_names.specs.Scope.{TableShape, Scope, is_meant, has_entry, places_from, candidates_from, candidates, columns_of, joined_entry, chain_entries, entries_of, entry_columns, entry_shape, from_scope}
+use Rattle.bind_names.specs.Naming.{counted_causes, column_causes, name_causes, name_causes_of_all, item_name_causes, condition_name_causes, on_name_causes, joins_name_causes, chain_name_causes, group_name_causes, distinct_causes, sort_key_causes, key_name_causes, NameCauses}
+use Rattle.bind_names.specs.Meaning.{Output, one_place, joined, function_named, aggregate_of, resolved, resolved_all, columns_from, starred, item_outputs, outputs_of, conditions_of, SortKey, position, output_name, expression, is_named, sort_key, first_value, sorted_by, key_meant, join_meant, with_join, joins_meant, chain_meant, chains_meant, group_place, groups_rows, group_meant, meant}
 use Rattle.med_binder.specs.Within.{IsWithin, AreWithin, widths, widths_of, width_between, JoinWithin, ChainWithin, GroupWithin, FormWithin}
 use Rattle.med_binder.proofs.LawEntries.{left_empty, right_empty, no_asked}
 

@@ -2,20 +2,20 @@
 use Rattle.std.proofs.Common.{◌≡◌, inl, inr, List, [], ◌∷◌, map, flat_map, All, Result, Ok, Err, refl, ap, sym, subst, ◌∙◌, arith}
 use Rattle.med_value.specs.declared.cause.Cause.{Cause}
 use Rattle.med_syntax.specs.QueryTree.{EntryTree, ItemTree, GroupTree, SelectTree}
-use Rattle.med_binder.specs.Scope.{TableShape, Scope, table_shape, visible, scope_of, exposed_name, entry_shape, entries_of, from_scope, entry_place}
-use Rattle.med_binder.specs.Naming.{chain_name_causes, item_name_causes, condition_name_causes, group_name_causes, entry_causes, alias_causes, from_causes, once_known, select_name_causes}
-use Rattle.med_binder.specs.Meaning.{Output, meant_in}
+use Rattle.bind_names.specs.Scope.{TableShape, Scope, table_shape, visible, scope_of, exposed_name, entry_shape, entries_of, from_scope, entry_place}
+use Rattle.bind_names.specs.Naming.{chain_name_causes, item_name_causes, condition_name_causes, group_name_causes, entry_causes, alias_causes, from_causes, once_known, select_name_causes}
+use Rattle.bind_names.specs.Meaning.{Output, meant_in}
 use Rattle.med_binder.specs.Binding.{IsEntryOf}
-use Rattle.med_binder.specs.Shown.{name_of}
-use Rattle.med_binder.specs.Telling.{Tells}
+use Rattle.bind_names.specs.Seen.{name_of}
+use Rattle.bind_names.specs.Telling.{Tells}
 use Rattle.med_binder.specs.Entries.{AreEntriesOf}
 use Rattle.med_binder.specs.Looking.{asked_in, IsAsked, IsAssembled, Assembles, IsLookedUp, LooksUp, form_with}
-use Rattle.med_binder.specs.declared.table.AttachedTable.{AttachedTable}
-use Rattle.med_binder.specs.declared.scope.Visible.{Visible}
+use Rattle.bind_names.specs.declared.table.AttachedTable.{AttachedTable}
+use Rattle.bind_names.specs.declared.scope.Visible.{Visible}
 use Rattle.med_binder.specs.declared.bound.BoundEntry.{BoundEntry}
 use Rattle.med_binder.specs.declared.bound.Bound.{Bound}
 use Rattle.med_binder.specs.declared.look_up.Asked.{Asked}
-use Rattle.med_binder.proofs.Causes.{tells_left, tells_right, tells_memory, none_of_two}
+use Rattle.bind_names.proofs.Causes.{tells_left, tells_right, tells_memory, none_of_two}
 
 -- ---- what is asked of the entries, part by part
 

@@ -3,11 +3,11 @@ use Rattle.std.specs.Prelude.{◌≡◌, ◌⊎◌, List, map, length, Some, sli
 use Rattle.med_value.specs.declared.cause.Cause.{Cause}
 use Rattle.med_syntax.specs.QueryTree.{StatementTree}
 use Rattle.med_query.specs.Form.{form_of}
-use Rattle.med_binder.specs.Scope.{TableShape}
-use Rattle.med_binder.specs.Naming.{NameCauses}
-use Rattle.med_binder.specs.Typing.{TypeCauses}
-use Rattle.med_binder.specs.Meaning.{Meant, meant}
-use Rattle.med_binder.specs.declared.table.AttachedTable.{AttachedTable}
+use Rattle.bind_names.specs.Scope.{TableShape}
+use Rattle.bind_names.specs.Naming.{NameCauses}
+use Rattle.bind_types.specs.Typing.{TypeCauses}
+use Rattle.bind_names.specs.Meaning.{Meant, meant}
+use Rattle.bind_names.specs.declared.table.AttachedTable.{AttachedTable}
 use Rattle.med_binder.specs.declared.bound.BoundEntry.{BoundEntry}
 use Rattle.med_binder.specs.declared.bound.Bound.{Bound}
 

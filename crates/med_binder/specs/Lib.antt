@@ -1,13 +1,5 @@
-pub mod Aggregates
 pub mod Binding
 pub mod Entries
-pub mod Kinds
 pub mod Looking
-pub mod Meaning
-pub mod Naming
-pub mod Scope
-pub mod Shown
-pub mod Telling
 pub mod Turns
-pub mod Typing
 pub mod Within

@@ -4,14 +4,14 @@ use Rattle.med_value.specs.declared.cause.Cause.{Cause}
 use Rattle.med_syntax.specs.QueryTree.{SelectTree}
 use Rattle.tri_expr.specs.Tree.{tree}
 use Rattle.med_query.specs.Form.{Form, chain_form, form_of}
-use Rattle.med_binder.specs.Scope.{TableShape, Scope, table_shape}
-use Rattle.med_binder.specs.Naming.{chain_name_causes, item_name_causes, condition_name_causes, group_name_causes, key_name_causes, select_name_causes}
-use Rattle.med_binder.specs.Meaning.{Output, outputs_of, conditions_of, chains_meant, group_place, key_meant, key_direction, rows_left, groups_rows, meant_in}
+use Rattle.bind_names.specs.Scope.{TableShape, Scope, table_shape}
+use Rattle.bind_names.specs.Naming.{chain_name_causes, item_name_causes, condition_name_causes, group_name_causes, key_name_causes, select_name_causes}
+use Rattle.bind_names.specs.Meaning.{Output, outputs_of, conditions_of, chains_meant, group_place, key_meant, key_direction, rows_left, groups_rows, meant_in}
 use Rattle.med_binder.specs.Binding.{IsMeant, IsEntryOf}
-use Rattle.med_binder.specs.Entries.{group_of}
-use Rattle.med_binder.specs.Shown.{shown}
-use Rattle.med_binder.specs.Telling.{Tells}
-use Rattle.med_binder.specs.declared.table.AttachedTable.{AttachedTable}
+use Rattle.bind_query.specs.Steps.{group_of}
+use Rattle.bind_query.specs.Shown.{shown}
+use Rattle.bind_names.specs.Telling.{Tells}
+use Rattle.bind_names.specs.declared.table.AttachedTable.{AttachedTable}
 use Rattle.med_binder.specs.declared.bound.Bound.{Bound}
 use Rattle.med_binder.specs.declared.bound.BoundEntry.{BoundEntry}
 use Rattle.med_binder.specs.declared.look_up.Asked.{Asked}

@@ -4,7 +4,7 @@ use Rattle.std.specs.Prelude.{ℕ, suc, ◌-◌, ◌<◌, List, length, map, sum
 use Rattle.med_syntax.specs.QueryTree.{StatementTree, select}
 use Rattle.tri_expr.specs.Tree.{Tree, Trees, column, parameter, literal, compare, compute, negate, all_of, some_of, opposite, asks, between, within, matches, parenthesised, count_rows, aggregate, none, part}
 use Rattle.med_query.specs.Form.{JoinForm, cross_form, inner_form, left_form, ChainForm, GroupForm, Form}
-use Rattle.med_binder.specs.Scope.{TableShape, Scope, from_scope}
+use Rattle.bind_names.specs.Scope.{TableShape, Scope, from_scope}
 
 -- each place in a list of tables is that of one of them
 abbrev pub ArePlacesOf : List TableShape → List ℕ → Type 0

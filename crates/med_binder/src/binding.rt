@@ -1,28 +1,27 @@
 //! Statements to bound queries.
 
-ghost use Rattle.std.specs.Prelude.{◌≡◌, ◌⊎◌, map, true, All, IfOk, OnOk, IfErr};
-ghost use Rattle.std.specs.List.{list_all};
-ghost use Rattle.med_value.specs.declared.cause.Cause.{Cause};
-ghost use Rattle.med_syntax.specs.QueryTree.{select};
-ghost use Rattle.med_syntax.specs.QueryView.{select_tree, statement_tree};
-ghost use Rattle.med_query.specs.Select.{is_safe_chain};
-ghost use Rattle.med_binder.specs.Scope.{table_shape};
-ghost use Rattle.med_binder.specs.Naming.{select_name_causes, statement_name_causes};
-ghost use Rattle.med_binder.specs.Typing.{select_type_causes, statement_type_causes};
-ghost use Rattle.med_binder.specs.Meaning.{meant_in, meant};
+ghost use Rattle.bind_names.specs.Meaning.{meant_in, meant};
+ghost use Rattle.bind_names.specs.Naming.{select_name_causes, statement_name_causes};
+ghost use Rattle.bind_names.specs.Scope.{table_shape};
+ghost use Rattle.bind_types.specs.Typing.{select_type_causes, statement_type_causes};
 ghost use Rattle.med_binder.specs.Binding.{IsBound, IsEntryOf, BindCauses, BindTells};
 ghost use Rattle.med_binder.specs.Turns.{Binds};
+ghost use Rattle.med_query.specs.Select.{is_safe_chain};
+ghost use Rattle.med_syntax.specs.QueryTree.{select};
+ghost use Rattle.med_syntax.specs.QueryView.{select_tree, statement_tree};
+ghost use Rattle.med_value.specs.declared.cause.Cause.{Cause};
+ghost use Rattle.std.specs.List.{list_all};
+ghost use Rattle.std.specs.Prelude.{◌≡◌, ◌⊎◌, map, true, All, IfOk, OnOk, IfErr};
 
+use bind_names::AttachedTable;
+use bind_types::{check_form, check_written};
 use crate::bound::Bound;
-use crate::checks::check_written;
-use crate::forms::check_form;
 use crate::look_up::look_up;
-use crate::table::AttachedTable;
 use med_syntax::{Select, Statement};
 use med_value::Cause;
 use std::alloc::Global;
 
-/// A query over the tables: its names, then its types, then where its aggregates and columns stand.
+// A query over the tables: its names, then its types, then where its aggregates and columns stand.
 fn bind_select(alloc: Global, select: &Select, tables: &[AttachedTable]) -> Result<Bound, Cause>
     ensures binds { Binds (select_name_causes (map table_shape tables.now) (select_tree select.now)) (select_type_causes (map table_shape tables.now) (select_tree select.now)) (meant_in (map table_shape tables.now) (select_tree select.now)) result }
     ensures entries { IfOk result (λ b. All (IsEntryOf tables.now) b.entries.items) }
@@ -34,7 +33,7 @@ fn bind_select(alloc: Global, select: &Select, tables: &[AttachedTable]) -> Resu
     Ok(bound)
 }
 
-/// The query that a statement is.
+// The query that a statement is.
 fn query_of(statement: &Statement) -> &Select
     ensures { statement_tree statement.now ≡ select (select_tree result.now) }
 {
@@ -43,7 +42,7 @@ fn query_of(statement: &Statement) -> &Select
     }
 }
 
-/// A statement over the tables.
+// A statement over the tables.
 fn bind_statement(
     alloc: Global,
     statement: &Statement,

@@ -5,10 +5,10 @@ ghost use Rattle.std.specs.Prelude.{◌≡◌, List, Some};
 ghost use Rattle.med_value.specs.Causes.{phase_of};
 ghost use Rattle.med_value.specs.declared.cause.Cause.{Cause as AnyCause};
 ghost use Rattle.med_syntax.specs.QueryTree.{StatementTree};
-ghost use Rattle.med_binder.specs.Scope.{TableShape};
-ghost use Rattle.med_binder.specs.Naming.{NameCauses};
-ghost use Rattle.med_binder.specs.Typing.{TypeCauses};
-ghost use Rattle.med_binder.specs.Meaning.{meant};
+ghost use Rattle.bind_names.specs.Scope.{TableShape};
+ghost use Rattle.bind_names.specs.Naming.{NameCauses};
+ghost use Rattle.bind_types.specs.Typing.{TypeCauses};
+ghost use Rattle.bind_names.specs.Meaning.{meant};
 ghost use Rattle.med_binder.specs.Within.{ArePlacesOf, FormWithin, widths_of};
 
 /// Each cause of names is of phase 3, and each cause of types of phase 4.

@@ -1,33 +1,20 @@
 //! Binds statements: resolves names, checks types, and says what a statement means over the tables that it names.
 //!
-//! `specs/Scope.antt` says what is in view and which columns a name can mean, `specs/Naming.antt` and `specs/Typing.antt` which causes of
-//! refusal stand, `specs/Aggregates.antt` where aggregates and columns may stand in a query that groups, `specs/Meaning.antt` what a
-//! statement means, `specs/Binding.antt` what `bind` answers, and `specs/Within.antt` what the laws in `law` speak of.
+//! What is in view, what a name and a statement mean, and which causes of names stand is said in the crate `bind_names`; which causes of types
+//! stand in `bind_types`, which checks them; the parts of a query are resolved in `bind_query`. Here `specs/Binding.antt` says what `bind`
+//! answers, and `specs/Within.antt` what the laws in `law` speak of.
 //!
-//! `bind` looks all names up (`src/look_up.rt`), then checks the types of what is written (`src/checks.rt`), then where aggregates and columns
-//! stand (`src/forms.rt`). A form of expression is a line in `name_causes`, `type_of`, `type_causes` and `resolved`, and an arm in
-//! `src/resolve.rt` and `src/typing.rt`.
+//! `bind` looks all names up (`src/look_up.rt`), then has the types of what is written checked, then where aggregates and columns stand. A form
+//! of expression is a line in `name_causes`, `type_of`, `type_causes` and `resolved`, and an arm in `src/resolve.rt` of `bind_query` and in
+//! `src/typing.rt` of `bind_types`.
 #![tactic(auto)]
 
-mod aggregates;
 mod binding;
 mod bound;
-mod checks;
-mod forms;
-mod from;
-mod functions;
-mod grouping;
-mod joins;
-mod keys;
+mod entries;
 pub mod law;
 mod look_up;
-mod numbers;
-mod outputs;
-mod resolve;
-mod scope;
-mod table;
-mod typing;
 
+pub use bind_names::AttachedTable;
 pub use binding::bind;
 pub use bound::{Bound, BoundEntry};
-pub use table::AttachedTable;

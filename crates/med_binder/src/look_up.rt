@@ -1,41 +1,40 @@
 //! The names of a query.
-#![tactic(auto, using(crate::proofs::Causes::tells_left, crate::proofs::Causes::tells_right, crate::proofs::Causes::tells_memory, crate::proofs::Causes::tells_one, crate::proofs::Causes::none_of_two, crate::proofs::LookSteps::table_told))]
+#![tactic(auto, using(bind_names::proofs::Causes::tells_left, bind_names::proofs::Causes::tells_right, bind_names::proofs::Causes::tells_memory, bind_names::proofs::Causes::tells_one, bind_names::proofs::Causes::none_of_two, crate::proofs::LookSteps::table_told))]
 
-ghost use Rattle.std.specs.Prelude.{◌≡◌, map, option_map, unwrap_or};
-ghost use Rattle.med_syntax.specs.QueryView.{select_tree, limit_tree};
-ghost use Rattle.med_binder.specs.Scope.{scope_of as seen_as, table_shape};
-ghost use Rattle.med_binder.specs.Meaning.{rows_left};
-ghost use Rattle.med_binder.specs.Shown.{shown};
+ghost use Rattle.bind_names.specs.Meaning.{rows_left};
+ghost use Rattle.bind_names.specs.Scope.{scope_of as seen_as, table_shape};
+ghost use Rattle.bind_query.specs.Shown.{shown};
 ghost use Rattle.med_binder.specs.Looking.{Asks, Splits, Assembles, LooksUp};
+ghost use Rattle.med_syntax.specs.QueryView.{select_tree, limit_tree};
+ghost use Rattle.std.specs.Prelude.{◌≡◌, map, option_map, unwrap_or};
 
+use bind_names::{AttachedTable, Visible, check_names, entries_of, scope_of};
+use bind_query::grouping::grouping;
+use bind_query::joins::{chains, conditions};
+use bind_query::keys::{directions, keys, places};
+use bind_query::outputs::{Shown, outputs_of};
 use crate::bound::{Bound, BoundEntry};
-use crate::from::{bound_entries, check_names, entries_of, scope_of};
-use crate::grouping::grouping;
-use crate::joins::{chains, conditions};
-use crate::keys::{directions, keys, places};
-use crate::outputs::{Shown, outputs_of};
-use crate::scope::Visible;
-use crate::table::AttachedTable;
+use crate::entries::bound_entries;
 use med_query::{JoinChain, Select as Resolved};
 use med_syntax::{Limit, Select};
 use med_value::Cause;
 use std::alloc::Global;
 use tri_expr::Expr;
 
-/// What is asked of the entries of FROM, its names being resolved.
+// What is asked of the entries of FROM, its names being resolved.
 #[derive(Drop)]
 struct Asked {
-    /// FROM.
+    // FROM.
     from: Vec<JoinChain>,
-    /// What is answered.
+    // What is answered.
     outputs: Vec<Shown>,
-    /// WHERE.
+    // WHERE.
     conditions: Vec<Expr>,
-    /// GROUP BY.
+    // GROUP BY.
     places: Vec<usize>,
-    /// HAVING.
+    // HAVING.
     having: Vec<Expr>,
-    /// ORDER BY.
+    // ORDER BY.
     keys: Vec<Expr>,
 }
 
@@ -69,7 +68,7 @@ fn ask(
     })
 }
 
-/// Names and expressions, each in a list of its own.
+// Names and expressions, each in a list of its own.
 #[derive(Drop)]
 struct Columns {
     names: Vec<String>,
@@ -110,7 +109,7 @@ fn rows_skipped(offset: &Option<u64>) -> usize
     }
 }
 
-/// The query with these parts.
+// The query with these parts.
 fn assemble(
     alloc: Global,
     select: &Select,

@@ -7,7 +7,7 @@ use Rattle.fdw_api.specs.State.{BoxState}
 use Rattle.pushdown.specs.Offered.{Place}
 use Rattle.med_exec.specs.Slots.{BoxAt}
 use Rattle.med_planner.specs.Planned.{tuples_of, rows_shown, entry_rows}
-use Rattle.med_binder.specs.Scope.{TableShape}
+use Rattle.bind_names.specs.Scope.{TableShape}
 use Rattle.med_session.specs.World.{ForeignTable, shapes, rows_in}
 use Rattle.med_session.specs.Queries.{entry_tables}
 use Rattle.med_session.specs.Selecting.{shape_of, IsPlaceOf, ArePlaces}

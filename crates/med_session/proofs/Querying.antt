@@ -12,10 +12,10 @@ use Rattle.med_exec.specs.Running.{AllServed, SlotShows, HasFailed, IsUsedUp, Al
 use Rattle.med_syntax.specs.QueryTree.{StatementTree}
 use Rattle.med_parser.specs.QueryGrammar.{HasStatement}
 use Rattle.med_parser.specs.QueryCauses.{SyntaxCauses}
-use Rattle.med_binder.specs.Scope.{TableShape}
-use Rattle.med_binder.specs.Naming.{NameCauses}
-use Rattle.med_binder.specs.Typing.{TypeCauses}
-use Rattle.med_binder.specs.Meaning.{Meant, meant}
+use Rattle.bind_names.specs.Scope.{TableShape}
+use Rattle.bind_names.specs.Naming.{NameCauses}
+use Rattle.bind_types.specs.Typing.{TypeCauses}
+use Rattle.bind_names.specs.Meaning.{Meant, meant}
 use Rattle.med_binder.specs.Binding.{BindCauses}
 use Rattle.med_session.specs.Requests.{sql, IsSid}
 use Rattle.med_session.specs.World.{World, shapes, rows_in}

@@ -30,12 +30,12 @@ use Rattle.med_planner.specs.Planned.{entry_rows, QueryCauses}
 use Rattle.med_exec.specs.Slots.{BoxAt, HasTable}
 use Rattle.med_exec.specs.Running.{AllServed, AllBegin, Stops, lacks_memory, source_fails, numbers_end, query_shows}
 use Rattle.med_syntax.specs.QueryTree.{StatementTree}
-use Rattle.med_binder.specs.Scope.{TableShape, table_shape}
-use Rattle.med_binder.specs.Meaning.{Meant, meant}
+use Rattle.bind_names.specs.Scope.{TableShape, table_shape}
+use Rattle.bind_names.specs.Meaning.{Meant, meant}
 use Rattle.med_binder.specs.Binding.{IsMeant, IsBound, IsEntryOf, BindCauses, BindTells}
 use Rattle.med_binder.specs.declared.bound.Bound.{Bound}
 use Rattle.med_binder.specs.declared.bound.BoundEntry.{BoundEntry}
-use Rattle.med_binder.specs.declared.table.AttachedTable.{AttachedTable}
+use Rattle.bind_names.specs.declared.table.AttachedTable.{AttachedTable}
 use Rattle.med_session.specs.Queries.{query_of}
 use Rattle.med_session.specs.Engine.{Attached, attached}
 use Rattle.med_session.specs.Selecting.{cause_of, answers_given, answers_wanted, shape_of, meant_in, IsBindable, NotBound, IsPlaceOf, ArePlaces, RunAnswers, AnswersOver, RunFails, no_memory, box_fails, numbers_out, shows_cause, Selects, SelectFails, run_fails, too_many}

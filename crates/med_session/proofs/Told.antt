@@ -7,9 +7,9 @@ use Rattle.tri_expr.specs.declared.expr.Fault.TheVariants.{Range, Zero}
 use Rattle.med_syntax.specs.QueryTree.{StatementTree}
 use Rattle.med_parser.specs.QueryGrammar.{HasStatement}
 use Rattle.med_parser.specs.QueryCauses.{SyntaxCauses}
-use Rattle.med_binder.specs.Scope.{TableShape}
-use Rattle.med_binder.specs.Naming.{NameCauses}
-use Rattle.med_binder.specs.Typing.{TypeCauses}
+use Rattle.bind_names.specs.Scope.{TableShape}
+use Rattle.bind_names.specs.Naming.{NameCauses}
+use Rattle.bind_types.specs.Typing.{TypeCauses}
 use Rattle.med_binder.specs.Binding.{BindCauses}
 use Rattle.med_session.specs.Requests.{opening, sql, bye, IsUser}
 use Rattle.med_session.specs.World.{World, IsOpen, shapes}

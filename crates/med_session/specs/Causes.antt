@@ -7,9 +7,9 @@ use Rattle.med_query.specs.Query.{Tables}
 use Rattle.med_syntax.specs.QueryTree.{StatementTree}
 use Rattle.med_parser.specs.QueryGrammar.{HasStatement}
 use Rattle.med_parser.specs.QueryCauses.{SyntaxCauses}
-use Rattle.med_binder.specs.Naming.{NameCauses}
-use Rattle.med_binder.specs.Typing.{TypeCauses}
-use Rattle.med_binder.specs.Meaning.{Meant, meant}
+use Rattle.bind_names.specs.Naming.{NameCauses}
+use Rattle.bind_types.specs.Typing.{TypeCauses}
+use Rattle.bind_names.specs.Meaning.{Meant, meant}
 use Rattle.med_planner.specs.Planned.{QueryCauses}
 use Rattle.med_session.specs.Requests.{Asked, opening, sql, bye, IsUser}
 use Rattle.med_session.specs.World.{World, IsOpen, shapes, rows_in}

@@ -12,7 +12,7 @@ use Rattle.med_session.specs.Steps.{Trouble, Step, with_session}
 use Rattle.med_session.specs.Replies.{Reply, reply_text}
 use Rattle.med_session.specs.declared.sources.SourceKind.{SourceKind}
 use Rattle.med_session.specs.declared.sources.NamedSource.{NamedSource}
-use Rattle.med_binder.specs.declared.table.AttachedTable.{AttachedTable}
+use Rattle.bind_names.specs.declared.table.AttachedTable.{AttachedTable}
 use Rattle.med_session.specs.declared.engine.Engine.{Engine}
 
 pub record Label : Type 0 where

@@ -2,7 +2,7 @@
 use Rattle.std.specs.Prelude.{ℕ, zero, suc, List, [], ◌∷◌}
 use Rattle.med_query.specs.Query.{Query, Tables}
 use Rattle.med_query.specs.Form.{query_by}
-use Rattle.med_binder.specs.Meaning.{Meant}
+use Rattle.bind_names.specs.Meaning.{Meant}
 
 -- the query, over the entries of FROM, which are counted from 0 (ISO/IEC 9075-2, <query specification>)
 abbrev pub query_of : Meant → Query

@@ -13,8 +13,8 @@ use Rattle.pushdown.specs.Offered.{Place}
 use Rattle.med_planner.specs.Planned.{entry_rows, QueryCauses}
 use Rattle.med_exec.specs.Running.{AllServed, SlotShows, HasFailed, IsUsedUp, AllHonest}
 use Rattle.med_syntax.specs.QueryTree.{StatementTree}
-use Rattle.med_binder.specs.Scope.{TableShape}
-use Rattle.med_binder.specs.Meaning.{Meant, meant}
+use Rattle.bind_names.specs.Scope.{TableShape}
+use Rattle.bind_names.specs.Meaning.{Meant, meant}
 use Rattle.med_binder.specs.Binding.{BindCauses, BindTells}
 use Rattle.med_session.specs.Queries.{query_of}
 use Rattle.med_session.specs.Engine.{Attached}

@@ -2,7 +2,7 @@
 use Rattle.std.specs.Prelude.{ℕ, zero, suc, List, [], ◌∷◌, Option, None, IsSome, find, bytes_eq, map}
 use Rattle.med_value.specs.Datum.{Tuple}
 use Rattle.fdw_api.specs.Kinds.{Kind, Column, Holding}
-use Rattle.med_binder.specs.Scope.{TableShape}
+use Rattle.bind_names.specs.Scope.{TableShape}
 use Rattle.med_session.specs.declared.sources.SourceKind.{SourceKind}
 
 -- A source is free, with what its kind means and what it stores under each remote name, or it was dropped and holds nothing.

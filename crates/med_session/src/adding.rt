@@ -1,9 +1,9 @@
 //! Sources that are added, and handed back.
-ghost use Rattle.std.specs.Prelude.{◌≡◌, map, option_map, IfSome, IfNone, IfErr, OnOk, OnErr};
 ghost use Rattle.fdw_api.specs.State.{IsIdle, is_honest};
 ghost use Rattle.med_exec.specs.Slots.{states};
-ghost use Rattle.med_session.specs.Engine.{label, IsNamedAt};
 ghost use Rattle.med_session.specs.Adding.{HasSource};
+ghost use Rattle.med_session.specs.Engine.{label, IsNamedAt};
+ghost use Rattle.std.specs.Prelude.{◌≡◌, map, option_map, IfSome, IfNone, IfErr, OnOk, OnErr};
 
 use crate::engine::Engine;
 use crate::sources::{NamedSource, SourceKind};
@@ -45,10 +45,10 @@ pub(crate) fn place_of_source(sources: &[NamedSource], name: &str) -> Option<usi
 }
 
 impl<W: Wrapper> Engine<W> {
-    ghost use Rattle.med_session.specs.World.{World};
-    ghost use Rattle.med_session.specs.Engine.{shown, IsSound, Agrees, TakesColumns, EachBox, IsAtRest};
     ghost use Rattle.med_session.specs.Adding.{AddCause, Adds, AreCounts};
     ghost use Rattle.med_session.specs.Attaching.{with_source};
+    ghost use Rattle.med_session.specs.Engine.{shown, IsSound, Agrees, TakesColumns, EachBox, IsAtRest};
+    ghost use Rattle.med_session.specs.World.{World};
 
     /// Adds a source under a name, any text, that HANDLER names by this kind. Its wrapper is to be idle: nothing bound, live or staged.
     ///

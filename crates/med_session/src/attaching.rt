@@ -1,12 +1,12 @@
 //! Foreign tables that are attached.
-ghost use Rattle.std.specs.Prelude.{◌≡◌, ◌++◌, ◌∷◌, [], ℕ, map, bytes_eq, string_bytes, IfSome, IfNone, IfOk, IfErr, OnOk, OnErr};
-ghost use Rattle.std.specs.List.{list_any, IsDistinct};
 ghost use Rattle.fdw_api.specs.Calls.{CanBind};
 ghost use Rattle.fdw_api.specs.Kinds.{column_of};
 ghost use Rattle.med_exec.specs.Slots.{states, BoxAt};
-ghost use Rattle.med_session.specs.World.{column_names};
-ghost use Rattle.med_session.specs.Engine.{Label, label, attached};
 ghost use Rattle.med_session.specs.Attaching.{repeats, is_named, stands_for, IsAtPlace, NameFault, NamesFree, BindsDraft, BindFails};
+ghost use Rattle.med_session.specs.Engine.{Label, label, attached};
+ghost use Rattle.med_session.specs.World.{column_names};
+ghost use Rattle.std.specs.List.{list_any, IsDistinct};
+ghost use Rattle.std.specs.Prelude.{◌≡◌, ◌++◌, ◌∷◌, [], ℕ, map, bytes_eq, string_bytes, IfSome, IfNone, IfOk, IfErr, OnOk, OnErr};
 
 use crate::adding::place_of_source;
 use crate::engine::Engine;
@@ -169,9 +169,9 @@ fn bind_draft<W: Wrapper>(
 }
 
 impl<W: Wrapper> Engine<W> {
-    ghost use Rattle.med_session.specs.World.{World};
-    ghost use Rattle.med_session.specs.Engine.{shown, IsSound, Agrees};
     ghost use Rattle.med_session.specs.Attaching.{StateFault, StateFree, BindsTable, AttachFails, IsUnattached, AttachCause, Attaches};
+    ghost use Rattle.med_session.specs.Engine.{shown, IsSound, Agrees};
+    ghost use Rattle.med_session.specs.World.{World};
 
     // The place of the source, where nothing in the engine's state stands against a foreign table for its remote table.
     fn free_place(&self, source: &str, remote: &str, columns: &[ColumnDef]) -> Result<usize, Cause>

@@ -1,6 +1,6 @@
 use Rattle.std.proofs.Common.{map}
 use Rattle.med_syntax.specs.QueryView.{statement_tree}
-use Rattle.med_binder.specs.Scope.{table_shape}
+use Rattle.bind_names.specs.Scope.{table_shape}
 use Rattle.med_binder.proofs.Binds.{binds_read}
 use Rattle.med_binder.proofs.binding.bind.Goals as goal
 

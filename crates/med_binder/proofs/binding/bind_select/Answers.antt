@@ -1,12 +1,12 @@
 use Rattle.std.proofs.Common.{map}
 use Rattle.std.proofs.lemmas.Result.{err_from_is_err_and}
 use Rattle.med_syntax.specs.QueryView.{select_tree}
-use Rattle.med_binder.specs.Scope.{table_shape}
-use Rattle.med_binder.specs.Naming.{select_name_causes}
-use Rattle.med_binder.specs.Typing.{written_type_causes, select_type_causes, form_causes}
-use Rattle.med_binder.specs.Meaning.{meant_in}
+use Rattle.bind_names.specs.Scope.{table_shape}
+use Rattle.bind_names.specs.Naming.{select_name_causes}
+use Rattle.bind_types.specs.Typing.{written_type_causes, select_type_causes, form_causes}
+use Rattle.bind_names.specs.Meaning.{meant_in}
 use Rattle.med_binder.proofs.Binds.{types_then}
-use Rattle.med_binder.proofs.Causes.{tells_left}
+use Rattle.bind_names.proofs.Causes.{tells_left}
 use Rattle.med_binder.proofs.binding.bind_select.Goals as goal
 
 pub returns-in_err-check_written-clause-binds : goal.returns-in_err-check_written-clause-binds

@@ -1,9 +1,9 @@
 use Rattle.std.proofs.Common.{map, sym, subst}
 use Rattle.med_syntax.specs.QueryTree.{StatementTree}
-use Rattle.med_binder.specs.Scope.{table_shape}
-use Rattle.med_binder.specs.Naming.{statement_name_causes}
-use Rattle.med_binder.specs.Typing.{statement_type_causes}
-use Rattle.med_binder.specs.Meaning.{meant}
+use Rattle.bind_names.specs.Scope.{table_shape}
+use Rattle.bind_names.specs.Naming.{statement_name_causes}
+use Rattle.bind_types.specs.Typing.{statement_type_causes}
+use Rattle.bind_names.specs.Meaning.{meant}
 use Rattle.med_binder.specs.Turns.{Binds}
 use Rattle.med_binder.proofs.binding.bind_statement.Goals as goal
 

@@ -1,7 +1,7 @@
 use Rattle.std.proofs.Common.{map, ap}
 use Rattle.std.proofs.lemmas.Result.{err_from_is_err_and}
 use Rattle.med_syntax.specs.QueryView.{item_tree, group_tree, select_tree}
-use Rattle.med_binder.specs.Scope.{table_shape, scope_of}
+use Rattle.bind_names.specs.Scope.{table_shape, scope_of}
 use Rattle.med_binder.proofs.LookSteps.{item_told, condition_told, group_told, having_told}
 use Rattle.med_binder.proofs.look_up.ask.Goals as goal
 

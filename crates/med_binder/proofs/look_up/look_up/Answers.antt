@@ -1,11 +1,11 @@
 use Rattle.std.proofs.Common.{◌≡◌, [], ◌∙◌, map, flat_map, ap, sym, subst}
 use Rattle.std.proofs.lemmas.Result.{err_from_is_err_and}
 use Rattle.med_syntax.specs.QueryView.{chain_tree, select_tree}
-use Rattle.med_binder.specs.Scope.{table_shape, scope_of, entry_shape, entries_of}
-use Rattle.med_binder.specs.Naming.{entry_causes, alias_causes}
-use Rattle.med_binder.specs.Shown.{seen_entry, name_of}
+use Rattle.bind_names.specs.Scope.{table_shape, scope_of, entry_shape, entries_of}
+use Rattle.bind_names.specs.Naming.{entry_causes, alias_causes}
+use Rattle.bind_names.specs.Seen.{seen_entry, name_of}
 use Rattle.med_binder.specs.Entries.{AreEntriesOf}
-use Rattle.med_binder.specs.Telling.{Tells}
+use Rattle.bind_names.specs.Telling.{Tells}
 use Rattle.med_binder.specs.Looking.{IsAsked, asked_in}
 use Rattle.med_binder.proofs.LookSteps.{name_told, asked_told, answered}
 use Rattle.med_binder.proofs.look_up.look_up.Goals as goal

@@ -1,8 +1,8 @@
 use Rattle.std.proofs.Common.{◌≡◌, ◌++◌, map, string_bytes}
 use Rattle.std.specs.Vec.Iter.{into_iter_items}
 use Rattle.tri_expr.specs.Tree.{tree}
-use Rattle.med_binder.specs.Meaning.{Output}
-use Rattle.med_binder.specs.Shown.{shown}
+use Rattle.bind_names.specs.Meaning.{Output}
+use Rattle.bind_query.specs.Shown.{shown}
 use Rattle.med_binder.proofs.look_up.split.Given as goal
 
 abbrev pub invariant-loop-output : goal.invariant-loop-output

@@ -4,7 +4,7 @@ use Rattle.fdw_api.specs.Kinds.{column_of}
 use Rattle.med_exec.specs.Slots.{states}
 use Rattle.med_session.specs.Engine.{shown, attached}
 use Rattle.med_session.specs.Attaching.{NamesFree, by_state}
-use Rattle.med_binder.specs.declared.table.AttachedTable.{AttachedTable}
+use Rattle.bind_names.specs.declared.table.AttachedTable.{AttachedTable}
 use Rattle.med_session.proofs.AttachingBinds.{can_bind, is_ready, fails_after}
 use Rattle.med_session.proofs.engine.Engine.attach_table.Goals as goal
 

@@ -6,7 +6,7 @@ use Rattle.fdw_api.specs.Kinds.{column_of}
 use Rattle.med_exec.specs.Slots.{states}
 use Rattle.med_session.specs.Engine.{Label, label, attached}
 use Rattle.med_session.specs.Attaching.{IsAtPlace, stands_for, no_place, in_use}
-use Rattle.med_binder.specs.declared.table.AttachedTable.{AttachedTable}
+use Rattle.bind_names.specs.declared.table.AttachedTable.{AttachedTable}
 use Rattle.med_session.proofs.AttachingWorlds.{list_any_map}
 use Rattle.med_session.proofs.engine.Engine.free_place.Goals as goal
 

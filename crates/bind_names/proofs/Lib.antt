@@ -1,0 +1,5 @@
+pub mod Added
+pub mod Causes
+pub mod Parts
+pub mod Places
+pub mod Tables

@@ -1,0 +1,6 @@
+pub mod Aggregates
+pub mod Meaning
+pub mod Naming
+pub mod Scope
+pub mod Seen
+pub mod Telling

@@ -1,0 +1,264 @@
+-- What a statement means over tables, its names being resolved.
+use Rattle.std.specs.Prelude.{ℕ, suc, ◌+◌, ◌-◌, ℤ, pos, neg_ℤ, min, Bool, true, false, not, ◌||◌, List, [], ◌∷◌, ◌++◌, length, map, filter, flat_map, drop, Option, Some, None, unwrap_or, codes, bytes_eq, if◌then◌else◌}
+use Rattle.std.specs.Option.{is_some}
+use Rattle.std.specs.List.{list_any}
+use Rattle.med_value.specs.Column.{Column}
+use Rattle.med_value.specs.Datum.{NoValue, Whole, Chars, Logic}
+use Rattle.med_syntax.specs.Tree.{Name}
+use Rattle.med_syntax.specs.declared.expr.BinaryOp.{BinaryOp}
+use Rattle.med_syntax.specs.declared.expr.BinaryOp.TheVariants as arithmetic
+use Rattle.med_syntax.specs.declared.expr.CompareOp.{CompareOp}
+use Rattle.med_syntax.specs.declared.expr.CompareOp.TheVariants as comparisons
+use Rattle.med_syntax.specs.declared.expr.Status.{Status}
+use Rattle.med_syntax.specs.declared.expr.Status.TheVariants as statuses
+use Rattle.med_syntax.specs.declared.expr.Joint.{Joint}
+use Rattle.med_syntax.specs.declared.expr.Joint.TheVariants.{Or, And}
+use Rattle.med_syntax.specs.ExprTree.{ExprTree, ExprTrees}
+use Rattle.med_syntax.specs.ExprTree as w
+use Rattle.tri_expr.specs.declared.expr.Operation.{Operation}
+use Rattle.tri_expr.specs.declared.expr.Operation.TheVariants.{Add, Subtract, Multiply, Divide, Remainder}
+use Rattle.tri_expr.specs.declared.expr.Comparison.{Comparison}
+use Rattle.tri_expr.specs.declared.expr.Comparison.TheVariants.{Equal, Apart, Below, AtMost, Above, AtLeast}
+use Rattle.tri_expr.specs.declared.expr.Test.{Test}
+use Rattle.tri_expr.specs.declared.expr.Test.TheVariants as tests
+use Rattle.tri_expr.specs.declared.expr.SetFunction.{SetFunction}
+use Rattle.tri_expr.specs.declared.expr.SetFunction.TheVariants.{Count, Sum, Min, Max}
+use Rattle.med_query.specs.Query.{Direction}
+use Rattle.tri_expr.specs.TreeParts.{arguments_in}
+use Rattle.med_query.specs.Form.{JoinForm, cross_form, inner_form, left_form, ChainForm, GroupForm, Form}
+use Rattle.bind_names.specs.Aggregates.{has_aggregate}
+use Rattle.tri_expr.specs.Tree.{Tree, Trees, conjunct_trees, column, literal, compare, compute, negate, all_of, some_of, opposite, asks, between, within, matches, parenthesised, count_rows, aggregate, none, part}
+use Rattle.med_syntax.specs.QueryTree.{ItemTree, all, all_of as all_of_entry, value, JoinTree, inner_join, left_join, cross_join, ChainTree, GroupTree, KeyTree, LimitTree, no_limit, rows, SelectTree, StatementTree, select}
+use Rattle.bind_names.specs.Scope.{TableShape, Scope, is_meant, candidates, joined_entry, chain_entries, entry_columns, entry_shape, from_scope, from_places}
+
+abbrev pub operation_of : BinaryOp → Operation
+operation_of arithmetic.Add = Add
+operation_of arithmetic.Sub = Subtract
+operation_of arithmetic.Mul = Multiply
+operation_of arithmetic.Div = Divide
+operation_of arithmetic.Rem = Remainder
+
+abbrev pub comparison_of : CompareOp → Comparison
+comparison_of comparisons.Equal = Equal
+comparison_of comparisons.Differ = Apart
+comparison_of comparisons.Less = Below
+comparison_of comparisons.AtMost = AtMost
+comparison_of comparisons.Greater = Above
+comparison_of comparisons.AtLeast = AtLeast
+
+abbrev pub test_of : Status → Test
+test_of statuses.Null = tests.Null
+test_of statuses.True = tests.True
+test_of statuses.False = tests.False
+test_of statuses.Unknown = tests.Unknown
+
+-- the one place that a name means; where a cause of names stands there is none, and the place says nothing
+abbrev pub one_place : List ℕ → ℕ
+one_place [] = 0
+one_place (p ∷ ps) = p
+
+-- A number literal, and one directly behind a minus. A statement that was read has them in range; what is beyond it counts as the
+-- nearest number of the type.
+abbrev pub number_of : ℕ → ℤ
+number_of n = pos (min n 9223372036854775807)
+
+abbrev pub negative_of : ℕ → ℤ
+negative_of n = neg_ℤ (pos (min n 9223372036854775808))
+
+abbrev pub joined : Joint → Trees → Tree
+joined And ts = all_of ts
+joined Or ts = some_of ts
+
+-- count, sum, min and max by their names
+abbrev pub function_named : Name → Option SetFunction
+function_named f =
+    if bytes_eq f (codes "count") then Some Count else if bytes_eq f (codes "sum") then Some Sum
+    else if bytes_eq f (codes "min") then Some Min else if bytes_eq f (codes "max") then Some Max else None
+
+-- An aggregate of one argument. Another call is refused, and says nothing.
+abbrev pub aggregate_of : Option SetFunction → Trees → Tree
+aggregate_of (Some f) (part a none) = aggregate f a
+aggregate_of f ts = literal NoValue
+
+-- each name by its place; AND, OR and IN with all their parts in one list
+abbrev mutual
+  pub resolved : Scope → ExprTree → Tree
+  resolved s (w.num n) = literal (Whole (number_of n))
+  resolved s (w.negative n) = literal (Whole (negative_of n))
+  resolved s (w.text x) = literal (Chars x)
+  resolved s (w.truth b) = literal (Logic b)
+  resolved s w.null = literal NoValue
+  resolved s (w.column q n) = column (one_place (candidates s q n))
+  resolved s (w.call_all f) = if bytes_eq f (codes "count") then count_rows else literal NoValue
+  resolved s (w.call f es) = aggregate_of (function_named f) (resolved_all s es)
+  resolved s (w.paren e) = parenthesised (resolved s e)
+  resolved s (w.minus e) = negate (resolved s e)
+  resolved s (w.binary op a b) = compute (operation_of op) (resolved s a) (resolved s b)
+  resolved s (w.between neg e low high) = between neg (resolved s e) (resolved s low) (resolved s high)
+  resolved s (w.among neg e first others) = within neg (resolved s e) (part (resolved s first) (resolved_all s others))
+  resolved s (w.like neg e x) = matches neg (resolved s e) x
+  resolved s (w.compare op a b) = compare (comparison_of op) (resolved s a) (resolved s b)
+  resolved s (w.tested neg e t) = asks (test_of t) neg (resolved s e)
+  resolved s (w.negation e) = opposite (resolved s e)
+  resolved s (w.chain joint first others) = joined joint (part (resolved s first) (resolved_all s others))
+
+  pub resolved_all : Scope → ExprTrees → Trees
+  resolved_all s w.none = none
+  resolved_all s (w.more e es) = part (resolved s e) (resolved_all s es)
+
+-- what a query answers in one place of its rows, and its name there
+pub record Output : Type 0 where
+  pub name : Name
+  pub value : Tree
+
+-- each column of an entry, the first column standing at this place
+abbrev pub columns_from : ℕ → List Column → List Output
+columns_from at [] = []
+columns_from at (c ∷ cs) = record { name = c.name; value = column at } ∷ columns_from (suc at) cs
+
+-- `*` and `q.*`: each column of the entries that are meant, in order
+abbrev pub starred : ℕ → Option Name → Scope → List Output
+starred at q [] = []
+starred at q (e ∷ es) = (if is_meant q e then columns_from at e.columns else []) ++ starred (at + length e.columns) q es
+
+-- the name of an expression without an alias: the column's name, else the function's, parentheses looked through, else ?column?
+abbrev pub expression_name : ExprTree → Name
+expression_name (w.column q n) = n
+expression_name (w.call_all f) = f
+expression_name (w.call f es) = f
+expression_name (w.paren e) = expression_name e
+expression_name _ = codes "?column?"
+
+abbrev pub item_outputs : Scope → ItemTree → List Output
+item_outputs s all = starred 0 None s
+item_outputs s (all_of_entry q) = starred 0 (Some q) s
+item_outputs s (value e alias) = record { name = unwrap_or alias (expression_name e); value = resolved s e } ∷ []
+
+-- the outputs of a select list, in order
+abbrev pub outputs_of : Scope → List ItemTree → List Output
+outputs_of s items = flat_map (item_outputs s) items
+
+-- the conjuncts of WHERE or HAVING; none without it
+abbrev pub conditions_of : Scope → Option ExprTree → List Tree
+conditions_of s None = []
+conditions_of s (Some e) = conjunct_trees (resolved s e)
+
+-- ---- ORDER BY (SQL:2016, <sort specification list>)
+
+-- A key is an unsigned number, which is the position of an output from 1 on; the unqualified name of an output; or else an expression over
+-- what is in view. Parentheses are looked through.
+pub data SortKey : Type 0 where
+  position : ℕ → SortKey
+  output_name : Name → SortKey
+  expression : ExprTree → SortKey
+
+abbrev pub is_named : Name → Output → Bool
+is_named n o = bytes_eq o.name n
+
+abbrev pub sort_key : List Output → ExprTree → SortKey
+sort_key outs (w.paren e) = sort_key outs e
+sort_key outs (w.num n) = position n
+sort_key outs (w.column None n) = if list_any (is_named n) outs then output_name n else expression (w.column None n)
+sort_key outs e = expression e
+
+-- what the first of these outputs shows; of none nothing is known
+abbrev pub first_value : List Output → Tree
+first_value [] = literal NoValue
+first_value (o ∷ os) = o.value
+
+abbrev pub sorted_by : Scope → List Output → SortKey → Tree
+sorted_by s outs (position n) = first_value (drop (n - 1) outs)
+sorted_by s outs (output_name n) = first_value (filter (is_named n) outs)
+sorted_by s outs (expression e) = resolved s e
+
+abbrev pub key_meant : Scope → List Output → KeyTree → Tree
+key_meant s outs k = sorted_by s outs (sort_key outs k.key)
+
+abbrev pub key_direction : KeyTree → Direction
+key_direction k = record { descending = k.descending; nulls_first = k.nulls_first }
+
+-- ---- FROM (SQL:2016, <from clause>, <joined table>)
+
+-- A join with the entry of this number. ON sees what stands on its left in its own chain, and its own entry.
+abbrev pub join_meant : Scope → ℕ → ℕ → JoinTree → JoinForm
+join_meant s number width (inner_join e on) = inner_form number (conjunct_trees (resolved s on))
+join_meant s number width (left_join e on) = left_form number width (conjunct_trees (resolved s on))
+join_meant s number width (cross_join e) = cross_form number
+
+-- the entries before, with what a join brings
+abbrev pub with_join : List TableShape → Scope → JoinTree → Scope
+with_join tables before j = before ++ (entry_shape tables (joined_entry j) ∷ [])
+
+abbrev pub joins_meant : List TableShape → Scope → ℕ → List JoinTree → List JoinForm
+joins_meant tables before number [] = []
+joins_meant tables before number (j ∷ js) =
+    let s = with_join tables before j in
+    join_meant s number (length (entry_columns tables (joined_entry j))) j ∷ joins_meant tables s (suc number) js
+
+-- a chain whose first entry has this number
+abbrev pub chain_meant : List TableShape → ℕ → ChainTree → ChainForm
+chain_meant tables number c = record { first = number; joins = joins_meant tables (entry_shape tables c.first ∷ []) (suc number) c.joins }
+
+-- the chains, their entries being counted over all of FROM from the left
+abbrev pub chains_meant : List TableShape → ℕ → List ChainTree → List ChainForm
+chains_meant tables number [] = []
+chains_meant tables number (c ∷ cs) = chain_meant tables number c ∷ chains_meant tables (number + length (chain_entries c)) cs
+
+-- ---- GROUP BY, HAVING and aggregates (SQL:2016, <group by clause>, <having clause>)
+
+abbrev pub group_place : Scope → GroupTree → ℕ
+group_place s g = one_place (candidates s g.qualifier g.column)
+
+abbrev pub is_empty : {X : Type 0} → List X → Bool
+is_empty [] = true
+is_empty (x ∷ xs) = false
+
+-- With GROUP BY, HAVING or an aggregate the query groups.
+abbrev pub groups_rows : SelectTree → List Tree → Bool
+groups_rows q shown = not (is_empty q.groups) || (is_some q.having || list_any has_aggregate shown)
+
+-- the groups of a query whose items and order keys are these
+abbrev pub group_meant : Scope → SelectTree → List Tree → Option GroupForm
+group_meant s q shown =
+    let having = conditions_of s q.having in
+    if groups_rows q shown then Some (record { keys = map (group_place s) q.groups; arguments = flat_map arguments_in (having ++ shown); having = having }) else None
+
+-- ---- the whole
+
+abbrev pub rows_left : Option LimitTree → Option ℕ
+rows_left None = None
+rows_left (Some no_limit) = None
+rows_left (Some (rows n)) = Some n
+
+-- A query in terms of places: the names of the answer's columns, the place of each entry's table in the list of tables, and what is asked of
+-- these entries, which are counted from 0.
+pub record Meant : Type 0 where
+  pub names : List Name
+  pub entries : List ℕ
+  pub form : Form
+
+abbrev pub meant_in : List TableShape → SelectTree → Meant
+meant_in tables q =
+    let s = from_scope tables q.from in
+    let outs = outputs_of s q.items in
+    let items = map (λ (o : Output). o.value) outs in
+    let keys = map (key_meant s outs) q.keys in
+    record {
+      names = map (λ (o : Output). o.name) outs;
+      entries = from_places tables q.from;
+      form = record {
+        from = chains_meant tables 0 q.from;
+        conditions = conditions_of s q.condition;
+        group = group_meant s q (keys ++ items);
+        items = items;
+        unique = q.distinct;
+        keys = keys;
+        towards = map key_direction q.keys;
+        offset = unwrap_or q.offset 0;
+        limit = rows_left q.limit;
+      };
+    }
+
+-- what a statement means, where no cause of names or types stands
+abbrev pub meant : List TableShape → StatementTree → Meant
+meant tables (select q) = meant_in tables q

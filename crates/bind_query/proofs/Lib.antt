@@ -1,0 +1,4 @@
+pub mod JoinSteps
+pub mod KeySteps
+pub mod Starred
+pub mod Trees

@@ -1,0 +1,12 @@
+use Rattle.std.proofs.Common.{◌≡◌, ◌++◌, map, flat_map, drop}
+use Rattle.med_syntax.specs.QueryView.{group_tree}
+use Rattle.bind_names.specs.Scope.{scope_of}
+use Rattle.bind_names.specs.Naming.{group_name_causes}
+use Rattle.bind_names.specs.Meaning.{group_place}
+use Rattle.bind_query.proofs.keys.places.Given as goal
+
+abbrev pub invariant-loop-group : goal.invariant-loop-group
+invariant-loop-group l = record {
+  causes : flat_map (group_name_causes (scope_of l.scope)) (map group_tree l.groups) ≡ flat_map (group_name_causes (scope_of l.scope)) (map group_tree (drop l.group-index l.groups));
+  places : l.out.items ++ map (group_place (scope_of l.scope)) (map group_tree (drop l.group-index l.groups)) ≡ map (group_place (scope_of l.scope)) (map group_tree l.groups);
+}

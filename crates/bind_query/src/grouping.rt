@@ -1,0 +1,78 @@
+//! Groups.
+#![tactic(auto, using(bind_names::proofs::Causes::tells_memory, bind_names::proofs::Added::added_end))]
+
+ghost use Rattle.bind_names.specs.Meaning.{groups_rows};
+ghost use Rattle.bind_names.specs.Telling.{Gives, Adds};
+ghost use Rattle.bind_query.specs.Steps.{group_of};
+ghost use Rattle.med_query.specs.Form.{group_form};
+ghost use Rattle.med_syntax.specs.QueryView.{select_tree};
+ghost use Rattle.std.specs.List.{list_any};
+ghost use Rattle.std.specs.Option.{is_some};
+ghost use Rattle.std.specs.Prelude.{◌≡◌, ◌++◌, [], not, ◌||◌, map, flat_map, option_map};
+ghost use Rattle.tri_expr.specs.Tree.{tree};
+ghost use Rattle.tri_expr.specs.TreeParts.{arguments_in};
+
+use bind_names::any_has_aggregate;
+use med_query::Grouping;
+use med_syntax::Select as WrittenSelect;
+use med_value::Cause;
+use std::alloc::Global;
+use tri_expr::{Expr, arguments};
+
+fn push_arguments(alloc: Global, es: &[Expr], out: &mut Vec<Expr>) -> Result<(), Cause>
+    ensures { Adds [] (flat_map arguments_in (map tree es.now)) (map tree out.old.items) (map tree out.new.items) result }
+{
+    for e in es {
+        let mut more = arguments(alloc, e)?;
+        out.append(&mut more)?;
+    }
+    Ok(())
+}
+
+// The arguments of the aggregates of HAVING, order keys and items.
+fn all_arguments(
+    alloc: Global,
+    having: &[Expr],
+    keys: &[Expr],
+    items: &[Expr],
+) -> Result<Vec<Expr>, Cause>
+    ensures { Gives (λ v. map tree v.items) [] (flat_map arguments_in (map tree having.now ++ (map tree keys.now ++ map tree items.now))) result }
+{
+    let mut out = Vec::new(alloc);
+    push_arguments(alloc, having, &mut out)?;
+    push_arguments(alloc, keys, &mut out)?;
+    push_arguments(alloc, items, &mut out)?;
+    Ok(out)
+}
+
+// Whether the query groups: it has GROUP BY, HAVING or an aggregate.
+fn groups_rows(select: &WrittenSelect, keys: &[Expr], items: &[Expr]) -> bool
+    ensures { result ≡ groups_rows (select_tree select.now) (map tree keys.now ++ map tree items.now) }
+{
+    !select.groups.as_slice().is_empty()
+        || select.having.is_some()
+        || any_has_aggregate(keys)
+        || any_has_aggregate(items)
+}
+
+/// The groups of a query, if it groups: by the columns in these places, with these conjuncts of HAVING.
+pub fn grouping(
+    alloc: Global,
+    select: &WrittenSelect,
+    places: Vec<usize>,
+    having: Vec<Expr>,
+    keys: &[Expr],
+    items: &[Expr],
+) -> Result<Option<Grouping>, Cause>
+    ensures { Gives (option_map group_form) [] (group_of (groups_rows (select_tree select.now) (map tree keys.now ++ map tree items.now)) places.items (map tree having.items) (map tree keys.now ++ map tree items.now)) result }
+{
+    if !groups_rows(select, keys, items) {
+        return Ok(None);
+    }
+    let arguments = all_arguments(alloc, having.as_slice(), keys, items)?;
+    Ok(Some(Grouping {
+        keys: places,
+        arguments,
+        having,
+    }))
+}

@@ -1,0 +1,161 @@
+//! What the joins of FROM mean.
+#![tactic(auto, using(bind_names::proofs::Causes::tells_left, bind_names::proofs::Causes::tells_right, bind_names::proofs::Causes::tells_memory, bind_names::proofs::Causes::tells_one, bind_names::proofs::Causes::none_of_two, crate::proofs::JoinSteps::one_suc, crate::proofs::JoinSteps::after_chain))]
+
+ghost use Rattle.bind_names.specs.Meaning.{resolved, conditions_of, join_meant, joins_meant, chain_meant, chains_meant};
+ghost use Rattle.bind_names.specs.Naming.{name_causes, condition_name_causes, on_name_causes, joins_name_causes, chain_name_causes};
+ghost use Rattle.bind_names.specs.Scope.{scope_of, table_shape, entry_shape, chain_entries};
+ghost use Rattle.bind_names.specs.Telling.{Gives};
+ghost use Rattle.bind_query.specs.Steps.{AddsJoin};
+ghost use Rattle.med_query.specs.Form.{join_form, chain_form};
+ghost use Rattle.med_syntax.specs.ExprView.{expr_tree};
+ghost use Rattle.med_syntax.specs.QueryView.{entry_tree, join_tree, chain_tree};
+ghost use Rattle.std.specs.Prelude.{◌≡◌, ℕ, ◌+◌, ◌∷◌, [], map, flat_map, length, option_map, suc};
+ghost use Rattle.tri_expr.specs.Tree.{tree, conjunct_trees};
+
+use bind_names::{AttachedTable, Visible, joined_entry, visible_of};
+use crate::resolve::resolve;
+use med_query::{Join, JoinChain};
+use med_syntax::{Chain, Entry, Expr as Written, Join as WrittenJoin};
+use med_value::Cause;
+use std::alloc::Global;
+use tri_expr::{Expr, conjuncts};
+
+// The conjuncts of a condition.
+fn conjuncts_of(
+    alloc: Global,
+    scope: &[Visible<'_>],
+    condition: &Written,
+) -> Result<Vec<Expr>, Cause>
+    ensures { Gives (λ v. map tree v.items) (name_causes (scope_of scope.now) (expr_tree condition.now)) (conjunct_trees (resolved (scope_of scope.now) (expr_tree condition.now))) result }
+{
+    let resolved = resolve(alloc, scope, condition)?;
+    Ok(conjuncts(alloc, &resolved)?)
+}
+
+/// The conjuncts of WHERE or HAVING; none without it.
+pub fn conditions(
+    alloc: Global,
+    scope: &[Visible<'_>],
+    condition: &Option<Written>,
+) -> Result<Vec<Expr>, Cause>
+    ensures { Gives (λ v. map tree v.items) (condition_name_causes (scope_of scope.now) (option_map expr_tree condition.now)) (conditions_of (scope_of scope.now) (option_map expr_tree condition.now)) result }
+{
+    match condition {
+        None => Ok(Vec::new(alloc)),
+        Some(e) => conjuncts_of(alloc, scope, e),
+    }
+}
+
+// A join with the entry of this number.
+fn join(
+    alloc: Global,
+    scope: &[Visible<'_>],
+    table: usize,
+    width: usize,
+    join: &WrittenJoin,
+) -> Result<Join, Cause>
+    ensures { Gives join_form (on_name_causes (scope_of scope.now) (join_tree join.now)) (join_meant (scope_of scope.now) table width (join_tree join.now)) result }
+{
+    match join {
+        WrittenJoin::Inner(_, on) => {
+            let on = conjuncts_of(alloc, scope, on)?;
+            Ok(Join::Inner { table, on })
+        }
+        WrittenJoin::Left(_, on) => {
+            let on = conjuncts_of(alloc, scope, on)?;
+            Ok(Join::Left { table, width, on })
+        }
+        WrittenJoin::Cross(_) => Ok(Join::Cross { table }),
+    }
+}
+
+// One join more, behind the entry of a number; what its entry brings stands behind the scope. Answers the number of its entry.
+fn push_join<'a>(
+    alloc: Global,
+    tables: &'a [AttachedTable],
+    written: &'a WrittenJoin,
+    last: usize,
+    scope: &mut Vec<Visible<'a>>,
+    out: &mut Vec<Join>,
+) -> Result<usize, Cause>
+    ensures { AddsJoin (map table_shape tables.now) last (join_tree written.now) (scope_of scope.old.items) (scope_of scope.new.items) (map join_form out.old.items) (map join_form out.new.items) result }
+{
+    let table = match last.checked_add(1) {
+        Some(table) => table,
+        None => return Err(Cause::OutOfMemory),
+    };
+    let visible = visible_of(tables, joined_entry(written));
+    let width = visible.columns.len();
+    scope.push(visible)?;
+    let joined = join(alloc, scope.as_slice(), table, width, written)?;
+    out.push(joined)?;
+    Ok(table)
+}
+
+// The joins behind the entry of this number. ON sees what stands on its left in its own chain, and its own entry.
+fn joins(
+    alloc: Global,
+    tables: &[AttachedTable],
+    first: &Entry,
+    number: usize,
+    joins: &[WrittenJoin],
+) -> Result<Vec<Join>, Cause>
+    ensures { Gives (λ v. map join_form v.items) (joins_name_causes (map table_shape tables.now) (entry_shape (map table_shape tables.now) (entry_tree first.now) ∷ []) (map join_tree joins.now)) (joins_meant (map table_shape tables.now) (entry_shape (map table_shape tables.now) (entry_tree first.now) ∷ []) (suc number) (map join_tree joins.now)) result }
+{
+    let mut scope = Vec::new(alloc);
+    scope.push(visible_of(tables, first))?;
+    let mut out = Vec::new(alloc);
+    let mut last = number;
+    for written in joins {
+        last = push_join(alloc, tables, written, last, &mut scope, &mut out)?;
+    }
+    Ok(out)
+}
+
+// A chain whose first entry has this number.
+fn chain(
+    alloc: Global,
+    tables: &[AttachedTable],
+    number: usize,
+    chain: &Chain,
+) -> Result<JoinChain, Cause>
+    ensures { Gives chain_form (chain_name_causes (map table_shape tables.now) (chain_tree chain.now)) (chain_meant (map table_shape tables.now) number (chain_tree chain.now)) result }
+{
+    let joins = joins(alloc, tables, &chain.first, number, chain.joins.as_slice())?;
+    Ok(JoinChain {
+        first: number,
+        joins,
+    })
+}
+
+// The number of the first entry behind a chain.
+fn after_chain(number: usize, chain: &Chain) -> Result<usize, Cause>
+    ensures { Gives (λ (n : ℕ). n) [] (number + length (chain_entries (chain_tree chain.now))) result }
+{
+    let last = match number.checked_add(chain.joins.as_slice().len()) {
+        Some(last) => last,
+        None => return Err(Cause::OutOfMemory),
+    };
+    match last.checked_add(1) {
+        Some(next) => Ok(next),
+        None => Err(Cause::OutOfMemory),
+    }
+}
+
+/// The chains of FROM; their entries are counted over all of them, from 0.
+pub fn chains(
+    alloc: Global,
+    tables: &[AttachedTable],
+    chains: &[Chain],
+) -> Result<Vec<JoinChain>, Cause>
+    ensures { Gives (λ v. map chain_form v.items) (flat_map (chain_name_causes (map table_shape tables.now)) (map chain_tree chains.now)) (chains_meant (map table_shape tables.now) 0 (map chain_tree chains.now)) result }
+{
+    let mut out = Vec::new(alloc);
+    let mut number: usize = 0;
+    for written in chains {
+        let chain = chain(alloc, tables, number, written)?;
+        out.push(chain)?;
+        number = after_chain(number, written)?;
+    }
+    Ok(out)
+}

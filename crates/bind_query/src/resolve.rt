@@ -1,0 +1,278 @@
+//! Expressions with their names resolved.
+#![tactic(auto, using(bind_names::proofs::Causes::tells_left, bind_names::proofs::Causes::tells_right, bind_names::proofs::Causes::tells_memory, bind_names::proofs::Causes::tells_one, bind_names::proofs::Causes::none_of_two, bind_names::proofs::Causes::tells_first, bind_names::proofs::Causes::next_causes, crate::proofs::Trees::next_part, crate::proofs::Trees::all_parts))]
+
+ghost use Rattle.bind_names.specs.Meaning.{operation_of, comparison_of, test_of, joined, function_named, aggregate_of, resolved, resolved_all};
+ghost use Rattle.bind_names.specs.Naming.{name_causes, name_causes_of_all};
+ghost use Rattle.bind_names.specs.Scope.{scope_of};
+ghost use Rattle.bind_names.specs.Telling.{Gives};
+ghost use Rattle.med_syntax.specs.ExprView.{expr_tree, expr_trees};
+ghost use Rattle.med_value.specs.Datum.{NoValue};
+ghost use Rattle.std.specs.Prelude.{◌≡◌, ◌++◌, [], map, bytes_eq, codes, if◌then◌else◌, Some};
+ghost use Rattle.tri_expr.specs.Tree.{tree, trees, part, literal, compare, compute, between, within, count_rows};
+
+use bind_names::{Visible, find_column, function_named};
+use crate::numbers::{negative, number};
+use med_syntax::{BinaryOp, CompareOp, Expr as Written, Joint, Status};
+use med_value::{Cause, Value};
+use std::alloc::Global;
+use tri_expr::{Comparison, Expr, Operation, SetFunction, Test};
+
+fn operation(op: BinaryOp) -> Operation
+    ensures { result ≡ operation_of op }
+{
+    match op {
+        BinaryOp::Add => Operation::Add,
+        BinaryOp::Sub => Operation::Subtract,
+        BinaryOp::Mul => Operation::Multiply,
+        BinaryOp::Div => Operation::Divide,
+        BinaryOp::Rem => Operation::Remainder,
+    }
+}
+
+fn comparison(op: CompareOp) -> Comparison
+    ensures { result ≡ comparison_of op }
+{
+    match op {
+        CompareOp::Equal => Comparison::Equal,
+        CompareOp::Differ => Comparison::Apart,
+        CompareOp::Less => Comparison::Below,
+        CompareOp::AtMost => Comparison::AtMost,
+        CompareOp::Greater => Comparison::Above,
+        CompareOp::AtLeast => Comparison::AtLeast,
+    }
+}
+
+fn test(status: Status) -> Test
+    ensures { result ≡ test_of status }
+{
+    match status {
+        Status::Null => Test::Null,
+        Status::True => Test::True,
+        Status::False => Test::False,
+        Status::Unknown => Test::Unknown,
+    }
+}
+
+fn chain(joint: Joint, parts: Vec<Expr>) -> Expr
+    ensures { tree result ≡ joined joint (trees (map tree parts.items)) }
+{
+    match joint {
+        Joint::And => Expr::And(parts),
+        Joint::Or => Expr::Or(parts),
+    }
+}
+
+// `count(*)`.
+fn count_of_rows(name: &str) -> Expr
+    ensures { tree result ≡ (if bytes_eq name.now (codes "count") then count_rows else literal NoValue) }
+{
+    if name == "count" {
+        Expr::CountRows
+    } else {
+        Expr::Literal(Value::Null)
+    }
+}
+
+// What stands for a call that is refused.
+fn nothing() -> Expr
+    ensures { tree result ≡ literal NoValue }
+{
+    Expr::Literal(Value::Null)
+}
+
+// A call of a function.
+fn applied(alloc: Global, function: SetFunction, mut arguments: Vec<Expr>) -> Result<Expr, Cause>
+    ensures { Gives tree [] (aggregate_of (Some function) (trees (map tree arguments.items))) result }
+{
+    let count = arguments.as_slice().len();
+    if count != 1 {
+        return Ok(nothing());
+    }
+    match arguments.pop() {
+        Some(argument) => Ok(Expr::Aggregate(function, Box::new(alloc, argument)?)),
+        None => Ok(nothing()),
+    }
+}
+
+// A call.
+fn aggregate(
+    alloc: Global,
+    function: Option<SetFunction>,
+    arguments: Vec<Expr>,
+) -> Result<Expr, Cause>
+    ensures { Gives tree [] (aggregate_of function (trees (map tree arguments.items))) result }
+{
+    match function {
+        Some(function) => applied(alloc, function, arguments),
+        None => Ok(nothing()),
+    }
+}
+
+#[cycle(resolve)]
+fn boxed(alloc: Global, scope: &[Visible<'_>], e: &Written) -> Result<Box<Expr>, Cause>
+    ensures { Gives (λ b. tree b.value) (name_causes (scope_of scope.now) (expr_tree e.now)) (resolved (scope_of scope.now) (expr_tree e.now)) result }
+{
+    let resolved = resolve(alloc, scope, e)?;
+    Ok(Box::new(alloc, resolved)?)
+}
+
+// Each of them, resolved.
+#[cycle(resolve)]
+fn arguments(alloc: Global, scope: &[Visible<'_>], written: &[Written]) -> Result<Vec<Expr>, Cause>
+    ensures { Gives (λ v. trees (map tree v.items)) (name_causes_of_all (scope_of scope.now) (expr_trees written.now)) (resolved_all (scope_of scope.now) (expr_trees written.now)) result }
+{
+    let mut parts = Vec::new(alloc);
+    for e in written {
+        let part = resolve(alloc, scope, e)?;
+        parts.push(part)?;
+    }
+    Ok(parts)
+}
+
+// A list that begins with this expression and goes on with the others, resolved.
+#[cycle(resolve)]
+fn listed(
+    alloc: Global,
+    scope: &[Visible<'_>],
+    first: Expr,
+    others: &[Written],
+) -> Result<Vec<Expr>, Cause>
+    ensures { Gives (λ v. trees (map tree v.items)) (name_causes_of_all (scope_of scope.now) (expr_trees others.now)) (part (tree first) (resolved_all (scope_of scope.now) (expr_trees others.now))) result }
+{
+    let mut parts = Vec::new(alloc);
+    parts.push(first)?;
+    for other in others {
+        let part = resolve(alloc, scope, other)?;
+        parts.push(part)?;
+    }
+    Ok(parts)
+}
+
+#[cycle(resolve)]
+fn compared(
+    alloc: Global,
+    scope: &[Visible<'_>],
+    op: CompareOp,
+    a: &Written,
+    b: &Written,
+) -> Result<Expr, Cause>
+    ensures { Gives tree (name_causes (scope_of scope.now) (expr_tree a.now) ++ name_causes (scope_of scope.now) (expr_tree b.now)) (compare (comparison_of op) (resolved (scope_of scope.now) (expr_tree a.now)) (resolved (scope_of scope.now) (expr_tree b.now))) result }
+{
+    let a = boxed(alloc, scope, a)?;
+    let b = boxed(alloc, scope, b)?;
+    Ok(Expr::Compare(comparison(op), a, b))
+}
+
+#[cycle(resolve)]
+fn computed(
+    alloc: Global,
+    scope: &[Visible<'_>],
+    op: BinaryOp,
+    a: &Written,
+    b: &Written,
+) -> Result<Expr, Cause>
+    ensures { Gives tree (name_causes (scope_of scope.now) (expr_tree a.now) ++ name_causes (scope_of scope.now) (expr_tree b.now)) (compute (operation_of op) (resolved (scope_of scope.now) (expr_tree a.now)) (resolved (scope_of scope.now) (expr_tree b.now))) result }
+{
+    let a = boxed(alloc, scope, a)?;
+    let b = boxed(alloc, scope, b)?;
+    Ok(Expr::Compute(operation(op), a, b))
+}
+
+#[cycle(resolve)]
+fn called(
+    alloc: Global,
+    scope: &[Visible<'_>],
+    name: &str,
+    written: &[Written],
+) -> Result<Expr, Cause>
+    ensures { Gives tree (name_causes_of_all (scope_of scope.now) (expr_trees written.now)) (aggregate_of (function_named name.now) (resolved_all (scope_of scope.now) (expr_trees written.now))) result }
+{
+    let parts = arguments(alloc, scope, written)?;
+    aggregate(alloc, function_named(name), parts)
+}
+
+#[cycle(resolve)]
+fn bounded(
+    alloc: Global,
+    scope: &[Visible<'_>],
+    negated: bool,
+    e: &Written,
+    low: &Written,
+    high: &Written,
+) -> Result<Expr, Cause>
+    ensures { Gives tree (name_causes (scope_of scope.now) (expr_tree e.now) ++ (name_causes (scope_of scope.now) (expr_tree low.now) ++ name_causes (scope_of scope.now) (expr_tree high.now))) (between negated (resolved (scope_of scope.now) (expr_tree e.now)) (resolved (scope_of scope.now) (expr_tree low.now)) (resolved (scope_of scope.now) (expr_tree high.now))) result }
+{
+    let e = boxed(alloc, scope, e)?;
+    let low = boxed(alloc, scope, low)?;
+    let high = boxed(alloc, scope, high)?;
+    Ok(Expr::Between(negated, e, low, high))
+}
+
+#[cycle(resolve)]
+fn contained(
+    alloc: Global,
+    scope: &[Visible<'_>],
+    negated: bool,
+    e: &Written,
+    first: &Written,
+    others: &[Written],
+) -> Result<Expr, Cause>
+    ensures { Gives tree (name_causes (scope_of scope.now) (expr_tree e.now) ++ (name_causes (scope_of scope.now) (expr_tree first.now) ++ name_causes_of_all (scope_of scope.now) (expr_trees others.now))) (within negated (resolved (scope_of scope.now) (expr_tree e.now)) (part (resolved (scope_of scope.now) (expr_tree first.now)) (resolved_all (scope_of scope.now) (expr_trees others.now)))) result }
+{
+    let e = boxed(alloc, scope, e)?;
+    let first = resolve(alloc, scope, first)?;
+    let parts = listed(alloc, scope, first, others)?;
+    Ok(Expr::In(negated, e, parts))
+}
+
+#[cycle(resolve)]
+fn chained(
+    alloc: Global,
+    scope: &[Visible<'_>],
+    joint: Joint,
+    first: &Written,
+    others: &[Written],
+) -> Result<Expr, Cause>
+    ensures { Gives tree (name_causes (scope_of scope.now) (expr_tree first.now) ++ name_causes_of_all (scope_of scope.now) (expr_trees others.now)) (joined joint (part (resolved (scope_of scope.now) (expr_tree first.now)) (resolved_all (scope_of scope.now) (expr_trees others.now)))) result }
+{
+    let first = resolve(alloc, scope, first)?;
+    let parts = listed(alloc, scope, first, others)?;
+    Ok(chain(joint, parts))
+}
+
+/// The expression with its names resolved, or why a name in it is refused.
+#[cycle(resolve)]
+pub fn resolve(alloc: Global, scope: &[Visible<'_>], e: &Written) -> Result<Expr, Cause>
+    ensures { Gives tree (name_causes (scope_of scope.now) (expr_tree e.now)) (resolved (scope_of scope.now) (expr_tree e.now)) result }
+{
+    match e {
+        Written::Number(n) => Ok(Expr::Literal(Value::Int(number(*n)))),
+        Written::Negative(n) => Ok(Expr::Literal(Value::Int(negative(*n)))),
+        Written::Text(text) => Ok(Expr::Literal(Value::Text(text.as_str().to_string(alloc)?))),
+        Written::Truth(b) => Ok(Expr::Literal(Value::Bool(*b))),
+        Written::Null => Ok(Expr::Literal(Value::Null)),
+        Written::Column(qualifier, name) => {
+            Ok(Expr::Column(find_column(scope, qualifier, name)?))
+        }
+        Written::CallAll(name) => Ok(count_of_rows(name.as_str())),
+        Written::Call(name, arguments) => called(alloc, scope, name.as_str(), arguments),
+        Written::Paren(e) => Ok(Expr::Parenthesised(boxed(alloc, scope, e)?)),
+        Written::Minus(e) => Ok(Expr::Negate(boxed(alloc, scope, e)?)),
+        Written::Binary(op, a, b) => computed(alloc, scope, *op, a, b),
+        Written::Between(negated, e, low, high) => bounded(alloc, scope, *negated, e, low, high),
+        Written::In(negated, e, first, others) => {
+            contained(alloc, scope, *negated, e, first, others)
+        }
+        Written::Like(negated, e, pattern) => {
+            let e = boxed(alloc, scope, e)?;
+            let pattern = pattern.as_str().to_string(alloc)?;
+            Ok(Expr::Like(*negated, e, pattern))
+        }
+        Written::Compare(op, a, b) => compared(alloc, scope, *op, a, b),
+        Written::Is(negated, e, status) => {
+            Ok(Expr::Is(test(*status), *negated, boxed(alloc, scope, e)?))
+        }
+        Written::Not(e) => Ok(Expr::Not(boxed(alloc, scope, e)?)),
+        Written::Chain(joint, first, others) => chained(alloc, scope, *joint, first, others),
+    }
+}

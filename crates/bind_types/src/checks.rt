@@ -1,0 +1,139 @@
+//! The types of what a query writes.
+#![tactic(auto, using(bind_names::proofs::Causes::tells_left, bind_names::proofs::Causes::tells_right, bind_names::proofs::Causes::tells_memory, bind_names::proofs::Causes::tells_one, bind_names::proofs::Causes::none_of_two))]
+
+ghost use Rattle.std.specs.Prelude.{◌≡◌, ◌++◌, ◌∷◌, [], map, flat_map, option_map};
+ghost use Rattle.med_syntax.specs.ExprView.{expr_tree};
+ghost use Rattle.med_syntax.specs.QueryView.{item_tree, join_tree, chain_tree, key_tree, select_tree};
+ghost use Rattle.bind_names.specs.Scope.{scope_of, table_shape, visible};
+ghost use Rattle.bind_types.specs.Typing as spec;
+ghost use Rattle.bind_names.specs.Telling.{Passes};
+ghost use Rattle.bind_types.specs.Kinds.{written_key_causes, asked_type_causes};
+
+use crate::typing::{operand, type_of};
+use bind_names::{AttachedTable, Visible, from_in_view, joined_entry, visible_of};
+use med_syntax::{Chain, Expr as Written, Item, Join, OrderKey, Select};
+use med_value::{Cause, ColType};
+use std::alloc::Global;
+
+fn check_on(scope: &[Visible<'_>], on: &Written) -> Result<(), Cause>
+    ensures { Passes (spec.as_where (scope_of scope.now) (expr_tree on.now)) result }
+{
+    operand(scope, on, ColType::Bool, Cause::DatatypeMismatch)
+}
+
+fn check_join(scope: &[Visible<'_>], join: &Join) -> Result<(), Cause>
+    ensures { Passes (spec.on_type_causes (scope_of scope.now) (join_tree join.now)) result }
+{
+    match join {
+        Join::Inner(_, on) => check_on(scope, on),
+        Join::Left(_, on) => check_on(scope, on),
+        Join::Cross(_) => Ok(()),
+    }
+}
+
+// Refuses an ON by its types. It sees what stands on its left in its own chain, and its own entry.
+fn check_joins<'a>(
+    alloc: Global,
+    first: Visible<'a>,
+    joins: &'a [Join],
+    tables: &'a [AttachedTable],
+) -> Result<(), Cause>
+    ensures { Passes (spec.joins_type_causes (map table_shape tables.now) (visible first.entry ∷ []) (map join_tree joins.now)) result }
+{
+    let mut seen = Vec::new(alloc);
+    seen.push(first)?;
+    for join in joins {
+        seen.push(visible_of(tables, joined_entry(join)))?;
+        check_join(seen.as_slice(), join)?;
+    }
+    Ok(())
+}
+
+fn check_chain(alloc: Global, chain: &Chain, tables: &[AttachedTable]) -> Result<(), Cause>
+    ensures { Passes (spec.chain_type_causes (map table_shape tables.now) (chain_tree chain.now)) result }
+{
+    check_joins(
+        alloc,
+        visible_of(tables, &chain.first),
+        chain.joins.as_slice(),
+        tables,
+    )
+}
+
+fn check_from(alloc: Global, chains: &[Chain], tables: &[AttachedTable]) -> Result<(), Cause>
+    ensures { Passes (flat_map (spec.chain_type_causes (map table_shape tables.now)) (map chain_tree chains.now)) result }
+{
+    for chain in chains {
+        check_chain(alloc, chain, tables)?;
+    }
+    Ok(())
+}
+
+fn check_item(scope: &[Visible<'_>], item: &Item) -> Result<(), Cause>
+    ensures { Passes (spec.item_type_causes (scope_of scope.now) (item_tree item.now)) result }
+{
+    match item {
+        Item::All | Item::AllOf(_) => Ok(()),
+        Item::Expression(e, _) => {
+            type_of(scope, e)?;
+            Ok(())
+        }
+    }
+}
+
+fn check_items(scope: &[Visible<'_>], items: &[Item]) -> Result<(), Cause>
+    ensures { Passes (flat_map (spec.item_type_causes (scope_of scope.now)) (map item_tree items.now)) result }
+{
+    for item in items {
+        check_item(scope, item)?;
+    }
+    Ok(())
+}
+
+// Refuses WHERE or HAVING by its types.
+fn check_condition(scope: &[Visible<'_>], condition: &Option<Written>) -> Result<(), Cause>
+    ensures { Passes (spec.condition_type_causes (scope_of scope.now) (option_map expr_tree condition.now)) result }
+{
+    match condition {
+        None => Ok(()),
+        Some(e) => operand(scope, e, ColType::Bool, Cause::DatatypeMismatch),
+    }
+}
+
+// Refuses an order key by its types: the position and the name of an output have none.
+fn check_key(scope: &[Visible<'_>], key: &OrderKey) -> Result<(), Cause>
+    ensures { Passes (written_key_causes (scope_of scope.now) (key_tree key.now)) result }
+{
+    type_of(scope, &key.key)?;
+    Ok(())
+}
+
+fn check_keys(scope: &[Visible<'_>], keys: &[OrderKey]) -> Result<(), Cause>
+    ensures { Passes (flat_map (written_key_causes (scope_of scope.now)) (map key_tree keys.now)) result }
+{
+    for key in keys {
+        check_key(scope, key)?;
+    }
+    Ok(())
+}
+
+// Refuses what is asked of the entries in view by its types.
+fn check_asked(scope: &[Visible<'_>], select: &Select) -> Result<(), Cause>
+    ensures { Passes (asked_type_causes (scope_of scope.now) (select_tree select.now)) result }
+{
+    check_items(scope, select.items.as_slice())?;
+    check_condition(scope, &select.condition)?;
+    check_condition(scope, &select.having)?;
+    check_keys(scope, select.keys.as_slice())
+}
+
+/// Refuses a query by the types of what it writes: 42804 where a condition is not boolean, 42883 where an operator or a function has no such
+/// operands, 22025 where a pattern of LIKE ends in a lone backslash; and 53200 where memory was refused, or more columns are in view than
+/// there are places.
+pub fn check_written(alloc: Global, select: &Select, tables: &[AttachedTable]) -> Result<(), Cause>
+    ensures { Passes (spec.written_type_causes (map table_shape tables.now) (select_tree select.now)) result }
+{
+    check_from(alloc, select.from.as_slice(), tables)?;
+    let seen = from_in_view(alloc, tables, select.from.as_slice())?;
+    check_asked(seen.as_slice(), select)
+}

@@ -1,0 +1,223 @@
+//! Where aggregates and columns stand in a query whose names are places, and which ON may fault.
+#![tactic(auto, using(bind_names::proofs::Causes::tells_left, bind_names::proofs::Causes::tells_right, bind_names::proofs::Causes::tells_one, bind_names::proofs::Causes::none_of_two))]
+
+ghost use Rattle.bind_names.specs.Aggregates as spec;
+ghost use Rattle.bind_names.specs.Telling.{Passes};
+ghost use Rattle.bind_types.specs.Typing as causes;
+ghost use Rattle.med_query.specs.Form.{join_form, chain_form, group_form, form_of};
+ghost use Rattle.med_query.specs.Select.{is_safe_chain};
+ghost use Rattle.std.specs.List.{list_any, list_all};
+ghost use Rattle.std.specs.Prelude.{◌≡◌, ◌++◌, map, flat_map, option_map, true, IfOk, OnOk};
+ghost use Rattle.tri_expr.specs.Tree.{tree, trees};
+ghost use Rattle.tri_expr.specs.TreeParts.{is_risky_tree};
+
+use bind_names::has_aggregate;
+use med_query::law::safe_forms_are_safe;
+use med_query::{Grouping, Join, JoinChain, Select};
+use med_value::Cause;
+use tri_expr::law::risk_is_of_tree;
+use tri_expr::{Expr, is_risky};
+
+// Whether an expression has no one meaning over groups with these keys, given that it is a column.
+fn is_no_key(keys: &[usize], place: usize) -> bool
+    ensures { result ≡ spec.is_ungrouped keys.now (Rattle.tri_expr.specs.Tree.column place) }
+{
+    for key in keys {
+        if *key == place {
+            return false;
+        }
+    }
+    true
+}
+
+#[cycle(is_ungrouped)]
+fn some_ungrouped(keys: &[usize], parts: &[Expr]) -> bool
+    ensures { result ≡ spec.some_ungrouped keys.now (trees (map tree parts.now)) }
+{
+    for part in parts {
+        if is_ungrouped(keys, part) {
+            return true;
+        }
+    }
+    false
+}
+
+// Whether an expression has no one meaning over groups with these keys: a column outside aggregates is no key, or an aggregate stands in
+// an aggregate (SQL:2016, 7.13 <group by clause>, 10.9 <aggregate function>).
+#[cycle(is_ungrouped)]
+fn is_ungrouped(keys: &[usize], e: &Expr) -> bool
+    ensures { result ≡ spec.is_ungrouped keys.now (tree e.now) }
+{
+    match e {
+        Expr::Column(place) => is_no_key(keys, *place),
+        Expr::Parameter(_) => false,
+        Expr::Literal(_) => false,
+        Expr::Compare(_, a, b) => is_ungrouped(keys, a) || is_ungrouped(keys, b),
+        Expr::Compute(_, a, b) => is_ungrouped(keys, a) || is_ungrouped(keys, b),
+        Expr::Negate(a) => is_ungrouped(keys, a),
+        Expr::And(parts) => some_ungrouped(keys, parts),
+        Expr::Or(parts) => some_ungrouped(keys, parts),
+        Expr::Not(a) => is_ungrouped(keys, a),
+        Expr::Is(_, _, a) => is_ungrouped(keys, a),
+        Expr::Between(_, x, low, high) => {
+            is_ungrouped(keys, x) || is_ungrouped(keys, low) || is_ungrouped(keys, high)
+        }
+        Expr::In(_, x, parts) => is_ungrouped(keys, x) || some_ungrouped(keys, parts),
+        Expr::Like(_, x, _) => is_ungrouped(keys, x),
+        Expr::Parenthesised(a) => is_ungrouped(keys, a),
+        Expr::CountRows => false,
+        Expr::Aggregate(_, a) => has_aggregate(a),
+    }
+}
+
+fn any_aggregate(conjuncts: &[Expr]) -> bool
+    ensures { result ≡ list_any spec.has_aggregate (map tree conjuncts.now) }
+{
+    for conjunct in conjuncts {
+        if has_aggregate(conjunct) {
+            return true;
+        }
+    }
+    false
+}
+
+fn any_ungrouped(keys: &[usize], shown: &[Expr]) -> bool
+    ensures { result ≡ list_any (spec.is_ungrouped keys.now) (map tree shown.now) }
+{
+    for e in shown {
+        if is_ungrouped(keys, e) {
+            return true;
+        }
+    }
+    false
+}
+
+// Whether an expression may fault, as its tree says.
+fn may_fault(e: &Expr) -> bool
+    ensures { result ≡ is_risky_tree (tree e.now) }
+{
+    risk_is_of_tree();
+    is_risky(e)
+}
+
+fn any_fault(conjuncts: &[Expr]) -> bool
+    ensures { result ≡ list_any is_risky_tree (map tree conjuncts.now) }
+{
+    for conjunct in conjuncts {
+        if may_fault(conjunct) {
+            return true;
+        }
+    }
+    false
+}
+
+// Refuses an aggregate in WHERE or ON.
+fn check_no_aggregate(conjuncts: &[Expr]) -> Result<(), Cause>
+    ensures { Passes (causes.no_aggregate (map tree conjuncts.now)) result }
+{
+    if any_aggregate(conjuncts) {
+        Err(Cause::Grouping)
+    } else {
+        Ok(())
+    }
+}
+
+// Refuses an ON that may fault.
+fn check_no_risk(conjuncts: &[Expr]) -> Result<(), Cause>
+    ensures { Passes (causes.no_risk (map tree conjuncts.now)) result }
+{
+    if any_fault(conjuncts) {
+        Err(Cause::FeatureNotSupported)
+    } else {
+        Ok(())
+    }
+}
+
+fn check_on(conjuncts: &[Expr]) -> Result<(), Cause>
+    ensures { Passes (causes.no_aggregate (map tree conjuncts.now) ++ causes.no_risk (map tree conjuncts.now)) result }
+{
+    check_no_aggregate(conjuncts)?;
+    check_no_risk(conjuncts)
+}
+
+fn check_join(join: &Join) -> Result<(), Cause>
+    ensures { Passes (causes.join_causes (join_form join.now)) result }
+{
+    match join {
+        Join::Cross { .. } => Ok(()),
+        Join::Inner { on, .. } => check_on(on),
+        Join::Left { on, .. } => check_on(on),
+    }
+}
+
+fn check_joins(joins: &[Join]) -> Result<(), Cause>
+    ensures { Passes (flat_map causes.join_causes (map join_form joins.now)) result }
+{
+    for join in joins {
+        check_join(join)?;
+    }
+    Ok(())
+}
+
+fn check_chain(chain: &JoinChain) -> Result<(), Cause>
+    ensures { Passes (causes.chain_causes (chain_form chain.now)) result }
+{
+    check_joins(chain.joins.as_slice())
+}
+
+fn check_from(chains: &[JoinChain]) -> Result<(), Cause>
+    ensures { Passes (flat_map causes.chain_causes (map chain_form chains.now)) result }
+{
+    for chain in chains {
+        check_chain(chain)?;
+    }
+    Ok(())
+}
+
+// Refuses what has no one meaning over groups.
+fn check_groups(groups: &Grouping, keys: &[Expr], items: &[Expr]) -> Result<(), Cause>
+    ensures { Passes (causes.unless (Rattle.std.specs.Prelude.not (list_any (spec.is_ungrouped (group_form groups.now).keys) ((group_form groups.now).having ++ (map tree keys.now ++ map tree items.now)))) Cause.Grouping) result }
+{
+    let places = groups.keys.as_slice();
+    if any_ungrouped(places, groups.having.as_slice())
+        || any_ungrouped(places, keys)
+        || any_ungrouped(places, items)
+    {
+        Err(Cause::Grouping)
+    } else {
+        Ok(())
+    }
+}
+
+fn check_grouping(grouping: &Option<Grouping>, keys: &[Expr], items: &[Expr]) -> Result<(), Cause>
+    ensures { Passes (causes.grouping_causes (option_map group_form grouping.now) (map tree keys.now ++ map tree items.now)) result }
+{
+    match grouping {
+        None => Ok(()),
+        Some(groups) => check_groups(groups, keys, items),
+    }
+}
+
+fn check_rest(select: &Select) -> Result<(), Cause>
+    ensures { Passes (causes.no_aggregate (form_of select.now).conditions ++ causes.grouping_causes (form_of select.now).group ((form_of select.now).keys ++ (form_of select.now).items)) result }
+{
+    check_no_aggregate(select.conditions.as_slice())?;
+    check_grouping(
+        &select.grouping,
+        select.keys.as_slice(),
+        select.items.as_slice(),
+    )
+}
+
+/// Refuses a query by where its aggregates and columns stand, and by an ON that may fault: 42803 for an aggregate in WHERE or ON, and in a
+/// query that groups for a column outside aggregates that is no key and for an aggregate in an aggregate; 0A000 for an ON with an operator
+/// that may fault.
+pub fn check_form(select: &Select) -> Result<(), Cause>
+    ensures passes { Passes (causes.form_causes (form_of select.now)) result }
+    // No ON of a query that passes may fault.
+    ensures safe { OnOk result (list_all is_safe_chain select.now.from.items ≡ true) }
+{
+    safe_forms_are_safe();
+    check_from(select.from.as_slice())?;
+    check_rest(select)
+}

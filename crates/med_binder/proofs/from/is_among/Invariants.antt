@@ -1,7 +1,0 @@
-use Rattle.std.proofs.Common.{◌≡◌, map, drop, bytes_eq}
-use Rattle.std.specs.List.{list_any}
-use Rattle.med_binder.specs.Shown.{name_of}
-use Rattle.med_binder.proofs.from.is_among.Given as goal
-
-abbrev pub invariant-loop-entry : goal.invariant-loop-entry
-invariant-loop-entry l = list_any (bytes_eq l.name) (map name_of l.scope) ≡ list_any (bytes_eq l.name) (map name_of (drop l.entry-index l.scope))

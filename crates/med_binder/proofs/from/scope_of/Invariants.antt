@@ -1,8 +1,0 @@
-use Rattle.std.proofs.Common.{◌≡◌, ◌++◌, map, drop}
-use Rattle.med_binder.specs.Scope.{table_shape, visible, entry_shape}
-use Rattle.med_binder.specs.Shown.{seen_entry}
-use Rattle.med_binder.proofs.from.scope_of.Given as goal
-
-abbrev pub invariant-loop-entry : goal.invariant-loop-entry
-invariant-loop-entry l =
-    map visible l.out.items ++ map (entry_shape (map table_shape l.tables)) (map seen_entry (drop l.entry-index l.entries)) ≡ map (entry_shape (map table_shape l.tables)) (map seen_entry l.entries)

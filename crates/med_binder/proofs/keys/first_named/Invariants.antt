@@ -1,7 +1,0 @@
-use Rattle.std.proofs.Common.{◌≡◌, map, filter, drop}
-use Rattle.med_binder.specs.Meaning.{is_named}
-use Rattle.med_binder.specs.Shown.{shown}
-use Rattle.med_binder.proofs.keys.first_named.Given as goal
-
-abbrev pub invariant-loop-output : goal.invariant-loop-output
-invariant-loop-output l = filter (is_named l.name) (map shown l.outputs) ≡ filter (is_named l.name) (map shown (drop l.output-index l.outputs))

@@ -1,9 +1,0 @@
-use Rattle.std.proofs.Common.{◌≡◌, ◌++◌, Some, map, drop}
-use Rattle.med_binder.specs.Scope.{scope_of}
-use Rattle.med_binder.specs.Meaning.{starred}
-use Rattle.med_binder.specs.Shown.{shown}
-use Rattle.med_binder.proofs.outputs.push_all_of.Given as goal
-
-abbrev pub invariant-loop-entry : goal.invariant-loop-entry
-invariant-loop-entry l =
-    map shown l.out.items ++ starred l.at (Some l.name) (scope_of (drop l.entry-index l.scope)) ≡ map shown l.initial.out.items ++ starred 0 (Some l.name) (scope_of l.scope)

@@ -1,8 +1,0 @@
-use Rattle.std.proofs.Common.{◌≡◌, Some, drop}
-use Rattle.std.specs.List.{list_any}
-use Rattle.med_binder.specs.Scope.{scope_of, is_meant}
-use Rattle.med_binder.proofs.scope.is_any_named.Given as goal
-
-abbrev pub invariant-loop-entry : goal.invariant-loop-entry
-invariant-loop-entry l =
-    list_any (is_meant (Some l.name)) (scope_of l.scope) ≡ list_any (is_meant (Some l.name)) (scope_of (drop l.entry-index l.scope))

@@ -1,6 +1,0 @@
-use Rattle.std.proofs.Common.{◌≡◌, drop}
-use Rattle.med_binder.specs.Scope.{scope_of, kind_at}
-use Rattle.med_binder.proofs.scope.kind_of.Given as goal
-
-abbrev pub invariant-loop-entry : goal.invariant-loop-entry
-invariant-loop-entry l = kind_at (scope_of l.scope) l.fn.place ≡ kind_at (scope_of (drop l.entry-index l.scope)) l.rest
