@@ -13,6 +13,7 @@ ghost use Rattle.med_exec.specs.Rests.{IsRunning, IsHeld};
 ghost use Rattle.query_tests.specs.Orders as spec;
 
 use crate::answers::{columns, compare, int, one, select};
+use crate::expect::{same, same_text};
 use fdw_api::interface::{Counts, Fault, TableNo, Wrapper};
 use fdw_api::scan::{
     Agree, Agreement, Comparison as Compared, Operand, Restriction, ScanSpec, Test,
@@ -34,7 +35,7 @@ fn order(alloc: Global, number: i64, part: i64, quantity: i64) -> Result<Row, Fa
     Ok(Row { cells })
 }
 
-/// (10, 1, 4), (11, 1, 6) and (12, 9, 1): columns no, part and n.
+// (10, 1, 4), (11, 1, 6) and (12, 9, 1): columns no, part and n.
 fn orders(alloc: Global) -> Result<ListTable, Fail>
     ensures { IfOk result (λ t. listed t ≡ spec.orders) }
 {
@@ -67,7 +68,7 @@ fn orders_columns(alloc: Global) -> Result<Vec<ColumnDef>, Fail>
     Ok(vec![in alloc; number, part, quantity]?)
 }
 
-/// A slot with a list whose orders are bound, and their table.
+// A slot with a list whose orders are bound, and their table.
 fn bound_orders(alloc: Global) -> Result<(Vec<Option<ListWrapper>>, TableNo), Fail>
     ensures { IfOk result (λ p. HasTable (states box_of p.0.items) 0 p.1.number) }
 {
@@ -78,7 +79,7 @@ fn bound_orders(alloc: Global) -> Result<(Vec<Option<ListWrapper>>, TableNo), Fa
     Ok((vec![in alloc; Some(list)]?, table))
 }
 
-/// n > 1
+// n > 1
 fn above_one(alloc: Global) -> Result<Vec<Restriction>, Fail>
     ensures typed { IfOk result (λ rs. (kinds : List ColType) → params_fit kinds (map filter_of rs.items) [] ≡ true) }
     ensures one { IfOk result (λ rs. length rs.items ≡ 1) }
@@ -106,7 +107,7 @@ fn one_scan(alloc: Global, table: TableNo, spec: ScanSpec, select: Select) -> Re
     })
 }
 
-/// The plan of a query over n and no of the orders of more than 1, by what their box agrees to.
+// The plan of a query over n and no of the orders of more than 1, by what their box agrees to.
 fn agreed_plan<W: Wrapper>(
     slots: &Vec<Option<W>>,
     alloc: Global,
@@ -128,7 +129,7 @@ fn agreed_plan<W: Wrapper>(
     one_scan(alloc, table, spec, select)
 }
 
-/// The plan of a query over the orders, of which more than 1 are offered, where their box takes nothing over.
+// The plan of a query over the orders, of which more than 1 are offered, where their box takes nothing over.
 fn ignored_plan<W: Wrapper>(
     slots: &Vec<Option<W>>,
     alloc: Global,
@@ -150,7 +151,7 @@ fn ignored_plan<W: Wrapper>(
     one_scan(alloc, table, spec, select)
 }
 
-/// The text of the rows that a run gives, at most so many, each with an LF.
+// The text of the rows that a run gives, at most so many, each with an LF.
 fn rest_of<W: Wrapper>(
     alloc: Global,
     run: &mut Run,
@@ -174,7 +175,7 @@ fn rest_of<W: Wrapper>(
     Err("too many rows".into())
 }
 
-/// The rows that a run of a plan gives, or the code of its fault.
+// The rows that a run of a plan gives, or the code of its fault.
 fn run_text<W: Wrapper>(
     alloc: Global,
     slots: &mut Vec<Option<W>>,
@@ -192,7 +193,7 @@ fn run_text<W: Wrapper>(
     text
 }
 
-/// One scan was begun and ended, and gave so many rows.
+// One scan was begun and ended, and gave so many rows.
 fn counts(pulled: u64) -> Option<Counts> {
     Some(Counts {
         next: 1,
@@ -211,12 +212,12 @@ fn box_takes_over_what_it_agreed_to(rt: HostRuntime) -> Result<(), Fail> {
         return Err("a risky ON".into());
     }
     let plan = agreed_plan(&slots, alloc, table, query)?;
-    assert_eq!(rt;
-        run_text(alloc, &mut slots, plan)?.as_slice(),
-        b"10\t4\n11\t6\n".as_slice()
-    );
-    assert_eq!(rt; ledger_at(&slots, 0), counts(2), "two narrow rows came");
-    Ok(())
+    same_text(
+        "the rows",
+        &run_text(alloc, &mut slots, plan)?,
+        "10\t4\n11\t6\n",
+    )?;
+    same("two narrow rows", &ledger_at(&slots, 0), &counts(2))
 }
 
 #[test]
@@ -230,15 +231,15 @@ fn query_decides_what_the_box_ignores(rt: HostRuntime) -> Result<(), Fail> {
         return Err("a risky ON".into());
     }
     let plan = ignored_plan(&slots, alloc, table, query)?;
-    assert_eq!(rt;
-        run_text(alloc, &mut slots, plan)?.as_slice(),
-        b"10\t4\n11\t6\n".as_slice()
-    );
-    assert_eq!(rt; ledger_at(&slots, 0), counts(3), "all rows came");
-    Ok(())
+    same_text(
+        "the rows",
+        &run_text(alloc, &mut slots, plan)?,
+        "10\t4\n11\t6\n",
+    )?;
+    same("all rows", &ledger_at(&slots, 0), &counts(3))
 }
 
-/// The rows that a query without tables gives, or the code of its fault.
+// The rows that a query without tables gives, or the code of its fault.
 fn run_without_tables(alloc: Global, items: Vec<Expr>) -> Result<Vec<u8>, Fail> {
     let mut query = select(alloc, 0, items)?;
     query.from = Vec::new(alloc);
@@ -257,11 +258,7 @@ fn run_without_tables(alloc: Global, items: Vec<Expr>) -> Result<Vec<u8>, Fail> 
 fn runs_a_query_without_tables(rt: HostRuntime) -> Result<(), Fail> {
     let alloc = rt.alloc();
     let items = one(alloc, int(1))?;
-    assert_eq!(rt;
-        run_without_tables(alloc, items)?.as_slice(),
-        b"1\n".as_slice()
-    );
-    Ok(())
+    same_text("the row", &run_without_tables(alloc, items)?, "1\n")
 }
 
 #[test]
@@ -273,9 +270,5 @@ fn run_tells_a_zero_divisor(rt: HostRuntime) -> Result<(), Fail> {
         Box::new(alloc, int(0))?,
     );
     let items = one(alloc, quotient)?;
-    assert_eq!(rt;
-        run_without_tables(alloc, items)?.as_slice(),
-        b"22012".as_slice()
-    );
-    Ok(())
+    same_text("the fault", &run_without_tables(alloc, items)?, "22012")
 }
