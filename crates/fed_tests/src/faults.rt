@@ -17,7 +17,7 @@ const FIRST_LINE: usize = 11;
 const FIRST_REPLY: usize = 9;
 
 // The stored stream, at most `step` bytes a read, of which the one after so many fails.
-fn stored(step: usize, before: Option<usize>) -> Failing {
+fn make_source(step: usize, before: Option<usize>) -> Failing {
     Failing {
         bytes: STORED,
         step,
@@ -97,7 +97,7 @@ fn answer_to(read: usize) -> &'static [u8] {
 fn ends_at_read(alloc: Global, step: usize, reads: usize) -> Result<(), Fail> {
     let case = format!(in alloc; "at read {reads} of {step} bytes")?;
     let mut out = Vec::new(alloc);
-    let served = serve_demo(alloc, &mut stored(step, Some(reads)), &mut out)?;
+    let served = serve_demo(alloc, &mut make_source(step, Some(reads)), &mut out)?;
     let wanted = answer_to(reads.saturating_mul(step));
     let scans = if wanted.len() > FIRST_REPLY { 1 } else { 0 };
     same(
@@ -122,7 +122,7 @@ fn read_that_fails_ends_the_stream(rt: HostRuntime) -> Result<(), Fail> {
 fn goes_on_after(alloc: Global, reads: usize) -> Result<(), Fail> {
     let case = format!(in alloc; "at read {reads}")?;
     let mut out = Vec::new(alloc);
-    let served = serve_on(alloc, &mut stored(1, Some(reads)), &mut out)?;
+    let served = serve_on(alloc, &mut make_source(1, Some(reads)), &mut out)?;
     same(&case, &served, &(Ok(Ended::Eof), counts_after(1)))?;
     same_text(&case, &out, ANSWER)
 }
@@ -151,7 +151,7 @@ fn ends_at_call(
         bytes: Vec::new(alloc),
         before: calls,
     };
-    let served = serve_demo(alloc, &mut stored(FIRST_LINE, None), &mut writer)?;
+    let served = serve_demo(alloc, &mut make_source(FIRST_LINE, None), &mut writer)?;
     let scans = if calls < 5 { 0 } else { 1 };
     same(&case, &served, &(ended, counts_after(scans)))?;
     let wanted = ANSWER.get(..length).ok_or("a longer answer")?;

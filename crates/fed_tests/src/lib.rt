@@ -13,8 +13,6 @@ mod memory;
 #[cfg(test)]
 mod names;
 #[cfg(test)]
-mod random;
-#[cfg(test)]
 mod reader;
 #[cfg(test)]
 mod refusals;

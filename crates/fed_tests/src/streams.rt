@@ -84,7 +84,7 @@ fn echo_server(alloc: Global, is_full: bool) -> Result<Server<Echo>, Fail> {
 }
 
 // The input, at most `step` bytes a read, of which the one after so many fails.
-fn input(step: usize, before: Option<usize>, fault: ErrorKind) -> Failing {
+fn make_source(step: usize, before: Option<usize>, fault: ErrorKind) -> Failing {
     Failing {
         bytes: INPUT,
         step,
@@ -93,7 +93,7 @@ fn input(step: usize, before: Option<usize>, fault: ErrorKind) -> Failing {
     }
 }
 
-fn target(alloc: Global, before: usize) -> Target {
+fn make_target(alloc: Global, before: usize) -> Target {
     Target {
         bytes: Vec::new(alloc),
         before,
@@ -108,18 +108,22 @@ fn ends(
     ended: Result<Ended, StreamFault>,
     text: &[u8],
 ) -> Result<(), Fail> {
+    let step = reader.step;
+    let reads = reader.before;
+    let calls = writer.before;
+    let case = format!(in alloc; "in pieces of {step}, a fault at {reads:?}, {calls} writes")?;
     let mut server = echo_server(alloc, false)?;
     let came = serve_stream(alloc, &mut server, reader, writer);
-    same("the end", &came, &ended)?;
-    same("open", &server.is_closed(), &false)?;
-    same_text("the replies", &writer.bytes, text)
+    same(&case, &came, &ended)?;
+    same(&case, &server.is_closed(), &false)?;
+    same_text(&case, &writer.bytes, text)
 }
 
 #[test]
 fn serves_to_the_end(rt: HostRuntime) -> Result<(), Fail> {
     for step in 1..=INPUT.len() {
-        let mut reader = input(step, None, ErrorKind::Other);
-        let mut writer = target(rt.alloc(), 100);
+        let mut reader = make_source(step, None, ErrorKind::Other);
+        let mut writer = make_target(rt.alloc(), 100);
         ends(rt.alloc(), &mut reader, &mut writer, Ok(Ended::Eof), ANSWER)?;
     }
     Ok(())
@@ -151,9 +155,9 @@ fn closes(
 #[test]
 fn closing_line_ends_the_stream(rt: HostRuntime) -> Result<(), Fail> {
     let mut server = echo_server(rt.alloc(), false)?;
-    let mut reader = input(2, None, ErrorKind::Other);
+    let mut reader = make_source(2, None, ErrorKind::Other);
     reader.bytes = b"\xff\n1 BYE\n";
-    let mut writer = target(rt.alloc(), 100);
+    let mut writer = make_target(rt.alloc(), 100);
     closes(rt.alloc(), &mut server, &mut reader, &mut writer)?;
     closes(rt.alloc(), &mut server, &mut reader, &mut writer)?;
     same("sessions ended", &server.finish().is_ended, &true)
@@ -161,20 +165,21 @@ fn closing_line_ends_the_stream(rt: HostRuntime) -> Result<(), Fail> {
 
 // Fails where an interruption ends the stream, or is told, after so many reads of one byte.
 fn goes_on_behind(alloc: Global, reads: usize) -> Result<(), Fail> {
-    let mut reader = input(1, Some(reads), ErrorKind::Interrupted);
-    let mut writer = target(alloc, 100);
+    let mut reader = make_source(1, Some(reads), ErrorKind::Interrupted);
+    let mut writer = make_target(alloc, 100);
     ends(alloc, &mut reader, &mut writer, Ok(Ended::Eof), ANSWER)
 }
 
 // Fails where a fault does not end the stream, or what was written is no beginning of the answer.
 fn ends_at(alloc: Global, reads: usize) -> Result<(), Fail> {
+    let case = format!(in alloc; "at read {reads}")?;
     let mut server = echo_server(alloc, false)?;
-    let mut reader = input(1, Some(reads), ErrorKind::Other);
-    let mut writer = target(alloc, 100);
+    let mut reader = make_source(1, Some(reads), ErrorKind::Other);
+    let mut writer = make_target(alloc, 100);
     let ended = serve_stream(alloc, &mut server, &mut reader, &mut writer);
-    same("the end", &ended, &Err(StreamFault::Read))?;
-    same("open", &server.is_closed(), &false)?;
-    same("a beginning", &ANSWER.starts_with(&writer.bytes), &true)
+    same(&case, &ended, &Err(StreamFault::Read))?;
+    same(&case, &server.is_closed(), &false)?;
+    same(&case, &ANSWER.starts_with(&writer.bytes), &true)
 }
 
 #[test]
@@ -192,8 +197,8 @@ const WRITTEN: [&[u8]; 3] = [b"", b"01\n", b"01\n0 E 08P01 protocol_violation\n"
 #[test]
 fn write_fault_ends(rt: HostRuntime) -> Result<(), Fail> {
     for (calls, text) in WRITTEN.into_iter().enumerate() {
-        let mut reader = input(1, None, ErrorKind::Other);
-        let mut writer = target(rt.alloc(), calls);
+        let mut reader = make_source(1, None, ErrorKind::Other);
+        let mut writer = make_target(rt.alloc(), calls);
         let fault = Err(StreamFault::Write);
         ends(rt.alloc(), &mut reader, &mut writer, fault, text)?;
     }
@@ -217,8 +222,8 @@ fn faults_have_texts(rt: HostRuntime) -> Result<(), Fail> {
 #[test]
 fn no_room_ends(rt: HostRuntime) -> Result<(), Fail> {
     let mut server = echo_server(rt.alloc(), true)?;
-    let mut reader = input(100, None, ErrorKind::Other);
-    let mut writer = target(rt.alloc(), 100);
+    let mut reader = make_source(100, None, ErrorKind::Other);
+    let mut writer = make_target(rt.alloc(), 100);
     let ended = serve_stream(rt.alloc(), &mut server, &mut reader, &mut writer);
     same("the end", &ended, &Err(StreamFault::NoRoom))?;
     same_text("the replies", &writer.bytes, b"")?;

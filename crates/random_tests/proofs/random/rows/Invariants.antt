@@ -3,7 +3,7 @@ use Rattle.std.specs.List.{list_all}
 use Rattle.fdw_api.specs.Scan.{row_fits}
 use Rattle.med_value.specs.Datum.{tuple}
 use Rattle.med_value.specs.declared.value.ColType.TheVariants as types
-use Rattle.fed_tests.proofs.random.rows.Given as goal
+use Rattle.random_tests.proofs.random.rows.Given as goal
 
 -- the rows so far are of the table's types
 abbrev pub invariant-loop : goal.invariant-loop
