@@ -160,8 +160,8 @@ fn ends_at_call(
 
 #[test]
 fn write_that_fails_ends_the_stream(rt: HostRuntime) -> Result<(), Fail> {
-    for (calls, length) in WRITTEN.into_iter().enumerate() {
-        ends_at_call(rt.alloc(), calls, Err(StreamFault::Write), length)?;
+    for calls in 0..WRITTEN.len() {
+        ends_at_call(rt.alloc(), calls, Err(StreamFault::Write), WRITTEN[calls])?;
     }
     ends_at_call(rt.alloc(), WRITTEN.len(), Ok(Ended::Eof), ANSWER.len())
 }

@@ -191,18 +191,20 @@ fn read_fault_ends_and_interruption_does_not(rt: HostRuntime) -> Result<(), Fail
     Ok(())
 }
 
-// The text written where so many writes come before the one that fails.
-const WRITTEN: [&[u8]; 3] = [b"", b"01\n", b"01\n0 E 08P01 protocol_violation\n"];
+// Fails where a write that fails, after so many, does not end the stream, or another text is written.
+fn ends_at_write(alloc: Global, calls: usize, text: &[u8]) -> Result<(), Fail> {
+    let mut reader = make_source(1, None, ErrorKind::Other);
+    let mut writer = make_target(alloc, calls);
+    let fault = Err(StreamFault::Write);
+    ends(alloc, &mut reader, &mut writer, fault, text)
+}
 
 #[test]
 fn write_fault_ends(rt: HostRuntime) -> Result<(), Fail> {
-    for (calls, text) in WRITTEN.into_iter().enumerate() {
-        let mut reader = make_source(1, None, ErrorKind::Other);
-        let mut writer = make_target(rt.alloc(), calls);
-        let fault = Err(StreamFault::Write);
-        ends(rt.alloc(), &mut reader, &mut writer, fault, text)?;
-    }
-    Ok(())
+    let alloc = rt.alloc();
+    ends_at_write(alloc, 0, b"")?;
+    ends_at_write(alloc, 1, b"01\n")?;
+    ends_at_write(alloc, 2, b"01\n0 E 08P01 protocol_violation\n")
 }
 
 #[test]

@@ -8,30 +8,29 @@ use tri_expr::{
     Comparison, Expr, Grouping, JoinChain, Select, SetFunction, SortDirection, is_safe_from,
 };
 
-// The orders of the demo list, and two of no part: columns no, part and n.
-const ORDERS: [(i64, Option<i64>, i64); 5] = [
-    (10, Some(1), 4),
-    (11, Some(1), 6),
-    (12, Some(9), 1),
-    (20, None, 1),
-    (21, None, 2),
-];
-
-fn order(alloc: Global, no: i64, part: Option<i64>, n: i64) -> Result<Row, Fail> {
+fn push_order(
+    alloc: Global,
+    rows: &mut Vec<Row>,
+    no: i64,
+    part: Option<i64>,
+    n: i64,
+) -> Result<(), Fail> {
     let part = match part {
         Some(part) => Value::Int(part),
         None => Value::Null,
     };
-    Ok(Row {
-        cells: vec![in alloc; Value::Int(no), part, Value::Int(n)]?,
-    })
+    let cells = vec![in alloc; Value::Int(no), part, Value::Int(n)]?;
+    Ok(rows.push(Row { cells })?)
 }
 
+// The orders of the demo list, and two of no part: columns no, part and n.
 fn orders(alloc: Global) -> Result<Vec<Row>, Fail> {
     let mut rows = Vec::new(alloc);
-    for (no, part, n) in ORDERS {
-        rows.push(order(alloc, no, part, n)?)?;
-    }
+    push_order(alloc, &mut rows, 10, Some(1), 4)?;
+    push_order(alloc, &mut rows, 11, Some(1), 6)?;
+    push_order(alloc, &mut rows, 12, Some(9), 1)?;
+    push_order(alloc, &mut rows, 20, None, 1)?;
+    push_order(alloc, &mut rows, 21, None, 2)?;
     Ok(rows)
 }
 

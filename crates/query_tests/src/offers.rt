@@ -82,16 +82,17 @@ fn every_column_is_wanted_and_nothing_offered(rt: HostRuntime) -> Result<(), Fai
     )
 }
 
+fn agreement(alloc: Global, narrow: bool) -> Agreement {
+    Agreement {
+        answers: Vec::new(alloc),
+        narrow,
+    }
+}
+
 // The scans of two entries, whose boxes agreed to nothing and to narrow rows of the first.
 fn two_scans(alloc: Global, bound: &Bound, narrow: bool) -> Result<Split, Fail> {
     let offers = offer(alloc, bound)?;
-    let mut agreements = Vec::new(alloc);
-    for narrow in [narrow, false] {
-        agreements.push(Agreement {
-            answers: Vec::new(alloc),
-            narrow,
-        })?;
-    }
+    let agreements = vec![in alloc; agreement(alloc, narrow), agreement(alloc, false)]?;
     if offers.entries.len() != agreements.len() {
         return Err("not an agreement for each offer".into());
     }
