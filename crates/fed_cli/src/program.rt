@@ -201,6 +201,3 @@ pub fn run<R: AllocGlobal + Env + Input + Print + Eprint>(rt: &R) -> u8 {
         }
     }
 }
-
-#[cfg(test)]
-mod tests;

@@ -1,8 +1,8 @@
 //! An engine between a reader and a writer.
-ghost use Rattle.med_session.specs.World.{World};
-ghost use Rattle.med_session.specs.Engine.{shown, IsSound, Agrees, EachBox, IsAtRest};
-ghost use Rattle.med_exec.specs.Slots.{states};
 ghost use Rattle.fed_cli.specs.Answered.{ServesWorld};
+ghost use Rattle.med_exec.specs.Slots.{states};
+ghost use Rattle.med_session.specs.Engine.{shown, IsSound, Agrees, EachBox, IsAtRest};
+ghost use Rattle.med_session.specs.World.{World};
 
 use crate::stream::{Ended, StreamFault, serve_stream};
 use crate::worlds::served_worlds_follow;

@@ -126,6 +126,3 @@ fn answer_piece<H: Handler, W: Write>(
     }
     Ok(())
 }
-
-#[cfg(test)]
-mod tests;

@@ -91,6 +91,3 @@ pub fn read_words<'a, S: AsStr>(alloc: Global, words: &'a [S]) -> Result<Asked<'
         list => Ok(Asked::Run { list }),
     }
 }
-
-#[cfg(test)]
-mod tests;

@@ -1,4 +1,5 @@
 //! Rows cut to columns.
+use crate::expect::{same, same_text};
 use med_exec::project;
 use med_value::{Row, Value, row_text};
 use std::alloc::Global;
@@ -22,14 +23,7 @@ fn cuts_rows_to_the_named_columns(rt: HostRuntime) -> Result<(), Fail> {
     for row in project(alloc, parts(alloc)?, &[2, 1, 2, 9])? {
         row_text(&row, &mut text)?;
     }
-    assert_eq!(rt;
-        text.as_slice(),
-        b"40\tbolt\t40\t\\N7\t\\N\t7\t\\N".as_slice()
-    );
-    assert_eq!(rt;
-        project(alloc, parts(alloc)?, &[])?.len(),
-        2,
-        "a row of no columns is a row"
-    );
-    Ok(())
+    same_text("the rows", &text, "40\tbolt\t40\t\\N7\t\\N\t7\t\\N")?;
+    let rows = project(alloc, parts(alloc)?, &[])?;
+    same("rows of no columns", &rows.len(), &2)
 }

@@ -1,5 +1,5 @@
-//! Tests of queries below the engine, by public functions alone: bound, offered to their sources, and answered. They stand apart, so that no
-//! crate is proved a second time for its tests.
+//! Tests of queries below the engine, by public functions alone: bound, offered to their sources, and answered, as far as the program's streams
+//! (`tests/`) cannot show it. They stand apart, so that no crate is proved a second time for its tests.
 #![tactic(auto)]
 
 #[cfg(test)]
@@ -7,9 +7,13 @@ mod answers;
 #[cfg(test)]
 mod bound;
 #[cfg(test)]
+mod bound_items;
+#[cfg(test)]
 mod bound_queries;
 #[cfg(test)]
 mod columns;
+#[cfg(test)]
+mod expect;
 #[cfg(test)]
 mod offers;
 #[cfg(test)]

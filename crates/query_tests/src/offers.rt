@@ -1,10 +1,11 @@
 //! Offers and scans of a query's entries.
+use crate::expect::{same, same_text};
 use fdw_api::interface::TableNo;
 use fdw_api::scan::Agreement;
 use med_binder::{Bound, BoundEntry};
 use med_planner::{Plan, plan};
 use med_query::Select;
-use pushdown::{Offers, Split, accept, offer};
+use pushdown::{EntryScan, Offers, Split, accept, offer};
 use std::alloc::Global;
 use std::test::Fail;
 
@@ -41,57 +42,71 @@ fn two_entries(alloc: Global) -> Result<Bound, Fail> {
     })
 }
 
-#[test]
-fn every_column_is_wanted_and_nothing_offered(rt: HostRuntime) -> Result<(), Fail> {
-    let bound = two_entries(rt.alloc())?;
-    let Offers { entries } = offer(rt.alloc(), &bound)?;
-    assert_eq!(rt; entries.len(), 2, "one offer for each entry");
-    assert_eq!(rt; entries[0].source, 0, "the source of a");
-    assert_eq!(rt; entries[0].table.number, 7, "the table of a");
-    assert_eq!(rt;
-        entries[0].wanted.as_slice(),
-        [0, 1].as_slice(),
-        "the columns of a"
-    );
-    assert!(rt; entries[0].offered.is_empty(), "no restriction on a");
-    assert_eq!(rt; entries[1].source, 3, "the source of b");
-    assert_eq!(rt;
-        entries[1].wanted.as_slice(),
-        [0, 1, 2].as_slice(),
-        "the columns of b"
-    );
-    Ok(())
+// Of each offer the source, the table, the columns wanted, and how many restrictions are offered.
+fn offers_text(alloc: Global, offers: &Offers) -> Result<String, Fail> {
+    let mut text = "".to_string(alloc)?;
+    for offer in &offers.entries {
+        let source = offer.source;
+        let table = offer.table.number;
+        let wanted = &offer.wanted;
+        let offered = offer.offered.len();
+        let line = format!(in alloc; "{source} {table} {wanted:?} {offered}\n")?;
+        text.push_str(line.as_str())?;
+    }
+    Ok(text)
+}
+
+// Of each scan the source, the table, the columns wanted, and whether the rows come narrow.
+fn scans_text(alloc: Global, scans: &[EntryScan]) -> Result<String, Fail> {
+    let mut text = "".to_string(alloc)?;
+    for scan in scans {
+        let source = scan.source;
+        let table = scan.table.number;
+        let wanted = &scan.spec.wanted;
+        let narrow = scan.spec.agreement.narrow;
+        let line = format!(in alloc; "{source} {table} {wanted:?} {narrow}\n")?;
+        text.push_str(line.as_str())?;
+    }
+    Ok(text)
 }
 
 #[test]
+fn every_column_is_wanted_and_nothing_offered(rt: HostRuntime) -> Result<(), Fail> {
+    let alloc = rt.alloc();
+    let offers = offer(alloc, &two_entries(alloc)?)?;
+    let text = offers_text(alloc, &offers)?;
+    same_text(
+        "the offers",
+        text.as_bytes(),
+        "0 7 [0, 1] 0\n3 8 [0, 1, 2] 0\n",
+    )
+}
+
+fn agreement(alloc: Global, narrow: bool) -> Agreement {
+    Agreement {
+        answers: Vec::new(alloc),
+        narrow,
+    }
+}
+
+// The scans of two entries, whose boxes agreed to nothing and to narrow rows of the first.
+fn two_scans(alloc: Global, bound: &Bound, narrow: bool) -> Result<Split, Fail> {
+    let offers = offer(alloc, bound)?;
+    let agreements = vec![in alloc; agreement(alloc, narrow), agreement(alloc, false)]?;
+    if offers.entries.len() != agreements.len() {
+        return Err("not an agreement for each offer".into());
+    }
+    Ok(accept(alloc, offers, agreements)?)
+}
+
+const SCANS: &str = "0 7 [0, 1] false\n3 8 [0, 1, 2] false\n";
+
+#[test]
 fn rows_come_whole(rt: HostRuntime) -> Result<(), Fail> {
-    let bound = two_entries(rt.alloc())?;
-    let offers = offer(rt.alloc(), &bound)?;
-    let mut agreements = Vec::new(rt.alloc());
-    agreements.push(Agreement {
-        answers: Vec::new(rt.alloc()),
-        narrow: true,
-    })?;
-    agreements.push(Agreement {
-        answers: Vec::new(rt.alloc()),
-        narrow: false,
-    })?;
-    assert_eq!(rt;
-        offers.entries.len(),
-        agreements.len(),
-        "an agreement for each"
-    );
-    let Split { scans } = accept(rt.alloc(), offers, agreements)?;
-    assert_eq!(rt; scans.len(), 2, "one scan for each offer");
-    assert_eq!(rt; scans[0].source, 0, "the source of a");
-    assert_eq!(rt; scans[1].table.number, 8, "the table of b");
-    assert_eq!(rt;
-        scans[1].spec.wanted.as_slice(),
-        [0, 1, 2].as_slice(),
-        "the columns of b"
-    );
-    assert!(rt; !scans[0].spec.agreement.narrow, "whole rows of a");
-    Ok(())
+    let alloc = rt.alloc();
+    let Split { scans } = two_scans(alloc, &two_entries(alloc)?, true)?;
+    let text = scans_text(alloc, &scans)?;
+    same_text("the scans", text.as_bytes(), SCANS)
 }
 
 #[test]
@@ -99,18 +114,9 @@ fn plan_has_the_scans_and_the_query(rt: HostRuntime) -> Result<(), Fail> {
     let alloc = rt.alloc();
     let mut bound = two_entries(alloc)?;
     bound.select.limit = Some(3);
-    let offers = offer(alloc, &bound)?;
-    let mut agreements = Vec::new(alloc);
-    for _entry in 0..2 {
-        agreements.push(Agreement {
-            answers: Vec::new(alloc),
-            narrow: false,
-        })?;
-    }
-    assert_eq!(rt; offers.entries.len(), agreements.len());
-    let Plan { scans, select } = plan(alloc, &bound, accept(alloc, offers, agreements)?)?;
-    assert_eq!(rt; scans.len(), 2, "one scan for each entry");
-    assert_eq!(rt; scans[1].source, 3, "the source of b");
-    assert_eq!(rt; select.limit, Some(3));
-    Ok(())
+    let split = two_scans(alloc, &bound, false)?;
+    let Plan { scans, select } = plan(alloc, &bound, split)?;
+    let text = scans_text(alloc, &scans)?;
+    same_text("the scans", text.as_bytes(), SCANS)?;
+    same("the limit", &select.limit, &Some(3))
 }

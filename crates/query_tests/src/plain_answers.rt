@@ -1,4 +1,5 @@
 //! Answers by hand.
+use crate::expect::same_text;
 use med_query::{JoinChain, Select};
 use med_value::{Row, Value};
 use plain_select::plain_answer;
@@ -33,6 +34,5 @@ fn select_of_one_table(rt: HostRuntime) -> Result<(), Fail> {
     };
     let rows = plain_answer(alloc, &select, &tables)?;
     let shown = format!(in alloc; "{rows:?}")?;
-    assert_eq!(rt; shown.as_str(), "[Row { cells: [Null] }]");
-    Ok(())
+    same_text("the rows", shown.as_bytes(), "[Row { cells: [Null] }]")
 }

@@ -1,18 +1,19 @@
 //! Runs of plans, row by row, by whatever their boxes agreed to take over.
-ghost use Rattle.std.specs.Prelude.{◌≡◌, ◌∷◌, [], true, List, length, map, IfOk};
-ghost use Rattle.std.specs.List.{list_all};
-ghost use Rattle.med_value.specs.Datum.{Whole, tuple};
-ghost use Rattle.med_query.specs.Select.{is_safe_chain};
 ghost use Rattle.fdw_api.specs.Kinds.{column_of};
 ghost use Rattle.fdw_api.specs.Scan.{filter_of, params_fit};
-ghost use Rattle.probe_wrapper.specs.Lists.{listed};
-ghost use Rattle.probe_wrapper.specs.ListBoxes.{box_of};
-ghost use Rattle.med_exec.specs.Slots.{states, HasTable};
-ghost use Rattle.med_exec.specs.Running.{CanRun};
 ghost use Rattle.med_exec.specs.Rests.{IsRunning, IsHeld};
+ghost use Rattle.med_exec.specs.Running.{CanRun};
+ghost use Rattle.med_exec.specs.Slots.{states, HasTable};
+ghost use Rattle.med_query.specs.Select.{is_safe_chain};
+ghost use Rattle.med_value.specs.Datum.{Whole, tuple};
+ghost use Rattle.probe_wrapper.specs.ListBoxes.{box_of};
+ghost use Rattle.probe_wrapper.specs.Lists.{listed};
 ghost use Rattle.query_tests.specs.Orders as spec;
+ghost use Rattle.std.specs.List.{list_all};
+ghost use Rattle.std.specs.Prelude.{◌≡◌, ◌∷◌, [], true, List, length, map, IfOk};
 
 use crate::answers::{columns, compare, int, one, select};
+use crate::expect::{same, same_text};
 use fdw_api::interface::{Counts, Fault, TableNo, Wrapper};
 use fdw_api::scan::{
     Agree, Agreement, Comparison as Compared, Operand, Restriction, ScanSpec, Test,
@@ -35,7 +36,7 @@ fn order(alloc: Global, number: i64, part: i64, quantity: i64) -> Result<Row, Fa
     Ok(Row { cells })
 }
 
-/// (10, 1, 4), (11, 1, 6) and (12, 9, 1): columns no, part and n.
+// (10, 1, 4), (11, 1, 6) and (12, 9, 1): columns no, part and n.
 fn orders(alloc: Global) -> Result<ListTable, Fail>
     ensures { IfOk result (λ t. listed t ≡ spec.orders) }
 {
@@ -68,7 +69,7 @@ fn orders_columns(alloc: Global) -> Result<Vec<ColumnDef>, Fail>
     Ok(vec![in alloc; number, part, quantity]?)
 }
 
-/// A slot with a list whose orders are bound, and their table.
+// A slot with a list whose orders are bound, and their table.
 fn bound_orders(alloc: Global) -> Result<(Vec<Option<ListWrapper>>, TableNo), Fail>
     ensures { IfOk result (λ p. HasTable (states box_of p.0.items) 0 p.1.number) }
 {
@@ -79,7 +80,7 @@ fn bound_orders(alloc: Global) -> Result<(Vec<Option<ListWrapper>>, TableNo), Fa
     Ok((vec![in alloc; Some(list)]?, table))
 }
 
-/// n > 1
+// n > 1
 fn above_one(alloc: Global) -> Result<Vec<Restriction>, Fail>
     ensures typed { IfOk result (λ rs. (kinds : List ColType) → params_fit kinds (map filter_of rs.items) [] ≡ true) }
     ensures one { IfOk result (λ rs. length rs.items ≡ 1) }
@@ -107,7 +108,7 @@ fn one_scan(alloc: Global, table: TableNo, spec: ScanSpec, select: Select) -> Re
     })
 }
 
-/// The plan of a query over n and no of the orders of more than 1, by what their box agrees to.
+// The plan of a query over n and no of the orders of more than 1, by what their box agrees to.
 fn agreed_plan<W: Wrapper>(
     slots: &Vec<Option<W>>,
     alloc: Global,
@@ -129,7 +130,7 @@ fn agreed_plan<W: Wrapper>(
     one_scan(alloc, table, spec, select)
 }
 
-/// The plan of a query over the orders, of which more than 1 are offered, where their box takes nothing over.
+// The plan of a query over the orders, of which more than 1 are offered, where their box takes nothing over.
 fn ignored_plan<W: Wrapper>(
     slots: &Vec<Option<W>>,
     alloc: Global,
@@ -151,7 +152,7 @@ fn ignored_plan<W: Wrapper>(
     one_scan(alloc, table, spec, select)
 }
 
-/// The text of the rows that a run gives, at most so many, each with an LF.
+// The text of the rows that a run gives, at most so many, each with an LF.
 fn rest_of<W: Wrapper>(
     alloc: Global,
     run: &mut Run,
@@ -175,7 +176,7 @@ fn rest_of<W: Wrapper>(
     Err("too many rows".into())
 }
 
-/// The rows that a run of a plan gives, or the code of its fault.
+// The rows that a run of a plan gives, or the code of its fault.
 fn run_text<W: Wrapper>(
     alloc: Global,
     slots: &mut Vec<Option<W>>,
@@ -193,7 +194,7 @@ fn run_text<W: Wrapper>(
     text
 }
 
-/// One scan was begun and ended, and gave so many rows.
+// One scan was begun and ended, and gave so many rows.
 fn counts(pulled: u64) -> Option<Counts> {
     Some(Counts {
         next: 1,
@@ -212,12 +213,12 @@ fn box_takes_over_what_it_agreed_to(rt: HostRuntime) -> Result<(), Fail> {
         return Err("a risky ON".into());
     }
     let plan = agreed_plan(&slots, alloc, table, query)?;
-    assert_eq!(rt;
-        run_text(alloc, &mut slots, plan)?.as_slice(),
-        b"10\t4\n11\t6\n".as_slice()
-    );
-    assert_eq!(rt; ledger_at(&slots, 0), counts(2), "two narrow rows came");
-    Ok(())
+    same_text(
+        "the rows",
+        &run_text(alloc, &mut slots, plan)?,
+        "10\t4\n11\t6\n",
+    )?;
+    same("two narrow rows", &ledger_at(&slots, 0), &counts(2))
 }
 
 #[test]
@@ -231,15 +232,15 @@ fn query_decides_what_the_box_ignores(rt: HostRuntime) -> Result<(), Fail> {
         return Err("a risky ON".into());
     }
     let plan = ignored_plan(&slots, alloc, table, query)?;
-    assert_eq!(rt;
-        run_text(alloc, &mut slots, plan)?.as_slice(),
-        b"10\t4\n11\t6\n".as_slice()
-    );
-    assert_eq!(rt; ledger_at(&slots, 0), counts(3), "all rows came");
-    Ok(())
+    same_text(
+        "the rows",
+        &run_text(alloc, &mut slots, plan)?,
+        "10\t4\n11\t6\n",
+    )?;
+    same("all rows", &ledger_at(&slots, 0), &counts(3))
 }
 
-/// The rows that a query without tables gives, or the code of its fault.
+// The rows that a query without tables gives, or the code of its fault.
 fn run_without_tables(alloc: Global, items: Vec<Expr>) -> Result<Vec<u8>, Fail> {
     let mut query = select(alloc, 0, items)?;
     query.from = Vec::new(alloc);
@@ -258,11 +259,7 @@ fn run_without_tables(alloc: Global, items: Vec<Expr>) -> Result<Vec<u8>, Fail> 
 fn runs_a_query_without_tables(rt: HostRuntime) -> Result<(), Fail> {
     let alloc = rt.alloc();
     let items = one(alloc, int(1))?;
-    assert_eq!(rt;
-        run_without_tables(alloc, items)?.as_slice(),
-        b"1\n".as_slice()
-    );
-    Ok(())
+    same_text("the row", &run_without_tables(alloc, items)?, "1\n")
 }
 
 #[test]
@@ -274,9 +271,5 @@ fn run_tells_a_zero_divisor(rt: HostRuntime) -> Result<(), Fail> {
         Box::new(alloc, int(0))?,
     );
     let items = one(alloc, quotient)?;
-    assert_eq!(rt;
-        run_without_tables(alloc, items)?.as_slice(),
-        b"22012".as_slice()
-    );
-    Ok(())
+    same_text("the fault", &run_without_tables(alloc, items)?, "22012")
 }
