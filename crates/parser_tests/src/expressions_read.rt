@@ -1,21 +1,25 @@
 //! Expressions read and written out.
-use crate::rows::{assert_row, assert_rows, repeated};
+use crate::rows::{Answer, assert_row, assert_rows, repeated};
 use expr_parser::{expression, print_expression};
 use med_syntax::is_reserved;
 use std::alloc::Global;
 use std::test::Fail;
 
 /// The expression of the text, written out, or why it is refused.
-fn answer(alloc: Global, text: &str) -> Result<String, Fail> {
-    match expression(alloc, text) {
-        Ok(expr) => Ok(print_expression(alloc, &expr)?),
-        Err(cause) => Ok(format!(in alloc; "{cause:?}")?),
+struct Printed;
+
+impl Answer for Printed {
+    fn answer(alloc: Global, text: &str) -> Result<String, Fail> {
+        match expression(alloc, text) {
+            Ok(expr) => Ok(print_expression(alloc, &expr)?),
+            Err(cause) => Ok(format!(in alloc; "{cause:?}")?),
+        }
     }
 }
 
 #[test]
 fn operands(rt: HostRuntime) -> Result<(), Fail> {
-    assert_rows(
+    assert_rows::<Printed>(
         rt.alloc(),
         &rt,
         "1 => 1\n\
@@ -45,13 +49,12 @@ fn operands(rt: HostRuntime) -> Result<(), Fail> {
         (1) => ( 1 )\n\
         ((a)) => ( ( \"a\" ) )\n\
         a--b => \"a\"",
-        answer,
     )
 }
 
 #[test]
 fn sums(rt: HostRuntime) -> Result<(), Fail> {
-    assert_rows(
+    assert_rows::<Printed>(
         rt.alloc(),
         &rt,
         "- a => - \"a\"\n\
@@ -69,13 +72,12 @@ fn sums(rt: HostRuntime) -> Result<(), Fail> {
         1*2/3%4 => 1 * 2 / 3 % 4\n\
         -a*-b => - \"a\" * - \"b\"\n\
         1*-2 => 1 * - 2",
-        answer,
     )
 }
 
 #[test]
 fn conditions(rt: HostRuntime) -> Result<(), Fail> {
-    assert_rows(
+    assert_rows::<Printed>(
         rt.alloc(),
         &rt,
         "a=b => \"a\" = \"b\"\n\
@@ -110,13 +112,12 @@ fn conditions(rt: HostRuntime) -> Result<(), Fail> {
         a = 1 and b = 2 or not c => \"a\" = 1 AND \"b\" = 2 OR NOT \"c\"\n\
         a or b and c or d => \"a\" OR \"b\" AND \"c\" OR \"d\"\n\
         (a or b) and c => ( \"a\" OR \"b\" ) AND \"c\"",
-        answer,
     )
 }
 
 #[test]
 fn calls(rt: HostRuntime) -> Result<(), Fail> {
-    assert_rows(
+    assert_rows::<Printed>(
         rt.alloc(),
         &rt,
         "count(*) => \"count\" ( * )\n\
@@ -139,13 +140,12 @@ fn calls(rt: HostRuntime) -> Result<(), Fail> {
         - f(1) => - \"f\" ( 1 )\n\
         f(-1) => \"f\" ( - 1 )\n\
         a in (f(1), g()) => \"a\" IN ( \"f\" ( 1 ) , \"g\" ( ) )",
-        answer,
     )
 }
 
 #[test]
 fn syntax_errors(rt: HostRuntime) -> Result<(), Fail> {
-    assert_rows(
+    assert_rows::<Printed>(
         rt.alloc(),
         &rt,
         "\u{20}=> Syntax\n\
@@ -238,13 +238,12 @@ fn syntax_errors(rt: HostRuntime) -> Result<(), Fail> {
         t.false => Syntax\n\
         t.null => Syntax\n\
         t.true => Syntax",
-        answer,
     )
 }
 
 #[test]
 fn numbers_out_of_range(rt: HostRuntime) -> Result<(), Fail> {
-    assert_rows(
+    assert_rows::<Printed>(
         rt.alloc(),
         &rt,
         "9223372036854775808 => LiteralOutOfRange\n\
@@ -258,40 +257,42 @@ fn numbers_out_of_range(rt: HostRuntime) -> Result<(), Fail> {
         a = 1 or a = 9223372036854775808 => LiteralOutOfRange\n\
         f(9223372036854775808) => LiteralOutOfRange\n\
         f(1, g(9223372036854775808)) => LiteralOutOfRange",
-        answer,
     )
 }
 
 #[test]
 fn newlines_stand_between_tokens(rt: HostRuntime) -> Result<(), Fail> {
-    assert_row(rt.alloc(), &rt, "\ta\r\n-- the rest => \"a\"", answer)
+    assert_row::<Printed>(rt.alloc(), &rt, "\ta\r\n-- the rest => \"a\"")
 }
 
 #[test]
 fn long_names(rt: HostRuntime) -> Result<(), Fail> {
-    assert_rows(
+    assert_rows::<Printed>(
         rt.alloc(),
         &rt,
         "a23456789_123456789_123456789_123456789_123456789_123456789_123.\"a23456789_123456789_123456789_123456789_123456789_123456789_123\" = 'a23456789_123456789_123456789_123456789_123456789_123456789_1234' => \"a23456789_123456789_123456789_123456789_123456789_123456789_123\" . \"a23456789_123456789_123456789_123456789_123456789_123456789_123\" = 'a23456789_123456789_123456789_123456789_123456789_123456789_1234'\n\
         1 + a23456789_123456789_123456789_123456789_123456789_123456789_1234 => NameTooLong\n\
         a23456789_123456789_123456789_123456789_123456789_123456789_1234(1) => NameTooLong\n\
         \"a23456789_123456789_123456789_123456789_123456789_123456789_1234\".a => NameTooLong",
-        answer,
     )
 }
 
 /// The tree of the text, or why it is refused.
-fn tree(alloc: Global, text: &str) -> Result<String, Fail> {
-    match expression(alloc, text) {
-        Ok(expr) => Ok(format!(in alloc; "{expr:?}")?),
-        Err(cause) => Ok(format!(in alloc; "{cause:?}")?),
+struct Tree;
+
+impl Answer for Tree {
+    fn answer(alloc: Global, text: &str) -> Result<String, Fail> {
+        match expression(alloc, text) {
+            Ok(expr) => Ok(format!(in alloc; "{expr:?}")?),
+            Err(cause) => Ok(format!(in alloc; "{cause:?}")?),
+        }
     }
 }
 
 // The product stands in the sum, and the sum of the first two in the whole; a comparison stands below NOT, and a chain of three is one node.
 #[test]
 fn trees(rt: HostRuntime) -> Result<(), Fail> {
-    assert_rows(
+    assert_rows::<Tree>(
         rt.alloc(),
         &rt,
         "1 - 2 - 3 * 4 => Binary(Sub, Binary(Sub, Number(1), Number(2)), Binary(Mul, Number(3), Number(4)))\n\
@@ -299,35 +300,42 @@ fn trees(rt: HostRuntime) -> Result<(), Fail> {
         count(*) => CallAll(\"count\")\n\
         now() => Call(\"now\", [])\n\
         F(1, a) => Call(\"f\", [Number(1), Column(None, \"a\")])",
-        tree,
     )
 }
 
 /// How the text of a row of parts is answered, and how long it is.
-fn outcome(alloc: Global, row: &str) -> Result<String, Fail> {
-    let text = repeated(alloc, row)?;
-    let length = text.len();
-    Ok(match expression(alloc, &text) {
-        Ok(_) => format!(in alloc; "read in {length} bytes")?,
-        Err(cause) => format!(in alloc; "{cause:?} in {length} bytes")?,
-    })
+struct Outcome;
+
+impl Answer for Outcome {
+    fn answer(alloc: Global, row: &str) -> Result<String, Fail> {
+        let text = repeated(alloc, row)?;
+        let length = text.len();
+        Ok(match expression(alloc, &text) {
+            Ok(_) => format!(in alloc; "read in {length} bytes")?,
+            Err(cause) => format!(in alloc; "{cause:?} in {length} bytes")?,
+        })
+    }
 }
 
 /// The same where a refusal may have any cause.
-fn refusal(alloc: Global, row: &str) -> Result<String, Fail> {
-    let text = repeated(alloc, row)?;
-    let word = if expression(alloc, &text).is_ok() {
-        "read"
-    } else {
-        "refused"
-    };
-    Ok(format!(in alloc; "{word} in {} bytes", text.len())?)
+struct Refusal;
+
+impl Answer for Refusal {
+    fn answer(alloc: Global, row: &str) -> Result<String, Fail> {
+        let text = repeated(alloc, row)?;
+        let word = if expression(alloc, &text).is_ok() {
+            "read"
+        } else {
+            "refused"
+        };
+        Ok(format!(in alloc; "{word} in {} bytes", text.len())?)
+    }
 }
 
 // 64 tokens that deepen may stand in what is no expression; a call of nothing and one of all are as high as a number.
 #[test]
 fn heights(rt: HostRuntime) -> Result<(), Fail> {
-    assert_rows(
+    assert_rows::<Outcome>(
         rt.alloc(),
         &rt,
         "63*(\t1*1\t63*) => read in 127 bytes\n\
@@ -343,48 +351,49 @@ fn heights(rt: HostRuntime) -> Result<(), Fail> {
         63*f(1, \t1*g(*)\t63*) => read in 382 bytes\n\
         64*f(\t1*g(*)\t64*) => TooDeep in 196 bytes\n\
         64*f(\t1*1 => Syntax in 129 bytes",
-        outcome,
     )
 }
 
 // A chain and a list are one node each.
 #[test]
 fn long_texts(rt: HostRuntime) -> Result<(), Fail> {
-    assert_rows(
+    assert_rows::<Outcome>(
         rt.alloc(),
         &rt,
         "1*a\t9000* and a => read in 54001 bytes\n\
         1*a in (1\t9000*, a\t1*) => read in 27008 bytes\n\
         1*f(1\t9000*, a\t1*) => read in 27004 bytes",
-        outcome,
     )
 }
 
 #[test]
 fn long_texts_that_are_refused(rt: HostRuntime) -> Result<(), Fail> {
-    assert_rows(
+    assert_rows::<Refusal>(
         rt.alloc(),
         &rt,
         "30000*(\t1*1 => refused in 30001 bytes\n\
         1*1\t30000*+1 => refused in 60001 bytes\n\
         15000*not \t1*a => refused in 60001 bytes",
-        refusal,
     )
 }
 
 /// What is answered of a word, of it as a column, and of it in quotes.
-fn word_answers(alloc: Global, word: &str) -> Result<String, Fail> {
-    let is = is_reserved(word);
-    let alone = answer(alloc, word)?;
-    let column = answer(alloc, &format!(in alloc; "t.{word}")?)?;
-    let quoted = answer(alloc, &format!(in alloc; "\"{word}\"")?)?;
-    Ok(format!(in alloc; "{is} {alone} {column} {quoted}")?)
+struct WordAnswers;
+
+impl Answer for WordAnswers {
+    fn answer(alloc: Global, word: &str) -> Result<String, Fail> {
+        let is = is_reserved(word);
+        let alone = Printed::answer(alloc, word)?;
+        let column = Printed::answer(alloc, &format!(in alloc; "t.{word}")?)?;
+        let quoted = Printed::answer(alloc, &format!(in alloc; "\"{word}\"")?)?;
+        Ok(format!(in alloc; "{is} {alone} {column} {quoted}")?)
+    }
 }
 
 // FALSE, NULL and TRUE are reserved too, but they are expressions.
 #[test]
 fn reserved_words(rt: HostRuntime) -> Result<(), Fail> {
-    assert_rows(
+    assert_rows::<WordAnswers>(
         rt.alloc(),
         &rt,
         "all => true Syntax Syntax \"all\"\n\
@@ -441,18 +450,21 @@ fn reserved_words(rt: HostRuntime) -> Result<(), Fail> {
         when => true Syntax Syntax \"when\"\n\
         where => true Syntax Syntax \"where\"\n\
         with => true Syntax Syntax \"with\"",
-        word_answers,
     )
 }
 
 /// Whether the word is reserved.
-fn reserved(alloc: Global, word: &str) -> Result<String, Fail> {
-    Ok(format!(in alloc; "{}", is_reserved(word))?)
+struct Reserved;
+
+impl Answer for Reserved {
+    fn answer(alloc: Global, word: &str) -> Result<String, Fail> {
+        Ok(format!(in alloc; "{}", is_reserved(word))?)
+    }
 }
 
 #[test]
 fn other_words(rt: HostRuntime) -> Result<(), Fail> {
-    assert_rows(
+    assert_rows::<Reserved>(
         rt.alloc(),
         &rt,
         "false => true\n\
@@ -463,6 +475,5 @@ fn other_words(rt: HostRuntime) -> Result<(), Fail> {
         unknown => false\n\
         ALL => false\n\
         \u{20}=> false",
-        reserved,
     )
 }

@@ -4,21 +4,23 @@ use std::alloc::Global;
 use std::process::Abort;
 use std::test::Fail;
 
-/// What is answered of a text.
-pub type Answer = fn(Global, &str) -> Result<String, Fail>;
+/// A question that is asked of each row's text.
+pub trait Answer {
+    fn answer(alloc: Global, text: &str) -> Result<String, Fail>;
+}
 
 /// Stops where another answer comes than the row wants.
-pub fn assert_row(alloc: Global, rt: &impl Abort, row: &str, answer: Answer) -> Result<(), Fail> {
+pub fn assert_row<A: Answer>(alloc: Global, rt: &impl Abort, row: &str) -> Result<(), Fail> {
     let (text, wanted) = row.split_once(" => ").ok_or(row)?;
-    let came = answer(alloc, text)?;
+    let came = A::answer(alloc, text)?;
     assert_eq!(rt; came.as_str(), wanted, "in {text}");
     Ok(())
 }
 
 /// The same of each line.
-pub fn assert_rows(alloc: Global, rt: &impl Abort, rows: &str, answer: Answer) -> Result<(), Fail> {
+pub fn assert_rows<A: Answer>(alloc: Global, rt: &impl Abort, rows: &str) -> Result<(), Fail> {
     for row in rows.lines() {
-        assert_row(alloc, rt, row, answer)?;
+        assert_row::<A>(alloc, rt, row)?;
     }
     Ok(())
 }

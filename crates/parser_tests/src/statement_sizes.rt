@@ -1,5 +1,5 @@
 //! Long texts of statements, and memory that is refused.
-use crate::rows::{assert_rows, repeated};
+use crate::rows::{Answer, assert_rows, repeated};
 use med_parser::{parse, print};
 use med_value::Cause;
 use std::alloc::Global;
@@ -7,49 +7,55 @@ use std::process::Abort;
 use std::test::Fail;
 
 /// How the text of a row of parts is answered, and how long it is.
-fn outcome(alloc: Global, row: &str) -> Result<String, Fail> {
-    let text = repeated(alloc, row)?;
-    let length = text.len();
-    Ok(match parse(alloc, &text) {
-        Ok(_) => format!(in alloc; "read in {length} bytes")?,
-        Err(cause) => format!(in alloc; "{cause:?} in {length} bytes")?,
-    })
+struct Outcome;
+
+impl Answer for Outcome {
+    fn answer(alloc: Global, row: &str) -> Result<String, Fail> {
+        let text = repeated(alloc, row)?;
+        let length = text.len();
+        Ok(match parse(alloc, &text) {
+            Ok(_) => format!(in alloc; "read in {length} bytes")?,
+            Err(cause) => format!(in alloc; "{cause:?} in {length} bytes")?,
+        })
+    }
 }
 
 /// The same where a refusal may have any cause.
-fn refusal(alloc: Global, row: &str) -> Result<String, Fail> {
-    let text = repeated(alloc, row)?;
-    let word = if parse(alloc, &text).is_ok() {
-        "read"
-    } else {
-        "refused"
-    };
-    Ok(format!(in alloc; "{word} in {} bytes", text.len())?)
+struct Refusal;
+
+impl Answer for Refusal {
+    fn answer(alloc: Global, row: &str) -> Result<String, Fail> {
+        let text = repeated(alloc, row)?;
+        let word = if parse(alloc, &text).is_ok() {
+            "read"
+        } else {
+            "refused"
+        };
+        Ok(format!(in alloc; "{word} in {} bytes", text.len())?)
+    }
 }
 
 // In the first two there are over 64 tokens that deepen, and no expression is high.
 #[test]
 fn long_texts(rt: HostRuntime) -> Result<(), Fail> {
-    assert_rows(
+    assert_rows::<Outcome>(
         rt.alloc(),
         &rt,
         "1*SELECT *, t.*, a * 1 b\t1000*, -a * (1) c => read in 12022 bytes\n\
         1*SELECT *\t9000*, * => read in 27008 bytes\n\
         1*SELECT 1\t32764*+1 => TooDeep in 65536 bytes\n\
         1*SELECT a WHERE 1\t30000*+1 => TooDeep in 60016 bytes",
-        outcome,
     )
 }
 
 #[test]
 fn long_texts_that_are_refused(rt: HostRuntime) -> Result<(), Fail> {
-    assert_rows(
+    assert_rows::<Refusal>(
         rt.alloc(),
         &rt,
         "1*SELECT \t65529*( => refused in 65536 bytes\n\
         1*SELECT a FROM t WHERE \t60000*( => refused in 60022 bytes\n\
         1*SELECT \t16000*not  => refused in 64007 bytes",
-        refusal,
     )
 }
 

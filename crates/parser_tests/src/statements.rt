@@ -1,20 +1,24 @@
 //! Statements read and written out.
-use crate::rows::{assert_row, assert_rows};
+use crate::rows::{Answer, assert_row, assert_rows};
 use med_parser::{parse, print};
 use std::alloc::Global;
 use std::test::Fail;
 
 /// The statement of the text, written out, or why it is refused.
-fn answer(alloc: Global, text: &str) -> Result<String, Fail> {
-    match parse(alloc, text) {
-        Ok(statement) => Ok(print(alloc, &statement)?),
-        Err(cause) => Ok(format!(in alloc; "{cause:?}")?),
+struct Printed;
+
+impl Answer for Printed {
+    fn answer(alloc: Global, text: &str) -> Result<String, Fail> {
+        match parse(alloc, text) {
+            Ok(statement) => Ok(print(alloc, &statement)?),
+            Err(cause) => Ok(format!(in alloc; "{cause:?}")?),
+        }
     }
 }
 
 #[test]
 fn items(rt: HostRuntime) -> Result<(), Fail> {
-    assert_rows(
+    assert_rows::<Printed>(
         rt.alloc(),
         &rt,
         "SELECT a+1 x FROM t => SELECT \"a\" + 1 AS \"x\" FROM \"t\"\n\
@@ -57,13 +61,12 @@ fn items(rt: HostRuntime) -> Result<(), Fail> {
         SELECT a IN (1, 2) x, a BETWEEN 1 AND 2 y, a LIKE 'z%' z => SELECT \"a\" IN ( 1 , 2 ) AS \"x\" , \"a\" BETWEEN 1 AND 2 AS \"y\" , \"a\" LIKE 'z%' AS \"z\"\n\
         SELECT next, row => SELECT \"next\" , \"row\"\n\
         SELECT TRUE, null n, False => SELECT TRUE , NULL AS \"n\" , FALSE",
-        answer,
     )
 }
 
 #[test]
 fn clauses(rt: HostRuntime) -> Result<(), Fail> {
-    assert_rows(
+    assert_rows::<Printed>(
         rt.alloc(),
         &rt,
         "SELECT a FROM t; => SELECT \"a\" FROM \"t\"\n\
@@ -85,13 +88,12 @@ fn clauses(rt: HostRuntime) -> Result<(), Fail> {
         SELECT a.b c FROM d e WHERE f.g != 'h' AND i IS NULL; => SELECT \"a\" . \"b\" AS \"c\" FROM \"d\" AS \"e\" WHERE \"f\" . \"g\" <> 'h' AND \"i\" IS NULL\n\
         SELECT id, name FROM parts => SELECT \"id\" , \"name\" FROM \"parts\"\n\
         SELECT a FROM unknown unknown => SELECT \"a\" FROM \"unknown\" AS \"unknown\"",
-        answer,
     )
 }
 
 #[test]
 fn joins(rt: HostRuntime) -> Result<(), Fail> {
-    assert_rows(
+    assert_rows::<Printed>(
         rt.alloc(),
         &rt,
         "SELECT * FROM a, b => SELECT * FROM \"a\" , \"b\"\n\
@@ -102,13 +104,12 @@ fn joins(rt: HostRuntime) -> Result<(), Fail> {
         SELECT * FROM a left outer join b y on x => SELECT * FROM \"a\" LEFT JOIN \"b\" AS \"y\" ON \"x\"\n\
         SELECT * FROM a CROSS JOIN b AS c => SELECT * FROM \"a\" CROSS JOIN \"b\" AS \"c\"\n\
         SELECT * FROM a z JOIN b ON x LEFT JOIN c ON y CROSS JOIN d, e JOIN f ON z WHERE w => SELECT * FROM \"a\" AS \"z\" JOIN \"b\" ON \"x\" LEFT JOIN \"c\" ON \"y\" CROSS JOIN \"d\" , \"e\" JOIN \"f\" ON \"z\" WHERE \"w\"",
-        answer,
     )
 }
 
 #[test]
 fn groups_and_keys(rt: HostRuntime) -> Result<(), Fail> {
-    assert_rows(
+    assert_rows::<Printed>(
         rt.alloc(),
         &rt,
         "SELECT DISTINCT a => SELECT DISTINCT \"a\"\n\
@@ -122,13 +123,12 @@ fn groups_and_keys(rt: HostRuntime) -> Result<(), Fail> {
         SELECT a ORDER BY a NULLS FIRST, b DESC NULLS LAST, c + 1 asc nulls last => SELECT \"a\" ORDER BY \"a\" ASC NULLS FIRST , \"b\" DESC NULLS LAST , \"c\" + 1 ASC NULLS LAST\n\
         SELECT a ORDER BY 1 DESC NULLS FIRST => SELECT \"a\" ORDER BY 1 DESC NULLS FIRST\n\
         SELECT a FROM t ORDER BY a IS NULL, (b) => SELECT \"a\" FROM \"t\" ORDER BY \"a\" IS NULL ASC NULLS LAST , ( \"b\" ) ASC NULLS LAST",
-        answer,
     )
 }
 
 #[test]
 fn limits(rt: HostRuntime) -> Result<(), Fail> {
-    assert_rows(
+    assert_rows::<Printed>(
         rt.alloc(),
         &rt,
         "SELECT a LIMIT 1 => SELECT \"a\" LIMIT 1\n\
@@ -142,13 +142,12 @@ fn limits(rt: HostRuntime) -> Result<(), Fail> {
         SELECT a LIMIT 0 OFFSET 0 => SELECT \"a\" LIMIT 0 OFFSET 0\n\
         SELECT a LIMIT 9223372036854775807 OFFSET 9223372036854775807 => SELECT \"a\" LIMIT 9223372036854775807 OFFSET 9223372036854775807\n\
         SELECT DISTINCT a, b FROM t JOIN u ON c WHERE d GROUP BY a, b HAVING e ORDER BY a DESC LIMIT 3 OFFSET 4 ROWS => SELECT DISTINCT \"a\" , \"b\" FROM \"t\" JOIN \"u\" ON \"c\" WHERE \"d\" GROUP BY \"a\" , \"b\" HAVING \"e\" ORDER BY \"a\" DESC NULLS FIRST LIMIT 3 OFFSET 4",
-        answer,
     )
 }
 
 #[test]
 fn keywords_that_are_names(rt: HostRuntime) -> Result<(), Fail> {
-    assert_rows(
+    assert_rows::<Printed>(
         rt.alloc(),
         &rt,
         "SELECT nulls first FROM nulls first => SELECT \"nulls\" AS \"first\" FROM \"nulls\" AS \"first\"\n\
@@ -159,36 +158,37 @@ fn keywords_that_are_names(rt: HostRuntime) -> Result<(), Fail> {
         SELECT a AS order FROM nulls first => SELECT \"a\" AS \"order\" FROM \"nulls\" AS \"first\"\n\
         SELECT a AS as ORDER BY a NULLS FIRST OFFSET 1 ROW LIMIT 2 => SELECT \"a\" AS \"as\" ORDER BY \"a\" ASC NULLS FIRST LIMIT 2 OFFSET 1\n\
         SELECT a AS offset, 1 row FROM t => SELECT \"a\" AS \"offset\" , 1 AS \"row\" FROM \"t\"",
-        answer,
     )
 }
 
 #[test]
 fn newlines_stand_between_tokens(rt: HostRuntime) -> Result<(), Fail> {
-    assert_row(
+    assert_row::<Printed>(
         rt.alloc(),
         &rt,
         "\tselect\r\n A ,b\tFrom T ; -- both => SELECT \"a\" , \"b\" FROM \"t\"",
-        answer,
     )
 }
 
 /// The tree of the text, or why it is refused.
-fn tree(alloc: Global, text: &str) -> Result<String, Fail> {
-    match parse(alloc, text) {
-        Ok(statement) => Ok(format!(in alloc; "{statement:?}")?),
-        Err(cause) => Ok(format!(in alloc; "{cause:?}")?),
+struct Tree;
+
+impl Answer for Tree {
+    fn answer(alloc: Global, text: &str) -> Result<String, Fail> {
+        match parse(alloc, text) {
+            Ok(statement) => Ok(format!(in alloc; "{statement:?}")?),
+            Err(cause) => Ok(format!(in alloc; "{cause:?}")?),
+        }
     }
 }
 
 #[test]
 fn trees(rt: HostRuntime) -> Result<(), Fail> {
-    assert_rows(
+    assert_rows::<Tree>(
         rt.alloc(),
         &rt,
         "SELECT DISTINCT a FROM t JOIN u ON b LEFT JOIN v ON c CROSS JOIN w, x GROUP BY a, t.b HAVING c ORDER BY a, b DESC, c NULLS FIRST LIMIT 5 OFFSET 6 => Select(Select { distinct: true, items: [Expression(Column(None, \"a\"), None)], from: [Chain { first: Entry { table: \"t\", alias: None }, joins: [Inner(Entry { table: \"u\", alias: None }, Column(None, \"b\")), Left(Entry { table: \"v\", alias: None }, Column(None, \"c\")), Cross(Entry { table: \"w\", alias: None })] }, Chain { first: Entry { table: \"x\", alias: None }, joins: [] }], condition: None, groups: [GroupColumn { qualifier: None, name: \"a\" }, GroupColumn { qualifier: Some(\"t\"), name: \"b\" }], having: Some(Column(None, \"c\")), keys: [OrderKey { key: Column(None, \"a\"), descending: false, nulls_first: false }, OrderKey { key: Column(None, \"b\"), descending: true, nulls_first: true }, OrderKey { key: Column(None, \"c\"), descending: false, nulls_first: true }], limit: Some(Rows(5)), offset: Some(6) })\n\
         SELECT *, t.*, a + 1 x, b FROM t u WHERE c => Select(Select { distinct: false, items: [All, AllOf(\"t\"), Expression(Binary(Add, Column(None, \"a\"), Number(1)), Some(\"x\")), Expression(Column(None, \"b\"), None)], from: [Chain { first: Entry { table: \"t\", alias: Some(\"u\") }, joins: [] }], condition: Some(Column(None, \"c\")), groups: [], having: None, keys: [], limit: None, offset: None })\n\
         SELECT 1 => Select(Select { distinct: false, items: [Expression(Number(1), None)], from: [], condition: None, groups: [], having: None, keys: [], limit: None, offset: None })",
-        tree,
     )
 }

@@ -1,5 +1,5 @@
 //! Tokens of texts.
-use crate::rows::{assert_row, assert_rows};
+use crate::rows::{Answer, assert_row, assert_rows};
 use med_lexer::{Kind, LexFault, Mark, Token, number_value, tokens};
 use std::alloc::Global;
 use std::test::Fail;
@@ -17,22 +17,26 @@ fn shown_token(alloc: Global, token: &Token) -> Result<String, Fail> {
 }
 
 /// The tokens of the text, or why it has none.
-fn shown(alloc: Global, text: &str) -> Result<String, Fail> {
-    match tokens(alloc, text) {
-        Ok(found) => {
-            let mut out = String::new(alloc);
-            for token in &found {
-                out.push_str(&shown_token(alloc, token)?)?;
+struct Shown;
+
+impl Answer for Shown {
+    fn answer(alloc: Global, text: &str) -> Result<String, Fail> {
+        match tokens(alloc, text) {
+            Ok(found) => {
+                let mut out = String::new(alloc);
+                for token in &found {
+                    out.push_str(&shown_token(alloc, token)?)?;
+                }
+                Ok(out)
             }
-            Ok(out)
+            Err(fault) => Ok(format!(in alloc; "{fault:?}: {fault}")?),
         }
-        Err(fault) => Ok(format!(in alloc; "{fault:?}: {fault}")?),
     }
 }
 
 #[test]
 fn kinds_and_places(rt: HostRuntime) -> Result<(), Fail> {
-    assert_rows(
+    assert_rows::<Shown>(
         rt.alloc(),
         &rt,
         "a\"b\"\"c\"'d''e'-- x => word a 0..1|quoted b\"c 1..7|text d'e 7..13|\n\
@@ -44,24 +48,22 @@ fn kinds_and_places(rt: HostRuntime) -> Result<(), Fail> {
         007.5\"x\"'' => number 007 0..3|mark . 3..4|number 5 4..5|quoted x 5..8|text  8..10|\n\
         1--2 => number 1 0..1|\n\
         \u{20}=> ",
-        shown,
     )
 }
 
 #[test]
 fn newlines_stand_between_tokens(rt: HostRuntime) -> Result<(), Fail> {
-    assert_row(
+    assert_row::<Shown>(
         rt.alloc(),
         &rt,
         "SELECT\tselect\r\nSeLeCt_1$ => word select 0..6|word select 7..13|word select_1$ 15..24|",
-        shown,
     )?;
-    assert_row(rt.alloc(), &rt, " \t\r\n-- => ", shown)
+    assert_row::<Shown>(rt.alloc(), &rt, " \t\r\n-- => ")
 }
 
 #[test]
 fn no_tokens(rt: HostRuntime) -> Result<(), Fail> {
-    assert_rows(
+    assert_rows::<Shown>(
         rt.alloc(),
         &rt,
         "a # b => BadToken: a part of the text is no token\n\
@@ -82,17 +84,20 @@ fn no_tokens(rt: HostRuntime) -> Result<(), Fail> {
         12a => BadToken: a part of the text is no token\n\
         12_ => BadToken: a part of the text is no token\n\
         0é => BadToken: a part of the text is no token",
-        shown,
     )
 }
 
-fn value(alloc: Global, digits: &str) -> Result<String, Fail> {
-    Ok(format!(in alloc; "{:?}", number_value(digits))?)
+struct NumberValue;
+
+impl Answer for NumberValue {
+    fn answer(alloc: Global, digits: &str) -> Result<String, Fail> {
+        Ok(format!(in alloc; "{:?}", number_value(digits))?)
+    }
 }
 
 #[test]
 fn values_of_numbers(rt: HostRuntime) -> Result<(), Fail> {
-    assert_rows(
+    assert_rows::<NumberValue>(
         rt.alloc(),
         &rt,
         "0 => Some(0)\n\
@@ -104,7 +109,6 @@ fn values_of_numbers(rt: HostRuntime) -> Result<(), Fail> {
         \u{20}=> None\n\
         +5 => None\n\
         5x => None",
-        value,
     )
 }
 
