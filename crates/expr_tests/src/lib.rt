@@ -3,8 +3,16 @@
 #![tactic(auto)]
 
 #[cfg(test)]
+mod build;
+#[cfg(test)]
 mod expressions;
 #[cfg(test)]
+mod laws;
+#[cfg(test)]
 mod restrictions;
+#[cfg(test)]
+mod rows;
+#[cfg(test)]
+mod selects;
 #[cfg(test)]
 mod values;

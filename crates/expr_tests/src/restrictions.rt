@@ -1,4 +1,6 @@
 //! Restrictions on a row, and what a scan shows of it.
+use crate::rows::{Answer, assert_rows};
+use crate::values::value;
 use fdw_api::scan::{
     Agree, Agreement, Comparison, Operand, Restriction, ScanSpec, Test, copy_values, meets_taken,
 };
@@ -34,43 +36,71 @@ fn narrow_scan(alloc: Global) -> Result<ScanSpec, NoMemory> {
     })
 }
 
+/// The comparisons that are true of two values.
+struct TrueComparisons;
+
+impl Answer for TrueComparisons {
+    fn answer(alloc: Global, words: &str) -> Result<String, Fail> {
+        let (left, right) = words.split_once(' ').ok_or(words)?;
+        let (left, right) = (value(alloc, left)?, value(alloc, right)?);
+        let mut out = String::new(alloc);
+        for comparison in [
+            Comparison::Equal,
+            Comparison::Apart,
+            Comparison::Below,
+            Comparison::AtMost,
+            Comparison::Above,
+            Comparison::AtLeast,
+        ] {
+            if comparison.is_true(&left, &right) {
+                out.push_str(&format!(in alloc; "{comparison:?}|")?)?;
+            }
+        }
+        Ok(out)
+    }
+}
+
 #[test]
-fn comparison_with_null_is_never_true(rt: HostRuntime) {
-    let cases = [
-        (Comparison::Equal, 2, 2, true),
-        (Comparison::Apart, 2, 2, false),
-        (Comparison::Below, 1, 2, true),
-        (Comparison::AtMost, 2, 2, true),
-        (Comparison::Above, 1, 2, false),
-        (Comparison::AtLeast, 2, 1, true),
-    ];
-    for (comparison, left, right, want) in cases {
-        let (left, right) = (Value::Int(left), Value::Int(right));
-        assert_eq!(rt; comparison.is_true(&left, &right), want, "{comparison:?}");
-        assert!(rt; !comparison.is_true(&Value::Null, &right));
-        assert!(rt; !comparison.is_true(&left, &Value::Null));
-        assert!(rt; !comparison.is_true(&Value::Null, &Value::Null));
+fn comparison_with_null_is_never_true(rt: HostRuntime) -> Result<(), Fail> {
+    assert_rows::<TrueComparisons>(
+        rt.alloc(),
+        &rt,
+        "2 2 => Equal|AtMost|AtLeast|\n\
+        1 2 => Apart|Below|AtMost|\n\
+        2 1 => Apart|Above|AtLeast|\n\
+        NULL 1 => \n\
+        NULL 2 => \n\
+        1 NULL => \n\
+        2 NULL => \n\
+        NULL NULL => ",
+    )
+}
+
+/// Of the scan with this parameter: whether its restrictions are met and its taken ones, what it shows of the row, and what a plain one does.
+struct Narrow;
+
+impl Answer for Narrow {
+    fn answer(alloc: Global, parameter: &str) -> Result<String, Fail> {
+        let row = part(alloc)?;
+        let scan = narrow_scan(alloc)?.copy(alloc)?;
+        let params = copy_values(alloc, &[value(alloc, parameter)?])?;
+        let met = scan.offered.iter().all(|r| r.is_met(&row, &params));
+        let taken = meets_taken(&scan.offered, &scan.agreement.answers, &row, &params);
+        let mut out = Vec::new(alloc);
+        row_text(&scan.show(alloc, &row)?, &mut out)?;
+        out.push(b'|')?;
+        row_text(&ScanSpec::plain(alloc).show(alloc, &row)?, &mut out)?;
+        let shown = String::from_utf8(out).ok().ok_or(parameter)?;
+        Ok(format!(in alloc; "{met} {taken} {}", shown.as_str())?)
     }
 }
 
 #[test]
 fn narrow_scan_tests_and_shows_a_row(rt: HostRuntime) -> Result<(), Fail> {
-    let alloc = rt.alloc();
-    let row = part(alloc)?;
-    let scan = narrow_scan(alloc)?.copy(alloc)?;
-    for (parameter, want) in [(1, true), (2, false)] {
-        let params = copy_values(alloc, &[Value::Int(parameter)])?;
-        assert_eq!(rt; scan.offered.iter().all(|r| r.is_met(&row, &params)), want);
-        assert_eq!(rt;
-            meets_taken(&scan.offered, &scan.agreement.answers, &row, &params),
-            want
-        );
-    }
-    let mut out = Vec::new(alloc);
-    row_text(&scan.show(alloc, &row)?, &mut out)?;
-    assert_eq!(rt; out.as_slice(), b"bolt\t1".as_slice());
-    out.clear();
-    row_text(&ScanSpec::plain(alloc).show(alloc, &row)?, &mut out)?;
-    assert_eq!(rt; out.as_slice(), b"1\t\\N\tbolt".as_slice());
-    Ok(())
+    assert_rows::<Narrow>(
+        rt.alloc(),
+        &rt,
+        "1 => true true bolt\t1|1\t\\N\tbolt\n\
+        2 => false false bolt\t1|1\t\\N\tbolt",
+    )
 }

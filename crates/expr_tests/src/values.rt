@@ -1,105 +1,184 @@
-//! Values and rows: their copies, their text and their order.
+//! Values and rows: their copies, their text and their order; and causes.
+use crate::rows::{Answer, assert_row, assert_rows};
 use med_value::{
     Cause, ColType, ColumnDef, NoMemory, Row, Value, compare_for_order, escaped_text, row_text,
 };
 use std::alloc::{AllocError, Global};
-use std::cmp::Ordering;
 use std::test::Fail;
 
-fn text_of(alloc: Global, cells: Vec<Value>) -> Result<Vec<u8>, NoMemory> {
-    let mut out = Vec::new(alloc);
-    row_text(&Row { cells }, &mut out)?;
-    Ok(out)
+/// The value of a word: NULL, a truth value, a text in quotes, or a number.
+pub fn value(alloc: Global, word: &str) -> Result<Value, Fail> {
+    Ok(match word {
+        "NULL" => Value::Null,
+        "true" => Value::Bool(true),
+        "false" => Value::Bool(false),
+        _ => match word.strip_prefix('\'') {
+            Some(text) => Value::Text(text.trim_end_matches('\'').to_string(alloc)?),
+            None => Value::Int(word.parse()?),
+        },
+    })
+}
+
+/// The values of words with a space between two of them, copied.
+fn values(alloc: Global, words: &str) -> Result<Vec<Value>, Fail> {
+    let mut values = Vec::new(alloc);
+    for word in words.split(' ') {
+        values.push(value(alloc, word)?.copy(alloc)?)?;
+    }
+    Ok(values)
+}
+
+struct RowCopy;
+
+impl Answer for RowCopy {
+    fn answer(alloc: Global, words: &str) -> Result<String, Fail> {
+        let row = Row {
+            cells: values(alloc, words)?,
+        };
+        Ok(format!(in alloc; "{:?}", row.copy(alloc)?)?)
+    }
+}
+
+struct ColumnCopy;
+
+impl Answer for ColumnCopy {
+    fn answer(alloc: Global, name: &str) -> Result<String, Fail> {
+        let column = ColumnDef {
+            name: name.to_string(alloc)?,
+            kind: ColType::Int,
+            not_null: true,
+        };
+        Ok(format!(in alloc; "{:?}", column.copy(alloc)?)?)
+    }
 }
 
 #[test]
 fn copies_are_equal(rt: HostRuntime) -> Result<(), Fail> {
-    let text = Value::Text("x".to_string(rt.alloc())?);
-    assert!(rt; matches!(text.copy(rt.alloc())?, Value::Text(t) if t.as_str() == "x"));
+    assert_row::<RowCopy>(
+        rt.alloc(),
+        &rt,
+        "1 'x' => Row { cells: [Int(1), Text(\"x\")] }",
+    )?;
+    assert_row::<ColumnCopy>(
+        rt.alloc(),
+        &rt,
+        "qty => ColumnDef { name: \"qty\", kind: Int, not_null: true }",
+    )
+}
 
-    let row = Row {
-        cells: vec![in rt.alloc(); Value::Int(1), text]?,
-    };
-    let copy = row.copy(rt.alloc())?;
-    assert_eq!(rt; copy.cells.len(), 2);
-    assert!(rt; matches!(&copy.cells[0], Value::Int(1)));
-    assert!(rt; matches!(&copy.cells[1], Value::Text(t) if t.as_str() == "x"));
+struct RowText;
 
-    let name = "qty".to_string(rt.alloc())?;
-    let column = ColumnDef {
-        name,
-        kind: ColType::Int,
-        not_null: true,
-    };
-    let copy = column.copy(rt.alloc())?;
-    assert_eq!(rt;
-        (copy.name.as_str(), copy.kind, copy.not_null),
-        ("qty", ColType::Int, true)
-    );
-    Ok(())
+impl Answer for RowText {
+    fn answer(alloc: Global, words: &str) -> Result<String, Fail> {
+        let cells = values(alloc, words)?;
+        let mut out = Vec::new(alloc);
+        row_text(&Row { cells }, &mut out)?;
+        Ok(String::from_utf8(out).ok().ok_or(words)?)
+    }
 }
 
 #[test]
 fn rows_as_text(rt: HostRuntime) -> Result<(), Fail> {
-    let cells = vec![in rt.alloc(); Value::Int(1), Value::Null, Value::Bool(true)]?;
-    assert_eq!(rt;
-        text_of(rt.alloc(), cells)?.as_slice(),
-        b"1\t\\N\tt".as_slice()
-    );
+    assert_row::<RowText>(rt.alloc(), &rt, "1 NULL true => 1\t\\N\tt")?;
+    assert_row::<RowText>(
+        rt.alloc(),
+        &rt,
+        "-9223372036854775808 'a\\b\tc\nd\r\\N' false => -9223372036854775808\ta\\\\b\\tc\\nd\\r\\\\N\tf",
+    )
+}
 
-    let odd = Value::Text("a\\b\tc\nd\r\\N".to_string(rt.alloc())?);
-    let cells = vec![in rt.alloc(); Value::Int(i64::MIN), odd, Value::Bool(false)]?;
-    let wanted = b"-9223372036854775808\ta\\\\b\\tc\\nd\\r\\\\N\tf";
-    assert_eq!(rt; text_of(rt.alloc(), cells)?.as_slice(), wanted.as_slice());
-    Ok(())
+/// The text behind others, with a row of no cells behind it.
+struct Appended;
+
+impl Answer for Appended {
+    fn answer(alloc: Global, text: &str) -> Result<String, Fail> {
+        let mut out = b"H\t".to_vec(alloc)?;
+        escaped_text(text, &mut out)?;
+        let cells = Vec::new(alloc);
+        row_text(&Row { cells }, &mut out)?;
+        Ok(String::from_utf8(out).ok().ok_or(text)?)
+    }
 }
 
 #[test]
 fn texts_are_appended(rt: HostRuntime) -> Result<(), Fail> {
-    let mut out = b"H\t".to_vec(rt.alloc())?;
-    escaped_text("a\\b\tc", &mut out)?;
-    row_text(
-        &Row {
-            cells: Vec::new(rt.alloc()),
-        },
-        &mut out,
-    )?;
-    assert_eq!(rt; out.as_slice(), b"H\ta\\\\b\\tc".as_slice());
-    assert_eq!(rt; NoMemory.to_string(rt.alloc())?.as_str(), "out of memory");
-    Ok(())
+    assert_row::<Appended>(rt.alloc(), &rt, "a\\b\tc => H\ta\\\\b\\tc")
+}
+
+/// How two values stand, whether descending and whether NULL comes first.
+struct KeyOrder;
+
+impl Answer for KeyOrder {
+    fn answer(alloc: Global, words: &str) -> Result<String, Fail> {
+        let values = values(alloc, words)?;
+        let [a, b, Value::Bool(descending), Value::Bool(nulls_first)] = values.as_slice() else {
+            return Err(Fail::from(words));
+        };
+        let order = compare_for_order(a, b, *descending, *nulls_first);
+        Ok(format!(in alloc; "{order:?}")?)
+    }
 }
 
 #[test]
 fn order_of_keys(rt: HostRuntime) -> Result<(), Fail> {
-    let one = Value::Int(1);
-    let two = Value::Int(2);
-    let upper = Value::Text("Z".to_string(rt.alloc())?);
-    let lower = Value::Text("a".to_string(rt.alloc())?);
-    let cases = [
-        (&one, &Value::Null, false, false, Ordering::Less),
-        (&one, &Value::Null, false, true, Ordering::Greater),
-        (&Value::Null, &one, true, true, Ordering::Less),
-        (&Value::Null, &one, true, false, Ordering::Greater),
-        (&Value::Null, &Value::Null, true, false, Ordering::Equal),
-        (&one, &two, false, true, Ordering::Less),
-        (&one, &two, true, false, Ordering::Greater),
-        (&upper, &lower, false, false, Ordering::Less),
-        (
-            &Value::Bool(true),
-            &Value::Bool(false),
-            false,
-            false,
-            Ordering::Greater,
-        ),
-    ];
-    for (a, b, desc, nulls_first, wanted) in cases {
-        assert_eq!(rt;
-            compare_for_order(a, b, desc, nulls_first),
-            wanted,
-            "{a:?} {b:?} {desc} {nulls_first}"
-        );
+    assert_rows::<KeyOrder>(
+        rt.alloc(),
+        &rt,
+        "1 NULL false false => Less\n\
+        1 NULL false true => Greater\n\
+        NULL 1 true true => Less\n\
+        NULL 1 true false => Greater\n\
+        NULL NULL true false => Equal\n\
+        1 2 false true => Less\n\
+        1 2 true false => Greater\n\
+        'Z' 'a' false false => Less\n\
+        true false false false => Greater",
+    )
+}
+
+const CAUSES: [Cause; 11] = [
+    Cause::Protocol,
+    Cause::Syntax,
+    Cause::TooDeep,
+    Cause::UndefinedTable,
+    Cause::OptionNameNotFound,
+    Cause::DatatypeMismatch,
+    Cause::InUse,
+    Cause::DivisionByZero,
+    Cause::TooLarge,
+    Cause::OutOfMemory,
+    Cause::SourceFault,
+];
+
+/// The cause at a place of `CAUSES`: its phase, its code and its name.
+struct Told;
+
+impl Answer for Told {
+    fn answer(alloc: Global, place: &str) -> Result<String, Fail> {
+        let place: usize = place.parse()?;
+        let cause = CAUSES.get(place).ok_or("no cause")?;
+        let (code, name) = (cause.code(), cause.name());
+        Ok(format!(in alloc; "{cause:?} {:?} {code} {name}", cause.phase())?)
     }
-    Ok(())
+}
+
+#[test]
+fn causes_as_told(rt: HostRuntime) -> Result<(), Fail> {
+    assert_rows::<Told>(
+        rt.alloc(),
+        &rt,
+        "0 => Protocol Some(1) 08P01 protocol_violation\n\
+        1 => Syntax Some(2) 42601 syntax_error\n\
+        2 => TooDeep Some(2) 54000 program_limit_exceeded\n\
+        3 => UndefinedTable Some(3) 42P01 undefined_table\n\
+        4 => OptionNameNotFound Some(3) HV00J fdw_option_name_not_found\n\
+        5 => DatatypeMismatch Some(4) 42804 datatype_mismatch\n\
+        6 => InUse Some(5) 55006 object_in_use\n\
+        7 => DivisionByZero Some(6) 22012 division_by_zero\n\
+        8 => TooLarge Some(6) 54000 program_limit_exceeded\n\
+        9 => OutOfMemory None 53200 out_of_memory\n\
+        10 => SourceFault None HV000 fdw_error",
+    )
 }
 
 fn pushed(alloc: Global) -> Result<Vec<u8>, Cause> {
@@ -108,37 +187,25 @@ fn pushed(alloc: Global) -> Result<Vec<u8>, Cause> {
     Ok(bytes)
 }
 
-#[test]
-fn causes_as_told(rt: HostRuntime) {
-    let cases = [
-        (Cause::Protocol, Some(1), "08P01", "protocol_violation"),
-        (Cause::Syntax, Some(2), "42601", "syntax_error"),
-        (Cause::TooDeep, Some(2), "54000", "program_limit_exceeded"),
-        (Cause::UndefinedTable, Some(3), "42P01", "undefined_table"),
-        (
-            Cause::OptionNameNotFound,
-            Some(3),
-            "HV00J",
-            "fdw_option_name_not_found",
-        ),
-        (
-            Cause::DatatypeMismatch,
-            Some(4),
-            "42804",
-            "datatype_mismatch",
-        ),
-        (Cause::InUse, Some(5), "55006", "object_in_use"),
-        (Cause::DivisionByZero, Some(6), "22012", "division_by_zero"),
-        (Cause::TooLarge, Some(6), "54000", "program_limit_exceeded"),
-        (Cause::OutOfMemory, None, "53200", "out_of_memory"),
-        (Cause::SourceFault, None, "HV000", "fdw_error"),
-    ];
-    for (cause, phase, code, name) in cases {
-        assert_eq!(rt; cause.phase(), phase, "{cause:?}");
-        assert_eq!(rt; cause.code(), code, "{cause:?}");
-        assert_eq!(rt; cause.name(), name, "{cause:?}");
+/// What refused memory is called, each way.
+struct Refused;
+
+impl Answer for Refused {
+    fn answer(alloc: Global, _: &str) -> Result<String, Fail> {
+        let push = match pushed(alloc) {
+            Ok(_) | Err(Cause::OutOfMemory) => "pushed or OutOfMemory",
+            Err(_) => "another cause",
+        };
+        let (ours, theirs) = (Cause::from(NoMemory), Cause::from(AllocError));
+        Ok(format!(in alloc; "{ours:?}, {theirs:?}, {push}, {NoMemory}")?)
     }
-    assert_eq!(rt; Cause::from(NoMemory), Cause::OutOfMemory);
-    assert_eq!(rt; Cause::from(AllocError), Cause::OutOfMemory);
-    assert!(rt; matches!(pushed(rt.alloc()), Ok(_) | Err(Cause::OutOfMemory)));
+}
+
+#[test]
+fn refused_memory_is_one_cause(rt: HostRuntime) -> Result<(), Fail> {
+    assert_row::<Refused>(
+        rt.alloc(),
+        &rt,
+        "refused => OutOfMemory, OutOfMemory, pushed or OutOfMemory, out of memory",
+    )
 }

@@ -1,487 +1,479 @@
 //! Expressions read and written out.
+use crate::rows::{Answer, assert_row, assert_rows, repeated};
 use expr_parser::{expression, print_expression};
-use med_syntax::{Expr, is_reserved};
-use med_value::Cause;
+use med_syntax::is_reserved;
 use std::alloc::Global;
 use std::test::Fail;
 
-/// The expression of the text, written out.
-fn printed(alloc: Global, text: &str) -> Result<String, Fail> {
-    let expr = expression(alloc, text).ok().ok_or(text)?;
-    Ok(print_expression(alloc, &expr)?)
+/// The expression of the text, written out, or why it is refused.
+struct Printed;
+
+impl Answer for Printed {
+    fn answer(alloc: Global, text: &str) -> Result<String, Fail> {
+        match expression(alloc, text) {
+            Ok(expr) => Ok(print_expression(alloc, &expr)?),
+            Err(cause) => Ok(format!(in alloc; "{cause:?}")?),
+        }
+    }
 }
 
 #[test]
 fn operands(rt: HostRuntime) -> Result<(), Fail> {
-    let texts = [
-        ("1", "1"),
-        ("007", "7"),
-        ("9223372036854775807", "9223372036854775807"),
-        ("-1", "- 1"),
-        ("-9223372036854775808", "- 9223372036854775808"),
-        ("- 9223372036854775808", "- 9223372036854775808"),
-        ("- - 9223372036854775808", "- - 9223372036854775808"),
-        ("'d''e'", "'d''e'"),
-        ("''", "''"),
-        ("'caf\u{e9} --'", "'caf\u{e9} --'"),
-        ("a", "\"a\""),
-        ("A", "\"a\""),
-        ("\"A\"", "\"A\""),
-        ("\"a\"\"b\"", "\"a\"\"b\""),
-        ("t.a", "\"t\" . \"a\""),
-        ("\"T\" . \"A b\"", "\"T\" . \"A b\""),
-        ("x_$1", "\"x_$1\""),
-        ("true", "TRUE"),
-        ("False", "FALSE"),
-        ("NULL", "NULL"),
-        ("unknown", "\"unknown\""),
-        ("next", "\"next\""),
-        ("row", "\"row\""),
-        ("\"select\"", "\"select\""),
-        ("(1)", "( 1 )"),
-        ("((a))", "( ( \"a\" ) )"),
-        ("\ta\r\n-- the rest", "\"a\""),
-        ("a--b", "\"a\""),
-    ];
-    for (text, expected) in texts {
-        assert_eq!(rt; printed(rt.alloc(), text)?.as_str(), expected, "in {text}");
-    }
-    Ok(())
+    assert_rows::<Printed>(
+        rt.alloc(),
+        &rt,
+        "1 => 1\n\
+        007 => 7\n\
+        9223372036854775807 => 9223372036854775807\n\
+        -1 => - 1\n\
+        -9223372036854775808 => - 9223372036854775808\n\
+        - 9223372036854775808 => - 9223372036854775808\n\
+        - - 9223372036854775808 => - - 9223372036854775808\n\
+        'd''e' => 'd''e'\n\
+        '' => ''\n\
+        'café --' => 'café --'\n\
+        a => \"a\"\n\
+        A => \"a\"\n\
+        \"A\" => \"A\"\n\
+        \"a\"\"b\" => \"a\"\"b\"\n\
+        t.a => \"t\" . \"a\"\n\
+        \"T\" . \"A b\" => \"T\" . \"A b\"\n\
+        x_$1 => \"x_$1\"\n\
+        true => TRUE\n\
+        False => FALSE\n\
+        NULL => NULL\n\
+        unknown => \"unknown\"\n\
+        next => \"next\"\n\
+        row => \"row\"\n\
+        \"select\" => \"select\"\n\
+        (1) => ( 1 )\n\
+        ((a)) => ( ( \"a\" ) )\n\
+        a--b => \"a\"",
+    )
 }
 
 #[test]
 fn sums(rt: HostRuntime) -> Result<(), Fail> {
-    let texts = [
-        ("- a", "- \"a\""),
-        ("- -1", "- - 1"),
-        ("-(1)", "- ( 1 )"),
-        ("- t.a", "- \"t\" . \"a\""),
-        ("1-1", "1 - 1"),
-        ("1 - -1", "1 - - 1"),
-        ("a-1", "\"a\" - 1"),
-        ("1+2+3", "1 + 2 + 3"),
-        ("1-2-3", "1 - 2 - 3"),
-        ("1-(2-3)", "1 - ( 2 - 3 )"),
-        ("1+2*3", "1 + 2 * 3"),
-        ("(1+2)*3", "( 1 + 2 ) * 3"),
-        ("1*2/3%4", "1 * 2 / 3 % 4"),
-        ("-a*-b", "- \"a\" * - \"b\""),
-        ("1*-2", "1 * - 2"),
-    ];
-    for (text, expected) in texts {
-        assert_eq!(rt; printed(rt.alloc(), text)?.as_str(), expected, "in {text}");
-    }
-    Ok(())
+    assert_rows::<Printed>(
+        rt.alloc(),
+        &rt,
+        "- a => - \"a\"\n\
+        - -1 => - - 1\n\
+        -(1) => - ( 1 )\n\
+        - t.a => - \"t\" . \"a\"\n\
+        1-1 => 1 - 1\n\
+        1 - -1 => 1 - - 1\n\
+        a-1 => \"a\" - 1\n\
+        1+2+3 => 1 + 2 + 3\n\
+        1-2-3 => 1 - 2 - 3\n\
+        1-(2-3) => 1 - ( 2 - 3 )\n\
+        1+2*3 => 1 + 2 * 3\n\
+        (1+2)*3 => ( 1 + 2 ) * 3\n\
+        1*2/3%4 => 1 * 2 / 3 % 4\n\
+        -a*-b => - \"a\" * - \"b\"\n\
+        1*-2 => 1 * - 2",
+    )
 }
 
 #[test]
 fn conditions(rt: HostRuntime) -> Result<(), Fail> {
-    let texts = [
-        ("a=b", "\"a\" = \"b\""),
-        ("a!=b", "\"a\" <> \"b\""),
-        ("a<>b", "\"a\" <> \"b\""),
-        ("a<b", "\"a\" < \"b\""),
-        ("a<=b", "\"a\" <= \"b\""),
-        ("a>b", "\"a\" > \"b\""),
-        ("a>=b", "\"a\" >= \"b\""),
-        ("a+1 = b*2", "\"a\" + 1 = \"b\" * 2"),
-        ("a is null", "\"a\" IS NULL"),
-        ("a is not null", "\"a\" IS NOT NULL"),
-        ("a is true", "\"a\" IS TRUE"),
-        ("a is not false", "\"a\" IS NOT FALSE"),
-        ("a is unknown", "\"a\" IS UNKNOWN"),
-        ("unknown is not unknown", "\"unknown\" IS NOT UNKNOWN"),
-        ("not unknown", "NOT \"unknown\""),
-        ("a = b is true", "\"a\" = \"b\" IS TRUE"),
-        ("a in (1)", "\"a\" IN ( 1 )"),
-        (
-            "a in (1, b or c, 'x')",
-            "\"a\" IN ( 1 , \"b\" OR \"c\" , 'x' )",
-        ),
-        ("a not in (1, 2)", "\"a\" NOT IN ( 1 , 2 )"),
-        ("a in (1) = true", "\"a\" IN ( 1 ) = TRUE"),
-        ("a between 1 and 2", "\"a\" BETWEEN 1 AND 2"),
-        (
-            "a not between 1+1 and 2*b",
-            "\"a\" NOT BETWEEN 1 + 1 AND 2 * \"b\"",
-        ),
-        ("a between 1 and 2 and b", "\"a\" BETWEEN 1 AND 2 AND \"b\""),
-        ("a like 'x%'", "\"a\" LIKE 'x%'"),
-        ("a + b not like '_'", "\"a\" + \"b\" NOT LIKE '_'"),
-        ("not a", "NOT \"a\""),
-        ("not not a", "NOT NOT \"a\""),
-        ("not a = b", "NOT \"a\" = \"b\""),
-        ("not a is null", "NOT \"a\" IS NULL"),
-        (
-            "a = 1 and b = 2 or not c",
-            "\"a\" = 1 AND \"b\" = 2 OR NOT \"c\"",
-        ),
-        ("a or b and c or d", "\"a\" OR \"b\" AND \"c\" OR \"d\""),
-        ("(a or b) and c", "( \"a\" OR \"b\" ) AND \"c\""),
-    ];
-    for (text, expected) in texts {
-        assert_eq!(rt; printed(rt.alloc(), text)?.as_str(), expected, "in {text}");
-    }
-    Ok(())
+    assert_rows::<Printed>(
+        rt.alloc(),
+        &rt,
+        "a=b => \"a\" = \"b\"\n\
+        a!=b => \"a\" <> \"b\"\n\
+        a<>b => \"a\" <> \"b\"\n\
+        a<b => \"a\" < \"b\"\n\
+        a<=b => \"a\" <= \"b\"\n\
+        a>b => \"a\" > \"b\"\n\
+        a>=b => \"a\" >= \"b\"\n\
+        a+1 = b*2 => \"a\" + 1 = \"b\" * 2\n\
+        a is null => \"a\" IS NULL\n\
+        a is not null => \"a\" IS NOT NULL\n\
+        a is true => \"a\" IS TRUE\n\
+        a is not false => \"a\" IS NOT FALSE\n\
+        a is unknown => \"a\" IS UNKNOWN\n\
+        unknown is not unknown => \"unknown\" IS NOT UNKNOWN\n\
+        not unknown => NOT \"unknown\"\n\
+        a = b is true => \"a\" = \"b\" IS TRUE\n\
+        a in (1) => \"a\" IN ( 1 )\n\
+        a in (1, b or c, 'x') => \"a\" IN ( 1 , \"b\" OR \"c\" , 'x' )\n\
+        a not in (1, 2) => \"a\" NOT IN ( 1 , 2 )\n\
+        a in (1) = true => \"a\" IN ( 1 ) = TRUE\n\
+        a between 1 and 2 => \"a\" BETWEEN 1 AND 2\n\
+        a not between 1+1 and 2*b => \"a\" NOT BETWEEN 1 + 1 AND 2 * \"b\"\n\
+        a between 1 and 2 and b => \"a\" BETWEEN 1 AND 2 AND \"b\"\n\
+        a like 'x%' => \"a\" LIKE 'x%'\n\
+        a + b not like '_' => \"a\" + \"b\" NOT LIKE '_'\n\
+        not a => NOT \"a\"\n\
+        not not a => NOT NOT \"a\"\n\
+        not a = b => NOT \"a\" = \"b\"\n\
+        not a is null => NOT \"a\" IS NULL\n\
+        a = 1 and b = 2 or not c => \"a\" = 1 AND \"b\" = 2 OR NOT \"c\"\n\
+        a or b and c or d => \"a\" OR \"b\" AND \"c\" OR \"d\"\n\
+        (a or b) and c => ( \"a\" OR \"b\" ) AND \"c\"",
+    )
 }
 
 #[test]
 fn calls(rt: HostRuntime) -> Result<(), Fail> {
-    let texts = [
-        ("count(*)", "\"count\" ( * )"),
-        ("COUNT( * )", "\"count\" ( * )"),
-        ("count(*) + 1", "\"count\" ( * ) + 1"),
-        ("count(*) * 2", "\"count\" ( * ) * 2"),
-        ("sum(n)", "\"sum\" ( \"n\" )"),
-        ("sum(a+1)", "\"sum\" ( \"a\" + 1 )"),
-        ("f()", "\"f\" ( )"),
-        ("f(a,b)", "\"f\" ( \"a\" , \"b\" )"),
-        ("f (1)", "\"f\" ( 1 )"),
-        ("f((1))", "\"f\" ( ( 1 ) )"),
-        ("f(1) + g(2)", "\"f\" ( 1 ) + \"g\" ( 2 )"),
-        ("min(f(x)) > 2", "\"min\" ( \"f\" ( \"x\" ) ) > 2"),
-        ("f(g(*), h())", "\"f\" ( \"g\" ( * ) , \"h\" ( ) )"),
-        (
-            "f(a or b, not c, t.d, 'x')",
-            "\"f\" ( \"a\" OR \"b\" , NOT \"c\" , \"t\" . \"d\" , 'x' )",
-        ),
-        ("\"f\"(x)", "\"f\" ( \"x\" )"),
-        ("\"left\"(1)", "\"left\" ( 1 )"),
-        ("unknown(1) is unknown", "\"unknown\" ( 1 ) IS UNKNOWN"),
-        ("- f(1)", "- \"f\" ( 1 )"),
-        ("f(-1)", "\"f\" ( - 1 )"),
-        ("a in (f(1), g())", "\"a\" IN ( \"f\" ( 1 ) , \"g\" ( ) )"),
-    ];
-    for (text, expected) in texts {
-        assert_eq!(rt; printed(rt.alloc(), text)?.as_str(), expected, "in {text}");
-    }
-    Ok(())
+    assert_rows::<Printed>(
+        rt.alloc(),
+        &rt,
+        "count(*) => \"count\" ( * )\n\
+        COUNT( * ) => \"count\" ( * )\n\
+        count(*) + 1 => \"count\" ( * ) + 1\n\
+        count(*) * 2 => \"count\" ( * ) * 2\n\
+        sum(n) => \"sum\" ( \"n\" )\n\
+        sum(a+1) => \"sum\" ( \"a\" + 1 )\n\
+        f() => \"f\" ( )\n\
+        f(a,b) => \"f\" ( \"a\" , \"b\" )\n\
+        f (1) => \"f\" ( 1 )\n\
+        f((1)) => \"f\" ( ( 1 ) )\n\
+        f(1) + g(2) => \"f\" ( 1 ) + \"g\" ( 2 )\n\
+        min(f(x)) > 2 => \"min\" ( \"f\" ( \"x\" ) ) > 2\n\
+        f(g(*), h()) => \"f\" ( \"g\" ( * ) , \"h\" ( ) )\n\
+        f(a or b, not c, t.d, 'x') => \"f\" ( \"a\" OR \"b\" , NOT \"c\" , \"t\" . \"d\" , 'x' )\n\
+        \"f\"(x) => \"f\" ( \"x\" )\n\
+        \"left\"(1) => \"left\" ( 1 )\n\
+        unknown(1) is unknown => \"unknown\" ( 1 ) IS UNKNOWN\n\
+        - f(1) => - \"f\" ( 1 )\n\
+        f(-1) => \"f\" ( - 1 )\n\
+        a in (f(1), g()) => \"a\" IN ( \"f\" ( 1 ) , \"g\" ( ) )",
+    )
 }
 
 #[test]
-fn call_trees(rt: HostRuntime) -> Result<(), Fail> {
-    let all = expression(rt.alloc(), "count(*)").ok().ok_or("refused")?;
-    assert!(rt; matches!(&all, Expr::CallAll(name) if name.as_str() == "count"));
-    let none = expression(rt.alloc(), "now()").ok().ok_or("refused")?;
-    assert!(rt;
-        matches!(&none, Expr::Call(name, parts) if name.as_str() == "now" && parts.is_empty())
-    );
-    let two = expression(rt.alloc(), "F(1, a)").ok().ok_or("refused")?;
-    let Expr::Call(name, parts) = two else {
-        return Err(Fail::from("no call"));
-    };
-    assert_eq!(rt; name.as_str(), "f");
-    assert_eq!(rt; parts.len(), 2);
-    assert!(rt; matches!(parts.get(0), Some(Expr::Number(1))));
-    assert!(rt; matches!(parts.get(1), Some(Expr::Column(None, _))));
-    Ok(())
+fn syntax_errors(rt: HostRuntime) -> Result<(), Fail> {
+    assert_rows::<Printed>(
+        rt.alloc(),
+        &rt,
+        "\u{20}=> Syntax\n\
+        1 2 => Syntax\n\
+        a b => Syntax\n\
+        ( => Syntax\n\
+        ) => Syntax\n\
+        () => Syntax\n\
+        (a => Syntax\n\
+        a) => Syntax\n\
+        1 + => Syntax\n\
+        + 1 => Syntax\n\
+        * 2 => Syntax\n\
+        - => Syntax\n\
+        a - => Syntax\n\
+        a. => Syntax\n\
+        .a => Syntax\n\
+        a.b.c => Syntax\n\
+        a.1 => Syntax\n\
+        a..b => Syntax\n\
+        1.5 => Syntax\n\
+        true.a => Syntax\n\
+        * => Syntax\n\
+        t.* => Syntax\n\
+        a = b = c => Syntax\n\
+        a < b < c => Syntax\n\
+        a =  => Syntax\n\
+        = a => Syntax\n\
+        a is => Syntax\n\
+        a is 1 => Syntax\n\
+        a is not => Syntax\n\
+        a is a => Syntax\n\
+        a is \"unknown\" => Syntax\n\
+        a is not \"null\" => Syntax\n\
+        a is null is null => Syntax\n\
+        a between 1 => Syntax\n\
+        a between 1 and => Syntax\n\
+        a between 1 or 2 => Syntax\n\
+        a between b = c and d => Syntax\n\
+        a between 1 and 2 between 3 and 4 => Syntax\n\
+        a in () => Syntax\n\
+        a in 1 => Syntax\n\
+        a in (1 => Syntax\n\
+        a in (1,) => Syntax\n\
+        a in (,1) => Syntax\n\
+        a in (1) in (2) => Syntax\n\
+        a like b => Syntax\n\
+        a like => Syntax\n\
+        a like 'x' like 'y' => Syntax\n\
+        a not => Syntax\n\
+        a not b => Syntax\n\
+        a not = b => Syntax\n\
+        not => Syntax\n\
+        a = not b => Syntax\n\
+        a and => Syntax\n\
+        and a => Syntax\n\
+        a or or b => Syntax\n\
+        count(* => Syntax\n\
+        count( => Syntax\n\
+        f(*, 1) => Syntax\n\
+        f(1, *) => Syntax\n\
+        f(**) => Syntax\n\
+        f(,) => Syntax\n\
+        f(1,) => Syntax\n\
+        f(,1) => Syntax\n\
+        f(1 => Syntax\n\
+        f(1 2) => Syntax\n\
+        f(()) => Syntax\n\
+        f) => Syntax\n\
+        a.f(1) => Syntax\n\
+        f(1).a => Syntax\n\
+        f(1)(2) => Syntax\n\
+        (f)(1) => Syntax\n\
+        1(2) => Syntax\n\
+        'f'(1) => Syntax\n\
+        true(1) => Syntax\n\
+        left(1) => Syntax\n\
+        all(a) => Syntax\n\
+        count(distinct a) => Syntax\n\
+        a, b => Syntax\n\
+        a; => Syntax\n\
+        a as b => Syntax\n\
+        'a => Syntax\n\
+        \"a => Syntax\n\
+        \"\" => Syntax\n\
+        12a => Syntax\n\
+        a ? b => Syntax\n\
+        a é => Syntax\n\
+        'a\0b' => Syntax\n\
+        t.false => Syntax\n\
+        t.null => Syntax\n\
+        t.true => Syntax",
+    )
 }
 
 #[test]
-fn trees(rt: HostRuntime) -> Result<(), Fail> {
-    // the product stands in the sum, and the sum of the first two in the whole
-    let expr = expression(rt.alloc(), "1 - 2 - 3 * 4")
-        .ok()
-        .ok_or("refused")?;
-    let Expr::Binary(_, first, last) = expr else {
-        return Err(Fail::from("no sum"));
-    };
-    assert!(rt; matches!(&*first, Expr::Binary(_, _, _)));
-    assert!(rt; matches!(&*last, Expr::Binary(_, _, _)));
-    // a comparison stands below NOT, and a chain of three is one node
-    let expr = expression(rt.alloc(), "not a = b or c or d")
-        .ok()
-        .ok_or("refused")?;
-    let Expr::Chain(_, first, others) = expr else {
-        return Err(Fail::from("no chain"));
-    };
-    assert!(rt; matches!(&*first, Expr::Not(_)));
-    assert_eq!(rt; others.len(), 2);
-    Ok(())
+fn numbers_out_of_range(rt: HostRuntime) -> Result<(), Fail> {
+    assert_rows::<Printed>(
+        rt.alloc(),
+        &rt,
+        "9223372036854775808 => LiteralOutOfRange\n\
+        -(9223372036854775808) => LiteralOutOfRange\n\
+        1 - 9223372036854775808 => LiteralOutOfRange\n\
+        -9223372036854775809 => LiteralOutOfRange\n\
+        99999999999999999999999999 => LiteralOutOfRange\n\
+        a in (1, 9223372036854775808) => LiteralOutOfRange\n\
+        a between 9223372036854775808 and 1 => LiteralOutOfRange\n\
+        not a like 'x' and 9223372036854775808 is null => LiteralOutOfRange\n\
+        a = 1 or a = 9223372036854775808 => LiteralOutOfRange\n\
+        f(9223372036854775808) => LiteralOutOfRange\n\
+        f(1, g(9223372036854775808)) => LiteralOutOfRange",
+    )
 }
 
 #[test]
-fn syntax_errors(rt: HostRuntime) {
-    let texts = [
-        "",
-        "1 2",
-        "a b",
-        "(",
-        ")",
-        "()",
-        "(a",
-        "a)",
-        "1 +",
-        "+ 1",
-        "* 2",
-        "-",
-        "a -",
-        "a.",
-        ".a",
-        "a.b.c",
-        "a.1",
-        "a..b",
-        "1.5",
-        "true.a",
-        "*",
-        "t.*",
-        "a = b = c",
-        "a < b < c",
-        "a = ",
-        "= a",
-        "a is",
-        "a is 1",
-        "a is not",
-        "a is a",
-        "a is \"unknown\"",
-        "a is not \"null\"",
-        "a is null is null",
-        "a between 1",
-        "a between 1 and",
-        "a between 1 or 2",
-        "a between b = c and d",
-        "a between 1 and 2 between 3 and 4",
-        "a in ()",
-        "a in 1",
-        "a in (1",
-        "a in (1,)",
-        "a in (,1)",
-        "a in (1) in (2)",
-        "a like b",
-        "a like",
-        "a like 'x' like 'y'",
-        "a not",
-        "a not b",
-        "a not = b",
-        "not",
-        "a = not b",
-        "a and",
-        "and a",
-        "a or or b",
-        "count(*",
-        "count(",
-        "f(*, 1)",
-        "f(1, *)",
-        "f(**)",
-        "f(,)",
-        "f(1,)",
-        "f(,1)",
-        "f(1",
-        "f(1 2)",
-        "f(())",
-        "f)",
-        "a.f(1)",
-        "f(1).a",
-        "f(1)(2)",
-        "(f)(1)",
-        "1(2)",
-        "'f'(1)",
-        "true(1)",
-        "left(1)",
-        "all(a)",
-        "count(distinct a)",
-        "a, b",
-        "a;",
-        "a as b",
-        "'a",
-        "\"a",
-        "\"\"",
-        "12a",
-        "a ? b",
-        "a \u{e9}",
-        "'a\u{0}b'",
-    ];
-    for text in texts {
-        assert!(rt;
-            matches!(&expression(rt.alloc(), text), Err(Cause::Syntax)),
-            "at {text}"
-        );
-    }
-}
-
-#[test]
-fn numbers_out_of_range(rt: HostRuntime) {
-    let texts = [
-        "9223372036854775808",
-        "-(9223372036854775808)",
-        "1 - 9223372036854775808",
-        "-9223372036854775809",
-        "99999999999999999999999999",
-        "a in (1, 9223372036854775808)",
-        "a between 9223372036854775808 and 1",
-        "not a like 'x' and 9223372036854775808 is null",
-        "a = 1 or a = 9223372036854775808",
-        "f(9223372036854775808)",
-        "f(1, g(9223372036854775808))",
-    ];
-    for text in texts {
-        assert!(rt;
-            matches!(&expression(rt.alloc(), text), Err(Cause::LiteralOutOfRange)),
-            "at {text}"
-        );
-    }
+fn newlines_stand_between_tokens(rt: HostRuntime) -> Result<(), Fail> {
+    assert_row::<Printed>(rt.alloc(), &rt, "\ta\r\n-- the rest => \"a\"")
 }
 
 #[test]
 fn long_names(rt: HostRuntime) -> Result<(), Fail> {
-    let longest = "a23456789_123456789_123456789_123456789_123456789_123456789_123";
-    let fits = format!(in rt.alloc(); "{longest}.\"{longest}\" = '{longest}4'")?;
-    assert!(rt; expression(rt.alloc(), &fits).is_ok());
-    let column = format!(in rt.alloc(); "1 + {longest}4")?;
-    assert!(rt; matches!(&expression(rt.alloc(), &column), Err(Cause::NameTooLong)));
-    let function = format!(in rt.alloc(); "{longest}4(1)")?;
-    assert!(rt; matches!(&expression(rt.alloc(), &function), Err(Cause::NameTooLong)));
-    let qualifier = format!(in rt.alloc(); "\"{longest}4\".a")?;
-    assert!(rt; matches!(&expression(rt.alloc(), &qualifier), Err(Cause::NameTooLong)));
-    Ok(())
+    assert_rows::<Printed>(
+        rt.alloc(),
+        &rt,
+        "a23456789_123456789_123456789_123456789_123456789_123456789_123.\"a23456789_123456789_123456789_123456789_123456789_123456789_123\" = 'a23456789_123456789_123456789_123456789_123456789_123456789_1234' => \"a23456789_123456789_123456789_123456789_123456789_123456789_123\" . \"a23456789_123456789_123456789_123456789_123456789_123456789_123\" = 'a23456789_123456789_123456789_123456789_123456789_123456789_1234'\n\
+        1 + a23456789_123456789_123456789_123456789_123456789_123456789_1234 => NameTooLong\n\
+        a23456789_123456789_123456789_123456789_123456789_123456789_1234(1) => NameTooLong\n\
+        \"a23456789_123456789_123456789_123456789_123456789_123456789_1234\".a => NameTooLong",
+    )
 }
 
+/// The tree of the text, or why it is refused.
+struct Tree;
+
+impl Answer for Tree {
+    fn answer(alloc: Global, text: &str) -> Result<String, Fail> {
+        match expression(alloc, text) {
+            Ok(expr) => Ok(format!(in alloc; "{expr:?}")?),
+            Err(cause) => Ok(format!(in alloc; "{cause:?}")?),
+        }
+    }
+}
+
+// The product stands in the sum, and the sum of the first two in the whole; a comparison stands below NOT, and a chain of three is one node.
 #[test]
-fn reserved_words(rt: HostRuntime) -> Result<(), Fail> {
-    let words = [
-        "all",
-        "and",
-        "as",
-        "asc",
-        "between",
-        "by",
-        "case",
-        "create",
-        "cross",
-        "current_user",
-        "declare",
-        "delete",
-        "desc",
-        "distinct",
-        "drop",
-        "else",
-        "end",
-        "except",
-        "fetch",
-        "for",
-        "foreign",
-        "from",
-        "full",
-        "group",
-        "having",
-        "in",
-        "inner",
-        "insert",
-        "intersect",
-        "into",
-        "is",
-        "join",
-        "left",
-        "like",
-        "limit",
-        "natural",
-        "not",
-        "offset",
-        "on",
-        "or",
-        "order",
-        "outer",
-        "right",
-        "select",
-        "set",
-        "then",
-        "union",
-        "update",
-        "user",
-        "using",
-        "values",
-        "when",
-        "where",
-        "with",
-    ];
-    for word in words {
-        assert!(rt; is_reserved(word), "at {word}");
-        assert!(rt;
-            matches!(&expression(rt.alloc(), word), Err(Cause::Syntax)),
-            "at {word}"
-        );
-        let column = format!(in rt.alloc(); "t.{word}")?;
-        assert!(rt;
-            matches!(&expression(rt.alloc(), &column), Err(Cause::Syntax)),
-            "at {word}"
-        );
-        let quoted = format!(in rt.alloc(); "\"{word}\"")?;
-        assert_eq!(rt; printed(rt.alloc(), &quoted)?.as_str(), quoted.as_str());
-    }
-    // which are expressions, and no names
-    for word in ["t.false", "t.null", "t.true"] {
-        assert!(rt;
-            matches!(&expression(rt.alloc(), word), Err(Cause::Syntax)),
-            "at {word}"
-        );
-    }
-    Ok(())
+fn trees(rt: HostRuntime) -> Result<(), Fail> {
+    assert_rows::<Tree>(
+        rt.alloc(),
+        &rt,
+        "1 - 2 - 3 * 4 => Binary(Sub, Binary(Sub, Number(1), Number(2)), Binary(Mul, Number(3), Number(4)))\n\
+        not a = b or c or d => Chain(Or, Not(Compare(Equal, Column(None, \"a\"), Column(None, \"b\"))), [Column(None, \"c\"), Column(None, \"d\")])\n\
+        count(*) => CallAll(\"count\")\n\
+        now() => Call(\"now\", [])\n\
+        F(1, a) => Call(\"f\", [Number(1), Column(None, \"a\")])",
+    )
 }
 
-/// The text so often, then the middle, and the other text so often.
-pub fn around(
-    alloc: Global,
-    times: u32,
-    before: &str,
-    middle: &str,
-    after: &str,
-) -> Result<String, Fail> {
-    let mut text = String::new(alloc);
-    for _ in 0..times {
-        text.push_str(before)?;
+/// How the text of a row of parts is answered, and how long it is.
+struct Outcome;
+
+impl Answer for Outcome {
+    fn answer(alloc: Global, row: &str) -> Result<String, Fail> {
+        let text = repeated(alloc, row)?;
+        let length = text.len();
+        Ok(match expression(alloc, &text) {
+            Ok(_) => format!(in alloc; "read in {length} bytes")?,
+            Err(cause) => format!(in alloc; "{cause:?} in {length} bytes")?,
+        })
     }
-    text.push_str(middle)?;
-    for _ in 0..times {
-        text.push_str(after)?;
-    }
-    Ok(text)
 }
 
+/// The same where a refusal may have any cause.
+struct Refusal;
+
+impl Answer for Refusal {
+    fn answer(alloc: Global, row: &str) -> Result<String, Fail> {
+        let text = repeated(alloc, row)?;
+        let word = if expression(alloc, &text).is_ok() {
+            "read"
+        } else {
+            "refused"
+        };
+        Ok(format!(in alloc; "{word} in {} bytes", text.len())?)
+    }
+}
+
+// 64 tokens that deepen may stand in what is no expression; a call of nothing and one of all are as high as a number.
 #[test]
 fn heights(rt: HostRuntime) -> Result<(), Fail> {
-    assert!(rt; expression(rt.alloc(), &around(rt.alloc(), 63, "(", "1", ")")?).is_ok());
-    let high = around(rt.alloc(), 64, "(", "1", ")")?;
-    assert!(rt; matches!(&expression(rt.alloc(), &high), Err(Cause::TooDeep)));
-    // 64 tokens that deepen, and no expression
-    let open = around(rt.alloc(), 64, "(", "1", "")?;
-    assert!(rt; matches!(&expression(rt.alloc(), &open), Err(Cause::Syntax)));
-    assert!(rt; expression(rt.alloc(), &around(rt.alloc(), 63, "not ", "a", "")?).is_ok());
-    let negations = around(rt.alloc(), 64, "not ", "a", "")?;
-    assert!(rt; matches!(&expression(rt.alloc(), &negations), Err(Cause::TooDeep)));
-    assert!(rt; expression(rt.alloc(), &around(rt.alloc(), 63, "", "1", "+1")?).is_ok());
-    let sum = around(rt.alloc(), 64, "", "1", "+1")?;
-    assert!(rt; matches!(&expression(rt.alloc(), &sum), Err(Cause::TooDeep)));
-    Ok(())
+    assert_rows::<Outcome>(
+        rt.alloc(),
+        &rt,
+        "63*(\t1*1\t63*) => read in 127 bytes\n\
+        64*(\t1*1\t64*) => TooDeep in 129 bytes\n\
+        64*(\t1*1 => Syntax in 65 bytes\n\
+        63*not \t1*a => read in 253 bytes\n\
+        64*not \t1*a => TooDeep in 257 bytes\n\
+        1*1\t63*+1 => read in 127 bytes\n\
+        1*1\t64*+1 => TooDeep in 129 bytes\n\
+        63*f(\t1*1\t63*) => read in 190 bytes\n\
+        64*f(\t1*1\t64*) => TooDeep in 193 bytes\n\
+        63*f(\t1*g()\t63*) => read in 192 bytes\n\
+        63*f(1, \t1*g(*)\t63*) => read in 382 bytes\n\
+        64*f(\t1*g(*)\t64*) => TooDeep in 196 bytes\n\
+        64*f(\t1*1 => Syntax in 129 bytes",
+    )
 }
 
-#[test]
-fn heights_of_calls(rt: HostRuntime) -> Result<(), Fail> {
-    assert!(rt; expression(rt.alloc(), &around(rt.alloc(), 63, "f(", "1", ")")?).is_ok());
-    let high = around(rt.alloc(), 64, "f(", "1", ")")?;
-    assert!(rt; matches!(&expression(rt.alloc(), &high), Err(Cause::TooDeep)));
-    // a call of nothing and one of all are as high as a number
-    assert!(rt; expression(rt.alloc(), &around(rt.alloc(), 63, "f(", "g()", ")")?).is_ok());
-    assert!(rt; expression(rt.alloc(), &around(rt.alloc(), 63, "f(1, ", "g(*)", ")")?).is_ok());
-    let all = around(rt.alloc(), 64, "f(", "g(*)", ")")?;
-    assert!(rt; matches!(&expression(rt.alloc(), &all), Err(Cause::TooDeep)));
-    // 64 tokens that deepen, and no expression
-    let open = around(rt.alloc(), 64, "f(", "1", "")?;
-    assert!(rt; matches!(&expression(rt.alloc(), &open), Err(Cause::Syntax)));
-    Ok(())
-}
-
+// A chain and a list are one node each.
 #[test]
 fn long_texts(rt: HostRuntime) -> Result<(), Fail> {
-    // a chain and a list are one node each
-    assert!(rt; expression(rt.alloc(), &around(rt.alloc(), 9000, "", "a", " and a")?).is_ok());
-    let mut list = around(rt.alloc(), 9000, "", "a in (1", ", a")?;
-    list.push(')')?;
-    assert!(rt; expression(rt.alloc(), &list).is_ok());
-    let mut call = around(rt.alloc(), 9000, "", "f(1", ", a")?;
-    call.push(')')?;
-    assert!(rt; expression(rt.alloc(), &call).is_ok());
-    assert!(rt; expression(rt.alloc(), &around(rt.alloc(), 30000, "(", "1", "")?).is_err());
-    assert!(rt; expression(rt.alloc(), &around(rt.alloc(), 30000, "", "1", "+1")?).is_err());
-    assert!(rt; expression(rt.alloc(), &around(rt.alloc(), 15000, "not ", "a", "")?).is_err());
-    Ok(())
+    assert_rows::<Outcome>(
+        rt.alloc(),
+        &rt,
+        "1*a\t9000* and a => read in 54001 bytes\n\
+        1*a in (1\t9000*, a\t1*) => read in 27008 bytes\n\
+        1*f(1\t9000*, a\t1*) => read in 27004 bytes",
+    )
+}
+
+#[test]
+fn long_texts_that_are_refused(rt: HostRuntime) -> Result<(), Fail> {
+    assert_rows::<Refusal>(
+        rt.alloc(),
+        &rt,
+        "30000*(\t1*1 => refused in 30001 bytes\n\
+        1*1\t30000*+1 => refused in 60001 bytes\n\
+        15000*not \t1*a => refused in 60001 bytes",
+    )
+}
+
+/// What is answered of a word, of it as a column, and of it in quotes.
+struct WordAnswers;
+
+impl Answer for WordAnswers {
+    fn answer(alloc: Global, word: &str) -> Result<String, Fail> {
+        let is = is_reserved(word);
+        let alone = Printed::answer(alloc, word)?;
+        let column = Printed::answer(alloc, &format!(in alloc; "t.{word}")?)?;
+        let quoted = Printed::answer(alloc, &format!(in alloc; "\"{word}\"")?)?;
+        Ok(format!(in alloc; "{is} {alone} {column} {quoted}")?)
+    }
+}
+
+// FALSE, NULL and TRUE are reserved too, but they are expressions.
+#[test]
+fn reserved_words(rt: HostRuntime) -> Result<(), Fail> {
+    assert_rows::<WordAnswers>(
+        rt.alloc(),
+        &rt,
+        "all => true Syntax Syntax \"all\"\n\
+        and => true Syntax Syntax \"and\"\n\
+        as => true Syntax Syntax \"as\"\n\
+        asc => true Syntax Syntax \"asc\"\n\
+        between => true Syntax Syntax \"between\"\n\
+        by => true Syntax Syntax \"by\"\n\
+        case => true Syntax Syntax \"case\"\n\
+        create => true Syntax Syntax \"create\"\n\
+        cross => true Syntax Syntax \"cross\"\n\
+        current_user => true Syntax Syntax \"current_user\"\n\
+        declare => true Syntax Syntax \"declare\"\n\
+        delete => true Syntax Syntax \"delete\"\n\
+        desc => true Syntax Syntax \"desc\"\n\
+        distinct => true Syntax Syntax \"distinct\"\n\
+        drop => true Syntax Syntax \"drop\"\n\
+        else => true Syntax Syntax \"else\"\n\
+        end => true Syntax Syntax \"end\"\n\
+        except => true Syntax Syntax \"except\"\n\
+        fetch => true Syntax Syntax \"fetch\"\n\
+        for => true Syntax Syntax \"for\"\n\
+        foreign => true Syntax Syntax \"foreign\"\n\
+        from => true Syntax Syntax \"from\"\n\
+        full => true Syntax Syntax \"full\"\n\
+        group => true Syntax Syntax \"group\"\n\
+        having => true Syntax Syntax \"having\"\n\
+        in => true Syntax Syntax \"in\"\n\
+        inner => true Syntax Syntax \"inner\"\n\
+        insert => true Syntax Syntax \"insert\"\n\
+        intersect => true Syntax Syntax \"intersect\"\n\
+        into => true Syntax Syntax \"into\"\n\
+        is => true Syntax Syntax \"is\"\n\
+        join => true Syntax Syntax \"join\"\n\
+        left => true Syntax Syntax \"left\"\n\
+        like => true Syntax Syntax \"like\"\n\
+        limit => true Syntax Syntax \"limit\"\n\
+        natural => true Syntax Syntax \"natural\"\n\
+        not => true Syntax Syntax \"not\"\n\
+        offset => true Syntax Syntax \"offset\"\n\
+        on => true Syntax Syntax \"on\"\n\
+        or => true Syntax Syntax \"or\"\n\
+        order => true Syntax Syntax \"order\"\n\
+        outer => true Syntax Syntax \"outer\"\n\
+        right => true Syntax Syntax \"right\"\n\
+        select => true Syntax Syntax \"select\"\n\
+        set => true Syntax Syntax \"set\"\n\
+        then => true Syntax Syntax \"then\"\n\
+        union => true Syntax Syntax \"union\"\n\
+        update => true Syntax Syntax \"update\"\n\
+        user => true Syntax Syntax \"user\"\n\
+        using => true Syntax Syntax \"using\"\n\
+        values => true Syntax Syntax \"values\"\n\
+        when => true Syntax Syntax \"when\"\n\
+        where => true Syntax Syntax \"where\"\n\
+        with => true Syntax Syntax \"with\"",
+    )
+}
+
+/// Whether the word is reserved.
+struct Reserved;
+
+impl Answer for Reserved {
+    fn answer(alloc: Global, word: &str) -> Result<String, Fail> {
+        Ok(format!(in alloc; "{}", is_reserved(word))?)
+    }
+}
+
+#[test]
+fn other_words(rt: HostRuntime) -> Result<(), Fail> {
+    assert_rows::<Reserved>(
+        rt.alloc(),
+        &rt,
+        "false => true\n\
+        null => true\n\
+        true => true\n\
+        row => false\n\
+        next => false\n\
+        unknown => false\n\
+        ALL => false\n\
+        \u{20}=> false",
+    )
 }

@@ -5,9 +5,7 @@
 #[cfg(test)]
 mod expressions_read;
 #[cfg(test)]
-mod statement_names;
-#[cfg(test)]
-mod statement_refusals;
+mod rows;
 #[cfg(test)]
 mod statement_sizes;
 #[cfg(test)]

@@ -1,124 +1,90 @@
-//! High, long and refused: heights, long texts, and memory that is refused.
-use crate::expressions_read::around;
-use crate::statement_refusals::refused;
+//! Long texts of statements, and memory that is refused.
+use crate::rows::{Answer, assert_rows, repeated};
 use med_parser::{parse, print};
 use med_value::Cause;
 use std::alloc::Global;
+use std::process::Abort;
 use std::test::Fail;
 
-#[test]
-fn heights(rt: HostRuntime) -> Result<(), Fail> {
-    let deep = around(rt.alloc(), 63, "(", "1", ")")?;
-    let item = format!(in rt.alloc(); "SELECT a, {deep} x FROM t")?;
-    assert!(rt; parse(rt.alloc(), &item).is_ok());
-    let condition = format!(in rt.alloc(); "SELECT a FROM t WHERE {deep}")?;
-    assert!(rt; parse(rt.alloc(), &condition).is_ok());
-    let item = format!(in rt.alloc(); "SELECT a, ({deep}) x FROM t")?;
-    assert!(rt; refused(rt.alloc(), &item, Cause::TooDeep));
-    let condition = format!(in rt.alloc(); "SELECT a FROM t WHERE ({deep})")?;
-    assert!(rt; refused(rt.alloc(), &condition, Cause::TooDeep));
-    // 64 tokens that deepen, and no statement
-    let open = around(rt.alloc(), 64, "(", "1", "")?;
-    let outside = format!(in rt.alloc(); "SELECT {open}")?;
-    assert!(rt; refused(rt.alloc(), &outside, Cause::Syntax));
-    let outside = format!(in rt.alloc(); "SELECT ({deep}) FROM")?;
-    assert!(rt; refused(rt.alloc(), &outside, Cause::Syntax));
-    Ok(())
-}
+/// How the text of a row of parts is answered, and how long it is.
+struct Outcome;
 
-#[test]
-fn long_texts(rt: HostRuntime) -> Result<(), Fail> {
-    // over 64 tokens that deepen, and no expression is high
-    let products = around(
-        rt.alloc(),
-        1000,
-        "",
-        "SELECT *, t.*, a * 1 b",
-        ", -a * (1) c",
-    )?;
-    assert!(rt; parse(rt.alloc(), &products).is_ok());
-    let stars = around(rt.alloc(), 9000, "", "SELECT *", ", *")?;
-    assert!(rt; parse(rt.alloc(), &stars).is_ok());
-    let sum = around(rt.alloc(), 32764, "", "SELECT 1", "+1")?;
-    assert_eq!(rt; sum.len(), 65536);
-    assert!(rt; refused(rt.alloc(), &sum, Cause::TooDeep));
-    let condition = around(rt.alloc(), 30000, "", "SELECT a WHERE 1", "+1")?;
-    assert!(rt; refused(rt.alloc(), &condition, Cause::TooDeep));
-    let open = around(rt.alloc(), 65529, "", "SELECT ", "(")?;
-    assert_eq!(rt; open.len(), 65536);
-    assert!(rt; parse(rt.alloc(), &open).is_err());
-    let open = around(rt.alloc(), 60000, "", "SELECT a FROM t WHERE ", "(")?;
-    assert!(rt; parse(rt.alloc(), &open).is_err());
-    let negations = around(rt.alloc(), 16000, "", "SELECT ", "not ")?;
-    assert!(rt; parse(rt.alloc(), &negations).is_err());
-    Ok(())
-}
-
-/// Whether the text is read and written out so, or memory was refused.
-fn is_read_or_lacks_memory(alloc: Global, text: &str, expected: &str) -> bool {
-    match parse(alloc, text) {
-        Ok(statement) => {
-            match print(alloc, &statement) {
-                Ok(written) => written.as_str() == expected,
-                Err(_) => true,
-            }
-        }
-        Err(cause) => cause == Cause::OutOfMemory,
+impl Answer for Outcome {
+    fn answer(alloc: Global, row: &str) -> Result<String, Fail> {
+        let text = repeated(alloc, row)?;
+        let length = text.len();
+        Ok(match parse(alloc, &text) {
+            Ok(_) => format!(in alloc; "read in {length} bytes")?,
+            Err(cause) => format!(in alloc; "{cause:?} in {length} bytes")?,
+        })
     }
 }
 
-// Each of these holds whichever allocation is refused: `rt try --test --fail-alloc N` refuses the Nth.
+/// The same where a refusal may have any cause.
+struct Refusal;
+
+impl Answer for Refusal {
+    fn answer(alloc: Global, row: &str) -> Result<String, Fail> {
+        let text = repeated(alloc, row)?;
+        let word = if parse(alloc, &text).is_ok() {
+            "read"
+        } else {
+            "refused"
+        };
+        Ok(format!(in alloc; "{word} in {} bytes", text.len())?)
+    }
+}
+
+// In the first two there are over 64 tokens that deepen, and no expression is high.
 #[test]
-fn refused_allocation_of_items(rt: HostRuntime) {
-    assert!(rt;
-        is_read_or_lacks_memory(
-            rt.alloc(),
-            "SELECT *, t.*, a AS from, 'b' c",
-            "SELECT * , \"t\" . * , \"a\" AS \"from\" , 'b' AS \"c\""
-        )
-    );
+fn long_texts(rt: HostRuntime) -> Result<(), Fail> {
+    assert_rows::<Outcome>(
+        rt.alloc(),
+        &rt,
+        "1*SELECT *, t.*, a * 1 b\t1000*, -a * (1) c => read in 12022 bytes\n\
+        1*SELECT *\t9000*, * => read in 27008 bytes\n\
+        1*SELECT 1\t32764*+1 => TooDeep in 65536 bytes\n\
+        1*SELECT a WHERE 1\t30000*+1 => TooDeep in 60016 bytes",
+    )
 }
 
 #[test]
-fn refused_allocation_of_clauses(rt: HostRuntime) {
-    assert!(rt;
-        is_read_or_lacks_memory(
-            rt.alloc(),
-            "SELECT 1 FROM t AS u WHERE a IN (1, b, 'c') AND NOT d LIKE 'e'",
-            "SELECT 1 FROM \"t\" AS \"u\" WHERE \"a\" IN ( 1 , \"b\" , 'c' ) AND NOT \"d\" LIKE 'e'"
-        )
-    );
+fn long_texts_that_are_refused(rt: HostRuntime) -> Result<(), Fail> {
+    assert_rows::<Refusal>(
+        rt.alloc(),
+        &rt,
+        "1*SELECT \t65529*( => refused in 65536 bytes\n\
+        1*SELECT a FROM t WHERE \t60000*( => refused in 60022 bytes\n\
+        1*SELECT \t16000*not  => refused in 64007 bytes",
+    )
 }
 
-#[test]
-fn refused_allocation_of_expressions(rt: HostRuntime) {
-    assert!(rt;
-        is_read_or_lacks_memory(
-            rt.alloc(),
-            "SELECT -(a + 1) * -2 x WHERE a BETWEEN 1 AND b OR c IS NOT UNKNOWN OR t.d",
-            "SELECT - ( \"a\" + 1 ) * - 2 AS \"x\" WHERE \"a\" BETWEEN 1 AND \"b\" OR \"c\" IS NOT UNKNOWN OR \"t\" . \"d\""
-        )
-    );
+/// Stops where a text is written out otherwise than its row wants, or refused though memory was not.
+fn assert_written_or_no_memory(alloc: Global, rt: &impl Abort, rows: &str) -> Result<(), Fail> {
+    for row in rows.lines() {
+        let (text, wanted) = row.split_once(" => ").ok_or(row)?;
+        match parse(alloc, text) {
+            Ok(statement) => {
+                if let Ok(came) = print(alloc, &statement) {
+                    assert_eq!(rt; came.as_str(), wanted, "in {text}");
+                }
+            }
+            Err(cause) => assert_eq!(rt; cause, Cause::OutOfMemory, "in {text}"),
+        }
+    }
+    Ok(())
 }
 
+// This holds whichever allocation is refused: `rt try --test --fail-alloc N` refuses the Nth.
 #[test]
-fn refused_allocation_of_joins(rt: HostRuntime) {
-    assert!(rt;
-        is_read_or_lacks_memory(
-            rt.alloc(),
-            "SELECT DISTINCT 1 FROM t u JOIN v ON a LEFT JOIN w x ON b CROSS JOIN y, z",
-            "SELECT DISTINCT 1 FROM \"t\" AS \"u\" JOIN \"v\" ON \"a\" LEFT JOIN \"w\" AS \"x\" ON \"b\" CROSS JOIN \"y\" , \"z\""
-        )
-    );
-}
-
-#[test]
-fn refused_allocation_of_keys(rt: HostRuntime) {
-    assert!(rt;
-        is_read_or_lacks_memory(
-            rt.alloc(),
-            "SELECT a GROUP BY a, t.b HAVING c ORDER BY a, b DESC NULLS LAST OFFSET 2 ROWS LIMIT 1",
-            "SELECT \"a\" GROUP BY \"a\" , \"t\" . \"b\" HAVING \"c\" ORDER BY \"a\" ASC NULLS LAST , \"b\" DESC NULLS LAST LIMIT 1 OFFSET 2"
-        )
-    );
+fn refused_allocations(rt: HostRuntime) -> Result<(), Fail> {
+    assert_written_or_no_memory(
+        rt.alloc(),
+        &rt,
+        "SELECT *, t.*, a AS from, 'b' c => SELECT * , \"t\" . * , \"a\" AS \"from\" , 'b' AS \"c\"\n\
+        SELECT 1 FROM t AS u WHERE a IN (1, b, 'c') AND NOT d LIKE 'e' => SELECT 1 FROM \"t\" AS \"u\" WHERE \"a\" IN ( 1 , \"b\" , 'c' ) AND NOT \"d\" LIKE 'e'\n\
+        SELECT -(a + 1) * -2 x WHERE a BETWEEN 1 AND b OR c IS NOT UNKNOWN OR t.d => SELECT - ( \"a\" + 1 ) * - 2 AS \"x\" WHERE \"a\" BETWEEN 1 AND \"b\" OR \"c\" IS NOT UNKNOWN OR \"t\" . \"d\"\n\
+        SELECT DISTINCT 1 FROM t u JOIN v ON a LEFT JOIN w x ON b CROSS JOIN y, z => SELECT DISTINCT 1 FROM \"t\" AS \"u\" JOIN \"v\" ON \"a\" LEFT JOIN \"w\" AS \"x\" ON \"b\" CROSS JOIN \"y\" , \"z\"\n\
+        SELECT a GROUP BY a, t.b HAVING c ORDER BY a, b DESC NULLS LAST OFFSET 2 ROWS LIMIT 1 => SELECT \"a\" GROUP BY \"a\" , \"t\" . \"b\" HAVING \"c\" ORDER BY \"a\" ASC NULLS LAST , \"b\" DESC NULLS LAST LIMIT 1 OFFSET 2",
+    )
 }

@@ -1,24 +1,23 @@
-//! Expressions from their steps, the rows that they are over, and answers as text.
-use med_value::{NoMemory, Row, Value};
+//! Expressions from their steps, and the rows that they are over.
+use med_value::{Row, Value};
 use std::alloc::Global;
-use std::process::Abort;
 use std::test::Fail;
-use tri_expr::{Comparison, EvalFault, Expr, Operation, SetFunction, Test, eval, eval_class};
+use tri_expr::{Comparison, Expr, Operation, SetFunction, Test};
 
 fn text(alloc: Global, s: &str) -> Result<Value, Fail> {
     Ok(Value::Text(s.to_string(alloc)?))
 }
 
 /// The rows (1, 'bolt', 10, true), (2, 'nut', NULL, true) and (3, NULL, 0, false): columns id, name, qty and live.
-pub fn part(alloc: Global, id: u8) -> Result<Row, Fail> {
+pub fn part(alloc: Global, id: &str) -> Result<Row, Fail> {
     let cells = match id {
-        1 => vec![in alloc;
+        "1" => vec![in alloc;
             Value::Int(1),
             text(alloc, "bolt")?,
             Value::Int(10),
             Value::Bool(true),
         ]?,
-        2 => vec![in alloc;
+        "2" => vec![in alloc;
             Value::Int(2),
             text(alloc, "nut")?,
             Value::Null,
@@ -32,6 +31,15 @@ pub fn part(alloc: Global, id: u8) -> Result<Row, Fail> {
         ]?,
     };
     Ok(Row { cells })
+}
+
+/// The rows of these numbers.
+pub fn class(alloc: Global, ids: &str) -> Result<Vec<Row>, Fail> {
+    let mut rows = Vec::new(alloc);
+    for id in ids.split_whitespace() {
+        rows.push(part(alloc, id)?)?;
+    }
+    Ok(rows)
 }
 
 /// The parameters 5, NULL and 'wing'.
@@ -198,64 +206,4 @@ pub fn build(alloc: Global, steps: &str) -> Result<Expr, Fail> {
         stack.push(e)?;
     }
     Ok(stack.pop().ok_or("no step")?)
-}
-
-/// An answer as text: a text in quotes, a truth value as t or f, a fault by its code.
-pub fn shown(alloc: Global, answer: Result<Value, EvalFault>) -> Result<String, Fail> {
-    Ok(match answer {
-        Ok(Value::Null) => "NULL".to_string(alloc)?,
-        Ok(Value::Int(n)) => format!(in alloc; "{n}")?,
-        Ok(Value::Text(t)) => format!(in alloc; "'{}'", t.as_str())?,
-        Ok(Value::Bool(true)) => "t".to_string(alloc)?,
-        Ok(Value::Bool(false)) => "f".to_string(alloc)?,
-        Err(EvalFault::OutOfRange) => "22003".to_string(alloc)?,
-        Err(EvalFault::ZeroDivisor) => "22012".to_string(alloc)?,
-        Err(EvalFault::NoMemory) => "53200".to_string(alloc)?,
-    })
-}
-
-fn assert_row(alloc: Global, rt: &impl Abort, line: &str) -> Result<(), Fail> {
-    let (sql, rest) = line.split_once(" | ").ok_or("no row")?;
-    let (row, rest) = rest.split_once(" | ").ok_or("no steps")?;
-    let (steps, want) = rest.split_once(" | ").ok_or("no value")?;
-    let e = build(alloc, steps)?;
-    let params = parameters(alloc)?;
-    let answer = eval(alloc, &e, &part(alloc, row.parse()?)?, &params);
-    let answer = shown(alloc, answer)?;
-    assert_eq!(rt; answer.as_str(), want, "{sql} on row {row}");
-    Ok(())
-}
-
-/// Each line has an expression, the row that it is on, its steps, and the value that is wanted.
-pub fn assert_rows(alloc: Global, rt: &impl Abort, table: &str) -> Result<(), Fail> {
-    for line in table.lines() {
-        if !line.is_empty() {
-            assert_row(alloc, rt, line)?;
-        }
-    }
-    Ok(())
-}
-
-fn assert_class_row(alloc: Global, rt: &impl Abort, class: &[Row], line: &str) -> Result<(), Fail> {
-    let (sql, rest) = line.split_once(" | ").ok_or("no steps")?;
-    let (steps, want) = rest.split_once(" | ").ok_or("no value")?;
-    let e = build(alloc, steps)?;
-    let answer = shown(alloc, eval_class(alloc, &e, class, &[]))?;
-    assert_eq!(rt; answer.as_str(), want, "{sql}");
-    Ok(())
-}
-
-/// Each line has an expression over a class of rows, its steps, and the value that is wanted.
-pub fn assert_class_rows(
-    alloc: Global,
-    rt: &impl Abort,
-    class: &[Row],
-    table: &str,
-) -> Result<(), Fail> {
-    for line in table.lines() {
-        if !line.is_empty() {
-            assert_class_row(alloc, rt, class, line)?;
-        }
-    }
-    Ok(())
 }

@@ -1,0 +1,39 @@
+//! Rows of cases, many in one text literal, since each literal and each call of a function is proved by itself. A row is a text, ` => ` and the
+//! answer that is wanted of it.
+use std::alloc::Global;
+use std::process::Abort;
+use std::test::Fail;
+
+/// A question that is asked of each row's text.
+pub trait Answer {
+    fn answer(alloc: Global, text: &str) -> Result<String, Fail>;
+}
+
+/// Stops where another answer comes than the row wants.
+pub fn assert_row<A: Answer>(alloc: Global, rt: &impl Abort, row: &str) -> Result<(), Fail> {
+    let (text, wanted) = row.split_once(" => ").ok_or(row)?;
+    let came = A::answer(alloc, text)?;
+    assert_eq!(rt; came.as_str(), wanted, "in {text}");
+    Ok(())
+}
+
+/// The same of each line.
+pub fn assert_rows<A: Answer>(alloc: Global, rt: &impl Abort, rows: &str) -> Result<(), Fail> {
+    for row in rows.lines() {
+        assert_row::<A>(alloc, rt, row)?;
+    }
+    Ok(())
+}
+
+/// The text of a row of parts, with a TAB between two of them: each is a number of times, an asterisk, and what comes so often.
+pub fn repeated(alloc: Global, row: &str) -> Result<String, Fail> {
+    let mut text = String::new(alloc);
+    for piece in row.split('\t') {
+        let (times, part) = piece.split_once('*').ok_or(row)?;
+        let times: u32 = times.parse()?;
+        for _ in 0..times {
+            text.push_str(part)?;
+        }
+    }
+    Ok(text)
+}
