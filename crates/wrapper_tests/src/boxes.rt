@@ -1,14 +1,13 @@
 //! Wrappers round wrappers, and what the calls of a row answer on them.
-ghost use Rattle.std.specs.Prelude.{◌≡◌, ◌∷◌, [], List, Some, IsSome};
-ghost use Rattle.med_value.specs.declared.value.ColType.TheVariants.{Int};
+ghost use Rattle.std.specs.Prelude.{◌≡◌, [], List, IsSome};
 ghost use Rattle.fdw_api.specs.Kinds.{Column};
-ghost use Rattle.fdw_api.specs.State.{Bound, IsIdle, table_of};
+ghost use Rattle.fdw_api.specs.State.{IsIdle, table_of};
 ghost use Rattle.probe_wrapper.specs.Counting.{counted};
 ghost use Rattle.probe_wrapper.specs.Shy.{shied, asked_of};
 ghost use Rattle.probe_wrapper.specs.Failing.{failed};
 ghost use Rattle.probe_wrapper.specs.Shuffled.{reordered, turns_of};
 
-use crate::orders::{new_list, prepare};
+use crate::orders::{bind_orders, new_list, prepare};
 use crate::parameters::read_by_part;
 use crate::reads::{
     begin_two, read, read_above_one, read_again, read_in_turn, read_two, write_counts,
@@ -69,8 +68,7 @@ fn reads<W: Wrapper>(
     then: &str,
     out: &mut Vec<u8>,
 ) -> Result<(), Fail>
-    requires bound { IsSome (table_of (W.meaning source.old) table.number) }
-    requires kinds { (bound : Bound) → table_of (W.meaning source.old) table.number ≡ Some bound → bound.kinds ≡ Int ∷ Int ∷ Int ∷ [] }
+    requires { IsSome (table_of (W.meaning source.old) table.number) }
 {
     match then {
         "read" => read(source, alloc, table, out)?,
@@ -78,11 +76,29 @@ fn reads<W: Wrapper>(
         "turn" => read_in_turn(source, alloc, table, out)?,
         "again" => read_again(source, alloc, table, out)?,
         "above" => read_above_one(source, alloc, table, out)?,
-        "part" => read_by_part(source, alloc, table, out)?,
         "begin" => begin_two(source, alloc, table, out)?,
         _ => return Err("no such read".into()),
     }
     Ok(())
+}
+
+/// Does calls on a new source. `part` reads the orders as they are bound.
+fn make<W: Wrapper>(
+    source: &mut W,
+    alloc: Global,
+    calls: Calls<'_>,
+    out: &mut Vec<u8>,
+) -> Result<(), Fail>
+    requires idle { IsIdle (W.meaning source.old) }
+    requires free { (columns : List Column) → (W.meaning source.old).nature.kind.objections columns [] ≡ [] }
+{
+    if calls.then == "part" {
+        let table = bind_orders(source, alloc)?;
+        read_by_part(source, alloc, table, out)?;
+        return Ok(());
+    }
+    let table = prepare(source, alloc, calls.first)?;
+    reads(source, alloc, table, calls.then, out)
 }
 
 /// What calls answer on a new source, and then what the source counts.
@@ -91,9 +107,8 @@ pub fn answered<W: Wrapper>(source: W, alloc: Global, calls: Calls<'_>) -> Resul
     requires free { (columns : List Column) → (W.meaning source).nature.kind.objections columns [] ≡ [] }
 {
     let mut source = source;
-    let table = prepare(&mut source, alloc, calls.first)?;
     let mut out = Vec::new(alloc);
-    reads(&mut source, alloc, table, calls.then, &mut out)?;
+    make(&mut source, alloc, calls, &mut out)?;
     write_counts(alloc, source.ledger(), &mut out)?;
     Ok(out)
 }
