@@ -49,6 +49,19 @@ fn scan_gives_rows_in_list_order(rt: HostRuntime) -> Result<(), Fail> {
 }
 
 #[test]
+fn two_scans_of_a_boxed_list_give_its_rows_in_turn(rt: HostRuntime) -> Result<(), Fail> {
+    let alloc = rt.alloc();
+    let source: Box<dyn Wrapper> = Box::new(alloc, new_list(alloc)?)?;
+    let calls = Calls {
+        first: "bind",
+        then: "turn",
+    };
+    let found = answered(source, alloc, calls)?;
+    let want = "10\t1\t4 10\t1\t4 11\t1\t6 11\t1\t6 12\t9\t1 12\t9\t1 end end 2/0/6/0";
+    checked(alloc, "boxed list|bind|turn", &found, want)
+}
+
+#[test]
 fn list_takes_over_what_shy_leaves(rt: HostRuntime) -> Result<(), Fail> {
     check_rows(
         rt.alloc(),
