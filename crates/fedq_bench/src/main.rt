@@ -2,9 +2,6 @@
 #![tactic(auto)]
 
 mod measure;
-mod setup;
-mod tables;
-mod words;
 
 use std::process::ExitCode;
 

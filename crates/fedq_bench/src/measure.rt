@@ -2,8 +2,8 @@
 ghost use Rattle.med_session.specs.Engine.{shown, IsSound};
 ghost use Rattle.probe_wrapper.specs.ListBoxes.{box_of};
 
-use crate::setup::{BenchFault, bench_engine};
-use crate::words::{Asked, read_words};
+use bench_tables::setup::{BenchFault, bench_engine};
+use bench_tables::words::{Asked, read_words};
 use med_session::{Engine, Request, Sid};
 use probe_wrapper::ListWrapper;
 use std::alloc::{AllocError, Global};

@@ -9,8 +9,6 @@ mod replies;
 mod select;
 pub mod session;
 pub mod sources;
-#[cfg(test)]
-mod tests;
 pub mod users;
 
 pub use adding::{AddFault, Sources};

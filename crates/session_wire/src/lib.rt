@@ -14,6 +14,3 @@ pub mod worlds;
 pub use frames::{BadFrame, frame};
 pub use handler::Handler;
 pub use server::{FeedFault, Server};
-
-#[cfg(test)]
-mod tests;

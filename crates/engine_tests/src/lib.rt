@@ -1,0 +1,12 @@
+//! Tests of the engine, of its request lines, and of the tables and words of `fedq_bench`, by public functions alone. They stand apart, so
+//! that no crate is proved a second time for its tests.
+#![tactic(auto)]
+
+#[cfg(test)]
+mod bench;
+#[cfg(test)]
+mod frames;
+#[cfg(test)]
+mod lines;
+#[cfg(test)]
+mod sessions;

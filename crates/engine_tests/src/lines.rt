@@ -1,0 +1,202 @@
+//! Lines that a server answers by a handler, however its stream is cut, and the limits of a line.
+ghost use Rattle.std.specs.Prelude.{◌≡◌, ⊤, true};
+
+use med_session::{NoRoom, Request, Sid};
+use session_wire::server::runs_join;
+use session_wire::{FeedFault, Handler, Server};
+use std::alloc::Global;
+use std::test::Fail;
+
+const CLOSED: &[u8] = b"0 E 08P01 protocol_violation\n0 T CLOSED\n";
+
+const STREAM: &[u8] = b"1 OPEN ann\r
+1 Q SELECT 1
+
+65 BYE
+07 BYE
+2 bye
+1 OPEN public
+64 BYE
+1 Q rest";
+
+const REPLIES: &[u8] = b"01 O
+01 Q
+0 E 08P01 protocol_violation
+0 E 08P01 protocol_violation
+0 E 08P01 protocol_violation
+2 E 08P01 protocol_violation
+1 E 08P01 protocol_violation
+64 B
+";
+
+// Answers `NN V`, NN the session and V the verb's first letter, or refuses.
+#[derive(Drop)]
+struct Echo {
+    bytes: usize,
+    is_full: bool,
+    is_ended: bool,
+}
+
+impl Handler for Echo {
+    ghost step = { λ _ _ _ _ _. ⊤ };
+
+    ghost ended = { λ _ new. new.is_ended ≡ true };
+
+    ghost sound = { λ _. ⊤ };
+
+    fn request(&mut self, sid: Sid, request: Request<'_>, out: &mut Vec<u8>) -> Result<(), NoRoom> {
+        if self.is_full {
+            return Err(NoRoom);
+        }
+        let (verb, length) = match request {
+            Request::Open(user) => (b'O', user.len()),
+            Request::Sql(text) => (b'Q', text.len()),
+            Request::Bye => (b'B', 0),
+        };
+        let ten = b'0' + sid.number / 10;
+        let unit = b'0' + sid.number % 10;
+        if out
+            .extend_from_slice(&[ten, unit, b' ', verb, b'\n'])
+            .is_err()
+        {
+            return Err(NoRoom);
+        }
+        self.bytes = length;
+        Ok(())
+    }
+
+    fn close_sessions(&mut self) {
+        self.is_ended = true;
+    }
+}
+
+fn server(alloc: Global, is_full: bool) -> Result<Server<Echo>, Fail> {
+    let echo = Echo {
+        bytes: 0,
+        is_full,
+        is_ended: false,
+    };
+    match Server::new(alloc, echo) {
+        Ok(server) => Ok(server),
+        Err(_) => Err("no room for a server".into()),
+    }
+}
+
+// A line `1 Q` with so many bytes in all, and an LF if asked.
+fn long_line(alloc: Global, length: usize, lf: bool) -> Result<Vec<u8>, Fail> {
+    let mut line = Vec::from_slice(alloc, b"1 Q ")?;
+    line.resize(length, b' ')?;
+    if lf {
+        line.push(b'\n')?;
+    }
+    Ok(line)
+}
+
+// Feeds the bytes one by one.
+fn feed_bytes(server: &mut Server<Echo>, bytes: &[u8], out: &mut Vec<u8>) -> Result<(), Fail> {
+    for byte in bytes {
+        server.feed(&[*byte], out)?;
+    }
+    Ok(())
+}
+
+// What the stream is answered if it is cut in two.
+fn answered_in_two(alloc: Global, front: &[u8], back: &[u8]) -> Result<Vec<u8>, Fail> {
+    let mut server = server(alloc, false)?;
+    let mut out = Vec::new(alloc);
+    server.feed(front, &mut out)?;
+    server.feed(back, &mut out)?;
+    Ok(out)
+}
+
+#[test]
+fn cuts_do_not_matter(rt: HostRuntime) -> Result<(), Fail> {
+    for cut in 0..=STREAM.len() {
+        let out = answered_in_two(rt.alloc(), &STREAM[..cut], &STREAM[cut..])?;
+        assert_eq!(rt; out.as_slice(), REPLIES, "cut at {cut}");
+    }
+    Ok(())
+}
+
+#[test]
+fn bytes_come_one_by_one(rt: HostRuntime) -> Result<(), Fail> {
+    let mut pieces = Vec::new(rt.alloc());
+    for byte in STREAM {
+        pieces.push(Vec::from_slice(rt.alloc(), &[*byte])?)?;
+    }
+    let mut server = server(rt.alloc(), false)?;
+    let mut out = Vec::new(rt.alloc());
+    server.feed_all(pieces.as_slice(), &mut out)?;
+    assert_eq!(rt; out.as_slice(), REPLIES);
+    assert!(rt; !server.is_closed());
+    assert!(rt; server.finish().is_ended);
+    runs_join::<Echo>();
+    Ok(())
+}
+
+#[test]
+fn line_has_65536_bytes(rt: HostRuntime) -> Result<(), Fail> {
+    let mut server = server(rt.alloc(), false)?;
+    let mut out = Vec::new(rt.alloc());
+    let line = long_line(rt.alloc(), 65_536, true)?;
+    server.feed(line.as_slice(), &mut out)?;
+    feed_bytes(&mut server, line.as_slice(), &mut out)?;
+    assert_eq!(rt; out.as_slice(), b"01 Q\n01 Q\n".as_slice());
+    let echo = server.finish();
+    assert!(rt; echo.is_ended);
+    assert_eq!(rt; echo.bytes, 65_532);
+    Ok(())
+}
+
+#[test]
+fn line_of_65537_bytes_closes(rt: HostRuntime) -> Result<(), Fail> {
+    let mut server = server(rt.alloc(), false)?;
+    let mut out = Vec::new(rt.alloc());
+    server.feed(long_line(rt.alloc(), 65_537, true)?.as_slice(), &mut out)?;
+    assert_eq!(rt; out.as_slice(), CLOSED);
+    assert_eq!(rt; server.feed(b"1 BYE\n", &mut out), Err(FeedFault::Closed));
+    assert_eq!(rt; out.as_slice(), CLOSED);
+    let echo = server.finish();
+    assert!(rt; echo.is_ended);
+    assert_eq!(rt; echo.bytes, 0);
+    Ok(())
+}
+
+#[test]
+fn long_rest_closes(rt: HostRuntime) -> Result<(), Fail> {
+    let mut server = server(rt.alloc(), false)?;
+    let mut out = Vec::new(rt.alloc());
+    server.feed(long_line(rt.alloc(), 65_536, false)?.as_slice(), &mut out)?;
+    assert!(rt; out.is_empty());
+    server.feed(b"\r", &mut out)?;
+    assert_eq!(rt; out.as_slice(), CLOSED);
+    assert!(rt; server.is_closed());
+    Ok(())
+}
+
+#[test]
+fn line_not_utf8_closes(rt: HostRuntime) -> Result<(), Fail> {
+    let mut server = server(rt.alloc(), false)?;
+    let mut out = Vec::new(rt.alloc());
+    server.feed(b"1 Q \xff", &mut out)?;
+    assert!(rt; !server.is_closed());
+    server.feed(b"\n1 BYE\n", &mut out)?;
+    assert_eq!(rt; out.as_slice(), CLOSED);
+    assert!(rt; server.is_closed());
+    Ok(())
+}
+
+#[test]
+fn no_room_closes(rt: HostRuntime) -> Result<(), Fail> {
+    let mut server = server(rt.alloc(), true)?;
+    let mut out = Vec::new(rt.alloc());
+    let fed = server.feed(b"x\n1 BYE\n2 BYE\n", &mut out);
+    assert_eq!(rt; fed, Err(FeedFault::NoRoom));
+    assert_eq!(rt;
+        out.as_slice(),
+        b"0 E 08P01 protocol_violation\n".as_slice()
+    );
+    assert!(rt; server.is_closed());
+    assert!(rt; server.finish().is_ended);
+    Ok(())
+}

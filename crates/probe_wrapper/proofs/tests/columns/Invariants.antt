@@ -1,6 +1,0 @@
-use Rattle.std.proofs.Common.{◌≡◌, map, take}
-use Rattle.fdw_api.specs.Kinds.{column_of}
-use Rattle.probe_wrapper.proofs.tests.columns.Given as goal
-
-abbrev pub invariant-loop-kind : goal.invariant-loop-kind
-invariant-loop-kind l = map (λ c. c.kind) (map column_of l.columns.items) ≡ take l.kind-index l.kinds

@@ -1,6 +1,0 @@
-use Rattle.std.proofs.Common.{[]}
-use Rattle.fdw_api.specs.Calls.{CanRescan}
-use Rattle.probe_wrapper.proofs.tests.take_four_again.Given as goal
-
-abbrev pub invariant-loop : goal.invariant-loop
-invariant-loop g l = CanRescan (g.W.Wrapper.meaning l.source) l.ticket.number []

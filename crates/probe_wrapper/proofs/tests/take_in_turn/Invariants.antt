@@ -1,5 +1,0 @@
-use Rattle.fdw_api.specs.Calls.{IsOpen}
-use Rattle.probe_wrapper.proofs.tests.take_in_turn.Given as goal
-
-abbrev pub invariant-loop : goal.invariant-loop
-invariant-loop g l = record { first : IsOpen (g.W.Wrapper.meaning l.source) l.first.number; second : IsOpen (g.W.Wrapper.meaning l.source) l.second.number }
