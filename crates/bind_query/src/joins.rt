@@ -12,8 +12,8 @@ ghost use Rattle.med_syntax.specs.QueryView.{entry_tree, join_tree, chain_tree};
 ghost use Rattle.std.specs.Prelude.{◌≡◌, ℕ, ◌+◌, ◌∷◌, [], map, flat_map, length, option_map, suc};
 ghost use Rattle.tri_expr.specs.Tree.{tree, conjunct_trees};
 
-use bind_names::{AttachedTable, Visible, joined_entry, visible_of};
 use crate::resolve::resolve;
+use bind_names::{AttachedTable, Visible, joined_entry, visible_of};
 use med_query::{Join, JoinChain};
 use med_syntax::{Chain, Entry, Expr as Written, Join as WrittenJoin};
 use med_value::Cause;

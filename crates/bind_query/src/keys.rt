@@ -16,9 +16,9 @@ ghost use Rattle.std.specs.Prelude.{◌≡◌, ◌-◌, ◌++◌, ◌∷◌, [],
 ghost use Rattle.tri_expr.specs.Tree.{tree};
 ghost use Rattle.tri_expr.specs.TreeParts.{same_tree};
 
-use bind_names::{Visible, find_column};
 use crate::outputs::Shown;
 use crate::resolve::resolve;
+use bind_names::{Visible, find_column};
 use med_query::SortDirection;
 use med_syntax::{Expr as Written, GroupColumn, OrderKey};
 use med_value::{Cause, Value};

@@ -13,8 +13,8 @@ ghost use Rattle.med_value.specs.Column.{column_of};
 ghost use Rattle.med_value.specs.declared.cause.Cause.TheVariants.{OutOfMemory};
 ghost use Rattle.std.specs.Prelude.{◌≡◌, ◌+◌, ◌≤◌, ◌∷◌, [], ◌++◌, map, length, flat_map, unwrap_or, option_map, string_bytes, if◌then◌else◌, Some, None, IfOk, IfErr};
 
-use bind_names::{Visible, is_any_named, is_named};
 use crate::resolve::resolve;
+use bind_names::{Visible, is_any_named, is_named};
 use med_syntax::{Expr as Written, Item};
 use med_value::{Cause, ColumnDef};
 use std::alloc::Global;

@@ -10,8 +10,8 @@ ghost use Rattle.med_value.specs.Datum.{NoValue};
 ghost use Rattle.std.specs.Prelude.{◌≡◌, ◌++◌, [], map, bytes_eq, codes, if◌then◌else◌, Some};
 ghost use Rattle.tri_expr.specs.Tree.{tree, trees, part, literal, compare, compute, between, within, count_rows};
 
-use bind_names::{Visible, find_column, function_named};
 use crate::numbers::{negative, number};
+use bind_names::{Visible, find_column, function_named};
 use med_syntax::{BinaryOp, CompareOp, Expr as Written, Joint, Status};
 use med_value::{Cause, Value};
 use std::alloc::Global;

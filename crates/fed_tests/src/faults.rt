@@ -7,8 +7,8 @@ use fed_cli::serving::serve_engine;
 use fed_cli::{Ended, StreamFault, serve_stream};
 use med_exec::ledger_at;
 use std::alloc::Global;
-use std::io::{ErrorKind, Read, Write};
 use std::io;
+use std::io::{ErrorKind, Read, Write};
 use std::test::Fail;
 
 // The bytes of the first line of the stored stream, and of the reply to it.

@@ -13,10 +13,10 @@ ghost use Rattle.med_value.specs.declared.cause.Cause.{Cause};
 ghost use Rattle.std.specs.List.{list_all};
 ghost use Rattle.std.specs.Prelude.{◌≡◌, ◌⊎◌, map, true, All, IfOk, OnOk, IfErr};
 
-use bind_names::AttachedTable;
-use bind_types::{check_form, check_written};
 use crate::bound::Bound;
 use crate::look_up::look_up;
+use bind_names::AttachedTable;
+use bind_types::{check_form, check_written};
 use med_syntax::{Select, Statement};
 use med_value::Cause;
 use std::alloc::Global;

@@ -8,13 +8,13 @@ ghost use Rattle.med_binder.specs.Looking.{Asks, Splits, Assembles, LooksUp};
 ghost use Rattle.med_syntax.specs.QueryView.{select_tree, limit_tree};
 ghost use Rattle.std.specs.Prelude.{◌≡◌, map, option_map, unwrap_or};
 
+use crate::bound::{Bound, BoundEntry};
+use crate::entries::bound_entries;
 use bind_names::{AttachedTable, Visible, check_names, entries_of, scope_of};
 use bind_query::grouping::grouping;
 use bind_query::joins::{chains, conditions};
 use bind_query::keys::{directions, keys, places};
 use bind_query::outputs::{Shown, outputs_of};
-use crate::bound::{Bound, BoundEntry};
-use crate::entries::bound_entries;
 use med_query::{JoinChain, Select as Resolved};
 use med_syntax::{Limit, Select};
 use med_value::Cause;

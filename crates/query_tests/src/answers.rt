@@ -1,7 +1,6 @@
 //! Queries over tables with NULL keys, and the rows that they give.
 use crate::expect::same_text;
-use med_query::answer;
-use med_query::{Grouping, JoinChain, Select, SortDirection, is_safe_from};
+use med_query::{Grouping, JoinChain, Select, SortDirection, answer, is_safe_from};
 use med_value::{Row, Value, row_text};
 use std::alloc::Global;
 use std::test::Fail;
