@@ -1,1 +1,2 @@
 pub mod ReaderAnswers
+pub mod ReaderSteps

@@ -62,18 +62,18 @@ pub fn call_of_nothing(alloc: Global, function: &String) -> Result<Expr, AllocEr
     Ok(Expr::Call(function.clone()?, Vec::new(alloc)))
 }
 
-pub fn call_of(function: &String, first: Expr, others: Vec<Expr>) -> Result<Expr, AllocError>
-    ensures { IfOk result (λ x. expr_tree x ≡ spec.call (string_bytes function.now) (spec.more (expr_tree first) (expr_trees others.items))) }
+pub fn call_of(function: &String, first: Box<Expr>, others: Vec<Expr>) -> Result<Expr, AllocError>
+    ensures { IfOk result (λ x. expr_tree x ≡ spec.call (string_bytes function.now) (spec.more (expr_tree first.value) (expr_trees others.items))) }
 {
     let mut parts = others;
-    parts.insert(0, first)?;
+    parts.insert(0, Box::into_inner(first))?;
     Ok(Expr::Call(function.clone()?, parts))
 }
 
-pub fn in_parens(alloc: Global, e: Expr) -> Result<Expr, AllocError>
-    ensures { IfOk result (λ x. expr_tree x ≡ spec.paren (expr_tree e)) }
+pub fn in_parens(e: Box<Expr>) -> Expr
+    ensures { expr_tree result ≡ spec.paren (expr_tree e.value) }
 {
-    Ok(Expr::Paren(Box::new(alloc, e)?))
+    Expr::Paren(e)
 }
 
 pub fn negated(alloc: Global, e: Expr) -> Result<Expr, AllocError>
@@ -82,62 +82,40 @@ pub fn negated(alloc: Global, e: Expr) -> Result<Expr, AllocError>
     Ok(Expr::Minus(Box::new(alloc, e)?))
 }
 
-pub fn operation(alloc: Global, op: BinaryOp, a: Expr, b: Expr) -> Result<Expr, AllocError>
-    ensures { IfOk result (λ x. expr_tree x ≡ spec.binary op (expr_tree a) (expr_tree b)) }
+pub fn operation(alloc: Global, op: BinaryOp, a: Box<Expr>, b: Expr) -> Result<Expr, AllocError>
+    ensures { IfOk result (λ x. expr_tree x ≡ spec.binary op (expr_tree a.value) (expr_tree b)) }
 {
-    Ok(Expr::Binary(op, Box::new(alloc, a)?, Box::new(alloc, b)?))
+    Ok(Expr::Binary(op, a, Box::new(alloc, b)?))
 }
 
-pub fn between(
-    alloc: Global,
-    negated: bool,
-    e: Expr,
-    low: Expr,
-    high: Expr,
-) -> Result<Expr, AllocError>
-    ensures { IfOk result (λ x. expr_tree x ≡ spec.between negated (expr_tree e) (expr_tree low) (expr_tree high)) }
+pub fn between(negated: bool, e: Box<Expr>, low: Box<Expr>, high: Box<Expr>) -> Expr
+    ensures { expr_tree result ≡ spec.between negated (expr_tree e.value) (expr_tree low.value) (expr_tree high.value) }
 {
-    Ok(Expr::Between(
-        negated,
-        Box::new(alloc, e)?,
-        Box::new(alloc, low)?,
-        Box::new(alloc, high)?,
-    ))
+    Expr::Between(negated, e, low, high)
 }
 
-pub fn membership(
-    alloc: Global,
-    negated: bool,
-    e: Expr,
-    first: Expr,
-    others: Vec<Expr>,
-) -> Result<Expr, AllocError>
-    ensures { IfOk result (λ x. expr_tree x ≡ spec.among negated (expr_tree e) (expr_tree first) (expr_trees others.items)) }
+pub fn membership(negated: bool, e: Box<Expr>, first: Box<Expr>, others: Vec<Expr>) -> Expr
+    ensures { expr_tree result ≡ spec.among negated (expr_tree e.value) (expr_tree first.value) (expr_trees others.items) }
 {
-    Ok(Expr::In(
-        negated,
-        Box::new(alloc, e)?,
-        Box::new(alloc, first)?,
-        others,
-    ))
+    Expr::In(negated, e, first, others)
 }
 
-pub fn likeness(alloc: Global, negated: bool, e: Expr, pattern: &String) -> Result<Expr, AllocError>
-    ensures { IfOk result (λ x. expr_tree x ≡ spec.like negated (expr_tree e) (string_bytes pattern.now)) }
+pub fn likeness(negated: bool, e: Box<Expr>, pattern: &String) -> Result<Expr, AllocError>
+    ensures { IfOk result (λ x. expr_tree x ≡ spec.like negated (expr_tree e.value) (string_bytes pattern.now)) }
 {
-    Ok(Expr::Like(negated, Box::new(alloc, e)?, pattern.clone()?))
+    Ok(Expr::Like(negated, e, pattern.clone()?))
 }
 
-pub fn comparison(alloc: Global, op: CompareOp, a: Expr, b: Expr) -> Result<Expr, AllocError>
-    ensures { IfOk result (λ x. expr_tree x ≡ spec.compare op (expr_tree a) (expr_tree b)) }
+pub fn comparison(alloc: Global, op: CompareOp, a: Box<Expr>, b: Expr) -> Result<Expr, AllocError>
+    ensures { IfOk result (λ x. expr_tree x ≡ spec.compare op (expr_tree a.value) (expr_tree b)) }
 {
-    Ok(Expr::Compare(op, Box::new(alloc, a)?, Box::new(alloc, b)?))
+    Ok(Expr::Compare(op, a, Box::new(alloc, b)?))
 }
 
-pub fn test(alloc: Global, negated: bool, e: Expr, status: Status) -> Result<Expr, AllocError>
-    ensures { IfOk result (λ x. expr_tree x ≡ spec.tested negated (expr_tree e) status) }
+pub fn test(negated: bool, e: Box<Expr>, status: Status) -> Expr
+    ensures { expr_tree result ≡ spec.tested negated (expr_tree e.value) status }
 {
-    Ok(Expr::Is(negated, Box::new(alloc, e)?, status))
+    Expr::Is(negated, e, status)
 }
 
 pub fn inverted(alloc: Global, e: Expr) -> Result<Expr, AllocError>

@@ -1,14 +1,15 @@
 //! Expressions, by recursive descent.
-#![tactic(auto, using(crate::proofs::ExprLoops::chained_many, crate::proofs::ExprLoops::whole_some, crate::proofs::ExprLoops::negated_some, crate::proofs::ExprLoops::signed_some, crate::proofs::ExprLoops::whole_none, crate::proofs::ExprLoops::negated_none, crate::proofs::ExprLoops::signed_none), unfolding(expr_grammar::specs::ExprReading::left_of, expr_grammar::specs::ExprReading::chain_of, expr_grammar::specs::ExprReading::range_of, expr_grammar::specs::ExprReading::compare_of, expr_grammar::specs::ExprReading::is_of))]
+#![tactic(auto)]
 
-ghost use Rattle.std.specs.Prelude.{◌≡◌, ◌≤◌, ◌<◌, ◌-◌, length};
+ghost use Rattle.std.specs.Prelude.{◌≡◌, ◌≤◌, ◌<◌, ◌-◌, length, max};
 ghost use Rattle.std.specs.String.{string_bytes};
-ghost use Rattle.med_syntax.specs.ExprTree.{height as spec_height, highest as spec_highest};
+ghost use Rattle.med_syntax.specs.ExprTree.{between as spec_between, binary, compare, height as spec_height, highest as spec_highest};
 ghost use Rattle.expr_grammar.specs.ExprReading as reading;
 ghost use Rattle.med_syntax.specs.ExprView.{expr_tree, expr_trees};
 ghost use Rattle.expr_grammar.specs.SymbolView.{terminals_of};
 ghost use Rattle.expr_grammar.specs.ExprSteps as steps;
-ghost use Rattle.expr_reader.specs.ReaderAnswers.{Answers, AnswersAll};
+ghost use Rattle.expr_reader.specs.ReaderSteps.{parens_of};
+ghost use Rattle.expr_reader.specs.ReaderAnswers.{Answers, AnswersAll, AnswersBoxed};
 
 use crate::build::{
     between, call_all, call_of, call_of_nothing, chained, column, column_of, comparison, in_parens,
@@ -17,7 +18,7 @@ use crate::build::{
 };
 use expr_grammar::refusal::{ReadFault, Refusal};
 use expr_grammar::symbols::{Level, Separator, Symbol, behind, behind_minus, operator, status};
-use med_syntax::{BinaryOp, Expr, Joint};
+use med_syntax::{BinaryOp, CompareOp, Expr, Joint};
 use std::alloc::Global;
 
 /// An expression, its height, and the symbols behind it.
@@ -28,8 +29,16 @@ pub struct Found<'a> {
     pub rest: &'a [Symbol],
 }
 
+/// A Found whose expression is in a box, where it waits for what follows.
+#[derive(Drop)]
+struct Boxed<'a> {
+    expr: Box<Expr>,
+    height: u32,
+    rest: &'a [Symbol],
+}
+
 /// Expressions, the height of the highest, and the symbols behind them.
-#[derive(Debug, Drop)]
+#[derive(Drop)]
 struct Items<'a> {
     list: Vec<Expr>,
     highest: u32,
@@ -49,6 +58,7 @@ fn within(room: u32, expr: Expr, height: u32, rest: &[Symbol]) -> Result<Found<'
 }
 
 #[cycle(reader)]
+#[tactic(auto, using(crate::proofs::ExprLoops::whole_some, crate::proofs::ExprLoops::whole_none))]
 pub fn whole(alloc: Global, room: u32, symbols: &[Symbol]) -> Result<Found<'_>, ReadFault>
     requires { room < 1000 }
     ensures { Answers room result ((reading.below room).whole (terminals_of symbols.now)) }
@@ -59,8 +69,38 @@ pub fn whole(alloc: Global, room: u32, symbols: &[Symbol]) -> Result<Found<'_>, 
     joined(alloc, Joint::Or, room, symbols)
 }
 
+/// The whole expression, in a box.
+#[cycle(reader)]
+fn boxed_whole(alloc: Global, room: u32, symbols: &[Symbol]) -> Result<Boxed<'_>, ReadFault>
+    requires { room < 1000 }
+    ensures { AnswersBoxed room result ((reading.below room).whole (terminals_of symbols.now)) }
+{
+    let found = whole(alloc, room, symbols)?;
+    Ok(Boxed {
+        expr: Box::new(alloc, found.expr)?,
+        height: found.height,
+        rest: found.rest,
+    })
+}
+
+/// The sum, in a box.
+#[cycle(reader)]
+fn boxed_sum(alloc: Global, room: u32, symbols: &[Symbol]) -> Result<Boxed<'_>, ReadFault>
+    requires some { 1 ≤ room }
+    requires few { room < 1000 }
+    ensures { AnswersBoxed room result (reading.sum_of (reading.below (room - 1)) room (terminals_of symbols.now)) }
+{
+    let found = chain(alloc, Level::Sum, room, symbols)?;
+    Ok(Boxed {
+        expr: Box::new(alloc, found.expr)?,
+        height: found.height,
+        rest: found.rest,
+    })
+}
+
 /// Items and the joint between them, or one item.
 #[cycle(reader)]
+#[tactic(auto, unfolding(expr_grammar::specs::ExprReading::chain_of))]
 fn joined(
     alloc: Global,
     joint: Joint,
@@ -109,6 +149,7 @@ fn chain_made(
 
 /// What a separator parts.
 #[cycle(reader)]
+#[tactic(auto, using(crate::proofs::ExprLoops::chained_many, crate::proofs::ExprLoops::whole_some, crate::proofs::ExprLoops::negated_some, crate::proofs::ExprLoops::signed_some, crate::proofs::ExprLoops::whole_none, crate::proofs::ExprLoops::negated_none, crate::proofs::ExprLoops::signed_none), unfolding(expr_grammar::specs::ExprReading::left_of, expr_grammar::specs::ExprReading::chain_of, expr_grammar::specs::ExprReading::range_of, expr_grammar::specs::ExprReading::compare_of, expr_grammar::specs::ExprReading::is_of))]
 fn item(
     alloc: Global,
     separator: Separator,
@@ -155,6 +196,7 @@ fn others(
 }
 
 #[cycle(reader)]
+#[tactic(auto, using(crate::proofs::ExprLoops::negated_some, crate::proofs::ExprLoops::negated_none))]
 fn inversion(alloc: Global, room: u32, symbols: &[Symbol]) -> Result<Found<'_>, ReadFault>
     requires { room < 1000 }
     ensures { Answers room result ((reading.below room).negated (terminals_of symbols.now)) }
@@ -185,6 +227,7 @@ fn inversion_here(alloc: Global, room: u32, symbols: &[Symbol]) -> Result<Found<
 }
 
 #[cycle(reader)]
+#[tactic(auto, unfolding(expr_grammar::specs::ExprReading::is_of))]
 fn checked(alloc: Global, room: u32, symbols: &[Symbol]) -> Result<Found<'_>, ReadFault>
     requires some { 1 ≤ room }
     requires few { room < 1000 }
@@ -193,47 +236,47 @@ fn checked(alloc: Global, room: u32, symbols: &[Symbol]) -> Result<Found<'_>, Re
     let value = compared(alloc, room, symbols)?;
     match value.rest {
         [Symbol::Is, Symbol::Not, after @ ..] => is_status(
-            alloc,
             room,
             true,
-            value.expr,
+            Box::new(alloc, value.expr)?,
             value.height,
             after,
         ),
-        [Symbol::Is, after @ ..] => is_status(alloc, room, false, value.expr, value.height, after),
+        [Symbol::Is, after @ ..] => is_status(
+            room,
+            false,
+            Box::new(alloc, value.expr)?,
+            value.height,
+            after,
+        ),
         _ => Ok(value),
     }
 }
 
 /// The value IS what follows.
 fn is_status(
-    alloc: Global,
     room: u32,
     negated: bool,
-    value: Expr,
+    value: Box<Expr>,
     value_height: u32,
     symbols: &[Symbol],
 ) -> Result<Found<'_>, ReadFault>
     requires few { room < 1000 }
-    requires height { value_height ≡ spec_height (expr_tree value) }
+    requires height { value_height ≡ spec_height (expr_tree value.value) }
     requires low { value_height ≤ room }
-    ensures { Answers room result (reading.status_after room negated (expr_tree value) (terminals_of symbols.now)) }
+    ensures { Answers room result (reading.status_after room negated (expr_tree value.value) (terminals_of symbols.now)) }
 {
     let [symbol, rest @ ..] = symbols else {
         return Err(ReadFault::Refused(Refusal::Syntax));
     };
     match status(symbol) {
-        Some(status) => within(
-            room,
-            test(alloc, negated, value, status)?,
-            value_height + 1,
-            rest,
-        ),
+        Some(status) => within(room, test(negated, value, status), value_height + 1, rest),
         None => Err(ReadFault::Refused(Refusal::Syntax)),
     }
 }
 
 #[cycle(reader)]
+#[tactic(auto, unfolding(expr_grammar::specs::ExprReading::compare_of))]
 fn compared(alloc: Global, room: u32, symbols: &[Symbol]) -> Result<Found<'_>, ReadFault>
     requires some { 1 ≤ room }
     requires few { room < 1000 }
@@ -242,20 +285,40 @@ fn compared(alloc: Global, room: u32, symbols: &[Symbol]) -> Result<Found<'_>, R
     let left = ranged(alloc, room, symbols)?;
     match left.rest {
         [Symbol::Compare(op), after @ ..] => {
+            let left_expr = Box::new(alloc, left.expr)?;
             let right = ranged(alloc, room, after)?;
-            let height = 1 + left.height.max(right.height);
-            within(
-                room,
-                comparison(alloc, *op, left.expr, right.expr)?,
-                height,
-                right.rest,
-            )
+            comparison_made(alloc, room, *op, left_expr, left.height, right)
         }
         _ => Ok(left),
     }
 }
 
+/// The comparison of the two, if it has room.
+fn comparison_made(
+    alloc: Global,
+    room: u32,
+    op: CompareOp,
+    left: Box<Expr>,
+    left_height: u32,
+    right: Found<'_>,
+) -> Result<Found<'_>, ReadFault>
+    requires few { room < 1000 }
+    requires height { left_height ≡ spec_height (expr_tree left.value) }
+    requires right_height { right.height ≡ spec_height (expr_tree right.expr) }
+    requires low { (left_height ≤ room) × (right.height ≤ room) }
+    ensures { Answers room result (reading.within room (compare op (expr_tree left.value) (expr_tree right.entry.expr)) (terminals_of right.entry.rest.now)) }
+{
+    let height = 1 + left_height.max(right.height);
+    within(
+        room,
+        comparison(alloc, op, left, right.expr)?,
+        height,
+        right.rest,
+    )
+}
+
 #[cycle(reader)]
+#[tactic(auto, unfolding(expr_grammar::specs::ExprReading::range_of))]
 fn ranged(alloc: Global, room: u32, symbols: &[Symbol]) -> Result<Found<'_>, ReadFault>
     requires some { 1 ≤ room }
     requires few { room < 1000 }
@@ -263,12 +326,19 @@ fn ranged(alloc: Global, room: u32, symbols: &[Symbol]) -> Result<Found<'_>, Rea
 {
     let value = chain(alloc, Level::Sum, room, symbols)?;
     match value.rest {
-        [Symbol::Not, after @ ..] => in_range(alloc, room, true, value.expr, value.height, after),
+        [Symbol::Not, after @ ..] => in_range(
+            alloc,
+            room,
+            true,
+            Box::new(alloc, value.expr)?,
+            value.height,
+            after,
+        ),
         [Symbol::Between | Symbol::In | Symbol::Like, ..] => in_range(
             alloc,
             room,
             false,
-            value.expr,
+            Box::new(alloc, value.expr)?,
             value.height,
             value.rest,
         ),
@@ -278,19 +348,20 @@ fn ranged(alloc: Global, room: u32, symbols: &[Symbol]) -> Result<Found<'_>, Rea
 
 /// The value, perhaps NOT, BETWEEN, IN or LIKE what follows.
 #[cycle(reader)]
+#[tactic(auto, using(crate::proofs::ExprLoops::chained_many, crate::proofs::ExprLoops::whole_some, crate::proofs::ExprLoops::negated_some, crate::proofs::ExprLoops::signed_some, crate::proofs::ExprLoops::whole_none, crate::proofs::ExprLoops::negated_none, crate::proofs::ExprLoops::signed_none), unfolding(expr_grammar::specs::ExprReading::left_of, expr_grammar::specs::ExprReading::chain_of, expr_grammar::specs::ExprReading::range_of, expr_grammar::specs::ExprReading::compare_of, expr_grammar::specs::ExprReading::is_of))]
 fn in_range(
     alloc: Global,
     room: u32,
     negated: bool,
-    value: Expr,
+    value: Box<Expr>,
     value_height: u32,
     symbols: &[Symbol],
 ) -> Result<Found<'_>, ReadFault>
     requires some { 1 ≤ room }
     requires few { room < 1000 }
-    requires height { value_height ≡ spec_height (expr_tree value) }
+    requires height { value_height ≡ spec_height (expr_tree value.value) }
     requires low { value_height ≤ room }
-    ensures { Answers room result (reading.test_after (reading.below (room - 1)) room negated (expr_tree value) (terminals_of symbols.now)) }
+    ensures { Answers room result (reading.test_after (reading.below (room - 1)) room negated (expr_tree value.value) (terminals_of symbols.now)) }
 {
     match symbols {
         [Symbol::Between, after @ ..] => in_bounds(
@@ -301,54 +372,80 @@ fn in_range(
             value_height,
             after,
         ),
-        [Symbol::In, Symbol::LeftParen, after @ ..] => in_list(
-            alloc,
-            room,
-            negated,
-            value,
-            value_height,
-            after,
-        ),
-        [Symbol::Like, Symbol::Text(pattern), rest @ ..] => within(
-            room,
-            likeness(alloc, negated, value, pattern)?,
-            value_height + 1,
-            rest,
-        ),
+        [Symbol::In, after @ ..] => match after {
+            [Symbol::LeftParen, after @ ..] => in_list(
+                alloc,
+                room,
+                negated,
+                value,
+                value_height,
+                after,
+            ),
+            _ => Err(ReadFault::Refused(Refusal::Syntax)),
+        },
+        [Symbol::Like, after @ ..] => match after {
+            [Symbol::Text(pattern), rest @ ..] => within(
+                room,
+                likeness(negated, value, pattern)?,
+                value_height + 1,
+                rest,
+            ),
+            _ => Err(ReadFault::Refused(Refusal::Syntax)),
+        },
         _ => Err(ReadFault::Refused(Refusal::Syntax)),
     }
 }
 
 /// The value between the two that follow.
 #[cycle(reader)]
+#[tactic(auto, using(crate::proofs::ExprLoops::chained_many, crate::proofs::ExprLoops::whole_some, crate::proofs::ExprLoops::negated_some, crate::proofs::ExprLoops::signed_some, crate::proofs::ExprLoops::whole_none, crate::proofs::ExprLoops::negated_none, crate::proofs::ExprLoops::signed_none), unfolding(expr_grammar::specs::ExprReading::left_of, expr_grammar::specs::ExprReading::chain_of, expr_grammar::specs::ExprReading::range_of, expr_grammar::specs::ExprReading::compare_of, expr_grammar::specs::ExprReading::is_of))]
 fn in_bounds(
     alloc: Global,
     room: u32,
     negated: bool,
-    value: Expr,
+    value: Box<Expr>,
     value_height: u32,
     symbols: &[Symbol],
 ) -> Result<Found<'_>, ReadFault>
     requires some { 1 ≤ room }
     requires few { room < 1000 }
-    requires height { value_height ≡ spec_height (expr_tree value) }
+    requires height { value_height ≡ spec_height (expr_tree value.value) }
     requires low { value_height ≤ room }
-    ensures { Answers room result (reading.bounds_after (reading.below (room - 1)) room negated (expr_tree value) (terminals_of symbols.now)) }
+    ensures { Answers room result (reading.bounds_after (reading.below (room - 1)) room negated (expr_tree value.value) (terminals_of symbols.now)) }
 {
-    let low = chain(alloc, Level::Sum, room, symbols)?;
+    let low = boxed_sum(alloc, room, symbols)?;
     match low.rest {
         [Symbol::Joint(Joint::And), after @ ..] => {
-            let high = chain(alloc, Level::Sum, room, after)?;
-            let height = 1 + value_height.max(low.height.max(high.height));
-            within(
-                room,
-                between(alloc, negated, value, low.expr, high.expr)?,
-                height,
-                high.rest,
-            )
+            let high = boxed_sum(alloc, room, after)?;
+            let below_high = value_height.max(low.height);
+            bounds_made(room, negated, value, low.expr, below_high, high)
         }
         _ => Err(ReadFault::Refused(Refusal::Syntax)),
     }
+}
+
+/// The value between the two bounds, if it has room.
+fn bounds_made(
+    room: u32,
+    negated: bool,
+    value: Box<Expr>,
+    low: Box<Expr>,
+    below_high: u32,
+    high: Boxed<'_>,
+) -> Result<Found<'_>, ReadFault>
+    requires few { room < 1000 }
+    requires height { below_high ≡ max (spec_height (expr_tree value.value)) (spec_height (expr_tree low.value)) }
+    requires high_height { high.height ≡ spec_height (expr_tree high.expr.value) }
+    requires low { (below_high ≤ room) × (high.height ≤ room) }
+    ensures { Answers room result (reading.within room (spec_between negated (expr_tree value.value) (expr_tree low.value) (expr_tree high.entry.expr.value)) (terminals_of high.entry.rest.now)) }
+{
+    let height = 1 + below_high.max(high.height);
+    within(
+        room,
+        between(negated, value, low, high.expr),
+        height,
+        high.rest,
+    )
 }
 
 /// The value among those that follow, up to the closing parenthesis.
@@ -357,24 +454,24 @@ fn in_list(
     alloc: Global,
     room: u32,
     negated: bool,
-    value: Expr,
+    value: Box<Expr>,
     value_height: u32,
     symbols: &[Symbol],
 ) -> Result<Found<'_>, ReadFault>
     requires some { 1 ≤ room }
     requires few { room < 1000 }
-    requires height { value_height ≡ spec_height (expr_tree value) }
+    requires height { value_height ≡ spec_height (expr_tree value.value) }
     requires low { value_height ≤ room }
-    ensures { Answers room result (reading.list_after (reading.below (room - 1)) room negated (expr_tree value) (terminals_of symbols.now)) }
+    ensures { Answers room result (reading.list_after (reading.below (room - 1)) room negated (expr_tree value.value) (terminals_of symbols.now)) }
 {
-    let first = whole(alloc, room - 1, symbols)?;
+    let first = boxed_whole(alloc, room - 1, symbols)?;
     let others = others(alloc, Separator::Comma, room, first.rest)?;
     match others.rest {
         [Symbol::RightParen, rest @ ..] => {
             let height = 1 + value_height.max(first.height.max(others.highest));
             within(
                 room,
-                membership(alloc, negated, value, first.expr, others.list)?,
+                membership(negated, value, first.expr, others.list),
                 height,
                 rest,
             )
@@ -402,6 +499,7 @@ fn operand(
 }
 
 #[cycle(reader)]
+#[tactic(auto, unfolding(expr_grammar::specs::ExprReading::left_of))]
 fn chain(alloc: Global, level: Level, room: u32, symbols: &[Symbol]) -> Result<Found<'_>, ReadFault>
     requires some { 1 ≤ room }
     requires few { room < 1000 }
@@ -409,19 +507,39 @@ fn chain(alloc: Global, level: Level, room: u32, symbols: &[Symbol]) -> Result<F
 {
     let mut found = operand(alloc, level, room, symbols)?;
     while let Some((op, after)) = operator(level, found.rest) {
+        let left = Box::new(alloc, found.expr)?;
         let right = operand(alloc, level, room, after)?;
-        let height = 1 + found.height.max(right.height);
-        found = within(
-            room,
-            operation(alloc, op, found.expr, right.expr)?,
-            height,
-            right.rest,
-        )?;
+        found = operation_made(alloc, room, op, left, found.height, right)?;
     }
     Ok(found)
 }
 
+/// The operation on the two, if it has room.
+fn operation_made(
+    alloc: Global,
+    room: u32,
+    op: BinaryOp,
+    left: Box<Expr>,
+    left_height: u32,
+    right: Found<'_>,
+) -> Result<Found<'_>, ReadFault>
+    requires few { room < 1000 }
+    requires height { left_height ≡ spec_height (expr_tree left.value) }
+    requires right_height { right.height ≡ spec_height (expr_tree right.expr) }
+    requires low { (left_height ≤ room) × (right.height ≤ room) }
+    ensures { Answers room result (reading.within room (binary op (expr_tree left.value) (expr_tree right.entry.expr)) (terminals_of right.entry.rest.now)) }
+{
+    let height = 1 + left_height.max(right.height);
+    within(
+        room,
+        operation(alloc, op, left, right.expr)?,
+        height,
+        right.rest,
+    )
+}
+
 #[cycle(reader)]
+#[tactic(auto, using(crate::proofs::ExprLoops::signed_some, crate::proofs::ExprLoops::signed_none))]
 fn signed(alloc: Global, room: u32, symbols: &[Symbol]) -> Result<Found<'_>, ReadFault>
     requires { room < 1000 }
     ensures { Answers room result ((reading.below room).signed (terminals_of symbols.now)) }
@@ -476,18 +594,26 @@ fn primary(alloc: Global, room: u32, symbols: &[Symbol]) -> Result<Found<'_>, Re
         [Symbol::Truth(value), rest @ ..] => Ok(leaf(truth(*value), rest)),
         [Symbol::Null, rest @ ..] => Ok(leaf(null(), rest)),
         [Symbol::Name(name), rest @ ..] => named(alloc, room, name, rest),
-        [Symbol::LeftParen, rest @ ..] => {
-            let inner = whole(alloc, room - 1, rest)?;
-            match inner.rest {
-                [Symbol::RightParen, rest @ ..] => {
-                    Ok(Found {
-                        expr: in_parens(alloc, inner.expr)?,
-                        height: inner.height + 1,
-                        rest,
-                    })
-                }
-                _ => Err(ReadFault::Refused(Refusal::Syntax)),
-            }
+        [Symbol::LeftParen, rest @ ..] => parens(alloc, room, rest),
+        _ => Err(ReadFault::Refused(Refusal::Syntax)),
+    }
+}
+
+/// What stands in parentheses, behind the opening one.
+#[cycle(reader)]
+fn parens(alloc: Global, room: u32, symbols: &[Symbol]) -> Result<Found<'_>, ReadFault>
+    requires some { 1 ≤ room }
+    requires few { room < 1000 }
+    ensures { Answers room result (parens_of (reading.below (room - 1)) (terminals_of symbols.now)) }
+{
+    let inner = boxed_whole(alloc, room - 1, symbols)?;
+    match inner.rest {
+        [Symbol::RightParen, rest @ ..] => {
+            Ok(Found {
+                expr: in_parens(inner.expr),
+                height: inner.height + 1,
+                rest,
+            })
         }
         _ => Err(ReadFault::Refused(Refusal::Syntax)),
     }
@@ -547,7 +673,7 @@ fn call_of_parts<'a>(
     requires few { room < 1000 }
     ensures { Answers room result (reading.parts_after (reading.below (room - 1)) (string_bytes function.now) (terminals_of symbols.now)) }
 {
-    let first = whole(alloc, room - 1, symbols)?;
+    let first = boxed_whole(alloc, room - 1, symbols)?;
     let others = others(alloc, Separator::Comma, room, first.rest)?;
     call_made(room, function, first.expr, first.height, others)
 }
@@ -556,15 +682,15 @@ fn call_of_parts<'a>(
 fn call_made<'a>(
     room: u32,
     function: &String,
-    first: Expr,
+    first: Box<Expr>,
     first_height: u32,
     others: Items<'a>,
 ) -> Result<Found<'a>, ReadFault>
     requires few { room < 1000 }
-    requires height { first_height ≡ spec_height (expr_tree first) }
+    requires height { first_height ≡ spec_height (expr_tree first.value) }
     requires highest { others.highest ≡ spec_highest (expr_trees others.list.items) }
     requires low { (first_height < room) × (others.highest < room) }
-    ensures { Answers room result (reading.closed_call (string_bytes function.now) (expr_tree first) (expr_trees others.entry.list.items) (terminals_of others.entry.rest.now)) }
+    ensures { Answers room result (reading.closed_call (string_bytes function.now) (expr_tree first.value) (expr_trees others.entry.list.items) (terminals_of others.entry.rest.now)) }
 {
     match others.rest {
         [Symbol::RightParen, rest @ ..] => {

@@ -1,21 +1,24 @@
 -- The goals of the parser that the search leaves.
-use Rattle.std.proofs.Common.{arith, ◌-◌}
+use Rattle.std.proofs.Common.{arith, ◌-◌, ap, subst, sym}
 use Rattle.std.proofs.lemmas.Result.{err_from_is_err_and}
-use Rattle.expr_grammar.specs.ExprReading.{below}
+use Rattle.expr_grammar.specs.ExprReading.{Read, below}
+use Rattle.expr_reader.specs.ReaderAnswers.{Answers}
+use Rattle.med_syntax.specs.declared.expr.Expr.{Expr}
+use Rattle.med_syntax.specs.ExprTree.{binary}
 use Rattle.med_syntax.specs.ExprView.{expr_tree, expr_trees}
 use Rattle.expr_grammar.specs.SymbolView.{terminals_of}
-use Rattle.expr_reader.proofs.ExprLoops.{chain_preserved, chain_smaller, chain_failed, chain_end, others_smaller, others_preserved, others_failed, others_end, parts_low, signed_plain, signed_minus}
+use Rattle.expr_reader.proofs.ExprLoops.{chain_preserved, chain_smaller, chain_failed, chain_failed_high, chain_end, others_smaller, others_preserved, others_failed, others_end, parts_low, signed_plain, signed_minus, operand_sum}
 use Rattle.expr_reader.proofs.reader.+reader.Goals as goal
 
 pub chain-loop-op-smaller : goal.chain-loop-op-smaller
 chain-loop-op-smaller t c =
-    chain_smaller c.args.level c.args.room (terminals_of c.loop-op.found.rest.now) c.in-Some.op (terminals_of c.in-Some.after.now) (expr_tree c.in_ok-right.right.expr) (terminals_of c.in_ok-right.right.rest.now) (expr_tree c.in_ok-operation.field-0) (expr_tree c.in_ok-found-2.found.expr) (terminals_of c.in_ok-found-2.found.rest.now)
+    chain_smaller c.args.level c.args.room (terminals_of c.loop-op.found.rest.now) c.in-Some.op (terminals_of c.in-Some.after.now) (expr_tree c.in_ok-right.right.expr) (terminals_of c.in_ok-right.right.rest.now) (binary c.in-Some.op (expr_tree c.in_ok-left.left.value) (expr_tree c.in_ok-right.right.expr)) (expr_tree c.in_ok-found-2.found.expr) (terminals_of c.in_ok-found-2.found.rest.now)
     c.requires.some c.in-Some.ensures (c.in_ok-right.ensures).0 (c.in_ok-found-2.ensures).0
 
 pub chain-loop-op-preserved : goal.chain-loop-op-preserved
 chain-loop-op-preserved t c =
-    chain_preserved c.args.level c.args.room (terminals_of c.args.symbols.now) (expr_tree c.loop-op.found.expr) c.loop-op.found.height (terminals_of c.loop-op.found.rest.now) c.in-Some.op (terminals_of c.in-Some.after.now) (expr_tree c.in_ok-right.right.expr) (terminals_of c.in_ok-right.right.rest.now) (expr_tree c.in_ok-operation.field-0) (expr_tree c.in_ok-found-2.found.expr) c.in_ok-found-2.found.height (terminals_of c.in_ok-found-2.found.rest.now)
-    c.requires.some c.loop-op.invariant c.in-Some.ensures (c.in_ok-right.ensures).0 c.in_ok-operation.ensures (c.in_ok-found-2.ensures).0 (c.in_ok-found-2.ensures).1 (c.in_ok-found-2.ensures).2
+    chain_preserved c.args.level c.args.room (terminals_of c.args.symbols.now) (expr_tree c.loop-op.found.expr) c.loop-op.found.height (terminals_of c.loop-op.found.rest.now) c.in-Some.op (terminals_of c.in-Some.after.now) (expr_tree c.in_ok-right.right.expr) (terminals_of c.in_ok-right.right.rest.now) (binary c.in-Some.op (expr_tree c.in_ok-left.left.value) (expr_tree c.in_ok-right.right.expr)) (expr_tree c.in_ok-found-2.found.expr) c.in_ok-found-2.found.height (terminals_of c.in_ok-found-2.found.rest.now)
+    c.requires.some c.loop-op.invariant c.in-Some.ensures (c.in_ok-right.ensures).0 (ap (λ (y : Expr). binary c.in-Some.op (expr_tree y) (expr_tree c.in_ok-right.right.expr)) c.in_ok-left.ensures.ok) (c.in_ok-found-2.ensures).0 (c.in_ok-found-2.ensures).1 (c.in_ok-found-2.ensures).2
 
 pub others-returns-in_err-next : goal.others-returns-in_err-next
 others-returns-in_err-next t c =
@@ -55,3 +58,13 @@ signed_here-returns-in-Some t c = rw (signed_minus (below (c.args.room - 1)) (te
 pub call_of_parts-call_made-requires-clause-low : goal.call_of_parts-call_made-requires-clause-low
 call_of_parts-call_made-requires-clause-low t c =
     (omega (arith, c.requires.some, c.in_ok-first.ensures.2), parts_low c.args.room c.in_ok-others.others.highest (terminals_of c.in_ok-first.first.rest.now) (expr_trees c.in_ok-others.others.list.items) (terminals_of c.in_ok-others.others.rest.now) c.requires.some c.in_ok-others.ensures.0 c.in_ok-others.ensures.1)
+
+pub chain-returns-in_err-found-2 : goal.chain-returns-in_err-found-2
+chain-returns-in_err-found-2 t c =
+    let p = err_from_is_err_and c.from_residual-in_err-found-2.result c.from_residual-in_err-found-2.ensures.1 in
+    chain_failed_high c.args.level c.args.room (terminals_of c.args.symbols.now) (expr_tree c.loop-op.found.expr) c.loop-op.found.height (terminals_of c.loop-op.found.rest.now) c.in-Some.op (terminals_of c.in-Some.after.now) (expr_tree c.in_ok-right.right.expr) (terminals_of c.in_ok-right.right.rest.now) (binary c.in-Some.op (expr_tree c.in_ok-left.left.value) (expr_tree c.in_ok-right.right.expr)) c.in_err-found-2.field-0.0 c.from_residual-in_err-found-2.result
+    c.loop-op.invariant c.in-Some.ensures (c.in_ok-right.ensures).0 (ap (λ (y : Expr). binary c.in-Some.op (expr_tree y) (expr_tree c.in_ok-right.right.expr)) c.in_ok-left.ensures.ok) c.in_err-found-2.ensures (cc)
+
+pub operand-returns-in-Sum : goal.operand-returns-in-Sum
+operand-returns-in-Sum t c =
+    subst (λ (y : Read). Answers c.args.room c.chain.result y) (sym (operand_sum c.args.level (below (c.args.room - 1)) c.args.room (terminals_of c.args.symbols.now) (cc))) c.chain.ensures

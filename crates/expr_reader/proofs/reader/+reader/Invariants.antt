@@ -12,20 +12,26 @@ use Rattle.expr_reader.proofs.ExprLoops.{ChainLoop, OthersLoop}
 use Rattle.expr_reader.proofs.reader.+reader.Given as goal
 
 abbrev pub separator_rank : Separator → ℕ
-separator_rank (Between Or) = 20
-separator_rank (Between And) = 17
+separator_rank (Between Or) = 21
+separator_rank (Between And) = 18
 separator_rank Comma = 0
 
 abbrev pub joint_rank : Joint → ℕ
-joint_rank Or = 22
-joint_rank And = 19
+joint_rank Or = 23
+joint_rank And = 20
 
 abbrev pub level_rank : Level → ℕ
 level_rank Sum = 9
 level_rank Product = 7
 
 abbrev pub decreases-whole : goal.decreases-whole
-decreases-whole l = 32 * l.room + 23
+decreases-whole l = 32 * l.room + 24
+
+abbrev pub decreases-boxed_whole : goal.decreases-boxed_whole
+decreases-boxed_whole l = 32 * l.room + 25
+
+abbrev pub decreases-boxed_sum : goal.decreases-boxed_sum
+decreases-boxed_sum l = 32 * l.room + 11
 
 abbrev pub decreases-joined : goal.decreases-joined
 decreases-joined l = 32 * l.room + joint_rank l.joint
@@ -37,25 +43,25 @@ abbrev pub decreases-item : goal.decreases-item
 decreases-item l = 32 * l.room + separator_rank l.separator
 
 abbrev pub decreases-inversion : goal.decreases-inversion
-decreases-inversion l = 32 * l.room + 17
+decreases-inversion l = 32 * l.room + 18
 
 abbrev pub decreases-inversion_here : goal.decreases-inversion_here
-decreases-inversion_here l = 32 * l.room + 16
+decreases-inversion_here l = 32 * l.room + 17
 
 abbrev pub decreases-checked : goal.decreases-checked
-decreases-checked l = 32 * l.room + 15
+decreases-checked l = 32 * l.room + 16
 
 abbrev pub decreases-compared : goal.decreases-compared
-decreases-compared l = 32 * l.room + 14
+decreases-compared l = 32 * l.room + 15
 
 abbrev pub decreases-ranged : goal.decreases-ranged
-decreases-ranged l = 32 * l.room + 13
+decreases-ranged l = 32 * l.room + 14
 
 abbrev pub decreases-in_range : goal.decreases-in_range
-decreases-in_range l = 32 * l.room + 12
+decreases-in_range l = 32 * l.room + 13
 
 abbrev pub decreases-in_bounds : goal.decreases-in_bounds
-decreases-in_bounds l = 32 * l.room + 11
+decreases-in_bounds l = 32 * l.room + 12
 
 abbrev pub decreases-in_list : goal.decreases-in_list
 decreases-in_list l = 32 * l.room + 11
@@ -77,6 +83,9 @@ decreases-minus l = 32 * l.room + 0
 
 abbrev pub decreases-primary : goal.decreases-primary
 decreases-primary l = 32 * l.room + 5
+
+abbrev pub decreases-parens : goal.decreases-parens
+decreases-parens l = 32 * l.room + 3
 
 abbrev pub decreases-named : goal.decreases-named
 decreases-named l = 32 * l.room + 4
