@@ -49,6 +49,7 @@ fn divide(a: i64, b: i64) -> Result<View<'static>, Fault>
     }
 }
 
+// with NULL on either side NULL
 fn compute_values(op: Operation, a: View<'_>, b: View<'_>) -> Result<View<'static>, Fault>
     ensures { Sees result (computed_values op (seen a.entry) (seen b.entry)) }
 {
@@ -75,6 +76,7 @@ pub fn compute(
     }
 }
 
+// NULL stays
 fn negate_value(a: View<'_>) -> Result<View<'static>, Fault>
     ensures { Sees result (negated_value (seen a.entry)) }
 {

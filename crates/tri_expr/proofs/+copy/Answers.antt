@@ -1,12 +1,8 @@
 use Rattle.std.proofs.Common.{◌≡◌, map, ap, refl, sym, ◌∙◌}
 use Rattle.tri_expr.specs.declared.expr.Expr.TheVariants as form
-use Rattle.tri_expr.specs.Tree.{compare, compute, negate, all_of, some_of, opposite, asks, between, within, parenthesised, aggregate, trees, tree}
-use Rattle.tri_expr.proofs.Forms.{two, three, tree_compare, tree_compute, tree_negate, tree_and, tree_or, tree_not, tree_is, tree_between, tree_in, tree_parenthesised, tree_aggregate}
+use Rattle.tri_expr.specs.Tree.{compare, compute, all_of, some_of, opposite, asks, between, within, parenthesised, aggregate, trees, tree}
+use Rattle.tri_expr.proofs.Forms.{two, three, tree_compare, tree_compute, tree_and, tree_or, tree_not, tree_is, tree_between, tree_in, tree_parenthesised, tree_aggregate}
 use Rattle.tri_expr.proofs.+copy.Goals as goal
-
-pub expr::Expr::copy-returns-in_ok-boxed-in-Negate : goal.expr::Expr::copy-returns-in_ok-boxed-in-Negate
-expr::Expr::copy-returns-in_ok-boxed-in-Negate t c =
-    tree_negate (form.Negate c.in_ok-boxed-in-Negate.field-0) c.in_ok-boxed-in-Negate.field-0 refl ∙ ap negate (c.in_ok-boxed-in-Negate.ensures ∙ ap tree c.deref-in-Negate.ensures) ∙ sym (tree_negate c.args.self.now c.in-Negate.a c.in-Negate.is)
 
 pub expr::Expr::copy-returns-in_ok-boxed-in-Not : goal.expr::Expr::copy-returns-in_ok-boxed-in-Not
 expr::Expr::copy-returns-in_ok-boxed-in-Not t c =
