@@ -7,6 +7,7 @@ pub mod Counted
 pub mod Steady
 pub mod Reaching
 pub mod Texts
+pub mod Forms
 pub mod Reading
 pub mod Safe
 pub mod Decides
@@ -14,3 +15,4 @@ pub mod SameVerdicts
 pub mod TreeRisk
 pub mod SameTrees
 pub mod BareTrees
+pub mod Apart

@@ -3,6 +3,7 @@ use Rattle.std.proofs.Common.{◌≡◌, suc, Bool, true, false, ◌&&◌, refl,
 use Rattle.std.specs.declared.cmp.Ordering.{Ordering}
 use Rattle.std.specs.declared.cmp.Ordering.TheVariants.{Less, Equal as Even, Greater}
 use Rattle.std.specs.Ordering.{is_eq}
+use Rattle.std.proofs.lemmas.Bool.{false≢true}
 use Rattle.std.proofs.lemmas.Slice.Eq.{bytes_eq-Decides}
 use Rattle.med_value.specs.Datum.{Datum}
 use Rattle.med_value.specs.Order.{datum_cmp}
@@ -23,11 +24,11 @@ use Rattle.tri_expr.proofs.Choice.{datum_cmp_self}
 
 left_on : (p q : Bool) → (p && q) ≡ true → p ≡ true
 left_on true q e = refl
-left_on false q e = absurd cc
+left_on false q e = absurd (false≢true e)
 
 right_on : (p q : Bool) → (p && q) ≡ true → q ≡ true
 right_on true q e = e
-right_on false q e = absurd cc
+right_on false q e = absurd (false≢true e)
 
 both_on : {p q : Bool} → p ≡ true → q ≡ true → (p && q) ≡ true
 both_on e f = rw (e, f) refl
@@ -39,7 +40,7 @@ one_comparison Below Below e = refl
 one_comparison AtMost AtMost e = refl
 one_comparison Above Above e = refl
 one_comparison AtLeast AtLeast e = refl
-one_comparison a b e = absurd cc
+one_comparison a b e = absurd (false≢true e)
 
 one_operation : (a b : Operation) → same_operation a b ≡ true → a ≡ b
 one_operation Add Add e = refl
@@ -47,32 +48,32 @@ one_operation Subtract Subtract e = refl
 one_operation Multiply Multiply e = refl
 one_operation Divide Divide e = refl
 one_operation Remainder Remainder e = refl
-one_operation a b e = absurd cc
+one_operation a b e = absurd (false≢true e)
 
 one_test : (a b : Test) → same_test a b ≡ true → a ≡ b
 one_test tests.Null tests.Null e = refl
 one_test tests.True tests.True e = refl
 one_test tests.False tests.False e = refl
 one_test tests.Unknown tests.Unknown e = refl
-one_test a b e = absurd cc
+one_test a b e = absurd (false≢true e)
 
 one_function : (a b : SetFunction) → same_function a b ≡ true → a ≡ b
 one_function Count Count e = refl
 one_function Sum Sum e = refl
 one_function Min Min e = refl
 one_function Max Max e = refl
-one_function a b e = absurd cc
+one_function a b e = absurd (false≢true e)
 
 one_bool : (a b : Bool) → same_bool a b ≡ true → a ≡ b
 one_bool true true e = refl
-one_bool true false e = absurd cc
-one_bool false true e = absurd cc
+one_bool true false e = absurd (false≢true e)
+one_bool false true e = absurd (false≢true e)
 one_bool false false e = refl
 
 is_even : (o : Ordering) → is_eq o ≡ true → o ≡ Even
-is_even Less e = absurd cc
+is_even Less e = absurd (false≢true e)
 is_even Even e = refl
-is_even Greater e = absurd cc
+is_even Greater e = absurd (false≢true e)
 
 one_datum : (v w : Datum) → datum_eq v w ≡ true → v ≡ w
 one_datum v w e = datum_cmp_equal v w (is_even (datum_cmp v w) e)
@@ -130,7 +131,7 @@ mutual
       let p = one_function function other (left_on (same_function function other) (tree_eq a b) e) in
       let q = one_tree a b (right_on (same_function function other) (tree_eq a b) e) in
       cc
-  one_tree a b e = absurd cc
+  one_tree a b e = absurd (false≢true e)
 
   one_list : (ts us : Trees) → trees_eq ts us ≡ true → ts ≡ us
   one_list none none e = refl
@@ -138,8 +139,8 @@ mutual
       let p = one_tree t u (left_on (tree_eq t u) (trees_eq ts us) e) in
       let q = one_list ts us (right_on (tree_eq t u) (trees_eq ts us) e) in
       cc
-  one_list none (part u us) e = absurd cc
-  one_list (part t ts) none e = absurd cc
+  one_list none (part u us) e = absurd (false≢true e)
+  one_list (part t ts) none e = absurd (false≢true e)
 
 pub one_bare_tree : (a b : Tree) → same_tree a b ≡ true → bare a ≡ bare b
 one_bare_tree a b e = one_tree (bare a) (bare b) e

@@ -1,7 +1,7 @@
 //! Exact arithmetic on 64-bit whole numbers.
 
 ghost use Rattle.tri_expr.specs.declared.expr.Operation.TheVariants.{Divide};
-ghost use Rattle.tri_expr.specs.Outcome.{computed_numbers, computed_values, negated_value};
+ghost use Rattle.tri_expr.specs.Outcome.{Outcome, computed, computed_numbers, computed_values, negated, negated_value};
 ghost use Rattle.tri_expr.specs.View.{seen, Sees};
 
 use crate::expr::{Fault, Operation};
@@ -49,8 +49,8 @@ fn divide(a: i64, b: i64) -> Result<View<'static>, Fault>
     }
 }
 
-/// `+ - * / %`; with NULL on either side NULL.
-pub fn compute(op: Operation, a: View<'_>, b: View<'_>) -> Result<View<'static>, Fault>
+// with NULL on either side NULL
+fn compute_values(op: Operation, a: View<'_>, b: View<'_>) -> Result<View<'static>, Fault>
     ensures { Sees result (computed_values op (seen a.entry) (seen b.entry)) }
 {
     match (a, b) {
@@ -59,8 +59,25 @@ pub fn compute(op: Operation, a: View<'_>, b: View<'_>) -> Result<View<'static>,
     }
 }
 
-/// Unary minus.
-pub fn negate(a: View<'_>) -> Result<View<'static>, Fault>
+/// `+ - * / %`; with NULL on either side NULL, and of two faults the left one is told.
+pub fn compute(
+    op: Operation,
+    left: Result<View<'_>, Fault>,
+    right: Result<View<'_>, Fault>,
+) -> Result<View<'static>, Fault>
+    ensures { (a b : Outcome) → Sees left.entry a → Sees right.entry b → Sees result (computed op a b) }
+{
+    match left {
+        Ok(v) => match right {
+            Ok(w) => compute_values(op, v, w),
+            Err(fault) => Err(fault),
+        },
+        Err(fault) => Err(fault),
+    }
+}
+
+// NULL stays
+fn negate_value(a: View<'_>) -> Result<View<'static>, Fault>
     ensures { Sees result (negated_value (seen a.entry)) }
 {
     match a {
@@ -69,5 +86,15 @@ pub fn negate(a: View<'_>) -> Result<View<'static>, Fault>
             None => Err(Fault::Range),
         },
         _ => Ok(View::Null),
+    }
+}
+
+/// Unary minus.
+pub fn negate(answer: Result<View<'_>, Fault>) -> Result<View<'static>, Fault>
+    ensures { (o : Outcome) → Sees answer.entry o → Sees result (negated o) }
+{
+    match answer {
+        Ok(v) => negate_value(v),
+        Err(fault) => Err(fault),
     }
 }

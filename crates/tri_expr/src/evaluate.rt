@@ -3,7 +3,7 @@
 ghost use Rattle.std.specs.Prelude.{◌≡◌, length, pos, map, slice_index_or, [], ◌∷◌, false, true};
 ghost use Rattle.std.specs.List.{list_all};
 ghost use Rattle.med_value.specs.Datum.{datum, tuple, NoValue, Whole};
-ghost use Rattle.tri_expr.specs.Outcome.{Answers, Is, settled, compared, over};
+ghost use Rattle.tri_expr.specs.Outcome.{Answers, Outcome, Is, settled, strict, compared, over};
 ghost use Rattle.tri_expr.specs.View.{seen, Sees};
 ghost use Rattle.tri_expr.specs.Aggregate.{aggregated};
 ghost use Rattle.tri_expr.specs.Meaning.{liked, meaning, shared as spec_shared, has_cell as spec_has_cell, argument as spec_argument};
@@ -12,7 +12,7 @@ ghost use Rattle.tri_expr.specs.declared.expr.Comparison.TheVariants.{Equal};
 use crate::arithmetic::{compute, negate};
 use crate::expr::{Comparison, EvalFault, Expr, Fault, SetFunction};
 use crate::like::is_like;
-use crate::logic::{argument, ask, between, compare, opposite, turn};
+use crate::logic::{argument, ask, between, compare, compare_both, turn};
 use crate::tally::Tally;
 use crate::view::{View, compare_views, owned, view_of};
 use med_value::{Row, Value};
@@ -63,12 +63,13 @@ fn shared(class: &[Row], at: usize) -> View<'_>
     }
 }
 
-fn like(pattern: &str, v: View<'_>) -> View<'static>
-    ensures { liked pattern.now (seen v.entry) ≡ Is (seen result) }
+fn like(pattern: &str, answer: Result<View<'_>, Fault>) -> Result<View<'static>, Fault>
+    ensures { (o : Outcome) → Sees answer.entry o → Sees result (strict (liked pattern.now) o) }
 {
-    match v {
-        View::Text(text) => View::Bool(is_like(pattern, text)),
-        _ => View::Null,
+    match answer {
+        Ok(View::Text(text)) => Ok(View::Bool(is_like(pattern, text))),
+        Ok(_) => Ok(View::Null),
+        Err(fault) => Err(fault),
     }
 }
 
@@ -187,33 +188,33 @@ pub(crate) fn look<'a>(
         Expr::Parameter(at) => Ok(cell(params, *at)),
         Expr::Literal(v) => Ok(view_of(v)),
         Expr::Compare(op, a, b) => {
-            let left = look(a, class, params)?;
-            let right = look(b, class, params)?;
-            Ok(compare(*op, left, right))
+            let left = look(a, class, params);
+            let right = look(b, class, params);
+            compare_both(*op, left, right)
         }
         Expr::Compute(op, a, b) => {
-            let left = look(a, class, params)?;
-            let right = look(b, class, params)?;
+            let left = look(a, class, params);
+            let right = look(b, class, params);
             compute(*op, left, right)
         }
-        Expr::Negate(a) => negate(look(a, class, params)?),
+        Expr::Negate(a) => negate(look(a, class, params)),
         Expr::And(parts) => look_chain(false, parts, class, params),
         Expr::Or(parts) => look_chain(true, parts, class, params),
-        Expr::Not(a) => Ok(opposite(look(a, class, params)?)),
-        Expr::Is(test, negative, a) => Ok(ask(*test, *negative, look(a, class, params)?)),
+        Expr::Not(a) => turn(true, look(a, class, params)),
+        Expr::Is(test, negative, a) => ask(*test, *negative, look(a, class, params)),
         Expr::Between(negative, x, low, high) => {
-            let v = look(x, class, params)?;
+            let v = look(x, class, params);
             let least = look(low, class, params);
             let most = look(high, class, params);
             turn(*negative, between(v, least, most))
         }
-        Expr::In(negative, x, parts) => {
-            let v = look(x, class, params)?;
-            turn(*negative, look_in(v, parts, class, params))
-        }
+        Expr::In(negative, x, parts) => match look(x, class, params) {
+            Ok(v) => turn(*negative, look_in(v, parts, class, params)),
+            Err(fault) => Err(fault),
+        },
         Expr::Like(negative, x, pattern) => {
-            let v = look(x, class, params)?;
-            turn(*negative, Ok(like(pattern.as_str(), v)))
+            let v = look(x, class, params);
+            turn(*negative, like(pattern.as_str(), v))
         }
         Expr::Parenthesised(a) => look(a, class, params),
         Expr::CountRows => Ok(count_rows(class)),

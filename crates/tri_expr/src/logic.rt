@@ -29,6 +29,23 @@ pub fn compare(op: Comparison, a: View<'_>, b: View<'_>) -> View<'static>
     }
 }
 
+/// A comparison of two operands; of two faults the left one is told.
+pub fn compare_both(
+    op: Comparison,
+    left: Result<View<'_>, Fault>,
+    right: Result<View<'_>, Fault>,
+) -> Result<View<'static>, Fault>
+    ensures { (a b : Outcome) → Sees left.entry a → Sees right.entry b → Sees result (compared op a b) }
+{
+    match left {
+        Ok(v) => match right {
+            Ok(w) => Ok(compare(op, v, w)),
+            Err(fault) => Err(fault),
+        },
+        Err(fault) => Err(fault),
+    }
+}
+
 /// NOT; of unknown it is unknown.
 pub fn opposite(a: View<'_>) -> View<'static>
     ensures { opposite_value (seen a.entry) ≡ Is (seen result) }
@@ -52,11 +69,20 @@ fn does_pass(test: Test, a: View<'_>) -> bool
 }
 
 /// IS and its test, or under NOT what it does not find.
-pub fn ask(test: Test, negative: bool, a: View<'_>) -> View<'static>
-    ensures { tested test negative (Is (seen a.entry)) ≡ Is (seen result) }
+pub fn ask(
+    test: Test,
+    negative: bool,
+    answer: Result<View<'_>, Fault>,
+) -> Result<View<'static>, Fault>
+    ensures { (o : Outcome) → Sees answer.entry o → Sees result (tested test negative o) }
 {
-    let passed = does_pass(test, a);
-    View::Bool(if negative { !passed } else { passed })
+    match answer {
+        Ok(v) => {
+            let passed = does_pass(test, v);
+            Ok(View::Bool(if negative { !passed } else { passed }))
+        }
+        Err(fault) => Err(fault),
+    }
 }
 
 /// The answer itself, or its opposite.
@@ -71,20 +97,14 @@ pub fn turn<'a>(negative: bool, answer: Result<View<'a>, Fault>) -> Result<View<
 
 /// What BETWEEN makes of its value and its two bounds.
 pub fn between(
-    v: View<'_>,
+    value: Result<View<'_>, Fault>,
     low: Result<View<'_>, Fault>,
     high: Result<View<'_>, Fault>,
 ) -> Result<View<'static>, Fault>
-    ensures { (a b : Outcome) → Sees low.entry a → Sees high.entry b → Sees result (settled false (compared AtLeast (Is (seen v.entry)) a ∷ compared AtMost (Is (seen v.entry)) b ∷ [])) }
+    ensures { (o a b : Outcome) → Sees value.entry o → Sees low.entry a → Sees high.entry b → Sees result (settled false (compared AtLeast o a ∷ compared AtMost o b ∷ [])) }
 {
-    let first = match low {
-        Ok(low) => Ok(compare(Comparison::AtLeast, v, low)),
-        Err(fault) => Err(fault),
-    };
-    let second = match high {
-        Ok(high) => Ok(compare(Comparison::AtMost, v, high)),
-        Err(fault) => Err(fault),
-    };
+    let first = compare_both(Comparison::AtLeast, value, low);
+    let second = compare_both(Comparison::AtMost, value, high);
     both(first, second)
 }
 

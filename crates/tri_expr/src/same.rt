@@ -40,7 +40,8 @@ fn are_same(a: &[Expr], b: &[Expr]) -> bool
 pub fn is_same(a: &Expr, b: &Expr) -> bool
     ensures { result ≡ same_tree (tree a.now) (tree b.now) }
 {
-    match (a, inner(b)) {
+    let plain = inner(b);
+    match (a, plain) {
         (Expr::Parenthesised(a), b) => is_same(a, b),
         (Expr::Column(at), Expr::Column(other)) | (Expr::Parameter(at), Expr::Parameter(other)) =>
             at == other,
