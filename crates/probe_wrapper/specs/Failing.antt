@@ -1,9 +1,12 @@
 -- What a failing wrapper shows: what its inner one shows, but for its own failure: one fault more, and the scan or the write that it broke.
-use Rattle.std.specs.Prelude.{◌-◌, ◌^◌, ℕ, Bool, true, false, ◌||◌, if◌then◌else◌, nat_eq, min, Option, Some, None, option_map}
+use Rattle.std.specs.Prelude.{◌≡◌, ◌-◌, ◌^◌, ℕ, zero, suc, Bool, true, false, ◌||◌, if◌then◌else◌, nat_eq, min, Option, Some, None, option_map, Result, IsErrOf}
 use Rattle.std.specs.Ordering.{nat_cmp}
 use Rattle.std.specs.FinMap as finmap
 use Rattle.fdw_api.specs.State.{Scan as LiveScan, Staging, Ledger, BoxState}
 use Rattle.fdw_api.specs.Calls.{bumped}
+use Rattle.fdw_api.specs.declared.interface.Fault.{Fault}
+use Rattle.fdw_api.specs.declared.interface.Fault.TheVariants.{Source}
+use Rattle.probe_wrapper.specs.declared.failing.Failing.{Failing}
 use Rattle.probe_wrapper.specs.declared.failing.Failure.{Failure}
 use Rattle.probe_wrapper.specs.declared.failing.Failure.TheVariants.{Before, Scan, Write, Past}
 
@@ -79,3 +82,21 @@ past_write (Before k) = Before k
 past_write (Scan n) = Scan n
 past_write Write = Past
 past_write Past = Past
+
+-- what a failing wrapper shows as a wrapper
+abbrev pub box_of : {W : Type 0} → (W → BoxState) → Failing W → BoxState
+box_of meaning b = failed (meaning b.inner) b.failure
+
+-- how many counted calls are passed before the one that fails; None once that one has come
+abbrev pub to_pass : Failure → Option ℕ
+to_pass (Before n) = Some n
+to_pass (Scan n) = None
+to_pass Write = None
+to_pass Past = None
+
+-- a counted call. The one that is due answers Source, and has come; each before it leaves one call less to pass, whatever it answers; each
+-- after it leaves that it has come
+abbrev pub CountsCall : {T : Type 0} → Option ℕ → Result T Fault → Option ℕ → Type 0
+CountsCall (Some zero) result left = IsErrOf result Source × (left ≡ None)
+CountsCall (Some (suc n)) result left = left ≡ Some n
+CountsCall None result left = left ≡ None

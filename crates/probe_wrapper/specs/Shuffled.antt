@@ -10,6 +10,8 @@ use Rattle.fdw_api.specs.Calls.{bumped, LeavesOthers, faults_after, not_refused,
 use Rattle.fdw_api.specs.declared.interface.Fault.{Fault}
 use Rattle.fdw_api.specs.declared.interface.SourceRow.{SourceRow}
 use Rattle.probe_wrapper.specs.LiveScans.{each_seen}
+pub use Rattle.probe_wrapper.specs.Entries.{Stays}
+use Rattle.probe_wrapper.specs.declared.shuffled.Shuffled.{Shuffled}
 use Rattle.probe_wrapper.specs.declared.shuffled.TurnedScan.{TurnedScan}
 
 -- a list turned left some places: so many of its first elements go behind the others. As many places as it is long turn it once round
@@ -69,10 +71,6 @@ pub record Becomes (old : ℕ → Option Turn) (number : ℕ) (turn : Turn) (new
   pub now : new number ≡ Some turn
   pub others : (q : ℕ) → q ≢ number → new q ≡ old q
 
--- no scan changes
-abbrev pub Stays : (ℕ → Option Turn) → (ℕ → Option Turn) → Type 0
-Stays old new = (q : ℕ) → new q ≡ old q
-
 -- a scan whose rows were not read yet; one whose rows were read
 abbrev pub is_unread : Option Turn → Bool
 is_unread None = false
@@ -129,3 +127,7 @@ pub record StopsOut (old : BoxState) (number : ℕ) (fault : Fault) (new : BoxSt
 pub record IsTurned (before number : ℕ) (inner new : BoxState) (turns : ℕ) : Type 0 where
   pub counted : turns ≡ bumped before
   pub coming : new.content.coming number ≡ turned turns (inner.content.coming number)
+
+-- what a shuffled wrapper shows as a wrapper
+abbrev pub box_of : {W : Type 0} → (W → BoxState) → Shuffled W → BoxState
+box_of meaning b = reordered (meaning b.inner) (turns_of b.scans) b.pulled

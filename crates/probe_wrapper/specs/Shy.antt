@@ -10,6 +10,7 @@ use Rattle.fdw_api.specs.declared.scan.Agree.{Agree}
 use Rattle.fdw_api.specs.declared.scan.Agree.TheVariants.{Ignored, Hint, Exact}
 use Rattle.fdw_api.specs.State.{Bound, Scan, Ledger, BoxState, scan_of}
 use Rattle.probe_wrapper.specs.LiveScans.{each_seen}
+use Rattle.probe_wrapper.specs.declared.shy.Shy.{Shy}
 use Rattle.probe_wrapper.specs.declared.shy.AskedScan.{AskedScan}
 
 -- one Ignored for each restriction
@@ -87,3 +88,13 @@ pub record OffersNothing (s : BoxState) (number : ℕ) : Type 0 where
   pub whole_rows : scan.spec.narrow ≡ false
   pub offers_none : scan.spec.offered ≡ []
   pub no_params : scan.params ≡ []
+
+-- the scan of this number wants these columns
+pub record Wants (s : BoxState) (number : ℕ) (columns : List ℕ) : Type 0 where
+  pub scan : Scan
+  pub at : scan_of s number ≡ Some scan
+  pub wanted : scan.spec.wanted ≡ columns
+
+-- what a shy wrapper shows as a wrapper
+abbrev pub box_of : {W : Type 0} → (W → BoxState) → Shy W → BoxState
+box_of meaning b = shied (meaning b.inner) (asked_of b.scans)

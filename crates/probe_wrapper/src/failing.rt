@@ -92,6 +92,15 @@ impl<W: Wrapper> Failing<W> {
 }
 
 impl<W: Wrapper> Wrapper for Failing<W> {
+    ghost use Rattle.std.specs.Prelude.{true, false, map, IfOk, IfErr, IsSome};
+    ghost use Rattle.med_value.specs.Datum.{datum, tuple};
+    ghost use Rattle.fdw_api.specs.Scan.{spec_of};
+    ghost use Rattle.fdw_api.specs.Kinds.{column_of, setting_of, Inserts, Updates, Deletes};
+    ghost use Rattle.fdw_api.specs.State.{scan_of};
+    ghost use Rattle.fdw_api.specs.Calls.{CanBind, Binds, RefusesBind, CanUnbind, Unbinds, CanBegin, Begins, RefusesBegin, IsOpen, Gives, Breaks, CanRescan, Rescans, Ends};
+    ghost use Rattle.fdw_api.specs.Writes.{CanModify, Opens, RefusesModify, CanChange, Stages, RefusesChange, CanClose, Closes, RefusesClose};
+    ghost use Rattle.probe_wrapper.specs.Failing.{box_of, to_pass, CountsCall};
+
     ghost meaning = { λ b. failed (W.meaning b.inner) b.failure };
 
     fn bind(
@@ -100,7 +109,14 @@ impl<W: Wrapper> Wrapper for Failing<W> {
         remote: &str,
         columns: &[ColumnDef],
         options: &[Opt],
-    ) -> Result<TableNo, Fault> {
+    ) -> Result<TableNo, Fault>
+        requires { CanBind (box_of W.meaning self.old) remote.now (map column_of columns.now) (map setting_of options.now) }
+        ensures ok { IfOk result (λ t. Binds (box_of W.meaning self.old)
+            remote.now (map column_of columns.now) (map setting_of options.now) t.number (box_of W.meaning self.new)) }
+        ensures err { IfErr result (λ fault. RefusesBind (box_of W.meaning self.old)
+            remote.now (map column_of columns.now) (map setting_of options.now) fault (box_of W.meaning self.new)) }
+        ensures counted { CountsCall (to_pass self.old.failure) result (to_pass self.new.failure) }
+    {
         if self.failure.counts() {
             self.failure = Failure::Past;
             return Err(Fault::Source);
@@ -108,7 +124,11 @@ impl<W: Wrapper> Wrapper for Failing<W> {
         self.inner.bind(alloc, remote, columns, options)
     }
 
-    fn unbind(&mut self, t: TableNo) {
+    fn unbind(&mut self, t: TableNo)
+        requires { CanUnbind (box_of W.meaning self.old) t.number }
+        ensures unbound { Unbinds (box_of W.meaning self.old) t.number (box_of W.meaning self.new) }
+        ensures uncounted { to_pass self.new.failure ≡ to_pass self.old.failure }
+    {
         self.inner.unbind(t)
     }
 
@@ -128,8 +148,15 @@ impl<W: Wrapper> Wrapper for Failing<W> {
         t: TableNo,
         spec: &ScanSpec,
         params: &[Value],
-    ) -> Result<Ticket, Fault> {
+    ) -> Result<Ticket, Fault>
+        requires { CanBegin (box_of W.meaning self.old) t.number spec.now (map datum params.now) }
+        ensures ok { IfOk result (λ ticket. Begins (box_of W.meaning self.old) t.number (spec_of spec.now) (map datum params.now)
+            ticket.number (box_of W.meaning self.new)) }
+        ensures err { IfErr result (λ fault. RefusesBegin fault (box_of W.meaning self.old) (box_of W.meaning self.new)) }
+        ensures counted { CountsCall (to_pass self.old.failure) result (to_pass self.new.failure) }
+    {
         if self.failure.counts() {
+            // The inner wrapper begins no scan.
             self.failure = Failure::Past;
             return Err(Fault::Source);
         }
@@ -142,7 +169,12 @@ impl<W: Wrapper> Wrapper for Failing<W> {
         }
     }
 
-    fn iterate(&mut self, alloc: Global, ticket: &Ticket) -> Result<Option<SourceRow>, Fault> {
+    fn iterate(&mut self, alloc: Global, ticket: &Ticket) -> Result<Option<SourceRow>, Fault>
+        requires { IsOpen (box_of W.meaning self.old) ticket.now.number }
+        ensures ok { IfOk result (λ row. Gives (box_of W.meaning self.old) ticket.now.number row (box_of W.meaning self.new)) }
+        ensures err { IfErr result (λ fault. Breaks (box_of W.meaning self.old) ticket.now.number fault (box_of W.meaning self.new)) }
+        ensures counted { CountsCall (to_pass self.old.failure) result (to_pass self.new.failure) }
+    {
         if self.failure.counts() {
             self.failure = Failure::Scan(ticket.number);
             return Err(Fault::Source);
@@ -150,7 +182,13 @@ impl<W: Wrapper> Wrapper for Failing<W> {
         self.inner.iterate(alloc, ticket)
     }
 
-    fn rescan(&mut self, alloc: Global, ticket: &Ticket, params: &[Value]) -> Result<(), Fault> {
+    fn rescan(&mut self, alloc: Global, ticket: &Ticket, params: &[Value]) -> Result<(), Fault>
+        requires { CanRescan (box_of W.meaning self.old) ticket.now.number (map datum params.now) }
+        ensures ok { IfOk result (λ _. Rescans (box_of W.meaning self.old) ticket.now.number (map datum params.now)
+            (box_of W.meaning self.new)) }
+        ensures err { IfErr result (λ fault. Breaks (box_of W.meaning self.old) ticket.now.number fault (box_of W.meaning self.new)) }
+        ensures counted { CountsCall (to_pass self.old.failure) result (to_pass self.new.failure) }
+    {
         if self.failure.counts() {
             self.failure = Failure::Scan(ticket.number);
             return Err(Fault::Source);
@@ -158,12 +196,21 @@ impl<W: Wrapper> Wrapper for Failing<W> {
         self.inner.rescan(alloc, ticket, params)
     }
 
-    fn end(&mut self, ticket: Ticket) {
+    fn end(&mut self, ticket: Ticket)
+        requires { IsSome (scan_of (box_of W.meaning self.old) ticket.number) }
+        ensures ended { Ends (box_of W.meaning self.old) ticket.number (box_of W.meaning self.new) }
+        ensures uncounted { to_pass self.new.failure ≡ to_pass self.old.failure }
+    {
         self.failure.forget_scan(ticket.number);
         self.inner.end(ticket)
     }
 
-    fn begin_modify(&mut self, alloc: Global, t: TableNo) -> Result<(), Fault> {
+    fn begin_modify(&mut self, alloc: Global, t: TableNo) -> Result<(), Fault>
+        requires { CanModify (box_of W.meaning self.old) t.number }
+        ensures ok { IfOk result (λ _. Opens (box_of W.meaning self.old) t.number (box_of W.meaning self.new)) }
+        ensures err { IfErr result (λ fault. RefusesModify fault (box_of W.meaning self.old) (box_of W.meaning self.new)) }
+        ensures counted { CountsCall (to_pass self.old.failure) result (to_pass self.new.failure) }
+    {
         if self.failure.counts() {
             self.failure = Failure::Past;
             return Err(Fault::Source);
@@ -177,7 +224,13 @@ impl<W: Wrapper> Wrapper for Failing<W> {
         }
     }
 
-    fn insert(&mut self, alloc: Global, row: Row) -> Result<(), Fault> {
+    fn insert(&mut self, alloc: Global, row: Row) -> Result<(), Fault>
+        requires { CanChange (box_of W.meaning self.old) (Inserts (tuple row)) }
+        ensures ok { IfOk result (λ _. Stages (box_of W.meaning self.old) (Inserts (tuple row)) (box_of W.meaning self.new)) }
+        ensures err { IfErr result (λ fault. RefusesChange (box_of W.meaning self.old) (Inserts (tuple row))
+            fault (box_of W.meaning self.new)) }
+        ensures counted { CountsCall (to_pass self.old.failure) result (to_pass self.new.failure) }
+    {
         if self.failure.counts() {
             self.failure = Failure::Write;
             return Err(Fault::Source);
@@ -185,7 +238,13 @@ impl<W: Wrapper> Wrapper for Failing<W> {
         self.inner.insert(alloc, row)
     }
 
-    fn update(&mut self, alloc: Global, id: RowId, row: Row) -> Result<(), Fault> {
+    fn update(&mut self, alloc: Global, id: RowId, row: Row) -> Result<(), Fault>
+        requires { CanChange (box_of W.meaning self.old) (Updates id.number (tuple row)) }
+        ensures ok { IfOk result (λ _. Stages (box_of W.meaning self.old) (Updates id.number (tuple row)) (box_of W.meaning self.new)) }
+        ensures err { IfErr result (λ fault. RefusesChange (box_of W.meaning self.old) (Updates id.number (tuple row))
+            fault (box_of W.meaning self.new)) }
+        ensures counted { CountsCall (to_pass self.old.failure) result (to_pass self.new.failure) }
+    {
         if self.failure.counts() {
             self.failure = Failure::Write;
             return Err(Fault::Source);
@@ -193,7 +252,13 @@ impl<W: Wrapper> Wrapper for Failing<W> {
         self.inner.update(alloc, id, row)
     }
 
-    fn delete(&mut self, alloc: Global, id: RowId) -> Result<(), Fault> {
+    fn delete(&mut self, alloc: Global, id: RowId) -> Result<(), Fault>
+        requires { CanChange (box_of W.meaning self.old) (Deletes id.number) }
+        ensures ok { IfOk result (λ _. Stages (box_of W.meaning self.old) (Deletes id.number) (box_of W.meaning self.new)) }
+        ensures err { IfErr result (λ fault. RefusesChange (box_of W.meaning self.old) (Deletes id.number)
+            fault (box_of W.meaning self.new)) }
+        ensures counted { CountsCall (to_pass self.old.failure) result (to_pass self.new.failure) }
+    {
         if self.failure.counts() {
             self.failure = Failure::Write;
             return Err(Fault::Source);
@@ -201,7 +266,13 @@ impl<W: Wrapper> Wrapper for Failing<W> {
         self.inner.delete(alloc, id)
     }
 
-    fn end_modify(&mut self, alloc: Global, keep: bool) -> Result<(), Fault> {
+    fn end_modify(&mut self, alloc: Global, keep: bool) -> Result<(), Fault>
+        requires { CanClose (box_of W.meaning self.old) keep }
+        ensures ok { IfOk result (λ _. Closes (box_of W.meaning self.old) keep (box_of W.meaning self.new)) }
+        ensures err { IfErr result (λ fault. RefusesClose (box_of W.meaning self.old) keep fault (box_of W.meaning self.new)) }
+        ensures counted { keep ≡ true → CountsCall (to_pass self.old.failure) result (to_pass self.new.failure) }
+        ensures uncounted { keep ≡ false → to_pass self.new.failure ≡ to_pass self.old.failure }
+    {
         if !keep {
             return self.inner.end_modify(alloc, keep);
         }

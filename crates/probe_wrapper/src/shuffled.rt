@@ -174,6 +174,7 @@ impl<W: Wrapper> Shuffled<W> {
         requires unread { is_unread (turns_of self.old.scans ticket.now.number) ≡ true }
         ensures ok { IfOk result (λ row. Gives (reordered (W.meaning self.old.inner) (turns_of self.old.scans) self.old.pulled) ticket.now.number row (reordered (W.meaning self.new.inner) (turns_of self.new.scans) self.new.pulled)) }
         ensures err { IfErr result (λ fault. Breaks (reordered (W.meaning self.old.inner) (turns_of self.old.scans) self.old.pulled) ticket.now.number fault (reordered (W.meaning self.new.inner) (turns_of self.new.scans) self.new.pulled)) }
+        ensures turns { self.new.turns ≡ self.old.turns }
     {
         match read_out(&mut self.inner, alloc, ticket) {
             Err(fault) => {
@@ -193,10 +194,14 @@ impl<W: Wrapper> Shuffled<W> {
 
 impl<W: Wrapper> Wrapper for Shuffled<W> {
     ghost use Rattle.std.specs.Prelude.{OnErr};
-    ghost use Rattle.med_value.specs.Datum.{datum};
+    ghost use Rattle.med_value.specs.Datum.{datum, tuple};
     ghost use Rattle.fdw_api.specs.Scan.{spec_of};
-    ghost use Rattle.fdw_api.specs.Calls.{CanBegin, Begins, RefusesBegin, CanRescan, Rescans};
-    ghost use Rattle.probe_wrapper.specs.Shuffled.{IsTurned};
+    ghost use Rattle.fdw_api.specs.Kinds.{column_of, setting_of, Inserts, Updates, Deletes};
+    ghost use Rattle.fdw_api.specs.State.{scan_of};
+    ghost use Rattle.fdw_api.specs.Calls.{CanBind, Binds, RefusesBind, CanUnbind, Unbinds, CanBegin, Begins, RefusesBegin, CanRescan, Rescans, Ends};
+    ghost use Rattle.fdw_api.specs.Writes.{CanModify, Opens, RefusesModify, CanChange, Stages, RefusesChange, CanClose, Closes, RefusesClose};
+    ghost use Rattle.probe_wrapper.specs.Entries.{Stays, Forgets};
+    ghost use Rattle.probe_wrapper.specs.Shuffled.{box_of, IsTurned};
 
     ghost meaning = { λ b. reordered (W.meaning b.inner) (turns_of b.scans) b.pulled };
 
@@ -206,11 +211,22 @@ impl<W: Wrapper> Wrapper for Shuffled<W> {
         remote: &str,
         columns: &[ColumnDef],
         options: &[Opt],
-    ) -> Result<TableNo, Fault> {
+    ) -> Result<TableNo, Fault>
+        requires { CanBind (box_of W.meaning self.old) remote.now (map column_of columns.now) (map setting_of options.now) }
+        ensures ok { IfOk result (λ t. Binds (box_of W.meaning self.old)
+            remote.now (map column_of columns.now) (map setting_of options.now) t.number (box_of W.meaning self.new)) }
+        ensures err { IfErr result (λ fault. RefusesBind (box_of W.meaning self.old)
+            remote.now (map column_of columns.now) (map setting_of options.now) fault (box_of W.meaning self.new)) }
+        ensures turns { self.new.turns ≡ self.old.turns }
+    {
         self.inner.bind(alloc, remote, columns, options)
     }
 
-    fn unbind(&mut self, t: TableNo) {
+    fn unbind(&mut self, t: TableNo)
+        requires { CanUnbind (box_of W.meaning self.old) t.number }
+        ensures unbound { Unbinds (box_of W.meaning self.old) t.number (box_of W.meaning self.new) }
+        ensures turns { self.new.turns ≡ self.old.turns }
+    {
         self.inner.unbind(t)
     }
 
@@ -237,6 +253,7 @@ impl<W: Wrapper> Wrapper for Shuffled<W> {
         ensures err { IfErr result (λ fault. RefusesBegin fault (reordered (W.meaning self.old.inner) (turns_of self.old.scans) self.old.pulled) (reordered (W.meaning self.new.inner) (turns_of self.new.scans) self.new.pulled)) }
         ensures turned { IfOk result (λ ticket. IsTurned self.old.turns ticket.number (W.meaning self.new.inner) (reordered (W.meaning self.new.inner) (turns_of self.new.scans) self.new.pulled) self.new.turns) }
         ensures uncounted { OnErr result (self.new.turns ≡ self.old.turns) }
+        ensures kept { OnErr result (Stays (turns_of self.old.scans) (turns_of self.new.scans)) }
     {
         let ticket = self.inner.begin(alloc, t, spec, params)?;
         let places = self.turns.saturating_add(1);
@@ -257,7 +274,12 @@ impl<W: Wrapper> Wrapper for Shuffled<W> {
         }
     }
 
-    fn iterate(&mut self, alloc: Global, ticket: &Ticket) -> Result<Option<SourceRow>, Fault> {
+    fn iterate(&mut self, alloc: Global, ticket: &Ticket) -> Result<Option<SourceRow>, Fault>
+        requires { IsOpen (box_of W.meaning self.old) ticket.now.number }
+        ensures ok { IfOk result (λ row. Gives (box_of W.meaning self.old) ticket.now.number row (box_of W.meaning self.new)) }
+        ensures err { IfErr result (λ fault. Breaks (box_of W.meaning self.old) ticket.now.number fault (box_of W.meaning self.new)) }
+        ensures turns { self.new.turns ≡ self.old.turns }
+    {
         if is_unread(&self.scans, ticket.number) {
             return self.read_first(alloc, ticket);
         }
@@ -288,28 +310,61 @@ impl<W: Wrapper> Wrapper for Shuffled<W> {
         }
     }
 
-    fn end(&mut self, ticket: Ticket) {
+    fn end(&mut self, ticket: Ticket)
+        requires { IsSome (scan_of (box_of W.meaning self.old) ticket.number) }
+        ensures ended { Ends (box_of W.meaning self.old) ticket.number (box_of W.meaning self.new) }
+        ensures forgotten { Forgets (turns_of self.old.scans) ticket.number (turns_of self.new.scans) }
+        ensures turns { self.new.turns ≡ self.old.turns }
+    {
         let _ = self.scans.remove(&ticket.number);
         self.inner.end(ticket)
     }
 
-    fn begin_modify(&mut self, alloc: Global, t: TableNo) -> Result<(), Fault> {
+    fn begin_modify(&mut self, alloc: Global, t: TableNo) -> Result<(), Fault>
+        requires { CanModify (box_of W.meaning self.old) t.number }
+        ensures ok { IfOk result (λ _. Opens (box_of W.meaning self.old) t.number (box_of W.meaning self.new)) }
+        ensures err { IfErr result (λ fault. RefusesModify fault (box_of W.meaning self.old) (box_of W.meaning self.new)) }
+        ensures turns { self.new.turns ≡ self.old.turns }
+    {
         self.inner.begin_modify(alloc, t)
     }
 
-    fn insert(&mut self, alloc: Global, row: Row) -> Result<(), Fault> {
+    fn insert(&mut self, alloc: Global, row: Row) -> Result<(), Fault>
+        requires { CanChange (box_of W.meaning self.old) (Inserts (tuple row)) }
+        ensures ok { IfOk result (λ _. Stages (box_of W.meaning self.old) (Inserts (tuple row)) (box_of W.meaning self.new)) }
+        ensures err { IfErr result (λ fault. RefusesChange (box_of W.meaning self.old) (Inserts (tuple row))
+            fault (box_of W.meaning self.new)) }
+        ensures turns { self.new.turns ≡ self.old.turns }
+    {
         self.inner.insert(alloc, row)
     }
 
-    fn update(&mut self, alloc: Global, id: RowId, row: Row) -> Result<(), Fault> {
+    fn update(&mut self, alloc: Global, id: RowId, row: Row) -> Result<(), Fault>
+        requires { CanChange (box_of W.meaning self.old) (Updates id.number (tuple row)) }
+        ensures ok { IfOk result (λ _. Stages (box_of W.meaning self.old) (Updates id.number (tuple row)) (box_of W.meaning self.new)) }
+        ensures err { IfErr result (λ fault. RefusesChange (box_of W.meaning self.old) (Updates id.number (tuple row))
+            fault (box_of W.meaning self.new)) }
+        ensures turns { self.new.turns ≡ self.old.turns }
+    {
         self.inner.update(alloc, id, row)
     }
 
-    fn delete(&mut self, alloc: Global, id: RowId) -> Result<(), Fault> {
+    fn delete(&mut self, alloc: Global, id: RowId) -> Result<(), Fault>
+        requires { CanChange (box_of W.meaning self.old) (Deletes id.number) }
+        ensures ok { IfOk result (λ _. Stages (box_of W.meaning self.old) (Deletes id.number) (box_of W.meaning self.new)) }
+        ensures err { IfErr result (λ fault. RefusesChange (box_of W.meaning self.old) (Deletes id.number)
+            fault (box_of W.meaning self.new)) }
+        ensures turns { self.new.turns ≡ self.old.turns }
+    {
         self.inner.delete(alloc, id)
     }
 
-    fn end_modify(&mut self, alloc: Global, keep: bool) -> Result<(), Fault> {
+    fn end_modify(&mut self, alloc: Global, keep: bool) -> Result<(), Fault>
+        requires { CanClose (box_of W.meaning self.old) keep }
+        ensures ok { IfOk result (λ _. Closes (box_of W.meaning self.old) keep (box_of W.meaning self.new)) }
+        ensures err { IfErr result (λ fault. RefusesClose (box_of W.meaning self.old) keep fault (box_of W.meaning self.new)) }
+        ensures turns { self.new.turns ≡ self.old.turns }
+    {
         self.inner.end_modify(alloc, keep)
     }
 

@@ -85,8 +85,11 @@ impl<W: Wrapper> Shy<W> {
 }
 
 impl<W: Wrapper> Wrapper for Shy<W> {
-    ghost use Rattle.fdw_api.specs.Calls.{CanBegin, Begins, RefusesBegin, CanRescan, Rescans, Breaks};
-    ghost use Rattle.probe_wrapper.specs.Shy.{OffersNothing};
+    ghost use Rattle.std.specs.Prelude.{OnErr};
+    ghost use Rattle.fdw_api.specs.State.{scan_of};
+    ghost use Rattle.fdw_api.specs.Calls.{CanBegin, Begins, RefusesBegin, CanRescan, Rescans, Breaks, Ends};
+    ghost use Rattle.probe_wrapper.specs.Entries.{Stays, Forgets};
+    ghost use Rattle.probe_wrapper.specs.Shy.{box_of, OffersNothing, Wants};
 
     ghost meaning = { λ b. shied (W.meaning b.inner) (asked_of b.scans) };
 
@@ -130,6 +133,8 @@ impl<W: Wrapper> Wrapper for Shy<W> {
         ensures ok { IfOk result (λ ticket. Begins (shied (W.meaning self.old.inner) (asked_of self.old.scans)) t.number (spec_of spec.now) (map datum params.now) ticket.number (shied (W.meaning self.new.inner) (asked_of self.new.scans))) }
         ensures err { IfErr result (λ fault. RefusesBegin fault (shied (W.meaning self.old.inner) (asked_of self.old.scans)) (shied (W.meaning self.new.inner) (asked_of self.new.scans))) }
         ensures bare { IfOk result (λ ticket. OffersNothing (W.meaning self.new.inner) ticket.number) }
+        ensures columns { IfOk result (λ ticket. Wants (W.meaning self.new.inner) ticket.number spec.now.wanted.items) }
+        ensures kept { OnErr result (Stays (asked_of self.old.scans) (asked_of self.new.scans)) }
     {
         let scan = note(alloc, spec, params)?;
         let bare = bare(alloc, spec)?;
@@ -169,7 +174,11 @@ impl<W: Wrapper> Wrapper for Shy<W> {
         }
     }
 
-    fn end(&mut self, ticket: Ticket) {
+    fn end(&mut self, ticket: Ticket)
+        requires { IsSome (scan_of (box_of W.meaning self.old) ticket.number) }
+        ensures ended { Ends (box_of W.meaning self.old) ticket.number (box_of W.meaning self.new) }
+        ensures forgotten { Forgets (asked_of self.old.scans) ticket.number (asked_of self.new.scans) }
+    {
         let _ = self.scans.remove(&ticket.number);
         self.inner.end(ticket)
     }

@@ -5,5 +5,5 @@ use Rattle.probe_wrapper.proofs.failing.FailingWrapper.end.Goals as goal
 pub end-requires : goal.end-requires
 end-requires g c = live_in c.args.self.now.failure (g.W.Wrapper.meaning c.args.self.now.inner) _ c.requires
 
-pub returns : goal.returns
-returns g c = ends_after c.args.self.now.failure c.forget_scan.new.self (g.W.Wrapper.meaning c.args.self.now.inner) (g.W.Wrapper.meaning c.end.new.self) _ c.forget_scan.ensures c.end.ensures
+pub returns-clause-ended : goal.returns-clause-ended
+returns-clause-ended g c = ends_after c.args.self.now.failure c.forget_scan.new.self (g.W.Wrapper.meaning c.args.self.now.inner) (g.W.Wrapper.meaning c.end.new.self) _ c.forget_scan.ensures c.end.ensures

@@ -22,3 +22,6 @@ pub returns-clause-err : goal.returns-clause-err
 returns-clause-err g c =
     begun_in_vain (turns_of c.args.self.now.scans) (turns_of c.insert.new.self) c.args.self.now.pulled (g.W.Wrapper.meaning c.args.self.now.inner) (g.W.Wrapper.meaning c.begin.new.self) (g.W.Wrapper.meaning c.end.new.self) _ _ _ _ c.in_ok-ticket.ensures.ok c.end.ensures
     (stays_of c.args.self.now.scans c.insert.new.self c.in-Err.ensures.err)
+
+pub returns-clause-kept : goal.returns-clause-kept
+returns-clause-kept g c = stays_of c.args.self.now.scans c.insert.new.self c.in-Err.ensures.err

@@ -4,6 +4,7 @@ use Rattle.probe_wrapper.specs.Shy.{shied, asked_of}
 use Rattle.probe_wrapper.proofs.CallLemmas.{begun_is_open, open_is_live}
 use Rattle.probe_wrapper.proofs.ShyCalls.{is_plainly, can_begin, begins, begun_bare, refuses_begin, not_begun, begun_in_vain}
 use Rattle.probe_wrapper.proofs.ShyScans.{asks_of, stays_of}
+use Rattle.probe_wrapper.proofs.ShyColumns.{begun_wanting}
 use Rattle.probe_wrapper.proofs.shy.ShyWrapper.begin.Goals as goal
 
 pub begin-requires : goal.begin-requires
@@ -39,3 +40,9 @@ pub returns-clause-err : goal.returns-clause-err
 returns-clause-err g c =
     begun_in_vain (asked_of c.args.self.now.scans) (asked_of c.insert.new.self) (g.W.Wrapper.meaning c.args.self.now.inner) (g.W.Wrapper.meaning c.begin.new.self) (g.W.Wrapper.meaning c.end.new.self) _ _ _ _ c.in_ok-ticket.ensures.ok c.end.ensures
     (stays_of c.args.self.now.scans c.insert.new.self c.in-Err.ensures.err)
+
+pub returns-clause-kept : goal.returns-clause-kept
+returns-clause-kept g c = stays_of c.args.self.now.scans c.insert.new.self c.in-Err.ensures.err
+
+pub returns-in-Ok-clause-columns : goal.returns-in-Ok-clause-columns
+returns-in-Ok-clause-columns g c = begun_wanting (g.W.Wrapper.meaning c.args.self.now.inner) (g.W.Wrapper.meaning c.begin.new.self) _ (spec_of c.in_ok-bare.bare) _ _ _ c.in_ok-bare.ensures c.in_ok-ticket.ensures.ok
