@@ -13,11 +13,12 @@ ghost use Rattle.tri_expr.specs.Tree.{tree};
 ghost use Rattle.tri_expr.specs.TreeParts.{arguments_in};
 
 use bind_names::any_has_aggregate;
+use expr_parts::arguments;
 use med_query::Grouping;
 use med_syntax::Select as WrittenSelect;
 use med_value::Cause;
 use std::alloc::Global;
-use tri_expr::{Expr, arguments};
+use tri_expr::Expr;
 
 fn push_arguments(alloc: Global, es: &[Expr], out: &mut Vec<Expr>) -> Result<(), Cause>
     ensures { Adds [] (flat_map arguments_in (map tree es.now)) (map tree out.old.items) (map tree out.new.items) result }

@@ -14,11 +14,12 @@ ghost use Rattle.tri_expr.specs.Tree.{tree, conjunct_trees};
 
 use crate::resolve::resolve;
 use bind_names::{AttachedTable, Visible, joined_entry, visible_of};
+use expr_parts::conjuncts;
 use med_query::{Join, JoinChain};
 use med_syntax::{Chain, Entry, Expr as Written, Join as WrittenJoin};
 use med_value::Cause;
 use std::alloc::Global;
-use tri_expr::{Expr, conjuncts};
+use tri_expr::Expr;
 
 // The conjuncts of a condition.
 fn conjuncts_of(

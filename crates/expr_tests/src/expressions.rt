@@ -2,12 +2,11 @@
 //! expressions stand in the streams of the program, tests/values_*.
 use crate::build::{build, class, parameters, part};
 use crate::rows::{Answer, assert_rows};
+use expr_parts::{arguments, conjuncts, is_same};
 use med_value::{Row, Value};
 use std::alloc::Global;
 use std::test::Fail;
-use tri_expr::{
-    Expr, arguments, conjuncts, eval, eval_class, is_risky, is_same, verdict, verdict_class,
-};
+use tri_expr::{Expr, eval, eval_class, is_risky, verdict, verdict_class};
 
 /// The value of an expression on a row.
 struct RowValue;

@@ -15,4 +15,3 @@ pub mod SameVerdicts
 pub mod TreeRisk
 pub mod SameTrees
 pub mod BareTrees
-pub mod Apart

@@ -3,9 +3,9 @@
 ghost use Rattle.std.specs.Prelude.{◌≡◌, IfOk, map, ◌++◌};
 ghost use Rattle.tri_expr.specs.Tree.{tree, trees, conjunct_trees, conjuncts_of_all};
 
-use crate::expr::Expr;
 use med_value::NoMemory;
 use std::alloc::Global;
+use tri_expr::Expr;
 
 #[cycle(conjuncts)]
 fn push_all(alloc: Global, parts: &[Expr], out: &mut Vec<Expr>) -> Result<(), NoMemory>

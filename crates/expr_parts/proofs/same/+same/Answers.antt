@@ -3,8 +3,8 @@ use Rattle.tri_expr.specs.Tree.{Tree}
 use Rattle.tri_expr.specs.TreeParts.{bare}
 use Rattle.tri_expr.proofs.SameTrees.{of_two_lengths}
 use Rattle.tri_expr.proofs.Forms.{tree_column, tree_parameter, tree_literal, tree_compare, tree_compute, tree_negate, tree_and, tree_or, tree_not, tree_is, tree_between, tree_in, tree_like, tree_count_rows, tree_aggregate}
-use Rattle.tri_expr.proofs.Apart.{kind, apart, not_column, not_parameter, not_literal, not_compare, not_compute, not_negate, not_and, not_or, not_not, not_is, not_between, not_in, not_like, not_count_rows, not_aggregate}
-use Rattle.tri_expr.proofs.same.+same.Goals as goal
+use Rattle.expr_parts.proofs.Apart.{kind, apart, not_column, not_parameter, not_literal, not_compare, not_compute, not_negate, not_and, not_or, not_not, not_is, not_between, not_in, not_like, not_count_rows, not_aggregate}
+use Rattle.expr_parts.proofs.same.+same.Goals as goal
 
 pub are_same-returns-then-a-b : goal.are_same-returns-then-a-b
 are_same-returns-then-a-b t c = of_two_lengths c.args.a.now c.args.b.now c.if-a-b.true

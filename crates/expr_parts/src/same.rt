@@ -4,9 +4,9 @@ ghost use Rattle.std.specs.Prelude.{◌≡◌, false, map};
 ghost use Rattle.tri_expr.specs.Tree.{tree, trees};
 ghost use Rattle.tri_expr.specs.TreeParts.{is_parenthesised, bare, bare_all, same_tree, trees_eq};
 
-use crate::expr::Expr;
 use med_value::order::compare_values;
 use std::cmp::Ordering;
+use tri_expr::Expr;
 
 /// What stands in an expression's outer parentheses.
 fn inner(e: &Expr) -> &Expr

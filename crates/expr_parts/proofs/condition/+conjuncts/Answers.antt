@@ -1,8 +1,8 @@
 use Rattle.std.proofs.Common.{◌≡◌, ◌++◌, map, ap, sym, ◌∙◌}
 use Rattle.tri_expr.specs.Tree.{tree}
 use Rattle.tri_expr.proofs.Forms.{pushed}
-use Rattle.tri_expr.proofs.Apart.{one_conjunct}
-use Rattle.tri_expr.proofs.condition.+conjuncts.Goals as goal
+use Rattle.expr_parts.proofs.Apart.{one_conjunct}
+use Rattle.expr_parts.proofs.condition.+conjuncts.Goals as goal
 
 pub push_conjuncts-returns-in_ok-push-in_default : goal.push_conjuncts-returns-in_ok-push-in_default
 push_conjuncts-returns-in_ok-push-in_default t c =

@@ -1,7 +1,7 @@
 use Rattle.std.proofs.Common.{◌≡◌, ◌++◌, map, drop}
 use Rattle.tri_expr.specs.Tree.{tree, trees}
 use Rattle.tri_expr.specs.TreeParts.{arguments_in_all}
-use Rattle.tri_expr.proofs.aggregates.+arguments.Given as goal
+use Rattle.expr_parts.proofs.aggregates.+arguments.Given as goal
 
 abbrev pub invariant-push_all-loop-part : goal.invariant-push_all-loop-part
 invariant-push_all-loop-part l =

@@ -4,9 +4,9 @@ ghost use Rattle.std.specs.Prelude.{◌≡◌, IfOk, map, ◌++◌};
 ghost use Rattle.tri_expr.specs.Tree.{tree, trees};
 ghost use Rattle.tri_expr.specs.TreeParts.{arguments_in, arguments_in_all};
 
-use crate::expr::Expr;
 use med_value::NoMemory;
 use std::alloc::Global;
+use tri_expr::Expr;
 
 #[cycle(arguments)]
 fn push_all(alloc: Global, parts: &[Expr], out: &mut Vec<Expr>) -> Result<(), NoMemory>

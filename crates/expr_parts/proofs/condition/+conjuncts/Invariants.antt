@@ -1,6 +1,6 @@
 use Rattle.std.proofs.Common.{◌≡◌, ◌++◌, map, drop}
 use Rattle.tri_expr.specs.Tree.{tree, trees, conjuncts_of_all}
-use Rattle.tri_expr.proofs.condition.+conjuncts.Given as goal
+use Rattle.expr_parts.proofs.condition.+conjuncts.Given as goal
 
 abbrev pub invariant-push_all-loop-part : goal.invariant-push_all-loop-part
 invariant-push_all-loop-part l =
