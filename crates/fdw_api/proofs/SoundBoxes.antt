@@ -343,7 +343,7 @@ inserted_fit kinds line (Inserts x ∷ cs) c = let p = both_true (row_fits kinds
 inserted_fit kinds line (Updates j x ∷ cs) c = inserted_fit kinds line cs (both_true (row_fits kinds x) _ c).1
 inserted_fit kinds line (Deletes j ∷ cs) c = inserted_fit kinds line cs (both_true true _ c).1
 
-all_after : (kinds : List ColType) (line : Tuple → List (List ℕ)) (rows : List TableRow) (changes : List Change) → list_all (row_of_change_fits kinds) changes ≡ true → FitRows kinds rows ≡ true → all_fit kinds (rows_after line rows changes) ≡ true
+pub all_after : (kinds : List ColType) (line : Tuple → List (List ℕ)) (rows : List TableRow) (changes : List Change) → list_all (row_of_change_fits kinds) changes ≡ true → FitRows kinds rows ≡ true → all_fit kinds (rows_after line rows changes) ≡ true
 all_after kinds line rows changes c f = append_fits kinds (flat_map (λ r. row_after line r.id changes (held r ∷ [])) rows) _ (old_fit kinds line rows changes c f) (inserted_fit kinds line changes c)
 
 arranged_fit : (kinds : List ColType) (b : Bound) (rows : List Held) → all_fit kinds rows ≡ true → all_fit kinds (b.arrangement.arranged rows) ≡ true

@@ -1,12 +1,13 @@
 //! Laws of what the calls of a wrapper do to its box.
 ghost use Rattle.std.specs.Prelude.{◌≡◌, ℕ, Bool, true, List, Option, Some, slice_get};
+ghost use Rattle.std.specs.List.{list_all};
 ghost use Rattle.med_value.specs.Datum.{Tuple};
 ghost use Rattle.med_value.specs.declared.value.ColType.{ColType};
-ghost use Rattle.fdw_api.specs.Scan.{Spec, GivenRow, cell, has_kind, row_fits, cells_fit, shown_cells, shown_fits};
-ghost use Rattle.fdw_api.specs.Kinds.{Column, Setting, Change};
+ghost use Rattle.fdw_api.specs.Scan.{TableRow, Spec, cell, has_kind, row_fits, cells_fit, shown_cells, shown_fits};
+ghost use Rattle.fdw_api.specs.Kinds.{Column, Setting, Change, all_fit};
 ghost use Rattle.fdw_api.specs.State.{BoxState, IsIdle};
 ghost use Rattle.fdw_api.specs.Calls.{Binds, CanUnbind, Unbinds, Refuses, Begins, Gives, Breaks, Rescans, Ends};
-ghost use Rattle.fdw_api.specs.Writes.{CanModify, Opens, CanChange, Stages, RefusesChange, Closes, RefusesClose};
+ghost use Rattle.fdw_api.specs.Writes.{CanModify, Opens, CanChange, Stages, RefusesChange, Closes, RefusesClose, row_of_change_fits, rows_after};
 ghost use Rattle.fdw_api.specs.Sound.{IsSoundBox};
 ghost use Rattle.fdw_api.specs.declared.interface.Fault.{Fault as Failure};
 ghost use Rattle.fdw_api.specs.declared.interface.SourceRow.{SourceRow};
@@ -55,4 +56,11 @@ pub fn rows_are_typed()
         → has_kind kind (cell cells place) ≡ true }
     ensures shown { (kinds : List ColType) (spec : Spec) (cells : Tuple)
         → row_fits kinds cells ≡ true → shown_fits kinds spec (shown_cells spec cells) ≡ true }
+{}
+
+/// Where the rows of a table and the new rows of changes are of its columns' types, so are the rows after the changes.
+pub fn writes_are_typed()
+    ensures { (kinds : List ColType) (line : Tuple → List (List ℕ)) (rows : List TableRow) (changes : List Change)
+        → list_all (row_of_change_fits kinds) changes ≡ true → list_all (λ r. row_fits kinds r.cells) rows ≡ true
+        → all_fit kinds (rows_after line rows changes) ≡ true }
 {}
