@@ -166,7 +166,7 @@ list_closes tables bound m s next pulled x y marked is distinct en ek er small s
         is = rw (marked, is) refl;
         entry = entry_of (map listed tables) (string_bytes x.name);
         picked = refl;
-        no_cause = rw before (few_rows x y s _ er small);
+        no_cause = rw before (few_rows x y s (entry_of (map listed tables) (string_bytes x.name)) er small);
         rows = rw (before, after, held_rows 0 y.rows.items, er) refl;
         once = numbered_once 0 (rows_at (slice_set tables s.table y) s.table);
         holdings = written there;
