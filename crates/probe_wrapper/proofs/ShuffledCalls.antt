@@ -246,10 +246,10 @@ gives_waiting old new p s q (Some row) o k =
     let becomes = k.hands.2 in
     let scan = o.0 in
     let fits : list_all (λ r. shown_fits w.inner.kinds w.inner.spec r.cells) (row_of row ∷ rest) ≡ true =
-        sym (ap (waiting_fits w.inner.kinds w.inner.spec) (ap (λ (t : Turn). t.waiting) same ∙ k.wait ∙ ap (λ (l : List GivenRow). Some l) k.hands.1)) ∙ w.fits in
+    sym (ap (waiting_fits w.inner.kinds w.inner.spec) (ap (λ (t : Turn). t.waiting) same ∙ k.wait ∙ ap (λ (l : List GivenRow). Some l) k.hands.1)) ∙ w.fits in
     let pair = both (shown_fits w.inner.kinds w.inner.spec (row_of row).cells) _ fits in
     let whole_after : (k.turn.broken || (w.inner.broken || not (list_all (λ r. shown_fits w.inner.kinds w.inner.spec r.cells) rest))) ≡ false =
-        still_whole k.turn.broken w.inner.broken _ (ap (λ (t : Turn). t.broken) (sym same) ∙ w.whole) w.whole_in pair.1 in
+    still_whole k.turn.broken w.inner.broken _ (ap (λ (t : Turn). t.broken) (sym same) ∙ w.whole) w.whole_in pair.1 in
     let whole_was : (w.turn.broken || (w.inner.broken || not (waiting_fits w.inner.kinds w.inner.spec w.turn.waiting))) ≡ false = ap (λ (z : Scan). z.broken) (sym w.seen_as) ∙ o.2 in
     let left_was : scan.left ≡ length (row_of row ∷ rest) = ap (λ (z : Scan). z.left) w.seen_as ∙ ap (λ (t : Turn). left_of t.waiting) same ∙ ap left_of k.wait ∙ ap (λ (l : List GivenRow). length l) k.hands.1 in
     record {
@@ -309,7 +309,7 @@ gives_first old new p s t q inner (Some row) u r k =
     let small = k.small in
     let long : length (row_of row ∷ rest) ≡ length inner = ap (λ (l : List GivenRow). length l) (sym k.hands.1) ∙ turned_length k.turn.places inner in
     let fits : list_all (λ z. shown_fits r.scan.kinds r.scan.spec z.cells) (row_of row ∷ rest) ≡ true =
-        ap (list_all (λ z. shown_fits r.scan.kinds r.scan.spec z.cells)) (sym k.hands.1) ∙ turned_pass (λ z. shown_fits r.scan.kinds r.scan.spec z.cells) k.turn.places inner r.typed in
+    ap (list_all (λ z. shown_fits r.scan.kinds r.scan.spec z.cells)) (sym k.hands.1) ∙ turned_pass (λ z. shown_fits r.scan.kinds r.scan.spec z.cells) k.turn.places inner r.typed in
     let pair = both (shown_fits r.scan.kinds r.scan.spec (row_of row).cells) _ fits in
     let left_was : left_of k.turn.waiting ≡ 2 ^ 64 = ap left_of waits in
     record {

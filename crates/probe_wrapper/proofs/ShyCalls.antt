@@ -321,10 +321,12 @@ stages asked s t change r = record { nature = ap round r.nature; staging = r.sta
 change_cause : (asked : Asks) (s : BoxState) (staging : Staging) (change : Change) (fault : Fault) → ChangeCause s staging change fault → ChangeCause (shied s asked) staging change fault
 change_cause asked s staging change NoMemory c = tt
 change_cause asked s staging change Source c = tt
-change_cause asked s staging change (Refused x) c =
-    (c.0, λ h b e.
-    let w = inner_of (table_of s staging.table) b e in
-    subst (λ (z : Bound). (entry : Option Entry) × Picks (s.content.holdings z.remote) entry × ((more : List Change) → Contains (z.refuses.causes entry (s.content.rows staging.table) (staging.changes ++ change ∷ more)) x)) w.2 (c.1 h w.0 w.1))
+change_cause asked s staging change (Refused x) c = (
+  c.0,
+  λ h b e.
+      let w = inner_of (table_of s staging.table) b e in
+      subst (λ (z : Bound). (entry : Option Entry) × Picks (s.content.holdings z.remote) entry × ((more : List Change) → Contains (z.refuses.causes entry (s.content.rows staging.table) (staging.changes ++ change ∷ more)) x)) w.2 (c.1 h w.0 w.1),
+)
 
 pub refuses_change : (asked : Asks) (s t : BoxState) (change : Change) (fault : Fault) → RefusesChange s change fault t → RefusesChange (shied s asked) change fault (shied t asked)
 refuses_change asked s t change fault r = record {
@@ -369,10 +371,12 @@ closes asked s t keep c = record {
 close_cause : (asked : Asks) (s : BoxState) (staging : Staging) (fault : Fault) → CloseCause s staging fault → CloseCause (shied s asked) staging fault
 close_cause asked s staging NoMemory c = tt
 close_cause asked s staging Source c = tt
-close_cause asked s staging (Refused x) c =
-    (c.0, λ h b e.
-    let w = inner_of (table_of s staging.table) b e in
-    subst (λ (z : Bound). (entry : Option Entry) × Picks (s.content.holdings z.remote) entry × Contains (z.refuses.causes entry (s.content.rows staging.table) staging.changes) x) w.2 (c.1 h w.0 w.1))
+close_cause asked s staging (Refused x) c = (
+  c.0,
+  λ h b e.
+      let w = inner_of (table_of s staging.table) b e in
+      subst (λ (z : Bound). (entry : Option Entry) × Picks (s.content.holdings z.remote) entry × Contains (z.refuses.causes entry (s.content.rows staging.table) staging.changes) x) w.2 (c.1 h w.0 w.1),
+)
 
 pub refuses_close : (asked : Asks) (s t : BoxState) (keep : Bool) (fault : Fault) → RefusesClose s keep fault t → RefusesClose (shied s asked) keep fault (shied t asked)
 refuses_close asked s t keep fault r = record {
