@@ -1,6 +1,6 @@
 -- Places found one after the other, and the columns at places.
 use Rattle.std.proofs.Common.{◌≡◌, ℕ, zero, suc, ◌-◌, ◌<◌, ◌≤◌, Bool, true, false, if◌then◌else◌, List, [], ◌∷◌, ◌++◌, length, Option, slice_get, get_or, drop, map, ◌+◌, option_map, refl, sym, ap, ◌∙◌, arith}
-use Rattle.std.proofs.lemmas.List.{length-map}
+use Rattle.std.proofs.lemmas.List.{length-map, length-append}
 use Rattle.med_value.specs.Column.{Column}
 use Rattle.med_value.specs.declared.value.ColType.{ColType}
 use Rattle.med_value.specs.declared.cause.Cause.TheVariants.{UndefinedTable, UndefinedColumn, AmbiguousColumn}
@@ -12,7 +12,7 @@ use Rattle.bind_names.specs.Scope.{TableShape, Scope, visible, scope_of, columns
 use Rattle.bind_names.specs.Naming.{counted_causes, column_causes}
 use Rattle.bind_names.specs.declared.scope.Found.{Found}
 use Rattle.bind_names.specs.declared.scope.Found.TheVariants.{Nothing, One, Several}
-use Rattle.bind_names.specs.Telling.{with_place, with_places}
+use Rattle.bind_names.specs.Telling.{with_place, with_places, IsOverfull}
 
 pub found_then : (f : Found) (xs ys : List ℕ) → with_places f (xs ++ ys) ≡ with_places (with_places f xs) ys
 found_then f [] ys = refl
@@ -95,3 +95,16 @@ found_past_entry all found further xs i at end v q n e lt read f g =
     ∙ ap (λ k. with_places k (candidates_from (at + length (visible v).columns) rest q n)) (sym f)
     ∙ ap (λ k. with_places further (candidates_from (at + k) rest q n)) m
     ∙ ap (λ k. with_places further (candidates_from k rest q n)) (sym g)
+
+-- how many columns there are, with those of one entry more
+pub columns_past_entry : (all at : ℕ) (xs : List Visible) (i : ℕ) (v : Visible) → all ≡ at + length (columns_of (scope_of (drop i xs))) → i < length xs → v ≡ get_or xs i v
+    → all ≡ (at + length v.columns.now) + length (columns_of (scope_of (drop (i + 1) xs)))
+columns_past_entry all at xs i v e lt read =
+    let rest = columns_of (scope_of (drop (i + 1) xs)) in
+    let n = length-map v.columns.now column_of in
+    let d = ap (λ ys. length (columns_of (scope_of ys))) (drop_read xs i v lt read) in
+    let k = length-append (map column_of v.columns.now) rest in
+    omega (arith, e, d, k, n)
+
+pub overfull_there : (s : Scope) (at : ℕ) (xs : List Visible) (i : ℕ) (v : Visible) → length (columns_of s) ≡ at + length (columns_of (scope_of (drop i xs))) → i < length xs → v ≡ get_or xs i v → 18446744073709551615 < at + length v.columns.now → IsOverfull s
+overfull_there s at xs i v e lt read over = let k = columns_past_entry (length (columns_of s)) at xs i v e lt read in omega (arith, k, over)

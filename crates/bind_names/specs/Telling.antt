@@ -1,10 +1,10 @@
 -- What the functions of the crate answer.
-use Rattle.std.specs.Prelude.{◌≡◌, ◌⊎◌, ℕ, List, [], ◌∷◌, ◌++◌, Contains, Option, Result, Ok, Err}
+use Rattle.std.specs.Prelude.{◌≡◌, ◌⊎◌, ◌<◌, ℕ, List, [], ◌∷◌, ◌++◌, length, Contains, Option, Result, Ok, Err}
 use Rattle.med_value.specs.declared.value.ColType.{ColType}
 use Rattle.med_value.specs.declared.cause.Cause.{Cause}
 use Rattle.med_value.specs.declared.cause.Cause.TheVariants.{OutOfMemory}
 use Rattle.med_syntax.specs.Tree.{Name}
-use Rattle.bind_names.specs.Scope.{Scope, candidates}
+use Rattle.bind_names.specs.Scope.{Scope, candidates, columns_of}
 use Rattle.bind_names.specs.Naming.{column_causes}
 use Rattle.bind_names.specs.declared.scope.Found.{Found}
 use Rattle.bind_names.specs.declared.scope.Found.TheVariants.{Nothing, One, Several}
@@ -34,20 +34,27 @@ abbrev pub with_places : Found → List ℕ → Found
 with_places f [] = f
 with_places f (p ∷ ps) = with_places (with_place f p) ps
 
--- what was found is these places
-abbrev pub Gathers : List ℕ → Result Found Cause → Type 0
-Gathers places (Ok f) = f ≡ with_places Nothing places
-Gathers places (Err c) = c ≡ OutOfMemory
+-- More columns are in view than 64 bits can count. What takes no memory tells 53200 there, and nowhere else.
+abbrev pub IsOverfull : Scope → Type 0
+IsOverfull s = 18446744073709551615 < length (columns_of s)
+
+abbrev pub TellsOverfull : Scope → Cause → Type 0
+TellsOverfull s c = (c ≡ OutOfMemory) × IsOverfull s
+
+-- what was found is the places of the columns that a name can mean, unless there are too many columns to count
+abbrev pub Gathers : Scope → Option Name → Name → Result Found Cause → Type 0
+Gathers s q n (Ok f) = f ≡ with_places Nothing (candidates s q n)
+Gathers s q n (Err c) = TellsOverfull s c
 
 -- the place of the column that a name means, or why it means none
 abbrev pub FindsColumn : Scope → Option Name → Name → Result ℕ Cause → Type 0
 FindsColumn s q n (Ok p) = (candidates s q n ≡ p ∷ []) × (column_causes s q n ≡ [])
 FindsColumn s q n (Err c) = Tells (column_causes s q n) c
 
--- the type, where memory was not refused
-abbrev pub FindsKind : Option ColType → Result (Option ColType) Cause → Type 0
-FindsKind k (Ok r) = r ≡ k
-FindsKind k (Err c) = c ≡ OutOfMemory
+-- the type, unless there are too many columns to count
+abbrev pub FindsKind : Scope → Option ColType → Result (Option ColType) Cause → Type 0
+FindsKind s k (Ok r) = r ≡ k
+FindsKind s k (Err c) = TellsOverfull s c
 
 -- these stand behind what was there, and no cause stands
 abbrev pub Adds : {X Y : Type 0} → List Cause → List Y → List Y → List Y → Result X Cause → Type 0

@@ -1,10 +1,11 @@
 //! What is in view, and which column a name means.
 
-ghost use Rattle.std.specs.Prelude.{◌≡◌, ◌+◌, ◌≤◌, if◌then◌else◌, [], map, length, option_map, string_bytes, Some};
+ghost use Rattle.std.specs.Prelude.{◌≡◌, ◌+◌, ◌≤◌, if◌then◌else◌, [], map, length, option_map, string_bytes, Some, IfErr};
 ghost use Rattle.med_value.specs.Column.{column_of};
+ghost use Rattle.med_value.specs.declared.cause.Cause.TheVariants.{OutOfMemory};
 ghost use Rattle.bind_names.specs.Scope.{scope_of, is_meant, visible, places_from, candidates, kind_there, kind_at, has_entry, kind_among};
 ghost use Rattle.std.specs.List.{list_any};
-ghost use Rattle.bind_names.specs.Telling.{with_place, with_places, Gathers, FindsColumn, FindsKind};
+ghost use Rattle.bind_names.specs.Telling.{with_place, with_places, Gathers, FindsColumn, FindsKind, IsOverfull};
 
 use med_value::{Cause, ColType, ColumnDef};
 
@@ -111,9 +112,9 @@ fn find_under(
 }
 
 // The columns that a name can mean. Refused only where there are more columns in view than places.
-#[tactic(auto, using(crate::proofs::Places::found_past_entry))]
+#[tactic(auto, using(crate::proofs::Places::found_past_entry, crate::proofs::Places::overfull_there))]
 fn gather(scope: &[Visible<'_>], qualifier: &Option<String>, name: &str) -> Result<Found, Cause>
-    ensures { Gathers (candidates (scope_of scope.now) (option_map string_bytes qualifier.now) name.now) result }
+    ensures { Gathers (scope_of scope.now) (option_map string_bytes qualifier.now) name.now result }
 {
     let mut found = Found::Nothing;
     let mut at: usize = 0;
@@ -136,7 +137,8 @@ pub fn find_column(
     qualifier: &Option<String>,
     name: &String,
 ) -> Result<usize, Cause>
-    ensures { FindsColumn (scope_of scope.now) (option_map string_bytes qualifier.now) (string_bytes name.now) result }
+    ensures finds { FindsColumn (scope_of scope.now) (option_map string_bytes qualifier.now) (string_bytes name.now) result }
+    ensures memory { IfErr result (λ c. c ≡ OutOfMemory → IsOverfull (scope_of scope.now)) }
 {
     if !has_entry(scope, qualifier) {
         return Err(Cause::UndefinedTable);
@@ -180,7 +182,7 @@ pub fn column_kind(
     qualifier: &Option<String>,
     name: &String,
 ) -> Result<Option<ColType>, Cause>
-    ensures { FindsKind (kind_among (scope_of scope.now) (candidates (scope_of scope.now) (option_map string_bytes qualifier.now) (string_bytes name.now))) result }
+    ensures { FindsKind (scope_of scope.now) (kind_among (scope_of scope.now) (candidates (scope_of scope.now) (option_map string_bytes qualifier.now) (string_bytes name.now))) result }
 {
     match gather(scope, qualifier, name.as_str())? {
         Found::One(place) => Ok(kind_of(scope, place)),

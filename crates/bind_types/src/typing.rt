@@ -156,7 +156,7 @@ fn called_kind(
     name: &String,
     arguments: &[Written],
 ) -> Result<Option<ColType>, Cause>
-    ensures { FindsKind (spec.call_type (function_named (string_bytes name.now)) (spec.types_of (scope_of scope.now) (expr_trees arguments.now))) result }
+    ensures { FindsKind (scope_of scope.now) (spec.call_type (function_named (string_bytes name.now)) (spec.types_of (scope_of scope.now) (expr_trees arguments.now))) result }
 {
     match arguments {
         [argument] => {
@@ -170,7 +170,7 @@ fn called_kind(
 // The type of an expression; none for NULL, which takes any. Refused only with 53200, where more columns are in view than there are places.
 #[cycle(kind)]
 fn kind(scope: &[Visible<'_>], e: &Written) -> Result<Option<ColType>, Cause>
-    ensures { FindsKind (spec.type_of (scope_of scope.now) (expr_tree e.now)) result }
+    ensures { FindsKind (scope_of scope.now) (spec.type_of (scope_of scope.now) (expr_tree e.now)) result }
 {
     match e {
         Written::Number(_) | Written::Negative(_) => Ok(Some(ColType::Int)),
