@@ -1,1 +1,1 @@
-mod SlotScans
+mod SlotTables

@@ -17,8 +17,6 @@ mod reader;
 #[cfg(test)]
 mod refusals;
 #[cfg(test)]
-mod restricted;
-#[cfg(test)]
 mod served;
 #[cfg(test)]
 mod slots;

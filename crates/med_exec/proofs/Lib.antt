@@ -1,6 +1,6 @@
 pub mod SlotLemmas
 pub mod ScanLemmas
 pub mod RestrictedLemmas
-pub mod SelectLemmas
 pub mod Served
+pub mod Counted
 pub mod TableReads

@@ -1,25 +1,19 @@
 -- How the calls of one scan go together.
-use Rattle.std.proofs.Common.{◌≡◌, ◌≢◌, ℕ, ◌+◌, ◌-◌, ◌^◌, ◌<◌, ◌⊎◌, suc, add-one, eqb, inl, inr, Result, Ok, Err, IfOk, IfErr, Bool, true, false, if◌then◌else◌, List, [], ◌∷◌, ◌++◌, length, map, Option, Some, None, IsSome, refl, ap, sym, ◌∙◌, subst, arith, rules, append_assoc}
+use Rattle.std.proofs.Common.{◌≡◌, ◌≢◌, ℕ, ◌+◌, ◌-◌, ◌^◌, ◌<◌, ◌⊎◌, suc, add-one, eqb, inl, inr, Result, Ok, Err, IfOk, IfErr, true, false, List, [], ◌∷◌, ◌++◌, length, map, Option, Some, None, IsSome, refl, ap, sym, ◌∙◌, subst, arith, rules, append_assoc}
 use Rattle.std.specs.Ordering.{nat_cmp}
 use Rattle.std.specs.FinMap as finmap
 use Rattle.std.specs.FinMap.{gets, nat_cmp-IsAntisymmetric}
 use Rattle.std.specs.Cmp.{nat_cmp_total}
-use Rattle.std.specs.List.{All}
-use Rattle.std.specs.List.Sorted.{IsPermutation}
 use Rattle.std.proofs.lemmas.List.{append-nil, length-append}
-use Rattle.std.proofs.lemmas.List.Elements.{All-head}
-use Rattle.std.proofs.lemmas.List.Sorted.{IsPermutation-map}
-use Rattle.std.proofs.lemmas.Bool.{false≢true}
 use Rattle.std.proofs.lemmas.Bool.Decides.{eqb_tells}
 use Rattle.med_value.specs.Datum.{Tuple}
-use Rattle.fdw_api.specs.Scan.{TableRow, GivenRow, Spec, Filter, IsComing, pick, shown, shown_cells, meets_all}
-use Rattle.fdw_api.specs.State.{Nature, Scan, Ledger, BoxState, is_honest, scan_of, rows_of}
+use Rattle.fdw_api.specs.Scan.{GivenRow, Spec}
+use Rattle.fdw_api.specs.State.{Nature, Scan, Ledger, BoxState, is_honest, scan_of}
 use Rattle.fdw_api.specs.Calls.{LeavesOthers, LeavesAll, bumped, faults_after, not_refused, IsOpen, GivesRow, GivesNone, Breaks, BeginCause, Begins, Ends, RefusesBegin}
 use Rattle.fdw_api.specs.declared.interface.Fault.{Fault}
 use Rattle.fdw_api.specs.declared.interface.Fault.TheVariants.{NoMemory, Source, Refused}
 use Rattle.med_exec.specs.Reading.{pulled_after, cells_of, Keeps, GivesAll, StopsBy}
-use Rattle.med_planner.specs.Planned.{tuples_of}
-use Rattle.med_exec.specs.Scanning.{ReadsTable, RunsScan, ScansTable, FailsTable, SelectsTable}
+use Rattle.med_exec.specs.Scanning.{RunsScan, FailsScan}
 
 -- how many rows a scan may still give at most
 abbrev pub left_of : Option Scan → ℕ
@@ -215,23 +209,6 @@ ledger_again t spec params n pulled faults old begun last new b k p f e =
     same_ledger : (x y : Ledger) → x.tables ≡ y.tables → x.live ≡ y.live → x.staged ≡ y.staged → x.next ≡ y.next → x.pulled ≡ y.pulled → x.faults ≡ y.faults → x ≡ y
     same_ledger x y a b c d e f = λ i. record { tables = a i; live = b i; staged = c i; next = d i; pulled = e i; faults = f i }
 
--- where nothing was offered, no row is left out
-none_left : (rows : List TableRow) → All (λ r. meets_all [] [] r.cells ≡ false) rows → rows ≡ []
-none_left [] a = refl
-none_left (r ∷ rs) a = absurd (false≢true (sym (All-head (λ r. meets_all [] [] r.cells ≡ false) r rs a)))
-
--- the rows that a scan shows
-shown_all : (spec : Spec) (taken : List TableRow) → cells_of (map (shown spec) taken) ≡ map (λ r. shown_cells spec r.cells) taken
-shown_all spec [] = refl
-shown_all spec (r ∷ rs) = ap (λ (l : List Tuple). shown_cells spec r.cells ∷ l) (shown_all spec rs)
-
--- the rows to come of a scan without restrictions are the table's
-pub all_come : (rows : List TableRow) (spec : Spec) (params : Tuple) (coming : List GivenRow) → spec.offered ≡ [] → params ≡ [] → IsComing rows spec params coming → (taken : List TableRow) × IsPermutation rows taken × (cells_of coming ≡ map (λ r. shown_cells spec r.cells) taken)
-all_come rows spec params coming none no_params c =
-    let out : c.left_out ≡ [] = none_left c.left_out
-    (subst (λ (l : List Filter). All (λ r. meets_all l [] r.cells ≡ false) c.left_out) none (subst (λ (l : Tuple). All (λ r. meets_all spec.offered l r.cells ≡ false) c.left_out) no_params c.failing)) in
-    (c.taken, subst (λ (l : List TableRow). IsPermutation rows l) (ap (λ (l : List TableRow). c.taken ++ l) out ∙ append-nil c.taken) c.parts, ap cells_of c.is ∙ shown_all spec c.taken)
-
 pub reads : (t n : ℕ) (spec : Spec) (old begun last new : BoxState) (given : List Tuple) → Begins old t spec [] n begun → GivesAll n begun given last → Ends last n new → RunsScan old t spec given new
 reads t n spec old begun last new given b g e = record {
   nature = e.nature ∙ g.keeps.nature ∙ b.nature;
@@ -241,36 +218,13 @@ reads t n spec old begun last new given b g e = record {
   rows = λ h. (begun.content.coming n, b.coming h, sym (g.all (honest_on old begun b.nature h)));
 }
 
--- where nothing was offered the rows are the table's
-pub plain_scan : (t : ℕ) (spec : Spec) (given : List Tuple) (old new : BoxState) → spec.offered ≡ [] → RunsScan old t spec given new → ScansTable old t spec given new
-plain_scan t spec given old new none r = record {
-  nature = r.nature;
-  room = r.room;
-  ledger = r.ledger;
-  leaves = r.leaves;
-  rows = λ h. let w = r.rows h in let all = all_come (rows_of old t) spec [] w.0 none refl w.1 in (all.0, all.1, w.2 ∙ all.2);
-}
-
--- a scan that is not narrow shows the rows whole
-pub reads_whole : (t : ℕ) (spec : Spec) (given : List Tuple) (old new : BoxState) → spec.narrow ≡ false → ScansTable old t spec given new → ReadsTable old t given new
-reads_whole t spec given old new wide s = record {
-  nature = s.nature;
-  room = s.room;
-  ledger = s.ledger;
-  leaves = s.leaves;
-  rows = λ h.
-      let w = s.rows h in
-      let whole : given ≡ map (λ r. r.cells) w.0 = w.2 ∙ ap (λ (b : Bool). map (λ (r : TableRow). if b then pick spec.wanted r.cells else r.cells) w.0) wide in
-      subst (λ (l : List Tuple). IsPermutation (tuples_of old t) l) (sym whole) (IsPermutation-map (λ (r : TableRow). r.cells) (rows_of old t) w.0 w.1);
-}
-
 -- after a begun scan the fault has no cause
 uncaused : (fault : Fault) (next : ℕ) → not_refused fault → BeginCause fault next
 uncaused NoMemory next h = tt
 uncaused Source next h = tt
 uncaused (Refused c) next h = absurd h
 
-pub fails : (t n : ℕ) (spec : Spec) (params : Tuple) (fault : Fault) (old begun last new : BoxState) → Begins old t spec params n begun → StopsBy n fault begun last → Ends last n new → FailsTable fault old new
+pub fails : (t n : ℕ) (spec : Spec) (params : Tuple) (fault : Fault) (old begun last new : BoxState) → Begins old t spec params n begun → StopsBy n fault begun last → Ends last n new → FailsScan fault old new
 fails t n spec params fault old begun last new b g e = record {
   nature = e.nature ∙ g.keeps.nature ∙ b.nature;
   next = old.ledger.next + 1;
@@ -283,7 +237,7 @@ fails t n spec params fault old begun last new b g e = record {
   cause = uncaused fault old.ledger.next g.no_cause;
 }
 
-pub begin_fails : (fault : Fault) (old new : BoxState) → RefusesBegin fault old new → FailsTable fault old new
+pub begin_fails : (fault : Fault) (old new : BoxState) → RefusesBegin fault old new → FailsScan fault old new
 begin_fails fault old new r = record {
   nature = r.refuses.nature;
   next = r.refuses.next;
@@ -300,31 +254,6 @@ pub ok_reads : {T : Type 0} (rows : T → List Tuple) (t n : ℕ) (spec : Spec) 
 ok_reads rows t n spec old begun last new (Ok x) b g e = reads t n spec old begun last new (rows x) b g e
 ok_reads rows t n spec old begun last new (Err f) b g e = tt
 
-pub err_fails : {T : Type 0} (t n : ℕ) (spec : Spec) (params : Tuple) (old begun last new : BoxState) (r : Result T Fault) → Begins old t spec params n begun → IfErr r (λ f. StopsBy n f begun last) → Ends last n new → IfErr r (λ f. FailsTable f old new)
+pub err_fails : {T : Type 0} (t n : ℕ) (spec : Spec) (params : Tuple) (old begun last new : BoxState) (r : Result T Fault) → Begins old t spec params n begun → IfErr r (λ f. StopsBy n f begun last) → Ends last n new → IfErr r (λ f. FailsScan f old new)
 err_fails t n spec params old begun last new (Ok x) b g e = tt
 err_fails t n spec params old begun last new (Err f) b g e = fails t n spec params f old begun last new b g e
-
-pub live_after : (n : ℕ) (s : BoxState) (x : Scan) → scan_of s n ≡ Some x → IsSome (scan_of s n)
-live_after n s x is = subst IsSome (sym is) refl
-
-pub selects : (t : ℕ) (places : List ℕ) (rows given : List Tuple) (old new : BoxState) → given ≡ map (pick places) rows → ReadsTable old t rows new → SelectsTable old t places given new
-selects t places rows given old new is r = record {
-  rows = rows;
-  reads = r;
-  projected = is;
-  any_order = λ h. subst (λ (l : List Tuple). IsPermutation (map (pick places) (tuples_of old t)) l) (sym is) (IsPermutation-map (pick places) (tuples_of old t) rows (r.rows h));
-}
-
--- the table was read, and memory was refused after it
-pub reads_in_vain : (t : ℕ) (spec : Spec) (rows : List Tuple) (old new : BoxState) → RunsScan old t spec rows new → FailsTable NoMemory old new
-reads_in_vain t spec rows old new r = record {
-  nature = r.nature;
-  next = old.ledger.next + 1;
-  rises = omega arith;
-  stays = λ e. let k : old.ledger.next < 2 ^ 64 - 1 = r.room in omega (arith, e, k);
-  given = length rows;
-  once = inr refl;
-  ledger = r.ledger;
-  leaves = r.leaves;
-  cause = tt;
-}

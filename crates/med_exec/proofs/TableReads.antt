@@ -1,6 +1,5 @@
 -- Tables that were read one after another.
-use Rattle.std.proofs.Common.{◌≡◌, ℕ, zero, suc, ◌+◌, ◌<◌, ◌≤◌, ◌-◌, ◌^◌, inl, inr, List, [], ◌∷◌, ◌++◌, take, length, get_or, slice_index_or, Option, Some, None, slice_get, refl, ap, sym, ◌∙◌, subst, arith, Contains}
-use Rattle.std.proofs.lemmas.List.{take_more}
+use Rattle.std.proofs.Common.{◌≡◌, ℕ, zero, suc, ◌+◌, ◌<◌, ◌≤◌, ◌-◌, ◌^◌, inl, inr, List, [], ◌∷◌, ◌++◌, length, get_or, slice_index_or, Option, Some, None, slice_get, refl, ap, sym, ◌∙◌, subst, arith, Contains}
 use Rattle.med_value.specs.Datum.{Tuple}
 use Rattle.med_value.specs.declared.cause.Cause.{Cause}
 use Rattle.med_value.specs.declared.cause.Cause.TheVariants.{OutOfRange, DivisionByZero, TooLarge}
@@ -20,7 +19,7 @@ use Rattle.med_planner.specs.declared.plans.Plan.{Plan}
 use Rattle.med_planner.specs.Planned.{entry_rows, QueryCauses, MayGive, AllMayGive, in_order, IsPlanOf}
 use Rattle.med_exec.specs.Reading.{cells_of}
 use Rattle.med_exec.specs.Slots.{BoxAt, ChangesAt}
-use Rattle.med_exec.specs.Scanning.{RunsScan, FailsTable}
+use Rattle.med_exec.specs.Scanning.{RunsScan, FailsScan}
 use Rattle.med_exec.specs.Running.{none_held, AllServed, SlotShows, AllHonest, AllBegin, Stops, lacks_memory, source_fails, numbers_end, query_shows, Begun}
 use Rattle.med_exec.specs.Refusing.{refusal}
 use Rattle.med_query.specs.Answering.{IsSmall, IsShown}
@@ -54,13 +53,11 @@ gives_before old mid d s rows honest at now gives =
     let come : MayGive (Some (Some at.before)) d rows = (w.0, subst (λ (l : List TableRow). IsComing l (spec_of d.spec) [] w.0) here w.1, w.2) in
     subst (λ (x : Option (Option BoxState)). MayGive x d rows) (sym at.was) come
 
-pub read_next : (old mid new : List (Option BoxState)) (scans : List EntryScan) (i : ℕ) (d : EntryScan) (lists : List (List Tuple)) (rows : List Tuple) → i < length scans → d ≡ get_or scans i d → AllServed old mid → ChangesAt mid d.source (λ a b. RunsScan a d.table.number (spec_of d.spec) rows b) new
-    → (AllHonest old → AllMayGive old (take i scans) lists) → AllHonest old → AllMayGive old (take (i + 1) scans) (lists ++ rows ∷ [])
-read_next old mid new scans i d lists rows lt e s c inv honest =
-    let more : take (i + 1) scans ≡ take i scans ++ d ∷ [] = take_more scans i d lt ∙ ap (λ (x : EntryScan). take i scans ++ x ∷ []) (sym e) in
+pub read_next : (old mid new : List (Option BoxState)) (ss : List EntryScan) (d : EntryScan) (lists : List (List Tuple)) (rows : List Tuple) → AllServed old mid → ChangesAt mid d.source (λ a b. RunsScan a d.table.number (spec_of d.spec) rows b) new
+    → (AllHonest old → AllMayGive old ss lists) → AllHonest old → AllMayGive old (ss ++ d ∷ []) (lists ++ rows ∷ [])
+read_next old mid new ss d lists rows s c inv honest =
     let at = before_service none_held none_held old mid d.source c.before s c.there in
-    subst (λ (ss : List EntryScan). AllMayGive old ss (lists ++ rows ∷ [])) (sym more)
-    (read_more old (take i scans) lists d rows (inv honest) (gives_before old mid d c.before rows honest at c.there c.change.rows))
+    read_more old ss lists d rows (inv honest) (gives_before old mid d c.before rows honest at c.there c.change.rows)
 
 -- a scan that failed after others
 source_shows : (old mid new : List (Option BoxState)) (slot : ℕ) (P Q : BoxState → BoxState → Type 0) → AllServed old mid → ChangesAt mid slot P new → ((a b c : BoxState) → ServedAlone a b → P b c → Q a c) → SlotShows old new Q
@@ -76,13 +73,13 @@ source_shows old mid new slot P Q s c f =
       shows = f at.before c.before c.after (subst (λ (x : BoxState). ServedAlone at.before x) same at.served) c.change;
     }
 
-used_up : (x : Cause) (a b c : BoxState) → ServedAlone a b → FailsTable (Refused x) b c → c.ledger.next ≡ 2 ^ 64 - 1
+used_up : (x : Cause) (a b c : BoxState) → ServedAlone a b → FailsScan (Refused x) b c → c.ledger.next ≡ 2 ^ 64 - 1
 used_up x a b c s r = ap (λ (z : Ledger). z.next) r.ledger ∙ r.stays r.cause.1
 
-pub read_stops : (old mid new : List (Option BoxState)) (slot : ℕ) (fault : Fault) → AllServed old mid → ChangesAt mid slot (λ a b. FailsTable fault a b) new → (q : Query) (entries : List Place) → Stops q entries fault old new
+pub read_stops : (old mid new : List (Option BoxState)) (slot : ℕ) (fault : Fault) → AllServed old mid → ChangesAt mid slot (λ a b. FailsScan fault a b) new → (q : Query) (entries : List Place) → Stops q entries fault old new
 read_stops old mid new slot NoMemory s c q entries = lacks_memory refl
-read_stops old mid new slot Source s c q entries = source_fails refl (source_shows old mid new slot (λ a b. FailsTable Source a b) _ s c fails_counted)
-read_stops old mid new slot (Refused x) s c q entries = numbers_end (ap Refused c.change.cause.0) (source_shows old mid new slot (λ a b. FailsTable (Refused x) a b) _ s c (used_up x))
+read_stops old mid new slot Source s c q entries = source_fails refl (source_shows old mid new slot (λ a b. FailsScan Source a b) _ s c fails_counted)
+read_stops old mid new slot (Refused x) s c q entries = numbers_end (ap Refused c.change.cause.0) (source_shows old mid new slot (λ a b. FailsScan (Refused x) a b) _ s c (used_up x))
 
 -- the faults of a plan's query over the rows that were read
 pub shown_stops : (q : Query) (entries : List Place) (plan : Plan) (bad : AnswerFault) (lists : List (List Tuple)) (old new : List (Option BoxState)) → IsPlanOf q entries old plan → (AllHonest old → AllMayGive old plan.scans.items lists) → IsShown bad (query_of plan.select) (in_order lists)

@@ -4,4 +4,5 @@ pub mod Scanning
 pub mod Restricted
 pub mod Refusing
 pub mod Running
+pub mod Counting
 pub mod Rests

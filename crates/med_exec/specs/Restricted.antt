@@ -1,13 +1,11 @@
--- Reading the rows of a table of which restrictions are true, whatever the wrapper took over: what it did not is checked again.
-use Rattle.std.specs.Prelude.{◌≡◌, ◌+◌, ◌-◌, ◌^◌, ◌<◌, ℕ, zero, suc, Bool, true, false, ◌&&◌, if◌then◌else◌, nat_eq, List, [], ◌∷◌, ◌++◌, Some, IsSome, map, filter, All, IsPermutation}
+-- Checking again what a wrapper did not take over: the rows of a scan that pass are those of which all restrictions are true.
+use Rattle.std.specs.Prelude.{◌≡◌, ℕ, zero, suc, Bool, true, false, ◌&&◌, if◌then◌else◌, nat_eq, List, [], ◌∷◌, ◌++◌, map, filter, All, IsPermutation}
 use Rattle.std.specs.List.{list_all, list_any}
 use Rattle.med_value.specs.Datum.{Tuple}
-use Rattle.fdw_api.specs.Scan.{Spec, Filter, TableRow, cell, checks, meets_all, params_fit, pick, shown_cells}
-use Rattle.fdw_api.specs.State.{Bound, BoxState, is_honest, table_of, rows_of}
-use Rattle.fdw_api.specs.Calls.{LeavesAll}
+use Rattle.fdw_api.specs.Scan.{Spec, Filter, GivenRow, TableRow, cell, checks, meets_all, shown_cells}
 use Rattle.fdw_api.specs.declared.scan.Agree.{Agree}
 use Rattle.fdw_api.specs.declared.scan.Agree.TheVariants.{Ignored, Hint, Exact}
-use Rattle.med_exec.specs.Reading.{pulled_after, GivesAll}
+use Rattle.med_exec.specs.Reading.{cells_of}
 
 -- the list parts into these, which pass, and others, which do not
 pub record Selects {X : Type 0} (p : X → Bool) (rows selected : List X) : Type 0 where
@@ -29,6 +27,10 @@ place_shown spec column = if spec.narrow then place_in spec.wanted column else c
 abbrev pub all_wanted : List ℕ → List Filter → Bool
 all_wanted wanted offered = list_all (λ f. list_any (λ w. nat_eq w f.column) wanted) offered
 
+-- the scan shows the column of each of these restrictions
+abbrev pub ShowsAll : Spec → List Filter → Type 0
+ShowsAll spec offered = spec.narrow ≡ true → all_wanted spec.wanted offered ≡ true
+
 -- a restriction is true of a row as the scan shows it
 abbrev pub meets_shown : Spec → Tuple → Tuple → Filter → Bool
 meets_shown spec params cells f = checks params f.check (cell cells (place_shown spec f.column))
@@ -44,33 +46,9 @@ meets_rest spec params cells (f ∷ fs) (Hint ∷ answers) = meets_shown spec pa
 abbrev pub checked : Spec → Tuple → Tuple → Bool
 checked spec params cells = meets_rest spec params cells spec.offered spec.answers
 
--- a scan was read to its end, and these of its rows passed
-pub record GivesChecked (number : ℕ) (old : BoxState) (spec : Spec) (params : Tuple) (rows : List Tuple) (new : BoxState) : Type 0 where
-  pub given : List Tuple
-  pub all : GivesAll number old given new
-  pub kept : rows ≡ filter (checked spec params) given
-
--- one scan was begun, read and ended. These are exactly the rows of the table of which all restrictions are true, each once, as the scan
--- shows them, in any order
-pub record ReadsRestricted (old : BoxState) (table : ℕ) (spec : Spec) (params : Tuple) (rows : List Tuple) (new : BoxState) : Type 0 where
-  pub nature : new.nature ≡ old.nature
-  pub room : old.ledger.next < 2 ^ 64 - 1
-  pub given : ℕ
-  pub ledger : new.ledger ≡ record old.ledger { next = old.ledger.next + 1; pulled = pulled_after given old.ledger.pulled }
-  pub leaves : is_honest old → LeavesAll old new
-  pub selected : is_honest old → (selected : List TableRow) × Selects (λ r. meets_all spec.offered params r.cells) (rows_of old table) selected × (rows ≡ map (λ r. shown_cells spec r.cells) selected)
-
--- a bound table, and parameters of its columns' types for these restrictions
-pub record CanSelect (s : BoxState) (table : ℕ) (offered : List Filter) (params : Tuple) : Type 0 where
-  pub is_bound : IsSome (table_of s table)
-  pub typed : (bound : Bound) → table_of s table ≡ Some bound → params_fit bound.kinds offered params ≡ true
-
--- SELECT wanted columns FROM table WHERE all restrictions are true: one scan was begun, read and ended. These are the wanted cells of
--- exactly the rows of the table of which all restrictions are true, each once, in any order
-pub record SelectsRestricted (old : BoxState) (table : ℕ) (wanted : List ℕ) (offered : List Filter) (params : Tuple) (rows : List Tuple) (new : BoxState) : Type 0 where
-  pub nature : new.nature ≡ old.nature
-  pub room : old.ledger.next < 2 ^ 64 - 1
-  pub given : ℕ
-  pub ledger : new.ledger ≡ record old.ledger { next = old.ledger.next + 1; pulled = pulled_after given old.ledger.pulled }
-  pub leaves : is_honest old → LeavesAll old new
-  pub selected : is_honest old → (selected : List TableRow) × Selects (λ r. meets_all offered params r.cells) (rows_of old table) selected × (rows ≡ map (λ r. pick wanted r.cells) selected)
+-- Of the rows that a scan gives, those that pass are exactly the rows of the table of which all restrictions are true, each once, as the scan
+-- shows them, in the order in which they came.
+pub record AreRestricted (rows : List TableRow) (spec : Spec) (params : Tuple) (coming : List GivenRow) : Type 0 where
+  pub selected : List TableRow
+  pub selects : Selects (λ r. meets_all spec.offered params r.cells) rows selected
+  pub passed : filter (checked spec params) (cells_of coming) ≡ map (λ r. shown_cells spec r.cells) selected

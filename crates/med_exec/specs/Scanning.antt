@@ -1,20 +1,11 @@
--- Reading a table whole: BeginForeignScan, IterateForeignScan until no row is left or one fails, EndForeignScan.
-use Rattle.std.specs.Prelude.{◌≡◌, ◌+◌, ◌-◌, ◌^◌, ◌<◌, ◌≤◌, ◌⊎◌, ℕ, List, [], map, length, IsPermutation}
+-- Reading what a scan gives: BeginForeignScan, IterateForeignScan until no row is left or one fails, EndForeignScan.
+use Rattle.std.specs.Prelude.{◌≡◌, ◌+◌, ◌-◌, ◌^◌, ◌<◌, ◌≤◌, ◌⊎◌, ℕ, List, [], length}
 use Rattle.med_value.specs.Datum.{Tuple}
-use Rattle.fdw_api.specs.Scan.{Spec, GivenRow, TableRow, IsComing, pick, shown_cells}
+use Rattle.fdw_api.specs.Scan.{Spec, GivenRow, IsComing}
 use Rattle.fdw_api.specs.State.{BoxState, is_honest, rows_of}
 use Rattle.fdw_api.specs.Calls.{LeavesAll, faults_after, BeginCause}
 use Rattle.fdw_api.specs.declared.interface.Fault.{Fault}
-use Rattle.med_planner.specs.Planned.{tuples_of}
 use Rattle.med_exec.specs.Reading.{pulled_after, cells_of}
-
--- one scan was begun, gave these rows and was ended: they are the table's, each once, in any order
-pub record ReadsTable (old : BoxState) (table : ℕ) (given : List Tuple) (new : BoxState) : Type 0 where
-  pub nature : new.nature ≡ old.nature
-  pub room : old.ledger.next < 2 ^ 64 - 1
-  pub ledger : new.ledger ≡ record old.ledger { next = old.ledger.next + 1; pulled = pulled_after (length given) old.ledger.pulled }
-  pub leaves : is_honest old → LeavesAll old new
-  pub rows : is_honest old → IsPermutation (tuples_of old table) given
 
 -- one scan by this specification, without parameters, was begun, gave these rows and was ended: they are some that it may give, whatever the
 -- wrapper took over
@@ -25,18 +16,9 @@ pub record RunsScan (old : BoxState) (table : ℕ) (spec : Spec) (given : List T
   pub leaves : is_honest old → LeavesAll old new
   pub rows : is_honest old → (coming : List GivenRow) × IsComing (rows_of old table) spec [] coming × (given ≡ cells_of coming)
 
--- one scan by this agreement, for which no restriction was offered, was begun, gave these rows and was ended: they are the table's, each
--- once, in any order, as the scan shows them
-pub record ScansTable (old : BoxState) (table : ℕ) (spec : Spec) (given : List Tuple) (new : BoxState) : Type 0 where
-  pub nature : new.nature ≡ old.nature
-  pub room : old.ledger.next < 2 ^ 64 - 1
-  pub ledger : new.ledger ≡ record old.ledger { next = old.ledger.next + 1; pulled = pulled_after (length given) old.ledger.pulled }
-  pub leaves : is_honest old → LeavesAll old new
-  pub rows : is_honest old → (taken : List TableRow) × IsPermutation (rows_of old table) taken × (given ≡ map (λ r. shown_cells spec r.cells) taken)
-
 -- a fault stood against the scan: it was not begun and gave no row, or was begun, gave some rows and was ended. 54000 comes only where
 -- ticket numbers were used up, and a source's fault is counted
-pub record FailsTable (fault : Fault) (old new : BoxState) : Type 0 where
+pub record FailsScan (fault : Fault) (old new : BoxState) : Type 0 where
   pub nature : new.nature ≡ old.nature
   pub next : ℕ
   pub rises : old.ledger.next ≤ next
@@ -46,10 +28,3 @@ pub record FailsTable (fault : Fault) (old new : BoxState) : Type 0 where
   pub ledger : new.ledger ≡ record old.ledger { next = next; pulled = pulled_after given old.ledger.pulled; faults = faults_after fault old.ledger.faults }
   pub leaves : is_honest old → LeavesAll old new
   pub cause : BeginCause fault old.ledger.next
-
--- SELECT columns FROM table: the table was read, and each row given is cut to these columns, in this order
-pub record SelectsTable (old : BoxState) (table : ℕ) (places : List ℕ) (given : List Tuple) (new : BoxState) : Type 0 where
-  pub rows : List Tuple
-  pub reads : ReadsTable old table rows new
-  pub projected : given ≡ map (pick places) rows
-  pub any_order : is_honest old → IsPermutation (map (pick places) (tuples_of old table)) given

@@ -8,15 +8,10 @@
 //! box holds stays as it is: a run changes nothing but the counts and its own scans, and leaves none live once it is closed.
 #![tactic(auto)]
 
-pub mod columns;
 pub mod law;
-pub mod restricted;
 pub mod running;
-pub mod scans;
+mod scans;
 pub mod slots;
 
-pub use columns::project;
-pub use restricted::{read_restricted, select_restricted};
 pub use running::{Run, plan_at, start};
-pub use scans::{read_scan, read_table, select_table};
 pub use slots::{bind_at, ledger_at, unbind_at};

@@ -1,13 +1,13 @@
 use Rattle.std.proofs.Common.{map, take}
-use Rattle.med_planner.specs.Planned.{AllMayGive}
 use Rattle.med_exec.specs.Slots.{states}
 use Rattle.med_query.specs.Staging.{tuples_in}
-use Rattle.med_exec.specs.Running.{AllHonest, AllServed}
+use Rattle.med_exec.specs.Running.{AllServed}
+use Rattle.med_exec.specs.Counting.{ReadsEach}
 use Rattle.med_exec.proofs.running.read_scans.Given as goal
 
 abbrev pub invariant-loop-scan : goal.invariant-loop-scan
 invariant-loop-scan g l =
     record {
       served : AllServed (states g.W.Wrapper.meaning l.fn.slots.items) (states g.W.Wrapper.meaning l.slots.items);
-      read : AllHonest (states g.W.Wrapper.meaning l.fn.slots.items) → AllMayGive (states g.W.Wrapper.meaning l.fn.slots.items) (take l.scan-index l.scans) (map tuples_in l.tables.items);
+      read : ReadsEach (take l.scan-index l.scans) (map tuples_in l.tables.items) (states g.W.Wrapper.meaning l.fn.slots.items) (states g.W.Wrapper.meaning l.slots.items);
     }

@@ -1,7 +1,7 @@
 use Rattle.std.proofs.Common.{map}
 use Rattle.med_value.specs.Datum.{tuple}
 use Rattle.fdw_api.specs.Scan.{spec_of}
-use Rattle.med_exec.specs.Scanning.{RunsScan, FailsTable}
+use Rattle.med_exec.specs.Scanning.{RunsScan, FailsScan}
 use Rattle.med_exec.proofs.SlotLemmas.{read_at, held_at, not_dropped, ok_changes, err_changes}
 use Rattle.med_exec.proofs.scans.read_scan.Goals as goal
 
@@ -25,4 +25,4 @@ returns-clause-err g c =
     let xs = c.args.slots.now.items in
     let i = c.args.scan.now.source in
     let at = read_at m _ xs i _ _ c.requires c.index_mut.ensures.value c.in-Some.is in
-    err_changes m FailsTable xs i c.in-Some.b c.scan_box.new.b c.scan_box.result at c.scan_box.ensures.err
+    err_changes m FailsScan xs i c.in-Some.b c.scan_box.new.b c.scan_box.result at c.scan_box.ensures.err

@@ -1,12 +1,10 @@
--- Scans of a table of the box in a slot, one after the other.
+-- A table of the box in a slot, bound and let go.
 use Rattle.std.proofs.Common.{◌≡◌, ℕ, List, [], Option, Some, None, IsSome, refl, sym, ◌∙◌, ap, subst, rules}
 use Rattle.std.specs.FinMap as finmap
-use Rattle.med_value.specs.Datum.{Tuple}
 use Rattle.fdw_api.specs.Kinds.{Column, Setting}
 use Rattle.fdw_api.specs.State.{BoxState, IsIdle, set_at}
 use Rattle.fdw_api.specs.Calls.{CanBind, Binds, CanUnbind}
-use Rattle.med_exec.specs.Slots.{BoxAt, ChangesAt, HasTable}
-use Rattle.med_exec.specs.Scanning.{ReadsTable, SelectsTable}
+use Rattle.med_exec.specs.Slots.{BoxAt, ChangesAt}
 use Rattle.med_session.specs.Engine.{TakesColumns}
 
 some_inj : {A : Type 0} (a b : A) → Some a ≡ Some b → a ≡ b
@@ -52,19 +50,3 @@ new_can_bind boxes slot remote columns = follows_at _ _ boxes slot (λ s q. take
 
 pub bound_rests : (old new : List (Option BoxState)) (slot t : ℕ) (remote : List ℕ) (columns : List Column) (settings : List Setting) → BoxAt old slot (λ s. IsIdle s × TakesColumns s) → ChangesAt old slot (λ s r. Binds s remote columns settings t r) new → BoxAt new slot (λ s. CanUnbind s t)
 bound_rests old new slot t remote columns settings = moves_on _ _ _ old new slot (λ s r q b. bound_can_unbind s r remote columns settings t q.0 b)
-
-pub rests_has_table : (boxes : List (Option BoxState)) (slot t : ℕ) → BoxAt boxes slot (λ s. CanUnbind s t) → HasTable boxes slot t
-rests_has_table boxes slot t = follows_at _ _ boxes slot (λ s q. q.is_bound)
-
-read_rests : (old new : BoxState) (t u : ℕ) (rows : List Tuple) → CanUnbind old t → ReadsTable old u rows new → CanUnbind new t
-read_rests old new t u rows q r = record {
-  is_bound = subst IsSome (sym (ap (λ z. z.tables t) r.ledger)) q.is_bound;
-  no_scan = λ n scan is. q.no_scan n scan (sym (ap (λ z. finmap.get z.live n) r.ledger) ∙ is);
-  not_staged = ap (λ z. z.staged) r.ledger ∙ q.not_staged;
-}
-
-pub reading_rests : (old new : List (Option BoxState)) (slot t u : ℕ) (rows : List Tuple) → BoxAt old slot (λ s. CanUnbind s t) → ChangesAt old slot (λ s r. ReadsTable s u rows r) new → BoxAt new slot (λ s. CanUnbind s t)
-reading_rests old new slot t u rows = moves_on _ _ _ old new slot (λ s r q c. read_rests s r t u rows q c)
-
-pub selecting_rests : (old new : List (Option BoxState)) (slot t u : ℕ) (places : List ℕ) (rows : List Tuple) → BoxAt old slot (λ s. CanUnbind s t) → ChangesAt old slot (λ s r. SelectsTable s u places rows r) new → BoxAt new slot (λ s. CanUnbind s t)
-selecting_rests old new slot t u places rows = moves_on _ _ _ old new slot (λ s r q c. read_rests s r t u c.rows q c.reads)
