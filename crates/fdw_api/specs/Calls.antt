@@ -1,5 +1,5 @@
 -- What each call of a wrapper asks, and how the wrapper stands after it. `old` is before the call and `new` after it.
-use Rattle.std.specs.Prelude.{◌≡◌, ◌≢◌, ◌+◌, ◌-◌, ◌^◌, ◌<◌, ◌≤◌, ℕ, true, false, List, [], ◌∷◌, Option, Some, None, IsSome, min, map, Contains, IsPermutation, nat_eq}
+use Rattle.std.specs.Prelude.{◌≡◌, ◌≢◌, ◌+◌, ◌-◌, ◌^◌, ◌<◌, ◌≤◌, ℕ, true, false, List, [], ◌∷◌, Option, Some, None, IsSome, min, map, Contains, nat_eq}
 use Rattle.std.specs.List.{IsDistinct}
 use Rattle.std.specs.FinMap as finmap
 use Rattle.med_value.specs.Datum.{Tuple, tuple}
@@ -7,8 +7,9 @@ use Rattle.med_value.specs.declared.cause.Cause.{Cause}
 use Rattle.med_value.specs.declared.cause.Cause.TheVariants.{LimitExceeded}
 use Rattle.med_value.specs.Causes.{phase_of}
 use Rattle.fdw_api.specs.declared.scan.ScanSpec.{ScanSpec}
-use Rattle.fdw_api.specs.Scan.{Spec, spec_of, filter_of, GivenRow, IsComing, params_fit}
-use Rattle.fdw_api.specs.Kinds.{Column, Setting, Entry, Holding, Known, Unknown, held}
+use Rattle.med_value.specs.declared.value.ColType.{ColType}
+use Rattle.fdw_api.specs.Scan.{Spec, spec_of, filter_of, GivenRow, IsComing, params_fit, shown_fits}
+use Rattle.fdw_api.specs.Kinds.{Column, Setting, Entry, Holding, Known, Unknown, held, kinds_of, is_late}
 use Rattle.fdw_api.specs.State.{Bound, Scan, BoxState, is_honest, table_of, scan_of, rows_of, set_at}
 use Rattle.fdw_api.specs.declared.interface.Fault.{Fault}
 use Rattle.fdw_api.specs.declared.interface.Fault.TheVariants.{NoMemory, Source, Refused}
@@ -50,13 +51,14 @@ LeavesOthers number = Leaves (λ q. q ≡ number) none_of none_of
 abbrev pub NoScan : BoxState → ℕ → Type 0
 NoScan s t = (q : ℕ) (scan : Scan) → scan_of s q ≡ Some scan → scan.table ≢ t
 
--- a call that may open something is refused: nothing changes but `faults` and, in a wrapper round another, `next`, which may rise, but
--- not past its end
+-- a call that may open something is refused: nothing changes but `faults` and, in a wrapper whose refused calls may use numbers up, `next`,
+-- which may rise, but not past its end
 pub record Refuses (fault : Fault) (old new : BoxState) : Type 0 where
   pub nature : new.nature ≡ old.nature
   pub next : ℕ
   pub rises : old.ledger.next ≤ next
   pub stays : old.ledger.next ≡ 2 ^ 64 - 1 → next ≡ 2 ^ 64 - 1
+  pub keeps : old.nature.skips ≡ false → next ≡ old.ledger.next
   pub ledger : new.ledger ≡ record old.ledger { next = next; faults = faults_after fault old.ledger.faults }
   pub leaves : is_honest old → LeavesAll old new
 
@@ -71,21 +73,22 @@ pub record CanBind (s : BoxState) (remote : List ℕ) (columns : List Column) (s
   pub no_objection : s.nature.kind.objections columns settings ≡ []
 
 -- bound: a new table number stands for the remote table with the columns' types; its rows are what the kind reads from the entry, in
--- some order, each under an id of its own
+-- that order, each under an id of its own
 pub record Binds (old : BoxState) (remote : List ℕ) (columns : List Column) (settings : List Setting) (t : ℕ) (new : BoxState) : Type 0 where
   pub nature : new.nature ≡ old.nature
   pub fresh : table_of old t ≡ None
   pub bound : Bound
   pub remote_is : bound.remote ≡ remote
-  pub kinds_are : bound.kinds ≡ map (λ c. c.kind) columns
+  pub kinds_are : bound.kinds ≡ kinds_of columns
   pub line_is : bound.line ≡ old.nature.kind.line columns settings
   pub image_is : bound.image ≡ old.nature.kind.image columns settings
+  pub arrangement_is : bound.arrangement ≡ old.nature.kind.arrangement columns settings
   pub refuses_is : bound.refuses ≡ old.nature.kind.refuses columns settings
   pub ledger : new.ledger ≡ record old.ledger { tables = set_at old.ledger.tables t (Some bound) }
   pub entry : Option Entry
   pub picked : is_honest old → Picks (old.content.holdings remote) entry
   pub no_cause : is_honest old → (old.nature.kind.reads columns settings entry).causes ≡ []
-  pub rows : is_honest old → IsPermutation (map held (rows_of new t)) (old.nature.kind.reads columns settings entry).rows
+  pub rows : is_honest old → map held (rows_of new t) ≡ (old.nature.kind.reads columns settings entry).rows
   pub once : is_honest old → IsDistinct nat_eq (map (λ r. r.id) (rows_of new t))
   pub leaves : is_honest old → Leaves none_of (λ u. u ≡ t) none_of old new
 
@@ -96,10 +99,13 @@ pub record IsLeast (causes : List Cause) (c : Cause) : Type 0 where
   pub has : phase_of c ≡ Some phase
   pub least : (d : Cause) (p : ℕ) → Contains causes d → phase_of d ≡ Some p → phase ≤ p
 
--- a bind is refused by a cause of least phase that the kind's reading of the entry shows
+-- a bind is refused by a cause of state or of the run alone: of an honest wrapper, one of least phase that the kind's reading of the entry
+-- shows
 abbrev pub BindCause : BoxState → List ℕ → List Column → List Setting → Fault → Type 0
 BindCause old remote columns settings (Refused c) =
-    is_honest old → (entry : Option Entry) × Picks (old.content.holdings remote) entry × IsLeast (old.nature.kind.reads columns settings entry).causes c
+    (is_late (phase_of c) ≡ true)
+    × (is_honest old
+    → (entry : Option Entry) × Picks (old.content.holdings remote) entry × IsLeast (old.nature.kind.reads columns settings entry).causes c)
 BindCause old remote columns settings NoMemory = Unit {0}
 BindCause old remote columns settings Source = Unit {0}
 
@@ -134,17 +140,22 @@ pub record CanBegin (s : BoxState) (t : ℕ) (spec : ScanSpec) (params : Tuple) 
   pub typed : params_fit bound.kinds (map filter_of spec.offered.items) params ≡ true
 
 -- a scan that was just begun
-abbrev pub new_scan : ℕ → Spec → Tuple → ℕ → Scan
-new_scan t spec params left = record { table = t; spec = spec; params = params; left = left; broken = false }
+abbrev pub new_scan : ℕ → List ColType → Spec → Tuple → ℕ → Scan
+new_scan t kinds spec params left = record { table = t; kinds = kinds; spec = spec; params = params; left = left; broken = false }
 
--- begun (BeginForeignScan): the ticket has the next number, and its scan has some rows to come that the table and the scan allow
+-- begun (BeginForeignScan): the ticket has the next number, and its scan has some rows to come that the table and the scan allow, at most
+-- 2^64
 pub record Begins (old : BoxState) (t : ℕ) (spec : Spec) (params : Tuple) (number : ℕ) (new : BoxState) : Type 0 where
   pub nature : new.nature ≡ old.nature
   pub is_next : number ≡ old.ledger.next
   pub room : number < 2 ^ 64 - 1
   pub fresh : scan_of old number ≡ None
+  pub bound : Bound
+  pub is : table_of old t ≡ Some bound
   pub left : ℕ
-  pub ledger : new.ledger ≡ record old.ledger { live = finmap.insert old.ledger.live number (new_scan t spec params left); next = number + 1 }
+  pub few : left ≤ 2 ^ 64
+  pub ledger : new.ledger
+      ≡ record old.ledger { live = finmap.insert old.ledger.live number (new_scan t bound.kinds spec params left); next = number + 1 }
   pub coming : is_honest old → IsComing (rows_of old t) spec params (new.content.coming number)
   pub leaves : is_honest old → LeavesOthers number old new
 
@@ -169,13 +180,15 @@ not_refused NoMemory = Unit {0}
 not_refused Source = Unit {0}
 not_refused (Refused c) = ⊥
 
--- the first row to come is given (IterateForeignScan)
+-- the first row to come is given (IterateForeignScan). Its cells are of the types of the columns that it shows, also where nothing is known
+-- of the rows
 pub record GivesRow (old : BoxState) (number : ℕ) (row : GivenRow) (new : BoxState) : Type 0 where
   pub nature : new.nature ≡ old.nature
   pub scan : Scan
   pub at : scan_of old number ≡ Some scan
   pub left : ℕ
   pub fewer : left < scan.left
+  pub typed : shown_fits scan.kinds scan.spec row.cells ≡ true
   pub ledger : new.ledger ≡ record old.ledger { live = finmap.insert old.ledger.live number (record scan { left = left }); pulled = bumped old.ledger.pulled }
   pub coming : is_honest old → old.content.coming number ≡ row ∷ new.content.coming number
   pub leaves : is_honest old → LeavesOthers number old new
@@ -217,7 +230,9 @@ pub record Rescans (old : BoxState) (number : ℕ) (params : Tuple) (new : BoxSt
   pub scan : Scan
   pub at : scan_of old number ≡ Some scan
   pub left : ℕ
-  pub ledger : new.ledger ≡ record old.ledger { live = finmap.insert old.ledger.live number (new_scan scan.table scan.spec params left) }
+  pub few : left ≤ 2 ^ 64
+  pub ledger : new.ledger
+      ≡ record old.ledger { live = finmap.insert old.ledger.live number (new_scan scan.table scan.kinds scan.spec params left) }
   pub coming : is_honest old → IsComing (rows_of old scan.table) scan.spec params (new.content.coming number)
   pub leaves : is_honest old → LeavesOthers number old new
 

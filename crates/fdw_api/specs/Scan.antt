@@ -185,3 +185,19 @@ row_fits [] [] = true
 row_fits (k ∷ ks) (v ∷ vs) = has_kind k v && is_clean v && row_fits ks vs
 row_fits (k ∷ ks) [] = false
 row_fits [] (v ∷ vs) = false
+
+-- a cell of a column: of its type, without U+0000, and NULL where there is no such column
+abbrev pub cell_fits : Option ColType → Datum → Bool
+cell_fits None v = is_null v
+cell_fits (Some k) v = has_kind k v && is_clean v
+
+-- a cell for each of these columns
+abbrev pub cells_fit : List ColType → List ℕ → Tuple → Bool
+cells_fit kinds [] [] = true
+cells_fit kinds (c ∷ cs) (v ∷ vs) = cell_fits (slice_get kinds c) v && cells_fit kinds cs vs
+cells_fit kinds (c ∷ cs) [] = false
+cells_fit kinds [] (v ∷ vs) = false
+
+-- the cells of a row that a scan gives are of the types of the columns that it shows, without U+0000
+abbrev pub shown_fits : List ColType → Spec → Tuple → Bool
+shown_fits kinds spec cells = if spec.narrow then cells_fit kinds spec.wanted cells else row_fits kinds cells

@@ -7,16 +7,18 @@ use Rattle.std.specs.FinMap as map
 use Rattle.med_value.specs.Datum.{Tuple}
 use Rattle.med_value.specs.declared.value.ColType.{ColType}
 use Rattle.fdw_api.specs.Scan.{Spec, Filter, plain_spec, TableRow, GivenRow}
-use Rattle.fdw_api.specs.Kinds.{Kind, Holding, Entry, Held, Change, Refusals}
+use Rattle.fdw_api.specs.Kinds.{Kind, Holding, Entry, Held, Change, Arrangement, Refusals}
 
--- what a wrapper is for its whole life: its kind, and whether it tells the truth about rows
+-- what a wrapper is for its whole life: its kind, whether it tells the truth about rows, and whether a refused call of it may use ticket
+-- numbers up, as it may in a wrapper round another
 pub record Nature : Type 0 where
   pub kind : Kind
   pub honest : Bool
+  pub skips : Bool
 
 -- a bound table, without its rows: its remote name, the types of its columns, and the scans that it allows.
--- The scan of whole rows for which nothing is taken over is always allowed. `line`, `image` and `refuses` are what its kind says of
--- writes to a table of its columns and options
+-- The scan of whole rows for which nothing is taken over is always allowed. `line`, `image`, `arrangement` and `refuses` are what its kind
+-- says of writes to a table of its columns and options
 pub record Bound : Type 0 where
   pub remote : List ℕ
   pub kinds : List ColType
@@ -24,12 +26,14 @@ pub record Bound : Type 0 where
   pub allows_plain : (wanted : List ℕ) (offered : List Filter) → allows (plain_spec wanted offered) ≡ true
   pub line : Tuple → List (List ℕ)
   pub image : Option Entry → List Held → Option Entry
+  pub arrangement : Arrangement
   pub refuses : Refusals
 
--- a live scan, without its rows to come: its table, what it was asked for and its parameters. `left` falls with each row given,
--- so that every scan comes to an end; a broken scan is good for `end` alone
+-- a live scan, without its rows to come: its table and the types of its columns, what it was asked for and its parameters. `left` falls with
+-- each row given, so that every scan comes to an end; a broken scan is good for `end` alone
 pub record Scan : Type 0 where
   pub table : ℕ
+  pub kinds : List ColType
   pub spec : Spec
   pub params : Tuple
   pub left : ℕ

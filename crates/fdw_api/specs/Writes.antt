@@ -1,13 +1,14 @@
 -- What the calls that write ask, and how the wrapper stands after them. The changes of a write are staged, and made or given up together
 -- by `end_modify`. `old` is before the call and `new` after it.
-use Rattle.std.specs.Prelude.{◌≡◌, ℕ, Bool, true, false, not, if◌then◌else◌, List, [], ◌∷◌, ◌++◌, Some, None, IsSome, map, flat_map, Contains, IsPermutation, nat_eq}
+use Rattle.std.specs.Prelude.{◌≡◌, ℕ, Bool, true, false, not, if◌then◌else◌, List, [], ◌∷◌, ◌++◌, Option, Some, None, IsSome, map, flat_map, Contains, nat_eq}
 use Rattle.std.specs.List.{list_any, IsDistinct}
 use Rattle.med_value.specs.Datum.{Tuple}
 use Rattle.med_value.specs.declared.value.ColType.{ColType}
+use Rattle.med_value.specs.Causes.{phase_of}
 use Rattle.fdw_api.specs.Scan.{row_fits, TableRow}
-use Rattle.fdw_api.specs.Kinds.{Holding, Known, Unknown, Held, held, Change, Inserts, Updates, Deletes}
+use Rattle.fdw_api.specs.Kinds.{Entry, Holding, Known, Unknown, Held, held, Change, Inserts, Updates, Deletes, is_of_run}
 use Rattle.fdw_api.specs.State.{Bound, Staging, BoxState, is_honest, table_of, rows_of}
-use Rattle.fdw_api.specs.Calls.{Leaves, LeavesAll, none_of, NoScan, Refuses, not_refused, faults_after}
+use Rattle.fdw_api.specs.Calls.{Leaves, LeavesAll, none_of, NoScan, Refuses, Picks, not_refused, faults_after}
 use Rattle.fdw_api.specs.declared.interface.Fault.{Fault}
 use Rattle.fdw_api.specs.declared.interface.Fault.TheVariants.{NoMemory, Source, Refused}
 
@@ -79,12 +80,15 @@ pub record Stages (old : BoxState) (change : Change) (new : BoxState) : Type 0 w
   pub ledger : new.ledger ≡ record old.ledger { staged = Some (record staging { changes = staging.changes ++ change ∷ [] }) }
   pub leaves : is_honest old → LeavesAll old new
 
--- a change is refused by a cause that stands whatever changes follow it
+-- a change is refused by a cause of the run alone: of an honest wrapper, one that stands whatever changes follow it
 abbrev pub ChangeCause : BoxState → Staging → Change → Fault → Type 0
 ChangeCause old staging change NoMemory = Unit {0}
 ChangeCause old staging change Source = Unit {0}
 ChangeCause old staging change (Refused c) =
-    is_honest old → (bound : Bound) → table_of old staging.table ≡ Some bound → (more : List Change) → Contains (bound.refuses.causes (rows_of old staging.table) (staging.changes ++ change ∷ more)) c
+    (is_of_run (phase_of c) ≡ true)
+    × (is_honest old → (bound : Bound) → table_of old staging.table ≡ Some bound
+    → (entry : Option Entry) × Picks (old.content.holdings bound.remote) entry
+    × ((more : List Change) → Contains (bound.refuses.causes entry (rows_of old staging.table) (staging.changes ++ change ∷ more)) c))
 
 -- a change is refused: the write is broken, and good for giving up alone
 pub record RefusesChange (old : BoxState) (change : Change) (fault : Fault) (new : BoxState) : Type 0 where
@@ -116,22 +120,25 @@ inserted line (Inserts x) = record { cells = x; origin = line x } ∷ []
 inserted line (Updates id x) = []
 inserted line (Deletes id) = []
 
--- the rows after all changes: each old row as the changes leave it, and the inserted rows
+-- the rows after all changes: each old row as the changes leave it, in its place, and behind them the inserted rows, in the changes' order
 abbrev pub rows_after : (Tuple → List (List ℕ)) → List TableRow → List Change → List Held
 rows_after line rows changes = flat_map (λ r. row_after line r.id changes (held r ∷ [])) rows ++ flat_map (inserted line) changes
 
--- what stands under the remote name is the image of these rows in some order; what was unknown stays unknown
+-- what stands under the remote name is the image of these rows, in this order; what was unknown stays unknown
 abbrev pub HoldsImage : Bound → List Held → Holding → Holding → Type 0
 HoldsImage bound rows Unknown new = new ≡ Unknown
-HoldsImage bound rows (Known e) new = (ordered : List Held) × IsPermutation rows ordered × (new ≡ Known (bound.image e ordered))
+HoldsImage bound rows (Known e) new = new ≡ Known (bound.image e rows)
 
--- a kept write, where no cause stands for its changes: exactly they are made, each row has an id of its own, and the remote name holds
--- the rows, so that a later bind reads them
+-- a kept write, where no cause stands for its changes: exactly they are made, the rows stand in the order of their kind, each under an id of
+-- its own, and the remote name holds them in that order, so that a later bind reads them
 pub record Written (old : BoxState) (staging : Staging) (new : BoxState) : Type 0 where
   pub bound : Bound
   pub is : table_of old staging.table ≡ Some bound
-  pub no_cause : bound.refuses.causes (rows_of old staging.table) staging.changes ≡ []
-  pub rows : IsPermutation (rows_after bound.line (rows_of old staging.table) staging.changes) (map held (rows_of new staging.table))
+  pub entry : Option Entry
+  pub picked : Picks (old.content.holdings bound.remote) entry
+  pub no_cause : bound.refuses.causes entry (rows_of old staging.table) staging.changes ≡ []
+  pub rows : map held (rows_of new staging.table)
+      ≡ bound.arrangement.arranged (rows_after bound.line (rows_of old staging.table) staging.changes)
   pub once : IsDistinct nat_eq (map (λ r. r.id) (rows_of new staging.table))
   pub holdings : HoldsImage bound (map held (rows_of new staging.table)) (old.content.holdings bound.remote) (new.content.holdings bound.remote)
   pub leaves : Leaves none_of (λ t. t ≡ staging.table) (λ r. r ≡ bound.remote) old new
@@ -149,12 +156,15 @@ pub record Closes (old : BoxState) (keep : Bool) (new : BoxState) : Type 0 where
   pub ledger : new.ledger ≡ record old.ledger { staged = None }
   pub content : is_honest old → Outcome old keep staging new
 
--- the end of a write is refused by a cause that stands for its changes
+-- the end of a write is refused by a cause of the run alone: of an honest wrapper, one that stands for its changes
 abbrev pub CloseCause : BoxState → Staging → Fault → Type 0
 CloseCause old staging NoMemory = Unit {0}
 CloseCause old staging Source = Unit {0}
 CloseCause old staging (Refused c) =
-    is_honest old → (bound : Bound) → table_of old staging.table ≡ Some bound → Contains (bound.refuses.causes (rows_of old staging.table) staging.changes) c
+    (is_of_run (phase_of c) ≡ true)
+    × (is_honest old → (bound : Bound) → table_of old staging.table ≡ Some bound
+    → (entry : Option Entry) × Picks (old.content.holdings bound.remote) entry
+    × Contains (bound.refuses.causes entry (rows_of old staging.table) staging.changes) c)
 
 -- the end of a write is refused, which comes only where it was to be kept: the rows are as before, and nothing is staged any more
 pub record RefusesClose (old : BoxState) (keep : Bool) (fault : Fault) (new : BoxState) : Type 0 where

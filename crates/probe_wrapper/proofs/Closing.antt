@@ -10,10 +10,13 @@ use Rattle.std.proofs.lemmas.List.Sorted.{IsPermutation-refl}
 use lib.Pointwise.{bytes_decides}
 use Rattle.med_value.specs.Datum.{Tuple, tuple}
 use Rattle.med_value.specs.declared.value.Row.{Row}
-use Rattle.fdw_api.specs.Kinds.{Held, held, Known, Stored}
-use Rattle.fdw_api.specs.State.{Bound}
+use Rattle.fdw_api.specs.Kinds.{Entry, Held, held, Known, Stored}
+use Rattle.fdw_api.specs.State.{Bound, Scan}
+use Rattle.fdw_api.specs.Scan.{row_fits, TableRow}
+use Rattle.fdw_api.specs.Kinds.{Change, all_fit}
+use Rattle.med_value.specs.declared.value.ColType.{ColType}
 use Rattle.fdw_api.specs.Calls.{NoScan}
-use Rattle.fdw_api.specs.Writes.{CanClose, Closes, RefusesClose, rows_after}
+use Rattle.fdw_api.specs.Writes.{CanClose, Closes, RefusesClose, row_of_change_fits, rows_after}
 use Rattle.fdw_api.specs.State.{Staging}
 use Rattle.std.proofs.Common.{Contains}
 use Rattle.med_value.specs.declared.cause.Cause.{Cause}
@@ -22,10 +25,11 @@ use Rattle.fdw_api.specs.declared.interface.Fault.TheVariants.{Refused}
 use Rattle.probe_wrapper.specs.declared.list.ListTable.{ListTable}
 use Rattle.probe_wrapper.specs.declared.list.ListScan.{ListScan}
 use Rattle.probe_wrapper.specs.declared.changes.ListWrite.{ListWrite}
-use Rattle.probe_wrapper.specs.Lists.{entry_of, listed, names_differ, same_text, no_line, list_refusals}
+use Rattle.probe_wrapper.specs.Lists.{entry_of, listed, rows_fit, names_differ, same_text, no_line, list_refusals}
 use Rattle.probe_wrapper.specs.Changes.{as_held, change_is, write_is}
-use Rattle.probe_wrapper.specs.Scans.{numbered, rows_at, stored, bound_of, marked_bound, list_state, scan_rows, scan_is}
+use Rattle.probe_wrapper.specs.Scans.{numbered, rows_at, listed_rows, listed_kinds, kinds_at, stored, bound_of, marked_bound, mapped, list_state, scan_rows, scan_is, write_fits}
 use Rattle.probe_wrapper.proofs.Maps.{mapped_get}
+use Rattle.probe_wrapper.proofs.Scans.{rows_fit_at}
 use Rattle.probe_wrapper.proofs.Tables.{numbered_once, some_inj}
 
 pub held_rows : (n : ℕ) (rs : List Row) → map held (numbered n rs) ≡ map as_held rs
@@ -47,6 +51,17 @@ set_other (z ∷ ts) zero zero y ne = absurd (ne refl)
 set_other (z ∷ ts) zero (suc q) y ne = refl
 set_other (z ∷ ts) (suc t) zero y ne = refl
 set_other (z ∷ ts) (suc t) (suc q) y ne = set_other ts t q y (λ e. ne (ap (λ (k : ℕ). suc k) e))
+
+-- the types at each place stay, and so does what is known of a scan
+same_kinds : (ts : List ListTable) (t q : ℕ) (x y : ListTable) → slice_get ts t ≡ Some x → y.kinds ≡ x.kinds → kinds_at (slice_set ts t y) q ≡ kinds_at ts q
+same_kinds ts t q x y e s = split (eqb_tells q t)
+  where
+    split : ((eqb q t ≡ true) × (q ≡ t)) ⊎ ((eqb q t ≡ false) × (q ≢ t)) → kinds_at (slice_set ts t y) q ≡ kinds_at ts q
+    split (inl w) = rw (w.1, set_there ts t x y e, e, s) refl
+    split (inr w) = ap listed_kinds (set_other ts t q y w.1)
+
+same_scan : (ts : List ListTable) (t : ℕ) (x y : ListTable) (z : ListScan) → slice_get ts t ≡ Some x → y.kinds ≡ x.kinds → scan_is (slice_set ts t y) z ≡ scan_is ts z
+same_scan ts t x y z e s = ap (λ (k : List ColType). record (scan_is ts z) { kinds = k }) (same_kinds ts t z.table x y e s)
 
 -- the rest of a table stays: its name and kinds, so what is bound
 same_bound : (ts : List ListTable) (t q : ℕ) (x y : ListTable) (b : Bool) → slice_get ts t ≡ Some x → bound_of y ≡ bound_of x → marked_bound b (slice_get (slice_set ts t y) q) ≡ marked_bound b (slice_get ts q)
@@ -119,8 +134,8 @@ names_stay (z ∷ ts) (suc t) x y e s = rw (all_stay (string_bytes z.name) ts t 
 few : (n : ℕ) → n ≤ 1000000 → nat_lt 1000000 n ≡ false
 few n le = search rules
 
-few_rows : (x y : ListTable) (s : ListWrite) → map as_held y.rows.items ≡ rows_after no_line (numbered 0 x.rows.items) (map change_is s.changes.items) → length y.rows.items ≤ 1000000 → list_refusals.causes (numbered 0 x.rows.items) (map change_is s.changes.items) ≡ []
-few_rows x y s e le = rw (← e, length_map y.rows.items, few (length y.rows.items) le) refl
+few_rows : (x y : ListTable) (s : ListWrite) (entry : Option Entry) → map as_held y.rows.items ≡ rows_after no_line (numbered 0 x.rows.items) (map change_is s.changes.items) → length y.rows.items ≤ 1000000 → list_refusals.causes entry (numbered 0 x.rows.items) (map change_is s.changes.items) ≡ []
+few_rows x y s entry e le = rw (← e, length_map y.rows.items, few (length y.rows.items) le) refl
   where
     length_map : (l : List Row) → length (map as_held l) ≡ length l
     length_map [] = refl
@@ -143,16 +158,20 @@ list_closes tables bound m s next pulled x y marked is distinct en ek er small s
       nature = refl;
       staging = write_is s;
       is_staged = refl;
-      ledger = ap (λ (f : ℕ → Option Bound). record (list_state tables bound m None next pulled).ledger { tables = f }) (λ i q. same_bound tables s.table q x y (slice_index_or bound q false) is (same en ek) i);
+      ledger =
+          ap (λ (f : ListScan → Scan). record (list_state (slice_set tables s.table y) bound m None next pulled).ledger { live = mapped f m.entries }) (λ i z. same_scan tables s.table x y z is ek i)
+          ∙ ap (λ (f : ℕ → Option Bound). record (list_state tables bound m None next pulled).ledger { tables = f }) (λ i q. same_bound tables s.table q x y (slice_index_or bound q false) is (same en ek) i);
       content = λ honest. record {
         bound = bound_of x;
         is = rw (marked, is) refl;
-        no_cause = rw before (few_rows x y s er small);
-        rows = rw (before, after, held_rows 0 y.rows.items, er) (IsPermutation-refl _);
+        entry = entry_of (map listed tables) (string_bytes x.name);
+        picked = refl;
+        no_cause = rw before (few_rows x y s _ er small);
+        rows = rw (before, after, held_rows 0 y.rows.items, er) refl;
         once = numbered_once 0 (rows_at (slice_set tables s.table y) s.table);
-        holdings = (map held (numbered 0 (rows_at (slice_set tables s.table y) s.table)), IsPermutation-refl _, written there);
+        holdings = written there;
         leaves = record {
-          coming = λ q live o. same_coming tables s.table y (tree.get nat_cmp m q) (λ z e. scans q (scan_is z) (mapped_get scan_is m q ∙ ap (option_map scan_is) e));
+          coming = λ q live o. same_coming tables s.table y (tree.get nat_cmp m q) (λ z e. scans q (scan_is tables z) (mapped_get (scan_is tables) m q ∙ ap (option_map (scan_is tables)) e));
           rows = λ u o. ap (numbered 0) (other_rows tables s.table u y o);
           holdings = λ r o. ap Known (entry_other tables s.table x y r is en o);
         };
@@ -185,8 +204,8 @@ staged_scans tables bound m s staged keep next pulled es k can =
     let same : can.staging ≡ write_is s = some_inj can.staging (write_is s) (sym can.is_staged ∙ ap (option_map write_is) es) in
     subst (λ (z : Staging). NoScan (list_state tables bound m (Some s) next pulled) z.table) same (can.no_scan k)
 
-many_rows : (x y : ListTable) (s : ListWrite) → map as_held y.rows.items ≡ rows_after no_line (numbered 0 x.rows.items) (map change_is s.changes.items) → 1000000 < length y.rows.items → list_refusals.causes (numbered 0 x.rows.items) (map change_is s.changes.items) ≡ TooLarge ∷ []
-many_rows x y s e lt = rw (← e, length_map y.rows.items, many (length y.rows.items) lt) refl
+many_rows : (x y : ListTable) (s : ListWrite) (entry : Option Entry) → map as_held y.rows.items ≡ rows_after no_line (numbered 0 x.rows.items) (map change_is s.changes.items) → 1000000 < length y.rows.items → list_refusals.causes entry (numbered 0 x.rows.items) (map change_is s.changes.items) ≡ TooLarge ∷ []
+many_rows x y s entry e lt = rw (← e, length_map y.rows.items, many (length y.rows.items) lt) refl
   where
     length_map : (l : List Row) → length (map as_held l) ≡ length l
     length_map [] = refl
@@ -202,17 +221,53 @@ list_refuses tables bound m s staged after keep next pulled x y es ea k is er la
   staging = write_is s;
   is_staged = refl;
   ledger = refl;
-  cause = λ honest b at. in_it (slice_index_or bound s.table false) (slice_get tables s.table) b at;
+  cause = (refl, λ honest b at. (entry_of (map listed tables) b.remote, refl, in_it (entry_of (map listed tables) b.remote) (slice_index_or bound s.table false) (slice_get tables s.table) b at));
   leaves = λ honest. record { coming = λ q l o. refl; rows = λ t o. refl; holdings = λ r o. refl };
 }
   where
-    causes : list_refusals.causes (numbered 0 (rows_at tables s.table)) (map change_is s.changes.items) ≡ TooLarge ∷ []
-    causes = rw is (many_rows x y s er large)
+    causes : (entry : Option Entry) → list_refusals.causes entry (numbered 0 (rows_at tables s.table)) (map change_is s.changes.items) ≡ TooLarge ∷ []
+    causes entry = rw is (many_rows x y s entry er large)
 
     one : Contains (TooLarge ∷ []) TooLarge
     one = search rules
 
-    in_it : (f : Bool) (o : Option ListTable) (b : Bound) → marked_bound f o ≡ Some b → Contains (b.refuses.causes (numbered 0 (rows_at tables s.table)) (map change_is s.changes.items)) TooLarge
-    in_it false o b e = absurd cc
-    in_it true None b e = absurd cc
-    in_it true (Some z) b e = subst (λ (v : Bound). Contains (v.refuses.causes (numbered 0 (rows_at tables s.table)) (map change_is s.changes.items)) TooLarge) (some_inj (bound_of z) b e) (subst (λ (l : List Cause). Contains l TooLarge) (sym causes) one)
+    in_it : (entry : Option Entry) (f : Bool) (o : Option ListTable) (b : Bound) → marked_bound f o ≡ Some b → Contains (b.refuses.causes entry (numbered 0 (rows_at tables s.table)) (map change_is s.changes.items)) TooLarge
+    in_it entry false o b e = absurd cc
+    in_it entry true None b e = absurd cc
+    in_it entry true (Some z) b e = subst (λ (v : Bound). Contains (v.refuses.causes entry (numbered 0 (rows_at tables s.table)) (map change_is s.changes.items)) TooLarge) (some_inj (bound_of z) b e) (subst (λ (l : List Cause). Contains l TooLarge) (sym (causes entry)) one)
+
+-- the rows of a table that a write leaves are of its types
+fit_at : (ts : List ListTable) (t : ℕ) (x : ListTable) → slice_get ts t ≡ Some x → rows_fit (map listed ts) ≡ true → list_all (row_fits x.kinds.items) (map tuple x.rows.items) ≡ true
+fit_at ts t x e f = ap (λ (o : Option ListTable). list_all (row_fits (listed_kinds o)) (map tuple (listed_rows o))) (sym e) ∙ rows_fit_at ts t f
+
+and_true : (a b : Bool) → a ≡ true → b ≡ true → (a && b) ≡ true
+and_true a b e f = rw (e, f) refl
+
+-- the types of all tables, where one has other rows that are of its types
+set_fits : (ts : List ListTable) (t : ℕ) (x y : ListTable) → slice_get ts t ≡ Some x → list_all (row_fits y.kinds.items) (map tuple y.rows.items) ≡ true → rows_fit (map listed ts) ≡ true → rows_fit (map listed (slice_set ts t y)) ≡ true
+set_fits [] t x y e h f = refl
+set_fits (z ∷ ts) zero x y e h f = and_true _ _ h (both (list_all (row_fits z.kinds.items) (map tuple z.rows.items)) _ f).1
+set_fits (z ∷ ts) (suc t) x y e h f =
+    let w = both (list_all (row_fits z.kinds.items) (map tuple z.rows.items)) _ f in
+    and_true _ _ w.0 (set_fits ts t x y e h w.1)
+
+line_fits : (kinds : List ColType) (rs : List Row) → list_all (λ (r : Held). row_fits kinds r.cells) (map as_held rs) ≡ list_all (row_fits kinds) (map tuple rs)
+line_fits kinds [] = refl
+line_fits kinds (r ∷ rs) = ap (λ (b : Bool). row_fits kinds (tuple r) && b) (line_fits kinds rs)
+
+-- and so are the rows that a list has once a write was kept
+pub written_fits : (ts : List ListTable) (s : ListWrite) (staged : Option ListWrite) (x y : ListTable)
+    → ((kinds : List ColType) (line : Tuple → List (List ℕ)) (rows : List TableRow) (changes : List Change) → list_all (row_of_change_fits kinds) changes ≡ true → list_all (λ r. row_fits kinds r.cells) rows ≡ true → all_fit kinds (rows_after line rows changes) ≡ true)
+    → staged ≡ Some s → slice_get ts s.table ≡ Some x → y.kinds ≡ x.kinds → rows_fit (map listed ts) ≡ true → write_fits ts (option_map write_is staged) ≡ true → map as_held y.rows.items ≡ rows_after no_line (numbered 0 x.rows.items) (map change_is s.changes.items) → rows_fit (map listed (slice_set ts s.table y)) ≡ true
+written_fits ts s staged x y law es is ek f w er =
+    let kinds : kinds_at ts s.table ≡ x.kinds.items = ap listed_kinds is in
+    let changes : list_all (row_of_change_fits x.kinds.items) (map change_is s.changes.items) ≡ true =
+        ap (λ (k : List ColType). list_all (row_of_change_fits k) (map change_is s.changes.items)) (sym kinds) ∙ ap (λ (o : Option ListWrite). write_fits ts (option_map write_is o)) (sym es) ∙ w in
+    let old : list_all (λ (r : TableRow). row_fits x.kinds.items r.cells) (numbered 0 x.rows.items) ≡ true = numbered_fit x.kinds.items 0 x.rows.items ∙ fit_at ts s.table x is f in
+    let after : list_all (row_fits x.kinds.items) (map tuple y.rows.items) ≡ true =
+        sym (line_fits x.kinds.items y.rows.items) ∙ ap (all_fit x.kinds.items) er ∙ law x.kinds.items no_line (numbered 0 x.rows.items) (map change_is s.changes.items) changes old in
+    set_fits ts s.table x y is (rw ek after) f
+  where
+    numbered_fit : (kinds : List ColType) (n : ℕ) (rs : List Row) → list_all (λ (r : TableRow). row_fits kinds r.cells) (numbered n rs) ≡ list_all (row_fits kinds) (map tuple rs)
+    numbered_fit kinds n [] = refl
+    numbered_fit kinds n (r ∷ rs) = ap (λ (b : Bool). row_fits kinds (tuple r) && b) (numbered_fit kinds (n + 1) rs)

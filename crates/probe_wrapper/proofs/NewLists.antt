@@ -21,7 +21,7 @@ new_list tables bound scans n none_bound none_live = record {
   honest = refl;
   idle = record {
     no_table = λ t. ap (λ (f : Bool). marked_bound f (slice_get tables t)) (ap (λ (l : List Bool). slice_index_or l t false) none_bound ∙ unmarked n t);
-    no_scan = λ q. mapped_get scan_is scans q ∙ ap (option_map scan_is) (none_live q);
+    no_scan = λ q. mapped_get (scan_is tables) scans q ∙ ap (option_map (scan_is tables)) (none_live q);
     no_staging = refl;
   };
   next = refl;

@@ -1,6 +1,7 @@
 -- What the calls of a scan do to a list wrapper.
-use Rattle.std.proofs.Common.{◌≡◌, ◌≢◌, ℕ, ◌+◌, ◌-◌, ◌^◌, ◌<◌, ◌≤◌, ◌⊎◌, Bool, true, false, cond, not, ◌&&◌, if◌then◌else◌, List, [], ◌∷◌, Option, Some, None, IsSome, Result, Ok, Err, OnOk, is_err, IfSome, map, filter, min, option_map, refl, ap, sym, ◌∙◌, subst, arith, eqb, inl, inr}
+use Rattle.std.proofs.Common.{◌≡◌, ◌≢◌, ℕ, ◌+◌, ◌-◌, ◌^◌, ◌<◌, ◌≤◌, ◌⊎◌, Bool, true, false, cond, not, ◌&&◌, if◌then◌else◌, List, [], ◌∷◌, Option, Some, None, IsSome, Result, Ok, Err, OnOk, is_err, IfSome, map, drop, filter, min, option_map, slice_get, slice_index_or, zero, suc, refl, ap, sym, ◌∙◌, subst, arith, eqb, inl, inr}
 use Rattle.std.specs.Ordering.{nat_cmp}
+use Rattle.std.specs.List.{list_all}
 use Rattle.std.specs.BTreeMap as tree
 use Rattle.std.specs.BTreeMap.{BTreeMap}
 use Rattle.std.specs.FinMap as finmap
@@ -9,17 +10,19 @@ use Rattle.std.proofs.lemmas.List.Sorted.{IsPermutation-filter_both}
 use Rattle.std.proofs.lemmas.List.Elements.{filter_passes, All-weaker}
 use Rattle.med_value.specs.Datum.{Tuple, datum, tuple}
 use Rattle.med_value.specs.declared.value.Row.{Row}
-use Rattle.fdw_api.specs.Scan.{Spec, spec_of, Filter, GivenRow, TableRow, IsComing, meets, meets_all, meets_exact, shown}
+use Rattle.med_value.specs.declared.value.ColType.{ColType}
+use Rattle.fdw_api.specs.Scan.{Spec, spec_of, Filter, GivenRow, TableRow, IsComing, meets, meets_all, meets_exact, shown, shown_cells, shown_fits, row_fits}
 use Rattle.fdw_api.specs.declared.scan.Agree.{Agree}
 use Rattle.fdw_api.specs.declared.scan.Agree.TheVariants.{Ignored, Hint, Exact}
-use Rattle.fdw_api.specs.State.{Scan, scan_of}
+use Rattle.fdw_api.specs.State.{Bound, Scan, scan_of}
 use Rattle.fdw_api.specs.Calls.{LeavesOthers, new_scan, Begins, GivesRow, GivesNone, Breaks, Rescans, Ends, row_of}
 use Rattle.fdw_api.specs.declared.interface.Fault.TheVariants.{NoMemory}
 use Rattle.fdw_api.specs.declared.interface.SourceRow.{SourceRow}
 use Rattle.probe_wrapper.specs.declared.list.ListTable.{ListTable}
 use Rattle.probe_wrapper.specs.declared.list.ListScan.{ListScan}
 use Rattle.probe_wrapper.specs.declared.changes.ListWrite.{ListWrite}
-use Rattle.probe_wrapper.specs.Scans.{numbered, coming_from, rows_at, scan_is, scan_rows, mapped, list_state, NextIs}
+use Rattle.probe_wrapper.specs.Lists.{listed, rows_fit}
+use Rattle.probe_wrapper.specs.Scans.{numbered, coming_from, rows_at, listed_kinds, kinds_at, marked_bound, scan_is, scan_rows, mapped, list_state, NextIs}
 use Rattle.probe_wrapper.proofs.Maps.{mapped_get, mapped_insert, mapped_remove, apart}
 
 both_fail : (b x y : Bool) → (not x ≡ true → y ≡ false) → not (b && x) ≡ true → (b && y) ≡ false
@@ -69,7 +72,7 @@ at_some None e = absurd cc
 at_some (Some x) e = (x, refl)
 
 pub open_there : (tables : List ListTable) (bound : List Bool) (m : BTreeMap ℕ ListScan) (staged : Option ListWrite) (next pulled n : ℕ) (scan : Scan) → scan_of (list_state tables bound m staged next pulled) n ≡ Some scan → IsSome (tree.get nat_cmp m n)
-open_there tables bound m staged next pulled n scan e = there scan_is _ _ (sym (mapped_get scan_is m n) ∙ e)
+open_there tables bound m staged next pulled n scan e = there (scan_is tables) _ _ (sym (mapped_get (scan_is tables) m n) ∙ e)
 
 pub live_there : (tables : List ListTable) (bound : List Bool) (m : BTreeMap ℕ ListScan) (staged : Option ListWrite) (next pulled n : ℕ) → IsSome (scan_of (list_state tables bound m staged next pulled) n) → IsSome (tree.get nat_cmp m n)
 live_there tables bound m staged next pulled n e = let w = at_some _ e in open_there tables bound m staged next pulled n w.0 w.1
@@ -97,38 +100,87 @@ others tables bound m n staged number next next' pulled pulled' w u = record {
   holdings = λ r other. refl;
 }
 
-pub list_begins : (tables : List ListTable) (bound : List Bool) (m n : BTreeMap ℕ ListScan) (staged : Option ListWrite) (t next pulled : ℕ) (spec : Spec) (params : Tuple) (s : ListScan) → tree.get nat_cmp m next ≡ None → next < 2 ^ 64 - 1 → tree.Updates nat_cmp m n next (Some s) → s.table ≡ t → spec_of s.spec ≡ spec → map datum s.params.items ≡ params → s.at ≡ 0 → s.broken ≡ false → Begins (list_state tables bound m staged next pulled) t spec params next (list_state tables bound n staged (next + 1) pulled)
-list_begins tables bound m n staged t next pulled spec params s fresh room u et es ep ea eb =
+-- the types of a bound table are those at its place
+pub kinds_bound : (f : Bool) (o : Option ListTable) (b : Bound) → marked_bound f o ≡ Some b → listed_kinds o ≡ b.kinds
+kinds_bound false o b e = absurd cc
+kinds_bound true None b e = absurd cc
+kinds_bound true (Some x) b e = ap (λ (o : Option Bound). kinds_or o) e
+  where
+    kinds_or : Option Bound → List ColType
+    kinds_or None = []
+    kinds_or (Some z) = z.kinds
+
+pub list_begins : (tables : List ListTable) (bound : List Bool) (m n : BTreeMap ℕ ListScan) (staged : Option ListWrite) (t next pulled : ℕ) (spec : Spec) (params : Tuple) (s : ListScan) (b : Bound) → marked_bound (slice_index_or bound t false) (slice_get tables t) ≡ Some b → tree.get nat_cmp m next ≡ None → next < 2 ^ 64 - 1 → tree.Updates nat_cmp m n next (Some s) → s.table ≡ t → spec_of s.spec ≡ spec → map datum s.params.items ≡ params → s.at ≡ 0 → s.broken ≡ false → Begins (list_state tables bound m staged next pulled) t spec params next (list_state tables bound n staged (next + 1) pulled)
+list_begins tables bound m n staged t next pulled spec params s b is_bound fresh room u et es ep ea eb =
     let coming : scan_rows tables (tree.get nat_cmp n next) ≡ coming_from spec params 0 (rows_at tables t) = ap (scan_rows tables) u.1 ∙ rw (es, ep, ea, et) refl in
     record {
       nature = refl;
       is_next = refl;
       room = room;
-      fresh = mapped_get scan_is m next ∙ ap (option_map scan_is) fresh;
+      fresh = mapped_get (scan_is tables) m next ∙ ap (option_map (scan_is tables)) fresh;
+      bound = b;
+      is = is_bound;
       left = 2 ^ 64 - s.at;
+      few = omega arith;
       ledger =
           ap (λ (l : finmap.FinMap nat_cmp Scan). record (list_state tables bound n staged (next + 1) pulled).ledger { live = l })
-          (mapped_insert scan_is m n next s u ∙ ap (finmap.insert (mapped scan_is m.entries) next) (scan_same s t spec params et es ep eb));
+          (mapped_insert (scan_is tables) m n next s u ∙ ap (finmap.insert (mapped (scan_is tables) m.entries) next) (scan_same s t spec params et es ep eb)
+          ∙ ap (λ (k : List ColType). finmap.insert (mapped (scan_is tables) m.entries) next (new_scan t k spec params (2 ^ 64 - s.at))) (kinds_bound (slice_index_or bound t false) (slice_get tables t) b is_bound));
       coming = λ honest. subst (λ (l : List GivenRow). IsComing (numbered 0 (rows_at tables t)) spec params l) (sym coming) (comes spec params (rows_at tables t));
       leaves = λ honest. others tables bound m n staged next next (next + 1) pulled pulled (Some s) u;
     }
   where
-    scan_same : (s : ListScan) (t : ℕ) (spec : Spec) (params : Tuple) → s.table ≡ t → spec_of s.spec ≡ spec → map datum s.params.items ≡ params → s.broken ≡ false → scan_is s ≡ new_scan t spec params (2 ^ 64 - s.at)
+    scan_same : (s : ListScan) (t : ℕ) (spec : Spec) (params : Tuple) → s.table ≡ t → spec_of s.spec ≡ spec → map datum s.params.items ≡ params → s.broken ≡ false → scan_is tables s ≡ new_scan t (kinds_at tables t) spec params (2 ^ 64 - s.at)
     scan_same s t spec params et es ep eb = rw (es, ep, et, eb) refl
 
 some_inj : {A : Type 0} (a b : A) → Some a ≡ Some b → a ≡ b
 some_inj a b q = cc
 
-pub list_gives : (tables : List ListTable) (bound : List Bool) (m n : BTreeMap ℕ ListScan) (staged : Option ListWrite) (next pulled number : ℕ) (s : ListScan) (row : SourceRow) → tree.get nat_cmp m number ≡ Some s → NextIs (spec_of s.spec) (map datum s.params.items) (rows_at tables s.table) s.at (Some row) → tree.Updates nat_cmp m n number (Some (record s { at = row.id.number + 1 })) → GivesRow (list_state tables bound m staged next pulled) number (row_of row) (list_state tables bound n staged next (min (pulled + 1) (2 ^ 64 - 1)))
-list_gives tables bound m n staged next pulled number s row is next_is u = record {
+both : (a b : Bool) → (a && b) ≡ true → (a ≡ true) × (b ≡ true)
+both true b e = (refl, e)
+both false b e = absurd cc
+
+-- the rows of each table are of its types, and so is what a scan gives of them
+pub rows_fit_at : (ts : List ListTable) (t : ℕ) → rows_fit (map listed ts) ≡ true → list_all (row_fits (kinds_at ts t)) (map tuple (rows_at ts t)) ≡ true
+rows_fit_at [] zero e = refl
+rows_fit_at [] (suc t) e = refl
+rows_fit_at (x ∷ ts) zero e = (both (list_all (row_fits x.kinds.items) (map tuple x.rows.items)) _ e).0
+rows_fit_at (x ∷ ts) (suc t) e = rows_fit_at ts t (both (list_all (row_fits x.kinds.items) (map tuple x.rows.items)) _ e).1
+
+abbrev ShowsTyped : Type 0
+ShowsTyped = (kinds : List ColType) (spec : Spec) (cells : Tuple) → row_fits kinds cells ≡ true → shown_fits kinds spec (shown_cells spec cells) ≡ true
+
+coming_fit : (kinds : List ColType) (spec : Spec) (params : Tuple) (n : ℕ) (rs : List Row) → ShowsTyped → list_all (row_fits kinds) (map tuple rs) ≡ true → list_all (λ r. shown_fits kinds spec r.cells) (coming_from spec params n rs) ≡ true
+coming_fit kinds spec params n [] shows e = refl
+coming_fit kinds spec params n (r ∷ rs) shows e =
+    let w = both (row_fits kinds (tuple r)) _ e in
+    at (meets_exact spec.offered spec.answers params (tuple r)) (shows kinds spec (tuple r) w.0) (coming_fit kinds spec params (n + 1) rs shows w.1)
+  where
+    at : (b : Bool) → shown_fits kinds spec (shown_cells spec (tuple r)) ≡ true → list_all (λ r. shown_fits kinds spec r.cells) (coming_from spec params (n + 1) rs) ≡ true → list_all (λ r. shown_fits kinds spec r.cells) (if b then record { id = n; cells = shown_cells spec (tuple r) } ∷ coming_from spec params (n + 1) rs else coming_from spec params (n + 1) rs) ≡ true
+    at true f g = rw (f, g) refl
+    at false f g = g
+
+rest_fit : (kinds : List ColType) (n : ℕ) (rs : List Row) → list_all (row_fits kinds) (map tuple rs) ≡ true → list_all (row_fits kinds) (map tuple (drop n rs)) ≡ true
+rest_fit kinds zero rs e = e
+rest_fit kinds (suc n) [] e = e
+rest_fit kinds (suc n) (r ∷ rs) e = rest_fit kinds n rs (both (row_fits kinds (tuple r)) _ e).1
+
+row_typed : (tables : List ListTable) (s : ListScan) (row : SourceRow) (rest : List GivenRow) → ShowsTyped → rows_fit (map listed tables) ≡ true → coming_from (spec_of s.spec) (map datum s.params.items) s.at (drop s.at (rows_at tables s.table)) ≡ row_of row ∷ rest → shown_fits (kinds_at tables s.table) (spec_of s.spec) (row_of row).cells ≡ true
+row_typed tables s row rest shows typed e =
+    let all = coming_fit (kinds_at tables s.table) (spec_of s.spec) (map datum s.params.items) s.at (drop s.at (rows_at tables s.table)) shows (rest_fit (kinds_at tables s.table) s.at (rows_at tables s.table) (rows_fit_at tables s.table typed)) in
+    (both (shown_fits (kinds_at tables s.table) (spec_of s.spec) (row_of row).cells) _ (subst (λ (l : List GivenRow). list_all (λ r. shown_fits (kinds_at tables s.table) (spec_of s.spec) r.cells) l ≡ true) e all)).0
+
+pub list_gives : (tables : List ListTable) (bound : List Bool) (m n : BTreeMap ℕ ListScan) (staged : Option ListWrite) (next pulled number : ℕ) (s : ListScan) (row : SourceRow) → ShowsTyped → rows_fit (map listed tables) ≡ true → tree.get nat_cmp m number ≡ Some s → NextIs (spec_of s.spec) (map datum s.params.items) (rows_at tables s.table) s.at (Some row) → tree.Updates nat_cmp m n number (Some (record s { at = row.id.number + 1 })) → GivesRow (list_state tables bound m staged next pulled) number (row_of row) (list_state tables bound n staged next (min (pulled + 1) (2 ^ 64 - 1)))
+list_gives tables bound m n staged next pulled number s row shows typed is next_is u = record {
   nature = refl;
-  scan = scan_is s;
-  at = mapped_get scan_is m number ∙ ap (option_map scan_is) is;
+  scan = scan_is tables s;
+  at = mapped_get (scan_is tables) m number ∙ ap (option_map (scan_is tables)) is;
   left = 2 ^ 64 - (row.id.number + 1);
   fewer = let a = next_is.0 in let b = next_is.1 in omega arith;
+  typed = row_typed tables s row _ shows typed next_is.2;
   ledger =
       ap (λ (l : finmap.FinMap nat_cmp Scan). record (list_state tables bound m staged next (min (pulled + 1) (2 ^ 64 - 1))).ledger { live = l })
-      (mapped_insert scan_is m n number _ u);
+      (mapped_insert (scan_is tables) m n number _ u);
   coming = λ honest. ap (scan_rows tables) is ∙ next_is.2 ∙ ap (λ (l : List GivenRow). row_of row ∷ l) (sym (ap (scan_rows tables) u.1));
   leaves = λ honest. others tables bound m n staged number next next pulled _ _ u;
 }
@@ -146,9 +198,9 @@ pub list_breaks : (tables : List ListTable) (bound : List Bool) (m n : BTreeMap 
 list_breaks tables bound m n staged next pulled number s is u = record {
   nature = refl;
   no_cause = tt;
-  scan = scan_is s;
-  at = mapped_get scan_is m number ∙ ap (option_map scan_is) is;
-  ledger = ap (λ (l : finmap.FinMap nat_cmp Scan). record (list_state tables bound m staged next pulled).ledger { live = l }) (mapped_insert scan_is m n number _ u);
+  scan = scan_is tables s;
+  at = mapped_get (scan_is tables) m number ∙ ap (option_map (scan_is tables)) is;
+  ledger = ap (λ (l : finmap.FinMap nat_cmp Scan). record (list_state tables bound m staged next pulled).ledger { live = l }) (mapped_insert (scan_is tables) m n number _ u);
   leaves = λ honest. others tables bound m n staged number next next pulled pulled _ u;
 }
 
@@ -157,30 +209,31 @@ list_rescans tables bound m n staged next pulled number params s t is whole u et
     let coming : scan_rows tables (tree.get nat_cmp n number) ≡ coming_from (spec_of s.spec) params 0 (rows_at tables s.table) = ap (scan_rows tables) u.1 ∙ rw (es, ep, ea, et) refl in
     record {
       nature = refl;
-      scan = scan_is s;
-      at = mapped_get scan_is m number ∙ ap (option_map scan_is) is;
+      scan = scan_is tables s;
+      at = mapped_get (scan_is tables) m number ∙ ap (option_map (scan_is tables)) is;
       left = 2 ^ 64 - t.at;
+      few = omega arith;
       ledger =
           ap (λ (l : finmap.FinMap nat_cmp Scan). record (list_state tables bound m staged next pulled).ledger { live = l })
-          (mapped_insert scan_is m n number t u ∙ ap (finmap.insert (mapped scan_is m.entries) number) (same s t et es ep (eb ∙ whole)));
+          (mapped_insert (scan_is tables) m n number t u ∙ ap (finmap.insert (mapped (scan_is tables) m.entries) number) (same s t et es ep (eb ∙ whole)));
       coming = λ honest. subst (λ (l : List GivenRow). IsComing (numbered 0 (rows_at tables s.table)) (spec_of s.spec) params l) (sym coming) (comes (spec_of s.spec) params (rows_at tables s.table));
       leaves = λ honest. others tables bound m n staged number next next pulled pulled (Some t) u;
     }
   where
-    same : (s t : ListScan) → t.table ≡ s.table → spec_of t.spec ≡ spec_of s.spec → map datum t.params.items ≡ params → t.broken ≡ false → scan_is t ≡ new_scan s.table (spec_of s.spec) params (2 ^ 64 - t.at)
+    same : (s t : ListScan) → t.table ≡ s.table → spec_of t.spec ≡ spec_of s.spec → map datum t.params.items ≡ params → t.broken ≡ false → scan_is tables t ≡ new_scan s.table (kinds_at tables s.table) (spec_of s.spec) params (2 ^ 64 - t.at)
     same s t et es ep eb = rw (es, ep, et, eb) refl
 
 pub list_ends : (tables : List ListTable) (bound : List Bool) (m n : BTreeMap ℕ ListScan) (staged : Option ListWrite) (next pulled number : ℕ) → tree.UpdatesBy nat_cmp (nat_cmp number) m n None → Ends (list_state tables bound m staged next pulled) number (list_state tables bound n staged next pulled)
 list_ends tables bound m n staged next pulled number u = record {
   nature = refl;
-  ledger = ap (λ (l : finmap.FinMap nat_cmp Scan). record (list_state tables bound m staged next pulled).ledger { live = l }) (mapped_remove scan_is m n number u);
+  ledger = ap (λ (l : finmap.FinMap nat_cmp Scan). record (list_state tables bound m staged next pulled).ledger { live = l }) (mapped_remove (scan_is tables) m n number u);
   leaves = λ honest. others tables bound m n staged number next next pulled pulled None u;
 }
 
 -- a scan that is open is whole
 pub is_whole : (tables : List ListTable) (bound : List Bool) (m : BTreeMap ℕ ListScan) (staged : Option ListWrite) (next pulled n : ℕ) (s : ListScan) (scan : Scan) → tree.get nat_cmp m n ≡ Some s → scan_of (list_state tables bound m staged next pulled) n ≡ Some scan → scan.broken ≡ false → s.broken ≡ false
 is_whole tables bound m staged next pulled n s scan is at whole =
-    ap (λ (z : Scan). z.broken) (some_inj (scan_is s) scan (sym (mapped_get scan_is m n ∙ ap (option_map scan_is) is) ∙ at)) ∙ whole
+    ap (λ (z : Scan). z.broken) (some_inj (scan_is tables s) scan (sym (mapped_get (scan_is tables) m n ∙ ap (option_map (scan_is tables)) is) ∙ at)) ∙ whole
 
 pub if_some : {X : Type 0} (o : Option X) (P : X → Type 0) (x : X) → o ≡ Some x → IfSome o P → P x
 if_some None P x e p = absurd cc

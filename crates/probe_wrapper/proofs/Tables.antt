@@ -1,6 +1,6 @@
 -- What binding does to a list wrapper.
 use Rattle.std.proofs.Common.{◌≡◌, ◌≢◌, ℕ, ◌+◌, ◌<◌, ◌≤◌, ◌⊎◌, Bool, true, false, ◌&&◌, nat_eq, List, [], ◌∷◌, Option, Some, None, IsSome, length, map, option_map, slice_get, slice_index_or, slice_set, Contains, refl, ap, sym, ◌∙◌, subst, arith, rules, eqb, inl, inr}
-use Rattle.std.specs.List.{IsDistinct, AllByRecursion}
+use Rattle.std.specs.List.{list_all, IsDistinct, AllByRecursion}
 use Rattle.std.specs.String.{string_bytes}
 use Rattle.std.specs.BTreeMap.{BTreeMap}
 use Rattle.std.proofs.lemmas.Bool.Decides.{eqb_tells}
@@ -14,16 +14,17 @@ use Rattle.med_value.specs.declared.cause.Cause.{Cause}
 use Rattle.med_value.specs.declared.cause.Cause.TheVariants.{TableNotFound, InvalidDataType}
 use Rattle.med_value.specs.declared.value.ColType.{ColType}
 use Rattle.med_value.specs.declared.value.ColType.TheVariants as types
-use Rattle.fdw_api.specs.Kinds.{Column, Setting, Held, held, Reading}
+use Rattle.fdw_api.specs.Kinds.{Column, Setting, Held, held, kinds_of, Reading}
 use Rattle.fdw_api.specs.declared.interface.Fault.TheVariants.{Refused}
-use Rattle.fdw_api.specs.Scan.{Spec}
+use Rattle.fdw_api.specs.Scan.{Spec, row_fits}
 use Rattle.fdw_api.specs.State.{Bound, BoxState, set_at, table_of}
 use Rattle.fdw_api.specs.Calls.{Allows, CanBind, Binds, Unbinds, IsLeast, RefusesBind}
 use Rattle.probe_wrapper.specs.declared.list.ListTable.{ListTable}
 use Rattle.probe_wrapper.specs.declared.list.ListScan.{ListScan}
 use Rattle.probe_wrapper.specs.declared.changes.ListWrite.{ListWrite}
-use Rattle.probe_wrapper.specs.Lists.{list_image, list_reading, same_text, same_type, types_match, types_of, entry_of, listed}
-use Rattle.probe_wrapper.specs.Scans.{numbered, stored, entry_at, rows_at, bound_of, marked_bound, list_state}
+use Rattle.probe_wrapper.specs.Lists.{list_image, list_reading, same_text, same_type, types_match, entry_of, listed, rows_fit}
+use Rattle.probe_wrapper.specs.Scans.{numbered, stored, entry_at, rows_at, listed_rows, listed_kinds, bound_of, marked_bound, list_state}
+use Rattle.probe_wrapper.proofs.Scans.{rows_fit_at}
 
 pub some_inj : {A : Type 0} (a b : A) → Some a ≡ Some b → a ≡ b
 some_inj a b q = cc
@@ -98,10 +99,13 @@ not_marked : (s : BoxState) (t : ℕ) (x : ListTable) (f : Bool) (remote : List 
 not_marked s t x true remote free e = absurd (free (bound_of x) refl e)
 not_marked s t x false remote free e = refl
 
-pub list_binds : (tables : List ListTable) (bound : List Bool) (scans : BTreeMap ℕ ListScan) (staged : Option ListWrite) (next pulled t : ℕ) (remote : List ℕ) (columns : List Column) (settings : List Setting) (x : ListTable) → t < length bound → CanBind (list_state tables bound scans staged next pulled) remote columns settings → entry_of (map listed tables) remote ≡ entry_at tables (Some t) → slice_get tables t ≡ Some x → same_text (string_bytes x.name) remote ≡ true → types_match x.kinds.items (types_of columns) ≡ true → Binds (list_state tables bound scans staged next pulled) remote columns settings t (list_state tables (slice_set bound t true) scans staged next pulled)
-list_binds tables bound scans staged next pulled t remote columns settings x lt can is_entry at same fits =
+pub list_binds : (tables : List ListTable) (bound : List Bool) (scans : BTreeMap ℕ ListScan) (staged : Option ListWrite) (next pulled t : ℕ) (remote : List ℕ) (columns : List Column) (settings : List Setting) (x : ListTable) → t < length bound → CanBind (list_state tables bound scans staged next pulled) remote columns settings → entry_of (map listed tables) remote ≡ entry_at tables (Some t) → slice_get tables t ≡ Some x → same_text (string_bytes x.name) remote ≡ true → types_match x.kinds.items (kinds_of columns) ≡ true → rows_fit (map listed tables) ≡ true → Binds (list_state tables bound scans staged next pulled) remote columns settings t (list_state tables (slice_set bound t true) scans staged next pulled)
+list_binds tables bound scans staged next pulled t remote columns settings x lt can is_entry at same fits typed =
     let named : string_bytes x.name ≡ remote = (bytes_decides (string_bytes x.name) remote).0 same in
-    let kinds = types_same x.kinds.items (types_of columns) fits in
+    let kinds = types_same x.kinds.items (kinds_of columns) fits in
+    let readable : list_all (row_fits (kinds_of columns)) (map tuple x.rows.items) ≡ true =
+        ap (λ (k : List ColType). list_all (row_fits k) (map tuple x.rows.items)) (sym kinds)
+        ∙ ap (λ (o : Option ListTable). list_all (row_fits (listed_kinds o)) (map tuple (listed_rows o))) (sym at) ∙ rows_fit_at tables t typed in
     let free : slice_index_or bound t false ≡ false = not_marked (list_state tables bound scans staged next pulled) t x (slice_index_or bound t false) remote (λ b e. can.free t b (ap (marked_bound (slice_index_or bound t false)) at ∙ e)) named in
     record {
       nature = refl;
@@ -111,12 +115,13 @@ list_binds tables bound scans staged next pulled t remote columns settings x lt 
       kinds_are = kinds;
       line_is = refl;
       image_is = ap list_image kinds;
+      arrangement_is = refl;
       refuses_is = refl;
       ledger = ap (λ (f : ℕ → Option Bound). record (list_state tables bound scans staged next pulled).ledger { tables = f }) (λ i q. marks tables bound t true (Some (bound_of x)) lt (ap (marked_bound true) at) q i);
       entry = Some (stored x);
       picked = λ honest. sym (is_entry ∙ ap (option_map stored) at);
-      no_cause = λ honest. rw fits refl;
-      rows = λ honest. rw (fits, at, ← held_numbered 0 x.rows.items) (IsPermutation-refl _);
+      no_cause = λ honest. rw (fits, readable) refl;
+      rows = λ honest. rw (fits, readable, at, held_numbered 0 x.rows.items) refl;
       once = λ honest. numbered_once 0 (rows_at tables t);
       leaves = λ honest. record { coming = λ q l o. refl; rows = λ u o. refl; holdings = λ r o. refl };
     }
@@ -137,16 +142,16 @@ only_cause c p has = record {
 -- a list source refuses a table that it does not have
 pub list_lacks : (tables : List ListTable) (bound : List Bool) (scans : BTreeMap ℕ ListScan) (staged : Option ListWrite) (next pulled : ℕ) (remote : List ℕ) (columns : List Column) (settings : List Setting) → entry_of (map listed tables) remote ≡ None → RefusesBind (list_state tables bound scans staged next pulled) remote columns settings (Refused TableNotFound) (list_state tables bound scans staged next pulled)
 list_lacks tables bound scans staged next pulled remote columns settings none = record {
-  refuses = record { nature = refl; next = next; rises = omega arith; stays = λ e. e; ledger = refl; leaves = λ honest. record { coming = λ q l o. refl; rows = λ u o. refl; holdings = λ r o. refl } };
-  cause = λ honest. (None, sym none, only_cause TableNotFound 5 refl);
+  refuses = record { nature = refl; next = next; rises = omega arith; stays = λ e. e; keeps = λ e. refl; ledger = refl; leaves = λ honest. record { coming = λ q l o. refl; rows = λ u o. refl; holdings = λ r o. refl } };
+  cause = (refl, λ honest. (None, sym none, only_cause TableNotFound 5 refl));
 }
 
 -- and columns of other types
-pub list_mismatches : (tables : List ListTable) (bound : List Bool) (scans : BTreeMap ℕ ListScan) (staged : Option ListWrite) (next pulled t : ℕ) (remote : List ℕ) (columns : List Column) (settings : List Setting) (x : ListTable) → entry_of (map listed tables) remote ≡ entry_at tables (Some t) → slice_get tables t ≡ Some x → types_match x.kinds.items (types_of columns) ≡ false → RefusesBind (list_state tables bound scans staged next pulled) remote columns settings (Refused InvalidDataType) (list_state tables bound scans staged next pulled)
+pub list_mismatches : (tables : List ListTable) (bound : List Bool) (scans : BTreeMap ℕ ListScan) (staged : Option ListWrite) (next pulled t : ℕ) (remote : List ℕ) (columns : List Column) (settings : List Setting) (x : ListTable) → entry_of (map listed tables) remote ≡ entry_at tables (Some t) → slice_get tables t ≡ Some x → types_match x.kinds.items (kinds_of columns) ≡ false → RefusesBind (list_state tables bound scans staged next pulled) remote columns settings (Refused InvalidDataType) (list_state tables bound scans staged next pulled)
 list_mismatches tables bound scans staged next pulled t remote columns settings x is_entry at differs = record {
-  refuses = record { nature = refl; next = next; rises = omega arith; stays = λ e. e; ledger = refl; leaves = λ honest. record { coming = λ q l o. refl; rows = λ u o. refl; holdings = λ r o. refl } };
-  cause = λ honest. (Some (stored x), sym (is_entry ∙ ap (option_map stored) at), subst (λ (r : Reading). IsLeast r.causes InvalidDataType) (sym reading) (only_cause InvalidDataType 5 refl));
+  refuses = record { nature = refl; next = next; rises = omega arith; stays = λ e. e; keeps = λ e. refl; ledger = refl; leaves = λ honest. record { coming = λ q l o. refl; rows = λ u o. refl; holdings = λ r o. refl } };
+  cause = (refl, λ honest. (Some (stored x), sym (is_entry ∙ ap (option_map stored) at), subst (λ (r : Reading). IsLeast r.causes InvalidDataType) (sym reading) (only_cause InvalidDataType 5 refl)));
 }
   where
-    reading : list_reading (types_of columns) (Some (stored x)) ≡ record { causes = InvalidDataType ∷ []; rows = []; late = refl }
+    reading : list_reading (kinds_of columns) (Some (stored x)) ≡ record { causes = InvalidDataType ∷ []; rows = []; late = refl }
     reading = rw differs refl

@@ -1,5 +1,6 @@
 -- List sources: tables of rows in memory, and what binding one gives.
 use Rattle.std.specs.Prelude.{◌≡◌, ℕ, Bool, true, false, not, ◌&&◌, List, [], ◌∷◌, map, length, Option, Some, None, if◌then◌else◌, nat_eq, nat_lt}
+use mathlib.Core.Path.{ap, ◌∙◌}
 use Rattle.std.specs.List.{list_all}
 use Rattle.std.specs.String.{string_bytes}
 use lib.Pointwise.{pointwise}
@@ -7,10 +8,10 @@ use Rattle.med_value.specs.Datum.{Tuple, tuple}
 use Rattle.med_value.specs.declared.value.ColType.{ColType}
 use Rattle.med_value.specs.declared.value.ColType.TheVariants as types
 use Rattle.med_value.specs.declared.cause.Cause.{Cause}
-use Rattle.med_value.specs.declared.cause.Cause.TheVariants.{InvalidOptionName, TableNotFound, InvalidDataType, TooLarge}
+use Rattle.med_value.specs.declared.cause.Cause.TheVariants.{InvalidOptionName, TableNotFound, InvalidDataType, InvalidText, TooLarge}
 use Rattle.med_value.specs.Causes.{phase_of}
 use Rattle.fdw_api.specs.Scan.{row_fits}
-use Rattle.fdw_api.specs.Kinds.{Kind, Column, Setting, Entry, Bytes, Stored, Known, Held, Reading, Refusals, is_of_run}
+use Rattle.fdw_api.specs.Kinds.{Kind, Column, Setting, Entry, Bytes, Stored, Known, Held, Reading, Refusals, kinds_of, all_fit, as_they_come, is_of_run}
 use Rattle.fdw_api.specs.State.{BoxState, IsIdle, is_honest}
 use Rattle.fdw_api.specs.Writes.{rows_after}
 use Rattle.probe_wrapper.specs.declared.list.ListTable.{ListTable}
@@ -60,17 +61,42 @@ types_match [] (y ∷ ys) = false
 types_match (x ∷ xs) [] = false
 types_match (x ∷ xs) (y ∷ ys) = same_type x y && types_match xs ys
 
--- the types of declared columns; their names are free
-abbrev pub types_of : List Column → List ColType
-types_of columns = map (λ c. c.kind) columns
+-- the rows of a list have no lines
+abbrev pub without_lines : List Tuple → List Held
+without_lines rows = map (λ r. record { cells = r; origin = [] }) rows
 
--- HV00R where there is no list table of the name, HV004 where the number or types of the columns are not its own; else its rows
+-- 22P02 where a cell is not of its column's type, or has U+0000; else the rows
+abbrev pub typed_reading : Bool → List Tuple → Reading
+typed_reading true rows = record { causes = []; rows = without_lines rows; late = mathlib.Core.Path.refl }
+typed_reading false rows = record { causes = InvalidText ∷ []; rows = []; late = mathlib.Core.Path.refl }
+
+-- HV00R where there is no list table of the name, HV004 where the number or types of the columns are not its own; the names of the columns are
+-- free
 abbrev pub list_reading : List ColType → Option Entry → Reading
 list_reading declared None = record { causes = TableNotFound ∷ []; rows = []; late = mathlib.Core.Path.refl }
 list_reading declared (Some (Bytes content)) = record { causes = TableNotFound ∷ []; rows = []; late = mathlib.Core.Path.refl }
 list_reading declared (Some (Stored own rows)) =
-    if types_match own declared then record { causes = []; rows = map (λ r. record { cells = r; origin = [] }) rows; late = mathlib.Core.Path.refl }
+    if types_match own declared then typed_reading (list_all (row_fits declared) rows) rows
     else record { causes = InvalidDataType ∷ []; rows = []; late = mathlib.Core.Path.refl }
+
+-- rows that are read fit the columns
+pub lines_fit : (kinds : List ColType) (rows : List Tuple) → all_fit kinds (without_lines rows) ≡ list_all (row_fits kinds) rows
+lines_fit kinds [] = mathlib.Core.Path.refl
+lines_fit kinds (r ∷ rs) = ap (λ b. row_fits kinds r && b) (lines_fit kinds rs)
+
+pub typed_fit : (kinds : List ColType) (rows : List Tuple) (b : Bool) → list_all (row_fits kinds) rows ≡ b → all_fit kinds (typed_reading b rows).rows ≡ true
+typed_fit kinds rows true e = lines_fit kinds rows ∙ e
+typed_fit kinds rows false e = mathlib.Core.Path.refl
+
+pub stored_fit : (kinds : List ColType) (rows : List Tuple) (b : Bool)
+    → all_fit kinds (if b then typed_reading (list_all (row_fits kinds) rows) rows else record { causes = InvalidDataType ∷ []; rows = []; late = mathlib.Core.Path.refl }).rows ≡ true
+stored_fit kinds rows true = typed_fit kinds rows (list_all (row_fits kinds) rows) mathlib.Core.Path.refl
+stored_fit kinds rows false = mathlib.Core.Path.refl
+
+pub list_fits : (kinds : List ColType) (entry : Option Entry) → all_fit kinds (list_reading kinds entry).rows ≡ true
+list_fits kinds None = mathlib.Core.Path.refl
+list_fits kinds (Some (Bytes content)) = mathlib.Core.Path.refl
+list_fits kinds (Some (Stored own rows)) = stored_fit kinds rows (types_match own kinds)
 
 -- a list keeps no lines
 abbrev pub no_line : Tuple → List (List ℕ)
@@ -91,16 +117,18 @@ size_is_of_run false = mathlib.Core.Path.refl
 -- a write is refused by 54000 alone, where it would leave more than 1,000,000 rows
 abbrev pub list_refusals : Refusals
 list_refusals = record {
-  causes = λ rows changes. size_causes (nat_lt 1000000 (length (rows_after no_line rows changes)));
-  of_run = λ rows changes. size_is_of_run (nat_lt 1000000 (length (rows_after no_line rows changes)));
+  causes = λ entry rows changes. size_causes (nat_lt 1000000 (length (rows_after no_line rows changes)));
+  of_run = λ entry rows changes. size_is_of_run (nat_lt 1000000 (length (rows_after no_line rows changes)));
 }
 
 abbrev pub list_kind : Kind
 list_kind = record {
   objections = λ columns settings. list_objections settings;
-  reads = λ columns settings entry. list_reading (types_of columns) entry;
+  reads = λ columns settings entry. list_reading (kinds_of columns) entry;
+  typed = λ columns settings entry none. list_fits (kinds_of columns) entry;
   line = λ columns settings. no_line;
-  image = λ columns settings. list_image (types_of columns);
+  image = λ columns settings. list_image (kinds_of columns);
+  arrangement = λ columns settings. as_they_come;
   refuses = λ columns settings. list_refusals;
 }
 

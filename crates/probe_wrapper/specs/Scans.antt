@@ -8,9 +8,12 @@ use Rattle.std.specs.String.{string_bytes}
 use Rattle.med_value.specs.Datum.{Tuple, datum, tuple}
 use Rattle.med_value.specs.declared.value.Row.{Row}
 use Rattle.fdw_api.specs.Scan.{Spec, spec_of, TableRow, GivenRow, meets_exact, shown_cells}
-use Rattle.fdw_api.specs.Kinds.{Entry, Stored, Known}
-use Rattle.fdw_api.specs.State.{Nature, Bound, Scan, Ledger, Content, BoxState}
+use Rattle.med_value.specs.declared.value.ColType.{ColType}
+use Rattle.fdw_api.specs.Kinds.{Entry, Stored, Known, as_they_come}
+use Rattle.fdw_api.specs.State.{Nature, Bound, Scan, Staging, Ledger, Content, BoxState}
 use Rattle.fdw_api.specs.Calls.{row_of}
+use Rattle.fdw_api.specs.Writes.{row_of_change_fits}
+use Rattle.std.specs.List.{list_all}
 use Rattle.fdw_api.specs.declared.interface.SourceRow.{SourceRow}
 use Rattle.probe_wrapper.specs.declared.list.ListTable.{ListTable}
 use Rattle.probe_wrapper.specs.declared.list.ListScan.{ListScan}
@@ -54,6 +57,19 @@ listed_rows (Some t) = t.rows.items
 abbrev pub rows_at : List ListTable → ℕ → List Row
 rows_at tables t = listed_rows (slice_get tables t)
 
+-- the types of the columns of the table at a place
+abbrev pub listed_kinds : Option ListTable → List ColType
+listed_kinds None = []
+listed_kinds (Some t) = t.kinds.items
+
+abbrev pub kinds_at : List ListTable → ℕ → List ColType
+kinds_at tables t = listed_kinds (slice_get tables t)
+
+-- the new rows of a write under way are of its table's types
+abbrev pub write_fits : List ListTable → Option Staging → Bool
+write_fits tables None = true
+write_fits tables (Some s) = list_all (row_of_change_fits (kinds_at tables s.table)) s.changes
+
 -- a bound table allows every scan: a list takes over whatever it is asked to
 abbrev pub bound_of : ListTable → Bound
 bound_of t = record {
@@ -63,6 +79,7 @@ bound_of t = record {
   allows_plain = λ wanted offered. mathlib.Core.Path.refl;
   line = no_line;
   image = list_image t.kinds.items;
+  arrangement = as_they_come;
   refuses = list_refusals;
 }
 
@@ -72,8 +89,15 @@ marked_bound true o = option_map bound_of o
 marked_bound false o = None
 
 -- a scan, without its rows to come
-abbrev pub scan_is : ListScan → Scan
-scan_is s = record { table = s.table; spec = spec_of s.spec; params = map datum s.params.items; left = 2 ^ 64 - s.at; broken = s.broken }
+abbrev pub scan_is : List ListTable → ListScan → Scan
+scan_is tables s = record {
+  table = s.table;
+  kinds = kinds_at tables s.table;
+  spec = spec_of s.spec;
+  params = map datum s.params.items;
+  left = 2 ^ 64 - s.at;
+  broken = s.broken;
+}
 
 abbrev pub mapped : {X Y : Type 0} → (X → Y) → List (ℕ × X) → finmap.FinMap nat_cmp Y
 mapped f es = finmap.from_entries (map (λ e. (e.0, f e.1)) es)
@@ -86,7 +110,7 @@ scan_rows tables (Some s) = coming_from (spec_of s.spec) (map datum s.params.ite
 abbrev pub list_ledger : List ListTable → List Bool → BTreeMap ℕ ListScan → Option ListWrite → ℕ → ℕ → Ledger
 list_ledger tables bound scans staged next pulled = record {
   tables = λ t. marked_bound (slice_index_or bound t false) (slice_get tables t);
-  live = mapped scan_is scans.entries;
+  live = mapped (scan_is tables) scans.entries;
   staged = option_map write_is staged;
   next = next;
   pulled = pulled;
@@ -101,7 +125,7 @@ list_content tables scans = record {
 }
 
 abbrev pub list_nature : Nature
-list_nature = record { kind = list_kind; honest = true }
+list_nature = record { kind = list_kind; honest = true; skips = false }
 
 abbrev pub list_state : List ListTable → List Bool → BTreeMap ℕ ListScan → Option ListWrite → ℕ → ℕ → BoxState
 list_state tables bound scans staged next pulled = record { nature = list_nature; ledger = list_ledger tables bound scans staged next pulled; content = list_content tables scans }

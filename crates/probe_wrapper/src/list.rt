@@ -1,18 +1,20 @@
 //! Tables of rows in memory.
-ghost use Rattle.std.specs.Prelude.{◌≡◌, ◌≤◌, ◌<◌, [], ℕ, List, map, length, replicate, Some, None, IfOk, IfErr, IsSome, IfSome, IsTrue, true, slice_get};
+ghost use Rattle.std.specs.Prelude.{◌≡◌, ◌≤◌, ◌<◌, [], ℕ, List, map, length, replicate, Some, None, IfOk, IfErr, IsSome, IfSome, IsTrue, true, slice_get, option_map};
 ghost use Rattle.std.specs.Ordering.{nat_cmp};
 ghost use Rattle.std.specs.BTreeMap as tree;
 ghost use Rattle.std.specs.String.{string_bytes};
 ghost use Rattle.med_value.specs.Datum.{datum};
 ghost use Rattle.fdw_api.specs.Scan.{spec_of};
 ghost use Rattle.fdw_api.specs.declared.scan.Agree.TheVariants.{Exact};
-ghost use Rattle.fdw_api.specs.Kinds.{Column, column_of};
+ghost use Rattle.fdw_api.specs.Kinds.{Column, column_of, kinds_of};
 ghost use Rattle.probe_wrapper.specs.declared.list.ListTable.{ListTable};
-ghost use Rattle.probe_wrapper.specs.Lists.{listed, entry_of, names_differ, rows_fit, IsNewList, same_text, types_match, types_of};
-ghost use Rattle.probe_wrapper.specs.Scans.{NextIs, entry_at, rows_at};
+ghost use Rattle.probe_wrapper.specs.Lists.{listed, entry_of, names_differ, rows_fit, IsNewList, same_text, types_match};
+ghost use Rattle.probe_wrapper.specs.Changes.{write_is};
+ghost use Rattle.probe_wrapper.specs.Scans.{NextIs, entry_at, rows_at, write_fits};
 
 use crate::changes::{ListChange, ListWrite, add_change, applied};
 use fdw_api::interface::{Counts, Fault, Opt, RowId, SourceRow, TableNo, Ticket, Wrapper};
+use fdw_api::law::{rows_are_typed, writes_are_typed};
 use fdw_api::scan::{Agree, Agreement, Restriction, ScanSpec, copy_values, meets_taken};
 use med_value::{Cause, ColType, ColumnDef, NoMemory, Row, Value};
 use std::alloc::Global;
@@ -44,7 +46,7 @@ struct ListScan {
 /// It answers `Fault::Source` never. Its kind is `list_kind`: the name of a table stands for it, and its columns may have any names.
 /// The number of a table is its place, and the id of a row is its place in its table. It takes over every restriction, and gives the
 /// wanted columns alone where it is asked to. A write that is kept leaves the rows that stay in list order, and then the new ones; over
-/// 1,000,000 rows it is refused by `Cause::TooLarge` (54000).
+/// 1,000,000 rows it is refused by `Cause::TooLarge` (54000). A refused call uses no ticket number up.
 #[derive(Drop)]
 pub struct ListWrapper {
     tables: Vec<ListTable>,
@@ -55,6 +57,8 @@ pub struct ListWrapper {
     pulled: u64,
     ghost marked: { length bound.items ≡ length tables.items },
     ghost distinct: { IsTrue (names_differ (map listed tables.items)) },
+    ghost typed: { IsTrue (rows_fit (map listed tables.items)) },
+    ghost typed_write: { IsTrue (write_fits tables.items (option_map write_is staged)) },
     ghost fresh: { (k : ℕ) → next ≤ k → tree.get nat_cmp scans k ≡ None },
 }
 
@@ -69,6 +73,7 @@ impl ListWrapper {
         requires names { IsTrue (names_differ (map listed tables.items)) }
         requires rows { IsTrue (rows_fit (map listed tables.items)) }
         ensures new { IfOk result (λ w. IsNewList (box_of w) (map listed tables.items)) }
+        ensures numbers { IfOk result (λ w. (box_of w).nature.skips ≡ false) }
         ensures no_objection { IfOk result (λ w. (columns : List Column) → (box_of w).nature.kind.objections columns [] ≡ []) }
     {
         let bound = vec![in alloc; false; tables.len()]?;
@@ -101,7 +106,7 @@ fn find(tables: &Vec<ListTable>, name: &str) -> Option<usize>
 
 /// Whether columns are as many as these types, and of them.
 fn has_types(types: &[ColType], columns: &[ColumnDef]) -> bool
-    ensures { result ≡ types_match types.now (types_of (map column_of columns.now)) }
+    ensures { result ≡ types_match types.now (kinds_of (map column_of columns.now)) }
 {
     let mut types = types;
     let mut columns = columns;
@@ -281,6 +286,7 @@ impl Wrapper for ListWrapper {
             }
             Ok(None) => Ok(None),
             Ok(Some(row)) => {
+                rows_are_typed();
                 advance(&mut self.scans, number, row.id.number as usize + 1);
                 self.pulled = self.pulled.saturating_add(1);
                 Ok(Some(row))
@@ -344,6 +350,7 @@ impl Wrapper for ListWrapper {
         if rows.len() > 1_000_000 {
             return Err(Fault::Refused(Cause::TooLarge));
         }
+        writes_are_typed();
         self.tables[at].rows = rows;
         Ok(())
     }

@@ -1,10 +1,10 @@
 use Rattle.std.proofs.Common.{◌≡◌, map, length}
 use Rattle.fdw_api.specs.Kinds.{column_of}
-use Rattle.probe_wrapper.specs.Lists.{types_match, types_of}
+use Rattle.probe_wrapper.specs.Lists.{types_match, kinds_of}
 use Rattle.probe_wrapper.proofs.list.has_types.Given as goal
 
 abbrev pub invariant-loop-kind : goal.invariant-loop-kind
-invariant-loop-kind l = types_match l.initial.types (types_of (map column_of l.initial.columns)) ≡ types_match l.types (types_of (map column_of l.columns))
+invariant-loop-kind l = types_match l.initial.types (kinds_of (map column_of l.initial.columns)) ≡ types_match l.types (kinds_of (map column_of l.columns))
 
 abbrev pub decreases-loop-kind : goal.decreases-loop-kind
 decreases-loop-kind l = length l.types

@@ -39,4 +39,4 @@ returns-clause-ok c =
     let x = c.index.result.now in
     let d = slice_get_read s.tables.items (length s.tables.items) c.in-Some.at x refl b c.index.ensures in
     let same = subst (λ (z : ListTable). same_text (string_bytes z.name) c.args.remote.now ≡ true) (some_inj _ _ (sym w.1 ∙ d)) w.2 in
-    list_binds s.tables.items s.bound.items s.scans s.staged s.next s.pulled c.in-Some.at _ _ _ x (omega arith) c.requires (c.find.ensures.entry ∙ ap (entry_at s.tables.items) c.in-Some.is) d same (search rules)
+    list_binds s.tables.items s.bound.items s.scans s.staged s.next s.pulled c.in-Some.at _ _ _ x (omega arith) c.requires (c.find.ensures.entry ∙ ap (entry_at s.tables.items) c.in-Some.is) d same (search rules) s.typed

@@ -2,7 +2,7 @@ use Rattle.std.proofs.Common.{◌≡◌, ◌∙◌, sym, ap, refl, Some, None, t
 use Rattle.std.proofs.lemmas.Option.{slice_get_within, slice_get_read}
 use Rattle.probe_wrapper.specs.declared.list.ListTable.{ListTable}
 use Rattle.probe_wrapper.proofs.Tables.{some_inj}
-use Rattle.probe_wrapper.proofs.Closing.{kept_closes, list_refuses, names_stay, staged_there, staged_scans}
+use Rattle.probe_wrapper.proofs.Closing.{kept_closes, list_refuses, names_stay, staged_there, staged_scans, written_fits}
 use Rattle.probe_wrapper.proofs.list.ListWrapperWrapper.end_modify.Goals as goal
 
 pub returns-clause-ok : goal.returns-clause-ok
@@ -30,8 +30,17 @@ invariant_of-self-2 c =
     let b = slice_get_within s.tables.items st.table w.1 w.2 in
     let z = c.index_mut.result.now in
     let dz = slice_get_read s.tables.items (length s.tables.items) st.table z refl b c.index_mut.ensures.value in
+    let x = c.index.result.now in
+    let dx = slice_get_read s.tables.items (length s.tables.items) st.table x refl b c.index.ensures in
+    let same = some_inj z x (sym dz ∙ dx) in
     let m = s.marked in
-    record { marked = search rules; distinct = names_stay s.tables.items st.table z _ dz refl ∙ s.distinct; fresh = s.fresh }
+    record {
+      marked = search rules;
+      distinct = names_stay s.tables.items st.table z _ dz refl ∙ s.distinct;
+      typed = written_fits s.tables.items st s.staged x record { name = z.name; kinds = z.kinds; rows = c.in_ok-rows.rows } c.writes_are_typed.ensures es dx (ap (λ (t : ListTable). t.kinds) same) s.typed s.typed_write c.in_ok-rows.ensures;
+      typed_write = search rules;
+      fresh = s.fresh;
+    }
 
 pub returns-then-len-gt1000000-clause-err : goal.returns-then-len-gt1000000-clause-err
 returns-then-len-gt1000000-clause-err c =

@@ -53,7 +53,7 @@ returns-in-Ok-Some-clause-ok c =
     let is = open_there s.tables.items s.bound.items s.scans s.staged s.next s.pulled c.args.ticket.now.number _ c.requires.1 in
     let w = at_some _ is in
     rw c.saturating_add-self.ensures
-    (list_gives s.tables.items s.bound.items s.scans c.advance.new.scans s.staged s.next s.pulled c.args.ticket.now.number w.0 c.in-Ok-Some.row w.1 (if_some _ _ w.0 w.1 (rw c.in-Ok-Some.field-0-is at c.in-Ok-Some.ensures)) (if_some _ _ w.0 w.1 c.advance.ensures))
+    (list_gives s.tables.items s.bound.items s.scans c.advance.new.scans s.staged s.next s.pulled c.args.ticket.now.number w.0 c.in-Ok-Some.row c.rows_are_typed.ensures.shown s.typed w.1 (if_some _ _ w.0 w.1 (rw c.in-Ok-Some.field-0-is at c.in-Ok-Some.ensures)) (if_some _ _ w.0 w.1 c.advance.ensures))
 
 pub returns-in-Ok-None-clause-ok : goal.returns-in-Ok-None-clause-ok
 returns-in-Ok-None-clause-ok c =
