@@ -1,6 +1,6 @@
 -- The parts of a query: its entries, its scans, its run, and what it means in whatever order rows come.
-use Rattle.std.proofs.Common.{◌≡◌, ℕ, ◌⊎◌, ◌^◌, ◌<◌, ◌≤◌, string_bytes, List, [], ◌∷◌, slice_get, slice_index_or, Option, Some, None, option_map, map, length, All, refl, sym, ap, ◌∙◌, subst, suc, arith, inl, inr, Result, Ok, Err, IfOk, IfErr, filter, Bool, IsSome, false}
-use Rattle.std.proofs.lemmas.List.{length-map}
+use Rattle.std.proofs.Common.{◌≡◌, ℕ, ◌⊎◌, ◌^◌, ◌<◌, ◌≤◌, string_bytes, List, [], ◌∷◌, ◌++◌, ◌+◌, take, get_or, slice_get, slice_index_or, Option, Some, None, option_map, map, length, All, refl, sym, ap, ◌∙◌, subst, suc, arith, inl, inr, Result, Ok, Err, IfOk, IfErr, filter, Bool, IsSome, false}
+use Rattle.std.proofs.lemmas.List.{length-map, map-append, take_more}
 use Rattle.std.proofs.lemmas.List.Elements.{All-cons}
 use Rattle.std.proofs.lemmas.List.Sorted.{IsPermutation-sym, length_permutation}
 use Rattle.std.proofs.lemmas.Option.{slice_get-map}
@@ -38,7 +38,7 @@ use Rattle.med_binder.specs.declared.bound.BoundEntry.{BoundEntry}
 use Rattle.bind_names.specs.declared.table.AttachedTable.{AttachedTable}
 use Rattle.med_session.specs.Queries.{query_of}
 use Rattle.med_session.specs.Engine.{Attached, attached}
-use Rattle.med_session.specs.Selecting.{cause_of, answers_given, answers_wanted, shape_of, meant_in, IsBindable, NotBound, IsPlaceOf, ArePlaces, RunAnswers, AnswersOver, RunFails, no_memory, box_fails, numbers_out, shows_cause, Selects, SelectFails, run_fails, too_many}
+use Rattle.med_session.specs.Selecting.{cause_of, answers_given, answers_wanted, IsAgreed, AreAgreed, shape_of, meant_in, IsBindable, NotBound, IsPlaceOf, ArePlaces, RunAnswers, AnswersOver, RunFails, no_memory, box_fails, numbers_out, shows_cause, Selects, SelectFails, run_fails, too_many}
 use Rattle.med_session.proofs.Finding.{all_at}
 
 -- ---- what was bound
@@ -98,6 +98,27 @@ offers_bound boxes [] [] is h = none_all (HasOffer boxes)
 offers_bound boxes [] (o ∷ os) is h = absurd is
 offers_bound boxes (e ∷ es) [] is h = absurd is
 offers_bound boxes (e ∷ es) (o ∷ os) is h = All-cons (HasOffer boxes) o os (offer_bound boxes e o is.0 (h 0 e (omega arith))) (offers_bound boxes es os is.1 (λ k d lt. h (suc k) d (omega arith)))
+
+-- one agreement more
+pub agreed_more : (boxes : List (Option BoxState)) (os : List Offer) (more : List Agreement) (o : Offer) (a : Agreement) → AreAgreed boxes os more → IsAgreed boxes o a → AreAgreed boxes (os ++ o ∷ []) (more ++ a ∷ [])
+agreed_more boxes [] [] o a h i = (i, tt)
+agreed_more boxes [] (b ∷ bs) o a h i = absurd h
+agreed_more boxes (p ∷ os) [] o a h i = absurd h
+agreed_more boxes (p ∷ os) (b ∷ bs) o a h i = (h.0, agreed_more boxes os bs o a h.1 i)
+
+next_offer : (offers : List Offer) (i : ℕ) (o : Offer) → i < length offers → o ≡ get_or offers i o → take (i + 1) offers ≡ take i offers ++ o ∷ []
+next_offer offers i o lt e = take_more offers i o lt ∙ ap (λ (x : Offer). take i offers ++ x ∷ []) (sym e)
+
+pub next_agreed : (boxes : List (Option BoxState)) (offers : List Offer) (i : ℕ) (more all : List Agreement) (o : Offer) (a : Agreement) → i < length offers → o ≡ get_or offers i o → all ≡ more ++ a ∷ [] → AreAgreed boxes (take i offers) more → IsAgreed boxes o a
+    → AreAgreed boxes (take (i + 1) offers) all
+next_agreed boxes offers i more all o a lt e grown h is =
+    subst (λ (os : List Offer). AreAgreed boxes os all) (sym (next_offer offers i o lt e)) (subst (λ (l : List Agreement). AreAgreed boxes (take i offers ++ o ∷ []) l) (sym grown) (agreed_more boxes (take i offers) more o a h is))
+
+pub next_counted : (offers : List Offer) (i : ℕ) (more all : List Agreement) (o : Offer) (a : Agreement) → i < length offers → o ≡ get_or offers i o → all ≡ more ++ a ∷ [] → map answers_given more ≡ map answers_wanted (take i offers) → answers_given a ≡ answers_wanted o
+    → map answers_given all ≡ map answers_wanted (take (i + 1) offers)
+next_counted offers i more all o a lt e grown h same =
+    ap (map answers_given) grown ∙ map-append answers_given more (a ∷ []) ∙ ap (λ (l : List ℕ). l ++ answers_given a ∷ []) h ∙ ap (λ (n : ℕ). map answers_wanted (take i offers) ++ n ∷ []) same
+    ∙ sym (map-append answers_wanted (take i offers) (o ∷ [])) ∙ sym (ap (map answers_wanted) (next_offer offers i o lt e))
 
 no_answers : (xs : List Agree) → length xs ≡ 0 → xs ≡ []
 no_answers [] many = refl

@@ -1,5 +1,5 @@
 //! The engine.
-ghost use Rattle.std.specs.Prelude.{◌≡◌, ◌++◌, ℕ, List, IfOk, IfErr, OnOk, OnErr, IsErrOf};
+ghost use Rattle.std.specs.Prelude.{◌≡◌, ◌<◌, ◌+◌, ◌++◌, ℕ, List, IfOk, IfErr, OnOk, OnErr, IsErrOf, vec_len, vec_capacity};
 
 use crate::places::{close_all, closed_sessions, is_open, set_user, user_in};
 use crate::replies::{Outcome, write_reply};
@@ -76,8 +76,9 @@ impl<W: Wrapper> Engine<W> {
 
     /// Answers one request of a session: the reply is put behind what `out` has.
     ///
-    /// `NoRoom` where room for 128 bytes is refused before the request is begun. Then nothing was done. Where a later growth is refused,
-    /// the reply is 53200, for which that room is enough.
+    /// `NoRoom` where room for 128 bytes is refused before the request is begun. Then nothing was done, and the output had not the room for
+    /// 128 bytes more: a caller that leaves that room never meets it. Where a later growth is refused, the reply is 53200, for which that room
+    /// is enough.
     pub fn request(
         &mut self,
         sid: Sid,
@@ -89,6 +90,7 @@ impl<W: Wrapper> Engine<W> {
         ensures answered { OnOk result ((text : List ℕ) × (out.new.items ≡ out.old.items ++ text)
             × IsAnswered (shown W.meaning self.old) sid.number (asked request.entry) text (shown W.meaning self.new)) }
         ensures no_room { OnErr result ((self.new ≡ self.old) × (out.new.items ≡ out.old.items)) }
+        ensures full { OnErr result (vec_capacity out.old < vec_len out.old + 128) }
     {
         if out.reserve(ROOM).is_err() {
             return Err(NoRoom);
