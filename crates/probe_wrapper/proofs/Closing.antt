@@ -6,7 +6,6 @@ use Rattle.std.specs.String.{string_bytes}
 use Rattle.std.specs.BTreeMap as tree
 use Rattle.std.specs.BTreeMap.{BTreeMap}
 use Rattle.std.proofs.lemmas.Bool.Decides.{eqb_tells}
-use Rattle.std.proofs.lemmas.List.Sorted.{IsPermutation-refl}
 use lib.Pointwise.{bytes_decides}
 use Rattle.med_value.specs.Datum.{Tuple, tuple}
 use Rattle.med_value.specs.declared.value.Row.{Row}
@@ -166,7 +165,7 @@ list_closes tables bound m s next pulled x y marked is distinct en ek er small s
         is = rw (marked, is) refl;
         entry = entry_of (map listed tables) (string_bytes x.name);
         picked = refl;
-        no_cause = rw before (few_rows x y s _ er small);
+        no_cause = rw before (few_rows x y s (entry_of (map listed tables) (string_bytes x.name)) er small);
         rows = rw (before, after, held_rows 0 y.rows.items, er) refl;
         once = numbered_once 0 (rows_at (slice_set tables s.table y) s.table);
         holdings = written there;
@@ -262,10 +261,10 @@ pub written_fits : (ts : List ListTable) (s : ListWrite) (staged : Option ListWr
 written_fits ts s staged x y law es is ek f w er =
     let kinds : kinds_at ts s.table ≡ x.kinds.items = ap listed_kinds is in
     let changes : list_all (row_of_change_fits x.kinds.items) (map change_is s.changes.items) ≡ true =
-        ap (λ (k : List ColType). list_all (row_of_change_fits k) (map change_is s.changes.items)) (sym kinds) ∙ ap (λ (o : Option ListWrite). write_fits ts (option_map write_is o)) (sym es) ∙ w in
+    ap (λ (k : List ColType). list_all (row_of_change_fits k) (map change_is s.changes.items)) (sym kinds) ∙ ap (λ (o : Option ListWrite). write_fits ts (option_map write_is o)) (sym es) ∙ w in
     let old : list_all (λ (r : TableRow). row_fits x.kinds.items r.cells) (numbered 0 x.rows.items) ≡ true = numbered_fit x.kinds.items 0 x.rows.items ∙ fit_at ts s.table x is f in
     let after : list_all (row_fits x.kinds.items) (map tuple y.rows.items) ≡ true =
-        sym (line_fits x.kinds.items y.rows.items) ∙ ap (all_fit x.kinds.items) er ∙ law x.kinds.items no_line (numbered 0 x.rows.items) (map change_is s.changes.items) changes old in
+    sym (line_fits x.kinds.items y.rows.items) ∙ ap (all_fit x.kinds.items) er ∙ law x.kinds.items no_line (numbered 0 x.rows.items) (map change_is s.changes.items) changes old in
     set_fits ts s.table x y is (rw ek after) f
   where
     numbered_fit : (kinds : List ColType) (n : ℕ) (rs : List Row) → list_all (λ (r : TableRow). row_fits kinds r.cells) (numbered n rs) ≡ list_all (row_fits kinds) (map tuple rs)

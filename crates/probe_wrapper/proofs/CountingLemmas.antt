@@ -1,9 +1,10 @@
 -- What is said of the inner wrapper is said of a counting one.
 use Rattle.std.proofs.Common.{ℕ, Bool, true, false, List, ap, Result, Ok, Err, IfOk, IfErr}
+use Rattle.med_value.specs.Datum.{Tuple}
 use Rattle.fdw_api.specs.Scan.{Spec}
 use Rattle.fdw_api.specs.Kinds.{Column, Setting, Change}
 use Rattle.fdw_api.specs.State.{BoxState, Ledger, Staging}
-use Rattle.fdw_api.specs.Calls.{Leaves, Binds, Allows}
+use Rattle.fdw_api.specs.Calls.{Leaves, Binds, Allows, Begins}
 use Rattle.fdw_api.specs.Writes.{RefusesChange, Closes, Outcome, ChangeCause}
 use Rattle.fdw_api.specs.declared.interface.Fault.{Fault}
 use Rattle.fdw_api.specs.declared.interface.Fault.TheVariants.{NoMemory, Source, Refused}
@@ -29,6 +30,7 @@ binds p s t remote columns settings n b = record {
   kinds_are = b.kinds_are;
   line_is = b.line_is;
   image_is = b.image_is;
+  arrangement_is = b.arrangement_is;
   refuses_is = b.refuses_is;
   ledger = ap (λ (l : Ledger). record l { pulled = p }) b.ledger;
   entry = b.entry;
@@ -36,6 +38,21 @@ binds p s t remote columns settings n b = record {
   no_cause = b.no_cause;
   rows = b.rows;
   once = b.once;
+  leaves = λ h. leaves s t p (b.leaves h);
+}
+
+pub begins : (p : ℕ) (s t : BoxState) (n : ℕ) (spec : Spec) (params : Tuple) (q : ℕ) → Begins s n spec params q t → Begins (counted s p) n spec params q (counted t p)
+begins p s t n spec params q b = record {
+  nature = b.nature;
+  is_next = b.is_next;
+  room = b.room;
+  fresh = b.fresh;
+  bound = b.bound;
+  is = b.is;
+  left = b.left;
+  few = b.few;
+  ledger = ap (λ (l : Ledger). record l { pulled = p }) b.ledger;
+  coming = b.coming;
   leaves = λ h. leaves s t p (b.leaves h);
 }
 
@@ -58,7 +75,7 @@ refuses_change p s t change fault r = record {
 }
 
 outcome : (p : ℕ) (s t : BoxState) (keep : Bool) (staging : Staging) → Outcome s keep staging t → Outcome (counted s p) keep staging (counted t p)
-outcome p s t true staging w = record { bound = w.bound; is = w.is; no_cause = w.no_cause; rows = w.rows; once = w.once; holdings = w.holdings; leaves = leaves s t p w.leaves }
+outcome p s t true staging w = record { bound = w.bound; is = w.is; entry = w.entry; picked = w.picked; no_cause = w.no_cause; rows = w.rows; once = w.once; holdings = w.holdings; leaves = leaves s t p w.leaves }
 outcome p s t false staging l = leaves s t p l
 
 pub closes : (p : ℕ) (s t : BoxState) (keep : Bool) → Closes s keep t → Closes (counted s p) keep (counted t p)

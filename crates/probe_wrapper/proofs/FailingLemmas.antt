@@ -199,6 +199,7 @@ binds f s t remote columns settings n b = record {
   kinds_are = b.kinds_are;
   line_is = b.line_is;
   image_is = b.image_is;
+  arrangement_is = b.arrangement_is;
   refuses_is = b.refuses_is;
   ledger = ap (failed_ledger f) b.ledger;
   entry = b.entry;
@@ -215,6 +216,7 @@ refuses f s t fault r = record {
   next = r.next;
   rises = r.rises;
   stays = r.stays;
+  keeps = r.keeps;
   ledger = ap (failed_ledger f) r.ledger ∙ ap (λ (n : ℕ). record (failed_ledger f s.ledger) { next = r.next; faults = n }) (tells f fault s.ledger.faults);
   leaves = λ h. leaves f f s t (r.leaves h);
 }
@@ -268,11 +270,14 @@ begins f s t n spec params q b = record {
   is_next = b.is_next;
   room = b.room;
   fresh = fresh_seen f s q b.fresh;
+  bound = b.bound;
+  is = b.is;
   left = b.left;
+  few = b.few;
   ledger =
       ap (failed_ledger (past_scan f q)) b.ledger
-      ∙ past_ledger f q (record s.ledger { live = finmap.insert s.ledger.live q (new_scan n spec params b.left); next = q + 1 }) (finmap.insert (live_of f s.ledger.live) q (new_scan n spec params b.left))
-      (insert_of (past_scan f q) s.ledger.live q (new_scan n spec params b.left) (past_is_of f q) ∙ ap (λ (m : Scans). finmap.insert m q (new_scan n spec params b.left)) (fresh_of f s.ledger.live q b.fresh));
+      ∙ past_ledger f q (record s.ledger { live = finmap.insert s.ledger.live q (new_scan n b.bound.kinds spec params b.left); next = q + 1 }) (finmap.insert (live_of f s.ledger.live) q (new_scan n b.bound.kinds spec params b.left))
+      (insert_of (past_scan f q) s.ledger.live q (new_scan n b.bound.kinds spec params b.left) (past_is_of f q) ∙ ap (λ (m : Scans). finmap.insert m q (new_scan n b.bound.kinds spec params b.left)) (fresh_of f s.ledger.live q b.fresh));
   coming = b.coming;
   leaves = λ h. leaves f (past_scan f q) s t (b.leaves h);
 }
@@ -288,6 +293,7 @@ gives f s t q (Some row) e g = record {
   at = at_seen f s q g.scan e g.at;
   left = g.left;
   fewer = g.fewer;
+  typed = g.typed;
   ledger = ap (failed_ledger f) g.ledger ∙ ap (λ (m : Scans). record (failed_ledger f s.ledger) { live = m; pulled = bumped s.ledger.pulled }) (insert_of f s.ledger.live q (record g.scan { left = g.left }) e);
   coming = g.coming;
   leaves = λ h. leaves f f s t (g.leaves h);
@@ -315,7 +321,8 @@ rescans f s t q params e r = record {
   scan = r.scan;
   at = at_seen f s q r.scan e r.at;
   left = r.left;
-  ledger = ap (failed_ledger f) r.ledger ∙ ap (λ (m : Scans). record (failed_ledger f s.ledger) { live = m }) (insert_of f s.ledger.live q (new_scan r.scan.table r.scan.spec params r.left) e);
+  few = r.few;
+  ledger = ap (failed_ledger f) r.ledger ∙ ap (λ (m : Scans). record (failed_ledger f s.ledger) { live = m }) (insert_of f s.ledger.live q (new_scan r.scan.table r.scan.kinds r.scan.spec params r.left) e);
   coming = r.coming;
   leaves = λ h. leaves f f s t (r.leaves h);
 }
@@ -426,7 +433,7 @@ can_close f s keep c = go s.ledger.staged refl c.is_staged
         or_right false b e = e
 
 outcome : (f : Failure) (s t : BoxState) (keep : Bool) (staging : Staging) → Outcome s keep staging t → Outcome (failed s f) keep (staging_of f staging) (failed t f)
-outcome f s t true staging w = record { bound = w.bound; is = w.is; no_cause = w.no_cause; rows = w.rows; once = w.once; holdings = w.holdings; leaves = leaves f f s t w.leaves }
+outcome f s t true staging w = record { bound = w.bound; is = w.is; entry = w.entry; picked = w.picked; no_cause = w.no_cause; rows = w.rows; once = w.once; holdings = w.holdings; leaves = leaves f f s t w.leaves }
 outcome f s t false staging l = leaves f f s t l
 
 pub closes : (f : Failure) (s t : BoxState) (keep : Bool) → Closes s keep t → Closes (failed s f) keep (failed t f)

@@ -1,8 +1,9 @@
 -- What is said of the calls of the inner wrapper is said of those of a shuffled one.
-use Rattle.std.proofs.Common.{◌≡◌, ◌≢◌, ℕ, ◌+◌, ◌-◌, ◌^◌, ◌<◌, Bool, true, false, ◌||◌, List, [], ◌∷◌, length, Option, Some, None, IsSome, option_map, refl, ap, sym, ◌∙◌, subst, arith}
+use Rattle.std.proofs.Common.{◌≡◌, ◌≢◌, ℕ, ◌+◌, ◌-◌, ◌^◌, ◌<◌, Bool, true, false, not, ◌&&◌, ◌||◌, List, [], ◌∷◌, length, Option, Some, None, IsSome, option_map, refl, ap, sym, ◌∙◌, subst, arith}
 use Rattle.std.specs.FinMap as finmap
 use Rattle.med_value.specs.Datum.{Tuple}
-use Rattle.fdw_api.specs.Scan.{Spec, GivenRow, IsComing, params_fit}
+use Rattle.std.specs.List.{list_all}
+use Rattle.fdw_api.specs.Scan.{Spec, GivenRow, IsComing, params_fit, shown_fits}
 use Rattle.fdw_api.specs.Kinds.{Column, Setting, Change}
 use Rattle.fdw_api.specs.State.{BoxState, Nature, Ledger, Staging, Scan, IsIdle, is_honest, scan_of, table_of, rows_of}
 use Rattle.fdw_api.specs.Calls.{bumped, faults_after, row_of, Leaves, NoScan, Allows, Binds, RefusesBind, BindCause, CanUnbind, Unbinds, Refuses, Begins, RefusesBegin, IsOpen, Gives, Breaks, CanRescan, Rescans, Ends, new_scan}
@@ -10,9 +11,10 @@ use Rattle.fdw_api.specs.Writes.{CanModify, Opens, RefusesModify, CanChange, Sta
 use Rattle.fdw_api.specs.declared.interface.Fault.{Fault}
 use Rattle.fdw_api.specs.declared.interface.Fault.TheVariants.{NoMemory, Source, Refused}
 use Rattle.fdw_api.specs.declared.interface.SourceRow.{SourceRow}
-use Rattle.probe_wrapper.specs.Shuffled.{turned, Turn, unread, turned_rows, turned_coming, left_of, seen_scan, seen, reordered_ledger, reordered, Becomes, Stays, is_unread, TakesFirst, TurnsRows, ReadsOut, StopsOut}
+use Rattle.probe_wrapper.specs.Shuffled.{turned, Turn, unread, turned_rows, turned_coming, left_of, waiting_fits, seen_scan, seen, reordered_ledger, reordered, Becomes, Stays, is_unread, TakesFirst, TurnsRows, ReadsOut, StopsOut}
+use Rattle.probe_wrapper.specs.LiveScans.{round}
 use Rattle.probe_wrapper.proofs.SeenScans.{Scans, put_other, gone_again}
-use Rattle.probe_wrapper.proofs.ShuffledLemmas.{Turns, seen_get, insert_of, change_of, remove_of, keep_of, turned_come, turned_length, turned_nil, nil_turned}
+use Rattle.probe_wrapper.proofs.ShuffledLemmas.{Turns, seen_get, insert_of, change_of, remove_of, keep_of, turned_come, turned_pass, turned_length, turned_nil, nil_turned}
 
 some_inj : {A : Type 0} (a b : A) → Some a ≡ Some b → a ≡ b
 some_inj a b q = cc
@@ -34,6 +36,7 @@ pub record OpenInside (s : BoxState) (turns : Turns) (q : ℕ) (scan : Scan) : T
   pub seen_as : scan ≡ seen_scan (Some turn) inner
   pub whole : turn.broken ≡ false
   pub whole_in : inner.broken ≡ false
+  pub fits : waiting_fits inner.kinds inner.spec turn.waiting ≡ true
 
 or_left : (a b : Bool) → (a || b) ≡ false → a ≡ false
 or_left true b e = absurd cc
@@ -42,6 +45,14 @@ or_left false b e = refl
 or_right : (a b : Bool) → (a || b) ≡ false → b ≡ false
 or_right true b e = absurd cc
 or_right false b e = e
+
+not_false : (a : Bool) → not a ≡ false → a ≡ true
+not_false true e = refl
+not_false false e = absurd cc
+
+-- a wrapper round another does not promise to keep numbers
+never : {X : Type 0} → true ≡ false → X
+never e = absurd cc
 
 pub open_in : (s : BoxState) (turns : Turns) (p q : ℕ) (scan : Scan) → scan_of (reordered s turns p) q ≡ Some scan → scan.broken ≡ false → OpenInside s turns q scan
 open_in s turns p q scan at whole = go (turns q) (scan_of s q) refl refl (sym (seen_get turns s.ledger.live q) ∙ at)
@@ -56,8 +67,9 @@ open_in s turns p q scan at whole = go (turns q) (scan_of s q) refl refl (sym (s
         clash e = cc
     go (Some t) (Some x) e f h =
         let same = some_inj (seen_scan (Some t) x) scan h in
-        let both : (t.broken || x.broken) ≡ false = ap (λ (z : Scan). z.broken) same ∙ whole in
-        record { turn = t; at = e; inner = x; is = f; seen_as = sym same; whole = or_left t.broken x.broken both; whole_in = or_right t.broken x.broken both }
+        let all : (t.broken || (x.broken || not (waiting_fits x.kinds x.spec t.waiting))) ≡ false = ap (λ (z : Scan). z.broken) same ∙ whole in
+        let rest = or_right t.broken _ all in
+        record { turn = t; at = e; inner = x; is = f; seen_as = sym same; whole = or_left t.broken _ all; whole_in = or_left x.broken _ rest; fits = not_false _ (or_right x.broken _ rest) }
 
 pub is_open_in : (s : BoxState) (turns : Turns) (p q : ℕ) → IsOpen (reordered s turns p) q → IsOpen s q
 is_open_in s turns p q o = let w = open_in s turns p q o.0 o.1 o.2 in (w.inner, w.is, w.whole_in)
@@ -86,13 +98,14 @@ allows s turns p t spec a = record { bound = a.bound; is = a.is; allowed = a.all
 
 pub binds : (turns : Turns) (p : ℕ) (s t : BoxState) (remote : List ℕ) (columns : List Column) (settings : List Setting) (n : ℕ) → Binds s remote columns settings n t → Binds (reordered s turns p) remote columns settings n (reordered t turns p)
 binds turns p s t remote columns settings n b = record {
-  nature = b.nature;
+  nature = ap round b.nature;
   fresh = b.fresh;
   bound = b.bound;
   remote_is = b.remote_is;
   kinds_are = b.kinds_are;
   line_is = b.line_is;
   image_is = b.image_is;
+  arrangement_is = b.arrangement_is;
   refuses_is = b.refuses_is;
   ledger = ap (reordered_ledger turns p) b.ledger;
   entry = b.entry;
@@ -105,10 +118,11 @@ binds turns p s t remote columns settings n b = record {
 
 pub refuses : (turns : Turns) (p : ℕ) (s t : BoxState) (fault : Fault) → Refuses fault s t → Refuses fault (reordered s turns p) (reordered t turns p)
 refuses turns p s t fault r = record {
-  nature = r.nature;
+  nature = ap round r.nature;
   next = r.next;
   rises = r.rises;
   stays = r.stays;
+  keeps = λ e. never e;
   ledger = ap (reordered_ledger turns p) r.ledger;
   leaves = λ h. leaves s t turns p (r.leaves h);
 }
@@ -132,19 +146,22 @@ pub can_unbind : (turns : Turns) (p : ℕ) (s : BoxState) (t : ℕ) → CanUnbin
 can_unbind turns p s t c = record { is_bound = c.is_bound; no_scan = no_scan_in turns p s t c.no_scan; not_staged = c.not_staged }
 
 pub unbinds : (turns : Turns) (p : ℕ) (s t : BoxState) (n : ℕ) → Unbinds s n t → Unbinds (reordered s turns p) n (reordered t turns p)
-unbinds turns p s t n u = record { nature = u.nature; ledger = ap (reordered_ledger turns p) u.ledger; leaves = λ h. leaves s t turns p (u.leaves h) }
+unbinds turns p s t n u = record { nature = ap round u.nature; ledger = ap (reordered_ledger turns p) u.ledger; leaves = λ h. leaves s t turns p (u.leaves h) }
 
 pub begins : (old new : Turns) (p : ℕ) (s t : BoxState) (n : ℕ) (spec : Spec) (params : Tuple) (q places : ℕ) → Begins s n spec params q t → Becomes old q (unread places) new → Begins (reordered s old p) n spec params q (reordered t new p)
 begins old new p s t n spec params q places b w = record {
-  nature = b.nature;
+  nature = ap round b.nature;
   is_next = b.is_next;
   room = b.room;
   fresh = seen_get old s.ledger.live q ∙ ap (option_map (seen_scan (old q))) b.fresh;
+  bound = b.bound;
+  is = b.is;
   left = 2 ^ 64;
+  few = omega arith;
   ledger =
       ap (reordered_ledger new p) b.ledger
       ∙ ap (λ (m : Scans). record (reordered_ledger old p s.ledger) { live = m; next = q + 1 })
-      (insert_of old new s.ledger.live q (new_scan n spec params b.left) w.others ∙ ap (λ (o : Option Turn). finmap.insert (seen old s.ledger.live) q (seen_scan o (new_scan n spec params b.left))) w.now);
+      (insert_of old new s.ledger.live q (new_scan n b.bound.kinds spec params b.left) w.others ∙ ap (λ (o : Option Turn). finmap.insert (seen old s.ledger.live) q (seen_scan o (new_scan n b.bound.kinds spec params b.left))) w.now);
   coming = λ h. subst (λ (l : List GivenRow). IsComing (rows_of s n) spec params l) (sym (ap (λ (o : Option Turn). turned_coming o (t.content.coming q)) w.now)) (turned_come (rows_of s n) spec params places (t.content.coming q) (b.coming h));
   leaves = λ h. leaves_but s t old new p p (λ x ne. w.others x ne) (b.leaves h);
 }
@@ -163,14 +180,15 @@ honest_on s t e h = ap (λ (n : Nature). n.honest) e ∙ h
 pub begun_in_vain : (old new : Turns) (p : ℕ) (s mid t : BoxState) (n : ℕ) (spec : Spec) (params : Tuple) (q : ℕ) → Begins s n spec params q mid → Ends mid q t → Stays old new → RefusesBegin NoMemory (reordered s old p) (reordered t new p)
 begun_in_vain old new p s mid t n spec params q b e stays = record {
   refuses = record {
-    nature = e.nature ∙ b.nature;
+    nature = ap round (e.nature ∙ b.nature);
     next = s.ledger.next + 1;
     rises = omega arith;
     stays = λ full. let r : s.ledger.next < 2 ^ 64 - 1 = subst (λ (x : ℕ). x < 2 ^ 64 - 1) b.is_next b.room in omega (arith, full, r);
+    keeps = λ e. never e;
     ledger =
         ap (reordered_ledger new p)
         (e.ledger ∙ ap (λ (l : Ledger). record l { live = finmap.remove l.live q }) b.ledger
-        ∙ ap (λ (m : Scans). record s.ledger { live = m; next = q + 1 }) (gone_again s.ledger.live q (new_scan n spec params b.left) b.fresh)
+        ∙ ap (λ (m : Scans). record s.ledger { live = m; next = q + 1 }) (gone_again s.ledger.live q (new_scan n b.bound.kinds spec params b.left) b.fresh)
         ∙ ap (λ (x : ℕ). record s.ledger { next = x + 1 }) b.is_next)
         ∙ ap (λ (m : Scans). record (reordered_ledger old p s.ledger) { live = m; next = s.ledger.next + 1 }) (keep_of old new s.ledger.live stays);
     leaves = λ h. leaves_but s t old new p p (λ x o. stays x) (kept (b.leaves h) (e.leaves (honest_on s mid b.nature h)));
@@ -182,7 +200,7 @@ begun_in_vain old new p s mid t n spec params q b e stays = record {
     kept l k = record {
       coming = λ x live other.
           let ne : x ≢ q = λ same. not_this (scan_of s q) b.fresh (subst (λ (z : ℕ). IsSome (scan_of s z)) same live) in
-          k.coming x (subst IsSome (sym (ap (λ z. finmap.get z.live x) b.ledger ∙ put_other s.ledger.live q x (new_scan n spec params b.left) ne)) live) ne ∙ l.coming x live ne;
+          k.coming x (subst IsSome (sym (ap (λ z. finmap.get z.live x) b.ledger ∙ put_other s.ledger.live q x (new_scan n b.bound.kinds spec params b.left) ne)) live) ne ∙ l.coming x live ne;
       rows = λ u o. k.rows u o ∙ l.rows u o;
       holdings = λ r o. k.holdings r o ∙ l.holdings r o;
     }
@@ -200,6 +218,14 @@ broken_seen (Some t) s = at t.broken
 abbrev pub counted : Option SourceRow → ℕ → ℕ
 counted None p = p
 counted (Some row) p = bumped p
+
+both : (a b : Bool) → (a && b) ≡ true → (a ≡ true) × (b ≡ true)
+both true b e = (refl, e)
+both false b e = absurd cc
+
+-- a scan whose rows fit is as whole as it was
+still_whole : (a b c : Bool) → a ≡ false → b ≡ false → c ≡ true → (a || (b || not c)) ≡ false
+still_whole a b c e f h = rw (e, f, h) refl
 
 -- a row that waited is given
 pub gives_waiting : (old new : Turns) (p : ℕ) (s : BoxState) (q : ℕ) (row : Option SourceRow) → IsOpen (reordered s old p) q → TakesFirst old q row new → Gives (reordered s old p) q row (reordered s new (counted row p))
@@ -219,6 +245,12 @@ gives_waiting old new p s q (Some row) o k =
     let rest = k.hands.0 in
     let becomes = k.hands.2 in
     let scan = o.0 in
+    let fits : list_all (λ r. shown_fits w.inner.kinds w.inner.spec r.cells) (row_of row ∷ rest) ≡ true =
+    sym (ap (waiting_fits w.inner.kinds w.inner.spec) (ap (λ (t : Turn). t.waiting) same ∙ k.wait ∙ ap (λ (l : List GivenRow). Some l) k.hands.1)) ∙ w.fits in
+    let pair = both (shown_fits w.inner.kinds w.inner.spec (row_of row).cells) _ fits in
+    let whole_after : (k.turn.broken || (w.inner.broken || not (list_all (λ r. shown_fits w.inner.kinds w.inner.spec r.cells) rest))) ≡ false =
+    still_whole k.turn.broken w.inner.broken _ (ap (λ (t : Turn). t.broken) (sym same) ∙ w.whole) w.whole_in pair.1 in
+    let whole_was : (w.turn.broken || (w.inner.broken || not (waiting_fits w.inner.kinds w.inner.spec w.turn.waiting))) ≡ false = ap (λ (z : Scan). z.broken) (sym w.seen_as) ∙ o.2 in
     let left_was : scan.left ≡ length (row_of row ∷ rest) = ap (λ (z : Scan). z.left) w.seen_as ∙ ap (λ (t : Turn). left_of t.waiting) same ∙ ap left_of k.wait ∙ ap (λ (l : List GivenRow). length l) k.hands.1 in
     record {
       nature = refl;
@@ -226,11 +258,12 @@ gives_waiting old new p s q (Some row) o k =
       at = o.1;
       left = length rest;
       fewer = omega (arith, left_was);
+      typed = ap (λ (z : Scan). shown_fits z.kinds z.spec (row_of row).cells) w.seen_as ∙ pair.0;
       ledger =
           ap (λ (m : Scans). record (reordered_ledger old p s.ledger) { live = m; pulled = bumped p })
           (change_of old new s.ledger.live q w.inner w.is becomes.others
           ∙ ap (λ (x : Option Turn). finmap.insert (seen old s.ledger.live) q (seen_scan x w.inner)) becomes.now
-          ∙ ap (λ (t : Turn). finmap.insert (seen old s.ledger.live) q (record w.inner { left = length rest; broken = t.broken || w.inner.broken })) (sym same)
+          ∙ ap (λ (b : Bool). finmap.insert (seen old s.ledger.live) q (record w.inner { left = length rest; broken = b })) (whole_after ∙ sym whole_was)
           ∙ ap (λ (z : Scan). finmap.insert (seen old s.ledger.live) q (record z { left = length rest })) (sym w.seen_as));
       coming = λ h.
           ap (λ (x : Option Turn). turned_coming x (s.content.coming q)) k.at ∙ ap (λ (x : Option (List GivenRow)). turned_rows k.turn.places x (s.content.coming q)) k.wait ∙ k.hands.1
@@ -253,7 +286,7 @@ gives_first old new p s t q inner None u r k =
     let waits = unread_waits (old q) k.turn k.at u in
     let empty : inner ≡ [] = nil_turned k.turn.places inner k.hands.0 in
     record {
-      nature = r.nature;
+      nature = ap round r.nature;
       ledger =
           ap (reordered_ledger new p) r.ledger
           ∙ ap (λ (m : Scans). record (reordered_ledger old p s.ledger) { live = m })
@@ -275,18 +308,23 @@ gives_first old new p s t q inner (Some row) u r k =
     let becomes = k.hands.2 in
     let small = k.small in
     let long : length (row_of row ∷ rest) ≡ length inner = ap (λ (l : List GivenRow). length l) (sym k.hands.1) ∙ turned_length k.turn.places inner in
+    let fits : list_all (λ z. shown_fits r.scan.kinds r.scan.spec z.cells) (row_of row ∷ rest) ≡ true =
+    ap (list_all (λ z. shown_fits r.scan.kinds r.scan.spec z.cells)) (sym k.hands.1) ∙ turned_pass (λ z. shown_fits r.scan.kinds r.scan.spec z.cells) k.turn.places inner r.typed in
+    let pair = both (shown_fits r.scan.kinds r.scan.spec (row_of row).cells) _ fits in
     let left_was : left_of k.turn.waiting ≡ 2 ^ 64 = ap left_of waits in
     record {
-      nature = r.nature;
+      nature = ap round r.nature;
       scan = seen_scan (Some k.turn) r.scan;
       at = seen_at s old p q k.turn r.scan k.at r.at;
       left = length rest;
       fewer = omega (arith, long, left_was, small);
+      typed = pair.0;
       ledger =
           ap (reordered_ledger new (bumped p)) r.ledger
           ∙ ap (λ (m : Scans). record (reordered_ledger old p s.ledger) { live = m; pulled = bumped p })
           (insert_of old new s.ledger.live q (record r.scan { left = r.left }) becomes.others
-          ∙ ap (λ (x : Option Turn). finmap.insert (seen old s.ledger.live) q (seen_scan x (record r.scan { left = r.left }))) becomes.now);
+          ∙ ap (λ (x : Option Turn). finmap.insert (seen old s.ledger.live) q (seen_scan x (record r.scan { left = r.left }))) becomes.now
+          ∙ ap (λ (b : Bool). finmap.insert (seen old s.ledger.live) q (record r.scan { left = length rest; broken = k.turn.broken || (r.scan.broken || not b) })) (pair.1 ∙ sym (ap (waiting_fits r.scan.kinds r.scan.spec) waits)));
       coming = λ h.
           ap (λ (x : Option Turn). turned_coming x (s.content.coming q)) k.at ∙ ap (λ (x : Option (List GivenRow)). turned_rows k.turn.places x (s.content.coming q)) waits
           ∙ ap (turned k.turn.places) (r.coming h) ∙ k.hands.1 ∙ ap (λ (x : Option Turn). row_of row ∷ turned_coming x (t.content.coming q)) (sym becomes.now);
@@ -296,7 +334,7 @@ gives_first old new p s t q inner (Some row) u r k =
 -- the inner scan could not be read whole
 pub breaks_first : (old new : Turns) (p : ℕ) (s t : BoxState) (q : ℕ) (turn : Turn) (fault : Fault) → old q ≡ Some turn → StopsOut s q fault t → Becomes old q (record turn { broken = true }) new → Breaks (reordered s old p) q fault (reordered t new p)
 breaks_first old new p s t q turn fault at r w = record {
-  nature = r.nature;
+  nature = ap round r.nature;
   no_cause = r.no_cause;
   scan = seen_scan (Some turn) r.scan;
   at = seen_at s old p q turn r.scan at r.at;
@@ -328,23 +366,24 @@ rescans old new p s t q places params c r becomes =
     let o = open_in s old p q c.scan c.at c.whole in
     let w = becomes o.turn o.at in
     record {
-      nature = r.nature;
+      nature = ap round r.nature;
       scan = seen_scan (Some o.turn) r.scan;
       at = seen_at s old p q o.turn r.scan o.at r.at;
       left = 2 ^ 64;
+      few = omega arith;
       ledger =
           ap (reordered_ledger new p) r.ledger
           ∙ ap (λ (m : Scans). record (reordered_ledger old p s.ledger) { live = m })
-          (insert_of old new s.ledger.live q (new_scan r.scan.table r.scan.spec params r.left) w.others
-          ∙ ap (λ (x : Option Turn). finmap.insert (seen old s.ledger.live) q (seen_scan x (new_scan r.scan.table r.scan.spec params r.left))) w.now
-          ∙ ap (λ (b : Bool). finmap.insert (seen old s.ledger.live) q (record (new_scan r.scan.table r.scan.spec params (2 ^ 64)) { broken = b || false })) o.whole);
+          (insert_of old new s.ledger.live q (new_scan r.scan.table r.scan.kinds r.scan.spec params r.left) w.others
+          ∙ ap (λ (x : Option Turn). finmap.insert (seen old s.ledger.live) q (seen_scan x (new_scan r.scan.table r.scan.kinds r.scan.spec params r.left))) w.now
+          ∙ ap (λ (b : Bool). finmap.insert (seen old s.ledger.live) q (record (new_scan r.scan.table r.scan.kinds r.scan.spec params (2 ^ 64)) { broken = b || false })) o.whole);
       coming = λ h. subst (λ (l : List GivenRow). IsComing (rows_of s r.scan.table) r.scan.spec params l) (sym (ap (λ (x : Option Turn). turned_coming x (t.content.coming q)) w.now)) (turned_come (rows_of s r.scan.table) r.scan.spec params places (t.content.coming q) (r.coming h));
       leaves = λ h. leaves_but s t old new p p (λ x ne. w.others x ne) (r.leaves h);
     }
 
 pub breaks_again : (turns : Turns) (p : ℕ) (s t : BoxState) (q : ℕ) (fault : Fault) → Breaks s q fault t → Breaks (reordered s turns p) q fault (reordered t turns p)
 breaks_again turns p s t q fault b = record {
-  nature = b.nature;
+  nature = ap round b.nature;
   no_cause = b.no_cause;
   scan = seen_scan (turns q) b.scan;
   at = seen_get turns s.ledger.live q ∙ ap (option_map (seen_scan (turns q))) b.at;
@@ -357,7 +396,7 @@ breaks_again turns p s t q fault b = record {
 
 pub ends : (old new : Turns) (p : ℕ) (s t : BoxState) (q : ℕ) → ((x : ℕ) → x ≢ q → new x ≡ old x) → Ends s q t → Ends (reordered s old p) q (reordered t new p)
 ends old new p s t q others e = record {
-  nature = e.nature;
+  nature = ap round e.nature;
   ledger = ap (reordered_ledger new p) e.ledger ∙ ap (λ (m : Scans). record (reordered_ledger old p s.ledger) { live = m }) (remove_of old new s.ledger.live q others);
   leaves = λ h. leaves_but s t old new p p others (e.leaves h);
 }
@@ -367,7 +406,7 @@ pub can_modify : (turns : Turns) (p : ℕ) (s : BoxState) (t : ℕ) → CanModif
 can_modify turns p s t c = record { is_bound = c.is_bound; no_scan = no_scan_in turns p s t c.no_scan; not_staged = c.not_staged }
 
 pub opens : (turns : Turns) (p : ℕ) (s t : BoxState) (n : ℕ) → Opens s n t → Opens (reordered s turns p) n (reordered t turns p)
-opens turns p s t n o = record { nature = o.nature; ledger = ap (reordered_ledger turns p) o.ledger; leaves = λ h. leaves s t turns p (o.leaves h) }
+opens turns p s t n o = record { nature = ap round o.nature; ledger = ap (reordered_ledger turns p) o.ledger; leaves = λ h. leaves s t turns p (o.leaves h) }
 
 pub refuses_modify : (turns : Turns) (p : ℕ) (s t : BoxState) (fault : Fault) → RefusesModify fault s t → RefusesModify fault (reordered s turns p) (reordered t turns p)
 refuses_modify turns p s t fault r = record { refuses = refuses turns p s t fault r.refuses; no_cause = r.no_cause }
@@ -376,7 +415,7 @@ pub can_change : (turns : Turns) (p : ℕ) (s : BoxState) (change : Change) → 
 can_change turns p s change c = record { staging = c.staging; is_staged = c.is_staged; whole = c.whole; bound = c.bound; is = c.is; fits = c.fits; there = c.there; once = c.once }
 
 pub stages : (turns : Turns) (p : ℕ) (s t : BoxState) (change : Change) → Stages s change t → Stages (reordered s turns p) change (reordered t turns p)
-stages turns p s t change r = record { nature = r.nature; staging = r.staging; is_staged = r.is_staged; ledger = ap (reordered_ledger turns p) r.ledger; leaves = λ h. leaves s t turns p (r.leaves h) }
+stages turns p s t change r = record { nature = ap round r.nature; staging = r.staging; is_staged = r.is_staged; ledger = ap (reordered_ledger turns p) r.ledger; leaves = λ h. leaves s t turns p (r.leaves h) }
 
 change_cause : (turns : Turns) (p : ℕ) (s : BoxState) (staging : Staging) (change : Change) (fault : Fault) → ChangeCause s staging change fault → ChangeCause (reordered s turns p) staging change fault
 change_cause turns p s staging change NoMemory c = tt
@@ -385,7 +424,7 @@ change_cause turns p s staging change (Refused x) c = c
 
 pub refuses_change : (turns : Turns) (p : ℕ) (s t : BoxState) (change : Change) (fault : Fault) → RefusesChange s change fault t → RefusesChange (reordered s turns p) change fault (reordered t turns p)
 refuses_change turns p s t change fault r = record {
-  nature = r.nature;
+  nature = ap round r.nature;
   staging = r.staging;
   is_staged = r.is_staged;
   ledger = ap (reordered_ledger turns p) r.ledger;
@@ -397,11 +436,11 @@ pub can_close : (turns : Turns) (p : ℕ) (s : BoxState) (keep : Bool) → CanCl
 can_close turns p s keep c = record { staging = c.staging; is_staged = c.is_staged; is_bound = c.is_bound; whole = c.whole; no_scan = λ k. no_scan_in turns p s c.staging.table (c.no_scan k) }
 
 outcome : (turns : Turns) (p : ℕ) (s t : BoxState) (keep : Bool) (staging : Staging) → Outcome s keep staging t → Outcome (reordered s turns p) keep staging (reordered t turns p)
-outcome turns p s t true staging w = record { bound = w.bound; is = w.is; no_cause = w.no_cause; rows = w.rows; once = w.once; holdings = w.holdings; leaves = leaves s t turns p w.leaves }
+outcome turns p s t true staging w = record { bound = w.bound; is = w.is; entry = w.entry; picked = w.picked; no_cause = w.no_cause; rows = w.rows; once = w.once; holdings = w.holdings; leaves = leaves s t turns p w.leaves }
 outcome turns p s t false staging l = leaves s t turns p l
 
 pub closes : (turns : Turns) (p : ℕ) (s t : BoxState) (keep : Bool) → Closes s keep t → Closes (reordered s turns p) keep (reordered t turns p)
-closes turns p s t keep c = record { nature = c.nature; staging = c.staging; is_staged = c.is_staged; ledger = ap (reordered_ledger turns p) c.ledger; content = λ h. outcome turns p s t keep c.staging (c.content h) }
+closes turns p s t keep c = record { nature = ap round c.nature; staging = c.staging; is_staged = c.is_staged; ledger = ap (reordered_ledger turns p) c.ledger; content = λ h. outcome turns p s t keep c.staging (c.content h) }
 
 close_cause : (turns : Turns) (p : ℕ) (s : BoxState) (staging : Staging) (fault : Fault) → CloseCause s staging fault → CloseCause (reordered s turns p) staging fault
 close_cause turns p s staging NoMemory c = tt
@@ -411,7 +450,7 @@ close_cause turns p s staging (Refused x) c = c
 pub refuses_close : (turns : Turns) (p : ℕ) (s t : BoxState) (keep : Bool) (fault : Fault) → RefusesClose s keep fault t → RefusesClose (reordered s turns p) keep fault (reordered t turns p)
 refuses_close turns p s t keep fault r = record {
   kept = r.kept;
-  nature = r.nature;
+  nature = ap round r.nature;
   staging = r.staging;
   is_staged = r.is_staged;
   ledger = ap (reordered_ledger turns p) r.ledger;

@@ -1,10 +1,12 @@
 -- What is said of the inner wrapper is said of a shuffled one.
-use Rattle.std.proofs.Common.{◌≡◌, ◌≢◌, ℕ, ◌%◌, List, [], ◌∷◌, ◌++◌, length, map, take, drop, Option, option_map, refl, ap, sym, ◌∙◌, subst, arith, Some, true}
+use Rattle.std.proofs.Common.{◌≡◌, ◌≢◌, ℕ, ◌%◌, List, [], ◌∷◌, ◌++◌, length, map, take, drop, Option, option_map, refl, ap, sym, ◌∙◌, subst, arith, Some, Bool, true}
 use Rattle.std.specs.FinMap as finmap
 use Rattle.std.specs.List.Sorted.{IsPermutation}
 use Rattle.std.proofs.lemmas.List.{take-append-drop, drop-map, take-map, length-map, map-append, length-append}
 use Rattle.std.proofs.lemmas.List.Elements.{All-take, All-drop, All-append}
-use Rattle.std.proofs.lemmas.List.Sorted.{IsPermutation-append_comm, IsPermutation-append_left, IsPermutation-trans}
+use Rattle.std.proofs.lemmas.List.Sorted.{IsPermutation-append_comm, IsPermutation-append_left, IsPermutation-trans, All-permutation}
+use Rattle.std.proofs.lemmas.List.Sums.{AllPass-from_list_all, list_all-from_AllPass}
+use Rattle.std.specs.List.{list_all}
 use Rattle.med_value.specs.Datum.{Tuple}
 use Rattle.fdw_api.specs.Scan.{Spec, GivenRow, TableRow, IsComing, shown, meets_exact}
 use Rattle.fdw_api.specs.State.{Scan}
@@ -66,6 +68,10 @@ turned_map f places xs =
 turned_permutes : {X : Type 0} (places : ℕ) (xs : List X) → IsPermutation xs (turned places xs)
 turned_permutes places xs =
     subst (λ l. IsPermutation l (turned places xs)) (take-append-drop (places % length xs) xs) (IsPermutation-append_comm (take (places % length xs) xs) (drop (places % length xs) xs))
+
+-- what passes a test does so turned
+pub turned_pass : {X : Type 0} (p : X → Bool) (places : ℕ) (xs : List X) → list_all p xs ≡ true → list_all p (turned places xs) ≡ true
+turned_pass p places xs e = list_all-from_AllPass p (turned places xs) (All-permutation (λ x. p x ≡ true) xs (turned places xs) (turned_permutes places xs) (AllPass-from_list_all p xs e))
 
 -- the rows that a scan may give may come turned
 pub turned_come : (rows : List TableRow) (spec : Spec) (params : Tuple) (places : ℕ) (coming : List GivenRow) → IsComing rows spec params coming → IsComing rows spec params (turned places coming)

@@ -2,7 +2,9 @@
 use Rattle.std.proofs.Common.{◌≡◌, ◌≢◌, ℕ, ◌<◌, true, false, List, [], ◌∷◌, ◌++◌, append_assoc, Option, Some, None, IsSome, refl, ap, sym, ◌∙◌, subst, arith}
 use Rattle.std.specs.FinMap as finmap
 use Rattle.std.proofs.lemmas.List.{append-nil}
-use Rattle.fdw_api.specs.Scan.{GivenRow}
+use Rattle.std.specs.List.{list_all}
+use Rattle.std.proofs.lemmas.List.Folds.{list_all-append}
+use Rattle.fdw_api.specs.Scan.{GivenRow, shown_fits}
 use Rattle.fdw_api.specs.State.{Nature, Scan, Ledger, BoxState, is_honest, scan_of}
 use Rattle.fdw_api.specs.Calls.{LeavesOthers, bumped, faults_after, IsOpen, GivesRow, GivesNone, Breaks}
 use Rattle.fdw_api.specs.declared.interface.Fault.{Fault}
@@ -24,6 +26,7 @@ pub record HasRead (number : ℕ) (old : BoxState) (rows : List GivenRow) (new :
   pub left : ℕ
   pub pulled : ℕ
   pub ledger : new.ledger ≡ record old.ledger { live = finmap.insert old.ledger.live number (record scan { left = left }); pulled = pulled }
+  pub typed : list_all (λ r. shown_fits scan.kinds scan.spec r.cells) rows ≡ true
   pub coming : is_honest old → old.content.coming number ≡ rows ++ new.content.coming number
   pub leaves : is_honest old → LeavesOthers number old new
 
@@ -49,6 +52,7 @@ start n s o = record {
   left = o.0.left;
   pulled = s.ledger.pulled;
   ledger = sym (ap (λ (m : Scans). record s.ledger { live = m }) (put_again s.ledger.live n o.0 o.1));
+  typed = refl;
   coming = λ h. refl;
   leaves = λ h. record { coming = λ q l o. refl; rows = λ t o. refl; holdings = λ r o. refl };
 }
@@ -73,6 +77,11 @@ row_ledger n old s new rows row h g =
     ∙ ap (λ (m : Scans). record old.ledger { live = m; pulled = bumped h.pulled })
     (put_twice old.ledger.live n (record h.scan { left = h.left }) (record g.scan { left = g.left }) ∙ ap (λ (z : Scan). finmap.insert old.ledger.live n (record z { left = g.left })) same)
 
+row_typed : (n : ℕ) (old s new : BoxState) (rows : List GivenRow) (row : GivenRow) (h : HasRead n old rows s) (g : GivesRow s n row new) → shown_fits h.scan.kinds h.scan.spec row.cells ≡ true
+row_typed n old s new rows row h g =
+    let same : g.scan ≡ record h.scan { left = h.left } = some_inj g.scan (record h.scan { left = h.left }) (sym g.at ∙ now n old s rows h) in
+    ap (λ (z : Scan). shown_fits z.kinds z.spec row.cells) (sym same) ∙ g.typed
+
 pub more : (n : ℕ) (old s new : BoxState) (rows : List GivenRow) (row : GivenRow) → HasRead n old rows s → GivesRow s n row new → HasRead n old (rows ++ row ∷ []) new
 more n old s new rows row h g = record {
   nature = g.nature ∙ h.nature;
@@ -82,6 +91,7 @@ more n old s new rows row h g = record {
   left = g.left;
   pulled = bumped h.pulled;
   ledger = row_ledger n old s new rows row h g;
+  typed = list_all-append (λ r. shown_fits h.scan.kinds h.scan.spec r.cells) rows (row ∷ []) ∙ rw (h.typed, row_typed n old s new rows row h g) refl;
   coming = λ honest. h.coming honest ∙ ap (λ (l : List GivenRow). rows ++ l) (g.coming (honest_on old s h.nature honest)) ∙ sym (append_assoc rows (row ∷ []) (new.content.coming n));
   leaves = gone_on n old s new rows h g.leaves;
 }
@@ -101,6 +111,7 @@ done n old s new rows h g = record {
   left = h.left;
   pulled = h.pulled;
   ledger = g.ledger ∙ h.ledger;
+  typed = h.typed;
   coming = λ honest. h.coming honest ∙ ap (λ (l : List GivenRow). rows ++ l) (g.coming (honest_on old s h.nature honest)) ∙ append-nil rows;
   done = λ honest. g.still (honest_on old s h.nature honest);
   leaves = gone_on n old s new rows h g.leaves;

@@ -2,20 +2,25 @@
 use Rattle.std.proofs.Common.{◌≡◌, ◌≢◌, ◌+◌, ◌-◌, ◌^◌, ◌<◌, ℕ, Bool, true, false, List, [], ◌∷◌, ◌++◌, Contains, length, replicate, Option, Some, None, IsSome, option_map, refl, ap, sym, ◌∙◌, subst, arith}
 use Rattle.std.specs.FinMap as finmap
 use Rattle.med_value.specs.Datum.{Tuple}
-use Rattle.fdw_api.specs.Scan.{Spec, spec_of, Filter, plain_spec, params_fit}
+use Rattle.fdw_api.specs.Scan.{Spec, spec_of, Filter, plain_spec, params_fit, shown_fits}
 use Rattle.fdw_api.specs.declared.scan.ScanSpec.{ScanSpec}
 use Rattle.fdw_api.specs.declared.scan.Agree.{Agree}
 use Rattle.fdw_api.specs.declared.scan.Agree.TheVariants.{Ignored}
-use Rattle.fdw_api.specs.Kinds.{Column, Setting, Change, Held, Holding, Known, Unknown}
+use Rattle.fdw_api.specs.Kinds.{Column, Setting, Change, Entry, Held, Holding, Known, Unknown}
 use Rattle.fdw_api.specs.State.{Bound, BoxState, Nature, Ledger, Staging, Scan, is_honest, table_of, scan_of}
-use Rattle.fdw_api.specs.Calls.{Leaves, NoScan, Allows, CanBind, Binds, RefusesBind, BindCause, CanUnbind, Unbinds, Refuses, bumped, faults_after, CanBegin, Begins, RefusesBegin, IsOpen, Gives, Breaks, CanRescan, Rescans, Ends, new_scan}
+use Rattle.fdw_api.specs.Calls.{row_of, Picks, Leaves, NoScan, Allows, CanBind, Binds, RefusesBind, BindCause, CanUnbind, Unbinds, Refuses, bumped, faults_after, CanBegin, Begins, RefusesBegin, IsOpen, Gives, Breaks, CanRescan, Rescans, Ends, new_scan}
 use Rattle.fdw_api.specs.Writes.{CanModify, Opens, RefusesModify, CanChange, Stages, RefusesChange, ChangeCause, CanClose, Closes, RefusesClose, CloseCause, Outcome, HoldsImage, row_of_change_fits}
 use Rattle.fdw_api.specs.declared.interface.Fault.{Fault}
 use Rattle.fdw_api.specs.declared.interface.Fault.TheVariants.{NoMemory, Source, Refused}
 use Rattle.fdw_api.specs.declared.interface.SourceRow.{SourceRow}
 use Rattle.probe_wrapper.specs.Shy.{all_ignored, is_plain, is_bare, plain_is_ignored, Asked, new_ask, asked_scan, shied_bound, shied_ledger, shied, AsksNow, OffersNothing}
+use Rattle.probe_wrapper.specs.LiveScans.{round}
 use Rattle.probe_wrapper.proofs.SeenScans.{Scans, put_same, put_other, gone_again}
-use Rattle.probe_wrapper.proofs.ShyLemmas.{Asks, some_inj, inner_of, some_of, none_of_none, bare_is_whole, bare_offers, bare_fits, plain_come, seen_get, insert_of, change_of, remove_of, keep_of, open_in, seen_at, seen_left, left_seen, table_seen, seen_broken, seen_begun, leaves, tables_set}
+use Rattle.probe_wrapper.proofs.ShyLemmas.{Asks, some_inj, inner_of, some_of, none_of_none, plain_is_whole, whole_fits, bare_is_whole, bare_offers, bare_fits, plain_come, seen_get, insert_of, change_of, remove_of, keep_of, open_in, seen_at, seen_left, left_seen, table_seen, seen_broken, seen_begun, leaves, tables_set}
+
+-- a wrapper round another does not promise to keep numbers
+never : {X : Type 0} → true ≡ false → X
+never e = absurd cc
 
 -- tables
 pub can_bind : (s : BoxState) (asked : Asks) (remote : List ℕ) (columns : List Column) (settings : List Setting) → CanBind (shied s asked) remote columns settings → CanBind s remote columns settings
@@ -23,13 +28,14 @@ can_bind s asked remote columns settings c = record { free = λ t b e. c.free t 
 
 pub binds : (asked : Asks) (s t : BoxState) (remote : List ℕ) (columns : List Column) (settings : List Setting) (n : ℕ) → Binds s remote columns settings n t → Binds (shied s asked) remote columns settings n (shied t asked)
 binds asked s t remote columns settings n b = record {
-  nature = b.nature;
+  nature = ap round b.nature;
   fresh = none_of_none _ b.fresh;
   bound = shied_bound b.bound;
   remote_is = b.remote_is;
   kinds_are = b.kinds_are;
   line_is = b.line_is;
   image_is = b.image_is;
+  arrangement_is = b.arrangement_is;
   refuses_is = b.refuses_is;
   ledger = ap (shied_ledger asked) b.ledger ∙ tables_set asked s.ledger n (Some b.bound);
   entry = b.entry;
@@ -42,10 +48,11 @@ binds asked s t remote columns settings n b = record {
 
 pub refuses : (asked : Asks) (s t : BoxState) (fault : Fault) → Refuses fault s t → Refuses fault (shied s asked) (shied t asked)
 refuses asked s t fault r = record {
-  nature = r.nature;
+  nature = ap round r.nature;
   next = r.next;
   rises = r.rises;
   stays = r.stays;
+  keeps = λ e. never e;
   ledger = ap (shied_ledger asked) r.ledger;
   leaves = λ h. leaves s t asked asked (r.leaves h);
 }
@@ -65,7 +72,7 @@ pub can_unbind : (asked : Asks) (s : BoxState) (t : ℕ) → CanUnbind (shied s 
 can_unbind asked s t c = record { is_bound = some_of _ c.is_bound; no_scan = no_scan_in asked s t c.no_scan; not_staged = c.not_staged }
 
 pub unbinds : (asked : Asks) (s t : BoxState) (n : ℕ) → Unbinds s n t → Unbinds (shied s asked) n (shied t asked)
-unbinds asked s t n u = record { nature = u.nature; ledger = ap (shied_ledger asked) u.ledger ∙ tables_set asked s.ledger n None; leaves = λ h. leaves s t asked asked (u.leaves h) }
+unbinds asked s t n u = record { nature = ap round u.nature; ledger = ap (shied_ledger asked) u.ledger ∙ tables_set asked s.ledger n None; leaves = λ h. leaves s t asked asked (u.leaves h) }
 
 pub plain_allowed : (s : BoxState) (asked : Asks) (t : ℕ) (wanted : List ℕ) (offered : List Filter) (answers : List Agree) → IsSome (table_of (shied s asked) t) → answers ≡ replicate (length offered) Ignored → Allows (shied s asked) t (record { wanted = wanted; offered = offered; answers = answers; narrow = false })
 plain_allowed s asked t wanted offered answers is e = at_table (table_of s t) refl is
@@ -98,24 +105,27 @@ pub begins : (old new : Asks) (s t : BoxState) (n : ℕ) (spec inner : Spec) (pa
 begins old new s t n spec inner params wanted q e plain b w =
     let bare : is_bare inner ≡ true = ap is_bare e in
     record {
-      nature = b.nature;
+      nature = ap round b.nature;
       is_next = b.is_next;
       room = b.room;
       fresh = seen_get s old q ∙ ap (option_map (asked_scan (old q))) b.fresh;
+      bound = shied_bound b.bound;
+      is = ap (option_map shied_bound) b.is;
       left = b.left;
+      few = b.few;
       ledger =
           ap (shied_ledger new) b.ledger
           ∙ ap (λ (m : Scans). record (shied_ledger old s.ledger) { live = m; next = q + 1 })
-          (insert_of old new s.ledger s.ledger.live q (new_scan n inner [] b.left) w.others
-          ∙ ap (λ (o : Option Asked). finmap.insert (shied_ledger old s.ledger).live q (asked_scan o (new_scan n inner [] b.left))) w.now
-          ∙ ap (λ (z : Scan). finmap.insert (shied_ledger old s.ledger).live q z) (seen_begun (new_ask spec params) n inner b.left plain bare refl));
+          (insert_of old new s.ledger s.ledger.live q (new_scan n b.bound.kinds inner [] b.left) w.others
+          ∙ ap (λ (o : Option Asked). finmap.insert (shied_ledger old s.ledger).live q (asked_scan o (new_scan n b.bound.kinds inner [] b.left))) w.now
+          ∙ ap (λ (z : Scan). finmap.insert (shied_ledger old s.ledger).live q z) (seen_begun (new_ask spec params) n b.bound.kinds inner b.left plain bare refl));
       coming = λ h. plain_come (s.content.rows n) spec inner params (t.content.coming q) plain bare (b.coming h);
       leaves = λ h. leaves s t old new (b.leaves h);
     }
 
 pub begun_bare : (s t : BoxState) (n : ℕ) (inner : Spec) (wanted : List ℕ) (q : ℕ) → inner ≡ plain_spec wanted [] → Begins s n inner [] q t → OffersNothing t q
 begun_bare s t n inner wanted q e b = record {
-  scan = new_scan n inner [] b.left;
+  scan = new_scan n b.bound.kinds inner [] b.left;
   at = ap (λ z. finmap.get z.live q) b.ledger ∙ put_same s.ledger.live q _;
   whole_rows = ap (λ (z : Spec). z.narrow) e;
   offers_none = ap (λ (z : Spec). z.offered) e;
@@ -133,6 +143,7 @@ not_begun s = record {
     next = s.ledger.next;
     rises = omega arith;
     stays = λ full. full;
+    keeps = λ e. refl;
     ledger = refl;
     leaves = λ h. record { coming = λ q live other. refl; rows = λ t other. refl; holdings = λ r other. refl };
   };
@@ -150,14 +161,15 @@ honest_on s t e h = ap (λ (n : Nature). n.honest) e ∙ h
 pub begun_in_vain : (old new : Asks) (s mid t : BoxState) (n : ℕ) (spec : Spec) (params : Tuple) (q : ℕ) → Begins s n spec params q mid → Ends mid q t → ((x : ℕ) → new x ≡ old x) → RefusesBegin NoMemory (shied s old) (shied t new)
 begun_in_vain old new s mid t n spec params q b e stays = record {
   refuses = record {
-    nature = e.nature ∙ b.nature;
+    nature = ap round (e.nature ∙ b.nature);
     next = s.ledger.next + 1;
     rises = omega arith;
     stays = λ full. let r : s.ledger.next < 2 ^ 64 - 1 = subst (λ (x : ℕ). x < 2 ^ 64 - 1) b.is_next b.room in omega (arith, full, r);
+    keeps = λ e. never e;
     ledger =
         ap (shied_ledger new)
         (e.ledger ∙ ap (λ (l : Ledger). record l { live = finmap.remove l.live q }) b.ledger
-        ∙ ap (λ (m : Scans). record s.ledger { live = m; next = q + 1 }) (gone_again s.ledger.live q (new_scan n spec params b.left) b.fresh)
+        ∙ ap (λ (m : Scans). record s.ledger { live = m; next = q + 1 }) (gone_again s.ledger.live q (new_scan n b.bound.kinds spec params b.left) b.fresh)
         ∙ ap (λ (x : ℕ). record s.ledger { next = x + 1 }) b.is_next)
         ∙ keep_of old new (record s.ledger { next = s.ledger.next + 1 }) stays;
     leaves = λ h. leaves s t old new (kept (b.leaves h) (e.leaves (honest_on s mid b.nature h)));
@@ -169,20 +181,21 @@ begun_in_vain old new s mid t n spec params q b e stays = record {
     kept l k = record {
       coming = λ x live other.
           let ne : x ≢ q = λ same. not_this (scan_of s q) b.fresh (subst (λ (z : ℕ). IsSome (scan_of s z)) same live) in
-          k.coming x (subst IsSome (sym (ap (λ z. finmap.get z.live x) b.ledger ∙ put_other s.ledger.live q x (new_scan n spec params b.left) ne)) live) ne ∙ l.coming x live ne;
+          k.coming x (subst IsSome (sym (ap (λ z. finmap.get z.live x) b.ledger ∙ put_other s.ledger.live q x (new_scan n b.bound.kinds spec params b.left) ne)) live) ne ∙ l.coming x live ne;
       rows = λ u o. k.rows u o ∙ l.rows u o;
       holdings = λ r o. k.holdings r o ∙ l.holdings r o;
     }
 
 -- rows are given
-pub gives : (asked : Asks) (s t : BoxState) (q : ℕ) (row : Option SourceRow) → Gives s q row t → Gives (shied s asked) q row (shied t asked)
-gives asked s t q None g = record { nature = g.nature; ledger = ap (shied_ledger asked) g.ledger; coming = g.coming; still = g.still; leaves = λ h. leaves s t asked asked (g.leaves h) }
-gives asked s t q (Some row) g = record {
-  nature = g.nature;
+pub gives : (asked : Asks) (s t : BoxState) (q : ℕ) (row : Option SourceRow) → IsOpen (shied s asked) q → Gives s q row t → Gives (shied s asked) q row (shied t asked)
+gives asked s t q None c g = record { nature = ap round g.nature; ledger = ap (shied_ledger asked) g.ledger; coming = g.coming; still = g.still; leaves = λ h. leaves s t asked asked (g.leaves h) }
+gives asked s t q (Some row) c g = record {
+  nature = ap round g.nature;
   scan = asked_scan (asked q) g.scan;
   at = seen_at s asked q g.scan g.at;
   left = g.left;
   fewer = let n = left_seen (asked q) g.scan in let f = g.fewer in omega (arith, n, f);
+  typed = typed;
   ledger =
       ap (shied_ledger asked) g.ledger
       ∙ ap (λ (m : Scans). record (shied_ledger asked s.ledger) { live = m; pulled = bumped s.ledger.pulled })
@@ -190,10 +203,18 @@ gives asked s t q (Some row) g = record {
   coming = g.coming;
   leaves = λ h. leaves s t asked asked (g.leaves h);
 }
+  where
+    typed : shown_fits (asked_scan (asked q) g.scan).kinds (asked_scan (asked q) g.scan).spec (row_of row).cells ≡ true
+    typed =
+        let o = open_in s asked q c.0 c.1 c.2 in
+        let same : o.inner ≡ g.scan = some_inj o.inner g.scan (sym o.is ∙ g.at) in
+        let bare : is_bare g.scan.spec ≡ true = subst (λ (z : Scan). is_bare z.spec ≡ true) same o.bare in
+        ap (λ (x : Option Asked). shown_fits (asked_scan x g.scan).kinds (asked_scan x g.scan).spec (row_of row).cells) o.at
+        ∙ whole_fits g.scan.kinds o.ask.spec g.scan.spec (row_of row).cells (plain_is_whole o.ask.spec o.plain) (bare_is_whole g.scan.spec bare) g.typed
 
 pub breaks : (asked : Asks) (s t : BoxState) (q : ℕ) (fault : Fault) → Breaks s q fault t → Breaks (shied s asked) q fault (shied t asked)
 breaks asked s t q fault b = record {
-  nature = b.nature;
+  nature = ap round b.nature;
   no_cause = b.no_cause;
   scan = asked_scan (asked q) b.scan;
   at = seen_at s asked q b.scan b.at;
@@ -219,16 +240,17 @@ rescans old new s t q params c r again =
     let same : o.inner ≡ r.scan = some_inj o.inner r.scan (sym o.is ∙ r.at) in
     let bare : is_bare r.scan.spec ≡ true = subst (λ (z : Scan). is_bare z.spec ≡ true) same o.bare in
     record {
-      nature = r.nature;
+      nature = ap round r.nature;
       scan = asked_scan (Some o.ask) r.scan;
       at = seen_at s old q r.scan r.at ∙ ap (λ (x : Option Asked). Some (asked_scan x r.scan)) o.at;
       left = r.left;
+      few = r.few;
       ledger =
           ap (shied_ledger new) r.ledger
           ∙ ap (λ (m : Scans). record (shied_ledger old s.ledger) { live = m })
-          (insert_of old new s.ledger s.ledger.live q (new_scan r.scan.table r.scan.spec [] r.left) w.others
-          ∙ ap (λ (x : Option Asked). finmap.insert (shied_ledger old s.ledger).live q (asked_scan x (new_scan r.scan.table r.scan.spec [] r.left))) w.now
-          ∙ ap (λ (z : Scan). finmap.insert (shied_ledger old s.ledger).live q z) (seen_begun (record o.ask { params = params }) r.scan.table r.scan.spec r.left o.plain bare o.whole));
+          (insert_of old new s.ledger s.ledger.live q (new_scan r.scan.table r.scan.kinds r.scan.spec [] r.left) w.others
+          ∙ ap (λ (x : Option Asked). finmap.insert (shied_ledger old s.ledger).live q (asked_scan x (new_scan r.scan.table r.scan.kinds r.scan.spec [] r.left))) w.now
+          ∙ ap (λ (z : Scan). finmap.insert (shied_ledger old s.ledger).live q z) (seen_begun (record o.ask { params = params }) r.scan.table r.scan.kinds r.scan.spec r.left o.plain bare o.whole));
       coming = λ h. plain_come (s.content.rows r.scan.table) o.ask.spec r.scan.spec params (t.content.coming q) o.plain bare (r.coming h);
       leaves = λ h. leaves s t old new (r.leaves h);
     }
@@ -239,7 +261,7 @@ again_bare asked s t q params c r =
     let same : o.inner ≡ r.scan = some_inj o.inner r.scan (sym o.is ∙ r.at) in
     let bare : is_bare r.scan.spec ≡ true = subst (λ (z : Scan). is_bare z.spec ≡ true) same o.bare in
     record {
-      scan = new_scan r.scan.table r.scan.spec [] r.left;
+      scan = new_scan r.scan.table r.scan.kinds r.scan.spec [] r.left;
       at = ap (λ z. finmap.get z.live q) r.ledger ∙ put_same s.ledger.live q _;
       whole_rows = bare_is_whole r.scan.spec bare;
       offers_none = bare_offers r.scan.spec bare;
@@ -264,7 +286,7 @@ spoils old new s q c spoil =
 
 pub ends : (old new : Asks) (s t : BoxState) (q : ℕ) → ((x : ℕ) → x ≢ q → new x ≡ old x) → Ends s q t → Ends (shied s old) q (shied t new)
 ends old new s t q others e = record {
-  nature = e.nature;
+  nature = ap round e.nature;
   ledger = ap (shied_ledger new) e.ledger ∙ ap (λ (m : Scans). record (shied_ledger old s.ledger) { live = m }) (remove_of old new s.ledger q others);
   leaves = λ h. leaves s t old new (e.leaves h);
 }
@@ -274,7 +296,7 @@ pub can_modify : (asked : Asks) (s : BoxState) (t : ℕ) → CanModify (shied s 
 can_modify asked s t c = record { is_bound = some_of _ c.is_bound; no_scan = no_scan_in asked s t c.no_scan; not_staged = c.not_staged }
 
 pub opens : (asked : Asks) (s t : BoxState) (n : ℕ) → Opens s n t → Opens (shied s asked) n (shied t asked)
-opens asked s t n o = record { nature = o.nature; ledger = ap (shied_ledger asked) o.ledger; leaves = λ h. leaves s t asked asked (o.leaves h) }
+opens asked s t n o = record { nature = ap round o.nature; ledger = ap (shied_ledger asked) o.ledger; leaves = λ h. leaves s t asked asked (o.leaves h) }
 
 pub refuses_modify : (asked : Asks) (s t : BoxState) (fault : Fault) → RefusesModify fault s t → RefusesModify fault (shied s asked) (shied t asked)
 refuses_modify asked s t fault r = record { refuses = refuses asked s t fault r.refuses; no_cause = r.no_cause }
@@ -294,18 +316,21 @@ can_change asked s change c =
     }
 
 pub stages : (asked : Asks) (s t : BoxState) (change : Change) → Stages s change t → Stages (shied s asked) change (shied t asked)
-stages asked s t change r = record { nature = r.nature; staging = r.staging; is_staged = r.is_staged; ledger = ap (shied_ledger asked) r.ledger; leaves = λ h. leaves s t asked asked (r.leaves h) }
+stages asked s t change r = record { nature = ap round r.nature; staging = r.staging; is_staged = r.is_staged; ledger = ap (shied_ledger asked) r.ledger; leaves = λ h. leaves s t asked asked (r.leaves h) }
 
 change_cause : (asked : Asks) (s : BoxState) (staging : Staging) (change : Change) (fault : Fault) → ChangeCause s staging change fault → ChangeCause (shied s asked) staging change fault
 change_cause asked s staging change NoMemory c = tt
 change_cause asked s staging change Source c = tt
-change_cause asked s staging change (Refused x) c =
-    λ h b e more. let w = inner_of (table_of s staging.table) b e in
-    subst (λ (z : Bound). Contains (z.refuses.causes (s.content.rows staging.table) (staging.changes ++ change ∷ more)) x) w.2 (c h w.0 w.1 more)
+change_cause asked s staging change (Refused x) c = (
+  c.0,
+  λ h b e.
+      let w = inner_of (table_of s staging.table) b e in
+      subst (λ (z : Bound). (entry : Option Entry) × Picks (s.content.holdings z.remote) entry × ((more : List Change) → Contains (z.refuses.causes entry (s.content.rows staging.table) (staging.changes ++ change ∷ more)) x)) w.2 (c.1 h w.0 w.1),
+)
 
 pub refuses_change : (asked : Asks) (s t : BoxState) (change : Change) (fault : Fault) → RefusesChange s change fault t → RefusesChange (shied s asked) change fault (shied t asked)
 refuses_change asked s t change fault r = record {
-  nature = r.nature;
+  nature = ap round r.nature;
   staging = r.staging;
   is_staged = r.is_staged;
   ledger = ap (shied_ledger asked) r.ledger;
@@ -324,6 +349,8 @@ outcome : (asked : Asks) (s t : BoxState) (keep : Bool) (staging : Staging) → 
 outcome asked s t true staging w = record {
   bound = shied_bound w.bound;
   is = ap (option_map shied_bound) w.is;
+  entry = w.entry;
+  picked = w.picked;
   no_cause = w.no_cause;
   rows = w.rows;
   once = w.once;
@@ -334,7 +361,7 @@ outcome asked s t false staging l = leaves s t asked asked l
 
 pub closes : (asked : Asks) (s t : BoxState) (keep : Bool) → Closes s keep t → Closes (shied s asked) keep (shied t asked)
 closes asked s t keep c = record {
-  nature = c.nature;
+  nature = ap round c.nature;
   staging = c.staging;
   is_staged = c.is_staged;
   ledger = ap (shied_ledger asked) c.ledger;
@@ -344,14 +371,17 @@ closes asked s t keep c = record {
 close_cause : (asked : Asks) (s : BoxState) (staging : Staging) (fault : Fault) → CloseCause s staging fault → CloseCause (shied s asked) staging fault
 close_cause asked s staging NoMemory c = tt
 close_cause asked s staging Source c = tt
-close_cause asked s staging (Refused x) c =
-    λ h b e. let w = inner_of (table_of s staging.table) b e in
-    subst (λ (z : Bound). Contains (z.refuses.causes (s.content.rows staging.table) staging.changes) x) w.2 (c h w.0 w.1)
+close_cause asked s staging (Refused x) c = (
+  c.0,
+  λ h b e.
+      let w = inner_of (table_of s staging.table) b e in
+      subst (λ (z : Bound). (entry : Option Entry) × Picks (s.content.holdings z.remote) entry × Contains (z.refuses.causes entry (s.content.rows staging.table) staging.changes) x) w.2 (c.1 h w.0 w.1),
+)
 
 pub refuses_close : (asked : Asks) (s t : BoxState) (keep : Bool) (fault : Fault) → RefusesClose s keep fault t → RefusesClose (shied s asked) keep fault (shied t asked)
 refuses_close asked s t keep fault r = record {
   kept = r.kept;
-  nature = r.nature;
+  nature = ap round r.nature;
   staging = r.staging;
   is_staged = r.is_staged;
   ledger = ap (shied_ledger asked) r.ledger;

@@ -3,7 +3,7 @@ use Rattle.std.proofs.Common.{◌≡◌, ◌≢◌, ℕ, Bool, true, false, not,
 use Rattle.std.specs.FinMap as finmap
 use Rattle.std.proofs.lemmas.List.Elements.{All-weaker}
 use Rattle.med_value.specs.Datum.{Tuple}
-use Rattle.fdw_api.specs.Scan.{Spec, Filter, pick, shown, GivenRow, TableRow, IsComing, meets_all, meets_exact, params_fit}
+use Rattle.fdw_api.specs.Scan.{Spec, Filter, pick, shown, GivenRow, TableRow, IsComing, meets_all, meets_exact, params_fit, row_fits, cells_fit, shown_fits}
 use Rattle.med_value.specs.declared.value.ColType.{ColType}
 use Rattle.fdw_api.specs.declared.scan.Agree.{Agree}
 use Rattle.fdw_api.specs.declared.scan.Agree.TheVariants.{Ignored, Hint, Exact}
@@ -53,6 +53,14 @@ none_there (f ∷ fs) e = absurd cc
 
 pub bare_is_whole : (spec : Spec) → is_bare spec ≡ true → spec.narrow ≡ false
 bare_is_whole spec e = not_true spec.narrow (both (not spec.narrow) (has_none spec.offered) e).0
+
+pub plain_is_whole : (spec : Spec) → is_plain spec ≡ true → spec.narrow ≡ false
+plain_is_whole spec e = not_true spec.narrow (both (not spec.narrow) (all_ignored spec.offered spec.answers) e).0
+
+-- a row that fits one scan of whole rows fits another
+pub whole_fits : (kinds : List ColType) (spec inner : Spec) (cells : Tuple) → spec.narrow ≡ false → inner.narrow ≡ false → shown_fits kinds inner cells ≡ true → shown_fits kinds spec cells ≡ true
+whole_fits kinds spec inner cells e i h =
+    ap (λ (b : Bool). if b then cells_fit kinds spec.wanted cells else row_fits kinds cells) e ∙ sym (ap (λ (b : Bool). if b then cells_fit kinds inner.wanted cells else row_fits kinds cells) i) ∙ h
 
 pub bare_offers : (spec : Spec) → is_bare spec ≡ true → spec.offered ≡ []
 bare_offers spec e = none_there spec.offered (both (not spec.narrow) (has_none spec.offered) e).1
@@ -184,11 +192,11 @@ seen_broken (Some a) s = at a.broken
     at false = refl
 
 -- a scan of its asking that was just begun, where the inner one was
-pub seen_begun : (ask : Asked) (t : ℕ) (inner : Spec) (left : ℕ) → is_plain ask.spec ≡ true → is_bare inner ≡ true → ask.broken ≡ false → asked_scan (Some ask) (new_scan t inner [] left) ≡ new_scan t ask.spec ask.params left
-seen_begun ask t inner left plain bare whole =
-    ap (λ (b : Bool). record (new_scan t ask.spec ask.params left) { broken = b || (false || not (is_plain ask.spec && is_bare inner)) }) whole
-    ∙ ap (λ (b : Bool). record (new_scan t ask.spec ask.params left) { broken = not (b && is_bare inner) }) plain
-    ∙ ap (λ (b : Bool). record (new_scan t ask.spec ask.params left) { broken = not b }) bare
+pub seen_begun : (ask : Asked) (t : ℕ) (kinds : List ColType) (inner : Spec) (left : ℕ) → is_plain ask.spec ≡ true → is_bare inner ≡ true → ask.broken ≡ false → asked_scan (Some ask) (new_scan t kinds inner [] left) ≡ new_scan t kinds ask.spec ask.params left
+seen_begun ask t kinds inner left plain bare whole =
+    ap (λ (b : Bool). record (new_scan t kinds ask.spec ask.params left) { broken = b || (false || not (is_plain ask.spec && is_bare inner)) }) whole
+    ∙ ap (λ (b : Bool). record (new_scan t kinds ask.spec ask.params left) { broken = not (b && is_bare inner) }) plain
+    ∙ ap (λ (b : Bool). record (new_scan t kinds ask.spec ask.params left) { broken = not b }) bare
 
 pub leaves : {tickets tables : ℕ → Type 0} {remotes : List ℕ → Type 0} (s t : BoxState) (old new : Asks) → Leaves tickets tables remotes s t → Leaves tickets tables remotes (shied s old) (shied t new)
 leaves s t old new l = record { coming = λ q live other. l.coming q (live_in s old q live) other; rows = l.rows; holdings = l.holdings }

@@ -4,7 +4,6 @@ use Rattle.std.specs.List.{list_all, IsDistinct, AllByRecursion}
 use Rattle.std.specs.String.{string_bytes}
 use Rattle.std.specs.BTreeMap.{BTreeMap}
 use Rattle.std.proofs.lemmas.Bool.Decides.{eqb_tells}
-use Rattle.std.proofs.lemmas.List.Sorted.{IsPermutation-refl}
 use Rattle.std.proofs.lemmas.List.Elements.{Contains-push_cases}
 use lib.Pointwise.{bytes_decides}
 use Rattle.med_value.specs.Datum.{tuple}
@@ -104,8 +103,8 @@ list_binds tables bound scans staged next pulled t remote columns settings x lt 
     let named : string_bytes x.name ≡ remote = (bytes_decides (string_bytes x.name) remote).0 same in
     let kinds = types_same x.kinds.items (kinds_of columns) fits in
     let readable : list_all (row_fits (kinds_of columns)) (map tuple x.rows.items) ≡ true =
-        ap (λ (k : List ColType). list_all (row_fits k) (map tuple x.rows.items)) (sym kinds)
-        ∙ ap (λ (o : Option ListTable). list_all (row_fits (listed_kinds o)) (map tuple (listed_rows o))) (sym at) ∙ rows_fit_at tables t typed in
+    ap (λ (k : List ColType). list_all (row_fits k) (map tuple x.rows.items)) (sym kinds)
+    ∙ ap (λ (o : Option ListTable). list_all (row_fits (listed_kinds o)) (map tuple (listed_rows o))) (sym at) ∙ rows_fit_at tables t typed in
     let free : slice_index_or bound t false ≡ false = not_marked (list_state tables bound scans staged next pulled) t x (slice_index_or bound t false) remote (λ b e. can.free t b (ap (marked_bound (slice_index_or bound t false)) at ∙ e)) named in
     record {
       nature = refl;

@@ -11,7 +11,7 @@ use Rattle.med_value.specs.declared.cause.Cause.{Cause}
 use Rattle.med_value.specs.declared.cause.Cause.TheVariants.{InvalidOptionName, TableNotFound, InvalidDataType, InvalidText, TooLarge}
 use Rattle.med_value.specs.Causes.{phase_of}
 use Rattle.fdw_api.specs.Scan.{row_fits}
-use Rattle.fdw_api.specs.Kinds.{Kind, Column, Setting, Entry, Bytes, Stored, Known, Held, Reading, Refusals, kinds_of, all_fit, as_they_come, is_of_run}
+use Rattle.fdw_api.specs.Kinds.{Kind, Setting, Entry, Bytes, Stored, Known, Held, Reading, Refusals, kinds_of, all_fit, as_they_come, is_of_run}
 use Rattle.fdw_api.specs.State.{BoxState, IsIdle, is_honest}
 use Rattle.fdw_api.specs.Writes.{rows_after}
 use Rattle.probe_wrapper.specs.declared.list.ListTable.{ListTable}

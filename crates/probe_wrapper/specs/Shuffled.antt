@@ -1,15 +1,17 @@
 -- What a shuffled wrapper shows: what its inner one shows, but that each scan gives the inner rows in another order.
-use Rattle.std.specs.Prelude.{◌≡◌, ◌≢◌, ◌^◌, ◌%◌, ◌<◌, ℕ, Bool, true, false, ◌||◌, List, [], ◌∷◌, ◌++◌, map, length, take, drop, Option, Some, None, option_map, is_none}
+use Rattle.std.specs.Prelude.{◌≡◌, ◌≢◌, ◌^◌, ◌%◌, ◌<◌, ℕ, Bool, true, false, not, ◌||◌, List, [], ◌∷◌, ◌++◌, map, length, take, drop, Option, Some, None, option_map, is_none}
 use Rattle.std.specs.Ordering.{nat_cmp}
 use Rattle.std.specs.FinMap as finmap
 use Rattle.std.specs.BTreeMap as tree
 use Rattle.std.specs.BTreeMap.{BTreeMap}
-use Rattle.fdw_api.specs.Scan.{GivenRow}
+use Rattle.std.specs.List.{list_all}
+use Rattle.med_value.specs.declared.value.ColType.{ColType}
+use Rattle.fdw_api.specs.Scan.{Spec, GivenRow, shown_fits}
 use Rattle.fdw_api.specs.State.{Scan, Ledger, Content, BoxState, is_honest, scan_of}
 use Rattle.fdw_api.specs.Calls.{bumped, LeavesOthers, faults_after, not_refused, row_of}
 use Rattle.fdw_api.specs.declared.interface.Fault.{Fault}
 use Rattle.fdw_api.specs.declared.interface.SourceRow.{SourceRow}
-use Rattle.probe_wrapper.specs.LiveScans.{each_seen}
+use Rattle.probe_wrapper.specs.LiveScans.{round, each_seen}
 use Rattle.probe_wrapper.specs.declared.shuffled.TurnedScan.{TurnedScan}
 
 -- a list turned left some places: so many of its first elements go behind the others. As many places as it is long turn it once round
@@ -47,10 +49,15 @@ abbrev pub left_of : Option (List GivenRow) → ℕ
 left_of None = 2 ^ 64
 left_of (Some rows) = length rows
 
+-- the rows that wait are of the types of the columns that their scan shows
+abbrev pub waiting_fits : List ColType → Spec → Option (List GivenRow) → Bool
+waiting_fits kinds spec None = true
+waiting_fits kinds spec (Some rows) = list_all (λ r. shown_fits kinds spec r.cells) rows
+
 -- an inner scan as it is seen. One that was not begun through this wrapper is good for `end` alone
 abbrev pub seen_scan : Option Turn → Scan → Scan
 seen_scan None s = record s { broken = true }
-seen_scan (Some t) s = record s { left = left_of t.waiting; broken = t.broken || s.broken }
+seen_scan (Some t) s = record s { left = left_of t.waiting; broken = t.broken || (s.broken || not (waiting_fits s.kinds s.spec t.waiting)) }
 
 abbrev pub seen : (ℕ → Option Turn) → finmap.FinMap nat_cmp Scan → finmap.FinMap nat_cmp Scan
 seen turns m = each_seen (λ q. seen_scan (turns q)) m
@@ -62,7 +69,7 @@ abbrev pub reordered_content : (ℕ → Option Turn) → Content → Content
 reordered_content turns c = record c { coming = λ q. turned_coming (turns q) (c.coming q) }
 
 abbrev pub reordered : BoxState → (ℕ → Option Turn) → ℕ → BoxState
-reordered s turns pulled = record { nature = s.nature; ledger = reordered_ledger turns pulled s.ledger; content = reordered_content turns s.content }
+reordered s turns pulled = record { nature = round s.nature; ledger = reordered_ledger turns pulled s.ledger; content = reordered_content turns s.content }
 
 -- the scan of one number becomes this, and all others are as before
 pub record Becomes (old : ℕ → Option Turn) (number : ℕ) (turn : Turn) (new : ℕ → Option Turn) : Type 0 where
@@ -101,7 +108,8 @@ pub record TurnsRows (old : ℕ → Option Turn) (number : ℕ) (inner : List Gi
   pub small : length inner < 2 ^ 64
   pub hands : Hands old number turn (turned turn.places inner) row new
 
--- an inner scan was read to its end and gave these rows: nothing else changes but its `left`, and `pulled`
+-- an inner scan was read to its end and gave these rows, which are of the types of the columns that it shows: nothing else changes but its
+-- `left`, and `pulled`
 pub record ReadsOut (old : BoxState) (number : ℕ) (rows : List GivenRow) (new : BoxState) : Type 0 where
   pub nature : new.nature ≡ old.nature
   pub scan : Scan
@@ -109,6 +117,7 @@ pub record ReadsOut (old : BoxState) (number : ℕ) (rows : List GivenRow) (new 
   pub left : ℕ
   pub pulled : ℕ
   pub ledger : new.ledger ≡ record old.ledger { live = finmap.insert old.ledger.live number (record scan { left = left }); pulled = pulled }
+  pub typed : list_all (λ r. shown_fits scan.kinds scan.spec r.cells) rows ≡ true
   pub coming : is_honest old → old.content.coming number ≡ rows
   pub done : is_honest old → new.content.coming number ≡ []
   pub leaves : is_honest old → LeavesOthers number old new

@@ -9,7 +9,7 @@ use Rattle.fdw_api.specs.Scan.{Spec, Filter, spec_of}
 use Rattle.fdw_api.specs.declared.scan.Agree.{Agree}
 use Rattle.fdw_api.specs.declared.scan.Agree.TheVariants.{Ignored, Hint, Exact}
 use Rattle.fdw_api.specs.State.{Bound, Scan, Ledger, BoxState, scan_of}
-use Rattle.probe_wrapper.specs.LiveScans.{each_seen}
+use Rattle.probe_wrapper.specs.LiveScans.{round, each_seen}
 use Rattle.probe_wrapper.specs.declared.shy.AskedScan.{AskedScan}
 
 -- one Ignored for each restriction
@@ -73,7 +73,7 @@ abbrev pub shied_ledger : (ℕ → Option Asked) → Ledger → Ledger
 shied_ledger asked l = record l { tables = λ t. option_map shied_bound (l.tables t); live = each_seen (λ q. asked_scan (asked q)) l.live }
 
 abbrev pub shied : BoxState → (ℕ → Option Asked) → BoxState
-shied s asked = record { nature = s.nature; ledger = shied_ledger asked s.ledger; content = s.content }
+shied s asked = record { nature = round s.nature; ledger = shied_ledger asked s.ledger; content = s.content }
 
 -- what is asked for under one number becomes this, and all else is as before
 pub record AsksNow (old : ℕ → Option Asked) (number : ℕ) (ask : Asked) (new : ℕ → Option Asked) : Type 0 where

@@ -1,5 +1,5 @@
 //! Tables of rows in memory.
-ghost use Rattle.std.specs.Prelude.{◌≡◌, ◌≤◌, ◌<◌, [], ℕ, List, map, length, replicate, Some, None, IfOk, IfErr, IsSome, IfSome, IsTrue, true, slice_get, option_map};
+ghost use Rattle.std.specs.Prelude.{◌≡◌, ◌≤◌, ◌<◌, [], ℕ, List, map, length, replicate, Some, None, IfOk, IfErr, IsSome, IfSome, IsTrue, true, false, slice_get, option_map};
 ghost use Rattle.std.specs.Ordering.{nat_cmp};
 ghost use Rattle.std.specs.BTreeMap as tree;
 ghost use Rattle.std.specs.String.{string_bytes};

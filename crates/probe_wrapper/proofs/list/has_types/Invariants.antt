@@ -1,6 +1,7 @@
 use Rattle.std.proofs.Common.{◌≡◌, map, length}
 use Rattle.fdw_api.specs.Kinds.{column_of}
-use Rattle.probe_wrapper.specs.Lists.{types_match, kinds_of}
+use Rattle.fdw_api.specs.Kinds.{kinds_of}
+use Rattle.probe_wrapper.specs.Lists.{types_match}
 use Rattle.probe_wrapper.proofs.list.has_types.Given as goal
 
 abbrev pub invariant-loop-kind : goal.invariant-loop-kind

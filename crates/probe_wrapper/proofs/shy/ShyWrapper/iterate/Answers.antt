@@ -8,7 +8,7 @@ pub iterate-requires : goal.iterate-requires
 iterate-requires g c = is_open_in (g.W.Wrapper.meaning c.args.self.now.inner) (asked_of c.args.self.now.scans) _ c.requires
 
 pub returns-clause-ok : goal.returns-clause-ok
-returns-clause-ok g c = if_ok _ _ c.iterate.result (λ row p. gives (asked_of c.args.self.now.scans) (g.W.Wrapper.meaning c.args.self.now.inner) (g.W.Wrapper.meaning c.iterate.new.self) _ row p) c.iterate.ensures.ok
+returns-clause-ok g c = if_ok _ _ c.iterate.result (λ row p. gives (asked_of c.args.self.now.scans) (g.W.Wrapper.meaning c.args.self.now.inner) (g.W.Wrapper.meaning c.iterate.new.self) _ row c.requires p) c.iterate.ensures.ok
 
 pub returns-clause-err : goal.returns-clause-err
 returns-clause-err g c = if_err _ _ c.iterate.result (λ f p. breaks (asked_of c.args.self.now.scans) (g.W.Wrapper.meaning c.args.self.now.inner) (g.W.Wrapper.meaning c.iterate.new.self) _ f p) c.iterate.ensures.err
