@@ -8,7 +8,8 @@ use Rattle.fdw_api.specs.Kinds.{Kind, Entry, Holding, Known, Unknown}
 use Rattle.fdw_api.specs.Calls.{Picks}
 use Rattle.fdw_api.specs.State.{BoxState}
 use Rattle.med_session.specs.World.{World, Source, SourceState, free, dropped, ForeignTable, source_named}
-use Rattle.med_session.specs.Engine.{Label, Attached, Shown, IsSound, state_of, sources_of, IsNamedAt, TableAgrees, TablesAgree, Agrees}
+use Rattle.bind_names.specs.declared.table.AttachedTable.{AttachedTable}
+use Rattle.med_session.specs.Engine.{Label, Attached, attached, Shown, IsSound, state_of, sources_of, IsNamedAt, TableAgrees, TablesAgree, Agrees}
 use Rattle.med_session.specs.Attaching.{IsFree, IsServed, is_for, IsAtPlace, is_named, stands_for}
 use Rattle.med_session.proofs.AddingLists.{one_place, same_bytes, bytes_same, other_bytes}
 
@@ -19,6 +20,12 @@ zero≢suc n e = absurd cc
 pub list_any_map : {A B : Type 0} (f : A → B) (p : B → Bool) (xs : List A) → list_any p (map f xs) ≡ list_any (λ x. p (f x)) xs
 list_any_map f p [] = refl
 list_any_map f p (x ∷ xs) = ap (λ r. p (f x) || r) (list_any_map f p xs)
+
+-- the test of the engine's tables, as it was answered
+pub stands_in : (place : ℕ) (remote : List ℕ) (tables seen : List AttachedTable) (found answer : Bool) → seen ≡ tables → found ≡ list_any (λ (t : AttachedTable). stands_for place remote (attached t)) seen → found ≡ answer
+    → list_any (stands_for place remote) (map attached tables) ≡ answer
+stands_in place remote tables seen found answer same is e =
+    list_any_map attached (stands_for place remote) tables ∙ ap (list_any (λ (t : AttachedTable). stands_for place remote (attached t))) (sym same) ∙ sym is ∙ e
 
 pub as_many_tables : (labels : List Label) (boxes : List (Option BoxState)) (bs : List Attached) (ts : List ForeignTable) → TablesAgree labels boxes bs ts → length bs ≡ length ts
 as_many_tables labels boxes [] [] h = refl
