@@ -1,5 +1,5 @@
 -- The scans that were begun, and the rows that were given, one scan after another.
-use Rattle.std.proofs.Common.{◌≡◌, ◌≢◌, ℕ, zero, suc, ◌+◌, ◌<◌, ◌⊎◌, eqb, cond, Bool, true, false, List, [], ◌∷◌, ◌++◌, length, take, get_or, Option, Some, slice_get, refl, ap, sym, ◌∙◌, subst, inl, inr, arith, append_assoc, add-zero, add-suc}
+use Rattle.std.proofs.Common.{◌≡◌, ◌≢◌, ℕ, zero, suc, ◌+◌, ◌<◌, ◌⊎◌, eqb, cond, true, false, List, [], ◌∷◌, ◌++◌, length, take, get_or, Option, Some, slice_get, refl, ap, sym, ◌∙◌, subst, inl, inr, arith, append_assoc, add-zero, add-suc}
 use Rattle.std.proofs.lemmas.List.{append-nil, take_more, length-append}
 use Rattle.std.proofs.lemmas.Bool.Decides.{eqb_tells}
 use Rattle.med_value.specs.Datum.{Tuple}
@@ -8,11 +8,10 @@ use Rattle.fdw_api.specs.State.{Ledger, BoxState}
 use Rattle.fdw_api.specs.Calls.{bumped}
 use Rattle.fdw_api.specs.declared.interface.Fault.{Fault}
 use Rattle.pushdown.specs.declared.accepting.EntryScan.{EntryScan}
-use Rattle.med_planner.specs.Planned.{AllMayGive}
 use Rattle.med_exec.specs.Reading.{pulled_after}
 use Rattle.med_exec.specs.Slots.{ChangesAt}
 use Rattle.med_exec.specs.Scanning.{RunsScan, FailsScan}
-use Rattle.med_exec.specs.Running.{AllServed, AllHonest}
+use Rattle.med_exec.specs.Running.{AllServed}
 use Rattle.med_exec.specs.Counting.{scans_in, rows_in, none_in, BeginsScans, PullsRows, ReadsEach, ReadsSome, at_scan, behind}
 use Rattle.med_exec.proofs.Served.{box_inj}
 use Rattle.med_exec.proofs.TableReads.{read_next}

@@ -1,5 +1,5 @@
 -- How the calls of one scan go together.
-use Rattle.std.proofs.Common.{◌≡◌, ◌≢◌, ℕ, ◌+◌, ◌-◌, ◌^◌, ◌<◌, ◌⊎◌, suc, add-one, eqb, inl, inr, Result, Ok, Err, IfOk, IfErr, true, false, List, [], ◌∷◌, ◌++◌, length, map, Option, Some, None, IsSome, refl, ap, sym, ◌∙◌, subst, arith, rules, append_assoc}
+use Rattle.std.proofs.Common.{◌≡◌, ◌≢◌, ℕ, ◌+◌, ◌-◌, ◌^◌, ◌<◌, ◌⊎◌, suc, add-one, eqb, inl, inr, Result, Ok, Err, IfOk, IfErr, true, false, List, [], ◌∷◌, ◌++◌, length, Option, Some, None, IsSome, refl, ap, sym, ◌∙◌, subst, arith, rules, append_assoc}
 use Rattle.std.specs.Ordering.{nat_cmp}
 use Rattle.std.specs.FinMap as finmap
 use Rattle.std.specs.FinMap.{gets, nat_cmp-IsAntisymmetric}
@@ -230,6 +230,7 @@ fails t n spec params fault old begun last new b g e = record {
   next = old.ledger.next + 1;
   rises = omega arith;
   stays = λ e. let r : old.ledger.next < 2 ^ 64 - 1 = subst (λ (x : ℕ). x < 2 ^ 64 - 1) b.is_next b.room in omega (arith, e, r);
+  keeps = λ e. omega arith;
   given = g.given;
   once = inr refl;
   ledger = ledger_again t spec params n _ _ old begun last new b g.keeps (g.pulled ∙ ap (λ (z : Ledger). pulled_after g.given z.pulled) b.ledger) (g.faults ∙ ap (λ (z : Ledger). faults_after fault z.faults) b.ledger) e;
@@ -243,6 +244,7 @@ begin_fails fault old new r = record {
   next = r.refuses.next;
   rises = r.refuses.rises;
   stays = r.refuses.stays;
+  keeps = λ e. let k : r.refuses.next ≡ old.ledger.next = r.refuses.keeps e in omega (arith, k);
   given = 0;
   once = inl refl;
   ledger = r.refuses.ledger;

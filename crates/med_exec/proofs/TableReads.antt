@@ -1,5 +1,5 @@
 -- Tables that were read one after another.
-use Rattle.std.proofs.Common.{◌≡◌, ℕ, zero, suc, ◌+◌, ◌<◌, ◌≤◌, ◌-◌, ◌^◌, inl, inr, List, [], ◌∷◌, ◌++◌, length, get_or, slice_index_or, Option, Some, None, slice_get, refl, ap, sym, ◌∙◌, subst, arith, Contains}
+use Rattle.std.proofs.Common.{◌≡◌, ℕ, zero, suc, ◌+◌, ◌<◌, ◌≤◌, ◌-◌, ◌^◌, inl, inr, List, [], ◌∷◌, ◌++◌, length, get_or, Option, Some, None, slice_get, refl, ap, sym, ◌∙◌, subst, arith, Contains}
 use Rattle.med_value.specs.Datum.{Tuple}
 use Rattle.med_value.specs.declared.cause.Cause.{Cause}
 use Rattle.med_value.specs.declared.cause.Cause.TheVariants.{OutOfRange, DivisionByZero, TooLarge}
@@ -16,7 +16,7 @@ use Rattle.fdw_api.specs.declared.interface.Fault.TheVariants.{NoMemory, Source,
 use Rattle.pushdown.specs.Offered.{Place}
 use Rattle.pushdown.specs.declared.accepting.EntryScan.{EntryScan}
 use Rattle.med_planner.specs.declared.plans.Plan.{Plan}
-use Rattle.med_planner.specs.Planned.{entry_rows, QueryCauses, MayGive, AllMayGive, in_order, IsPlanOf}
+use Rattle.med_planner.specs.Planned.{QueryCauses, MayGive, AllMayGive, in_order, IsPlanOf}
 use Rattle.med_exec.specs.Reading.{cells_of}
 use Rattle.med_exec.specs.Slots.{BoxAt, ChangesAt}
 use Rattle.med_exec.specs.Scanning.{RunsScan, FailsScan}

@@ -1,5 +1,5 @@
 -- Reading what a scan gives: BeginForeignScan, IterateForeignScan until no row is left or one fails, EndForeignScan.
-use Rattle.std.specs.Prelude.{◌≡◌, ◌+◌, ◌-◌, ◌^◌, ◌<◌, ◌≤◌, ◌⊎◌, ℕ, List, [], length}
+use Rattle.std.specs.Prelude.{◌≡◌, ◌+◌, ◌-◌, ◌^◌, ◌<◌, ◌≤◌, ◌⊎◌, ℕ, false, List, [], length}
 use Rattle.med_value.specs.Datum.{Tuple}
 use Rattle.fdw_api.specs.Scan.{Spec, GivenRow, IsComing}
 use Rattle.fdw_api.specs.State.{BoxState, is_honest, rows_of}
@@ -16,13 +16,15 @@ pub record RunsScan (old : BoxState) (table : ℕ) (spec : Spec) (given : List T
   pub leaves : is_honest old → LeavesAll old new
   pub rows : is_honest old → (coming : List GivenRow) × IsComing (rows_of old table) spec [] coming × (given ≡ cells_of coming)
 
--- a fault stood against the scan: it was not begun and gave no row, or was begun, gave some rows and was ended. 54000 comes only where
--- ticket numbers were used up, and a source's fault is counted
+-- a fault stood against the scan: it was not begun and gave no row, or was begun, gave some rows and was ended. No number but its own was
+-- used, but in a wrapper whose refused calls may use numbers up. 54000 comes only where ticket numbers were used up, and a source's fault is
+-- counted
 pub record FailsScan (fault : Fault) (old new : BoxState) : Type 0 where
   pub nature : new.nature ≡ old.nature
   pub next : ℕ
   pub rises : old.ledger.next ≤ next
   pub stays : old.ledger.next ≡ 2 ^ 64 - 1 → next ≡ 2 ^ 64 - 1
+  pub keeps : old.nature.skips ≡ false → next ≤ old.ledger.next + 1
   pub given : ℕ
   pub once : (given ≡ 0) ⊎ (next ≡ old.ledger.next + 1)
   pub ledger : new.ledger ≡ record old.ledger { next = next; pulled = pulled_after given old.ledger.pulled; faults = faults_after fault old.ledger.faults }

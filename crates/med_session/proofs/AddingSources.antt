@@ -3,6 +3,7 @@ use Rattle.std.proofs.Common.{◌≡◌, ℕ, ◌+◌, ◌<◌, ◌≤◌, List,
 use Rattle.std.specs.List.{IsDistinct}
 use Rattle.std.proofs.lemmas.List.{length_push, map-append}
 use Rattle.fdw_api.specs.State.{BoxState, IsIdle, is_honest, table_of}
+use Rattle.fdw_api.specs.Sound.{IsSoundBox}
 use Rattle.med_exec.specs.Slots.{HasTable}
 use Rattle.med_session.specs.World.{World, Source, ForeignTable, free}
 use Rattle.med_session.specs.Engine.{Label, Attached, Shown, IsAtRest, EachBox, TakesColumns, BoundAreAttached, IsSound, state_of, sources_of, IsNamedAt, TableAgrees, TablesAgree, Agrees}
@@ -39,14 +40,19 @@ labelled (l ∷ ls) name zero h =
     (l, refl, e)
 labelled (l ∷ ls) name (suc i) h = labelled ls name i h
 
-pub added_sound : (e : Shown) (name : List ℕ) (kind : SourceKind) (b : BoxState) → IsSound e → (HasSource e.labels name → ⊥) → length e.labels < 64 → IsIdle b → TakesColumns b → IsSound (with_box e name kind b)
-added_sound e name kind b h none room idle takes = record {
+-- an idle box is sound: the law `tables_stay_sound`
+abbrev pub IdleIsSound : Type 0
+IdleIsSound = (s : BoxState) → IsIdle s → IsSoundBox s
+
+added_sound : IdleIsSound → (e : Shown) (name : List ℕ) (kind : SourceKind) (b : BoxState) → IsSound e → (HasSource e.labels name → ⊥) → length e.labels < 64 → IsIdle b → TakesColumns b → IsSound (with_box e name kind b)
+added_sound law e name kind b h none room idle takes = record {
   owner = h.owner;
   places = length_push e.boxes (Some b) ∙ ap (λ n. n + 1) h.places ∙ sym (length_push e.labels (record { name = name; kind = kind }));
   sources = subst (λ n. n ≤ 64) (sym (length_push e.labels (record { name = name; kind = kind }))) (omega arith);
   tables = h.tables;
   sessions = h.sessions;
   at_rest = each_push IsAtRest e.boxes b h.at_rest (idle_rest b idle);
+  sound_boxes = each_push IsSoundBox e.boxes b h.sound_boxes (law b idle);
   takes_columns = each_push TakesColumns e.boxes b h.takes_columns takes;
   tables_bound = bound_push e.boxes b e.tables h.tables_bound;
   bound_attached = attached_push e.boxes b e.tables idle h.bound_attached;
@@ -91,8 +97,8 @@ added_agrees e name kind b sound idle w h honest =
       at_rest = each_push IsAtRest e.boxes b h.at_rest (idle_rest b idle);
     }
 
-pub sound_of : (e n : Shown) (name : List ℕ) (kind : SourceKind) (b : BoxState) → Adds e name kind b n → IsSound e → IsIdle b → TakesColumns b → IsSound n
-sound_of e n name kind b h sound idle takes = subst IsSound (sym h.is) (added_sound e name kind b sound h.name_free h.room idle takes)
+pub sound_of : IdleIsSound → (e n : Shown) (name : List ℕ) (kind : SourceKind) (b : BoxState) → Adds e name kind b n → IsSound e → IsIdle b → TakesColumns b → IsSound n
+sound_of law e n name kind b h sound idle takes = subst IsSound (sym h.is) (added_sound law e name kind b sound h.name_free h.room idle takes)
 
 pub agrees_of : (e n : Shown) (name : List ℕ) (kind : SourceKind) (b : BoxState) → Adds e name kind b n → IsSound e → IsIdle b
     → (w : World) → Agrees e w → is_honest b → Agrees n (with_source w name kind b.nature.kind b.content.holdings)

@@ -141,7 +141,7 @@ told_bind e w name source remote columns c place s t sound h names free there re
     at_source = subst (λ (b : BoxState). IsFree w source b.nature.kind b.content.holdings) (same_box free.at.box s (sym free.at.there ∙ there)) (free_at e w source place sound h free.at)
 
     because : (entry : Option Entry) × Picks (s.content.holdings remote) entry × IsLeast (s.nature.kind.reads columns [] entry).causes c
-    because = refused.cause (h.honest place s there)
+    because = refused.cause.1 (h.honest place s there)
 
     reads : Reads w source remote columns because.0 (s.nature.kind.reads columns [] because.0)
     reads = record { kind = s.nature.kind; holdings = s.content.holdings; is_free = at_source; picked = because.1; read = refl }

@@ -3,15 +3,16 @@ use Rattle.std.proofs.Common.{◌≡◌, ◌≢◌, ℕ, ◌<◌, ◌≤◌, ◌
 use Rattle.std.specs.List.{IsDistinct, list_any}
 use Rattle.std.proofs.lemmas.List.{length_push, map-append}
 use Rattle.std.proofs.lemmas.List.Elements.{All-push, All-head, All-tail}
-use Rattle.std.proofs.lemmas.List.Sorted.{IsPermutation-sym, IsPermutation-map, IsPermutation-refl}
+use Rattle.std.proofs.lemmas.List.Sorted.{IsPermutation-refl}
 use Rattle.std.proofs.lemmas.Bool.{false≢true}
 use Rattle.std.proofs.lemmas.Bool.Decides.{eqb_tells}
 use Rattle.med_value.specs.Datum.{Tuple}
 use Rattle.med_value.specs.declared.cause.Cause.{Cause}
 use Rattle.fdw_api.specs.Scan.{TableRow}
-use Rattle.fdw_api.specs.Kinds.{Column, Held, held}
+use Rattle.fdw_api.specs.Kinds.{Column, Setting, Held, held}
 use Rattle.fdw_api.specs.Calls.{Binds, Refuses}
 use Rattle.fdw_api.specs.State.{BoxState, Bound, is_honest, table_of, scan_of, rows_of, set_at}
+use Rattle.fdw_api.specs.Sound.{IsSoundBox}
 use Rattle.med_exec.specs.Slots.{ChangesAt, HasTable}
 use Rattle.med_planner.specs.Planned.{tuples_of}
 use Rattle.med_session.specs.World.{World, Source, SourceState, free, ForeignTable}
@@ -149,9 +150,26 @@ attached_grown old new tables remote columns a rem change h slot s q x at is = s
 abbrev with_table : Shown → List (Option BoxState) → Attached → Shown
 with_table e boxes a = record e { boxes = boxes; tables = e.tables ++ a ∷ [] }
 
-sound_with : (e : Shown) (new : List (Option BoxState)) (a : Attached) → IsSound e → length e.tables < 256 → list_any (is_named a.name) e.tables ≡ false
+-- a box that binds a table stays sound: the law `tables_stay_sound`
+abbrev pub BindsStaySound : Type 0
+BindsStaySound = (old new : BoxState) (remote : List ℕ) (columns : List Column) (settings : List Setting) (t : ℕ) → IsSoundBox old → Binds old remote columns settings t new → IsSoundBox new
+
+-- each box is as it was, or changed so
+abbrev IsOr : (BoxState → BoxState → Type 0) → BoxState → BoxState → Type 0
+IsOr Q b c = (c ≡ b) ⊎ Q b c
+
+sound_grown : (Q : BoxState → BoxState → Type 0) (old new : List (Option BoxState)) (slot : ℕ) → ((b c : BoxState) → IsSoundBox b → Q b c → IsSoundBox c) → ChangesAt old slot Q new → EachBox IsSoundBox old → EachBox IsSoundBox new
+sound_grown Q old new slot law change h place s at =
+    let w = backward (IsOr Q) Q old new slot (λ b. inl refl) (λ b c q. inr q) change place s at in
+    was w.0 (h place w.0 w.1) w.2
+  where
+    was : (b : BoxState) → IsSoundBox b → IsOr Q b s → IsSoundBox s
+    was b sound (inl same) = subst IsSoundBox (sym same) sound
+    was b sound (inr q) = law b s sound q
+
+sound_with : BindsStaySound → (e : Shown) (new : List (Option BoxState)) (a : Attached) → IsSound e → length e.tables < 256 → list_any (is_named a.name) e.tables ≡ false
     → (change : ChangesAt e.boxes a.source (λ s t. Binds s a.remote a.columns [] a.number t) new) → IsSound (with_table e new a)
-sound_with e new a h room none change =
+sound_with law e new a h room none change =
     let Q : BoxState → BoxState → Type 0 = λ s t. Binds s a.remote a.columns [] a.number t in
     let grows : (b c : BoxState) → Q b c → Grows b c = λ b c r. binds_grows b c a.remote a.columns a.number r in
     let on = onward Grows Q e.boxes new a.source grows_itself grows change in
@@ -163,6 +181,7 @@ sound_with e new a h room none change =
       tables = subst (λ n. n ≤ 256) (sym (length_push e.tables a)) (omega arith);
       sessions = h.sessions;
       at_rest = each_grown IsAtRest e.boxes new rest_grown back h.at_rest;
+      sound_boxes = sound_grown Q e.boxes new a.source (λ b c sound q. law b c a.remote a.columns [] a.number sound q) change h.sound_boxes;
       takes_columns = each_grown TakesColumns e.boxes new takes_grown back h.takes_columns;
       tables_bound = All-push (λ (x : Attached). HasTable new x.source x.number) e.tables a (bound_grown e.boxes new e.tables on h.tables_bound) (record {
         box = change.after;
@@ -275,19 +294,17 @@ attaches e n name source remote columns sound h w agrees =
       };
       no_cause = bind.no_cause honest;
       rows = tuples_of c t;
-      rows_are = subst (λ l. IsPermutation (map (λ (x : Held). x.cells) (b.nature.kind.reads columns [] bind.entry).rows) l) (held_cells (rows_of c t))
-          (IsPermutation-map (λ (x : Held). x.cells) (b.nature.kind.reads columns [] bind.entry).rows (map held (rows_of c t))
-          (IsPermutation-sym (map held (rows_of c t)) (b.nature.kind.reads columns [] bind.entry).rows (bind.rows honest)));
+      rows_are = subst (λ l. IsPermutation l (tuples_of c t)) (sym (held_cells (rows_of c t)) ∙ ap (map (λ (x : Held). x.cells)) (bind.rows honest)) (IsPermutation-refl (tuples_of c t));
       is = refl;
     }
 
 shown_with : (e n : Shown) (name source remote : List ℕ) (columns : List Column) → (h : BindsTable e name source remote columns n) → n ≡ with_table e n.boxes (new_table name columns h.place remote h.draft.number)
 shown_with e n name source remote columns h = h.others ∙ ap (λ (l : List Attached). record e { boxes = n.boxes; tables = l }) h.draft.appends
 
-pub bound_sound : (e n : Shown) (name source remote : List ℕ) (columns : List Column) → IsSound e → BindsTable e name source remote columns n → IsSound n
-bound_sound e n name source remote columns sound h =
+pub bound_sound : BindsStaySound → (e n : Shown) (name source remote : List ℕ) (columns : List Column) → IsSound e → BindsTable e name source remote columns n → IsSound n
+bound_sound law e n name source remote columns sound h =
     subst IsSound (sym (shown_with e n name source remote columns h))
-    (sound_with e n.boxes (new_table name columns h.place remote h.draft.number) sound h.state_free.tables_within h.names_free.no_table h.draft.binds)
+    (sound_with law e n.boxes (new_table name columns h.place remote h.draft.number) sound h.state_free.tables_within h.names_free.no_table h.draft.binds)
 
 pub bound_agrees : (e n : Shown) (name source remote : List ℕ) (columns : List Column) → IsSound e → BindsTable e name source remote columns n → (w : World) → Agrees e w
     → (after : World) × Attaches w name source remote columns after × Agrees n after

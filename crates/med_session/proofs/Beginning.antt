@@ -23,6 +23,7 @@ empty_sound owner users is_user closed = record {
   tables = lit≤ tt;
   sessions = ap length closed ∙ length-replicate {A = Option (List ℕ)} 64 None;
   at_rest = λ slot s at. absurd (no_box slot s at);
+  sound_boxes = λ slot s at. absurd (no_box slot s at);
   takes_columns = λ slot s at. absurd (no_box slot s at);
   tables_bound = λ k d lt. absurd (omega arith);
   bound_attached = λ slot s t b at. absurd (no_box slot s at);

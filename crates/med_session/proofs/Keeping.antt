@@ -1,7 +1,11 @@
 -- What a query does to boxes leaves an engine sound, and in agreement with the same worlds.
-use Rattle.std.proofs.Common.{◌≡◌, ℕ, List, [], ◌∷◌, Option, Some, None, IsSome, All, slice_get, slice_set, slice_index_or, map, length, refl, ap, sym, ◌∙◌, subst, zero, suc, IsPermutation}
-use Rattle.fdw_api.specs.Scan.{TableRow}
-use Rattle.fdw_api.specs.State.{BoxState, Bound, is_honest, scan_of}
+use Rattle.std.proofs.Common.{◌≡◌, ℕ, List, [], ◌∷◌, Option, Some, None, IsSome, All, slice_get, slice_set, slice_index_or, map, length, refl, ap, sym, ◌∙◌, subst, zero, suc, true, nat_eq, IsPermutation}
+use Rattle.std.specs.List.{list_all, IsDistinct}
+use Rattle.std.specs.FinMap as finmap
+use Rattle.med_value.specs.declared.value.ColType.{ColType}
+use Rattle.fdw_api.specs.Scan.{TableRow, row_fits}
+use Rattle.fdw_api.specs.State.{BoxState, Bound, is_honest, table_of, scan_of}
+use Rattle.fdw_api.specs.Sound.{IsTableOf, IsSoundBox}
 use Rattle.med_exec.specs.Slots.{ChangesAt, HasTable}
 use Rattle.med_exec.specs.Running.{AllServed}
 use Rattle.med_session.specs.World.{World, Source, SourceState, free, dropped, ForeignTable}
@@ -25,6 +29,24 @@ rest_kept b c k h = record {
 takes_kept : (b c : BoxState) → Keeps b c → TakesColumns b → TakesColumns c
 takes_kept b c k h columns = ap (λ n. n.kind.objections columns []) k.nature ∙ h columns
 
+-- a box that keeps its tables, scans, writes and rows is as sound as it was
+honest_before : (b c : BoxState) → Keeps b c → is_honest c → is_honest b
+honest_before b c k h = ap (λ n. n.honest) (sym k.nature) ∙ h
+
+table_before : (b c : BoxState) (t : ℕ) (x : Bound) → Keeps b c → table_of c t ≡ Some x → table_of b t ≡ Some x
+table_before b c t x k is = sym (ap (λ f. f t) k.tables) ∙ is
+
+still_table : (b c : BoxState) (t : ℕ) (kinds : List ColType) → Keeps b c → IsTableOf b t kinds → IsTableOf c t kinds
+still_table b c t kinds k w = (w.0, ap (λ f. f t) k.tables ∙ w.1, w.2)
+
+sound_box_kept : (b c : BoxState) → Keeps b c → IsSoundBox b → IsSoundBox c
+sound_box_kept b c k h = record {
+  typed = λ honest t x is. subst (λ (f : ℕ → List TableRow). list_all (λ r. row_fits x.kinds r.cells) (f t) ≡ true) (sym (k.rows (honest_before b c k honest))) (h.typed (honest_before b c k honest) t x (table_before b c t x k is));
+  once = λ honest t x is. subst (λ (f : ℕ → List TableRow). IsDistinct nat_eq (map (λ r. r.id) (f t))) (sym (k.rows (honest_before b c k honest))) (h.once (honest_before b c k honest) t x (table_before b c t x k is));
+  scans = λ q scan is. still_table b c scan.table scan.kinds k (h.scans q scan (sym (ap (λ m. finmap.get m q) k.live) ∙ is));
+  staged = λ staging is. let w = h.staged staging (sym k.staged ∙ is) in (w.0, still_table b c staging.table w.0 k w.1, w.2);
+}
+
 honest_kept : (b c : BoxState) → Keeps b c → is_honest b → is_honest c
 honest_kept b c k h = ap (λ n. n.honest) k.nature ∙ h
 
@@ -47,6 +69,7 @@ sound_by e new on back many h = record {
   tables = h.tables;
   sessions = h.sessions;
   at_rest = each_kept IsAtRest e.boxes new rest_kept back h.at_rest;
+  sound_boxes = each_kept IsSoundBox e.boxes new sound_box_kept back h.sound_boxes;
   takes_columns = each_kept TakesColumns e.boxes new takes_kept back h.takes_columns;
   tables_bound = bound_kept e.boxes new e.tables on h.tables_bound;
   bound_attached = attached_kept e.boxes new e.tables back h.bound_attached;

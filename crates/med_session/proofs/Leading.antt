@@ -126,6 +126,7 @@ sound_users e users long h = record {
   tables = h.tables;
   sessions = long;
   at_rest = h.at_rest;
+  sound_boxes = h.sound_boxes;
   takes_columns = h.takes_columns;
   tables_bound = h.tables_bound;
   bound_attached = h.bound_attached;

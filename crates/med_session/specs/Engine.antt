@@ -3,6 +3,7 @@ use Rattle.std.specs.Prelude.{◌≡◌, ◌<◌, ◌≤◌, ◌-◌, ◌^◌, �
 use Rattle.std.specs.List.{IsDistinct}
 use Rattle.fdw_api.specs.Kinds.{Column, column_of}
 use Rattle.fdw_api.specs.State.{BoxState, Bound, is_honest, table_of, scan_of}
+use Rattle.fdw_api.specs.Sound.{IsSoundBox}
 use Rattle.med_exec.specs.Slots.{states, BoxAt, HasTable}
 use Rattle.med_planner.specs.Planned.{tuples_of}
 use Rattle.med_exec.specs.Running.{HasFailed, IsUsedUp}
@@ -87,7 +88,8 @@ BoundAreAttached boxes tables =
     (slot : ℕ) (s : BoxState) (t : ℕ) (b : Bound) → slice_get boxes slot ≡ Some (Some s) → table_of s t ≡ Some b
     → (k : ℕ) × (a : Attached) × (slice_get tables k ≡ Some a) × (a.source ≡ slot) × (a.remote ≡ b.remote)
 
--- What each call of an engine asks, and keeps.
+-- What each call of an engine asks, and keeps. Each box is sound: what an honest one holds in a table are rows of its columns' types, each
+-- under an id of its own.
 pub record IsSound (e : Shown) : Type 0 where
   pub owner : IsUser e.owner
   pub places : length e.boxes ≡ length e.labels
@@ -95,6 +97,7 @@ pub record IsSound (e : Shown) : Type 0 where
   pub tables : length e.tables ≤ 256
   pub sessions : length e.users ≡ 64
   pub at_rest : EachBox IsAtRest e.boxes
+  pub sound_boxes : EachBox IsSoundBox e.boxes
   pub takes_columns : EachBox TakesColumns e.boxes
   pub tables_bound : All (λ a. HasTable e.boxes a.source a.number) e.tables
   pub bound_attached : BoundAreAttached e.boxes e.tables

@@ -8,6 +8,7 @@ ghost use Rattle.std.specs.Prelude.{◌≡◌, map, option_map, IfSome, IfNone, 
 use crate::engine::Engine;
 use crate::sources::{NamedSource, SourceKind};
 use fdw_api::interface::{Counts, Wrapper};
+use fdw_api::law::tables_stay_sound;
 use med_exec::slots::ledger_at;
 use thiserror::Error;
 
@@ -75,6 +76,7 @@ impl<W: Wrapper> Engine<W> {
         ensures handed_back { IfErr result (λ back. W.meaning back.0 ≡ W.meaning wrapper) }
         ensures unchanged { OnErr result (shown W.meaning self.new ≡ shown W.meaning self.old) }
     {
+        tables_stay_sound();
         if place_of_source(&self.sources, name).is_some() {
             return Err((wrapper, AddFault::Taken));
         }

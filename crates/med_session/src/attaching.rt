@@ -13,6 +13,7 @@ use crate::engine::Engine;
 use crate::select::cause_of;
 use crate::sources::NamedSource;
 use fdw_api::interface::Wrapper;
+use fdw_api::law::tables_stay_sound;
 use med_binder::AttachedTable;
 use med_exec::slots::{bind_at, ledger_at};
 use med_value::{Cause, ColumnDef, NoMemory};
@@ -242,6 +243,7 @@ impl<W: Wrapper> Engine<W> {
         ensures unchanged { OnErr result (IsUnattached (shown W.meaning self.old) source.now (shown W.meaning self.new)) }
         ensures same_worlds { OnErr result ((w : World) → Agrees (shown W.meaning self.old) w → Agrees (shown W.meaning self.new) w) }
     {
+        tables_stay_sound();
         self.attach_table(table, source, remote, columns)
     }
 }

@@ -6,7 +6,7 @@ use Rattle.med_session.proofs.engine.Engine.add_source.Goals as goal
 
 pub returns-clause-sound : goal.returns-clause-sound
 returns-clause-sound g c =
-    sound_of (shown g.W.Wrapper.meaning c.args.self.now) _ c.args.name.now c.args.kind (g.W.Wrapper.meaning c.args.wrapper) (grind (arith, common_steps)) c.requires.engine c.requires.idle c.requires.takes_columns
+    sound_of c.tables_stay_sound.ensures.idle (shown g.W.Wrapper.meaning c.args.self.now) _ c.args.name.now c.args.kind (g.W.Wrapper.meaning c.args.wrapper) (grind (arith, common_steps)) c.requires.engine c.requires.idle c.requires.takes_columns
 
 pub returns-clause-world : goal.returns-clause-world
 returns-clause-world g c =

@@ -5,12 +5,12 @@ use Rattle.med_session.specs.World.{World}
 use Rattle.med_session.specs.Engine.{Shown, shown, IsSound, Agrees}
 use Rattle.med_session.specs.Attaching.{BindsTable, AttachFails, IsUnattached, AttachCause, Attaches}
 use Rattle.med_session.proofs.AttachingCauses.{cause_told}
-use Rattle.med_session.proofs.AttachingTables.{bound_sound, bound_agrees, is_unattached, unattached_sound, unattached_agrees}
+use Rattle.med_session.proofs.AttachingTables.{BindsStaySound, bound_sound, bound_agrees, is_unattached, unattached_sound, unattached_agrees}
 use Rattle.med_session.proofs.engine.Engine.attach.Goals as goal
 
-sound_after : {T : Type 0} (e n : Shown) (name source remote : List ℕ) (columns : List Column) (r : Result T Cause) → IsSound e → OnOk r (BindsTable e name source remote columns n) → IfErr r (λ c. AttachFails e name source remote columns c n) → IsSound n
-sound_after e n name source remote columns (Ok x) sound ok err = bound_sound e n name source remote columns sound ok
-sound_after e n name source remote columns (Err c) sound ok err = unattached_sound e n source sound (is_unattached e n name source remote columns c err)
+sound_after : {T : Type 0} → BindsStaySound → (e n : Shown) (name source remote : List ℕ) (columns : List Column) (r : Result T Cause) → IsSound e → OnOk r (BindsTable e name source remote columns n) → IfErr r (λ c. AttachFails e name source remote columns c n) → IsSound n
+sound_after law e n name source remote columns (Ok x) sound ok err = bound_sound law e n name source remote columns sound ok
+sound_after law e n name source remote columns (Err c) sound ok err = unattached_sound e n source sound (is_unattached e n name source remote columns c err)
 
 worlds_after : {T : Type 0} (e n : Shown) (name source remote : List ℕ) (columns : List Column) (r : Result T Cause) → IsSound e → OnOk r (BindsTable e name source remote columns n)
     → OnOk r ((w : World) → Agrees e w → (after : World) × Attaches w name source remote columns after × Agrees n after)
@@ -33,7 +33,7 @@ same_after e n name source remote columns (Err c) err = unattached_agrees e n so
 pub returns-clause-sound : goal.returns-clause-sound
 returns-clause-sound g c =
     let m = g.W.Wrapper.meaning in
-    sound_after (shown m c.args.self.now) (shown m c.attach_table.new.self) c.args.table.now c.args.source.now c.args.remote.now (map column_of c.args.columns.now) c.attach_table.result c.requires c.attach_table.ensures.ok c.attach_table.ensures.err
+    sound_after c.tables_stay_sound.ensures.binds (shown m c.args.self.now) (shown m c.attach_table.new.self) c.args.table.now c.args.source.now c.args.remote.now (map column_of c.args.columns.now) c.attach_table.result c.requires c.attach_table.ensures.ok c.attach_table.ensures.err
 
 pub returns-clause-world : goal.returns-clause-world
 returns-clause-world g c =
