@@ -1,5 +1,6 @@
 -- What a program begins with: the demo list in its world, and the box of its source.
-use Rattle.std.specs.Prelude.{◌≡◌, ℕ, List, [], ◌∷◌, ◌++◌, length, Option, Some, None, Bor, codes}
+use Rattle.std.specs.Prelude.{◌≡◌, ℕ, List, [], ◌∷◌, ◌++◌, length, Option, Some, None, codes}
+use Rattle.std.specs.Borrow.{Bor}
 use Rattle.fdw_api.specs.State.{BoxState}
 use Rattle.fdw_api.specs.Calls.{Binds}
 use Rattle.med_session.specs.Adding.{HasSource}

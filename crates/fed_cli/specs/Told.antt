@@ -1,5 +1,6 @@
 -- What the program tells at its end: its exit status, and its texts.
-use Rattle.std.specs.Prelude.{ℕ, List, [], ◌++◌, codes, Bor, Result, Ok, Err, string_bytes}
+use Rattle.std.specs.Prelude.{ℕ, List, [], ◌++◌, codes, Result, Ok, Err, string_bytes}
+use Rattle.std.specs.Borrow.{Bor}
 use Rattle.med_value.specs.declared.cause.Cause.{Cause}
 use Rattle.med_value.specs.declared.cause.Cause.TheVariants.{OutOfMemory}
 use Rattle.med_session.specs.declared.adding.AddFault.{AddFault}

@@ -1,13 +1,21 @@
 -- What the program's words are read as.
-use Rattle.std.specs.Prelude.{◌≡◌, ℕ, List, [], Option, Some, None, Result, Ok, Err}
+use Rattle.std.specs.Prelude.{◌≡◌, ◌≢◌, ℕ, List, [], Option, Some, None, Result, Ok, Err}
 use Rattle.clap.specs.Words.{Text, IsAmong}
 use Rattle.clap.specs.declared.error.ErrorKind.{ErrorKind}
+use Rattle.clap.specs.declared.error.ErrorKind.TheVariants.{OutOfMemory}
 use Rattle.fed_cli.specs.Names.{IsSourceName}
 use Rattle.fed_cli.specs.CommandLine.{faults, list_named, IsHelp}
 use Rattle.fed_cli.specs.declared.words.Asked.{Asked}
 use Rattle.fed_cli.specs.declared.words.Asked.TheVariants.{Run}
 use Rattle.fed_cli.specs.declared.words.WordsFault.{WordsFault}
 use Rattle.fed_cli.specs.declared.words.WordsFault.TheVariants.{Help, Usage, BadName, NoMemory}
+
+-- how a parse that failed by a kind is told: help where it was asked, else the mistake; want of memory may take the place of each
+abbrev pub IsRefusal : ErrorKind → WordsFault → Type 0
+IsRefusal kind (Help text) = IsHelp kind
+IsRefusal kind (Usage text) = (IsHelp kind → ⊥) × (kind ≢ OutOfMemory)
+IsRefusal kind (BadName name) = ⊥
+IsRefusal kind NoMemory = Unit {0}
 
 -- What words are read as. Words against which nothing stands ask for a run, with the list under the name that they give it, if that may name
 -- a source; words that ask for help are told it; any others are refused. Want of memory may take the place of each.

@@ -7,7 +7,7 @@ ghost use Rattle.probe_wrapper.specs.ListBoxes.{box_of};
 ghost use Rattle.probe_wrapper.specs.Lists.{IsNewList};
 ghost use Rattle.fed_cli.specs.Answered.{ServesProgram};
 ghost use Rattle.fed_cli.specs.Demo.{demo_list};
-ghost use Rattle.fed_cli.specs.Exits.{Exits, TellsWords};
+ghost use Rattle.fed_cli.specs.Exits.{Exits, Runs, TellsWords};
 ghost use Rattle.fed_cli.specs.Setup.{HasDemo, HasDemoBox, IsFirst, AddsNoDemo, BeginsNot};
 ghost use Rattle.fed_cli.specs.Told.{run_line};
 ghost use Rattle.std.specs.Io.KnownBytes.{Appends};
@@ -119,9 +119,25 @@ pub fn serve<'a, R: Read, W: Write>(
     Ok(serve_engine(alloc, engine, reader, writer))
 }
 
+// Serves, and says what came of it.
+fn run_list<'a, R: Read, W: Write>(
+    alloc: Global,
+    list: Option<&'a str>,
+    reader: &mut R,
+    writer: &mut W,
+) -> (Result<(), RunFault<'a>>, Option<Sources<ListWrapper>>)
+    ensures { Runs list.entry result.0 result.1 (R.remaining reader.old) (R.remaining reader.new)
+        (W.contents writer.old) (W.contents writer.new) }
+{
+    match serve(alloc, list, reader, writer) {
+        Ok((ended, sources)) => (told(ended), Some(sources)),
+        Err(fault) => (Err(fault), None),
+    }
+}
+
 // Tells on standard error what a run came to, if it did not end with the input. The answer is whether it could be written.
 fn tell_run<E: Write>(came: Result<(), RunFault<'_>>, errors: &mut E) -> bool
-    ensures { result ≡ true → Appends (E.contents errors.old) (E.contents errors.new) (run_line came) }
+    ensures { result ≡ true → Appends (E.contents errors.old) (E.contents errors.new) (run_line came.entry) }
 {
     match came {
         Ok(()) => true,
@@ -165,10 +181,7 @@ pub fn run_words<I: Read, O: Write, E: Write>(
             };
         }
     };
-    let (came, sources) = match serve(alloc, list, input, output) {
-        Ok((ended, sources)) => (told(ended), Some(sources)),
-        Err(fault) => (Err(fault), None),
-    };
+    let (came, sources) = run_list(alloc, list, input, output);
     Exit {
         status: status(came),
         is_told: tell_run(came, errors),

@@ -98,7 +98,7 @@ pub fn told<'a>(ended: Result<Ended, StreamFault>) -> Result<(), RunFault<'a>>
 
 /// The exit status of a run that came to this.
 pub fn status(came: Result<(), RunFault<'_>>) -> u8
-    ensures { result ≡ run_status came }
+    ensures { result ≡ run_status came.entry }
 {
     match came {
         Ok(()) => 0,

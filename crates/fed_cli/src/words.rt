@@ -1,15 +1,15 @@
 //! The words of the program.
-ghost use Rattle.std.specs.Prelude.{◌≡◌, ◌↔◌, [], ◌∷◌, IsTrue, IfOk, None, Some, codes, map};
+ghost use Rattle.std.specs.Prelude.{◌≡◌, ◌↔◌, [], ◌∷◌, IsTrue, IfOk, None, Some, codes, map, option_map};
 ghost use Rattle.clap.specs.Lexer.{strip_byte};
-ghost use Rattle.clap.specs.Words.{Text, app_of};
-ghost use Rattle.clap.specs.declared.error.ErrorKind.TheVariants as kinds;
-ghost use Rattle.fed_cli.specs.CommandLine.{command_line, faults, list_named};
+ghost use Rattle.clap.specs.Words.{Text, app_of, kind_of, subcommand_rows_of};
+ghost use Rattle.clap.specs.declared.error.ErrorKind.TheVariants.{DisplayHelp, DisplayHelpOnMissingArgumentOrSubcommand};
+ghost use Rattle.fed_cli.specs.CommandLine.{command_line, faults, name_in, list_named};
 ghost use Rattle.fed_cli.specs.Names.{IsSourceName};
 ghost use Rattle.fed_cli.specs.Told.{words_status};
-ghost use Rattle.fed_cli.specs.Words.{Reads};
+ghost use Rattle.fed_cli.specs.Words.{IsRefusal, Reads};
 
 use clap::error::ErrorKind;
-use clap::{Arg, ArgAction, Command};
+use clap::{Arg, ArgAction, ArgMatches, Command};
 use med_session::users::is_user;
 use med_syntax::is_reserved;
 use std::alloc::{AllocError, Global};
@@ -79,14 +79,27 @@ fn command<'a>(alloc: Global) -> Result<Command<'a>, AllocError>
 }
 
 // What is told where the words are not taken.
-fn fault_told<'a>(alloc: Global, error: clap::Error) -> WordsFault<'a> {
+fn refusal<'a>(alloc: Global, error: clap::Error) -> WordsFault<'a>
+    ensures { IsRefusal (kind_of error) result }
+{
+    let kind = error.kind();
     let Ok(text) = format!(in alloc; "{error}") else {
         return WordsFault::NoMemory;
     };
-    if error.use_stderr() {
-        WordsFault::Usage(text)
-    } else {
-        WordsFault::Help(text)
+    match kind {
+        ErrorKind::OutOfMemory => WordsFault::NoMemory,
+        ErrorKind::DisplayHelp | ErrorKind::DisplayVersion => WordsFault::Help(text),
+        _ => WordsFault::Usage(text),
+    }
+}
+
+// The name that the words gave the list.
+fn list_of<'a>(matches: &ArgMatches<'a>) -> Option<&'a str>
+    ensures { option_map (λ s. s.now) result ≡ name_in (subcommand_rows_of matches.now) }
+{
+    match matches.subcommand() {
+        Some((_, run)) => run.get_str("list"),
+        None => None,
     }
 }
 
@@ -99,16 +112,15 @@ pub fn read_words<'a, S: AsStr>(alloc: Global, words: &'a [S]) -> Result<Asked<'
     };
     let matches = match command.try_get_matches_from(words) {
         Ok(matches) => matches,
-        Err(error) if error.kind() == ErrorKind::OutOfMemory => return Err(WordsFault::NoMemory),
-        Err(error) => return Err(fault_told(alloc, error)),
+        Err(error) => return Err(refusal(alloc, error)),
     };
-    let word = match matches.subcommand() {
-        Some((_, run)) => run.get_str("list"),
-        None => None,
+    let Some(name) = list_of(&matches) else {
+        return Ok(Asked::Run { list: None });
     };
-    match word {
-        Some(word) if !is_source_name(word) => Err(WordsFault::BadName(word)),
-        list => Ok(Asked::Run { list }),
+    if is_source_name(name) {
+        Ok(Asked::Run { list: Some(name) })
+    } else {
+        Err(WordsFault::BadName(name))
     }
 }
 
@@ -118,6 +130,6 @@ pub fn words_mean()
     ensures list { (program name : Text) → strip_byte 45 name ≡ None
         → (faults (program ∷ codes "run" ∷ codes "--list" ∷ name ∷ []) ≡ [])
         × (list_named (program ∷ codes "run" ∷ codes "--list" ∷ name ∷ []) ≡ Some name) }
-    ensures help { (program : Text) → faults (program ∷ codes "--help" ∷ []) ≡ kinds.DisplayHelp ∷ [] }
-    ensures none { (program : Text) → faults (program ∷ []) ≡ kinds.DisplayHelpOnMissingArgumentOrSubcommand ∷ [] }
+    ensures help { (program : Text) → faults (program ∷ codes "--help" ∷ []) ≡ DisplayHelp ∷ [] }
+    ensures none { (program : Text) → faults (program ∷ []) ≡ DisplayHelpOnMissingArgumentOrSubcommand ∷ [] }
 {}

@@ -26,3 +26,5 @@ mod slots;
 mod sources;
 #[cfg(test)]
 mod streams;
+#[cfg(test)]
+mod words;
