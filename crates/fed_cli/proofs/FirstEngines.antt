@@ -15,7 +15,7 @@ use Rattle.med_session.specs.declared.adding.AddFault.TheVariants as adding
 use Rattle.med_session.specs.declared.sources.SourceKind.{SourceKind}
 use Rattle.probe_wrapper.specs.Lists.{IsNewList}
 use Rattle.fed_cli.specs.Demo.{demo_list, parts_columns, orders_columns}
-use Rattle.fed_cli.specs.Setup.{HasDemoBox, IsFirst, AddsNoDemo, BeginsNot}
+use Rattle.fed_cli.specs.Setup.{HasDemo, HasDemoBox, IsFirst, AddsNoDemo, BeginsNot}
 use Rattle.fed_cli.specs.Told.{added_of, attached_of}
 use Rattle.fed_cli.specs.declared.told.RunFault.{RunFault}
 use Rattle.fed_cli.specs.declared.told.RunFault.TheVariants as faults
@@ -76,24 +76,30 @@ bound_last old e new label box table name remote columns sound none labels boxes
     let one = changed_last old.boxes new.boxes box h.place (λ s t. Binds s remote columns [] h.draft.number t) (place ∙ sym sound.places) binds in
     (h.draft.number, one.0, one.1, one.2, ap (λ s. s.labels) h.others ∙ labels)
 
-pub demo_box : (old listed first last : Shown) (name : List ℕ) (kind : SourceKind) (list : BoxState) → IsSound old → IsNewList list demo_list
-    → Adds old name kind list listed → BindsTable listed (codes "parts") name (codes "parts") parts_columns first
-    → BindsTable first (codes "orders") name (codes "orders") orders_columns last → HasDemoBox old.boxes last.boxes
-demo_box old listed first last name kind list sound is_demo adds parts orders =
-    let one = bound_last old listed first _ list (codes "parts") name (codes "parts") parts_columns sound adds.name_free
+pub demo_box : (old listed first last : Shown) (name : List ℕ) (kind : SourceKind) (list : BoxState) (columns others : List Column)
+    → columns ≡ parts_columns → others ≡ orders_columns → IsSound old → IsNewList list demo_list → Adds old name kind list listed
+    → BindsTable listed (codes "parts") name (codes "parts") columns first → BindsTable first (codes "orders") name (codes "orders") others last → HasDemoBox old.boxes last.boxes
+demo_box old listed first last name kind list columns others are_parts are_orders sound is_demo adds parts orders =
+    let one = bound_last old listed first _ list (codes "parts") name (codes "parts") columns sound adds.name_free
     (ap (λ s. s.labels) adds.is) (ap (λ s. s.boxes) adds.is) parts in
-    let two = bound_last old first last _ one.1 (codes "orders") name (codes "orders") orders_columns sound adds.name_free one.4 one.3 orders in
+    let two = bound_last old first last _ one.1 (codes "orders") name (codes "orders") others sound adds.name_free one.4 one.3 orders in
     record {
       list = list;
       is_demo = is_demo;
       parts = one.0;
       mid = one.1;
-      binds_parts = one.2;
+      binds_parts = subst (λ cs. Binds list (codes "parts") cs [] one.0 one.1) are_parts one.2;
       orders = two.0;
       box = two.1;
-      binds_orders = two.2;
+      binds_orders = subst (λ cs. Binds one.1 (codes "orders") cs [] two.0 two.1) are_orders two.2;
       are = two.3;
     }
+
+-- the list is asked, and was added
+pub first_of_list : (o : Option (Bor (List ℕ))) (name : Bor (List ℕ)) (w : World) (old boxes : List (Option BoxState)) → o ≡ Some name → old ≡ []
+    → HasDemo empty_world name.now w → HasDemoBox old boxes → IsFirst (option_map (λ s. s.now) o) w boxes
+first_of_list o name w old boxes is none has box =
+    subst (λ p. IsFirst (option_map (λ s. s.now) p) w boxes) (sym is) (has, subst (λ bs. HasDemoBox bs boxes) none box)
 
 -- ---- why the list is not added
 

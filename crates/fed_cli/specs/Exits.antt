@@ -1,5 +1,5 @@
 -- What the program has done when it exits.
-use Rattle.std.specs.Prelude.{◌≡◌, ℕ, Bool, true, List, Option, Some, None, option_map, Result, Ok, Err}
+use Rattle.std.specs.Prelude.{◌≡◌, ◌⊎◌, ℕ, Bool, true, List, Option, Some, None, option_map, Result, Ok, Err}
 use Rattle.std.specs.Borrow.{Bor}
 use Rattle.std.specs.Io.KnownBytes.{Appends}
 use Rattle.med_exec.specs.Slots.{states}
@@ -46,3 +46,9 @@ pub data Exits (words : List (List ℕ)) (exit : Exit) (had has held holds knew 
   -- they do not
   has_refused : (fault : WordsFault) → Reads words (Err fault) → exit.sources ≡ None → has ≡ had → TellsWords fault exit.is_told held holds knew knows
       → exit.status ≡ words_status fault → Exits words exit had has held holds knew knows
+
+-- The program exits by this status, whatever words its environment has: so on some words, or, where they cannot be read, by 1 or 2, with nothing
+-- read of standard input and nothing written to standard output.
+pub data ExitsBy (status : ℕ) (had has held holds knew knows : Option (List ℕ)) : Type 0 where
+  on_words : (words : List (List ℕ)) (exit : Exit) → Exits words exit had has held holds knew knows → status ≡ exit.status → ExitsBy status had has held holds knew knows
+  on_none : has ≡ had → holds ≡ held → (status ≡ 1) ⊎ (status ≡ 2) → ExitsBy status had has held holds knew knows

@@ -1,5 +1,5 @@
 //! The program: what it serves, and how it ends.
-ghost use Rattle.std.specs.Prelude.{◌≡◌, IfOk, IfErr, OnOk, OnErr, option_map, map, string_bytes};
+ghost use Rattle.std.specs.Prelude.{◌≡◌, true, IfOk, IfErr, OnOk, OnErr, option_map, map, string_bytes};
 ghost use Rattle.med_exec.specs.Slots.{states};
 ghost use Rattle.med_session.specs.World.{World};
 ghost use Rattle.med_session.specs.Engine.{shown, IsSound, Agrees, EachBox, IsAtRest};
@@ -7,7 +7,7 @@ ghost use Rattle.probe_wrapper.specs.ListBoxes.{box_of};
 ghost use Rattle.probe_wrapper.specs.Lists.{IsNewList};
 ghost use Rattle.fed_cli.specs.Answered.{ServesProgram};
 ghost use Rattle.fed_cli.specs.Demo.{demo_list};
-ghost use Rattle.fed_cli.specs.Exits.{Exits, Runs, TellsWords};
+ghost use Rattle.fed_cli.specs.Exits.{Exits, ExitsBy, Runs, TellsWords};
 ghost use Rattle.fed_cli.specs.Setup.{HasDemo, HasDemoBox, IsFirst, AddsNoDemo, BeginsNot};
 ghost use Rattle.fed_cli.specs.Told.{run_line};
 ghost use Rattle.std.specs.Io.KnownBytes.{Appends};
@@ -196,7 +196,10 @@ pub fn run<V: AllocGlobal + Env, I: Read, O: Write, E: Write>(
     input: &mut I,
     output: &mut O,
     errors: &mut E,
-) -> u8 {
+) -> u8
+    ensures { ExitsBy result (I.remaining input.old) (I.remaining input.new) (O.contents output.old) (O.contents output.new)
+        (E.contents errors.old) (E.contents errors.new) }
+{
     let words: Result<Vec<String>, AllocError> = match env::args(rt) {
         Ok(args) => args.collect(rt.alloc()),
         Err(error) if error.kind() == ErrorKind::InvalidData => {

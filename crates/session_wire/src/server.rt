@@ -35,8 +35,8 @@ pub struct Server<H> {
 }
 
 impl<H: Handler> Server<H> {
-    ghost use Rattle.std.specs.Prelude.{◌↔◌, true, Err, IfOk, IfErr, OnOk};
-    ghost use Rattle.session_wire.specs.Servers.{handler_of, is_closed, held_back, unread_of};
+    ghost use Rattle.std.specs.Prelude.{◌↔◌, ◌<◌, true, Err, length, IfOk, IfErr, OnOk};
+    ghost use Rattle.session_wire.specs.Servers.{handler_of, is_closed, held_back, spare_of, unread_of};
 
     /// A server at the start of a stream. Refused for want of memory, it hands the handler back.
     pub fn new(alloc: Global, handler: H) -> Result<Server<H>, (H, NoMemory)>
@@ -69,7 +69,8 @@ impl<H: Handler> Server<H> {
     /// What pieces are answered depends on their bytes alone, and not on where they are cut (`runs_join`).
     ///
     /// `NoRoom` where room was refused, for the bytes held back, for a line's text or by the handler: the
-    /// lines answered before were a run, then the sessions were ended, and the stream is closed. `Closed`
+    /// lines answered before were a run, then the sessions were ended, and the stream is closed. A piece
+    /// that ends no line is refused only where the room for the bytes held back was less than it. `Closed`
     /// where the stream was closed before: nothing changes.
     pub fn feed(&mut self, piece: &[u8], out: &mut Vec<u8>) -> Result<(), FeedFault>
         requires { H.sound (handler_of self.old) }
@@ -81,6 +82,8 @@ impl<H: Handler> Server<H> {
             × ((text : List ℕ) × (out.new.items ≡ out.old.items ++ text)
             × BrokenOff H.step H.ended (handler_of self.old) (held_back self.old ++ piece.now) text
             (handler_of self.new)) }
+        ensures room { result ≡ Err FeedFault.NoRoom → IsFrontOfLine (held_back self.old ++ piece.now)
+            → spare_of self.old < length piece.now }
         ensures closed { (result ≡ Err FeedFault.Closed) ↔ (is_closed self.old ≡ true) }
         ensures unchanged { result ≡ Err FeedFault.Closed
             → (handler_of self.new ≡ handler_of self.old) × (is_closed self.new ≡ true)

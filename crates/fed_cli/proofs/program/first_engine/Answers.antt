@@ -1,7 +1,5 @@
-use Rattle.std.proofs.Common.{option_map, sym, subst}
 use Rattle.med_session.specs.World.{empty_world}
-use Rattle.fed_cli.specs.Setup.{IsFirst, HasDemoBox}
-use Rattle.fed_cli.proofs.FirstEngines.{nothing_there, first_of_none, begins_not}
+use Rattle.fed_cli.proofs.FirstEngines.{nothing_there, first_of_none, first_of_list, begins_not}
 use Rattle.fed_cli.proofs.program.first_engine.Goals as goal
 
 -- no list is asked
@@ -15,11 +13,10 @@ pub returns-in-Ok-add_demo-clause-first : goal.returns-in-Ok-add_demo-clause-fir
 returns-in-Ok-add_demo-clause-first c =
     let nothing = nothing_there _ c.in-Ok.ensures.sound c.in-Ok.ensures.empty in
     let demo = c.in-Ok-add_demo.ensures.world empty_world c.in-Ok.ensures.empty in
-    let box = subst (λ boxes. HasDemoBox boxes _) nothing.1 c.in-Ok-add_demo.ensures.boxes in
-    (demo.0, demo.2, subst (λ o. IsFirst (option_map (λ s. s.now) o) demo.0 _) (sym c.in-Some.is) (demo.1, box))
+    (demo.0, demo.2, first_of_list c.args.list _ demo.0 _ _ c.in-Some.is nothing.1 demo.1 c.in-Ok-add_demo.ensures.boxes)
 
 -- it was not
-pub returns-in-Err-add_demo-clause-refused : goal.returns-in-Err-add_demo-clause-refused
-returns-in-Err-add_demo-clause-refused c =
+pub returns-clause-refused : goal.returns-clause-refused
+returns-clause-refused c =
     let nothing = nothing_there _ c.in-Ok.ensures.sound c.in-Ok.ensures.empty in
-    begins_not _ _ _ _ nothing.0 c.in-Some.is c.in-Err-add_demo.ensures.fault
+    begins_not _ _ _ _ nothing.0 c.in-Some.is c.in-Err.ensures.fault

@@ -34,7 +34,10 @@ with_list : (program name : Text) → strip_byte 45 name ≡ None
     × (list_named (program ∷ codes "run" ∷ codes "--list" ∷ name ∷ []) ≡ Some name)
 unfolding clap_on_literals
 with_list program [] e = (refl, refl)
-with_list program (x ∷ xs) e = let no = no_hyphen x xs e in let stops = and_false (bytes_eq xs (45 ∷ [])) in (rw (no, stops) refl, rw (no, stops) refl)
+with_list program (x ∷ xs) e =
+    let no = no_hyphen x xs e in
+    let stops = and_false (bytes_eq xs (45 ∷ [])) in
+    (simp (no, stops) refl, simp (no, stops) refl)
 
 pub returns-clause-list : goal.returns-clause-list
 returns-clause-list c = with_list
