@@ -20,7 +20,7 @@ use crate::words::{Asked, WordsFault, read_words};
 use fdw_api::interface::Wrapper;
 use med_session::{Engine, SourceKind, Sources};
 use probe_wrapper::ListWrapper;
-use std::alloc::{AllocError, Global};
+use std::alloc::Global;
 use std::env;
 use std::io::{ErrorKind, Read, Write};
 use std::rt::Env;
@@ -174,18 +174,39 @@ pub fn run_words<I: Read, O: Write, E: Write>(
         Ok(Asked::Run { list }) => list,
         Err(fault) => {
             let is_told = tell_words(&fault, output, errors);
+            let refused = fault.status();
             return Exit {
-                status: fault.status(),
+                status: refused,
                 is_told,
                 sources: None,
             };
         }
     };
-    let (came, sources) = run_list(alloc, list, input, output);
+    let ran = run_list(alloc, list, input, output);
+    let is_told = tell_run(ran.0, errors);
+    let status = status(ran.0);
     Exit {
-        status: status(came),
-        is_told: tell_run(came, errors),
-        sources,
+        status,
+        is_told,
+        sources: ran.1,
+    }
+}
+
+// Why the environment gives no words.
+#[derive(Clone, Copy)]
+enum ArgsFault {
+    // A word is no text.
+    NotText,
+    // Memory was refused.
+    NoMemory,
+}
+
+// The words of the environment.
+fn own_words<V: AllocGlobal + Env>(rt: &V) -> Result<Vec<String>, ArgsFault> {
+    match env::args(rt) {
+        Ok(args) => args.collect(rt.alloc()).map_err(|_| ArgsFault::NoMemory),
+        Err(error) if error.kind() == ErrorKind::InvalidData => Err(ArgsFault::NotText),
+        Err(_) => Err(ArgsFault::NoMemory),
     }
 }
 
@@ -200,19 +221,15 @@ pub fn run<V: AllocGlobal + Env, I: Read, O: Write, E: Write>(
     ensures { ExitsBy result (I.remaining input.old) (I.remaining input.new) (O.contents output.old) (O.contents output.new)
         (E.contents errors.old) (E.contents errors.new) }
 {
-    let words: Result<Vec<String>, AllocError> = match env::args(rt) {
-        Ok(args) => args.collect(rt.alloc()),
-        Err(error) if error.kind() == ErrorKind::InvalidData => {
+    match own_words(rt) {
+        Ok(words) => run_words(rt.alloc(), &words, input, output, errors).status,
+        Err(ArgsFault::NotText) => {
             let _ = errors.write_all(
                 b"error: invalid UTF-8 was detected in one or more arguments\n",
             );
-            return 2;
+            2
         }
-        Err(_) => Err(AllocError),
-    };
-    match words {
-        Ok(words) => run_words(rt.alloc(), &words, input, output, errors).status,
-        Err(_) => {
+        Err(ArgsFault::NoMemory) => {
             let _ = errors.write_all(b"fedq: out of memory\n");
             1
         }
