@@ -29,6 +29,11 @@ Runs list came (Some sources) had has held holds =
     × ServesProgram (option_map (λ s. s.now) list) (states box_of sources.slots.items) had has held holds ended
     × EachBox IsAtRest (states box_of sources.slots.items)
 
+-- Standard error gets nothing where the input ended, and else the line of the run. A write may fail: then not all was told.
+abbrev pub TellsRun : Came → Bool → Option (List ℕ) → Option (List ℕ) → Type 0
+TellsRun (Ok x) is_told knew knows = (is_told ≡ true) × (knows ≡ knew)
+TellsRun (Err fault) is_told knew knows = is_told ≡ true → Appends knew knows (run_line (Err fault))
+
 -- Where the words ask no run, standard output gets the help that was asked alone, and else nothing; standard error gets nothing where help was
 -- asked, and else what is told of the words. A write may fail: then not all was told.
 abbrev pub TellsWords : WordsFault → Bool → Option (List ℕ) → Option (List ℕ) → Option (List ℕ) → Option (List ℕ) → Type 0
@@ -42,7 +47,7 @@ TellsWords NoMemory is_told held holds knew knows = (holds ≡ held) × (is_told
 pub data Exits (words : List (List ℕ)) (exit : Exit) (had has held holds knew knows : Option (List ℕ)) : Type 0 where
   -- the words ask for a run
   has_run : (list : Option (Bor (List ℕ))) → Reads words (Ok (Run list)) → (came : Came) → Runs list came exit.sources had has held holds
-      → exit.status ≡ run_status came → (exit.is_told ≡ true → Appends knew knows (run_line came)) → Exits words exit had has held holds knew knows
+      → exit.status ≡ run_status came → TellsRun came exit.is_told knew knows → Exits words exit had has held holds knew knows
   -- they do not
   has_refused : (fault : WordsFault) → Reads words (Err fault) → exit.sources ≡ None → has ≡ had → TellsWords fault exit.is_told held holds knew knows
       → exit.status ≡ words_status fault → Exits words exit had has held holds knew knows

@@ -1,5 +1,5 @@
 //! The program: what it serves, and how it ends.
-ghost use Rattle.std.specs.Prelude.{◌≡◌, true, IfOk, IfErr, OnOk, OnErr, option_map, map, string_bytes};
+ghost use Rattle.std.specs.Prelude.{◌≡◌, IfOk, IfErr, OnOk, OnErr, option_map, map, string_bytes};
 ghost use Rattle.med_exec.specs.Slots.{states};
 ghost use Rattle.med_session.specs.World.{World};
 ghost use Rattle.med_session.specs.Engine.{shown, IsSound, Agrees, EachBox, IsAtRest};
@@ -7,10 +7,8 @@ ghost use Rattle.probe_wrapper.specs.ListBoxes.{box_of};
 ghost use Rattle.probe_wrapper.specs.Lists.{IsNewList};
 ghost use Rattle.fed_cli.specs.Answered.{ServesProgram};
 ghost use Rattle.fed_cli.specs.Demo.{demo_list};
-ghost use Rattle.fed_cli.specs.Exits.{Exits, ExitsBy, Runs, TellsWords};
+ghost use Rattle.fed_cli.specs.Exits.{Exits, ExitsBy, Runs, TellsRun, TellsWords};
 ghost use Rattle.fed_cli.specs.Setup.{HasDemo, HasDemoBox, IsFirst, AddsNoDemo, BeginsNot};
-ghost use Rattle.fed_cli.specs.Told.{run_line};
-ghost use Rattle.std.specs.Io.KnownBytes.{Appends};
 
 use crate::demo::{demo_tables, orders_columns, parts_columns};
 use crate::serving::serve_engine;
@@ -137,7 +135,7 @@ fn run_list<'a, R: Read, W: Write>(
 
 // Tells on standard error what a run came to, if it did not end with the input. The answer is whether it could be written.
 fn tell_run<E: Write>(came: Result<(), RunFault<'_>>, errors: &mut E) -> bool
-    ensures { result ≡ true → Appends (E.contents errors.old) (E.contents errors.new) (run_line came.entry) }
+    ensures { TellsRun came.entry result (E.contents errors.old) (E.contents errors.new) }
 {
     match came {
         Ok(()) => true,
@@ -171,7 +169,7 @@ pub fn run_words<I: Read, O: Write, E: Write>(
         (O.contents output.old) (O.contents output.new) (E.contents errors.old) (E.contents errors.new) }
 {
     let list = match read_words(alloc, words) {
-        Ok(Asked::Run { list }) => list,
+        Ok(Asked::Run { list: name }) => name,
         Err(fault) => {
             let is_told = tell_words(&fault, output, errors);
             let refused = fault.status();
