@@ -1,15 +1,12 @@
 -- What a parse of the program's words gives.
-use Rattle.std.proofs.Common.{◌≡◌, ◌⊎◌, ℕ, true, List, [], codes, Option, Some, None, Bor, Result, Ok, Err, option_map, refl, sym, ap, ◌∙◌, subst, inl, inr}
-use Rattle.clap.specs.Words.{App, Row, Text, FailsBy, HasMatchesOf, IsAmong, HasKind, fault_of, first_of, is_simple, is_simple_and_free, kind_of, subcommand_of, subcommand_rows_of}
+use Rattle.std.proofs.Common.{◌≡◌, ◌⊎◌, true, List, [], codes, Option, Some, None, Err, option_map, refl, ap, subst, inl, inr}
+use Rattle.clap.specs.Words.{App, Row, Text, HasMatchesOf, IsAmong, fault_of, first_of, is_simple, is_simple_and_free, subcommand_rows_of}
 use Rattle.clap.specs.declared.ArgMatches.{ArgMatches}
-use Rattle.clap.specs.declared.error.Error.{Error}
 use Rattle.clap.specs.declared.error.ErrorKind.{ErrorKind}
 use Rattle.clap.specs.declared.error.ErrorKind.TheVariants.{OutOfMemory}
 use Rattle.clap.proofs.OnLiterals.{clap_on_literals}
 use Rattle.fed_cli.specs.CommandLine.{command_line, faults, name_in, list_named, IsHelp}
-use Rattle.fed_cli.specs.Names.{IsSourceName}
 use Rattle.fed_cli.specs.Words.{Reads, IsRefusal}
-use Rattle.fed_cli.specs.declared.words.Asked.TheVariants.{Run}
 use Rattle.fed_cli.specs.declared.words.WordsFault.{WordsFault}
 use Rattle.fed_cli.specs.declared.words.WordsFault.TheVariants.{Help, Usage, BadName, NoMemory}
 

@@ -1,6 +1,6 @@
 -- The command line that the program understands, in the words of `clap`.
-use Rattle.std.specs.Prelude.{ℕ, List, [], ◌∷◌, Option, Some, codes, true, option_and_then, ◌≡◌, ◌≢◌, ◌⊎◌}
-use Rattle.clap.specs.Words.{App, Row, Rule, Text, Kinds, IsAmong, first_of, fault_of, new_app, new_rule, subcommand_of, with_rule, with_subcommand}
+use Rattle.std.specs.Prelude.{List, Option, Some, codes, true, option_and_then, ◌≡◌, ◌⊎◌}
+use Rattle.clap.specs.Words.{App, Row, Rule, Text, Kinds, first_of, fault_of, new_app, new_rule, subcommand_of, with_rule, with_subcommand}
 use Rattle.clap.specs.declared.builder.ArgAction.TheVariants.{Set}
 use Rattle.clap.specs.declared.error.ErrorKind.{ErrorKind}
 use Rattle.clap.specs.declared.error.ErrorKind.TheVariants.{DisplayHelp, DisplayVersion}

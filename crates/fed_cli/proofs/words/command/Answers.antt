@@ -1,7 +1,7 @@
 use Rattle.std.proofs.Common.{◌≡◌, ◌∙◌, ap, ap₂, rules, true}
 use Rattle.std.proofs.lemmas.Result.{IfOk-weaker}
 use Rattle.clap.specs.Simple.{app_of_fields}
-use Rattle.clap.specs.Words.{App, app_of, rule_of, with_rule, with_subcommand, new_app}
+use Rattle.clap.specs.Words.{App, app_of, rule_of, with_rule, with_subcommand}
 use Rattle.fed_cli.specs.CommandLine.{list_rule, run_command, fedq_command}
 use Rattle.fed_cli.proofs.words.command.Goals as goal
 
