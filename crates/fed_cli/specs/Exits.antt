@@ -15,7 +15,7 @@ use Rattle.fed_cli.specs.declared.program.Exit.{Exit}
 use Rattle.fed_cli.specs.declared.stream.Ended.{Ended}
 use Rattle.fed_cli.specs.declared.stream.StreamFault.{StreamFault}
 use Rattle.fed_cli.specs.declared.told.RunFault.{RunFault}
-use Rattle.fed_cli.specs.declared.words.Asked.TheVariants.{Run}
+use Rattle.fed_cli.specs.declared.words.Asked.{Asked}
 use Rattle.fed_cli.specs.declared.words.WordsFault.{WordsFault}
 use Rattle.fed_cli.specs.declared.words.WordsFault.TheVariants.{Help, Usage, BadName, NoMemory}
 
@@ -46,7 +46,7 @@ TellsWords NoMemory is_told held holds knew knows = (holds ≡ held) × (is_told
 -- standard error knew bytes and knows them now.
 pub data Exits (words : List (List ℕ)) (exit : Exit) (had has held holds knew knows : Option (List ℕ)) : Type 0 where
   -- the words ask for a run
-  has_run : (list : Option (Bor (List ℕ))) → Reads words (Ok (Run list)) → (came : Came) → Runs list came exit.sources had has held holds
+  has_run : (asked : Asked) → Reads words (Ok asked) → (came : Came) → Runs asked.list came exit.sources had has held holds
       → exit.status ≡ run_status came → TellsRun came exit.is_told knew knows → Exits words exit had has held holds knew knows
   -- they do not
   has_refused : (fault : WordsFault) → Reads words (Err fault) → exit.sources ≡ None → has ≡ had → TellsWords fault exit.is_told held holds knew knows

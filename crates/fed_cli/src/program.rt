@@ -14,7 +14,7 @@ use crate::demo::{demo_tables, orders_columns, parts_columns};
 use crate::serving::serve_engine;
 use crate::stream::{Ended, StreamFault};
 use crate::told::{RunFault, add_fault, attach_fault, status, told};
-use crate::words::{Asked, WordsFault, read_words};
+use crate::words::{WordsFault, read_words};
 use fdw_api::interface::Wrapper;
 use med_session::{Engine, SourceKind, Sources};
 use probe_wrapper::ListWrapper;
@@ -168,8 +168,8 @@ pub fn run_words<I: Read, O: Write, E: Write>(
     ensures { Exits (map string_bytes words.now) result (I.remaining input.old) (I.remaining input.new)
         (O.contents output.old) (O.contents output.new) (E.contents errors.old) (E.contents errors.new) }
 {
-    let list = match read_words(alloc, words) {
-        Ok(Asked::Run { list: name }) => name,
+    let asked = match read_words(alloc, words) {
+        Ok(asked) => asked,
         Err(fault) => {
             let is_told = tell_words(&fault, output, errors);
             let refused = fault.status();
@@ -180,7 +180,7 @@ pub fn run_words<I: Read, O: Write, E: Write>(
             };
         }
     };
-    let ran = run_list(alloc, list, input, output);
+    let ran = run_list(alloc, asked.list, input, output);
     let is_told = tell_run(ran.0, errors);
     let status = status(ran.0);
     Exit {

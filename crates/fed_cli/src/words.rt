@@ -15,14 +15,11 @@ use med_syntax::is_reserved;
 use std::alloc::{AllocError, Global};
 use std::convert::AsStr;
 
-/// What the words ask.
+/// What the words ask: to answer standard input.
 #[derive(Clone, Copy, Debug, PartialEq, Eq)]
-pub enum Asked<'a> {
-    /// To answer standard input, with the demo list as the source of this name if one is given.
-    Run {
-        /// The source's name.
-        list: Option<&'a str>,
-    },
+pub struct Asked<'a> {
+    /// The name of the source that the demo list is to be, if one is given.
+    pub list: Option<&'a str>,
 }
 
 /// Why the words ask no run.
@@ -115,10 +112,10 @@ pub fn read_words<'a, S: AsStr>(alloc: Global, words: &'a [S]) -> Result<Asked<'
         Err(error) => return Err(refusal(alloc, error)),
     };
     let Some(name) = list_of(&matches) else {
-        return Ok(Asked::Run { list: None });
+        return Ok(Asked { list: None });
     };
     if is_source_name(name) {
-        Ok(Asked::Run { list: Some(name) })
+        Ok(Asked { list: Some(name) })
     } else {
         Err(WordsFault::BadName(name))
     }

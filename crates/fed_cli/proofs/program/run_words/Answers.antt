@@ -8,4 +8,4 @@ returns-in-Err g c = has_refused c.in-Err.fault c.in-Err.ensures refl refl c.tel
 
 -- they ask for one
 pub returns : goal.returns
-returns g c = has_run c.in-Ok-Run.field-0 c.in-Ok-Run.ensures c.run_list-ran.result.0 c.run_list-ran.ensures c.status-status.ensures c.tell_run-is_told.ensures
+returns g c = has_run c.in-Ok.asked c.in-Ok.ensures c.run_list-ran.result.0 c.run_list-ran.ensures c.status-status.ensures c.tell_run-is_told.ensures

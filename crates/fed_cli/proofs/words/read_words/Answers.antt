@@ -18,8 +18,10 @@ returns-in_default-list_of g c = (
 pub returns-then-is_source_name : goal.returns-then-is_source_name
 returns-then-is_source_name g c = (
   no_faults _ _ c.in-Ok.ensures c.in-Ok-try_get_matches_from.ensures.kinds,
-  sym (c.in-Some.ensures ∙ named _ _ _ c.in-Ok.ensures c.in-Ok-try_get_matches_from.ensures.matches),
-  c.if-is_source_name.ensures.0 refl,
+  (
+    sym (c.in-Some.ensures ∙ named _ _ _ c.in-Ok.ensures c.in-Ok-try_get_matches_from.ensures.matches),
+    c.if-is_source_name.ensures.0 refl,
+  ),
 )
 
 -- it may not
