@@ -120,13 +120,9 @@ fn cuts_do_not_matter(rt: HostRuntime) -> Result<(), Fail> {
 
 #[test]
 fn bytes_come_one_by_one(rt: HostRuntime) -> Result<(), Fail> {
-    let mut pieces = Vec::new(rt.alloc());
-    for byte in STREAM {
-        pieces.push(Vec::from_slice(rt.alloc(), &[*byte])?)?;
-    }
     let mut server = server(rt.alloc(), false)?;
     let mut out = Vec::new(rt.alloc());
-    server.feed_all(pieces.as_slice(), &mut out)?;
+    feed_bytes(&mut server, STREAM, &mut out)?;
     assert_eq!(rt; out.as_slice(), REPLIES);
     assert!(rt; !server.is_closed());
     assert!(rt; server.finish().is_ended);

@@ -1,19 +1,18 @@
 -- An engine that is served to the end of its input, and handed back.
-use Rattle.std.proofs.Common.{◌≡◌, ℕ, Bool, true, false, cond, List, [], Option, Some, None, option_map, Result, Ok, Err, OnOk, Bor, refl, sym, ap, ◌∙◌, subst}
+use Rattle.std.proofs.Common.{◌≡◌, ℕ, Bool, true, false, cond, List, [], Option, Some, None, Result, Err, refl, sym, ap, ◌∙◌, subst}
 use Rattle.fdw_api.specs.State.{BoxState}
 use Rattle.med_exec.specs.Slots.{states}
-use Rattle.med_session.specs.World.{World, empty_world, without_sessions}
-use Rattle.med_session.specs.Engine.{Shown, shown, Agrees}
+use Rattle.med_session.specs.World.{World, without_sessions}
+use Rattle.med_session.specs.Engine.{shown, Agrees}
 use Rattle.med_session.specs.declared.engine.Engine.{Engine}
 use Rattle.session_wire.specs.Lines.{lines_within}
 use Rattle.session_wire.specs.Engines.{EngineSteps, EngineEnds}
 use Rattle.session_wire.specs.Servers.{handler_of, is_closed, held_back, unread_of}
-use Rattle.session_wire.specs.Worlds.{MayBefall, WorldSteps, WorldEnds}
+use Rattle.session_wire.specs.Worlds.{Scene, scene_of, SceneSteps, SceneEnds}
 use Rattle.session_wire.specs.declared.server.Server.{Server}
 use Rattle.fed_cli.specs.Served.{Serves}
-use Rattle.fed_cli.specs.Answered.{ServesWorld, IsFirstWorld, AnswersAll}
+use Rattle.fed_cli.specs.Answered.{ServesWorld}
 use Rattle.fed_cli.specs.declared.stream.Ended.{Ended}
-use Rattle.fed_cli.specs.declared.stream.Ended.TheVariants.{Eof}
 use Rattle.fed_cli.specs.declared.stream.StreamFault.{StreamFault}
 use Rattle.fed_cli.specs.declared.stream.StreamFault.TheVariants.{NoRoom}
 use Rattle.fed_cli.proofs.Streams.{Consumes-nil, Appends-nil}
@@ -30,7 +29,11 @@ open_server server bytes e = split (is_closed server) refl e
 abbrev pub Law : {W : Type 0} → (W → BoxState) → Type 0
 Law {W} meaning = (old new : Engine W) (before : List ℕ) (left had has held holds : Option (List ℕ)) (result : Result Ended StreamFault)
     → Serves (EngineSteps meaning) (EngineEnds meaning) old before new left had has held holds result → (w : World) → Agrees (shown meaning old) w
-    → (after : World) × Serves (WorldSteps (MayBefall (shown meaning old).boxes (shown meaning new).boxes)) WorldEnds w before after left had has held holds result × Agrees (shown meaning new) after
+    → (after : World) × Serves SceneSteps SceneEnds (scene_of meaning old w) before (scene_of meaning new after) left had has held holds result × Agrees (shown meaning new) after
+
+-- this world over these boxes
+abbrev over : List (Option BoxState) → World → Scene
+over boxes w = record { world = w; boxes = boxes }
 
 -- a new server was served, and its engine is handed back
 pub serves_world : {W : Type 0} (meaning : W → BoxState) (server : Server (Engine W)) (engine new closed : Engine W) (slots : List (Option W)) (left had has held holds : Option (List ℕ)) (result : Result Ended StreamFault)
@@ -47,7 +50,7 @@ serves_world meaning server engine new closed slots left had has held holds resu
     record {
       after = one.0;
       left = left;
-      serves = subst (λ b. Serves (WorldSteps (MayBefall (shown meaning engine).boxes b)) WorldEnds w [] one.0 left had has held holds result) (sym boxes) one.1;
+      serves = subst (λ b. Serves SceneSteps SceneEnds (scene_of meaning engine w) [] (over b one.0) left had has held holds result) (sym boxes) one.1;
       engine = shown meaning closed;
       boxes = sym is;
       agrees = ends.world one.0 one.2;
@@ -59,19 +62,20 @@ pub no_server : {W : Type 0} (meaning : W → BoxState) (back engine closed : En
     → (w : World) → Agrees (shown meaning engine) w → ServesWorld (shown meaning engine).boxes (states meaning slots) w had had held held (Err NoRoom)
 unfolding lines_within
 no_server meaning back engine closed slots had held same ends is w agrees =
+    let boxes : states meaning slots ≡ (shown meaning engine).boxes = is ∙ ap (λ s. s.boxes) ends.others ∙ ap (λ e. (shown meaning e).boxes) same in
     record {
       after = without_sessions w;
       left = None;
       serves = (
         record {
           between = had;
-          mid = w;
+          mid = scene_of meaning engine w;
           after = [];
           served = record { bytes = []; text = []; read = Consumes-nil had; written = Appends-nil held; fed = record { run = (refl, refl); unread = refl } };
           piece = [];
           read = Consumes-nil had;
           text = [];
-          broken = record { last = w; front = (refl, refl); sessions = refl };
+          broken = record { last = scene_of meaning engine w; front = (refl, refl); sessions = ap (λ b. over b (without_sessions w)) boxes };
         },
         refl,
       );
@@ -79,21 +83,3 @@ no_server meaning back engine closed slots had held same ends is w agrees =
       boxes = sym is;
       agrees = ends.world w (subst (λ e. Agrees (shown meaning e) w) (sym same) agrees);
     }
-
--- no source is named
-pub none_first : (o : Option (Bor (List ℕ))) → ((x : Bor (List ℕ)) → o ≡ Some x → ⊥) → IsFirstWorld (option_map (λ s. s.now) o) empty_world
-none_first None h = refl
-none_first (Some x) h = absurd (h x refl)
-
--- where the end of the input is told, all is answered
-pub answers_all : {T E : Type 0} (r : Result T E) (source had has held holds : Option (List ℕ)) (world : World) (engine : Shown) (last : List (Option BoxState)) (ended : Result Ended StreamFault)
-    → IsFirstWorld source world → Agrees engine world → OnOk r (ended ≡ Ok Eof) → ServesWorld engine.boxes last world had has held holds ended → OnOk r (AnswersAll source had has held holds)
-answers_all (Ok x) source had has held holds world engine last ended is_first agrees e h = record {
-  world = world;
-  is_first = is_first;
-  engine = engine;
-  agrees = agrees;
-  last = last;
-  serves = subst (λ r. ServesWorld engine.boxes last world had has held holds r) e h;
-}
-answers_all (Err x) source had has held holds world engine last ended is_first agrees e h = tt

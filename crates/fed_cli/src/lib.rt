@@ -5,6 +5,7 @@ pub mod demo;
 pub mod program;
 pub mod serving;
 pub mod stream;
+pub mod told;
 pub mod words;
 pub mod worlds;
 

@@ -26,3 +26,5 @@ mod sources;
 mod streams;
 #[cfg(test)]
 mod texts;
+#[cfg(test)]
+mod words;

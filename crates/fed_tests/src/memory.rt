@@ -7,7 +7,8 @@ ghost use Rattle.session_wire.specs.Servers.{handler_of};
 use crate::expect::{same, same_text};
 use crate::served::{ANSWER, STORED, counts_after, counts_at_end, demo_engine, demo_server};
 use fdw_api::interface::Counts;
-use fed_cli::program::{RunFault, serve};
+use fed_cli::program::serve;
+use fed_cli::told::{RunFault, told};
 use fed_cli::{StreamFault, serve_stream};
 use med_session::{Engine, NoRoom, Request, Sid};
 use probe_wrapper::ListWrapper;
@@ -128,8 +129,8 @@ fn refused_allocation_touches_one_request(rt: HostRuntime) -> Result<(), Fail> {
 }
 
 // The answers that may stand after a stream that ended so, all of which came in one piece.
-fn answers_to_piece(ended: Result<(), RunFault<'_>>) -> &'static [&'static [u8]] {
-    match ended {
+fn answers_to_piece(came: Result<(), RunFault<'_>>) -> &'static [&'static [u8]] {
+    match came {
         Ok(()) => &LACKING_ONE,
         Err(RunFault::NoMemory | RunFault::Write) => &[b""],
         Err(_) => &[],
@@ -141,8 +142,11 @@ fn answers_to_piece(ended: Result<(), RunFault<'_>>) -> &'static [&'static [u8]]
 fn refused_allocation_leaves_whole_replies(rt: HostRuntime) -> Result<(), Fail> {
     let mut out = Vec::new(rt.alloc());
     let mut input = STORED;
-    let ended = serve(rt.alloc(), Some("demo"), &mut input, &mut out);
-    is_one_of(&out, answers_to_piece(ended))
+    let came = match serve(rt.alloc(), Some("demo"), &mut input, &mut out) {
+        Ok((ended, _)) => told(ended),
+        Err(fault) => Err(fault),
+    };
+    is_one_of(&out, answers_to_piece(came))
 }
 
 // What two feeds answer, and what the demo list then counts.

@@ -6,7 +6,8 @@ ghost use Rattle.std.specs.Prelude.{IfOk};
 
 use fdw_api::interface::Counts;
 use fed_cli::demo::demo_tables;
-use fed_cli::program::{RunFault, add_demo};
+use fed_cli::program::add_demo;
+use fed_cli::told::RunFault;
 use med_exec::ledger_at;
 use med_session::Engine;
 use probe_wrapper::ListWrapper;

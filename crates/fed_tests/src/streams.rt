@@ -8,7 +8,7 @@ use med_session::{NoRoom, Request, Sid};
 use session_wire::{Handler, Server};
 use std::alloc::Global;
 use std::io;
-use std::io::{ErrorKind, Write};
+use std::io::{ErrorKind, Read, Write};
 use std::test::Fail;
 
 const INPUT: &[u8] = b"1 OPEN ann\nx\n2 BYE\n1 Q rest";
@@ -189,6 +189,36 @@ fn read_fault_ends_and_interruption_does_not(rt: HostRuntime) -> Result<(), Fail
         goes_on_behind(rt.alloc(), reads)?;
     }
     Ok(())
+}
+
+// Is interrupted so many times, and then gives the input.
+#[derive(Drop)]
+struct Interrupted {
+    times: u32,
+    bytes: &'static [u8],
+}
+
+impl Read for Interrupted {
+    fn read(&mut self, buf: &mut [u8]) -> io::Result<usize> {
+        if self.times > 0 {
+            self.times -= 1;
+            return Err(ErrorKind::Interrupted.into());
+        }
+        self.bytes.read(buf)
+    }
+}
+
+#[test]
+fn interruptions_are_tried_again(rt: HostRuntime) -> Result<(), Fail> {
+    let mut server = echo_server(rt.alloc(), false)?;
+    let mut reader = Interrupted {
+        times: 100_000,
+        bytes: INPUT,
+    };
+    let mut output = Vec::new(rt.alloc());
+    let ended = serve_stream(rt.alloc(), &mut server, &mut reader, &mut output);
+    same("the end", &ended, &Ok(Ended::Eof))?;
+    same_text("the replies", &output, ANSWER)
 }
 
 // Fails where a write that fails, after so many, does not end the stream, or another text is written.

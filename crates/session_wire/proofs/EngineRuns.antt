@@ -1,17 +1,14 @@
 -- A run of engines is a run of each world that the first engine stands for.
-use Rattle.std.proofs.Common.{ℕ, ◌-◌, ◌^◌, ◌<◌, ◌≤◌, min, List, Option, inl, inr, ◌⊎◌, refl, sym, ap, ◌∙◌, subst, arith}
-use Rattle.std.proofs.lemmas.Bool.{cases_lt}
+use Rattle.std.proofs.Common.{◌≡◌, ℕ, ◌-◌, ◌^◌, ◌≤◌, min, List, Option, refl, sym, ap, ◌∙◌, subst, arith}
 use Rattle.fdw_api.specs.State.{BoxState}
 use Rattle.med_session.specs.World.{World, without_sessions}
-use Rattle.med_session.specs.Steps.{Trouble}
-use Rattle.med_exec.specs.Running.{HasFailed, IsUsedUp}
-use Rattle.med_session.specs.Engine.{shown, Agrees, BoxBecomes, Befell, Rises, EachRises}
+use Rattle.med_session.specs.Engine.{shown, Agrees, Befell, Rises, EachRises}
 use Rattle.med_session.specs.declared.engine.Engine.{Engine}
 use Rattle.session_wire.specs.Engines.{EngineSteps, EngineEnds, EngineRises}
 use Rattle.session_wire.specs.Lines.{lines_of}
 use Rattle.session_wire.specs.Run.{Fed, BrokenOff}
-use Rattle.session_wire.specs.Worlds.{MayBefall, WorldSteps, WorldEnds}
-use Rattle.session_wire.proofs.Follows.{StepsFollow, EndsFollow, StepsWithin, IsKept, run_kept, broken_kept, fed_follows, broken_follows, fed_within, broken_within}
+use Rattle.session_wire.specs.Worlds.{Scene, scene_of, SceneSteps, SceneEnds}
+use Rattle.session_wire.proofs.Follows.{StepsFollow, EndsFollow, IsKept, run_kept, broken_kept, fed_follows, broken_follows}
 
 -- ---- what boxes count goes up
 
@@ -52,66 +49,42 @@ engine_kept {W} meaning = record {
   ends = λ old new h. subst (λ boxes. EachRises (shown meaning old).boxes boxes) (sym (ap (λ s. s.boxes) h.others)) (each_same (shown meaning old).boxes);
 }
 
--- ---- trouble of one line, seen from a first state and a last
-
-failed_since : (m a b c d : ℕ) → min a m ≤ b → (b < c) ⊎ (m ≤ c) → min c m ≤ d → (a < d) ⊎ (m ≤ d)
-failed_since m a b c d h (inl f) k = elim (cases_lt d m) [ inl small ↦ inl (omega arith) | inr large ↦ inr large ]
-failed_since m a b c d h (inr f) k = inr (omega arith)
-
-box_since : (first old new last : List (Option BoxState)) (P : BoxState → BoxState → Type 0) → EachRises first old → EachRises new last
-    → ((a b c d : BoxState) → Rises a b → P b c → Rises c d → P a d) → BoxBecomes old new P → BoxBecomes first last P
-box_since first old new last P h k f b =
-    let low = h.stood b.slot b.before b.was in
-    let up = k.stays b.slot b.after b.is in
-    record { slot = b.slot; before = low.0; after = up.0; was = low.1; is = up.1; holds = f low.0 b.before b.after up.0 low.2 b.holds up.2 }
-
-befall_since : (first old new last : List (Option BoxState)) (t : Trouble) → EachRises first old → EachRises new last → Befell old new t → MayBefall first last t
-befall_since first old new last t h k b = record {
-  source = λ e. box_since first old new last HasFailed h k (λ p q r s up f on. failed_since (2 ^ 64 - 1) p.ledger.faults q.ledger.faults r.ledger.faults s.ledger.faults up.faults f on.faults) (b.source e);
-  numbers = λ e. box_since first old new last IsUsedUp h k (λ p q r s up f on. on.end f) (b.numbers e);
-}
-
 -- ---- worlds follow
 
-steps_follow : {W : Type 0} (meaning : W → BoxState) (first last : Engine W)
-    → StepsFollow (StepsWithin (EngineSteps meaning) (EngineRises meaning) first last) (WorldSteps (MayBefall (shown meaning first).boxes (shown meaning last).boxes)) (λ e w. Agrees (shown meaning e) w)
-steps_follow meaning first last old sid request reply new h v a =
-    let leads = h.0.leads in
-    let one = leads.step v a in
-    (one.0, (leads.trouble, befall_since (shown meaning first).boxes (shown meaning old).boxes (shown meaning new).boxes (shown meaning last).boxes leads.trouble h.1 h.2 leads.befell, (h.0.reply, h.0.is, one.1)), one.2)
+-- an engine stands for a world over its own boxes
+abbrev Stands : {W : Type 0} → (W → BoxState) → Engine W → Scene → Type 0
+Stands meaning e s = Agrees (shown meaning e) s.world × (s.boxes ≡ (shown meaning e).boxes)
 
-ends_follow : {W : Type 0} (meaning : W → BoxState) → EndsFollow (EngineEnds meaning) WorldEnds (λ e w. Agrees (shown meaning e) w)
-ends_follow meaning old new h v a = (without_sessions v, refl, h.world v a)
+steps_follow : {W : Type 0} (meaning : W → BoxState) → StepsFollow (EngineSteps meaning) SceneSteps (Stands meaning)
+steps_follow meaning old sid request reply new h s a =
+    let leads = h.leads in
+    let one = leads.step s.world a.0 in
+    let befell = subst (λ boxes. Befell boxes (shown meaning new).boxes leads.trouble) (sym a.1) leads.befell in
+    let rises = subst (λ boxes. EachRises boxes (shown meaning new).boxes) (sym a.1) leads.rises in
+    (scene_of meaning new one.0, (leads.trouble, befell, rises, (h.reply, h.is, one.1)), (one.2, refl))
 
--- what a part of a run of engines is in worlds, seen from a first engine and a last
-pub fed_in_worlds : {W : Type 0} (meaning : W → BoxState) (first old : Engine W) (bytes text : List ℕ) (new last : Engine W) (left : Option (List ℕ)) → EngineRises meaning first old → EngineRises meaning new last
+ends_follow : {W : Type 0} (meaning : W → BoxState) → EndsFollow (EngineEnds meaning) SceneEnds (Stands meaning)
+ends_follow meaning old new h s a = (record s { world = without_sessions s.world }, refl, (h.world s.world a.0, a.1 ∙ sym (ap (λ e. e.boxes) h.others)))
+
+-- a scene with an engine's boxes is the engine's at its world
+is_scene : {W : Type 0} (meaning : W → BoxState) (e : Engine W) (s : Scene) → s.boxes ≡ (shown meaning e).boxes → s ≡ scene_of meaning e s.world
+is_scene meaning e s same = ap (λ (boxes : List (Option BoxState)). let all : Scene = record { world = s.world; boxes = boxes } in all) same
+
+pub fed_in_worlds : {W : Type 0} (meaning : W → BoxState) (old new : Engine W) (bytes text : List ℕ) (left : Option (List ℕ))
     → Fed (EngineSteps meaning) (EngineEnds meaning) old bytes text new left → (w : World) → Agrees (shown meaning old) w
-    → (after : World) × Fed (WorldSteps (MayBefall (shown meaning first).boxes (shown meaning last).boxes)) WorldEnds w bytes text after left × Agrees (shown meaning new) after
-fed_in_worlds meaning first old bytes text new last left b a h w agrees =
-    fed_follows (StepsWithin (EngineSteps meaning) (EngineRises meaning) first last) (EngineEnds meaning) (WorldSteps (MayBefall (shown meaning first).boxes (shown meaning last).boxes)) WorldEnds (λ e v. Agrees (shown meaning e) v)
-    (steps_follow meaning first last) (ends_follow meaning) old bytes text new left
-    (fed_within (EngineSteps meaning) (EngineEnds meaning) (EngineRises meaning) (engine_kept meaning) first old bytes text new last left b a h) w agrees
+    → (after : World) × Fed SceneSteps SceneEnds (scene_of meaning old w) bytes text (scene_of meaning new after) left × Agrees (shown meaning new) after
+fed_in_worlds meaning old new bytes text left h w agrees =
+    let all = fed_follows (EngineSteps meaning) (EngineEnds meaning) SceneSteps SceneEnds (Stands meaning) (steps_follow meaning) (ends_follow meaning)
+    old bytes text new left h (scene_of meaning old w) (agrees, refl) in
+    (all.0.world, subst (λ s. Fed SceneSteps SceneEnds (scene_of meaning old w) bytes text s left) (is_scene meaning new all.0 all.2.1) all.1, all.2.0)
 
-pub broken_in_worlds : {W : Type 0} (meaning : W → BoxState) (first old : Engine W) (bytes text : List ℕ) (new last : Engine W) → EngineRises meaning first old → EngineRises meaning new last
+pub broken_in_worlds : {W : Type 0} (meaning : W → BoxState) (old new : Engine W) (bytes text : List ℕ)
     → BrokenOff (EngineSteps meaning) (EngineEnds meaning) old bytes text new → (w : World) → Agrees (shown meaning old) w
-    → (after : World) × BrokenOff (WorldSteps (MayBefall (shown meaning first).boxes (shown meaning last).boxes)) WorldEnds w bytes text after × Agrees (shown meaning new) after
-broken_in_worlds meaning first old bytes text new last b a h w agrees =
-    broken_follows (StepsWithin (EngineSteps meaning) (EngineRises meaning) first last) (EngineEnds meaning) (WorldSteps (MayBefall (shown meaning first).boxes (shown meaning last).boxes)) WorldEnds (λ e v. Agrees (shown meaning e) v)
-    (steps_follow meaning first last) (ends_follow meaning) old bytes text new
-    (broken_within (EngineSteps meaning) (EngineEnds meaning) (EngineRises meaning) (engine_kept meaning) first old bytes text new last b a h) w agrees
-
--- a whole feed
-pub feed_in_worlds : {W : Type 0} (meaning : W → BoxState) (old new : Engine W) (bytes text : List ℕ) (left : Option (List ℕ))
-    → Fed (EngineSteps meaning) (EngineEnds meaning) old bytes text new left → (w : World) → Agrees (shown meaning old) w
-    → (after : World) × Fed (WorldSteps (MayBefall (shown meaning old).boxes (shown meaning new).boxes)) WorldEnds w bytes text after left × Agrees (shown meaning new) after
-feed_in_worlds meaning old new bytes text left h w agrees =
-    fed_in_worlds meaning old old bytes text new new left (each_same (shown meaning old).boxes) (each_same (shown meaning new).boxes) h w agrees
-
-pub broken_feed_in_worlds : {W : Type 0} (meaning : W → BoxState) (old new : Engine W) (bytes text : List ℕ)
-    → BrokenOff (EngineSteps meaning) (EngineEnds meaning) old bytes text new → (w : World) → Agrees (shown meaning old) w
-    → (after : World) × BrokenOff (WorldSteps (MayBefall (shown meaning old).boxes (shown meaning new).boxes)) WorldEnds w bytes text after × Agrees (shown meaning new) after
-broken_feed_in_worlds meaning old new bytes text h w agrees =
-    broken_in_worlds meaning old old bytes text new new (each_same (shown meaning old).boxes) (each_same (shown meaning new).boxes) h w agrees
+    → (after : World) × BrokenOff SceneSteps SceneEnds (scene_of meaning old w) bytes text (scene_of meaning new after) × Agrees (shown meaning new) after
+broken_in_worlds meaning old new bytes text h w agrees =
+    let all = broken_follows (EngineSteps meaning) (EngineEnds meaning) SceneSteps SceneEnds (Stands meaning) (steps_follow meaning) (ends_follow meaning)
+    old bytes text new h (scene_of meaning old w) (agrees, refl) in
+    (all.0.world, subst (λ s. BrokenOff SceneSteps SceneEnds (scene_of meaning old w) bytes text s) (is_scene meaning new all.0 all.2.1) all.1, all.2.0)
 
 -- boxes rise while an engine is fed
 pub fed_rises : {W : Type 0} (meaning : W → BoxState) (old new : Engine W) (bytes text : List ℕ) (left : Option (List ℕ)) → Fed (EngineSteps meaning) (EngineEnds meaning) old bytes text new left → EngineRises meaning old new

@@ -54,11 +54,7 @@ broken_follows step ended steps ends agrees f e old bytes text new h v a =
     let last = e h.last new h.sessions front.0 front.2 in
     (last.0, record { last = front.0; front = front.1; sessions = last.1 }, last.2)
 
--- ---- what holds from the first state of a run to the last holds round each of its steps
-
--- a step, between these two states
-abbrev pub StepsWithin : {W : Type 0} → Steps W → (W → W → Type 0) → W → W → Steps W
-StepsWithin step before first last old sid request reply new = step old sid request reply new × before first old × before new last
+-- ---- what holds at each step holds from the first state of a run to the last
 
 -- an order on states that steps and ends keep to
 pub record IsKept {W : Type 0} (step : Steps W) (ended : W → W → Type 0) (before : W → W → Type 0) : Type 0 where
@@ -77,19 +73,6 @@ run_kept step ended before k old (line text more) replies new h =
 run_kept step ended before k old (rest after) replies new h = subst (λ s. before old s) (sym h.1) (k.same old)
 run_kept step ended before k old closed replies new h = k.ends old new h.1
 
-answer_within : {W : Type 0} (step : Steps W) (before : W → W → Type 0) (first last old : W) (text reply : List ℕ) (new : W) → IsAnswered step old text reply new → before first old → before new last → IsAnswered (StepsWithin step before first last) old text reply new
-answer_within step before first last old text reply new (inl h) b a = inl (h.0, h.1, h.2, (h.3, b, a))
-answer_within step before first last old text reply new (inr h) b a = inr h
-
-run_within : {W : Type 0} (step : Steps W) (ended before : W → W → Type 0) → IsKept step ended before → (first old : W) (lines : Lines) (replies : List ℕ) (new last : W) → before first old → before new last → Run step ended old lines replies new
-    → Run (StepsWithin step before first last) ended old lines replies new
-run_within step ended before k first old (line text more) replies new last b a h =
-    let here = answer_kept step ended before k old text h.0 h.2 h.3 in
-    let after = k.along h.2 new last (run_kept step ended before k h.2 more h.1 new h.4) a in
-    (h.0, h.1, h.2, answer_within step before first last old text h.0 h.2 h.3 b after, run_within step ended before k first h.2 more h.1 new last (k.along first old h.2 b here) a h.4, h.5)
-run_within step ended before k first old (rest after) replies new last b a h = h
-run_within step ended before k first old closed replies new last b a h = h
-
 pub front_kept : {W : Type 0} (step : Steps W) (ended before : W → W → Type 0) → IsKept step ended before → (old : W) (lines : Lines) (replies : List ℕ) (new : W) → RunFront step old lines replies new → before old new
 front_kept step ended before k old (line text more) replies new (inl h) = subst (λ s. before old s) (sym h.1) (k.same old)
 front_kept step ended before k old (line text more) replies new (inr h) =
@@ -97,27 +80,6 @@ front_kept step ended before k old (line text more) replies new (inr h) =
 front_kept step ended before k old (rest after) replies new h = subst (λ s. before old s) (sym h.1) (k.same old)
 front_kept step ended before k old closed replies new h = subst (λ s. before old s) (sym h.1) (k.same old)
 
-front_within : {W : Type 0} (step : Steps W) (ended before : W → W → Type 0) → IsKept step ended before → (first old : W) (lines : Lines) (replies : List ℕ) (new last : W) → before first old → before new last → RunFront step old lines replies new
-    → RunFront (StepsWithin step before first last) old lines replies new
-front_within step ended before k first old (line text more) replies new last b a (inl h) = inl h
-front_within step ended before k first old (line text more) replies new last b a (inr h) =
-    let here = answer_kept step ended before k old text h.0 h.2 h.3 in
-    let after = k.along h.2 new last (front_kept step ended before k h.2 more h.1 new h.4) a in
-    inr (h.0, h.1, h.2, answer_within step before first last old text h.0 h.2 h.3 b after, front_within step ended before k first h.2 more h.1 new last (k.along first old h.2 b here) a h.4, h.5)
-front_within step ended before k first old (rest after) replies new last b a h = h
-front_within step ended before k first old closed replies new last b a h = h
-
-pub fed_within : {W : Type 0} (step : Steps W) (ended before : W → W → Type 0) → IsKept step ended before → (first old : W) (bytes text : List ℕ) (new last : W) (left : Option (List ℕ)) → before first old → before new last
-    → Fed step ended old bytes text new left → Fed (StepsWithin step before first last) ended old bytes text new left
-fed_within step ended before k first old bytes text new last left b a h =
-    record { run = run_within step ended before k first old (lines_of bytes) text new last b a h.run; unread = h.unread }
-
 pub broken_kept : {W : Type 0} (step : Steps W) (ended before : W → W → Type 0) → IsKept step ended before → (old : W) (bytes text : List ℕ) (new : W) → BrokenOff step ended old bytes text new → before old new
 broken_kept step ended before k old bytes text new h =
     k.along old h.last new (front_kept step ended before k old (lines_of bytes) text h.last h.front) (k.ends h.last new h.sessions)
-
-pub broken_within : {W : Type 0} (step : Steps W) (ended before : W → W → Type 0) → IsKept step ended before → (first old : W) (bytes text : List ℕ) (new last : W) → before first old → before new last
-    → BrokenOff step ended old bytes text new → BrokenOff (StepsWithin step before first last) ended old bytes text new
-broken_within step ended before k first old bytes text new last b a h =
-    let after = k.along h.last new last (k.ends h.last new h.sessions) a in
-    record { last = h.last; front = front_within step ended before k first old (lines_of bytes) text h.last last b after h.front; sessions = h.sessions }

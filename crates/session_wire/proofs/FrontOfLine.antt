@@ -1,5 +1,5 @@
 -- Bytes that are the front of a line, and lead to no line yet.
-use Rattle.std.proofs.Common.{◌≡◌, ℕ, ◌-◌, ◌≤◌, ◌==◌, nat_lt, Bool, true, false, List, [], ◌∷◌, ◌++◌, length, refl, ◌∙◌, arith, length-append, Some}
+use Rattle.std.proofs.Common.{◌≡◌, ℕ, ◌-◌, ◌≤◌, ◌==◌, ◌||◌, sym, nat_lt, Bool, true, false, List, [], ◌∷◌, ◌++◌, length, refl, ◌∙◌, arith, length-append, Some}
 use Rattle.std.proofs.lemmas.Bool.Decides.{nat_tests}
 use Rattle.std.proofs.lemmas.List.Folds.{list_any-append}
 use Rattle.std.specs.List.{list_any}
@@ -42,3 +42,14 @@ pub front-append : (bytes piece : List ℕ) → IsFrontOfLine bytes → list_any
 front-append bytes piece h e s =
     let short : length bytes ≤ line_limit = h.is_short in
     record { has_no_lf = list_any-append _ bytes piece ∙ rw (h.has_no_lf, e) refl; is_short = omega (arith, length-append bytes piece) }
+
+-- more bytes with an LF, or past the limit, are none
+pub no_front : (bytes piece : List ℕ) → IsFrontOfLine (bytes ++ piece) → (list_any (λ b. b == 10) piece ≡ false) × (length piece ≤ line_limit - length bytes)
+no_front bytes piece h =
+    let short : length (bytes ++ piece) ≤ line_limit = h.is_short in
+    (no_other (list_any (λ b. b == 10) bytes) (list_any (λ b. b == 10) piece) (sym (list_any-append _ bytes piece) ∙ h.has_no_lf), omega (arith, length-append bytes piece))
+  where
+    no_other : (a b : Bool) → (a || b) ≡ false → b ≡ false
+    no_other true b e = absurd cc
+    no_other false true e = absurd cc
+    no_other false false e = refl

@@ -6,6 +6,5 @@ pub mod Digits
 pub mod FirstSpace
 pub mod UniqueFrames
 pub mod Runs
-pub mod ServerLemmas
 pub mod Follows
 pub mod EngineRuns

@@ -14,6 +14,10 @@ is_closed server = server.is_closed
 abbrev pub held_back : {H : Type 0} → Server H → List ℕ
 held_back server = server.unread.items
 
--- those, where the stream goes on
+-- for how many more bytes there is room
+abbrev pub spare_of : {H : Type 0} → Server H → ℕ
+spare_of server = server.unread.spare
+
+-- the bytes held back, where the stream goes on
 abbrev pub unread_of : {H : Type 0} → Server H → Option (List ℕ)
 unread_of server = if is_closed server then None else Some (held_back server)

@@ -1,24 +1,30 @@
 -- What is answered to the lines of a stream, in the direct meaning of SQL over worlds.
-use Rattle.std.specs.Prelude.{◌≡◌, true, Option, List}
+use Rattle.std.specs.Prelude.{◌≡◌, Option, List}
 use Rattle.fdw_api.specs.State.{BoxState}
 use Rattle.med_session.specs.World.{World, without_sessions}
 use Rattle.med_session.specs.Replies.{Reply, reply_text}
 use Rattle.med_session.specs.Steps.{Trouble, Step}
-use Rattle.med_exec.specs.Running.{HasFailed, IsUsedUp}
-use Rattle.med_session.specs.Engine.{BoxBecomes}
+use Rattle.med_session.specs.Engine.{shown, Befell, EachRises}
+use Rattle.med_session.specs.declared.engine.Engine.{Engine}
 use Rattle.session_wire.specs.Run.{Steps}
 
--- What trouble may befall a line between these states: that a source failed only where a box counted a fault since the first, or its
--- count stands at its end; that numbers are used up only where a box has given them all. Want of memory no box shows.
-pub record MayBefall (first last : List (Option BoxState)) (t : Trouble) : Type 0 where
-  pub source : t.source ≡ true → BoxBecomes first last HasFailed
-  pub numbers : t.numbers ≡ true → BoxBecomes first last IsUsedUp
+-- What stands between two lines: a world, and what the boxes of its sources show.
+pub record Scene : Type 0 where
+  pub world : World
+  pub boxes : List (Option BoxState)
 
--- a request is answered by the text of a reply to which a step leads, under some of this trouble
-abbrev pub WorldSteps : (Trouble → Type 0) → Steps World
-WorldSteps trouble old sid request text new =
-    (t : Trouble) × trouble t × ((reply : Reply) × (text ≡ reply_text sid reply) × Step old sid request t reply new)
+-- this world over the boxes of an engine
+abbrev pub scene_of : {W : Type 0} → (W → BoxState) → Engine W → World → Scene
+scene_of meaning engine w = record { world = w; boxes = (shown meaning engine).boxes }
 
--- every session is ended
-abbrev pub WorldEnds : World → World → Type 0
-WorldEnds old new = new ≡ without_sessions old
+-- A request is answered by the text of a reply to which a step leads, under some trouble that befell it in its own line: a source failed
+-- only where a box counted a fault in this line, or its count stands at its end after it; numbers are used up only where a box has given
+-- them all after it. Want of memory no box shows. No box goes and none comes, and what each counts goes up alone.
+abbrev pub SceneSteps : Steps Scene
+SceneSteps old sid request text new =
+    (t : Trouble) × Befell old.boxes new.boxes t × EachRises old.boxes new.boxes
+    × ((reply : Reply) × (text ≡ reply_text sid reply) × Step old.world sid request t reply new.world)
+
+-- every session is ended, and the boxes show what they did
+abbrev pub SceneEnds : Scene → Scene → Type 0
+SceneEnds old new = new ≡ record old { world = without_sessions old.world }

@@ -1,5 +1,5 @@
 // What a piece of a stream is answered.
-ghost use Rattle.std.specs.Prelude.{◌≡◌, ◌++◌, ℕ, List, IfOk, OnOk, OnErr};
+ghost use Rattle.std.specs.Prelude.{◌≡◌, ◌++◌, ◌<◌, ℕ, List, length, IfOk, OnOk, OnErr};
 ghost use Rattle.session_wire.specs.Lines.{IsFrontOfLine, lines_of};
 ghost use Rattle.session_wire.specs.Run.{IsAnswered, Run, RunFront};
 ghost use Rattle.session_wire.specs.Ends.{Leaves};
@@ -34,6 +34,7 @@ pub(crate) fn answer_piece<H: Handler>(
         × Leaves end (lines_of (unread.old.items ++ piece.now)) unread.new.items) }
     ensures err { OnErr result ((text : List ℕ) × (out.new.items ≡ out.old.items ++ text)
         × RunFront H.step handler.old (lines_of (unread.old.items ++ piece.now)) text handler.new) }
+    ensures room { OnErr result (IsFrontOfLine (unread.old.items ++ piece.now) → unread.old.spare < length piece.now) }
     ensures sound { H.sound handler.new }
 {
     // Bytes that end no line are not searched again when more come.

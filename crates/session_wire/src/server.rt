@@ -1,7 +1,7 @@
 //! A stream of request lines before a handler.
-ghost use Rattle.std.specs.Prelude.{◌≡◌, ◌++◌, ℕ, List, [], Option, Some, false};
+ghost use Rattle.std.specs.Prelude.{◌≡◌, ◌++◌, ℕ, List, [], Option, Some, None, false};
 ghost use Rattle.session_wire.specs.Lines.{IsFrontOfLine, lines_of, unread_after};
-ghost use Rattle.session_wire.specs.Run.{Fed};
+ghost use Rattle.session_wire.specs.Run.{Fed, BrokenOff};
 
 use crate::answers::{End, answer_piece};
 use crate::handler::Handler;
@@ -35,10 +35,8 @@ pub struct Server<H> {
 }
 
 impl<H: Handler> Server<H> {
-    ghost use Rattle.std.specs.Prelude.{◌↔◌, true, Err, IfOk, IfErr, OnOk};
-    ghost use Rattle.std.specs.List.{flat_map};
-    ghost use Rattle.session_wire.specs.Run.{BrokenOff};
-    ghost use Rattle.session_wire.specs.Servers.{handler_of, is_closed, held_back, unread_of};
+    ghost use Rattle.std.specs.Prelude.{◌↔◌, ◌<◌, true, Err, length, IfOk, IfErr, OnOk};
+    ghost use Rattle.session_wire.specs.Servers.{handler_of, is_closed, held_back, spare_of, unread_of};
 
     /// A server at the start of a stream. Refused for want of memory, it hands the handler back.
     pub fn new(alloc: Global, handler: H) -> Result<Server<H>, (H, NoMemory)>
@@ -68,8 +66,12 @@ impl<H: Handler> Server<H> {
     /// Answers the next piece of the stream: `out` grows by the replies to the lines that the piece
     /// makes with the bytes held back before it.
     ///
-    /// `NoRoom` where room was refused: the lines answered before were a run, then the sessions were
-    /// ended, and the stream is closed. `Closed` where the stream was closed before: nothing changes.
+    /// What pieces are answered depends on their bytes alone, and not on where they are cut (`runs_join`).
+    ///
+    /// `NoRoom` where room was refused, for the bytes held back, for a line's text or by the handler: the
+    /// lines answered before were a run, then the sessions were ended, and the stream is closed. A piece
+    /// that ends no line is refused only where the room for the bytes held back was less than it. `Closed`
+    /// where the stream was closed before: nothing changes.
     pub fn feed(&mut self, piece: &[u8], out: &mut Vec<u8>) -> Result<(), FeedFault>
         requires { H.sound (handler_of self.old) }
         ensures ok { OnOk result ((is_closed self.old ≡ false)
@@ -80,6 +82,8 @@ impl<H: Handler> Server<H> {
             × ((text : List ℕ) × (out.new.items ≡ out.old.items ++ text)
             × BrokenOff H.step H.ended (handler_of self.old) (held_back self.old ++ piece.now) text
             (handler_of self.new)) }
+        ensures room { result ≡ Err FeedFault.NoRoom → IsFrontOfLine (held_back self.old ++ piece.now)
+            → spare_of self.old < length piece.now }
         ensures closed { (result ≡ Err FeedFault.Closed) ↔ (is_closed self.old ≡ true) }
         ensures unchanged { result ≡ Err FeedFault.Closed
             → (handler_of self.new ≡ handler_of self.old) × (is_closed self.new ≡ true)
@@ -103,41 +107,6 @@ impl<H: Handler> Server<H> {
         }
     }
 
-    /// Answers pieces in order, up to the one that closes the stream. What is answered depends on the
-    /// bytes alone, and not on where they are cut.
-    ///
-    /// Faults are those of `feed`.
-    pub fn feed_all(&mut self, pieces: &[Vec<u8>], out: &mut Vec<u8>) -> Result<(), FeedFault>
-        requires { H.sound (handler_of self.old) }
-        ensures ok { OnOk result ((is_closed self.old ≡ false)
-            × ((text : List ℕ) × (out.new.items ≡ out.old.items ++ text)
-            × Fed H.step H.ended (handler_of self.old)
-            (held_back self.old ++ flat_map (λ piece. piece.items) pieces.now) text
-            (handler_of self.new) (unread_of self.new))) }
-        ensures no_room { result ≡ Err FeedFault.NoRoom → (is_closed self.new ≡ true)
-            × ((text : List ℕ) × (out.new.items ≡ out.old.items ++ text)
-            × BrokenOff H.step H.ended (handler_of self.old)
-            (held_back self.old ++ flat_map (λ piece. piece.items) pieces.now) text
-            (handler_of self.new)) }
-        ensures closed { (result ≡ Err FeedFault.Closed) ↔ (is_closed self.old ≡ true) }
-        ensures unchanged { result ≡ Err FeedFault.Closed
-            → (handler_of self.new ≡ handler_of self.old) × (is_closed self.new ≡ true)
-            × (out.new.items ≡ out.old.items) }
-        ensures sound { H.sound (handler_of self.new) }
-    {
-        if self.is_closed() {
-            return Err(FeedFault::Closed);
-        }
-        for piece in pieces {
-            match self.feed(piece.as_slice(), out) {
-                Ok(()) => {}
-                Err(FeedFault::Closed) => return Ok(()),
-                Err(FeedFault::NoRoom) => return Err(FeedFault::NoRoom),
-            }
-        }
-        Ok(())
-    }
-
     /// Ends the stream and every session, and hands the handler back. Bytes held back are dropped.
     pub fn finish(self) -> H
         requires { H.sound (handler_of self) }
@@ -156,7 +125,8 @@ impl<H: Handler> Server<H> {
 
 /// The law of runs: the front of a line leads to no reply; a run of the lines of some bytes, and then one
 /// of what their rest and more bytes make, is a run of the lines of all of them; and each run of the lines
-/// of all of them is two such runs.
+/// of all of them is two such runs. Behind a line that closes the stream no byte is answered, and what was
+/// broken off at a piece was broken off in the bytes with those before and behind it.
 pub fn runs_join<H: Handler>()
     ensures none { (old : H) (bytes : List ℕ) → IsFrontOfLine bytes
         → Fed H.step H.ended old bytes [] old (Some bytes) }
@@ -170,4 +140,11 @@ pub fn runs_join<H: Handler>()
         → (mid : H) × (text : List ℕ) × (others : List ℕ)
         × Fed H.step H.ended old bytes text mid (Some after)
         × Fed H.step H.ended mid (after ++ more) others new left × (all ≡ text ++ others) }
+    ensures closed { (old new : H) (bytes more text : List ℕ)
+        → Fed H.step H.ended old bytes text new None
+        → Fed H.step H.ended old (bytes ++ more) text new None }
+    ensures broken { (old mid new : H) (bytes piece more text others after : List ℕ)
+        → Fed H.step H.ended old bytes text mid (Some after)
+        → BrokenOff H.step H.ended mid (after ++ piece) others new
+        → BrokenOff H.step H.ended old ((bytes ++ piece) ++ more) (text ++ others) new }
 {}

@@ -5,50 +5,27 @@ ghost use Rattle.med_session.specs.Engine.{shown, Agrees};
 ghost use Rattle.med_session.specs.declared.engine.Engine.{Engine};
 ghost use Rattle.session_wire.specs.Engines.{EngineSteps, EngineEnds, EngineRises};
 ghost use Rattle.session_wire.specs.Run.{Fed, BrokenOff};
-ghost use Rattle.session_wire.specs.Worlds.{MayBefall, WorldSteps, WorldEnds};
+ghost use Rattle.session_wire.specs.Worlds.{scene_of, SceneSteps, SceneEnds};
 
 use fdw_api::interface::Wrapper;
 
 /// The law of worlds: what a server feeds to an engine is, for each world that agrees with the engine
-/// before, a run of worlds that leads to the same text, and to a world that agrees with the engine after.
-/// A source's failure befalls one of its lines only where a box counted a fault meanwhile, or its count
-/// stands at its end.
+/// before, a run of worlds over the engine's boxes that leads to the same text, to the boxes of the engine
+/// after, and to a world that agrees with it. A source's failure befalls a line only where a box counted a
+/// fault in that line, or its count stands at its end after it. So what is fed piece by piece is one run of
+/// worlds.
 pub fn worlds_follow<W: Wrapper>()
     ensures fed { (old new : Engine W) (bytes text : List ℕ) (left : Option (List ℕ))
         → Fed (EngineSteps W.meaning) (EngineEnds W.meaning) old bytes text new left
         → (w : World) → Agrees (shown W.meaning old) w
-        → (after : World) × Fed
-        (WorldSteps (MayBefall (shown W.meaning old).boxes (shown W.meaning new).boxes))
-        WorldEnds w bytes text after left
+        → (after : World) × Fed SceneSteps SceneEnds
+        (scene_of W.meaning old w) bytes text (scene_of W.meaning new after) left
         × Agrees (shown W.meaning new) after }
     ensures broken { (old new : Engine W) (bytes text : List ℕ)
         → BrokenOff (EngineSteps W.meaning) (EngineEnds W.meaning) old bytes text new
         → (w : World) → Agrees (shown W.meaning old) w
-        → (after : World) × BrokenOff
-        (WorldSteps (MayBefall (shown W.meaning old).boxes (shown W.meaning new).boxes))
-        WorldEnds w bytes text after
-        × Agrees (shown W.meaning new) after }
-{}
-
-/// The law of worlds for a part of a run: where boxes rise from a first engine to the old one, and from the
-/// new one to a last, trouble of its lines is told as from the first engine to the last. So what is fed
-/// piece by piece is one run of worlds.
-pub fn parts_follow<W: Wrapper>()
-    ensures fed { (first old new last : Engine W) (bytes text : List ℕ) (left : Option (List ℕ))
-        → EngineRises W.meaning first old → EngineRises W.meaning new last
-        → Fed (EngineSteps W.meaning) (EngineEnds W.meaning) old bytes text new left
-        → (w : World) → Agrees (shown W.meaning old) w
-        → (after : World) × Fed
-        (WorldSteps (MayBefall (shown W.meaning first).boxes (shown W.meaning last).boxes))
-        WorldEnds w bytes text after left
-        × Agrees (shown W.meaning new) after }
-    ensures broken { (first old new last : Engine W) (bytes text : List ℕ)
-        → EngineRises W.meaning first old → EngineRises W.meaning new last
-        → BrokenOff (EngineSteps W.meaning) (EngineEnds W.meaning) old bytes text new
-        → (w : World) → Agrees (shown W.meaning old) w
-        → (after : World) × BrokenOff
-        (WorldSteps (MayBefall (shown W.meaning first).boxes (shown W.meaning last).boxes))
-        WorldEnds w bytes text after
+        → (after : World) × BrokenOff SceneSteps SceneEnds
+        (scene_of W.meaning old w) bytes text (scene_of W.meaning new after)
         × Agrees (shown W.meaning new) after }
 {}
 

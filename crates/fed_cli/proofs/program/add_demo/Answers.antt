@@ -2,6 +2,7 @@ use Rattle.std.proofs.Common.{◌∙◌, ap, subst, List, map, codes}
 use Rattle.fdw_api.specs.Kinds.{Column, column_of}
 use Rattle.med_session.specs.Attaching.{Attaches, with_source}
 use Rattle.med_session.specs.declared.sources.SourceKind.TheVariants as kinds
+use Rattle.fed_cli.proofs.FirstEngines.{demo_box}
 use Rattle.fed_cli.proofs.program.add_demo.Goals as goal
 
 -- the source is added, and the two tables are attached one after the other
@@ -23,3 +24,10 @@ returns-in-Ok-attach-2-clause-world g c = λ w agrees.
       },
       third.2,
     )
+
+-- its box stands last, with both tables bound
+pub returns-in-Ok-attach-2-clause-boxes : goal.returns-in-Ok-attach-2-clause-boxes
+returns-in-Ok-attach-2-clause-boxes g c =
+    let parts = ap (λ xs. map column_of xs) c.deref.ensures.value ∙ c.in_ok-parts.ensures in
+    let orders = ap (λ xs. map column_of xs) c.deref-2.ensures.value ∙ c.in_ok-orders.ensures in
+    demo_box _ _ _ _ _ _ _ _ _ parts orders c.requires.engine c.requires.demo c.in-Ok.ensures.added c.in-Ok-attach.ensures.attached c.in-Ok-attach-2.ensures.attached

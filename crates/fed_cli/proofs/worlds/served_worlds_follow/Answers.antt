@@ -3,11 +3,5 @@ use Rattle.fed_cli.proofs.worlds.served_worlds_follow.Goals as goal
 
 pub returns : goal.returns
 returns g c = λ old new before left had has held holds result h w agrees.
-    let law : Laws g.W.Wrapper.meaning = record {
-      same = c.boxes_rise.ensures.same;
-      fed_rises = c.boxes_rise.ensures.fed;
-      broken_rises = c.boxes_rise.ensures.broken;
-      fed = c.parts_follow.ensures.fed;
-      broken = c.parts_follow.ensures.broken;
-    } in
+    let law : Laws g.W.Wrapper.meaning = record { fed = c.worlds_follow.ensures.fed; broken = c.worlds_follow.ensures.broken } in
     serves_in_worlds g.W.Wrapper.meaning law old before new left had has held holds result h w agrees

@@ -1,7 +1,7 @@
-use Rattle.std.proofs.Common.{◌≡◌, ◌-◌, ◌≤◌, [], ◌++◌, Bool, false, true, not, ◌<◌, length, Some, refl, sym, ap, ◌∙◌, append-nil, arith}
+use Rattle.std.proofs.Common.{◌≡◌, ◌-◌, ◌≤◌, [], ◌++◌, Bool, false, true, not, ◌<◌, length, Some, refl, sym, ap, ◌∙◌, append-nil, arith, Result, Ok, Err, OnErr}
 use Rattle.std.proofs.lemmas.Bool.{leb-true}
 use Rattle.session_wire.specs.Lines.{IsFrontOfLine, unread_after}
-use Rattle.session_wire.proofs.FrontOfLine.{front-append, front_is_rest}
+use Rattle.session_wire.proofs.FrontOfLine.{front-append, front_is_rest, no_front}
 use Rattle.session_wire.proofs.Runs.{front_stops}
 use Rattle.session_wire.proofs.answers.answer_piece.Goals.{then-piece-len, else-piece-len}
 use Rattle.session_wire.proofs.answers.answer_piece.Goals as goal
@@ -28,3 +28,25 @@ returns-then-is_front-clause-ok g c =
     let lines = front_is_rest _ front in
     let added : c.extend_from_slice.new.self.items ≡ c.args.unread.now.items ++ c.args.piece.now = grind arith in
     ([], sym (append-nil _), rw lines (refl, refl), ap unread_after lines ∙ ap Some (sym added))
+
+on_err : {T E : Type 0} (r : Result T E) (P : Type 0) → P → OnErr r P
+on_err (Ok x) P p = tt
+on_err (Err e) P p = p
+
+-- a piece that ends no line is not read again
+pub returns-clause-room : goal.returns-clause-room
+returns-clause-room g c =
+    on_err c.answer_lines.result _ (λ front.
+    let both = no_front c.args.unread.now.items c.args.piece.now front in
+    let bad : ⊥ = elim c.if-piece-len.branch [
+      | then-piece-len w ↦
+          let none : w.contains.result ≡ false = w.contains.ensures.value ∙ both.0 in
+          let no : true ≡ false = ap not (sym none) ∙ sym w.is_front-is ∙ c.if-is_front.false in
+          cc
+      | else-piece-len w ↦
+          let long : 65536 - c.len.result < length c.args.piece.now = w.if-piece-len.false in
+          let short : length c.args.piece.now ≤ 65536 - length c.args.unread.now.items = both.1 in
+          let size : c.len.result ≡ length c.args.unread.now.items = c.len.ensures.value in
+          omega arith
+    ] in
+    absurd bad)

@@ -1,7 +1,7 @@
 use Rattle.std.proofs.Common.{[], Some, refl, subst, append-nil}
 use Rattle.session_wire.specs.Run.{Fed}
 use Rattle.session_wire.proofs.FrontOfLine.{front_is_rest}
-use Rattle.session_wire.proofs.Runs.{fed_none, fed_more, fed_parts}
+use Rattle.session_wire.proofs.Runs.{fed_none, fed_more, fed_parts, fed_closed, broken_between}
 use Rattle.session_wire.proofs.server.runs_join.Goals as goal
 
 pub returns : goal.returns
@@ -13,4 +13,8 @@ returns g c = record {
       fed_more g.H.Handler.step g.H.Handler.ended old bytes text mid after more others new left h k;
   parted = λ old new bytes more all after left e h.
       fed_parts g.H.Handler.step g.H.Handler.ended old new bytes more all after left e h;
+  closed = λ old new bytes more text h.
+      fed_closed g.H.Handler.step g.H.Handler.ended old bytes text new more h;
+  broken = λ old mid new bytes piece more text others after h k.
+      broken_between g.H.Handler.step g.H.Handler.ended old bytes text mid after piece others new more h k;
 }

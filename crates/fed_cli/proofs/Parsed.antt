@@ -1,0 +1,53 @@
+-- What a parse of the program's words gives.
+use Rattle.std.proofs.Common.{◌≡◌, ◌⊎◌, true, List, [], codes, Option, Some, None, Err, option_map, refl, ap, subst, inl, inr}
+use Rattle.clap.specs.Words.{App, Row, Text, HasMatchesOf, IsAmong, fault_of, first_of, is_simple, is_simple_and_free, subcommand_rows_of}
+use Rattle.clap.specs.declared.ArgMatches.{ArgMatches}
+use Rattle.clap.specs.declared.error.ErrorKind.{ErrorKind}
+use Rattle.clap.specs.declared.error.ErrorKind.TheVariants.{OutOfMemory}
+use Rattle.clap.proofs.OnLiterals.{clap_on_literals}
+use Rattle.fed_cli.specs.CommandLine.{command_line, faults, name_in, list_named, IsHelp}
+use Rattle.fed_cli.specs.Words.{Reads, IsRefusal}
+use Rattle.fed_cli.specs.declared.words.WordsFault.{WordsFault}
+use Rattle.fed_cli.specs.declared.words.WordsFault.TheVariants.{Help, Usage, BadName, NoMemory}
+
+-- the rows of the subcommand that was met
+pub name_of_met : (o : Option (Text × List Row)) (rows : List Row) → Some rows ≡ option_map (λ p. p.1) o → first_of (codes "list") rows ≡ name_in o
+name_of_met None rows e = absurd cc
+name_of_met (Some p) rows e = let same : rows ≡ p.1 = cc in ap (first_of (codes "list")) same
+
+pub no_name : (o : Option (Text × List Row)) → None ≡ option_map (λ (p : Text × List Row). p.1) o → None ≡ name_in o
+no_name None e = refl
+no_name (Some p) e = absurd cc
+
+line_is_simple : is_simple command_line ≡ true
+unfolding clap_on_literals
+line_is_simple = refl
+
+line_is_free : is_simple_and_free command_line ≡ true
+unfolding clap_on_literals
+line_is_free = refl
+
+-- nothing stands against words that were taken
+pub no_faults : (app : App) (words : List Text) → app ≡ command_line → (is_simple_and_free app ≡ true → fault_of app words ≡ []) → faults words ≡ []
+no_faults app words e h = subst (λ a. is_simple_and_free a ≡ true → fault_of a words ≡ []) e h line_is_free
+
+-- the name is the one that they give the list
+pub named : (app : App) (words : List Text) (m : ArgMatches) → app ≡ command_line → HasMatchesOf app words m → name_in (subcommand_rows_of m) ≡ list_named words
+named app words m e h = ap name_in ((subst (λ a. HasMatchesOf a words m) e h line_is_simple).1)
+
+-- what stands against words that were not taken, and was told
+pub refused : (app : App) (words : List Text) (kind : ErrorKind) (fault : WordsFault) → app ≡ command_line
+    → (is_simple_and_free app ≡ true → (kind ≡ OutOfMemory) ⊎ IsAmong kind (fault_of app words)) → IsRefusal kind fault → Reads words (Err fault)
+refused app words kind fault e h told = by_kind fault (subst (λ a. is_simple_and_free a ≡ true → (kind ≡ OutOfMemory) ⊎ IsAmong kind (fault_of a words)) e h line_is_free) told
+  where
+    not_both : kind ≡ OutOfMemory → IsHelp kind → ⊥
+    not_both m (inl d) = cc
+    not_both m (inr d) = cc
+
+    by_kind : (f : WordsFault) → (kind ≡ OutOfMemory) ⊎ IsAmong kind (faults words) → IsRefusal kind f → Reads words (Err f)
+    by_kind (Help text) (inl m) t = absurd (not_both m t)
+    by_kind (Help text) (inr among) t = (kind, among, t)
+    by_kind (Usage text) (inl m) t = absurd (t.1 m)
+    by_kind (Usage text) (inr among) t = (kind, among, t.0)
+    by_kind (BadName name) s t = absurd t
+    by_kind NoMemory s t = tt

@@ -1,0 +1,43 @@
+use Rattle.std.proofs.Common.{◌≡◌, ◌==◌, ◌&&◌, ℕ, Bool, true, false, List, [], ◌∷◌, codes, Some, None, refl, cond}
+use Rattle.std.specs.Str.{bytes_eq}
+use Rattle.clap.specs.Lexer.{strip_byte}
+use Rattle.clap.specs.Words.{Text}
+use Rattle.clap.proofs.OnLiterals.{clap_on_literals}
+use Rattle.fed_cli.specs.CommandLine.{faults, list_named}
+use Rattle.fed_cli.proofs.words.words_mean.Goals as goal
+
+pub returns-clause-alone : goal.returns-clause-alone
+unfolding clap_on_literals
+returns-clause-alone c = λ program. (refl, refl)
+
+pub returns-clause-help : goal.returns-clause-help
+unfolding clap_on_literals
+returns-clause-help c = λ program. refl
+
+pub returns-clause-none : goal.returns-clause-none
+unfolding clap_on_literals
+returns-clause-none c = λ program. refl
+
+no_hyphen : (x : ℕ) (xs : List ℕ) → strip_byte 45 (x ∷ xs) ≡ None → (x == 45) ≡ false
+no_hyphen x xs e = split (x == 45) refl e
+  where
+    split : (b : Bool) → (x == 45) ≡ b → cond b (Some xs) None ≡ None → (x == 45) ≡ false
+    split true q r = absurd cc
+    split false q r = q
+
+and_false : (b : Bool) → (false && b) ≡ false
+and_false true = refl
+and_false false = refl
+
+with_list : (program name : Text) → strip_byte 45 name ≡ None
+    → (faults (program ∷ codes "run" ∷ codes "--list" ∷ name ∷ []) ≡ [])
+    × (list_named (program ∷ codes "run" ∷ codes "--list" ∷ name ∷ []) ≡ Some name)
+unfolding clap_on_literals
+with_list program [] e = (refl, refl)
+with_list program (x ∷ xs) e =
+    let no = no_hyphen x xs e in
+    let stops = and_false (bytes_eq xs (45 ∷ [])) in
+    (simp (no, stops) refl, simp (no, stops) refl)
+
+pub returns-clause-list : goal.returns-clause-list
+returns-clause-list c = with_list

@@ -1,0 +1,59 @@
+-- What the program has done when it exits.
+use Rattle.std.specs.Prelude.{◌≡◌, ◌⊎◌, ℕ, Bool, true, List, Option, Some, None, option_map, Result, Ok, Err}
+use Rattle.std.specs.Borrow.{Bor}
+use Rattle.std.specs.Io.KnownBytes.{Appends}
+use Rattle.med_exec.specs.Slots.{states}
+use Rattle.med_session.specs.Engine.{EachBox, IsAtRest}
+use Rattle.med_session.specs.declared.adding.Sources.{Sources}
+use Rattle.probe_wrapper.specs.ListBoxes.{box_of}
+use Rattle.probe_wrapper.specs.declared.list.ListWrapper.{ListWrapper}
+use Rattle.fed_cli.specs.Answered.{ServesProgram}
+use Rattle.fed_cli.specs.Setup.{BeginsNot}
+use Rattle.fed_cli.specs.Told.{Came, told_of, run_status, run_line, words_status, words_text}
+use Rattle.fed_cli.specs.Words.{Reads}
+use Rattle.fed_cli.specs.declared.program.Exit.{Exit}
+use Rattle.fed_cli.specs.declared.stream.Ended.{Ended}
+use Rattle.fed_cli.specs.declared.stream.StreamFault.{StreamFault}
+use Rattle.fed_cli.specs.declared.told.RunFault.{RunFault}
+use Rattle.fed_cli.specs.declared.words.Asked.{Asked}
+use Rattle.fed_cli.specs.declared.words.WordsFault.{WordsFault}
+use Rattle.fed_cli.specs.declared.words.WordsFault.TheVariants.{Help, Usage, BadName, NoMemory}
+
+-- A run came to this. Where no sources are handed back it did not begin: nothing was read or written. Else the input was served, and standard
+-- output got the replies alone.
+abbrev pub Runs : Option (Bor (List ℕ)) → Came → Option (Sources ListWrapper) → Option (List ℕ) → Option (List ℕ) → Option (List ℕ) → Option (List ℕ) → Type 0
+Runs list came None had has held holds =
+    (fault : RunFault) × (came ≡ Err fault) × BeginsNot list fault × (has ≡ had) × (holds ≡ held)
+Runs list came (Some sources) had has held holds =
+    (ended : Result Ended StreamFault) × (came ≡ told_of ended)
+    × ServesProgram (option_map (λ s. s.now) list) (states box_of sources.slots.items) had has held holds ended
+    × EachBox IsAtRest (states box_of sources.slots.items)
+
+-- Standard error gets nothing where the input ended, and else the line of the run. A write may fail: then not all was told.
+abbrev pub TellsRun : Came → Bool → Option (List ℕ) → Option (List ℕ) → Type 0
+TellsRun (Ok x) is_told knew knows = (is_told ≡ true) × (knows ≡ knew)
+TellsRun (Err fault) is_told knew knows = is_told ≡ true → Appends knew knows (run_line (Err fault))
+
+-- Where the words ask no run, standard output gets the help that was asked alone, and else nothing; standard error gets nothing where help was
+-- asked, and else what is told of the words. A write may fail: then not all was told.
+abbrev pub TellsWords : WordsFault → Bool → Option (List ℕ) → Option (List ℕ) → Option (List ℕ) → Option (List ℕ) → Type 0
+TellsWords (Help text) is_told held holds knew knows = (is_told ≡ true → Appends held holds (words_text (Help text))) × (knows ≡ knew)
+TellsWords (Usage text) is_told held holds knew knows = (holds ≡ held) × (is_told ≡ true → Appends knew knows (words_text (Usage text)))
+TellsWords (BadName name) is_told held holds knew knows = (holds ≡ held) × (is_told ≡ true → Appends knew knows (words_text (BadName name)))
+TellsWords NoMemory is_told held holds knew knows = (holds ≡ held) × (is_told ≡ true → Appends knew knows (words_text NoMemory))
+
+-- The program exits so on these words: of standard input it had bytes and has some left, standard output held bytes and holds them now, and
+-- standard error knew bytes and knows them now.
+pub data Exits (words : List (List ℕ)) (exit : Exit) (had has held holds knew knows : Option (List ℕ)) : Type 0 where
+  -- the words ask for a run
+  has_run : (asked : Asked) → Reads words (Ok asked) → (came : Came) → Runs asked.list came exit.sources had has held holds
+      → exit.status ≡ run_status came → TellsRun came exit.is_told knew knows → Exits words exit had has held holds knew knows
+  -- they do not
+  has_refused : (fault : WordsFault) → Reads words (Err fault) → exit.sources ≡ None → has ≡ had → TellsWords fault exit.is_told held holds knew knows
+      → exit.status ≡ words_status fault → Exits words exit had has held holds knew knows
+
+-- The program exits by this status, whatever words its environment has: so on some words, or, where they cannot be read, by 1 or 2, with nothing
+-- read of standard input and nothing written to standard output.
+pub data ExitsBy (status : ℕ) (had has held holds knew knows : Option (List ℕ)) : Type 0 where
+  on_words : (words : List (List ℕ)) (exit : Exit) → Exits words exit had has held holds knew knows → status ≡ exit.status → ExitsBy status had has held holds knew knows
+  on_none : has ≡ had → holds ≡ held → (status ≡ 1) ⊎ (status ≡ 2) → ExitsBy status had has held holds knew knows

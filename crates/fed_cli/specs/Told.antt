@@ -1,0 +1,73 @@
+-- What the program tells at its end: its exit status, and its texts.
+use Rattle.std.specs.Prelude.{ℕ, List, [], ◌++◌, codes, Result, Ok, Err, string_bytes}
+use Rattle.std.specs.Borrow.{Bor}
+use Rattle.med_value.specs.declared.cause.Cause.{Cause}
+use Rattle.med_value.specs.declared.cause.Cause.TheVariants.{OutOfMemory}
+use Rattle.med_session.specs.declared.adding.AddFault.{AddFault}
+use Rattle.med_session.specs.declared.adding.AddFault.TheVariants as adding
+use Rattle.fed_cli.specs.declared.stream.Ended.{Ended}
+use Rattle.fed_cli.specs.declared.stream.Ended.TheVariants as ends
+use Rattle.fed_cli.specs.declared.stream.StreamFault.{StreamFault}
+use Rattle.fed_cli.specs.declared.stream.StreamFault.TheVariants as streams
+use Rattle.fed_cli.specs.declared.told.RunFault.{RunFault}
+use Rattle.fed_cli.specs.declared.told.RunFault.TheVariants as faults
+use Rattle.fed_cli.specs.declared.words.WordsFault.{WordsFault}
+use Rattle.fed_cli.specs.declared.words.WordsFault.TheVariants as words
+
+-- what a run came to
+abbrev pub Came : Type 0
+Came = Result (Unit {0}) RunFault
+
+-- how a stream that ended so is told: the end of the input is no fault
+abbrev pub told_of : Result Ended StreamFault → Came
+told_of (Ok ends.Eof) = Ok tt
+told_of (Ok ends.Closed) = Err faults.ProtocolViolation
+told_of (Err streams.Read) = Err faults.Read
+told_of (Err streams.Write) = Err faults.Write
+told_of (Err streams.TooLong) = Err faults.TooManyReads
+told_of (Err streams.NoRoom) = Err faults.NoMemory
+
+-- how it is told that the source of this name was not added
+abbrev pub added_of : Bor (List ℕ) → AddFault → RunFault
+added_of name adding.NoMemory = faults.NoMemory
+added_of name adding.Taken = faults.NameTaken name
+added_of name adding.TooMany = faults.TooManySources name
+
+-- how it is told that a table of the source of this name was not attached
+abbrev pub attached_of : Bor (List ℕ) → Cause → RunFault
+attached_of name OutOfMemory = faults.NoMemory
+attached_of name _ = faults.CannotOpen name
+
+-- the text of a fault
+abbrev pub fault_text : RunFault → List ℕ
+fault_text faults.NoMemory = codes "out of memory"
+fault_text faults.Read = codes "read fault"
+fault_text faults.Write = codes "write fault"
+fault_text faults.TooManyReads = codes "too many reads"
+fault_text faults.ProtocolViolation = codes "protocol violation"
+fault_text (faults.NameTaken name) = codes "source " ++ name.now ++ codes ": name taken"
+fault_text (faults.TooManySources name) = codes "source " ++ name.now ++ codes ": too many sources"
+fault_text (faults.CannotOpen name) = codes "source " ++ name.now ++ codes ": cannot open"
+
+-- the exit status of a run, and the line on standard error: none where the input ended
+abbrev pub run_status : Came → ℕ
+run_status (Ok _) = 0
+run_status (Err fault) = 1
+
+abbrev pub run_line : Came → List ℕ
+run_line (Ok _) = []
+run_line (Err fault) = codes "fedq: " ++ fault_text fault ++ codes "\n"
+
+-- the exit status of words that ask no run: 0 where help was asked, 1 for want of memory, else 2
+abbrev pub words_status : WordsFault → ℕ
+words_status (words.Help text) = 0
+words_status (words.Usage text) = 2
+words_status (words.BadName name) = 2
+words_status words.NoMemory = 1
+
+-- what is told of them
+abbrev pub words_text : WordsFault → List ℕ
+words_text (words.Help text) = string_bytes text
+words_text (words.Usage text) = string_bytes text
+words_text (words.BadName name) = codes "fedq: bad name: " ++ name.now ++ codes "\n"
+words_text words.NoMemory = codes "fedq: out of memory\n"

@@ -1,0 +1,107 @@
+//! What a run is told as.
+ghost use Rattle.std.specs.Prelude.{◌≡◌};
+ghost use Rattle.fed_cli.specs.Told.{told_of, added_of, attached_of, run_status};
+
+use crate::stream::{Ended, StreamFault};
+use med_session::AddFault;
+use med_value::{Cause, NoMemory};
+use std::error::Error;
+use std::fmt;
+
+/// Why the input was not served to its end.
+#[derive(Clone, Copy, Debug, PartialEq, Eq)]
+pub enum RunFault<'a> {
+    /// Memory was refused.
+    NoMemory,
+    /// The input could not be read.
+    Read,
+    /// A reply could not be written.
+    Write,
+    /// The input did not end in 4,294,967,295 reads.
+    TooManyReads,
+    /// A line closed the stream.
+    ProtocolViolation,
+    /// A source of this name is there already.
+    NameTaken(&'a str),
+    /// There are 64 sources already.
+    TooManySources(&'a str),
+    /// A table of the source could not be attached.
+    CannotOpen(&'a str),
+}
+
+impl fmt::Display for RunFault<'_> {
+    ghost use Rattle.std.specs.Prelude.{Some};
+    ghost use Rattle.fed_cli.specs.Told.{fault_text};
+
+    ghost output = { λ fault. Some (fault_text fault) };
+
+    fn fmt<W: fmt::Write>(&self, f: &mut fmt::Formatter<W>) -> fmt::Result {
+        match self {
+            RunFault::NoMemory => f.write_str("out of memory"),
+            RunFault::Read => f.write_str("read fault"),
+            RunFault::Write => f.write_str("write fault"),
+            RunFault::TooManyReads => f.write_str("too many reads"),
+            RunFault::ProtocolViolation => f.write_str("protocol violation"),
+            RunFault::NameTaken(name) => write!(f, "source {name}: name taken"),
+            RunFault::TooManySources(name) => write!(f, "source {name}: too many sources"),
+            RunFault::CannotOpen(name) => write!(f, "source {name}: cannot open"),
+        }
+    }
+}
+
+impl Error for RunFault<'_> {}
+
+impl From<NoMemory> for RunFault<'_> {
+    ghost use Rattle.fed_cli.specs.declared.told.RunFault.TheVariants as faults;
+
+    ghost from_gives = { λ _ fault. fault ≡ faults.NoMemory };
+
+    fn from(_: NoMemory) -> Self {
+        RunFault::NoMemory
+    }
+}
+
+/// Why the source of this name was not added.
+pub fn add_fault(name: &str, fault: AddFault) -> RunFault<'_>
+    ensures { result ≡ added_of name.entry fault }
+{
+    match fault {
+        AddFault::NoMemory => RunFault::NoMemory,
+        AddFault::Taken => RunFault::NameTaken(name),
+        AddFault::TooMany => RunFault::TooManySources(name),
+    }
+}
+
+/// Why a table of the source of this name was not attached.
+pub fn attach_fault(name: &str, cause: Cause) -> RunFault<'_>
+    ensures { result ≡ attached_of name.entry cause }
+{
+    match cause {
+        Cause::OutOfMemory => RunFault::NoMemory,
+        _ => RunFault::CannotOpen(name),
+    }
+}
+
+/// How a stream that ended so is told.
+pub fn told<'a>(ended: Result<Ended, StreamFault>) -> Result<(), RunFault<'a>>
+    ensures { result ≡ told_of ended }
+{
+    match ended {
+        Ok(Ended::Eof) => Ok(()),
+        Ok(Ended::Closed) => Err(RunFault::ProtocolViolation),
+        Err(StreamFault::Read) => Err(RunFault::Read),
+        Err(StreamFault::Write) => Err(RunFault::Write),
+        Err(StreamFault::TooLong) => Err(RunFault::TooManyReads),
+        Err(StreamFault::NoRoom) => Err(RunFault::NoMemory),
+    }
+}
+
+/// The exit status of a run that came to this.
+pub fn status(came: Result<(), RunFault<'_>>) -> u8
+    ensures { result ≡ run_status came.entry }
+{
+    match came {
+        Ok(()) => 0,
+        Err(_) => 1,
+    }
+}
