@@ -3,8 +3,6 @@ use crate::expect::same_text;
 use bench_tables::setup::BenchFault;
 use fdw_api::Fault;
 use fed_cli::StreamFault;
-use fed_cli::program::RunFault;
-use fed_cli::words::WordsFault;
 use med_lexer::LexFault;
 use med_query::AnswerFault;
 use med_session::{AddFault, NewFault};
@@ -41,18 +39,6 @@ stream Read: read fault
 stream Write: write fault
 stream TooLong: too many reads
 stream NoRoom: out of memory
-run NoMemory: out of memory
-run Read: read fault
-run Write: write fault
-run TooManyReads: too many reads
-run ProtocolViolation: protocol violation
-run NameTaken(\"demo\"): source demo: name taken
-run TooManySources(\"demo\"): source demo: too many sources
-run CannotOpen(\"demo\"): source demo: cannot open
-words BadName(\"Bad\"): fedq: bad name: Bad
-
-words NoMemory: fedq: out of memory
-
 measuring NoMemory: out of memory
 measuring NotAttached: tables not attached
 measuring Clock: clock fault
@@ -123,25 +109,8 @@ fn tell_served(alloc: Global, out: &mut String) -> Result<(), Fail> {
     tell(alloc, "stream", &faults, out)
 }
 
-// The faults of the programs.
-fn tell_programs(alloc: Global, out: &mut String) -> Result<(), Fail> {
-    let faults = [
-        RunFault::NoMemory,
-        RunFault::Read,
-        RunFault::Write,
-        RunFault::TooManyReads,
-        RunFault::ProtocolViolation,
-        RunFault::NameTaken("demo"),
-        RunFault::TooManySources("demo"),
-        RunFault::CannotOpen("demo"),
-    ];
-    tell(alloc, "run", &faults, out)?;
-    tell(
-        alloc,
-        "words",
-        &[WordsFault::BadName("Bad"), WordsFault::NoMemory],
-        out,
-    )?;
+// The faults of the measurements.
+fn tell_measuring(alloc: Global, out: &mut String) -> Result<(), Fail> {
     let faults = [
         BenchFault::NoMemory,
         BenchFault::NotAttached,
@@ -157,6 +126,6 @@ fn faults_say_their_texts(rt: HostRuntime) -> Result<(), Fail> {
     let mut out = String::new(alloc);
     tell_below(alloc, &mut out)?;
     tell_served(alloc, &mut out)?;
-    tell_programs(alloc, &mut out)?;
+    tell_measuring(alloc, &mut out)?;
     same_text("texts", out.as_bytes(), TEXTS)
 }
