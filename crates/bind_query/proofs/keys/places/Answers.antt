@@ -16,7 +16,7 @@ returns-in_err-place c =
     let lt : c.loop-group.group-index < length c.args.groups.now = omega arith in
     let at = drop_read c.args.groups.now c.loop-group.group-index c.group-item.result lt c.group-item.is in
     let p = err_from_is_err_and c.from_residual.result c.from_residual.ensures.1 in
-    rw (p.1, p.2) (tells_first _ (f (group_tree c.group-item.result)) _ _ (c.loop-group.invariant.causes ∙ ap (λ xs. flat_map f (map group_tree xs)) at) c.in_err-place.ensures)
+    rw (p.1, p.2) (tells_first _ (f (group_tree c.group-item.result)) _ _ (c.loop-group.invariant.causes ∙ ap (λ xs. flat_map f (map group_tree xs)) at) c.in_err-place.ensures.finds)
 
 pub loop-group-preserved : goal.loop-group-preserved
 loop-group-preserved c =
@@ -25,8 +25,8 @@ loop-group-preserved c =
     let lt : c.loop-group.group-index < length c.args.groups.now = omega arith in
     let at = drop_read c.args.groups.now c.loop-group.group-index c.group-item.result lt c.group-item.is in
     record {
-      causes = next_causes _ (f (group_tree c.group-item.result)) _ (c.loop-group.invariant.causes ∙ ap (λ xs. flat_map f (map group_tree xs)) at) c.in_ok-place.ensures.1;
+      causes = next_causes _ (f (group_tree c.group-item.result)) _ (c.loop-group.invariant.causes ∙ ap (λ xs. flat_map f (map group_tree xs)) at) c.in_ok-place.ensures.finds.1;
       places = added_after _ c.loop-group.out.items _ (g (group_tree c.group-item.result) ∷ []) _
           (ap (λ xs. c.loop-group.out.items ++ map g (map group_tree xs)) (sym at) ∙ c.loop-group.invariant.places)
-          (c.in_ok-push.ensures.items ∙ ap (λ p. c.loop-group.out.items ++ p ∷ []) (place_found _ c.in_ok-place.place c.in_ok-place.ensures.0));
+          (c.in_ok-push.ensures.items ∙ ap (λ p. c.loop-group.out.items ++ p ∷ []) (place_found _ c.in_ok-place.place c.in_ok-place.ensures.finds.0));
     }
