@@ -23,6 +23,10 @@ fn picked(alloc: Global, places: &[usize]) -> Result<Vec<u8>, Fail> {
 #[test]
 fn picks_the_cells_of_the_named_columns(rt: HostRuntime) -> Result<(), Fail> {
     let alloc = rt.alloc();
-    same_text("the cells", &picked(alloc, &[2, 1, 2, 9])?, "40\tbolt\t40\t\\N")?;
+    same_text(
+        "the cells",
+        &picked(alloc, &[2, 1, 2, 9])?,
+        "40\tbolt\t40\t\\N",
+    )?;
     same_text("no cells", &picked(alloc, &[])?, "")
 }
