@@ -164,7 +164,7 @@ sound_grown Q old new slot law change h place s at =
     was w.0 (h place w.0 w.1) w.2
   where
     was : (b : BoxState) → IsSoundBox b → IsOr Q b s → IsSoundBox s
-    was b sound (inl same) = subst IsSoundBox (sym same) sound
+    was b sound (inl kept) = subst IsSoundBox (sym kept) sound
     was b sound (inr q) = law b s sound q
 
 sound_with : BindsStaySound → (e : Shown) (new : List (Option BoxState)) (a : Attached) → IsSound e → length e.tables < 256 → list_any (is_named a.name) e.tables ≡ false
