@@ -7,8 +7,6 @@ use Rattle.med_value.specs.Datum.{NoValue, Whole, Chars, Logic}
 use Rattle.med_syntax.specs.Tree.{Name}
 use Rattle.med_syntax.specs.declared.expr.BinaryOp.{BinaryOp}
 use Rattle.med_syntax.specs.declared.expr.BinaryOp.TheVariants as arithmetic
-use Rattle.med_syntax.specs.declared.expr.CompareOp.{CompareOp}
-use Rattle.med_syntax.specs.declared.expr.CompareOp.TheVariants as comparisons
 use Rattle.med_syntax.specs.declared.expr.Status.{Status}
 use Rattle.med_syntax.specs.declared.expr.Status.TheVariants as statuses
 use Rattle.med_syntax.specs.declared.expr.Joint.{Joint}
@@ -17,8 +15,6 @@ use Rattle.med_syntax.specs.ExprTree.{ExprTree, ExprTrees}
 use Rattle.med_syntax.specs.ExprTree as w
 use Rattle.tri_expr.specs.declared.expr.Operation.{Operation}
 use Rattle.tri_expr.specs.declared.expr.Operation.TheVariants.{Add, Subtract, Multiply, Divide, Remainder}
-use Rattle.tri_expr.specs.declared.expr.Comparison.{Comparison}
-use Rattle.tri_expr.specs.declared.expr.Comparison.TheVariants.{Equal, Apart, Below, AtMost, Above, AtLeast}
 use Rattle.tri_expr.specs.declared.expr.Test.{Test}
 use Rattle.tri_expr.specs.declared.expr.Test.TheVariants as tests
 use Rattle.tri_expr.specs.declared.expr.SetFunction.{SetFunction}
@@ -37,14 +33,6 @@ operation_of arithmetic.Sub = Subtract
 operation_of arithmetic.Mul = Multiply
 operation_of arithmetic.Div = Divide
 operation_of arithmetic.Rem = Remainder
-
-abbrev pub comparison_of : CompareOp → Comparison
-comparison_of comparisons.Equal = Equal
-comparison_of comparisons.Differ = Apart
-comparison_of comparisons.Less = Below
-comparison_of comparisons.AtMost = AtMost
-comparison_of comparisons.Greater = Above
-comparison_of comparisons.AtLeast = AtLeast
 
 abbrev pub test_of : Status → Test
 test_of statuses.Null = tests.Null
@@ -97,7 +85,7 @@ abbrev mutual
   resolved s (w.between neg e low high) = between neg (resolved s e) (resolved s low) (resolved s high)
   resolved s (w.among neg e first others) = within neg (resolved s e) (part (resolved s first) (resolved_all s others))
   resolved s (w.like neg e x) = matches neg (resolved s e) x
-  resolved s (w.compare op a b) = compare (comparison_of op) (resolved s a) (resolved s b)
+  resolved s (w.compare op a b) = compare op (resolved s a) (resolved s b)
   resolved s (w.tested neg e t) = asks (test_of t) neg (resolved s e)
   resolved s (w.negation e) = opposite (resolved s e)
   resolved s (w.chain joint first others) = joined joint (part (resolved s first) (resolved_all s others))

@@ -1,7 +1,6 @@
 //! Foreign tables, as statements name them.
 
-use fdw_api::interface::TableNo;
-use med_value::ColumnDef;
+use med_value::{ColumnDef, TableNo};
 
 /// A foreign table that was attached: the place of its source, and its number in the source's box.
 #[derive(Drop)]

@@ -1,7 +1,7 @@
 //! Expressions with their names resolved.
 #![tactic(auto, using(bind_names::proofs::Causes::tells_left, bind_names::proofs::Causes::tells_right, bind_names::proofs::Causes::tells_memory, bind_names::proofs::Causes::tells_one, bind_names::proofs::Causes::none_of_two, bind_names::proofs::Causes::tells_first, bind_names::proofs::Causes::next_causes, crate::proofs::Trees::next_part, crate::proofs::Trees::all_parts))]
 
-ghost use Rattle.bind_names.specs.Meaning.{operation_of, comparison_of, test_of, joined, function_named, aggregate_of, resolved, resolved_all};
+ghost use Rattle.bind_names.specs.Meaning.{operation_of, test_of, joined, function_named, aggregate_of, resolved, resolved_all};
 ghost use Rattle.bind_names.specs.Naming.{name_causes, name_causes_of_all};
 ghost use Rattle.bind_names.specs.Scope.{scope_of};
 ghost use Rattle.bind_names.specs.Telling.{Gives};
@@ -12,10 +12,10 @@ ghost use Rattle.tri_expr.specs.Tree.{tree, trees, part, literal, compare, compu
 
 use crate::numbers::{negative, number};
 use bind_names::{Visible, find_column, function_named};
-use med_syntax::{BinaryOp, CompareOp, Expr as Written, Joint, Status};
-use med_value::{Cause, Value};
+use med_syntax::{BinaryOp, Expr as Written, Joint, Status};
+use med_value::{Cause, Comparison, Value};
 use std::alloc::Global;
-use tri_expr::{Comparison, Expr, Operation, SetFunction, Test};
+use tri_expr::{Expr, Operation, SetFunction, Test};
 
 fn operation(op: BinaryOp) -> Operation
     ensures { result ≡ operation_of op }
@@ -26,19 +26,6 @@ fn operation(op: BinaryOp) -> Operation
         BinaryOp::Mul => Operation::Multiply,
         BinaryOp::Div => Operation::Divide,
         BinaryOp::Rem => Operation::Remainder,
-    }
-}
-
-fn comparison(op: CompareOp) -> Comparison
-    ensures { result ≡ comparison_of op }
-{
-    match op {
-        CompareOp::Equal => Comparison::Equal,
-        CompareOp::Differ => Comparison::Apart,
-        CompareOp::Less => Comparison::Below,
-        CompareOp::AtMost => Comparison::AtMost,
-        CompareOp::Greater => Comparison::Above,
-        CompareOp::AtLeast => Comparison::AtLeast,
     }
 }
 
@@ -152,15 +139,15 @@ fn listed(
 fn compared(
     alloc: Global,
     scope: &[Visible<'_>],
-    op: CompareOp,
+    op: Comparison,
     a: &Written,
     b: &Written,
 ) -> Result<Expr, Cause>
-    ensures { Gives tree (name_causes (scope_of scope.now) (expr_tree a.now) ++ name_causes (scope_of scope.now) (expr_tree b.now)) (compare (comparison_of op) (resolved (scope_of scope.now) (expr_tree a.now)) (resolved (scope_of scope.now) (expr_tree b.now))) result }
+    ensures { Gives tree (name_causes (scope_of scope.now) (expr_tree a.now) ++ name_causes (scope_of scope.now) (expr_tree b.now)) (compare op (resolved (scope_of scope.now) (expr_tree a.now)) (resolved (scope_of scope.now) (expr_tree b.now))) result }
 {
     let a = boxed(alloc, scope, a)?;
     let b = boxed(alloc, scope, b)?;
-    Ok(Expr::Compare(comparison(op), a, b))
+    Ok(Expr::Compare(op, a, b))
 }
 
 #[cycle(resolve)]

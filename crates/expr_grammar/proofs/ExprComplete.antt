@@ -5,7 +5,7 @@ use Rattle.std.proofs.lemmas.Bool.{le-leb, lt-leb}
 use Rattle.std.proofs.lemmas.Bool.Decides.{leb_tells}
 use Rattle.med_syntax.specs.declared.expr.BinaryOp.{BinaryOp}
 use Rattle.med_syntax.specs.declared.expr.BinaryOp.TheVariants.{Add, Sub, Mul, Div, Rem}
-use Rattle.med_syntax.specs.declared.expr.CompareOp.{CompareOp}
+use Rattle.med_value.specs.declared.order.Comparison.{Comparison}
 use Rattle.med_syntax.specs.declared.expr.Joint.{Joint}
 use Rattle.med_syntax.specs.declared.expr.Joint.TheVariants.{Or, And}
 use Rattle.med_syntax.specs.Terminal.{Terminal}
@@ -513,7 +513,7 @@ compare_base b r c e rest f l h =
       | inl g ↦ rw (within_low (suc r) e rest g) (compare_stops b (suc r) e rest h)
     ])
 
-compare_self : (b : Below) (r : ℕ) → Completes b r → (op : CompareOp) (x y : ExprTree) (rest : List Terminal) → Fits (compare op x y) → reach rest ≤ 4 → compare_of b (suc r) (spelling (compare op x y) ++ rest) ≡ within (suc r) (compare op x y) rest
+compare_self : (b : Below) (r : ℕ) → Completes b r → (op : Comparison) (x y : ExprTree) (rest : List Terminal) → Fits (compare op x y) → reach rest ≤ 4 → compare_of b (suc r) (spelling (compare op x y) ++ rest) ≡ within (suc r) (compare op x y) rest
 unfolding compare_of
 compare_self b r c op x y rest f h =
     let after : List Terminal = t.Compare op ∷ (spelling y ++ rest) in

@@ -11,7 +11,8 @@ ghost use Rattle.expr_grammar.specs.View.{shapes_of};
 
 use crate::symbols::Symbol;
 use med_lexer::{Kind, Mark, Token, number_value};
-use med_syntax::{BinaryOp, CompareOp, Joint, is_reserved};
+use med_syntax::{BinaryOp, Joint, is_reserved};
+use med_value::Comparison;
 use std::alloc::{AllocError, Global};
 
 /// The symbol of a mark.
@@ -29,12 +30,12 @@ fn mark_symbol(mark: Mark) -> Symbol
         Mark::Minus => Symbol::Binary(BinaryOp::Sub),
         Mark::Slash => Symbol::Binary(BinaryOp::Div),
         Mark::Percent => Symbol::Binary(BinaryOp::Rem),
-        Mark::Equal => Symbol::Compare(CompareOp::Equal),
-        Mark::Differ => Symbol::Compare(CompareOp::Differ),
-        Mark::Less => Symbol::Compare(CompareOp::Less),
-        Mark::AtMost => Symbol::Compare(CompareOp::AtMost),
-        Mark::Greater => Symbol::Compare(CompareOp::Greater),
-        Mark::AtLeast => Symbol::Compare(CompareOp::AtLeast),
+        Mark::Equal => Symbol::Compare(Comparison::Equal),
+        Mark::Apart => Symbol::Compare(Comparison::Apart),
+        Mark::Below => Symbol::Compare(Comparison::Below),
+        Mark::AtMost => Symbol::Compare(Comparison::AtMost),
+        Mark::Above => Symbol::Compare(Comparison::Above),
+        Mark::AtLeast => Symbol::Compare(Comparison::AtLeast),
     }
 }
 

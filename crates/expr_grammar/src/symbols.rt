@@ -5,7 +5,8 @@ ghost use Rattle.expr_grammar.specs.ExprReading as reading;
 ghost use Rattle.expr_grammar.specs.ExprSteps.{behind_minus_of, behind_of, operator_of};
 ghost use Rattle.expr_grammar.specs.SymbolView.{terminal_of_symbol, terminals_of};
 
-use med_syntax::{BinaryOp, CompareOp, Joint, Status};
+use med_syntax::{BinaryOp, Joint, Status};
+use med_value::Comparison;
 
 /// A terminal symbol of the grammar.
 #[derive(Debug, Drop)]
@@ -16,7 +17,7 @@ pub enum Symbol {
     Dot,
     Semicolon,
     Binary(BinaryOp),
-    Compare(CompareOp),
+    Compare(Comparison),
     Joint(Joint),
     Not,
     Between,

@@ -5,7 +5,8 @@ ghost use Rattle.std.specs.String.{string_bytes};
 ghost use Rattle.med_syntax.specs.ExprTree as spec;
 ghost use Rattle.med_syntax.specs.ExprView.{expr_tree, expr_trees};
 
-use med_syntax::{BinaryOp, CompareOp, Expr, Joint, Status};
+use med_syntax::{BinaryOp, Expr, Joint, Status};
+use med_value::Comparison;
 use std::alloc::{AllocError, Global};
 
 pub fn number(n: u64) -> Expr
@@ -106,7 +107,7 @@ pub fn likeness(negated: bool, e: Box<Expr>, pattern: &String) -> Result<Expr, A
     Ok(Expr::Like(negated, e, pattern.clone()?))
 }
 
-pub fn comparison(alloc: Global, op: CompareOp, a: Box<Expr>, b: Expr) -> Result<Expr, AllocError>
+pub fn comparison(alloc: Global, op: Comparison, a: Box<Expr>, b: Expr) -> Result<Expr, AllocError>
     ensures { IfOk result (λ x. expr_tree x ≡ spec.compare op (expr_tree a.value) (expr_tree b)) }
 {
     Ok(Expr::Compare(op, a, Box::new(alloc, b)?))

@@ -18,7 +18,8 @@ use crate::build::{
 };
 use expr_grammar::refusal::{ReadFault, Refusal};
 use expr_grammar::symbols::{Level, Separator, Symbol, behind, behind_minus, operator, status};
-use med_syntax::{BinaryOp, CompareOp, Expr, Joint};
+use med_syntax::{BinaryOp, Expr, Joint};
+use med_value::Comparison;
 use std::alloc::Global;
 
 /// An expression, its height, and the symbols behind it.
@@ -297,7 +298,7 @@ fn compared(alloc: Global, room: u32, symbols: &[Symbol]) -> Result<Found<'_>, R
 fn comparison_made(
     alloc: Global,
     room: u32,
-    op: CompareOp,
+    op: Comparison,
     left: Box<Expr>,
     left_height: u32,
     right: Found<'_>,

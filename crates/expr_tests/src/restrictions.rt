@@ -2,10 +2,10 @@
 use crate::rows::{Answer, assert_rows};
 use crate::values::value;
 use fdw_api::scan::{
-    Agree, Agreement, Comparison, Operand, Restriction, ScanSpec, Test, copy_values, meets_taken,
+    Agree, Agreement, Operand, Restriction, ScanSpec, Test, copy_values, meets_taken,
 };
 use med_value::text::row_text;
-use med_value::{NoMemory, Row, Value};
+use med_value::{Comparison, NoMemory, Row, Value};
 use std::alloc::Global;
 use std::test::Fail;
 

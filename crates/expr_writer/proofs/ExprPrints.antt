@@ -14,7 +14,7 @@ use Rattle.med_lexer.specs.declared.Mark.TheVariants as marks
 use Rattle.med_lexer.specs.Lexemes.{is_part, is_start, is_text, Every, Shape, word, quoted, literal, number, mark, mark_bytes, Spells, Lexeme, Lexes}
 use Rattle.med_lexer.specs.Printing.{IsShape, AreShapes, behind_spaces, raw_of, printed}
 use Rattle.med_syntax.specs.declared.expr.BinaryOp.TheVariants.{Add, Sub, Mul, Div, Rem}
-use Rattle.med_syntax.specs.declared.expr.CompareOp.TheVariants.{Equal, Differ, Less, AtMost, Greater, AtLeast}
+use Rattle.med_value.specs.declared.order.Comparison.TheVariants.{Equal, Apart, Below, AtMost, Above, AtLeast}
 use Rattle.med_syntax.specs.declared.expr.Joint.{Joint}
 use Rattle.med_syntax.specs.declared.expr.Joint.TheVariants.{Or, And}
 use Rattle.med_syntax.specs.declared.expr.Status.{Status}
@@ -204,10 +204,10 @@ written_terminal (t.Binary Mul) h = inl refl
 written_terminal (t.Binary Div) h = inl refl
 written_terminal (t.Binary Rem) h = inl refl
 written_terminal (t.Compare Equal) h = inl refl
-written_terminal (t.Compare Differ) h = inl refl
-written_terminal (t.Compare Less) h = inl refl
+written_terminal (t.Compare Apart) h = inl refl
+written_terminal (t.Compare Below) h = inl refl
 written_terminal (t.Compare AtMost) h = inl refl
-written_terminal (t.Compare Greater) h = inl refl
+written_terminal (t.Compare Above) h = inl refl
 written_terminal (t.Compare AtLeast) h = inl refl
 written_terminal (t.Joined Or) h = inl refl
 written_terminal (t.Joined And) h = inl refl

@@ -7,8 +7,8 @@ use Rattle.med_lexer.specs.Lexemes.{Shape, word, quoted, literal, number, mark}
 use Rattle.med_lexer.specs.Printing.{behind_spaces, printed}
 use Rattle.med_syntax.specs.declared.expr.BinaryOp.{BinaryOp}
 use Rattle.med_syntax.specs.declared.expr.BinaryOp.TheVariants.{Add, Sub, Mul, Div, Rem}
-use Rattle.med_syntax.specs.declared.expr.CompareOp.{CompareOp}
-use Rattle.med_syntax.specs.declared.expr.CompareOp.TheVariants.{Equal, Differ, Less, AtMost, Greater, AtLeast}
+use Rattle.med_value.specs.declared.order.Comparison.{Comparison}
+use Rattle.med_value.specs.declared.order.Comparison.TheVariants.{Equal, Apart, Below, AtMost, Above, AtLeast}
 use Rattle.med_syntax.specs.declared.expr.Joint.TheVariants.{Or, And}
 use Rattle.med_syntax.specs.Terminal.{Terminal}
 use Rattle.med_syntax.specs.Terminal as t
@@ -23,12 +23,12 @@ binary_mark Mul = marks.Star
 binary_mark Div = marks.Slash
 binary_mark Rem = marks.Percent
 
-abbrev pub compare_mark : CompareOp → Mark
+abbrev pub compare_mark : Comparison → Mark
 compare_mark Equal = marks.Equal
-compare_mark Differ = marks.Differ
-compare_mark Less = marks.Less
+compare_mark Apart = marks.Apart
+compare_mark Below = marks.Below
 compare_mark AtMost = marks.AtMost
-compare_mark Greater = marks.Greater
+compare_mark Above = marks.Above
 compare_mark AtLeast = marks.AtLeast
 
 -- the token that a terminal is written as

@@ -12,7 +12,8 @@ ghost use Rattle.med_syntax.specs.ExprTree.{spelling, spellings, parts_spelling,
 ghost use Rattle.expr_writer.specs.ExprPrinting.{Wrote, fixed_terminal, shape_for};
 ghost use Rattle.med_syntax.specs.ExprView.{expr_tree, expr_trees};
 
-use med_syntax::{BinaryOp, CompareOp, Expr, Joint, Status};
+use med_syntax::{BinaryOp, Expr, Joint, Status};
+use med_value::Comparison;
 use std::alloc::{AllocError, Global};
 
 /// A terminal symbol that is always written the same.
@@ -23,7 +24,7 @@ pub enum Fixed {
     Comma,
     Dot,
     Binary(BinaryOp),
-    Compare(CompareOp),
+    Compare(Comparison),
     Joint(Joint),
     Not,
     Between,
@@ -45,16 +46,16 @@ fn binary_text(op: BinaryOp) -> &'static str
     }
 }
 
-fn compare_text(op: CompareOp) -> &'static str
+fn compare_text(op: Comparison) -> &'static str
     ensures { result.now ≡ raw_of (shape_for (t.Compare op)) }
 {
     match op {
-        CompareOp::Equal => "=",
-        CompareOp::Differ => "<>",
-        CompareOp::Less => "<",
-        CompareOp::AtMost => "<=",
-        CompareOp::Greater => ">",
-        CompareOp::AtLeast => ">=",
+        Comparison::Equal => "=",
+        Comparison::Apart => "<>",
+        Comparison::Below => "<",
+        Comparison::AtMost => "<=",
+        Comparison::Above => ">",
+        Comparison::AtLeast => ">=",
     }
 }
 

@@ -1,14 +1,11 @@
 -- What a scan is asked for, and which rows it may give.
 use Rattle.std.specs.Prelude.{◌≡◌, ℕ, Bool, true, false, not, ◌&&◌, if◌then◌else◌, List, [], ◌∷◌, ◌++◌, map, length, replicate, All, IsPermutation, slice_index_or, Option, Some, None, slice_get, nat_lt, nat_eq}
 use Rattle.std.specs.List.{list_all, list_any}
-use Rattle.std.specs.declared.cmp.Ordering.{Ordering}
-use Rattle.std.specs.Ordering.{is_lt, is_le, is_eq, is_gt, is_ge}
 use Rattle.med_value.specs.Datum.{Datum, NoValue, Whole, Chars, Logic, Tuple, datum}
-use Rattle.med_value.specs.Order.{datum_cmp}
+use Rattle.med_value.specs.Order.{is_missing, compares_true}
+use Rattle.med_value.specs.declared.order.Comparison.{Comparison}
 use Rattle.med_value.specs.declared.value.ColType.{ColType}
 use Rattle.med_value.specs.declared.value.ColType.TheVariants.{Int as IntType, Text as TextType, Bool as BoolType}
-use Rattle.fdw_api.specs.declared.scan.Comparison.{Comparison}
-use Rattle.fdw_api.specs.declared.scan.Comparison.TheVariants.{Equal, Apart, Below, AtMost, Above, AtLeast}
 use Rattle.fdw_api.specs.declared.scan.Operand.{Operand}
 use Rattle.fdw_api.specs.declared.scan.Operand.TheVariants.{Constant, Parameter}
 use Rattle.fdw_api.specs.declared.scan.Test.{Test}
@@ -71,25 +68,6 @@ plain_spec wanted offered = record { wanted = wanted; offered = offered; answers
 abbrev pub cell : Tuple → ℕ → Datum
 cell cells column = slice_index_or cells column NoValue
 
--- a comparison holds where its sides stand in this order
-abbrev pub holds : Comparison → Ordering → Bool
-holds Equal o = is_eq o
-holds Apart o = not (is_eq o)
-holds Below o = is_lt o
-holds AtMost o = is_le o
-holds Above o = is_gt o
-holds AtLeast o = is_ge o
-
-abbrev pub is_null : Datum → Bool
-is_null NoValue = true
-is_null (Whole m) = false
-is_null (Chars s) = false
-is_null (Logic p) = false
-
--- a comparison is true: with NULL it never is (it is unknown)
-abbrev pub compares_true : Comparison → Datum → Datum → Bool
-compares_true op v w = if is_null v then false else (if is_null w then false else holds op (datum_cmp v w))
-
 -- the value of an operand under these parameters
 abbrev pub value_of : Tuple → Other → Datum
 value_of params (Given v) = v
@@ -98,8 +76,8 @@ value_of params (Slot at) = cell params at
 -- a test is true of a value
 abbrev pub checks : Tuple → Check → Datum → Bool
 checks params (Compares op o) v = compares_true op v (value_of params o)
-checks params Missing v = is_null v
-checks params Present v = not (is_null v)
+checks params Missing v = is_missing v
+checks params Present v = not (is_missing v)
 
 -- a restriction is true of a row
 abbrev pub meets : Tuple → Tuple → Filter → Bool
@@ -188,7 +166,7 @@ row_fits [] (v ∷ vs) = false
 
 -- a cell of a column: of its type, without U+0000, and NULL where there is no such column
 abbrev pub cell_fits : Option ColType → Datum → Bool
-cell_fits None v = is_null v
+cell_fits None v = is_missing v
 cell_fits (Some k) v = has_kind k v && is_clean v
 
 -- a cell for each of these columns

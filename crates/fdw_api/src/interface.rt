@@ -10,7 +10,7 @@ ghost use Rattle.std.specs.FinMap as finmap;
 ghost use Rattle.fdw_api.specs.declared.interface.Fault.TheVariants.{NoMemory};
 
 use crate::scan::{Agreement, Restriction, ScanSpec};
-use med_value::{Cause, ColumnDef, Row, Value};
+use med_value::{Cause, ColumnDef, Row, TableNo, Value};
 use std::alloc::{AllocError, AllocFailed, Global};
 use thiserror::Error;
 
@@ -61,12 +61,6 @@ pub struct Opt {
     pub key: String,
     /// The option's value.
     pub text: String,
-}
-
-/// The number of a bound table in its wrapper.
-#[derive(Clone, Copy, Debug, PartialEq, Eq)]
-pub struct TableNo {
-    pub number: u64,
 }
 
 /// The number of a row in its table. It stays while the table is bound and not written.

@@ -1,31 +1,13 @@
 //! What a scan is asked for, and what a wrapper agrees to take over.
 ghost use Rattle.std.specs.Prelude.{◌≡◌, ℕ, [], map, IfOk, IsSome};
 ghost use Rattle.med_value.specs.Datum.{datum, tuple};
-ghost use Rattle.fdw_api.specs.Scan.{other_of, check_of, filter_of, spec_of, plain_spec, is_null, holds, compares_true, cell, checks, meets, meets_exact, pick, shown_cells};
+ghost use Rattle.med_value.specs.Order.{compares_true, is_missing};
+ghost use Rattle.fdw_api.specs.Scan.{other_of, check_of, filter_of, spec_of, plain_spec, cell, checks, meets, meets_exact, pick, shown_cells};
 ghost use Rattle.fdw_api.specs.State.{BoxState, table_of};
 ghost use Rattle.fdw_api.specs.Calls.{CanBegin};
 
-use med_value::order::compare_values;
-use med_value::{NoMemory, Row, Value};
+use med_value::{Comparison, NoMemory, Row, Value};
 use std::alloc::Global;
-use std::cmp::Ordering;
-
-/// A comparison of two values of one type.
-#[derive(Clone, Copy, Debug, PartialEq, Eq)]
-pub enum Comparison {
-    /// `=`
-    Equal,
-    /// `<>`
-    Apart,
-    /// `<`
-    Below,
-    /// `<=`
-    AtMost,
-    /// `>`
-    Above,
-    /// `>=`
-    AtLeast,
-}
 
 /// What a column is compared with.
 #[derive(Debug, Drop)]
@@ -125,34 +107,9 @@ impl Test {
 }
 
 fn is_missing(value: &Value) -> bool
-    ensures { result ≡ is_null (datum value.now) }
+    ensures { result ≡ is_missing (datum value.now) }
 {
     matches!(value, Value::Null)
-}
-
-impl Comparison {
-    fn accepts(self, order: Ordering) -> bool
-        ensures { result ≡ holds self order }
-    {
-        match self {
-            Comparison::Equal => order.is_eq(),
-            Comparison::Apart => order.is_ne(),
-            Comparison::Below => order.is_lt(),
-            Comparison::AtMost => order.is_le(),
-            Comparison::Above => order.is_gt(),
-            Comparison::AtLeast => order.is_ge(),
-        }
-    }
-
-    /// Whether a comparison is true: with NULL it never is.
-    pub fn is_true(self, left: &Value, right: &Value) -> bool
-        ensures { result ≡ compares_true self (datum left.now) (datum right.now) }
-    {
-        if is_missing(left) || is_missing(right) {
-            return false;
-        }
-        self.accepts(compare_values(left, right))
-    }
 }
 
 /// Whether a comparison with a cell that may not be there is true.

@@ -1,7 +1,7 @@
 //! Queries with their names resolved.
 
-use fdw_api::interface::TableNo;
 use med_query::Select;
+use med_value::TableNo;
 
 /// An entry of FROM: the table that it stands for.
 #[derive(Clone, Copy, Debug, PartialEq, Eq, Drop)]

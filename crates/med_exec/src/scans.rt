@@ -7,9 +7,9 @@ ghost use Rattle.med_exec.specs.Slots.{states, BoxAt, ChangesAt};
 ghost use Rattle.med_exec.specs.Reading.{GivesAll, StopsBy};
 ghost use Rattle.med_exec.specs.Scanning.{RunsScan, FailsScan};
 
-use fdw_api::interface::{Fault, TableNo, Ticket, Wrapper};
+use fdw_api::interface::{Fault, Ticket, Wrapper};
 use fdw_api::scan::ScanSpec;
-use med_value::Row;
+use med_value::{Row, TableNo};
 use pushdown::EntryScan;
 use std::alloc::Global;
 

@@ -4,8 +4,8 @@ ghost use Rattle.fdw_api.specs.Calls.{CanBind, Binds, RefusesBind, CanUnbind, Un
 ghost use Rattle.fdw_api.specs.Kinds.{column_of, setting_of};
 ghost use Rattle.med_exec.specs.Slots.{states, BoxAt, ChangesAt, counts_at};
 
-use fdw_api::interface::{Counts, Fault, Opt, TableNo, Wrapper};
-use med_value::ColumnDef;
+use fdw_api::interface::{Counts, Fault, Opt, Wrapper};
+use med_value::{ColumnDef, TableNo};
 use std::alloc::Global;
 
 /// Binds a foreign table of the slot's box to what its source holds under a remote name.

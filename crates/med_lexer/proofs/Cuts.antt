@@ -8,8 +8,8 @@ use Rattle.med_lexer.specs.Lexemes.{is_blank, is_start, is_part, Every, Without,
 
 -- a mark goes on with it, or begins a comment with it
 abbrev pub joins : Mark → ℕ → Bool
-joins marks.Less b = b == 61 || b == 62
-joins marks.Greater b = b == 61
+joins marks.Below b = b == 61 || b == 62
+joins marks.Above b = b == 61
 joins marks.Minus b = b == 45
 joins _ b = false
 

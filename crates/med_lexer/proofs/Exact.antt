@@ -79,18 +79,18 @@ single_mark marks.Minus raw (c ∷ cs) s e = rw s (rw e refl)
 single_mark marks.Slash raw rest s e = rw s refl
 single_mark marks.Percent raw rest s e = rw s refl
 single_mark marks.Equal raw rest s e = rw s refl
-single_mark marks.Differ raw rest s e = rw s refl
-single_mark marks.Less raw [] s e = rw s refl
-single_mark marks.Less raw (c ∷ cs) s e =
+single_mark marks.Apart raw rest s e = rw s refl
+single_mark marks.Below raw [] s e = rw s refl
+single_mark marks.Below raw (c ∷ cs) s e =
     let p : (c == 62) ≡ false = grind (arith, nat_tests) in
     let q : (c == 61) ≡ false = grind (arith, nat_tests) in
     rw s (rw p (rw q refl))
 single_mark marks.AtMost raw rest s e = rw s refl
-single_mark marks.Greater raw [] s e = rw s refl
-single_mark marks.Greater raw (c ∷ cs) s e = rw s (rw e refl)
+single_mark marks.Above raw [] s e = rw s refl
+single_mark marks.Above raw (c ∷ cs) s e = rw s (rw e refl)
 single_mark marks.AtLeast raw rest s e = rw s refl
 
-other_mark : (m : Mark) (raw rest : List ℕ) → m ≡ marks.Differ → raw ≡ 33 ∷ 61 ∷ [] → next (raw ++ rest) ≡ token (mark m) rest
+other_mark : (m : Mark) (raw rest : List ℕ) → m ≡ marks.Apart → raw ≡ 33 ∷ 61 ∷ [] → next (raw ++ rest) ≡ token (mark m) rest
 unfolding next
 other_mark m raw rest d s = rw (s, d) refl
 
@@ -131,10 +131,10 @@ mark_length marks.Minus = omega arith
 mark_length marks.Slash = omega arith
 mark_length marks.Percent = omega arith
 mark_length marks.Equal = omega arith
-mark_length marks.Differ = omega arith
-mark_length marks.Less = omega arith
+mark_length marks.Apart = omega arith
+mark_length marks.Below = omega arith
 mark_length marks.AtMost = omega arith
-mark_length marks.Greater = omega arith
+mark_length marks.Above = omega arith
 mark_length marks.AtLeast = omega arith
 
 pub some_bytes : (s : Shape) (raw : List ℕ) → Spells s raw → 0 < length raw

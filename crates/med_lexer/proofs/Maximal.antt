@@ -27,10 +27,10 @@ mark_opens marks.Minus = refl
 mark_opens marks.Slash = refl
 mark_opens marks.Percent = refl
 mark_opens marks.Equal = refl
-mark_opens marks.Differ = refl
-mark_opens marks.Less = refl
+mark_opens marks.Apart = refl
+mark_opens marks.Below = refl
 mark_opens marks.AtMost = refl
-mark_opens marks.Greater = refl
+mark_opens marks.Above = refl
 mark_opens marks.AtLeast = refl
 
 abbrev Opens : Shape → ℕ → Type 0
@@ -132,10 +132,10 @@ mark_pair marks.Minus b c cs h = no_pair _ b c cs h
 mark_pair marks.Slash b c cs h = no_pair _ b c cs h
 mark_pair marks.Percent b c cs h = no_pair _ b c cs h
 mark_pair marks.Equal b c cs h = no_pair _ b c cs h
-mark_pair marks.Differ b c cs h = is_pair 60 62 b c cs refl h
-mark_pair marks.Less b c cs h = no_pair _ b c cs h
+mark_pair marks.Apart b c cs h = is_pair 60 62 b c cs refl h
+mark_pair marks.Below b c cs h = no_pair _ b c cs h
 mark_pair marks.AtMost b c cs h = is_pair 60 61 b c cs refl h
-mark_pair marks.Greater b c cs h = no_pair _ b c cs h
+mark_pair marks.Above b c cs h = no_pair _ b c cs h
 mark_pair marks.AtLeast b c cs h = is_pair 62 61 b c cs refl h
 
 spelled_pair : (s : Shape) (b c : ℕ) (cs : List ℕ) → opens_mark b ≡ true → Spells s (b ∷ c ∷ cs) → IsPair b c cs
@@ -184,13 +184,13 @@ single_longest b m s (c ∷ cs) after o f n sp = clash (is_some (double b c)) (s
 double_longest : (b c : ℕ) (s : Shape) (more : List ℕ) → opens_mark b ≡ true → Spells s (b ∷ c ∷ more) → more ≡ []
 double_longest b c s more o sp = (spelled_pair s b c more o sp).0
 
-less_single : (c : ℕ) → joins marks.Less c ≡ false → is_some (double 60 c) ≡ false
+less_single : (c : ℕ) → joins marks.Below c ≡ false → is_some (double 60 c) ≡ false
 less_single c n =
     let p : (c == 62) ≡ false = grind (arith, nat_tests) in
     let q : (c == 61) ≡ false = grind (arith, nat_tests) in
     rw p (rw q refl)
 
-greater_single : (c : ℕ) → joins marks.Greater c ≡ false → is_some (double 62 c) ≡ false
+greater_single : (c : ℕ) → joins marks.Above c ≡ false → is_some (double 62 c) ≡ false
 greater_single c n = rw n refl
 
 mark_longest : (m : Mark) (s : Shape) (more after : List ℕ) → Without (joins m) (more ++ after) → Spells s (mark_bytes m ++ more) → more ≡ []
@@ -205,10 +205,10 @@ mark_longest marks.Minus s more after n sp = single_longest 45 marks.Minus s mor
 mark_longest marks.Slash s more after n sp = single_longest 47 marks.Slash s more after refl (λ c _. refl) n sp
 mark_longest marks.Percent s more after n sp = single_longest 37 marks.Percent s more after refl (λ c _. refl) n sp
 mark_longest marks.Equal s more after n sp = single_longest 61 marks.Equal s more after refl (λ c _. refl) n sp
-mark_longest marks.Differ s more after n sp = double_longest 60 62 s more refl sp
-mark_longest marks.Less s more after n sp = single_longest 60 marks.Less s more after refl less_single n sp
+mark_longest marks.Apart s more after n sp = double_longest 60 62 s more refl sp
+mark_longest marks.Below s more after n sp = single_longest 60 marks.Below s more after refl less_single n sp
 mark_longest marks.AtMost s more after n sp = double_longest 60 61 s more refl sp
-mark_longest marks.Greater s more after n sp = single_longest 62 marks.Greater s more after refl greater_single n sp
+mark_longest marks.Above s more after n sp = single_longest 62 marks.Above s more after refl greater_single n sp
 mark_longest marks.AtLeast s more after n sp = double_longest 62 61 s more refl sp
 
 stop_longest : (s : Shape) (raw : List ℕ) (t : Shape) (more after : List ℕ) → Spells s raw → Ends s (more ++ after) → Spells t (raw ++ more) → more ≡ []

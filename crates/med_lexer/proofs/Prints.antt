@@ -49,10 +49,10 @@ no_joint marks.Minus rest = refl
 no_joint marks.Slash rest = refl
 no_joint marks.Percent rest = refl
 no_joint marks.Equal rest = refl
-no_joint marks.Differ rest = refl
-no_joint marks.Less rest = refl
+no_joint marks.Apart rest = refl
+no_joint marks.Below rest = refl
 no_joint marks.AtMost rest = refl
-no_joint marks.Greater rest = refl
+no_joint marks.Above rest = refl
 no_joint marks.AtLeast rest = refl
 
 ends_space : (s : Shape) (rest : List ℕ) → Ends s (32 ∷ rest)

@@ -50,27 +50,27 @@ other_spelling : (m : Mark) → joins m ≡ (λ _. false) → (rest : List ℕ) 
 other_spelling m h [] = tt
 other_spelling m h (c ∷ cs) = ap (λ f. f c) h
 
-less_joins : (c : ℕ) → (c == 61) ≡ false → (c == 62) ≡ false → joins marks.Less c ≡ false
+less_joins : (c : ℕ) → (c == 61) ≡ false → (c == 62) ≡ false → joins marks.Below c ≡ false
 less_joins c h k = rw h k
 
-less_spelled : (raw : List ℕ) → Spells (mark marks.Less) raw → raw ≡ 60 ∷ []
+less_spelled : (raw : List ℕ) → Spells (mark marks.Below) raw → raw ≡ 60 ∷ []
 less_spelled raw (inl s) = s
-less_spelled raw (inr s) = absurd (let e : marks.Less ≡ marks.Differ = s.0 in cc)
+less_spelled raw (inr s) = absurd (let e : marks.Below ≡ marks.Apart = s.0 in cc)
 
-greater_spelled : (raw : List ℕ) → Spells (mark marks.Greater) raw → raw ≡ 62 ∷ []
+greater_spelled : (raw : List ℕ) → Spells (mark marks.Above) raw → raw ≡ 62 ∷ []
 greater_spelled raw (inl s) = s
-greater_spelled raw (inr s) = absurd (let e : marks.Greater ≡ marks.Differ = s.0 in cc)
+greater_spelled raw (inr s) = absurd (let e : marks.Above ≡ marks.Apart = s.0 in cc)
 
 two_bytes : (raw : List ℕ) (b c d : ℕ) → raw ≡ b ∷ [] → (c == d) ≡ true → raw ++ c ∷ [] ≡ b ∷ d ∷ []
 two_bytes raw b c d e is = ap (λ x. x ++ c ∷ []) e ∙ ap (λ y. b ∷ y ∷ []) (is_same c d is)
 
-less_stops : (raw rest : List ℕ) → raw ≡ 60 ∷ [] → IsLongest raw rest → Without (joins marks.Less) rest
+less_stops : (raw rest : List ℕ) → raw ≡ 60 ∷ [] → IsLongest raw rest → Without (joins marks.Below) rest
 less_stops raw [] s long = tt
 less_stops raw (c ∷ cs) s long =
     less_joins c (unless (λ x. x == 61) c (λ is. long (mark marks.AtMost) (c ∷ []) cs refl (inl (two_bytes raw 60 c 61 s is))))
-    (unless (λ x. x == 62) c (λ is. long (mark marks.Differ) (c ∷ []) cs refl (inl (two_bytes raw 60 c 62 s is))))
+    (unless (λ x. x == 62) c (λ is. long (mark marks.Apart) (c ∷ []) cs refl (inl (two_bytes raw 60 c 62 s is))))
 
-greater_stops : (raw rest : List ℕ) → raw ≡ 62 ∷ [] → IsLongest raw rest → Without (joins marks.Greater) rest
+greater_stops : (raw rest : List ℕ) → raw ≡ 62 ∷ [] → IsLongest raw rest → Without (joins marks.Above) rest
 greater_stops raw [] s long = tt
 greater_stops raw (c ∷ cs) s long = unless (λ x. x == 61) c (λ is. long (mark marks.AtLeast) (c ∷ []) cs refl (inl (two_bytes raw 62 c 61 s is)))
 
@@ -86,10 +86,10 @@ mark_stops marks.Minus raw rest s long n = n refl
 mark_stops marks.Slash raw rest s long n = other_spelling marks.Slash refl rest
 mark_stops marks.Percent raw rest s long n = other_spelling marks.Percent refl rest
 mark_stops marks.Equal raw rest s long n = other_spelling marks.Equal refl rest
-mark_stops marks.Differ raw rest s long n = other_spelling marks.Differ refl rest
-mark_stops marks.Less raw rest s long n = less_stops raw rest (less_spelled raw s) long
+mark_stops marks.Apart raw rest s long n = other_spelling marks.Apart refl rest
+mark_stops marks.Below raw rest s long n = less_stops raw rest (less_spelled raw s) long
 mark_stops marks.AtMost raw rest s long n = other_spelling marks.AtMost refl rest
-mark_stops marks.Greater raw rest s long n = greater_stops raw rest (greater_spelled raw s) long
+mark_stops marks.Above raw rest s long n = greater_stops raw rest (greater_spelled raw s) long
 mark_stops marks.AtLeast raw rest s long n = other_spelling marks.AtLeast refl rest
 
 -- ---- quotes

@@ -128,7 +128,7 @@ tells_comment b (c ∷ cs) (x ∷ y ∷ front) (d ∷ ds) is two p =
 
 abbrev pub IsDouble : ℕ → ℕ → Option Mark → Type 0
 IsDouble b c None = Unit {0}
-IsDouble b c (Some m) = ((mark_bytes m ≡ b ∷ c ∷ []) ⊎ ((m ≡ marks.Differ) × (b ≡ 33) × (c ≡ 61))) × ((rest : List ℕ) → Without (joins m) rest)
+IsDouble b c (Some m) = ((mark_bytes m ≡ b ∷ c ∷ []) ⊎ ((m ≡ marks.Apart) × (b ≡ 33) × (c ≡ 61))) × ((rest : List ℕ) → Without (joins m) rest)
 
 test_double : (b c : ℕ) (v : Bool) (x y : Option Mark) → (v ≡ true → IsDouble b c x) → IsDouble b c y → IsDouble b c (cond v x y)
 test_double b c true x y f g = f refl
@@ -140,7 +140,7 @@ both_left b c p q h = grind (arith, nat_tests)
 both_right : (b c p q : ℕ) → (b == p && c == q) ≡ true → c ≡ q
 both_right b c p q h = grind (arith, nat_tests)
 
-no_joins_differ : (rest : List ℕ) → Without (joins marks.Differ) rest
+no_joins_differ : (rest : List ℕ) → Without (joins marks.Apart) rest
 no_joins_differ [] = tt
 no_joins_differ (c ∷ cs) = refl
 
@@ -157,10 +157,10 @@ two b c p q h = (λ i. sym (both_left b c p q h) i ∷ sym (both_right b c p q h
 
 double_is : (b c : ℕ) → IsDouble b c (double b c)
 double_is b c =
-    test_double b c (b == 60 && c == 62) (Some marks.Differ) _ (λ h. (inl (two b c 60 62 h), no_joins_differ))
+    test_double b c (b == 60 && c == 62) (Some marks.Apart) _ (λ h. (inl (two b c 60 62 h), no_joins_differ))
     (test_double b c (b == 60 && c == 61) (Some marks.AtMost) _ (λ h. (inl (two b c 60 61 h), no_joins_at_most))
     (test_double b c (b == 62 && c == 61) (Some marks.AtLeast) _ (λ h. (inl (two b c 62 61 h), no_joins_at_least))
-    (test_double b c (b == 33 && c == 61) (Some marks.Differ) None (λ h. (inr (refl, both_left b c 33 61 h, both_right b c 33 61 h), no_joins_differ)) tt)))
+    (test_double b c (b == 33 && c == 61) (Some marks.Apart) None (λ h. (inr (refl, both_left b c 33 61 h, both_right b c 33 61 h), no_joins_differ)) tt)))
 
 abbrev pub IsSingle : ℕ → List ℕ → Option Mark → Type 0
 IsSingle b bs None = Unit {0}
@@ -177,17 +177,17 @@ test_single b bs p m y is f g =
 some_none : {A : Type 0} {P : Type 0} (x : A) → ◌≡◌ {A = Option A} (Some x) None → P
 some_none x h = absurd (cc)
 
-less_alone : (c : ℕ) → double 60 c ≡ None → joins marks.Less c ≡ false
+less_alone : (c : ℕ) → double 60 c ≡ None → joins marks.Below c ≡ false
 less_alone c h =
-    let go : (v w : Bool) → (c == 62) ≡ v → (c == 61) ≡ w → cond v (Some marks.Differ) (cond w (Some marks.AtMost) None) ≡ None → joins marks.Less c ≡ false = elim [
-      | true ↦ (λ w p q f. some_none marks.Differ f)
+    let go : (v w : Bool) → (c == 62) ≡ v → (c == 61) ≡ w → cond v (Some marks.Apart) (cond w (Some marks.AtMost) None) ≡ None → joins marks.Below c ≡ false = elim [
+      | true ↦ (λ w p q f. some_none marks.Apart f)
       | false ↦ elim [ true ↦ (λ p q f. some_none marks.AtMost f) | false ↦ (λ p q f. rw (p, q) refl) ]
     ]
     in go (c == 62) (c == 61) refl refl h
 
-greater_alone : (c : ℕ) → double 62 c ≡ None → joins marks.Greater c ≡ false
+greater_alone : (c : ℕ) → double 62 c ≡ None → joins marks.Above c ≡ false
 greater_alone c h =
-    let go : (v : Bool) → (c == 61) ≡ v → cond v (Some marks.AtLeast) None ≡ None → joins marks.Greater c ≡ false = elim [
+    let go : (v : Bool) → (c == 61) ≡ v → cond v (Some marks.AtLeast) None ≡ None → joins marks.Above c ≡ false = elim [
       | true ↦ (λ p f. some_none marks.AtLeast f)
       | false ↦ (λ p f. p)
     ]
@@ -196,11 +196,11 @@ greater_alone c h =
 minus_alone : (b c : ℕ) → b ≡ 45 → (b == 45 && c == 45) ≡ false → joins marks.Minus c ≡ false
 minus_alone b c is h = grind (arith, nat_tests)
 
-less_ends : (b : ℕ) (bs : List ℕ) → b ≡ 60 → double b (first bs) ≡ None → Without (joins marks.Less) bs
+less_ends : (b : ℕ) (bs : List ℕ) → b ≡ 60 → double b (first bs) ≡ None → Without (joins marks.Below) bs
 less_ends b [] is h = tt
 less_ends b (c ∷ cs) is h = less_alone c (ap (λ y. double y c) (sym is) ∙ h)
 
-greater_ends : (b : ℕ) (bs : List ℕ) → b ≡ 62 → double b (first bs) ≡ None → Without (joins marks.Greater) bs
+greater_ends : (b : ℕ) (bs : List ℕ) → b ≡ 62 → double b (first bs) ≡ None → Without (joins marks.Above) bs
 greater_ends b [] is h = tt
 greater_ends b (c ∷ cs) is h = greater_alone c (ap (λ y. double y c) (sym is) ∙ h)
 
@@ -225,8 +225,8 @@ single_is b bs d n =
     (test_single b bs 47 marks.Slash _ refl (λ _. plain_ends marks.Slash bs refl)
     (test_single b bs 37 marks.Percent _ refl (λ _. plain_ends marks.Percent bs refl)
     (test_single b bs 61 marks.Equal _ refl (λ _. plain_ends marks.Equal bs refl)
-    (test_single b bs 60 marks.Less _ refl (λ is. less_ends b bs is d)
-    (test_single b bs 62 marks.Greater None refl (λ is. greater_ends b bs is d) tt)))))))))))))
+    (test_single b bs 60 marks.Below _ refl (λ is. less_ends b bs is d)
+    (test_single b bs 62 marks.Above None refl (λ is. greater_ends b bs is d) tt)))))))))))))
 
 -- ---- a character that begins no token
 
@@ -263,10 +263,10 @@ no_mark marks.Minus b bs after s d e = no_single 45 marks.Minus b bs after refl 
 no_mark marks.Slash b bs after s d e = no_single 47 marks.Slash b bs after refl e s
 no_mark marks.Percent b bs after s d e = no_single 37 marks.Percent b bs after refl e s
 no_mark marks.Equal b bs after s d e = no_single 61 marks.Equal b bs after refl e s
-no_mark marks.Differ b bs after s d e = no_double 60 62 marks.Differ b bs after refl e d
-no_mark marks.Less b bs after s d e = no_single 60 marks.Less b bs after refl e s
+no_mark marks.Apart b bs after s d e = no_double 60 62 marks.Apart b bs after refl e d
+no_mark marks.Below b bs after s d e = no_single 60 marks.Below b bs after refl e s
 no_mark marks.AtMost b bs after s d e = no_double 60 61 marks.AtMost b bs after refl e d
-no_mark marks.Greater b bs after s d e = no_single 62 marks.Greater b bs after refl e s
+no_mark marks.Above b bs after s d e = no_single 62 marks.Above b bs after refl e s
 no_mark marks.AtLeast b bs after s d e = no_double 62 61 marks.AtLeast b bs after refl e d
 
 fails : {P : Type 0} (v : Bool) → v ≡ true → v ≡ false → P
@@ -281,7 +281,7 @@ no_token b bs o s d (number n) (x ∷ xs) after e sp =
     let all : Every is_ascii_digit (x ∷ xs) = subst (Every is_ascii_digit) (sym sp.0) (sp.1).0 in
     fails (is_ascii_digit b) (ap is_ascii_digit (ap first e) ∙ all.0) o.digit
 no_token b bs o s d (mark m) (x ∷ xs) after e (inl sp) = no_mark m b bs after s d (e ∙ ap (λ l. l ++ after) sp)
-no_token b bs o s d (mark m) (x ∷ xs) after e (inr sp) = no_double 33 61 marks.Differ b bs after refl (e ∙ ap (λ l. l ++ after) sp.1) d
+no_token b bs o s d (mark m) (x ∷ xs) after e (inr sp) = no_double 33 61 marks.Apart b bs after refl (e ∙ ap (λ l. l ++ after) sp.1) d
 
 tells_single : (b : ℕ) (bs : List ℕ) (o : Option Mark) → IsOther b bs → single b ≡ o → double b (first bs) ≡ None → IsSingle b bs o → Tells (b ∷ bs) (single_next o bs)
 tells_single b bs None other s d is = bad_character b bs other.blank (apart b 34 other.name) (apart b 39 other.text) (no_token b bs other s d)
@@ -305,10 +305,10 @@ no_zero marks.Minus b h = one_two _ b 0 h
 no_zero marks.Slash b h = one_two _ b 0 h
 no_zero marks.Percent b h = one_two _ b 0 h
 no_zero marks.Equal b h = one_two _ b 0 h
-no_zero marks.Differ b h = no_second 60 62 b (omega arith) h
-no_zero marks.Less b h = one_two _ b 0 h
+no_zero marks.Apart b h = no_second 60 62 b (omega arith) h
+no_zero marks.Below b h = one_two _ b 0 h
 no_zero marks.AtMost b h = no_second 60 61 b (omega arith) h
-no_zero marks.Greater b h = one_two _ b 0 h
+no_zero marks.Above b h = one_two _ b 0 h
 no_zero marks.AtLeast b h = no_second 62 61 b (omega arith) h
 
 tells_double : (m : Mark) (b : ℕ) (bs : List ℕ) → IsDouble b (first bs) (Some m) → Front (b ∷ bs) (mark m) (behind bs)

@@ -85,13 +85,13 @@ abbrev pub single : ℕ → Option Mark
 single b =
     cond (b == 40) (Some marks.LeftParen) (cond (b == 41) (Some marks.RightParen) (cond (b == 44) (Some marks.Comma) (cond (b == 46) (Some marks.Dot)
     (cond (b == 59) (Some marks.Semicolon) (cond (b == 42) (Some marks.Star) (cond (b == 43) (Some marks.Plus) (cond (b == 45) (Some marks.Minus)
-    (cond (b == 47) (Some marks.Slash) (cond (b == 37) (Some marks.Percent) (cond (b == 61) (Some marks.Equal) (cond (b == 60) (Some marks.Less)
-    (cond (b == 62) (Some marks.Greater) None))))))))))))
+    (cond (b == 47) (Some marks.Slash) (cond (b == 37) (Some marks.Percent) (cond (b == 61) (Some marks.Equal) (cond (b == 60) (Some marks.Below)
+    (cond (b == 62) (Some marks.Above) None))))))))))))
 
 abbrev pub double : ℕ → ℕ → Option Mark
 double b c =
-    cond (b == 60 && c == 62) (Some marks.Differ) (cond (b == 60 && c == 61) (Some marks.AtMost)
-    (cond (b == 62 && c == 61) (Some marks.AtLeast) (cond (b == 33 && c == 61) (Some marks.Differ) None)))
+    cond (b == 60 && c == 62) (Some marks.Apart) (cond (b == 60 && c == 61) (Some marks.AtMost)
+    (cond (b == 62 && c == 61) (Some marks.AtLeast) (cond (b == 33 && c == 61) (Some marks.Apart) None)))
 
 abbrev pub single_next : Option Mark → List ℕ → Next
 single_next None rest = bad

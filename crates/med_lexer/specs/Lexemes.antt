@@ -70,10 +70,10 @@ mark_bytes marks.Minus = 45 ∷ []
 mark_bytes marks.Slash = 47 ∷ []
 mark_bytes marks.Percent = 37 ∷ []
 mark_bytes marks.Equal = 61 ∷ []
-mark_bytes marks.Differ = 60 ∷ 62 ∷ []
-mark_bytes marks.Less = 60 ∷ []
+mark_bytes marks.Apart = 60 ∷ 62 ∷ []
+mark_bytes marks.Below = 60 ∷ []
 mark_bytes marks.AtMost = 60 ∷ 61 ∷ []
-mark_bytes marks.Greater = 62 ∷ []
+mark_bytes marks.Above = 62 ∷ []
 mark_bytes marks.AtLeast = 62 ∷ 61 ∷ []
 
 -- The bytes are one token that says this. A word folds to lower case. A quoted name is between double quotes and not empty, a text
@@ -84,7 +84,7 @@ Spells (word w) (b ∷ bs) = (is_start b ≡ true) × Every is_part bs × (w ≡
 Spells (quoted q) raw = (raw ≡ between 34 q) × Every is_text q × (0 < length q)
 Spells (literal q) raw = (raw ≡ between 39 q) × Every is_text q
 Spells (number d) raw = (raw ≡ d) × IsDigits d
-Spells (mark m) raw = (raw ≡ mark_bytes m) ⊎ ((m ≡ marks.Differ) × (raw ≡ 33 ∷ 61 ∷ []))
+Spells (mark m) raw = (raw ≡ mark_bytes m) ⊎ ((m ≡ marks.Apart) × (raw ≡ 33 ∷ 61 ∷ []))
 
 -- `raw` is the longest token at its place: with more of the bytes behind it, it is no token of any kind.
 abbrev pub IsLongest : List ℕ → List ℕ → Type 0

@@ -21,8 +21,8 @@ pub fn single(b: u8) -> Option<Mark>
         b'/' => Some(Mark::Slash),
         b'%' => Some(Mark::Percent),
         b'=' => Some(Mark::Equal),
-        b'<' => Some(Mark::Less),
-        b'>' => Some(Mark::Greater),
+        b'<' => Some(Mark::Below),
+        b'>' => Some(Mark::Above),
         _ => None,
     }
 }
@@ -32,13 +32,13 @@ pub fn double(b: u8, c: u8) -> Option<Mark>
     ensures { result ≡ cutting.double b c }
 {
     if b == b'<' && c == b'>' {
-        Some(Mark::Differ)
+        Some(Mark::Apart)
     } else if b == b'<' && c == b'=' {
         Some(Mark::AtMost)
     } else if b == b'>' && c == b'=' {
         Some(Mark::AtLeast)
     } else if b == b'!' && c == b'=' {
-        Some(Mark::Differ)
+        Some(Mark::Apart)
     } else {
         None
     }

@@ -16,7 +16,7 @@ use Rattle.med_query.specs.Laws.{AllIgnoreOrder, IsSteady, AnswersIgnoreOrder}
 use Rattle.med_query.specs.Query.{Query, Tables, SameRows, IsAnswer, senses, having_of, has_class, kept, plain, outputs_all, output, kept_classes}
 use Rattle.fdw_api.specs.Scan.{Spec, Filter, spec_of, filter_of, TableRow, GivenRow, IsComing, shown, shown_cells, pick, meets_all}
 use Rattle.fdw_api.specs.State.{BoxState, rows_of}
-use Rattle.fdw_api.specs.declared.interface.TableNo.{TableNo}
+use Rattle.med_value.specs.declared.value.TableNo.{TableNo}
 use Rattle.fdw_api.specs.declared.scan.Agreement.{Agreement}
 use Rattle.fdw_api.specs.declared.scan.Restriction.{Restriction}
 use Rattle.med_binder.specs.declared.bound.BoundEntry.{BoundEntry}

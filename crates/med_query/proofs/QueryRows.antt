@@ -5,7 +5,7 @@ use Rattle.std.specs.declared.cmp.Ordering.{Ordering}
 use Rattle.std.specs.Ordering.{is_lt}
 use Rattle.med_value.specs.Datum.{Datum, NoValue, Whole, Chars, Logic, Tuple}
 use Rattle.tri_expr.specs.declared.expr.Fault.TheVariants.{Range, Zero}
-use Rattle.tri_expr.specs.declared.expr.Comparison.TheVariants.{Equal, Apart, Above}
+use Rattle.med_value.specs.declared.order.Comparison.TheVariants.{Equal, Apart, Above}
 use Rattle.tri_expr.specs.declared.expr.Operation.TheVariants.{Divide}
 use Rattle.tri_expr.specs.declared.expr.Test.TheVariants.{Null}
 use Rattle.tri_expr.specs.declared.expr.SetFunction.TheVariants.{Count, Sum}

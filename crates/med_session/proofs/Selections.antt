@@ -18,7 +18,7 @@ use Rattle.fdw_api.specs.Scan.{Filter, spec_of, plain_spec, filter_of, params_fi
 use Rattle.fdw_api.specs.State.{BoxState, Bound as TableBound, table_of}
 use Rattle.fdw_api.specs.Calls.{CanBegin}
 use Rattle.fdw_api.specs.declared.interface.Fault.{Fault}
-use Rattle.fdw_api.specs.declared.interface.TableNo.{TableNo}
+use Rattle.med_value.specs.declared.value.TableNo.{TableNo}
 use Rattle.fdw_api.specs.declared.scan.Agree.{Agree}
 use Rattle.fdw_api.specs.declared.scan.Agreement.{Agreement}
 use Rattle.fdw_api.specs.declared.scan.Restriction.{Restriction}

@@ -11,7 +11,7 @@
 use Rattle.std.specs.Prelude.{◌≡◌, ℕ, suc, ◌≤◌, Bool, true, false, List, [], ◌∷◌, ◌++◌, max, Option, Some, None}
 use Rattle.med_syntax.specs.declared.expr.BinaryOp.{BinaryOp}
 use Rattle.med_syntax.specs.declared.expr.BinaryOp.TheVariants.{Add, Sub, Mul, Div, Rem}
-use Rattle.med_syntax.specs.declared.expr.CompareOp.{CompareOp}
+use Rattle.med_value.specs.declared.order.Comparison.{Comparison}
 use Rattle.med_syntax.specs.declared.expr.Joint.{Joint}
 use Rattle.med_syntax.specs.declared.expr.Joint.TheVariants.{Or, And}
 use Rattle.med_syntax.specs.declared.expr.Status.{Status}
@@ -38,7 +38,7 @@ mutual
     between : Bool → ExprTree → ExprTree → ExprTree → ExprTree
     among : Bool → ExprTree → ExprTree → ExprTrees → ExprTree
     like : Bool → ExprTree → List ℕ → ExprTree
-    compare : CompareOp → ExprTree → ExprTree → ExprTree
+    compare : Comparison → ExprTree → ExprTree → ExprTree
     tested : Bool → ExprTree → Status → ExprTree
     negation : ExprTree → ExprTree
     chain : Joint → ExprTree → ExprTrees → ExprTree

@@ -7,8 +7,8 @@ use Rattle.med_lexer.specs.declared.Mark.TheVariants as marks
 use Rattle.med_lexer.specs.Lexemes.{Shape, word, quoted, literal, number, mark}
 use Rattle.med_syntax.specs.declared.expr.BinaryOp.{BinaryOp}
 use Rattle.med_syntax.specs.declared.expr.BinaryOp.TheVariants.{Add, Sub, Mul, Div, Rem}
-use Rattle.med_syntax.specs.declared.expr.CompareOp.{CompareOp}
-use Rattle.med_syntax.specs.declared.expr.CompareOp.TheVariants.{Equal, Differ, Less, AtMost, Greater, AtLeast}
+use Rattle.med_value.specs.declared.order.Comparison.{Comparison}
+use Rattle.med_value.specs.declared.order.Comparison.TheVariants.{Equal, Apart, Below, AtMost, Above, AtLeast}
 use Rattle.med_syntax.specs.declared.expr.Joint.{Joint}
 use Rattle.med_syntax.specs.declared.expr.Joint.TheVariants.{Or, And}
 use Rattle.med_syntax.specs.Words.{is_reserved}
@@ -20,7 +20,7 @@ pub data Terminal : Type 0 where
   Dot : Terminal
   Semicolon : Terminal
   Binary : BinaryOp → Terminal
-  Compare : CompareOp → Terminal
+  Compare : Comparison → Terminal
   Joined : Joint → Terminal
   Not : Terminal
   Between : Terminal
@@ -49,10 +49,10 @@ mark_terminal marks.Minus = Binary Sub
 mark_terminal marks.Slash = Binary Div
 mark_terminal marks.Percent = Binary Rem
 mark_terminal marks.Equal = Compare Equal
-mark_terminal marks.Differ = Compare Differ
-mark_terminal marks.Less = Compare Less
+mark_terminal marks.Apart = Compare Apart
+mark_terminal marks.Below = Compare Below
 mark_terminal marks.AtMost = Compare AtMost
-mark_terminal marks.Greater = Compare Greater
+mark_terminal marks.Above = Compare Above
 mark_terminal marks.AtLeast = Compare AtLeast
 
 -- a word that is no keyword of expressions: a name, unless it is reserved

@@ -1,5 +1,7 @@
 //! Expressions, as they are written.
 
+use med_value::Comparison;
+
 /// An operator between two numbers (SQL:2016, 6.29 <numeric value expression>).
 #[derive(Clone, Copy, Debug, PartialEq, Eq, Drop)]
 pub enum BinaryOp {
@@ -13,23 +15,6 @@ pub enum BinaryOp {
     Div,
     /// `%`
     Rem,
-}
-
-/// A comparison (SQL:2016, 8.2 <comparison predicate>).
-#[derive(Clone, Copy, Debug, PartialEq, Eq, Drop)]
-pub enum CompareOp {
-    /// `=`
-    Equal,
-    /// `<>`
-    Differ,
-    /// `<`
-    Less,
-    /// `<=`
-    AtMost,
-    /// `>`
-    Greater,
-    /// `>=`
-    AtLeast,
 }
 
 /// What joins conditions.
@@ -86,7 +71,7 @@ pub enum Expr {
     /// `e [NOT] LIKE 'pattern'`
     Like(bool, Box<Expr>, String),
     /// `a op b`
-    Compare(CompareOp, Box<Expr>, Box<Expr>),
+    Compare(Comparison, Box<Expr>, Box<Expr>),
     /// `e IS [NOT] status`
     Is(bool, Box<Expr>, Status),
     /// `NOT e`

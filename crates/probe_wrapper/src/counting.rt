@@ -2,9 +2,9 @@
 ghost use Rattle.std.specs.Prelude.{◌≡◌};
 ghost use Rattle.probe_wrapper.specs.Counting.{counted};
 
-use fdw_api::interface::{Counts, Fault, Opt, RowId, SourceRow, TableNo, Ticket, Wrapper};
+use fdw_api::interface::{Counts, Fault, Opt, RowId, SourceRow, Ticket, Wrapper};
 use fdw_api::scan::{Agreement, Restriction, ScanSpec};
-use med_value::{ColumnDef, Row, Value};
+use med_value::{ColumnDef, Row, TableNo, Value};
 use std::alloc::Global;
 
 /// Does what its inner wrapper does, and counts itself the rows that it gives.

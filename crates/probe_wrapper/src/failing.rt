@@ -3,9 +3,9 @@ ghost use Rattle.std.specs.Prelude.{◌≡◌};
 ghost use Rattle.probe_wrapper.specs.Failing.{failed, is_due, after_call, has_come, past_scan, past_write};
 ghost use Rattle.probe_wrapper.specs.declared.failing.Failure.TheVariants.{Before};
 
-use fdw_api::interface::{Counts, Fault, Opt, RowId, SourceRow, TableNo, Ticket, Wrapper};
+use fdw_api::interface::{Counts, Fault, Opt, RowId, SourceRow, Ticket, Wrapper};
 use fdw_api::scan::{Agreement, Restriction, ScanSpec};
-use med_value::{ColumnDef, Row, Value};
+use med_value::{ColumnDef, Row, TableNo, Value};
 use std::alloc::Global;
 
 /// How far the failure is.

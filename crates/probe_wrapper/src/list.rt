@@ -13,10 +13,10 @@ ghost use Rattle.probe_wrapper.specs.Changes.{write_is};
 ghost use Rattle.probe_wrapper.specs.Scans.{NextIs, entry_at, rows_at, write_fits};
 
 use crate::changes::{ListChange, ListWrite, add_change, applied};
-use fdw_api::interface::{Counts, Fault, Opt, RowId, SourceRow, TableNo, Ticket, Wrapper};
+use fdw_api::interface::{Counts, Fault, Opt, RowId, SourceRow, Ticket, Wrapper};
 use fdw_api::law::{rows_are_typed, writes_are_typed};
 use fdw_api::scan::{Agree, Agreement, Restriction, ScanSpec, copy_values, meets_taken};
-use med_value::{Cause, ColType, ColumnDef, NoMemory, Row, Value};
+use med_value::{Cause, ColType, ColumnDef, NoMemory, Row, TableNo, Value};
 use std::alloc::Global;
 use std::collections::BTreeMap;
 

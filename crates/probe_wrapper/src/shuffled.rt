@@ -6,9 +6,9 @@ ghost use Rattle.fdw_api.specs.State.{IsIdle};
 ghost use Rattle.fdw_api.specs.Calls.{row_of, IsOpen, Gives, Breaks, bumped};
 ghost use Rattle.probe_wrapper.specs.Shuffled.{turned, turns_of, reordered, is_unread, IsRead, TakesFirst, TurnsRows, ReadsOut, StopsOut};
 
-use fdw_api::interface::{Counts, Fault, Opt, RowId, SourceRow, TableNo, Ticket, Wrapper};
+use fdw_api::interface::{Counts, Fault, Opt, RowId, SourceRow, Ticket, Wrapper};
 use fdw_api::scan::{Agreement, Restriction, ScanSpec};
-use med_value::{ColumnDef, Row, Value};
+use med_value::{ColumnDef, Row, TableNo, Value};
 use std::alloc::Global;
 use std::collections::{BTreeMap, VecDeque};
 

@@ -7,9 +7,9 @@ ghost use Rattle.fdw_api.specs.Scan.{spec_of, plain_spec};
 ghost use Rattle.fdw_api.specs.State.{IsIdle};
 ghost use Rattle.probe_wrapper.specs.Shy.{shied, ask_of, asked_of, new_ask};
 
-use fdw_api::interface::{Counts, Fault, Opt, RowId, SourceRow, TableNo, Ticket, Wrapper};
+use fdw_api::interface::{Counts, Fault, Opt, RowId, SourceRow, Ticket, Wrapper};
 use fdw_api::scan::{Agree, Agreement, Restriction, ScanSpec, copy_values};
-use med_value::{ColumnDef, NoMemory, Row, Value};
+use med_value::{ColumnDef, NoMemory, Row, TableNo, Value};
 use std::alloc::Global;
 use std::collections::BTreeMap;
 

@@ -5,9 +5,8 @@ ghost use Rattle.std.specs.Prelude.{◌≡◌, length, map, IfOk, All};
 ghost use Rattle.pushdown.specs.Offered.{AreScans, IsScanOf};
 
 use crate::offers::{Offer, Offers};
-use fdw_api::interface::TableNo;
 use fdw_api::scan::{Agreement, ScanSpec};
-use med_value::NoMemory;
+use med_value::{NoMemory, TableNo};
 use std::alloc::Global;
 
 /// The scan of an entry.

@@ -9,7 +9,7 @@ use Rattle.fdw_api.specs.Kinds.{Column, Setting}
 use Rattle.fdw_api.specs.Scan.{Filter, spec_of, plain_spec, filter_of, params_fit}
 use Rattle.fdw_api.specs.State.{Bound, Ledger, BoxState, table_of, set_at}
 use Rattle.fdw_api.specs.Calls.{Binds, Allows, CanBegin}
-use Rattle.fdw_api.specs.declared.interface.TableNo.{TableNo}
+use Rattle.med_value.specs.declared.value.TableNo.{TableNo}
 use Rattle.fdw_api.specs.declared.scan.Agree.{Agree}
 use Rattle.fdw_api.specs.declared.scan.Agree.TheVariants.{Ignored}
 use Rattle.fdw_api.specs.declared.scan.ScanSpec.{ScanSpec}

@@ -1,9 +1,8 @@
 //! Texts bound over the tables parts, orders and "Odd", and what is told of them.
 use crate::expect::{cut, same_text};
-use fdw_api::TableNo;
 use med_binder::{AttachedTable, Bound, bind};
 use med_parser::parse;
-use med_value::{Cause, ColType, ColumnDef, Row, Value, row_text};
+use med_value::{Cause, ColType, ColumnDef, Row, TableNo, Value, row_text};
 use std::alloc::Global;
 use std::str::from_utf8;
 use std::test::Fail;

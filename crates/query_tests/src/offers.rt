@@ -1,10 +1,10 @@
 //! Offers and scans of a query's entries.
 use crate::expect::{same, same_text};
-use fdw_api::interface::TableNo;
 use fdw_api::scan::Agreement;
 use med_binder::{Bound, BoundEntry};
 use med_planner::{Plan, plan};
 use med_query::Select;
+use med_value::TableNo;
 use pushdown::{EntryScan, Offers, Split, accept, offer};
 use std::alloc::Global;
 use std::test::Fail;

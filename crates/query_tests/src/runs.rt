@@ -14,20 +14,18 @@ ghost use Rattle.std.specs.Prelude.{◌≡◌, ◌∷◌, [], true, List, length
 
 use crate::answers::{columns, compare, int, one, select};
 use crate::expect::{same, same_text};
-use fdw_api::interface::{Counts, Fault, TableNo, Wrapper};
-use fdw_api::scan::{
-    Agree, Agreement, Comparison as Compared, Operand, Restriction, ScanSpec, Test,
-};
+use fdw_api::interface::{Counts, Fault, Wrapper};
+use fdw_api::scan::{Agree, Agreement, Operand, Restriction, ScanSpec, Test};
 use med_exec::law::running_is_held;
 use med_exec::{Run, ledger_at, plan_at, start};
 use med_planner::Plan;
 use med_query::{Select, is_safe_from};
-use med_value::{ColType, ColumnDef, Row, Value, row_text};
+use med_value::{ColType, ColumnDef, Comparison, Row, TableNo, Value, row_text};
 use probe_wrapper::{ListTable, ListWrapper};
 use pushdown::EntryScan;
 use std::alloc::Global;
 use std::test::Fail;
-use tri_expr::{Comparison, Expr, Operation};
+use tri_expr::{Expr, Operation};
 
 fn order(alloc: Global, number: i64, part: i64, quantity: i64) -> Result<Row, Fail>
     ensures { IfOk result (λ r. tuple r ≡ Whole number ∷ Whole part ∷ Whole quantity ∷ []) }
@@ -88,7 +86,7 @@ fn above_one(alloc: Global) -> Result<Vec<Restriction>, Fail>
     Ok(vec![in alloc;
         Restriction {
             column: 2,
-            test: Test::Compare(Compared::Above, Operand::Constant(Value::Int(1))),
+            test: Test::Compare(Comparison::Above, Operand::Constant(Value::Int(1))),
         },
     ]?)
 }

@@ -9,14 +9,14 @@ ghost use Rattle.std.specs.List.{list_all};
 ghost use Rattle.std.specs.Prelude.{◌≡◌, ◌<◌, ◌&&◌, true, [], ◌∷◌, IfOk, map};
 ghost use Rattle.std.specs.String.{string_bytes};
 
-use fdw_api::interface::{TableNo, Wrapper};
+use fdw_api::interface::Wrapper;
 use fed_cli::Ended;
 use fed_cli::serving::serve_engine;
 use med_binder::{AttachedTable, Bound, bind};
 use med_parser::parse;
 use med_session::{Engine, SourceKind};
 use med_value::text::row_text;
-use med_value::{ColType, ColumnDef, NoMemory, Row, Value};
+use med_value::{ColType, ColumnDef, NoMemory, Row, TableNo, Value};
 use plain_select::plain_answer;
 use probe_wrapper::{ListTable, ListWrapper, Shuffled};
 use std::alloc::Global;

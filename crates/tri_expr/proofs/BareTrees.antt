@@ -1,7 +1,7 @@
 -- A tree without its parentheses means the same.
 use Rattle.std.proofs.Common.{◌≡◌, true, false, List, [], ◌∷◌, map, refl, ap, ◌∙◌}
 use Rattle.med_value.specs.Datum.{Tuple}
-use Rattle.tri_expr.specs.declared.expr.Comparison.TheVariants.{Equal as Same, AtMost, AtLeast}
+use Rattle.med_value.specs.declared.order.Comparison.TheVariants.{Equal as Same, AtMost, AtLeast}
 use Rattle.tri_expr.specs.Outcome.{Is, compared, computed, negated, opposite as not_of, turned, settled, tested, strict, over}
 use Rattle.tri_expr.specs.Aggregate.{aggregated}
 use Rattle.tri_expr.specs.Meaning.{OnClass, argument, liked}

@@ -7,7 +7,7 @@ use Rattle.std.specs.declared.string.String.{String}
 use Rattle.std.specs.String.{string_bytes}
 use Rattle.med_value.specs.declared.value.Value.{Value}
 use Rattle.med_value.specs.Datum.{Tuple, datum}
-use Rattle.tri_expr.specs.declared.expr.Comparison.{Comparison}
+use Rattle.med_value.specs.declared.order.Comparison.{Comparison}
 use Rattle.tri_expr.specs.declared.expr.Operation.{Operation}
 use Rattle.tri_expr.specs.declared.expr.Test.{Test}
 use Rattle.tri_expr.specs.declared.expr.SetFunction.{SetFunction}

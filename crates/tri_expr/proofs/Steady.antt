@@ -13,7 +13,7 @@ use Rattle.tri_expr.proofs.Shuffled.{Shuffled, back, mapped, as_long, all_kept, 
 use Rattle.tri_expr.specs.declared.expr.Expr.{Expr}
 use Rattle.tri_expr.specs.declared.expr.Expr.TheOpen as layer
 use Rattle.tri_expr.specs.declared.expr.Expr.TheFolds.{fold-roll-Expr, ind-Expr, map-Expr}
-use Rattle.tri_expr.specs.declared.expr.Comparison.TheVariants.{Equal as Same, AtMost, AtLeast}
+use Rattle.med_value.specs.declared.order.Comparison.TheVariants.{Equal as Same, AtMost, AtLeast}
 use Rattle.tri_expr.specs.Outcome.{Outcome, Is, compared, computed, negated, opposite, turned, settled, tested, strict, over, value_of}
 use Rattle.tri_expr.specs.Meaning.{OnClass, cell, has_cell, shared, argument, liked, meaning_step, meaning}
 use Rattle.tri_expr.proofs.Tallies.{aggregated_shuffled}

@@ -9,7 +9,7 @@ use Rattle.med_value.specs.Order.{datum_cmp}
 use Rattle.tri_expr.specs.declared.expr.Expr.{Expr}
 use Rattle.tri_expr.specs.declared.expr.Expr.TheOpen as layer
 use Rattle.tri_expr.specs.declared.expr.Expr.TheFolds.{fold-Expr}
-use Rattle.tri_expr.specs.declared.expr.Comparison.TheVariants.{Equal, AtMost, AtLeast}
+use Rattle.med_value.specs.declared.order.Comparison.TheVariants.{Equal, AtMost, AtLeast}
 use Rattle.tri_expr.specs.Outcome.{Outcome, Is, compared, computed, negated, opposite, turned, settled, tested, strict, truth, over, value_of}
 use Rattle.tri_expr.specs.Aggregate.{aggregated}
 use Rattle.tri_expr.specs.Like.{is_like}

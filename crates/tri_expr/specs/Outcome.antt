@@ -2,13 +2,10 @@
 -- 6.42 <boolean value expression>, 8.2 <comparison predicate>).
 use Rattle.std.specs.Prelude.{◌≡◌, ℕ, ℤ, pos, negsuc, ◌+ℤ◌, ◌-ℤ◌, ◌*ℤ◌, neg_ℤ, int_div, int_rem, ◌^◌, nat_lt, Bool, true, false, not, ◌==◌, if◌then◌else◌, List, [], ◌∷◌, map, Option, Some, None, Result, Ok, Err}
 use Rattle.std.specs.List.{list_any, list_all}
-use Rattle.std.specs.declared.cmp.Ordering.{Ordering}
-use Rattle.std.specs.Ordering.{is_lt, is_le, is_eq, is_gt, is_ge}
 use Rattle.med_value.specs.declared.value.Value.{Value}
 use Rattle.med_value.specs.Datum.{Datum, NoValue, Whole, Chars, Logic, datum, is_text}
-use Rattle.med_value.specs.Order.{datum_cmp}
-use Rattle.tri_expr.specs.declared.expr.Comparison.{Comparison}
-use Rattle.tri_expr.specs.declared.expr.Comparison.TheVariants.{Equal, Apart, Below, AtMost, Above, AtLeast}
+use Rattle.med_value.specs.Order.{datum_cmp, holds}
+use Rattle.med_value.specs.declared.order.Comparison.{Comparison}
 use Rattle.tri_expr.specs.declared.expr.Operation.{Operation}
 use Rattle.tri_expr.specs.declared.expr.Operation.TheVariants.{Add, Subtract, Multiply, Divide, Remainder}
 use Rattle.tri_expr.specs.declared.expr.Test.{Test}
@@ -37,15 +34,6 @@ abbrev pub strict_two : (Datum → Datum → Outcome) → Outcome → Outcome �
 strict_two f (Is v) (Is w) = f v w
 strict_two f (Is v) (Fails c) = Fails c
 strict_two f (Fails c) o = Fails c
-
--- a comparison by the order of values
-abbrev pub holds : Comparison → Ordering → Bool
-holds Equal o = is_eq o
-holds Apart o = not (is_eq o)
-holds Below o = is_lt o
-holds AtMost o = is_le o
-holds Above o = is_gt o
-holds AtLeast o = is_ge o
 
 -- a comparison with NULL is unknown
 abbrev pub compared_values : Comparison → Datum → Datum → Outcome

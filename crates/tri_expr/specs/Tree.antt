@@ -5,7 +5,7 @@ use Rattle.med_value.specs.Datum.{Datum, datum}
 use Rattle.tri_expr.specs.declared.expr.Expr.{Expr}
 use Rattle.tri_expr.specs.declared.expr.Expr.TheOpen as layer
 use Rattle.tri_expr.specs.declared.expr.Expr.TheFolds.{fold-Expr}
-use Rattle.tri_expr.specs.declared.expr.Comparison.{Comparison}
+use Rattle.med_value.specs.declared.order.Comparison.{Comparison}
 use Rattle.tri_expr.specs.declared.expr.Operation.{Operation}
 use Rattle.tri_expr.specs.declared.expr.Test.{Test}
 use Rattle.tri_expr.specs.declared.expr.SetFunction.{SetFunction}

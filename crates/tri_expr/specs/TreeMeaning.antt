@@ -1,7 +1,7 @@
 -- The value of an expression that is given by its tree, by cases on its form. It is the value of every expression with that tree.
 use Rattle.std.specs.Prelude.{false, true, pos, List, [], ◌∷◌, map, length}
 use Rattle.med_value.specs.Datum.{Whole, Tuple}
-use Rattle.tri_expr.specs.declared.expr.Comparison.TheVariants.{Equal, AtMost, AtLeast}
+use Rattle.med_value.specs.declared.order.Comparison.TheVariants.{Equal, AtMost, AtLeast}
 use Rattle.tri_expr.specs.Outcome.{Is, compared, computed, negated, opposite as turned_over, turned, settled, tested, strict, over}
 use Rattle.tri_expr.specs.Aggregate.{aggregated}
 use Rattle.tri_expr.specs.Meaning.{OnClass, cell, shared, argument, liked}

@@ -4,8 +4,8 @@ use Rattle.tri_expr.specs.declared.expr.SetFunction.{SetFunction}
 use Rattle.tri_expr.specs.declared.expr.SetFunction.TheVariants.{Count, Sum, Min, Max}
 use Rattle.tri_expr.specs.declared.expr.Operation.{Operation}
 use Rattle.tri_expr.specs.declared.expr.Operation.TheVariants.{Add, Subtract, Multiply, Divide, Remainder}
-use Rattle.tri_expr.specs.declared.expr.Comparison.{Comparison}
-use Rattle.tri_expr.specs.declared.expr.Comparison.TheVariants.{Equal, Apart, Below, AtMost, Above, AtLeast}
+use Rattle.med_value.specs.declared.order.Comparison.{Comparison}
+use Rattle.med_value.specs.declared.order.Comparison.TheVariants.{Equal, Apart, Below, AtMost, Above, AtLeast}
 use Rattle.tri_expr.specs.declared.expr.Test.{Test}
 use Rattle.tri_expr.specs.declared.expr.Test.TheVariants as tests
 use Rattle.tri_expr.specs.Lists.{datum_eq}

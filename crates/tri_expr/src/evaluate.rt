@@ -7,10 +7,10 @@ ghost use Rattle.tri_expr.specs.Outcome.{Answers, Outcome, Is, settled, strict, 
 ghost use Rattle.tri_expr.specs.View.{seen, Sees};
 ghost use Rattle.tri_expr.specs.Aggregate.{aggregated};
 ghost use Rattle.tri_expr.specs.Meaning.{liked, meaning, shared as spec_shared, has_cell as spec_has_cell, argument as spec_argument};
-ghost use Rattle.tri_expr.specs.declared.expr.Comparison.TheVariants.{Equal};
+ghost use Rattle.med_value.specs.declared.order.Comparison.TheVariants.{Equal};
 
 use crate::arithmetic::{compute, negate};
-use crate::expr::{Comparison, EvalFault, Expr, Fault, SetFunction};
+use crate::expr::{EvalFault, Expr, Fault, SetFunction};
 use crate::like::is_like;
 use crate::logic::{argument, ask, between, compare, compare_both, turn};
 use crate::tally::Tally;

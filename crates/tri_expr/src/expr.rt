@@ -4,25 +4,8 @@ ghost use Rattle.std.specs.Prelude.{◌≡◌};
 ghost use Rattle.tri_expr.specs.Told.{told_as};
 ghost use Rattle.tri_expr.specs.declared.expr.EvalFault.TheVariants.{NoMemory as Refused};
 
-use med_value::{NoMemory, Value};
+use med_value::{Comparison, NoMemory, Value};
 use thiserror::Error;
-
-/// A comparison operator (SQL standard, 8.2 <comparison predicate>).
-#[derive(Clone, Copy, Debug, PartialEq, Eq)]
-pub enum Comparison {
-    /// `=`
-    Equal,
-    /// `<>`
-    Apart,
-    /// `<`
-    Below,
-    /// `<=`
-    AtMost,
-    /// `>`
-    Above,
-    /// `>=`
-    AtLeast,
-}
 
 /// An operator on two whole numbers (SQL standard, 6.32 <numeric value expression>; the remainder as in PostgreSQL).
 #[derive(Clone, Copy, Debug, PartialEq, Eq)]

@@ -1,12 +1,13 @@
 //! Comparisons, NOT, IS and BETWEEN on values.
 
 ghost use Rattle.std.specs.Prelude.{◌≡◌, false, [], ◌∷◌};
-ghost use Rattle.tri_expr.specs.declared.expr.Comparison.TheVariants.{AtLeast, AtMost};
+ghost use Rattle.med_value.specs.declared.order.Comparison.TheVariants.{AtLeast, AtMost};
 ghost use Rattle.tri_expr.specs.Outcome.{Outcome, Is, compared, compared_values, opposite_value, passes, settled, tested, turned, value_of};
 ghost use Rattle.tri_expr.specs.View.{seen, Sees};
 
-use crate::expr::{Comparison, Fault, Test};
+use crate::expr::{Fault, Test};
 use crate::view::{View, compare_views};
+use med_value::Comparison;
 
 /// A comparison; with NULL on either side unknown.
 pub fn compare(op: Comparison, a: View<'_>, b: View<'_>) -> View<'static>
@@ -17,14 +18,7 @@ pub fn compare(op: Comparison, a: View<'_>, b: View<'_>) -> View<'static>
         (_, View::Null) => View::Null,
         _ => {
             let order = compare_views(a, b);
-            View::Bool(match op {
-                Comparison::Equal => order.is_eq(),
-                Comparison::Apart => !order.is_eq(),
-                Comparison::Below => order.is_lt(),
-                Comparison::AtMost => order.is_le(),
-                Comparison::Above => order.is_gt(),
-                Comparison::AtLeast => order.is_ge(),
-            })
+            View::Bool(op.holds(order))
         }
     }
 }

@@ -12,7 +12,8 @@ use crate::parameters::read_by_part;
 use crate::reads::{
     begin_two, read, read_above_one, read_again, read_in_turn, read_two, write_counts,
 };
-use fdw_api::interface::{TableNo, Wrapper};
+use fdw_api::interface::Wrapper;
+use med_value::TableNo;
 use probe_wrapper::{Counting, Failing, Shuffled, Shy};
 use std::alloc::Global;
 use std::test::Fail;

@@ -8,9 +8,9 @@ ghost use Rattle.fdw_api.specs.Writes.{CanModify};
 ghost use Rattle.probe_wrapper.specs.Lists.{listed, names_differ, rows_fit};
 ghost use Rattle.probe_wrapper.specs.ListBoxes.{box_of};
 
-use fdw_api::interface::{Fault, TableNo, Wrapper};
+use fdw_api::interface::{Fault, Wrapper};
 use fdw_api::scan::ScanSpec;
-use med_value::{ColType, ColumnDef, NoMemory, Row, Value};
+use med_value::{ColType, ColumnDef, NoMemory, Row, TableNo, Value};
 use probe_wrapper::{ListTable, ListWrapper};
 use std::alloc::Global;
 

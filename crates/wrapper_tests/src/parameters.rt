@@ -6,9 +6,9 @@ ghost use Rattle.fdw_api.specs.State.{Bound, table_of, scan_of};
 ghost use Rattle.fdw_api.specs.Calls.{CanRescan};
 
 use crate::reads::take_row;
-use fdw_api::interface::{Fault, TableNo, Ticket, Wrapper};
-use fdw_api::scan::{Comparison, Operand, Restriction, ScanSpec, Test};
-use med_value::Value;
+use fdw_api::interface::{Fault, Ticket, Wrapper};
+use fdw_api::scan::{Operand, Restriction, ScanSpec, Test};
+use med_value::{Comparison, TableNo, Value};
 use std::alloc::Global;
 
 /// Takes two rows of a scan, begins it again with NULL and takes a row more.

@@ -4,10 +4,10 @@ ghost use Rattle.med_value.specs.Datum.{Tuple};
 ghost use Rattle.fdw_api.specs.State.{table_of, scan_of};
 ghost use Rattle.fdw_api.specs.Calls.{IsOpen, CanRescan};
 
-use fdw_api::interface::{Counts, Fault, SourceRow, TableNo, Ticket, Wrapper};
-use fdw_api::scan::{Comparison, Operand, Restriction, ScanSpec, Test};
-use med_value::Value;
+use fdw_api::interface::{Counts, Fault, SourceRow, Ticket, Wrapper};
+use fdw_api::scan::{Operand, Restriction, ScanSpec, Test};
 use med_value::text::row_text;
+use med_value::{Comparison, TableNo, Value};
 use std::alloc::Global;
 
 /// Appends a row, or the word `end` where there is none.

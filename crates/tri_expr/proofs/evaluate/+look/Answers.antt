@@ -4,7 +4,7 @@ use Rattle.tri_expr.specs.View.{Sees}
 use Rattle.tri_expr.specs.Outcome.{Is, compared, computed, negated, opposite, turned, settled, tested, over}
 use Rattle.tri_expr.specs.Aggregate.{aggregated}
 use Rattle.tri_expr.specs.Meaning.{meaning, argument}
-use Rattle.tri_expr.specs.declared.expr.Comparison.TheVariants.{AtLeast, AtMost}
+use Rattle.med_value.specs.declared.order.Comparison.TheVariants.{AtLeast, AtMost}
 use Rattle.tri_expr.specs.declared.expr.Expr.TheVariants as form
 use Rattle.tri_expr.specs.declared.expr.Expr.TheOpen as layer
 use Rattle.tri_expr.proofs.Counted.{counted_more}

@@ -1,7 +1,7 @@
 use Rattle.std.proofs.Common.{◌≡◌, map, drop, take, true}
 use Rattle.med_value.specs.Datum.{datum, tuple}
 use Rattle.tri_expr.specs.Outcome.{settled, compared, Is, over}
-use Rattle.tri_expr.specs.declared.expr.Comparison.TheVariants.{Equal}
+use Rattle.med_value.specs.declared.order.Comparison.TheVariants.{Equal}
 use Rattle.tri_expr.specs.View.{seen}
 use Rattle.tri_expr.specs.Meaning.{meaning}
 use Rattle.tri_expr.proofs.Chain.{resumed}

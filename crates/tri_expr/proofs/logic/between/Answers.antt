@@ -1,4 +1,4 @@
-use Rattle.tri_expr.specs.declared.expr.Comparison.TheVariants.{AtLeast, AtMost}
+use Rattle.med_value.specs.declared.order.Comparison.TheVariants.{AtLeast, AtMost}
 use Rattle.tri_expr.specs.Outcome.{compared}
 use Rattle.tri_expr.proofs.logic.between.Goals as goal
 
