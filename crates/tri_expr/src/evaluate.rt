@@ -15,7 +15,7 @@ use crate::like::is_like;
 use crate::logic::{argument, ask, between, compare, compare_both, turn};
 use crate::tally::Tally;
 use crate::view::{View, compare_views, owned, view_of};
-use med_value::{Row, Value};
+use med_value::{Comparison, Row, Value};
 use std::alloc::Global;
 use std::slice;
 
