@@ -11,7 +11,7 @@ use Rattle.med_value.specs.Datum.{NoValue, Whole, Chars, Logic, Tuple, tuple}
 use Rattle.med_value.specs.declared.value.Row.{Row}
 use Rattle.med_value.specs.declared.value.ColType.TheVariants as types
 use Rattle.fdw_api.specs.Scan.{row_fits}
-use Rattle.probe_wrapper.specs.Lists.{Listed, rows_fit, names_differ}
+use Rattle.list_wrapper.specs.Lists.{Listed, rows_fit, names_differ}
 use Rattle.bench_tables.specs.Tables.{item, other, first, bench_list}
 
 -- one more row

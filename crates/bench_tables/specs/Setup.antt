@@ -4,7 +4,7 @@ use Rattle.fdw_api.specs.State.{BoxState}
 use Rattle.med_session.specs.World.{World, empty_world}
 use Rattle.med_session.specs.Attaching.{with_source, Attaches}
 use Rattle.med_session.specs.declared.sources.SourceKind.TheVariants as kinds
-use Rattle.probe_wrapper.specs.Lists.{IsNewList}
+use Rattle.list_wrapper.specs.Lists.{IsNewList}
 use Rattle.bench_tables.specs.Tables.{bench_list, items_columns, others_columns}
 
 -- The only source is the list `bench` of the tables for so many items, and has the foreign tables items and others, each for the

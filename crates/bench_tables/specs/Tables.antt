@@ -5,7 +5,7 @@ use Rattle.med_value.specs.Datum.{Datum, NoValue, Whole, Chars, Logic, Tuple}
 use Rattle.med_value.specs.declared.value.ColType.{ColType}
 use Rattle.med_value.specs.declared.value.ColType.TheVariants as types
 use Rattle.fdw_api.specs.Kinds.{Column}
-use Rattle.probe_wrapper.specs.Lists.{Listed}
+use Rattle.list_wrapper.specs.Lists.{Listed}
 
 -- an item's name: `n` and its number modulo 1000
 abbrev pub name : ℕ → Datum

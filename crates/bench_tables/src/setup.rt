@@ -2,13 +2,13 @@
 ghost use Rattle.std.specs.Prelude.{IfOk};
 ghost use Rattle.med_session.specs.World.{World};
 ghost use Rattle.med_session.specs.Engine.{shown, IsSound, Agrees};
-ghost use Rattle.probe_wrapper.specs.ListBoxes.{box_of};
+ghost use Rattle.list_wrapper.specs.ListBoxes.{box_of};
 ghost use Rattle.bench_tables.specs.Setup.{HasBench};
 
 use crate::tables::{bench_tables, items_columns, others_columns};
+use list_wrapper::ListWrapper;
 use med_session::{Engine, SourceKind};
 use med_value::NoMemory;
-use probe_wrapper::ListWrapper;
 use std::alloc::Global;
 use thiserror::Error;
 

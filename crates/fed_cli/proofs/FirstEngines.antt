@@ -13,7 +13,7 @@ use Rattle.med_session.specs.World.{World, empty_world}
 use Rattle.med_session.specs.declared.adding.AddFault.{AddFault}
 use Rattle.med_session.specs.declared.adding.AddFault.TheVariants as adding
 use Rattle.med_session.specs.declared.sources.SourceKind.{SourceKind}
-use Rattle.probe_wrapper.specs.Lists.{IsNewList}
+use Rattle.list_wrapper.specs.Lists.{IsNewList}
 use Rattle.fed_cli.specs.Demo.{demo_list, parts_columns, orders_columns}
 use Rattle.fed_cli.specs.Setup.{HasDemo, HasDemoBox, IsFirst, AddsNoDemo, BeginsNot}
 use Rattle.fed_cli.specs.Told.{added_of, attached_of}

@@ -3,7 +3,7 @@ use Rattle.std.specs.Prelude.{ℕ, pos, true, false, List, [], ◌∷◌, codes}
 use Rattle.med_value.specs.Datum.{NoValue, Whole, Chars, Logic, Tuple}
 use Rattle.med_value.specs.declared.value.ColType.TheVariants as types
 use Rattle.fdw_api.specs.Kinds.{Column}
-use Rattle.probe_wrapper.specs.Lists.{Listed}
+use Rattle.list_wrapper.specs.Lists.{Listed}
 
 -- CREATE FOREIGN TABLE parts (id integer NOT NULL, name text, qty integer, live boolean)
 abbrev pub parts_columns : List Column

@@ -5,8 +5,8 @@ use Rattle.std.specs.Io.KnownBytes.{Appends}
 use Rattle.med_exec.specs.Slots.{states}
 use Rattle.med_session.specs.Engine.{EachBox, IsAtRest}
 use Rattle.med_session.specs.declared.adding.Sources.{Sources}
-use Rattle.probe_wrapper.specs.ListBoxes.{box_of}
-use Rattle.probe_wrapper.specs.declared.list.ListWrapper.{ListWrapper}
+use Rattle.list_wrapper.specs.ListBoxes.{box_of}
+use Rattle.list_wrapper.specs.declared.list.ListWrapper.{ListWrapper}
 use Rattle.fed_cli.specs.Answered.{ServesProgram}
 use Rattle.fed_cli.specs.Setup.{BeginsNot}
 use Rattle.fed_cli.specs.Told.{Came, told_of, run_status, run_line, words_status, words_text}

@@ -8,7 +8,7 @@ use Rattle.med_session.specs.Engine.{Label}
 use Rattle.med_session.specs.World.{World, empty_world}
 use Rattle.med_session.specs.Attaching.{with_source, Attaches}
 use Rattle.med_session.specs.declared.sources.SourceKind.TheVariants as kinds
-use Rattle.probe_wrapper.specs.Lists.{IsNewList}
+use Rattle.list_wrapper.specs.Lists.{IsNewList}
 use Rattle.fed_cli.specs.Demo.{demo_list, parts_columns, orders_columns}
 use Rattle.fed_cli.specs.declared.told.RunFault.{RunFault}
 use Rattle.fed_cli.specs.declared.told.RunFault.TheVariants as faults

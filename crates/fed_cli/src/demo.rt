@@ -2,11 +2,11 @@
 ghost use Rattle.std.specs.Prelude.{◌≡◌, ◌∷◌, [], IfOk, map};
 ghost use Rattle.fdw_api.specs.Kinds.{column_of};
 ghost use Rattle.med_value.specs.Datum.{Whole, Chars, Logic, datum, tuple};
-ghost use Rattle.probe_wrapper.specs.Lists.{listed};
+ghost use Rattle.list_wrapper.specs.Lists.{listed};
 ghost use Rattle.fed_cli.specs.Demo as spec;
 
+use list_wrapper::ListTable;
 use med_value::{ColType, ColumnDef, NoMemory, Row, Value};
-use probe_wrapper::ListTable;
 use std::alloc::Global;
 
 fn text(alloc: Global, text: &str) -> Result<Value, NoMemory>

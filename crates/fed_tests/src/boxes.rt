@@ -1,6 +1,6 @@
 //! The engine over the demo list inside wrappers round a wrapper.
-ghost use Rattle.probe_wrapper.specs.Lists.{IsNewList};
-ghost use Rattle.probe_wrapper.specs.ListBoxes.{box_of};
+ghost use Rattle.list_wrapper.specs.Lists.{IsNewList};
+ghost use Rattle.list_wrapper.specs.ListBoxes.{box_of};
 ghost use Rattle.probe_wrapper.specs.Counting.{counted};
 ghost use Rattle.probe_wrapper.specs.Shy.{shied, asked_of};
 ghost use Rattle.probe_wrapper.specs.Failing.{failed};
@@ -16,9 +16,10 @@ use fed_cli::demo::demo_tables;
 use fed_cli::program::add_demo;
 use fed_cli::serving::serve_engine;
 use fed_cli::told::RunFault;
+use list_wrapper::ListWrapper;
 use med_session::Engine;
 use med_value::NoMemory;
-use probe_wrapper::{Counting, Failing, ListWrapper, Shuffled, Shy};
+use probe_wrapper::{Counting, Failing, Shuffled, Shy};
 use std::alloc::Global;
 use std::str::from_utf8;
 use std::test::Fail;

@@ -1,7 +1,7 @@
 //! Memory that is refused in mid-stream, over the demo list.
 ghost use Rattle.std.specs.Prelude.{IfOk};
 ghost use Rattle.med_session.specs.Engine.{shown, IsSound};
-ghost use Rattle.probe_wrapper.specs.ListBoxes.{box_of};
+ghost use Rattle.list_wrapper.specs.ListBoxes.{box_of};
 ghost use Rattle.session_wire.specs.Servers.{handler_of};
 
 use crate::expect::{same, same_text};
@@ -10,8 +10,8 @@ use fdw_api::interface::Counts;
 use fed_cli::program::serve;
 use fed_cli::told::{RunFault, told};
 use fed_cli::{StreamFault, serve_stream};
+use list_wrapper::ListWrapper;
 use med_session::{Engine, NoRoom, Request, Sid};
-use probe_wrapper::ListWrapper;
 use session_wire::{FeedFault, Handler, Server};
 use std::alloc::Global;
 use std::str::from_utf8;

@@ -1,13 +1,13 @@
 //! Engines, tables and sources that are refused.
 ghost use Rattle.med_session.specs.Engine.{shown, IsSound};
-ghost use Rattle.probe_wrapper.specs.ListBoxes.{box_of};
+ghost use Rattle.list_wrapper.specs.ListBoxes.{box_of};
 
 use crate::expect::same;
 use crate::served::{counts_after, demo_engine};
 use fed_cli::demo::parts_columns;
+use list_wrapper::ListWrapper;
 use med_session::{AddFault, Engine, NewFault, SourceKind};
 use med_value::{Cause, ColumnDef};
-use probe_wrapper::ListWrapper;
 use std::test::Fail;
 
 #[test]

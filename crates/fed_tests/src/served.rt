@@ -1,6 +1,6 @@
 //! A stored stream and its answer, and a server over an engine that has the demo list.
 ghost use Rattle.med_session.specs.Engine.{shown, IsSound};
-ghost use Rattle.probe_wrapper.specs.ListBoxes.{box_of};
+ghost use Rattle.list_wrapper.specs.ListBoxes.{box_of};
 ghost use Rattle.session_wire.specs.Servers.{handler_of};
 ghost use Rattle.std.specs.Prelude.{IfOk};
 
@@ -8,9 +8,9 @@ use fdw_api::interface::Counts;
 use fed_cli::demo::demo_tables;
 use fed_cli::program::add_demo;
 use fed_cli::told::RunFault;
+use list_wrapper::ListWrapper;
 use med_exec::ledger_at;
 use med_session::Engine;
-use probe_wrapper::ListWrapper;
 use session_wire::Server;
 use std::alloc::Global;
 

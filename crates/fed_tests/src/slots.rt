@@ -2,14 +2,14 @@
 ghost use Rattle.fdw_api.specs.State.{IsIdle};
 ghost use Rattle.med_exec.specs.Slots.{states, BoxAt};
 ghost use Rattle.med_session.specs.Engine.{TakesColumns};
-ghost use Rattle.probe_wrapper.specs.ListBoxes.{box_of};
+ghost use Rattle.list_wrapper.specs.ListBoxes.{box_of};
 ghost use Rattle.std.specs.Prelude.{IfOk};
 
 use crate::expect::same;
 use crate::served::counts_after;
 use fed_cli::demo::{demo_tables, parts_columns};
+use list_wrapper::ListWrapper;
 use med_exec::{bind_at, ledger_at, unbind_at};
-use probe_wrapper::ListWrapper;
 use std::alloc::Global;
 use std::test::Fail;
 

@@ -1,7 +1,7 @@
 //! A source that fails once, at each of its calls in turn.
 ghost use Rattle.med_session.specs.Engine.{shown, IsSound};
 ghost use Rattle.probe_wrapper.specs.Failing.{failed};
-ghost use Rattle.probe_wrapper.specs.ListBoxes.{box_of};
+ghost use Rattle.list_wrapper.specs.ListBoxes.{box_of};
 ghost use Rattle.std.specs.Prelude.{IfOk};
 
 use crate::expect::{same, same_text};
@@ -11,9 +11,10 @@ use fed_cli::demo::demo_tables;
 use fed_cli::program::add_demo;
 use fed_cli::told::RunFault;
 use fed_cli::{Ended, StreamFault, serve_stream};
+use list_wrapper::ListWrapper;
 use med_exec::ledger_at;
 use med_session::Engine;
-use probe_wrapper::{Failing, ListWrapper};
+use probe_wrapper::Failing;
 use session_wire::Server;
 use std::alloc::Global;
 use std::test::Fail;

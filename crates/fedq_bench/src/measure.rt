@@ -1,11 +1,11 @@
 //! One statement that is measured.
 ghost use Rattle.med_session.specs.Engine.{shown, IsSound};
-ghost use Rattle.probe_wrapper.specs.ListBoxes.{box_of};
+ghost use Rattle.list_wrapper.specs.ListBoxes.{box_of};
 
 use bench_tables::setup::{BenchFault, bench_engine};
 use bench_tables::words::{Asked, read_words};
+use list_wrapper::ListWrapper;
 use med_session::{Engine, Request, Sid};
-use probe_wrapper::ListWrapper;
 use std::alloc::{AllocError, Global};
 use std::io::Write;
 use std::rt::{Clock, Env};

@@ -5,10 +5,10 @@ use Rattle.fdw_api.specs.Scan.{Spec}
 use Rattle.fdw_api.specs.Kinds.{Column, Setting, Change}
 use Rattle.fdw_api.specs.State.{BoxState, Ledger, Staging}
 use Rattle.fdw_api.specs.Calls.{Leaves, Binds, Allows, Begins}
-use Rattle.fdw_api.specs.Writes.{RefusesChange, Closes, Outcome, ChangeCause}
+use Rattle.fdw_api.specs.Writes.{RefusesChange, Closes, Outcome}
 use Rattle.fdw_api.specs.declared.interface.Fault.{Fault}
-use Rattle.fdw_api.specs.declared.interface.Fault.TheVariants.{NoMemory, Source, Refused}
 use Rattle.probe_wrapper.specs.Counting.{counted}
+use Rattle.probe_wrapper.proofs.RoundLemmas.{change_cause}
 
 pub if_ok : {T E : Type 0} (P Q : T → Type 0) (r : Result T E) → ((x : T) → P x → Q x) → IfOk r P → IfOk r Q
 if_ok P Q (Ok x) f p = f x p
@@ -59,18 +59,13 @@ begins p s t n spec params q b = record {
 pub allows : (p : ℕ) (s : BoxState) (t : ℕ) (spec : Spec) → Allows s t spec → Allows (counted s p) t spec
 allows p s t spec a = record { bound = a.bound; is = a.is; allowed = a.allowed }
 
-cause : (p : ℕ) (s : BoxState) (staging : Staging) (change : Change) (fault : Fault) → ChangeCause s staging change fault → ChangeCause (counted s p) staging change fault
-cause p s staging change NoMemory c = tt
-cause p s staging change Source c = tt
-cause p s staging change (Refused x) c = c
-
 pub refuses_change : (p : ℕ) (s t : BoxState) (change : Change) (fault : Fault) → RefusesChange s change fault t → RefusesChange (counted s p) change fault (counted t p)
 refuses_change p s t change fault r = record {
   nature = r.nature;
   staging = r.staging;
   is_staged = r.is_staged;
   ledger = ap (λ (l : Ledger). record l { pulled = p }) r.ledger;
-  cause = cause p s r.staging change fault r.cause;
+  cause = change_cause s s.nature.skips (record s.ledger { pulled = p }) s.content.coming r.staging change fault r.cause;
   leaves = λ h. leaves s t p (r.leaves h);
 }
 

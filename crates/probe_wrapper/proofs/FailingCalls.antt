@@ -4,27 +4,22 @@ use Rattle.med_value.specs.Datum.{Tuple}
 use Rattle.fdw_api.specs.Scan.{Spec}
 use Rattle.fdw_api.specs.Kinds.{Column, Setting, Change}
 use Rattle.fdw_api.specs.State.{BoxState}
-use Rattle.fdw_api.specs.Calls.{Binds, RefusesBind, BindCause, Begins, RefusesBegin, IsOpen, Gives, Breaks, CanRescan, Rescans, Ends}
+use Rattle.fdw_api.specs.Calls.{Binds, RefusesBind, Begins, RefusesBegin, IsOpen, Gives, Breaks, Rescans, Ends}
 use Rattle.fdw_api.specs.Writes.{Opens, RefusesModify, CanChange, Stages, RefusesChange, Closes, RefusesClose}
 use Rattle.fdw_api.specs.declared.interface.Fault.{Fault}
-use Rattle.fdw_api.specs.declared.interface.Fault.TheVariants.{NoMemory, Source, Refused}
 use Rattle.fdw_api.specs.declared.interface.SourceRow.{SourceRow}
 use Rattle.probe_wrapper.specs.declared.failing.Failure.{Failure}
-use Rattle.probe_wrapper.specs.Failing.{after_call, failed, past_scan, past_write}
+use Rattle.probe_wrapper.specs.Failing.{after_call, failed, failed_ledger, past_scan, past_write}
 use Rattle.probe_wrapper.proofs.FailingLemmas as inner
+use Rattle.probe_wrapper.proofs.RoundLemmas.{bind_cause}
 
 pub binds_after : (f g : Failure) (s t : BoxState) (remote : List ℕ) (columns : List Column) (settings : List Setting) (n : ℕ) → g ≡ after_call f → Binds s remote columns settings n t → Binds (failed s f) remote columns settings n (failed t g)
 binds_after f g s t remote columns settings n e b = inner.moved (λ o. Binds o remote columns settings n (failed t g)) s f g e (inner.binds g s t remote columns settings n b)
 
-bind_cause : (g : Failure) (s : BoxState) (remote : List ℕ) (columns : List Column) (settings : List Setting) (fault : Fault) → BindCause s remote columns settings fault → BindCause (failed s g) remote columns settings fault
-bind_cause g s remote columns settings NoMemory c = tt
-bind_cause g s remote columns settings Source c = tt
-bind_cause g s remote columns settings (Refused x) c = c
-
 pub refuses_bind_after : (f g : Failure) (s t : BoxState) (remote : List ℕ) (columns : List Column) (settings : List Setting) (fault : Fault) → g ≡ after_call f → RefusesBind s remote columns settings fault t → RefusesBind (failed s f) remote columns settings fault (failed t g)
 refuses_bind_after f g s t remote columns settings fault e r =
     inner.moved (λ o. RefusesBind o remote columns settings fault (failed t g)) s f g e
-    (record { refuses = inner.refuses g s t fault r.refuses; cause = bind_cause g s remote columns settings fault r.cause })
+    (record { refuses = inner.refuses g s t fault r.refuses; cause = bind_cause s s.nature.skips (failed_ledger g s.ledger) s.content.coming remote columns settings fault r.cause })
 
 pub begins_after : (f g h : Failure) (s t : BoxState) (n : ℕ) (spec : Spec) (params : Tuple) (q : ℕ) → g ≡ after_call f → h ≡ past_scan g q → Begins s n spec params q t → Begins (failed s f) n spec params q (failed t h)
 begins_after f g h s t n spec params q e p b =
@@ -42,9 +37,6 @@ gives_after f g s t q row e o r = inner.moved (λ x. Gives x q row (failed t g))
 
 pub breaks_after : (f g : Failure) (s t : BoxState) (q : ℕ) (fault : Fault) → g ≡ after_call f → IsOpen (failed s f) q → Breaks s q fault t → Breaks (failed s f) q fault (failed t g)
 breaks_after f g s t q fault e o r = inner.moved (λ x. Breaks x q fault (failed t g)) s f g e (inner.breaks g s t q fault (inner.same_of f g q e (inner.open_in f s q o.0 o.1 o.2).1) r)
-
-pub rescan_open : (s : BoxState) (q : ℕ) (params : Tuple) → CanRescan s q params → IsOpen s q
-rescan_open s q params c = (c.scan, c.at, c.whole)
 
 pub rescans_after : (f g : Failure) (s t : BoxState) (q : ℕ) (params : Tuple) → g ≡ after_call f → IsOpen (failed s f) q → Rescans s q params t → Rescans (failed s f) q params (failed t g)
 rescans_after f g s t q params e o r = inner.moved (λ x. Rescans x q params (failed t g)) s f g e (inner.rescans g s t q params (inner.same_of f g q e (inner.open_in f s q o.0 o.1 o.2).1) r)

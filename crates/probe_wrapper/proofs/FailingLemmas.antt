@@ -1,6 +1,5 @@
 -- What is said of the inner wrapper is said of a failing one.
 use Rattle.std.proofs.Common.{◌≡◌, ◌≢◌, ℕ, ◌+◌, ◌-◌, ◌^◌, ◌≤◌, ◌⊎◌, Bool, true, false, ◌||◌, if◌then◌else◌, nat_eq, eqb, List, [], ◌∷◌, ◌++◌, Option, Some, None, IsSome, option_map, min, refl, ap, sym, ◌∙◌, subst, arith, rules, inl, inr}
-use Rattle.std.specs.Ordering.{nat_cmp}
 use Rattle.std.specs.FinMap as finmap
 use Rattle.std.specs.FinMap.{gets, nat_cmp-IsAntisymmetric}
 use Rattle.std.specs.Cmp.{nat_cmp_total}
@@ -10,31 +9,15 @@ use Rattle.fdw_api.specs.Scan.{Spec}
 use Rattle.fdw_api.specs.Kinds.{Column, Setting, Change}
 use Rattle.fdw_api.specs.State.{BoxState, Ledger, Staging, Scan as LiveScan, scan_of, table_of}
 use Rattle.fdw_api.specs.Calls.{bumped, faults_after, Leaves, NoScan, Allows, Binds, CanUnbind, Unbinds, Refuses, Begins, Gives, Breaks, CanRescan, Rescans, Ends, new_scan}
-use Rattle.fdw_api.specs.Writes.{CanModify, Opens, CanChange, Stages, RefusesChange, ChangeCause, CanClose, Closes, RefusesClose, CloseCause, Outcome}
+use Rattle.fdw_api.specs.Writes.{CanModify, Opens, CanChange, Stages, RefusesChange, CanClose, Closes, RefusesClose, Outcome}
 use Rattle.fdw_api.specs.declared.interface.Fault.{Fault}
 use Rattle.fdw_api.specs.declared.interface.Fault.TheVariants.{NoMemory, Source, Refused}
 use Rattle.fdw_api.specs.declared.interface.SourceRow.{SourceRow}
 use Rattle.probe_wrapper.specs.declared.failing.Failure.{Failure}
 use Rattle.probe_wrapper.specs.declared.failing.Failure.TheVariants.{Before, Scan, Write, Past}
 use Rattle.probe_wrapper.specs.Failing.{after_call, has_come, is_of, is_write, spoilt, live_of, staging_of, faults_of, failed_ledger, failed, past_scan, past_write}
-
-abbrev Scans : Type 0
-Scans = finmap.FinMap nat_cmp LiveScan
-
-put_same : (m : Scans) (k : ℕ) (v : LiveScan) → finmap.get (finmap.insert m k v) k ≡ Some v
-put_same m k v = grind (gets, rules)
-
-put_other : (m : Scans) (k q : ℕ) (v : LiveScan) → q ≢ k → finmap.get (finmap.insert m k v) q ≡ finmap.get m q
-put_other m k q v ne = grind (gets, rules)
-
-taken_same : (m : Scans) (k : ℕ) → finmap.get (finmap.remove m k) k ≡ None
-taken_same m k = grind (gets, rules)
-
-taken_other : (m : Scans) (k q : ℕ) → q ≢ k → finmap.get (finmap.remove m k) q ≡ finmap.get m q
-taken_other m k q ne = grind (gets, rules)
-
-some_inj : {A : Type 0} (a b : A) → Some a ≡ Some b → a ≡ b
-some_inj a b q = cc
+use Rattle.probe_wrapper.proofs.SeenScans.{Scans, put_same, put_other, taken_same, taken_other}
+use Rattle.probe_wrapper.proofs.RoundLemmas.{some_inj, change_cause, close_cause}
 
 or_false : (a b : Bool) → (a || b) ≡ false → a ≡ false
 or_false true b e = absurd cc
@@ -394,11 +377,6 @@ stages f s t change e r = record {
   leaves = λ h. leaves f f s t (r.leaves h);
 }
 
-change_cause : (f : Failure) (s : BoxState) (staging : Staging) (change : Change) (fault : Fault) → ChangeCause s staging change fault → ChangeCause (failed s f) staging change fault
-change_cause f s staging change NoMemory c = tt
-change_cause f s staging change Source c = tt
-change_cause f s staging change (Refused x) c = c
-
 pub refuses_change : (f : Failure) (s t : BoxState) (change : Change) (fault : Fault) → is_write f ≡ false → RefusesChange s change fault t → RefusesChange (failed s f) change fault (failed t f)
 refuses_change f s t change fault e r = record {
   nature = r.nature;
@@ -408,7 +386,7 @@ refuses_change f s t change fault e r = record {
       ap (failed_ledger f) r.ledger
       ∙ ap (λ (o : Option Staging). record (failed_ledger f s.ledger) { staged = o; faults = faults_of f (faults_after fault s.ledger.faults) }) (seen_staged f (record r.staging { broken = true }) e)
       ∙ ap (λ (n : ℕ). record (failed_ledger f s.ledger) { staged = Some (record r.staging { broken = true }); faults = n }) (tells f fault s.ledger.faults);
-  cause = change_cause f s r.staging change fault r.cause;
+  cause = change_cause s s.nature.skips (failed_ledger f s.ledger) s.content.coming r.staging change fault r.cause;
   leaves = λ h. leaves f f s t (r.leaves h);
 }
 
@@ -445,11 +423,6 @@ closes f s t keep c = record {
   content = λ h. outcome f s t keep c.staging (c.content h);
 }
 
-close_cause : (f : Failure) (s : BoxState) (staging : Staging) (fault : Fault) → CloseCause s staging fault → CloseCause (failed s f) (staging_of f staging) fault
-close_cause f s staging NoMemory c = tt
-close_cause f s staging Source c = tt
-close_cause f s staging (Refused x) c = c
-
 pub refuses_close : (f : Failure) (s t : BoxState) (keep : Bool) (fault : Fault) → RefusesClose s keep fault t → RefusesClose (failed s f) keep fault (failed t f)
 refuses_close f s t keep fault r = record {
   kept = r.kept;
@@ -457,7 +430,7 @@ refuses_close f s t keep fault r = record {
   staging = staging_of f r.staging;
   is_staged = ap (option_map (staging_of f)) r.is_staged;
   ledger = ap (failed_ledger f) r.ledger ∙ ap (λ (n : ℕ). record (failed_ledger f s.ledger) { staged = None; faults = n }) (tells f fault s.ledger.faults);
-  cause = close_cause f s r.staging fault r.cause;
+  cause = close_cause s s.nature.skips (failed_ledger f s.ledger) s.content.coming r.staging (is_write f || r.staging.broken) fault r.cause;
   leaves = λ h. leaves f f s t (r.leaves h);
 }
 

@@ -2,6 +2,7 @@
 use Rattle.std.proofs.Common.{◌≡◌, ◌≢◌, ℕ, ◌⊎◌, T, Bool, true, false, ◌&&◌, cond, eqb, List, [], ◌∷◌, length, map, Option, Some, None, option_map, refl, ap, sym, ◌∙◌, rules, inl, inr, Ordering}
 use Rattle.std.specs.declared.cmp.Ordering.TheVariants.{Less, Equal, Greater}
 use Rattle.std.specs.Ordering.{nat_cmp, is_eq, is_lt}
+use Rattle.std.specs.BTreeMap.{is_at}
 use Rattle.std.specs.FinMap as finmap
 use Rattle.std.specs.FinMap.{gets, find, is_sorted, nat_cmp-IsAntisymmetric, get-from_sorted, entries-from_sorted, get-entries, len-entries, entries_sorted}
 use Rattle.std.specs.FinMap.Entries.{below_all}
@@ -18,16 +19,20 @@ Scans = finmap.FinMap nat_cmp Scan
 abbrev pub See : Type 0
 See = ℕ → Scan → Scan
 
+-- another number is at another place
+pub apart : (k q : ℕ) → q ≢ k → is_at (nat_cmp k) q ≡ false
+apart k q ne = grind (gets, rules)
+
 pub put_same : (m : Scans) (k : ℕ) (v : Scan) → finmap.get (finmap.insert m k v) k ≡ Some v
 put_same m k v = grind (gets, rules)
 
 pub put_other : (m : Scans) (k q : ℕ) (v : Scan) → q ≢ k → finmap.get (finmap.insert m k v) q ≡ finmap.get m q
 put_other m k q v ne = grind (gets, rules)
 
-taken_same : (m : Scans) (k : ℕ) → finmap.get (finmap.remove m k) k ≡ None
+pub taken_same : (m : Scans) (k : ℕ) → finmap.get (finmap.remove m k) k ≡ None
 taken_same m k = grind (gets, rules)
 
-taken_other : (m : Scans) (k q : ℕ) → q ≢ k → finmap.get (finmap.remove m k) q ≡ finmap.get m q
+pub taken_other : (m : Scans) (k q : ℕ) → q ≢ k → finmap.get (finmap.remove m k) q ≡ finmap.get m q
 taken_other m k q ne = grind (gets, rules)
 
 equal_of : (o : Ordering) → is_eq o ≡ true → o ≡ Equal

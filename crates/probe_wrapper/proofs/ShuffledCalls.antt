@@ -5,19 +5,17 @@ use Rattle.med_value.specs.Datum.{Tuple}
 use Rattle.std.specs.List.{list_all}
 use Rattle.fdw_api.specs.Scan.{Spec, GivenRow, IsComing, params_fit, shown_fits}
 use Rattle.fdw_api.specs.Kinds.{Column, Setting, Change}
-use Rattle.fdw_api.specs.State.{BoxState, Nature, Ledger, Staging, Scan, IsIdle, is_honest, scan_of, table_of, rows_of}
-use Rattle.fdw_api.specs.Calls.{bumped, faults_after, row_of, Leaves, NoScan, Allows, Binds, RefusesBind, BindCause, CanUnbind, Unbinds, Refuses, Begins, RefusesBegin, IsOpen, Gives, Breaks, CanRescan, Rescans, Ends, new_scan}
-use Rattle.fdw_api.specs.Writes.{CanModify, Opens, RefusesModify, CanChange, Stages, RefusesChange, ChangeCause, CanClose, Closes, RefusesClose, CloseCause, Outcome}
+use Rattle.fdw_api.specs.State.{BoxState, Staging, Scan, IsIdle, scan_of, table_of, rows_of}
+use Rattle.fdw_api.specs.Calls.{bumped, faults_after, row_of, Leaves, NoScan, Allows, Binds, RefusesBind, CanUnbind, Unbinds, Refuses, Begins, RefusesBegin, IsOpen, Gives, Breaks, CanRescan, Rescans, Ends, new_scan}
+use Rattle.fdw_api.specs.Writes.{CanModify, Opens, RefusesModify, CanChange, Stages, RefusesChange, CanClose, Closes, RefusesClose, Outcome}
 use Rattle.fdw_api.specs.declared.interface.Fault.{Fault}
-use Rattle.fdw_api.specs.declared.interface.Fault.TheVariants.{NoMemory, Source, Refused}
+use Rattle.fdw_api.specs.declared.interface.Fault.TheVariants.{NoMemory}
 use Rattle.fdw_api.specs.declared.interface.SourceRow.{SourceRow}
 use Rattle.probe_wrapper.specs.Shuffled.{turned, Turn, unread, turned_rows, turned_coming, left_of, waiting_fits, seen_scan, seen, reordered_ledger, reordered, Becomes, Stays, is_unread, TakesFirst, TurnsRows, ReadsOut, StopsOut}
 use Rattle.probe_wrapper.specs.LiveScans.{round}
-use Rattle.probe_wrapper.proofs.SeenScans.{Scans, put_other, gone_again}
+use Rattle.probe_wrapper.proofs.SeenScans.{Scans}
+use Rattle.probe_wrapper.proofs.RoundLemmas.{some_inj, never, bind_cause, change_cause, close_cause, begun_and_ended}
 use Rattle.probe_wrapper.proofs.ShuffledLemmas.{Turns, seen_get, insert_of, change_of, remove_of, keep_of, turned_come, turned_pass, turned_length, turned_nil, nil_turned}
-
-some_inj : {A : Type 0} (a b : A) → Some a ≡ Some b → a ≡ b
-some_inj a b q = cc
 
 -- what is live or open outside is so inside
 some_seen : (t : Option Turn) (o : Option Scan) → IsSome (option_map (seen_scan t) o) → IsSome o
@@ -49,10 +47,6 @@ or_right false b e = e
 not_false : (a : Bool) → not a ≡ false → a ≡ true
 not_false true e = refl
 not_false false e = absurd cc
-
--- a wrapper round another does not promise to keep numbers
-never : {X : Type 0} → true ≡ false → X
-never e = absurd cc
 
 pub open_in : (s : BoxState) (turns : Turns) (p q : ℕ) (scan : Scan) → scan_of (reordered s turns p) q ≡ Some scan → scan.broken ≡ false → OpenInside s turns q scan
 open_in s turns p q scan at whole = go (turns q) (scan_of s q) refl refl (sym (seen_get turns s.ledger.live q) ∙ at)
@@ -127,13 +121,8 @@ refuses turns p s t fault r = record {
   leaves = λ h. leaves s t turns p (r.leaves h);
 }
 
-bind_cause : (turns : Turns) (p : ℕ) (s : BoxState) (remote : List ℕ) (columns : List Column) (settings : List Setting) (fault : Fault) → BindCause s remote columns settings fault → BindCause (reordered s turns p) remote columns settings fault
-bind_cause turns p s remote columns settings NoMemory c = tt
-bind_cause turns p s remote columns settings Source c = tt
-bind_cause turns p s remote columns settings (Refused x) c = c
-
 pub refuses_bind : (turns : Turns) (p : ℕ) (s t : BoxState) (remote : List ℕ) (columns : List Column) (settings : List Setting) (fault : Fault) → RefusesBind s remote columns settings fault t → RefusesBind (reordered s turns p) remote columns settings fault (reordered t turns p)
-refuses_bind turns p s t remote columns settings fault r = record { refuses = refuses turns p s t fault r.refuses; cause = bind_cause turns p s remote columns settings fault r.cause }
+refuses_bind turns p s t remote columns settings fault r = record { refuses = refuses turns p s t fault r.refuses; cause = bind_cause s true (reordered_ledger turns p s.ledger) (λ q. turned_coming (turns q) (s.content.coming q)) remote columns settings fault r.cause }
 
 no_scan_in : (turns : Turns) (p : ℕ) (s : BoxState) (t : ℕ) → NoScan (reordered s turns p) t → NoScan s t
 no_scan_in turns p s t none q scan e = λ same. none q (seen_scan (turns q) scan) (seen_get turns s.ledger.live q ∙ ap (option_map (seen_scan (turns q))) e) (table (turns q) ∙ same)
@@ -169,40 +158,23 @@ begins old new p s t n spec params q places b w = record {
 pub refuses_begin : (turns : Turns) (p : ℕ) (s t : BoxState) (fault : Fault) → RefusesBegin fault s t → RefusesBegin fault (reordered s turns p) (reordered t turns p)
 refuses_begin turns p s t fault r = record { refuses = refuses turns p s t fault r.refuses; cause = r.cause }
 
-not_this : (o : Option Scan) → o ≡ None → IsSome o → ⊥
-not_this None e s = absurd cc
-not_this (Some x) e s = absurd cc
-
-honest_on : (s t : BoxState) → t.nature ≡ s.nature → is_honest s → is_honest t
-honest_on s t e h = ap (λ (n : Nature). n.honest) e ∙ h
-
 -- begun inside, and ended since memory was refused
 pub begun_in_vain : (old new : Turns) (p : ℕ) (s mid t : BoxState) (n : ℕ) (spec : Spec) (params : Tuple) (q : ℕ) → Begins s n spec params q mid → Ends mid q t → Stays old new → RefusesBegin NoMemory (reordered s old p) (reordered t new p)
-begun_in_vain old new p s mid t n spec params q b e stays = record {
-  refuses = record {
-    nature = ap round (e.nature ∙ b.nature);
-    next = s.ledger.next + 1;
-    rises = omega arith;
-    stays = λ full. let r : s.ledger.next < 2 ^ 64 - 1 = subst (λ (x : ℕ). x < 2 ^ 64 - 1) b.is_next b.room in omega (arith, full, r);
-    keeps = λ e. never e;
-    ledger =
-        ap (reordered_ledger new p)
-        (e.ledger ∙ ap (λ (l : Ledger). record l { live = finmap.remove l.live q }) b.ledger
-        ∙ ap (λ (m : Scans). record s.ledger { live = m; next = q + 1 }) (gone_again s.ledger.live q (new_scan n b.bound.kinds spec params b.left) b.fresh)
-        ∙ ap (λ (x : ℕ). record s.ledger { next = x + 1 }) b.is_next)
-        ∙ ap (λ (m : Scans). record (reordered_ledger old p s.ledger) { live = m; next = s.ledger.next + 1 }) (keep_of old new s.ledger.live stays);
-    leaves = λ h. leaves_but s t old new p p (λ x o. stays x) (kept (b.leaves h) (e.leaves (honest_on s mid b.nature h)));
-  };
-  cause = tt;
-}
-  where
-    kept : Leaves (λ x. x ≡ q) (λ x. ⊥) (λ x. ⊥) s mid → Leaves (λ x. x ≡ q) (λ x. ⊥) (λ x. ⊥) mid t → Leaves (λ x. ⊥) (λ x. ⊥) (λ x. ⊥) s t
-    kept l k = record {
-      coming = λ x live other.
-          let ne : x ≢ q = λ same. not_this (scan_of s q) b.fresh (subst (λ (z : ℕ). IsSome (scan_of s z)) same live) in
-          k.coming x (subst IsSome (sym (ap (λ z. finmap.get z.live x) b.ledger ∙ put_other s.ledger.live q x (new_scan n b.bound.kinds spec params b.left) ne)) live) ne ∙ l.coming x live ne;
-      rows = λ u o. k.rows u o ∙ l.rows u o;
-      holdings = λ r o. k.holdings r o ∙ l.holdings r o;
+begun_in_vain old new p s mid t n spec params q b e stays =
+    let u = begun_and_ended s mid t n spec params q b e in
+    record {
+      refuses = record {
+        nature = ap round u.nature;
+        next = s.ledger.next + 1;
+        rises = omega arith;
+        stays = λ full. let r : s.ledger.next < 2 ^ 64 - 1 = u.room in omega (arith, full, r);
+        keeps = λ e. never e;
+        ledger =
+            ap (reordered_ledger new p) u.ledger
+            ∙ ap (λ (m : Scans). record (reordered_ledger old p s.ledger) { live = m; next = s.ledger.next + 1 }) (keep_of old new s.ledger.live stays);
+        leaves = λ h. leaves_but s t old new p p (λ x o. stays x) (u.leaves h);
+      };
+      cause = tt;
     }
 
 -- the rows that wait
@@ -417,18 +389,13 @@ can_change turns p s change c = record { staging = c.staging; is_staged = c.is_s
 pub stages : (turns : Turns) (p : ℕ) (s t : BoxState) (change : Change) → Stages s change t → Stages (reordered s turns p) change (reordered t turns p)
 stages turns p s t change r = record { nature = ap round r.nature; staging = r.staging; is_staged = r.is_staged; ledger = ap (reordered_ledger turns p) r.ledger; leaves = λ h. leaves s t turns p (r.leaves h) }
 
-change_cause : (turns : Turns) (p : ℕ) (s : BoxState) (staging : Staging) (change : Change) (fault : Fault) → ChangeCause s staging change fault → ChangeCause (reordered s turns p) staging change fault
-change_cause turns p s staging change NoMemory c = tt
-change_cause turns p s staging change Source c = tt
-change_cause turns p s staging change (Refused x) c = c
-
 pub refuses_change : (turns : Turns) (p : ℕ) (s t : BoxState) (change : Change) (fault : Fault) → RefusesChange s change fault t → RefusesChange (reordered s turns p) change fault (reordered t turns p)
 refuses_change turns p s t change fault r = record {
   nature = ap round r.nature;
   staging = r.staging;
   is_staged = r.is_staged;
   ledger = ap (reordered_ledger turns p) r.ledger;
-  cause = change_cause turns p s r.staging change fault r.cause;
+  cause = change_cause s true (reordered_ledger turns p s.ledger) (λ q. turned_coming (turns q) (s.content.coming q)) r.staging change fault r.cause;
   leaves = λ h. leaves s t turns p (r.leaves h);
 }
 
@@ -442,11 +409,6 @@ outcome turns p s t false staging l = leaves s t turns p l
 pub closes : (turns : Turns) (p : ℕ) (s t : BoxState) (keep : Bool) → Closes s keep t → Closes (reordered s turns p) keep (reordered t turns p)
 closes turns p s t keep c = record { nature = ap round c.nature; staging = c.staging; is_staged = c.is_staged; ledger = ap (reordered_ledger turns p) c.ledger; content = λ h. outcome turns p s t keep c.staging (c.content h) }
 
-close_cause : (turns : Turns) (p : ℕ) (s : BoxState) (staging : Staging) (fault : Fault) → CloseCause s staging fault → CloseCause (reordered s turns p) staging fault
-close_cause turns p s staging NoMemory c = tt
-close_cause turns p s staging Source c = tt
-close_cause turns p s staging (Refused x) c = c
-
 pub refuses_close : (turns : Turns) (p : ℕ) (s t : BoxState) (keep : Bool) (fault : Fault) → RefusesClose s keep fault t → RefusesClose (reordered s turns p) keep fault (reordered t turns p)
 refuses_close turns p s t keep fault r = record {
   kept = r.kept;
@@ -454,6 +416,6 @@ refuses_close turns p s t keep fault r = record {
   staging = r.staging;
   is_staged = r.is_staged;
   ledger = ap (reordered_ledger turns p) r.ledger;
-  cause = close_cause turns p s r.staging fault r.cause;
+  cause = close_cause s true (reordered_ledger turns p s.ledger) (λ q. turned_coming (turns q) (s.content.coming q)) r.staging r.staging.broken fault r.cause;
   leaves = λ h. leaves s t turns p (r.leaves h);
 }

@@ -13,7 +13,7 @@ use Rattle.fdw_api.specs.declared.interface.Fault.{Fault}
 use Rattle.fdw_api.specs.declared.interface.SourceRow.{SourceRow}
 use Rattle.probe_wrapper.specs.declared.shuffled.TurnedScan.{TurnedScan}
 use Rattle.probe_wrapper.specs.Shuffled.{turned, Turn, turn_of, turns_of, turned_coming, reordered, is_unread, IsRead, Becomes, Stays, TurnsRows, StopsOut, IsTurned}
-use Rattle.probe_wrapper.proofs.Maps.{apart}
+use Rattle.probe_wrapper.proofs.SeenScans.{apart}
 use Rattle.probe_wrapper.proofs.ShuffledLemmas.{turned_map}
 use Rattle.probe_wrapper.proofs.ShuffledCalls.{open_in, breaks_first, rescans}
 

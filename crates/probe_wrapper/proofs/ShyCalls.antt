@@ -7,20 +7,17 @@ use Rattle.fdw_api.specs.declared.scan.ScanSpec.{ScanSpec}
 use Rattle.fdw_api.specs.declared.scan.Agree.{Agree}
 use Rattle.fdw_api.specs.declared.scan.Agree.TheVariants.{Ignored}
 use Rattle.fdw_api.specs.Kinds.{Column, Setting, Change, Entry, Held, Holding, Known, Unknown}
-use Rattle.fdw_api.specs.State.{Bound, BoxState, Nature, Ledger, Staging, Scan, is_honest, table_of, scan_of}
-use Rattle.fdw_api.specs.Calls.{row_of, Picks, Leaves, NoScan, Allows, CanBind, Binds, RefusesBind, BindCause, CanUnbind, Unbinds, Refuses, bumped, faults_after, CanBegin, Begins, RefusesBegin, IsOpen, Gives, Breaks, CanRescan, Rescans, Ends, new_scan}
+use Rattle.fdw_api.specs.State.{Bound, BoxState, Staging, Scan, table_of}
+use Rattle.fdw_api.specs.Calls.{row_of, Picks, NoScan, Allows, CanBind, Binds, RefusesBind, CanUnbind, Unbinds, Refuses, bumped, faults_after, CanBegin, Begins, RefusesBegin, IsOpen, Gives, Breaks, CanRescan, Rescans, Ends, new_scan}
 use Rattle.fdw_api.specs.Writes.{CanModify, Opens, RefusesModify, CanChange, Stages, RefusesChange, ChangeCause, CanClose, Closes, RefusesClose, CloseCause, Outcome, HoldsImage, row_of_change_fits}
 use Rattle.fdw_api.specs.declared.interface.Fault.{Fault}
 use Rattle.fdw_api.specs.declared.interface.Fault.TheVariants.{NoMemory, Source, Refused}
 use Rattle.fdw_api.specs.declared.interface.SourceRow.{SourceRow}
 use Rattle.probe_wrapper.specs.Shy.{all_ignored, is_plain, is_bare, plain_is_ignored, Asked, new_ask, asked_scan, shied_bound, shied_ledger, shied, AsksNow, OffersNothing}
 use Rattle.probe_wrapper.specs.LiveScans.{round}
-use Rattle.probe_wrapper.proofs.SeenScans.{Scans, put_same, put_other, gone_again}
-use Rattle.probe_wrapper.proofs.ShyLemmas.{Asks, some_inj, inner_of, some_of, none_of_none, plain_is_whole, whole_fits, bare_is_whole, bare_offers, bare_fits, plain_come, seen_get, insert_of, change_of, remove_of, keep_of, open_in, seen_at, seen_left, left_seen, table_seen, seen_broken, seen_begun, leaves, tables_set}
-
--- a wrapper round another does not promise to keep numbers
-never : {X : Type 0} → true ≡ false → X
-never e = absurd cc
+use Rattle.probe_wrapper.proofs.SeenScans.{Scans, put_same}
+use Rattle.probe_wrapper.proofs.RoundLemmas.{some_inj, never, bind_cause, begun_and_ended}
+use Rattle.probe_wrapper.proofs.ShyLemmas.{Asks, inner_of, some_of, none_of_none, plain_is_whole, whole_fits, bare_is_whole, bare_offers, bare_fits, plain_come, seen_get, insert_of, change_of, remove_of, keep_of, open_in, seen_at, seen_left, left_seen, table_seen, seen_broken, seen_begun, leaves, tables_set}
 
 -- tables
 pub can_bind : (s : BoxState) (asked : Asks) (remote : List ℕ) (columns : List Column) (settings : List Setting) → CanBind (shied s asked) remote columns settings → CanBind s remote columns settings
@@ -57,13 +54,8 @@ refuses asked s t fault r = record {
   leaves = λ h. leaves s t asked asked (r.leaves h);
 }
 
-bind_cause : (asked : Asks) (s : BoxState) (remote : List ℕ) (columns : List Column) (settings : List Setting) (fault : Fault) → BindCause s remote columns settings fault → BindCause (shied s asked) remote columns settings fault
-bind_cause asked s remote columns settings NoMemory c = tt
-bind_cause asked s remote columns settings Source c = tt
-bind_cause asked s remote columns settings (Refused x) c = c
-
 pub refuses_bind : (asked : Asks) (s t : BoxState) (remote : List ℕ) (columns : List Column) (settings : List Setting) (fault : Fault) → RefusesBind s remote columns settings fault t → RefusesBind (shied s asked) remote columns settings fault (shied t asked)
-refuses_bind asked s t remote columns settings fault r = record { refuses = refuses asked s t fault r.refuses; cause = bind_cause asked s remote columns settings fault r.cause }
+refuses_bind asked s t remote columns settings fault r = record { refuses = refuses asked s t fault r.refuses; cause = bind_cause s true (shied_ledger asked s.ledger) s.content.coming remote columns settings fault r.cause }
 
 no_scan_in : (asked : Asks) (s : BoxState) (t : ℕ) → NoScan (shied s asked) t → NoScan s t
 no_scan_in asked s t none q scan e = λ same. none q (asked_scan (asked q) scan) (seen_at s asked q scan e) (table_seen (asked q) scan ∙ same)
@@ -150,40 +142,21 @@ not_begun s = record {
   cause = tt;
 }
 
-not_this : (o : Option Scan) → o ≡ None → IsSome o → ⊥
-not_this None e s = absurd cc
-not_this (Some x) e s = absurd cc
-
-honest_on : (s t : BoxState) → t.nature ≡ s.nature → is_honest s → is_honest t
-honest_on s t e h = ap (λ (n : Nature). n.honest) e ∙ h
-
 -- begun inside, and ended since memory was refused
 pub begun_in_vain : (old new : Asks) (s mid t : BoxState) (n : ℕ) (spec : Spec) (params : Tuple) (q : ℕ) → Begins s n spec params q mid → Ends mid q t → ((x : ℕ) → new x ≡ old x) → RefusesBegin NoMemory (shied s old) (shied t new)
-begun_in_vain old new s mid t n spec params q b e stays = record {
-  refuses = record {
-    nature = ap round (e.nature ∙ b.nature);
-    next = s.ledger.next + 1;
-    rises = omega arith;
-    stays = λ full. let r : s.ledger.next < 2 ^ 64 - 1 = subst (λ (x : ℕ). x < 2 ^ 64 - 1) b.is_next b.room in omega (arith, full, r);
-    keeps = λ e. never e;
-    ledger =
-        ap (shied_ledger new)
-        (e.ledger ∙ ap (λ (l : Ledger). record l { live = finmap.remove l.live q }) b.ledger
-        ∙ ap (λ (m : Scans). record s.ledger { live = m; next = q + 1 }) (gone_again s.ledger.live q (new_scan n b.bound.kinds spec params b.left) b.fresh)
-        ∙ ap (λ (x : ℕ). record s.ledger { next = x + 1 }) b.is_next)
-        ∙ keep_of old new (record s.ledger { next = s.ledger.next + 1 }) stays;
-    leaves = λ h. leaves s t old new (kept (b.leaves h) (e.leaves (honest_on s mid b.nature h)));
-  };
-  cause = tt;
-}
-  where
-    kept : Leaves (λ x. x ≡ q) (λ x. ⊥) (λ x. ⊥) s mid → Leaves (λ x. x ≡ q) (λ x. ⊥) (λ x. ⊥) mid t → Leaves (λ x. ⊥) (λ x. ⊥) (λ x. ⊥) s t
-    kept l k = record {
-      coming = λ x live other.
-          let ne : x ≢ q = λ same. not_this (scan_of s q) b.fresh (subst (λ (z : ℕ). IsSome (scan_of s z)) same live) in
-          k.coming x (subst IsSome (sym (ap (λ z. finmap.get z.live x) b.ledger ∙ put_other s.ledger.live q x (new_scan n b.bound.kinds spec params b.left) ne)) live) ne ∙ l.coming x live ne;
-      rows = λ u o. k.rows u o ∙ l.rows u o;
-      holdings = λ r o. k.holdings r o ∙ l.holdings r o;
+begun_in_vain old new s mid t n spec params q b e stays =
+    let u = begun_and_ended s mid t n spec params q b e in
+    record {
+      refuses = record {
+        nature = ap round u.nature;
+        next = s.ledger.next + 1;
+        rises = omega arith;
+        stays = λ full. let r : s.ledger.next < 2 ^ 64 - 1 = u.room in omega (arith, full, r);
+        keeps = λ e. never e;
+        ledger = ap (shied_ledger new) u.ledger ∙ keep_of old new (record s.ledger { next = s.ledger.next + 1 }) stays;
+        leaves = λ h. leaves s t old new (u.leaves h);
+      };
+      cause = tt;
     }
 
 -- rows are given

@@ -10,13 +10,11 @@ use Rattle.fdw_api.specs.declared.scan.Agree.TheVariants.{Ignored, Hint, Exact}
 use Rattle.fdw_api.specs.State.{Bound, BoxState, Ledger, Scan, IsIdle, scan_of, set_at}
 use Rattle.fdw_api.specs.Calls.{Leaves, IsOpen, new_scan}
 use Rattle.probe_wrapper.specs.Shy.{all_ignored, is_plain, has_none, is_bare, Asked, asked_scan, shied_bound, shied_ledger, shied}
+use Rattle.probe_wrapper.proofs.RoundLemmas.{some_inj}
 use Rattle.probe_wrapper.proofs.SeenScans.{Scans, See, each_get, each_len, each_insert, each_change, each_remove, each_keep}
 
 abbrev pub Asks : Type 0
 Asks = ℕ → Option Asked
-
-pub some_inj : {A : Type 0} (a b : A) → Some a ≡ Some b → a ≡ b
-some_inj a b q = cc
 
 -- the inner wrapper's table
 pub inner_of : (o : Option Bound) (b : Bound) → option_map shied_bound o ≡ Some b → (a : Bound) × (o ≡ Some a) × (shied_bound a ≡ b)

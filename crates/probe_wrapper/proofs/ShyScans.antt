@@ -12,8 +12,9 @@ use Rattle.fdw_api.specs.Calls.{IsOpen, Breaks, CanRescan, Rescans}
 use Rattle.fdw_api.specs.declared.interface.Fault.TheVariants.{NoMemory}
 use Rattle.probe_wrapper.specs.declared.shy.AskedScan.{AskedScan}
 use Rattle.probe_wrapper.specs.Shy.{Asked, ask_of, asked_of, shied, AsksNow}
-use Rattle.probe_wrapper.proofs.Maps.{apart}
-use Rattle.probe_wrapper.proofs.ShyLemmas.{some_inj, open_in}
+use Rattle.probe_wrapper.proofs.SeenScans.{apart}
+use Rattle.probe_wrapper.proofs.ShyLemmas.{open_in}
+use Rattle.probe_wrapper.proofs.RoundLemmas.{some_inj}
 use Rattle.probe_wrapper.proofs.ShyCalls.{rescans, spoils}
 
 pub asks_of : (old new : BTreeMap ℕ AskedScan) (number : ℕ) (scan : AskedScan) (ask : Asked) → ask_of scan ≡ ask → tree.Updates nat_cmp old new number (Some scan) → AsksNow (asked_of old) number ask (asked_of new)

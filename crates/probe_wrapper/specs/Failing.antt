@@ -65,7 +65,14 @@ faults_of Write n = bumped n
 faults_of Past n = bumped n
 
 abbrev pub failed_ledger : Failure → Ledger → Ledger
-failed_ledger f l = record { tables = l.tables; live = live_of f l.live; staged = option_map (staging_of f) l.staged; next = l.next; pulled = l.pulled; faults = faults_of f l.faults }
+failed_ledger f l = record {
+  tables = l.tables;
+  live = live_of f l.live;
+  staged = option_map (staging_of f) l.staged;
+  next = l.next;
+  pulled = l.pulled;
+  faults = faults_of f l.faults;
+}
 
 abbrev pub failed : BoxState → Failure → BoxState
 failed s f = record { nature = s.nature; ledger = failed_ledger f s.ledger; content = s.content }

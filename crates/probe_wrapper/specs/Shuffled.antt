@@ -71,7 +71,11 @@ abbrev pub reordered_content : (ℕ → Option Turn) → Content → Content
 reordered_content turns c = record c { coming = λ q. turned_coming (turns q) (c.coming q) }
 
 abbrev pub reordered : BoxState → (ℕ → Option Turn) → ℕ → BoxState
-reordered s turns pulled = record { nature = round s.nature; ledger = reordered_ledger turns pulled s.ledger; content = reordered_content turns s.content }
+reordered s turns pulled = record {
+  nature = round s.nature;
+  ledger = reordered_ledger turns pulled s.ledger;
+  content = reordered_content turns s.content;
+}
 
 -- the scan of one number becomes this, and all others are as before
 pub record Becomes (old : ℕ → Option Turn) (number : ℕ) (turn : Turn) (new : ℕ → Option Turn) : Type 0 where
@@ -89,7 +93,8 @@ IsRead o = (t : Turn) × (rows : List GivenRow) × (o ≡ Some t) × (t.waiting 
 -- of these rows the first is taken, and the rest wait; where there is none, no scan changes
 abbrev pub Hands : (ℕ → Option Turn) → ℕ → Turn → List GivenRow → Option SourceRow → (ℕ → Option Turn) → Type 0
 Hands old number turn rows None new = (rows ≡ []) × Stays old new
-Hands old number turn rows (Some row) new = (rest : List GivenRow) × (rows ≡ row_of row ∷ rest) × Becomes old number (record turn { waiting = Some rest }) new
+Hands old number turn rows (Some row) new =
+    (rest : List GivenRow) × (rows ≡ row_of row ∷ rest) × Becomes old number (record turn { waiting = Some rest }) new
 
 -- the first of the rows that wait is taken
 pub record TakesFirst (old : ℕ → Option Turn) (number : ℕ) (row : Option SourceRow) (new : ℕ → Option Turn) : Type 0 where
@@ -100,7 +105,8 @@ pub record TakesFirst (old : ℕ → Option Turn) (number : ℕ) (row : Option S
   pub hands : Hands old number turn rows row new
 
 -- rows of the inner scan are turned, and the first is taken
-pub record TurnsRows (old : ℕ → Option Turn) (number : ℕ) (inner : List GivenRow) (row : Option SourceRow) (new : ℕ → Option Turn) : Type 0 where
+pub record TurnsRows
+    (old : ℕ → Option Turn) (number : ℕ) (inner : List GivenRow) (row : Option SourceRow) (new : ℕ → Option Turn) : Type 0 where
   pub turn : Turn
   pub at : old number ≡ Some turn
   pub small : length inner < 2 ^ 64
@@ -129,7 +135,11 @@ pub record StopsOut (old : BoxState) (number : ℕ) (fault : Fault) (new : BoxSt
   pub left : ℕ
   pub pulled : ℕ
   pub broken : Bool
-  pub ledger : new.ledger ≡ record old.ledger { live = finmap.insert old.ledger.live number (record scan { left = left; broken = broken }); pulled = pulled; faults = faults_after fault old.ledger.faults }
+  pub ledger : new.ledger ≡ record old.ledger {
+    live = finmap.insert old.ledger.live number (record scan { left = left; broken = broken });
+    pulled = pulled;
+    faults = faults_after fault old.ledger.faults;
+  }
   pub leaves : is_honest old → LeavesOthers number old new
 
 -- a scan was begun, or begun again: it is the one of the next number of places, and gives the rows of the inner scan turned left so far

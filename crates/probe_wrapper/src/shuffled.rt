@@ -4,7 +4,8 @@ ghost use Rattle.std.specs.Ordering.{nat_cmp};
 ghost use Rattle.std.specs.BTreeMap as tree;
 ghost use Rattle.fdw_api.specs.State.{IsIdle};
 ghost use Rattle.fdw_api.specs.Calls.{row_of, IsOpen, Gives, Breaks, bumped};
-ghost use Rattle.probe_wrapper.specs.Shuffled.{turned, turns_of, reordered, is_unread, IsRead, TakesFirst, TurnsRows, ReadsOut, StopsOut};
+ghost use Rattle.probe_wrapper.specs.Shuffled.{turned, turns_of, reordered, box_of, is_unread};
+ghost use Rattle.probe_wrapper.specs.Shuffled.{IsRead, TakesFirst, TurnsRows, ReadsOut, StopsOut};
 
 use fdw_api::interface::{Counts, Fault, Opt, RowId, SourceRow, Ticket, Wrapper};
 use fdw_api::scan::{Agreement, Restriction, ScanSpec};
@@ -34,7 +35,8 @@ fn is_unread(scans: &BTreeMap<u64, TurnedScan>, number: u64) -> bool
 /// Marks a scan as good for `end` alone.
 fn spoil(scans: &mut BTreeMap<u64, TurnedScan>, number: u64)
     requires { IsSome (tree.get nat_cmp scans.old number) }
-    ensures { IfSome (tree.get nat_cmp scans.old number) (λ s. tree.Updates nat_cmp scans.old scans.new number (Some (record s { broken = true }))) }
+    ensures { IfSome (tree.get nat_cmp scans.old number)
+        (λ s. tree.Updates nat_cmp scans.old scans.new number (Some (record s { broken = true }))) }
 {
     match scans.get_mut(&number) {
         Some(scan) => scan.broken = true,
@@ -45,7 +47,8 @@ fn spoil(scans: &mut BTreeMap<u64, TurnedScan>, number: u64)
 /// Begins a scan again, turned by so many places.
 fn restart(scans: &mut BTreeMap<u64, TurnedScan>, number: u64, places: u64)
     requires { IsSome (tree.get nat_cmp scans.old number) }
-    ensures { IfSome (tree.get nat_cmp scans.old number) (λ s. tree.Updates nat_cmp scans.old scans.new number (Some (record s { places = places; rows = None }))) }
+    ensures { IfSome (tree.get nat_cmp scans.old number)
+        (λ s. tree.Updates nat_cmp scans.old scans.new number (Some (record s { places = places; rows = None }))) }
 {
     match scans.get_mut(&number) {
         Some(scan) => {
@@ -84,7 +87,8 @@ fn places_of(scans: &BTreeMap<u64, TurnedScan>, number: u64) -> u64
 /// Lets rows of a scan wait.
 fn keep_rows(scans: &mut BTreeMap<u64, TurnedScan>, number: u64, rows: VecDeque<SourceRow>)
     requires { IsSome (tree.get nat_cmp scans.old number) }
-    ensures { IfSome (tree.get nat_cmp scans.old number) (λ s. tree.Updates nat_cmp scans.old scans.new number (Some (record s { rows = Some rows }))) }
+    ensures { IfSome (tree.get nat_cmp scans.old number)
+        (λ s. tree.Updates nat_cmp scans.old scans.new number (Some (record s { rows = Some rows }))) }
 {
     match scans.get_mut(&number) {
         Some(scan) => scan.rows = Some(rows),
@@ -156,7 +160,8 @@ pub struct Shuffled<W> {
 impl<W: Wrapper> Shuffled<W> {
     /// A wrapper round this one, that has begun no scan yet. It takes no memory.
     pub fn new(alloc: Global, inner: W) -> Self
-        ensures shows { reordered (W.meaning result.inner) (turns_of result.scans) result.pulled ≡ reordered (W.meaning inner) (λ q. None) 0 }
+        ensures shows { reordered (W.meaning result.inner) (turns_of result.scans) result.pulled
+            ≡ reordered (W.meaning inner) (λ q. None) 0 }
         ensures turns { result.turns ≡ 0 }
         ensures idle { IsIdle (W.meaning inner) → IsIdle (reordered (W.meaning result.inner) (turns_of result.scans) result.pulled) }
     {
@@ -170,10 +175,10 @@ impl<W: Wrapper> Shuffled<W> {
 
     /// Reads a scan of the inner wrapper, turns its rows and gives the first.
     fn read_first(&mut self, alloc: Global, ticket: &Ticket) -> Result<Option<SourceRow>, Fault>
-        requires open { IsOpen (reordered (W.meaning self.old.inner) (turns_of self.old.scans) self.old.pulled) ticket.now.number }
+        requires open { IsOpen (box_of W.meaning self.old) ticket.now.number }
         requires unread { is_unread (turns_of self.old.scans ticket.now.number) ≡ true }
-        ensures ok { IfOk result (λ row. Gives (reordered (W.meaning self.old.inner) (turns_of self.old.scans) self.old.pulled) ticket.now.number row (reordered (W.meaning self.new.inner) (turns_of self.new.scans) self.new.pulled)) }
-        ensures err { IfErr result (λ fault. Breaks (reordered (W.meaning self.old.inner) (turns_of self.old.scans) self.old.pulled) ticket.now.number fault (reordered (W.meaning self.new.inner) (turns_of self.new.scans) self.new.pulled)) }
+        ensures ok { IfOk result (λ row. Gives (box_of W.meaning self.old) ticket.now.number row (box_of W.meaning self.new)) }
+        ensures err { IfErr result (λ fault. Breaks (box_of W.meaning self.old) ticket.now.number fault (box_of W.meaning self.new)) }
         ensures turns { self.new.turns ≡ self.old.turns }
     {
         match read_out(&mut self.inner, alloc, ticket) {
@@ -201,7 +206,7 @@ impl<W: Wrapper> Wrapper for Shuffled<W> {
     ghost use Rattle.fdw_api.specs.Calls.{CanBind, Binds, RefusesBind, CanUnbind, Unbinds, CanBegin, Begins, RefusesBegin, CanRescan, Rescans, Ends};
     ghost use Rattle.fdw_api.specs.Writes.{CanModify, Opens, RefusesModify, CanChange, Stages, RefusesChange, CanClose, Closes, RefusesClose};
     ghost use Rattle.probe_wrapper.specs.Entries.{Stays, Forgets};
-    ghost use Rattle.probe_wrapper.specs.Shuffled.{box_of, IsTurned};
+    ghost use Rattle.probe_wrapper.specs.Shuffled.{IsTurned};
 
     ghost meaning = { λ b. reordered (W.meaning b.inner) (turns_of b.scans) b.pulled };
 
@@ -248,10 +253,12 @@ impl<W: Wrapper> Wrapper for Shuffled<W> {
         spec: &ScanSpec,
         params: &[Value],
     ) -> Result<Ticket, Fault>
-        requires { CanBegin (reordered (W.meaning self.old.inner) (turns_of self.old.scans) self.old.pulled) t.number spec.now (map datum params.now) }
-        ensures ok { IfOk result (λ ticket. Begins (reordered (W.meaning self.old.inner) (turns_of self.old.scans) self.old.pulled) t.number (spec_of spec.now) (map datum params.now) ticket.number (reordered (W.meaning self.new.inner) (turns_of self.new.scans) self.new.pulled)) }
-        ensures err { IfErr result (λ fault. RefusesBegin fault (reordered (W.meaning self.old.inner) (turns_of self.old.scans) self.old.pulled) (reordered (W.meaning self.new.inner) (turns_of self.new.scans) self.new.pulled)) }
-        ensures turned { IfOk result (λ ticket. IsTurned self.old.turns ticket.number (W.meaning self.new.inner) (reordered (W.meaning self.new.inner) (turns_of self.new.scans) self.new.pulled) self.new.turns) }
+        requires { CanBegin (box_of W.meaning self.old) t.number spec.now (map datum params.now) }
+        ensures ok { IfOk result (λ ticket. Begins (box_of W.meaning self.old) t.number (spec_of spec.now) (map datum params.now)
+            ticket.number (box_of W.meaning self.new)) }
+        ensures err { IfErr result (λ fault. RefusesBegin fault (box_of W.meaning self.old) (box_of W.meaning self.new)) }
+        ensures turned { IfOk result (λ ticket. IsTurned self.old.turns ticket.number (W.meaning self.new.inner)
+            (box_of W.meaning self.new) self.new.turns) }
         ensures uncounted { OnErr result (self.new.turns ≡ self.old.turns) }
         ensures kept { OnErr result (Stays (turns_of self.old.scans) (turns_of self.new.scans)) }
     {
@@ -294,10 +301,12 @@ impl<W: Wrapper> Wrapper for Shuffled<W> {
 
     /// Begins a scan again, with the rows of the inner scan turned left by one place more than the scan begun before it.
     fn rescan(&mut self, alloc: Global, ticket: &Ticket, params: &[Value]) -> Result<(), Fault>
-        requires { CanRescan (reordered (W.meaning self.old.inner) (turns_of self.old.scans) self.old.pulled) ticket.now.number (map datum params.now) }
-        ensures ok { IfOk result (λ _. Rescans (reordered (W.meaning self.old.inner) (turns_of self.old.scans) self.old.pulled) ticket.now.number (map datum params.now) (reordered (W.meaning self.new.inner) (turns_of self.new.scans) self.new.pulled)) }
-        ensures err { IfErr result (λ fault. Breaks (reordered (W.meaning self.old.inner) (turns_of self.old.scans) self.old.pulled) ticket.now.number fault (reordered (W.meaning self.new.inner) (turns_of self.new.scans) self.new.pulled)) }
-        ensures turned { IfOk result (λ _. IsTurned self.old.turns ticket.now.number (W.meaning self.new.inner) (reordered (W.meaning self.new.inner) (turns_of self.new.scans) self.new.pulled) self.new.turns) }
+        requires { CanRescan (box_of W.meaning self.old) ticket.now.number (map datum params.now) }
+        ensures ok { IfOk result (λ _. Rescans (box_of W.meaning self.old) ticket.now.number (map datum params.now)
+            (box_of W.meaning self.new)) }
+        ensures err { IfErr result (λ fault. Breaks (box_of W.meaning self.old) ticket.now.number fault (box_of W.meaning self.new)) }
+        ensures turned { IfOk result (λ _. IsTurned self.old.turns ticket.now.number (W.meaning self.new.inner)
+            (box_of W.meaning self.new) self.new.turns) }
         ensures uncounted { OnErr result (self.new.turns ≡ self.old.turns) }
     {
         match self.inner.rescan(alloc, ticket, params) {

@@ -45,7 +45,8 @@ fn bare(alloc: Global, spec: &ScanSpec) -> Result<ScanSpec, NoMemory>
 /// Marks a scan as good for `end` alone.
 fn spoil(scans: &mut BTreeMap<u64, AskedScan>, number: u64)
     requires { IsSome (tree.get nat_cmp scans.old number) }
-    ensures { IfSome (tree.get nat_cmp scans.old number) (λ s. tree.Updates nat_cmp scans.old scans.new number (Some (record s { broken = true }))) }
+    ensures { IfSome (tree.get nat_cmp scans.old number)
+        (λ s. tree.Updates nat_cmp scans.old scans.new number (Some (record s { broken = true }))) }
 {
     match scans.get_mut(&number) {
         Some(scan) => scan.broken = true,
@@ -56,7 +57,8 @@ fn spoil(scans: &mut BTreeMap<u64, AskedScan>, number: u64)
 /// Notes that a scan began again with these parameters.
 fn ask_again(scans: &mut BTreeMap<u64, AskedScan>, number: u64, params: Vec<Value>)
     requires { IsSome (tree.get nat_cmp scans.old number) }
-    ensures { IfSome (tree.get nat_cmp scans.old number) (λ s. tree.Updates nat_cmp scans.old scans.new number (Some (record s { params = params }))) }
+    ensures { IfSome (tree.get nat_cmp scans.old number)
+        (λ s. tree.Updates nat_cmp scans.old scans.new number (Some (record s { params = params }))) }
 {
     match scans.get_mut(&number) {
         Some(scan) => scan.params = params,
@@ -129,9 +131,10 @@ impl<W: Wrapper> Wrapper for Shy<W> {
         spec: &ScanSpec,
         params: &[Value],
     ) -> Result<Ticket, Fault>
-        requires { CanBegin (shied (W.meaning self.old.inner) (asked_of self.old.scans)) t.number spec.now (map datum params.now) }
-        ensures ok { IfOk result (λ ticket. Begins (shied (W.meaning self.old.inner) (asked_of self.old.scans)) t.number (spec_of spec.now) (map datum params.now) ticket.number (shied (W.meaning self.new.inner) (asked_of self.new.scans))) }
-        ensures err { IfErr result (λ fault. RefusesBegin fault (shied (W.meaning self.old.inner) (asked_of self.old.scans)) (shied (W.meaning self.new.inner) (asked_of self.new.scans))) }
+        requires { CanBegin (box_of W.meaning self.old) t.number spec.now (map datum params.now) }
+        ensures ok { IfOk result (λ ticket. Begins (box_of W.meaning self.old) t.number (spec_of spec.now) (map datum params.now)
+            ticket.number (box_of W.meaning self.new)) }
+        ensures err { IfErr result (λ fault. RefusesBegin fault (box_of W.meaning self.old) (box_of W.meaning self.new)) }
         ensures bare { IfOk result (λ ticket. OffersNothing (W.meaning self.new.inner) ticket.number) }
         ensures columns { IfOk result (λ ticket. Wants (W.meaning self.new.inner) ticket.number spec.now.wanted.items) }
         ensures kept { OnErr result (Stays (asked_of self.old.scans) (asked_of self.new.scans)) }
@@ -154,9 +157,10 @@ impl<W: Wrapper> Wrapper for Shy<W> {
 
     /// Begins a scan again, for which the inner wrapper is given no parameter.
     fn rescan(&mut self, alloc: Global, ticket: &Ticket, params: &[Value]) -> Result<(), Fault>
-        requires { CanRescan (shied (W.meaning self.old.inner) (asked_of self.old.scans)) ticket.now.number (map datum params.now) }
-        ensures ok { IfOk result (λ _. Rescans (shied (W.meaning self.old.inner) (asked_of self.old.scans)) ticket.now.number (map datum params.now) (shied (W.meaning self.new.inner) (asked_of self.new.scans))) }
-        ensures err { IfErr result (λ fault. Breaks (shied (W.meaning self.old.inner) (asked_of self.old.scans)) ticket.now.number fault (shied (W.meaning self.new.inner) (asked_of self.new.scans))) }
+        requires { CanRescan (box_of W.meaning self.old) ticket.now.number (map datum params.now) }
+        ensures ok { IfOk result (λ _. Rescans (box_of W.meaning self.old) ticket.now.number (map datum params.now)
+            (box_of W.meaning self.new)) }
+        ensures err { IfErr result (λ fault. Breaks (box_of W.meaning self.old) ticket.now.number fault (box_of W.meaning self.new)) }
         ensures bare { IfOk result (λ _. OffersNothing (W.meaning self.new.inner) ticket.now.number) }
     {
         match copy_values(alloc, params) {

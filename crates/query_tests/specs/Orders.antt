@@ -3,7 +3,7 @@ use Rattle.std.specs.Prelude.{ℕ, pos, false, List, [], ◌∷◌, codes}
 use Rattle.med_value.specs.Datum.{Whole, Tuple}
 use Rattle.med_value.specs.declared.value.ColType.TheVariants.{Int}
 use Rattle.fdw_api.specs.Kinds.{Column}
-use Rattle.probe_wrapper.specs.Lists.{Listed}
+use Rattle.list_wrapper.specs.Lists.{Listed}
 
 abbrev pub whole : List ℕ → Column
 whole name = record { name = name; kind = Int; not_null = false }

@@ -5,13 +5,13 @@ ghost use Rattle.med_value.specs.declared.value.ColType.TheVariants.{Int};
 ghost use Rattle.fdw_api.specs.Kinds.{Column, column_of};
 ghost use Rattle.fdw_api.specs.State.{Bound, IsIdle, table_of};
 ghost use Rattle.fdw_api.specs.Writes.{CanModify};
-ghost use Rattle.probe_wrapper.specs.Lists.{listed, names_differ, rows_fit};
-ghost use Rattle.probe_wrapper.specs.ListBoxes.{box_of};
+ghost use Rattle.list_wrapper.specs.Lists.{listed, names_differ, rows_fit};
+ghost use Rattle.list_wrapper.specs.ListBoxes.{box_of};
 
 use fdw_api::interface::{Fault, Wrapper};
 use fdw_api::scan::ScanSpec;
+use list_wrapper::{ListTable, ListWrapper};
 use med_value::{ColType, ColumnDef, NoMemory, Row, TableNo, Value};
-use probe_wrapper::{ListTable, ListWrapper};
 use std::alloc::Global;
 
 const THREE_NUMBERS: [ColType; 3] = [ColType::Int, ColType::Int, ColType::Int];

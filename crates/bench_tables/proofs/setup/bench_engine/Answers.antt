@@ -3,8 +3,8 @@ use Rattle.fdw_api.specs.Kinds.{Column, column_of}
 use Rattle.med_session.specs.World.{empty_world}
 use Rattle.med_session.specs.Attaching.{Attaches, with_source}
 use Rattle.med_session.specs.declared.sources.SourceKind.TheVariants as kinds
-use Rattle.probe_wrapper.specs.ListBoxes.{box_of}
-use Rattle.probe_wrapper.specs.Lists.{Listed, IsNewList}
+use Rattle.list_wrapper.specs.ListBoxes.{box_of}
+use Rattle.list_wrapper.specs.Lists.{Listed, IsNewList}
 use Rattle.bench_tables.proofs.setup.bench_engine.Goals as goal
 
 -- the list is added, and the two tables are attached one after the other

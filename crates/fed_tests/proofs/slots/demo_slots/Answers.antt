@@ -1,6 +1,6 @@
 use Rattle.std.proofs.Common.{ap, slice_get}
 use Rattle.med_exec.specs.Slots.{states}
-use Rattle.probe_wrapper.specs.ListBoxes.{box_of}
+use Rattle.list_wrapper.specs.ListBoxes.{box_of}
 use Rattle.fed_tests.proofs.slots.demo_slots.Goals as goal
 
 pub returns : goal.returns

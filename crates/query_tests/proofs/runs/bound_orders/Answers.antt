@@ -1,6 +1,6 @@
 use Rattle.std.proofs.Common.{ap, slice_get}
 use Rattle.med_exec.specs.Slots.{states}
-use Rattle.probe_wrapper.specs.ListBoxes.{box_of}
+use Rattle.list_wrapper.specs.ListBoxes.{box_of}
 use Rattle.query_tests.proofs.Plans.{bound_table}
 use Rattle.query_tests.proofs.runs.bound_orders.Goals as goal
 

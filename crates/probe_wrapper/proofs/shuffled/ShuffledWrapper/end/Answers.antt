@@ -1,6 +1,6 @@
 use Rattle.std.proofs.Common.{ap, option_map}
 use Rattle.probe_wrapper.specs.Shuffled.{turns_of, turn_of}
-use Rattle.probe_wrapper.proofs.Maps.{apart}
+use Rattle.probe_wrapper.proofs.SeenScans.{apart}
 use Rattle.probe_wrapper.proofs.ShuffledCalls.{live_in, ends}
 use Rattle.probe_wrapper.proofs.shuffled.ShuffledWrapper.end.Goals as goal
 

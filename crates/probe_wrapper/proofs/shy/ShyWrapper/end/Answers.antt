@@ -1,6 +1,6 @@
 use Rattle.std.proofs.Common.{ap, option_map}
 use Rattle.probe_wrapper.specs.Shy.{asked_of, ask_of}
-use Rattle.probe_wrapper.proofs.Maps.{apart}
+use Rattle.probe_wrapper.proofs.SeenScans.{apart}
 use Rattle.probe_wrapper.proofs.ShyLemmas.{live_in}
 use Rattle.probe_wrapper.proofs.ShyCalls.{ends}
 use Rattle.probe_wrapper.proofs.shy.ShyWrapper.end.Goals as goal
