@@ -4,8 +4,7 @@ use Rattle.med_value.specs.Datum.{Tuple}
 use Rattle.med_value.specs.declared.order.Comparison.TheVariants.{Equal as Same, AtMost, AtLeast}
 use Rattle.tri_expr.specs.Outcome.{Is, compared, computed, negated, opposite as not_of, turned, settled, tested, strict, over}
 use Rattle.tri_expr.specs.Aggregate.{aggregated}
-use Rattle.tri_expr.specs.Meaning.{OnClass, argument, liked}
-use Rattle.tri_expr.specs.TreeMeaning.{tree_meaning, tree_meanings}
+use Rattle.tri_expr.specs.Meaning.{OnClass, argument, liked, tree_meaning, tree_meanings}
 use Rattle.tri_expr.specs.Tree.{Tree, column, parameter, literal, compare, compute, negate, all_of, some_of, opposite, asks, between, within, matches, parenthesised, count_rows, aggregate, Trees, none, part}
 use Rattle.tri_expr.specs.TreeParts.{bare, bare_all}
 

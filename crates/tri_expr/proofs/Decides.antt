@@ -3,13 +3,10 @@ use Rattle.std.proofs.Common.{◌≡◌, Bool, true, false, ◌&&◌, cond, List
 use Rattle.std.specs.List.{list_any, list_all}
 use Rattle.med_value.specs.Datum.{NoValue, Whole, Chars, Logic, Tuple}
 use Rattle.tri_expr.specs.declared.expr.Fault.{Fault}
-use Rattle.tri_expr.specs.declared.expr.Expr.{Expr}
 use Rattle.tri_expr.specs.Outcome.{Outcome, Is, Fails, truth, is_truth, first_fault, settled, over}
-use Rattle.tri_expr.specs.Meaning.{OnClass, meaning}
+use Rattle.tri_expr.specs.Meaning.{OnClass, tree_meaning, tree_meanings, means}
 use Rattle.tri_expr.specs.Verdict.{is_met, is_in}
-use Rattle.tri_expr.specs.Tree.{Tree, column, parameter, literal, compare, compute, negate, all_of, some_of, opposite, asks, between, within, matches, parenthesised, count_rows, aggregate, Trees, none, part, tree, conjunct_trees, conjuncts_of_all}
-use Rattle.tri_expr.specs.TreeMeaning.{tree_meaning, tree_meanings}
-use Rattle.tri_expr.proofs.Reading.{reads}
+use Rattle.tri_expr.specs.Tree.{Tree, column, parameter, literal, compare, compute, negate, all_of, some_of, opposite, asks, between, within, matches, parenthesised, count_rows, aggregate, Trees, none, part, conjunct_trees, conjuncts_of_all}
 
 and_assoc : (p q r : Bool) → ((p && q) && r) ≡ (p && (q && r))
 and_assoc true q r = refl
@@ -81,14 +78,14 @@ pub settled_in : (os : List Outcome) → is_met (settled false os) ≡ is_in os
 settled_in os = settled_by os (list_any (is_truth false) os) (first_fault os) refl refl
 
 abbrev parts_in : Tuple → List Tuple → List Tree → Bool
-parts_in ps c ts = is_in (over (map (tree_meaning ps) ts) c)
+parts_in ps c ts = is_in (over (means ps ts) c)
 
 parts_append : (ps : Tuple) (c : List Tuple) (ts us : List Tree) → parts_in ps c (ts ++ us) ≡ (parts_in ps c ts && parts_in ps c us)
 parts_append ps c ts us =
     ap (λ (l : List OnClass). is_in (over l c)) (map_append (tree_meaning ps) ts us) ∙ ap is_in (over_append (map (tree_meaning ps) ts) (map (tree_meaning ps) us) c) ∙ in_append (over (map (tree_meaning ps) ts) c) (over (map (tree_meaning ps) us) c)
 
 mutual
-  tree_decides : (ps : Tuple) (c : List Tuple) (t : Tree) → parts_in ps c (conjunct_trees t) ≡ is_met (tree_meaning ps t c)
+  pub tree_decides : (ps : Tuple) (c : List Tuple) (t : Tree) → parts_in ps c (conjunct_trees t) ≡ is_met (tree_meaning ps t c)
   tree_decides ps c (column at) = and_true _
   tree_decides ps c (parameter at) = and_true _
   tree_decides ps c (literal v) = and_true _
@@ -110,11 +107,3 @@ mutual
   trees_decide ps c none = refl
   trees_decide ps c (part t ts) =
       parts_append ps c (conjunct_trees t) (conjuncts_of_all ts) ∙ ap (λ b. b && parts_in ps c (conjuncts_of_all ts)) (tree_decides ps c t) ∙ ap (λ b. is_met (tree_meaning ps t c) && b) (trees_decide ps c ts)
-
-pub all_same : (ps : Tuple) (es : List Expr) → map (meaning ps) es ≡ map (tree_meaning ps) (map tree es)
-all_same ps [] = refl
-all_same ps (e ∷ es) = ap (λ (m : OnClass). m ∷ map (meaning ps) es) (sym (reads ps e)) ∙ ap (λ (l : List OnClass). tree_meaning ps (tree e) ∷ l) (all_same ps es)
-
-pub decided : (ps : Tuple) (c : List Tuple) (e : Expr) (parts : List Expr) → map tree parts ≡ conjunct_trees (tree e) → is_in (over (map (meaning ps) parts) c) ≡ is_met (meaning ps e c)
-decided ps c e parts h =
-    ap (λ (l : List OnClass). is_in (over l c)) (all_same ps parts) ∙ ap (λ (ts : List Tree). parts_in ps c ts) h ∙ tree_decides ps c (tree e) ∙ ap (λ (m : OnClass). is_met (m c)) (reads ps e)

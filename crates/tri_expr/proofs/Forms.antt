@@ -16,7 +16,7 @@ use Rattle.tri_expr.specs.declared.expr.Expr.TheOpen as layer
 use Rattle.tri_expr.specs.declared.expr.Expr.TheVariants as form
 use Rattle.tri_expr.specs.declared.expr.Expr.TheViews.{roll-Expr}
 use Rattle.tri_expr.specs.declared.expr.Expr.TheFolds.{fold-roll-Expr, map-Expr}
-use Rattle.tri_expr.specs.Meaning.{OnClass, meaning_step, meaning}
+use Rattle.tri_expr.specs.Meaning.{tree_meaning, meaning}
 use Rattle.tri_expr.specs.Tree.{Tree, column, parameter, literal, compare, compute, negate, all_of, some_of, opposite, asks, between, within, matches, parenthesised, count_rows, aggregate, trees, tree_step, tree}
 
 abbrev pub Part : Type 0
@@ -31,11 +31,11 @@ two f {y} {v} e h = ap (λ a. f a v) e ∙ ap (f y) h
 pub three : {A B C D : Type 0} (f : A → B → C → D) {x y : A} {v w : B} {p q : C} → x ≡ y → v ≡ w → p ≡ q → f x v p ≡ f y w q
 three f {y} {v} {w} {p} e h i = ap (λ a. f a v p) e ∙ ap (λ b. f y b p) h ∙ ap (f y w) i
 
-pub means : (ps : Tuple) (e : Expr) (y : layer.Expr-F Expr) (k : List Tuple) → e ≡ roll-Expr y → meaning ps e k ≡ meaning_step ps (map-Expr Expr OnClass (meaning ps) y) k
-means ps e y k is = ap (λ (d : Expr). meaning ps d k) is ∙ ap (λ (m : OnClass). m k) (fold-roll-Expr OnClass (meaning_step ps) y)
-
 pub treed : (e : Expr) (y : layer.Expr-F Expr) → e ≡ roll-Expr y → tree e ≡ tree_step (map-Expr Expr Tree tree y)
 treed e y is = ap tree is ∙ fold-roll-Expr Tree tree_step y
+
+pub means : (ps : Tuple) (e : Expr) (y : layer.Expr-F Expr) (k : List Tuple) → e ≡ roll-Expr y → meaning ps e k ≡ tree_meaning ps (tree_step (map-Expr Expr Tree tree y)) k
+means ps e y k is = ap (λ t. tree_meaning ps t k) (treed e y is)
 
 pub tree_column : (e : Expr) (at : ℕ) → e ≡ form.Column at → tree e ≡ column at
 tree_column e at is = treed e (layer.Column at) (is ∙ sym (form.rolls-Column at))

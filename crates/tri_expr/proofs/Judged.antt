@@ -2,9 +2,13 @@
 use Rattle.std.proofs.Common.{◌≡◌, Bool, true, false, cond, List, [], ◌∷◌, map, refl, sym, ap, Option, Some, None, ◌∙◌, Ok, Err, Contains, ◌<◌, ◌≤◌, ◌+◌, ℕ, drop, length, get_or, add-one, drop-cons, arith}
 use Rattle.std.specs.List.{list_any, list_all}
 use Rattle.std.proofs.lemmas.List.{drop_all}
-use Rattle.med_value.specs.Datum.{Datum, NoValue, Whole, Chars, Logic}
+use Rattle.std.proofs.lemmas.Simd.{map-map}
+use Rattle.med_value.specs.Datum.{Datum, NoValue, Whole, Chars, Logic, Tuple}
+use Rattle.tri_expr.specs.declared.expr.Expr.{Expr}
 use Rattle.tri_expr.specs.declared.expr.Fault.{Fault}
 use Rattle.tri_expr.specs.Outcome.{Outcome, Is, Fails, first_fault, or_else, truth, is_truth, settled, over}
+use Rattle.tri_expr.specs.Meaning.{OnClass, tree_meaning, meaning, means}
+use Rattle.tri_expr.specs.Tree.{tree}
 use Rattle.tri_expr.specs.Verdict.{is_refusal, is_met, fault_list, is_in, faults_told, Judges, or_some}
 use Rattle.tri_expr.proofs.Chain.{or_told, resumed}
 
@@ -146,3 +150,7 @@ at_end m c parts i told le inv = inv ∙ rw (drop_all i parts le) refl
 pub step_fault : {X C : Type 0} (m : X → C → Outcome) (c : C) (parts : List X) (i : ℕ) (d : X) (f : Fault) (told : Option Fault) → i < length parts → d ≡ get_or parts i d → m d c ≡ Fails f → judged (over (map m parts) c) ≡ resumed false told true (map hardened (over (map m (drop i parts)) c)) → judged (over (map m parts) c) ≡ resumed false (or_some told f) true (map hardened (over (map m (drop (i + 1) parts)) c))
 step_fault m c parts i d f None lt e is inv = step_told m c parts i d f lt e is inv
 step_fault m c parts i d f (Some g) lt e is inv = step_told_before m c parts i d f g lt e is inv
+
+-- expressions mean what their trees mean
+pub by_trees : (ps : Tuple) (es : List Expr) (k : List Tuple) → over (map (meaning ps) es) k ≡ over (means ps (map tree es)) k
+by_trees ps es k = ap (λ (fs : List OnClass). over fs k) (sym (map-map (tree_meaning ps) tree es))

@@ -8,10 +8,8 @@ pub mod Steady
 pub mod Reaching
 pub mod Texts
 pub mod Forms
-pub mod Reading
 pub mod Safe
 pub mod Decides
 pub mod SameVerdicts
-pub mod TreeRisk
 pub mod SameTrees
 pub mod BareTrees

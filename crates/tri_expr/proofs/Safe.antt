@@ -1,5 +1,5 @@
 -- An expression that is not risky has no fault.
-use Rattle.std.proofs.Common.{◌≡◌, ℕ, Bool, true, false, not, ◌||◌, cond, List, [], ◌∷◌, map, refl, ◌∙◌, subst, None}
+use Rattle.std.proofs.Common.{◌≡◌, ℕ, Bool, true, false, not, ◌||◌, cond, List, [], ◌∷◌, map, refl, None}
 use Rattle.std.specs.List.{list_any, list_all}
 use Rattle.med_value.specs.Datum.{Datum, NoValue, Whole, Chars, Logic, Tuple}
 use Rattle.tri_expr.specs.declared.expr.Expr.{Expr}
@@ -9,12 +9,10 @@ use Rattle.tri_expr.specs.declared.expr.SetFunction.{SetFunction}
 use Rattle.tri_expr.specs.declared.expr.SetFunction.TheVariants.{Count, Sum, Min, Max}
 use Rattle.tri_expr.specs.Outcome.{Outcome, Is, Fails, truth, compared_values, compared, opposite_value, turned, is_truth, first_fault, settled, strict, over}
 use Rattle.tri_expr.specs.Aggregate.{aggregated}
-use Rattle.tri_expr.specs.Meaning.{OnClass, argument, liked, meaning}
-use Rattle.tri_expr.specs.Risky.{is_sum, some_true, is_risky}
+use Rattle.tri_expr.specs.Meaning.{argument, liked, tree_meaning, tree_meanings, meaning}
+use Rattle.tri_expr.specs.TreeParts.{adds_up, is_risky_tree, has_risky_tree, is_risky}
 use Rattle.tri_expr.specs.Laws.{HasValue}
 use Rattle.tri_expr.specs.Tree.{Tree, column, parameter, literal, compare, compute, negate, all_of, some_of, opposite, asks, between, within, matches, parenthesised, count_rows, aggregate, Trees, none, part, tree}
-use Rattle.tri_expr.specs.TreeMeaning.{tree_meaning, tree_meanings}
-use Rattle.tri_expr.proofs.Reading.{reads, risk, risks, reads_risk}
 
 left_off : (p q : Bool) → (p || q) ≡ false → p ≡ false
 left_off true q e = e
@@ -89,18 +87,18 @@ of_liked pattern (Whole n) = tt
 of_liked pattern (Chars t) = tt
 of_liked pattern (Logic b) = tt
 
-of_aggregate : (function : SetFunction) (vs : List Datum) → is_sum function ≡ false → HasValue (aggregated function vs)
+of_aggregate : (function : SetFunction) (vs : List Datum) → adds_up function ≡ false → HasValue (aggregated function vs)
 of_aggregate Count vs e = tt
 of_aggregate Sum vs e = absurd cc
 of_aggregate Min vs e = tt
 of_aggregate Max vs e = tt
 
 mutual
-  tree_safe : (ps : Tuple) (t : Tree) (c : List Tuple) → risk t ≡ false → HasValue (tree_meaning ps t c)
+  tree_safe : (ps : Tuple) (t : Tree) (c : List Tuple) → is_risky_tree t ≡ false → HasValue (tree_meaning ps t c)
   tree_safe ps (column at) c e = tt
   tree_safe ps (parameter at) c e = tt
   tree_safe ps (literal v) c e = tt
-  tree_safe ps (compare op a b) c e = of_compared op (tree_meaning ps a c) (tree_meaning ps b c) (tree_safe ps a c (left_off (risk a) (risk b) e)) (tree_safe ps b c (right_off (risk a) (risk b) e))
+  tree_safe ps (compare op a b) c e = of_compared op (tree_meaning ps a c) (tree_meaning ps b c) (tree_safe ps a c (left_off (is_risky_tree a) (is_risky_tree b) e)) (tree_safe ps b c (right_off (is_risky_tree a) (is_risky_tree b) e))
   tree_safe ps (compute op a b) c e = absurd cc
   tree_safe ps (negate a) c e = absurd cc
   tree_safe ps (all_of ts) c e = of_settled false (over (tree_meanings ps ts) c) (trees_safe ps ts c e)
@@ -108,20 +106,20 @@ mutual
   tree_safe ps (opposite a) c e = of_strict opposite_value of_opposite (tree_meaning ps a c) (tree_safe ps a c e)
   tree_safe ps (asks t negative a) c e = of_strict _ (λ v. tt) (tree_meaning ps a c) (tree_safe ps a c e)
   tree_safe ps (between negative x a b) c e =
-      let hx = tree_safe ps x c (left_off (risk x) (risk a || risk b) e) in
-      let r = right_off (risk x) (risk a || risk b) e in
-      let both : AllValues (compared AtLeast (tree_meaning ps x c) (tree_meaning ps a c) ∷ compared AtMost (tree_meaning ps x c) (tree_meaning ps b c) ∷ []) = (of_compared AtLeast (tree_meaning ps x c) (tree_meaning ps a c) hx (tree_safe ps a c (left_off (risk a) (risk b) r)), (of_compared AtMost (tree_meaning ps x c) (tree_meaning ps b c) hx (tree_safe ps b c (right_off (risk a) (risk b) r)), tt)) in
+      let hx = tree_safe ps x c (left_off (is_risky_tree x) (is_risky_tree a || is_risky_tree b) e) in
+      let r = right_off (is_risky_tree x) (is_risky_tree a || is_risky_tree b) e in
+      let both : AllValues (compared AtLeast (tree_meaning ps x c) (tree_meaning ps a c) ∷ compared AtMost (tree_meaning ps x c) (tree_meaning ps b c) ∷ []) = (of_compared AtLeast (tree_meaning ps x c) (tree_meaning ps a c) hx (tree_safe ps a c (left_off (is_risky_tree a) (is_risky_tree b) r)), (of_compared AtMost (tree_meaning ps x c) (tree_meaning ps b c) hx (tree_safe ps b c (right_off (is_risky_tree a) (is_risky_tree b) r)), tt)) in
       of_turned negative _ (of_settled false (compared AtLeast (tree_meaning ps x c) (tree_meaning ps a c) ∷ compared AtMost (tree_meaning ps x c) (tree_meaning ps b c) ∷ []) both)
   tree_safe ps (within negative x ts) c e =
-      of_turned negative _ (of_strict _ (λ v. of_settled true _ (of_each v (over (tree_meanings ps ts) c) (trees_safe ps ts c (right_off (risk x) (some_true (risks ts)) e)))) (tree_meaning ps x c) (tree_safe ps x c (left_off (risk x) (some_true (risks ts)) e)))
+      of_turned negative _ (of_strict _ (λ v. of_settled true _ (of_each v (over (tree_meanings ps ts) c) (trees_safe ps ts c (right_off (is_risky_tree x) (has_risky_tree ts) e)))) (tree_meaning ps x c) (tree_safe ps x c (left_off (is_risky_tree x) (has_risky_tree ts) e)))
   tree_safe ps (matches negative x pattern) c e = of_turned negative _ (of_strict _ (of_liked pattern) (tree_meaning ps x c) (tree_safe ps x c e))
   tree_safe ps (parenthesised a) c e = tree_safe ps a c e
   tree_safe ps count_rows c e = tt
-  tree_safe ps (aggregate function a) c e = of_aggregate function (argument (tree_meaning ps a) c) (left_off (is_sum function) (risk a) e)
+  tree_safe ps (aggregate function a) c e = of_aggregate function (argument (tree_meaning ps a) c) (left_off (adds_up function) (is_risky_tree a) e)
 
-  trees_safe : (ps : Tuple) (ts : Trees) (c : List Tuple) → some_true (risks ts) ≡ false → AllValues (over (tree_meanings ps ts) c)
+  trees_safe : (ps : Tuple) (ts : Trees) (c : List Tuple) → has_risky_tree ts ≡ false → AllValues (over (tree_meanings ps ts) c)
   trees_safe ps none c e = tt
-  trees_safe ps (part t ts) c e = (tree_safe ps t c (left_off (risk t) (some_true (risks ts)) e), trees_safe ps ts c (right_off (risk t) (some_true (risks ts)) e))
+  trees_safe ps (part t ts) c e = (tree_safe ps t c (left_off (is_risky_tree t) (has_risky_tree ts) e), trees_safe ps ts c (right_off (is_risky_tree t) (has_risky_tree ts) e))
 
 pub safe : (ps : Tuple) (e : Expr) (c : List Tuple) → is_risky e ≡ false → HasValue (meaning ps e c)
-safe ps e c h = subst (λ (m : OnClass). HasValue (m c)) (reads ps e) (tree_safe ps (tree e) c (reads_risk e ∙ h))
+safe ps e c h = tree_safe ps (tree e) c h

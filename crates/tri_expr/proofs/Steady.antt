@@ -1,23 +1,22 @@
 -- What an expression means over a class does not depend on the order of the class's rows.
-use Rattle.std.proofs.Common.{◌≡◌, ℕ, pos, Bool, true, false, ◌&&◌, List, [], ◌∷◌, map, refl, sym, ap, ◌∙◌, subst}
+use Rattle.std.proofs.Common.{◌≡◌, ℕ, pos, Bool, true, false, ◌&&◌, List, [], ◌∷◌, map, refl, sym, ap, ◌∙◌}
 use Rattle.std.specs.List.{list_all}
 use Rattle.std.specs.declared.cmp.Ordering.{Ordering}
 use Rattle.std.specs.declared.cmp.Ordering.TheVariants.{Less, Equal, Greater}
 use Rattle.std.specs.Ordering.{is_eq}
-use Rattle.std.specs.String.{string_bytes}
 use Rattle.med_value.specs.Datum.{Datum, Whole, Tuple}
 use Rattle.med_value.specs.Order.{datum_cmp}
 use Rattle.med_value.proofs.OrderLemmas.{datum_cmp_equal}
 use Rattle.tri_expr.proofs.Choice.{datum_cmp_self}
 use Rattle.tri_expr.proofs.Shuffled.{Shuffled, back, mapped, as_long, all_kept, none_left}
 use Rattle.tri_expr.specs.declared.expr.Expr.{Expr}
-use Rattle.tri_expr.specs.declared.expr.Expr.TheOpen as layer
-use Rattle.tri_expr.specs.declared.expr.Expr.TheFolds.{fold-roll-Expr, ind-Expr, map-Expr}
 use Rattle.med_value.specs.declared.order.Comparison.TheVariants.{Equal as Same, AtMost, AtLeast}
-use Rattle.tri_expr.specs.Outcome.{Outcome, Is, compared, computed, negated, opposite, turned, settled, tested, strict, over, value_of}
-use Rattle.tri_expr.specs.Meaning.{OnClass, cell, has_cell, shared, argument, liked, meaning_step, meaning}
+use Rattle.tri_expr.specs.Outcome.{Outcome, Is, compared, computed, negated, opposite as not_of, turned, settled, tested, strict, over, value_of}
+use Rattle.tri_expr.specs.Meaning.{OnClass, cell, has_cell, shared, argument, liked, tree_meaning, tree_meanings, meaning}
+use Rattle.tri_expr.specs.Tree.{Tree, column, parameter, literal, compare, compute, negate, all_of, some_of, opposite, asks, between, within, matches, parenthesised, count_rows, aggregate, Trees, none, part, tree}
 use Rattle.tri_expr.proofs.Tallies.{aggregated_shuffled}
 use Rattle.tri_expr.proofs.Counted.{argument-map}
+use Rattle.tri_expr.proofs.Forms.{two, three}
 
 abbrev pub Steady : OnClass → Type 0
 Steady f = (c d : List Tuple) → Shuffled c d → f c ≡ f d
@@ -58,41 +57,30 @@ shared_steady at (r ∷ rs) (s ∷ ss) t = shared_by at r s rs ss _ _ refl refl 
 argument_steady : (f : OnClass) (c d : List Tuple) → Shuffled c d → Shuffled (argument f c) (argument f d)
 argument_steady f c d t = rw (argument-map f c, argument-map f d) (mapped (λ r. value_of (f (r ∷ []))) t)
 
-abbrev Such : Tuple → Type 0
-Such ps = (e : Expr) × Steady (meaning ps e)
+mutual
+  tree_steady : (ps : Tuple) (t : Tree) → Steady (tree_meaning ps t)
+  tree_steady ps (column at) c d s = ap Is (shared_steady at c d s)
+  tree_steady ps (parameter at) c d s = refl
+  tree_steady ps (literal v) c d s = refl
+  tree_steady ps (compare op a b) c d s = two (compared op) (tree_steady ps a c d s) (tree_steady ps b c d s)
+  tree_steady ps (compute op a b) c d s = two (computed op) (tree_steady ps a c d s) (tree_steady ps b c d s)
+  tree_steady ps (negate a) c d s = ap negated (tree_steady ps a c d s)
+  tree_steady ps (all_of ts) c d s = ap (settled false) (trees_steady ps ts c d s)
+  tree_steady ps (some_of ts) c d s = ap (settled true) (trees_steady ps ts c d s)
+  tree_steady ps (opposite a) c d s = ap not_of (tree_steady ps a c d s)
+  tree_steady ps (asks test negative a) c d s = ap (tested test negative) (tree_steady ps a c d s)
+  tree_steady ps (between negative x a b) c d s =
+      three (λ o p q. turned negative (settled false (compared AtLeast o p ∷ compared AtMost o q ∷ []))) (tree_steady ps x c d s) (tree_steady ps a c d s) (tree_steady ps b c d s)
+  tree_steady ps (within negative x ts) c d s =
+      two (λ o os. turned negative (strict (λ v. settled true (map (compared Same (Is v)) os)) o)) (tree_steady ps x c d s) (trees_steady ps ts c d s)
+  tree_steady ps (matches negative x pattern) c d s = ap (λ o. turned negative (strict (liked pattern) o)) (tree_steady ps x c d s)
+  tree_steady ps (parenthesised a) c d s = tree_steady ps a c d s
+  tree_steady ps count_rows c d s = ap (λ n. Is (Whole (pos n))) (as_long s)
+  tree_steady ps (aggregate function a) c d s = aggregated_shuffled function (argument_steady (tree_meaning ps a) c d s)
 
-abbrev inner : (ps : Tuple) → layer.Expr-F (Such ps) → layer.Expr-F OnClass
-inner ps y = map-Expr Expr OnClass (meaning ps) (map-Expr (Such ps) Expr (λ e. e.0) y)
-
-parts_steady : (ps : Tuple) (es : List (Such ps)) (c d : List Tuple) → Shuffled c d → over (map (meaning ps) (map (λ e. e.0) es)) c ≡ over (map (meaning ps) (map (λ e. e.0) es)) d
-parts_steady ps [] c d t = refl
-parts_steady ps (e ∷ es) c d t = ap (λ (o : Outcome). o ∷ over (map (meaning ps) (map (λ e. e.0) es)) c) (e.1 c d t) ∙ ap (λ (os : List Outcome). meaning ps e.0 d ∷ os) (parts_steady ps es c d t)
-
-layer_steady : (ps : Tuple) (y : layer.Expr-F (Such ps)) (c d : List Tuple) → Shuffled c d → meaning_step ps (inner ps y) c ≡ meaning_step ps (inner ps y) d
-layer_steady ps (layer.Column at) c d t = ap Is (shared_steady at c d t)
-layer_steady ps (layer.Parameter at) c d t = refl
-layer_steady ps (layer.Literal v) c d t = refl
-layer_steady ps (layer.Compare op a b) c d t = ap (λ o. compared op o (meaning ps b.value.0 c)) (a.value.1 c d t) ∙ ap (compared op (meaning ps a.value.0 d)) (b.value.1 c d t)
-layer_steady ps (layer.Compute op a b) c d t = ap (λ o. computed op o (meaning ps b.value.0 c)) (a.value.1 c d t) ∙ ap (computed op (meaning ps a.value.0 d)) (b.value.1 c d t)
-layer_steady ps (layer.Negate a) c d t = ap negated (a.value.1 c d t)
-layer_steady ps (layer.And parts) c d t = ap (settled false) (parts_steady ps parts.items c d t)
-layer_steady ps (layer.Or parts) c d t = ap (settled true) (parts_steady ps parts.items c d t)
-layer_steady ps (layer.Not a) c d t = ap opposite (a.value.1 c d t)
-layer_steady ps (layer.Is test negative a) c d t = ap (tested test negative) (a.value.1 c d t)
-layer_steady ps (layer.Between negative x a b) c d t =
-    ap (λ o. turned negative (settled false (compared AtLeast o (meaning ps a.value.0 c) ∷ compared AtMost o (meaning ps b.value.0 c) ∷ []))) (x.value.1 c d t)
-    ∙ ap (λ o. turned negative (settled false (compared AtLeast (meaning ps x.value.0 d) o ∷ compared AtMost (meaning ps x.value.0 d) (meaning ps b.value.0 c) ∷ []))) (a.value.1 c d t)
-    ∙ ap (λ o. turned negative (settled false (compared AtLeast (meaning ps x.value.0 d) (meaning ps a.value.0 d) ∷ compared AtMost (meaning ps x.value.0 d) o ∷ []))) (b.value.1 c d t)
-layer_steady ps (layer.In negative x parts) c d t =
-    ap (λ os. turned negative (strict (λ v. settled true (map (compared Same (Is v)) os)) (meaning ps x.value.0 c))) (parts_steady ps parts.items c d t)
-    ∙ ap (λ o. turned negative (strict (λ v. settled true (map (compared Same (Is v)) (over (map (meaning ps) (map (λ e. e.0) parts.items)) d))) o)) (x.value.1 c d t)
-layer_steady ps (layer.Like negative x pattern) c d t = ap (λ o. turned negative (strict (liked (string_bytes pattern)) o)) (x.value.1 c d t)
-layer_steady ps (layer.Parenthesised a) c d t = a.value.1 c d t
-layer_steady ps layer.CountRows c d t = ap (λ n. Is (Whole (pos n))) (as_long t)
-layer_steady ps (layer.Aggregate function a) c d t = aggregated_shuffled function (argument_steady (meaning ps a.value.0) c d t)
+  trees_steady : (ps : Tuple) (ts : Trees) (c d : List Tuple) → Shuffled c d → over (tree_meanings ps ts) c ≡ over (tree_meanings ps ts) d
+  trees_steady ps none c d s = refl
+  trees_steady ps (part t ts) c d s = two {B = List Outcome} (λ (o : Outcome) os. o ∷ os) (tree_steady ps t c d s) (trees_steady ps ts c d s)
 
 pub meaning_steady : (ps : Tuple) (e : Expr) → Steady (meaning ps e)
-meaning_steady ps = ind-Expr (λ e. Steady (meaning ps e)) (λ x y is. λ c d t.
-    let u = fold-roll-Expr OnClass (meaning_step ps) x in
-    let l : meaning_step ps (map-Expr Expr OnClass (meaning ps) x) c ≡ meaning_step ps (map-Expr Expr OnClass (meaning ps) x) d = subst (λ z. meaning_step ps (map-Expr Expr OnClass (meaning ps) z) c ≡ meaning_step ps (map-Expr Expr OnClass (meaning ps) z) d) is (layer_steady ps y c d t) in
-    ap (λ (m : OnClass). m c) u ∙ l ∙ sym (ap (λ (m : OnClass). m d) u))
+meaning_steady ps e = tree_steady ps (tree e)

@@ -6,10 +6,8 @@ pub mod Like
 pub mod Reach
 pub mod Aggregate
 pub mod Tally
-pub mod Meaning
 pub mod Verdict
-pub mod Risky
 pub mod Tree
+pub mod Meaning
 pub mod Laws
-pub mod TreeMeaning
 pub mod TreeParts

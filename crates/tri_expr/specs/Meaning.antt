@@ -1,18 +1,16 @@
--- The value of an expression over a class of rows; one row is the class of that row.
+-- The value of an expression over a class of rows, by its tree; one row is the class of that row.
 -- Each form has its value by cases, from the values of all its operands: nothing is skipped.
 use Rattle.std.specs.Prelude.{ℕ, Bool, true, false, if◌then◌else◌, List, [], ◌∷◌, map, slice_index_or, length, pos}
 use Rattle.std.specs.List.{list_all}
 use Rattle.std.specs.Ordering.{is_eq}
-use Rattle.std.specs.String.{string_bytes}
-use Rattle.med_value.specs.Datum.{Datum, NoValue, Whole, Chars, Tuple, datum}
+use Rattle.med_value.specs.Datum.{Datum, NoValue, Whole, Chars, Tuple}
 use Rattle.med_value.specs.Order.{datum_cmp}
-use Rattle.tri_expr.specs.declared.expr.Expr.{Expr}
-use Rattle.tri_expr.specs.declared.expr.Expr.TheOpen as layer
-use Rattle.tri_expr.specs.declared.expr.Expr.TheFolds.{fold-Expr}
 use Rattle.med_value.specs.declared.order.Comparison.TheVariants.{Equal, AtMost, AtLeast}
-use Rattle.tri_expr.specs.Outcome.{Outcome, Is, compared, computed, negated, opposite, turned, settled, tested, strict, truth, over, value_of}
+use Rattle.tri_expr.specs.declared.expr.Expr.{Expr}
+use Rattle.tri_expr.specs.Outcome.{Outcome, Is, compared, computed, negated, opposite as turned_over, turned, settled, tested, strict, truth, over, value_of}
 use Rattle.tri_expr.specs.Aggregate.{aggregated}
 use Rattle.tri_expr.specs.Like.{is_like}
+use Rattle.tri_expr.specs.Tree.{Tree, column, parameter, literal, compare, compute, negate, all_of, some_of, opposite, asks, between, within, matches, parenthesised, count_rows, aggregate, Trees, none, part, tree, trees}
 
 -- what an expression means over a class of rows
 abbrev pub OnClass : Type 0
@@ -41,26 +39,38 @@ abbrev pub argument : OnClass → List Tuple → List Datum
 argument f [] = []
 argument f (r ∷ rs) = value_of (f (r ∷ [])) ∷ argument f rs
 
--- one form, with the meaning of each operand in its place:
--- x BETWEEN a AND b is x >= a AND x <= b, and x IN (a, ..) is x = a OR ..
-abbrev pub meaning_step : Tuple → layer.Expr-F OnClass → OnClass
-meaning_step params (layer.Column at) c = Is (shared at c)
-meaning_step params (layer.Parameter at) c = Is (cell at params)
-meaning_step params (layer.Literal v) c = Is (datum v)
-meaning_step params (layer.Compare op a b) c = compared op (a.value c) (b.value c)
-meaning_step params (layer.Compute op a b) c = computed op (a.value c) (b.value c)
-meaning_step params (layer.Negate a) c = negated (a.value c)
-meaning_step params (layer.And parts) c = settled false (over parts.items c)
-meaning_step params (layer.Or parts) c = settled true (over parts.items c)
-meaning_step params (layer.Not a) c = opposite (a.value c)
-meaning_step params (layer.Is t negative a) c = tested t negative (a.value c)
-meaning_step params (layer.Between negative x a b) c = turned negative (settled false (compared AtLeast (x.value c) (a.value c) ∷ compared AtMost (x.value c) (b.value c) ∷ []))
-meaning_step params (layer.In negative x parts) c = turned negative (strict (λ v. settled true (map (compared Equal (Is v)) (over parts.items c))) (x.value c))
-meaning_step params (layer.Like negative x pattern) c = turned negative (strict (liked (string_bytes pattern)) (x.value c))
-meaning_step params (layer.Parenthesised a) c = a.value c
-meaning_step params layer.CountRows c = Is (Whole (pos (length c)))
-meaning_step params (layer.Aggregate function a) c = aggregated function (argument a.value c)
+-- what a tree means with these parameters: x BETWEEN a AND b is x >= a AND x <= b, and x IN (a, ..) is x = a OR ..
+abbrev mutual
+  pub tree_meaning : Tuple → Tree → OnClass
+  tree_meaning ps (column at) c = Is (shared at c)
+  tree_meaning ps (parameter at) c = Is (cell at ps)
+  tree_meaning ps (literal v) c = Is v
+  tree_meaning ps (compare op a b) c = compared op (tree_meaning ps a c) (tree_meaning ps b c)
+  tree_meaning ps (compute op a b) c = computed op (tree_meaning ps a c) (tree_meaning ps b c)
+  tree_meaning ps (negate a) c = negated (tree_meaning ps a c)
+  tree_meaning ps (all_of ts) c = settled false (over (tree_meanings ps ts) c)
+  tree_meaning ps (some_of ts) c = settled true (over (tree_meanings ps ts) c)
+  tree_meaning ps (opposite a) c = turned_over (tree_meaning ps a c)
+  tree_meaning ps (asks t negative a) c = tested t negative (tree_meaning ps a c)
+  tree_meaning ps (between negative x a b) c = turned negative (settled false (compared AtLeast (tree_meaning ps x c) (tree_meaning ps a c) ∷ compared AtMost (tree_meaning ps x c) (tree_meaning ps b c) ∷ []))
+  tree_meaning ps (within negative x ts) c = turned negative (strict (λ v. settled true (map (compared Equal (Is v)) (over (tree_meanings ps ts) c))) (tree_meaning ps x c))
+  tree_meaning ps (matches negative x pattern) c = turned negative (strict (liked pattern) (tree_meaning ps x c))
+  tree_meaning ps (parenthesised a) c = tree_meaning ps a c
+  tree_meaning ps count_rows c = Is (Whole (pos (length c)))
+  tree_meaning ps (aggregate function a) c = aggregated function (argument (tree_meaning ps a) c)
 
--- the value of a whole expression with these parameters
+  pub tree_meanings : Tuple → Trees → List OnClass
+  tree_meanings ps none = []
+  tree_meanings ps (part t ts) = tree_meaning ps t ∷ tree_meanings ps ts
+
+-- an expression means what its tree means
 abbrev pub meaning : Tuple → Expr → OnClass
-meaning params = fold-Expr OnClass (meaning_step params)
+meaning params e = tree_meaning params (tree e)
+
+-- the meanings of trees, one by one
+abbrev pub means : Tuple → List Tree → List OnClass
+means params ts = map (tree_meaning params) ts
+
+-- the meanings of the parts of a form, whose trees it holds
+abbrev pub parts_mean : Tuple → List Expr → List OnClass
+parts_mean params es = tree_meanings params (trees (map tree es))

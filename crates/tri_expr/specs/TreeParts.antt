@@ -1,5 +1,6 @@
 -- What is read off the tree of an expression: whether it is risky, the arguments of its aggregates, and whether two are the same.
 use Rattle.std.specs.Prelude.{Bool, true, false, not, ◌&&◌, ◌||◌, ◌==◌, bytes_eq, List, [], ◌∷◌, ◌++◌}
+use Rattle.tri_expr.specs.declared.expr.Expr.{Expr}
 use Rattle.tri_expr.specs.declared.expr.SetFunction.{SetFunction}
 use Rattle.tri_expr.specs.declared.expr.SetFunction.TheVariants.{Count, Sum, Min, Max}
 use Rattle.tri_expr.specs.declared.expr.Operation.{Operation}
@@ -9,8 +10,9 @@ use Rattle.med_value.specs.declared.order.Comparison.TheVariants.{Equal, Apart, 
 use Rattle.tri_expr.specs.declared.expr.Test.{Test}
 use Rattle.tri_expr.specs.declared.expr.Test.TheVariants as tests
 use Rattle.tri_expr.specs.Lists.{datum_eq}
-use Rattle.tri_expr.specs.Tree.{Tree, Trees, column, parameter, literal, compare, compute, negate, all_of, some_of, opposite, asks, between, within, matches, parenthesised, count_rows, aggregate, none, part}
+use Rattle.tri_expr.specs.Tree.{Tree, Trees, column, parameter, literal, compare, compute, negate, all_of, some_of, opposite, asks, between, within, matches, parenthesised, count_rows, aggregate, none, part, tree}
 
+-- a sum may be out of range; count, min and max may not
 abbrev pub adds_up : SetFunction → Bool
 adds_up Sum = true
 adds_up Count = false
@@ -37,6 +39,10 @@ abbrev mutual
   pub has_risky_tree : Trees → Bool
   has_risky_tree none = false
   has_risky_tree (part t ts) = is_risky_tree t || has_risky_tree ts
+
+-- whether an expression may fault
+abbrev pub is_risky : Expr → Bool
+is_risky e = is_risky_tree (tree e)
 
 -- the argument of each aggregate, from the left on; an aggregate in an argument has its own
 abbrev mutual

@@ -6,7 +6,8 @@ ghost use Rattle.med_value.specs.Datum.{datum, tuple, NoValue, Whole};
 ghost use Rattle.tri_expr.specs.Outcome.{Answers, Outcome, Is, settled, strict, compared, over};
 ghost use Rattle.tri_expr.specs.View.{seen, Sees};
 ghost use Rattle.tri_expr.specs.Aggregate.{aggregated};
-ghost use Rattle.tri_expr.specs.Meaning.{liked, meaning, shared as spec_shared, has_cell as spec_has_cell, argument as spec_argument};
+ghost use Rattle.tri_expr.specs.Meaning.{liked, meaning, parts_mean};
+ghost use Rattle.tri_expr.specs.Meaning.{shared as spec_shared, has_cell as spec_has_cell, argument as spec_argument};
 ghost use Rattle.med_value.specs.declared.order.Comparison.TheVariants.{Equal};
 
 use crate::arithmetic::{compute, negate};
@@ -105,7 +106,8 @@ fn look_in<'a>(
     class: &'a [Row],
     params: &'a [Value],
 ) -> Result<View<'a>, Fault>
-    ensures { Sees result (settled true (map (compared Equal (Is (seen v.entry))) (over (map (meaning (map datum params.now)) parts.now) (map tuple class.now)))) }
+    ensures { Sees result (settled true (map (compared Equal (Is (seen v.entry)))
+        (over (parts_mean (map datum params.now) parts.now) (map tuple class.now)))) }
 {
     let mut told: Option<Fault> = None;
     let mut all = true;
@@ -143,7 +145,7 @@ fn look_chain<'a>(
     class: &'a [Row],
     params: &'a [Value],
 ) -> Result<View<'a>, Fault>
-    ensures { Sees result (settled by (over (map (meaning (map datum params.now)) parts.now) (map tuple class.now))) }
+    ensures { Sees result (settled by (over (parts_mean (map datum params.now) parts.now) (map tuple class.now))) }
 {
     let mut told: Option<Fault> = None;
     let mut all = true;

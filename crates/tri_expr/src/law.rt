@@ -1,6 +1,6 @@
 //! Laws of expressions. A call does nothing: its contract is the law, proved for all expressions, rows and parameters.
 
-ghost use Rattle.std.specs.Prelude.{◌≡◌, ℕ, List, ◌∷◌, map, false, true};
+ghost use Rattle.std.specs.Prelude.{◌≡◌, ℕ, List, ◌∷◌, false, true};
 ghost use Rattle.std.specs.List.{list_all};
 ghost use Rattle.std.specs.List.Sorted.{IsPermutation};
 ghost use Rattle.med_value.specs.Datum.{Datum, Tuple};
@@ -8,12 +8,10 @@ ghost use Rattle.tri_expr.specs.declared.expr.Expr.{Expr as Written};
 ghost use Rattle.tri_expr.specs.declared.expr.SetFunction.{SetFunction as AnyFunction};
 ghost use Rattle.tri_expr.specs.Outcome.{Outcome, over};
 ghost use Rattle.tri_expr.specs.Aggregate.{aggregated};
-ghost use Rattle.tri_expr.specs.Meaning.{meaning, has_cell, shared};
+ghost use Rattle.tri_expr.specs.Meaning.{tree_meaning, meaning, means, has_cell, shared};
 ghost use Rattle.tri_expr.specs.Verdict.{is_met, is_in};
-ghost use Rattle.tri_expr.specs.Risky.{is_risky};
-ghost use Rattle.tri_expr.specs.Tree.{Tree, tree, conjunct_trees};
-ghost use Rattle.tri_expr.specs.TreeParts.{is_risky_tree, bare, same_tree};
-ghost use Rattle.tri_expr.specs.TreeMeaning.{tree_meaning};
+ghost use Rattle.tri_expr.specs.Tree.{Tree, conjunct_trees};
+ghost use Rattle.tri_expr.specs.TreeParts.{is_risky, bare, same_tree};
 ghost use Rattle.tri_expr.specs.Laws.{HasValue, IgnoresOrder, SameVerdict};
 
 /// An aggregate does not depend on the order in which the values come: so a sum is out of range exactly where its exact
@@ -27,21 +25,6 @@ pub fn values_ignore_order()
     ensures { (params : Tuple) (e : Written) → IgnoresOrder (meaning params e) }
 {}
 
-/// An expression has the value that its tree has.
-pub fn expression_means_its_tree()
-    ensures { (params : Tuple) (e : Written) → tree_meaning params (tree e) ≡ meaning params e }
-{}
-
-/// Expressions of one tree have the same value over every class of rows: so a copy means what its source means.
-pub fn same_tree_has_same_value()
-    ensures { (params : Tuple) (a b : Written) → tree a ≡ tree b → meaning params a ≡ meaning params b }
-{}
-
-/// Expressions of one tree are equally risky.
-pub fn same_tree_has_same_risk()
-    ensures { (a b : Written) → tree a ≡ tree b → is_risky a ≡ is_risky b }
-{}
-
 /// An expression that is not risky has a value over every class of rows.
 pub fn safe_expression_has_value()
     ensures { (params : Tuple) (e : Written) (class : List Tuple) → is_risky e ≡ false → HasValue (meaning params e class) }
@@ -49,7 +32,8 @@ pub fn safe_expression_has_value()
 
 /// All conjuncts of a condition are true exactly where the condition is true.
 pub fn conjuncts_decide_condition()
-    ensures { (params : Tuple) (class : List Tuple) (e : Written) (parts : List Written) → map tree parts ≡ conjunct_trees (tree e) → is_in (over (map (meaning params) parts) class) ≡ is_met (meaning params e class) }
+    ensures { (params : Tuple) (class : List Tuple) (t : Tree) →
+        is_in (over (means params (conjunct_trees t)) class) ≡ is_met (tree_meaning params t class) }
 {}
 
 /// The verdict of conjuncts does not depend on their order.
@@ -60,11 +44,6 @@ pub fn verdicts_ignore_order()
 /// A column over rows that all have one value there is that value: so over a group a key reads its value.
 pub fn column_over_equal_rows_is_their_value()
     ensures { (at : ℕ) (v : Datum) (row : Tuple) (rows : List Tuple) → list_all (has_cell at v) (row ∷ rows) ≡ true → shared at (row ∷ rows) ≡ v }
-{}
-
-/// An expression is as risky as its tree.
-pub fn risk_is_of_tree()
-    ensures { (e : Written) → is_risky_tree (tree e) ≡ is_risky e }
 {}
 
 /// Two expressions are the same exactly where they are one tree without their parentheses.

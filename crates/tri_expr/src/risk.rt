@@ -1,13 +1,14 @@
 //! Which expressions may fault.
 
 ghost use Rattle.std.specs.Prelude.{◌≡◌, map};
-ghost use Rattle.tri_expr.specs.Risky as spec;
+ghost use Rattle.tri_expr.specs.Tree.{tree, trees};
+ghost use Rattle.tri_expr.specs.TreeParts as spec;
 
 use crate::expr::{Expr, SetFunction};
 
 #[cycle(is_risky)]
 fn some_risky(parts: &[Expr]) -> bool
-    ensures { result ≡ spec.some_true (map spec.is_risky parts.now) }
+    ensures { result ≡ spec.has_risky_tree (trees (map tree parts.now)) }
 {
     for part in parts {
         if is_risky(part) {

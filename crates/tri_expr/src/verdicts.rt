@@ -4,7 +4,8 @@ ghost use Rattle.std.specs.Prelude.{◌≡◌, map, [], ◌∷◌};
 ghost use Rattle.med_value.specs.Datum.{datum, tuple};
 ghost use Rattle.tri_expr.specs.Outcome.{Is, over};
 ghost use Rattle.tri_expr.specs.View.{seen};
-ghost use Rattle.tri_expr.specs.Meaning.{meaning};
+ghost use Rattle.tri_expr.specs.Meaning.{means};
+ghost use Rattle.tri_expr.specs.Tree.{tree};
 ghost use Rattle.tri_expr.specs.Verdict.{AnswersVerdict, Judges, is_met, or_some};
 
 use crate::evaluate::look;
@@ -30,7 +31,7 @@ fn first_told(told: Option<Fault>, fault: Fault) -> Option<Fault>
 
 #[tactic(auto, using(crate::proofs::Judged::judged_step, crate::proofs::Judged::step_met, crate::proofs::Judged::step_fault, crate::proofs::Judged::verdict_false, crate::proofs::Judged::verdict_true, crate::proofs::Judged::verdict_told))]
 fn judge(conjuncts: &[Expr], class: &[Row], params: &[Value]) -> Result<bool, Fault>
-    ensures { Judges result (over (map (meaning (map datum params.now)) conjuncts.now) (map tuple class.now)) }
+    ensures { Judges result (over (means (map datum params.now) (map tree conjuncts.now)) (map tuple class.now)) }
 {
     let mut told: Option<Fault> = None;
     for conjunct in conjuncts {
@@ -51,7 +52,7 @@ fn judge(conjuncts: &[Expr], class: &[Row], params: &[Value]) -> Result<bool, Fa
 
 /// The verdict of conjuncts over a class of rows: what `verdict` is over one row.
 pub fn verdict_class(conjuncts: &[Expr], class: &[Row], params: &[Value]) -> Result<bool, EvalFault>
-    ensures { AnswersVerdict result (over (map (meaning (map datum params.now)) conjuncts.now) (map tuple class.now)) }
+    ensures { AnswersVerdict result (over (means (map datum params.now) (map tree conjuncts.now)) (map tuple class.now)) }
 {
     match judge(conjuncts, class, params) {
         Ok(verdict) => Ok(verdict),
@@ -64,7 +65,7 @@ pub fn verdict_class(conjuncts: &[Expr], class: &[Row], params: &[Value]) -> Res
 /// faults the others have; else `OutOfRange` or `ZeroDivisor` where one of them has that fault; else `Ok(true)`.
 /// It asks for no memory.
 pub fn verdict(conjuncts: &[Expr], row: &Row, params: &[Value]) -> Result<bool, EvalFault>
-    ensures { AnswersVerdict result (over (map (meaning (map datum params.now)) conjuncts.now) (tuple row.now ∷ [])) }
+    ensures { AnswersVerdict result (over (means (map datum params.now) (map tree conjuncts.now)) (tuple row.now ∷ [])) }
 {
     verdict_class(conjuncts, slice::from_ref(row), params)
 }

@@ -1,4 +1,4 @@
-use Rattle.std.proofs.Common.{◌≡◌, map, ap, refl, sym, ◌∙◌}
+use Rattle.std.proofs.Common.{map, ap, refl, sym, ◌∙◌}
 use Rattle.tri_expr.specs.declared.expr.Expr.TheVariants as form
 use Rattle.tri_expr.specs.Tree.{compare, compute, all_of, some_of, opposite, asks, between, within, parenthesised, aggregate, trees, tree}
 use Rattle.tri_expr.proofs.Forms.{two, three, tree_compare, tree_compute, tree_and, tree_or, tree_not, tree_is, tree_between, tree_in, tree_parenthesised, tree_aggregate}

@@ -3,7 +3,7 @@ use Rattle.med_value.specs.Datum.{datum, tuple}
 use Rattle.tri_expr.specs.View.{Sees}
 use Rattle.tri_expr.specs.Outcome.{Is, compared, computed, negated, opposite, turned, settled, tested, over}
 use Rattle.tri_expr.specs.Aggregate.{aggregated}
-use Rattle.tri_expr.specs.Meaning.{meaning, argument}
+use Rattle.tri_expr.specs.Meaning.{meaning, parts_mean, argument}
 use Rattle.med_value.specs.declared.order.Comparison.TheVariants.{AtLeast, AtMost}
 use Rattle.tri_expr.specs.declared.expr.Expr.TheVariants as form
 use Rattle.tri_expr.specs.declared.expr.Expr.TheOpen as layer
@@ -58,14 +58,14 @@ pub look-returns-in-And : goal.look-returns-in-And
 look-returns-in-And t c =
     let ps = map datum c.args.params.now in
     let k = map tuple c.args.class.now in
-    let w : settled false (over (map (meaning ps) c.deref-in-And.result.now) k) ≡ meaning ps c.args.e.now k = rw (c.deref-in-And.ensures.value) (sym (means ps c.args.e.now (layer.And c.in-And.parts) k (c.in-And.is ∙ sym (form.rolls-And c.in-And.parts)))) in
+    let w : settled false (over (parts_mean ps c.deref-in-And.result.now) k) ≡ meaning ps c.args.e.now k = rw (c.deref-in-And.ensures.value) (sym (means ps c.args.e.now (layer.And c.in-And.parts) k (c.in-And.is ∙ sym (form.rolls-And c.in-And.parts)))) in
     subst (Sees c.look_chain.result) w (c.look_chain.ensures)
 
 pub look-returns-in-Or : goal.look-returns-in-Or
 look-returns-in-Or t c =
     let ps = map datum c.args.params.now in
     let k = map tuple c.args.class.now in
-    let w : settled true (over (map (meaning ps) c.deref-in-Or.result.now) k) ≡ meaning ps c.args.e.now k = rw (c.deref-in-Or.ensures.value) (sym (means ps c.args.e.now (layer.Or c.in-Or.parts) k (c.in-Or.is ∙ sym (form.rolls-Or c.in-Or.parts)))) in
+    let w : settled true (over (parts_mean ps c.deref-in-Or.result.now) k) ≡ meaning ps c.args.e.now k = rw (c.deref-in-Or.ensures.value) (sym (means ps c.args.e.now (layer.Or c.in-Or.parts) k (c.in-Or.is ∙ sym (form.rolls-Or c.in-Or.parts)))) in
     subst (Sees c.look_chain-in-Or.result) w (c.look_chain-in-Or.ensures)
 
 pub look-returns-in-Not : goal.look-returns-in-Not
