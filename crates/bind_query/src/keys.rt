@@ -8,7 +8,7 @@ ghost use Rattle.bind_names.specs.Scope.{scope_of};
 ghost use Rattle.bind_names.specs.Telling.{Gives, Passes};
 ghost use Rattle.bind_query.specs.Shown.{shown};
 ghost use Rattle.bind_query.specs.Steps.{IsFirst};
-ghost use Rattle.med_query.specs.Select.{direction_of};
+ghost use Rattle.med_query.specs.Form.{direction_of};
 ghost use Rattle.med_syntax.specs.ExprView.{expr_tree};
 ghost use Rattle.med_syntax.specs.QueryView.{key_tree, group_tree};
 ghost use Rattle.std.specs.List.{list_any, list_all};

@@ -4,7 +4,7 @@ use Rattle.std.specs.List.{list_any, list_all}
 use Rattle.med_value.specs.declared.cause.Cause.{Cause}
 use Rattle.tri_expr.specs.Tree.{Tree}
 use Rattle.tri_expr.specs.TreeParts.{is_risky_tree}
-use Rattle.med_query.specs.Form.{JoinForm, cross_form, inner_form, left_form, ChainForm, all_safe_trees, is_safe_join_form}
+use Rattle.med_query.specs.Form.{JoinForm, cross_form, inner_form, left_form, ChainForm, all_safe_trees, is_safe_join_form, are_safe_chains}
 use Rattle.bind_types.specs.Typing.{unless, no_aggregate, no_risk, join_causes, chain_causes}
 
 pub on_ok : {X : Type 0} (r : Result X Cause) (P : Type 0) → P → OnOk r P
@@ -43,6 +43,6 @@ safe_joins : (js : List JoinForm) → flat_map join_causes js ≡ [] → list_al
 safe_joins [] h = refl
 safe_joins (j ∷ js) h = both _ _ (safe_join j (left_empty (join_causes j) (flat_map join_causes js) h)) (safe_joins js (right_empty (join_causes j) (flat_map join_causes js) h))
 
-pub safe_chains : (cs : List ChainForm) → flat_map chain_causes cs ≡ [] → list_all (λ (c : ChainForm). list_all is_safe_join_form c.joins) cs ≡ true
+pub safe_chains : (cs : List ChainForm) → flat_map chain_causes cs ≡ [] → are_safe_chains cs ≡ true
 safe_chains [] h = refl
 safe_chains (c ∷ cs) h = both _ _ (safe_joins c.joins (left_empty (chain_causes c) (flat_map chain_causes cs) h)) (safe_chains cs (right_empty (chain_causes c) (flat_map chain_causes cs) h))

@@ -5,17 +5,15 @@ ghost use Rattle.bind_names.specs.Aggregates as spec;
 ghost use Rattle.bind_names.specs.Telling.{Passes};
 ghost use Rattle.bind_types.specs.Typing as causes;
 ghost use Rattle.med_query.specs.Form.{join_form, chain_form, group_form, form_of};
-ghost use Rattle.med_query.specs.Select.{is_safe_chain};
-ghost use Rattle.std.specs.List.{list_any, list_all};
+ghost use Rattle.med_query.specs.Select.{is_safe_from};
+ghost use Rattle.std.specs.List.{list_any};
 ghost use Rattle.std.specs.Prelude.{◌≡◌, ◌++◌, map, flat_map, option_map, true, IfOk, OnOk};
 ghost use Rattle.tri_expr.specs.Tree.{tree, trees};
 ghost use Rattle.tri_expr.specs.TreeParts.{is_risky_tree};
 
 use bind_names::has_aggregate;
-use med_query::law::safe_forms_are_safe;
 use med_query::{Grouping, Join, JoinChain, Select};
 use med_value::Cause;
-use tri_expr::law::risk_is_of_tree;
 use tri_expr::{Expr, is_risky};
 
 // Whether an expression has no one meaning over groups with these keys, given that it is a column.
@@ -92,19 +90,11 @@ fn any_ungrouped(keys: &[usize], shown: &[Expr]) -> bool
     false
 }
 
-// Whether an expression may fault, as its tree says.
-fn may_fault(e: &Expr) -> bool
-    ensures { result ≡ is_risky_tree (tree e.now) }
-{
-    risk_is_of_tree();
-    is_risky(e)
-}
-
 fn any_fault(conjuncts: &[Expr]) -> bool
     ensures { result ≡ list_any is_risky_tree (map tree conjuncts.now) }
 {
     for conjunct in conjuncts {
-        if may_fault(conjunct) {
+        if is_risky(conjunct) {
             return true;
         }
     }
@@ -215,9 +205,8 @@ fn check_rest(select: &Select) -> Result<(), Cause>
 pub fn check_form(select: &Select) -> Result<(), Cause>
     ensures passes { Passes (causes.form_causes (form_of select.now)) result }
     // No ON of a query that passes may fault.
-    ensures safe { OnOk result (list_all is_safe_chain select.now.from.items ≡ true) }
+    ensures safe { OnOk result (is_safe_from select.now.from.items ≡ true) }
 {
-    safe_forms_are_safe();
     check_from(select.from.as_slice())?;
     check_rest(select)
 }

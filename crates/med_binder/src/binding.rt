@@ -6,11 +6,10 @@ ghost use Rattle.bind_names.specs.Scope.{table_shape};
 ghost use Rattle.bind_types.specs.Typing.{select_type_causes, statement_type_causes};
 ghost use Rattle.med_binder.specs.Binding.{IsBound, IsEntryOf, BindCauses, BindTells};
 ghost use Rattle.med_binder.specs.Turns.{Binds};
-ghost use Rattle.med_query.specs.Select.{is_safe_chain};
+ghost use Rattle.med_query.specs.Select.{is_safe_from};
 ghost use Rattle.med_syntax.specs.QueryTree.{select};
 ghost use Rattle.med_syntax.specs.QueryView.{select_tree, statement_tree};
 ghost use Rattle.med_value.specs.declared.cause.Cause.{Cause};
-ghost use Rattle.std.specs.List.{list_all};
 ghost use Rattle.std.specs.Prelude.{◌≡◌, ◌⊎◌, map, true, All, IfOk, OnOk, IfErr};
 
 use crate::bound::Bound;
@@ -25,7 +24,7 @@ use std::alloc::Global;
 fn bind_select(alloc: Global, select: &Select, tables: &[AttachedTable]) -> Result<Bound, Cause>
     ensures binds { Binds (select_name_causes (map table_shape tables.now) (select_tree select.now)) (select_type_causes (map table_shape tables.now) (select_tree select.now)) (meant_in (map table_shape tables.now) (select_tree select.now)) result }
     ensures entries { IfOk result (λ b. All (IsEntryOf tables.now) b.entries.items) }
-    ensures safe { IfOk result (λ b. list_all is_safe_chain b.select.from.items ≡ true) }
+    ensures safe { IfOk result (λ b. is_safe_from b.select.from.items ≡ true) }
 {
     let bound = look_up(alloc, select, tables)?;
     check_written(alloc, select, tables)?;
@@ -50,7 +49,7 @@ fn bind_statement(
 ) -> Result<Bound, Cause>
     ensures binds { Binds (statement_name_causes (map table_shape tables.now) (statement_tree statement.now)) (statement_type_causes (map table_shape tables.now) (statement_tree statement.now)) (meant (map table_shape tables.now) (statement_tree statement.now)) result }
     ensures entries { IfOk result (λ b. All (IsEntryOf tables.now) b.entries.items) }
-    ensures safe { IfOk result (λ b. list_all is_safe_chain b.select.from.items ≡ true) }
+    ensures safe { IfOk result (λ b. is_safe_from b.select.from.items ≡ true) }
 {
     bind_select(alloc, query_of(statement), tables)
 }
@@ -76,7 +75,7 @@ pub fn bind(
     // Its entries are the tables that they stand for.
     ensures entries { IfOk result (λ b. All (IsEntryOf tables.now) b.entries.items) }
     // No ON of it may fault.
-    ensures safe { IfOk result (λ b. list_all is_safe_chain b.select.from.items ≡ true) }
+    ensures safe { IfOk result (λ b. is_safe_from b.select.from.items ≡ true) }
     // A statement for which a cause of names or types stands is not answered.
     ensures clear { OnOk result ((c : Cause) → BindCauses (map table_shape tables.now) (statement_tree statement.now) c → ⊥) }
     // A refusal tells a cause that stands, one of names before one of types, or that memory was refused.

@@ -84,9 +84,6 @@ AnyOrder = (q : Query) (db other : Tables) → IsSteady q → SameRows db other 
 abbrev pub Steady : Type 0
 Steady = (params : Tuple) (es : List Expr) → AllIgnoreOrder (senses params es)
 
-abbrev pub MeansItsForm : Type 0
-MeansItsForm = (s : Select) → query_of s ≡ query_by (form_of s)
-
 abbrev pub CausesAny : Type 0
 CausesAny = (q : Query) → IsSteady q → (db other : Tables) → SameRows db other → (c : Cause) → QueryCauses q db c → QueryCauses q other c
 
@@ -120,12 +117,12 @@ same_back db other h t = IsPermutation-sym (db t) (other t) (h t)
 
 -- ---- plans
 
-pub promised : AnyOrder → Steady → MeansItsForm → CausesAny → (es : List BoundEntry) (written : Select) (p : Plan) (boxes : List (Option BoxState)) → form_of p.select ≡ form_of written → AreScansOf es p.scans.items
+pub promised : AnyOrder → Steady → CausesAny → (es : List BoundEntry) (written : Select) (p : Plan) (boxes : List (Option BoxState)) → form_of p.select ≡ form_of written → AreScansOf es p.scans.items
     → IsPlanOf (query_of written) (map entry_place es) boxes p
-promised any law form causes es written p boxes same is =
+promised any law causes es written p boxes same is =
     let q = query_of written in
     let db = entry_rows boxes (map entry_place es) in
-    let one : query_of p.select ≡ q = form p.select ∙ ap query_by same ∙ sym (form written) in
+    let one : query_of p.select ≡ q = ap query_by same in
     let steady = steady_select law written in
     let there : (lists : List (List Tuple)) → AllMayGive boxes p.scans.items lists → SameRows db (in_order lists) = λ lists h. rows_come boxes es is.offers is.agreements p.scans.items lists is.offered is.agreed h in
     record {

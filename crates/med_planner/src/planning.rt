@@ -11,7 +11,7 @@ ghost use Rattle.med_planner.specs.Planned.{IsPlanOf};
 use crate::law::causes_ignore_order;
 use crate::plans::Plan;
 use med_binder::Bound;
-use med_query::law::{answers_ignore_order, expressions_ignore_order, select_means_its_form};
+use med_query::law::{answers_ignore_order, expressions_ignore_order};
 use med_value::NoMemory;
 use pushdown::Split;
 use std::alloc::Global;
@@ -28,7 +28,6 @@ pub fn plan(alloc: Global, bound: &Bound, split: Split) -> Result<Plan, NoMemory
 {
     answers_ignore_order();
     expressions_ignore_order();
-    select_means_its_form();
     causes_ignore_order();
     let select = bound.select.copy(alloc)?;
     Ok(Plan {

@@ -14,7 +14,8 @@ use Rattle.med_query.specs.declared.outputs.AnswerFault.TheVariants.{Evaluation,
 use Rattle.med_query.specs.Answering.{IsShown, IsTooLarge, IsSmall}
 use Rattle.med_query.specs.declared.select.Select.{Select}
 use Rattle.med_query.specs.declared.select.JoinChain.{JoinChain}
-use Rattle.med_query.specs.Select.{direction_of, chain_of, groups_of, query_of}
+use Rattle.med_query.specs.Form.{direction_of}
+use Rattle.med_query.specs.Select.{chains_of, groups_of, query_of}
 use Rattle.med_query.specs.Staging.{output_of, staged_query, Stages}
 use Rattle.med_query.specs.Ordering.{staged_cmp}
 use Rattle.med_query.specs.Finishing.{Finishes, made_unique}
@@ -55,22 +56,22 @@ finished_answer law q db outs rows quiet same f = record {
 moved : {A B C D : Type 0} (P : A → B → C → D → Type 0) (a a' : A) (b b' : B) (c c' : C) (d d' : D) → a ≡ a' → b ≡ b' → c ≡ c' → d ≡ d' → P a b c d → P a' b' c' d'
 moved P a a' b b' c c' d d' p q r s h = subst (λ x. P x b' c' d') p (subst (λ x. P a x c' d') q (subst (λ x. P a b x d') r (subst (λ x. P a b c x) s h)))
 
-pub told_all : (f : AnswerFault) (select : Select) (db : Tables) (from : List JoinChain) (cs ks is : List Expr) (rows : List Tuple) → from ≡ select.from.items → cs ≡ select.conditions.items → ks ≡ select.keys.items → is ≡ select.items.items → rows ≡ joined_chains db (map chain_of from)
+pub told_all : (f : AnswerFault) (select : Select) (db : Tables) (from : List JoinChain) (cs ks is : List Expr) (rows : List Tuple) → from ≡ select.from.items → cs ≡ select.conditions.items → ks ≡ select.keys.items → is ≡ select.items.items → rows ≡ joined_chains db (chains_of from)
     → ((chains : List Chain) (db : Tables) → joined_chains db chains ≡ rows → IsShown f (staged_query chains (senses [] cs) (groups_of select.grouping) (senses [] ks) (senses [] is)) db) → IsShown f (query_of select) db
 told_all (Evaluation f) select db from cs ks is rows a b c d j h =
-    moved (λ fs xs ys zs. IsTold f (faults (staged_query (map chain_of fs) (senses [] xs) (groups_of select.grouping) (senses [] ys) (senses [] zs)) db)) from select.from.items cs select.conditions.items ks select.keys.items is select.items.items a b c d (h (map chain_of from) db (sym j))
+    moved (λ fs xs ys zs. IsTold f (faults (staged_query (chains_of fs) (senses [] xs) (groups_of select.grouping) (senses [] ys) (senses [] zs)) db)) from select.from.items cs select.conditions.items ks select.keys.items is select.items.items a b c d (h (chains_of from) db (sym j))
 told_all TooManyRows select db from cs ks is rows a b c d j h =
-    moved (λ fs xs ys zs. IsTooLarge (staged_query (map chain_of fs) (senses [] xs) (groups_of select.grouping) (senses [] ys) (senses [] zs)) db) from select.from.items cs select.conditions.items ks select.keys.items is select.items.items a b c d (h (map chain_of from) db (sym j))
+    moved (λ fs xs ys zs. IsTooLarge (staged_query (chains_of fs) (senses [] xs) (groups_of select.grouping) (senses [] ys) (senses [] zs)) db) from select.from.items cs select.conditions.items ks select.keys.items is select.items.items a b c d (h (chains_of from) db (sym j))
 
-pub small_all : (select : Select) (db : Tables) (from : List JoinChain) (cs ks is : List Expr) (rows : List Tuple) → from ≡ select.from.items → cs ≡ select.conditions.items → ks ≡ select.keys.items → is ≡ select.items.items → rows ≡ joined_chains db (map chain_of from)
+pub small_all : (select : Select) (db : Tables) (from : List JoinChain) (cs ks is : List Expr) (rows : List Tuple) → from ≡ select.from.items → cs ≡ select.conditions.items → ks ≡ select.keys.items → is ≡ select.items.items → rows ≡ joined_chains db (chains_of from)
     → ((chains : List Chain) (db : Tables) → joined_chains db chains ≡ rows → IsSmall (staged_query chains (senses [] cs) (groups_of select.grouping) (senses [] ks) (senses [] is)) db) → IsSmall (query_of select) db
 small_all select db from cs ks is rows a b c d j h =
-    moved (λ fs xs ys zs. IsSmall (staged_query (map chain_of fs) (senses [] xs) (groups_of select.grouping) (senses [] ys) (senses [] zs)) db) from select.from.items cs select.conditions.items ks select.keys.items is select.items.items a b c d (h (map chain_of from) db (sym j))
+    moved (λ fs xs ys zs. IsSmall (staged_query (chains_of fs) (senses [] xs) (groups_of select.grouping) (senses [] ys) (senses [] zs)) db) from select.from.items cs select.conditions.items ks select.keys.items is select.items.items a b c d (h (chains_of from) db (sym j))
 
-pub answered_all : ((os us : List Output) → IsPermutation os us → IsPermutation (distinct output_eq os) (distinct output_eq us)) → (select : Select) (db : Tables) (from : List JoinChain) (cs ks is : List Expr) (ds : List SortDirection) (rows : List Tuple) (outs : List Output) (out : List Tuple) → from ≡ select.from.items → cs ≡ select.conditions.items → ks ≡ select.keys.items → is ≡ select.items.items → ds ≡ select.directions.items → rows ≡ joined_chains db (map chain_of from)
+pub answered_all : ((os us : List Output) → IsPermutation os us → IsPermutation (distinct output_eq os) (distinct output_eq us)) → (select : Select) (db : Tables) (from : List JoinChain) (cs ks is : List Expr) (ds : List SortDirection) (rows : List Tuple) (outs : List Output) (out : List Tuple) → from ≡ select.from.items → cs ≡ select.conditions.items → ks ≡ select.keys.items → is ≡ select.items.items → ds ≡ select.directions.items → rows ≡ joined_chains db (chains_of from)
     → ((chains : List Chain) (db : Tables) → joined_chains db chains ≡ rows → Stages (staged_query chains (senses [] cs) (groups_of select.grouping) (senses [] ks) (senses [] is)) db outs)
     → Finishes select.distinct (map direction_of ds) select.offset select.limit outs out → IsAnswer (query_of select) db out
 answered_all law select db from cs ks is ds rows outs out a b c d e j h f =
-    let s : Stages (staged_query (map chain_of select.from.items) (senses [] select.conditions.items) (groups_of select.grouping) (senses [] select.keys.items) (senses [] select.items.items)) db outs =
-    moved (λ fs xs ys zs. Stages (staged_query (map chain_of fs) (senses [] xs) (groups_of select.grouping) (senses [] ys) (senses [] zs)) db outs) from select.from.items cs select.conditions.items ks select.keys.items is select.items.items a b c d (h (map chain_of from) db (sym j)) in
+    let s : Stages (staged_query (chains_of select.from.items) (senses [] select.conditions.items) (groups_of select.grouping) (senses [] select.keys.items) (senses [] select.items.items)) db outs =
+    moved (λ fs xs ys zs. Stages (staged_query (chains_of fs) (senses [] xs) (groups_of select.grouping) (senses [] ys) (senses [] zs)) db outs) from select.from.items cs select.conditions.items ks select.keys.items is select.items.items a b c d (h (chains_of from) db (sym j)) in
     finished_answer law (query_of select) db outs out s.no_fault s.same (subst (λ x. Finishes select.distinct (map direction_of x) select.offset select.limit outs out) e f)

@@ -1,7 +1,6 @@
 pub mod Distinct
 pub mod AnyOrder
 pub mod QueryRows
-pub mod Forms
 pub mod Telling
 pub mod RowByRow
 pub mod Runs

@@ -3,14 +3,13 @@ use Rattle.std.specs.Prelude.{ℕ, Bool, true, not, List, [], ◌∷◌, map, Op
 use Rattle.std.specs.List.{list_all}
 use Rattle.tri_expr.specs.Tree.{Tree, tree}
 use Rattle.tri_expr.specs.TreeParts.{is_risky_tree}
-use Rattle.tri_expr.specs.TreeMeaning.{tree_meaning}
-use Rattle.tri_expr.specs.Meaning.{OnClass}
+use Rattle.tri_expr.specs.Meaning.{means}
 use Rattle.med_query.specs.Query.{Query, Chain, Table, Cross, Inner, LeftJoin, Direction, Grouping as Groups}
-use Rattle.med_query.specs.Select.{direction_of}
 use Rattle.med_query.specs.declared.select.Join.{Join}
 use Rattle.med_query.specs.declared.select.Join.TheVariants.{Cross as CrossJoin, Inner as InnerJoin, Left as OuterJoin}
 use Rattle.med_query.specs.declared.select.JoinChain.{JoinChain}
 use Rattle.med_query.specs.declared.select.Grouping.{Grouping}
+use Rattle.med_query.specs.declared.select.SortDirection.{SortDirection}
 use Rattle.med_query.specs.declared.select.Select.{Select}
 
 -- a join with one more table: all pairs; those for which the conjuncts of ON are true; those, and each left row that has none
@@ -54,6 +53,9 @@ chain_form c = record { first = c.first; joins = map join_form c.joins.items }
 abbrev pub group_form : Grouping → GroupForm
 group_form g = record { keys = g.keys.items; arguments = map tree g.arguments.items; having = map tree g.having.items }
 
+abbrev pub direction_of : SortDirection → Direction
+direction_of d = record { descending = d.descending; nulls_first = d.nulls_first }
+
 abbrev pub form_of : Select → Form
 form_of s = record {
   from = map chain_form s.from.items;
@@ -69,13 +71,10 @@ form_of s = record {
 
 -- ---- the query that a form is
 
-abbrev pub means : List Tree → List OnClass
-means ts = map (tree_meaning []) ts
-
 abbrev pub join_meant : Chain → JoinForm → Chain
 join_meant left (cross_form table) = Cross left table
-join_meant left (inner_form table on) = Inner left table (means on)
-join_meant left (left_form table width on) = LeftJoin left table width (means on)
+join_meant left (inner_form table on) = Inner left table (means [] on)
+join_meant left (left_form table width on) = LeftJoin left table width (means [] on)
 
 abbrev pub joins_meant : Chain → List JoinForm → Chain
 joins_meant left [] = left
@@ -85,16 +84,16 @@ abbrev pub chain_meant : ChainForm → Chain
 chain_meant c = joins_meant (Table c.first) c.joins
 
 abbrev pub group_meant : GroupForm → Groups
-group_meant g = record { keys = g.keys; arguments = means g.arguments; having = means g.having }
+group_meant g = record { keys = g.keys; arguments = means [] g.arguments; having = means [] g.having }
 
 abbrev pub query_by : Form → Query
 query_by f = record {
   from = map chain_meant f.from;
-  where_ = means f.conditions;
+  where_ = means [] f.conditions;
   group = option_map group_meant f.group;
-  items = means f.items;
+  items = means [] f.items;
   unique = f.unique;
-  keys = means f.keys;
+  keys = means [] f.keys;
   towards = f.towards;
   offset = f.offset;
   limit = f.limit;
@@ -111,5 +110,8 @@ is_safe_join_form (cross_form table) = true
 is_safe_join_form (inner_form table on) = all_safe_trees on
 is_safe_join_form (left_form table width on) = all_safe_trees on
 
+abbrev pub are_safe_chains : List ChainForm → Bool
+are_safe_chains cs = list_all (λ c. list_all is_safe_join_form c.joins) cs
+
 abbrev pub is_safe_form : Form → Bool
-is_safe_form f = list_all (λ c. list_all is_safe_join_form c.joins) f.from
+is_safe_form f = are_safe_chains f.from

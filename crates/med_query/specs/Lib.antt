@@ -1,8 +1,8 @@
 pub mod Lists
 pub mod Query
 pub mod Laws
-pub mod Select
 pub mod Form
+pub mod Select
 pub mod Chains
 pub mod Staging
 pub mod Ordering

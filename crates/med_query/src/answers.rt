@@ -2,8 +2,8 @@
 ghost use Rattle.std.specs.Prelude.{◌≡◌, IfOk, map, true, IsPermutation};
 ghost use Rattle.med_value.specs.Datum.{tuple};
 ghost use Rattle.med_query.specs.Query.{IsAnswer};
-ghost use Rattle.std.specs.List.{list_all};
-ghost use Rattle.med_query.specs.Select.{query_of, direction_of, is_safe_chain, tables_of};
+ghost use Rattle.med_query.specs.Form.{direction_of};
+ghost use Rattle.med_query.specs.Select.{query_of, is_safe_from, tables_of};
 ghost use Rattle.med_query.specs.Staging.{output_of};
 ghost use Rattle.med_query.specs.Finishing.{Finishes, made_unique};
 ghost use Rattle.med_query.specs.Answering.{IsSmall, Shows};
@@ -63,7 +63,7 @@ fn finished(
 /// group, or of an order key or an item of a kept row or kept group. [`EvalFault::NoMemory`] where memory was asked for and refused.
 /// [`AnswerFault::TooManyRows`] where the query groups over more than 2^62 kept rows, and only there.
 pub fn answer(alloc: Global, select: &Select, tables: &[Vec<Row>]) -> Result<Vec<Row>, AnswerFault>
-    requires { list_all is_safe_chain select.now.from.items ≡ true }
+    requires { is_safe_from select.now.from.items ≡ true }
     ensures answer { IfOk result (λ out. IsAnswer (query_of select.now) (tables_of tables.now) (map tuple out.items)) }
     ensures small { IfOk result (λ _. IsSmall (query_of select.now) (tables_of tables.now)) }
     ensures told { Shows result (query_of select.now) (tables_of tables.now) }

@@ -1,7 +1,9 @@
 //! A SELECT whose names were resolved: tables by their numbers, columns by their places in the joined row.
-ghost use Rattle.std.specs.Prelude.{◌≡◌};
+ghost use Rattle.std.specs.Prelude.{◌≡◌, map};
 ghost use Rattle.std.specs.List.{list_all};
-ghost use Rattle.med_query.specs.Select.{all_safe, is_safe_join as spec_is_safe_join, is_safe_chain as spec_is_safe_chain};
+ghost use Rattle.tri_expr.specs.Tree.{tree};
+ghost use Rattle.med_query.specs.Form.{join_form, chain_form, all_safe_trees, is_safe_join_form};
+ghost use Rattle.med_query.specs.Select.{is_safe_from as spec_is_safe_from};
 
 use tri_expr::{Expr, is_risky};
 
@@ -85,7 +87,7 @@ pub struct Select {
 }
 
 fn are_safe(on: &[Expr]) -> bool
-    ensures { result ≡ all_safe on.now }
+    ensures { result ≡ all_safe_trees (map tree on.now) }
 {
     for e in on {
         if is_risky(e) {
@@ -96,7 +98,7 @@ fn are_safe(on: &[Expr]) -> bool
 }
 
 fn is_safe_join(join: &Join) -> bool
-    ensures { result ≡ spec_is_safe_join join.now }
+    ensures { result ≡ is_safe_join_form (join_form join.now) }
 {
     match join {
         Join::Cross { .. } => true,
@@ -106,7 +108,7 @@ fn is_safe_join(join: &Join) -> bool
 }
 
 fn are_safe_joins(joins: &[Join]) -> bool
-    ensures { result ≡ list_all spec_is_safe_join joins.now }
+    ensures { result ≡ list_all is_safe_join_form (map join_form joins.now) }
 {
     for join in joins {
         if !is_safe_join(join) {
@@ -117,14 +119,14 @@ fn are_safe_joins(joins: &[Join]) -> bool
 }
 
 fn is_safe_chain(chain: &JoinChain) -> bool
-    ensures { result ≡ spec_is_safe_chain chain.now }
+    ensures { result ≡ list_all is_safe_join_form (chain_form chain.now).joins }
 {
     are_safe_joins(chain.joins.as_slice())
 }
 
 /// Whether no conjunct of an ON is risky. A query whose ON may fault is refused before it is run.
 pub fn is_safe_from(from: &[JoinChain]) -> bool
-    ensures { result ≡ list_all spec_is_safe_chain from.now }
+    ensures { result ≡ spec_is_safe_from from.now }
 {
     for chain in from {
         if !is_safe_chain(chain) {

@@ -10,7 +10,7 @@ use Rattle.med_value.specs.declared.cause.Cause.TheVariants.{LimitExceeded, OutO
 use Rattle.tri_expr.specs.declared.expr.Expr.{Expr}
 use Rattle.med_query.specs.declared.select.Grouping.{Grouping}
 use Rattle.med_query.specs.declared.select.Select.{Select}
-use Rattle.med_query.specs.Form.{form_of, query_by}
+use Rattle.med_query.specs.Form.{query_by}
 use Rattle.med_query.specs.Select.{query_of as written_query, groups_of}
 use Rattle.med_query.specs.Laws.{AllIgnoreOrder, IsSteady, AnswersIgnoreOrder}
 use Rattle.med_query.specs.Query.{Query, Tables, SameRows, senses, having_of, has_class, kept, plain, outputs_all, output, kept_classes}
@@ -176,16 +176,9 @@ scans_begin boxes (e ∷ es) (o ∷ os) (a ∷ more) (s ∷ ss) is many js h =
 
 -- ---- the query
 
-abbrev MeansItsForm : Type 0
-MeansItsForm = (s : Select) → written_query s ≡ query_by (form_of s)
-
--- two of one form are one query
-pub same_query : MeansItsForm → (a b : Select) → form_of a ≡ form_of b → written_query a ≡ written_query b
-same_query law a b same = law a ∙ ap query_by same ∙ sym (law b)
-
 -- the query of what was bound is the statement's
-pub query_bound : MeansItsForm → (m : Meant) (b : Bound) → IsMeant m b → written_query b.select ≡ query_of m
-query_bound law m b is = law b.select ∙ ap query_by is.form
+pub query_bound : (m : Meant) (b : Bound) → IsMeant m b → written_query b.select ≡ query_of m
+query_bound m b is = ap query_by is.form
 
 abbrev ExpressionsIgnoreOrder : Type 0
 ExpressionsIgnoreOrder = (params : Tuple) (es : List Expr) → AllIgnoreOrder (senses params es)
@@ -222,10 +215,10 @@ fails_over law q is places fault old new (query_shows c e shows) =
 
 -- ---- the whole
 
-pub selected : MeansItsForm → ExpressionsIgnoreOrder → AnswersInAnyOrder → CausesInAnyOrder → (tables : List AttachedTable) (tree : StatementTree) (b : Bound) (rows : List Tuple) (old new : List (Option BoxState))
+pub selected : ExpressionsIgnoreOrder → AnswersInAnyOrder → CausesInAnyOrder → (tables : List AttachedTable) (tree : StatementTree) (b : Bound) (rows : List Tuple) (old new : List (Option BoxState))
     → IsBound (map table_shape tables) tree b → All (IsEntryOf tables) b.entries.items → ((c : Cause) → BindCauses (map table_shape tables) tree c → ⊥) → length b.entries.items ≤ 8 → AllServed old new
     → RunAnswers (written_query b.select) (map entry_place b.entries.items) old rows → Selects (map attached tables) tree old (map string_bytes b.names.items) rows new
-selected form order any causes tables tree b rows old new bound entries clear few served run =
+selected order any causes tables tree b rows old new bound entries clear few served run =
     let m = meant_in (map attached tables) tree in
     let places = map entry_place b.entries.items in
     let is : IsMeant m b = bound_in tables tree b bound in
@@ -236,19 +229,19 @@ selected form order any causes tables tree b rows old new bound entries clear fe
       served = served;
       places = places;
       are = subst (λ (ks : List ℕ). ArePlaces (map attached tables) ks places) is.entries (are_places tables b.entries.items entries);
-      answers = subst (λ (q : Query). AnswersOver q places old rows) (query_bound form m b is) (answers_over any causes (written_query b.select) (steady order b.select) places old rows run);
+      answers = subst (λ (q : Query). AnswersOver q places old rows) (query_bound m b is) (answers_over any causes (written_query b.select) (steady order b.select) places old rows run);
     }
 
-pub unanswered : MeansItsForm → ExpressionsIgnoreOrder → CausesInAnyOrder → (tables : List AttachedTable) (tree : StatementTree) (b : Bound) (fault : Fault) (old new : List (Option BoxState))
+pub unanswered : ExpressionsIgnoreOrder → CausesInAnyOrder → (tables : List AttachedTable) (tree : StatementTree) (b : Bound) (fault : Fault) (old new : List (Option BoxState))
     → IsBound (map table_shape tables) tree b → All (IsEntryOf tables) b.entries.items → ((c : Cause) → BindCauses (map table_shape tables) tree c → ⊥) → length b.entries.items ≤ 8 → AllServed old new
     → Stops (written_query b.select) (map entry_place b.entries.items) fault old new → SelectFails (map attached tables) tree old (cause_of fault) new
-unanswered form order causes tables tree b fault old new bound entries clear few served stops =
+unanswered order causes tables tree b fault old new bound entries clear few served stops =
     let m = meant_in (map attached tables) tree in
     let places = map entry_place b.entries.items in
     let is : IsMeant m b = bound_in tables tree b bound in
     run_fails (bindable_in tables tree clear) (subst (λ (n : ℕ). n ≤ 8) (sym (entries_counted m b is)) few) served places
     (subst (λ (ks : List ℕ). ArePlaces (map attached tables) ks places) is.entries (are_places tables b.entries.items entries))
-    (subst (λ (q : Query). RunFails q places (cause_of fault) old new) (query_bound form m b is) (fails_over causes (written_query b.select) (steady order b.select) places fault old new stops))
+    (subst (λ (q : Query). RunFails q places (cause_of fault) old new) (query_bound m b is) (fails_over causes (written_query b.select) (steady order b.select) places fault old new stops))
 
 pub crowded : (tables : List AttachedTable) (tree : StatementTree) (b : Bound) (old : List (Option BoxState)) → IsBound (map table_shape tables) tree b → ((c : Cause) → BindCauses (map table_shape tables) tree c → ⊥)
     → 8 < length b.entries.items → SelectFails (map attached tables) tree old LimitExceeded old

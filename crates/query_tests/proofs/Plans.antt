@@ -1,9 +1,8 @@
 -- Plans of one scan of a bound table.
 use Rattle.std.proofs.Common.{◌≡◌, ℕ, false, true, List, [], ◌∷◌, map, length, replicate, Option, Some, None, IsSome, Result, Ok, Err, IfOk, refl, ap, sym, ◌∙◌, subst, rules}
-use Rattle.std.specs.List.{list_all}
 use Rattle.std.proofs.lemmas.List.{length-map}
 use Rattle.med_value.specs.declared.value.ColType.{ColType}
-use Rattle.med_query.specs.Select.{is_safe_chain}
+use Rattle.med_query.specs.Select.{is_safe_from}
 use Rattle.med_query.specs.declared.select.Select.{Select}
 use Rattle.fdw_api.specs.Kinds.{Column, Setting}
 use Rattle.fdw_api.specs.Scan.{Filter, spec_of, plain_spec, filter_of, params_fit}
@@ -63,9 +62,9 @@ ignored_begins boxes slot t spec typed one silent wide b = record {
 
 -- a plan of one scan that may begin may be run
 pub one_runs : {E : Type 0} (boxes : List (Option BoxState)) (table : TableNo) (spec : ScanSpec) (select : Select) (r : Result Plan E) → IfOk r (λ p. p.scans.items ≡ record { source = 0; table = table; spec = spec } ∷ []) → IfOk r (λ p. p.select ≡ select)
-    → BoxAt boxes 0 (λ s. CanBegin s table.number spec []) → list_all is_safe_chain select.from.items ≡ true → IfOk r (CanRun boxes)
+    → BoxAt boxes 0 (λ s. CanBegin s table.number spec []) → is_safe_from select.from.items ≡ true → IfOk r (CanRun boxes)
 one_runs boxes table spec select (Err e) scans query begins safe = tt
 one_runs boxes table spec select (Ok p) scans query begins safe = record {
   begins = subst (λ (ss : List EntryScan). AllBegin boxes ss) (sym scans) (begins, tt);
-  safe = subst (λ (s : Select). list_all is_safe_chain s.from.items ≡ true) (sym query) safe;
+  safe = subst (λ (s : Select). is_safe_from s.from.items ≡ true) (sym query) safe;
 }

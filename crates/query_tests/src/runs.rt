@@ -4,12 +4,11 @@ ghost use Rattle.fdw_api.specs.Scan.{filter_of, params_fit};
 ghost use Rattle.med_exec.specs.Rests.{IsRunning, IsHeld};
 ghost use Rattle.med_exec.specs.Running.{CanRun};
 ghost use Rattle.med_exec.specs.Slots.{states, HasTable};
-ghost use Rattle.med_query.specs.Select.{is_safe_chain};
+ghost use Rattle.med_query.specs.Select.{is_safe_from};
 ghost use Rattle.med_value.specs.Datum.{Whole, tuple};
 ghost use Rattle.list_wrapper.specs.ListBoxes.{box_of};
 ghost use Rattle.list_wrapper.specs.Lists.{listed};
 ghost use Rattle.query_tests.specs.Orders as spec;
-ghost use Rattle.std.specs.List.{list_all};
 ghost use Rattle.std.specs.Prelude.{◌≡◌, ◌∷◌, [], true, List, length, map, IfOk};
 
 use crate::answers::{columns, compare, int, one, select};
@@ -114,7 +113,7 @@ fn agreed_plan<W: Wrapper>(
     select: Select,
 ) -> Result<Plan, Fail>
     requires table { HasTable (states W.meaning slots.now.items) 0 table.number }
-    requires safe { list_all is_safe_chain select.from.items ≡ true }
+    requires safe { is_safe_from select.from.items ≡ true }
     ensures { IfOk result (CanRun (states W.meaning slots.now.items)) }
 {
     let wanted = vec![in alloc; 2, 0]?;
@@ -136,7 +135,7 @@ fn ignored_plan<W: Wrapper>(
     select: Select,
 ) -> Result<Plan, Fail>
     requires table { HasTable (states W.meaning slots.now.items) 0 table.number }
-    requires safe { list_all is_safe_chain select.from.items ≡ true }
+    requires safe { is_safe_from select.from.items ≡ true }
     ensures { IfOk result (CanRun (states W.meaning slots.now.items)) }
 {
     let spec = ScanSpec {

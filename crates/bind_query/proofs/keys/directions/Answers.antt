@@ -1,7 +1,7 @@
 use Rattle.std.proofs.Common.{◌<◌, ◌++◌, ◌∷◌, [], ◌∙◌, sym, length, map, ap, arith}
 use Rattle.std.proofs.lemmas.List.{map-append}
 use Rattle.med_syntax.specs.QueryView.{key_tree}
-use Rattle.med_query.specs.Select.{direction_of}
+use Rattle.med_query.specs.Form.{direction_of}
 use Rattle.bind_names.specs.Meaning.{key_direction}
 use Rattle.bind_names.proofs.Added.{added_after}
 use Rattle.bind_names.proofs.Parts.{drop_read}

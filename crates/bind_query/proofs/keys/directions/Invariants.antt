@@ -1,6 +1,6 @@
 use Rattle.std.proofs.Common.{◌≡◌, ◌++◌, map, drop}
 use Rattle.med_syntax.specs.QueryView.{key_tree}
-use Rattle.med_query.specs.Select.{direction_of}
+use Rattle.med_query.specs.Form.{direction_of}
 use Rattle.bind_names.specs.Meaning.{key_direction}
 use Rattle.bind_query.proofs.keys.directions.Given as goal
 

@@ -1,4 +1,4 @@
-use Rattle.std.proofs.Common.{◌∙◌, map}
+use Rattle.std.proofs.Common.{map}
 use Rattle.med_query.specs.Form.{chain_form}
 use Rattle.bind_types.proofs.Safety.{on_ok, safe_chains}
 use Rattle.bind_types.proofs.forms.check_form.Goals as goal
@@ -6,4 +6,4 @@ use Rattle.bind_types.proofs.forms.check_form.Goals as goal
 pub returns-clause-safe : goal.returns-clause-safe
 returns-clause-safe c =
     let none = rw c.as_slice.ensures.value at c.in_ok-check_from.ensures in
-    on_ok c.check_rest.result _ (c.safe_forms_are_safe.ensures c.args.select.now ∙ safe_chains (map chain_form c.args.select.now.from.items) none)
+    on_ok c.check_rest.result _ (safe_chains (map chain_form c.args.select.now.from.items) none)

@@ -1,4 +1,4 @@
-use Rattle.std.proofs.Common.{◌∙◌, ap, sym, map}
+use Rattle.std.proofs.Common.{◌∙◌, ap, map}
 use Rattle.med_query.specs.Form.{is_safe_form}
 use Rattle.med_query.specs.Select.{query_of}
 use Rattle.pushdown.specs.Offered.{entry_place}
@@ -13,7 +13,7 @@ returns-in-Err-clause-served g c = c.services_join.ensures.same none_held (state
 pub run_plan-requires : goal.run_plan-requires
 run_plan-requires g c = record {
   begins = c.in-Ok.ensures.begins;
-  safe = c.safe_forms_are_safe.ensures c.in-Ok.plan.select ∙ ap is_safe_form c.in-Ok.ensures.query ∙ sym (c.safe_forms_are_safe.ensures c.args.bound.now.select) ∙ c.requires.safe;
+  safe = ap is_safe_form c.in-Ok.ensures.query ∙ c.requires.safe;
 }
 
 pub returns-clause-err : goal.returns-clause-err

@@ -22,7 +22,7 @@ returns-in-Err-clause-err g c =
     let counted : c.len.result ≡ length c.in_ok-bound.bound.entries.items = c.len.ensures ∙ c.in_ok-bound.bound.entries.ok.0 in
     let least : c.len.result ≤ 8 = c.if-len-gt-ENTRIES.false in
     let few : length c.in_ok-bound.bound.entries.items ≤ 8 = omega (arith, counted, least) in
-    rw c.cause_of.ensures (unanswered c.select_means_its_form.ensures c.expressions_ignore_order.ensures c.causes_ignore_order.ensures c.args.tables.now (statement_tree c.args.statement) c.in_ok-bound.bound c.in-Err.fault
+    rw c.cause_of.ensures (unanswered c.expressions_ignore_order.ensures c.causes_ignore_order.ensures c.args.tables.now (statement_tree c.args.statement) c.in_ok-bound.bound c.in-Err.fault
     (states m c.args.slots.now.items) (states m c.run_bound.new.slots.items) c.in_ok-bound.ensures.bound c.in_ok-bound.ensures.entries c.in_ok-bound.ensures.clear few c.run_bound.ensures.served c.in-Err.ensures.err)
 
 pub returns-clause-ok : goal.returns-clause-ok
@@ -31,7 +31,7 @@ returns-clause-ok g c =
     let counted : c.len.result ≡ length c.in_ok-bound.bound.entries.items = c.len.ensures ∙ c.in_ok-bound.bound.entries.ok.0 in
     let least : c.len.result ≤ 8 = c.if-len-gt-ENTRIES.false in
     let few : length c.in_ok-bound.bound.entries.items ≤ 8 = omega (arith, counted, least) in
-    selected c.select_means_its_form.ensures c.expressions_ignore_order.ensures c.answers_ignore_order.ensures c.causes_ignore_order.ensures c.args.tables.now (statement_tree c.args.statement) c.in_ok-bound.bound (map tuple c.in-Ok.rows.items)
+    selected c.expressions_ignore_order.ensures c.answers_ignore_order.ensures c.causes_ignore_order.ensures c.args.tables.now (statement_tree c.args.statement) c.in_ok-bound.bound (map tuple c.in-Ok.rows.items)
     (states m c.args.slots.now.items) (states m c.run_bound.new.slots.items) c.in_ok-bound.ensures.bound c.in_ok-bound.ensures.entries c.in_ok-bound.ensures.clear few c.run_bound.ensures.served c.in-Ok.ensures.ok
 
 pub returns-then-len-gt-ENTRIES-clause-err : goal.returns-then-len-gt-ENTRIES-clause-err
