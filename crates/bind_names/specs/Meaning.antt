@@ -104,10 +104,14 @@ abbrev pub columns_from : ℕ → List Column → List Output
 columns_from at [] = []
 columns_from at (c ∷ cs) = record { name = c.name; value = column at } ∷ columns_from (suc at) cs
 
+-- each column of an entry, if it is meant
+abbrev pub starred_in : ℕ → Option Name → TableShape → List Output
+starred_in at q e = if is_meant q e then columns_from at e.columns else []
+
 -- `*` and `q.*`: each column of the entries that are meant, in order
 abbrev pub starred : ℕ → Option Name → Scope → List Output
 starred at q [] = []
-starred at q (e ∷ es) = (if is_meant q e then columns_from at e.columns else []) ++ starred (at + length e.columns) q es
+starred at q (e ∷ es) = starred_in at q e ++ starred (at + length e.columns) q es
 
 -- the name of an expression without an alias: the column's name, else the function's, parentheses looked through, else ?column?
 abbrev pub expression_name : ExprTree → Name
@@ -117,10 +121,14 @@ expression_name (w.call f es) = f
 expression_name (w.paren e) = expression_name e
 expression_name _ = codes "?column?"
 
+-- the name of an expression as an item: its alias, if it has one
+abbrev pub shown_name : ExprTree → Option Name → Name
+shown_name e alias = unwrap_or alias (expression_name e)
+
 abbrev pub item_outputs : Scope → ItemTree → List Output
 item_outputs s all = starred 0 None s
 item_outputs s (all_of_entry q) = starred 0 (Some q) s
-item_outputs s (value e alias) = record { name = unwrap_or alias (expression_name e); value = resolved s e } ∷ []
+item_outputs s (value e alias) = record { name = shown_name e alias; value = resolved s e } ∷ []
 
 -- the outputs of a select list, in order
 abbrev pub outputs_of : Scope → List ItemTree → List Output
@@ -209,7 +217,9 @@ groups_rows q shown = not (is_empty q.groups) || (is_some q.having || list_any h
 abbrev pub group_meant : Scope → SelectTree → List Tree → Option GroupForm
 group_meant s q shown =
     let having = conditions_of s q.having in
-    if groups_rows q shown then Some (record { keys = map (group_place s) q.groups; arguments = flat_map arguments_in (having ++ shown); having = having }) else None
+    if groups_rows q shown
+    then Some (record { keys = map (group_place s) q.groups; arguments = flat_map arguments_in (having ++ shown); having = having })
+    else None
 
 -- ---- the whole
 
@@ -218,8 +228,8 @@ rows_left None = None
 rows_left (Some no_limit) = None
 rows_left (Some (rows n)) = Some n
 
--- A query in terms of places: the names of the answer's columns, the place of each entry's table in the list of tables, and what is asked of
--- these entries, which are counted from 0.
+-- A query in terms of places: the names of the answer's columns, the place of each entry's table in the list of tables, and what is asked
+-- of these entries, which are counted from 0.
 pub record Meant : Type 0 where
   pub names : List Name
   pub entries : List ℕ

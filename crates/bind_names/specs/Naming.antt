@@ -89,7 +89,8 @@ output_name_causes outs n = if are_same (filter (is_named n) outs) then [] else 
 
 -- 42P10 under DISTINCT for what is no output
 abbrev pub distinct_causes : Bool → List Output → Tree → List Cause
-distinct_causes unique outs t = if unique && not (list_any (λ (o : Output). same_tree o.value t) outs) then InvalidColumnReference ∷ [] else []
+distinct_causes unique outs t =
+    if unique && not (list_any (λ (o : Output). same_tree o.value t) outs) then InvalidColumnReference ∷ [] else []
 
 abbrev pub sort_key_causes : Scope → Bool → List Output → SortKey → List Cause
 sort_key_causes s unique outs (position n) = position_causes outs n
@@ -117,7 +118,8 @@ abbrev pub asked_causes : List TableShape → SelectTree → List Cause
 asked_causes tables q =
     let s = from_scope tables q.from in
     flat_map (chain_name_causes tables) q.from ++ (flat_map (item_name_causes s) q.items ++ (condition_name_causes s q.condition
-    ++ (flat_map (group_name_causes s) q.groups ++ (condition_name_causes s q.having ++ flat_map (key_name_causes s q.distinct (outputs_of s q.items)) q.keys))))
+    ++ (flat_map (group_name_causes s) q.groups ++ (condition_name_causes s q.having
+    ++ flat_map (key_name_causes s q.distinct (outputs_of s q.items)) q.keys))))
 
 -- Columns are looked for once all entries are known, each by a name of its own.
 abbrev pub once_known : List Cause → List Cause → List Cause

@@ -17,6 +17,9 @@ pub record TableShape : Type 0 where
 abbrev pub table_shape : AttachedTable → TableShape
 table_shape t = record { name = string_bytes t.name; columns = map column_of t.columns.items }
 
+abbrev pub shapes_of : List AttachedTable → List TableShape
+shapes_of = map table_shape
+
 -- The entries of FROM that are in view, in their order: each under the name by which it is called there, its alias or else its table's
 -- name. Their columns have places, counted over all of them from the left.
 abbrev pub Scope : Type 0
@@ -44,10 +47,14 @@ abbrev pub places_from : ℕ → List Column → Name → List ℕ
 places_from at [] name = []
 places_from at (c ∷ cs) name = if bytes_eq c.name name then at ∷ places_from (suc at) cs name else places_from (suc at) cs name
 
+-- the same in an entry, if it is meant
+abbrev pub places_under : ℕ → TableShape → Option Name → Name → List ℕ
+places_under at e q name = if is_meant q e then places_from at e.columns name else []
+
 -- the same in the entries that are meant
 abbrev pub candidates_from : ℕ → Scope → Option Name → Name → List ℕ
 candidates_from at [] q name = []
-candidates_from at (e ∷ es) q name = (if is_meant q e then places_from at e.columns name else []) ++ candidates_from (at + length e.columns) es q name
+candidates_from at (e ∷ es) q name = places_under at e q name ++ candidates_from (at + length e.columns) es q name
 
 -- the places of the columns that a name, perhaps qualified, can mean: it means the column at its one place
 abbrev pub candidates : Scope → Option Name → Name → List ℕ

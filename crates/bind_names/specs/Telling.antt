@@ -4,7 +4,7 @@ use Rattle.med_value.specs.declared.value.ColType.{ColType}
 use Rattle.med_value.specs.declared.cause.Cause.{Cause}
 use Rattle.med_value.specs.declared.cause.Cause.TheVariants.{OutOfMemory}
 use Rattle.med_syntax.specs.Tree.{Name}
-use Rattle.bind_names.specs.Scope.{Scope, candidates, columns_of}
+use Rattle.bind_names.specs.Scope.{Scope, candidates, columns_of, kind_among}
 use Rattle.bind_names.specs.Naming.{column_causes}
 use Rattle.bind_names.specs.declared.scope.Found.{Found}
 use Rattle.bind_names.specs.declared.scope.Found.TheVariants.{Nothing, One, Several}
@@ -55,6 +55,10 @@ FindsColumn s q n (Err c) = Tells (column_causes s q n) c
 abbrev pub FindsKind : Scope → Option ColType → Result (Option ColType) Cause → Type 0
 FindsKind s k (Ok r) = r ≡ k
 FindsKind s k (Err c) = TellsOverfull s c
+
+-- the type of the one column that a name means
+abbrev pub FindsNamed : Scope → Option Name → Name → Result (Option ColType) Cause → Type 0
+FindsNamed s q n = FindsKind s (kind_among s (candidates s q n))
 
 -- these stand behind what was there, and no cause stands
 abbrev pub Adds : {X Y : Type 0} → List Cause → List Y → List Y → List Y → Result X Cause → Type 0

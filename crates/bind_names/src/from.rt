@@ -1,5 +1,15 @@
 //! FROM: the tables that it names, and what they bring into view.
-#![tactic(auto, using(crate::proofs::Causes::tells_left, crate::proofs::Causes::tells_right, crate::proofs::Causes::tells_memory, crate::proofs::Causes::tells_one, crate::proofs::Causes::none_of_two, crate::proofs::Added::added_end, crate::proofs::Tables::get_read, crate::proofs::Tables::columns_missing, crate::proofs::Tables::columns_found, crate::proofs::Tables::found_at))]
+#![tactic(auto, using(
+// a cause of a part is one of the whole
+crate::proofs::Causes::tells_left, crate::proofs::Causes::tells_right,
+// refused memory, and one cause alone
+crate::proofs::Causes::tells_memory, crate::proofs::Causes::tells_one,
+// no cause in either part
+crate::proofs::Causes::none_of_two,
+// what is added, and what stands in a place
+crate::proofs::Added::added_end, crate::proofs::Tables::get_read,
+// columns of a table
+crate::proofs::Tables::columns_missing, crate::proofs::Tables::columns_found, crate::proofs::Tables::found_at))]
 
 ghost use Rattle.std.specs.Prelude.{◌≡◌, ◌∷◌, [], map, flat_map, bytes_eq, string_bytes};
 ghost use Rattle.std.specs.List.{list_any};
@@ -8,8 +18,8 @@ ghost use Rattle.med_syntax.specs.QueryView.{entry_tree, join_tree, chain_tree};
 ghost use Rattle.bind_names.specs.Scope as spec;
 ghost use Rattle.bind_names.specs.Scope.{table_shape, visible, entry_shape, entry_columns, chain_entries, from_scope};
 ghost use Rattle.bind_names.specs.Naming.{alias_causes};
-ghost use Rattle.bind_names.specs.Telling.{Gives, Adds, Passes};
-ghost use Rattle.bind_names.specs.Seen.{seen_entry, name_of, FindsTable};
+ghost use Rattle.bind_names.specs.Telling.{Gives, Passes};
+ghost use Rattle.bind_names.specs.Seen.{seen_entry, AddsEntries, name_of, FindsTable};
 
 use crate::scope::Visible;
 use crate::table::AttachedTable;
@@ -60,7 +70,7 @@ pub fn joined_entry(join: &Join) -> &Entry
 }
 
 fn push_joined<'a>(joins: &'a [Join], out: &mut Vec<&'a Entry>) -> Result<(), Cause>
-    ensures { Adds [] (map spec.joined_entry (map join_tree joins.now)) (map seen_entry out.old.items) (map seen_entry out.new.items) result }
+    ensures { AddsEntries (map spec.joined_entry (map join_tree joins.now)) out.old.items out.new.items result }
 {
     for join in joins {
         out.push(joined_entry(join))?;
@@ -69,14 +79,14 @@ fn push_joined<'a>(joins: &'a [Join], out: &mut Vec<&'a Entry>) -> Result<(), Ca
 }
 
 fn push_chain<'a>(chain: &'a Chain, out: &mut Vec<&'a Entry>) -> Result<(), Cause>
-    ensures { Adds [] (chain_entries (chain_tree chain.now)) (map seen_entry out.old.items) (map seen_entry out.new.items) result }
+    ensures { AddsEntries (chain_entries (chain_tree chain.now)) out.old.items out.new.items result }
 {
     out.push(&chain.first)?;
     push_joined(chain.joins.as_slice(), out)
 }
 
 fn push_chains<'a>(chains: &'a [Chain], out: &mut Vec<&'a Entry>) -> Result<(), Cause>
-    ensures { Adds [] (spec.entries_of (map chain_tree chains.now)) (map seen_entry out.old.items) (map seen_entry out.new.items) result }
+    ensures { AddsEntries (spec.entries_of (map chain_tree chains.now)) out.old.items out.new.items result }
 {
     for chain in chains {
         push_chain(chain, out)?;

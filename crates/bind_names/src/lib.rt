@@ -3,8 +3,8 @@
 //!
 //! `specs/Scope.antt` says what is in view and which columns a name can mean, `specs/Naming.antt` which causes of refusal stand by names,
 //! `specs/Aggregates.antt` where aggregates and columns may stand in a query that groups, `specs/Meaning.antt` what a statement means, its
-//! names being places, and `specs/Telling.antt` what the functions of binding answer. The crates of types and of queries speak of these, and
-//! not of each other.
+//! names being places, and `specs/Telling.antt` what the functions of binding answer. The crates of types and of queries speak of these,
+//! and not of each other.
 #![tactic(auto)]
 
 mod aggregates;

@@ -1,11 +1,11 @@
 //! What is in view, and which column a name means.
 
-ghost use Rattle.std.specs.Prelude.{◌≡◌, ◌+◌, ◌≤◌, if◌then◌else◌, [], map, length, option_map, string_bytes, Some, IfErr};
+ghost use Rattle.std.specs.Prelude.{◌≡◌, ◌+◌, ◌≤◌, map, length, option_map, string_bytes, Some, IfErr};
 ghost use Rattle.med_value.specs.Column.{column_of};
 ghost use Rattle.med_value.specs.declared.cause.Cause.TheVariants.{OutOfMemory};
-ghost use Rattle.bind_names.specs.Scope.{scope_of, is_meant, visible, places_from, candidates, kind_there, kind_at, has_entry, kind_among};
+ghost use Rattle.bind_names.specs.Scope.{scope_of, is_meant, visible, places_from, places_under, kind_there, kind_at, has_entry};
 ghost use Rattle.std.specs.List.{list_any};
-ghost use Rattle.bind_names.specs.Telling.{with_place, with_places, Gathers, FindsColumn, FindsKind, IsOverfull};
+ghost use Rattle.bind_names.specs.Telling.{with_place, with_places, Gathers, FindsColumn, FindsNamed, IsOverfull};
 
 use med_value::{Cause, ColType, ColumnDef};
 
@@ -102,7 +102,7 @@ fn find_under(
     found: Found,
 ) -> Found
     requires { at + length entry.columns.now ≤ 18446744073709551615 }
-    ensures { result ≡ with_places found (if is_meant (option_map string_bytes qualifier.now) (visible entry.entry) then places_from at (visible entry.entry).columns name.now else []) }
+    ensures { result ≡ with_places found (places_under at (visible entry.entry) (option_map string_bytes qualifier.now) name.now) }
 {
     if is_called(entry, qualifier) {
         find_in(entry.columns, name, at, found)
@@ -129,9 +129,15 @@ fn gather(scope: &[Visible<'_>], qualifier: &Option<String>, name: &str) -> Resu
     Ok(found)
 }
 
-/// The place of the one column that a name means, or why it means none. 42P01 where the qualifier names no entry, 42703 where there is no such
-/// column, 42702 where there are several, and 53200 where more columns are in view than there are places.
-#[tactic(auto, using(crate::proofs::Places::column_missing, crate::proofs::Places::column_there, crate::proofs::Places::column_unclear, crate::proofs::Places::entry_missing, crate::proofs::Causes::tells_memory, crate::proofs::Causes::tells_one))]
+/// The place of the one column that a name means, or why it means none. 42P01 where the qualifier names no entry, 42703 where there is no
+/// such column, 42702 where there are several, and 53200 where more columns are in view than there are places.
+#[tactic(auto, using(
+// refused memory, and one cause alone
+crate::proofs::Causes::tells_memory, crate::proofs::Causes::tells_one,
+// columns of a name
+crate::proofs::Places::column_missing, crate::proofs::Places::column_there, crate::proofs::Places::column_unclear,
+// the qualifier
+crate::proofs::Places::entry_missing))]
 pub fn find_column(
     scope: &[Visible<'_>],
     qualifier: &Option<String>,
@@ -182,7 +188,7 @@ pub fn column_kind(
     qualifier: &Option<String>,
     name: &String,
 ) -> Result<Option<ColType>, Cause>
-    ensures { FindsKind (scope_of scope.now) (kind_among (scope_of scope.now) (candidates (scope_of scope.now) (option_map string_bytes qualifier.now) (string_bytes name.now))) result }
+    ensures { FindsNamed (scope_of scope.now) (option_map string_bytes qualifier.now) (string_bytes name.now) result }
 {
     match gather(scope, qualifier, name.as_str())? {
         Found::One(place) => Ok(kind_of(scope, place)),
