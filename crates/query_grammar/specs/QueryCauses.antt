@@ -45,7 +45,8 @@ limit_in_range (rows n) = count_in_range n
 abbrev pub select_in_range : SelectTree → Bool
 select_in_range q =
     all_in_range item_in_range q.items && (all_in_range chain_in_range q.from && (perhaps_in_range in_range q.condition
-    && (perhaps_in_range in_range q.having && (all_in_range key_in_range q.keys && (perhaps_in_range limit_in_range q.limit && perhaps_in_range count_in_range q.offset)))))
+    && (perhaps_in_range in_range q.having && (all_in_range key_in_range q.keys
+    && (perhaps_in_range limit_in_range q.limit && perhaps_in_range count_in_range q.offset)))))
 
 abbrev pub statement_in_range : StatementTree → Bool
 statement_in_range (select q) = select_in_range q
