@@ -107,7 +107,8 @@ join_words ts =
 -- entry ON expr
 unfoldable pub on_of : ℕ → Parser (EntryTree × ExprTree)
 on_of room ts =
-    entry_of ts >>= λ x. choose (behind_word (codes "on") x.1) (Err Syntax) (λ after. (below room).whole after >>= λ y. Ok ((x.0, y.0), y.1))
+    entry_of ts >>= λ x. choose (behind_word (codes "on") x.1) (Err Syntax)
+    (λ after. (below room).whole after >>= λ y. Ok ((x.0, y.0), y.1))
 
 -- behind the words of the join
 abbrev pub join_of : JoinWay → ℕ → Parser JoinTree
