@@ -19,7 +19,8 @@ use Rattle.expr_grammar.specs.ExprTerminals.{follows, terminal_at, terminals_at}
 use Rattle.med_syntax.specs.ExprTree.{ExprTree, ExprTrees, call, paren, minus, binary, between, among, like, compare, tested, negation, chain, none, more, perhaps_not, status_terminal, joint_level, height, highest, level, Fits, AllFit, spelling, parts_spelling, spellings, IsExpr}
 use Rattle.expr_grammar.specs.ExprReading.{all_of}
 use Rattle.expr_grammar.specs.ExprWeight.{is_heavy, weight, again, judged, bounded_of}
-use Rattle.expr_grammar.proofs.ExprComplete.{binary_high, joint_low, low_or_high, reads_all, refuses_high}
+use Rattle.expr_grammar.proofs.ExprChains.{binary_high, joint_low, low_or_high}
+use Rattle.expr_grammar.proofs.ExprComplete.{reads_all, refuses_high}
 use Rattle.expr_grammar.proofs.ExprSound.{all_sound, ok_same}
 
 weight_cons : (u : Terminal) (us vs : List Terminal) → weight (us ++ vs) ≡ weight us + weight vs → weight (u ∷ (us ++ vs)) ≡ weight (u ∷ us) + weight vs

@@ -1,5 +1,6 @@
 pub mod TokenShapes
 pub mod TokenNumbers
+pub mod ExprChains
 pub mod ExprComplete
 pub mod ExprSound
 pub mod ExprTerminals

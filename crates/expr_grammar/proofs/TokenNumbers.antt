@@ -10,7 +10,7 @@ use Rattle.med_lexer.specs.View.{shape_of}
 use Rattle.expr_grammar.specs.View.{shapes_of}
 use Rattle.expr_grammar.specs.ExprTerminals.{IsReadable, AreReadable}
 use Rattle.expr_grammar.specs.ExprGrammar.{IsHuge}
-use Rattle.expr_grammar.proofs.ExprComplete.{low_or_high}
+use Rattle.expr_grammar.proofs.ExprChains.{low_or_high}
 
 abbrev pub IsUnreadable : Token → Type 0
 IsUnreadable t = IsReadable (shape_of t.kind) → ⊥

@@ -77,7 +77,8 @@ abbrev pub left_more : (Terminal → Option BinaryOp) → Parser → ℕ → ℕ
 left_more op_of item room zero e ts = Ok (e, ts)
 left_more op_of item room (suc k) e [] = Ok (e, [])
 left_more op_of item room (suc k) e (u ∷ ts) =
-    choose (op_of u) (Ok (e, u ∷ ts)) (λ op. item ts >>= λ x. within room (binary op e x.0) x.1 >>= λ y. left_more op_of item room k y.0 y.1)
+    choose (op_of u) (Ok (e, u ∷ ts))
+    (λ op. item ts >>= λ x. within room (binary op e x.0) x.1 >>= λ y. left_more op_of item room k y.0 y.1)
 
 unfoldable pub left_of : (Terminal → Option BinaryOp) → Parser → ℕ → Parser
 left_of op_of item room ts = item ts >>= λ x. left_more op_of item room (length x.1) x.0 x.1
@@ -227,7 +228,11 @@ whole_of b room = chain_of Or (conjunction_of b room) room
 
 unfoldable pub below : ℕ → Below
 below zero = record { whole = λ _. Err TooHigh; negated = λ _. Err TooHigh; signed = λ _. Err TooHigh }
-below (suc room) = record { whole = whole_of (below room) (suc room); negated = negated_of (below room) (suc room); signed = signed_of (below room) }
+below (suc room) = record {
+  whole = whole_of (below room) (suc room);
+  negated = negated_of (below room) (suc room);
+  signed = signed_of (below room);
+}
 
 abbrev pub ended : ExprTree → List Terminal → Result ExprTree Refusal
 ended e [] = Ok e

@@ -1,5 +1,5 @@
-//! What the readers and the writers of expressions share: terminal symbols and the tokens that are them, why nothing was read, and the grammar
-//! as lists of terminals are read by it.
+//! What the readers and the writers of expressions share: terminal symbols and the tokens that are them, why nothing was read, and the
+//! grammar as lists of terminals are read by it.
 //!
 //! The grammar stands apart from the readers: which terminals spell a tree, and how tightly each form binds, says the crate of the trees.
 //! The list reader (`specs/ExprReading.antt`) is proved to find each of these trees, and no other.

@@ -16,7 +16,8 @@ pub fn print_expression(alloc: Global, expr: &Expr) -> Result<String, AllocError
     // Its tokens are those that spell the tree.
     ensures written { IfOk result (λ s. string_bytes s ≡ printed_expr (expr_tree expr.now)) }
     // What is written of a text's expression is that expression.
-    ensures again { (text : List ℕ) → HasExpr text (expr_tree expr.now) → in_range (expr_tree expr.now) ≡ true → IfOk result (λ s. HasExpr (string_bytes s) (expr_tree expr.now)) }
+    ensures again { (text : List ℕ) → HasExpr text (expr_tree expr.now) → in_range (expr_tree expr.now) ≡ true
+        → IfOk result (λ s. HasExpr (string_bytes s) (expr_tree expr.now)) }
 {
     printed_expression();
     let mut out = String::new(alloc);

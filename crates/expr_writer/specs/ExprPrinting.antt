@@ -1,5 +1,6 @@
 -- Expressions written out: keywords in upper case, every name in double quotes, and one space between tokens.
-use Rattle.std.specs.Prelude.{◌≡◌, ℕ, true, false, List, ◌++◌, map, codes}
+use Rattle.std.specs.Prelude.{◌≡◌, ℕ, true, false, List, ◌++◌, map, codes, Result, IfOk, String}
+use Rattle.std.specs.String.{string_bytes}
 use Rattle.std.specs.Fmt.{decimal}
 use Rattle.med_lexer.specs.declared.Mark.{Mark}
 use Rattle.med_lexer.specs.declared.Mark.TheVariants as marks
@@ -82,3 +83,7 @@ printed_expr e = printed (shapes_for (spelling e))
 -- behind the text these terminals were written, each behind a space
 pub record Wrote (before after : List ℕ) (us : List Terminal) : Type 0 where
   pub is : after ≡ before ++ behind_spaces (shapes_for us)
+
+-- what is told of a writer: where memory was not refused, these terminals were written behind the old text
+abbrev pub Writes : {U E A : Type 0} → Result U E → String A → String A → List Terminal → Type 0
+Writes result old new us = IfOk result (λ _. Wrote (string_bytes old) (string_bytes new) us)

@@ -5,11 +5,10 @@ ghost use Rattle.std.specs.Prelude.{◌≡◌, ◌<◌, ◌++◌, ◌∷◌, [],
 ghost use Rattle.std.specs.String.{string_bytes};
 ghost use Rattle.med_lexer.specs.Lexemes.{between};
 ghost use Rattle.med_lexer.specs.Printing.{raw_of};
-ghost use Rattle.med_syntax.specs.declared.expr.BinaryOp.TheVariants.{Mul};
-ghost use Rattle.med_syntax.specs.declared.expr.Joint.TheVariants.{And};
 ghost use Rattle.med_syntax.specs.Terminal as t;
-ghost use Rattle.med_syntax.specs.ExprTree.{spelling, spellings, parts_spelling, column_spelling, perhaps_not, status_terminal};
-ghost use Rattle.expr_writer.specs.ExprPrinting.{Wrote, fixed_terminal, shape_for};
+ghost use Rattle.med_syntax.specs.ExprTree.{call, call_all, paren, chain, between as tree_between, among, like, tested, more};
+ghost use Rattle.med_syntax.specs.ExprTree.{spelling, spellings, parts_spelling, column_spelling, perhaps_not};
+ghost use Rattle.expr_writer.specs.ExprPrinting.{Writes, fixed_terminal, shape_for};
 ghost use Rattle.med_syntax.specs.ExprView.{expr_tree, expr_trees};
 
 use med_syntax::{BinaryOp, Expr, Joint, Status};
@@ -85,7 +84,7 @@ fn fixed_text(fixed: Fixed) -> &'static str
 
 /// Writes a space and the symbol.
 pub fn write_fixed(fixed: Fixed, out: &mut String) -> Result<(), AllocError>
-    ensures { IfOk result (λ _. Wrote (string_bytes out.old) (string_bytes out.new) (fixed_terminal fixed ∷ [])) }
+    ensures { Writes result out.old out.new (fixed_terminal fixed ∷ []) }
 {
     out.push(' ')?;
     out.push_str(fixed_text(fixed))
@@ -111,21 +110,21 @@ fn write_quoted(quote: char, text: &str, out: &mut String) -> Result<(), AllocEr
 
 /// Writes a space and the name in double quotes.
 pub fn write_name(name: &String, out: &mut String) -> Result<(), AllocError>
-    ensures { IfOk result (λ _. Wrote (string_bytes out.old) (string_bytes out.new) (t.Name (string_bytes name.now) ∷ [])) }
+    ensures { Writes result out.old out.new (t.Name (string_bytes name.now) ∷ []) }
 {
     write_quoted('"', name.as_str(), out)
 }
 
 /// Writes a space and the text in single quotes.
 fn write_text(text: &String, out: &mut String) -> Result<(), AllocError>
-    ensures { IfOk result (λ _. Wrote (string_bytes out.old) (string_bytes out.new) (t.Text (string_bytes text.now) ∷ [])) }
+    ensures { Writes result out.old out.new (t.Text (string_bytes text.now) ∷ []) }
 {
     write_quoted('\'', text.as_str(), out)
 }
 
 /// Writes a space and the number.
 pub fn write_number(alloc: Global, n: u64, out: &mut String) -> Result<(), AllocError>
-    ensures { IfOk result (λ _. Wrote (string_bytes out.old) (string_bytes out.new) (t.Num n ∷ [])) }
+    ensures { Writes result out.old out.new (t.Num n ∷ []) }
 {
     let digits = n.to_string(alloc)?;
     out.push(' ')?;
@@ -138,7 +137,7 @@ pub fn write_column(
     name: &String,
     out: &mut String,
 ) -> Result<(), AllocError>
-    ensures { IfOk result (λ _. Wrote (string_bytes out.old) (string_bytes out.new) (column_spelling (option_map string_bytes qualifier.now) (string_bytes name.now))) }
+    ensures { Writes result out.old out.new (column_spelling (option_map string_bytes qualifier.now) (string_bytes name.now)) }
 {
     match qualifier {
         None => write_name(name, out),
@@ -152,7 +151,7 @@ pub fn write_column(
 
 /// Writes the call of the function with `*`.
 fn write_call_all(function: &String, out: &mut String) -> Result<(), AllocError>
-    ensures { IfOk result (λ _. Wrote (string_bytes out.old) (string_bytes out.new) (t.Name (string_bytes function.now) ∷ t.LeftParen ∷ t.Binary Mul ∷ t.RightParen ∷ [])) }
+    ensures { Writes result out.old out.new (spelling (call_all (string_bytes function.now))) }
 {
     write_name(function, out)?;
     write_fixed(Fixed::LeftParen, out)?;
@@ -162,7 +161,7 @@ fn write_call_all(function: &String, out: &mut String) -> Result<(), AllocError>
 
 /// Writes NOT where the test is negated.
 fn write_not(negated: bool, out: &mut String) -> Result<(), AllocError>
-    ensures { IfOk result (λ _. Wrote (string_bytes out.old) (string_bytes out.new) (perhaps_not negated)) }
+    ensures { Writes result out.old out.new (perhaps_not negated) }
 {
     if negated {
         write_fixed(Fixed::Not, out)
@@ -174,7 +173,7 @@ fn write_not(negated: bool, out: &mut String) -> Result<(), AllocError>
 /// Writes the expression, each of its tokens behind a space.
 #[cycle(writer)]
 pub fn write(alloc: Global, expr: &Expr, out: &mut String) -> Result<(), AllocError>
-    ensures { IfOk result (λ _. Wrote (string_bytes out.old) (string_bytes out.new) (spelling (expr_tree expr.now))) }
+    ensures { Writes result out.old out.new (spelling (expr_tree expr.now)) }
 {
     match expr {
         Expr::Number(n) => write_number(alloc, *n, out),
@@ -216,7 +215,7 @@ fn write_call(
     parts: &[Expr],
     out: &mut String,
 ) -> Result<(), AllocError>
-    ensures { IfOk result (λ _. Wrote (string_bytes out.old) (string_bytes out.new) (t.Name (string_bytes function.now) ∷ t.LeftParen ∷ parts_spelling (expr_trees parts.now))) }
+    ensures { Writes result out.old out.new (spelling (call (string_bytes function.now) (expr_trees parts.now))) }
 {
     write_name(function, out)?;
     match parts {
@@ -237,7 +236,7 @@ fn write_chain(
     others: &[Expr],
     out: &mut String,
 ) -> Result<(), AllocError>
-    ensures { IfOk result (λ _. Wrote (string_bytes out.old) (string_bytes out.new) (spelling (expr_tree first.now) ++ spellings (t.Joined joint) (expr_trees others.now))) }
+    ensures { Writes result out.old out.new (spelling (chain joint (expr_tree first.now) (expr_trees others.now))) }
 {
     write(alloc, first, out)?;
     write_others(alloc, Fixed::Joint(joint), others, out)
@@ -253,7 +252,7 @@ fn write_between(
     high: &Expr,
     out: &mut String,
 ) -> Result<(), AllocError>
-    ensures { IfOk result (λ _. Wrote (string_bytes out.old) (string_bytes out.new) (spelling (expr_tree e.now) ++ (perhaps_not negated ++ t.Between ∷ (spelling (expr_tree low.now) ++ t.Joined And ∷ spelling (expr_tree high.now))))) }
+    ensures { Writes result out.old out.new (spelling (tree_between negated (expr_tree e.now) (expr_tree low.now) (expr_tree high.now))) }
 {
     write(alloc, e, out)?;
     write_not(negated, out)?;
@@ -271,7 +270,7 @@ fn write_in(
     others: &[Expr],
     out: &mut String,
 ) -> Result<(), AllocError>
-    ensures { IfOk result (λ _. Wrote (string_bytes out.old) (string_bytes out.new) (spelling (expr_tree e.now) ++ (perhaps_not negated ++ t.In ∷ t.LeftParen ∷ (spelling (expr_tree first.now) ++ (spellings t.Comma (expr_trees others.now) ++ t.RightParen ∷ []))))) }
+    ensures { Writes result out.old out.new (spelling (among negated (expr_tree e.now) (expr_tree first.now) (expr_trees others.now))) }
 {
     write(alloc, e, out)?;
     write_not(negated, out)?;
@@ -288,7 +287,7 @@ fn write_like(
     pattern: &String,
     out: &mut String,
 ) -> Result<(), AllocError>
-    ensures { IfOk result (λ _. Wrote (string_bytes out.old) (string_bytes out.new) (spelling (expr_tree e.now) ++ (perhaps_not negated ++ t.Like ∷ t.Text (string_bytes pattern.now) ∷ []))) }
+    ensures { Writes result out.old out.new (spelling (like negated (expr_tree e.now) (string_bytes pattern.now))) }
 {
     write(alloc, e, out)?;
     write_not(negated, out)?;
@@ -305,7 +304,7 @@ fn write_is(
     status: Status,
     out: &mut String,
 ) -> Result<(), AllocError>
-    ensures { IfOk result (λ _. Wrote (string_bytes out.old) (string_bytes out.new) (spelling (expr_tree e.now) ++ (t.Is ∷ (perhaps_not negated ++ status_terminal status ∷ [])))) }
+    ensures { Writes result out.old out.new (spelling (tested negated (expr_tree e.now) status)) }
 {
     write(alloc, e, out)?;
     write_fixed(Fixed::Is, out)?;
@@ -316,7 +315,7 @@ fn write_is(
 /// Writes the expression in parentheses.
 #[cycle(writer)]
 fn write_paren(alloc: Global, expr: &Expr, out: &mut String) -> Result<(), AllocError>
-    ensures { IfOk result (λ _. Wrote (string_bytes out.old) (string_bytes out.new) (t.LeftParen ∷ (spelling (expr_tree expr.now) ++ t.RightParen ∷ []))) }
+    ensures { Writes result out.old out.new (spelling (paren (expr_tree expr.now))) }
 {
     write_fixed(Fixed::LeftParen, out)?;
     write(alloc, expr, out)?;
@@ -332,7 +331,7 @@ fn write_pair(
     b: &Expr,
     out: &mut String,
 ) -> Result<(), AllocError>
-    ensures { IfOk result (λ _. Wrote (string_bytes out.old) (string_bytes out.new) (spelling (expr_tree a.now) ++ fixed_terminal fixed ∷ spelling (expr_tree b.now))) }
+    ensures { Writes result out.old out.new (spelling (expr_tree a.now) ++ fixed_terminal fixed ∷ spelling (expr_tree b.now)) }
 {
     write(alloc, a, out)?;
     write_fixed(fixed, out)?;
@@ -347,7 +346,7 @@ fn write_list(
     others: &[Expr],
     out: &mut String,
 ) -> Result<(), AllocError>
-    ensures { IfOk result (λ _. Wrote (string_bytes out.old) (string_bytes out.new) (t.LeftParen ∷ (spelling (expr_tree first.now) ++ (spellings t.Comma (expr_trees others.now) ++ t.RightParen ∷ [])))) }
+    ensures { Writes result out.old out.new (t.LeftParen ∷ parts_spelling (more (expr_tree first.now) (expr_trees others.now))) }
 {
     write_fixed(Fixed::LeftParen, out)?;
     write(alloc, first, out)?;
@@ -363,7 +362,7 @@ fn write_others(
     exprs: &[Expr],
     out: &mut String,
 ) -> Result<(), AllocError>
-    ensures { IfOk result (λ _. Wrote (string_bytes out.old) (string_bytes out.new) (spellings (fixed_terminal fixed) (expr_trees exprs.now))) }
+    ensures { Writes result out.old out.new (spellings (fixed_terminal fixed) (expr_trees exprs.now)) }
 {
     let mut left = exprs;
     while let Some((expr, rest)) = left.split_first() {

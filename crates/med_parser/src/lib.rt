@@ -8,8 +8,8 @@
 //!
 //! A clause of a query is a field of `SelectTree` and of `Select`, in the crate of the trees, with a line in their view, height and
 //! range; in `query_grammar` a `Spells` relation (`specs/QueryGrammar.antt`) and a line in `proofs/QueryTerminals.antt`; in
-//! `query_reader` a part of the list reader (`specs/QueryReading.antt`), a lemma `_takes` and one `_sound` (`proofs/QueryComplete.antt`,
-//! `proofs/QuerySound.antt`), and a function in `src/query_statement.rt`, `src/query_source.rt` or `src/query_keys.rt`; in `query_print`
+//! `query_reader` a part of the list reader (`specs/QueryReading.antt`), a lemma `_takes` and one `_sound` (`proofs/ClauseComplete.antt`,
+//! `proofs/ClauseSound.antt`), and a function in `src/query_statement.rt`, `src/query_source.rt` or `src/query_keys.rt`; in `query_print`
 //! a line in `specs/QueryPrinting.antt` and `proofs/QueryPrints.antt`, and a function in `src/query_writer.rt`; and last, here, a line in
 //! `proofs/QueryWeighing.antt` and a function in `src/query_range.rt`. Lists, and parts that may be left out behind their keywords, have
 //! relations, readers and lemmas of their own (`SpellsListed`, `SpellsPerhaps`). The part before a clause has to stop at its keyword

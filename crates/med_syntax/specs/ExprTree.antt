@@ -1,5 +1,5 @@
--- The grammar of expressions: what each tree is spelled by, and which trees it has (SQL:2016, part 2, 6.28 <value expression>, 8 "Predicates",
--- 10.4 <routine invocation>, 10.9 <aggregate function>).
+-- The grammar of expressions: what each tree is spelled by, and which trees it has (SQL:2016, part 2, 6.28 <value expression>,
+-- 8 "Predicates", 10.4 <routine invocation>, 10.9 <aggregate function>).
 --     expr  = conj {OR conj}           conj = neg {AND neg}
 --     neg   = NOT neg | test           test = comp [IS [NOT] (NULL | TRUE | FALSE | UNKNOWN)]
 --     comp  = range [(= | <> | < | <= | > | >=) range]
@@ -79,7 +79,8 @@ abbrev mutual
   spelling (minus e) = t.Binary Sub ∷ spelling e
   spelling (binary op a b) = spelling a ++ t.Binary op ∷ spelling b
   spelling (between neg e low high) = spelling e ++ (perhaps_not neg ++ t.Between ∷ (spelling low ++ t.Joined And ∷ spelling high))
-  spelling (among neg e first others) = spelling e ++ (perhaps_not neg ++ t.In ∷ t.LeftParen ∷ (spelling first ++ (spellings t.Comma others ++ t.RightParen ∷ [])))
+  spelling (among neg e first others) =
+      spelling e ++ (perhaps_not neg ++ t.In ∷ t.LeftParen ∷ (spelling first ++ (spellings t.Comma others ++ t.RightParen ∷ [])))
   spelling (like neg e x) = spelling e ++ (perhaps_not neg ++ t.Like ∷ t.Text x ∷ [])
   spelling (compare op a b) = spelling a ++ t.Compare op ∷ spelling b
   spelling (tested neg e s) = spelling e ++ (t.Is ∷ (perhaps_not neg ++ status_terminal s ∷ []))
@@ -151,7 +152,8 @@ abbrev mutual
   Fits (compare op a b) = Fits a × Fits b × (5 ≤ level a) × (5 ≤ level b)
   Fits (tested neg e s) = Fits e × (4 ≤ level e)
   Fits (negation e) = Fits e × (2 ≤ level e)
-  Fits (chain joint first others) = Fits first × (suc (joint_level joint) ≤ level first) × AllFit (suc (joint_level joint)) others × IsMany others
+  Fits (chain joint first others) =
+      Fits first × (suc (joint_level joint) ≤ level first) × AllFit (suc (joint_level joint)) others × IsMany others
   Fits _ = Unit {0}
 
   pub AllFit : ℕ → ExprTrees → Type 0

@@ -14,7 +14,8 @@ pub record EntryTree : Type 0 where
   pub table : Name
   pub alias : Option Name
 
--- A join with one more entry (SQL:2016, <joined table>): for what ON says, for that and with each left row that has no match, or for all pairs.
+-- A join with one more entry (SQL:2016, <joined table>): for what ON says, for that and with each left row that has no match, or for all
+-- pairs.
 pub data JoinTree : Type 0 where
   inner_join : EntryTree → ExprTree → JoinTree
   left_join : EntryTree → ExprTree → JoinTree

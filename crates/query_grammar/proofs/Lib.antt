@@ -1,2 +1,3 @@
+pub mod QueryKeywords
 pub mod QueryTerminals
 pub mod QueryLabels

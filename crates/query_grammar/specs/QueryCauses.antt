@@ -44,8 +44,9 @@ limit_in_range (rows n) = count_in_range n
 
 abbrev pub select_in_range : SelectTree → Bool
 select_in_range q =
-    all_in_range item_in_range q.items && (all_in_range chain_in_range q.from && (perhaps_in_range in_range q.condition && (perhaps_in_range in_range q.having
-    && (all_in_range key_in_range q.keys && (perhaps_in_range limit_in_range q.limit && perhaps_in_range count_in_range q.offset)))))
+    all_in_range item_in_range q.items && (all_in_range chain_in_range q.from && (perhaps_in_range in_range q.condition
+    && (perhaps_in_range in_range q.having && (all_in_range key_in_range q.keys
+    && (perhaps_in_range limit_in_range q.limit && perhaps_in_range count_in_range q.offset)))))
 
 abbrev pub statement_in_range : StatementTree → Bool
 statement_in_range (select q) = select_in_range q
@@ -62,7 +63,8 @@ TokenCauses ts causes.Syntax = (s : StatementTree) → IsStatement ts s → ⊥
 TokenCauses ts causes.NameTooLong = Any IsLongName ts
 TokenCauses ts causes.LiteralOutOfRange = Any IsHuge ts ⊎ ((s : StatementTree) × IsStatement ts s × (statement_in_range s ≡ false))
 TokenCauses ts causes.TooDeep =
-    ((s : StatementTree) × IsStatement ts s × (64 < statement_height s)) ⊎ (((s : StatementTree) → IsStatement ts s → ⊥) × (64 < count_by deepens ts))
+    ((s : StatementTree) × IsStatement ts s × (64 < statement_height s))
+    ⊎ (((s : StatementTree) → IsStatement ts s → ⊥) × (64 < count_by deepens ts))
 TokenCauses ts _ = ⊥
 
 -- The causes that stand for a text: 42601 where it has no tree, and so where it has no tokens, and the others for its tokens.

@@ -65,13 +65,19 @@ SpellsEntry e ts = (behind : List Terminal) × (ts ≡ t.Name e.table ∷ behind
 abbrev pub SpellsOn : EntryTree → ExprTree → List Terminal → Type 0
 SpellsOn e on ts = (entry expr : List Terminal) × (ts ≡ entry ++ t.Reserved (codes "on") ∷ expr) × SpellsEntry e entry × IsExpr expr on
 
+-- [INNER] JOIN
+abbrev pub IsInnerJoin : List Terminal → Type 0
+IsInnerJoin words = (words ≡ keywords (codes "join" ∷ [])) ⊎ (words ≡ keywords (codes "inner" ∷ codes "join" ∷ []))
+
+-- LEFT [OUTER] JOIN
+abbrev pub IsLeftJoin : List Terminal → Type 0
+IsLeftJoin words =
+    (words ≡ keywords (codes "left" ∷ codes "join" ∷ [])) ⊎ (words ≡ keywords (codes "left" ∷ codes "outer" ∷ codes "join" ∷ []))
+
 -- [INNER] JOIN entry ON expr | LEFT [OUTER] JOIN entry ON expr | CROSS JOIN entry (SQL:2016, <joined table>)
 abbrev pub SpellsJoin : JoinTree → List Terminal → Type 0
-SpellsJoin (inner_join e on) ts =
-    (words behind : List Terminal) × (ts ≡ words ++ behind) × ((words ≡ keywords (codes "join" ∷ [])) ⊎ (words ≡ keywords (codes "inner" ∷ codes "join" ∷ []))) × SpellsOn e on behind
-SpellsJoin (left_join e on) ts =
-    (words behind : List Terminal) × (ts ≡ words ++ behind)
-    × ((words ≡ keywords (codes "left" ∷ codes "join" ∷ [])) ⊎ (words ≡ keywords (codes "left" ∷ codes "outer" ∷ codes "join" ∷ []))) × SpellsOn e on behind
+SpellsJoin (inner_join e on) ts = (words behind : List Terminal) × (ts ≡ words ++ behind) × IsInnerJoin words × SpellsOn e on behind
+SpellsJoin (left_join e on) ts = (words behind : List Terminal) × (ts ≡ words ++ behind) × IsLeftJoin words × SpellsOn e on behind
 SpellsJoin (cross_join e) ts = (entry : List Terminal) × (ts ≡ keywords (codes "cross" ∷ codes "join" ∷ []) ++ entry) × SpellsEntry e entry
 
 -- {join}
@@ -95,7 +101,8 @@ SpellsFlag one other false ts = (ts ≡ []) ⊎ (ts ≡ t.Reserved other ∷ [])
 -- [NULLS FIRST | NULLS LAST]: where it is not written, NULL is last, and under DESC first (SQL:2016, <null ordering>).
 abbrev pub SpellsNulls : Bool → Bool → List Terminal → Type 0
 SpellsNulls descending first ts =
-    ((ts ≡ []) × (first ≡ descending)) ⊎ ((ts ≡ keywords (codes "nulls" ∷ codes "first" ∷ [])) × (first ≡ true)) ⊎ ((ts ≡ keywords (codes "nulls" ∷ codes "last" ∷ [])) × (first ≡ false))
+    ((ts ≡ []) × (first ≡ descending)) ⊎ ((ts ≡ keywords (codes "nulls" ∷ codes "first" ∷ [])) × (first ≡ true))
+    ⊎ ((ts ≡ keywords (codes "nulls" ∷ codes "last" ∷ [])) × (first ≡ false))
 
 -- expr [ASC | DESC] [NULLS FIRST | NULLS LAST] (SQL:2016, <sort specification>)
 abbrev pub SpellsKey : KeyTree → List Terminal → Type 0
@@ -135,8 +142,8 @@ SpellsListed words Spells (x ∷ xs) ts = (behind : List Terminal) × (ts ≡ ke
 abbrev pub SpellsExpr : ExprTree → List Terminal → Type 0
 SpellsExpr e ts = IsExpr ts e
 
--- SELECT [ALL | DISTINCT] item {, item} [FROM chain {, chain}] [WHERE expr] [GROUP BY col {, col}] [HAVING expr] [ORDER BY key {, key}] [limits]
--- (SQL:2016, <query specification>, <query expression>)
+-- SELECT [ALL | DISTINCT] item {, item} [FROM chain {, chain}] [WHERE expr] [GROUP BY col {, col}] [HAVING expr]
+-- [ORDER BY key {, key}] [limits] (SQL:2016, <query specification>, <query expression>)
 pub record SpellsSelect (q : SelectTree) (ts : List Terminal) : Type 0 where
   pub quantifier : List Terminal
   pub items : List Terminal

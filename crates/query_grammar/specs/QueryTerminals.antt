@@ -1,4 +1,5 @@
--- The terminals that tokens are in a statement. NULLS, FIRST, LAST, ROW and ROWS are keywords that are not reserved: elsewhere each is a name.
+-- The terminals that tokens are in a statement. NULLS, FIRST, LAST, ROW and ROWS are keywords that are not reserved: elsewhere each is a
+-- name.
 use Rattle.std.specs.Prelude.{◌≡◌, ℕ, Bool, true, false, cond, List, [], ◌∷◌, ◌⊎◌, codes, Option, Some, None}
 use Rattle.std.specs.List.{list_any}
 use Rattle.std.specs.Str.{bytes_eq}

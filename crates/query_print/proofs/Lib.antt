@@ -1,2 +1,4 @@
 pub mod Writing
+pub mod WritingParts
+pub mod QuerySpelled
 pub mod QueryPrints

@@ -119,7 +119,8 @@ tail_written q = listed_written (codes "order" ∷ codes "by" ∷ []) key_writte
 abbrev pub clauses_written : SelectTree → List Terminal
 clauses_written q =
     listed_written (codes "from" ∷ []) chain_written q.from ++ (perhaps_written (codes "where" ∷ []) spelling q.condition
-    ++ (listed_written (codes "group" ∷ codes "by" ∷ []) group_written q.groups ++ (perhaps_written (codes "having" ∷ []) spelling q.having ++ tail_written q)))
+    ++ (listed_written (codes "group" ∷ codes "by" ∷ []) group_written q.groups
+    ++ (perhaps_written (codes "having" ∷ []) spelling q.having ++ tail_written q)))
 
 abbrev pub select_written : SelectTree → List Terminal
 select_written q = t.Reserved (codes "select") ∷ (quantifier_written q.distinct ++ (list_written item_written q.items ++ clauses_written q))

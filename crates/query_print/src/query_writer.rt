@@ -1,7 +1,7 @@
 //! Writes statements out.
-#![tactic(auto, using(crate::proofs::Writing::wrote_one, crate::proofs::Writing::wrote_none, crate::proofs::Writing::wrote_then, crate::proofs::Writing::wrote_more, crate::proofs::Writing::then_if, crate::proofs::Writing::more_if, crate::proofs::Writing::wrote_all, crate::proofs::QueryPrints::items_next, crate::proofs::QueryPrints::chains_next, crate::proofs::QueryPrints::groups_next, crate::proofs::QueryPrints::keys_next, crate::proofs::QueryPrints::joins_next))]
+#![tactic(auto, using(crate::proofs::Writing::wrote_one, crate::proofs::Writing::wrote_none, crate::proofs::Writing::wrote_then, crate::proofs::Writing::wrote_more, crate::proofs::Writing::then_if, crate::proofs::Writing::more_if, crate::proofs::Writing::wrote_all, crate::proofs::WritingParts::items_next, crate::proofs::WritingParts::chains_next, crate::proofs::WritingParts::groups_next, crate::proofs::WritingParts::keys_next, crate::proofs::WritingParts::joins_next))]
 
-ghost use Rattle.expr_writer.specs.ExprPrinting.{Wrote, shape_for};
+ghost use Rattle.expr_writer.specs.ExprPrinting.{Writes, shape_for};
 ghost use Rattle.med_lexer.specs.Printing.{raw_of};
 ghost use Rattle.med_syntax.specs.ExprTree.{spelling};
 ghost use Rattle.med_syntax.specs.ExprView.{expr_tree};
@@ -19,6 +19,7 @@ use expr_writer::{Fixed, write, write_column, write_fixed, write_name, write_num
 use med_syntax::{
     BinaryOp, Chain, Entry, Expr, GroupColumn, Item, Join, Limit, OrderKey, Select, Statement,
 };
+use med_value::NoMemory;
 use std::alloc::{AllocError, Global};
 
 /// A keyword that no expression has.
@@ -77,7 +78,7 @@ fn keyword_text(keyword: Keyword) -> &'static str
 
 /// Writes a space and the keyword.
 fn write_keyword(keyword: Keyword, out: &mut String) -> Result<(), AllocError>
-    ensures { IfOk result (λ _. Wrote (string_bytes out.old) (string_bytes out.new) (keyword_terminal keyword ∷ [])) }
+    ensures { Writes result out.old out.new (keyword_terminal keyword ∷ []) }
 {
     out.push(' ')?;
     out.push_str(keyword_text(keyword))
@@ -85,7 +86,7 @@ fn write_keyword(keyword: Keyword, out: &mut String) -> Result<(), AllocError>
 
 /// Writes AS and the name, where there is one.
 fn write_alias(alias: &Option<String>, out: &mut String) -> Result<(), AllocError>
-    ensures { IfOk result (λ _. Wrote (string_bytes out.old) (string_bytes out.new) (alias_written (option_map string_bytes alias.now))) }
+    ensures { Writes result out.old out.new (alias_written (option_map string_bytes alias.now)) }
 {
     match alias {
         None => Ok(()),
@@ -103,8 +104,7 @@ fn write_value(
     alias: &Option<String>,
     out: &mut String,
 ) -> Result<(), AllocError>
-    ensures { IfOk result (λ _. Wrote (string_bytes out.old) (string_bytes out.new)
-        (spelling (expr_tree expr.now) ++ alias_written (option_map string_bytes alias.now))) }
+    ensures { Writes result out.old out.new (spelling (expr_tree expr.now) ++ alias_written (option_map string_bytes alias.now)) }
 {
     write(alloc, expr, out)?;
     write_alias(alias, out)
@@ -112,7 +112,7 @@ fn write_value(
 
 /// Writes the item, each of its tokens behind a space.
 fn write_item(alloc: Global, item: &Item, out: &mut String) -> Result<(), AllocError>
-    ensures { IfOk result (λ _. Wrote (string_bytes out.old) (string_bytes out.new) (item_written (item_tree item.now))) }
+    ensures { Writes result out.old out.new (item_written (item_tree item.now)) }
 {
     match item {
         Item::All => write_fixed(Fixed::Binary(BinaryOp::Mul), out),
@@ -127,14 +127,14 @@ fn write_item(alloc: Global, item: &Item, out: &mut String) -> Result<(), AllocE
 
 /// Writes a space and a comma.
 fn write_comma(out: &mut String) -> Result<(), AllocError>
-    ensures { IfOk result (λ _. Wrote (string_bytes out.old) (string_bytes out.new) (t.Comma ∷ [])) }
+    ensures { Writes result out.old out.new (t.Comma ∷ []) }
 {
     write_fixed(Fixed::Comma, out)
 }
 
 /// Writes each of the items behind a comma.
 fn write_other_items(alloc: Global, items: &[Item], out: &mut String) -> Result<(), AllocError>
-    ensures { IfOk result (λ _. Wrote (string_bytes out.old) (string_bytes out.new) (others_written item_written (items_tree items.now))) }
+    ensures { Writes result out.old out.new (others_written item_written (items_tree items.now)) }
 {
     let mut left = items;
     while let Some((item, rest)) = left.split_first() {
@@ -152,8 +152,7 @@ fn write_item_list(
     others: &[Item],
     out: &mut String,
 ) -> Result<(), AllocError>
-    ensures { IfOk result (λ _. Wrote (string_bytes out.old) (string_bytes out.new)
-        (item_written (item_tree first.now) ++ others_written item_written (items_tree others.now))) }
+    ensures { Writes result out.old out.new (item_written (item_tree first.now) ++ others_written item_written (items_tree others.now)) }
 {
     write_item(alloc, first, out)?;
     write_other_items(alloc, others, out)
@@ -161,7 +160,7 @@ fn write_item_list(
 
 /// Writes the items with a comma between each two.
 fn write_items(alloc: Global, items: &[Item], out: &mut String) -> Result<(), AllocError>
-    ensures { IfOk result (λ _. Wrote (string_bytes out.old) (string_bytes out.new) (list_written item_written (items_tree items.now))) }
+    ensures { Writes result out.old out.new (list_written item_written (items_tree items.now)) }
 {
     match items {
         [] => Ok(()),
@@ -171,7 +170,7 @@ fn write_items(alloc: Global, items: &[Item], out: &mut String) -> Result<(), Al
 
 /// Writes the entry.
 fn write_entry(entry: &Entry, out: &mut String) -> Result<(), AllocError>
-    ensures { IfOk result (λ _. Wrote (string_bytes out.old) (string_bytes out.new) (entry_written (entry_tree entry.now))) }
+    ensures { Writes result out.old out.new (entry_written (entry_tree entry.now)) }
 {
     write_name(&entry.table, out)?;
     write_alias(&entry.alias, out)
@@ -179,8 +178,7 @@ fn write_entry(entry: &Entry, out: &mut String) -> Result<(), AllocError>
 
 /// Writes ON and the condition.
 fn write_on(alloc: Global, on: &Expr, out: &mut String) -> Result<(), AllocError>
-    ensures { IfOk result (λ _. Wrote (string_bytes out.old) (string_bytes out.new)
-        (t.Reserved (codes "on") ∷ spelling (expr_tree on.now))) }
+    ensures { Writes result out.old out.new (t.Reserved (codes "on") ∷ spelling (expr_tree on.now)) }
 {
     write_keyword(Keyword::On, out)?;
     write(alloc, on, out)
@@ -193,8 +191,7 @@ fn write_entry_on(
     on: &Expr,
     out: &mut String,
 ) -> Result<(), AllocError>
-    ensures { IfOk result (λ _. Wrote (string_bytes out.old) (string_bytes out.new)
-        (t.Reserved (codes "join") ∷ on_written (entry_tree entry.now) (expr_tree on.now))) }
+    ensures { Writes result out.old out.new (t.Reserved (codes "join") ∷ on_written (entry_tree entry.now) (expr_tree on.now)) }
 {
     write_keyword(Keyword::Join, out)?;
     write_entry(entry, out)?;
@@ -208,8 +205,7 @@ fn write_left_join(
     on: &Expr,
     out: &mut String,
 ) -> Result<(), AllocError>
-    ensures { IfOk result (λ _. Wrote (string_bytes out.old) (string_bytes out.new)
-        (join_written (left_join (entry_tree entry.now) (expr_tree on.now)))) }
+    ensures { Writes result out.old out.new (join_written (left_join (entry_tree entry.now) (expr_tree on.now))) }
 {
     write_keyword(Keyword::Left, out)?;
     write_entry_on(alloc, entry, on, out)
@@ -217,7 +213,7 @@ fn write_left_join(
 
 /// Writes CROSS JOIN and the entry.
 fn write_cross_join(entry: &Entry, out: &mut String) -> Result<(), AllocError>
-    ensures { IfOk result (λ _. Wrote (string_bytes out.old) (string_bytes out.new) (join_written (cross_join (entry_tree entry.now)))) }
+    ensures { Writes result out.old out.new (join_written (cross_join (entry_tree entry.now))) }
 {
     write_keyword(Keyword::Cross, out)?;
     write_keyword(Keyword::Join, out)?;
@@ -226,7 +222,7 @@ fn write_cross_join(entry: &Entry, out: &mut String) -> Result<(), AllocError>
 
 /// Writes the join.
 fn write_join(alloc: Global, join: &Join, out: &mut String) -> Result<(), AllocError>
-    ensures { IfOk result (λ _. Wrote (string_bytes out.old) (string_bytes out.new) (join_written (join_tree join.now))) }
+    ensures { Writes result out.old out.new (join_written (join_tree join.now)) }
 {
     match join {
         Join::Inner(entry, on) => write_entry_on(alloc, entry, on, out),
@@ -237,7 +233,7 @@ fn write_join(alloc: Global, join: &Join, out: &mut String) -> Result<(), AllocE
 
 /// Writes each of the joins.
 fn write_joins(alloc: Global, joins: &[Join], out: &mut String) -> Result<(), AllocError>
-    ensures { IfOk result (λ _. Wrote (string_bytes out.old) (string_bytes out.new) (joins_written (map join_tree joins.now))) }
+    ensures { Writes result out.old out.new (joins_written (map join_tree joins.now)) }
 {
     let mut left = joins;
     while let Some((join, rest)) = left.split_first() {
@@ -249,7 +245,7 @@ fn write_joins(alloc: Global, joins: &[Join], out: &mut String) -> Result<(), Al
 
 /// Writes the entry with its joins.
 fn write_chain(alloc: Global, chain: &Chain, out: &mut String) -> Result<(), AllocError>
-    ensures { IfOk result (λ _. Wrote (string_bytes out.old) (string_bytes out.new) (chain_written (chain_tree chain.now))) }
+    ensures { Writes result out.old out.new (chain_written (chain_tree chain.now)) }
 {
     write_entry(&chain.first, out)?;
     write_joins(alloc, &chain.joins, out)
@@ -257,8 +253,7 @@ fn write_chain(alloc: Global, chain: &Chain, out: &mut String) -> Result<(), All
 
 /// Writes each of the chains behind a comma.
 fn write_other_chains(alloc: Global, chains: &[Chain], out: &mut String) -> Result<(), AllocError>
-    ensures { IfOk result (λ _. Wrote (string_bytes out.old) (string_bytes out.new)
-        (others_written chain_written (map chain_tree chains.now))) }
+    ensures { Writes result out.old out.new (others_written chain_written (map chain_tree chains.now)) }
 {
     let mut left = chains;
     while let Some((chain, rest)) = left.split_first() {
@@ -276,8 +271,8 @@ fn write_chain_list(
     others: &[Chain],
     out: &mut String,
 ) -> Result<(), AllocError>
-    ensures { IfOk result (λ _. Wrote (string_bytes out.old) (string_bytes out.new)
-        (chain_written (chain_tree first.now) ++ others_written chain_written (map chain_tree others.now))) }
+    ensures { Writes result out.old out.new
+        (chain_written (chain_tree first.now) ++ others_written chain_written (map chain_tree others.now)) }
 {
     write_chain(alloc, first, out)?;
     write_other_chains(alloc, others, out)
@@ -285,8 +280,7 @@ fn write_chain_list(
 
 /// Writes FROM and the chains, where there are any.
 fn write_from(alloc: Global, chains: &[Chain], out: &mut String) -> Result<(), AllocError>
-    ensures { IfOk result (λ _. Wrote (string_bytes out.old) (string_bytes out.new)
-        (listed_written (codes "from" ∷ []) chain_written (map chain_tree chains.now))) }
+    ensures { Writes result out.old out.new (listed_written (codes "from" ∷ []) chain_written (map chain_tree chains.now)) }
 {
     match chains {
         [] => Ok(()),
@@ -304,8 +298,7 @@ fn write_condition(
     condition: &Option<Expr>,
     out: &mut String,
 ) -> Result<(), AllocError>
-    ensures { IfOk result (λ _. Wrote (string_bytes out.old) (string_bytes out.new)
-        (perhaps_written (keyword_word keyword ∷ []) spelling (option_map expr_tree condition.now))) }
+    ensures { Writes result out.old out.new (perhaps_written (keyword_word keyword ∷ []) spelling (option_map expr_tree condition.now)) }
 {
     match condition {
         None => Ok(()),
@@ -318,15 +311,14 @@ fn write_condition(
 
 /// Writes the column.
 fn write_group(group: &GroupColumn, out: &mut String) -> Result<(), AllocError>
-    ensures { IfOk result (λ _. Wrote (string_bytes out.old) (string_bytes out.new) (group_written (group_tree group.now))) }
+    ensures { Writes result out.old out.new (group_written (group_tree group.now)) }
 {
     write_column(&group.qualifier, &group.name, out)
 }
 
 /// Writes each of the columns behind a comma.
 fn write_other_groups(groups: &[GroupColumn], out: &mut String) -> Result<(), AllocError>
-    ensures { IfOk result (λ _. Wrote (string_bytes out.old) (string_bytes out.new)
-        (others_written group_written (map group_tree groups.now))) }
+    ensures { Writes result out.old out.new (others_written group_written (map group_tree groups.now)) }
 {
     let mut left = groups;
     while let Some((group, rest)) = left.split_first() {
@@ -343,8 +335,8 @@ fn write_group_list(
     others: &[GroupColumn],
     out: &mut String,
 ) -> Result<(), AllocError>
-    ensures { IfOk result (λ _. Wrote (string_bytes out.old) (string_bytes out.new)
-        (group_written (group_tree first.now) ++ others_written group_written (map group_tree others.now))) }
+    ensures { Writes result out.old out.new
+        (group_written (group_tree first.now) ++ others_written group_written (map group_tree others.now)) }
 {
     write_group(first, out)?;
     write_other_groups(others, out)
@@ -352,8 +344,7 @@ fn write_group_list(
 
 /// Writes GROUP BY and the columns, where there are any.
 fn write_groups(groups: &[GroupColumn], out: &mut String) -> Result<(), AllocError>
-    ensures { IfOk result (λ _. Wrote (string_bytes out.old) (string_bytes out.new)
-        (listed_written (codes "group" ∷ codes "by" ∷ []) group_written (map group_tree groups.now))) }
+    ensures { Writes result out.old out.new (listed_written (codes "group" ∷ codes "by" ∷ []) group_written (map group_tree groups.now)) }
 {
     match groups {
         [] => Ok(()),
@@ -367,8 +358,7 @@ fn write_groups(groups: &[GroupColumn], out: &mut String) -> Result<(), AllocErr
 
 /// Writes one of the keywords.
 fn write_flag(flag: bool, one: Keyword, other: Keyword, out: &mut String) -> Result<(), AllocError>
-    ensures { IfOk result (λ _. Wrote (string_bytes out.old) (string_bytes out.new)
-        (flag_written (keyword_word one) (keyword_word other) flag)) }
+    ensures { Writes result out.old out.new (flag_written (keyword_word one) (keyword_word other) flag) }
 {
     if flag {
         write_keyword(one, out)
@@ -379,8 +369,7 @@ fn write_flag(flag: bool, one: Keyword, other: Keyword, out: &mut String) -> Res
 
 /// Writes the direction of a key, and where it puts NULL.
 fn write_direction(descending: bool, nulls_first: bool, out: &mut String) -> Result<(), AllocError>
-    ensures { IfOk result (λ _. Wrote (string_bytes out.old) (string_bytes out.new)
-        (flag_written (codes "desc") (codes "asc") descending ++ nulls_written nulls_first)) }
+    ensures { Writes result out.old out.new (flag_written (codes "desc") (codes "asc") descending ++ nulls_written nulls_first) }
 {
     write_flag(descending, Keyword::Descending, Keyword::Ascending, out)?;
     write_keyword(Keyword::Nulls, out)?;
@@ -389,7 +378,7 @@ fn write_direction(descending: bool, nulls_first: bool, out: &mut String) -> Res
 
 /// Writes the key.
 fn write_key(alloc: Global, key: &OrderKey, out: &mut String) -> Result<(), AllocError>
-    ensures { IfOk result (λ _. Wrote (string_bytes out.old) (string_bytes out.new) (key_written (key_tree key.now))) }
+    ensures { Writes result out.old out.new (key_written (key_tree key.now)) }
 {
     write(alloc, &key.key, out)?;
     write_direction(key.descending, key.nulls_first, out)
@@ -397,7 +386,7 @@ fn write_key(alloc: Global, key: &OrderKey, out: &mut String) -> Result<(), Allo
 
 /// Writes each of the keys behind a comma.
 fn write_other_keys(alloc: Global, keys: &[OrderKey], out: &mut String) -> Result<(), AllocError>
-    ensures { IfOk result (λ _. Wrote (string_bytes out.old) (string_bytes out.new) (others_written key_written (map key_tree keys.now))) }
+    ensures { Writes result out.old out.new (others_written key_written (map key_tree keys.now)) }
 {
     let mut left = keys;
     while let Some((key, rest)) = left.split_first() {
@@ -415,8 +404,7 @@ fn write_key_list(
     others: &[OrderKey],
     out: &mut String,
 ) -> Result<(), AllocError>
-    ensures { IfOk result (λ _. Wrote (string_bytes out.old) (string_bytes out.new)
-        (key_written (key_tree first.now) ++ others_written key_written (map key_tree others.now))) }
+    ensures { Writes result out.old out.new (key_written (key_tree first.now) ++ others_written key_written (map key_tree others.now)) }
 {
     write_key(alloc, first, out)?;
     write_other_keys(alloc, others, out)
@@ -424,8 +412,7 @@ fn write_key_list(
 
 /// Writes ORDER BY and the keys, where there are any.
 fn write_keys(alloc: Global, keys: &[OrderKey], out: &mut String) -> Result<(), AllocError>
-    ensures { IfOk result (λ _. Wrote (string_bytes out.old) (string_bytes out.new)
-        (listed_written (codes "order" ∷ codes "by" ∷ []) key_written (map key_tree keys.now))) }
+    ensures { Writes result out.old out.new (listed_written (codes "order" ∷ codes "by" ∷ []) key_written (map key_tree keys.now)) }
 {
     match keys {
         [] => Ok(()),
@@ -439,7 +426,7 @@ fn write_keys(alloc: Global, keys: &[OrderKey], out: &mut String) -> Result<(), 
 
 /// Writes LIMIT, where it is written.
 fn write_limit(alloc: Global, limit: Option<Limit>, out: &mut String) -> Result<(), AllocError>
-    ensures { IfOk result (λ _. Wrote (string_bytes out.old) (string_bytes out.new) (limit_written (option_map limit_tree limit))) }
+    ensures { Writes result out.old out.new (limit_written (option_map limit_tree limit)) }
 {
     match limit {
         None => Ok(()),
@@ -456,7 +443,7 @@ fn write_limit(alloc: Global, limit: Option<Limit>, out: &mut String) -> Result<
 
 /// Writes OFFSET, where it is written.
 fn write_offset(alloc: Global, offset: Option<u64>, out: &mut String) -> Result<(), AllocError>
-    ensures { IfOk result (λ _. Wrote (string_bytes out.old) (string_bytes out.new) (offset_written offset)) }
+    ensures { Writes result out.old out.new (offset_written offset) }
 {
     match offset {
         None => Ok(()),
@@ -469,7 +456,7 @@ fn write_offset(alloc: Global, offset: Option<u64>, out: &mut String) -> Result<
 
 /// Writes DISTINCT, where it is written.
 fn write_quantifier(distinct: bool, out: &mut String) -> Result<(), AllocError>
-    ensures { IfOk result (λ _. Wrote (string_bytes out.old) (string_bytes out.new) (quantifier_written distinct)) }
+    ensures { Writes result out.old out.new (quantifier_written distinct) }
 {
     if distinct {
         write_keyword(Keyword::Distinct, out)
@@ -480,7 +467,7 @@ fn write_quantifier(distinct: bool, out: &mut String) -> Result<(), AllocError>
 
 /// Writes what stands behind HAVING.
 fn write_tail(alloc: Global, select: &Select, out: &mut String) -> Result<(), AllocError>
-    ensures { IfOk result (λ _. Wrote (string_bytes out.old) (string_bytes out.new) (tail_written (select_tree select.now))) }
+    ensures { Writes result out.old out.new (tail_written (select_tree select.now)) }
 {
     write_keys(alloc, &select.keys, out)?;
     write_limit(alloc, select.limit, out)?;
@@ -489,7 +476,7 @@ fn write_tail(alloc: Global, select: &Select, out: &mut String) -> Result<(), Al
 
 /// Writes what stands behind the items.
 fn write_clauses(alloc: Global, select: &Select, out: &mut String) -> Result<(), AllocError>
-    ensures { IfOk result (λ _. Wrote (string_bytes out.old) (string_bytes out.new) (clauses_written (select_tree select.now))) }
+    ensures { Writes result out.old out.new (clauses_written (select_tree select.now)) }
 {
     write_from(alloc, &select.from, out)?;
     write_condition(alloc, Keyword::Where, &select.condition, out)?;
@@ -500,7 +487,7 @@ fn write_clauses(alloc: Global, select: &Select, out: &mut String) -> Result<(),
 
 /// Writes the query, each of its tokens behind a space.
 fn write_select(alloc: Global, select: &Select, out: &mut String) -> Result<(), AllocError>
-    ensures { IfOk result (λ _. Wrote (string_bytes out.old) (string_bytes out.new) (select_written (select_tree select.now))) }
+    ensures { Writes result out.old out.new (select_written (select_tree select.now)) }
 {
     write_keyword(Keyword::Select, out)?;
     write_quantifier(select.distinct, out)?;
@@ -510,7 +497,7 @@ fn write_select(alloc: Global, select: &Select, out: &mut String) -> Result<(), 
 
 /// Writes the statement, each of its tokens behind a space.
 fn write_statement(alloc: Global, statement: &Statement, out: &mut String) -> Result<(), AllocError>
-    ensures { IfOk result (λ _. Wrote (string_bytes out.old) (string_bytes out.new) (statement_written (statement_tree statement.now))) }
+    ensures { Writes result out.old out.new (statement_written (statement_tree statement.now)) }
 {
     match statement {
         Statement::Select(select) => write_select(alloc, select, out),
@@ -518,7 +505,7 @@ fn write_statement(alloc: Global, statement: &Statement, out: &mut String) -> Re
 }
 
 /// The statement written out: keywords in upper case, every name in double quotes, AS before each alias, and one space between tokens.
-pub fn print(alloc: Global, statement: &Statement) -> Result<String, AllocError>
+pub fn print(alloc: Global, statement: &Statement) -> Result<String, NoMemory>
     // Its tokens are those that the tree is written by.
     ensures written { IfOk result (λ s. string_bytes s ≡ printed_statement (statement_tree statement.now)) }
     // What is written of a text's statement is that statement.

@@ -1,4 +1,8 @@
+pub mod PartComplete
+pub mod ClauseComplete
 pub mod QueryComplete
+pub mod PartSound
+pub mod ClauseSound
 pub mod QuerySound
 pub mod QueryLoop
 pub mod QuerySteps

@@ -13,8 +13,9 @@ use Rattle.expr_grammar.specs.ExprSteps.{behind_of}
 use Rattle.query_reader.specs.declared.query_source.JoinWay.{JoinWay}
 use Rattle.med_syntax.specs.QueryTree.{JoinTree}
 use Rattle.query_reader.specs.QueryReading.{Parser, others, list_of, join_words, join_of, joins_of, all_joins_of}
-use Rattle.query_reader.proofs.QueryComplete.{join_long}
-use Rattle.query_reader.proofs.QuerySound.{Sound, comma_is, join_found}
+use Rattle.query_reader.proofs.ClauseComplete.{join_long}
+use Rattle.query_reader.proofs.PartSound.{Sound, comma_is}
+use Rattle.query_reader.proofs.ClauseSound.{join_found}
 
 abbrev pub after_these : {X : Type 0} → List X → Result (List X × List Terminal) Refusal → Result (List X × List Terminal) Refusal
 after_these xs r = r >>= λ y. Ok (xs ++ y.0, y.1)

@@ -38,7 +38,8 @@ behind_words (w ∷ ws) ts = choose (behind_word w ts) None (behind_words ws)
 
 -- [other | one]
 unfoldable pub flag_of : List ℕ → List ℕ → List Terminal → Bool × List Terminal
-flag_of one other ts = choose (behind_word one ts) (choose (behind_word other ts) (false, ts) (λ after. (false, after))) (λ after. (true, after))
+flag_of one other ts =
+    choose (behind_word one ts) (choose (behind_word other ts) (false, ts) (λ after. (false, after))) (λ after. (true, after))
 
 abbrev pub read_name : Parser Name
 read_name (t.Name n ∷ ts) = Ok (n, ts)
@@ -69,7 +70,8 @@ item_of room ts = value_of room ts
 -- {, x}, of at most as many as the number
 unfoldable pub others : {X : Type 0} → Parser X → ℕ → Parser (List X)
 others item zero ts = Ok ([], ts)
-others item (suc k) ts = choose (behind_of Comma ts) (Ok ([], ts)) (λ after. item after >>= λ x. others item k x.1 >>= λ y. Ok (x.0 ∷ y.0, y.1))
+others item (suc k) ts =
+    choose (behind_of Comma ts) (Ok ([], ts)) (λ after. item after >>= λ x. others item k x.1 >>= λ y. Ok (x.0 ∷ y.0, y.1))
 
 -- x {, x}
 unfoldable pub list_of : {X : Type 0} → Parser X → Parser (List X)
@@ -97,13 +99,16 @@ listed_of words item ts = choose (behind_words words ts) (Ok ([], ts)) (list_of 
 unfoldable pub join_words : List Terminal → Option (JoinWay × List Terminal)
 join_words ts =
     choose (behind_words (codes "join" ∷ []) ts) (choose (behind_words (codes "inner" ∷ codes "join" ∷ []) ts)
-    (choose (behind_words (codes "left" ∷ codes "join" ∷ []) ts) (choose (behind_words (codes "left" ∷ codes "outer" ∷ codes "join" ∷ []) ts)
+    (choose (behind_words (codes "left" ∷ codes "join" ∷ []) ts)
+    (choose (behind_words (codes "left" ∷ codes "outer" ∷ codes "join" ∷ []) ts)
     (choose (behind_words (codes "cross" ∷ codes "join" ∷ []) ts) None (λ a. Some (ways.Cross, a)))
     (λ a. Some (ways.Left, a))) (λ a. Some (ways.Left, a))) (λ a. Some (ways.Inner, a))) (λ a. Some (ways.Inner, a))
 
 -- entry ON expr
 unfoldable pub on_of : ℕ → Parser (EntryTree × ExprTree)
-on_of room ts = entry_of ts >>= λ x. choose (behind_word (codes "on") x.1) (Err Syntax) (λ after. (below room).whole after >>= λ y. Ok ((x.0, y.0), y.1))
+on_of room ts =
+    entry_of ts >>= λ x. choose (behind_word (codes "on") x.1) (Err Syntax)
+    (λ after. (below room).whole after >>= λ y. Ok ((x.0, y.0), y.1))
 
 -- behind the words of the join
 abbrev pub join_of : JoinWay → ℕ → Parser JoinTree
@@ -114,7 +119,8 @@ join_of ways.Cross room ts = entry_of ts >>= λ x. Ok (cross_join x.0, x.1)
 -- {join}, of at most as many as the number
 unfoldable pub joins_of : ℕ → ℕ → Parser (List JoinTree)
 joins_of room zero ts = Ok ([], ts)
-joins_of room (suc k) ts = choose (join_words ts) (Ok ([], ts)) (λ j. join_of j.0 room j.1 >>= λ x. joins_of room k x.1 >>= λ y. Ok (x.0 ∷ y.0, y.1))
+joins_of room (suc k) ts =
+    choose (join_words ts) (Ok ([], ts)) (λ j. join_of j.0 room j.1 >>= λ x. joins_of room k x.1 >>= λ y. Ok (x.0 ∷ y.0, y.1))
 
 -- {join}
 unfoldable pub all_joins_of : ℕ → Parser (List JoinTree)
@@ -134,7 +140,8 @@ group_of ts = Err Syntax
 -- [NULLS FIRST | NULLS LAST], where NULL comes first without it or not
 unfoldable pub nulls_of : Bool → List Terminal → Bool × List Terminal
 nulls_of absent ts =
-    choose (behind_words (codes "nulls" ∷ codes "first" ∷ []) ts) (choose (behind_words (codes "nulls" ∷ codes "last" ∷ []) ts) (absent, ts) (λ after. (false, after))) (λ after. (true, after))
+    choose (behind_words (codes "nulls" ∷ codes "first" ∷ []) ts)
+    (choose (behind_words (codes "nulls" ∷ codes "last" ∷ []) ts) (absent, ts) (λ after. (false, after))) (λ after. (true, after))
 
 -- behind the expression of a key
 unfoldable pub key_after : ExprTree → List Terminal → KeyTree × List Terminal
@@ -179,10 +186,27 @@ limits_of ts = limit_of ts >>= λ x. offset_of x.1 >>= λ y. limit_after x.0 y.1
 -- behind SELECT [ALL | DISTINCT]
 unfoldable pub select_of : Bool → ℕ → Parser SelectTree
 select_of distinct room =
-    seq (list_of (item_of room)) (λ items. seq (listed_of (codes "from" ∷ []) (source_of room)) (λ from. seq (perhaps_of (codes "where" ∷ []) (below room).whole) (λ condition.
-    seq (listed_of (codes "group" ∷ codes "by" ∷ []) group_of) (λ groups. seq (perhaps_of (codes "having" ∷ []) (below room).whole) (λ having.
-    seq (listed_of (codes "order" ∷ codes "by" ∷ []) (key_of room)) (λ keys. seq limits_of (λ limits ts.
-    Ok (record { distinct = distinct; items = items; from = from; condition = condition; groups = groups; having = having; keys = keys; limit = limits.0; offset = limits.1 }, ts))))))))
+    seq (list_of (item_of room)) (λ items.
+    seq (listed_of (codes "from" ∷ []) (source_of room)) (λ from.
+    seq (perhaps_of (codes "where" ∷ []) (below room).whole) (λ condition.
+    seq (listed_of (codes "group" ∷ codes "by" ∷ []) group_of) (λ groups.
+    seq (perhaps_of (codes "having" ∷ []) (below room).whole) (λ having.
+    seq (listed_of (codes "order" ∷ codes "by" ∷ []) (key_of room)) (λ keys.
+    seq limits_of (λ limits ts.
+    Ok (
+      record {
+        distinct = distinct;
+        items = items;
+        from = from;
+        condition = condition;
+        groups = groups;
+        having = having;
+        keys = keys;
+        limit = limits.0;
+        offset = limits.1;
+      },
+      ts,
+    ))))))))
 
 -- behind SELECT
 unfoldable pub query_of : ℕ → Parser SelectTree

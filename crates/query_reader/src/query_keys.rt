@@ -1,5 +1,4 @@
 //! GROUP BY, ORDER BY, LIMIT and OFFSET, by recursive descent.
-#![tactic(auto, unfolding(crate::specs::QueryReading::flag_of, crate::specs::QueryReading::nulls_of, crate::specs::QueryReading::key_after, crate::specs::QueryReading::key_of, crate::specs::QueryReading::limit_at, crate::specs::QueryReading::limit_of, crate::specs::QueryReading::behind_unit, crate::specs::QueryReading::offset_of, crate::specs::QueryReading::limits_of))]
 
 ghost use Rattle.expr_grammar.specs.ExprAnswers.{Gives};
 ghost use Rattle.expr_grammar.specs.SymbolView.{terminals_of};
@@ -17,6 +16,7 @@ use med_syntax::{Expr, GroupColumn, Limit, OrderKey};
 use std::alloc::Global;
 
 /// Whether the first word stands in front, and the symbols behind it, or behind the other word in its place.
+#[tactic(auto, unfolding(crate::specs::QueryReading::flag_of))]
 pub fn flag<'a>(one: &str, other: &str, symbols: &'a [Symbol]) -> (bool, &'a [Symbol])
     ensures { reading.flag_of one.now other.now (terminals_of symbols.now) ≡ (result.0, terminals_of result.1.now) }
 {
@@ -94,6 +94,7 @@ pub fn groups(alloc: Global, symbols: &[Symbol]) -> Result<(Vec<GroupColumn>, &[
 // ---- ORDER BY
 
 /// Whether NULL comes first, where nothing says so as given, and the symbols behind NULLS FIRST or NULLS LAST.
+#[tactic(auto, unfolding(crate::specs::QueryReading::nulls_of))]
 fn nulls(absent: bool, symbols: &[Symbol]) -> (bool, &[Symbol])
     ensures { reading.nulls_of absent (terminals_of symbols.now) ≡ (result.0, terminals_of result.1.now) }
 {
@@ -107,6 +108,7 @@ fn nulls(absent: bool, symbols: &[Symbol]) -> (bool, &[Symbol])
 }
 
 /// The key of the expression, by what stands behind it.
+#[tactic(auto, unfolding(crate::specs::QueryReading::key_after))]
 fn directed(key: Expr, symbols: &[Symbol]) -> (OrderKey, &[Symbol])
     ensures { reading.key_after (expr_tree key) (terminals_of symbols.now) ≡ (key_tree result.0, terminals_of result.1.now) }
 {
@@ -123,6 +125,7 @@ fn directed(key: Expr, symbols: &[Symbol]) -> (OrderKey, &[Symbol])
 }
 
 /// The key at the front, and the symbols behind it.
+#[tactic(auto, unfolding(crate::specs::QueryReading::key_of))]
 fn key(alloc: Global, room: u32, symbols: &[Symbol]) -> Result<(OrderKey, &[Symbol]), ReadFault>
     requires { room < 1000 }
     ensures { Gives (λ x. (key_tree x.0, terminals_of x.1.now)) result (reading.key_of room (terminals_of symbols.now)) }
@@ -183,6 +186,7 @@ fn number(symbols: &[Symbol]) -> Result<(u64, &[Symbol]), ReadFault>
 }
 
 /// The limit behind LIMIT.
+#[tactic(auto, unfolding(crate::specs::QueryReading::limit_at))]
 fn limit_at(symbols: &[Symbol]) -> Result<(Option<Limit>, &[Symbol]), ReadFault>
     ensures { Gives (λ x. (option_map limit_tree x.0, terminals_of x.1.now)) result (reading.limit_at (terminals_of symbols.now)) }
 {
@@ -196,6 +200,7 @@ fn limit_at(symbols: &[Symbol]) -> Result<(Option<Limit>, &[Symbol]), ReadFault>
 }
 
 /// The limit, where LIMIT stands in front.
+#[tactic(auto, unfolding(crate::specs::QueryReading::limit_of))]
 fn limit(symbols: &[Symbol]) -> Result<(Option<Limit>, &[Symbol]), ReadFault>
     ensures { Gives (λ x. (option_map limit_tree x.0, terminals_of x.1.now)) result (reading.limit_of (terminals_of symbols.now)) }
 {
@@ -206,6 +211,7 @@ fn limit(symbols: &[Symbol]) -> Result<(Option<Limit>, &[Symbol]), ReadFault>
 }
 
 /// The symbols behind ROW or ROWS, where one of them stands in front.
+#[tactic(auto, unfolding(crate::specs::QueryReading::behind_unit))]
 fn behind_unit(symbols: &[Symbol]) -> &[Symbol]
     ensures { reading.behind_unit (terminals_of symbols.now) ≡ terminals_of result.now }
 {
@@ -219,6 +225,7 @@ fn behind_unit(symbols: &[Symbol]) -> &[Symbol]
 }
 
 /// How many rows are left out, where OFFSET stands in front.
+#[tactic(auto, unfolding(crate::specs::QueryReading::offset_of))]
 fn offset(symbols: &[Symbol]) -> Result<(Option<u64>, &[Symbol]), ReadFault>
     ensures { Gives (λ x. (x.0, terminals_of x.1.now)) result (reading.offset_of (terminals_of symbols.now)) }
 {
@@ -246,6 +253,7 @@ fn limit_after(
 }
 
 /// LIMIT and OFFSET in either order, and the symbols behind them.
+#[tactic(auto, unfolding(crate::specs::QueryReading::limits_of))]
 pub fn limits(symbols: &[Symbol]) -> Result<(Option<Limit>, Option<u64>, &[Symbol]), ReadFault>
     ensures { Gives (λ x. ((option_map limit_tree x.0, x.1), terminals_of x.2.now)) result (reading.limits_of (terminals_of symbols.now)) }
 {

@@ -1,5 +1,4 @@
 //! What stands behind FROM, by recursive descent.
-#![tactic(auto, unfolding(crate::specs::QueryReading::alias_after, crate::specs::QueryReading::entry_of, crate::specs::QueryReading::join_words, crate::specs::QueryReading::on_of, crate::specs::QueryReading::all_joins_of, crate::specs::QueryReading::source_of))]
 
 ghost use Rattle.expr_grammar.specs.ExprAnswers.{Gives};
 ghost use Rattle.expr_grammar.specs.SymbolView.{terminals_of};
@@ -25,6 +24,7 @@ pub enum JoinWay {
 }
 
 /// The name that a table has in the statement, where it has one of its own.
+#[tactic(auto, unfolding(crate::specs::QueryReading::alias_after))]
 fn alias(symbols: &[Symbol]) -> Result<(Option<String>, &[Symbol]), ReadFault>
     ensures { Gives (λ x. (option_map string_bytes x.0, terminals_of x.1.now)) result (reading.alias_after (terminals_of symbols.now)) }
 {
@@ -38,6 +38,7 @@ fn alias(symbols: &[Symbol]) -> Result<(Option<String>, &[Symbol]), ReadFault>
 }
 
 /// The entry at the front, and the symbols behind it.
+#[tactic(auto, unfolding(crate::specs::QueryReading::entry_of))]
 fn entry(symbols: &[Symbol]) -> Result<(Entry, &[Symbol]), ReadFault>
     ensures { Gives (λ x. (entry_tree x.0, terminals_of x.1.now)) result (reading.entry_of (terminals_of symbols.now)) }
 {
@@ -47,6 +48,7 @@ fn entry(symbols: &[Symbol]) -> Result<(Entry, &[Symbol]), ReadFault>
 }
 
 /// The join that the words in front begin, and the symbols behind them.
+#[tactic(auto, unfolding(crate::specs::QueryReading::join_words))]
 fn join_words(symbols: &[Symbol]) -> Option<(JoinWay, &[Symbol])>
     ensures { reading.join_words (terminals_of symbols.now) ≡ option_map (λ x. (x.0, terminals_of x.1.now)) result }
 {
@@ -69,6 +71,7 @@ fn join_words(symbols: &[Symbol]) -> Option<(JoinWay, &[Symbol])>
 }
 
 /// The entry at the front and the condition behind ON.
+#[tactic(auto, unfolding(crate::specs::QueryReading::on_of))]
 fn entry_on(
     alloc: Global,
     room: u32,
@@ -114,6 +117,7 @@ fn join(
 }
 
 /// The joins at the front, and the symbols behind them.
+#[tactic(auto, unfolding(crate::specs::QueryReading::all_joins_of))]
 fn joins(alloc: Global, room: u32, symbols: &[Symbol]) -> Result<(Vec<Join>, &[Symbol]), ReadFault>
     requires { room < 1000 }
     ensures { Gives (λ x. (map join_tree x.0.items, terminals_of x.1.now)) result (reading.all_joins_of room (terminals_of symbols.now)) }
@@ -129,6 +133,7 @@ fn joins(alloc: Global, room: u32, symbols: &[Symbol]) -> Result<(Vec<Join>, &[S
 }
 
 /// The entry at the front with its joins.
+#[tactic(auto, unfolding(crate::specs::QueryReading::source_of))]
 fn chain(alloc: Global, room: u32, symbols: &[Symbol]) -> Result<(Chain, &[Symbol]), ReadFault>
     requires { room < 1000 }
     ensures { Gives (λ x. (chain_tree x.0, terminals_of x.1.now)) result (reading.source_of room (terminals_of symbols.now)) }

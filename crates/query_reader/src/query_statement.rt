@@ -1,5 +1,4 @@
 //! Statements, by recursive descent.
-#![tactic(auto, unfolding(crate::specs::QueryReading::label_after, crate::specs::QueryReading::value_of, crate::specs::QueryReading::seq, crate::specs::QueryReading::select_of, crate::specs::QueryReading::statement_of, crate::specs::QueryReading::line_of))]
 
 ghost use Rattle.expr_grammar.specs.ExprAnswers.{Gives};
 ghost use Rattle.expr_grammar.specs.ExprReading.{below};
@@ -110,6 +109,7 @@ fn label_at(alloc: Global, symbols: &[Symbol]) -> Result<(Option<String>, &[Symb
 }
 
 /// The label of an item: behind AS any word or a name, and else perhaps a name.
+#[tactic(auto, unfolding(crate::specs::QueryReading::label_after))]
 fn label(alloc: Global, symbols: &[Symbol]) -> Result<(Option<String>, &[Symbol]), ReadFault>
     ensures { Gives (λ x. (option_map string_bytes x.0, terminals_of x.1.now)) result (reading.label_after (terminals_of symbols.now)) }
 {
@@ -120,6 +120,7 @@ fn label(alloc: Global, symbols: &[Symbol]) -> Result<(Option<String>, &[Symbol]
 }
 
 /// The expression at the front with its label.
+#[tactic(auto, unfolding(crate::specs::QueryReading::value_of))]
 fn value(alloc: Global, room: u32, symbols: &[Symbol]) -> Result<(Item, &[Symbol]), ReadFault>
     requires { room < 1000 }
     ensures { Gives (λ x. (item_tree x.0, terminals_of x.1.now)) result (reading.value_of room (terminals_of symbols.now)) }
@@ -187,6 +188,7 @@ fn clause<'a>(
 }
 
 /// The query behind SELECT and its quantifier.
+#[tactic(auto, unfolding(crate::specs::QueryReading::seq, crate::specs::QueryReading::select_of))]
 fn select(
     alloc: Global,
     distinct: bool,
@@ -230,6 +232,7 @@ fn query(alloc: Global, room: u32, symbols: &[Symbol]) -> Result<(Select, &[Symb
 }
 
 /// The statement at the front, and the symbols behind it.
+#[tactic(auto, unfolding(crate::specs::QueryReading::statement_of))]
 fn statement(
     alloc: Global,
     room: u32,
@@ -255,6 +258,7 @@ fn is_end(symbols: &[Symbol]) -> bool
 }
 
 /// The statement that all of the symbols are, where no expression is higher than the room.
+#[tactic(auto, unfolding(crate::specs::QueryReading::line_of))]
 pub fn line(alloc: Global, room: u32, symbols: &[Symbol]) -> Result<Statement, ReadFault>
     requires { room < 1000 }
     ensures { Gives statement_tree result (reading.line_of room (terminals_of symbols.now)) }

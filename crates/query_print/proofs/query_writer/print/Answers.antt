@@ -4,7 +4,7 @@ use Rattle.query_grammar.specs.QueryGrammar.{HasStatement}
 use Rattle.query_print.specs.QueryPrinting.{printed_statement}
 use Rattle.med_syntax.specs.QueryView.{statement_tree}
 use Rattle.expr_writer.proofs.ExprPrints.{removed}
-use Rattle.query_print.proofs.QueryPrints.{spaced}
+use Rattle.query_print.proofs.WritingParts.{spaced}
 use Rattle.query_print.proofs.query_writer.print.Goals as goal
 
 pub remove-requires-clause-in_bounds : goal.remove-requires-clause-in_bounds

@@ -1,7 +1,7 @@
 use Rattle.std.proofs.Common.{map, rules}
 use Rattle.std.specs.String.{string_bytes}
 use Rattle.med_syntax.specs.QueryView.{chain_tree}
-use Rattle.query_print.proofs.QueryPrints.{chains_next}
+use Rattle.query_print.proofs.WritingParts.{chains_next}
 use Rattle.query_print.proofs.query_writer.write_other_chains.Goals as goal
 
 pub loop-chain-preserved : goal.loop-chain-preserved

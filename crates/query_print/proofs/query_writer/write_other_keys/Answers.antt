@@ -1,7 +1,7 @@
 use Rattle.std.proofs.Common.{map, rules}
 use Rattle.std.specs.String.{string_bytes}
 use Rattle.med_syntax.specs.QueryView.{key_tree}
-use Rattle.query_print.proofs.QueryPrints.{keys_next}
+use Rattle.query_print.proofs.WritingParts.{keys_next}
 use Rattle.query_print.proofs.query_writer.write_other_keys.Goals as goal
 
 pub loop-key-preserved : goal.loop-key-preserved

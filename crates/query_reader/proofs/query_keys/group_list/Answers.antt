@@ -7,7 +7,8 @@ use Rattle.query_grammar.specs.QueryGrammar.{SpellsGroup}
 use Rattle.query_reader.specs.QueryReading.{group_of}
 use Rattle.med_syntax.specs.QueryView.{group_tree}
 use Rattle.query_reader.proofs.QueryLoop.{list_start, list_end, list_failed, list_unstarted, parts_more, parts_shorter}
-use Rattle.query_reader.proofs.QuerySound.{flat, group_sound}
+use Rattle.query_reader.proofs.PartSound.{flat}
+use Rattle.query_reader.proofs.ClauseSound.{group_sound}
 use Rattle.query_reader.proofs.query_keys.group_list.Goals as goal
 
 pub returns-in_err-first : goal.returns-in_err-first

@@ -8,7 +8,7 @@ use Rattle.query_reader.specs.QueryReading.{source_of}
 use Rattle.med_syntax.specs.QueryTree.{chain_height}
 use Rattle.med_syntax.specs.QueryView.{chain_tree}
 use Rattle.query_reader.proofs.QueryLoop.{list_start, list_end, list_failed, list_unstarted, parts_more, parts_shorter}
-use Rattle.query_reader.proofs.QuerySound.{chain_sound}
+use Rattle.query_reader.proofs.ClauseSound.{chain_sound}
 use Rattle.query_reader.proofs.query_source.chain_list.Goals as goal
 
 pub returns-in_err-first : goal.returns-in_err-first

@@ -8,7 +8,7 @@ use Rattle.query_reader.specs.QueryReading.{item_of}
 use Rattle.med_syntax.specs.QueryTree.{item_height}
 use Rattle.med_syntax.specs.QueryView.{item_tree}
 use Rattle.query_reader.proofs.QueryLoop.{list_start, list_end, list_failed, list_unstarted, parts_more, parts_shorter}
-use Rattle.query_reader.proofs.QuerySound.{item_sound}
+use Rattle.query_reader.proofs.PartSound.{item_sound}
 use Rattle.query_reader.proofs.query_statement.items.Goals as goal
 
 pub returns-in_err-first : goal.returns-in_err-first
