@@ -1,2 +1,3 @@
+pub mod Resolving
 pub mod Shown
 pub mod Steps

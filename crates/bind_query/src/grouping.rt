@@ -3,12 +3,11 @@
 
 ghost use Rattle.bind_names.specs.Meaning.{groups_rows};
 ghost use Rattle.bind_names.specs.Telling.{Gives, Adds};
-ghost use Rattle.bind_query.specs.Steps.{group_of};
-ghost use Rattle.med_query.specs.Form.{group_form};
+ghost use Rattle.bind_query.specs.Resolving.{GroupsBy, shown_trees};
 ghost use Rattle.med_syntax.specs.QueryView.{select_tree};
 ghost use Rattle.std.specs.List.{list_any};
 ghost use Rattle.std.specs.Option.{is_some};
-ghost use Rattle.std.specs.Prelude.{◌≡◌, ◌++◌, [], not, ◌||◌, map, flat_map, option_map};
+ghost use Rattle.std.specs.Prelude.{◌≡◌, ◌++◌, [], not, ◌||◌, map, flat_map};
 ghost use Rattle.tri_expr.specs.Tree.{tree};
 ghost use Rattle.tri_expr.specs.TreeParts.{arguments_in};
 
@@ -37,7 +36,7 @@ fn all_arguments(
     keys: &[Expr],
     items: &[Expr],
 ) -> Result<Vec<Expr>, Cause>
-    ensures { Gives (λ v. map tree v.items) [] (flat_map arguments_in (map tree having.now ++ (map tree keys.now ++ map tree items.now))) result }
+    ensures { Gives (λ v. map tree v.items) [] (flat_map arguments_in (map tree having.now ++ shown_trees keys.now items.now)) result }
 {
     let mut out = Vec::new(alloc);
     push_arguments(alloc, having, &mut out)?;
@@ -48,7 +47,7 @@ fn all_arguments(
 
 // Whether the query groups: it has GROUP BY, HAVING or an aggregate.
 fn groups_rows(select: &WrittenSelect, keys: &[Expr], items: &[Expr]) -> bool
-    ensures { result ≡ groups_rows (select_tree select.now) (map tree keys.now ++ map tree items.now) }
+    ensures { result ≡ groups_rows (select_tree select.now) (shown_trees keys.now items.now) }
 {
     !select.groups.as_slice().is_empty()
         || select.having.is_some()
@@ -65,7 +64,7 @@ pub fn grouping(
     keys: &[Expr],
     items: &[Expr],
 ) -> Result<Option<Grouping>, Cause>
-    ensures { Gives (option_map group_form) [] (group_of (groups_rows (select_tree select.now) (map tree keys.now ++ map tree items.now)) places.items (map tree having.items) (map tree keys.now ++ map tree items.now)) result }
+    ensures { GroupsBy (select_tree select.now) places.items having.items (shown_trees keys.now items.now) result }
 {
     if !groups_rows(select, keys, items) {
         return Ok(None);

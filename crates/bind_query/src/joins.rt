@@ -1,16 +1,19 @@
 //! What the joins of FROM mean.
-#![tactic(auto, using(bind_names::proofs::Causes::tells_left, bind_names::proofs::Causes::tells_right, bind_names::proofs::Causes::tells_memory, bind_names::proofs::Causes::tells_one, bind_names::proofs::Causes::none_of_two, crate::proofs::JoinSteps::one_suc, crate::proofs::JoinSteps::after_chain))]
+#![tactic(auto, using(
+// a cause of a part is one of the whole
+bind_names::proofs::Causes::tells_left, bind_names::proofs::Causes::tells_right,
+// refused memory, and one cause alone
+bind_names::proofs::Causes::tells_memory, bind_names::proofs::Causes::tells_one,
+// no cause in either part
+bind_names::proofs::Causes::none_of_two))]
 
-ghost use Rattle.bind_names.specs.Meaning.{resolved, conditions_of, join_meant, joins_meant, chain_meant, chains_meant};
-ghost use Rattle.bind_names.specs.Naming.{name_causes, condition_name_causes, on_name_causes, joins_name_causes, chain_name_causes};
-ghost use Rattle.bind_names.specs.Scope.{scope_of, table_shape, entry_shape, chain_entries};
+ghost use Rattle.bind_names.specs.Scope.{scope_of, shapes_of, chain_entries};
 ghost use Rattle.bind_names.specs.Telling.{Gives};
+ghost use Rattle.bind_query.specs.Resolving.{ResolvesCondition, ResolvesJoin, ResolvesJoins, ResolvesChain, ResolvesChains};
 ghost use Rattle.bind_query.specs.Steps.{AddsJoin};
-ghost use Rattle.med_query.specs.Form.{join_form, chain_form};
 ghost use Rattle.med_syntax.specs.ExprView.{expr_tree};
 ghost use Rattle.med_syntax.specs.QueryView.{entry_tree, join_tree, chain_tree};
-ghost use Rattle.std.specs.Prelude.{◌≡◌, ℕ, ◌+◌, ◌∷◌, [], map, flat_map, length, option_map, suc};
-ghost use Rattle.tri_expr.specs.Tree.{tree, conjunct_trees};
+ghost use Rattle.std.specs.Prelude.{ℕ, ◌+◌, [], map, length, option_map, Some};
 
 use crate::resolve::resolve;
 use bind_names::{AttachedTable, Visible, joined_entry, visible_of};
@@ -27,7 +30,7 @@ fn conjuncts_of(
     scope: &[Visible<'_>],
     condition: &Written,
 ) -> Result<Vec<Expr>, Cause>
-    ensures { Gives (λ v. map tree v.items) (name_causes (scope_of scope.now) (expr_tree condition.now)) (conjunct_trees (resolved (scope_of scope.now) (expr_tree condition.now))) result }
+    ensures { ResolvesCondition (scope_of scope.now) (Some (expr_tree condition.now)) result }
 {
     let resolved = resolve(alloc, scope, condition)?;
     Ok(conjuncts(alloc, &resolved)?)
@@ -39,7 +42,7 @@ pub fn conditions(
     scope: &[Visible<'_>],
     condition: &Option<Written>,
 ) -> Result<Vec<Expr>, Cause>
-    ensures { Gives (λ v. map tree v.items) (condition_name_causes (scope_of scope.now) (option_map expr_tree condition.now)) (conditions_of (scope_of scope.now) (option_map expr_tree condition.now)) result }
+    ensures { ResolvesCondition (scope_of scope.now) (option_map expr_tree condition.now) result }
 {
     match condition {
         None => Ok(Vec::new(alloc)),
@@ -55,7 +58,7 @@ fn join(
     width: usize,
     join: &WrittenJoin,
 ) -> Result<Join, Cause>
-    ensures { Gives join_form (on_name_causes (scope_of scope.now) (join_tree join.now)) (join_meant (scope_of scope.now) table width (join_tree join.now)) result }
+    ensures { ResolvesJoin (scope_of scope.now) table width (join_tree join.now) result }
 {
     match join {
         WrittenJoin::Inner(_, on) => {
@@ -79,7 +82,8 @@ fn push_join<'a>(
     scope: &mut Vec<Visible<'a>>,
     out: &mut Vec<Join>,
 ) -> Result<usize, Cause>
-    ensures { AddsJoin (map table_shape tables.now) last (join_tree written.now) (scope_of scope.old.items) (scope_of scope.new.items) (map join_form out.old.items) (map join_form out.new.items) result }
+    ensures { AddsJoin (shapes_of tables.now) last (join_tree written.now)
+        scope.old.items scope.new.items out.old.items out.new.items result }
 {
     let table = match last.checked_add(1) {
         Some(table) => table,
@@ -101,7 +105,7 @@ fn joins(
     number: usize,
     joins: &[WrittenJoin],
 ) -> Result<Vec<Join>, Cause>
-    ensures { Gives (λ v. map join_form v.items) (joins_name_causes (map table_shape tables.now) (entry_shape (map table_shape tables.now) (entry_tree first.now) ∷ []) (map join_tree joins.now)) (joins_meant (map table_shape tables.now) (entry_shape (map table_shape tables.now) (entry_tree first.now) ∷ []) (suc number) (map join_tree joins.now)) result }
+    ensures { ResolvesJoins (shapes_of tables.now) (entry_tree first.now) number (map join_tree joins.now) result }
 {
     let mut scope = Vec::new(alloc);
     scope.push(visible_of(tables, first))?;
@@ -120,7 +124,7 @@ fn chain(
     number: usize,
     chain: &Chain,
 ) -> Result<JoinChain, Cause>
-    ensures { Gives chain_form (chain_name_causes (map table_shape tables.now) (chain_tree chain.now)) (chain_meant (map table_shape tables.now) number (chain_tree chain.now)) result }
+    ensures { ResolvesChain (shapes_of tables.now) number (chain_tree chain.now) result }
 {
     let joins = joins(alloc, tables, &chain.first, number, chain.joins.as_slice())?;
     Ok(JoinChain {
@@ -130,6 +134,7 @@ fn chain(
 }
 
 // The number of the first entry behind a chain.
+#[tactic(auto, using(bind_names::proofs::Causes::tells_memory, crate::proofs::JoinSteps::after_chain))]
 fn after_chain(number: usize, chain: &Chain) -> Result<usize, Cause>
     ensures { Gives (λ (n : ℕ). n) [] (number + length (chain_entries (chain_tree chain.now))) result }
 {
@@ -149,7 +154,7 @@ pub fn chains(
     tables: &[AttachedTable],
     chains: &[Chain],
 ) -> Result<Vec<JoinChain>, Cause>
-    ensures { Gives (λ v. map chain_form v.items) (flat_map (chain_name_causes (map table_shape tables.now)) (map chain_tree chains.now)) (chains_meant (map table_shape tables.now) 0 (map chain_tree chains.now)) result }
+    ensures { ResolvesChains (shapes_of tables.now) (map chain_tree chains.now) result }
 {
     let mut out = Vec::new(alloc);
     let mut number: usize = 0;

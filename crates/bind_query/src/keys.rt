@@ -1,18 +1,25 @@
 //! The keys of ORDER BY and of GROUP BY.
-#![tactic(auto, using(bind_names::proofs::Causes::tells_left, bind_names::proofs::Causes::tells_right, bind_names::proofs::Causes::tells_memory, bind_names::proofs::Causes::tells_one, bind_names::proofs::Causes::none_of_two, crate::proofs::KeySteps::position_zero, crate::proofs::KeySteps::position_past, crate::proofs::KeySteps::position_value, crate::proofs::KeySteps::position_there, crate::proofs::KeySteps::no_output, crate::proofs::KeySteps::outputs_agree, crate::proofs::KeySteps::outputs_differ, crate::proofs::KeySteps::place_found))]
+#![tactic(auto, using(
+// a cause of a part is one of the whole
+bind_names::proofs::Causes::tells_left, bind_names::proofs::Causes::tells_right,
+// refused memory, and one cause alone
+bind_names::proofs::Causes::tells_memory, bind_names::proofs::Causes::tells_one,
+// no cause in either part
+bind_names::proofs::Causes::none_of_two))]
 
 ghost use Rattle.bind_names.specs.Meaning as spec;
-ghost use Rattle.bind_names.specs.Meaning.{Output, first_value, sort_key, sorted_by, position, output_name, expression, key_meant, key_direction, group_place, resolved};
-ghost use Rattle.bind_names.specs.Naming.{name_causes, position_causes, output_name_causes, distinct_causes, sort_key_causes, key_name_causes, group_name_causes};
+ghost use Rattle.bind_names.specs.Meaning.{Output, first_value, sort_key, expression, key_direction};
+ghost use Rattle.bind_names.specs.Naming.{position_causes, output_name_causes, distinct_causes};
 ghost use Rattle.bind_names.specs.Scope.{scope_of};
 ghost use Rattle.bind_names.specs.Telling.{Gives, Passes};
+ghost use Rattle.bind_query.specs.Resolving.{key_form, outputs_named, SortsBy, ResolvesKeys, FindsPlaces};
 ghost use Rattle.bind_query.specs.Shown.{shown};
 ghost use Rattle.bind_query.specs.Steps.{IsFirst};
 ghost use Rattle.med_query.specs.Form.{direction_of};
 ghost use Rattle.med_syntax.specs.ExprView.{expr_tree};
 ghost use Rattle.med_syntax.specs.QueryView.{key_tree, group_tree};
 ghost use Rattle.std.specs.List.{list_any, list_all};
-ghost use Rattle.std.specs.Prelude.{◌≡◌, ◌-◌, ◌++◌, ◌∷◌, [], map, filter, flat_map, drop, string_bytes};
+ghost use Rattle.std.specs.Prelude.{◌≡◌, ◌-◌, [], map, drop};
 ghost use Rattle.tri_expr.specs.Tree.{tree};
 ghost use Rattle.tri_expr.specs.TreeParts.{same_tree};
 
@@ -40,6 +47,13 @@ fn is_output(outputs: &[Shown], name: &str) -> bool
 }
 
 // What the output in this position shows, counted from 1: 42P10 where there is none.
+#[tactic(auto, using(
+// refused memory, and one cause alone
+bind_names::proofs::Causes::tells_memory, bind_names::proofs::Causes::tells_one,
+// positions of outputs
+crate::proofs::KeySteps::position_zero, crate::proofs::KeySteps::position_past,
+// what stands there
+crate::proofs::KeySteps::position_value, crate::proofs::KeySteps::position_there))]
 fn at_position(alloc: Global, outputs: &[Shown], number: u64) -> Result<Expr, Cause>
     ensures { Gives tree (position_causes (map shown outputs.now) number) (first_value (drop (number - 1) (map shown outputs.now))) result }
 {
@@ -67,7 +81,7 @@ fn shows(outputs: &[Shown], value: &Expr) -> bool
 
 // What the first output of this name shows.
 fn first_named<'a>(outputs: &'a [Shown], name: &str) -> Option<&'a Expr>
-    ensures { IsFirst (filter (spec.is_named name.now) (map shown outputs.now)) result }
+    ensures { IsFirst (outputs_named name.now outputs.now) result }
 {
     for output in outputs {
         if output.name.as_str() == name {
@@ -79,7 +93,7 @@ fn first_named<'a>(outputs: &'a [Shown], name: &str) -> Option<&'a Expr>
 
 // Whether each output of this name shows the same.
 fn are_same(outputs: &[Shown], name: &str, value: &Expr) -> bool
-    ensures { result ≡ list_all (λ (o : Output). same_tree (tree value.now) o.value) (filter (spec.is_named name.now) (map shown outputs.now)) }
+    ensures { result ≡ list_all (λ (o : Output). same_tree (tree value.now) o.value) (outputs_named name.now outputs.now) }
 {
     for output in outputs {
         if output.name.as_str() == name && !is_same(value, &output.value) {
@@ -90,8 +104,13 @@ fn are_same(outputs: &[Shown], name: &str, value: &Expr) -> bool
 }
 
 // What the outputs of this name show: 42702 where two are not the same.
+#[tactic(auto, using(
+// refused memory, and one cause alone
+bind_names::proofs::Causes::tells_memory, bind_names::proofs::Causes::tells_one,
+// names of outputs
+crate::proofs::KeySteps::no_output, crate::proofs::KeySteps::outputs_agree, crate::proofs::KeySteps::outputs_differ))]
 fn named(alloc: Global, outputs: &[Shown], name: &str) -> Result<Expr, Cause>
-    ensures { Gives tree (output_name_causes (map shown outputs.now) name.now) (first_value (filter (spec.is_named name.now) (map shown outputs.now))) result }
+    ensures { Gives tree (output_name_causes (map shown outputs.now) name.now) (first_value (outputs_named name.now outputs.now)) result }
 {
     same_trees_are_equal();
     match first_named(outputs, name) {
@@ -113,7 +132,7 @@ fn expressed(
     outputs: &[Shown],
     e: &Written,
 ) -> Result<Expr, Cause>
-    ensures { Gives tree (name_causes (scope_of scope.now) (expr_tree e.now) ++ distinct_causes distinct (map shown outputs.now) (resolved (scope_of scope.now) (expr_tree e.now))) (resolved (scope_of scope.now) (expr_tree e.now)) result }
+    ensures { SortsBy (scope_of scope.now) distinct (map shown outputs.now) (expression (expr_tree e.now)) result }
 {
     let value = resolve(alloc, scope, e)?;
     check_shown(distinct, outputs, &value)?;
@@ -134,6 +153,53 @@ fn check_shown(distinct: bool, outputs: &[Shown], value: &Expr) -> Result<(), Ca
     }
 }
 
+// What a key of ORDER BY is.
+#[derive(Clone, Copy)]
+enum KeyForm<'a> {
+    // The position of an output, from 1 on.
+    Position(u64),
+    // The name of an output.
+    Named(&'a str),
+    // An expression over what is in view.
+    Expressed(&'a Written),
+}
+
+// What a key is; parentheses are looked through.
+#[tactic(auto)]
+fn form_of_key<'a>(outputs: &[Shown], e: &'a Written) -> KeyForm<'a>
+    ensures { key_form result ≡ sort_key (map shown outputs.now) (expr_tree e.now) }
+{
+    match e {
+        Written::Paren(inner) => form_of_key(outputs, inner),
+        Written::Number(number) => KeyForm::Position(*number),
+        Written::Column(qualifier, name) => match qualifier {
+            Some(_) => KeyForm::Expressed(e),
+            None => {
+                if is_output(outputs, name.as_str()) {
+                    KeyForm::Named(name.as_str())
+                } else {
+                    KeyForm::Expressed(e)
+                }
+            }
+        },
+        Written::Negative(_) => KeyForm::Expressed(e),
+        Written::Text(_) => KeyForm::Expressed(e),
+        Written::Truth(_) => KeyForm::Expressed(e),
+        Written::Null => KeyForm::Expressed(e),
+        Written::CallAll(_) => KeyForm::Expressed(e),
+        Written::Call(_, _) => KeyForm::Expressed(e),
+        Written::Minus(_) => KeyForm::Expressed(e),
+        Written::Binary(_, _, _) => KeyForm::Expressed(e),
+        Written::Between(_, _, _, _) => KeyForm::Expressed(e),
+        Written::In(_, _, _, _) => KeyForm::Expressed(e),
+        Written::Like(_, _, _) => KeyForm::Expressed(e),
+        Written::Compare(_, _, _) => KeyForm::Expressed(e),
+        Written::Is(_, _, _) => KeyForm::Expressed(e),
+        Written::Not(_) => KeyForm::Expressed(e),
+        Written::Chain(_, _, _) => KeyForm::Expressed(e),
+    }
+}
+
 // A key of ORDER BY: the position of an output, the name of one, or an expression.
 fn key(
     alloc: Global,
@@ -142,36 +208,12 @@ fn key(
     outputs: &[Shown],
     e: &Written,
 ) -> Result<Expr, Cause>
-    ensures { Gives tree (sort_key_causes (scope_of scope.now) distinct (map shown outputs.now) (sort_key (map shown outputs.now) (expr_tree e.now))) (sorted_by (scope_of scope.now) (map shown outputs.now) (sort_key (map shown outputs.now) (expr_tree e.now))) result }
+    ensures { SortsBy (scope_of scope.now) distinct (map shown outputs.now) (sort_key (map shown outputs.now) (expr_tree e.now)) result }
 {
-    match e {
-        Written::Paren(inner) => key(alloc, scope, distinct, outputs, inner),
-        Written::Number(number) => at_position(alloc, outputs, *number),
-        Written::Column(qualifier, name) => match qualifier {
-            Some(_) => expressed(alloc, scope, distinct, outputs, e),
-            None => {
-                if is_output(outputs, name.as_str()) {
-                    named(alloc, outputs, name.as_str())
-                } else {
-                    expressed(alloc, scope, distinct, outputs, e)
-                }
-            }
-        },
-        Written::Negative(_) => expressed(alloc, scope, distinct, outputs, e),
-        Written::Text(_) => expressed(alloc, scope, distinct, outputs, e),
-        Written::Truth(_) => expressed(alloc, scope, distinct, outputs, e),
-        Written::Null => expressed(alloc, scope, distinct, outputs, e),
-        Written::CallAll(_) => expressed(alloc, scope, distinct, outputs, e),
-        Written::Call(_, _) => expressed(alloc, scope, distinct, outputs, e),
-        Written::Minus(_) => expressed(alloc, scope, distinct, outputs, e),
-        Written::Binary(_, _, _) => expressed(alloc, scope, distinct, outputs, e),
-        Written::Between(_, _, _, _) => expressed(alloc, scope, distinct, outputs, e),
-        Written::In(_, _, _, _) => expressed(alloc, scope, distinct, outputs, e),
-        Written::Like(_, _, _) => expressed(alloc, scope, distinct, outputs, e),
-        Written::Compare(_, _, _) => expressed(alloc, scope, distinct, outputs, e),
-        Written::Is(_, _, _) => expressed(alloc, scope, distinct, outputs, e),
-        Written::Not(_) => expressed(alloc, scope, distinct, outputs, e),
-        Written::Chain(_, _, _) => expressed(alloc, scope, distinct, outputs, e),
+    match form_of_key(outputs, e) {
+        KeyForm::Position(number) => at_position(alloc, outputs, number),
+        KeyForm::Named(name) => named(alloc, outputs, name),
+        KeyForm::Expressed(value) => expressed(alloc, scope, distinct, outputs, value),
     }
 }
 
@@ -183,7 +225,7 @@ pub fn keys(
     outputs: &[Shown],
     keys: &[OrderKey],
 ) -> Result<Vec<Expr>, Cause>
-    ensures { Gives (λ v. map tree v.items) (flat_map (key_name_causes (scope_of scope.now) distinct (map shown outputs.now)) (map key_tree keys.now)) (map (key_meant (scope_of scope.now) (map shown outputs.now)) (map key_tree keys.now)) result }
+    ensures { ResolvesKeys (scope_of scope.now) distinct (map shown outputs.now) (map key_tree keys.now) result }
 {
     let mut out = Vec::new(alloc);
     for written in keys {
@@ -208,12 +250,13 @@ pub fn directions(alloc: Global, keys: &[OrderKey]) -> Result<Vec<SortDirection>
 }
 
 /// The places of the columns of GROUP BY.
+#[tactic(auto, using(bind_names::proofs::Causes::tells_memory, crate::proofs::KeySteps::place_found))]
 pub fn places(
     alloc: Global,
     scope: &[Visible<'_>],
     groups: &[GroupColumn],
 ) -> Result<Vec<usize>, Cause>
-    ensures { Gives (λ v. v.items) (flat_map (group_name_causes (scope_of scope.now)) (map group_tree groups.now)) (map (group_place (scope_of scope.now)) (map group_tree groups.now)) result }
+    ensures { FindsPlaces (scope_of scope.now) (map group_tree groups.now) result }
 {
     let mut out = Vec::new(alloc);
     for group in groups {

@@ -1,17 +1,23 @@
 //! What a query answers of a row, and under which names.
-#![tactic(auto, using(bind_names::proofs::Causes::tells_left, bind_names::proofs::Causes::tells_right, bind_names::proofs::Causes::tells_memory, bind_names::proofs::Causes::tells_one, bind_names::proofs::Causes::none_of_two, bind_names::proofs::Added::added_end))]
+#![tactic(auto, using(
+// a cause of a part is one of the whole
+bind_names::proofs::Causes::tells_left, bind_names::proofs::Causes::tells_right,
+// refused memory, and one cause alone
+bind_names::proofs::Causes::tells_memory, bind_names::proofs::Causes::tells_one,
+// no cause in either part
+bind_names::proofs::Causes::none_of_two,
+// what is added, and what stands in a place
+bind_names::proofs::Added::added_end))]
 
-ghost use Rattle.bind_names.specs.Meaning.{columns_from, starred, expression_name, item_outputs, outputs_of};
-ghost use Rattle.bind_names.specs.Naming.{item_name_causes};
-ghost use Rattle.bind_names.specs.Scope.{scope_of, visible, is_meant};
-ghost use Rattle.bind_names.specs.Telling.{Gives, Adds};
-ghost use Rattle.bind_query.specs.Shown.{shown};
+ghost use Rattle.bind_names.specs.Meaning.{columns_from, starred, starred_in, expression_name, shown_name};
+ghost use Rattle.bind_names.specs.Scope.{scope_of, visible};
+ghost use Rattle.bind_query.specs.Resolving.{AddsShown, AddsItem, AddsItems, ResolvesItems};
 ghost use Rattle.med_syntax.specs.ExprView.{expr_tree};
 ghost use Rattle.med_syntax.specs.QueryTree.{value};
 ghost use Rattle.med_syntax.specs.QueryView.{item_tree};
 ghost use Rattle.med_value.specs.Column.{column_of};
 ghost use Rattle.med_value.specs.declared.cause.Cause.TheVariants.{OutOfMemory};
-ghost use Rattle.std.specs.Prelude.{◌≡◌, ◌+◌, ◌≤◌, ◌∷◌, [], ◌++◌, map, length, flat_map, unwrap_or, option_map, string_bytes, if◌then◌else◌, Some, None, IfOk, IfErr};
+ghost use Rattle.std.specs.Prelude.{◌≡◌, ◌+◌, ◌≤◌, [], map, length, option_map, string_bytes, Some, None, IfOk, IfErr};
 
 use crate::resolve::resolve;
 use bind_names::{Visible, is_any_named, is_named};
@@ -37,7 +43,7 @@ fn push_columns(
     out: &mut Vec<Shown>,
 ) -> Result<(), Cause>
     requires { at + length columns.now ≤ 18446744073709551615 }
-    ensures { Adds [] (columns_from at (map column_of columns.now)) (map shown out.old.items) (map shown out.new.items) result }
+    ensures { AddsShown [] (columns_from at (map column_of columns.now)) out.old.items out.new.items result }
 {
     for (place, column) in columns.iter().enumerate() {
         let name = column.name.as_str().to_string(alloc)?;
@@ -49,7 +55,7 @@ fn push_columns(
 
 // `*`: each column of each entry.
 fn push_all(alloc: Global, scope: &[Visible<'_>], out: &mut Vec<Shown>) -> Result<(), Cause>
-    ensures { Adds [] (starred 0 None (scope_of scope.now)) (map shown out.old.items) (map shown out.new.items) result }
+    ensures { AddsShown [] (starred 0 None (scope_of scope.now)) out.old.items out.new.items result }
 {
     let mut at: usize = 0;
     for entry in scope {
@@ -72,7 +78,7 @@ fn push_named(
     out: &mut Vec<Shown>,
 ) -> Result<(), Cause>
     requires { at + length entry.columns.now ≤ 18446744073709551615 }
-    ensures { Adds [] (if is_meant (Some name.now) (visible entry.entry) then columns_from at (visible entry.entry).columns else []) (map shown out.old.items) (map shown out.new.items) result }
+    ensures { AddsShown [] (starred_in at (Some name.now) (visible entry.entry)) out.old.items out.new.items result }
 {
     if is_named(entry, name) {
         push_columns(alloc, at, entry.columns, out)
@@ -88,7 +94,7 @@ fn push_all_of(
     name: &str,
     out: &mut Vec<Shown>,
 ) -> Result<(), Cause>
-    ensures { Adds [] (starred 0 (Some name.now) (scope_of scope.now)) (map shown out.old.items) (map shown out.new.items) result }
+    ensures { AddsShown [] (starred 0 (Some name.now) (scope_of scope.now)) out.old.items out.new.items result }
 {
     let mut at: usize = 0;
     for entry in scope {
@@ -117,7 +123,7 @@ fn expression_name(e: &Written) -> &str
 
 // The name of an item.
 fn output_name(alloc: Global, e: &Written, alias: &Option<String>) -> Result<String, Cause>
-    ensures ok { IfOk result (λ name. string_bytes name ≡ unwrap_or (option_map string_bytes alias.now) (expression_name (expr_tree e.now))) }
+    ensures ok { IfOk result (λ name. string_bytes name ≡ shown_name (expr_tree e.now) (option_map string_bytes alias.now)) }
     ensures err { IfErr result (λ c. c ≡ OutOfMemory) }
 {
     match alias {
@@ -134,7 +140,8 @@ fn push_value(
     alias: &Option<String>,
     out: &mut Vec<Shown>,
 ) -> Result<(), Cause>
-    ensures { Adds (item_name_causes (scope_of scope.now) (value (expr_tree e.now) (option_map string_bytes alias.now))) (item_outputs (scope_of scope.now) (value (expr_tree e.now) (option_map string_bytes alias.now))) (map shown out.old.items) (map shown out.new.items) result }
+    ensures { let item = value (expr_tree e.now) (option_map string_bytes alias.now) in
+        AddsItem (scope_of scope.now) item out.old.items out.new.items result }
 {
     let value = resolve(alloc, scope, e)?;
     let name = output_name(alloc, e, alias)?;
@@ -149,7 +156,7 @@ fn push_item(
     item: &Item,
     out: &mut Vec<Shown>,
 ) -> Result<(), Cause>
-    ensures { Adds (item_name_causes (scope_of scope.now) (item_tree item.now)) (item_outputs (scope_of scope.now) (item_tree item.now)) (map shown out.old.items) (map shown out.new.items) result }
+    ensures { AddsItem (scope_of scope.now) (item_tree item.now) out.old.items out.new.items result }
 {
     match item {
         Item::All => {
@@ -174,7 +181,7 @@ fn push_items(
     items: &[Item],
     out: &mut Vec<Shown>,
 ) -> Result<(), Cause>
-    ensures { Adds (flat_map (item_name_causes (scope_of scope.now)) (map item_tree items.now)) (flat_map (item_outputs (scope_of scope.now)) (map item_tree items.now)) (map shown out.old.items) (map shown out.new.items) result }
+    ensures { AddsItems (scope_of scope.now) (map item_tree items.now) out.old.items out.new.items result }
 {
     for item in items {
         push_item(alloc, scope, item, out)?;
@@ -182,10 +189,10 @@ fn push_items(
     Ok(())
 }
 
-/// What the items of a select list stand for, or why a name in one is refused: 42601 for `*` without FROM, 42P01 for `name.*` where no entry
-/// has the name, and what `resolve` tells.
+/// What the items of a select list stand for, or why a name in one is refused: 42601 for `*` without FROM, 42P01 for `name.*` where no
+/// entry has the name, and what `resolve` tells.
 pub fn outputs_of(alloc: Global, scope: &[Visible<'_>], items: &[Item]) -> Result<Vec<Shown>, Cause>
-    ensures { Gives (λ v. map shown v.items) (flat_map (item_name_causes (scope_of scope.now)) (map item_tree items.now)) (outputs_of (scope_of scope.now) (map item_tree items.now)) result }
+    ensures { ResolvesItems (scope_of scope.now) (map item_tree items.now) result }
 {
     let mut out = Vec::new(alloc);
     push_items(alloc, scope, items, &mut out)?;

@@ -1,14 +1,21 @@
 //! Expressions with their names resolved.
-#![tactic(auto, using(bind_names::proofs::Causes::tells_left, bind_names::proofs::Causes::tells_right, bind_names::proofs::Causes::tells_memory, bind_names::proofs::Causes::tells_one, bind_names::proofs::Causes::none_of_two, bind_names::proofs::Causes::tells_first, bind_names::proofs::Causes::next_causes, crate::proofs::Trees::next_part, crate::proofs::Trees::all_parts))]
+#![tactic(auto, using(
+// a cause of a part is one of the whole
+bind_names::proofs::Causes::tells_left, bind_names::proofs::Causes::tells_right,
+// refused memory, and one cause alone
+bind_names::proofs::Causes::tells_memory, bind_names::proofs::Causes::tells_one,
+// no cause in either part
+bind_names::proofs::Causes::none_of_two))]
 
-ghost use Rattle.bind_names.specs.Meaning.{operation_of, test_of, joined, function_named, aggregate_of, resolved, resolved_all};
-ghost use Rattle.bind_names.specs.Naming.{name_causes, name_causes_of_all};
+ghost use Rattle.bind_names.specs.Meaning.{operation_of, test_of, joined, aggregate_of};
 ghost use Rattle.bind_names.specs.Scope.{scope_of};
 ghost use Rattle.bind_names.specs.Telling.{Gives};
+ghost use Rattle.bind_query.specs.Resolving.{Resolves, ResolvesBy, ResolvesAll, ResolvesBehind};
+ghost use Rattle.med_syntax.specs.ExprTree as w;
 ghost use Rattle.med_syntax.specs.ExprView.{expr_tree, expr_trees};
 ghost use Rattle.med_value.specs.Datum.{NoValue};
-ghost use Rattle.std.specs.Prelude.{◌≡◌, ◌++◌, [], map, bytes_eq, codes, if◌then◌else◌, Some};
-ghost use Rattle.tri_expr.specs.Tree.{tree, trees, part, literal, compare, compute, between, within, count_rows};
+ghost use Rattle.std.specs.Prelude.{◌≡◌, [], map, bytes_eq, codes, if◌then◌else◌, Some};
+ghost use Rattle.tri_expr.specs.Tree.{tree, trees, literal, count_rows};
 
 use crate::numbers::{negative, number};
 use bind_names::{Visible, find_column, function_named};
@@ -97,7 +104,7 @@ fn aggregate(
 
 #[cycle(resolve)]
 fn boxed(alloc: Global, scope: &[Visible<'_>], e: &Written) -> Result<Box<Expr>, Cause>
-    ensures { Gives (λ b. tree b.value) (name_causes (scope_of scope.now) (expr_tree e.now)) (resolved (scope_of scope.now) (expr_tree e.now)) result }
+    ensures { ResolvesBy (λ b. tree b.value) (scope_of scope.now) (expr_tree e.now) result }
 {
     let resolved = resolve(alloc, scope, e)?;
     Ok(Box::new(alloc, resolved)?)
@@ -106,7 +113,7 @@ fn boxed(alloc: Global, scope: &[Visible<'_>], e: &Written) -> Result<Box<Expr>,
 // Each of them, resolved.
 #[cycle(resolve)]
 fn arguments(alloc: Global, scope: &[Visible<'_>], written: &[Written]) -> Result<Vec<Expr>, Cause>
-    ensures { Gives (λ v. trees (map tree v.items)) (name_causes_of_all (scope_of scope.now) (expr_trees written.now)) (resolved_all (scope_of scope.now) (expr_trees written.now)) result }
+    ensures { ResolvesAll (scope_of scope.now) (expr_trees written.now) result }
 {
     let mut parts = Vec::new(alloc);
     for e in written {
@@ -124,7 +131,7 @@ fn listed(
     first: Expr,
     others: &[Written],
 ) -> Result<Vec<Expr>, Cause>
-    ensures { Gives (λ v. trees (map tree v.items)) (name_causes_of_all (scope_of scope.now) (expr_trees others.now)) (part (tree first) (resolved_all (scope_of scope.now) (expr_trees others.now))) result }
+    ensures { ResolvesBehind (tree first) (scope_of scope.now) (expr_trees others.now) result }
 {
     let mut parts = Vec::new(alloc);
     parts.push(first)?;
@@ -143,7 +150,7 @@ fn compared(
     a: &Written,
     b: &Written,
 ) -> Result<Expr, Cause>
-    ensures { Gives tree (name_causes (scope_of scope.now) (expr_tree a.now) ++ name_causes (scope_of scope.now) (expr_tree b.now)) (compare op (resolved (scope_of scope.now) (expr_tree a.now)) (resolved (scope_of scope.now) (expr_tree b.now))) result }
+    ensures { Resolves (scope_of scope.now) (w.compare op (expr_tree a.now) (expr_tree b.now)) result }
 {
     let a = boxed(alloc, scope, a)?;
     let b = boxed(alloc, scope, b)?;
@@ -158,7 +165,7 @@ fn computed(
     a: &Written,
     b: &Written,
 ) -> Result<Expr, Cause>
-    ensures { Gives tree (name_causes (scope_of scope.now) (expr_tree a.now) ++ name_causes (scope_of scope.now) (expr_tree b.now)) (compute (operation_of op) (resolved (scope_of scope.now) (expr_tree a.now)) (resolved (scope_of scope.now) (expr_tree b.now))) result }
+    ensures { Resolves (scope_of scope.now) (w.binary op (expr_tree a.now) (expr_tree b.now)) result }
 {
     let a = boxed(alloc, scope, a)?;
     let b = boxed(alloc, scope, b)?;
@@ -172,7 +179,7 @@ fn called(
     name: &str,
     written: &[Written],
 ) -> Result<Expr, Cause>
-    ensures { Gives tree (name_causes_of_all (scope_of scope.now) (expr_trees written.now)) (aggregate_of (function_named name.now) (resolved_all (scope_of scope.now) (expr_trees written.now))) result }
+    ensures { Resolves (scope_of scope.now) (w.call name.now (expr_trees written.now)) result }
 {
     let parts = arguments(alloc, scope, written)?;
     aggregate(alloc, function_named(name), parts)
@@ -187,7 +194,7 @@ fn bounded(
     low: &Written,
     high: &Written,
 ) -> Result<Expr, Cause>
-    ensures { Gives tree (name_causes (scope_of scope.now) (expr_tree e.now) ++ (name_causes (scope_of scope.now) (expr_tree low.now) ++ name_causes (scope_of scope.now) (expr_tree high.now))) (between negated (resolved (scope_of scope.now) (expr_tree e.now)) (resolved (scope_of scope.now) (expr_tree low.now)) (resolved (scope_of scope.now) (expr_tree high.now))) result }
+    ensures { Resolves (scope_of scope.now) (w.between negated (expr_tree e.now) (expr_tree low.now) (expr_tree high.now)) result }
 {
     let e = boxed(alloc, scope, e)?;
     let low = boxed(alloc, scope, low)?;
@@ -204,7 +211,7 @@ fn contained(
     first: &Written,
     others: &[Written],
 ) -> Result<Expr, Cause>
-    ensures { Gives tree (name_causes (scope_of scope.now) (expr_tree e.now) ++ (name_causes (scope_of scope.now) (expr_tree first.now) ++ name_causes_of_all (scope_of scope.now) (expr_trees others.now))) (within negated (resolved (scope_of scope.now) (expr_tree e.now)) (part (resolved (scope_of scope.now) (expr_tree first.now)) (resolved_all (scope_of scope.now) (expr_trees others.now)))) result }
+    ensures { Resolves (scope_of scope.now) (w.among negated (expr_tree e.now) (expr_tree first.now) (expr_trees others.now)) result }
 {
     let e = boxed(alloc, scope, e)?;
     let first = resolve(alloc, scope, first)?;
@@ -220,7 +227,7 @@ fn chained(
     first: &Written,
     others: &[Written],
 ) -> Result<Expr, Cause>
-    ensures { Gives tree (name_causes (scope_of scope.now) (expr_tree first.now) ++ name_causes_of_all (scope_of scope.now) (expr_trees others.now)) (joined joint (part (resolved (scope_of scope.now) (expr_tree first.now)) (resolved_all (scope_of scope.now) (expr_trees others.now)))) result }
+    ensures { Resolves (scope_of scope.now) (w.chain joint (expr_tree first.now) (expr_trees others.now)) result }
 {
     let first = resolve(alloc, scope, first)?;
     let parts = listed(alloc, scope, first, others)?;
@@ -230,7 +237,7 @@ fn chained(
 /// The expression with its names resolved, or why a name in it is refused.
 #[cycle(resolve)]
 pub fn resolve(alloc: Global, scope: &[Visible<'_>], e: &Written) -> Result<Expr, Cause>
-    ensures { Gives tree (name_causes (scope_of scope.now) (expr_tree e.now)) (resolved (scope_of scope.now) (expr_tree e.now)) result }
+    ensures { Resolves (scope_of scope.now) (expr_tree e.now) result }
 {
     match e {
         Written::Number(n) => Ok(Expr::Literal(Value::Int(number(*n)))),

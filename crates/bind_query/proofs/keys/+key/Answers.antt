@@ -1,7 +1,0 @@
-use Rattle.std.proofs.Common.{map}
-use Rattle.bind_query.specs.Shown.{shown}
-use Rattle.bind_query.proofs.KeySteps.{null_keyed}
-use Rattle.bind_query.proofs.keys.+key.Goals as goal
-
-pub returns-in-Null : goal.returns-in-Null
-returns-in-Null t c = rw (null_keyed (map shown c.args.outputs.now) c.args.e.now c.in-Null.is) c.expressed-in-Null.ensures
