@@ -11,7 +11,8 @@ use Rattle.med_syntax.specs.ExprView.{expr_tree, expr_trees}
 use Rattle.expr_grammar.specs.SymbolView.{terminals_of}
 
 abbrev pub Answers : ℕ → Result Found ReadFault → Read → Type 0
-Answers room (Ok f) read = (read ≡ Ok (expr_tree f.expr, terminals_of f.rest.now)) × (f.height ≡ height (expr_tree f.expr)) × (f.height ≤ room)
+Answers room (Ok f) read =
+    (read ≡ Ok (expr_tree f.expr, terminals_of f.rest.now)) × (f.height ≡ height (expr_tree f.expr)) × (f.height ≤ room)
 Answers room (Err faults.NoMemory) read = Unit {0}
 Answers room (Err (faults.Refused e)) read = read ≡ Err e
 
@@ -22,6 +23,7 @@ AnswersBoxed room (Err faults.NoMemory) read = Unit {0}
 AnswersBoxed room (Err (faults.Refused e)) read = read ≡ Err e
 
 abbrev pub AnswersAll : ℕ → Result Items ReadFault → Reads → Type 0
-AnswersAll room (Ok o) read = (read ≡ Ok (expr_trees o.list.items, terminals_of o.rest.now)) × (o.highest ≡ highest (expr_trees o.list.items)) × (o.highest ≤ room)
+AnswersAll room (Ok o) read =
+    (read ≡ Ok (expr_trees o.list.items, terminals_of o.rest.now)) × (o.highest ≡ highest (expr_trees o.list.items)) × (o.highest ≤ room)
 AnswersAll room (Err faults.NoMemory) read = Unit {0}
 AnswersAll room (Err (faults.Refused e)) read = read ≡ Err e

@@ -64,7 +64,8 @@ pub fn call_of_nothing(alloc: Global, function: &String) -> Result<Expr, AllocEr
 }
 
 pub fn call_of(function: &String, first: Box<Expr>, others: Vec<Expr>) -> Result<Expr, AllocError>
-    ensures { IfOk result (λ x. expr_tree x ≡ spec.call (string_bytes function.now) (spec.more (expr_tree first.value) (expr_trees others.items))) }
+    ensures { IfOk result
+        (λ x. expr_tree x ≡ spec.call (string_bytes function.now) (spec.more (expr_tree first.value) (expr_trees others.items))) }
 {
     let mut parts = others;
     parts.insert(0, Box::into_inner(first))?;

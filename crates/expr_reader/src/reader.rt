@@ -1,14 +1,14 @@
 //! Expressions, by recursive descent.
 #![tactic(auto)]
 
-ghost use Rattle.std.specs.Prelude.{◌≡◌, ◌≤◌, ◌<◌, ◌-◌, length, max};
+ghost use Rattle.std.specs.Prelude.{◌≡◌, ◌≤◌, ◌<◌, ◌-◌, max};
 ghost use Rattle.std.specs.String.{string_bytes};
 ghost use Rattle.med_syntax.specs.ExprTree.{between as spec_between, binary, compare, height as spec_height, highest as spec_highest};
 ghost use Rattle.expr_grammar.specs.ExprReading as reading;
 ghost use Rattle.med_syntax.specs.ExprView.{expr_tree, expr_trees};
 ghost use Rattle.expr_grammar.specs.SymbolView.{terminals_of};
 ghost use Rattle.expr_grammar.specs.ExprSteps as steps;
-ghost use Rattle.expr_reader.specs.ReaderSteps.{parens_of};
+ghost use Rattle.expr_reader.specs.ReaderSteps.{others_of, parens_of};
 ghost use Rattle.expr_reader.specs.ReaderAnswers.{Answers, AnswersAll, AnswersBoxed};
 
 use crate::build::{
@@ -130,7 +130,8 @@ fn chain_made(
     requires height { first_height ≡ spec_height (expr_tree first) }
     requires highest { others.highest ≡ spec_highest (expr_trees others.list.items) }
     requires low { (first_height ≤ room) × (others.highest ≤ room) }
-    ensures { Answers room result (reading.chained joint room (expr_tree first) (expr_trees others.entry.list.items) (terminals_of others.entry.rest.now)) }
+    ensures { Answers room result
+        (reading.chained joint room (expr_tree first) (expr_trees others.entry.list.items) (terminals_of others.entry.rest.now)) }
 {
     if others.list.is_empty() {
         return Ok(Found {
@@ -178,7 +179,7 @@ fn others(
 ) -> Result<Items<'_>, ReadFault>
     requires some { 1 ≤ room }
     requires few { room < 1000 }
-    ensures { AnswersAll room result (reading.others_after (steps.is_mark separator) (steps.item_of separator (reading.below (room - 1)) room) (length (terminals_of symbols.now)) (terminals_of symbols.now)) }
+    ensures { AnswersAll room result (others_of separator (reading.below (room - 1)) room (terminals_of symbols.now)) }
 {
     let mut list = Vec::new(alloc);
     let mut highest: u32 = 0;
@@ -307,7 +308,8 @@ fn comparison_made(
     requires height { left_height ≡ spec_height (expr_tree left.value) }
     requires right_height { right.height ≡ spec_height (expr_tree right.expr) }
     requires low { (left_height ≤ room) × (right.height ≤ room) }
-    ensures { Answers room result (reading.within room (compare op (expr_tree left.value) (expr_tree right.entry.expr)) (terminals_of right.entry.rest.now)) }
+    ensures { Answers room result
+        (reading.within room (compare op (expr_tree left.value) (expr_tree right.entry.expr)) (terminals_of right.entry.rest.now)) }
 {
     let height = 1 + left_height.max(right.height);
     within(
@@ -362,7 +364,8 @@ fn in_range(
     requires few { room < 1000 }
     requires height { value_height ≡ spec_height (expr_tree value.value) }
     requires low { value_height ≤ room }
-    ensures { Answers room result (reading.test_after (reading.below (room - 1)) room negated (expr_tree value.value) (terminals_of symbols.now)) }
+    ensures { Answers room result
+        (reading.test_after (reading.below (room - 1)) room negated (expr_tree value.value) (terminals_of symbols.now)) }
 {
     match symbols {
         [Symbol::Between, after @ ..] => in_bounds(
@@ -412,7 +415,8 @@ fn in_bounds(
     requires few { room < 1000 }
     requires height { value_height ≡ spec_height (expr_tree value.value) }
     requires low { value_height ≤ room }
-    ensures { Answers room result (reading.bounds_after (reading.below (room - 1)) room negated (expr_tree value.value) (terminals_of symbols.now)) }
+    ensures { Answers room result
+        (reading.bounds_after (reading.below (room - 1)) room negated (expr_tree value.value) (terminals_of symbols.now)) }
 {
     let low = boxed_sum(alloc, room, symbols)?;
     match low.rest {
@@ -438,7 +442,9 @@ fn bounds_made(
     requires height { below_high ≡ max (spec_height (expr_tree value.value)) (spec_height (expr_tree low.value)) }
     requires high_height { high.height ≡ spec_height (expr_tree high.expr.value) }
     requires low { (below_high ≤ room) × (high.height ≤ room) }
-    ensures { Answers room result (reading.within room (spec_between negated (expr_tree value.value) (expr_tree low.value) (expr_tree high.entry.expr.value)) (terminals_of high.entry.rest.now)) }
+    ensures { Answers room result
+        (reading.within room (spec_between negated (expr_tree value.value) (expr_tree low.value) (expr_tree high.entry.expr.value))
+        (terminals_of high.entry.rest.now)) }
 {
     let height = 1 + below_high.max(high.height);
     within(
@@ -463,7 +469,8 @@ fn in_list(
     requires few { room < 1000 }
     requires height { value_height ≡ spec_height (expr_tree value.value) }
     requires low { value_height ≤ room }
-    ensures { Answers room result (reading.list_after (reading.below (room - 1)) room negated (expr_tree value.value) (terminals_of symbols.now)) }
+    ensures { Answers room result
+        (reading.list_after (reading.below (room - 1)) room negated (expr_tree value.value) (terminals_of symbols.now)) }
 {
     let first = boxed_whole(alloc, room - 1, symbols)?;
     let others = others(alloc, Separator::Comma, room, first.rest)?;
@@ -504,7 +511,8 @@ fn operand(
 fn chain(alloc: Global, level: Level, room: u32, symbols: &[Symbol]) -> Result<Found<'_>, ReadFault>
     requires some { 1 ≤ room }
     requires few { room < 1000 }
-    ensures { Answers room result (reading.left_of (steps.op_of level) (steps.operand_of level (reading.below (room - 1)) room) room (terminals_of symbols.now)) }
+    ensures { Answers room result
+        (reading.left_of (steps.op_of level) (steps.operand_of level (reading.below (room - 1)) room) room (terminals_of symbols.now)) }
 {
     let mut found = operand(alloc, level, room, symbols)?;
     while let Some((op, after)) = operator(level, found.rest) {
@@ -528,7 +536,8 @@ fn operation_made(
     requires height { left_height ≡ spec_height (expr_tree left.value) }
     requires right_height { right.height ≡ spec_height (expr_tree right.expr) }
     requires low { (left_height ≤ room) × (right.height ≤ room) }
-    ensures { Answers room result (reading.within room (binary op (expr_tree left.value) (expr_tree right.entry.expr)) (terminals_of right.entry.rest.now)) }
+    ensures { Answers room result
+        (reading.within room (binary op (expr_tree left.value) (expr_tree right.entry.expr)) (terminals_of right.entry.rest.now)) }
 {
     let height = 1 + left_height.max(right.height);
     within(
@@ -691,7 +700,9 @@ fn call_made<'a>(
     requires height { first_height ≡ spec_height (expr_tree first.value) }
     requires highest { others.highest ≡ spec_highest (expr_trees others.list.items) }
     requires low { (first_height < room) × (others.highest < room) }
-    ensures { Answers room result (reading.closed_call (string_bytes function.now) (expr_tree first.value) (expr_trees others.entry.list.items) (terminals_of others.entry.rest.now)) }
+    ensures { Answers room result
+        (reading.closed_call (string_bytes function.now) (expr_tree first.value) (expr_trees others.entry.list.items)
+        (terminals_of others.entry.rest.now)) }
 {
     match others.rest {
         [Symbol::RightParen, rest @ ..] => {
