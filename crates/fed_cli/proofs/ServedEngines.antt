@@ -10,6 +10,7 @@ use Rattle.session_wire.specs.Engines.{EngineSteps, EngineEnds}
 use Rattle.session_wire.specs.Servers.{handler_of, is_closed, held_back, unread_of}
 use Rattle.session_wire.specs.Worlds.{Scene, scene_of, SceneSteps, SceneEnds}
 use Rattle.session_wire.specs.declared.server.Server.{Server}
+use Rattle.fed_cli.specs.Streams.{Stream, stream}
 use Rattle.fed_cli.specs.Served.{Serves}
 use Rattle.fed_cli.specs.Answered.{ServesWorld}
 use Rattle.fed_cli.specs.declared.stream.Ended.{Ended}
@@ -27,30 +28,30 @@ open_server server bytes e = split (is_closed server) refl e
 
 -- the law of worlds, as its public contract says it
 abbrev pub Law : {W : Type 0} → (W → BoxState) → Type 0
-Law {W} meaning = (old new : Engine W) (before : List ℕ) (left had has held holds : Option (List ℕ)) (result : Result Ended StreamFault)
-    → Serves (EngineSteps meaning) (EngineEnds meaning) old before new left had has held holds result → (w : World) → Agrees (shown meaning old) w
-    → (after : World) × Serves SceneSteps SceneEnds (scene_of meaning old w) before (scene_of meaning new after) left had has held holds result × Agrees (shown meaning new) after
+Law {W} meaning = (old new : Engine W) (before : List ℕ) (left : Option (List ℕ)) (input output : Stream) (result : Result Ended StreamFault)
+    → Serves (EngineSteps meaning) (EngineEnds meaning) old before new left input output result → (w : World) → Agrees (shown meaning old) w
+    → (after : World) × Serves SceneSteps SceneEnds (scene_of meaning old w) before (scene_of meaning new after) left input output result × Agrees (shown meaning new) after
 
 -- this world over these boxes
 abbrev over : List (Option BoxState) → World → Scene
 over boxes w = record { world = w; boxes = boxes }
 
 -- a new server was served, and its engine is handed back
-pub serves_world : {W : Type 0} (meaning : W → BoxState) (server : Server (Engine W)) (engine new closed : Engine W) (slots : List (Option W)) (left had has held holds : Option (List ℕ)) (result : Result Ended StreamFault)
+pub serves_world : {W : Type 0} (meaning : W → BoxState) (server : Server (Engine W)) (engine new closed : Engine W) (slots : List (Option W)) (left : Option (List ℕ)) (input output : Stream) (result : Result Ended StreamFault)
     → Law meaning → handler_of server ≡ engine → unread_of server ≡ Some []
-    → (is_closed server ≡ false → Serves (EngineSteps meaning) (EngineEnds meaning) (handler_of server) (held_back server) new left had has held holds result)
+    → (is_closed server ≡ false → Serves (EngineSteps meaning) (EngineEnds meaning) (handler_of server) (held_back server) new left input output result)
     → EngineEnds meaning new closed → states meaning slots ≡ (shown meaning closed).boxes
-    → (w : World) → Agrees (shown meaning engine) w → ServesWorld (shown meaning engine).boxes (states meaning slots) w had has held holds result
-serves_world meaning server engine new closed slots left had has held holds result law of unread serves ends is w agrees =
+    → (w : World) → Agrees (shown meaning engine) w → ServesWorld (shown meaning engine).boxes (states meaning slots) w input output result
+serves_world meaning server engine new closed slots left input output result law of unread serves ends is w agrees =
     let both = open_server server [] unread in
     let boxes : states meaning slots ≡ (shown meaning new).boxes = is ∙ ap (λ s. s.boxes) ends.others in
-    let begun = subst (λ b. Serves (EngineSteps meaning) (EngineEnds meaning) (handler_of server) b new left had has held holds result) both.1 (serves both.0) in
-    let run = subst (λ e. Serves (EngineSteps meaning) (EngineEnds meaning) e [] new left had has held holds result) of begun in
-    let one = law engine new [] left had has held holds result run w agrees in
+    let begun = subst (λ b. Serves (EngineSteps meaning) (EngineEnds meaning) (handler_of server) b new left input output result) both.1 (serves both.0) in
+    let run = subst (λ e. Serves (EngineSteps meaning) (EngineEnds meaning) e [] new left input output result) of begun in
+    let one = law engine new [] left input output result run w agrees in
     record {
       after = one.0;
       left = left;
-      serves = subst (λ b. Serves SceneSteps SceneEnds (scene_of meaning engine w) [] (over b one.0) left had has held holds result) (sym boxes) one.1;
+      serves = subst (λ b. Serves SceneSteps SceneEnds (scene_of meaning engine w) [] (over b one.0) left input output result) (sym boxes) one.1;
       engine = shown meaning closed;
       boxes = sym is;
       agrees = ends.world one.0 one.2;
@@ -59,7 +60,7 @@ serves_world meaning server engine new closed slots left had has held holds resu
 -- there was no room for a server
 pub no_server : {W : Type 0} (meaning : W → BoxState) (back engine closed : Engine W) (slots : List (Option W)) (had held : Option (List ℕ))
     → back ≡ engine → EngineEnds meaning back closed → states meaning slots ≡ (shown meaning closed).boxes
-    → (w : World) → Agrees (shown meaning engine) w → ServesWorld (shown meaning engine).boxes (states meaning slots) w had had held held (Err NoRoom)
+    → (w : World) → Agrees (shown meaning engine) w → ServesWorld (shown meaning engine).boxes (states meaning slots) w (stream had had) (stream held held) (Err NoRoom)
 unfolding lines_within
 no_server meaning back engine closed slots had held same ends is w agrees =
     let boxes : states meaning slots ≡ (shown meaning engine).boxes = is ∙ ap (λ s. s.boxes) ends.others ∙ ap (λ e. (shown meaning e).boxes) same in

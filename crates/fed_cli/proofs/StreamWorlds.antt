@@ -7,6 +7,7 @@ use Rattle.med_session.specs.declared.engine.Engine.{Engine}
 use Rattle.session_wire.specs.Engines.{EngineSteps, EngineEnds}
 use Rattle.session_wire.specs.Run.{Fed, BrokenOff}
 use Rattle.session_wire.specs.Worlds.{scene_of, SceneSteps, SceneEnds}
+use Rattle.fed_cli.specs.Streams.{Stream}
 use Rattle.fed_cli.specs.Served.{Served, Ran, Stopped, Serves}
 use Rattle.fed_cli.specs.declared.stream.Ended.{Ended}
 use Rattle.fed_cli.specs.declared.stream.Ended.TheVariants as ended
@@ -22,24 +23,24 @@ pub record Laws {W : Type 0} (meaning : W → BoxState) : Type 0 where
       → BrokenOff (EngineSteps meaning) (EngineEnds meaning) old bytes text new → (w : World) → Agrees (shown meaning old) w
       → (after : World) × BrokenOff SceneSteps SceneEnds (scene_of meaning old w) bytes text (scene_of meaning new after) × Agrees (shown meaning new) after
 
-served_in_worlds : {W : Type 0} (meaning : W → BoxState) → Laws meaning → (old : Engine W) (before : List ℕ) (new : Engine W) (left had has held holds : Option (List ℕ))
-    → Served (EngineSteps meaning) (EngineEnds meaning) old before new left had has held holds → (w : World) → Agrees (shown meaning old) w
-    → (after : World) × Served SceneSteps SceneEnds (scene_of meaning old w) before (scene_of meaning new after) left had has held holds × Agrees (shown meaning new) after
-served_in_worlds meaning law old before new left had has held holds h w agrees =
+served_in_worlds : {W : Type 0} (meaning : W → BoxState) → Laws meaning → (old : Engine W) (before : List ℕ) (new : Engine W) (left : Option (List ℕ)) (input output : Stream)
+    → Served (EngineSteps meaning) (EngineEnds meaning) old before new left input output → (w : World) → Agrees (shown meaning old) w
+    → (after : World) × Served SceneSteps SceneEnds (scene_of meaning old w) before (scene_of meaning new after) left input output × Agrees (shown meaning new) after
+served_in_worlds meaning law old before new left input output h w agrees =
     let one = law.fed old new (before ++ h.bytes) h.text left h.fed w agrees in
     (one.0, record { bytes = h.bytes; text = h.text; read = h.read; written = h.written; fed = one.1 }, one.2)
 
-ran_in_worlds : {W : Type 0} (meaning : W → BoxState) → Laws meaning → (old : Engine W) (before : List ℕ) (new : Engine W) (left had has : Option (List ℕ))
-    → Ran (EngineSteps meaning) (EngineEnds meaning) old before new left had has → (w : World) → Agrees (shown meaning old) w
-    → (after : World) × Ran SceneSteps SceneEnds (scene_of meaning old w) before (scene_of meaning new after) left had has × Agrees (shown meaning new) after
-ran_in_worlds meaning law old before new left had has h w agrees =
+ran_in_worlds : {W : Type 0} (meaning : W → BoxState) → Laws meaning → (old : Engine W) (before : List ℕ) (new : Engine W) (left : Option (List ℕ)) (input : Stream)
+    → Ran (EngineSteps meaning) (EngineEnds meaning) old before new left input → (w : World) → Agrees (shown meaning old) w
+    → (after : World) × Ran SceneSteps SceneEnds (scene_of meaning old w) before (scene_of meaning new after) left input × Agrees (shown meaning new) after
+ran_in_worlds meaning law old before new left input h w agrees =
     let one = law.fed old new (before ++ h.bytes) h.text left h.fed w agrees in
     (one.0, record { bytes = h.bytes; text = h.text; read = h.read; fed = one.1 }, one.2)
 
-stopped_in_worlds : {W : Type 0} (meaning : W → BoxState) → Laws meaning → (old : Engine W) (before : List ℕ) (new : Engine W) (had has held holds : Option (List ℕ))
-    → Stopped (EngineSteps meaning) (EngineEnds meaning) old before new had has held holds → (w : World) → Agrees (shown meaning old) w
-    → (after : World) × Stopped SceneSteps SceneEnds (scene_of meaning old w) before (scene_of meaning new after) had has held holds × Agrees (shown meaning new) after
-stopped_in_worlds meaning law old before new had has held holds h w agrees =
+stopped_in_worlds : {W : Type 0} (meaning : W → BoxState) → Laws meaning → (old : Engine W) (before : List ℕ) (new : Engine W) (input output : Stream)
+    → Stopped (EngineSteps meaning) (EngineEnds meaning) old before new input output → (w : World) → Agrees (shown meaning old) w
+    → (after : World) × Stopped SceneSteps SceneEnds (scene_of meaning old w) before (scene_of meaning new after) input output × Agrees (shown meaning new) after
+stopped_in_worlds meaning law old before new input output h w agrees =
     let s = h.served in
     let one = law.fed old h.mid (before ++ s.bytes) s.text (Some h.after) s.fed w agrees in
     let two = law.broken h.mid new (h.after ++ h.piece) h.text h.broken one.0 one.2 in (
@@ -57,17 +58,17 @@ stopped_in_worlds meaning law old before new had has held holds h w agrees =
       two.2,
     )
 
-pub serves_in_worlds : {W : Type 0} (meaning : W → BoxState) → Laws meaning → (old : Engine W) (before : List ℕ) (new : Engine W) (left had has held holds : Option (List ℕ)) (result : Result Ended StreamFault)
-    → Serves (EngineSteps meaning) (EngineEnds meaning) old before new left had has held holds result → (w : World) → Agrees (shown meaning old) w
-    → (after : World) × Serves SceneSteps SceneEnds (scene_of meaning old w) before (scene_of meaning new after) left had has held holds result × Agrees (shown meaning new) after
-serves_in_worlds meaning law old before new left had has held holds (Ok ended.Eof) h w agrees =
-    let one = served_in_worlds meaning law old before new left had has held holds h.0 w agrees in (one.0, (one.1, h.1, h.2), one.2)
-serves_in_worlds meaning law old before new left had has held holds (Ok ended.Closed) h w agrees =
-    let one = served_in_worlds meaning law old before new left had has held holds h.0 w agrees in (one.0, (one.1, h.1), one.2)
-serves_in_worlds meaning law old before new left had has held holds (Err faults.Read) h w agrees =
-    let one = served_in_worlds meaning law old before new left had has held holds h.0 w agrees in (one.0, (one.1, h.1), one.2)
-serves_in_worlds meaning law old before new left had has held holds (Err faults.TooLong) h w agrees =
-    let one = served_in_worlds meaning law old before new left had has held holds h.0 w agrees in (one.0, (one.1, h.1), one.2)
-serves_in_worlds meaning law old before new left had has held holds (Err faults.Write) h w agrees = ran_in_worlds meaning law old before new left had has h w agrees
-serves_in_worlds meaning law old before new left had has held holds (Err faults.NoRoom) h w agrees =
-    let one = stopped_in_worlds meaning law old before new had has held holds h.0 w agrees in (one.0, (one.1, h.1), one.2)
+pub serves_in_worlds : {W : Type 0} (meaning : W → BoxState) → Laws meaning → (old : Engine W) (before : List ℕ) (new : Engine W) (left : Option (List ℕ)) (input output : Stream) (result : Result Ended StreamFault)
+    → Serves (EngineSteps meaning) (EngineEnds meaning) old before new left input output result → (w : World) → Agrees (shown meaning old) w
+    → (after : World) × Serves SceneSteps SceneEnds (scene_of meaning old w) before (scene_of meaning new after) left input output result × Agrees (shown meaning new) after
+serves_in_worlds meaning law old before new left input output (Ok ended.Eof) h w agrees =
+    let one = served_in_worlds meaning law old before new left input output h.0 w agrees in (one.0, (one.1, h.1, h.2), one.2)
+serves_in_worlds meaning law old before new left input output (Ok ended.Closed) h w agrees =
+    let one = served_in_worlds meaning law old before new left input output h.0 w agrees in (one.0, (one.1, h.1), one.2)
+serves_in_worlds meaning law old before new left input output (Err faults.Read) h w agrees =
+    let one = served_in_worlds meaning law old before new left input output h.0 w agrees in (one.0, (one.1, h.1), one.2)
+serves_in_worlds meaning law old before new left input output (Err faults.TooLong) h w agrees =
+    let one = served_in_worlds meaning law old before new left input output h.0 w agrees in (one.0, (one.1, h.1), one.2)
+serves_in_worlds meaning law old before new left input output (Err faults.Write) h w agrees = ran_in_worlds meaning law old before new left input h w agrees
+serves_in_worlds meaning law old before new left input output (Err faults.NoRoom) h w agrees =
+    let one = stopped_in_worlds meaning law old before new input output h.0 w agrees in (one.0, (one.1, h.1), one.2)

@@ -4,6 +4,7 @@ use Rattle.std.specs.Io.KnownBytes.{Consumes, Appends, Keeps}
 use Rattle.session_wire.specs.Run.{Steps, Fed}
 use Rattle.session_wire.specs.Servers.{is_closed, held_back, unread_of}
 use Rattle.session_wire.specs.declared.server.Server.{Server}
+use Rattle.fed_cli.specs.Streams.{stream}
 use Rattle.fed_cli.specs.Served.{Served, Serves, Fails}
 use Rattle.fed_cli.specs.declared.stream.StreamFault.{StreamFault}
 use Rattle.fed_cli.specs.declared.stream.StreamFault.TheVariants as faults
@@ -51,7 +52,7 @@ abbrev pub Joins : {W : Type 0} → Steps W → (W → W → Type 0) → Type 0
 Joins {W} step ends = (old mid new : W) (bytes more text others after : List ℕ) (left : Option (List ℕ))
     → Fed step ends old bytes text mid (Some after) → Fed step ends mid (after ++ more) others new left → Fed step ends old (bytes ++ more) (text ++ others) new left
 
-pub served_none : {W : Type 0} (step : Steps W) (ends : W → W → Type 0) (old : W) (before : List ℕ) (left had held : Option (List ℕ)) → Fed step ends old before [] old (Some before) → left ≡ Some before → Served step ends old before old left had had held held
+pub served_none : {W : Type 0} (step : Steps W) (ends : W → W → Type 0) (old : W) (before : List ℕ) (left had held : Option (List ℕ)) → Fed step ends old before [] old (Some before) → left ≡ Some before → Served step ends old before old left (stream had had) (stream held held)
 served_none step ends old before left had held f e = record {
   bytes = [];
   text = [];
@@ -62,12 +63,12 @@ served_none step ends old before left had held f e = record {
 
 -- a read that gave nothing
 pub served_kept : {W : Type 0} (step : Steps W) (ends : W → W → Type 0) (old : W) (before : List ℕ) (new : W) (left had has held holds now : Option (List ℕ))
-    → Served step ends old before new left had has held holds → Keeps has now → Served step ends old before new left had now held holds
+    → Served step ends old before new left (stream had has) (stream held holds) → Keeps has now → Served step ends old before new left (stream had now) (stream held holds)
 served_kept step ends old before new left had has held holds now h k =
     record { bytes = h.bytes; text = h.text; read = Consumes-kept had has now h.bytes h.read k; written = h.written; fed = h.fed }
 
 pub served_end : {W : Type 0} (step : Steps W) (ends : W → W → Type 0) (old : W) (before : List ℕ) (new : W) (left had has held holds now : Option (List ℕ))
-    → Served step ends old before new left had has held holds → Consumes has now [] → Served step ends old before new left had now held holds
+    → Served step ends old before new left (stream had has) (stream held holds) → Consumes has now [] → Served step ends old before new left (stream had now) (stream held holds)
 served_end step ends old before new left had has held holds now h k = served_kept step ends old before new left had has held holds now h (keeps_none has now k)
 
 -- bytes so far with a piece
@@ -76,9 +77,9 @@ joined step ends old before bytes piece text new left h = subst (λ l. Fed step 
 
 -- a piece was read and answered
 pub served_more : {W : Type 0} (step : Steps W) (ends : W → W → Type 0) (old : W) (before : List ℕ) (mid : W) (after : List ℕ) (had has held holds : Option (List ℕ)) (piece others : List ℕ) (new : W) (left now writes : Option (List ℕ))
-    → Joins step ends → Served step ends old before mid (Some after) had has held holds → Consumes has now piece → Appends holds writes others
+    → Joins step ends → Served step ends old before mid (Some after) (stream had has) (stream held holds) → Consumes has now piece → Appends holds writes others
     → Fed step ends mid (after ++ piece) others new left
-    → Served step ends old before new left had now held writes
+    → Served step ends old before new left (stream had now) (stream held writes)
 served_more step ends old before mid after had has held holds piece others new left now writes j h c a f = record {
   bytes = h.bytes ++ piece;
   text = h.text ++ others;
@@ -88,8 +89,8 @@ served_more step ends old before mid after had has held holds piece others new l
 }
 
 pub failed : {W : Type 0} (step : Steps W) (ends : W → W → Type 0) (old : W) (before : List ℕ) (mid : W) (after : List ℕ) (had has held holds : Option (List ℕ)) (piece : List ℕ) (new : W) (left now writes : Option (List ℕ)) (fault : StreamFault)
-    → Joins step ends → Served step ends old before mid (Some after) had has held holds → Consumes has now piece → Fails step ends mid (after ++ piece) new left holds writes fault
-    → Serves step ends old before new left had now held writes (Err fault)
+    → Joins step ends → Served step ends old before mid (Some after) (stream had has) (stream held holds) → Consumes has now piece → Fails step ends mid (after ++ piece) new left (stream holds writes) fault
+    → Serves step ends old before new left (stream had now) (stream held writes) (Err fault)
 failed step ends old before mid after had has held holds piece new left now writes faults.Write j h c f = record {
   bytes = h.bytes ++ piece;
   text = h.text ++ f.0;
@@ -101,7 +102,7 @@ failed step ends old before mid after had has held holds piece new left now writ
     between = has;
     mid = mid;
     after = after;
-    served = subst (λ w. Served step ends old before mid (Some after) had has held w) (sym f.2) h;
+    served = subst (λ w. Served step ends old before mid (Some after) (stream had has) (stream held w)) (sym f.2) h;
     piece = piece;
     read = c;
     text = f.0;

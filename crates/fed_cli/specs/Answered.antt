@@ -4,6 +4,7 @@ use Rattle.fdw_api.specs.State.{BoxState}
 use Rattle.med_session.specs.World.{World, without_sessions}
 use Rattle.med_session.specs.Engine.{Shown, Agrees}
 use Rattle.session_wire.specs.Worlds.{SceneSteps, SceneEnds}
+use Rattle.fed_cli.specs.Streams.{Stream}
 use Rattle.fed_cli.specs.Served.{Serves}
 use Rattle.fed_cli.specs.Setup.{IsFirst}
 use Rattle.fed_cli.specs.declared.stream.Ended.{Ended}
@@ -12,19 +13,22 @@ use Rattle.fed_cli.specs.declared.stream.StreamFault.{StreamFault}
 -- A stream is served from this world on, by sources that show the first boxes before and the last ones when they are handed back. What
 -- was read and written is that of a run, line by line over what the boxes show, and the last boxes stand for the world that the run leads
 -- to, with its sessions ended.
-pub record ServesWorld (first last : List (Option BoxState)) (w : World) (had has held holds : Option (List ℕ)) (result : Result Ended StreamFault) : Type 0 where
+pub record ServesWorld (first last : List (Option BoxState)) (w : World)
+    (input output : Stream) (result : Result Ended StreamFault) : Type 0 where
   pub after : World
   pub left : Option (List ℕ)
-  pub serves : Serves SceneSteps SceneEnds (record { world = w; boxes = first }) [] (record { world = after; boxes = last }) left had has held holds result
+  pub serves : Serves SceneSteps SceneEnds (record { world = w; boxes = first }) []
+      (record { world = after; boxes = last }) left input output result
   pub engine : Shown
   pub boxes : engine.boxes ≡ last
   pub agrees : Agrees engine (without_sessions after)
 
 -- The program serves a stream, that ends so: from its first world and the boxes of a new engine, for which an engine stands, to the last
 -- boxes, which are those of the sources that it hands back.
-pub record ServesProgram (source : Option (List ℕ)) (last : List (Option BoxState)) (had has held holds : Option (List ℕ)) (ended : Result Ended StreamFault) : Type 0 where
+pub record ServesProgram (source : Option (List ℕ)) (last : List (Option BoxState))
+    (input output : Stream) (ended : Result Ended StreamFault) : Type 0 where
   pub world : World
   pub engine : Shown
   pub is_first : IsFirst source world engine.boxes
   pub agrees : Agrees engine world
-  pub serves : ServesWorld engine.boxes last world had has held holds ended
+  pub serves : ServesWorld engine.boxes last world input output ended

@@ -8,13 +8,16 @@ use Rattle.list_wrapper.specs.Lists.{Listed}
 -- CREATE FOREIGN TABLE parts (id integer NOT NULL, name text, qty integer, live boolean)
 abbrev pub parts_columns : List Column
 parts_columns =
-    record { name = codes "id"; kind = types.Int; not_null = true } ∷ record { name = codes "name"; kind = types.Text; not_null = false }
-    ∷ record { name = codes "qty"; kind = types.Int; not_null = false } ∷ record { name = codes "live"; kind = types.Bool; not_null = false } ∷ []
+    record { name = codes "id"; kind = types.Int; not_null = true }
+    ∷ record { name = codes "name"; kind = types.Text; not_null = false }
+    ∷ record { name = codes "qty"; kind = types.Int; not_null = false }
+    ∷ record { name = codes "live"; kind = types.Bool; not_null = false } ∷ []
 
 -- CREATE FOREIGN TABLE orders (no integer, part integer, n integer)
 abbrev pub orders_columns : List Column
 orders_columns =
-    record { name = codes "no"; kind = types.Int; not_null = false } ∷ record { name = codes "part"; kind = types.Int; not_null = false }
+    record { name = codes "no"; kind = types.Int; not_null = false }
+    ∷ record { name = codes "part"; kind = types.Int; not_null = false }
     ∷ record { name = codes "n"; kind = types.Int; not_null = false } ∷ []
 
 abbrev pub order : ℕ → ℕ → ℕ → Tuple

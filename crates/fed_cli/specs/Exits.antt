@@ -9,6 +9,7 @@ use Rattle.list_wrapper.specs.ListBoxes.{box_of}
 use Rattle.list_wrapper.specs.declared.list.ListWrapper.{ListWrapper}
 use Rattle.fed_cli.specs.Answered.{ServesProgram}
 use Rattle.fed_cli.specs.Setup.{BeginsNot}
+use Rattle.fed_cli.specs.Streams.{Stream, IsUntouched}
 use Rattle.fed_cli.specs.Told.{Came, told_of, run_status, run_line, words_status, words_text}
 use Rattle.fed_cli.specs.Words.{Reads}
 use Rattle.fed_cli.specs.declared.program.Exit.{Exit}
@@ -19,41 +20,45 @@ use Rattle.fed_cli.specs.declared.words.Asked.{Asked}
 use Rattle.fed_cli.specs.declared.words.WordsFault.{WordsFault}
 use Rattle.fed_cli.specs.declared.words.WordsFault.TheVariants.{Help, Usage, BadName, NoMemory}
 
--- A run came to this. Where no sources are handed back it did not begin: nothing was read or written. Else the input was served, and standard
--- output got the replies alone.
-abbrev pub Runs : Option (Bor (List ℕ)) → Came → Option (Sources ListWrapper) → Option (List ℕ) → Option (List ℕ) → Option (List ℕ) → Option (List ℕ) → Type 0
-Runs list came None had has held holds =
-    (fault : RunFault) × (came ≡ Err fault) × BeginsNot list fault × (has ≡ had) × (holds ≡ held)
-Runs list came (Some sources) had has held holds =
+-- A run came to this. Where no sources are handed back it did not begin: nothing was read or written. Else the input was served,
+-- and standard output got the replies alone.
+abbrev pub Runs : Option (Bor (List ℕ)) → Came → Option (Sources ListWrapper) → Stream → Stream → Type 0
+Runs list came None input output =
+    (fault : RunFault) × (came ≡ Err fault) × BeginsNot list fault × IsUntouched input × IsUntouched output
+Runs list came (Some sources) input output =
     (ended : Result Ended StreamFault) × (came ≡ told_of ended)
-    × ServesProgram (option_map (λ s. s.now) list) (states box_of sources.slots.items) had has held holds ended
+    × ServesProgram (option_map (λ s. s.now) list) (states box_of sources.slots.items) input output ended
     × EachBox IsAtRest (states box_of sources.slots.items)
 
+-- where all could be told, a stream got this text, and nothing else
+abbrev pub Tells : Bool → Stream → List ℕ → Type 0
+Tells is_told s text = is_told ≡ true → Appends s.before s.after text
+
 -- Standard error gets nothing where the input ended, and else the line of the run. A write may fail: then not all was told.
-abbrev pub TellsRun : Came → Bool → Option (List ℕ) → Option (List ℕ) → Type 0
-TellsRun (Ok x) is_told knew knows = (is_told ≡ true) × (knows ≡ knew)
-TellsRun (Err fault) is_told knew knows = is_told ≡ true → Appends knew knows (run_line (Err fault))
+abbrev pub TellsRun : Came → Bool → Stream → Type 0
+TellsRun (Ok x) is_told errors = (is_told ≡ true) × IsUntouched errors
+TellsRun (Err fault) is_told errors = Tells is_told errors (run_line (Err fault))
 
--- Where the words ask no run, standard output gets the help that was asked alone, and else nothing; standard error gets nothing where help was
--- asked, and else what is told of the words. A write may fail: then not all was told.
-abbrev pub TellsWords : WordsFault → Bool → Option (List ℕ) → Option (List ℕ) → Option (List ℕ) → Option (List ℕ) → Type 0
-TellsWords (Help text) is_told held holds knew knows = (is_told ≡ true → Appends held holds (words_text (Help text))) × (knows ≡ knew)
-TellsWords (Usage text) is_told held holds knew knows = (holds ≡ held) × (is_told ≡ true → Appends knew knows (words_text (Usage text)))
-TellsWords (BadName name) is_told held holds knew knows = (holds ≡ held) × (is_told ≡ true → Appends knew knows (words_text (BadName name)))
-TellsWords NoMemory is_told held holds knew knows = (holds ≡ held) × (is_told ≡ true → Appends knew knows (words_text NoMemory))
+-- Where the words ask no run, standard output gets the help that was asked alone, and else nothing; standard error gets nothing where
+-- help was asked, and else what is told of the words. A write may fail: then not all was told.
+abbrev pub TellsWords : WordsFault → Bool → Stream → Stream → Type 0
+TellsWords (Help text) is_told output errors = Tells is_told output (words_text (Help text)) × IsUntouched errors
+TellsWords (Usage text) is_told output errors = IsUntouched output × Tells is_told errors (words_text (Usage text))
+TellsWords (BadName name) is_told output errors = IsUntouched output × Tells is_told errors (words_text (BadName name))
+TellsWords NoMemory is_told output errors = IsUntouched output × Tells is_told errors (words_text NoMemory)
 
--- The program exits so on these words: of standard input it had bytes and has some left, standard output held bytes and holds them now, and
--- standard error knew bytes and knows them now.
-pub data Exits (words : List (List ℕ)) (exit : Exit) (had has held holds knew knows : Option (List ℕ)) : Type 0 where
+-- the program exits so on these words, with this done to standard input, standard output and standard error
+pub data Exits (words : List (List ℕ)) (exit : Exit) (input output errors : Stream) : Type 0 where
   -- the words ask for a run
-  has_run : (asked : Asked) → Reads words (Ok asked) → (came : Came) → Runs asked.list came exit.sources had has held holds
-      → exit.status ≡ run_status came → TellsRun came exit.is_told knew knows → Exits words exit had has held holds knew knows
+  has_run : (asked : Asked) → Reads words (Ok asked) → (came : Came) → Runs asked.list came exit.sources input output
+      → exit.status ≡ run_status came → TellsRun came exit.is_told errors → Exits words exit input output errors
   -- they do not
-  has_refused : (fault : WordsFault) → Reads words (Err fault) → exit.sources ≡ None → has ≡ had → TellsWords fault exit.is_told held holds knew knows
-      → exit.status ≡ words_status fault → Exits words exit had has held holds knew knows
+  has_refused : (fault : WordsFault) → Reads words (Err fault) → exit.sources ≡ None → IsUntouched input
+      → TellsWords fault exit.is_told output errors → exit.status ≡ words_status fault → Exits words exit input output errors
 
--- The program exits by this status, whatever words its environment has: so on some words, or, where they cannot be read, by 1 or 2, with nothing
--- read of standard input and nothing written to standard output.
-pub data ExitsBy (status : ℕ) (had has held holds knew knows : Option (List ℕ)) : Type 0 where
-  on_words : (words : List (List ℕ)) (exit : Exit) → Exits words exit had has held holds knew knows → status ≡ exit.status → ExitsBy status had has held holds knew knows
-  on_none : has ≡ had → holds ≡ held → (status ≡ 1) ⊎ (status ≡ 2) → ExitsBy status had has held holds knew knows
+-- The program exits by this status, whatever words its environment has: so on some words, or, where they cannot be read, by 1 or 2,
+-- with nothing read of standard input and nothing written to standard output.
+pub data ExitsBy (status : ℕ) (input output errors : Stream) : Type 0 where
+  on_words : (words : List (List ℕ)) (exit : Exit) → Exits words exit input output errors → status ≡ exit.status
+      → ExitsBy status input output errors
+  on_none : IsUntouched input → IsUntouched output → (status ≡ 1) ⊎ (status ≡ 2) → ExitsBy status input output errors

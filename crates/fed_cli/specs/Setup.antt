@@ -18,7 +18,8 @@ pub record HasDemo (w : World) (name : List ℕ) (after : World) : Type 0 where
   pub list : BoxState
   pub is_demo : IsNewList list demo_list
   pub mid : World
-  pub parts : Attaches (with_source w name kinds.List list.nature.kind list.content.holdings) (codes "parts") name (codes "parts") parts_columns mid
+  pub parts : Attaches (with_source w name kinds.List list.nature.kind list.content.holdings)
+      (codes "parts") name (codes "parts") parts_columns mid
   pub orders : Attaches mid (codes "orders") name (codes "orders") orders_columns after
 
 -- The boxes have one more, last: that of a new demo list, of which the tables parts and orders were bound. Nothing else was done in it: no
@@ -39,8 +40,8 @@ abbrev pub IsFirst : Option (List ℕ) → World → List (Option BoxState) → 
 IsFirst None w boxes = (w ≡ empty_world) × (boxes ≡ [])
 IsFirst (Some name) w boxes = HasDemo empty_world name w × HasDemoBox [] boxes
 
--- Why the demo list is not added beside the sources of these names: its name is taken, or there are 64 sources; a table could not be attached;
--- or memory was refused. No fault of a stream is told.
+-- Why the demo list is not added beside the sources of these names: its name is taken, or there are 64 sources; a table could not
+-- be attached; or memory was refused. No fault of a stream is told.
 abbrev pub AddsNoDemo : List Label → Bor (List ℕ) → RunFault → Type 0
 AddsNoDemo labels name faults.NoMemory = Unit {0}
 AddsNoDemo labels name (faults.NameTaken told) = (told ≡ name) × HasSource labels name.now

@@ -22,8 +22,8 @@ abbrev pub GiveName : List Text → Option (Bor (List ℕ)) → Type 0
 GiveName words None = list_named words ≡ None
 GiveName words (Some name) = (list_named words ≡ Some name.now) × IsSourceName name.now
 
--- What words are read as. Words against which nothing stands ask for a run, with the list under the name that they give it, if that may name
--- a source; words that ask for help are told it; any others are refused. Want of memory may take the place of each.
+-- What words are read as. Words against which nothing stands ask for a run, with the list under the name that they give it, if that
+-- may name a source; words that ask for help are told it; any others are refused. Want of memory may take the place of each.
 abbrev pub Reads : List Text → Result Asked WordsFault → Type 0
 Reads words (Ok asked) = (faults words ≡ []) × GiveName words asked.list
 Reads words (Err (Help text)) = (kind : ErrorKind) × IsAmong kind (faults words) × IsHelp kind

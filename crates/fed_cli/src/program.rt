@@ -9,6 +9,7 @@ ghost use Rattle.fed_cli.specs.Answered.{ServesProgram};
 ghost use Rattle.fed_cli.specs.Demo.{demo_list};
 ghost use Rattle.fed_cli.specs.Exits.{Exits, ExitsBy, Runs, TellsRun, TellsWords};
 ghost use Rattle.fed_cli.specs.Setup.{HasDemo, HasDemoBox, IsFirst, AddsNoDemo, BeginsNot};
+ghost use Rattle.fed_cli.specs.Streams.{stream};
 
 use crate::demo::{demo_tables, orders_columns, parts_columns};
 use crate::serving::serve_engine;
@@ -104,8 +105,8 @@ pub fn serve<'a, R: Read, W: Write>(
     writer: &mut W,
 ) -> Result<Handed, RunFault<'a>>
     ensures served { IfOk result (λ handed. ServesProgram (option_map (λ s. s.now) list.entry)
-        (states box_of handed.1.slots.items) (R.remaining reader.old) (R.remaining reader.new)
-        (W.contents writer.old) (W.contents writer.new) handed.0) }
+        (states box_of handed.1.slots.items) (stream (R.remaining reader.old) (R.remaining reader.new))
+        (stream (W.contents writer.old) (W.contents writer.new)) handed.0) }
     ensures at_rest { IfOk result (λ handed. EachBox IsAtRest (states box_of handed.1.slots.items)) }
     ensures refused { IfErr result (BeginsNot list.entry) }
     ensures untouched { OnErr result ((reader.new ≡ reader.old) × (writer.new ≡ writer.old)) }
@@ -124,8 +125,8 @@ fn run_list<'a, R: Read, W: Write>(
     reader: &mut R,
     writer: &mut W,
 ) -> (Result<(), RunFault<'a>>, Option<Sources<ListWrapper>>)
-    ensures { Runs list.entry result.0 result.1 (R.remaining reader.old) (R.remaining reader.new)
-        (W.contents writer.old) (W.contents writer.new) }
+    ensures { Runs list.entry result.0 result.1 (stream (R.remaining reader.old) (R.remaining reader.new))
+        (stream (W.contents writer.old) (W.contents writer.new)) }
 {
     match serve(alloc, list, reader, writer) {
         Ok((ended, sources)) => (told(ended), Some(sources)),
@@ -135,7 +136,7 @@ fn run_list<'a, R: Read, W: Write>(
 
 // Tells on standard error what a run came to, if it did not end with the input. The answer is whether it could be written.
 fn tell_run<E: Write>(came: Result<(), RunFault<'_>>, errors: &mut E) -> bool
-    ensures { TellsRun came.entry result (E.contents errors.old) (E.contents errors.new) }
+    ensures { TellsRun came.entry result (stream (E.contents errors.old) (E.contents errors.new)) }
 {
     match came {
         Ok(()) => true,
@@ -145,8 +146,8 @@ fn tell_run<E: Write>(came: Result<(), RunFault<'_>>, errors: &mut E) -> bool
 
 // Tells help on standard output, and why words are refused on standard error. The answer is whether it could be written.
 fn tell_words<O: Write, E: Write>(fault: &WordsFault<'_>, output: &mut O, errors: &mut E) -> bool
-    ensures { TellsWords fault.now result (O.contents output.old) (O.contents output.new)
-        (E.contents errors.old) (E.contents errors.new) }
+    ensures { TellsWords fault.now result (stream (O.contents output.old) (O.contents output.new))
+        (stream (E.contents errors.old) (E.contents errors.new)) }
 {
     match fault {
         WordsFault::Help(text) => output.write_all(text.as_bytes()).is_ok(),
@@ -165,8 +166,8 @@ pub fn run_words<I: Read, O: Write, E: Write>(
     output: &mut O,
     errors: &mut E,
 ) -> Exit
-    ensures { Exits (map string_bytes words.now) result (I.remaining input.old) (I.remaining input.new)
-        (O.contents output.old) (O.contents output.new) (E.contents errors.old) (E.contents errors.new) }
+    ensures { Exits (map string_bytes words.now) result (stream (I.remaining input.old) (I.remaining input.new))
+        (stream (O.contents output.old) (O.contents output.new)) (stream (E.contents errors.old) (E.contents errors.new)) }
 {
     let asked = match read_words(alloc, words) {
         Ok(asked) => asked,
@@ -216,8 +217,8 @@ pub fn run<V: AllocGlobal + Env, I: Read, O: Write, E: Write>(
     output: &mut O,
     errors: &mut E,
 ) -> u8
-    ensures { ExitsBy result (I.remaining input.old) (I.remaining input.new) (O.contents output.old) (O.contents output.new)
-        (E.contents errors.old) (E.contents errors.new) }
+    ensures { ExitsBy result (stream (I.remaining input.old) (I.remaining input.new))
+        (stream (O.contents output.old) (O.contents output.new)) (stream (E.contents errors.old) (E.contents errors.new)) }
 {
     match own_words(rt) {
         Ok(words) => run_words(rt.alloc(), &words, input, output, errors).status,

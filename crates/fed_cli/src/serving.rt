@@ -1,5 +1,6 @@
 //! An engine between a reader and a writer.
 ghost use Rattle.fed_cli.specs.Answered.{ServesWorld};
+ghost use Rattle.fed_cli.specs.Streams.{stream};
 ghost use Rattle.med_exec.specs.Slots.{states};
 ghost use Rattle.med_session.specs.Engine.{shown, IsSound, Agrees, EachBox, IsAtRest};
 ghost use Rattle.med_session.specs.World.{World};
@@ -27,8 +28,8 @@ pub fn serve_engine<B: Wrapper, R: Read, W: Write>(
     requires { IsSound (shown B.meaning engine) }
     ensures worlds { (w : World) → Agrees (shown B.meaning engine) w
         → ServesWorld (shown B.meaning engine).boxes (states B.meaning result.1.slots.items) w
-        (R.remaining reader.old) (R.remaining reader.new)
-        (W.contents writer.old) (W.contents writer.new) result.0 }
+        (stream (R.remaining reader.old) (R.remaining reader.new))
+        (stream (W.contents writer.old) (W.contents writer.new)) result.0 }
     ensures at_rest { EachBox IsAtRest (states B.meaning result.1.slots.items) }
 {
     served_worlds_follow::<B>();

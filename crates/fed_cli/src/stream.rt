@@ -4,6 +4,7 @@ ghost use Rattle.std.specs.Io.KnownBytes.{Appends};
 ghost use Rattle.session_wire.specs.Run.{Fed};
 ghost use Rattle.session_wire.specs.Servers.{handler_of, is_closed, held_back, unread_of};
 ghost use Rattle.fed_cli.specs.Served.{Serves, Fails};
+ghost use Rattle.fed_cli.specs.Streams.{stream};
 
 use session_wire::server::runs_join;
 use session_wire::{Handler, Server};
@@ -62,8 +63,8 @@ pub fn serve_stream<H: Handler, R: Read, W: Write>(
     ensures serves { is_closed server.old ≡ false
         → Serves H.step H.ended (handler_of server.old) (held_back server.old)
         (handler_of server.new) (unread_of server.new)
-        (R.remaining reader.old) (R.remaining reader.new)
-        (W.contents writer.old) (W.contents writer.new) result }
+        (stream (R.remaining reader.old) (R.remaining reader.new))
+        (stream (W.contents writer.old) (W.contents writer.new)) result }
     ensures closed_before { is_closed server.old ≡ true → (result ≡ Ok Ended.Closed)
         × (handler_of server.new ≡ handler_of server.old) × (is_closed server.new ≡ true)
         × (R.remaining reader.new ≡ R.remaining reader.old)
@@ -113,7 +114,7 @@ fn answer_piece<H: Handler, W: Write>(
         (handler_of server.new) (unread_of server.new)) }
     ensures fault { IfErr result (Fails H.step H.ended (handler_of server.old)
         (held_back server.old ++ piece.now) (handler_of server.new) (unread_of server.new)
-        (W.contents writer.old) (W.contents writer.new)) }
+        (stream (W.contents writer.old) (W.contents writer.new))) }
     ensures sound { H.sound (handler_of server.new) }
 {
     out.clear();

@@ -8,6 +8,7 @@ ghost use Rattle.session_wire.specs.Worlds.{scene_of, SceneSteps, SceneEnds};
 ghost use Rattle.fed_cli.specs.declared.stream.Ended.{Ended};
 ghost use Rattle.fed_cli.specs.declared.stream.StreamFault.{StreamFault};
 ghost use Rattle.fed_cli.specs.Served.{Serves};
+ghost use Rattle.fed_cli.specs.Streams.{Stream};
 
 use fdw_api::interface::Wrapper;
 use session_wire::worlds::worlds_follow;
@@ -18,12 +19,11 @@ use session_wire::worlds::worlds_follow;
 /// or its count stands at its end after it.
 pub fn served_worlds_follow<W: Wrapper>()
     ensures { (old new : Engine W) (before : List ℕ)
-        (left had has held holds : Option (List ℕ)) (result : Result Ended StreamFault)
-        → Serves (EngineSteps W.meaning) (EngineEnds W.meaning) old before new left had has held holds
-        result
+        (left : Option (List ℕ)) (input output : Stream) (result : Result Ended StreamFault)
+        → Serves (EngineSteps W.meaning) (EngineEnds W.meaning) old before new left input output result
         → (w : World) → Agrees (shown W.meaning old) w
         → (after : World) × Serves SceneSteps SceneEnds (scene_of W.meaning old w) before
-        (scene_of W.meaning new after) left had has held holds result
+        (scene_of W.meaning new after) left input output result
         × Agrees (shown W.meaning new) after }
 {
     worlds_follow::<W>();

@@ -28,7 +28,8 @@ none_in slot = 0
 -- so many scans were begun in the box of each slot: its next number is higher by just so many
 abbrev pub BeginsScans : (ℕ → ℕ) → List (Option BoxState) → List (Option BoxState) → Type 0
 BeginsScans count old new =
-    (slot : ℕ) (s t : BoxState) → slice_get old slot ≡ Some (Some s) → slice_get new slot ≡ Some (Some t) → t.ledger.next ≡ s.ledger.next + count slot
+    (slot : ℕ) (s t : BoxState) → slice_get old slot ≡ Some (Some s) → slice_get new slot ≡ Some (Some t)
+    → t.ledger.next ≡ s.ledger.next + count slot
 
 -- so many rows were given by the box of each slot
 abbrev pub PullsRows : (ℕ → ℕ) → List (Option BoxState) → List (Option BoxState) → Type 0
@@ -46,6 +47,8 @@ pub record ReadsEach (scans : List EntryScan) (given : List (List Tuple)) (old n
 -- How far a run came that stops: it stops at a scan that fails, the scans before it having given their rows, or behind some scans. Those
 -- that come later were not begun.
 pub data ReadsSome (scans : List EntryScan) (fault : Fault) (old new : List (Option BoxState)) : Type 0 where
-  at_scan : (done : List EntryScan) (scan : EntryScan) (later : List EntryScan) (given : List (List Tuple)) (mid : List (Option BoxState)) → scans ≡ done ++ scan ∷ later
-      → ReadsEach done given old mid → ChangesAt mid scan.source (FailsScan fault) new → ReadsSome scans fault old new
-  behind : (done later : List EntryScan) (given : List (List Tuple)) → scans ≡ done ++ later → ReadsEach done given old new → ReadsSome scans fault old new
+  at_scan : (done : List EntryScan) (scan : EntryScan) (later : List EntryScan) (given : List (List Tuple)) (mid : List (Option BoxState))
+      → scans ≡ done ++ scan ∷ later → ReadsEach done given old mid → ChangesAt mid scan.source (FailsScan fault) new
+      → ReadsSome scans fault old new
+  behind : (done later : List EntryScan) (given : List (List Tuple)) → scans ≡ done ++ later → ReadsEach done given old new
+      → ReadsSome scans fault old new

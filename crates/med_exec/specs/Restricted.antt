@@ -46,8 +46,8 @@ meets_rest spec params cells (f ∷ fs) (Hint ∷ answers) = meets_shown spec pa
 abbrev pub checked : Spec → Tuple → Tuple → Bool
 checked spec params cells = meets_rest spec params cells spec.offered spec.answers
 
--- Of the rows that a scan gives, those that pass are exactly the rows of the table of which all restrictions are true, each once, as the scan
--- shows them, in the order in which they came.
+-- Of the rows that a scan gives, those that pass are exactly the rows of the table of which all restrictions are true, each once,
+-- as the scan shows them, in the order in which they came.
 pub record AreRestricted (rows : List TableRow) (spec : Spec) (params : Tuple) (coming : List GivenRow) : Type 0 where
   pub selected : List TableRow
   pub selects : Selects (λ r. meets_all spec.offered params r.cells) rows selected

@@ -60,7 +60,8 @@ pub(crate) fn read_scan<W: Wrapper>(
 ) -> Result<Vec<Row>, Fault>
     requires { BoxAt (states W.meaning slots.old.items) scan.now.source (λ s. CanBegin s scan.now.table.number scan.now.spec []) }
     ensures ok { IfOk result (λ rows. ChangesAt (states W.meaning slots.old.items) scan.now.source
-        (λ old new. RunsScan old scan.now.table.number (spec_of scan.now.spec) (map tuple rows.items) new) (states W.meaning slots.new.items)) }
+        (λ old new. RunsScan old scan.now.table.number (spec_of scan.now.spec) (map tuple rows.items) new)
+        (states W.meaning slots.new.items)) }
     ensures err { IfErr result (λ fault. ChangesAt (states W.meaning slots.old.items) scan.now.source
         (λ old new. FailsScan fault old new) (states W.meaning slots.new.items)) }
 {

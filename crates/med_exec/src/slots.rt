@@ -19,11 +19,14 @@ pub fn bind_at<W: Wrapper>(
     columns: &[ColumnDef],
     options: &[Opt],
 ) -> Result<TableNo, Fault>
-    requires { BoxAt (states W.meaning slots.old.items) slot (λ s. CanBind s remote.now (map column_of columns.now) (map setting_of options.now)) }
+    requires { BoxAt (states W.meaning slots.old.items) slot
+        (λ s. CanBind s remote.now (map column_of columns.now) (map setting_of options.now)) }
     ensures ok { IfOk result (λ t. ChangesAt (states W.meaning slots.old.items) slot
-        (λ old new. Binds old remote.now (map column_of columns.now) (map setting_of options.now) t.number new) (states W.meaning slots.new.items)) }
+        (λ old new. Binds old remote.now (map column_of columns.now) (map setting_of options.now) t.number new)
+        (states W.meaning slots.new.items)) }
     ensures err { IfErr result (λ fault. ChangesAt (states W.meaning slots.old.items) slot
-        (λ old new. RefusesBind old remote.now (map column_of columns.now) (map setting_of options.now) fault new) (states W.meaning slots.new.items)) }
+        (λ old new. RefusesBind old remote.now (map column_of columns.now) (map setting_of options.now) fault new)
+        (states W.meaning slots.new.items)) }
 {
     match &mut slots[slot] {
         Some(b) => b.bind(alloc, remote, columns, options),
@@ -34,7 +37,8 @@ pub fn bind_at<W: Wrapper>(
 /// Unbinds a table of the slot's box. It always succeeds.
 pub fn unbind_at<W: Wrapper>(slots: &mut Vec<Option<W>>, slot: usize, table: TableNo)
     requires { BoxAt (states W.meaning slots.old.items) slot (λ s. CanUnbind s table.number) }
-    ensures { ChangesAt (states W.meaning slots.old.items) slot (λ old new. Unbinds old table.number new) (states W.meaning slots.new.items) }
+    ensures { ChangesAt (states W.meaning slots.old.items) slot (λ old new. Unbinds old table.number new)
+        (states W.meaning slots.new.items) }
 {
     match &mut slots[slot] {
         Some(b) => b.unbind(table),

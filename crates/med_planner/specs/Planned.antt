@@ -47,7 +47,8 @@ QueryCauses q db c =
 -- rows that a scan may give, whatever its box takes over: some that come of the box's table under the scan's specification
 -- (PostgreSQL: Writing a Foreign Data Wrapper, IterateForeignScan)
 abbrev pub MayGive : Option (Option BoxState) → EntryScan → List Tuple → Type 0
-MayGive (Some (Some s)) scan rows = (coming : List GivenRow) × IsComing (rows_of s scan.table.number) (spec_of scan.spec) [] coming × (rows ≡ map (λ r. r.cells) coming)
+MayGive (Some (Some s)) scan rows =
+    (coming : List GivenRow) × IsComing (rows_of s scan.table.number) (spec_of scan.spec) [] coming × (rows ≡ map (λ r. r.cells) coming)
 MayGive (Some None) scan rows = ⊥
 MayGive None scan rows = ⊥
 
@@ -64,9 +65,12 @@ in_order lists t = slice_index_or lists t []
 
 -- ---- plans
 
--- The plan is one of this query over these entries: whatever rows its scans give, each answer of its own query over them is an answer of the
--- query over the tables, and the two show the same causes.
+-- The plan is one of this query over these entries: whatever rows its scans give, each answer of its own query over them is an
+-- answer of the query over the tables, and the two show the same causes.
 pub record IsPlanOf (q : Query) (entries : List Place) (boxes : List (Option BoxState)) (plan : Plan) : Type 0 where
-  pub answers : (lists : List (List Tuple)) → AllMayGive boxes plan.scans.items lists → (rows : List Tuple) → IsAnswer (query_of plan.select) (in_order lists) rows → IsAnswer q (entry_rows boxes entries) rows
-  pub told : (lists : List (List Tuple)) → AllMayGive boxes plan.scans.items lists → (c : Cause) → QueryCauses (query_of plan.select) (in_order lists) c → QueryCauses q (entry_rows boxes entries) c
-  pub tells : (lists : List (List Tuple)) → AllMayGive boxes plan.scans.items lists → (c : Cause) → QueryCauses q (entry_rows boxes entries) c → QueryCauses (query_of plan.select) (in_order lists) c
+  pub answers : (lists : List (List Tuple)) → AllMayGive boxes plan.scans.items lists → (rows : List Tuple)
+      → IsAnswer (query_of plan.select) (in_order lists) rows → IsAnswer q (entry_rows boxes entries) rows
+  pub told : (lists : List (List Tuple)) → AllMayGive boxes plan.scans.items lists → (c : Cause)
+      → QueryCauses (query_of plan.select) (in_order lists) c → QueryCauses q (entry_rows boxes entries) c
+  pub tells : (lists : List (List Tuple)) → AllMayGive boxes plan.scans.items lists → (c : Cause)
+      → QueryCauses q (entry_rows boxes entries) c → QueryCauses (query_of plan.select) (in_order lists) c

@@ -16,8 +16,9 @@ use med_value::NoMemory;
 use pushdown::Split;
 use std::alloc::Global;
 
-/// The plan of a query by these scans. Where they are the scans of the query's entries, whatever rows the boxes give under what they agreed to,
-/// each answer of the plan's query over these rows is an answer of the query over the tables, and the two show the same faults.
+/// The plan of a query by these scans. Where they are the scans of the query's entries, whatever rows the boxes give under what
+/// they agreed to, each answer of the plan's query over these rows is an answer of the query over the tables, and the two show the
+/// same faults.
 ///
 /// Refused only for want of memory.
 pub fn plan(alloc: Global, bound: &Bound, split: Split) -> Result<Plan, NoMemory>

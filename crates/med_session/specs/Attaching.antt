@@ -18,7 +18,8 @@ use Rattle.med_session.specs.declared.sources.SourceKind.{SourceKind}
 
 -- one more source, that is free
 abbrev pub with_source : World → List ℕ → SourceKind → Kind → (List ℕ → Holding) → World
-with_source w name kind meaning holdings = record w { sources = w.sources ++ record { name = name; kind = kind; state = free meaning holdings } ∷ [] }
+with_source w name kind meaning holdings =
+    record w { sources = w.sources ++ record { name = name; kind = kind; state = free meaning holdings } ∷ [] }
 
 -- a name is that of a later column too
 abbrev pub repeats : List (List ℕ) → Bool
@@ -56,7 +57,8 @@ pub data Objects (w : World) (name source remote : List ℕ) (columns : List Col
   no_source : c ≡ UnableToConnect → (IsServed w source → ⊥) → Objects w name source remote columns entry c
   is_bound : c ≡ InUse → list_any (is_for source remote) w.tables ≡ true → Objects w name source remote columns entry c
   limit_passed : c ≡ LimitExceeded → (256 ≤ length w.tables) ⊎ (64 < length columns) → Objects w name source remote columns entry c
-  not_read : (reading : Reading) → Reads w source remote columns entry reading → Contains reading.causes c → Objects w name source remote columns entry c
+  not_read : (reading : Reading) → Reads w source remote columns entry reading → Contains reading.causes c
+      → Objects w name source remote columns entry c
 
 -- A cause is told that stands, where the source holds some entry there that it may hold. It is of the least phase in which one stands.
 pub record IsToldOf (w : World) (name source remote : List ℕ) (columns : List Column) (c : Cause) : Type 0 where
@@ -66,7 +68,8 @@ pub record IsToldOf (w : World) (name source remote : List ℕ) (columns : List 
   pub least : (d : Cause) → Objects w name source remote columns entry d → phase c ≤ phase d
 
 -- why a foreign table is not attached: such a cause; or want of memory (53200); or its source failed, which the box shows (HV000)
-pub data AttachCause (w : World) (name source remote : List ℕ) (columns : List Column) (old new : List (Option BoxState)) (c : Cause) : Type 0 where
+pub data AttachCause (w : World) (name source remote : List ℕ) (columns : List Column) (old new : List (Option BoxState))
+    (c : Cause) : Type 0 where
   is_told : IsToldOf w name source remote columns c → AttachCause w name source remote columns old new c
   lacks_memory : c ≡ OutOfMemory → AttachCause w name source remote columns old new c
   source_fails : c ≡ SourceFault → BoxBecomes old new HasFailed → AttachCause w name source remote columns old new c
@@ -84,7 +87,9 @@ pub record Attaches (w : World) (name source remote : List ℕ) (columns : List 
   pub no_cause : reading.causes ≡ []
   pub rows : List Tuple
   pub rows_are : IsPermutation (map (λ (h : Held). h.cells) reading.rows) rows
-  pub is : after ≡ record w { tables = w.tables ++ record { name = name; source = source; remote = remote; columns = columns; rows = rows } ∷ [] }
+  pub is : after ≡ record w {
+    tables = w.tables ++ record { name = name; source = source; remote = remote; columns = columns; rows = rows } ∷ [];
+  }
 
 -- In an engine: the source of this name stands in this place, and its box there.
 pub record IsAtPlace (labels : List Label) (boxes : List (Option BoxState)) (source : List ℕ) (place : ℕ) : Type 0 where
@@ -113,7 +118,8 @@ pub record NamesFree (tables : List Attached) (name : List ℕ) (columns : List 
 -- a cause of the engine's state stands against a foreign table: HV00N, 55006, 54000
 pub data StateFault (e : Shown) (source remote : List ℕ) (columns : List Column) (c : Cause) : Type 0 where
   no_place : c ≡ UnableToConnect → ((place : ℕ) → IsAtPlace e.labels e.boxes source place → ⊥) → StateFault e source remote columns c
-  in_use : (place : ℕ) → IsAtPlace e.labels e.boxes source place → c ≡ InUse → list_any (stands_for place remote) e.tables ≡ true → StateFault e source remote columns c
+  in_use : (place : ℕ) → IsAtPlace e.labels e.boxes source place → c ≡ InUse
+      → list_any (stands_for place remote) e.tables ≡ true → StateFault e source remote columns c
   too_many : c ≡ LimitExceeded → (256 ≤ length e.tables) ⊎ (64 < length columns) → StateFault e source remote columns c
 
 -- none does, and the source stands in this place
@@ -124,7 +130,9 @@ pub record StateFree (e : Shown) (source remote : List ℕ) (columns : List Colu
   pub columns_within : length columns ≤ 64
 
 -- the table is bound in the box in this place, and stands last
-pub record BindsDraft (name : List ℕ) (place : ℕ) (remote : List ℕ) (columns : List Column) (boxes : List (Option BoxState)) (tables : List Attached) (new_boxes : List (Option BoxState)) (new_tables : List Attached) : Type 0 where
+pub record BindsDraft (name : List ℕ) (place : ℕ) (remote : List ℕ) (columns : List Column)
+    (boxes : List (Option BoxState)) (tables : List Attached)
+    (new_boxes : List (Option BoxState)) (new_tables : List Attached) : Type 0 where
   pub number : ℕ
   pub binds : ChangesAt boxes place (λ s t. Binds s remote columns [] number t) new_boxes
   pub appends : new_tables ≡ tables ++ record { name = name; columns = columns; source = place; remote = remote; number = number } ∷ []
@@ -132,7 +140,8 @@ pub record BindsDraft (name : List ℕ) (place : ℕ) (remote : List ℕ) (colum
 -- the bind was refused, or memory before it
 pub data BindFails (place : ℕ) (remote : List ℕ) (columns : List Column) (c : Cause) (old new : List (Option BoxState)) : Type 0 where
   before_bind : c ≡ OutOfMemory → new ≡ old → BindFails place remote columns c old new
-  by_fault : (fault : Fault) → c ≡ cause_of fault → ChangesAt old place (λ s t. RefusesBind s remote columns [] fault t) new → BindFails place remote columns c old new
+  by_fault : (fault : Fault) → c ≡ cause_of fault → ChangesAt old place (λ s t. RefusesBind s remote columns [] fault t) new
+      → BindFails place remote columns c old new
 
 -- The engine has one more table, last: nothing stood against it, and the source's box has bound it. All else is as before.
 pub record BindsTable (old : Shown) (name source remote : List ℕ) (columns : List Column) (new : Shown) : Type 0 where
@@ -145,10 +154,12 @@ pub record BindsTable (old : Shown) (name source remote : List ℕ) (columns : L
 -- why the engine attaches no table, and what changes
 pub data AttachFails (old : Shown) (name source remote : List ℕ) (columns : List Column) (c : Cause) (new : Shown) : Type 0 where
   by_names : NameFault old.tables name columns c → new ≡ old → AttachFails old name source remote columns c new
-  by_state : NamesFree old.tables name columns → StateFault old source remote columns c → new ≡ old → AttachFails old name source remote columns c new
+  by_state : NamesFree old.tables name columns → StateFault old source remote columns c → new ≡ old
+      → AttachFails old name source remote columns c new
   by_memory : c ≡ OutOfMemory → new ≡ old → AttachFails old name source remote columns c new
   by_bind : NamesFree old.tables name columns → (place : ℕ) → StateFree old source remote columns place
-      → BindFails place remote columns c old.boxes new.boxes → new ≡ record old { boxes = new.boxes } → AttachFails old name source remote columns c new
+      → BindFails place remote columns c old.boxes new.boxes → new ≡ record old { boxes = new.boxes }
+      → AttachFails old name source remote columns c new
 
 -- no table was attached: nothing changes, but what the source's box counts (its `faults`, and its `next`)
 pub data IsUnattached (old : Shown) (source : List ℕ) (new : Shown) : Type 0 where

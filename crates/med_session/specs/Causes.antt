@@ -40,7 +40,8 @@ RunCauses w tree c = QueryCauses (query_of (meant_over w tree)) (entries_in w tr
 
 -- What the tree that a text has shows: phases 3 and 4, names and types, as they are found in the world's tables, and phases 5 and 6.
 abbrev pub TreeCauses : World → StatementTree → Cause → Type 0
-TreeCauses w tree c = NameCauses (shapes w.tables) tree c ⊎ (TypeCauses (shapes w.tables) tree c ⊎ (StateCauses w tree c ⊎ RunCauses w tree c))
+TreeCauses w tree c =
+    NameCauses (shapes w.tables) tree c ⊎ (TypeCauses (shapes w.tables) tree c ⊎ (StateCauses w tree c ⊎ RunCauses w tree c))
 
 -- Of a statement: phase 2, its syntax, and what its tree shows.
 abbrev pub StatementCauses : World → Asked → Cause → Type 0

@@ -164,8 +164,10 @@ pub record Rises (old new : BoxState) : Type 0 where
 
 -- no box goes and none comes, and what each counts goes up alone
 pub record EachRises (old new : List (Option BoxState)) : Type 0 where
-  pub stays : (slot : ℕ) (s : BoxState) → slice_get old slot ≡ Some (Some s) → (t : BoxState) × (slice_get new slot ≡ Some (Some t)) × Rises s t
-  pub stood : (slot : ℕ) (t : BoxState) → slice_get new slot ≡ Some (Some t) → (s : BoxState) × (slice_get old slot ≡ Some (Some s)) × Rises s t
+  pub stays : (slot : ℕ) (s : BoxState) → slice_get old slot ≡ Some (Some s)
+      → (t : BoxState) × (slice_get new slot ≡ Some (Some t)) × Rises s t
+  pub stood : (slot : ℕ) (t : BoxState) → slice_get new slot ≡ Some (Some t)
+      → (s : BoxState) × (slice_get old slot ≡ Some (Some s)) × Rises s t
 
 -- The request is answered by this reply: from each world that agrees before, a step leads to it and to a world that agrees after.
 pub record Leads (old : Shown) (sid : ℕ) (request : Asked) (reply : Reply) (new : Shown) : Type 0 where

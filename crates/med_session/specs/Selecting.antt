@@ -86,7 +86,8 @@ pub record AnswersOver (q : Query) (places : List Place) (boxes : List (Option B
   pub clear : AllHonest boxes → (db : Tables) → SameRows (entry_rows boxes places) db → (c : Cause) → QueryCauses q db c → ⊥
 
 -- The query was answered from the boxes: no cause of names or types stood, FROM has at most 8 entries, and each box keeps what it holds.
-pub record Selects (tables : List Attached) (tree : StatementTree) (old : List (Option BoxState)) (names : List (List ℕ)) (given : List Tuple) (new : List (Option BoxState)) : Type 0 where
+pub record Selects (tables : List Attached) (tree : StatementTree) (old : List (Option BoxState))
+    (names : List (List ℕ)) (given : List Tuple) (new : List (Option BoxState)) : Type 0 where
   pub bindable : IsBindable tables tree
   pub few : length (meant_in tables tree).entries ≤ 8
   pub named : names ≡ (meant_in tables tree).names
@@ -104,8 +105,11 @@ pub data RunFails (q : Query) (places : List Place) (c : Cause) (old new : List 
   shows_cause : (AllHonest old → (db : Tables) → SameRows (entry_rows old places) db → QueryCauses q db c) → RunFails q places c old new
 
 -- why the query is not answered: it is not bound, FROM has more than 8 entries, or its run has no rows
-pub data SelectFails (tables : List Attached) (tree : StatementTree) (old : List (Option BoxState)) (c : Cause) (new : List (Option BoxState)) : Type 0 where
+pub data SelectFails (tables : List Attached) (tree : StatementTree) (old : List (Option BoxState)) (c : Cause)
+    (new : List (Option BoxState)) : Type 0 where
   not_bound : NotBound tables tree c → new ≡ old → SelectFails tables tree old c new
-  too_many : IsBindable tables tree → 8 < length (meant_in tables tree).entries → c ≡ LimitExceeded → new ≡ old → SelectFails tables tree old c new
+  too_many : IsBindable tables tree → 8 < length (meant_in tables tree).entries → c ≡ LimitExceeded → new ≡ old
+      → SelectFails tables tree old c new
   run_fails : IsBindable tables tree → length (meant_in tables tree).entries ≤ 8 → AllServed old new → (places : List Place)
-      → ArePlaces tables (meant_in tables tree).entries places → RunFails (query_of (meant_in tables tree)) places c old new → SelectFails tables tree old c new
+      → ArePlaces tables (meant_in tables tree).entries places → RunFails (query_of (meant_in tables tree)) places c old new
+      → SelectFails tables tree old c new

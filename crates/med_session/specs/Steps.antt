@@ -56,5 +56,7 @@ pub data Step (w : World) (sid : ℕ) (request : Asked) (t : Trouble) (reply : R
   -- 53200 may take the place of any answer where a growth was refused
   lacks_memory : t.memory ≡ true → TakesMemory request → reply ≡ refused OutOfMemory → new ≡ w → Step w sid request t reply new
   -- HV000 that of any answer where a source failed, and 54000 where ticket numbers are used up, unless a cause of phases 1 to 4 stands
-  source_fails : t.source ≡ true → AsksSources request → NoneBeforeState w sid request → reply ≡ refused SourceFault → new ≡ w → Step w sid request t reply new
-  numbers_end : t.numbers ≡ true → AsksSources request → NoneBeforeState w sid request → reply ≡ refused LimitExceeded → new ≡ w → Step w sid request t reply new
+  source_fails : t.source ≡ true → AsksSources request → NoneBeforeState w sid request → reply ≡ refused SourceFault → new ≡ w
+      → Step w sid request t reply new
+  numbers_end : t.numbers ≡ true → AsksSources request → NoneBeforeState w sid request → reply ≡ refused LimitExceeded → new ≡ w
+      → Step w sid request t reply new

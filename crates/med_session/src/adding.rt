@@ -71,7 +71,8 @@ impl<W: Wrapper> Engine<W> {
         ensures sound { IsSound (shown W.meaning self.new) }
         ensures added { OnOk result (Adds (shown W.meaning self.old) name.now kind (W.meaning wrapper) (shown W.meaning self.new)) }
         ensures world { OnOk result ((w : World) → Agrees (shown W.meaning self.old) w → is_honest (W.meaning wrapper)
-            → Agrees (shown W.meaning self.new) (with_source w name.now kind (W.meaning wrapper).nature.kind (W.meaning wrapper).content.holdings)) }
+            → Agrees (shown W.meaning self.new)
+            (with_source w name.now kind (W.meaning wrapper).nature.kind (W.meaning wrapper).content.holdings)) }
         ensures fault { IfErr result (λ back. AddCause (shown W.meaning self.old).labels name.now back.1) }
         ensures handed_back { IfErr result (λ back. W.meaning back.0 ≡ W.meaning wrapper) }
         ensures unchanged { OnErr result (shown W.meaning self.new ≡ shown W.meaning self.old) }

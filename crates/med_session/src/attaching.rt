@@ -134,9 +134,11 @@ fn bind_draft<W: Wrapper>(
     place: usize,
     draft: Draft,
 ) -> Result<(), Cause>
-    requires { BoxAt (states W.meaning slots.old.items) place (λ s. CanBind s (string_bytes draft.remote) (map column_of draft.columns.items) []) }
+    requires { BoxAt (states W.meaning slots.old.items) place
+        (λ s. CanBind s (string_bytes draft.remote) (map column_of draft.columns.items) []) }
     ensures ok { OnOk result (BindsDraft (string_bytes draft.name) place (string_bytes draft.remote) (map column_of draft.columns.items)
-        (states W.meaning slots.old.items) (map attached tables.old.items) (states W.meaning slots.new.items) (map attached tables.new.items)) }
+        (states W.meaning slots.old.items) (map attached tables.old.items)
+        (states W.meaning slots.new.items) (map attached tables.new.items)) }
     ensures err { IfErr result (λ c. BindFails place (string_bytes draft.remote) (map column_of draft.columns.items) c
         (states W.meaning slots.old.items) (states W.meaning slots.new.items)) }
     ensures kept { OnErr result (map attached tables.new.items ≡ map attached tables.old.items) }
@@ -201,8 +203,10 @@ impl<W: Wrapper> Engine<W> {
         columns: &[ColumnDef],
     ) -> Result<(), Cause>
         requires { IsSound (shown W.meaning self.old) }
-        ensures ok { OnOk result (BindsTable (shown W.meaning self.old) table.now source.now remote.now (map column_of columns.now) (shown W.meaning self.new)) }
-        ensures err { IfErr result (λ c. AttachFails (shown W.meaning self.old) table.now source.now remote.now (map column_of columns.now) c (shown W.meaning self.new)) }
+        ensures ok { OnOk result (BindsTable (shown W.meaning self.old)
+            table.now source.now remote.now (map column_of columns.now) (shown W.meaning self.new)) }
+        ensures err { IfErr result (λ c. AttachFails (shown W.meaning self.old)
+            table.now source.now remote.now (map column_of columns.now) c (shown W.meaning self.new)) }
     {
         if let Some(cause) = name_fault(&self.tables, table, columns) {
             return Err(cause);
@@ -235,11 +239,14 @@ impl<W: Wrapper> Engine<W> {
     ) -> Result<(), Cause>
         requires { IsSound (shown W.meaning self.old) }
         ensures sound { IsSound (shown W.meaning self.new) }
-        ensures attached { OnOk result (BindsTable (shown W.meaning self.old) table.now source.now remote.now (map column_of columns.now) (shown W.meaning self.new)) }
+        ensures attached { OnOk result (BindsTable (shown W.meaning self.old)
+            table.now source.now remote.now (map column_of columns.now) (shown W.meaning self.new)) }
         ensures world { OnOk result ((w : World) → Agrees (shown W.meaning self.old) w
-            → (after : World) × Attaches w table.now source.now remote.now (map column_of columns.now) after × Agrees (shown W.meaning self.new) after) }
+            → (after : World) × Attaches w table.now source.now remote.now (map column_of columns.now) after
+            × Agrees (shown W.meaning self.new) after) }
         ensures cause { IfErr result (λ c. (w : World) → Agrees (shown W.meaning self.old) w
-            → AttachCause w table.now source.now remote.now (map column_of columns.now) (shown W.meaning self.old).boxes (shown W.meaning self.new).boxes c) }
+            → AttachCause w table.now source.now remote.now (map column_of columns.now)
+            (shown W.meaning self.old).boxes (shown W.meaning self.new).boxes c) }
         ensures unchanged { OnErr result (IsUnattached (shown W.meaning self.old) source.now (shown W.meaning self.new)) }
         ensures same_worlds { OnErr result ((w : World) → Agrees (shown W.meaning self.old) w → Agrees (shown W.meaning self.new) w) }
     {

@@ -76,9 +76,9 @@ impl<W: Wrapper> Engine<W> {
 
     /// Answers one request of a session: the reply is put behind what `out` has.
     ///
-    /// `NoRoom` where room for 128 bytes is refused before the request is begun. Then nothing was done, and the output had not the room for
-    /// 128 bytes more: a caller that leaves that room never meets it. Where a later growth is refused, the reply is 53200, for which that room
-    /// is enough.
+    /// `NoRoom` where room for 128 bytes is refused before the request is begun. Then nothing was done, and the output had not the
+    /// room for 128 bytes more: a caller that leaves that room never meets it. Where a later growth is refused, the reply is 53200,
+    /// for which that room is enough.
     pub fn request(
         &mut self,
         sid: Sid,

@@ -138,7 +138,8 @@ fn append_count(sid: u8, count: usize, text: &mut Vec<u8>) -> Result<(), NoMemor
 
 // The reply to a query.
 fn answer_text(alloc: Global, sid: u8, set: &RowSet) -> Result<Vec<u8>, NoMemory>
-    ensures { IfOk result (λ text. text.items ≡ reply_text sid (answered (map string_bytes set.now.names.items) (map tuple set.now.rows.items))) }
+    ensures { IfOk result (λ text. text.items
+        ≡ reply_text sid (answered (map string_bytes set.now.names.items) (map tuple set.now.rows.items))) }
 {
     let mut text = Vec::new(alloc);
     append_header(sid, &set.names, &mut text)?;

@@ -45,8 +45,8 @@ fn entry_scan(offer: Offer, agreement: Agreement) -> EntryScan
     }
 }
 
-/// The scans by which a query is run, one for each offer and the agreement that its source answered. Rows come whole, whatever the agreement
-/// says of columns, and every condition is checked by the query itself.
+/// The scans by which a query is run, one for each offer and the agreement that its source answered. Rows come whole, whatever the
+/// agreement says of columns, and every condition is checked by the query itself.
 ///
 /// Refused only for want of memory.
 ///

@@ -37,7 +37,8 @@ RunFront step old closed replies new = (replies ≡ []) × (new ≡ old)
 
 -- These bytes are answered by the text of a run of their lines, which leads from old to new, and these
 -- bytes are left unread, or the stream is closed.
-pub record Fed {W : Type 0} (step : Steps W) (ended : W → W → Type 0) (old : W) (bytes text : List ℕ) (new : W) (left : Option (List ℕ)) : Type 0 where
+pub record Fed {W : Type 0} (step : Steps W) (ended : W → W → Type 0) (old : W) (bytes text : List ℕ) (new : W)
+    (left : Option (List ℕ)) : Type 0 where
   pub run : Run step ended old (lines_of bytes) text new
   pub unread : unread_after (lines_of bytes) ≡ left
 

@@ -1,4 +1,5 @@
 use Rattle.session_wire.specs.Servers.{handler_of, unread_of}
+use Rattle.fed_cli.specs.Streams.{stream}
 use Rattle.fed_cli.proofs.ServedEngines.{serves_world, no_server}
 use Rattle.fed_cli.proofs.serving.serve_engine.Goals as goal
 
@@ -12,5 +13,5 @@ returns-in-Err-clause-worlds g c = λ w agrees.
 pub returns-clause-worlds : goal.returns-clause-worlds
 returns-clause-worlds g c = λ w agrees.
     serves_world g.B.Wrapper.meaning c.in-Ok.server c.args.engine (handler_of c.serve_stream-ended.new.server) c.finish-2.result c.finish-3.result.slots.items (unread_of c.serve_stream-ended.new.server)
-    (g.R.Read.remaining c.args.reader.now) (g.R.Read.remaining c.serve_stream-ended.new.reader) (g.W.Write.contents c.args.writer.now) (g.W.Write.contents c.serve_stream-ended.new.writer) c.serve_stream-ended.result
+    (stream (g.R.Read.remaining c.args.reader.now) (g.R.Read.remaining c.serve_stream-ended.new.reader)) (stream (g.W.Write.contents c.args.writer.now) (g.W.Write.contents c.serve_stream-ended.new.writer)) c.serve_stream-ended.result
     c.served_worlds_follow.ensures c.in-Ok.ensures.ok.0 c.in-Ok.ensures.ok.1 c.serve_stream-ended.ensures.serves c.finish-2.ensures.ended c.finish-3.ensures.as_they_are w agrees
