@@ -1,7 +1,8 @@
 -- What is seen of a stream that is read or written.
 use Rattle.std.specs.Prelude.{◌≡◌, ℕ, Option, List}
 
--- The bytes of a stream before and after: those that a reader has left, or those that a writer was given. `None` where it does not tell them.
+-- The bytes of a stream before and after: those that a reader has left, or those that a writer was given. `None` where it does
+-- not tell them.
 pub record Stream : Type 0 where
   pub before : Option (List ℕ)
   pub after : Option (List ℕ)
