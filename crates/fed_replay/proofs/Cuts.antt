@@ -1,8 +1,7 @@
 -- How a text is cut at its first LF, and a line at the CR at its end.
-use Rattle.std.proofs.Common.{◌≡◌, ◌≢◌, ◌<◌, ◌+◌, ◌-◌, ◌==◌, ℕ, Bool, true, false, cond, List, [], ◌∷◌, ◌++◌, map, length, take, get_or, Option, Some, None, Bor, refl, sym, ap, ◌∙◌, arith, length-append, rules}
-use Rattle.std.specs.List.{slice_split, position_or_len, before_first, after_first}
+use Rattle.std.proofs.Common.{◌≡◌, ◌≢◌, ◌<◌, ◌+◌, ◌-◌, ◌==◌, ℕ, Bool, true, false, cond, List, [], ◌∷◌, ◌++◌, map, length, take, get_or, Some, None, Bor, refl, sym, ap, ◌∙◌, arith, length-append, rules}
+use Rattle.std.specs.List.{slice_split, before_first, after_first}
 use Rattle.std.proofs.lemmas.Grind.{common_steps}
-use Rattle.std.specs.Str.Lines.{strip_carriage_return}
 use Rattle.std.proofs.lemmas.List.Splits.{slice_split_none, slice_split_first}
 use Rattle.std.proofs.lemmas.Str.Pattern.{IsSplitOnceResult, split_once_first, split_parts}
 use Rattle.fed_replay.specs.Scripts.{lines_of, line_text}
@@ -28,9 +27,9 @@ pub own_text : (l : List ℕ) → ((front : List ℕ) → l ≢ front ++ 13 ∷ 
 own_text [] h = refl
 own_text (x ∷ xs) h =
     kept (get_or (x ∷ xs) (length (x ∷ xs) - 1) 0 == 13) (x ∷ xs) (take (length (x ∷ xs) - 1) (x ∷ xs)) (λ e.
-        let at : get_or (x ∷ xs) (length xs) 0 ≡ 13 =
-        ap (λ n. get_or (x ∷ xs) n 0) (sym (behind x xs)) ∙ same_number (get_or (x ∷ xs) (length (x ∷ xs) - 1) 0) 13 e in
-        h (take (length xs) (x ∷ xs)) (last_is x xs ∙ ap (λ b. take (length xs) (x ∷ xs) ++ b ∷ []) at))
+    let at : get_or (x ∷ xs) (length xs) 0 ≡ 13 =
+    ap (λ n. get_or (x ∷ xs) n 0) (sym (behind x xs)) ∙ same_number (get_or (x ∷ xs) (length (x ∷ xs) - 1) 0) 13 e in
+    h (take (length xs) (x ∷ xs)) (last_is x xs ∙ ap (λ b. take (length xs) (x ∷ xs) ++ b ∷ []) at))
 
 -- ---- the first LF
 
@@ -62,6 +61,7 @@ pub first_line : (text line : List ℕ) (x : Bor (List ℕ) × Bor (List ℕ)) �
     → (lines_of text ≡ line ∷ lines_of x.1.now) × (length x.1.now < length text)
 first_line text line x h is =
     let f = split_once_first 10 text (Some x) h (omega arith) in
-    let parts = split_parts 10 text (Some x) h (omega arith) in
-    (cut_lines text x.0.now x.1.now f.1 f.2 (slice_split_first (λ b. b == 10) text 0 f.0) ∙ ap (λ l. l ∷ lines_of x.1.now) (sym is),
-    shorter text x.0.now x.1.now parts.0)
+    let parts = split_parts 10 text (Some x) h (omega arith) in (
+      cut_lines text x.0.now x.1.now f.1 f.2 (slice_split_first (λ b. b == 10) text 0 f.0) ∙ ap (λ l. l ∷ lines_of x.1.now) (sym is),
+      shorter text x.0.now x.1.now parts.0,
+    )

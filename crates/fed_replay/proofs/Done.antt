@@ -1,5 +1,5 @@
 -- Requests that are done one after another.
-use Rattle.std.proofs.Common.{◌≡◌, ℕ, List, [], ◌∷◌, ◌++◌, refl, subst}
+use Rattle.std.proofs.Common.{ℕ, List, [], ◌∷◌, ◌++◌, refl, subst}
 use Rattle.med_session.specs.Requests.{Asked}
 use Rattle.session_wire.specs.Run.{Steps}
 use Rattle.fed_replay.specs.Replays.{IsDone, AreDone}

@@ -1,7 +1,7 @@
 -- Replays of engines, of their boxes, and of the worlds that they stand for.
 use Rattle.std.proofs.lemmas.Str.{is_utf8-from_IsUtf8, IsUtf8-from_is_utf8}
 use Rattle.std.specs.Str.{IsUtf8, is_utf8}
-use Rattle.std.proofs.Common.{◌≡◌, Bool, true, false, ℕ, ◌≤◌, ◌-◌, ◌^◌, min, List, [], ◌∷◌, Option, Some, None, Result, Ok, Err, refl, sym, ap, ◌∙◌, subst, inl, inr, arith, lit≤}
+use Rattle.std.proofs.Common.{◌≡◌, Bool, true, false, ℕ, ◌≤◌, ◌-◌, ◌^◌, min, List, [], ◌∷◌, Option, None, Result, Ok, Err, refl, sym, ap, ◌∙◌, subst, inl, inr, arith, lit≤}
 use Rattle.fdw_api.specs.State.{BoxState}
 use Rattle.med_session.specs.Requests.{Asked}
 use Rattle.med_session.specs.World.{World}
@@ -12,7 +12,7 @@ use Rattle.session_wire.specs.Run.{Steps}
 use Rattle.session_wire.specs.Engines.{EngineSteps, EngineRises}
 use Rattle.session_wire.specs.Worlds.{Scene, scene_of, SceneSteps}
 use Rattle.fed_replay.specs.Scripts.{Numbered, statement_lines}
-use Rattle.fed_replay.specs.Replays.{session, requests_of, IsDone, AreDone, Ends, Runs, Replays, not_text, runs}
+use Rattle.fed_replay.specs.Replays.{session, requests_of, AreDone, Ends, Runs, Replays, not_text, runs}
 use Rattle.fed_replay.specs.Engines.{EngineCloses, SceneCloses}
 use Rattle.fed_replay.specs.declared.script.ScriptFault.{ScriptFault}
 use Rattle.fed_replay.specs.declared.script.ScriptFault.TheVariants as fault
@@ -50,9 +50,9 @@ runs_follow step steps agrees f old owner lines (Ok count) new h v a =
     let all = done_follows step steps agrees f old (requests_of owner lines) new h.0 v a in
     (all.0, (all.1, h.1), all.2)
 runs_follow step steps agrees f old owner lines (Err why) new h v a =
-    let front = done_follows step steps agrees f old h.0 h.4 h.5 v a in
-    let last = ends_follow step steps agrees f h.4 h.1 why new h.6 front.0 front.2 in
-    (last.0, (h.0, h.1, h.2, h.3, front.0, front.1, last.1), last.2)
+    let front = done_follows step steps agrees f old h.before h.mid h.done v a in
+    let last = ends_follow step steps agrees f h.mid h.request why new h.ends front.0 front.2 in
+    (last.0, record { before = h.before; request = h.request; after = h.after; are = h.are; mid = front.0; done = front.1; ends = last.1 }, last.2)
 
 -- ---- of an engine and a world over its boxes
 
@@ -134,7 +134,7 @@ ends_rises meaning old r fault.NotText new h = absurd h
 run_rises : {W : Type 0} (meaning : W → BoxState) (old : Engine W) (owner : List ℕ) (lines : List Numbered) (result : Result ℕ ScriptFault) (new : Engine W)
     → Runs (EngineSteps meaning) old owner lines result new → EngineRises meaning old new
 run_rises meaning old owner lines (Ok count) new h = done_rises meaning old (requests_of owner lines) new h.0
-run_rises meaning old owner lines (Err why) new h = along meaning old h.4 new (done_rises meaning old h.0 h.4 h.5) (ends_rises meaning h.4 h.1 why new h.6)
+run_rises meaning old owner lines (Err why) new h = along meaning old h.mid new (done_rises meaning old h.before h.mid h.done) (ends_rises meaning h.mid h.request why new h.ends)
 
 pub replay_rises : {W : Type 0} (meaning : W → BoxState) (old new : Engine W) (owner script : List ℕ) (result : Result ℕ ScriptFault)
     → Replays (EngineSteps meaning) (EngineCloses meaning) old owner script result new → EngineRises meaning old new

@@ -1,5 +1,5 @@
 -- How far the replay of a script has come.
-use Rattle.std.proofs.Common.{◌≡◌, ◌<◌, ◌≤◌, ℕ, ◌+◌, suc, Bool, true, false, not, cond, List, [], ◌∷◌, ◌++◌, length, map, Option, Some, None, Result, Ok, Err, Bor, refl, sym, ap, ◌∙◌, subst, arith, append_assoc, append-nil, length-append}
+use Rattle.std.proofs.Common.{◌≡◌, ◌<◌, ◌≤◌, ℕ, ◌+◌, suc, Bool, true, false, not, cond, List, [], ◌∷◌, ◌++◌, length, map, Option, Some, None, Ok, Err, Bor, refl, sym, ap, ◌∙◌, subst, arith, append_assoc, append-nil, length-append}
 use Rattle.std.specs.List.{filter, enumerate_from}
 use Rattle.std.specs.Option.{MatchOption}
 use Rattle.std.proofs.lemmas.List.{map-append}
@@ -85,20 +85,28 @@ done_next step old owner script mid new number count text line after h cut fille
 pub ends_next : {W : Type 0} (step : Steps W) (old : W) (owner script : List ℕ) (mid new : W) (number count : ℕ) (text : Bor (List ℕ)) (line : List ℕ) (after : Option (Bor (List ℕ))) (why : ScriptFault)
     → Reached step old owner script mid number count (Some text) → IsCut text.now line after → is_blank line ≡ false → Ends step mid (number + 1, sql line) why new
     → Runs step old owner (statement_lines script) (Err why) new
-ends_next step old owner script mid new number count text line after why h cut filled ends = (
-  requests_of owner h.lines,
-  (number + 1, sql line),
-  map (λ (l : Numbered). let r : ℕ × Asked = (l.0, sql l.1) in r) (left (number + 1) after),
-  ap (requests_of owner) (next_left step old owner script mid number count text line after h cut filled) ∙ requests_more owner h.lines ((number + 1, line) ∷ left (number + 1) after),
-  mid,
-  h.run,
-  ends,
-)
+ends_next step old owner script mid new number count text line after why h cut filled ends = record {
+  before = requests_of owner h.lines;
+  request = (number + 1, sql line);
+  after = map (λ (l : Numbered). let r : ℕ × Asked = (l.0, sql l.1) in r) (left (number + 1) after);
+  are = ap (requests_of owner) (next_left step old owner script mid number count text line after h cut filled) ∙ requests_more owner h.lines ((number + 1, line) ∷ left (number + 1) after);
+  mid = mid;
+  done = h.run;
+  ends = ends;
+}
 
 -- the opening does
 pub ends_first : {W : Type 0} (step : Steps W) (old : W) (owner : List ℕ) (lines : List Numbered) (new : W) (why : ScriptFault)
     → Ends step old (0, opening owner) why new → Runs step old owner lines (Err why) new
-ends_first step old owner lines new why ends = ([], (0, opening owner), map (λ (l : Numbered). let r : ℕ × Asked = (l.0, sql l.1) in r) lines, refl, old, refl, ends)
+ends_first step old owner lines new why ends = record {
+  before = [];
+  request = (0, opening owner);
+  after = map (λ (l : Numbered). let r : ℕ × Asked = (l.0, sql l.1) in r) lines;
+  are = refl;
+  mid = old;
+  done = refl;
+  ends = ends;
+}
 
 -- the session is open, and no line was read
 pub opened : {W : Type 0} (step : Steps W) (old : W) (owner : List ℕ) (script : Bor (List ℕ)) (new : W) → IsDone step old (opening owner) new

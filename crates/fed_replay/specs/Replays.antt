@@ -43,12 +43,20 @@ Ends step old r (fault.Line number c) new = (number ≡ r.0) × (c ≢ OutOfMemo
 Ends step old r fault.NoMemory new = (new ≡ old) ⊎ IsRefused step old r.1 OutOfMemory new
 Ends step old r fault.NotText new = ⊥
 
--- What the session comes to: all its requests are done, and the statements are counted; or those before one that ends the replay are.
+-- The requests before one are done, and that one ends the replay. Those after it are not begun.
+pub record Stops {W : Type 0} (step : Steps W) (old : W) (requests : List (ℕ × Asked)) (why : ScriptFault) (new : W) : Type 0 where
+  pub before : List (ℕ × Asked)
+  pub request : ℕ × Asked
+  pub after : List (ℕ × Asked)
+  pub are : requests ≡ before ++ request ∷ after
+  pub mid : W
+  pub done : AreDone step old before mid
+  pub ends : Ends step mid request why new
+
+-- What the session comes to: all its requests are done, and the statements are counted; or one of them ends the replay.
 abbrev pub Runs : {W : Type 0} → Steps W → W → List ℕ → List Numbered → Result ℕ ScriptFault → W → Type 0
 Runs step old owner lines (Ok count) new = AreDone step old (requests_of owner lines) new × (count ≡ length lines)
-Runs {W} step old owner lines (Err why) new =
-    (before : List (ℕ × Asked)) × (r : ℕ × Asked) × (after : List (ℕ × Asked)) × (requests_of owner lines ≡ before ++ r ∷ after)
-    × (mid : W) × AreDone step old before mid × Ends step mid r why new
+Runs step old owner lines (Err why) new = Stops step old (requests_of owner lines) why new
 
 -- A script that is not UTF-8 is refused whole, and nothing is done. Any other is run, and then its session is closed.
 pub data Replays {W : Type 0} (step : Steps W) (closes : W → W → Type 0) (old : W) (owner script : List ℕ)

@@ -28,5 +28,7 @@ fn without_carriage_return(line: &str) -> &str
 pub(crate) fn is_blank(line: &str) -> bool
     ensures { result ≡ is_blank line.now }
 {
-    line.as_bytes().iter().all(|byte| *byte == b' ' || *byte == b'\t')
+    line.as_bytes()
+        .iter()
+        .all(|byte| *byte == b' ' || *byte == b'\t')
 }

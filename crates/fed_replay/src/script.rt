@@ -26,7 +26,8 @@ pub enum ScriptFault {
     /// The script is not UTF-8. Nothing of it was run.
     #[error("not UTF-8")]
     NotText,
-    /// The line of this number was refused with this cause. The lines before it stay done.
+    /// The line of this number was refused with this cause, which is not want of memory. The lines before it stay done. Causes of
+    /// several phases with one code are told by the first of them. Number 0 stands for the opening of the session.
     #[error("line {0}: {code} {name}", code = .1.code(), name = .1.name())]
     Line(u64, Cause),
 }
@@ -36,6 +37,9 @@ pub enum ScriptFault {
 ///
 /// A line ends in LF or with the script, and one CR at its end is dropped. All lines are counted from 1. The session is opened first and
 /// closed at the end, also after a refusal; the lines before a refused one stay done. Replies are not kept.
+///
+/// `NotText` exactly where the script is not UTF-8: then nothing is done. `NoMemory` where a request is answered 53200, or memory is
+/// refused before it is begun. What was done is the same run of each world that agrees with the engine before.
 pub fn replay<W: Wrapper>(
     alloc: Global,
     engine: &mut Engine<W>,

@@ -1,4 +1,4 @@
-use Rattle.std.proofs.Common.{lit<, Option, None}
+use Rattle.std.proofs.Common.{lit<, None}
 use Rattle.std.proofs.lemmas.Str.Pattern.{strip_suffix_char}
 use Rattle.fed_replay.proofs.Cuts.{own_text}
 use Rattle.fed_replay.proofs.lines.without_carriage_return.Goals as goal

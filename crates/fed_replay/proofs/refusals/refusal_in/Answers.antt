@@ -1,4 +1,4 @@
-use Rattle.std.proofs.Common.{◌≢◌, ℕ, refl, arith}
+use Rattle.std.proofs.Common.{◌≢◌, refl, arith}
 use Rattle.fed_replay.specs.Replays.{refusal_text}
 use Rattle.fed_replay.proofs.Telling.{every}
 use Rattle.fed_replay.proofs.refusals.refusal_in.Goals as goal

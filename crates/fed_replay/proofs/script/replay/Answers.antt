@@ -1,9 +1,4 @@
-use Rattle.std.proofs.Common.{◌≡◌, true, false, refl, sym, ap, ◌∙◌, subst}
-use Rattle.std.proofs.lemmas.Str.{is_utf8-from_IsUtf8, IsUtf8-from_is_utf8}
-use Rattle.std.specs.Str.{is_utf8}
 use Rattle.session_wire.specs.Engines.{EngineSteps}
-use Rattle.fed_replay.specs.Scripts.{statement_lines}
-use Rattle.fed_replay.specs.Replays.{Replays, Runs, not_text, runs}
 use Rattle.fed_replay.specs.Engines.{EngineCloses}
 use Rattle.fed_replay.proofs.Follows.{in_worlds, replay_rises, no_text, ran}
 use Rattle.fed_replay.proofs.script.replay.Goals as goal

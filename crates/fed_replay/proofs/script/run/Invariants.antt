@@ -1,4 +1,3 @@
-use Rattle.std.proofs.Common.{string_bytes}
 use Rattle.med_session.specs.Engine.{shown, IsSound}
 use Rattle.session_wire.specs.Engines.{EngineSteps}
 use Rattle.fed_replay.proofs.Reached.{Reached, size}
