@@ -1,0 +1,6 @@
+pub mod RowScans
+pub mod StagedChanges
+pub mod MadeChanges
+pub mod DistinctIds
+pub mod ChangesFit
+pub mod BoxWrites

@@ -1,0 +1,9 @@
+//! Writes to tables of wrappers in slots: the rows are read, all changes and faults are computed, and then the changes are staged and made
+//! together.
+#![tactic(auto)]
+
+mod reading;
+mod staging;
+pub mod writing;
+
+pub use writing::write;
