@@ -33,8 +33,8 @@ IsTypedWrite kinds w answer =
     (rows : List Tuple) → list_all (row_fits kinds) rows ≡ true
     → list_all (λ os. row_fits kinds (map value_of os)) (rows_written w rows answer) ≡ true
 
--- a write may begin: its table is bound and has no live scan, nothing is staged, its rows are of the columns' types, and no two rows of the
--- table have one id
+-- a write may begin: its table is bound and has no live scan, nothing is staged, its rows are of the columns' types, and no two rows of
+-- the table have one id
 pub record CanWrite (s : BoxState) (t : ℕ) (w : WriteForm) (answer : List Tuple) : Type 0 where
   pub can : CanModify s t
   pub typed : (b : Bound) → table_of s t ≡ Some b → IsTypedWrite b.kinds w answer
@@ -101,8 +101,8 @@ pub record KindRefuses (columns : List WrittenColumn) (w : WriteForm) (answer : 
   pub picked : Picks (old.content.holdings bound.remote) entry
   pub stands : Contains (bound.refuses.causes entry (rows_of old t) changes) c
 
--- Why a write is not done: memory was refused; the source failed, or gave one id twice, which no honest box does; its ticket numbers are used
--- up; the write has a fault over the rows of its table; or its kind refuses the changes.
+-- Why a write is not done: memory was refused; the source failed, or gave one id twice, which no honest box does; its ticket numbers are
+-- used up; the write has a fault over the rows of its table; or its kind refuses the changes.
 pub data Bars (columns : List WrittenColumn) (w : WriteForm) (answer : List Tuple) (old : BoxState) (t : ℕ) (fault : Fault) (faults : ℕ)
     : Type 0 where
   lacks_memory : fault ≡ NoMemory → faults ≡ old.ledger.faults → Bars columns w answer old t fault faults
