@@ -1,0 +1,111 @@
+-- What a scan of a CSV table gives.
+use Rattle.std.specs.Prelude.{◌≡◌, ◌<◌, ◌≤◌, ◌+◌, ◌-◌, ◌^◌, ◌&&◌, ℕ, zero, suc, Bool, true, false, List, [], ◌∷◌, length, map, drop, slice_get, Option, Some, None, nat_eq, if◌then◌else◌}
+use Rattle.std.specs.Ordering.{nat_cmp}
+use Rattle.std.specs.FinMap as finmap
+use Rattle.med_value.specs.Datum.{Datum, NoValue, Whole, Chars, Logic, Tuple, datum}
+use Rattle.med_value.specs.declared.order.Comparison.TheVariants as comparisons
+use Rattle.med_value.specs.declared.value.ColType.{ColType}
+use Rattle.med_value.specs.declared.value.ColType.TheVariants as types
+use Rattle.fdw_api.specs.Scan.{Spec, spec_of, Filter, Check, Compares, Missing, Present, value_of as operand_of, GivenRow, meets, shown_cells}
+use Rattle.fdw_api.specs.State.{Scan}
+use Rattle.fdw_api.specs.Calls.{row_of}
+use Rattle.fdw_api.specs.declared.scan.Agree.{Agree}
+use Rattle.fdw_api.specs.declared.scan.Agree.TheVariants.{Ignored, Hint, Exact}
+use Rattle.fdw_api.specs.declared.interface.SourceRow.{SourceRow}
+use Rattle.csv_wrapper.specs.declared.table.CsvScan.{CsvScan}
+use Rattle.csv_wrapper.specs.declared.table.CsvTable.{CsvTable}
+use Rattle.csv_wrapper.specs.Cells.{record_cells}
+use Rattle.csv_wrapper.specs.CsvRecords.{Record}
+use Rattle.csv_wrapper.specs.CsvKind.{Shape}
+use Rattle.csv_wrapper.specs.Tables.{shape_at, records_at, slot}
+
+-- a text of this many bytes may be equal to a value: not to NULL, and to no text of another length
+abbrev pub may_equal : ℕ → Datum → Bool
+may_equal size NoValue = false
+may_equal size (Chars text) = nat_eq size (length text)
+may_equal size (Whole n) = true
+may_equal size (Logic b) = true
+
+-- how many bytes the field of a column has, 0 where it is not there
+abbrev pub field_size : Record → ℕ → ℕ
+field_size [] column = 0
+field_size (f ∷ fs) zero = length f
+field_size (f ∷ fs) (suc column) = field_size fs column
+
+-- a field of this many bytes may meet a test, as far as its length tells
+abbrev pub may_meet : Tuple → ℕ → Check → Bool
+may_meet params size (Compares comparisons.Equal o) = may_equal size (operand_of params o)
+may_meet params size (Compares comparisons.Apart o) = true
+may_meet params size (Compares comparisons.Below o) = true
+may_meet params size (Compares comparisons.AtMost o) = true
+may_meet params size (Compares comparisons.Above o) = true
+may_meet params size (Compares comparisons.AtLeast o) = true
+may_meet params size Missing = true
+may_meet params size Present = true
+
+-- a record comes: each restriction answered Exact is true of it, and each answered Hint may be
+abbrev pub comes : List Filter → List Agree → Tuple → Tuple → Record → Bool
+comes [] answers params cells fields = true
+comes (f ∷ fs) [] params cells fields = true
+comes (f ∷ fs) (Exact ∷ answers) params cells fields = meets params cells f && comes fs answers params cells fields
+comes (f ∷ fs) (Hint ∷ answers) params cells fields =
+    may_meet params (field_size fields f.column) f.check && comes fs answers params cells fields
+comes (f ∷ fs) (Ignored ∷ answers) params cells fields = comes fs answers params cells fields
+
+abbrev pub comes_by : Shape → Spec → Tuple → Record → Bool
+comes_by shape spec params fields = comes spec.offered spec.answers params (record_cells shape.null shape.kinds fields) fields
+
+-- what a scan gives from a place on, in the order of the blob
+abbrev pub coming_from : Shape → Spec → Tuple → ℕ → List Record → List GivenRow
+coming_from shape spec params n [] = []
+coming_from shape spec params n (r ∷ rs) =
+    if comes_by shape spec params r
+    then record { id = n; cells = shown_cells spec (record_cells shape.null shape.kinds r) } ∷ coming_from shape spec params (n + 1) rs
+    else coming_from shape spec params (n + 1) rs
+
+-- the next row of a scan that stands at a place; None where no row is left
+abbrev pub NextIs : Shape → Spec → Tuple → List Record → ℕ → Option SourceRow → Type 0
+NextIs shape spec params rows at None = coming_from shape spec params at (drop at rows) ≡ []
+NextIs shape spec params rows at (Some row) =
+    (at ≤ row.id.number) × (row.id.number < 2 ^ 64 - 1)
+    × (coming_from shape spec params at (drop at rows)
+    ≡ row_of row ∷ coming_from shape spec params (row.id.number + 1) (drop (row.id.number + 1) rows))
+
+-- a scan, without its rows to come
+abbrev pub scan_is : List (Option CsvTable) → CsvScan → Scan
+scan_is tables s = record {
+  table = s.table;
+  kinds = (shape_at (slot tables s.table)).kinds;
+  spec = spec_of s.spec;
+  params = map datum s.params.items;
+  left = 2 ^ 64 - s.at;
+  broken = s.broken;
+}
+
+abbrev pub mapped : {X Y : Type 0} → (X → Y) → List (ℕ × X) → finmap.FinMap nat_cmp Y
+mapped f es = finmap.from_entries (map (λ e. (e.0, f e.1)) es)
+
+-- the rows that a scan has still to give
+abbrev pub scan_rows : List (Option CsvTable) → Option CsvScan → List GivenRow
+scan_rows tables None = []
+scan_rows tables (Some s) =
+    coming_from (shape_at (slot tables s.table)) (spec_of s.spec) (map datum s.params.items) s.at
+    (drop s.at (records_at (slot tables s.table)))
+
+-- what a table answers to a restriction: Exact to a test for NULL and to any test of an integer or a truth value, Hint to `=` of a text
+abbrev pub answer_to : Option ColType → Check → Agree
+answer_to kind Missing = Exact
+answer_to kind Present = Exact
+answer_to (Some types.Int) (Compares op o) = Exact
+answer_to (Some types.Bool) (Compares op o) = Exact
+answer_to (Some types.Text) (Compares comparisons.Equal o) = Hint
+answer_to (Some types.Text) (Compares comparisons.Apart o) = Ignored
+answer_to (Some types.Text) (Compares comparisons.Below o) = Ignored
+answer_to (Some types.Text) (Compares comparisons.AtMost o) = Ignored
+answer_to (Some types.Text) (Compares comparisons.Above o) = Ignored
+answer_to (Some types.Text) (Compares comparisons.AtLeast o) = Ignored
+answer_to None (Compares op o) = Ignored
+
+-- the answer of a table of these columns to a restriction
+abbrev pub answer_by : List ColType → Filter → Agree
+answer_by kinds f = answer_to (slice_get kinds f.column) f.check
