@@ -57,7 +57,7 @@ first_distinct [] ys d = none_at_all
 first_distinct (x ∷ xs) ys d =
     IsDistinct-cons nat_eq x xs (apart_first x xs ys (IsDistinct-head nat_eq x (xs ++ ys) d)) (first_distinct xs ys (IsDistinct-tail nat_eq x (xs ++ ys) d))
 
-coming_once : (rows : List TableRow) (spec : Spec) (read : List GivenRow) → IsComing rows spec [] read → IsDistinct nat_eq (map (λ r. r.id) rows) → IsDistinct nat_eq (map (λ r. r.id) read)
+pub coming_once : (rows : List TableRow) (spec : Spec) (read : List GivenRow) → IsComing rows spec [] read → IsDistinct nat_eq (map (λ r. r.id) rows) → IsDistinct nat_eq (map (λ r. r.id) read)
 coming_once rows spec read c d =
     let id : TableRow → ℕ = λ r. r.id in
     let all : IsDistinct nat_eq (map id (c.taken ++ c.left_out)) = IsDistinct-IsPermutation nat_eq nat_eq_equiv.symm (map id rows) (map id (c.taken ++ c.left_out)) (IsPermutation-map id rows (c.taken ++ c.left_out) c.parts) d in

@@ -4,3 +4,4 @@ pub mod MadeChanges
 pub mod DistinctIds
 pub mod ChangesFit
 pub mod BoxWrites
+pub mod WrittenRows

@@ -2,6 +2,7 @@
 //! together.
 #![tactic(auto)]
 
+pub mod law;
 mod reading;
 mod staging;
 pub mod writing;
