@@ -1,0 +1,4 @@
+pub mod Tables
+pub mod Barred
+pub mod Queries
+pub mod Places
