@@ -1,0 +1,17 @@
+mod Lists
+mod Named
+mod Kept
+mod Faring
+mod Told
+mod Altered
+mod Objecting
+mod Leading
+mod Picking
+mod Ending
+mod Indexes
+mod Ready
+mod Sounds
+mod Alterations
+mod Querying
+mod Serving
+mod Sessions

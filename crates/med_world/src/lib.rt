@@ -1,0 +1,2 @@
+//! The meaning of requests.
+#![tactic(auto)]
