@@ -18,16 +18,13 @@ use Rattle.med_world.specs.Causes.{IsPickOf}
 use Rattle.med_world.specs.Replies.{refused}
 use Rattle.med_world.specs.Engine.{Shown, IsSound, IsServerAt, Agrees, Rises, EachRises, Leads}
 use Rattle.med_world.specs.Altering.{cause_of, IsAllowed, BindsInVain, NotAltered, catalog_shows, not_free, no_memory, bind_fails, bind_undone}
+use Rattle.med_world.specs.Laws.{IsRead, with_boxes}
 use Rattle.med_world.proofs.Faring.{changes_by, changes_rise, rises_itself, none_rises, refuses_rises, vain_rises}
 use Rattle.med_world.proofs.Altered.{refused_agrees, vain_agrees}
 use Rattle.med_world.proofs.Told.{pick_tree}
 use Rattle.med_world.proofs.Objecting.{AreObjects}
 use Rattle.med_world.proofs.Picking.{some_pick, free_back}
-use Rattle.med_world.proofs.Leading.{IsRead, known, leads_memory, shows_leads, taken_leads, refused_leads, failed_leads}
-
--- the engine is as before, but for its boxes
-abbrev with_boxes : Shown → List (Option BoxState) → Shown
-with_boxes e boxes = record e { boxes = boxes }
+use Rattle.med_world.proofs.Leading.{known, leads_memory, shows_leads, taken_leads, refused_leads, failed_leads}
 
 changed_rise : (P : BoxState → BoxState → Type 0) (old new : List (Option BoxState)) (slot : ℕ) → ((b c : BoxState) → P b c → Rises b c) → ChangesAt old slot P new → EachRises old new
 changed_rise P old new slot rises h = changes_rise Or old new slot (λ b. inl refl) rise (changes_by P Or old new slot (λ b c k. inr k) h)

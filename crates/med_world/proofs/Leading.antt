@@ -25,6 +25,7 @@ use Rattle.med_world.specs.Causes.{Reads, SourceCauses, ObjectCauses, PicksEntry
 use Rattle.med_world.specs.Replies.{done, refused}
 use Rattle.med_world.specs.Steps.{Trouble, TakesMemory, with_catalog, Changes, Step, is_refused, is_done, lacks_memory, source_fails}
 use Rattle.med_world.specs.Engine.{Rises, Shown, user_of, IsSound, IsNamedAt, IsServerAt, Agrees, Befell, EachRises, Leads, with_change, Alters}
+use Rattle.med_world.specs.Laws.{IsRead}
 use Rattle.med_world.specs.Altering.{no_lease, IsFreeAt, IsAllowed, SourcesAllow, IsAltered}
 use Rattle.med_world.proofs.Faring.{changes_by, changes_rise, rises_itself, none_rises, drop_rises, binds_rises, unbinds_rises}
 use Rattle.med_world.proofs.Altered.{catalog_agrees, bind_agrees, unbind_agrees, drop_agrees, serves_at, one_store, find_source}
@@ -73,13 +74,6 @@ leads_memory e new sid request takes rises kept = record {
 -- ---- a statement that was read
 
 -- what a statement's text and session give in every world that agrees
-pub record IsRead (e : Shown) (sid : ℕ) (text : List ℕ) (user : Name) (tree : CommandTree) : Type 0 where
-  pub is_sid : IsSid sid
-  pub is_user : user_of e.users sid ≡ Some user
-  pub clear : (c : Cause) → SyntaxCauses text c → ⊥
-  pub has : HasCommand text tree
-  pub one : (a b : CommandTree) → HasCommand text a → HasCommand text b → a ≡ b
-
 pub known : (e : Shown) (w : World) (sid : ℕ) (text : List ℕ) (user : Name) (tree : CommandTree) → Agrees e w → IsRead e sid text user tree → IsKnownAs w sid text (new_session user) tree
 known e w sid text user tree a read = record { is = (a.sessions sid read.is_sid ∙ ap (option_map new_session) read.is_user, read.has); clear = read.clear; one = read.one }
 

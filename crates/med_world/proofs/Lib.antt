@@ -12,6 +12,9 @@ mod Indexes
 mod Ready
 mod Sounds
 mod Alterations
+mod Beginning
+mod Joining
+mod Answering
 mod Querying
 mod Serving
 mod Sessions

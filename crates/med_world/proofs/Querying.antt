@@ -29,10 +29,11 @@ use Rattle.med_world.specs.Replies.{answered, refused}
 use Rattle.med_world.specs.Steps.{is_done, source_fails}
 use Rattle.med_world.specs.Engine.{Shown, AreRowsOf, RowsAgree, Agrees, EachRises, Leads}
 use Rattle.med_world.specs.Selecting.{Selects}
+use Rattle.med_world.specs.Laws.{IsRead}
 use Rattle.med_world.proofs.Lists.{some_same}
 use Rattle.med_world.proofs.Faring.{none_rises}
 use Rattle.med_world.proofs.Told.{told_tree, none_tree, before_tree, pick_tree}
-use Rattle.med_world.proofs.Leading.{calm, calm_befell, IsRead, known, leads_refused, leads_memory}
+use Rattle.med_world.proofs.Leading.{calm, calm_befell, known, leads_refused, leads_memory}
 
 -- a cause of names or rights is of phase 3, and one of types of phase 4: laws of the binder
 pub record ArePhased : Type 0 where
@@ -108,10 +109,10 @@ entries_agree boxes bound rows (k ∷ ks) (p ∷ ps) h is (suc t) = entries_agre
 
 -- ---- in a world that agrees
 
-bindable_in : (e : Shown) (w : World) (user : Name) (q : SelectTree) → Agrees e w → IsBindable e.catalog user q → IsBindable w.catalog user q
+pub bindable_in : (e : Shown) (w : World) (user : Name) (q : SelectTree) → Agrees e w → IsBindable e.catalog user q → IsBindable w.catalog user q
 bindable_in e w user q a h = subst (λ (o : Objects). IsBindable o user q) (sym a.catalog) h
 
-same_meant : (e : Shown) (w : World) (q : SelectTree) → Agrees e w → meant_by e.catalog q ≡ meant_over w q
+pub same_meant : (e : Shown) (w : World) (q : SelectTree) → Agrees e w → meant_by e.catalog q ≡ meant_over w q
 same_meant e w q a = ap (λ (o : Objects). meant_by o q) (sym a.catalog)
 
 same_entries : (e : Shown) (w : World) (q : SelectTree) (places : List Place) → Agrees e w → ArePlaces e.bound (meant_by e.catalog q).entries places → SameRows (entry_rows e.boxes places) (entry_tables (meant_by e.catalog q).entries (rows_in w.rows))
@@ -140,7 +141,7 @@ none_select w user q b states runs d (inr (inl h)) = b.types d h
 none_select w user q b states runs d (inr (inr (inl h))) = states d h
 none_select w user q b states runs d (inr (inr (inr h))) = runs d h
 
-picks_none : (e : Shown) (w : World) (sid : ℕ) (text : List ℕ) (user : Name) (q : SelectTree) → Agrees e w → IsRead e sid text user (on_data (select q)) → IsPickOf w sid (sql text) no_pick
+pub picks_none : (e : Shown) (w : World) (sid : ℕ) (text : List ℕ) (user : Name) (q : SelectTree) → Agrees e w → IsRead e sid text user (on_data (select q)) → IsPickOf w sid (sql text) no_pick
 picks_none e w sid text user q a read = pick_tree w sid no_pick text (new_session user) (on_data (select q)) (known e w sid text user (on_data (select q)) a read) tt
 
 -- The query is answered. `kept` and `rises` are what serving a run leaves of worlds and boxes.

@@ -13,12 +13,10 @@ use Rattle.med_world.specs.Causes.{NoneStands}
 use Rattle.med_world.specs.Replies.{done, refused}
 use Rattle.med_world.specs.Steps.{is_done}
 use Rattle.med_world.specs.Engine.{Shown, user_in, user_of, session_of, Agrees, Leads, Closes, ClosesAll}
+use Rattle.med_world.specs.Laws.{with_users}
 use Rattle.med_world.proofs.Faring.{set_same, set_other, none_rises}
 use Rattle.med_world.proofs.Told.{told_protocol, told_bye}
 use Rattle.med_world.proofs.Leading.{calm, calm_befell, leads_refused}
-
-abbrev pub with_users : Shown → List (Option Name) → Shown
-with_users e users = record e { users = users }
 
 open_some : (o : Option Name) → is_some (option_map new_session o) ≡ is_some o
 open_some None = refl
@@ -59,7 +57,7 @@ opened e sid user is is_user long closed = record {
   trouble = calm;
   befell = calm_befell e.boxes e.boxes;
   rises = none_rises e.boxes;
-  step = λ w a. (with_session w sid (Some (new_session user)), is_done no_pick (λ s t x. absurd x) (none w a) (refl, refl), seats_agree e w sid (Some user) is long a);
+  step = λ w a. (with_session w sid (Some (new_session user)), is_done no_pick (λ s t x formed. absurd x) (none w a) (refl, refl), seats_agree e w sid (Some user) is long a);
 }
   where
     none : (w : World) → Agrees e w → NoneStands w sid no_pick (opening user)
@@ -73,7 +71,7 @@ closed e sid is long open_now = record {
   trouble = calm;
   befell = calm_befell e.boxes e.boxes;
   rises = none_rises e.boxes;
-  step = λ w a. (with_session w sid None, is_done no_pick (λ s t x. absurd x) (none w a) (refl, refl), seats_agree e w sid None is long a);
+  step = λ w a. (with_session w sid None, is_done no_pick (λ s t x formed. absurd x) (none w a) (refl, refl), seats_agree e w sid None is long a);
 }
   where
     none : (w : World) → Agrees e w → NoneStands w sid no_pick bye
@@ -81,19 +79,19 @@ closed e sid is long open_now = record {
     none w a c (inr s) = s
 
 pub opened_twice : (e : Shown) (sid : ℕ) (user : Name) → IsSid sid → (is_some (user_of e.users sid) ≡ true) ⊎ (IsUser user → ⊥) → Leads e sid (opening user) (refused Protocol) e
-opened_twice e sid user is h = leads_refused e e sid (opening user) Protocol (none_rises e.boxes) (λ w a. a) (λ w a. (no_pick, (λ s t x. absurd x), told_protocol w sid no_pick user (why w a h)))
+opened_twice e sid user is h = leads_refused e e sid (opening user) Protocol (none_rises e.boxes) (λ w a. a) (λ w a. (no_pick, (λ s t x formed. absurd x), told_protocol w sid no_pick user (why w a h)))
   where
     why : (w : World) → Agrees e w → (is_some (user_of e.users sid) ≡ true) ⊎ (IsUser user → ⊥) → IsOpen w sid ⊎ (IsUser user → ⊥)
     why w a (inl o) = inl (is_open_by e w sid a is o)
     why w a (inr n) = inr n
 
 pub closed_twice : (e : Shown) (sid : ℕ) → IsSid sid → is_some (user_of e.users sid) ≡ false → Leads e sid bye (refused NoConnection) e
-closed_twice e sid is h = leads_refused e e sid bye NoConnection (none_rises e.boxes) (λ w a. a) (λ w a. (no_pick, (λ s t x. absurd x), told_bye w sid no_pick (is_closed_by e w sid a is h)))
+closed_twice e sid is h = leads_refused e e sid bye NoConnection (none_rises e.boxes) (λ w a. a) (λ w a. (no_pick, (λ s t x formed. absurd x), told_bye w sid no_pick (is_closed_by e w sid a is h)))
 
 pub closes : (e : Shown) (sid : ℕ) → IsSid sid → length e.users ≡ 64 → Closes e sid (with_users e (slice_set e.users (sid - 1) None))
 closes e sid is long = record { others = refl; world = λ w a. seats_agree e w sid None is long a }
 
-none_at : (n k : ℕ) → user_in (slice_get (replicate n None) k) ≡ None
+pub none_at : (n k : ℕ) → user_in (slice_get (replicate n None) k) ≡ None
 none_at zero k = refl
 none_at (suc n) zero = refl
 none_at (suc n) (suc k) = none_at n k

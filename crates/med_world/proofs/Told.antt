@@ -76,7 +76,7 @@ pub before_tree : (w : World) (sid : ℕ) (text : List ℕ) (s : Session) (tree 
 before_tree w sid text s tree k late p d x = late p d (shown_by w sid p text s tree k d x)
 
 pub pick_tree : (w : World) (sid : ℕ) (p : Pick) (text : List ℕ) (s : Session) (tree : CommandTree) → IsKnownAs w sid text s tree → IsPick w s tree p → IsPickOf w sid (sql text) p
-pick_tree w sid p text s tree k h s2 t2 is =
+pick_tree w sid p text s tree k h s2 t2 is formed =
     let es : s ≡ s2 = some_same s s2 (sym k.is.0 ∙ is.0) in
     let et : tree ≡ t2 = k.one tree t2 k.is.1 is.1 in
     subst (λ (x : Session). IsPick w x t2 p) es (subst (λ (t : CommandTree). IsPick w s t p) et h)

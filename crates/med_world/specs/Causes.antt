@@ -116,9 +116,15 @@ abbrev pub IsPick : World → Session → CommandTree → Pick → Type 0
 IsPick w s (on_data q) p = Unit {0}
 IsPick w s (on_objects d) p = (t : TableObject) → Asks w.catalog s.user d (new_table t) → PicksEntry w t p
 
--- of a request: nothing is open but of its statement
+-- no cause of syntax stands against the text
+abbrev pub IsWellFormed : Asked → Type 0
+IsWellFormed (opening user) = Unit {0}
+IsWellFormed (sql text) = (c : Cause) → SyntaxCauses text c → ⊥
+IsWellFormed bye = Unit {0}
+
+-- of a request: nothing is open but of its statement, once its text is well formed
 abbrev pub IsPickOf : World → ℕ → Asked → Pick → Type 0
-IsPickOf w sid request p = (s : Session) (tree : CommandTree) → IsStatementOf w sid request s tree → IsPick w s tree p
+IsPickOf w sid request p = (s : Session) (tree : CommandTree) → IsStatementOf w sid request s tree → IsWellFormed request → IsPick w s tree p
 
 -- ---- which is told
 

@@ -7,3 +7,5 @@ pub mod Steps
 pub mod Engine
 pub mod Altering
 pub mod Selecting
+pub mod Laws
+pub mod Adding
