@@ -1,26 +1,23 @@
 -- A statement on objects, done or not, leaves an engine sound; and what its calls of boxes ask holds.
-use Rattle.std.proofs.Common.{◌≡◌, ◌≢◌, ℕ, ◌⊎◌, Bool, List, [], ◌∷◌, ◌++◌, Option, Some, None, Contains, slice_get, length, map, find, refl, ap, sym, ◌∙◌, subst, inl, inr, bytes_eq}
+use Rattle.std.proofs.Common.{◌≡◌, ◌≢◌, ℕ, ◌⊎◌, Bool, List, [], ◌∷◌, ◌++◌, Some, Contains, slice_get, length, map, find, refl, ap, sym, ◌∙◌, subst, inl, inr, bytes_eq}
 use Rattle.med_value.specs.declared.cause.Cause.{Cause}
 use Rattle.med_syntax.specs.Tree.{Name}
 use Rattle.ddl_syntax.specs.DdlTree.{TableTree, DdlTree, create_wrapper, create_server, create_mapping, create_table, drop_wrapper, drop_server, drop_table, drop_mapping}
 use Rattle.fdw_api.specs.State.{BoxState, IsIdle}
 use Rattle.fdw_api.specs.Calls.{CanBind, CanUnbind, Unbinds, Refuses, RefusesBind}
 use Rattle.fdw_api.specs.Sound.{IsSoundBox}
-use Rattle.med_exec.specs.Slots.{ChangesAt}
 use Rattle.med_catalog.specs.Objects.{MappingObject, ServerObject, TableObject, Objects, server_named}
-use Rattle.med_catalog.specs.Options.{table_settings, column_settings}
-use Rattle.med_catalog.specs.Changes.{ObjectChange, nothing, new_wrapper, new_server, new_mapping, new_table, no_wrapper, no_server, no_mapping, no_table, without, with_first, changed, is_skipped, IsNewTable, Asks, skips, makes}
+use Rattle.med_catalog.specs.Changes.{ObjectChange, nothing, new_wrapper, new_server, new_mapping, new_table, no_wrapper, no_server, no_mapping, no_table, without, with_first, changed, IsNewTable, Asks, skips, makes}
 use Rattle.med_catalog.specs.DdlCauses.{Stands, create_table_rows}
 use Rattle.med_catalog.specs.declared.kind.SourceKind.{SourceKind}
-use Rattle.bind_catalog.specs.Places.{Attached}
-use Rattle.med_world.specs.Engine.{Label, Shown, AreSound, IsNamedAt, IsServerAt, IsStandingAt, IsBoundAs, TakesAs, IsSound, with_change, Alters}
+use Rattle.med_world.specs.Engine.{Label, Shown, AreSound, IsServerAt, IsStandingAt, TakesAs, IsSound, with_change, Alters}
 use Rattle.med_world.specs.Altering.{IsAllowed, SourcesAllow, IsAltered, NotAltered, catalog_shows, not_free, no_memory, bind_fails, bind_undone}
 use Rattle.med_world.proofs.Lists.{some_same, bytes_same, other_bytes, push_cases, one_place}
 use Rattle.med_world.proofs.Named.{place_of, at_place, map_place, found_place, found_passes, find_first, back_first, find_fewer, back_fewer, none_left, still_found}
 use Rattle.med_world.proofs.Faring.{changes_by}
 use Rattle.med_world.proofs.Kept.{IsClear, IsUntaken, stays_sound, unused, unbound, table_rows}
 use Rattle.med_world.proofs.Ready.{SourcesOnce, bind_ready}
-use Rattle.med_world.proofs.Sounds.{StaySound, ServersStay, none_gone, standing_still, catalog_sound, unbound_sound, bound_sound, dropped_sound, idle_at, refused_sound, vain_sound}
+use Rattle.med_world.proofs.Sounds.{StaySound, ServersStay, none_gone, catalog_sound, unbound_sound, bound_sound, dropped_sound, idle_at, refused_sound, vain_sound}
 
 -- ---- servers
 

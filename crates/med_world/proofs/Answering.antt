@@ -1,12 +1,12 @@
 -- A statement that is not read, and a query, lead to their replies, and leave an engine sound.
-use Rattle.std.proofs.Common.{◌≡◌, ℕ, ◌<◌, ◌≤◌, ◌⊎◌, true, false, List, Option, is_some, length, codes, refl, ap, sym, ◌∙◌, subst, arith, inl, inr}
+use Rattle.std.proofs.Common.{◌≡◌, ℕ, ◌<◌, ◌≤◌, ◌⊎◌, true, false, List, Option, is_some, length, codes, refl, ap, sym, subst, arith, inl, inr}
 use Rattle.std.proofs.lemmas.Bool.{false≢true}
 use Rattle.med_value.specs.Datum.{Tuple}
 use Rattle.med_value.specs.declared.cause.Cause.{Cause}
-use Rattle.med_value.specs.declared.cause.Cause.TheVariants.{LimitExceeded, OutOfMemory, SourceFault, NoConnection}
+use Rattle.med_value.specs.declared.cause.Cause.TheVariants.{LimitExceeded, OutOfMemory, NoConnection}
 use Rattle.med_syntax.specs.Tree.{Name}
 use Rattle.med_syntax.specs.QueryTree.{SelectTree, select}
-use Rattle.command_parser.specs.CommandTree.{CommandTree, on_data, on_objects}
+use Rattle.command_parser.specs.CommandTree.{on_data, on_objects}
 use Rattle.command_parser.specs.CommandCauses.{SyntaxCauses}
 use Rattle.fdw_api.specs.State.{BoxState}
 use Rattle.pushdown.specs.Offered.{Place}
@@ -15,9 +15,9 @@ use Rattle.bind_names.specs.Meaning.{Meant}
 use Rattle.bind_catalog.specs.Queries.{meant_by, IsBindable}
 use Rattle.bind_catalog.specs.Places.{ArePlaces}
 use Rattle.med_world.specs.Requests.{sql, IsSid}
-use Rattle.med_world.specs.Picks.{Pick, no_pick}
-use Rattle.med_world.specs.World.{World, Session, new_session, IsOpen}
-use Rattle.med_world.specs.Causes.{query_of, meant_over, QueryState, TreeCauses, phase}
+use Rattle.med_world.specs.Picks.{no_pick}
+use Rattle.med_world.specs.World.{World, new_session}
+use Rattle.med_world.specs.Causes.{query_of, phase}
 use Rattle.med_world.specs.Replies.{Reply, answered, refused}
 use Rattle.med_world.specs.Steps.{numbers_end}
 use Rattle.med_world.specs.Engine.{Shown, user_of, IsSound, Agrees, Leads}

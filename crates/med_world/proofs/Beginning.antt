@@ -4,10 +4,10 @@ use Rattle.std.proofs.lemmas.List.{length-replicate}
 use Rattle.std.specs.List.{IsDistinct}
 use Rattle.med_syntax.specs.Tree.{Name}
 use Rattle.fdw_api.specs.State.{BoxState}
-use Rattle.med_catalog.specs.Objects.{Objects, no_objects}
+use Rattle.med_catalog.specs.Objects.{no_objects}
 use Rattle.med_world.specs.Requests.{IsUser}
 use Rattle.med_world.specs.World.{new_session, empty_world}
-use Rattle.med_world.specs.Engine.{Shown, AreSound, session_of, IsSound, Agrees}
+use Rattle.med_world.specs.Engine.{AreSound, session_of, IsSound, Agrees}
 use Rattle.med_world.specs.Laws.{empty_shown}
 use Rattle.med_world.proofs.Sessions.{none_at}
 

@@ -18,7 +18,7 @@ use Rattle.med_world.specs.Causes.{IsPickOf}
 use Rattle.med_world.specs.Replies.{refused}
 use Rattle.med_world.specs.Engine.{Shown, IsSound, IsServerAt, Agrees, Rises, EachRises, Leads}
 use Rattle.med_world.specs.Altering.{cause_of, IsAllowed, BindsInVain, NotAltered, catalog_shows, not_free, no_memory, bind_fails, bind_undone}
-use Rattle.med_world.specs.Laws.{IsRead, with_boxes}
+use Rattle.med_world.specs.Laws.{IsRead}
 use Rattle.med_world.proofs.Faring.{changes_by, changes_rise, rises_itself, none_rises, refuses_rises, vain_rises}
 use Rattle.med_world.proofs.Altered.{refused_agrees, vain_agrees}
 use Rattle.med_world.proofs.Told.{pick_tree}

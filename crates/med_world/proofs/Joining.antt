@@ -6,10 +6,9 @@ use Rattle.fdw_api.specs.Kinds.{Held}
 use Rattle.fdw_api.specs.State.{BoxState, Bound, IsIdle, is_honest, table_of}
 use Rattle.fdw_api.specs.Sound.{IsSoundBox}
 use Rattle.med_catalog.specs.declared.kind.SourceKind.{SourceKind}
-use Rattle.med_catalog.specs.Objects.{ServerObject}
 use Rattle.bind_catalog.specs.Places.{Attached}
 use Rattle.med_world.specs.World.{World, Source, standing, with_source}
-use Rattle.med_world.specs.Engine.{Label, Shown, IsAtRest, EachBox, EachTakes, TakesAs, IsNamedAt, IsServerAt, IsStandingAt, IsBoundAs, IsAmong, IsSound, state_of, sources_of, AreRowsOf, RowsAgree, Agrees}
+use Rattle.med_world.specs.Engine.{Label, Shown, IsAtRest, EachBox, EachTakes, TakesAs, IsNamedAt, IsAmong, IsSound, state_of, sources_of, RowsAgree, Agrees}
 use Rattle.med_world.specs.Adding.{HasSource, with_box, Adds}
 use Rattle.med_world.proofs.Lists.{some_same, none_some, push_before, push_cases, past}
 use Rattle.med_world.proofs.Named.{distinct_push}
@@ -55,14 +54,17 @@ added_sound law e name kind b h none room idle takes = record {
   at_rest = each_push IsAtRest e.boxes b h.at_rest (idle_rest b idle);
   sound_boxes = each_push IsSoundBox e.boxes b h.sound_boxes (law b idle);
   takes = takes_push e.labels e.boxes l b h.places h.takes takes;
-  servers_stand = λ s c. let x = h.servers_stand s c in (x.0, record {
-    label = x.1.label;
-    there = push_before e.labels l x.0 x.1.label x.1.there;
-    named = x.1.named;
-    of_kind = x.1.of_kind;
-    box = x.1.box;
-    box_there = push_before e.boxes (Some b) x.0 (Some x.1.box) x.1.box_there;
-  });
+  servers_stand = λ s c. let x = h.servers_stand s c in (
+    x.0,
+    record {
+      label = x.1.label;
+      there = push_before e.labels l x.0 x.1.label x.1.there;
+      named = x.1.named;
+      of_kind = x.1.of_kind;
+      box = x.1.box;
+      box_there = push_before e.boxes (Some b) x.0 (Some x.1.box) x.1.box_there;
+    },
+  );
   many = h.many;
   tables_bound = λ k t a at_t at_a. let x = h.tables_bound k t a at_t at_a in record {
     server = record { at = x.server.at; is = x.server.is; source = (x.server.source.0, push_before e.labels l a.source x.server.source.0 x.server.source.1, x.server.source.2) };

@@ -1,13 +1,13 @@
 -- What a statement's change keeps of the objects of a catalogue that is sound, where no cause stands against it.
-use Rattle.std.proofs.Common.{◌≡◌, ◌≢◌, ◌⊎◌, ◌&&◌, ℕ, Bool, true, false, ◌||◌, if◌then◌else◌, List, [], ◌∷◌, ◌++◌, cond, Option, Some, None, IsSome, is_some, Contains, slice_get, length, map, find, codes, refl, ap, sym, ◌∙◌, subst, zero, suc, inl, inr, bytes_eq}
+use Rattle.std.proofs.Common.{◌≡◌, ◌≢◌, ◌⊎◌, ◌&&◌, ℕ, Bool, true, false, ◌||◌, if◌then◌else◌, List, [], ◌∷◌, ◌++◌, cond, Option, Some, None, IsSome, is_some, Contains, slice_get, length, find, refl, ap, sym, ◌∙◌, subst, zero, suc, inl, inr, bytes_eq}
 use Rattle.std.specs.List.{IsDistinct, list_any}
 use Rattle.std.proofs.lemmas.Bool.{false≢true}
 use Rattle.med_value.specs.Column.{Column}
 use Rattle.med_value.specs.declared.cause.Cause.{Cause}
 use Rattle.med_value.specs.declared.cause.Cause.TheVariants.{DuplicateTable, DuplicateObject, DependentObjects, InUse}
 use Rattle.med_syntax.specs.Tree.{Name}
-use Rattle.ddl_syntax.specs.DdlTree.{ColumnTree, ServerTree, MappingTree, TableTree, UserTree, DdlTree, create_wrapper, create_server, create_mapping, create_table, drop_wrapper, drop_server, drop_table, drop_mapping}
-use Rattle.med_catalog.specs.Objects.{WrapperObject, MappingObject, ServerObject, TableObject, Objects, wrapper_named, server_named, table_named}
+use Rattle.ddl_syntax.specs.DdlTree.{ColumnTree, ServerTree, MappingTree, TableTree, DdlTree, create_wrapper, create_server, create_mapping, create_table, drop_wrapper, drop_server, drop_table, drop_mapping}
+use Rattle.med_catalog.specs.Objects.{MappingObject, ServerObject, TableObject, Objects, server_named, table_named}
 use Rattle.fdw_api.specs.Kinds.{Setting}
 use Rattle.med_catalog.specs.Rights.{user_meant}
 use Rattle.med_catalog.specs.Options.{text_of, remote_label, table_settings, column_settings}
@@ -18,7 +18,7 @@ use Rattle.med_world.specs.World.{is_taken}
 use Rattle.med_world.specs.Altering.{no_lease}
 use Rattle.med_world.specs.Engine.{AreSound}
 use Rattle.med_world.proofs.Lists.{some_same, bytes_same, same_bytes, other_bytes, bytes_other, push_cases}
-use Rattle.med_world.proofs.Named.{place_of, at_place, distinct_more, distinct_fewer, same_first, find_first, back_first, find_fewer, back_fewer, still_found, some_of, none_of}
+use Rattle.med_world.proofs.Named.{place_of, at_place, distinct_more, distinct_fewer, same_first, find_first, find_fewer, back_fewer, still_found, some_of, none_of}
 
 -- ---- a statement asks one change
 

@@ -8,23 +8,21 @@ use Rattle.fdw_api.specs.Kinds.{Entry, Holding, Reading}
 use Rattle.fdw_api.specs.State.{BoxState}
 use Rattle.fdw_api.specs.Calls.{Picks, Binds, Unbinds, Refuses, RefusesBind, IsLeast}
 use Rattle.fdw_api.specs.declared.interface.Fault.TheVariants.{Source as SourceFailed, Refused}
-use Rattle.command_parser.specs.CommandCauses.{SyntaxCauses}
 use Rattle.med_exec.specs.Slots.{ChangesAt}
 use Rattle.med_exec.specs.Running.{HasFailed}
 use Rattle.ddl_syntax.specs.DdlTree.{DdlTree}
 use Rattle.med_catalog.specs.Objects.{ServerObject, TableObject, Objects}
 use Rattle.med_catalog.specs.Changes.{ObjectChange, nothing, new_wrapper, new_server, new_mapping, new_table, no_wrapper, no_server, no_mapping, no_table, Asks}
 use Rattle.med_catalog.specs.DdlCauses.{DdlCauses}
-use Rattle.med_world.specs.Requests.{Asked, sql, IsSid}
+use Rattle.med_world.specs.Requests.{Asked, sql}
 use Rattle.command_parser.specs.CommandTree.{CommandTree, on_objects}
-use Rattle.command_parser.specs.CommandGrammar.{HasCommand}
 use Rattle.med_world.specs.Steps.{ddl_tag}
 use Rattle.med_world.specs.Picks.{Pick, no_pick}
 use Rattle.med_world.specs.World.{World, source_named, new_session, is_taken, IsFree, Serves}
 use Rattle.med_world.specs.Causes.{Reads, SourceCauses, ObjectCauses, PicksEntry, IsPickOf, IsTold, NoneStands, NoneBeforeState, phase}
 use Rattle.med_world.specs.Replies.{done, refused}
 use Rattle.med_world.specs.Steps.{Trouble, TakesMemory, with_catalog, Changes, Step, is_refused, is_done, lacks_memory, source_fails}
-use Rattle.med_world.specs.Engine.{Rises, Shown, user_of, IsSound, IsNamedAt, IsServerAt, Agrees, Befell, EachRises, Leads, with_change, Alters}
+use Rattle.med_world.specs.Engine.{Rises, Shown, IsSound, IsNamedAt, IsServerAt, Agrees, Befell, EachRises, Leads, with_change, Alters}
 use Rattle.med_world.specs.Laws.{IsRead}
 use Rattle.med_world.specs.Altering.{no_lease, IsFreeAt, IsAllowed, SourcesAllow, IsAltered}
 use Rattle.med_world.proofs.Faring.{changes_by, changes_rise, rises_itself, none_rises, drop_rises, binds_rises, unbinds_rises}

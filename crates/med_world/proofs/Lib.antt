@@ -15,6 +15,7 @@ mod Alterations
 mod Beginning
 mod Joining
 mod Answering
+mod Phases
 mod Querying
 mod Serving
 mod Sessions

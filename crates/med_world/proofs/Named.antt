@@ -1,5 +1,5 @@
 -- Lists of things that have names: one more at the end, the first of a name changed, or gone.
-use Rattle.std.proofs.Common.{◌≡◌, ◌≢◌, ℕ, ◌<◌, Bool, true, false, cond, List, [], ◌∷◌, ◌++◌, Option, Some, None, IsSome, is_some, Contains, slice_get, length, map, find, refl, ap, sym, ◌∙◌, subst, zero, suc, arith, bytes_eq}
+use Rattle.std.proofs.Common.{◌≡◌, ◌≢◌, ℕ, Bool, true, false, cond, List, [], ◌∷◌, ◌++◌, Option, Some, None, IsSome, is_some, Contains, slice_get, map, find, refl, ap, sym, ◌∙◌, subst, zero, suc, arith, bytes_eq}
 use Rattle.std.specs.Option.{option_or}
 use Rattle.std.specs.List.{IsDistinct, AllByRecursion}
 use Rattle.std.proofs.lemmas.Bool.{false≢true}
@@ -7,7 +7,7 @@ use Rattle.std.proofs.lemmas.List.{map-append}
 use Rattle.std.proofs.lemmas.List.Folds.{find-append}
 use Rattle.std.proofs.lemmas.Option.{slice_get-get_or}
 use Rattle.med_catalog.specs.Changes.{without, with_first}
-use Rattle.med_world.proofs.Lists.{some_same, same_bytes, other_bytes, bytes_other, each_at, push_cases}
+use Rattle.med_world.proofs.Lists.{some_same, other_bytes, bytes_other, each_at}
 
 -- ---- elements and their places
 

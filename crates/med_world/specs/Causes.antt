@@ -1,21 +1,19 @@
 -- The causes of refusal that stand for a request in a world: a set of causes, with no order of checks.
-use Rattle.std.specs.Prelude.{◌≡◌, ◌<◌, ◌≤◌, ◌⊎◌, ℕ, zero, suc, true, List, [], ◌∷◌, length, Option, Some, None, IsSome, Contains, unwrap_or}
-use Rattle.std.specs.List.{list_any}
+use Rattle.std.specs.Prelude.{◌≡◌, ◌<◌, ◌≤◌, ◌⊎◌, ℕ, zero, suc, List, [], ◌∷◌, length, Option, Some, Contains, unwrap_or}
 use Rattle.med_value.specs.Causes.{phase_of}
 use Rattle.med_value.specs.declared.cause.Cause.{Cause}
-use Rattle.med_value.specs.declared.cause.Cause.TheVariants.{Protocol, NoConnection, LimitExceeded, UnableToConnect, InUse, NotNull, DuplicateCursor, InvalidCursorName, FeatureNotSupported}
+use Rattle.med_value.specs.declared.cause.Cause.TheVariants.{Protocol, NoConnection, LimitExceeded, UnableToConnect}
 use Rattle.med_syntax.specs.Tree.{Name}
 use Rattle.med_syntax.specs.QueryTree.{SelectTree, select}
-use Rattle.tri_expr.specs.declared.expr.Fault.{Fault as Wrong}
 use Rattle.med_query.specs.Query.{Query, Tables}
 use Rattle.med_query.specs.Form.{query_by}
-use Rattle.fdw_api.specs.Kinds.{Kind, Entry, Holding, Held, Reading}
+use Rattle.fdw_api.specs.Kinds.{Kind, Entry, Holding, Reading}
 use Rattle.fdw_api.specs.Calls.{Picks}
 use Rattle.command_parser.specs.CommandCauses.{SyntaxCauses}
 use Rattle.bind_names.specs.Meaning.{Meant}
-use Rattle.med_planner.specs.Planned.{wrong_cause, QueryCauses}
+use Rattle.med_planner.specs.Planned.{QueryCauses}
 use Rattle.ddl_syntax.specs.DdlTree.{DdlTree}
-use Rattle.med_catalog.specs.Objects.{TableObject, Objects, table_named}
+use Rattle.med_catalog.specs.Objects.{TableObject}
 use Rattle.med_catalog.specs.Changes.{ObjectChange, new_server, new_table, Asks}
 use Rattle.med_catalog.specs.DdlCauses.{DdlCauses}
 use Rattle.bind_catalog.specs.Queries.{meant_by, QueryNames, QueryTypes}
@@ -23,7 +21,7 @@ use Rattle.command_parser.specs.CommandTree.{CommandTree, on_data, on_objects}
 use Rattle.command_parser.specs.CommandGrammar.{HasCommand}
 use Rattle.med_world.specs.Picks.{Pick}
 use Rattle.med_world.specs.Requests.{Asked, opening, sql, bye, IsUser}
-use Rattle.med_world.specs.World.{World, Session, IsOpen, cells_of, rows_in, rows_named, IsFree, Serves, is_leased}
+use Rattle.med_world.specs.World.{World, Session, IsOpen, rows_in, IsFree, Serves, is_leased}
 
 -- Phase 1, the frame. 08P01: OPEN of a session that is open, or with a user who is none by the protocol.
 -- 08003: a statement or BYE of a session that is not open.

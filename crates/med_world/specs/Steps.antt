@@ -1,15 +1,13 @@
 -- The direct meaning of a request: from a world to a reply and a world.
-use Rattle.std.specs.Prelude.{◌≡◌, ℕ, Bool, true, false, List, [], ◌∷◌, ◌++◌, map, codes, Option, Some, None, IsPermutation}
+use Rattle.std.specs.Prelude.{◌≡◌, ℕ, Bool, true, false, List, [], ◌∷◌, ◌++◌, codes, Some, None}
 use Rattle.med_value.specs.Datum.{Tuple}
 use Rattle.med_value.specs.declared.cause.Cause.{Cause}
 use Rattle.med_value.specs.declared.cause.Cause.TheVariants.{LimitExceeded, OutOfMemory, SourceFault}
-use Rattle.med_syntax.specs.Tree.{Name}
-use Rattle.med_syntax.specs.QueryTree.{EntryTree, SelectTree, select}
+use Rattle.med_syntax.specs.QueryTree.{SelectTree, select}
 use Rattle.med_query.specs.Query.{IsAnswer}
-use Rattle.fdw_api.specs.Kinds.{Kind, Entry, Holding, Known, Unknown, Held, Reading}
-use Rattle.bind_names.specs.Scope.{entries_of}
+use Rattle.fdw_api.specs.Kinds.{Reading}
 use Rattle.ddl_syntax.specs.DdlTree.{DdlTree, create_wrapper, create_server, create_mapping, create_table, drop_wrapper, drop_server, drop_table, drop_mapping}
-use Rattle.med_catalog.specs.Objects.{TableObject, server_named}
+use Rattle.med_catalog.specs.Objects.{server_named}
 use Rattle.med_catalog.specs.Changes.{ObjectChange, new_table, no_server, no_table, changed, Asks}
 use Rattle.command_parser.specs.CommandTree.{CommandTree, on_data, on_objects}
 use Rattle.med_world.specs.Picks.{Pick}
