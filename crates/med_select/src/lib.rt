@@ -5,4 +5,4 @@ mod fault;
 mod selecting;
 
 pub use fault::cause_of;
-pub use selecting::{RowSet, run_bound};
+pub use selecting::{RowSet, run_select};
