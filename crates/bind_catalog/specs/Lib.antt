@@ -2,3 +2,4 @@ pub mod Tables
 pub mod Barred
 pub mod Queries
 pub mod Places
+pub mod Looked
