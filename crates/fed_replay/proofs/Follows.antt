@@ -1,0 +1,158 @@
+-- Replays of engines, of their boxes, and of the worlds that they stand for.
+use Rattle.std.proofs.lemmas.Str.{is_utf8-from_IsUtf8, IsUtf8-from_is_utf8}
+use Rattle.std.specs.Str.{IsUtf8, is_utf8}
+use Rattle.std.proofs.Common.{◌≡◌, Bool, true, false, ℕ, ◌≤◌, ◌-◌, ◌^◌, min, List, [], ◌∷◌, Option, None, Result, Ok, Err, refl, sym, ap, ◌∙◌, subst, inl, inr, arith, lit≤}
+use Rattle.fdw_api.specs.State.{BoxState}
+use Rattle.med_session.specs.Requests.{Asked}
+use Rattle.med_session.specs.World.{World}
+use Rattle.med_session.specs.Steps.{with_session}
+use Rattle.med_session.specs.Engine.{shown, Agrees, Befell, Rises, EachRises, user_of}
+use Rattle.med_session.specs.declared.engine.Engine.{Engine}
+use Rattle.session_wire.specs.Run.{Steps}
+use Rattle.session_wire.specs.Engines.{EngineSteps, EngineRises}
+use Rattle.session_wire.specs.Worlds.{Scene, scene_of, SceneSteps}
+use Rattle.fed_replay.specs.Scripts.{Numbered, statement_lines}
+use Rattle.fed_replay.specs.Replays.{session, requests_of, AreDone, Ends, Runs, Replays, not_text, runs}
+use Rattle.fed_replay.specs.Engines.{EngineCloses, SceneCloses}
+use Rattle.fed_replay.specs.declared.script.ScriptFault.{ScriptFault}
+use Rattle.fed_replay.specs.declared.script.ScriptFault.TheVariants as fault
+
+-- ---- a run of states is a run of what they stand for
+
+-- each step of a state is a step of everything that it stands for
+abbrev pub StepsFollow : {W V : Type 0} → Steps W → Steps V → (W → V → Type 0) → Type 0
+StepsFollow {W} {V} step steps agrees = (old : W) (sid : ℕ) (request : Asked) (reply : List ℕ) (new : W) → step old sid request reply new
+    → (v : V) → agrees old v → (w : V) × steps v sid request reply w × agrees new w
+
+done_follows : {W V : Type 0} (step : Steps W) (steps : Steps V) (agrees : W → V → Type 0) → StepsFollow step steps agrees
+    → (old : W) (rs : List (ℕ × Asked)) (new : W) → AreDone step old rs new → (v : V) → agrees old v → (w : V) × AreDone steps v rs w × agrees new w
+done_follows step steps agrees f old [] new h v a = (v, refl, subst (λ s. agrees s v) (sym h) a)
+done_follows step steps agrees f old (r ∷ rs) new h v a =
+    let one = f old session r.1 h.1.0 h.0 h.1.1 v a in
+    let more = done_follows step steps agrees f h.0 rs new h.2 one.0 one.2 in
+    (more.0, (one.0, (h.1.0, one.1, h.1.2), more.1), more.2)
+
+ends_follow : {W V : Type 0} (step : Steps W) (steps : Steps V) (agrees : W → V → Type 0) → StepsFollow step steps agrees
+    → (old : W) (r : ℕ × Asked) (why : ScriptFault) (new : W) → Ends step old r why new → (v : V) → agrees old v → (w : V) × Ends steps v r why w × agrees new w
+ends_follow step steps agrees f old r (fault.Line number c) new h v a =
+    let one = f old session r.1 _ new h.2 v a in
+    (one.0, (h.0, h.1, one.1), one.2)
+ends_follow step steps agrees f old r fault.NoMemory new (inl h) v a = (v, inl refl, subst (λ s. agrees s v) (sym h) a)
+ends_follow step steps agrees f old r fault.NoMemory new (inr h) v a =
+    let one = f old session r.1 _ new h v a in
+    (one.0, inr one.1, one.2)
+ends_follow step steps agrees f old r fault.NotText new h v a = absurd h
+
+runs_follow : {W V : Type 0} (step : Steps W) (steps : Steps V) (agrees : W → V → Type 0) → StepsFollow step steps agrees
+    → (old : W) (owner : List ℕ) (lines : List Numbered) (result : Result ℕ ScriptFault) (new : W) → Runs step old owner lines result new
+    → (v : V) → agrees old v → (w : V) × Runs steps v owner lines result w × agrees new w
+runs_follow step steps agrees f old owner lines (Ok count) new h v a =
+    let all = done_follows step steps agrees f old (requests_of owner lines) new h.0 v a in
+    (all.0, (all.1, h.1), all.2)
+runs_follow step steps agrees f old owner lines (Err why) new h v a =
+    let front = done_follows step steps agrees f old h.before h.mid h.done v a in
+    let last = ends_follow step steps agrees f h.mid h.request why new h.ends front.0 front.2 in
+    (last.0, record { before = h.before; request = h.request; after = h.after; are = h.are; mid = front.0; done = front.1; ends = last.1 }, last.2)
+
+-- ---- of an engine and a world over its boxes
+
+-- an engine stands for a world over its own boxes
+abbrev Stands : {W : Type 0} → (W → BoxState) → Engine W → Scene → Type 0
+Stands meaning e s = Agrees (shown meaning e) s.world × (s.boxes ≡ (shown meaning e).boxes)
+
+steps_follow : {W : Type 0} (meaning : W → BoxState) → StepsFollow (EngineSteps meaning) SceneSteps (Stands meaning)
+steps_follow meaning old sid request reply new h s a =
+    let leads = h.leads in
+    let one = leads.step s.world a.0 in
+    let befell = subst (λ boxes. Befell boxes (shown meaning new).boxes leads.trouble) (sym a.1) leads.befell in
+    let rises = subst (λ boxes. EachRises boxes (shown meaning new).boxes) (sym a.1) leads.rises in
+    (scene_of meaning new one.0, (leads.trouble, befell, rises, (h.reply, h.is, one.1)), (one.2, refl))
+
+closes_follows : {W : Type 0} (meaning : W → BoxState) (old new : Engine W) (s : Scene) → EngineCloses meaning old new → s.boxes ≡ (shown meaning old).boxes
+    → SceneCloses s (scene_of meaning new (with_session s.world session None))
+closes_follows meaning old new s h same =
+    ap (λ (boxes : List (Option BoxState)). let all : Scene = record { world = with_session s.world session None; boxes = boxes } in all) (ap (λ e. e.boxes) h.others ∙ sym same)
+
+pub in_worlds : {W : Type 0} (meaning : W → BoxState) (old new : Engine W) (owner script : List ℕ) (result : Result ℕ ScriptFault)
+    → user_of (shown meaning old).users session ≡ None → Replays (EngineSteps meaning) (EngineCloses meaning) old owner script result new
+    → (w : World) → Agrees (shown meaning old) w
+    → (after : World) × Replays SceneSteps SceneCloses (scene_of meaning old w) owner script result (scene_of meaning new after)
+    × Agrees (shown meaning new) after × (after.sessions session ≡ None)
+in_worlds meaning old new owner script result closed (not_text t r same) w a =
+    (w, not_text t r (ap (λ e. scene_of meaning e w) same), subst (λ e. Agrees (shown meaning e) w) (sym same) a, a.sessions session (lit≤ tt, lit≤ tt) ∙ closed)
+in_worlds meaning old new owner script result closed (runs t last h closes) w a =
+    let one = runs_follow (EngineSteps meaning) SceneSteps (Stands meaning) (steps_follow meaning) old owner (statement_lines script) result last h (scene_of meaning old w) (a, refl) in
+    (with_session one.0.world session None, runs t one.0 one.1 (closes_follows meaning last new one.0 closes one.2.1), closes.world one.0.world one.2.0, refl)
+
+-- ---- what boxes count goes up
+
+rises_same : (s : BoxState) → Rises s s
+rises_same s = record { nature = refl; next = omega arith; end = λ e. e; faults = omega arith }
+
+min_along : (m a b c : ℕ) → min a m ≤ b → min b m ≤ c → min a m ≤ c
+min_along m a b c h k = omega arith
+
+rises_along : (s t u : BoxState) → Rises s t → Rises t u → Rises s u
+rises_along s t u h k = record {
+  nature = k.nature ∙ h.nature;
+  next = omega (arith, h.next, k.next);
+  end = λ e. k.end (h.end e);
+  faults = min_along (2 ^ 64 - 1) s.ledger.faults t.ledger.faults u.ledger.faults h.faults k.faults;
+}
+
+each_same : (boxes : List (Option BoxState)) → EachRises boxes boxes
+each_same boxes = record { stays = λ slot s is. (s, is, rises_same s); stood = λ slot s is. (s, is, rises_same s) }
+
+each_along : (a b c : List (Option BoxState)) → EachRises a b → EachRises b c → EachRises a c
+each_along a b c h k = record {
+  stays = λ slot s is.
+      let one = h.stays slot s is in
+      let two = k.stays slot one.0 one.1 in
+      (two.0, two.1, rises_along s one.0 two.0 one.2 two.2);
+  stood = λ slot s is.
+      let two = k.stood slot s is in
+      let one = h.stood slot two.0 two.1 in
+      (one.0, one.1, rises_along one.0 two.0 s one.2 two.2);
+}
+
+same_rises : {W : Type 0} (meaning : W → BoxState) (old new : Engine W) → new ≡ old → EngineRises meaning old new
+same_rises meaning old new same = subst (λ e. EngineRises meaning old e) (sym same) (each_same (shown meaning old).boxes)
+
+along : {W : Type 0} (meaning : W → BoxState) (a b c : Engine W) → EngineRises meaning a b → EngineRises meaning b c → EngineRises meaning a c
+along meaning a b c = each_along (shown meaning a).boxes (shown meaning b).boxes (shown meaning c).boxes
+
+done_rises : {W : Type 0} (meaning : W → BoxState) (old : Engine W) (rs : List (ℕ × Asked)) (new : Engine W) → AreDone (EngineSteps meaning) old rs new → EngineRises meaning old new
+done_rises meaning old [] new h = same_rises meaning old new h
+done_rises meaning old (r ∷ rs) new h = along meaning old h.0 new h.1.1.leads.rises (done_rises meaning h.0 rs new h.2)
+
+ends_rises : {W : Type 0} (meaning : W → BoxState) (old : Engine W) (r : ℕ × Asked) (why : ScriptFault) (new : Engine W) → Ends (EngineSteps meaning) old r why new → EngineRises meaning old new
+ends_rises meaning old r (fault.Line number c) new h = h.2.leads.rises
+ends_rises meaning old r fault.NoMemory new (inl h) = same_rises meaning old new h
+ends_rises meaning old r fault.NoMemory new (inr h) = h.leads.rises
+ends_rises meaning old r fault.NotText new h = absurd h
+
+run_rises : {W : Type 0} (meaning : W → BoxState) (old : Engine W) (owner : List ℕ) (lines : List Numbered) (result : Result ℕ ScriptFault) (new : Engine W)
+    → Runs (EngineSteps meaning) old owner lines result new → EngineRises meaning old new
+run_rises meaning old owner lines (Ok count) new h = done_rises meaning old (requests_of owner lines) new h.0
+run_rises meaning old owner lines (Err why) new h = along meaning old h.mid new (done_rises meaning old h.before h.mid h.done) (ends_rises meaning h.mid h.request why new h.ends)
+
+pub replay_rises : {W : Type 0} (meaning : W → BoxState) (old new : Engine W) (owner script : List ℕ) (result : Result ℕ ScriptFault)
+    → Replays (EngineSteps meaning) (EngineCloses meaning) old owner script result new → EngineRises meaning old new
+replay_rises meaning old new owner script result (not_text t r same) = same_rises meaning old new same
+replay_rises meaning old new owner script result (runs t last h closes) =
+    along meaning old last new (run_rises meaning old owner (statement_lines script) result last h)
+    (subst (λ boxes. EachRises (shown meaning last).boxes boxes) (sym (ap (λ e. e.boxes) closes.others)) (each_same (shown meaning last).boxes))
+
+-- ---- the two ends of a replay
+
+not_utf8 : (b : Bool) → (b ≡ true → ⊥) → b ≡ false
+not_utf8 true h = absurd (h refl)
+not_utf8 false h = refl
+
+pub no_text : {W : Type 0} (step : Steps W) (closes : W → W → Type 0) (old : W) (owner script : List ℕ) → (IsUtf8 script → ⊥) → Replays step closes old owner script (Err fault.NotText) old
+no_text step closes old owner script h = not_text (not_utf8 (is_utf8 script) (λ e. h (IsUtf8-from_is_utf8 script e))) refl refl
+
+pub ran : {W : Type 0} (step : Steps W) (closes : W → W → Type 0) (old : W) (owner script text : List ℕ) (result : Result ℕ ScriptFault) (last new : W) → IsUtf8 script → text ≡ script
+    → Runs step old owner (statement_lines text) result last → closes last new → Replays step closes old owner script result new
+ran step closes old owner script text result last new u same h k =
+    runs (is_utf8-from_IsUtf8 script u) last (subst (λ t. Runs step old owner (statement_lines t) result last) same h) k

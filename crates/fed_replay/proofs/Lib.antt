@@ -1,0 +1,5 @@
+pub mod Cuts
+pub mod Telling
+pub mod Done
+pub mod Reached
+pub mod Follows

@@ -1,0 +1,3 @@
+pub mod Scripts
+pub mod Replays
+pub mod Engines

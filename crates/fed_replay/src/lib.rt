@@ -1,0 +1,8 @@
+//! Scripts of SQL lines that are run before an engine is served.
+#![tactic(auto)]
+
+mod lines;
+mod refusals;
+pub mod script;
+
+pub use script::{ScriptFault, replay};

@@ -1,0 +1,116 @@
+//! The replay of a script.
+ghost use Rattle.std.specs.Prelude.{◌≡◌, ℕ, List, None, IfOk, IfErr, OnOk, OnErr};
+ghost use Rattle.med_session.specs.Requests.{IsUser, asked};
+ghost use Rattle.med_session.specs.World.{World};
+ghost use Rattle.med_session.specs.Engine.{shown, IsSound, Agrees, EachRises, user_of};
+ghost use Rattle.session_wire.specs.Engines.{EngineSteps, EngineRises};
+ghost use Rattle.session_wire.specs.Worlds.{scene_of, SceneSteps};
+ghost use Rattle.fed_replay.specs.Scripts.{statement_lines};
+ghost use Rattle.fed_replay.specs.Replays.{session, IsDone, Ends, Runs, Replays};
+ghost use Rattle.fed_replay.specs.Engines.{EngineCloses, SceneCloses};
+
+use crate::lines::{is_blank, next_line};
+use crate::refusals::refusal_in;
+use fdw_api::interface::Wrapper;
+use med_session::{Engine, Request, Sid};
+use med_value::Cause;
+use std::alloc::Global;
+use thiserror::Error;
+
+/// Why a replay ended before the end of its script.
+#[derive(Clone, Copy, Debug, PartialEq, Eq, Error)]
+pub enum ScriptFault {
+    /// Memory was refused.
+    #[error("out of memory")]
+    NoMemory,
+    /// The script is not UTF-8. Nothing of it was run.
+    #[error("not UTF-8")]
+    NotText,
+    /// The line of this number was refused with this cause, which is not want of memory. The lines before it stay done. Causes of
+    /// several phases with one code are told by the first of them. Number 0 stands for the opening of the session.
+    #[error("line {0}: {code} {name}", code = .1.code(), name = .1.name())]
+    Line(u64, Cause),
+}
+
+/// Runs each line of a script that has more than spaces and TABs as a statement of this user in session 64, up to the first that is
+/// refused, and answers how many lines ran.
+///
+/// A line ends in LF or with the script, and one CR at its end is dropped. All lines are counted from 1. The session is opened first and
+/// closed at the end, also after a refusal; the lines before a refused one stay done. Replies are not kept.
+///
+/// `NotText` exactly where the script is not UTF-8: then nothing is done. `NoMemory` where a request is answered 53200, or memory is
+/// refused before it is begun. What was done is the same run of each world that agrees with the engine before.
+pub fn replay<W: Wrapper>(
+    alloc: Global,
+    engine: &mut Engine<W>,
+    owner: &str,
+    script: &[u8],
+) -> Result<u64, ScriptFault>
+    requires sound { IsSound (shown W.meaning engine.old) }
+    requires user { IsUser owner.now }
+    requires closed { user_of (shown W.meaning engine.old).users session ≡ None }
+    ensures sound { IsSound (shown W.meaning engine.new) }
+    ensures replays { Replays (EngineSteps W.meaning) (EngineCloses W.meaning) engine.old owner.now script.now result engine.new }
+    ensures worlds { (w : World) → Agrees (shown W.meaning engine.old) w
+        → (after : World) × Replays SceneSteps SceneCloses (scene_of W.meaning engine.old w) owner.now script.now result
+        (scene_of W.meaning engine.new after) × Agrees (shown W.meaning engine.new) after × (after.sessions session ≡ None) }
+    ensures rises { EngineRises W.meaning engine.old engine.new }
+{
+    let Ok(text) = str::from_utf8(script) else {
+        return Err(ScriptFault::NotText);
+    };
+    let ran = run(alloc, engine, owner, text);
+    engine.close_session(Sid { number: 64 });
+    ran
+}
+
+// Opens the session, and runs the statements of a script in it.
+fn run<W: Wrapper>(
+    alloc: Global,
+    engine: &mut Engine<W>,
+    owner: &str,
+    script: &str,
+) -> Result<u64, ScriptFault>
+    requires { IsSound (shown W.meaning engine.old) }
+    ensures sound { IsSound (shown W.meaning engine.new) }
+    ensures runs { Runs (EngineSteps W.meaning) engine.old owner.now (statement_lines script.now) result engine.new }
+{
+    let mut reply = Vec::new(alloc);
+    request(engine, 0, Request::Open(owner), &mut reply)?;
+    let mut rest = Some(script);
+    let mut number = 0;
+    let mut count = 0;
+    while let Some(text) = rest {
+        let (line, after) = next_line(text);
+        rest = after;
+        number += 1;
+        if !is_blank(line) {
+            request(engine, number, Request::Sql(line), &mut reply)?;
+            count += 1;
+        }
+    }
+    Ok(count)
+}
+
+// Does one request of a replay, of the line of this number.
+fn request<W: Wrapper>(
+    engine: &mut Engine<W>,
+    number: u64,
+    request: Request<'_>,
+    reply: &mut Vec<u8>,
+) -> Result<(), ScriptFault>
+    requires { IsSound (shown W.meaning engine.old) }
+    ensures sound { IsSound (shown W.meaning engine.new) }
+    ensures done { OnOk result (IsDone (EngineSteps W.meaning) engine.old (asked request.entry) engine.new) }
+    ensures ends { IfErr result (λ why. Ends (EngineSteps W.meaning) engine.old (number, asked request.entry) why engine.new) }
+{
+    reply.clear();
+    let Ok(()) = engine.request(Sid { number: 64 }, request, reply) else {
+        return Err(ScriptFault::NoMemory);
+    };
+    match refusal_in(reply) {
+        None => Ok(()),
+        Some(Cause::OutOfMemory) => Err(ScriptFault::NoMemory),
+        Some(cause) => Err(ScriptFault::Line(number, cause)),
+    }
+}

@@ -1,0 +1,3 @@
+pub mod CellSteps
+pub mod RowSteps
+pub mod WholeWrites

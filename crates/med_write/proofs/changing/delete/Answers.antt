@@ -1,0 +1,23 @@
+use Rattle.std.proofs.Common.{[], map, ap, ◌∙◌}
+use Rattle.tri_expr.specs.Tree.{tree}
+use Rattle.tri_expr.specs.Meaning.{means}
+use Rattle.med_query.proofs.Telling.{if_ok_then}
+use Rattle.fdw_api.specs.Calls.{row_of}
+use Rattle.med_write.specs.Form.{change_of}
+use Rattle.med_write.specs.Making.{cells_of}
+use Rattle.med_write.proofs.RowSteps.{if_err_then}
+use Rattle.med_write.proofs.WholeWrites.{delete_whole, delete_fails, choice_fails}
+use Rattle.med_write.proofs.changing.delete.Goals as goal
+
+pub returns-in-Ok-clause-ok : goal.returns-in-Ok-clause-ok
+returns-in-Ok-clause-ok c =
+    if_ok_then c.deletes.result _ _
+    (λ v h. delete_whole c.args.columns.now (map tree c.args.conditions.now) (map row_of c.args.rows.items) (map row_of c.as_slice.result.now) (map change_of v.items)
+    (ap (map row_of) c.as_slice.ensures.value ∙ c.in-Ok.ensures.chosen) c.in-Ok.ensures.no_fault h) c.deletes.ensures.ok
+
+pub returns-in-Ok-clause-err : goal.returns-in-Ok-clause-err
+returns-in-Ok-clause-err c =
+    if_err_then c.deletes.result _ _ (λ f h. delete_fails f c.args.columns.now (map tree c.args.conditions.now) (cells_of (map row_of c.args.rows.items)) h) c.deletes.ensures.err
+
+pub returns-in-Err-clause-err : goal.returns-in-Err-clause-err
+returns-in-Err-clause-err c = λ answer. choice_fails c.in-Err.fault c.args.columns.now (means [] (map tree c.args.conditions.now)) [] (map row_of c.args.rows.items) c.in-Err.ensures.told

@@ -1,0 +1,17 @@
+use Rattle.std.proofs.Common.{[], List, map, arith}
+use Rattle.med_value.specs.Datum.{Tuple, tuple}
+use Rattle.tri_expr.specs.Tree.{Tree}
+use Rattle.fdw_api.specs.Kinds.{Inserts}
+use Rattle.med_write.specs.Form.{trees_of, change_of}
+use Rattle.med_write.specs.Writing.{outcomes_on, new_cells}
+use Rattle.med_write.proofs.RowSteps.{makes_more, fault_seen}
+use Rattle.med_write.proofs.making.inserts_of_values.Goals as goal
+
+pub loop-given-preserved : goal.loop-given-preserved
+loop-given-preserved c =
+    makes_more trees_of c.args.columns.now (λ (ts : List Tree). new_cells c.args.places.now (outcomes_on [] ts)) (λ (ts : List Tree) (row : Tuple). Inserts row) c.args.tuples.now c.loop-given.given-index c.given-item.result (map change_of c.loop-given.out.items) (map change_of c.push_change.new.out.items) (tuple c.in-Ok.row)
+    (omega arith) c.given-item.is (rw c.as_slice.ensures.value at c.in-Ok.ensures.ok) c.in_ok-push_change.ensures.ok c.loop-given.invariant
+
+pub returns-in-Err-clause-err : goal.returns-in-Err-clause-err
+returns-in-Err-clause-err c =
+    fault_seen trees_of c.in-Err.fault c.args.columns.now (λ (ts : List Tree). new_cells c.args.places.now (outcomes_on [] ts)) c.args.tuples.now c.loop-given.given-index c.given-item.result (omega arith) c.given-item.is (rw c.as_slice.ensures.value at c.in-Err.ensures.err)

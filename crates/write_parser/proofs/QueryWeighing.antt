@@ -1,0 +1,202 @@
+-- The height of a statement's expressions is bounded by its heavy terminals.
+use Rattle.std.proofs.Common.{◌≡◌, ℕ, ◌+◌, ◌*◌, ◌≤◌, ◌<◌, ◌⊎◌, inl, inr, Bool, true, false, cond, List, [], ◌∷◌, ◌++◌, refl, sym, ◌∙◌, ap, subst, arith, codes}
+use Rattle.std.specs.Prelude.{Result, Ok, Err, Some, None, nat_le, count_by}
+use Rattle.std.proofs.lemmas.Bool.{le-leb, lt-leb}
+use Rattle.expr_grammar.specs.declared.refusal.Refusal.{Refusal}
+use Rattle.expr_grammar.specs.declared.refusal.Refusal.TheVariants.{Syntax, TooHigh}
+use Rattle.std.proofs.lemmas.List.Recursion.{is_count_by}
+use Rattle.med_lexer.specs.Lexemes.{Shape, word, quoted, literal, number, mark}
+use Rattle.query_grammar.specs.declared.query_symbols.Place.{Place}
+use Rattle.expr_grammar.specs.Shapes.{deepens}
+use Rattle.expr_grammar.specs.ExprTerminals.{follows, terminal_at}
+use Rattle.query_grammar.specs.QueryTerminals.{is_one_of, keywords_at, word_at, words_at, place_behind}
+use Rattle.med_syntax.specs.Terminal.{Terminal}
+use Rattle.med_syntax.specs.Terminal as t
+use Rattle.med_syntax.specs.ExprTree.{ExprTree, height, IsExpr}
+use Rattle.expr_grammar.specs.ExprWeight.{is_heavy, weight, again, judged}
+use Rattle.med_syntax.specs.QueryTree.{ItemTree, all, all_of, value, EntryTree, inner_join, left_join, cross_join, SelectTree, StatementTree, select, item_height, join_height, chain_height, key_height, highest_of, condition_height, select_height, statement_height}
+use Rattle.query_grammar.specs.QueryGrammar.{keywords, SpellsOthers, SpellsList, SpellsItem, SpellsOn, SpellsJoin, SpellsJoins, SpellsChain, SpellsKey, SpellsPerhaps, SpellsListed, SpellsExpr, SpellsSelect, Spells, IsLine}
+use Rattle.query_reader.specs.QueryReading.{line_of, bounded_line}
+use Rattle.expr_grammar.proofs.ExprChains.{low_or_high}
+use Rattle.expr_grammar.proofs.ExprSound.{ok_same}
+use Rattle.expr_grammar.proofs.ExprWeighing.{weight_append, weight_more, weight_step, heavy_at, deep, bound}
+use Rattle.query_grammar.proofs.QueryKeywords.{keyword_name}
+use Rattle.query_reader.proofs.QueryComplete.{reads_line, refuses_line}
+use Rattle.query_reader.proofs.QuerySound.{line_sound}
+
+pub expr_bound : (ts : List Terminal) (e : ExprTree) → IsExpr ts e → height e ≤ 7 * weight ts + 7
+expr_bound ts e x = omega (arith, bound e x.fits, ap weight x.spelled)
+
+item_bound : (x : ItemTree) (ts : List Terminal) → SpellsItem x ts → item_height x ≤ 7 * weight ts + 7
+item_bound all ts s = omega arith
+item_bound (all_of q) ts s = omega arith
+item_bound (value e label) ts s = omega (arith, expr_bound s.0 e s.3, ap weight s.2, weight_append s.0 s.1)
+
+-- what is spelled by few heavy terminals is not high
+abbrev pub Bounded : {X : Type 0} → (X → List Terminal → Type 0) → (X → ℕ) → Type 0
+Bounded {X} Spelling high = (x : X) (ts : List Terminal) → Spelling x ts → high x ≤ 7 * weight ts + 7
+
+pub others_bound : {X : Type 0} (Spelling : X → List Terminal → Type 0) (high : X → ℕ) → Bounded Spelling high → Bounded (SpellsOthers Spelling) (highest_of high)
+others_bound Spelling high item [] ts s = omega arith
+others_bound Spelling high item (x ∷ xs) ts s = omega (arith, item x s.0 s.3, others_bound Spelling high item xs s.1 s.4, ap weight s.2, weight_append s.0 s.1, weight_more t.Comma (s.0 ++ s.1))
+
+pub list_bound : {X : Type 0} (Spelling : X → List Terminal → Type 0) (high : X → ℕ) → Bounded Spelling high → Bounded (SpellsList Spelling) (highest_of high)
+list_bound Spelling high item [] ts s = absurd s
+list_bound Spelling high item (x ∷ xs) ts s = omega (arith, item x s.0 s.3, others_bound Spelling high item xs s.1 s.4, ap weight s.2, weight_append s.0 s.1)
+
+pub listed_bound : {X : Type 0} (words : List (List ℕ)) (Spelling : X → List Terminal → Type 0) (high : X → ℕ) → Bounded Spelling high → Bounded (SpellsListed words Spelling) (highest_of high)
+listed_bound words Spelling high item [] ts s = omega arith
+listed_bound words Spelling high item (x ∷ xs) ts s = omega (arith, list_bound Spelling high item (x ∷ xs) s.0 s.2, ap weight s.1, weight_append (keywords words) s.0)
+
+pub condition_bound : (words : List (List ℕ)) → Bounded (SpellsPerhaps words SpellsExpr) condition_height
+condition_bound words None ts s = omega arith
+condition_bound words (Some e) ts s = omega (arith, expr_bound s.0 e s.2, ap weight s.1, weight_append (keywords words) s.0)
+
+on_bound : (e : EntryTree) (on : ExprTree) (ts : List Terminal) → SpellsOn e on ts → height on ≤ 7 * weight ts + 7
+on_bound e on ts s = omega (arith, expr_bound s.1 on s.4, ap weight s.2, weight_append s.0 (t.Reserved (codes "on") ∷ s.1), weight_more (t.Reserved (codes "on")) s.1)
+
+join_bound : Bounded SpellsJoin join_height
+join_bound (inner_join e on) ts s = omega (arith, on_bound e on s.1 s.4, ap weight s.2, weight_append s.0 s.1)
+join_bound (left_join e on) ts s = omega (arith, on_bound e on s.1 s.4, ap weight s.2, weight_append s.0 s.1)
+join_bound (cross_join e) ts s = omega arith
+
+joins_bound : Bounded SpellsJoins (highest_of join_height)
+joins_bound [] ts s = omega arith
+joins_bound (x ∷ xs) ts s = omega (arith, join_bound x s.0 s.3, joins_bound xs s.1 s.4, ap weight s.2, weight_append s.0 s.1)
+
+chain_bound : Bounded SpellsChain chain_height
+chain_bound c ts s = omega (arith, joins_bound c.joins s.1 s.4, ap weight s.2, weight_append s.0 s.1)
+
+key_bound : Bounded SpellsKey key_height
+key_bound k ts s = omega (arith, expr_bound s.0 k.key s.4, ap weight s.3, weight_append s.0 (s.1 ++ s.2))
+
+-- each part weighs no more than the whole
+behind_bound : (u : Terminal) (a b c d e f g h : List Terminal) →
+    (weight b ≤ weight (u ∷ (a ++ (b ++ (c ++ (d ++ (e ++ (f ++ (g ++ h)))))))))
+    × (weight c ≤ weight (u ∷ (a ++ (b ++ (c ++ (d ++ (e ++ (f ++ (g ++ h)))))))))
+    × (weight d ≤ weight (u ∷ (a ++ (b ++ (c ++ (d ++ (e ++ (f ++ (g ++ h)))))))))
+    × (weight f ≤ weight (u ∷ (a ++ (b ++ (c ++ (d ++ (e ++ (f ++ (g ++ h)))))))))
+    × (weight g ≤ weight (u ∷ (a ++ (b ++ (c ++ (d ++ (e ++ (f ++ (g ++ h)))))))))
+behind_bound u a b c d e f g h =
+    let w1 = weight_more u (a ++ (b ++ (c ++ (d ++ (e ++ (f ++ (g ++ h))))))) in
+    let w2 = weight_append a (b ++ (c ++ (d ++ (e ++ (f ++ (g ++ h)))))) in
+    let w3 = weight_append b (c ++ (d ++ (e ++ (f ++ (g ++ h))))) in
+    let w4 = weight_append c (d ++ (e ++ (f ++ (g ++ h)))) in
+    let w5 = weight_append d (e ++ (f ++ (g ++ h))) in
+    let w6 = weight_append e (f ++ (g ++ h)) in
+    let w7 = weight_append f (g ++ h) in
+    let w8 = weight_append g h in
+    (omega (arith, w1, w2, w3), omega (arith, w1, w2, w3, w4), omega (arith, w1, w2, w3, w4, w5), omega (arith, w1, w2, w3, w4, w5, w6, w7), omega (arith, w1, w2, w3, w4, w5, w6, w7, w8))
+
+select_bound : (q : SelectTree) (ts : List Terminal) → SpellsSelect q ts → select_height q ≤ 7 * weight ts + 7
+select_bound q ts s =
+    let w = behind_bound (t.Reserved (codes "select")) s.quantifier s.items s.from s.condition s.groups s.having s.keys s.limits in
+    let same = ap weight s.is in
+    let items = list_bound SpellsItem item_height item_bound q.items s.items s.answered in
+    let from = listed_bound (codes "from" ∷ []) SpellsChain chain_height chain_bound q.from s.from s.joined in
+    let condition = condition_bound (codes "where" ∷ []) q.condition s.condition s.filtered in
+    let having = condition_bound (codes "having" ∷ []) q.having s.having s.kept in
+    let keys = listed_bound (codes "order" ∷ codes "by" ∷ []) SpellsKey key_height key_bound q.keys s.keys s.ordered in
+    omega (arith, w.0, w.1, w.2, w.3, w.4, same, items, from, condition, having, keys)
+
+statement_bound : (s : StatementTree) (ts : List Terminal) → Spells s ts → statement_height s ≤ 7 * weight ts + 7
+statement_bound (select q) ts s = select_bound q ts s
+
+line_bound : (ts : List Terminal) (s : StatementTree) → IsLine ts s → statement_height s ≤ 7 * weight ts + 7
+line_bound ts s x = omega (arith, statement_bound s x.0 x.3, ap weight x.2, weight_append x.0 x.1)
+
+-- ---- what tokens weigh in a statement
+
+same_heavy : (at : Place) (b : Bool) (s : Shape) → is_heavy (word_at at b s) ≡ is_heavy (terminal_at b s)
+same_heavy at b (word w) =
+    let go : (k : Bool) → is_one_of (keywords_at at) w ≡ k → is_heavy (cond k (t.Reserved w) (terminal_at b (word w))) ≡ is_heavy (terminal_at b (word w)) = elim [
+      | true ↦ (λ h. sym (ap is_heavy (keyword_name at w h b)))
+      | false ↦ (λ h. refl)
+    ]
+    in go (is_one_of (keywords_at at) w) refl
+same_heavy at b (quoted q) = refl
+same_heavy at b (literal x) = refl
+same_heavy at b (number d) = refl
+same_heavy at b (mark m) = refl
+
+words_deep : (at : Place) (b : Bool) (ss : List Shape) → weight (words_at at b ss) ≡ deep ss
+words_deep at b [] = refl
+words_deep at b (s ∷ ss) =
+    weight_step (is_heavy (word_at at b s)) (deepens s) (weight (words_at (place_behind at (word_at at b s)) (follows b (word_at at b s)) ss)) (deep ss) (same_heavy at b s ∙ heavy_at b s)
+    (words_deep (place_behind at (word_at at b s)) (follows b (word_at at b s)) ss)
+
+pub words_weigh : (at : Place) (b : Bool) (ss : List Shape) → weight (words_at at b ss) ≡ count_by deepens ss
+words_weigh at b ss = words_deep at b ss ∙ is_count_by deep deepens refl (λ s ss. refl) ss
+
+-- ---- what the bounded reader gives
+
+judged_high : (ts : List Terminal) → line_of 64 ts ≡ Err TooHigh → bounded_line ts ≡ cond (nat_le (weight ts) 64) (again (line_of 455 ts)) (Err TooHigh)
+unfolding bounded_line
+judged_high ts h = rw h refl
+
+bounded_reads : (ts : List Terminal) (s : StatementTree) → IsLine ts s → statement_height s ≤ 64 → bounded_line ts ≡ Ok s
+unfolding bounded_line
+bounded_reads ts s x low = rw (reads_line 64 ts s x low) refl
+
+bounded_high : (ts : List Terminal) (s : StatementTree) → IsLine ts s → 64 < statement_height s → bounded_line ts ≡ Err TooHigh
+bounded_high ts s x high =
+    judged_high ts (refuses_line 64 ts s x high) ∙ elim (low_or_high (weight ts) 64) [
+      | inl h ↦ rw (le-leb (weight ts) 64 h) (ap again (reads_line 455 ts s x (omega (arith, line_bound ts s x, h))))
+      | inr h ↦ rw (lt-leb (weight ts) 64 h) refl
+    ]
+
+pub bounded_sound : (ts : List Terminal) (s : StatementTree) → bounded_line ts ≡ Ok s → IsLine ts s × (statement_height s ≤ 64)
+unfolding bounded_line
+bounded_sound ts s g =
+    let again_no : (r : Result StatementTree Refusal) → ◌≡◌ {A = Result StatementTree Refusal} (again r) (Ok s) → ⊥ = elim [ Ok x ↦ (λ h. absurd (cc)) | Err f ↦ (λ h. absurd (cc)) ] in
+    let few_no : (b : Bool) → ◌≡◌ {A = Result StatementTree Refusal} (cond b (again (line_of 455 ts)) (Err TooHigh)) (Ok s) → ⊥ = elim [ true ↦ again_no (line_of 455 ts) | false ↦ (λ h. absurd (cc)) ] in
+    let go : (r : Result StatementTree Refusal) → line_of 64 ts ≡ r → judged (nat_le (weight ts) 64) r (line_of 455 ts) ≡ Ok s → IsLine ts s × (statement_height s ≤ 64) = elim [
+      | Ok d ↦ (λ p q. subst (λ y. IsLine ts y × (statement_height y ≤ 64)) (ok_same d s q) (line_sound 64 ts d p))
+      | Err Syntax ↦ (λ p q. absurd (cc))
+      | Err TooHigh ↦ (λ p q. absurd (few_no (nat_le (weight ts) 64) q))
+    ]
+    in go (line_of 64 ts) refl g
+
+-- what is refused as no statement is none
+pub bounded_out : (ts : List Terminal) → bounded_line ts ≡ Err Syntax → (s : StatementTree) → IsLine ts s → ⊥
+bounded_out ts g s x =
+    elim (low_or_high (statement_height s) 64) [
+      | inl h ↦ (let p : ◌≡◌ {A = Result StatementTree Refusal} (Ok s) (Err Syntax) = sym (bounded_reads ts s x h) ∙ g in absurd (cc))
+      | inr h ↦ (let p : ◌≡◌ {A = Result StatementTree Refusal} (Err TooHigh) (Err Syntax) = sym (bounded_high ts s x h) ∙ g in absurd (cc))
+    ]
+
+wide_told : (ts : List Terminal) → ((s : StatementTree) → IsLine ts s → ⊥) → (w : Result StatementTree Refusal) → line_of 455 ts ≡ w → again w ≡ Err TooHigh → ⊥
+wide_told ts outside (Ok d) p h = outside d (line_sound 455 ts d p).0
+wide_told ts outside (Err f) p h = absurd (let bad : ◌≡◌ {A = Result StatementTree Refusal} (Err Syntax) (Err TooHigh) = h in cc)
+
+few_told : (ts : List Terminal) → ((s : StatementTree) → IsLine ts s → ⊥) → (r : Result StatementTree Refusal) → judged true r (line_of 455 ts) ≡ Err TooHigh → ⊥
+few_told ts outside (Ok d) h = absurd (cc)
+few_told ts outside (Err Syntax) h = absurd (let bad : ◌≡◌ {A = Result StatementTree Refusal} (Err Syntax) (Err TooHigh) = h in cc)
+few_told ts outside (Err TooHigh) h = wide_told ts outside (line_of 455 ts) refl h
+
+many_of : (ts : List Terminal) → ((s : StatementTree) → IsLine ts s → ⊥) → bounded_line ts ≡ Err TooHigh → 64 < weight ts
+unfolding bounded_line
+many_of ts outside g =
+    elim (low_or_high (weight ts) 64) [
+      | inl h ↦ absurd (few_told ts outside (line_of 64 ts) (ap (λ b. judged b (line_of 64 ts) (line_of 455 ts)) (sym (le-leb (weight ts) 64 h)) ∙ g))
+      | inr h ↦ h
+    ]
+
+high_of : (ts : List Terminal) (d : StatementTree) → IsLine ts d → bounded_line ts ≡ Err TooHigh → 64 < statement_height d
+high_of ts d x g =
+    elim (low_or_high (statement_height d) 64) [
+      | inl h ↦ absurd (let p : ◌≡◌ {A = Result StatementTree Refusal} (Ok d) (Err TooHigh) = sym (bounded_reads ts d x h) ∙ g in cc)
+      | inr h ↦ h
+    ]
+
+-- what is refused as too high has an expression that is so, or is no statement and has many heavy terminals
+pub bounded_told : (ts : List Terminal) → bounded_line ts ≡ Err TooHigh → ((s : StatementTree) × IsLine ts s × (64 < statement_height s)) ⊎ (((s : StatementTree) → IsLine ts s → ⊥) × (64 < weight ts))
+bounded_told ts g =
+    let room : ℕ = 7 * weight ts + 7 in
+    let go : (r : Result StatementTree Refusal) → line_of room ts ≡ r → ((s : StatementTree) × IsLine ts s × (64 < statement_height s)) ⊎ (((s : StatementTree) → IsLine ts s → ⊥) × (64 < weight ts)) = elim [
+      | Ok d ↦ (λ p. let x = (line_sound room ts d p).0 in inl (d, x, high_of ts d x g))
+      | Err f ↦ (λ p.
+          let outside : (s : StatementTree) → IsLine ts s → ⊥ = λ s x. (let q : ◌≡◌ {A = Result StatementTree Refusal} (Ok s) (Err f) = sym (reads_line room ts s x (line_bound ts s x)) ∙ p in absurd (cc)) in
+          inr (outside, many_of ts outside g))
+    ]
+    in go (line_of room ts) refl

@@ -1,0 +1,38 @@
+use Rattle.std.proofs.Common.{ap, ◌∙◌, List, [], ◌∷◌, ◌++◌, Bor, map}
+use Rattle.std.proofs.lemmas.Result.{err_from_is_err_and}
+use Rattle.expr_grammar.specs.declared.symbols.Symbol.{Symbol}
+use Rattle.expr_grammar.specs.SymbolView.{terminals_of}
+use Rattle.med_syntax.specs.declared.expr.Expr.{Expr}
+use Rattle.expr_grammar.specs.ExprReading.{below}
+use Rattle.med_syntax.specs.ExprView.{expr_tree}
+use Rattle.query_grammar.specs.QueryGrammar.{SpellsExpr}
+use Rattle.med_syntax.specs.ExprTree.{height}
+use Rattle.query_reader.proofs.PartSound.{expr_sound}
+use Rattle.query_reader.proofs.QueryLoop.{list_start, list_end, list_failed, list_unstarted, parts_more, parts_shorter}
+use Rattle.write_parser.proofs.write_lists.expr_list.Goals as goal
+
+pub returns-in_err-first : goal.returns-in_err-first
+returns-in_err-first c =
+    let p = err_from_is_err_and c.from_residual.result c.from_residual.ensures.1 in
+    list_unstarted (λ x. (map expr_tree x.0.items, terminals_of x.1.now)) (λ (x : Expr × Bor (List Symbol)). (expr_tree x.0, terminals_of x.1.now)) (below c.args.room).whole (terminals_of c.args.symbols.now) c.in_err-first.field-0.0 c.from_residual.result c.in_err-first.ensures (cc)
+
+pub loop-after-init : goal.loop-after-init
+loop-after-init c =
+    list_start (below c.args.room).whole (terminals_of c.args.symbols.now) (expr_tree c.in_ok-first.first) (map expr_tree c.push.new.self.items) (terminals_of c.in_ok-first.behind_first.now) c.in_ok-first.ensures
+    (ap (map expr_tree) (c.in_ok-push.ensures.items ∙ ap (λ l. l ++ c.in_ok-first.first ∷ []) c.new-list.ensures.items))
+
+pub returns-in_err-next : goal.returns-in_err-next
+returns-in_err-next c =
+    let p = err_from_is_err_and c.from_residual-in_err-next.result c.from_residual-in_err-next.ensures.1 in
+    list_failed (λ x. (map expr_tree x.0.items, terminals_of x.1.now)) (λ (x : Expr × Bor (List Symbol)). (expr_tree x.0, terminals_of x.1.now)) (below c.args.room).whole (terminals_of c.args.symbols.now) (map expr_tree c.loop-after.list.items) (terminals_of c.loop-after.rest.now) (terminals_of c.in-Some.after.now) c.in_err-next.field-0.0 c.from_residual-in_err-next.result
+    c.loop-after.invariant c.in-Some.ensures c.in_err-next.ensures (cc)
+
+pub loop-after-smaller : goal.loop-after-smaller
+loop-after-smaller c = parts_shorter SpellsExpr height c.args.room (below c.args.room).whole (expr_sound c.args.room) (terminals_of c.loop-after.rest.now) (terminals_of c.in-Some.after.now) (expr_tree c.in_ok-next.next) (terminals_of c.in_ok-next.more.now) c.in-Some.ensures c.in_ok-next.ensures
+
+pub loop-after-preserved : goal.loop-after-preserved
+loop-after-preserved c =
+    parts_more SpellsExpr height c.args.room (below c.args.room).whole (expr_sound c.args.room) expr_tree (terminals_of c.args.symbols.now) c.loop-after.list.items c.push-in-Some.new.self.items c.in_ok-next.next (terminals_of c.loop-after.rest.now) (terminals_of c.in-Some.after.now) (terminals_of c.in_ok-next.more.now) c.loop-after.invariant c.in-Some.ensures c.in_ok-next.ensures c.in_ok-push-2.ensures.items
+
+pub returns : goal.returns
+returns c = list_end (below c.args.room).whole (terminals_of c.args.symbols.now) (map expr_tree c.loop-after.list.items) (terminals_of c.loop-after.rest.now) c.loop-after.invariant c.in_default.ensures

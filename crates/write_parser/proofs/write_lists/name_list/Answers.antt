@@ -1,0 +1,39 @@
+use Rattle.std.proofs.Common.{ap, ◌∙◌, List, [], ◌∷◌, ◌++◌, Bor, map}
+use Rattle.std.proofs.lemmas.Result.{err_from_is_err_and}
+use Rattle.expr_grammar.specs.declared.symbols.Symbol.{Symbol}
+use Rattle.expr_grammar.specs.SymbolView.{terminals_of}
+use Rattle.std.proofs.Common.{Global}
+use Rattle.std.specs.Prelude.{String}
+use Rattle.query_reader.specs.QueryReading.{read_name}
+use Rattle.std.specs.String.{string_bytes}
+use Rattle.write_parser.specs.WriteGrammar.{SpellsName}
+use Rattle.query_reader.proofs.PartSound.{flat}
+use Rattle.write_parser.proofs.WriteSound.{name_sound}
+use Rattle.query_reader.proofs.QueryLoop.{list_start, list_end, list_failed, list_unstarted, parts_more, parts_shorter}
+use Rattle.write_parser.proofs.write_lists.name_list.Goals as goal
+
+pub returns-in_err-first : goal.returns-in_err-first
+returns-in_err-first c =
+    let p = err_from_is_err_and c.from_residual.result c.from_residual.ensures.1 in
+    list_unstarted (λ x. (map string_bytes x.0.items, terminals_of x.1.now)) (λ (x : String Global × Bor (List Symbol)). (string_bytes x.0, terminals_of x.1.now)) read_name (terminals_of c.args.symbols.now) c.in_err-first.field-0.0 c.from_residual.result c.in_err-first.ensures (cc)
+
+pub loop-after-init : goal.loop-after-init
+loop-after-init c =
+    list_start read_name (terminals_of c.args.symbols.now) (string_bytes c.in_ok-first.first) (map string_bytes c.push.new.self.items) (terminals_of c.in_ok-first.behind_first.now) c.in_ok-first.ensures
+    (ap (map string_bytes) (c.in_ok-push.ensures.items ∙ ap (λ l. l ++ c.in_ok-first.first ∷ []) c.new-list.ensures.items))
+
+pub returns-in_err-next : goal.returns-in_err-next
+returns-in_err-next c =
+    let p = err_from_is_err_and c.from_residual-in_err-next.result c.from_residual-in_err-next.ensures.1 in
+    list_failed (λ x. (map string_bytes x.0.items, terminals_of x.1.now)) (λ (x : String Global × Bor (List Symbol)). (string_bytes x.0, terminals_of x.1.now)) read_name (terminals_of c.args.symbols.now) (map string_bytes c.loop-after.list.items) (terminals_of c.loop-after.rest.now) (terminals_of c.in-Some.after.now) c.in_err-next.field-0.0 c.from_residual-in_err-next.result
+    c.loop-after.invariant c.in-Some.ensures c.in_err-next.ensures (cc)
+
+pub loop-after-smaller : goal.loop-after-smaller
+loop-after-smaller c = parts_shorter SpellsName flat 0 read_name name_sound (terminals_of c.loop-after.rest.now) (terminals_of c.in-Some.after.now) (string_bytes c.in_ok-next.next) (terminals_of c.in_ok-next.more.now) c.in-Some.ensures c.in_ok-next.ensures
+
+pub loop-after-preserved : goal.loop-after-preserved
+loop-after-preserved c =
+    parts_more SpellsName flat 0 read_name name_sound string_bytes (terminals_of c.args.symbols.now) c.loop-after.list.items c.push-in-Some.new.self.items c.in_ok-next.next (terminals_of c.loop-after.rest.now) (terminals_of c.in-Some.after.now) (terminals_of c.in_ok-next.more.now) c.loop-after.invariant c.in-Some.ensures c.in_ok-next.ensures c.in_ok-push-2.ensures.items
+
+pub returns : goal.returns
+returns c = list_end read_name (terminals_of c.args.symbols.now) (map string_bytes c.loop-after.list.items) (terminals_of c.loop-after.rest.now) c.loop-after.invariant c.in_default.ensures

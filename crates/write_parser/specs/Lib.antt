@@ -1,0 +1,3 @@
+pub mod WriteGrammar
+pub mod WriteReading
+pub mod WriteCauses

@@ -1,0 +1,2 @@
+pub mod WriteTree
+pub mod WriteView
