@@ -1,5 +1,5 @@
 -- A query over the tables that its entries name is the query over all tables of the catalogue.
-use Rattle.std.proofs.Common.{◌≡◌, ◌⊎◌, ◌<◌, inl, inr, ℕ, true, List, [], ◌∷◌, ◌++◌, Contains, Vec, map, flat_map, string_bytes, Result, Ok, Err, IfErr, refl, sym, ap, ◌∙◌, subst, arith}
+use Rattle.std.proofs.Common.{◌≡◌, ◌⊎◌, inl, inr, ℕ, true, List, [], ◌∷◌, Contains, map, flat_map, string_bytes, Result, Ok, Err, IfErr, refl, sym, ap, ◌∙◌, subst, arith}
 use Rattle.std.proofs.lemmas.List.Elements.{Contains-append_left}
 use Rattle.med_value.specs.declared.cause.Cause.{Cause}
 use Rattle.med_value.specs.declared.cause.Cause.TheVariants.{OutOfMemory}
@@ -12,16 +12,14 @@ use Rattle.bind_names.specs.Scope.{TableShape, entries_of, entry_place}
 use Rattle.bind_names.specs.Naming.{entry_causes, alias_causes, from_causes, asked_causes, once_known, select_name_causes, NameCauses}
 use Rattle.bind_names.specs.Scope.{exposed_name}
 use Rattle.bind_names.specs.Telling.{Tells}
-use Rattle.bind_names.specs.Meaning.{meant_in}
-use Rattle.bind_types.specs.Typing.{select_type_causes, TypeCauses}
-use Rattle.med_binder.specs.Binding.{IsMeant, IsBound, BindCauses, BindTells}
-use Rattle.med_binder.specs.declared.bound.BoundEntry.{BoundEntry}
+use Rattle.bind_types.specs.Typing.{select_type_causes}
+use Rattle.med_binder.specs.Binding.{IsBound, BindCauses, BindTells}
 use Rattle.med_binder.specs.declared.bound.Bound.{Bound}
 use Rattle.pushdown.specs.Offered as offered
 use Rattle.med_catalog.specs.Objects.{Objects, table_named}
 use Rattle.bind_catalog.specs.Tables.{shapes}
 use Rattle.bind_catalog.specs.Barred.{reading_causes, table_causes, query_right_causes}
-use Rattle.bind_catalog.specs.Queries.{meant_by, QueryNames, QueryTypes}
+use Rattle.bind_catalog.specs.Queries.{QueryNames, QueryTypes}
 use Rattle.bind_catalog.specs.Places.{Attached, ArePlaces}
 use Rattle.bind_catalog.specs.Looked.{gathered_shape, AreEntriesAt, IsBoundOver, IsToldOver, BindsOver}
 use Rattle.bind_catalog.proofs.Seen.{SeesAll, form_same, names_same, name_causes_same, type_causes_same}

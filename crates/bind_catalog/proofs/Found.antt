@@ -1,5 +1,5 @@
 -- Tables by their names: those that are gathered for the entries are what the whole list has.
-use Rattle.std.proofs.Common.{◌≡◌, ◌⊎◌, inl, inr, ℕ, suc, ◌+◌, Bool, true, false, cond, List, [], ◌∷◌, ◌++◌, Option, Some, None, length, map, flat_map, find, unwrap_or, bytes_eq, slice_get, if◌then◌else◌, refl, sym, ap, ◌∙◌}
+use Rattle.std.proofs.Common.{◌≡◌, ◌⊎◌, inl, inr, ℕ, suc, Bool, true, false, cond, List, [], ◌∷◌, ◌++◌, Option, Some, None, map, flat_map, find, unwrap_or, bytes_eq, slice_get, if◌then◌else◌, refl, sym, ap, ◌∙◌}
 use Rattle.std.specs.Option.{option_map, option_and_then, is_some}
 use Rattle.std.proofs.lemmas.Slice.Eq.{bytes_eq-Decides}
 use Rattle.med_value.specs.Column.{Column}
@@ -7,7 +7,7 @@ use Rattle.med_value.specs.declared.cause.Cause.{Cause}
 use Rattle.med_value.specs.declared.cause.Cause.TheVariants.{UndefinedTable}
 use Rattle.med_syntax.specs.Tree.{Name}
 use Rattle.med_syntax.specs.QueryTree.{EntryTree}
-use Rattle.bind_names.specs.Scope.{TableShape, place_from, place_named, table_named, is_known, entry_columns}
+use Rattle.bind_names.specs.Scope.{TableShape, place_from, table_named, is_known}
 use Rattle.bind_names.specs.Naming.{entry_causes}
 use Rattle.bind_catalog.specs.Looked.{gathered_shape}
 use Rattle.bind_catalog.proofs.Seen.{Sees, SeesAll}
@@ -107,9 +107,10 @@ sees_one full es e i k =
 
 sees_those : (full : List TableShape) (es ds : List EntryTree) → ((e : EntryTree) → IsIn e ds → IsIn e es) → flat_map (entry_causes full) ds ≡ [] → SeesAll (map (gathered_shape full) es) full ds
 sees_those full es [] f k = tt
-sees_those full es (d ∷ ds) f k =
-    (sees_one full es d (f d (inl refl)) (left_empty (entry_causes full d) (flat_map (entry_causes full) ds) k),
-     sees_those full es ds (λ e i. f e (inr i)) (right_empty (entry_causes full d) (flat_map (entry_causes full) ds) k))
+sees_those full es (d ∷ ds) f k = (
+  sees_one full es d (f d (inl refl)) (left_empty (entry_causes full d) (flat_map (entry_causes full) ds) k),
+  sees_those full es ds (λ e i. f e (inr i)) (right_empty (entry_causes full d) (flat_map (entry_causes full) ds) k),
+)
 
 -- the tables of the entries, each known, are seen as among all tables
 pub sees_gathered : (full : List TableShape) (es : List EntryTree) → flat_map (entry_causes full) es ≡ [] → SeesAll (map (gathered_shape full) es) full es

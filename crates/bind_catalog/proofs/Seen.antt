@@ -1,15 +1,12 @@
 -- What a query means, and which causes stand against it, depend on the tables of its entries alone.
-use Rattle.std.proofs.Common.{◌≡◌, ◌⊎◌, inl, inr, ℕ, suc, ◌+◌, Bool, true, false, List, [], ◌∷◌, ◌++◌, Option, Some, None, length, map, flat_map, unwrap_or, bytes_eq, slice_get, if◌then◌else◌, refl, sym, ap, ◌∙◌}
-use Rattle.std.specs.Option.{option_map, option_and_then, is_some}
-use Rattle.std.proofs.lemmas.Slice.Eq.{bytes_eq-Decides}
+use Rattle.std.proofs.Common.{◌≡◌, ℕ, suc, ◌+◌, Bool, List, [], ◌∷◌, ◌++◌, length, map, flat_map, unwrap_or, if◌then◌else◌, refl, ap, ◌∙◌}
 use Rattle.med_value.specs.Column.{Column}
 use Rattle.med_value.specs.declared.cause.Cause.{Cause}
 use Rattle.med_value.specs.declared.cause.Cause.TheVariants.{UndefinedTable}
-use Rattle.med_syntax.specs.Tree.{Name}
 use Rattle.med_syntax.specs.QueryTree.{EntryTree, JoinTree, ChainTree, SelectTree}
-use Rattle.med_query.specs.Form.{JoinForm, ChainForm, Form}
-use Rattle.bind_names.specs.Scope.{TableShape, Scope, place_from, place_named, table_named, is_known, entry_columns, entry_shape, joined_entry, chain_entries, entries_of, exposed_name, from_scope}
-use Rattle.bind_names.specs.Meaning.{Output, outputs_of, conditions_of, group_meant, key_meant, key_direction, rows_left, Meant, with_join, join_meant, joins_meant, chain_meant, chains_meant, meant_in}
+use Rattle.med_query.specs.Form.{ChainForm, Form}
+use Rattle.bind_names.specs.Scope.{TableShape, Scope, is_known, entry_columns, entry_shape, joined_entry, chain_entries, entries_of, exposed_name, from_scope}
+use Rattle.bind_names.specs.Meaning.{Output, outputs_of, conditions_of, group_meant, key_meant, key_direction, rows_left, with_join, join_meant, joins_meant, chain_meant, chains_meant, meant_in}
 use Rattle.bind_names.specs.Naming.{entry_causes, alias_causes, from_causes, joins_name_causes, on_name_causes, chain_name_causes, asked_causes, item_name_causes, condition_name_causes, group_name_causes, key_name_causes, once_known, select_name_causes}
 use Rattle.bind_types.specs.Typing.{joins_type_causes, on_type_causes, chain_type_causes, item_type_causes, condition_type_causes, key_type_causes, written_type_causes, form_causes, select_type_causes}
 

@@ -1,5 +1,5 @@
 -- What looking up the tables of FROM in a catalogue answers.
-use Rattle.std.specs.Prelude.{◌≡◌, ◌⊎◌, List, [], map, flat_map, Contains, true, length, Result, Ok, Err, Vec}
+use Rattle.std.specs.Prelude.{◌≡◌, ◌⊎◌, List, [], map, flat_map, Contains, true, Result, Ok, Err, Vec}
 use Rattle.med_value.specs.declared.cause.Cause.{Cause}
 use Rattle.med_value.specs.declared.cause.Cause.TheVariants.{OutOfMemory}
 use Rattle.med_syntax.specs.Tree.{Name}
@@ -56,7 +56,8 @@ pub record IsBoundOver (o : Objects) (bound : List Attached) (user : Name) (q : 
 
 -- what is told: of names or rights, or of types where none of both stands
 pub record IsToldOver (o : Objects) (user : Name) (q : SelectTree) (c : Cause) : Type 0 where
-  pub told : (c ≡ OutOfMemory) ⊎ (QueryNames o user q c ⊎ (Contains (select_type_causes (shapes o) q) c × ((d : Cause) → QueryNames o user q d → ⊥)))
+  pub told : (c ≡ OutOfMemory)
+      ⊎ (QueryNames o user q c ⊎ (Contains (select_type_causes (shapes o) q) c × ((d : Cause) → QueryNames o user q d → ⊥)))
 
 abbrev pub BindsOver : Objects → List Attached → Name → SelectTree → Result Bound Cause → Type 0
 BindsOver o bound user q (Ok b) = IsBoundOver o bound user q b

@@ -57,11 +57,13 @@ fn bind_over(
     })
 }
 
-/// What a statement means over the tables of the catalogue, or why this user may not have it answered (SQL:2016, 7.16 <query specification>).
+/// What a statement means over the tables of the catalogue, or why this user may not have it answered (SQL:2016, 7.16
+/// <query specification>).
 ///
 /// Each entry of FROM stands for the table of its name in the catalogue, and is read where `bound` says: a place for each table, in their
 /// order. 42704 where the user, the owner too, has no mapping on the server of one; then names and types as in `med_binder::bind`, types
-/// where no cause of names or rights stands. It takes time by the entries, however many tables there are; and 53200 where memory was refused.
+/// where no cause of names or rights stands. It takes time by the entries, however many tables there are; and 53200 where memory was
+/// refused.
 pub fn bind(
     alloc: Global,
     statement: &Statement,
@@ -76,13 +78,16 @@ pub fn bind(
     // It means the statement.
     ensures meant { IfOk result (λ b. IsMeant (meant_by (objects catalog.now) (query_in (statement_tree statement.now))) b) }
     // Its entries are read where their tables are bound.
-    ensures places { IfOk result (λ b. ArePlaces (map attached bound.now) (meant_by (objects catalog.now) (query_in (statement_tree statement.now))).entries (map entry_place b.entries.items)) }
+    ensures places { IfOk result (λ b. ArePlaces (map attached bound.now)
+        (meant_by (objects catalog.now) (query_in (statement_tree statement.now))).entries (map entry_place b.entries.items)) }
     // No ON of it may fault.
     ensures safe { IfOk result (λ b. is_safe_from b.select.from.items ≡ true) }
     // A refusal tells a cause that stands, one of names or rights before one of types, or that memory was refused.
     ensures refused { IfErr result (λ c. NotBound (objects catalog.now) user.now (query_in (statement_tree statement.now)) c) }
     // Where no cause stands, only memory can be refused.
-    ensures read { ((c : AnyCause) → QueryNames (objects catalog.now) user.now (query_in (statement_tree statement.now)) c → ⊥) → ((c : AnyCause) → QueryTypes (objects catalog.now) (query_in (statement_tree statement.now)) c → ⊥) → IfErr result (λ c. c ≡ AnyCause.OutOfMemory) }
+    ensures read { ((c : AnyCause) → QueryNames (objects catalog.now) user.now (query_in (statement_tree statement.now)) c → ⊥)
+        → ((c : AnyCause) → QueryTypes (objects catalog.now) (query_in (statement_tree statement.now)) c → ⊥)
+        → IfErr result (λ c. c ≡ AnyCause.OutOfMemory) }
 {
     bind_over(alloc, statement, catalog, bound, user)
 }

@@ -70,7 +70,8 @@ fn copied(alloc: Global, columns: &[ColumnDef]) -> Result<Vec<ColumnDef>, NoMemo
 
 // The table that an entry stands for, by its name and columns. Where its rows are is not asked.
 fn gathered_table(alloc: Global, catalog: &Catalog, entry: &Entry) -> Result<AttachedTable, Cause>
-    ensures { Gives table_shape (entry_causes (shapes (objects catalog.now)) (entry_tree entry.now)) (gathered_shape (shapes (objects catalog.now)) (entry_tree entry.now)) result }
+    ensures { Gives table_shape (entry_causes (shapes (objects catalog.now)) (entry_tree entry.now))
+        (gathered_shape (shapes (objects catalog.now)) (entry_tree entry.now)) result }
 {
     match catalog.table(entry.table.as_str()) {
         None => Err(Cause::UndefinedTable),
@@ -90,7 +91,8 @@ pub fn gathered(
     catalog: &Catalog,
     entries: &[&Entry],
 ) -> Result<Vec<AttachedTable>, Cause>
-    ensures { Gives (λ v. map table_shape v.items) (flat_map (entry_causes (shapes (objects catalog.now))) (map seen_entry entries.now)) (map (gathered_shape (shapes (objects catalog.now))) (map seen_entry entries.now)) result }
+    ensures { Gives (λ v. map table_shape v.items) (flat_map (entry_causes (shapes (objects catalog.now))) (map seen_entry entries.now))
+        (map (gathered_shape (shapes (objects catalog.now))) (map seen_entry entries.now)) result }
 {
     let mut out = Vec::new(alloc);
     for entry in entries {

@@ -16,7 +16,8 @@ use med_value::Cause;
 
 // 42704 where the user has no mapping on the server of the entry's table.
 fn check_right(catalog: &Catalog, entry: &Entry, user: &str) -> Result<(), Cause>
-    ensures { Passes (table_causes reading_causes (objects catalog.now) user.now (table_named (objects catalog.now) (entry_tree entry.now).table)) result }
+    ensures { Passes (table_causes reading_causes (objects catalog.now) user.now
+        (table_named (objects catalog.now) (entry_tree entry.now).table)) result }
 {
     match catalog.table(entry.table.as_str()) {
         None => Ok(()),
@@ -29,7 +30,9 @@ fn check_right(catalog: &Catalog, entry: &Entry, user: &str) -> Result<(), Cause
 
 /// 42704 where the user, the owner too, has no mapping on the server of a table. It takes no memory.
 pub fn check_rights(catalog: &Catalog, entries: &[&Entry], user: &str) -> Result<(), Cause>
-    ensures { Passes (flat_map (λ (e : EntryTree). table_causes reading_causes (objects catalog.now) user.now (table_named (objects catalog.now) e.table)) (map seen_entry entries.now)) result }
+    ensures { Passes (flat_map (λ (e : EntryTree).
+        table_causes reading_causes (objects catalog.now) user.now (table_named (objects catalog.now) e.table))
+        (map seen_entry entries.now)) result }
 {
     for entry in entries {
         check_right(catalog, *entry, user)?;

@@ -1,4 +1,4 @@
-use Rattle.std.proofs.Common.{◌≡◌, ◌<◌, ◌∙◌, map, length, Some, option_map, slice_get, slice_index_or, ap, sym, subst, refl}
+use Rattle.std.proofs.Common.{◌≡◌, ◌<◌, ◌∙◌, length, Some, option_map, slice_get, slice_index_or, ap, sym, subst, refl}
 use Rattle.std.proofs.lemmas.Option.{slice_get-map, slice_get-get_or}
 use Rattle.med_syntax.specs.QueryView.{entry_tree}
 use Rattle.bind_names.specs.Scope.{place_named}

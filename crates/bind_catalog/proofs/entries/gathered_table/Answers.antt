@@ -1,5 +1,4 @@
-use Rattle.std.proofs.Common.{◌≡◌, map, Option, Some, None, refl, sym, ap, ◌∙◌}
-use Rattle.std.specs.Option.{option_map}
+use Rattle.std.proofs.Common.{map, sym, ap, ◌∙◌}
 use Rattle.med_value.specs.Column.{column_of}
 use Rattle.med_syntax.specs.QueryView.{entry_tree}
 use Rattle.bind_names.specs.Scope.{TableShape}
@@ -22,8 +21,9 @@ returns-in_ok-copied-in-Some c =
     let o = objects c.args.catalog.now in
     let e = entry_tree c.args.entry.now in
     let t = table_of c.as_str.result.now c.in-Some.table.now in
-    let found = sym (ap (table_named o) c.as_str.ensures.value) ∙ c.in-Some.ensures in
-    (ap (λ n. let s : TableShape = record { name = n; columns = map column_of c.in_ok-copied-in-Some.field-0.items } in s) (c.in_ok-to_string-in-Some.ensures.ok ∙ c.as_str-in-Some.ensures.value)
-     ∙ ap (λ cs. let s : TableShape = record { name = e.table; columns = cs } in s)
-         (c.in_ok-copied-in-Some.ensures ∙ ap (map column_of) c.as_slice.ensures.value ∙ sym (columns_there o e t found)),
-     causes_there o e t found)
+    let found = sym (ap (table_named o) c.as_str.ensures.value) ∙ c.in-Some.ensures in (
+      ap (λ n. let s : TableShape = record { name = n; columns = map column_of c.in_ok-copied-in-Some.field-0.items } in s) (c.in_ok-to_string-in-Some.ensures.ok ∙ c.as_str-in-Some.ensures.value)
+          ∙ ap (λ cs. let s : TableShape = record { name = e.table; columns = cs } in s)
+          (c.in_ok-copied-in-Some.ensures ∙ ap (map column_of) c.as_slice.ensures.value ∙ sym (columns_there o e t found)),
+      causes_there o e t found,
+    )
