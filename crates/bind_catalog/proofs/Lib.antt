@@ -1,0 +1,5 @@
+pub mod Seen
+pub mod Found
+pub mod Rows
+pub mod Phases
+pub mod Binds

@@ -1,0 +1,17 @@
+use Rattle.std.proofs.Common.{◌≡◌, ◌++◌, map, drop, flat_map}
+use Rattle.bind_names.specs.Scope.{entry_place}
+use Rattle.bind_names.specs.Naming.{entry_causes}
+use Rattle.bind_names.specs.Seen.{seen_entry}
+use Rattle.med_binder.specs.declared.bound.BoundEntry.{BoundEntry}
+use Rattle.pushdown.specs.Offered as offered
+use Rattle.med_catalog.specs.View.{objects}
+use Rattle.bind_catalog.specs.Tables.{shapes}
+use Rattle.bind_catalog.specs.Places.{attached, ArePlaces}
+use Rattle.bind_catalog.proofs.entries.bound_entries.Given as goal
+
+abbrev pub invariant-loop-entry : goal.invariant-loop-entry
+invariant-loop-entry l = record {
+  causes : flat_map (entry_causes (shapes (objects l.catalog))) (map seen_entry l.entries) ≡ flat_map (entry_causes (shapes (objects l.catalog))) (map seen_entry (drop l.entry-index l.entries));
+  places : map (λ (b : BoundEntry). b.place) l.out.items ++ map (entry_place (shapes (objects l.catalog))) (map seen_entry (drop l.entry-index l.entries)) ≡ map (entry_place (shapes (objects l.catalog))) (map seen_entry l.entries);
+  there : ArePlaces (map attached l.bound) (map (λ (b : BoundEntry). b.place) l.out.items) (map offered.entry_place l.out.items);
+}

@@ -1,0 +1,5 @@
+pub mod Tables
+pub mod Barred
+pub mod Queries
+pub mod Places
+pub mod Looked

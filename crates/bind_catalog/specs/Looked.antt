@@ -1,0 +1,64 @@
+-- What looking up the tables of FROM in a catalogue answers.
+use Rattle.std.specs.Prelude.{◌≡◌, ◌⊎◌, List, [], map, flat_map, Contains, true, Result, Ok, Err, Vec}
+use Rattle.med_value.specs.declared.cause.Cause.{Cause}
+use Rattle.med_value.specs.declared.cause.Cause.TheVariants.{OutOfMemory}
+use Rattle.med_syntax.specs.Tree.{Name}
+use Rattle.med_syntax.specs.QueryTree.{EntryTree, SelectTree, StatementTree, select}
+use Rattle.med_query.specs.Select.{is_safe_from}
+use Rattle.bind_names.specs.Scope.{TableShape, entry_place, entry_columns}
+use Rattle.bind_names.specs.Naming.{entry_causes, select_name_causes}
+use Rattle.bind_names.specs.Telling.{Tells}
+use Rattle.bind_types.specs.Typing.{select_type_causes}
+use Rattle.med_binder.specs.Binding.{IsMeant}
+use Rattle.med_binder.specs.declared.bound.BoundEntry.{BoundEntry}
+use Rattle.med_binder.specs.declared.bound.Bound.{Bound}
+use Rattle.pushdown.specs.Offered as offered
+use Rattle.med_catalog.specs.Objects.{Objects}
+use Rattle.bind_catalog.specs.Tables.{shapes}
+use Rattle.bind_catalog.specs.Barred.{query_right_causes}
+use Rattle.bind_catalog.specs.Places.{Attached, IsPlaceOf, ArePlaces}
+use Rattle.bind_catalog.specs.Queries.{meant_by, QueryNames}
+
+-- the query that a statement is
+abbrev pub query_in : StatementTree → SelectTree
+query_in (select q) = q
+
+-- the table of an entry, under the name by which the entry has it
+abbrev pub gathered_shape : List TableShape → EntryTree → TableShape
+gathered_shape full e = record { name = e.table; columns = entry_columns full e }
+
+-- the entry's table in the catalogue, and where its rows are
+pub record IsEntryAt (o : Objects) (bound : List Attached) (e : EntryTree) (b : BoundEntry) : Type 0 where
+  pub place : b.place ≡ entry_place (shapes o) e
+  pub there : IsPlaceOf bound b.place (offered.entry_place b)
+
+abbrev pub PlacesEntry : Objects → List Attached → EntryTree → Result BoundEntry Cause → Type 0
+PlacesEntry o bound e (Ok b) = IsEntryAt o bound e b × (entry_causes (shapes o) e ≡ [])
+PlacesEntry o bound e (Err c) = Tells (entry_causes (shapes o) e) c
+
+-- of each entry
+pub record AreEntriesAt (o : Objects) (bound : List Attached) (es : List EntryTree) (bs : List BoundEntry) : Type 0 where
+  pub places : map (λ (b : BoundEntry). b.place) bs ≡ map (entry_place (shapes o)) es
+  pub there : ArePlaces bound (map (λ (b : BoundEntry). b.place) bs) (map offered.entry_place bs)
+
+abbrev pub PlacesEntries : {A : Type 0} → Objects → List Attached → List EntryTree → Result (Vec BoundEntry A) Cause → Type 0
+PlacesEntries o bound es (Ok v) = AreEntriesAt o bound es v.items × (flat_map (entry_causes (shapes o)) es ≡ [])
+PlacesEntries o bound es (Err c) = Tells (flat_map (entry_causes (shapes o)) es) c
+
+-- the query, and no cause stands
+pub record IsBoundOver (o : Objects) (bound : List Attached) (user : Name) (q : SelectTree) (b : Bound) : Type 0 where
+  pub meant : IsMeant (meant_by o q) b
+  pub there : ArePlaces bound (meant_by o q).entries (map offered.entry_place b.entries.items)
+  pub safe : is_safe_from b.select.from.items ≡ true
+  pub names : select_name_causes (shapes o) q ≡ []
+  pub rights : query_right_causes o user q ≡ []
+  pub types : select_type_causes (shapes o) q ≡ []
+
+-- what is told: of names or rights, or of types where none of both stands
+pub record IsToldOver (o : Objects) (user : Name) (q : SelectTree) (c : Cause) : Type 0 where
+  pub told : (c ≡ OutOfMemory)
+      ⊎ (QueryNames o user q c ⊎ (Contains (select_type_causes (shapes o) q) c × ((d : Cause) → QueryNames o user q d → ⊥)))
+
+abbrev pub BindsOver : Objects → List Attached → Name → SelectTree → Result Bound Cause → Type 0
+BindsOver o bound user q (Ok b) = IsBoundOver o bound user q b
+BindsOver o bound user q (Err c) = IsToldOver o user q c

@@ -1,0 +1,93 @@
+//! Statements to bound queries over the tables of a catalogue.
+
+ghost use Rattle.std.specs.Prelude.{◌≡◌, length, map, true, IfOk, OnOk, IfErr};
+ghost use Rattle.med_value.specs.declared.cause.Cause.{Cause as AnyCause};
+ghost use Rattle.med_syntax.specs.QueryTree.{select};
+ghost use Rattle.med_syntax.specs.QueryView.{select_tree, statement_tree};
+ghost use Rattle.med_query.specs.Select.{is_safe_from};
+ghost use Rattle.med_binder.specs.Binding.{IsMeant};
+ghost use Rattle.pushdown.specs.Offered.{entry_place};
+ghost use Rattle.med_catalog.specs.View.{objects};
+ghost use Rattle.bind_catalog.specs.Tables.{AreNamedOnce};
+ghost use Rattle.bind_catalog.specs.Places.{attached, ArePlaces};
+ghost use Rattle.bind_catalog.specs.Queries.{meant_by, QueryNames, QueryTypes, IsBindable, NotBound};
+ghost use Rattle.bind_catalog.specs.Looked.{query_in, BindsOver};
+
+use crate::bound::BoundTable;
+use crate::entries::{bound_entries, gathered};
+use crate::rights::check_rights;
+use bind_names::entries_of;
+use med_binder::Bound;
+use med_catalog::Catalog;
+use med_syntax::{Select, Statement};
+use med_value::Cause;
+use std::alloc::Global;
+
+// The query that a statement is.
+fn query_of(statement: &Statement) -> &Select
+    ensures { statement_tree statement.now ≡ select (select_tree result.now) }
+{
+    match statement {
+        Statement::Select(query) => query,
+    }
+}
+
+// The query over the tables that its entries name.
+fn bind_over(
+    alloc: Global,
+    statement: &Statement,
+    catalog: &Catalog,
+    bound: &[BoundTable],
+    user: &str,
+) -> Result<Bound, Cause>
+    requires many { length bound.now ≡ length (objects catalog.now).tables }
+    requires once { AreNamedOnce (objects catalog.now) }
+    ensures { BindsOver (objects catalog.now) (map attached bound.now) user.now (query_in (statement_tree statement.now)) result }
+{
+    let written = entries_of(alloc, query_of(statement).from.as_slice())?;
+    check_rights(catalog, written.as_slice(), user)?;
+    let entries = bound_entries(alloc, catalog, bound, written.as_slice())?;
+    let tables = gathered(alloc, catalog, written.as_slice())?;
+    let found = med_binder::bind(alloc, statement, tables.as_slice(), user)?;
+    let Bound { names, select, .. } = found;
+    Ok(Bound {
+        names,
+        entries,
+        select,
+    })
+}
+
+/// What a statement means over the tables of the catalogue, or why this user may not have it answered (SQL:2016, 7.16
+/// <query specification>).
+///
+/// Each entry of FROM stands for the table of its name in the catalogue, and is read where `bound` says: a place for each table, in their
+/// order. 42704 where the user, the owner too, has no mapping on the server of one; then names and types as in `med_binder::bind`, types
+/// where no cause of names or rights stands. It takes time by the entries, however many tables there are; and 53200 where memory was
+/// refused.
+pub fn bind(
+    alloc: Global,
+    statement: &Statement,
+    catalog: &Catalog,
+    bound: &[BoundTable],
+    user: &str,
+) -> Result<Bound, Cause>
+    requires many { length bound.now ≡ length (objects catalog.now).tables }
+    requires once { AreNamedOnce (objects catalog.now) }
+    // What is answered has no cause against it.
+    ensures bindable { OnOk result (IsBindable (objects catalog.now) user.now (query_in (statement_tree statement.now))) }
+    // It means the statement.
+    ensures meant { IfOk result (λ b. IsMeant (meant_by (objects catalog.now) (query_in (statement_tree statement.now))) b) }
+    // Its entries are read where their tables are bound.
+    ensures places { IfOk result (λ b. ArePlaces (map attached bound.now)
+        (meant_by (objects catalog.now) (query_in (statement_tree statement.now))).entries (map entry_place b.entries.items)) }
+    // No ON of it may fault.
+    ensures safe { IfOk result (λ b. is_safe_from b.select.from.items ≡ true) }
+    // A refusal tells a cause that stands, one of names or rights before one of types, or that memory was refused.
+    ensures refused { IfErr result (λ c. NotBound (objects catalog.now) user.now (query_in (statement_tree statement.now)) c) }
+    // Where no cause stands, only memory can be refused.
+    ensures read { ((c : AnyCause) → QueryNames (objects catalog.now) user.now (query_in (statement_tree statement.now)) c → ⊥)
+        → ((c : AnyCause) → QueryTypes (objects catalog.now) (query_in (statement_tree statement.now)) c → ⊥)
+        → IfErr result (λ c. c ≡ AnyCause.OutOfMemory) }
+{
+    bind_over(alloc, statement, catalog, bound, user)
+}

@@ -1,0 +1,103 @@
+//! The tables that the entries of FROM stand for, each looked up in the catalogue by its name.
+#![tactic(auto, using(bind_names::proofs::Causes::tells_memory, bind_names::proofs::Causes::tells_one))]
+
+ghost use Rattle.std.specs.Prelude.{◌≡◌, length, map, flat_map, IfOk};
+ghost use Rattle.med_value.specs.Column.{column_of};
+ghost use Rattle.med_syntax.specs.QueryView.{entry_tree};
+ghost use Rattle.bind_names.specs.Scope.{table_shape};
+ghost use Rattle.bind_names.specs.Naming.{entry_causes};
+ghost use Rattle.bind_names.specs.Seen.{seen_entry};
+ghost use Rattle.bind_names.specs.Telling.{Gives};
+ghost use Rattle.med_catalog.specs.View.{objects};
+ghost use Rattle.bind_catalog.specs.Tables.{shapes, AreNamedOnce};
+ghost use Rattle.bind_catalog.specs.Places.{attached};
+ghost use Rattle.bind_catalog.specs.Looked.{PlacesEntry, PlacesEntries, gathered_shape};
+
+use crate::bound::BoundTable;
+use bind_names::AttachedTable;
+use med_binder::BoundEntry;
+use med_catalog::Catalog;
+use med_syntax::Entry;
+use med_value::{Cause, ColumnDef, NoMemory, TableNo};
+use std::alloc::Global;
+
+// The table that an entry stands for, and where its rows are.
+fn bound_entry(catalog: &Catalog, bound: &[BoundTable], entry: &Entry) -> Result<BoundEntry, Cause>
+    requires many { length bound.now ≡ length (objects catalog.now).tables }
+    requires once { AreNamedOnce (objects catalog.now) }
+    ensures { PlacesEntry (objects catalog.now) (map attached bound.now) (entry_tree entry.now) result }
+{
+    match catalog.table_at(entry.table.as_str()) {
+        None => Err(Cause::UndefinedTable),
+        Some((place, table)) => Ok(BoundEntry {
+            place,
+            source: bound[place].source,
+            table: bound[place].number,
+            width: table.columns.as_slice().len(),
+        }),
+    }
+}
+
+/// The tables that the entries stand for, and where their rows are: 42P01 where there is no such table.
+pub fn bound_entries(
+    alloc: Global,
+    catalog: &Catalog,
+    bound: &[BoundTable],
+    entries: &[&Entry],
+) -> Result<Vec<BoundEntry>, Cause>
+    requires many { length bound.now ≡ length (objects catalog.now).tables }
+    requires once { AreNamedOnce (objects catalog.now) }
+    ensures { PlacesEntries (objects catalog.now) (map attached bound.now) (map seen_entry entries.now) result }
+{
+    let mut out = Vec::new(alloc);
+    for entry in entries {
+        let found = bound_entry(catalog, bound, *entry)?;
+        out.push(found)?;
+    }
+    Ok(out)
+}
+
+// Equal columns.
+fn copied(alloc: Global, columns: &[ColumnDef]) -> Result<Vec<ColumnDef>, NoMemory>
+    ensures { IfOk result (λ v. map column_of v.items ≡ map column_of columns.now) }
+{
+    let mut out = Vec::new(alloc);
+    for column in columns {
+        out.push(column.copy(alloc)?)?;
+    }
+    Ok(out)
+}
+
+// The table that an entry stands for, by its name and columns. Where its rows are is not asked.
+fn gathered_table(alloc: Global, catalog: &Catalog, entry: &Entry) -> Result<AttachedTable, Cause>
+    ensures { Gives table_shape (entry_causes (shapes (objects catalog.now)) (entry_tree entry.now))
+        (gathered_shape (shapes (objects catalog.now)) (entry_tree entry.now)) result }
+{
+    match catalog.table(entry.table.as_str()) {
+        None => Err(Cause::UndefinedTable),
+        Some(table) => Ok(AttachedTable {
+            name: entry.table.as_str().to_string(alloc)?,
+            columns: copied(alloc, table.columns.as_slice())?,
+            source: 0,
+            remote: String::new(alloc),
+            number: TableNo { number: 0 },
+        }),
+    }
+}
+
+/// The tables that the entries stand for, by their names and columns, once for each entry: 42P01 where there is no such table.
+pub fn gathered(
+    alloc: Global,
+    catalog: &Catalog,
+    entries: &[&Entry],
+) -> Result<Vec<AttachedTable>, Cause>
+    ensures { Gives (λ v. map table_shape v.items) (flat_map (entry_causes (shapes (objects catalog.now))) (map seen_entry entries.now))
+        (map (gathered_shape (shapes (objects catalog.now))) (map seen_entry entries.now)) result }
+{
+    let mut out = Vec::new(alloc);
+    for entry in entries {
+        let table = gathered_table(alloc, catalog, *entry)?;
+        out.push(table)?;
+    }
+    Ok(out)
+}

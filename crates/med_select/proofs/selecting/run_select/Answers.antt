@@ -1,0 +1,54 @@
+use Rattle.std.proofs.Common.{◌≡◌, ◌∙◌, ◌<◌, ◌≤◌, refl, map, length, arith}
+use Rattle.std.proofs.lemmas.Result.{err_from_is_err_and}
+use Rattle.med_value.specs.Datum.{tuple}
+use Rattle.med_exec.specs.Slots.{states}
+use Rattle.med_syntax.specs.QueryView.{statement_tree}
+use Rattle.med_catalog.specs.View.{objects}
+use Rattle.bind_catalog.specs.Looked.{query_in}
+use Rattle.bind_catalog.specs.Places.{attached}
+use Rattle.med_world.specs.Selecting.{not_bound}
+use Rattle.med_select.proofs.Selections.{IsBoundBy, entries_bound, selected, unanswered, crowded}
+use Rattle.med_select.proofs.selecting.run_select.Goals as goal
+
+pub returns-in_err-query-clause-err : goal.returns-in_err-query-clause-err
+returns-in_err-query-clause-err g c =
+    let p = err_from_is_err_and c.from_residual.result c.from_residual.ensures.1 in
+    rw (p.1, p.2) (not_bound c.in_err-query.ensures.refused refl)
+
+pub run_bound-requires-clause-bound : goal.run_bound-requires-clause-bound
+run_bound-requires-clause-bound g c =
+    entries_bound (states g.W.Wrapper.meaning c.args.slots.now.items) (map attached c.args.bound.now) _ c.in_ok-query.query.entries.items c.requires.tables c.in_ok-query.ensures.places
+
+pub returns-in-Err-clause-err : goal.returns-in-Err-clause-err
+returns-in-Err-clause-err g c =
+    let m = g.W.Wrapper.meaning in
+    let o = objects c.args.catalog.now in
+    let q = query_in (statement_tree c.args.statement.now) in
+    let is : IsBoundBy o c.args.user.now (map attached c.args.bound.now) q c.in_ok-query.query = record { bindable = c.in_ok-query.ensures.bindable; meant = c.in_ok-query.ensures.meant; places = c.in_ok-query.ensures.places } in
+    let counted : c.len.result ≡ length c.in_ok-query.query.entries.items = c.len.ensures ∙ c.in_ok-query.query.entries.ok.0 in
+    let least : c.len.result ≤ 8 = c.if-len-gt-ENTRIES.false in
+    let few : length c.in_ok-query.query.entries.items ≤ 8 = omega (arith, counted, least) in
+    rw c.cause_of.ensures (unanswered c.expressions_ignore_order.ensures c.causes_ignore_order.ensures o c.args.user.now (map attached c.args.bound.now) q c.in_ok-query.query c.in-Err.fault
+    (states m c.args.slots.now.items) (states m c.run_bound.new.slots.items) is few c.run_bound.ensures.served c.in-Err.ensures.err)
+
+pub returns-clause-ok : goal.returns-clause-ok
+returns-clause-ok g c =
+    let m = g.W.Wrapper.meaning in
+    let o = objects c.args.catalog.now in
+    let q = query_in (statement_tree c.args.statement.now) in
+    let is : IsBoundBy o c.args.user.now (map attached c.args.bound.now) q c.in_ok-query.query = record { bindable = c.in_ok-query.ensures.bindable; meant = c.in_ok-query.ensures.meant; places = c.in_ok-query.ensures.places } in
+    let counted : c.len.result ≡ length c.in_ok-query.query.entries.items = c.len.ensures ∙ c.in_ok-query.query.entries.ok.0 in
+    let least : c.len.result ≤ 8 = c.if-len-gt-ENTRIES.false in
+    let few : length c.in_ok-query.query.entries.items ≤ 8 = omega (arith, counted, least) in
+    selected c.expressions_ignore_order.ensures c.answers_ignore_order.ensures c.causes_ignore_order.ensures o c.args.user.now (map attached c.args.bound.now) q c.in_ok-query.query (map tuple c.in-Ok.rows.items)
+    (states m c.args.slots.now.items) (states m c.run_bound.new.slots.items) is few c.run_bound.ensures.served c.in-Ok.ensures.ok
+
+pub returns-then-len-gt-ENTRIES-clause-err : goal.returns-then-len-gt-ENTRIES-clause-err
+returns-then-len-gt-ENTRIES-clause-err g c =
+    let o = objects c.args.catalog.now in
+    let q = query_in (statement_tree c.args.statement.now) in
+    let is : IsBoundBy o c.args.user.now (map attached c.args.bound.now) q c.in_ok-query.query = record { bindable = c.in_ok-query.ensures.bindable; meant = c.in_ok-query.ensures.meant; places = c.in_ok-query.ensures.places } in
+    let counted : c.len.result ≡ length c.in_ok-query.query.entries.items = c.len.ensures ∙ c.in_ok-query.query.entries.ok.0 in
+    let least : 8 < c.len.result = c.if-len-gt-ENTRIES.true in
+    let many : 8 < length c.in_ok-query.query.entries.items = omega (arith, counted, least) in
+    crowded o c.args.user.now (map attached c.args.bound.now) q c.in_ok-query.query (states g.W.Wrapper.meaning c.args.slots.now.items) is many

@@ -1,0 +1,56 @@
+-- A new engine, with no object and no source.
+use Rattle.std.proofs.Common.{◌≡◌, ℕ, ◌-◌, List, [], Option, Some, None, slice_get, replicate, length, option_map, refl, ap, sym, ◌∙◌, arith, lit≤}
+use Rattle.std.proofs.lemmas.List.{length-replicate}
+use Rattle.std.specs.List.{IsDistinct}
+use Rattle.med_syntax.specs.Tree.{Name}
+use Rattle.fdw_api.specs.State.{BoxState}
+use Rattle.med_catalog.specs.Objects.{no_objects}
+use Rattle.med_world.specs.Requests.{IsUser}
+use Rattle.med_world.specs.World.{new_session, empty_world}
+use Rattle.med_world.specs.Engine.{AreSound, session_of, IsSound, Agrees}
+use Rattle.med_world.specs.Laws.{empty_shown}
+use Rattle.med_world.proofs.Sessions.{none_at}
+
+no_box : (slot : ℕ) (s : BoxState) → slice_get {X = Option BoxState} [] slot ≡ Some (Some s) → ⊥
+no_box slot s e = cc
+
+no_place : {X : Type 0} (k : ℕ) (x : X) → slice_get {X = X} [] k ≡ Some x → ⊥
+no_place k x e = cc
+
+empty_objects : (owner : Name) → IsUser owner → AreSound (no_objects owner)
+unfolding IsDistinct
+empty_objects owner is_user = record {
+  owner = is_user;
+  server_names = tt;
+  sources_once = tt;
+  table_names = tt;
+  served = λ t c. absurd (let within = c.1 in omega arith);
+}
+
+pub empty_sound : (owner : Name) (users : List (Option Name)) → IsUser owner → users ≡ replicate 64 None → IsSound (empty_shown owner users)
+unfolding IsDistinct
+empty_sound owner users is_user closed = record {
+  objects = empty_objects owner is_user;
+  places = refl;
+  sources = lit≤ tt;
+  sessions = ap length closed ∙ length-replicate {A = Option Name} 64 None;
+  source_names = tt;
+  at_rest = λ slot s at. absurd (no_box slot s at);
+  sound_boxes = λ slot s at. absurd (no_box slot s at);
+  takes = λ place l s at_l at_s. absurd (no_box place s at_s);
+  servers_stand = λ s c. absurd (let within = c.1 in omega arith);
+  many = refl;
+  tables_bound = λ k t a at_t at_a. absurd (no_place k t at_t);
+  bound_attached = λ slot number s b at is. absurd (no_box slot s at);
+  bound_once = λ j k a b at_j at_k. absurd (no_place j a at_j);
+}
+
+pub empty_agrees : (owner : Name) (users : List (Option Name)) → users ≡ replicate 64 None → Agrees (empty_shown owner users) (empty_world owner)
+empty_agrees owner users closed = record {
+  honest = λ slot s at. absurd (no_box slot s at);
+  catalog = refl;
+  sources = refl;
+  rows = tt;
+  sessions = λ sid is. sym (ap (λ (u : List (Option Name)). session_of u sid) closed ∙ ap (option_map new_session) (none_at 64 (sid - 1)));
+  at_rest = λ slot s at. absurd (no_box slot s at);
+}

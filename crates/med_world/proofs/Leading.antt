@@ -1,0 +1,323 @@
+-- Requests lead to their replies: what every request shares, sessions, and statements on objects.
+use Rattle.std.proofs.Common.{◌≡◌, ℕ, ◌+◌, ◌-◌, ◌^◌, ◌<◌, ◌≤◌, ◌⊎◌, min, true, false, List, Option, Some, option_map, refl, ap, sym, ◌∙◌, subst, arith, inl, inr}
+use Rattle.std.proofs.lemmas.Bool.{false≢true, cases_lt}
+use Rattle.med_value.specs.declared.cause.Cause.{Cause}
+use Rattle.med_value.specs.declared.cause.Cause.TheVariants.{UnableToConnect, OutOfMemory, SourceFault}
+use Rattle.med_syntax.specs.Tree.{Name}
+use Rattle.fdw_api.specs.Kinds.{Entry, Holding, Reading}
+use Rattle.fdw_api.specs.State.{BoxState}
+use Rattle.fdw_api.specs.Calls.{Picks, Binds, Unbinds, Refuses, RefusesBind, IsLeast}
+use Rattle.fdw_api.specs.declared.interface.Fault.TheVariants.{Source as SourceFailed, Refused}
+use Rattle.med_exec.specs.Slots.{ChangesAt}
+use Rattle.med_exec.specs.Running.{HasFailed}
+use Rattle.ddl_syntax.specs.DdlTree.{DdlTree}
+use Rattle.med_catalog.specs.Objects.{ServerObject, TableObject, Objects}
+use Rattle.med_catalog.specs.Changes.{ObjectChange, nothing, new_wrapper, new_server, new_mapping, new_table, no_wrapper, no_server, no_mapping, no_table, Asks}
+use Rattle.med_catalog.specs.DdlCauses.{DdlCauses}
+use Rattle.med_world.specs.Requests.{Asked, sql}
+use Rattle.command_parser.specs.CommandTree.{CommandTree, on_objects}
+use Rattle.med_world.specs.Steps.{ddl_tag}
+use Rattle.med_world.specs.Picks.{Pick, no_pick}
+use Rattle.med_world.specs.World.{World, source_named, new_session, is_taken, IsFree, Serves}
+use Rattle.med_world.specs.Causes.{Reads, SourceCauses, ObjectCauses, PicksEntry, IsPickOf, IsTold, NoneStands, NoneBeforeState, phase}
+use Rattle.med_world.specs.Replies.{done, refused}
+use Rattle.med_world.specs.Steps.{Trouble, TakesMemory, with_catalog, Changes, Step, is_refused, is_done, lacks_memory, source_fails}
+use Rattle.med_world.specs.Engine.{Rises, Shown, IsSound, IsNamedAt, IsServerAt, Agrees, Befell, EachRises, Leads, with_change, Alters}
+use Rattle.med_world.specs.Laws.{IsRead}
+use Rattle.med_world.specs.Altering.{no_lease, IsFreeAt, IsAllowed, SourcesAllow, IsAltered}
+use Rattle.med_world.proofs.Faring.{changes_by, changes_rise, rises_itself, none_rises, drop_rises, binds_rises, unbinds_rises}
+use Rattle.med_world.proofs.Altered.{catalog_agrees, bind_agrees, unbind_agrees, drop_agrees, serves_at, one_store, find_source}
+use Rattle.med_world.proofs.Told.{IsKnownAs, told_tree, none_tree, before_tree, pick_tree}
+use Rattle.med_world.proofs.Objecting.{AreObjects, asks_same, causes_same, of_source, told_objects, told_bind, none_bind, source_phase}
+
+-- ---- trouble
+
+pub calm : Trouble
+calm = record { memory = false; asked = false; source = false; numbers = false }
+
+pub refused_memory : Trouble
+refused_memory = record { memory = true; asked = false; source = false; numbers = false }
+
+pub failed_source : Trouble
+failed_source = record { memory = false; asked = false; source = true; numbers = false }
+
+pub calm_befell : (old new : List (Option BoxState)) → Befell old new calm
+unfolding calm
+calm_befell old new = record { source = λ e. absurd (false≢true e); numbers = λ e. absurd (false≢true e) }
+
+memory_befell : (old new : List (Option BoxState)) → Befell old new refused_memory
+unfolding refused_memory
+memory_befell old new = record { source = λ e. absurd (false≢true e); numbers = λ e. absurd (false≢true e) }
+
+-- a request that is refused by a cause, with the worlds as they were
+pub leads_refused : (e new : Shown) (sid : ℕ) (request : Asked) (c : Cause) → EachRises e.boxes new.boxes → ((w : World) → Agrees e w → Agrees new w)
+    → ((w : World) → Agrees e w → (p : Pick) × IsPickOf w sid request p × IsTold w sid p request c) → Leads e sid request (refused c) new
+leads_refused e new sid request c rises kept told = record {
+  trouble = calm;
+  befell = calm_befell e.boxes new.boxes;
+  rises = rises;
+  step = λ w a. let t = told w a in (w, is_refused t.0 c t.1 t.2 refl refl, kept w a);
+}
+
+-- one for which memory was refused
+pub leads_memory : (e new : Shown) (sid : ℕ) (request : Asked) → TakesMemory request → EachRises e.boxes new.boxes → ((w : World) → Agrees e w → Agrees new w) → Leads e sid request (refused OutOfMemory) new
+unfolding refused_memory
+leads_memory e new sid request takes rises kept = record {
+  trouble = refused_memory;
+  befell = memory_befell e.boxes new.boxes;
+  rises = rises;
+  step = λ w a. (w, lacks_memory refl refl takes refl refl, kept w a);
+}
+
+-- ---- a statement that was read
+
+-- what a statement's text and session give in every world that agrees
+pub known : (e : Shown) (w : World) (sid : ℕ) (text : List ℕ) (user : Name) (tree : CommandTree) → Agrees e w → IsRead e sid text user tree → IsKnownAs w sid text (new_session user) tree
+known e w sid text user tree a read = record { is = (a.sessions sid read.is_sid ∙ ap (option_map new_session) read.is_user, read.has); clear = read.clear; one = read.one }
+
+-- ---- a statement on objects that is done
+
+-- a free source of the engine is free in the world
+free_in : (e : Shown) (w : World) (s : ServerObject) (place : ℕ) → IsSound e → Agrees e w → IsFreeAt e s place → IsFree w s.source s.kind
+free_in e w s place sound h f =
+    let named : IsNamedAt e.labels place s.source = (f.stands.label, f.stands.there, f.stands.named) in
+    let x = find_source e.labels e.boxes s.source place (Some f.stands.box) sound.source_names named f.stands.box_there in
+    record {
+      at = x.0;
+      is = ap (λ sources. source_named s.source sources) h.sources ∙ x.1;
+      of_kind = x.3 ∙ f.stands.of_kind;
+      kind = f.stands.box.nature.kind;
+      holdings = f.stands.box.content.holdings;
+      state = x.2;
+      untaken = ap (λ (o : Objects). is_taken o s.source) h.catalog ∙ f.untaken;
+    }
+
+-- what a change is picked, leads to, and that no source stands against it
+pub record Altering (w : World) (change : ObjectChange) (n : Shown) : Type 0 where
+  pub pick : Pick
+  pub picked : (t : TableObject) → change ≡ new_table t → PicksEntry w t pick
+  pub after : World
+  pub changes : Changes w pick change after
+  pub agrees : Agrees n after
+  pub clear : (c : Cause) → SourceCauses w pick change c → ⊥
+
+-- one of the catalogue alone
+of_catalog : (e n : Shown) (change : ObjectChange) (w : World) → Agrees e w → n ≡ with_change e change → ((t : TableObject) → change ≡ new_table t → ⊥) → Changes w no_pick change (with_catalog w change)
+    → ((c : Cause) → SourceCauses w no_pick change c → ⊥) → Altering w change n
+of_catalog e n change w h is other changes clear = record {
+  pick = no_pick;
+  picked = λ t q. absurd (other t q);
+  after = with_catalog w change;
+  changes = changes;
+  agrees = subst (λ (x : Shown). Agrees x (with_catalog w change)) (sym is) (catalog_agrees e change w h);
+  clear = clear;
+}
+
+pub altering : (e n : Shown) (change : ObjectChange) (w : World) → IsSound e → Agrees e w → SourcesAllow e change → Alters e change n → Altering w change n
+altering e n nothing w sound h allow is = of_catalog e n nothing w h is (λ t q. cc) refl (λ c x. x)
+altering e n (new_wrapper o) w sound h allow is = of_catalog e n (new_wrapper o) w h is (λ t q. cc) refl (λ c x. x)
+altering e n (new_server s) w sound h allow is = of_catalog e n (new_server s) w h is (λ t q. cc) refl (λ c x. x.1 (free_in e w s allow.0 sound h allow.1))
+altering e n (new_mapping s m) w sound h allow is = of_catalog e n (new_mapping s m) w h is (λ t q. cc) refl (λ c x. x)
+altering e n (no_wrapper name) w sound h allow is = of_catalog e n (no_wrapper name) w h is (λ t q. cc) refl (λ c x. x)
+altering e n (no_mapping s u) w sound h allow is = of_catalog e n (no_mapping s u) w h is (λ t q. cc) refl (λ c x. x)
+altering e n (new_table t) w sound h allow is =
+    let b = bind_agrees e n t w sound is h in
+    record {
+      pick = b.0;
+      picked = λ u q. (let same : t ≡ u = cc in subst (λ (x : TableObject). PicksEntry w x b.0) same b.1);
+      after = b.2.0;
+      changes = b.2.1;
+      agrees = b.2.2;
+      clear = none_bind w t b.0 b.2.1.0 b.2.1.1 b.2.1.2;
+    }
+altering e n (no_table name) w sound h allow is =
+    let b = unbind_agrees e n name w no_pick sound is h in
+    record { pick = no_pick; picked = λ t q. absurd (cc); after = b.0; changes = b.1; agrees = b.2; clear = λ c x. x }
+altering e n (no_server name) w sound h allow is =
+    let b = drop_agrees e n name w no_pick sound is h in
+    record { pick = no_pick; picked = λ t q. absurd (cc); after = b.0; changes = b.1; agrees = b.2; clear = λ c x. x }
+
+same_boxes : (e n : Shown) (change : ObjectChange) → n ≡ with_change e change → EachRises e.boxes n.boxes
+same_boxes e n change is = subst (λ (x : Shown). EachRises e.boxes x.boxes) (sym is) (none_rises e.boxes)
+
+pub altered_rises : (e n : Shown) (change : ObjectChange) → Alters e change n → EachRises e.boxes n.boxes
+altered_rises e n nothing is = same_boxes e n nothing is
+altered_rises e n (new_wrapper o) is = same_boxes e n (new_wrapper o) is
+altered_rises e n (new_server s) is = same_boxes e n (new_server s) is
+altered_rises e n (new_mapping s m) is = same_boxes e n (new_mapping s m) is
+altered_rises e n (no_wrapper name) is = same_boxes e n (no_wrapper name) is
+altered_rises e n (no_mapping s u) is = same_boxes e n (no_mapping s u) is
+altered_rises e n (new_table t) is =
+    changes_rise OrBinds e.boxes n.boxes is.place (λ b. inl refl) rises (changes_by Q OrBinds e.boxes n.boxes is.place (λ b c k. inr k) is.binds)
+  where
+    Q : BoxState → BoxState → Type 0
+    Q b c = Binds b t.remote t.columns t.settings is.number c
+
+    OrBinds : BoxState → BoxState → Type 0
+    OrBinds b c = (c ≡ b) ⊎ Q b c
+
+    rises : (b c : BoxState) → OrBinds b c → Rises b c
+    rises b c (inl same) = subst (Rises b) (sym same) (rises_itself b)
+    rises b c (inr k) = binds_rises b c t.remote t.columns t.settings is.number k
+altered_rises e n (no_table name) is =
+    changes_rise OrUnbinds e.boxes n.boxes is.at.source (λ b. inl refl) rises (changes_by Q OrUnbinds e.boxes n.boxes is.at.source (λ b c k. inr k) is.unbinds)
+  where
+    Q : BoxState → BoxState → Type 0
+    Q b c = Unbinds b is.at.number c
+
+    OrUnbinds : BoxState → BoxState → Type 0
+    OrUnbinds b c = (c ≡ b) ⊎ Q b c
+
+    rises : (b c : BoxState) → OrUnbinds b c → Rises b c
+    rises b c (inl same) = subst (Rises b) (sym same) (rises_itself b)
+    rises b c (inr k) = unbinds_rises b c is.at.number k
+altered_rises e n (no_server name) is = subst (λ (x : Shown). EachRises e.boxes x.boxes) (sym is.is) (drop_rises e.boxes is.place is.box is.there is.idle)
+
+-- a statement on objects is done, and answered by its tag
+pub altered_leads : AreObjects → (e n : Shown) (sid : ℕ) (text : List ℕ) (user : Name) (d : DdlTree) → IsRead e sid text user (on_objects d) → IsSound e → (h : IsAltered e user d n) → Leads e sid (sql text) (done (ddl_tag d)) n
+altered_leads law e n sid text user d read sound h = record {
+  trouble = calm;
+  befell = calm_befell e.boxes n.boxes;
+  rises = altered_rises e n h.change h.alters;
+  step = step;
+}
+  where
+    step : (w : World) → Agrees e w → (after : World) × Step w sid (sql text) calm (done (ddl_tag d)) after × Agrees n after
+    step w a = (x.after, is_done x.pick picks none ((new_session user, on_objects d, k.is, (refl, (h.change, asks, x.changes)))), x.agrees)
+      where
+        x : Altering w h.change n
+        x = altering e n h.change w sound a h.sources h.alters
+
+        k : IsKnownAs w sid text (new_session user) (on_objects d)
+        k = known e w sid text user (on_objects d) a read
+
+        asks : Asks w.catalog user d h.change
+        asks = asks_same e w user d h.change a h.allowed.asks
+
+        picks : IsPickOf w sid (sql text) x.pick
+        picks = pick_tree w sid x.pick text (new_session user) (on_objects d) k (λ t is. x.picked t (law.once w.catalog user d h.change (new_table t) asks is))
+
+        none : NoneStands w sid x.pick (sql text)
+        none = none_tree w sid x.pick text (new_session user) (on_objects d) k
+            (λ c y. x.clear c (of_source law e w user x.pick d h.change a h.allowed.asks h.allowed.clear c y))
+
+-- ---- one that is not done
+
+-- whatever is picked, what stands against it is of sources, and so of phases 5 and 6
+not_early : AreObjects → (e : Shown) (w : World) (sid : ℕ) (text : List ℕ) (user : Name) (d : DdlTree) (change : ObjectChange) → IsRead e sid text user (on_objects d) → Agrees e w → IsAllowed e user d change → NoneBeforeState w sid (sql text)
+not_early law e w sid text user d change read a allowed =
+    before_tree w sid text (new_session user) (on_objects d) (known e w sid text user (on_objects d) a read)
+    (λ p c x. late p c (source_phase w p change c (of_source law e w user p d change a allowed.asks allowed.clear c x)))
+  where
+    late : (p : Pick) (c : Cause) → 5 ≤ phase c → 4 < phase c
+    late p c h = omega arith
+
+-- a pick for the table of a statement, if it makes one
+picks_table : (w : World) (t : TableObject) (change : ObjectChange) (p : Pick) → PicksEntry w t p → change ≡ new_table t → (u : TableObject) → change ≡ new_table u → PicksEntry w u p
+picks_table w t change p h is u other = (let same : new_table t ≡ new_table u = sym is ∙ other in let e : t ≡ u = cc in subst (λ (x : TableObject). PicksEntry w x p) e h)
+
+-- the catalogue shows a cause
+pub shows_leads : AreObjects → (e : Shown) (sid : ℕ) (text : List ℕ) (user : Name) (d : DdlTree) (c : Cause) → IsRead e sid text user (on_objects d) → DdlCauses e.catalog no_lease user d c
+    → ((x : Cause) → DdlCauses e.catalog no_lease user d x → phase c ≤ phase x) → ((w : World) → Agrees e w → (p : Pick) × IsPickOf w sid (sql text) p) → Leads e sid (sql text) (refused c) e
+shows_leads law e sid text user d c read stands least pick = leads_refused e e sid (sql text) c (none_rises e.boxes) (λ w a. a) told
+  where
+    told : (w : World) → Agrees e w → (p : Pick) × IsPickOf w sid (sql text) p × IsTold w sid p (sql text) c
+    told w a =
+        let p = pick w a in
+        let k = known e w sid text user (on_objects d) a read in
+        (p.0, p.1, told_tree w sid p.0 text (new_session user) (on_objects d) c k (inl (causes_same e w user d c a stands)) (told_objects law e w user p.0 d c a stands least))
+
+-- the source of a new server is not free
+pub taken_leads : AreObjects → (e : Shown) (sid : ℕ) (text : List ℕ) (user : Name) (d : DdlTree) (s : ServerObject) → IsRead e sid text user (on_objects d) → IsAllowed e user d (new_server s)
+    → ((w : World) → Agrees e w → IsFree w s.source s.kind → ⊥) → Leads e sid (sql text) (refused UnableToConnect) e
+taken_leads law e sid text user d s read allowed taken = leads_refused e e sid (sql text) UnableToConnect (none_rises e.boxes) (λ w a. a) told
+  where
+    told : (w : World) → Agrees e w → (p : Pick) × IsPickOf w sid (sql text) p × IsTold w sid p (sql text) UnableToConnect
+    told w a = (no_pick, picks, told_tree w sid no_pick text (new_session user) (on_objects d) UnableToConnect k (inr (new_server s, asks, (refl, taken w a))) least)
+      where
+        k : IsKnownAs w sid text (new_session user) (on_objects d)
+        k = known e w sid text user (on_objects d) a read
+
+        asks : Asks w.catalog user d (new_server s)
+        asks = asks_same e w user d (new_server s) a allowed.asks
+
+        picks : IsPickOf w sid (sql text) no_pick
+        picks = pick_tree w sid no_pick text (new_session user) (on_objects d) k (λ t is. absurd (let q : new_server s ≡ new_table t = law.once w.catalog user d (new_server s) (new_table t) asks is in cc))
+
+        least : (x : Cause) → ObjectCauses w user no_pick d x → 5 ≤ phase x
+        least x y = source_phase w no_pick (new_server s) x (of_source law e w user no_pick d (new_server s) a allowed.asks allowed.clear x y)
+
+-- the box refuses the bind
+pub refused_leads : AreObjects → (e n : Shown) (sid : ℕ) (text : List ℕ) (user : Name) (d : DdlTree) (t : TableObject) (place : ℕ) (c : Cause) → IsRead e sid text user (on_objects d) → IsSound e → IsAllowed e user d (new_table t) → IsServerAt e t.server place
+    → (h : ChangesAt e.boxes place (λ a b. RefusesBind a t.remote t.columns t.settings (Refused c) b) n.boxes) → EachRises e.boxes n.boxes → ((w : World) → Agrees e w → Agrees n w) → Leads e sid (sql text) (refused c) n
+refused_leads law e n sid text user d t place c read sound allowed server h rises kept = leads_refused e n sid (sql text) c rises kept told
+  where
+    told : (w : World) → Agrees e w → (p : Pick) × IsPickOf w sid (sql text) p × IsTold w sid p (sql text) c
+    told w a = (p, picks, told_tree w sid p text (new_session user) (on_objects d) c k (inr (new_table t, asks, (reading, reads, because.2.stands))) least)
+      where
+        b : BoxState
+        b = h.before
+
+        because : (entry : Option Entry) × Picks (b.content.holdings t.remote) entry × IsLeast (b.nature.kind.reads t.columns t.settings entry).causes c
+        because = h.change.cause.1 (a.honest place b h.there)
+
+        p : Pick
+        p = record no_pick { entry = because.0 }
+
+        reading : Reading
+        reading = b.nature.kind.reads t.columns t.settings because.0
+
+        serves : Serves w t.server b.nature.kind b.content.holdings
+        serves = serves_at e w t.server place b sound a server h.there
+
+        reads : Reads w t because.0 reading
+        reads = record { kind = b.nature.kind; holdings = b.content.holdings; serves = serves; read = refl }
+
+        k : IsKnownAs w sid text (new_session user) (on_objects d)
+        k = known e w sid text user (on_objects d) a read
+
+        asks : Asks w.catalog user d (new_table t)
+        asks = asks_same e w user d (new_table t) a allowed.asks
+
+        entry : PicksEntry w t p
+        entry kind holdings s = subst (λ (f : Name → Holding). Picks (f t.remote) because.0) (one_store w t.server b.nature.kind kind b.content.holdings holdings serves s) because.1
+
+        picks : IsPickOf w sid (sql text) p
+        picks = pick_tree w sid p text (new_session user) (on_objects d) k (λ u is. picks_table w t (new_table t) p entry refl u (law.once w.catalog user d (new_table t) (new_table u) asks is))
+
+        least : (x : Cause) → ObjectCauses w user p d x → phase c ≤ phase x
+        least x y = told_bind w t p reading c reads because.2 x (of_source law e w user p d (new_table t) a allowed.asks allowed.clear x y)
+
+count_cases : (a b : ℕ) → b ≡ min (a + 1) (2 ^ 64 - 1) → (a < b) ⊎ (b ≡ 2 ^ 64 - 1)
+count_cases a b e = split (cases_lt a b)
+  where
+    split : (a < b) ⊎ (b ≤ a) → (a < b) ⊎ (b ≡ 2 ^ 64 - 1)
+    split (inl x) = inl x
+    split (inr x) = inr (omega arith)
+
+has_failed : (s t : BoxState) → Refuses SourceFailed s t → HasFailed s t
+has_failed s t h = go s.ledger.faults t.ledger.faults (ap (λ l. l.faults) h.ledger)
+  where
+    go : (a b : ℕ) → b ≡ min (a + 1) (2 ^ 64 - 1) → (a < b) ⊎ (2 ^ 64 - 1 ≤ b)
+    go a b e = elim (count_cases a b e) [
+      | inl rises ↦ inl rises
+      | inr at_end ↦ inr (omega (arith, at_end))
+    ]
+
+-- the source fails in the bind
+pub failed_leads : AreObjects → (e n : Shown) (sid : ℕ) (text : List ℕ) (user : Name) (d : DdlTree) (t : TableObject) (place : ℕ) → IsRead e sid text user (on_objects d) → IsAllowed e user d (new_table t)
+    → (h : ChangesAt e.boxes place (Refuses SourceFailed) n.boxes) → EachRises e.boxes n.boxes → ((w : World) → Agrees e w → Agrees n w) → Leads e sid (sql text) (refused SourceFault) n
+unfolding failed_source
+failed_leads law e n sid text user d t place read allowed h rises kept = record {
+  trouble = failed_source;
+  befell = record {
+    source = λ q. record { slot = place; before = h.before; after = h.after; was = h.there; is = h.now; holds = has_failed h.before h.after h.change };
+    numbers = λ q. absurd (false≢true q);
+  };
+  rises = rises;
+  step = λ w a. (
+    w,
+    source_fails refl (new_session user) (on_objects d) (known e w sid text user (on_objects d) a read).is (not_early law e w sid text user d (new_table t) read a allowed) refl refl,
+    kept w a,
+  );
+}

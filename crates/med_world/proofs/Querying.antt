@@ -1,0 +1,213 @@
+-- A query leads to its reply.
+use Rattle.std.proofs.Common.{◌≡◌, ℕ, ◌<◌, ◌≤◌, true, false, List, [], ◌∷◌, Option, Some, slice_get, length, map, codes, refl, ap, sym, ◌∙◌, subst, arith, inl, inr, zero, suc, IsPermutation}
+use Rattle.std.proofs.lemmas.Bool.{false≢true}
+use Rattle.std.proofs.lemmas.List.Sorted.{IsPermutation-refl, IsPermutation-map}
+use Rattle.med_value.specs.Datum.{Tuple}
+use Rattle.med_value.specs.declared.cause.Cause.{Cause}
+use Rattle.med_value.specs.declared.cause.Cause.TheVariants.{SourceFault}
+use Rattle.med_syntax.specs.Tree.{Name}
+use Rattle.med_syntax.specs.QueryTree.{SelectTree, select}
+use Rattle.tri_expr.specs.declared.expr.Fault.TheVariants.{Range, Zero}
+use Rattle.med_query.specs.Query.{Tables, SameRows, IsAnswer}
+use Rattle.fdw_api.specs.Kinds.{Held, held}
+use Rattle.fdw_api.specs.Scan.{TableRow}
+use Rattle.fdw_api.specs.State.{BoxState, rows_of}
+use Rattle.pushdown.specs.Offered.{Place}
+use Rattle.med_planner.specs.Planned.{tuples_of, rows_shown, entry_rows, QueryCauses}
+use Rattle.med_exec.specs.Slots.{BoxAt}
+use Rattle.med_exec.specs.Running.{SlotShows, HasFailed, AllHonest}
+use Rattle.bind_names.specs.Meaning.{Meant}
+use Rattle.med_catalog.specs.Objects.{Objects}
+use Rattle.bind_catalog.specs.Queries.{QueryNames, QueryTypes, meant_by, IsBindable, NotBound}
+use Rattle.bind_catalog.specs.Places.{Attached, IsPlaceOf, ArePlaces}
+use Rattle.med_world.specs.Requests.{sql}
+use Rattle.command_parser.specs.CommandTree.{on_data}
+use Rattle.med_world.specs.Picks.{no_pick}
+use Rattle.med_world.specs.World.{World, new_session, cells_of, rows_in}
+use Rattle.med_world.specs.Causes.{query_of, entry_tables, meant_over, entries_in, QueryState, QueryRun, SelectCauses, IsPickOf, phase}
+use Rattle.med_world.specs.Replies.{answered, refused}
+use Rattle.med_world.specs.Steps.{is_done, source_fails}
+use Rattle.med_world.specs.Engine.{Shown, AreRowsOf, RowsAgree, Agrees, EachRises, Leads}
+use Rattle.med_world.specs.Selecting.{Selects}
+use Rattle.med_world.specs.Laws.{IsRead}
+use Rattle.med_world.proofs.Lists.{some_same}
+use Rattle.med_world.proofs.Faring.{none_rises}
+use Rattle.med_world.proofs.Told.{told_tree, none_tree, before_tree, pick_tree}
+use Rattle.med_world.proofs.Leading.{calm, calm_befell, known, leads_refused, leads_memory}
+
+-- a cause of names or rights is of phase 3, and one of types of phase 4: laws of the binder
+pub record ArePhased : Type 0 where
+  pub names : (o : Objects) (user : Name) (q : SelectTree) (c : Cause) → QueryNames o user q c → phase c ≡ 3
+  pub types : (o : Objects) (q : SelectTree) (c : Cause) → QueryTypes o q c → phase c ≡ 4
+
+pub state_phase : (w : World) (q : SelectTree) (c : Cause) → QueryState w q c → phase c ≡ 5
+state_phase w q c (many, e) = ap phase e
+
+pub run_phase : (w : World) (q : SelectTree) (c : Cause) → QueryRun w q c → phase c ≡ 6
+run_phase w q c (inl (Range, h, e)) = ap phase e
+run_phase w q c (inl (Zero, h, e)) = ap phase e
+run_phase w q c (inr (grouped, big, e)) = ap phase e
+
+pub select_phase : ArePhased → (w : World) (user : Name) (q : SelectTree) (c : Cause) → SelectCauses w user q c → 3 ≤ phase c
+select_phase law w user q c (inl h) = let p : phase c ≡ 3 = law.names w.catalog user q c h in omega arith
+select_phase law w user q c (inr (inl h)) = let p : phase c ≡ 4 = law.types w.catalog q c h in omega arith
+select_phase law w user q c (inr (inr (inl h))) = let p : phase c ≡ 5 = state_phase w q c h in omega arith
+select_phase law w user q c (inr (inr (inr h))) = let p : phase c ≡ 6 = run_phase w q c h in omega arith
+
+-- where nothing stands before it, a cause of a later phase is told
+from_types : ArePhased → (w : World) (user : Name) (q : SelectTree) → ((d : Cause) → QueryNames w.catalog user q d → ⊥) → (c : Cause) → SelectCauses w user q c → 4 ≤ phase c
+from_types law w user q names c (inl h) = absurd (names c h)
+from_types law w user q names c (inr (inl h)) = let p : phase c ≡ 4 = law.types w.catalog q c h in omega arith
+from_types law w user q names c (inr (inr (inl h))) = let p : phase c ≡ 5 = state_phase w q c h in omega arith
+from_types law w user q names c (inr (inr (inr h))) = let p : phase c ≡ 6 = run_phase w q c h in omega arith
+
+pub from_state : (w : World) (user : Name) (q : SelectTree) → IsBindable w.catalog user q → (c : Cause) → SelectCauses w user q c → 5 ≤ phase c
+from_state w user q b c (inl h) = absurd (b.names c h)
+from_state w user q b c (inr (inl h)) = absurd (b.types c h)
+from_state w user q b c (inr (inr (inl h))) = let p : phase c ≡ 5 = state_phase w q c h in omega arith
+from_state w user q b c (inr (inr (inr h))) = let p : phase c ≡ 6 = run_phase w q c h in omega arith
+
+from_run : (w : World) (user : Name) (q : SelectTree) → IsBindable w.catalog user q → ((d : Cause) → QueryState w q d → ⊥) → (c : Cause) → SelectCauses w user q c → 6 ≤ phase c
+from_run w user q b none c (inl h) = absurd (b.names c h)
+from_run w user q b none c (inr (inl h)) = absurd (b.types c h)
+from_run w user q b none c (inr (inr (inl h))) = absurd (none c h)
+from_run w user q b none c (inr (inr (inr h))) = let p : phase c ≡ 6 = run_phase w q c h in omega arith
+
+-- ---- the rows of the entries
+
+cells_held : (rows : List TableRow) → cells_of (map held rows) ≡ map (λ (r : TableRow). r.cells) rows
+cells_held [] = refl
+cells_held (r ∷ rs) = ap (λ (xs : List Tuple). r.cells ∷ xs) (cells_held rs)
+
+row_agrees : (boxes : List (Option BoxState)) (a : Attached) (rows : List Held) → AreRowsOf boxes a rows → BoxAt boxes a.source (λ s. IsPermutation (tuples_of s a.number) (cells_of rows))
+row_agrees boxes a rows h = record {
+  box = h.box;
+  there = h.there;
+  holds = subst (λ (xs : List Tuple). IsPermutation xs (cells_of rows)) (cells_held (rows_of h.box a.number)) (IsPermutation-map (λ (x : Held). x.cells) (map held (rows_of h.box a.number)) rows h.holds);
+}
+
+rows_agree : (boxes : List (Option BoxState)) (bound : List Attached) (rows : List (List Held)) (k : ℕ) (a : Attached) → RowsAgree boxes bound rows → slice_get bound k ≡ Some a → BoxAt boxes a.source (λ s. IsPermutation (tuples_of s a.number) (rows_in rows k))
+rows_agree boxes [] [] k a h at = absurd cc
+rows_agree boxes [] (r ∷ rs) k a h at = absurd h
+rows_agree boxes (b ∷ bs) [] k a h at = absurd h
+rows_agree boxes (b ∷ bs) (r ∷ rs) zero a h at = subst (λ (x : Attached). BoxAt boxes x.source (λ s. IsPermutation (tuples_of s x.number) (cells_of r))) (some_same b a at) (row_agrees boxes b r h.0)
+rows_agree boxes (b ∷ bs) (r ∷ rs) (suc k) a h at = rows_agree boxes bs rs k a h.1 at
+
+place_rows : (boxes : List (Option BoxState)) (bound : List Attached) (rows : List (List Held)) (k : ℕ) (p : Place) → RowsAgree boxes bound rows → IsPlaceOf bound k p → IsPermutation (rows_shown (slice_get boxes p.source) p.table) (rows_in rows k)
+place_rows boxes bound rows k p h i =
+    let b = rows_agree boxes bound rows k i.at h i.there in
+    let is : rows_shown (slice_get boxes p.source) p.table ≡ tuples_of b.box i.at.number =
+    ap (λ (s : ℕ). rows_shown (slice_get boxes s) p.table) i.source ∙ ap (λ (o : Option (Option BoxState)). rows_shown o p.table) b.there ∙ ap (λ (t : ℕ). tuples_of b.box t) i.number in
+    subst (λ (xs : List Tuple). IsPermutation xs (rows_in rows k)) (sym is) b.holds
+
+pub entries_agree : (boxes : List (Option BoxState)) (bound : List Attached) (rows : List (List Held)) (ks : List ℕ) (ps : List Place) → RowsAgree boxes bound rows → ArePlaces bound ks ps → SameRows (entry_rows boxes ps) (entry_tables ks (rows_in rows))
+entries_agree boxes bound rows [] [] h is t = IsPermutation-refl []
+entries_agree boxes bound rows [] (p ∷ ps) h is t = absurd is
+entries_agree boxes bound rows (k ∷ ks) [] h is t = absurd is
+entries_agree boxes bound rows (k ∷ ks) (p ∷ ps) h is zero = place_rows boxes bound rows k p h is.0
+entries_agree boxes bound rows (k ∷ ks) (p ∷ ps) h is (suc t) = entries_agree boxes bound rows ks ps h is.1 t
+
+-- ---- in a world that agrees
+
+pub bindable_in : (e : Shown) (w : World) (user : Name) (q : SelectTree) → Agrees e w → IsBindable e.catalog user q → IsBindable w.catalog user q
+bindable_in e w user q a h = subst (λ (o : Objects). IsBindable o user q) (sym a.catalog) h
+
+pub same_meant : (e : Shown) (w : World) (q : SelectTree) → Agrees e w → meant_by e.catalog q ≡ meant_over w q
+same_meant e w q a = ap (λ (o : Objects). meant_by o q) (sym a.catalog)
+
+same_entries : (e : Shown) (w : World) (q : SelectTree) (places : List Place) → Agrees e w → ArePlaces e.bound (meant_by e.catalog q).entries places → SameRows (entry_rows e.boxes places) (entry_tables (meant_by e.catalog q).entries (rows_in w.rows))
+same_entries e w q places a are = entries_agree e.boxes e.bound w.rows (meant_by e.catalog q).entries places a.rows are
+
+none_many : (e : Shown) (w : World) (q : SelectTree) → Agrees e w → length (meant_by e.catalog q).entries ≤ 8 → (d : Cause) → QueryState w q d → ⊥
+none_many e w q a few d h =
+    let less : length (meant_over w q).entries ≤ 8 = subst (λ (m : Meant). length m.entries ≤ 8) (same_meant e w q a) few in
+    let more : 8 < length (meant_over w q).entries = h.0 in
+    omega arith
+
+abbrev ShowsIn : World → Meant → Cause → Type 0
+ShowsIn w m c = QueryCauses (query_of m) (entry_tables m.entries (rows_in w.rows)) c
+
+none_runs : (e new : Shown) (w : World) (user : Name) (q : SelectTree) (names : List Name) (given : List Tuple) → Agrees e w → Selects e.catalog user e.bound q e.boxes names given new.boxes → (d : Cause) → QueryRun w q d → ⊥
+none_runs e new w user q names given a h = subst (λ (m : Meant). (d : Cause) → ShowsIn w m d → ⊥) (same_meant e w q a)
+    (h.answers.clear a.honest (entry_tables (meant_by e.catalog q).entries (rows_in w.rows)) (same_entries e w q h.places a h.are))
+
+answers_in : (e new : Shown) (w : World) (user : Name) (q : SelectTree) (names : List Name) (given : List Tuple) → Agrees e w → Selects e.catalog user e.bound q e.boxes names given new.boxes → IsAnswer (query_of (meant_over w q)) (entries_in w q) given
+answers_in e new w user q names given a h = subst (λ (m : Meant). IsAnswer (query_of m) (entry_tables m.entries (rows_in w.rows)) given) (same_meant e w q a)
+    (h.answers.answers a.honest (entry_tables (meant_by e.catalog q).entries (rows_in w.rows)) (same_entries e w q h.places a h.are))
+
+none_select : (w : World) (user : Name) (q : SelectTree) → IsBindable w.catalog user q → ((d : Cause) → QueryState w q d → ⊥) → ((d : Cause) → QueryRun w q d → ⊥) → (d : Cause) → SelectCauses w user q d → ⊥
+none_select w user q b states runs d (inl h) = b.names d h
+none_select w user q b states runs d (inr (inl h)) = b.types d h
+none_select w user q b states runs d (inr (inr (inl h))) = states d h
+none_select w user q b states runs d (inr (inr (inr h))) = runs d h
+
+pub picks_none : (e : Shown) (w : World) (sid : ℕ) (text : List ℕ) (user : Name) (q : SelectTree) → Agrees e w → IsRead e sid text user (on_data (select q)) → IsPickOf w sid (sql text) no_pick
+picks_none e w sid text user q a read = pick_tree w sid no_pick text (new_session user) (on_data (select q)) (known e w sid text user (on_data (select q)) a read) tt
+
+-- The query is answered. `kept` and `rises` are what serving a run leaves of worlds and boxes.
+pub selects_leads : (e new : Shown) (sid : ℕ) (text : List ℕ) (user : Name) (q : SelectTree) (names : List Name) (given : List Tuple) → IsRead e sid text user (on_data (select q)) → Selects e.catalog user e.bound q e.boxes names given new.boxes
+    → EachRises e.boxes new.boxes → ((w : World) → Agrees e w → Agrees new w) → Leads e sid (sql text) (answered (codes "SELECT") names given) new
+selects_leads e new sid text user q names given read h rises kept = record {
+  trouble = calm;
+  befell = calm_befell e.boxes new.boxes;
+  rises = rises;
+  step = λ w a. (
+    w,
+    is_done no_pick (picks_none e w sid text user q a read)
+        (none_tree w sid no_pick text (new_session user) (on_data (select q)) (known e w sid text user (on_data (select q)) a read)
+        (none_select w user q (bindable_in e w user q a h.bindable) (none_many e w q a h.few) (none_runs e new w user q names given a h))) (
+          new_session user,
+          on_data (select q),
+          (known e w sid text user (on_data (select q)) a read).is,
+          ((given, answers_in e new w user q names given a h, ap (λ (ns : List Name). answered (codes "SELECT") ns given) (h.named ∙ ap (λ (m : Meant). m.names) (same_meant e w q a))), refl),
+        ),
+    kept w a,
+  );
+}
+
+-- one that is not bound
+pub not_bound_leads : ArePhased → (e : Shown) (sid : ℕ) (text : List ℕ) (user : Name) (q : SelectTree) (c : Cause) → IsRead e sid text user (on_data (select q)) → NotBound e.catalog user q c → Leads e sid (sql text) (refused c) e
+not_bound_leads law e sid text user q c read (inl is) = subst (λ (d : Cause). Leads e sid (sql text) (refused d) e) (sym is) (leads_memory e e sid (sql text) tt (none_rises e.boxes) (λ w a. a))
+not_bound_leads law e sid text user q c read (inr (inl h)) = leads_refused e e sid (sql text) c (none_rises e.boxes) (λ w a. a) (λ w a. (
+  no_pick,
+  picks_none e w sid text user q a read,
+  told_tree w sid no_pick text (new_session user) (on_data (select q)) c (known e w sid text user (on_data (select q)) a read) (inl (subst (λ (o : Objects). QueryNames o user q c) (sym a.catalog) h))
+      (λ d x. let p : phase c ≡ 3 = law.names e.catalog user q c h in let r : 3 ≤ phase d = select_phase law w user q d x in omega arith),
+))
+not_bound_leads law e sid text user q c read (inr (inr (h, none))) = leads_refused e e sid (sql text) c (none_rises e.boxes) (λ w a. a) (λ w a. (
+  no_pick,
+  picks_none e w sid text user q a read,
+  told_tree w sid no_pick text (new_session user) (on_data (select q)) c (known e w sid text user (on_data (select q)) a read) (inr (inl (subst (λ (o : Objects). QueryTypes o q c) (sym a.catalog) h)))
+      (λ d x. let p : phase c ≡ 4 = law.types e.catalog q c h in
+      let r : 4 ≤ phase d = from_types law w user q (subst (λ (o : Objects). (y : Cause) → QueryNames o user q y → ⊥) (sym a.catalog) none) d x in omega arith),
+))
+
+-- one whose run shows a cause
+pub shows_run_leads : (e new : Shown) (sid : ℕ) (text : List ℕ) (user : Name) (q : SelectTree) (places : List Place) (c : Cause) → IsRead e sid text user (on_data (select q)) → IsBindable e.catalog user q → length (meant_by e.catalog q).entries ≤ 8
+    → ArePlaces e.bound (meant_by e.catalog q).entries places → (AllHonest e.boxes → (db : Tables) → SameRows (entry_rows e.boxes places) db → QueryCauses (query_of (meant_by e.catalog q)) db c)
+    → EachRises e.boxes new.boxes → ((w : World) → Agrees e w → Agrees new w) → Leads e sid (sql text) (refused c) new
+shows_run_leads e new sid text user q places c read b few are h rises kept = leads_refused e new sid (sql text) c rises kept (λ w a. (
+  no_pick,
+  picks_none e w sid text user q a read,
+  let run : QueryRun w q c = subst (λ (m : Meant). ShowsIn w m c) (same_meant e w q a) (h a.honest (entry_tables (meant_by e.catalog q).entries (rows_in w.rows)) (same_entries e w q places a are)) in
+      told_tree w sid no_pick text (new_session user) (on_data (select q)) c (known e w sid text user (on_data (select q)) a read) (inr (inr (inr run)))
+      (λ d x. let p : phase c ≡ 6 = run_phase w q c run in let r : 6 ≤ phase d = from_run w user q (bindable_in e w user q a b) (none_many e w q a few) d x in omega arith),
+))
+
+-- one for which a source failed
+pub fails_leads : (e new : Shown) (sid : ℕ) (text : List ℕ) (user : Name) (q : SelectTree) → IsRead e sid text user (on_data (select q)) → IsBindable e.catalog user q → SlotShows e.boxes new.boxes HasFailed
+    → EachRises e.boxes new.boxes → ((w : World) → Agrees e w → Agrees new w) → Leads e sid (sql text) (refused SourceFault) new
+fails_leads e new sid text user q read b h rises kept = record {
+  trouble = record { memory = false; asked = false; source = true; numbers = false };
+  befell = record {
+    source = λ x. record { slot = h.slot; before = h.before; after = h.after; was = h.was; is = h.is; holds = h.shows };
+    numbers = λ x. absurd (false≢true x);
+  };
+  rises = rises;
+  step = λ w a. (
+    w,
+    source_fails refl (new_session user) (on_data (select q)) (known e w sid text user (on_data (select q)) a read).is
+        (before_tree w sid text (new_session user) (on_data (select q)) (known e w sid text user (on_data (select q)) a read) (λ p d x. let r : 5 ≤ phase d = from_state w user q (bindable_in e w user q a b) d x in omega arith)) refl refl,
+    kept w a,
+  );
+}

@@ -1,0 +1,19 @@
+use Rattle.med_world.proofs.Faring.{none_rises}
+use Rattle.med_world.proofs.Leading.{leads_memory}
+use Rattle.med_world.proofs.Sessions.{opened, opened_twice, closed, closed_twice}
+use Rattle.med_world.proofs.law.sessions_lead.Goals as goal
+
+pub returns-clause-opened : goal.returns-clause-opened
+returns-clause-opened c = opened
+
+pub returns-clause-not_opened : goal.returns-clause-not_opened
+returns-clause-not_opened c = opened_twice
+
+pub returns-clause-closed : goal.returns-clause-closed
+returns-clause-closed c = closed
+
+pub returns-clause-not_closed : goal.returns-clause-not_closed
+returns-clause-not_closed c = closed_twice
+
+pub returns-clause-no_memory : goal.returns-clause-no_memory
+returns-clause-no_memory c = λ e sid request takes. leads_memory e e sid request takes (none_rises e.boxes) (λ w a. a)

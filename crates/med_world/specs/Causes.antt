@@ -1,0 +1,143 @@
+-- The causes of refusal that stand for a request in a world: a set of causes, with no order of checks.
+use Rattle.std.specs.Prelude.{◌≡◌, ◌<◌, ◌≤◌, ◌⊎◌, ℕ, zero, suc, List, [], ◌∷◌, length, Option, Some, Contains, unwrap_or}
+use Rattle.med_value.specs.Causes.{phase_of}
+use Rattle.med_value.specs.declared.cause.Cause.{Cause}
+use Rattle.med_value.specs.declared.cause.Cause.TheVariants.{Protocol, NoConnection, LimitExceeded, UnableToConnect}
+use Rattle.med_syntax.specs.Tree.{Name}
+use Rattle.med_syntax.specs.QueryTree.{SelectTree, select}
+use Rattle.med_query.specs.Query.{Query, Tables}
+use Rattle.med_query.specs.Form.{query_by}
+use Rattle.fdw_api.specs.Kinds.{Kind, Entry, Holding, Reading}
+use Rattle.fdw_api.specs.Calls.{Picks}
+use Rattle.command_parser.specs.CommandCauses.{SyntaxCauses}
+use Rattle.bind_names.specs.Meaning.{Meant}
+use Rattle.med_planner.specs.Planned.{QueryCauses}
+use Rattle.ddl_syntax.specs.DdlTree.{DdlTree}
+use Rattle.med_catalog.specs.Objects.{TableObject}
+use Rattle.med_catalog.specs.Changes.{ObjectChange, new_server, new_table, Asks}
+use Rattle.med_catalog.specs.DdlCauses.{DdlCauses}
+use Rattle.bind_catalog.specs.Queries.{meant_by, QueryNames, QueryTypes}
+use Rattle.command_parser.specs.CommandTree.{CommandTree, on_data, on_objects}
+use Rattle.command_parser.specs.CommandGrammar.{HasCommand}
+use Rattle.med_world.specs.Picks.{Pick}
+use Rattle.med_world.specs.Requests.{Asked, opening, sql, bye, IsUser}
+use Rattle.med_world.specs.World.{World, Session, IsOpen, rows_in, IsFree, Serves, is_leased}
+
+-- Phase 1, the frame. 08P01: OPEN of a session that is open, or with a user who is none by the protocol.
+-- 08003: a statement or BYE of a session that is not open.
+abbrev pub FrameCauses : World → ℕ → Asked → Cause → Type 0
+FrameCauses w sid (opening user) c = (c ≡ Protocol) × (IsOpen w sid ⊎ (IsUser user → ⊥))
+FrameCauses w sid (sql text) c = (c ≡ NoConnection) × (IsOpen w sid → ⊥)
+FrameCauses w sid bye c = (c ≡ NoConnection) × (IsOpen w sid → ⊥)
+
+-- ---- a query
+
+-- the query, over the entries of FROM, which are counted from 0 (SQL:2016, <query specification>)
+abbrev pub query_of : Meant → Query
+query_of m = query_by m.form
+
+-- an entry of FROM has the rows of the table in its place (SQL:2016, <from clause>)
+abbrev pub entry_tables : List ℕ → Tables → Tables
+entry_tables [] db k = []
+entry_tables (p ∷ ps) db zero = db p
+entry_tables (p ∷ ps) db (suc k) = entry_tables ps db k
+
+-- what it means over the world's tables, and the rows of the entries of its FROM
+abbrev pub meant_over : World → SelectTree → Meant
+meant_over w q = meant_by w.catalog q
+
+abbrev pub entries_in : World → SelectTree → Tables
+entries_in w q = entry_tables (meant_over w q).entries (rows_in w.rows)
+
+-- Phase 5: 54000 where FROM has more than 8 entries.
+abbrev pub QueryState : World → SelectTree → Cause → Type 0
+QueryState w q c = (8 < length (meant_over w q).entries) × (c ≡ LimitExceeded)
+
+-- Phase 6: the faults that the query shows over the rows of its entries, and 54000 where it groups too many of them.
+abbrev pub QueryRun : World → SelectTree → Cause → Type 0
+QueryRun w q c = QueryCauses (query_of (meant_over w q)) (entries_in w q) c
+
+abbrev pub SelectCauses : World → Name → SelectTree → Cause → Type 0
+SelectCauses w user q c = QueryNames w.catalog user q c ⊎ (QueryTypes w.catalog q c ⊎ (QueryState w q c ⊎ QueryRun w q c))
+
+-- ---- a statement on objects
+
+-- what the kind of the table's source reads from this entry under the table's remote name
+pub record Reads (w : World) (t : TableObject) (entry : Option Entry) (reading : Reading) : Type 0 where
+  pub kind : Kind
+  pub holdings : Name → Holding
+  pub serves : Serves w t.server kind holdings
+  pub read : reading ≡ kind.reads t.columns t.settings entry
+
+-- Phases 5 and 6, as sources show them: HV00N where a server's source is not a free one of its kind, and what stands against the entry that
+-- a table is bound to.
+abbrev pub SourceCauses : World → Pick → ObjectChange → Cause → Type 0
+SourceCauses w p (new_server s) c = (c ≡ UnableToConnect) × (IsFree w s.source s.kind → ⊥)
+SourceCauses w p (new_table t) c = (reading : Reading) × Reads w t p.entry reading × Contains reading.causes c
+SourceCauses w p other c = ⊥
+
+-- Phases 3 to 6: those that the catalogue and the leases show, and those of the sources.
+abbrev pub ObjectCauses : World → Name → Pick → DdlTree → Cause → Type 0
+ObjectCauses w user p d c =
+    DdlCauses w.catalog (is_leased w) user d c ⊎ ((change : ObjectChange) × Asks w.catalog user d change × SourceCauses w p change c)
+
+-- ---- a statement
+
+-- Phases 3 to 6, by the statement.
+abbrev pub TreeCauses : World → Session → Pick → CommandTree → Cause → Type 0
+TreeCauses w s p (on_data (select q)) c = SelectCauses w s.user q c
+TreeCauses w s p (on_objects d) c = ObjectCauses w s.user p d c
+
+-- the session is open, and the request is a statement with this tree
+abbrev pub IsStatementOf : World → ℕ → Asked → Session → CommandTree → Type 0
+IsStatementOf w sid (opening user) s tree = ⊥
+IsStatementOf w sid (sql text) s tree = (w.sessions sid ≡ Some s) × HasCommand text tree
+IsStatementOf w sid bye s tree = ⊥
+
+-- Of a statement: phase 2, its syntax, and what its tree shows.
+abbrev pub StatementCauses : World → ℕ → Pick → Asked → Cause → Type 0
+StatementCauses w sid p (opening user) c = ⊥
+StatementCauses w sid p (sql text) c =
+    SyntaxCauses text c ⊎ ((s : Session) × (tree : CommandTree) × IsStatementOf w sid (sql text) s tree × TreeCauses w s p tree c)
+StatementCauses w sid p bye c = ⊥
+
+abbrev pub Stands : World → ℕ → Pick → Asked → Cause → Type 0
+Stands w sid p request c = FrameCauses w sid request c ⊎ StatementCauses w sid p request c
+
+-- ---- what may be picked
+
+-- the entry that a new table's source may hold under its remote name
+abbrev pub PicksEntry : World → TableObject → Pick → Type 0
+PicksEntry w t p = (kind : Kind) (holdings : Name → Holding) → Serves w t.server kind holdings → Picks (holdings t.remote) p.entry
+
+abbrev pub IsPick : World → Session → CommandTree → Pick → Type 0
+IsPick w s (on_data q) p = Unit {0}
+IsPick w s (on_objects d) p = (t : TableObject) → Asks w.catalog s.user d (new_table t) → PicksEntry w t p
+
+-- no cause of syntax stands against the text
+abbrev pub IsWellFormed : Asked → Type 0
+IsWellFormed (opening user) = Unit {0}
+IsWellFormed (sql text) = (c : Cause) → SyntaxCauses text c → ⊥
+IsWellFormed bye = Unit {0}
+
+-- of a request: nothing is open but of its statement, once its text is well formed
+abbrev pub IsPickOf : World → ℕ → Asked → Pick → Type 0
+IsPickOf w sid request p = (s : Session) (tree : CommandTree) → IsStatementOf w sid request s tree → IsWellFormed request → IsPick w s tree p
+
+-- ---- which is told
+
+-- the phase of a cause; want of memory and a source's fault have none, and never stand
+abbrev pub phase : Cause → ℕ
+phase c = unwrap_or (phase_of c) 7
+
+-- a cause of the least phase in which one stands
+pub record IsTold (w : World) (sid : ℕ) (p : Pick) (request : Asked) (c : Cause) : Type 0 where
+  pub stands : Stands w sid p request c
+  pub least : (d : Cause) → Stands w sid p request d → phase c ≤ phase d
+
+abbrev pub NoneStands : World → ℕ → Pick → Asked → Type 0
+NoneStands w sid p request = (c : Cause) → Stands w sid p request c → ⊥
+
+-- no cause of phases 1 to 4 stands, whatever is picked
+abbrev pub NoneBeforeState : World → ℕ → Asked → Type 0
+NoneBeforeState w sid request = (p : Pick) (c : Cause) → Stands w sid p request c → 4 < phase c

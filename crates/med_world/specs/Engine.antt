@@ -1,0 +1,283 @@
+-- What an engine shows, when its calls may be made, and when a world agrees with it.
+use Rattle.std.specs.Prelude.{◌≡◌, ◌≤◌, ◌-◌, ◌^◌, ℕ, zero, suc, true, false, List, [], ◌∷◌, ◌++◌, map, length, Option, Some, None, option_map, min, slice_get, slice_set, Contains, IsPermutation, bytes_eq, IsSome}
+use Rattle.std.specs.List.{IsDistinct}
+use Rattle.med_value.specs.declared.cause.Cause.{Cause}
+use Rattle.med_syntax.specs.Tree.{Name}
+use Rattle.fdw_api.specs.Kinds.{Column, Held, held, kinds_of}
+use Rattle.fdw_api.specs.State.{BoxState, Bound, IsIdle, is_honest, table_of, scan_of, rows_of}
+use Rattle.fdw_api.specs.Calls.{Binds, Unbinds}
+use Rattle.fdw_api.specs.Sound.{IsSoundBox}
+use Rattle.med_exec.specs.Slots.{BoxAt, ChangesAt}
+use Rattle.med_exec.specs.Running.{HasFailed, IsUsedUp}
+use Rattle.bind_catalog.specs.Places.{Attached}
+use Rattle.med_world.specs.Requests.{Asked, IsSid, IsUser}
+use Rattle.med_catalog.specs.declared.kind.SourceKind.{SourceKind}
+use Rattle.med_catalog.specs.Objects.{ServerObject, TableObject, Objects, server_named}
+use Rattle.ddl_syntax.specs.DdlTree.{TableTree}
+use Rattle.med_catalog.specs.Options.{table_settings, column_settings}
+use Rattle.med_catalog.specs.DdlCauses.{Stands, create_table_rows}
+use Rattle.med_catalog.specs.Changes.{AreDeclared, ObjectChange, new_table, no_server, no_table, changed}
+use Rattle.med_world.specs.World.{World, Source, SourceState, standing, dropped, Session, new_session, with_session, without_sessions, beside_without}
+use Rattle.med_world.specs.Steps.{Trouble, Step}
+use Rattle.med_world.specs.Replies.{Reply, reply_text}
+
+-- a source as it was added: its name, and its kind
+pub record Label : Type 0 where
+  pub name : Name
+  pub kind : SourceKind
+
+-- what an engine shows, and what its boxes show: each foreign table of the catalogue has its place in `bound`, and the user of session n
+-- stands in place n - 1
+pub record Shown : Type 0 where
+  pub catalog : Objects
+  pub labels : List Label
+  pub boxes : List (Option BoxState)
+  pub bound : List Attached
+  pub users : List (Option Name)
+
+abbrev pub user_in : Option (Option Name) → Option Name
+user_in None = None
+user_in (Some user) = user
+
+-- the user of an open session
+abbrev pub user_of : List (Option Name) → ℕ → Option Name
+user_of users sid = user_in (slice_get users (sid - 1))
+
+-- no scan is live and nothing is staged
+pub record IsAtRest (s : BoxState) : Type 0 where
+  pub no_scan : (q : ℕ) → scan_of s q ≡ None
+  pub no_staging : s.ledger.staged ≡ None
+
+-- this holds of each box that is there
+abbrev pub EachBox : (BoxState → Type 0) → List (Option BoxState) → Type 0
+EachBox P boxes = (slot : ℕ) (s : BoxState) → slice_get boxes slot ≡ Some (Some s) → P s
+
+-- ---- what the catalogue keeps
+
+-- No two servers have one name or one source, no two tables one name, and each table has its server.
+pub record AreSound (o : Objects) : Type 0 where
+  pub owner : IsUser o.owner
+  pub server_names : IsDistinct bytes_eq (map (λ (s : ServerObject). s.name) o.servers)
+  pub sources_once : IsDistinct bytes_eq (map (λ (s : ServerObject). s.source) o.servers)
+  pub table_names : IsDistinct bytes_eq (map (λ (t : TableObject). t.name) o.tables)
+  pub served : (t : TableObject) → Contains o.tables t → IsSome (server_named o t.server)
+
+-- ---- what an engine keeps
+
+-- the source's label stands in this place
+abbrev pub IsNamedAt : List Label → ℕ → Name → Type 0
+IsNamedAt labels place name = (l : Label) × (slice_get labels place ≡ Some l) × (l.name ≡ name)
+
+-- the source of the server of this name stands in this place
+pub record IsServerAt (e : Shown) (server : Name) (place : ℕ) : Type 0 where
+  pub at : ServerObject
+  pub is : server_named e.catalog server ≡ Some at
+  pub source : IsNamedAt e.labels place at.source
+
+-- the source of a server is there, and of the server's kind
+pub record IsStandingAt (e : Shown) (s : ServerObject) (place : ℕ) : Type 0 where
+  pub label : Label
+  pub there : slice_get e.labels place ≡ Some label
+  pub named : label.name ≡ s.source
+  pub of_kind : label.kind ≡ s.kind
+  pub box : BoxState
+  pub box_there : slice_get e.boxes place ≡ Some (Some box)
+
+-- the table of the catalogue is bound there: in the box of its server's source, for its remote name and its columns
+pub record IsBoundAs (e : Shown) (t : TableObject) (a : Attached) : Type 0 where
+  pub server : IsServerAt e t.server a.source
+  pub box : BoxState
+  pub there : slice_get e.boxes a.source ≡ Some (Some box)
+  pub bound : Bound
+  pub is : table_of box a.number ≡ Some bound
+  pub remote : bound.remote ≡ t.remote
+  pub kinds : bound.kinds ≡ kinds_of t.columns
+
+-- the box has bound this table, and it is one of these
+pub record IsAmong (bound : List Attached) (slot number : ℕ) : Type 0 where
+  pub place : ℕ
+  pub at : Attached
+  pub there : slice_get bound place ≡ Some at
+  pub source_is : at.source ≡ slot
+  pub number_is : at.number ≡ number
+
+-- A box of a source of this kind objects to no table that the catalogue lets pass: the rules of names, options and types are the kind's.
+abbrev pub TakesAs : SourceKind → BoxState → Type 0
+TakesAs kind s =
+    (o : Objects) (t : TableTree) (columns : List Column) → AreDeclared t.columns columns
+    → ((c : Cause) → Stands (create_table_rows o kind t) c → ⊥)
+    → s.nature.kind.objections columns (table_settings kind t.options ++ column_settings 1 t.columns) ≡ []
+
+-- each box takes what its source's kind does
+abbrev pub EachTakes : List Label → List (Option BoxState) → Type 0
+EachTakes labels boxes =
+    (place : ℕ) (l : Label) (s : BoxState) → slice_get labels place ≡ Some l → slice_get boxes place ≡ Some (Some s) → TakesAs l.kind s
+
+-- What each call of an engine asks, and keeps.
+pub record IsSound (e : Shown) : Type 0 where
+  pub objects : AreSound e.catalog
+  pub places : length e.boxes ≡ length e.labels
+  pub sources : length e.labels ≤ 64
+  pub sessions : length e.users ≡ 64
+  pub source_names : IsDistinct bytes_eq (map (λ (l : Label). l.name) e.labels)
+  pub at_rest : EachBox IsAtRest e.boxes
+  pub sound_boxes : EachBox IsSoundBox e.boxes
+  pub takes : EachTakes e.labels e.boxes
+  pub servers_stand : (s : ServerObject) → Contains e.catalog.servers s → (place : ℕ) × IsStandingAt e s place
+  pub many : length e.bound ≡ length e.catalog.tables
+  pub tables_bound : (k : ℕ) (t : TableObject) (a : Attached) → slice_get e.catalog.tables k ≡ Some t → slice_get e.bound k ≡ Some a
+      → IsBoundAs e t a
+  pub bound_attached : (slot number : ℕ) (s : BoxState) (b : Bound) → slice_get e.boxes slot ≡ Some (Some s) → table_of s number ≡ Some b
+      → IsAmong e.bound slot number
+  pub bound_once : (j k : ℕ) (a b : Attached) → slice_get e.bound j ≡ Some a → slice_get e.bound k ≡ Some b
+      → a.source ≡ b.source → a.number ≡ b.number → j ≡ k
+
+-- ---- a world that agrees
+
+-- what a world has of a source
+abbrev pub state_of : Option BoxState → SourceState
+state_of None = dropped
+state_of (Some s) = standing s.nature.kind s.content.holdings
+
+abbrev pub sources_of : List Label → List (Option BoxState) → List Source
+sources_of [] boxes = []
+sources_of (l ∷ ls) [] = []
+sources_of (l ∷ ls) (b ∷ bs) = record { name = l.name; kind = l.kind; state = state_of b } ∷ sources_of ls bs
+
+-- the rows of a table are those that its box shows, in any order
+abbrev pub AreRowsOf : List (Option BoxState) → Attached → List Held → Type 0
+AreRowsOf boxes a rows = BoxAt boxes a.source (λ s. IsPermutation (map held (rows_of s a.number)) rows)
+
+abbrev pub RowsAgree : List (Option BoxState) → List Attached → List (List Held) → Type 0
+RowsAgree boxes [] [] = Unit {0}
+RowsAgree boxes (a ∷ more) (r ∷ rs) = AreRowsOf boxes a r × RowsAgree boxes more rs
+RowsAgree boxes [] (r ∷ rs) = ⊥
+RowsAgree boxes (a ∷ more) [] = ⊥
+
+-- a session of the world is the engine's: closed, or open with its user and no cursor
+abbrev pub session_of : List (Option Name) → ℕ → Option Session
+session_of users sid = option_map new_session (user_of users sid)
+
+-- An engine stands for a world. Its boxes are honest, since of no other box the rows are known. No scan is live and nothing is staged.
+pub record Agrees (e : Shown) (w : World) : Type 0 where
+  pub honest : EachBox is_honest e.boxes
+  pub catalog : w.catalog ≡ e.catalog
+  pub sources : w.sources ≡ sources_of e.labels e.boxes
+  pub rows : RowsAgree e.boxes e.bound w.rows
+  pub sessions : (sid : ℕ) → IsSid sid → w.sessions sid ≡ session_of e.users sid
+  pub at_rest : EachBox IsAtRest e.boxes
+
+-- ---- from state to state
+
+-- the box of a slot shows this before, and that after
+pub record BoxBecomes (old new : List (Option BoxState)) (P : BoxState → BoxState → Type 0) : Type 0 where
+  pub slot : ℕ
+  pub before : BoxState
+  pub after : BoxState
+  pub was : slice_get old slot ≡ Some (Some before)
+  pub is : slice_get new slot ≡ Some (Some after)
+  pub holds : P before after
+
+-- What trouble may be told of a request between these states: that a source failed or that numbers are used up only where a box shows
+-- it. Whether memory was refused, no box shows.
+pub record Befell (old new : List (Option BoxState)) (t : Trouble) : Type 0 where
+  pub source : t.source ≡ true → BoxBecomes old new HasFailed
+  pub numbers : t.numbers ≡ true → BoxBecomes old new IsUsedUp
+
+-- a box keeps its nature, and what it counts goes up alone, to 2^64 - 1
+pub record Rises (old new : BoxState) : Type 0 where
+  pub nature : new.nature ≡ old.nature
+  pub next : old.ledger.next ≤ new.ledger.next
+  pub end : old.ledger.next ≡ 2 ^ 64 - 1 → new.ledger.next ≡ 2 ^ 64 - 1
+  pub faults : min old.ledger.faults (2 ^ 64 - 1) ≤ new.ledger.faults
+
+-- what becomes of a box: it rises, or it was dropped, and was idle as it went
+abbrev pub Fares : BoxState → Option BoxState → Type 0
+Fares s None = (last : BoxState) × Rises s last × IsIdle last
+Fares s (Some t) = Rises s t
+
+-- no box comes, one goes only idle and for good, and what each counts goes up alone
+pub record EachRises (old new : List (Option BoxState)) : Type 0 where
+  pub stays : (slot : ℕ) (s : BoxState) → slice_get old slot ≡ Some (Some s)
+      → (after : Option BoxState) × (slice_get new slot ≡ Some after) × Fares s after
+  pub stood : (slot : ℕ) (t : BoxState) → slice_get new slot ≡ Some (Some t)
+      → (s : BoxState) × (slice_get old slot ≡ Some (Some s)) × Rises s t
+  pub gone : (slot : ℕ) → slice_get old slot ≡ Some None → slice_get new slot ≡ Some None
+
+-- The request is answered by this reply: from each world that agrees before, a step leads to it and to a world that agrees after.
+pub record Leads (old : Shown) (sid : ℕ) (request : Asked) (reply : Reply) (new : Shown) : Type 0 where
+  pub trouble : Trouble
+  pub befell : Befell old.boxes new.boxes trouble
+  pub rises : EachRises old.boxes new.boxes
+  pub step : (w : World) → Agrees old w → (after : World) × Step w sid request trouble reply after × Agrees new after
+
+-- The request is answered by the bytes of a reply.
+pub record IsAnswered (old : Shown) (sid : ℕ) (request : Asked) (text : List ℕ) (new : Shown) : Type 0 where
+  pub reply : Reply
+  pub is : text ≡ reply_text sid reply
+  pub leads : Leads old sid request reply new
+
+-- The session is closed, and its user is gone. Nothing else changes.
+pub record Closes (old : Shown) (sid : ℕ) (new : Shown) : Type 0 where
+  pub others : new ≡ record old { users = new.users }
+  pub world : (w : World) → Agrees old w → Agrees new (with_session w sid None)
+
+-- every session is
+pub record ClosesAll (old new : Shown) : Type 0 where
+  pub others : new ≡ record old { users = new.users }
+  pub world : (w : World) → Agrees old w → Agrees new (without_sessions w)
+
+-- ---- how the engine makes a change of objects
+
+-- the engine with this change of the catalogue
+abbrev pub with_change : Shown → ObjectChange → Shown
+with_change e change = record e { catalog = changed change e.catalog }
+
+-- the change is of the catalogue alone
+abbrev pub IsOfCatalog : ObjectChange → Type 0
+IsOfCatalog (new_table t) = ⊥
+IsOfCatalog (no_table name) = ⊥
+IsOfCatalog (no_server name) = ⊥
+IsOfCatalog other = Unit {0}
+
+-- the first table of this name stands in this place
+abbrev pub IsFirst : Name → List TableObject → ℕ → Type 0
+IsFirst name [] place = ⊥
+IsFirst name (t ∷ ts) zero = bytes_eq name t.name ≡ true
+IsFirst name (t ∷ ts) (suc place) = (bytes_eq name t.name ≡ false) × IsFirst name ts place
+
+-- A new table is bound in the box of its server's source, and stands last.
+pub record BindsTable (old : Shown) (t : TableObject) (new : Shown) : Type 0 where
+  pub place : ℕ
+  pub server : IsServerAt old t.server place
+  pub number : ℕ
+  pub binds : ChangesAt old.boxes place (λ a b. Binds a t.remote t.columns t.settings number b) new.boxes
+  pub is : new ≡ record (with_change old (new_table t)) {
+    boxes = new.boxes;
+    bound = old.bound ++ record { source = place; number = number } ∷ [];
+  }
+
+-- The table of a name is unbound in its box, and its place is gone.
+pub record UnbindsTable (old : Shown) (name : Name) (new : Shown) : Type 0 where
+  pub place : ℕ
+  pub first : IsFirst name old.catalog.tables place
+  pub at : Attached
+  pub bound : slice_get old.bound place ≡ Some at
+  pub unbinds : ChangesAt old.boxes at.source (λ a b. Unbinds a at.number b) new.boxes
+  pub is : new ≡ record (with_change old (no_table name)) { boxes = new.boxes; bound = beside_without name old.catalog.tables old.bound }
+
+-- The source of the server of a name is dropped with its box, which is idle.
+pub record DropsBox (old : Shown) (name : Name) (new : Shown) : Type 0 where
+  pub place : ℕ
+  pub server : IsServerAt old name place
+  pub box : BoxState
+  pub there : slice_get old.boxes place ≡ Some (Some box)
+  pub idle : IsIdle box
+  pub is : new ≡ record (with_change old (no_server name)) { boxes = slice_set old.boxes place None }
+
+-- by the change
+abbrev pub Alters : Shown → ObjectChange → Shown → Type 0
+Alters old (new_table t) new = BindsTable old t new
+Alters old (no_table name) new = UnbindsTable old name new
+Alters old (no_server name) new = DropsBox old name new
+Alters old change new = new ≡ with_change old change

@@ -1,0 +1,11 @@
+pub mod Requests
+pub mod World
+pub mod Picks
+pub mod Causes
+pub mod Replies
+pub mod Steps
+pub mod Engine
+pub mod Altering
+pub mod Selecting
+pub mod Laws
+pub mod Adding

@@ -1,0 +1,48 @@
+-- What a query does to the boxes, and why it is refused.
+use Rattle.std.specs.Prelude.{◌≡◌, ◌<◌, ◌≤◌, List, length, Option}
+use Rattle.med_value.specs.Datum.{Tuple}
+use Rattle.med_value.specs.declared.cause.Cause.{Cause}
+use Rattle.med_value.specs.declared.cause.Cause.TheVariants.{LimitExceeded, OutOfMemory, SourceFault}
+use Rattle.med_syntax.specs.Tree.{Name}
+use Rattle.med_syntax.specs.QueryTree.{SelectTree}
+use Rattle.med_query.specs.Query.{Query, Tables, SameRows, IsAnswer}
+use Rattle.fdw_api.specs.State.{BoxState}
+use Rattle.pushdown.specs.Offered.{Place}
+use Rattle.med_planner.specs.Planned.{entry_rows, QueryCauses}
+use Rattle.med_exec.specs.Running.{AllServed, SlotShows, HasFailed, IsUsedUp, AllHonest}
+use Rattle.bind_catalog.specs.Queries.{meant_by, IsBindable, NotBound}
+use Rattle.bind_catalog.specs.Places.{Attached, ArePlaces}
+use Rattle.med_catalog.specs.Objects.{Objects}
+use Rattle.med_world.specs.Causes.{query_of}
+
+-- the same in whatever order the rows come
+pub record AnswersOver (q : Query) (places : List Place) (boxes : List (Option BoxState)) (rows : List Tuple) : Type 0 where
+  pub answers : AllHonest boxes → (db : Tables) → SameRows (entry_rows boxes places) db → IsAnswer q db rows
+  pub clear : AllHonest boxes → (db : Tables) → SameRows (entry_rows boxes places) db → (c : Cause) → QueryCauses q db c → ⊥
+
+-- why a run of the query has no rows
+pub data RunFails (q : Query) (places : List Place) (c : Cause) (old new : List (Option BoxState)) : Type 0 where
+  no_memory : c ≡ OutOfMemory → RunFails q places c old new
+  box_fails : c ≡ SourceFault → SlotShows old new HasFailed → RunFails q places c old new
+  numbers_out : c ≡ LimitExceeded → SlotShows old new IsUsedUp → RunFails q places c old new
+  shows_cause : (AllHonest old → (db : Tables) → SameRows (entry_rows old places) db → QueryCauses q db c) → RunFails q places c old new
+
+-- The query was answered from the boxes.
+pub record Selects (o : Objects) (user : Name) (bound : List Attached) (q : SelectTree) (old : List (Option BoxState))
+    (names : List Name) (given : List Tuple) (new : List (Option BoxState)) : Type 0 where
+  pub bindable : IsBindable o user q
+  pub few : length (meant_by o q).entries ≤ 8
+  pub named : names ≡ (meant_by o q).names
+  pub served : AllServed old new
+  pub places : List Place
+  pub are : ArePlaces bound (meant_by o q).entries places
+  pub answers : AnswersOver (query_of (meant_by o q)) places old given
+
+-- why it is not answered
+pub data SelectFails (o : Objects) (user : Name) (bound : List Attached) (q : SelectTree) (old : List (Option BoxState)) (c : Cause)
+    (new : List (Option BoxState)) : Type 0 where
+  not_bound : NotBound o user q c → new ≡ old → SelectFails o user bound q old c new
+  too_many : IsBindable o user q → 8 < length (meant_by o q).entries → c ≡ LimitExceeded → new ≡ old → SelectFails o user bound q old c new
+  run_fails : IsBindable o user q → length (meant_by o q).entries ≤ 8 → AllServed old new → (places : List Place)
+      → ArePlaces bound (meant_by o q).entries places → RunFails (query_of (meant_by o q)) places c old new
+      → SelectFails o user bound q old c new

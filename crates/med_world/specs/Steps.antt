@@ -1,0 +1,97 @@
+-- The direct meaning of a request: from a world to a reply and a world.
+use Rattle.std.specs.Prelude.{◌≡◌, ℕ, Bool, true, false, List, [], ◌∷◌, ◌++◌, codes, Some, None}
+use Rattle.med_value.specs.Datum.{Tuple}
+use Rattle.med_value.specs.declared.cause.Cause.{Cause}
+use Rattle.med_value.specs.declared.cause.Cause.TheVariants.{LimitExceeded, OutOfMemory, SourceFault}
+use Rattle.med_syntax.specs.QueryTree.{SelectTree, select}
+use Rattle.med_query.specs.Query.{IsAnswer}
+use Rattle.fdw_api.specs.Kinds.{Reading}
+use Rattle.ddl_syntax.specs.DdlTree.{DdlTree, create_wrapper, create_server, create_mapping, create_table, drop_wrapper, drop_server, drop_table, drop_mapping}
+use Rattle.med_catalog.specs.Objects.{server_named}
+use Rattle.med_catalog.specs.Changes.{ObjectChange, new_table, no_server, no_table, changed, Asks}
+use Rattle.command_parser.specs.CommandTree.{CommandTree, on_data, on_objects}
+use Rattle.med_world.specs.Picks.{Pick}
+use Rattle.med_world.specs.Requests.{Asked, opening, sql, bye}
+use Rattle.med_world.specs.World.{World, Session, beside_without, drop_source_of, with_session, new_session}
+use Rattle.med_world.specs.Causes.{query_of, meant_over, entries_in, Reads, IsStatementOf, IsPickOf, IsTold, NoneStands, NoneBeforeState}
+use Rattle.med_world.specs.Replies.{Reply, done, answered, refused}
+
+-- What befell one request: a growth was refused; it is a FETCH and had asked its cursor for a row; a source failed; a box has given all its
+-- ticket numbers.
+pub record Trouble : Type 0 where
+  pub memory : Bool
+  pub asked : Bool
+  pub source : Bool
+  pub numbers : Bool
+
+-- only statements and OPEN take memory
+abbrev pub TakesMemory : Asked → Type 0
+TakesMemory (opening user) = Unit {0}
+TakesMemory (sql text) = Unit {0}
+TakesMemory bye = ⊥
+
+-- ---- what statements do
+
+-- a query answers its output names, and an answer over the rows of the entries of its FROM
+abbrev pub Answers : World → SelectTree → Reply → Type 0
+Answers w q reply =
+    let m = meant_over w q in
+    (rows : List Tuple) × IsAnswer (query_of m) (entries_in w q) rows × (reply ≡ answered (codes "SELECT") m.names rows)
+
+-- the world with other objects
+abbrev pub with_catalog : World → ObjectChange → World
+with_catalog w change = record w { catalog = changed change w.catalog }
+
+-- A new table has the rows that its source's kind reads from the entry; a table that goes takes its rows along; a server that goes drops
+-- its source. Other changes are of the catalogue alone.
+abbrev pub Changes : World → Pick → ObjectChange → World → Type 0
+Changes w p (new_table t) new =
+    (reading : Reading) × Reads w t p.entry reading × (reading.causes ≡ [])
+    × (new ≡ record (with_catalog w (new_table t)) { rows = w.rows ++ reading.rows ∷ [] })
+Changes w p (no_table name) new = new ≡ record (with_catalog w (no_table name)) { rows = beside_without name w.catalog.tables w.rows }
+Changes w p (no_server name) new =
+    new ≡ record (with_catalog w (no_server name)) { sources = drop_source_of (server_named w.catalog name) w.sources }
+Changes w p change new = new ≡ with_catalog w change
+
+-- the tag of a statement on objects
+abbrev pub ddl_tag : DdlTree → List ℕ
+ddl_tag (create_wrapper name handler) = codes "CREATE FOREIGN DATA WRAPPER"
+ddl_tag (create_server s) = codes "CREATE SERVER"
+ddl_tag (create_mapping m) = codes "CREATE USER MAPPING"
+ddl_tag (create_table t) = codes "CREATE FOREIGN TABLE"
+ddl_tag (drop_wrapper if_exists name) = codes "DROP FOREIGN DATA WRAPPER"
+ddl_tag (drop_server if_exists name) = codes "DROP SERVER"
+ddl_tag (drop_table if_exists name) = codes "DROP FOREIGN TABLE"
+ddl_tag (drop_mapping if_exists user server) = codes "DROP USER MAPPING"
+
+-- by the statement
+abbrev pub TreeDoes : World → ℕ → Session → Pick → CommandTree → Reply → World → Type 0
+TreeDoes w sid s p (on_data (select q)) reply new = Answers w q reply × (new ≡ w)
+TreeDoes w sid s p (on_objects d) reply new =
+    (reply ≡ done (ddl_tag d)) × ((change : ObjectChange) × Asks w.catalog s.user d change × Changes w p change new)
+
+-- what a request for which no cause stands is answered, and what it changes
+abbrev pub Does : World → ℕ → Pick → Asked → Reply → World → Type 0
+Does w sid p (opening user) reply new = (reply ≡ done (codes "OPEN")) × (new ≡ with_session w sid (Some (new_session user)))
+Does w sid p (sql text) reply new =
+    (s : Session) × (tree : CommandTree) × IsStatementOf w sid (sql text) s tree × TreeDoes w sid s p tree reply new
+Does w sid p bye reply new = (reply ≡ done (codes "BYE")) × (new ≡ with_session w sid None)
+
+-- ---- trouble
+
+-- One request in a world, under the trouble that befell it. What a case does not name stays as it was.
+pub data Step (w : World) (sid : ℕ) (request : Asked) (t : Trouble) (reply : Reply) (new : World) : Type 0 where
+  -- a cause of the least phase in which one stands is told
+  is_refused : (p : Pick) (c : Cause) → IsPickOf w sid request p → IsTold w sid p request c → reply ≡ refused c → new ≡ w
+      → Step w sid request t reply new
+  -- no cause stands
+  is_done : (p : Pick) → IsPickOf w sid request p → NoneStands w sid p request → Does w sid p request reply new
+      → Step w sid request t reply new
+  -- 53200 may take the place of any answer where a growth was refused
+  lacks_memory : t.memory ≡ true → t.asked ≡ false → TakesMemory request → reply ≡ refused OutOfMemory → new ≡ w
+      → Step w sid request t reply new
+  -- HV000 that of any answer where a source failed, and 54000 where ticket numbers are used up, unless a cause of phases 1 to 4 stands
+  source_fails : t.source ≡ true → (s : Session) (tree : CommandTree) → IsStatementOf w sid request s tree → NoneBeforeState w sid request
+      → reply ≡ refused SourceFault → new ≡ w → Step w sid request t reply new
+  numbers_end : t.numbers ≡ true → (s : Session) (tree : CommandTree) → IsStatementOf w sid request s tree → NoneBeforeState w sid request
+      → reply ≡ refused LimitExceeded → new ≡ w → Step w sid request t reply new
