@@ -2,3 +2,9 @@ pub use Rattle.query_grammar.specs.QueryTerminals
 pub use Rattle.query_grammar.specs.QueryGrammar
 pub use Rattle.query_grammar.specs.QueryCauses
 pub use Rattle.query_print.specs.QueryPrinting
+pub use Rattle.ddl_parser.specs.DdlGrammar
+pub use Rattle.ddl_parser.specs.DdlPrinting
+pub mod CommandGrammar
+pub mod CommandCauses
+pub mod CommandPrinting
+pub mod CommandTree

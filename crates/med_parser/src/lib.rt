@@ -1,4 +1,5 @@
-//! Parses a line of this profile of SQL, a statement and perhaps a semicolon, and writes statements out:
+//! Parses a line of this profile of SQL, a command and perhaps a semicolon, and writes commands out. A command is a statement on the
+//! objects of the catalogue (`ddl_parser`), or one on data:
 //! `SELECT [DISTINCT] item {, item} [FROM chain {, chain}] [WHERE expr] [GROUP BY col {, col}] [HAVING expr] [ORDER BY key {, key}]`
 //! `[LIMIT ..] [OFFSET ..] [;]`, where a chain is an entry with its joins.
 //!
@@ -17,10 +18,13 @@
 //! constructor of `StatementTree` with the same.
 #![tactic(auto)]
 
+mod command;
+mod command_laws;
+mod command_print;
 mod parser;
-mod query_laws;
 mod query_range;
 
+pub use command::Command;
+pub use command_laws::{one_tree, printed_command};
+pub use command_print::print;
 pub use parser::parse;
-pub use query_laws::one_tree;
-pub use query_print::{print, printed_statement};

@@ -1,11 +1,14 @@
-//! Whether the numbers of a statement are in range.
+//! Whether the numbers of a command are in range.
 
 ghost use Rattle.expr_grammar.specs.ExprGrammar.{in_range};
+ghost use Rattle.med_parser.specs.CommandCauses.{command_in_range};
+ghost use Rattle.med_parser.specs.CommandTree.{command_tree};
 ghost use Rattle.med_syntax.specs.ExprView.{expr_tree};
 ghost use Rattle.med_syntax.specs.QueryView.{item_tree, items_tree, join_tree, chain_tree, key_tree, limit_tree, select_tree, statement_tree};
 ghost use Rattle.query_grammar.specs.QueryCauses.{all_in_range, perhaps_in_range, item_in_range, join_in_range, chain_in_range, key_in_range, limit_in_range, count_in_range, select_in_range, statement_in_range};
 ghost use Rattle.std.specs.Prelude.{◌≡◌, map, option_map};
 
+use crate::command::Command;
 use expr_grammar::number_range::is_in_range;
 use med_syntax::{Chain, Expr, Item, Join, Limit, OrderKey, Select, Statement};
 
@@ -139,10 +142,20 @@ fn is_select_in_range(select: &Select) -> bool
 }
 
 /// Whether each number of the statement is in range.
-pub fn is_statement_in_range(statement: &Statement) -> bool
+fn is_statement_in_range(statement: &Statement) -> bool
     ensures { result ≡ statement_in_range (statement_tree statement.now) }
 {
     match statement {
         Statement::Select(select) => is_select_in_range(select),
+    }
+}
+
+/// Whether each number of the command is in range; a statement on objects has none.
+pub fn is_command_in_range(command: &Command) -> bool
+    ensures { result ≡ command_in_range (command_tree command.now) }
+{
+    match command {
+        Command::Data(statement) => is_statement_in_range(statement),
+        Command::Ddl(_) => true,
     }
 }

@@ -1,18 +1,4 @@
-pub mod Told
-pub mod Boxes
-pub mod Keeping
-pub mod Finding
-pub mod Leading
-pub mod Querying
-pub mod Selections
-pub mod Telling
-pub mod Runs
-pub mod Beginning
-pub mod AddingLists
-pub mod AddingSources
-pub mod AttachingWorlds
-pub mod AttachingCauses
-pub mod AttachingColumns
-pub mod AttachingTables
-pub mod AttachingPlaces
-pub mod AttachingBinds
+mod Leading
+mod Telling
+mod AddingLists
+mod Tables

@@ -1,7 +1,7 @@
 -- What was written.
 use Rattle.std.proofs.Common.{◌≡◌, ℕ, ◌++◌, List, refl, inl, inr}
 use Rattle.med_value.specs.declared.cause.Cause.TheVariants.{OutOfMemory}
-use Rattle.med_session.specs.Replies.{Reply, refused, reply_text}
+use Rattle.med_world.specs.Replies.{Reply, refused, reply_text}
 use Rattle.med_session.specs.Outcomes.{HasRows, Tells}
 
 pub told : (sid : ℕ) (meant : Reply) (old new : List ℕ) → new ≡ old ++ reply_text sid meant → Tells sid meant old new

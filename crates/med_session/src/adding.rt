@@ -1,15 +1,17 @@
 //! Sources that are added, and handed back.
 ghost use Rattle.fdw_api.specs.State.{IsIdle, is_honest};
 ghost use Rattle.med_exec.specs.Slots.{states};
-ghost use Rattle.med_session.specs.Adding.{HasSource};
-ghost use Rattle.med_session.specs.Engine.{label, IsNamedAt};
+ghost use Rattle.med_session.specs.Shows.{label};
+ghost use Rattle.med_world.specs.Adding.{HasSource};
+ghost use Rattle.med_world.specs.Engine.{IsNamedAt};
 ghost use Rattle.std.specs.Prelude.{◌≡◌, map, option_map, IfSome, IfNone, IfErr, OnOk, OnErr};
 
 use crate::engine::Engine;
-use crate::sources::{NamedSource, SourceKind};
+use crate::sources::NamedSource;
 use fdw_api::interface::{Counts, Wrapper};
-use fdw_api::law::tables_stay_sound;
+use med_catalog::SourceKind;
 use med_exec::slots::ledger_at;
+use med_world::law::sources_are_added;
 use thiserror::Error;
 
 /// How many sources an engine takes.
@@ -46,12 +48,14 @@ pub(crate) fn place_of_source(sources: &[NamedSource], name: &str) -> Option<usi
 }
 
 impl<W: Wrapper> Engine<W> {
-    ghost use Rattle.med_session.specs.Adding.{AddCause, Adds, AreCounts};
-    ghost use Rattle.med_session.specs.Attaching.{with_source};
-    ghost use Rattle.med_session.specs.Engine.{shown, IsSound, Agrees, TakesColumns, EachBox, IsAtRest};
-    ghost use Rattle.med_session.specs.World.{World};
+    ghost use Rattle.med_session.specs.Adding.{AddCause, AreCounts};
+    ghost use Rattle.med_session.specs.Shows.{shown};
+    ghost use Rattle.med_world.specs.Adding.{Adds};
+    ghost use Rattle.med_world.specs.Engine.{IsSound, Agrees, TakesAs, EachBox, IsAtRest};
+    ghost use Rattle.med_world.specs.World.{World, with_source};
 
-    /// Adds a source under a name, any text, that HANDLER names by this kind. Its wrapper is to be idle: nothing bound, live or staged.
+    /// Adds a source under a name, any text, that HANDLER names by this kind. Its wrapper is to be idle: nothing bound, live or staged; and it takes
+    /// each table that the catalogue lets pass for this kind.
     ///
     /// # Errors
     ///
@@ -67,7 +71,7 @@ impl<W: Wrapper> Engine<W> {
     ) -> Result<(), (W, AddFault)>
         requires engine { IsSound (shown W.meaning self.old) }
         requires idle { IsIdle (W.meaning wrapper) }
-        requires takes_columns { TakesColumns (W.meaning wrapper) }
+        requires takes { TakesAs kind (W.meaning wrapper) }
         ensures sound { IsSound (shown W.meaning self.new) }
         ensures added { OnOk result (Adds (shown W.meaning self.old) name.now kind (W.meaning wrapper) (shown W.meaning self.new)) }
         ensures world { OnOk result ((w : World) → Agrees (shown W.meaning self.old) w → is_honest (W.meaning wrapper)
@@ -77,7 +81,7 @@ impl<W: Wrapper> Engine<W> {
         ensures handed_back { IfErr result (λ back. W.meaning back.0 ≡ W.meaning wrapper) }
         ensures unchanged { OnErr result (shown W.meaning self.new ≡ shown W.meaning self.old) }
     {
-        tables_stay_sound();
+        sources_are_added();
         if place_of_source(&self.sources, name).is_some() {
             return Err((wrapper, AddFault::Taken));
         }

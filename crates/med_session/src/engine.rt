@@ -3,28 +3,29 @@ ghost use Rattle.std.specs.Prelude.{◌≡◌, ◌<◌, ◌+◌, ◌++◌, ℕ, 
 
 use crate::places::{close_all, closed_sessions, is_open, set_user, user_in};
 use crate::replies::{Outcome, write_reply};
-use crate::select::run_select;
 use crate::session::{NoRoom, Request, Sid};
 use crate::sources::NamedSource;
 use crate::users::is_user;
 use fdw_api::interface::Wrapper;
-use med_binder::AttachedTable;
-use med_binder::law::causes_have_their_phase;
-use med_parser::{one_tree, parse};
+use bind_catalog::BoundTable;
+use med_parser::{Command, one_tree, parse};
+use med_catalog::Catalog;
+use med_select::run_select;
 use med_value::Cause;
+use med_world::law::{changes_lead, engines_begin, queries_lead, sessions_end, sessions_lead, statements_are_refused};
 use std::alloc::Global;
 use thiserror::Error;
 
 /// The room in the output that is taken before a request is begun.
 const ROOM: usize = 128;
 
-/// An engine over boxed sources: their foreign tables, and 64 sessions.
+/// An engine over boxed sources: the catalogue of their objects, where its foreign tables are bound, and 64 sessions.
 #[derive(Drop)]
 pub struct Engine<W> {
-    pub(crate) owner: String,
+    pub(crate) catalog: Catalog,
     pub(crate) sources: Vec<NamedSource>,
     pub(crate) slots: Vec<Option<W>>,
-    pub(crate) tables: Vec<AttachedTable>,
+    pub(crate) bound: Vec<BoundTable>,
     pub(crate) users: Vec<Option<String>>,
 }
 
@@ -40,38 +41,48 @@ pub enum NewFault {
 }
 
 impl<W: Wrapper> Engine<W> {
-    ghost use Rattle.med_session.specs.Requests.{IsUser, asked, opening, sql, bye};
-    ghost use Rattle.med_session.specs.World.{empty_world};
+    ghost use Rattle.med_session.specs.Asking.{asked};
     ghost use Rattle.med_session.specs.Outcomes.{reply_of};
-    ghost use Rattle.med_session.specs.Engine.{shown, IsSound, Agrees, Leads, IsAnswered, Closes, ClosesAll};
+    ghost use Rattle.med_session.specs.Shows.{shown};
+    ghost use Rattle.med_world.specs.Engine.{IsSound, Agrees, Leads, IsAnswered, Closes, ClosesAll};
+    ghost use Rattle.med_world.specs.Requests.{IsUser, opening, sql, bye};
+    ghost use Rattle.med_world.specs.World.{empty_world};
 
-    /// An engine with no source and no table, and every session closed.
+    /// An engine with no object and no source, and every session closed.
     ///
     /// `BadName` exactly where the owner is no user: `[a-z_][a-z0-9_]*` of 1 to 63 bytes, and neither `public`, `user` nor
     /// `current_user`.
     pub fn new(alloc: Global, owner: &str) -> Result<Engine<W>, NewFault>
         ensures sound { IfOk result (λ e. IsSound (shown W.meaning e)) }
-        ensures empty { IfOk result (λ e. Agrees (shown W.meaning e) empty_world) }
-        ensures owner { IfOk result (λ e. (shown W.meaning e).owner ≡ owner.now) }
+        ensures empty { IfOk result (λ e. Agrees (shown W.meaning e) (empty_world owner.now)) }
+        ensures owner { IfOk result (λ e. (shown W.meaning e).catalog.owner ≡ owner.now) }
         ensures bad_name { IfErr result (λ fault. fault ≡ NewFault.BadName → IsUser owner.now → ⊥) }
         ensures no_user { (IsUser owner.now → ⊥) → IsErrOf result NewFault.BadName }
     {
         if !is_user(owner) {
             return Err(NewFault::BadName);
         }
-        let Ok(name) = String::from_str(alloc, owner) else {
+        engines_begin();
+        let Ok(catalog) = Catalog::new(alloc, owner) else {
             return Err(NewFault::NoMemory);
         };
         let Ok(users) = closed_sessions(alloc) else {
             return Err(NewFault::NoMemory);
         };
         Ok(Engine {
-            owner: name,
+            catalog,
             sources: Vec::new(alloc),
             slots: Vec::new(alloc),
-            tables: Vec::new(alloc),
+            bound: Vec::new(alloc),
             users,
         })
+    }
+
+    /// The user who may make and drop objects.
+    pub fn owner(&self) -> &str
+        ensures { result.now ≡ (shown W.meaning self.now).catalog.owner }
+    {
+        self.catalog.owner()
     }
 
     /// Answers one request of a session: the reply is put behind what `out` has.
@@ -106,6 +117,7 @@ impl<W: Wrapper> Engine<W> {
         ensures sound { IsSound (shown W.meaning self.new) }
         ensures closes { Closes (shown W.meaning self.old) sid.number (shown W.meaning self.new) }
     {
+        sessions_end();
         set_user(&mut self.users, sid, None);
     }
 
@@ -115,6 +127,7 @@ impl<W: Wrapper> Engine<W> {
         ensures sound { IsSound (shown W.meaning self.new) }
         ensures closes { ClosesAll (shown W.meaning self.old) (shown W.meaning self.new) }
     {
+        sessions_end();
         close_all(&mut self.users);
     }
 
@@ -137,6 +150,7 @@ impl<W: Wrapper> Engine<W> {
         ensures sound { IsSound (shown W.meaning self.new) }
         ensures leads { Leads (shown W.meaning self.old) sid.number (opening user.now) (reply_of result) (shown W.meaning self.new) }
     {
+        sessions_lead();
         if is_open(&self.users, sid) || !is_user(user) {
             return Outcome::Refused(Cause::Protocol);
         }
@@ -155,6 +169,7 @@ impl<W: Wrapper> Engine<W> {
         ensures sound { IsSound (shown W.meaning self.new) }
         ensures leads { Leads (shown W.meaning self.old) sid.number bye (reply_of result) (shown W.meaning self.new) }
     {
+        sessions_lead();
         let was_open = is_open(&self.users, sid);
         if !was_open {
             return Outcome::Refused(Cause::NoConnection);
@@ -169,19 +184,36 @@ impl<W: Wrapper> Engine<W> {
         ensures sound { IsSound (shown W.meaning self.new) }
         ensures leads { Leads (shown W.meaning self.old) sid.number (sql text.now) (reply_of result) (shown W.meaning self.new) }
     {
-        causes_have_their_phase();
+        statements_are_refused();
         let Some(user) = user_in(&self.users, sid) else {
             return Outcome::Refused(Cause::NoConnection);
         };
         let alloc = *self.users.allocator();
         one_tree();
-        let statement = match parse(alloc, text) {
-            Ok(statement) => statement,
+        let command = match parse(alloc, text) {
+            Ok(command) => command,
             Err(cause) => return Outcome::Refused(cause),
         };
-        match run_select(&mut self.slots, &self.tables, alloc, user, statement) {
-            Ok(set) => Outcome::Rows(set),
-            Err(cause) => Outcome::Refused(cause),
+        queries_lead();
+        changes_lead();
+        sessions_lead();
+        match command {
+            Command::Data(query) => {
+                let slots = &mut self.slots;
+                match run_select(slots, &self.catalog, &self.bound, alloc, user, &query) {
+                    Ok(set) => Outcome::Rows(set),
+                    Err(cause) => Outcome::Refused(cause),
+                }
+            }
+            Command::Ddl(ddl) => {
+                let Ok(name) = String::from_str(alloc, user) else {
+                    return Outcome::Refused(Cause::OutOfMemory);
+                };
+                match self.alter(alloc, name.as_str(), &ddl) {
+                    Ok(()) => Outcome::Changed(ddl),
+                    Err(cause) => Outcome::Refused(cause),
+                }
+            }
         }
     }
 }

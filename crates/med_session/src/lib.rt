@@ -1,17 +1,17 @@
-//! The engine: sessions over boxed sources.
+//! The engine: sessions over a catalogue of objects and boxed sources.
 #![tactic(auto)]
 
 pub mod adding;
-mod attaching;
+mod altering;
+mod binding;
 pub mod engine;
 mod places;
 mod replies;
-mod select;
 pub mod session;
 pub mod sources;
 pub mod users;
 
 pub use adding::{AddFault, Sources};
 pub use engine::{Engine, NewFault};
+pub use med_catalog::SourceKind;
 pub use session::{NoRoom, Request, Sid};
-pub use sources::SourceKind;

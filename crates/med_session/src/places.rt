@@ -1,6 +1,6 @@
 //! The places of the sessions: that of session n is n - 1, and holds its user where it is open.
 ghost use Rattle.std.specs.Prelude.{◌≡◌, ◌-◌, ◌≤◌, None, is_some, map, option_map, replicate, slice_set, string_bytes, vec_len, IfOk};
-ghost use Rattle.med_session.specs.Engine.{user_of};
+ghost use Rattle.med_world.specs.Engine.{user_of};
 
 use crate::session::Sid;
 use med_value::NoMemory;

@@ -2,20 +2,17 @@
 ghost use Rattle.std.specs.Prelude.{◌≡◌, ◌+◌, ◌≤◌, ◌++◌, ◌∷◌, [], ℕ, flat_map, length, map, IfOk, OnOk, string_bytes, vec_len, vec_capacity, codes, decimal};
 ghost use Rattle.med_value.specs.Datum.{tuple};
 ghost use Rattle.med_value.specs.Text.{escaped_text};
-ghost use Rattle.med_session.specs.Replies.{reply_text, done, answered, refused, header, line, row_line, tag_line, select_tag};
+ghost use Rattle.med_world.specs.Replies.{reply_text, done, answered, refused, header, line, row_line, tag_line, rows_tag};
+ghost use Rattle.ddl_syntax.specs.DdlView.{ddl_tree};
 ghost use Rattle.med_session.specs.Outcomes.{Tells, reply_of};
+ghost use Rattle.med_world.specs.Steps.{ddl_tag};
 
 use itoa::Buffer;
+use ddl_syntax::Ddl;
+use med_select::RowSet;
 use med_value::text::{escaped_text, row_text};
 use med_value::{Cause, NoMemory, Row};
 use std::alloc::Global;
-
-/// The rows that a query gives, under its output names.
-#[derive(Drop)]
-pub struct RowSet {
-    pub names: Vec<String>,
-    pub rows: Vec<Row>,
-}
 
 /// What a request is answered with.
 #[derive(Drop)]
@@ -24,6 +21,8 @@ pub enum Outcome {
     Opened,
     /// The session was closed.
     Closed,
+    /// A statement on objects was done.
+    Changed(Ddl),
     /// The rows of a query.
     Rows(RowSet),
     /// Why it was refused.
@@ -54,6 +53,23 @@ fn write_tag(sid: u8, tag: &[u8], out: &mut Vec<u8>)
     put(b" T ", out);
     put(tag, out);
     put(b"\n", out);
+}
+
+// Writes the tag of a statement on objects.
+fn write_change(sid: u8, ddl: &Ddl, out: &mut Vec<u8>)
+    requires { vec_len out.old + 128 ≤ vec_capacity out.old }
+    ensures { out.new.items ≡ out.old.items ++ reply_text sid (done (ddl_tag (ddl_tree ddl.now))) }
+{
+    match ddl {
+        Ddl::CreateWrapper(_) => write_tag(sid, b"CREATE FOREIGN DATA WRAPPER", out),
+        Ddl::CreateServer(_) => write_tag(sid, b"CREATE SERVER", out),
+        Ddl::CreateMapping(_) => write_tag(sid, b"CREATE USER MAPPING", out),
+        Ddl::CreateTable(_) => write_tag(sid, b"CREATE FOREIGN TABLE", out),
+        Ddl::DropWrapper(_) => write_tag(sid, b"DROP FOREIGN DATA WRAPPER", out),
+        Ddl::DropServer(_) => write_tag(sid, b"DROP SERVER", out),
+        Ddl::DropTable(_) => write_tag(sid, b"DROP FOREIGN TABLE", out),
+        Ddl::DropMapping(_) => write_tag(sid, b"DROP USER MAPPING", out),
+    }
 }
 
 // Writes a refusal.
@@ -127,7 +143,7 @@ fn append_rows(sid: u8, rows: &[Row], text: &mut Vec<u8>) -> Result<(), NoMemory
 
 // Appends the tag of a query that gave so many rows.
 fn append_count(sid: u8, count: usize, text: &mut Vec<u8>) -> Result<(), NoMemory>
-    ensures { OnOk result (text.new.items ≡ text.old.items ++ line sid (tag_line (select_tag count))) }
+    ensures { OnOk result (text.new.items ≡ text.old.items ++ line sid (tag_line (rows_tag (codes "SELECT") count))) }
 {
     let mut buffer = Buffer::new();
     append_start(sid, b"T SELECT ", text)?;
@@ -139,7 +155,7 @@ fn append_count(sid: u8, count: usize, text: &mut Vec<u8>) -> Result<(), NoMemor
 // The reply to a query.
 fn answer_text(alloc: Global, sid: u8, set: &RowSet) -> Result<Vec<u8>, NoMemory>
     ensures { IfOk result (λ text. text.items
-        ≡ reply_text sid (answered (map string_bytes set.now.names.items) (map tuple set.now.rows.items))) }
+        ≡ reply_text sid (answered (codes "SELECT") (map string_bytes set.now.names.items) (map tuple set.now.rows.items))) }
 {
     let mut text = Vec::new(alloc);
     append_header(sid, &set.names, &mut text)?;
@@ -151,7 +167,7 @@ fn answer_text(alloc: Global, sid: u8, set: &RowSet) -> Result<Vec<u8>, NoMemory
 // Writes the reply to a query, or that memory was refused.
 fn write_answer(alloc: Global, sid: u8, set: &RowSet, out: &mut Vec<u8>)
     requires { vec_len out.old + 128 ≤ vec_capacity out.old }
-    ensures { Tells sid (answered (map string_bytes set.now.names.items) (map tuple set.now.rows.items)) out.old.items out.new.items }
+    ensures { Tells sid (answered (codes "SELECT") (map string_bytes set.now.names.items) (map tuple set.now.rows.items)) out.old.items out.new.items }
 {
     match answer_text(alloc, sid, set) {
         Ok(text) => match out.extend_from_slice(&text) {
@@ -170,6 +186,7 @@ pub(crate) fn write_reply(alloc: Global, sid: u8, outcome: &Outcome, out: &mut V
     match outcome {
         Outcome::Opened => write_tag(sid, b"OPEN", out),
         Outcome::Closed => write_tag(sid, b"BYE", out),
+        Outcome::Changed(ddl) => write_change(sid, ddl, out),
         Outcome::Rows(set) => write_answer(alloc, sid, set, out),
         Outcome::Refused(cause) => write_refusal(sid, *cause, out),
     }

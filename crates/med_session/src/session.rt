@@ -25,7 +25,7 @@ pub struct NoRoom;
 
 impl Sid {
     ghost use Rattle.std.specs.Prelude.{◌↔◌, IsSome, IfSome};
-    ghost use Rattle.med_session.specs.Requests.{IsSid};
+    ghost use Rattle.med_world.specs.Requests.{IsSid};
 
     /// The session of this number, where there is one.
     pub fn new(number: u8) -> Option<Sid>

@@ -1,17 +1,6 @@
-//! What an engine holds of its sources and tables.
+//! What an engine holds of its sources.
 
-/// A kind of source, as HANDLER names it.
-#[derive(Clone, Copy, Debug, PartialEq, Eq)]
-pub enum SourceKind {
-    /// CSV files.
-    Csv,
-    /// Files of JSON objects, one a line.
-    JsonLines,
-    /// A SQLite database.
-    Sqlite,
-    /// Lists in memory.
-    List,
-}
+use med_catalog::SourceKind;
 
 /// A source that was added. Its box is in the slot of the same place.
 #[derive(Drop)]

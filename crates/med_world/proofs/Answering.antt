@@ -6,8 +6,8 @@ use Rattle.med_value.specs.declared.cause.Cause.{Cause}
 use Rattle.med_value.specs.declared.cause.Cause.TheVariants.{LimitExceeded, OutOfMemory, NoConnection}
 use Rattle.med_syntax.specs.Tree.{Name}
 use Rattle.med_syntax.specs.QueryTree.{SelectTree, select}
-use Rattle.command_parser.specs.CommandTree.{on_data, on_objects}
-use Rattle.command_parser.specs.CommandCauses.{SyntaxCauses}
+use Rattle.med_parser.specs.CommandTree.{on_data, on_objects}
+use Rattle.med_parser.specs.CommandCauses.{SyntaxCauses}
 use Rattle.fdw_api.specs.State.{BoxState}
 use Rattle.pushdown.specs.Offered.{Place}
 use Rattle.med_exec.specs.Running.{AllServed, SlotShows, IsUsedUp}

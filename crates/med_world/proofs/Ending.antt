@@ -11,7 +11,7 @@ use Rattle.ddl_syntax.specs.DdlTree.{DdlTree}
 use Rattle.med_catalog.specs.Objects.{TableObject}
 use Rattle.med_catalog.specs.Changes.{new_table}
 use Rattle.med_world.specs.Requests.{sql}
-use Rattle.command_parser.specs.CommandTree.{on_objects}
+use Rattle.med_parser.specs.CommandTree.{on_objects}
 use Rattle.med_world.specs.Picks.{Pick}
 use Rattle.med_world.specs.World.{World, new_session}
 use Rattle.med_world.specs.Causes.{IsPickOf}

@@ -15,7 +15,7 @@ use Rattle.med_catalog.specs.Objects.{ServerObject, TableObject, Objects}
 use Rattle.med_catalog.specs.Changes.{ObjectChange, nothing, new_wrapper, new_server, new_mapping, new_table, no_wrapper, no_server, no_mapping, no_table, Asks}
 use Rattle.med_catalog.specs.DdlCauses.{DdlCauses}
 use Rattle.med_world.specs.Requests.{Asked, sql}
-use Rattle.command_parser.specs.CommandTree.{CommandTree, on_objects}
+use Rattle.med_parser.specs.CommandTree.{CommandTree, on_objects}
 use Rattle.med_world.specs.Steps.{ddl_tag}
 use Rattle.med_world.specs.Picks.{Pick, no_pick}
 use Rattle.med_world.specs.World.{World, source_named, new_session, is_taken, IsFree, Serves}

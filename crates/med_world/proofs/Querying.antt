@@ -21,7 +21,7 @@ use Rattle.med_catalog.specs.Objects.{Objects}
 use Rattle.bind_catalog.specs.Queries.{QueryNames, QueryTypes, meant_by, IsBindable, NotBound}
 use Rattle.bind_catalog.specs.Places.{Attached, IsPlaceOf, ArePlaces}
 use Rattle.med_world.specs.Requests.{sql}
-use Rattle.command_parser.specs.CommandTree.{on_data}
+use Rattle.med_parser.specs.CommandTree.{on_data}
 use Rattle.med_world.specs.Picks.{no_pick}
 use Rattle.med_world.specs.World.{World, new_session, cells_of, rows_in}
 use Rattle.med_world.specs.Causes.{query_of, entry_tables, meant_over, entries_in, QueryState, QueryRun, SelectCauses, IsPickOf, phase}

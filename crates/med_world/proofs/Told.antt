@@ -2,10 +2,10 @@
 use Rattle.std.proofs.Common.{◌≡◌, ℕ, ◌<◌, ◌≤◌, ◌⊎◌, List, Some, is_some, refl, ap, sym, ◌∙◌, subst, arith, inl, inr, lit≤}
 use Rattle.med_value.specs.declared.cause.Cause.{Cause}
 use Rattle.med_value.specs.declared.cause.Cause.TheVariants.{Protocol, NoConnection, Syntax, LiteralOutOfRange, NameTooLong, TooDeep}
-use Rattle.command_parser.specs.CommandCauses.{SyntaxCauses}
+use Rattle.med_parser.specs.CommandCauses.{SyntaxCauses}
 use Rattle.med_world.specs.Requests.{opening, sql, bye, IsUser}
-use Rattle.command_parser.specs.CommandTree.{CommandTree}
-use Rattle.command_parser.specs.CommandGrammar.{HasCommand}
+use Rattle.med_parser.specs.CommandTree.{CommandTree}
+use Rattle.med_parser.specs.CommandGrammar.{HasCommand}
 use Rattle.med_world.specs.Picks.{Pick}
 use Rattle.med_world.specs.World.{World, Session, IsOpen}
 use Rattle.med_world.specs.Causes.{TreeCauses, IsStatementOf, Stands, phase, IsPick, IsPickOf, IsTold, NoneStands, NoneBeforeState}

@@ -9,7 +9,7 @@ use Rattle.med_query.specs.Query.{Query, Tables}
 use Rattle.med_query.specs.Form.{query_by}
 use Rattle.fdw_api.specs.Kinds.{Kind, Entry, Holding, Reading}
 use Rattle.fdw_api.specs.Calls.{Picks}
-use Rattle.command_parser.specs.CommandCauses.{SyntaxCauses}
+use Rattle.med_parser.specs.CommandCauses.{SyntaxCauses}
 use Rattle.bind_names.specs.Meaning.{Meant}
 use Rattle.med_planner.specs.Planned.{QueryCauses}
 use Rattle.ddl_syntax.specs.DdlTree.{DdlTree}
@@ -17,8 +17,8 @@ use Rattle.med_catalog.specs.Objects.{TableObject}
 use Rattle.med_catalog.specs.Changes.{ObjectChange, new_server, new_table, Asks}
 use Rattle.med_catalog.specs.DdlCauses.{DdlCauses}
 use Rattle.bind_catalog.specs.Queries.{meant_by, QueryNames, QueryTypes}
-use Rattle.command_parser.specs.CommandTree.{CommandTree, on_data, on_objects}
-use Rattle.command_parser.specs.CommandGrammar.{HasCommand}
+use Rattle.med_parser.specs.CommandTree.{CommandTree, on_data, on_objects}
+use Rattle.med_parser.specs.CommandGrammar.{HasCommand}
 use Rattle.med_world.specs.Picks.{Pick}
 use Rattle.med_world.specs.Requests.{Asked, opening, sql, bye, IsUser}
 use Rattle.med_world.specs.World.{World, Session, IsOpen, rows_in, IsFree, Serves, is_leased}

@@ -2,9 +2,9 @@
 use Rattle.std.specs.Prelude.{◌≡◌, ℕ, List, [], Option, Some}
 use Rattle.med_value.specs.declared.cause.Cause.{Cause}
 use Rattle.med_syntax.specs.Tree.{Name}
-use Rattle.command_parser.specs.CommandTree.{CommandTree}
-use Rattle.command_parser.specs.CommandGrammar.{HasCommand}
-use Rattle.command_parser.specs.CommandCauses.{SyntaxCauses}
+use Rattle.med_parser.specs.CommandTree.{CommandTree}
+use Rattle.med_parser.specs.CommandGrammar.{HasCommand}
+use Rattle.med_parser.specs.CommandCauses.{SyntaxCauses}
 use Rattle.fdw_api.specs.State.{BoxState}
 use Rattle.med_catalog.specs.Objects.{no_objects}
 use Rattle.med_world.specs.Requests.{IsSid}

@@ -9,7 +9,7 @@ use Rattle.fdw_api.specs.Kinds.{Reading}
 use Rattle.ddl_syntax.specs.DdlTree.{DdlTree, create_wrapper, create_server, create_mapping, create_table, drop_wrapper, drop_server, drop_table, drop_mapping}
 use Rattle.med_catalog.specs.Objects.{server_named}
 use Rattle.med_catalog.specs.Changes.{ObjectChange, new_table, no_server, no_table, changed, Asks}
-use Rattle.command_parser.specs.CommandTree.{CommandTree, on_data, on_objects}
+use Rattle.med_parser.specs.CommandTree.{CommandTree, on_data, on_objects}
 use Rattle.med_world.specs.Picks.{Pick}
 use Rattle.med_world.specs.Requests.{Asked, opening, sql, bye}
 use Rattle.med_world.specs.World.{World, Session, beside_without, drop_source_of, with_session, new_session}

@@ -9,8 +9,8 @@ ghost use Rattle.med_value.specs.declared.cause.Cause.TheVariants.{OutOfMemory, 
 ghost use Rattle.med_syntax.specs.Tree.{Name};
 ghost use Rattle.med_syntax.specs.QueryTree.{SelectTree, select};
 ghost use Rattle.ddl_syntax.specs.DdlTree.{DdlTree};
-ghost use Rattle.command_parser.specs.CommandTree.{CommandTree, on_data, on_objects};
-ghost use Rattle.command_parser.specs.CommandCauses.{SyntaxCauses};
+ghost use Rattle.med_parser.specs.CommandTree.{CommandTree, on_data, on_objects};
+ghost use Rattle.med_parser.specs.CommandCauses.{SyntaxCauses};
 ghost use Rattle.fdw_api.specs.State.{BoxState, IsIdle, is_honest};
 ghost use Rattle.fdw_api.specs.Calls.{CanBind, CanUnbind};
 ghost use Rattle.med_exec.specs.Slots.{BoxAt};

@@ -1,6 +1,6 @@
 use Rattle.std.proofs.Common.{◌++◌, ℕ, List, ap, ◌∙◌}
 use Rattle.med_value.specs.declared.cause.Cause.TheVariants.{OutOfMemory}
-use Rattle.med_session.specs.Replies.{refused, reply_text}
+use Rattle.med_world.specs.Replies.{refused, reply_text}
 use Rattle.med_session.proofs.Telling.{told, told_memory}
 use Rattle.med_session.proofs.replies.write_answer.Goals as goal
 

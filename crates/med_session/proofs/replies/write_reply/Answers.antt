@@ -9,3 +9,6 @@ returns-in-Closed c = rw c.in-Closed.is (told _ _ _ _ c.write_tag-in-Closed.ensu
 
 pub returns-in-Refused : goal.returns-in-Refused
 returns-in-Refused c = rw c.in-Refused.is (told _ _ _ _ c.write_refusal.ensures)
+
+pub returns-in-Changed : goal.returns-in-Changed
+returns-in-Changed c = rw c.in-Changed.is (told _ _ _ _ c.write_change.ensures)

@@ -1,13 +1,12 @@
 use Rattle.std.proofs.Common.{arith}
 use Rattle.std.proofs.lemmas.Grind.{common_steps}
-use Rattle.med_session.specs.Engine.{shown}
-use Rattle.med_session.proofs.AddingSources.{sound_of, agrees_of}
+use Rattle.med_session.specs.Shows.{shown}
 use Rattle.med_session.proofs.engine.Engine.add_source.Goals as goal
 
 pub returns-clause-sound : goal.returns-clause-sound
 returns-clause-sound g c =
-    sound_of c.tables_stay_sound.ensures.idle (shown g.W.Wrapper.meaning c.args.self.now) _ c.args.name.now c.args.kind (g.W.Wrapper.meaning c.args.wrapper) (grind (arith, common_steps)) c.requires.engine c.requires.idle c.requires.takes_columns
+    c.sources_are_added.ensures.sound (shown g.W.Wrapper.meaning c.args.self.now) _ c.args.name.now c.args.kind (g.W.Wrapper.meaning c.args.wrapper) (grind (arith, common_steps)) c.requires.engine c.requires.idle c.requires.takes
 
 pub returns-clause-world : goal.returns-clause-world
 returns-clause-world g c =
-    agrees_of (shown g.W.Wrapper.meaning c.args.self.now) _ c.args.name.now c.args.kind (g.W.Wrapper.meaning c.args.wrapper) (grind (arith, common_steps)) c.requires.engine c.requires.idle
+    c.sources_are_added.ensures.agrees (shown g.W.Wrapper.meaning c.args.self.now) _ c.args.name.now c.args.kind (g.W.Wrapper.meaning c.args.wrapper) (grind (arith, common_steps)) c.requires.engine c.requires.idle

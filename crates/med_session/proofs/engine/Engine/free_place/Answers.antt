@@ -1,33 +1,45 @@
-use Rattle.std.proofs.Common.{List, arith, map, refl, sym, ap, subst}
-use Rattle.std.proofs.lemmas.Grind.{common_steps}
-use Rattle.std.proofs.lemmas.List.{length-map}
-use Rattle.fdw_api.specs.Kinds.{column_of}
-use Rattle.med_exec.specs.Slots.{states}
-use Rattle.med_session.specs.Engine.{Label, label, attached}
-use Rattle.med_session.specs.Attaching.{IsAtPlace, no_place, in_use}
-use Rattle.med_session.proofs.AttachingWorlds.{stands_in}
+use Rattle.std.proofs.Common.{◌≡◌, ◌∙◌, true, false, map, Some, slice_get, string_bytes, ap, sym, refl}
+use Rattle.med_catalog.specs.View.{server_of}
+use Rattle.med_exec.specs.Slots.{counts_at}
+use Rattle.med_world.specs.Engine.{Label, IsNamedAt}
+use Rattle.med_session.specs.Shows.{label, shown}
+use Rattle.med_session.proofs.Tables.{of_other_kind, taken_by, box_counted, dropped_by, label_read}
 use Rattle.med_session.proofs.engine.Engine.free_place.Goals as goal
 
-pub returns-in_default-clause-err : goal.returns-in_default-clause-err
-returns-in_default-clause-err g c =
-    let boxes = states g.W.Wrapper.meaning c.args.self.now.slots.items in
-    no_place refl (λ p at. c.in_default.ensures.none p (subst (λ (ls : List Label). IsAtPlace ls boxes c.args.source.now p) (sym (ap (map label) c.deref.ensures.value)) at))
+pub returns-then-not-is_same_kind-clause-none : goal.returns-then-not-is_same_kind-clause-none
+returns-then-not-is_same_kind-clause-none g c name =
+    let e = shown g.W.Wrapper.meaning c.args.self.now in
+    let s = server_of name c.args.server.now in
+    let at : IsNamedAt e.labels c.in_ok-place.place s.source = rw (c.deref.ensures.value, c.as_str.ensures.value) at c.in_ok-place.ensures.found in
+    let read : at.0 ≡ label c.index.result.now = label_read c.args.self.now.sources.items c.in_ok-place.place c.index.result.now at.0 c.index.ensures at.1 in
+    of_other_kind e s c.in_ok-place.place at.0 c.requires at.1 at.2 (λ same. c.if-not-is_same_kind.ensures.differs refl (sym (ap (λ (l : Label). l.kind) read) ∙ same))
 
-pub returns-then-is_bound-clause-err : goal.returns-then-is_bound-clause-err
-returns-then-is_bound-clause-err g c =
-    let boxes = states g.W.Wrapper.meaning c.args.self.now.slots.items in
-    let place = c.in-Some.place in
-    in_use place (subst (λ (ls : List Label). IsAtPlace ls boxes c.args.source.now place) (ap (map label) c.deref.ensures.value) c.in-Some.ensures.found) refl
-    (stands_in place c.args.remote.now c.args.self.now.tables.items _ _ _ c.deref-2.ensures.value c.is_bound.ensures c.if-is_bound.true)
+pub returns-then-is_taken-clause-none : goal.returns-then-is_taken-clause-none
+returns-then-is_taken-clause-none g c name =
+    taken_by (shown g.W.Wrapper.meaning c.args.self.now) (server_of name c.args.server.now) (rw c.as_str-2.ensures.value at (sym c.if-is_taken.ensures))
 
-pub returns-clause-ok : goal.returns-clause-ok
-returns-clause-ok g c =
-    let boxes = states g.W.Wrapper.meaning c.args.self.now.slots.items in
-    let place = c.in-Some.place in
-    let tables = c.args.self.now.tables.items in
+pub returns-in-Some-clause-found : goal.returns-in-Some-clause-found
+returns-in-Some-clause-found g c name =
+    let e = shown g.W.Wrapper.meaning c.args.self.now in
+    let s = server_of name c.args.server.now in
+    let at : IsNamedAt e.labels c.in_ok-place.place s.source = rw (c.deref.ensures.value, c.as_str.ensures.value) at c.in_ok-place.ensures.found in
+    let read : at.0 ≡ label c.index.result.now = label_read c.args.self.now.sources.items c.in_ok-place.place c.index.result.now at.0 c.index.ensures at.1 in
+    let b = box_counted e c.in_ok-place.place c.in-Some.field-0 (sym c.ledger_at.ensures ∙ c.in-Some.is) in
     record {
-      at = subst (λ (ls : List Label). IsAtPlace ls boxes c.args.source.now place) (ap (map label) c.deref.ensures.value) c.in-Some.ensures.found;
-      unbound = stands_in place c.args.remote.now tables _ _ _ c.deref-2.ensures.value c.is_bound.ensures c.if-is_bound.false;
-      tables_within = rw (length-map tables attached) (grind (arith, common_steps));
-      columns_within = rw (length-map c.args.columns.now column_of) (grind (arith, common_steps));
+      stands = record {
+        label = at.0;
+        there = at.1;
+        named = at.2;
+        of_kind = ap (λ (l : Label). l.kind) read ∙ c.if-not-is_same_kind.ensures.same refl;
+        box = b.0;
+        box_there = b.1;
+      };
+      untaken = rw c.as_str-2.ensures.value at (sym c.if-is_taken.ensures);
     }
+
+pub returns-in-None-clause-none : goal.returns-in-None-clause-none
+returns-in-None-clause-none g c name =
+    let e = shown g.W.Wrapper.meaning c.args.self.now in
+    let s = server_of name c.args.server.now in
+    let at : IsNamedAt e.labels c.in_ok-place.place s.source = rw (c.deref.ensures.value, c.as_str.ensures.value) at c.in_ok-place.ensures.found in
+    dropped_by e s c.in_ok-place.place c.requires at (sym c.ledger_at.ensures ∙ c.in-None.is)

@@ -1,6 +1,6 @@
-use Rattle.med_session.specs.Requests.{asked}
+use Rattle.med_session.specs.Asking.{asked}
 use Rattle.med_session.specs.Outcomes.{reply_of}
-use Rattle.med_session.specs.Engine.{shown}
+use Rattle.med_session.specs.Shows.{shown}
 use Rattle.med_session.proofs.Leading.{answers}
 use Rattle.med_session.proofs.engine.Engine.request.Goals as goal
 

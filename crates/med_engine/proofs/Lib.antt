@@ -1,4 +1,0 @@
-mod Leading
-mod Telling
-mod AddingLists
-mod Tables

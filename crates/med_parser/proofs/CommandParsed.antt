@@ -1,0 +1,218 @@
+-- What a text's tokens say of its command and of its causes.
+use Rattle.std.proofs.Common.{◌≡◌, ℕ, ◌≤◌, ◌<◌, ◌⊎◌, inl, inr, arith, true, false, List, ◌∷◌, ◌++◌, codes, refl, sym, ◌∙◌, ap, subst}
+use Rattle.std.specs.Prelude.{Any, Result, Ok, Err, IfOk, OnOk, IfErr, String}
+use Rattle.std.specs.String.{string_bytes}
+use Rattle.med_value.specs.declared.cause.Cause.{Cause}
+use Rattle.med_value.specs.declared.cause.Cause.TheVariants as causes
+use Rattle.med_lexer.specs.declared.Token.{Token}
+use Rattle.med_lexer.specs.Lexemes.{Shape, word, Lexeme, Lexes}
+use Rattle.med_lexer.specs.View.{views}
+use Rattle.expr_grammar.specs.Shapes.{shapes, IsLongName}
+use Rattle.expr_grammar.specs.View.{shapes_of, LexesOnly, cause_of}
+use Rattle.expr_grammar.specs.declared.fault.ParseFault.{ParseFault}
+use Rattle.expr_grammar.specs.declared.fault.ParseFault.TheVariants as parse_faults
+use Rattle.med_syntax.specs.declared.statement.Statement.{Statement}
+use Rattle.expr_grammar.specs.declared.refusal.ReadFault.{ReadFault}
+use Rattle.expr_grammar.specs.declared.refusal.ReadFault.TheVariants as faults
+use Rattle.expr_grammar.specs.declared.refusal.Refusal.TheVariants.{Syntax, TooHigh}
+use Rattle.expr_grammar.specs.ExprTerminals.{AreReadable}
+use Rattle.query_grammar.specs.declared.query_symbols.Place.TheVariants.{Before}
+use Rattle.query_grammar.specs.QueryTerminals.{words_at}
+use Rattle.expr_grammar.specs.ExprWeight.{weight}
+use Rattle.expr_grammar.specs.ExprAnswers.{Gives, cause_of_read}
+use Rattle.med_syntax.specs.QueryTree.{StatementTree, select, statement_height}
+use Rattle.query_grammar.specs.QueryGrammar.{Spells, IsLine, IsStatement, HasStatement}
+use Rattle.query_grammar.specs.QueryCauses.{statement_in_range}
+use Rattle.query_print.specs.QueryPrinting.{printed_statement}
+use Rattle.ddl_parser.specs.DdlPrinting.{printed_ddl}
+use Rattle.med_parser.specs.CommandPrinting.{printed_command}
+use Rattle.query_grammar.specs.QueryTerminals.{IsWord, AreWords, is_free_keyword}
+use Rattle.med_syntax.specs.Terminal.{Terminal, word_terminal}
+use Rattle.med_syntax.specs.Terminal as t
+use Rattle.med_syntax.specs.Words.{is_reserved}
+use Rattle.ddl_syntax.specs.DdlTree.{DdlTree}
+use Rattle.ddl_syntax.specs.DdlView.{ddl_tree}
+use Rattle.med_parser.specs.CommandTree.{CommandTree, on_data, on_objects, command_height, command_tree}
+use Rattle.med_parser.specs.declared.command.Command.{Command}
+use Rattle.med_parser.specs.declared.command.Command.TheVariants as commands
+use Rattle.ddl_syntax.specs.declared.ddl.Ddl.{Ddl}
+use Rattle.ddl_parser.specs.DdlGrammar.{IsDdl, HasDdl}
+use Rattle.ddl_parser.proofs.DdlComplete.{begun}
+use Rattle.med_parser.specs.CommandGrammar.{IsCommand, HasCommand}
+use Rattle.med_parser.specs.CommandCauses.{command_in_range, TokenCauses, SyntaxCauses}
+use Rattle.query_reader.specs.QueryReading.{bounded_line}
+use Rattle.med_syntax.specs.QueryView.{statement_tree}
+use Rattle.expr_grammar.proofs.TokenShapes.{OneList, shapes_are}
+use Rattle.expr_grammar.proofs.TokenNumbers.{small_at}
+use Rattle.query_reader.proofs.QueryComplete.{one_line}
+use Rattle.ddl_parser.proofs.DdlComplete as ddl
+use Rattle.query_grammar.proofs.QueryTerminals.{to_terminals, of_terminals}
+use Rattle.med_parser.proofs.QueryWeighing.{words_weigh, bounded_sound, bounded_out, bounded_told}
+use Rattle.std.specs.Str.{bytes_eq}
+use Rattle.std.proofs.lemmas.Slice.Eq.{bytes_eq-Decides}
+
+-- ---- no tokens are a statement on data and one on objects
+
+-- what begins with CREATE or DROP does not begin with SELECT
+not_select : (w : List ℕ) (ss : List Shape) (u : Terminal) → word_terminal w ≡ t.Reserved w → is_free_keyword w ≡ false → bytes_eq w (codes "unknown") ≡ false → bytes_eq w (codes "select") ≡ false → IsWord (word w) u → u ≡ t.Reserved (codes "select") → ⊥
+not_select w ss u r f n d (inl (inl h)) e = absurd (let same : t.Reserved w ≡ t.Reserved (codes "select") = sym r ∙ sym h ∙ e in let equal : w ≡ codes "select" = cc in let yes : bytes_eq w (codes "select") ≡ true = (bytes_eq-Decides w (codes "select")).1 equal in cc)
+not_select w ss u r f n d (inl (inr h)) e = absurd (let equal : w ≡ codes "unknown" = (let x : ◌≡◌ {A = Shape} (word w) (word (codes "unknown")) = h.0 in cc) in let yes : bytes_eq w (codes "unknown") ≡ true = (bytes_eq-Decides w (codes "unknown")).1 equal in cc)
+not_select w ss u r f n d (inr h) e = absurd (let equal : w ≡ h.0 = (let x : ◌≡◌ {A = Shape} (word w) (word h.0) = h.1 in cc) in let no : is_free_keyword h.0 ≡ false = ap is_free_keyword (sym equal) ∙ f in cc)
+
+create_terminal : word_terminal (codes "create") ≡ t.Reserved (codes "create")
+unfolding is_reserved
+create_terminal = refl
+
+drop_terminal : word_terminal (codes "drop") ≡ t.Reserved (codes "drop")
+unfolding is_reserved
+drop_terminal = refl
+
+not_begun : (w : List ℕ) (ss us : List Shape) (ts : List Terminal) (rest : List Terminal) → word_terminal w ≡ t.Reserved w → is_free_keyword w ≡ false → bytes_eq w (codes "unknown") ≡ false → bytes_eq w (codes "select") ≡ false → ss ≡ word w ∷ us → AreWords ss ts → ts ≡ t.Reserved (codes "select") ∷ rest → ⊥
+not_begun w ss us ts rest r f n d p a q =
+    let b : AreWords (word w ∷ us) (t.Reserved (codes "select") ∷ rest) = subst (λ y. AreWords y (t.Reserved (codes "select") ∷ rest)) p (subst (AreWords ss) q a) in
+    not_select w us (t.Reserved (codes "select")) r f n d b.0 refl
+
+begins_select : (s : StatementTree) (ts : List Terminal) → Spells s ts → (rest : List Terminal) × (ts ≡ t.Reserved (codes "select") ∷ rest)
+begins_select (select q) ts x = (x.quantifier ++ (x.items ++ (x.from ++ (x.condition ++ (x.groups ++ (x.having ++ (x.keys ++ x.limits)))))), x.is)
+
+apart : (ss : List Shape) (s : StatementTree) (d : DdlTree) → IsStatement ss s → IsDdl ss d → ⊥
+apart ss s d x y =
+    let b = begins_select s x.2.0 x.2.3 in
+    let line : x.0 ≡ t.Reserved (codes "select") ∷ (b.0 ++ x.2.1) = x.2.2 ∙ ap (λ us. us ++ x.2.1) b.1 in
+    elim (begun ss d y) [
+      | inl h ↦ not_begun (codes "create") ss h.0 x.0 (b.0 ++ x.2.1) create_terminal refl refl refl h.1 x.1 line
+      | inr h ↦ not_begun (codes "drop") ss h.0 x.0 (b.0 ++ x.2.1) drop_terminal refl refl refl h.1 x.1 line
+    ]
+
+one_statement : (ss : List Shape) (r s : StatementTree) → IsStatement ss r → IsStatement ss s → r ≡ s
+one_statement ss r s x y = one_line (words_at (Before false) false ss) r s (to_terminals ss r x) (to_terminals ss s y)
+
+pub one_command : (ss : List Shape) (a b : CommandTree) → IsCommand ss a → IsCommand ss b → a ≡ b
+one_command ss (on_data r) (on_data s) x y = ap on_data (one_statement ss r s x y)
+one_command ss (on_data r) (on_objects d) x y = absurd (apart ss r d x y)
+one_command ss (on_objects d) (on_data s) x y = absurd (apart ss s d y x)
+one_command ss (on_objects d) (on_objects e) x y = ap on_objects (ddl.one_line ss d e x y)
+
+-- ---- causes of tokens
+
+neither : (ss : List Shape) → ((d : DdlTree) → IsDdl ss d → ⊥) → ((s : StatementTree) → IsStatement ss s → ⊥) → (c : CommandTree) → IsCommand ss c → ⊥
+neither ss none others (on_data s) x = others s x
+neither ss none others (on_objects d) x = none d x
+
+deep_told : (ss : List Shape) → ((d : DdlTree) → IsDdl ss d → ⊥) → ((s : StatementTree) × IsLine (words_at (Before false) false ss) s × (64 < statement_height s)) ⊎ (((s : StatementTree) → IsLine (words_at (Before false) false ss) s → ⊥) × (64 < weight (words_at (Before false) false ss))) → TokenCauses ss causes.TooDeep
+deep_told ss none (inl h) = inl (on_data h.0, of_terminals ss h.0 h.1, h.2)
+deep_told ss none (inr h) = inr (neither ss none (λ s x. h.0 s (to_terminals ss s x)), omega (arith, h.1, words_weigh (Before false) false ss))
+
+-- what is told where the tokens are no statement on objects, and the reader of the others refused them
+pub told : (ss : List Shape) (f : ReadFault) → ((d : DdlTree) → IsDdl ss d → ⊥) → Gives statement_tree (Err f) (bounded_line (words_at (Before false) false ss)) → (f ≡ faults.NoMemory) ⊎ TokenCauses ss (cause_of_read f)
+told ss faults.NoMemory none h = inl refl
+told ss (faults.Refused Syntax) none h = inr (neither ss none (λ s x. bounded_out (words_at (Before false) false ss) h s (to_terminals ss s x)))
+told ss (faults.Refused TooHigh) none h = inr (deep_told ss none (bounded_told (words_at (Before false) false ss) h))
+
+pub read_statement : (ss : List Shape) (s : StatementTree) → bounded_line (words_at (Before false) false ss) ≡ Ok s → IsStatement ss s × (statement_height s ≤ 64)
+read_statement ss s h =
+    let x = bounded_sound (words_at (Before false) false ss) s h in
+    (of_terminals ss s x.0, x.1)
+
+pub no_cause : (ss : List Shape) (c : CommandTree) → IsCommand ss c → command_height c ≤ 64 → command_in_range c ≡ true → AreReadable ss → (Any IsLongName ss → ⊥) → (k : Cause) → TokenCauses ss k → ⊥
+no_cause ss c x low range r short causes.Syntax h = h c x
+no_cause ss c x low range r short causes.NameTooLong h = short h
+no_cause ss c x low range r short causes.LiteralOutOfRange (inl h) = small_at ss h.0 h.1 r h.2 h.3 h.4
+no_cause ss c x low range r short causes.LiteralOutOfRange (inr h) = absurd (let same : command_in_range h.0 ≡ command_in_range c = ap command_in_range (one_command ss h.0 c h.1 x) in let f : command_in_range h.0 ≡ false = h.2 in cc)
+no_cause ss c x low range r short causes.TooDeep (inl h) = absurd (omega (arith, h.2, ap command_height (one_command ss h.0 c h.1 x)))
+no_cause ss c x low range r short causes.TooDeep (inr h) = h.0 c x
+no_cause ss c x low range r short k h = absurd h
+
+-- ---- causes of texts
+
+text_has : (text : List ℕ) (ts : List Token) (s : CommandTree) → Lexes 0 text (views ts) → IsCommand (shapes_of ts) s → HasCommand text s
+text_has text ts s l x = (views ts, l, subst (λ ss. IsCommand ss s) (sym (shapes_are ts)) x)
+
+same_shapes : (text : List ℕ) (ts : List Token) (us : List Lexeme) → OneList text (views ts) → Lexes 0 text us → shapes us ≡ shapes_of ts
+same_shapes text ts us one l = ap shapes (one us l) ∙ shapes_are ts
+
+text_cause : (text : List ℕ) (ts : List Token) → Lexes 0 text (views ts) → OneList text (views ts) → (c : Cause) → TokenCauses (shapes_of ts) c → SyntaxCauses text c
+text_cause text ts l one causes.Syntax h = λ s x. h s (subst (λ ss. IsCommand ss s) (same_shapes text ts x.0 one x.1) x.2)
+text_cause text ts l one causes.NameTooLong h = (views ts, l, subst (λ ss. TokenCauses ss causes.NameTooLong) (sym (shapes_are ts)) h)
+text_cause text ts l one causes.LiteralOutOfRange h = (views ts, l, subst (λ ss. TokenCauses ss causes.LiteralOutOfRange) (sym (shapes_are ts)) h)
+text_cause text ts l one causes.TooDeep h = (views ts, l, subst (λ ss. TokenCauses ss causes.TooDeep) (sym (shapes_are ts)) h)
+text_cause text ts l one c h = absurd h
+
+text_clear : (text : List ℕ) (ts : List Token) → Lexes 0 text (views ts) → OneList text (views ts) → ((c : Cause) → TokenCauses (shapes_of ts) c → ⊥) → (c : Cause) → SyntaxCauses text c → ⊥
+text_clear text ts l one none causes.Syntax h = none causes.Syntax (λ s x. h s (text_has text ts s l x))
+text_clear text ts l one none causes.NameTooLong h = none causes.NameTooLong (subst (λ ss. TokenCauses ss causes.NameTooLong) (same_shapes text ts h.0 one h.1) h.2)
+text_clear text ts l one none causes.LiteralOutOfRange h = none causes.LiteralOutOfRange (subst (λ ss. TokenCauses ss causes.LiteralOutOfRange) (same_shapes text ts h.0 one h.1) h.2)
+text_clear text ts l one none causes.TooDeep h = none causes.TooDeep (subst (λ ss. TokenCauses ss causes.TooDeep) (same_shapes text ts h.0 one h.1) h.2)
+text_clear text ts l one none c h = absurd h.2
+
+pub text_refused : {X : Type 0} (text : List ℕ) (ts : List Token) → Lexes 0 text (views ts) → OneList text (views ts) → (r : Result X Cause) → IfErr r (λ c. (c ≡ causes.OutOfMemory) ⊎ TokenCauses (shapes_of ts) c) → IfErr r (λ c. (c ≡ causes.OutOfMemory) ⊎ SyntaxCauses text c)
+text_refused text ts l one (Ok x) h = tt
+text_refused text ts l one (Err c) (inl h) = inl h
+text_refused text ts l one (Err c) (inr h) = inr (text_cause text ts l one c h)
+
+pub only_memory : {X : Type 0} (text : List ℕ) (r : Result X Cause) → IfErr r (λ c. (c ≡ causes.OutOfMemory) ⊎ SyntaxCauses text c) → ((c : Cause) → SyntaxCauses text c → ⊥) → IfErr r (λ c. c ≡ causes.OutOfMemory)
+only_memory text (Ok x) h none = tt
+only_memory text (Err c) (inl h) none = h
+only_memory text (Err c) (inr h) none = absurd (none c h)
+
+pub one_text : ((text : List ℕ) (ts us : List Lexeme) → Lexes 0 text ts → Lexes 0 text us → ts ≡ us) → (text : List ℕ) (r s : CommandTree) → HasCommand text r → HasCommand text s → r ≡ s
+one_text one text r s x y =
+    let same : x.0 ≡ y.0 = one text x.0 y.0 x.1 y.1 in
+    one_command (shapes y.0) r s (subst (λ ts. IsCommand (shapes ts) r) same x.2) y.2
+
+pub text_found : (text : List ℕ) (ts : List Token) → Lexes 0 text (views ts) → (r : Result Command Cause) → IfOk r (λ s. IsCommand (shapes_of ts) (command_tree s)) → IfOk r (λ s. HasCommand text (command_tree s))
+text_found text ts l (Ok s) h = text_has text ts (command_tree s) l h
+text_found text ts l (Err c) h = tt
+
+pub text_none : (text : List ℕ) (ts : List Token) → Lexes 0 text (views ts) → OneList text (views ts) → (r : Result Command Cause) → OnOk r ((c : Cause) → TokenCauses (shapes_of ts) c → ⊥) → OnOk r ((c : Cause) → SyntaxCauses text c → ⊥)
+text_none text ts l one (Ok s) h = text_clear text ts l one h
+text_none text ts l one (Err c) h = tt
+
+-- what the tokens of a text are no command of is no command
+pub text_syntax : {X : Type 0} (text : List ℕ) (ts : List Token) → Lexes 0 text (views ts) → (r : Result X Cause) → (TokenCauses (shapes_of ts) causes.Syntax → IfErr r (λ c. c ≡ causes.NameTooLong → ⊥)) → SyntaxCauses text causes.Syntax → IfErr r (λ c. c ≡ causes.NameTooLong → ⊥)
+text_syntax text ts l r h none = h (λ s x. none s (text_has text ts s l x))
+
+-- ---- as the code has it
+
+pub told_refused : {X : Type 0} (ss : List Shape) (f : ReadFault) (r : Result X Cause) → (f ≡ faults.NoMemory) ⊎ TokenCauses ss (cause_of_read f) → r ≡ Err (cause_of_read f) → IfErr r (λ c. (c ≡ causes.OutOfMemory) ⊎ TokenCauses ss c)
+told_refused ss f r (inl h) is = rw is (inl (ap cause_of_read h))
+told_refused ss f r (inr h) is = rw is (inr h)
+
+not_memory : causes.OutOfMemory ≡ causes.NameTooLong → ⊥
+not_memory h = absurd (cc)
+
+not_syntax : causes.Syntax ≡ causes.NameTooLong → ⊥
+not_syntax h = absurd (cc)
+
+not_deep : causes.TooDeep ≡ causes.NameTooLong → ⊥
+not_deep h = absurd (cc)
+
+pub told_syntax : {X : Type 0} (f : ReadFault) (r : Result X Cause) → r ≡ Err (cause_of_read f) → IfErr r (λ c. c ≡ causes.NameTooLong → ⊥)
+told_syntax faults.NoMemory r is = rw is not_memory
+told_syntax (faults.Refused Syntax) r is = rw is not_syntax
+told_syntax (faults.Refused TooHigh) r is = rw is not_deep
+
+pub lexed_syntax : {X : Type 0} (f : ParseFault) (r : Result X Cause) → r ≡ Err (cause_of f) → IfErr r (λ c. c ≡ causes.NameTooLong → ⊥)
+lexed_syntax parse_faults.NoMemory r is = rw is not_memory
+lexed_syntax parse_faults.Syntax r is = rw is not_syntax
+
+pub lexed_read : {X : Type 0} (A : Type 0) (text : List ℕ) (f : ParseFault) (r : Result X Cause) → LexesOnly {A = A} (Err f) text → r ≡ Err (cause_of f) → ((c : Cause) → SyntaxCauses text c → ⊥) → IfErr r (λ c. c ≡ causes.OutOfMemory)
+lexed_read A text parse_faults.NoMemory r h is none = rw is refl
+lexed_read A text parse_faults.Syntax r h is none = absurd (none causes.Syntax (λ s x. h x.0 x.1))
+
+-- ---- commands written out
+
+pub printed_again : ((text : List ℕ) (s : StatementTree) → HasStatement text s → statement_in_range s ≡ true → HasStatement (printed_statement s) s) → ((text : List ℕ) (d : DdlTree) → HasDdl text d → HasDdl (printed_ddl d) d) →
+    (text : List ℕ) (c : CommandTree) → HasCommand text c → command_in_range c ≡ true → HasCommand (printed_command c) c
+printed_again statements objects text (on_data s) x r = statements text s x r
+printed_again statements objects text (on_objects d) x r = objects text d x
+
+pub data_again : {A E : Type 0} (k : Command) (s : Statement) (r : Result (String A) E) → k ≡ commands.Data s →
+    ((text : List ℕ) → HasStatement text (statement_tree s) → statement_in_range (statement_tree s) ≡ true → IfOk r (λ x. HasStatement (string_bytes x) (statement_tree s))) →
+    (text : List ℕ) → HasCommand text (command_tree k) → command_in_range (command_tree k) ≡ true → IfOk r (λ x. HasCommand (string_bytes x) (command_tree k))
+data_again k s r is h = subst (λ (y : Command). (text : List ℕ) → HasCommand text (command_tree y) → command_in_range (command_tree y) ≡ true → IfOk r (λ x. HasCommand (string_bytes x) (command_tree y))) (sym is) h
+
+pub ddl_again : {A E : Type 0} (k : Command) (d : Ddl) (r : Result (String A) E) → k ≡ commands.Ddl d →
+    ((text : List ℕ) → HasDdl text (ddl_tree d) → IfOk r (λ x. HasDdl (string_bytes x) (ddl_tree d))) →
+    (text : List ℕ) → HasCommand text (command_tree k) → command_in_range (command_tree k) ≡ true → IfOk r (λ x. HasCommand (string_bytes x) (command_tree k))
+ddl_again k d r is h = subst (λ (y : Command). (text : List ℕ) → HasCommand text (command_tree y) → command_in_range (command_tree y) ≡ true → IfOk r (λ x. HasCommand (string_bytes x) (command_tree y))) (sym is) (λ text x fit. h text x)
