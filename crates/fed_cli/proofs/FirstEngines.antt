@@ -1,5 +1,5 @@
 -- The engine that a program begins with, and its boxes.
-use Rattle.std.proofs.Common.{◌≡◌, ℕ, zero, suc, List, [], ◌∷◌, ◌++◌, length, Option, Some, None, option_map, Bor, slice_get, slice_set, codes, refl, sym, ap, ◌∙◌, subst}
+use Rattle.std.proofs.Common.{◌≡◌, arith, ℕ, zero, suc, List, [], ◌∷◌, ◌++◌, length, Option, Some, None, option_map, Bor, slice_get, slice_set, codes, refl, sym, ap, ◌∙◌, subst}
 use Rattle.fdw_api.specs.State.{BoxState}
 use Rattle.fdw_api.specs.Calls.{Binds}
 use Rattle.fdw_api.specs.Kinds.{Column}
@@ -8,14 +8,15 @@ use Rattle.med_value.specs.declared.cause.Cause.TheVariants.{OutOfMemory}
 use Rattle.med_exec.specs.Slots.{ChangesAt}
 use Rattle.med_session.specs.Adding.{HasSource, AddCause, Adds}
 use Rattle.med_session.specs.Attaching.{BindsTable}
-use Rattle.med_session.specs.Engine.{Shown, Label, IsSound, Agrees, sources_of}
+use Rattle.med_session.specs.Engine.{Shown, Label, IsSound, Agrees, sources_of, user_of}
 use Rattle.med_session.specs.World.{World, empty_world}
 use Rattle.med_session.specs.declared.adding.AddFault.{AddFault}
 use Rattle.med_session.specs.declared.adding.AddFault.TheVariants as adding
 use Rattle.med_session.specs.declared.sources.SourceKind.{SourceKind}
 use Rattle.list_wrapper.specs.Lists.{IsNewList}
+use Rattle.fed_replay.specs.Replays.{session}
 use Rattle.fed_cli.specs.Demo.{demo_list, parts_columns, orders_columns}
-use Rattle.fed_cli.specs.Setup.{HasDemo, HasDemoBox, IsFirst, AddsNoDemo, BeginsNot}
+use Rattle.fed_cli.specs.Setup.{HasDemo, HasDemoBox, IsFirst, AddsNoDemo, HasNoFirst}
 use Rattle.fed_cli.specs.Told.{added_of, attached_of}
 use Rattle.fed_cli.specs.declared.told.RunFault.{RunFault}
 use Rattle.fed_cli.specs.declared.told.RunFault.TheVariants as faults
@@ -112,21 +113,34 @@ pub not_attached : (labels : List Label) (name : Bor (List ℕ)) (cause : Cause)
 not_attached labels name OutOfMemory told e = subst (λ f. AddsNoDemo labels name f) (sym e) tt
 not_attached labels name _ told e = subst (λ f. AddsNoDemo labels name f) (sym e) refl
 
--- beside no source, it is for want of memory or for its tables
-pub begins_not : (labels : List Label) (name : Bor (List ℕ)) (list : Option (Bor (List ℕ))) (fault : RunFault) → labels ≡ [] → list ≡ Some name → AddsNoDemo labels name fault → BeginsNot list fault
-begins_not labels name list faults.NoMemory none is h = tt
-begins_not labels name list (faults.CannotOpen told) none is h = is ∙ ap Some (sym h)
-begins_not labels name list (faults.NameTaken told) none is h = no_source labels h.1 none
+-- beside no source it is for want of memory or for its tables
+pub no_first : (labels : List Label) (name : Bor (List ℕ)) (list : Option (Bor (List ℕ))) (fault : RunFault) → labels ≡ [] → list ≡ Some name → AddsNoDemo labels name fault → HasNoFirst list fault
+no_first labels name list faults.NoMemory none is h = tt
+no_first labels name list (faults.CannotOpen told) none is h = is ∙ ap Some (sym h)
+no_first labels name list (faults.NameTaken told) none is h = no_source labels h.1 none
   where
     no_source : (ls : List Label) → HasSource ls name.now → ls ≡ [] → ⊥
     no_source [] s e = let no : None ≡ Some s.1.0 = s.1.1 in absurd cc
     no_source (l ∷ ls) s e = cc
-begins_not labels name list (faults.TooManySources told) none is h = no_many labels h.1 none
+no_first labels name list (faults.TooManySources told) none is h = no_many labels h.1 none
   where
     no_many : (ls : List Label) → length ls ≡ 64 → ls ≡ [] → ⊥
     no_many [] n e = cc
     no_many (l ∷ ls) n e = cc
-begins_not labels name list faults.Read none is h = h
-begins_not labels name list faults.Write none is h = h
-begins_not labels name list faults.TooManyReads none is h = h
-begins_not labels name list faults.ProtocolViolation none is h = h
+no_first labels name list faults.Read none is h = h
+no_first labels name list faults.Write none is h = h
+no_first labels name list faults.TooManyReads none is h = h
+no_first labels name list faults.ProtocolViolation none is h = h
+no_first labels name list (faults.CannotReadInit told) none is h = h
+no_first labels name list faults.InitNotText none is h = h
+no_first labels name list (faults.InitLine number cause) none is h = h
+
+-- ---- the session of a replay is closed
+
+-- a session that a world has closed is closed in an engine for it
+pub closed_session : (e : Shown) (w : World) → Agrees e w → w.sessions session ≡ None → user_of e.users session ≡ None
+closed_session e w agrees none = sym (agrees.sessions session (omega arith, omega arith)) ∙ none
+
+-- the demo list opens no session
+pub demo_sessions : (name : List ℕ) (w : World) → HasDemo empty_world name w → w.sessions session ≡ None
+demo_sessions name w has = ap (λ (v : World). v.sessions session) has.orders.is ∙ ap (λ (v : World). v.sessions session) has.parts.is

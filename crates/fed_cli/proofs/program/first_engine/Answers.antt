@@ -1,5 +1,6 @@
+use Rattle.std.proofs.Common.{refl}
 use Rattle.med_session.specs.World.{empty_world}
-use Rattle.fed_cli.proofs.FirstEngines.{nothing_there, first_of_none, first_of_list, begins_not}
+use Rattle.fed_cli.proofs.FirstEngines.{nothing_there, first_of_none, first_of_list, no_first, closed_session, demo_sessions}
 use Rattle.fed_cli.proofs.program.first_engine.Goals as goal
 
 -- no list is asked
@@ -19,4 +20,13 @@ returns-in-Ok-add_demo-clause-first c =
 pub returns-clause-refused : goal.returns-clause-refused
 returns-clause-refused c =
     let nothing = nothing_there _ c.in-Ok.ensures.sound c.in-Ok.ensures.empty in
-    begins_not _ _ _ _ nothing.0 c.in-Some.is c.in-Err.ensures.fault
+    no_first _ _ _ _ nothing.0 c.in-Some.is c.in-Err.ensures.fault
+
+-- every session is closed
+pub returns-in_default-list-clause-closed : goal.returns-in_default-list-clause-closed
+returns-in_default-list-clause-closed c = closed_session _ empty_world c.in-Ok.ensures.empty refl
+
+pub returns-in-Ok-add_demo-clause-closed : goal.returns-in-Ok-add_demo-clause-closed
+returns-in-Ok-add_demo-clause-closed c =
+    let demo = c.in-Ok-add_demo.ensures.world empty_world c.in-Ok.ensures.empty in
+    closed_session _ demo.0 demo.2 (demo_sessions _ demo.0 demo.1)
