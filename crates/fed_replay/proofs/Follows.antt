@@ -1,13 +1,14 @@
 -- Replays of engines, of their boxes, and of the worlds that they stand for.
 use Rattle.std.proofs.lemmas.Str.{is_utf8-from_IsUtf8, IsUtf8-from_is_utf8}
 use Rattle.std.specs.Str.{IsUtf8, is_utf8}
-use Rattle.std.proofs.Common.{◌≡◌, Bool, true, false, ℕ, ◌≤◌, ◌-◌, ◌^◌, min, List, [], ◌∷◌, Option, None, Result, Ok, Err, refl, sym, ap, ◌∙◌, subst, inl, inr, arith, lit≤}
+use Rattle.std.proofs.Common.{◌≡◌, Bool, true, false, ℕ, List, [], ◌∷◌, Option, None, option_map, Result, Ok, Err, refl, sym, ap, ◌∙◌, subst, inl, inr, lit≤}
 use Rattle.fdw_api.specs.State.{BoxState}
 use Rattle.med_session.specs.Requests.{Asked}
-use Rattle.med_session.specs.World.{World}
-use Rattle.med_session.specs.Steps.{with_session}
-use Rattle.med_session.specs.Engine.{shown, Agrees, Befell, Rises, EachRises, user_of}
+use Rattle.med_session.specs.World.{World, new_session, with_session}
+use Rattle.med_session.specs.Engine.{Agrees, Befell, EachRises, user_of}
+use Rattle.med_session.specs.Shows.{shown}
 use Rattle.med_session.specs.declared.engine.Engine.{Engine}
+use Rattle.med_world.proofs.Faring.{none_rises, rise_twice}
 use Rattle.session_wire.specs.Run.{Steps}
 use Rattle.session_wire.specs.Engines.{EngineSteps, EngineRises}
 use Rattle.session_wire.specs.Worlds.{Scene, scene_of, SceneSteps}
@@ -79,47 +80,18 @@ pub in_worlds : {W : Type 0} (meaning : W → BoxState) (old new : Engine W) (ow
     → (after : World) × Replays SceneSteps SceneCloses (scene_of meaning old w) owner script result (scene_of meaning new after)
     × Agrees (shown meaning new) after × (after.sessions session ≡ None)
 in_worlds meaning old new owner script result closed (not_text t r same) w a =
-    (w, not_text t r (ap (λ e. scene_of meaning e w) same), subst (λ e. Agrees (shown meaning e) w) (sym same) a, a.sessions session (lit≤ tt, lit≤ tt) ∙ closed)
+    (w, not_text t r (ap (λ e. scene_of meaning e w) same), subst (λ e. Agrees (shown meaning e) w) (sym same) a, a.sessions session (lit≤ tt, lit≤ tt) ∙ ap (option_map new_session) closed)
 in_worlds meaning old new owner script result closed (runs t last h closes) w a =
     let one = runs_follow (EngineSteps meaning) SceneSteps (Stands meaning) (steps_follow meaning) old owner (statement_lines script) result last h (scene_of meaning old w) (a, refl) in
     (with_session one.0.world session None, runs t one.0 one.1 (closes_follows meaning last new one.0 closes one.2.1), closes.world one.0.world one.2.0, refl)
 
 -- ---- what boxes count goes up
 
-rises_same : (s : BoxState) → Rises s s
-rises_same s = record { nature = refl; next = omega arith; end = λ e. e; faults = omega arith }
-
-min_along : (m a b c : ℕ) → min a m ≤ b → min b m ≤ c → min a m ≤ c
-min_along m a b c h k = omega arith
-
-rises_along : (s t u : BoxState) → Rises s t → Rises t u → Rises s u
-rises_along s t u h k = record {
-  nature = k.nature ∙ h.nature;
-  next = omega (arith, h.next, k.next);
-  end = λ e. k.end (h.end e);
-  faults = min_along (2 ^ 64 - 1) s.ledger.faults t.ledger.faults u.ledger.faults h.faults k.faults;
-}
-
-each_same : (boxes : List (Option BoxState)) → EachRises boxes boxes
-each_same boxes = record { stays = λ slot s is. (s, is, rises_same s); stood = λ slot s is. (s, is, rises_same s) }
-
-each_along : (a b c : List (Option BoxState)) → EachRises a b → EachRises b c → EachRises a c
-each_along a b c h k = record {
-  stays = λ slot s is.
-      let one = h.stays slot s is in
-      let two = k.stays slot one.0 one.1 in
-      (two.0, two.1, rises_along s one.0 two.0 one.2 two.2);
-  stood = λ slot s is.
-      let two = k.stood slot s is in
-      let one = h.stood slot two.0 two.1 in
-      (one.0, one.1, rises_along one.0 two.0 s one.2 two.2);
-}
-
 same_rises : {W : Type 0} (meaning : W → BoxState) (old new : Engine W) → new ≡ old → EngineRises meaning old new
-same_rises meaning old new same = subst (λ e. EngineRises meaning old e) (sym same) (each_same (shown meaning old).boxes)
+same_rises meaning old new same = subst (λ e. EngineRises meaning old e) (sym same) (none_rises (shown meaning old).boxes)
 
 along : {W : Type 0} (meaning : W → BoxState) (a b c : Engine W) → EngineRises meaning a b → EngineRises meaning b c → EngineRises meaning a c
-along meaning a b c = each_along (shown meaning a).boxes (shown meaning b).boxes (shown meaning c).boxes
+along meaning a b c = rise_twice (shown meaning a).boxes (shown meaning b).boxes (shown meaning c).boxes
 
 done_rises : {W : Type 0} (meaning : W → BoxState) (old : Engine W) (rs : List (ℕ × Asked)) (new : Engine W) → AreDone (EngineSteps meaning) old rs new → EngineRises meaning old new
 done_rises meaning old [] new h = same_rises meaning old new h
@@ -141,7 +113,7 @@ pub replay_rises : {W : Type 0} (meaning : W → BoxState) (old new : Engine W) 
 replay_rises meaning old new owner script result (not_text t r same) = same_rises meaning old new same
 replay_rises meaning old new owner script result (runs t last h closes) =
     along meaning old last new (run_rises meaning old owner (statement_lines script) result last h)
-    (subst (λ boxes. EachRises (shown meaning last).boxes boxes) (sym (ap (λ e. e.boxes) closes.others)) (each_same (shown meaning last).boxes))
+    (subst (λ boxes. EachRises (shown meaning last).boxes boxes) (sym (ap (λ e. e.boxes) closes.others)) (none_rises (shown meaning last).boxes))
 
 -- ---- the two ends of a replay
 

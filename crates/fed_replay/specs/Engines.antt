@@ -1,8 +1,9 @@
 -- The close of the session of a replay.
 use Rattle.std.specs.Prelude.{◌≡◌, None}
 use Rattle.fdw_api.specs.State.{BoxState}
-use Rattle.med_session.specs.Steps.{with_session}
-use Rattle.med_session.specs.Engine.{shown, Closes}
+use Rattle.med_session.specs.World.{with_session}
+use Rattle.med_session.specs.Engine.{Closes}
+use Rattle.med_session.specs.Shows.{shown}
 use Rattle.med_session.specs.declared.engine.Engine.{Engine}
 use Rattle.session_wire.specs.Worlds.{Scene}
 use Rattle.fed_replay.specs.Replays.{session}

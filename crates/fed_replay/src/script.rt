@@ -1,8 +1,10 @@
 //! The replay of a script.
 ghost use Rattle.std.specs.Prelude.{◌≡◌, ℕ, List, None, IfOk, IfErr, OnOk, OnErr};
-ghost use Rattle.med_session.specs.Requests.{IsUser, asked};
+ghost use Rattle.med_session.specs.Asking.{asked};
+ghost use Rattle.med_session.specs.Requests.{IsUser};
 ghost use Rattle.med_session.specs.World.{World};
-ghost use Rattle.med_session.specs.Engine.{shown, IsSound, Agrees, EachRises, user_of};
+ghost use Rattle.med_session.specs.Engine.{IsSound, Agrees, user_of};
+ghost use Rattle.med_session.specs.Shows.{shown};
 ghost use Rattle.session_wire.specs.Engines.{EngineSteps, EngineRises};
 ghost use Rattle.session_wire.specs.Worlds.{scene_of, SceneSteps};
 ghost use Rattle.fed_replay.specs.Scripts.{statement_lines};

@@ -205,7 +205,9 @@ impl<W: Wrapper> Engine<W> {
                 self.change_objects(Change::NewMapping(server, whose, mode))
             }
             Change::NoWrapper(name) => self.change_objects(Change::NoWrapper(name)),
-            Change::NoMapping(server, whose) => self.change_objects(Change::NoMapping(server, whose)),
+            Change::NoMapping(server, whose) => self.change_objects(Change::NoMapping(
+                server, whose,
+            )),
         }
     }
 }

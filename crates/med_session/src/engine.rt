@@ -6,13 +6,15 @@ use crate::replies::{Outcome, write_reply};
 use crate::session::{NoRoom, Request, Sid};
 use crate::sources::NamedSource;
 use crate::users::is_user;
-use fdw_api::interface::Wrapper;
 use bind_catalog::BoundTable;
-use med_parser::{Command, one_tree, parse};
+use fdw_api::interface::Wrapper;
 use med_catalog::Catalog;
+use med_parser::{Command, one_tree, parse};
 use med_select::run_select;
 use med_value::Cause;
-use med_world::law::{changes_lead, engines_begin, queries_lead, sessions_end, sessions_lead, statements_are_refused};
+use med_world::law::{
+    changes_lead, engines_begin, queries_lead, sessions_end, sessions_lead, statements_are_refused,
+};
 use std::alloc::Global;
 use thiserror::Error;
 

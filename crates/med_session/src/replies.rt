@@ -7,8 +7,8 @@ ghost use Rattle.ddl_syntax.specs.DdlView.{ddl_tree};
 ghost use Rattle.med_session.specs.Outcomes.{Tells, reply_of};
 ghost use Rattle.med_world.specs.Steps.{ddl_tag};
 
-use itoa::Buffer;
 use ddl_syntax::Ddl;
+use itoa::Buffer;
 use med_select::RowSet;
 use med_value::text::{escaped_text, row_text};
 use med_value::{Cause, NoMemory, Row};

@@ -1,9 +1,11 @@
 -- A run of engines is a run of each world that the first engine stands for.
-use Rattle.std.proofs.Common.{◌≡◌, ℕ, ◌-◌, ◌^◌, ◌≤◌, min, List, Option, refl, sym, ap, ◌∙◌, subst, arith}
+use Rattle.std.proofs.Common.{◌≡◌, ℕ, List, Option, refl, sym, ap, ◌∙◌, subst}
 use Rattle.fdw_api.specs.State.{BoxState}
 use Rattle.med_session.specs.World.{World, without_sessions}
-use Rattle.med_session.specs.Engine.{shown, Agrees, Befell, Rises, EachRises}
+use Rattle.med_session.specs.Engine.{Agrees, Befell, EachRises}
+use Rattle.med_session.specs.Shows.{shown}
 use Rattle.med_session.specs.declared.engine.Engine.{Engine}
+use Rattle.med_world.proofs.Faring.{none_rises, rise_twice}
 use Rattle.session_wire.specs.Engines.{EngineSteps, EngineEnds, EngineRises}
 use Rattle.session_wire.specs.Lines.{lines_of}
 use Rattle.session_wire.specs.Run.{Fed, BrokenOff}
@@ -12,41 +14,12 @@ use Rattle.session_wire.proofs.Follows.{StepsFollow, EndsFollow, IsKept, run_kep
 
 -- ---- what boxes count goes up
 
-rises_same : (s : BoxState) → Rises s s
-rises_same s = record { nature = refl; next = omega arith; end = λ e. e; faults = omega arith }
-
-min_along : (m a b c : ℕ) → min a m ≤ b → min b m ≤ c → min a m ≤ c
-min_along m a b c h k = omega arith
-
-rises_along : (s t u : BoxState) → Rises s t → Rises t u → Rises s u
-rises_along s t u h k = record {
-  nature = k.nature ∙ h.nature;
-  next = omega (arith, h.next, k.next);
-  end = λ e. k.end (h.end e);
-  faults = min_along (2 ^ 64 - 1) s.ledger.faults t.ledger.faults u.ledger.faults h.faults k.faults;
-}
-
-pub each_same : (boxes : List (Option BoxState)) → EachRises boxes boxes
-each_same boxes = record { stays = λ slot s is. (s, is, rises_same s); stood = λ slot s is. (s, is, rises_same s) }
-
-each_along : (a b c : List (Option BoxState)) → EachRises a b → EachRises b c → EachRises a c
-each_along a b c h k = record {
-  stays = λ slot s is.
-      let one = h.stays slot s is in
-      let two = k.stays slot one.0 one.1 in
-      (two.0, two.1, rises_along s one.0 two.0 one.2 two.2);
-  stood = λ slot s is.
-      let two = k.stood slot s is in
-      let one = h.stood slot two.0 two.1 in
-      (one.0, one.1, rises_along one.0 two.0 s one.2 two.2);
-}
-
-pub engine_kept : {W : Type 0} (meaning : W → BoxState) → IsKept (EngineSteps meaning) (EngineEnds meaning) (EngineRises meaning)
+engine_kept : {W : Type 0} (meaning : W → BoxState) → IsKept (EngineSteps meaning) (EngineEnds meaning) (EngineRises meaning)
 engine_kept {W} meaning = record {
-  same = λ e. each_same (shown meaning e).boxes;
-  along = λ e f g. each_along (shown meaning e).boxes (shown meaning f).boxes (shown meaning g).boxes;
+  same = λ e. none_rises (shown meaning e).boxes;
+  along = λ e f g. rise_twice (shown meaning e).boxes (shown meaning f).boxes (shown meaning g).boxes;
   steps = λ old sid request reply new h. h.leads.rises;
-  ends = λ old new h. subst (λ boxes. EachRises (shown meaning old).boxes boxes) (sym (ap (λ s. s.boxes) h.others)) (each_same (shown meaning old).boxes);
+  ends = λ old new h. subst (λ boxes. EachRises (shown meaning old).boxes boxes) (sym (ap (λ s. s.boxes) h.others)) (none_rises (shown meaning old).boxes);
 }
 
 -- ---- worlds follow

@@ -2,7 +2,8 @@
 use Rattle.std.specs.Prelude.{ℕ, List}
 use Rattle.fdw_api.specs.State.{BoxState}
 use Rattle.med_session.specs.Requests.{Asked}
-use Rattle.med_session.specs.Engine.{shown, IsSound, EachRises, IsAnswered, ClosesAll}
+use Rattle.med_session.specs.Engine.{IsSound, EachRises, IsAnswered, ClosesAll}
+use Rattle.med_session.specs.Shows.{shown}
 use Rattle.med_session.specs.declared.engine.Engine.{Engine}
 
 -- from each world that agrees with the old engine, a step leads to a reply of this text, and to a world that agrees with the new one
@@ -13,7 +14,7 @@ EngineSteps meaning old sid request text new = IsAnswered (shown meaning old) si
 abbrev pub EngineEnds : {W : Type 0} → (W → BoxState) → Engine W → Engine W → Type 0
 EngineEnds meaning old new = ClosesAll (shown meaning old) (shown meaning new)
 
--- between these engines no box goes and none comes, and what each counts goes up alone
+-- between these engines no box comes, one goes only idle and for good, and what each counts goes up alone
 abbrev pub EngineRises : {W : Type 0} → (W → BoxState) → Engine W → Engine W → Type 0
 EngineRises meaning old new = EachRises (shown meaning old).boxes (shown meaning new).boxes
 

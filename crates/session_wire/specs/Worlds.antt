@@ -4,7 +4,8 @@ use Rattle.fdw_api.specs.State.{BoxState}
 use Rattle.med_session.specs.World.{World, without_sessions}
 use Rattle.med_session.specs.Replies.{Reply, reply_text}
 use Rattle.med_session.specs.Steps.{Trouble, Step}
-use Rattle.med_session.specs.Engine.{shown, Befell, EachRises}
+use Rattle.med_session.specs.Engine.{Befell, EachRises}
+use Rattle.med_session.specs.Shows.{shown}
 use Rattle.med_session.specs.declared.engine.Engine.{Engine}
 use Rattle.session_wire.specs.Run.{Steps}
 
@@ -19,7 +20,8 @@ scene_of meaning engine w = record { world = w; boxes = (shown meaning engine).b
 
 -- A request is answered by the text of a reply to which a step leads, under some trouble that befell it in its own line: a source failed
 -- only where a box counted a fault in this line, or its count stands at its end after it; numbers are used up only where a box has given
--- them all after it. Want of memory no box shows. No box goes and none comes, and what each counts goes up alone.
+-- them all after it. Want of memory no box shows. No box comes, one goes only idle and for good, and
+-- what each counts goes up alone.
 abbrev pub SceneSteps : Steps Scene
 SceneSteps old sid request text new =
     (t : Trouble) × Befell old.boxes new.boxes t × EachRises old.boxes new.boxes

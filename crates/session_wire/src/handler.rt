@@ -1,6 +1,7 @@
 //! What answers requests.
 ghost use Rattle.std.specs.Prelude.{◌≡◌, ◌++◌, ℕ, List, OnOk, OnErr};
-ghost use Rattle.med_session.specs.Requests.{Asked, asked};
+ghost use Rattle.med_session.specs.Asking.{asked};
+ghost use Rattle.med_session.specs.Requests.{Asked};
 
 use med_session::{NoRoom, Request, Sid};
 

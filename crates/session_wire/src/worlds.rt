@@ -1,7 +1,8 @@
 //! What a stream before an engine is answered, in the direct meaning of SQL over worlds.
 ghost use Rattle.std.specs.Prelude.{ℕ, List, Option};
 ghost use Rattle.med_session.specs.World.{World};
-ghost use Rattle.med_session.specs.Engine.{shown, Agrees};
+ghost use Rattle.med_session.specs.Engine.{Agrees};
+ghost use Rattle.med_session.specs.Shows.{shown};
 ghost use Rattle.med_session.specs.declared.engine.Engine.{Engine};
 ghost use Rattle.session_wire.specs.Engines.{EngineSteps, EngineEnds, EngineRises};
 ghost use Rattle.session_wire.specs.Run.{Fed, BrokenOff};
@@ -29,8 +30,8 @@ pub fn worlds_follow<W: Wrapper>()
         × Agrees (shown W.meaning new) after }
 {}
 
-/// The law of boxes: while a server feeds an engine no box goes and none comes, what each counts goes up
-/// alone, and boxes that rise twice have risen.
+/// The law of boxes: while a server feeds an engine no box comes, one goes only idle and for good, what each
+/// counts goes up alone, and boxes that rise twice have risen.
 pub fn boxes_rise<W: Wrapper>()
     ensures same { (e : Engine W) → EngineRises W.meaning e e }
     ensures fed { (old new : Engine W) (bytes text : List ℕ) (left : Option (List ℕ))

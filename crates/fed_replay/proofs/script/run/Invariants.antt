@@ -1,4 +1,5 @@
-use Rattle.med_session.specs.Engine.{shown, IsSound}
+use Rattle.med_session.specs.Engine.{IsSound}
+use Rattle.med_session.specs.Shows.{shown}
 use Rattle.session_wire.specs.Engines.{EngineSteps}
 use Rattle.fed_replay.proofs.Reached.{Reached, size}
 use Rattle.fed_replay.proofs.script.run.Given as goal
