@@ -1,23 +1,23 @@
 -- What a parse of the program's words gives.
-use Rattle.std.proofs.Common.{◌≡◌, ◌⊎◌, true, List, [], codes, Option, Some, None, Err, option_map, refl, ap, subst, inl, inr}
+use Rattle.std.proofs.Common.{◌≡◌, ◌⊎◌, true, ℕ, List, [], codes, Option, Some, None, Err, Bor, option_map, unwrap_or, refl, sym, ◌∙◌, ap, subst, inl, inr}
 use Rattle.clap.specs.Words.{App, Row, Text, HasMatchesOf, IsAmong, fault_of, first_of, is_simple, is_simple_and_free, subcommand_rows_of}
 use Rattle.clap.specs.declared.ArgMatches.{ArgMatches}
 use Rattle.clap.specs.declared.error.ErrorKind.{ErrorKind}
 use Rattle.clap.specs.declared.error.ErrorKind.TheVariants.{OutOfMemory}
 use Rattle.clap.proofs.OnLiterals.{clap_on_literals}
-use Rattle.fed_cli.specs.CommandLine.{command_line, faults, name_in, list_named, IsHelp}
+use Rattle.fed_cli.specs.CommandLine.{command_line, faults, value_in, value_given, IsHelp}
 use Rattle.fed_cli.specs.Words.{Reads, IsRefusal}
 use Rattle.fed_cli.specs.declared.words.WordsFault.{WordsFault}
 use Rattle.fed_cli.specs.declared.words.WordsFault.TheVariants.{Help, Usage, BadName, NoMemory}
 
 -- the rows of the subcommand that was met
-pub name_of_met : (o : Option (Text × List Row)) (rows : List Row) → Some rows ≡ option_map (λ p. p.1) o → first_of (codes "list") rows ≡ name_in o
-name_of_met None rows e = absurd cc
-name_of_met (Some p) rows e = let same : rows ≡ p.1 = cc in ap (first_of (codes "list")) same
+pub value_of_met : (option : Text) (o : Option (Text × List Row)) (rows : List Row) → Some rows ≡ option_map (λ p. p.1) o → first_of option rows ≡ value_in option o
+value_of_met option None rows e = absurd cc
+value_of_met option (Some p) rows e = let same : rows ≡ p.1 = cc in ap (first_of option) same
 
-pub no_name : (o : Option (Text × List Row)) → None ≡ option_map (λ (p : Text × List Row). p.1) o → None ≡ name_in o
-no_name None e = refl
-no_name (Some p) e = absurd cc
+pub no_value : (option : Text) (o : Option (Text × List Row)) → None ≡ option_map (λ (p : Text × List Row). p.1) o → None ≡ value_in option o
+no_value option None e = refl
+no_value option (Some p) e = absurd cc
 
 line_is_simple : is_simple command_line ≡ true
 unfolding clap_on_literals
@@ -31,9 +31,10 @@ line_is_free = refl
 pub no_faults : (app : App) (words : List Text) → app ≡ command_line → (is_simple_and_free app ≡ true → fault_of app words ≡ []) → faults words ≡ []
 no_faults app words e h = subst (λ a. is_simple_and_free a ≡ true → fault_of a words ≡ []) e h line_is_free
 
--- the name is the one that they give the list
-pub named : (app : App) (words : List Text) (m : ArgMatches) → app ≡ command_line → HasMatchesOf app words m → name_in (subcommand_rows_of m) ≡ list_named words
-named app words m e h = ap name_in ((subst (λ a. HasMatchesOf a words m) e h line_is_simple).1)
+-- the value is the one that they give
+pub given : (option : Text) (app : App) (words : List Text) (m : ArgMatches) → app ≡ command_line → HasMatchesOf app words m
+    → value_in option (subcommand_rows_of m) ≡ value_given option words
+given option app words m e h = ap (value_in option) ((subst (λ a. HasMatchesOf a words m) e h line_is_simple).1)
 
 -- what stands against words that were not taken, and was told
 pub refused : (app : App) (words : List Text) (kind : ErrorKind) (fault : WordsFault) → app ≡ command_line
@@ -51,3 +52,9 @@ refused app words kind fault e h told = by_kind fault (subst (λ a. is_simple_an
     by_kind (Usage text) (inr among) t = (kind, among, t.0)
     by_kind (BadName name) s t = absurd t
     by_kind NoMemory s t = tt
+
+-- the owner's name is the one that they give, or admin
+pub owner_of : (o : Option (Bor (List ℕ))) (d r : Bor (List ℕ)) (g : Option Text) → r ≡ unwrap_or o d → d.now ≡ codes "admin" → option_map (λ s. s.now) o ≡ g
+    → unwrap_or g (codes "admin") ≡ r.now
+owner_of None d r g is named e = subst (λ x. unwrap_or x (codes "admin") ≡ r.now) e (sym named ∙ ap (λ s. s.now) (sym is))
+owner_of (Some s) d r g is named e = subst (λ x. unwrap_or x (codes "admin") ≡ r.now) e (ap (λ s. s.now) (sym is))

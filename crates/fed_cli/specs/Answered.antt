@@ -1,12 +1,12 @@
 -- What a stream served over an engine is, in the direct meaning of SQL over worlds.
-use Rattle.std.specs.Prelude.{◌≡◌, ℕ, List, [], Option, Result}
+use Rattle.std.specs.Prelude.{◌≡◌, ℕ, List, [], Option, Result, Ok}
 use Rattle.fdw_api.specs.State.{BoxState}
 use Rattle.med_session.specs.World.{World, without_sessions}
 use Rattle.med_session.specs.Engine.{Shown, Agrees}
 use Rattle.session_wire.specs.Worlds.{SceneSteps, SceneEnds}
 use Rattle.fed_cli.specs.Streams.{Stream}
 use Rattle.fed_cli.specs.Served.{Serves}
-use Rattle.fed_cli.specs.Setup.{IsFirst}
+use Rattle.fed_cli.specs.Setup.{Begins}
 use Rattle.fed_cli.specs.declared.stream.Ended.{Ended}
 use Rattle.fed_cli.specs.declared.stream.StreamFault.{StreamFault}
 
@@ -23,12 +23,12 @@ pub record ServesWorld (first last : List (Option BoxState)) (w : World)
   pub boxes : engine.boxes ≡ last
   pub agrees : Agrees engine (without_sessions after)
 
--- The program serves a stream, that ends so: from its first world and the boxes of a new engine, for which an engine stands, to the last
--- boxes, which are those of the sources that it hands back.
-pub record ServesProgram (source : Option (List ℕ)) (last : List (Option BoxState))
+-- The program serves a stream, that ends so: from the world and the boxes to which its beginning leads, for which an engine stands, to the
+-- last boxes, which are those of the sources that it hands back.
+pub record ServesProgram (owner : List ℕ) (source script : Option (List ℕ)) (last : List (Option BoxState))
     (input output : Stream) (ended : Result Ended StreamFault) : Type 0 where
   pub world : World
   pub engine : Shown
-  pub is_first : IsFirst source world engine.boxes
+  pub begins : Begins owner source script (Ok tt) (record { world = world; boxes = engine.boxes })
   pub agrees : Agrees engine world
   pub serves : ServesWorld engine.boxes last world input output ended

@@ -1,17 +1,29 @@
 -- The command line that the program understands, in the words of `clap`.
-use Rattle.std.specs.Prelude.{List, Option, Some, codes, true, option_and_then, ◌≡◌, ◌⊎◌}
+use Rattle.std.specs.Prelude.{List, Option, Some, codes, true, option_and_then, unwrap_or, ◌≡◌, ◌⊎◌}
 use Rattle.clap.specs.Words.{App, Row, Rule, Text, Kinds, first_of, fault_of, new_app, new_rule, subcommand_of, with_rule, with_subcommand}
 use Rattle.clap.specs.declared.builder.ArgAction.TheVariants.{Set}
 use Rattle.clap.specs.declared.error.ErrorKind.{ErrorKind}
 use Rattle.clap.specs.declared.error.ErrorKind.TheVariants.{DisplayHelp, DisplayVersion}
 
+-- an option of this name, which has one text
+abbrev pub text_rule : Text → Rule
+text_rule name = record (new_rule name) { long = Some name; action = Some Set; value_names = 1 }
+
+-- --owner NAME
+abbrev pub owner_rule : Rule
+owner_rule = text_rule (codes "owner")
+
 -- --list NAME
 abbrev pub list_rule : Rule
-list_rule = record (new_rule (codes "list")) { long = Some (codes "list"); action = Some Set; value_names = 1 }
+list_rule = text_rule (codes "list")
 
--- run [--list NAME]
+-- --init FILE
+abbrev pub init_rule : Rule
+init_rule = text_rule (codes "init")
+
+-- run [--owner NAME] [--list NAME] [--init FILE]
 abbrev pub run_command : App
-run_command = with_rule (new_app (codes "run")) list_rule
+run_command = with_rule (with_rule (with_rule (new_app (codes "run")) owner_rule) list_rule) init_rule
 
 -- fedq: a command has to be given, and no word at all asks for help
 abbrev pub fedq_command : App
@@ -19,17 +31,29 @@ fedq_command =
     let fedq = new_app (codes "fedq") in
     record fedq { top = record fedq.top { subcommand_required = true; arg_required_else_help = true } }
 
--- fedq run [--list NAME]
+-- fedq run [--owner NAME] [--list NAME] [--init FILE]
 abbrev pub command_line : App
 command_line = with_subcommand fedq_command run_command.top
 
--- the name that the matches of a command give the list
-abbrev pub name_in : Option (Text × List Row) → Option Text
-name_in = option_and_then (λ command. first_of (codes "list") command.1)
+-- the value that the matches of a command give this option
+abbrev pub value_in : Text → Option (Text × List Row) → Option Text
+value_in option = option_and_then (λ command. first_of option command.1)
 
--- the name that the words give it
+-- the value that the words give it
+abbrev pub value_given : Text → List Text → Option Text
+value_given option words = value_in option (subcommand_of command_line words)
+
+-- the name of the owner, which is admin where the words give none
+abbrev pub owner_named : List Text → Text
+owner_named words = unwrap_or (value_given (codes "owner") words) (codes "admin")
+
+-- the name that the words give the list
 abbrev pub list_named : List Text → Option Text
-list_named words = name_in (subcommand_of command_line words)
+list_named words = value_given (codes "list") words
+
+-- the path of the init file that they name
+abbrev pub init_named : List Text → Option Text
+init_named words = value_given (codes "init") words
 
 -- what stands against the words
 abbrev pub faults : List Text → Kinds

@@ -1,6 +1,6 @@
 -- What the program has done when it exits.
-use Rattle.std.specs.Prelude.{◌≡◌, ◌⊎◌, ℕ, Bool, true, List, Option, Some, None, option_map, Result, Ok, Err}
-use Rattle.std.specs.Borrow.{Bor}
+use Rattle.std.specs.Prelude.{◌≡◌, ℕ, Bool, true, List, map, Option, Some, None, option_map, Result, Ok, Err, Vec, String, string_bytes}
+use Rattle.std.specs.Global.{Global}
 use Rattle.std.specs.Io.KnownBytes.{Appends}
 use Rattle.med_exec.specs.Slots.{states}
 use Rattle.med_session.specs.Engine.{EachBox, IsAtRest}
@@ -8,10 +8,12 @@ use Rattle.med_session.specs.declared.adding.Sources.{Sources}
 use Rattle.list_wrapper.specs.ListBoxes.{box_of}
 use Rattle.list_wrapper.specs.declared.list.ListWrapper.{ListWrapper}
 use Rattle.fed_cli.specs.Answered.{ServesProgram}
-use Rattle.fed_cli.specs.Setup.{BeginsNot}
+use Rattle.fed_cli.specs.Setup.{BeginsNot, IsReadOf}
 use Rattle.fed_cli.specs.Streams.{Stream, IsUntouched}
 use Rattle.fed_cli.specs.Told.{Came, told_of, run_status, run_line, words_status, words_text}
 use Rattle.fed_cli.specs.Words.{Reads}
+use Rattle.fed_cli.specs.declared.program.ArgsFault.{ArgsFault}
+use Rattle.fed_cli.specs.declared.program.ArgsFault.TheVariants as args
 use Rattle.fed_cli.specs.declared.program.Exit.{Exit}
 use Rattle.fed_cli.specs.declared.stream.Ended.{Ended}
 use Rattle.fed_cli.specs.declared.stream.StreamFault.{StreamFault}
@@ -20,14 +22,14 @@ use Rattle.fed_cli.specs.declared.words.Asked.{Asked}
 use Rattle.fed_cli.specs.declared.words.WordsFault.{WordsFault}
 use Rattle.fed_cli.specs.declared.words.WordsFault.TheVariants.{Help, Usage, BadName, NoMemory}
 
--- A run came to this. Where no sources are handed back it did not begin: nothing was read or written. Else the input was served,
--- and standard output got the replies alone.
-abbrev pub Runs : Option (Bor (List ℕ)) → Came → Option (Sources ListWrapper) → Stream → Stream → Type 0
-Runs list came None input output =
-    (fault : RunFault) × (came ≡ Err fault) × BeginsNot list fault × IsUntouched input × IsUntouched output
-Runs list came (Some sources) input output =
-    (ended : Result Ended StreamFault) × (came ≡ told_of ended)
-    × ServesProgram (option_map (λ s. s.now) list) (states box_of sources.slots.items) input output ended
+-- A run came to this, and these bytes of its init file were read. Where no sources are handed back it did not begin: nothing was read or
+-- written. Else the input was served, and standard output got the replies alone.
+abbrev pub Runs : Asked → Came → Option (List ℕ) → Option (Sources ListWrapper) → Stream → Stream → Type 0
+Runs asked came script None input output =
+    (fault : RunFault) × (came ≡ Err fault) × BeginsNot asked script fault × IsUntouched input × IsUntouched output
+Runs asked came script (Some sources) input output =
+    (ended : Result Ended StreamFault) × (came ≡ told_of ended) × IsReadOf asked.init script
+    × ServesProgram asked.owner.now (option_map (λ s. s.now) asked.list) script (states box_of sources.slots.items) input output ended
     × EachBox IsAtRest (states box_of sources.slots.items)
 
 -- where all could be told, a stream got this text, and nothing else
@@ -50,15 +52,23 @@ TellsWords NoMemory is_told output errors = IsUntouched output × Tells is_told 
 -- the program exits so on these words, with this done to standard input, standard output and standard error
 pub data Exits (words : List (List ℕ)) (exit : Exit) (input output errors : Stream) : Type 0 where
   -- the words ask for a run
-  has_run : (asked : Asked) → Reads words (Ok asked) → (came : Came) → Runs asked.list came exit.sources input output
-      → exit.status ≡ run_status came → TellsRun came exit.is_told errors → Exits words exit input output errors
+  has_run : (asked : Asked) → Reads words (Ok asked) → (came : Came)
+      → Runs asked came (option_map (λ v. v.items) exit.script) exit.sources input output → exit.status ≡ run_status came
+      → TellsRun came exit.is_told errors → Exits words exit input output errors
   -- they do not
-  has_refused : (fault : WordsFault) → Reads words (Err fault) → exit.sources ≡ None → IsUntouched input
+  has_refused : (fault : WordsFault) → Reads words (Err fault) → exit.sources ≡ None → exit.script ≡ None → IsUntouched input
       → TellsWords fault exit.is_told output errors → exit.status ≡ words_status fault → Exits words exit input output errors
 
--- The program exits by this status, whatever words its environment has: so on some words, or, where they cannot be read, by 1 or 2,
--- with nothing read of standard input and nothing written to standard output.
-pub data ExitsBy (status : ℕ) (input output errors : Stream) : Type 0 where
-  on_words : (words : List (List ℕ)) (exit : Exit) → Exits words exit input output errors → status ≡ exit.status
-      → ExitsBy status input output errors
-  on_none : IsUntouched input → IsUntouched output → (status ≡ 1) ⊎ (status ≡ 2) → ExitsBy status input output errors
+-- the exit status where the environment gives no words
+abbrev pub args_status : ArgsFault → ℕ
+args_status args.NotText = 2
+args_status args.NoMemory = 1
+
+-- The program exits by this status on what its environment gives: so on its words, or, where they cannot be read, with nothing read of
+-- standard input and nothing written to standard output.
+pub data ExitsBy (words : Result (Vec (String Global) Global) ArgsFault) (status : ℕ) (input output errors : Stream) : Type 0 where
+  on_words : (given : Vec (String Global) Global) → words ≡ Ok given → (exit : Exit)
+      → Exits (map string_bytes given.items) exit input output errors
+      → status ≡ exit.status → ExitsBy words status input output errors
+  on_none : (fault : ArgsFault) → words ≡ Err fault → IsUntouched input → IsUntouched output → status ≡ args_status fault
+      → ExitsBy words status input output errors

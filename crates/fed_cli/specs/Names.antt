@@ -1,4 +1,4 @@
--- Which words may name a source.
+-- Which words may name a source, or the owner.
 use Rattle.std.specs.Prelude.{ℕ, List, Contains}
 use Rattle.med_syntax.specs.Words.{reserved}
 use Rattle.med_session.specs.Requests.{IsUser}

@@ -1,34 +1,30 @@
 //! The program: what it serves, and how it ends.
-ghost use Rattle.std.specs.Prelude.{◌≡◌, IfOk, IfErr, OnOk, OnErr, option_map, map, string_bytes};
-ghost use Rattle.med_exec.specs.Slots.{states};
+ghost use Rattle.std.specs.Prelude.{◌≡◌, IfOk, IfErr, Err, OnOk, None, option_map, map, string_bytes};
+ghost use Rattle.med_session.specs.Requests.{IsUser};
 ghost use Rattle.med_session.specs.World.{World};
-ghost use Rattle.med_session.specs.Engine.{shown, IsSound, Agrees, EachBox, IsAtRest};
+ghost use Rattle.med_session.specs.Engine.{IsSound, Agrees};
+ghost use Rattle.med_session.specs.Shows.{shown};
 ghost use Rattle.list_wrapper.specs.ListBoxes.{box_of};
 ghost use Rattle.list_wrapper.specs.Lists.{IsNewList};
-ghost use Rattle.fed_cli.specs.Answered.{ServesProgram};
+ghost use Rattle.session_wire.specs.Worlds.{scene_of};
 ghost use Rattle.fed_cli.specs.Demo.{demo_list};
 ghost use Rattle.fed_cli.specs.Exits.{Exits, ExitsBy, Runs, TellsRun, TellsWords};
-ghost use Rattle.fed_cli.specs.Setup.{HasDemo, HasDemoBox, IsFirst, AddsNoDemo, BeginsNot};
+ghost use Rattle.fed_cli.specs.Setup.{HasDemo, IsFirst, HasNoFirst, AddsNoDemo};
 ghost use Rattle.fed_cli.specs.Streams.{stream};
 
-use crate::demo::{demo_tables, orders_columns, parts_columns};
+use crate::demo::{demo_tables, setup_script};
+use crate::init::{read_init, replay_init};
 use crate::serving::serve_engine;
-use crate::stream::{Ended, StreamFault};
-use crate::told::{RunFault, add_fault, attach_fault, status, told};
-use crate::words::{WordsFault, read_words};
+use crate::told::{RunFault, add_fault, setup_told, status, told};
+use crate::words::{Asked, WordsFault, read_words};
 use fdw_api::interface::Wrapper;
+use fed_replay::replay;
 use list_wrapper::ListWrapper;
+use med_catalog::law::lists_are_told_nothing;
 use med_session::{Engine, SourceKind, Sources};
 use std::alloc::Global;
-use std::env;
-use std::io::{ErrorKind, Read, Write};
-use std::rt::Env;
-
-/// The owner of the engine.
-const OWNER: &str = "admin";
-
-/// A stream that was served: how it ended, and the sources, handed back.
-pub type Handed = (Result<Ended, StreamFault>, Sources<ListWrapper>);
+use std::io::{Read, Write};
+use std::rt::Files;
 
 /// How the program exits.
 #[derive(Drop)]
@@ -37,100 +33,123 @@ pub struct Exit {
     pub status: u8,
     /// Whether all that was to be told could be written.
     pub is_told: bool,
+    /// The bytes of the init file, if they were read.
+    pub script: Option<Vec<u8>>,
     /// The sources that were served, handed back.
     pub sources: Option<Sources<ListWrapper>>,
 }
 
-/// Adds a list of the demo tables as the source of this name, and attaches its tables parts and orders.
+/// Adds a list of the demo tables as the source of this name, and replays the script that makes its objects as this owner.
+///
+/// Where a line of the script is refused, the source and what the lines before it made stay.
 pub fn add_demo<'a, W: Wrapper>(
     alloc: Global,
     engine: &mut Engine<W>,
+    owner: &str,
     name: &'a str,
     list: W,
 ) -> Result<(), RunFault<'a>>
     requires engine { IsSound (shown W.meaning engine.old) }
     requires demo { IsNewList (W.meaning list) demo_list }
     ensures sound { IsSound (shown W.meaning engine.new) }
-    ensures world { OnOk result ((w : World) → Agrees (shown W.meaning engine.old) w
-        → (after : World) × HasDemo w name.entry.now after × Agrees (shown W.meaning engine.new) after) }
-    ensures boxes { OnOk result (HasDemoBox (shown W.meaning engine.old).boxes (shown W.meaning engine.new).boxes) }
-    ensures fault { IfErr result (AddsNoDemo (shown W.meaning engine.old).labels name.entry) }
+    ensures worlds { OnOk result ((w : World) → Agrees (shown W.meaning engine.old) w
+        → (after : World) × HasDemo (scene_of W.meaning engine.old w) owner.now name.entry.now (scene_of W.meaning engine.new after)
+        × Agrees (shown W.meaning engine.new) after) }
+    ensures fault { IfErr result (λ fault. (w : World) → Agrees (shown W.meaning engine.old) w
+        → AddsNoDemo (scene_of W.meaning engine.old w) owner.now (shown W.meaning engine.old).labels name.entry fault) }
 {
-    let parts = parts_columns(alloc)?;
-    let orders = orders_columns(alloc)?;
+    lists_are_told_nothing();
+    let script = setup_script(alloc, name)?;
     match engine.add_source(name, SourceKind::List, list) {
         Ok(()) => {}
         Err((_, fault)) => return Err(add_fault(name, fault)),
     }
-    match engine.attach("parts", name, "parts", &parts) {
-        Ok(()) => {}
-        Err(cause) => return Err(attach_fault(name, cause)),
-    }
-    match engine.attach("orders", name, "orders", &orders) {
-        Ok(()) => Ok(()),
-        Err(cause) => Err(attach_fault(name, cause)),
-    }
+    setup_told(name, replay(alloc, engine, owner, script.as_bytes()))
 }
 
 // The engine that the program begins with, which has the demo list as the source of this name if one is given.
 fn first_engine<'a>(
     alloc: Global,
+    owner: &str,
     list: Option<&'a str>,
 ) -> Result<Engine<ListWrapper>, RunFault<'a>>
+    requires { IsUser owner.now }
     ensures sound { IfOk result (λ engine. IsSound (shown box_of engine)) }
     ensures first { IfOk result (λ engine. (w : World) × Agrees (shown box_of engine) w
-        × IsFirst (option_map (λ s. s.now) list.entry) w (shown box_of engine).boxes) }
-    ensures refused { IfErr result (BeginsNot list.entry) }
+        × IsFirst owner.now (option_map (λ s. s.now) list.entry) (scene_of box_of engine w)) }
+    ensures refused { IfErr result (HasNoFirst owner.now list.entry) }
 {
-    let Ok(mut engine) = Engine::<ListWrapper>::new(alloc, OWNER) else {
+    let Ok(mut engine) = Engine::<ListWrapper>::new(alloc, owner) else {
         return Err(RunFault::NoMemory);
     };
     let Some(name) = list else {
         return Ok(engine);
     };
     let demo = ListWrapper::new(alloc, demo_tables(alloc)?)?;
-    match add_demo(alloc, &mut engine, name, demo) {
+    match add_demo(alloc, &mut engine, owner, name, demo) {
         Ok(()) => Ok(engine),
         Err(fault) => Err(fault),
     }
 }
 
-/// Answers the request lines of an input, with the demo list as the source of this name if one is given, and hands the sources back.
-///
-/// Refused before anything is read or written, where memory was refused or the list's tables could not be attached.
-pub fn serve<'a, R: Read, W: Write>(
-    alloc: Global,
-    list: Option<&'a str>,
-    reader: &mut R,
-    writer: &mut W,
-) -> Result<Handed, RunFault<'a>>
-    ensures served { IfOk result (λ handed. ServesProgram (option_map (λ s. s.now) list.entry)
-        (states box_of handed.1.slots.items) (stream (R.remaining reader.old) (R.remaining reader.new))
-        (stream (W.contents writer.old) (W.contents writer.new)) handed.0) }
-    ensures at_rest { IfOk result (λ handed. EachBox IsAtRest (states box_of handed.1.slots.items)) }
-    ensures refused { IfErr result (BeginsNot list.entry) }
-    ensures untouched { OnErr result ((reader.new ≡ reader.old) × (writer.new ≡ writer.old)) }
-{
-    let engine = match first_engine(alloc, list) {
-        Ok(engine) => engine,
-        Err(fault) => return Err(fault),
-    };
-    Ok(serve_engine(alloc, engine, reader, writer))
+/// What a run came to.
+#[derive(Drop)]
+pub struct Ran<'a> {
+    /// The end of its input, or a fault.
+    pub came: Result<(), RunFault<'a>>,
+    /// The bytes of the init file, if they were read.
+    pub script: Option<Vec<u8>>,
+    /// The sources that were served, handed back: none where the run did not begin.
+    pub sources: Option<Sources<ListWrapper>>,
 }
 
-// Serves, and says what came of it.
-fn run_list<'a, R: Read, W: Write>(
-    alloc: Global,
-    list: Option<&'a str>,
+impl<'a> Ran<'a> {
+    // A run that did not begin.
+    fn not_begun(fault: RunFault<'a>, script: Option<Vec<u8>>) -> Self
+        ensures came { result.came ≡ Err fault.entry }
+        ensures script { result.script ≡ script }
+        ensures sources { result.sources ≡ None }
+    {
+        Ran {
+            came: Err(fault),
+            script,
+            sources: None,
+        }
+    }
+}
+
+/// Answers the request lines of an input: the engine is made with the demo list, if it is asked, then its owner replays the init file, if
+/// one is asked, and then the input is served.
+///
+/// It ends before anything of the input is read and anything is written where memory was refused, a line of the list's set-up was
+/// refused, the init file could not be read, or its replay was refused.
+pub fn run_asked<'a, V: AllocGlobal + Files, R: Read, W: Write>(
+    rt: &V,
+    asked: Asked<'a>,
     reader: &mut R,
     writer: &mut W,
-) -> (Result<(), RunFault<'a>>, Option<Sources<ListWrapper>>)
-    ensures { Runs list.entry result.0 result.1 (stream (R.remaining reader.old) (R.remaining reader.new))
-        (stream (W.contents writer.old) (W.contents writer.new)) }
+) -> Ran<'a>
+    requires { IsUser asked.owner.now }
+    ensures { Runs asked.entry result.came (option_map (λ v. v.items) result.script) result.sources
+        (stream (R.remaining reader.old) (R.remaining reader.new)) (stream (W.contents writer.old) (W.contents writer.new)) }
 {
-    match serve(alloc, list, reader, writer) {
-        Ok((ended, sources)) => (told(ended), Some(sources)),
-        Err(fault) => (Err(fault), None),
+    let mut engine = match first_engine(rt.alloc(), asked.owner, asked.list) {
+        Ok(engine) => engine,
+        Err(fault) => return Ran::not_begun(fault, None),
+    };
+    let script = match read_init(rt, asked.init) {
+        Ok(script) => script,
+        Err(fault) => return Ran::not_begun(fault, None),
+    };
+    match replay_init(rt.alloc(), &mut engine, asked.owner, &script) {
+        Ok(()) => {}
+        Err(fault) => return Ran::not_begun(fault, script),
+    }
+    let (ended, sources) = serve_engine(rt.alloc(), engine, reader, writer);
+    Ran {
+        came: told(ended),
+        script,
+        sources: Some(sources),
     }
 }
 
@@ -159,8 +178,8 @@ fn tell_words<O: Write, E: Write>(fault: &WordsFault<'_>, output: &mut O, errors
 
 /// Does what the program's words ask: it answers an input on an output, or prints help there, and tells on a second output how it
 /// failed.
-pub fn run_words<I: Read, O: Write, E: Write>(
-    alloc: Global,
+pub fn run_words<V: AllocGlobal + Files, I: Read, O: Write, E: Write>(
+    rt: &V,
     words: &[String],
     input: &mut I,
     output: &mut O,
@@ -169,7 +188,7 @@ pub fn run_words<I: Read, O: Write, E: Write>(
     ensures { Exits (map string_bytes words.now) result (stream (I.remaining input.old) (I.remaining input.new))
         (stream (O.contents output.old) (O.contents output.new)) (stream (E.contents errors.old) (E.contents errors.new)) }
 {
-    let asked = match read_words(alloc, words) {
+    let asked = match read_words(rt.alloc(), words) {
         Ok(asked) => asked,
         Err(fault) => {
             let is_told = tell_words(&fault, output, errors);
@@ -177,51 +196,46 @@ pub fn run_words<I: Read, O: Write, E: Write>(
             return Exit {
                 status: refused,
                 is_told,
+                script: None,
                 sources: None,
             };
         }
     };
-    let ran = run_list(alloc, asked.list, input, output);
-    let is_told = tell_run(ran.0, errors);
-    let status = status(ran.0);
+    let ran = run_asked(rt, asked, input, output);
+    let is_told = tell_run(ran.came, errors);
+    let status = status(ran.came);
     Exit {
         status,
         is_told,
-        sources: ran.1,
+        script: ran.script,
+        sources: ran.sources,
     }
 }
 
-// Why the environment gives no words.
-#[derive(Clone, Copy)]
-enum ArgsFault {
-    // A word is no text.
+/// Why the environment gives no words.
+#[derive(Clone, Copy, Debug, PartialEq, Eq)]
+pub enum ArgsFault {
+    /// A word is no text.
     NotText,
-    // Memory was refused.
+    /// Memory was refused.
     NoMemory,
 }
 
-// The words of the environment.
-fn own_words<V: AllocGlobal + Env>(rt: &V) -> Result<Vec<String>, ArgsFault> {
-    match env::args(rt) {
-        Ok(args) => args.collect(rt.alloc()).map_err(|_| ArgsFault::NoMemory),
-        Err(error) if error.kind() == ErrorKind::InvalidData => Err(ArgsFault::NotText),
-        Err(_) => Err(ArgsFault::NoMemory),
-    }
-}
-
-/// Runs the program with the words of its environment, and gives its exit status: 0 where the input ended or help was asked, 2 where the
-/// words are refused, and 1 else, with one line on standard error.
-pub fn run<V: AllocGlobal + Env, I: Read, O: Write, E: Write>(
+/// Runs the program with these words, and gives its exit status: 0 where the input ended or help was asked, 2 where the words are
+/// refused, and 1 else, with one line on standard error.
+pub fn run<V: AllocGlobal + Files, I: Read, O: Write, E: Write>(
     rt: &V,
+    words: Result<Vec<String>, ArgsFault>,
     input: &mut I,
     output: &mut O,
     errors: &mut E,
 ) -> u8
-    ensures { ExitsBy result (stream (I.remaining input.old) (I.remaining input.new))
-        (stream (O.contents output.old) (O.contents output.new)) (stream (E.contents errors.old) (E.contents errors.new)) }
+    ensures { ExitsBy words result
+        (stream (I.remaining input.old) (I.remaining input.new)) (stream (O.contents output.old) (O.contents output.new))
+        (stream (E.contents errors.old) (E.contents errors.new)) }
 {
-    match own_words(rt) {
-        Ok(words) => run_words(rt.alloc(), &words, input, output, errors).status,
+    match words {
+        Ok(words) => run_words(rt, &words, input, output, errors).status,
         Err(ArgsFault::NotText) => {
             let _ = errors.write_all(
                 b"error: invalid UTF-8 was detected in one or more arguments\n",

@@ -7,8 +7,9 @@ ghost use Rattle.session_wire.specs.Servers.{handler_of};
 use crate::expect::{same, same_text};
 use crate::served::{ANSWER, STORED, counts_after, counts_at_end, demo_engine, demo_server};
 use fdw_api::interface::Counts;
-use fed_cli::program::serve;
-use fed_cli::told::{RunFault, told};
+use fed_cli::program::run_asked;
+use fed_cli::told::RunFault;
+use fed_cli::words::Asked;
 use fed_cli::{StreamFault, serve_stream};
 use list_wrapper::ListWrapper;
 use med_session::{Engine, NoRoom, Request, Sid};
@@ -142,11 +143,13 @@ fn answers_to_piece(came: Result<(), RunFault<'_>>) -> &'static [&'static [u8]] 
 fn refused_allocation_leaves_whole_replies(rt: HostRuntime) -> Result<(), Fail> {
     let mut out = Vec::new(rt.alloc());
     let mut input = STORED;
-    let came = match serve(rt.alloc(), Some("demo"), &mut input, &mut out) {
-        Ok((ended, _)) => told(ended),
-        Err(fault) => Err(fault),
+    let asked = Asked {
+        owner: "admin",
+        list: Some("demo"),
+        init: None,
     };
-    is_one_of(&out, answers_to_piece(came))
+    let ran = run_asked(&rt, asked, &mut input, &mut out);
+    is_one_of(&out, answers_to_piece(ran.came))
 }
 
 // What two feeds answer, and what the demo list then counts.

@@ -7,6 +7,7 @@ use med_exec::ledger_at;
 use std::alloc::Global;
 use std::io;
 use std::io::{ErrorKind, Write};
+use std::rt::Files;
 use std::test::Fail;
 
 // A line of help, by the end of its first line.
@@ -30,18 +31,19 @@ fn counts_of(exit: &Exit) -> Option<Counts> {
 }
 
 // Fails where the stored stream under these words ends, answers or tells otherwise; of an output its beginning is given.
-fn exits(
-    alloc: Global,
+fn exits<V: AllocGlobal + Files>(
+    rt: &V,
     line: &str,
     status: u8,
     output: &[u8],
     errors: &[u8],
 ) -> Result<Exit, Fail> {
+    let alloc = rt.alloc();
     let words = words_of(alloc, line)?;
     let mut input = STORED;
     let mut written = Vec::new(alloc);
     let mut told = Vec::new(alloc);
-    let exit = run_words(alloc, &words, &mut input, &mut written, &mut told);
+    let exit = run_words(rt, &words, &mut input, &mut written, &mut told);
     same(line, &(exit.status, exit.is_told), &(status, true))?;
     same_text(line, &written[..written.len().min(output.len())], output)?;
     same_text(line, &told[..told.len().min(errors.len())], errors)?;
@@ -55,39 +57,57 @@ fn exits(
 
 #[test]
 fn run_answers_and_hands_the_sources_back(rt: HostRuntime) -> Result<(), Fail> {
-    let exit = exits(rt.alloc(), "fedq run --list demo", 0, ANSWER, b"")?;
+    let exit = exits(&rt, "fedq run --list demo", 0, ANSWER, b"")?;
     same("one scan", &counts_of(&exit), &counts_after(1))?;
     let none = b"1 T OPEN\n1 E 42P01 undefined_table\n";
-    let exit = exits(rt.alloc(), "fedq run", 0, none, b"")?;
+    let exit = exits(&rt, "fedq run", 0, none, b"")?;
     same("no source", &counts_of(&exit), &None)
 }
 
 #[test]
 fn other_words_answer_nothing(rt: HostRuntime) -> Result<(), Fail> {
-    let alloc = rt.alloc();
-    exits(alloc, "fedq --help", 0, HELP, b"")?;
-    exits(alloc, "fedq help", 0, HELP, b"")?;
-    exits(alloc, "fedq", 2, b"", HELP)?;
+    exits(&rt, "fedq --help", 0, HELP, b"")?;
+    exits(&rt, "fedq help", 0, HELP, b"")?;
+    exits(&rt, "fedq", 2, b"", HELP)?;
     exits(
-        alloc,
+        &rt,
         "fedq run --list Bad",
         2,
         b"",
         b"fedq: bad name: Bad\n",
     )?;
     exits(
-        alloc,
+        &rt,
         "fedq run --list select",
         2,
         b"",
         b"fedq: bad name: select\n",
     )?;
+    exits(
+        &rt,
+        "fedq run --list Bad --owner user",
+        2,
+        b"",
+        b"fedq: bad name: user\n",
+    )?;
     let exit = exits(
-        alloc,
+        &rt,
         "fedq run --other",
         2,
         b"",
         b"error: unexpected argument '--other' found\n",
+    )?;
+    same("no source", &counts_of(&exit), &None)
+}
+
+#[test]
+fn init_that_is_not_there_answers_nothing(rt: HostRuntime) -> Result<(), Fail> {
+    let exit = exits(
+        &rt,
+        "fedq run --owner ann --list demo --init no/such.sql",
+        1,
+        b"",
+        b"fedq: cannot read init no/such.sql\n",
     )?;
     same("no source", &counts_of(&exit), &None)
 }
@@ -112,10 +132,10 @@ fn write_fault_is_told_once(rt: HostRuntime) -> Result<(), Fail> {
     let words = words_of(alloc, "fedq run --list demo")?;
     let mut input = STORED;
     let mut told = Vec::new(alloc);
-    let exit = run_words(alloc, &words, &mut input, &mut Shut, &mut told);
+    let exit = run_words(&rt, &words, &mut input, &mut Shut, &mut told);
     same("the exit", &(exit.status, exit.is_told), &(1, true))?;
     same_text("the line", &told, b"fedq: write fault\n")?;
     let mut input = STORED;
-    let exit = run_words(alloc, &words, &mut input, &mut Shut, &mut Shut);
+    let exit = run_words(&rt, &words, &mut input, &mut Shut, &mut Shut);
     same("nothing told", &(exit.status, exit.is_told), &(1, false))
 }

@@ -1,33 +1,42 @@
-use Rattle.std.proofs.Common.{◌≡◌, ◌∙◌, true, false, refl, sym}
+use Rattle.std.proofs.Common.{◌≡◌, ◌∙◌, true, false, codes, refl, sym, subst, inl, inr}
 use Rattle.clap.specs.Words.{kind_of}
-use Rattle.fed_cli.proofs.Parsed.{no_faults, named, refused}
+use Rattle.fed_cli.specs.Names.{IsSourceName}
+use Rattle.fed_cli.proofs.Parsed.{no_faults, given, refused, owner_of}
 use Rattle.fed_cli.proofs.words.read_words.Goals as goal
 
 -- the words were not taken
 pub returns-in-Err : goal.returns-in-Err
 returns-in-Err g c = refused _ _ (kind_of c.in-Err.error) _ c.in-Ok.ensures c.in-Err.ensures.kinds c.refusal.ensures
 
--- they give the list no name
-pub returns-in_default-list_of : goal.returns-in_default-list_of
-returns-in_default-list_of g c = (
-  no_faults _ _ c.in-Ok.ensures c.in-Ok-try_get_matches_from.ensures.kinds,
-  sym (c.in_default-list_of.ensures ∙ named _ _ _ c.in-Ok.ensures c.in-Ok-try_get_matches_from.ensures.matches),
-)
+-- the owner's name is bad
+pub returns-then-not-is_source_name : goal.returns-then-not-is_source_name
+returns-then-not-is_source_name g c =
+    let matches = c.in-Ok-try_get_matches_from.ensures in
+    let owner = owner_of _ _ _ _ c.unwrap_or-owner.ensures refl (c.value_of.ensures ∙ given (codes "owner") _ _ _ c.in-Ok.ensures matches.matches) in
+    (no_faults _ _ c.in-Ok.ensures matches.kinds, ((λ h. let no : false ≡ true = c.if-not-is_source_name.ensures.1 h in cc), inl owner))
 
--- the name that they give may name a source
-pub returns-then-is_source_name : goal.returns-then-is_source_name
-returns-then-is_source_name g c = (
-  no_faults _ _ c.in-Ok.ensures c.in-Ok-try_get_matches_from.ensures.kinds,
-  (
-    sym (c.in-Some.ensures ∙ named _ _ _ c.in-Ok.ensures c.in-Ok-try_get_matches_from.ensures.matches),
-    c.if-is_source_name.ensures.0 refl,
-  ),
-)
+-- the list's is
+pub returns-in-Err-list_of : goal.returns-in-Err-list_of
+returns-in-Err-list_of g c =
+    let matches = c.in-Ok-try_get_matches_from.ensures in
+    let owner = owner_of _ _ _ _ c.unwrap_or-owner.ensures refl (c.value_of.ensures ∙ given (codes "owner") _ _ _ c.in-Ok.ensures matches.matches) in
+    let bad = c.in-Err-list_of.ensures.bad in (
+      no_faults _ _ c.in-Ok.ensures matches.kinds,
+      (bad.1, inr (subst IsSourceName (sym owner) (c.if-not-is_source_name.ensures.0 refl), sym (given (codes "list") _ _ _ c.in-Ok.ensures matches.matches) ∙ bad.0)),
+    )
 
--- it may not
+-- both are good
 pub returns : goal.returns
-returns g c = (
-  no_faults _ _ c.in-Ok.ensures c.in-Ok-try_get_matches_from.ensures.kinds,
-  sym (c.in-Some.ensures ∙ named _ _ _ c.in-Ok.ensures c.in-Ok-try_get_matches_from.ensures.matches),
-  λ h. let no : false ≡ true = c.if-is_source_name.ensures.1 h in cc,
-)
+returns g c =
+    let matches = c.in-Ok-try_get_matches_from.ensures in
+    let owner = owner_of _ _ _ _ c.unwrap_or-owner.ensures refl (c.value_of.ensures ∙ given (codes "owner") _ _ _ c.in-Ok.ensures matches.matches) in
+    let good = c.in-Ok-list_of.ensures.good in (
+      no_faults _ _ c.in-Ok.ensures matches.kinds,
+      record {
+        owner = sym owner;
+        is_owner = c.if-not-is_source_name.ensures.0 refl;
+        list = good.0 ∙ given (codes "list") _ _ _ c.in-Ok.ensures matches.matches;
+        is_list = good.1;
+        init = c.value_of-init.ensures ∙ given (codes "init") _ _ _ c.in-Ok.ensures matches.matches;
+      },
+    )

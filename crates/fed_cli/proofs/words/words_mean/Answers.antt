@@ -3,12 +3,12 @@ use Rattle.std.specs.Str.{bytes_eq}
 use Rattle.clap.specs.Lexer.{strip_byte}
 use Rattle.clap.specs.Words.{Text}
 use Rattle.clap.proofs.OnLiterals.{clap_on_literals}
-use Rattle.fed_cli.specs.CommandLine.{faults, list_named}
+use Rattle.fed_cli.specs.CommandLine.{faults, owner_named, list_named, init_named}
 use Rattle.fed_cli.proofs.words.words_mean.Goals as goal
 
 pub returns-clause-alone : goal.returns-clause-alone
 unfolding clap_on_literals
-returns-clause-alone c = λ program. (refl, refl)
+returns-clause-alone c = λ program. (refl, refl, refl, refl)
 
 pub returns-clause-help : goal.returns-clause-help
 unfolding clap_on_literals
@@ -41,3 +41,29 @@ with_list program (x ∷ xs) e =
 
 pub returns-clause-list : goal.returns-clause-list
 returns-clause-list c = with_list
+
+with_owner : (program name : Text) → strip_byte 45 name ≡ None
+    → (faults (program ∷ codes "run" ∷ codes "--owner" ∷ name ∷ []) ≡ [])
+    × (owner_named (program ∷ codes "run" ∷ codes "--owner" ∷ name ∷ []) ≡ name)
+unfolding clap_on_literals
+with_owner program [] e = (refl, refl)
+with_owner program (x ∷ xs) e =
+    let no = no_hyphen x xs e in
+    let stops = and_false (bytes_eq xs (45 ∷ [])) in
+    (simp (no, stops) refl, simp (no, stops) refl)
+
+pub returns-clause-owner : goal.returns-clause-owner
+returns-clause-owner c = with_owner
+
+with_init : (program path : Text) → strip_byte 45 path ≡ None
+    → (faults (program ∷ codes "run" ∷ codes "--init" ∷ path ∷ []) ≡ [])
+    × (init_named (program ∷ codes "run" ∷ codes "--init" ∷ path ∷ []) ≡ Some path)
+unfolding clap_on_literals
+with_init program [] e = (refl, refl)
+with_init program (x ∷ xs) e =
+    let no = no_hyphen x xs e in
+    let stops = and_false (bytes_eq xs (45 ∷ [])) in
+    (simp (no, stops) refl, simp (no, stops) refl)
+
+pub returns-clause-init : goal.returns-clause-init
+returns-clause-init c = with_init

@@ -1,0 +1,74 @@
+-- A program that begins, or does not.
+use Rattle.std.proofs.Common.{◌≡◌, ℕ, List, Option, Some, None, option_map, Result, Ok, Err, Vec, Bor, refl, sym, ap, ◌∙◌, subst}
+use Rattle.std.specs.Global.{Global}
+use Rattle.session_wire.specs.Worlds.{Scene, SceneSteps}
+use Rattle.fed_replay.specs.Replays.{Replays}
+use Rattle.fed_replay.specs.Engines.{SceneCloses}
+use Rattle.fed_replay.specs.declared.script.ScriptFault.{ScriptFault}
+use Rattle.fed_replay.specs.declared.script.ScriptFault.TheVariants as scripts
+use Rattle.list_wrapper.specs.declared.list.ListWrapper.{ListWrapper}
+use Rattle.med_session.specs.declared.adding.Sources.{Sources}
+use Rattle.fed_cli.specs.Exits.{Runs}
+use Rattle.fed_cli.specs.Setup.{IsFirst, HasNoFirst, ReadsNot, IsReadOf, ReplaysInit, Begins, BeginsNot}
+use Rattle.fed_cli.specs.Streams.{Stream, IsUntouched}
+use Rattle.fed_cli.specs.Told.{Came, replay_told}
+use Rattle.fed_cli.specs.declared.told.RunFault.{RunFault}
+use Rattle.fed_cli.specs.declared.told.RunFault.TheVariants as faults
+use Rattle.fed_cli.specs.declared.words.Asked.{Asked}
+
+-- a script that is there was replayed
+pub replays_script : (o : Option (Vec ℕ Global)) (v : Vec ℕ Global) (bytes owner : List ℕ) (result : Result ℕ ScriptFault) (came : Came) (first after : Scene)
+    → o ≡ Some v → bytes ≡ v.items → came ≡ replay_told result → Replays SceneSteps SceneCloses first owner bytes result after
+    → ReplaysInit first owner (option_map (λ v. v.items) o) came after
+replays_script o v bytes owner result came first after is items told replays =
+    subst (λ p. ReplaysInit first owner (option_map (λ v. v.items) p) came after) (sym is)
+    (result, told, subst (λ bs. Replays SceneSteps SceneCloses first owner bs result after) items replays)
+
+-- nothing is handed back
+pub not_begun : (asked : Asked) (came : Came) (script : Option (List ℕ)) (sources : Option (Sources ListWrapper)) (input output : Stream) (fault : RunFault)
+    → came ≡ Err fault → sources ≡ None → BeginsNot asked script fault → IsUntouched input → IsUntouched output → Runs asked came script sources input output
+not_begun asked came script sources input output fault e none why i o = subst (λ s. Runs asked came script s input output) (sym none) (fault, e, why, i, o)
+
+-- there is no first world
+pub no_first_world : (asked : Asked) (script : Option (List ℕ)) (fault : RunFault) → HasNoFirst asked.owner.now asked.list fault → BeginsNot asked script fault
+no_first_world asked script faults.NoMemory h = tt
+no_first_world asked script (faults.CannotOpen told) h = h
+no_first_world asked script (faults.NameTaken told) h = h
+no_first_world asked script (faults.TooManySources told) h = h
+no_first_world asked script faults.Read h = h
+no_first_world asked script faults.Write h = h
+no_first_world asked script faults.TooManyReads h = h
+no_first_world asked script faults.ProtocolViolation h = h
+no_first_world asked script (faults.CannotReadInit told) h = absurd h
+no_first_world asked script faults.InitNotText h = absurd h
+no_first_world asked script (faults.InitLine number cause) h = absurd h
+
+-- the init file was not read
+pub not_read : (asked : Asked) (fault : RunFault) → ReadsNot asked.init fault → BeginsNot asked None fault
+not_read asked faults.NoMemory h = tt
+not_read asked (faults.CannotReadInit told) h = (h, refl)
+not_read asked (faults.CannotOpen told) h = absurd h
+not_read asked (faults.NameTaken told) h = absurd h
+not_read asked (faults.TooManySources told) h = absurd h
+not_read asked faults.Read h = absurd h
+not_read asked faults.Write h = absurd h
+not_read asked faults.TooManyReads h = absurd h
+not_read asked faults.ProtocolViolation h = absurd h
+not_read asked faults.InitNotText h = absurd h
+not_read asked (faults.InitLine number cause) h = absurd h
+
+-- its replay was refused
+pub not_replayed : (asked : Asked) (script : Option (List ℕ)) (fault : RunFault) (first after : Scene) → IsReadOf asked.init script
+    → IsFirst asked.owner.now (option_map (λ s. s.now) asked.list) first → ReplaysInit first asked.owner.now script (Err fault) after → BeginsNot asked script fault
+not_replayed asked None fault first after read is (e, same) = absurd cc
+not_replayed asked (Some script) fault first after read is (Ok count, e, replays) = absurd cc
+not_replayed asked (Some script) fault first after read is (Err scripts.NoMemory, e, replays) =
+    let same : fault ≡ faults.NoMemory = cc in subst (λ f. BeginsNot asked (Some script) f) (sym same) tt
+not_replayed asked (Some script) fault first after read is (Err scripts.NotText, e, replays) =
+    let same : fault ≡ faults.InitNotText = cc in
+    subst (λ f. BeginsNot asked (Some script) f) (sym same)
+    (read, (after, record { first = first; is_first = is; replays = (Err scripts.NotText, refl, replays) }))
+not_replayed asked (Some script) fault first after read is (Err (scripts.Line number cause), e, replays) =
+    let same : fault ≡ faults.InitLine number cause = cc in
+    subst (λ f. BeginsNot asked (Some script) f) (sym same)
+    (read, (after, record { first = first; is_first = is; replays = (Err (scripts.Line number cause), refl, replays) }))
