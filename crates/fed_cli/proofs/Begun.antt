@@ -30,7 +30,7 @@ pub not_begun : (asked : Asked) (came : Came) (script : Option (List ℕ)) (sour
 not_begun asked came script sources input output fault e none why i o = subst (λ s. Runs asked came script s input output) (sym none) (fault, e, why, i, o)
 
 -- there is no first world
-pub no_first_world : (asked : Asked) (script : Option (List ℕ)) (fault : RunFault) → HasNoFirst asked.list fault → BeginsNot asked script fault
+pub no_first_world : (asked : Asked) (script : Option (List ℕ)) (fault : RunFault) → HasNoFirst asked.owner.now asked.list fault → BeginsNot asked script fault
 no_first_world asked script faults.NoMemory h = tt
 no_first_world asked script (faults.CannotOpen told) h = h
 no_first_world asked script (faults.NameTaken told) h = h
@@ -59,7 +59,7 @@ not_read asked (faults.InitLine number cause) h = absurd h
 
 -- its replay was refused
 pub not_replayed : (asked : Asked) (script : Option (List ℕ)) (fault : RunFault) (first after : Scene) → IsReadOf asked.init script
-    → IsFirst (option_map (λ s. s.now) asked.list) first.world first.boxes → ReplaysInit first asked.owner.now script (Err fault) after → BeginsNot asked script fault
+    → IsFirst asked.owner.now (option_map (λ s. s.now) asked.list) first → ReplaysInit first asked.owner.now script (Err fault) after → BeginsNot asked script fault
 not_replayed asked None fault first after read is (e, same) = absurd cc
 not_replayed asked (Some script) fault first after read is (Ok count, e, replays) = absurd cc
 not_replayed asked (Some script) fault first after read is (Err scripts.NoMemory, e, replays) =

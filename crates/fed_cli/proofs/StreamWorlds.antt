@@ -2,7 +2,8 @@
 use Rattle.std.proofs.Common.{ℕ, List, ◌++◌, Option, Some, Result, Ok, Err}
 use Rattle.fdw_api.specs.State.{BoxState}
 use Rattle.med_session.specs.World.{World}
-use Rattle.med_session.specs.Engine.{shown, Agrees}
+use Rattle.med_session.specs.Engine.{Agrees}
+use Rattle.med_session.specs.Shows.{shown}
 use Rattle.med_session.specs.declared.engine.Engine.{Engine}
 use Rattle.session_wire.specs.Engines.{EngineSteps, EngineEnds}
 use Rattle.session_wire.specs.Run.{Fed, BrokenOff}

@@ -23,7 +23,7 @@ pub record ServesWorld (first last : List (Option BoxState)) (w : World)
   pub boxes : engine.boxes ≡ last
   pub agrees : Agrees engine (without_sessions after)
 
--- The program serves a stream, that ends so: from the world and the boxes to which its set-up leads, for which an engine stands, to the
+-- The program serves a stream, that ends so: from the world and the boxes to which its beginning leads, for which an engine stands, to the
 -- last boxes, which are those of the sources that it hands back.
 pub record ServesProgram (owner : List ℕ) (source script : Option (List ℕ)) (last : List (Option BoxState))
     (input output : Stream) (ended : Result Ended StreamFault) : Type 0 where

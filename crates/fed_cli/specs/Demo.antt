@@ -1,24 +1,8 @@
--- The demo list: two tables, their columns as they are declared, and their rows.
-use Rattle.std.specs.Prelude.{ℕ, pos, true, false, List, [], ◌∷◌, codes}
+-- The demo list: two tables with their rows, and the script that makes foreign tables of them.
+use Rattle.std.specs.Prelude.{ℕ, pos, true, false, List, [], ◌∷◌, ◌++◌, codes}
 use Rattle.med_value.specs.Datum.{NoValue, Whole, Chars, Logic, Tuple}
 use Rattle.med_value.specs.declared.value.ColType.TheVariants as types
-use Rattle.fdw_api.specs.Kinds.{Column}
 use Rattle.list_wrapper.specs.Lists.{Listed}
-
--- CREATE FOREIGN TABLE parts (id integer NOT NULL, name text, qty integer, live boolean)
-abbrev pub parts_columns : List Column
-parts_columns =
-    record { name = codes "id"; kind = types.Int; not_null = true }
-    ∷ record { name = codes "name"; kind = types.Text; not_null = false }
-    ∷ record { name = codes "qty"; kind = types.Int; not_null = false }
-    ∷ record { name = codes "live"; kind = types.Bool; not_null = false } ∷ []
-
--- CREATE FOREIGN TABLE orders (no integer, part integer, n integer)
-abbrev pub orders_columns : List Column
-orders_columns =
-    record { name = codes "no"; kind = types.Int; not_null = false }
-    ∷ record { name = codes "part"; kind = types.Int; not_null = false }
-    ∷ record { name = codes "n"; kind = types.Int; not_null = false } ∷ []
 
 abbrev pub order : ℕ → ℕ → ℕ → Tuple
 order number part n = Whole (pos number) ∷ Whole (pos part) ∷ Whole (pos n) ∷ []
@@ -41,3 +25,19 @@ orders = record {
 
 abbrev pub demo_list : List Listed
 demo_list = parts ∷ orders ∷ []
+
+-- the columns of the two foreign tables
+abbrev pub parts_line : List ℕ
+parts_line = codes "CREATE FOREIGN TABLE parts (id integer NOT NULL, name text, qty integer, live boolean) SERVER "
+
+abbrev pub orders_line : List ℕ
+orders_line = codes "CREATE FOREIGN TABLE orders (no integer, part integer, n integer) SERVER "
+
+-- The script that sets up the source of this name: a wrapper of lists, a server of the same name on the source, a mapping for everyone,
+-- and the tables parts and orders.
+abbrev pub setup_script : List ℕ → List ℕ
+setup_script name =
+    codes "CREATE FOREIGN DATA WRAPPER list HANDLER list\nCREATE SERVER " ++ name
+    ++ codes " FOREIGN DATA WRAPPER list OPTIONS (source '" ++ name ++ codes "')\nCREATE USER MAPPING FOR PUBLIC SERVER " ++ name
+    ++ codes " OPTIONS (mode 'write')\n" ++ parts_line ++ name ++ codes " OPTIONS (table 'parts')\n"
+    ++ orders_line ++ name ++ codes " OPTIONS (table 'orders')\n"

@@ -1,79 +1,82 @@
--- What a program begins with: the demo list in its world, the box of its source, and the replay of its init file.
-use Rattle.std.specs.Prelude.{◌≡◌, ℕ, List, [], ◌∷◌, ◌++◌, length, Option, Some, None, option_map, Result, Ok, Err, codes}
+-- What a program begins with: the demo list, set up by a script, and the replay of its init file.
+use Rattle.std.specs.Prelude.{◌≡◌, ◌≢◌, ℕ, List, [], ◌∷◌, ◌++◌, length, Option, Some, None, option_map, Result, Ok, Err}
 use Rattle.std.specs.Borrow.{Bor}
 use Rattle.fdw_api.specs.State.{BoxState}
-use Rattle.fdw_api.specs.Calls.{Binds}
-use Rattle.med_session.specs.Adding.{HasSource}
-use Rattle.med_session.specs.Engine.{Label}
-use Rattle.med_session.specs.World.{World, empty_world}
-use Rattle.med_session.specs.Attaching.{with_source, Attaches}
-use Rattle.med_session.specs.declared.sources.SourceKind.TheVariants as kinds
+use Rattle.med_catalog.specs.declared.kind.SourceKind.TheVariants as kinds
+use Rattle.med_world.specs.Adding.{HasSource}
+use Rattle.med_world.specs.Engine.{Label}
+use Rattle.med_world.specs.World.{empty_world, with_source}
 use Rattle.list_wrapper.specs.Lists.{IsNewList}
 use Rattle.session_wire.specs.Worlds.{Scene, SceneSteps}
 use Rattle.fed_replay.specs.Replays.{Replays}
 use Rattle.fed_replay.specs.Engines.{SceneCloses}
 use Rattle.fed_replay.specs.declared.script.ScriptFault.{ScriptFault}
-use Rattle.fed_cli.specs.Demo.{demo_list, parts_columns, orders_columns}
+use Rattle.fed_replay.specs.declared.script.ScriptFault.TheVariants as scripts
+use Rattle.fed_cli.specs.Demo.{demo_list, setup_script}
 use Rattle.fed_cli.specs.Told.{Came, replay_told}
 use Rattle.fed_cli.specs.declared.words.Asked.{Asked}
 use Rattle.fed_cli.specs.declared.told.RunFault.{RunFault}
 use Rattle.fed_cli.specs.declared.told.RunFault.TheVariants as faults
 
--- The demo list is the source of this name, and has the foreign tables parts and orders, each for the remote table of its own name.
-pub record HasDemo (w : World) (name : List ℕ) (after : World) : Type 0 where
+-- where every program of this owner begins: no object, no source, no session
+abbrev pub empty_scene : List ℕ → Scene
+empty_scene owner = record { world = empty_world owner; boxes = [] }
+
+-- The source of this name is a new demo list that is free, and its box stands last. Nothing was done in it: no scan was begun, and no fault,
+-- row or ticket is counted.
+pub record HasList (old : Scene) (name : List ℕ) (new : Scene) : Type 0 where
   pub list : BoxState
   pub is_demo : IsNewList list demo_list
-  pub mid : World
-  pub parts : Attaches (with_source w name kinds.List list.nature.kind list.content.holdings)
-      (codes "parts") name (codes "parts") parts_columns mid
-  pub orders : Attaches mid (codes "orders") name (codes "orders") orders_columns after
+  pub world : new.world ≡ with_source old.world name kinds.List list.nature.kind list.content.holdings
+  pub boxes : new.boxes ≡ old.boxes ++ Some list ∷ []
 
--- The boxes have one more, last: that of a new demo list, of which the tables parts and orders were bound. Nothing else was done in it: no
--- scan was begun, and no fault, row or ticket is counted.
-pub record HasDemoBox (boxes after : List (Option BoxState)) : Type 0 where
-  pub list : BoxState
-  pub is_demo : IsNewList list demo_list
-  pub parts : ℕ
-  pub mid : BoxState
-  pub binds_parts : Binds list (codes "parts") parts_columns [] parts mid
-  pub orders : ℕ
-  pub box : BoxState
-  pub binds_orders : Binds mid (codes "orders") orders_columns [] orders box
-  pub are : after ≡ boxes ++ Some box ∷ []
+-- the list is the source of this name, and then the owner's replay of the set-up script comes to this, and leads there
+pub record SetsUp (old : Scene) (owner name : List ℕ) (result : Result ℕ ScriptFault) (new : Scene) : Type 0 where
+  pub listed : Scene
+  pub has_list : HasList old name listed
+  pub replays : Replays SceneSteps SceneCloses listed owner (setup_script name) result new
 
--- what a program begins with: the empty world and no box at all, or a world and a box with the demo list as the source of this name
-abbrev pub IsFirst : Option (List ℕ) → World → List (Option BoxState) → Type 0
-IsFirst None w boxes = (w ≡ empty_world) × (boxes ≡ [])
-IsFirst (Some name) w boxes = HasDemo empty_world name w × HasDemoBox [] boxes
+-- every line of it is done
+abbrev pub HasDemo : Scene → List ℕ → List ℕ → Scene → Type 0
+HasDemo old owner name new = (count : ℕ) × SetsUp old owner name (Ok count) new
 
--- Why the demo list is not added beside the sources of these names: its name is taken, or there are 64 sources; a table could not
--- be attached; or memory was refused. No fault of a stream is told.
-abbrev pub AddsNoDemo : List Label → Bor (List ℕ) → RunFault → Type 0
-AddsNoDemo labels name faults.NoMemory = Unit {0}
-AddsNoDemo labels name (faults.NameTaken told) = (told ≡ name) × HasSource labels name.now
-AddsNoDemo labels name (faults.TooManySources told) = (told ≡ name) × (length labels ≡ 64)
-AddsNoDemo labels name (faults.CannotOpen told) = told ≡ name
-AddsNoDemo labels name faults.Read = ⊥
-AddsNoDemo labels name faults.Write = ⊥
-AddsNoDemo labels name faults.TooManyReads = ⊥
-AddsNoDemo labels name faults.ProtocolViolation = ⊥
-AddsNoDemo labels name (faults.CannotReadInit told) = ⊥
-AddsNoDemo labels name faults.InitNotText = ⊥
-AddsNoDemo labels name (faults.InitLine number cause) = ⊥
+-- a line is refused, and not for want of memory
+abbrev pub LacksDemo : Scene → List ℕ → List ℕ → Type 0
+LacksDemo old owner name = (why : ScriptFault) × (why ≢ scripts.NoMemory) × ((new : Scene) × SetsUp old owner name (Err why) new)
 
--- why a program has no first world: memory was refused, or a table of the list that it is to have could not be attached
-abbrev pub HasNoFirst : Option (Bor (List ℕ)) → RunFault → Type 0
-HasNoFirst list faults.NoMemory = Unit {0}
-HasNoFirst list (faults.CannotOpen told) = list ≡ Some told
-HasNoFirst list (faults.NameTaken told) = ⊥
-HasNoFirst list (faults.TooManySources told) = ⊥
-HasNoFirst list faults.Read = ⊥
-HasNoFirst list faults.Write = ⊥
-HasNoFirst list faults.TooManyReads = ⊥
-HasNoFirst list faults.ProtocolViolation = ⊥
-HasNoFirst list (faults.CannotReadInit told) = ⊥
-HasNoFirst list faults.InitNotText = ⊥
-HasNoFirst list (faults.InitLine number cause) = ⊥
+-- what a program of this owner begins with: nothing at all, or the demo list as the source of this name
+abbrev pub IsFirst : List ℕ → Option (List ℕ) → Scene → Type 0
+IsFirst owner None first = first ≡ empty_scene owner
+IsFirst owner (Some name) first = HasDemo (empty_scene owner) owner name first
+
+-- Why the demo list is not added beside the sources of these names: its name is taken, or there are 64 sources; a line of its set-up is
+-- refused; or memory was refused. No fault of a stream is told.
+abbrev pub AddsNoDemo : Scene → List ℕ → List Label → Bor (List ℕ) → RunFault → Type 0
+AddsNoDemo old owner labels name faults.NoMemory = Unit {0}
+AddsNoDemo old owner labels name (faults.NameTaken told) = (told ≡ name) × HasSource labels name.now
+AddsNoDemo old owner labels name (faults.TooManySources told) = (told ≡ name) × (length labels ≡ 64)
+AddsNoDemo old owner labels name (faults.CannotOpen told) = (told ≡ name) × LacksDemo old owner name.now
+AddsNoDemo old owner labels name faults.Read = ⊥
+AddsNoDemo old owner labels name faults.Write = ⊥
+AddsNoDemo old owner labels name faults.TooManyReads = ⊥
+AddsNoDemo old owner labels name faults.ProtocolViolation = ⊥
+AddsNoDemo old owner labels name (faults.CannotReadInit told) = ⊥
+AddsNoDemo old owner labels name faults.InitNotText = ⊥
+AddsNoDemo old owner labels name (faults.InitLine number cause) = ⊥
+
+-- why a program of this owner has no first world: memory was refused, or a line of the set-up of its list
+abbrev pub HasNoFirst : List ℕ → Option (Bor (List ℕ)) → RunFault → Type 0
+HasNoFirst owner list faults.NoMemory = Unit {0}
+HasNoFirst owner list (faults.CannotOpen told) = (list ≡ Some told) × LacksDemo (empty_scene owner) owner told.now
+HasNoFirst owner list (faults.NameTaken told) = ⊥
+HasNoFirst owner list (faults.TooManySources told) = ⊥
+HasNoFirst owner list faults.Read = ⊥
+HasNoFirst owner list faults.Write = ⊥
+HasNoFirst owner list faults.TooManyReads = ⊥
+HasNoFirst owner list faults.ProtocolViolation = ⊥
+HasNoFirst owner list (faults.CannotReadInit told) = ⊥
+HasNoFirst owner list faults.InitNotText = ⊥
+HasNoFirst owner list (faults.InitLine number cause) = ⊥
 
 -- bytes of an init file were read exactly where one is asked
 abbrev pub IsReadOf : Option (Bor (List ℕ)) → Option (List ℕ) → Type 0
@@ -93,18 +96,19 @@ ReplaysInit first owner None came after = (came ≡ Ok tt) × (after ≡ first)
 ReplaysInit first owner (Some script) came after =
     (result : Result ℕ ScriptFault) × (came ≡ replay_told result) × Replays SceneSteps SceneCloses first owner script result after
 
--- What the set-up of a program comes to, and where it leads: its first world and boxes are made, and then its owner replays the script of
--- its init file.
+-- What the beginning of a program comes to, and where it leads: its first world and boxes are made, and then its owner replays the script
+-- of its init file.
 pub record Begins (owner : List ℕ) (source script : Option (List ℕ)) (came : Came) (after : Scene) : Type 0 where
   pub first : Scene
-  pub is_first : IsFirst source first.world first.boxes
+  pub is_first : IsFirst owner source first
   pub replays : ReplaysInit first owner script came after
 
--- Why a program does not begin, of whose init file these bytes were read: memory was refused, a table of its list could not be
--- attached, its init file could not be read, or the replay came to that fault.
+-- Why a program does not begin, of whose init file these bytes were read: memory was refused, a line of the set-up of its list was
+-- refused, its init file could not be read, or its replay came to that fault.
 abbrev pub BeginsNot : Asked → Option (List ℕ) → RunFault → Type 0
 BeginsNot asked script faults.NoMemory = Unit {0}
-BeginsNot asked script (faults.CannotOpen told) = asked.list ≡ Some told
+BeginsNot asked script (faults.CannotOpen told) =
+    (asked.list ≡ Some told) × LacksDemo (empty_scene asked.owner.now) asked.owner.now told.now
 BeginsNot asked script (faults.CannotReadInit told) = (asked.init ≡ Some told) × (script ≡ None)
 BeginsNot asked script faults.InitNotText =
     IsReadOf asked.init script

@@ -2,8 +2,6 @@
 use Rattle.std.specs.Prelude.{ℕ, List, [], ◌++◌, codes, decimal, Result, Ok, Err, string_bytes}
 use Rattle.std.specs.Borrow.{Bor}
 use Rattle.med_value.specs.Causes.{code_of, name_of}
-use Rattle.med_value.specs.declared.cause.Cause.{Cause}
-use Rattle.med_value.specs.declared.cause.Cause.TheVariants.{OutOfMemory}
 use Rattle.med_session.specs.declared.adding.AddFault.{AddFault}
 use Rattle.med_session.specs.declared.adding.AddFault.TheVariants as adding
 use Rattle.fed_replay.specs.declared.script.ScriptFault.{ScriptFault}
@@ -36,10 +34,18 @@ added_of name adding.NoMemory = faults.NoMemory
 added_of name adding.Taken = faults.NameTaken name
 added_of name adding.TooMany = faults.TooManySources name
 
--- how it is told that a table of the source of this name was not attached
-abbrev pub attached_of : Bor (List ℕ) → Cause → RunFault
-attached_of name OutOfMemory = faults.NoMemory
-attached_of name _ = faults.CannotOpen name
+-- how it is told that the set-up of the source of this name came to this
+abbrev pub setup_told : Bor (List ℕ) → Result ℕ ScriptFault → Came
+setup_told name (Ok count) = Ok tt
+setup_told name (Err scripts.NoMemory) = Err faults.NoMemory
+setup_told name (Err why) = Err (faults.CannotOpen name)
+
+-- how it is told that the replay of the init file's script came to this
+abbrev pub replay_told : Result ℕ ScriptFault → Came
+replay_told (Ok count) = Ok tt
+replay_told (Err scripts.NoMemory) = Err faults.NoMemory
+replay_told (Err scripts.NotText) = Err faults.InitNotText
+replay_told (Err (scripts.Line number cause)) = Err (faults.InitLine number cause)
 
 -- how it is told that the replay of the init file's script came to this
 abbrev pub replay_told : Result ℕ ScriptFault → Came

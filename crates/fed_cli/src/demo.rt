@@ -1,13 +1,19 @@
-//! The demo list: the tables parts and orders, and their columns as foreign tables.
-ghost use Rattle.std.specs.Prelude.{◌≡◌, ◌∷◌, [], IfOk, map};
-ghost use Rattle.fdw_api.specs.Kinds.{column_of};
+//! The demo list: the tables parts and orders, and the script that makes foreign tables of them.
+ghost use Rattle.std.specs.Prelude.{◌≡◌, ◌∷◌, [], IfOk, map, string_bytes};
 ghost use Rattle.med_value.specs.Datum.{Whole, Chars, Logic, datum, tuple};
 ghost use Rattle.list_wrapper.specs.Lists.{listed};
 ghost use Rattle.fed_cli.specs.Demo as spec;
 
 use list_wrapper::ListTable;
-use med_value::{ColType, ColumnDef, NoMemory, Row, Value};
+use med_value::{ColType, NoMemory, Row, Value};
 use std::alloc::Global;
+
+// The foreign table parts, up to its server.
+const PARTS: &str =
+    "CREATE FOREIGN TABLE parts (id integer NOT NULL, name text, qty integer, live boolean) SERVER ";
+
+// The foreign table orders, up to its server.
+const ORDERS: &str = "CREATE FOREIGN TABLE orders (no integer, part integer, n integer) SERVER ";
 
 fn text(alloc: Global, text: &str) -> Result<Value, NoMemory>
     ensures { IfOk result (λ v. datum v ≡ Chars text.now) }
@@ -66,34 +72,24 @@ pub fn demo_tables(alloc: Global) -> Result<Vec<ListTable>, NoMemory>
     Ok(vec![in alloc; parts, orders]?)
 }
 
-fn column(alloc: Global, name: &str, kind: ColType, not_null: bool) -> Result<ColumnDef, NoMemory>
-    ensures { IfOk result (λ c. column_of c ≡ record { name = name.now; kind = kind; not_null = not_null }) }
+/// The script that sets up the demo list as the source of this name: a wrapper of lists, a server of the same name, a mapping for everyone,
+/// and the foreign tables parts and orders. Refused only for want of memory.
+pub fn setup_script(alloc: Global, name: &str) -> Result<String, NoMemory>
+    ensures { IfOk result (λ script. string_bytes script ≡ spec.setup_script name.now) }
 {
-    let name = name.to_string(alloc)?;
-    Ok(ColumnDef {
-        name,
-        kind,
-        not_null,
-    })
-}
-
-/// The columns of parts: id integer not null, name text, qty integer, live boolean.
-pub fn parts_columns(alloc: Global) -> Result<Vec<ColumnDef>, NoMemory>
-    ensures { IfOk result (λ columns. map column_of columns.items ≡ spec.parts_columns) }
-{
-    let id = column(alloc, "id", ColType::Int, true)?;
-    let name = column(alloc, "name", ColType::Text, false)?;
-    let quantity = column(alloc, "qty", ColType::Int, false)?;
-    let live = column(alloc, "live", ColType::Bool, false)?;
-    Ok(vec![in alloc; id, name, quantity, live]?)
-}
-
-/// The columns of orders: no integer, part integer, n integer.
-pub fn orders_columns(alloc: Global) -> Result<Vec<ColumnDef>, NoMemory>
-    ensures { IfOk result (λ columns. map column_of columns.items ≡ spec.orders_columns) }
-{
-    let number = column(alloc, "no", ColType::Int, false)?;
-    let part = column(alloc, "part", ColType::Int, false)?;
-    let quantity = column(alloc, "n", ColType::Int, false)?;
-    Ok(vec![in alloc; number, part, quantity]?)
+    let mut script = String::new(alloc);
+    script.push_str("CREATE FOREIGN DATA WRAPPER list HANDLER list\nCREATE SERVER ")?;
+    script.push_str(name)?;
+    script.push_str(" FOREIGN DATA WRAPPER list OPTIONS (source '")?;
+    script.push_str(name)?;
+    script.push_str("')\nCREATE USER MAPPING FOR PUBLIC SERVER ")?;
+    script.push_str(name)?;
+    script.push_str(" OPTIONS (mode 'write')\n")?;
+    script.push_str(PARTS)?;
+    script.push_str(name)?;
+    script.push_str(" OPTIONS (table 'parts')\n")?;
+    script.push_str(ORDERS)?;
+    script.push_str(name)?;
+    script.push_str(" OPTIONS (table 'orders')\n")?;
+    Ok(script)
 }

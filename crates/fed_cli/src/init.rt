@@ -1,10 +1,9 @@
 //! The init file: how it is read, and how its script is replayed.
-ghost use Rattle.std.specs.Prelude.{◌≡◌, None, IfOk, IfErr, option_map};
-ghost use Rattle.med_session.specs.Requests.{IsUser};
+ghost use Rattle.std.specs.Prelude.{IfOk, IfErr, option_map};
 ghost use Rattle.med_session.specs.World.{World};
-ghost use Rattle.med_session.specs.Engine.{shown, IsSound, Agrees, user_of};
+ghost use Rattle.med_session.specs.Engine.{IsSound, Agrees};
+ghost use Rattle.med_session.specs.Shows.{shown};
 ghost use Rattle.session_wire.specs.Worlds.{scene_of};
-ghost use Rattle.fed_replay.specs.Replays.{session};
 ghost use Rattle.fed_cli.specs.Setup.{IsReadOf, ReadsNot, ReplaysInit};
 
 use crate::told::{RunFault, replay_told};
@@ -47,9 +46,7 @@ pub fn replay_init<'a, W: Wrapper>(
     owner: &str,
     script: &Option<Vec<u8>>,
 ) -> Result<(), RunFault<'a>>
-    requires sound { IsSound (shown W.meaning engine.old) }
-    requires user { IsUser owner.now }
-    requires closed { user_of (shown W.meaning engine.old).users session ≡ None }
+    requires { IsSound (shown W.meaning engine.old) }
     ensures sound { IsSound (shown W.meaning engine.new) }
     ensures worlds { (w : World) → Agrees (shown W.meaning engine.old) w
         → (after : World) × ReplaysInit (scene_of W.meaning engine.old w) owner.now (option_map (λ v. v.items) script.now) result

@@ -2,22 +2,25 @@
 ghost use Rattle.std.specs.Prelude.{◌≡◌, IfOk, IfErr, Err, OnOk, None, option_map, map, string_bytes};
 ghost use Rattle.med_session.specs.Requests.{IsUser};
 ghost use Rattle.med_session.specs.World.{World};
-ghost use Rattle.med_session.specs.Engine.{shown, IsSound, Agrees, user_of};
+ghost use Rattle.med_session.specs.Engine.{IsSound, Agrees};
+ghost use Rattle.med_session.specs.Shows.{shown};
 ghost use Rattle.list_wrapper.specs.ListBoxes.{box_of};
 ghost use Rattle.list_wrapper.specs.Lists.{IsNewList};
-ghost use Rattle.fed_replay.specs.Replays.{session};
+ghost use Rattle.session_wire.specs.Worlds.{scene_of};
 ghost use Rattle.fed_cli.specs.Demo.{demo_list};
 ghost use Rattle.fed_cli.specs.Exits.{Exits, ExitsBy, Runs, TellsRun, TellsWords};
-ghost use Rattle.fed_cli.specs.Setup.{HasDemo, HasDemoBox, IsFirst, HasNoFirst, AddsNoDemo};
+ghost use Rattle.fed_cli.specs.Setup.{HasDemo, IsFirst, HasNoFirst, AddsNoDemo};
 ghost use Rattle.fed_cli.specs.Streams.{stream};
 
-use crate::demo::{demo_tables, orders_columns, parts_columns};
+use crate::demo::{demo_tables, setup_script};
 use crate::init::{read_init, replay_init};
 use crate::serving::serve_engine;
-use crate::told::{RunFault, add_fault, attach_fault, status, told};
+use crate::told::{RunFault, add_fault, setup_told, status, told};
 use crate::words::{Asked, WordsFault, read_words};
 use fdw_api::interface::Wrapper;
+use fed_replay::replay;
 use list_wrapper::ListWrapper;
+use med_catalog::law::lists_are_told_nothing;
 use med_session::{Engine, SourceKind, Sources};
 use std::alloc::Global;
 use std::io::{Read, Write};
@@ -36,36 +39,32 @@ pub struct Exit {
     pub sources: Option<Sources<ListWrapper>>,
 }
 
-/// Adds a list of the demo tables as the source of this name, and attaches its tables parts and orders.
+/// Adds a list of the demo tables as the source of this name, and replays the script that makes its objects as this owner.
+///
+/// Where a line of the script is refused, the source and what the lines before it made stay.
 pub fn add_demo<'a, W: Wrapper>(
     alloc: Global,
     engine: &mut Engine<W>,
+    owner: &str,
     name: &'a str,
     list: W,
 ) -> Result<(), RunFault<'a>>
     requires engine { IsSound (shown W.meaning engine.old) }
     requires demo { IsNewList (W.meaning list) demo_list }
     ensures sound { IsSound (shown W.meaning engine.new) }
-    ensures world { OnOk result ((w : World) → Agrees (shown W.meaning engine.old) w
-        → (after : World) × HasDemo w name.entry.now after × Agrees (shown W.meaning engine.new) after) }
-    ensures boxes { OnOk result (HasDemoBox (shown W.meaning engine.old).boxes (shown W.meaning engine.new).boxes) }
-    ensures owner { OnOk result ((shown W.meaning engine.new).owner ≡ (shown W.meaning engine.old).owner) }
-    ensures fault { IfErr result (AddsNoDemo (shown W.meaning engine.old).labels name.entry) }
+    ensures worlds { OnOk result ((w : World) → Agrees (shown W.meaning engine.old) w
+        → (after : World) × HasDemo (scene_of W.meaning engine.old w) owner.now name.entry.now (scene_of W.meaning engine.new after)
+        × Agrees (shown W.meaning engine.new) after) }
+    ensures fault { IfErr result (λ fault. (w : World) → Agrees (shown W.meaning engine.old) w
+        → AddsNoDemo (scene_of W.meaning engine.old w) owner.now (shown W.meaning engine.old).labels name.entry fault) }
 {
-    let parts = parts_columns(alloc)?;
-    let orders = orders_columns(alloc)?;
+    lists_are_told_nothing();
+    let script = setup_script(alloc, name)?;
     match engine.add_source(name, SourceKind::List, list) {
         Ok(()) => {}
         Err((_, fault)) => return Err(add_fault(name, fault)),
     }
-    match engine.attach("parts", name, "parts", &parts) {
-        Ok(()) => {}
-        Err(cause) => return Err(attach_fault(name, cause)),
-    }
-    match engine.attach("orders", name, "orders", &orders) {
-        Ok(()) => Ok(()),
-        Err(cause) => Err(attach_fault(name, cause)),
-    }
+    setup_told(name, replay(alloc, engine, owner, script.as_bytes()))
 }
 
 // The engine that the program begins with, which has the demo list as the source of this name if one is given.
@@ -79,8 +78,8 @@ fn first_engine<'a>(
     ensures owner { IfOk result (λ engine. (shown box_of engine).owner ≡ owner.now) }
     ensures closed { IfOk result (λ engine. user_of (shown box_of engine).users session ≡ None) }
     ensures first { IfOk result (λ engine. (w : World) × Agrees (shown box_of engine) w
-        × IsFirst (option_map (λ s. s.now) list.entry) w (shown box_of engine).boxes) }
-    ensures refused { IfErr result (HasNoFirst list.entry) }
+        × IsFirst owner.now (option_map (λ s. s.now) list.entry) (scene_of box_of engine w)) }
+    ensures refused { IfErr result (HasNoFirst owner.now list.entry) }
 {
     let Ok(mut engine) = Engine::<ListWrapper>::new(alloc, owner) else {
         return Err(RunFault::NoMemory);
@@ -89,7 +88,7 @@ fn first_engine<'a>(
         return Ok(engine);
     };
     let demo = ListWrapper::new(alloc, demo_tables(alloc)?)?;
-    match add_demo(alloc, &mut engine, name, demo) {
+    match add_demo(alloc, &mut engine, owner, name, demo) {
         Ok(()) => Ok(engine),
         Err(fault) => Err(fault),
     }
@@ -124,8 +123,8 @@ impl<'a> Ran<'a> {
 /// Answers the request lines of an input: the engine is made with the demo list, if it is asked, then its owner replays the init file, if
 /// one is asked, and then the input is served.
 ///
-/// It ends before anything of the input is read and anything is written where memory was refused, the list's tables could not be
-/// attached, the init file could not be read, or its replay was refused.
+/// It ends before anything of the input is read and anything is written where memory was refused, a line of the list's set-up was
+/// refused, the init file could not be read, or its replay was refused.
 pub fn run_asked<'a, V: AllocGlobal + Files, R: Read, W: Write>(
     rt: &V,
     asked: Asked<'a>,

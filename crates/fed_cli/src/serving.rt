@@ -2,7 +2,8 @@
 ghost use Rattle.fed_cli.specs.Answered.{ServesWorld};
 ghost use Rattle.fed_cli.specs.Streams.{stream};
 ghost use Rattle.med_exec.specs.Slots.{states};
-ghost use Rattle.med_session.specs.Engine.{shown, IsSound, Agrees, EachBox, IsAtRest};
+ghost use Rattle.med_session.specs.Engine.{IsSound, Agrees, EachBox, IsAtRest};
+ghost use Rattle.med_session.specs.Shows.{shown};
 ghost use Rattle.med_session.specs.World.{World};
 
 use crate::stream::{Ended, StreamFault, serve_stream};

@@ -1,6 +1,6 @@
 //! What a run is told as.
 ghost use Rattle.std.specs.Prelude.{◌≡◌};
-ghost use Rattle.fed_cli.specs.Told.{told_of, added_of, attached_of, replay_told, run_status};
+ghost use Rattle.fed_cli.specs.Told.{told_of, added_of, setup_told, replay_told, run_status};
 
 use crate::stream::{Ended, StreamFault};
 use fed_replay::ScriptFault;
@@ -26,7 +26,7 @@ pub enum RunFault<'a> {
     NameTaken(&'a str),
     /// There are 64 sources already.
     TooManySources(&'a str),
-    /// A table of the source could not be attached.
+    /// A line of the set-up of the source was refused.
     CannotOpen(&'a str),
     /// The init file at this path could not be read.
     CannotReadInit(&'a str),
@@ -86,13 +86,26 @@ pub fn add_fault(name: &str, fault: AddFault) -> RunFault<'_>
     }
 }
 
-/// Why a table of the source of this name was not attached.
-pub fn attach_fault(name: &str, cause: Cause) -> RunFault<'_>
-    ensures { result ≡ attached_of name.entry cause }
+/// How the set-up of the source of this name that came to this is told.
+pub fn setup_told(name: &str, came: Result<u64, ScriptFault>) -> Result<(), RunFault<'_>>
+    ensures { result ≡ setup_told name.entry came }
 {
-    match cause {
-        Cause::OutOfMemory => RunFault::NoMemory,
-        _ => RunFault::CannotOpen(name),
+    match came {
+        Ok(_) => Ok(()),
+        Err(ScriptFault::NoMemory) => Err(RunFault::NoMemory),
+        Err(_) => Err(RunFault::CannotOpen(name)),
+    }
+}
+
+/// How the replay of an init file that came to this is told.
+pub fn replay_told<'a>(came: Result<u64, ScriptFault>) -> Result<(), RunFault<'a>>
+    ensures { result ≡ replay_told came }
+{
+    match came {
+        Ok(_) => Ok(()),
+        Err(ScriptFault::NoMemory) => Err(RunFault::NoMemory),
+        Err(ScriptFault::NotText) => Err(RunFault::InitNotText),
+        Err(ScriptFault::Line(number, cause)) => Err(RunFault::InitLine(number, cause)),
     }
 }
 

@@ -1,7 +1,8 @@
 //! What a stream served over an engine is, in the direct meaning of SQL over worlds.
 ghost use Rattle.std.specs.Prelude.{ℕ, List, Option, Result};
 ghost use Rattle.med_session.specs.World.{World};
-ghost use Rattle.med_session.specs.Engine.{shown, Agrees};
+ghost use Rattle.med_session.specs.Engine.{Agrees};
+ghost use Rattle.med_session.specs.Shows.{shown};
 ghost use Rattle.med_session.specs.declared.engine.Engine.{Engine};
 ghost use Rattle.session_wire.specs.Engines.{EngineSteps, EngineEnds};
 ghost use Rattle.session_wire.specs.Worlds.{scene_of, SceneSteps, SceneEnds};

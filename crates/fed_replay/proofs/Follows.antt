@@ -75,15 +75,15 @@ closes_follows meaning old new s h same =
     ap (λ (boxes : List (Option BoxState)). let all : Scene = record { world = with_session s.world session None; boxes = boxes } in all) (ap (λ e. e.boxes) h.others ∙ sym same)
 
 pub in_worlds : {W : Type 0} (meaning : W → BoxState) (old new : Engine W) (owner script : List ℕ) (result : Result ℕ ScriptFault)
-    → user_of (shown meaning old).users session ≡ None → Replays (EngineSteps meaning) (EngineCloses meaning) old owner script result new
+    → Replays (EngineSteps meaning) (EngineCloses meaning) old owner script result new
     → (w : World) → Agrees (shown meaning old) w
     → (after : World) × Replays SceneSteps SceneCloses (scene_of meaning old w) owner script result (scene_of meaning new after)
-    × Agrees (shown meaning new) after × (after.sessions session ≡ None)
-in_worlds meaning old new owner script result closed (not_text t r same) w a =
-    (w, not_text t r (ap (λ e. scene_of meaning e w) same), subst (λ e. Agrees (shown meaning e) w) (sym same) a, a.sessions session (lit≤ tt, lit≤ tt) ∙ ap (option_map new_session) closed)
-in_worlds meaning old new owner script result closed (runs t last h closes) w a =
+    × Agrees (shown meaning new) after × (user_of (shown meaning old).users session ≡ None → after.sessions session ≡ None)
+in_worlds meaning old new owner script result (not_text t r same) w a =
+    (w, not_text t r (ap (λ e. scene_of meaning e w) same), subst (λ e. Agrees (shown meaning e) w) (sym same) a, λ closed. a.sessions session (lit≤ tt, lit≤ tt) ∙ ap (option_map new_session) closed)
+in_worlds meaning old new owner script result (runs t last h closes) w a =
     let one = runs_follow (EngineSteps meaning) SceneSteps (Stands meaning) (steps_follow meaning) old owner (statement_lines script) result last h (scene_of meaning old w) (a, refl) in
-    (with_session one.0.world session None, runs t one.0 one.1 (closes_follows meaning last new one.0 closes one.2.1), closes.world one.0.world one.2.0, refl)
+    (with_session one.0.world session None, runs t one.0 one.1 (closes_follows meaning last new one.0 closes one.2.1), closes.world one.0.world one.2.0, λ closed. refl)
 
 -- ---- what boxes count goes up
 

@@ -1,7 +1,6 @@
 //! The replay of a script.
 ghost use Rattle.std.specs.Prelude.{◌≡◌, ℕ, List, None, IfOk, IfErr, OnOk, OnErr};
 ghost use Rattle.med_session.specs.Asking.{asked};
-ghost use Rattle.med_session.specs.Requests.{IsUser};
 ghost use Rattle.med_session.specs.World.{World};
 ghost use Rattle.med_session.specs.Engine.{IsSound, Agrees, user_of};
 ghost use Rattle.med_session.specs.Shows.{shown};
@@ -38,7 +37,8 @@ pub enum ScriptFault {
 /// refused, and answers how many lines ran.
 ///
 /// A line ends in LF or with the script, and one CR at its end is dropped. All lines are counted from 1. The session is opened first and
-/// closed at the end, also after a refusal; the lines before a refused one stay done. Replies are not kept.
+/// closed at the end, also after a refusal; the lines before a refused one stay done. Replies are not kept. Where the session is open
+/// before, or this is no user, the opening is refused.
 ///
 /// `NotText` exactly where the script is not UTF-8: then nothing is done. `NoMemory` where a request is answered 53200, or memory is
 /// refused before it is begun. What was done is the same run of each world that agrees with the engine before.
@@ -48,14 +48,13 @@ pub fn replay<W: Wrapper>(
     owner: &str,
     script: &[u8],
 ) -> Result<u64, ScriptFault>
-    requires sound { IsSound (shown W.meaning engine.old) }
-    requires user { IsUser owner.now }
-    requires closed { user_of (shown W.meaning engine.old).users session ≡ None }
+    requires { IsSound (shown W.meaning engine.old) }
     ensures sound { IsSound (shown W.meaning engine.new) }
     ensures replays { Replays (EngineSteps W.meaning) (EngineCloses W.meaning) engine.old owner.now script.now result engine.new }
     ensures worlds { (w : World) → Agrees (shown W.meaning engine.old) w
         → (after : World) × Replays SceneSteps SceneCloses (scene_of W.meaning engine.old w) owner.now script.now result
-        (scene_of W.meaning engine.new after) × Agrees (shown W.meaning engine.new) after × (after.sessions session ≡ None) }
+        (scene_of W.meaning engine.new after) × Agrees (shown W.meaning engine.new) after
+        × (user_of (shown W.meaning engine.old).users session ≡ None → after.sessions session ≡ None) }
     ensures rises { EngineRises W.meaning engine.old engine.new }
 {
     let Ok(text) = str::from_utf8(script) else {

@@ -8,7 +8,7 @@ returns-in_default-clause-replays g c = no_text (EngineSteps g.W.Wrapper.meaning
 
 pub returns-in_default-clause-worlds : goal.returns-in_default-clause-worlds
 returns-in_default-clause-worlds g c =
-    in_worlds g.W.Wrapper.meaning c.args.engine.now c.args.engine.now c.args.owner.now c.args.script.now _ c.requires.closed (returns-in_default-clause-replays g c)
+    in_worlds g.W.Wrapper.meaning c.args.engine.now c.args.engine.now c.args.owner.now c.args.script.now _ (returns-in_default-clause-replays g c)
 
 pub returns-in_default-clause-rises : goal.returns-in_default-clause-rises
 returns-in_default-clause-rises g c =
@@ -21,7 +21,7 @@ returns-clause-replays g c =
 
 pub returns-clause-worlds : goal.returns-clause-worlds
 returns-clause-worlds g c =
-    in_worlds g.W.Wrapper.meaning c.args.engine.now c.close_session.new.self c.args.owner.now c.args.script.now c.run-ran.result c.requires.closed (returns-clause-replays g c)
+    in_worlds g.W.Wrapper.meaning c.args.engine.now c.close_session.new.self c.args.owner.now c.args.script.now c.run-ran.result (returns-clause-replays g c)
 
 pub returns-clause-rises : goal.returns-clause-rises
 returns-clause-rises g c =
