@@ -47,13 +47,6 @@ replay_told (Err scripts.NoMemory) = Err faults.NoMemory
 replay_told (Err scripts.NotText) = Err faults.InitNotText
 replay_told (Err (scripts.Line number cause)) = Err (faults.InitLine number cause)
 
--- how it is told that the replay of the init file's script came to this
-abbrev pub replay_told : Result ℕ ScriptFault → Came
-replay_told (Ok count) = Ok tt
-replay_told (Err scripts.NoMemory) = Err faults.NoMemory
-replay_told (Err scripts.NotText) = Err faults.InitNotText
-replay_told (Err (scripts.Line number cause)) = Err (faults.InitLine number cause)
-
 -- the text of a fault
 abbrev pub fault_text : RunFault → List ℕ
 fault_text faults.NoMemory = codes "out of memory"

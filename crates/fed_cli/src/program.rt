@@ -75,8 +75,6 @@ fn first_engine<'a>(
 ) -> Result<Engine<ListWrapper>, RunFault<'a>>
     requires { IsUser owner.now }
     ensures sound { IfOk result (λ engine. IsSound (shown box_of engine)) }
-    ensures owner { IfOk result (λ engine. (shown box_of engine).owner ≡ owner.now) }
-    ensures closed { IfOk result (λ engine. user_of (shown box_of engine).users session ≡ None) }
     ensures first { IfOk result (λ engine. (w : World) × Agrees (shown box_of engine) w
         × IsFirst owner.now (option_map (λ s. s.now) list.entry) (scene_of box_of engine w)) }
     ensures refused { IfErr result (HasNoFirst owner.now list.entry) }

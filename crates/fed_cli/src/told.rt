@@ -109,18 +109,6 @@ pub fn replay_told<'a>(came: Result<u64, ScriptFault>) -> Result<(), RunFault<'a
     }
 }
 
-/// How the replay of an init file that came to this is told.
-pub fn replay_told<'a>(came: Result<u64, ScriptFault>) -> Result<(), RunFault<'a>>
-    ensures { result ≡ replay_told came }
-{
-    match came {
-        Ok(_) => Ok(()),
-        Err(ScriptFault::NoMemory) => Err(RunFault::NoMemory),
-        Err(ScriptFault::NotText) => Err(RunFault::InitNotText),
-        Err(ScriptFault::Line(number, cause)) => Err(RunFault::InitLine(number, cause)),
-    }
-}
-
 /// How a stream that ended so is told.
 pub fn told<'a>(ended: Result<Ended, StreamFault>) -> Result<(), RunFault<'a>>
     ensures { result ≡ told_of ended }
