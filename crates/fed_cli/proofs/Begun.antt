@@ -44,18 +44,19 @@ no_first_world asked script faults.InitNotText h = absurd h
 no_first_world asked script (faults.InitLine number cause) h = absurd h
 
 -- the init file was not read
-pub not_read : (asked : Asked) (fault : RunFault) → ReadsNot asked.init fault → BeginsNot asked None fault
-not_read asked faults.NoMemory h = tt
-not_read asked (faults.CannotReadInit told) h = (h, refl)
-not_read asked (faults.CannotOpen told) h = absurd h
-not_read asked (faults.NameTaken told) h = absurd h
-not_read asked (faults.TooManySources told) h = absurd h
-not_read asked faults.Read h = absurd h
-not_read asked faults.Write h = absurd h
-not_read asked faults.TooManyReads h = absurd h
-not_read asked faults.ProtocolViolation h = absurd h
-not_read asked faults.InitNotText h = absurd h
-not_read asked (faults.InitLine number cause) h = absurd h
+pub not_read : (asked : Asked) (fault : RunFault) (first : Scene) → IsFirst asked.owner.now (option_map (λ s. s.now) asked.list) first → ReadsNot asked.init fault
+    → BeginsNot asked None fault
+not_read asked faults.NoMemory first is h = tt
+not_read asked (faults.CannotReadInit told) first is h = (h, refl, (first, is))
+not_read asked (faults.CannotOpen told) first is h = absurd h
+not_read asked (faults.NameTaken told) first is h = absurd h
+not_read asked (faults.TooManySources told) first is h = absurd h
+not_read asked faults.Read first is h = absurd h
+not_read asked faults.Write first is h = absurd h
+not_read asked faults.TooManyReads first is h = absurd h
+not_read asked faults.ProtocolViolation first is h = absurd h
+not_read asked faults.InitNotText first is h = absurd h
+not_read asked (faults.InitLine number cause) first is h = absurd h
 
 -- its replay was refused
 pub not_replayed : (asked : Asked) (script : Option (List ℕ)) (fault : RunFault) (first after : Scene) → IsReadOf asked.init script

@@ -9,7 +9,7 @@ use Rattle.med_catalog.specs.DdlCauses.{CauseRow, Stands, are_options_unknown, c
 use Rattle.med_catalog.specs.Objects.{Objects}
 use Rattle.med_catalog.specs.Options.{table_settings, column_settings}
 use Rattle.med_catalog.specs.declared.kind.SourceKind.TheVariants.{List as Lists}
-use Rattle.med_world.specs.Adding.{HasSource}
+use Rattle.med_world.specs.Adding.{HasSource, Adds}
 use Rattle.med_world.specs.Engine.{Shown, Label, IsSound, Agrees, TakesAs, sources_of}
 use Rattle.med_world.specs.World.{World, empty_world, with_source}
 use Rattle.med_session.specs.Adding.{AddCause}
@@ -58,9 +58,13 @@ none_of (l ∷ ls) (b ∷ bs) h e = absurd cc
 pub nothing_there : (e : Shown) (owner : List ℕ) → IsSound e → Agrees e (empty_world owner) → (e.labels ≡ []) × (e.boxes ≡ [])
 nothing_there e owner sound agrees = none_of e.labels e.boxes sound.places agrees.sources
 
+-- the empty world over these boxes
+abbrev pub empty_over : List ℕ → List (Option BoxState) → Scene
+empty_over owner boxes = record { world = empty_world owner; boxes = boxes }
+
 -- its scene is the empty one
-pub is_empty : (owner : List ℕ) (s : Scene) → s.world ≡ empty_world owner → s.boxes ≡ [] → s ≡ empty_scene owner
-is_empty owner s world boxes = cc
+pub is_empty : (owner : List ℕ) (boxes : List (Option BoxState)) → boxes ≡ [] → empty_over owner boxes ≡ empty_scene owner
+is_empty owner boxes none = ap (empty_over owner) none
 
 -- no list is asked
 pub first_of_none : (owner : List ℕ) (o : Option (Bor (List ℕ))) (first : Scene) → ((x : Bor (List ℕ)) → o ≡ Some x → ⊥) → first ≡ empty_scene owner
@@ -73,6 +77,13 @@ pub first_of_list : (owner : List ℕ) (o : Option (Bor (List ℕ))) (name : Bor
     → HasDemo old owner name.now new → IsFirst owner (option_map (λ s. s.now) o) new
 first_of_list owner o name old new is none has =
     subst (λ p. IsFirst owner (option_map (λ s. s.now) p) new) (sym is) (subst (λ s. HasDemo s owner name.now new) none has)
+
+-- ---- the list is added
+
+-- to a world over what an engine shows
+pub list_added : (old listed : Shown) (w : World) (name : List ℕ) (list : BoxState) → IsNewList list demo_list → Adds old name Lists list listed
+    → HasList (record { world = w; boxes = old.boxes }) name (record { world = with_source w name Lists list.nature.kind list.content.holdings; boxes = listed.boxes })
+list_added old listed w name list demo adds = record { list = list; is_demo = demo; world = refl; boxes = ap (λ (e : Shown). e.boxes) adds.is }
 
 -- ---- what the set-up came to
 

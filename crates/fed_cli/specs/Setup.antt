@@ -104,12 +104,14 @@ pub record Begins (owner : List ℕ) (source script : Option (List ℕ)) (came :
   pub replays : ReplaysInit first owner script came after
 
 -- Why a program does not begin, of whose init file these bytes were read: memory was refused, a line of the set-up of its list was
--- refused, its init file could not be read, or its replay came to that fault.
+-- refused, its init file could not be read once its first world was made, or its replay came to that fault.
 abbrev pub BeginsNot : Asked → Option (List ℕ) → RunFault → Type 0
 BeginsNot asked script faults.NoMemory = Unit {0}
 BeginsNot asked script (faults.CannotOpen told) =
     (asked.list ≡ Some told) × LacksDemo (empty_scene asked.owner.now) asked.owner.now told.now
-BeginsNot asked script (faults.CannotReadInit told) = (asked.init ≡ Some told) × (script ≡ None)
+BeginsNot asked script (faults.CannotReadInit told) =
+    (asked.init ≡ Some told) × (script ≡ None)
+    × ((first : Scene) × IsFirst asked.owner.now (option_map (λ s. s.now) asked.list) first)
 BeginsNot asked script faults.InitNotText =
     IsReadOf asked.init script
     × ((after : Scene) × Begins asked.owner.now (option_map (λ s. s.now) asked.list) script (Err faults.InitNotText) after)

@@ -14,7 +14,7 @@ returns-in-Err g c =
 pub returns-in-Err-read_init : goal.returns-in-Err-read_init
 returns-in-Err-read_init g c =
     not_begun c.args.asked _ _ _ _ _ _ c.not_begun-in-Err-read_init.ensures.came c.not_begun-in-Err-read_init.ensures.sources
-    (subst (λ s. BeginsNot c.args.asked (option_map (λ v. v.items) s) c.in-Err-read_init.fault) (sym c.not_begun-in-Err-read_init.ensures.script) (not_read c.args.asked _ c.in-Err-read_init.ensures.refused)) refl refl
+    (subst (λ s. BeginsNot c.args.asked (option_map (λ v. v.items) s) c.in-Err-read_init.fault) (sym c.not_begun-in-Err-read_init.ensures.script) (not_read c.args.asked _ _ c.in-Ok.ensures.first.2 c.in-Err-read_init.ensures.refused)) refl refl
 
 -- its replay was refused
 pub returns-in-Err-replay_init : goal.returns-in-Err-replay_init
