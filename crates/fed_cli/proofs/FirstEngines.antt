@@ -60,7 +60,9 @@ nothing_there e owner sound agrees = none_of e.labels e.boxes sound.places agree
 
 -- its scene is the empty one
 pub is_empty : (owner : List ℕ) (s : Scene) → s.world ≡ empty_world owner → s.boxes ≡ [] → s ≡ empty_scene owner
-is_empty owner s world boxes = cc
+is_empty owner s world boxes =
+    ap (λ (w : World). let all : Scene = record { world = w; boxes = s.boxes } in all) world
+    ∙ ap (λ (bs : List (Option BoxState)). let all : Scene = record { world = empty_world owner; boxes = bs } in all) boxes
 
 -- no list is asked
 pub first_of_none : (owner : List ℕ) (o : Option (Bor (List ℕ))) (first : Scene) → ((x : Bor (List ℕ)) → o ≡ Some x → ⊥) → first ≡ empty_scene owner
