@@ -1,7 +1,7 @@
-mod Lists
-mod Named
+pub mod Lists
+pub mod Named
 mod Kept
-mod Faring
+pub mod Faring
 mod Told
 mod Altered
 mod Objecting

@@ -1,0 +1,98 @@
+use Rattle.std.proofs.Common.{◌≡◌, true, false, Option, Some, None, subst, refl, is_some, option_map, sym, ap, ◌∙◌, rules}
+use Rattle.command_parser.specs.CommandTree.{on_data, on_objects, command_tree}
+use Rattle.command_parser.specs.CommandGrammar.{HasCommand}
+use Rattle.command_parser.specs.declared.command.Command.{Command}
+use Rattle.ddl_syntax.specs.DdlView.{ddl_tree}
+use Rattle.med_syntax.specs.QueryView.{statement_tree}
+use Rattle.bind_catalog.specs.Looked.{query_in}
+use Rattle.med_world.specs.Engine.{user_of}
+use Rattle.med_world.specs.Laws.{IsRead}
+use Rattle.med_engine.specs.Shows.{shown}
+use Rattle.med_engine.proofs.Leading.{read_query}
+use Rattle.med_engine.proofs.Tables.{all_bound}
+use Rattle.med_engine.proofs.engine.Engine.statement.Goals as goal
+
+same_some : {X Y : Type 0} (f : X → Y) (o : Option X) → is_some (option_map f o) ≡ is_some o
+same_some f None = refl
+same_some f (Some x) = refl
+
+pub returns-in_default-clause-leads : goal.returns-in_default-clause-leads
+returns-in_default-clause-leads g c =
+    let e = shown g.W.Wrapper.meaning c.args.self.now in
+    let none : is_some c.user_in.result ≡ false = search rules in
+    c.statements_are_refused.ensures.not_open e c.args.sid.number c.args.text.now c.args.sid.in_range (ap is_some (sym c.user_in.ensures) ∙ same_some _ c.user_in.result ∙ none)
+
+pub returns-in-Err-clause-leads : goal.returns-in-Err-clause-leads
+returns-in-Err-clause-leads g c =
+    let e = shown g.W.Wrapper.meaning c.args.self.now in
+    let is_open : is_some (user_of e.users c.args.sid.number) ≡ true = ap is_some (sym c.in-Some.ensures) in
+    c.statements_are_refused.ensures.not_read e c.args.sid.number c.args.text.now c.in-Err.cause c.args.sid.in_range is_open c.in-Err.ensures.refused
+
+pub run_select-requires-clause-tables : goal.run_select-requires-clause-tables
+run_select-requires-clause-tables g c = rw c.deref.ensures.value (all_bound (shown g.W.Wrapper.meaning c.args.self.now) c.requires)
+
+pub returns-in-Ok-run_select-clause-sound : goal.returns-in-Ok-run_select-clause-sound
+returns-in-Ok-run_select-clause-sound g c =
+    c.queries_lead.ensures.answered_sound (shown g.W.Wrapper.meaning c.args.self.now) _ c.in-Some.user.now (query_in (statement_tree c.in-Data.query)) _ _ c.requires (rw c.deref.ensures.value at c.in-Ok-run_select.ensures.ok)
+
+pub returns-in-Ok-run_select-clause-leads : goal.returns-in-Ok-run_select-clause-leads
+returns-in-Ok-run_select-clause-leads g c =
+    let e = shown g.W.Wrapper.meaning c.args.self.now in
+    let t = statement_tree c.in-Data.query in
+    let read : IsRead e c.args.sid.number c.args.text.now c.in-Some.user.now (on_data t) = record {
+      is_sid = c.args.sid.in_range;
+      is_user = sym c.in-Some.ensures;
+      clear = c.in-Ok.ensures.clear;
+      has = subst (λ (x : Command). HasCommand c.args.text.now (command_tree x)) c.in-Data.is c.in-Ok.ensures.found;
+      one = c.one_tree.ensures c.args.text.now;
+    } in
+    c.queries_lead.ensures.answered e _ c.args.sid.number c.args.text.now c.in-Some.user.now (query_in t) _ _ (read_query e c.args.sid.number c.args.text.now c.in-Some.user.now t read)
+    (rw c.deref.ensures.value at c.in-Ok-run_select.ensures.ok)
+
+pub returns-in-Data-clause-sound : goal.returns-in-Data-clause-sound
+returns-in-Data-clause-sound g c =
+    c.queries_lead.ensures.refused_sound (shown g.W.Wrapper.meaning c.args.self.now) _ c.in-Some.user.now (query_in (statement_tree c.in-Data.query)) _ c.requires (rw c.deref.ensures.value at c.in-Err-run_select.ensures.err)
+
+pub returns-in-Data-clause-leads : goal.returns-in-Data-clause-leads
+returns-in-Data-clause-leads g c =
+    let e = shown g.W.Wrapper.meaning c.args.self.now in
+    let t = statement_tree c.in-Data.query in
+    let read : IsRead e c.args.sid.number c.args.text.now c.in-Some.user.now (on_data t) = record {
+      is_sid = c.args.sid.in_range;
+      is_user = sym c.in-Some.ensures;
+      clear = c.in-Ok.ensures.clear;
+      has = subst (λ (x : Command). HasCommand c.args.text.now (command_tree x)) c.in-Data.is c.in-Ok.ensures.found;
+      one = c.one_tree.ensures c.args.text.now;
+    } in
+    c.queries_lead.ensures.refused e _ c.args.sid.number c.args.text.now c.in-Some.user.now (query_in t) _ (read_query e c.args.sid.number c.args.text.now c.in-Some.user.now t read)
+    (rw c.deref.ensures.value at c.in-Err-run_select.ensures.err)
+
+pub returns-in-Ok-alter-clause-leads : goal.returns-in-Ok-alter-clause-leads
+returns-in-Ok-alter-clause-leads g c =
+    let e = shown g.W.Wrapper.meaning c.args.self.now in
+    let d = ddl_tree c.in-Ddl.ddl in
+    let read : IsRead e c.args.sid.number c.args.text.now c.in-Some.user.now (on_objects d) = record {
+      is_sid = c.args.sid.in_range;
+      is_user = sym c.in-Some.ensures;
+      clear = c.in-Ok.ensures.clear;
+      has = subst (λ (x : Command). HasCommand c.args.text.now (command_tree x)) c.in-Ddl.is c.in-Ok.ensures.found;
+      one = c.one_tree.ensures c.args.text.now;
+    } in
+    c.changes_lead.ensures.done e _ c.args.sid.number c.args.text.now c.in-Some.user.now d read c.requires (rw (c.as_str.ensures.value, c.in-Ok-from_str.ensures.ok) at c.in-Ok-alter.ensures.ok)
+
+pub returns-clause-sound : goal.returns-clause-sound
+returns-clause-sound g c =
+    c.changes_lead.ensures.refused_sound (shown g.W.Wrapper.meaning c.args.self.now) _ _ (ddl_tree c.in-Ddl.ddl) c.in-Err-alter.cause c.requires c.in-Err-alter.ensures.err
+
+pub returns-clause-leads : goal.returns-clause-leads
+returns-clause-leads g c =
+    let e = shown g.W.Wrapper.meaning c.args.self.now in
+    let d = ddl_tree c.in-Ddl.ddl in
+    let read : IsRead e c.args.sid.number c.args.text.now c.in-Some.user.now (on_objects d) = record {
+      is_sid = c.args.sid.in_range;
+      is_user = sym c.in-Some.ensures;
+      clear = c.in-Ok.ensures.clear;
+      has = subst (λ (x : Command). HasCommand c.args.text.now (command_tree x)) c.in-Ddl.is c.in-Ok.ensures.found;
+      one = c.one_tree.ensures c.args.text.now;
+    } in
+    c.changes_lead.ensures.refused e _ c.args.sid.number c.args.text.now c.in-Some.user.now d c.in-Err-alter.cause read c.requires (rw (c.as_str.ensures.value, c.in-Ok-from_str.ensures.ok) at c.in-Err-alter.ensures.err)

@@ -1,0 +1,12 @@
+pub use Rattle.med_world.specs.Requests
+pub use Rattle.med_world.specs.World
+pub use Rattle.med_world.specs.Causes
+pub use Rattle.med_world.specs.Replies
+pub use Rattle.med_world.specs.Steps
+pub use Rattle.med_world.specs.Engine
+pub mod Asking
+pub mod Shows
+pub mod Outcomes
+pub mod Adding
+pub mod Binding
+pub mod Tables

@@ -1,0 +1,28 @@
+-- What an outcome tells, and how it is written.
+use Rattle.std.specs.Prelude.{◌≡◌, ◌⊎◌, ℕ, List, ◌++◌, map, codes, string_bytes}
+use Rattle.med_value.specs.Datum.{tuple}
+use Rattle.med_value.specs.declared.cause.Cause.TheVariants.{OutOfMemory}
+use Rattle.ddl_syntax.specs.DdlView.{ddl_tree}
+use Rattle.med_world.specs.Replies.{Reply, done, answered, refused, reply_text}
+use Rattle.med_world.specs.Steps.{ddl_tag}
+use Rattle.med_engine.specs.declared.replies.Outcome.{Outcome}
+use Rattle.med_engine.specs.declared.replies.Outcome.TheVariants.{Opened, Closed, Changed, Rows, Refused}
+
+abbrev pub reply_of : Outcome → Reply
+reply_of Opened = done (codes "OPEN")
+reply_of Closed = done (codes "BYE")
+reply_of (Changed d) = done (ddl_tag (ddl_tree d))
+reply_of (Rows set) = answered (codes "SELECT") (map string_bytes set.names.items) (map tuple set.rows.items)
+reply_of (Refused c) = refused c
+
+-- rows, for whose text memory may be refused
+abbrev pub HasRows : Reply → Type 0
+HasRows (done tag) = ⊥
+HasRows (answered word names rows) = Unit {0}
+HasRows (refused c) = ⊥
+
+-- the text of the reply stands behind what was there, or that of want of memory in place of rows
+pub record Tells (sid : ℕ) (meant : Reply) (old new : List ℕ) : Type 0 where
+  pub reply : Reply
+  pub is : new ≡ old ++ reply_text sid reply
+  pub meant_so : (reply ≡ meant) ⊎ (HasRows meant × (reply ≡ refused OutOfMemory))

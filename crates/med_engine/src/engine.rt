@@ -1,0 +1,221 @@
+//! The engine.
+ghost use Rattle.std.specs.Prelude.{◌≡◌, ◌<◌, ◌+◌, ◌++◌, ℕ, List, IfOk, IfErr, OnOk, OnErr, IsErrOf, vec_len, vec_capacity};
+
+use crate::places::{close_all, closed_sessions, is_open, set_user, user_in};
+use crate::replies::{Outcome, write_reply};
+use crate::session::{NoRoom, Request, Sid};
+use crate::sources::NamedSource;
+use crate::users::is_user;
+use bind_catalog::BoundTable;
+use command_parser::{Command, one_tree, parse};
+use fdw_api::interface::Wrapper;
+use med_catalog::Catalog;
+use med_select::run_select;
+use med_value::Cause;
+use med_world::law::{
+    changes_lead, engines_begin, queries_lead, sessions_end, sessions_lead, statements_are_refused,
+};
+use std::alloc::Global;
+use thiserror::Error;
+
+/// The room in the output that is taken before a request is begun.
+const ROOM: usize = 128;
+
+/// An engine over boxed sources: the catalogue of their objects, where its foreign tables are bound, and 64 sessions.
+#[derive(Drop)]
+pub struct Engine<W> {
+    pub(crate) catalog: Catalog,
+    pub(crate) sources: Vec<NamedSource>,
+    pub(crate) slots: Vec<Option<W>>,
+    pub(crate) bound: Vec<BoundTable>,
+    pub(crate) users: Vec<Option<String>>,
+}
+
+/// Why no engine was made.
+#[derive(Clone, Copy, Debug, PartialEq, Eq, Error)]
+pub enum NewFault {
+    /// Memory was refused.
+    #[error("out of memory")]
+    NoMemory,
+    /// The owner is no user's name.
+    #[error("bad name")]
+    BadName,
+}
+
+impl<W: Wrapper> Engine<W> {
+    ghost use Rattle.med_engine.specs.Asking.{asked};
+    ghost use Rattle.med_engine.specs.Outcomes.{reply_of};
+    ghost use Rattle.med_engine.specs.Shows.{shown};
+    ghost use Rattle.med_world.specs.Engine.{IsSound, Agrees, Leads, IsAnswered, Closes, ClosesAll};
+    ghost use Rattle.med_world.specs.Requests.{IsUser, opening, sql, bye};
+    ghost use Rattle.med_world.specs.World.{empty_world};
+
+    /// An engine with no object and no source, and every session closed.
+    ///
+    /// `BadName` exactly where the owner is no user: `[a-z_][a-z0-9_]*` of 1 to 63 bytes, and neither `public`, `user` nor
+    /// `current_user`.
+    pub fn new(alloc: Global, owner: &str) -> Result<Engine<W>, NewFault>
+        ensures sound { IfOk result (λ e. IsSound (shown W.meaning e)) }
+        ensures empty { IfOk result (λ e. Agrees (shown W.meaning e) (empty_world owner.now)) }
+        ensures owner { IfOk result (λ e. (shown W.meaning e).catalog.owner ≡ owner.now) }
+        ensures bad_name { IfErr result (λ fault. fault ≡ NewFault.BadName → IsUser owner.now → ⊥) }
+        ensures no_user { (IsUser owner.now → ⊥) → IsErrOf result NewFault.BadName }
+    {
+        if !is_user(owner) {
+            return Err(NewFault::BadName);
+        }
+        engines_begin();
+        let Ok(catalog) = Catalog::new(alloc, owner) else {
+            return Err(NewFault::NoMemory);
+        };
+        let Ok(users) = closed_sessions(alloc) else {
+            return Err(NewFault::NoMemory);
+        };
+        Ok(Engine {
+            catalog,
+            sources: Vec::new(alloc),
+            slots: Vec::new(alloc),
+            bound: Vec::new(alloc),
+            users,
+        })
+    }
+
+    /// The user who may make and drop objects.
+    pub fn owner(&self) -> &str
+        ensures { result.now ≡ (shown W.meaning self.now).catalog.owner }
+    {
+        self.catalog.owner()
+    }
+
+    /// Answers one request of a session: the reply is put behind what `out` has.
+    ///
+    /// `NoRoom` where room for 128 bytes is refused before the request is begun. Then nothing was done, and the output had not the
+    /// room for 128 bytes more: a caller that leaves that room never meets it. Where a later growth is refused, the reply is 53200,
+    /// for which that room is enough.
+    pub fn request(
+        &mut self,
+        sid: Sid,
+        request: Request<'_>,
+        out: &mut Vec<u8>,
+    ) -> Result<(), NoRoom>
+        requires { IsSound (shown W.meaning self.old) }
+        ensures sound { IsSound (shown W.meaning self.new) }
+        ensures answered { OnOk result ((text : List ℕ) × (out.new.items ≡ out.old.items ++ text)
+            × IsAnswered (shown W.meaning self.old) sid.number (asked request.entry) text (shown W.meaning self.new)) }
+        ensures no_room { OnErr result ((self.new ≡ self.old) × (out.new.items ≡ out.old.items)) }
+        ensures full { OnErr result (vec_capacity out.old < vec_len out.old + 128) }
+    {
+        if out.reserve(ROOM).is_err() {
+            return Err(NoRoom);
+        }
+        let outcome = self.answer(sid, request);
+        write_reply(*self.users.allocator(), sid.number, &outcome, out);
+        Ok(())
+    }
+
+    /// Closes a session. It always succeeds, also where the session is closed.
+    pub fn close_session(&mut self, sid: Sid)
+        requires { IsSound (shown W.meaning self.old) }
+        ensures sound { IsSound (shown W.meaning self.new) }
+        ensures closes { Closes (shown W.meaning self.old) sid.number (shown W.meaning self.new) }
+    {
+        sessions_end();
+        set_user(&mut self.users, sid, None);
+    }
+
+    /// Closes every session. It always succeeds.
+    pub fn close_sessions(&mut self)
+        requires { IsSound (shown W.meaning self.old) }
+        ensures sound { IsSound (shown W.meaning self.new) }
+        ensures closes { ClosesAll (shown W.meaning self.old) (shown W.meaning self.new) }
+    {
+        sessions_end();
+        close_all(&mut self.users);
+    }
+
+    // Does a request.
+    fn answer(&mut self, sid: Sid, request: Request<'_>) -> Outcome
+        requires { IsSound (shown W.meaning self.old) }
+        ensures sound { IsSound (shown W.meaning self.new) }
+        ensures leads { Leads (shown W.meaning self.old) sid.number (asked request.entry) (reply_of result) (shown W.meaning self.new) }
+    {
+        match request {
+            Request::Open(user) => self.open(sid, user),
+            Request::Sql(text) => self.statement(sid, text),
+            Request::Bye => self.bye(sid),
+        }
+    }
+
+    // Opens a session.
+    fn open(&mut self, sid: Sid, user: &str) -> Outcome
+        requires { IsSound (shown W.meaning self.old) }
+        ensures sound { IsSound (shown W.meaning self.new) }
+        ensures leads { Leads (shown W.meaning self.old) sid.number (opening user.now) (reply_of result) (shown W.meaning self.new) }
+    {
+        sessions_lead();
+        if is_open(&self.users, sid) || !is_user(user) {
+            return Outcome::Refused(Cause::Protocol);
+        }
+        match String::from_str(*self.users.allocator(), user) {
+            Ok(name) => {
+                set_user(&mut self.users, sid, Some(name));
+                Outcome::Opened
+            }
+            Err(_) => Outcome::Refused(Cause::OutOfMemory),
+        }
+    }
+
+    // Closes a session.
+    fn bye(&mut self, sid: Sid) -> Outcome
+        requires { IsSound (shown W.meaning self.old) }
+        ensures sound { IsSound (shown W.meaning self.new) }
+        ensures leads { Leads (shown W.meaning self.old) sid.number bye (reply_of result) (shown W.meaning self.new) }
+    {
+        sessions_lead();
+        let was_open = is_open(&self.users, sid);
+        if !was_open {
+            return Outcome::Refused(Cause::NoConnection);
+        }
+        set_user(&mut self.users, sid, None);
+        Outcome::Closed
+    }
+
+    // Does a statement.
+    fn statement(&mut self, sid: Sid, text: &str) -> Outcome
+        requires { IsSound (shown W.meaning self.old) }
+        ensures sound { IsSound (shown W.meaning self.new) }
+        ensures leads { Leads (shown W.meaning self.old) sid.number (sql text.now) (reply_of result) (shown W.meaning self.new) }
+    {
+        statements_are_refused();
+        let Some(user) = user_in(&self.users, sid) else {
+            return Outcome::Refused(Cause::NoConnection);
+        };
+        let alloc = *self.users.allocator();
+        one_tree();
+        let command = match parse(alloc, text) {
+            Ok(command) => command,
+            Err(cause) => return Outcome::Refused(cause),
+        };
+        queries_lead();
+        changes_lead();
+        sessions_lead();
+        match command {
+            Command::Data(query) => {
+                let slots = &mut self.slots;
+                match run_select(slots, &self.catalog, &self.bound, alloc, user, &query) {
+                    Ok(set) => Outcome::Rows(set),
+                    Err(cause) => Outcome::Refused(cause),
+                }
+            }
+            Command::Ddl(ddl) => {
+                let Ok(name) = String::from_str(alloc, user) else {
+                    return Outcome::Refused(Cause::OutOfMemory);
+                };
+                match self.alter(alloc, name.as_str(), &ddl) {
+                    Ok(()) => Outcome::Changed(ddl),
+                    Err(cause) => Outcome::Refused(cause),
+                }
+            }
+        }
+    }
+}

@@ -1,0 +1,17 @@
+//! The engine: sessions over a catalogue of objects and boxed sources.
+#![tactic(auto)]
+
+pub mod adding;
+mod altering;
+mod binding;
+pub mod engine;
+mod places;
+mod replies;
+pub mod session;
+pub mod sources;
+pub mod users;
+
+pub use adding::{AddFault, Sources};
+pub use engine::{Engine, NewFault};
+pub use med_catalog::SourceKind;
+pub use session::{NoRoom, Request, Sid};

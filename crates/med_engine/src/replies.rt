@@ -1,0 +1,193 @@
+//! Replies to requests, and their text.
+ghost use Rattle.std.specs.Prelude.{◌≡◌, ◌+◌, ◌≤◌, ◌++◌, ◌∷◌, [], ℕ, flat_map, length, map, IfOk, OnOk, string_bytes, vec_len, vec_capacity, codes, decimal};
+ghost use Rattle.med_value.specs.Datum.{tuple};
+ghost use Rattle.med_value.specs.Text.{escaped_text};
+ghost use Rattle.med_world.specs.Replies.{reply_text, done, answered, refused, header, line, row_line, tag_line, rows_tag};
+ghost use Rattle.ddl_syntax.specs.DdlView.{ddl_tree};
+ghost use Rattle.med_engine.specs.Outcomes.{Tells, reply_of};
+ghost use Rattle.med_world.specs.Steps.{ddl_tag};
+
+use ddl_syntax::Ddl;
+use itoa::Buffer;
+use med_select::RowSet;
+use med_value::text::{escaped_text, row_text};
+use med_value::{Cause, NoMemory, Row};
+use std::alloc::Global;
+
+/// What a request is answered with.
+#[derive(Drop)]
+pub enum Outcome {
+    /// The session was opened.
+    Opened,
+    /// The session was closed.
+    Closed,
+    /// A statement on objects was done.
+    Changed(Ddl),
+    /// The rows of a query.
+    Rows(RowSet),
+    /// Why it was refused.
+    Refused(Cause),
+}
+
+// Appends bytes for which there is room.
+fn put(bytes: &[u8], out: &mut Vec<u8>)
+    requires { vec_len out.old + length bytes.now ≤ vec_capacity out.old }
+    ensures items { out.new.items ≡ out.old.items ++ bytes.now }
+    ensures len { vec_len out.new ≡ vec_len out.old + length bytes.now }
+    ensures capacity { vec_capacity out.old ≤ vec_capacity out.new }
+{
+    match out.extend_from_slice(bytes) {
+        Ok(()) => {}
+        Err(_) => unreachable!(),
+    }
+}
+
+// Writes the reply of a tag alone.
+fn write_tag(sid: u8, tag: &[u8], out: &mut Vec<u8>)
+    requires room { vec_len out.old + 128 ≤ vec_capacity out.old }
+    requires short { length tag.now ≤ 32 }
+    ensures { out.new.items ≡ out.old.items ++ reply_text sid (done tag.now) }
+{
+    let mut buffer = Buffer::new();
+    put(buffer.format(sid).as_bytes(), out);
+    put(b" T ", out);
+    put(tag, out);
+    put(b"\n", out);
+}
+
+// Writes the tag of a statement on objects.
+fn write_change(sid: u8, ddl: &Ddl, out: &mut Vec<u8>)
+    requires { vec_len out.old + 128 ≤ vec_capacity out.old }
+    ensures { out.new.items ≡ out.old.items ++ reply_text sid (done (ddl_tag (ddl_tree ddl.now))) }
+{
+    match ddl {
+        Ddl::CreateWrapper(_) => write_tag(sid, b"CREATE FOREIGN DATA WRAPPER", out),
+        Ddl::CreateServer(_) => write_tag(sid, b"CREATE SERVER", out),
+        Ddl::CreateMapping(_) => write_tag(sid, b"CREATE USER MAPPING", out),
+        Ddl::CreateTable(_) => write_tag(sid, b"CREATE FOREIGN TABLE", out),
+        Ddl::DropWrapper(_) => write_tag(sid, b"DROP FOREIGN DATA WRAPPER", out),
+        Ddl::DropServer(_) => write_tag(sid, b"DROP SERVER", out),
+        Ddl::DropTable(_) => write_tag(sid, b"DROP FOREIGN TABLE", out),
+        Ddl::DropMapping(_) => write_tag(sid, b"DROP USER MAPPING", out),
+    }
+}
+
+// Writes a refusal.
+fn write_refusal(sid: u8, cause: Cause, out: &mut Vec<u8>)
+    requires { vec_len out.old + 128 ≤ vec_capacity out.old }
+    ensures { out.new.items ≡ out.old.items ++ reply_text sid (refused cause) }
+{
+    let mut buffer = Buffer::new();
+    put(buffer.format(sid).as_bytes(), out);
+    put(b" E ", out);
+    put(cause.code().as_bytes(), out);
+    put(b" ", out);
+    put(cause.name().as_bytes(), out);
+    put(b"\n", out);
+}
+
+// Appends the number of a session, and what a line of it begins with.
+fn append_start(sid: u8, begins: &[u8], text: &mut Vec<u8>) -> Result<(), NoMemory>
+    ensures { OnOk result (text.new.items ≡ text.old.items ++ decimal sid ++ codes " " ++ begins.now) }
+{
+    let mut buffer = Buffer::new();
+    text.extend_from_slice(buffer.format(sid).as_bytes())?;
+    text.push(b' ')?;
+    text.extend_from_slice(begins)?;
+    Ok(())
+}
+
+// Appends the line of output names.
+fn append_header(sid: u8, names: &[String], text: &mut Vec<u8>) -> Result<(), NoMemory>
+    ensures { OnOk result (text.new.items ≡ text.old.items ++ line sid (header (map string_bytes names.now))) }
+{
+    append_start(sid, b"H", text)?;
+    append_names(names, text)?;
+    text.push(b'\n')?;
+    Ok(())
+}
+
+// Appends a TAB and the escaped text of each name.
+fn append_names(names: &[String], text: &mut Vec<u8>) -> Result<(), NoMemory>
+    ensures { OnOk result (text.new.items ≡ text.old.items ++ flat_map (λ name. 9 ∷ escaped_text name) (map string_bytes names.now)) }
+{
+    for name in names {
+        text.push(b'\t')?;
+        escaped_text(name.as_str(), text)?;
+    }
+    Ok(())
+}
+
+// Appends the line of a row.
+fn append_row(sid: u8, row: &Row, text: &mut Vec<u8>) -> Result<(), NoMemory>
+    ensures { OnOk result (text.new.items ≡ text.old.items ++ line sid (row_line (tuple row.now))) }
+{
+    append_start(sid, b"R", text)?;
+    if !row.cells.is_empty() {
+        text.push(b'\t')?;
+        row_text(row, text)?;
+    }
+    text.push(b'\n')?;
+    Ok(())
+}
+
+// Appends the lines of rows.
+fn append_rows(sid: u8, rows: &[Row], text: &mut Vec<u8>) -> Result<(), NoMemory>
+    ensures { OnOk result (text.new.items ≡ text.old.items ++ flat_map (λ row. line sid (row_line row)) (map tuple rows.now)) }
+{
+    for row in rows {
+        append_row(sid, row, text)?;
+    }
+    Ok(())
+}
+
+// Appends the tag of a query that gave so many rows.
+fn append_count(sid: u8, count: usize, text: &mut Vec<u8>) -> Result<(), NoMemory>
+    ensures { OnOk result (text.new.items ≡ text.old.items ++ line sid (tag_line (rows_tag (codes "SELECT") count))) }
+{
+    let mut buffer = Buffer::new();
+    append_start(sid, b"T SELECT ", text)?;
+    text.extend_from_slice(buffer.format(count).as_bytes())?;
+    text.push(b'\n')?;
+    Ok(())
+}
+
+// The reply to a query.
+fn answer_text(alloc: Global, sid: u8, set: &RowSet) -> Result<Vec<u8>, NoMemory>
+    ensures { IfOk result (λ text. text.items
+        ≡ reply_text sid (answered (codes "SELECT") (map string_bytes set.now.names.items) (map tuple set.now.rows.items))) }
+{
+    let mut text = Vec::new(alloc);
+    append_header(sid, &set.names, &mut text)?;
+    append_rows(sid, &set.rows, &mut text)?;
+    append_count(sid, set.rows.len(), &mut text)?;
+    Ok(text)
+}
+
+// Writes the reply to a query, or that memory was refused.
+fn write_answer(alloc: Global, sid: u8, set: &RowSet, out: &mut Vec<u8>)
+    requires { vec_len out.old + 128 ≤ vec_capacity out.old }
+    ensures { Tells sid (answered (codes "SELECT") (map string_bytes set.now.names.items) (map tuple set.now.rows.items)) out.old.items out.new.items }
+{
+    match answer_text(alloc, sid, set) {
+        Ok(text) => match out.extend_from_slice(&text) {
+            Ok(()) => {}
+            Err(_) => write_refusal(sid, Cause::OutOfMemory, out),
+        },
+        Err(NoMemory) => write_refusal(sid, Cause::OutOfMemory, out),
+    }
+}
+
+/// Writes a reply whole behind what `out` has: that of the outcome, or 53200 in place of rows for which memory was refused.
+pub(crate) fn write_reply(alloc: Global, sid: u8, outcome: &Outcome, out: &mut Vec<u8>)
+    requires { vec_len out.old + 128 ≤ vec_capacity out.old }
+    ensures { Tells sid (reply_of outcome.now) out.old.items out.new.items }
+{
+    match outcome {
+        Outcome::Opened => write_tag(sid, b"OPEN", out),
+        Outcome::Closed => write_tag(sid, b"BYE", out),
+        Outcome::Changed(ddl) => write_change(sid, ddl, out),
+        Outcome::Rows(set) => write_answer(alloc, sid, set, out),
+        Outcome::Refused(cause) => write_refusal(sid, *cause, out),
+    }
+}

@@ -1,0 +1,40 @@
+//! Sessions and what they ask.
+ghost use Rattle.std.specs.Prelude.{◌≡◌, ◌-◌, ◌≤◌, is_some, map, option_map, slice_set, string_bytes, vec_len};
+
+/// The number of a session: 1 to 64.
+#[derive(Clone, Copy, Debug, PartialEq, Eq)]
+pub struct Sid {
+    pub number: u8,
+    ghost in_range: { (1 ≤ number) × (number ≤ 64) },
+}
+
+/// What a line asks.
+#[derive(Clone, Copy, Debug)]
+pub enum Request<'a> {
+    /// The session is opened for this user.
+    Open(&'a str),
+    /// The statement of this text is done.
+    Sql(&'a str),
+    /// The session is closed.
+    Bye,
+}
+
+/// Room in the output was refused, and nothing was done.
+#[derive(Clone, Copy, Debug, PartialEq, Eq)]
+pub struct NoRoom;
+
+impl Sid {
+    ghost use Rattle.std.specs.Prelude.{◌↔◌, IsSome, IfSome};
+    ghost use Rattle.med_world.specs.Requests.{IsSid};
+
+    /// The session of this number, where there is one.
+    pub fn new(number: u8) -> Option<Sid>
+        ensures exact { IsSome result ↔ IsSid number }
+        ensures number { IfSome result (λ sid. sid.number ≡ number) }
+    {
+        if number < 1 || 64 < number {
+            return None;
+        }
+        Some(Sid { number })
+    }
+}

@@ -1,0 +1,36 @@
+//! Names of users.
+ghost use Rattle.std.specs.Prelude.{◌≡◌, ◌↔◌, IsTrue};
+ghost use Rattle.std.specs.List.{list_all};
+ghost use Rattle.med_world.specs.Requests.{IsUser, starts_user, in_user};
+
+/// Whether a text is the name of a user.
+pub fn is_user(name: &str) -> bool
+    ensures { IsTrue result ↔ IsUser name.now }
+{
+    let bytes = name.as_bytes();
+    if bytes.is_empty() || bytes.len() > 63 || !starts_user(bytes[0]) {
+        return false;
+    }
+    if name == "public" || name == "user" || name == "current_user" {
+        return false;
+    }
+    all_in_user(bytes)
+}
+
+fn all_in_user(bytes: &[u8]) -> bool
+    ensures { result ≡ list_all in_user bytes.now }
+{
+    bytes.iter().all(|b| in_user(*b))
+}
+
+fn starts_user(b: u8) -> bool
+    ensures { result ≡ starts_user b }
+{
+    b.is_ascii_lowercase() || b == b'_'
+}
+
+fn in_user(b: u8) -> bool
+    ensures { result ≡ in_user b }
+{
+    starts_user(b) || b.is_ascii_digit()
+}
