@@ -5,7 +5,10 @@ use Rattle.fdw_api.specs.Kinds.{Column, Setting}
 use Rattle.fdw_api.specs.State.{BoxState, IsIdle, set_at}
 use Rattle.fdw_api.specs.Calls.{CanBind, Binds, CanUnbind}
 use Rattle.med_exec.specs.Slots.{BoxAt, ChangesAt}
-use Rattle.med_session.specs.Engine.{TakesColumns}
+
+-- it objects to no columns without options
+abbrev pub TakesColumns : BoxState → Type 0
+TakesColumns s = (columns : List Column) → s.nature.kind.objections columns [] ≡ []
 
 some_inj : {A : Type 0} (a b : A) → Some a ≡ Some b → a ≡ b
 some_inj a b e = cc

@@ -81,7 +81,7 @@ fn answered<W: Wrapper>(alloc: Global, list: W, stream: &[u8]) -> Result<Vec<u8>
     let Ok(mut engine) = Engine::<W>::new(alloc, "admin") else {
         return Err(RunFault::NoMemory);
     };
-    add_demo(alloc, &mut engine, "demo", list)?;
+    add_demo(alloc, &mut engine, "admin", "demo", list)?;
     let mut out = Vec::new(alloc);
     let mut input = stream;
     let (ended, _) = serve_engine(alloc, engine, &mut input, &mut out);

@@ -1,6 +1,7 @@
 //! Memory that is refused in mid-stream, over the demo list.
 ghost use Rattle.std.specs.Prelude.{IfOk};
-ghost use Rattle.med_session.specs.Engine.{shown, IsSound};
+ghost use Rattle.med_session.specs.Engine.{IsSound};
+ghost use Rattle.med_session.specs.Shows.{shown};
 ghost use Rattle.list_wrapper.specs.ListBoxes.{box_of};
 ghost use Rattle.session_wire.specs.Servers.{handler_of};
 

@@ -1,5 +1,6 @@
 //! A stored stream and its answer, and a server over an engine that has the demo list.
-ghost use Rattle.med_session.specs.Engine.{shown, IsSound};
+ghost use Rattle.med_session.specs.Engine.{IsSound};
+ghost use Rattle.med_session.specs.Shows.{shown};
 ghost use Rattle.list_wrapper.specs.ListBoxes.{box_of};
 ghost use Rattle.session_wire.specs.Servers.{handler_of};
 ghost use Rattle.std.specs.Prelude.{IfOk};
@@ -29,7 +30,7 @@ pub fn demo_engine(alloc: Global) -> Result<Engine<ListWrapper>, RunFault<'stati
         return Err(RunFault::NoMemory);
     };
     let list = ListWrapper::new(alloc, demo_tables(alloc)?)?;
-    add_demo(alloc, &mut engine, "demo", list)?;
+    add_demo(alloc, &mut engine, "admin", "demo", list)?;
     Ok(engine)
 }
 

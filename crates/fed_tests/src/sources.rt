@@ -1,5 +1,6 @@
 //! A source that fails once, at each of its calls in turn.
-ghost use Rattle.med_session.specs.Engine.{shown, IsSound};
+ghost use Rattle.med_session.specs.Engine.{IsSound};
+ghost use Rattle.med_session.specs.Shows.{shown};
 ghost use Rattle.probe_wrapper.specs.Failing.{failed};
 ghost use Rattle.list_wrapper.specs.ListBoxes.{box_of};
 ghost use Rattle.std.specs.Prelude.{IfOk};
@@ -30,7 +31,7 @@ fn failing_engine(
         return Err(RunFault::NoMemory);
     };
     let list = Failing::new(ListWrapper::new(alloc, demo_tables(alloc)?)?, passes);
-    add_demo(alloc, &mut engine, "demo", list)?;
+    add_demo(alloc, &mut engine, "admin", "demo", list)?;
     Ok(engine)
 }
 

@@ -5,4 +5,4 @@ pub bind_at-requires : goal.bind_at-requires
 bind_at-requires g = new_can_bind _ 1 _ _ g.in_ok-slots.ensures
 
 pub unbind_at-requires : goal.unbind_at-requires
-unbind_at-requires g = bound_rests _ _ 1 _ _ _ _ g.in_ok-slots.ensures g.in_ok-parts.ensures.ok
+unbind_at-requires g = bound_rests _ _ 1 _ _ _ _ g.in_ok-slots.ensures g.in_ok-orders.ensures.ok

@@ -1,0 +1,4 @@
+mod Rows
+mod ListTakes
+mod CsvTakes
+mod JsonTakes
