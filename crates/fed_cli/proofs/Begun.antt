@@ -1,5 +1,5 @@
 -- A program that begins, or does not.
-use Rattle.std.proofs.Common.{◌≡◌, ℕ, List, Option, Some, None, option_map, Result, Ok, Err, Vec, Bor, refl, sym, ap, ◌∙◌, subst}
+use Rattle.std.proofs.Common.{◌≡◌, ℕ, List, Option, Some, None, option_map, Result, Ok, Err, Vec, refl, sym, subst}
 use Rattle.std.specs.Global.{Global}
 use Rattle.session_wire.specs.Worlds.{Scene, SceneSteps}
 use Rattle.fed_replay.specs.Replays.{Replays}
@@ -9,7 +9,7 @@ use Rattle.fed_replay.specs.declared.script.ScriptFault.TheVariants as scripts
 use Rattle.list_wrapper.specs.declared.list.ListWrapper.{ListWrapper}
 use Rattle.med_session.specs.declared.adding.Sources.{Sources}
 use Rattle.fed_cli.specs.Exits.{Runs}
-use Rattle.fed_cli.specs.Setup.{IsFirst, HasNoFirst, ReadsNot, IsReadOf, ReplaysInit, Begins, BeginsNot}
+use Rattle.fed_cli.specs.Setup.{IsFirst, HasNoFirst, ReadsNot, IsReadOf, ReplaysInit, BeginsNot}
 use Rattle.fed_cli.specs.Streams.{Stream, IsUntouched}
 use Rattle.fed_cli.specs.Told.{Came, replay_told}
 use Rattle.fed_cli.specs.declared.told.RunFault.{RunFault}

@@ -1,5 +1,5 @@
 -- The engine that a program begins with, and the demo list in it.
-use Rattle.std.proofs.Common.{◌≡◌, ◌≢◌, ◌<◌, arith, lit<, ℕ, Bool, true, false, List, [], ◌∷◌, ◌++◌, length, Option, Some, None, option_map, Result, Ok, Err, OnOk, IfErr, Bor, refl, sym, ap, ◌∙◌, subst}
+use Rattle.std.proofs.Common.{◌≡◌, ◌≢◌, arith, ℕ, Bool, true, false, List, [], ◌∷◌, ◌++◌, length, Option, Some, None, option_map, Result, Ok, Err, OnOk, IfErr, Bor, refl, sym, ap, ◌∙◌, subst}
 use Rattle.fdw_api.specs.Kinds.{Kind}
 use Rattle.fdw_api.specs.State.{BoxState}
 use Rattle.ddl_syntax.specs.DdlTree.{TableTree}

@@ -1,7 +1,3 @@
-use Rattle.std.proofs.Common.{subst, Some, option_map}
-use Rattle.session_wire.specs.Worlds.{scene_of, SceneSteps}
-use Rattle.fed_replay.specs.Engines.{SceneCloses}
-use Rattle.fed_replay.specs.Replays.{Replays}
 use Rattle.fed_cli.proofs.Begun.{replays_script}
 use Rattle.fed_cli.proofs.init.replay_init.Goals as goal
 

@@ -1,4 +1,4 @@
-use Rattle.std.proofs.Common.{◌∙◌, ℕ, Err, Ok, Result, refl, sym, subst}
+use Rattle.std.proofs.Common.{◌∙◌, ℕ, Result, refl, subst}
 use Rattle.med_catalog.specs.declared.kind.SourceKind.TheVariants.{List as Lists}
 use Rattle.med_world.specs.World.{with_source}
 use Rattle.session_wire.specs.Worlds.{scene_of}

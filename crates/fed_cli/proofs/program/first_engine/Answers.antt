@@ -1,7 +1,4 @@
-use Rattle.std.proofs.Common.{refl}
-use Rattle.list_wrapper.specs.ListBoxes.{box_of}
 use Rattle.med_world.specs.World.{empty_world}
-use Rattle.session_wire.specs.Worlds.{scene_of}
 use Rattle.fed_cli.proofs.FirstEngines.{nothing_there, is_empty, first_of_none, first_of_list, no_first}
 use Rattle.fed_cli.proofs.program.first_engine.Goals as goal
 

@@ -1,7 +1,7 @@
-use Rattle.std.proofs.Common.{Ok, option_map, refl, sym, ap, subst, ◌∙◌}
+use Rattle.std.proofs.Common.{option_map, refl, sym, subst}
 use Rattle.list_wrapper.specs.ListBoxes.{box_of}
 use Rattle.session_wire.specs.Worlds.{scene_of}
-use Rattle.fed_cli.specs.Setup.{BeginsNot, ReplaysInit}
+use Rattle.fed_cli.specs.Setup.{BeginsNot}
 use Rattle.fed_cli.proofs.Begun.{not_begun, no_first_world, not_read, not_replayed}
 use Rattle.fed_cli.proofs.program.run_asked.Goals as goal
 
