@@ -1,1 +1,2 @@
 pub mod BenchRows
+pub mod Taking
