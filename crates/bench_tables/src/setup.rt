@@ -65,9 +65,9 @@ fn ask(
         unreachable!()
     };
     out.clear();
-    if engine.request(sid, request, out).is_err() {
+    let Ok(()) = engine.request(sid, request, out) else {
         return Err(BenchFault::NoMemory);
-    }
+    };
     if out.as_slice() != reply.as_bytes() {
         return Err(BenchFault::NotMade);
     }
@@ -109,7 +109,8 @@ fn make_tables(engine: &mut Engine<ListWrapper>, out: &mut Vec<u8>) -> Result<()
         "1 T CREATE FOREIGN TABLE\n",
         out,
     )?;
-    ask(engine, Request::Bye, "1 T BYE\n", out)
+    ask(engine, Request::Bye, "1 T BYE\n", out)?;
+    Ok(())
 }
 
 /// An engine over the list `bench` of the tables for so many items, with the foreign tables items and others, and no open session.
