@@ -5,15 +5,17 @@ use Rattle.med_world.specs.World.{World}
 use Rattle.bench_tables.specs.Setup.{Exchange, Answers, AnswersAll}
 
 -- from a world of the first engine the lines lead to one of the second
-abbrev pub Makes : Shown → List Exchange → Shown → Type 0
-Makes a xs b = (w : World) → Agrees a w → (after : World) × AnswersAll w xs after × Agrees b after
+pub record Makes (a : Shown) (xs : List Exchange) (b : Shown) : Type 0 where
+  pub leads : (w : World) → Agrees a w → (after : World) × AnswersAll w xs after × Agrees b after
 
 pub no_more : (a : Shown) → Makes a [] a
-no_more a = λ w h. (w, refl, h)
+no_more a = record { leads = λ w h. (w, refl, h) }
 
 pub one_more : (a b c : Shown) (x : Exchange) (xs : List Exchange) → ((w : World) → Agrees a w → (after : World) × Answers w x after × Agrees b after)
     → Makes b xs c → Makes a (x ∷ xs) c
-one_more a b c x xs first rest = λ w h.
-    let one = first w h in
-    let two = rest one.0 one.2 in
-    (two.0, (one.0, one.1, two.1), two.2)
+one_more a b c x xs first rest = record {
+  leads = λ w h.
+      let one = first w h in
+      let two = rest.leads one.0 one.2 in
+      (two.0, (one.0, one.1, two.1), two.2);
+}
