@@ -1,1 +1,3 @@
 pub mod BenchRows
+pub mod Making
+pub mod Taking

@@ -2,9 +2,7 @@
 use Rattle.std.specs.Prelude.{ℕ, ◌*◌, ◌/◌, ◌%◌, ◌==◌, pos, false, List, [], ◌∷◌, ◌++◌, map, codes, decimal, if◌then◌else◌}
 use Rattle.std.specs.List.{range_with_len}
 use Rattle.med_value.specs.Datum.{Datum, NoValue, Whole, Chars, Logic, Tuple}
-use Rattle.med_value.specs.declared.value.ColType.{ColType}
 use Rattle.med_value.specs.declared.value.ColType.TheVariants as types
-use Rattle.fdw_api.specs.Kinds.{Column}
 use Rattle.list_wrapper.specs.Lists.{Listed}
 
 -- an item's name: `n` and its number modulo 1000
@@ -44,15 +42,3 @@ others count = record {
 
 abbrev pub bench_list : ℕ → List Listed
 bench_list count = items count ∷ others count ∷ []
-
-abbrev pub column : List ℕ → ColType → Column
-column name kind = record { name = name; kind = kind; not_null = false }
-
--- CREATE FOREIGN TABLE items (id integer, name text, qty integer, live boolean)
-abbrev pub items_columns : List Column
-items_columns =
-    column (codes "id") types.Int ∷ column (codes "name") types.Text ∷ column (codes "qty") types.Int ∷ column (codes "live") types.Bool ∷ []
-
--- CREATE FOREIGN TABLE others (no integer, item integer, n integer)
-abbrev pub others_columns : List Column
-others_columns = column (codes "no") types.Int ∷ column (codes "item") types.Int ∷ column (codes "n") types.Int ∷ []

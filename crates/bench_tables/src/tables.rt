@@ -1,12 +1,11 @@
-//! The tables that statements are measured over: items and others, and their columns as foreign tables.
+//! The tables that statements are measured over: items and others.
 ghost use Rattle.std.specs.Prelude.{◌≡◌, ◌∷◌, [], ◌≤◌, ◌/◌, IfOk, map};
-ghost use Rattle.fdw_api.specs.Kinds.{column_of};
 ghost use Rattle.med_value.specs.Datum.{datum, tuple};
 ghost use Rattle.list_wrapper.specs.Lists.{listed};
 ghost use Rattle.bench_tables.specs.Tables as spec;
 
 use list_wrapper::ListTable;
-use med_value::{ColType, ColumnDef, NoMemory, Row, Value};
+use med_value::{ColType, NoMemory, Row, Value};
 use std::alloc::Global;
 
 // The name of an item.
@@ -94,37 +93,4 @@ pub fn bench_tables(alloc: Global, count: u32) -> Result<Vec<ListTable>, NoMemor
         rows: others(alloc, count / 100)?,
     };
     Ok(vec![in alloc; items, others]?)
-}
-
-// A column that may have NULL.
-fn column(alloc: Global, name: &str, kind: ColType) -> Result<ColumnDef, NoMemory>
-    ensures { IfOk result (λ c. column_of c ≡ spec.column name.now kind) }
-{
-    let name = name.to_string(alloc)?;
-    Ok(ColumnDef {
-        name,
-        kind,
-        not_null: false,
-    })
-}
-
-/// The columns of items: id integer, name text, qty integer, live boolean. Refused only for want of memory.
-pub fn items_columns(alloc: Global) -> Result<Vec<ColumnDef>, NoMemory>
-    ensures { IfOk result (λ columns. map column_of columns.items ≡ spec.items_columns) }
-{
-    let id = column(alloc, "id", ColType::Int)?;
-    let name = column(alloc, "name", ColType::Text)?;
-    let quantity = column(alloc, "qty", ColType::Int)?;
-    let live = column(alloc, "live", ColType::Bool)?;
-    Ok(vec![in alloc; id, name, quantity, live]?)
-}
-
-/// The columns of others: no integer, item integer, n integer. Refused only for want of memory.
-pub fn others_columns(alloc: Global) -> Result<Vec<ColumnDef>, NoMemory>
-    ensures { IfOk result (λ columns. map column_of columns.items ≡ spec.others_columns) }
-{
-    let number = column(alloc, "no", ColType::Int)?;
-    let item = column(alloc, "item", ColType::Int)?;
-    let quantity = column(alloc, "n", ColType::Int)?;
-    Ok(vec![in alloc; number, item, quantity]?)
 }

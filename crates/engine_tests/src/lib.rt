@@ -10,3 +10,5 @@ mod frames;
 mod lines;
 #[cfg(test)]
 mod sessions;
+#[cfg(test)]
+mod sources;

@@ -1,5 +1,6 @@
 //! Replies of an engine that has no source.
-ghost use Rattle.med_session.specs.Engine.{shown, IsSound};
+ghost use Rattle.med_session.specs.Engine.{IsSound};
+ghost use Rattle.med_session.specs.Shows.{shown};
 
 use fdw_api::interface::Wrapper;
 use med_session::{Engine, NewFault, Request, Sid};

@@ -40,7 +40,7 @@ stream Write: write fault
 stream TooLong: too many reads
 stream NoRoom: out of memory
 measuring NoMemory: out of memory
-measuring NotAttached: tables not attached
+measuring NotMade: tables not made
 measuring Clock: clock fault
 measuring Write: write fault
 ";
@@ -113,7 +113,7 @@ fn tell_served(alloc: Global, out: &mut String) -> Result<(), Fail> {
 fn tell_measuring(alloc: Global, out: &mut String) -> Result<(), Fail> {
     let faults = [
         BenchFault::NoMemory,
-        BenchFault::NotAttached,
+        BenchFault::NotMade,
         BenchFault::Clock,
         BenchFault::Write,
     ];

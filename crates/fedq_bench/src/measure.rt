@@ -1,5 +1,6 @@
 //! One statement that is measured.
-ghost use Rattle.med_session.specs.Engine.{shown, IsSound};
+ghost use Rattle.med_session.specs.Engine.{IsSound};
+ghost use Rattle.med_session.specs.Shows.{shown};
 ghost use Rattle.list_wrapper.specs.ListBoxes.{box_of};
 
 use bench_tables::setup::{BenchFault, bench_engine};

@@ -64,8 +64,8 @@ fn assert_written_or_no_memory(alloc: Global, rt: &impl Abort, rows: &str) -> Re
     for row in rows.lines() {
         let (text, wanted) = row.split_once(" => ").ok_or(row)?;
         match parse(alloc, text) {
-            Ok(statement) => {
-                if let Ok(came) = print(alloc, &statement) {
+            Ok(command) => {
+                if let Ok(came) = print(alloc, &command) {
                     assert_eq!(rt; came.as_str(), wanted, "in {text}");
                 }
             }
@@ -85,6 +85,8 @@ fn refused_allocations(rt: HostRuntime) -> Result<(), Fail> {
         SELECT 1 FROM t AS u WHERE a IN (1, b, 'c') AND NOT d LIKE 'e' => SELECT 1 FROM \"t\" AS \"u\" WHERE \"a\" IN ( 1 , \"b\" , 'c' ) AND NOT \"d\" LIKE 'e'\n\
         SELECT -(a + 1) * -2 x WHERE a BETWEEN 1 AND b OR c IS NOT UNKNOWN OR t.d => SELECT - ( \"a\" + 1 ) * - 2 AS \"x\" WHERE \"a\" BETWEEN 1 AND \"b\" OR \"c\" IS NOT UNKNOWN OR \"t\" . \"d\"\n\
         SELECT DISTINCT 1 FROM t u JOIN v ON a LEFT JOIN w x ON b CROSS JOIN y, z => SELECT DISTINCT 1 FROM \"t\" AS \"u\" JOIN \"v\" ON \"a\" LEFT JOIN \"w\" AS \"x\" ON \"b\" CROSS JOIN \"y\" , \"z\"\n\
-        SELECT a GROUP BY a, t.b HAVING c ORDER BY a, b DESC NULLS LAST OFFSET 2 ROWS LIMIT 1 => SELECT \"a\" GROUP BY \"a\" , \"t\" . \"b\" HAVING \"c\" ORDER BY \"a\" ASC NULLS LAST , \"b\" DESC NULLS LAST LIMIT 1 OFFSET 2",
+        SELECT a GROUP BY a, t.b HAVING c ORDER BY a, b DESC NULLS LAST OFFSET 2 ROWS LIMIT 1 => SELECT \"a\" GROUP BY \"a\" , \"t\" . \"b\" HAVING \"c\" ORDER BY \"a\" ASC NULLS LAST , \"b\" DESC NULLS LAST LIMIT 1 OFFSET 2\n\
+        CREATE FOREIGN TABLE t (a text OPTIONS (b 'c') NOT NULL, d integer NULL) SERVER s OPTIONS (e 'f') => CREATE FOREIGN TABLE \"t\" ( \"a\" \"text\" OPTIONS ( \"b\" 'c' ) NOT NULL , \"d\" \"integer\" ) SERVER \"s\" OPTIONS ( \"e\" 'f' )\n\
+        DROP USER MAPPING IF EXISTS FOR u SERVER s; => DROP USER MAPPING IF EXISTS FOR \"u\" SERVER \"s\"",
     )
 }

@@ -1,6 +1,6 @@
 //! Statements read and written out.
 use crate::rows::{Answer, assert_row, assert_rows};
-use med_parser::{parse, print};
+use med_parser::{Command, parse, print};
 use std::alloc::Global;
 use std::test::Fail;
 
@@ -10,7 +10,7 @@ struct Printed;
 impl Answer for Printed {
     fn answer(alloc: Global, text: &str) -> Result<String, Fail> {
         match parse(alloc, text) {
-            Ok(statement) => Ok(print(alloc, &statement)?),
+            Ok(command) => Ok(print(alloc, &command)?),
             Err(cause) => Ok(format!(in alloc; "{cause:?}")?),
         }
     }
@@ -170,13 +170,53 @@ fn newlines_stand_between_tokens(rt: HostRuntime) -> Result<(), Fail> {
     )
 }
 
+#[test]
+fn objects(rt: HostRuntime) -> Result<(), Fail> {
+    assert_rows::<Printed>(
+        rt.alloc(),
+        &rt,
+        "CREATE FOREIGN DATA WRAPPER list HANDLER list => CREATE FOREIGN DATA WRAPPER \"list\" HANDLER \"list\"\n\
+        create foreign data wrapper \"L\" handler csv; => CREATE FOREIGN DATA WRAPPER \"L\" HANDLER \"csv\"\n\
+        CREATE SERVER demo FOREIGN DATA WRAPPER list OPTIONS (source 'demo') => CREATE SERVER \"demo\" FOREIGN DATA WRAPPER \"list\" OPTIONS ( \"source\" 'demo' )\n\
+        CREATE SERVER IF NOT EXISTS s TYPE 'a' VERSION '1''2' FOREIGN DATA WRAPPER w => CREATE SERVER IF NOT EXISTS \"s\" TYPE 'a' VERSION '1''2' FOREIGN DATA WRAPPER \"w\"\n\
+        CREATE USER MAPPING FOR PUBLIC SERVER demo OPTIONS (mode 'write') => CREATE USER MAPPING FOR \"public\" SERVER \"demo\" OPTIONS ( \"mode\" 'write' )\n\
+        CREATE USER MAPPING IF NOT EXISTS FOR USER SERVER demo => CREATE USER MAPPING IF NOT EXISTS FOR USER SERVER \"demo\"\n\
+        CREATE USER MAPPING FOR current_user SERVER s OPTIONS (mode 'read') => CREATE USER MAPPING FOR USER SERVER \"s\" OPTIONS ( \"mode\" 'read' )\n\
+        CREATE USER MAPPING FOR \"Ann\" SERVER server; => CREATE USER MAPPING FOR \"Ann\" SERVER \"server\"\n\
+        CREATE FOREIGN TABLE parts (id integer NOT NULL, name text, qty integer NULL, live boolean) SERVER demo OPTIONS (table 'parts') => CREATE FOREIGN TABLE \"parts\" ( \"id\" \"integer\" NOT NULL , \"name\" \"text\" , \"qty\" \"integer\" , \"live\" \"boolean\" ) SERVER \"demo\" OPTIONS ( \"table\" 'parts' )\n\
+        CREATE FOREIGN TABLE IF NOT EXISTS t (a text OPTIONS (member 'b', select '') NOT NULL) SERVER s => CREATE FOREIGN TABLE IF NOT EXISTS \"t\" ( \"a\" \"text\" OPTIONS ( \"member\" 'b' , \"select\" '' ) NOT NULL ) SERVER \"s\"\n\
+        DROP FOREIGN DATA WRAPPER list => DROP FOREIGN DATA WRAPPER \"list\"\n\
+        DROP FOREIGN DATA WRAPPER IF EXISTS list RESTRICT => DROP FOREIGN DATA WRAPPER IF EXISTS \"list\"\n\
+        DROP SERVER IF EXISTS demo RESTRICT; => DROP SERVER IF EXISTS \"demo\"\n\
+        DROP SERVER restrict => DROP SERVER \"restrict\"\n\
+        DROP FOREIGN TABLE parts => DROP FOREIGN TABLE \"parts\"\n\
+        DROP FOREIGN TABLE IF EXISTS parts RESTRICT => DROP FOREIGN TABLE IF EXISTS \"parts\"\n\
+        DROP USER MAPPING FOR PUBLIC SERVER demo => DROP USER MAPPING FOR \"public\" SERVER \"demo\"\n\
+        DROP USER MAPPING IF EXISTS FOR USER SERVER demo => DROP USER MAPPING IF EXISTS FOR USER SERVER \"demo\"\n\
+        CREATE FOREIGN DATA WRAPPER w => Syntax\n\
+        CREATE SERVER demo => Syntax\n\
+        CREATE SERVER s VERSION 'a' TYPE 'b' FOREIGN DATA WRAPPER w => Syntax\n\
+        CREATE SERVER s FOREIGN DATA WRAPPER w OPTIONS () => Syntax\n\
+        CREATE SERVER s FOREIGN DATA WRAPPER w OPTIONS (a b) => Syntax\n\
+        CREATE USER MAPPING FOR select SERVER s => Syntax\n\
+        CREATE FOREIGN TABLE t () SERVER s => Syntax\n\
+        CREATE FOREIGN TABLE t (a) SERVER s => Syntax\n\
+        CREATE FOREIGN TABLE t (a text NULL NOT NULL) SERVER s => Syntax\n\
+        DROP SERVER demo CASCADE => Syntax\n\
+        DROP FOREIGN TABLE a, b => Syntax\n\
+        DROP USER MAPPING FOR PUBLIC SERVER demo RESTRICT => Syntax\n\
+        DROP SERVER a234567890b234567890c234567890d234567890e234567890f234567890g234 => NameTooLong",
+    )
+}
+
 /// The tree of the text, or why it is refused.
 struct Tree;
 
 impl Answer for Tree {
     fn answer(alloc: Global, text: &str) -> Result<String, Fail> {
         match parse(alloc, text) {
-            Ok(statement) => Ok(format!(in alloc; "{statement:?}")?),
+            Ok(Command::Data(statement)) => Ok(format!(in alloc; "{statement:?}")?),
+            Ok(Command::Ddl(statement)) => Ok(format!(in alloc; "{statement:?}")?),
             Err(cause) => Ok(format!(in alloc; "{cause:?}")?),
         }
     }

@@ -1,7 +1,7 @@
 //! Texts bound over the tables parts, orders and "Odd", and what is told of them.
 use crate::expect::{cut, same_text};
 use med_binder::{AttachedTable, Bound, bind};
-use med_parser::parse;
+use med_parser::{Command, parse};
 use med_value::{Cause, ColType, ColumnDef, Row, TableNo, Value, row_text};
 use std::alloc::Global;
 use std::str::from_utf8;
@@ -79,7 +79,9 @@ fn row(alloc: Global, from: Option<usize>) -> Result<Row, Fail> {
 
 // What the text is bound to over the three tables.
 fn bound(alloc: Global, text: &str) -> Result<Result<Bound, Cause>, Fail> {
-    let statement = parse(alloc, text).ok().ok_or(text)?;
+    let Ok(Command::Data(statement)) = parse(alloc, text) else {
+        return Err(text.into());
+    };
     let tables = vec![in alloc; parts(alloc)?, orders(alloc)?, odd(alloc)?]?;
     Ok(bind(alloc, &statement, &tables, "ann"))
 }

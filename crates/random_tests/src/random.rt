@@ -1,7 +1,9 @@
 //! The engine beside SELECT as it is defined, over small tables with random rows.
 ghost use Rattle.fdw_api.specs.Scan.{has_kind, is_clean, row_fits};
 ghost use Rattle.fdw_api.specs.State.{IsIdle};
-ghost use Rattle.med_session.specs.Engine.{shown, IsSound, TakesColumns};
+ghost use Rattle.med_catalog.specs.declared.kind.SourceKind.TheVariants.{List as Lists};
+ghost use Rattle.med_session.specs.Engine.{IsSound, TakesAs};
+ghost use Rattle.med_session.specs.Shows.{shown};
 ghost use Rattle.med_value.specs.Datum.{datum, tuple};
 ghost use Rattle.list_wrapper.specs.ListBoxes.{box_of};
 ghost use Rattle.probe_wrapper.specs.Shuffled.{reordered, turns_of};
@@ -9,13 +11,14 @@ ghost use Rattle.std.specs.List.{list_all};
 ghost use Rattle.std.specs.Prelude.{◌≡◌, ◌<◌, ◌&&◌, true, [], ◌∷◌, IfOk, map};
 ghost use Rattle.std.specs.String.{string_bytes};
 
+use bench_tables::law::lists_take_tables;
 use fdw_api::interface::Wrapper;
 use fed_cli::Ended;
 use fed_cli::serving::serve_engine;
 use list_wrapper::{ListTable, ListWrapper};
 use med_binder::{AttachedTable, Bound, bind};
-use med_parser::parse;
-use med_session::{Engine, SourceKind};
+use med_parser::{Command, parse};
+use med_session::{Engine, Request, Sid, SourceKind};
 use med_value::text::row_text;
 use med_value::{ColType, ColumnDef, NoMemory, Row, TableNo, Value};
 use plain_select::plain_answer;
@@ -33,6 +36,15 @@ const LEFT: [&str; 2] = ["a", "b"];
 
 // The columns of u.
 const RIGHT: [&str; 2] = ["c", "d"];
+
+// The objects that stand for the list: its foreign tables t and u.
+const WRAPPER: &str = "CREATE FOREIGN DATA WRAPPER list HANDLER list";
+const SERVER: &str = "CREATE SERVER random FOREIGN DATA WRAPPER list OPTIONS (source 'random')";
+const MAPPING: &str = "CREATE USER MAPPING FOR PUBLIC SERVER random";
+const LEFT_TABLE: &str =
+    "CREATE FOREIGN TABLE t (a integer, b integer) SERVER random OPTIONS (table 't')";
+const RIGHT_TABLE: &str =
+    "CREATE FOREIGN TABLE u (c integer, d integer) SERVER random OPTIONS (table 'u')";
 
 // Queries whose rows may come in any order.
 const UNORDERED: &str = "\
@@ -168,16 +180,17 @@ fn table(alloc: Global, name: &str, seed: u64, place: usize) -> Result<ListTable
 
 // The tables of a seed.
 fn list(alloc: Global, seed: u64) -> Result<ListWrapper, NoMemory>
-    ensures { IfOk result (λ w. IsIdle (box_of w) × TakesColumns (box_of w)) }
+    ensures { IfOk result (λ w. IsIdle (box_of w) × TakesAs Lists (box_of w)) }
 {
+    lists_take_tables();
     let left = table(alloc, "t", seed, 0)?;
     let right = table(alloc, "u", seed, 1)?;
     ListWrapper::new(alloc, vec![in alloc; left, right]?)
 }
 
 fn in_shuffled<W: Wrapper>(alloc: Global, inner: W) -> Shuffled<W>
-    requires { IsIdle (W.meaning inner) × TakesColumns (W.meaning inner) }
-    ensures { IsIdle (reordered (W.meaning result.inner) (turns_of result.scans) result.pulled) × TakesColumns (reordered (W.meaning result.inner) (turns_of result.scans) result.pulled) }
+    requires { IsIdle (W.meaning inner) × TakesAs Lists (W.meaning inner) }
+    ensures { IsIdle (reordered (W.meaning result.inner) (turns_of result.scans) result.pulled) × TakesAs Lists (reordered (W.meaning result.inner) (turns_of result.scans) result.pulled) }
 {
     Shuffled::new(alloc, inner)
 }
@@ -197,26 +210,40 @@ fn columns(alloc: Global, names: [&str; 2]) -> Result<Vec<ColumnDef>, NoMemory> 
     Ok(vec![in alloc; first, second]?)
 }
 
-// Attaches both tables.
-fn attach_both<W: Wrapper>(alloc: Global, engine: &mut Engine<W>) -> Result<(), Fail>
+// Asks for a statement in session 1.
+fn ask<W: Wrapper>(engine: &mut Engine<W>, sql: &str, out: &mut Vec<u8>) -> Result<(), Fail>
     requires { IsSound (shown W.meaning engine.old) }
     ensures { IsSound (shown W.meaning engine.new) }
 {
-    let left = columns(alloc, LEFT)?;
-    let right = columns(alloc, RIGHT)?;
-    match engine.attach("t", "random", "t", &left) {
-        Ok(()) => {}
-        Err(cause) => return Err(Fail::from(cause)),
-    }
-    match engine.attach("u", "random", "u", &right) {
-        Ok(()) => Ok(()),
-        Err(cause) => Err(Fail::from(cause)),
-    }
+    let Some(sid) = Sid::new(1) else {
+        return Err("no session 1".into());
+    };
+    engine.request(sid, Request::Sql(sql), out)?;
+    Ok(())
+}
+
+// Makes foreign tables of both, as the owner.
+fn make_both<W: Wrapper>(alloc: Global, engine: &mut Engine<W>) -> Result<(), Fail>
+    requires { IsSound (shown W.meaning engine.old) }
+    ensures { IsSound (shown W.meaning engine.new) }
+{
+    let Some(sid) = Sid::new(1) else {
+        return Err("no session 1".into());
+    };
+    let mut out = Vec::new(alloc);
+    engine.request(sid, Request::Open("admin"), &mut out)?;
+    ask(engine, WRAPPER, &mut out)?;
+    ask(engine, SERVER, &mut out)?;
+    ask(engine, MAPPING, &mut out)?;
+    ask(engine, LEFT_TABLE, &mut out)?;
+    ask(engine, RIGHT_TABLE, &mut out)?;
+    engine.close_session(sid);
+    Ok(())
 }
 
 // An engine over the tables of a list.
 fn engine_over<W: Wrapper>(alloc: Global, list: W) -> Result<Engine<W>, Fail>
-    requires { IsIdle (W.meaning list) × TakesColumns (W.meaning list) }
+    requires { IsIdle (W.meaning list) × TakesAs Lists (W.meaning list) }
     ensures { IfOk result (λ engine. IsSound (shown W.meaning engine)) }
 {
     let mut engine = Engine::<W>::new(alloc, "admin")?;
@@ -224,7 +251,7 @@ fn engine_over<W: Wrapper>(alloc: Global, list: W) -> Result<Engine<W>, Fail>
         Ok(()) => {}
         Err((_, fault)) => return Err(Fail::from(fault)),
     }
-    match attach_both(alloc, &mut engine) {
+    match make_both(alloc, &mut engine) {
         Ok(()) => Ok(engine),
         Err(fault) => Err(fault),
     }
@@ -232,7 +259,7 @@ fn engine_over<W: Wrapper>(alloc: Global, list: W) -> Result<Engine<W>, Fail>
 
 // What an engine over a list replies to a query; nothing where it was not read to its end.
 fn replied_over<W: Wrapper>(alloc: Global, list: W, query: &str) -> Result<Vec<u8>, Fail>
-    requires { IsIdle (W.meaning list) × TakesColumns (W.meaning list) }
+    requires { IsIdle (W.meaning list) × TakesAs Lists (W.meaning list) }
 {
     let engine = engine_over(alloc, list)?;
     let stream = format!(in alloc; "1 OPEN ann\n1 Q {query}\n")?;
@@ -264,7 +291,9 @@ fn bound(alloc: Global, query: &str) -> Result<Bound, Fail> {
     let left = attached(alloc, "t", LEFT)?;
     let right = attached(alloc, "u", RIGHT)?;
     let tables = vec![in alloc; left, right]?;
-    let statement = parse(alloc, query)?;
+    let Command::Data(statement) = parse(alloc, query)? else {
+        return Err(query.into());
+    };
     Ok(bind(alloc, &statement, &tables, "ann")?)
 }
 

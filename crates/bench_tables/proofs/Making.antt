@@ -1,0 +1,21 @@
+-- Lines that are answered one after the other.
+use Rattle.std.proofs.Common.{List, [], ◌∷◌, refl}
+use Rattle.med_world.specs.Engine.{Shown, Agrees}
+use Rattle.med_world.specs.World.{World}
+use Rattle.bench_tables.specs.Setup.{Exchange, Answers, AnswersAll}
+
+-- from a world of the first engine the lines lead to one of the second
+pub record Makes (a : Shown) (xs : List Exchange) (b : Shown) : Type 0 where
+  pub leads : (w : World) → Agrees a w → (after : World) × AnswersAll w xs after × Agrees b after
+
+pub no_more : (a : Shown) → Makes a [] a
+no_more a = record { leads = λ w h. (w, refl, h) }
+
+pub one_more : (a b c : Shown) (x : Exchange) (xs : List Exchange) → ((w : World) → Agrees a w → (after : World) × Answers w x after × Agrees b after)
+    → Makes b xs c → Makes a (x ∷ xs) c
+one_more a b c x xs first rest = record {
+  leads = λ w h.
+      let one = first w h in
+      let two = rest.leads one.0 one.2 in
+      (two.0, (one.0, one.1, two.1), two.2);
+}
