@@ -13,11 +13,7 @@ use std::alloc::Global;
 use std::test::Fail;
 
 // Adds a list without tables as the source of this name, and tells what came of it.
-fn added(
-    alloc: Global,
-    engine: &mut Engine<ListWrapper>,
-    name: &str,
-) -> Result<&'static str, Fail>
+fn added(alloc: Global, engine: &mut Engine<ListWrapper>, name: &str) -> Result<&'static str, Fail>
     requires { IsSound (shown box_of engine.old) }
     ensures { IsSound (shown box_of engine.new) }
 {

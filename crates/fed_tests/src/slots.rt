@@ -40,7 +40,11 @@ fn whole(alloc: Global, name: &str) -> Result<ColumnDef, NoMemory> {
 fn table_of_a_slot_is_bound_and_let_go(rt: HostRuntime) -> Result<(), Fail> {
     let alloc = rt.alloc();
     let mut slots = demo_slots(alloc)?;
-    let columns = vec![in alloc; whole(alloc, "no")?, whole(alloc, "part")?, whole(alloc, "n")?]?;
+    let columns = vec![in alloc;
+        whole(alloc, "no")?,
+        whole(alloc, "part")?,
+        whole(alloc, "n")?,
+    ]?;
     let orders = bind_at(&mut slots, alloc, LIST, "orders", &columns, &[])?;
     same("bound", &ledger_at(&slots, LIST), &counts_after(0))?;
     unbind_at(&mut slots, LIST, orders);

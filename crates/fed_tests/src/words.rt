@@ -69,13 +69,7 @@ fn other_words_answer_nothing(rt: HostRuntime) -> Result<(), Fail> {
     exits(&rt, "fedq --help", 0, HELP, b"")?;
     exits(&rt, "fedq help", 0, HELP, b"")?;
     exits(&rt, "fedq", 2, b"", HELP)?;
-    exits(
-        &rt,
-        "fedq run --list Bad",
-        2,
-        b"",
-        b"fedq: bad name: Bad\n",
-    )?;
+    exits(&rt, "fedq run --list Bad", 2, b"", b"fedq: bad name: Bad\n")?;
     exits(
         &rt,
         "fedq run --list select",

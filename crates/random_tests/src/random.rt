@@ -39,10 +39,14 @@ const RIGHT: [&str; 2] = ["c", "d"];
 
 // The objects that stand for the list: its foreign tables t and u.
 const WRAPPER: &str = "CREATE FOREIGN DATA WRAPPER list HANDLER list";
+
 const SERVER: &str = "CREATE SERVER random FOREIGN DATA WRAPPER list OPTIONS (source 'random')";
+
 const MAPPING: &str = "CREATE USER MAPPING FOR PUBLIC SERVER random";
+
 const LEFT_TABLE: &str =
     "CREATE FOREIGN TABLE t (a integer, b integer) SERVER random OPTIONS (table 't')";
+
 const RIGHT_TABLE: &str =
     "CREATE FOREIGN TABLE u (c integer, d integer) SERVER random OPTIONS (table 'u')";
 
