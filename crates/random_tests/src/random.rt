@@ -194,7 +194,8 @@ fn list(alloc: Global, seed: u64) -> Result<ListWrapper, NoMemory>
 
 fn in_shuffled<W: Wrapper>(alloc: Global, inner: W) -> Shuffled<W>
     requires { IsIdle (W.meaning inner) × TakesAs Lists (W.meaning inner) }
-    ensures { IsIdle (reordered (W.meaning result.inner) (turns_of result.scans) result.pulled) × TakesAs Lists (reordered (W.meaning result.inner) (turns_of result.scans) result.pulled) }
+    ensures { IsIdle (reordered (W.meaning result.inner) (turns_of result.scans) result.pulled)
+        × TakesAs Lists (reordered (W.meaning result.inner) (turns_of result.scans) result.pulled) }
 {
     Shuffled::new(alloc, inner)
 }
