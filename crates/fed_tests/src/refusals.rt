@@ -2,6 +2,7 @@
 
 use crate::expect::same;
 use crate::served::{counts_after, demo_engine};
+use bench_tables::law::lists_take_tables;
 use list_wrapper::ListWrapper;
 use med_session::{AddFault, Engine, NewFault, SourceKind};
 use std::test::Fail;
@@ -14,6 +15,7 @@ fn owner_of_a_bad_name_is_refused(rt: HostRuntime) -> Result<(), Fail> {
 
 #[test]
 fn source_of_a_name_that_is_taken_is_refused(rt: HostRuntime) -> Result<(), Fail> {
+    lists_take_tables();
     let mut engine = demo_engine(rt.alloc())?;
     let second = ListWrapper::new(rt.alloc(), Vec::new(rt.alloc()))?;
     let refused = engine.add_source("demo", SourceKind::List, second).err();
