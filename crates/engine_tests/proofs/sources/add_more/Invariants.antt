@@ -4,5 +4,5 @@ use Rattle.med_session.specs.Shows.{shown}
 use Rattle.engine_tests.proofs.sources.add_more.Given as goal
 
 -- the engine stays sound
-abbrev pub invariant-loop : goal.invariant-loop
-invariant-loop l = IsSound (shown box_of l.engine)
+abbrev pub invariant-loop-number : goal.invariant-loop-number
+invariant-loop-number l = IsSound (shown box_of l.engine)
