@@ -1,17 +1,20 @@
 -- A program that begins, or does not.
-use Rattle.std.proofs.Common.{◌≡◌, ℕ, List, Option, Some, None, option_map, Result, Ok, Err, Vec, refl, sym, subst}
+use Rattle.std.proofs.Common.{◌≡◌, ℕ, List, Option, Some, None, option_map, Result, Ok, Err, Vec, String, string_bytes, map, refl, sym, subst}
 use Rattle.std.specs.Global.{Global}
+use Rattle.fdw_api.specs.State.{BoxState}
 use Rattle.session_wire.specs.Worlds.{Scene, SceneSteps}
 use Rattle.fed_replay.specs.Replays.{Replays}
 use Rattle.fed_replay.specs.Engines.{SceneCloses}
 use Rattle.fed_replay.specs.declared.script.ScriptFault.{ScriptFault}
 use Rattle.fed_replay.specs.declared.script.ScriptFault.TheVariants as scripts
-use Rattle.list_wrapper.specs.declared.list.ListWrapper.{ListWrapper}
 use Rattle.med_session.specs.declared.adding.Sources.{Sources}
-use Rattle.fed_cli.specs.Exits.{Runs}
-use Rattle.fed_cli.specs.Setup.{IsFirst, HasNoFirst, ReadsNot, IsReadOf, ReplaysInit, BeginsNot}
+use Rattle.fed_cli.specs.Exits.{Runs, Exits, ExitsBy, on_words}
+use Rattle.fed_cli.specs.Setup.{IsFirst, HasNoFirst, ReadsNot, IsReadOf, ReplaysInit, BeginsNot, list_asked}
 use Rattle.fed_cli.specs.Streams.{Stream, IsUntouched}
 use Rattle.fed_cli.specs.Told.{Came, replay_told}
+use Rattle.fed_cli.specs.Words.{folders_asked}
+use Rattle.fed_cli.specs.declared.program.ArgsFault.{ArgsFault}
+use Rattle.fed_cli.specs.declared.program.Exit.{Exit}
 use Rattle.fed_cli.specs.declared.told.RunFault.{RunFault}
 use Rattle.fed_cli.specs.declared.told.RunFault.TheVariants as faults
 use Rattle.fed_cli.specs.declared.words.Asked.{Asked}
@@ -25,12 +28,18 @@ replays_script o v bytes owner result came first after is items told replays =
     (result, told, subst (λ bs. Replays SceneSteps SceneCloses first owner bs result after) items replays)
 
 -- nothing is handed back
-pub not_begun : (asked : Asked) (came : Came) (script : Option (List ℕ)) (sources : Option (Sources ListWrapper)) (input output : Stream) (fault : RunFault)
-    → came ≡ Err fault → sources ≡ None → BeginsNot asked script fault → IsUntouched input → IsUntouched output → Runs asked came script sources input output
-not_begun asked came script sources input output fault e none why i o = subst (λ s. Runs asked came script s input output) (sym none) (fault, e, why, i, o)
+pub not_begun : {W : Type 0} (meaning : W → BoxState) (asked : Asked) (came : Came) (script : Option (List ℕ)) (sources : Option (Sources W)) (input output : Stream) (fault : RunFault)
+    → came ≡ Err fault → sources ≡ None → BeginsNot asked script fault → IsUntouched input → IsUntouched output → Runs meaning asked came script sources input output
+not_begun meaning asked came script sources input output fault e none why i o = subst (λ s. Runs meaning asked came script s input output) (sym none) (fault, e, why, i, o)
+
+-- it exits on these words
+pub on_given : {W : Type 0} (meaning : W → BoxState) (words : Result (Vec (String Global) Global) ArgsFault) (given : Vec (String Global) Global) (texts : List (String Global)) (exit : Exit W) (input output errors : Stream)
+    → words ≡ Ok given → texts ≡ given.items → Exits meaning (map string_bytes texts) exit input output errors → ExitsBy meaning words exit.status input output errors
+on_given meaning words given texts exit input output errors is same exits =
+    on_words given is exit (subst (λ ts. Exits meaning (map string_bytes ts) exit input output errors) same exits) refl
 
 -- there is no first world
-pub no_first_world : (asked : Asked) (script : Option (List ℕ)) (fault : RunFault) → HasNoFirst asked.owner.now asked.list fault → BeginsNot asked script fault
+pub no_first_world : (asked : Asked) (script : Option (List ℕ)) (fault : RunFault) → HasNoFirst asked fault → BeginsNot asked script fault
 no_first_world asked script faults.NoMemory h = tt
 no_first_world asked script (faults.CannotOpen told) h = h
 no_first_world asked script (faults.NameTaken told) h = h
@@ -44,7 +53,7 @@ no_first_world asked script faults.InitNotText h = absurd h
 no_first_world asked script (faults.InitLine number cause) h = absurd h
 
 -- the init file was not read
-pub not_read : (asked : Asked) (fault : RunFault) (first : Scene) → IsFirst asked.owner.now (option_map (λ s. s.now) asked.list) first → ReadsNot asked.init fault
+pub not_read : (asked : Asked) (fault : RunFault) (first : Scene) → IsFirst asked.owner.now (list_asked asked) (folders_asked asked) first → ReadsNot asked.init fault
     → BeginsNot asked None fault
 not_read asked faults.NoMemory first is h = tt
 not_read asked (faults.CannotReadInit told) first is h = (h, refl, (first, is))
@@ -60,7 +69,7 @@ not_read asked (faults.InitLine number cause) first is h = absurd h
 
 -- its replay was refused
 pub not_replayed : (asked : Asked) (script : Option (List ℕ)) (fault : RunFault) (first after : Scene) → IsReadOf asked.init script
-    → IsFirst asked.owner.now (option_map (λ s. s.now) asked.list) first → ReplaysInit first asked.owner.now script (Err fault) after → BeginsNot asked script fault
+    → IsFirst asked.owner.now (list_asked asked) (folders_asked asked) first → ReplaysInit first asked.owner.now script (Err fault) after → BeginsNot asked script fault
 not_replayed asked None fault first after read is (e, same) = absurd cc
 not_replayed asked (Some script) fault first after read is (Ok count, e, replays) = absurd cc
 not_replayed asked (Some script) fault first after read is (Err scripts.NoMemory, e, replays) =

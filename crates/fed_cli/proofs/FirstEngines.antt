@@ -1,14 +1,16 @@
 -- The engine that a program begins with, and the demo list in it.
-use Rattle.std.proofs.Common.{◌≡◌, ◌≢◌, arith, ℕ, Bool, true, false, List, [], ◌∷◌, ◌++◌, length, Option, Some, None, option_map, Result, Ok, Err, OnOk, IfErr, Bor, refl, sym, ap, ◌∙◌, subst}
+use Rattle.std.proofs.Common.{◌≡◌, ◌≢◌, arith, ℕ, Bool, true, false, List, [], ◌∷◌, ◌++◌, length, Option, Some, None, option_map, Result, Ok, Err, OnOk, IfErr, Bor, refl, sym, ap, ◌∙◌, subst, inl, inr}
 use Rattle.fdw_api.specs.Kinds.{Kind}
-use Rattle.fdw_api.specs.State.{BoxState}
+use Rattle.fdw_api.specs.State.{BoxState, IsIdle, is_honest}
 use Rattle.ddl_syntax.specs.DdlTree.{TableTree}
 use Rattle.med_value.specs.declared.cause.Cause.{Cause}
 use Rattle.med_value.specs.declared.cause.Cause.TheVariants.{InvalidOptionName}
 use Rattle.med_catalog.specs.DdlCauses.{CauseRow, Stands, are_options_unknown, create_table_rows}
 use Rattle.med_catalog.specs.Objects.{Objects}
 use Rattle.med_catalog.specs.Options.{table_settings, column_settings}
+use Rattle.med_catalog.specs.declared.kind.SourceKind.{SourceKind}
 use Rattle.med_catalog.specs.declared.kind.SourceKind.TheVariants.{List as Lists}
+use Rattle.med_catalog.specs.declared.kind.SourceKind.TheVariants as sources
 use Rattle.med_world.specs.Adding.{HasSource, Adds}
 use Rattle.med_world.specs.Engine.{Shown, Label, IsSound, Agrees, TakesAs, sources_of}
 use Rattle.med_world.specs.World.{World, empty_world, with_source}
@@ -16,14 +18,23 @@ use Rattle.med_session.specs.Adding.{AddCause}
 use Rattle.med_session.specs.declared.adding.AddFault.{AddFault}
 use Rattle.med_session.specs.declared.adding.AddFault.TheVariants as adding
 use Rattle.list_wrapper.specs.Lists.{IsNewList, list_objections}
+use Rattle.blob_store.specs.Shelves.{Shelf, nothing_known}
+use Rattle.csv_wrapper.specs.CsvBoxes.{IsNewCsv}
+use Rattle.jsonl_wrapper.specs.Boxes.{IsNewJsonl}
 use Rattle.session_wire.specs.Worlds.{Scene, SceneSteps}
 use Rattle.fed_replay.specs.Replays.{Replays}
 use Rattle.fed_replay.specs.Engines.{SceneCloses}
 use Rattle.fed_replay.specs.declared.script.ScriptFault.{ScriptFault}
 use Rattle.fed_replay.specs.declared.script.ScriptFault.TheVariants as scripts
 use Rattle.fed_cli.specs.Demo.{demo_list, setup_script}
-use Rattle.fed_cli.specs.Setup.{empty_scene, HasList, SetsUp, HasDemo, LacksDemo, IsFirst, AddsNoDemo, HasNoFirst}
+use Rattle.fed_cli.specs.Setup.{over, empty_scene, HasList, HasFolders, SetsUp, IsNewFolder, AddsFolder, AddsFolders, AddsNoDemo, IsNotAdded, AreNotAdded, IsFirst, HasNoFirst, HasListAsked, IsSetUp, IsNotSetUp, SetUpFails, list_asked, list_label, labels_before, folder_label}
+use Rattle.fed_cli.specs.Folders.{Folder, folder_of, source_kind}
 use Rattle.fed_cli.specs.Told.{Came, added_of, setup_told}
+use Rattle.fed_cli.specs.Words.{folders_asked}
+use Rattle.fed_cli.specs.declared.folders.AskedFolder.{AskedFolder}
+use Rattle.fed_cli.specs.declared.folders.FolderKind.{FolderKind}
+use Rattle.fed_cli.specs.declared.folders.FolderKind.TheVariants.{Csv, JsonLines}
+use Rattle.fed_cli.specs.declared.words.Asked.{Asked}
 use Rattle.fed_cli.specs.declared.told.RunFault.{RunFault}
 use Rattle.fed_cli.specs.declared.told.RunFault.TheVariants as faults
 
@@ -66,24 +77,88 @@ empty_over owner boxes = record { world = empty_world owner; boxes = boxes }
 pub is_empty : (owner : List ℕ) (boxes : List (Option BoxState)) → boxes ≡ [] → empty_over owner boxes ≡ empty_scene owner
 is_empty owner boxes none = ap (empty_over owner) none
 
--- no list is asked
-pub first_of_none : (owner : List ℕ) (o : Option (Bor (List ℕ))) (first : Scene) → ((x : Bor (List ℕ)) → o ≡ Some x → ⊥) → first ≡ empty_scene owner
-    → IsFirst owner (option_map (λ s. s.now) o) first
-first_of_none owner None first h e = e
-first_of_none owner (Some x) first h e = absurd (h x refl)
-
--- the list is asked, and was added
-pub first_of_list : (owner : List ℕ) (o : Option (Bor (List ℕ))) (name : Bor (List ℕ)) (old new : Scene) → o ≡ Some name → old ≡ empty_scene owner
-    → HasDemo old owner name.now new → IsFirst owner (option_map (λ s. s.now) o) new
-first_of_list owner o name old new is none has =
-    subst (λ p. IsFirst owner (option_map (λ s. s.now) p) new) (sym is) (subst (λ s. HasDemo s owner name.now new) none has)
-
 -- ---- the list is added
 
 -- to a world over what an engine shows
 pub list_added : (old listed : Shown) (w : World) (name : List ℕ) (list : BoxState) → IsNewList list demo_list → Adds old name Lists list listed
     → HasList (record { world = w; boxes = old.boxes }) name (record { world = with_source w name Lists list.nature.kind list.content.holdings; boxes = listed.boxes })
 list_added old listed w name list demo adds = record { list = list; is_demo = demo; world = refl; boxes = ap (λ (e : Shown). e.boxes) adds.is }
+
+-- the list stands besides
+pub has_list : (old listed : Shown) (w : World) (name : List ℕ) (list : BoxState) → IsNewList list demo_list → Adds old name Lists list listed
+    → ((v : World) → Agrees old v → is_honest list → Agrees listed (with_source v name Lists list.nature.kind list.content.holdings)) → Agrees old w
+    → (after : World) × HasList (over old w) name (over listed after) × Agrees listed after
+has_list old listed w name list demo adds world agrees =
+    (with_source w name Lists list.nature.kind list.content.holdings, list_added old listed w name list demo adds, world w agrees demo.honest)
+
+-- ---- folders are added
+
+-- what is known of a new folder
+folder_is_honest : (kind : FolderKind) (s : BoxState) → IsNewFolder kind s → is_honest s
+folder_is_honest Csv s h = h.honest
+folder_is_honest JsonLines s h = h.honest
+
+pub folder_is_idle : (kind : FolderKind) (s : BoxState) → IsNewFolder kind s → IsIdle s
+folder_is_idle Csv s h = h.idle
+folder_is_idle JsonLines s h = h.idle
+
+folder_added_as : (old new : Shown) (folder : Folder) (s : BoxState) → IsNewFolder folder.kind s → Adds old folder.name (source_kind folder.kind) s new
+    → ((w : World) → Agrees old w → is_honest s → Agrees new (with_source w folder.name (source_kind folder.kind) s.nature.kind s.content.holdings))
+    → AddsFolder old folder new
+folder_added_as old new folder s is_new adds world = record {
+  labels = ap (λ (e : Shown). e.labels) adds.is;
+  could = (adds.name_free, adds.room);
+  world = λ w agrees. (
+    with_source w folder.name (source_kind folder.kind) s.nature.kind s.content.holdings,
+    record { box = s; is_new = is_new; world = refl; boxes = ap (λ (e : Shown). e.boxes) adds.is },
+    world w agrees (folder_is_honest folder.kind s is_new),
+  );
+}
+
+pub folder_added : (old new : Shown) (folder : Folder) (s : BoxState) (k : SourceKind) → k ≡ source_kind folder.kind → IsNewFolder folder.kind s → Adds old folder.name k s new
+    → ((w : World) → Agrees old w → is_honest s → Agrees new (with_source w folder.name k s.nature.kind s.content.holdings))
+    → AddsFolder old folder new
+folder_added old new folder s k e is_new = subst
+    (λ q. Adds old folder.name q s new → ((w : World) → Agrees old w → is_honest s → Agrees new (with_source w folder.name q s.nature.kind s.content.holdings)) → AddsFolder old folder new)
+    (sym e) (folder_added_as old new folder s is_new)
+
+-- what a new folder takes, by the laws of its kind
+pub folder_takes : (kind : FolderKind) (s : BoxState) → IsNewFolder kind s → ((b : BoxState) (shelf : Shelf) → IsNewCsv b shelf → TakesAs sources.Csv b)
+    → ((b : BoxState) (shelf : Shelf) → IsNewJsonl b shelf → TakesAs sources.JsonLines b) → TakesAs (source_kind kind) s
+folder_takes Csv s h csv jsonl = csv s (nothing_known 0) h
+folder_takes JsonLines s h csv jsonl = jsonl s (nothing_known 0) h
+
+-- of several folders the first is added, and then the others
+pub adds_none : (e : Shown) (all : List Folder) → all ≡ [] → AddsFolders e all e
+adds_none e all is = record { world = λ w agrees. (w, subst (λ fs. HasFolders (over e w) fs (over e w)) (sym is) refl, agrees) }
+
+pub adds_first : (old mid new : Shown) (f : Folder) (all rest : List Folder) → all ≡ f ∷ rest → AddsFolder old f mid → AddsFolders mid rest new → AddsFolders old all new
+adds_first old mid new f all rest is one more = record {
+  world = λ w agrees.
+      let here = one.world w agrees in
+      let then = more.world here.0 here.2 in
+      (then.0, subst (λ fs. HasFolders (over old w) fs (over new then.0)) (sym is) (over mid here.0, here.1, then.1), then.2);
+}
+
+pub adds_more : {T E : Type 0} (r : Result T E) (old mid new : Shown) (f : Folder) (all rest : List Folder) → all ≡ f ∷ rest → AddsFolder old f mid
+    → OnOk r (AddsFolders mid rest new) → OnOk r (AddsFolders old all new)
+adds_more (Ok x) old mid new f all rest is one more = adds_first old mid new f all rest is one more
+adds_more (Err x) old mid new f all rest is one more = tt
+
+-- or one is not
+pub fails_first : (labels : List Label) (f : Folder) (all rest : List Folder) (fault : RunFault) → all ≡ f ∷ rest → IsNotAdded labels f fault → AreNotAdded labels all fault
+fails_first labels f all rest fault is h = subst (λ fs. AreNotAdded labels fs fault) (sym is) (inl h)
+
+pub fails_later : (old mid : Shown) (f : Folder) (all rest : List Folder) (fault : RunFault) → all ≡ f ∷ rest → AddsFolder old f mid → AreNotAdded mid.labels rest fault
+    → AreNotAdded old.labels all fault
+fails_later old mid f all rest fault is one h =
+    subst (λ fs. AreNotAdded old.labels fs fault) (sym is) (inr (one.could, subst (λ ls. AreNotAdded ls rest fault) one.labels h))
+
+pub folder_not_added : (labels : List Label) (asked : AskedFolder) (fault : AddFault) (told : RunFault) → told ≡ added_of asked.name fault
+    → AddCause labels asked.name.now fault → IsNotAdded labels (folder_of asked) told
+folder_not_added labels asked adding.NoMemory told e h = subst (λ f. IsNotAdded labels (folder_of asked) f) (sym e) tt
+folder_not_added labels asked adding.Taken told e h = subst (λ f. IsNotAdded labels (folder_of asked) f) (sym e) (refl, h)
+folder_not_added labels asked adding.TooMany told e h = subst (λ f. IsNotAdded labels (folder_of asked) f) (sym e) (refl, h.0, h.1)
 
 -- ---- what the set-up came to
 
@@ -119,26 +194,109 @@ not_added old owner labels name adding.NoMemory told e h = subst (λ f. AddsNoDe
 not_added old owner labels name adding.Taken told e h = subst (λ f. AddsNoDemo old owner labels name f) (sym e) (refl, h)
 not_added old owner labels name adding.TooMany told e h = subst (λ f. AddsNoDemo old owner labels name f) (sym e) (refl, h.1)
 
--- beside no source it is for want of memory, or a line of its set-up
-pub no_first : (old : Scene) (owner : List ℕ) (labels : List Label) (name : Bor (List ℕ)) (list : Option (Bor (List ℕ))) (fault : RunFault) → old ≡ empty_scene owner
-    → labels ≡ [] → list ≡ Some name → AddsNoDemo old owner labels name fault → HasNoFirst owner list fault
-no_first old owner labels name list faults.NoMemory empty none is h = tt
-no_first old owner labels name list (faults.CannotOpen told) empty none is h =
-    (is ∙ ap Some (sym h.0), subst (λ (n : Bor (List ℕ)). LacksDemo (empty_scene owner) owner n.now) (sym h.0) (subst (λ s. LacksDemo s owner name.now) empty h.1))
-no_first old owner labels name list (faults.NameTaken told) empty none is h = no_source labels h.1 none
+-- ---- the list that is asked, in an engine that has no source
+
+pub no_list : (old : Scene) (o : Option (Bor (List ℕ))) → ((x : Bor (List ℕ)) → o ≡ Some x → ⊥) → HasListAsked old (option_map (λ s. s.now) o) old
+no_list old None none = refl
+no_list old (Some x) none = absurd (none x refl)
+
+pub no_label : (labels : List Label) (o : Option (Bor (List ℕ))) → labels ≡ [] → ((x : Bor (List ℕ)) → o ≡ Some x → ⊥) → labels ≡ labels_before (option_map (λ s. s.now) o)
+no_label labels None e none = e
+no_label labels (Some x) e none = absurd (none x refl)
+
+pub one_list : (old new : Scene) (o : Option (Bor (List ℕ))) (name : Bor (List ℕ)) → o ≡ Some name → HasList old name.now new → HasListAsked old (option_map (λ s. s.now) o) new
+one_list old new o name is has = subst (λ p. HasListAsked old (option_map (λ s. s.now) p) new) (sym is) has
+
+pub one_label : (labels new : List Label) (o : Option (Bor (List ℕ))) (name : Bor (List ℕ)) → labels ≡ [] → o ≡ Some name → new ≡ labels ++ list_label name.now ∷ []
+    → new ≡ labels_before (option_map (λ s. s.now) o)
+one_label labels new o name none is added =
+    subst (λ p. new ≡ labels_before (option_map (λ s. s.now) p)) (sym is) (added ∙ ap (λ ls. ls ++ list_label name.now ∷ []) none)
+
+nothing_named : (ls : List Label) (name : List ℕ) → HasSource ls name → ls ≡ [] → ⊥
+nothing_named [] name s e = let no : None ≡ Some s.1.0 = s.1.1 in absurd cc
+nothing_named (l ∷ ls) name s e = cc
+
+not_many : (ls : List Label) → length ls ≡ 64 → ls ≡ [] → ⊥
+not_many [] n e = cc
+not_many (l ∷ ls) n e = cc
+
+-- it is not added for want of memory alone
+pub list_needs_memory : (labels : List Label) (name : Bor (List ℕ)) (fault : RunFault) → labels ≡ []
+    → (why : AddFault) × (fault ≡ added_of name why) × AddCause labels name.now why → fault ≡ faults.NoMemory
+list_needs_memory labels name fault none (adding.NoMemory, e, h) = e
+list_needs_memory labels name fault none (adding.Taken, e, h) = absurd (nothing_named labels name.now h none)
+list_needs_memory labels name fault none (adding.TooMany, e, h) = absurd (not_many labels h.1 none)
+
+-- ---- the first engine
+
+pub first_made : (owner : List ℕ) (list : Option (List ℕ)) (folders : List Folder) (old listed before first : Scene) → old ≡ empty_scene owner
+    → HasListAsked old list listed → HasFolders listed folders before → IsSetUp before owner list first → IsFirst owner list folders first
+first_made owner list folders old listed before first empty has_list has_folders set = record {
+  before = before;
+  has_sources = record { listed = listed; has_list = subst (λ s. HasListAsked s list listed) empty has_list; has_folders = has_folders };
+  is_set_up = set;
+}
+
+-- no folder fails in another way than by its name, by too many, or by want of memory
+no_other : (fault : RunFault) → ((labels : List Label) (f : Folder) → IsNotAdded labels f fault → ⊥) → (labels : List Label) (fs : List Folder) → AreNotAdded labels fs fault → ⊥
+no_other fault none labels [] h = h
+no_other fault none labels (f ∷ fs) (inl h) = none labels f h
+no_other fault none labels (f ∷ fs) (inr h) = no_other fault none (labels ++ folder_label f ∷ []) fs h.1
+
+pub no_memory : (asked : Asked) (fault : RunFault) → fault ≡ faults.NoMemory → HasNoFirst asked fault
+no_memory asked fault e = subst (HasNoFirst asked) (sym e) tt
+
+pub folders_fail : (asked : Asked) (labels : List Label) (fault : RunFault) → labels ≡ labels_before (list_asked asked) → AreNotAdded labels (folders_asked asked) fault
+    → HasNoFirst asked fault
+folders_fail asked labels fault e h = by fault (subst (λ ls. AreNotAdded ls (folders_asked asked) fault) e h)
   where
-    no_source : (ls : List Label) → HasSource ls name.now → ls ≡ [] → ⊥
-    no_source [] s e = let no : None ≡ Some s.1.0 = s.1.1 in absurd cc
-    no_source (l ∷ ls) s e = cc
-no_first old owner labels name list (faults.TooManySources told) empty none is h = no_many labels h.1 none
-  where
-    no_many : (ls : List Label) → length ls ≡ 64 → ls ≡ [] → ⊥
-    no_many [] n e = cc
-    no_many (l ∷ ls) n e = cc
-no_first old owner labels name list faults.Read empty none is h = h
-no_first old owner labels name list faults.Write empty none is h = h
-no_first old owner labels name list faults.TooManyReads empty none is h = h
-no_first old owner labels name list faults.ProtocolViolation empty none is h = h
-no_first old owner labels name list (faults.CannotReadInit told) empty none is h = h
-no_first old owner labels name list faults.InitNotText empty none is h = h
-no_first old owner labels name list (faults.InitLine number cause) empty none is h = h
+    by : (f : RunFault) → AreNotAdded (labels_before (list_asked asked)) (folders_asked asked) f → HasNoFirst asked f
+    by faults.NoMemory p = tt
+    by (faults.NameTaken told) p = p
+    by (faults.TooManySources told) p = p
+    by (faults.CannotOpen told) p = absurd (no_other (faults.CannotOpen told) (λ ls f q. q) _ _ p)
+    by faults.Read p = no_other faults.Read (λ ls f q. q) _ _ p
+    by faults.Write p = no_other faults.Write (λ ls f q. q) _ _ p
+    by faults.TooManyReads p = no_other faults.TooManyReads (λ ls f q. q) _ _ p
+    by faults.ProtocolViolation p = no_other faults.ProtocolViolation (λ ls f q. q) _ _ p
+    by (faults.CannotReadInit told) p = no_other (faults.CannotReadInit told) (λ ls f q. q) _ _ p
+    by faults.InitNotText p = no_other faults.InitNotText (λ ls f q. q) _ _ p
+    by (faults.InitLine number cause) p = no_other (faults.InitLine number cause) (λ ls f q. q) _ _ p
+
+pub folders_fail_as : (asked : Asked) (labels : List Label) (fs : List Folder) (fault : RunFault) → fs ≡ folders_asked asked → labels ≡ labels_before (list_asked asked)
+    → AreNotAdded labels fs fault → HasNoFirst asked fault
+folders_fail_as asked labels fs fault is e h = folders_fail asked labels fault e (subst (λ l. AreNotAdded labels l fault) is h)
+
+pub adds_as : (old new : Shown) (fs gs : List Folder) → fs ≡ gs → AddsFolders old fs new → AddsFolders old gs new
+adds_as old new fs gs is adds = subst (λ l. AddsFolders old l new) is adds
+
+pub set_up_fails : (asked : Asked) (old listed before : Scene) (fault : RunFault) → old ≡ empty_scene asked.owner.now → HasListAsked old (list_asked asked) listed
+    → HasFolders listed (folders_asked asked) before → SetUpFails before asked.owner.now asked.list fault → HasNoFirst asked fault
+set_up_fails asked old listed before faults.NoMemory empty l fs h = tt
+set_up_fails asked old listed before (faults.CannotOpen told) empty l fs h =
+    (h.0, (before, record { listed = listed; has_list = subst (λ s. HasListAsked s (list_asked asked) listed) empty l; has_folders = fs }, h.1))
+set_up_fails asked old listed before (faults.NameTaken told) empty l fs h = absurd h
+set_up_fails asked old listed before (faults.TooManySources told) empty l fs h = absurd h
+set_up_fails asked old listed before faults.Read empty l fs h = h
+set_up_fails asked old listed before faults.Write empty l fs h = h
+set_up_fails asked old listed before faults.TooManyReads empty l fs h = h
+set_up_fails asked old listed before faults.ProtocolViolation empty l fs h = h
+set_up_fails asked old listed before (faults.CannotReadInit told) empty l fs h = h
+set_up_fails asked old listed before faults.InitNotText empty l fs h = h
+set_up_fails asked old listed before (faults.InitLine number cause) empty l fs h = h
+
+-- the list is set up, or none is asked
+pub set_up_none : (list : Option (Bor (List ℕ))) (old : Scene) (owner : List ℕ) → ((x : Bor (List ℕ)) → list ≡ Some x → ⊥) → IsSetUp old owner (option_map (λ s. s.now) list) old
+set_up_none None old owner none = refl
+set_up_none (Some x) old owner none = absurd (none x refl)
+
+pub set_up_done : (list : Option (Bor (List ℕ))) (name : Bor (List ℕ)) (old new : Scene) (owner script : List ℕ) (count : ℕ) (came : Result ℕ ScriptFault) → list ≡ Some name
+    → script ≡ setup_script name.now → came ≡ Ok count → Replays SceneSteps SceneCloses old owner script came new → IsSetUp old owner (option_map (λ s. s.now) list) new
+set_up_done list name old new owner script count came is text e replays =
+    subst (λ p. IsSetUp old owner (option_map (λ s. s.now) p) new) (sym is)
+    (count, subst (λ r. Replays SceneSteps SceneCloses old owner (setup_script name.now) r new) e (subst (λ s. Replays SceneSteps SceneCloses old owner s came new) text replays))
+
+pub set_up_refused : (name : Bor (List ℕ)) (old new : Scene) (owner script : List ℕ) (why : ScriptFault) (came : Result ℕ ScriptFault)
+    → script ≡ setup_script name.now → came ≡ Err why → why ≢ scripts.NoMemory → Replays SceneSteps SceneCloses old owner script came new → IsNotSetUp old owner name.now
+set_up_refused name old new owner script why came text e other replays =
+    (why, other, (new, subst (λ r. Replays SceneSteps SceneCloses old owner (setup_script name.now) r new) e (subst (λ s. Replays SceneSteps SceneCloses old owner s came new) text replays)))

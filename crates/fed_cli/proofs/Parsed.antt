@@ -1,14 +1,17 @@
 -- What a parse of the program's words gives.
-use Rattle.std.proofs.Common.{◌≡◌, ◌⊎◌, true, ℕ, List, [], codes, Option, Some, None, Err, Bor, option_map, unwrap_or, refl, sym, ◌∙◌, ap, subst, inl, inr}
-use Rattle.clap.specs.Words.{App, Row, Text, HasMatchesOf, IsAmong, fault_of, first_of, is_simple, is_simple_and_free, subcommand_rows_of}
+use Rattle.std.proofs.Common.{◌≡◌, ◌⊎◌, true, ℕ, List, [], codes, Option, Some, None, Err, Bor, option_map, unwrap_or, IfSome, refl, sym, ◌∙◌, ap, subst, inl, inr}
+use Rattle.clap.specs.Words.{App, Row, Text, HasMatchesOf, IsAmong, fault_of, all_of, first_of, is_simple, is_simple_and_free, subcommand_rows_of}
 use Rattle.clap.specs.declared.ArgMatches.{ArgMatches}
 use Rattle.clap.specs.declared.error.ErrorKind.{ErrorKind}
 use Rattle.clap.specs.declared.error.ErrorKind.TheVariants.{OutOfMemory}
 use Rattle.clap.proofs.OnLiterals.{clap_on_literals}
-use Rattle.fed_cli.specs.CommandLine.{command_line, faults, value_in, value_given, IsHelp}
-use Rattle.fed_cli.specs.Words.{Reads, IsRefusal}
+use Rattle.fed_cli.specs.CommandLine.{command_line, faults, value_in, value_given, values_in, values_given, IsHelp}
+use Rattle.fed_cli.specs.Names.{IsSourceName}
+use Rattle.fed_cli.specs.Words.{Reads, IsRefusal, HasBadFolder, told_folder}
+use Rattle.fed_cli.specs.declared.folders.FolderFault.{FolderFault}
+use Rattle.fed_cli.specs.declared.folders.FolderFault.TheVariants as folders
 use Rattle.fed_cli.specs.declared.words.WordsFault.{WordsFault}
-use Rattle.fed_cli.specs.declared.words.WordsFault.TheVariants.{Help, Usage, BadName, NoMemory}
+use Rattle.fed_cli.specs.declared.words.WordsFault.TheVariants.{Help, Usage, NoPath, BadName, NoMemory}
 
 -- the rows of the subcommand that was met
 pub value_of_met : (option : Text) (o : Option (Text × List Row)) (rows : List Row) → Some rows ≡ option_map (λ p. p.1) o → first_of option rows ≡ value_in option o
@@ -18,6 +21,12 @@ value_of_met option (Some p) rows e = let same : rows ≡ p.1 = cc in ap (first_
 pub no_value : (option : Text) (o : Option (Text × List Row)) → None ≡ option_map (λ (p : Text × List Row). p.1) o → None ≡ value_in option o
 no_value option None e = refl
 no_value option (Some p) e = absurd cc
+
+-- the values of an option, of the rows of the subcommand that was met
+pub values_of_met : (option : Text) (o : Option (Text × List Row)) (rows : List Row) → Some rows ≡ option_map (λ p. p.1) o
+    → unwrap_or (all_of option rows) [] ≡ values_in option o
+values_of_met option None rows e = absurd cc
+values_of_met option (Some p) rows e = let same : rows ≡ p.1 = cc in ap (λ rs. unwrap_or (all_of option rs) []) same
 
 line_is_simple : is_simple command_line ≡ true
 unfolding clap_on_literals
@@ -36,6 +45,23 @@ pub given : (option : Text) (app : App) (words : List Text) (m : ArgMatches) →
     → value_in option (subcommand_rows_of m) ≡ value_given option words
 given option app words m e h = ap (value_in option) ((subst (λ a. HasMatchesOf a words m) e h line_is_simple).1)
 
+-- and so are the values
+pub all_given : (option : Text) (app : App) (words : List Text) (m : ArgMatches) → app ≡ command_line → HasMatchesOf app words m
+    → values_in option (subcommand_rows_of m) ≡ values_given option words
+all_given option app words m e h = ap (values_in option) ((subst (λ a. HasMatchesOf a words m) e h line_is_simple).1)
+
+-- the name of the list is good, if one is given
+pub list_is_good : (o : Option (Bor (List ℕ))) (g : Option Text) → option_map (λ s. s.now) o ≡ g → IfSome o (λ name. IsSourceName name.now) → IfSome g IsSourceName
+list_is_good None g e h = subst (λ (o : Option Text). IfSome o IsSourceName) e tt
+list_is_good (Some s) g e h = subst (λ (o : Option Text). IfSome o IsSourceName) e h
+
+-- a value of a folder is not taken
+pub folder_refused : (words : List Text) (fault : FolderFault) (told : WordsFault) → told ≡ told_folder fault → faults words ≡ [] → HasBadFolder words fault
+    → Reads words (Err told)
+folder_refused words (folders.NoPath value) told e none bad = subst (λ t. Reads words (Err t)) (sym e) (none, bad)
+folder_refused words (folders.BadName value) told e none bad = subst (λ t. Reads words (Err t)) (sym e) (none, inr bad)
+folder_refused words folders.NoMemory told e none bad = subst (λ t. Reads words (Err t)) (sym e) tt
+
 -- what stands against words that were not taken, and was told
 pub refused : (app : App) (words : List Text) (kind : ErrorKind) (fault : WordsFault) → app ≡ command_line
     → (is_simple_and_free app ≡ true → (kind ≡ OutOfMemory) ⊎ IsAmong kind (fault_of app words)) → IsRefusal kind fault → Reads words (Err fault)
@@ -50,6 +76,7 @@ refused app words kind fault e h told = by_kind fault (subst (λ a. is_simple_an
     by_kind (Help text) (inr among) t = (kind, among, t)
     by_kind (Usage text) (inl m) t = absurd (t.1 m)
     by_kind (Usage text) (inr among) t = (kind, among, t.0)
+    by_kind (NoPath value) s t = absurd t
     by_kind (BadName name) s t = absurd t
     by_kind NoMemory s t = tt
 

@@ -1,13 +1,18 @@
 -- The command line that the program understands, in the words of `clap`.
-use Rattle.std.specs.Prelude.{List, Option, Some, codes, true, option_and_then, unwrap_or, ◌≡◌, ◌⊎◌}
-use Rattle.clap.specs.Words.{App, Row, Rule, Text, Kinds, first_of, fault_of, new_app, new_rule, subcommand_of, with_rule, with_subcommand}
-use Rattle.clap.specs.declared.builder.ArgAction.TheVariants.{Set}
+use Rattle.std.specs.Prelude.{List, [], ◌++◌, Option, Some, codes, true, option_and_then, unwrap_or, ◌≡◌, ◌⊎◌}
+use Rattle.clap.specs.Words.{App, Row, Rule, Text, Kinds, all_of, first_of, fault_of}
+use Rattle.clap.specs.Words.{new_app, new_rule, subcommand_of, with_rule, with_subcommand}
+use Rattle.clap.specs.declared.builder.ArgAction.TheVariants.{Set, Append}
 use Rattle.clap.specs.declared.error.ErrorKind.{ErrorKind}
 use Rattle.clap.specs.declared.error.ErrorKind.TheVariants.{DisplayHelp, DisplayVersion}
 
 -- an option of this name, which has one text
 abbrev pub text_rule : Text → Rule
 text_rule name = record (new_rule name) { long = Some name; action = Some Set; value_names = 1 }
+
+-- an option of this name, which may be given several times, with one text each
+abbrev pub texts_rule : Text → Rule
+texts_rule name = record (new_rule name) { long = Some name; action = Some Append; value_names = 1 }
 
 -- --owner NAME
 abbrev pub owner_rule : Rule
@@ -17,13 +22,22 @@ owner_rule = text_rule (codes "owner")
 abbrev pub list_rule : Rule
 list_rule = text_rule (codes "list")
 
+-- --csv NAME=PATH
+abbrev pub csv_rule : Rule
+csv_rule = texts_rule (codes "csv")
+
+-- --jsonl NAME=PATH
+abbrev pub jsonl_rule : Rule
+jsonl_rule = texts_rule (codes "jsonl")
+
 -- --init FILE
 abbrev pub init_rule : Rule
 init_rule = text_rule (codes "init")
 
--- run [--owner NAME] [--list NAME] [--init FILE]
+-- run [--owner NAME] [--list NAME] [--csv NAME=PATH].. [--jsonl NAME=PATH].. [--init FILE]
 abbrev pub run_command : App
-run_command = with_rule (with_rule (with_rule (new_app (codes "run")) owner_rule) list_rule) init_rule
+run_command =
+    with_rule (with_rule (with_rule (with_rule (with_rule (new_app (codes "run")) owner_rule) list_rule) csv_rule) jsonl_rule) init_rule
 
 -- fedq: a command has to be given, and no word at all asks for help
 abbrev pub fedq_command : App
@@ -31,7 +45,7 @@ fedq_command =
     let fedq = new_app (codes "fedq") in
     record fedq { top = record fedq.top { subcommand_required = true; arg_required_else_help = true } }
 
--- fedq run [--owner NAME] [--list NAME] [--init FILE]
+-- fedq run [--owner NAME] [--list NAME] [--csv NAME=PATH].. [--jsonl NAME=PATH].. [--init FILE]
 abbrev pub command_line : App
 command_line = with_subcommand fedq_command run_command.top
 
@@ -43,6 +57,14 @@ value_in option = option_and_then (λ command. first_of option command.1)
 abbrev pub value_given : Text → List Text → Option Text
 value_given option words = value_in option (subcommand_of command_line words)
 
+-- the values that the matches of a command give this option, as written: none where it is not given
+abbrev pub values_in : Text → Option (Text × List Row) → List Text
+values_in option met = unwrap_or (option_and_then (λ command. all_of option command.1) met) []
+
+-- the values that the words give it
+abbrev pub values_given : Text → List Text → List Text
+values_given option words = values_in option (subcommand_of command_line words)
+
 -- the name of the owner, which is admin where the words give none
 abbrev pub owner_named : List Text → Text
 owner_named words = unwrap_or (value_given (codes "owner") words) (codes "admin")
@@ -50,6 +72,17 @@ owner_named words = unwrap_or (value_given (codes "owner") words) (codes "admin"
 -- the name that the words give the list
 abbrev pub list_named : List Text → Option Text
 list_named words = value_given (codes "list") words
+
+-- the values that they give of folders of CSV files, and of JSON lines
+abbrev pub csv_given : List Text → List Text
+csv_given words = values_given (codes "csv") words
+
+abbrev pub jsonl_given : List Text → List Text
+jsonl_given words = values_given (codes "jsonl") words
+
+-- both, in the order in which they are judged and added
+abbrev pub folders_given : List Text → List Text
+folders_given words = csv_given words ++ jsonl_given words
 
 -- the path of the init file that they name
 abbrev pub init_named : List Text → Option Text

@@ -2,16 +2,15 @@
 use Rattle.std.specs.Prelude.{◌≡◌, ℕ, Bool, true, List, map, Option, Some, None, option_map, Result, Ok, Err, Vec, String, string_bytes}
 use Rattle.std.specs.Global.{Global}
 use Rattle.std.specs.Io.KnownBytes.{Appends}
+use Rattle.fdw_api.specs.State.{BoxState}
 use Rattle.med_exec.specs.Slots.{states}
 use Rattle.med_session.specs.Engine.{EachBox, IsAtRest}
 use Rattle.med_session.specs.declared.adding.Sources.{Sources}
-use Rattle.list_wrapper.specs.ListBoxes.{box_of}
-use Rattle.list_wrapper.specs.declared.list.ListWrapper.{ListWrapper}
 use Rattle.fed_cli.specs.Answered.{ServesProgram}
-use Rattle.fed_cli.specs.Setup.{BeginsNot, IsReadOf}
+use Rattle.fed_cli.specs.Setup.{BeginsNot, IsReadOf, list_asked}
 use Rattle.fed_cli.specs.Streams.{Stream, IsUntouched}
 use Rattle.fed_cli.specs.Told.{Came, told_of, run_status, run_line, words_status, words_text}
-use Rattle.fed_cli.specs.Words.{Reads}
+use Rattle.fed_cli.specs.Words.{Reads, folders_asked}
 use Rattle.fed_cli.specs.declared.program.ArgsFault.{ArgsFault}
 use Rattle.fed_cli.specs.declared.program.ArgsFault.TheVariants as args
 use Rattle.fed_cli.specs.declared.program.Exit.{Exit}
@@ -20,17 +19,17 @@ use Rattle.fed_cli.specs.declared.stream.StreamFault.{StreamFault}
 use Rattle.fed_cli.specs.declared.told.RunFault.{RunFault}
 use Rattle.fed_cli.specs.declared.words.Asked.{Asked}
 use Rattle.fed_cli.specs.declared.words.WordsFault.{WordsFault}
-use Rattle.fed_cli.specs.declared.words.WordsFault.TheVariants.{Help, Usage, BadName, NoMemory}
+use Rattle.fed_cli.specs.declared.words.WordsFault.TheVariants.{Help, Usage, NoPath, BadName, NoMemory}
 
 -- A run came to this, and these bytes of its init file were read. Where no sources are handed back it did not begin: nothing was read or
 -- written. Else the input was served, and standard output got the replies alone.
-abbrev pub Runs : Asked → Came → Option (List ℕ) → Option (Sources ListWrapper) → Stream → Stream → Type 0
-Runs asked came script None input output =
+abbrev pub Runs : {W : Type 0} → (W → BoxState) → Asked → Came → Option (List ℕ) → Option (Sources W) → Stream → Stream → Type 0
+Runs meaning asked came script None input output =
     (fault : RunFault) × (came ≡ Err fault) × BeginsNot asked script fault × IsUntouched input × IsUntouched output
-Runs asked came script (Some sources) input output =
+Runs meaning asked came script (Some sources) input output =
     (ended : Result Ended StreamFault) × (came ≡ told_of ended) × IsReadOf asked.init script
-    × ServesProgram asked.owner.now (option_map (λ s. s.now) asked.list) script (states box_of sources.slots.items) input output ended
-    × EachBox IsAtRest (states box_of sources.slots.items)
+    × ServesProgram asked.owner.now (list_asked asked) (folders_asked asked) script (states meaning sources.slots.items) input output ended
+    × EachBox IsAtRest (states meaning sources.slots.items)
 
 -- where all could be told, a stream got this text, and nothing else
 abbrev pub Tells : Bool → Stream → List ℕ → Type 0
@@ -46,18 +45,19 @@ TellsRun (Err fault) is_told errors = Tells is_told errors (run_line (Err fault)
 abbrev pub TellsWords : WordsFault → Bool → Stream → Stream → Type 0
 TellsWords (Help text) is_told output errors = Tells is_told output (words_text (Help text)) × IsUntouched errors
 TellsWords (Usage text) is_told output errors = IsUntouched output × Tells is_told errors (words_text (Usage text))
+TellsWords (NoPath value) is_told output errors = IsUntouched output × Tells is_told errors (words_text (NoPath value))
 TellsWords (BadName name) is_told output errors = IsUntouched output × Tells is_told errors (words_text (BadName name))
 TellsWords NoMemory is_told output errors = IsUntouched output × Tells is_told errors (words_text NoMemory)
 
 -- the program exits so on these words, with this done to standard input, standard output and standard error
-pub data Exits (words : List (List ℕ)) (exit : Exit) (input output errors : Stream) : Type 0 where
+pub data Exits {W : Type 0} (meaning : W → BoxState) (words : List (List ℕ)) (exit : Exit W) (input output errors : Stream) : Type 0 where
   -- the words ask for a run
   has_run : (asked : Asked) → Reads words (Ok asked) → (came : Came)
-      → Runs asked came (option_map (λ v. v.items) exit.script) exit.sources input output → exit.status ≡ run_status came
-      → TellsRun came exit.is_told errors → Exits words exit input output errors
+      → Runs meaning asked came (option_map (λ v. v.items) exit.script) exit.sources input output → exit.status ≡ run_status came
+      → TellsRun came exit.is_told errors → Exits meaning words exit input output errors
   -- they do not
   has_refused : (fault : WordsFault) → Reads words (Err fault) → exit.sources ≡ None → exit.script ≡ None → IsUntouched input
-      → TellsWords fault exit.is_told output errors → exit.status ≡ words_status fault → Exits words exit input output errors
+      → TellsWords fault exit.is_told output errors → exit.status ≡ words_status fault → Exits meaning words exit input output errors
 
 -- the exit status where the environment gives no words
 abbrev pub args_status : ArgsFault → ℕ
@@ -66,9 +66,10 @@ args_status args.NoMemory = 1
 
 -- The program exits by this status on what its environment gives: so on its words, or, where they cannot be read, with nothing read of
 -- standard input and nothing written to standard output.
-pub data ExitsBy (words : Result (Vec (String Global) Global) ArgsFault) (status : ℕ) (input output errors : Stream) : Type 0 where
-  on_words : (given : Vec (String Global) Global) → words ≡ Ok given → (exit : Exit)
-      → Exits (map string_bytes given.items) exit input output errors
-      → status ≡ exit.status → ExitsBy words status input output errors
+pub data ExitsBy {W : Type 0} (meaning : W → BoxState) (words : Result (Vec (String Global) Global) ArgsFault) (status : ℕ)
+    (input output errors : Stream) : Type 0 where
+  on_words : (given : Vec (String Global) Global) → words ≡ Ok given → (exit : Exit W)
+      → Exits meaning (map string_bytes given.items) exit input output errors
+      → status ≡ exit.status → ExitsBy meaning words status input output errors
   on_none : (fault : ArgsFault) → words ≡ Err fault → IsUntouched input → IsUntouched output → status ≡ args_status fault
-      → ExitsBy words status input output errors
+      → ExitsBy meaning words status input output errors

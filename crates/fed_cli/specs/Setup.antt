@@ -1,29 +1,40 @@
--- What a program begins with: the demo list, set up by a script, and the replay of its init file.
-use Rattle.std.specs.Prelude.{◌≡◌, ◌≢◌, ℕ, List, [], ◌∷◌, ◌++◌, length, Option, Some, None, option_map, Result, Ok, Err}
+-- What a program begins with: the demo list and folders as sources, the set-up of the list by a script, and the replay of its init file.
+use Rattle.std.specs.Prelude.{◌≡◌, ◌≢◌, ◌<◌, ◌⊎◌, ℕ, List, [], ◌∷◌, ◌++◌, length, Option, Some, None, option_map, Result, Ok, Err}
 use Rattle.std.specs.Borrow.{Bor}
 use Rattle.fdw_api.specs.State.{BoxState}
 use Rattle.med_catalog.specs.declared.kind.SourceKind.TheVariants as kinds
 use Rattle.med_world.specs.Adding.{HasSource}
-use Rattle.med_world.specs.Engine.{Label}
-use Rattle.med_world.specs.World.{empty_world, with_source}
+use Rattle.med_world.specs.Engine.{Label, Shown, Agrees}
+use Rattle.med_world.specs.World.{World, empty_world, with_source}
+use Rattle.blob_store.specs.Shelves.{nothing_known}
 use Rattle.list_wrapper.specs.Lists.{IsNewList}
+use Rattle.csv_wrapper.specs.CsvBoxes.{IsNewCsv}
+use Rattle.jsonl_wrapper.specs.Boxes.{IsNewJsonl}
 use Rattle.session_wire.specs.Worlds.{Scene, SceneSteps}
 use Rattle.fed_replay.specs.Replays.{Replays}
 use Rattle.fed_replay.specs.Engines.{SceneCloses}
 use Rattle.fed_replay.specs.declared.script.ScriptFault.{ScriptFault}
 use Rattle.fed_replay.specs.declared.script.ScriptFault.TheVariants as scripts
 use Rattle.fed_cli.specs.Demo.{demo_list, setup_script}
+use Rattle.fed_cli.specs.Folders.{Folder, source_kind}
 use Rattle.fed_cli.specs.Told.{Came, replay_told}
+use Rattle.fed_cli.specs.Words.{folders_asked}
+use Rattle.fed_cli.specs.declared.folders.FolderKind.{FolderKind}
+use Rattle.fed_cli.specs.declared.folders.FolderKind.TheVariants.{Csv, JsonLines}
 use Rattle.fed_cli.specs.declared.words.Asked.{Asked}
 use Rattle.fed_cli.specs.declared.told.RunFault.{RunFault}
 use Rattle.fed_cli.specs.declared.told.RunFault.TheVariants as faults
+
+-- a world over the boxes that an engine shows
+abbrev pub over : Shown → World → Scene
+over e w = record { world = w; boxes = e.boxes }
 
 -- where every program of this owner begins: no object, no source, no session
 abbrev pub empty_scene : List ℕ → Scene
 empty_scene owner = record { world = empty_world owner; boxes = [] }
 
--- The source of this name is a new demo list that is free, and its box stands last. Nothing was done in it: no scan was begun, and no fault,
--- row or ticket is counted.
+-- The source of this name is a new demo list that is free, and its box stands last. Nothing was done in it: no scan was begun, and no
+-- fault, row or ticket is counted.
 pub record HasList (old : Scene) (name : List ℕ) (new : Scene) : Type 0 where
   pub list : BoxState
   pub is_demo : IsNewList list demo_list
@@ -44,10 +55,100 @@ HasDemo old owner name new = (count : ℕ) × SetsUp old owner name (Ok count) n
 abbrev pub LacksDemo : Scene → List ℕ → List ℕ → Type 0
 LacksDemo old owner name = (why : ScriptFault) × (why ≢ scripts.NoMemory) × ((new : Scene) × SetsUp old owner name (Err why) new)
 
--- what a program of this owner begins with: nothing at all, or the demo list as the source of this name
-abbrev pub IsFirst : List ℕ → Option (List ℕ) → Scene → Type 0
-IsFirst owner None first = first ≡ empty_scene owner
-IsFirst owner (Some name) first = HasDemo (empty_scene owner) owner name first
+-- a new folder of this kind: nothing is known of what stands in it, nothing is bound, live or staged, and nothing is counted
+abbrev pub IsNewFolder : FolderKind → BoxState → Type 0
+IsNewFolder Csv s = IsNewCsv s (nothing_known 0)
+IsNewFolder JsonLines s = IsNewJsonl s (nothing_known 0)
+
+-- the source of this name is a new folder of this kind that is free, and its box stands last
+pub record HasFolder (old : Scene) (folder : Folder) (new : Scene) : Type 0 where
+  pub box : BoxState
+  pub is_new : IsNewFolder folder.kind box
+  pub world : new.world ≡ with_source old.world folder.name (source_kind folder.kind) box.nature.kind box.content.holdings
+  pub boxes : new.boxes ≡ old.boxes ++ Some box ∷ []
+
+-- each of these is, in order
+abbrev pub HasFolders : Scene → List Folder → Scene → Type 0
+HasFolders old [] new = new ≡ old
+HasFolders old (f ∷ fs) new = (mid : Scene) × HasFolder old f mid × HasFolders mid fs new
+
+-- the list is, if one is asked
+abbrev pub HasListAsked : Scene → Option (List ℕ) → Scene → Type 0
+HasListAsked old None new = new ≡ old
+HasListAsked old (Some name) new = HasList old name new
+
+-- the list is, if one is asked, and then the folders are
+pub record HasSources (old : Scene) (list : Option (List ℕ)) (folders : List Folder) (new : Scene) : Type 0 where
+  pub listed : Scene
+  pub has_list : HasListAsked old list listed
+  pub has_folders : HasFolders listed folders new
+
+-- the owner's replay of the set-up of the list, if one is asked, leads there, and every line of it is done
+abbrev pub IsSetUp : Scene → List ℕ → Option (List ℕ) → Scene → Type 0
+IsSetUp old owner None new = new ≡ old
+IsSetUp old owner (Some name) new = (count : ℕ) × Replays SceneSteps SceneCloses old owner (setup_script name) (Ok count) new
+
+-- a line of the set-up of the list of this name is refused, and not for want of memory
+abbrev pub IsNotSetUp : Scene → List ℕ → List ℕ → Type 0
+IsNotSetUp old owner name =
+    (why : ScriptFault) × (why ≢ scripts.NoMemory)
+    × ((new : Scene) × Replays SceneSteps SceneCloses old owner (setup_script name) (Err why) new)
+
+-- What a program of this owner begins with: from nothing at all the demo list as the source of this name, if one is asked, and these
+-- folders as sources; and then the set-up of the list.
+pub record IsFirst (owner : List ℕ) (list : Option (List ℕ)) (folders : List Folder) (first : Scene) : Type 0 where
+  pub before : Scene
+  pub has_sources : HasSources (empty_scene owner) list folders before
+  pub is_set_up : IsSetUp before owner list first
+
+-- why the list, if one is asked, is not set up from here as this owner: memory was refused, or a line of it
+abbrev pub SetUpFails : Scene → List ℕ → Option (Bor (List ℕ)) → RunFault → Type 0
+SetUpFails old owner list faults.NoMemory = Unit {0}
+SetUpFails old owner list (faults.CannotOpen told) = (list ≡ Some told) × IsNotSetUp old owner told.now
+SetUpFails old owner list (faults.NameTaken told) = ⊥
+SetUpFails old owner list (faults.TooManySources told) = ⊥
+SetUpFails old owner list faults.Read = ⊥
+SetUpFails old owner list faults.Write = ⊥
+SetUpFails old owner list faults.TooManyReads = ⊥
+SetUpFails old owner list faults.ProtocolViolation = ⊥
+SetUpFails old owner list (faults.CannotReadInit told) = ⊥
+SetUpFails old owner list faults.InitNotText = ⊥
+SetUpFails old owner list (faults.InitLine number cause) = ⊥
+
+-- how an engine labels the list, and a folder
+abbrev pub list_label : List ℕ → Label
+list_label name = record { name = name; kind = kinds.List }
+
+abbrev pub folder_label : Folder → Label
+folder_label f = record { name = f.name; kind = source_kind f.kind }
+
+-- the list alone, if one is asked
+abbrev pub labels_before : Option (List ℕ) → List Label
+labels_before None = []
+labels_before (Some name) = list_label name ∷ []
+
+-- Why this folder is not added beside sources of these labels: its name is taken, or else there are 64; or memory was refused.
+abbrev pub IsNotAdded : List Label → Folder → RunFault → Type 0
+IsNotAdded labels f faults.NoMemory = Unit {0}
+IsNotAdded labels f (faults.NameTaken told) = (told.now ≡ f.name) × HasSource labels f.name
+IsNotAdded labels f (faults.TooManySources told) = (told.now ≡ f.name) × (HasSource labels f.name → ⊥) × (length labels ≡ 64)
+IsNotAdded labels f (faults.CannotOpen told) = ⊥
+IsNotAdded labels f faults.Read = ⊥
+IsNotAdded labels f faults.Write = ⊥
+IsNotAdded labels f faults.TooManyReads = ⊥
+IsNotAdded labels f faults.ProtocolViolation = ⊥
+IsNotAdded labels f (faults.CannotReadInit told) = ⊥
+IsNotAdded labels f faults.InitNotText = ⊥
+IsNotAdded labels f (faults.InitLine number cause) = ⊥
+
+-- it can be added: its name is free, and there are fewer than 64
+abbrev pub CanBeAdded : List Label → Folder → Type 0
+CanBeAdded labels f = (HasSource labels f.name → ⊥) × (length labels < 64)
+
+-- the first of these folders that is not added, in order, beside sources of these labels, and why: those before it are
+abbrev pub AreNotAdded : List Label → List Folder → RunFault → Type 0
+AreNotAdded labels [] fault = ⊥
+AreNotAdded labels (f ∷ fs) fault = IsNotAdded labels f fault ⊎ (CanBeAdded labels f × AreNotAdded (labels ++ folder_label f ∷ []) fs fault)
 
 -- Why the demo list is not added beside the sources of these names: its name is taken, or there are 64 sources; a line of its set-up is
 -- refused; or memory was refused. No fault of a stream is told.
@@ -64,19 +165,43 @@ AddsNoDemo old owner labels name (faults.CannotReadInit told) = ⊥
 AddsNoDemo old owner labels name faults.InitNotText = ⊥
 AddsNoDemo old owner labels name (faults.InitLine number cause) = ⊥
 
--- why a program of this owner has no first world: memory was refused, or a line of the set-up of its list
-abbrev pub HasNoFirst : List ℕ → Option (Bor (List ℕ)) → RunFault → Type 0
-HasNoFirst owner list faults.NoMemory = Unit {0}
-HasNoFirst owner list (faults.CannotOpen told) = (list ≡ Some told) × LacksDemo (empty_scene owner) owner told.now
-HasNoFirst owner list (faults.NameTaken told) = ⊥
-HasNoFirst owner list (faults.TooManySources told) = ⊥
-HasNoFirst owner list faults.Read = ⊥
-HasNoFirst owner list faults.Write = ⊥
-HasNoFirst owner list faults.TooManyReads = ⊥
-HasNoFirst owner list faults.ProtocolViolation = ⊥
-HasNoFirst owner list (faults.CannotReadInit told) = ⊥
-HasNoFirst owner list faults.InitNotText = ⊥
-HasNoFirst owner list (faults.InitLine number cause) = ⊥
+-- An engine that stands for a world stands for the one with this folder besides: its box stands last, and it could be added.
+pub record AddsFolder (old : Shown) (folder : Folder) (new : Shown) : Type 0 where
+  pub labels : new.labels ≡ old.labels ++ folder_label folder ∷ []
+  pub could : CanBeAdded old.labels folder
+  pub world : (w : World) → Agrees old w
+      → (after : World) × HasFolder (over old w) folder (over new after) × Agrees new after
+
+-- the same of each of these, in order
+pub record AddsFolders (old : Shown) (folders : List Folder) (new : Shown) : Type 0 where
+  pub world : (w : World) → Agrees old w
+      → (after : World) × HasFolders (over old w) folders (over new after) × Agrees new after
+
+-- the name of the list that is asked, if one is
+abbrev pub list_asked : Asked → Option (List ℕ)
+list_asked asked = option_map (λ s. s.now) asked.list
+
+-- the folders that are asked are not all added beside the list, for this
+abbrev pub FoldersFail : Asked → RunFault → Type 0
+FoldersFail asked fault = AreNotAdded (labels_before (list_asked asked)) (folders_asked asked) fault
+
+-- Why a program has no first world: memory was refused; one of its folders is not added, and why; or, all sources being added, a line of
+-- the set-up of its list was refused.
+abbrev pub HasNoFirst : Asked → RunFault → Type 0
+HasNoFirst asked faults.NoMemory = Unit {0}
+HasNoFirst asked (faults.NameTaken told) = FoldersFail asked (faults.NameTaken told)
+HasNoFirst asked (faults.TooManySources told) = FoldersFail asked (faults.TooManySources told)
+HasNoFirst asked (faults.CannotOpen told) =
+    (asked.list ≡ Some told)
+    × ((before : Scene) × HasSources (empty_scene asked.owner.now) (list_asked asked) (folders_asked asked) before
+    × IsNotSetUp before asked.owner.now told.now)
+HasNoFirst asked faults.Read = ⊥
+HasNoFirst asked faults.Write = ⊥
+HasNoFirst asked faults.TooManyReads = ⊥
+HasNoFirst asked faults.ProtocolViolation = ⊥
+HasNoFirst asked (faults.CannotReadInit told) = ⊥
+HasNoFirst asked faults.InitNotText = ⊥
+HasNoFirst asked (faults.InitLine number cause) = ⊥
 
 -- bytes of an init file were read exactly where one is asked
 abbrev pub IsReadOf : Option (Bor (List ℕ)) → Option (List ℕ) → Type 0
@@ -98,28 +223,30 @@ ReplaysInit first owner (Some script) came after =
 
 -- What the beginning of a program comes to, and where it leads: its first world and boxes are made, and then its owner replays the script
 -- of its init file.
-pub record Begins (owner : List ℕ) (source script : Option (List ℕ)) (came : Came) (after : Scene) : Type 0 where
+pub record Begins (owner : List ℕ) (source : Option (List ℕ)) (folders : List Folder) (script : Option (List ℕ)) (came : Came)
+    (after : Scene) : Type 0 where
   pub first : Scene
-  pub is_first : IsFirst owner source first
+  pub is_first : IsFirst owner source folders first
   pub replays : ReplaysInit first owner script came after
 
--- Why a program does not begin, of whose init file these bytes were read: memory was refused, a line of the set-up of its list was
--- refused, its init file could not be read once its first world was made, or its replay came to that fault.
+-- it comes to this for what is asked, with this script
+abbrev pub BeginsAsked : Asked → Option (List ℕ) → Came → Type 0
+BeginsAsked asked script came =
+    (after : Scene) × Begins asked.owner.now (list_asked asked) (folders_asked asked) script came after
+
+-- Why a program does not begin, of whose init file these bytes were read: it has no first world, its init file could not be read once its
+-- first world was made, or its replay came to that fault.
 abbrev pub BeginsNot : Asked → Option (List ℕ) → RunFault → Type 0
 BeginsNot asked script faults.NoMemory = Unit {0}
-BeginsNot asked script (faults.CannotOpen told) =
-    (asked.list ≡ Some told) × LacksDemo (empty_scene asked.owner.now) asked.owner.now told.now
+BeginsNot asked script (faults.NameTaken told) = HasNoFirst asked (faults.NameTaken told)
+BeginsNot asked script (faults.TooManySources told) = HasNoFirst asked (faults.TooManySources told)
+BeginsNot asked script (faults.CannotOpen told) = HasNoFirst asked (faults.CannotOpen told)
 BeginsNot asked script (faults.CannotReadInit told) =
     (asked.init ≡ Some told) × (script ≡ None)
-    × ((first : Scene) × IsFirst asked.owner.now (option_map (λ s. s.now) asked.list) first)
-BeginsNot asked script faults.InitNotText =
-    IsReadOf asked.init script
-    × ((after : Scene) × Begins asked.owner.now (option_map (λ s. s.now) asked.list) script (Err faults.InitNotText) after)
+    × ((first : Scene) × IsFirst asked.owner.now (list_asked asked) (folders_asked asked) first)
+BeginsNot asked script faults.InitNotText = IsReadOf asked.init script × BeginsAsked asked script (Err faults.InitNotText)
 BeginsNot asked script (faults.InitLine number cause) =
-    IsReadOf asked.init script
-    × ((after : Scene) × Begins asked.owner.now (option_map (λ s. s.now) asked.list) script (Err (faults.InitLine number cause)) after)
-BeginsNot asked script (faults.NameTaken told) = ⊥
-BeginsNot asked script (faults.TooManySources told) = ⊥
+    IsReadOf asked.init script × BeginsAsked asked script (Err (faults.InitLine number cause))
 BeginsNot asked script faults.Read = ⊥
 BeginsNot asked script faults.Write = ⊥
 BeginsNot asked script faults.TooManyReads = ⊥

@@ -75,6 +75,7 @@ run_line (Err fault) = codes "fedq: " ++ fault_text fault ++ codes "\n"
 abbrev pub words_status : WordsFault → ℕ
 words_status (words.Help text) = 0
 words_status (words.Usage text) = 2
+words_status (words.NoPath value) = 2
 words_status (words.BadName name) = 2
 words_status words.NoMemory = 1
 
@@ -82,5 +83,6 @@ words_status words.NoMemory = 1
 abbrev pub words_text : WordsFault → List ℕ
 words_text (words.Help text) = string_bytes text
 words_text (words.Usage text) = string_bytes text
+words_text (words.NoPath value) = codes "fedq: NAME=PATH expected: " ++ value.now ++ codes "\n"
 words_text (words.BadName name) = codes "fedq: bad name: " ++ name.now ++ codes "\n"
 words_text words.NoMemory = codes "fedq: out of memory\n"

@@ -2,6 +2,7 @@
 #![tactic(auto)]
 
 pub mod demo;
+pub mod folders;
 pub mod init;
 pub mod program;
 pub mod serving;

@@ -1,18 +1,25 @@
 //! The program: what it serves, and how it ends.
-ghost use Rattle.std.specs.Prelude.{◌≡◌, IfOk, IfErr, Err, OnOk, None, option_map, map, string_bytes};
+ghost use Rattle.std.specs.Prelude.{◌≡◌, [], ◌∷◌, ◌++◌, IfOk, IfErr, Err, OnOk, None, option_map, map, string_bytes};
 ghost use Rattle.med_session.specs.Requests.{IsUser};
 ghost use Rattle.med_session.specs.World.{World};
 ghost use Rattle.med_session.specs.Engine.{IsSound, Agrees};
 ghost use Rattle.med_session.specs.Shows.{shown};
-ghost use Rattle.list_wrapper.specs.ListBoxes.{box_of};
 ghost use Rattle.list_wrapper.specs.Lists.{IsNewList};
 ghost use Rattle.session_wire.specs.Worlds.{scene_of};
 ghost use Rattle.fed_cli.specs.Demo.{demo_list};
 ghost use Rattle.fed_cli.specs.Exits.{Exits, ExitsBy, Runs, TellsRun, TellsWords};
-ghost use Rattle.fed_cli.specs.Setup.{HasDemo, IsFirst, HasNoFirst, AddsNoDemo};
+ghost use Rattle.fed_cli.specs.Folders.{folder_of};
+ghost use Rattle.fed_cli.specs.Setup.{HasDemo, HasList, IsFirst, HasNoFirst, AddsNoDemo, AddsFolder, AddsFolders, AreNotAdded, IsNotAdded};
+ghost use Rattle.fed_cli.specs.Setup.{IsNewFolder, IsSetUp, SetUpFails, HasListAsked, labels_before, list_asked, list_label};
+ghost use Rattle.fed_cli.specs.Told.{added_of};
+ghost use Rattle.fed_cli.specs.Words.{folders_asked};
+ghost use Rattle.med_session.specs.Adding.{AddCause};
+ghost use Rattle.med_session.specs.declared.adding.AddFault.{AddFault};
+ghost use Rattle.fed_cli.specs.declared.told.RunFault.TheVariants as faults;
 ghost use Rattle.fed_cli.specs.Streams.{stream};
 
 use crate::demo::{demo_tables, setup_script};
+use crate::folders::{AskedFolder, FolderKind};
 use crate::init::{read_init, replay_init};
 use crate::serving::serve_engine;
 use crate::told::{RunFault, add_fault, setup_told, status, told};
@@ -22,13 +29,16 @@ use fed_replay::replay;
 use list_wrapper::ListWrapper;
 use med_catalog::law::lists_are_told_nothing;
 use med_session::{Engine, SourceKind, Sources};
+use med_value::NoMemory;
+use source_kinds::law::{csv_takes_its_tables, jsonl_takes_its_tables};
+use source_kinds::{Source, of_csv, of_jsonl, of_list};
 use std::alloc::Global;
 use std::io::{Read, Write};
 use std::rt::Files;
 
 /// How the program exits.
 #[derive(Drop)]
-pub struct Exit {
+pub struct Exit<W> {
     /// The exit status.
     pub status: u8,
     /// Whether all that was to be told could be written.
@@ -36,7 +46,7 @@ pub struct Exit {
     /// The bytes of the init file, if they were read.
     pub script: Option<Vec<u8>>,
     /// The sources that were served, handed back.
-    pub sources: Option<Sources<ListWrapper>>,
+    pub sources: Option<Sources<W>>,
 }
 
 /// Adds a list of the demo tables as the source of this name, and replays the script that makes its objects as this owner.
@@ -67,26 +77,161 @@ pub fn add_demo<'a, W: Wrapper>(
     setup_told(name, replay(alloc, engine, owner, script.as_bytes()))
 }
 
-// The engine that the program begins with, which has the demo list as the source of this name if one is given.
-fn first_engine<'a>(
-    alloc: Global,
-    owner: &str,
-    list: Option<&'a str>,
-) -> Result<Engine<ListWrapper>, RunFault<'a>>
-    requires { IsUser owner.now }
-    ensures sound { IfOk result (λ engine. IsSound (shown box_of engine)) }
-    ensures first { IfOk result (λ engine. (w : World) × Agrees (shown box_of engine) w
-        × IsFirst owner.now (option_map (λ s. s.now) list.entry) (scene_of box_of engine w)) }
-    ensures refused { IfErr result (HasNoFirst owner.now list.entry) }
+// Adds a list of the demo tables as the source of this name.
+fn add_list<'a, W: Wrapper>(
+    engine: &mut Engine<W>,
+    name: &'a str,
+    demo: W,
+) -> Result<(), RunFault<'a>>
+    requires engine { IsSound (shown W.meaning engine.old) }
+    requires demo { IsNewList (W.meaning demo) demo_list }
+    ensures sound { IsSound (shown W.meaning engine.new) }
+    ensures labels { OnOk result ((shown W.meaning engine.new).labels
+        ≡ (shown W.meaning engine.old).labels ++ list_label name.entry.now ∷ []) }
+    ensures world { OnOk result ((w : World) → Agrees (shown W.meaning engine.old) w
+        → (after : World) × HasList (scene_of W.meaning engine.old w) name.entry.now (scene_of W.meaning engine.new after)
+        × Agrees (shown W.meaning engine.new) after) }
+    ensures fault { IfErr result (λ fault. (why : AddFault) × (fault ≡ added_of name.entry why)
+        × AddCause (shown W.meaning engine.old).labels name.entry.now why) }
 {
-    let Ok(mut engine) = Engine::<ListWrapper>::new(alloc, owner) else {
-        return Err(RunFault::NoMemory);
-    };
+    lists_are_told_nothing();
+    match engine.add_source(name, SourceKind::List, demo) {
+        Ok(()) => {}
+        Err((_, fault)) => return Err(add_fault(name, fault)),
+    }
+    Ok(())
+}
+
+// Adds the demo list as the source of this name, if one is asked, to an engine that has no source.
+fn add_asked_list<'a, V: Files + Clone + Drop>(
+    alloc: Global,
+    engine: &mut Engine<Source<V>>,
+    list: Option<&'a str>,
+) -> Result<(), RunFault<'a>>
+    requires engine { IsSound (shown ⟦<Source<V> as Wrapper>⟧.meaning engine.old) }
+    requires empty { (shown ⟦<Source<V> as Wrapper>⟧.meaning engine.old).labels ≡ [] }
+    ensures sound { IsSound (shown ⟦<Source<V> as Wrapper>⟧.meaning engine.new) }
+    ensures labels { OnOk result ((shown ⟦<Source<V> as Wrapper>⟧.meaning engine.new).labels
+        ≡ labels_before (option_map (λ s. s.now) list.entry)) }
+    ensures world { OnOk result ((w : World) → Agrees (shown ⟦<Source<V> as Wrapper>⟧.meaning engine.old) w
+        → (after : World) × HasListAsked (scene_of ⟦<Source<V> as Wrapper>⟧.meaning engine.old w) (option_map (λ s. s.now) list.entry)
+        (scene_of ⟦<Source<V> as Wrapper>⟧.meaning engine.new after) × Agrees (shown ⟦<Source<V> as Wrapper>⟧.meaning engine.new) after) }
+    ensures fault { IfErr result (λ fault. fault ≡ faults.NoMemory) }
+{
     let Some(name) = list else {
-        return Ok(engine);
+        return Ok(());
     };
     let demo = ListWrapper::new(alloc, demo_tables(alloc)?)?;
-    match add_demo(alloc, &mut engine, owner, name, demo) {
+    match add_list(engine, name, of_list(demo)) {
+        Ok(()) => {}
+        Err(fault) => return Err(fault),
+    }
+    Ok(())
+}
+
+// Adds a new folder as the source that is asked.
+fn add_folder<'a, W: Wrapper>(
+    engine: &mut Engine<W>,
+    folder: AskedFolder<'a>,
+    source: W,
+) -> Result<(), RunFault<'a>>
+    requires engine { IsSound (shown W.meaning engine.old) }
+    requires new { IsNewFolder folder.kind (W.meaning source) }
+    ensures sound { IsSound (shown W.meaning engine.new) }
+    ensures added { OnOk result (AddsFolder (shown W.meaning engine.old) (folder_of folder.entry) (shown W.meaning engine.new)) }
+    ensures fault { IfErr result (IsNotAdded (shown W.meaning engine.old).labels (folder_of folder.entry)) }
+{
+    csv_takes_its_tables();
+    jsonl_takes_its_tables();
+    match engine.add_source(folder.name, folder.kind.source_kind(), source) {
+        Ok(()) => {}
+        Err((_, fault)) => return Err(add_fault(folder.name, fault)),
+    }
+    Ok(())
+}
+
+// The source that a folder is.
+fn source_of<V: AllocGlobal + Files + Clone + Drop>(
+    rt: &V,
+    folder: AskedFolder<'_>,
+) -> Result<Source<V>, NoMemory>
+    ensures new { IfOk result (λ s. IsNewFolder folder.entry.kind (⟦<Source<V> as Wrapper>⟧.meaning s)) }
+{
+    match folder.kind {
+        FolderKind::Csv => of_csv(rt.alloc(), rt, folder.path),
+        FolderKind::JsonLines => of_jsonl(rt.alloc(), rt, folder.path),
+    }
+}
+
+// Adds these folders as sources, in order.
+fn add_folders<'a, V: AllocGlobal + Files + Clone + Drop>(
+    rt: &V,
+    engine: &mut Engine<Source<V>>,
+    folders: &[AskedFolder<'a>],
+) -> Result<(), RunFault<'a>>
+    requires { IsSound (shown ⟦<Source<V> as Wrapper>⟧.meaning engine.old) }
+    ensures sound { IsSound (shown ⟦<Source<V> as Wrapper>⟧.meaning engine.new) }
+    ensures added { OnOk result (AddsFolders (shown ⟦<Source<V> as Wrapper>⟧.meaning engine.old)
+        (map folder_of folders.now) (shown ⟦<Source<V> as Wrapper>⟧.meaning engine.new)) }
+    ensures fault { IfErr result (AreNotAdded (shown ⟦<Source<V> as Wrapper>⟧.meaning engine.old).labels (map folder_of folders.now)) }
+{
+    let Some((folder, rest)) = folders.split_first() else {
+        return Ok(());
+    };
+    let source = source_of(rt, *folder)?;
+    match add_folder(engine, *folder, source) {
+        Ok(()) => {}
+        Err(fault) => return Err(fault),
+    }
+    add_folders(rt, engine, rest)
+}
+
+// Replays the script that sets up the list of this name, if one is asked, as this owner.
+fn set_up<'a, W: Wrapper>(
+    alloc: Global,
+    engine: &mut Engine<W>,
+    owner: &str,
+    asked: Option<&'a str>,
+) -> Result<(), RunFault<'a>>
+    requires { IsSound (shown W.meaning engine.old) }
+    ensures sound { IsSound (shown W.meaning engine.new) }
+    ensures done { OnOk result ((w : World) → Agrees (shown W.meaning engine.old) w
+        → (after : World) × IsSetUp (scene_of W.meaning engine.old w) owner.now (option_map (λ s. s.now) asked.entry)
+        (scene_of W.meaning engine.new after) × Agrees (shown W.meaning engine.new) after) }
+    ensures fault { IfErr result (λ fault. (w : World) → Agrees (shown W.meaning engine.old) w
+        → SetUpFails (scene_of W.meaning engine.old w) owner.now asked.entry fault) }
+{
+    let Some(name) = asked else {
+        return Ok(());
+    };
+    let lines = setup_script(alloc, name)?;
+    setup_told(name, replay(alloc, engine, owner, lines.as_bytes()))
+}
+
+// The engine that the program begins with, which has the sources that are asked, and in which the list is set up.
+fn first_engine<'a, V: AllocGlobal + Files + Clone + Drop>(
+    rt: &V,
+    asked: &Asked<'a>,
+) -> Result<Engine<Source<V>>, RunFault<'a>>
+    requires { IsUser asked.now.owner.now }
+    ensures sound { IfOk result (λ engine. IsSound (shown ⟦<Source<V> as Wrapper>⟧.meaning engine)) }
+    ensures first { IfOk result (λ engine. (w : World) × Agrees (shown ⟦<Source<V> as Wrapper>⟧.meaning engine) w
+        × IsFirst asked.now.owner.now (list_asked asked.now) (folders_asked asked.now)
+        (scene_of ⟦<Source<V> as Wrapper>⟧.meaning engine w)) }
+    ensures refused { IfErr result (HasNoFirst asked.now) }
+{
+    let Ok(mut engine) = Engine::<Source<V>>::new(rt.alloc(), asked.owner) else {
+        return Err(RunFault::NoMemory);
+    };
+    match add_asked_list(rt.alloc(), &mut engine, asked.list) {
+        Ok(()) => {}
+        Err(fault) => return Err(fault),
+    }
+    match add_folders(rt, &mut engine, &asked.folders) {
+        Ok(()) => {}
+        Err(fault) => return Err(fault),
+    }
+    match set_up(rt.alloc(), &mut engine, asked.owner, asked.list) {
         Ok(()) => Ok(engine),
         Err(fault) => Err(fault),
     }
@@ -94,16 +239,16 @@ fn first_engine<'a>(
 
 /// What a run came to.
 #[derive(Drop)]
-pub struct Ran<'a> {
+pub struct Ran<'a, W> {
     /// The end of its input, or a fault.
     pub came: Result<(), RunFault<'a>>,
     /// The bytes of the init file, if they were read.
     pub script: Option<Vec<u8>>,
     /// The sources that were served, handed back: none where the run did not begin.
-    pub sources: Option<Sources<ListWrapper>>,
+    pub sources: Option<Sources<W>>,
 }
 
-impl<'a> Ran<'a> {
+impl<'a, W: Drop> Ran<'a, W> {
     // A run that did not begin.
     fn not_begun(fault: RunFault<'a>, script: Option<Vec<u8>>) -> Self
         ensures came { result.came ≡ Err fault.entry }
@@ -118,22 +263,22 @@ impl<'a> Ran<'a> {
     }
 }
 
-/// Answers the request lines of an input: the engine is made with the demo list, if it is asked, then its owner replays the init file, if
-/// one is asked, and then the input is served.
+/// Answers the request lines of an input: the engine is made with the demo list and the folders that are asked, the list is set up, then
+/// its owner replays the init file, if one is asked, and then the input is served.
 ///
-/// It ends before anything of the input is read and anything is written where memory was refused, a line of the list's set-up was
-/// refused, the init file could not be read, or its replay was refused.
-pub fn run_asked<'a, V: AllocGlobal + Files, R: Read, W: Write>(
+/// It ends before anything of the input is read and anything is written where memory was refused, a folder was not added, a line of the
+/// list's set-up was refused, the init file could not be read, or its replay was refused.
+pub fn run_asked<'a, V: AllocGlobal + Files + Clone + Drop, R: Read, W: Write>(
     rt: &V,
     asked: Asked<'a>,
     reader: &mut R,
     writer: &mut W,
-) -> Ran<'a>
+) -> Ran<'a, Source<V>>
     requires { IsUser asked.owner.now }
-    ensures { Runs asked.entry result.came (option_map (λ v. v.items) result.script) result.sources
+    ensures { Runs ⟦<Source<V> as Wrapper>⟧.meaning asked.entry result.came (option_map (λ v. v.items) result.script) result.sources
         (stream (R.remaining reader.old) (R.remaining reader.new)) (stream (W.contents writer.old) (W.contents writer.new)) }
 {
-    let mut engine = match first_engine(rt.alloc(), asked.owner, asked.list) {
+    let mut engine = match first_engine(rt, &asked) {
         Ok(engine) => engine,
         Err(fault) => return Ran::not_begun(fault, None),
     };
@@ -171,6 +316,7 @@ fn tell_words<O: Write, E: Write>(fault: &WordsFault<'_>, output: &mut O, errors
     match fault {
         WordsFault::Help(text) => output.write_all(text.as_bytes()).is_ok(),
         WordsFault::Usage(text) => errors.write_all(text.as_bytes()).is_ok(),
+        WordsFault::NoPath(value) => writeln!(errors, "fedq: NAME=PATH expected: {value}").is_ok(),
         WordsFault::BadName(name) => writeln!(errors, "fedq: bad name: {name}").is_ok(),
         WordsFault::NoMemory => errors.write_all(b"fedq: out of memory\n").is_ok(),
     }
@@ -178,15 +324,16 @@ fn tell_words<O: Write, E: Write>(fault: &WordsFault<'_>, output: &mut O, errors
 
 /// Does what the program's words ask: it answers an input on an output, or prints help there, and tells on a second output how it
 /// failed.
-pub fn run_words<V: AllocGlobal + Files, I: Read, O: Write, E: Write>(
+pub fn run_words<V: AllocGlobal + Files + Clone + Drop, I: Read, O: Write, E: Write>(
     rt: &V,
     words: &[String],
     input: &mut I,
     output: &mut O,
     errors: &mut E,
-) -> Exit
-    ensures { Exits (map string_bytes words.now) result (stream (I.remaining input.old) (I.remaining input.new))
-        (stream (O.contents output.old) (O.contents output.new)) (stream (E.contents errors.old) (E.contents errors.new)) }
+) -> Exit<Source<V>>
+    ensures { Exits ⟦<Source<V> as Wrapper>⟧.meaning (map string_bytes words.now) result
+        (stream (I.remaining input.old) (I.remaining input.new)) (stream (O.contents output.old) (O.contents output.new))
+        (stream (E.contents errors.old) (E.contents errors.new)) }
 {
     let asked = match read_words(rt.alloc(), words) {
         Ok(asked) => asked,
@@ -223,14 +370,14 @@ pub enum ArgsFault {
 
 /// Runs the program with these words, and gives its exit status: 0 where the input ended or help was asked, 2 where the words are
 /// refused, and 1 else, with one line on standard error.
-pub fn run<V: AllocGlobal + Files, I: Read, O: Write, E: Write>(
+pub fn run<V: AllocGlobal + Files + Clone + Drop, I: Read, O: Write, E: Write>(
     rt: &V,
     words: Result<Vec<String>, ArgsFault>,
     input: &mut I,
     output: &mut O,
     errors: &mut E,
 ) -> u8
-    ensures { ExitsBy words result
+    ensures { ExitsBy ⟦<Source<V> as Wrapper>⟧.meaning words result
         (stream (I.remaining input.old) (I.remaining input.new)) (stream (O.contents output.old) (O.contents output.new))
         (stream (E.contents errors.old) (E.contents errors.new)) }
 {

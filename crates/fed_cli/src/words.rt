@@ -1,13 +1,18 @@
 //! The words of the program.
-ghost use Rattle.std.specs.Prelude.{◌≡◌, ◌↔◌, [], ◌∷◌, IsTrue, false, IfOk, IfErr, IfSome, None, Some, codes, map, option_map};
+ghost use Rattle.std.specs.Prelude.{◌≡◌, ◌↔◌, [], ◌∷◌, ◌++◌, IsTrue, false, IfOk, IfErr, OnOk, IfSome, None, Some};
+ghost use Rattle.std.specs.Prelude.{codes, map, option_map, unwrap_or};
 ghost use Rattle.clap.specs.Lexer.{strip_byte};
 ghost use Rattle.clap.specs.Words.{Text, app_of, kind_of, rule_of, subcommand_rows_of};
 ghost use Rattle.clap.specs.declared.error.ErrorKind.TheVariants.{DisplayHelp, DisplayHelpOnMissingArgumentOrSubcommand};
-ghost use Rattle.fed_cli.specs.CommandLine.{command_line, text_rule, faults, value_in, owner_named, list_named, init_named};
+ghost use Rattle.fed_cli.specs.CommandLine.{command_line, text_rule, texts_rule, faults, value_in, values_in};
+ghost use Rattle.fed_cli.specs.CommandLine.{owner_named, list_named, csv_given, jsonl_given, init_named};
+ghost use Rattle.fed_cli.specs.Folders.{AreGood, AreRefused, folder_in, folder_of};
 ghost use Rattle.fed_cli.specs.Names.{IsSourceName};
 ghost use Rattle.fed_cli.specs.Told.{words_status};
-ghost use Rattle.fed_cli.specs.Words.{IsRefusal, Reads};
+ghost use Rattle.fed_cli.specs.Words.{IsRefusal, Reads, told_folder};
+ghost use Rattle.fed_cli.specs.declared.folders.FolderKind.TheVariants.{Csv, JsonLines};
 
+use crate::folders::{AskedFolder, FolderFault, FolderKind, read_folders};
 use clap::error::ErrorKind;
 use clap::{Arg, ArgAction, ArgMatches, Command};
 use med_session::users::is_user;
@@ -19,12 +24,14 @@ use std::convert::AsStr;
 const OWNER: &str = "admin";
 
 /// What the words ask: to answer standard input.
-#[derive(Clone, Copy, Debug, PartialEq, Eq)]
+#[derive(Debug, Drop)]
 pub struct Asked<'a> {
     /// The name of the engine's owner.
     pub owner: &'a str,
     /// The name of the source that the demo list is to be, if one is given.
     pub list: Option<&'a str>,
+    /// The folders that are to be sources, in the order in which they are added.
+    pub folders: Vec<AskedFolder<'a>>,
     /// The path of the file whose lines the owner runs before standard input is answered, if one is given.
     pub init: Option<&'a str>,
 }
@@ -36,7 +43,9 @@ pub enum WordsFault<'a> {
     Help(String),
     /// The words are not in the command line's grammar, as this says.
     Usage(String),
-    /// The word may not name a source, or the owner.
+    /// The value has nothing after its first `=`, or has none.
+    NoPath(&'a str),
+    /// The word may not name a source, or the owner; or what stands before the first `=` of the value may not.
     BadName(&'a str),
     /// Memory was refused.
     NoMemory,
@@ -49,7 +58,7 @@ impl WordsFault<'_> {
     {
         match self {
             WordsFault::Help(_) => 0,
-            WordsFault::Usage(_) | WordsFault::BadName(_) => 2,
+            WordsFault::Usage(_) | WordsFault::NoPath(_) | WordsFault::BadName(_) => 2,
             WordsFault::NoMemory => 1,
         }
     }
@@ -74,6 +83,18 @@ fn text_option<'a>(alloc: Global, name: &'a str, value: &'a str, help: &'a str) 
         .help(help)
 }
 
+// An option of this name, which may be given several times, with one text each.
+fn texts_option<'a>(alloc: Global, name: &'a str, value: &'a str, help: &'a str) -> Arg<'a>
+    ensures rule { rule_of result ≡ texts_rule name.now }
+    ensures own { result.global ≡ false }
+{
+    Arg::new(alloc, name)
+        .long(name)
+        .value_name(value)
+        .action(ArgAction::Append)
+        .help(help)
+}
+
 // The command line that the program understands.
 fn command<'a>(alloc: Global) -> Result<Command<'a>, AllocError>
     ensures { IfOk result (λ c. app_of c ≡ command_line) }
@@ -90,6 +111,18 @@ fn command<'a>(alloc: Global) -> Result<Command<'a>, AllocError>
         "NAME",
         "Adds the demo list as the source NAME, with the tables parts and orders",
     );
+    let csv = texts_option(
+        alloc,
+        "csv",
+        "NAME=PATH",
+        "Adds the CSV files of the folder PATH as the source NAME",
+    );
+    let jsonl = texts_option(
+        alloc,
+        "jsonl",
+        "NAME=PATH",
+        "Adds the JSON lines files of the folder PATH as the source NAME",
+    );
     let init = text_option(
         alloc,
         "init",
@@ -100,6 +133,8 @@ fn command<'a>(alloc: Global) -> Result<Command<'a>, AllocError>
         .about("Answers the request lines of standard input on standard output")
         .arg(owner)?
         .arg(list)?
+        .arg(csv)?
+        .arg(jsonl)?
         .arg(init)?;
     Command::new(alloc, "fedq")
         .about("One SQL front over tables that live elsewhere")
@@ -131,6 +166,69 @@ fn value_of<'a>(matches: &ArgMatches<'a>, option: &str) -> Option<&'a str>
     match matches.subcommand() {
         Some((_, run)) => run.get_str(option),
         None => None,
+    }
+}
+
+// The values that the words gave an option, as written.
+fn values_of<'a, 'm>(matches: &'m ArgMatches<'a>, option: &str) -> Option<&'m [&'a str]>
+    ensures { unwrap_or (option_map (λ s. map (λ v. v.now) s.now) result) [] ≡ values_in option.now (subcommand_rows_of matches.now) }
+{
+    match matches.subcommand() {
+        Some((_, run)) => run.get_strs(option),
+        None => None,
+    }
+}
+
+// Adds the folders of this kind that the words named by an option to others; else the first value that is not taken is answered, and why.
+fn push_folders<'a>(
+    folders: &mut Vec<AskedFolder<'a>>,
+    kind: FolderKind,
+    matches: &ArgMatches<'a>,
+    option: &str,
+) -> Result<(), FolderFault<'a>>
+    ensures read { OnOk result (map folder_of folders.new.items
+        ≡ map folder_of folders.old.items ++ map (folder_in kind) (values_in option.now (subcommand_rows_of matches.now))) }
+    ensures good { OnOk result (AreGood (values_in option.now (subcommand_rows_of matches.now))) }
+    ensures bad { IfErr result (AreRefused (values_in option.now (subcommand_rows_of matches.now))) }
+{
+    match values_of(matches, option) {
+        Some(values) => read_folders(folders, kind, values),
+        None => Ok(()),
+    }
+}
+
+// The folders that the words named, those of CSV files first; else the first value that is not taken, and why.
+fn folders_of<'a>(
+    alloc: Global,
+    matches: &ArgMatches<'a>,
+) -> Result<Vec<AskedFolder<'a>>, FolderFault<'a>>
+    ensures read { IfOk result (λ v. map folder_of v.items
+        ≡ map (folder_in Csv) (values_in (codes "csv") (subcommand_rows_of matches.now))
+        ++ map (folder_in JsonLines) (values_in (codes "jsonl") (subcommand_rows_of matches.now))) }
+    ensures good { OnOk result (AreGood (values_in (codes "csv") (subcommand_rows_of matches.now)
+        ++ values_in (codes "jsonl") (subcommand_rows_of matches.now))) }
+    ensures bad { IfErr result (AreRefused (values_in (codes "csv") (subcommand_rows_of matches.now)
+        ++ values_in (codes "jsonl") (subcommand_rows_of matches.now))) }
+{
+    let mut folders = Vec::new(alloc);
+    match push_folders(&mut folders, FolderKind::Csv, matches, "csv") {
+        Ok(()) => {}
+        Err(fault) => return Err(fault),
+    }
+    match push_folders(&mut folders, FolderKind::JsonLines, matches, "jsonl") {
+        Ok(()) => Ok(folders),
+        Err(fault) => Err(fault),
+    }
+}
+
+// What is told of a value that is not taken.
+fn folder_refusal(fault: FolderFault<'_>) -> WordsFault<'_>
+    ensures { result ≡ told_folder fault.entry }
+{
+    match fault {
+        FolderFault::NoPath(value) => WordsFault::NoPath(value),
+        FolderFault::BadName(value) => WordsFault::BadName(value),
+        FolderFault::NoMemory => WordsFault::NoMemory,
     }
 }
 
@@ -166,14 +264,25 @@ pub fn read_words<'a, S: AsStr>(alloc: Global, words: &'a [S]) -> Result<Asked<'
         Ok(list) => list,
         Err(name) => return Err(WordsFault::BadName(name)),
     };
+    let folders = match folders_of(alloc, &matches) {
+        Ok(folders) => folders,
+        Err(fault) => return Err(folder_refusal(fault)),
+    };
     let init = value_of(&matches, "init");
-    Ok(Asked { owner, list, init })
+    Ok(Asked {
+        owner,
+        list,
+        folders,
+        init,
+    })
 }
 
-/// What some words mean: `run` alone, `run --list NAME`, `run --owner NAME`, `run --init FILE`, `--help`, and none.
+/// What some words mean: `run` alone, `run --list NAME`, `run --owner NAME`, `run --csv NAME=PATH`,
+/// `run --jsonl NAME=PATH`, `run --init FILE`, `--help`, and none.
 pub fn words_mean()
     ensures alone { (program : Text) → (faults (program ∷ codes "run" ∷ []) ≡ []) × (list_named (program ∷ codes "run" ∷ []) ≡ None)
-        × (owner_named (program ∷ codes "run" ∷ []) ≡ codes "admin") × (init_named (program ∷ codes "run" ∷ []) ≡ None) }
+        × (owner_named (program ∷ codes "run" ∷ []) ≡ codes "admin") × (init_named (program ∷ codes "run" ∷ []) ≡ None)
+        × (csv_given (program ∷ codes "run" ∷ []) ≡ []) × (jsonl_given (program ∷ codes "run" ∷ []) ≡ []) }
     ensures list { (program name : Text) → strip_byte 45 name ≡ None
         → (faults (program ∷ codes "run" ∷ codes "--list" ∷ name ∷ []) ≡ [])
         × (list_named (program ∷ codes "run" ∷ codes "--list" ∷ name ∷ []) ≡ Some name) }
@@ -183,6 +292,12 @@ pub fn words_mean()
     ensures init { (program path : Text) → strip_byte 45 path ≡ None
         → (faults (program ∷ codes "run" ∷ codes "--init" ∷ path ∷ []) ≡ [])
         × (init_named (program ∷ codes "run" ∷ codes "--init" ∷ path ∷ []) ≡ Some path) }
+    ensures csv { (program value : Text) → strip_byte 45 value ≡ None
+        → (faults (program ∷ codes "run" ∷ codes "--csv" ∷ value ∷ []) ≡ [])
+        × (csv_given (program ∷ codes "run" ∷ codes "--csv" ∷ value ∷ []) ≡ value ∷ []) }
+    ensures jsonl { (program value : Text) → strip_byte 45 value ≡ None
+        → (faults (program ∷ codes "run" ∷ codes "--jsonl" ∷ value ∷ []) ≡ [])
+        × (jsonl_given (program ∷ codes "run" ∷ codes "--jsonl" ∷ value ∷ []) ≡ value ∷ []) }
     ensures help { (program : Text) → faults (program ∷ codes "--help" ∷ []) ≡ DisplayHelp ∷ [] }
     ensures none { (program : Text) → faults (program ∷ []) ≡ DisplayHelpOnMissingArgumentOrSubcommand ∷ [] }
 {}

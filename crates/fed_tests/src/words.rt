@@ -1,9 +1,10 @@
 //! What the program does on its words, between an input and outputs in memory.
 use crate::expect::{same, same_text};
 use crate::served::{ANSWER, STORED, counts_after};
-use fdw_api::interface::Counts;
+use fdw_api::interface::{Counts, Wrapper};
 use fed_cli::program::{Exit, run_words};
 use med_exec::ledger_at;
+use source_kinds::Source;
 use std::alloc::Global;
 use std::io;
 use std::io::{ErrorKind, Write};
@@ -23,7 +24,7 @@ fn words_of(alloc: Global, line: &str) -> Result<Vec<String>, Fail> {
 }
 
 // What an exit's sources count: nothing where none are handed back, or there is none.
-fn counts_of(exit: &Exit) -> Option<Counts> {
+fn counts_of<W: Wrapper>(exit: &Exit<W>) -> Option<Counts> {
     match &exit.sources {
         Some(sources) => ledger_at(&sources.slots, 0),
         None => None,
@@ -31,13 +32,13 @@ fn counts_of(exit: &Exit) -> Option<Counts> {
 }
 
 // Fails where the stored stream under these words ends, answers or tells otherwise; of an output its beginning is given.
-fn exits<V: AllocGlobal + Files>(
+fn exits<V: AllocGlobal + Files + Clone + Drop>(
     rt: &V,
     line: &str,
     status: u8,
     output: &[u8],
     errors: &[u8],
-) -> Result<Exit, Fail> {
+) -> Result<Exit<Source<V>>, Fail> {
     let alloc = rt.alloc();
     let words = words_of(alloc, line)?;
     let mut input = STORED;

@@ -1,25 +1,37 @@
+use Rattle.std.proofs.Common.{ap, map}
 use Rattle.med_world.specs.World.{empty_world}
-use Rattle.fed_cli.proofs.FirstEngines.{nothing_there, is_empty, first_of_none, first_of_list, no_first}
+use Rattle.fed_cli.specs.Folders.{folder_of}
+use Rattle.fed_cli.specs.Setup.{list_asked}
+use Rattle.fed_cli.specs.Words.{folders_asked}
+use Rattle.fed_cli.proofs.FirstEngines.{nothing_there, is_empty, first_made, adds_as, folders_fail_as, set_up_fails}
 use Rattle.fed_cli.proofs.program.first_engine.Goals as goal
 
--- no list is asked
-pub returns-in_default-list-clause-first : goal.returns-in_default-list-clause-first
-returns-in_default-list-clause-first c =
-    let owner = c.args.owner.now in
-    let nothing = nothing_there _ owner c.in-Ok.ensures.sound c.in-Ok.ensures.empty in
-    (empty_world owner, c.in-Ok.ensures.empty, first_of_none owner c.args.list _ c.in_default-list.not-Some (is_empty owner _ nothing.1))
+-- an engine that was just made has no source
+pub add_asked_list-requires-clause-empty : goal.add_asked_list-requires-clause-empty
+add_asked_list-requires-clause-empty g c = (nothing_there _ c.args.asked.now.owner.now c.in-Ok.ensures.sound c.in-Ok.ensures.empty).0
 
--- the list was added
-pub returns-in-Ok-add_demo-clause-first : goal.returns-in-Ok-add_demo-clause-first
-returns-in-Ok-add_demo-clause-first c =
-    let owner = c.args.owner.now in
-    let nothing = nothing_there _ owner c.in-Ok.ensures.sound c.in-Ok.ensures.empty in
-    let demo = c.in-Ok-add_demo.ensures.worlds (empty_world owner) c.in-Ok.ensures.empty in
-    (demo.0, demo.2, first_of_list owner c.args.list _ _ _ c.in-Some.is (is_empty owner _ nothing.1) demo.1)
+-- a folder was not added
+pub returns-in-Err-add_folders-clause-refused : goal.returns-in-Err-add_folders-clause-refused
+returns-in-Err-add_folders-clause-refused g c =
+    folders_fail_as c.args.asked.now _ _ _ (ap (map folder_of) c.deref.ensures.value) c.in-Ok-add_asked_list.ensures.labels c.in-Err-add_folders.ensures.fault
 
--- it was not
+-- all were, and the list is set up
+pub returns-in-Ok-set_up-clause-first : goal.returns-in-Ok-set_up-clause-first
+returns-in-Ok-set_up-clause-first g c =
+    let asked = c.args.asked.now in
+    let owner = asked.owner.now in
+    let nothing = nothing_there _ owner c.in-Ok.ensures.sound c.in-Ok.ensures.empty in
+    let listed = c.in-Ok-add_asked_list.ensures.world (empty_world owner) c.in-Ok.ensures.empty in
+    let added = (adds_as _ _ _ _ (ap (map folder_of) c.deref.ensures.value) c.in-Ok-add_folders.ensures.added).world listed.0 listed.2 in
+    let set = c.in-Ok-set_up.ensures.done added.0 added.2 in
+    (set.0, set.2, first_made owner (list_asked asked) (folders_asked asked) _ _ _ _ (is_empty owner _ nothing.1) listed.1 added.1 set.1)
+
+-- the list was not
 pub returns-clause-refused : goal.returns-clause-refused
-returns-clause-refused c =
-    let owner = c.args.owner.now in
+returns-clause-refused g c =
+    let asked = c.args.asked.now in
+    let owner = asked.owner.now in
     let nothing = nothing_there _ owner c.in-Ok.ensures.sound c.in-Ok.ensures.empty in
-    no_first _ owner _ _ _ _ (is_empty owner _ nothing.1) nothing.0 c.in-Some.is (c.in-Err.ensures.fault (empty_world owner) c.in-Ok.ensures.empty)
+    let listed = c.in-Ok-add_asked_list.ensures.world (empty_world owner) c.in-Ok.ensures.empty in
+    let added = (adds_as _ _ _ _ (ap (map folder_of) c.deref.ensures.value) c.in-Ok-add_folders.ensures.added).world listed.0 listed.2 in
+    set_up_fails asked _ _ _ _ (is_empty owner _ nothing.1) listed.1 added.1 (c.in-Err-set_up.ensures.fault added.0 added.2)

@@ -1,5 +1,4 @@
 use Rattle.std.proofs.Common.{option_map, refl, sym, subst}
-use Rattle.list_wrapper.specs.ListBoxes.{box_of}
 use Rattle.session_wire.specs.Worlds.{scene_of}
 use Rattle.fed_cli.specs.Setup.{BeginsNot}
 use Rattle.fed_cli.proofs.Begun.{not_begun, no_first_world, not_read, not_replayed}
@@ -8,12 +7,12 @@ use Rattle.fed_cli.proofs.program.run_asked.Goals as goal
 -- there is no first engine
 pub returns-in-Err : goal.returns-in-Err
 returns-in-Err g c =
-    not_begun c.args.asked _ _ _ _ _ _ c.not_begun.ensures.came c.not_begun.ensures.sources (no_first_world c.args.asked _ _ c.in-Err.ensures.refused) refl refl
+    not_begun _ c.args.asked _ _ _ _ _ _ c.not_begun.ensures.came c.not_begun.ensures.sources (no_first_world c.args.asked _ _ c.in-Err.ensures.refused) refl refl
 
 -- the init file was not read
 pub returns-in-Err-read_init : goal.returns-in-Err-read_init
 returns-in-Err-read_init g c =
-    not_begun c.args.asked _ _ _ _ _ _ c.not_begun-in-Err-read_init.ensures.came c.not_begun-in-Err-read_init.ensures.sources
+    not_begun _ c.args.asked _ _ _ _ _ _ c.not_begun-in-Err-read_init.ensures.came c.not_begun-in-Err-read_init.ensures.sources
     (subst (λ s. BeginsNot c.args.asked (option_map (λ v. v.items) s) c.in-Err-read_init.fault) (sym c.not_begun-in-Err-read_init.ensures.script) (not_read c.args.asked _ _ c.in-Ok.ensures.first.2 c.in-Err-read_init.ensures.refused)) refl refl
 
 -- its replay was refused
@@ -21,9 +20,9 @@ pub returns-in-Err-replay_init : goal.returns-in-Err-replay_init
 returns-in-Err-replay_init g c =
     let first = c.in-Ok.ensures.first in
     let replayed = c.in-Err-replay_init.ensures.worlds first.0 first.1 in
-    not_begun c.args.asked _ _ _ _ _ _ c.not_begun-in-Err-replay_init.ensures.came c.not_begun-in-Err-replay_init.ensures.sources
+    not_begun _ c.args.asked _ _ _ _ _ _ c.not_begun-in-Err-replay_init.ensures.came c.not_begun-in-Err-replay_init.ensures.sources
     (subst (λ s. BeginsNot c.args.asked (option_map (λ v. v.items) s) c.in-Err-replay_init.fault) (sym c.not_begun-in-Err-replay_init.ensures.script)
-    (not_replayed c.args.asked _ _ (scene_of box_of c.in-Ok.engine first.0) _ c.in-Ok-read_init.ensures.read first.2 replayed.1)) refl refl
+    (not_replayed c.args.asked _ _ (scene_of _ c.in-Ok.engine first.0) _ c.in-Ok-read_init.ensures.read first.2 replayed.1)) refl refl
 
 -- the input was served
 pub returns : goal.returns
@@ -36,7 +35,7 @@ returns g c =
       record {
         world = replayed.0;
         engine = _;
-        begins = record { first = scene_of box_of c.in-Ok.engine first.0; is_first = first.2; replays = replayed.1 };
+        begins = record { first = scene_of _ c.in-Ok.engine first.0; is_first = first.2; replays = replayed.1 };
         agrees = replayed.2;
         serves = c.serve_engine-ended.ensures.worlds replayed.0 replayed.2;
       },

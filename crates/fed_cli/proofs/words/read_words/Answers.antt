@@ -1,7 +1,9 @@
-use Rattle.std.proofs.Common.{◌≡◌, ◌∙◌, true, false, codes, refl, sym, subst, inl, inr}
-use Rattle.clap.specs.Words.{kind_of}
+use Rattle.std.proofs.Common.{◌≡◌, ◌∙◌, true, false, List, ◌++◌, map, codes, refl, sym, subst, ap₂, inl, inr}
+use Rattle.clap.specs.Words.{Text, kind_of}
+use Rattle.fed_cli.specs.Folders.{AreGood, AreRefused, folder_in}
 use Rattle.fed_cli.specs.Names.{IsSourceName}
-use Rattle.fed_cli.proofs.Parsed.{no_faults, given, refused, owner_of}
+use Rattle.fed_cli.specs.declared.folders.FolderKind.TheVariants.{Csv, JsonLines}
+use Rattle.fed_cli.proofs.Parsed.{no_faults, given, all_given, refused, owner_of, list_is_good, folder_refused}
 use Rattle.fed_cli.proofs.words.read_words.Goals as goal
 
 -- the words were not taken
@@ -13,7 +15,7 @@ pub returns-then-not-is_source_name : goal.returns-then-not-is_source_name
 returns-then-not-is_source_name g c =
     let matches = c.in-Ok-try_get_matches_from.ensures in
     let owner = owner_of _ _ _ _ c.unwrap_or-owner.ensures refl (c.value_of.ensures ∙ given (codes "owner") _ _ _ c.in-Ok.ensures matches.matches) in
-    (no_faults _ _ c.in-Ok.ensures matches.kinds, ((λ h. let no : false ≡ true = c.if-not-is_source_name.ensures.1 h in cc), inl owner))
+    (no_faults _ _ c.in-Ok.ensures matches.kinds, inl ((λ h. let no : false ≡ true = c.if-not-is_source_name.ensures.1 h in cc), inl owner))
 
 -- the list's is
 pub returns-in-Err-list_of : goal.returns-in-Err-list_of
@@ -22,21 +24,36 @@ returns-in-Err-list_of g c =
     let owner = owner_of _ _ _ _ c.unwrap_or-owner.ensures refl (c.value_of.ensures ∙ given (codes "owner") _ _ _ c.in-Ok.ensures matches.matches) in
     let bad = c.in-Err-list_of.ensures.bad in (
       no_faults _ _ c.in-Ok.ensures matches.kinds,
-      (bad.1, inr (subst IsSourceName (sym owner) (c.if-not-is_source_name.ensures.0 refl), sym (given (codes "list") _ _ _ c.in-Ok.ensures matches.matches) ∙ bad.0)),
+      inl (bad.1, inr (subst IsSourceName (sym owner) (c.if-not-is_source_name.ensures.0 refl), sym (given (codes "list") _ _ _ c.in-Ok.ensures matches.matches) ∙ bad.0)),
     )
 
--- both are good
+-- a folder is
+pub returns-in-Err-folders_of : goal.returns-in-Err-folders_of
+returns-in-Err-folders_of g c =
+    let matches = c.in-Ok-try_get_matches_from.ensures in
+    let owner = owner_of _ _ _ _ c.unwrap_or-owner.ensures refl (c.value_of.ensures ∙ given (codes "owner") _ _ _ c.in-Ok.ensures matches.matches) in
+    let good = c.in-Ok-list_of.ensures.good in
+    let list = list_is_good _ _ (good.0 ∙ given (codes "list") _ _ _ c.in-Ok.ensures matches.matches) good.1 in
+    let values = ap₂ (λ (a b : List Text). a ++ b) (all_given (codes "csv") _ _ _ c.in-Ok.ensures matches.matches) (all_given (codes "jsonl") _ _ _ c.in-Ok.ensures matches.matches) in
+    folder_refused (map g.S.AsStr.text c.args.words.now) _ _ c.folder_refusal.ensures (no_faults _ _ c.in-Ok.ensures matches.kinds)
+    ((subst IsSourceName (sym owner) (c.if-not-is_source_name.ensures.0 refl), list), subst (λ (vs : List Text). AreRefused vs c.in-Err-folders_of.fault) values c.in-Err-folders_of.ensures.bad)
+
+-- all are good
 pub returns : goal.returns
 returns g c =
     let matches = c.in-Ok-try_get_matches_from.ensures in
     let owner = owner_of _ _ _ _ c.unwrap_or-owner.ensures refl (c.value_of.ensures ∙ given (codes "owner") _ _ _ c.in-Ok.ensures matches.matches) in
-    let good = c.in-Ok-list_of.ensures.good in (
+    let good = c.in-Ok-list_of.ensures.good in
+    let csv = all_given (codes "csv") _ _ _ c.in-Ok.ensures matches.matches in
+    let jsonl = all_given (codes "jsonl") _ _ _ c.in-Ok.ensures matches.matches in (
       no_faults _ _ c.in-Ok.ensures matches.kinds,
       record {
         owner = sym owner;
         is_owner = c.if-not-is_source_name.ensures.0 refl;
         list = good.0 ∙ given (codes "list") _ _ _ c.in-Ok.ensures matches.matches;
         is_list = good.1;
+        folders = c.in-Ok-folders_of.ensures.read ∙ ap₂ (λ (a b : List Text). map (folder_in Csv) a ++ map (folder_in JsonLines) b) csv jsonl;
+        are_folders = subst AreGood (ap₂ (λ (a b : List Text). a ++ b) csv jsonl) c.in-Ok-folders_of.ensures.good;
         init = c.value_of-init.ensures ∙ given (codes "init") _ _ _ c.in-Ok.ensures matches.matches;
       },
     )

@@ -3,12 +3,12 @@ use Rattle.std.specs.Str.{bytes_eq}
 use Rattle.clap.specs.Lexer.{strip_byte}
 use Rattle.clap.specs.Words.{Text}
 use Rattle.clap.proofs.OnLiterals.{clap_on_literals}
-use Rattle.fed_cli.specs.CommandLine.{faults, owner_named, list_named, init_named}
+use Rattle.fed_cli.specs.CommandLine.{faults, owner_named, list_named, csv_given, jsonl_given, init_named}
 use Rattle.fed_cli.proofs.words.words_mean.Goals as goal
 
 pub returns-clause-alone : goal.returns-clause-alone
 unfolding clap_on_literals
-returns-clause-alone c = λ program. (refl, refl, refl, refl)
+returns-clause-alone c = λ program. (refl, refl, refl, refl, refl, refl)
 
 pub returns-clause-help : goal.returns-clause-help
 unfolding clap_on_literals
@@ -63,7 +63,33 @@ with_init program [] e = (refl, refl)
 with_init program (x ∷ xs) e =
     let no = no_hyphen x xs e in
     let stops = and_false (bytes_eq xs (45 ∷ [])) in
-    (simp (no, stops) refl, simp (no, stops) refl)
+    (rw (no, stops) (rw no refl), rw (no, stops) (rw no refl))
 
 pub returns-clause-init : goal.returns-clause-init
 returns-clause-init c = with_init
+
+with_csv : (program value : Text) → strip_byte 45 value ≡ None
+    → (faults (program ∷ codes "run" ∷ codes "--csv" ∷ value ∷ []) ≡ [])
+    × (csv_given (program ∷ codes "run" ∷ codes "--csv" ∷ value ∷ []) ≡ value ∷ [])
+unfolding clap_on_literals
+with_csv program [] e = (refl, refl)
+with_csv program (x ∷ xs) e =
+    let no = no_hyphen x xs e in
+    let stops = and_false (bytes_eq xs (45 ∷ [])) in
+    (rw (no, stops) (rw no refl), rw (no, stops) (rw no refl))
+
+pub returns-clause-csv : goal.returns-clause-csv
+returns-clause-csv c = with_csv
+
+with_jsonl : (program value : Text) → strip_byte 45 value ≡ None
+    → (faults (program ∷ codes "run" ∷ codes "--jsonl" ∷ value ∷ []) ≡ [])
+    × (jsonl_given (program ∷ codes "run" ∷ codes "--jsonl" ∷ value ∷ []) ≡ value ∷ [])
+unfolding clap_on_literals
+with_jsonl program [] e = (refl, refl)
+with_jsonl program (x ∷ xs) e =
+    let no = no_hyphen x xs e in
+    let stops = and_false (bytes_eq xs (45 ∷ [])) in
+    (rw (no, stops) (rw no refl), rw (no, stops) (rw no refl))
+
+pub returns-clause-jsonl : goal.returns-clause-jsonl
+returns-clause-jsonl c = with_jsonl
