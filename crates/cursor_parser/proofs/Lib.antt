@@ -1,0 +1,4 @@
+pub mod QueryWeighing
+pub mod CursorSound
+pub mod CursorComplete
+pub mod CursorRead

@@ -1,0 +1,3 @@
+pub mod CursorGrammar
+pub mod CursorReading
+pub mod CursorCauses

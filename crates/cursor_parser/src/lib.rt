@@ -1,0 +1,16 @@
+//! Reads the statements on cursors: `DECLARE name [INSENSITIVE] [NO SCROLL] CURSOR [WITH HOLD] FOR select`,
+//! `FETCH [NEXT | num | ALL] [FROM | IN] name` and `CLOSE name`, each with perhaps a semicolon.
+//!
+//! The grammar stands apart from the readers: `specs/CursorGrammar.antt` says which tokens spell which tree. The readers are functions on
+//! lists of tokens in `specs/CursorReading.antt`, and are proved to find each of these trees (`proofs/CursorComplete.antt`), and no other
+//! (`proofs/CursorSound.antt`); the query of DECLARE is read by the crate of queries.
+//!
+//! FETCH 0 is a statement of the grammar: `is_fetch_zero` tells it, so that it can be refused as what it is.
+#![tactic(auto)]
+
+mod cursor_laws;
+mod cursor_statement;
+mod cursor_tokens;
+
+pub use cursor_laws::{no_statement, one_cursor};
+pub use cursor_statement::{cursor_of, is_count_in_range, is_fetch_zero};

@@ -1,0 +1,2 @@
+pub mod CursorTree
+pub mod CursorView
