@@ -1,0 +1,200 @@
+-- The query of an INSERT over the tables of a catalogue.
+use Rattle.std.proofs.Common.{◌≡◌, inl, inr, ℕ, true, List, [], ◌∷◌, ◌++◌, map, Option, Some, None, unwrap_or, Contains, refl, sym, ap, ◌∙◌, subst, append-nil, arith, option_map, slice_get, if◌then◌else◌}
+use Rattle.std.specs.Option.{is_some, option_and_then}
+use Rattle.std.proofs.lemmas.List.Elements.{Contains-append_left, Contains-append_right}
+use Rattle.med_value.specs.Causes.{phase_of}
+use Rattle.med_value.specs.Column.{Column, column_of}
+use Rattle.med_value.specs.declared.value.ColType.{ColType}
+use Rattle.med_value.specs.declared.cause.Cause.{Cause}
+use Rattle.med_value.specs.declared.cause.Cause.TheVariants.{OutOfMemory, UndefinedTable}
+use Rattle.med_syntax.specs.Tree.{Name}
+use Rattle.med_syntax.specs.QueryTree.{EntryTree, SelectTree}
+use Rattle.med_syntax.specs.QueryView.{statement_tree}
+use Rattle.med_syntax.specs.declared.statement.Statement.{Statement}
+use Rattle.med_syntax.specs.declared.statement.Statement.TheVariants as s
+use Rattle.write_syntax.specs.WriteTree.{rows_of}
+use Rattle.write_syntax.specs.WriteView.{given_tree}
+use Rattle.write_syntax.specs.declared.write.Given.TheVariants as g
+use Rattle.tri_expr.specs.Tree.{Tree, tree}
+use Rattle.med_query.specs.Form.{Form}
+use Rattle.med_query.specs.Select.{is_safe_from}
+use Rattle.med_write.specs.Form.{insert_form, answer_form}
+use Rattle.bind_names.specs.Naming.{from_causes, asked_causes, select_name_causes, once_known}
+use Rattle.bind_names.proofs.Causes.{none_of_two}
+use Rattle.bind_names.specs.Scope.{TableShape, place_named, columns_of, entry_columns, from_scope}
+use Rattle.bind_names.specs.Telling.{Tells}
+use Rattle.bind_types.specs.Typing.{select_type_causes}
+use Rattle.med_binder.specs.Binding.{IsMeant}
+use Rattle.med_binder.specs.Turns.{TellsInTurn}
+use Rattle.med_binder.specs.declared.bound.Bound.{Bound}
+use Rattle.pushdown.specs.Offered.{entry_place}
+use Rattle.med_catalog.specs.DdlCauses.{phase}
+use Rattle.med_catalog.specs.Objects.{Objects, table_named}
+use Rattle.bind_catalog.proofs.Phases as of_query
+use Rattle.bind_catalog.proofs.Rows.{causes_missing}
+use Rattle.bind_catalog.specs.Barred.{query_right_causes, target_right_causes}
+use Rattle.bind_catalog.specs.Looked.{query_in}
+use Rattle.bind_catalog.specs.Places.{Attached, ArePlaces}
+use Rattle.bind_catalog.specs.Queries as queries
+use Rattle.bind_catalog.specs.Queries.{QueryNames, QueryTypes, meant_by}
+use Rattle.bind_catalog.specs.Tables.{shapes}
+use Rattle.write_parts.proofs.Lists.{empty_by, in_turn_by, types_in_turn}
+use Rattle.write_parts.specs.Asking.{IsTarget}
+use Rattle.write_parts.specs.Kinds.{tree_type}
+use Rattle.write_parts.specs.Meaning.{columns_in, places_meant}
+use Rattle.write_parts.specs.Naming.{target_causes, named_causes, names_of}
+use Rattle.write_parts.specs.Typing.{column_kinds, row_fit_causes, answer_types, types_of}
+use Rattle.write_parts.specs.declared.target.Target.{Target}
+use Rattle.bind_write.proofs.Updates.{list_told}
+use Rattle.bind_write.specs.Binding.{query_write}
+use Rattle.bind_write.specs.Steps.{query_names, IsAskedQuery}
+
+once_empty : (xs ys : List Cause) → once_known xs ys ≡ [] → (xs ≡ []) × (ys ≡ [])
+once_empty [] ys h = (refl, h)
+once_empty (x ∷ xs) ys h = absurd cc
+
+once_wider : (xs ys zs : List Cause) (c : Cause) → Contains (once_known xs zs) c → Contains (once_known xs (ys ++ zs)) c
+once_wider [] ys zs c h = Contains-append_right ys zs c h
+once_wider (x ∷ xs) ys zs c h = h
+
+-- where no cause of names or rights stands, all tables of FROM are known
+pub parts_clear : (o : Objects) (user : Name) (q : SelectTree) → ((c : Cause) → QueryNames o user q c → ⊥)
+    → (from_causes (shapes o) q.from ≡ []) × (asked_causes (shapes o) q ≡ []) × (query_right_causes o user q ≡ [])
+parts_clear o user q clear =
+    let both = once_empty (from_causes (shapes o) q.from) (asked_causes (shapes o) q) (empty_by (select_name_causes (shapes o) q) (λ c h. clear c (inl h))) in
+    (both.0, both.1, empty_by (query_right_causes o user q) (λ c h. clear c (inr h)))
+
+names_clear : (f l a r : List Cause) → f ≡ [] → l ≡ [] → a ≡ [] → r ≡ [] → once_known f (l ++ a) ++ r ≡ []
+names_clear f l a r e k h i = rw (e, k, h, i) refl
+
+pub query_fine : (o : Objects) (bound : List Attached) (user : Name) (columns : List Column) (names : Option (List Name)) (q : SelectTree) (b : Bound)
+    → queries.IsBindable o user q → IsMeant (meant_by o q) b → ArePlaces bound (meant_by o q).entries (map entry_place b.entries.items) → is_safe_from b.select.from.items ≡ true
+    → named_causes columns names ≡ [] → IsAskedQuery o bound user columns names q b
+query_fine o bound user columns names q b is meant there safe listed =
+    let parts = parts_clear o user q is.names in
+    record {
+      meant = meant;
+      there = there;
+      safe = safe;
+      names = names_clear (from_causes (shapes o) q.from) (named_causes columns names) (asked_causes (shapes o) q) (query_right_causes o user q) parts.0 listed parts.1 parts.2;
+      types = empty_by (select_type_causes (shapes o) q) is.types;
+    }
+
+pub query_list : (o : Objects) (user : Name) (columns : List Column) (names : Option (List Name)) (q : SelectTree) (c : Cause)
+    → ((d : Cause) → QueryNames o user q d → ⊥) → Tells (named_causes columns names) c → TellsInTurn (query_names o user columns names q) (select_type_causes (shapes o) q) c
+query_list o user columns names q c clear t =
+    list_told (from_causes (shapes o) q.from) (named_causes columns names) (asked_causes (shapes o) q) (query_right_causes o user q) (select_type_causes (shapes o) q) c (parts_clear o user q clear).0 t
+
+-- ---- by the phase of what the query's binder tells
+
+memory_late : (c : Cause) → c ≡ OutOfMemory → phase_of c ≡ Some 4 → ⊥
+memory_late c e h = let p : phase_of OutOfMemory ≡ Some 4 = ap phase_of (sym e) ∙ h in absurd cc
+
+names_late : (o : Objects) (user : Name) (q : SelectTree) (c : Cause) → QueryNames o user q c → phase_of c ≡ Some 4 → ⊥
+names_late o user q c i h = let e : phase c ≡ 4 = ap (λ r. unwrap_or r 7) h in omega (arith, of_query.names o user q c i, e)
+
+pub late_clear : (o : Objects) (user : Name) (q : SelectTree) (c : Cause) → queries.NotBound o user q c → phase_of c ≡ Some 4
+    → QueryTypes o q c × ((d : Cause) → QueryNames o user q d → ⊥)
+late_clear o user q c (inl e) h = absurd (memory_late c e h)
+late_clear o user q c (inr (inl i)) h = absurd (names_late o user q c i h)
+late_clear o user q c (inr (inr i)) h = i
+
+pub query_late : (o : Objects) (user : Name) (columns : List Column) (names : Option (List Name)) (q : SelectTree) (c : Cause)
+    → queries.NotBound o user q c → phase_of c ≡ Some 4 → named_causes columns names ≡ [] → TellsInTurn (query_names o user columns names q) (select_type_causes (shapes o) q) c
+query_late o user columns names q c n h listed =
+    let late = late_clear o user q c n h in
+    let parts = parts_clear o user q late.1 in
+    record { told = inr (inr (names_clear (from_causes (shapes o) q.from) (named_causes columns names) (asked_causes (shapes o) q) (query_right_causes o user q) parts.0 listed parts.1 parts.2, late.0)) }
+
+four_of : (p : Option ℕ) → unwrap_or p 7 ≡ 4 → p ≡ Some 4
+four_of None e = absurd cc
+four_of (Some n) e = ap Some e
+
+pub query_early : (o : Objects) (user : Name) (columns : List Column) (names : Option (List Name)) (q : SelectTree) (c : Cause)
+    → queries.NotBound o user q c → (phase_of c ≡ Some 4 → ⊥) → TellsInTurn (query_names o user columns names q) (select_type_causes (shapes o) q) c
+query_early o user columns names q c (inl e) other = record { told = inl e }
+query_early o user columns names q c (inr (inl (inl i))) other =
+    record {
+      told = inr (inl (Contains-append_left (once_known (from_causes (shapes o) q.from) (named_causes columns names ++ asked_causes (shapes o) q)) (query_right_causes o user q) c
+          (once_wider (from_causes (shapes o) q.from) (named_causes columns names) (asked_causes (shapes o) q) c i)));
+    }
+query_early o user columns names q c (inr (inl (inr i))) other =
+    record { told = inr (inl (Contains-append_right (once_known (from_causes (shapes o) q.from) (named_causes columns names ++ asked_causes (shapes o) q)) (query_right_causes o user q) c i)) }
+query_early o user columns names q c (inr (inr i)) other = absurd (other (four_of (phase_of c) (of_query.types o q c i.0)))
+
+-- ---- the whole INSERT
+
+pub given_query : (q : Statement) → given_tree (g.Rows q) ≡ rows_of (query_in (statement_tree q))
+given_query (s.Select q) = refl
+
+-- its names, where its table is known and may be written
+pub inserted_names : (known from listed asked rights more : List Cause) → known ≡ [] → rights ≡ []
+    → once_known from (listed ++ asked) ++ more ≡ once_known (known ++ from) (listed ++ asked) ++ (rights ++ more)
+inserted_names known from listed asked rights more k r = rw (k, r) refl
+
+pub answer_formed : (columns seen : List Column) (names : Option (List Name)) (places : List (Option ℕ)) → places ≡ places_meant names seen → seen ≡ columns
+    → insert_form places answer_form ≡ insert_form (places_meant names columns) answer_form
+answer_formed columns seen names places p c = rw (p, c) refl
+
+asked_same : (o : Objects) (bound : List Attached) (user name : Name) (names : Option (List Name)) (q : SelectTree) (t : Target) → IsTarget o bound user name t
+    → query_names o user (map column_of t.columns.now) names q ≡ names_of o user (query_write name names q)
+asked_same o bound user name names q t is =
+    ap (λ cs. query_names o user cs names q) is.columns
+    ∙ inserted_names (target_causes (shapes o) name) (from_causes (shapes o) q.from) (named_causes (columns_in (shapes o) name) names) (asked_causes (shapes o) q) (target_right_causes o user name)
+    (query_right_causes o user q) is.known is.rights
+
+pub asked_told : (o : Objects) (bound : List Attached) (user name : Name) (names : Option (List Name)) (q : SelectTree) (t : Target) (c : Cause) → IsTarget o bound user name t
+    → TellsInTurn (query_names o user (map column_of t.columns.now) names q) (select_type_causes (shapes o) q) c
+    → TellsInTurn (names_of o user (query_write name names q)) (types_of o (query_write name names q)) c
+asked_told o bound user name names q t c is h =
+    in_turn_by (query_names o user (map column_of t.columns.now) names q) (names_of o user (query_write name names q)) (select_type_causes (shapes o) q) (types_of o (query_write name names q)) c
+    (asked_same o bound user name names q t is)
+    (λ i. Contains-append_left (select_type_causes (shapes o) q) (row_fit_causes (columns_in (shapes o) name) names (answer_types (shapes o) q)) c i) h
+
+-- the types of what the query answers, as they are asked
+abbrev pub seen_types : Objects → SelectTree → List Tree → List (Option ColType)
+seen_types o q items = map (tree_type (column_kinds (columns_of (from_scope (shapes o) q.from)))) items
+
+fits_answer : (o : Objects) (bound : List Attached) (user name : Name) (names : Option (List Name)) (q : SelectTree) (t : Target) (b : Bound) (items : List Tree) → IsTarget o bound user name t
+    → IsAskedQuery o bound user (map column_of t.columns.now) names q b → items ≡ map tree b.select.items.items
+    → row_fit_causes (map column_of t.columns.now) names (seen_types o q items) ≡ row_fit_causes (columns_in (shapes o) name) names (answer_types (shapes o) q)
+fits_answer o bound user name names q t b items is asked e =
+    ap (λ cs. row_fit_causes cs names (seen_types o q items)) is.columns
+    ∙ ap (λ ts. row_fit_causes (columns_in (shapes o) name) names (seen_types o q ts)) (e ∙ ap (λ (f : Form). f.items) asked.meant.form)
+
+pub answer_told : (o : Objects) (bound : List Attached) (user name : Name) (names : Option (List Name)) (q : SelectTree) (t : Target) (b : Bound) (items : List Tree) (c : Cause)
+    → IsTarget o bound user name t → IsAskedQuery o bound user (map column_of t.columns.now) names q b → items ≡ map tree b.select.items.items
+    → Tells (row_fit_causes (map column_of t.columns.now) names (seen_types o q items)) c
+    → TellsInTurn (names_of o user (query_write name names q)) (types_of o (query_write name names q)) c
+answer_told o bound user name names q t b items c is asked e h =
+    types_in_turn (names_of o user (query_write name names q)) (row_fit_causes (columns_in (shapes o) name) names (answer_types (shapes o) q)) (types_of o (query_write name names q)) c
+    (sym (asked_same o bound user name names q t is) ∙ asked.names)
+    (λ d i. Contains-append_right (select_type_causes (shapes o) q) (row_fit_causes (columns_in (shapes o) name) names (answer_types (shapes o) q)) d i)
+    (subst (λ xs. Tells xs c) (fits_answer o bound user name names q t b items is asked e) h)
+
+pub query_clear : (o : Objects) (bound : List Attached) (user name : Name) (names : Option (List Name)) (q : SelectTree) (t : Target) (b : Bound) → IsTarget o bound user name t
+    → IsAskedQuery o bound user (map column_of t.columns.now) names q b → names_of o user (query_write name names q) ≡ []
+query_clear o bound user name names q t b is asked = sym (asked_same o bound user name names q t is) ∙ asked.names
+
+pub query_typed : (o : Objects) (bound : List Attached) (user name : Name) (names : Option (List Name)) (q : SelectTree) (t : Target) (b : Bound) (items : List Tree) → IsTarget o bound user name t
+    → IsAskedQuery o bound user (map column_of t.columns.now) names q b → items ≡ map tree b.select.items.items
+    → row_fit_causes (map column_of t.columns.now) names (seen_types o q items) ≡ [] → types_of o (query_write name names q) ≡ []
+query_typed o bound user name names q t b items is asked e none =
+    none_of_two (select_type_causes (shapes o) q) (row_fit_causes (columns_in (shapes o) name) names (answer_types (shapes o) q)) asked.types
+    (sym (fits_answer o bound user name names q t b items is asked e) ∙ none)
+
+-- ---- the columns in view
+
+unknown_by : (tables : List TableShape) (p : Option ℕ) → (if is_some p then [] else UndefinedTable ∷ []) ≡ UndefinedTable ∷ []
+    → unwrap_or (option_map (λ (t : TableShape). t.columns) (option_and_then (slice_get tables) p)) [] ≡ []
+unknown_by tables None h = refl
+unknown_by tables (Some k) h = absurd cc
+
+pub columns_missing : (o : Objects) (e : EntryTree) → table_named o e.table ≡ None → entry_columns (shapes o) e ≡ []
+columns_missing o e h = unknown_by (shapes o) (place_named (shapes o) e.table) (causes_missing o e h)
+
+pub pushed : (old new : List ColType) (seen columns : List Column) → new ≡ old ++ column_kinds seen → seen ≡ columns → new ≡ old ++ column_kinds columns
+pushed old new seen columns h e = h ∙ ap (λ cs. old ++ column_kinds cs) e
+
+pub pushed_none : (old : List ColType) (columns : List Column) → columns ≡ [] → old ≡ old ++ column_kinds columns
+pushed_none old columns e = rw e (sym (append-nil old))

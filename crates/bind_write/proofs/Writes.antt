@@ -1,0 +1,107 @@
+-- Writes over the tables of a catalogue.
+use Rattle.std.proofs.Common.{◌≡◌, ◌⊎◌, inl, inr, List, [], ◌∷◌, ◌++◌, map, flat_map, slice_get, Option, Some, Contains, Result, Ok, Err, IfOk, OnOk, IfErr, refl, sym, ap, ◌∙◌, arith}
+use Rattle.std.proofs.lemmas.List.Elements.{Contains-append_left, Contains-append_right}
+use Rattle.med_value.specs.declared.cause.Cause.{Cause}
+use Rattle.med_value.specs.declared.cause.Cause.TheVariants.{OutOfMemory}
+use Rattle.med_syntax.specs.Tree.{Name}
+use Rattle.med_syntax.specs.ExprTree.{ExprTree}
+use Rattle.med_syntax.specs.QueryTree.{EntryTree}
+use Rattle.write_syntax.specs.WriteTree.{DeleteTree, WriteTree, delete}
+use Rattle.bind_names.specs.Naming.{once_known, name_causes, condition_name_causes}
+use Rattle.bind_names.specs.Telling.{Tells}
+use Rattle.med_binder.specs.Turns.{TellsInTurn}
+use Rattle.med_catalog.specs.Objects.{Objects}
+use Rattle.med_write.specs.Form.{form_of}
+use Rattle.bind_catalog.specs.Barred.{target_right_causes}
+use Rattle.bind_catalog.specs.Places.{Attached}
+use Rattle.bind_catalog.specs.Tables.{shapes}
+use Rattle.write_parts.specs.declared.target.Target.{Target}
+use Rattle.bind_write.specs.declared.bound.TableWrite.{TableWrite}
+use Rattle.write_parts.specs.Meaning.{target_of, columns_in, written_column, write_meant, scope_in}
+use Rattle.write_parts.specs.Naming.{target_causes, names_of, WriteNames}
+use Rattle.write_parts.specs.Typing.{types_of, WriteTypes}
+use Rattle.bind_write.specs.Binding.{IsQueryOf, IsBoundWrite, IsBindable, IsMeantWrite, NotBound}
+use Rattle.write_parts.specs.Asking.{IsTarget, asked_names}
+use Rattle.bind_write.specs.Steps.{BindsWrite}
+use Rattle.write_parts.proofs.Lists.{none_in, of_two, names_left, in_turn_by}
+use Rattle.write_parts.proofs.Targets.{may_read}
+
+once_left : (xs ys : List Cause) (c : Cause) → Contains xs c → Contains (once_known xs ys) c
+once_left [] ys c h = absurd (let within = h.1 in omega arith)
+once_left (x ∷ xs) ys c h = h
+
+-- a cause of the table is one of the write
+pub target_told : (known all asked rights more ts : List Cause) (c : Cause) → ((d : Cause) → Contains known d → Contains all d) → Tells (known ++ rights) c → TellsInTurn (once_known all asked ++ (rights ++ more)) ts c
+target_told known all asked rights more ts c f t = record { told = by t.told }
+  where
+    part : Contains known c ⊎ Contains rights c → Contains (once_known all asked ++ (rights ++ more)) c
+    part (inl h) = Contains-append_left (once_known all asked) (rights ++ more) c (once_left all asked c (f c h))
+    part (inr h) = Contains-append_right (once_known all asked) (rights ++ more) c (Contains-append_left rights more c h)
+
+    by : (c ≡ OutOfMemory) ⊎ Contains (known ++ rights) c
+        → (c ≡ OutOfMemory) ⊎ (Contains (once_known all asked ++ (rights ++ more)) c ⊎ ((once_known all asked ++ (rights ++ more) ≡ []) × Contains ts c))
+    by (inl e) = inl e
+    by (inr h) = inr (inl (part (of_two known rights c h)))
+
+-- a write of one entry: once its table and its list of columns are known, the names that are left are those of what is asked
+pub names_asked : (o : Objects) (bound : List Attached) (user : Name) (e : EntryTree) (t : Target) (others : List Cause) (es : List ExprTree) (condition : Option ExprTree)
+    → IsTarget o bound user e.table t → others ≡ []
+    → asked_names o user (Some e) es condition
+    ≡ once_known (target_causes (shapes o) e.table) (others ++ (flat_map (name_causes (scope_in (shapes o) e)) es ++ condition_name_causes (scope_in (shapes o) e) condition))
+    ++ (target_right_causes o user e.table ++ [])
+names_asked o bound user e t others es condition is none =
+    names_left (target_causes (shapes o) e.table) _ others (target_right_causes o user e.table) [] _ is.known none is.rights (may_read o user e.table is.rights) refl
+
+pub deleted_told : (o : Objects) (bound : List Attached) (user : Name) (d : DeleteTree) (t : Target) (c : Cause) → IsTarget o bound user d.entry.table t
+    → TellsInTurn (asked_names o user (Some d.entry) [] d.condition) (types_of o (delete d)) c → TellsInTurn (names_of o user (delete d)) (types_of o (delete d)) c
+deleted_told o bound user d t c is h = in_turn_by (asked_names o user (Some d.entry) [] d.condition) (names_of o user (delete d)) (types_of o (delete d)) (types_of o (delete d)) c
+    (names_asked o bound user d.entry t [] [] d.condition is refl) (λ x. x) h
+
+pub write_is : (o : Objects) (bound : List Attached) (user : Name) (w : WriteTree) (t : Target) (r : TableWrite) → IsTarget o bound user (target_of w) t
+    → r.place ≡ t.place → r.source ≡ t.source → r.table ≡ t.table → r.write.columns.items ≡ map written_column (columns_in (shapes o) (target_of w))
+    → form_of r.write.rows ≡ write_meant (shapes o) w → IsQueryOf o bound w r.query → names_of o user w ≡ [] → types_of o w ≡ [] → IsBoundWrite o bound user w r
+write_is o bound user w t r is place source table columns form query names types = record {
+  meant = record {
+    place = is.place ∙ ap Some (sym place);
+    there = record {
+      at = is.there.at;
+      there = ap (slice_get bound) place ∙ is.there.there;
+      source = source ∙ is.there.source;
+      number = ap (λ n. n.number) table ∙ is.there.number;
+    };
+    columns = columns;
+    form = form;
+    query = query;
+  };
+  names = names;
+  types = types;
+}
+
+-- ---- what is answered
+
+pub answers_bindable : (o : Objects) (bound : List Attached) (user : Name) (w : WriteTree) (r : Result TableWrite Cause) → BindsWrite o bound user w r → OnOk r (IsBindable o user w)
+answers_bindable o bound user w (Ok t) h = record { names = λ c i. none_in (names_of o user w) c h.names i; types = λ c i. none_in (types_of o w) c h.types i }
+answers_bindable o bound user w (Err c) h = tt
+
+pub answers_meant : (o : Objects) (bound : List Attached) (user : Name) (w : WriteTree) (r : Result TableWrite Cause) → BindsWrite o bound user w r → IfOk r (λ t. IsMeantWrite o bound w t)
+answers_meant o bound user w (Ok t) h = h.meant
+answers_meant o bound user w (Err c) h = tt
+
+pub answers_refused : (o : Objects) (bound : List Attached) (user : Name) (w : WriteTree) (r : Result TableWrite Cause) → BindsWrite o bound user w r → IfErr r (λ c. NotBound o user w c)
+answers_refused o bound user w (Ok t) h = tt
+answers_refused o bound user w (Err c) h = by h.told
+  where
+    by : (c ≡ OutOfMemory) ⊎ (Contains (names_of o user w) c ⊎ ((names_of o user w ≡ []) × Contains (types_of o w) c)) → NotBound o user w c
+    by (inl e) = inl e
+    by (inr (inl i)) = inr (inl i)
+    by (inr (inr (none, i))) = inr (inr (i, λ d j. none_in (names_of o user w) d none j))
+
+pub answers_memory : (o : Objects) (bound : List Attached) (user : Name) (w : WriteTree) (r : Result TableWrite Cause) → BindsWrite o bound user w r
+    → ((c : Cause) → WriteNames o user w c → ⊥) → ((c : Cause) → WriteTypes o w c → ⊥) → IfErr r (λ c. c ≡ OutOfMemory)
+answers_memory o bound user w (Ok t) h names types = tt
+answers_memory o bound user w (Err c) h names types = by h.told
+  where
+    by : (c ≡ OutOfMemory) ⊎ (Contains (names_of o user w) c ⊎ ((names_of o user w ≡ []) × Contains (types_of o w) c)) → c ≡ OutOfMemory
+    by (inl e) = e
+    by (inr (inl i)) = absurd (names c i)
+    by (inr (inr (none, i))) = absurd (types c i)

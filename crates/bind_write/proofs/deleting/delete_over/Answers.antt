@@ -1,0 +1,42 @@
+use Rattle.std.proofs.Common.{ap, sym, refl, map, ◌∙◌, Some, []}
+use Rattle.std.proofs.lemmas.Result.{err_from_is_err_and}
+use Rattle.write_syntax.specs.WriteTree.{delete}
+use Rattle.write_syntax.specs.WriteView.{delete_tree}
+use Rattle.med_catalog.specs.View.{objects}
+use Rattle.med_write.specs.Form.{delete_form}
+use Rattle.bind_catalog.specs.Barred.{target_right_causes}
+use Rattle.bind_catalog.specs.Tables.{shapes}
+use Rattle.bind_catalog.specs.Places.{attached}
+use Rattle.write_parts.specs.Meaning.{written_column}
+use Rattle.write_parts.specs.Naming.{target_causes}
+use Rattle.write_parts.specs.Typing.{types_of}
+use Rattle.write_parts.specs.Asking.{IsTarget, IsAsked}
+use Rattle.bind_write.proofs.Writes.{target_told, deleted_told, names_asked, write_is}
+use Rattle.bind_write.proofs.deleting.delete_over.Goals as goal
+
+pub returns-in_err-target : goal.returns-in_err-target
+returns-in_err-target c =
+    let o = objects c.args.catalog.now in
+    let d = delete_tree c.args.statement in
+    let p = err_from_is_err_and c.from_residual.result c.from_residual.ensures.1 in
+    rw (p.1, p.2) (target_told (target_causes (shapes o) d.entry.table) (target_causes (shapes o) d.entry.table) _ (target_right_causes o c.args.user.now d.entry.table) [] (types_of o (delete d)) _ (λ x h. h)
+    (rw c.as_str.ensures.value at c.in_err-target.ensures))
+
+pub returns-in_err-asked : goal.returns-in_err-asked
+returns-in_err-asked c =
+    let o = objects c.args.catalog.now in
+    let d = delete_tree c.args.statement in
+    let is : IsTarget o (map attached c.args.bound.now) c.args.user.now d.entry.table c.in_ok-target.target = rw c.as_str.ensures.value at c.in_ok-target.ensures in
+    let p = err_from_is_err_and c.from_residual-in_err-asked.result c.from_residual-in_err-asked.ensures.1 in
+    rw (p.1, p.2) (deleted_told o (map attached c.args.bound.now) c.args.user.now d c.in_ok-target.target _ is (rw c.new-values.ensures.items at c.in_err-asked.ensures))
+
+pub returns : goal.returns
+returns c =
+    let o = objects c.args.catalog.now in
+    let d = delete_tree c.args.statement in
+    let is : IsTarget o (map attached c.args.bound.now) c.args.user.now d.entry.table c.in_ok-target.target = rw c.as_str.ensures.value at c.in_ok-target.ensures in
+    let asked : IsAsked o c.args.user.now (Some d.entry) [] d.condition c.in_ok-asked.asked = rw c.new-values.ensures.items at c.in_ok-asked.ensures in
+    write_is o (map attached c.args.bound.now) c.args.user.now (delete d) c.in_ok-target.target _ is refl refl refl
+    (c.in_ok-columns.ensures ∙ ap (map written_column) is.columns) (ap delete_form asked.conditions) refl
+    (sym (names_asked o (map attached c.args.bound.now) c.args.user.now d.entry c.in_ok-target.target [] [] d.condition is refl) ∙ asked.names)
+    asked.types

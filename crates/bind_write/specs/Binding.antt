@@ -1,0 +1,73 @@
+-- What binding a write over the tables of a catalogue answers.
+use Rattle.std.specs.Prelude.{◌≡◌, ◌≤◌, ◌⊎◌, List, [], map, true, Some, None, Option}
+use Rattle.med_value.specs.declared.cause.Cause.{Cause}
+use Rattle.med_value.specs.declared.cause.Cause.TheVariants.{OutOfMemory}
+use Rattle.med_syntax.specs.Tree.{Name}
+use Rattle.med_syntax.specs.ExprTree.{ExprTree}
+use Rattle.med_syntax.specs.QueryTree.{SelectTree}
+use Rattle.write_syntax.specs.WriteTree.{GivenTree, values, rows_of, WriteTree, insert, update, delete}
+use Rattle.med_query.specs.Select.{is_safe_from}
+use Rattle.bind_names.specs.Scope.{place_named}
+use Rattle.med_binder.specs.Binding.{IsMeant}
+use Rattle.med_binder.specs.declared.bound.Bound.{Bound}
+use Rattle.pushdown.specs.Offered as offered
+use Rattle.med_catalog.specs.DdlCauses.{phase}
+use Rattle.med_catalog.specs.Objects.{Objects}
+use Rattle.bind_catalog.specs.Tables.{shapes}
+use Rattle.bind_catalog.specs.Places.{Attached, IsPlaceOf, ArePlaces}
+use Rattle.bind_catalog.specs.Queries.{meant_by}
+use Rattle.med_write.specs.Form.{form_of}
+use Rattle.bind_write.specs.declared.bound.TableWrite.{TableWrite}
+use Rattle.write_parts.specs.Meaning.{target_of, columns_in, written_column, write_meant}
+use Rattle.write_parts.specs.Naming.{names_of, WriteNames}
+use Rattle.write_parts.specs.Typing.{types_of, WriteTypes}
+
+-- no cause of names, rights or types stands
+pub record IsBindable (o : Objects) (user : Name) (t : WriteTree) : Type 0 where
+  pub names : (c : Cause) → WriteNames o user t c → ⊥
+  pub types : (c : Cause) → WriteTypes o t c → ⊥
+
+-- why a write is not bound: of types only where none of names or rights stands
+abbrev pub NotBound : Objects → Name → WriteTree → Cause → Type 0
+NotBound o user t c = (c ≡ OutOfMemory) ⊎ (WriteNames o user t c ⊎ (WriteTypes o t c × ((d : Cause) → WriteNames o user t d → ⊥)))
+
+-- a cause that stands, of the least phase in which one does
+pub record IsLeast (o : Objects) (user : Name) (t : WriteTree) (c : Cause) : Type 0 where
+  pub stands : WriteNames o user t c ⊎ WriteTypes o t c
+  pub least : (d : Cause) → WriteNames o user t d ⊎ WriteTypes o t d → phase c ≤ phase d
+
+-- the query of an INSERT that has one
+abbrev pub IsGiven : Objects → List Attached → GivenTree → Option Bound → Type 0
+IsGiven o bound (values rows) None = Unit {0}
+IsGiven o bound (values rows) (Some b) = ⊥
+IsGiven o bound (rows_of q) None = ⊥
+IsGiven o bound (rows_of q) (Some b) =
+    IsMeant (meant_by o q) b × ArePlaces bound (meant_by o q).entries (map offered.entry_place b.entries.items)
+    × (is_safe_from b.select.from.items ≡ true)
+
+abbrev pub IsQueryOf : Objects → List Attached → WriteTree → Option Bound → Type 0
+IsQueryOf o bound (insert i) q = IsGiven o bound i.given q
+IsQueryOf o bound (update u) q = q ≡ None
+IsQueryOf o bound (delete d) q = q ≡ None
+
+-- the write, to the table of its name, and where the rows of that table are
+pub record IsMeantWrite (o : Objects) (bound : List Attached) (t : WriteTree) (w : TableWrite) : Type 0 where
+  pub place : place_named (shapes o) (target_of t) ≡ Some w.place
+  pub there : IsPlaceOf bound w.place (record { source = w.source; table = w.table.number })
+  pub columns : w.write.columns.items ≡ map written_column (columns_in (shapes o) (target_of t))
+  pub form : form_of w.write.rows ≡ write_meant (shapes o) t
+  pub query : IsQueryOf o bound t w.query
+
+-- it is bound, and no cause stands; or one is told
+pub record IsBoundWrite (o : Objects) (bound : List Attached) (user : Name) (t : WriteTree) (w : TableWrite) : Type 0 where
+  pub meant : IsMeantWrite o bound t w
+  pub names : names_of o user t ≡ []
+  pub types : types_of o t ≡ []
+
+-- INSERT INTO table [(names)] VALUES rows
+abbrev pub values_write : Name → Option (List Name) → List (List ExprTree) → WriteTree
+values_write table names rows = insert (record { table = table; columns = names; given = values rows })
+
+-- INSERT INTO table [(names)] query
+abbrev pub query_write : Name → Option (List Name) → SelectTree → WriteTree
+query_write table names q = insert (record { table = table; columns = names; given = rows_of q })

@@ -1,0 +1,91 @@
+-- What the steps of binding a write answer.
+use Rattle.std.specs.Prelude.{◌≡◌, List, [], ◌∷◌, ◌++◌, map, flat_map, string_bytes, true, Option, Some, None, Result, Ok, Err, Vec, Contains}
+use Rattle.med_value.specs.Column.{Column}
+use Rattle.med_value.specs.declared.cause.Cause.{Cause}
+use Rattle.med_value.specs.declared.cause.Cause.TheVariants.{OutOfMemory}
+use Rattle.med_syntax.specs.Tree.{Name}
+use Rattle.med_syntax.specs.ExprTree.{ExprTree}
+use Rattle.med_syntax.specs.ExprView.{expr_tree}
+use Rattle.med_syntax.specs.QueryTree.{SelectTree}
+use Rattle.write_syntax.specs.WriteTree.{SetTree, WriteTree}
+use Rattle.tri_expr.specs.declared.expr.Expr.{Expr}
+use Rattle.tri_expr.specs.Tree.{Tree}
+use Rattle.med_write.specs.Form.{trees_of}
+use Rattle.med_query.specs.Select.{is_safe_from}
+use Rattle.bind_names.specs.Naming.{from_causes, asked_causes, once_known}
+use Rattle.bind_names.specs.Telling.{Tells}
+use Rattle.bind_types.specs.Typing.{select_type_causes}
+use Rattle.med_binder.specs.Binding.{IsMeant}
+use Rattle.med_binder.specs.declared.bound.Bound.{Bound}
+use Rattle.med_binder.specs.Turns.{TellsInTurn}
+use Rattle.med_catalog.specs.Objects.{Objects}
+use Rattle.pushdown.specs.Offered.{entry_place}
+use Rattle.bind_catalog.specs.Barred.{query_right_causes}
+use Rattle.bind_catalog.specs.Places.{Attached, ArePlaces}
+use Rattle.bind_catalog.specs.Queries.{meant_by}
+use Rattle.bind_catalog.specs.Tables.{shapes}
+use Rattle.write_parts.specs.Meaning.{row_meant}
+use Rattle.write_parts.specs.Naming.{named_causes, names_of, set_names, set_values, row_name_causes}
+use Rattle.write_parts.specs.Typing.{types_of, row_type_causes}
+use Rattle.bind_write.specs.declared.bound.TableWrite.{TableWrite}
+use Rattle.bind_write.specs.declared.updating.SetList.{SetList}
+use Rattle.bind_write.specs.Binding.{IsBoundWrite}
+
+-- ---- the whole
+
+abbrev pub BindsWrite : Objects → List Attached → Name → WriteTree → Result TableWrite Cause → Type 0
+BindsWrite o bound user t (Ok w) = IsBoundWrite o bound user t w
+BindsWrite o bound user t (Err c) = TellsInTurn (names_of o user t) (types_of o t) c
+
+-- ---- SET
+
+-- the columns of SET, and the expressions; refused only where memory is
+pub record AreSets (sets : List SetTree) (s : SetList) : Type 0 where
+  pub names : map string_bytes s.names.items ≡ set_names sets
+  pub values : map expr_tree s.values.items ≡ set_values sets
+
+abbrev pub SplitsSets : List SetTree → Result SetList Cause → Type 0
+SplitsSets sets (Ok s) = AreSets sets s
+SplitsSets sets (Err c) = c ≡ OutOfMemory
+
+-- ---- VALUES
+
+-- a row with its names resolved, and no cause stands
+abbrev pub AsksRow : {A : Type 0} → List ExprTree → Result (Vec Expr A) Cause → Type 0
+AsksRow es (Ok v) = (trees_of v ≡ row_meant es) × (row_name_causes es ≡ []) × (row_type_causes es ≡ [])
+AsksRow es (Err c) = TellsInTurn (row_name_causes es) (row_type_causes es) c
+
+-- one row more; or a cause of its types is answered, where none of its names stands; or one of its names is told
+abbrev pub GoesOnWith : List ExprTree → List (List Tree) → List (List Tree) → Result (Option Cause) Cause → Type 0
+GoesOnWith es old new (Ok None) = (new ≡ old ++ row_meant es ∷ []) × (row_name_causes es ≡ []) × (row_type_causes es ≡ [])
+GoesOnWith es old new (Ok (Some c)) = (row_name_causes es ≡ []) × Contains (row_type_causes es) c
+GoesOnWith es old new (Err c) = Tells (row_name_causes es) c
+
+-- so far no cause of names stands; the rows are resolved, or a cause of types is at hand
+abbrev pub AreSoFar : List (List ExprTree) → List (List Tree) → Option Cause → Type 0
+AreSoFar rows out None = (out ≡ map row_meant rows) × (flat_map row_type_causes rows ≡ [])
+AreSoFar rows out (Some c) = Contains (flat_map row_type_causes rows) c
+
+abbrev pub AsksRows : {A B : Type 0} → List (List ExprTree) → Result (Vec (Vec Expr A) B) Cause → Type 0
+AsksRows rows (Ok v) = (map trees_of v.items ≡ map row_meant rows) × (flat_map row_name_causes rows ≡ []) × (flat_map row_type_causes rows ≡ [])
+AsksRows rows (Err c) = TellsInTurn (flat_map row_name_causes rows) (flat_map row_type_causes rows) c
+
+-- ---- the query of an INSERT
+
+-- its causes of names and rights, and those of the list of columns, which is looked up once the tables of FROM are known
+abbrev pub query_names : Objects → Name → List Column → Option (List Name) → SelectTree → List Cause
+query_names o user columns names q =
+    once_known (from_causes (shapes o) q.from) (named_causes columns names ++ asked_causes (shapes o) q) ++ query_right_causes o user q
+
+-- it is bound, and no cause stands
+pub record IsAskedQuery (o : Objects) (bound : List Attached) (user : Name) (columns : List Column) (list : Option (List Name)) (q : SelectTree)
+    (b : Bound) : Type 0 where
+  pub meant : IsMeant (meant_by o q) b
+  pub there : ArePlaces bound (meant_by o q).entries (map entry_place b.entries.items)
+  pub safe : is_safe_from b.select.from.items ≡ true
+  pub names : query_names o user columns list q ≡ []
+  pub types : select_type_causes (shapes o) q ≡ []
+
+abbrev pub AsksQuery : Objects → List Attached → Name → List Column → Option (List Name) → SelectTree → Result Bound Cause → Type 0
+AsksQuery o bound user columns names q (Ok b) = IsAskedQuery o bound user columns names q b
+AsksQuery o bound user columns names q (Err c) = TellsInTurn (query_names o user columns names q) (select_type_causes (shapes o) q) c

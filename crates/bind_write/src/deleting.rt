@@ -1,0 +1,49 @@
+//! DELETE.
+
+ghost use Rattle.std.specs.Prelude.{◌≡◌, length, map};
+ghost use Rattle.med_catalog.specs.View.{objects};
+ghost use Rattle.bind_catalog.specs.Tables.{AreNamedOnce};
+ghost use Rattle.bind_catalog.specs.Places.{attached};
+ghost use Rattle.write_syntax.specs.WriteTree.{delete};
+ghost use Rattle.write_syntax.specs.WriteView.{delete_tree};
+ghost use Rattle.bind_write.specs.Steps.{BindsWrite};
+
+use crate::bound::TableWrite;
+use bind_catalog::BoundTable;
+use med_catalog::Catalog;
+use med_value::Cause;
+use med_write::{BoundWrite, RowWrite};
+use std::alloc::Global;
+use write_parts::{ask, find_target, written_columns};
+use write_syntax::Delete;
+
+/// A DELETE over the tables of the catalogue, or why it is refused.
+pub(crate) fn delete_over(
+    alloc: Global,
+    statement: Delete,
+    catalog: &Catalog,
+    bound: &[BoundTable],
+    user: &str,
+) -> Result<TableWrite, Cause>
+    requires many { length bound.now ≡ length (objects catalog.now).tables }
+    requires once { AreNamedOnce (objects catalog.now) }
+    ensures { BindsWrite (objects catalog.now) (map attached bound.now) user.now (delete (delete_tree statement)) result }
+{
+    let Delete { entry, condition } = statement;
+    let target = find_target(catalog, bound, user, entry.table.as_str())?;
+    let columns = written_columns(alloc, target.columns)?;
+    let values = Vec::new(alloc);
+    let asked = ask(alloc, catalog, bound, user, Some(entry), values, condition)?;
+    Ok(TableWrite {
+        place: target.place,
+        source: target.source,
+        table: target.table,
+        write: BoundWrite {
+            columns,
+            rows: RowWrite::Delete {
+                conditions: asked.conditions,
+            },
+        },
+        query: None,
+    })
+}

@@ -1,0 +1,88 @@
+-- Lists of causes and their parts.
+use Rattle.std.proofs.Common.{◌≡◌, ◌⊎◌, inl, inr, zero, suc, List, [], ◌∷◌, ◌++◌, map, flat_map, Contains, refl, sym, ap, ◌∙◌, subst, arith}
+use Rattle.med_value.specs.declared.cause.Cause.{Cause}
+use Rattle.med_value.specs.declared.cause.Cause.TheVariants.{OutOfMemory}
+use Rattle.bind_names.specs.Naming.{once_known}
+use Rattle.bind_names.specs.Telling.{Tells}
+use Rattle.med_binder.specs.Turns.{TellsInTurn}
+
+pub left_empty : (xs ys : List Cause) → xs ++ ys ≡ [] → xs ≡ []
+left_empty [] ys h = refl
+left_empty (x ∷ xs) ys h = absurd cc
+
+pub right_empty : (xs ys : List Cause) → xs ++ ys ≡ [] → ys ≡ []
+right_empty [] ys h = h
+right_empty (x ∷ xs) ys h = absurd cc
+
+pub empty_by : (xs : List Cause) → ((c : Cause) → Contains xs c → ⊥) → xs ≡ []
+empty_by [] h = refl
+empty_by (x ∷ xs) h = absurd (h x (0, omega arith, refl))
+
+pub none_in : (xs : List Cause) (c : Cause) → xs ≡ [] → Contains xs c → ⊥
+none_in xs c e h = absurd (let within = (subst (λ ys. Contains ys c) e h).1 in omega arith)
+
+-- one in either part
+pub of_two : (xs ys : List Cause) (c : Cause) → Contains (xs ++ ys) c → Contains xs c ⊎ Contains ys c
+of_two [] ys c h = inr h
+of_two (x ∷ xs) ys c (zero, within, is) = inl (0, omega arith, is)
+of_two (x ∷ xs) ys c (suc i, within, is) = by (of_two xs ys c (i, omega (arith, within), is))
+  where
+    by : Contains xs c ⊎ Contains ys c → Contains (x ∷ xs) c ⊎ Contains ys c
+    by (inl (j, w, e)) = inl (suc j, omega (arith, w), e)
+    by (inr k) = inr k
+
+-- a map behind another, and parts that are one item each
+pub flat_over : {X Y Z : Type 0} (f : Y → List Z) (g : X → Y) (xs : List X) → flat_map f (map g xs) ≡ flat_map (λ x. f (g x)) xs
+flat_over f g [] = refl
+flat_over f g (x ∷ xs) = ap (λ zs. f (g x) ++ zs) (flat_over f g xs)
+
+pub map_over : {X Y Z : Type 0} (f : Y → Z) (g : X → Y) (xs : List X) → map f (map g xs) ≡ map (λ x. f (g x)) xs
+map_over f g [] = refl
+map_over f g (x ∷ xs) = ap (λ zs. f (g x) ∷ zs) (map_over f g xs)
+
+pub map_flat_ones : {X Y Z : Type 0} (f : Y → Z) (g : X → Y) (xs : List X) → map f (flat_map (λ x. g x ∷ []) xs) ≡ map (λ x. f (g x)) xs
+map_flat_ones f g [] = refl
+map_flat_ones f g (x ∷ xs) = ap (λ zs. f (g x) ∷ zs) (map_flat_ones f g xs)
+
+-- ---- what is told in turn
+
+-- names alike, and a cause of types that is one of more
+pub in_turn_by : (ns ms ts us : List Cause) (c : Cause) → ns ≡ ms → (Contains ts c → Contains us c) → TellsInTurn ns ts c → TellsInTurn ms us c
+in_turn_by ns ms ts us c e f t = record { told = by t.told }
+  where
+    by : (c ≡ OutOfMemory) ⊎ (Contains ns c ⊎ ((ns ≡ []) × Contains ts c)) → (c ≡ OutOfMemory) ⊎ (Contains ms c ⊎ ((ms ≡ []) × Contains us c))
+    by (inl h) = inl h
+    by (inr (inl h)) = inr (inl (subst (λ xs. Contains xs c) e h))
+    by (inr (inr (none, h))) = inr (inr (sym e ∙ none, f h))
+
+-- a cause of names
+pub names_in_turn : (xs ns ts : List Cause) (c : Cause) → ((d : Cause) → Contains xs d → Contains ns d) → Tells xs c → TellsInTurn ns ts c
+names_in_turn xs ns ts c f t = record { told = by t.told }
+  where
+    by : (c ≡ OutOfMemory) ⊎ Contains xs c → (c ≡ OutOfMemory) ⊎ (Contains ns c ⊎ ((ns ≡ []) × Contains ts c))
+    by (inl h) = inl h
+    by (inr h) = inr (inl (f c h))
+
+-- a cause of types, where none of names stands
+pub types_in_turn : (ns xs ts : List Cause) (c : Cause) → ns ≡ [] → ((d : Cause) → Contains xs d → Contains ts d) → Tells xs c → TellsInTurn ns ts c
+types_in_turn ns xs ts c e f t = record { told = by t.told }
+  where
+    by : (c ≡ OutOfMemory) ⊎ Contains xs c → (c ≡ OutOfMemory) ⊎ (Contains ns c ⊎ ((ns ≡ []) × Contains ts c))
+    by (inl h) = inl h
+    by (inr h) = inr (inr (e, f c h))
+
+pub memory_in_turn : (ns ts : List Cause) (c : Cause) → c ≡ OutOfMemory → TellsInTurn ns ts c
+memory_in_turn ns ts c e = record { told = inl e }
+
+-- only memory is told where nothing stands
+pub memory_alone : (c : Cause) → Tells [] c → c ≡ OutOfMemory
+memory_alone c t = by t.told
+  where
+    by : (c ≡ OutOfMemory) ⊎ Contains [] c → c ≡ OutOfMemory
+    by (inl e) = e
+    by (inr h) = absurd (none_in [] c refl h)
+
+-- the names of a write, where its table and its list of columns are known and the rights are there
+pub names_left : (known names others rights more reading : List Cause) → known ≡ [] → others ≡ [] → rights ≡ [] → reading ≡ [] → more ≡ []
+    → once_known known names ++ reading ≡ once_known known (others ++ names) ++ (rights ++ more)
+names_left known names others rights more reading k l r d m = rw (k, l, r, d, m) refl

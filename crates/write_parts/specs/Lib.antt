@@ -1,0 +1,5 @@
+pub mod Kinds
+pub mod Meaning
+pub mod Naming
+pub mod Typing
+pub mod Asking

@@ -1,0 +1,21 @@
+//! What INSERT, UPDATE and DELETE mean over the tables of a catalogue and which causes of names, rights and types stand against them, and
+//! the parts that these statements share: the table that is written, expressions that see the columns of one table or none, the places of
+//! columns, and the types of what is written.
+//!
+//! `specs/Meaning.antt` says what a write means in terms of places, `specs/Naming.antt` which causes of names and rights stand against it,
+//! and `specs/Typing.antt` which of types, by the types of expressions whose names are places (`specs/Kinds.antt`). Expressions are bound as
+//! the query that has them as its items (`src/asking.rt`).
+#![tactic(auto)]
+
+mod asking;
+mod columns;
+mod kinds;
+pub mod law;
+mod places;
+mod target;
+
+pub use asking::{Asked, ask};
+pub use columns::{check_list, name_place};
+pub use kinds::{cell_kinds, check_cells, kinds_of};
+pub use places::{check_fit, check_named, kinds_of_all, places_for};
+pub use target::{Target, find_target, written_columns};

@@ -1,0 +1,143 @@
+-- The rows of an answer are of the types of the query's items.
+use Rattle.std.proofs.Common.{◌≡◌, ◌+◌, ℕ, suc, true, false, Bool, not, if◌then◌else◌, length, List, [], ◌∷◌, map, filter, flat_map, drop, All, Option, Some, None, sym, subst}
+use Rattle.std.proofs.lemmas.List.Elements.{All-cons, All-nil, All-head, All-tail, All-append, All-filter, All-map, All-take, All-drop}
+use Rattle.std.proofs.lemmas.List.Sorted.{All-permutation}
+use Rattle.std.proofs.lemmas.List.Sums.{list_all-from_AllPass}
+use Rattle.med_value.specs.Column.{Column}
+use Rattle.med_value.specs.Datum.{Tuple}
+use Rattle.med_value.specs.declared.value.ColType.{ColType}
+use Rattle.med_syntax.specs.Tree.{Name}
+use Rattle.med_syntax.specs.QueryTree.{ItemTree, all, all_of, value, SelectTree}
+use Rattle.tri_expr.specs.Meaning.{means}
+use Rattle.tri_expr.specs.Outcome.{over, value_of}
+use Rattle.tri_expr.specs.Tree.{column}
+use Rattle.med_query.specs.Form.{query_by}
+use Rattle.med_query.specs.Lists.{distinct, tuple_eq}
+use Rattle.med_query.specs.Query.{Query, Tables, Grouping, Output, key_of, has_key, keeps, kept, joined, classes_by, classes_of, classes, has_class, kept_classes, output, outputs_all, output_eq, outputs, limited, IsAnswer}
+use Rattle.fdw_api.specs.Scan.{row_fits}
+use Rattle.med_write.specs.Writing.{outcomes_of}
+use Rattle.bind_names.specs.Scope.{TableShape, Scope, is_meant, columns_of, entries_of, from_scope}
+use Rattle.bind_names.specs.Meaning.{resolved, shown_name, columns_from, starred_in, starred, item_outputs, outputs_of, meant_in}
+use Rattle.bind_names.specs.Meaning as names
+use Rattle.write_parts.specs.Kinds.{tree_type}
+use Rattle.write_parts.specs.Typing.{column_kinds, answer_types}
+use Rattle.write_types.specs.Typed.{item_texts, AreTyped}
+use Rattle.write_types.proofs.Values.{IsCleanTree, tree_fits}
+use Rattle.write_types.proofs.Rows.{IsCleanText, AreOfTypes, clean_tree, all_left, all_right}
+use Rattle.write_types.proofs.Joined.{AllRows, joined_fit}
+
+-- ---- the items
+
+abbrev IsCleanOutput : names.Output → Type 0
+IsCleanOutput o = IsCleanTree o.value
+
+abbrev AreClean : List names.Output → Type 0
+AreClean outs = All IsCleanOutput outs
+
+columns_clean : (at : ℕ) (cs : List Column) → AreClean (columns_from at cs)
+columns_clean at [] = All-nil IsCleanOutput
+columns_clean at (c ∷ cs) =
+    let o : names.Output = record { name = c.name; value = column at } in
+    All-cons IsCleanOutput o (columns_from (suc at) cs) tt (columns_clean (suc at) cs)
+
+meant_clean : (b : Bool) (outs : List names.Output) → AreClean outs → AreClean (if b then outs else [])
+meant_clean true outs h = h
+meant_clean false outs h = All-nil IsCleanOutput
+
+starred_clean : (at : ℕ) (q : Option Name) (s : Scope) → AreClean (starred at q s)
+starred_clean at q [] = All-nil IsCleanOutput
+starred_clean at q (e ∷ es) =
+    All-append IsCleanOutput (starred_in at q e) (starred (at + length e.columns) q es)
+    (meant_clean (is_meant q e) (columns_from at e.columns) (columns_clean at e.columns)) (starred_clean (at + length e.columns) q es)
+
+item_clean : (s : Scope) (i : ItemTree) → All IsCleanText (item_texts i) → AreClean (item_outputs s i)
+item_clean s all h = starred_clean 0 None s
+item_clean s (all_of q) h = starred_clean 0 (Some q) s
+item_clean s (value e alias) h =
+    let o : names.Output = record { name = shown_name e alias; value = resolved s e } in
+    All-cons IsCleanOutput o [] (clean_tree s e h) (All-nil IsCleanOutput)
+
+outputs_clean : (s : Scope) (items : List ItemTree) → All IsCleanText (flat_map item_texts items) → AreClean (outputs_of s items)
+outputs_clean s [] h = All-nil IsCleanOutput
+outputs_clean s (i ∷ is) h =
+    All-append IsCleanOutput (item_outputs s i) (outputs_of s is) (item_clean s i (all_left IsCleanText (item_texts i) (flat_map item_texts is) h))
+    (outputs_clean s is (all_right IsCleanText (item_texts i) (flat_map item_texts is) h))
+
+-- ---- the classes
+
+abbrev AreClasses : List ColType → List (List Tuple) → Type 0
+AreClasses kinds cs = All (AllRows kinds) cs
+
+one_each : (kinds : List ColType) (rows : List Tuple) → AllRows kinds rows → AreClasses kinds (map (λ r. r ∷ []) rows)
+one_each kinds [] h = All-nil (AllRows kinds)
+one_each kinds (r ∷ rs) h =
+    All-cons (AllRows kinds) (r ∷ []) (map (λ r. r ∷ []) rs)
+    (All-cons (λ r. row_fits kinds r ≡ true) r [] (All-head (λ r. row_fits kinds r ≡ true) r rs h) (All-nil (λ r. row_fits kinds r ≡ true)))
+    (one_each kinds rs (All-tail (λ r. row_fits kinds r ≡ true) r rs h))
+
+by_key : (kinds : List ColType) (rows : List Tuple) (at : ℕ) (ats : List ℕ) (ks : List Tuple) → AllRows kinds rows → AreClasses kinds (map (λ k. filter (has_key (at ∷ ats) k) rows) ks)
+by_key kinds rows at ats [] h = All-nil (AllRows kinds)
+by_key kinds rows at ats (k ∷ ks) h =
+    All-cons (AllRows kinds) (filter (has_key (at ∷ ats) k) rows) (map (λ k. filter (has_key (at ∷ ats) k) rows) ks)
+    (All-filter (has_key (at ∷ ats) k) (λ r. row_fits kinds r ≡ true) rows h) (by_key kinds rows at ats ks h)
+
+grouped_fit : (kinds : List ColType) (keys : List ℕ) (rows : List Tuple) → AllRows kinds rows → AreClasses kinds (classes_by keys rows)
+grouped_fit kinds [] rows h = All-cons (AllRows kinds) rows [] h (All-nil (AllRows kinds))
+grouped_fit kinds (at ∷ ats) rows h = by_key kinds rows at ats (distinct tuple_eq (map (key_of (at ∷ ats)) rows)) h
+
+classes_fit : (kinds : List ColType) (g : Option Grouping) (rows : List Tuple) → AllRows kinds rows → AreClasses kinds (classes_of g rows)
+classes_fit kinds None rows h = one_each kinds rows h
+classes_fit kinds (Some g) rows h = grouped_fit kinds g.keys rows h
+
+-- ---- the outputs
+
+shown_of_types : (kinds : List ColType) (outs : List names.Output) (c : List Tuple) → AreClean outs → AllRows kinds c
+    → AreOfTypes (map (tree_type kinds) (map (λ (o : names.Output). o.value) outs)) (outcomes_of (map value_of (over (means [] (map (λ (o : names.Output). o.value) outs)) c)))
+shown_of_types kinds [] c h k = tt
+shown_of_types kinds (o ∷ os) c h k =
+    (tree_fits kinds o.value (All-head IsCleanOutput o os h) c (list_all-from_AllPass (row_fits kinds) c k), shown_of_types kinds os c (All-tail IsCleanOutput o os h) k)
+
+abbrev Shows : List (Option ColType) → Output → Type 0
+Shows types o = AreOfTypes types (outcomes_of o.1)
+
+all_shown : (kinds : List ColType) (types : List (Option ColType)) (q : Query) → ((c : List Tuple) → AllRows kinds c → Shows types (output q c)) → (cs : List (List Tuple)) → AreClasses kinds cs
+    → All (Shows types) (map (output q) cs)
+all_shown kinds types q f [] h = All-nil (Shows types)
+all_shown kinds types q f (c ∷ cs) h =
+    All-cons (Shows types) (output q c) (map (output q) cs) (f c (All-head (AllRows kinds) c cs h)) (all_shown kinds types q f cs (All-tail (AllRows kinds) c cs h))
+
+distinct_shown : (types : List (Option ColType)) (os : List Output) → All (Shows types) os → All (Shows types) (distinct output_eq os)
+distinct_shown types [] h = h
+distinct_shown types (o ∷ os) h =
+    All-cons (Shows types) o (filter (λ p. not (output_eq o p)) (distinct output_eq os)) (All-head (Shows types) o os h)
+    (All-filter (λ p. not (output_eq o p)) (Shows types) (distinct output_eq os) (distinct_shown types os (All-tail (Shows types) o os h)))
+
+unique_shown : (types : List (Option ColType)) (b : Bool) (os : List Output) → All (Shows types) os → All (Shows types) (if b then distinct output_eq os else os)
+unique_shown types true os h = distinct_shown types os h
+unique_shown types false os h = h
+
+-- ---- the answer
+
+abbrev pub IsOfTypes : List (Option ColType) → Tuple → Type 0
+IsOfTypes types r = AreOfTypes types (outcomes_of r)
+
+limited_fits : (types : List (Option ColType)) (limit : Option ℕ) (rows : List Tuple) → All (IsOfTypes types) rows → All (IsOfTypes types) (limited limit rows)
+limited_fits types None rows h = h
+limited_fits types (Some n) rows h = All-take (IsOfTypes types) n rows h
+
+pub answer_of_types : (tables : List TableShape) (q : SelectTree) (db : Tables) (answer : List Tuple) → AreTyped tables (entries_of q.from) db → All IsCleanText (flat_map item_texts q.items)
+    → IsAnswer (query_by (meant_in tables q).form) db answer → All (IsOfTypes (answer_types tables q)) answer
+answer_of_types tables q db answer typed clean is =
+    let query = query_by (meant_in tables q).form in
+    let s = from_scope tables q.from in
+    let kinds = column_kinds (columns_of s) in
+    let types = answer_types tables q in
+    let rows : AllRows kinds (joined query db) = joined_fit tables db q.from typed in
+    let some : AllRows kinds (kept query db) = All-filter (keeps query.where_) (λ r. row_fits kinds r ≡ true) (joined query db) rows in
+    let groups : AreClasses kinds (kept_classes query db) = All-filter (has_class query.group) (AllRows kinds) (classes query db) (classes_fit kinds query.group (kept query db) some) in
+    let shown : All (Shows types) (outputs_all query db) = all_shown kinds types query (λ c h. shown_of_types kinds (outputs_of s q.items) c (outputs_clean s q.items clean) h) (kept_classes query db) groups in
+    let all_outputs : All (Shows types) (outputs query db) = unique_shown types query.unique (outputs_all query db) shown in
+    let sorted : All (Shows types) is.ordered = All-permutation (Shows types) (outputs query db) is.ordered is.same all_outputs in
+    let listed : All (IsOfTypes types) (map (λ (o : Output). o.1) is.ordered) = All-map (IsOfTypes types) (λ (o : Output). o.1) is.ordered sorted in
+    let paged = limited_fits types query.limit (drop query.offset (map (λ (o : Output). o.1) is.ordered)) (All-drop (IsOfTypes types) query.offset (map (λ (o : Output). o.1) is.ordered) listed) in
+    subst (All (IsOfTypes types)) (sym is.shown) paged

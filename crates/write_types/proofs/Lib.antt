@@ -1,0 +1,5 @@
+pub mod Values
+pub mod Rows
+pub mod Joined
+pub mod Answers
+pub mod Written
