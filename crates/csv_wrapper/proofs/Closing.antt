@@ -21,7 +21,7 @@ use Rattle.blob_store.specs.Names.{is_blob_name}
 use Rattle.blob_store.specs.Shelves.{Shelf, Standing, Known as KnownBlob, Unknown as UnknownBlob, Fails, Replaces, after_writing}
 use Rattle.csv_wrapper.specs.declared.table.CsvTable.{CsvTable}
 use Rattle.csv_wrapper.specs.declared.table.CsvScan.{CsvScan}
-use Rattle.csv_wrapper.specs.declared.changes.CsvWrite.{CsvWrite}
+use Rattle.staged_changes.specs.declared.changes.StagedWrite.{StagedWrite}
 use Rattle.csv_wrapper.specs.declared.written.Written.{Written}
 use Rattle.csv_wrapper.specs.declared.layout.Layout.{Layout}
 use Rattle.csv_wrapper.specs.Cells.{line_of}
@@ -31,7 +31,8 @@ use Rattle.csv_wrapper.specs.Content.{TellsCause}
 use Rattle.csv_wrapper.specs.Flat.{header_in}
 use Rattle.csv_wrapper.specs.Tables.{bound_of, bound_by, numbered, records_of, records_at, shape_is, shape_at, slot, PutsRows}
 use Rattle.csv_wrapper.specs.Scans.{scan_is}
-use Rattle.csv_wrapper.specs.CsvBoxes.{csv_state, csv_ledger, held_under, holding_is, change_is, write_is, write_fits, fault_is}
+use Rattle.staged_changes.specs.Staged.{change_is, write_is}
+use Rattle.csv_wrapper.specs.CsvBoxes.{csv_state, csv_ledger, held_under, holding_is, write_fits, fault_is}
 use Rattle.csv_wrapper.specs.Rewriting.{Rewrites, rows_in}
 use Rattle.csv_wrapper.proofs.Maps.{mapped_get}
 use Rattle.csv_wrapper.proofs.Binding.{scans_same, rows_same, held_numbered, numbered_once, both, all_run, IsOfRun, fails_told, Misses, Served, Named, Apart, Headed}
@@ -79,11 +80,11 @@ table_same old new t x y was there same others q = split (eqb_tells q t)
     split (inr w) = ap (option_map bound_of) (others q w.1)
 
 -- no live scan is of the written table
-pub missed : (h : Shelf) (tables : List (Option CsvTable)) (m : BTreeMap ℕ CsvScan) (staged : Option CsvWrite) (next pulled t : ℕ) → NoScan (csv_state h tables m staged next pulled) t → Misses t m
+pub missed : (h : Shelf) (tables : List (Option CsvTable)) (m : BTreeMap ℕ CsvScan) (staged : Option StagedWrite) (next pulled t : ℕ) → NoScan (csv_state h tables m staged next pulled) t → Misses t m
 missed h tables m staged next pulled t none q s e = none q (scan_is tables s) (mapped_get (scan_is tables) m q ∙ ap (option_map (scan_is tables)) e)
 
 -- a write that is kept
-pub csv_closes : (h after : Shelf) (old new : List (Option CsvTable)) (m : BTreeMap ℕ CsvScan) (w : CsvWrite) (next pulled : ℕ) (x : CsvTable) (made : Written)
+pub csv_closes : (h after : Shelf) (old new : List (Option CsvTable)) (m : BTreeMap ℕ CsvScan) (w : StagedWrite) (next pulled : ℕ) (x : CsvTable) (made : Written)
     → slot old w.table ≡ Some x → PutsRows old new w.table (header_in made.header) (records_of made.rows) → NoScan (csv_state h old m (Some w) next pulled) w.table
     → Replaces h (string_bytes x.remote) made.image.items after → is_blob_name (string_bytes x.remote) ≡ true
     → ((e : Option Entry) → held_under h (string_bytes x.remote) ≡ Known e → heading x.layout.header (map string_bytes x.layout.names.items) (records_in e) ≡ header_in x.header)
@@ -125,20 +126,20 @@ csv_closes h after old new m w next pulled x made was put scans replaced named h
     }
 
 -- the write under way is of a table without live scans, and its rows fit
-pub staged_scans : (h : Shelf) (tables : List (Option CsvTable)) (m : BTreeMap ℕ CsvScan) (w : CsvWrite) (staged : Option CsvWrite) (keep : Bool) (next pulled : ℕ) → staged ≡ Some w → keep ≡ true
+pub staged_scans : (h : Shelf) (tables : List (Option CsvTable)) (m : BTreeMap ℕ CsvScan) (w : StagedWrite) (staged : Option StagedWrite) (keep : Bool) (next pulled : ℕ) → staged ≡ Some w → keep ≡ true
     → CanClose (csv_state h tables m staged next pulled) keep → NoScan (csv_state h tables m staged next pulled) w.table
 staged_scans h tables m w staged keep next pulled es k can =
     let same : can.staging ≡ write_is w = some_inj can.staging (write_is w) (sym can.is_staged ∙ ap (option_map write_is) es) in
     subst (λ (z : Staging). NoScan (csv_state h tables m staged next pulled) z.table) same (can.no_scan k)
 
-pub changes_fit : (tables : List (Option CsvTable)) (w : CsvWrite) (staged : Option CsvWrite) (x : CsvTable) → staged ≡ Some w → slot tables w.table ≡ Some x
+pub changes_fit : (tables : List (Option CsvTable)) (w : StagedWrite) (staged : Option StagedWrite) (x : CsvTable) → staged ≡ Some w → slot tables w.table ≡ Some x
     → write_fits tables (option_map write_is staged) ≡ true → list_all (row_of_change_fits x.layout.kinds.items) (map change_is w.changes.items) ≡ true
 changes_fit tables w staged x es was fits =
-    let one = both (is_some (slot tables w.table)) (list_all (row_of_change_fits (shape_at (slot tables w.table)).kinds) (map change_is w.changes.items)) (ap (λ (s : Option CsvWrite). write_fits tables (option_map write_is s)) (sym es) ∙ fits) in
+    let one = both (is_some (slot tables w.table)) (list_all (row_of_change_fits (shape_at (slot tables w.table)).kinds) (map change_is w.changes.items)) (ap (λ (s : Option StagedWrite). write_fits tables (option_map write_is s)) (sym es) ∙ fits) in
     ap (λ (o : Option CsvTable). list_all (row_of_change_fits (shape_at o).kinds) (map change_is w.changes.items)) (sym was) ∙ one.1
 
 -- a write that is kept, from what the program knows
-pub kept_closes : (h after : Shelf) (old new : List (Option CsvTable)) (m : BTreeMap ℕ CsvScan) (w : CsvWrite) (staged left : Option CsvWrite) (keep : Bool) (next pulled : ℕ) (x : CsvTable) (made : Written)
+pub kept_closes : (h after : Shelf) (old new : List (Option CsvTable)) (m : BTreeMap ℕ CsvScan) (w : StagedWrite) (staged left : Option StagedWrite) (keep : Bool) (next pulled : ℕ) (x : CsvTable) (made : Written)
     → staged ≡ Some w → left ≡ None → keep ≡ true → CanClose (csv_state h old m staged next pulled) keep
     → slot old w.table ≡ Some x → PutsRows old new w.table (header_in made.header) (records_of made.rows)
     → Replaces h (string_bytes x.remote) made.image.items after → Named old → Headed h old → Rewrites x (map change_is w.changes.items) made
@@ -149,7 +150,7 @@ kept_closes h after old new m w staged left keep next pulled x made es el k can 
     (csv_closes h after old new m w next pulled x made was put scans replaced (named w.table x was) (λ e known. headed w.table x e was known) did)
 
 -- a write that is not kept
-closes_not : (fault : Fault) (h h2 : Shelf) (tables : List (Option CsvTable)) (m : BTreeMap ℕ CsvScan) (w : CsvWrite) (next pulled : ℕ) → h2 ≡ record h { failures = faults_after fault h.failures }
+closes_not : (fault : Fault) (h h2 : Shelf) (tables : List (Option CsvTable)) (m : BTreeMap ℕ CsvScan) (w : StagedWrite) (next pulled : ℕ) → h2 ≡ record h { failures = faults_after fault h.failures }
     → CloseCause (csv_state h tables m (Some w) next pulled) (write_is w) fault
     → RefusesClose (csv_state h tables m (Some w) next pulled) true fault (csv_state h2 tables m None next pulled)
 closes_not fault h h2 tables m w next pulled eh cause = record {
@@ -162,7 +163,7 @@ closes_not fault h h2 tables m w next pulled eh cause = record {
   leaves = λ honest. record { coming = λ q l o. refl; rows = λ t o. refl; holdings = λ r o. ap (λ (z : Shelf). held_under z r) eh };
 }
 
-told_close : (fault : Fault) (h : Shelf) (tables : List (Option CsvTable)) (m : BTreeMap ℕ CsvScan) (w : CsvWrite) (next pulled : ℕ) (x : CsvTable) → slot tables w.table ≡ Some x → Headed h tables
+told_close : (fault : Fault) (h : Shelf) (tables : List (Option CsvTable)) (m : BTreeMap ℕ CsvScan) (w : StagedWrite) (next pulled : ℕ) (x : CsvTable) → slot tables w.table ≡ Some x → Headed h tables
     → TellsCause fault (causes_behind (shape_is x.layout) (header_in x.header) (rows_in x) (map change_is w.changes.items))
     → CloseCause (csv_state h tables m (Some w) next pulled) (write_is w) fault
 told_close NoMemory h tables m w next pulled x was headed told = tt
@@ -195,20 +196,20 @@ shelf_stays Source h causes told = absurd told
 shelf_stays (Refused c) h causes told = refl
 
 -- a write that is refused before the blob is touched
-pub unmade_refuses : (h : Shelf) (tables : List (Option CsvTable)) (m : BTreeMap ℕ CsvScan) (w : CsvWrite) (staged left : Option CsvWrite) (keep : Bool) (next pulled : ℕ) (x : CsvTable) (fault : Fault)
+pub unmade_refuses : (h : Shelf) (tables : List (Option CsvTable)) (m : BTreeMap ℕ CsvScan) (w : StagedWrite) (staged left : Option StagedWrite) (keep : Bool) (next pulled : ℕ) (x : CsvTable) (fault : Fault)
     → staged ≡ Some w → left ≡ None → keep ≡ true → slot tables w.table ≡ Some x → Headed h tables
     → TellsCause fault (causes_behind (shape_is x.layout) (header_in x.header) (rows_in x) (map change_is w.changes.items))
     → RefusesClose (csv_state h tables m staged next pulled) keep fault (csv_state h tables m left next pulled)
 unmade_refuses h tables m w staged left keep next pulled x fault es el k was headed told =
     rw (es, el, k) (closes_not fault h h tables m w next pulled (shelf_stays fault h _ told) (told_close fault h tables m w next pulled x was headed told))
 
-blob_close : (fault : Fault) (h : Shelf) (tables : List (Option CsvTable)) (m : BTreeMap ℕ CsvScan) (w : CsvWrite) (next pulled : ℕ) → not_refused fault → CloseCause (csv_state h tables m (Some w) next pulled) (write_is w) fault
+blob_close : (fault : Fault) (h : Shelf) (tables : List (Option CsvTable)) (m : BTreeMap ℕ CsvScan) (w : StagedWrite) (next pulled : ℕ) → not_refused fault → CloseCause (csv_state h tables m (Some w) next pulled) (write_is w) fault
 blob_close NoMemory h tables m w next pulled told = tt
 blob_close Source h tables m w next pulled told = tt
 blob_close (Refused c) h tables m w next pulled told = absurd told
 
 -- a write whose blob is not replaced
-pub unwritten_refuses : (h h2 : Shelf) (tables : List (Option CsvTable)) (m : BTreeMap ℕ CsvScan) (w : CsvWrite) (staged left : Option CsvWrite) (keep : Bool) (next pulled : ℕ) (fault : BlobFault) (told : Fault)
+pub unwritten_refuses : (h h2 : Shelf) (tables : List (Option CsvTable)) (m : BTreeMap ℕ CsvScan) (w : StagedWrite) (staged left : Option StagedWrite) (keep : Bool) (next pulled : ℕ) (fault : BlobFault) (told : Fault)
     → staged ≡ Some w → left ≡ None → keep ≡ true → Fails fault h h2 → told ≡ fault_is fault
     → RefusesClose (csv_state h tables m staged next pulled) keep told (csv_state h2 tables m left next pulled)
 unwritten_refuses h h2 tables m w staged left keep next pulled fault told es el k failed is =
@@ -253,7 +254,7 @@ put_apart old new t header rows x was put olds u v y q at_u at_v same =
     let b = stood old new t v header rows x q was put at_v in
     olds u v a.0 b.0 a.1 b.1 (sym (ap string_bytes a.2) ∙ same ∙ ap string_bytes b.2)
 
-pub put_served : (h : Shelf) (old new : List (Option CsvTable)) (m : BTreeMap ℕ CsvScan) (staged : Option CsvWrite) (next pulled t : ℕ) (header rows : List Record) → PutsRows old new t header rows
+pub put_served : (h : Shelf) (old new : List (Option CsvTable)) (m : BTreeMap ℕ CsvScan) (staged : Option StagedWrite) (next pulled t : ℕ) (header rows : List Record) → PutsRows old new t header rows
     → NoScan (csv_state h old m staged next pulled) t → Served old m → Served new m
 put_served h old new m staged next pulled t header rows put none served k s e = ap is_some (put.others s.table (missed h old m staged next pulled t none k s e)) ∙ served k s e
 

@@ -7,10 +7,10 @@ use native.Mathlib.Nat.{mul-le-mul_right, suc-mul}
 use Rattle.csv.specs.Records.{fields_of, partial_of}
 use Rattle.csv.specs.declared.record.ByteRecord.{ByteRecord}
 use Rattle.med_value.specs.Datum.{Tuple}
-use Rattle.fdw_api.specs.Kinds.{Held, held, Change, Inserts, Updates, Deletes}
+use Rattle.fdw_api.specs.Kinds.{Held, held, Change}
 use Rattle.fdw_api.specs.Writes.{row_after}
-use Rattle.csv_wrapper.specs.declared.written.Fate.{Fate}
-use Rattle.csv_wrapper.specs.declared.written.Fate.TheVariants.{Keep, Change as ChangeTo, Gone}
+use Rattle.staged_changes.specs.declared.fates.Fate.{Fate}
+use Rattle.staged_changes.specs.declared.fates.Fate.TheVariants.{Keep, Gone}
 use Rattle.csv_wrapper.specs.declared.written.Gathered.{Gathered}
 use Rattle.csv_wrapper.specs.Cells.{line_of}
 use Rattle.csv_wrapper.specs.CsvRecords.{Record}
@@ -18,7 +18,8 @@ use Rattle.csv_wrapper.specs.CsvKind.{Shape, read_row}
 use Rattle.csv_wrapper.specs.Flat.{cut_into}
 use Rattle.csv_wrapper.specs.declared.table.Rows.{Rows}
 use Rattle.csv_wrapper.specs.Tables.{numbered, record_at}
-use Rattle.csv_wrapper.specs.Rewriting.{has_width, is_wide, outcome, left_by, woven, Gathers}
+use Rattle.csv_wrapper.specs.Rewriting.{has_width, is_wide, left_by, woven, Gathers}
+use Rattle.staged_changes.specs.Weaving.{outcome}
 use Rattle.csv_wrapper.proofs.Drafts.{cut_push, full_push}
 
 both : (a b : Bool) → (a && b) ≡ true → (a ≡ true) × (b ≡ true)
@@ -52,22 +53,22 @@ left_none : (rs : List Record) → left_by [] rs ≡ []
 left_none [] = refl
 left_none (r ∷ rs) = refl
 
-pub wide_first : (width : ℕ) (f : Fate) (fs gs : List Fate) → fs ≡ f ∷ gs → list_all (is_wide width) fs ≡ true → (is_wide width f ≡ true) × (list_all (is_wide width) gs ≡ true)
+pub wide_first : (width : ℕ) (f : Fate ByteRecord) (fs gs : List (Fate ByteRecord)) → fs ≡ f ∷ gs → list_all (is_wide width) fs ≡ true → (is_wide width f ≡ true) × (list_all (is_wide width) gs ≡ true)
 wide_first width f fs gs e h = both (is_wide width f) (list_all (is_wide width) gs) (sym (ap (list_all (is_wide width)) e) ∙ h)
 
-pub left_on : (done olds more all : List Record) (r x : Record) (f : Fate) (fs gs : List Fate) → done ++ left_by fs olds ≡ all → fs ≡ f ∷ gs → olds ≡ r ∷ more
-    → outcome r f ≡ x ∷ [] → (done ++ x ∷ []) ++ left_by gs more ≡ all
+pub left_on : (done olds more all : List Record) (r x : Record) (f : Fate ByteRecord) (fs gs : List (Fate ByteRecord)) → done ++ left_by fs olds ≡ all → fs ≡ f ∷ gs → olds ≡ r ∷ more
+    → outcome fields_of r f ≡ x ∷ [] → (done ++ x ∷ []) ++ left_by gs more ≡ all
 left_on done olds more all r x f fs gs i ef eo out =
     let s : left_by fs olds ≡ x ∷ left_by gs more = rw (ef, eo) (ap (λ (l : List Record). l ++ left_by gs more) out) in
     append_assoc done (x ∷ []) (left_by gs more) ∙ ap (λ (l : List Record). done ++ l) (sym s) ∙ i
 
-pub left_gone : (done olds more all : List Record) (r : Record) (fs gs : List Fate) → done ++ left_by fs olds ≡ all → fs ≡ Gone ∷ gs → olds ≡ r ∷ more → done ++ left_by gs more ≡ all
+pub left_gone : (done olds more all : List Record) (r : Record) (fs gs : List (Fate ByteRecord)) → done ++ left_by fs olds ≡ all → fs ≡ Gone ∷ gs → olds ≡ r ∷ more → done ++ left_by gs more ≡ all
 left_gone done olds more all r fs gs i ef eo =
     let s : left_by fs olds ≡ left_by gs more = rw (ef, eo) refl in
     ap (λ (l : List Record). done ++ l) (sym s) ∙ i
 
 -- past the last record nothing is left
-pub left_past : (done olds all : List Record) (fs gs : List Fate) → done ++ left_by fs olds ≡ all → olds ≡ [] → done ++ left_by gs olds ≡ all
+pub left_past : (done olds all : List Record) (fs gs : List (Fate ByteRecord)) → done ++ left_by fs olds ≡ all → olds ≡ [] → done ++ left_by gs olds ≡ all
 left_past done olds all fs gs i eo =
     let s : left_by gs olds ≡ left_by fs olds = rw eo refl in
     ap (λ (l : List Record). done ++ l) s ∙ i
@@ -76,13 +77,9 @@ append_none : (l : List Record) → l ++ [] ≡ l
 append_none [] = refl
 append_none (r ∷ l) = ap (λ (m : List Record). r ∷ m) (append_none l)
 
-pub left_ends : (done olds all : List Record) (fs : List Fate) → done ++ left_by fs olds ≡ all → fs ≡ [] → done ≡ all
+pub left_ends : (done olds all : List Record) (fs : List (Fate ByteRecord)) → done ++ left_by fs olds ≡ all → fs ≡ [] → done ≡ all
 left_ends done olds all fs i ef =
-    sym (append_none done) ∙ ap (λ (l : List Record). done ++ l) (sym (ap (λ (gs : List Fate). left_by gs olds) ef ∙ left_none olds)) ∙ i
-
-pub no_fates : (l : List Fate) → length l ≡ 0 → l ≡ []
-no_fates [] e = refl
-no_fates (x ∷ l) e = absurd (omega arith)
+    sym (append_none done) ∙ ap (λ (l : List Record). done ++ l) (sym (ap (λ (gs : List (Fate ByteRecord)). left_by gs olds) ef ∙ left_none olds)) ∙ i
 
 -- the new records, one after the other
 pub lines_first : (width : ℕ) (x : ByteRecord) (xs ys : List ByteRecord) → xs ≡ x ∷ ys → list_all (has_width width) (map fields_of xs) ≡ true
@@ -95,84 +92,22 @@ lines_on done all x xs ys i e = append_assoc done (fields_of x ∷ []) (map fiel
 pub lines_end : (done all : List Record) (xs : List ByteRecord) → done ++ map fields_of xs ≡ all → xs ≡ [] → done ≡ all
 lines_end done all xs i e = sym (append_none done) ∙ ap (λ (l : List ByteRecord). done ++ map fields_of l) (sym e) ∙ i
 
--- the rows that fates leave, once no change is to come
-pub woven_left : (shape : Shape) (n : ℕ) (rs : List Record) (fs : List Fate) → woven shape n rs fs [] ≡ map (read_row shape) (left_by fs rs)
-woven_left shape n [] fs = refl
-woven_left shape n (r ∷ rs) [] = refl
-woven_left shape n (r ∷ rs) (f ∷ fs) =
-    ap (λ (l : List Held). map (read_row shape) (outcome r f) ++ l) (woven_left shape (n + 1) rs fs) ∙ sym (map-append (read_row shape) (outcome r f) (left_by fs rs))
-
 -- kept records, before any change
 pub woven_kept : (shape : Shape) (n : ℕ) (rs : List Record) (cs : List Change) → woven shape n rs (replicate (length rs) Keep) cs
     ≡ flat_map (λ r. row_after (line_of shape.null) r.id cs (held r ∷ [])) (numbered shape n rs)
 woven_kept shape n [] cs = refl
 woven_kept shape n (r ∷ rs) cs = ap (λ (l : List Held). row_after (line_of shape.null) n cs (read_row shape r ∷ []) ++ l) (woven_kept shape (n + 1) rs cs)
 
--- an insertion changes no row
-pub woven_insert : (shape : Shape) (n : ℕ) (rs : List Record) (fs : List Fate) (x : Tuple) (cs : List Change) → woven shape n rs fs (Inserts x ∷ cs) ≡ woven shape n rs fs cs
-woven_insert shape n [] fs x cs = refl
-woven_insert shape n (r ∷ rs) [] x cs = refl
-woven_insert shape n (r ∷ rs) (f ∷ fs) x cs = ap (λ (l : List Held). row_after (line_of shape.null) n cs (map (read_row shape) (outcome r f)) ++ l) (woven_insert shape (n + 1) rs fs x cs)
-
--- a change that is to row m alone
-abbrev Misses : Shape → ℕ → Change → Type 0
-Misses shape m c = (id : ℕ) (cs : List Change) (now : List Held) → nat_eq m id ≡ false → row_after (line_of shape.null) id (c ∷ cs) now ≡ row_after (line_of shape.null) id cs now
-
-abbrev Hits : Shape → ℕ → Change → Fate → Type 0
-Hits shape m c f = (r : Record) (cs : List Change) (now : List Held) → row_after (line_of shape.null) m (c ∷ cs) now ≡ row_after (line_of shape.null) m cs (map (read_row shape) (outcome r f))
-
-past : (m n : ℕ) → m < n → nat_eq m n ≡ false
-past m n lt = search rules
-
-ahead : (m n : ℕ) → n < m → nat_eq m n ≡ false
-ahead m n lt = search rules
-
-woven_past : (shape : Shape) (m n : ℕ) (rs : List Record) (fs : List Fate) (c : Change) (cs : List Change) → Misses shape m c → m < n → woven shape n rs fs (c ∷ cs) ≡ woven shape n rs fs cs
-woven_past shape m n [] fs c cs miss lt = refl
-woven_past shape m n (r ∷ rs) [] c cs miss lt = refl
-woven_past shape m n (r ∷ rs) (f ∷ fs) c cs miss lt = rw (miss n cs (map (read_row shape) (outcome r f)) (past m n lt), woven_past shape m (n + 1) rs fs c cs miss (omega arith)) refl
-
-woven_at : (shape : Shape) (m n j : ℕ) (rs : List Record) (fs : List Fate) (c : Change) (f : Fate) (cs : List Change) → m ≡ n + j → Misses shape m c → Hits shape m c f → woven shape n rs fs (c ∷ cs) ≡ woven shape n rs (slice_set fs j f) cs
-woven_at shape m n j [] fs c f cs e miss hit = refl
-woven_at shape m n zero (r ∷ rs) [] c f cs e miss hit = refl
-woven_at shape m n (suc j) (r ∷ rs) [] c f cs e miss hit = refl
-woven_at shape m n zero (r ∷ rs) (g ∷ fs) c f cs e miss hit =
-    let same : row_after (line_of shape.null) n (c ∷ cs) (map (read_row shape) (outcome r g)) ≡ row_after (line_of shape.null) n cs (map (read_row shape) (outcome r f)) =
-    subst (λ (k : ℕ). row_after (line_of shape.null) k (c ∷ cs) (map (read_row shape) (outcome r g)) ≡ row_after (line_of shape.null) k cs (map (read_row shape) (outcome r f))) (omega arith) (hit r cs (map (read_row shape) (outcome r g))) in
-    rw (same, woven_past shape m (n + 1) rs fs c cs miss (omega arith)) refl
-woven_at shape m n (suc j) (r ∷ rs) (g ∷ fs) c f cs e miss hit = rw (miss n cs (map (read_row shape) (outcome r g)) (ahead m n (omega arith)), woven_at shape m (n + 1) j rs fs c f cs (omega arith) miss hit) refl
-
-choose_false : {X : Type 0} (b : Bool) (x y : X) → b ≡ false → (if b then x else y) ≡ y
-choose_false b x y e = rw e refl
-
-choose_true : {X : Type 0} (b : Bool) (x y : X) → b ≡ true → (if b then x else y) ≡ x
-choose_true b x y e = rw e refl
-
-same_nat : (m : ℕ) → nat_eq m m ≡ true
-same_nat m = search rules
-
 -- the row of a written record
 abbrev pub WritesRow : Shape → ByteRecord → Tuple → Type 0
 WritesRow shape r x = read_row shape (fields_of r) ≡ record { cells = x; origin = line_of shape.null x }
-
-pub woven_update : (shape : Shape) (m : ℕ) (rs : List Record) (fs : List Fate) (line : ByteRecord) (x : Tuple) (cs : List Change) → WritesRow shape line x
-    → woven shape 0 rs fs (Updates m x ∷ cs) ≡ woven shape 0 rs (slice_set fs m (ChangeTo line)) cs
-woven_update shape m rs fs line x cs row = woven_at shape m 0 m rs fs (Updates m x) (ChangeTo line) cs (omega arith) (λ id ds now e. ap (row_after (line_of shape.null) id ds) (choose_false (nat_eq m id) _ now e))
-    (λ r ds now. ap (row_after (line_of shape.null) m ds) (choose_true (nat_eq m m) _ now (same_nat m) ∙ ap (λ (h : Held). h ∷ []) (sym row)))
-
-pub woven_delete : (shape : Shape) (m : ℕ) (rs : List Record) (fs : List Fate) (cs : List Change) → woven shape 0 rs fs (Deletes m ∷ cs) ≡ woven shape 0 rs (slice_set fs m Gone) cs
-woven_delete shape m rs fs cs = woven_at shape m 0 m rs fs (Deletes m) Gone cs (omega arith) (λ id ds now e. ap (row_after (line_of shape.null) id ds) (choose_false (nat_eq m id) _ now e))
-    (λ r ds now. ap (row_after (line_of shape.null) m ds) (choose_true (nat_eq m m) _ now (same_nat m)))
-
-pub woven_on : (shape : Shape) (rs : List Record) (fs gs : List Fate) (c : Change) (cs ds : List Change) (all : List Held) → woven shape 0 rs fs cs ≡ all → cs ≡ c ∷ ds → woven shape 0 rs fs (c ∷ ds) ≡ woven shape 0 rs gs ds → woven shape 0 rs gs ds ≡ all
-woven_on shape rs fs gs c cs ds all i e step = sym step ∙ sym (ap (woven shape 0 rs fs) e) ∙ i
 
 -- every fate stays wide
 pub wide_kept : (width n : ℕ) → list_all (is_wide width) (replicate n Keep) ≡ true
 wide_kept width zero = refl
 wide_kept width (suc n) = wide_kept width n
 
-pub wide_set : (width : ℕ) (fs : List Fate) (j : ℕ) (f : Fate) → list_all (is_wide width) fs ≡ true → is_wide width f ≡ true → list_all (is_wide width) (slice_set fs j f) ≡ true
+pub wide_set : (width : ℕ) (fs : List (Fate ByteRecord)) (j : ℕ) (f : Fate ByteRecord) → list_all (is_wide width) fs ≡ true → is_wide width f ≡ true → list_all (is_wide width) (slice_set fs j f) ≡ true
 wide_set width [] j f h e = refl
 wide_set width (g ∷ fs) zero f h e = let w = both (is_wide width g) (list_all (is_wide width) fs) h in rw e w.1
 wide_set width (g ∷ fs) (suc j) f h e = let w = both (is_wide width g) (list_all (is_wide width) fs) h in rw w.0 (wide_set width fs j f w.1 e)

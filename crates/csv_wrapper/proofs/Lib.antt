@@ -18,3 +18,5 @@ pub mod Writing
 pub mod Applying
 pub mod Putting
 pub mod Closing
+pub mod Again
+pub mod Images

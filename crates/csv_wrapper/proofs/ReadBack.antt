@@ -121,11 +121,11 @@ decimal_some : (z : ℤ) → is_i64 z ≡ true → 0 < length (signed_decimal z)
 decimal_some (pos n) r = let small = lt_true n (2 ^ 63) r in (decimal_is_IsNumeral n (omega arith)).0.0
 decimal_some (negsuc n) r = omega arith
 
-decimal_utf8 : (z : ℤ) → is_i64 z ≡ true → IsUtf8 (signed_decimal z)
+pub decimal_utf8 : (z : ℤ) → is_i64 z ≡ true → IsUtf8 (signed_decimal z)
 decimal_utf8 (pos n) r = let small = lt_true n (2 ^ 63) r in IsUtf8-from_ascii (signed_decimal (pos n)) (IsAscii-signed (pos n) small)
 decimal_utf8 (negsuc n) r = let small = lt_true n (2 ^ 63) r in IsUtf8-from_ascii (signed_decimal (negsuc n)) (IsAscii-signed (negsuc n) small)
 
-one_ascii : (c : ℕ) → c < 128 → IsAscii (c ∷ [])
+pub one_ascii : (c : ℕ) → c < 128 → IsAscii (c ∷ [])
 one_ascii c lt zero = lt
 one_ascii c lt (suc zero) = lit< tt
 one_ascii c lt (suc (suc i)) = lit< tt
@@ -146,7 +146,7 @@ same_bytes : (t : List ℕ) → bytes_eq t t ≡ true
 same_bytes t = (bytes_decides t t).1 refl
 
 -- a value is read again from its field
-cell_back : (null : List ℕ) (kind : ColType) (v : Datum) → (has_kind kind v && is_clean v) ≡ true → reads_as_null null v ≡ false → is_storable v ≡ true → unwrap_or (cell_of null kind (field_of null v)) NoValue ≡ v
+pub cell_back : (null : List ℕ) (kind : ColType) (v : Datum) → (has_kind kind v && is_clean v) ≡ true → reads_as_null null v ≡ false → is_storable v ≡ true → unwrap_or (cell_of null kind (field_of null v)) NoValue ≡ v
 cell_back null kind NoValue fits clear held = no_value (is_utf8 null) (bytes_eq null null) (value_of kind null) (same_bytes null)
 cell_back null types.Int (Whole z) fits clear held =
     ap (λ (o : Option Datum). unwrap_or o NoValue)

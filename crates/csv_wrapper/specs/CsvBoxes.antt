@@ -1,10 +1,9 @@
 -- What a CSV wrapper shows as a wrapper.
-use Rattle.std.specs.Prelude.{◌≡◌, ℕ, Bool, true, false, ◌&&◌, if◌then◌else◌, List, [], ◌∷◌, ◌++◌, map, Option, Some, None, is_some, option_map}
+use Rattle.std.specs.Prelude.{◌≡◌, ℕ, Bool, true, false, ◌&&◌, if◌then◌else◌, List, Option, Some, None, is_some, option_map}
 use Rattle.std.specs.Ordering.{nat_cmp}
 use Rattle.std.specs.BTreeMap as tree
 use Rattle.std.specs.BTreeMap.{BTreeMap}
-use Rattle.med_value.specs.Datum.{tuple}
-use Rattle.fdw_api.specs.Kinds.{Bytes, Holding, Known, Unknown, Change, Inserts, Updates, Deletes}
+use Rattle.fdw_api.specs.Kinds.{Bytes, Holding, Known, Unknown}
 use Rattle.std.specs.List.{list_all}
 use Rattle.fdw_api.specs.Writes.{row_of_change_fits}
 use Rattle.fdw_api.specs.Calls.{not_refused, faults_after}
@@ -17,27 +16,11 @@ use Rattle.blob_store.specs.Names.{is_blob_name}
 use Rattle.blob_store.specs.Shelves.{Shelf, Standing, Known as KnownBlob, Unknown as UnknownBlob}
 use Rattle.csv_wrapper.specs.declared.table.CsvTable.{CsvTable}
 use Rattle.csv_wrapper.specs.declared.table.CsvScan.{CsvScan}
-use Rattle.csv_wrapper.specs.declared.changes.CsvChange.{CsvChange}
-use Rattle.csv_wrapper.specs.declared.changes.CsvChange.TheVariants.{Insert, Update, Delete}
-use Rattle.csv_wrapper.specs.declared.changes.CsvWrite.{CsvWrite}
+use Rattle.staged_changes.specs.declared.changes.StagedWrite.{StagedWrite}
+use Rattle.staged_changes.specs.Staged.{write_is}
 use Rattle.csv_wrapper.specs.CsvKind.{csv_kind}
 use Rattle.csv_wrapper.specs.Tables.{shape_at, records_at, numbered, bound_of, slot}
 use Rattle.csv_wrapper.specs.Scans.{scan_is, scan_rows, mapped}
-
-abbrev pub change_is : CsvChange → Change
-change_is (Insert r) = Inserts (tuple r)
-change_is (Update id r) = Updates id (tuple r)
-change_is (Delete id) = Deletes id
-
-abbrev pub write_is : CsvWrite → Staging
-write_is w = record { table = w.table; changes = map change_is w.changes.items; broken = w.broken }
-
--- a write with one change more, and one that is broken
-abbrev pub with_change : CsvWrite → Change → Staging
-with_change w c = record { table = w.table; changes = map change_is w.changes.items ++ c ∷ []; broken = w.broken }
-
-abbrev pub broken_write : CsvWrite → Staging
-broken_write w = record { table = w.table; changes = map change_is w.changes.items; broken = true }
 
 -- what is known of a blob is known of the remote table of its name
 abbrev pub holding_is : Standing → Holding
@@ -49,7 +32,7 @@ abbrev pub held_under : Shelf → List ℕ → Holding
 held_under shelf remote = if is_blob_name remote then holding_is (shelf.under remote) else Known None
 
 -- the calls that failed by the source are those that failed by the blobs' device
-abbrev pub csv_ledger : Shelf → List (Option CsvTable) → BTreeMap ℕ CsvScan → Option CsvWrite → ℕ → ℕ → Ledger
+abbrev pub csv_ledger : Shelf → List (Option CsvTable) → BTreeMap ℕ CsvScan → Option StagedWrite → ℕ → ℕ → Ledger
 csv_ledger shelf tables scans staged next pulled = record {
   tables = λ t. option_map bound_of (slot tables t);
   live = mapped (scan_is tables) scans.entries;
@@ -69,7 +52,7 @@ csv_content shelf tables scans = record {
 abbrev pub csv_nature : Nature
 csv_nature = record { kind = csv_kind; honest = true; skips = false }
 
-abbrev pub csv_state : Shelf → List (Option CsvTable) → BTreeMap ℕ CsvScan → Option CsvWrite → ℕ → ℕ → BoxState
+abbrev pub csv_state : Shelf → List (Option CsvTable) → BTreeMap ℕ CsvScan → Option StagedWrite → ℕ → ℕ → BoxState
 csv_state shelf tables scans staged next pulled = record {
   nature = csv_nature;
   ledger = csv_ledger shelf tables scans staged next pulled;

@@ -8,3 +8,4 @@ pub mod Content
 pub mod CsvBoxes
 pub mod Bindings
 pub mod Rewriting
+pub mod ReadAgain

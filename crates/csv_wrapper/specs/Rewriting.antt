@@ -1,18 +1,20 @@
 -- What the staged changes of a write make of the records of a table.
-use Rattle.std.specs.Prelude.{◌≡◌, ◌*◌, ◌+◌, ℕ, ℤ, pos, negsuc, ◌^◌, Bool, true, false, List, [], ◌∷◌, ◌++◌, length, map, nat_eq, nat_lt, Some, Vec}
+use Rattle.std.specs.Prelude.{◌≡◌, ◌*◌, ℕ, ℤ, pos, negsuc, ◌^◌, Bool, true, false, List, [], ◌++◌, length, map, nat_eq, nat_lt, Some, Vec}
 use Rattle.std.specs.Global.{Global}
 use Rattle.std.specs.String.{string_bytes}
 use Rattle.std.specs.Str.{is_utf8}
 use Rattle.csv.specs.Records.{fields_of, partial_of}
 use Rattle.csv.specs.Writing.{default_writer, text_written, fields_written, has_written, writer_setup}
 use Rattle.csv.specs.declared.writer.Writer.{Writer}
+use Rattle.csv.specs.declared.record.ByteRecord.{ByteRecord}
 use Rattle.med_value.specs.Datum.{Datum, NoValue, Whole, Chars, Logic}
 use Rattle.fdw_api.specs.Scan.{TableRow}
 use Rattle.fdw_api.specs.Kinds.{Held, Change}
-use Rattle.fdw_api.specs.Writes.{row_after, rows_after}
+use Rattle.fdw_api.specs.Writes.{rows_after}
 use Rattle.csv_wrapper.specs.declared.table.CsvTable.{CsvTable}
-use Rattle.csv_wrapper.specs.declared.written.Fate.{Fate}
-use Rattle.csv_wrapper.specs.declared.written.Fate.TheVariants.{Keep, Change as ChangeTo, Gone}
+use Rattle.staged_changes.specs.declared.fates.Fate.{Fate}
+use Rattle.staged_changes.specs.declared.fates.Fate.TheVariants.{Keep, Change as ChangeTo, Gone}
+use Rattle.staged_changes.specs.Weaving as weaving
 use Rattle.csv_wrapper.specs.declared.written.Gathered.{Gathered}
 use Rattle.csv_wrapper.specs.declared.written.Written.{Written}
 use Rattle.csv_wrapper.specs.Cells.{line_of}
@@ -37,29 +39,18 @@ abbrev pub has_width : ℕ → Record → Bool
 has_width width fields = nat_eq (length fields) width
 
 -- the record of a fate, if it has one, is of this many fields
-abbrev pub is_wide : ℕ → Fate → Bool
+abbrev pub is_wide : ℕ → Fate ByteRecord → Bool
 is_wide width Keep = true
 is_wide width (ChangeTo r) = has_width width (fields_of r)
 is_wide width Gone = true
 
--- what a fate makes of a record: the record itself, another, or none
-abbrev pub outcome : Record → Fate → List Record
-outcome r Keep = r ∷ []
-outcome r (ChangeTo x) = fields_of x ∷ []
-outcome r Gone = []
-
 -- the records that their fates leave
-abbrev pub left_by : List Fate → List Record → List Record
-left_by fs [] = []
-left_by [] (r ∷ rs) = []
-left_by (f ∷ fs) (r ∷ rs) = outcome r f ++ left_by fs rs
+abbrev pub left_by : List (Fate ByteRecord) → List Record → List Record
+left_by = weaving.left_by fields_of
 
 -- the rows from the place n on, after their fates so far and the changes still to come
-abbrev pub woven : Shape → ℕ → List Record → List Fate → List Change → List Held
-woven shape n [] fs cs = []
-woven shape n (r ∷ rs) [] cs = []
-woven shape n (r ∷ rs) (f ∷ fs) cs =
-    row_after (line_of shape.null) n cs (map (read_row shape) (outcome r f)) ++ woven shape (n + 1) rs fs cs
+abbrev pub woven : Shape → ℕ → List Record → List (Fate ByteRecord) → List Change → List Held
+woven shape = weaving.woven (line_of shape.null) (read_row shape) fields_of
 
 -- these records were put together, each of this many fields
 pub record Gathers (width : ℕ) (rows : List Record) (g : Gathered) : Type 0 where

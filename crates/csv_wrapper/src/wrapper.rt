@@ -10,15 +10,15 @@ ghost use Rattle.fdw_api.specs.Calls.{Picks};
 ghost use Rattle.blob_store.specs.Names.{is_blob_name};
 ghost use Rattle.csv_wrapper.specs.declared.table.CsvTable.{CsvTable};
 ghost use Rattle.csv_wrapper.specs.declared.table.CsvScan.{CsvScan};
+ghost use Rattle.staged_changes.specs.Staged.{write_is};
 ghost use Rattle.csv_wrapper.specs.CsvKind.{records_in};
 ghost use Rattle.csv_wrapper.specs.CsvRecords.{heading, is_header};
 ghost use Rattle.csv_wrapper.specs.Flat.{header_in};
 ghost use Rattle.csv_wrapper.specs.Tables.{slot, shape_at, records_at, records_of, PutsRows};
 ghost use Rattle.csv_wrapper.specs.Scans.{NextIs, answer_by};
-ghost use Rattle.csv_wrapper.specs.CsvBoxes.{held_under, write_is, write_fits, FailsBlob, fault_is};
+ghost use Rattle.csv_wrapper.specs.CsvBoxes.{held_under, write_fits, FailsBlob, fault_is};
 ghost use Rattle.csv_wrapper.specs.Bindings.{ReadsTable, RefusesTable};
 
-use crate::changes::{CsvChange, CsvWrite, add_change};
 use crate::content::{Content, read_content};
 use crate::layout::Layout;
 use crate::scan::{answer_to, next_row};
@@ -30,6 +30,7 @@ use fdw_api::interface::{Counts, Fault, Opt, RowId, SourceRow, Ticket, Wrapper};
 use fdw_api::law::rows_are_typed;
 use fdw_api::scan::{Agree, Agreement, Restriction, ScanSpec, copy_values};
 use med_value::{Cause, ColType, ColumnDef, NoMemory, Row, TableNo, Value};
+use staged_changes::{RowChange, StagedWrite, add_change};
 use std::alloc::Global;
 use std::collections::BTreeMap;
 
@@ -43,7 +44,7 @@ pub struct CsvWrapper<B: Blobs> {
     blobs: B,
     tables: Vec<Option<CsvTable>>,
     scans: BTreeMap<u64, CsvScan>,
-    staged: Option<CsvWrite>,
+    staged: Option<StagedWrite>,
     next: u64,
     pulled: u64,
     ghost fresh: { (k : ℕ) → next ≤ k → tree.get nat_cmp scans k ≡ None },
@@ -403,7 +404,7 @@ impl<B: Blobs> Wrapper for CsvWrapper<B> {
     }
 
     fn begin_modify(&mut self, alloc: Global, t: TableNo) -> Result<(), Fault> {
-        self.staged = Some(CsvWrite {
+        self.staged = Some(StagedWrite {
             table: t.number,
             changes: Vec::new(alloc),
             broken: false,
@@ -412,15 +413,15 @@ impl<B: Blobs> Wrapper for CsvWrapper<B> {
     }
 
     fn insert(&mut self, _alloc: Global, row: Row) -> Result<(), Fault> {
-        add_change(&mut self.staged, CsvChange::Insert(row))
+        add_change(&mut self.staged, RowChange::Insert(row))
     }
 
     fn update(&mut self, _alloc: Global, id: RowId, row: Row) -> Result<(), Fault> {
-        add_change(&mut self.staged, CsvChange::Update(id.number, row))
+        add_change(&mut self.staged, RowChange::Update(id.number, row))
     }
 
     fn delete(&mut self, _alloc: Global, id: RowId) -> Result<(), Fault> {
-        add_change(&mut self.staged, CsvChange::Delete(id.number))
+        add_change(&mut self.staged, RowChange::Delete(id.number))
     }
 
     fn end_modify(&mut self, alloc: Global, keep: bool) -> Result<(), Fault> {

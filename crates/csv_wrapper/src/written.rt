@@ -1,5 +1,5 @@
 //! What a kept write makes of the records of a table, and the blob as which they are written.
-ghost use Rattle.std.specs.Prelude.{◌≡◌, ◌++◌, ◌+◌, ◌^◌, ◌<◌, ◌≤◌, ℕ, List, [], ◌∷◌, true, false, not, length, map, flat_map, replicate, slice_set, nat_lt, IfOk, IfErr, OnOk};
+ghost use Rattle.std.specs.Prelude.{◌≡◌, ◌++◌, ◌+◌, ◌^◌, ◌<◌, ◌≤◌, ℕ, List, [], ◌∷◌, true, false, not, length, map, flat_map, replicate, nat_lt, IfOk, IfErr, OnOk};
 ghost use Rattle.std.specs.List.{list_all, list_any};
 ghost use Rattle.std.specs.String.{string_bytes};
 ghost use Rattle.csv.specs.Records.{fields_of, partial_of};
@@ -8,37 +8,29 @@ ghost use Rattle.med_value.specs.Datum.{tuple};
 ghost use Rattle.med_value.specs.declared.cause.Cause.TheVariants.{NotInState};
 ghost use Rattle.fdw_api.specs.Scan.{row_fits};
 ghost use Rattle.fdw_api.specs.Writes.{inserted, row_of_change_fits};
+ghost use Rattle.staged_changes.specs.Staged.{change_is};
 ghost use Rattle.csv_wrapper.specs.Cells.{line_of, record_cells, reads_as_null};
 ghost use Rattle.csv_wrapper.specs.CsvRecords.{Record, csv_text};
 ghost use Rattle.csv_wrapper.specs.CsvKind.{read_row, unless, hides_value, causes_behind};
-ghost use Rattle.csv_wrapper.specs.CsvBoxes.{change_is};
 ghost use Rattle.csv_wrapper.specs.Content.{TellsCause};
 ghost use Rattle.csv_wrapper.specs.Flat.{header_in};
 ghost use Rattle.csv_wrapper.specs.Tables.{shape_is, record_at, records_of};
 ghost use Rattle.csv_wrapper.specs.Rewriting.{has_width, is_wide, left_by, woven, Gathers, HasWritten, Rewrites, rows_in};
 
 use crate::cells::{field_text, reads_as_null};
-use crate::changes::CsvChange;
 use crate::content::{first_header, push_fields};
 use crate::layout::Layout;
 use crate::table::{CsvTable, Rows};
 use csv::{ByteRecord, Writer};
 use fdw_api::interface::Fault;
 use med_value::{Cause, ColType, NoMemory, Row};
+use staged_changes::{Fate, RowChange, keep_all, set_fate};
 use std::alloc::Global;
-
-/// What a write makes of an old record.
-#[derive(Drop)]
-enum Fate {
-    Keep,
-    Change(ByteRecord),
-    Gone,
-}
 
 /// A sorted write: what it makes of each old record, and its new ones.
 #[derive(Drop)]
 struct Sorted {
-    fates: Vec<Fate>,
+    fates: Vec<Fate<ByteRecord>>,
     fresh: Vec<ByteRecord>,
 }
 
@@ -77,33 +69,12 @@ fn record_of(alloc: Global, null: &str, row: &Row) -> Result<ByteRecord, Fault>
     Ok(fields)
 }
 
-/// A fate for each record: it is kept.
-fn keep_all(alloc: Global, count: usize) -> Result<Vec<Fate>, NoMemory>
-    ensures { IfOk result (λ fates. fates.items ≡ replicate count Fate.Keep) }
-{
-    let mut fates = Vec::new(alloc);
-    for _ in 0..count {
-        fates.push(Fate::Keep)?;
-    }
-    Ok(fates)
-}
-
-/// Sets the fate of a record, if it is there.
-fn set_fate(fates: &mut Vec<Fate>, id: u64, fate: Fate)
-    ensures { fates.new.items ≡ slice_set fates.old.items id fate }
-{
-    let at = id as usize;
-    if at < fates.len() {
-        fates[at] = fate;
-    }
-}
-
 /// Sorts changes to this many records by the records that they name, and makes records of the new rows.
 fn sort_changes(
     alloc: Global,
     layout: &Layout,
     count: usize,
-    changes: Vec<CsvChange>,
+    changes: Vec<RowChange>,
 ) -> Result<Sorted, Fault>
     requires { list_all (row_of_change_fits layout.now.kinds.items) (map change_is changes.items) ≡ true }
     ensures fates { IfOk result (λ s. (rows : List Record) → woven (shape_is layout.now) 0 rows s.fates.items []
@@ -120,15 +91,15 @@ fn sort_changes(
     let mut fresh = Vec::new(alloc);
     for change in changes {
         match change {
-            CsvChange::Insert(row) => {
+            RowChange::Insert(row) => {
                 let line = record_of(alloc, &layout.null, &row)?;
                 fresh.push(line)?;
             }
-            CsvChange::Update(id, row) => {
+            RowChange::Update(id, row) => {
                 let line = record_of(alloc, &layout.null, &row)?;
                 set_fate(&mut fates, id, Fate::Change(line));
             }
-            CsvChange::Delete(id) => set_fate(&mut fates, id, Fate::Gone),
+            RowChange::Delete(id) => set_fate(&mut fates, id, Fate::Gone),
         }
     }
     Ok(Sorted { fates, fresh })
@@ -164,7 +135,7 @@ fn gather(gathered: &mut Gathered, row: &ByteRecord) -> Result<(), NoMemory>
 }
 
 /// The old records that are left, as their fates say. One that a write leaves keeps its fields.
-fn rewritten(alloc: Global, rows: &Rows, fates: Vec<Fate>) -> Result<Gathered, NoMemory>
+fn rewritten(alloc: Global, rows: &Rows, fates: Vec<Fate<ByteRecord>>) -> Result<Gathered, NoMemory>
     requires { list_all (is_wide rows.now.width) fates.items ≡ true }
     ensures { IfOk result (λ g. Gathers rows.now.width (left_by fates.items (records_of rows.now)) g) }
 {
@@ -245,7 +216,7 @@ fn image_of(alloc: Global, header: &Option<ByteRecord>, rows: &Rows) -> Result<V
 pub(crate) fn apply_changes(
     alloc: Global,
     table: &CsvTable,
-    changes: Vec<CsvChange>,
+    changes: Vec<RowChange>,
 ) -> Result<Written, Fault>
     requires { list_all (row_of_change_fits table.now.layout.kinds.items) (map change_is changes.items) ≡ true }
     ensures ok { IfOk result (λ w. Rewrites table.now (map change_is changes.items) w) }

@@ -1,5 +1,5 @@
 -- A program that begins, or does not.
-use Rattle.std.proofs.Common.{◌≡◌, ℕ, List, Option, Some, None, option_map, Result, Ok, Err, Vec, String, string_bytes, map, refl, sym, subst}
+use Rattle.std.proofs.Common.{◌≡◌, ℕ, Bool, true, List, Option, Some, None, option_map, Result, Ok, Err, Vec, String, string_bytes, map, refl, sym, subst}
 use Rattle.std.specs.Global.{Global}
 use Rattle.fdw_api.specs.State.{BoxState}
 use Rattle.session_wire.specs.Worlds.{Scene, SceneSteps}
@@ -9,10 +9,11 @@ use Rattle.fed_replay.specs.declared.script.ScriptFault.{ScriptFault}
 use Rattle.fed_replay.specs.declared.script.ScriptFault.TheVariants as scripts
 use Rattle.med_session.specs.declared.adding.Sources.{Sources}
 use Rattle.fed_cli.specs.Exits.{Runs, Exits, ExitsBy, on_words}
+use Rattle.fed_cli.specs.Places.{are_honest}
 use Rattle.fed_cli.specs.Setup.{IsFirst, HasNoFirst, ReadsNot, IsReadOf, ReplaysInit, BeginsNot, list_asked}
 use Rattle.fed_cli.specs.Streams.{Stream, IsUntouched}
 use Rattle.fed_cli.specs.Told.{Came, replay_told}
-use Rattle.fed_cli.specs.Words.{folders_asked}
+use Rattle.fed_cli.specs.Words.{places_asked}
 use Rattle.fed_cli.specs.declared.program.ArgsFault.{ArgsFault}
 use Rattle.fed_cli.specs.declared.program.Exit.{Exit}
 use Rattle.fed_cli.specs.declared.told.RunFault.{RunFault}
@@ -28,57 +29,62 @@ replays_script o v bytes owner result came first after is items told replays =
     (result, told, subst (λ bs. Replays SceneSteps SceneCloses first owner bs result after) items replays)
 
 -- nothing is handed back
-pub not_begun : {W : Type 0} (meaning : W → BoxState) (asked : Asked) (came : Came) (script : Option (List ℕ)) (sources : Option (Sources W)) (input output : Stream) (fault : RunFault)
-    → came ≡ Err fault → sources ≡ None → BeginsNot asked script fault → IsUntouched input → IsUntouched output → Runs meaning asked came script sources input output
-not_begun meaning asked came script sources input output fault e none why i o = subst (λ s. Runs meaning asked came script s input output) (sym none) (fault, e, why, i, o)
+pub not_begun : {W : Type 0} (honest : Bool) (meaning : W → BoxState) (asked : Asked) (came : Came) (script : Option (List ℕ)) (sources : Option (Sources W)) (input output : Stream) (fault : RunFault)
+    → came ≡ Err fault → sources ≡ None → (are_honest honest (places_asked asked) ≡ true → BeginsNot honest asked script fault) → IsUntouched input → IsUntouched output → Runs honest meaning asked came script sources input output
+not_begun honest meaning asked came script sources input output fault e none why i o = subst (λ s. Runs honest meaning asked came script s input output) (sym none) (fault, e, why, i, o)
 
 -- it exits on these words
-pub on_given : {W : Type 0} (meaning : W → BoxState) (words : Result (Vec (String Global) Global) ArgsFault) (given : Vec (String Global) Global) (texts : List (String Global)) (exit : Exit W) (input output errors : Stream)
-    → words ≡ Ok given → texts ≡ given.items → Exits meaning (map string_bytes texts) exit input output errors → ExitsBy meaning words exit.status input output errors
-on_given meaning words given texts exit input output errors is same exits =
-    on_words given is exit (subst (λ ts. Exits meaning (map string_bytes ts) exit input output errors) same exits) refl
+pub on_given : {W : Type 0} (honest : Bool) (meaning : W → BoxState) (words : Result (Vec (String Global) Global) ArgsFault) (given : Vec (String Global) Global) (texts : List (String Global)) (exit : Exit W) (input output errors : Stream)
+    → words ≡ Ok given → texts ≡ given.items → Exits honest meaning (map string_bytes texts) exit input output errors → ExitsBy honest meaning words exit.status input output errors
+on_given honest meaning words given texts exit input output errors is same exits =
+    on_words given is exit (subst (λ ts. Exits honest meaning (map string_bytes ts) exit input output errors) same exits) refl
 
 -- there is no first world
-pub no_first_world : (asked : Asked) (script : Option (List ℕ)) (fault : RunFault) → HasNoFirst asked fault → BeginsNot asked script fault
-no_first_world asked script faults.NoMemory h = tt
-no_first_world asked script (faults.CannotOpen told) h = h
-no_first_world asked script (faults.NameTaken told) h = h
-no_first_world asked script (faults.TooManySources told) h = h
-no_first_world asked script faults.Read h = h
-no_first_world asked script faults.Write h = h
-no_first_world asked script faults.TooManyReads h = h
-no_first_world asked script faults.ProtocolViolation h = h
-no_first_world asked script (faults.CannotReadInit told) h = absurd h
-no_first_world asked script faults.InitNotText h = absurd h
-no_first_world asked script (faults.InitLine number cause) h = absurd h
+pub no_first_world : (honest : Bool) (asked : Asked) (script : Option (List ℕ)) (fault : RunFault) → HasNoFirst honest asked fault → BeginsNot honest asked script fault
+no_first_world honest asked script faults.NoMemory h = tt
+no_first_world honest asked script (faults.CannotOpen told) h = h
+no_first_world honest asked script (faults.NameTaken told) h = h
+no_first_world honest asked script (faults.TooManySources told) h = h
+no_first_world honest asked script faults.Read h = h
+no_first_world honest asked script faults.Write h = h
+no_first_world honest asked script faults.TooManyReads h = h
+no_first_world honest asked script faults.ProtocolViolation h = h
+no_first_world honest asked script (faults.CannotReadInit told) h = absurd h
+no_first_world honest asked script faults.InitNotText h = absurd h
+no_first_world honest asked script (faults.InitLine number cause) h = absurd h
 
 -- the init file was not read
-pub not_read : (asked : Asked) (fault : RunFault) (first : Scene) → IsFirst asked.owner.now (list_asked asked) (folders_asked asked) first → ReadsNot asked.init fault
-    → BeginsNot asked None fault
-not_read asked faults.NoMemory first is h = tt
-not_read asked (faults.CannotReadInit told) first is h = (h, refl, (first, is))
-not_read asked (faults.CannotOpen told) first is h = absurd h
-not_read asked (faults.NameTaken told) first is h = absurd h
-not_read asked (faults.TooManySources told) first is h = absurd h
-not_read asked faults.Read first is h = absurd h
-not_read asked faults.Write first is h = absurd h
-not_read asked faults.TooManyReads first is h = absurd h
-not_read asked faults.ProtocolViolation first is h = absurd h
-not_read asked faults.InitNotText first is h = absurd h
-not_read asked (faults.InitLine number cause) first is h = absurd h
+pub not_read : (honest : Bool) (asked : Asked) (fault : RunFault) (first : Scene) → IsFirst honest asked.owner.now (list_asked asked) (places_asked asked) first → ReadsNot asked.init fault
+    → BeginsNot honest asked None fault
+not_read honest asked faults.NoMemory first is h = tt
+not_read honest asked (faults.CannotReadInit told) first is h = (h, refl, (first, is))
+not_read honest asked (faults.CannotOpen told) first is h = absurd h
+not_read honest asked (faults.NameTaken told) first is h = absurd h
+not_read honest asked (faults.TooManySources told) first is h = absurd h
+not_read honest asked faults.Read first is h = absurd h
+not_read honest asked faults.Write first is h = absurd h
+not_read honest asked faults.TooManyReads first is h = absurd h
+not_read honest asked faults.ProtocolViolation first is h = absurd h
+not_read honest asked faults.InitNotText first is h = absurd h
+not_read honest asked (faults.InitLine number cause) first is h = absurd h
 
 -- its replay was refused
-pub not_replayed : (asked : Asked) (script : Option (List ℕ)) (fault : RunFault) (first after : Scene) → IsReadOf asked.init script
-    → IsFirst asked.owner.now (list_asked asked) (folders_asked asked) first → ReplaysInit first asked.owner.now script (Err fault) after → BeginsNot asked script fault
-not_replayed asked None fault first after read is (e, same) = absurd cc
-not_replayed asked (Some script) fault first after read is (Ok count, e, replays) = absurd cc
-not_replayed asked (Some script) fault first after read is (Err scripts.NoMemory, e, replays) =
-    let same : fault ≡ faults.NoMemory = cc in subst (λ f. BeginsNot asked (Some script) f) (sym same) tt
-not_replayed asked (Some script) fault first after read is (Err scripts.NotText, e, replays) =
+pub not_replayed : (honest : Bool) (asked : Asked) (script : Option (List ℕ)) (fault : RunFault) (first after : Scene) → IsReadOf asked.init script
+    → IsFirst honest asked.owner.now (list_asked asked) (places_asked asked) first → ReplaysInit first asked.owner.now script (Err fault) after → BeginsNot honest asked script fault
+not_replayed honest asked None fault first after read is (e, same) = absurd cc
+not_replayed honest asked (Some script) fault first after read is (Ok count, e, replays) = absurd cc
+not_replayed honest asked (Some script) fault first after read is (Err scripts.NoMemory, e, replays) =
+    let same : fault ≡ faults.NoMemory = cc in subst (λ f. BeginsNot honest asked (Some script) f) (sym same) tt
+not_replayed honest asked (Some script) fault first after read is (Err scripts.NotText, e, replays) =
     let same : fault ≡ faults.InitNotText = cc in
-    subst (λ f. BeginsNot asked (Some script) f) (sym same)
+    subst (λ f. BeginsNot honest asked (Some script) f) (sym same)
     (read, (after, record { first = first; is_first = is; replays = (Err scripts.NotText, refl, replays) }))
-not_replayed asked (Some script) fault first after read is (Err (scripts.Line number cause), e, replays) =
+not_replayed honest asked (Some script) fault first after read is (Err (scripts.Line number cause), e, replays) =
     let same : fault ≡ faults.InitLine number cause = cc in
-    subst (λ f. BeginsNot asked (Some script) f) (sym same)
+    subst (λ f. BeginsNot honest asked (Some script) f) (sym same)
     (read, (after, record { first = first; is_first = is; replays = (Err (scripts.Line number cause), refl, replays) }))
+
+-- the same of the same script
+pub by_script : (honest : Bool) (asked : Asked) (s r : Option (Vec ℕ Global)) (fault : RunFault) → s ≡ r → BeginsNot honest asked (option_map (λ v. v.items) r) fault
+    → BeginsNot honest asked (option_map (λ v. v.items) s) fault
+by_script honest asked s r fault e h = subst (λ q. BeginsNot honest asked (option_map (λ v. v.items) q) fault) (sym e) h

@@ -1,5 +1,5 @@
 -- The engine that a program begins with, and the demo list in it.
-use Rattle.std.proofs.Common.{◌≡◌, ◌≢◌, arith, ℕ, Bool, true, false, List, [], ◌∷◌, ◌++◌, length, Option, Some, None, option_map, Result, Ok, Err, OnOk, IfErr, Bor, refl, sym, ap, ◌∙◌, subst, inl, inr}
+use Rattle.std.proofs.Common.{◌≡◌, ◌≢◌, arith, ℕ, Bool, true, false, List, [], ◌∷◌, ◌++◌, ◌||◌, ◌&&◌, length, Option, Some, None, option_map, Result, Ok, Err, OnOk, IfErr, Bor, refl, sym, ap, ◌∙◌, subst, inl, inr}
 use Rattle.fdw_api.specs.Kinds.{Kind}
 use Rattle.fdw_api.specs.State.{BoxState, IsIdle, is_honest}
 use Rattle.ddl_syntax.specs.DdlTree.{TableTree}
@@ -27,13 +27,15 @@ use Rattle.fed_replay.specs.Engines.{SceneCloses}
 use Rattle.fed_replay.specs.declared.script.ScriptFault.{ScriptFault}
 use Rattle.fed_replay.specs.declared.script.ScriptFault.TheVariants as scripts
 use Rattle.fed_cli.specs.Demo.{demo_list, setup_script}
-use Rattle.fed_cli.specs.Setup.{over, empty_scene, HasList, HasFolders, SetsUp, IsNewFolder, AddsFolder, AddsFolders, AddsNoDemo, IsNotAdded, AreNotAdded, IsFirst, HasNoFirst, HasListAsked, IsSetUp, IsNotSetUp, SetUpFails, list_asked, list_label, labels_before, folder_label}
-use Rattle.fed_cli.specs.Folders.{Folder, folder_of, source_kind}
+use Rattle.fed_cli.specs.Setup.{over, empty_scene, HasList, HasPlaces, SetsUp, IsNewAt, IsNewPlace, AddsPlace, AddsPlaces, AddsNoDemo, IsNotAdded, AreNotAdded, IsFirst, HasNoFirst, HasListAsked, IsSetUp, IsNotSetUp, SetUpFails, list_asked, list_label, labels_before, place_label}
+use Rattle.sqlite_wrapper.specs.Kinds.{sqlite_kind}
+use Rattle.source_kinds.specs.Databases.{by_path, is_memory}
+use Rattle.fed_cli.specs.Places.{Place, place_of, source_kind, is_honest_place, are_honest}
 use Rattle.fed_cli.specs.Told.{Came, added_of, setup_told}
-use Rattle.fed_cli.specs.Words.{folders_asked}
-use Rattle.fed_cli.specs.declared.folders.AskedFolder.{AskedFolder}
-use Rattle.fed_cli.specs.declared.folders.FolderKind.{FolderKind}
-use Rattle.fed_cli.specs.declared.folders.FolderKind.TheVariants.{Csv, JsonLines}
+use Rattle.fed_cli.specs.Words.{places_asked}
+use Rattle.fed_cli.specs.declared.places.AskedPlace.{AskedPlace}
+use Rattle.fed_cli.specs.declared.places.PlaceKind.{PlaceKind}
+use Rattle.fed_cli.specs.declared.places.PlaceKind.TheVariants.{Csv, JsonLines, Sqlite}
 use Rattle.fed_cli.specs.declared.words.Asked.{Asked}
 use Rattle.fed_cli.specs.declared.told.RunFault.{RunFault}
 use Rattle.fed_cli.specs.declared.told.RunFault.TheVariants as faults
@@ -91,74 +93,87 @@ pub has_list : (old listed : Shown) (w : World) (name : List ℕ) (list : BoxSta
 has_list old listed w name list demo adds world agrees =
     (with_source w name Lists list.nature.kind list.content.holdings, list_added old listed w name list demo adds, world w agrees demo.honest)
 
--- ---- folders are added
+-- ---- folders and databases are added
 
--- what is known of a new folder
-folder_is_honest : (kind : FolderKind) (s : BoxState) → IsNewFolder kind s → is_honest s
-folder_is_honest Csv s h = h.honest
-folder_is_honest JsonLines s h = h.honest
+-- a new source that is honest
+database_is_honest : (honest memory : Bool) (s : BoxState) → by_path honest memory s → (memory || honest) ≡ true → is_honest s
+database_is_honest honest true s h trusted = h.1.honest_is
+database_is_honest honest false s h trusted = h.1.honest_is ∙ trusted
 
-pub folder_is_idle : (kind : FolderKind) (s : BoxState) → IsNewFolder kind s → IsIdle s
-folder_is_idle Csv s h = h.idle
-folder_is_idle JsonLines s h = h.idle
+honest_at : (honest : Bool) (kind : PlaceKind) (name path : List ℕ) (s : BoxState) → IsNewAt honest kind path s
+    → is_honest_place honest (record { kind = kind; name = name; path = path }) ≡ true → is_honest s
+honest_at honest Csv name path s h trusted = h.honest
+honest_at honest JsonLines name path s h trusted = h.honest
+honest_at honest Sqlite name path s h trusted = database_is_honest honest (is_memory path) s h trusted
 
-folder_added_as : (old new : Shown) (folder : Folder) (s : BoxState) → IsNewFolder folder.kind s → Adds old folder.name (source_kind folder.kind) s new
-    → ((w : World) → Agrees old w → is_honest s → Agrees new (with_source w folder.name (source_kind folder.kind) s.nature.kind s.content.holdings))
-    → AddsFolder old folder new
-folder_added_as old new folder s is_new adds world = record {
+place_added_as : (honest : Bool) (old new : Shown) (place : Place) (s : BoxState) → IsNewPlace honest place s → Adds old place.name (source_kind place.kind) s new
+    → ((w : World) → Agrees old w → is_honest s → Agrees new (with_source w place.name (source_kind place.kind) s.nature.kind s.content.holdings))
+    → AddsPlace honest old place new
+place_added_as honest old new place s is_new adds world = record {
   labels = ap (λ (e : Shown). e.labels) adds.is;
   could = (adds.name_free, adds.room);
-  world = λ w agrees. (
-    with_source w folder.name (source_kind folder.kind) s.nature.kind s.content.holdings,
+  world = λ trusted w agrees. (
+    with_source w place.name (source_kind place.kind) s.nature.kind s.content.holdings,
     record { box = s; is_new = is_new; world = refl; boxes = ap (λ (e : Shown). e.boxes) adds.is },
-    world w agrees (folder_is_honest folder.kind s is_new),
+    world w agrees (honest_at honest place.kind place.name place.path s is_new trusted),
   );
 }
 
-pub folder_added : (old new : Shown) (folder : Folder) (s : BoxState) (k : SourceKind) → k ≡ source_kind folder.kind → IsNewFolder folder.kind s → Adds old folder.name k s new
-    → ((w : World) → Agrees old w → is_honest s → Agrees new (with_source w folder.name k s.nature.kind s.content.holdings))
-    → AddsFolder old folder new
-folder_added old new folder s k e is_new = subst
-    (λ q. Adds old folder.name q s new → ((w : World) → Agrees old w → is_honest s → Agrees new (with_source w folder.name q s.nature.kind s.content.holdings)) → AddsFolder old folder new)
-    (sym e) (folder_added_as old new folder s is_new)
+pub place_added : (honest : Bool) (old new : Shown) (place : Place) (s : BoxState) (k : SourceKind) → k ≡ source_kind place.kind → IsNewPlace honest place s → Adds old place.name k s new
+    → ((w : World) → Agrees old w → is_honest s → Agrees new (with_source w place.name k s.nature.kind s.content.holdings))
+    → AddsPlace honest old place new
+place_added honest old new place s k e is_new = subst
+    (λ q. Adds old place.name q s new → ((w : World) → Agrees old w → is_honest s → Agrees new (with_source w place.name q s.nature.kind s.content.holdings)) → AddsPlace honest old place new)
+    (sym e) (place_added_as honest old new place s is_new)
 
--- what a new folder takes, by the laws of its kind
-pub folder_takes : (kind : FolderKind) (s : BoxState) → IsNewFolder kind s → ((b : BoxState) (shelf : Shelf) → IsNewCsv b shelf → TakesAs sources.Csv b)
-    → ((b : BoxState) (shelf : Shelf) → IsNewJsonl b shelf → TakesAs sources.JsonLines b) → TakesAs (source_kind kind) s
-folder_takes Csv s h csv jsonl = csv s (nothing_known 0) h
-folder_takes JsonLines s h csv jsonl = jsonl s (nothing_known 0) h
+-- what a new source takes, by the laws of its kind
+database_kind : (honest memory : Bool) (s : BoxState) → by_path honest memory s → s.nature.kind ≡ sqlite_kind
+database_kind honest true s h = h.1.kind
+database_kind honest false s h = h.1.kind
 
--- of several folders the first is added, and then the others
-pub adds_none : (e : Shown) (all : List Folder) → all ≡ [] → AddsFolders e all e
-adds_none e all is = record { world = λ w agrees. (w, subst (λ fs. HasFolders (over e w) fs (over e w)) (sym is) refl, agrees) }
+pub place_takes : (honest : Bool) (kind : PlaceKind) (path : List ℕ) (s : BoxState) → IsNewAt honest kind path s
+    → ((b : BoxState) (shelf : Shelf) → IsNewCsv b shelf → TakesAs sources.Csv b) → ((b : BoxState) (shelf : Shelf) → IsNewJsonl b shelf → TakesAs sources.JsonLines b)
+    → ((b : BoxState) → b.nature.kind ≡ sqlite_kind → TakesAs sources.Sqlite b) → TakesAs (source_kind kind) s
+place_takes honest Csv path s h csv jsonl sqlite = csv s (nothing_known 0) h
+place_takes honest JsonLines path s h csv jsonl sqlite = jsonl s (nothing_known 0) h
+place_takes honest Sqlite path s h csv jsonl sqlite = sqlite s (database_kind honest (is_memory path) s h)
 
-pub adds_first : (old mid new : Shown) (f : Folder) (all rest : List Folder) → all ≡ f ∷ rest → AddsFolder old f mid → AddsFolders mid rest new → AddsFolders old all new
-adds_first old mid new f all rest is one more = record {
-  world = λ w agrees.
-      let here = one.world w agrees in
-      let then = more.world here.0 here.2 in
-      (then.0, subst (λ fs. HasFolders (over old w) fs (over new then.0)) (sym is) (over mid here.0, here.1, then.1), then.2);
+-- of several the first is added, and then the others
+pub adds_none : (honest : Bool) (e : Shown) (all : List Place) → all ≡ [] → AddsPlaces honest e all e
+adds_none honest e all is = record { world = λ trusted w agrees. (w, subst (λ fs. HasPlaces honest (over e w) fs (over e w)) (sym is) refl, agrees) }
+
+both : (a b : Bool) → (a && b) ≡ true → (a ≡ true) × (b ≡ true)
+both true b e = (refl, e)
+both false b e = absurd cc
+
+pub adds_first : (honest : Bool) (old mid new : Shown) (f : Place) (all rest : List Place) → all ≡ f ∷ rest → AddsPlace honest old f mid → AddsPlaces honest mid rest new → AddsPlaces honest old all new
+adds_first honest old mid new f all rest is one more = record {
+  world = λ trusted w agrees.
+      let each = both (is_honest_place honest f) (are_honest honest rest) (subst (λ fs. are_honest honest fs ≡ true) is trusted) in
+      let here = one.world each.0 w agrees in
+      let then = more.world each.1 here.0 here.2 in
+      (then.0, subst (λ fs. HasPlaces honest (over old w) fs (over new then.0)) (sym is) (over mid here.0, here.1, then.1), then.2);
 }
 
-pub adds_more : {T E : Type 0} (r : Result T E) (old mid new : Shown) (f : Folder) (all rest : List Folder) → all ≡ f ∷ rest → AddsFolder old f mid
-    → OnOk r (AddsFolders mid rest new) → OnOk r (AddsFolders old all new)
-adds_more (Ok x) old mid new f all rest is one more = adds_first old mid new f all rest is one more
-adds_more (Err x) old mid new f all rest is one more = tt
+pub adds_more : (honest : Bool) {T E : Type 0} (r : Result T E) (old mid new : Shown) (f : Place) (all rest : List Place) → all ≡ f ∷ rest → AddsPlace honest old f mid
+    → OnOk r (AddsPlaces honest mid rest new) → OnOk r (AddsPlaces honest old all new)
+adds_more honest (Ok x) old mid new f all rest is one more = adds_first honest old mid new f all rest is one more
+adds_more honest (Err x) old mid new f all rest is one more = tt
 
 -- or one is not
-pub fails_first : (labels : List Label) (f : Folder) (all rest : List Folder) (fault : RunFault) → all ≡ f ∷ rest → IsNotAdded labels f fault → AreNotAdded labels all fault
+pub fails_first : (labels : List Label) (f : Place) (all rest : List Place) (fault : RunFault) → all ≡ f ∷ rest → IsNotAdded labels f fault → AreNotAdded labels all fault
 fails_first labels f all rest fault is h = subst (λ fs. AreNotAdded labels fs fault) (sym is) (inl h)
 
-pub fails_later : (old mid : Shown) (f : Folder) (all rest : List Folder) (fault : RunFault) → all ≡ f ∷ rest → AddsFolder old f mid → AreNotAdded mid.labels rest fault
+pub fails_later : (honest : Bool) (old mid : Shown) (f : Place) (all rest : List Place) (fault : RunFault) → all ≡ f ∷ rest → AddsPlace honest old f mid → AreNotAdded mid.labels rest fault
     → AreNotAdded old.labels all fault
-fails_later old mid f all rest fault is one h =
+fails_later honest old mid f all rest fault is one h =
     subst (λ fs. AreNotAdded old.labels fs fault) (sym is) (inr (one.could, subst (λ ls. AreNotAdded ls rest fault) one.labels h))
 
-pub folder_not_added : (labels : List Label) (asked : AskedFolder) (fault : AddFault) (told : RunFault) → told ≡ added_of asked.name fault
-    → AddCause labels asked.name.now fault → IsNotAdded labels (folder_of asked) told
-folder_not_added labels asked adding.NoMemory told e h = subst (λ f. IsNotAdded labels (folder_of asked) f) (sym e) tt
-folder_not_added labels asked adding.Taken told e h = subst (λ f. IsNotAdded labels (folder_of asked) f) (sym e) (refl, h)
-folder_not_added labels asked adding.TooMany told e h = subst (λ f. IsNotAdded labels (folder_of asked) f) (sym e) (refl, h.0, h.1)
+pub place_not_added : (labels : List Label) (asked : AskedPlace) (fault : AddFault) (told : RunFault) → told ≡ added_of asked.name fault
+    → AddCause labels asked.name.now fault → IsNotAdded labels (place_of asked) told
+place_not_added labels asked adding.NoMemory told e h = subst (λ f. IsNotAdded labels (place_of asked) f) (sym e) tt
+place_not_added labels asked adding.Taken told e h = subst (λ f. IsNotAdded labels (place_of asked) f) (sym e) (refl, h)
+place_not_added labels asked adding.TooMany told e h = subst (λ f. IsNotAdded labels (place_of asked) f) (sym e) (refl, h.0, h.1)
 
 -- ---- what the set-up came to
 
@@ -229,32 +244,32 @@ list_needs_memory labels name fault none (adding.TooMany, e, h) = absurd (not_ma
 
 -- ---- the first engine
 
-pub first_made : (owner : List ℕ) (list : Option (List ℕ)) (folders : List Folder) (old listed before first : Scene) → old ≡ empty_scene owner
-    → HasListAsked old list listed → HasFolders listed folders before → IsSetUp before owner list first → IsFirst owner list folders first
-first_made owner list folders old listed before first empty has_list has_folders set = record {
+pub first_made : (honest : Bool) (owner : List ℕ) (list : Option (List ℕ)) (places : List Place) (old listed before first : Scene) → old ≡ empty_scene owner
+    → HasListAsked old list listed → HasPlaces honest listed places before → IsSetUp before owner list first → IsFirst honest owner list places first
+first_made honest owner list places old listed before first empty has_list has_places set = record {
   before = before;
-  has_sources = record { listed = listed; has_list = subst (λ s. HasListAsked s list listed) empty has_list; has_folders = has_folders };
+  has_sources = record { listed = listed; has_list = subst (λ s. HasListAsked s list listed) empty has_list; has_places = has_places };
   is_set_up = set;
 }
 
--- no folder fails in another way than by its name, by too many, or by want of memory
-no_other : (fault : RunFault) → ((labels : List Label) (f : Folder) → IsNotAdded labels f fault → ⊥) → (labels : List Label) (fs : List Folder) → AreNotAdded labels fs fault → ⊥
+-- no source fails in another way than by what it is opened as, by its name, by too many, or by want of memory
+no_other : (fault : RunFault) → ((labels : List Label) (f : Place) → IsNotAdded labels f fault → ⊥) → (labels : List Label) (fs : List Place) → AreNotAdded labels fs fault → ⊥
 no_other fault none labels [] h = h
 no_other fault none labels (f ∷ fs) (inl h) = none labels f h
-no_other fault none labels (f ∷ fs) (inr h) = no_other fault none (labels ++ folder_label f ∷ []) fs h.1
+no_other fault none labels (f ∷ fs) (inr h) = no_other fault none (labels ++ place_label f ∷ []) fs h.1
 
-pub no_memory : (asked : Asked) (fault : RunFault) → fault ≡ faults.NoMemory → HasNoFirst asked fault
-no_memory asked fault e = subst (HasNoFirst asked) (sym e) tt
+pub no_memory : (honest : Bool) (asked : Asked) (fault : RunFault) → fault ≡ faults.NoMemory → HasNoFirst honest asked fault
+no_memory honest asked fault e = subst (HasNoFirst honest asked) (sym e) tt
 
-pub folders_fail : (asked : Asked) (labels : List Label) (fault : RunFault) → labels ≡ labels_before (list_asked asked) → AreNotAdded labels (folders_asked asked) fault
-    → HasNoFirst asked fault
-folders_fail asked labels fault e h = by fault (subst (λ ls. AreNotAdded ls (folders_asked asked) fault) e h)
+pub places_fail : (honest : Bool) (asked : Asked) (labels : List Label) (fault : RunFault) → labels ≡ labels_before (list_asked asked) → AreNotAdded labels (places_asked asked) fault
+    → HasNoFirst honest asked fault
+places_fail honest asked labels fault e h = by fault (subst (λ ls. AreNotAdded ls (places_asked asked) fault) e h)
   where
-    by : (f : RunFault) → AreNotAdded (labels_before (list_asked asked)) (folders_asked asked) f → HasNoFirst asked f
+    by : (f : RunFault) → AreNotAdded (labels_before (list_asked asked)) (places_asked asked) f → HasNoFirst honest asked f
     by faults.NoMemory p = tt
     by (faults.NameTaken told) p = p
     by (faults.TooManySources told) p = p
-    by (faults.CannotOpen told) p = absurd (no_other (faults.CannotOpen told) (λ ls f q. q) _ _ p)
+    by (faults.CannotOpen told) p = inl p
     by faults.Read p = no_other faults.Read (λ ls f q. q) _ _ p
     by faults.Write p = no_other faults.Write (λ ls f q. q) _ _ p
     by faults.TooManyReads p = no_other faults.TooManyReads (λ ls f q. q) _ _ p
@@ -263,27 +278,27 @@ folders_fail asked labels fault e h = by fault (subst (λ ls. AreNotAdded ls (fo
     by faults.InitNotText p = no_other faults.InitNotText (λ ls f q. q) _ _ p
     by (faults.InitLine number cause) p = no_other (faults.InitLine number cause) (λ ls f q. q) _ _ p
 
-pub folders_fail_as : (asked : Asked) (labels : List Label) (fs : List Folder) (fault : RunFault) → fs ≡ folders_asked asked → labels ≡ labels_before (list_asked asked)
-    → AreNotAdded labels fs fault → HasNoFirst asked fault
-folders_fail_as asked labels fs fault is e h = folders_fail asked labels fault e (subst (λ l. AreNotAdded labels l fault) is h)
+pub places_fail_as : (honest : Bool) (asked : Asked) (labels : List Label) (fs : List Place) (fault : RunFault) → fs ≡ places_asked asked → labels ≡ labels_before (list_asked asked)
+    → AreNotAdded labels fs fault → HasNoFirst honest asked fault
+places_fail_as honest asked labels fs fault is e h = places_fail honest asked labels fault e (subst (λ l. AreNotAdded labels l fault) is h)
 
-pub adds_as : (old new : Shown) (fs gs : List Folder) → fs ≡ gs → AddsFolders old fs new → AddsFolders old gs new
-adds_as old new fs gs is adds = subst (λ l. AddsFolders old l new) is adds
+pub adds_as : (honest : Bool) (old new : Shown) (fs gs : List Place) → fs ≡ gs → AddsPlaces honest old fs new → AddsPlaces honest old gs new
+adds_as honest old new fs gs is adds = subst (λ l. AddsPlaces honest old l new) is adds
 
-pub set_up_fails : (asked : Asked) (old listed before : Scene) (fault : RunFault) → old ≡ empty_scene asked.owner.now → HasListAsked old (list_asked asked) listed
-    → HasFolders listed (folders_asked asked) before → SetUpFails before asked.owner.now asked.list fault → HasNoFirst asked fault
-set_up_fails asked old listed before faults.NoMemory empty l fs h = tt
-set_up_fails asked old listed before (faults.CannotOpen told) empty l fs h =
-    (h.0, (before, record { listed = listed; has_list = subst (λ s. HasListAsked s (list_asked asked) listed) empty l; has_folders = fs }, h.1))
-set_up_fails asked old listed before (faults.NameTaken told) empty l fs h = absurd h
-set_up_fails asked old listed before (faults.TooManySources told) empty l fs h = absurd h
-set_up_fails asked old listed before faults.Read empty l fs h = h
-set_up_fails asked old listed before faults.Write empty l fs h = h
-set_up_fails asked old listed before faults.TooManyReads empty l fs h = h
-set_up_fails asked old listed before faults.ProtocolViolation empty l fs h = h
-set_up_fails asked old listed before (faults.CannotReadInit told) empty l fs h = h
-set_up_fails asked old listed before faults.InitNotText empty l fs h = h
-set_up_fails asked old listed before (faults.InitLine number cause) empty l fs h = h
+pub set_up_fails : (honest : Bool) (asked : Asked) (old listed before : Scene) (fault : RunFault) → old ≡ empty_scene asked.owner.now → HasListAsked old (list_asked asked) listed
+    → HasPlaces honest listed (places_asked asked) before → SetUpFails before asked.owner.now asked.list fault → HasNoFirst honest asked fault
+set_up_fails honest asked old listed before faults.NoMemory empty l fs h = tt
+set_up_fails honest asked old listed before (faults.CannotOpen told) empty l fs h =
+    inr (h.0, (before, record { listed = listed; has_list = subst (λ s. HasListAsked s (list_asked asked) listed) empty l; has_places = fs }, h.1))
+set_up_fails honest asked old listed before (faults.NameTaken told) empty l fs h = absurd h
+set_up_fails honest asked old listed before (faults.TooManySources told) empty l fs h = absurd h
+set_up_fails honest asked old listed before faults.Read empty l fs h = h
+set_up_fails honest asked old listed before faults.Write empty l fs h = h
+set_up_fails honest asked old listed before faults.TooManyReads empty l fs h = h
+set_up_fails honest asked old listed before faults.ProtocolViolation empty l fs h = h
+set_up_fails honest asked old listed before (faults.CannotReadInit told) empty l fs h = h
+set_up_fails honest asked old listed before faults.InitNotText empty l fs h = h
+set_up_fails honest asked old listed before (faults.InitLine number cause) empty l fs h = h
 
 -- the list is set up, or none is asked
 pub set_up_none : (list : Option (Bor (List ℕ))) (old : Scene) (owner : List ℕ) → ((x : Bor (List ℕ)) → list ≡ Some x → ⊥) → IsSetUp old owner (option_map (λ s. s.now) list) old

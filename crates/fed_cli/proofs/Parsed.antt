@@ -7,9 +7,9 @@ use Rattle.clap.specs.declared.error.ErrorKind.TheVariants.{OutOfMemory}
 use Rattle.clap.proofs.OnLiterals.{clap_on_literals}
 use Rattle.fed_cli.specs.CommandLine.{command_line, faults, value_in, value_given, values_in, values_given, IsHelp}
 use Rattle.fed_cli.specs.Names.{IsSourceName}
-use Rattle.fed_cli.specs.Words.{Reads, IsRefusal, HasBadFolder, told_folder}
-use Rattle.fed_cli.specs.declared.folders.FolderFault.{FolderFault}
-use Rattle.fed_cli.specs.declared.folders.FolderFault.TheVariants as folders
+use Rattle.fed_cli.specs.Words.{Reads, IsRefusal, HasBadPlace, told_place}
+use Rattle.fed_cli.specs.declared.places.PlaceFault.{PlaceFault}
+use Rattle.fed_cli.specs.declared.places.PlaceFault.TheVariants as places
 use Rattle.fed_cli.specs.declared.words.WordsFault.{WordsFault}
 use Rattle.fed_cli.specs.declared.words.WordsFault.TheVariants.{Help, Usage, NoPath, BadName, NoMemory}
 
@@ -55,12 +55,12 @@ pub list_is_good : (o : Option (Bor (List ℕ))) (g : Option Text) → option_ma
 list_is_good None g e h = subst (λ (o : Option Text). IfSome o IsSourceName) e tt
 list_is_good (Some s) g e h = subst (λ (o : Option Text). IfSome o IsSourceName) e h
 
--- a value of a folder is not taken
-pub folder_refused : (words : List Text) (fault : FolderFault) (told : WordsFault) → told ≡ told_folder fault → faults words ≡ [] → HasBadFolder words fault
+-- a value of a place is not taken
+pub place_refused : (words : List Text) (fault : PlaceFault) (told : WordsFault) → told ≡ told_place fault → faults words ≡ [] → HasBadPlace words fault
     → Reads words (Err told)
-folder_refused words (folders.NoPath value) told e none bad = subst (λ t. Reads words (Err t)) (sym e) (none, bad)
-folder_refused words (folders.BadName value) told e none bad = subst (λ t. Reads words (Err t)) (sym e) (none, inr bad)
-folder_refused words folders.NoMemory told e none bad = subst (λ t. Reads words (Err t)) (sym e) tt
+place_refused words (places.NoPath value) told e none bad = subst (λ t. Reads words (Err t)) (sym e) (none, bad)
+place_refused words (places.BadName value) told e none bad = subst (λ t. Reads words (Err t)) (sym e) (none, inr bad)
+place_refused words places.NoMemory told e none bad = subst (λ t. Reads words (Err t)) (sym e) tt
 
 -- what stands against words that were not taken, and was told
 pub refused : (app : App) (words : List Text) (kind : ErrorKind) (fault : WordsFault) → app ≡ command_line

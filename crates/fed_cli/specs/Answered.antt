@@ -1,12 +1,12 @@
 -- What a stream served over an engine is, in the direct meaning of SQL over worlds.
-use Rattle.std.specs.Prelude.{◌≡◌, ℕ, List, [], Option, Result, Ok}
+use Rattle.std.specs.Prelude.{◌≡◌, ℕ, Bool, List, [], Option, Result, Ok}
 use Rattle.fdw_api.specs.State.{BoxState}
 use Rattle.med_session.specs.World.{World, without_sessions}
 use Rattle.med_session.specs.Engine.{Shown, Agrees}
 use Rattle.session_wire.specs.Worlds.{SceneSteps, SceneEnds}
 use Rattle.fed_cli.specs.Streams.{Stream}
 use Rattle.fed_cli.specs.Served.{Serves}
-use Rattle.fed_cli.specs.Folders.{Folder}
+use Rattle.fed_cli.specs.Places.{Place}
 use Rattle.fed_cli.specs.Setup.{Begins}
 use Rattle.fed_cli.specs.declared.stream.Ended.{Ended}
 use Rattle.fed_cli.specs.declared.stream.StreamFault.{StreamFault}
@@ -26,10 +26,10 @@ pub record ServesWorld (first last : List (Option BoxState)) (w : World)
 
 -- The program serves a stream, that ends so: from the world and the boxes to which its beginning leads, for which an engine stands, to the
 -- last boxes, which are those of the sources that it hands back.
-pub record ServesProgram (owner : List ℕ) (source : Option (List ℕ)) (folders : List Folder) (script : Option (List ℕ))
+pub record ServesProgram (honest : Bool) (owner : List ℕ) (source : Option (List ℕ)) (places : List Place) (script : Option (List ℕ))
     (last : List (Option BoxState)) (input output : Stream) (ended : Result Ended StreamFault) : Type 0 where
   pub world : World
   pub engine : Shown
-  pub begins : Begins owner source folders script (Ok tt) (record { world = world; boxes = engine.boxes })
+  pub begins : Begins honest owner source places script (Ok tt) (record { world = world; boxes = engine.boxes })
   pub agrees : Agrees engine world
   pub serves : ServesWorld engine.boxes last world input output ended

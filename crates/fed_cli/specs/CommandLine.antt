@@ -30,14 +30,19 @@ csv_rule = texts_rule (codes "csv")
 abbrev pub jsonl_rule : Rule
 jsonl_rule = texts_rule (codes "jsonl")
 
+-- --sqlite NAME=PATH
+abbrev pub sqlite_rule : Rule
+sqlite_rule = texts_rule (codes "sqlite")
+
 -- --init FILE
 abbrev pub init_rule : Rule
 init_rule = text_rule (codes "init")
 
--- run [--owner NAME] [--list NAME] [--csv NAME=PATH].. [--jsonl NAME=PATH].. [--init FILE]
+-- run [--owner NAME] [--list NAME] [--csv NAME=PATH].. [--jsonl NAME=PATH].. [--sqlite NAME=PATH].. [--init FILE]
 abbrev pub run_command : App
 run_command =
-    with_rule (with_rule (with_rule (with_rule (with_rule (new_app (codes "run")) owner_rule) list_rule) csv_rule) jsonl_rule) init_rule
+    let sources = with_rule (with_rule (with_rule (new_app (codes "run")) owner_rule) list_rule) csv_rule in
+    with_rule (with_rule (with_rule sources jsonl_rule) sqlite_rule) init_rule
 
 -- fedq: a command has to be given, and no word at all asks for help
 abbrev pub fedq_command : App
@@ -45,7 +50,7 @@ fedq_command =
     let fedq = new_app (codes "fedq") in
     record fedq { top = record fedq.top { subcommand_required = true; arg_required_else_help = true } }
 
--- fedq run [--owner NAME] [--list NAME] [--csv NAME=PATH].. [--jsonl NAME=PATH].. [--init FILE]
+-- fedq run [--owner NAME] [--list NAME] [--csv NAME=PATH].. [--jsonl NAME=PATH].. [--sqlite NAME=PATH].. [--init FILE]
 abbrev pub command_line : App
 command_line = with_subcommand fedq_command run_command.top
 
@@ -73,16 +78,19 @@ owner_named words = unwrap_or (value_given (codes "owner") words) (codes "admin"
 abbrev pub list_named : List Text → Option Text
 list_named words = value_given (codes "list") words
 
--- the values that they give of folders of CSV files, and of JSON lines
+-- the values that they give of folders of CSV files, of JSON lines, and of databases
 abbrev pub csv_given : List Text → List Text
 csv_given words = values_given (codes "csv") words
 
 abbrev pub jsonl_given : List Text → List Text
 jsonl_given words = values_given (codes "jsonl") words
 
--- both, in the order in which they are judged and added
-abbrev pub folders_given : List Text → List Text
-folders_given words = csv_given words ++ jsonl_given words
+abbrev pub sqlite_given : List Text → List Text
+sqlite_given words = values_given (codes "sqlite") words
+
+-- all, in the order in which they are judged and added
+abbrev pub places_given : List Text → List Text
+places_given words = csv_given words ++ jsonl_given words ++ sqlite_given words
 
 -- the path of the init file that they name
 abbrev pub init_named : List Text → Option Text

@@ -7,10 +7,11 @@ use Rattle.med_exec.specs.Slots.{states}
 use Rattle.med_session.specs.Engine.{EachBox, IsAtRest}
 use Rattle.med_session.specs.declared.adding.Sources.{Sources}
 use Rattle.fed_cli.specs.Answered.{ServesProgram}
+use Rattle.fed_cli.specs.Places.{are_honest}
 use Rattle.fed_cli.specs.Setup.{BeginsNot, IsReadOf, list_asked}
 use Rattle.fed_cli.specs.Streams.{Stream, IsUntouched}
 use Rattle.fed_cli.specs.Told.{Came, told_of, run_status, run_line, words_status, words_text}
-use Rattle.fed_cli.specs.Words.{Reads, folders_asked}
+use Rattle.fed_cli.specs.Words.{Reads, places_asked}
 use Rattle.fed_cli.specs.declared.program.ArgsFault.{ArgsFault}
 use Rattle.fed_cli.specs.declared.program.ArgsFault.TheVariants as args
 use Rattle.fed_cli.specs.declared.program.Exit.{Exit}
@@ -22,13 +23,17 @@ use Rattle.fed_cli.specs.declared.words.WordsFault.{WordsFault}
 use Rattle.fed_cli.specs.declared.words.WordsFault.TheVariants.{Help, Usage, NoPath, BadName, NoMemory}
 
 -- A run came to this, and these bytes of its init file were read. Where no sources are handed back it did not begin: nothing was read or
--- written. Else the input was served, and standard output got the replies alone.
-abbrev pub Runs : {W : Type 0} → (W → BoxState) → Asked → Came → Option (List ℕ) → Option (Sources W) → Stream → Stream → Type 0
-Runs meaning asked came script None input output =
-    (fault : RunFault) × (came ≡ Err fault) × BeginsNot asked script fault × IsUntouched input × IsUntouched output
-Runs meaning asked came script (Some sources) input output =
+-- written. Else the input was served. What was answered, and why it did not begin, is said where every source is honest: then standard
+-- output got the replies alone.
+abbrev pub Runs : {W : Type 0} → Bool → (W → BoxState) → Asked → Came → Option (List ℕ) → Option (Sources W) → Stream → Stream → Type 0
+Runs honest meaning asked came script None input output =
+    (fault : RunFault) × (came ≡ Err fault) × (are_honest honest (places_asked asked) ≡ true → BeginsNot honest asked script fault)
+    × IsUntouched input × IsUntouched output
+Runs honest meaning asked came script (Some sources) input output =
     (ended : Result Ended StreamFault) × (came ≡ told_of ended) × IsReadOf asked.init script
-    × ServesProgram asked.owner.now (list_asked asked) (folders_asked asked) script (states meaning sources.slots.items) input output ended
+    × (are_honest honest (places_asked asked) ≡ true
+    → ServesProgram honest asked.owner.now (list_asked asked) (places_asked asked) script (states meaning sources.slots.items) input output
+    ended)
     × EachBox IsAtRest (states meaning sources.slots.items)
 
 -- where all could be told, a stream got this text, and nothing else
@@ -50,14 +55,15 @@ TellsWords (BadName name) is_told output errors = IsUntouched output × Tells is
 TellsWords NoMemory is_told output errors = IsUntouched output × Tells is_told errors (words_text NoMemory)
 
 -- the program exits so on these words, with this done to standard input, standard output and standard error
-pub data Exits {W : Type 0} (meaning : W → BoxState) (words : List (List ℕ)) (exit : Exit W) (input output errors : Stream) : Type 0 where
+pub data Exits {W : Type 0} (honest : Bool) (meaning : W → BoxState) (words : List (List ℕ)) (exit : Exit W)
+    (input output errors : Stream) : Type 0 where
   -- the words ask for a run
   has_run : (asked : Asked) → Reads words (Ok asked) → (came : Came)
-      → Runs meaning asked came (option_map (λ v. v.items) exit.script) exit.sources input output → exit.status ≡ run_status came
-      → TellsRun came exit.is_told errors → Exits meaning words exit input output errors
+      → Runs honest meaning asked came (option_map (λ v. v.items) exit.script) exit.sources input output → exit.status ≡ run_status came
+      → TellsRun came exit.is_told errors → Exits honest meaning words exit input output errors
   -- they do not
   has_refused : (fault : WordsFault) → Reads words (Err fault) → exit.sources ≡ None → exit.script ≡ None → IsUntouched input
-      → TellsWords fault exit.is_told output errors → exit.status ≡ words_status fault → Exits meaning words exit input output errors
+      → TellsWords fault exit.is_told output errors → exit.status ≡ words_status fault → Exits honest meaning words exit input output errors
 
 -- the exit status where the environment gives no words
 abbrev pub args_status : ArgsFault → ℕ
@@ -66,10 +72,10 @@ args_status args.NoMemory = 1
 
 -- The program exits by this status on what its environment gives: so on its words, or, where they cannot be read, with nothing read of
 -- standard input and nothing written to standard output.
-pub data ExitsBy {W : Type 0} (meaning : W → BoxState) (words : Result (Vec (String Global) Global) ArgsFault) (status : ℕ)
+pub data ExitsBy {W : Type 0} (honest : Bool) (meaning : W → BoxState) (words : Result (Vec (String Global) Global) ArgsFault) (status : ℕ)
     (input output errors : Stream) : Type 0 where
   on_words : (given : Vec (String Global) Global) → words ≡ Ok given → (exit : Exit W)
-      → Exits meaning (map string_bytes given.items) exit input output errors
-      → status ≡ exit.status → ExitsBy meaning words status input output errors
+      → Exits honest meaning (map string_bytes given.items) exit input output errors
+      → status ≡ exit.status → ExitsBy honest meaning words status input output errors
   on_none : (fault : ArgsFault) → words ≡ Err fault → IsUntouched input → IsUntouched output → status ≡ args_status fault
-      → ExitsBy meaning words status input output errors
+      → ExitsBy honest meaning words status input output errors

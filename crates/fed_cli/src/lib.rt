@@ -2,8 +2,8 @@
 #![tactic(auto)]
 
 pub mod demo;
-pub mod folders;
 pub mod init;
+pub mod places;
 pub mod program;
 pub mod serving;
 pub mod stream;

@@ -1,26 +1,28 @@
 //! The program: what it serves, and how it ends.
-ghost use Rattle.std.specs.Prelude.{◌≡◌, [], ◌∷◌, ◌++◌, IfOk, IfErr, Err, OnOk, None, option_map, map, string_bytes};
+ghost use Rattle.std.specs.Prelude.{◌≡◌, Bool, List, true, [], ◌∷◌, ◌++◌, IfOk, IfErr, Err, OnOk, None, option_map, map, string_bytes};
 ghost use Rattle.med_session.specs.Requests.{IsUser};
 ghost use Rattle.med_session.specs.World.{World};
+ghost use Rattle.fdw_api.specs.State.{IsIdle};
 ghost use Rattle.med_session.specs.Engine.{IsSound, Agrees};
+ghost use Rattle.med_world.specs.Engine.{Label, TakesAs};
 ghost use Rattle.med_session.specs.Shows.{shown};
 ghost use Rattle.list_wrapper.specs.Lists.{IsNewList};
 ghost use Rattle.session_wire.specs.Worlds.{scene_of};
 ghost use Rattle.fed_cli.specs.Demo.{demo_list};
 ghost use Rattle.fed_cli.specs.Exits.{Exits, ExitsBy, Runs, TellsRun, TellsWords};
-ghost use Rattle.fed_cli.specs.Folders.{folder_of};
-ghost use Rattle.fed_cli.specs.Setup.{HasDemo, HasList, IsFirst, HasNoFirst, AddsNoDemo, AddsFolder, AddsFolders, AreNotAdded, IsNotAdded};
-ghost use Rattle.fed_cli.specs.Setup.{IsNewFolder, IsSetUp, SetUpFails, HasListAsked, labels_before, list_asked, list_label};
+ghost use Rattle.fed_cli.specs.Places.{are_honest, place_of, source_kind};
+ghost use Rattle.fed_cli.specs.Setup.{HasDemo, HasList, IsFirst, HasNoFirst, AddsNoDemo, AddsPlace, AddsPlaces, AreNotAdded, IsNotAdded};
+ghost use Rattle.fed_cli.specs.Setup.{IsNewPlace, IsSetUp, SetUpFails, HasListAsked, labels_before, list_asked, list_label};
 ghost use Rattle.fed_cli.specs.Told.{added_of};
-ghost use Rattle.fed_cli.specs.Words.{folders_asked};
+ghost use Rattle.fed_cli.specs.Words.{places_asked};
 ghost use Rattle.med_session.specs.Adding.{AddCause};
 ghost use Rattle.med_session.specs.declared.adding.AddFault.{AddFault};
 ghost use Rattle.fed_cli.specs.declared.told.RunFault.TheVariants as faults;
 ghost use Rattle.fed_cli.specs.Streams.{stream};
 
 use crate::demo::{demo_tables, setup_script};
-use crate::folders::{AskedFolder, FolderKind};
 use crate::init::{read_init, replay_init};
+use crate::places::{AskedPlace, PlaceKind};
 use crate::serving::serve_engine;
 use crate::told::{RunFault, add_fault, setup_told, status, told};
 use crate::words::{Asked, WordsFault, read_words};
@@ -29,9 +31,9 @@ use fed_replay::replay;
 use list_wrapper::ListWrapper;
 use med_catalog::law::lists_are_told_nothing;
 use med_session::{Engine, SourceKind, Sources};
-use med_value::NoMemory;
-use source_kinds::law::{csv_takes_its_tables, jsonl_takes_its_tables};
-use source_kinds::{Source, of_csv, of_jsonl, of_list};
+use source_kinds::law::{csv_takes_its_tables, jsonl_takes_its_tables, sqlite_takes_its_tables};
+use source_kinds::{OpenFault, Source, of_csv, of_jsonl, of_list, of_sqlite};
+use sqlite_databases::Databases;
 use std::alloc::Global;
 use std::io::{Read, Write};
 use std::rt::Files;
@@ -103,7 +105,7 @@ fn add_list<'a, W: Wrapper>(
 }
 
 // Adds the demo list as the source of this name, if one is asked, to an engine that has no source.
-fn add_asked_list<'a, V: Files + Clone + Drop>(
+fn add_asked_list<'a, V: Files + Clone + Databases + Drop>(
     alloc: Global,
     engine: &mut Engine<Source<V>>,
     list: Option<&'a str>,
@@ -129,61 +131,88 @@ fn add_asked_list<'a, V: Files + Clone + Drop>(
     Ok(())
 }
 
-// Adds a new folder as the source that is asked.
-fn add_folder<'a, W: Wrapper>(
+// Adds what stands at a place as the source that is asked.
+fn add_place<'a, W: Wrapper>(
     engine: &mut Engine<W>,
-    folder: AskedFolder<'a>,
+    place: AskedPlace<'a>,
     source: W,
 ) -> Result<(), RunFault<'a>>
     requires engine { IsSound (shown W.meaning engine.old) }
-    requires new { IsNewFolder folder.kind (W.meaning source) }
+    requires idle { IsIdle (W.meaning source) }
+    requires takes { TakesAs (source_kind place.kind) (W.meaning source) }
     ensures sound { IsSound (shown W.meaning engine.new) }
-    ensures added { OnOk result (AddsFolder (shown W.meaning engine.old) (folder_of folder.entry) (shown W.meaning engine.new)) }
-    ensures fault { IfErr result (IsNotAdded (shown W.meaning engine.old).labels (folder_of folder.entry)) }
+    ensures added { OnOk result ((honest : Bool) → IsNewPlace honest (place_of place.entry) (W.meaning source)
+        → AddsPlace honest (shown W.meaning engine.old) (place_of place.entry) (shown W.meaning engine.new)) }
+    ensures fault { IfErr result (IsNotAdded (shown W.meaning engine.old).labels (place_of place.entry)) }
 {
-    csv_takes_its_tables();
-    jsonl_takes_its_tables();
-    match engine.add_source(folder.name, folder.kind.source_kind(), source) {
+    match engine.add_source(place.name, place.kind.source_kind(), source) {
         Ok(()) => {}
-        Err((_, fault)) => return Err(add_fault(folder.name, fault)),
+        Err((_, fault)) => return Err(add_fault(place.name, fault)),
     }
     Ok(())
 }
 
-// The source that a folder is.
-fn source_of<V: AllocGlobal + Files + Clone + Drop>(
+// The source that stands at a place.
+fn source_of<'a, V: AllocGlobal + Files + Clone + Databases + Drop>(
     rt: &V,
-    folder: AskedFolder<'_>,
-) -> Result<Source<V>, NoMemory>
-    ensures new { IfOk result (λ s. IsNewFolder folder.entry.kind (⟦<Source<V> as Wrapper>⟧.meaning s)) }
+    place: AskedPlace<'a>,
+) -> Result<Source<V>, RunFault<'a>>
+    ensures new { IfOk result (λ s. IsNewPlace V.Store.SourceStore.honest (place_of place.entry) (⟦<Source<V> as Wrapper>⟧.meaning s)) }
+    ensures idle { IfOk result (λ s. IsIdle (⟦<Source<V> as Wrapper>⟧.meaning s)) }
+    ensures fault { (labels : List Label) → IfErr result (IsNotAdded labels (place_of place.entry)) }
 {
-    match folder.kind {
-        FolderKind::Csv => of_csv(rt.alloc(), rt, folder.path),
-        FolderKind::JsonLines => of_jsonl(rt.alloc(), rt, folder.path),
+    match place.kind {
+        PlaceKind::Csv => Ok(of_csv(rt.alloc(), rt, place.path)?),
+        PlaceKind::JsonLines => Ok(of_jsonl(rt.alloc(), rt, place.path)?),
+        PlaceKind::Sqlite => match of_sqlite(rt.alloc(), rt, place.path) {
+            Ok(source) => Ok(source),
+            Err(OpenFault::NoMemory) => Err(RunFault::NoMemory),
+            Err(OpenFault::CannotOpen) => Err(RunFault::CannotOpen(place.name)),
+        },
     }
 }
 
-// Adds these folders as sources, in order.
-fn add_folders<'a, V: AllocGlobal + Files + Clone + Drop>(
+// Adds what stands at this place as a source.
+fn add_one<'a, V: AllocGlobal + Files + Clone + Databases + Drop>(
     rt: &V,
     engine: &mut Engine<Source<V>>,
-    folders: &[AskedFolder<'a>],
+    place: AskedPlace<'a>,
 ) -> Result<(), RunFault<'a>>
     requires { IsSound (shown ⟦<Source<V> as Wrapper>⟧.meaning engine.old) }
     ensures sound { IsSound (shown ⟦<Source<V> as Wrapper>⟧.meaning engine.new) }
-    ensures added { OnOk result (AddsFolders (shown ⟦<Source<V> as Wrapper>⟧.meaning engine.old)
-        (map folder_of folders.now) (shown ⟦<Source<V> as Wrapper>⟧.meaning engine.new)) }
-    ensures fault { IfErr result (AreNotAdded (shown ⟦<Source<V> as Wrapper>⟧.meaning engine.old).labels (map folder_of folders.now)) }
+    ensures added { OnOk result (AddsPlace V.Store.SourceStore.honest (shown ⟦<Source<V> as Wrapper>⟧.meaning engine.old)
+        (place_of place.entry) (shown ⟦<Source<V> as Wrapper>⟧.meaning engine.new)) }
+    ensures fault { IfErr result (IsNotAdded (shown ⟦<Source<V> as Wrapper>⟧.meaning engine.old).labels (place_of place.entry)) }
 {
-    let Some((folder, rest)) = folders.split_first() else {
+    csv_takes_its_tables();
+    jsonl_takes_its_tables();
+    sqlite_takes_its_tables();
+    match source_of(rt, place) {
+        Ok(source) => add_place(engine, place, source),
+        Err(fault) => Err(fault),
+    }
+}
+
+// Adds what stands at these places as sources, in order.
+fn add_places<'a, V: AllocGlobal + Files + Clone + Databases + Drop>(
+    rt: &V,
+    engine: &mut Engine<Source<V>>,
+    places: &[AskedPlace<'a>],
+) -> Result<(), RunFault<'a>>
+    requires { IsSound (shown ⟦<Source<V> as Wrapper>⟧.meaning engine.old) }
+    ensures sound { IsSound (shown ⟦<Source<V> as Wrapper>⟧.meaning engine.new) }
+    ensures added { OnOk result (AddsPlaces V.Store.SourceStore.honest (shown ⟦<Source<V> as Wrapper>⟧.meaning engine.old)
+        (map place_of places.now) (shown ⟦<Source<V> as Wrapper>⟧.meaning engine.new)) }
+    ensures fault { IfErr result (AreNotAdded (shown ⟦<Source<V> as Wrapper>⟧.meaning engine.old).labels (map place_of places.now)) }
+{
+    let Some((place, rest)) = places.split_first() else {
         return Ok(());
     };
-    let source = source_of(rt, *folder)?;
-    match add_folder(engine, *folder, source) {
+    match add_one(rt, engine, *place) {
         Ok(()) => {}
         Err(fault) => return Err(fault),
     }
-    add_folders(rt, engine, rest)
+    add_places(rt, engine, rest)
 }
 
 // Replays the script that sets up the list of this name, if one is asked, as this owner.
@@ -209,16 +238,18 @@ fn set_up<'a, W: Wrapper>(
 }
 
 // The engine that the program begins with, which has the sources that are asked, and in which the list is set up.
-fn first_engine<'a, V: AllocGlobal + Files + Clone + Drop>(
+fn first_engine<'a, V: AllocGlobal + Files + Clone + Databases + Drop>(
     rt: &V,
     asked: &Asked<'a>,
 ) -> Result<Engine<Source<V>>, RunFault<'a>>
     requires { IsUser asked.now.owner.now }
     ensures sound { IfOk result (λ engine. IsSound (shown ⟦<Source<V> as Wrapper>⟧.meaning engine)) }
-    ensures first { IfOk result (λ engine. (w : World) × Agrees (shown ⟦<Source<V> as Wrapper>⟧.meaning engine) w
-        × IsFirst asked.now.owner.now (list_asked asked.now) (folders_asked asked.now)
+    ensures first { are_honest V.Store.SourceStore.honest (places_asked asked.now) ≡ true
+        → IfOk result (λ engine. (w : World) × Agrees (shown ⟦<Source<V> as Wrapper>⟧.meaning engine) w
+        × IsFirst V.Store.SourceStore.honest asked.now.owner.now (list_asked asked.now) (places_asked asked.now)
         (scene_of ⟦<Source<V> as Wrapper>⟧.meaning engine w)) }
-    ensures refused { IfErr result (HasNoFirst asked.now) }
+    ensures refused { are_honest V.Store.SourceStore.honest (places_asked asked.now) ≡ true
+        → IfErr result (HasNoFirst V.Store.SourceStore.honest asked.now) }
 {
     let Ok(mut engine) = Engine::<Source<V>>::new(rt.alloc(), asked.owner) else {
         return Err(RunFault::NoMemory);
@@ -227,7 +258,7 @@ fn first_engine<'a, V: AllocGlobal + Files + Clone + Drop>(
         Ok(()) => {}
         Err(fault) => return Err(fault),
     }
-    match add_folders(rt, &mut engine, &asked.folders) {
+    match add_places(rt, &mut engine, &asked.places) {
         Ok(()) => {}
         Err(fault) => return Err(fault),
     }
@@ -263,19 +294,20 @@ impl<'a, W: Drop> Ran<'a, W> {
     }
 }
 
-/// Answers the request lines of an input: the engine is made with the demo list and the folders that are asked, the list is set up, then
-/// its owner replays the init file, if one is asked, and then the input is served.
+/// Answers the request lines of an input: the engine is made with the demo list and the folders and databases that are asked, the list is
+/// set up, then its owner replays the init file, if one is asked, and then the input is served.
 ///
-/// It ends before anything of the input is read and anything is written where memory was refused, a folder was not added, a line of the
+/// It ends before anything of the input is read and anything is written where memory was refused, a source was not added, a line of the
 /// list's set-up was refused, the init file could not be read, or its replay was refused.
-pub fn run_asked<'a, V: AllocGlobal + Files + Clone + Drop, R: Read, W: Write>(
+pub fn run_asked<'a, V: AllocGlobal + Files + Clone + Databases + Drop, R: Read, W: Write>(
     rt: &V,
     asked: Asked<'a>,
     reader: &mut R,
     writer: &mut W,
 ) -> Ran<'a, Source<V>>
     requires { IsUser asked.owner.now }
-    ensures { Runs ⟦<Source<V> as Wrapper>⟧.meaning asked.entry result.came (option_map (λ v. v.items) result.script) result.sources
+    ensures { Runs V.Store.SourceStore.honest ⟦<Source<V> as Wrapper>⟧.meaning asked.entry result.came
+        (option_map (λ v. v.items) result.script) result.sources
         (stream (R.remaining reader.old) (R.remaining reader.new)) (stream (W.contents writer.old) (W.contents writer.new)) }
 {
     let mut engine = match first_engine(rt, &asked) {
@@ -324,14 +356,14 @@ fn tell_words<O: Write, E: Write>(fault: &WordsFault<'_>, output: &mut O, errors
 
 /// Does what the program's words ask: it answers an input on an output, or prints help there, and tells on a second output how it
 /// failed.
-pub fn run_words<V: AllocGlobal + Files + Clone + Drop, I: Read, O: Write, E: Write>(
+pub fn run_words<V: AllocGlobal + Files + Clone + Databases + Drop, I: Read, O: Write, E: Write>(
     rt: &V,
     words: &[String],
     input: &mut I,
     output: &mut O,
     errors: &mut E,
 ) -> Exit<Source<V>>
-    ensures { Exits ⟦<Source<V> as Wrapper>⟧.meaning (map string_bytes words.now) result
+    ensures { Exits V.Store.SourceStore.honest ⟦<Source<V> as Wrapper>⟧.meaning (map string_bytes words.now) result
         (stream (I.remaining input.old) (I.remaining input.new)) (stream (O.contents output.old) (O.contents output.new))
         (stream (E.contents errors.old) (E.contents errors.new)) }
 {
@@ -370,14 +402,14 @@ pub enum ArgsFault {
 
 /// Runs the program with these words, and gives its exit status: 0 where the input ended or help was asked, 2 where the words are
 /// refused, and 1 else, with one line on standard error.
-pub fn run<V: AllocGlobal + Files + Clone + Drop, I: Read, O: Write, E: Write>(
+pub fn run<V: AllocGlobal + Files + Clone + Databases + Drop, I: Read, O: Write, E: Write>(
     rt: &V,
     words: Result<Vec<String>, ArgsFault>,
     input: &mut I,
     output: &mut O,
     errors: &mut E,
 ) -> u8
-    ensures { ExitsBy ⟦<Source<V> as Wrapper>⟧.meaning words result
+    ensures { ExitsBy V.Store.SourceStore.honest ⟦<Source<V> as Wrapper>⟧.meaning words result
         (stream (I.remaining input.old) (I.remaining input.new)) (stream (O.contents output.old) (O.contents output.new))
         (stream (E.contents errors.old) (E.contents errors.new)) }
 {

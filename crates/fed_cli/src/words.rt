@@ -5,14 +5,14 @@ ghost use Rattle.clap.specs.Lexer.{strip_byte};
 ghost use Rattle.clap.specs.Words.{Text, app_of, kind_of, rule_of, subcommand_rows_of};
 ghost use Rattle.clap.specs.declared.error.ErrorKind.TheVariants.{DisplayHelp, DisplayHelpOnMissingArgumentOrSubcommand};
 ghost use Rattle.fed_cli.specs.CommandLine.{command_line, text_rule, texts_rule, faults, value_in, values_in};
-ghost use Rattle.fed_cli.specs.CommandLine.{owner_named, list_named, csv_given, jsonl_given, init_named};
-ghost use Rattle.fed_cli.specs.Folders.{AreGood, AreRefused, folder_in, folder_of};
+ghost use Rattle.fed_cli.specs.CommandLine.{owner_named, list_named, csv_given, jsonl_given, sqlite_given, init_named};
+ghost use Rattle.fed_cli.specs.Places.{AreGood, AreRefused, place_in, place_of};
 ghost use Rattle.fed_cli.specs.Names.{IsSourceName};
 ghost use Rattle.fed_cli.specs.Told.{words_status};
-ghost use Rattle.fed_cli.specs.Words.{IsRefusal, Reads, told_folder};
-ghost use Rattle.fed_cli.specs.declared.folders.FolderKind.TheVariants.{Csv, JsonLines};
+ghost use Rattle.fed_cli.specs.Words.{IsRefusal, Reads, told_place};
+ghost use Rattle.fed_cli.specs.declared.places.PlaceKind.TheVariants.{Csv, JsonLines, Sqlite};
 
-use crate::folders::{AskedFolder, FolderFault, FolderKind, read_folders};
+use crate::places::{AskedPlace, PlaceFault, PlaceKind, read_places};
 use clap::error::ErrorKind;
 use clap::{Arg, ArgAction, ArgMatches, Command};
 use med_session::users::is_user;
@@ -23,6 +23,20 @@ use std::convert::AsStr;
 /// The owner where the words name none.
 const OWNER: &str = "admin";
 
+// What each option of `run` does, as its help tells.
+const OWNER_HELP: &str = "The user who may create and drop objects, by default admin";
+
+const LIST_HELP: &str = "Adds the demo list as the source NAME, with the tables parts and orders";
+
+const CSV_HELP: &str = "Adds the CSV files of the folder PATH as the source NAME";
+
+const JSONL_HELP: &str = "Adds the JSON lines files of the folder PATH as the source NAME";
+
+const SQLITE_HELP: &str =
+    "Adds the SQLite database PATH as the source NAME; the path :memory: is a new one in memory";
+
+const INIT_HELP: &str = "Runs the lines of FILE as the owner's statements before";
+
 /// What the words ask: to answer standard input.
 #[derive(Debug, Drop)]
 pub struct Asked<'a> {
@@ -30,8 +44,8 @@ pub struct Asked<'a> {
     pub owner: &'a str,
     /// The name of the source that the demo list is to be, if one is given.
     pub list: Option<&'a str>,
-    /// The folders that are to be sources, in the order in which they are added.
-    pub folders: Vec<AskedFolder<'a>>,
+    /// The folders and databases that are to be sources, in the order in which they are added.
+    pub places: Vec<AskedPlace<'a>>,
     /// The path of the file whose lines the owner runs before standard input is answered, if one is given.
     pub init: Option<&'a str>,
 }
@@ -99,42 +113,19 @@ fn texts_option<'a>(alloc: Global, name: &'a str, value: &'a str, help: &'a str)
 fn command<'a>(alloc: Global) -> Result<Command<'a>, AllocError>
     ensures { IfOk result (λ c. app_of c ≡ command_line) }
 {
-    let owner = text_option(
-        alloc,
-        "owner",
-        "NAME",
-        "The user who may create and drop objects, by default admin",
-    );
-    let list = text_option(
-        alloc,
-        "list",
-        "NAME",
-        "Adds the demo list as the source NAME, with the tables parts and orders",
-    );
-    let csv = texts_option(
-        alloc,
-        "csv",
-        "NAME=PATH",
-        "Adds the CSV files of the folder PATH as the source NAME",
-    );
-    let jsonl = texts_option(
-        alloc,
-        "jsonl",
-        "NAME=PATH",
-        "Adds the JSON lines files of the folder PATH as the source NAME",
-    );
-    let init = text_option(
-        alloc,
-        "init",
-        "FILE",
-        "Runs the lines of FILE as the owner's statements before",
-    );
+    let owner = text_option(alloc, "owner", "NAME", OWNER_HELP);
+    let list = text_option(alloc, "list", "NAME", LIST_HELP);
+    let csv = texts_option(alloc, "csv", "NAME=PATH", CSV_HELP);
+    let jsonl = texts_option(alloc, "jsonl", "NAME=PATH", JSONL_HELP);
+    let sqlite = texts_option(alloc, "sqlite", "NAME=PATH", SQLITE_HELP);
+    let init = text_option(alloc, "init", "FILE", INIT_HELP);
     let run = Command::new(alloc, "run")
         .about("Answers the request lines of standard input on standard output")
         .arg(owner)?
         .arg(list)?
         .arg(csv)?
         .arg(jsonl)?
+        .arg(sqlite)?
         .arg(init)?;
     Command::new(alloc, "fedq")
         .about("One SQL front over tables that live elsewhere")
@@ -179,56 +170,62 @@ fn values_of<'a, 'm>(matches: &'m ArgMatches<'a>, option: &str) -> Option<&'m [&
     }
 }
 
-// Adds the folders of this kind that the words named by an option to others; else the first value that is not taken is answered, and why.
-fn push_folders<'a>(
-    folders: &mut Vec<AskedFolder<'a>>,
-    kind: FolderKind,
+// Adds the places of this kind that the words named by an option to others; else the first value that is not taken is answered, and why.
+fn push_places<'a>(
+    places: &mut Vec<AskedPlace<'a>>,
+    kind: PlaceKind,
     matches: &ArgMatches<'a>,
     option: &str,
-) -> Result<(), FolderFault<'a>>
-    ensures read { OnOk result (map folder_of folders.new.items
-        ≡ map folder_of folders.old.items ++ map (folder_in kind) (values_in option.now (subcommand_rows_of matches.now))) }
+) -> Result<(), PlaceFault<'a>>
+    ensures read { OnOk result (map place_of places.new.items
+        ≡ map place_of places.old.items ++ map (place_in kind) (values_in option.now (subcommand_rows_of matches.now))) }
     ensures good { OnOk result (AreGood (values_in option.now (subcommand_rows_of matches.now))) }
     ensures bad { IfErr result (AreRefused (values_in option.now (subcommand_rows_of matches.now))) }
 {
     match values_of(matches, option) {
-        Some(values) => read_folders(folders, kind, values),
+        Some(values) => read_places(places, kind, values),
         None => Ok(()),
     }
 }
 
-// The folders that the words named, those of CSV files first; else the first value that is not taken, and why.
-fn folders_of<'a>(
+// The folders and databases that the words named, those of CSV files first, and databases last; else the first value that is not taken,
+// and why.
+fn places_of<'a>(
     alloc: Global,
     matches: &ArgMatches<'a>,
-) -> Result<Vec<AskedFolder<'a>>, FolderFault<'a>>
-    ensures read { IfOk result (λ v. map folder_of v.items
-        ≡ map (folder_in Csv) (values_in (codes "csv") (subcommand_rows_of matches.now))
-        ++ map (folder_in JsonLines) (values_in (codes "jsonl") (subcommand_rows_of matches.now))) }
+) -> Result<Vec<AskedPlace<'a>>, PlaceFault<'a>>
+    ensures read { IfOk result (λ v. map place_of v.items
+        ≡ map (place_in Csv) (values_in (codes "csv") (subcommand_rows_of matches.now))
+        ++ map (place_in JsonLines) (values_in (codes "jsonl") (subcommand_rows_of matches.now))
+        ++ map (place_in Sqlite) (values_in (codes "sqlite") (subcommand_rows_of matches.now))) }
     ensures good { OnOk result (AreGood (values_in (codes "csv") (subcommand_rows_of matches.now)
-        ++ values_in (codes "jsonl") (subcommand_rows_of matches.now))) }
+        ++ values_in (codes "jsonl") (subcommand_rows_of matches.now) ++ values_in (codes "sqlite") (subcommand_rows_of matches.now))) }
     ensures bad { IfErr result (AreRefused (values_in (codes "csv") (subcommand_rows_of matches.now)
-        ++ values_in (codes "jsonl") (subcommand_rows_of matches.now))) }
+        ++ values_in (codes "jsonl") (subcommand_rows_of matches.now) ++ values_in (codes "sqlite") (subcommand_rows_of matches.now))) }
 {
-    let mut folders = Vec::new(alloc);
-    match push_folders(&mut folders, FolderKind::Csv, matches, "csv") {
+    let mut places = Vec::new(alloc);
+    match push_places(&mut places, PlaceKind::Csv, matches, "csv") {
         Ok(()) => {}
         Err(fault) => return Err(fault),
     }
-    match push_folders(&mut folders, FolderKind::JsonLines, matches, "jsonl") {
-        Ok(()) => Ok(folders),
+    match push_places(&mut places, PlaceKind::JsonLines, matches, "jsonl") {
+        Ok(()) => {}
+        Err(fault) => return Err(fault),
+    }
+    match push_places(&mut places, PlaceKind::Sqlite, matches, "sqlite") {
+        Ok(()) => Ok(places),
         Err(fault) => Err(fault),
     }
 }
 
 // What is told of a value that is not taken.
-fn folder_refusal(fault: FolderFault<'_>) -> WordsFault<'_>
-    ensures { result ≡ told_folder fault.entry }
+fn place_refusal(fault: PlaceFault<'_>) -> WordsFault<'_>
+    ensures { result ≡ told_place fault.entry }
 {
     match fault {
-        FolderFault::NoPath(value) => WordsFault::NoPath(value),
-        FolderFault::BadName(value) => WordsFault::BadName(value),
-        FolderFault::NoMemory => WordsFault::NoMemory,
+        PlaceFault::NoPath(value) => WordsFault::NoPath(value),
+        PlaceFault::BadName(value) => WordsFault::BadName(value),
+        PlaceFault::NoMemory => WordsFault::NoMemory,
     }
 }
 
@@ -264,25 +261,26 @@ pub fn read_words<'a, S: AsStr>(alloc: Global, words: &'a [S]) -> Result<Asked<'
         Ok(list) => list,
         Err(name) => return Err(WordsFault::BadName(name)),
     };
-    let folders = match folders_of(alloc, &matches) {
-        Ok(folders) => folders,
-        Err(fault) => return Err(folder_refusal(fault)),
+    let places = match places_of(alloc, &matches) {
+        Ok(places) => places,
+        Err(fault) => return Err(place_refusal(fault)),
     };
     let init = value_of(&matches, "init");
     Ok(Asked {
         owner,
         list,
-        folders,
+        places,
         init,
     })
 }
 
 /// What some words mean: `run` alone, `run --list NAME`, `run --owner NAME`, `run --csv NAME=PATH`,
-/// `run --jsonl NAME=PATH`, `run --init FILE`, `--help`, and none.
+/// `run --jsonl NAME=PATH`, `run --sqlite NAME=PATH`, `run --init FILE`, `--help`, and none.
 pub fn words_mean()
     ensures alone { (program : Text) → (faults (program ∷ codes "run" ∷ []) ≡ []) × (list_named (program ∷ codes "run" ∷ []) ≡ None)
         × (owner_named (program ∷ codes "run" ∷ []) ≡ codes "admin") × (init_named (program ∷ codes "run" ∷ []) ≡ None)
-        × (csv_given (program ∷ codes "run" ∷ []) ≡ []) × (jsonl_given (program ∷ codes "run" ∷ []) ≡ []) }
+        × (csv_given (program ∷ codes "run" ∷ []) ≡ []) × (jsonl_given (program ∷ codes "run" ∷ []) ≡ [])
+        × (sqlite_given (program ∷ codes "run" ∷ []) ≡ []) }
     ensures list { (program name : Text) → strip_byte 45 name ≡ None
         → (faults (program ∷ codes "run" ∷ codes "--list" ∷ name ∷ []) ≡ [])
         × (list_named (program ∷ codes "run" ∷ codes "--list" ∷ name ∷ []) ≡ Some name) }
@@ -298,6 +296,9 @@ pub fn words_mean()
     ensures jsonl { (program value : Text) → strip_byte 45 value ≡ None
         → (faults (program ∷ codes "run" ∷ codes "--jsonl" ∷ value ∷ []) ≡ [])
         × (jsonl_given (program ∷ codes "run" ∷ codes "--jsonl" ∷ value ∷ []) ≡ value ∷ []) }
+    ensures sqlite { (program value : Text) → strip_byte 45 value ≡ None
+        → (faults (program ∷ codes "run" ∷ codes "--sqlite" ∷ value ∷ []) ≡ [])
+        × (sqlite_given (program ∷ codes "run" ∷ codes "--sqlite" ∷ value ∷ []) ≡ value ∷ []) }
     ensures help { (program : Text) → faults (program ∷ codes "--help" ∷ []) ≡ DisplayHelp ∷ [] }
     ensures none { (program : Text) → faults (program ∷ []) ≡ DisplayHelpOnMissingArgumentOrSubcommand ∷ [] }
 {}

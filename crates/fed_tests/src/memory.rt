@@ -147,7 +147,7 @@ fn refused_allocation_leaves_whole_replies(rt: HostRuntime) -> Result<(), Fail> 
     let asked = Asked {
         owner: "admin",
         list: Some("demo"),
-        folders: Vec::new(rt.alloc()),
+        places: Vec::new(rt.alloc()),
         init: None,
     };
     let ran = run_asked(&rt, asked, &mut input, &mut out);

@@ -5,6 +5,7 @@ use fdw_api::interface::{Counts, Wrapper};
 use fed_cli::program::{Exit, run_words};
 use med_exec::ledger_at;
 use source_kinds::Source;
+use sqlite_databases::Databases;
 use std::alloc::Global;
 use std::io;
 use std::io::{ErrorKind, Write};
@@ -32,7 +33,7 @@ fn counts_of<W: Wrapper>(exit: &Exit<W>) -> Option<Counts> {
 }
 
 // Fails where the stored stream under these words ends, answers or tells otherwise; of an output its beginning is given.
-fn exits<V: AllocGlobal + Files + Clone + Drop>(
+fn exits<V: AllocGlobal + Files + Clone + Databases + Drop>(
     rt: &V,
     line: &str,
     status: u8,

@@ -1,38 +1,46 @@
 -- What a text's tokens say of its command and of its causes.
-use Rattle.std.proofs.Common.{◌≡◌, ℕ, ◌≤◌, ◌<◌, ◌⊎◌, inl, inr, arith, true, false, List, ◌∷◌, ◌++◌, codes, refl, sym, ◌∙◌, ap, subst}
-use Rattle.std.specs.Prelude.{Any, Result, Ok, Err, IfOk, OnOk, IfErr, String}
+use Rattle.std.proofs.Common.{◌≡◌, ℕ, ◌≤◌, ◌<◌, ◌⊎◌, inl, inr, arith, true, false, List, [], ◌∷◌, ◌++◌, codes, refl, sym, ◌∙◌, ap, subst}
+use Rattle.std.specs.Prelude.{Any, Result, Ok, Err, IfOk, OnOk, IfErr, Option, String, count_by}
 use Rattle.std.specs.String.{string_bytes}
 use Rattle.med_value.specs.declared.cause.Cause.{Cause}
 use Rattle.med_value.specs.declared.cause.Cause.TheVariants as causes
 use Rattle.med_lexer.specs.declared.Token.{Token}
 use Rattle.med_lexer.specs.Lexemes.{Shape, word, Lexeme, Lexes}
 use Rattle.med_lexer.specs.View.{views}
-use Rattle.expr_grammar.specs.Shapes.{shapes, IsLongName}
+use Rattle.expr_grammar.specs.Shapes.{shapes, IsLongName, deepens}
 use Rattle.expr_grammar.specs.View.{shapes_of, LexesOnly, cause_of}
 use Rattle.expr_grammar.specs.declared.fault.ParseFault.{ParseFault}
 use Rattle.expr_grammar.specs.declared.fault.ParseFault.TheVariants as parse_faults
 use Rattle.med_syntax.specs.declared.statement.Statement.{Statement}
 use Rattle.expr_grammar.specs.declared.refusal.ReadFault.{ReadFault}
 use Rattle.expr_grammar.specs.declared.refusal.ReadFault.TheVariants as faults
+use Rattle.expr_grammar.specs.declared.refusal.Refusal.{Refusal}
 use Rattle.expr_grammar.specs.declared.refusal.Refusal.TheVariants.{Syntax, TooHigh}
 use Rattle.expr_grammar.specs.ExprTerminals.{AreReadable}
 use Rattle.query_grammar.specs.declared.query_symbols.Place.TheVariants.{Before}
 use Rattle.query_grammar.specs.QueryTerminals.{words_at}
-use Rattle.expr_grammar.specs.ExprWeight.{weight}
 use Rattle.expr_grammar.specs.ExprAnswers.{Gives, cause_of_read}
 use Rattle.med_syntax.specs.QueryTree.{StatementTree, select, statement_height}
-use Rattle.query_grammar.specs.QueryGrammar.{Spells, IsLine, IsStatement, HasStatement}
+use Rattle.query_grammar.specs.QueryGrammar.{Spells, IsStatement, HasStatement}
 use Rattle.query_grammar.specs.QueryCauses.{statement_in_range}
 use Rattle.query_print.specs.QueryPrinting.{printed_statement}
 use Rattle.ddl_parser.specs.DdlPrinting.{printed_ddl}
 use Rattle.med_parser.specs.CommandPrinting.{printed_command}
 use Rattle.query_grammar.specs.QueryTerminals.{IsWord, AreWords, is_free_keyword}
-use Rattle.med_syntax.specs.Terminal.{Terminal, word_terminal}
+use Rattle.med_syntax.specs.Terminal.{Terminal, word_terminal, terminal_of, IsTerminal, AreTerminals}
 use Rattle.med_syntax.specs.Terminal as t
 use Rattle.med_syntax.specs.Words.{is_reserved}
 use Rattle.ddl_syntax.specs.DdlTree.{DdlTree}
 use Rattle.ddl_syntax.specs.DdlView.{ddl_tree}
-use Rattle.med_parser.specs.CommandTree.{CommandTree, on_data, on_objects, command_height, command_tree}
+use Rattle.med_parser.specs.CommandTree.{CommandTree, on_data, on_rows, on_objects, command_height, command_tree}
+use Rattle.med_syntax.specs.Tree.{Name}
+use Rattle.write_syntax.specs.WriteTree.{GivenTree, values, rows_of, WriteTree, insert, update, delete}
+use Rattle.write_syntax.specs.WriteView.{write_tree}
+use Rattle.write_syntax.specs.declared.write.WriteStatement.{WriteStatement}
+use Rattle.write_parser.specs.WriteGrammar.{SpellsInsert, SpellsUpdate, SpellsDelete, IsLineOf, IsInsert, IsWrite, HasWrite}
+use Rattle.write_parser.specs.WriteCauses.{write_in_range, Refuses}
+use Rattle.write_parser.proofs.WriteRead.{one_write}
+use Rattle.write_print.specs.WritePrinting.{printed_write}
 use Rattle.med_parser.specs.declared.command.Command.{Command}
 use Rattle.med_parser.specs.declared.command.Command.TheVariants as commands
 use Rattle.ddl_syntax.specs.declared.ddl.Ddl.{Ddl}
@@ -47,11 +55,11 @@ use Rattle.expr_grammar.proofs.TokenNumbers.{small_at}
 use Rattle.query_reader.proofs.QueryComplete.{one_line}
 use Rattle.ddl_parser.proofs.DdlComplete as ddl
 use Rattle.query_grammar.proofs.QueryTerminals.{to_terminals, of_terminals}
-use Rattle.med_parser.proofs.QueryWeighing.{words_weigh, bounded_sound, bounded_out, bounded_told}
+use Rattle.write_parser.proofs.QueryWeighing.{words_weigh, bounded_sound, bounded_out, bounded_told}
 use Rattle.std.specs.Str.{bytes_eq}
 use Rattle.std.proofs.lemmas.Slice.Eq.{bytes_eq-Decides}
 
--- ---- no tokens are a statement on data and one on objects
+-- ---- no tokens are statements of two kinds
 
 -- what begins with CREATE or DROP does not begin with SELECT
 not_select : (w : List ℕ) (ss : List Shape) (u : Terminal) → word_terminal w ≡ t.Reserved w → is_free_keyword w ≡ false → bytes_eq w (codes "unknown") ≡ false → bytes_eq w (codes "select") ≡ false → IsWord (word w) u → u ≡ t.Reserved (codes "select") → ⊥
@@ -84,30 +92,146 @@ apart ss s d x y =
       | inr h ↦ not_begun (codes "drop") ss h.0 x.0 (b.0 ++ x.2.1) drop_terminal refl refl refl h.1 x.1 line
     ]
 
+-- the first token is this reserved word
+record FirstWord (ss : List Shape) (w : List ℕ) : Type 0 where
+  first : Shape
+  others : List Shape
+  is : ss ≡ first ∷ others
+  reserved : terminal_of first ≡ t.Reserved w
+
+reserved_token : (s : Shape) (w : List ℕ) → IsTerminal s (t.Reserved w) → terminal_of s ≡ t.Reserved w
+reserved_token s w (inl h) = sym h
+reserved_token s w (inr h) = absurd (let no : t.Reserved w ≡ t.Unknown = h.1 in cc)
+
+first_token : (ss : List Shape) (rest : List Terminal) (w : List ℕ) → AreTerminals ss (t.Reserved w ∷ rest) → FirstWord ss w
+first_token [] rest w a = absurd a
+first_token (s ∷ ss) rest w a = record { first = s; others = ss; is = refl; reserved = reserved_token s w a.0 }
+
+first_word : (ss : List Shape) (ts rest : List Terminal) (w : List ℕ) → AreTerminals ss ts → ts ≡ t.Reserved w ∷ rest → FirstWord ss w
+first_word ss ts rest w a p = first_token ss rest w (subst (AreTerminals ss) p a)
+
+line_word : (Spelling : List Terminal → Type 0) (w : List ℕ) (ss : List Shape) (x : IsLineOf Spelling ss) (rest : List Terminal) → x.0 ≡ t.Reserved w ∷ rest → FirstWord ss w
+line_word Spelling w ss x rest p = first_word ss (x.0 ++ x.1) (rest ++ x.1) w x.2 (ap (λ us. us ++ x.1) p)
+
+insert_word : (n : Name) (c : Option (List Name)) (g : GivenTree) (ss : List Shape) → IsInsert n c g ss → FirstWord ss (codes "insert")
+insert_word n c (values rows) ss x =
+    let s = x.3 in
+    line_word (SpellsInsert n c rows) (codes "insert") ss x ((t.Reserved (codes "into") ∷ t.Name n ∷ (s.3).0) ++ s.1) (s.2 ∙ ap (λ us. us ++ s.1) (s.3).1)
+insert_word n c (rows_of q) ss x =
+    let target = x.3 in
+    let f : FirstWord x.0 (codes "insert") = first_word x.0 target.0 (t.Reserved (codes "into") ∷ t.Name n ∷ (target.2).0) (codes "insert") target.1 (target.2).1 in
+    record { first = f.first; others = f.others ++ x.1; is = x.2 ∙ ap (λ us. us ++ x.1) f.is; reserved = f.reserved }
+
+-- how a statement that writes rows begins
+abbrev BeginsRows : List Shape → Type 0
+BeginsRows ss = FirstWord ss (codes "insert") ⊎ FirstWord ss (codes "update") ⊎ FirstWord ss (codes "delete")
+
+begins_rows : (ss : List Shape) (w : WriteTree) → IsWrite ss w → BeginsRows ss
+begins_rows ss (insert i) x = inl (insert_word i.table i.columns i.given ss x)
+begins_rows ss (update u) x =
+    let s = x.3 in inr (inl (line_word (SpellsUpdate u) (codes "update") ss x (s.entry ++ t.Reserved (codes "set") ∷ (s.sets ++ s.condition)) s.is))
+begins_rows ss (delete d) x =
+    let s = x.3 in inr (inr (line_word (SpellsDelete d) (codes "delete") ss x (t.Reserved (codes "from") ∷ (s.entry ++ s.condition)) s.is))
+
+not_reserved : (v w : List ℕ) (s : Shape) → word_terminal v ≡ t.Reserved v → bytes_eq v w ≡ false → word v ≡ s → terminal_of s ≡ t.Reserved w → ⊥
+not_reserved v w s r d p q = absurd (let same : t.Reserved v ≡ t.Reserved w = sym r ∙ ap terminal_of p ∙ q in let equal : v ≡ w = cc in let yes : bytes_eq v w ≡ true = (bytes_eq-Decides v w).1 equal in cc)
+
+first_is : (s r : Shape) (ss rs : List Shape) → s ∷ ss ≡ r ∷ rs → s ≡ r
+first_is s r ss rs h = cc
+
+not_word : (ss us : List Shape) (v w : List ℕ) → word_terminal v ≡ t.Reserved v → bytes_eq v w ≡ false → ss ≡ word v ∷ us → FirstWord ss w → ⊥
+not_word ss us v w r d p f = not_reserved v w f.first r d (first_is (word v) f.first us f.others (sym p ∙ f.is)) f.reserved
+
+not_created : (ss us : List Shape) → ss ≡ word (codes "create") ∷ us → BeginsRows ss → ⊥
+not_created ss us p (inl f) = not_word ss us (codes "create") (codes "insert") create_terminal refl p f
+not_created ss us p (inr (inl f)) = not_word ss us (codes "create") (codes "update") create_terminal refl p f
+not_created ss us p (inr (inr f)) = not_word ss us (codes "create") (codes "delete") create_terminal refl p f
+
+not_dropped : (ss us : List Shape) → ss ≡ word (codes "drop") ∷ us → BeginsRows ss → ⊥
+not_dropped ss us p (inl f) = not_word ss us (codes "drop") (codes "insert") drop_terminal refl p f
+not_dropped ss us p (inr (inl f)) = not_word ss us (codes "drop") (codes "update") drop_terminal refl p f
+not_dropped ss us p (inr (inr f)) = not_word ss us (codes "drop") (codes "delete") drop_terminal refl p f
+
+objects_apart : (ss : List Shape) (w : WriteTree) (d : DdlTree) → IsWrite ss w → IsDdl ss d → ⊥
+objects_apart ss w d x y = elim (begun ss d y) [
+  | inl h ↦ not_created ss h.0 h.1 (begins_rows ss w x)
+  | inr h ↦ not_dropped ss h.0 h.1 (begins_rows ss w x)
+]
+
+not_queried : (s : Shape) (w : List ℕ) → terminal_of s ≡ t.Reserved w → bytes_eq w (codes "select") ≡ false → IsWord s (t.Reserved (codes "select")) → ⊥
+not_queried s w r d (inl (inl h)) = absurd (let same : t.Reserved w ≡ t.Reserved (codes "select") = sym r ∙ sym h in let equal : w ≡ codes "select" = cc in let yes : bytes_eq w (codes "select") ≡ true = (bytes_eq-Decides w (codes "select")).1 equal in cc)
+not_queried s w r d (inl (inr h)) = absurd (let no : t.Reserved (codes "select") ≡ t.Unknown = h.1 in cc)
+not_queried s w r d (inr h) = absurd (let equal : codes "select" ≡ h.0 = (let x : t.Reserved (codes "select") ≡ t.Reserved h.0 = h.3 in cc) in let free : is_free_keyword (codes "select") ≡ true = ap is_free_keyword equal ∙ h.2 in let no : is_free_keyword (codes "select") ≡ false = refl in cc)
+
+not_asked : (ss : List Shape) (rest : List Terminal) (w : List ℕ) → bytes_eq w (codes "select") ≡ false → AreWords ss (t.Reserved (codes "select") ∷ rest) → FirstWord ss w → ⊥
+not_asked ss rest w d a f =
+    let b : AreWords (f.first ∷ f.others) (t.Reserved (codes "select") ∷ rest) = subst (λ us. AreWords us (t.Reserved (codes "select") ∷ rest)) f.is a in
+    not_queried f.first w f.reserved d b.0
+
+not_select_rows : (ss : List Shape) (rest : List Terminal) → AreWords ss (t.Reserved (codes "select") ∷ rest) → BeginsRows ss → ⊥
+not_select_rows ss rest a (inl f) = not_asked ss rest (codes "insert") refl a f
+not_select_rows ss rest a (inr (inl f)) = not_asked ss rest (codes "update") refl a f
+not_select_rows ss rest a (inr (inr f)) = not_asked ss rest (codes "delete") refl a f
+
+rows_apart : (ss : List Shape) (s : StatementTree) (w : WriteTree) → IsStatement ss s → IsWrite ss w → ⊥
+rows_apart ss s w x y =
+    let b = begins_select s x.2.0 x.2.3 in
+    let line : x.0 ≡ t.Reserved (codes "select") ∷ (b.0 ++ x.2.1) = x.2.2 ∙ ap (λ us. us ++ x.2.1) b.1 in
+    not_select_rows ss (b.0 ++ x.2.1) (subst (AreWords ss) line x.1) (begins_rows ss w y)
+
 one_statement : (ss : List Shape) (r s : StatementTree) → IsStatement ss r → IsStatement ss s → r ≡ s
 one_statement ss r s x y = one_line (words_at (Before false) false ss) r s (to_terminals ss r x) (to_terminals ss s y)
 
 pub one_command : (ss : List Shape) (a b : CommandTree) → IsCommand ss a → IsCommand ss b → a ≡ b
 one_command ss (on_data r) (on_data s) x y = ap on_data (one_statement ss r s x y)
+one_command ss (on_data r) (on_rows w) x y = absurd (rows_apart ss r w x y)
 one_command ss (on_data r) (on_objects d) x y = absurd (apart ss r d x y)
+one_command ss (on_rows v) (on_data s) x y = absurd (rows_apart ss s v y x)
+one_command ss (on_rows v) (on_rows w) x y = ap on_rows (one_write ss v w x y)
+one_command ss (on_rows v) (on_objects d) x y = absurd (objects_apart ss v d x y)
 one_command ss (on_objects d) (on_data s) x y = absurd (apart ss s d y x)
+one_command ss (on_objects d) (on_rows w) x y = absurd (objects_apart ss w d y x)
 one_command ss (on_objects d) (on_objects e) x y = ap on_objects (ddl.one_line ss d e x y)
 
 -- ---- causes of tokens
 
-neither : (ss : List Shape) → ((d : DdlTree) → IsDdl ss d → ⊥) → ((s : StatementTree) → IsStatement ss s → ⊥) → (c : CommandTree) → IsCommand ss c → ⊥
-neither ss none others (on_data s) x = others s x
-neither ss none others (on_objects d) x = none d x
+-- no statement of any kind
+no_command : (ss : List Shape) → ((d : DdlTree) → IsDdl ss d → ⊥) → ((w : WriteTree) → IsWrite ss w → ⊥) → ((s : StatementTree) → IsStatement ss s → ⊥) → (c : CommandTree) → IsCommand ss c → ⊥
+no_command ss objects rows queries (on_data s) x = queries s x
+no_command ss objects rows queries (on_rows w) x = rows w x
+no_command ss objects rows queries (on_objects d) x = objects d x
 
-deep_told : (ss : List Shape) → ((d : DdlTree) → IsDdl ss d → ⊥) → ((s : StatementTree) × IsLine (words_at (Before false) false ss) s × (64 < statement_height s)) ⊎ (((s : StatementTree) → IsLine (words_at (Before false) false ss) s → ⊥) × (64 < weight (words_at (Before false) false ss))) → TokenCauses ss causes.TooDeep
-deep_told ss none (inl h) = inl (on_data h.0, of_terminals ss h.0 h.1, h.2)
-deep_told ss none (inr h) = inr (neither ss none (λ s x. h.0 s (to_terminals ss s x)), omega (arith, h.1, words_weigh (Before false) false ss))
+-- the reader of statements on data refused the tokens so
+abbrev QueryRefused : List Shape → ReadFault → Type 0
+QueryRefused ss f = Gives statement_tree (Err f) (bounded_line (words_at (Before false) false ss))
 
--- what is told where the tokens are no statement on objects, and the reader of the others refused them
-pub told : (ss : List Shape) (f : ReadFault) → ((d : DdlTree) → IsDdl ss d → ⊥) → Gives statement_tree (Err f) (bounded_line (words_at (Before false) false ss)) → (f ≡ faults.NoMemory) ⊎ TokenCauses ss (cause_of_read f)
-told ss faults.NoMemory none h = inl refl
-told ss (faults.Refused Syntax) none h = inr (neither ss none (λ s x. bounded_out (words_at (Before false) false ss) h s (to_terminals ss s x)))
-told ss (faults.Refused TooHigh) none h = inr (deep_told ss none (bounded_told (words_at (Before false) false ss) h))
+-- the reader of statements on data found none
+no_data : (ss : List Shape) → QueryRefused ss (faults.Refused Syntax) → (s : StatementTree) → IsStatement ss s → ⊥
+no_data ss h s x = bounded_out (words_at (Before false) false ss) h s (to_terminals ss s x)
+
+-- What is told where the tokens are no statement on objects, and the readers of the others refused them: by what the reader of writes says
+-- where the other says that there is none.
+rows_cause : (ss : List Shape) (r : Refusal) → ((d : DdlTree) → IsDdl ss d → ⊥) → Refuses ss (faults.Refused r) → QueryRefused ss (faults.Refused Syntax) → TokenCauses ss (cause_of_read (faults.Refused r))
+rows_cause ss Syntax none h g = no_command ss none h (no_data ss g)
+rows_cause ss TooHigh none (inl h) g = inl (on_rows h.0, h.1, h.2)
+rows_cause ss TooHigh none (inr h) g = inr (no_command ss none h.0 (no_data ss g), h.1)
+
+deep_none : (ss : List Shape) (r : Refusal) → ((d : DdlTree) → IsDdl ss d → ⊥) → Refuses ss (faults.Refused r) → ((s : StatementTree) → IsStatement ss s → ⊥) → 64 < count_by deepens ss → TokenCauses ss causes.TooDeep
+deep_none ss Syntax none h queries deep = inr (no_command ss none h queries, deep)
+deep_none ss TooHigh none (inl h) queries deep = inl (on_rows h.0, h.1, h.2)
+deep_none ss TooHigh none (inr h) queries deep = inr (no_command ss none h.0 queries, deep)
+
+deep_cause : (ss : List Shape) (r : Refusal) → ((d : DdlTree) → IsDdl ss d → ⊥) → Refuses ss (faults.Refused r) → QueryRefused ss (faults.Refused TooHigh) → TokenCauses ss causes.TooDeep
+deep_cause ss r none h g = elim (bounded_told (words_at (Before false) false ss) g) [
+  | inl x ↦ inl (on_data x.0, of_terminals ss x.0 x.1, x.2)
+  | inr x ↦ deep_none ss r none h (λ s y. x.0 s (to_terminals ss s y)) (omega (arith, x.1, words_weigh (Before false) false ss))
+]
+
+pub rows_told : (ss : List Shape) (r : Refusal) (e f : ReadFault) → e ≡ faults.Refused r → f ≡ faults.Refused Syntax → ((d : DdlTree) → IsDdl ss d → ⊥) → Refuses ss e → Gives statement_tree (Err f) (bounded_line (words_at (Before false) false ss)) → TokenCauses ss (cause_of_read (faults.Refused r))
+rows_told ss r e f p q none h g = rows_cause ss r none (subst (Refuses ss) p h) (subst (QueryRefused ss) q g)
+
+pub deep_told : (ss : List Shape) (r : Refusal) (e f : ReadFault) → e ≡ faults.Refused r → f ≡ faults.Refused TooHigh → ((d : DdlTree) → IsDdl ss d → ⊥) → Refuses ss e → Gives statement_tree (Err f) (bounded_line (words_at (Before false) false ss)) → TokenCauses ss causes.TooDeep
+deep_told ss r e f p q none h g = deep_cause ss r none (subst (Refuses ss) p h) (subst (QueryRefused ss) q g)
 
 pub read_statement : (ss : List Shape) (s : StatementTree) → bounded_line (words_at (Before false) false ss) ≡ Ok s → IsStatement ss s × (statement_height s ≤ 64)
 read_statement ss s h =
@@ -202,15 +326,21 @@ lexed_read A text parse_faults.Syntax r h is none = absurd (none causes.Syntax (
 
 -- ---- commands written out
 
-pub printed_again : ((text : List ℕ) (s : StatementTree) → HasStatement text s → statement_in_range s ≡ true → HasStatement (printed_statement s) s) → ((text : List ℕ) (d : DdlTree) → HasDdl text d → HasDdl (printed_ddl d) d) →
+pub printed_again : ((text : List ℕ) (s : StatementTree) → HasStatement text s → statement_in_range s ≡ true → HasStatement (printed_statement s) s) → ((text : List ℕ) (w : WriteTree) → HasWrite text w → write_in_range w ≡ true → HasWrite (printed_write w) w) → ((text : List ℕ) (d : DdlTree) → HasDdl text d → HasDdl (printed_ddl d) d) →
     (text : List ℕ) (c : CommandTree) → HasCommand text c → command_in_range c ≡ true → HasCommand (printed_command c) c
-printed_again statements objects text (on_data s) x r = statements text s x r
-printed_again statements objects text (on_objects d) x r = objects text d x
+printed_again statements rows objects text (on_data s) x r = statements text s x r
+printed_again statements rows objects text (on_rows w) x r = rows text w x r
+printed_again statements rows objects text (on_objects d) x r = objects text d x
 
 pub data_again : {A E : Type 0} (k : Command) (s : Statement) (r : Result (String A) E) → k ≡ commands.Data s →
     ((text : List ℕ) → HasStatement text (statement_tree s) → statement_in_range (statement_tree s) ≡ true → IfOk r (λ x. HasStatement (string_bytes x) (statement_tree s))) →
     (text : List ℕ) → HasCommand text (command_tree k) → command_in_range (command_tree k) ≡ true → IfOk r (λ x. HasCommand (string_bytes x) (command_tree k))
 data_again k s r is h = subst (λ (y : Command). (text : List ℕ) → HasCommand text (command_tree y) → command_in_range (command_tree y) ≡ true → IfOk r (λ x. HasCommand (string_bytes x) (command_tree y))) (sym is) h
+
+pub rows_again : {A E : Type 0} (k : Command) (s : WriteStatement) (r : Result (String A) E) → k ≡ commands.Rows s →
+    ((text : List ℕ) → HasWrite text (write_tree s) → write_in_range (write_tree s) ≡ true → IfOk r (λ x. HasWrite (string_bytes x) (write_tree s))) →
+    (text : List ℕ) → HasCommand text (command_tree k) → command_in_range (command_tree k) ≡ true → IfOk r (λ x. HasCommand (string_bytes x) (command_tree k))
+rows_again k s r is h = subst (λ (y : Command). (text : List ℕ) → HasCommand text (command_tree y) → command_in_range (command_tree y) ≡ true → IfOk r (λ x. HasCommand (string_bytes x) (command_tree y))) (sym is) h
 
 pub ddl_again : {A E : Type 0} (k : Command) (d : Ddl) (r : Result (String A) E) → k ≡ commands.Ddl d →
     ((text : List ℕ) → HasDdl text (ddl_tree d) → IfOk r (λ x. HasDdl (string_bytes x) (ddl_tree d))) →

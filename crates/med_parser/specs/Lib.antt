@@ -2,6 +2,9 @@ pub use Rattle.query_grammar.specs.QueryTerminals
 pub use Rattle.query_grammar.specs.QueryGrammar
 pub use Rattle.query_grammar.specs.QueryCauses
 pub use Rattle.query_print.specs.QueryPrinting
+pub use Rattle.write_parser.specs.WriteGrammar
+pub use Rattle.write_parser.specs.WriteCauses
+pub use Rattle.write_print.specs.WritePrinting
 pub use Rattle.ddl_parser.specs.DdlGrammar
 pub use Rattle.ddl_parser.specs.DdlPrinting
 pub mod CommandGrammar

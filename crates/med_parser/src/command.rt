@@ -1,13 +1,16 @@
-//! What a line may ask: a statement on data, or one on the objects of the catalogue.
+//! What a line may ask: a statement on data, one that writes rows, or one on the objects of the catalogue.
 
 use ddl_syntax::Ddl;
 use med_syntax::Statement;
+use write_syntax::WriteStatement;
 
-/// A statement of either kind.
+/// A statement of any kind.
 #[derive(Debug, PartialEq, Eq, Drop)]
 pub enum Command {
     /// A statement on data.
     Data(Statement),
+    /// A statement that writes rows.
+    Rows(WriteStatement),
     /// A statement on the objects of the catalogue.
     Ddl(Ddl),
 }

@@ -9,6 +9,7 @@ ghost use Rattle.std.specs.Prelude.{◌≡◌, ℕ, true, List};
 use ddl_parser::printed_ddl;
 use med_lexer::one_list;
 use query_print::printed_statement;
+use write_print::printed_write;
 
 /// A text has at most one tree.
 pub fn one_tree()
@@ -23,5 +24,6 @@ pub fn printed_command()
         → HasCommand (printing.printed_command c) c }
 {
     printed_statement();
+    printed_write();
     printed_ddl();
 }

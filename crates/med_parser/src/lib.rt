@@ -1,5 +1,5 @@
 //! Parses a line of this profile of SQL, a command and perhaps a semicolon, and writes commands out. A command is a statement on the
-//! objects of the catalogue (`ddl_parser`), or one on data:
+//! objects of the catalogue (`ddl_parser`), one that writes rows (`write_parser`, `write_print`), or one on data:
 //! `SELECT [DISTINCT] item {, item} [FROM chain {, chain}] [WHERE expr] [GROUP BY col {, col}] [HAVING expr] [ORDER BY key {, key}]`
 //! `[LIMIT ..] [OFFSET ..] [;]`, where a chain is an entry with its joins.
 //!
@@ -11,18 +11,18 @@
 //! range; in `query_grammar` a `Spells` relation (`specs/QueryGrammar.antt`) and a line in `proofs/QueryTerminals.antt`; in
 //! `query_reader` a part of the list reader (`specs/QueryReading.antt`), a lemma `_takes` and one `_sound` (`proofs/ClauseComplete.antt`,
 //! `proofs/ClauseSound.antt`), and a function in `src/query_statement.rt`, `src/query_source.rt` or `src/query_keys.rt`; in `query_print`
-//! a line in `specs/QueryPrinting.antt` and `proofs/QueryPrints.antt`, and a function in `src/query_writer.rt`; and last, here, a line in
-//! `proofs/QueryWeighing.antt` and a function in `src/query_range.rt`. Lists, and parts that may be left out behind their keywords, have
-//! relations, readers and lemmas of their own (`SpellsListed`, `SpellsPerhaps`). The part before a clause has to stop at its keyword
-//! (`Clear`). A word that is optional in the text is no part of the tree: its relation allows both spellings. A kind of statement is a
-//! constructor of `StatementTree` with the same.
+//! a line in `specs/QueryPrinting.antt` and `proofs/QueryPrints.antt`, and a function in `src/query_writer.rt`; a line in
+//! `proofs/QueryWeighing.antt` of `write_parser`; and a function in `query_range`. Lists, and parts that may be left out behind their
+//! keywords, have relations, readers and lemmas of their own (`SpellsListed`, `SpellsPerhaps`). The part before a clause has to stop at its
+//! keyword (`Clear`). A word that is optional in the text is no part of the tree: its relation allows both spellings. A kind of statement
+//! is a constructor of `StatementTree` with the same.
 #![tactic(auto)]
 
 mod command;
 mod command_laws;
 mod command_print;
+mod command_range;
 mod parser;
-mod query_range;
 
 pub use command::Command;
 pub use command_laws::{one_tree, printed_command};

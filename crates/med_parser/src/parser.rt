@@ -1,5 +1,7 @@
 //! Text to commands.
 
+ghost use Rattle.ddl_parser.specs.DdlGrammar.{IsDdl};
+ghost use Rattle.ddl_syntax.specs.DdlTree.{DdlTree};
 ghost use Rattle.expr_grammar.specs.ExprAnswers.{cause_of_read};
 ghost use Rattle.expr_grammar.specs.ExprTerminals.{AreReadable};
 ghost use Rattle.expr_grammar.specs.View.{shapes_of};
@@ -12,18 +14,39 @@ ghost use Rattle.med_value.specs.declared.cause.Cause.{Cause};
 ghost use Rattle.std.specs.Prelude.{◌≡◌, ◌≤◌, ◌⊎◌, IfErr, IfOk, OnOk};
 
 use crate::command::Command;
-use crate::query_range::is_command_in_range;
+use crate::command_range::is_command_in_range;
 use ddl_parser::ddl_of;
 use expr_grammar::ParseFault;
 use expr_grammar::expr_symbols::has_unreadable;
-use expr_grammar::refusal::ReadFault;
+use expr_grammar::refusal::{ReadFault, Refusal};
 use expr_grammar::token_list::{has_long_name, tokens_of};
 use med_lexer::{Token, tokens_can_be_printed};
 use med_value::Cause;
 use query_reader::statement_of;
 use std::alloc::Global;
+use write_parser::write_of;
 
-/// The command that all of the tokens are: a statement on objects, or else one on data.
+/// The command that tokens are which are no statement on objects: a statement that writes rows, or else one on data.
+fn rows_or_data(alloc: Global, tokens: &[Token]) -> Result<Command, ReadFault>
+    requires { AreReadable (shapes_of tokens.now) }
+    ensures found { IfOk result (λ c. IsCommand (shapes_of tokens.now) (command_tree c)) }
+    ensures low { IfOk result (λ c. command_height (command_tree c) ≤ 64) }
+    ensures refused { ((d : DdlTree) → IsDdl (shapes_of tokens.now) d → ⊥)
+        → IfErr result (λ f. (f ≡ faults.NoMemory) ⊎ TokenCauses (shapes_of tokens.now) (cause_of_read f)) }
+{
+    match write_of(alloc, tokens) {
+        Ok(statement) => Ok(Command::Rows(statement)),
+        Err(ReadFault::NoMemory) => Err(ReadFault::NoMemory),
+        Err(ReadFault::Refused(refusal)) => match statement_of(alloc, tokens) {
+            Ok(statement) => Ok(Command::Data(statement)),
+            Err(ReadFault::NoMemory) => Err(ReadFault::NoMemory),
+            Err(ReadFault::Refused(Refusal::TooHigh)) => Err(ReadFault::Refused(Refusal::TooHigh)),
+            Err(ReadFault::Refused(Refusal::Syntax)) => Err(ReadFault::Refused(refusal)),
+        },
+    }
+}
+
+/// The command that all of the tokens are: a statement on objects, or else one on rows or data.
 fn command_of(alloc: Global, tokens: &[Token]) -> Result<Command, ReadFault>
     requires { AreReadable (shapes_of tokens.now) }
     ensures found { IfOk result (λ c. IsCommand (shapes_of tokens.now) (command_tree c)) }
@@ -33,10 +56,7 @@ fn command_of(alloc: Global, tokens: &[Token]) -> Result<Command, ReadFault>
     match ddl_of(alloc, tokens) {
         Ok(ddl) => Ok(Command::Ddl(ddl)),
         Err(ParseFault::NoMemory) => Err(ReadFault::NoMemory),
-        Err(ParseFault::Syntax) => match statement_of(alloc, tokens) {
-            Ok(statement) => Ok(Command::Data(statement)),
-            Err(fault) => Err(fault),
-        },
+        Err(ParseFault::Syntax) => rows_or_data(alloc, tokens),
     }
 }
 

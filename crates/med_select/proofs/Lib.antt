@@ -1,2 +1,2 @@
-mod Runs
-mod Selections
+pub mod Runs
+pub mod Selections

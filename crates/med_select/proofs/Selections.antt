@@ -1,19 +1,18 @@
 -- The parts of a query: its entries, its scans, its run, and what it means in whatever order rows come.
-use Rattle.std.proofs.Common.{◌≡◌, ℕ, ◌⊎◌, ◌^◌, ◌<◌, ◌≤◌, string_bytes, List, [], ◌∷◌, ◌++◌, ◌+◌, take, get_or, slice_get, slice_index_or, Option, Some, None, option_map, map, length, All, refl, sym, ap, ◌∙◌, subst, zero, suc, arith, inl, inr, Result, Ok, Err, IfOk, IfErr, filter, Bool, IsSome, false}
+use Rattle.std.proofs.Common.{◌≡◌, ℕ, ◌<◌, ◌≤◌, string_bytes, List, [], ◌∷◌, ◌++◌, ◌+◌, take, get_or, slice_get, Option, Some, None, map, length, All, refl, sym, ap, ◌∙◌, subst, zero, suc, arith, Result, Ok, Err, IfOk, IfErr, Bool, IsSome, false}
 use Rattle.std.proofs.lemmas.List.{length-map, map-append, take_more}
 use Rattle.std.proofs.lemmas.List.Elements.{All-cons}
-use Rattle.std.proofs.lemmas.List.Sorted.{IsPermutation-sym, length_permutation}
-use Rattle.std.proofs.lemmas.Option.{slice_get-map}
+use Rattle.std.proofs.lemmas.List.Sorted.{IsPermutation-sym}
 use Rattle.med_value.specs.Datum.{Tuple}
 use Rattle.med_value.specs.declared.cause.Cause.{Cause}
-use Rattle.med_value.specs.declared.cause.Cause.TheVariants.{LimitExceeded, OutOfMemory}
+use Rattle.med_value.specs.declared.cause.Cause.TheVariants.{LimitExceeded}
 use Rattle.tri_expr.specs.declared.expr.Expr.{Expr}
 use Rattle.med_query.specs.declared.select.Grouping.{Grouping}
 use Rattle.med_query.specs.declared.select.Select.{Select}
 use Rattle.med_query.specs.Form.{query_by}
 use Rattle.med_query.specs.Select.{query_of as written_query, groups_of}
 use Rattle.med_query.specs.Laws.{AllIgnoreOrder, IsSteady, AnswersIgnoreOrder}
-use Rattle.med_query.specs.Query.{Query, Tables, SameRows, senses, having_of, has_class, kept, plain, outputs_all, output, kept_classes}
+use Rattle.med_query.specs.Query.{Query, Tables, SameRows, senses, having_of, plain}
 use Rattle.fdw_api.specs.Scan.{Filter, spec_of, plain_spec, filter_of, params_fit}
 use Rattle.fdw_api.specs.State.{BoxState, Bound as TableBound, table_of}
 use Rattle.fdw_api.specs.Calls.{CanBegin}

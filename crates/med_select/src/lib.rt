@@ -5,4 +5,4 @@ mod fault;
 mod selecting;
 
 pub use fault::cause_of;
-pub use selecting::{RowSet, run_select};
+pub use selecting::{RowSet, run_query, run_select};

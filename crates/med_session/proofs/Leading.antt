@@ -1,11 +1,11 @@
 -- What the requests of an engine share: its users change, and rows are replaced by want of memory.
-use Rattle.std.proofs.Common.{◌≡◌, ◌⊎◌, ℕ, ◌-◌, true, false, List, ◌++◌, Option, length, slice_set, codes, refl, ap, sym, ◌∙◌, subst, inl, inr}
+use Rattle.std.proofs.Common.{◌≡◌, ◌⊎◌, ℕ, ◌-◌, true, false, List, ◌++◌, Option, length, slice_set, refl, sym, ◌∙◌, subst, inl, inr}
 use Rattle.std.proofs.lemmas.List.{length-set}
 use Rattle.med_value.specs.Datum.{Tuple}
 use Rattle.med_value.specs.declared.cause.Cause.TheVariants.{OutOfMemory}
 use Rattle.med_syntax.specs.Tree.{Name}
-use Rattle.med_syntax.specs.QueryTree.{SelectTree, StatementTree, select}
-use Rattle.med_parser.specs.CommandTree.{CommandTree, on_data, on_objects}
+use Rattle.med_syntax.specs.QueryTree.{StatementTree, select}
+use Rattle.med_parser.specs.CommandTree.{CommandTree, on_data, on_rows, on_objects}
 use Rattle.bind_catalog.specs.Looked.{query_in}
 use Rattle.med_world.specs.Requests.{Asked, opening, sql, bye}
 use Rattle.med_world.specs.World.{World, Session}
@@ -38,6 +38,7 @@ sound_users e users long h = record {
     is = x.is;
     remote = x.remote;
     kinds = x.kinds;
+    writes = x.writes;
   };
   bound_attached = h.bound_attached;
   bound_once = h.bound_once;
@@ -53,6 +54,7 @@ with_memory t = record { memory = true; asked = false; source = t.source; number
 
 tree_rows : (w after : World) (sid : ℕ) (s : Session) (p : Pick) (tree : CommandTree) (word : List ℕ) (names : List Name) (rows : List Tuple) → TreeDoes w sid s p tree (answered word names rows) after → after ≡ w
 tree_rows w after sid s p (on_data (select q)) word names rows d = d.1
+tree_rows w after sid s p (on_rows t) word names rows d = absurd (let e = d.1 in cc)
 tree_rows w after sid s p (on_objects x) word names rows d = absurd (let e = d.0 in cc)
 
 does_rows : (w after : World) (sid : ℕ) (p : Pick) (request : Asked) (word : List ℕ) (names : List Name) (rows : List Tuple) → Does w sid p request (answered word names rows) after → TakesMemory request × (after ≡ w)

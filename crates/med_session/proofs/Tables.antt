@@ -1,14 +1,13 @@
 -- Tables and servers of an engine by their places.
-use Rattle.std.proofs.Common.{◌≡◌, ◌≢◌, ◌⊎◌, inl, inr, ◌<◌, ◌+◌, All, is_none, if◌then◌else◌, ℕ, Bool, true, false, List, [], ◌∷◌, ◌++◌, Option, Some, None, Result, Ok, Err, OnOk, OnErr, IfErr, IfNone, IsSome, is_some, option_map, cond, slice_get, slice_set, get_or, length, map, find, remove, zero, suc, refl, ap, sym, ◌∙◌, subst, arith, bytes_eq}
+use Rattle.std.proofs.Common.{◌≡◌, ◌⊎◌, inl, inr, ◌<◌, ◌+◌, All, is_none, if◌then◌else◌, ℕ, Bool, true, false, List, [], ◌∷◌, ◌++◌, Option, Some, None, Result, Ok, Err, OnOk, OnErr, IfErr, IfNone, IsSome, is_some, option_map, cond, slice_get, slice_set, get_or, length, map, remove, zero, suc, refl, ap, sym, ◌∙◌, subst, arith, bytes_eq}
 use Rattle.std.specs.List.{IsDistinct, AllByRecursion}
 use Rattle.std.proofs.lemmas.Bool.{false≢true}
 use Rattle.med_syntax.specs.Tree.{Name}
 use Rattle.fdw_api.specs.State.{BoxState}
 use Rattle.fdw_api.specs.declared.interface.Counts.{Counts}
-use Rattle.med_exec.specs.Slots.{counts_at, counts_in, counts_of}
+use Rattle.med_exec.specs.Slots.{counts_at, counts_in}
 use Rattle.med_catalog.specs.Objects.{ServerObject, TableObject, Objects, server_named, table_named}
 use Rattle.med_catalog.specs.Changes.{new_server, new_table, no_table, no_server, changed, is_skipped, Asks, skips, makes}
-use Rattle.med_catalog.specs.declared.kind.SourceKind.{SourceKind}
 use Rattle.std.proofs.lemmas.List.{length-map, length_push}
 use Rattle.std.proofs.lemmas.Option.{slice_get-map, slice_get-get_or}
 use Rattle.bind_catalog.specs.declared.bound.BoundTable.{BoundTable}
@@ -27,11 +26,12 @@ use Rattle.med_world.specs.Altering.{no_lease, IsFreeAt, IsAllowed, BindsInVain,
 use Rattle.med_session.specs.Binding.{BindFails, before_bind, by_fault}
 use Rattle.med_session.specs.Tables.{TableFails, no_memory, fails_by, undone, ServerFails, source_taken, memory_refused}
 use Rattle.med_world.proofs.Faring.{set_this, same_box}
-use Rattle.med_world.proofs.Lists.{some_same, none_some, push_last, one_place, same_bytes, other_bytes, bytes_same}
+use Rattle.med_world.proofs.Lists.{some_same, none_some, push_last, one_place, same_bytes, other_bytes}
 use Rattle.med_world.specs.Adding.{HasSource}
 use Rattle.med_world.proofs.Named.{map_place, found_place, at_place, place_of}
 use Rattle.med_session.specs.declared.sources.NamedSource.{NamedSource}
 use Rattle.med_session.specs.Shows.{label}
+use Rattle.med_rows.specs.Ready.{IsReady}
 
 -- ---- sources by their names
 
@@ -314,3 +314,11 @@ undone_by e o boxes bound p q = λ i. record { catalog = p i; labels = e.labels;
 -- what is left where the one that came goes again
 pub left_as_it_was : (old new : List Attached) (a : Attached) (k : ℕ) → new ≡ old ++ a ∷ [] → k ≡ length old → remove new k ≡ old
 left_as_it_was old new a k is at = ap (λ (xs : List Attached). remove xs k) is ∙ ap (remove (old ++ a ∷ [])) at ∙ last_removed old a
+
+-- a write may be asked of the boxes of a sound engine
+pub ready_of : (e : Shown) → IsSound e → IsReady e.catalog e.bound e.boxes
+ready_of e h = record {
+  at_rest = h.at_rest;
+  sound = h.sound_boxes;
+  tables = λ k t a at_t at_a. let x = h.tables_bound k t a at_t at_a in record { box = x.box; there = x.there; holds = (x.bound, x.is, x.kinds) };
+}

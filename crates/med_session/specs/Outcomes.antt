@@ -3,15 +3,24 @@ use Rattle.std.specs.Prelude.{◌≡◌, ◌⊎◌, ℕ, List, ◌++◌, map, co
 use Rattle.med_value.specs.Datum.{tuple}
 use Rattle.med_value.specs.declared.cause.Cause.TheVariants.{OutOfMemory}
 use Rattle.ddl_syntax.specs.DdlView.{ddl_tree}
-use Rattle.med_world.specs.Replies.{Reply, done, answered, refused, reply_text}
+use Rattle.med_world.specs.Replies.{Reply, done, answered, refused, reply_text, rows_tag}
 use Rattle.med_world.specs.Steps.{ddl_tag}
+use Rattle.med_session.specs.declared.replies.RowsWord.{RowsWord}
+use Rattle.med_session.specs.declared.replies.RowsWord.TheVariants.{Insert, Update, Delete}
 use Rattle.med_session.specs.declared.replies.Outcome.{Outcome}
-use Rattle.med_session.specs.declared.replies.Outcome.TheVariants.{Opened, Closed, Changed, Rows, Refused}
+use Rattle.med_session.specs.declared.replies.Outcome.TheVariants.{Opened, Closed, Changed, Written, Rows, Refused}
+
+-- with what the tag of a write begins
+abbrev pub word_text : RowsWord → List ℕ
+word_text Insert = codes "INSERT 0"
+word_text Update = codes "UPDATE"
+word_text Delete = codes "DELETE"
 
 abbrev pub reply_of : Outcome → Reply
 reply_of Opened = done (codes "OPEN")
 reply_of Closed = done (codes "BYE")
 reply_of (Changed d) = done (ddl_tag (ddl_tree d))
+reply_of (Written word count) = done (rows_tag (word_text word) count)
 reply_of (Rows set) = answered (codes "SELECT") (map string_bytes set.names.items) (map tuple set.rows.items)
 reply_of (Refused c) = refused c
 

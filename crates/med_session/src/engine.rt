@@ -2,7 +2,7 @@
 ghost use Rattle.std.specs.Prelude.{◌≡◌, ◌<◌, ◌+◌, ◌++◌, ℕ, List, IfOk, IfErr, OnOk, OnErr, IsErrOf, vec_len, vec_capacity};
 
 use crate::places::{close_all, closed_sessions, is_open, set_user, user_in};
-use crate::replies::{Outcome, write_reply};
+use crate::replies::{Outcome, word_of, write_reply};
 use crate::session::{NoRoom, Request, Sid};
 use crate::sources::NamedSource;
 use crate::users::is_user;
@@ -10,13 +10,16 @@ use bind_catalog::BoundTable;
 use fdw_api::interface::Wrapper;
 use med_catalog::Catalog;
 use med_parser::{Command, one_tree, parse};
+use med_rows::run_write;
 use med_select::run_select;
 use med_value::Cause;
 use med_world::law::{
     changes_lead, engines_begin, queries_lead, sessions_end, sessions_lead, statements_are_refused,
+    writes_lead,
 };
 use std::alloc::Global;
 use thiserror::Error;
+use write_texts::law::texts_are_clean;
 
 /// The room in the output that is taken before a request is begun.
 const ROOM: usize = 128;
@@ -197,6 +200,8 @@ impl<W: Wrapper> Engine<W> {
             Err(cause) => return Outcome::Refused(cause),
         };
         queries_lead();
+        writes_lead();
+        texts_are_clean();
         changes_lead();
         sessions_lead();
         match command {
@@ -204,6 +209,14 @@ impl<W: Wrapper> Engine<W> {
                 let slots = &mut self.slots;
                 match run_select(slots, &self.catalog, &self.bound, alloc, user, &query) {
                     Ok(set) => Outcome::Rows(set),
+                    Err(cause) => Outcome::Refused(cause),
+                }
+            }
+            Command::Rows(write) => {
+                let word = word_of(&write);
+                let slots = &mut self.slots;
+                match run_write(slots, &self.catalog, &self.bound, alloc, user, write) {
+                    Ok(count) => Outcome::Written(word, count),
                     Err(cause) => Outcome::Refused(cause),
                 }
             }

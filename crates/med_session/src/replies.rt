@@ -4,8 +4,9 @@ ghost use Rattle.med_value.specs.Datum.{tuple};
 ghost use Rattle.med_value.specs.Text.{escaped_text};
 ghost use Rattle.med_world.specs.Replies.{reply_text, done, answered, refused, header, line, row_line, tag_line, rows_tag};
 ghost use Rattle.ddl_syntax.specs.DdlView.{ddl_tree};
-ghost use Rattle.med_session.specs.Outcomes.{Tells, reply_of};
-ghost use Rattle.med_world.specs.Steps.{ddl_tag};
+ghost use Rattle.med_session.specs.Outcomes.{Tells, reply_of, word_text};
+ghost use Rattle.med_world.specs.Steps.{ddl_tag, write_tag};
+ghost use Rattle.write_syntax.specs.WriteView.{write_tree};
 
 use ddl_syntax::Ddl;
 use itoa::Buffer;
@@ -13,6 +14,18 @@ use med_select::RowSet;
 use med_value::text::{escaped_text, row_text};
 use med_value::{Cause, NoMemory, Row};
 use std::alloc::Global;
+use write_syntax::WriteStatement;
+
+/// The statement that wrote rows, as its tag begins.
+#[derive(Clone, Copy, Debug, PartialEq, Eq)]
+pub enum RowsWord {
+    /// INSERT.
+    Insert,
+    /// UPDATE.
+    Update,
+    /// DELETE.
+    Delete,
+}
 
 /// What a request is answered with.
 #[derive(Drop)]
@@ -23,6 +36,8 @@ pub enum Outcome {
     Closed,
     /// A statement on objects was done.
     Changed(Ddl),
+    /// So many rows were written.
+    Written(RowsWord, u64),
     /// The rows of a query.
     Rows(RowSet),
     /// Why it was refused.
@@ -69,6 +84,44 @@ fn write_change(sid: u8, ddl: &Ddl, out: &mut Vec<u8>)
         Ddl::DropServer(_) => write_tag(sid, b"DROP SERVER", out),
         Ddl::DropTable(_) => write_tag(sid, b"DROP FOREIGN TABLE", out),
         Ddl::DropMapping(_) => write_tag(sid, b"DROP USER MAPPING", out),
+    }
+}
+
+// Writes the reply of a tag with a number of rows.
+fn write_rows_tag(sid: u8, word: &[u8], count: u64, out: &mut Vec<u8>)
+    requires room { vec_len out.old + 128 ≤ vec_capacity out.old }
+    requires short { length word.now ≤ 32 }
+    ensures { out.new.items ≡ out.old.items ++ reply_text sid (done (rows_tag word.now count)) }
+{
+    let mut buffer = Buffer::new();
+    put(buffer.format(sid).as_bytes(), out);
+    put(b" T ", out);
+    put(word, out);
+    put(b" ", out);
+    put(buffer.format(count).as_bytes(), out);
+    put(b"\n", out);
+}
+
+/// The word with which the tag of a statement begins.
+pub(crate) fn word_of(write: &WriteStatement) -> RowsWord
+    ensures { (n : ℕ) → rows_tag (word_text result) n ≡ write_tag (write_tree write.now) n }
+{
+    match write {
+        WriteStatement::Insert(_) => RowsWord::Insert,
+        WriteStatement::Update(_) => RowsWord::Update,
+        WriteStatement::Delete(_) => RowsWord::Delete,
+    }
+}
+
+// Writes the tag of a statement that wrote so many rows.
+fn write_count(sid: u8, word: RowsWord, count: u64, out: &mut Vec<u8>)
+    requires { vec_len out.old + 128 ≤ vec_capacity out.old }
+    ensures { out.new.items ≡ out.old.items ++ reply_text sid (done (rows_tag (word_text word) count)) }
+{
+    match word {
+        RowsWord::Insert => write_rows_tag(sid, b"INSERT 0", count, out),
+        RowsWord::Update => write_rows_tag(sid, b"UPDATE", count, out),
+        RowsWord::Delete => write_rows_tag(sid, b"DELETE", count, out),
     }
 }
 
@@ -187,6 +240,7 @@ pub(crate) fn write_reply(alloc: Global, sid: u8, outcome: &Outcome, out: &mut V
         Outcome::Opened => write_tag(sid, b"OPEN", out),
         Outcome::Closed => write_tag(sid, b"BYE", out),
         Outcome::Changed(ddl) => write_change(sid, ddl, out),
+        Outcome::Written(word, count) => write_count(sid, *word, *count, out),
         Outcome::Rows(set) => write_answer(alloc, sid, set, out),
         Outcome::Refused(cause) => write_refusal(sid, *cause, out),
     }

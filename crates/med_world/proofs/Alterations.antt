@@ -125,6 +125,7 @@ server_sound e s place h objects stands = record {
     is = x.is;
     remote = x.remote;
     kinds = x.kinds;
+    writes = x.writes;
   };
   bound_attached = h.bound_attached;
   bound_once = h.bound_once;

@@ -44,7 +44,7 @@ sources_spared : (e : Shown) (new : List (Option BoxState)) (place : ℕ) (only 
 sources_spared e new place only honest h =
     ap (sources_of e.labels) h.slots ∙ sources_set e.labels e.boxes place h.before h.after h.there (state_spared only h.before h.after (honest place h.before h.there) h.change)
 
-named_in : (labels : List Label) (place : ℕ) (name : Name) → IsNamedAt labels place name → slice_get (map (λ (l : Label). l.name) labels) place ≡ Some name
+pub named_in : (labels : List Label) (place : ℕ) (name : Name) → IsNamedAt labels place name → slice_get (map (λ (l : Label). l.name) labels) place ≡ Some name
 named_in labels place name h = slice_get-map (λ (l : Label). l.name) labels place ∙ ap (option_map (λ (l : Label). l.name)) h.1 ∙ ap Some h.2
 
 -- the source of a box is dropped with it

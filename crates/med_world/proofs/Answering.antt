@@ -6,7 +6,7 @@ use Rattle.med_value.specs.declared.cause.Cause.{Cause}
 use Rattle.med_value.specs.declared.cause.Cause.TheVariants.{LimitExceeded, OutOfMemory, NoConnection}
 use Rattle.med_syntax.specs.Tree.{Name}
 use Rattle.med_syntax.specs.QueryTree.{SelectTree, select}
-use Rattle.med_parser.specs.CommandTree.{on_data, on_objects}
+use Rattle.med_parser.specs.CommandTree.{on_data, on_rows, on_objects}
 use Rattle.med_parser.specs.CommandCauses.{SyntaxCauses}
 use Rattle.fdw_api.specs.State.{BoxState}
 use Rattle.pushdown.specs.Offered.{Place}
@@ -28,15 +28,17 @@ use Rattle.med_world.proofs.Told.{AreLater, told_tree, before_tree, told_syntax,
 use Rattle.med_world.proofs.Objecting.{AreObjects, object_phase}
 use Rattle.med_world.proofs.Leading.{known, leads_refused, leads_memory}
 use Rattle.med_world.proofs.Querying.{ArePhased, select_phase, from_state, bindable_in, same_meant, picks_none, selects_leads, not_bound_leads, shows_run_leads, fails_leads}
+use Rattle.med_world.proofs.RowCausing.{WritesPhased, row_phase}
 use Rattle.med_world.proofs.Serving.{serving_rises, serving_agrees, serving_sound}
 use Rattle.med_world.proofs.Sessions.{is_open_by, is_closed_by}
 
 -- ---- a text that is not read
 
 -- what a tree shows is of phase 3 and later
-pub tree_later : AreObjects → ArePhased → AreLater
-tree_later objects queries w s p (on_data (select q)) c h = select_phase queries w s.user q c h
-tree_later objects queries w s p (on_objects d) c h = object_phase objects w s.user p d c h
+pub tree_later : AreObjects → ArePhased → WritesPhased → AreLater
+tree_later objects queries writes w s p (on_data (select q)) c h = select_phase queries w s.user q c h
+tree_later objects queries writes w s p (on_rows t) c h = row_phase writes w s.user p t c h
+tree_later objects queries writes w s p (on_objects d) c h = object_phase objects w s.user p d c h
 
 lacks : (e : Shown) (sid : ℕ) (text : List ℕ) (c : Cause) → c ≡ OutOfMemory → Leads e sid (sql text) (refused c) e
 lacks e sid text c is = subst (λ (d : Cause). Leads e sid (sql text) (refused d) e) (sym is) (leads_memory e e sid (sql text) tt (none_rises e.boxes) (λ w a. a))

@@ -74,6 +74,7 @@ added_sound law e name kind b h none room idle takes = record {
     is = x.is;
     remote = x.remote;
     kinds = x.kinds;
+    writes = x.writes;
   };
   bound_attached = attached;
   bound_once = h.bound_once;

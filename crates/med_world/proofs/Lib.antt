@@ -19,3 +19,12 @@ mod Phases
 mod Querying
 mod Serving
 mod Sessions
+mod AnyRows
+mod WrittenBoxes
+pub mod TargetRows
+mod Written
+mod RowCausing
+mod RowPicks
+mod RowLeads
+mod RowEnds
+mod RowReplies

@@ -20,7 +20,7 @@ pub pick_of : Holding → Option Entry
 pick_of (Known e) = e
 pick_of Unknown = None
 
-picks_pick : (h : Holding) → Picks h (pick_of h)
+pub picks_pick : (h : Holding) → Picks h (pick_of h)
 unfolding pick_of
 picks_pick (Known e) = refl
 picks_pick Unknown = tt

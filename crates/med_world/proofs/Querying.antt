@@ -115,10 +115,10 @@ bindable_in e w user q a h = subst (λ (o : Objects). IsBindable o user q) (sym 
 pub same_meant : (e : Shown) (w : World) (q : SelectTree) → Agrees e w → meant_by e.catalog q ≡ meant_over w q
 same_meant e w q a = ap (λ (o : Objects). meant_by o q) (sym a.catalog)
 
-same_entries : (e : Shown) (w : World) (q : SelectTree) (places : List Place) → Agrees e w → ArePlaces e.bound (meant_by e.catalog q).entries places → SameRows (entry_rows e.boxes places) (entry_tables (meant_by e.catalog q).entries (rows_in w.rows))
+pub same_entries : (e : Shown) (w : World) (q : SelectTree) (places : List Place) → Agrees e w → ArePlaces e.bound (meant_by e.catalog q).entries places → SameRows (entry_rows e.boxes places) (entry_tables (meant_by e.catalog q).entries (rows_in w.rows))
 same_entries e w q places a are = entries_agree e.boxes e.bound w.rows (meant_by e.catalog q).entries places a.rows are
 
-none_many : (e : Shown) (w : World) (q : SelectTree) → Agrees e w → length (meant_by e.catalog q).entries ≤ 8 → (d : Cause) → QueryState w q d → ⊥
+pub none_many : (e : Shown) (w : World) (q : SelectTree) → Agrees e w → length (meant_by e.catalog q).entries ≤ 8 → (d : Cause) → QueryState w q d → ⊥
 none_many e w q a few d h =
     let less : length (meant_over w q).entries ≤ 8 = subst (λ (m : Meant). length m.entries ≤ 8) (same_meant e w q a) few in
     let more : 8 < length (meant_over w q).entries = h.0 in

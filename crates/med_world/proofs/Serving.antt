@@ -13,7 +13,7 @@ use Rattle.bind_catalog.specs.Places.{Attached}
 use Rattle.med_world.specs.World.{World, Source, SourceState, standing, dropped}
 use Rattle.med_world.specs.Engine.{Label, Shown, IsAtRest, EachBox, IsSound, state_of, sources_of, AreRowsOf, RowsAgree, Agrees, Rises, EachRises}
 use Rattle.med_world.proofs.Faring.{same_box, no_box}
-use Rattle.med_world.proofs.Sounds.{standing_still}
+use Rattle.med_world.proofs.Sounds.{standing_still, written_still}
 
 abbrev ServedAlone : BoxState → BoxState → Type 0
 ServedAlone = Served [] []
@@ -153,7 +153,7 @@ serving_sound e new h sound = record {
   servers_stand = λ s in_p. let p = sound.servers_stand s in_p in (p.0, standing_still e (record e { boxes = new }) s s p.0 refl refl refl (λ i b at. let n = served_onward e.boxes new h i b at in (n.0, n.1)) p.1);
   many = sound.many;
   tables_bound = λ k t a at_t at_a. let x = sound.tables_bound k t a at_t at_a in let now = served_onward e.boxes new h a.source x.box x.there in
-      record { server = record { at = x.server.at; is = x.server.is; source = x.server.source }; box = now.0; there = now.1; bound = x.bound; is = ap (λ f. f a.number) now.2.tables ∙ x.is; remote = x.remote; kinds = x.kinds };
+      record { server = record { at = x.server.at; is = x.server.is; source = x.server.source }; box = now.0; there = now.1; bound = x.bound; is = ap (λ f. f a.number) now.2.tables ∙ x.is; remote = x.remote; kinds = x.kinds; writes = written_still t x.bound x.box.nature now.0.nature now.2.nature x.writes };
   bound_attached = λ slot number s b at is. let was = served_backward e.boxes new h slot s at in sound.bound_attached slot number was.0 b was.1 (table_before was.0 s number b was.2 is);
   bound_once = sound.bound_once;
 }

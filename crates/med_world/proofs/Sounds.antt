@@ -4,7 +4,7 @@ use Rattle.std.proofs.lemmas.Bool.Decides.{eqb_tells}
 use Rattle.std.proofs.lemmas.List.{length-set, length_push}
 use Rattle.med_syntax.specs.Tree.{Name}
 use Rattle.fdw_api.specs.Kinds.{Column, Setting}
-use Rattle.fdw_api.specs.State.{BoxState, Bound, IsIdle, table_of, scan_of, set_at}
+use Rattle.fdw_api.specs.State.{Nature, BoxState, Bound, IsIdle, table_of, scan_of, set_at}
 use Rattle.fdw_api.specs.Calls.{Binds, CanUnbind, Unbinds, Refuses}
 use Rattle.fdw_api.specs.declared.interface.Fault.{Fault}
 use Rattle.fdw_api.specs.Sound.{IsSoundBox}
@@ -14,7 +14,7 @@ use Rattle.med_catalog.specs.Changes.{ObjectChange, new_table, no_table, no_serv
 use Rattle.med_catalog.specs.Options.{table_settings, column_settings}
 use Rattle.bind_catalog.specs.Places.{Attached}
 use Rattle.med_world.specs.World.{beside_without}
-use Rattle.med_world.specs.Engine.{Label, Shown, EachTakes, EachBox, IsAtRest, AreSound, IsServerAt, IsStandingAt, IsBoundAs, IsAmong, IsSound, with_change, BindsTable, UnbindsTable, DropsBox}
+use Rattle.med_world.specs.Engine.{Label, Shown, EachTakes, EachBox, IsAtRest, AreSound, IsServerAt, IsStandingAt, IsWrittenAs, IsBoundAs, IsAmong, IsSound, with_change, BindsTable, UnbindsTable, DropsBox}
 use Rattle.med_world.specs.Altering.{BindsInVain}
 use Rattle.med_world.proofs.Lists.{some_same, none_some, push_before, push_last, push_cases, past}
 use Rattle.med_world.proofs.Indexes.{was_index, was_once, was_other, was_some, left_at, tables_left, as_many_left}
@@ -39,11 +39,11 @@ none_gone name = ⊥
 
 -- ---- boxes
 
-as_many : (P : BoxState → BoxState → Type 0) (old new : List (Option BoxState)) (slot : ℕ) → ChangesAt old slot P new → length new ≡ length old
+pub as_many : (P : BoxState → BoxState → Type 0) (old new : List (Option BoxState)) (slot : ℕ) → ChangesAt old slot P new → length new ≡ length old
 as_many P old new slot h = ap (λ (l : List (Option BoxState)). length l) h.slots ∙ length-set old slot (Some h.after)
 
 -- each box is as it was, or changed so
-sound_changed : (P : BoxState → BoxState → Type 0) (old new : List (Option BoxState)) (slot : ℕ) → ((b c : BoxState) → IsSoundBox b → P b c → IsSoundBox c) → ChangesAt old slot P new → EachBox IsSoundBox old → EachBox IsSoundBox new
+pub sound_changed : (P : BoxState → BoxState → Type 0) (old new : List (Option BoxState)) (slot : ℕ) → ((b c : BoxState) → IsSoundBox b → P b c → IsSoundBox c) → ChangesAt old slot P new → EachBox IsSoundBox old → EachBox IsSoundBox new
 sound_changed P old new slot law h each i c at = was w.0 (each i w.0 w.1) w.2
   where
     Or : BoxState → BoxState → Type 0
@@ -56,7 +56,7 @@ sound_changed P old new slot law h each i c at = was w.0 (each i w.0 w.1) w.2
     was b sound (inl kept) = subst IsSoundBox (sym kept) sound
     was b sound (inr q) = law b c sound q
 
-takes_by : (labels : List Label) (old new : List (Option BoxState)) → ((i : ℕ) (c : BoxState) → slice_get new i ≡ Some (Some c) → (b : BoxState) × (slice_get old i ≡ Some (Some b)) × (c.nature ≡ b.nature)) → EachTakes labels old → EachTakes labels new
+pub takes_by : (labels : List Label) (old new : List (Option BoxState)) → ((i : ℕ) (c : BoxState) → slice_get new i ≡ Some (Some c) → (b : BoxState) × (slice_get old i ≡ Some (Some b)) × (c.nature ≡ b.nature)) → EachTakes labels old → EachTakes labels new
 takes_by labels old new was h place l c at_l at_c o t columns declared clear =
     let b = was place c at_c in
     ap (λ n. n.kind.objections columns (table_settings l.kind t.options ++ column_settings 1 t.columns)) b.2 ∙ h place l b.0 at_l b.1 o t columns declared clear
@@ -76,6 +76,10 @@ server_still e n gone server place labels stay other h =
     let now = stay.there server h.at other h.is in
     record { at = now.0; is = now.1; source = (h.source.0, ap (λ (l : List Label). slice_get l place) labels ∙ h.source.1, h.source.2 ∙ sym now.2) }
 
+-- a kind says of writes to a bound table what it said, while the box is of its kind
+pub written_still : (t : TableObject) (bound : Bound) (m n : Nature) → n ≡ m → IsWrittenAs m.kind t bound → IsWrittenAs n.kind t bound
+written_still t bound m n same h = subst (λ (x : Nature). IsWrittenAs x.kind t bound) (sym same) h
+
 -- ---- a change of the catalogue alone
 
 pub catalog_sound : (e : Shown) (change : ObjectChange) → IsSound e → AreSound (changed change e.catalog) → ServersStay none_gone e.catalog (changed change e.catalog) → (changed change e.catalog).tables ≡ e.catalog.tables → IsSound (with_change e change)
@@ -91,7 +95,7 @@ catalog_sound e change h objects stay tables = record {
   servers_stand = λ s in_p. let was = stay.back s in_p in let p = h.servers_stand was.0 was.1 in (p.0, standing_still e (with_change e change) s was.0 p.0 refl was.2 was.3 (λ i b at. (b, at)) p.1);
   many = h.many ∙ sym (ap (λ (ts : List TableObject). length ts) tables);
   tables_bound = λ k t a at_t at_a. let x = h.tables_bound k t a (sym (ap (λ (ts : List TableObject). slice_get ts k) tables) ∙ at_t) at_a in
-      record { server = server_still e (with_change e change) none_gone t.server a.source refl stay (λ x. x) x.server; box = x.box; there = x.there; bound = x.bound; is = x.is; remote = x.remote; kinds = x.kinds };
+      record { server = server_still e (with_change e change) none_gone t.server a.source refl stay (λ x. x) x.server; box = x.box; there = x.there; bound = x.bound; is = x.is; remote = x.remote; kinds = x.kinds; writes = x.writes };
   bound_attached = h.bound_attached;
   bound_once = h.bound_once;
 }
@@ -154,7 +158,7 @@ unbound_sound e n name law sound objects h = subst IsSound (sym h.is) (record {
 
     -- a table that is left is bound as it was: it is another one, or in another box
     bound : (k : ℕ) (t : TableObject) (a : Attached) → slice_get shrunk.catalog.tables k ≡ Some t → slice_get shrunk.bound k ≡ Some a → IsBoundAs shrunk t a
-    bound k t a at_t at_a = record { server = server_still e shrunk none_gone t.server a.source refl (same_server_named e shrunk refl) (λ x. x) x.server; box = now.0; there = now.1; bound = x.bound; is = now.2 ∙ x.is; remote = x.remote; kinds = x.kinds }
+    bound k t a at_t at_a = record { server = server_still e shrunk none_gone t.server a.source refl (same_server_named e shrunk refl) (λ x. x) x.server; box = now.0; there = now.1; bound = x.bound; is = now.2 ∙ x.is; remote = x.remote; kinds = x.kinds; writes = written_still t x.bound x.box.nature now.0.nature now.3 x.writes }
       where
         was_a : slice_get e.bound (was_index h.place k) ≡ Some a
         was_a = sym (left_at name e.catalog.tables e.bound h.place h.first k) ∙ at_a
@@ -165,14 +169,14 @@ unbound_sound e n name law sound objects h = subst IsSound (sym h.is) (record {
         apart : a.source ≡ h.at.source → a.number ≡ h.at.number → ⊥
         apart s q = was_other h.place k (sound.bound_once (was_index h.place k) h.place a h.at was_a h.bound s q)
 
-        now : (c : BoxState) × (slice_get n.boxes a.source ≡ Some (Some c)) × (table_of c a.number ≡ table_of x.box a.number)
+        now : (c : BoxState) × (slice_get n.boxes a.source ≡ Some (Some c)) × (table_of c a.number ≡ table_of x.box a.number) × (c.nature ≡ x.box.nature)
         now = split (eqb_tells a.source h.at.source)
           where
-            split : ((eqb a.source h.at.source ≡ true) × (a.source ≡ h.at.source)) ⊎ ((eqb a.source h.at.source ≡ false) × (a.source ≢ h.at.source)) → (c : BoxState) × (slice_get n.boxes a.source ≡ Some (Some c)) × (table_of c a.number ≡ table_of x.box a.number)
+            split : ((eqb a.source h.at.source ≡ true) × (a.source ≡ h.at.source)) ⊎ ((eqb a.source h.at.source ≡ false) × (a.source ≢ h.at.source)) → (c : BoxState) × (slice_get n.boxes a.source ≡ Some (Some c)) × (table_of c a.number ≡ table_of x.box a.number) × (c.nature ≡ x.box.nature)
             split (inl s) =
                 let same : spares.before ≡ x.box = same_box spares.before x.box (sym spares.there ∙ ap (slice_get e.boxes) (sym s.1) ∙ x.there) in
-                (spares.after, ap (slice_get n.boxes) s.1 ∙ spares.now, spares.change.tables a.number (apart s.1) ∙ ap (λ (b : BoxState). table_of b a.number) same)
-            split (inr s) = (x.box, spares.others a.source s.1 ∙ x.there, refl)
+                (spares.after, ap (slice_get n.boxes) s.1 ∙ spares.now, spares.change.tables a.number (apart s.1) ∙ ap (λ (b : BoxState). table_of b a.number) same, spares.change.nature ∙ ap (λ (b : BoxState). b.nature) same)
+            split (inr s) = (x.box, spares.others a.source s.1 ∙ x.there, refl, refl)
 
     attached : (slot number : ℕ) (s : BoxState) (b : Bound) → slice_get n.boxes slot ≡ Some (Some s) → table_of s number ≡ Some b → IsAmong shrunk.bound slot number
     attached slot number s b at is = split (eqb_tells slot h.at.source)
@@ -246,19 +250,19 @@ bound_sound law e n t sound objects h = subst IsSound (sym h.is) (record {
     other k a at = let u = has_table e.catalog.tables e.bound k a sound.many at in fresh_other e h.place h.number h.binds.before sound sound.many h.binds.there h.binds.change.fresh k a u.0 u.1 at
 
     old_bound : (k : ℕ) (u : TableObject) (a : Attached) → slice_get e.catalog.tables k ≡ Some u → slice_get e.bound k ≡ Some a → IsBoundAs grown u a
-    old_bound k u a at_u at_a = record { server = still u.server a.source x.server; box = now.0; there = now.1; bound = x.bound; is = now.2 ∙ x.is; remote = x.remote; kinds = x.kinds }
+    old_bound k u a at_u at_a = record { server = still u.server a.source x.server; box = now.0; there = now.1; bound = x.bound; is = now.2 ∙ x.is; remote = x.remote; kinds = x.kinds; writes = written_still u x.bound x.box.nature now.0.nature now.3 x.writes }
       where
         x : IsBoundAs e u a
         x = sound.tables_bound k u a at_u at_a
 
-        now : (c : BoxState) × (slice_get n.boxes a.source ≡ Some (Some c)) × (table_of c a.number ≡ table_of x.box a.number)
+        now : (c : BoxState) × (slice_get n.boxes a.source ≡ Some (Some c)) × (table_of c a.number ≡ table_of x.box a.number) × (c.nature ≡ x.box.nature)
         now = split (eqb_tells a.source h.place)
           where
-            split : ((eqb a.source h.place ≡ true) × (a.source ≡ h.place)) ⊎ ((eqb a.source h.place ≡ false) × (a.source ≢ h.place)) → (c : BoxState) × (slice_get n.boxes a.source ≡ Some (Some c)) × (table_of c a.number ≡ table_of x.box a.number)
+            split : ((eqb a.source h.place ≡ true) × (a.source ≡ h.place)) ⊎ ((eqb a.source h.place ≡ false) × (a.source ≢ h.place)) → (c : BoxState) × (slice_get n.boxes a.source ≡ Some (Some c)) × (table_of c a.number ≡ table_of x.box a.number) × (c.nature ≡ x.box.nature)
             split (inl s) =
                 let same : spares.before ≡ x.box = same_box spares.before x.box (sym spares.there ∙ ap (slice_get e.boxes) (sym s.1) ∙ x.there) in
-                (spares.after, ap (slice_get n.boxes) s.1 ∙ spares.now, spares.change.tables a.number (other k a at_a s.1) ∙ ap (λ (b : BoxState). table_of b a.number) same)
-            split (inr s) = (x.box, spares.others a.source s.1 ∙ x.there, refl)
+                (spares.after, ap (slice_get n.boxes) s.1 ∙ spares.now, spares.change.tables a.number (other k a at_a s.1) ∙ ap (λ (b : BoxState). table_of b a.number) same, spares.change.nature ∙ ap (λ (b : BoxState). b.nature) same)
+            split (inr s) = (x.box, spares.others a.source s.1 ∙ x.there, refl, refl)
 
     last_bound : IsBoundAs grown t new_one
     last_bound = record {
@@ -269,6 +273,12 @@ bound_sound law e n t sound objects h = subst IsSound (sym h.is) (record {
       is = ap (λ l. l.tables h.number) h.binds.change.ledger ∙ set_this h.binds.before.ledger.tables h.number (Some h.binds.change.bound) h.number refl;
       remote = h.binds.change.remote_is;
       kinds = h.binds.change.kinds_are;
+      writes = written_still t h.binds.change.bound h.binds.before.nature h.binds.after.nature h.binds.change.nature (record {
+        line = h.binds.change.line_is;
+        image = h.binds.change.image_is;
+        arrangement = h.binds.change.arrangement_is;
+        refuses = h.binds.change.refuses_is;
+      });
     }
 
     bound : (k : ℕ) (u : TableObject) (a : Attached) → slice_get (e.catalog.tables ++ t ∷ []) k ≡ Some u → slice_get (e.bound ++ new_one ∷ []) k ≡ Some a → IsBoundAs grown u a
@@ -355,6 +365,7 @@ dropped_sound e n name sound objects stay h alone unused = subst IsSound (sym h.
       is = x.is;
       remote = x.remote;
       kinds = x.kinds;
+      writes = x.writes;
     }
       where
         x : IsBoundAs e t a
@@ -408,7 +419,7 @@ refused_sound law e new place fault sound h = record {
   servers_stand = λ s in_p. let p = sound.servers_stand s in_p in (p.0, standing_still e after s s p.0 refl refl refl (λ i b at. let x = is_there (Spares only) e.boxes new place i b (spares_itself only) spared at in (x.0, x.1)) p.1);
   many = sound.many;
   tables_bound = λ k t a at_t at_a. let x = sound.tables_bound k t a at_t at_a in let now = is_there (Spares only) e.boxes new place a.source x.box (spares_itself only) spared x.there in
-      record { server = record { at = x.server.at; is = x.server.is; source = x.server.source }; box = now.0; there = now.1; bound = x.bound; is = now.2.tables a.number (λ z. z) ∙ x.is; remote = x.remote; kinds = x.kinds };
+      record { server = record { at = x.server.at; is = x.server.is; source = x.server.source }; box = now.0; there = now.1; bound = x.bound; is = now.2.tables a.number (λ z. z) ∙ x.is; remote = x.remote; kinds = x.kinds; writes = written_still t x.bound x.box.nature now.0.nature now.2.nature x.writes };
   bound_attached = λ slot number s b at is. let was = was_there (Spares only) e.boxes new place slot s (spares_itself only) spared at in sound.bound_attached slot number was.0 b was.1 (sym (was.2.tables number (λ z. z)) ∙ is);
   bound_once = sound.bound_once;
 }
@@ -449,9 +460,9 @@ vain_sound law unbinds e new t place sound h = record {
   takes = takes_spared e.labels only e.boxes new place spared sound.takes;
   servers_stand = λ s in_p. let p = sound.servers_stand s in_p in (p.0, standing_still e after s s p.0 refl refl refl (λ i b at. let x = is_there (Spares only) e.boxes new place i b (spares_itself only) spared at in (x.0, x.1)) p.1);
   many = sound.many;
-  tables_bound = λ k u a at_t at_a. let x = sound.tables_bound k u a at_t at_a in let now = is_there SameTables e.boxes new place a.source x.box (λ b q. refl) tables x.there in
-      record { server = record { at = x.server.at; is = x.server.is; source = x.server.source }; box = now.0; there = now.1; bound = x.bound; is = now.2 a.number ∙ x.is; remote = x.remote; kinds = x.kinds };
-  bound_attached = λ slot number s b at is. let was = was_there SameTables e.boxes new place slot s (λ c q. refl) tables at in sound.bound_attached slot number was.0 b was.1 (sym (was.2 number) ∙ is);
+  tables_bound = λ k u a at_t at_a. let x = sound.tables_bound k u a at_t at_a in let now = is_there SameTables e.boxes new place a.source x.box same_itself tables x.there in
+      record { server = record { at = x.server.at; is = x.server.is; source = x.server.source }; box = now.0; there = now.1; bound = x.bound; is = now.2.0 a.number ∙ x.is; remote = x.remote; kinds = x.kinds; writes = written_still u x.bound x.box.nature now.0.nature now.2.1 x.writes };
+  bound_attached = λ slot number s b at is. let was = was_there SameTables e.boxes new place slot s same_itself tables at in sound.bound_attached slot number was.0 b was.1 (sym (was.2.0 number) ∙ is);
   bound_once = sound.bound_once;
 }
   where
@@ -471,7 +482,10 @@ vain_sound law unbinds e new t place sound h = record {
     resting = record { before = h.before; after = h.after; there = h.there; now = h.now; others = h.others; slots = h.slots; change = (sound.at_rest place h.before h.there, h.change) }
 
     SameTables : BoxState → BoxState → Type 0
-    SameTables b c = (q : ℕ) → table_of c q ≡ table_of b q
+    SameTables b c = ((q : ℕ) → table_of c q ≡ table_of b q) × (c.nature ≡ b.nature)
+
+    same_itself : (b : BoxState) → SameTables b b
+    same_itself b = (λ q. refl, refl)
 
     -- also the number that was bound in vain is as free as it was
     same : (q : ℕ) → table_of h.after q ≡ table_of h.before q
@@ -484,4 +498,4 @@ vain_sound law unbinds e new t place sound h = record {
         split (inr k) = spared.change.tables q k.1
 
     tables : ChangesAt e.boxes place SameTables new
-    tables = record { before = h.before; after = h.after; there = h.there; now = h.now; others = h.others; slots = h.slots; change = same }
+    tables = record { before = h.before; after = h.after; there = h.there; now = h.now; others = h.others; slots = h.slots; change = (same, spared.change.nature) }

@@ -98,3 +98,29 @@ told_closed law w sid p text h = record { stands = inl (refl, h); least = least 
     least d (inl s) = le_by 1 (phase d) 1 refl (ap phase s.0)
     least d (inr (inl s)) = le_two 1 (phase d) 1 2 refl (syntax_phase text d s) (lit≤ tt)
     least d (inr (inr (s, t, is, x))) = let r : 3 ≤ phase d = law w s p t d x in omega arith
+
+-- ---- what is picked
+
+late : (a b : ℕ) → 3 ≤ a → a ≤ b → b ≡ 2 → ⊥
+late a b h le e = omega arith
+
+under : (a b d : ℕ) → a ≤ b → b ≡ 2 → 3 ≤ d → a ≤ d
+under a b d h e late = omega arith
+
+-- Where a cause of syntax stands against the text, the cause that is told under one pick is told under every other.
+pub unpicked : AreLater → (w : World) (sid : ℕ) (p q : Pick) (text : List ℕ) (x c : Cause) → SyntaxCauses text x → IsTold w sid p (sql text) c
+    → IsTold w sid q (sql text) c
+unpicked law w sid p q text x c h told = record { stands = moved told.stands; least = least }
+  where
+    first : phase c ≤ phase x
+    first = told.least x (inr (inl h))
+
+    moved : Stands w sid p (sql text) c → Stands w sid q (sql text) c
+    moved (inl f) = inl f
+    moved (inr (inl f)) = inr (inl f)
+    moved (inr (inr (s, t, is, f))) = absurd (late (phase c) (phase x) (law w s p t c f) first (syntax_phase text x h))
+
+    least : (d : Cause) → Stands w sid q (sql text) d → phase c ≤ phase d
+    least d (inl f) = told.least d (inl f)
+    least d (inr (inl f)) = told.least d (inr (inl f))
+    least d (inr (inr (s, t, is, f))) = under (phase c) (phase x) (phase d) first (syntax_phase text x h) (law w s q t d f)

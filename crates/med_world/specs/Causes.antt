@@ -1,27 +1,37 @@
 -- The causes of refusal that stand for a request in a world: a set of causes, with no order of checks.
-use Rattle.std.specs.Prelude.{◌≡◌, ◌<◌, ◌≤◌, ◌⊎◌, ℕ, zero, suc, List, [], ◌∷◌, length, Option, Some, Contains, unwrap_or}
+use Rattle.std.specs.Prelude.{◌≡◌, ◌<◌, ◌≤◌, ◌⊎◌, ℕ, zero, suc, true, List, [], ◌∷◌, map, flat_map, length, Option, Some, Contains, IsPermutation, unwrap_or}
 use Rattle.med_value.specs.Causes.{phase_of}
 use Rattle.med_value.specs.declared.cause.Cause.{Cause}
-use Rattle.med_value.specs.declared.cause.Cause.TheVariants.{Protocol, NoConnection, LimitExceeded, UnableToConnect}
+use Rattle.med_value.specs.declared.cause.Cause.TheVariants.{Protocol, NoConnection, LimitExceeded, UnableToConnect, InUse, NotNull}
 use Rattle.med_syntax.specs.Tree.{Name}
 use Rattle.med_syntax.specs.QueryTree.{SelectTree, select}
+use Rattle.tri_expr.specs.declared.expr.Fault.{Fault as Wrong}
+use Rattle.tri_expr.specs.Verdict.{fault_list}
 use Rattle.med_query.specs.Query.{Query, Tables}
 use Rattle.med_query.specs.Form.{query_by}
-use Rattle.fdw_api.specs.Kinds.{Kind, Entry, Holding, Reading}
+use Rattle.fdw_api.specs.Kinds.{Kind, Entry, Holding, Held, Reading}
 use Rattle.fdw_api.specs.Calls.{Picks}
 use Rattle.med_parser.specs.CommandCauses.{SyntaxCauses}
 use Rattle.bind_names.specs.Meaning.{Meant}
-use Rattle.med_planner.specs.Planned.{QueryCauses}
+use Rattle.med_planner.specs.Planned.{QueryCauses, wrong_cause}
 use Rattle.ddl_syntax.specs.DdlTree.{DdlTree}
-use Rattle.med_catalog.specs.Objects.{TableObject}
+use Rattle.write_syntax.specs.WriteTree.{GivenTree, values, rows_of, WriteTree, insert, update, delete}
+use Rattle.med_write.specs.declared.write.WrittenColumn.{WrittenColumn}
+use Rattle.med_write.specs.Form.{WriteForm}
+use Rattle.med_write.specs.Writing.{rows_written, write_faults, write_lacks, changes_of}
+use Rattle.write_parts.specs.Meaning.{target_of, columns_in, written_column, write_meant}
+use Rattle.write_parts.specs.Naming.{WriteNames}
+use Rattle.write_parts.specs.Typing.{WriteTypes}
+use Rattle.med_catalog.specs.Objects.{TableObject, table_named}
 use Rattle.med_catalog.specs.Changes.{ObjectChange, new_server, new_table, Asks}
 use Rattle.med_catalog.specs.DdlCauses.{DdlCauses}
+use Rattle.bind_catalog.specs.Tables.{shapes}
 use Rattle.bind_catalog.specs.Queries.{meant_by, QueryNames, QueryTypes}
-use Rattle.med_parser.specs.CommandTree.{CommandTree, on_data, on_objects}
+use Rattle.med_parser.specs.CommandTree.{CommandTree, on_data, on_rows, on_objects}
 use Rattle.med_parser.specs.CommandGrammar.{HasCommand}
-use Rattle.med_world.specs.Picks.{Pick}
+use Rattle.med_world.specs.Picks.{Pick, PicksAnswer, IsNumbering, as_given}
 use Rattle.med_world.specs.Requests.{Asked, opening, sql, bye, IsUser}
-use Rattle.med_world.specs.World.{World, Session, IsOpen, rows_in, IsFree, Serves, is_leased}
+use Rattle.med_world.specs.World.{World, Session, IsOpen, cells_of, rows_in, rows_named, IsFree, Serves, is_leased}
 
 -- Phase 1, the frame. 08P01: OPEN of a session that is open, or with a user who is none by the protocol.
 -- 08003: a statement or BYE of a session that is not open.
@@ -81,11 +91,67 @@ abbrev pub ObjectCauses : World → Name → Pick → DdlTree → Cause → Type
 ObjectCauses w user p d c =
     DdlCauses w.catalog (is_leased w) user d c ⊎ ((change : ObjectChange) × Asks w.catalog user d change × SourceCauses w p change c)
 
+-- ---- a write
+
+-- this holds of the query of an INSERT that has one; no other write has one
+abbrev pub OfGiven : (SelectTree → Type 0) → GivenTree → Type 0
+OfGiven P (values rows) = ⊥
+OfGiven P (rows_of q) = P q
+
+abbrev pub OfQuery : (SelectTree → Type 0) → WriteTree → Type 0
+OfQuery P (insert i) = OfGiven P i.given
+OfQuery P (update u) = ⊥
+OfQuery P (delete d) = ⊥
+
+-- Phase 5: 55006 where the table is leased, and 54000 where FROM of an INSERT's query has more than 8 entries.
+abbrev pub WriteState : World → WriteTree → Cause → Type 0
+WriteState w t c = ((c ≡ InUse) × (is_leased w (target_of t) ≡ true)) ⊎ OfQuery (λ q. QueryState w q c) t
+
+-- what the write means over the world's tables, what it knows of the columns of its table, and the rows of that
+abbrev pub write_over : World → WriteTree → WriteForm
+write_over w t = write_meant (shapes w.catalog) t
+
+abbrev pub columns_over : World → WriteTree → List WrittenColumn
+columns_over w t = map written_column (columns_in (shapes w.catalog) (target_of t))
+
+abbrev pub rows_held : World → WriteTree → List Held
+rows_held w t = rows_named (target_of t) w.catalog.tables w.rows
+
+-- the table that is written, and what its source is
+pub record IsTarget (w : World) (t : WriteTree) (table : TableObject) (kind : Kind) (holdings : Name → Holding) : Type 0 where
+  pub there : table_named w.catalog (target_of t) ≡ Some table
+  pub serves : Serves w table.server kind holdings
+
+-- What the kind of the table's source refuses of all changes together, where each cell that is written has a value: repeated keys, what a
+-- record or line cannot take, and sizes.
+pub record IsRefused (w : World) (p : Pick) (t : WriteTree) (c : Cause) : Type 0 where
+  pub table : TableObject
+  pub kind : Kind
+  pub holdings : Name → Holding
+  pub target : IsTarget w t table kind holdings
+  pub valued : flat_map fault_list (rows_written (write_over w t) (cells_of (rows_held w t)) p.answer) ≡ []
+  pub stands : Contains ((kind.refuses table.columns table.settings).causes p.entry p.rows (changes_of (write_over w t) p.answer p.read)) c
+
+-- Phase 6: 22003 and 22012 for a fault of WHERE on a row of the table, or of a cell that is written; 23502 for NULL in a NOT NULL column of
+-- a row that is written; what the source's kind refuses; and what stands against the run of an INSERT's query.
+pub data WriteRun (w : World) (p : Pick) (t : WriteTree) (c : Cause) : Type 0 where
+  has_fault : (f : Wrong) → Contains (write_faults (write_over w t) (cells_of (rows_held w t)) p.answer) f → c ≡ wrong_cause f
+      → WriteRun w p t c
+  lacks_value : write_lacks (columns_over w t) (write_over w t) (cells_of (rows_held w t)) p.answer ≡ true → c ≡ NotNull
+      → WriteRun w p t c
+  is_refused : IsRefused w p t c → WriteRun w p t c
+  query_shows : OfQuery (λ q. QueryRun w q c) t → WriteRun w p t c
+
+-- Phases 3 to 6: names and rights, types, state, and the run.
+abbrev pub RowCauses : World → Name → Pick → WriteTree → Cause → Type 0
+RowCauses w user p t c = WriteNames w.catalog user t c ⊎ (WriteTypes w.catalog t c ⊎ (WriteState w t c ⊎ WriteRun w p t c))
+
 -- ---- a statement
 
 -- Phases 3 to 6, by the statement.
 abbrev pub TreeCauses : World → Session → Pick → CommandTree → Cause → Type 0
 TreeCauses w s p (on_data (select q)) c = SelectCauses w s.user q c
+TreeCauses w s p (on_rows t) c = RowCauses w s.user p t c
 TreeCauses w s p (on_objects d) c = ObjectCauses w s.user p d c
 
 -- the session is open, and the request is a statement with this tree
@@ -110,8 +176,24 @@ Stands w sid p request c = FrameCauses w sid request c ⊎ StatementCauses w sid
 abbrev pub PicksEntry : World → TableObject → Pick → Type 0
 PicksEntry w t p = (kind : Kind) (holdings : Name → Holding) → Serves w t.server kind holdings → Picks (holdings t.remote) p.entry
 
+-- what is open of a write
+pub record PicksWrite (w : World) (t : WriteTree) (p : Pick) : Type 0 where
+  pub entry : (table : TableObject) → table_named w.catalog (target_of t) ≡ Some table → PicksEntry w table p
+  pub rows : IsNumbering (rows_held w t) p.rows
+  pub read : IsPermutation (map as_given p.rows) p.read
+  pub answer : (q : SelectTree) → OfQuery (λ r. r ≡ q) t → PicksAnswer (query_of (meant_over w q)) (entries_in w q) p.answer
+
+-- no cause of names, rights, types or state stands against the write
+abbrev pub IsWritable : World → Name → WriteTree → Type 0
+IsWritable w user t = (c : Cause) → (WriteNames w.catalog user t c ⊎ (WriteTypes w.catalog t c ⊎ WriteState w t c)) → ⊥
+
+-- nothing is open of a write against which one does
+abbrev pub IsRowPick : World → Name → WriteTree → Pick → Type 0
+IsRowPick w user t p = IsWritable w user t → PicksWrite w t p
+
 abbrev pub IsPick : World → Session → CommandTree → Pick → Type 0
 IsPick w s (on_data q) p = Unit {0}
+IsPick w s (on_rows t) p = IsRowPick w s.user t p
 IsPick w s (on_objects d) p = (t : TableObject) → Asks w.catalog s.user d (new_table t) → PicksEntry w t p
 
 -- no cause of syntax stands against the text

@@ -3,7 +3,7 @@ use Rattle.std.specs.Prelude.{◌≡◌, ◌≤◌, ◌-◌, ◌^◌, ℕ, zero,
 use Rattle.std.specs.List.{IsDistinct}
 use Rattle.med_value.specs.declared.cause.Cause.{Cause}
 use Rattle.med_syntax.specs.Tree.{Name}
-use Rattle.fdw_api.specs.Kinds.{Column, Held, held, kinds_of}
+use Rattle.fdw_api.specs.Kinds.{Column, Kind, Held, held, kinds_of}
 use Rattle.fdw_api.specs.State.{BoxState, Bound, IsIdle, is_honest, table_of, scan_of, rows_of}
 use Rattle.fdw_api.specs.Calls.{Binds, Unbinds}
 use Rattle.fdw_api.specs.Sound.{IsSoundBox}
@@ -83,7 +83,14 @@ pub record IsStandingAt (e : Shown) (s : ServerObject) (place : ℕ) : Type 0 wh
   pub box : BoxState
   pub box_there : slice_get e.boxes place ≡ Some (Some box)
 
--- the table of the catalogue is bound there: in the box of its server's source, for its remote name and its columns
+-- what a kind says of writes to a table of these columns and options is said of the bound table
+pub record IsWrittenAs (kind : Kind) (t : TableObject) (bound : Bound) : Type 0 where
+  pub line : bound.line ≡ kind.line t.columns t.settings
+  pub image : bound.image ≡ kind.image t.columns t.settings
+  pub arrangement : bound.arrangement ≡ kind.arrangement t.columns t.settings
+  pub refuses : bound.refuses ≡ kind.refuses t.columns t.settings
+
+-- the table of the catalogue is bound there: in the box of its server's source, for its remote name, its columns and its options
 pub record IsBoundAs (e : Shown) (t : TableObject) (a : Attached) : Type 0 where
   pub server : IsServerAt e t.server a.source
   pub box : BoxState
@@ -92,6 +99,7 @@ pub record IsBoundAs (e : Shown) (t : TableObject) (a : Attached) : Type 0 where
   pub is : table_of box a.number ≡ Some bound
   pub remote : bound.remote ≡ t.remote
   pub kinds : bound.kinds ≡ kinds_of t.columns
+  pub writes : IsWrittenAs box.nature.kind t bound
 
 -- the box has bound this table, and it is one of these
 pub record IsAmong (bound : List Attached) (slot number : ℕ) : Type 0 where

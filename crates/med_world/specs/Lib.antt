@@ -7,5 +7,6 @@ pub mod Steps
 pub mod Engine
 pub mod Altering
 pub mod Selecting
+pub mod Writing
 pub mod Laws
 pub mod Adding

@@ -1,20 +1,24 @@
 -- The direct meaning of a request: from a world to a reply and a world.
-use Rattle.std.specs.Prelude.{◌≡◌, ℕ, Bool, true, false, List, [], ◌∷◌, ◌++◌, codes, Some, None}
+use Rattle.std.specs.Prelude.{◌≡◌, ℕ, Bool, true, false, List, [], ◌∷◌, ◌++◌, codes, Option, Some, None, IsPermutation}
 use Rattle.med_value.specs.Datum.{Tuple}
 use Rattle.med_value.specs.declared.cause.Cause.{Cause}
 use Rattle.med_value.specs.declared.cause.Cause.TheVariants.{LimitExceeded, OutOfMemory, SourceFault}
 use Rattle.med_syntax.specs.QueryTree.{SelectTree, select}
 use Rattle.med_query.specs.Query.{IsAnswer}
-use Rattle.fdw_api.specs.Kinds.{Reading}
+use Rattle.fdw_api.specs.Kinds.{Kind, Entry, Holding, Known, Unknown, Held, Reading}
 use Rattle.ddl_syntax.specs.DdlTree.{DdlTree, create_wrapper, create_server, create_mapping, create_table, drop_wrapper, drop_server, drop_table, drop_mapping}
-use Rattle.med_catalog.specs.Objects.{server_named}
+use Rattle.write_syntax.specs.WriteTree.{WriteTree, insert, update, delete}
+use Rattle.med_write.specs.Writing.{count_of, rows_after}
+use Rattle.write_parts.specs.Meaning.{target_of}
+use Rattle.med_syntax.specs.Tree.{Name}
+use Rattle.med_catalog.specs.Objects.{TableObject, server_named}
 use Rattle.med_catalog.specs.Changes.{ObjectChange, new_table, no_server, no_table, changed, Asks}
-use Rattle.med_parser.specs.CommandTree.{CommandTree, on_data, on_objects}
+use Rattle.med_parser.specs.CommandTree.{CommandTree, on_data, on_rows, on_objects}
 use Rattle.med_world.specs.Picks.{Pick}
 use Rattle.med_world.specs.Requests.{Asked, opening, sql, bye}
-use Rattle.med_world.specs.World.{World, Session, beside_without, drop_source_of, with_session, new_session}
-use Rattle.med_world.specs.Causes.{query_of, meant_over, entries_in, Reads, IsStatementOf, IsPickOf, IsTold, NoneStands, NoneBeforeState}
-use Rattle.med_world.specs.Replies.{Reply, done, answered, refused}
+use Rattle.med_world.specs.World.{World, Session, cells_of, beside_without, rows_with, drop_source_of, with_state, holds_at, with_session, new_session}
+use Rattle.med_world.specs.Causes.{query_of, meant_over, entries_in, Reads, write_over, rows_held, IsTarget, IsStatementOf, IsPickOf, IsTold, NoneStands, NoneBeforeState}
+use Rattle.med_world.specs.Replies.{Reply, done, answered, refused, rows_tag}
 
 -- What befell one request: a growth was refused; it is a FETCH and had asked its cursor for a row; a source failed; a box has given all its
 -- ticket numbers.
@@ -53,6 +57,36 @@ Changes w p (no_server name) new =
     new ≡ record (with_catalog w (no_server name)) { sources = drop_source_of (server_named w.catalog name) w.sources }
 Changes w p change new = new ≡ with_catalog w change
 
+-- what stands under a remote name after a write: the image of the rows; what was unknown stays unknown
+abbrev pub holding_after : (Option Entry → Option Entry) → Holding → Holding
+holding_after image (Known e) = Known (image e)
+holding_after image Unknown = Unknown
+
+-- The table is as after the write of n rows, its rows in any order, and its source holds their image. All else is as it was.
+pub record Writes (w : World) (p : Pick) (t : WriteTree) (n : ℕ) (new : World) : Type 0 where
+  pub table : TableObject
+  pub kind : Kind
+  pub holdings : Name → Holding
+  pub target : IsTarget w t table kind holdings
+  pub count : n ≡ count_of (write_over w t) (cells_of (rows_held w t)) p.answer
+  pub rows : List Held
+  pub same : IsPermutation (rows_after (kind.line table.columns table.settings) (write_over w t) p.answer (rows_held w t)) rows
+  pub is : new ≡ record w {
+    rows = rows_with (target_of t) rows w.catalog.tables w.rows;
+    sources = with_state target.serves.at.source
+        (holds_at table.remote (holding_after (λ e. kind.image table.columns table.settings e rows) (holdings table.remote))) w.sources;
+  }
+
+-- the tag of a write of n rows
+abbrev pub write_tag : WriteTree → ℕ → List ℕ
+write_tag (insert i) n = rows_tag (codes "INSERT 0") n
+write_tag (update u) n = rows_tag (codes "UPDATE") n
+write_tag (delete d) n = rows_tag (codes "DELETE") n
+
+-- a write is answered by its tag
+abbrev pub RowsDo : World → Pick → WriteTree → Reply → World → Type 0
+RowsDo w p t reply new = (n : ℕ) × (reply ≡ done (write_tag t n)) × Writes w p t n new
+
 -- the tag of a statement on objects
 abbrev pub ddl_tag : DdlTree → List ℕ
 ddl_tag (create_wrapper name handler) = codes "CREATE FOREIGN DATA WRAPPER"
@@ -67,6 +101,7 @@ ddl_tag (drop_mapping if_exists user server) = codes "DROP USER MAPPING"
 -- by the statement
 abbrev pub TreeDoes : World → ℕ → Session → Pick → CommandTree → Reply → World → Type 0
 TreeDoes w sid s p (on_data (select q)) reply new = Answers w q reply × (new ≡ w)
+TreeDoes w sid s p (on_rows t) reply new = RowsDo w p t reply new
 TreeDoes w sid s p (on_objects d) reply new =
     (reply ≡ done (ddl_tag d)) × ((change : ObjectChange) × Asks w.catalog s.user d change × Changes w p change new)
 

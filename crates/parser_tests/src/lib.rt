@@ -12,3 +12,5 @@ mod statement_sizes;
 mod statements;
 #[cfg(test)]
 mod tokens;
+#[cfg(test)]
+mod writes;

@@ -87,6 +87,10 @@ fn refused_allocations(rt: HostRuntime) -> Result<(), Fail> {
         SELECT DISTINCT 1 FROM t u JOIN v ON a LEFT JOIN w x ON b CROSS JOIN y, z => SELECT DISTINCT 1 FROM \"t\" AS \"u\" JOIN \"v\" ON \"a\" LEFT JOIN \"w\" AS \"x\" ON \"b\" CROSS JOIN \"y\" , \"z\"\n\
         SELECT a GROUP BY a, t.b HAVING c ORDER BY a, b DESC NULLS LAST OFFSET 2 ROWS LIMIT 1 => SELECT \"a\" GROUP BY \"a\" , \"t\" . \"b\" HAVING \"c\" ORDER BY \"a\" ASC NULLS LAST , \"b\" DESC NULLS LAST LIMIT 1 OFFSET 2\n\
         CREATE FOREIGN TABLE t (a text OPTIONS (b 'c') NOT NULL, d integer NULL) SERVER s OPTIONS (e 'f') => CREATE FOREIGN TABLE \"t\" ( \"a\" \"text\" OPTIONS ( \"b\" 'c' ) NOT NULL , \"d\" \"integer\" ) SERVER \"s\" OPTIONS ( \"e\" 'f' )\n\
-        DROP USER MAPPING IF EXISTS FOR u SERVER s; => DROP USER MAPPING IF EXISTS FOR \"u\" SERVER \"s\"",
+        DROP USER MAPPING IF EXISTS FOR u SERVER s; => DROP USER MAPPING IF EXISTS FOR \"u\" SERVER \"s\"\n\
+        INSERT INTO t (a, b) VALUES (1, 'c'), (d + 2, NULL) => INSERT INTO \"t\" ( \"a\" , \"b\" ) VALUES ( 1 , 'c' ) , ( \"d\" + 2 , NULL )\n\
+        INSERT INTO t SELECT a FROM u WHERE b => INSERT INTO \"t\" SELECT \"a\" FROM \"u\" WHERE \"b\"\n\
+        UPDATE t u SET a = 'b', c = 1 WHERE d => UPDATE \"t\" AS \"u\" SET \"a\" = 'b' , \"c\" = 1 WHERE \"d\"\n\
+        DELETE FROM t AS u WHERE a = 'b' => DELETE FROM \"t\" AS \"u\" WHERE \"a\" = 'b'",
     )
 }

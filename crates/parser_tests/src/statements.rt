@@ -5,7 +5,7 @@ use std::alloc::Global;
 use std::test::Fail;
 
 /// The statement of the text, written out, or why it is refused.
-struct Printed;
+pub struct Printed;
 
 impl Answer for Printed {
     fn answer(alloc: Global, text: &str) -> Result<String, Fail> {
@@ -216,6 +216,7 @@ impl Answer for Tree {
     fn answer(alloc: Global, text: &str) -> Result<String, Fail> {
         match parse(alloc, text) {
             Ok(Command::Data(statement)) => Ok(format!(in alloc; "{statement:?}")?),
+            Ok(Command::Rows(statement)) => Ok(format!(in alloc; "{statement:?}")?),
             Ok(Command::Ddl(statement)) => Ok(format!(in alloc; "{statement:?}")?),
             Err(cause) => Ok(format!(in alloc; "{cause:?}")?),
         }

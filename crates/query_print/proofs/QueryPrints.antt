@@ -392,8 +392,18 @@ written_statement : (s : StatementTree) (ts : List Terminal) → Spells s ts →
 written_statement s ts x p =
     (statement_written s, terminals_printed (statement_written s) p, (statement_written s, [], sym (append-nil (statement_written s)), statement_spelled s ts x, inl refl))
 
+-- the tokens that a statement in range is written by, where some tokens are that statement
+pub record Written (s : StatementTree) : Type 0 where
+  pub shapes : AreShapes (shapes_for (statement_written s))
+  pub is : IsStatement (shapes_for (statement_written s)) s
+
+pub written : (ss : List Shape) (s : StatementTree) → AreShapes ss → IsStatement ss s → statement_in_range s ≡ true → Written s
+written ss s a x r =
+    let p : ArePrinted (statement_written s) = tokens_printed ss s a x r in
+    record { shapes = shapes_printed (statement_written s) p; is = written_statement s x.2.0 x.2.3 p }
+
 pub printed_has : PrintedAgain → ((text : List ℕ) (ts : List Lexeme) → Lexes 0 text ts → AreShapes (map (λ (t : Lexeme). t.shape) ts)) → (text : List ℕ) (s : StatementTree) → HasStatement text s → statement_in_range s ≡ true → HasStatement (printed_statement s) s
 printed_has again can bytes s x r =
-    let p : ArePrinted (statement_written s) = tokens_printed (shapes x.0) s (can bytes x.0 x.1) x.2 r in
-    let made = again (shapes_for (statement_written s)) (shapes_printed (statement_written s) p) in
-    (made.0, made.1, subst (λ ss. IsStatement ss s) (sym made.2) (written_statement s (x.2).2.0 (x.2).2.3 p))
+    let w : Written s = written (shapes x.0) s (can bytes x.0 x.1) x.2 r in
+    let made = again (shapes_for (statement_written s)) w.shapes in
+    (made.0, made.1, subst (λ ss. IsStatement ss s) (sym made.2) w.is)

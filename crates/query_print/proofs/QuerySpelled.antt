@@ -25,14 +25,14 @@ item_spelled (all_of q) ts s = refl
 item_spelled (value e label) ts s = (spelling e, alias_written label, refl, record { fits = (s.3).fits; spelled = refl }, alias_label label)
 
 -- what is written of what is spelled is spelled so
-abbrev Spelled : {X : Type 0} → (X → List Terminal → Type 0) → (X → List Terminal) → Type 0
+abbrev pub Spelled : {X : Type 0} → (X → List Terminal → Type 0) → (X → List Terminal) → Type 0
 Spelled {X} Spelling written = (x : X) (ts : List Terminal) → Spelling x ts → Spelling x (written x)
 
 others_spelled : {X : Type 0} (Spelling : X → List Terminal → Type 0) (written : X → List Terminal) → Spelled Spelling written → (xs : List X) (ts : List Terminal) → SpellsOthers Spelling xs ts → SpellsOthers Spelling xs (others_written written xs)
 others_spelled Spelling written item [] ts s = refl
 others_spelled Spelling written item (x ∷ xs) ts s = (written x, others_written written xs, refl, item x s.0 s.3, others_spelled Spelling written item xs s.1 s.4)
 
-list_spelled : {X : Type 0} (Spelling : X → List Terminal → Type 0) (written : X → List Terminal) → Spelled Spelling written → (xs : List X) (ts : List Terminal) → SpellsList Spelling xs ts → SpellsList Spelling xs (list_written written xs)
+pub list_spelled : {X : Type 0} (Spelling : X → List Terminal → Type 0) (written : X → List Terminal) → Spelled Spelling written → (xs : List X) (ts : List Terminal) → SpellsList Spelling xs ts → SpellsList Spelling xs (list_written written xs)
 list_spelled Spelling written item [] ts s = s
 list_spelled Spelling written item (x ∷ xs) ts s = (written x, others_written written xs, refl, item x s.0 s.3, others_spelled Spelling written item xs s.1 s.4)
 
@@ -40,11 +40,11 @@ listed_spelled : {X : Type 0} (words : List (List ℕ)) (Spelling : X → List T
 listed_spelled words Spelling written item [] ts s = refl
 listed_spelled words Spelling written item (x ∷ xs) ts s = (list_written written (x ∷ xs), refl, list_spelled Spelling written item (x ∷ xs) s.0 s.2)
 
-condition_spelled : (words : List (List ℕ)) (condition : Option ExprTree) (ts : List Terminal) → SpellsPerhaps words SpellsExpr condition ts → SpellsPerhaps words SpellsExpr condition (perhaps_written words spelling condition)
+pub condition_spelled : (words : List (List ℕ)) (condition : Option ExprTree) (ts : List Terminal) → SpellsPerhaps words SpellsExpr condition ts → SpellsPerhaps words SpellsExpr condition (perhaps_written words spelling condition)
 condition_spelled words None ts s = refl
 condition_spelled words (Some e) ts s = (spelling e, refl, record { fits = (s.2).fits; spelled = refl })
 
-entry_spelled : Spelled SpellsEntry entry_written
+pub entry_spelled : Spelled SpellsEntry entry_written
 entry_spelled e ts s = (alias_written e.alias, refl, alias_alias e.alias)
 
 on_spelled : (e : EntryTree) (on : ExprTree) (ts : List Terminal) → SpellsOn e on ts → SpellsOn e on (on_written e on)

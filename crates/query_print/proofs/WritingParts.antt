@@ -11,7 +11,7 @@ use Rattle.expr_writer.proofs.ExprPrints.{wrote_more, spaces_append}
 -- ---- writing
 
 -- each further part
-others_next : {X : Type 0} (written : X → List Terminal) (o a b c : List ℕ) (x : X) (xs whole : List X) → a ++ behind_spaces (shapes_for (others_written written (x ∷ xs))) ≡ o ++ behind_spaces (shapes_for (others_written written whole)) →
+pub others_next : {X : Type 0} (written : X → List Terminal) (o a b c : List ℕ) (x : X) (xs whole : List X) → a ++ behind_spaces (shapes_for (others_written written (x ∷ xs))) ≡ o ++ behind_spaces (shapes_for (others_written written whole)) →
     Wrote a b (t.Comma ∷ []) → Wrote b c (written x) → c ++ behind_spaces (shapes_for (others_written written xs)) ≡ o ++ behind_spaces (shapes_for (others_written written whole))
 others_next written o a b c x xs whole same p q =
     let w : Wrote a c (t.Comma ∷ written x) = wrote_more a b c t.Comma (written x) p q in

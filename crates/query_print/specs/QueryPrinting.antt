@@ -35,6 +35,12 @@ keyword_word k.Last = codes "last"
 keyword_word k.Limit = codes "limit"
 keyword_word k.All = codes "all"
 keyword_word k.Offset = codes "offset"
+keyword_word k.Insert = codes "insert"
+keyword_word k.Into = codes "into"
+keyword_word k.Values = codes "values"
+keyword_word k.Update = codes "update"
+keyword_word k.Set = codes "set"
+keyword_word k.Delete = codes "delete"
 
 -- a keyword that no expression has
 abbrev pub keyword_terminal : Keyword → Terminal

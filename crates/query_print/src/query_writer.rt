@@ -46,6 +46,12 @@ pub enum Keyword {
     Limit,
     All,
     Offset,
+    Insert,
+    Into,
+    Values,
+    Update,
+    Set,
+    Delete,
 }
 
 fn keyword_text(keyword: Keyword) -> &'static str
@@ -73,11 +79,17 @@ fn keyword_text(keyword: Keyword) -> &'static str
         Keyword::Limit => "LIMIT",
         Keyword::All => "ALL",
         Keyword::Offset => "OFFSET",
+        Keyword::Insert => "INSERT",
+        Keyword::Into => "INTO",
+        Keyword::Values => "VALUES",
+        Keyword::Update => "UPDATE",
+        Keyword::Set => "SET",
+        Keyword::Delete => "DELETE",
     }
 }
 
 /// Writes a space and the keyword.
-fn write_keyword(keyword: Keyword, out: &mut String) -> Result<(), AllocError>
+pub fn write_keyword(keyword: Keyword, out: &mut String) -> Result<(), AllocError>
     ensures { Writes result out.old out.new (keyword_terminal keyword ∷ []) }
 {
     out.push(' ')?;
@@ -168,8 +180,8 @@ fn write_items(alloc: Global, items: &[Item], out: &mut String) -> Result<(), Al
     }
 }
 
-/// Writes the entry.
-fn write_entry(entry: &Entry, out: &mut String) -> Result<(), AllocError>
+/// Writes the entry: its name, and AS and its alias where it has one.
+pub fn write_entry(entry: &Entry, out: &mut String) -> Result<(), AllocError>
     ensures { Writes result out.old out.new (entry_written (entry_tree entry.now)) }
 {
     write_name(&entry.table, out)?;
@@ -292,7 +304,7 @@ fn write_from(alloc: Global, chains: &[Chain], out: &mut String) -> Result<(), A
 }
 
 /// Writes the keyword and the condition, where there is one.
-fn write_condition(
+pub fn write_condition(
     alloc: Global,
     keyword: Keyword,
     condition: &Option<Expr>,
@@ -496,7 +508,11 @@ fn write_select(alloc: Global, select: &Select, out: &mut String) -> Result<(), 
 }
 
 /// Writes the statement, each of its tokens behind a space.
-fn write_statement(alloc: Global, statement: &Statement, out: &mut String) -> Result<(), AllocError>
+pub fn write_statement(
+    alloc: Global,
+    statement: &Statement,
+    out: &mut String,
+) -> Result<(), AllocError>
     ensures { Writes result out.old out.new (statement_written (statement_tree statement.now)) }
 {
     match statement {

@@ -4,4 +4,4 @@
 pub mod law;
 pub mod sources;
 
-pub use sources::{Source, of_csv, of_jsonl, of_list};
+pub use sources::{OpenFault, Source, of_csv, of_jsonl, of_list, of_sqlite};

@@ -2,13 +2,16 @@
 ghost use Rattle.std.specs.Prelude.{◌≡◌, IfOk};
 ghost use Rattle.fdw_api.specs.State.{IsIdle};
 ghost use Rattle.blob_store.specs.Shelves.{nothing_known};
-ghost use Rattle.med_catalog.specs.declared.kind.SourceKind.TheVariants.{Csv, JsonLines, List as Lists};
+ghost use Rattle.med_catalog.specs.declared.kind.SourceKind.TheVariants.{Csv, JsonLines, Sqlite, List as Lists};
 ghost use Rattle.med_world.specs.Engine.{TakesAs};
 ghost use Rattle.list_wrapper.specs.ListBoxes.{box_of};
 ghost use Rattle.csv_wrapper.specs.CsvBoxes.{IsNewCsv};
 ghost use Rattle.jsonl_wrapper.specs.Boxes.{IsNewJsonl};
+ghost use Rattle.source_kinds.specs.Databases.{IsNewDatabase, IsNewFile, IsNewMemory};
 
-use crate::law::{csv_takes_its_tables, jsonl_takes_its_tables, lists_take_their_tables};
+use crate::law::{
+    csv_takes_its_tables, jsonl_takes_its_tables, lists_take_their_tables, sqlite_takes_its_tables,
+};
 use blob_store::Folder;
 use csv_wrapper::CsvWrapper;
 use either_source::EitherSource;
@@ -16,17 +19,38 @@ use fdw_api::interface::Wrapper;
 use jsonl_wrapper::JsonlWrapper;
 use list_wrapper::ListWrapper;
 use med_value::NoMemory;
+use sqlite::{Error as DatabaseError, ErrorCode, MemStore};
+use sqlite_databases::{Databases, memory_database};
+use sqlite_wrapper::SqliteWrapper;
 use std::alloc::Global;
 use std::rt::Files;
+use thiserror::Error;
 
-/// A source: a list, or a folder of CSV files or of JSON lines.
-pub type Source<V> = EitherSource<
-    ListWrapper,
-    EitherSource<CsvWrapper<Folder<V>>, JsonlWrapper<Folder<V>>>,
+/// A folder of CSV files or of JSON lines.
+type FolderSource<V> = EitherSource<CsvWrapper<Folder<V>>, JsonlWrapper<Folder<V>>>;
+
+/// A SQLite database in memory, or in a file.
+type DatabaseSource<V> = EitherSource<
+    SqliteWrapper<MemStore>,
+    SqliteWrapper<<V as Databases>::Store>,
 >;
 
+/// A source: a list, a folder of CSV files or of JSON lines, or a SQLite database.
+pub type Source<V> = EitherSource<ListWrapper, EitherSource<FolderSource<V>, DatabaseSource<V>>>;
+
+/// Why a database is not opened.
+#[derive(Clone, Copy, Debug, PartialEq, Eq, Error)]
+pub enum OpenFault {
+    /// Memory was refused.
+    #[error("out of memory")]
+    NoMemory,
+    /// The database could not be opened.
+    #[error("cannot open")]
+    CannotOpen,
+}
+
 /// A list as a source. It shows what the list shows.
-pub fn of_list<V: Files + Clone + Drop>(list: ListWrapper) -> Source<V>
+pub fn of_list<V: Files + Clone + Databases + Drop>(list: ListWrapper) -> Source<V>
     ensures is { ⟦<Source<V> as Wrapper>⟧.meaning result ≡ box_of list }
     ensures takes { TakesAs Lists (⟦<Source<V> as Wrapper>⟧.meaning result) }
 {
@@ -35,7 +59,7 @@ pub fn of_list<V: Files + Clone + Drop>(list: ListWrapper) -> Source<V>
 }
 
 /// The CSV files of the folder at this path as a source, on which nothing is bound yet. Of what stands in the folder nothing is known.
-pub fn of_csv<V: Files + Clone + Drop>(
+pub fn of_csv<V: Files + Clone + Databases + Drop>(
     alloc: Global,
     rt: &V,
     path: &str,
@@ -47,12 +71,12 @@ pub fn of_csv<V: Files + Clone + Drop>(
     csv_takes_its_tables();
     let files = Folder::new(alloc, rt, path)?;
     let csv = CsvWrapper::new(alloc, files);
-    Ok(EitherSource::Second(EitherSource::First(csv)))
+    Ok(EitherSource::Second(EitherSource::First(EitherSource::First(csv))))
 }
 
 /// The files of JSON lines of the folder at this path as a source, on which nothing is bound yet. Of what stands in the folder nothing is
 /// known.
-pub fn of_jsonl<V: Files + Clone + Drop>(
+pub fn of_jsonl<V: Files + Clone + Databases + Drop>(
     alloc: Global,
     rt: &V,
     path: &str,
@@ -64,5 +88,71 @@ pub fn of_jsonl<V: Files + Clone + Drop>(
     jsonl_takes_its_tables();
     let files = Folder::new(alloc, rt, path)?;
     let jsonl = JsonlWrapper::new(alloc, files);
-    Ok(EitherSource::Second(EitherSource::Second(jsonl)))
+    Ok(EitherSource::Second(EitherSource::First(EitherSource::Second(jsonl))))
+}
+
+// Why the database of an error is not opened.
+fn open_fault(error: DatabaseError) -> OpenFault
+    ensures memory { error ≡ DatabaseError.SqliteFailure ErrorCode.OutOfMemory → result ≡ OpenFault.NoMemory }
+    ensures other { (error ≡ DatabaseError.SqliteFailure ErrorCode.OutOfMemory → ⊥) → result ≡ OpenFault.CannotOpen }
+{
+    match error {
+        DatabaseError::SqliteFailure(ErrorCode::OutOfMemory) => OpenFault::NoMemory,
+        _ => OpenFault::CannotOpen,
+    }
+}
+
+// A new database in memory as a source.
+fn of_memory<V: Files + Clone + Databases + Drop>(alloc: Global) -> Result<Source<V>, OpenFault>
+    ensures { IfOk result (λ s. IsNewMemory (⟦<Source<V> as Wrapper>⟧.meaning s)) }
+{
+    let conn = match memory_database(alloc) {
+        Ok(conn) => conn,
+        Err(error) => return Err(open_fault(error)),
+    };
+    match SqliteWrapper::new(alloc, conn) {
+        Ok(memory) => Ok(EitherSource::Second(EitherSource::Second(EitherSource::First(memory)))),
+        Err(_) => Err(OpenFault::NoMemory),
+    }
+}
+
+// The database in the file at this path as a source.
+fn of_file<V: Files + Clone + Databases + Drop>(
+    alloc: Global,
+    rt: &V,
+    path: &str,
+) -> Result<Source<V>, OpenFault>
+    ensures { IfOk result (λ s. IsNewFile V.Store.SourceStore.honest (⟦<Source<V> as Wrapper>⟧.meaning s)) }
+{
+    let conn = match rt.open_database(path) {
+        Ok(conn) => conn,
+        Err(error) => return Err(open_fault(error)),
+    };
+    match SqliteWrapper::new(alloc, conn) {
+        Ok(file) => Ok(EitherSource::Second(EitherSource::Second(EitherSource::Second(file)))),
+        Err(_) => Err(OpenFault::NoMemory),
+    }
+}
+
+/// The SQLite database at this path as a source, on which nothing is bound yet: `:memory:` is a new database in memory, with the tables of
+/// orders and people, which have no rows. Any other path is that of a file.
+///
+/// # Errors
+///
+/// [`OpenFault::CannotOpen`] where the database cannot be opened, and [`OpenFault::NoMemory`] where memory was refused.
+pub fn of_sqlite<V: Files + Clone + Databases + Drop>(
+    alloc: Global,
+    rt: &V,
+    path: &str,
+) -> Result<Source<V>, OpenFault>
+    ensures new { IfOk result (λ s. IsNewDatabase V.Store.SourceStore.honest path.now (⟦<Source<V> as Wrapper>⟧.meaning s)) }
+    ensures idle { IfOk result (λ s. IsIdle (⟦<Source<V> as Wrapper>⟧.meaning s)) }
+    ensures takes { IfOk result (λ s. TakesAs Sqlite (⟦<Source<V> as Wrapper>⟧.meaning s)) }
+{
+    sqlite_takes_its_tables();
+    if path == ":memory:" {
+        of_memory(alloc)
+    } else {
+        of_file(alloc, rt, path)
+    }
 }

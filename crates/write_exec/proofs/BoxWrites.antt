@@ -106,6 +106,7 @@ writes columns w answer old mid new t count read changes h a many m = record {
   many = many;
   nature = m.nature ∙ h.nature;
   ledger = m.ledger ∙ h.ledger;
+  stays = λ e. ap (λ (l : Ledger). l.next) (m.ledger ∙ h.ledger) ∙ h.ends e;
   content = λ honest.
       written_since old mid new (staging_of t changes) (ap (λ (l : Ledger). l.tables) h.ledger) (h.leaves honest) (ap (λ (l : Ledger). l.live) h.ledger)
       (m.content (honest_on old mid h.nature honest));

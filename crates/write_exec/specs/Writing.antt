@@ -79,6 +79,7 @@ pub record Writes (columns : List WrittenColumn) (w : WriteForm) (answer : List 
   pub nature : new.nature ≡ old.nature
   pub ledger : new.ledger
       ≡ record old.ledger { next = old.ledger.next + scans_of w; pulled = pulled_after (length read) old.ledger.pulled }
+  pub stays : old.ledger.next ≡ 2 ^ 64 - 1 → new.ledger.next ≡ 2 ^ 64 - 1
   pub content : is_honest old → Written old (record { table = t; changes = changes; broken = false }) new
 
 -- ---- a write that is refused

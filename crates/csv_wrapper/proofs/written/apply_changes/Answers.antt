@@ -5,7 +5,7 @@ use Rattle.std.proofs.lemmas.Result.{err_from_is_err_and}
 use Rattle.csv.specs.Records.{fields_of}
 use Rattle.csv_wrapper.specs.CsvRecords.{Record, csv_records, csv_text, heading}
 use Rattle.csv_wrapper.specs.CsvKind.{hides_value}
-use Rattle.csv_wrapper.specs.CsvBoxes.{change_is}
+use Rattle.staged_changes.specs.Staged.{change_is}
 use Rattle.csv_wrapper.specs.Flat.{header_in}
 use Rattle.csv_wrapper.specs.Tables.{shape_is, records_of}
 use Rattle.csv_wrapper.specs.Rewriting.{has_width, left_by, rows_in}

@@ -1,12 +1,13 @@
 use Rattle.std.proofs.Common.{◌≡◌, ◌<◌, ◌≤◌, ◌∷◌, ◌++◌, [], ◌∙◌, sym, ap, length, refl, arith, rules}
 use Rattle.std.proofs.lemmas.List.{drop_all}
 use Rattle.csv.specs.Records.{fields_of}
-use Rattle.csv_wrapper.specs.declared.written.Fate.TheVariants.{Keep, Change as ChangeTo, Gone}
+use Rattle.staged_changes.specs.declared.fates.Fate.TheVariants.{Keep, Change as ChangeTo, Gone}
 use Rattle.csv_wrapper.specs.CsvRecords.{Record}
 use Rattle.csv_wrapper.specs.Tables.{records_of}
 use Rattle.csv_wrapper.specs.Rewriting.{has_width, left_by}
 use Rattle.csv_wrapper.proofs.Flat.{cut_drop, cut_length}
-use Rattle.csv_wrapper.proofs.Gathering.{wide_first, left_on, left_gone, left_past, left_ends, no_fates, gathers_as, record_width}
+use Rattle.csv_wrapper.proofs.Gathering.{wide_first, left_on, left_gone, left_past, left_ends, gathers_as, record_width}
+use Rattle.staged_changes.proofs.Weaves.{no_fates}
 use Rattle.csv_wrapper.proofs.written.rewritten.Goals.{in-Keep+in_ok-record_at-in-Keep+in_ok-gather-in-Keep, in-Change+in_ok-gather-in-Change, in-Gone}
 use Rattle.csv_wrapper.proofs.written.rewritten.Goals as goal
 

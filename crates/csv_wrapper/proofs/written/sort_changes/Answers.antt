@@ -3,11 +3,15 @@ use Rattle.std.specs.List.{list_all}
 use Rattle.std.specs.String.{string_bytes}
 use Rattle.med_value.specs.Datum.{tuple}
 use Rattle.fdw_api.specs.Kinds.{Inserts, Updates, Deletes}
-use Rattle.csv_wrapper.specs.declared.written.Fate.TheVariants.{Change as ChangeTo, Gone}
-use Rattle.csv_wrapper.specs.CsvBoxes.{change_is}
+use Rattle.staged_changes.specs.declared.fates.Fate.TheVariants.{Change as ChangeTo, Gone}
+use Rattle.staged_changes.specs.Staged.{change_is}
 use Rattle.csv_wrapper.specs.Tables.{shape_is}
 use Rattle.csv_wrapper.specs.Rewriting.{woven}
-use Rattle.csv_wrapper.proofs.Gathering.{woven_on, woven_insert, woven_update, woven_delete, wide_set, wide_kept}
+use Rattle.csv_wrapper.proofs.Gathering.{wide_set, wide_kept}
+use Rattle.staged_changes.proofs.Weaves.{woven_on, woven_insert, woven_update, woven_delete}
+use Rattle.csv.specs.Records.{fields_of}
+use Rattle.csv_wrapper.specs.Cells.{line_of}
+use Rattle.csv_wrapper.specs.CsvKind.{read_row}
 use Rattle.csv_wrapper.proofs.Sorting.{first_fits, written_row, fresh_on, same_on, wide_line, clear_on, fresh_wide_on}
 use Rattle.csv_wrapper.proofs.written.sort_changes.Goals as goal
 
@@ -15,6 +19,8 @@ pub loop-change-preserved : goal.loop-change-preserved
 loop-change-preserved c =
     let l = c.args.layout.now in
     let shape = shape_is l in
+    let write = line_of shape.null in
+    let read = read_row shape in
     let i = c.loop-change.invariant in
     let cs = map change_is c.loop-change.change-iterator.rest.items in
     let ds = map change_is c.next.new.self.rest.items in
@@ -23,8 +29,8 @@ loop-change-preserved c =
     let fit = first_fits l.kinds.items (Deletes id) cs ds ce i.fit in
     record {
       fit = fit.1;
-      fates = λ rows. woven_on shape rows c.loop-change.fates.items c.set_fate-in-Delete.new.fates.items (Deletes id) cs ds _ (i.fates rows) ce
-          (woven_delete shape id rows c.loop-change.fates.items ds ∙ ap (λ fs. woven shape 0 rows fs ds) (sym c.set_fate-in-Delete.ensures));
+      fates = λ rows. woven_on write read fields_of rows c.loop-change.fates.items c.set_fate-in-Delete.new.fates.items (Deletes id) cs ds _ (i.fates rows) ce
+          (woven_delete write read fields_of id rows c.loop-change.fates.items ds ∙ ap (λ fs. woven shape 0 rows fs ds) (sym c.set_fate-in-Delete.ensures));
       fresh = same_on shape _ (Deletes id) cs ds _ i.fresh ce refl;
       wide = ap (list_all _) c.set_fate-in-Delete.ensures ∙ wide_set (length l.kinds.items) c.loop-change.fates.items id Gone i.wide refl;
       fresh_wide = i.fresh_wide;
@@ -48,6 +54,8 @@ pub loop-change-preserved-in-Insert : goal.loop-change-preserved-in-Insert
 loop-change-preserved-in-Insert c =
     let l = c.args.layout.now in
     let shape = shape_is l in
+    let write = line_of shape.null in
+    let read = read_row shape in
     let i = c.loop-change.invariant in
     let cs = map change_is c.loop-change.change-iterator.rest.items in
     let ds = map change_is c.next.new.self.rest.items in
@@ -58,7 +66,7 @@ loop-change-preserved-in-Insert c =
     let fit = first_fits l.kinds.items (Inserts x) cs ds ce i.fit in
     record {
       fit = fit.1;
-      fates = λ rows. woven_on shape rows c.loop-change.fates.items c.loop-change.fates.items (Inserts x) cs ds _ (i.fates rows) ce (woven_insert shape 0 rows c.loop-change.fates.items x ds);
+      fates = λ rows. woven_on write read fields_of rows c.loop-change.fates.items c.loop-change.fates.items (Inserts x) cs ds _ (i.fates rows) ce (woven_insert write read fields_of 0 rows c.loop-change.fates.items x ds);
       fresh = fresh_on shape c.loop-change.fresh.items c.push.new.self.items line x cs ds _ i.fresh ce (search rules) (written_row shape line x did.line (did.back l.kinds.items fit.0));
       wide = i.wide;
       fresh_wide = fresh_wide_on (length l.kinds.items) c.loop-change.fresh.items c.push.new.self.items line (search rules) i.fresh_wide (wide_line shape line x did.line fit.0);
@@ -69,6 +77,8 @@ pub loop-change-preserved-in-Update : goal.loop-change-preserved-in-Update
 loop-change-preserved-in-Update c =
     let l = c.args.layout.now in
     let shape = shape_is l in
+    let write = line_of shape.null in
+    let read = read_row shape in
     let i = c.loop-change.invariant in
     let cs = map change_is c.loop-change.change-iterator.rest.items in
     let ds = map change_is c.next.new.self.rest.items in
@@ -80,8 +90,8 @@ loop-change-preserved-in-Update c =
     let fit = first_fits l.kinds.items (Updates id x) cs ds ce i.fit in
     record {
       fit = fit.1;
-      fates = λ rows. woven_on shape rows c.loop-change.fates.items c.set_fate.new.fates.items (Updates id x) cs ds _ (i.fates rows) ce
-          (woven_update shape id rows c.loop-change.fates.items line x ds (written_row shape line x did.line (did.back l.kinds.items fit.0)) ∙ ap (λ fs. woven shape 0 rows fs ds) (sym c.set_fate.ensures));
+      fates = λ rows. woven_on write read fields_of rows c.loop-change.fates.items c.set_fate.new.fates.items (Updates id x) cs ds _ (i.fates rows) ce
+          (woven_update write read fields_of id rows c.loop-change.fates.items line x ds (written_row shape line x did.line (did.back l.kinds.items fit.0)) ∙ ap (λ fs. woven shape 0 rows fs ds) (sym c.set_fate.ensures));
       fresh = same_on shape _ (Updates id x) cs ds _ i.fresh ce refl;
       wide = ap (list_all _) c.set_fate.ensures ∙ wide_set (length l.kinds.items) c.loop-change.fates.items id (ChangeTo line) i.wide (wide_line shape line x did.line fit.0);
       fresh_wide = i.fresh_wide;

@@ -6,7 +6,7 @@ use Rattle.fdw_api.specs.Writes.{inserted, row_of_change_fits}
 use Rattle.csv_wrapper.specs.Cells.{line_of}
 use Rattle.csv_wrapper.specs.CsvRecords.{Record}
 use Rattle.csv_wrapper.specs.CsvKind.{read_row, hides_value}
-use Rattle.csv_wrapper.specs.CsvBoxes.{change_is}
+use Rattle.staged_changes.specs.Staged.{change_is}
 use Rattle.csv_wrapper.specs.Tables.{shape_is}
 use Rattle.csv_wrapper.specs.Rewriting.{has_width, is_wide, woven}
 use Rattle.csv_wrapper.proofs.written.sort_changes.Given as goal

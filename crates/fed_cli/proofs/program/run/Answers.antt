@@ -6,7 +6,7 @@ use Rattle.fed_cli.proofs.program.run.Goals as goal
 
 -- the words are there
 pub returns-in-Ok : goal.returns-in-Ok
-returns-in-Ok g c = on_given _ _ c.in-Ok.words _ c.run_words.result _ _ _ c.in-Ok.is c.deref.ensures.value c.run_words.ensures
+returns-in-Ok g c = on_given _ _ _ c.in-Ok.words _ c.run_words.result _ _ _ c.in-Ok.is c.deref.ensures.value c.run_words.ensures
 
 -- one is no text
 pub returns-in-Err-NotText : goal.returns-in-Err-NotText

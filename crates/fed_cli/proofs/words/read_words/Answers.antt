@@ -1,9 +1,9 @@
 use Rattle.std.proofs.Common.{◌≡◌, ◌∙◌, true, false, List, ◌++◌, map, codes, refl, sym, subst, ap₂, inl, inr}
 use Rattle.clap.specs.Words.{Text, kind_of}
-use Rattle.fed_cli.specs.Folders.{AreGood, AreRefused, folder_in}
+use Rattle.fed_cli.specs.Places.{Place, AreGood, AreRefused, place_in}
 use Rattle.fed_cli.specs.Names.{IsSourceName}
-use Rattle.fed_cli.specs.declared.folders.FolderKind.TheVariants.{Csv, JsonLines}
-use Rattle.fed_cli.proofs.Parsed.{no_faults, given, all_given, refused, owner_of, list_is_good, folder_refused}
+use Rattle.fed_cli.specs.declared.places.PlaceKind.TheVariants.{Csv, JsonLines, Sqlite}
+use Rattle.fed_cli.proofs.Parsed.{no_faults, given, all_given, refused, owner_of, list_is_good, place_refused}
 use Rattle.fed_cli.proofs.words.read_words.Goals as goal
 
 -- the words were not taken
@@ -27,16 +27,17 @@ returns-in-Err-list_of g c =
       inl (bad.1, inr (subst IsSourceName (sym owner) (c.if-not-is_source_name.ensures.0 refl), sym (given (codes "list") _ _ _ c.in-Ok.ensures matches.matches) ∙ bad.0)),
     )
 
--- a folder is
-pub returns-in-Err-folders_of : goal.returns-in-Err-folders_of
-returns-in-Err-folders_of g c =
+-- a place is
+pub returns-in-Err-places_of : goal.returns-in-Err-places_of
+returns-in-Err-places_of g c =
     let matches = c.in-Ok-try_get_matches_from.ensures in
     let owner = owner_of _ _ _ _ c.unwrap_or-owner.ensures refl (c.value_of.ensures ∙ given (codes "owner") _ _ _ c.in-Ok.ensures matches.matches) in
     let good = c.in-Ok-list_of.ensures.good in
     let list = list_is_good _ _ (good.0 ∙ given (codes "list") _ _ _ c.in-Ok.ensures matches.matches) good.1 in
-    let values = ap₂ (λ (a b : List Text). a ++ b) (all_given (codes "csv") _ _ _ c.in-Ok.ensures matches.matches) (all_given (codes "jsonl") _ _ _ c.in-Ok.ensures matches.matches) in
-    folder_refused (map g.S.AsStr.text c.args.words.now) _ _ c.folder_refusal.ensures (no_faults _ _ c.in-Ok.ensures matches.kinds)
-    ((subst IsSourceName (sym owner) (c.if-not-is_source_name.ensures.0 refl), list), subst (λ (vs : List Text). AreRefused vs c.in-Err-folders_of.fault) values c.in-Err-folders_of.ensures.bad)
+    let files = ap₂ (λ (a b : List Text). a ++ b) (all_given (codes "csv") _ _ _ c.in-Ok.ensures matches.matches) (all_given (codes "jsonl") _ _ _ c.in-Ok.ensures matches.matches) in
+    let values = ap₂ (λ (a b : List Text). a ++ b) files (all_given (codes "sqlite") _ _ _ c.in-Ok.ensures matches.matches) in
+    place_refused (map g.S.AsStr.text c.args.words.now) _ _ c.place_refusal.ensures (no_faults _ _ c.in-Ok.ensures matches.kinds)
+    ((subst IsSourceName (sym owner) (c.if-not-is_source_name.ensures.0 refl), list), subst (λ (vs : List Text). AreRefused vs c.in-Err-places_of.fault) values c.in-Err-places_of.ensures.bad)
 
 -- all are good
 pub returns : goal.returns
@@ -45,15 +46,17 @@ returns g c =
     let owner = owner_of _ _ _ _ c.unwrap_or-owner.ensures refl (c.value_of.ensures ∙ given (codes "owner") _ _ _ c.in-Ok.ensures matches.matches) in
     let good = c.in-Ok-list_of.ensures.good in
     let csv = all_given (codes "csv") _ _ _ c.in-Ok.ensures matches.matches in
-    let jsonl = all_given (codes "jsonl") _ _ _ c.in-Ok.ensures matches.matches in (
+    let jsonl = all_given (codes "jsonl") _ _ _ c.in-Ok.ensures matches.matches in
+    let sqlite = all_given (codes "sqlite") _ _ _ c.in-Ok.ensures matches.matches in
+    let files = ap₂ (λ (a b : List Text). map (place_in Csv) a ++ map (place_in JsonLines) b) csv jsonl in (
       no_faults _ _ c.in-Ok.ensures matches.kinds,
       record {
         owner = sym owner;
         is_owner = c.if-not-is_source_name.ensures.0 refl;
         list = good.0 ∙ given (codes "list") _ _ _ c.in-Ok.ensures matches.matches;
         is_list = good.1;
-        folders = c.in-Ok-folders_of.ensures.read ∙ ap₂ (λ (a b : List Text). map (folder_in Csv) a ++ map (folder_in JsonLines) b) csv jsonl;
-        are_folders = subst AreGood (ap₂ (λ (a b : List Text). a ++ b) csv jsonl) c.in-Ok-folders_of.ensures.good;
+        places = c.in-Ok-places_of.ensures.read ∙ ap₂ (λ (a : List Place) (b : List Text). a ++ map (place_in Sqlite) b) files sqlite;
+        are_places = subst AreGood (ap₂ (λ (a b : List Text). a ++ b) (ap₂ (λ (a b : List Text). a ++ b) csv jsonl) sqlite) c.in-Ok-places_of.ensures.good;
         init = c.value_of-init.ensures ∙ given (codes "init") _ _ _ c.in-Ok.ensures matches.matches;
       },
     )

@@ -3,12 +3,12 @@ use Rattle.std.specs.Str.{bytes_eq}
 use Rattle.clap.specs.Lexer.{strip_byte}
 use Rattle.clap.specs.Words.{Text}
 use Rattle.clap.proofs.OnLiterals.{clap_on_literals}
-use Rattle.fed_cli.specs.CommandLine.{faults, owner_named, list_named, csv_given, jsonl_given, init_named}
+use Rattle.fed_cli.specs.CommandLine.{faults, owner_named, list_named, csv_given, jsonl_given, sqlite_given, init_named}
 use Rattle.fed_cli.proofs.words.words_mean.Goals as goal
 
 pub returns-clause-alone : goal.returns-clause-alone
 unfolding clap_on_literals
-returns-clause-alone c = λ program. (refl, refl, refl, refl, refl, refl)
+returns-clause-alone c = λ program. (refl, refl, refl, refl, refl, refl, refl)
 
 pub returns-clause-help : goal.returns-clause-help
 unfolding clap_on_literals
@@ -37,7 +37,7 @@ with_list program [] e = (refl, refl)
 with_list program (x ∷ xs) e =
     let no = no_hyphen x xs e in
     let stops = and_false (bytes_eq xs (45 ∷ [])) in
-    (simp (no, stops) refl, simp (no, stops) refl)
+    (rw (no, stops) (rw no refl), rw (no, stops) (rw no refl))
 
 pub returns-clause-list : goal.returns-clause-list
 returns-clause-list c = with_list
@@ -93,3 +93,16 @@ with_jsonl program (x ∷ xs) e =
 
 pub returns-clause-jsonl : goal.returns-clause-jsonl
 returns-clause-jsonl c = with_jsonl
+
+with_sqlite : (program value : Text) → strip_byte 45 value ≡ None
+    → (faults (program ∷ codes "run" ∷ codes "--sqlite" ∷ value ∷ []) ≡ [])
+    × (sqlite_given (program ∷ codes "run" ∷ codes "--sqlite" ∷ value ∷ []) ≡ value ∷ [])
+unfolding clap_on_literals
+with_sqlite program [] e = (refl, refl)
+with_sqlite program (x ∷ xs) e =
+    let no = no_hyphen x xs e in
+    let stops = and_false (bytes_eq xs (45 ∷ [])) in
+    (rw (no, stops) (rw no refl), rw (no, stops) (rw no refl))
+
+pub returns-clause-sqlite : goal.returns-clause-sqlite
+returns-clause-sqlite c = with_sqlite

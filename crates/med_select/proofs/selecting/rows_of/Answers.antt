@@ -1,8 +1,8 @@
-use Rattle.std.proofs.Common.{◌≡◌, [], ◌∷◌, ◌++◌, ◌∙◌, Some, None, refl, arith}
+use Rattle.std.proofs.Common.{◌≡◌, [], ◌∷◌, ◌++◌, Some, None, arith}
 use Rattle.std.proofs.lemmas.Grind.{common_steps}
 use Rattle.med_value.specs.Datum.{tuple}
 use Rattle.med_exec.specs.Slots.{states}
-use Rattle.med_exec.specs.Running.{AllHonest, Gives, wants_memory}
+use Rattle.med_exec.specs.Running.{AllHonest, Gives}
 use Rattle.med_exec.specs.Rests.{Rests, rows_left, LessLeft, held}
 use Rattle.med_select.proofs.Runs.{none_given, one_more, all_given}
 use Rattle.med_select.proofs.selecting.rows_of.Goals as goal

@@ -12,3 +12,6 @@ returns-in-Refused c = rw c.in-Refused.is (told _ _ _ _ c.write_refusal.ensures)
 
 pub returns-in-Changed : goal.returns-in-Changed
 returns-in-Changed c = rw c.in-Changed.is (told _ _ _ _ c.write_change.ensures)
+
+pub returns-in-Written : goal.returns-in-Written
+returns-in-Written c = rw c.in-Written.is (told _ _ _ _ c.write_count.ensures)

@@ -1,7 +1,7 @@
 use Rattle.std.proofs.Common.{◌≡◌, Some, ap, sym, true, map, string_bytes, option_map, rules}
 use Rattle.std.proofs.lemmas.Result.{err_from_is_err_and}
 use Rattle.blob_store.specs.Shelves.{Replaces}
-use Rattle.csv_wrapper.specs.CsvBoxes.{change_is, write_is}
+use Rattle.staged_changes.specs.Staged.{change_is, write_is}
 use Rattle.csv_wrapper.proofs.Binding.{gone_fits}
 use Rattle.csv_wrapper.proofs.Closing.{staged_scans, kept_closes, unmade_refuses, may_put, put_served, put_named, put_apart, put_headed}
 use Rattle.csv_wrapper.proofs.wrapper.CsvWrapperWrapper.end_modify.Goals as goal

@@ -1,15 +1,13 @@
-use Rattle.std.proofs.Common.{◌≡◌, ◌<◌, ◌-◌, ◌+◌, ◌∙◌, ℕ, List, Option, map, length, Some, slice_get, string_bytes, sym, ap, subst, refl, arith, rules}
+use Rattle.std.proofs.Common.{◌≡◌, ◌<◌, ◌-◌, ◌+◌, ◌∙◌, map, length, Some, slice_get, string_bytes, sym, ap, subst, refl, arith}
 use Rattle.std.proofs.lemmas.List.{length-map}
-use Rattle.fdw_api.specs.Calls.{Binds, Unbinds}
-use Rattle.fdw_api.specs.State.{BoxState}
-use Rattle.med_exec.specs.Slots.{states, ChangesAt}
+use Rattle.med_exec.specs.Slots.{states}
 use Rattle.med_catalog.specs.View.{objects, table_of}
-use Rattle.bind_catalog.specs.Places.{Attached, attached}
-use Rattle.med_world.specs.Engine.{Shown, IsServerAt}
+use Rattle.bind_catalog.specs.Places.{attached}
+use Rattle.med_world.specs.Engine.{IsServerAt}
 use Rattle.med_session.specs.Binding.{BindsLast}
-use Rattle.med_session.specs.Tables.{TableFails, undone}
+use Rattle.med_session.specs.Tables.{undone}
 use Rattle.med_session.specs.Shows.{shown}
-use Rattle.med_session.proofs.Tables.{binds_by, last_bound, grown_by_one, can_let_go, in_vain, let_go, last_removed, removed_attached, bind_failed, get_within, undone_by, left_as_it_was}
+use Rattle.med_session.proofs.Tables.{binds_by, last_bound, grown_by_one, can_let_go, in_vain, let_go, removed_attached, bind_failed, get_within, undone_by, left_as_it_was}
 use Rattle.med_session.proofs.engine.Engine.add_table.Goals as goal
 
 pub bind_table-bound-requires : goal.bind_table-bound-requires

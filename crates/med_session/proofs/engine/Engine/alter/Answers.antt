@@ -1,10 +1,9 @@
-use Rattle.std.proofs.Common.{◌≡◌, string_bytes, subst, refl}
+use Rattle.std.proofs.Common.{string_bytes, subst}
 use Rattle.std.proofs.lemmas.Result.{err_from_is_err_and}
 use Rattle.ddl_syntax.specs.DdlView.{ddl_tree}
 use Rattle.med_catalog.specs.Changes.{Asks}
 use Rattle.med_catalog.specs.declared.change.Change.{Change}
 use Rattle.med_catalog.specs.View.{objects, change_of, server_of, table_of}
-use Rattle.med_world.specs.Altering.{IsAllowed}
 use Rattle.med_session.specs.Shows.{shown}
 use Rattle.med_session.proofs.Tables.{not_checked, server_not_added, table_not_added, dropped_server, dropped_table, err_follows, err_kept}
 use Rattle.med_session.proofs.engine.Engine.alter.Goals as goal

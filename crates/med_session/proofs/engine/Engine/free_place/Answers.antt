@@ -1,6 +1,5 @@
-use Rattle.std.proofs.Common.{◌≡◌, ◌∙◌, true, false, map, Some, slice_get, string_bytes, ap, sym, refl}
+use Rattle.std.proofs.Common.{◌≡◌, ◌∙◌, ap, sym, refl}
 use Rattle.med_catalog.specs.View.{server_of}
-use Rattle.med_exec.specs.Slots.{counts_at}
 use Rattle.med_world.specs.Engine.{Label, IsNamedAt}
 use Rattle.med_session.specs.Shows.{label, shown}
 use Rattle.med_session.proofs.Tables.{of_other_kind, taken_by, box_counted, dropped_by, label_read}

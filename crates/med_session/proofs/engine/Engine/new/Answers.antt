@@ -1,9 +1,4 @@
-use Rattle.std.proofs.Common.{◌≡◌, ap, subst, sym, true, rules}
-use Rattle.med_catalog.specs.Objects.{Objects}
-use Rattle.med_catalog.specs.View.{objects}
-use Rattle.med_world.specs.Requests.{IsUser}
-use Rattle.med_world.specs.Engine.{Shown, IsSound, Agrees}
-use Rattle.med_world.specs.World.{empty_world}
+use Rattle.std.proofs.Common.{◌≡◌, true, rules}
 use Rattle.med_session.proofs.engine.Engine.new.Goals as goal
 
 pub returns-clause-sound : goal.returns-clause-sound

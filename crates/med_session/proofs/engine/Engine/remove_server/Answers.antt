@@ -1,4 +1,4 @@
-use Rattle.std.proofs.Common.{◌≡◌, string_bytes}
+use Rattle.std.proofs.Common.{string_bytes}
 use Rattle.med_exec.specs.Slots.{states}
 use Rattle.med_catalog.specs.View.{objects}
 use Rattle.med_world.specs.Engine.{IsServerAt}

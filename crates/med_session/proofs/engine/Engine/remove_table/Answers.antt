@@ -1,13 +1,8 @@
-use Rattle.std.proofs.Common.{◌≡◌, ◌<◌, ◌∙◌, map, length, Some, slice_get, string_bytes, sym, ap, subst, refl}
-use Rattle.fdw_api.specs.Calls.{CanUnbind, Unbinds}
-use Rattle.med_exec.specs.Slots.{states, BoxAt, ChangesAt}
-use Rattle.med_catalog.specs.Objects.{TableObject}
-use Rattle.med_catalog.specs.View.{objects, table_of}
+use Rattle.std.proofs.Common.{◌<◌, ◌∙◌, map, length, string_bytes, ap}
+use Rattle.med_exec.specs.Slots.{states}
+use Rattle.med_catalog.specs.View.{objects}
 use Rattle.bind_catalog.specs.Places.{attached}
-use Rattle.bind_catalog.specs.declared.bound.BoundTable.{BoundTable}
-use Rattle.med_world.specs.Engine.{Shown, IsFirst, UnbindsTable, with_change}
-use Rattle.med_world.specs.World.{beside_without}
-use Rattle.med_catalog.specs.Changes.{no_table}
+use Rattle.med_world.specs.Engine.{IsFirst}
 use Rattle.med_session.specs.Shows.{shown}
 use Rattle.med_session.proofs.Tables.{first_at, removed_first, attached_at, removed_attached, get_within, bound_within, unbinds_by}
 use Rattle.med_session.proofs.engine.Engine.remove_table.Goals as goal

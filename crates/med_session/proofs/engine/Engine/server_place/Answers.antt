@@ -1,7 +1,4 @@
-use Rattle.std.proofs.Common.{◌≡◌, ◌∙◌, map, string_bytes, Some, sym, ap, subst}
-use Rattle.med_catalog.specs.Objects.{server_named}
-use Rattle.med_catalog.specs.View.{objects, server_of}
-use Rattle.med_world.specs.Adding.{HasSource}
+use Rattle.med_catalog.specs.View.{server_of}
 use Rattle.med_session.specs.Shows.{shown}
 use Rattle.med_session.proofs.Tables.{none_follows, source_there}
 use Rattle.med_session.proofs.engine.Engine.server_place.Goals as goal

@@ -1,15 +1,19 @@
-use Rattle.std.proofs.Common.{◌≡◌, true, false, Option, Some, None, subst, refl, is_some, option_map, sym, ap, ◌∙◌, rules}
-use Rattle.med_parser.specs.CommandTree.{on_data, on_objects, command_tree}
+use Rattle.std.proofs.Common.{◌≡◌, ℕ, List, true, false, Option, Some, None, subst, refl, is_some, option_map, sym, ap, ◌∙◌, rules}
+use Rattle.med_parser.specs.CommandTree.{on_data, on_rows, on_objects, command_tree}
 use Rattle.med_parser.specs.CommandGrammar.{HasCommand}
 use Rattle.med_parser.specs.declared.command.Command.{Command}
 use Rattle.ddl_syntax.specs.DdlView.{ddl_tree}
+use Rattle.write_syntax.specs.WriteView.{write_tree}
 use Rattle.med_syntax.specs.QueryView.{statement_tree}
 use Rattle.bind_catalog.specs.Looked.{query_in}
 use Rattle.med_world.specs.Engine.{user_of}
 use Rattle.med_world.specs.Laws.{IsRead}
+use Rattle.med_world.specs.Replies.{done}
+use Rattle.med_world.specs.Engine.{Shown, Leads}
+use Rattle.med_world.specs.Requests.{sql}
 use Rattle.med_session.specs.Shows.{shown}
 use Rattle.med_session.proofs.Leading.{read_query}
-use Rattle.med_session.proofs.Tables.{all_bound}
+use Rattle.med_session.proofs.Tables.{all_bound, ready_of}
 use Rattle.med_session.proofs.engine.Engine.statement.Goals as goal
 
 same_some : {X Y : Type 0} (f : X → Y) (o : Option X) → is_some (option_map f o) ≡ is_some o
@@ -96,3 +100,53 @@ returns-clause-leads g c =
       one = c.one_tree.ensures c.args.text.now;
     } in
     c.changes_lead.ensures.refused e _ c.args.sid.number c.args.text.now c.in-Some.user.now d c.in-Err-alter.cause read c.requires (rw (c.as_str.ensures.value, c.in-Ok-from_str.ensures.ok) at c.in-Err-alter.ensures.err)
+
+-- ---- a write
+
+tag_told : (e after : Shown) (sid : ℕ) (text : List ℕ) (tag told : List ℕ) → tag ≡ told → Leads e sid (sql text) (done tag) after → Leads e sid (sql text) (done told) after
+tag_told e after sid text tag told same h = subst (λ (x : List ℕ). Leads e sid (sql text) (done x) after) same h
+
+pub run_write-requires-clause-tables : goal.run_write-requires-clause-tables
+run_write-requires-clause-tables g c = rw c.deref-in-Rows.ensures.value (all_bound (shown g.W.Wrapper.meaning c.args.self.now) c.requires)
+
+pub run_write-requires-clause-ready : goal.run_write-requires-clause-ready
+run_write-requires-clause-ready g c = rw c.deref-in-Rows.ensures.value (ready_of (shown g.W.Wrapper.meaning c.args.self.now) c.requires)
+
+pub run_write-requires-clause-clean : goal.run_write-requires-clause-clean
+run_write-requires-clause-clean g c =
+    c.texts_are_clean.ensures c.args.text.now (write_tree c.in-Rows.write) (subst (λ (x : Command). HasCommand c.args.text.now (command_tree x)) c.in-Rows.is c.in-Ok.ensures.found)
+
+pub returns-in-Ok-run_write-clause-sound : goal.returns-in-Ok-run_write-clause-sound
+returns-in-Ok-run_write-clause-sound g c =
+    c.writes_lead.ensures.done_sound (shown g.W.Wrapper.meaning c.args.self.now) _ c.in-Some.user.now (write_tree c.in-Rows.write) _ c.requires (rw c.deref-in-Rows.ensures.value at c.in-Ok-run_write.ensures.ok)
+
+pub returns-in-Ok-run_write-clause-leads : goal.returns-in-Ok-run_write-clause-leads
+returns-in-Ok-run_write-clause-leads g c =
+    let e = shown g.W.Wrapper.meaning c.args.self.now in
+    let t = write_tree c.in-Rows.write in
+    let read : IsRead e c.args.sid.number c.args.text.now c.in-Some.user.now (on_rows t) = record {
+      is_sid = c.args.sid.in_range;
+      is_user = sym c.in-Some.ensures;
+      clear = c.in-Ok.ensures.clear;
+      has = subst (λ (x : Command). HasCommand c.args.text.now (command_tree x)) c.in-Rows.is c.in-Ok.ensures.found;
+      one = c.one_tree.ensures c.args.text.now;
+    } in
+    tag_told _ _ _ _ _ _ (sym (c.word_of-word.ensures c.in-Ok-run_write.count))
+    (c.writes_lead.ensures.done e _ c.args.sid.number c.args.text.now c.in-Some.user.now t c.in-Ok-run_write.count read c.requires (rw c.deref-in-Rows.ensures.value at c.in-Ok-run_write.ensures.ok))
+
+pub returns-in-Rows-clause-sound : goal.returns-in-Rows-clause-sound
+returns-in-Rows-clause-sound g c =
+    c.writes_lead.ensures.refused_sound (shown g.W.Wrapper.meaning c.args.self.now) _ c.in-Some.user.now (write_tree c.in-Rows.write) _ c.requires (rw c.deref-in-Rows.ensures.value at c.in-Err-run_write.ensures.err)
+
+pub returns-in-Rows-clause-leads : goal.returns-in-Rows-clause-leads
+returns-in-Rows-clause-leads g c =
+    let e = shown g.W.Wrapper.meaning c.args.self.now in
+    let t = write_tree c.in-Rows.write in
+    let read : IsRead e c.args.sid.number c.args.text.now c.in-Some.user.now (on_rows t) = record {
+      is_sid = c.args.sid.in_range;
+      is_user = sym c.in-Some.ensures;
+      clear = c.in-Ok.ensures.clear;
+      has = subst (λ (x : Command). HasCommand c.args.text.now (command_tree x)) c.in-Rows.is c.in-Ok.ensures.found;
+      one = c.one_tree.ensures c.args.text.now;
+    } in
+    c.writes_lead.ensures.refused e _ c.args.sid.number c.args.text.now c.in-Some.user.now t _ read c.requires (rw c.deref-in-Rows.ensures.value at c.in-Err-run_write.ensures.err)

@@ -1,0 +1,2 @@
+pub mod CursorWriting
+pub mod CursorPrints

@@ -1,0 +1,20 @@
+//! Whether the numbers of a command are in range.
+
+ghost use Rattle.med_parser.specs.CommandCauses.{command_in_range};
+ghost use Rattle.med_parser.specs.CommandTree.{command_tree};
+ghost use Rattle.std.specs.Prelude.{◌≡◌};
+
+use crate::command::Command;
+use query_range::is_statement_in_range;
+use write_print::is_write_in_range;
+
+/// Whether each number of the command is in range; a statement on objects has none.
+pub fn is_command_in_range(command: &Command) -> bool
+    ensures { result ≡ command_in_range (command_tree command.now) }
+{
+    match command {
+        Command::Data(statement) => is_statement_in_range(statement),
+        Command::Rows(statement) => is_write_in_range(statement),
+        Command::Ddl(_) => true,
+    }
+}

@@ -1,0 +1,4 @@
+pub mod CanWrites
+pub mod Served
+pub mod Typed
+pub mod Runs

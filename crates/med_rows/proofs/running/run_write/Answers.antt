@@ -1,0 +1,141 @@
+use Rattle.std.proofs.Common.{◌≡◌, ◌∙◌, ◌<◌, ◌≤◌, List, [], Option, Some, None, map, length, refl, sym, subst, arith}
+use Rattle.med_value.specs.Datum.{tuple}
+use Rattle.write_syntax.specs.WriteTree.{WriteTree}
+use Rattle.write_syntax.specs.WriteView.{write_tree}
+use Rattle.med_binder.specs.declared.bound.Bound.{Bound}
+use Rattle.med_exec.specs.Slots.{states}
+use Rattle.med_catalog.specs.Objects.{Objects}
+use Rattle.med_catalog.specs.View.{objects}
+use Rattle.bind_catalog.specs.Places.{Attached, attached}
+use Rattle.bind_write.specs.Binding.{IsQueryOf}
+use Rattle.med_select.proofs.Selections.{entries_bound}
+use Rattle.med_world.specs.Writing.{not_bound}
+use Rattle.med_rows.proofs.Typed.{HasQuery, has_query}
+use Rattle.med_rows.proofs.Runs.{none_asked, asked, not_answered, crowded, untyped, can_alone, can_answered, ends_ok, ends_err}
+use Rattle.med_rows.proofs.running.run_write.Goals as goal
+
+-- it is not bound
+pub returns-in-Err-clause-err : goal.returns-in-Err-clause-err
+returns-in-Err-clause-err g c = not_bound c.in-Err.ensures.refused refl
+
+-- no query
+pub write_rows-requires : goal.write_rows-requires
+write_rows-requires g c =
+    can_alone c.written_rows_are_typed.ensures (objects c.args.catalog.now) c.args.user.now (map attached c.args.bound.now) (states g.W.Wrapper.meaning c.args.slots.now.items)
+    (write_tree c.args.statement) c.in-Ok.write c.requires.ready c.in-Ok.ensures.bindable c.requires.clean c.in-Ok.ensures.meant c.in_default.is
+
+pub returns-in_default-clause-ok : goal.returns-in_default-clause-ok
+returns-in_default-clause-ok g c =
+    let o = objects c.args.catalog.now in
+    let bound = map attached c.args.bound.now in
+    let t = write_tree c.args.statement in
+    let old = states g.W.Wrapper.meaning c.args.slots.now.items in
+    let none : IsQueryOf o bound t None = subst (IsQueryOf o bound t) c.in_default.is c.in-Ok.ensures.meant.query in
+    let can = can_alone c.written_rows_are_typed.ensures o c.args.user.now bound old t c.in-Ok.write c.requires.ready c.in-Ok.ensures.bindable c.requires.clean c.in-Ok.ensures.meant c.in_default.is in
+    ends_ok o c.args.user.now bound t c.in-Ok.write old old (states g.W.Wrapper.meaning c.write_rows.new.slots.items) [] c.write_rows.result c.in-Ok.ensures.bindable c.in-Ok.ensures.meant
+    (none_asked o bound t old none) can c.write_rows.ensures.ok
+
+pub returns-in_default-clause-err : goal.returns-in_default-clause-err
+returns-in_default-clause-err g c =
+    let o = objects c.args.catalog.now in
+    let bound = map attached c.args.bound.now in
+    let t = write_tree c.args.statement in
+    let old = states g.W.Wrapper.meaning c.args.slots.now.items in
+    let none : IsQueryOf o bound t None = subst (IsQueryOf o bound t) c.in_default.is c.in-Ok.ensures.meant.query in
+    ends_err o c.args.user.now bound t c.in-Ok.write old old (states g.W.Wrapper.meaning c.write_rows.new.slots.items) [] c.write_rows.result c.in-Ok.ensures.bindable c.in-Ok.ensures.meant
+    (none_asked o bound t old none) c.write_rows.ensures.err
+
+-- a query
+query_there : (o : Objects) (bound : List Attached) (t : WriteTree) (q : Option Bound) (b : Bound) → q ≡ Some b → IsQueryOf o bound t q → HasQuery o bound t b
+query_there o bound t q b is h = has_query o bound t b (subst (IsQueryOf o bound t) is h)
+
+pub returns-then-len-gt-ENTRIES-clause-err : goal.returns-then-len-gt-ENTRIES-clause-err
+returns-then-len-gt-ENTRIES-clause-err g c =
+    let o = objects c.args.catalog.now in
+    let bound = map attached c.args.bound.now in
+    let t = write_tree c.args.statement in
+    let b = c.in-Some.query in
+    let counted : c.len.result ≡ length b.entries.items = c.len.ensures ∙ b.entries.ok.0 in
+    let least : 8 < c.len.result = c.if-len-gt-ENTRIES.true in
+    let many : 8 < length b.entries.items = omega (arith, counted, least) in
+    crowded o c.args.user.now bound t b (states g.W.Wrapper.meaning c.args.slots.now.items) c.in-Ok.ensures.bindable
+    (query_there o bound t c.in-Ok.write.query b c.in-Some.is c.in-Ok.ensures.meant.query) many
+
+pub run_query-requires-clause-bound : goal.run_query-requires-clause-bound
+run_query-requires-clause-bound g c =
+    let o = objects c.args.catalog.now in
+    let bound = map attached c.args.bound.now in
+    let h = query_there o bound (write_tree c.args.statement) c.in-Ok.write.query c.in-Some.query c.in-Some.is c.in-Ok.ensures.meant.query in
+    entries_bound (states g.W.Wrapper.meaning c.args.slots.now.items) bound _ c.in-Some.query.entries.items c.requires.tables h.places
+
+pub run_query-requires-clause-safe : goal.run_query-requires-clause-safe
+run_query-requires-clause-safe g c =
+    (query_there (objects c.args.catalog.now) (map attached c.args.bound.now) (write_tree c.args.statement) c.in-Ok.write.query c.in-Some.query c.in-Some.is c.in-Ok.ensures.meant.query).safe
+
+pub returns-in-Err-run_query-clause-err : goal.returns-in-Err-run_query-clause-err
+returns-in-Err-run_query-clause-err g c =
+    let o = objects c.args.catalog.now in
+    let bound = map attached c.args.bound.now in
+    let t = write_tree c.args.statement in
+    let b = c.in-Some.query in
+    let counted : c.len.result ≡ length b.entries.items = c.len.ensures ∙ b.entries.ok.0 in
+    let least : c.len.result ≤ 8 = c.if-len-gt-ENTRIES.false in
+    let few : length b.entries.items ≤ 8 = omega (arith, counted, least) in
+    not_answered o c.args.user.now bound t c.in-Ok.write b (states g.W.Wrapper.meaning c.args.slots.now.items) (states g.W.Wrapper.meaning c.run_query.new.slots.items) c.in-Err-run_query.cause
+    c.in-Ok.ensures.bindable c.in-Ok.ensures.meant (query_there o bound t c.in-Ok.write.query b c.in-Some.is c.in-Ok.ensures.meant.query) few c.run_query.ensures.served c.in-Err-run_query.ensures.err
+
+pub returns-then-not-fits-clause-err : goal.returns-then-not-fits-clause-err
+returns-then-not-fits-clause-err g c =
+    let o = objects c.args.catalog.now in
+    let bound = map attached c.args.bound.now in
+    let t = write_tree c.args.statement in
+    let b = c.in-Some.query in
+    untyped c.written_rows_are_typed.ensures o c.args.user.now bound t c.in-Ok.write b (states g.W.Wrapper.meaning c.args.slots.now.items) (states g.W.Wrapper.meaning c.run_query.new.slots.items)
+    (map tuple c.in-Ok-run_query.rows.items) c.requires.ready c.in-Ok.ensures.bindable c.requires.clean c.in-Ok.ensures.meant
+    (query_there o bound t c.in-Ok.write.query b c.in-Some.is c.in-Ok.ensures.meant.query) c.in-Ok-run_query.ensures.ok c.run_query.ensures.served
+    (λ places form. sym c.if-not-fits.true ∙ rw c.as_slice.ensures.value at c.fits.ensures places form)
+
+pub write_rows-requires-2 : goal.write_rows-requires-2
+write_rows-requires-2 g c =
+    let o = objects c.args.catalog.now in
+    let bound = map attached c.args.bound.now in
+    let t = write_tree c.args.statement in
+    let b = c.in-Some.query in
+    rw c.as_slice-2.ensures.value (can_answered o bound (states g.W.Wrapper.meaning c.args.slots.now.items) (states g.W.Wrapper.meaning c.run_query.new.slots.items) t c.in-Ok.write b
+    (map tuple c.in-Ok-run_query.rows.items) c.requires.ready c.run_query.ensures.served c.in-Ok.ensures.meant
+    (query_there o bound t c.in-Ok.write.query b c.in-Some.is c.in-Ok.ensures.meant.query)
+    (λ places form. sym c.if-not-fits.false ∙ rw c.as_slice.ensures.value at c.fits.ensures places form))
+
+pub returns-clause-ok : goal.returns-clause-ok
+returns-clause-ok g c =
+    let o = objects c.args.catalog.now in
+    let bound = map attached c.args.bound.now in
+    let t = write_tree c.args.statement in
+    let b = c.in-Some.query in
+    let old = states g.W.Wrapper.meaning c.args.slots.now.items in
+    let now = states g.W.Wrapper.meaning c.run_query.new.slots.items in
+    let answer = map tuple c.in-Ok-run_query.rows.items in
+    let counted : c.len.result ≡ length b.entries.items = c.len.ensures ∙ b.entries.ok.0 in
+    let least : c.len.result ≤ 8 = c.if-len-gt-ENTRIES.false in
+    let few : length b.entries.items ≤ 8 = omega (arith, counted, least) in
+    let h = query_there o bound t c.in-Ok.write.query b c.in-Some.is c.in-Ok.ensures.meant.query in
+    let can = can_answered o bound old now t c.in-Ok.write b answer c.requires.ready c.run_query.ensures.served c.in-Ok.ensures.meant h
+    (λ places form. sym c.if-not-fits.false ∙ rw c.as_slice.ensures.value at c.fits.ensures places form) in
+    ends_ok o c.args.user.now bound t c.in-Ok.write old now (states g.W.Wrapper.meaning c.write_rows-2.new.slots.items) answer c.write_rows-2.result c.in-Ok.ensures.bindable c.in-Ok.ensures.meant
+    (asked o bound t b old now answer h few c.run_query.ensures.served c.in-Ok-run_query.ensures.ok) can (rw c.as_slice-2.ensures.value at c.write_rows-2.ensures.ok)
+
+pub returns-clause-err : goal.returns-clause-err
+returns-clause-err g c =
+    let o = objects c.args.catalog.now in
+    let bound = map attached c.args.bound.now in
+    let t = write_tree c.args.statement in
+    let b = c.in-Some.query in
+    let old = states g.W.Wrapper.meaning c.args.slots.now.items in
+    let now = states g.W.Wrapper.meaning c.run_query.new.slots.items in
+    let answer = map tuple c.in-Ok-run_query.rows.items in
+    let counted : c.len.result ≡ length b.entries.items = c.len.ensures ∙ b.entries.ok.0 in
+    let least : c.len.result ≤ 8 = c.if-len-gt-ENTRIES.false in
+    let few : length b.entries.items ≤ 8 = omega (arith, counted, least) in
+    let h = query_there o bound t c.in-Ok.write.query b c.in-Some.is c.in-Ok.ensures.meant.query in
+    ends_err o c.args.user.now bound t c.in-Ok.write old now (states g.W.Wrapper.meaning c.write_rows-2.new.slots.items) answer c.write_rows-2.result c.in-Ok.ensures.bindable c.in-Ok.ensures.meant
+    (asked o bound t b old now answer h few c.run_query.ensures.served c.in-Ok-run_query.ensures.ok) (rw c.as_slice-2.ensures.value at c.write_rows-2.ensures.err)

@@ -1,0 +1,75 @@
+//! Statements that write rows: bound, and done to the box of their table.
+ghost use Rattle.std.specs.Prelude.{◌≡◌, length, map, All, IfOk, IfErr};
+ghost use Rattle.bind_catalog.specs.Places.{attached};
+ghost use Rattle.bind_catalog.specs.Tables.{AreNamedOnce};
+ghost use Rattle.med_catalog.specs.View.{objects};
+ghost use Rattle.med_exec.specs.Slots.{states, HasTable};
+ghost use Rattle.med_world.specs.Writing.{WritesRows, WriteFails};
+ghost use Rattle.write_syntax.specs.WriteView.{write_tree};
+ghost use Rattle.write_types.specs.Typed.{IsClean};
+ghost use Rattle.med_rows.specs.Ready.{IsReady};
+
+use crate::writing::write_rows;
+use bind_catalog::BoundTable;
+use bind_write::bind_write;
+use fdw_api::interface::Wrapper;
+use med_catalog::Catalog;
+use med_select::run_query;
+use med_value::Cause;
+use std::alloc::Global;
+use write_fits::fits;
+use write_syntax::WriteStatement;
+use write_types::law::written_rows_are_typed;
+
+/// How many entries a FROM has at most.
+const ENTRIES: usize = 8;
+
+/// Does an INSERT, UPDATE or DELETE over the tables of a catalogue, each of which is bound in the box of its source, and answers how many
+/// rows it is told of (SQL standard, <insert statement>, <update statement: searched>, <delete statement: searched>).
+///
+/// The query of an INSERT is answered before the first row is written, and so sees the tables as they were. All changes are made, or none.
+///
+/// # Errors
+///
+/// A cause of names, rights or types; 54000 where FROM of an INSERT's query has more than 8 entries; what the query shows over the rows of
+/// its tables, and the write over the rows of its own; what the kind of the box refuses; and 53200, HV000 and 54000 where memory was
+/// refused, a source failed, and a box has given all its ticket numbers. HV000 too where a source gives values of other types than its
+/// tables have. No table has changed then.
+pub fn run_write<W: Wrapper>(
+    slots: &mut Vec<Option<W>>,
+    catalog: &Catalog,
+    bound: &[BoundTable],
+    alloc: Global,
+    user: &str,
+    statement: WriteStatement,
+) -> Result<u64, Cause>
+    requires many { length bound.now ≡ length (objects catalog.now).tables }
+    requires once { AreNamedOnce (objects catalog.now) }
+    requires tables { All (λ a. HasTable (states W.meaning slots.old.items) a.source a.number) (map attached bound.now) }
+    requires ready { IsReady (objects catalog.now) (map attached bound.now) (states W.meaning slots.old.items) }
+    requires clean { IsClean (write_tree statement) }
+    ensures ok { IfOk result (λ count. WritesRows (objects catalog.now) user.now (map attached bound.now) (write_tree statement)
+        (states W.meaning slots.old.items) count (states W.meaning slots.new.items)) }
+    ensures err { IfErr result (λ c. WriteFails (objects catalog.now) user.now (map attached bound.now) (write_tree statement)
+        (states W.meaning slots.old.items) c (states W.meaning slots.new.items)) }
+{
+    written_rows_are_typed();
+    let write = match bind_write(alloc, statement, catalog, bound, user) {
+        Ok(write) => write,
+        Err(cause) => return Err(cause),
+    };
+    let Some(query) = &write.query else {
+        return write_rows(slots, alloc, &write, &[]);
+    };
+    if query.entries.len() > ENTRIES {
+        return Err(Cause::LimitExceeded);
+    }
+    let rows = match run_query(slots, alloc, query) {
+        Ok(rows) => rows,
+        Err(cause) => return Err(cause),
+    };
+    if !fits(&write.write, rows.as_slice()) {
+        return Err(Cause::SourceFault);
+    }
+    write_rows(slots, alloc, &write, rows.as_slice())
+}

@@ -1,0 +1,333 @@
+-- What is picked of a write in a world that agrees, and which causes of its run stand then.
+use Rattle.std.proofs.Common.{◌≡◌, ℕ, ◌⊎◌, true, false, List, [], ◌∷◌, ◌++◌, Option, Some, Contains, IsPermutation, slice_get, map, flat_map, refl, ap, sym, ◌∙◌, subst, arith, inl, inr, nat_eq}
+use Rattle.std.specs.List.{IsDistinct}
+use Rattle.std.proofs.lemmas.Bool.{false≢true}
+use Rattle.std.proofs.lemmas.List.Sorted.{Contains-permutation, IsPermutation-refl}
+use Rattle.med_value.specs.Datum.{Tuple}
+use Rattle.med_value.specs.declared.cause.Cause.{Cause}
+use Rattle.med_value.specs.declared.cause.Cause.TheVariants.{NotNull as NullGiven}
+use Rattle.med_syntax.specs.Tree.{Name}
+use Rattle.med_syntax.specs.QueryTree.{SelectTree}
+use Rattle.write_syntax.specs.WriteTree.{GivenTree, values, rows_of, WriteTree, insert, update, delete}
+use Rattle.tri_expr.specs.declared.expr.Fault.{Fault as Wrong}
+use Rattle.tri_expr.specs.Verdict.{fault_list}
+use Rattle.tri_expr.proofs.Shuffled.{Shuffled, back, to_swaps, each_mapped, none_left}
+use Rattle.med_query.specs.Query.{IsAnswer}
+use Rattle.fdw_api.specs.Kinds.{Kind, Holding, held, Change, Refusals}
+use Rattle.fdw_api.specs.Scan.{TableRow, GivenRow}
+use Rattle.fdw_api.specs.State.{Bound, BoxState, is_honest, rows_of as rows_in_box}
+use Rattle.fdw_api.specs.Calls.{Picks}
+use Rattle.fdw_api.specs.Writes.{Written}
+use Rattle.med_exec.specs.Running.{AllServed}
+use Rattle.med_exec.proofs.Served.{all_served}
+use Rattle.med_planner.specs.Planned.{QueryCauses, wrong_cause}
+use Rattle.med_catalog.specs.Objects.{TableObject, Objects}
+use Rattle.bind_names.specs.Meaning.{Meant}
+use Rattle.bind_catalog.specs.Places.{Attached}
+use Rattle.bind_catalog.specs.Queries.{meant_by}
+use Rattle.bind_catalog.specs.Tables.{shapes}
+use Rattle.med_write.specs.declared.write.WrittenColumn.{WrittenColumn}
+use Rattle.med_write.specs.Form.{WriteForm}
+use Rattle.med_write.specs.Writing.{chosen_by, choice_faults, rows_written, write_faults, write_lacks, changes_of}
+use Rattle.med_write.specs.Making.{cells_of as cells_given}
+use Rattle.write_exec.specs.Writing.{AreRead, KindRefuses}
+use Rattle.write_parts.specs.Meaning.{target_of, columns_in, written_column, write_meant}
+use Rattle.med_world.specs.Picks.{Pick, PicksAnswer, answers, as_given}
+use Rattle.med_world.specs.World.{World, Serves, cells_of, rows_in}
+use Rattle.med_world.specs.Causes.{query_of, entry_tables, meant_over, entries_in, QueryState, QueryRun, OfGiven, OfQuery, write_over, columns_over, rows_held, IsTarget, IsRefused, WriteRun, has_fault, lacks_value, is_refused, query_shows, PicksEntry, PicksWrite}
+use Rattle.med_world.specs.Engine.{Shown, IsSound, Agrees}
+use Rattle.med_world.specs.Writing.{GivesAnswer, GivesRows, IsGiven, columns_for, form_for, IsTargetAt}
+use Rattle.med_world.proofs.Lists.{some_same}
+use Rattle.med_world.proofs.Altered.{one_store, one_kind}
+use Rattle.med_world.proofs.Picking.{pick_of, picks_pick}
+use Rattle.med_world.proofs.Querying.{same_meant, same_entries, none_many}
+use Rattle.med_world.proofs.AnyRows.{written_same, faults_same, lacks_same, read_for, changes_read, read_all, read_same}
+use Rattle.med_world.proofs.Written.{TargetIn, target_in, target_world, held_same, Done}
+
+-- ---- the query of an INSERT
+
+abbrev AnswersIn : World → Meant → List Tuple → Type 0
+AnswersIn w m answer = IsAnswer (query_of m) (entry_tables m.entries (rows_in w.rows)) answer
+
+abbrev ShowsIn : World → Meant → Cause → Type 0
+ShowsIn w m c = QueryCauses (query_of m) (entry_tables m.entries (rows_in w.rows)) c
+
+given_answer : (e : Shown) (w : World) (q : SelectTree) (answer : List Tuple) (now : List (Option BoxState)) → Agrees e w → GivesAnswer e.catalog e.bound q e.boxes answer now → IsAnswer (query_of (meant_over w q)) (entries_in w q) answer
+given_answer e w q answer now a h = subst (λ (m : Meant). AnswersIn w m answer) (same_meant e w q a)
+    (h.answers.answers a.honest (entry_tables (meant_by e.catalog q).entries (rows_in w.rows)) (same_entries e w q h.places a h.are))
+
+given_clear : (e : Shown) (w : World) (q : SelectTree) (answer : List Tuple) (now : List (Option BoxState)) → Agrees e w → GivesAnswer e.catalog e.bound q e.boxes answer now → (c : Cause) → QueryRun w q c → ⊥
+given_clear e w q answer now a h = subst (λ (m : Meant). (c : Cause) → ShowsIn w m c → ⊥) (same_meant e w q a)
+    (h.answers.clear a.honest (entry_tables (meant_by e.catalog q).entries (rows_in w.rows)) (same_entries e w q h.places a h.are))
+
+-- the boxes have served its query, if it has one
+none_asked : (old now : List (Option BoxState)) → now ≡ old → AllServed old now
+none_asked old now same = subst (λ (x : List (Option BoxState)). AllServed old x) (sym same) (all_served old)
+
+pub given_served : (o : Objects) (bound : List Attached) (t : WriteTree) (old : List (Option BoxState)) (answer : List Tuple) (now : List (Option BoxState)) → IsGiven o bound t old answer now → AllServed old now
+given_served o bound (insert i) old answer now h = of_given i.given h
+  where
+    of_given : (g : GivenTree) → GivesRows o bound g old answer now → AllServed old now
+    of_given (values rows) x = none_asked old now x.1
+    of_given (rows_of q) x = x.served
+given_served o bound (update u) old answer now h = none_asked old now h.1
+given_served o bound (delete d) old answer now h = none_asked old now h.1
+
+-- its answer is picked, no cause stands against its run, and its FROM has few entries
+pub answer_picked : (e : Shown) (w : World) (t : WriteTree) (answer : List Tuple) (now : List (Option BoxState)) → Agrees e w → IsGiven e.catalog e.bound t e.boxes answer now
+    → (q : SelectTree) → OfQuery (λ r. r ≡ q) t → PicksAnswer (query_of (meant_over w q)) (entries_in w q) answer
+answer_picked e w (insert i) answer now a h q x = of_given i.given h x
+  where
+    of_given : (g : GivenTree) → GivesRows e.catalog e.bound g e.boxes answer now → OfGiven (λ r. r ≡ q) g → PicksAnswer (query_of (meant_over w q)) (entries_in w q) answer
+    of_given (values rows) y z = absurd z
+    of_given (rows_of r) y z = answers (subst (λ (s : SelectTree). IsAnswer (query_of (meant_over w s)) (entries_in w s) answer) z (given_answer e w r answer now a y))
+answer_picked e w (update u) answer now a h q x = absurd x
+answer_picked e w (delete d) answer now a h q x = absurd x
+
+pub query_clear : (e : Shown) (w : World) (t : WriteTree) (answer : List Tuple) (now : List (Option BoxState)) → Agrees e w → IsGiven e.catalog e.bound t e.boxes answer now → (c : Cause) → OfQuery (λ q. QueryRun w q c) t → ⊥
+query_clear e w (insert i) answer now a h c x = of_given i.given h x
+  where
+    of_given : (g : GivenTree) → GivesRows e.catalog e.bound g e.boxes answer now → OfGiven (λ q. QueryRun w q c) g → ⊥
+    of_given (values rows) y z = z
+    of_given (rows_of r) y z = given_clear e w r answer now a y c z
+query_clear e w (update u) answer now a h c x = x
+query_clear e w (delete d) answer now a h c x = x
+
+pub query_few : (e : Shown) (w : World) (t : WriteTree) (answer : List Tuple) (now : List (Option BoxState)) → Agrees e w → IsGiven e.catalog e.bound t e.boxes answer now → OfQuery (λ q. (d : Cause) × QueryState w q d) t → ⊥
+query_few e w (insert i) answer now a h x = of_given i.given h x
+  where
+    of_given : (g : GivenTree) → GivesRows e.catalog e.bound g e.boxes answer now → OfGiven (λ q. (d : Cause) × QueryState w q d) g → ⊥
+    of_given (values rows) y z = z
+    of_given (rows_of r) y z = none_many e w r a y.few z.0 z.1
+query_few e w (update u) answer now a h x = x
+query_few e w (delete d) answer now a h x = x
+
+-- ---- what is picked of a write
+
+-- an entry that its source may hold, the rows of its box, and how they were read
+pub picks_write : (e : Shown) (w : World) (t : WriteTree) (at : Attached) (b : BoxState) → IsSound e → Agrees e w → slice_get e.boxes at.source ≡ Some (Some b) → (x : TargetIn e t at b) → (p : Pick) → Picks (b.content.holdings x.table.remote) p.entry
+    → p.rows ≡ rows_in_box b at.number → IsPermutation (map as_given p.rows) p.read → ((q : SelectTree) → OfQuery (λ r. r ≡ q) t → PicksAnswer (query_of (meant_over w q)) (entries_in w q) p.answer) → PicksWrite w t p
+picks_write e w t at b sound a there x p entry rows read answer = record {
+  entry = λ table is. subst (λ (u : TableObject). PicksEntry w u p) (some_same x.table table (sym target.there ∙ is)) picked;
+  rows = record {
+    same = to_swaps (back (subst (λ (rs : List TableRow). Shuffled (map held rs) (rows_held w t)) (sym rows) (held_same e w t at b a there x)));
+    once = subst (λ (rs : List TableRow). IsDistinct nat_eq (map (λ (r : TableRow). r.id) rs)) (sym rows) ((sound.sound_boxes at.source b there).once (a.honest at.source b there) at.number x.bound x.is);
+  };
+  read = read;
+  answer = answer;
+}
+  where
+    target : IsTarget w t x.table b.nature.kind b.content.holdings
+    target = target_world e w t at b sound a there x
+
+    picked : PicksEntry w x.table p
+    picked kind holdings s =
+        subst (λ (f : Name → Holding). Picks (f x.table.remote) p.entry) (one_store w x.table.server b.nature.kind kind b.content.holdings holdings target.serves s) entry
+
+-- ---- causes
+
+none_in : {X : Type 0} (xs : List X) (x : X) → xs ≡ [] → Contains xs x → ⊥
+none_in {X} xs x e h = no_place (subst (λ (l : List X). Contains l x) e h)
+  where
+    no_place : Contains [] x → ⊥
+    no_place y = let n = y.1 in omega arith
+
+right_none : {X : Type 0} (xs ys : List X) → xs ++ ys ≡ [] → ys ≡ []
+right_none [] ys e = e
+right_none (x ∷ xs) ys e = absurd cc
+
+pub form_same : (e : Shown) (w : World) (t : WriteTree) → Agrees e w → form_for e.catalog t ≡ write_over w t
+form_same e w t a = ap (λ (o : Objects). write_meant (shapes o) t) (sym a.catalog)
+
+pub columns_same : (e : Shown) (w : World) (t : WriteTree) → Agrees e w → columns_for e.catalog t ≡ columns_over w t
+columns_same e w t a = ap (λ (o : Objects). map written_column (columns_in (shapes o) (target_of t))) (sym a.catalog)
+
+-- a pick under which no cause of the run stands
+pub record RunsClear (w : World) (t : WriteTree) (answer : List Tuple) : Type 0 where
+  pub pick : Pick
+  pub picks : PicksWrite w t pick
+  pub answer_is : pick.answer ≡ answer
+  pub none : (c : Cause) → WriteRun w pick t c → ⊥
+
+-- a pick under which this one does
+pub record RunShows (w : World) (t : WriteTree) (c : Cause) : Type 0 where
+  pub pick : Pick
+  pub picks : PicksWrite w t pick
+  pub stands : WriteRun w pick t c
+
+-- ---- a write that is done
+
+pub done_clear : (e : Shown) (w : World) (t : WriteTree) (answer : List Tuple) (at : Attached) (count : ℕ) (new : List (Option BoxState)) → IsSound e → IsTargetAt e.catalog e.bound t at → Done e t answer at count new → Agrees e w
+    → ((q : SelectTree) → OfQuery (λ r. r ≡ q) t → PicksAnswer (query_of (meant_over w q)) (entries_in w q) answer) → ((c : Cause) → OfQuery (λ q. QueryRun w q c) t → ⊥) → RunsClear w t answer
+done_clear e w t answer at count new sound target_at h a answered clear = record { pick = p; picks = picks; answer_is = refl; none = none }
+  where
+    b : BoxState
+    b = h.before
+
+    honest : is_honest b
+    honest = a.honest at.source b h.there
+
+    x : TargetIn e t at b
+    x = target_in e t at b sound target_at h.there
+
+    k : Written b (record { table = at.number; changes = h.change.writes.changes; broken = false }) h.after
+    k = h.change.writes.content honest
+
+    form : WriteForm
+    form = form_for e.catalog t
+
+    read : List GivenRow
+    read = h.change.writes.read
+
+    are : AreRead form (rows_in_box b at.number) read
+    are = h.change.writes.are_read honest
+
+    p : Pick
+    p = record { entry = k.entry; answer = answer; rows = rows_in_box b at.number; read = read_for form (rows_in_box b at.number) read }
+
+    one : k.bound ≡ x.bound
+    one = some_same k.bound x.bound (sym k.is ∙ x.is)
+
+    entry : Picks (b.content.holdings x.table.remote) k.entry
+    entry = subst (λ (r : Name). Picks (b.content.holdings r) k.entry) (ap (λ (z : Bound). z.remote) one ∙ x.remote) k.picked
+
+    picks : PicksWrite w t p
+    picks = picks_write e w t at b sound a h.there x p entry refl (to_swaps (read_all form (rows_in_box b at.number) read are)) answered
+
+    target : IsTarget w t x.table b.nature.kind b.content.holdings
+    target = target_world e w t at b sound a h.there x
+
+    -- over the rows of the world in place of those that were read
+    no_fault : write_faults (write_over w t) (cells_of (rows_held w t)) answer ≡ []
+    no_fault = subst (λ (m : WriteForm). write_faults m (cells_of (rows_held w t)) answer ≡ []) (form_same e w t a)
+        (none_left (write_faults form (cells_given read) answer) (write_faults form (cells_of (rows_held w t)) answer)
+        (faults_same form answer (cells_given read) (cells_of (rows_held w t)) (read_same form (rows_in_box b at.number) read (rows_held w t) are (held_same e w t at b a h.there x)))
+        h.change.writes.are_changes.no_fault)
+
+    complete : write_lacks (columns_over w t) (write_over w t) (cells_of (rows_held w t)) answer ≡ false
+    complete =
+        ap (λ (cs : List WrittenColumn). write_lacks cs (write_over w t) (cells_of (rows_held w t)) answer) (sym (columns_same e w t a))
+        ∙ ap (λ (m : WriteForm). write_lacks (columns_for e.catalog t) m (cells_of (rows_held w t)) answer) (sym (form_same e w t a))
+        ∙ sym (lacks_same (columns_for e.catalog t) form answer (cells_given read) (cells_of (rows_held w t)) (read_same form (rows_in_box b at.number) read (rows_held w t) are (held_same e w t at b a h.there x)))
+        ∙ h.change.writes.are_changes.complete
+
+    changes_are : h.change.writes.changes ≡ changes_of (write_over w t) answer p.read
+    changes_are =
+        h.change.writes.are_changes.are ∙ sym (changes_read form answer (rows_in_box b at.number) read)
+        ∙ ap (λ (m : WriteForm). changes_of m answer p.read) (form_same e w t a)
+
+    not_refused : (b.nature.kind.refuses x.table.columns x.table.settings).causes k.entry (rows_in_box b at.number) (changes_of (write_over w t) answer p.read) ≡ []
+    not_refused =
+        ap (λ (r : Refusals). r.causes k.entry (rows_in_box b at.number) (changes_of (write_over w t) answer p.read)) (sym (ap (λ (z : Bound). z.refuses) one ∙ x.writes.refuses))
+        ∙ ap (λ (cs : List Change). k.bound.refuses.causes k.entry (rows_in_box b at.number) cs) (sym changes_are)
+        ∙ k.no_cause
+
+    kind_none : (c : Cause) → IsRefused w p t c → ⊥
+    kind_none c r =
+        none_in ((b.nature.kind.refuses x.table.columns x.table.settings).causes k.entry (rows_in_box b at.number) (changes_of (write_over w t) answer p.read)) c not_refused
+        (subst (λ (u : TableObject). Contains ((b.nature.kind.refuses u.columns u.settings).causes k.entry (rows_in_box b at.number) (changes_of (write_over w t) answer p.read)) c) table_is
+        (subst (λ (m : Kind). Contains ((m.refuses r.table.columns r.table.settings).causes k.entry (rows_in_box b at.number) (changes_of (write_over w t) answer p.read)) c) kind_is r.stands))
+      where
+        table_is : r.table ≡ x.table
+        table_is = some_same r.table x.table (sym r.target.there ∙ target.there)
+
+        kind_is : r.kind ≡ b.nature.kind
+        kind_is = one_kind w x.table.server r.kind b.nature.kind r.holdings b.content.holdings (subst (λ (u : TableObject). Serves w u.server r.kind r.holdings) table_is r.target.serves) target.serves
+
+    none : (c : Cause) → WriteRun w p t c → ⊥
+    none c (has_fault f stands is) = none_in (write_faults (write_over w t) (cells_of (rows_held w t)) answer) f no_fault stands
+    none c (lacks_value lacks is) = false≢true (sym complete ∙ lacks)
+    none c (is_refused r) = kind_none c r
+    none c (query_shows q) = clear c q
+
+-- ---- a write that is refused
+
+-- its kind says why
+pub kind_told : (e : Shown) (w : World) (t : WriteTree) (answer : List Tuple) (at : Attached) (b : BoxState) (c : Cause) → IsSound e → IsTargetAt e.catalog e.bound t at → slice_get e.boxes at.source ≡ Some (Some b) → Agrees e w
+    → KindRefuses (columns_for e.catalog t) (form_for e.catalog t) answer b at.number c → ((q : SelectTree) → OfQuery (λ r. r ≡ q) t → PicksAnswer (query_of (meant_over w q)) (entries_in w q) answer) → RunShows w t c
+kind_told e w t answer at b c sound target_at there a k answered = record { pick = p; picks = picks; stands = is_refused refused }
+  where
+    x : TargetIn e t at b
+    x = target_in e t at b sound target_at there
+
+    form : WriteForm
+    form = form_for e.catalog t
+
+    p : Pick
+    p = record { entry = k.entry; answer = answer; rows = rows_in_box b at.number; read = read_for form (rows_in_box b at.number) k.read }
+
+    one : k.bound ≡ x.bound
+    one = some_same k.bound x.bound (sym k.is ∙ x.is)
+
+    entry : Picks (b.content.holdings x.table.remote) k.entry
+    entry = subst (λ (r : Name). Picks (b.content.holdings r) k.entry) (ap (λ (z : Bound). z.remote) one ∙ x.remote) k.picked
+
+    picks : PicksWrite w t p
+    picks = picks_write e w t at b sound a there x p entry refl (to_swaps (read_all form (rows_in_box b at.number) k.read k.are_read)) answered
+
+    valued : flat_map fault_list (rows_written (write_over w t) (cells_of (rows_held w t)) answer) ≡ []
+    valued = subst (λ (m : WriteForm). flat_map fault_list (rows_written m (cells_of (rows_held w t)) answer) ≡ []) (form_same e w t a)
+        (none_left (flat_map fault_list (rows_written form (cells_given k.read) answer)) (flat_map fault_list (rows_written form (cells_of (rows_held w t)) answer))
+        (each_mapped fault_list (written_same form answer (cells_given k.read) (cells_of (rows_held w t)) (read_same form (rows_in_box b at.number) k.read (rows_held w t) k.are_read (held_same e w t at b a there x))))
+        (right_none (flat_map (choice_faults (chosen_by form)) (cells_given k.read)) (flat_map fault_list (rows_written form (cells_given k.read) answer)) k.are_changes.no_fault))
+
+    changes_are : k.changes ≡ changes_of (write_over w t) answer p.read
+    changes_are =
+        k.are_changes.are ∙ sym (changes_read form answer (rows_in_box b at.number) k.read)
+        ∙ ap (λ (m : WriteForm). changes_of m answer p.read) (form_same e w t a)
+
+    refused : IsRefused w p t c
+    refused = record {
+      table = x.table;
+      kind = b.nature.kind;
+      holdings = b.content.holdings;
+      target = target_world e w t at b sound a there x;
+      valued = valued;
+      stands = subst (λ (r : Refusals). Contains (r.causes k.entry (rows_in_box b at.number) (changes_of (write_over w t) answer p.read)) c) (ap (λ (z : Bound). z.refuses) one ∙ x.writes.refuses)
+          (subst (λ (cs : List Change). Contains (k.bound.refuses.causes k.entry (rows_in_box b at.number) cs) c) changes_are k.stands);
+    }
+
+-- what its rows and cells show
+abbrev pub Shows : World → WriteTree → List Tuple → Cause → Type 0
+Shows w t answer c =
+    ((f : Wrong) × Contains (write_faults (write_over w t) (cells_of (rows_held w t)) answer) f × (c ≡ wrong_cause f))
+    ⊎ ((write_lacks (columns_over w t) (write_over w t) (cells_of (rows_held w t)) answer ≡ true) × (c ≡ NullGiven))
+
+shown_run : (w : World) (p : Pick) (t : WriteTree) (c : Cause) → Shows w t p.answer c → WriteRun w p t c
+shown_run w p t c (inl (f, stands, is)) = has_fault f stands is
+shown_run w p t c (inr (lacks, is)) = lacks_value lacks is
+
+-- some pick of a write to a table that is there
+pub some_write : (e : Shown) (w : World) (t : WriteTree) (answer : List Tuple) (at : Attached) (b : BoxState) → IsSound e → IsTargetAt e.catalog e.bound t at → slice_get e.boxes at.source ≡ Some (Some b) → Agrees e w
+    → ((q : SelectTree) → OfQuery (λ r. r ≡ q) t → PicksAnswer (query_of (meant_over w q)) (entries_in w q) answer) → (p : Pick) × PicksWrite w t p × (p.answer ≡ answer)
+some_write e w t answer at b sound target_at there a answered = (p, picks_write e w t at b sound a there x p (picks_pick (b.content.holdings x.table.remote)) refl (IsPermutation-refl (map as_given (rows_in_box b at.number))) answered, refl)
+  where
+    x : TargetIn e t at b
+    x = target_in e t at b sound target_at there
+
+    p : Pick
+    p = record { entry = pick_of (b.content.holdings x.table.remote); answer = answer; rows = rows_in_box b at.number; read = map as_given (rows_in_box b at.number) }
+
+pub shows_told : (e : Shown) (w : World) (t : WriteTree) (answer : List Tuple) (at : Attached) (b : BoxState) (c : Cause) → IsSound e → IsTargetAt e.catalog e.bound t at → slice_get e.boxes at.source ≡ Some (Some b) → Agrees e w
+    → Shows w t answer c → ((q : SelectTree) → OfQuery (λ r. r ≡ q) t → PicksAnswer (query_of (meant_over w q)) (entries_in w q) answer) → RunShows w t c
+shows_told e w t answer at b c sound target_at there a shows answered =
+    let p = some_write e w t answer at b sound target_at there a answered in
+    record { pick = p.0; picks = p.1; stands = shown_run w p.0 t c (subst (λ (rows : List Tuple). Shows w t rows c) (sym p.2) shows) }
+
+-- over the rows of the world in place of those that were read
+pub fault_in : (e : Shown) (w : World) (t : WriteTree) (answer : List Tuple) (at : Attached) (b : BoxState) (read : List GivenRow) (f : Wrong) → IsSound e → IsTargetAt e.catalog e.bound t at → slice_get e.boxes at.source ≡ Some (Some b) → Agrees e w
+    → AreRead (form_for e.catalog t) (rows_in_box b at.number) read → Contains (write_faults (form_for e.catalog t) (cells_given read) answer) f → Contains (write_faults (write_over w t) (cells_of (rows_held w t)) answer) f
+fault_in e w t answer at b read f sound target_at there a are h =
+    let x = target_in e t at b sound target_at there in
+    subst (λ (m : WriteForm). Contains (write_faults m (cells_of (rows_held w t)) answer) f) (form_same e w t a)
+    (Contains-permutation (write_faults (form_for e.catalog t) (cells_given read) answer) (write_faults (form_for e.catalog t) (cells_of (rows_held w t)) answer) f
+    (to_swaps (faults_same (form_for e.catalog t) answer (cells_given read) (cells_of (rows_held w t)) (read_same (form_for e.catalog t) (rows_in_box b at.number) read (rows_held w t) are (held_same e w t at b a there x)))) h)
+
+pub lack_in : (e : Shown) (w : World) (t : WriteTree) (answer : List Tuple) (at : Attached) (b : BoxState) (read : List GivenRow) → IsSound e → IsTargetAt e.catalog e.bound t at → slice_get e.boxes at.source ≡ Some (Some b) → Agrees e w
+    → AreRead (form_for e.catalog t) (rows_in_box b at.number) read → write_lacks (columns_for e.catalog t) (form_for e.catalog t) (cells_given read) answer ≡ true → write_lacks (columns_over w t) (write_over w t) (cells_of (rows_held w t)) answer ≡ true
+lack_in e w t answer at b read sound target_at there a are h =
+    let x = target_in e t at b sound target_at there in
+    ap (λ (cs : List WrittenColumn). write_lacks cs (write_over w t) (cells_of (rows_held w t)) answer) (sym (columns_same e w t a))
+    ∙ ap (λ (m : WriteForm). write_lacks (columns_for e.catalog t) m (cells_of (rows_held w t)) answer) (sym (form_same e w t a))
+    ∙ sym (lacks_same (columns_for e.catalog t) (form_for e.catalog t) answer (cells_given read) (cells_of (rows_held w t)) (read_same (form_for e.catalog t) (rows_in_box b at.number) read (rows_held w t) are (held_same e w t at b a there x)))
+    ∙ h

@@ -1,0 +1,93 @@
+-- A statement that writes rows leads to its reply.
+use Rattle.std.proofs.Common.{ℕ, true, false, List, Option, refl, sym, subst}
+use Rattle.std.proofs.lemmas.Bool.{false≢true}
+use Rattle.med_value.specs.declared.cause.Cause.{Cause}
+use Rattle.med_value.specs.declared.cause.Cause.TheVariants.{LimitExceeded, SourceFault}
+use Rattle.med_syntax.specs.Tree.{Name}
+use Rattle.write_syntax.specs.WriteTree.{WriteTree}
+use Rattle.med_parser.specs.CommandTree.{on_rows}
+use Rattle.fdw_api.specs.State.{BoxState}
+use Rattle.med_exec.specs.Running.{SlotShows, HasFailed, IsUsedUp}
+use Rattle.med_world.specs.Requests.{sql}
+use Rattle.med_world.specs.World.{World, new_session}
+use Rattle.med_world.specs.Replies.{done, refused}
+use Rattle.med_world.specs.Steps.{is_done, source_fails as source_fails_step, numbers_end as numbers_end_step, write_tag}
+use Rattle.med_world.specs.Engine.{Shown, IsSound, Agrees, EachRises, Leads}
+use Rattle.med_world.specs.Writing.{WritesRows, WriteFails}
+use Rattle.med_world.specs.Laws.{IsRead, with_boxes}
+use Rattle.med_world.proofs.Told.{told_tree, none_tree, before_tree, pick_tree}
+use Rattle.med_world.proofs.Leading.{calm, calm_befell, known, leads_refused, leads_memory}
+use Rattle.med_world.proofs.RowCausing.{WritesPhased}
+use Rattle.med_world.proofs.RowEnds.{RowsDone, NoneBeforeRows, WhyNotDone, is_told, lacks_memory, source_fails, numbers_end}
+use Rattle.med_world.proofs.RowLeads.{rows_done, rows_not_done}
+
+-- it is done, and answered by its tag
+pub writes_done : (e : Shown) (new : List (Option BoxState)) (sid : ℕ) (text : List ℕ) (user : Name) (t : WriteTree) (n : ℕ) → IsRead e sid text user (on_rows t) → IsSound e → WritesRows e.catalog user e.bound t e.boxes n new → Leads e sid (sql text) (done (write_tag t n)) (with_boxes e new)
+writes_done e new sid text user t n read sound h = record {
+  trouble = calm;
+  befell = calm_befell e.boxes new;
+  rises = d.rises;
+  step = λ w a.
+      let x = d.each w a in
+      let k = known e w sid text user (on_rows t) a read in (
+        x.after,
+        is_done x.pick (pick_tree w sid x.pick text (new_session user) (on_rows t) k x.picks) (none_tree w sid x.pick text (new_session user) (on_rows t) k x.none)
+            (new_session user, on_rows t, k.is, (n, refl, x.writes)),
+        x.agrees,
+      );
+}
+  where
+    d : RowsDone e user t n (with_boxes e new)
+    d = rows_done e user t n new sound h
+
+-- a source failed
+source_leads : (e new : Shown) (sid : ℕ) (text : List ℕ) (user : Name) (t : WriteTree) → IsRead e sid text user (on_rows t) → SlotShows e.boxes new.boxes HasFailed → NoneBeforeRows e user t
+    → EachRises e.boxes new.boxes → ((w : World) → Agrees e w → Agrees new w) → Leads e sid (sql text) (refused SourceFault) new
+source_leads e new sid text user t read h none rises kept = record {
+  trouble = record { memory = false; asked = false; source = true; numbers = false };
+  befell = record {
+    source = λ x. record { slot = h.slot; before = h.before; after = h.after; was = h.was; is = h.is; holds = h.shows };
+    numbers = λ x. absurd (false≢true x);
+  };
+  rises = rises;
+  step = λ w a. let k = known e w sid text user (on_rows t) a read in (
+    w,
+    source_fails_step refl (new_session user) (on_rows t) k.is (before_tree w sid text (new_session user) (on_rows t) k (none w a)) refl refl,
+    kept w a,
+  );
+}
+
+-- ticket numbers are used up
+numbers_leads : (e new : Shown) (sid : ℕ) (text : List ℕ) (user : Name) (t : WriteTree) → IsRead e sid text user (on_rows t) → SlotShows e.boxes new.boxes IsUsedUp → NoneBeforeRows e user t
+    → EachRises e.boxes new.boxes → ((w : World) → Agrees e w → Agrees new w) → Leads e sid (sql text) (refused LimitExceeded) new
+numbers_leads e new sid text user t read h none rises kept = record {
+  trouble = record { memory = false; asked = false; source = false; numbers = true };
+  befell = record {
+    source = λ x. absurd (false≢true x);
+    numbers = λ x. record { slot = h.slot; before = h.before; after = h.after; was = h.was; is = h.is; holds = h.shows };
+  };
+  rises = rises;
+  step = λ w a. let k = known e w sid text user (on_rows t) a read in (
+    w,
+    numbers_end_step refl (new_session user) (on_rows t) k.is (before_tree w sid text (new_session user) (on_rows t) k (none w a)) refl refl,
+    kept w a,
+  );
+}
+
+why_leads : (e new : Shown) (sid : ℕ) (text : List ℕ) (user : Name) (t : WriteTree) (c : Cause) → IsRead e sid text user (on_rows t) → EachRises e.boxes new.boxes → ((w : World) → Agrees e w → Agrees new w) → WhyNotDone e user t c new → Leads e sid (sql text) (refused c) new
+why_leads e new sid text user t c read rises kept (is_told told) = leads_refused e new sid (sql text) c rises kept (λ w a.
+    let x = told w a in
+    let k = known e w sid text user (on_rows t) a read in
+    (x.pick, pick_tree w sid x.pick text (new_session user) (on_rows t) k x.picks, told_tree w sid x.pick text (new_session user) (on_rows t) c k x.stands x.least))
+why_leads e new sid text user t c read rises kept (lacks_memory is) =
+    subst (λ (d : Cause). Leads e sid (sql text) (refused d) new) (sym is) (leads_memory e new sid (sql text) tt rises kept)
+why_leads e new sid text user t c read rises kept (source_fails is h none) =
+    subst (λ (d : Cause). Leads e sid (sql text) (refused d) new) (sym is) (source_leads e new sid text user t read h none rises kept)
+why_leads e new sid text user t c read rises kept (numbers_end is h none) =
+    subst (λ (d : Cause). Leads e sid (sql text) (refused d) new) (sym is) (numbers_leads e new sid text user t read h none rises kept)
+
+-- it is not, and why is told
+pub writes_refused : WritesPhased → (e : Shown) (new : List (Option BoxState)) (sid : ℕ) (text : List ℕ) (user : Name) (t : WriteTree) (c : Cause) → IsRead e sid text user (on_rows t) → IsSound e → WriteFails e.catalog user e.bound t e.boxes c new → Leads e sid (sql text) (refused c) (with_boxes e new)
+writes_refused law e new sid text user t c read sound h =
+    let r = rows_not_done law e user t c new sound h in
+    why_leads e (with_boxes e new) sid text user t c read r.rises r.kept r.why

@@ -1,0 +1,111 @@
+//! Statements that write rows read and written out.
+use crate::rows::{Answer, assert_rows, repeated};
+use crate::statements::Printed;
+use med_parser::parse;
+use std::alloc::Global;
+use std::test::Fail;
+
+/// How the text of a row of parts is answered.
+struct Outcome;
+
+impl Answer for Outcome {
+    fn answer(alloc: Global, row: &str) -> Result<String, Fail> {
+        let text = repeated(alloc, row)?;
+        Ok(match parse(alloc, &text) {
+            Ok(_) => String::from_str(alloc, "read")?,
+            Err(cause) => format!(in alloc; "{cause:?}")?,
+        })
+    }
+}
+
+#[test]
+fn inserts(rt: HostRuntime) -> Result<(), Fail> {
+    assert_rows::<Printed>(
+        rt.alloc(),
+        &rt,
+        "INSERT INTO t VALUES (1) => INSERT INTO \"t\" VALUES ( 1 )\n\
+        insert into T (a, \"B\") values (1, 'x'), (-2, NULL); => INSERT INTO \"t\" ( \"a\" , \"B\" ) VALUES ( 1 , 'x' ) , ( - 2 , NULL )\n\
+        INSERT INTO t VALUES (a + 1, (true)), (2, false) => INSERT INTO \"t\" VALUES ( \"a\" + 1 , ( TRUE ) ) , ( 2 , FALSE )\n\
+        INSERT INTO t VALUES (1), (2, 3) => INSERT INTO \"t\" VALUES ( 1 ) , ( 2 , 3 )\n\
+        INSERT INTO t VALUES (-9223372036854775808, 9223372036854775807) => INSERT INTO \"t\" VALUES ( - 9223372036854775808 , 9223372036854775807 )\n\
+        INSERT INTO t SELECT a b FROM u WHERE c LIMIT 1; => INSERT INTO \"t\" SELECT \"a\" AS \"b\" FROM \"u\" WHERE \"c\" LIMIT 1\n\
+        INSERT INTO t (a) SELECT DISTINCT 1 ORDER BY a NULLS FIRST => INSERT INTO \"t\" ( \"a\" ) SELECT DISTINCT 1 ORDER BY \"a\" ASC NULLS FIRST\n\
+        INSERT INTO nulls (first, row) VALUES (1, 2) => INSERT INTO \"nulls\" ( \"first\" , \"row\" ) VALUES ( 1 , 2 )",
+    )
+}
+
+#[test]
+fn updates_and_deletes(rt: HostRuntime) -> Result<(), Fail> {
+    assert_rows::<Printed>(
+        rt.alloc(),
+        &rt,
+        "UPDATE t SET a = 1 => UPDATE \"t\" SET \"a\" = 1\n\
+        update t u set a = u.b + 1, \"C\" = null where u.a > 2; => UPDATE \"t\" AS \"u\" SET \"a\" = \"u\" . \"b\" + 1 , \"C\" = NULL WHERE \"u\" . \"a\" > 2\n\
+        UPDATE t AS u SET a = b = c => UPDATE \"t\" AS \"u\" SET \"a\" = \"b\" = \"c\"\n\
+        UPDATE t SET a = 1, a = 2 => UPDATE \"t\" SET \"a\" = 1 , \"a\" = 2\n\
+        DELETE FROM t => DELETE FROM \"t\"\n\
+        delete from t where a in (1, 2) or b is null; => DELETE FROM \"t\" WHERE \"a\" IN ( 1 , 2 ) OR \"b\" IS NULL\n\
+        DELETE FROM t AS u WHERE u.a LIKE 'x%' => DELETE FROM \"t\" AS \"u\" WHERE \"u\" . \"a\" LIKE 'x%'",
+    )
+}
+
+#[test]
+fn refused_writes(rt: HostRuntime) -> Result<(), Fail> {
+    assert_rows::<Printed>(
+        rt.alloc(),
+        &rt,
+        "INSERT t VALUES (1) => Syntax\n\
+        INSERT INTO t => Syntax\n\
+        INSERT INTO t VALUES => Syntax\n\
+        INSERT INTO t VALUES () => Syntax\n\
+        INSERT INTO t VALUES 1 => Syntax\n\
+        INSERT INTO t VALUES (1), => Syntax\n\
+        INSERT INTO t () VALUES (1) => Syntax\n\
+        INSERT INTO t (a + 1) VALUES (1) => Syntax\n\
+        INSERT INTO t u VALUES (1) => Syntax\n\
+        INSERT INTO t (SELECT 1) => Syntax\n\
+        INSERT INTO t VALUES (1) WHERE a => Syntax\n\
+        INSERT INTO t VALUES (1); DELETE FROM t => Syntax\n\
+        INSERT INTO t UPDATE u SET a = 1 => Syntax\n\
+        UPDATE t => Syntax\n\
+        UPDATE t SET a => Syntax\n\
+        UPDATE t SET t.a = 1 => Syntax\n\
+        UPDATE t SET a = 1, => Syntax\n\
+        UPDATE t SET (a) = 1 => Syntax\n\
+        UPDATE t, u SET a = 1 => Syntax\n\
+        UPDATE SET a = 1 => Syntax\n\
+        DELETE t => Syntax\n\
+        DELETE FROM t, u => Syntax\n\
+        DELETE FROM t WHERE => Syntax\n\
+        DELETE FROM t WHERE a ORDER BY a => Syntax\n\
+        DELETE FROM a234567890b234567890c234567890d234567890e234567890f234567890g234 => NameTooLong\n\
+        UPDATE t SET a234567890b234567890c234567890d234567890e234567890f234567890g234 = 1 => NameTooLong\n\
+        INSERT INTO t (a234567890b234567890c234567890d234567890e234567890f234567890g234) VALUES (1) => NameTooLong\n\
+        UPDATE a234567890b234567890c234567890d234567890e234567890f234567890g234 SET => Syntax\n\
+        INSERT INTO t VALUES (9223372036854775808) => LiteralOutOfRange\n\
+        INSERT INTO t VALUES (1), (2, 1 - 9223372036854775808) => LiteralOutOfRange\n\
+        INSERT INTO t SELECT 1 LIMIT 9223372036854775808 => LiteralOutOfRange\n\
+        UPDATE t SET a = 1, b = 9223372036854775808 => LiteralOutOfRange\n\
+        UPDATE t SET a = 1 WHERE b = 9223372036854775808 => LiteralOutOfRange\n\
+        DELETE FROM t WHERE a = 99999999999999999999 => LiteralOutOfRange",
+    )
+}
+
+// 64 is the height that is read; many low expressions are no high one.
+#[test]
+fn heights_of_writes(rt: HostRuntime) -> Result<(), Fail> {
+    assert_rows::<Outcome>(
+        rt.alloc(),
+        &rt,
+        "1*DELETE FROM t WHERE 1\t63*+1 => read\n\
+        1*DELETE FROM t WHERE 1\t64*+1 => TooDeep\n\
+        1*UPDATE t SET a = 1, b = 1\t64*+1 => TooDeep\n\
+        1*UPDATE t SET a = 1\t63*+1\t1*, b = 1\t63*+1 => read\n\
+        1*UPDATE t SET a = 1 WHERE 1\t64*+1 => TooDeep\n\
+        1*INSERT INTO t VALUES (1\t63*+1\t1*) => read\n\
+        1*INSERT INTO t VALUES (1), (1\t64*+1\t1*) => TooDeep\n\
+        1*INSERT INTO t VALUES (1)\t1000*, (-1) => read\n\
+        1*INSERT INTO t SELECT 1\t63*+1 => read\n\
+        1*INSERT INTO t SELECT 1\t64*+1 => TooDeep",
+    )
+}

@@ -1,0 +1,71 @@
+//! The parts of a write as the query that has them: SET or the values as its items, and WHERE.
+
+use med_binder::{AttachedTable, bind};
+use med_query::Select;
+use med_syntax::{Chain, Entry, Expr, Item, Select as Written, Statement};
+use med_value::{Cause, ColumnDef, NoMemory};
+use std::alloc::Global;
+use write_syntax::SetClause;
+
+/// Expressions as items.
+pub fn items_of(alloc: Global, values: Vec<Expr>) -> Result<Vec<Item>, NoMemory> {
+    let mut items = Vec::new(alloc);
+    for value in values {
+        items.push(Item::Expression(value, None))?;
+    }
+    Ok(items)
+}
+
+// What SET says of a column; the column itself where it says nothing.
+fn set_to(alloc: Global, sets: &mut Vec<SetClause>, name: &str) -> Result<Expr, NoMemory> {
+    match sets.iter().position(|set| set.column.as_str() == name) {
+        None => Ok(Expr::Column(None, name.to_string(alloc)?)),
+        Some(at) => {
+            let SetClause { value, .. } = sets.remove(at);
+            Ok(value)
+        }
+    }
+}
+
+/// What becomes of each column, as items.
+pub fn cells_of(
+    alloc: Global,
+    columns: &[ColumnDef],
+    sets: Vec<SetClause>,
+) -> Result<Vec<Item>, NoMemory> {
+    let mut sets = sets;
+    let mut cells = Vec::new(alloc);
+    for column in columns {
+        cells.push(set_to(alloc, &mut sets, column.name.as_str())?)?;
+    }
+    items_of(alloc, cells)
+}
+
+/// One entry of FROM.
+pub fn from_of(alloc: Global, first: Entry) -> Result<Vec<Chain>, NoMemory> {
+    let joins = Vec::new(alloc);
+    Ok(vec![in alloc; Chain { first, joins }]?)
+}
+
+/// The query of these parts, its names being places.
+pub fn asked(
+    alloc: Global,
+    tables: &[AttachedTable],
+    items: Vec<Item>,
+    from: Vec<Chain>,
+    condition: Option<Expr>,
+) -> Result<Select, Cause> {
+    let query = Statement::Select(Written {
+        distinct: false,
+        items,
+        from,
+        condition,
+        groups: Vec::new(alloc),
+        having: None,
+        keys: Vec::new(alloc),
+        limit: None,
+        offset: None,
+    });
+    let bound = bind(alloc, &query, tables, "ann")?;
+    Ok(bound.select)
+}

@@ -1,0 +1,29 @@
+-- New SQLite databases as sources.
+use Rattle.std.specs.Prelude.{◌≡◌, ℕ, Bool, true, false, List, [], Some, codes, bytes_eq}
+use Rattle.fdw_api.specs.Kinds.{Stored}
+use Rattle.fdw_api.specs.State.{BoxState}
+use Rattle.sqlite.specs.Effect.{Database}
+use Rattle.sqlite_cells.specs.Layouts.{kinds_in, layout_at}
+use Rattle.sqlite_cells.specs.Tables.{entry_of}
+use Rattle.sqlite_wrapper.specs.SqliteBoxes.{IsNewSqlite}
+
+-- a new database in memory: honest, with both tables, which have no rows
+abbrev pub IsNewMemory : BoxState → Type 0
+IsNewMemory s =
+    (db : Database) × IsNewSqlite true db s × ((t : ℕ) → entry_of db (layout_at t) ≡ Some (Stored (kinds_in (layout_at t)) []))
+
+-- a database in a file, as honest as its store: of what it holds nothing is known
+abbrev pub IsNewFile : Bool → BoxState → Type 0
+IsNewFile honest s = (db : Database) × IsNewSqlite honest db s
+
+abbrev pub by_path : Bool → Bool → BoxState → Type 0
+by_path honest true s = IsNewMemory s
+by_path honest false s = IsNewFile honest s
+
+-- the path of a database in memory
+abbrev pub is_memory : List ℕ → Bool
+is_memory path = bytes_eq path (codes ":memory:")
+
+-- the new source of the database at this path
+abbrev pub IsNewDatabase : Bool → List ℕ → BoxState → Type 0
+IsNewDatabase honest path s = by_path honest (is_memory path) s

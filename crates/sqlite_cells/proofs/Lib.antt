@@ -1,0 +1,5 @@
+pub mod PagesJoin
+pub mod Once
+pub mod Settled
+pub mod Strays
+pub mod Refused

@@ -1,0 +1,4 @@
+pub mod Layouts
+pub mod Cells
+pub mod Tables
+pub mod Refusing

@@ -1,0 +1,61 @@
+-- What a database holds for a layout, and the pages of its rows.
+use Rattle.std.specs.Prelude.{◌≡◌, ◌⊎◌, ℕ, ℤ, pos, ◌+ℤ◌, List, [], ◌∷◌, ◌++◌, map, length, nat_eq, if◌then◌else◌, Option, Some, None, option_map, Err}
+use Rattle.sqlite.specs.Effect.{Database}
+use Rattle.sqlite.specs.Schema.{Schema}
+use Rattle.sqlite.specs.Order.{Row as SqlRow}
+use Rattle.sqlite.specs.Command.{Command}
+use Rattle.sqlite.specs.Command.TheVariants.{Select}
+use Rattle.sqlite.specs.Query.{inner, left}
+use Rattle.sqlite_sql.specs.Query.{Join}
+use Rattle.sqlite.specs.Listing.{understood}
+use Rattle.sqlite_trees.specs.Tree.{Trees}
+use Rattle.sqlite_resolve.specs.declared.error.CompileError.{CompileError}
+use Rattle.sqlite_shapes.specs.Shapes.{IsPageText, command_of, range_of}
+use Rattle.fdw_api.specs.Scan.{TableRow}
+use Rattle.fdw_api.specs.Kinds.{Entry, Stored}
+use Rattle.sqlite_cells.specs.Layouts.{Layout, kinds_in, layout_at}
+use Rattle.sqlite_cells.specs.Cells.{rows_in, key_in}
+
+-- the tree that a page text reads; none where the text is not understood
+abbrev pub first_tree : Join → Option ℕ
+first_tree (inner t more) = Some t
+first_tree _ = None
+
+abbrev pub tree_read : Command → Option ℕ
+tree_read (Select q names) = first_tree q.body.from
+tree_read _ = None
+
+abbrev pub tree_of : Schema → Layout → Option ℕ
+tree_of schema l = tree_read (command_of (understood schema l.page))
+
+abbrev pub entries_at : Trees → Option ℕ → List SqlRow
+entries_at trees None = []
+entries_at trees (Some t) = trees t
+
+-- what the database holds for a layout, and its rows as the interface shows them
+abbrev pub entries_of : Database → Layout → List SqlRow
+entries_of db l = entries_at db.trees (tree_of db.schema l)
+
+abbrev pub rows_of : Database → Layout → List TableRow
+rows_of db l = rows_in l (entries_of db l)
+
+-- the same by the number of the table
+abbrev pub entries_in : Database → ℕ → List SqlRow
+entries_in db t = entries_of db (layout_at t)
+
+-- each layout's page text either is not understood or reads a page of a table
+abbrev pub IsKnown : Schema → Layout → Type 0
+IsKnown schema l = ((fault : CompileError) × (understood schema l.page ≡ Err fault)) ⊎ ((tree : ℕ) × IsPageText schema l.page tree)
+
+-- the entry of a table by its number: None where its page text is not understood
+abbrev pub entry_of : Database → Layout → Option Entry
+entry_of db l = option_map (λ t. Stored (kinds_in l) (map (λ r. r.cells) (rows_in l (db.trees t)))) (tree_of db.schema l)
+
+-- the first key behind rows of a page
+abbrev pub behind : ℤ → List SqlRow → ℤ
+behind low [] = low
+behind low (r ∷ rs) = behind (key_in r +ℤ pos 1) rs
+
+-- behind a page of a key range come the rows of the keys behind it, where it is full; none where it is not
+abbrev pub rest_of : ℤ → ℤ → List SqlRow → List SqlRow → List SqlRow
+rest_of low high entries page = if nat_eq (length page) 64 then range_of (behind low page) high entries else []

@@ -1,0 +1,15 @@
+//! The tables of SQLite databases as a source of foreign tables sees them: their layouts, the cells of their rows, and pages of them by key
+//! range.
+#![tactic(auto)]
+
+pub mod cells;
+pub mod faults;
+pub mod layouts;
+pub mod pages;
+pub mod tables;
+
+pub use cells::{Keyed, Misread, key_and_cells};
+pub use faults::fault_of;
+pub use layouts::{place_of, types_match};
+pub use pages::page_between;
+pub use tables::find_table;

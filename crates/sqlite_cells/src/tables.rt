@@ -1,0 +1,44 @@
+//! Remote tables that are there, or are not.
+ghost use Rattle.std.specs.Prelude.{◌≡◌, ◌≢◌, true, false, None, map, nat_eq, IfErr, OnOk};
+ghost use Rattle.std.specs.List.{IsDistinct};
+ghost use Rattle.sqlite.specs.Held.{state};
+ghost use Rattle.med_value.specs.declared.cause.Cause.TheVariants.{TableNotFound};
+ghost use Rattle.sqlite_cells.specs.Layouts.{layout_at};
+ghost use Rattle.sqlite_cells.specs.Tables.{IsKnown, rows_of, tree_of};
+ghost use Rattle.sqlite_cells.specs.Refusing.{OnlyBy};
+
+use crate::faults::fault_of;
+use crate::layouts::page_text;
+use fdw_api::interface::Fault;
+use med_value::Cause;
+use sqlite::{Connection, Error};
+use sqlite_shapes::{SourceStore, page_of};
+
+// What a refusal of a page text is to a table that is bound: there is no such table, or a fault of its own.
+fn fault_of_text(error: Error) -> Fault
+    ensures text { (fault : _) → error ≡ Error.SqlInputError fault → result ≡ Fault.Refused TableNotFound }
+    ensures refused { OnlyBy (λ c. (c ≡ TableNotFound) × ((fault : _) × (error ≡ Error.SqlInputError fault))) result }
+{
+    match error {
+        Error::SqlInputError(_) => Fault::Refused(Cause::TableNotFound),
+        other => fault_of(other),
+    }
+}
+
+/// Finds a remote table, which is refused where it is not there (HV00R): where its page text is not understood. No two of
+/// its rows have one id. It changes nothing, also where it fails.
+pub fn find_table<S: SourceStore>(conn: &mut Connection<S>, table: u64) -> Result<(), Fault>
+    requires idle { conn.old.in_transaction ≡ false }
+    requires known { S.honest ≡ true → ∥ IsKnown conn.old.schema (layout_at table) ∥₁ }
+    ensures once { S.honest ≡ true → IsDistinct nat_eq (map (λ r. r.id) (rows_of (state S.Store conn.old).now (layout_at table))) }
+    ensures found { S.honest ≡ true → OnOk result (tree_of (state S.Store conn.old).now.schema (layout_at table) ≢ None) }
+    ensures refused { IfErr result (OnlyBy (λ c. (c ≡ TableNotFound)
+        × (S.honest ≡ true → tree_of (state S.Store conn.old).now.schema (layout_at table) ≡ None))) }
+    ensures same { S.honest ≡ true → (state S.Store conn.new).now ≡ (state S.Store conn.old).now }
+    ensures idle { conn.new.in_transaction ≡ false }
+{
+    match page_of(conn, page_text(table), 1, 0) {
+        Ok(_page) => Ok(()),
+        Err(error) => Err(fault_of_text(error)),
+    }
+}

@@ -1,0 +1,206 @@
+-- What the texts that make the tables do to a database.
+use Rattle.std.proofs.Common.{◌≡◌, ◌⊎◌, inl, inr, ℕ, zero, suc, List, [], ◌∷◌, Bool, true, false, Option, Some, None, option_map, map, Ok, Err, Result, OnOk, refl, sym, ap, subst, ◌∙◌, codes, nat_eq, arith, if◌then◌else◌}
+use Rattle.sqlite.specs.Schema.{Schema}
+use Rattle.sqlite.specs.Command.TheVariants.{CreateTable}
+use Rattle.sqlite.specs.Compile.{table_defined_by}
+use Rattle.sqlite.specs.Change.{created, next_tree, KeepsRows}
+use Rattle.sqlite.specs.Does.{Tally, lacks_sequence}
+use Rattle.sqlite_tied.specs.Compute.{everything}
+use Rattle.sqlite.specs.declared.error.Error.{Error}
+use Rattle.sqlite.specs.Listing.{understood}
+use Rattle.sqlite.specs.Effect.{Database}
+use Rattle.sqlite.specs.State.{State, Writes, Executes}
+use Rattle.sqlite.proofs.Callers.{IsPlain, command_of, statement_of, runs_as}
+use Rattle.sqlite_shapes.specs.Shapes.{IsPageText}
+use Rattle.fdw_api.specs.Scan.{TableRow}
+use Rattle.fdw_api.specs.Kinds.{Entry, Stored}
+use Rattle.sqlite_cells.specs.Layouts.{Layout, kinds_in, layout_at, orders, people}
+use Rattle.sqlite_cells.specs.Cells.{rows_in}
+use Rattle.sqlite_trees.specs.Tree.{Trees}
+use Rattle.sqlite_cells.specs.Tables.{IsKnown, tree_of, entry_of}
+use Rattle.sqlite_writes.specs.Texts.{IsTableAt, IsDeleteText, IsInsertText}
+use Rattle.sqlite_writes.specs.Writable.{AreApart, IsWritable, delete_text, insert_text}
+use Rattle.med_value.specs.declared.value.ColType.TheVariants as types
+use Rattle.sqlite_databases.specs.Made.{orders_text, people_text, orders_table, people_table, no_tables, orders_alone, both_tables}
+
+orders_is : (command_of (understood no_tables orders_text) ≡ CreateTable)
+    × (statement_of orders_text (understood no_tables orders_text) ≡ orders_text) × (table_defined_by orders_text ≡ Ok orders_table)
+unfolding understood everything
+orders_is = (refl, refl, refl)
+
+people_is : (command_of (understood orders_alone people_text) ≡ CreateTable)
+    × (statement_of people_text (understood orders_alone people_text) ≡ people_text) × (table_defined_by people_text ≡ Ok (people_table 0))
+unfolding understood everything
+people_is = (refl, refl, refl)
+
+orders_plain : IsPlain (understood no_tables orders_text)
+unfolding understood everything
+orders_plain = (refl, refl)
+
+people_plain : IsPlain (understood orders_alone people_text)
+unfolding understood everything
+people_plain = (refl, refl)
+
+-- a part that gave a value did not stop on the way
+went : {B E R : Type 0} {b : B} {Stops : E → Type 0} → ((stop : E) × Stops stop × (Ok b ≡ Err stop)) ⊎ R → R
+went (inl stopped) = absurd (let e = stopped.2 in cc)
+went (inr on) = on
+
+same_value : {B E : Type 0} {a b : B} → ◌≡◌ {A = Result B E} (Ok a) (Ok b) → a ≡ b
+same_value e = cc
+
+pub made_orders : (old new : State) (r : Result ℕ Error) → old.now.schema ≡ no_tables → Executes orders_text [] old new r
+    → OnOk r (new.now.schema ≡ orders_alone) × OnOk r (new.now.trees 0 ≡ []) × OnOk r (new.in_transaction ≡ old.in_transaction)
+made_orders old new (Err e) has h = (tt, tt, tt)
+made_orders old new (Ok count) has h =
+    let w = subst (λ t. Writes old new None CreateTable t [] count) orders_is.1 (runs_as orders_text [] old new no_tables has CreateTable orders_is.0 orders_plain count h) in
+    let all = went w.changed in
+    let first = went all.1 in
+    let made = first.1 in
+    let both : Ok made.table ≡ Ok orders_table = sym made.defined ∙ orders_is.2 in
+    let same : made.table ≡ orders_table = cc in
+    let schema : first.0.schema ≡ orders_alone = made.is ∙ ap (λ s. created s made.table) has ∙ ap (created no_tables) same in
+    let plain : lacks_sequence first.0.schema ≡ false = ap lacks_sequence schema in
+    let now : new.now ≡ first.0 = ap (λ (p : Tally × Database). p.1) (same_value all.2) ∙ same_value (rw plain at first.2) in
+    (ap (λ (d : Database). d.schema) now ∙ schema, ap (λ (d : Database). d.trees 0) now ∙ subst (λ s. first.0.trees (next_tree s) ≡ []) has made.empty, w.shown.mode)
+
+pub made_people : (old new : State) (r : Result ℕ Error) → old.now.schema ≡ orders_alone → Executes people_text [] old new r
+    → OnOk r (new.now.schema ≡ both_tables) × OnOk r (new.now.trees 1 ≡ []) × OnOk r (new.now.trees 0 ≡ old.now.trees 0)
+    × OnOk r (new.in_transaction ≡ old.in_transaction)
+made_people old new (Err e) has h = (tt, tt, tt, tt)
+made_people old new (Ok count) has h =
+    let w = subst (λ t. Writes old new None CreateTable t [] count) people_is.1 (runs_as people_text [] old new orders_alone has CreateTable people_is.0 people_plain count h) in
+    let all = went w.changed in
+    let first = went all.1 in
+    let made = first.1 in
+    let both : Ok made.table ≡ Ok (people_table 0) = sym made.defined ∙ people_is.2 in
+    let same : made.table ≡ people_table 0 = cc in
+    let schema : first.0.schema ≡ both_tables = made.is ∙ ap (λ s. created s made.table) has ∙ ap (created orders_alone) same in
+    let plain : lacks_sequence first.0.schema ≡ false = ap lacks_sequence schema in
+    let now : new.now ≡ first.0 = ap (λ (p : Tally × Database). p.1) (same_value all.2) ∙ same_value (rw plain at first.2) in (
+      ap (λ (d : Database). d.schema) now ∙ schema,
+      ap (λ (d : Database). d.trees 1) now ∙ subst (λ s. first.0.trees (next_tree s) ≡ []) has made.empty,
+      ap (λ (d : Database). d.trees 0) now ∙ (subst (λ s. KeepsRows s.tables old.now.trees first.0.trees) has made.others).0,
+      w.shown.mode,
+    )
+
+orders_page : IsPageText both_tables orders.page 0
+unfolding understood everything
+orders_page = record {
+  names = codes "id" ∷ codes "part" ∷ codes "n" ∷ [];
+  is = refl;
+  plain = (refl, refl);
+  unlisted = refl;
+  place = 0;
+  table = orders_table;
+  at = refl;
+  tree_is = refl;
+}
+
+people_page : IsPageText both_tables people.page 1
+unfolding understood everything
+people_page = record {
+  names = codes "id" ∷ codes "name" ∷ codes "active" ∷ [];
+  is = refl;
+  plain = (refl, refl);
+  unlisted = refl;
+  place = 1;
+  table = people_table 1;
+  at = refl;
+  tree_is = refl;
+}
+
+orders_tree : tree_of both_tables orders ≡ Some 0
+unfolding understood everything
+orders_tree = refl
+
+people_tree : tree_of both_tables people ≡ Some 1
+unfolding understood everything
+people_tree = refl
+
+known_by : (b : Bool) → IsKnown both_tables (if b then orders else people)
+known_by true = inr (0, orders_page)
+known_by false = inr (1, people_page)
+
+-- both page texts are understood
+pub known : (schema : Schema) (t : ℕ) → schema ≡ both_tables → ∥ IsKnown schema (layout_at t) ∥₁
+known schema t is = subst (λ s. ∥ IsKnown s (layout_at t) ∥₁) (sym is) ∣ known_by (nat_eq t 0) ∣₁
+
+abbrev orders_target : IsTableAt both_tables 0 0
+orders_target = record { table = orders_table; at = refl; tree_is = refl; free = λ olds news. refl }
+
+abbrev people_target : IsTableAt both_tables 1 1
+people_target = record { table = people_table 1; at = refl; tree_is = refl; free = λ olds news. refl }
+
+orders_delete : IsDeleteText both_tables (delete_text 0) 0
+unfolding understood everything
+orders_delete = record { place = 0; target = orders_target; is = refl; plain = (refl, refl) }
+
+people_delete : IsDeleteText both_tables (delete_text 1) 1
+unfolding understood everything
+people_delete = record { place = 1; target = people_target; is = refl; plain = (refl, refl) }
+
+orders_insert : IsInsertText both_tables (insert_text 0) 0 types.Int types.Int
+unfolding understood everything
+orders_insert = record {
+  place = 0;
+  target = orders_target;
+  is = refl;
+  plain = (refl, refl);
+  kinds = refl;
+  uncounted = refl;
+  unstamped = refl;
+}
+
+people_insert : IsInsertText both_tables (insert_text 1) 1 types.Text types.Bool
+unfolding understood everything
+people_insert = record {
+  place = 1;
+  target = people_target;
+  is = refl;
+  plain = (refl, refl);
+  kinds = refl;
+  uncounted = refl;
+  unstamped = refl;
+}
+
+writable_by : (t : ℕ) (b : Bool) → nat_eq t 0 ≡ b → IsWritable both_tables t
+writable_by t true e = inr (0, record { page = rw e orders_page; delete = rw e orders_delete; insert = rw e orders_insert })
+writable_by t false e = inr (1, record { page = rw e people_page; delete = rw e people_delete; insert = rw e people_insert })
+
+-- all three texts of both tables are understood
+pub writable : (schema : Schema) (t : ℕ) → schema ≡ both_tables → ∥ IsWritable schema t ∥₁
+writable schema t is = subst (λ s. ∥ IsWritable s t ∥₁) (sym is) ∣ writable_by t (nat_eq t 0) refl ∣₁
+
+abbrev get_or_zero : Option ℕ → ℕ
+get_or_zero None = 0
+get_or_zero (Some n) = n
+
+-- they are two tables
+two_tables : AreApart both_tables
+two_tables one = differ (sym orders_tree ∙ one ∙ people_tree)
+  where
+    differ : ◌≡◌ {A = Option ℕ} (Some 0) (Some 1) → tree_of both_tables orders ≡ None
+    differ e = let n : 0 ≡ 1 = ap (get_or_zero) e in absurd (omega (arith, n))
+
+pub apart : (schema : Schema) → schema ≡ both_tables → AreApart schema
+apart schema is = subst AreApart (sym is) two_tables
+
+-- a tree without rows is a table without rows
+emptied : (db : Database) (l : Layout) (tree : ℕ) → tree_of both_tables l ≡ Some tree → db.schema ≡ both_tables → db.trees tree ≡ []
+    → entry_of db l ≡ Some (Stored (kinds_in l) [])
+emptied db l tree at is none =
+    ap (λ s. entry_in db.trees l (tree_of s l)) is ∙ ap (entry_in db.trees l) at
+    ∙ ap (λ rows. Some (Stored (kinds_in l) (map (λ (r : TableRow). r.cells) (rows_in l rows)))) none
+  where
+    entry_in : Trees → Layout → Option ℕ → Option Entry
+    entry_in trees l tree = option_map (λ t. Stored (kinds_in l) (map (λ (r : TableRow). r.cells) (rows_in l (trees t)))) tree
+
+entries_by : (db : Database) → db.schema ≡ both_tables → db.trees 0 ≡ [] → db.trees 1 ≡ [] → (b : Bool)
+    → entry_of db (if b then orders else people) ≡ Some (Stored (kinds_in (if b then orders else people)) [])
+entries_by db is first second true = emptied db orders 0 orders_tree is first
+entries_by db is first second false = emptied db people 1 people_tree is second
+
+pub entries : (db : Database) (t : ℕ) → db.schema ≡ both_tables → db.trees 0 ≡ [] → db.trees 1 ≡ []
+    → entry_of db (layout_at t) ≡ Some (Stored (kinds_in (layout_at t)) [])
+entries db t is first second = entries_by db is first second (nat_eq t 0)

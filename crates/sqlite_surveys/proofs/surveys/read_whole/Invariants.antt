@@ -1,0 +1,18 @@
+use Rattle.std.proofs.Common.{◌≡◌, ◌≤◌, true, false, Some}
+use Rattle.sqlite.specs.Held.{state}
+use Rattle.sqlite_cells.specs.Layouts.{layout_at}
+use Rattle.sqlite_cells.specs.Cells.{least}
+use Rattle.sqlite_cells.specs.Tables.{entries_of}
+use Rattle.sqlite_surveys.specs.Surveys.{IsSeen, rows_left}
+use Rattle.sqlite_surveys.proofs.surveys.read_whole.Given as goal
+
+abbrev pub invariant-loop-next : goal.invariant-loop-next
+invariant-loop-next g l = record {
+  few : l.count ≤ 1000000;
+  idle : l.conn.in_transaction ≡ false;
+  same : g.S.SourceStore.honest ≡ true → (state g.S.Store l.conn).now ≡ (state g.S.Store l.initial.conn).now;
+  seen : g.S.SourceStore.honest ≡ true → IsSeen (layout_at l.table) (entries_of (state g.S.Store l.initial.conn).now (layout_at l.table)) (Some least) l.next l.count;
+}
+
+abbrev pub decreases-loop-next : goal.decreases-loop-next
+decreases-loop-next g l = rows_left l.next l.count

@@ -1,0 +1,8 @@
+//! Tables of SQLite databases looked at whole, as they are when they are bound.
+#![tactic(auto)]
+
+pub mod openings;
+pub mod surveys;
+
+pub use openings::open_table;
+pub use surveys::count_rows;

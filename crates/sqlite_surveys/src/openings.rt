@@ -1,0 +1,51 @@
+//! Remote tables as they are found when they are bound.
+ghost use Rattle.std.specs.Prelude.{◌≡◌, true, false, [], map, nat_eq, IfErr, OnOk};
+ghost use Rattle.std.specs.List.{IsDistinct};
+ghost use Rattle.sqlite.specs.Held.{state};
+ghost use Rattle.med_value.specs.Causes.{phase_of};
+ghost use Rattle.fdw_api.specs.Calls.{IsLeast};
+ghost use Rattle.fdw_api.specs.Kinds.{column_of, kinds_of, is_late};
+ghost use Rattle.sqlite_cells.specs.Layouts.{layout_at, kinds_in, types_match};
+ghost use Rattle.sqlite_cells.specs.Tables.{IsKnown, rows_of};
+ghost use Rattle.sqlite_cells.specs.Refusing.{OnlyBy};
+ghost use Rattle.sqlite_surveys.specs.Surveys.{causes_of};
+
+use crate::surveys::survey;
+use fdw_api::interface::Fault;
+use med_value::{Cause, ColumnDef};
+use sqlite::Connection;
+use sqlite_cells::{find_table, types_match};
+use sqlite_shapes::SourceStore;
+use std::alloc::Global;
+
+/// Looks at a remote table whole, which is to be bound with these columns.
+///
+/// It is refused where there is no such table (HV00R), where the number or types of the columns are not its own (HV004), where a cell is
+/// not of its column's type or a text has U+0000 (22P02), or where there are more than 1,000,000 rows (54000), by one of the least phase.
+/// No two rows have one id. It changes nothing, also where it fails.
+pub fn open_table<S: SourceStore>(
+    alloc: Global,
+    conn: &mut Connection<S>,
+    table: u64,
+    columns: &[ColumnDef],
+) -> Result<(), Fault>
+    requires idle { conn.old.in_transaction ≡ false }
+    requires known { S.honest ≡ true → ∥ IsKnown conn.old.schema (layout_at table) ∥₁ }
+    ensures types { OnOk result (types_match (kinds_in (layout_at table)) (kinds_of (map column_of columns.now)) ≡ true) }
+    ensures ok { S.honest ≡ true
+        → OnOk result (causes_of (map column_of columns.now) (state S.Store conn.old).now table ≡ []) }
+    ensures once { S.honest ≡ true → IsDistinct nat_eq (map (λ r. r.id) (rows_of (state S.Store conn.old).now (layout_at table))) }
+    ensures refused { IfErr result (OnlyBy (λ c. (is_late (phase_of c) ≡ true) × (S.honest ≡ true
+        → IsLeast (causes_of (map column_of columns.now) (state S.Store conn.old).now table) c))) }
+    ensures same { S.honest ≡ true → (state S.Store conn.new).now ≡ (state S.Store conn.old).now }
+    ensures idle { conn.new.in_transaction ≡ false }
+{
+    match find_table(conn, table) {
+        Ok(()) => {}
+        Err(fault) => return Err(fault),
+    }
+    if !types_match(table, columns) {
+        return Err(Fault::Refused(Cause::InvalidDataType));
+    }
+    survey(alloc, conn, table)
+}

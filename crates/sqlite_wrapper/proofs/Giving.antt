@@ -1,0 +1,214 @@
+-- What `iterate` does to a SQLite source.
+use Rattle.std.proofs.Common.{◌≡◌, ℕ, ℤ, pos, ◌+ℤ◌, ◌+◌, ◌<◌, ◌≤ℤ◌, Bool, true, false, not, ◌||◌, if◌then◌else◌, int_lt, nat_lt, nat_eq, List, [], ◌∷◌, ◌++◌, Option, Some, None, IsSome, map, drop, length, option_map, zero, suc, refl, ap, sym, ◌∙◌, subst, arith}
+use Rattle.std.proofs.lemmas.Int.{ints}
+use Rattle.std.specs.Ordering.{nat_cmp}
+use Rattle.std.specs.BTreeMap as tree
+use Rattle.std.specs.BTreeMap.{BTreeMap, is_at}
+use Rattle.std.specs.Map.{lookup}
+use Rattle.std.specs.FinMap as finmap
+use Rattle.sqlite.specs.Effect.{Database}
+use Rattle.sqlite.specs.Order.{Row as SqlRow}
+use Rattle.sqlite.specs.Schema.{Schema}
+use Rattle.sqlite_shapes.specs.Shapes.{range_of, key_of}
+use Rattle.fdw_api.specs.Scan.{Spec, GivenRow, spec_of, shown_fits}
+use Rattle.fdw_api.specs.State.{Scan, BoxState}
+use Rattle.fdw_api.specs.Calls.{LeavesOthers, Breaks, GivesRow, GivesNone, bumped, faults_after, not_refused}
+use Rattle.fdw_api.specs.declared.interface.Fault.{Fault}
+use Rattle.fdw_api.specs.Calls.{row_of}
+use Rattle.med_value.specs.Datum.{tuple}
+use Rattle.sqlite_wrapper.specs.declared.scans.KeyScan.{KeyScan}
+use Rattle.staged_changes.specs.declared.changes.StagedWrite.{StagedWrite}
+use Rattle.sqlite_wrapper.specs.declared.scans.PageWanted.{PageWanted}
+use Rattle.sqlite_wrapper.specs.declared.rows.GivenNext.{GivenNext}
+use Rattle.sqlite_cells.specs.Layouts.{Layout, orders, people, layout_at}
+use Rattle.sqlite_cells.specs.Cells.{key_in}
+use Rattle.sqlite_cells.specs.Tables.{IsKnown, behind, entries_of}
+use Rattle.sqlite_wrapper.specs.Boxes.{is_allowed, lowest, from_to, scan_is, unread, to_come, given_of, scan_rows, mapped, Sets, sqlite_state}
+use Rattle.sqlite_wrapper.specs.Pages.{wanted_by, passed, Turns, IsNext}
+use Rattle.sqlite_wrapper.proofs.Maps.{mapped_get, mapped_insert, mapped_same, sets_on}
+use Rattle.sqlite_wrapper.proofs.LiveScans.{some_inj}
+use Rattle.sqlite_cells.proofs.PagesJoin.{between}
+
+-- each layout is known
+pub known_at : (honest : Bool) (schema : Schema) (t : ℕ) → (honest ≡ true → ∥ IsKnown schema orders ∥₁) → (honest ≡ true → ∥ IsKnown schema people ∥₁) → honest ≡ true → ∥ IsKnown schema (layout_at t) ∥₁
+known_at honest schema t a b h = go (nat_eq t 0)
+  where
+    go : (c : Bool) → ∥ IsKnown schema (if c then orders else people) ∥₁
+    go true = a h
+    go false = b h
+
+-- `passed`, by whether a greater key may come
+abbrev passing : KeyScan → ℤ → Bool → KeyScan
+passing n key b = if b then record n { at = n.at + 1; low = key +ℤ pos 1 } else record n { at = n.at + 1; «open» = false }
+
+pub known_after : (honest : Bool) (db after : Database) (l : Layout) → (honest ≡ true → after ≡ db) → (honest ≡ true → ∥ IsKnown db.schema l ∥₁) → honest ≡ true → ∥ IsKnown after.schema l ∥₁
+known_after honest db after l same known h = subst (λ (d : Database). ∥ IsKnown d.schema l ∥₁) (sym (same h)) (known h)
+
+pub same_get : (m n : BTreeMap ℕ KeyScan) → n.entries ≡ m.entries → (k : ℕ) → tree.get nat_cmp n k ≡ tree.get nat_cmp m k
+same_get m n e k = ap (λ (es : List (ℕ × KeyScan)). lookup (is_at (nat_cmp k)) es) e
+
+pub sets_copy : (m n p : BTreeMap ℕ KeyScan) (k : ℕ) (w : Option KeyScan) → n.entries ≡ m.entries → Sets n p k w → Sets m p k w
+sets_copy m n p k w e u = (u.0, λ q ne. u.1 q ne ∙ same_get m n e q)
+
+pub there_is : (o : Option KeyScan) (s : KeyScan) → o ≡ Some s → IsSome o
+there_is o s e = subst (λ (z : Option KeyScan). IsSome z) (sym e) refl
+
+pub allows_same : (a b : KeyScan) → scan_is a ≡ scan_is b → is_allowed (scan_is b) ≡ true → (z : KeyScan) → Some a ≡ Some z → is_allowed (scan_is z) ≡ true
+allows_same a b e ok z q = subst (λ (y : KeyScan). is_allowed (scan_is y) ≡ true) (some_inj a z q) (subst (λ (y : Scan). is_allowed y ≡ true) (sym e) ok)
+
+-- behind the next row the lowest key that may come is one above its key
+lowest_passed : (n : KeyScan) (key : ℤ) → n.«open» ≡ true → key ≤ℤ n.high → lowest (passed n key) ≡ key +ℤ pos 1
+lowest_passed n key opened le = go (int_lt key n.high) refl
+  where
+    go : (b : Bool) → int_lt key n.high ≡ b → lowest (passing n key b) ≡ key +ℤ pos 1
+    go true e = rw opened refl
+    go false e = let same : n.high ≡ key = grind (arith, ints) in ap (λ (z : ℤ). z +ℤ pos 1) same
+
+lowest_open : (n : KeyScan) → n.«open» ≡ true → lowest n ≡ n.low
+lowest_open n e = rw e refl
+
+pub passed_shows : (n : KeyScan) (key : ℤ) → scan_is (passed n key) ≡ record (scan_is n) { left = from_to (lowest (passed n key)) n.high }
+passed_shows n key = go (int_lt key n.high)
+  where
+    go : (b : Bool) → scan_is (passing n key b) ≡ record (scan_is n) { left = from_to (lowest (passing n key b)) n.high }
+    go true = refl
+    go false = refl
+
+fewer_keys : (low high key : ℤ) → low ≤ℤ key → key ≤ℤ high → from_to (key +ℤ pos 1) high < from_to low high
+fewer_keys low high key p q = omega (arith, ints)
+
+-- the next row stands before those that come behind it
+rest_of : (es : List SqlRow) (n : KeyScan) (key : ℤ) (r : SqlRow) → n.«open» ≡ true → key ≤ℤ n.high → unread n ≡ r ∷ drop (n.at + 1) n.page.items → key_in r ≡ key
+    → to_come es n ≡ r ∷ to_come es (passed n key)
+rest_of es n key r opened le next is = rw next (ap (λ (rs : List SqlRow). r ∷ rs) (go (int_lt key n.high) (lowest_passed n key opened le)))
+  where
+    go : (b : Bool) → lowest (passing n key b) ≡ key +ℤ pos 1
+        → ((drop (n.at + 1) n.page.items) ++ (if n.full then range_of (behind (key_in r +ℤ pos 1) (drop (n.at + 1) n.page.items)) n.high es else [])) ≡ to_come es (passing n key b)
+    go true e = ap (λ (z : ℤ). drop (n.at + 1) n.page.items ++ (if n.full then range_of (behind z (drop (n.at + 1) n.page.items)) n.high es else [])) (ap (λ (z : ℤ). z +ℤ pos 1) is ∙ sym e)
+    go false e = ap (λ (z : ℤ). drop (n.at + 1) n.page.items ++ (if n.full then range_of (behind z (drop (n.at + 1) n.page.items)) n.high es else [])) (ap (λ (z : ℤ). z +ℤ pos 1) is ∙ sym e)
+
+-- no row stands behind the last key
+none_above : (high : ℤ) (es : List SqlRow) → range_of (high +ℤ pos 1) high es ≡ []
+none_above high [] = refl
+none_above high (e ∷ es) = rw (empty (key_of e)) (none_above high es)
+  where
+    empty : (k : ℤ) → between (high +ℤ pos 1) high k ≡ false
+    empty k = grind (arith, ints)
+
+drop_none : (xs : List SqlRow) (at : ℕ) → drop at xs ≡ [] → nat_lt at (length xs) ≡ false
+drop_none [] at e = grind arith
+drop_none (x ∷ xs) zero e = absurd cc
+drop_none (x ∷ xs) (suc at) e = let h = drop_none xs at e in grind arith
+
+-- where no page is wanted and its page has no more, a scan is at its end
+at_end : (es : List SqlRow) (n : KeyScan) → wanted_by n ≡ None → unread n ≡ [] → to_come es n ≡ []
+at_end es n read none = rw none (go n.full n.«open» (record { table = n.table; low = n.low; high = n.high }) (rw (drop_none n.page.items n.at none) at read))
+  where
+    go : (f o : Bool) (p : PageWanted) → (if false || (not f || not o) then None else Some p) ≡ None
+        → (if f then range_of (if o then n.low else n.high +ℤ pos 1) n.high es else []) ≡ []
+    go true true p e = absurd cc
+    go true false p e = none_above n.high es
+    go false o p e = refl
+
+pub passed_allows : (n s : KeyScan) (key : ℤ) → scan_is n ≡ scan_is s → is_allowed (scan_is s) ≡ true → (z : KeyScan) → Some (passed n key) ≡ Some z → is_allowed (scan_is z) ≡ true
+passed_allows n s key e ok z q =
+    subst (λ (y : KeyScan). is_allowed (scan_is y) ≡ true) (some_inj _ z q)
+    (subst (λ (y : Scan). is_allowed y ≡ true) (sym (passed_shows n key)) (subst (λ (y : Scan). is_allowed y ≡ true) (sym e) ok))
+
+-- what a scan gives, by its table, what it was asked for and the rows that come
+abbrev given_by : ℕ → Spec → List SqlRow → List GivenRow
+given_by t spec rs = map (given_of spec (layout_at t)) rs
+
+-- scans that are shown alike are of one table and were asked for the same
+same_given : (a b : KeyScan) (rs : List SqlRow) → scan_is a ≡ scan_is b → given_by a.table (spec_of a.spec) rs ≡ given_by b.table (spec_of b.spec) rs
+same_given a b rs e = ap (λ (z : Scan). given_by z.table z.spec rs) e
+
+module _ (honest : Bool) (bound : List Bool) (staged : Option StagedWrite) (db : Database) (old : BTreeMap ℕ KeyScan) (next : ℕ) (number : ℕ) (s : KeyScan) (is : tree.get nat_cmp old number ≡ Some s) where
+  abbrev box : Database → BTreeMap ℕ KeyScan → ℕ → ℕ → BoxState
+  box d m pulled faults = sqlite_state honest d bound m staged next pulled faults
+
+  at : (pulled faults : ℕ) → finmap.get (box db old pulled faults).ledger.live number ≡ Some (scan_is s)
+  at pulled faults = mapped_get scan_is old number ∙ ap (option_map scan_is) is
+
+  -- where the database is as it was, the other scans have the same rows to come
+  others : (after : Database) (new : BTreeMap ℕ KeyScan) (pulled pulled' faults faults' : ℕ) (w : Option KeyScan) → after ≡ db → Sets old new number w
+      → LeavesOthers number (box db old pulled faults) (box after new pulled' faults')
+  others after new pulled pulled' faults faults' w same u = record {
+    coming = λ q live other. ap (λ (d : Database). scan_rows d (tree.get nat_cmp new q)) same ∙ ap (scan_rows db) (u.1 q other);
+    rows = λ t other. ap (λ (d : Database). (box d new pulled' faults').content.rows t) same;
+    holdings = λ r other. ap (λ (d : Database). (box d new pulled' faults').content.holdings r) same;
+  }
+
+  pub breaks_by : (after : Database) (new : BTreeMap ℕ KeyScan) (pulled faults : ℕ) (fault : Fault) (n : KeyScan) → not_refused fault → scan_is n ≡ record (scan_is s) { broken = true }
+      → (honest ≡ true → after ≡ db) → Sets old new number (Some n)
+      → Breaks (box db old pulled faults) number fault (box after new pulled (faults_after fault faults))
+  breaks_by after new pulled faults fault n no_cause shows same u = record {
+    nature = refl;
+    no_cause = no_cause;
+    scan = scan_is s;
+    at = at pulled faults;
+    ledger =
+        ap (λ (l : finmap.FinMap nat_cmp Scan). record (box db old pulled (faults_after fault faults)).ledger { live = l })
+        (mapped_insert scan_is old new number n u ∙ ap (finmap.insert (mapped scan_is old.entries) number) shows);
+    leaves = λ h. others after new pulled pulled faults (faults_after fault faults) (Some n) (same h) u;
+  }
+
+  module _ (after : Database) (m : BTreeMap ℕ KeyScan) (n : KeyScan) (same : honest ≡ true → after ≡ db) (u : Sets old m number (Some n)) (turns : Turns honest (entries_of db (layout_at s.table)) s n) where
+    abbrev entries : List SqlRow
+    entries = entries_of db (layout_at s.table)
+
+    -- the page was turned, and a row could not be given
+    pub breaks_late : (new : BTreeMap ℕ KeyScan) (pulled faults : ℕ) (fault : Fault) → not_refused fault → Sets m new number (Some (record n { broken = true }))
+        → Breaks (box db old pulled faults) number fault (box after new pulled (faults_after fault faults))
+    breaks_late new pulled faults fault no_cause v =
+        breaks_by after new pulled faults fault (record n { broken = true }) no_cause (ap (λ (z : Scan). record z { broken = true }) turns.shows) same (sets_on old m new number _ _ u v)
+
+    coming_was : (pulled faults : ℕ) → (box db old pulled faults).content.coming number ≡ given_by s.table (spec_of s.spec) (to_come entries s)
+    coming_was pulled faults = ap (scan_rows db) is
+
+    -- the rows that another scan in its place has to give
+    coming_is : (new : BTreeMap ℕ KeyScan) (pulled faults : ℕ) (p : KeyScan) → honest ≡ true → tree.get nat_cmp new number ≡ Some p → p.table ≡ s.table → spec_of p.spec ≡ spec_of s.spec
+        → (box after new pulled faults).content.coming number ≡ given_by s.table (spec_of s.spec) (to_come entries p)
+    coming_is new pulled faults p h there et es =
+        ap (λ (d : Database). scan_rows d (tree.get nat_cmp new number)) (same h) ∙ ap (scan_rows db) there
+        ∙ ap (λ (z : ℕ). given_by z (spec_of p.spec) (to_come (entries_of db (layout_at z)) p)) et ∙ ap (λ (z : Spec). given_by s.table z (to_come entries p)) es
+
+    table_is : n.table ≡ s.table
+    table_is = ap (λ (z : Scan). z.table) turns.shows
+
+    spec_is : spec_of n.spec ≡ spec_of s.spec
+    spec_is = ap (λ (z : Scan). z.spec) turns.shows
+
+    pub gives_none : (pulled faults : ℕ) → unread n ≡ [] → GivesNone (box db old pulled faults) number (box after m pulled faults)
+    gives_none pulled faults none = record {
+      nature = refl;
+      ledger = ap (λ (l : finmap.FinMap nat_cmp Scan). record (box db old pulled faults).ledger { live = l }) (mapped_same scan_is old m number s n u is turns.shows);
+      coming = λ h. coming_was pulled faults ∙ ap (given_by s.table (spec_of s.spec)) (sym (turns.rows h) ∙ at_end entries n turns.read none);
+      still = λ h. coming_is m pulled faults n h u.0 table_is spec_is ∙ ap (given_by s.table (spec_of s.spec)) (at_end entries n turns.read none);
+      leaves = λ h. others after m pulled pulled faults faults (Some n) (same h) u;
+    }
+
+    pub gives_row : (new : BTreeMap ℕ KeyScan) (pulled faults : ℕ) (g : GivenNext) → IsNext n (Some g) → Sets m new number (Some (passed n g.key))
+        → GivesRow (box db old pulled faults) number (row_of g.row) (box after new (bumped pulled) faults)
+    gives_row new pulled faults g given v =
+        let p = passed n g.key in
+        let whole = sets_on old m new number _ _ u v in
+        let low = lowest_passed n g.key given.1 given.3 in
+        let shows : scan_is p ≡ record (scan_is s) { left = from_to (lowest p) n.high } = passed_shows n g.key ∙ ap (λ (z : Scan). record z { left = from_to (lowest p) n.high }) turns.shows in
+        record {
+          nature = refl;
+          scan = scan_is s;
+          at = at pulled faults;
+          left = from_to (lowest p) n.high;
+          fewer =
+              subst (λ (z : ℕ). from_to (lowest p) n.high < z) (ap (λ (z : ℤ). from_to z n.high) (sym (lowest_open n given.1)) ∙ ap (λ (z : Scan). z.left) turns.shows)
+              (subst (λ (z : ℤ). from_to z n.high < from_to n.low n.high) (sym low) (fewer_keys n.low n.high g.key given.2 given.3));
+          typed = subst (λ (z : Scan). shown_fits z.kinds z.spec (tuple g.row.cells) ≡ true) turns.shows given.5;
+          ledger =
+              ap (λ (l : finmap.FinMap nat_cmp Scan). record (box db old (bumped pulled) faults).ledger { live = l })
+              (mapped_insert scan_is old new number p whole ∙ ap (finmap.insert (mapped scan_is old.entries) number) shows);
+          coming = λ h. coming_was pulled faults ∙ ap (given_by s.table (spec_of s.spec)) (sym (turns.rows h) ∙ rest_of entries n g.key given.4.0 given.1 given.3 given.4.1 given.4.2)
+              ∙ ap (λ (x : GivenRow). x ∷ given_by s.table (spec_of s.spec) (to_come entries p)) (sym (given.4.3 ∙ ap (λ (z : Scan). given_of z.spec (layout_at z.table) given.4.0) turns.shows))
+              ∙ ap (λ (rest : List GivenRow). row_of g.row ∷ rest) (sym (coming_is new (bumped pulled) faults p h whole.0 (ap (λ (z : Scan). z.table) shows) (ap (λ (z : Scan). z.spec) shows)));
+          leaves = λ h. others after new pulled (bumped pulled) faults faults (Some p) (same h) whole;
+        }

@@ -1,0 +1,25 @@
+-- What a database keeps where it is as before, and the numbers of its two tables.
+use Rattle.std.proofs.Common.{◌≡◌, ℕ, ◌<◌, Bool, true, List, Option, Some, None, IsSome, length, nat_lt, refl, sym, subst, arith}
+use Rattle.sqlite.specs.Effect.{Database}
+use Rattle.fdw_api.specs.State.{Staging}
+use Rattle.sqlite_writes.specs.Writable.{AreApart, IsWritable}
+use Rattle.sqlite_wrapper.specs.Changes.{names_rows}
+
+-- a place of two marks is 0 or 1
+pub within_two : (t : ℕ) (marks : List Bool) → length marks ≡ 2 → t < length marks → nat_lt t 2 ≡ true
+within_two t marks two lt = grind (arith, two, lt)
+
+pub some_there : {A : Type 0} (o : Option A) (x : A) → o ≡ Some x → IsSome o
+some_there None x e = absurd cc
+some_there (Some y) x e = refl
+
+pub writable_after : (honest : Bool) (db after : Database) → (honest ≡ true → after ≡ db) → ((t : ℕ) → honest ≡ true → ∥ IsWritable db.schema t ∥₁)
+    → (t : ℕ) → honest ≡ true → ∥ IsWritable after.schema t ∥₁
+writable_after honest db after same writable t h = subst (λ (d : Database). ∥ IsWritable d.schema t ∥₁) (sym (same h)) (writable t h)
+
+pub apart_after : (honest : Bool) (db after : Database) → (honest ≡ true → after ≡ db) → (honest ≡ true → AreApart db.schema) → honest ≡ true → AreApart after.schema
+apart_after honest db after same apart h = subst (λ (d : Database). AreApart d.schema) (sym (same h)) (apart h)
+
+pub there_after : (honest : Bool) (db after : Database) (staged : Option Staging) → (honest ≡ true → after ≡ db) → (honest ≡ true → names_rows db staged ≡ true)
+    → honest ≡ true → names_rows after staged ≡ true
+there_after honest db after staged same there h = subst (λ (d : Database). names_rows d staged ≡ true) (sym (same h)) (there h)

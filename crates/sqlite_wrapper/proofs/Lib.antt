@@ -1,0 +1,13 @@
+pub mod Maps
+pub mod Coming
+pub mod LiveScans
+pub mod Bound
+pub mod Staged
+pub mod Given
+pub mod Turned
+pub mod Giving
+pub mod Binding
+pub mod NewSources
+pub mod Kept
+pub mod Rewriting
+pub mod Closing

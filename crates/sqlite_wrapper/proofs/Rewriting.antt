@@ -1,0 +1,103 @@
+-- A write as a rewrite of a table's entries.
+use Rattle.std.proofs.Common.{◌≡◌, ◌≢◌, ◌∙◌, ℕ, ◌+◌, ◌<◌, ◌≤◌, ℤ, Bool, true, false, List, [], None, map, length, nat_eq, nat_lt, Contains, Result, Ok, Err, OnOk, refl, sym, ap, subst, arith}
+use Rattle.std.specs.List.{IsDistinct, list_any}
+use Rattle.sqlite.specs.Effect.{Database}
+use Rattle.med_value.specs.Datum.{Tuple}
+use Rattle.med_value.specs.declared.cause.Cause.{Cause}
+use Rattle.med_value.specs.declared.cause.Cause.TheVariants.{NotNull, NotUnique, TooLarge}
+use Rattle.fdw_api.specs.Kinds.{Change, Held, held}
+use Rattle.fdw_api.specs.Scan.{TableRow}
+use Rattle.fdw_api.specs.Writes.{rows_after}
+use Rattle.sqlite.specs.Order.{Row as SqlRow}
+use Rattle.sqlite_cells.specs.Layouts.{layout_at}
+use Rattle.sqlite_cells.specs.Cells.{rows_in}
+use Rattle.sqlite_cells.specs.Tables.{rows_of, entries_in, tree_of}
+use Rattle.sqlite_changes.specs.Kinds.{in_key_order, key_cell, lacks_key, no_line, repeats, with_cause, write_causes}
+use Rattle.fdw_api.specs.declared.interface.Fault.{Fault}
+use Rattle.fdw_api.specs.declared.interface.Fault.TheVariants.{NoMemory, Source, Refused}
+use Rattle.sqlite_cells.specs.Refusing.{OnlyBy}
+use Rattle.sqlite_changes.specs.Splitting.{keys_gone, rows_come, IsKeyless}
+use Rattle.sqlite_writes.specs.Rewriting.{rewritten, repeats_key}
+use Rattle.sqlite_writes.specs.Writable.{KeepsTables}
+use Rattle.sqlite_wrapper.specs.Rewrites.{Rewrites}
+
+-- ---- causes
+
+pub first_cause : (b c : Bool) → Contains (with_cause true NotNull (with_cause b NotUnique (with_cause c TooLarge []))) NotNull
+first_cause b c = (0, omega arith, refl)
+
+second_cause : (a c : Bool) → Contains (with_cause a NotNull (with_cause true NotUnique (with_cause c TooLarge []))) NotUnique
+second_cause true c = (1, omega arith, refl)
+second_cause false c = (0, omega arith, refl)
+
+third_cause : (a b : Bool) → Contains (with_cause a NotNull (with_cause b NotUnique (with_cause true TooLarge []))) TooLarge
+third_cause true true = (2, omega arith, refl)
+third_cause true false = (1, omega arith, refl)
+third_cause false true = (1, omega arith, refl)
+third_cause false false = (0, omega arith, refl)
+
+-- a row without a key
+pub keyless : (rows : List TableRow) (changes : List Change) → list_any lacks_key changes ≡ true → Contains (write_causes rows changes) NotNull
+keyless rows changes e = rw e (first_cause (repeats (map key_cell (rows_after no_line rows changes))) (nat_lt 1000000 (length (rows_after no_line rows changes))))
+
+module _ (old : Database) (t : ℕ) (changes : List Change) where
+  abbrev rows : List TableRow
+  rows = rows_of old (layout_at t)
+
+  abbrev after : List Held
+  after = rows_after no_line rows changes
+
+  abbrev entries : List SqlRow
+  entries = entries_in old t
+
+  -- more rows than a table may have
+  pub too_many : (count fresh gone : ℕ) → count ≡ length rows → fresh ≡ length (rows_come changes) → gone ≡ length (keys_gone changes)
+      → length after + length (keys_gone changes) ≡ length rows + length (rows_come changes) → 1000000 + gone < count + fresh
+      → Contains (write_causes rows changes) TooLarge
+  too_many count fresh gone count_is fresh_is gone_is law lt = rw big (third_cause (list_any lacks_key changes) (repeats (map key_cell after)))
+    where
+      big : nat_lt 1000000 (length after) ≡ true
+      big = grind (arith, count_is, fresh_is, gone_is, law, lt)
+
+  -- a key that would stand twice
+  pub repeated : repeats_key (keys_gone changes) (rows_come changes) entries ≡ repeats (map key_cell after)
+      → repeats_key (keys_gone changes) (rows_come changes) entries ≡ true → Contains (write_causes rows changes) NotUnique
+  repeated law e = rw (sym law ∙ e) (second_cause (list_any lacks_key changes) (nat_lt 1000000 (length after)))
+
+  -- exactly the changes are made
+  pub rewrites : (new : Database) (count fresh gone : ℕ) → new.schema ≡ old.schema → tree_of old.schema (layout_at t) ≢ None
+      → entries_in new t ≡ rewritten (keys_gone changes) (rows_come changes) entries → KeepsTables old new t
+      → list_any lacks_key changes ≡ false → repeats_key (keys_gone changes) (rows_come changes) entries ≡ false
+      → count ≡ length rows → fresh ≡ length (rows_come changes) → gone ≡ length (keys_gone changes) → count + fresh ≤ 1000000 + gone
+      → length after + length (keys_gone changes) ≡ length rows + length (rows_come changes)
+      → repeats_key (keys_gone changes) (rows_come changes) entries ≡ repeats (map key_cell after)
+      → map held (rows_in (layout_at t) (rewritten (keys_gone changes) (rows_come changes) entries)) ≡ in_key_order after
+      → IsDistinct nat_eq (map (λ (r : TableRow). r.id) (rows_in (layout_at t) (rewritten (keys_gone changes) (rows_come changes) entries)))
+      → Rewrites old new t changes
+  rewrites new count fresh gone schema there is others keyed free count_is fresh_is gone_is le count_law repeats_law rows_law once_law = record {
+    schema = schema;
+    there = there;
+    no_cause = rw (keyed, sym repeats_law ∙ free, few) refl;
+    rows = ap (λ (es : List SqlRow). map held (rows_in (layout_at t) es)) is ∙ rows_law;
+    once = subst (λ (es : List SqlRow). IsDistinct nat_eq (map (λ (r : TableRow). r.id) (rows_in (layout_at t) es))) (sym is) once_law;
+    others = others;
+  }
+    where
+      few : nat_lt 1000000 (length after) ≡ false
+      few = grind (arith, count_is, fresh_is, gone_is, count_law, le)
+
+-- ---- by what a call came to
+
+pub all_done : {P Q O R : Type 0} {T : Type 0} (r : Result T Fault) → OnOk r P → OnOk r Q → OnOk r O → (P → Q → O → R) → OnOk r R
+all_done (Ok x) p q o f = f p q o
+all_done (Err e) p q o f = tt
+
+pub by_keyless : (rows : List TableRow) (changes : List Change) (fault : Fault) (more : Cause → Type 0) → (list_any lacks_key changes ≡ true → more NotNull)
+    → IsKeyless changes fault → OnlyBy more fault
+by_keyless rows changes NoMemory more f h = tt
+by_keyless rows changes Source more f h = absurd h
+by_keyless rows changes (Refused c) more f h = subst more (sym h.0) (f h.1)
+
+-- the same of the same arguments
+pub three : {X : Type 0} (F : List ℤ → List Tuple → List SqlRow → X) (a b : List ℤ) (c d : List Tuple) (x y : List SqlRow) → a ≡ b → c ≡ d → x ≡ y → F a c x ≡ F b d y
+three F a b c d x y p q r = rw (p, q, r) refl

@@ -1,0 +1,24 @@
+use Rattle.std.proofs.Common.{◌≡◌, ◌≤ℤ◌, true, rules, arith, sym, subst, length, refl, w64, FitsSigned}
+use Rattle.std.proofs.lemmas.Int.{ints, to_z-of_z}
+use Rattle.std.proofs.lemmas.Option.{slice_get_read}
+use Rattle.med_value.specs.Datum.{Tuple, tuple}
+use Rattle.fdw_api.specs.Scan.{spec_of, shown_fits}
+use Rattle.sqlite_cells.specs.Layouts.{kinds_in, layout_at}
+use Rattle.sqlite_wrapper.proofs.Given.{at_drop, row_same}
+use Rattle.sqlite_wrapper.proofs.rows.given_next.Goals as goal
+
+pub returns-clause-ok : goal.returns-clause-ok
+returns-clause-ok c =
+    let s = c.args.scan.now in
+    let fits : FitsSigned w64 c.in-Ok.read.key = search rules in
+    let e = to_z-of_z w64 c.in-Ok.read.key fits in
+    let r = c.index.result.now in
+    let there = slice_get_read s.page.items (length s.page.items) s.at r refl (omega arith) c.index.ensures in
+    let w = at_drop s.page.items s.at r there in
+    let low : s.low ≤ℤ c.in-Ok.read.key = omega (arith, ints) in
+    let high : c.in-Ok.read.key ≤ℤ s.high = omega (arith, ints) in
+    let number = rw e at c.cast_unsigned.ensures in
+    let row = row_same (spec_of s.spec) (layout_at s.table) r c.in-Ok.read.key c.cast_unsigned.result (tuple c.in-Ok.read.cells) (tuple c.in-Ok-show.cells) c.in-Ok.ensures.key number c.in-Ok.ensures.cells c.in-Ok-show.ensures in
+    let typed = subst (λ (t : Tuple). shown_fits (kinds_in (layout_at s.table)) (spec_of s.spec) t ≡ true) (sym c.in-Ok-show.ensures)
+    (c.rows_are_typed.ensures.shown (kinds_in (layout_at s.table)) (spec_of s.spec) (tuple c.in-Ok.read.cells) c.in-Ok.ensures.fits) in
+    rw e (w.0, c.if-not-scan.false, low, high, (r, w.1, sym c.in-Ok.ensures.key, row), typed)

@@ -1,0 +1,63 @@
+use Rattle.std.proofs.Common.{Some, ◌≡◌, ◌&&◌, ℕ, true, false, nat_lt, refl, map, sym, subst, slice_index_or, arith}
+use Rattle.med_value.specs.Datum.{Tuple, datum}
+use Rattle.fdw_api.specs.Scan.{Spec, spec_of}
+use Rattle.key_ranges.specs.Ranges.{only_keys}
+use Rattle.sqlite.specs.Held.{state}
+use Rattle.sqlite_wrapper.proofs.Bound.{bound_within}
+use Rattle.sqlite_wrapper.proofs.Kept.{within_two, some_there}
+use Rattle.sqlite_wrapper.specs.Boxes.{IsBegun, allows, is_allowed, scan_is}
+use Rattle.sqlite_wrapper.specs.declared.scans.KeyScan.{KeyScan}
+use Rattle.sqlite_wrapper.proofs.Maps.{sets}
+use Rattle.sqlite_wrapper.proofs.LiveScans.{asks, begun_fresh, bound_allows, keeps_allowed, some_inj, refused_by, sqlite_begins, sqlite_refuses}
+use Rattle.sqlite_wrapper.proofs.wrapper.SqliteWrapperWrapper.begin.Goals as goal
+
+pub new_scan-scan-requires : goal.new_scan-scan-requires
+new_scan-scan-requires g c =
+    let s = c.args.self.now in
+    let spec = spec_of c.args.spec.now in
+    let a = asks (slice_index_or s.bound.items c.args.t.number false) c.args.t.number c.requires.bound spec (map datum c.args.params.now) c.requires.is c.requires.allowed c.requires.typed in
+    let b = subst (λ (p : Tuple). only_keys p spec.offered spec.answers ≡ true) (sym c.in_ok-params.ensures) a in
+    subst (λ (z : Spec). only_keys (map datum c.in_ok-params.params.items) z.offered z.answers ≡ true) (sym c.in_ok-spec.ensures) b
+
+pub returns-clause-ok : goal.returns-clause-ok
+returns-clause-ok g c =
+    let s = c.args.self.now in
+    let t = c.args.t.number in
+    let scan = c.new_scan-scan.result in
+    let one = subst (λ (z : Spec). IsBegun scan t z (map datum c.in_ok-params.params.items)) c.in_ok-spec.ensures c.new_scan-scan.ensures in
+    let begun = subst (λ (p : Tuple). IsBegun scan t (spec_of c.args.spec.now) p) c.in_ok-params.ensures one in
+    sqlite_begins g.S.SourceStore.honest s.bound.items s.staged (state g.S.Store s.conn).now scan t (spec_of c.args.spec.now) (map datum c.args.params.now) begun
+    s.scans c.insert.new.self s.next s.pulled s.faults c.requires.bound (within_two t s.bound.items s.two (bound_within s.bound.items t (some_there _ _ c.requires.is))) c.requires.is (s.fresh s.next (omega arith)) (omega arith) (sets s.scans c.insert.new.self s.next (Some scan) c.in_ok-insert.ensures.updates)
+
+pub returns-in_err-insert-clause-err : goal.returns-in_err-insert-clause-err
+returns-in_err-insert-clause-err g c =
+    let s = c.args.self.now in
+    refused_by c.from_residual-in_err-insert.result _ c.from_residual-in_err-insert.ensures.1
+    (sqlite_refuses g.S.SourceStore.honest s.bound.items s.staged (state g.S.Store s.conn).now s.scans c.insert.new.self s.next s.pulled s.faults c.in_err-insert.ensures.err)
+
+pub invariant_of-self-2 : goal.invariant_of-self-2
+invariant_of-self-2 g c =
+    let s = c.args.self.now in
+    let t = c.args.t.number in
+    let scan = c.new_scan-scan.result in
+    let one = subst (λ (z : Spec). IsBegun scan t z (map datum c.in_ok-params.params.items)) c.in_ok-spec.ensures c.new_scan-scan.ensures in
+    let begun = subst (λ (p : Tuple). IsBegun scan t (spec_of c.args.spec.now) p) c.in_ok-params.ensures one in
+    let within = within_two t s.bound.items s.two (bound_within s.bound.items t (some_there _ _ c.requires.is)) in
+    let may = bound_allows (slice_index_or s.bound.items t false) t c.requires.bound (spec_of c.args.spec.now) c.requires.is c.requires.allowed in
+    let ok : is_allowed (scan_is scan) ≡ true =
+    subst (λ (q : ℕ). (nat_lt q 2 && allows (spec_of scan.spec)) ≡ true) (sym begun.new.table)
+    (subst (λ (z : Spec). (nat_lt t 2 && allows z) ≡ true) (sym begun.new.spec_is) (rw (within, may) refl)) in
+    let u = sets s.scans c.insert.new.self s.next (Some scan) c.in_ok-insert.ensures.updates in
+    record {
+      two = s.two;
+      idle = s.idle;
+      known_orders = s.known_orders;
+      known_people = s.known_people;
+      writable = s.writable;
+      apart = s.apart;
+      named = s.named;
+      there = s.there;
+      typed_write = s.typed_write;
+      allowed = keeps_allowed s.scans c.insert.new.self s.next (Some scan) s.allowed (λ z e. subst (λ (y : KeyScan). is_allowed (scan_is y) ≡ true) (some_inj _ _ e) ok) u;
+      fresh = begun_fresh s.scans c.insert.new.self s.next (Some scan) s.fresh u;
+    }

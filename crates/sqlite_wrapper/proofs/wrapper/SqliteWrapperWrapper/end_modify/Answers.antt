@@ -1,0 +1,103 @@
+use Rattle.std.proofs.Common.{◌≡◌, ◌∙◌, Bool, true, Option, None, Some, IsTrue, option_map, refl, sym, ap, subst}
+use Rattle.sqlite.specs.Held.{state}
+use Rattle.sqlite.specs.Schema.{Schema}
+use Rattle.fdw_api.specs.Calls.{faults_after}
+use Rattle.fdw_api.specs.Writes.{CanClose, Closes, RefusesClose}
+use Rattle.staged_changes.specs.Staged.{write_is}
+use Rattle.staged_changes.specs.declared.changes.StagedWrite.{StagedWrite}
+use Rattle.sqlite_cells.specs.Layouts.{orders, people}
+use Rattle.sqlite_cells.specs.Tables.{IsKnown}
+use Rattle.sqlite_changes.proofs.Named.{none_named}
+use Rattle.sqlite_writes.specs.Writable.{AreApart, IsWritable}
+use Rattle.sqlite_wrapper.specs.Changes.{NamesOnce, names_rows, write_fits}
+use Rattle.sqlite_wrapper.specs.Boxes.{sqlite_state}
+use Rattle.sqlite_wrapper.proofs.Closing.{sqlite_closes, sqlite_keeps}
+use Rattle.sqlite_wrapper.proofs.Giving.{known_at}
+use Rattle.sqlite_wrapper.proofs.wrapper.SqliteWrapperWrapper.end_modify.Goals as goal
+
+pub invariant_of-self : goal.invariant_of-self
+invariant_of-self g c =
+    let s = c.args.self.now in
+    record {
+      two = s.two;
+      idle = s.idle;
+      known_orders = s.known_orders;
+      known_people = s.known_people;
+      writable = s.writable;
+      apart = s.apart;
+      named = subst NamesOnce (sym (ap (option_map write_is) c.take.ensures.after)) none_named;
+      there = λ h. subst (λ (o : Option StagedWrite). names_rows (state g.S.Store s.conn).now (option_map write_is o) ≡ true) (sym c.take.ensures.after) refl;
+      typed_write = subst (λ (o : Option StagedWrite). IsTrue (write_fits (option_map write_is o))) (sym c.take.ensures.after) refl;
+      allowed = s.allowed;
+      fresh = s.fresh;
+    }
+
+pub write_rows-requires-clause-known : goal.write_rows-requires-clause-known
+write_rows-requires-clause-known g c h =
+    let s = c.args.self.now in
+    known_at g.S.SourceStore.honest s.conn.schema c.in-Some.write.table s.known_orders s.known_people h
+
+pub invariant_of-self-in-Ok : goal.invariant_of-self-in-Ok
+invariant_of-self-in-Ok g c =
+    let s = c.args.self.now in
+    record {
+      two = s.two;
+      idle = c.write_rows.ensures.idle;
+      known_orders = λ h. subst (λ (k : Schema). ∥ IsKnown k orders ∥₁) (sym (c.write_rows.ensures.schema h)) (s.known_orders h);
+      known_people = λ h. subst (λ (k : Schema). ∥ IsKnown k people ∥₁) (sym (c.write_rows.ensures.schema h)) (s.known_people h);
+      writable = λ t h. subst (λ (k : Schema). ∥ IsWritable k t ∥₁) (sym (c.write_rows.ensures.schema h)) (s.writable t h);
+      apart = λ h. subst AreApart (sym (c.write_rows.ensures.schema h)) (s.apart h);
+      named = subst NamesOnce (sym (ap (option_map write_is) c.take.ensures.after)) none_named;
+      there = λ h. subst (λ (o : Option StagedWrite). names_rows (state g.S.Store c.write_rows.new.conn).now (option_map write_is o) ≡ true) (sym c.take.ensures.after) refl;
+      typed_write = subst (λ (o : Option StagedWrite). IsTrue (write_fits (option_map write_is o))) (sym c.take.ensures.after) refl;
+      allowed = s.allowed;
+      fresh = s.fresh;
+    }
+
+pub invariant_of-self-in-Err : goal.invariant_of-self-in-Err
+invariant_of-self-in-Err g c =
+    let s = c.args.self.now in
+    record {
+      two = s.two;
+      idle = c.write_rows.ensures.idle;
+      known_orders = λ h. subst (λ (k : Schema). ∥ IsKnown k orders ∥₁) (sym (c.write_rows.ensures.schema h)) (s.known_orders h);
+      known_people = λ h. subst (λ (k : Schema). ∥ IsKnown k people ∥₁) (sym (c.write_rows.ensures.schema h)) (s.known_people h);
+      writable = λ t h. subst (λ (k : Schema). ∥ IsWritable k t ∥₁) (sym (c.write_rows.ensures.schema h)) (s.writable t h);
+      apart = λ h. subst AreApart (sym (c.write_rows.ensures.schema h)) (s.apart h);
+      named = subst NamesOnce (sym (ap (option_map write_is) c.take.ensures.after)) none_named;
+      there = λ h. subst (λ (o : Option StagedWrite). names_rows (state g.S.Store c.write_rows.new.conn).now (option_map write_is o) ≡ true) (sym c.take.ensures.after) refl;
+      typed_write = subst (λ (o : Option StagedWrite). IsTrue (write_fits (option_map write_is o))) (sym c.take.ensures.after) refl;
+      allowed = s.allowed;
+      fresh = s.fresh;
+    }
+
+pub returns-in-Ok-clause-ok : goal.returns-in-Ok-clause-ok
+returns-in-Ok-clause-ok g c =
+    let s = c.args.self.now in
+    let honest = g.S.SourceStore.honest in
+    let db = (state g.S.Store s.conn).now in
+    let after = (state g.S.Store c.write_rows.new.conn).now in
+    let keep : c.args.keep ≡ true = c.if-not-keep.false in
+    let old = sqlite_state honest db s.bound.items s.scans s.staged s.next s.pulled s.faults in
+    let can = subst (λ (k : Bool). CanClose old k) keep c.requires in
+    let is : s.staged ≡ Some c.in-Some.write = sym c.take.ensures.value ∙ c.in-Some.is in
+    let closes = sqlite_closes honest db after s.bound.items s.scans s.staged s.next s.pulled s.faults c.in-Some.write s.two is can c.in-Ok.ensures.made s.apart
+    (λ u. known_at honest s.conn.schema u s.known_orders s.known_people) s.allowed in
+    subst (λ (o : Option StagedWrite). Closes old c.args.keep (sqlite_state honest after s.bound.items s.scans o s.next s.pulled s.faults)) (sym c.take.ensures.after)
+    (subst (λ (k : Bool). Closes old k (sqlite_state honest after s.bound.items s.scans None s.next s.pulled s.faults)) (sym keep) closes)
+
+pub returns-in-Err-clause-err : goal.returns-in-Err-clause-err
+returns-in-Err-clause-err g c =
+    let s = c.args.self.now in
+    let honest = g.S.SourceStore.honest in
+    let db = (state g.S.Store s.conn).now in
+    let after = (state g.S.Store c.write_rows.new.conn).now in
+    let keep : c.args.keep ≡ true = c.if-not-keep.false in
+    let old = sqlite_state honest db s.bound.items s.scans s.staged s.next s.pulled s.faults in
+    let can = subst (λ (k : Bool). CanClose old k) keep c.requires in
+    let is : s.staged ≡ Some c.in-Some.write = sym c.take.ensures.value ∙ c.in-Some.is in
+    let fault = c.in-Err.fault in
+    let keeps = sqlite_keeps honest db after s.bound.items s.scans s.staged s.next s.pulled s.faults c.in-Some.write s.two is can fault c.in-Err.ensures.same c.in-Err.ensures.refused in
+    rw c.faults_after-self.ensures
+    (subst (λ (o : Option StagedWrite). RefusesClose old c.args.keep fault (sqlite_state honest after s.bound.items s.scans o s.next s.pulled (faults_after fault s.faults))) (sym c.take.ensures.after)
+    (subst (λ (k : Bool). RefusesClose old k fault (sqlite_state honest after s.bound.items s.scans None s.next s.pulled (faults_after fault s.faults))) (sym keep) keeps))

@@ -1,0 +1,6 @@
+pub mod Kinds
+pub mod Changes
+pub mod Boxes
+pub mod Pages
+pub mod SqliteBoxes
+pub mod Rewrites

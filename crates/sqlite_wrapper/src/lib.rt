@@ -1,0 +1,9 @@
+//! SQLite databases as sources of foreign tables.
+#![tactic(auto)]
+
+mod rows;
+mod scans;
+pub mod wrapper;
+mod writing;
+
+pub use wrapper::SqliteWrapper;

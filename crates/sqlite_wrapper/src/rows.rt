@@ -1,0 +1,121 @@
+//! The rows of live scans: pages are read, and rows given.
+ghost use Rattle.std.specs.Prelude.{◌≡◌, true, false, Some, IfOk, IfErr, IfSome, IsSome, OnOk, OnErr};
+ghost use Rattle.std.specs.Ordering.{nat_cmp};
+ghost use Rattle.std.specs.BTreeMap as tree;
+ghost use Rattle.fdw_api.specs.Calls.{faults_after, not_refused};
+ghost use Rattle.sqlite.specs.Held.{state};
+ghost use Rattle.sqlite_wrapper.specs.declared.scans.KeyScan.{KeyScan};
+ghost use Rattle.sqlite_cells.specs.Layouts.{layout_at};
+ghost use Rattle.sqlite_cells.specs.Tables.{IsKnown, entries_of};
+ghost use Rattle.sqlite_wrapper.specs.Boxes.{Sets};
+ghost use Rattle.sqlite_wrapper.specs.Pages.{IsNext, Turns};
+
+use crate::scans::{KeyScan, page_wanted, turn_page};
+use fdw_api::interface::{Fault, RowId, SourceRow};
+use fdw_api::law::rows_are_typed;
+use sqlite::Connection;
+use sqlite_cells::{Keyed, Misread, key_and_cells, page_between};
+use sqlite_shapes::SourceStore;
+use std::alloc::Global;
+use std::collections::BTreeMap;
+
+/// The next row of a scan, with its key.
+#[derive(Debug, Drop)]
+pub(crate) struct GivenNext {
+    pub(crate) key: i64,
+    pub(crate) row: SourceRow,
+}
+
+/// The count of failures behind this fault.
+pub(crate) fn faults_after(faults: u64, fault: Fault) -> u64
+    ensures { result ≡ faults_after fault faults }
+{
+    match fault {
+        Fault::Source => faults.saturating_add(1),
+        Fault::NoMemory => faults,
+        Fault::Refused(_) => faults,
+    }
+}
+
+fn fault_of_misread(misread: Misread) -> Fault
+    ensures { not_refused result }
+{
+    match misread {
+        Misread::NoMemory => Fault::NoMemory,
+        Misread::Stray | Misread::NoRow => Fault::Source,
+    }
+}
+
+fn given_next(alloc: Global, scan: &KeyScan) -> Result<Option<GivenNext>, Fault>
+    ensures ok { IfOk result (IsNext scan.now) }
+    ensures err { IfErr result not_refused }
+{
+    if scan.page.len() <= scan.at {
+        return Ok(None);
+    }
+    let Keyed { key, cells } = match key_and_cells(alloc, scan.table, &scan.page[scan.at]) {
+        Ok(read) => read,
+        Err(misread) => return Err(fault_of_misread(misread)),
+    };
+    if !scan.open || key < scan.low || scan.high < key {
+        return Err(Fault::Source);
+    }
+    rows_are_typed();
+    match scan.spec.show(alloc, &cells) {
+        Err(_) => Err(Fault::NoMemory),
+        Ok(cells) => Ok(Some(GivenNext {
+            key,
+            row: SourceRow {
+                id: RowId {
+                    number: key.cast_unsigned(),
+                },
+                cells,
+            },
+        })),
+    }
+}
+
+/// The next row of the page of a live scan.
+pub(crate) fn next_of(
+    alloc: Global,
+    scans: &BTreeMap<u64, KeyScan>,
+    number: u64,
+) -> Result<Option<GivenNext>, Fault>
+    requires { IsSome (tree.get nat_cmp scans.now number) }
+    ensures ok { IfOk result (λ next. IfSome (tree.get nat_cmp scans.now number) (λ s. IsNext s next)) }
+    ensures err { IfErr result not_refused }
+{
+    match scans.get(&number) {
+        None => unreachable!(),
+        Some(scan) => given_next(alloc, scan),
+    }
+}
+
+/// Reads the next page of a live scan, where it has given all rows of its last one and one may follow. The rows that it has still to give
+/// stay the same.
+pub(crate) fn read_page<S: SourceStore>(
+    conn: &mut Connection<S>,
+    scans: &mut BTreeMap<u64, KeyScan>,
+    number: u64,
+) -> Result<(), Fault>
+    requires there { IsSome (tree.get nat_cmp scans.old number) }
+    requires idle { conn.old.in_transaction ≡ false }
+    requires known { S.honest ≡ true → IfSome (tree.get nat_cmp scans.old number) (λ s. ∥ IsKnown conn.old.schema (layout_at s.table) ∥₁) }
+    ensures turned { OnOk result (IfSome (tree.get nat_cmp scans.old number) (λ s. (n : KeyScan)
+        × Sets scans.old scans.new number (Some n) × Turns S.honest (entries_of (state S.Store conn.old).now (layout_at s.table)) s n)) }
+    ensures refused { IfErr result not_refused }
+    ensures same_scans { OnErr result (scans.new.entries ≡ scans.old.entries) }
+    ensures same { S.honest ≡ true → (state S.Store conn.new).now ≡ (state S.Store conn.old).now }
+    ensures idle { conn.new.in_transaction ≡ false }
+{
+    let Some(wanted) = page_wanted(scans, number) else {
+        return Ok(());
+    };
+    match page_between(conn, wanted.table, wanted.low, wanted.high) {
+        Err(fault) => Err(fault),
+        Ok(page) => {
+            turn_page(scans, number, page);
+            Ok(())
+        }
+    }
+}

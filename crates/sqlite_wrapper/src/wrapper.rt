@@ -1,0 +1,251 @@
+//! A SQLite database as a source of foreign tables.
+ghost use Rattle.std.specs.Prelude.{◌≡◌, ◌≤◌, ℕ, true, false, length, map, None, Some, IsTrue, IsSome, IfOk, IfErr, option_map};
+ghost use Rattle.std.specs.Ordering.{nat_cmp};
+ghost use Rattle.std.specs.BTreeMap as tree;
+ghost use Rattle.sqlite.specs.Held.{state};
+ghost use Rattle.fdw_api.specs.Scan.{filter_of, spec_of};
+ghost use Rattle.key_ranges.specs.Ranges.{answer_of};
+ghost use Rattle.sqlite_wrapper.specs.declared.scans.KeyScan.{KeyScan};
+ghost use Rattle.sqlite_cells.specs.Layouts.{orders, people};
+ghost use Rattle.staged_changes.specs.Staged.{write_is};
+ghost use Rattle.sqlite_wrapper.specs.Changes.{NamesOnce, named_is_prop, names_rows, write_fits};
+ghost use Rattle.sqlite_cells.specs.Tables.{IsKnown};
+ghost use Rattle.sqlite_writes.specs.Writable.{AreApart, IsWritable};
+ghost use Rattle.sqlite_wrapper.specs.Boxes.{is_allowed, scan_is, sqlite_state};
+
+use crate::rows::{GivenNext, faults_after, next_of, read_page};
+use crate::scans::{KeyScan, begun_again, new_scan, pass_row, put_scan, spoil};
+use crate::writing::write_rows;
+use fdw_api::interface::{Counts, Fault, Opt, RowId, SourceRow, Ticket, Wrapper};
+use fdw_api::scan::{Agreement, Restriction, ScanSpec, copy_values};
+use key_ranges::answers_for;
+use med_value::{Cause, ColumnDef, NoMemory, Row, TableNo, Value};
+use sqlite::Connection;
+use sqlite_cells::place_of;
+use sqlite_changes::law::first_changes_name_once;
+use sqlite_shapes::SourceStore;
+use sqlite_surveys::open_table;
+use staged_changes::{RowChange, StagedWrite, add_change};
+use std::alloc::Global;
+use std::collections::BTreeMap;
+
+/// A SQLite database as a source of foreign tables.
+///
+/// Its kind is `sqlite_kind`. Its remote tables are those of the two layouts, orders and people: table 0 and table 1. The id of a row is
+/// the 64 bits of its key. A scan takes over tests of the key alone, gives whole rows in the order of their keys, and reads them by pages
+/// of 64. It is honest where its store always returns what was written.
+#[derive(Drop)]
+pub struct SqliteWrapper<S: SourceStore + Drop> {
+    conn: Connection<S>,
+    bound: Vec<bool>,
+    scans: BTreeMap<u64, KeyScan>,
+    staged: Option<StagedWrite>,
+    next: u64,
+    pulled: u64,
+    faults: u64,
+    ghost two: { length bound.items ≡ 2 },
+    ghost idle: { conn.in_transaction ≡ false },
+    ghost known_orders: { S.honest ≡ true → ∥ IsKnown conn.schema orders ∥₁ },
+    ghost known_people: { S.honest ≡ true → ∥ IsKnown conn.schema people ∥₁ },
+    ghost writable: { (table : ℕ) → S.honest ≡ true → ∥ IsWritable conn.schema table ∥₁ },
+    ghost apart: { S.honest ≡ true → AreApart conn.schema },
+    ghost named: { NamesOnce (option_map write_is staged) } by { named_is_prop (option_map write_is staged) },
+    ghost there: { S.honest ≡ true → names_rows (state S.Store conn).now (option_map write_is staged) ≡ true },
+    ghost typed_write: { IsTrue (write_fits (option_map write_is staged)) },
+    ghost allowed: { (k : ℕ) (s : KeyScan) → tree.get nat_cmp scans k ≡ Some s → is_allowed (scan_is s) ≡ true },
+    ghost fresh: { (k : ℕ) → next ≤ k → tree.get nat_cmp scans k ≡ None },
+}
+
+impl<S: SourceStore + Drop> SqliteWrapper<S> {
+    ghost use Rattle.sqlite_wrapper.specs.SqliteBoxes.{IsNewSqlite};
+
+    /// A source of this database, on which nothing is bound yet. It is as honest as its store.
+    ///
+    /// It asks that the connection is in no transaction, and of an honest store that each layout's page text either is not understood under
+    /// its schema or reads a page of a table. It is refused for want of memory alone, and drops the connection then.
+    pub fn new(alloc: Global, conn: Connection<S>) -> Result<Self, NoMemory>
+        requires idle { conn.in_transaction ≡ false }
+        requires orders { S.honest ≡ true → ∥ IsKnown conn.schema orders ∥₁ }
+        requires people { S.honest ≡ true → ∥ IsKnown conn.schema people ∥₁ }
+        requires writable { (table : ℕ) → S.honest ≡ true → ∥ IsWritable conn.schema table ∥₁ }
+        requires apart { S.honest ≡ true → AreApart conn.schema }
+        ensures { IfOk result (λ w. IsNewSqlite S.honest (state S.Store conn).now
+            (sqlite_state S.honest (state S.Store w.conn).now w.bound.items w.scans w.staged w.next w.pulled w.faults)) }
+    {
+        let bound = vec![in alloc; false; 2]?;
+        Ok(SqliteWrapper {
+            conn,
+            bound,
+            scans: BTreeMap::new(alloc),
+            staged: None,
+            next: 0,
+            pulled: 0,
+            faults: 0,
+        })
+    }
+}
+
+impl<S: SourceStore + Drop> Wrapper for SqliteWrapper<S> {
+    ghost use Rattle.fdw_api.specs.Scan.{spec_by};
+    ghost use Rattle.fdw_api.specs.State.{BoxState, table_of};
+    ghost use Rattle.fdw_api.specs.Calls.{Allows};
+
+    ghost meaning = { λ w. sqlite_state S.honest (state S.Store w.conn).now w.bound.items w.scans w.staged w.next w.pulled w.faults };
+
+    fn bind(
+        &mut self,
+        alloc: Global,
+        remote: &str,
+        columns: &[ColumnDef],
+        _options: &[Opt],
+    ) -> Result<TableNo, Fault> {
+        let Some(number) = place_of(remote) else {
+            return Err(Fault::Refused(Cause::TableNotFound));
+        };
+        if let Err(fault) = open_table(alloc, &mut self.conn, number, columns) {
+            self.faults = faults_after(self.faults, fault);
+            return Err(fault);
+        }
+        self.bound[number as usize] = true;
+        Ok(TableNo { number })
+    }
+
+    fn unbind(&mut self, t: TableNo) {
+        self.bound[t.number as usize] = false;
+    }
+
+    /// Takes over tests of the key that a range answers, and gives whole rows.
+    fn plan(
+        &self,
+        alloc: Global,
+        _t: TableNo,
+        _wanted: &[usize],
+        offered: &[Restriction],
+    ) -> Result<Agreement, Fault>
+        requires { IsSome (table_of (sqlite_state S.honest (state S.Store self.now.conn).now
+            self.now.bound.items self.now.scans self.now.staged self.now.next self.now.pulled self.now.faults) _t.number) }
+        ensures ok { IfOk result (λ a. Allows (sqlite_state S.honest (state S.Store self.now.conn).now
+            self.now.bound.items self.now.scans self.now.staged self.now.next self.now.pulled self.now.faults)
+            _t.number (spec_by _wanted.now (map filter_of offered.now) a)) }
+        ensures each { IfOk result (λ a. length a.answers.items ≡ length offered.now) }
+        ensures err { IfErr result (λ fault. fault ≡ Fault.NoMemory) }
+        ensures takes { IfOk result (λ a. a.answers.items ≡ map answer_of (map filter_of offered.now)) }
+        ensures narrow { IfOk result (λ a. a.narrow ≡ false) }
+    {
+        let answers = answers_for(alloc, offered)?;
+        Ok(Agreement {
+            answers,
+            narrow: false,
+        })
+    }
+
+    fn begin(
+        &mut self,
+        alloc: Global,
+        t: TableNo,
+        spec: &ScanSpec,
+        params: &[Value],
+    ) -> Result<Ticket, Fault> {
+        if self.next == u64::MAX {
+            return Err(Fault::Refused(Cause::LimitExceeded));
+        }
+        let spec = spec.copy(alloc)?;
+        let params = copy_values(alloc, params)?;
+        let scan = new_scan(alloc, t.number, spec, params);
+        let number = self.next;
+        self.scans.insert(number, scan)?;
+        self.next += 1;
+        Ok(Ticket { number })
+    }
+
+    fn iterate(&mut self, alloc: Global, ticket: &Ticket) -> Result<Option<SourceRow>, Fault> {
+        let number = ticket.number;
+        if let Err(fault) = read_page(&mut self.conn, &mut self.scans, number) {
+            spoil(&mut self.scans, number);
+            self.faults = faults_after(self.faults, fault);
+            return Err(fault);
+        }
+        match next_of(alloc, &self.scans, number) {
+            Err(fault) => {
+                spoil(&mut self.scans, number);
+                self.faults = faults_after(self.faults, fault);
+                Err(fault)
+            }
+            Ok(None) => Ok(None),
+            Ok(Some(next)) => {
+                let GivenNext { key, row } = next;
+                pass_row(&mut self.scans, number, key);
+                self.pulled = self.pulled.saturating_add(1);
+                Ok(Some(row))
+            }
+        }
+    }
+
+    fn rescan(&mut self, alloc: Global, ticket: &Ticket, params: &[Value]) -> Result<(), Fault> {
+        match begun_again(alloc, &self.scans, ticket.number, params) {
+            Err(_) => {
+                spoil(&mut self.scans, ticket.number);
+                Err(Fault::NoMemory)
+            }
+            Ok(scan) => {
+                put_scan(&mut self.scans, ticket.number, scan);
+                Ok(())
+            }
+        }
+    }
+
+    fn end(&mut self, ticket: Ticket) {
+        let Ticket { number } = ticket;
+        let _ = self.scans.remove(&number);
+    }
+
+    fn begin_modify(&mut self, alloc: Global, t: TableNo) -> Result<(), Fault> {
+        first_changes_name_once();
+        self.staged = Some(StagedWrite {
+            table: t.number,
+            changes: Vec::new(alloc),
+            broken: false,
+        });
+        Ok(())
+    }
+
+    fn insert(&mut self, _alloc: Global, row: Row) -> Result<(), Fault> {
+        first_changes_name_once();
+        add_change(&mut self.staged, RowChange::Insert(row))
+    }
+
+    fn update(&mut self, _alloc: Global, id: RowId, row: Row) -> Result<(), Fault> {
+        first_changes_name_once();
+        add_change(&mut self.staged, RowChange::Update(id.number, row))
+    }
+
+    fn delete(&mut self, _alloc: Global, id: RowId) -> Result<(), Fault> {
+        first_changes_name_once();
+        add_change(&mut self.staged, RowChange::Delete(id.number))
+    }
+
+    fn end_modify(&mut self, alloc: Global, keep: bool) -> Result<(), Fault> {
+        let Some(write) = self.staged.take() else {
+            unreachable!()
+        };
+        if !keep {
+            return Ok(());
+        }
+        match write_rows(alloc, &mut self.conn, write.table, write.changes) {
+            Ok(()) => Ok(()),
+            Err(fault) => {
+                self.faults = faults_after(self.faults, fault);
+                Err(fault)
+            }
+        }
+    }
+
+    fn ledger(&self) -> Counts {
+        Counts {
+            next: self.next,
+            live: self.scans.len() as u64,
+            pulled: self.pulled,
+            faults: self.faults,
+        }
+    }
+}

@@ -1,0 +1,40 @@
+use Rattle.std.proofs.Common.{◌∙◌, sym, ap, subst, not, map}
+use Rattle.sqlite.specs.Held.{state}
+use Rattle.sqlite.specs.Schema.{Schema}
+use Rattle.sqlite.specs.Edit.{put_all, are_fresh}
+use Rattle.med_value.specs.Datum.{tuple}
+use Rattle.sqlite_cells.proofs.Refused.{refused_more, done_more}
+use Rattle.sqlite_writes.specs.Writable.{IsWritable}
+use Rattle.sqlite_writes.specs.Rewriting.{stored_cells}
+use Rattle.sqlite_writes.proofs.Changed.{keeps_more}
+use Rattle.sqlite_writes.proofs.rewriting.change_rows.Goals as goal
+
+pub insert_all-requires-clause-writable : goal.insert_all-requires-clause-writable
+insert_all-requires-clause-writable g c h = subst (λ (s : Schema). ∥ IsWritable s c.args.table ∥₁) (sym (c.in-Ok.ensures.schema h)) (c.requires.writable h)
+
+pub returns-in-Ok-clause-rows : goal.returns-in-Ok-clause-rows
+returns-in-Ok-clause-rows g c h =
+    done_more c.insert_all.result _ _ (λ e. e ∙ ap (λ es. put_all es (map stored_cells (map tuple c.args.fresh.now))) (c.in-Ok.ensures.rows h)) (c.insert_all.ensures.rows h)
+
+pub returns-in-Ok-clause-free : goal.returns-in-Ok-clause-free
+returns-in-Ok-clause-free g c h =
+    done_more c.insert_all.result _ _
+    (λ e. ap not (ap (λ es. are_fresh es (map stored_cells (map tuple c.args.fresh.now))) (sym (c.in-Ok.ensures.rows h)) ∙ e)) (c.insert_all.ensures.free h)
+
+pub returns-in-Ok-clause-schema : goal.returns-in-Ok-clause-schema
+returns-in-Ok-clause-schema g c h = done_more c.insert_all.result _ _ (λ e. e ∙ c.in-Ok.ensures.schema h) (c.insert_all.ensures.schema h)
+
+pub returns-in-Ok-clause-others : goal.returns-in-Ok-clause-others
+returns-in-Ok-clause-others g c h =
+    done_more c.insert_all.result _ _
+    (keeps_more (state g.S.Store c.args.tx.now.conn.now).now (state g.S.Store c.delete_all.new.tx.conn.now).now (state g.S.Store c.insert_all.new.tx.conn.now).now c.args.table (c.in-Ok.ensures.schema h) (c.in-Ok.ensures.others h))
+    (c.insert_all.ensures.others h)
+
+pub returns-in-Ok-clause-refused : goal.returns-in-Ok-clause-refused
+returns-in-Ok-clause-refused g c =
+    refused_more c.insert_all.result _ _
+    (λ cause by. (by.0, λ h. ap not (ap (λ es. are_fresh es (map stored_cells (map tuple c.args.fresh.now))) (sym (c.in-Ok.ensures.rows h)) ∙ by.1 h)))
+    c.insert_all.ensures.refused
+
+pub returns-in-Ok-clause-kept : goal.returns-in-Ok-clause-kept
+returns-in-Ok-clause-kept g c h = c.insert_all.ensures.kept h ∙ c.in-Ok.ensures.kept h

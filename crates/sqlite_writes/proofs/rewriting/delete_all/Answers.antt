@@ -1,0 +1,37 @@
+use Rattle.std.proofs.Common.{rules, ◌≡◌, ◌∙◌, sym, ap, subst, take, get_or, pos, FitsSigned, w64}
+use Rattle.std.proofs.lemmas.List.{take_more}
+use Rattle.std.proofs.lemmas.Int.{to_z-of_z}
+use Rattle.sqlite.specs.Held.{state}
+use Rattle.sqlite.specs.Schema.{Schema}
+use Rattle.sqlite.specs.Tree.{without_rowid}
+use Rattle.sqlite_cells.specs.Tables.{entries_in}
+use Rattle.sqlite_writes.specs.Writable.{IsWritable}
+use Rattle.sqlite_writes.proofs.Loops.{without_more}
+use Rattle.sqlite_writes.proofs.Changed.{keeps_more}
+use Rattle.sqlite_writes.proofs.rewriting.delete_all.Goals as goal
+
+pub delete_row-requires-clause-writable : goal.delete_row-requires-clause-writable
+delete_row-requires-clause-writable g c h = subst (λ (s : Schema). ∥ IsWritable s c.args.table ∥₁) (sym (c.loop-key.invariant.schema h)) (c.requires.writable h)
+
+pub loop-key-preserved : goal.loop-key-preserved
+loop-key-preserved g c =
+    let inv = c.loop-key.invariant in
+    let old = (state g.S.Store c.args.tx.now.conn.now).now in
+    let mid = (state g.S.Store c.loop-key.tx.conn.now).now in
+    let new = (state g.S.Store c.delete_row.new.tx.conn.now).now in
+    let t = c.args.table in
+    let key = get_or c.args.gone.now c.loop-key.key-index (pos 0) in
+    let fits : FitsSigned w64 key = search rules in
+    let e = to_z-of_z w64 key fits in
+    record {
+      ref = c.delete_row.ensures.same_reference ∙ inv.ref;
+      schema = λ h. c.in-Ok.ensures.schema h ∙ inv.schema h;
+      inside = c.in-Ok.ensures.inside;
+      ordered = c.in-Ok.ensures.ordered;
+      others = λ h. keeps_more old mid new t (inv.schema h) (inv.others h) (c.in-Ok.ensures.others h);
+      kept = λ h. c.in-Ok.ensures.kept h ∙ inv.kept h;
+      rows = λ h.
+          let one : entries_in new t ≡ without_rowid key (entries_in mid t) = rw e at (c.in-Ok.ensures.rows h) in
+          rw (take_more c.args.gone.now c.loop-key.key-index (pos 0) c.loop-key-test.true)
+          (one ∙ ap (without_rowid key) (inv.rows h) ∙ sym (without_more (entries_in old t) (take c.loop-key.key-index c.args.gone.now) key));
+    }

@@ -1,0 +1,22 @@
+use Rattle.std.proofs.Common.{◌≡◌, IsTrue, take, true}
+use Rattle.sqlite.specs.Held.{state}
+use Rattle.sqlite.specs.View.{IsShaped}
+use Rattle.sqlite.specs.Edit.{without_all}
+use Rattle.sqlite_trees.specs.declared.store.Shape.TheVariants as shape
+use Rattle.sqlite_cells.specs.Tables.{entries_in}
+use Rattle.sqlite_writes.specs.Writable.{KeepsTables}
+use Rattle.sqlite_writes.proofs.rewriting.delete_all.Given as goal
+
+abbrev pub invariant-loop-key : goal.invariant-loop-key
+invariant-loop-key g l =
+    let old = state g.S.Store l.initial.tx.conn.now in
+    let now = state g.S.Store l.tx.conn.now in
+    record {
+      ref : l.tx.conn.ghost_name ≡ l.initial.tx.conn.ghost_name;
+      schema : g.S.SourceStore.honest ≡ true → now.now.schema ≡ old.now.schema;
+      inside : g.S.SourceStore.honest ≡ true → IsTrue now.in_transaction;
+      ordered : g.S.SourceStore.honest ≡ true → IsShaped shape.Table (entries_in now.now l.table);
+      others : g.S.SourceStore.honest ≡ true → KeepsTables old.now now.now l.table;
+      kept : g.S.SourceStore.honest ≡ true → now.committed ≡ old.committed;
+      rows : g.S.SourceStore.honest ≡ true → entries_in now.now l.table ≡ without_all (entries_in old.now l.table) (take l.key-index l.gone);
+    }

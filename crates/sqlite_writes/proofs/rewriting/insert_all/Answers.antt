@@ -1,0 +1,73 @@
+use Rattle.std.proofs.Common.{◌≡◌, ◌∙◌, ℕ, ◌+◌, suc, true, false, List, sym, ap, subst, take, map, arith}
+use Rattle.std.proofs.lemmas.Simd.{map-map}
+use Rattle.sqlite.specs.Held.{state}
+use Rattle.sqlite.specs.Schema.{Schema}
+use Rattle.sqlite.specs.Tree.{put_row}
+use Rattle.sqlite.specs.Edit.{put_all, is_taken, are_fresh}
+use Rattle.med_value.specs.Datum.{tuple}
+use Rattle.med_value.specs.declared.value.Row.{Row}
+use Rattle.sqlite_cells.specs.Tables.{entries_in}
+use Rattle.sqlite_cells.proofs.Refused.{only_more}
+use Rattle.sqlite.specs.Order.{Row as SqlRow}
+use Rattle.sqlite_writes.specs.Writable.{IsWritable}
+use Rattle.sqlite_writes.specs.Rewriting.{stored_cells}
+use Rattle.sqlite_writes.proofs.Loops.{put_more, fresh_more, repeats}
+use Rattle.sqlite_writes.proofs.Changed.{keeps_more}
+use Rattle.sqlite_writes.proofs.rewriting.insert_all.Goals as goal
+
+pub insert_cells-requires-clause-writable : goal.insert_cells-requires-clause-writable
+insert_cells-requires-clause-writable g c h = subst (λ (s : Schema). ∥ IsWritable s c.args.table ∥₁) (sym (c.loop-row.invariant.schema h)) (c.requires.writable h)
+
+pub loop-row-preserved : goal.loop-row-preserved
+loop-row-preserved g c =
+    let inv = c.loop-row.invariant in
+    let old = (state g.S.Store c.args.tx.now.conn.now).now in
+    let mid = (state g.S.Store c.loop-row.tx.conn.now).now in
+    let new = (state g.S.Store c.insert_cells.new.tx.conn.now).now in
+    let t = c.args.table in
+    let xs = c.args.fresh.now in
+    let i = c.loop-row.row-index in
+    let row = c.row-item.result in
+    let f = λ (r : Row). stored_cells (tuple r) in
+    let on : i + 1 ≡ suc i = omega arith in
+    record {
+      ref = c.insert_cells.ensures.same_reference ∙ inv.ref;
+      schema = λ h. c.in-Ok.ensures.schema h ∙ inv.schema h;
+      inside = c.in-Ok.ensures.inside;
+      ordered = c.in-Ok.ensures.ordered;
+      others = λ h. keeps_more old mid new t (inv.schema h) (inv.others h) (c.in-Ok.ensures.others h);
+      kept = λ h. c.in-Ok.ensures.kept h ∙ inv.kept h;
+      rows = λ h.
+          let before : entries_in mid t ≡ put_all (entries_in old t) (map f (take i xs)) = inv.rows h ∙ ap (put_all (entries_in old t)) (map-map stored_cells tuple (take i xs)) in
+          let after : entries_in new t ≡ put_all (entries_in old t) (map f (take (i + 1) xs)) =
+          c.in-Ok.ensures.rows h ∙ ap (put_row (f row)) before ∙ sym (put_more f (entries_in old t) xs i row c.loop-row-test.true c.row-item.is)
+          ∙ ap (λ (n : ℕ). put_all (entries_in old t) (map f (take n xs))) (sym on) in
+          after ∙ ap (put_all (entries_in old t)) (sym (map-map stored_cells tuple (take (i + 1) xs)));
+      free = λ h.
+          let es = entries_in old t in
+          let before : entries_in mid t ≡ put_all es (map f (take i xs)) = inv.rows h ∙ ap (put_all es) (map-map stored_cells tuple (take i xs)) in
+          let here : is_taken (put_all es (map f (take i xs))) (f row) ≡ false = ap (λ (rs : List SqlRow). is_taken rs (f row)) (sym before) ∙ c.in-Ok.ensures.free h in
+          let were : are_fresh es (map f (take i xs)) ≡ true = ap (are_fresh es) (sym (map-map stored_cells tuple (take i xs))) ∙ inv.free h in
+          ap (are_fresh es) (map-map stored_cells tuple (take (i + 1) xs)) ∙ ap (λ (n : ℕ). are_fresh es (map f (take n xs))) on
+          ∙ fresh_more f es xs i row c.loop-row-test.true c.row-item.is were here;
+    }
+
+pub returns-in-Err-clause-refused : goal.returns-in-Err-clause-refused
+returns-in-Err-clause-refused g c =
+    let inv = c.loop-row.invariant in
+    let old = (state g.S.Store c.args.tx.now.conn.now).now in
+    let mid = (state g.S.Store c.loop-row.tx.conn.now).now in
+    let t = c.args.table in
+    let xs = c.args.fresh.now in
+    let i = c.loop-row.row-index in
+    let row = c.row-item.result in
+    let f = λ (r : Row). stored_cells (tuple r) in
+    only_more _ _ c.in-Err.fault
+    (λ cause by. (
+      by.0,
+      λ h.
+          let before : entries_in mid t ≡ put_all (entries_in old t) (map f (take i xs)) = inv.rows h ∙ ap (put_all (entries_in old t)) (map-map stored_cells tuple (take i xs)) in
+          let there = ap (λ es. is_taken es (f row)) (sym before) ∙ by.1 h in
+          ap (are_fresh (entries_in old t)) (map-map stored_cells tuple xs) ∙ repeats f (entries_in old t) xs i row c.loop-row-test.true c.row-item.is there,
+    ))
+    c.in-Err.ensures.refused

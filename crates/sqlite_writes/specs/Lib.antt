@@ -1,0 +1,5 @@
+pub mod Texts
+pub mod Writable
+pub mod Stored
+pub mod Changes
+pub mod Rewriting

@@ -1,0 +1,30 @@
+-- Many rows of a table changed at once: the old ones taken out, then the new ones put in.
+use Rattle.std.specs.Prelude.{ℕ, ℤ, Bool, not, ◌&&◌, List, [], ◌∷◌, map}
+use Rattle.sqlite.specs.Order.{Row as SqlRow}
+use Rattle.sqlite.specs.Edit.{without_all, put_all, are_fresh}
+use Rattle.med_value.specs.Datum.{Datum, Whole, Tuple}
+use Rattle.med_value.specs.Order.{is_missing}
+use Rattle.fdw_api.specs.Scan.{cell, row_fits}
+use Rattle.sqlite_cells.specs.Layouts.{layout_at, kinds_in}
+use Rattle.sqlite_writes.specs.Stored.{stored_row}
+
+-- a row of a table by its number: of the types of its columns, with a key
+abbrev pub has_place : ℕ → Tuple → Bool
+has_place t cells = row_fits (kinds_in (layout_at t)) cells && not (is_missing (cell cells 0))
+
+-- a row as its table holds it
+abbrev pub row_by : Datum → List Datum → SqlRow
+row_by (Whole key) (second ∷ third ∷ []) = stored_row key second third
+row_by _ _ = []
+
+abbrev pub stored_cells : Tuple → SqlRow
+stored_cells [] = []
+stored_cells (key ∷ cells) = row_by key cells
+
+-- the rows without those of some keys, and with further rows, each in its place by key
+abbrev pub rewritten : List ℤ → List Tuple → List SqlRow → List SqlRow
+rewritten gone fresh rows = put_all (without_all rows gone) (map stored_cells fresh)
+
+-- the key of a further row stands twice among them, or is that of a row that stays
+abbrev pub repeats_key : List ℤ → List Tuple → List SqlRow → Bool
+repeats_key gone fresh rows = not (are_fresh (without_all rows gone) (map stored_cells fresh))

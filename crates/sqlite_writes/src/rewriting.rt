@@ -1,0 +1,187 @@
+//! The rows of a table changed at once, as one transaction.
+ghost use Rattle.std.specs.Prelude.{◌≡◌, true, false, map, All, IsTrue, IfErr, OnOk, OnErr};
+ghost use Rattle.sqlite.specs.Held.{state};
+ghost use Rattle.sqlite.specs.View.{IsShaped};
+ghost use Rattle.sqlite.specs.Tree.{put_row};
+ghost use Rattle.sqlite.specs.Edit.{is_taken, without_all, put_all, are_fresh};
+ghost use Rattle.sqlite_trees.specs.declared.store.Shape.TheVariants as shape;
+ghost use Rattle.med_value.specs.Datum.{tuple};
+ghost use Rattle.med_value.specs.declared.cause.Cause.TheVariants.{NotUnique};
+ghost use Rattle.fdw_api.specs.Calls.{not_refused};
+ghost use Rattle.sqlite_cells.specs.Tables.{entries_in};
+ghost use Rattle.sqlite_cells.specs.Refusing.{OnlyBy};
+ghost use Rattle.sqlite_writes.specs.Writable.{IsWritable, KeepsTables};
+ghost use Rattle.sqlite_writes.specs.Rewriting.{has_place, stored_cells, rewritten, repeats_key};
+
+use crate::rows::{delete_row, insert_row};
+use fdw_api::interface::Fault;
+use med_value::{Row, Value};
+use sqlite::{Connection, Transaction};
+use sqlite_cells::fault_of;
+use sqlite_shapes::SourceStore;
+
+// Takes the rows of some keys out.
+fn delete_all<S: SourceStore>(
+    tx: &mut Transaction<'_, S>,
+    table: u64,
+    gone: &[i64],
+) -> Result<(), Fault>
+    requires inside { S.honest ≡ true → IsTrue tx.old.conn.now.in_transaction }
+    requires writable { S.honest ≡ true → ∥ IsWritable tx.old.conn.now.schema table ∥₁ }
+    requires ordered { S.honest ≡ true → IsShaped shape.Table (entries_in (state S.Store tx.old.conn.now).now table) }
+    ensures same_reference { tx.new.conn.ghost_name ≡ tx.old.conn.ghost_name }
+    ensures rows { S.honest ≡ true → OnOk result (entries_in (state S.Store tx.new.conn.now).now table
+        ≡ without_all (entries_in (state S.Store tx.old.conn.now).now table) gone.now) }
+    ensures ordered { S.honest ≡ true → OnOk result (IsShaped shape.Table (entries_in (state S.Store tx.new.conn.now).now table)) }
+    ensures schema { S.honest ≡ true → OnOk result (tx.new.conn.now.schema ≡ tx.old.conn.now.schema) }
+    ensures others { S.honest ≡ true →
+        OnOk result (KeepsTables (state S.Store tx.old.conn.now).now (state S.Store tx.new.conn.now).now table) }
+    ensures refused { IfErr result not_refused }
+    ensures inside { S.honest ≡ true → OnOk result (IsTrue tx.new.conn.now.in_transaction) }
+    ensures kept { S.honest ≡ true → (state S.Store tx.new.conn.now).committed ≡ (state S.Store tx.old.conn.now).committed }
+{
+    for key in gone {
+        match delete_row(tx, table, *key) {
+            Ok(()) => {}
+            Err(fault) => return Err(fault),
+        }
+    }
+    Ok(())
+}
+
+// Puts a row in whose first cell is its key.
+fn insert_cells<S: SourceStore>(
+    tx: &mut Transaction<'_, S>,
+    table: u64,
+    row: &Row,
+) -> Result<(), Fault>
+    requires inside { S.honest ≡ true → IsTrue tx.old.conn.now.in_transaction }
+    requires writable { S.honest ≡ true → ∥ IsWritable tx.old.conn.now.schema table ∥₁ }
+    requires ordered { S.honest ≡ true → IsShaped shape.Table (entries_in (state S.Store tx.old.conn.now).now table) }
+    requires fits { has_place table (tuple row.now) ≡ true }
+    ensures same_reference { tx.new.conn.ghost_name ≡ tx.old.conn.ghost_name }
+    ensures rows { S.honest ≡ true → OnOk result (entries_in (state S.Store tx.new.conn.now).now table
+        ≡ put_row (stored_cells (tuple row.now)) (entries_in (state S.Store tx.old.conn.now).now table)) }
+    ensures free { S.honest ≡ true
+        → OnOk result (is_taken (entries_in (state S.Store tx.old.conn.now).now table) (stored_cells (tuple row.now)) ≡ false) }
+    ensures ordered { S.honest ≡ true → OnOk result (IsShaped shape.Table (entries_in (state S.Store tx.new.conn.now).now table)) }
+    ensures schema { S.honest ≡ true → OnOk result (tx.new.conn.now.schema ≡ tx.old.conn.now.schema) }
+    ensures others { S.honest ≡ true →
+        OnOk result (KeepsTables (state S.Store tx.old.conn.now).now (state S.Store tx.new.conn.now).now table) }
+    ensures refused { IfErr result (OnlyBy (λ c. (c ≡ NotUnique)
+        × (S.honest ≡ true → is_taken (entries_in (state S.Store tx.old.conn.now).now table) (stored_cells (tuple row.now)) ≡ true))) }
+    ensures inside { S.honest ≡ true → OnOk result (IsTrue tx.new.conn.now.in_transaction) }
+    ensures kept { S.honest ≡ true → (state S.Store tx.new.conn.now).committed ≡ (state S.Store tx.old.conn.now).committed }
+{
+    match row.cells.as_slice() {
+        [Value::Int(key), second, third] => insert_row(tx, table, *key, second, third),
+        _ => Err(Fault::Source),
+    }
+}
+
+// Puts rows in.
+fn insert_all<S: SourceStore>(
+    tx: &mut Transaction<'_, S>,
+    table: u64,
+    fresh: &[Row],
+) -> Result<(), Fault>
+    requires inside { S.honest ≡ true → IsTrue tx.old.conn.now.in_transaction }
+    requires writable { S.honest ≡ true → ∥ IsWritable tx.old.conn.now.schema table ∥₁ }
+    requires ordered { S.honest ≡ true → IsShaped shape.Table (entries_in (state S.Store tx.old.conn.now).now table) }
+    requires fits { All (λ r. has_place table (tuple r) ≡ true) fresh.now }
+    ensures same_reference { tx.new.conn.ghost_name ≡ tx.old.conn.ghost_name }
+    ensures rows { S.honest ≡ true → OnOk result (entries_in (state S.Store tx.new.conn.now).now table
+        ≡ put_all (entries_in (state S.Store tx.old.conn.now).now table) (map stored_cells (map tuple fresh.now))) }
+    ensures free { S.honest ≡ true → OnOk result (are_fresh (entries_in (state S.Store tx.old.conn.now).now table)
+        (map stored_cells (map tuple fresh.now)) ≡ true) }
+    ensures schema { S.honest ≡ true → OnOk result (tx.new.conn.now.schema ≡ tx.old.conn.now.schema) }
+    ensures others { S.honest ≡ true →
+        OnOk result (KeepsTables (state S.Store tx.old.conn.now).now (state S.Store tx.new.conn.now).now table) }
+    ensures refused { IfErr result (OnlyBy (λ c. (c ≡ NotUnique)
+        × (S.honest ≡ true → are_fresh (entries_in (state S.Store tx.old.conn.now).now table)
+        (map stored_cells (map tuple fresh.now)) ≡ false))) }
+    ensures inside { S.honest ≡ true → OnOk result (IsTrue tx.new.conn.now.in_transaction) }
+    ensures kept { S.honest ≡ true → (state S.Store tx.new.conn.now).committed ≡ (state S.Store tx.old.conn.now).committed }
+{
+    for row in fresh {
+        match insert_cells(tx, table, row) {
+            Ok(()) => {}
+            Err(fault) => return Err(fault),
+        }
+    }
+    Ok(())
+}
+
+// Takes the rows of some keys out, then puts rows in.
+fn change_rows<S: SourceStore>(
+    tx: &mut Transaction<'_, S>,
+    table: u64,
+    gone: &[i64],
+    fresh: &[Row],
+) -> Result<(), Fault>
+    requires inside { S.honest ≡ true → IsTrue tx.old.conn.now.in_transaction }
+    requires writable { S.honest ≡ true → ∥ IsWritable tx.old.conn.now.schema table ∥₁ }
+    requires ordered { S.honest ≡ true → IsShaped shape.Table (entries_in (state S.Store tx.old.conn.now).now table) }
+    requires fits { All (λ r. has_place table (tuple r) ≡ true) fresh.now }
+    ensures same_reference { tx.new.conn.ghost_name ≡ tx.old.conn.ghost_name }
+    ensures rows { S.honest ≡ true → OnOk result (entries_in (state S.Store tx.new.conn.now).now table
+        ≡ rewritten gone.now (map tuple fresh.now) (entries_in (state S.Store tx.old.conn.now).now table)) }
+    ensures free { S.honest ≡ true
+        → OnOk result (repeats_key gone.now (map tuple fresh.now) (entries_in (state S.Store tx.old.conn.now).now table) ≡ false) }
+    ensures schema { S.honest ≡ true → OnOk result (tx.new.conn.now.schema ≡ tx.old.conn.now.schema) }
+    ensures others { S.honest ≡ true →
+        OnOk result (KeepsTables (state S.Store tx.old.conn.now).now (state S.Store tx.new.conn.now).now table) }
+    ensures refused { IfErr result (OnlyBy (λ c. (c ≡ NotUnique)
+        × (S.honest ≡ true → repeats_key gone.now (map tuple fresh.now) (entries_in (state S.Store tx.old.conn.now).now table) ≡ true))) }
+    ensures inside { S.honest ≡ true → OnOk result (IsTrue tx.new.conn.now.in_transaction) }
+    ensures kept { S.honest ≡ true → (state S.Store tx.new.conn.now).committed ≡ (state S.Store tx.old.conn.now).committed }
+{
+    match delete_all(tx, table, gone) {
+        Ok(()) => insert_all(tx, table, fresh),
+        Err(fault) => Err(fault),
+    }
+}
+
+/// Changes the rows of a table as one transaction: those of some keys are taken out, then these rows are put in, each in its place by key.
+///
+/// Each new row is of the table's types and has a key. No key is then there twice. Refused, the rows are as they were; by 23505 alone where a key of a new row stands
+/// twice among them or is that of a row that stays. No transaction is under way after it.
+pub fn rewrite<S: SourceStore>(
+    conn: &mut Connection<S>,
+    table: u64,
+    gone: &[i64],
+    fresh: &[Row],
+) -> Result<(), Fault>
+    requires idle { conn.old.in_transaction ≡ false }
+    requires writable { S.honest ≡ true → ∥ IsWritable conn.old.schema table ∥₁ }
+    requires fits { All (λ r. has_place table (tuple r) ≡ true) fresh.now }
+    ensures rows { S.honest ≡ true → OnOk result (entries_in (state S.Store conn.new).now table
+        ≡ rewritten gone.now (map tuple fresh.now) (entries_in (state S.Store conn.old).now table)) }
+    ensures free { S.honest ≡ true
+        → OnOk result (repeats_key gone.now (map tuple fresh.now) (entries_in (state S.Store conn.old).now table) ≡ false) }
+    ensures lasts { S.honest ≡ true → OnOk result ((state S.Store conn.new).committed ≡ (state S.Store conn.new).now) }
+    ensures schema { S.honest ≡ true → conn.new.schema ≡ conn.old.schema }
+    ensures others { S.honest ≡ true → OnOk result (KeepsTables (state S.Store conn.old).now (state S.Store conn.new).now table) }
+    ensures same { S.honest ≡ true → OnErr result ((state S.Store conn.new).now ≡ (state S.Store conn.old).now) }
+    ensures refused { IfErr result (OnlyBy (λ c. (c ≡ NotUnique)
+        × (S.honest ≡ true → repeats_key gone.now (map tuple fresh.now) (entries_in (state S.Store conn.old).now table) ≡ true))) }
+    ensures idle { conn.new.in_transaction ≡ false }
+{
+    let _idle = conn.is_autocommit();
+    let _schema = conn.schema();
+    let mut tx = conn.transaction();
+    change_rows(&mut tx, table, gone, fresh)?;
+    match tx.commit() {
+        Ok(()) => Ok(()),
+        Err(error) => Err(fault_of(error)),
+    }
+}
+
+/// The entries of a table stand in the order of their keys, where its store always returns what was written.
+pub fn entries_rise<S: SourceStore>(conn: &Connection<S>, table: u64)
+    requires writable { S.honest ≡ true → ∥ IsWritable conn.now.schema table ∥₁ }
+    ensures { S.honest ≡ true → IsShaped shape.Table (entries_in (state S.Store conn.now).now table) }
+{
+    let _table = table;
+    let _schema = conn.schema();
+}

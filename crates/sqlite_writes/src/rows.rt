@@ -1,0 +1,101 @@
+//! Rows that are taken out of a table and put into one, inside a transaction.
+ghost use Rattle.std.specs.Prelude.{◌≡◌, true, false, Some, IsTrue, IfErr, OnOk};
+ghost use Rattle.sqlite.specs.Held.{state};
+ghost use Rattle.sqlite.specs.View.{IsShaped};
+ghost use Rattle.sqlite.specs.Tree.{without_rowid, put_row};
+ghost use Rattle.sqlite.specs.Edit.{is_taken};
+ghost use Rattle.sqlite_trees.specs.declared.store.Shape.TheVariants as shape;
+ghost use Rattle.med_value.specs.Datum.{datum};
+ghost use Rattle.med_value.specs.declared.cause.Cause.TheVariants.{NotUnique};
+ghost use Rattle.fdw_api.specs.Calls.{not_refused};
+ghost use Rattle.fdw_api.specs.Scan.{cell_fits};
+ghost use Rattle.sqlite_cells.specs.Layouts.{layout_at};
+ghost use Rattle.sqlite_cells.specs.Tables.{entries_in};
+ghost use Rattle.sqlite_cells.specs.Refusing.{OnlyBy};
+ghost use Rattle.sqlite_writes.specs.Writable.{IsWritable, KeepsTables};
+ghost use Rattle.sqlite_writes.specs.Stored.{stored_row, taken_key};
+
+use crate::statements::{delete, insert};
+use crate::texts::{delete_text, insert_text};
+use fdw_api::interface::Fault;
+use med_value::{Cause, Value};
+use sqlite::{Constraint, Error, ErrorCode, Transaction};
+use sqlite_cells::fault_of;
+use sqlite_shapes::SourceStore;
+
+/// Takes the row of a key out of a table, inside a transaction: where there is none, nothing changes.
+///
+/// Refused, no cause is told, and what was committed last stays so.
+pub fn delete_row<S: SourceStore>(
+    tx: &mut Transaction<'_, S>,
+    table: u64,
+    key: i64,
+) -> Result<(), Fault>
+    requires inside { S.honest ≡ true → IsTrue tx.old.conn.now.in_transaction }
+    requires writable { S.honest ≡ true → ∥ IsWritable tx.old.conn.now.schema table ∥₁ }
+    requires ordered { S.honest ≡ true → IsShaped shape.Table (entries_in (state S.Store tx.old.conn.now).now table) }
+    ensures same_reference { tx.new.conn.ghost_name ≡ tx.old.conn.ghost_name }
+    ensures rows { S.honest ≡ true → OnOk result (entries_in (state S.Store tx.new.conn.now).now table
+        ≡ without_rowid key (entries_in (state S.Store tx.old.conn.now).now table)) }
+    ensures ordered { S.honest ≡ true → OnOk result (IsShaped shape.Table (entries_in (state S.Store tx.new.conn.now).now table)) }
+    ensures schema { S.honest ≡ true → OnOk result (tx.new.conn.now.schema ≡ tx.old.conn.now.schema) }
+    ensures others { S.honest ≡ true →
+        OnOk result (KeepsTables (state S.Store tx.old.conn.now).now (state S.Store tx.new.conn.now).now table) }
+    ensures refused { IfErr result not_refused }
+    ensures inside { S.honest ≡ true → OnOk result (IsTrue tx.new.conn.now.in_transaction) }
+    ensures kept { S.honest ≡ true → (state S.Store tx.new.conn.now).committed ≡ (state S.Store tx.old.conn.now).committed }
+{
+    match delete(tx, delete_text(table), key) {
+        Ok(()) => Ok(()),
+        Err(error) => Err(fault_of(error)),
+    }
+}
+
+// What a refusal of an INSERT is to its caller: a repeated key (23505), want of memory, else a failure of the source.
+fn fault_of_insert(error: Error) -> Fault
+    ensures taken { error ≡ taken_key → result ≡ Fault.Refused NotUnique }
+    ensures memory { error ≡ Error.SqliteFailure ErrorCode.OutOfMemory → result ≡ Fault.NoMemory }
+    ensures refused { OnlyBy (λ c. (c ≡ NotUnique) × (error ≡ taken_key)) result }
+{
+    match error {
+        Error::SqliteFailure(ErrorCode::ConstraintViolation(Constraint::PrimaryKey)) =>
+            Fault::Refused(Cause::NotUnique),
+        other => fault_of(other),
+    }
+}
+
+/// Puts a row of a key and two further cells into a table, in its place by key, inside a transaction.
+///
+/// Refused by 23505, the table has a row of this key; no other cause is told. What was committed last stays so.
+pub fn insert_row<'x, S: SourceStore>(
+    tx: &mut Transaction<'_, S>,
+    table: u64,
+    key: i64,
+    second: &'x Value,
+    third: &'x Value,
+) -> Result<(), Fault>
+    requires inside { S.honest ≡ true → IsTrue tx.old.conn.now.in_transaction }
+    requires writable { S.honest ≡ true → ∥ IsWritable tx.old.conn.now.schema table ∥₁ }
+    requires ordered { S.honest ≡ true → IsShaped shape.Table (entries_in (state S.Store tx.old.conn.now).now table) }
+    requires second { cell_fits (Some (layout_at table).second) (datum second.now) ≡ true }
+    requires third { cell_fits (Some (layout_at table).third) (datum third.now) ≡ true }
+    ensures same_reference { tx.new.conn.ghost_name ≡ tx.old.conn.ghost_name }
+    ensures rows { S.honest ≡ true → OnOk result (entries_in (state S.Store tx.new.conn.now).now table
+        ≡ put_row (stored_row key (datum second.now) (datum third.now)) (entries_in (state S.Store tx.old.conn.now).now table)) }
+    ensures free { S.honest ≡ true → OnOk result (is_taken (entries_in (state S.Store tx.old.conn.now).now table)
+        (stored_row key (datum second.now) (datum third.now)) ≡ false) }
+    ensures ordered { S.honest ≡ true → OnOk result (IsShaped shape.Table (entries_in (state S.Store tx.new.conn.now).now table)) }
+    ensures schema { S.honest ≡ true → OnOk result (tx.new.conn.now.schema ≡ tx.old.conn.now.schema) }
+    ensures others { S.honest ≡ true →
+        OnOk result (KeepsTables (state S.Store tx.old.conn.now).now (state S.Store tx.new.conn.now).now table) }
+    ensures refused { IfErr result (OnlyBy (λ c. (c ≡ NotUnique)
+        × (S.honest ≡ true → is_taken (entries_in (state S.Store tx.old.conn.now).now table)
+        (stored_row key (datum second.now) (datum third.now)) ≡ true))) }
+    ensures inside { S.honest ≡ true → OnOk result (IsTrue tx.new.conn.now.in_transaction) }
+    ensures kept { S.honest ≡ true → (state S.Store tx.new.conn.now).committed ≡ (state S.Store tx.old.conn.now).committed }
+{
+    match insert(tx, insert_text(table), key, second, third) {
+        Ok(()) => Ok(()),
+        Err(error) => Err(fault_of_insert(error)),
+    }
+}

@@ -1,0 +1,3 @@
+pub mod WritingParts
+pub mod WriteSpelled
+pub mod WritePrints

@@ -1,0 +1,81 @@
+//! An engine over the demo list in a box, and what it replies.
+ghost use Rattle.fed_cli.specs.Demo.{demo_list};
+ghost use Rattle.list_wrapper.specs.ListBoxes.{box_of};
+ghost use Rattle.list_wrapper.specs.Lists.{IsNewList};
+ghost use Rattle.med_session.specs.Engine.{IsSound};
+ghost use Rattle.med_session.specs.Shows.{shown};
+ghost use Rattle.probe_wrapper.specs.Failing.{failed};
+ghost use Rattle.std.specs.Prelude.{IfOk};
+
+use fdw_api::interface::Wrapper;
+use fed_cli::demo::demo_tables;
+use fed_cli::program::add_demo;
+use fed_cli::told::RunFault;
+use list_wrapper::ListWrapper;
+use med_session::{Engine, NoRoom, Request, Sid};
+use med_value::NoMemory;
+use probe_wrapper::Failing;
+use std::alloc::Global;
+use std::test::Fail;
+
+// The reply where the session is opened.
+const OPENED: &[u8] = b"1 T OPEN\n";
+
+/// The demo list.
+pub fn new_list(alloc: Global) -> Result<ListWrapper, NoMemory>
+    ensures { IfOk result (λ w. IsNewList (box_of w) demo_list) }
+{
+    ListWrapper::new(alloc, demo_tables(alloc)?)
+}
+
+/// A box round another, that fails once, after so many calls.
+pub fn in_failing<W: Wrapper>(inner: W, passes: u64) -> Failing<W>
+    requires { IsNewList (W.meaning inner) demo_list }
+    ensures { IsNewList (failed (W.meaning result.inner) result.failure) demo_list }
+{
+    Failing::new(inner, passes)
+}
+
+// Asks in session 1: the reply alone stands in `out` then.
+fn request<W: Wrapper>(
+    engine: &mut Engine<W>,
+    request: Request<'_>,
+    out: &mut Vec<u8>,
+) -> Result<(), NoRoom>
+    requires { IsSound (shown W.meaning engine.old) }
+    ensures { IsSound (shown W.meaning engine.new) }
+{
+    let Some(sid) = Sid::new(1) else {
+        return Err(NoRoom);
+    };
+    out.clear();
+    engine.request(sid, request, out)
+}
+
+/// Asks for a statement in session 1: the reply alone stands in `out` then.
+pub fn ask<W: Wrapper>(engine: &mut Engine<W>, sql: &str, out: &mut Vec<u8>) -> Result<(), Fail>
+    requires { IsSound (shown W.meaning engine.old) }
+    ensures { IsSound (shown W.meaning engine.new) }
+{
+    request(engine, Request::Sql(sql), out)?;
+    Ok(())
+}
+
+/// An engine over the demo list in this box, whose owner has opened session 1.
+pub fn engine_over<W: Wrapper>(
+    alloc: Global,
+    list: W,
+    out: &mut Vec<u8>,
+) -> Result<Engine<W>, RunFault<'static>>
+    requires { IsNewList (W.meaning list) demo_list }
+    ensures { IfOk result (λ engine. IsSound (shown W.meaning engine)) }
+{
+    let Ok(mut engine) = Engine::<W>::new(alloc, "admin") else {
+        return Err(RunFault::NoMemory);
+    };
+    add_demo(alloc, &mut engine, "admin", "demo", list)?;
+    match request(&mut engine, Request::Open("admin"), out) {
+        Ok(()) if out.as_slice() == OPENED => Ok(engine),
+        _ => Err(RunFault::NoMemory),
+    }
+}

@@ -1,0 +1,3 @@
+PRAGMA page_size = 512;
+CREATE TABLE people (id INTEGER PRIMARY KEY, name TEXT, active INTEGER);
+INSERT INTO people VALUES (1, CAST(x'41ff' AS TEXT), 1);

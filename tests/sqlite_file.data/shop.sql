@@ -1,0 +1,9 @@
+PRAGMA page_size = 1024;
+CREATE TABLE orders (id INTEGER PRIMARY KEY, part INTEGER, n INTEGER);
+CREATE TABLE people (id INTEGER PRIMARY KEY, name TEXT, active INTEGER);
+CREATE TABLE notes (at TEXT, line TEXT);
+WITH RECURSIVE numbers(i) AS (SELECT 1 UNION ALL SELECT i + 1 FROM numbers LIMIT 70)
+INSERT INTO orders SELECT i * 3, i % 4, CASE WHEN i % 10 = 0 THEN NULL ELSE i END FROM numbers;
+INSERT INTO orders VALUES (-9223372036854775808, NULL, 9223372036854775807), (9223372036854775807, 5, -1);
+INSERT INTO people VALUES (1, 'Ada', 1), (2, 'Bo, Jr.', 0), (-3, '', NULL), (4, NULL, 1), (5, 'naïve 猫', 0);
+INSERT INTO notes VALUES ('monday', 'not for others');
