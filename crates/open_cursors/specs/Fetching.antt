@@ -1,0 +1,30 @@
+-- What FETCH and CLOSE do to the boxes, and why FETCH fails (SQL:2016, <fetch statement>, <close statement>; PostgreSQL: Writing a
+-- Foreign Data Wrapper, IterateForeignScan, EndForeignScan).
+use Rattle.std.specs.Prelude.{◌≡◌, ◌<◌, ◌≤◌, ◌⊎◌, List, ◌++◌, length, Option}
+use Rattle.med_value.specs.Datum.{Tuple}
+use Rattle.med_value.specs.declared.cause.Cause.{Cause}
+use Rattle.med_value.specs.declared.cause.Cause.TheVariants.{OutOfMemory, SourceFault}
+use Rattle.fdw_api.specs.State.{BoxState}
+use Rattle.cursor_syntax.specs.CursorTree.{CountTree, some_rows, all_rows}
+use Rattle.med_exec.specs.declared.running.Run.{Run}
+use Rattle.med_exec.specs.Running.{AllHonest, AllServed, ServesRun, SlotShows, HasFailed, none_held}
+use Rattle.med_exec.specs.Rests.{Rests, held, IsRunning}
+
+-- so many rows are as many as were asked for, or fewer, which are all that were left
+abbrev pub AreEnough : CountTree → List Tuple → (List Tuple → Type 0) → Type 0
+AreEnough (some_rows n) rows rests = (length rows ≡ n) ⊎ ((length rows < n) × rests rows)
+AreEnough all_rows rows rests = rests rows
+
+-- A run gave rows: followed by what it may give then, they are what it could give before.
+pub record GivesRows (run : Run) (asked : CountTree) (old : List (Option BoxState)) (rows : List Tuple) (after : Run)
+    (new : List (Option BoxState)) : Type 0 where
+  pub served : ServesRun (held run) (held after) old new
+  pub running : IsRunning after new
+  pub some : AllHonest old → (left : List Tuple) × Rests after new left
+  pub gives : AllHonest old → (left : List Tuple) → Rests after new left → Rests run old (rows ++ left)
+  pub enough : AllHonest old → AreEnough asked rows (Rests run old)
+
+-- why it gave none, once it was asked for a row: memory was refused, or a source failed
+pub data GivesNone (c : Cause) (old new : List (Option BoxState)) : Type 0 where
+  no_memory : c ≡ OutOfMemory → GivesNone c old new
+  box_fails : c ≡ SourceFault → SlotShows old new HasFailed → GivesNone c old new

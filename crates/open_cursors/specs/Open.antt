@@ -1,0 +1,59 @@
+-- Cursors that are open, as an engine holds them (SQL:2016, <declare cursor>; ISO/IEC 9075-2, 14 "Data manipulation").
+use Rattle.std.specs.Prelude.{Bool, false, List, [], ◌∷◌, ◌++◌, map, filter, find, not, cond, Option, Some, None, bytes_eq, string_bytes}
+use Rattle.std.specs.List.{list_any}
+use Rattle.med_value.specs.Datum.{Tuple}
+use Rattle.med_syntax.specs.Tree.{Name}
+use Rattle.med_exec.specs.declared.running.Run.{Run}
+use Rattle.open_cursors.specs.declared.cursors.OpenCursor.{OpenCursor}
+use Rattle.open_cursors.specs.declared.cursors.Seat.{Seat}
+
+-- an open cursor: its name, its output names, the tables that it leases, one for each entry of FROM, and its run
+pub record Opened : Type 0 where
+  pub name : Name
+  pub names : List Name
+  pub leases : List Name
+  pub run : Run
+
+-- an open session: its user, and its cursors in the order in which they were declared
+pub record Seated : Type 0 where
+  pub user : Name
+  pub cursors : List Opened
+
+abbrev pub opened : OpenCursor → Opened
+opened c = record { name = string_bytes c.name; names = map string_bytes c.names.items; leases = map string_bytes c.leases.items; run = c.run }
+
+abbrev pub seated : Seat → Seated
+seated s = record { user = string_bytes s.user; cursors = map opened s.cursors.items }
+
+-- ---- by name
+
+abbrev pub has_name : Name → Opened → Bool
+has_name name c = bytes_eq c.name name
+
+-- the cursor of this name
+abbrev pub opened_named : Name → List Opened → Option Opened
+opened_named name cursors = find (has_name name) cursors
+
+-- all but those of this name
+abbrev pub without_named : Name → List Opened → List Opened
+without_named name cursors = filter (λ c. not (has_name name c)) cursors
+
+-- the one of this name runs on from here
+abbrev pub runs_on : Name → Run → Opened → Opened
+runs_on name run c = cond (has_name name c) (record c { run = run }) c
+
+abbrev pub with_run : Name → Run → List Opened → List Opened
+with_run name run cursors = map (runs_on name run) cursors
+
+-- ---- leases
+
+-- this cursor, one of these, or one of any session reads the table of this name
+abbrev pub leases_table : Name → Opened → Bool
+leases_table table c = list_any (bytes_eq table) c.leases
+
+abbrev pub seat_leases : Name → Option Seated → Bool
+seat_leases table None = false
+seat_leases table (Some s) = list_any (leases_table table) s.cursors
+
+abbrev pub any_leases : List (Option Seated) → Name → Bool
+any_leases seats table = list_any (seat_leases table) seats

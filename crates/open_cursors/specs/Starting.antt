@@ -1,0 +1,76 @@
+-- What DECLARE does to the boxes, and why it is refused (SQL:2016, <declare cursor>; PostgreSQL: Writing a Foreign Data Wrapper,
+-- BeginForeignScan).
+use Rattle.std.specs.Prelude.{◌≡◌, ◌<◌, ◌≤◌, Bool, true, false, List, [], ◌++◌, length, Option, Some, None}
+use Rattle.std.specs.List.{list_any}
+use Rattle.tri_expr.specs.Tree.{Tree}
+use Rattle.tri_expr.specs.TreeParts.{is_risky_tree}
+use Rattle.med_value.specs.Datum.{Tuple}
+use Rattle.med_value.specs.declared.cause.Cause.{Cause}
+use Rattle.med_value.specs.declared.cause.Cause.TheVariants.{FeatureNotSupported, LimitExceeded, OutOfMemory, SourceFault}
+use Rattle.med_syntax.specs.Tree.{Name}
+use Rattle.med_syntax.specs.QueryTree.{SelectTree}
+use Rattle.med_query.specs.Query.{Query, Tables, SameRows, IsAnswer}
+use Rattle.med_query.specs.Form.{Form, GroupForm, query_by}
+use Rattle.fdw_api.specs.State.{BoxState}
+use Rattle.pushdown.specs.Offered.{Place}
+use Rattle.med_planner.specs.Planned.{entry_rows, QueryCauses}
+use Rattle.med_exec.specs.declared.running.Run.{Run}
+use Rattle.med_exec.specs.Running.{AllHonest, AllServed, ServesRun, SlotShows, HasFailed, IsUsedUp, none_held}
+use Rattle.med_exec.specs.Rests.{Rests, held, IsRunning}
+use Rattle.med_catalog.specs.Objects.{Objects}
+use Rattle.bind_catalog.specs.Queries.{meant_by, IsBindable, NotBound}
+use Rattle.bind_catalog.specs.Places.{Attached, ArePlaces}
+
+-- ---- a query that may fault, which no cursor has: 0A000
+
+abbrev pub group_trees : Option GroupForm → List Tree
+group_trees None = []
+group_trees (Some g) = g.arguments ++ g.having
+
+-- An expression of the query is risky; those of ON never are in a query that is bound.
+abbrev pub is_risky_form : Form → Bool
+is_risky_form f = list_any is_risky_tree (f.conditions ++ (group_trees f.group ++ (f.items ++ f.keys)))
+
+-- ---- a run that is begun
+
+-- In whatever order the rows of its entries come, what the run may still give are answers over them, and no cause of the query stands.
+pub record RestsOver (q : Query) (places : List Place) (boxes : List (Option BoxState)) (rests : List Tuple → Type 0) : Type 0 where
+  pub some : AllHonest boxes → (rows : List Tuple) × rests rows
+  pub answers : AllHonest boxes → (db : Tables) → SameRows (entry_rows boxes places) db → (rows : List Tuple) → rests rows
+      → IsAnswer q db rows
+  pub clear : AllHonest boxes → (db : Tables) → SameRows (entry_rows boxes places) db → (c : Cause) → QueryCauses q db c → ⊥
+
+-- The query of a cursor was begun over the boxes, and runs.
+pub record Starts (o : Objects) (user : Name) (bound : List Attached) (q : SelectTree) (full : Bool) (old : List (Option BoxState))
+    (names : List Name) (run : Run) (new : List (Option BoxState)) : Type 0 where
+  pub bindable : IsBindable o user q
+  pub safe : is_risky_form (meant_by o q).form ≡ false
+  pub room : full ≡ false
+  pub few : length (meant_by o q).entries ≤ 8
+  pub named : names ≡ (meant_by o q).names
+  pub served : ServesRun none_held (held run) old new
+  pub running : IsRunning run new
+  pub places : List Place
+  pub are : ArePlaces bound (meant_by o q).entries places
+  pub rests : RestsOver (query_by (meant_by o q).form) places old (Rests run new)
+
+-- why the run of a query was not begun
+pub data RunFails (q : Query) (places : List Place) (c : Cause) (old new : List (Option BoxState)) : Type 0 where
+  no_memory : c ≡ OutOfMemory → RunFails q places c old new
+  box_fails : c ≡ SourceFault → SlotShows old new HasFailed → RunFails q places c old new
+  numbers_out : c ≡ LimitExceeded → SlotShows old new IsUsedUp → RunFails q places c old new
+  shows_cause : (AllHonest old → (db : Tables) → SameRows (entry_rows old places) db → QueryCauses q db c) → RunFails q places c old new
+
+-- Why it was not begun. `full` says that the session has as many cursors as it may have.
+pub data StartFails (o : Objects) (user : Name) (bound : List Attached) (q : SelectTree) (full : Bool) (old : List (Option BoxState))
+    (c : Cause) (new : List (Option BoxState)) : Type 0 where
+  not_bound : NotBound o user q c → new ≡ old → StartFails o user bound q full old c new
+  is_risky : IsBindable o user q → is_risky_form (meant_by o q).form ≡ true → c ≡ FeatureNotSupported → new ≡ old
+      → StartFails o user bound q full old c new
+  no_room : IsBindable o user q → is_risky_form (meant_by o q).form ≡ false → full ≡ true → c ≡ LimitExceeded → new ≡ old
+      → StartFails o user bound q full old c new
+  too_many : IsBindable o user q → is_risky_form (meant_by o q).form ≡ false → 8 < length (meant_by o q).entries → c ≡ LimitExceeded
+      → new ≡ old → StartFails o user bound q full old c new
+  run_fails : IsBindable o user q → is_risky_form (meant_by o q).form ≡ false → full ≡ false → length (meant_by o q).entries ≤ 8
+      → AllServed old new → (places : List Place) → ArePlaces bound (meant_by o q).entries places
+      → RunFails (query_by (meant_by o q).form) places c old new → StartFails o user bound q full old c new
