@@ -3,6 +3,7 @@
 use med_exec::Run;
 
 /// An open cursor (SQL:2016, 14.1 <declare cursor>).
+#[derive(Drop)]
 pub struct OpenCursor {
     pub name: String,
     /// The names of the columns of its rows.
@@ -14,6 +15,7 @@ pub struct OpenCursor {
 }
 
 /// An open session: its user and its cursors.
+#[derive(Drop)]
 pub struct Seat {
     pub user: String,
     pub cursors: Vec<OpenCursor>,
