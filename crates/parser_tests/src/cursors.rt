@@ -10,7 +10,8 @@ fn cursors(rt: HostRuntime) -> Result<(), Fail> {
         rt.alloc(),
         &rt,
         "DECLARE c CURSOR FOR SELECT no FROM orders => DECLARE \"c\" CURSOR FOR SELECT \"no\" FROM \"orders\"\n\
-        declare C insensitive no scroll cursor with hold for select a b from T; => DECLARE \"c\" CURSOR FOR SELECT \"a\" AS \"b\" FROM \"t\"\n\
+        declare C insensitive no scroll cursor with hold for select a b from T; \
+        => DECLARE \"c\" CURSOR FOR SELECT \"a\" AS \"b\" FROM \"t\"\n\
         DECLARE c INSENSITIVE CURSOR FOR SELECT 1 => DECLARE \"c\" CURSOR FOR SELECT 1\n\
         DECLARE c NO SCROLL CURSOR FOR SELECT 1 => DECLARE \"c\" CURSOR FOR SELECT 1\n\
         DECLARE c CURSOR WITH HOLD FOR SELECT 1; => DECLARE \"c\" CURSOR FOR SELECT 1\n\
