@@ -1,5 +1,5 @@
 -- Cursors that are open, as an engine holds them (SQL:2016, <declare cursor>; ISO/IEC 9075-2, 14 "Data manipulation").
-use Rattle.std.specs.Prelude.{ℕ, Bool, false, List, length, map, filter, find, not, cond, flat_map, nat_le, Option, Some, None, option_map, bytes_eq, string_bytes}
+use Rattle.std.specs.Prelude.{Bool, false, List, length, map, filter, find, not, cond, flat_map, nat_le, Option, Some, None, option_map, bytes_eq, string_bytes}
 use Rattle.std.specs.List.{All, IsDistinct, list_any}
 use Rattle.med_syntax.specs.Tree.{Name}
 use Rattle.fdw_api.specs.State.{BoxState}
