@@ -19,6 +19,7 @@ mod Answering
 mod Phases
 mod Querying
 mod CursorCausing
+mod Leases
 mod Serving
 mod Sessions
 mod AnyRows
