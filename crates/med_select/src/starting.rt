@@ -3,25 +3,20 @@ ghost use Rattle.bind_catalog.specs.Looked.{query_in};
 ghost use Rattle.bind_catalog.specs.Places.{attached};
 ghost use Rattle.bind_catalog.specs.Tables.{AreNamedOnce};
 ghost use Rattle.med_catalog.specs.View.{objects};
-ghost use Rattle.med_exec.specs.Rests.{Rests, held, IsRunning};
-ghost use Rattle.med_exec.specs.Running.{ServesRun, AllServed, Stops, Begun, none_held};
 ghost use Rattle.med_exec.specs.Slots.{states, HasTable};
-ghost use Rattle.med_query.specs.Select.{query_of, is_safe_from};
 ghost use Rattle.med_syntax.specs.QueryView.{statement_tree};
 ghost use Rattle.open_cursors.specs.Starting.{leases_of, Starts, StartFails};
-ghost use Rattle.pushdown.specs.Offered.{entry_place};
-ghost use Rattle.std.specs.Prelude.{◌≡◌, length, map, true, All, IfOk, IfErr, string_bytes};
+ghost use Rattle.std.specs.Prelude.{◌≡◌, length, map, All, IfOk, IfErr, string_bytes};
 
 use crate::fault::cause_of;
 use crate::leasing::leased_tables;
 use crate::risk::is_risky_query;
-use crate::selecting::{ENTRIES, planned};
+use crate::selecting::{ENTRIES, begun};
 use bind_catalog::{BoundTable, bind};
-use fdw_api::interface::{Fault, Wrapper};
-use med_binder::Bound;
+use fdw_api::interface::Wrapper;
 use med_catalog::Catalog;
 use med_exec::law::services_join;
-use med_exec::running::{Run, start};
+use med_exec::running::Run;
 use med_planner::law::causes_ignore_order;
 use med_query::law::{answers_ignore_order, expressions_ignore_order};
 use med_syntax::Statement;
@@ -36,27 +31,6 @@ pub struct Started {
     pub leases: Vec<String>,
     /// The rows that it has to give.
     pub run: Run,
-}
-
-// Begins the run of a bound query.
-fn begun<W: Wrapper>(slots: &mut Vec<Option<W>>, alloc: Global, bound: &Bound) -> Result<Run, Fault>
-    requires bound { All (λ e. HasTable (states W.meaning slots.old.items) e.source e.table.number) bound.now.entries.items }
-    requires safe { is_safe_from bound.now.select.from.items ≡ true }
-    ensures boxes { IfOk result (λ run. ServesRun none_held (held run)
-        (states W.meaning slots.old.items) (states W.meaning slots.new.items)) }
-    ensures running { IfOk result (λ run. IsRunning run (states W.meaning slots.new.items)) }
-    ensures ok { IfOk result (λ run. Begun (query_of bound.now.select) (map entry_place bound.now.entries.items)
-        (Rests run (states W.meaning slots.new.items)) (states W.meaning slots.old.items)) }
-    ensures ended { IfErr result (λ fault. AllServed (states W.meaning slots.old.items) (states W.meaning slots.new.items)) }
-    ensures err { IfErr result (λ fault. Stops (query_of bound.now.select) (map entry_place bound.now.entries.items) fault
-        (states W.meaning slots.old.items) (states W.meaning slots.new.items)) }
-{
-    services_join();
-    let plan = match planned(slots, alloc, bound) {
-        Ok(plan) => plan,
-        Err(fault) => return Err(fault),
-    };
-    start(alloc, plan, slots)
 }
 
 /// Begins a query over the tables of a catalogue, each of which is bound in the box of its source, for a cursor of a session that

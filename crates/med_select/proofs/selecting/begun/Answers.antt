@@ -2,7 +2,7 @@ use Rattle.std.proofs.Common.{map}
 use Rattle.med_query.specs.Select.{query_of}
 use Rattle.pushdown.specs.Offered.{entry_place}
 use Rattle.med_select.proofs.Selections.{err_follows}
-use Rattle.med_select.proofs.starting.begun.Goals as goal
+use Rattle.med_select.proofs.selecting.begun.Goals as goal
 
 pub returns-clause-err : goal.returns-clause-err
 returns-clause-err g c =
