@@ -20,6 +20,7 @@ mod Phases
 mod Querying
 mod CursorCausing
 mod Leases
+mod CursorRows
 mod Serving
 mod Sessions
 mod AnyRows

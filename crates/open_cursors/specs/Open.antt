@@ -22,7 +22,12 @@ pub record Seated : Type 0 where
   pub cursors : List Opened
 
 abbrev pub opened : OpenCursor → Opened
-opened c = record { name = string_bytes c.name; names = map string_bytes c.names.items; leases = map string_bytes c.leases.items; run = c.run }
+opened c = record {
+  name = string_bytes c.name;
+  names = map string_bytes c.names.items;
+  leases = map string_bytes c.leases.items;
+  run = c.run;
+}
 
 abbrev pub seated : Seat → Seated
 seated s = record { user = string_bytes s.user; cursors = map opened s.cursors.items }
