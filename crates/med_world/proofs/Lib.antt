@@ -21,6 +21,10 @@ mod Querying
 mod CursorCausing
 mod Leases
 mod CursorRows
+mod CursorLists
+mod CursorSeats
+mod Declaring
+mod Turns
 mod Serving
 mod Sessions
 mod AnyRows
