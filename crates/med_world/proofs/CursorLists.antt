@@ -1,16 +1,15 @@
 -- Cursors of an engine beside those of a world: the cursor of a name, one more, one fewer, and one that runs on.
-use Rattle.std.proofs.Common.{◌≡◌, ℕ, ◌≤◌, ◌||◌, Bool, true, false, not, cond, List, [], ◌∷◌, ◌++◌, Option, Some, None, is_some, Contains, find, filter, slice_get, length, map, refl, ap, sym, ◌∙◌, subst, zero, suc, arith, bytes_eq}
+use Rattle.std.proofs.Common.{◌≡◌, ℕ, ◌≤◌, ◌||◌, Bool, true, false, not, cond, List, [], ◌∷◌, ◌++◌, Option, Some, None, is_some, find, filter, slice_get, length, map, refl, ap, sym, ◌∙◌, subst, zero, suc, arith, bytes_eq}
 use Rattle.std.specs.List.{IsDistinct, AllByRecursion, list_any}
-use Rattle.std.proofs.lemmas.Bool.{false≢true}
 use Rattle.std.proofs.lemmas.List.{map-append}
 use Rattle.med_value.specs.Datum.{Tuple}
 use Rattle.med_syntax.specs.Tree.{Name}
 use Rattle.fdw_api.specs.State.{BoxState}
 use Rattle.med_exec.specs.declared.running.Run.{Run}
-use Rattle.open_cursors.specs.Open.{Opened, Seated, AreNamedApart, has_name, opened_named, without_named, runs_on, with_run}
-use Rattle.med_world.specs.World.{World, Cursor, Session, reads_table}
+use Rattle.open_cursors.specs.Open.{Opened, AreNamedApart, has_name, opened_named, without_named, runs_on, with_run}
+use Rattle.med_world.specs.World.{World, Cursor, reads_table}
 use Rattle.med_world.specs.Cursors.{is_cursor, hand_out}
-use Rattle.med_world.specs.Seats.{CursorAgrees, CursorsAgree, SeatAgrees}
+use Rattle.med_world.specs.Seats.{CursorAgrees, CursorsAgree}
 use Rattle.med_world.proofs.Lists.{some_same, bytes_same, other_bytes, bytes_other}
 use Rattle.med_world.proofs.Named.{none_later, distinct_push}
 use Rattle.med_world.proofs.Seats.{StandsOn, cursor_stays, or_true}

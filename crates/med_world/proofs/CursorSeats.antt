@@ -1,5 +1,5 @@
 -- The session of a statement on cursors, in the engine and in a world that agrees; and engines that stay sound as its cursors change.
-use Rattle.std.proofs.Common.{◌≡◌, ℕ, ◌+◌, ◌-◌, ◌<◌, ◌≤◌, Bool, true, false, not, List, [], ◌∷◌, ◌++◌, Option, Some, None, IsSome, is_some, Contains, find, length, slice_get, slice_set, refl, ap, sym, ◌∙◌, subst, arith}
+use Rattle.std.proofs.Common.{◌≡◌, ℕ, ◌+◌, ◌-◌, ◌<◌, ◌≤◌, true, false, not, List, [], ◌∷◌, ◌++◌, Option, Some, None, IsSome, is_some, length, slice_get, refl, ap, sym, ◌∙◌, subst, arith}
 use Rattle.std.proofs.lemmas.Bool.{false≢true, leb-true, leb-false}
 use Rattle.std.proofs.lemmas.List.{length_push}
 use Rattle.med_value.specs.Datum.{Tuple}
@@ -8,8 +8,7 @@ use Rattle.med_syntax.specs.Tree.{Name}
 use Rattle.med_syntax.specs.QueryTree.{SelectTree}
 use Rattle.fdw_api.specs.State.{BoxState}
 use Rattle.med_exec.specs.declared.running.Run.{Run}
-use Rattle.med_exec.specs.Running.{ServesRun, AllServed, none_held}
-use Rattle.med_exec.specs.Rests.{held}
+use Rattle.med_exec.specs.Running.{AllServed}
 use Rattle.med_exec.proofs.Served.{all_on}
 use Rattle.cursor_syntax.specs.CursorTree.{CountTree, CursorTree}
 use Rattle.med_parser.specs.CommandTree.{on_cursors}
@@ -19,8 +18,8 @@ use Rattle.open_cursors.specs.Fetching.{GivesRows}
 use Rattle.open_cursors.proofs.Names.{still_apart}
 use Rattle.med_world.specs.Requests.{sql, IsSid}
 use Rattle.med_world.specs.Picks.{no_pick}
-use Rattle.med_world.specs.World.{World, Cursor, Session}
-use Rattle.med_world.specs.Cursors.{is_cursor, cursor_named}
+use Rattle.med_world.specs.World.{World, Session}
+use Rattle.med_world.specs.Cursors.{cursor_named}
 use Rattle.med_world.specs.Causes.{IsPickOf}
 use Rattle.med_world.specs.Seats.{seat_in, seat_of, IsSoundSeat, CursorsAgree, SeatAgrees}
 use Rattle.med_world.specs.Engine.{Shown, IsSound, Agrees}
@@ -28,7 +27,7 @@ use Rattle.med_world.specs.Turning.{new_opened, with_cursors, Ends, at_once, lat
 use Rattle.med_world.specs.Laws.{IsRead, with_boxes}
 use Rattle.med_world.proofs.Lists.{some_same}
 use Rattle.med_world.proofs.Seats.{runs_on}
-use Rattle.med_world.proofs.Told.{IsKnownAs, pick_tree}
+use Rattle.med_world.proofs.Told.{pick_tree}
 use Rattle.med_world.proofs.Leading.{cursors_in, session_in, known}
 use Rattle.med_world.proofs.Serving.{serving_sound}
 use Rattle.med_world.proofs.Sessions.{turned_sound}

@@ -1,30 +1,28 @@
 -- DECLARE leads to its reply.
-use Rattle.std.proofs.Common.{◌≡◌, ℕ, ◌<◌, ◌≤◌, true, false, List, [], ◌∷◌, ◌++◌, Option, Some, None, IsSome, is_some, length, codes, refl, ap, sym, ◌∙◌, subst, arith, inl, inr, lit≤}
+use Rattle.std.proofs.Common.{◌≡◌, ℕ, ◌<◌, ◌≤◌, true, false, List, [], ◌∷◌, ◌++◌, Option, Some, None, is_some, length, codes, refl, ap, sym, ◌∙◌, subst, arith, inl, inr, lit≤}
 use Rattle.std.proofs.lemmas.Bool.{false≢true}
-use Rattle.med_value.specs.Datum.{Tuple}
 use Rattle.med_value.specs.declared.cause.Cause.{Cause}
-use Rattle.med_value.specs.declared.cause.Cause.TheVariants.{OutOfMemory, SourceFault, LimitExceeded, FeatureNotSupported, DuplicateCursor}
+use Rattle.med_value.specs.declared.cause.Cause.TheVariants.{LimitExceeded, FeatureNotSupported, DuplicateCursor}
 use Rattle.med_syntax.specs.Tree.{Name}
 use Rattle.med_syntax.specs.QueryTree.{SelectTree, select}
-use Rattle.med_query.specs.Query.{Tables, SameRows, IsAnswer}
+use Rattle.med_query.specs.Query.{Tables, IsAnswer}
 use Rattle.fdw_api.specs.State.{BoxState}
 use Rattle.pushdown.specs.Offered.{Place}
-use Rattle.med_planner.specs.Planned.{entry_rows, QueryCauses}
 use Rattle.med_exec.specs.declared.running.Run.{Run}
-use Rattle.med_exec.specs.Running.{AllServed, SlotShows, HasFailed, IsUsedUp, AllHonest}
+use Rattle.med_exec.specs.Running.{AllServed}
 use Rattle.med_parser.specs.CommandTree.{CommandTree, on_cursors}
 use Rattle.cursor_syntax.specs.CursorTree.{declare}
 use Rattle.bind_names.specs.Meaning.{Meant}
 use Rattle.bind_catalog.specs.Queries.{QueryNames, QueryTypes, meant_by, IsBindable, NotBound}
 use Rattle.bind_catalog.specs.Places.{ArePlaces}
 use Rattle.med_catalog.specs.Objects.{Objects}
-use Rattle.open_cursors.specs.Open.{Opened, Seated, is_full, opened_named}
+use Rattle.open_cursors.specs.Open.{Seated, is_full, opened_named}
 use Rattle.open_cursors.specs.Starting.{is_risky_form, Starts, StartFails, not_bound, is_risky, no_room, too_many, run_fails, RunFails, no_memory, box_fails, numbers_out, shows_cause}
 use Rattle.med_world.specs.Requests.{sql, IsSid}
 use Rattle.med_world.specs.Picks.{no_pick}
-use Rattle.med_world.specs.World.{World, Cursor, Session, rows_in, with_session}
-use Rattle.med_world.specs.Cursors.{with_cursor, cursor_named}
-use Rattle.med_world.specs.Causes.{query_of, entry_tables, meant_over, entries_in, QueryState, QueryRun, SelectCauses, DeclareCauses, exists, of_query, is_risky as may_fault, too_many as is_full_already, phase, NoneBeforeState}
+use Rattle.med_world.specs.World.{World, rows_in, with_session}
+use Rattle.med_world.specs.Cursors.{with_cursor}
+use Rattle.med_world.specs.Causes.{query_of, entry_tables, meant_over, QueryRun, DeclareCauses, exists, of_query, is_risky as may_fault, too_many as is_full_already, phase, NoneBeforeState}
 use Rattle.med_world.specs.Replies.{Reply, done, refused}
 use Rattle.med_world.specs.Steps.{new_cursor, is_done, source_fails, numbers_end}
 use Rattle.med_world.specs.Seats.{seat_of, CursorAgrees, CursorsAgree}
@@ -35,7 +33,7 @@ use Rattle.med_world.proofs.Seats.{stands_still, cursors_stay}
 use Rattle.med_world.proofs.Faring.{none_rises}
 use Rattle.med_world.proofs.Told.{IsKnownAs, told_tree, none_tree, before_tree}
 use Rattle.med_world.proofs.Leading.{cursors_in, session_in, calm, calm_befell, known, leads_refused, leads_memory}
-use Rattle.med_world.proofs.Querying.{ArePhased, ShowsIn, select_phase, from_types, from_state, from_run, run_phase, none_select, bindable_in, same_meant, same_entries, none_many}
+use Rattle.med_world.proofs.Querying.{ArePhased, ShowsIn, from_types, from_state, from_run, run_phase, none_select, bindable_in, same_meant, same_entries, none_many}
 use Rattle.med_world.proofs.Serving.{serving_rises, serving_agrees}
 use Rattle.med_world.proofs.Sessions.{turned_agrees}
 use Rattle.med_world.proofs.CursorCausing.{cursor_phase, least_declare, none_declare}

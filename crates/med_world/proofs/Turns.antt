@@ -1,25 +1,25 @@
 -- FETCH and CLOSE lead to their replies.
-use Rattle.std.proofs.Common.{◌≡◌, ℕ, ◌<◌, ◌≤◌, ◌⊎◌, true, false, not, List, [], ◌∷◌, ◌++◌, Option, Some, None, filter, find, length, map, codes, refl, ap, sym, ◌∙◌, subst, arith, inl, inr}
+use Rattle.std.proofs.Common.{◌≡◌, ℕ, ◌<◌, ◌≤◌, ◌⊎◌, true, false, List, [], ◌++◌, Option, Some, None, find, length, map, codes, refl, ap, sym, ◌∙◌, subst, arith, inl, inr}
 use Rattle.std.proofs.lemmas.Bool.{false≢true}
 use Rattle.std.proofs.lemmas.List.{append_assoc, append-nil}
 use Rattle.med_value.specs.Datum.{Tuple}
 use Rattle.med_value.specs.declared.cause.Cause.{Cause}
-use Rattle.med_value.specs.declared.cause.Cause.TheVariants.{OutOfMemory, SourceFault, InvalidCursorName}
+use Rattle.med_value.specs.declared.cause.Cause.TheVariants.{InvalidCursorName}
 use Rattle.med_syntax.specs.Tree.{Name}
 use Rattle.med_query.specs.Query.{IsAnswer}
 use Rattle.fdw_api.specs.State.{BoxState}
 use Rattle.med_exec.specs.declared.running.Run.{Run}
 use Rattle.med_exec.specs.Running.{AllServed, AllHonest}
 use Rattle.med_exec.specs.Rests.{Rests}
-use Rattle.med_parser.specs.CommandTree.{CommandTree, on_cursors}
+use Rattle.med_parser.specs.CommandTree.{on_cursors}
 use Rattle.cursor_syntax.specs.CursorTree.{CountTree, some_rows, all_rows, CursorTree, declare, fetch, close}
 use Rattle.open_cursors.specs.Open.{Opened, Seated, opened_named, without_named, with_run}
-use Rattle.open_cursors.specs.Fetching.{AreEnough, GivesRows, GivesNone, no_memory, box_fails}
+use Rattle.open_cursors.specs.Fetching.{GivesRows, GivesNone, no_memory, box_fails}
 use Rattle.med_world.specs.Requests.{sql, IsSid}
 use Rattle.med_world.specs.Picks.{no_pick}
-use Rattle.med_world.specs.World.{World, Cursor, Session, with_session}
-use Rattle.med_world.specs.Cursors.{is_cursor, rows_leased, cursor_named, without_cursor, hand_out, with_handed, IsEnough, Fetches}
-use Rattle.med_world.specs.Causes.{CursorCauses, phase, NoneStands, NoneBeforeState}
+use Rattle.med_world.specs.World.{World, Cursor, with_session}
+use Rattle.med_world.specs.Cursors.{is_cursor, rows_leased, cursor_named, without_cursor, hand_out, with_handed, Fetches}
+use Rattle.med_world.specs.Causes.{CursorCauses, phase, NoneBeforeState}
 use Rattle.med_world.specs.Replies.{done, answered, refused}
 use Rattle.med_world.specs.Steps.{Turns, is_done, source_fails, fetch_lacks_memory}
 use Rattle.med_world.specs.Seats.{seat_of, CursorAgrees, CursorsAgree}
@@ -27,15 +27,13 @@ use Rattle.med_world.specs.Engine.{Shown, IsSound, Agrees, Leads}
 use Rattle.med_world.specs.Turning.{with_cursors, IsOfOpen, Ends}
 use Rattle.med_world.specs.Laws.{IsRead}
 use Rattle.med_world.proofs.Lists.{none_some}
-use Rattle.med_world.proofs.Seats.{stands_still, rests_stay, cursors_stay}
+use Rattle.med_world.proofs.Seats.{stands_still, cursors_stay}
 use Rattle.med_world.proofs.Faring.{none_rises}
-use Rattle.med_world.proofs.Told.{IsKnownAs, told_tree, none_tree, before_tree}
+use Rattle.med_world.proofs.Told.{told_tree, none_tree, before_tree}
 use Rattle.med_world.proofs.Leading.{cursors_in, session_in, calm, calm_befell, known, leads_refused}
-use Rattle.med_world.proofs.Querying.{ArePhased}
 use Rattle.med_world.proofs.Serving.{serving_rises}
 use Rattle.med_world.proofs.Sessions.{turned_agrees}
-use Rattle.med_world.proofs.CursorCausing.{cursor_phase}
-use Rattle.med_world.proofs.CursorLists.{IsFound, one_fewer, one_turns}
+use Rattle.med_world.proofs.CursorLists.{one_fewer, one_turns}
 use Rattle.med_world.proofs.CursorSeats.{cursors_at, picks_none, has_none, found_at, old_seat, ended_served}
 
 -- ---- no cursor of the name
@@ -135,9 +133,11 @@ fetched e new sid text seat name asked o rows after read at sound here g = recor
 gone_agrees : (e : Shown) (w : World) (new : List (Option BoxState)) (sid : ℕ) (seat : Seated) (name : Name) → IsSid sid → seat_of e.seats sid ≡ Some seat → IsSound e → AllServed e.boxes new → Agrees e w
     → Agrees (with_cursors e sid seat (without_named name seat.cursors) new) (with_session w sid (Some (without_cursor (session_in w sid seat.user) name)))
 gone_agrees e w new sid seat name is at sound served a =
-    turned_agrees e w new sid (Some (record seat { cursors = without_named name seat.cursors })) (Some (without_cursor (session_in w sid seat.user) name)) is sound.sessions served
-    (refl, one_fewer new now name seat.cursors (cursors_in (w.sessions sid))
-    (cursors_stay e.boxes new w now seat.cursors (cursors_in (w.sessions sid)) (λ l taken x. stands_still w now l refl refl x) (cursors_at e w sid seat is at a))) a
+    turned_agrees e w new sid (Some (record seat { cursors = without_named name seat.cursors })) (Some (without_cursor (session_in w sid seat.user) name)) is sound.sessions served (
+      refl,
+      one_fewer new now name seat.cursors (cursors_in (w.sessions sid))
+          (cursors_stay e.boxes new w now seat.cursors (cursors_in (w.sessions sid)) (λ l taken x. stands_still w now l refl refl x) (cursors_at e w sid seat is at a)),
+    ) a
   where
     now : World
     now = with_session w sid (Some (without_cursor (session_in w sid seat.user) name))
