@@ -98,6 +98,24 @@ one_fewer boxes w name (o ∷ os) (c ∷ cs) h =
     split true rest = rest
     split false rest = (h.0, rest)
 
+-- names that differ from one still do where some cursors are left out
+still_other : (P : Name → Type 0) (q : Opened → Bool) (os : List Opened) → AllByRecursion P (map (λ (o : Opened). o.name) os) → AllByRecursion P (map (λ (o : Opened). o.name) (filter q os))
+still_other P q [] h = h
+still_other P q (o ∷ os) h = split (q o) (still_other P q os h.1)
+  where
+    split : (b : Bool) → AllByRecursion P (map (λ (x : Opened). x.name) (filter q os)) → AllByRecursion P (map (λ (x : Opened). x.name) (cond b (o ∷ filter q os) (filter q os)))
+    split true rest = (h.0, rest)
+    split false rest = rest
+
+pub fewer_apart : (q : Opened → Bool) (os : List Opened) → AreNamedApart os → AreNamedApart (filter q os)
+unfolding IsDistinct
+fewer_apart q [] apart = apart
+fewer_apart q (o ∷ os) apart = split (q o) (fewer_apart q os apart.1)
+  where
+    split : (b : Bool) → AreNamedApart (filter q os) → AreNamedApart (cond b (o ∷ filter q os) (filter q os))
+    split true rest = (still_other (λ n. bytes_eq o.name n ≡ false) q os apart.0, rest)
+    split false rest = rest
+
 pub fewer_most : (q : Opened → Bool) (os : List Opened) → length (filter q os) ≤ length os
 fewer_most q [] = omega arith
 fewer_most q (o ∷ os) = split (q o) (fewer_most q os)

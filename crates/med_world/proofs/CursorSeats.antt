@@ -15,7 +15,6 @@ use Rattle.med_parser.specs.CommandTree.{on_cursors}
 use Rattle.open_cursors.specs.Open.{Opened, Seated, is_full, has_name, opened_named, without_named, with_run}
 use Rattle.open_cursors.specs.Starting.{Starts, StartFails, not_bound, is_risky, no_room, too_many, run_fails}
 use Rattle.open_cursors.specs.Fetching.{GivesRows}
-use Rattle.open_cursors.proofs.Names.{still_apart}
 use Rattle.med_world.specs.Requests.{sql, IsSid}
 use Rattle.med_world.specs.Picks.{no_pick}
 use Rattle.med_world.specs.World.{World, Session}
@@ -31,7 +30,7 @@ use Rattle.med_world.proofs.Told.{pick_tree}
 use Rattle.med_world.proofs.Leading.{cursors_in, session_in, known}
 use Rattle.med_world.proofs.Serving.{serving_sound}
 use Rattle.med_world.proofs.Sessions.{turned_sound}
-use Rattle.med_world.proofs.CursorLists.{IsFound, found, as_found, as_many, more_apart, fewer_most, run_apart, run_most}
+use Rattle.med_world.proofs.CursorLists.{IsFound, found, as_found, as_many, more_apart, fewer_apart, fewer_most, run_apart, run_most}
 
 -- ---- its cursors
 
@@ -136,6 +135,6 @@ ended_sound e new sid seat name o is sound at ends =
     let fewer : length (without_named name seat.cursors) ≤ length seat.cursors = fewer_most (λ c. not (has_name name c)) seat.cursors in
     cursors_sound e new sid seat (without_named name seat.cursors) is (ended_served o.run e.boxes new ends) sound (record {
       running = λ c has. runs_on c.run new;
-      apart = still_apart (λ c. not (has_name name c)) seat.cursors old.apart;
+      apart = fewer_apart (λ c. not (has_name name c)) seat.cursors old.apart;
       few = omega (arith, most, fewer);
     })

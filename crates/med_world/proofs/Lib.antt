@@ -25,6 +25,7 @@ mod CursorLists
 mod CursorSeats
 mod Declaring
 mod Turns
+mod Fetches
 mod Serving
 mod Sessions
 mod AnyRows
