@@ -32,7 +32,7 @@ use Rattle.med_syntax.specs.Terminal as t
 use Rattle.med_syntax.specs.Words.{is_reserved}
 use Rattle.ddl_syntax.specs.DdlTree.{DdlTree}
 use Rattle.ddl_syntax.specs.DdlView.{ddl_tree}
-use Rattle.med_parser.specs.CommandTree.{CommandTree, on_data, on_rows, on_objects, command_height, command_tree}
+use Rattle.med_parser.specs.CommandTree.{CommandTree, on_data, on_rows, on_cursors, on_objects, command_height, command_tree}
 use Rattle.med_syntax.specs.Tree.{Name}
 use Rattle.write_syntax.specs.WriteTree.{GivenTree, values, rows_of, WriteTree, insert, update, delete}
 use Rattle.write_syntax.specs.WriteView.{write_tree}
@@ -41,6 +41,14 @@ use Rattle.write_parser.specs.WriteGrammar.{SpellsInsert, SpellsUpdate, SpellsDe
 use Rattle.write_parser.specs.WriteCauses.{write_in_range, Refuses}
 use Rattle.write_parser.proofs.WriteRead.{one_write}
 use Rattle.write_print.specs.WritePrinting.{printed_write}
+use Rattle.cursor_syntax.specs.CursorTree.{CursorTree}
+use Rattle.cursor_syntax.specs.CursorView.{cursor_tree}
+use Rattle.cursor_syntax.specs.declared.cursor.CursorStatement.{CursorStatement}
+use Rattle.cursor_parser.specs.CursorGrammar.{IsCursor, HasCursor}
+use Rattle.cursor_parser.specs.CursorCauses.{cursor_in_range}
+use Rattle.cursor_parser.specs.CursorCauses as cursor_causes
+use Rattle.cursor_parser.proofs.CursorRead as cursor
+use Rattle.cursor_print.specs.CursorPrinting.{printed_cursor}
 use Rattle.med_parser.specs.declared.command.Command.{Command}
 use Rattle.med_parser.specs.declared.command.Command.TheVariants as commands
 use Rattle.ddl_syntax.specs.declared.ddl.Ddl.{Ddl}
@@ -179,27 +187,74 @@ rows_apart ss s w x y =
     let line : x.0 ≡ t.Reserved (codes "select") ∷ (b.0 ++ x.2.1) = x.2.2 ∙ ap (λ us. us ++ x.2.1) b.1 in
     not_select_rows ss (b.0 ++ x.2.1) (subst (AreWords ss) line x.1) (begins_rows ss w y)
 
+declare_terminal : word_terminal (codes "declare") ≡ t.Reserved (codes "declare")
+unfolding is_reserved
+declare_terminal = refl
+
+fetch_terminal : word_terminal (codes "fetch") ≡ t.Reserved (codes "fetch")
+unfolding is_reserved
+fetch_terminal = refl
+
+close_terminal : word_terminal (codes "close") ≡ t.Name (codes "close")
+unfolding is_reserved
+close_terminal = refl
+
+-- CLOSE is no reserved word
+not_closed : (ss us : List Shape) (w : List ℕ) → ss ≡ word (codes "close") ∷ us → FirstWord ss w → ⊥
+not_closed ss us w p f =
+    absurd (let same : t.Name (codes "close") ≡ t.Reserved w = sym close_terminal ∙ ap terminal_of (first_is (word (codes "close")) f.first us f.others (sym p ∙ f.is)) ∙ f.reserved in cc)
+
+closed_apart : (ss us : List Shape) → ss ≡ word (codes "close") ∷ us → BeginsRows ss → ⊥
+closed_apart ss us p (inl f) = not_closed ss us (codes "insert") p f
+closed_apart ss us p (inr (inl f)) = not_closed ss us (codes "update") p f
+closed_apart ss us p (inr (inr f)) = not_closed ss us (codes "delete") p f
+
+declared_apart : (ss us : List Shape) → ss ≡ word (codes "declare") ∷ us → BeginsRows ss → ⊥
+declared_apart ss us p (inl f) = not_word ss us (codes "declare") (codes "insert") declare_terminal refl p f
+declared_apart ss us p (inr (inl f)) = not_word ss us (codes "declare") (codes "update") declare_terminal refl p f
+declared_apart ss us p (inr (inr f)) = not_word ss us (codes "declare") (codes "delete") declare_terminal refl p f
+
+fetched_apart : (ss us : List Shape) → ss ≡ word (codes "fetch") ∷ us → BeginsRows ss → ⊥
+fetched_apart ss us p (inl f) = not_word ss us (codes "fetch") (codes "insert") fetch_terminal refl p f
+fetched_apart ss us p (inr (inl f)) = not_word ss us (codes "fetch") (codes "update") fetch_terminal refl p f
+fetched_apart ss us p (inr (inr f)) = not_word ss us (codes "fetch") (codes "delete") fetch_terminal refl p f
+
+cursors_apart : (ss : List Shape) (w : WriteTree) (x : CursorTree) → IsWrite ss w → IsCursor ss x → ⊥
+cursors_apart ss w x y z = elim (cursor.begun ss x z) [
+  | inl h ↦ declared_apart ss h.0 h.1 (begins_rows ss w y)
+  | inr (inl h) ↦ fetched_apart ss h.0 h.1 (begins_rows ss w y)
+  | inr (inr h) ↦ closed_apart ss h.0 h.1 (begins_rows ss w y)
+]
+
 one_statement : (ss : List Shape) (r s : StatementTree) → IsStatement ss r → IsStatement ss s → r ≡ s
 one_statement ss r s x y = one_line (words_at (Before false) false ss) r s (to_terminals ss r x) (to_terminals ss s y)
 
 pub one_command : (ss : List Shape) (a b : CommandTree) → IsCommand ss a → IsCommand ss b → a ≡ b
 one_command ss (on_data r) (on_data s) x y = ap on_data (one_statement ss r s x y)
 one_command ss (on_data r) (on_rows w) x y = absurd (rows_apart ss r w x y)
+one_command ss (on_data r) (on_cursors e) x y = absurd (cursor.no_query ss e r y x)
 one_command ss (on_data r) (on_objects d) x y = absurd (apart ss r d x y)
 one_command ss (on_rows v) (on_data s) x y = absurd (rows_apart ss s v y x)
 one_command ss (on_rows v) (on_rows w) x y = ap on_rows (one_write ss v w x y)
+one_command ss (on_rows v) (on_cursors e) x y = absurd (cursors_apart ss v e x y)
 one_command ss (on_rows v) (on_objects d) x y = absurd (objects_apart ss v d x y)
+one_command ss (on_cursors e) (on_data s) x y = absurd (cursor.no_query ss e s x y)
+one_command ss (on_cursors e) (on_rows w) x y = absurd (cursors_apart ss w e y x)
+one_command ss (on_cursors e) (on_cursors f) x y = ap on_cursors (cursor.one_cursor ss e f x y)
+one_command ss (on_cursors e) (on_objects d) x y = absurd (cursor.no_ddl ss e d x y)
 one_command ss (on_objects d) (on_data s) x y = absurd (apart ss s d y x)
 one_command ss (on_objects d) (on_rows w) x y = absurd (objects_apart ss w d y x)
+one_command ss (on_objects d) (on_cursors e) x y = absurd (cursor.no_ddl ss e d y x)
 one_command ss (on_objects d) (on_objects e) x y = ap on_objects (ddl.one_line ss d e x y)
 
 -- ---- causes of tokens
 
 -- no statement of any kind
-no_command : (ss : List Shape) → ((d : DdlTree) → IsDdl ss d → ⊥) → ((w : WriteTree) → IsWrite ss w → ⊥) → ((s : StatementTree) → IsStatement ss s → ⊥) → (c : CommandTree) → IsCommand ss c → ⊥
-no_command ss objects rows queries (on_data s) x = queries s x
-no_command ss objects rows queries (on_rows w) x = rows w x
-no_command ss objects rows queries (on_objects d) x = objects d x
+no_command : (ss : List Shape) → ((d : DdlTree) → IsDdl ss d → ⊥) → ((w : WriteTree) → IsWrite ss w → ⊥) → ((x : CursorTree) → IsCursor ss x → ⊥) → ((s : StatementTree) → IsStatement ss s → ⊥) → (c : CommandTree) → IsCommand ss c → ⊥
+no_command ss objects rows cursors queries (on_data s) x = queries s x
+no_command ss objects rows cursors queries (on_rows w) x = rows w x
+no_command ss objects rows cursors queries (on_cursors e) x = cursors e x
+no_command ss objects rows cursors queries (on_objects d) x = objects d x
 
 -- the reader of statements on data refused the tokens so
 abbrev QueryRefused : List Shape → ReadFault → Type 0
@@ -209,29 +264,65 @@ QueryRefused ss f = Gives statement_tree (Err f) (bounded_line (words_at (Before
 no_data : (ss : List Shape) → QueryRefused ss (faults.Refused Syntax) → (s : StatementTree) → IsStatement ss s → ⊥
 no_data ss h s x = bounded_out (words_at (Before false) false ss) h s (to_terminals ss s x)
 
--- What is told where the tokens are no statement on objects, and the readers of the others refused them: by what the reader of writes says
--- where the other says that there is none.
-rows_cause : (ss : List Shape) (r : Refusal) → ((d : DdlTree) → IsDdl ss d → ⊥) → Refuses ss (faults.Refused r) → QueryRefused ss (faults.Refused Syntax) → TokenCauses ss (cause_of_read (faults.Refused r))
-rows_cause ss Syntax none h g = no_command ss none h (no_data ss g)
-rows_cause ss TooHigh none (inl h) g = inl (on_rows h.0, h.1, h.2)
-rows_cause ss TooHigh none (inr h) g = inr (no_command ss none h.0 (no_data ss g), h.1)
+-- a command with too high an expression
+abbrev Deep : List Shape → Type 0
+Deep ss = (c : CommandTree) × IsCommand ss c × (64 < command_height c)
 
-deep_none : (ss : List Shape) (r : Refusal) → ((d : DdlTree) → IsDdl ss d → ⊥) → Refuses ss (faults.Refused r) → ((s : StatementTree) → IsStatement ss s → ⊥) → 64 < count_by deepens ss → TokenCauses ss causes.TooDeep
-deep_none ss Syntax none h queries deep = inr (no_command ss none h queries, deep)
-deep_none ss TooHigh none (inl h) queries deep = inl (on_rows h.0, h.1, h.2)
-deep_none ss TooHigh none (inr h) queries deep = inr (no_command ss none h.0 queries, deep)
+-- over 64 tokens that can deepen an expression
+abbrev Heavy : List Shape → Type 0
+Heavy ss = 64 < count_by deepens ss
 
-deep_cause : (ss : List Shape) (r : Refusal) → ((d : DdlTree) → IsDdl ss d → ⊥) → Refuses ss (faults.Refused r) → QueryRefused ss (faults.Refused TooHigh) → TokenCauses ss causes.TooDeep
-deep_cause ss r none h g = elim (bounded_told (words_at (Before false) false ss) g) [
-  | inl x ↦ inl (on_data x.0, of_terminals ss x.0 x.1, x.2)
-  | inr x ↦ deep_none ss r none h (λ s y. x.0 s (to_terminals ss s y)) (omega (arith, x.1, words_weigh (Before false) false ss))
+-- What a reader that refused the tokens says: they are a command that is too high, or none of its kind.
+abbrev Says : List Shape → Type 0 → Type 0
+Says ss None = Deep ss ⊎ None
+
+-- what it says besides where it refused them as too high
+abbrev SaysHeavy : List Shape → Refusal → Type 0
+SaysHeavy ss Syntax = Unit {0}
+SaysHeavy ss TooHigh = Deep ss ⊎ Heavy ss
+
+rows_say : (ss : List Shape) (r : Refusal) → Refuses ss (faults.Refused r) → Says ss ((w : WriteTree) → IsWrite ss w → ⊥) × SaysHeavy ss r
+rows_say ss Syntax h = (inr h, tt)
+rows_say ss TooHigh (inl h) = (inl (on_rows h.0, h.1, h.2), inl (on_rows h.0, h.1, h.2))
+rows_say ss TooHigh (inr h) = (inr h.0, inr h.1)
+
+cursors_say : (ss : List Shape) (r : Refusal) → cursor_causes.Refuses ss (faults.Refused r) → Says ss ((x : CursorTree) → IsCursor ss x → ⊥) × SaysHeavy ss r
+cursors_say ss Syntax h = (inr h, tt)
+cursors_say ss TooHigh (inl h) = (inl (on_cursors h.0, h.1, h.2), inl (on_cursors h.0, h.1, h.2))
+cursors_say ss TooHigh (inr h) = (inr h.0, inr h.1)
+
+data_say : (ss : List Shape) (r : Refusal) → QueryRefused ss (faults.Refused r) → Says ss ((s : StatementTree) → IsStatement ss s → ⊥) × SaysHeavy ss r
+data_say ss Syntax h = (inr (no_data ss h), tt)
+data_say ss TooHigh h = elim (bounded_told (words_at (Before false) false ss) h) [
+  | inl x ↦ (inl (on_data x.0, of_terminals ss x.0 x.1, x.2), inl (on_data x.0, of_terminals ss x.0 x.1, x.2))
+  | inr x ↦ (inr (λ s y. x.0 s (to_terminals ss s y)), inr (omega (arith, x.1, words_weigh (Before false) false ss)))
 ]
 
-pub rows_told : (ss : List Shape) (r : Refusal) (e f : ReadFault) → e ≡ faults.Refused r → f ≡ faults.Refused Syntax → ((d : DdlTree) → IsDdl ss d → ⊥) → Refuses ss e → Gives statement_tree (Err f) (bounded_line (words_at (Before false) false ss)) → TokenCauses ss (cause_of_read (faults.Refused r))
-rows_told ss r e f p q none h g = rows_cause ss r none (subst (Refuses ss) p h) (subst (QueryRefused ss) q g)
+-- what is told where one of them refused the tokens as too high
+deep_cause : (ss : List Shape) → ((d : DdlTree) → IsDdl ss d → ⊥) → Says ss ((w : WriteTree) → IsWrite ss w → ⊥) → Says ss ((x : CursorTree) → IsCursor ss x → ⊥) → Says ss ((s : StatementTree) → IsStatement ss s → ⊥) → Deep ss ⊎ Heavy ss → TokenCauses ss causes.TooDeep
+deep_cause ss none (inl h) x q d = inl h
+deep_cause ss none (inr w) (inl h) q d = inl h
+deep_cause ss none (inr w) (inr x) (inl h) d = inl h
+deep_cause ss none (inr w) (inr x) (inr q) (inl h) = inl h
+deep_cause ss none (inr w) (inr x) (inr q) (inr h) = inr (no_command ss none w x q, h)
 
-pub deep_told : (ss : List Shape) (r : Refusal) (e f : ReadFault) → e ≡ faults.Refused r → f ≡ faults.Refused TooHigh → ((d : DdlTree) → IsDdl ss d → ⊥) → Refuses ss e → Gives statement_tree (Err f) (bounded_line (words_at (Before false) false ss)) → TokenCauses ss causes.TooDeep
-deep_told ss r e f p q none h g = deep_cause ss r none (subst (Refuses ss) p h) (subst (QueryRefused ss) q g)
+-- what is told of three refusals, of which the last is that of the reader of statements on data
+abbrev highest : Refusal → Refusal → Refusal → Refusal
+highest r e TooHigh = TooHigh
+highest TooHigh e Syntax = TooHigh
+highest Syntax e Syntax = e
+
+told_cause : (ss : List Shape) (r e q : Refusal) → ((d : DdlTree) → IsDdl ss d → ⊥) → Refuses ss (faults.Refused r) → cursor_causes.Refuses ss (faults.Refused e) → QueryRefused ss (faults.Refused q) → TokenCauses ss (cause_of_read (faults.Refused (highest r e q)))
+told_cause ss r e TooHigh none h k g = deep_cause ss none (rows_say ss r h).0 (cursors_say ss e k).0 (data_say ss TooHigh g).0 (data_say ss TooHigh g).1
+told_cause ss TooHigh e Syntax none h k g = deep_cause ss none (rows_say ss TooHigh h).0 (cursors_say ss e k).0 (data_say ss Syntax g).0 (rows_say ss TooHigh h).1
+told_cause ss Syntax TooHigh Syntax none h k g = deep_cause ss none (rows_say ss Syntax h).0 (cursors_say ss TooHigh k).0 (data_say ss Syntax g).0 (cursors_say ss TooHigh k).1
+told_cause ss Syntax Syntax Syntax none h k g = no_command ss none h k (no_data ss g)
+
+pub refused_as : (ss : List Shape) (r s : Refusal) → r ≡ s → Refuses ss (faults.Refused r) → Refuses ss (faults.Refused s)
+refused_as ss r s p h = subst (λ x. Refuses ss (faults.Refused x)) p h
+
+pub told : (ss : List Shape) (r e q : Refusal) (f g : ReadFault) → f ≡ faults.Refused e → g ≡ faults.Refused q → ((d : DdlTree) → IsDdl ss d → ⊥) → Refuses ss (faults.Refused r) → cursor_causes.Refuses ss f → Gives statement_tree (Err g) (bounded_line (words_at (Before false) false ss)) → TokenCauses ss (cause_of_read (faults.Refused (highest r e q)))
+told ss r e q f g p o none h k x = told_cause ss r e q none h (subst (cursor_causes.Refuses ss) p k) (subst (QueryRefused ss) o x)
 
 pub read_statement : (ss : List Shape) (s : StatementTree) → bounded_line (words_at (Before false) false ss) ≡ Ok s → IsStatement ss s × (statement_height s ≤ 64)
 read_statement ss s h =
@@ -326,11 +417,12 @@ lexed_read A text parse_faults.Syntax r h is none = absurd (none causes.Syntax (
 
 -- ---- commands written out
 
-pub printed_again : ((text : List ℕ) (s : StatementTree) → HasStatement text s → statement_in_range s ≡ true → HasStatement (printed_statement s) s) → ((text : List ℕ) (w : WriteTree) → HasWrite text w → write_in_range w ≡ true → HasWrite (printed_write w) w) → ((text : List ℕ) (d : DdlTree) → HasDdl text d → HasDdl (printed_ddl d) d) →
+pub printed_again : ((text : List ℕ) (s : StatementTree) → HasStatement text s → statement_in_range s ≡ true → HasStatement (printed_statement s) s) → ((text : List ℕ) (w : WriteTree) → HasWrite text w → write_in_range w ≡ true → HasWrite (printed_write w) w) → ((text : List ℕ) (x : CursorTree) → HasCursor text x → cursor_in_range x ≡ true → HasCursor (printed_cursor x) x) → ((text : List ℕ) (d : DdlTree) → HasDdl text d → HasDdl (printed_ddl d) d) →
     (text : List ℕ) (c : CommandTree) → HasCommand text c → command_in_range c ≡ true → HasCommand (printed_command c) c
-printed_again statements rows objects text (on_data s) x r = statements text s x r
-printed_again statements rows objects text (on_rows w) x r = rows text w x r
-printed_again statements rows objects text (on_objects d) x r = objects text d x
+printed_again statements rows cursors objects text (on_data s) x r = statements text s x r
+printed_again statements rows cursors objects text (on_rows w) x r = rows text w x r
+printed_again statements rows cursors objects text (on_cursors e) x r = cursors text e x r
+printed_again statements rows cursors objects text (on_objects d) x r = objects text d x
 
 pub data_again : {A E : Type 0} (k : Command) (s : Statement) (r : Result (String A) E) → k ≡ commands.Data s →
     ((text : List ℕ) → HasStatement text (statement_tree s) → statement_in_range (statement_tree s) ≡ true → IfOk r (λ x. HasStatement (string_bytes x) (statement_tree s))) →
@@ -341,6 +433,11 @@ pub rows_again : {A E : Type 0} (k : Command) (s : WriteStatement) (r : Result (
     ((text : List ℕ) → HasWrite text (write_tree s) → write_in_range (write_tree s) ≡ true → IfOk r (λ x. HasWrite (string_bytes x) (write_tree s))) →
     (text : List ℕ) → HasCommand text (command_tree k) → command_in_range (command_tree k) ≡ true → IfOk r (λ x. HasCommand (string_bytes x) (command_tree k))
 rows_again k s r is h = subst (λ (y : Command). (text : List ℕ) → HasCommand text (command_tree y) → command_in_range (command_tree y) ≡ true → IfOk r (λ x. HasCommand (string_bytes x) (command_tree y))) (sym is) h
+
+pub cursor_again : {A E : Type 0} (k : Command) (s : CursorStatement) (r : Result (String A) E) → k ≡ commands.Cursor s →
+    ((text : List ℕ) → HasCursor text (cursor_tree s) → cursor_in_range (cursor_tree s) ≡ true → IfOk r (λ x. HasCursor (string_bytes x) (cursor_tree s))) →
+    (text : List ℕ) → HasCommand text (command_tree k) → command_in_range (command_tree k) ≡ true → IfOk r (λ x. HasCommand (string_bytes x) (command_tree k))
+cursor_again k s r is h = subst (λ (y : Command). (text : List ℕ) → HasCommand text (command_tree y) → command_in_range (command_tree y) ≡ true → IfOk r (λ x. HasCommand (string_bytes x) (command_tree y))) (sym is) h
 
 pub ddl_again : {A E : Type 0} (k : Command) (d : Ddl) (r : Result (String A) E) → k ≡ commands.Ddl d →
     ((text : List ℕ) → HasDdl text (ddl_tree d) → IfOk r (λ x. HasDdl (string_bytes x) (ddl_tree d))) →

@@ -5,15 +5,17 @@ use Rattle.med_value.specs.declared.cause.Cause.TheVariants as causes
 use Rattle.med_lexer.specs.Lexemes.{Shape, Lexeme, Lexes}
 use Rattle.expr_grammar.specs.Shapes.{shapes, IsLongName, deepens}
 use Rattle.expr_grammar.specs.ExprGrammar.{IsHuge}
-use Rattle.med_parser.specs.CommandTree.{CommandTree, on_data, on_rows, on_objects, command_height}
+use Rattle.med_parser.specs.CommandTree.{CommandTree, on_data, on_rows, on_cursors, on_objects, command_height}
 use Rattle.query_grammar.specs.QueryCauses.{statement_in_range}
 use Rattle.write_parser.specs.WriteCauses.{write_in_range}
+use Rattle.cursor_parser.specs.CursorCauses.{cursor_in_range}
 use Rattle.med_parser.specs.CommandGrammar.{IsCommand, HasCommand}
 
 -- each number is at most 2^63 - 1, and directly behind a unary minus at most 2^63; a statement on objects has none
 abbrev pub command_in_range : CommandTree → Bool
 command_in_range (on_data s) = statement_in_range s
 command_in_range (on_rows w) = write_in_range w
+command_in_range (on_cursors x) = cursor_in_range x
 command_in_range (on_objects d) = true
 
 -- The causes that stand for the tokens of a text:

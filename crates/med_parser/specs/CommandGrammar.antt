@@ -1,16 +1,19 @@
--- Which texts are commands: statements on data, statements that write rows, and statements on the objects of the catalogue.
+-- Which texts are commands: statements on data, statements that write rows, statements on cursors, and statements on the objects of the
+-- catalogue.
 use Rattle.std.specs.Prelude.{ℕ, List}
 use Rattle.med_lexer.specs.Lexemes.{Shape, Lexeme, Lexes}
 use Rattle.expr_grammar.specs.Shapes.{shapes}
-use Rattle.med_parser.specs.CommandTree.{CommandTree, on_data, on_rows, on_objects}
+use Rattle.med_parser.specs.CommandTree.{CommandTree, on_data, on_rows, on_cursors, on_objects}
 use Rattle.query_grammar.specs.QueryGrammar.{IsStatement}
 use Rattle.write_parser.specs.WriteGrammar.{IsWrite}
+use Rattle.cursor_parser.specs.CursorGrammar.{IsCursor}
 use Rattle.ddl_parser.specs.DdlGrammar.{IsDdl}
 
 -- The tokens are a line of the grammar with this tree.
 abbrev pub IsCommand : List Shape → CommandTree → Type 0
 IsCommand ts (on_data s) = IsStatement ts s
 IsCommand ts (on_rows w) = IsWrite ts w
+IsCommand ts (on_cursors x) = IsCursor ts x
 IsCommand ts (on_objects d) = IsDdl ts d
 
 -- The text has this tree: its one list of longest tokens is a line of the grammar with this tree.

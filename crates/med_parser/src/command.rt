@@ -1,5 +1,6 @@
-//! What a line may ask: a statement on data, one that writes rows, or one on the objects of the catalogue.
+//! What a line may ask: a statement on data, one that writes rows, one on a cursor, or one on the objects of the catalogue.
 
+use cursor_syntax::CursorStatement;
 use ddl_syntax::Ddl;
 use med_syntax::Statement;
 use write_syntax::WriteStatement;
@@ -11,6 +12,8 @@ pub enum Command {
     Data(Statement),
     /// A statement that writes rows.
     Rows(WriteStatement),
+    /// A statement on a cursor.
+    Cursor(CursorStatement),
     /// A statement on the objects of the catalogue.
     Ddl(Ddl),
 }

@@ -6,6 +6,7 @@ ghost use Rattle.med_parser.specs.CommandPrinting as printing;
 ghost use Rattle.med_parser.specs.CommandTree.{CommandTree};
 ghost use Rattle.std.specs.Prelude.{◌≡◌, ℕ, true, List};
 
+use cursor_print::printed_cursor;
 use ddl_parser::printed_ddl;
 use med_lexer::one_list;
 use query_print::printed_statement;
@@ -25,5 +26,6 @@ pub fn printed_command()
 {
     printed_statement();
     printed_write();
+    printed_cursor();
     printed_ddl();
 }

@@ -24,6 +24,7 @@ pub fn print(alloc: Global, command: &Command) -> Result<String, NoMemory>
     match command {
         Command::Data(statement) => query_print::print(alloc, statement),
         Command::Rows(statement) => write_print::print(alloc, statement),
+        Command::Cursor(statement) => cursor_print::print(alloc, statement),
         Command::Ddl(ddl) => print_ddl(alloc, ddl),
     }
 }

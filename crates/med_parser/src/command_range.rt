@@ -5,6 +5,7 @@ ghost use Rattle.med_parser.specs.CommandTree.{command_tree};
 ghost use Rattle.std.specs.Prelude.{◌≡◌};
 
 use crate::command::Command;
+use cursor_print::is_cursor_in_range;
 use query_range::is_statement_in_range;
 use write_print::is_write_in_range;
 
@@ -15,6 +16,7 @@ pub fn is_command_in_range(command: &Command) -> bool
     match command {
         Command::Data(statement) => is_statement_in_range(statement),
         Command::Rows(statement) => is_write_in_range(statement),
+        Command::Cursor(statement) => is_cursor_in_range(statement),
         Command::Ddl(_) => true,
     }
 }

@@ -1,5 +1,6 @@
 //! Parses a line of this profile of SQL, a command and perhaps a semicolon, and writes commands out. A command is a statement on the
-//! objects of the catalogue (`ddl_parser`), one that writes rows (`write_parser`, `write_print`), or one on data:
+//! objects of the catalogue (`ddl_parser`), one that writes rows (`write_parser`, `write_print`), one on a cursor (`cursor_parser`,
+//! `cursor_print`), or one on data:
 //! `SELECT [DISTINCT] item {, item} [FROM chain {, chain}] [WHERE expr] [GROUP BY col {, col}] [HAVING expr] [ORDER BY key {, key}]`
 //! `[LIMIT ..] [OFFSET ..] [;]`, where a chain is an entry with its joins.
 //!

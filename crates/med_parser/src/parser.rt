@@ -12,9 +12,11 @@ ghost use Rattle.med_parser.specs.CommandGrammar.{HasCommand, IsCommand};
 ghost use Rattle.med_parser.specs.CommandTree.{command_height, command_tree};
 ghost use Rattle.med_value.specs.declared.cause.Cause.{Cause};
 ghost use Rattle.std.specs.Prelude.{◌≡◌, ◌≤◌, ◌⊎◌, IfErr, IfOk, OnOk};
+ghost use Rattle.write_parser.specs.WriteCauses.{Refuses};
 
 use crate::command::Command;
 use crate::command_range::is_command_in_range;
+use cursor_parser::cursor_of;
 use ddl_parser::ddl_of;
 use expr_grammar::ParseFault;
 use expr_grammar::expr_symbols::has_unreadable;
@@ -26,8 +28,32 @@ use query_reader::statement_of;
 use std::alloc::Global;
 use write_parser::write_of;
 
-/// The command that tokens are which are no statement on objects: a statement that writes rows, or else one on data.
-fn rows_or_data(alloc: Global, tokens: &[Token]) -> Result<Command, ReadFault>
+/// The command that tokens are which are no statement on objects, and of which the reader of statements that write rows said `rows`: a
+/// statement on a cursor, or else one on data.
+fn cursor_or_data(alloc: Global, tokens: &[Token], rows: Refusal) -> Result<Command, ReadFault>
+    requires { AreReadable (shapes_of tokens.now) }
+    ensures found { IfOk result (λ c. IsCommand (shapes_of tokens.now) (command_tree c)) }
+    ensures low { IfOk result (λ c. command_height (command_tree c) ≤ 64) }
+    ensures refused { ((d : DdlTree) → IsDdl (shapes_of tokens.now) d → ⊥) → Refuses (shapes_of tokens.now) (faults.Refused rows)
+        → IfErr result (λ f. (f ≡ faults.NoMemory) ⊎ TokenCauses (shapes_of tokens.now) (cause_of_read f)) }
+{
+    match cursor_of(alloc, tokens) {
+        Ok(statement) => Ok(Command::Cursor(statement)),
+        Err(ReadFault::NoMemory) => Err(ReadFault::NoMemory),
+        Err(ReadFault::Refused(cursor)) => match statement_of(alloc, tokens) {
+            Ok(statement) => Ok(Command::Data(statement)),
+            Err(ReadFault::NoMemory) => Err(ReadFault::NoMemory),
+            Err(ReadFault::Refused(Refusal::TooHigh)) => Err(ReadFault::Refused(Refusal::TooHigh)),
+            Err(ReadFault::Refused(Refusal::Syntax)) => match rows {
+                Refusal::TooHigh => Err(ReadFault::Refused(Refusal::TooHigh)),
+                Refusal::Syntax => Err(ReadFault::Refused(cursor)),
+            },
+        },
+    }
+}
+
+/// The command that tokens are which are no statement on objects: a statement that writes rows, or else one on a cursor or on data.
+fn rows_or_other(alloc: Global, tokens: &[Token]) -> Result<Command, ReadFault>
     requires { AreReadable (shapes_of tokens.now) }
     ensures found { IfOk result (λ c. IsCommand (shapes_of tokens.now) (command_tree c)) }
     ensures low { IfOk result (λ c. command_height (command_tree c) ≤ 64) }
@@ -37,16 +63,11 @@ fn rows_or_data(alloc: Global, tokens: &[Token]) -> Result<Command, ReadFault>
     match write_of(alloc, tokens) {
         Ok(statement) => Ok(Command::Rows(statement)),
         Err(ReadFault::NoMemory) => Err(ReadFault::NoMemory),
-        Err(ReadFault::Refused(refusal)) => match statement_of(alloc, tokens) {
-            Ok(statement) => Ok(Command::Data(statement)),
-            Err(ReadFault::NoMemory) => Err(ReadFault::NoMemory),
-            Err(ReadFault::Refused(Refusal::TooHigh)) => Err(ReadFault::Refused(Refusal::TooHigh)),
-            Err(ReadFault::Refused(Refusal::Syntax)) => Err(ReadFault::Refused(refusal)),
-        },
+        Err(ReadFault::Refused(rows)) => cursor_or_data(alloc, tokens, rows),
     }
 }
 
-/// The command that all of the tokens are: a statement on objects, or else one on rows or data.
+/// The command that all of the tokens are: a statement on objects, or else one on rows, on a cursor or on data.
 fn command_of(alloc: Global, tokens: &[Token]) -> Result<Command, ReadFault>
     requires { AreReadable (shapes_of tokens.now) }
     ensures found { IfOk result (λ c. IsCommand (shapes_of tokens.now) (command_tree c)) }
@@ -56,7 +77,7 @@ fn command_of(alloc: Global, tokens: &[Token]) -> Result<Command, ReadFault>
     match ddl_of(alloc, tokens) {
         Ok(ddl) => Ok(Command::Ddl(ddl)),
         Err(ParseFault::NoMemory) => Err(ReadFault::NoMemory),
-        Err(ParseFault::Syntax) => rows_or_data(alloc, tokens),
+        Err(ParseFault::Syntax) => rows_or_other(alloc, tokens),
     }
 }
 

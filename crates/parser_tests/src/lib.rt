@@ -3,6 +3,8 @@
 #![tactic(auto)]
 
 #[cfg(test)]
+mod cursors;
+#[cfg(test)]
 mod expressions_read;
 #[cfg(test)]
 mod rows;

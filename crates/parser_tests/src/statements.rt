@@ -217,6 +217,7 @@ impl Answer for Tree {
         match parse(alloc, text) {
             Ok(Command::Data(statement)) => Ok(format!(in alloc; "{statement:?}")?),
             Ok(Command::Rows(statement)) => Ok(format!(in alloc; "{statement:?}")?),
+            Ok(Command::Cursor(statement)) => Ok(format!(in alloc; "{statement:?}")?),
             Ok(Command::Ddl(statement)) => Ok(format!(in alloc; "{statement:?}")?),
             Err(cause) => Ok(format!(in alloc; "{cause:?}")?),
         }

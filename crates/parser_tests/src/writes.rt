@@ -6,7 +6,7 @@ use std::alloc::Global;
 use std::test::Fail;
 
 /// How the text of a row of parts is answered.
-struct Outcome;
+pub struct Outcome;
 
 impl Answer for Outcome {
     fn answer(alloc: Global, row: &str) -> Result<String, Fail> {

@@ -1,4 +1,4 @@
-//! Statements on cursors read and written out, as no command has them yet; and numbers that are out of range.
+//! Statements on cursors read and written out by their own crates; and numbers that are out of range.
 ghost use Rattle.expr_grammar.specs.View.{shapes_of};
 ghost use Rattle.med_lexer.specs.Printing.{AreShapes};
 
