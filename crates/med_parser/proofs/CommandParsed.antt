@@ -55,7 +55,7 @@ use Rattle.ddl_syntax.specs.declared.ddl.Ddl.{Ddl}
 use Rattle.ddl_parser.specs.DdlGrammar.{IsDdl, HasDdl}
 use Rattle.ddl_parser.proofs.DdlComplete.{begun}
 use Rattle.med_parser.specs.CommandGrammar.{IsCommand, HasCommand}
-use Rattle.med_parser.specs.CommandCauses.{command_in_range, TokenCauses, SyntaxCauses}
+use Rattle.med_parser.specs.CommandCauses.{command_in_range, is_fetch_zero_command, TokenCauses, SyntaxCauses}
 use Rattle.query_reader.specs.QueryReading.{bounded_line}
 use Rattle.med_syntax.specs.QueryView.{statement_tree}
 use Rattle.expr_grammar.proofs.TokenShapes.{OneList, shapes_are}
@@ -329,14 +329,15 @@ read_statement ss s h =
     let x = bounded_sound (words_at (Before false) false ss) s h in
     (of_terminals ss s x.0, x.1)
 
-pub no_cause : (ss : List Shape) (c : CommandTree) → IsCommand ss c → command_height c ≤ 64 → command_in_range c ≡ true → AreReadable ss → (Any IsLongName ss → ⊥) → (k : Cause) → TokenCauses ss k → ⊥
-no_cause ss c x low range r short causes.Syntax h = h c x
-no_cause ss c x low range r short causes.NameTooLong h = short h
-no_cause ss c x low range r short causes.LiteralOutOfRange (inl h) = small_at ss h.0 h.1 r h.2 h.3 h.4
-no_cause ss c x low range r short causes.LiteralOutOfRange (inr h) = absurd (let same : command_in_range h.0 ≡ command_in_range c = ap command_in_range (one_command ss h.0 c h.1 x) in let f : command_in_range h.0 ≡ false = h.2 in cc)
-no_cause ss c x low range r short causes.TooDeep (inl h) = absurd (omega (arith, h.2, ap command_height (one_command ss h.0 c h.1 x)))
-no_cause ss c x low range r short causes.TooDeep (inr h) = h.0 c x
-no_cause ss c x low range r short k h = absurd h
+pub no_cause : (ss : List Shape) (c : CommandTree) → IsCommand ss c → command_height c ≤ 64 → command_in_range c ≡ true → is_fetch_zero_command c ≡ false → AreReadable ss → (Any IsLongName ss → ⊥) → (k : Cause) → TokenCauses ss k → ⊥
+no_cause ss c x low range some r short causes.Syntax h = h c x
+no_cause ss c x low range some r short causes.NameTooLong h = short h
+no_cause ss c x low range some r short causes.LiteralOutOfRange (inl h) = small_at ss h.0 h.1 r h.2 h.3 h.4
+no_cause ss c x low range some r short causes.LiteralOutOfRange (inr h) = absurd (let same : command_in_range h.0 ≡ command_in_range c = ap command_in_range (one_command ss h.0 c h.1 x) in let f : command_in_range h.0 ≡ false = h.2 in cc)
+no_cause ss c x low range some r short causes.TooDeep (inl h) = absurd (omega (arith, h.2, ap command_height (one_command ss h.0 c h.1 x)))
+no_cause ss c x low range some r short causes.TooDeep (inr h) = h.0 c x
+no_cause ss c x low range some r short causes.FetchZero h = absurd (let same : is_fetch_zero_command h.0 ≡ is_fetch_zero_command c = ap is_fetch_zero_command (one_command ss h.0 c h.1 x) in let t : is_fetch_zero_command h.0 ≡ true = h.2 in cc)
+no_cause ss c x low range some r short k h = absurd h
 
 -- ---- causes of texts
 
@@ -351,6 +352,7 @@ text_cause text ts l one causes.Syntax h = λ s x. h s (subst (λ ss. IsCommand 
 text_cause text ts l one causes.NameTooLong h = (views ts, l, subst (λ ss. TokenCauses ss causes.NameTooLong) (sym (shapes_are ts)) h)
 text_cause text ts l one causes.LiteralOutOfRange h = (views ts, l, subst (λ ss. TokenCauses ss causes.LiteralOutOfRange) (sym (shapes_are ts)) h)
 text_cause text ts l one causes.TooDeep h = (views ts, l, subst (λ ss. TokenCauses ss causes.TooDeep) (sym (shapes_are ts)) h)
+text_cause text ts l one causes.FetchZero h = (views ts, l, subst (λ ss. TokenCauses ss causes.FetchZero) (sym (shapes_are ts)) h)
 text_cause text ts l one c h = absurd h
 
 text_clear : (text : List ℕ) (ts : List Token) → Lexes 0 text (views ts) → OneList text (views ts) → ((c : Cause) → TokenCauses (shapes_of ts) c → ⊥) → (c : Cause) → SyntaxCauses text c → ⊥
@@ -358,6 +360,7 @@ text_clear text ts l one none causes.Syntax h = none causes.Syntax (λ s x. h s 
 text_clear text ts l one none causes.NameTooLong h = none causes.NameTooLong (subst (λ ss. TokenCauses ss causes.NameTooLong) (same_shapes text ts h.0 one h.1) h.2)
 text_clear text ts l one none causes.LiteralOutOfRange h = none causes.LiteralOutOfRange (subst (λ ss. TokenCauses ss causes.LiteralOutOfRange) (same_shapes text ts h.0 one h.1) h.2)
 text_clear text ts l one none causes.TooDeep h = none causes.TooDeep (subst (λ ss. TokenCauses ss causes.TooDeep) (same_shapes text ts h.0 one h.1) h.2)
+text_clear text ts l one none causes.FetchZero h = none causes.FetchZero (subst (λ ss. TokenCauses ss causes.FetchZero) (same_shapes text ts h.0 one h.1) h.2)
 text_clear text ts l one none c h = absurd h.2
 
 pub text_refused : {X : Type 0} (text : List ℕ) (ts : List Token) → Lexes 0 text (views ts) → OneList text (views ts) → (r : Result X Cause) → IfErr r (λ c. (c ≡ causes.OutOfMemory) ⊎ TokenCauses (shapes_of ts) c) → IfErr r (λ c. (c ≡ causes.OutOfMemory) ⊎ SyntaxCauses text c)

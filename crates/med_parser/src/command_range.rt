@@ -1,10 +1,12 @@
-//! Whether the numbers of a command are in range.
+//! Whether the numbers of a command are in range, and whether it is FETCH 0.
 
+ghost use Rattle.med_parser.specs.CommandCauses as causes;
 ghost use Rattle.med_parser.specs.CommandCauses.{command_in_range};
 ghost use Rattle.med_parser.specs.CommandTree.{command_tree};
 ghost use Rattle.std.specs.Prelude.{◌≡◌};
 
 use crate::command::Command;
+use cursor_parser::is_fetch_zero;
 use cursor_print::is_cursor_in_range;
 use query_range::is_statement_in_range;
 use write_print::is_write_in_range;
@@ -18,5 +20,15 @@ pub fn is_command_in_range(command: &Command) -> bool
         Command::Rows(statement) => is_write_in_range(statement),
         Command::Cursor(statement) => is_cursor_in_range(statement),
         Command::Ddl(_) => true,
+    }
+}
+
+/// Whether the command is FETCH 0.
+pub fn is_fetch_zero_command(command: &Command) -> bool
+    ensures { result ≡ causes.is_fetch_zero_command (command_tree command.now) }
+{
+    match command {
+        Command::Cursor(statement) => is_fetch_zero(statement),
+        _ => false,
     }
 }

@@ -15,7 +15,7 @@ ghost use Rattle.std.specs.Prelude.{◌≡◌, ◌≤◌, ◌⊎◌, IfErr, IfOk
 ghost use Rattle.write_parser.specs.WriteCauses.{Refuses};
 
 use crate::command::Command;
-use crate::command_range::is_command_in_range;
+use crate::command_range::{is_command_in_range, is_fetch_zero_command};
 use cursor_parser::cursor_of;
 use ddl_parser::ddl_of;
 use expr_grammar::ParseFault;
@@ -96,16 +96,19 @@ fn checked_command(alloc: Global, tokens: &[Token]) -> Result<Command, Cause>
     if has_long_name(tokens) {
         return Err(Cause::NameTooLong);
     }
-    if is_command_in_range(&command) {
-        Ok(command)
+    if !is_command_in_range(&command) {
+        return Err(Cause::LiteralOutOfRange);
+    }
+    if is_fetch_zero_command(&command) {
+        Err(Cause::FetchZero)
     } else {
-        Err(Cause::LiteralOutOfRange)
+        Ok(command)
     }
 }
 
 /// The command of a text, or why it is refused: 42601 where the text is not in the grammar, 22003 where a number is out of range,
 /// 42622 where a name has over 63 bytes, 54000 where an expression is higher than 64, or the text is not in the grammar and has over 64 of
-/// the tokens `( + - * / %` and NOT, and 53200 where memory was refused. Where several stand, any of them may be told, but of a text that
+/// the tokens `( + - * / %` and NOT, 0A000 for FETCH 0, and 53200 where memory was refused. Where several stand, any of them may be told, but of a text that
 /// is not in the grammar never 42622.
 pub fn parse(alloc: Global, text: &str) -> Result<Command, Cause>
     // What is answered is the text's one tree.

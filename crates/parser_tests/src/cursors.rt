@@ -34,7 +34,6 @@ fn cursors(rt: HostRuntime) -> Result<(), Fail> {
         FETCH all c; => FETCH ALL FROM \"c\"\n\
         FETCH \"all\" => FETCH 1 FROM \"all\"\n\
         FETCH 9223372036854775807 c => FETCH 9223372036854775807 FROM \"c\"\n\
-        FETCH 0 FROM c => FETCH 0 FROM \"c\"\n\
         CLOSE c => CLOSE \"c\"\n\
         close \"C d\"; => CLOSE \"C d\"\n\
         CLOSE close => CLOSE \"close\"",
@@ -79,6 +78,9 @@ fn refused_cursors(rt: HostRuntime) -> Result<(), Fail> {
         FETCH a234567890b234567890c234567890d234567890e234567890f234567890g234 => NameTooLong\n\
         CLOSE a234567890b234567890c234567890d234567890e234567890f234567890g234 => NameTooLong\n\
         DECLARE a234567890b234567890c234567890d234567890e234567890f234567890g234 CURSOR FOR SELECT 1 => NameTooLong\n\
+        FETCH 0 => Syntax\n\
+        FETCH 0 c => FetchZero\n\
+        FETCH 00 FROM c; => FetchZero\n\
         FETCH 9223372036854775808 c => LiteralOutOfRange\n\
         FETCH 99999999999999999999 FROM c => LiteralOutOfRange\n\
         DECLARE c CURSOR FOR SELECT 9223372036854775808 => LiteralOutOfRange\n\

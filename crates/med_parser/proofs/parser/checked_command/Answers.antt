@@ -2,6 +2,7 @@ use Rattle.std.proofs.Common.{◌≡◌, true, false, sym, ◌∙◌, inl, inr}
 use Rattle.std.proofs.lemmas.Result.{err_from_is_err_and}
 use Rattle.expr_grammar.specs.View.{shapes_of}
 use Rattle.med_parser.specs.CommandTree.{command_tree}
+use Rattle.med_parser.specs.CommandCauses.{command_in_range}
 use Rattle.expr_grammar.proofs.TokenShapes.{short_names, long_name}
 use Rattle.expr_grammar.proofs.TokenNumbers.{huge, readable}
 use Rattle.med_parser.proofs.CommandParsed.{told_refused, told_syntax, no_cause}
@@ -30,11 +31,18 @@ returns-then-has_long_name-clause-refused c = inr (long_name c.args.tokens.now (
 pub returns-then-has_long_name-clause-syntax : goal.returns-then-has_long_name-clause-syntax
 returns-then-has_long_name-clause-syntax c = λ none. absurd (none (command_tree c.in_ok-command.command) c.in_ok-command.ensures.found)
 
-pub returns-then-is_command_in_range-clause-clear : goal.returns-then-is_command_in_range-clause-clear
-returns-then-is_command_in_range-clause-clear c =
-    no_cause (shapes_of c.args.tokens.now) (command_tree c.in_ok-command.command) c.in_ok-command.ensures.found c.in_ok-command.ensures.low (sym c.is_command_in_range.ensures ∙ c.if-is_command_in_range.true)
+pub returns-then-not-is_command_in_range-clause-refused : goal.returns-then-not-is_command_in_range-clause-refused
+returns-then-not-is_command_in_range-clause-refused c =
+    inr (inr (command_tree c.in_ok-command.command, c.in_ok-command.ensures.found, (let r : c.is_command_in_range.result ≡ command_in_range (command_tree c.in_ok-command.command) = c.is_command_in_range.ensures in cc)))
+
+pub returns-then-is_fetch_zero_command-clause-refused : goal.returns-then-is_fetch_zero_command-clause-refused
+returns-then-is_fetch_zero_command-clause-refused c =
+    inr (command_tree c.in_ok-command.command, c.in_ok-command.ensures.found, sym c.is_fetch_zero_command.ensures ∙ c.if-is_fetch_zero_command.true)
+
+pub returns-else-is_fetch_zero_command-clause-clear : goal.returns-else-is_fetch_zero_command-clause-clear
+returns-else-is_fetch_zero_command-clause-clear c =
+    no_cause (shapes_of c.args.tokens.now) (command_tree c.in_ok-command.command) c.in_ok-command.ensures.found c.in_ok-command.ensures.low
+    (let r : c.is_command_in_range.result ≡ command_in_range (command_tree c.in_ok-command.command) = c.is_command_in_range.ensures in cc)
+    (sym c.is_fetch_zero_command.ensures ∙ c.if-is_fetch_zero_command.false)
     (readable c.args.tokens.now c.requires (λ h. absurd (let t : c.has_unreadable.result ≡ true = c.has_unreadable.ensures.1 h in let f : c.has_unreadable.result ≡ false = c.if-has_unreadable.false in cc)))
     (λ h. absurd (let t : c.has_long_name.result ≡ true = c.has_long_name.ensures.1 (short_names c.args.tokens.now h) in let f : c.has_long_name.result ≡ false = c.if-has_long_name.false in cc))
-
-pub returns-else-is_command_in_range-clause-refused : goal.returns-else-is_command_in_range-clause-refused
-returns-else-is_command_in_range-clause-refused c = inr (inr (command_tree c.in_ok-command.command, c.in_ok-command.ensures.found, sym c.is_command_in_range.ensures ∙ c.if-is_command_in_range.false))
