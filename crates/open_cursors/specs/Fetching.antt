@@ -1,14 +1,21 @@
 -- What FETCH and CLOSE do to the boxes, and why FETCH fails (SQL:2016, <fetch statement>, <close statement>; PostgreSQL: Writing a
 -- Foreign Data Wrapper, IterateForeignScan, EndForeignScan).
-use Rattle.std.specs.Prelude.{◌≡◌, ◌<◌, ◌≤◌, ◌⊎◌, List, ◌++◌, length, Option}
+use Rattle.std.specs.Prelude.{◌≡◌, ◌<◌, ◌⊎◌, ℕ, Bool, false, nat_le, List, ◌++◌, length, Option}
 use Rattle.med_value.specs.Datum.{Tuple}
 use Rattle.med_value.specs.declared.cause.Cause.{Cause}
 use Rattle.med_value.specs.declared.cause.Cause.TheVariants.{OutOfMemory, SourceFault}
 use Rattle.fdw_api.specs.State.{BoxState}
+use Rattle.fdw_api.specs.declared.interface.Fault.{Fault}
+use Rattle.fdw_api.specs.declared.interface.Fault.TheVariants.{NoMemory, Source, Refused}
 use Rattle.cursor_syntax.specs.CursorTree.{CountTree, some_rows, all_rows}
 use Rattle.med_exec.specs.declared.running.Run.{Run}
-use Rattle.med_exec.specs.Running.{AllHonest, AllServed, ServesRun, SlotShows, HasFailed, none_held}
+use Rattle.med_exec.specs.Running.{AllHonest, ServesRun, SlotShows, HasFailed}
 use Rattle.med_exec.specs.Rests.{Rests, held, IsRunning}
+
+-- so many are as many as were asked for
+abbrev pub has_enough : CountTree → ℕ → Bool
+has_enough (some_rows n) given = nat_le n given
+has_enough all_rows given = false
 
 -- so many rows are as many as were asked for, or fewer, which are all that were left
 abbrev pub AreEnough : CountTree → List Tuple → (List Tuple → Type 0) → Type 0
@@ -23,6 +30,12 @@ pub record GivesRows (run : Run) (asked : CountTree) (old : List (Option BoxStat
   pub some : AllHonest old → (left : List Tuple) × Rests after new left
   pub gives : AllHonest old → (left : List Tuple) → Rests after new left → Rests run old (rows ++ left)
   pub enough : AllHonest old → AreEnough asked rows (Rests run old)
+
+-- the cause that a fault of a box is told by
+abbrev pub cause_of : Fault → Cause
+cause_of NoMemory = OutOfMemory
+cause_of Source = SourceFault
+cause_of (Refused c) = c
 
 -- why it gave none, once it was asked for a row: memory was refused, or a source failed
 pub data GivesNone (c : Cause) (old new : List (Option BoxState)) : Type 0 where

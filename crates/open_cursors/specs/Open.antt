@@ -1,9 +1,11 @@
 -- Cursors that are open, as an engine holds them (SQL:2016, <declare cursor>; ISO/IEC 9075-2, 14 "Data manipulation").
-use Rattle.std.specs.Prelude.{Bool, false, List, [], ◌∷◌, ◌++◌, map, filter, find, not, cond, Option, Some, None, bytes_eq, string_bytes}
-use Rattle.std.specs.List.{list_any}
-use Rattle.med_value.specs.Datum.{Tuple}
+use Rattle.std.specs.Prelude.{Bool, false, List, length, map, filter, find, not, cond, flat_map, nat_le, Option, Some, None, option_map, bytes_eq, string_bytes}
+use Rattle.std.specs.List.{All, IsDistinct, list_any}
 use Rattle.med_syntax.specs.Tree.{Name}
+use Rattle.fdw_api.specs.State.{BoxState}
 use Rattle.med_exec.specs.declared.running.Run.{Run}
+use Rattle.med_exec.specs.Running.{Held}
+use Rattle.med_exec.specs.Rests.{held, IsHeld}
 use Rattle.open_cursors.specs.declared.cursors.OpenCursor.{OpenCursor}
 use Rattle.open_cursors.specs.declared.cursors.Seat.{Seat}
 
@@ -20,12 +22,29 @@ pub record Seated : Type 0 where
   pub cursors : List Opened
 
 abbrev pub opened : OpenCursor → Opened
-opened c = record { name = string_bytes c.name; names = map string_bytes c.names.items; leases = map string_bytes c.leases.items; run = c.run }
+opened c = record {
+  name = string_bytes c.name;
+  names = map string_bytes c.names.items;
+  leases = map string_bytes c.leases.items;
+  run = c.run;
+}
 
 abbrev pub seated : Seat → Seated
 seated s = record { user = string_bytes s.user; cursors = map opened s.cursors.items }
 
+-- the sessions by their places: one that is closed has left its place empty
+abbrev pub seats_shown : List (Option Seat) → List (Option Seated)
+seats_shown seats = map (option_map seated) seats
+
+-- a session has as many cursors as it may have, which is 16
+abbrev pub is_full : List Opened → Bool
+is_full cursors = nat_le 16 (length cursors)
+
 -- ---- by name
+
+-- no two have one name
+abbrev pub AreNamedApart : List Opened → Type 0
+AreNamedApart cursors = IsDistinct bytes_eq (map (λ (c : Opened). c.name) cursors)
 
 abbrev pub has_name : Name → Opened → Bool
 has_name name c = bytes_eq c.name name
@@ -57,3 +76,13 @@ seat_leases table (Some s) = list_any (leases_table table) s.cursors
 
 abbrev pub any_leases : List (Option Seated) → Name → Bool
 any_leases seats table = list_any (seat_leases table) seats
+
+-- ---- runs
+
+-- the scans that the runs of these hold
+abbrev pub held_by : List Opened → Held
+held_by cursors = λ slot. flat_map (λ (c : Opened). held c.run slot) cursors
+
+-- the run of each is good for its close
+abbrev pub AreHeld : List Opened → List (Option BoxState) → Type 0
+AreHeld cursors boxes = All (λ (c : Opened). IsHeld c.run boxes) cursors

@@ -1,6 +1,6 @@
 -- What DECLARE does to the boxes, and why it is refused (SQL:2016, <declare cursor>; PostgreSQL: Writing a Foreign Data Wrapper,
 -- BeginForeignScan).
-use Rattle.std.specs.Prelude.{◌≡◌, ◌<◌, ◌≤◌, Bool, true, false, List, [], ◌++◌, length, Option, Some, None}
+use Rattle.std.specs.Prelude.{◌≡◌, ◌<◌, ◌≤◌, Bool, true, false, List, [], ◌++◌, length, map, Option, Some, None}
 use Rattle.std.specs.List.{list_any}
 use Rattle.tri_expr.specs.Tree.{Tree}
 use Rattle.tri_expr.specs.TreeParts.{is_risky_tree}
@@ -8,7 +8,8 @@ use Rattle.med_value.specs.Datum.{Tuple}
 use Rattle.med_value.specs.declared.cause.Cause.{Cause}
 use Rattle.med_value.specs.declared.cause.Cause.TheVariants.{FeatureNotSupported, LimitExceeded, OutOfMemory, SourceFault}
 use Rattle.med_syntax.specs.Tree.{Name}
-use Rattle.med_syntax.specs.QueryTree.{SelectTree}
+use Rattle.med_syntax.specs.QueryTree.{EntryTree, SelectTree}
+use Rattle.bind_names.specs.Scope.{entries_of}
 use Rattle.med_query.specs.Query.{Query, Tables, SameRows, IsAnswer}
 use Rattle.med_query.specs.Form.{Form, GroupForm, query_by}
 use Rattle.fdw_api.specs.State.{BoxState}
@@ -30,6 +31,12 @@ group_trees (Some g) = g.arguments ++ g.having
 -- An expression of the query is risky; those of ON never are in a query that is bound.
 abbrev pub is_risky_form : Form → Bool
 is_risky_form f = list_any is_risky_tree (f.conditions ++ (group_trees f.group ++ (f.items ++ f.keys)))
+
+-- ---- the tables that a cursor leases
+
+-- one for each entry of FROM, in their order
+abbrev pub leases_of : SelectTree → List Name
+leases_of q = map (λ (e : EntryTree). e.table) (entries_of q.from)
 
 -- ---- a run that is begun
 

@@ -1,6 +1,11 @@
 //! Open cursors and the sessions that have them.
+ghost use Rattle.std.specs.Prelude.{◌≡◌, map};
+ghost use Rattle.open_cursors.specs.Open.{opened, is_full as holds_most};
 
 use med_exec::Run;
+
+/// How many cursors a session has open at most.
+pub const CURSORS: usize = 16;
 
 /// An open cursor (SQL:2016, 14.1 <declare cursor>).
 #[derive(Drop)]
@@ -14,9 +19,16 @@ pub struct OpenCursor {
     pub run: Run,
 }
 
-/// An open session: its user and its cursors.
+/// An open session: its user and its cursors, in the order in which they were declared.
 #[derive(Drop)]
 pub struct Seat {
     pub user: String,
     pub cursors: Vec<OpenCursor>,
+}
+
+/// Whether a session with these cursors may open no further one.
+pub fn is_full(cursors: &[OpenCursor]) -> bool
+    ensures { result ≡ holds_most (map opened cursors.now) }
+{
+    cursors.len() >= CURSORS
 }

@@ -1,0 +1,62 @@
+use Rattle.std.proofs.Common.{◌≡◌, ◌∙◌, ◌+◌, List, length-append, false, [], ◌∷◌, ◌++◌, Some, None, length, ap, sym, subst, arith}
+use Rattle.std.proofs.lemmas.Grind.{common_steps}
+use Rattle.med_value.specs.Datum.{tuple}
+use Rattle.med_value.specs.declared.value.Row.{Row}
+use Rattle.cursor_syntax.specs.CursorView.{count_tree}
+use Rattle.med_exec.specs.Slots.{states}
+use Rattle.med_exec.specs.Running.{AllHonest, Gives}
+use Rattle.med_exec.specs.Rests.{Rests, rows_left, LessLeft, held}
+use Rattle.open_cursors.specs.Fetching.{has_enough}
+use Rattle.open_cursors.proofs.Rows.{IsWithin, one_more, all_given, all_then, within_more, all_there, some_left, gives_none}
+use Rattle.open_cursors.proofs.fetching.fetch.Goals as goal
+
+pub returns-in-Err-clause-breaks : goal.returns-in-Err-clause-breaks
+returns-in-Err-clause-breaks g c =
+    let m = g.W.Wrapper.meaning in
+    let own = held c.next.new.self in
+    let new = states m c.next.new.slots.items in
+    c.services_join.ensures.broken (held c.args.run.now) (held c.loop-asked.run) own own (states m c.args.slots.now.items) (states m c.loop-asked.slots.items) new new c.in-Err.fault c.loop-asked.invariant.boxes c.in-Err.ensures.err (c.services_join.ensures.same own new)
+
+pub returns-in-Err-clause-err : goal.returns-in-Err-clause-err
+returns-in-Err-clause-err g c = gives_none _ _ _ (returns-in-Err-clause-breaks g c)
+
+pub returns-in-Ok-None-clause-ok : goal.returns-in-Ok-None-clause-ok
+returns-in-Ok-None-clause-ok g c =
+    let m = g.W.Wrapper.meaning in
+    let old = states m c.args.slots.now.items in
+    let now = states m c.loop-asked.slots.items in
+    let next = states m c.next.new.slots.items in
+    let gives : AllHonest now → Gives (Rests c.loop-asked.run now) None (Rests c.next.new.self next) = rw c.in-Ok-None.field-0-is at c.in-Ok-None.ensures.gives in
+    let fewer : LessLeft None (rows_left c.loop-asked.run now) (rows_left c.next.new.self next) = rw c.in-Ok-None.field-0-is at c.in-Ok-None.ensures.fewer in
+    let counted : c.len.result ≡ length c.loop-asked.rows.items = c.len.ensures ∙ c.loop-asked.rows.ok.0 in
+    let more : has_enough (count_tree c.args.asked) (length c.loop-asked.rows.items) ≡ false = ap (has_enough (count_tree c.args.asked)) (sym counted) ∙ sym c.is_enough.ensures ∙ c.loop-asked-test.true in
+    record {
+      served = c.services_join.ensures.joined (held c.args.run.now) (held c.loop-asked.run) (held c.next.new.self) old now next c.loop-asked.invariant.boxes c.next.ensures.boxes;
+      running = c.in-Ok-None.ensures.running;
+      some = λ honest. some_left c.next.new.self next;
+      gives = λ honest. all_then c.args.run.now c.loop-asked.run c.next.new.self old now next c.loop-asked.rows.items (c.loop-asked.invariant.given honest)
+          (gives (c.services_join.ensures.honest (held c.args.run.now) (held c.loop-asked.run) old now c.loop-asked.invariant.boxes honest)) fewer;
+      enough = λ honest. all_there (count_tree c.args.asked) c.loop-asked.rows.items (Rests c.args.run.now old) more
+          (all_given c.args.run.now c.loop-asked.run c.next.new.self old now next c.loop-asked.rows.items (c.loop-asked.invariant.given honest)
+          (gives (c.services_join.ensures.honest (held c.args.run.now) (held c.loop-asked.run) old now c.loop-asked.invariant.boxes honest)));
+    }
+
+pub loop-asked-preserved : goal.loop-asked-preserved
+loop-asked-preserved g c =
+    let m = g.W.Wrapper.meaning in
+    let old = states m c.args.slots.now.items in
+    let now = states m c.loop-asked.slots.items in
+    let next = states m c.next.new.slots.items in
+    let pushed : c.push.new.self.items ≡ c.loop-asked.rows.items ++ (c.in-Ok-Some.row ∷ []) = grind (arith, common_steps) in
+    let gives : AllHonest now → Gives (Rests c.loop-asked.run now) (Some (tuple c.in-Ok-Some.row)) (Rests c.next.new.self next) = rw c.in-Ok-Some.field-0-is at c.in-Ok-Some.ensures.gives in
+    let before : c.len.result ≡ length c.loop-asked.rows.items = c.len.ensures ∙ c.loop-asked.rows.ok.0 in
+    let more : has_enough (count_tree c.args.asked) (length c.loop-asked.rows.items) ≡ false = ap (has_enough (count_tree c.args.asked)) (sym before) ∙ sym c.is_enough.ensures ∙ c.loop-asked-test.true in
+    let counted : length c.loop-asked.rows.items + 1 ≡ length c.push.new.self.items = omega (arith, sym (ap (λ (rs : List Row). length rs) pushed ∙ length-append c.loop-asked.rows.items (c.in-Ok-Some.row ∷ []))) in
+    record {
+      boxes = c.services_join.ensures.joined (held c.args.run.now) (held c.loop-asked.run) (held c.next.new.self) (states m c.args.slots.now.items) (states m c.loop-asked.slots.items) (states m c.next.new.slots.items) c.loop-asked.invariant.boxes c.next.ensures.boxes;
+      running = c.in-Ok-Some.ensures.running;
+      given = λ honest.
+          one_more c.args.run.now c.loop-asked.run c.next.new.self old now next c.loop-asked.rows.items c.push.new.self.items c.in-Ok-Some.row pushed (c.loop-asked.invariant.given honest)
+          (gives (c.services_join.ensures.honest (held c.args.run.now) (held c.loop-asked.run) old now c.loop-asked.invariant.boxes honest));
+      most = subst (IsWithin (count_tree c.args.asked)) counted (within_more (count_tree c.args.asked) (length c.loop-asked.rows.items) more);
+    }

@@ -1,0 +1,19 @@
+use Rattle.std.proofs.Common.{length}
+use Rattle.cursor_syntax.specs.CursorView.{count_tree}
+use Rattle.med_exec.specs.Slots.{states}
+use Rattle.med_exec.specs.Running.{AllHonest, ServesRun}
+use Rattle.med_exec.specs.Rests.{rows_left, held, IsRunning}
+use Rattle.open_cursors.proofs.Rows.{HasGiven, IsWithin}
+use Rattle.open_cursors.proofs.fetching.fetch.Given as goal
+
+abbrev pub invariant-loop-asked : goal.invariant-loop-asked
+invariant-loop-asked g l =
+    record {
+      boxes : ServesRun (held l.fn.run) (held l.run) (states g.W.Wrapper.meaning l.fn.slots.items) (states g.W.Wrapper.meaning l.slots.items);
+      running : IsRunning l.run (states g.W.Wrapper.meaning l.slots.items);
+      given : AllHonest (states g.W.Wrapper.meaning l.fn.slots.items) → HasGiven l.fn.run (states g.W.Wrapper.meaning l.fn.slots.items) l.rows.items l.run (states g.W.Wrapper.meaning l.slots.items);
+      most : IsWithin (count_tree l.asked) (length l.rows.items);
+    }
+
+abbrev pub decreases-loop-asked : goal.decreases-loop-asked
+decreases-loop-asked g l = rows_left l.run (states g.W.Wrapper.meaning l.slots.items)

@@ -1,0 +1,94 @@
+//! FETCH and CLOSE: rows of an open cursor, and its end.
+ghost use Rattle.std.specs.Prelude.{◌≡◌, map, IfOk, IfErr};
+ghost use Rattle.med_value.specs.Datum.{tuple};
+ghost use Rattle.cursor_syntax.specs.CursorView.{count_tree};
+ghost use Rattle.med_exec.specs.Slots.{states};
+ghost use Rattle.med_exec.specs.Running.{ServesRun, Breaks, none_held};
+ghost use Rattle.med_exec.specs.Rests.{held, IsRunning, IsHeld};
+ghost use Rattle.open_cursors.specs.Open.{opened, held_by, AreHeld};
+ghost use Rattle.open_cursors.specs.Fetching.{has_enough, GivesRows, GivesNone, cause_of};
+
+use crate::cursors::OpenCursor;
+use cursor_syntax::FetchCount;
+use fdw_api::interface::{Fault, Wrapper};
+use med_exec::Run;
+use med_exec::law::{running_is_held, services_join};
+use med_value::Row;
+use std::alloc::Global;
+
+fn is_enough(asked: FetchCount, given: usize) -> bool
+    ensures { result ≡ has_enough (count_tree asked) given }
+{
+    match asked {
+        FetchCount::Rows(count) => given as u64 >= count,
+        FetchCount::All => false,
+    }
+}
+
+/// Gives as many rows of a run as are asked for, or all that are left where they are fewer, in their order. It asks the run for no row
+/// beyond them, and the next FETCH goes on behind them.
+///
+/// After a fault the run is good for its close alone.
+///
+/// # Errors
+///
+/// [`Fault::NoMemory`] where memory was asked for and refused, and [`Fault::Source`] where a source failed.
+///
+/// SQL:2016, 14.5 <fetch statement>.
+pub fn fetch<W: Wrapper>(
+    run: &mut Run,
+    slots: &mut Vec<Option<W>>,
+    alloc: Global,
+    asked: FetchCount,
+) -> Result<Vec<Row>, Fault>
+    requires { IsRunning run.old (states W.meaning slots.old.items) }
+    ensures boxes { ServesRun (held run.old) (held run.new) (states W.meaning slots.old.items) (states W.meaning slots.new.items) }
+    ensures held { IsHeld run.new (states W.meaning slots.new.items) }
+    ensures ok { IfOk result (λ rows. GivesRows run.old (count_tree asked) (states W.meaning slots.old.items) (map tuple rows.items)
+        run.new (states W.meaning slots.new.items)) }
+    ensures err { IfErr result (λ fault. GivesNone (cause_of fault)
+        (states W.meaning slots.old.items) (states W.meaning slots.new.items)) }
+    ensures breaks { IfErr result (λ fault. Breaks fault (states W.meaning slots.old.items) (states W.meaning slots.new.items)) }
+{
+    services_join();
+    running_is_held();
+    let mut rows = Vec::new(alloc);
+    while !is_enough(asked, rows.len()) {
+        let row = match run.next(slots) {
+            Ok(Some(row)) => row,
+            Ok(None) => return Ok(rows),
+            Err(fault) => return Err(fault),
+        };
+        if rows.push(row).is_err() {
+            return Err(Fault::NoMemory);
+        }
+    }
+    Ok(rows)
+}
+
+/// Closes a cursor: each scan that its run holds is ended, and the boxes hold what they held besides (SQL:2016, 14.6 <close statement>).
+pub fn close_cursor<W: Wrapper>(cursor: OpenCursor, slots: &mut Vec<Option<W>>)
+    requires { IsHeld cursor.run (states W.meaning slots.old.items) }
+    ensures { ServesRun (held cursor.run) none_held (states W.meaning slots.old.items) (states W.meaning slots.new.items) }
+{
+    let OpenCursor {
+        name: _,
+        names: _,
+        leases: _,
+        run,
+    } = cursor;
+    run.close(slots);
+}
+
+/// Closes each of these cursors.
+pub fn close_all<W: Wrapper>(mut cursors: Vec<OpenCursor>, slots: &mut Vec<Option<W>>)
+    requires { AreHeld (map opened cursors.items) (states W.meaning slots.old.items) }
+    ensures { ServesRun (held_by (map opened cursors.items)) none_held
+        (states W.meaning slots.old.items) (states W.meaning slots.new.items) }
+{
+    services_join();
+    while let Some(cursor) = cursors.pop() {
+        close_cursor(cursor, slots);
+    }
+    cursors.destroy_empty();
+}
