@@ -4,6 +4,7 @@
 pub mod adding;
 mod altering;
 mod binding;
+mod cursors;
 pub mod engine;
 mod places;
 mod replies;
