@@ -1,5 +1,5 @@
 -- What the engine's statements on objects do, and why they are refused.
-use Rattle.std.specs.Prelude.{◌≡◌, ◌≤◌, ℕ, Bool, false}
+use Rattle.std.specs.Prelude.{◌≡◌, ◌≤◌, ℕ, false}
 use Rattle.med_value.specs.declared.cause.Cause.{Cause}
 use Rattle.med_value.specs.declared.cause.Cause.TheVariants.{UnableToConnect, OutOfMemory, SourceFault}
 use Rattle.med_syntax.specs.Tree.{Name}
@@ -14,25 +14,21 @@ use Rattle.med_catalog.specs.Changes.{ObjectChange, new_server, new_table, Asks}
 use Rattle.med_catalog.specs.DdlCauses.{DdlCauses}
 use Rattle.med_world.specs.World.{is_taken}
 use Rattle.med_world.specs.Causes.{phase}
-use Rattle.med_world.specs.Engine.{Shown, IsServerAt, IsStandingAt, Alters}
+use Rattle.med_world.specs.Engine.{Shown, leased, IsServerAt, IsStandingAt, Alters}
 
 abbrev pub cause_of : Fault → Cause
 cause_of NoMemory = OutOfMemory
 cause_of Source = SourceFault
 cause_of (Refused c) = c
 
--- no table is leased: cursors are to come
-abbrev pub no_lease : Name → Bool
-no_lease name = false
-
 -- the source that a new server names stands in this place, is of its kind, and no server has taken it
 pub record IsFreeAt (e : Shown) (s : ServerObject) (place : ℕ) : Type 0 where
   pub stands : IsStandingAt e s place
   pub untaken : is_taken e.catalog s.source ≡ false
 
--- the catalogue shows no cause, and this is the change that is asked
+-- the catalogue and the leases show no cause, and this is the change that is asked
 pub record IsAllowed (e : Shown) (user : Name) (d : DdlTree) (change : ObjectChange) : Type 0 where
-  pub clear : (c : Cause) → DdlCauses e.catalog no_lease user d c → ⊥
+  pub clear : (c : Cause) → DdlCauses e.catalog (leased e) user d c → ⊥
   pub asks : Asks e.catalog user d change
 
 -- a new server's source is free
@@ -56,7 +52,7 @@ pub record BindsInVain (t : TableObject) (old new : BoxState) : Type 0 where
 
 -- Why it was not, and what that changes: nothing but what a box counts.
 pub data NotAltered (old : Shown) (user : Name) (d : DdlTree) (c : Cause) (new : Shown) : Type 0 where
-  catalog_shows : DdlCauses old.catalog no_lease user d c → ((x : Cause) → DdlCauses old.catalog no_lease user d x → phase c ≤ phase x)
+  catalog_shows : DdlCauses old.catalog (leased old) user d c → ((x : Cause) → DdlCauses old.catalog (leased old) user d x → phase c ≤ phase x)
       → new ≡ old → NotAltered old user d c new
   not_free : (s : ServerObject) → IsAllowed old user d (new_server s) → ((place : ℕ) → IsFreeAt old s place → ⊥) → c ≡ UnableToConnect
       → new ≡ old → NotAltered old user d c new

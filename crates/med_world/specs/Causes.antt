@@ -1,8 +1,8 @@
 -- The causes of refusal that stand for a request in a world: a set of causes, with no order of checks.
-use Rattle.std.specs.Prelude.{◌≡◌, ◌<◌, ◌≤◌, ◌⊎◌, ℕ, zero, suc, true, List, [], ◌∷◌, map, flat_map, length, Option, Some, Contains, IsPermutation, unwrap_or}
+use Rattle.std.specs.Prelude.{◌≡◌, ◌<◌, ◌≤◌, ◌⊎◌, ℕ, zero, suc, true, List, [], ◌∷◌, map, flat_map, length, Option, Some, None, IsSome, Contains, IsPermutation, unwrap_or}
 use Rattle.med_value.specs.Causes.{phase_of}
 use Rattle.med_value.specs.declared.cause.Cause.{Cause}
-use Rattle.med_value.specs.declared.cause.Cause.TheVariants.{Protocol, NoConnection, LimitExceeded, UnableToConnect, InUse, NotNull}
+use Rattle.med_value.specs.declared.cause.Cause.TheVariants.{Protocol, NoConnection, LimitExceeded, UnableToConnect, InUse, NotNull, DuplicateCursor, InvalidCursorName, FeatureNotSupported}
 use Rattle.med_syntax.specs.Tree.{Name}
 use Rattle.med_syntax.specs.QueryTree.{SelectTree, select}
 use Rattle.tri_expr.specs.declared.expr.Fault.{Fault as Wrong}
@@ -15,6 +15,8 @@ use Rattle.med_parser.specs.CommandCauses.{SyntaxCauses}
 use Rattle.bind_names.specs.Meaning.{Meant}
 use Rattle.med_planner.specs.Planned.{QueryCauses, wrong_cause}
 use Rattle.ddl_syntax.specs.DdlTree.{DdlTree}
+use Rattle.cursor_syntax.specs.CursorTree.{CursorTree, declare, fetch, close}
+use Rattle.open_cursors.specs.Starting.{is_risky_form}
 use Rattle.write_syntax.specs.WriteTree.{GivenTree, values, rows_of, WriteTree, insert, update, delete}
 use Rattle.med_write.specs.declared.write.WrittenColumn.{WrittenColumn}
 use Rattle.med_write.specs.Form.{WriteForm}
@@ -27,11 +29,12 @@ use Rattle.med_catalog.specs.Changes.{ObjectChange, new_server, new_table, Asks}
 use Rattle.med_catalog.specs.DdlCauses.{DdlCauses}
 use Rattle.bind_catalog.specs.Tables.{shapes}
 use Rattle.bind_catalog.specs.Queries.{meant_by, QueryNames, QueryTypes}
-use Rattle.med_parser.specs.CommandTree.{CommandTree, on_data, on_rows, on_objects}
+use Rattle.med_parser.specs.CommandTree.{CommandTree, on_data, on_rows, on_cursors, on_objects}
 use Rattle.med_parser.specs.CommandGrammar.{HasCommand}
 use Rattle.med_world.specs.Picks.{Pick, PicksAnswer, IsNumbering, as_given}
 use Rattle.med_world.specs.Requests.{Asked, opening, sql, bye, IsUser}
 use Rattle.med_world.specs.World.{World, Session, IsOpen, cells_of, rows_in, rows_named, IsFree, Serves, is_leased}
+use Rattle.med_world.specs.Cursors.{cursor_named}
 
 -- Phase 1, the frame. 08P01: OPEN of a session that is open, or with a user who is none by the protocol.
 -- 08003: a statement or BYE of a session that is not open.
@@ -146,12 +149,29 @@ pub data WriteRun (w : World) (p : Pick) (t : WriteTree) (c : Cause) : Type 0 wh
 abbrev pub RowCauses : World → Name → Pick → WriteTree → Cause → Type 0
 RowCauses w user p t c = WriteNames w.catalog user t c ⊎ (WriteTypes w.catalog t c ⊎ (WriteState w t c ⊎ WriteRun w p t c))
 
+-- ---- a cursor
+
+-- Phases 3 to 6 of DECLARE: 42P03 where the session has a cursor of this name; what stands against its query, and against the run of that;
+-- 0A000 where an expression of the query may fault; 54000 where the session has 16 cursors.
+pub data DeclareCauses (w : World) (s : Session) (name : Name) (q : SelectTree) (c : Cause) : Type 0 where
+  exists : c ≡ DuplicateCursor → IsSome (cursor_named name s) → DeclareCauses w s name q c
+  of_query : SelectCauses w s.user q c → DeclareCauses w s name q c
+  is_risky : c ≡ FeatureNotSupported → is_risky_form (meant_over w q).form ≡ true → DeclareCauses w s name q c
+  too_many : c ≡ LimitExceeded → 16 ≤ length s.cursors → DeclareCauses w s name q c
+
+-- Of FETCH and CLOSE: 34000 where the session has no cursor of this name.
+abbrev pub CursorCauses : World → Session → CursorTree → Cause → Type 0
+CursorCauses w s (declare name (select q)) c = DeclareCauses w s name q c
+CursorCauses w s (fetch asked name) c = (c ≡ InvalidCursorName) × (cursor_named name s ≡ None)
+CursorCauses w s (close name) c = (c ≡ InvalidCursorName) × (cursor_named name s ≡ None)
+
 -- ---- a statement
 
 -- Phases 3 to 6, by the statement.
 abbrev pub TreeCauses : World → Session → Pick → CommandTree → Cause → Type 0
 TreeCauses w s p (on_data (select q)) c = SelectCauses w s.user q c
 TreeCauses w s p (on_rows t) c = RowCauses w s.user p t c
+TreeCauses w s p (on_cursors t) c = CursorCauses w s t c
 TreeCauses w s p (on_objects d) c = ObjectCauses w s.user p d c
 
 -- the session is open, and the request is a statement with this tree
@@ -194,6 +214,7 @@ IsRowPick w user t p = IsWritable w user t → PicksWrite w t p
 abbrev pub IsPick : World → Session → CommandTree → Pick → Type 0
 IsPick w s (on_data q) p = Unit {0}
 IsPick w s (on_rows t) p = IsRowPick w s.user t p
+IsPick w s (on_cursors t) p = Unit {0}
 IsPick w s (on_objects d) p = (t : TableObject) → Asks w.catalog s.user d (new_table t) → PicksEntry w t p
 
 -- no cause of syntax stands against the text

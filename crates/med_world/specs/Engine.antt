@@ -1,5 +1,5 @@
 -- What an engine shows, when its calls may be made, and when a world agrees with it.
-use Rattle.std.specs.Prelude.{◌≡◌, ◌≤◌, ◌-◌, ◌^◌, ℕ, zero, suc, true, false, List, [], ◌∷◌, ◌++◌, map, length, Option, Some, None, option_map, min, slice_get, slice_set, Contains, IsPermutation, bytes_eq, IsSome}
+use Rattle.std.specs.Prelude.{◌≡◌, ◌≤◌, ◌-◌, ◌^◌, ℕ, zero, suc, Bool, true, false, List, [], ◌∷◌, ◌++◌, map, length, Option, Some, None, min, slice_get, slice_set, Contains, IsPermutation, bytes_eq, IsSome}
 use Rattle.std.specs.List.{IsDistinct}
 use Rattle.med_value.specs.declared.cause.Cause.{Cause}
 use Rattle.med_syntax.specs.Tree.{Name}
@@ -17,7 +17,9 @@ use Rattle.ddl_syntax.specs.DdlTree.{TableTree}
 use Rattle.med_catalog.specs.Options.{table_settings, column_settings}
 use Rattle.med_catalog.specs.DdlCauses.{Stands, create_table_rows}
 use Rattle.med_catalog.specs.Changes.{AreDeclared, ObjectChange, new_table, no_server, no_table, changed}
-use Rattle.med_world.specs.World.{World, Source, SourceState, standing, dropped, Session, new_session, with_session, without_sessions, beside_without}
+use Rattle.open_cursors.specs.Open.{Seated, any_leases}
+use Rattle.med_world.specs.World.{World, Source, SourceState, standing, dropped, with_session, without_sessions, beside_without}
+use Rattle.med_world.specs.Seats.{seat_of, AreSoundSeats, SeatAgrees}
 use Rattle.med_world.specs.Steps.{Trouble, Step}
 use Rattle.med_world.specs.Replies.{Reply, reply_text}
 
@@ -26,22 +28,18 @@ pub record Label : Type 0 where
   pub name : Name
   pub kind : SourceKind
 
--- what an engine shows, and what its boxes show: each foreign table of the catalogue has its place in `bound`, and the user of session n
--- stands in place n - 1
+-- what an engine shows, and what its boxes show: each foreign table of the catalogue has its place in `bound`, and session n stands in
+-- place n - 1 of `seats`
 pub record Shown : Type 0 where
   pub catalog : Objects
   pub labels : List Label
   pub boxes : List (Option BoxState)
   pub bound : List Attached
-  pub users : List (Option Name)
+  pub seats : List (Option Seated)
 
-abbrev pub user_in : Option (Option Name) → Option Name
-user_in None = None
-user_in (Some user) = user
-
--- the user of an open session
-abbrev pub user_of : List (Option Name) → ℕ → Option Name
-user_of users sid = user_in (slice_get users (sid - 1))
+-- a table is leased: an open cursor of some session reads it
+abbrev pub leased : Shown → Name → Bool
+leased e = any_leases e.seats
 
 -- no scan is live and nothing is staged
 pub record IsAtRest (s : BoxState) : Type 0 where
@@ -126,7 +124,8 @@ pub record IsSound (e : Shown) : Type 0 where
   pub objects : AreSound e.catalog
   pub places : length e.boxes ≡ length e.labels
   pub sources : length e.labels ≤ 64
-  pub sessions : length e.users ≡ 64
+  pub sessions : length e.seats ≡ 64
+  pub seated : AreSoundSeats e.boxes e.seats
   pub source_names : IsDistinct bytes_eq (map (λ (l : Label). l.name) e.labels)
   pub at_rest : EachBox IsAtRest e.boxes
   pub sound_boxes : EachBox IsSoundBox e.boxes
@@ -162,17 +161,13 @@ RowsAgree boxes (a ∷ more) (r ∷ rs) = AreRowsOf boxes a r × RowsAgree boxes
 RowsAgree boxes [] (r ∷ rs) = ⊥
 RowsAgree boxes (a ∷ more) [] = ⊥
 
--- a session of the world is the engine's: closed, or open with its user and no cursor
-abbrev pub session_of : List (Option Name) → ℕ → Option Session
-session_of users sid = option_map new_session (user_of users sid)
-
 -- An engine stands for a world. Its boxes are honest, since of no other box the rows are known. No scan is live and nothing is staged.
 pub record Agrees (e : Shown) (w : World) : Type 0 where
   pub honest : EachBox is_honest e.boxes
   pub catalog : w.catalog ≡ e.catalog
   pub sources : w.sources ≡ sources_of e.labels e.boxes
   pub rows : RowsAgree e.boxes e.bound w.rows
-  pub sessions : (sid : ℕ) → IsSid sid → w.sessions sid ≡ session_of e.users sid
+  pub sessions : (sid : ℕ) → IsSid sid → SeatAgrees e.boxes w (seat_of e.seats sid) (w.sessions sid)
   pub at_rest : EachBox IsAtRest e.boxes
 
 -- ---- from state to state
@@ -225,14 +220,16 @@ pub record IsAnswered (old : Shown) (sid : ℕ) (request : Asked) (text : List �
   pub is : text ≡ reply_text sid reply
   pub leads : Leads old sid request reply new
 
--- The session is closed, and its user is gone. Nothing else changes.
+-- The session is closed, and its cursors are gone. Boxes only count what was asked of them, and nothing else changes.
 pub record Closes (old : Shown) (sid : ℕ) (new : Shown) : Type 0 where
-  pub others : new ≡ record old { users = new.users }
+  pub others : new ≡ record old { seats = new.seats; boxes = new.boxes }
+  pub rises : EachRises old.boxes new.boxes
   pub world : (w : World) → Agrees old w → Agrees new (with_session w sid None)
 
 -- every session is
 pub record ClosesAll (old new : Shown) : Type 0 where
-  pub others : new ≡ record old { users = new.users }
+  pub others : new ≡ record old { seats = new.seats; boxes = new.boxes }
+  pub rises : EachRises old.boxes new.boxes
   pub world : (w : World) → Agrees old w → Agrees new (without_sessions w)
 
 -- ---- how the engine makes a change of objects

@@ -8,11 +8,13 @@ use Rattle.med_parser.specs.CommandCauses.{SyntaxCauses}
 use Rattle.fdw_api.specs.State.{BoxState}
 use Rattle.med_catalog.specs.Objects.{no_objects}
 use Rattle.med_world.specs.Requests.{IsSid}
-use Rattle.med_world.specs.Engine.{Shown, user_of}
+use Rattle.open_cursors.specs.Open.{Seated}
+use Rattle.med_world.specs.Seats.{user_of}
+use Rattle.med_world.specs.Engine.{Shown}
 
--- the engine with these users of its sessions
-abbrev pub with_users : Shown → List (Option Name) → Shown
-with_users e users = record e { users = users }
+-- the engine with these sessions
+abbrev pub with_seats : Shown → List (Option Seated) → Shown
+with_seats e seats = record e { seats = seats }
 
 -- the engine with its boxes as they are now
 abbrev pub with_boxes : Shown → List (Option BoxState) → Shown
@@ -21,11 +23,11 @@ with_boxes e boxes = record e { boxes = boxes }
 -- A statement was read: its session is open, and its text has this one tree, against which no cause of syntax stands.
 pub record IsRead (e : Shown) (sid : ℕ) (text : List ℕ) (user : Name) (tree : CommandTree) : Type 0 where
   pub is_sid : IsSid sid
-  pub is_user : user_of e.users sid ≡ Some user
+  pub is_user : user_of e.seats sid ≡ Some user
   pub clear : (c : Cause) → SyntaxCauses text c → ⊥
   pub has : HasCommand text tree
   pub one : (a b : CommandTree) → HasCommand text a → HasCommand text b → a ≡ b
 
 -- what an engine shows that has no object and no source
-abbrev pub empty_shown : Name → List (Option Name) → Shown
-empty_shown owner users = record { catalog = no_objects owner; labels = []; boxes = []; bound = []; users = users }
+abbrev pub empty_shown : Name → List (Option Seated) → Shown
+empty_shown owner seats = record { catalog = no_objects owner; labels = []; boxes = []; bound = []; seats = seats }

@@ -1,12 +1,15 @@
 pub mod Requests
 pub mod World
+pub mod Cursors
 pub mod Picks
 pub mod Causes
 pub mod Replies
 pub mod Steps
+pub mod Seats
 pub mod Engine
 pub mod Altering
 pub mod Selecting
 pub mod Writing
+pub mod Turning
 pub mod Laws
 pub mod Adding

@@ -1,22 +1,25 @@
 -- The direct meaning of a request: from a world to a reply and a world.
-use Rattle.std.specs.Prelude.{◌≡◌, ℕ, Bool, true, false, List, [], ◌∷◌, ◌++◌, codes, Option, Some, None, IsPermutation}
+use Rattle.std.specs.Prelude.{◌≡◌, ℕ, Bool, true, false, List, [], ◌∷◌, ◌++◌, map, codes, Option, Some, None, IsPermutation}
 use Rattle.med_value.specs.Datum.{Tuple}
 use Rattle.med_value.specs.declared.cause.Cause.{Cause}
 use Rattle.med_value.specs.declared.cause.Cause.TheVariants.{LimitExceeded, OutOfMemory, SourceFault}
-use Rattle.med_syntax.specs.QueryTree.{SelectTree, select}
+use Rattle.med_syntax.specs.QueryTree.{EntryTree, SelectTree, select}
 use Rattle.med_query.specs.Query.{IsAnswer}
 use Rattle.fdw_api.specs.Kinds.{Kind, Entry, Holding, Known, Unknown, Held, Reading}
 use Rattle.ddl_syntax.specs.DdlTree.{DdlTree, create_wrapper, create_server, create_mapping, create_table, drop_wrapper, drop_server, drop_table, drop_mapping}
 use Rattle.write_syntax.specs.WriteTree.{WriteTree, insert, update, delete}
+use Rattle.cursor_syntax.specs.CursorTree.{CountTree, CursorTree, declare, fetch, close}
+use Rattle.bind_names.specs.Scope.{entries_of}
 use Rattle.med_write.specs.Writing.{count_of, rows_after}
 use Rattle.write_parts.specs.Meaning.{target_of}
 use Rattle.med_syntax.specs.Tree.{Name}
 use Rattle.med_catalog.specs.Objects.{TableObject, server_named}
 use Rattle.med_catalog.specs.Changes.{ObjectChange, new_table, no_server, no_table, changed, Asks}
-use Rattle.med_parser.specs.CommandTree.{CommandTree, on_data, on_rows, on_objects}
+use Rattle.med_parser.specs.CommandTree.{CommandTree, on_data, on_rows, on_cursors, on_objects}
+use Rattle.med_world.specs.Cursors.{cursor_named, with_cursor, without_cursor, with_handed, Fetches}
 use Rattle.med_world.specs.Picks.{Pick}
 use Rattle.med_world.specs.Requests.{Asked, opening, sql, bye}
-use Rattle.med_world.specs.World.{World, Session, cells_of, beside_without, rows_with, drop_source_of, with_state, holds_at, with_session, new_session}
+use Rattle.med_world.specs.World.{World, Leased, Cursor, Session, cells_of, rows_named, beside_without, rows_with, drop_source_of, with_state, holds_at, with_session, new_session}
 use Rattle.med_world.specs.Causes.{query_of, meant_over, entries_in, Reads, write_over, rows_held, IsTarget, IsStatementOf, IsPickOf, IsTold, NoneStands, NoneBeforeState}
 use Rattle.med_world.specs.Replies.{Reply, done, answered, refused, rows_tag}
 
@@ -98,10 +101,32 @@ ddl_tag (drop_server if_exists name) = codes "DROP SERVER"
 ddl_tag (drop_table if_exists name) = codes "DROP FOREIGN TABLE"
 ddl_tag (drop_mapping if_exists user server) = codes "DROP USER MAPPING"
 
+-- the tables that a query reads, one for each entry of FROM, as they stand
+abbrev pub leased_now : World → SelectTree → List Leased
+leased_now w q =
+    map (λ (e : EntryTree). record { table = e.table; rows = cells_of (rows_named e.table w.catalog.tables w.rows) }) (entries_of q.from)
+
+-- the cursor that DECLARE opens
+abbrev pub new_cursor : World → Name → SelectTree → Cursor
+new_cursor w name q =
+    let m = meant_over w q in record { name = name; names = m.names; query = query_of m; reads = leased_now w q; handed = [] }
+
+-- DECLARE opens a cursor over the tables as they stand. FETCH is answered by the output names and rows, which the cursor has then handed
+-- out. CLOSE ends the cursor.
+abbrev pub Turns : World → ℕ → Session → CursorTree → Reply → World → Type 0
+Turns w sid s (declare name (select q)) reply new =
+    (reply ≡ done (codes "DECLARE CURSOR")) × (new ≡ with_session w sid (Some (with_cursor s (new_cursor w name q))))
+Turns w sid s (fetch asked name) reply new =
+    (c : Cursor) × (cursor_named name s ≡ Some c) × ((rows : List Tuple) × Fetches c asked rows
+    × (reply ≡ answered (codes "FETCH") c.names rows) × (new ≡ with_session w sid (Some (with_handed s name rows))))
+Turns w sid s (close name) reply new =
+    (reply ≡ done (codes "CLOSE CURSOR")) × (new ≡ with_session w sid (Some (without_cursor s name)))
+
 -- by the statement
 abbrev pub TreeDoes : World → ℕ → Session → Pick → CommandTree → Reply → World → Type 0
 TreeDoes w sid s p (on_data (select q)) reply new = Answers w q reply × (new ≡ w)
 TreeDoes w sid s p (on_rows t) reply new = RowsDo w p t reply new
+TreeDoes w sid s p (on_cursors t) reply new = Turns w sid s t reply new
 TreeDoes w sid s p (on_objects d) reply new =
     (reply ≡ done (ddl_tag d)) × ((change : ObjectChange) × Asks w.catalog s.user d change × Changes w p change new)
 
@@ -114,6 +139,16 @@ Does w sid p bye reply new = (reply ≡ done (codes "BYE")) × (new ≡ with_ses
 
 -- ---- trouble
 
+-- what a statement leaves that a source's fault refuses: a FETCH takes its cursor away, any other leaves all as it was
+abbrev pub Loses : World → ℕ → Session → CommandTree → World → Type 0
+Loses w sid s (on_cursors (fetch asked name)) new = new ≡ with_session w sid (Some (without_cursor s name))
+Loses w sid s other new = new ≡ w
+
+-- ticket numbers may be used up in it: it is no FETCH
+abbrev pub MayBegin : CommandTree → Type 0
+MayBegin (on_cursors (fetch asked name)) = ⊥
+MayBegin other = Unit {0}
+
 -- One request in a world, under the trouble that befell it. What a case does not name stays as it was.
 pub data Step (w : World) (sid : ℕ) (request : Asked) (t : Trouble) (reply : Reply) (new : World) : Type 0 where
   -- a cause of the least phase in which one stands is told
@@ -125,8 +160,12 @@ pub data Step (w : World) (sid : ℕ) (request : Asked) (t : Trouble) (reply : R
   -- 53200 may take the place of any answer where a growth was refused
   lacks_memory : t.memory ≡ true → t.asked ≡ false → TakesMemory request → reply ≡ refused OutOfMemory → new ≡ w
       → Step w sid request t reply new
+  -- a FETCH that had asked its cursor for a row then loses it
+  fetch_lacks_memory : t.memory ≡ true → t.asked ≡ true → (s : Session) (asked : CountTree) (name : Name)
+      → IsStatementOf w sid request s (on_cursors (fetch asked name)) → reply ≡ refused OutOfMemory
+      → new ≡ with_session w sid (Some (without_cursor s name)) → Step w sid request t reply new
   -- HV000 that of any answer where a source failed, and 54000 where ticket numbers are used up, unless a cause of phases 1 to 4 stands
   source_fails : t.source ≡ true → (s : Session) (tree : CommandTree) → IsStatementOf w sid request s tree → NoneBeforeState w sid request
-      → reply ≡ refused SourceFault → new ≡ w → Step w sid request t reply new
+      → reply ≡ refused SourceFault → Loses w sid s tree new → Step w sid request t reply new
   numbers_end : t.numbers ≡ true → (s : Session) (tree : CommandTree) → IsStatementOf w sid request s tree → NoneBeforeState w sid request
-      → reply ≡ refused LimitExceeded → new ≡ w → Step w sid request t reply new
+      → MayBegin tree → reply ≡ refused LimitExceeded → new ≡ w → Step w sid request t reply new

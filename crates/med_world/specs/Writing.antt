@@ -1,8 +1,8 @@
 -- What a write does to the boxes, and why it is refused.
-use Rattle.std.specs.Prelude.{◌≡◌, ◌<◌, ◌≤◌, ℕ, List, [], map, length, Option, Some, slice_get}
+use Rattle.std.specs.Prelude.{◌≡◌, ◌<◌, ◌≤◌, ℕ, Bool, true, false, List, [], map, length, Option, Some, slice_get}
 use Rattle.med_value.specs.Datum.{Tuple}
 use Rattle.med_value.specs.declared.cause.Cause.{Cause}
-use Rattle.med_value.specs.declared.cause.Cause.TheVariants.{LimitExceeded, SourceFault}
+use Rattle.med_value.specs.declared.cause.Cause.TheVariants.{LimitExceeded, InUse, SourceFault}
 use Rattle.med_syntax.specs.Tree.{Name}
 use Rattle.med_syntax.specs.QueryTree.{SelectTree}
 use Rattle.write_syntax.specs.WriteTree.{GivenTree, values, rows_of, WriteTree, insert, update, delete}
@@ -23,7 +23,8 @@ use Rattle.write_parts.specs.Meaning.{target_of, columns_in, written_column, wri
 use Rattle.bind_write.specs.Binding.{IsBindable, NotBound}
 use Rattle.med_world.specs.Causes.{query_of, OfQuery}
 use Rattle.med_world.specs.Altering.{cause_of}
-use Rattle.med_world.specs.Selecting.{AnswersOver, RunFails}
+use Rattle.open_cursors.specs.Starting.{RunFails}
+use Rattle.med_world.specs.Selecting.{AnswersOver}
 
 -- ---- the query of an INSERT
 
@@ -79,10 +80,11 @@ pub record DoesWrite (o : Objects) (t : WriteTree) (answer : List Tuple) (number
 -- ---- the whole
 
 -- The write is done, after the query of an INSERT was answered: so that reads the tables as they were. The box of its table has changed, no
--- other has but for what it counts.
-pub record WritesRows (o : Objects) (user : Name) (bound : List Attached) (t : WriteTree) (old : List (Option BoxState)) (count : ℕ)
-    (new : List (Option BoxState)) : Type 0 where
+-- other has but for what it counts. `leased` says that a cursor reads the table.
+pub record WritesRows (o : Objects) (user : Name) (bound : List Attached) (t : WriteTree) (leased : Bool) (old : List (Option BoxState))
+    (count : ℕ) (new : List (Option BoxState)) : Type 0 where
   pub bindable : IsBindable o user t
+  pub free : leased ≡ false
   pub answer : List Tuple
   pub now : List (Option BoxState)
   pub given : IsGiven o bound t old answer now
@@ -103,13 +105,15 @@ pub record RefusesRows (o : Objects) (bound : List Attached) (t : WriteTree) (ol
   pub refuses : ChangesAt now at.source (λ a b. RefusesWrite (columns_for o t) (form_for o t) answer a at.number fault b) new
 
 -- Why it is not done, and what that changes: nothing but what the boxes count.
-pub data WriteFails (o : Objects) (user : Name) (bound : List Attached) (t : WriteTree) (old : List (Option BoxState)) (c : Cause)
-    (new : List (Option BoxState)) : Type 0 where
-  not_bound : NotBound o user t c → new ≡ old → WriteFails o user bound t old c new
+pub data WriteFails (o : Objects) (user : Name) (bound : List Attached) (t : WriteTree) (leased : Bool) (old : List (Option BoxState))
+    (c : Cause) (new : List (Option BoxState)) : Type 0 where
+  not_bound : NotBound o user t c → new ≡ old → WriteFails o user bound t leased old c new
+  in_use : IsBindable o user t → leased ≡ true → c ≡ InUse → new ≡ old → WriteFails o user bound t leased old c new
   too_many : IsBindable o user t → OfQuery (λ q. 8 < length (meant_by o q).entries) t → c ≡ LimitExceeded → new ≡ old
-      → WriteFails o user bound t old c new
-  query_fails : IsBindable o user t → (at : Attached) → IsTargetAt o bound t at → OfQuery (λ q. FailsQuery o bound q old c new) t
-      → WriteFails o user bound t old c new
-  box_refuses : IsBindable o user t → RefusesRows o bound t old c new → WriteFails o user bound t old c new
+      → WriteFails o user bound t leased old c new
+  query_fails : IsBindable o user t → leased ≡ false → (at : Attached) → IsTargetAt o bound t at
+      → OfQuery (λ q. FailsQuery o bound q old c new) t → WriteFails o user bound t leased old c new
+  box_refuses : IsBindable o user t → leased ≡ false → RefusesRows o bound t old c new → WriteFails o user bound t leased old c new
   -- the rows of an INSERT's query are of other types than its sources say, which no honest box gives
-  rows_untyped : IsBindable o user t → (AllHonest old → ⊥) → c ≡ SourceFault → AllServed old new → WriteFails o user bound t old c new
+  rows_untyped : IsBindable o user t → leased ≡ false → (AllHonest old → ⊥) → c ≡ SourceFault → AllServed old new
+      → WriteFails o user bound t leased old c new

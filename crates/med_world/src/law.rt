@@ -2,21 +2,29 @@
 //! it shows after it, for every world that agrees.
 #![tactic(auto)]
 
-ghost use Rattle.std.specs.Prelude.{◌≡◌, ◌≢◌, ◌<◌, ◌-◌, ◌⊎◌, ℕ, true, false, List, Option, Some, None, is_some, length, slice_get, slice_set, replicate, codes};
+ghost use Rattle.std.specs.Prelude.{◌≡◌, ◌≢◌, ◌<◌, ◌-◌, ◌⊎◌, ℕ, Bool, true, false, List, [], ◌∷◌, ◌++◌, Option, Some, None, is_some, length, slice_get, slice_set, replicate, codes};
 ghost use Rattle.med_value.specs.Datum.{Tuple};
 ghost use Rattle.med_value.specs.declared.cause.Cause.{Cause as AnyCause};
-ghost use Rattle.med_value.specs.declared.cause.Cause.TheVariants.{OutOfMemory, Protocol, NoConnection};
+ghost use Rattle.med_value.specs.declared.cause.Cause.TheVariants.{OutOfMemory, Protocol, NoConnection, InUse, DuplicateCursor, InvalidCursorName};
 ghost use Rattle.med_syntax.specs.Tree.{Name};
 ghost use Rattle.med_syntax.specs.QueryTree.{SelectTree, select};
 ghost use Rattle.ddl_syntax.specs.DdlTree.{DdlTree};
 ghost use Rattle.write_syntax.specs.WriteTree.{WriteTree};
-ghost use Rattle.med_parser.specs.CommandTree.{CommandTree, on_data, on_rows, on_objects};
+ghost use Rattle.write_parts.specs.Meaning.{target_of};
+ghost use Rattle.cursor_syntax.specs.CursorTree.{CountTree, CursorTree, declare, fetch, close};
+ghost use Rattle.med_parser.specs.CommandTree.{CommandTree, on_data, on_rows, on_cursors, on_objects};
 ghost use Rattle.med_parser.specs.CommandCauses.{SyntaxCauses};
 ghost use Rattle.fdw_api.specs.State.{BoxState, IsIdle, is_honest};
 ghost use Rattle.fdw_api.specs.Calls.{CanBind, CanUnbind};
 ghost use Rattle.med_exec.specs.Slots.{BoxAt};
-ghost use Rattle.med_catalog.specs.Objects.{TableObject};
-ghost use Rattle.med_catalog.specs.Changes.{new_table, no_server};
+ghost use Rattle.med_exec.specs.Running.{ServesRun, AllServed, none_held};
+ghost use Rattle.med_exec.specs.declared.running.Run.{Run};
+ghost use Rattle.open_cursors.specs.Open.{Opened, Seated, is_full, opened_named, without_named, with_run, held_by};
+ghost use Rattle.open_cursors.specs.Starting.{Starts, StartFails};
+ghost use Rattle.open_cursors.specs.Fetching.{GivesRows, GivesNone};
+ghost use Rattle.med_catalog.specs.Objects.{TableObject, Objects};
+ghost use Rattle.med_catalog.specs.Changes.{ObjectChange, new_table, no_table, no_server, Asks};
+ghost use Rattle.med_catalog.specs.DdlCauses.{IsTold as IsToldBy, NoneStands, nothing_leased, ddl_rows};
 ghost use Rattle.med_catalog.specs.declared.kind.SourceKind.{SourceKind as AnyKind};
 ghost use Rattle.bind_catalog.specs.Places.{Attached};
 ghost use Rattle.med_world.specs.Causes.{IsTold};
@@ -25,21 +33,23 @@ ghost use Rattle.med_world.specs.Requests.{Asked, opening, sql, bye, IsSid, IsUs
 ghost use Rattle.med_world.specs.World.{World, with_source, empty_world};
 ghost use Rattle.med_world.specs.Replies.{done, answered, refused};
 ghost use Rattle.med_world.specs.Steps.{TakesMemory, write_tag, ddl_tag};
-ghost use Rattle.med_world.specs.Engine.{Shown, user_of, IsSound, IsServerAt, TakesAs, Agrees, Leads, Closes, ClosesAll};
+ghost use Rattle.med_world.specs.Seats.{seat_of, user_of, new_seat};
+ghost use Rattle.med_world.specs.Engine.{Shown, leased, IsSound, IsServerAt, TakesAs, Agrees, Leads, Closes, ClosesAll};
+ghost use Rattle.med_world.specs.Turning.{new_opened, with_cursors, IsOfOpen, Ends};
 ghost use Rattle.med_world.specs.Altering.{IsAllowed, IsAltered, NotAltered};
 ghost use Rattle.med_world.specs.Selecting.{Selects, SelectFails};
 ghost use Rattle.med_world.specs.Writing.{WritesRows, WriteFails};
 ghost use Rattle.med_world.specs.Adding.{Adds};
-ghost use Rattle.med_world.specs.Laws.{IsRead, with_users, with_boxes, empty_shown};
+ghost use Rattle.med_world.specs.Laws.{IsRead, with_seats, with_boxes, empty_shown};
 
 use fdw_api::law::tables_stay_sound;
 
 /// An engine without objects and sources, whose sessions are closed, is sound, and stands for the empty world.
 pub fn engines_begin()
-    ensures sound { (owner : Name) (users : List (Option Name)) → IsUser owner → users ≡ replicate 64 None
-        → IsSound (empty_shown owner users) }
-    ensures agrees { (owner : Name) (users : List (Option Name)) → users ≡ replicate 64 None
-        → Agrees (empty_shown owner users) (empty_world owner) }
+    ensures sound { (owner : Name) (seats : List (Option Seated)) → IsUser owner → seats ≡ replicate 64 None
+        → IsSound (empty_shown owner seats) }
+    ensures agrees { (owner : Name) (seats : List (Option Seated)) → seats ≡ replicate 64 None
+        → Agrees (empty_shown owner seats) (empty_world owner) }
 {}
 
 /// A source that is added leaves an engine sound, and in agreement with the worlds that have it too.
@@ -52,32 +62,55 @@ pub fn sources_are_added()
     tables_stay_sound();
 }
 
-/// OPEN and BYE: by a session's being open, and the user's name; and any request but BYE for which memory is refused.
+/// OPEN and BYE: by a session's being open, and the user's name; and any request but BYE for which memory is refused. BYE ends the runs of
+/// the session's cursors.
 pub fn sessions_lead()
-    ensures opened { (e : Shown) (sid : ℕ) (user : Name) → IsSid sid → IsUser user → length e.users ≡ 64
-        → is_some (user_of e.users sid) ≡ false
-        → Leads e sid (opening user) (done (codes "OPEN")) (with_users e (slice_set e.users (sid - 1) (Some user))) }
-    ensures not_opened { (e : Shown) (sid : ℕ) (user : Name) → IsSid sid → (is_some (user_of e.users sid) ≡ true) ⊎ (IsUser user → ⊥)
+    ensures opened { (e : Shown) (sid : ℕ) (user : Name) → IsSid sid → IsUser user → length e.seats ≡ 64
+        → is_some (user_of e.seats sid) ≡ false
+        → Leads e sid (opening user) (done (codes "OPEN")) (with_seats e (slice_set e.seats (sid - 1) (Some (new_seat user)))) }
+    ensures not_opened { (e : Shown) (sid : ℕ) (user : Name) → IsSid sid → (is_some (user_of e.seats sid) ≡ true) ⊎ (IsUser user → ⊥)
         → Leads e sid (opening user) (refused Protocol) e }
-    ensures closed { (e : Shown) (sid : ℕ) → IsSid sid → length e.users ≡ 64 → is_some (user_of e.users sid) ≡ true
-        → Leads e sid bye (done (codes "BYE")) (with_users e (slice_set e.users (sid - 1) None)) }
-    ensures not_closed { (e : Shown) (sid : ℕ) → IsSid sid → is_some (user_of e.users sid) ≡ false
+    ensures closed { (e : Shown) (new : List (Option BoxState)) (sid : ℕ) (seat : Seated) → IsSid sid → length e.seats ≡ 64
+        → seat_of e.seats sid ≡ Some seat → ServesRun (held_by seat.cursors) none_held e.boxes new
+        → Leads e sid bye (done (codes "BYE")) (with_boxes (with_seats e (slice_set e.seats (sid - 1) None)) new) }
+    ensures not_closed { (e : Shown) (sid : ℕ) → IsSid sid → is_some (user_of e.seats sid) ≡ false
         → Leads e sid bye (refused NoConnection) e }
     ensures no_memory { (e : Shown) (sid : ℕ) (request : Asked) → TakesMemory request → Leads e sid request (refused OutOfMemory) e }
+    ensures opened_sound { (e : Shown) (sid : ℕ) (user : Name) → IsSid sid → IsSound e
+        → IsSound (with_seats e (slice_set e.seats (sid - 1) (Some (new_seat user)))) }
+    ensures closed_sound { (e : Shown) (new : List (Option BoxState)) (sid : ℕ) (seat : Seated) → IsSid sid → IsSound e
+        → ServesRun (held_by seat.cursors) none_held e.boxes new
+        → IsSound (with_boxes (with_seats e (slice_set e.seats (sid - 1) None)) new) }
 {}
 
-/// Sessions that are closed without a request.
+/// Sessions that are closed without a request: one that is open, one that is not, and all. The runs of their cursors are ended.
 pub fn sessions_end()
-    ensures one { (e : Shown) (sid : ℕ) → IsSid sid → length e.users ≡ 64
-        → Closes e sid (with_users e (slice_set e.users (sid - 1) None)) }
-    ensures all { (e : Shown) (users : List (Option Name)) → users ≡ replicate 64 None → ClosesAll e (with_users e users) }
+    ensures one { (e : Shown) (new : List (Option BoxState)) (sid : ℕ) (seat : Seated) → IsSid sid → length e.seats ≡ 64
+        → ServesRun (held_by seat.cursors) none_held e.boxes new
+        → Closes e sid (with_boxes (with_seats e (slice_set e.seats (sid - 1) None)) new) }
+    ensures none { (e : Shown) (sid : ℕ) → IsSid sid → length e.seats ≡ 64
+        → seat_of e.seats sid ≡ None → Closes e sid (with_seats e (slice_set e.seats (sid - 1) None)) }
+    ensures all { (e : Shown) (new : List (Option BoxState)) (seats : List (Option Seated)) → seats ≡ replicate 64 None
+        → AllServed e.boxes new → ClosesAll e (with_boxes (with_seats e seats) new) }
+    ensures one_sound { (e : Shown) (new : List (Option BoxState)) (sid : ℕ) (seat : Seated) → IsSid sid → IsSound e
+        → ServesRun (held_by seat.cursors) none_held e.boxes new
+        → IsSound (with_boxes (with_seats e (slice_set e.seats (sid - 1) None)) new) }
+    ensures none_sound { (e : Shown) (sid : ℕ) → IsSid sid → IsSound e → IsSound (with_seats e (slice_set e.seats (sid - 1) None)) }
+    ensures all_sound { (e : Shown) (new : List (Option BoxState)) (seats : List (Option Seated)) → IsSound e
+        → seats ≡ replicate 64 None → AllServed e.boxes new → IsSound (with_boxes (with_seats e seats) new) }
+{}
+
+/// A run that is there holds its answer, and no scan: so boxes that served the close of cursors have served, and no scan is live in them
+/// that was not.
+pub fn cursors_hold_no_scan()
+    ensures { (cursors : List Opened) → held_by cursors ≡ none_held }
 {}
 
 /// A statement of a session that is not open, and a text that is not read.
 pub fn statements_are_refused()
-    ensures not_open { (e : Shown) (sid : ℕ) (text : List ℕ) → IsSid sid → is_some (user_of e.users sid) ≡ false
+    ensures not_open { (e : Shown) (sid : ℕ) (text : List ℕ) → IsSid sid → is_some (user_of e.seats sid) ≡ false
         → Leads e sid (sql text) (refused NoConnection) e }
-    ensures not_read { (e : Shown) (sid : ℕ) (text : List ℕ) (c : AnyCause) → IsSid sid → is_some (user_of e.users sid) ≡ true
+    ensures not_read { (e : Shown) (sid : ℕ) (text : List ℕ) (c : AnyCause) → IsSid sid → is_some (user_of e.seats sid) ≡ true
         → (c ≡ OutOfMemory) ⊎ SyntaxCauses text c → Leads e sid (sql text) (refused c) e }
 {
     med_binder::law::causes_have_their_phase();
@@ -116,17 +149,83 @@ pub fn queries_lead()
 /// A statement that writes rows, done or refused.
 pub fn writes_lead()
     ensures done { (e : Shown) (new : List (Option BoxState)) (sid : ℕ) (text : List ℕ) (user : Name) (t : WriteTree) (count : ℕ)
-        → IsRead e sid text user (on_rows t) → IsSound e → WritesRows e.catalog user e.bound t e.boxes count new
+        → IsRead e sid text user (on_rows t) → IsSound e → WritesRows e.catalog user e.bound t (leased e (target_of t)) e.boxes count new
         → Leads e sid (sql text) (done (write_tag t count)) (with_boxes e new) }
     ensures refused { (e : Shown) (new : List (Option BoxState)) (sid : ℕ) (text : List ℕ) (user : Name) (t : WriteTree) (c : AnyCause)
-        → IsRead e sid text user (on_rows t) → IsSound e → WriteFails e.catalog user e.bound t e.boxes c new
+        → IsRead e sid text user (on_rows t) → IsSound e → WriteFails e.catalog user e.bound t (leased e (target_of t)) e.boxes c new
         → Leads e sid (sql text) (refused c) (with_boxes e new) }
     ensures done_sound { (e : Shown) (new : List (Option BoxState)) (user : Name) (t : WriteTree) (count : ℕ)
-        → IsSound e → WritesRows e.catalog user e.bound t e.boxes count new → IsSound (with_boxes e new) }
+        → IsSound e → WritesRows e.catalog user e.bound t (leased e (target_of t)) e.boxes count new → IsSound (with_boxes e new) }
     ensures refused_sound { (e : Shown) (new : List (Option BoxState)) (user : Name) (t : WriteTree) (c : AnyCause)
-        → IsSound e → WriteFails e.catalog user e.bound t e.boxes c new → IsSound (with_boxes e new) }
+        → IsSound e → WriteFails e.catalog user e.bound t (leased e (target_of t)) e.boxes c new → IsSound (with_boxes e new) }
 {
     write_parts::law::causes_have_their_phase();
+}
+
+/// DECLARE, FETCH and CLOSE, done or refused. A FETCH that fails takes its cursor away.
+pub fn cursors_lead()
+    ensures declared { (e : Shown) (new : List (Option BoxState)) (sid : ℕ) (text : List ℕ) (seat : Seated) (name : Name) (q : SelectTree)
+        (names : List Name) (run : Run) → IsRead e sid text seat.user (on_cursors (declare name (select q)))
+        → seat_of e.seats sid ≡ Some seat → IsSound e → opened_named name seat.cursors ≡ None
+        → Starts e.catalog seat.user e.bound q (is_full seat.cursors) e.boxes names run new
+        → Leads e sid (sql text) (done (codes "DECLARE CURSOR"))
+        (with_cursors e sid seat (seat.cursors ++ new_opened name names q run ∷ []) new) }
+    ensures not_declared { (e : Shown) (new : List (Option BoxState)) (sid : ℕ) (text : List ℕ) (seat : Seated) (name : Name)
+        (q : SelectTree) (c : AnyCause) → IsRead e sid text seat.user (on_cursors (declare name (select q)))
+        → seat_of e.seats sid ≡ Some seat → opened_named name seat.cursors ≡ None
+        → StartFails e.catalog seat.user e.bound q (is_full seat.cursors) e.boxes c new
+        → Leads e sid (sql text) (refused c) (with_boxes e new) }
+    ensures exists { (e : Shown) (sid : ℕ) (text : List ℕ) (seat : Seated) (name : Name) (q : SelectTree)
+        → IsRead e sid text seat.user (on_cursors (declare name (select q)))
+        → seat_of e.seats sid ≡ Some seat → is_some (opened_named name seat.cursors) ≡ true
+        → Leads e sid (sql text) (refused DuplicateCursor) e }
+    ensures fetched { (e : Shown) (new : List (Option BoxState)) (sid : ℕ) (text : List ℕ) (seat : Seated) (name : Name)
+        (asked : CountTree) (o : Opened) (rows : List Tuple) (after : Run)
+        → IsRead e sid text seat.user (on_cursors (fetch asked name)) → seat_of e.seats sid ≡ Some seat → IsSound e
+        → opened_named name seat.cursors ≡ Some o → GivesRows o.run asked e.boxes rows after new
+        → Leads e sid (sql text) (answered (codes "FETCH") o.names rows)
+        (with_cursors e sid seat (with_run name after seat.cursors) new) }
+    ensures not_fetched { (e : Shown) (new : List (Option BoxState)) (sid : ℕ) (text : List ℕ) (seat : Seated) (name : Name)
+        (asked : CountTree) (o : Opened) (c : AnyCause)
+        → IsRead e sid text seat.user (on_cursors (fetch asked name)) → seat_of e.seats sid ≡ Some seat → IsSound e
+        → opened_named name seat.cursors ≡ Some o → GivesNone c e.boxes new → Ends o.run e.boxes new
+        → Leads e sid (sql text) (refused c) (with_cursors e sid seat (without_named name seat.cursors) new) }
+    ensures closed { (e : Shown) (new : List (Option BoxState)) (sid : ℕ) (text : List ℕ) (seat : Seated) (name : Name) (o : Opened)
+        → IsRead e sid text seat.user (on_cursors (close name)) → seat_of e.seats sid ≡ Some seat → IsSound e
+        → opened_named name seat.cursors ≡ Some o → Ends o.run e.boxes new
+        → Leads e sid (sql text) (done (codes "CLOSE CURSOR")) (with_cursors e sid seat (without_named name seat.cursors) new) }
+    ensures unknown { (e : Shown) (sid : ℕ) (text : List ℕ) (seat : Seated) (name : Name) (t : CursorTree) → IsOfOpen name t
+        → IsRead e sid text seat.user (on_cursors t) → seat_of e.seats sid ≡ Some seat → opened_named name seat.cursors ≡ None
+        → Leads e sid (sql text) (refused InvalidCursorName) e }
+    ensures declared_sound { (e : Shown) (new : List (Option BoxState)) (sid : ℕ) (seat : Seated) (name : Name) (q : SelectTree)
+        (names : List Name) (run : Run) → IsSid sid → IsSound e → seat_of e.seats sid ≡ Some seat → opened_named name seat.cursors ≡ None
+        → Starts e.catalog seat.user e.bound q (is_full seat.cursors) e.boxes names run new
+        → IsSound (with_cursors e sid seat (seat.cursors ++ new_opened name names q run ∷ []) new) }
+    ensures not_declared_sound { (e : Shown) (new : List (Option BoxState)) (seat : Seated) (q : SelectTree) (c : AnyCause) → IsSound e
+        → StartFails e.catalog seat.user e.bound q (is_full seat.cursors) e.boxes c new → IsSound (with_boxes e new) }
+    ensures fetched_sound { (e : Shown) (new : List (Option BoxState)) (sid : ℕ) (seat : Seated) (name : Name) (asked : CountTree)
+        (o : Opened) (rows : List Tuple) (after : Run) → IsSid sid → IsSound e → seat_of e.seats sid ≡ Some seat
+        → GivesRows o.run asked e.boxes rows after new → IsSound (with_cursors e sid seat (with_run name after seat.cursors) new) }
+    ensures ended_sound { (e : Shown) (new : List (Option BoxState)) (sid : ℕ) (seat : Seated) (name : Name) (o : Opened) → IsSid sid
+        → IsSound e → seat_of e.seats sid ≡ Some seat → Ends o.run e.boxes new
+        → IsSound (with_cursors e sid seat (without_named name seat.cursors) new) }
+{
+    med_binder::law::causes_have_their_phase();
+}
+
+/// The catalogue alone, where nothing is leased, tells what a statement on objects shows where tables are leased, but for the DROP of a
+/// leased table against which nothing else stands: that is in use.
+pub fn leases_bar_drops()
+    ensures told { (o : Objects) (leased : Name → Bool) (user : Name) (d : DdlTree) (c : AnyCause)
+        → IsToldBy (ddl_rows o nothing_leased user d) c → IsToldBy (ddl_rows o leased user d) c }
+    ensures barred { (o : Objects) (leased : Name → Bool) (user : Name) (d : DdlTree) (name : Name)
+        → NoneStands (ddl_rows o nothing_leased user d) → Asks o user d (no_table name) → leased name ≡ true
+        → IsToldBy (ddl_rows o leased user d) InUse }
+    ensures clear { (o : Objects) (leased : Name → Bool) (user : Name) (d : DdlTree) (change : ObjectChange)
+        → NoneStands (ddl_rows o nothing_leased user d) → Asks o user d change
+        → ((name : Name) → change ≡ no_table name → leased name ≡ false) → NoneStands (ddl_rows o leased user d) }
+{
+    med_catalog::law::causes_have_their_phase();
 }
 
 /// A statement on objects that is done, or refused.

@@ -1,0 +1,50 @@
+-- Cursors of a world: by name, and what a FETCH gives (SQL:2016, <declare cursor>, <fetch statement>, <close statement>).
+use Rattle.std.specs.Prelude.{◌≡◌, ◌<◌, ◌⊎◌, zero, suc, Bool, not, List, [], ◌∷◌, ◌++◌, length, map, find, filter, cond, Option, bytes_eq}
+use Rattle.med_value.specs.Datum.{Tuple}
+use Rattle.med_syntax.specs.Tree.{Name}
+use Rattle.med_query.specs.Query.{Tables, IsAnswer}
+use Rattle.cursor_syntax.specs.CursorTree.{CountTree, some_rows, all_rows}
+use Rattle.med_world.specs.World.{Leased, Cursor, Session}
+
+-- the rows of each entry of the cursor's query, as they stood at DECLARE
+abbrev pub rows_leased : List Leased → Tables
+rows_leased [] k = []
+rows_leased (l ∷ ls) zero = l.rows
+rows_leased (l ∷ ls) (suc k) = rows_leased ls k
+
+-- ---- by name
+
+abbrev pub is_cursor : Name → Cursor → Bool
+is_cursor name c = bytes_eq c.name name
+
+-- the session's cursor of this name
+abbrev pub cursor_named : Name → Session → Option Cursor
+cursor_named name s = find (is_cursor name) s.cursors
+
+-- the session with one more cursor
+abbrev pub with_cursor : Session → Cursor → Session
+with_cursor s c = record s { cursors = s.cursors ++ c ∷ [] }
+
+-- the session without the cursor of this name
+abbrev pub without_cursor : Session → Name → Session
+without_cursor s name = record s { cursors = filter (λ c. not (is_cursor name c)) s.cursors }
+
+-- the cursor of this name has handed out these rows too
+abbrev pub hand_out : Name → List Tuple → Cursor → Cursor
+hand_out name rows c = cond (is_cursor name c) (record c { handed = c.handed ++ rows }) c
+
+abbrev pub with_handed : Session → Name → List Tuple → Session
+with_handed s name rows = record s { cursors = map (hand_out name rows) s.cursors }
+
+-- ---- FETCH
+
+-- so many rows are as many as were asked for, or fewer where no more are left; where ALL were asked for, none are left
+abbrev pub IsEnough : CountTree → List Tuple → List Tuple → Type 0
+IsEnough (some_rows n) rows left = (length rows ≡ n) ⊎ ((length rows < n) × (left ≡ []))
+IsEnough all_rows rows left = left ≡ []
+
+-- The rows that a FETCH gives: behind those that were handed out before, they begin one answer over the tables as at DECLARE.
+pub record Fetches (c : Cursor) (asked : CountTree) (rows : List Tuple) : Type 0 where
+  pub left : List Tuple
+  pub answers : IsAnswer c.query (rows_leased c.reads) ((c.handed ++ rows) ++ left)
+  pub enough : IsEnough asked rows left

@@ -1,0 +1,72 @@
+-- What an engine has of its sessions and their cursors, and when a world's sessions agree with it.
+use Rattle.std.specs.Prelude.{◌≡◌, ◌-◌, ◌≤◌, ℕ, List, [], ◌∷◌, ◌++◌, map, length, Option, Some, None, IsSome, option_map, slice_get, Contains}
+use Rattle.med_value.specs.Datum.{Tuple}
+use Rattle.med_syntax.specs.Tree.{Name}
+use Rattle.med_query.specs.Query.{IsAnswer}
+use Rattle.fdw_api.specs.State.{BoxState}
+use Rattle.med_exec.specs.Rests.{Rests, IsRunning}
+use Rattle.med_catalog.specs.Objects.{table_named}
+use Rattle.open_cursors.specs.Open.{Opened, Seated, AreNamedApart}
+use Rattle.med_world.specs.World.{World, Leased, Cursor, Session, cells_of, rows_named}
+use Rattle.med_world.specs.Cursors.{rows_leased}
+
+-- ---- by the number of the session
+
+abbrev pub seat_in : Option (Option Seated) → Option Seated
+seat_in None = None
+seat_in (Some seat) = seat
+
+-- an open session: that of number n stands in place n - 1
+abbrev pub seat_of : List (Option Seated) → ℕ → Option Seated
+seat_of seats sid = seat_in (slice_get seats (sid - 1))
+
+-- its user
+abbrev pub user_of : List (Option Seated) → ℕ → Option Name
+user_of seats sid = option_map (λ (s : Seated). s.user) (seat_of seats sid)
+
+-- a session that was just opened
+abbrev pub new_seat : Name → Seated
+new_seat user = record { user = user; cursors = [] }
+
+-- ---- what an engine keeps of them
+
+-- the runs of the session's cursors run on, no two cursors have one name, and they are at most 16
+pub record IsSoundSeat (boxes : List (Option BoxState)) (s : Seated) : Type 0 where
+  pub running : (c : Opened) → Contains s.cursors c → IsRunning c.run boxes
+  pub apart : AreNamedApart s.cursors
+  pub few : length s.cursors ≤ 16
+
+-- so is each session that is open
+abbrev pub AreSoundSeats : List (Option BoxState) → List (Option Seated) → Type 0
+AreSoundSeats boxes seats = (place : ℕ) (s : Seated) → slice_get seats place ≡ Some (Some s) → IsSoundSeat boxes s
+
+-- ---- a world that agrees
+
+-- a table that a cursor reads is there, and its rows are those that it had at DECLARE
+pub record StillStands (w : World) (l : Leased) : Type 0 where
+  pub there : IsSome (table_named w.catalog l.table)
+  pub rows : l.rows ≡ cells_of (rows_named l.table w.catalog.tables w.rows)
+
+-- The cursor of a world is the engine's: its names and tables are, which stand as they stood at DECLARE; and what it has handed out,
+-- followed by any rows that its run may still give, is an answer over them.
+pub record CursorAgrees (boxes : List (Option BoxState)) (w : World) (o : Opened) (c : Cursor) : Type 0 where
+  pub name : c.name ≡ o.name
+  pub names : c.names ≡ o.names
+  pub leases : map (λ (l : Leased). l.table) c.reads ≡ o.leases
+  pub stand : (l : Leased) → Contains c.reads l → StillStands w l
+  pub some : (rows : List Tuple) × Rests o.run boxes rows
+  pub answers : (rows : List Tuple) → Rests o.run boxes rows → IsAnswer c.query (rows_leased c.reads) (c.handed ++ rows)
+
+-- one cursor for each, in their order
+abbrev pub CursorsAgree : List (Option BoxState) → World → List Opened → List Cursor → Type 0
+CursorsAgree boxes w [] [] = Unit {0}
+CursorsAgree boxes w (o ∷ os) (c ∷ cs) = CursorAgrees boxes w o c × CursorsAgree boxes w os cs
+CursorsAgree boxes w [] (c ∷ cs) = ⊥
+CursorsAgree boxes w (o ∷ os) [] = ⊥
+
+-- a session of the world is the engine's: closed, or open with its user and its cursors
+abbrev pub SeatAgrees : List (Option BoxState) → World → Option Seated → Option Session → Type 0
+SeatAgrees boxes w None None = Unit {0}
+SeatAgrees boxes w (Some seat) (Some s) = (s.user ≡ seat.user) × CursorsAgree boxes w seat.cursors s.cursors
+SeatAgrees boxes w None (Some s) = ⊥
+SeatAgrees boxes w (Some seat) None = ⊥
