@@ -2,3 +2,4 @@ mod Leading
 mod Telling
 mod AddingLists
 mod Tables
+mod Seats

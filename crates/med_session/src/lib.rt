@@ -10,6 +10,7 @@ mod places;
 mod replies;
 pub mod session;
 pub mod sources;
+mod turning;
 pub mod users;
 
 pub use adding::{AddFault, Sources};

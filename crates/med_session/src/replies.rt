@@ -6,6 +6,7 @@ ghost use Rattle.med_world.specs.Replies.{reply_text, done, answered, refused, h
 ghost use Rattle.ddl_syntax.specs.DdlView.{ddl_tree};
 ghost use Rattle.med_session.specs.Outcomes.{HasRows, Tells, reply_of, word_text};
 ghost use Rattle.med_world.specs.Steps.{ddl_tag, write_tag};
+ghost use Rattle.write_parts.specs.Meaning.{target_of};
 ghost use Rattle.write_syntax.specs.WriteView.{write_tree};
 
 use ddl_syntax::Ddl;
@@ -116,6 +117,17 @@ pub(crate) fn word_of(write: &WriteStatement) -> RowsWord
         WriteStatement::Insert(_) => RowsWord::Insert,
         WriteStatement::Update(_) => RowsWord::Update,
         WriteStatement::Delete(_) => RowsWord::Delete,
+    }
+}
+
+/// The name of the table that a statement writes.
+pub(crate) fn table_of(write: &WriteStatement) -> &str
+    ensures { result.now ≡ target_of (write_tree write.now) }
+{
+    match write {
+        WriteStatement::Insert(insert) => insert.table.as_str(),
+        WriteStatement::Update(update) => update.entry.table.as_str(),
+        WriteStatement::Delete(delete) => delete.entry.table.as_str(),
     }
 }
 
