@@ -169,7 +169,7 @@ scans_begin boxes (e ∷ es) (o ∷ os) (a ∷ more) (s ∷ ss) is many js h =
 pub query_bound : (m : Meant) (b : Bound) → IsMeant m b → written_query b.select ≡ query_of m
 query_bound m b is = ap query_by is.form
 
-abbrev ExpressionsIgnoreOrder : Type 0
+abbrev pub ExpressionsIgnoreOrder : Type 0
 ExpressionsIgnoreOrder = (params : Tuple) (es : List Expr) → AllIgnoreOrder (senses params es)
 
 having_steady : ExpressionsIgnoreOrder → (g : Option Grouping) → AllIgnoreOrder (having_of (groups_of g))
@@ -179,13 +179,13 @@ having_steady law (Some g) = law [] g.having.items
 pub steady : ExpressionsIgnoreOrder → (s : Select) → IsSteady (written_query s)
 steady law s = record { having = having_steady law s.grouping; keys = law [] s.keys.items; items = law [] s.items.items }
 
-abbrev AnswersInAnyOrder : Type 0
+abbrev pub AnswersInAnyOrder : Type 0
 AnswersInAnyOrder = (q : Query) (db other : Tables) → IsSteady q → SameRows db other → AnswersIgnoreOrder q db other
 
-same_back : (db other : Tables) → SameRows db other → SameRows other db
+pub same_back : (db other : Tables) → SameRows db other → SameRows other db
 same_back db other h t = IsPermutation-sym (db t) (other t) (h t)
 
-abbrev CausesInAnyOrder : Type 0
+abbrev pub CausesInAnyOrder : Type 0
 CausesInAnyOrder = (q : Query) → IsSteady q → (db other : Tables) → SameRows db other → (c : Cause) → QueryCauses q db c → QueryCauses q other c
 
 -- what holds over the rows as the boxes give them holds of them in any order

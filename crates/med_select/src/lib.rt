@@ -1,8 +1,14 @@
-//! Queries answered from the boxes of their sources: bound over the tables of a catalogue, planned, and run.
+//! Queries answered from the boxes of their sources: bound over the tables of a catalogue, planned, and run; and begun, for cursors.
 #![tactic(auto)]
 
 mod fault;
+mod leasing;
+mod risk;
 mod selecting;
+mod starting;
 
 pub use fault::cause_of;
+pub use leasing::leased_tables;
+pub use risk::is_risky_query;
 pub use selecting::{RowSet, run_query, run_select};
+pub use starting::{Started, start_select};

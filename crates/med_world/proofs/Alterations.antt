@@ -10,11 +10,12 @@ use Rattle.med_catalog.specs.Objects.{MappingObject, ServerObject, TableObject, 
 use Rattle.med_catalog.specs.Changes.{ObjectChange, nothing, new_wrapper, new_server, new_mapping, new_table, no_wrapper, no_server, no_mapping, no_table, without, with_first, changed, IsNewTable, Asks, skips, makes}
 use Rattle.med_catalog.specs.DdlCauses.{Stands, create_table_rows}
 use Rattle.med_catalog.specs.declared.kind.SourceKind.{SourceKind}
-use Rattle.med_world.specs.Engine.{Label, Shown, AreSound, IsServerAt, IsStandingAt, TakesAs, IsSound, with_change, Alters}
+use Rattle.med_world.specs.Engine.{Label, Shown, leased, AreSound, IsServerAt, IsStandingAt, TakesAs, IsSound, with_change, Alters}
 use Rattle.med_world.specs.Altering.{IsAllowed, SourcesAllow, IsAltered, NotAltered, catalog_shows, not_free, no_memory, bind_fails, bind_undone}
 use Rattle.med_world.proofs.Lists.{some_same, bytes_same, other_bytes, push_cases, one_place}
 use Rattle.med_world.proofs.Named.{place_of, at_place, map_place, found_place, found_passes, find_first, back_first, find_fewer, back_fewer, none_left, still_found}
 use Rattle.med_world.proofs.Faring.{changes_by}
+use Rattle.med_world.proofs.Seats.{seats_sound}
 use Rattle.med_world.proofs.Kept.{IsClear, IsUntaken, stays_sound, unused, unbound, table_rows}
 use Rattle.med_world.proofs.Ready.{SourcesOnce, bind_ready}
 use Rattle.med_world.proofs.Sounds.{StaySound, ServersStay, none_gone, catalog_sound, unbound_sound, bound_sound, dropped_sound, idle_at, refused_sound, vain_sound}
@@ -71,18 +72,18 @@ sources_once o h s r a b is_s is_r same =
 
 -- ---- by the statement
 
-unused_by : (o : Objects) (user : Name) (d : DdlTree) (name : Name) → IsClear o user d → Asks o user d (no_server name) → (k : ℕ) (t : TableObject) → slice_get o.tables k ≡ Some t → t.server ≢ name
-unused_by o user d name clear (skips s e) k t at = absurd (cc)
-unused_by o user (create_wrapper n h) name clear (makes s m) k t at = absurd (let e = m.2 in cc)
-unused_by o user (create_server x) name clear (makes s m) k t at = absurd (let e = m.2 in cc)
-unused_by o user (create_mapping x) name clear (makes s m) k t at = absurd (let e = m.2 in cc)
-unused_by o user (create_table x) name clear (makes s m) k t at = absurd (let e = m.2 in cc)
-unused_by o user (drop_wrapper b n) name clear (makes s m) k t at = absurd (cc)
-unused_by o user (drop_server b n) name clear (makes s m) k t at =
+unused_by : (o : Objects) (leased : Name → Bool) (user : Name) (d : DdlTree) (name : Name) → IsClear o leased user d → Asks o user d (no_server name) → (k : ℕ) (t : TableObject) → slice_get o.tables k ≡ Some t → t.server ≢ name
+unused_by o leased user d name clear (skips s e) k t at = absurd (cc)
+unused_by o leased user (create_wrapper n h) name clear (makes s m) k t at = absurd (let e = m.2 in cc)
+unused_by o leased user (create_server x) name clear (makes s m) k t at = absurd (let e = m.2 in cc)
+unused_by o leased user (create_mapping x) name clear (makes s m) k t at = absurd (let e = m.2 in cc)
+unused_by o leased user (create_table x) name clear (makes s m) k t at = absurd (let e = m.2 in cc)
+unused_by o leased user (drop_wrapper b n) name clear (makes s m) k t at = absurd (cc)
+unused_by o leased user (drop_server b n) name clear (makes s m) k t at =
     let same : name ≡ n = cc in
-    λ h. unused o user b n clear s k t at (h ∙ same)
-unused_by o user (drop_table b n) name clear (makes s m) k t at = absurd (cc)
-unused_by o user (drop_mapping b w n) name clear (makes s m) k t at = absurd (cc)
+    λ h. unused o leased user b n clear s k t at (h ∙ same)
+unused_by o leased user (drop_table b n) name clear (makes s m) k t at = absurd (cc)
+unused_by o leased user (drop_mapping b w n) name clear (makes s m) k t at = absurd (cc)
 
 -- what CREATE FOREIGN TABLE makes, against which no cause stands
 pub record IsMade (o : Objects) (t : TableObject) : Type 0 where
@@ -90,18 +91,18 @@ pub record IsMade (o : Objects) (t : TableObject) : Type 0 where
   pub is : IsNewTable o tree t
   pub none : (c : Cause) → Stands (create_table_rows o is.server.kind tree) c → ⊥
 
-made_by : (o : Objects) (user : Name) (d : DdlTree) (t : TableObject) → IsClear o user d → Asks o user d (new_table t) → IsMade o t
-made_by o user d t clear (skips s e) = absurd (cc)
-made_by o user (create_wrapper n h) t clear (makes s m) = absurd (let e = m.2 in cc)
-made_by o user (create_server x) t clear (makes s m) = absurd (let e = m.2 in cc)
-made_by o user (create_mapping x) t clear (makes s m) = absurd (let e = m.2 in cc)
-made_by o user (create_table tree) t clear (makes s (made, is, e)) =
+made_by : (o : Objects) (leased : Name → Bool) (user : Name) (d : DdlTree) (t : TableObject) → IsClear o leased user d → Asks o user d (new_table t) → IsMade o t
+made_by o leased user d t clear (skips s e) = absurd (cc)
+made_by o leased user (create_wrapper n h) t clear (makes s m) = absurd (let e = m.2 in cc)
+made_by o leased user (create_server x) t clear (makes s m) = absurd (let e = m.2 in cc)
+made_by o leased user (create_mapping x) t clear (makes s m) = absurd (let e = m.2 in cc)
+made_by o leased user (create_table tree) t clear (makes s (made, is, e)) =
     let same : made ≡ t = (let q = e in cc) in
-    subst (λ (x : TableObject). IsMade o x) same (record { tree = tree; is = is; none = table_rows o user tree is.server clear s is.there })
-made_by o user (drop_wrapper b n) t clear (makes s m) = absurd (cc)
-made_by o user (drop_server b n) t clear (makes s m) = absurd (cc)
-made_by o user (drop_table b n) t clear (makes s m) = absurd (cc)
-made_by o user (drop_mapping b w n) t clear (makes s m) = absurd (cc)
+    subst (λ (x : TableObject). IsMade o x) same (record { tree = tree; is = is; none = table_rows o leased user tree is.server clear s is.there })
+made_by o leased user (drop_wrapper b n) t clear (makes s m) = absurd (cc)
+made_by o leased user (drop_server b n) t clear (makes s m) = absurd (cc)
+made_by o leased user (drop_table b n) t clear (makes s m) = absurd (cc)
+made_by o leased user (drop_mapping b w n) t clear (makes s m) = absurd (cc)
 
 -- ---- an engine whose source is taken by a new server
 
@@ -111,6 +112,7 @@ server_sound e s place h objects stands = record {
   places = h.places;
   sources = h.sources;
   sessions = h.sessions;
+  seated = seats_sound e.boxes _ e.seats h.seated;
   source_names = h.source_names;
   at_rest = h.at_rest;
   sound_boxes = h.sound_boxes;
@@ -170,7 +172,7 @@ changed_sound law unbinds e n user d (no_server name) h allowed objects sources 
     dropped_sound e n name h objects (stay_without e.catalog name) is
     (λ s c. let p = place_of (without (λ (x : ServerObject). bytes_eq name x.name) e.catalog.servers) s c in
     none_left (λ (x : ServerObject). x.source) (λ (x : ServerObject). bytes_eq name x.name) e.catalog.servers is.server.at h.objects.sources_once is.server.is p.0 s p.1)
-    (λ t k at. unused_by e.catalog user d name allowed.clear allowed.asks k t at)
+    (λ t k at. unused_by e.catalog (leased e) user d name allowed.clear allowed.asks k t at)
 changed_sound law unbinds e n user d (no_mapping server whose) h allowed objects sources is = subst IsSound (sym is)
     (catalog_sound e (no_mapping server whose) h objects
     (stay_changed e.catalog (λ (s : ServerObject). bytes_eq server s.name) (λ s. without (λ (m : MappingObject). bytes_eq whose m.user) s.mappings)) refl)
@@ -178,7 +180,7 @@ changed_sound law unbinds e n user d (no_table name) h allowed objects sources i
 
 pub altered_sound : StaySound → UnbindsSoundly → (e n : Shown) (user : Name) (d : DdlTree) → IsSound e → IsAltered e user d n → IsSound n
 altered_sound law unbinds e n user d h is =
-    changed_sound law unbinds e n user d is.change h is.allowed (stays_sound e.catalog user d is.change h.objects is.allowed.clear is.allowed.asks (untaken_by e is.change is.sources)) is.sources is.alters
+    changed_sound law unbinds e n user d is.change h is.allowed (stays_sound e.catalog (leased e) user d is.change h.objects is.allowed.clear is.allowed.asks (untaken_by e is.change is.sources)) is.sources is.alters
 
 pub not_altered_sound : StaySound → UnbindsSoundly → (e n : Shown) (user : Name) (d : DdlTree) (c : Cause) → IsSound e → NotAltered e user d c n → IsSound n
 not_altered_sound law unbinds e n user d c h (catalog_shows stands least is) = subst IsSound (sym is) h
@@ -207,7 +209,7 @@ bind_allowed e user d t place box h allowed server there = bind_ready e t place 
     (λ u k at same remote. unbound e.catalog made.tree made.is.server.kind t.remote made.none made.is.remote u k at (same ∙ made.is.of_server) remote) takes
   where
     made : IsMade e.catalog t
-    made = made_by e.catalog user d t allowed.clear allowed.asks
+    made = made_by e.catalog (leased e) user d t allowed.clear allowed.asks
 
     same_server : server.at ≡ made.is.server
     same_server = some_same server.at made.is.server (sym server.is ∙ ap (server_named e.catalog) made.is.of_server ∙ made.is.there)
@@ -223,4 +225,4 @@ bind_allowed e user d t place box h allowed server there = bind_ready e t place 
 
 pub idle_allowed : (e : Shown) (user : Name) (d : DdlTree) (name : Name) (place : ℕ) (box : BoxState) → IsSound e → IsAllowed e user d (no_server name) → IsServerAt e name place → slice_get e.boxes place ≡ Some (Some box) → IsIdle box
 idle_allowed e user d name place box h allowed server there =
-    idle_at e name place box h server there (λ t k at. unused_by e.catalog user d name allowed.clear allowed.asks k t at) (sources_once e.catalog h.objects)
+    idle_at e name place box h server there (λ t k at. unused_by e.catalog (leased e) user d name allowed.clear allowed.asks k t at) (sources_once e.catalog h.objects)

@@ -19,8 +19,9 @@ use Rattle.med_world.specs.World.{World, Source, SourceState, standing, dropped,
 use Rattle.med_world.specs.Picks.{Pick, no_pick}
 use Rattle.med_world.specs.Causes.{Reads, PicksEntry}
 use Rattle.med_world.specs.Steps.{with_catalog, Changes}
-use Rattle.med_world.specs.Engine.{Label, Shown, EachBox, IsSound, IsNamedAt, IsServerAt, IsBoundAs, state_of, sources_of, AreRowsOf, RowsAgree, Agrees, with_change, BindsTable, UnbindsTable, DropsBox}
+use Rattle.med_world.specs.Engine.{Label, Shown, leased, EachBox, IsSound, IsNamedAt, IsServerAt, IsBoundAs, state_of, sources_of, AreRowsOf, RowsAgree, Agrees, with_change, BindsTable, UnbindsTable, DropsBox}
 use Rattle.med_world.specs.Altering.{BindsInVain}
+use Rattle.med_world.proofs.Seats.{sessions_stay, sessions_still, leases_same, named_apart, pushed_stands, dropped_stands, many_rows}
 use Rattle.med_world.proofs.Lists.{some_same, none_some, same_bytes, other_bytes, one_place, zero≢suc, left_was}
 use Rattle.med_world.proofs.Faring.{rest_spared, Spares, that_is, vain_spares, refuses_spares, spares_itself, changes_by, binds_spares, unbinds_spares, was_there, set_other, same_box, left_box}
 
@@ -163,8 +164,8 @@ rows_gone boxes name (t ∷ ts) (b ∷ bs) (x ∷ xs) h = split (bytes_eq name t
 -- ---- the changes
 
 -- one of the catalogue alone
-pub catalog_agrees : (e : Shown) (change : ObjectChange) (w : World) → Agrees e w → Agrees (with_change e change) (with_catalog w change)
-catalog_agrees e change w h = record { honest = h.honest; catalog = ap (changed change) h.catalog; sources = h.sources; rows = h.rows; sessions = h.sessions; at_rest = h.at_rest }
+pub catalog_agrees : (e : Shown) (change : ObjectChange) (w : World) → (changed change w.catalog).tables ≡ w.catalog.tables → Agrees e w → Agrees (with_change e change) (with_catalog w change)
+catalog_agrees e change w tables h = record { honest = h.honest; catalog = ap (changed change) h.catalog; sources = h.sources; rows = h.rows; sessions = sessions_still e e.boxes w (with_catalog w change) refl tables refl h; at_rest = h.at_rest }
 
 -- a table that is bound has another number than a fresh one
 pub fresh_other : (e : Shown) (place number : ℕ) (b : BoxState) → IsSound e → length e.bound ≡ length e.catalog.tables → slice_get e.boxes place ≡ Some (Some b) → table_of b number ≡ None
@@ -230,6 +231,9 @@ bind_agrees e n t w sound h agrees = (p, picked, (after, (reading, reads, no_cau
       holds = subst (λ (rs : List Held). IsPermutation (map held (rows_of h.binds.after h.number)) rs) (h.binds.change.rows honest) (IsPermutation-refl (map held (rows_of h.binds.after h.number)));
     }
 
+    many : length w.rows ≡ length w.catalog.tables
+    many = many_rows e.boxes e.bound w.rows agrees.rows ∙ sound.many ∙ ap (λ (o : Objects). length o.tables) (sym agrees.catalog)
+
     grown : Shown
     grown = record (with_change e (new_table t)) { boxes = new; bound = e.bound ++ record { source = h.place; number = h.number } ∷ [] }
 
@@ -240,12 +244,12 @@ bind_agrees e n t w sound h agrees = (p, picked, (after, (reading, reads, no_cau
       catalog = ap (changed (new_table t)) agrees.catalog;
       sources = agrees.sources ∙ sym (sources_spared e new h.place (that_is h.number) agrees.honest spares);
       rows = rows_push new e.bound w.rows (record { source = h.place; number = h.number }) reading.rows others last;
-      sessions = agrees.sessions;
+      sessions = sessions_stay e new w after refl (λ l taken x. pushed_stands w t reading.rows l many x) agrees;
     }
 
 -- a table is unbound
-pub unbind_agrees : (e n : Shown) (name : Name) (w : World) (p : Pick) → IsSound e → (h : UnbindsTable e name n) → Agrees e w → (after : World) × Changes w p (no_table name) after × Agrees n after
-unbind_agrees e n name w p sound h agrees = (after, refl, subst (λ (x : Shown). Agrees x after) (sym h.is) agrees_after)
+pub unbind_agrees : (e n : Shown) (name : Name) (w : World) (p : Pick) → IsSound e → leased e name ≡ false → (h : UnbindsTable e name n) → Agrees e w → (after : World) × Changes w p (no_table name) after × Agrees n after
+unbind_agrees e n name w p sound free h agrees = (after, refl, subst (λ (x : Shown). Agrees x after) (sym h.is) agrees_after)
   where
     new : List (Option BoxState)
     new = n.boxes
@@ -278,7 +282,7 @@ unbind_agrees e n name w p sound h agrees = (after, refl, subst (λ (x : Shown).
       catalog = ap (changed (no_table name)) agrees.catalog;
       sources = agrees.sources ∙ sym (sources_spared e new h.at.source (that_is h.at.number) agrees.honest spares);
       rows = subst (λ (o : Objects). RowsAgree new left (beside_without name o.tables w.rows)) (sym agrees.catalog) kept;
-      sessions = agrees.sessions;
+      sessions = sessions_stay e new w after refl (λ l taken x. dropped_stands w name l (named_apart w l.table name taken (ap (λ f. f name) (leases_same e w sound agrees) ∙ free)) x) agrees;
     }
 
 -- a box is dropped
@@ -300,7 +304,7 @@ refused_agrees e new place fault h w agrees = record {
   catalog = agrees.catalog;
   sources = agrees.sources ∙ sym (sources_spared e new place nothing_at agrees.honest spares);
   rows = rows_spared e.boxes new place nothing_at agrees.honest spares e.bound w.rows (λ k a at here only. only) agrees.rows;
-  sessions = agrees.sessions;
+  sessions = sessions_still e new w w refl refl refl agrees;
 }
   where
     nothing_at : ℕ → Type 0
@@ -318,7 +322,7 @@ vain_agrees e new t place sound h w agrees = record {
   sources = agrees.sources ∙ sym (sources_spared e new place only agrees.honest spares);
   rows = rows_spared e.boxes new place only agrees.honest spares e.bound w.rows
       (λ k a at. let u = has_table e.catalog.tables e.bound k a sound.many at in fresh_other e place h.change.number h.before sound sound.many h.there h.change.binds.fresh k a u.0 u.1 at) agrees.rows;
-  sessions = agrees.sessions;
+  sessions = sessions_still e new w w refl refl refl agrees;
 }
   where
     only : ℕ → Type 0
@@ -356,5 +360,5 @@ drop_agrees e n name w p sound h agrees = (after, is, subst (λ (x : Shown). Agr
       catalog = ap (changed (no_server name)) agrees.catalog;
       sources = ap (drop_source h.server.at.source) agrees.sources ∙ sym (sources_dropped e.labels e.boxes h.place h.server.at.source (Some h.box) sound.source_names h.server.source h.there);
       rows = rows_elsewhere e.boxes h.place e.bound w.rows apart agrees.rows;
-      sessions = agrees.sessions;
+      sessions = sessions_still e new w after refl refl refl agrees;
     }

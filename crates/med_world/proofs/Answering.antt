@@ -6,7 +6,7 @@ use Rattle.med_value.specs.declared.cause.Cause.{Cause}
 use Rattle.med_value.specs.declared.cause.Cause.TheVariants.{LimitExceeded, OutOfMemory, NoConnection}
 use Rattle.med_syntax.specs.Tree.{Name}
 use Rattle.med_syntax.specs.QueryTree.{SelectTree, select}
-use Rattle.med_parser.specs.CommandTree.{on_data, on_rows, on_objects}
+use Rattle.med_parser.specs.CommandTree.{on_data, on_rows, on_cursors, on_objects}
 use Rattle.med_parser.specs.CommandCauses.{SyntaxCauses}
 use Rattle.fdw_api.specs.State.{BoxState}
 use Rattle.pushdown.specs.Offered.{Place}
@@ -16,18 +16,21 @@ use Rattle.bind_catalog.specs.Queries.{meant_by, IsBindable}
 use Rattle.bind_catalog.specs.Places.{ArePlaces}
 use Rattle.med_world.specs.Requests.{sql, IsSid}
 use Rattle.med_world.specs.Picks.{no_pick}
-use Rattle.med_world.specs.World.{World, new_session}
+use Rattle.med_world.specs.World.{World}
 use Rattle.med_world.specs.Causes.{query_of, phase}
 use Rattle.med_world.specs.Replies.{Reply, answered, refused}
 use Rattle.med_world.specs.Steps.{numbers_end}
-use Rattle.med_world.specs.Engine.{Shown, user_of, IsSound, Agrees, Leads}
-use Rattle.med_world.specs.Selecting.{Selects, SelectFails, RunFails, not_bound, too_many, run_fails, no_memory, box_fails, numbers_out, shows_cause}
+use Rattle.med_world.specs.Engine.{Shown, IsSound, Agrees, Leads}
+use Rattle.med_world.specs.Selecting.{Selects, SelectFails, not_bound, too_many, run_fails}
+use Rattle.open_cursors.specs.Starting.{RunFails, no_memory, box_fails, numbers_out, shows_cause}
+use Rattle.med_world.specs.Seats.{user_of}
 use Rattle.med_world.specs.Laws.{IsRead, with_boxes}
 use Rattle.med_world.proofs.Faring.{none_rises}
 use Rattle.med_world.proofs.Told.{AreLater, told_tree, before_tree, told_syntax, told_closed}
 use Rattle.med_world.proofs.Objecting.{AreObjects, object_phase}
-use Rattle.med_world.proofs.Leading.{known, leads_refused, leads_memory}
+use Rattle.med_world.proofs.Leading.{session_in, known, leads_refused, leads_memory}
 use Rattle.med_world.proofs.Querying.{ArePhased, select_phase, from_state, bindable_in, same_meant, picks_none, selects_leads, not_bound_leads, shows_run_leads, fails_leads}
+use Rattle.med_world.proofs.CursorCausing.{cursor_phase}
 use Rattle.med_world.proofs.RowCausing.{WritesPhased, row_phase}
 use Rattle.med_world.proofs.Serving.{serving_rises, serving_agrees, serving_sound}
 use Rattle.med_world.proofs.Sessions.{is_open_by, is_closed_by}
@@ -38,6 +41,7 @@ use Rattle.med_world.proofs.Sessions.{is_open_by, is_closed_by}
 pub tree_later : AreObjects → ArePhased → WritesPhased → AreLater
 tree_later objects queries writes w s p (on_data (select q)) c h = select_phase queries w s.user q c h
 tree_later objects queries writes w s p (on_rows t) c h = row_phase writes w s.user p t c h
+tree_later objects queries writes w s p (on_cursors t) c h = cursor_phase queries w s t c h
 tree_later objects queries writes w s p (on_objects d) c h = object_phase objects w s.user p d c h
 
 lacks : (e : Shown) (sid : ℕ) (text : List ℕ) (c : Cause) → c ≡ OutOfMemory → Leads e sid (sql text) (refused c) e
@@ -59,7 +63,7 @@ many_leads : ArePhased → (e : Shown) (sid : ℕ) (text : List ℕ) (user : Nam
 many_leads law e sid text user q read b many = leads_refused e e sid (sql text) LimitExceeded (none_rises e.boxes) (λ w a. a) (λ w a. (
   no_pick,
   picks_none e w sid text user q a read,
-  told_tree w sid no_pick text (new_session user) (on_data (select q)) LimitExceeded (known e w sid text user (on_data (select q)) a read)
+  told_tree w sid no_pick text (session_in w sid user) (on_data (select q)) LimitExceeded (known e w sid text user (on_data (select q)) a read)
       (inr (inr (inl (subst (λ (m : Meant). 8 < length m.entries) (same_meant e w q a) many, refl))))
       (λ d x. from_state w user q (bindable_in e w user q a b) d x),
 ))
@@ -76,8 +80,8 @@ ends_leads e new sid text user q read b served h kept = record {
   rises = serving_rises e.boxes new.boxes served;
   step = λ w a. (
     w,
-    numbers_end refl (new_session user) (on_data (select q)) (known e w sid text user (on_data (select q)) a read).is
-        (before_tree w sid text (new_session user) (on_data (select q)) (known e w sid text user (on_data (select q)) a read) (λ p d x. let r : 5 ≤ phase d = from_state w user q (bindable_in e w user q a b) d x in omega arith)) refl refl,
+    numbers_end refl (session_in w sid user) (on_data (select q)) (known e w sid text user (on_data (select q)) a read).is
+        (before_tree w sid text (session_in w sid user) (on_data (select q)) (known e w sid text user (on_data (select q)) a read) (λ p d x. let r : 5 ≤ phase d = from_state w user q (bindable_in e w user q a b) d x in omega arith)) tt refl refl,
     kept w a,
   );
 }
@@ -112,7 +116,7 @@ fails_sound e new user q c sound (run_fails b few served places are h) = serving
 
 -- ---- a statement of a closed session, or a text that is no statement
 
-pub not_read : AreLater → (e : Shown) (sid : ℕ) (text : List ℕ) (c : Cause) → IsSid sid → is_some (user_of e.users sid) ≡ true → (c ≡ OutOfMemory) ⊎ SyntaxCauses text c → Leads e sid (sql text) (refused c) e
+pub not_read : AreLater → (e : Shown) (sid : ℕ) (text : List ℕ) (c : Cause) → IsSid sid → is_some (user_of e.seats sid) ≡ true → (c ≡ OutOfMemory) ⊎ SyntaxCauses text c → Leads e sid (sql text) (refused c) e
 not_read law e sid text c is_sid is_open (inl is) = lacks e sid text c is
 not_read law e sid text c is_sid is_open (inr h) = leads_refused e e sid (sql text) c (none_rises e.boxes) (λ w a. a) (λ w a. (
   no_pick,
@@ -120,7 +124,7 @@ not_read law e sid text c is_sid is_open (inr h) = leads_refused e e sid (sql te
   told_syntax law w sid no_pick text c (is_open_by e w sid a is_sid is_open) h,
 ))
 
-pub not_open : AreLater → (e : Shown) (sid : ℕ) (text : List ℕ) → IsSid sid → is_some (user_of e.users sid) ≡ false → Leads e sid (sql text) (refused NoConnection) e
+pub not_open : AreLater → (e : Shown) (sid : ℕ) (text : List ℕ) → IsSid sid → is_some (user_of e.seats sid) ≡ false → Leads e sid (sql text) (refused NoConnection) e
 not_open law e sid text is_sid shut = leads_refused e e sid (sql text) NoConnection (none_rises e.boxes) (λ w a. a) (λ w a. (
   no_pick,
   (λ s t x formed. absurd (is_closed_by e w sid a is_sid shut (ap is_some x.0))),

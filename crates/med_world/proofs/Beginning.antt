@@ -1,15 +1,15 @@
 -- A new engine, with no object and no source.
 use Rattle.std.proofs.Common.{◌≡◌, ℕ, ◌-◌, List, [], Option, Some, None, slice_get, replicate, length, option_map, refl, ap, sym, ◌∙◌, arith, lit≤}
-use Rattle.std.proofs.lemmas.List.{length-replicate}
 use Rattle.std.specs.List.{IsDistinct}
 use Rattle.med_syntax.specs.Tree.{Name}
 use Rattle.fdw_api.specs.State.{BoxState}
 use Rattle.med_catalog.specs.Objects.{no_objects}
 use Rattle.med_world.specs.Requests.{IsUser}
-use Rattle.med_world.specs.World.{new_session, empty_world}
-use Rattle.med_world.specs.Engine.{AreSound, session_of, IsSound, Agrees}
+use Rattle.open_cursors.specs.Open.{Seated}
+use Rattle.med_world.specs.World.{empty_world}
+use Rattle.med_world.specs.Engine.{AreSound, IsSound, Agrees}
 use Rattle.med_world.specs.Laws.{empty_shown}
-use Rattle.med_world.proofs.Sessions.{none_at}
+use Rattle.med_world.proofs.Sessions.{all_shut, shut_seats, shut_many}
 
 no_box : (slot : ℕ) (s : BoxState) → slice_get {X = Option BoxState} [] slot ≡ Some (Some s) → ⊥
 no_box slot s e = cc
@@ -27,13 +27,14 @@ empty_objects owner is_user = record {
   served = λ t c. absurd (let within = c.1 in omega arith);
 }
 
-pub empty_sound : (owner : Name) (users : List (Option Name)) → IsUser owner → users ≡ replicate 64 None → IsSound (empty_shown owner users)
+pub empty_sound : (owner : Name) (seats : List (Option Seated)) → IsUser owner → seats ≡ replicate 64 None → IsSound (empty_shown owner seats)
 unfolding IsDistinct
-empty_sound owner users is_user closed = record {
+empty_sound owner seats is_user closed = record {
   objects = empty_objects owner is_user;
   places = refl;
   sources = lit≤ tt;
-  sessions = ap length closed ∙ length-replicate {A = Option Name} 64 None;
+  sessions = shut_many seats closed;
+  seated = shut_seats [] seats closed;
   source_names = tt;
   at_rest = λ slot s at. absurd (no_box slot s at);
   sound_boxes = λ slot s at. absurd (no_box slot s at);
@@ -45,12 +46,12 @@ empty_sound owner users is_user closed = record {
   bound_once = λ j k a b at_j at_k. absurd (no_place j a at_j);
 }
 
-pub empty_agrees : (owner : Name) (users : List (Option Name)) → users ≡ replicate 64 None → Agrees (empty_shown owner users) (empty_world owner)
-empty_agrees owner users closed = record {
+pub empty_agrees : (owner : Name) (seats : List (Option Seated)) → seats ≡ replicate 64 None → Agrees (empty_shown owner seats) (empty_world owner)
+empty_agrees owner seats closed = record {
   honest = λ slot s at. absurd (no_box slot s at);
   catalog = refl;
   sources = refl;
   rows = tt;
-  sessions = λ sid is. sym (ap (λ (u : List (Option Name)). session_of u sid) closed ∙ ap (option_map new_session) (none_at 64 (sid - 1)));
+  sessions = λ sid is. all_shut [] (empty_world owner) seats sid closed;
   at_rest = λ slot s at. absurd (no_box slot s at);
 }

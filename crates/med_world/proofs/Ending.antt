@@ -13,7 +13,7 @@ use Rattle.med_catalog.specs.Changes.{new_table}
 use Rattle.med_world.specs.Requests.{sql}
 use Rattle.med_parser.specs.CommandTree.{on_objects}
 use Rattle.med_world.specs.Picks.{Pick}
-use Rattle.med_world.specs.World.{World, new_session}
+use Rattle.med_world.specs.World.{World}
 use Rattle.med_world.specs.Causes.{IsPickOf}
 use Rattle.med_world.specs.Replies.{refused}
 use Rattle.med_world.specs.Engine.{Shown, IsSound, IsServerAt, Agrees, Rises, EachRises, Leads}
@@ -24,7 +24,7 @@ use Rattle.med_world.proofs.Altered.{refused_agrees, vain_agrees}
 use Rattle.med_world.proofs.Told.{pick_tree}
 use Rattle.med_world.proofs.Objecting.{AreObjects}
 use Rattle.med_world.proofs.Picking.{some_pick, free_back}
-use Rattle.med_world.proofs.Leading.{known, leads_memory, shows_leads, taken_leads, refused_leads, failed_leads}
+use Rattle.med_world.proofs.Leading.{session_in, known, leads_memory, shows_leads, taken_leads, refused_leads, failed_leads}
 
 changed_rise : (P : BoxState → BoxState → Type 0) (old new : List (Option BoxState)) (slot : ℕ) → ((b c : BoxState) → P b c → Rises b c) → ChangesAt old slot P new → EachRises old new
 changed_rise P old new slot rises h = changes_rise Or old new slot (λ b. inl refl) rise (changes_by P Or old new slot (λ b c k. inr k) h)
@@ -41,19 +41,19 @@ by_fault : AreObjects → (e n : Shown) (sid : ℕ) (text : List ℕ) (user : Na
     → ChangesAt e.boxes place (λ a b. RefusesBind a t.remote t.columns t.settings fault b) n.boxes → EachRises e.boxes n.boxes → ((w : World) → Agrees e w → Agrees n w) → Leads e sid (sql text) (refused (cause_of fault)) n
 by_fault law e n sid text user d t place NoMemory read sound allowed server h rises kept = leads_memory e n sid (sql text) tt rises kept
 by_fault law e n sid text user d t place SourceFailed read sound allowed server h rises kept =
-    failed_leads law e n sid text user d t place read allowed
+    failed_leads law e n sid text user d t place read sound allowed
     (changes_by (λ a b. RefusesBind a t.remote t.columns t.settings SourceFailed b) (Refuses SourceFailed) e.boxes n.boxes place (λ a b k. k.refuses) h) rises kept
 by_fault law e n sid text user d t place (Refused c) read sound allowed server h rises kept = refused_leads law e n sid text user d t place c read sound allowed server h rises kept
 
 pub not_altered_leads : AreObjects → (e n : Shown) (sid : ℕ) (text : List ℕ) (user : Name) (d : DdlTree) (c : Cause) → IsRead e sid text user (on_objects d) → IsSound e → NotAltered e user d c n → Leads e sid (sql text) (refused c) n
 not_altered_leads law e n sid text user d c read sound (catalog_shows stands least is) =
-    subst (λ (x : Shown). Leads e sid (sql text) (refused c) x) (sym is) (shows_leads law e sid text user d c read stands least pick)
+    subst (λ (x : Shown). Leads e sid (sql text) (refused c) x) (sym is) (shows_leads law e sid text user d c read sound stands least pick)
   where
     pick : (w : World) → Agrees e w → (p : Pick) × IsPickOf w sid (sql text) p
-    pick w a = let p = some_pick w user d in (p.0, pick_tree w sid p.0 text (new_session user) (on_objects d) (known e w sid text user (on_objects d) a read) p.1)
+    pick w a = let p = some_pick w user d in (p.0, pick_tree w sid p.0 text (session_in w sid user) (on_objects d) (known e w sid text user (on_objects d) a read) p.1)
 not_altered_leads law e n sid text user d c read sound (not_free s allowed none told is) =
     subst (λ (x : Shown). Leads e sid (sql text) (refused c) x) (sym is) (subst (λ (k : Cause). Leads e sid (sql text) (refused k) e) (sym told)
-    (taken_leads law e sid text user d s read allowed (λ w a. free_back e w s a none)))
+    (taken_leads law e sid text user d s read sound allowed (λ w a. free_back e w s a none)))
 not_altered_leads law e n sid text user d c read sound (no_memory told is) =
     subst (λ (x : Shown). Leads e sid (sql text) (refused c) x) (sym is) (subst (λ (k : Cause). Leads e sid (sql text) (refused k) e) (sym told)
     (leads_memory e e sid (sql text) tt (none_rises e.boxes) (λ w a. a)))

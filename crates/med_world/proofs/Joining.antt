@@ -12,6 +12,7 @@ use Rattle.med_world.specs.Engine.{Label, Shown, IsAtRest, EachBox, EachTakes, T
 use Rattle.med_world.specs.Adding.{HasSource, with_box, Adds}
 use Rattle.med_world.proofs.Lists.{some_same, none_some, push_before, push_cases, past}
 use Rattle.med_world.proofs.Named.{distinct_push}
+use Rattle.med_world.proofs.Seats.{seats_sound, sessions_still}
 
 each_push : (P : BoxState → Type 0) (boxes : List (Option BoxState)) (b : BoxState) → EachBox P boxes → P b → EachBox P (boxes ++ Some b ∷ [])
 each_push P boxes b h p slot s at =
@@ -49,6 +50,7 @@ added_sound law e name kind b h none room idle takes = record {
   places = length_push e.boxes (Some b) ∙ ap (λ n. n + 1) h.places ∙ sym (length_push e.labels l);
   sources = subst (λ n. n ≤ 64) (sym (length_push e.labels l)) (omega arith);
   sessions = h.sessions;
+  seated = seats_sound e.boxes _ e.seats h.seated;
   source_names = subst (λ names. IsDistinct bytes_eq names) (sym (map-append (λ (x : Label). x.name) e.labels (l ∷ [])))
       (distinct_push (map (λ (x : Label). x.name) e.labels) name (λ i at. none (i, labelled e.labels name i at)) h.source_names);
   at_rest = each_push IsAtRest e.boxes b h.at_rest (idle_rest b idle);
@@ -114,7 +116,7 @@ added_agrees e name kind b sound idle w h honest =
       catalog = h.catalog;
       sources = ap (λ (ss : List Source). ss ++ record { name = name; kind = kind; state = standing b.nature.kind b.content.holdings } ∷ []) h.sources ∙ sym (sources_push e.labels e.boxes l b sound.places);
       rows = rows_push e.boxes b e.bound w.rows h.rows;
-      sessions = h.sessions;
+      sessions = sessions_still e (e.boxes ++ Some b ∷ []) w (with_source w name kind b.nature.kind b.content.holdings) refl refl refl h;
       at_rest = each_push IsAtRest e.boxes b h.at_rest (idle_rest b idle);
     }
 

@@ -12,10 +12,9 @@ use Rattle.fdw_api.specs.Kinds.{Setting}
 use Rattle.med_catalog.specs.Rights.{user_meant}
 use Rattle.med_catalog.specs.Options.{text_of, remote_label, table_settings, column_settings}
 use Rattle.med_catalog.specs.Changes.{ObjectChange, nothing, new_wrapper, new_server, new_mapping, new_table, no_wrapper, no_server, no_mapping, no_table, without, with_first, changed, is_skipped, IsDeclared, AreDeclared, IsNewServer, IsNewMapping, IsNewTable, Makes, Asks, skips, makes}
-use Rattle.med_catalog.specs.DdlCauses.{CauseRow, DdlCauses, Stands, create_table_rows, create_table_rows_at, is_bound, has_dependents, has_mappings, object_rows, ddl_rows}
+use Rattle.med_catalog.specs.DdlCauses.{CauseRow, DdlCauses, Stands, create_table_rows, create_table_rows_at, is_bound, has_dependents, has_mappings, lease_rows, object_rows, ddl_rows}
 use Rattle.med_catalog.specs.declared.kind.SourceKind.{SourceKind}
 use Rattle.med_world.specs.World.{is_taken}
-use Rattle.med_world.specs.Altering.{no_lease}
 use Rattle.med_world.specs.Engine.{AreSound}
 use Rattle.med_world.proofs.Lists.{some_same, bytes_same, same_bytes, other_bytes, bytes_other, push_cases}
 use Rattle.med_world.proofs.Named.{place_of, at_place, distinct_more, distinct_fewer, same_first, find_first, find_fewer, back_fewer, still_found, some_of, none_of}
@@ -78,12 +77,28 @@ asks_once o user d a b (makes s h) (makes t k) = makes_once o user d a b h k
 -- ---- where no cause stands, none of the rows does
 
 -- no cause stands against the statement of this user
-abbrev pub IsClear : Objects → Name → DdlTree → Type 0
-IsClear o user d = (c : Cause) → DdlCauses o no_lease user d c → ⊥
+abbrev pub IsClear : Objects → (Name → Bool) → Name → DdlTree → Type 0
+IsClear o leased user d = (c : Cause) → DdlCauses o leased user d c → ⊥
 
-pub clear_rows : (o : Objects) (user : Name) (d : DdlTree) → IsClear o user d → is_skipped o user d ≡ false → (c : Cause) → Stands (object_rows o no_lease user d) c → ⊥
-clear_rows o user d clear skipped c stands = let p = place_of (object_rows o no_lease user d) (true, c) stands in
-    clear c (at_place (ddl_rows o no_lease user d) (suc p.0) (true, c) (subst (λ b. slice_get (if b then [] else object_rows o no_lease user d) p.0 ≡ Some (true, c)) (sym skipped) p.1))
+pub clear_rows : (o : Objects) (leased : Name → Bool) (user : Name) (d : DdlTree) → IsClear o leased user d → is_skipped o user d ≡ false → (c : Cause) → Stands (object_rows o leased user d) c → ⊥
+clear_rows o leased user d clear skipped c stands = let p = place_of (object_rows o leased user d) (true, c) stands in
+    clear c (at_place (ddl_rows o leased user d) (suc p.0) (true, c) (subst (λ b. slice_get (if b then [] else object_rows o leased user d) p.0 ≡ Some (true, c)) (sym skipped) p.1))
+
+-- a table that is dropped is not leased
+pub free_to_drop : (o : Objects) (leased : Name → Bool) (user : Name) (d : DdlTree) (name : Name) → IsClear o leased user d → Asks o user d (no_table name) → leased name ≡ false
+free_to_drop o leased user d name clear (skips s e) = absurd (cc)
+free_to_drop o leased user (create_wrapper n h) name clear (makes s m) = absurd (let e = m.2 in cc)
+free_to_drop o leased user (create_server x) name clear (makes s m) = absurd (let e = m.2 in cc)
+free_to_drop o leased user (create_mapping x) name clear (makes s m) = absurd (let e = m.2 in cc)
+free_to_drop o leased user (create_table x) name clear (makes s m) = absurd (let e = m.2 in cc)
+free_to_drop o leased user (drop_wrapper b n) name clear (makes s m) = absurd (cc)
+free_to_drop o leased user (drop_server b n) name clear (makes s m) = absurd (cc)
+free_to_drop o leased user (drop_table b n) name clear (makes s m) = (let same : name ≡ n = cc in ap leased same) ∙ split (leased n) refl
+  where
+    split : (r : Bool) → leased n ≡ r → leased n ≡ false
+    split true is = absurd (clear_rows o leased user (drop_table b n) clear s InUse (at_place (object_rows o leased user (drop_table b n)) 1 (true, InUse) (ap (λ r. slice_get (lease_rows r) 0) is)))
+    split false is = is
+free_to_drop o leased user (drop_mapping b w n) name clear (makes s m) = absurd (cc)
 
 row_false : (rows : List CauseRow) (k : ℕ) (b : Bool) (c : Cause) → ((d : Cause) → Stands rows d → ⊥) → slice_get rows k ≡ Some (b, c) → b ≡ false
 row_false rows k true c none at = absurd (none c (at_place rows k (true, c) at))
@@ -110,24 +125,24 @@ none_found p (y ∷ ys) e =
 -- ---- the rows that count
 
 -- a server that is dropped has no table
-pub unused : (o : Objects) (user : Name) (if_exists : Bool) (name : Name) → IsClear o user (drop_server if_exists name) → is_skipped o user (drop_server if_exists name) ≡ false
+pub unused : (o : Objects) (leased : Name → Bool) (user : Name) (if_exists : Bool) (name : Name) → IsClear o leased user (drop_server if_exists name) → is_skipped o user (drop_server if_exists name) ≡ false
     → (k : ℕ) (t : TableObject) → slice_get o.tables k ≡ Some t → t.server ≢ name
-unused o user if_exists name clear skipped k t at same =
-    let none : has_dependents o name ≡ false = row_false (object_rows o no_lease user (drop_server if_exists name)) 1 (has_dependents o name) DependentObjects (clear_rows o user (drop_server if_exists name) clear skipped) refl in
+unused o leased user if_exists name clear skipped k t at same =
+    let none : has_dependents o name ≡ false = row_false (object_rows o leased user (drop_server if_exists name)) 1 (has_dependents o name) DependentObjects (clear_rows o leased user (drop_server if_exists name) clear skipped) refl in
     let other : bytes_eq name t.server ≡ false =
     none_passes (λ (u : TableObject). bytes_eq name u.server) o.tables k t (left_false (list_any (λ (u : TableObject). bytes_eq name u.server) o.tables) (has_mappings (server_named o name)) none) at in
     bytes_other name t.server other (sym same)
 
 -- a new server has a name of its own
-new_server_name : (o : Objects) (user : Name) (s : ServerTree) → IsClear o user (create_server s) → is_skipped o user (create_server s) ≡ false → server_named o s.name ≡ None
-new_server_name o user s clear skipped =
-    none_of (server_named o s.name) (row_false (object_rows o no_lease user (create_server s)) 1 (is_some (server_named o s.name)) DuplicateObject (clear_rows o user (create_server s) clear skipped) refl)
+new_server_name : (o : Objects) (leased : Name → Bool) (user : Name) (s : ServerTree) → IsClear o leased user (create_server s) → is_skipped o user (create_server s) ≡ false → server_named o s.name ≡ None
+new_server_name o leased user s clear skipped =
+    none_of (server_named o s.name) (row_false (object_rows o leased user (create_server s)) 1 (is_some (server_named o s.name)) DuplicateObject (clear_rows o leased user (create_server s) clear skipped) refl)
 
 -- the rows of a new table, whose server is there
-pub table_rows : (o : Objects) (user : Name) (t : TableTree) (s : ServerObject) → IsClear o user (create_table t) → is_skipped o user (create_table t) ≡ false → server_named o t.server ≡ Some s
+pub table_rows : (o : Objects) (leased : Name → Bool) (user : Name) (t : TableTree) (s : ServerObject) → IsClear o leased user (create_table t) → is_skipped o user (create_table t) ≡ false → server_named o t.server ≡ Some s
     → (c : Cause) → Stands (create_table_rows o s.kind t) c → ⊥
-table_rows o user t s clear skipped there c stands =
-    clear_rows o user (create_table t) clear skipped c (subst (λ (x : Option ServerObject). Stands (create_table_rows_at o x t) c) (sym there) stands)
+table_rows o leased user t s clear skipped there c stands =
+    clear_rows o leased user (create_table t) clear skipped c (subst (λ (x : Option ServerObject). Stands (create_table_rows_at o x t) c) (sym there) stands)
 
 new_table_name : (o : Objects) (t : TableTree) (kind : SourceKind) → ((c : Cause) → Stands (create_table_rows o kind t) c → ⊥) → table_named o t.name ≡ None
 new_table_name o t kind none = none_of (table_named o t.name) (row_false (create_table_rows o kind t) 0 (is_some (table_named o t.name)) DuplicateTable none refl)
@@ -218,33 +233,33 @@ table_gone o name h = record {
 by : (o : Objects) (a b : ObjectChange) → b ≡ a → AreSound (changed a o) → AreSound (changed b o)
 by o a b e h = subst (λ (x : ObjectChange). AreSound (changed x o)) (sym e) h
 
-makes_sound : (o : Objects) (user : Name) (d : DdlTree) (change : ObjectChange) → AreSound o → IsClear o user d → is_skipped o user d ≡ false → Makes o user d change → IsUntaken o change → AreSound (changed change o)
-makes_sound o user (create_wrapper name handler) change h clear skipped m untaken = by o (new_wrapper (record { name = name; kind = m.0 })) change m.2 (record {
+makes_sound : (o : Objects) (leased : Name → Bool) (user : Name) (d : DdlTree) (change : ObjectChange) → AreSound o → IsClear o leased user d → is_skipped o user d ≡ false → Makes o user d change → IsUntaken o change → AreSound (changed change o)
+makes_sound o leased user (create_wrapper name handler) change h clear skipped m untaken = by o (new_wrapper (record { name = name; kind = m.0 })) change m.2 (record {
   owner = h.owner;
   server_names = h.server_names;
   sources_once = h.sources_once;
   table_names = h.table_names;
   served = h.served;
 })
-makes_sound o user (create_server s) change h clear skipped (made, is, e) untaken = by o (new_server made) change e
-    (server_added o made (ap (server_named o) (ap (λ (x : ServerObject). x.name) is.is) ∙ new_server_name o user s clear skipped) (subst (IsUntaken o) e untaken) h)
-makes_sound o user (create_mapping m) change h clear skipped (made, is, e) untaken = by o (new_mapping m.server made) change e
+makes_sound o leased user (create_server s) change h clear skipped (made, is, e) untaken = by o (new_server made) change e
+    (server_added o made (ap (server_named o) (ap (λ (x : ServerObject). x.name) is.is) ∙ new_server_name o leased user s clear skipped) (subst (IsUntaken o) e untaken) h)
+makes_sound o leased user (create_mapping m) change h clear skipped (made, is, e) untaken = by o (new_mapping m.server made) change e
     (servers_changed o (λ (s : ServerObject). bytes_eq m.server s.name) (λ (s : ServerObject). record s { mappings = s.mappings ++ made ∷ [] }) (λ s. refl) (λ s. refl) h)
-makes_sound o user (create_table t) change h clear skipped (made, is, e) untaken = by o (new_table made) change e
-    (table_added o made (ap (table_named o) is.name ∙ new_table_name o t is.server.kind (table_rows o user t is.server clear skipped is.there)) (ap is_some (ap (server_named o) is.of_server ∙ is.there)) h)
-makes_sound o user (drop_wrapper if_exists name) change h clear skipped e untaken = by o (no_wrapper name) change e (record {
+makes_sound o leased user (create_table t) change h clear skipped (made, is, e) untaken = by o (new_table made) change e
+    (table_added o made (ap (table_named o) is.name ∙ new_table_name o t is.server.kind (table_rows o leased user t is.server clear skipped is.there)) (ap is_some (ap (server_named o) is.of_server ∙ is.there)) h)
+makes_sound o leased user (drop_wrapper if_exists name) change h clear skipped e untaken = by o (no_wrapper name) change e (record {
   owner = h.owner;
   server_names = h.server_names;
   sources_once = h.sources_once;
   table_names = h.table_names;
   served = h.served;
 })
-makes_sound o user (drop_server if_exists name) change h clear skipped e untaken = by o (no_server name) change e (server_gone o name (unused o user if_exists name clear skipped) h)
-makes_sound o user (drop_table if_exists name) change h clear skipped e untaken = by o (no_table name) change e (table_gone o name h)
-makes_sound o user (drop_mapping if_exists whose server) change h clear skipped e untaken = by o (no_mapping server (user_meant user whose)) change e
+makes_sound o leased user (drop_server if_exists name) change h clear skipped e untaken = by o (no_server name) change e (server_gone o name (unused o leased user if_exists name clear skipped) h)
+makes_sound o leased user (drop_table if_exists name) change h clear skipped e untaken = by o (no_table name) change e (table_gone o name h)
+makes_sound o leased user (drop_mapping if_exists whose server) change h clear skipped e untaken = by o (no_mapping server (user_meant user whose)) change e
     (servers_changed o (λ (s : ServerObject). bytes_eq server s.name)
     (λ (s : ServerObject). record s { mappings = without (λ (m : MappingObject). bytes_eq (user_meant user whose) m.user) s.mappings }) (λ s. refl) (λ s. refl) h)
 
-pub stays_sound : (o : Objects) (user : Name) (d : DdlTree) (change : ObjectChange) → AreSound o → IsClear o user d → Asks o user d change → IsUntaken o change → AreSound (changed change o)
-stays_sound o user d change h clear (skips s e) untaken = by o nothing change e h
-stays_sound o user d change h clear (makes s m) untaken = makes_sound o user d change h clear s m untaken
+pub stays_sound : (o : Objects) (leased : Name → Bool) (user : Name) (d : DdlTree) (change : ObjectChange) → AreSound o → IsClear o leased user d → Asks o user d change → IsUntaken o change → AreSound (changed change o)
+stays_sound o leased user d change h clear (skips s e) untaken = by o nothing change e h
+stays_sound o leased user d change h clear (makes s m) untaken = makes_sound o leased user d change h clear s m untaken

@@ -1,5 +1,5 @@
 -- Requests lead to their replies: what every request shares, sessions, and statements on objects.
-use Rattle.std.proofs.Common.{◌≡◌, ℕ, ◌+◌, ◌-◌, ◌^◌, ◌<◌, ◌≤◌, ◌⊎◌, min, true, false, List, Option, Some, option_map, refl, ap, sym, ◌∙◌, subst, arith, inl, inr}
+use Rattle.std.proofs.Common.{◌≡◌, ℕ, ◌+◌, ◌-◌, ◌^◌, ◌<◌, ◌≤◌, ◌⊎◌, min, true, false, List, [], Option, Some, None, option_map, refl, ap, sym, ◌∙◌, subst, arith, inl, inr}
 use Rattle.std.proofs.lemmas.Bool.{false≢true, cases_lt}
 use Rattle.med_value.specs.declared.cause.Cause.{Cause}
 use Rattle.med_value.specs.declared.cause.Cause.TheVariants.{UnableToConnect, OutOfMemory, SourceFault}
@@ -12,21 +12,25 @@ use Rattle.med_exec.specs.Slots.{ChangesAt}
 use Rattle.med_exec.specs.Running.{HasFailed}
 use Rattle.ddl_syntax.specs.DdlTree.{DdlTree}
 use Rattle.med_catalog.specs.Objects.{ServerObject, TableObject, Objects}
-use Rattle.med_catalog.specs.Changes.{ObjectChange, nothing, new_wrapper, new_server, new_mapping, new_table, no_wrapper, no_server, no_mapping, no_table, Asks}
+use Rattle.med_catalog.specs.Changes.{changed, ObjectChange, nothing, new_wrapper, new_server, new_mapping, new_table, no_wrapper, no_server, no_mapping, no_table, Asks}
 use Rattle.med_catalog.specs.DdlCauses.{DdlCauses}
 use Rattle.med_world.specs.Requests.{Asked, sql}
 use Rattle.med_parser.specs.CommandTree.{CommandTree, on_objects}
 use Rattle.med_world.specs.Steps.{ddl_tag}
 use Rattle.med_world.specs.Picks.{Pick, no_pick}
-use Rattle.med_world.specs.World.{World, source_named, new_session, is_taken, IsFree, Serves}
+use Rattle.open_cursors.specs.Open.{Seated}
+use Rattle.med_world.specs.Seats.{seat_of, SeatAgrees}
+use Rattle.med_world.specs.World.{World, Cursor, Session, source_named, is_taken, IsFree, Serves}
 use Rattle.med_world.specs.Causes.{Reads, SourceCauses, ObjectCauses, PicksEntry, IsPickOf, IsTold, NoneStands, NoneBeforeState, phase}
 use Rattle.med_world.specs.Replies.{done, refused}
 use Rattle.med_world.specs.Steps.{Trouble, TakesMemory, with_catalog, Changes, Step, is_refused, is_done, lacks_memory, source_fails}
-use Rattle.med_world.specs.Engine.{Rises, Shown, IsSound, IsNamedAt, IsServerAt, Agrees, Befell, EachRises, Leads, with_change, Alters}
+use Rattle.med_world.specs.Engine.{Rises, Shown, leased, IsSound, IsNamedAt, IsServerAt, Agrees, Befell, EachRises, Leads, with_change, Alters}
 use Rattle.med_world.specs.Laws.{IsRead}
-use Rattle.med_world.specs.Altering.{no_lease, IsFreeAt, IsAllowed, SourcesAllow, IsAltered}
+use Rattle.med_world.specs.Altering.{IsFreeAt, IsAllowed, SourcesAllow, IsAltered}
 use Rattle.med_world.proofs.Faring.{changes_by, changes_rise, rises_itself, none_rises, drop_rises, binds_rises, unbinds_rises}
 use Rattle.med_world.proofs.Altered.{catalog_agrees, bind_agrees, unbind_agrees, drop_agrees, serves_at, one_store, find_source}
+use Rattle.med_world.proofs.Lists.{some_same}
+use Rattle.med_world.proofs.Kept.{free_to_drop}
 use Rattle.med_world.proofs.Told.{IsKnownAs, told_tree, none_tree, before_tree, pick_tree}
 use Rattle.med_world.proofs.Objecting.{AreObjects, asks_same, causes_same, of_source, told_objects, told_bind, none_bind, source_phase}
 
@@ -71,9 +75,29 @@ leads_memory e new sid request takes rises kept = record {
 
 -- ---- a statement that was read
 
+-- the session of this user, as it is in the world
+abbrev pub cursors_in : Option Session → List Cursor
+cursors_in None = []
+cursors_in (Some s) = s.cursors
+
+abbrev pub session_in : World → ℕ → Name → Session
+session_in w sid user = record { user = user; cursors = cursors_in (w.sessions sid) }
+
+same_session : (boxes : List (Option BoxState)) (w : World) (user : Name) (seat : Option Seated) (s : Option Session) → SeatAgrees boxes w seat s → option_map (λ (x : Seated). x.user) seat ≡ Some user
+    → s ≡ Some (record { user = user; cursors = cursors_in s })
+same_session boxes w user None s h e = absurd cc
+same_session boxes w user (Some seat) None h e = absurd h
+same_session boxes w user (Some seat) (Some s) h e =
+    let is : s.user ≡ user = h.0 ∙ some_same seat.user user e in
+    ap (λ (n : Name). Some (record { user = n; cursors = s.cursors })) is
+
 -- what a statement's text and session give in every world that agrees
-pub known : (e : Shown) (w : World) (sid : ℕ) (text : List ℕ) (user : Name) (tree : CommandTree) → Agrees e w → IsRead e sid text user tree → IsKnownAs w sid text (new_session user) tree
-known e w sid text user tree a read = record { is = (a.sessions sid read.is_sid ∙ ap (option_map new_session) read.is_user, read.has); clear = read.clear; one = read.one }
+pub known : (e : Shown) (w : World) (sid : ℕ) (text : List ℕ) (user : Name) (tree : CommandTree) → Agrees e w → IsRead e sid text user tree → IsKnownAs w sid text (session_in w sid user) tree
+known e w sid text user tree a read = record {
+  is = (same_session e.boxes w user (seat_of e.seats sid) (w.sessions sid) (a.sessions sid read.is_sid) read.is_user, read.has);
+  clear = read.clear;
+  one = read.one;
+}
 
 -- ---- a statement on objects that is done
 
@@ -102,25 +126,25 @@ pub record Altering (w : World) (change : ObjectChange) (n : Shown) : Type 0 whe
   pub clear : (c : Cause) → SourceCauses w pick change c → ⊥
 
 -- one of the catalogue alone
-of_catalog : (e n : Shown) (change : ObjectChange) (w : World) → Agrees e w → n ≡ with_change e change → ((t : TableObject) → change ≡ new_table t → ⊥) → Changes w no_pick change (with_catalog w change)
+of_catalog : (e n : Shown) (change : ObjectChange) (w : World) → (changed change w.catalog).tables ≡ w.catalog.tables → Agrees e w → n ≡ with_change e change → ((t : TableObject) → change ≡ new_table t → ⊥) → Changes w no_pick change (with_catalog w change)
     → ((c : Cause) → SourceCauses w no_pick change c → ⊥) → Altering w change n
-of_catalog e n change w h is other changes clear = record {
+of_catalog e n change w tables h is other changes clear = record {
   pick = no_pick;
   picked = λ t q. absurd (other t q);
   after = with_catalog w change;
   changes = changes;
-  agrees = subst (λ (x : Shown). Agrees x (with_catalog w change)) (sym is) (catalog_agrees e change w h);
+  agrees = subst (λ (x : Shown). Agrees x (with_catalog w change)) (sym is) (catalog_agrees e change w tables h);
   clear = clear;
 }
 
-pub altering : (e n : Shown) (change : ObjectChange) (w : World) → IsSound e → Agrees e w → SourcesAllow e change → Alters e change n → Altering w change n
-altering e n nothing w sound h allow is = of_catalog e n nothing w h is (λ t q. cc) refl (λ c x. x)
-altering e n (new_wrapper o) w sound h allow is = of_catalog e n (new_wrapper o) w h is (λ t q. cc) refl (λ c x. x)
-altering e n (new_server s) w sound h allow is = of_catalog e n (new_server s) w h is (λ t q. cc) refl (λ c x. x.1 (free_in e w s allow.0 sound h allow.1))
-altering e n (new_mapping s m) w sound h allow is = of_catalog e n (new_mapping s m) w h is (λ t q. cc) refl (λ c x. x)
-altering e n (no_wrapper name) w sound h allow is = of_catalog e n (no_wrapper name) w h is (λ t q. cc) refl (λ c x. x)
-altering e n (no_mapping s u) w sound h allow is = of_catalog e n (no_mapping s u) w h is (λ t q. cc) refl (λ c x. x)
-altering e n (new_table t) w sound h allow is =
+pub altering : (e n : Shown) (change : ObjectChange) (w : World) → IsSound e → Agrees e w → ((name : Name) → change ≡ no_table name → leased e name ≡ false) → SourcesAllow e change → Alters e change n → Altering w change n
+altering e n nothing w sound h free allow is = of_catalog e n nothing w refl h is (λ t q. cc) refl (λ c x. x)
+altering e n (new_wrapper o) w sound h free allow is = of_catalog e n (new_wrapper o) w refl h is (λ t q. cc) refl (λ c x. x)
+altering e n (new_server s) w sound h free allow is = of_catalog e n (new_server s) w refl h is (λ t q. cc) refl (λ c x. x.1 (free_in e w s allow.0 sound h allow.1))
+altering e n (new_mapping s m) w sound h free allow is = of_catalog e n (new_mapping s m) w refl h is (λ t q. cc) refl (λ c x. x)
+altering e n (no_wrapper name) w sound h free allow is = of_catalog e n (no_wrapper name) w refl h is (λ t q. cc) refl (λ c x. x)
+altering e n (no_mapping s u) w sound h free allow is = of_catalog e n (no_mapping s u) w refl h is (λ t q. cc) refl (λ c x. x)
+altering e n (new_table t) w sound h free allow is =
     let b = bind_agrees e n t w sound is h in
     record {
       pick = b.0;
@@ -130,10 +154,10 @@ altering e n (new_table t) w sound h allow is =
       agrees = b.2.2;
       clear = none_bind w t b.0 b.2.1.0 b.2.1.1 b.2.1.2;
     }
-altering e n (no_table name) w sound h allow is =
-    let b = unbind_agrees e n name w no_pick sound is h in
+altering e n (no_table name) w sound h free allow is =
+    let b = unbind_agrees e n name w no_pick sound (free name refl) is h in
     record { pick = no_pick; picked = λ t q. absurd (cc); after = b.0; changes = b.1; agrees = b.2; clear = λ c x. x }
-altering e n (no_server name) w sound h allow is =
+altering e n (no_server name) w sound h free allow is =
     let b = drop_agrees e n name w no_pick sound is h in
     record { pick = no_pick; picked = λ t q. absurd (cc); after = b.0; changes = b.1; agrees = b.2; clear = λ c x. x }
 
@@ -183,31 +207,34 @@ altered_leads law e n sid text user d read sound h = record {
 }
   where
     step : (w : World) → Agrees e w → (after : World) × Step w sid (sql text) calm (done (ddl_tag d)) after × Agrees n after
-    step w a = (x.after, is_done x.pick picks none ((new_session user, on_objects d, k.is, (refl, (h.change, asks, x.changes)))), x.agrees)
+    step w a = (x.after, is_done x.pick picks none ((session_in w sid user, on_objects d, k.is, (refl, (h.change, asks, x.changes)))), x.agrees)
       where
-        x : Altering w h.change n
-        x = altering e n h.change w sound a h.sources h.alters
+        free : (name : Name) → h.change ≡ no_table name → leased e name ≡ false
+        free name is = free_to_drop e.catalog (leased e) user d name h.allowed.clear (subst (λ (x : ObjectChange). Asks e.catalog user d x) is h.allowed.asks)
 
-        k : IsKnownAs w sid text (new_session user) (on_objects d)
+        x : Altering w h.change n
+        x = altering e n h.change w sound a free h.sources h.alters
+
+        k : IsKnownAs w sid text (session_in w sid user) (on_objects d)
         k = known e w sid text user (on_objects d) a read
 
         asks : Asks w.catalog user d h.change
         asks = asks_same e w user d h.change a h.allowed.asks
 
         picks : IsPickOf w sid (sql text) x.pick
-        picks = pick_tree w sid x.pick text (new_session user) (on_objects d) k (λ t is. x.picked t (law.once w.catalog user d h.change (new_table t) asks is))
+        picks = pick_tree w sid x.pick text (session_in w sid user) (on_objects d) k (λ t is. x.picked t (law.once w.catalog user d h.change (new_table t) asks is))
 
         none : NoneStands w sid x.pick (sql text)
-        none = none_tree w sid x.pick text (new_session user) (on_objects d) k
-            (λ c y. x.clear c (of_source law e w user x.pick d h.change a h.allowed.asks h.allowed.clear c y))
+        none = none_tree w sid x.pick text (session_in w sid user) (on_objects d) k
+            (λ c y. x.clear c (of_source law e w user x.pick d h.change sound a h.allowed.asks h.allowed.clear c y))
 
 -- ---- one that is not done
 
 -- whatever is picked, what stands against it is of sources, and so of phases 5 and 6
-not_early : AreObjects → (e : Shown) (w : World) (sid : ℕ) (text : List ℕ) (user : Name) (d : DdlTree) (change : ObjectChange) → IsRead e sid text user (on_objects d) → Agrees e w → IsAllowed e user d change → NoneBeforeState w sid (sql text)
-not_early law e w sid text user d change read a allowed =
-    before_tree w sid text (new_session user) (on_objects d) (known e w sid text user (on_objects d) a read)
-    (λ p c x. late p c (source_phase w p change c (of_source law e w user p d change a allowed.asks allowed.clear c x)))
+not_early : AreObjects → (e : Shown) (w : World) (sid : ℕ) (text : List ℕ) (user : Name) (d : DdlTree) (change : ObjectChange) → IsRead e sid text user (on_objects d) → IsSound e → Agrees e w → IsAllowed e user d change → NoneBeforeState w sid (sql text)
+not_early law e w sid text user d change read sound a allowed =
+    before_tree w sid text (session_in w sid user) (on_objects d) (known e w sid text user (on_objects d) a read)
+    (λ p c x. late p c (source_phase w p change c (of_source law e w user p d change sound a allowed.asks allowed.clear c x)))
   where
     late : (p : Pick) (c : Cause) → 5 ≤ phase c → 4 < phase c
     late p c h = omega arith
@@ -217,35 +244,35 @@ picks_table : (w : World) (t : TableObject) (change : ObjectChange) (p : Pick) �
 picks_table w t change p h is u other = (let same : new_table t ≡ new_table u = sym is ∙ other in let e : t ≡ u = cc in subst (λ (x : TableObject). PicksEntry w x p) e h)
 
 -- the catalogue shows a cause
-pub shows_leads : AreObjects → (e : Shown) (sid : ℕ) (text : List ℕ) (user : Name) (d : DdlTree) (c : Cause) → IsRead e sid text user (on_objects d) → DdlCauses e.catalog no_lease user d c
-    → ((x : Cause) → DdlCauses e.catalog no_lease user d x → phase c ≤ phase x) → ((w : World) → Agrees e w → (p : Pick) × IsPickOf w sid (sql text) p) → Leads e sid (sql text) (refused c) e
-shows_leads law e sid text user d c read stands least pick = leads_refused e e sid (sql text) c (none_rises e.boxes) (λ w a. a) told
+pub shows_leads : AreObjects → (e : Shown) (sid : ℕ) (text : List ℕ) (user : Name) (d : DdlTree) (c : Cause) → IsRead e sid text user (on_objects d) → IsSound e → DdlCauses e.catalog (leased e) user d c
+    → ((x : Cause) → DdlCauses e.catalog (leased e) user d x → phase c ≤ phase x) → ((w : World) → Agrees e w → (p : Pick) × IsPickOf w sid (sql text) p) → Leads e sid (sql text) (refused c) e
+shows_leads law e sid text user d c read sound stands least pick = leads_refused e e sid (sql text) c (none_rises e.boxes) (λ w a. a) told
   where
     told : (w : World) → Agrees e w → (p : Pick) × IsPickOf w sid (sql text) p × IsTold w sid p (sql text) c
     told w a =
         let p = pick w a in
         let k = known e w sid text user (on_objects d) a read in
-        (p.0, p.1, told_tree w sid p.0 text (new_session user) (on_objects d) c k (inl (causes_same e w user d c a stands)) (told_objects law e w user p.0 d c a stands least))
+        (p.0, p.1, told_tree w sid p.0 text (session_in w sid user) (on_objects d) c k (inl (causes_same e w user d c sound a stands)) (told_objects law e w user p.0 d c sound a stands least))
 
 -- the source of a new server is not free
-pub taken_leads : AreObjects → (e : Shown) (sid : ℕ) (text : List ℕ) (user : Name) (d : DdlTree) (s : ServerObject) → IsRead e sid text user (on_objects d) → IsAllowed e user d (new_server s)
+pub taken_leads : AreObjects → (e : Shown) (sid : ℕ) (text : List ℕ) (user : Name) (d : DdlTree) (s : ServerObject) → IsRead e sid text user (on_objects d) → IsSound e → IsAllowed e user d (new_server s)
     → ((w : World) → Agrees e w → IsFree w s.source s.kind → ⊥) → Leads e sid (sql text) (refused UnableToConnect) e
-taken_leads law e sid text user d s read allowed taken = leads_refused e e sid (sql text) UnableToConnect (none_rises e.boxes) (λ w a. a) told
+taken_leads law e sid text user d s read sound allowed taken = leads_refused e e sid (sql text) UnableToConnect (none_rises e.boxes) (λ w a. a) told
   where
     told : (w : World) → Agrees e w → (p : Pick) × IsPickOf w sid (sql text) p × IsTold w sid p (sql text) UnableToConnect
-    told w a = (no_pick, picks, told_tree w sid no_pick text (new_session user) (on_objects d) UnableToConnect k (inr (new_server s, asks, (refl, taken w a))) least)
+    told w a = (no_pick, picks, told_tree w sid no_pick text (session_in w sid user) (on_objects d) UnableToConnect k (inr (new_server s, asks, (refl, taken w a))) least)
       where
-        k : IsKnownAs w sid text (new_session user) (on_objects d)
+        k : IsKnownAs w sid text (session_in w sid user) (on_objects d)
         k = known e w sid text user (on_objects d) a read
 
         asks : Asks w.catalog user d (new_server s)
         asks = asks_same e w user d (new_server s) a allowed.asks
 
         picks : IsPickOf w sid (sql text) no_pick
-        picks = pick_tree w sid no_pick text (new_session user) (on_objects d) k (λ t is. absurd (let q : new_server s ≡ new_table t = law.once w.catalog user d (new_server s) (new_table t) asks is in cc))
+        picks = pick_tree w sid no_pick text (session_in w sid user) (on_objects d) k (λ t is. absurd (let q : new_server s ≡ new_table t = law.once w.catalog user d (new_server s) (new_table t) asks is in cc))
 
         least : (x : Cause) → ObjectCauses w user no_pick d x → 5 ≤ phase x
-        least x y = source_phase w no_pick (new_server s) x (of_source law e w user no_pick d (new_server s) a allowed.asks allowed.clear x y)
+        least x y = source_phase w no_pick (new_server s) x (of_source law e w user no_pick d (new_server s) sound a allowed.asks allowed.clear x y)
 
 -- the box refuses the bind
 pub refused_leads : AreObjects → (e n : Shown) (sid : ℕ) (text : List ℕ) (user : Name) (d : DdlTree) (t : TableObject) (place : ℕ) (c : Cause) → IsRead e sid text user (on_objects d) → IsSound e → IsAllowed e user d (new_table t) → IsServerAt e t.server place
@@ -253,7 +280,7 @@ pub refused_leads : AreObjects → (e n : Shown) (sid : ℕ) (text : List ℕ) (
 refused_leads law e n sid text user d t place c read sound allowed server h rises kept = leads_refused e n sid (sql text) c rises kept told
   where
     told : (w : World) → Agrees e w → (p : Pick) × IsPickOf w sid (sql text) p × IsTold w sid p (sql text) c
-    told w a = (p, picks, told_tree w sid p text (new_session user) (on_objects d) c k (inr (new_table t, asks, (reading, reads, because.2.stands))) least)
+    told w a = (p, picks, told_tree w sid p text (session_in w sid user) (on_objects d) c k (inr (new_table t, asks, (reading, reads, because.2.stands))) least)
       where
         b : BoxState
         b = h.before
@@ -273,7 +300,7 @@ refused_leads law e n sid text user d t place c read sound allowed server h rise
         reads : Reads w t because.0 reading
         reads = record { kind = b.nature.kind; holdings = b.content.holdings; serves = serves; read = refl }
 
-        k : IsKnownAs w sid text (new_session user) (on_objects d)
+        k : IsKnownAs w sid text (session_in w sid user) (on_objects d)
         k = known e w sid text user (on_objects d) a read
 
         asks : Asks w.catalog user d (new_table t)
@@ -283,10 +310,10 @@ refused_leads law e n sid text user d t place c read sound allowed server h rise
         entry kind holdings s = subst (λ (f : Name → Holding). Picks (f t.remote) because.0) (one_store w t.server b.nature.kind kind b.content.holdings holdings serves s) because.1
 
         picks : IsPickOf w sid (sql text) p
-        picks = pick_tree w sid p text (new_session user) (on_objects d) k (λ u is. picks_table w t (new_table t) p entry refl u (law.once w.catalog user d (new_table t) (new_table u) asks is))
+        picks = pick_tree w sid p text (session_in w sid user) (on_objects d) k (λ u is. picks_table w t (new_table t) p entry refl u (law.once w.catalog user d (new_table t) (new_table u) asks is))
 
         least : (x : Cause) → ObjectCauses w user p d x → phase c ≤ phase x
-        least x y = told_bind w t p reading c reads because.2 x (of_source law e w user p d (new_table t) a allowed.asks allowed.clear x y)
+        least x y = told_bind w t p reading c reads because.2 x (of_source law e w user p d (new_table t) sound a allowed.asks allowed.clear x y)
 
 count_cases : (a b : ℕ) → b ≡ min (a + 1) (2 ^ 64 - 1) → (a < b) ⊎ (b ≡ 2 ^ 64 - 1)
 count_cases a b e = split (cases_lt a b)
@@ -305,10 +332,10 @@ has_failed s t h = go s.ledger.faults t.ledger.faults (ap (λ l. l.faults) h.led
     ]
 
 -- the source fails in the bind
-pub failed_leads : AreObjects → (e n : Shown) (sid : ℕ) (text : List ℕ) (user : Name) (d : DdlTree) (t : TableObject) (place : ℕ) → IsRead e sid text user (on_objects d) → IsAllowed e user d (new_table t)
+pub failed_leads : AreObjects → (e n : Shown) (sid : ℕ) (text : List ℕ) (user : Name) (d : DdlTree) (t : TableObject) (place : ℕ) → IsRead e sid text user (on_objects d) → IsSound e → IsAllowed e user d (new_table t)
     → (h : ChangesAt e.boxes place (Refuses SourceFailed) n.boxes) → EachRises e.boxes n.boxes → ((w : World) → Agrees e w → Agrees n w) → Leads e sid (sql text) (refused SourceFault) n
 unfolding failed_source
-failed_leads law e n sid text user d t place read allowed h rises kept = record {
+failed_leads law e n sid text user d t place read sound allowed h rises kept = record {
   trouble = failed_source;
   befell = record {
     source = λ q. record { slot = place; before = h.before; after = h.after; was = h.there; is = h.now; holds = has_failed h.before h.after h.change };
@@ -317,7 +344,7 @@ failed_leads law e n sid text user d t place read allowed h rises kept = record 
   rises = rises;
   step = λ w a. (
     w,
-    source_fails refl (new_session user) (on_objects d) (known e w sid text user (on_objects d) a read).is (not_early law e w sid text user d (new_table t) read a allowed) refl refl,
+    source_fails refl (session_in w sid user) (on_objects d) (known e w sid text user (on_objects d) a read).is (not_early law e w sid text user d (new_table t) read sound a allowed) refl refl,
     kept w a,
   );
 }

@@ -1,5 +1,6 @@
 pub mod Lists
 pub mod Named
+pub mod Seats
 mod Kept
 pub mod Faring
 mod Told
@@ -17,6 +18,9 @@ mod Joining
 mod Answering
 mod Phases
 mod Querying
+mod CursorCausing
+mod Leases
+mod CursorRows
 mod Serving
 mod Sessions
 mod AnyRows

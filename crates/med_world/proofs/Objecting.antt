@@ -13,29 +13,12 @@ use Rattle.ddl_syntax.specs.DdlTree.{DdlTree}
 use Rattle.med_catalog.specs.Objects.{TableObject, Objects}
 use Rattle.med_catalog.specs.Changes.{ObjectChange, nothing, new_wrapper, new_server, new_mapping, new_table, no_wrapper, no_server, no_mapping, no_table, Asks}
 use Rattle.med_catalog.specs.DdlCauses.{DdlCauses}
-use Rattle.med_world.specs.Requests.{IsSid}
 use Rattle.med_world.specs.Picks.{Pick}
-use Rattle.med_world.specs.World.{World, new_session, leases, any_session, is_leased}
+use Rattle.med_world.specs.World.{World, is_leased}
 use Rattle.med_world.specs.Causes.{Reads, SourceCauses, ObjectCauses, phase}
-use Rattle.med_world.specs.Altering.{no_lease}
-use Rattle.med_world.specs.Engine.{Shown, user_of, session_of, Agrees}
+use Rattle.med_world.specs.Engine.{Shown, leased, IsSound, Agrees}
 use Rattle.med_world.proofs.Altered.{one_kind}
-
--- ---- nothing is leased where no session has a cursor
-
-not_leased_by : (w : World) (users : List (Option Name)) (name : Name) (n : ℕ) → n ≤ 64 → ((sid : ℕ) → IsSid sid → w.sessions sid ≡ session_of users sid) → any_session (λ sid. leases name (w.sessions sid)) n ≡ false
-not_leased_by w users name zero within same = refl
-not_leased_by w users name (suc n) within same =
-    let rest : any_session (λ sid. leases name (w.sessions sid)) n ≡ false = not_leased_by w users name n (omega arith) same in
-    let here : leases name (w.sessions (suc n)) ≡ false = ap (leases name) (same (suc n) (omega arith, within)) ∙ none_of (user_of users (suc n)) in
-    λ i. here i || rest i
-  where
-    none_of : (u : Option Name) → leases name (option_map new_session u) ≡ false
-    none_of None = refl
-    none_of (Some user) = refl
-
-pub not_leased : (e : Shown) (w : World) → Agrees e w → is_leased w ≡ no_lease
-not_leased e w h = λ i name. not_leased_by w e.users name 64 (lit≤ tt) h.sessions i
+use Rattle.med_world.proofs.Seats.{leases_same}
 
 -- ---- phases
 
@@ -91,28 +74,28 @@ object_phase law w user p d c (inr (change, asks, h)) = let f : 5 ≤ phase c = 
 
 -- ---- the causes in a world and in an engine
 
-pub same_causes : (e : Shown) (w : World) (user : Name) (d : DdlTree) (c : Cause) → Agrees e w → DdlCauses w.catalog (is_leased w) user d c → DdlCauses e.catalog no_lease user d c
-same_causes e w user d c h x = subst (λ (l : Name → Bool). DdlCauses e.catalog l user d c) (not_leased e w h) (subst (λ (o : Objects). DdlCauses o (is_leased w) user d c) h.catalog x)
+pub same_causes : (e : Shown) (w : World) (user : Name) (d : DdlTree) (c : Cause) → IsSound e → Agrees e w → DdlCauses w.catalog (is_leased w) user d c → DdlCauses e.catalog (leased e) user d c
+same_causes e w user d c sound h x = subst (λ (l : Name → Bool). DdlCauses e.catalog l user d c) (leases_same e w sound h) (subst (λ (o : Objects). DdlCauses o (is_leased w) user d c) h.catalog x)
 
-pub causes_same : (e : Shown) (w : World) (user : Name) (d : DdlTree) (c : Cause) → Agrees e w → DdlCauses e.catalog no_lease user d c → DdlCauses w.catalog (is_leased w) user d c
-causes_same e w user d c h x = subst (λ (o : Objects). DdlCauses o (is_leased w) user d c) (sym h.catalog) (subst (λ (l : Name → Bool). DdlCauses e.catalog l user d c) (sym (not_leased e w h)) x)
+pub causes_same : (e : Shown) (w : World) (user : Name) (d : DdlTree) (c : Cause) → IsSound e → Agrees e w → DdlCauses e.catalog (leased e) user d c → DdlCauses w.catalog (is_leased w) user d c
+causes_same e w user d c sound h x = subst (λ (o : Objects). DdlCauses o (is_leased w) user d c) (sym h.catalog) (subst (λ (l : Name → Bool). DdlCauses e.catalog l user d c) (sym (leases_same e w sound h)) x)
 
 pub asks_same : (e : Shown) (w : World) (user : Name) (d : DdlTree) (change : ObjectChange) → Agrees e w → Asks e.catalog user d change → Asks w.catalog user d change
 asks_same e w user d change h x = subst (λ (o : Objects). Asks o user d change) (sym h.catalog) x
 
 -- where the catalogue shows no cause, what stands is of the sources, for the one change
-pub of_source : AreObjects → (e : Shown) (w : World) (user : Name) (p : Pick) (d : DdlTree) (change : ObjectChange) → Agrees e w → Asks e.catalog user d change
-    → ((c : Cause) → DdlCauses e.catalog no_lease user d c → ⊥) → (c : Cause) → ObjectCauses w user p d c → SourceCauses w p change c
-of_source law e w user p d change h asks none c (inl x) = absurd (none c (same_causes e w user d c h x))
-of_source law e w user p d change h asks none c (inr (other, is, x)) =
+pub of_source : AreObjects → (e : Shown) (w : World) (user : Name) (p : Pick) (d : DdlTree) (change : ObjectChange) → IsSound e → Agrees e w → Asks e.catalog user d change
+    → ((c : Cause) → DdlCauses e.catalog (leased e) user d c → ⊥) → (c : Cause) → ObjectCauses w user p d c → SourceCauses w p change c
+of_source law e w user p d change sound h asks none c (inl x) = absurd (none c (same_causes e w user d c sound h x))
+of_source law e w user p d change sound h asks none c (inr (other, is, x)) =
     subst (λ (k : ObjectChange). SourceCauses w p k c) (law.once w.catalog user d other change is (asks_same e w user d change h asks)) x
 
 -- the catalogue tells a cause of the least phase that it shows, and sources show later ones
-pub told_objects : AreObjects → (e : Shown) (w : World) (user : Name) (p : Pick) (d : DdlTree) (c : Cause) → Agrees e w → DdlCauses e.catalog no_lease user d c
-    → ((x : Cause) → DdlCauses e.catalog no_lease user d x → phase c ≤ phase x) → (x : Cause) → ObjectCauses w user p d x → phase c ≤ phase x
-told_objects law e w user p d c h stands least x (inl s) = least x (same_causes e w user d x h s)
-told_objects law e w user p d c h stands least x (inr (change, asks, s)) =
-    let a : phase c ≤ 5 = law.late e.catalog no_lease user d c stands in
+pub told_objects : AreObjects → (e : Shown) (w : World) (user : Name) (p : Pick) (d : DdlTree) (c : Cause) → IsSound e → Agrees e w → DdlCauses e.catalog (leased e) user d c
+    → ((x : Cause) → DdlCauses e.catalog (leased e) user d x → phase c ≤ phase x) → (x : Cause) → ObjectCauses w user p d x → phase c ≤ phase x
+told_objects law e w user p d c sound h stands least x (inl s) = least x (same_causes e w user d x sound h s)
+told_objects law e w user p d c sound h stands least x (inr (change, asks, s)) =
+    let a : phase c ≤ 5 = law.late e.catalog (leased e) user d c stands in
     let b : 5 ≤ phase x = source_phase w p change x s in
     omega arith
 

@@ -23,7 +23,7 @@ use Rattle.bind_catalog.specs.Places.{Attached, IsPlaceOf, ArePlaces}
 use Rattle.med_world.specs.Requests.{sql}
 use Rattle.med_parser.specs.CommandTree.{on_data}
 use Rattle.med_world.specs.Picks.{no_pick}
-use Rattle.med_world.specs.World.{World, new_session, cells_of, rows_in}
+use Rattle.med_world.specs.World.{World, cells_of, rows_in}
 use Rattle.med_world.specs.Causes.{query_of, entry_tables, meant_over, entries_in, QueryState, QueryRun, SelectCauses, IsPickOf, phase}
 use Rattle.med_world.specs.Replies.{answered, refused}
 use Rattle.med_world.specs.Steps.{is_done, source_fails}
@@ -33,7 +33,7 @@ use Rattle.med_world.specs.Laws.{IsRead}
 use Rattle.med_world.proofs.Lists.{some_same}
 use Rattle.med_world.proofs.Faring.{none_rises}
 use Rattle.med_world.proofs.Told.{told_tree, none_tree, before_tree, pick_tree}
-use Rattle.med_world.proofs.Leading.{calm, calm_befell, known, leads_refused, leads_memory}
+use Rattle.med_world.proofs.Leading.{calm, calm_befell, session_in, known, leads_refused, leads_memory}
 
 -- a cause of names or rights is of phase 3, and one of types of phase 4: laws of the binder
 pub record ArePhased : Type 0 where
@@ -142,7 +142,7 @@ none_select w user q b states runs d (inr (inr (inl h))) = states d h
 none_select w user q b states runs d (inr (inr (inr h))) = runs d h
 
 pub picks_none : (e : Shown) (w : World) (sid : ℕ) (text : List ℕ) (user : Name) (q : SelectTree) → Agrees e w → IsRead e sid text user (on_data (select q)) → IsPickOf w sid (sql text) no_pick
-picks_none e w sid text user q a read = pick_tree w sid no_pick text (new_session user) (on_data (select q)) (known e w sid text user (on_data (select q)) a read) tt
+picks_none e w sid text user q a read = pick_tree w sid no_pick text (session_in w sid user) (on_data (select q)) (known e w sid text user (on_data (select q)) a read) tt
 
 -- The query is answered. `kept` and `rises` are what serving a run leaves of worlds and boxes.
 pub selects_leads : (e new : Shown) (sid : ℕ) (text : List ℕ) (user : Name) (q : SelectTree) (names : List Name) (given : List Tuple) → IsRead e sid text user (on_data (select q)) → Selects e.catalog user e.bound q e.boxes names given new.boxes
@@ -154,9 +154,9 @@ selects_leads e new sid text user q names given read h rises kept = record {
   step = λ w a. (
     w,
     is_done no_pick (picks_none e w sid text user q a read)
-        (none_tree w sid no_pick text (new_session user) (on_data (select q)) (known e w sid text user (on_data (select q)) a read)
+        (none_tree w sid no_pick text (session_in w sid user) (on_data (select q)) (known e w sid text user (on_data (select q)) a read)
         (none_select w user q (bindable_in e w user q a h.bindable) (none_many e w q a h.few) (none_runs e new w user q names given a h))) (
-          new_session user,
+          session_in w sid user,
           on_data (select q),
           (known e w sid text user (on_data (select q)) a read).is,
           ((given, answers_in e new w user q names given a h, ap (λ (ns : List Name). answered (codes "SELECT") ns given) (h.named ∙ ap (λ (m : Meant). m.names) (same_meant e w q a))), refl),
@@ -171,13 +171,13 @@ not_bound_leads law e sid text user q c read (inl is) = subst (λ (d : Cause). L
 not_bound_leads law e sid text user q c read (inr (inl h)) = leads_refused e e sid (sql text) c (none_rises e.boxes) (λ w a. a) (λ w a. (
   no_pick,
   picks_none e w sid text user q a read,
-  told_tree w sid no_pick text (new_session user) (on_data (select q)) c (known e w sid text user (on_data (select q)) a read) (inl (subst (λ (o : Objects). QueryNames o user q c) (sym a.catalog) h))
+  told_tree w sid no_pick text (session_in w sid user) (on_data (select q)) c (known e w sid text user (on_data (select q)) a read) (inl (subst (λ (o : Objects). QueryNames o user q c) (sym a.catalog) h))
       (λ d x. let p : phase c ≡ 3 = law.names e.catalog user q c h in let r : 3 ≤ phase d = select_phase law w user q d x in omega arith),
 ))
 not_bound_leads law e sid text user q c read (inr (inr (h, none))) = leads_refused e e sid (sql text) c (none_rises e.boxes) (λ w a. a) (λ w a. (
   no_pick,
   picks_none e w sid text user q a read,
-  told_tree w sid no_pick text (new_session user) (on_data (select q)) c (known e w sid text user (on_data (select q)) a read) (inr (inl (subst (λ (o : Objects). QueryTypes o q c) (sym a.catalog) h)))
+  told_tree w sid no_pick text (session_in w sid user) (on_data (select q)) c (known e w sid text user (on_data (select q)) a read) (inr (inl (subst (λ (o : Objects). QueryTypes o q c) (sym a.catalog) h)))
       (λ d x. let p : phase c ≡ 4 = law.types e.catalog q c h in
       let r : 4 ≤ phase d = from_types law w user q (subst (λ (o : Objects). (y : Cause) → QueryNames o user q y → ⊥) (sym a.catalog) none) d x in omega arith),
 ))
@@ -190,7 +190,7 @@ shows_run_leads e new sid text user q places c read b few are h rises kept = lea
   no_pick,
   picks_none e w sid text user q a read,
   let run : QueryRun w q c = subst (λ (m : Meant). ShowsIn w m c) (same_meant e w q a) (h a.honest (entry_tables (meant_by e.catalog q).entries (rows_in w.rows)) (same_entries e w q places a are)) in
-      told_tree w sid no_pick text (new_session user) (on_data (select q)) c (known e w sid text user (on_data (select q)) a read) (inr (inr (inr run)))
+      told_tree w sid no_pick text (session_in w sid user) (on_data (select q)) c (known e w sid text user (on_data (select q)) a read) (inr (inr (inr run)))
       (λ d x. let p : phase c ≡ 6 = run_phase w q c run in let r : 6 ≤ phase d = from_run w user q (bindable_in e w user q a b) (none_many e w q a few) d x in omega arith),
 ))
 
@@ -206,8 +206,8 @@ fails_leads e new sid text user q read b h rises kept = record {
   rises = rises;
   step = λ w a. (
     w,
-    source_fails refl (new_session user) (on_data (select q)) (known e w sid text user (on_data (select q)) a read).is
-        (before_tree w sid text (new_session user) (on_data (select q)) (known e w sid text user (on_data (select q)) a read) (λ p d x. let r : 5 ≤ phase d = from_state w user q (bindable_in e w user q a b) d x in omega arith)) refl refl,
+    source_fails refl (session_in w sid user) (on_data (select q)) (known e w sid text user (on_data (select q)) a read).is
+        (before_tree w sid text (session_in w sid user) (on_data (select q)) (known e w sid text user (on_data (select q)) a read) (λ p d x. let r : 5 ≤ phase d = from_state w user q (bindable_in e w user q a b) d x in omega arith)) refl refl,
     kept w a,
   );
 }

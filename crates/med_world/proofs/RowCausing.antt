@@ -19,8 +19,8 @@ use Rattle.bind_write.specs.Binding.{IsBindable}
 use Rattle.med_world.specs.Picks.{Pick}
 use Rattle.med_world.specs.World.{World}
 use Rattle.med_world.specs.Causes.{phase, OfGiven, OfQuery, QueryState, WriteState, WriteRun, has_fault, lacks_value, is_refused, query_shows, RowCauses, IsRefused}
-use Rattle.med_world.specs.Engine.{Shown, Agrees}
-use Rattle.med_world.proofs.Objecting.{not_leased}
+use Rattle.med_world.specs.Engine.{Shown, Agrees, leased, IsSound}
+use Rattle.med_world.proofs.Seats.{leases_same}
 use Rattle.med_world.proofs.Querying.{state_phase, run_phase}
 
 -- ---- the query of an INSERT
@@ -103,10 +103,10 @@ none_row w user p t b state run d (inr (inr (inr h))) = run d h
 pub writable_in : (e : Shown) (w : World) (user : Name) (t : WriteTree) → Agrees e w → IsBindable e.catalog user t → IsBindable w.catalog user t
 writable_in e w user t a h = subst (λ (o : Objects). IsBindable o user t) (sym a.catalog) h
 
--- no table is leased, and FROM has few entries
-pub none_state : (e : Shown) (w : World) (t : WriteTree) → Agrees e w → (OfQuery (λ q. (d : Cause) × QueryState w q d) t → ⊥) → (d : Cause) → WriteState w t d → ⊥
-none_state e w t a few d (inl (is, leased)) = false≢true (sym (ap (λ (f : Name → Bool). f (target_of t)) (not_leased e w a)) ∙ leased)
-none_state e w t a few d (inr h) = few (with_cause t h)
+-- its table is not leased, and FROM has few entries
+pub none_state : (e : Shown) (w : World) (t : WriteTree) → IsSound e → leased e (target_of t) ≡ false → Agrees e w → (OfQuery (λ q. (d : Cause) × QueryState w q d) t → ⊥) → (d : Cause) → WriteState w t d → ⊥
+none_state e w t sound free a few d (inl (is, taken)) = false≢true (sym free ∙ sym (ap (λ (f : Name → Bool). f (target_of t)) (leases_same e w sound a)) ∙ taken)
+none_state e w t sound free a few d (inr h) = few (with_cause t h)
   where
     in_given : (g : GivenTree) → OfGiven (λ q. QueryState w q d) g → OfGiven (λ q. (d : Cause) × QueryState w q d) g
     in_given (values rows) x = x

@@ -1,8 +1,8 @@
 -- A write leads to its tag or its refusal in each world that agrees, and leaves an engine sound.
-use Rattle.std.proofs.Common.{◌≡◌, ℕ, ◌<◌, ◌≤◌, ◌⊎◌, List, [], Option, Some, IsPermutation, slice_get, length, ◌+◌, refl, ap, sym, ◌∙◌, subst, arith, inl, inr}
+use Rattle.std.proofs.Common.{◌≡◌, ℕ, ◌<◌, ◌≤◌, ◌⊎◌, Bool, true, false, List, [], Option, Some, IsPermutation, slice_get, length, ◌+◌, refl, ap, sym, ◌∙◌, subst, arith, inl, inr}
 use Rattle.med_value.specs.Datum.{Tuple}
 use Rattle.med_value.specs.declared.cause.Cause.{Cause}
-use Rattle.med_value.specs.declared.cause.Cause.TheVariants.{LimitExceeded}
+use Rattle.med_value.specs.declared.cause.Cause.TheVariants.{LimitExceeded, InUse}
 use Rattle.med_syntax.specs.Tree.{Name}
 use Rattle.med_syntax.specs.QueryTree.{SelectTree}
 use Rattle.write_syntax.specs.WriteTree.{GivenTree, values, rows_of, WriteTree, insert, update, delete}
@@ -34,11 +34,12 @@ use Rattle.med_world.specs.Picks.{Pick, no_pick, PicksAnswer, has_none}
 use Rattle.med_world.specs.World.{World, cells_of, rows_in}
 use Rattle.med_world.specs.Causes.{query_of, entry_tables, meant_over, entries_in, QueryState, QueryRun, OfGiven, OfQuery, write_over, rows_held, WriteState, query_shows, IsRowPick, PicksWrite, phase}
 use Rattle.med_world.specs.Steps.{Writes}
-use Rattle.med_world.specs.Engine.{Shown, IsSound, Agrees}
-use Rattle.med_world.specs.Selecting.{RunFails, no_memory, box_fails, numbers_out, shows_cause}
-use Rattle.med_world.specs.Writing.{FailsQuery, columns_for, form_for, IsTargetAt, WritesRows, RefusesRows, WriteFails, not_bound, too_many, query_fails, box_refuses, rows_untyped}
+use Rattle.med_world.specs.Engine.{Shown, leased, IsSound, Agrees}
+use Rattle.open_cursors.specs.Starting.{RunFails, no_memory, box_fails, numbers_out, shows_cause}
+use Rattle.med_world.specs.Writing.{FailsQuery, columns_for, form_for, IsTargetAt, WritesRows, RefusesRows, WriteFails, not_bound, in_use, too_many, query_fails, box_refuses, rows_untyped}
 use Rattle.med_world.specs.Laws.{with_boxes}
 use Rattle.med_world.proofs.RowEnds.{RowsDoneIn, RowsDone, RowsToldIn, NoneBeforeRows, WhyNotDone, is_told, lacks_memory, source_fails, numbers_end, RowsNotDone}
+use Rattle.med_world.proofs.Seats.{leases_same}
 use Rattle.med_world.proofs.Faring.{none_rises, rise_twice}
 use Rattle.med_world.proofs.Querying.{same_meant, same_entries, none_many}
 use Rattle.med_world.proofs.Serving.{serving_rises, serving_agrees, serving_sound}
@@ -52,10 +53,10 @@ use Rattle.med_world.proofs.RowPicks.{given_served, answer_picked, query_clear, 
 -- ---- done
 
 -- the engine once the query of an INSERT was answered
-abbrev now_of : (e : Shown) (user : Name) (t : WriteTree) (n : ℕ) (new : List (Option BoxState)) → WritesRows e.catalog user e.bound t e.boxes n new → Shown
+abbrev now_of : (e : Shown) (user : Name) (t : WriteTree) (n : ℕ) (new : List (Option BoxState)) → WritesRows e.catalog user e.bound t (leased e (target_of t)) e.boxes n new → Shown
 now_of e user t n new h = with_boxes e h.now
 
-pub rows_done : (e : Shown) (user : Name) (t : WriteTree) (n : ℕ) (new : List (Option BoxState)) → IsSound e → WritesRows e.catalog user e.bound t e.boxes n new → RowsDone e user t n (with_boxes e new)
+pub rows_done : (e : Shown) (user : Name) (t : WriteTree) (n : ℕ) (new : List (Option BoxState)) → IsSound e → WritesRows e.catalog user e.bound t (leased e (target_of t)) e.boxes n new → RowsDone e user t n (with_boxes e new)
 rows_done e user t n new sound h = record { rises = rise_twice e.boxes h.now new (serving_rises e.boxes h.now served) (done_rises mid t h.answer h.at n new h.writes); each = each }
   where
     mid : Shown
@@ -71,7 +72,7 @@ rows_done e user t n new sound h = record { rises = rise_twice e.boxes h.now new
     each w a = record {
       pick = clear.pick;
       picks = λ writable. clear.picks;
-      none = none_row w user clear.pick t (writable_in e w user t a h.bindable) (none_state e w t a (query_few e w t h.answer h.now a h.given)) clear.none;
+      none = none_row w user clear.pick t (writable_in e w user t a h.bindable) (none_state e w t sound h.free a (query_few e w t h.answer h.now a h.given)) clear.none;
       after = done.after;
       writes = writes;
       agrees = done.agrees;
@@ -84,7 +85,7 @@ rows_done e user t n new sound h = record { rises = rise_twice e.boxes h.now new
         clear = done_clear mid w t h.answer h.at n new mid_sound h.target h.writes now (answer_picked e w t h.answer h.now a h.given) (query_clear e w t h.answer h.now a h.given)
 
         done : DoneIn mid w t h.answer new
-        done = done_agrees mid w t h.answer h.at n new mid_sound h.target h.writes now
+        done = done_agrees mid w t h.answer h.at n new mid_sound h.free h.target h.writes now
 
         form : form_for e.catalog t ≡ write_over w t
         form = form_same e w t a
@@ -119,7 +120,7 @@ rows_done e user t n new sound h = record { rises = rise_twice e.boxes h.now new
           is = done.is;
         }
 
-pub rows_done_sound : (e : Shown) (user : Name) (t : WriteTree) (n : ℕ) (new : List (Option BoxState)) → IsSound e → WritesRows e.catalog user e.bound t e.boxes n new → IsSound (with_boxes e new)
+pub rows_done_sound : (e : Shown) (user : Name) (t : WriteTree) (n : ℕ) (new : List (Option BoxState)) → IsSound e → WritesRows e.catalog user e.bound t (leased e (target_of t)) e.boxes n new → IsSound (with_boxes e new)
 rows_done_sound e user t n new sound h =
     done_sound (with_boxes e h.now) t h.answer h.at n new (serving_sound e h.now (given_served e.catalog e.bound t e.boxes h.answer h.now h.given) sound) h.writes
 
@@ -162,12 +163,12 @@ early : (w : World) (user : Name) (t : WriteTree) (c : Cause) (s : WriteNames w.
 early w user t c s writable = absurd (writable c s)
 
 -- a cause of the run
-told_run : (e : Shown) (w : World) (user : Name) (t : WriteTree) (c : Cause) → Agrees e w → IsBindable e.catalog user t → (OfQuery (λ q. (d : Cause) × QueryState w q d) t → ⊥) → RunShows w t c → RowsToldIn w user t c
-told_run e w user t c a b few r = record {
+told_run : (e : Shown) (w : World) (user : Name) (t : WriteTree) (c : Cause) → IsSound e → leased e (target_of t) ≡ false → Agrees e w → IsBindable e.catalog user t → (OfQuery (λ q. (d : Cause) × QueryState w q d) t → ⊥) → RunShows w t c → RowsToldIn w user t c
+told_run e w user t c sound free a b few r = record {
   pick = r.pick;
   picks = λ writable. r.picks;
   stands = inr (inr (inr r.stands));
-  least = λ d x. let p : phase c ≡ 6 = write_run_phase w r.pick t c r.stands in let q : 6 ≤ phase d = row_from_run w user r.pick t (writable_in e w user t a b) (none_state e w t a few) d x in omega arith;
+  least = λ d x. let p : phase c ≡ 6 = write_run_phase w r.pick t c r.stands in let q : 6 ≤ phase d = row_from_run w user r.pick t (writable_in e w user t a b) (none_state e w t sound free a few) d x in omega arith;
 }
 
 -- nothing was asked of a box
@@ -216,6 +217,20 @@ many_end e user t b many = is_told told
         stands : WriteState w t LimitExceeded
         stands = inr (in_query (λ q. 8 < length (meant_by e.catalog q).entries) (λ q. QueryState w q LimitExceeded) t (λ q x. (subst (λ (m : Meant). 8 < length m.entries) (same_meant e w q a) x, refl)) many)
 
+-- a cursor reads its table
+use_end : (e : Shown) (user : Name) (t : WriteTree) → IsSound e → IsBindable e.catalog user t → leased e (target_of t) ≡ true → WhyNotDone e user t InUse e
+use_end e user t sound b taken = is_told told
+  where
+    told : (w : World) → Agrees e w → RowsToldIn w user t InUse
+    told w a =
+        let stands : WriteState w t InUse = inl (refl, ap (λ (f : Name → Bool). f (target_of t)) (leases_same e w sound a) ∙ taken) in
+        record {
+          pick = no_pick;
+          picks = early w user t InUse (inr (inr stands));
+          stands = inr (inr (inl stands));
+          least = row_from_state w user no_pick t (writable_in e w user t a b);
+        }
+
 -- the box of its table is there
 target_box : (e : Shown) (t : WriteTree) (at : Attached) → IsSound e → IsTargetAt e.catalog e.bound t at → (b : BoxState) × (slice_get e.boxes at.source ≡ Some (Some b))
 target_box e t at sound target =
@@ -251,17 +266,17 @@ few_for : (e : Shown) (w : World) (t : WriteTree) (q : SelectTree) → Agrees e 
 few_for e w t q a is few h = of_query (λ r. ((d : Cause) × QueryState w r d) × OfQuery (λ s. s ≡ r) t) ⊥ t (λ r x. none_many e w q a few x.0.0 (subst (λ (s : SelectTree). QueryState w s x.0.0) (sym (one_query t q r is x.1)) x.0.1))
     (linked (λ r. (d : Cause) × QueryState w r d) t h)
 
-query_ends : (e : Shown) (new : List (Option BoxState)) (user : Name) (t : WriteTree) (at : Attached) (q : SelectTree) (c : Cause) → IsSound e → IsBindable e.catalog user t → IsTargetAt e.catalog e.bound t at → OfQuery (λ r. r ≡ q) t
+query_ends : (e : Shown) (new : List (Option BoxState)) (user : Name) (t : WriteTree) (at : Attached) (q : SelectTree) (c : Cause) → IsSound e → leased e (target_of t) ≡ false → IsBindable e.catalog user t → IsTargetAt e.catalog e.bound t at → OfQuery (λ r. r ≡ q) t
     → (h : FailsQuery e.catalog e.bound q e.boxes c new) → RunFails (query_of (meant_by e.catalog q)) h.places c e.boxes new → WhyNotDone e user t c (with_boxes e new)
-query_ends e new user t at q c sound b target_at is h (no_memory e1) = lacks_memory e1
-query_ends e new user t at q c sound b target_at is h (box_fails e1 s) = source_fails e1 s (none_early e user t b)
-query_ends e new user t at q c sound b target_at is h (numbers_out e1 s) = numbers_end e1 s (none_early e user t b)
-query_ends e new user t at q c sound b target_at is h (shows_cause s) = is_told (λ w a. told_run e w user t c a b (few_for e w t q a is h.few) (query_told e w t at q c new sound target_at a is h s))
+query_ends e new user t at q c sound free b target_at is h (no_memory e1) = lacks_memory e1
+query_ends e new user t at q c sound free b target_at is h (box_fails e1 s) = source_fails e1 s (none_early e user t b)
+query_ends e new user t at q c sound free b target_at is h (numbers_out e1 s) = numbers_end e1 s (none_early e user t b)
+query_ends e new user t at q c sound free b target_at is h (shows_cause s) = is_told (λ w a. told_run e w user t c sound free a b (few_for e w t q a is h.few) (query_told e w t at q c new sound target_at a is h s))
 
 -- the box of its table refuses it
-one_box : (e : Shown) (w : World) (user : Name) (t : WriteTree) (c : Cause) (new : List (Option BoxState)) → IsSound e → IsBindable e.catalog user t → (r : RefusesRows e.catalog e.bound t e.boxes c new) → Agrees e w
+one_box : (e : Shown) (w : World) (user : Name) (t : WriteTree) (c : Cause) (new : List (Option BoxState)) → IsSound e → leased e (target_of t) ≡ false → IsBindable e.catalog user t → (r : RefusesRows e.catalog e.bound t e.boxes c new) → Agrees e w
     → RunShows w t c → RowsToldIn w user t c
-one_box e w user t c new sound b r a shows = told_run e w user t c a b (query_few e w t r.answer r.now a r.given) shows
+one_box e w user t c new sound free b r a shows = told_run e w user t c sound free a b (query_few e w t r.answer r.now a r.given) shows
 
 mid_sound : (e : Shown) (t : WriteTree) (c : Cause) (new : List (Option BoxState)) → IsSound e → (r : RefusesRows e.catalog e.bound t e.boxes c new) → IsSound (with_boxes e r.now)
 mid_sound e t c new sound r = serving_sound e r.now (given_served e.catalog e.bound t e.boxes r.answer r.now r.given) sound
@@ -275,20 +290,20 @@ shown_by e w user t c new sound r a shows =
     shows_told (with_boxes e r.now) w t r.answer r.at r.refuses.before c (mid_sound e t c new sound r) r.target r.refuses.there now (shows now) (answer_picked e w t r.answer r.now a r.given)
 
 -- what is told of a fault of the write
-fault_ends : (e : Shown) (user : Name) (t : WriteTree) (c : Cause) (new : List (Option BoxState)) (f : WriteFault) (read : List GivenRow) → IsSound e → IsBindable e.catalog user t → (r : RefusesRows e.catalog e.bound t e.boxes c new)
+fault_ends : (e : Shown) (user : Name) (t : WriteTree) (c : Cause) (new : List (Option BoxState)) (f : WriteFault) (read : List GivenRow) → IsSound e → leased e (target_of t) ≡ false → IsBindable e.catalog user t → (r : RefusesRows e.catalog e.bound t e.boxes c new)
     → r.fault ≡ write_refusal f → (is_honest r.refuses.before → AreRead (form_for e.catalog t) (rows_in_box r.refuses.before r.at.number) read) → IsWriteFault f (columns_for e.catalog t) (form_for e.catalog t) (cells_given read) r.answer → WhyNotDone e user t c (with_boxes e new)
-fault_ends e user t c new (Evaluation WantsMemory) read sound b r is are h = lacks_memory (r.told ∙ ap cause_of is)
-fault_ends e user t c new (Evaluation OutOfRange) read sound b r is are h = is_told (λ w a. one_box e w user t c new sound b r a (shown_by e w user t c new sound r a (λ now. inl (
+fault_ends e user t c new (Evaluation WantsMemory) read sound free b r is are h = lacks_memory (r.told ∙ ap cause_of is)
+fault_ends e user t c new (Evaluation OutOfRange) read sound free b r is are h = is_told (λ w a. one_box e w user t c new sound free b r a (shown_by e w user t c new sound r a (λ now. inl (
   Range,
   fault_in (with_boxes e r.now) w t r.answer r.at r.refuses.before read Range (mid_sound e t c new sound r) r.target r.refuses.there now (are (now.honest r.at.source r.refuses.before r.refuses.there)) h,
   r.told ∙ ap cause_of is,
 ))))
-fault_ends e user t c new (Evaluation ZeroDivisor) read sound b r is are h = is_told (λ w a. one_box e w user t c new sound b r a (shown_by e w user t c new sound r a (λ now. inl (
+fault_ends e user t c new (Evaluation ZeroDivisor) read sound free b r is are h = is_told (λ w a. one_box e w user t c new sound free b r a (shown_by e w user t c new sound r a (λ now. inl (
   Zero,
   fault_in (with_boxes e r.now) w t r.answer r.at r.refuses.before read Zero (mid_sound e t c new sound r) r.target r.refuses.there now (are (now.honest r.at.source r.refuses.before r.refuses.there)) h,
   r.told ∙ ap cause_of is,
 ))))
-fault_ends e user t c new NotNull read sound b r is are h = is_told (λ w a. one_box e w user t c new sound b r a (shown_by e w user t c new sound r a (λ now. inr (
+fault_ends e user t c new NotNull read sound free b r is are h = is_told (λ w a. one_box e w user t c new sound free b r a (shown_by e w user t c new sound r a (λ now. inr (
   lack_in (with_boxes e r.now) w t r.answer r.at r.refuses.before read (mid_sound e t c new sound r) r.target r.refuses.there now (are (now.honest r.at.source r.refuses.before r.refuses.there)) h,
   r.told ∙ ap cause_of is,
 ))))
@@ -302,10 +317,10 @@ source_shows : (old new : List (Option BoxState)) → Breaks Source old new → 
 source_shows old new (wants_memory is) = absurd (cc)
 source_shows old new (box_breaks is s) = s
 
-bars_end : (e : Shown) (user : Name) (t : WriteTree) (c : Cause) (new : List (Option BoxState)) → IsSound e → IsBindable e.catalog user t → (r : RefusesRows e.catalog e.bound t e.boxes c new)
+bars_end : (e : Shown) (user : Name) (t : WriteTree) (c : Cause) (new : List (Option BoxState)) → IsSound e → leased e (target_of t) ≡ false → IsBindable e.catalog user t → (r : RefusesRows e.catalog e.bound t e.boxes c new)
     → Bars (columns_for e.catalog t) (form_for e.catalog t) r.answer r.refuses.before r.at.number r.fault r.refuses.change.faults → WhyNotDone e user t c (with_boxes e new)
-bars_end e user t c new sound b r (box_lacks_memory is same) = lacks_memory (r.told ∙ ap cause_of is)
-bars_end e user t c new sound b r (box_fails_now is same) = source_fails (r.told ∙ ap cause_of is) shows (none_early e user t b)
+bars_end e user t c new sound free b r (box_lacks_memory is same) = lacks_memory (r.told ∙ ap cause_of is)
+bars_end e user t c new sound free b r (box_fails_now is same) = source_fails (r.told ∙ ap cause_of is) shows (none_early e user t b)
   where
     here : SlotShows r.now new HasFailed
     here = record {
@@ -319,9 +334,9 @@ bars_end e user t c new sound b r (box_fails_now is same) = source_fails (r.told
 
     shows : SlotShows e.boxes new HasFailed
     shows = source_shows e.boxes new (breaks_between none_held none_held none_held none_held e.boxes r.now new new Source (given_served e.catalog e.bound t e.boxes r.answer r.now r.given) (box_breaks refl here) (all_served new))
-bars_end e user t c new sound b r (gives_twice is same lies) =
+bars_end e user t c new sound free b r (gives_twice is same lies) =
     is_told (λ w a. absurd (lies ((mid_agrees e w t c new r a).honest r.at.source r.refuses.before r.refuses.there)))
-bars_end e user t c new sound b r (box_numbers_end is same at_end) = numbers_end (r.told ∙ ap cause_of is) shows (none_early e user t b)
+bars_end e user t c new sound free b r (box_numbers_end is same at_end) = numbers_end (r.told ∙ ap cause_of is) shows (none_early e user t b)
   where
     shows : SlotShows e.boxes new IsUsedUp
     shows =
@@ -334,8 +349,8 @@ bars_end e user t c new sound b r (box_numbers_end is same at_end) = numbers_end
           is = r.refuses.now;
           shows = ap (λ (l : Ledger). l.next) r.refuses.change.ledger ∙ r.refuses.change.stays at_end;
         }
-bars_end e user t c new sound b r (write_shows f read is same are h) = fault_ends e user t c new f read sound b r is are h
-bars_end e user t c new sound b r (kind_refuses d is same run stands) = is_told (λ w a. one_box e w user t c new sound b r a (told w a))
+bars_end e user t c new sound free b r (write_shows f read is same are h) = fault_ends e user t c new f read sound free b r is are h
+bars_end e user t c new sound free b r (kind_refuses d is same run stands) = is_told (λ w a. one_box e w user t c new sound free b r a (told w a))
   where
     told : (w : World) → Agrees e w → RunShows w t c
     told w a =
@@ -348,23 +363,26 @@ bars_end e user t c new sound b r (kind_refuses d is same run stands) = is_told 
 serving_ends : (e : Shown) (new : List (Option BoxState)) (user : Name) (t : WriteTree) (c : Cause) → AllServed e.boxes new → WhyNotDone e user t c (with_boxes e new) → RowsNotDone e user t c (with_boxes e new)
 serving_ends e new user t c served why = record { rises = serving_rises e.boxes new served; kept = serving_agrees e new served; why = why }
 
-pub rows_not_done : WritesPhased → (e : Shown) (user : Name) (t : WriteTree) (c : Cause) (new : List (Option BoxState)) → IsSound e → WriteFails e.catalog user e.bound t e.boxes c new → RowsNotDone e user t c (with_boxes e new)
+pub rows_not_done : WritesPhased → (e : Shown) (user : Name) (t : WriteTree) (c : Cause) (new : List (Option BoxState)) → IsSound e → WriteFails e.catalog user e.bound t (leased e (target_of t)) e.boxes c new → RowsNotDone e user t c (with_boxes e new)
 rows_not_done law e user t c new sound (not_bound why same) = quiet e new user t c same (not_bound_ends law e user t c why)
 rows_not_done law e user t c new sound (too_many b many is same) =
     quiet e new user t c same (subst (λ (d : Cause). WhyNotDone e user t d e) (sym is) (many_end e user t b many))
-rows_not_done law e user t c new sound (query_fails b at target h) =
+rows_not_done law e user t c new sound (query_fails b free at target h) =
     of_query (λ q. FailsQuery e.catalog e.bound q e.boxes c new × OfQuery (λ r. r ≡ q) t) (RowsNotDone e user t c (with_boxes e new)) t
-    (λ q x. serving_ends e new user t c x.0.served (query_ends e new user t at q c sound b target x.1 x.0 x.0.fails))
+    (λ q x. serving_ends e new user t c x.0.served (query_ends e new user t at q c sound free b target x.1 x.0 x.0.fails))
     (linked (λ q. FailsQuery e.catalog e.bound q e.boxes c new) t h)
-rows_not_done law e user t c new sound (box_refuses b r) =
-    serving_ends e new user t c (all_on e.boxes r.now new (given_served e.catalog e.bound t e.boxes r.answer r.now r.given) (refused_served e t c new r)) (bars_end e user t c new sound b r r.refuses.change.bars)
-rows_not_done law e user t c new sound (rows_untyped b lies is served) = serving_ends e new user t c served (is_told (λ w a. absurd (lies a.honest)))
+rows_not_done law e user t c new sound (box_refuses b free r) =
+    serving_ends e new user t c (all_on e.boxes r.now new (given_served e.catalog e.bound t e.boxes r.answer r.now r.given) (refused_served e t c new r)) (bars_end e user t c new sound free b r r.refuses.change.bars)
+rows_not_done law e user t c new sound (in_use b taken is same) =
+    quiet e new user t c same (subst (λ (d : Cause). WhyNotDone e user t d e) (sym is) (use_end e user t sound b taken))
+rows_not_done law e user t c new sound (rows_untyped b free lies is served) = serving_ends e new user t c served (is_told (λ w a. absurd (lies a.honest)))
 
-pub rows_not_done_sound : (e : Shown) (user : Name) (t : WriteTree) (c : Cause) (new : List (Option BoxState)) → IsSound e → WriteFails e.catalog user e.bound t e.boxes c new → IsSound (with_boxes e new)
+pub rows_not_done_sound : (e : Shown) (user : Name) (t : WriteTree) (c : Cause) (new : List (Option BoxState)) → IsSound e → WriteFails e.catalog user e.bound t (leased e (target_of t)) e.boxes c new → IsSound (with_boxes e new)
 rows_not_done_sound e user t c new sound (not_bound why same) = subst (λ (boxes : List (Option BoxState)). IsSound (with_boxes e boxes)) (sym same) sound
 rows_not_done_sound e user t c new sound (too_many b many is same) = subst (λ (boxes : List (Option BoxState)). IsSound (with_boxes e boxes)) (sym same) sound
-rows_not_done_sound e user t c new sound (query_fails b at target h) =
+rows_not_done_sound e user t c new sound (in_use b taken is same) = subst (λ (boxes : List (Option BoxState)). IsSound (with_boxes e boxes)) (sym same) sound
+rows_not_done_sound e user t c new sound (query_fails b free at target h) =
     of_query (λ q. FailsQuery e.catalog e.bound q e.boxes c new) (IsSound (with_boxes e new)) t (λ q x. serving_sound e new x.served sound) h
-rows_not_done_sound e user t c new sound (box_refuses b r) =
+rows_not_done_sound e user t c new sound (box_refuses b free r) =
     serving_sound e new (all_on e.boxes r.now new (given_served e.catalog e.bound t e.boxes r.answer r.now r.given) (refused_served e t c new r)) sound
-rows_not_done_sound e user t c new sound (rows_untyped b lies is served) = serving_sound e new served sound
+rows_not_done_sound e user t c new sound (rows_untyped b free lies is served) = serving_sound e new served sound

@@ -5,24 +5,25 @@ use Rattle.med_value.specs.declared.cause.Cause.{Cause}
 use Rattle.med_value.specs.declared.cause.Cause.TheVariants.{LimitExceeded, SourceFault}
 use Rattle.med_syntax.specs.Tree.{Name}
 use Rattle.write_syntax.specs.WriteTree.{WriteTree}
+use Rattle.write_parts.specs.Meaning.{target_of}
 use Rattle.med_parser.specs.CommandTree.{on_rows}
 use Rattle.fdw_api.specs.State.{BoxState}
 use Rattle.med_exec.specs.Running.{SlotShows, HasFailed, IsUsedUp}
 use Rattle.med_world.specs.Requests.{sql}
-use Rattle.med_world.specs.World.{World, new_session}
+use Rattle.med_world.specs.World.{World}
 use Rattle.med_world.specs.Replies.{done, refused}
 use Rattle.med_world.specs.Steps.{is_done, source_fails as source_fails_step, numbers_end as numbers_end_step, write_tag}
-use Rattle.med_world.specs.Engine.{Shown, IsSound, Agrees, EachRises, Leads}
+use Rattle.med_world.specs.Engine.{Shown, leased, IsSound, Agrees, EachRises, Leads}
 use Rattle.med_world.specs.Writing.{WritesRows, WriteFails}
 use Rattle.med_world.specs.Laws.{IsRead, with_boxes}
 use Rattle.med_world.proofs.Told.{told_tree, none_tree, before_tree, pick_tree}
-use Rattle.med_world.proofs.Leading.{calm, calm_befell, known, leads_refused, leads_memory}
+use Rattle.med_world.proofs.Leading.{calm, calm_befell, session_in, known, leads_refused, leads_memory}
 use Rattle.med_world.proofs.RowCausing.{WritesPhased}
 use Rattle.med_world.proofs.RowEnds.{RowsDone, NoneBeforeRows, WhyNotDone, is_told, lacks_memory, source_fails, numbers_end}
 use Rattle.med_world.proofs.RowLeads.{rows_done, rows_not_done}
 
 -- it is done, and answered by its tag
-pub writes_done : (e : Shown) (new : List (Option BoxState)) (sid : ℕ) (text : List ℕ) (user : Name) (t : WriteTree) (n : ℕ) → IsRead e sid text user (on_rows t) → IsSound e → WritesRows e.catalog user e.bound t e.boxes n new → Leads e sid (sql text) (done (write_tag t n)) (with_boxes e new)
+pub writes_done : (e : Shown) (new : List (Option BoxState)) (sid : ℕ) (text : List ℕ) (user : Name) (t : WriteTree) (n : ℕ) → IsRead e sid text user (on_rows t) → IsSound e → WritesRows e.catalog user e.bound t (leased e (target_of t)) e.boxes n new → Leads e sid (sql text) (done (write_tag t n)) (with_boxes e new)
 writes_done e new sid text user t n read sound h = record {
   trouble = calm;
   befell = calm_befell e.boxes new;
@@ -31,8 +32,8 @@ writes_done e new sid text user t n read sound h = record {
       let x = d.each w a in
       let k = known e w sid text user (on_rows t) a read in (
         x.after,
-        is_done x.pick (pick_tree w sid x.pick text (new_session user) (on_rows t) k x.picks) (none_tree w sid x.pick text (new_session user) (on_rows t) k x.none)
-            (new_session user, on_rows t, k.is, (n, refl, x.writes)),
+        is_done x.pick (pick_tree w sid x.pick text (session_in w sid user) (on_rows t) k x.picks) (none_tree w sid x.pick text (session_in w sid user) (on_rows t) k x.none)
+            (session_in w sid user, on_rows t, k.is, (n, refl, x.writes)),
         x.agrees,
       );
 }
@@ -52,7 +53,7 @@ source_leads e new sid text user t read h none rises kept = record {
   rises = rises;
   step = λ w a. let k = known e w sid text user (on_rows t) a read in (
     w,
-    source_fails_step refl (new_session user) (on_rows t) k.is (before_tree w sid text (new_session user) (on_rows t) k (none w a)) refl refl,
+    source_fails_step refl (session_in w sid user) (on_rows t) k.is (before_tree w sid text (session_in w sid user) (on_rows t) k (none w a)) refl refl,
     kept w a,
   );
 }
@@ -69,7 +70,7 @@ numbers_leads e new sid text user t read h none rises kept = record {
   rises = rises;
   step = λ w a. let k = known e w sid text user (on_rows t) a read in (
     w,
-    numbers_end_step refl (new_session user) (on_rows t) k.is (before_tree w sid text (new_session user) (on_rows t) k (none w a)) refl refl,
+    numbers_end_step refl (session_in w sid user) (on_rows t) k.is (before_tree w sid text (session_in w sid user) (on_rows t) k (none w a)) tt refl refl,
     kept w a,
   );
 }
@@ -78,7 +79,7 @@ why_leads : (e new : Shown) (sid : ℕ) (text : List ℕ) (user : Name) (t : Wri
 why_leads e new sid text user t c read rises kept (is_told told) = leads_refused e new sid (sql text) c rises kept (λ w a.
     let x = told w a in
     let k = known e w sid text user (on_rows t) a read in
-    (x.pick, pick_tree w sid x.pick text (new_session user) (on_rows t) k x.picks, told_tree w sid x.pick text (new_session user) (on_rows t) c k x.stands x.least))
+    (x.pick, pick_tree w sid x.pick text (session_in w sid user) (on_rows t) k x.picks, told_tree w sid x.pick text (session_in w sid user) (on_rows t) c k x.stands x.least))
 why_leads e new sid text user t c read rises kept (lacks_memory is) =
     subst (λ (d : Cause). Leads e sid (sql text) (refused d) new) (sym is) (leads_memory e new sid (sql text) tt rises kept)
 why_leads e new sid text user t c read rises kept (source_fails is h none) =
@@ -87,7 +88,7 @@ why_leads e new sid text user t c read rises kept (numbers_end is h none) =
     subst (λ (d : Cause). Leads e sid (sql text) (refused d) new) (sym is) (numbers_leads e new sid text user t read h none rises kept)
 
 -- it is not, and why is told
-pub writes_refused : WritesPhased → (e : Shown) (new : List (Option BoxState)) (sid : ℕ) (text : List ℕ) (user : Name) (t : WriteTree) (c : Cause) → IsRead e sid text user (on_rows t) → IsSound e → WriteFails e.catalog user e.bound t e.boxes c new → Leads e sid (sql text) (refused c) (with_boxes e new)
+pub writes_refused : WritesPhased → (e : Shown) (new : List (Option BoxState)) (sid : ℕ) (text : List ℕ) (user : Name) (t : WriteTree) (c : Cause) → IsRead e sid text user (on_rows t) → IsSound e → WriteFails e.catalog user e.bound t (leased e (target_of t)) e.boxes c new → Leads e sid (sql text) (refused c) (with_boxes e new)
 writes_refused law e new sid text user t c read sound h =
     let r = rows_not_done law e user t c new sound h in
     why_leads e (with_boxes e new) sid text user t c read r.rises r.kept r.why

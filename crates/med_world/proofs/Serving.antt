@@ -12,6 +12,7 @@ use Rattle.med_catalog.specs.Options.{table_settings, column_settings}
 use Rattle.bind_catalog.specs.Places.{Attached}
 use Rattle.med_world.specs.World.{World, Source, SourceState, standing, dropped}
 use Rattle.med_world.specs.Engine.{Label, Shown, IsAtRest, EachBox, IsSound, state_of, sources_of, AreRowsOf, RowsAgree, Agrees, Rises, EachRises}
+use Rattle.med_world.proofs.Seats.{seats_sound, sessions_still}
 use Rattle.med_world.proofs.Faring.{same_box, no_box}
 use Rattle.med_world.proofs.Sounds.{standing_still, written_still}
 
@@ -117,7 +118,7 @@ serving_agrees e new h w agrees = record {
   catalog = agrees.catalog;
   sources = agrees.sources ∙ sym (sources_served e.labels e.boxes new h agrees.honest);
   rows = rows_served e.boxes new h agrees.honest e.bound w.rows agrees.rows;
-  sessions = agrees.sessions;
+  sessions = sessions_still e new w w refl refl refl agrees;
 }
 
 -- ---- the engine
@@ -145,6 +146,7 @@ serving_sound e new h sound = record {
   places = served_many e.boxes new h ∙ sound.places;
   sources = sound.sources;
   sessions = sound.sessions;
+  seated = seats_sound e.boxes _ e.seats sound.seated;
   source_names = sound.source_names;
   at_rest = λ i c at. let b = served_backward e.boxes new h i c at in rest_served b.0 c b.2 (sound.at_rest i b.0 b.1);
   sound_boxes = λ i c at. let b = served_backward e.boxes new h i c at in sound_served b.0 c b.2 (sound.sound_boxes i b.0 b.1);

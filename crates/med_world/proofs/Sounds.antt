@@ -21,6 +21,7 @@ use Rattle.med_world.proofs.Indexes.{was_index, was_once, was_other, was_some, l
 use Rattle.med_world.proofs.Faring.{rest_spared, Spares, that_is, vain_spares, spares_itself, changes_by, binds_spares, unbinds_spares, refuses_spares, was_there, is_there, set_other, set_this, set_that, same_box, left_box}
 use Rattle.med_world.proofs.Altered.{has_table, fresh_other}
 use Rattle.med_world.proofs.Ready.{unbind_ready}
+use Rattle.med_world.proofs.Seats.{seats_sound}
 
 -- ---- laws of the crates below
 
@@ -88,6 +89,7 @@ catalog_sound e change h objects stay tables = record {
   places = h.places;
   sources = h.sources;
   sessions = h.sessions;
+  seated = seats_sound e.boxes _ e.seats h.seated;
   source_names = h.source_names;
   at_rest = h.at_rest;
   sound_boxes = h.sound_boxes;
@@ -114,6 +116,7 @@ unbound_sound e n name law sound objects h = subst IsSound (sym h.is) (record {
   places = as_many Q e.boxes n.boxes h.at.source ready ∙ sound.places;
   sources = sound.sources;
   sessions = sound.sessions;
+  seated = seats_sound e.boxes _ e.seats sound.seated;
   source_names = sound.source_names;
   at_rest = λ i c at. let x = was_there (Spares only) e.boxes n.boxes h.at.source i c (spares_itself only) spares at in rest_spared only x.0 c x.2 (sound.at_rest i x.0 x.1);
   sound_boxes = sound_changed Q e.boxes n.boxes h.at.source (λ b c s q. law b c h.at.number s q.0 q.1) ready sound.sound_boxes;
@@ -213,6 +216,7 @@ bound_sound law e n t sound objects h = subst IsSound (sym h.is) (record {
   places = as_many Q e.boxes n.boxes h.place h.binds ∙ sound.places;
   sources = sound.sources;
   sessions = sound.sessions;
+  seated = seats_sound e.boxes _ e.seats sound.seated;
   source_names = sound.source_names;
   at_rest = λ i c at. let x = was_there (Spares only) e.boxes n.boxes h.place i c (spares_itself only) spares at in rest_spared only x.0 c x.2 (sound.at_rest i x.0 x.1);
   sound_boxes = sound_changed Q e.boxes n.boxes h.place (λ b c s q. law.binds b c t.remote t.columns t.settings h.number s q) h.binds sound.sound_boxes;
@@ -328,6 +332,7 @@ dropped_sound e n name sound objects stay h alone unused = subst IsSound (sym h.
   places = length-set e.boxes h.place None ∙ sound.places;
   sources = sound.sources;
   sessions = sound.sessions;
+  seated = seats_sound e.boxes _ e.seats sound.seated;
   source_names = sound.source_names;
   at_rest = λ i c at. sound.at_rest i c (left_box e.boxes h.place i h.box c h.there at);
   sound_boxes = λ i c at. sound.sound_boxes i c (left_box e.boxes h.place i h.box c h.there at);
@@ -412,6 +417,7 @@ refused_sound law e new place fault sound h = record {
   places = as_many (Refuses fault) e.boxes new place h ∙ sound.places;
   sources = sound.sources;
   sessions = sound.sessions;
+  seated = seats_sound e.boxes _ e.seats sound.seated;
   source_names = sound.source_names;
   at_rest = λ i c at. let x = was_there (Spares only) e.boxes new place i c (spares_itself only) spared at in rest_spared only x.0 c x.2 (sound.at_rest i x.0 x.1);
   sound_boxes = sound_changed (Refuses fault) e.boxes new place (λ b c s q. law.refuses b c fault s q) h sound.sound_boxes;
@@ -452,6 +458,7 @@ vain_sound law unbinds e new t place sound h = record {
   places = as_many (BindsInVain t) e.boxes new place h ∙ sound.places;
   sources = sound.sources;
   sessions = sound.sessions;
+  seated = seats_sound e.boxes _ e.seats sound.seated;
   source_names = sound.source_names;
   at_rest = λ i c at. let x = was_there (Spares only) e.boxes new place i c (spares_itself only) spared at in rest_spared only x.0 c x.2 (sound.at_rest i x.0 x.1);
   sound_boxes = sound_changed AtRest e.boxes new place

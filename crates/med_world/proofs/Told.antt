@@ -1,7 +1,7 @@
 -- Which cause of a statement is told: what every statement shares. Each kind of statement then speaks of its own causes alone.
 use Rattle.std.proofs.Common.{◌≡◌, ℕ, ◌<◌, ◌≤◌, ◌⊎◌, List, Some, is_some, refl, ap, sym, ◌∙◌, subst, arith, inl, inr, lit≤}
 use Rattle.med_value.specs.declared.cause.Cause.{Cause}
-use Rattle.med_value.specs.declared.cause.Cause.TheVariants.{Protocol, NoConnection, Syntax, LiteralOutOfRange, NameTooLong, TooDeep}
+use Rattle.med_value.specs.declared.cause.Cause.TheVariants.{Protocol, NoConnection, Syntax, LiteralOutOfRange, NameTooLong, TooDeep, FetchZero}
 use Rattle.med_parser.specs.CommandCauses.{SyntaxCauses}
 use Rattle.med_world.specs.Requests.{opening, sql, bye, IsUser}
 use Rattle.med_parser.specs.CommandTree.{CommandTree}
@@ -17,6 +17,7 @@ syntax_phase text Syntax h = refl
 syntax_phase text LiteralOutOfRange h = refl
 syntax_phase text NameTooLong h = refl
 syntax_phase text TooDeep h = refl
+syntax_phase text FetchZero h = refl
 syntax_phase text _ h = absurd h.2
 
 -- what a tree shows is of phase 3 and later: the laws of the crates that say which causes stand

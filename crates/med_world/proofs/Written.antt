@@ -19,9 +19,10 @@ use Rattle.bind_catalog.specs.Places.{Attached}
 use Rattle.med_world.specs.World.{World, standing, rows_with, rows_named, holding_at, holds_at, with_state}
 use Rattle.med_world.specs.Causes.{rows_held, IsTarget}
 use Rattle.med_world.specs.Steps.{holding_after}
-use Rattle.med_world.specs.Engine.{Shown, IsAtRest, IsServerAt, IsWrittenAs, IsBoundAs, IsSound, IsFirst, state_of, sources_of, AreRowsOf, RowsAgree, Agrees, Rises, EachRises}
+use Rattle.med_world.specs.Engine.{Shown, IsAtRest, IsServerAt, IsWrittenAs, IsBoundAs, IsSound, IsFirst, state_of, sources_of, AreRowsOf, RowsAgree, Agrees, Rises, EachRises, leased}
 use Rattle.med_world.specs.Writing.{columns_for, form_for, IsTargetAt, DoesWrite}
 use Rattle.med_world.specs.Laws.{with_boxes}
+use Rattle.med_world.proofs.Seats.{seats_sound, sessions_stay, leases_same, named_apart, written_stands}
 use Rattle.med_world.proofs.Lists.{some_same, bytes_same, bytes_other}
 use Rattle.med_world.proofs.Faring.{same_box, changes_by, changes_rise, rises_itself, was_there, is_there}
 use Rattle.med_world.proofs.Altered.{serves_at}
@@ -160,6 +161,7 @@ done_sound e t answer at count new sound h = record {
   places = as_many P e.boxes new at.source h ∙ sound.places;
   sources = sound.sources;
   sessions = sound.sessions;
+  seated = seats_sound e.boxes _ e.seats sound.seated;
   source_names = sound.source_names;
   at_rest = λ i c at_c. let x = was_there KeepsBox e.boxes new at.source i c keeps_itself keeps at_c in rest_kept x.0 c x.2 (sound.at_rest i x.0 x.1);
   sound_boxes = sound_changed P e.boxes new at.source (λ b c s k. written_box_sound (columns_for e.catalog t) (form_for e.catalog t) answer b at.number count c s k.can k.writes) h sound.sound_boxes;
@@ -212,8 +214,8 @@ pub record DoneIn (e : Shown) (w : World) (t : WriteTree) (answer : List Tuple) 
   }
   pub agrees : Agrees (with_boxes e new) after
 
-pub done_agrees : (e : Shown) (w : World) (t : WriteTree) (answer : List Tuple) (at : Attached) (count : ℕ) (new : List (Option BoxState)) → IsSound e → IsTargetAt e.catalog e.bound t at → Done e t answer at count new → Agrees e w → DoneIn e w t answer new
-done_agrees e w t answer at count new sound target_at h a = record {
+pub done_agrees : (e : Shown) (w : World) (t : WriteTree) (answer : List Tuple) (at : Attached) (count : ℕ) (new : List (Option BoxState)) → IsSound e → leased e (target_of t) ≡ false → IsTargetAt e.catalog e.bound t at → Done e t answer at count new → Agrees e w → DoneIn e w t answer new
+done_agrees e w t answer at count new sound free target_at h a = record {
   table = x.table;
   kind = b.nature.kind;
   holdings = b.content.holdings;
@@ -322,5 +324,5 @@ done_agrees e w t answer at count new sound target_at h a = record {
       catalog = a.catalog;
       sources = sources;
       rows = subst (λ (o : Objects). RowsAgree new e.bound (rows_with (target_of t) rows o.tables w.rows)) (sym a.catalog) table_rows;
-      sessions = a.sessions;
+      sessions = sessions_stay e new w after refl (λ l taken y. written_stands w after (target_of t) rows l refl refl (named_apart w l.table (target_of t) taken (ap (λ f. f (target_of t)) (leases_same e w sound a) ∙ free)) y) a;
     }

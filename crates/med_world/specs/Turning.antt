@@ -1,23 +1,19 @@
 -- What the engine's statements on cursors do: DECLARE, FETCH and CLOSE.
-use Rattle.std.specs.Prelude.{◌≡◌, ◌-◌, ℕ, List, [], ◌∷◌, ◌++◌, map, Option, Some, slice_set}
+use Rattle.std.specs.Prelude.{◌≡◌, ◌-◌, ℕ, List, Option, Some, slice_set}
 use Rattle.med_syntax.specs.Tree.{Name}
-use Rattle.med_syntax.specs.QueryTree.{EntryTree, SelectTree}
+use Rattle.med_syntax.specs.QueryTree.{SelectTree}
 use Rattle.cursor_syntax.specs.CursorTree.{CursorTree, declare, fetch, close}
 use Rattle.fdw_api.specs.State.{BoxState}
 use Rattle.med_exec.specs.declared.running.Run.{Run}
 use Rattle.med_exec.specs.Running.{ServesRun, none_held}
 use Rattle.med_exec.specs.Rests.{held}
-use Rattle.bind_names.specs.Scope.{entries_of}
 use Rattle.open_cursors.specs.Open.{Opened, Seated}
+use Rattle.open_cursors.specs.Starting.{leases_of}
 use Rattle.med_world.specs.Engine.{Shown}
-
--- the tables that a query reads, one for each entry of FROM
-abbrev pub tables_read : SelectTree → List Name
-tables_read q = map (λ (e : EntryTree). e.table) (entries_of q.from)
 
 -- the cursor that DECLARE opens
 abbrev pub new_opened : Name → List Name → SelectTree → Run → Opened
-new_opened name names q run = record { name = name; names = names; leases = tables_read q; run = run }
+new_opened name names q run = record { name = name; names = names; leases = leases_of q; run = run }
 
 -- the engine with these cursors of a session, and its boxes as they are now
 abbrev pub with_cursors : Shown → ℕ → Seated → List Opened → List (Option BoxState) → Shown

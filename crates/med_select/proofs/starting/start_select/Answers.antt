@@ -1,0 +1,46 @@
+use Rattle.std.proofs.Common.{◌≡◌, ◌∙◌, ◌≤◌, refl, sym, map, length, arith}
+use Rattle.std.proofs.lemmas.Result.{err_from_is_err_and}
+use Rattle.med_exec.specs.Slots.{states}
+use Rattle.med_syntax.specs.QueryView.{statement_tree}
+use Rattle.med_catalog.specs.View.{objects}
+use Rattle.bind_catalog.specs.Looked.{query_in}
+use Rattle.bind_catalog.specs.Places.{attached}
+use Rattle.open_cursors.specs.Starting.{not_bound}
+use Rattle.med_select.proofs.Selections.{IsBoundBy, entries_bound}
+use Rattle.med_select.proofs.Begins.{MayBegin, starts, not_begun}
+use Rattle.med_select.proofs.starting.start_select.Goals as goal
+
+pub returns-in_err-query-clause-err : goal.returns-in_err-query-clause-err
+returns-in_err-query-clause-err g c =
+    let p = err_from_is_err_and c.from_residual.result c.from_residual.ensures.1 in
+    rw (p.1, p.2) (not_bound c.in_err-query.ensures.refused refl)
+
+pub begun-requires-clause-bound : goal.begun-requires-clause-bound
+begun-requires-clause-bound g c =
+    entries_bound (states g.W.Wrapper.meaning c.args.slots.now.items) (map attached c.args.bound.now) _ c.in_ok-query.query.entries.items c.requires.tables c.in_ok-query.ensures.places
+
+pub returns-in-Err-begun-clause-err : goal.returns-in-Err-begun-clause-err
+returns-in-Err-begun-clause-err g c =
+    let m = g.W.Wrapper.meaning in
+    let o = objects c.args.catalog.now in
+    let q = query_in (statement_tree c.args.statement.now) in
+    let is : IsBoundBy o c.args.user.now (map attached c.args.bound.now) q c.in_ok-query.query = record { bindable = c.in_ok-query.ensures.bindable; meant = c.in_ok-query.ensures.meant; places = c.in_ok-query.ensures.places } in
+    let counted : c.len.result ≡ length c.in_ok-query.query.entries.items = c.len.ensures ∙ c.in_ok-query.query.entries.ok.0 in
+    let least : c.len.result ≤ 8 = c.if-len-gt-ENTRIES.false in
+    let few : length c.in_ok-query.query.entries.items ≤ 8 = omega (arith, counted, least) in
+    let may : MayBegin c.args.is_full c.in_ok-query.query = record { safe = sym c.is_risky_query.ensures ∙ c.if-is_risky_query.false; room = c.if-is_full.false; few = few } in
+    rw c.cause_of.ensures (not_begun c.expressions_ignore_order.ensures c.causes_ignore_order.ensures o c.args.user.now (map attached c.args.bound.now) q c.args.is_full c.in_ok-query.query c.in-Err-begun.fault
+    (states m c.args.slots.now.items) (states m c.begun.new.slots.items) is may c.in-Err-begun.ensures.ended c.in-Err-begun.ensures.err)
+
+pub returns-clause-ok : goal.returns-clause-ok
+returns-clause-ok g c =
+    let m = g.W.Wrapper.meaning in
+    let o = objects c.args.catalog.now in
+    let q = query_in (statement_tree c.args.statement.now) in
+    let is : IsBoundBy o c.args.user.now (map attached c.args.bound.now) q c.in_ok-query.query = record { bindable = c.in_ok-query.ensures.bindable; meant = c.in_ok-query.ensures.meant; places = c.in_ok-query.ensures.places } in
+    let counted : c.len.result ≡ length c.in_ok-query.query.entries.items = c.len.ensures ∙ c.in_ok-query.query.entries.ok.0 in
+    let least : c.len.result ≤ 8 = c.if-len-gt-ENTRIES.false in
+    let few : length c.in_ok-query.query.entries.items ≤ 8 = omega (arith, counted, least) in
+    let may : MayBegin c.args.is_full c.in_ok-query.query = record { safe = sym c.is_risky_query.ensures ∙ c.if-is_risky_query.false; room = c.if-is_full.false; few = few } in
+    starts c.expressions_ignore_order.ensures c.answers_ignore_order.ensures c.causes_ignore_order.ensures o c.args.user.now (map attached c.args.bound.now) q c.args.is_full c.in_ok-query.query c.in-Ok-begun.run'
+    (states m c.args.slots.now.items) (states m c.begun.new.slots.items) is may c.in-Ok-begun.ensures.boxes c.in-Ok-begun.ensures.running c.in-Ok-begun.ensures.ok

@@ -1,0 +1,43 @@
+//! Whether a query may fault while it gives its rows.
+ghost use Rattle.std.specs.Prelude.{◌≡◌, map, option_map};
+ghost use Rattle.std.specs.List.{list_any};
+ghost use Rattle.tri_expr.specs.Tree.{tree};
+ghost use Rattle.tri_expr.specs.TreeParts.{is_risky_tree};
+ghost use Rattle.med_query.specs.Form.{form_of, group_form};
+ghost use Rattle.open_cursors.specs.Starting.{is_risky_form, group_trees};
+
+use med_query::{Grouping, Select};
+use tri_expr::{Expr, is_risky};
+
+fn some_risky(expressions: &[Expr]) -> bool
+    ensures { result ≡ list_any is_risky_tree (map tree expressions.now) }
+{
+    for expression in expressions {
+        if is_risky(expression) {
+            return true;
+        }
+    }
+    false
+}
+
+fn is_risky_group(grouping: &Option<Grouping>) -> bool
+    ensures { result ≡ list_any is_risky_tree (group_trees (option_map group_form grouping.now)) }
+{
+    match grouping {
+        None => false,
+        Some(group) => {
+            some_risky(group.arguments.as_slice()) || some_risky(group.having.as_slice())
+        }
+    }
+}
+
+/// Whether an expression of the query may fault: of WHERE, of HAVING, an aggregate's argument, an item or an order key. No cursor is
+/// declared for such a query. An ON may not fault in any query that is bound.
+pub fn is_risky_query(select: &Select) -> bool
+    ensures { result ≡ is_risky_form (form_of select.now) }
+{
+    some_risky(select.conditions.as_slice())
+        || is_risky_group(&select.grouping)
+        || some_risky(select.items.as_slice())
+        || some_risky(select.keys.as_slice())
+}

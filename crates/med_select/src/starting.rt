@@ -1,0 +1,89 @@
+//! Queries of cursors: bound, planned, and begun without a row being read from their runs.
+ghost use Rattle.bind_catalog.specs.Looked.{query_in};
+ghost use Rattle.bind_catalog.specs.Places.{attached};
+ghost use Rattle.bind_catalog.specs.Tables.{AreNamedOnce};
+ghost use Rattle.med_catalog.specs.View.{objects};
+ghost use Rattle.med_exec.specs.Slots.{states, HasTable};
+ghost use Rattle.med_syntax.specs.QueryView.{statement_tree};
+ghost use Rattle.open_cursors.specs.Starting.{leases_of, Starts, StartFails};
+ghost use Rattle.std.specs.Prelude.{◌≡◌, length, map, All, IfOk, IfErr, string_bytes};
+
+use crate::fault::cause_of;
+use crate::leasing::leased_tables;
+use crate::risk::is_risky_query;
+use crate::selecting::{ENTRIES, begun};
+use bind_catalog::{BoundTable, bind};
+use fdw_api::interface::Wrapper;
+use med_catalog::Catalog;
+use med_exec::law::services_join;
+use med_exec::running::Run;
+use med_planner::law::causes_ignore_order;
+use med_query::law::{answers_ignore_order, expressions_ignore_order};
+use med_syntax::Statement;
+use med_value::Cause;
+use std::alloc::Global;
+
+/// A query that is begun. Its run must be spent by [`Run::close`].
+pub struct Started {
+    /// The names of the columns of its rows.
+    pub names: Vec<String>,
+    /// The tables that it reads, one for each entry of FROM, in their order.
+    pub leases: Vec<String>,
+    /// The rows that it has to give.
+    pub run: Run,
+}
+
+/// Begins a query over the tables of a catalogue, each of which is bound in the box of its source, for a cursor of a session that
+/// `is_full` or not: its names, rights and types, its plan with what the boxes agree to, and the start of its run. No row of it is given.
+///
+/// # Errors
+///
+/// A cause of names, rights or types; 0A000 where an expression of it may fault; 54000 where the session is full or FROM has more than 8
+/// entries; 53200, HV000 and 54000 where memory was refused, a source failed, and a box has given all its ticket numbers; and what the
+/// query shows over the rows of its tables.
+///
+/// SQL:2016, 14.1 <declare cursor>.
+pub fn start_select<W: Wrapper>(
+    slots: &mut Vec<Option<W>>,
+    catalog: &Catalog,
+    bound: &[BoundTable],
+    alloc: Global,
+    user: &str,
+    statement: &Statement,
+    is_full: bool,
+) -> Result<Started, Cause>
+    requires many { length bound.now ≡ length (objects catalog.now).tables }
+    requires once { AreNamedOnce (objects catalog.now) }
+    requires tables { All (λ a. HasTable (states W.meaning slots.old.items) a.source a.number) (map attached bound.now) }
+    ensures ok { IfOk result (λ s. Starts (objects catalog.now) user.now (map attached bound.now)
+        (query_in (statement_tree statement.now)) is_full (states W.meaning slots.old.items) (map string_bytes s.names.items)
+        s.run (states W.meaning slots.new.items)) }
+    ensures leases { IfOk result (λ s. map string_bytes s.leases.items ≡ leases_of (query_in (statement_tree statement.now))) }
+    ensures err { IfErr result (λ c. StartFails (objects catalog.now) user.now (map attached bound.now)
+        (query_in (statement_tree statement.now)) is_full (states W.meaning slots.old.items) c (states W.meaning slots.new.items)) }
+{
+    expressions_ignore_order();
+    answers_ignore_order();
+    causes_ignore_order();
+    services_join();
+    let query = bind(alloc, statement, catalog, bound, user)?;
+    if is_risky_query(&query.select) {
+        return Err(Cause::FeatureNotSupported);
+    }
+    if is_full || query.entries.len() > ENTRIES {
+        return Err(Cause::LimitExceeded);
+    }
+    let leases = match leased_tables(alloc, statement) {
+        Ok(leases) => leases,
+        Err(cause) => return Err(cause),
+    };
+    let run = match begun(slots, alloc, &query) {
+        Ok(run) => run,
+        Err(fault) => return Err(cause_of(fault)),
+    };
+    Ok(Started {
+        names: query.names,
+        leases,
+        run,
+    })
+}

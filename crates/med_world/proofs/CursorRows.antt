@@ -1,0 +1,122 @@
+-- The tables that the query of a cursor reads: they are there, and the rows that its cursor keeps are those of its entries.
+use Rattle.std.proofs.Common.{◌≡◌, ℕ, ◌+◌, Bool, true, false, cond, if◌then◌else◌, List, [], ◌∷◌, ◌++◌, Option, Some, IsSome, is_some, Contains, find, slice_get, map, flat_map, unwrap_or, inl, refl, ap, sym, ◌∙◌, subst, zero, suc, arith, bytes_eq}
+use Rattle.std.proofs.lemmas.Bool.{false≢true}
+use Rattle.med_value.specs.Datum.{Tuple}
+use Rattle.med_value.specs.declared.cause.Cause.{Cause}
+use Rattle.med_value.specs.declared.cause.Cause.TheVariants.{UndefinedTable}
+use Rattle.med_syntax.specs.Tree.{Name}
+use Rattle.med_syntax.specs.QueryTree.{EntryTree, SelectTree}
+use Rattle.med_query.specs.Query.{Tables}
+use Rattle.fdw_api.specs.Kinds.{Held}
+use Rattle.bind_names.specs.Scope.{TableShape, place_named, entries_of, is_known, entry_place, exposed_name}
+use Rattle.bind_names.specs.Naming.{entry_causes, alias_causes, from_causes, asked_causes, once_known}
+use Rattle.bind_catalog.specs.Tables.{shapes}
+use Rattle.bind_catalog.specs.Queries.{IsBindable}
+use Rattle.med_catalog.specs.Objects.{TableObject, Objects, table_named}
+use Rattle.open_cursors.specs.Starting.{leases_of}
+use Rattle.med_world.specs.World.{World, Leased, cells_of, rows_in, rows_named}
+use Rattle.med_world.specs.Cursors.{rows_leased}
+use Rattle.med_world.specs.Causes.{entry_tables, entries_in}
+use Rattle.med_world.specs.Steps.{leased_now}
+use Rattle.med_world.specs.Seats.{StillStands}
+use Rattle.med_world.specs.Engine.{IsFirst}
+use Rattle.med_world.proofs.Lists.{some_same}
+use Rattle.med_world.proofs.Named.{place_of, at_place, some_of}
+use Rattle.med_world.proofs.TargetRows.{first_from, first_table}
+
+-- ---- where no cause of names stands, each table is known
+
+abbrev AllKnown : List TableShape → List EntryTree → Type 0
+AllKnown tables [] = Unit {0}
+AllKnown tables (e ∷ es) = (is_known tables e ≡ true) × AllKnown tables es
+
+nil_of : {X : Type 0} (xs : List X) → ((x : X) → Contains xs x → ⊥) → xs ≡ []
+nil_of [] h = refl
+nil_of (x ∷ xs) h = absurd (h x (at_place (x ∷ xs) 0 x refl))
+
+first_nil : {X : Type 0} (xs ys : List X) → xs ++ ys ≡ [] → xs ≡ []
+first_nil [] ys e = refl
+first_nil (x ∷ xs) ys e = absurd cc
+
+second_nil : {X : Type 0} (xs ys : List X) → xs ++ ys ≡ [] → ys ≡ []
+second_nil [] ys e = e
+second_nil (x ∷ xs) ys e = absurd cc
+
+known_nil : (known asked : List Cause) → once_known known asked ≡ [] → known ≡ []
+known_nil [] asked e = refl
+known_nil (c ∷ cs) asked e = absurd cc
+
+known_entry : (tables : List TableShape) (e : EntryTree) → entry_causes tables e ≡ [] → is_known tables e ≡ true
+known_entry tables e none = split (is_known tables e) refl none
+  where
+    split : (b : Bool) → is_known tables e ≡ b → (if b then [] else UndefinedTable ∷ []) ≡ [] → is_known tables e ≡ true
+    split true is q = is
+    split false is q = absurd cc
+
+known_entries : (tables : List TableShape) (es : List EntryTree) → flat_map (entry_causes tables) es ≡ [] → AllKnown tables es
+known_entries tables [] none = tt
+known_entries tables (e ∷ es) none = (
+  known_entry tables e (first_nil (entry_causes tables e) (flat_map (entry_causes tables) es) none),
+  known_entries tables es (second_nil (entry_causes tables e) (flat_map (entry_causes tables) es) none),
+)
+
+all_known : (o : Objects) (user : Name) (q : SelectTree) → IsBindable o user q → AllKnown (shapes o) (entries_of q.from)
+all_known o user q b =
+    let none : once_known (from_causes (shapes o) q.from) (asked_causes (shapes o) q) ≡ [] = nil_of (once_known (from_causes (shapes o) q.from) (asked_causes (shapes o) q)) (λ c has. b.names c (inl has)) in
+    known_entries (shapes o) (entries_of q.from)
+    (first_nil (flat_map (entry_causes (shapes o)) (entries_of q.from)) (alias_causes (map exposed_name (entries_of q.from))) (known_nil (from_causes (shapes o) q.from) (asked_causes (shapes o) q) none))
+
+-- ---- the rows of an entry
+
+first_rows : (name : Name) (tables : List TableObject) (rows : List (List Held)) (k : ℕ) → IsFirst name tables k → cells_of (rows_named name tables rows) ≡ rows_in rows k
+first_rows name [] rows k first = absurd first
+first_rows name (t ∷ ts) [] k first = refl
+first_rows name (t ∷ ts) (r ∷ rs) zero first = ap (λ b. cells_of (cond b r (rows_named name ts rs))) first
+first_rows name (t ∷ ts) (r ∷ rs) (suc k) first = ap (λ b. cells_of (cond b r (rows_named name ts rs))) first.0 ∙ first_rows name ts rs k first.1
+
+-- the place of its table
+record AtPlace (o : Objects) (e : EntryTree) : Type 0 where
+  place : ℕ
+  is : entry_place (shapes o) e ≡ place
+  first : IsFirst e.table o.tables place
+
+at_known : (o : Objects) (e : EntryTree) → is_known (shapes o) e ≡ true → AtPlace o e
+at_known o e known =
+    let p = some_of (place_named (shapes o) e.table) known in
+    let f = first_from o.tables e.table 0 p.0 p.1 in
+    let same : p.0 ≡ f.0 = (let z : p.0 ≡ 0 + f.0 = f.1 in omega (arith, z)) in
+    record { place = f.0; is = ap (λ (x : Option ℕ). unwrap_or x 0) p.1 ∙ same; first = f.2 }
+
+-- ---- all entries
+
+abbrev leased_as : World → EntryTree → Leased
+leased_as w e = record { table = e.table; rows = cells_of (rows_named e.table w.catalog.tables w.rows) }
+
+rows_of_entries : (w : World) (es : List EntryTree) → AllKnown (shapes w.catalog) es → (k : ℕ) → rows_leased (map (leased_as w) es) k ≡ entry_tables (map (entry_place (shapes w.catalog)) es) (rows_in w.rows) k
+rows_of_entries w [] known k = refl
+rows_of_entries w (e ∷ es) known zero =
+    let at = at_known w.catalog e known.0 in
+    first_rows e.table w.catalog.tables w.rows at.place at.first ∙ ap (rows_in w.rows) (sym at.is)
+rows_of_entries w (e ∷ es) known (suc k) = rows_of_entries w es known.1 k
+
+-- the rows that a cursor keeps at DECLARE are those that its query is over
+pub rows_kept : (w : World) (user : Name) (q : SelectTree) → IsBindable w.catalog user q → rows_leased (leased_now w q) ≡ entries_in w q
+rows_kept w user q b = λ i k. rows_of_entries w (entries_of q.from) (all_known w.catalog user q b) k i
+
+tables_of : (w : World) (es : List EntryTree) → map (λ (l : Leased). l.table) (map (leased_as w) es) ≡ map (λ (e : EntryTree). e.table) es
+tables_of w [] = refl
+tables_of w (e ∷ es) = ap (λ (ns : List Name). e.table ∷ ns) (tables_of w es)
+
+pub tables_kept : (w : World) (q : SelectTree) → map (λ (l : Leased). l.table) (leased_now w q) ≡ leases_of q
+tables_kept w q = tables_of w (entries_of q.from)
+
+-- they stand
+entry_stands : (w : World) (es : List EntryTree) → AllKnown (shapes w.catalog) es → (k : ℕ) (l : Leased) → slice_get (map (leased_as w) es) k ≡ Some l → StillStands w l
+entry_stands w [] known k l at = absurd cc
+entry_stands w (e ∷ es) known zero l at =
+    let p = at_known w.catalog e known.0 in
+    subst (StillStands w) (some_same (leased_as w e) l at) (record { there = ap is_some (first_table w.catalog.tables e.table p.place p.first).2; rows = refl })
+entry_stands w (e ∷ es) known (suc k) l at = entry_stands w es known.1 k l at
+
+pub tables_stand : (w : World) (user : Name) (q : SelectTree) → IsBindable w.catalog user q → (l : Leased) → Contains (leased_now w q) l → StillStands w l
+tables_stand w user q b l has = let p = place_of (leased_now w q) l has in entry_stands w (entries_of q.from) (all_known w.catalog user q b) p.0 l p.1
