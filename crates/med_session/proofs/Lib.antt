@@ -3,3 +3,4 @@ mod Telling
 mod AddingLists
 mod Tables
 mod Seats
+mod CursorLists

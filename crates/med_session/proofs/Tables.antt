@@ -7,13 +7,13 @@ use Rattle.fdw_api.specs.State.{BoxState}
 use Rattle.fdw_api.specs.declared.interface.Counts.{Counts}
 use Rattle.med_exec.specs.Slots.{counts_at, counts_in}
 use Rattle.med_catalog.specs.Objects.{ServerObject, TableObject, Objects, server_named, table_named}
-use Rattle.med_catalog.specs.Changes.{new_server, new_table, no_table, no_server, changed, is_skipped, Asks, skips, makes}
+use Rattle.med_catalog.specs.Changes.{ObjectChange, new_server, new_table, no_table, no_server, changed, is_skipped, Asks, skips, makes}
 use Rattle.std.proofs.lemmas.List.{length-map, length_push}
 use Rattle.std.proofs.lemmas.Option.{slice_get-map, slice_get-get_or}
 use Rattle.bind_catalog.specs.declared.bound.BoundTable.{BoundTable}
 use Rattle.bind_catalog.specs.Places.{Attached, attached}
 use Rattle.med_world.specs.World.{is_taken, beside_without}
-use Rattle.med_world.specs.Engine.{Label, Shown, leased, IsNamedAt, IsStandingAt, IsServerAt, IsFirst, IsAtRest, IsSound, with_change}
+use Rattle.med_world.specs.Engine.{Label, Shown, leased, IsNamedAt, IsStandingAt, IsServerAt, IsFirst, IsAtRest, IsSound, with_change, Alters}
 use Rattle.med_value.specs.declared.cause.Cause.{Cause}
 use Rattle.fdw_api.specs.Kinds.{Column, Setting}
 use Rattle.fdw_api.specs.State.{Bound, scan_of}
@@ -21,10 +21,10 @@ use Rattle.fdw_api.specs.Calls.{Binds, CanUnbind, Unbinds}
 use Rattle.med_exec.specs.Slots.{BoxAt, ChangesAt, HasTable}
 use Rattle.med_value.specs.declared.cause.Cause.TheVariants.{OutOfMemory, UndefinedObject, UndefinedTable}
 use Rattle.ddl_syntax.specs.DdlTree.{DdlTree, create_wrapper, create_server, create_mapping, create_table, drop_wrapper, drop_server, drop_table, drop_mapping}
-use Rattle.med_catalog.specs.DdlCauses.{CauseRow, Stands, DdlCauses, IsTold, object_rows, ddl_rows, nothing_leased}
-use Rattle.med_world.specs.Altering.{IsFreeAt, IsAllowed, BindsInVain, NotAltered, catalog_shows, not_free, bind_fails, bind_undone, no_memory as refused_memory}
+use Rattle.med_catalog.specs.DdlCauses.{CauseRow, Stands, NoneStands, DdlCauses, IsTold, object_rows, ddl_rows, nothing_leased}
+use Rattle.med_world.specs.Altering.{IsFreeAt, IsAllowed, SourcesAllow, IsAltered, BindsInVain, NotAltered, catalog_shows, not_free, bind_fails, bind_undone, no_memory as refused_memory}
 use Rattle.med_session.specs.Binding.{BindFails, before_bind, by_fault}
-use Rattle.med_session.specs.Tables.{TableFails, no_memory, fails_by, undone, ServerFails, source_taken, memory_refused}
+use Rattle.med_session.specs.Tables.{TableFails, no_memory, fails_by, undone, TakesSource, ServerFails, source_taken, memory_refused}
 use Rattle.med_world.proofs.Faring.{set_this, same_box}
 use Rattle.med_world.proofs.Lists.{some_same, none_some, push_last, one_place, same_bytes, other_bytes}
 use Rattle.med_world.specs.Adding.{HasSource}
@@ -243,6 +243,17 @@ pub not_checked : (e : Shown) (user : Name) (d : DdlTree) (c : Cause) → (IsTol
     → (c ≡ OutOfMemory) ⊎ IsTold (ddl_rows e.catalog nothing_leased user d) c → NotAltered e user d c e
 not_checked e user d c as_leased (inl is) = refused_memory is refl
 not_checked e user d c as_leased (inr t) = told_leased e user d c (as_leased t)
+
+-- a change that is no DROP of a leased table is allowed, where the catalogue shows no cause
+pub allowed_by : (e : Shown) (user : Name) (d : DdlTree) (change : ObjectChange) → (((name : Name) → change ≡ no_table name → leased e name ≡ false) → NoneStands (ddl_rows e.catalog (leased e) user d)) → Asks e.catalog user d change
+    → ((name : Name) → change ≡ no_table name → leased e name ≡ false) → IsAllowed e user d change
+allowed_by e user d change clear asks free = record { clear = clear free; asks = asks }
+
+pub is_altered : (e n : Shown) (user : Name) (d : DdlTree) (change : ObjectChange) → IsAllowed e user d change → SourcesAllow e change → Alters e change n → IsAltered e user d n
+is_altered e n user d change allowed sources alters = record { change = change; allowed = allowed; sources = sources; alters = alters }
+
+pub server_added : (e n : Shown) (user : Name) (d : DdlTree) (s : ServerObject) → IsAllowed e user d (new_server s) → TakesSource e s n → IsAltered e user d n
+server_added e n user d s allowed t = is_altered e n user d (new_server s) allowed (t.place, t.free) t.is
 
 pub server_not_added : (e n : Shown) (user : Name) (d : DdlTree) (s : ServerObject) (c : Cause) → IsAllowed e user d (new_server s) → ServerFails e s c → n ≡ e → NotAltered e user d c n
 server_not_added e n user d s c allowed (source_taken told none) is = not_free s allowed none told is

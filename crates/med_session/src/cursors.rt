@@ -40,30 +40,32 @@ pub(crate) fn open_cursor<W: Wrapper>(
     catalog: &Catalog,
     bound: &[BoundTable],
     alloc: Global,
-    declare: Declare,
+    declare: &Declare,
 ) -> Result<(), Cause>
     requires many { length bound.now ≡ length (objects catalog.now).tables }
     requires once { AreNamedOnce (objects catalog.now) }
     requires tables { All (λ a. HasTable (states W.meaning slots.old.items) a.source a.number) (map attached bound.now) }
-    ensures ok { OnOk result (Opens (objects catalog.now) (map attached bound.now) (string_bytes declare.name)
-        (query_in (statement_tree declare.query)) (seated seat.old) (states W.meaning slots.old.items) (seated seat.new)
+    ensures ok { OnOk result (Opens (objects catalog.now) (map attached bound.now) (string_bytes declare.now.name)
+        (query_in (statement_tree declare.now.query)) (seated seat.old) (states W.meaning slots.old.items) (seated seat.new)
         (states W.meaning slots.new.items)) }
-    ensures err { IfErr result (λ c. OpensNone (objects catalog.now) (map attached bound.now) (string_bytes declare.name)
-        (query_in (statement_tree declare.query)) (seated seat.old) (states W.meaning slots.old.items) c
+    ensures err { IfErr result (λ c. OpensNone (objects catalog.now) (map attached bound.now) (string_bytes declare.now.name)
+        (query_in (statement_tree declare.now.query)) (seated seat.old) (states W.meaning slots.old.items) c
         (states W.meaning slots.new.items)) }
     ensures kept { OnErr result (seated seat.new ≡ seated seat.old) }
 {
-    let Declare { name, query } = declare;
-    if position(&seat.cursors, name.as_str()).is_some() {
+    if position(&seat.cursors, declare.name.as_str()).is_some() {
         return Err(Cause::DuplicateCursor);
     }
+    let Ok(name) = String::from_str(alloc, declare.name.as_str()) else {
+        return Err(Cause::OutOfMemory);
+    };
     if seat.cursors.reserve(1).is_err() {
         return Err(Cause::OutOfMemory);
     }
     let full = is_full(&seat.cursors);
     let user = seat.user.as_str();
     let Started { names, leases, run } =
-        match start_select(slots, catalog, bound, alloc, user, &query, full) {
+        match start_select(slots, catalog, bound, alloc, user, &declare.query, full) {
             Ok(started) => started,
             Err(cause) => return Err(cause),
         };

@@ -2,12 +2,14 @@
 ghost use Rattle.std.specs.Prelude.{◌≡◌, ◌-◌, ◌≤◌, None, Some, is_some, map, option_map, replicate, slice_set, vec_len, IfOk};
 ghost use Rattle.med_exec.specs.Running.{AllServed};
 ghost use Rattle.med_exec.specs.Slots.{states};
-ghost use Rattle.med_world.specs.Seats.{seat_of, user_of, AreSoundSeats};
+ghost use Rattle.med_world.specs.Seats.{seat_of, user_of};
 ghost use Rattle.open_cursors.specs.Open.{seated, seats_shown};
 
 use crate::session::Sid;
 use fdw_api::interface::Wrapper;
+use med_exec::law::services_join;
 use med_value::NoMemory;
+use med_world::law::cursors_hold_no_scan;
 use open_cursors::{Seat, close_all};
 use std::alloc::Global;
 
@@ -63,11 +65,12 @@ pub(crate) fn put_seat(seats: &mut Vec<Option<Seat>>, sid: Sid, seat: Seat)
 
 // Closes every session, and its cursors with it.
 pub(crate) fn close_seats<W: Wrapper>(seats: &mut Vec<Option<Seat>>, slots: &mut Vec<Option<W>>)
-    requires long { vec_len seats.old ≡ 64 }
-    requires sound { AreSoundSeats (states W.meaning slots.old.items) (seats_shown seats.old.items) }
+    requires { vec_len seats.old ≡ 64 }
     ensures closed { seats_shown seats.new.items ≡ replicate 64 None }
     ensures served { AllServed (states W.meaning slots.old.items) (states W.meaning slots.new.items) }
 {
+    services_join();
+    cursors_hold_no_scan();
     for place in 0..SESSIONS {
         match seats[place].take() {
             Some(seat) => close_all(seat.cursors, slots),

@@ -26,12 +26,12 @@ impl<W: Wrapper> Engine<W> {
     ghost use Rattle.med_world.specs.Engine.{IsSound, Leads};
 
     // DECLARE in an open session.
-    fn declare(&mut self, sid: Sid, declare: Declare) -> Outcome
+    fn declare(&mut self, sid: Sid, declare: &Declare) -> Outcome
         requires sound { IsSound (shown W.meaning self.old) }
         requires open { IsSome (seat_of (shown W.meaning self.old).seats sid.number) }
         ensures sound { IsSound (shown W.meaning self.new) }
         ensures leads { (text : List ℕ) (user : Name) → IsRead (shown W.meaning self.old) sid.number text user
-            (on_cursors (declare_tree (string_bytes declare.name) (statement_tree declare.query)))
+            (on_cursors (declare_tree (string_bytes declare.now.name) (statement_tree declare.now.query)))
             → Leads (shown W.meaning self.old) sid.number (sql text) (reply_of result) (shown W.meaning self.new) }
         ensures told { IfFetched result (λ name. ⊥) }
     {
@@ -127,7 +127,7 @@ impl<W: Wrapper> Engine<W> {
             → IfFetched result (λ name. MayBeUntold (shown W.meaning self.old) sid.number (sql text) name (shown W.meaning self.new)) }
     {
         match statement {
-            CursorStatement::Declare(declare) => self.declare(sid, declare),
+            CursorStatement::Declare(declare) => self.declare(sid, &declare),
             CursorStatement::Fetch(fetch) => self.fetch(sid, fetch),
             CursorStatement::Close(close) => self.close(sid, close.name.as_str()),
         }
