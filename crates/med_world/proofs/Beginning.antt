@@ -1,5 +1,5 @@
 -- A new engine, with no object and no source.
-use Rattle.std.proofs.Common.{◌≡◌, ℕ, ◌-◌, List, [], Option, Some, None, slice_get, replicate, length, option_map, refl, ap, sym, ◌∙◌, arith, lit≤}
+use Rattle.std.proofs.Common.{◌≡◌, ℕ, List, [], Option, Some, None, slice_get, replicate, refl, arith, lit≤}
 use Rattle.std.specs.List.{IsDistinct}
 use Rattle.med_syntax.specs.Tree.{Name}
 use Rattle.fdw_api.specs.State.{BoxState}

@@ -1,18 +1,15 @@
 -- The tables that the query of a cursor reads: they are there, and the rows that its cursor keeps are those of its entries.
-use Rattle.std.proofs.Common.{◌≡◌, ℕ, ◌+◌, Bool, true, false, cond, if◌then◌else◌, List, [], ◌∷◌, ◌++◌, Option, Some, IsSome, is_some, Contains, find, slice_get, map, flat_map, unwrap_or, inl, refl, ap, sym, ◌∙◌, subst, zero, suc, arith, bytes_eq}
-use Rattle.std.proofs.lemmas.Bool.{false≢true}
-use Rattle.med_value.specs.Datum.{Tuple}
+use Rattle.std.proofs.Common.{◌≡◌, ℕ, ◌+◌, Bool, true, false, cond, if◌then◌else◌, List, [], ◌∷◌, ◌++◌, Option, Some, is_some, Contains, slice_get, map, flat_map, unwrap_or, inl, refl, ap, sym, ◌∙◌, subst, zero, suc, arith}
 use Rattle.med_value.specs.declared.cause.Cause.{Cause}
 use Rattle.med_value.specs.declared.cause.Cause.TheVariants.{UndefinedTable}
 use Rattle.med_syntax.specs.Tree.{Name}
 use Rattle.med_syntax.specs.QueryTree.{EntryTree, SelectTree}
-use Rattle.med_query.specs.Query.{Tables}
 use Rattle.fdw_api.specs.Kinds.{Held}
 use Rattle.bind_names.specs.Scope.{TableShape, place_named, entries_of, is_known, entry_place, exposed_name}
 use Rattle.bind_names.specs.Naming.{entry_causes, alias_causes, from_causes, asked_causes, once_known}
 use Rattle.bind_catalog.specs.Tables.{shapes}
 use Rattle.bind_catalog.specs.Queries.{IsBindable}
-use Rattle.med_catalog.specs.Objects.{TableObject, Objects, table_named}
+use Rattle.med_catalog.specs.Objects.{TableObject, Objects}
 use Rattle.open_cursors.specs.Starting.{leases_of}
 use Rattle.med_world.specs.World.{World, Leased, cells_of, rows_in, rows_named}
 use Rattle.med_world.specs.Cursors.{rows_leased}

@@ -1,8 +1,8 @@
 -- What the catalogue tells of a statement on objects where nothing is leased, and what leases add to it: DROP of a leased table.
-use Rattle.std.proofs.Common.{◌≡◌, ℕ, ◌≤◌, ◌⊎◌, Bool, true, false, if◌then◌else◌, List, [], ◌∷◌, Option, Some, Contains, slice_get, refl, ap, sym, ◌∙◌, subst, zero, suc, inl, inr, arith, lit≤}
+use Rattle.std.proofs.Common.{◌≡◌, ℕ, ◌≤◌, ◌⊎◌, Bool, true, false, if◌then◌else◌, List, [], ◌∷◌, Some, Contains, slice_get, refl, ap, sym, ◌∙◌, zero, suc, inl, inr, arith}
 use Rattle.std.proofs.lemmas.Bool.{false≢true}
 use Rattle.med_value.specs.declared.cause.Cause.{Cause}
-use Rattle.med_value.specs.declared.cause.Cause.TheVariants.{NoPrivilege, UndefinedTable, InUse}
+use Rattle.med_value.specs.declared.cause.Cause.TheVariants.{InUse}
 use Rattle.med_syntax.specs.Tree.{Name}
 use Rattle.ddl_syntax.specs.DdlTree.{DdlTree, create_wrapper, create_server, create_mapping, create_table, drop_wrapper, drop_server, drop_table, drop_mapping}
 use Rattle.med_catalog.specs.Objects.{Objects}

@@ -21,6 +21,11 @@ mod Querying
 mod CursorCausing
 mod Leases
 mod CursorRows
+mod CursorLists
+mod CursorSeats
+mod Declaring
+mod Turns
+mod Fetches
 mod Serving
 mod Sessions
 mod AnyRows

@@ -1,5 +1,5 @@
 -- Which cause of a statement on objects is told, in the words of the catalogue, of the sources and of the boxes.
-use Rattle.std.proofs.Common.{◌≡◌, ℕ, ◌≤◌, ◌||◌, Bool, true, false, List, [], Option, Some, None, Contains, refl, ap, sym, ◌∙◌, subst, arith, inl, inr, lit≤, zero, suc, unwrap_or, option_map}
+use Rattle.std.proofs.Common.{◌≡◌, ℕ, ◌≤◌, Bool, true, List, [], Option, Some, None, Contains, refl, ap, sym, ◌∙◌, subst, arith, inl, inr, lit≤, unwrap_or}
 use Rattle.std.proofs.lemmas.Bool.{false≢true, leb-true}
 use Rattle.std.proofs.lemmas.List.Elements.{All-contains}
 use Rattle.std.proofs.lemmas.List.Sums.{AllPass-from_list_all}

@@ -55,7 +55,7 @@ select_phase law w user q c (inr (inr (inl h))) = let p : phase c ≡ 5 = state_
 select_phase law w user q c (inr (inr (inr h))) = let p : phase c ≡ 6 = run_phase w q c h in omega arith
 
 -- where nothing stands before it, a cause of a later phase is told
-from_types : ArePhased → (w : World) (user : Name) (q : SelectTree) → ((d : Cause) → QueryNames w.catalog user q d → ⊥) → (c : Cause) → SelectCauses w user q c → 4 ≤ phase c
+pub from_types : ArePhased → (w : World) (user : Name) (q : SelectTree) → ((d : Cause) → QueryNames w.catalog user q d → ⊥) → (c : Cause) → SelectCauses w user q c → 4 ≤ phase c
 from_types law w user q names c (inl h) = absurd (names c h)
 from_types law w user q names c (inr (inl h)) = let p : phase c ≡ 4 = law.types w.catalog q c h in omega arith
 from_types law w user q names c (inr (inr (inl h))) = let p : phase c ≡ 5 = state_phase w q c h in omega arith
@@ -67,7 +67,7 @@ from_state w user q b c (inr (inl h)) = absurd (b.types c h)
 from_state w user q b c (inr (inr (inl h))) = let p : phase c ≡ 5 = state_phase w q c h in omega arith
 from_state w user q b c (inr (inr (inr h))) = let p : phase c ≡ 6 = run_phase w q c h in omega arith
 
-from_run : (w : World) (user : Name) (q : SelectTree) → IsBindable w.catalog user q → ((d : Cause) → QueryState w q d → ⊥) → (c : Cause) → SelectCauses w user q c → 6 ≤ phase c
+pub from_run : (w : World) (user : Name) (q : SelectTree) → IsBindable w.catalog user q → ((d : Cause) → QueryState w q d → ⊥) → (c : Cause) → SelectCauses w user q c → 6 ≤ phase c
 from_run w user q b none c (inl h) = absurd (b.names c h)
 from_run w user q b none c (inr (inl h)) = absurd (b.types c h)
 from_run w user q b none c (inr (inr (inl h))) = absurd (none c h)
@@ -124,7 +124,7 @@ none_many e w q a few d h =
     let more : 8 < length (meant_over w q).entries = h.0 in
     omega arith
 
-abbrev ShowsIn : World → Meant → Cause → Type 0
+abbrev pub ShowsIn : World → Meant → Cause → Type 0
 ShowsIn w m c = QueryCauses (query_of m) (entry_tables m.entries (rows_in w.rows)) c
 
 none_runs : (e new : Shown) (w : World) (user : Name) (q : SelectTree) (names : List Name) (given : List Tuple) → Agrees e w → Selects e.catalog user e.bound q e.boxes names given new.boxes → (d : Cause) → QueryRun w q d → ⊥
@@ -135,7 +135,7 @@ answers_in : (e new : Shown) (w : World) (user : Name) (q : SelectTree) (names :
 answers_in e new w user q names given a h = subst (λ (m : Meant). IsAnswer (query_of m) (entry_tables m.entries (rows_in w.rows)) given) (same_meant e w q a)
     (h.answers.answers a.honest (entry_tables (meant_by e.catalog q).entries (rows_in w.rows)) (same_entries e w q h.places a h.are))
 
-none_select : (w : World) (user : Name) (q : SelectTree) → IsBindable w.catalog user q → ((d : Cause) → QueryState w q d → ⊥) → ((d : Cause) → QueryRun w q d → ⊥) → (d : Cause) → SelectCauses w user q d → ⊥
+pub none_select : (w : World) (user : Name) (q : SelectTree) → IsBindable w.catalog user q → ((d : Cause) → QueryState w q d → ⊥) → ((d : Cause) → QueryRun w q d → ⊥) → (d : Cause) → SelectCauses w user q d → ⊥
 none_select w user q b states runs d (inl h) = b.names d h
 none_select w user q b states runs d (inr (inl h)) = b.types d h
 none_select w user q b states runs d (inr (inr (inl h))) = states d h

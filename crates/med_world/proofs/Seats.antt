@@ -8,7 +8,7 @@ use Rattle.med_syntax.specs.Tree.{Name}
 use Rattle.fdw_api.specs.Kinds.{Held}
 use Rattle.fdw_api.specs.State.{BoxState}
 use Rattle.med_exec.specs.declared.running.Run.{Run}
-use Rattle.med_exec.specs.Running.{Held as HeldScans, none_held}
+use Rattle.med_exec.specs.Running.{none_held}
 use Rattle.med_exec.specs.Rests.{Rests, held, IsRunning}
 use Rattle.bind_catalog.specs.Places.{Attached}
 use Rattle.med_catalog.specs.Objects.{TableObject, Objects, table_named}
@@ -50,7 +50,7 @@ seats_sound old new seats h place s at = seat_sound old new s (h place s at)
 
 -- ---- which tables are leased
 
-or_true : (a b : Bool) → b ≡ true → (a || b) ≡ true
+pub or_true : (a b : Bool) → b ≡ true → (a || b) ≡ true
 or_true true b e = refl
 or_true false b e = e
 
@@ -141,7 +141,7 @@ unleased w name sid e is = none_session (λ k. leases name (w.sessions k)) 64 si
 abbrev pub StandsOn : World → World → List Cursor → Type 0
 StandsOn w v cs = (l : Leased) → list_any (reads_table l.table) cs ≡ true → StillStands w l → StillStands v l
 
-cursor_stays : (old new : List (Option BoxState)) (w v : World) (o : Opened) (c : Cursor) → ((l : Leased) → reads_table l.table c ≡ true → StillStands w l → StillStands v l) → CursorAgrees old w o c → CursorAgrees new v o c
+pub cursor_stays : (old new : List (Option BoxState)) (w v : World) (o : Opened) (c : Cursor) → ((l : Leased) → reads_table l.table c ≡ true → StillStands w l → StillStands v l) → CursorAgrees old w o c → CursorAgrees new v o c
 cursor_stays old new w v o c on h = record {
   name = h.name;
   names = h.names;

@@ -7,7 +7,7 @@ use Rattle.std.proofs.lemmas.Option.{slice_get-get_or}
 use Rattle.std.specs.List.{IsDistinct}
 use Rattle.med_value.specs.declared.cause.Cause.TheVariants.{Protocol, NoConnection}
 use Rattle.med_syntax.specs.Tree.{Name}
-use Rattle.fdw_api.specs.State.{BoxState, set_at}
+use Rattle.fdw_api.specs.State.{BoxState}
 use Rattle.med_exec.specs.Running.{Held, ServesRun, AllServed, none_held}
 use Rattle.med_exec.proofs.Served.{all_served}
 use Rattle.open_cursors.specs.Open.{Opened, Seated, held_by}

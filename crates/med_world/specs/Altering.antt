@@ -52,8 +52,8 @@ pub record BindsInVain (t : TableObject) (old new : BoxState) : Type 0 where
 
 -- Why it was not, and what that changes: nothing but what a box counts.
 pub data NotAltered (old : Shown) (user : Name) (d : DdlTree) (c : Cause) (new : Shown) : Type 0 where
-  catalog_shows : DdlCauses old.catalog (leased old) user d c → ((x : Cause) → DdlCauses old.catalog (leased old) user d x → phase c ≤ phase x)
-      → new ≡ old → NotAltered old user d c new
+  catalog_shows : DdlCauses old.catalog (leased old) user d c
+      → ((x : Cause) → DdlCauses old.catalog (leased old) user d x → phase c ≤ phase x) → new ≡ old → NotAltered old user d c new
   not_free : (s : ServerObject) → IsAllowed old user d (new_server s) → ((place : ℕ) → IsFreeAt old s place → ⊥) → c ≡ UnableToConnect
       → new ≡ old → NotAltered old user d c new
   no_memory : c ≡ OutOfMemory → new ≡ old → NotAltered old user d c new

@@ -225,7 +225,8 @@ IsWellFormed bye = Unit {0}
 
 -- of a request: nothing is open but of its statement, once its text is well formed
 abbrev pub IsPickOf : World → ℕ → Asked → Pick → Type 0
-IsPickOf w sid request p = (s : Session) (tree : CommandTree) → IsStatementOf w sid request s tree → IsWellFormed request → IsPick w s tree p
+IsPickOf w sid request p =
+    (s : Session) (tree : CommandTree) → IsStatementOf w sid request s tree → IsWellFormed request → IsPick w s tree p
 
 -- ---- which is told
 

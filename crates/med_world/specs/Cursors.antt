@@ -1,5 +1,5 @@
 -- Cursors of a world: by name, and what a FETCH gives (SQL:2016, <declare cursor>, <fetch statement>, <close statement>).
-use Rattle.std.specs.Prelude.{◌≡◌, ◌<◌, ◌⊎◌, zero, suc, Bool, not, List, [], ◌∷◌, ◌++◌, length, map, find, filter, cond, Option, bytes_eq}
+use Rattle.std.specs.Prelude.{◌≡◌, ◌<◌, ◌⊎◌, zero, suc, Bool, not, List, [], ◌∷◌, ◌++◌, length, map, flat_map, find, filter, cond, Option, bytes_eq}
 use Rattle.med_value.specs.Datum.{Tuple}
 use Rattle.med_syntax.specs.Tree.{Name}
 use Rattle.med_query.specs.Query.{Tables, IsAnswer}
@@ -29,9 +29,13 @@ with_cursor s c = record s { cursors = s.cursors ++ c ∷ [] }
 abbrev pub without_cursor : Session → Name → Session
 without_cursor s name = record s { cursors = filter (λ c. not (is_cursor name c)) s.cursors }
 
--- the cursor of this name has handed out these rows too
+-- the cursor has handed out these rows too
+abbrev pub handing : Cursor → List Tuple → Cursor
+handing c rows = record c { handed = c.handed ++ rows }
+
+-- that of this name has
 abbrev pub hand_out : Name → List Tuple → Cursor → Cursor
-hand_out name rows c = cond (is_cursor name c) (record c { handed = c.handed ++ rows }) c
+hand_out name rows c = cond (is_cursor name c) (handing c rows) c
 
 abbrev pub with_handed : Session → Name → List Tuple → Session
 with_handed s name rows = record s { cursors = map (hand_out name rows) s.cursors }
@@ -48,3 +52,24 @@ pub record Fetches (c : Cursor) (asked : CountTree) (rows : List Tuple) : Type 0
   pub left : List Tuple
   pub answers : IsAnswer c.query (rows_leased c.reads) ((c.handed ++ rows) ++ left)
   pub enough : IsEnough asked rows left
+
+-- ---- FETCHes of one cursor
+
+-- how many rows a FETCH asked for, and those that it gave
+pub record Fetched : Type 0 where
+  pub asked : CountTree
+  pub rows : List Tuple
+
+-- each goes on behind the rows of those before it
+abbrev pub AreFetched : Cursor → List Fetched → Type 0
+AreFetched c [] = Unit {0}
+AreFetched c (f ∷ fs) = Fetches c f.asked f.rows × AreFetched (handing c f.rows) fs
+
+-- fewer rows were given than were asked for, or ALL were asked for
+abbrev pub IsLast : CountTree → List Tuple → Type 0
+IsLast (some_rows n) rows = length rows < n
+IsLast all_rows rows = Unit {0}
+
+-- the rows that they gave, joined
+abbrev pub rows_fetched : List Fetched → List Tuple
+rows_fetched fs = flat_map (λ (f : Fetched). f.rows) fs

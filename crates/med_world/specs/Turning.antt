@@ -29,5 +29,5 @@ IsOfOpen name (close other) = other ≡ name
 -- A run was closed, after it was asked for rows or without that.
 pub data Ends (run : Run) (old new : List (Option BoxState)) : Type 0 where
   at_once : ServesRun (held run) none_held old new → Ends run old new
-  later : (after : Run) (mid : List (Option BoxState)) → ServesRun (held run) (held after) old mid → ServesRun (held after) none_held mid new
-      → Ends run old new
+  later : (after : Run) (mid : List (Option BoxState)) → ServesRun (held run) (held after) old mid
+      → ServesRun (held after) none_held mid new → Ends run old new

@@ -2,11 +2,12 @@
 //! it shows after it, for every world that agrees.
 #![tactic(auto)]
 
-ghost use Rattle.std.specs.Prelude.{◌≡◌, ◌≢◌, ◌<◌, ◌-◌, ◌⊎◌, ℕ, Bool, true, false, List, [], ◌∷◌, ◌++◌, Option, Some, None, is_some, length, slice_get, slice_set, replicate, codes};
+ghost use Rattle.std.specs.Prelude.{◌≡◌, ◌≢◌, ◌<◌, ◌-◌, ◌⊎◌, ℕ, Bool, true, false, List, [], ◌∷◌, ◌++◌, Contains, Option, Some, None, is_some, length, slice_get, slice_set, replicate, codes};
 ghost use Rattle.med_value.specs.Datum.{Tuple};
 ghost use Rattle.med_value.specs.declared.cause.Cause.{Cause as AnyCause};
 ghost use Rattle.med_value.specs.declared.cause.Cause.TheVariants.{OutOfMemory, Protocol, NoConnection, InUse, DuplicateCursor, InvalidCursorName};
 ghost use Rattle.med_syntax.specs.Tree.{Name};
+ghost use Rattle.med_query.specs.Query.{IsAnswer};
 ghost use Rattle.med_syntax.specs.QueryTree.{SelectTree, select};
 ghost use Rattle.ddl_syntax.specs.DdlTree.{DdlTree};
 ghost use Rattle.write_syntax.specs.WriteTree.{WriteTree};
@@ -30,7 +31,8 @@ ghost use Rattle.bind_catalog.specs.Places.{Attached};
 ghost use Rattle.med_world.specs.Causes.{IsTold};
 ghost use Rattle.med_world.specs.Picks.{Pick};
 ghost use Rattle.med_world.specs.Requests.{Asked, opening, sql, bye, IsSid, IsUser};
-ghost use Rattle.med_world.specs.World.{World, with_source, empty_world};
+ghost use Rattle.med_world.specs.World.{World, Cursor, with_source, empty_world};
+ghost use Rattle.med_world.specs.Cursors.{rows_leased, Fetched, AreFetched, IsLast, rows_fetched};
 ghost use Rattle.med_world.specs.Replies.{done, answered, refused};
 ghost use Rattle.med_world.specs.Steps.{TakesMemory, write_tag, ddl_tag};
 ghost use Rattle.med_world.specs.Seats.{seat_of, user_of, new_seat};
@@ -212,6 +214,15 @@ pub fn cursors_lead()
 {
     med_binder::law::causes_have_their_phase();
 }
+
+/// The rows that the FETCHes of one cursor gave, joined, begin one answer to its query over its tables as they stood at DECLARE; and they are
+/// all of it once one FETCH gave fewer rows than it was asked for, or was asked for ALL.
+pub fn fetches_join()
+    ensures begins { (c : Cursor) (f : Fetched) (fs : List Fetched) → c.handed ≡ [] → AreFetched c (f ∷ fs)
+        → (left : List Tuple) × IsAnswer c.query (rows_leased c.reads) (rows_fetched (f ∷ fs) ++ left) }
+    ensures all { (c : Cursor) (f : Fetched) (fs : List Fetched) → c.handed ≡ [] → AreFetched c fs → Contains fs f → IsLast f.asked f.rows
+        → IsAnswer c.query (rows_leased c.reads) (rows_fetched fs) }
+{}
 
 /// The catalogue alone, where nothing is leased, tells what a statement on objects shows where tables are leased, but for the DROP of a
 /// leased table against which nothing else stands: that is in use.

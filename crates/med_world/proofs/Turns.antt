@@ -1,0 +1,196 @@
+-- FETCH and CLOSE lead to their replies.
+use Rattle.std.proofs.Common.{◌≡◌, ℕ, ◌<◌, ◌≤◌, ◌⊎◌, true, false, List, [], ◌++◌, Option, Some, None, find, length, map, codes, refl, ap, sym, ◌∙◌, subst, arith, inl, inr}
+use Rattle.std.proofs.lemmas.Bool.{false≢true}
+use Rattle.std.proofs.lemmas.List.{append_assoc, append-nil}
+use Rattle.med_value.specs.Datum.{Tuple}
+use Rattle.med_value.specs.declared.cause.Cause.{Cause}
+use Rattle.med_value.specs.declared.cause.Cause.TheVariants.{InvalidCursorName}
+use Rattle.med_syntax.specs.Tree.{Name}
+use Rattle.med_query.specs.Query.{IsAnswer}
+use Rattle.fdw_api.specs.State.{BoxState}
+use Rattle.med_exec.specs.declared.running.Run.{Run}
+use Rattle.med_exec.specs.Running.{AllServed, AllHonest}
+use Rattle.med_exec.specs.Rests.{Rests}
+use Rattle.med_parser.specs.CommandTree.{on_cursors}
+use Rattle.cursor_syntax.specs.CursorTree.{CountTree, some_rows, all_rows, CursorTree, declare, fetch, close}
+use Rattle.open_cursors.specs.Open.{Opened, Seated, opened_named, without_named, with_run}
+use Rattle.open_cursors.specs.Fetching.{GivesRows, GivesNone, no_memory, box_fails}
+use Rattle.med_world.specs.Requests.{sql, IsSid}
+use Rattle.med_world.specs.Picks.{no_pick}
+use Rattle.med_world.specs.World.{World, Cursor, with_session}
+use Rattle.med_world.specs.Cursors.{is_cursor, rows_leased, cursor_named, without_cursor, hand_out, with_handed, Fetches}
+use Rattle.med_world.specs.Causes.{CursorCauses, phase, NoneBeforeState}
+use Rattle.med_world.specs.Replies.{done, answered, refused}
+use Rattle.med_world.specs.Steps.{Turns, is_done, source_fails, fetch_lacks_memory}
+use Rattle.med_world.specs.Seats.{seat_of, CursorAgrees, CursorsAgree}
+use Rattle.med_world.specs.Engine.{Shown, IsSound, Agrees, Leads}
+use Rattle.med_world.specs.Turning.{with_cursors, IsOfOpen, Ends}
+use Rattle.med_world.specs.Laws.{IsRead}
+use Rattle.med_world.proofs.Lists.{none_some}
+use Rattle.med_world.proofs.Seats.{stands_still, cursors_stay}
+use Rattle.med_world.proofs.Faring.{none_rises}
+use Rattle.med_world.proofs.Told.{told_tree, none_tree, before_tree}
+use Rattle.med_world.proofs.Leading.{cursors_in, session_in, calm, calm_befell, known, leads_refused}
+use Rattle.med_world.proofs.Serving.{serving_rises}
+use Rattle.med_world.proofs.Sessions.{turned_agrees}
+use Rattle.med_world.proofs.CursorLists.{one_fewer, one_turns}
+use Rattle.med_world.proofs.CursorSeats.{cursors_at, picks_none, has_none, found_at, old_seat, ended_served}
+
+-- ---- no cursor of the name
+
+pub unknown : (e : Shown) (sid : ℕ) (text : List ℕ) (seat : Seated) (name : Name) (t : CursorTree) → IsOfOpen name t → IsRead e sid text seat.user (on_cursors t) → seat_of e.seats sid ≡ Some seat → opened_named name seat.cursors ≡ None
+    → Leads e sid (sql text) (refused InvalidCursorName) e
+unknown e sid text seat name t of_open read at none = leads_refused e e sid (sql text) InvalidCursorName (none_rises e.boxes) (λ w a. a) (λ w a. (
+  no_pick,
+  picks_none e w sid text seat t a read,
+  told_tree w sid no_pick text (session_in w sid seat.user) (on_cursors t) InvalidCursorName (known e w sid text seat.user (on_cursors t) a read)
+      (stands w t of_open (has_none e w sid seat name read.is_sid at a none)) (least w t of_open),
+))
+  where
+    stands : (w : World) (t : CursorTree) → IsOfOpen name t → cursor_named name (session_in w sid seat.user) ≡ None → CursorCauses w (session_in w sid seat.user) t InvalidCursorName
+    stands w (declare other q) of_open there = absurd of_open
+    stands w (fetch asked other) of_open there = (refl, ap (λ (n : Name). cursor_named n (session_in w sid seat.user)) of_open ∙ there)
+    stands w (close other) of_open there = (refl, ap (λ (n : Name). cursor_named n (session_in w sid seat.user)) of_open ∙ there)
+
+    least : (w : World) (t : CursorTree) → IsOfOpen name t → (d : Cause) → CursorCauses w (session_in w sid seat.user) t d → 3 ≤ phase d
+    least w (declare other q) of_open d x = absurd of_open
+    least w (fetch asked other) of_open d x = let p : phase d ≡ 3 = ap phase x.0 in omega arith
+    least w (close other) of_open d x = let p : phase d ≡ 3 = ap phase x.0 in omega arith
+
+-- ---- FETCH
+
+-- the rows go on where those that were handed out end
+fetches : (old : List (Option BoxState)) (w : World) (asked : CountTree) (o : Opened) (c : Cursor) (rows : List Tuple) (after : Run) (new : List (Option BoxState)) → AllHonest old → GivesRows o.run asked old rows after new → CursorAgrees old w o c → Fetches c asked rows
+fetches old w (some_rows n) o c rows after new honest g a = split (g.enough honest)
+  where
+    split : (length rows ≡ n) ⊎ ((length rows < n) × Rests o.run old rows) → Fetches c (some_rows n) rows
+    split (inl many) =
+        let left = g.some honest in
+        record {
+          left = left.0;
+          answers = subst (IsAnswer c.query (rows_leased c.reads)) (sym (append_assoc c.handed rows left.0)) (a.answers (rows ++ left.0) (g.gives honest left.0 left.1));
+          enough = inl many;
+        }
+    split (inr all) = record {
+      left = [];
+      answers = subst (IsAnswer c.query (rows_leased c.reads)) (sym (append-nil (c.handed ++ rows))) (a.answers rows all.1);
+      enough = inr (all.0, refl);
+    }
+fetches old w all_rows o c rows after new honest g a = record {
+  left = [];
+  answers = subst (IsAnswer c.query (rows_leased c.reads)) (sym (append-nil (c.handed ++ rows))) (a.answers rows (g.enough honest));
+  enough = refl;
+}
+
+-- the cursor of the world goes on with the engine's
+goes_on : (old new : List (Option BoxState)) (w v : World) (asked : CountTree) (o : Opened) (c : Cursor) (rows : List Tuple) (after : Run) → v.catalog.tables ≡ w.catalog.tables → v.rows ≡ w.rows → AllHonest old → GivesRows o.run asked old rows after new
+    → CursorAgrees old w o c → CursorAgrees new v (record o { run = after }) (record c { handed = c.handed ++ rows })
+goes_on old new w v asked o c rows after tables same honest g a = record {
+  name = a.name;
+  names = a.names;
+  leases = a.leases;
+  stand = λ l has. stands_still w v l tables same (a.stand l has);
+  some = g.some honest;
+  answers = λ left r. subst (IsAnswer c.query (rows_leased c.reads)) (sym (append_assoc c.handed rows left)) (a.answers (rows ++ left) (g.gives honest left r));
+}
+
+none_fetched : (e : Shown) (w : World) (sid : ℕ) (text : List ℕ) (seat : Seated) (name : Name) (asked : CountTree) (o : Opened) → Agrees e w → IsRead e sid text seat.user (on_cursors (fetch asked name)) → seat_of e.seats sid ≡ Some seat → opened_named name seat.cursors ≡ Some o
+    → (d : Cause) → CursorCauses w (session_in w sid seat.user) (fetch asked name) d → ⊥
+none_fetched e w sid text seat name asked o a read at here d x =
+    let f = found_at e w sid seat name o read.is_sid at a here in
+    none_some f.cursor (find (is_cursor name) (cursors_in (w.sessions sid))) x.1 f.is
+
+pub fetched : (e : Shown) (new : List (Option BoxState)) (sid : ℕ) (text : List ℕ) (seat : Seated) (name : Name) (asked : CountTree) (o : Opened) (rows : List Tuple) (after : Run) → IsRead e sid text seat.user (on_cursors (fetch asked name))
+    → seat_of e.seats sid ≡ Some seat → IsSound e → opened_named name seat.cursors ≡ Some o → GivesRows o.run asked e.boxes rows after new
+    → Leads e sid (sql text) (answered (codes "FETCH") o.names rows) (with_cursors e sid seat (with_run name after seat.cursors) new)
+fetched e new sid text seat name asked o rows after read at sound here g = record {
+  trouble = calm;
+  befell = calm_befell e.boxes new;
+  rises = serving_rises e.boxes new g.served;
+  step = λ w a. (
+    now w,
+    is_done no_pick (picks_none e w sid text seat (fetch asked name) a read)
+        (none_tree w sid no_pick text (session_in w sid seat.user) (on_cursors (fetch asked name)) (known e w sid text seat.user (on_cursors (fetch asked name)) a read) (none_fetched e w sid text seat name asked o a read at here))
+        (session_in w sid seat.user, on_cursors (fetch asked name), (known e w sid text seat.user (on_cursors (fetch asked name)) a read).is, turns w a),
+    turned_agrees e w new sid (Some (record seat { cursors = with_run name after seat.cursors })) (Some (with_handed (session_in w sid seat.user) name rows)) read.is_sid sound.sessions g.served (refl, all w a) a,
+  );
+}
+  where
+    now : World → World
+    now w = with_session w sid (Some (with_handed (session_in w sid seat.user) name rows))
+
+    turns : (w : World) → Agrees e w → Turns w sid (session_in w sid seat.user) (fetch asked name) (answered (codes "FETCH") o.names rows) (now w)
+    turns w a =
+        let f = found_at e w sid seat name o read.is_sid at a here in
+        (f.cursor, f.is, (rows, fetches e.boxes w asked o f.cursor rows after new a.honest g f.agrees, ap (λ (ns : List Name). answered (codes "FETCH") ns rows) (sym f.agrees.names), refl))
+
+    all : (w : World) → Agrees e w → CursorsAgree new (now w) (with_run name after seat.cursors) (map (hand_out name rows) (cursors_in (w.sessions sid)))
+    all w a = one_turns e.boxes new w (now w) name after rows seat.cursors (cursors_in (w.sessions sid)) o (λ l taken x. stands_still w (now w) l refl refl x) (old_seat e sid seat sound at).apart here
+        (λ c h. goes_on e.boxes new w (now w) asked o c rows after refl refl a.honest g h) (cursors_at e w sid seat read.is_sid at a)
+
+-- ---- a cursor that is gone
+
+gone_agrees : (e : Shown) (w : World) (new : List (Option BoxState)) (sid : ℕ) (seat : Seated) (name : Name) → IsSid sid → seat_of e.seats sid ≡ Some seat → IsSound e → AllServed e.boxes new → Agrees e w
+    → Agrees (with_cursors e sid seat (without_named name seat.cursors) new) (with_session w sid (Some (without_cursor (session_in w sid seat.user) name)))
+gone_agrees e w new sid seat name is at sound served a =
+    turned_agrees e w new sid (Some (record seat { cursors = without_named name seat.cursors })) (Some (without_cursor (session_in w sid seat.user) name)) is sound.sessions served (
+      refl,
+      one_fewer new now name seat.cursors (cursors_in (w.sessions sid))
+          (cursors_stay e.boxes new w now seat.cursors (cursors_in (w.sessions sid)) (λ l taken x. stands_still w now l refl refl x) (cursors_at e w sid seat is at a)),
+    ) a
+  where
+    now : World
+    now = with_session w sid (Some (without_cursor (session_in w sid seat.user) name))
+
+pub not_fetched : (e : Shown) (new : List (Option BoxState)) (sid : ℕ) (text : List ℕ) (seat : Seated) (name : Name) (asked : CountTree) (o : Opened) (c : Cause) → IsRead e sid text seat.user (on_cursors (fetch asked name))
+    → seat_of e.seats sid ≡ Some seat → IsSound e → opened_named name seat.cursors ≡ Some o → GivesNone c e.boxes new → Ends o.run e.boxes new
+    → Leads e sid (sql text) (refused c) (with_cursors e sid seat (without_named name seat.cursors) new)
+not_fetched e new sid text seat name asked o c read at sound here (no_memory is) ends =
+    subst (λ (d : Cause). Leads e sid (sql text) (refused d) (with_cursors e sid seat (without_named name seat.cursors) new)) (sym is) (record {
+      trouble = record { memory = true; asked = true; source = false; numbers = false };
+      befell = record { source = λ x. absurd (false≢true x); numbers = λ x. absurd (false≢true x) };
+      rises = serving_rises e.boxes new (ended_served o.run e.boxes new ends);
+      step = λ w a. (
+        with_session w sid (Some (without_cursor (session_in w sid seat.user) name)),
+        fetch_lacks_memory refl refl (session_in w sid seat.user) asked name (known e w sid text seat.user (on_cursors (fetch asked name)) a read).is refl refl,
+        gone_agrees e w new sid seat name read.is_sid at sound (ended_served o.run e.boxes new ends) a,
+      );
+    })
+not_fetched e new sid text seat name asked o c read at sound here (box_fails is h) ends =
+    subst (λ (d : Cause). Leads e sid (sql text) (refused d) (with_cursors e sid seat (without_named name seat.cursors) new)) (sym is) (record {
+      trouble = record { memory = false; asked = false; source = true; numbers = false };
+      befell = record {
+        source = λ x. record { slot = h.slot; before = h.before; after = h.after; was = h.was; is = h.is; holds = h.shows };
+        numbers = λ x. absurd (false≢true x);
+      };
+      rises = serving_rises e.boxes new (ended_served o.run e.boxes new ends);
+      step = λ w a. (
+        with_session w sid (Some (without_cursor (session_in w sid seat.user) name)),
+        source_fails refl (session_in w sid seat.user) (on_cursors (fetch asked name)) (known e w sid text seat.user (on_cursors (fetch asked name)) a read).is (late w a) refl refl,
+        gone_agrees e w new sid seat name read.is_sid at sound (ended_served o.run e.boxes new ends) a,
+      );
+    })
+  where
+    late : (w : World) → Agrees e w → NoneBeforeState w sid (sql text)
+    late w a = before_tree w sid text (session_in w sid seat.user) (on_cursors (fetch asked name)) (known e w sid text seat.user (on_cursors (fetch asked name)) a read)
+        (λ p d x. absurd (none_fetched e w sid text seat name asked o a read at here d x))
+
+pub closed : (e : Shown) (new : List (Option BoxState)) (sid : ℕ) (text : List ℕ) (seat : Seated) (name : Name) (o : Opened) → IsRead e sid text seat.user (on_cursors (close name)) → seat_of e.seats sid ≡ Some seat → IsSound e
+    → opened_named name seat.cursors ≡ Some o → Ends o.run e.boxes new → Leads e sid (sql text) (done (codes "CLOSE CURSOR")) (with_cursors e sid seat (without_named name seat.cursors) new)
+closed e new sid text seat name o read at sound here ends = record {
+  trouble = calm;
+  befell = calm_befell e.boxes new;
+  rises = serving_rises e.boxes new (ended_served o.run e.boxes new ends);
+  step = λ w a. (
+    with_session w sid (Some (without_cursor (session_in w sid seat.user) name)),
+    is_done no_pick (picks_none e w sid text seat (close name) a read)
+        (none_tree w sid no_pick text (session_in w sid seat.user) (on_cursors (close name)) (known e w sid text seat.user (on_cursors (close name)) a read) (none w a))
+        (session_in w sid seat.user, on_cursors (close name), (known e w sid text seat.user (on_cursors (close name)) a read).is, (refl, refl)),
+    gone_agrees e w new sid seat name read.is_sid at sound (ended_served o.run e.boxes new ends) a,
+  );
+}
+  where
+    none : (w : World) → Agrees e w → (d : Cause) → CursorCauses w (session_in w sid seat.user) (close name) d → ⊥
+    none w a d x =
+        let f = found_at e w sid seat name o read.is_sid at a here in
+        none_some f.cursor (find (is_cursor name) (cursors_in (w.sessions sid))) x.1 f.is
