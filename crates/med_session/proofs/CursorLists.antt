@@ -1,7 +1,8 @@
 -- Cursors of a session: by their names, and with another run.
-use Rattle.std.proofs.Common.{◌≡◌, ℕ, ◌+◌, ◌<◌, zero, suc, Bool, true, false, not, cond, List, [], ◌∷◌, length, map, take, find, filter, remove, replicate, slice_get, slice_set, get_or, Option, Some, None, is_some, option_map, bytes_eq, refl, ap, sym, ◌∙◌, subst, arith}
+use Rattle.std.proofs.Common.{◌≡◌, ℕ, ◌+◌, ◌<◌, zero, suc, Bool, true, false, not, cond, if◌then◌else◌, List, [], ◌∷◌, ◌++◌, length, map, take, find, filter, remove, replicate, slice_get, slice_set, get_or, Option, Some, None, is_some, option_map, bytes_eq, string_bytes, refl, ap, sym, ◌∙◌, subst, arith}
 use Rattle.std.specs.List.{AllByRecursion, position}
 use Rattle.std.specs.Option.{option_and_then}
+use Rattle.std.proofs.lemmas.List.{length-map}
 use Rattle.std.proofs.lemmas.List.Quantifiers.{position-Some}
 use Rattle.std.proofs.lemmas.Map.Keys.{IsDistinct-head, IsDistinct-tail}
 use Rattle.std.proofs.lemmas.Option.{slice_get-map, slice_get-get_or}
@@ -56,12 +57,36 @@ is_named name text cs r same e there is = subst (λ (n : Name). is_some (opened_
 pub is_unknown_by : (name text : Name) (cs : List Opened) (r : Option ℕ) → text ≡ name → option_and_then (slice_get cs) r ≡ opened_named text cs → is_some r ≡ false → opened_named name cs ≡ None
 is_unknown_by name text cs r same there is = subst (λ (n : Name). opened_named n cs ≡ None) same (none_named text cs r there is)
 
+pub place_within : (name : Name) (cursors : List OpenCursor) (k : ℕ) → Some k ≡ position (has_name name) (map opened cursors) → k < length cursors
+place_within name [] k e = absurd cc
+place_within name (c ∷ cursors) k e =
+    let p = position-Some (has_name name) (map opened (c ∷ cursors)) k (opened c) (sym e) in
+    let n : length (map opened (c ∷ cursors)) ≡ length (c ∷ cursors) = length-map (c ∷ cursors) opened in
+    omega (arith, p.0, n)
+
 -- the one in this place
 pub there_by : (cursors : List OpenCursor) (k : ℕ) (at : OpenCursor) → k < length cursors → at ≡ get_or cursors k at → slice_get (map opened cursors) k ≡ Some (opened at)
 there_by cursors k at lt is = slice_get-map opened cursors k ∙ ap (option_map opened) (slice_get-get_or cursors k at lt) ∙ ap (λ (x : OpenCursor). Some (opened x)) (sym is)
 
 pub named_there : (name : Name) (cursors : List OpenCursor) (k : ℕ) (at : OpenCursor) → k < length cursors → at ≡ get_or cursors k at → slice_get (map opened cursors) k ≡ opened_named name (map opened cursors) → opened_named name (map opened cursors) ≡ Some (opened at)
 named_there name cursors k at lt is there = sym there ∙ there_by cursors k at lt is
+
+pub same_at : {X : Type 0} (xs : List X) (k : ℕ) (a b : X) → k < length xs → a ≡ get_or xs k a → b ≡ get_or xs k b → a ≡ b
+same_at xs k a b lt p q =
+    let e : Some (get_or xs k a) ≡ Some (get_or xs k b) = sym (slice_get-get_or xs k a lt) ∙ slice_get-get_or xs k b lt in
+    let f : get_or xs k a ≡ get_or xs k b = cc in
+    p ∙ f ∙ sym q
+
+-- one more stands last
+map_last : {X Y : Type 0} (f : X → Y) (xs : List X) (x : X) → map f (xs ++ x ∷ []) ≡ map f xs ++ f x ∷ []
+map_last f [] x = refl
+map_last f (y ∷ ys) x = ap (λ more. f y ∷ more) (map_last f ys x)
+
+pub opened_last : (old now : List OpenCursor) (o : OpenCursor) (name : Name) (leases : List Name) (ok : Bool) → now ≡ (if ok then (old ++ o ∷ []) else old) → ok ≡ true → string_bytes o.name ≡ name → map string_bytes o.leases.items ≡ leases
+    → map opened now ≡ map opened old ++ record { name = name; names = map string_bytes o.names.items; leases = leases; run = o.run } ∷ []
+opened_last old now o name leases true is e named leased =
+    ap (map opened) is ∙ map_last opened old o ∙ (λ i. map opened old ++ record { name = named i; names = map string_bytes o.names.items; leases = leased i; run = o.run } ∷ [])
+opened_last old now o name leases false is e named leased = absurd cc
 
 -- where none has the name, all stay
 pub all_stay : (name : Name) (cs : List Opened) → opened_named name cs ≡ None → without_named name cs ≡ cs
