@@ -31,7 +31,8 @@ use Rattle.bind_write.specs.Binding.{IsBindable, IsQueryOf, IsGiven as IsBoundGi
 use Rattle.med_select.proofs.Selections.{entries_counted}
 use Rattle.med_world.specs.Altering.{cause_of}
 use Rattle.med_world.specs.Causes.{query_of}
-use Rattle.med_world.specs.Selecting.{AnswersOver, RunFails}
+use Rattle.open_cursors.specs.Starting.{RunFails}
+use Rattle.med_world.specs.Selecting.{AnswersOver}
 use Rattle.med_world.specs.Writing.{GivesAnswer, FailsQuery, GivesRows, IsGiven, IsTargetAt, columns_for, form_for, DoesWrite, WritesRows, WriteFails, too_many, query_fails, box_refuses, rows_untyped}
 use Rattle.write_types.specs.Typed.{IsClean}
 use Rattle.write_fits.specs.Fitting.{kinds_written, answer_fits}
@@ -55,10 +56,11 @@ RefusesAt w answer old fault new = ChangesAt old w.source (λ a b. RefusesWrite 
 abbrev pub CanAt : TableWrite → List Tuple → List (Option BoxState) → Type 0
 CanAt w answer boxes = BoxAt boxes w.source (λ s. CanWrite s w.table.number (form_of w.write.rows) answer)
 
-pub does_all : (o : Objects) (user : Name) (bound : List Attached) (t : WriteTree) (w : TableWrite) (old now new : List (Option BoxState)) (answer : List Tuple) (count : ℕ) → IsBindable o user t → IsMeantWrite o bound t w → IsGiven o bound t old answer now
-    → CanAt w answer now → DoesAt w answer now count new → WritesRows o user bound t old count new
-does_all o user bound t w old now new answer count bindable is given can does = record {
+pub does_all : (o : Objects) (user : Name) (bound : List Attached) (t : WriteTree) (w : TableWrite) (old now new : List (Option BoxState)) (answer : List Tuple) (count : ℕ) (leased : Bool) → leased ≡ false → IsBindable o user t → IsMeantWrite o bound t w → IsGiven o bound t old answer now
+    → CanAt w answer now → DoesAt w answer now count new → WritesRows o user bound t leased old count new
+does_all o user bound t w old now new answer count leased free bindable is given can does = record {
   bindable = bindable;
+  free = free;
   answer = answer;
   now = now;
   given = given;
@@ -83,9 +85,9 @@ does_all o user bound t w old now new answer count bindable is given can does = 
     made = subst (λ (f : WriteForm). Writes (columns_for o t) f answer does.before w.table.number count does.after) is.form
         (subst (λ (cs : List WrittenColumn). Writes cs (form_of w.write.rows) answer does.before w.table.number count does.after) is.columns does.change)
 
-pub refuses_all : (o : Objects) (user : Name) (bound : List Attached) (t : WriteTree) (w : TableWrite) (old now new : List (Option BoxState)) (answer : List Tuple) (c : Cause) (fault : Fault) → IsBindable o user t → IsMeantWrite o bound t w → IsGiven o bound t old answer now
-    → c ≡ cause_of fault → RefusesAt w answer now fault new → WriteFails o user bound t old c new
-refuses_all o user bound t w old now new answer c fault bindable is given told refuses = box_refuses bindable (record {
+pub refuses_all : (o : Objects) (user : Name) (bound : List Attached) (t : WriteTree) (w : TableWrite) (old now new : List (Option BoxState)) (answer : List Tuple) (c : Cause) (fault : Fault) (leased : Bool) → leased ≡ false → IsBindable o user t → IsMeantWrite o bound t w → IsGiven o bound t old answer now
+    → c ≡ cause_of fault → RefusesAt w answer now fault new → WriteFails o user bound t leased old c new
+refuses_all o user bound t w old now new answer c fault leased free bindable is given told refuses = box_refuses bindable free (record {
   answer = answer;
   now = now;
   given = given;
@@ -132,14 +134,14 @@ asked o bound t b old now answer h few served over =
     gives : GivesAnswer o bound h.query old answer now
     gives = record { few = few_entries o bound t b h few; served = served; places = map entry_place b.entries.items; are = h.places; answers = over (meant_by o h.query) h.meant }
 
-pub not_answered : (o : Objects) (user : Name) (bound : List Attached) (t : WriteTree) (w : TableWrite) (b : Bound) (old new : List (Option BoxState)) (c : Cause) → IsBindable o user t → IsMeantWrite o bound t w → HasQuery o bound t b → length b.entries.items ≤ 8 → AllServed old new
-    → ((m : Meant) → IsMeant m b → RunFails (query_of m) (map entry_place b.entries.items) c old new) → WriteFails o user bound t old c new
-not_answered o user bound t w b old new c bindable is h few served fails =
-    query_fails bindable is.there.at (target_at o bound t w is) (of_its_query (λ q. FailsQuery o bound q old c new) o bound t b h
+pub not_answered : (o : Objects) (user : Name) (bound : List Attached) (t : WriteTree) (w : TableWrite) (b : Bound) (old new : List (Option BoxState)) (c : Cause) (leased : Bool) → leased ≡ false → IsBindable o user t → IsMeantWrite o bound t w → HasQuery o bound t b → length b.entries.items ≤ 8 → AllServed old new
+    → ((m : Meant) → IsMeant m b → RunFails (query_of m) (map entry_place b.entries.items) c old new) → WriteFails o user bound t leased old c new
+not_answered o user bound t w b old new c leased free bindable is h few served fails =
+    query_fails bindable free is.there.at (target_at o bound t w is) (of_its_query (λ q. FailsQuery o bound q old c new) o bound t b h
     (record { few = few_entries o bound t b h few; served = served; places = map entry_place b.entries.items; are = h.places; fails = fails (meant_by o h.query) h.meant }))
 
-pub crowded : (o : Objects) (user : Name) (bound : List Attached) (t : WriteTree) (b : Bound) (boxes : List (Option BoxState)) → IsBindable o user t → HasQuery o bound t b → 8 < length b.entries.items → WriteFails o user bound t boxes LimitExceeded boxes
-crowded o user bound t b boxes bindable h many =
+pub crowded : (o : Objects) (user : Name) (bound : List Attached) (t : WriteTree) (b : Bound) (boxes : List (Option BoxState)) (leased : Bool) → IsBindable o user t → HasQuery o bound t b → 8 < length b.entries.items → WriteFails o user bound t leased boxes LimitExceeded boxes
+crowded o user bound t b boxes leased bindable h many =
     too_many bindable (of_its_query (λ q. 8 < length (meant_by o q).entries) o bound t b h (subst (λ (n : ℕ). 8 < n) (sym (entries_counted (meant_by o h.query) b h.meant)) many)) refl refl
 
 -- ---- whether the answer fits
@@ -169,9 +171,9 @@ typed_by o bound t w b answer is h test =
     (subst (λ (ks : List ColType). IsTypedWrite ks (insert_form (places_for o bound t b h) answer_form) answer) (kinds_asked o bound t w is)
     (fits_typed (kinds_written w.write.columns.items) (places_for o bound t b h) answer (sym (test (places_for o bound t b h) (is.form ∙ form)))))
 
-pub untyped : WritesAreTyped → (o : Objects) (user : Name) (bound : List Attached) (t : WriteTree) (w : TableWrite) (b : Bound) (old new : List (Option BoxState)) (answer : List Tuple) → IsReady o bound old → IsBindable o user t → IsClean t → IsMeantWrite o bound t w
-    → HasQuery o bound t b → ((m : Meant) → IsMeant m b → AnswersOver (query_of m) (map entry_place b.entries.items) old answer) → AllServed old new → IsTest w answer false → WriteFails o user bound t old SourceFault new
-untyped law o user bound t w b old new answer ready bindable clean is h over served test = rows_untyped bindable not_honest refl served
+pub untyped : WritesAreTyped → (o : Objects) (user : Name) (bound : List Attached) (t : WriteTree) (w : TableWrite) (b : Bound) (old new : List (Option BoxState)) (answer : List Tuple) (leased : Bool) → leased ≡ false → IsReady o bound old → IsBindable o user t → IsClean t → IsMeantWrite o bound t w
+    → HasQuery o bound t b → ((m : Meant) → IsMeant m b → AnswersOver (query_of m) (map entry_place b.entries.items) old answer) → AllServed old new → IsTest w answer false → WriteFails o user bound t leased old SourceFault new
+untyped law o user bound t w b old new answer leased free ready bindable clean is h over served test = rows_untyped bindable free not_honest refl served
   where
     form : write_meant (shapes o) t ≡ insert_form (places_for o bound t b h) answer_form
     form = form_asked o bound t b h
@@ -197,12 +199,12 @@ pub can_answered : (o : Objects) (bound : List Attached) (old now : List (Option
 can_answered o bound old now t w b answer ready served is h test =
     can_be o bound now t w answer (ready_served o bound old now served ready) is (typed_by o bound t w b answer is h test)
 
-pub ends_ok : (o : Objects) (user : Name) (bound : List Attached) (t : WriteTree) (w : TableWrite) (old now new : List (Option BoxState)) (answer : List Tuple) (r : Result ℕ Cause) → IsBindable o user t → IsMeantWrite o bound t w → IsGiven o bound t old answer now → CanAt w answer now
-    → IfOk r (λ count. DoesAt w answer now count new) → IfOk r (λ count. WritesRows o user bound t old count new)
-ends_ok o user bound t w old now new answer (Ok count) bindable is given can does = does_all o user bound t w old now new answer count bindable is given can does
-ends_ok o user bound t w old now new answer (Err c) bindable is given can does = tt
+pub ends_ok : (o : Objects) (user : Name) (bound : List Attached) (t : WriteTree) (w : TableWrite) (old now new : List (Option BoxState)) (answer : List Tuple) (r : Result ℕ Cause) (leased : Bool) → leased ≡ false → IsBindable o user t → IsMeantWrite o bound t w → IsGiven o bound t old answer now → CanAt w answer now
+    → IfOk r (λ count. DoesAt w answer now count new) → IfOk r (λ count. WritesRows o user bound t leased old count new)
+ends_ok o user bound t w old now new answer (Ok count) leased free bindable is given can does = does_all o user bound t w old now new answer count leased free bindable is given can does
+ends_ok o user bound t w old now new answer (Err c) leased free bindable is given can does = tt
 
-pub ends_err : (o : Objects) (user : Name) (bound : List Attached) (t : WriteTree) (w : TableWrite) (old now new : List (Option BoxState)) (answer : List Tuple) (r : Result ℕ Cause) → IsBindable o user t → IsMeantWrite o bound t w → IsGiven o bound t old answer now
-    → IfErr r (λ c. (fault : Fault) × (c ≡ cause_of fault) × RefusesAt w answer now fault new) → IfErr r (λ c. WriteFails o user bound t old c new)
-ends_err o user bound t w old now new answer (Ok count) bindable is given refuses = tt
-ends_err o user bound t w old now new answer (Err c) bindable is given (fault, told, refuses) = refuses_all o user bound t w old now new answer c fault bindable is given told refuses
+pub ends_err : (o : Objects) (user : Name) (bound : List Attached) (t : WriteTree) (w : TableWrite) (old now new : List (Option BoxState)) (answer : List Tuple) (r : Result ℕ Cause) (leased : Bool) → leased ≡ false → IsBindable o user t → IsMeantWrite o bound t w → IsGiven o bound t old answer now
+    → IfErr r (λ c. (fault : Fault) × (c ≡ cause_of fault) × RefusesAt w answer now fault new) → IfErr r (λ c. WriteFails o user bound t leased old c new)
+ends_err o user bound t w old now new answer (Ok count) leased free bindable is given refuses = tt
+ends_err o user bound t w old now new answer (Err c) leased free bindable is given (fault, told, refuses) = refuses_all o user bound t w old now new answer c fault leased free bindable is given told refuses

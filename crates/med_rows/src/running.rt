@@ -28,13 +28,14 @@ const ENTRIES: usize = 8;
 /// rows it is told of (SQL standard, <insert statement>, <update statement: searched>, <delete statement: searched>).
 ///
 /// The query of an INSERT is answered before the first row is written, and so sees the tables as they were. All changes are made, or none.
+/// `is_leased` says whether an open cursor reads the table that is written.
 ///
 /// # Errors
 ///
-/// A cause of names, rights or types; 54000 where FROM of an INSERT's query has more than 8 entries; what the query shows over the rows of
-/// its tables, and the write over the rows of its own; what the kind of the box refuses; and 53200, HV000 and 54000 where memory was
-/// refused, a source failed, and a box has given all its ticket numbers. HV000 too where a source gives values of other types than its
-/// tables have. No table has changed then.
+/// A cause of names, rights or types; 55006 where the table is leased, and 54000 where FROM of an INSERT's query has more than 8 entries;
+/// what the query shows over the rows of its tables, and the write over the rows of its own; what the kind of the box refuses; and 53200,
+/// HV000 and 54000 where memory was refused, a source failed, and a box has given all its ticket numbers. HV000 too where a source gives
+/// values of other types than its tables have. No table has changed then.
 pub fn run_write<W: Wrapper>(
     slots: &mut Vec<Option<W>>,
     catalog: &Catalog,
@@ -42,15 +43,16 @@ pub fn run_write<W: Wrapper>(
     alloc: Global,
     user: &str,
     statement: WriteStatement,
+    is_leased: bool,
 ) -> Result<u64, Cause>
     requires many { length bound.now ≡ length (objects catalog.now).tables }
     requires once { AreNamedOnce (objects catalog.now) }
     requires tables { All (λ a. HasTable (states W.meaning slots.old.items) a.source a.number) (map attached bound.now) }
     requires ready { IsReady (objects catalog.now) (map attached bound.now) (states W.meaning slots.old.items) }
     requires clean { IsClean (write_tree statement) }
-    ensures ok { IfOk result (λ count. WritesRows (objects catalog.now) user.now (map attached bound.now) (write_tree statement)
+    ensures ok { IfOk result (λ count. WritesRows (objects catalog.now) user.now (map attached bound.now) (write_tree statement) is_leased
         (states W.meaning slots.old.items) count (states W.meaning slots.new.items)) }
-    ensures err { IfErr result (λ c. WriteFails (objects catalog.now) user.now (map attached bound.now) (write_tree statement)
+    ensures err { IfErr result (λ c. WriteFails (objects catalog.now) user.now (map attached bound.now) (write_tree statement) is_leased
         (states W.meaning slots.old.items) c (states W.meaning slots.new.items)) }
 {
     written_rows_are_typed();
@@ -58,6 +60,9 @@ pub fn run_write<W: Wrapper>(
         Ok(write) => write,
         Err(cause) => return Err(cause),
     };
+    if is_leased {
+        return Err(Cause::InUse);
+    }
     let Some(query) = &write.query else {
         return write_rows(slots, alloc, &write, &[]);
     };

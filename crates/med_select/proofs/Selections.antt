@@ -39,7 +39,8 @@ use Rattle.med_catalog.specs.Objects.{Objects}
 use Rattle.bind_catalog.specs.Queries.{meant_by, IsBindable}
 use Rattle.bind_catalog.specs.Places.{Attached, IsPlaceOf, ArePlaces}
 use Rattle.med_world.specs.Altering.{cause_of}
-use Rattle.med_world.specs.Selecting.{AnswersOver, RunFails, no_memory, box_fails, numbers_out, shows_cause, Selects, SelectFails, run_fails, too_many}
+use Rattle.med_world.specs.Selecting.{AnswersOver, Selects, SelectFails, run_fails, too_many}
+use Rattle.open_cursors.specs.Starting.{RunFails, no_memory, box_fails, numbers_out, shows_cause}
 use Rattle.med_select.specs.Agreeing.{answers_given, answers_wanted, IsAgreed, AreAgreed, RunAnswers}
 
 -- ---- what was bound

@@ -56,7 +56,7 @@ distinct_push (n ∷ ns) name none h = (apart ns h.0, distinct_push ns name (λ 
     apart [] k = (other_bytes n name (λ e. none zero (ap Some e)), tt)
     apart (r ∷ rs) k = (k.0, apart rs k.1)
 
-each_at : {A : Type 0} (P : A → Type 0) (xs : List A) (i : ℕ) (x : A) → AllByRecursion P xs → slice_get xs i ≡ Some x → P x
+pub each_at : {A : Type 0} (P : A → Type 0) (xs : List A) (i : ℕ) (x : A) → AllByRecursion P xs → slice_get xs i ≡ Some x → P x
 each_at P [] i x h at = absurd cc
 each_at P (y ∷ ys) zero x h at =
     let e : y ≡ x = cc in

@@ -2,3 +2,5 @@ mod Leading
 mod Telling
 mod AddingLists
 mod Tables
+mod Seats
+mod CursorLists

@@ -7,13 +7,13 @@ use Rattle.fdw_api.specs.State.{BoxState}
 use Rattle.fdw_api.specs.declared.interface.Counts.{Counts}
 use Rattle.med_exec.specs.Slots.{counts_at, counts_in}
 use Rattle.med_catalog.specs.Objects.{ServerObject, TableObject, Objects, server_named, table_named}
-use Rattle.med_catalog.specs.Changes.{new_server, new_table, no_table, no_server, changed, is_skipped, Asks, skips, makes}
+use Rattle.med_catalog.specs.Changes.{ObjectChange, new_server, new_table, no_table, no_server, changed, is_skipped, Asks, skips, makes}
 use Rattle.std.proofs.lemmas.List.{length-map, length_push}
 use Rattle.std.proofs.lemmas.Option.{slice_get-map, slice_get-get_or}
 use Rattle.bind_catalog.specs.declared.bound.BoundTable.{BoundTable}
 use Rattle.bind_catalog.specs.Places.{Attached, attached}
 use Rattle.med_world.specs.World.{is_taken, beside_without}
-use Rattle.med_world.specs.Engine.{Label, Shown, IsNamedAt, IsStandingAt, IsServerAt, IsFirst, IsAtRest, IsSound, with_change}
+use Rattle.med_world.specs.Engine.{Label, Shown, leased, IsNamedAt, IsStandingAt, IsServerAt, IsFirst, IsAtRest, IsSound, with_change, Alters}
 use Rattle.med_value.specs.declared.cause.Cause.{Cause}
 use Rattle.fdw_api.specs.Kinds.{Column, Setting}
 use Rattle.fdw_api.specs.State.{Bound, scan_of}
@@ -21,10 +21,10 @@ use Rattle.fdw_api.specs.Calls.{Binds, CanUnbind, Unbinds}
 use Rattle.med_exec.specs.Slots.{BoxAt, ChangesAt, HasTable}
 use Rattle.med_value.specs.declared.cause.Cause.TheVariants.{OutOfMemory, UndefinedObject, UndefinedTable}
 use Rattle.ddl_syntax.specs.DdlTree.{DdlTree, create_wrapper, create_server, create_mapping, create_table, drop_wrapper, drop_server, drop_table, drop_mapping}
-use Rattle.med_catalog.specs.DdlCauses.{CauseRow, Stands, DdlCauses, IsTold, object_rows, ddl_rows, nothing_leased}
-use Rattle.med_world.specs.Altering.{no_lease, IsFreeAt, IsAllowed, BindsInVain, NotAltered, catalog_shows, not_free, bind_fails, bind_undone, no_memory as refused_memory}
+use Rattle.med_catalog.specs.DdlCauses.{CauseRow, Stands, NoneStands, DdlCauses, IsTold, object_rows, ddl_rows, nothing_leased}
+use Rattle.med_world.specs.Altering.{IsFreeAt, IsAllowed, SourcesAllow, IsAltered, BindsInVain, NotAltered, catalog_shows, not_free, bind_fails, bind_undone, no_memory as refused_memory}
 use Rattle.med_session.specs.Binding.{BindFails, before_bind, by_fault}
-use Rattle.med_session.specs.Tables.{TableFails, no_memory, fails_by, undone, ServerFails, source_taken, memory_refused}
+use Rattle.med_session.specs.Tables.{TableFails, no_memory, fails_by, undone, TakesSource, ServerFails, source_taken, memory_refused}
 use Rattle.med_world.proofs.Faring.{set_this, same_box}
 use Rattle.med_world.proofs.Lists.{some_same, none_some, push_last, one_place, same_bytes, other_bytes}
 use Rattle.med_world.specs.Adding.{HasSource}
@@ -32,6 +32,7 @@ use Rattle.med_world.proofs.Named.{map_place, found_place, at_place, place_of}
 use Rattle.med_session.specs.declared.sources.NamedSource.{NamedSource}
 use Rattle.med_session.specs.Shows.{label}
 use Rattle.med_rows.specs.Ready.{IsReady}
+use Rattle.med_session.proofs.Seats.{set_twice}
 
 -- ---- sources by their names
 
@@ -145,16 +146,16 @@ bound_within e xs k t many at =
     omega arith
 
 pub unbinds_by : (e : Shown) (name : Name) (o : Objects) (boxes : List (Option BoxState)) (bound : List Attached) → o ≡ changed (no_table name) e.catalog → bound ≡ beside_without name e.catalog.tables e.bound
-    → record { catalog = o; labels = e.labels; boxes = boxes; bound = bound; users = e.users } ≡ record (with_change e (no_table name)) { boxes = boxes; bound = beside_without name e.catalog.tables e.bound }
-unbinds_by e name o boxes bound p q = λ i. record { catalog = p i; labels = e.labels; boxes = boxes; bound = q i; users = e.users }
+    → record { catalog = o; labels = e.labels; boxes = boxes; bound = bound; seats = e.seats } ≡ record (with_change e (no_table name)) { boxes = boxes; bound = beside_without name e.catalog.tables e.bound }
+unbinds_by e name o boxes bound p q = λ i. record { catalog = p i; labels = e.labels; boxes = boxes; bound = q i; seats = e.seats }
 
 pub drops_by : (e : Shown) (name : Name) (o : Objects) (boxes : List (Option BoxState)) (place : ℕ) → o ≡ changed (no_server name) e.catalog → boxes ≡ slice_set e.boxes place None
-    → record { catalog = o; labels = e.labels; boxes = boxes; bound = e.bound; users = e.users } ≡ record (with_change e (no_server name)) { boxes = slice_set e.boxes place None }
-drops_by e name o boxes place p q = λ i. record { catalog = p i; labels = e.labels; boxes = q i; bound = e.bound; users = e.users }
+    → record { catalog = o; labels = e.labels; boxes = boxes; bound = e.bound; seats = e.seats } ≡ record (with_change e (no_server name)) { boxes = slice_set e.boxes place None }
+drops_by e name o boxes place p q = λ i. record { catalog = p i; labels = e.labels; boxes = q i; bound = e.bound; seats = e.seats }
 
 pub binds_by : (e : Shown) (t : TableObject) (o : Objects) (boxes : List (Option BoxState)) (bound more : List Attached) → o ≡ changed (new_table t) e.catalog → bound ≡ more
-    → record { catalog = o; labels = e.labels; boxes = boxes; bound = bound; users = e.users } ≡ record (with_change e (new_table t)) { boxes = boxes; bound = more }
-binds_by e t o boxes bound more p q = λ i. record { catalog = p i; labels = e.labels; boxes = boxes; bound = q i; users = e.users }
+    → record { catalog = o; labels = e.labels; boxes = boxes; bound = bound; seats = e.seats } ≡ record (with_change e (new_table t)) { boxes = boxes; bound = more }
+binds_by e t o boxes bound more p q = λ i. record { catalog = p i; labels = e.labels; boxes = boxes; bound = q i; seats = e.seats }
 
 -- ---- what follows from an answer
 
@@ -204,11 +205,6 @@ can_let_go e boxes place number remote columns settings t h binds is = record {
   holds = subst (λ (n : ℕ). CanUnbind binds.after n) (sym (ap (λ (a : Attached). a.number) is)) (mid_ready binds.before binds.after remote columns settings number (h.at_rest place binds.before binds.there) binds.change);
 }
 
-set_twice : {A : Type 0} (xs : List A) (k : ℕ) (x y : A) → slice_set (slice_set xs k x) k y ≡ slice_set xs k y
-set_twice [] k x y = refl
-set_twice (z ∷ zs) zero x y = refl
-set_twice (z ∷ zs) (suc k) x y = ap (λ l. z ∷ l) (set_twice zs k x y)
-
 pub in_vain : (e : Shown) (t : TableObject) (mid new : List (Option BoxState)) (place number : ℕ) → ChangesAt e.boxes place (λ a b. Binds a t.remote t.columns t.settings number b) mid → ChangesAt mid place (λ a b. Unbinds a number b) new
     → ChangesAt e.boxes place (BindsInVain t) new
 in_vain e t mid new place number b u =
@@ -239,9 +235,25 @@ bind_failed e t place c boxes server (by_fault fault is changes) = fails_by plac
 
 -- ---- a statement that the catalogue allows
 
-pub not_checked : (e : Shown) (user : Name) (d : DdlTree) (c : Cause) → (c ≡ OutOfMemory) ⊎ IsTold (ddl_rows e.catalog nothing_leased user d) c → NotAltered e user d c e
-not_checked e user d c (inl is) = refused_memory is refl
-not_checked e user d c (inr t) = catalog_shows t.stands t.least refl
+-- the catalogue tells what it and the leases show
+pub told_leased : (e : Shown) (user : Name) (d : DdlTree) (c : Cause) → IsTold (ddl_rows e.catalog (leased e) user d) c → NotAltered e user d c e
+told_leased e user d c t = catalog_shows t.stands t.least refl
+
+pub not_checked : (e : Shown) (user : Name) (d : DdlTree) (c : Cause) → (IsTold (ddl_rows e.catalog nothing_leased user d) c → IsTold (ddl_rows e.catalog (leased e) user d) c)
+    → (c ≡ OutOfMemory) ⊎ IsTold (ddl_rows e.catalog nothing_leased user d) c → NotAltered e user d c e
+not_checked e user d c as_leased (inl is) = refused_memory is refl
+not_checked e user d c as_leased (inr t) = told_leased e user d c (as_leased t)
+
+-- a change that is no DROP of a leased table is allowed, where the catalogue shows no cause
+pub allowed_by : (e : Shown) (user : Name) (d : DdlTree) (change : ObjectChange) → (((name : Name) → change ≡ no_table name → leased e name ≡ false) → NoneStands (ddl_rows e.catalog (leased e) user d)) → Asks e.catalog user d change
+    → ((name : Name) → change ≡ no_table name → leased e name ≡ false) → IsAllowed e user d change
+allowed_by e user d change clear asks free = record { clear = clear free; asks = asks }
+
+pub is_altered : (e n : Shown) (user : Name) (d : DdlTree) (change : ObjectChange) → IsAllowed e user d change → SourcesAllow e change → Alters e change n → IsAltered e user d n
+is_altered e n user d change allowed sources alters = record { change = change; allowed = allowed; sources = sources; alters = alters }
+
+pub server_added : (e n : Shown) (user : Name) (d : DdlTree) (s : ServerObject) → IsAllowed e user d (new_server s) → TakesSource e s n → IsAltered e user d n
+server_added e n user d s allowed t = is_altered e n user d (new_server s) allowed (t.place, t.free) t.is
 
 pub server_not_added : (e n : Shown) (user : Name) (d : DdlTree) (s : ServerObject) (c : Cause) → IsAllowed e user d (new_server s) → ServerFails e s c → n ≡ e → NotAltered e user d c n
 server_not_added e n user d s c allowed (source_taken told none) is = not_free s allowed none told is
@@ -256,15 +268,15 @@ row_false : (rows : List CauseRow) (k : ℕ) (b : Bool) (c : Cause) → ((d : Ca
 row_false rows k true c none at = absurd (none c (at_place rows k (true, c) at))
 row_false rows k false c none at = refl
 
-clear_rows : (o : Objects) (user : Name) (d : DdlTree) → ((c : Cause) → DdlCauses o no_lease user d c → ⊥) → is_skipped o user d ≡ false → (c : Cause) → Stands (object_rows o no_lease user d) c → ⊥
-clear_rows o user d clear skipped c stands = let p = place_of (object_rows o no_lease user d) (true, c) stands in
-    clear c (at_place (ddl_rows o no_lease user d) (suc p.0) (true, c) (subst (λ b. slice_get (if b then [] else object_rows o no_lease user d) p.0 ≡ Some (true, c)) (sym skipped) p.1))
+clear_rows : (o : Objects) (user : Name) (d : DdlTree) → ((c : Cause) → DdlCauses o nothing_leased user d c → ⊥) → is_skipped o user d ≡ false → (c : Cause) → Stands (object_rows o nothing_leased user d) c → ⊥
+clear_rows o user d clear skipped c stands = let p = place_of (object_rows o nothing_leased user d) (true, c) stands in
+    clear c (at_place (ddl_rows o nothing_leased user d) (suc p.0) (true, c) (subst (λ b. slice_get (if b then [] else object_rows o nothing_leased user d) p.0 ≡ Some (true, c)) (sym skipped) p.1))
 
 some_by : {X : Type 0} (o : Option X) → is_none o ≡ false → IsSome o
 some_by None h = absurd (false≢true (sym h))
 some_by (Some x) h = refl
 
-pub dropped_server : (o : Objects) (user : Name) (d : DdlTree) (name : Name) → ((c : Cause) → DdlCauses o no_lease user d c → ⊥) → Asks o user d (no_server name) → IsSome (server_named o name)
+pub dropped_server : (o : Objects) (user : Name) (d : DdlTree) (name : Name) → ((c : Cause) → DdlCauses o nothing_leased user d c → ⊥) → Asks o user d (no_server name) → IsSome (server_named o name)
 dropped_server o user d name clear (skips s e) = absurd (cc)
 dropped_server o user (create_wrapper n h) name clear (makes s m) = absurd (let e = m.2 in cc)
 dropped_server o user (create_server x) name clear (makes s m) = absurd (let e = m.2 in cc)
@@ -274,11 +286,11 @@ dropped_server o user (drop_wrapper b n) name clear (makes s m) = absurd (cc)
 dropped_server o user (drop_server b n) name clear (makes s m) =
     let same : n ≡ name = cc in
     subst (λ (x : Name). IsSome (server_named o x)) same
-    (some_by (server_named o n) (row_false (object_rows o no_lease user (drop_server b n)) 0 (is_none (server_named o n)) UndefinedObject (clear_rows o user (drop_server b n) clear s) refl))
+    (some_by (server_named o n) (row_false (object_rows o nothing_leased user (drop_server b n)) 0 (is_none (server_named o n)) UndefinedObject (clear_rows o user (drop_server b n) clear s) refl))
 dropped_server o user (drop_table b n) name clear (makes s m) = absurd (cc)
 dropped_server o user (drop_mapping b w n) name clear (makes s m) = absurd (cc)
 
-pub dropped_table : (o : Objects) (user : Name) (d : DdlTree) (name : Name) → ((c : Cause) → DdlCauses o no_lease user d c → ⊥) → Asks o user d (no_table name) → IsSome (table_named o name)
+pub dropped_table : (o : Objects) (user : Name) (d : DdlTree) (name : Name) → ((c : Cause) → DdlCauses o nothing_leased user d c → ⊥) → Asks o user d (no_table name) → IsSome (table_named o name)
 dropped_table o user d name clear (skips s e) = absurd (cc)
 dropped_table o user (create_wrapper n h) name clear (makes s m) = absurd (let e = m.2 in cc)
 dropped_table o user (create_server x) name clear (makes s m) = absurd (let e = m.2 in cc)
@@ -289,7 +301,7 @@ dropped_table o user (drop_server b n) name clear (makes s m) = absurd (cc)
 dropped_table o user (drop_table b n) name clear (makes s m) =
     let same : n ≡ name = cc in
     subst (λ (x : Name). IsSome (table_named o x)) same
-    (some_by (table_named o n) (row_false (object_rows o no_lease user (drop_table b n)) 0 (is_none (table_named o n)) UndefinedTable (clear_rows o user (drop_table b n) clear s) refl))
+    (some_by (table_named o n) (row_false (object_rows o nothing_leased user (drop_table b n)) 0 (is_none (table_named o n)) UndefinedTable (clear_rows o user (drop_table b n) clear s) refl))
 dropped_table o user (drop_mapping b w n) name clear (makes s m) = absurd (cc)
 
 -- ---- the tables of the catalogue are bound
@@ -308,8 +320,8 @@ all_bound e h k d lt =
     subst (λ (a : Attached). HasTable e.boxes a.source a.number) same (record { box = b.box; there = b.there; holds = subst (λ (o : Option Bound). IsSome o) (sym b.is) refl })
 
 -- the engine is as it was, but for its boxes
-pub undone_by : (e : Shown) (o : Objects) (boxes : List (Option BoxState)) (bound : List Attached) → o ≡ e.catalog → bound ≡ e.bound → record { catalog = o; labels = e.labels; boxes = boxes; bound = bound; users = e.users } ≡ record e { boxes = boxes }
-undone_by e o boxes bound p q = λ i. record { catalog = p i; labels = e.labels; boxes = boxes; bound = q i; users = e.users }
+pub undone_by : (e : Shown) (o : Objects) (boxes : List (Option BoxState)) (bound : List Attached) → o ≡ e.catalog → bound ≡ e.bound → record { catalog = o; labels = e.labels; boxes = boxes; bound = bound; seats = e.seats } ≡ record e { boxes = boxes }
+undone_by e o boxes bound p q = λ i. record { catalog = p i; labels = e.labels; boxes = boxes; bound = q i; seats = e.seats }
 
 -- what is left where the one that came goes again
 pub left_as_it_was : (old new : List Attached) (a : Attached) (k : ℕ) → new ≡ old ++ a ∷ [] → k ≡ length old → remove new k ≡ old

@@ -1,5 +1,5 @@
 -- What an outcome tells, and how it is written.
-use Rattle.std.specs.Prelude.{◌≡◌, ◌⊎◌, ℕ, List, ◌++◌, map, codes, string_bytes}
+use Rattle.std.specs.Prelude.{◌≡◌, Bool, true, false, ℕ, List, ◌++◌, map, codes, string_bytes}
 use Rattle.med_value.specs.Datum.{tuple}
 use Rattle.med_value.specs.declared.cause.Cause.TheVariants.{OutOfMemory}
 use Rattle.ddl_syntax.specs.DdlView.{ddl_tree}
@@ -8,7 +8,7 @@ use Rattle.med_world.specs.Steps.{ddl_tag}
 use Rattle.med_session.specs.declared.replies.RowsWord.{RowsWord}
 use Rattle.med_session.specs.declared.replies.RowsWord.TheVariants.{Insert, Update, Delete}
 use Rattle.med_session.specs.declared.replies.Outcome.{Outcome}
-use Rattle.med_session.specs.declared.replies.Outcome.TheVariants.{Opened, Closed, Changed, Written, Rows, Refused}
+use Rattle.med_session.specs.declared.replies.Outcome.TheVariants.{Opened, Closed, Changed, Written, Rows, Declared, Fetched, Ended, Refused}
 
 -- with what the tag of a write begins
 abbrev pub word_text : RowsWord → List ℕ
@@ -22,6 +22,9 @@ reply_of Closed = done (codes "BYE")
 reply_of (Changed d) = done (ddl_tag (ddl_tree d))
 reply_of (Written word count) = done (rows_tag (word_text word) count)
 reply_of (Rows set) = answered (codes "SELECT") (map string_bytes set.names.items) (map tuple set.rows.items)
+reply_of Declared = done (codes "DECLARE CURSOR")
+reply_of (Fetched name set) = answered (codes "FETCH") (map string_bytes set.names.items) (map tuple set.rows.items)
+reply_of Ended = done (codes "CLOSE CURSOR")
 reply_of (Refused c) = refused c
 
 -- rows, for whose text memory may be refused
@@ -31,7 +34,6 @@ HasRows (answered word names rows) = Unit {0}
 HasRows (refused c) = ⊥
 
 -- the text of the reply stands behind what was there, or that of want of memory in place of rows
-pub record Tells (sid : ℕ) (meant : Reply) (old new : List ℕ) : Type 0 where
-  pub reply : Reply
-  pub is : new ≡ old ++ reply_text sid reply
-  pub meant_so : (reply ≡ meant) ⊎ (HasRows meant × (reply ≡ refused OutOfMemory))
+abbrev pub Tells : ℕ → Reply → Bool → List ℕ → List ℕ → Type 0
+Tells sid meant true old new = new ≡ old ++ reply_text sid meant
+Tells sid meant false old new = HasRows meant × (new ≡ old ++ reply_text sid (refused OutOfMemory))

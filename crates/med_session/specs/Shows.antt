@@ -1,9 +1,10 @@
 -- What an engine shows.
-use Rattle.std.specs.Prelude.{map, option_map, string_bytes}
+use Rattle.std.specs.Prelude.{map, string_bytes}
 use Rattle.fdw_api.specs.State.{BoxState}
 use Rattle.med_exec.specs.Slots.{states}
 use Rattle.med_catalog.specs.View.{objects}
 use Rattle.bind_catalog.specs.Places.{attached}
+use Rattle.open_cursors.specs.Open.{seats_shown}
 use Rattle.med_world.specs.Engine.{Label, Shown}
 use Rattle.med_session.specs.declared.sources.NamedSource.{NamedSource}
 use Rattle.med_session.specs.declared.engine.Engine.{Engine}
@@ -17,5 +18,5 @@ shown meaning e = record {
   labels = map label e.sources.items;
   boxes = states meaning e.slots.items;
   bound = map attached e.bound.items;
-  users = map (option_map string_bytes) e.users.items;
+  seats = seats_shown e.seats.items;
 }

@@ -18,7 +18,8 @@ use fdw_api::interface::Wrapper;
 use med_catalog::{Change, Server, SourceKind, Table};
 use med_exec::slots::ledger_at;
 use med_value::Cause;
-use med_world::law::boxes_are_ready;
+use med_world::law::{boxes_are_ready, leases_bar_drops};
+use open_cursors::is_leased;
 use std::alloc::Global;
 
 // Whether two kinds are one.
@@ -185,21 +186,27 @@ impl<W: Wrapper> Engine<W> {
     ///
     /// # Errors
     ///
-    /// A cause of the least phase in which the catalogue shows one; HV00N where the source of a new server is not a free one of its kind; what
-    /// the source of a new table says of its remote table; and 53200 and HV000 where memory was refused, and a source failed. Then nothing
-    /// changes but what a box counts.
+    /// A cause of the least phase in which the catalogue shows one; 55006 where a table that is dropped is leased; HV00N where the source of
+    /// a new server is not a free one of its kind; what the source of a new table says of its remote table; and 53200 and HV000 where memory
+    /// was refused, and a source failed. Then nothing changes but what a box counts.
     pub(crate) fn alter(&mut self, alloc: Global, user: &str, ddl: &Ddl) -> Result<(), Cause>
         requires { IsSound (shown W.meaning self.old) }
         ensures ok { OnOk result (IsAltered (shown W.meaning self.old) user.now (ddl_tree ddl.now) (shown W.meaning self.new)) }
         ensures err { IfErr result (λ c. NotAltered (shown W.meaning self.old) user.now (ddl_tree ddl.now) c (shown W.meaning self.new)) }
     {
         boxes_are_ready();
+        leases_bar_drops();
         match self.catalog.check(alloc, ddl, user)? {
             Change::Nothing => Ok(()),
             Change::NewServer(name, server) => self.add_server(name, server),
             Change::NewTable(name, table) => self.add_table(alloc, name, table),
             Change::NoServer(name) => self.remove_server(name),
-            Change::NoTable(name) => self.remove_table(name),
+            Change::NoTable(name) => {
+                if is_leased(&self.seats, name.as_str()) {
+                    return Err(Cause::InUse);
+                }
+                self.remove_table(name)
+            }
             Change::NewWrapper(name, kind) => self.change_objects(Change::NewWrapper(name, kind)),
             Change::NewMapping(server, whose, mode) => {
                 self.change_objects(Change::NewMapping(server, whose, mode))

@@ -1,8 +1,8 @@
 //! The engine.
 ghost use Rattle.std.specs.Prelude.{◌≡◌, ◌<◌, ◌+◌, ◌++◌, ℕ, List, IfOk, IfErr, OnOk, OnErr, IsErrOf, vec_len, vec_capacity};
 
-use crate::places::{close_all, closed_sessions, is_open, set_user, user_in};
-use crate::replies::{Outcome, word_of, write_reply};
+use crate::places::{close_seats, closed_sessions, is_open, put_seat, take_seat, user_in};
+use crate::replies::{Outcome, table_of, word_of, write_reply};
 use crate::session::{NoRoom, Request, Sid};
 use crate::sources::NamedSource;
 use crate::users::is_user;
@@ -17,6 +17,7 @@ use med_world::law::{
     changes_lead, engines_begin, queries_lead, sessions_end, sessions_lead, statements_are_refused,
     writes_lead,
 };
+use open_cursors::{Seat, close_all, is_leased};
 use std::alloc::Global;
 use thiserror::Error;
 use write_texts::law::texts_are_clean;
@@ -31,7 +32,7 @@ pub struct Engine<W> {
     pub(crate) sources: Vec<NamedSource>,
     pub(crate) slots: Vec<Option<W>>,
     pub(crate) bound: Vec<BoundTable>,
-    pub(crate) users: Vec<Option<String>>,
+    pub(crate) seats: Vec<Option<Seat>>,
 }
 
 /// Why no engine was made.
@@ -47,6 +48,7 @@ pub enum NewFault {
 
 impl<W: Wrapper> Engine<W> {
     ghost use Rattle.med_session.specs.Asking.{asked};
+    ghost use Rattle.med_session.specs.Cursors.{IfFetched, MayBeUntold};
     ghost use Rattle.med_session.specs.Outcomes.{reply_of};
     ghost use Rattle.med_session.specs.Shows.{shown};
     ghost use Rattle.med_world.specs.Engine.{IsSound, Agrees, Leads, IsAnswered, Closes, ClosesAll};
@@ -71,7 +73,7 @@ impl<W: Wrapper> Engine<W> {
         let Ok(catalog) = Catalog::new(alloc, owner) else {
             return Err(NewFault::NoMemory);
         };
-        let Ok(users) = closed_sessions(alloc) else {
+        let Ok(seats) = closed_sessions(alloc) else {
             return Err(NewFault::NoMemory);
         };
         Ok(Engine {
@@ -79,7 +81,7 @@ impl<W: Wrapper> Engine<W> {
             sources: Vec::new(alloc),
             slots: Vec::new(alloc),
             bound: Vec::new(alloc),
-            users,
+            seats,
         })
     }
 
@@ -112,28 +114,36 @@ impl<W: Wrapper> Engine<W> {
             return Err(NoRoom);
         }
         let outcome = self.answer(sid, request);
-        write_reply(*self.users.allocator(), sid.number, &outcome, out);
+        if write_reply(*self.seats.allocator(), sid.number, &outcome, out) {
+            return Ok(());
+        }
+        if let Outcome::Fetched(name, _) = &outcome {
+            self.lose(sid, name.as_str());
+        }
         Ok(())
     }
 
-    /// Closes a session. It always succeeds, also where the session is closed.
+    /// Closes a session, and its cursors with it. It always succeeds, also where the session is closed.
     pub fn close_session(&mut self, sid: Sid)
         requires { IsSound (shown W.meaning self.old) }
         ensures sound { IsSound (shown W.meaning self.new) }
         ensures closes { Closes (shown W.meaning self.old) sid.number (shown W.meaning self.new) }
     {
         sessions_end();
-        set_user(&mut self.users, sid, None);
+        match take_seat(&mut self.seats, sid) {
+            Some(seat) => close_all(seat.cursors, &mut self.slots),
+            None => {}
+        }
     }
 
-    /// Closes every session. It always succeeds.
+    /// Closes every session, and every cursor with it. It always succeeds.
     pub fn close_sessions(&mut self)
         requires { IsSound (shown W.meaning self.old) }
         ensures sound { IsSound (shown W.meaning self.new) }
         ensures closes { ClosesAll (shown W.meaning self.old) (shown W.meaning self.new) }
     {
         sessions_end();
-        close_all(&mut self.users);
+        close_seats(&mut self.seats, &mut self.slots);
     }
 
     // Does a request.
@@ -141,6 +151,8 @@ impl<W: Wrapper> Engine<W> {
         requires { IsSound (shown W.meaning self.old) }
         ensures sound { IsSound (shown W.meaning self.new) }
         ensures leads { Leads (shown W.meaning self.old) sid.number (asked request.entry) (reply_of result) (shown W.meaning self.new) }
+        ensures untold { IfFetched result (λ name. MayBeUntold (shown W.meaning self.old) sid.number (asked request.entry) name
+            (shown W.meaning self.new)) }
     {
         match request {
             Request::Open(user) => self.open(sid, user),
@@ -154,33 +166,38 @@ impl<W: Wrapper> Engine<W> {
         requires { IsSound (shown W.meaning self.old) }
         ensures sound { IsSound (shown W.meaning self.new) }
         ensures leads { Leads (shown W.meaning self.old) sid.number (opening user.now) (reply_of result) (shown W.meaning self.new) }
+        ensures told { IfFetched result (λ name. ⊥) }
     {
         sessions_lead();
-        if is_open(&self.users, sid) || !is_user(user) {
+        if is_open(&self.seats, sid) || !is_user(user) {
             return Outcome::Refused(Cause::Protocol);
         }
-        match String::from_str(*self.users.allocator(), user) {
-            Ok(name) => {
-                set_user(&mut self.users, sid, Some(name));
+        let alloc = *self.seats.allocator();
+        match String::from_str(alloc, user) {
+            Ok(user) => {
+                let cursors = Vec::new(alloc);
+                put_seat(&mut self.seats, sid, Seat { user, cursors });
                 Outcome::Opened
             }
             Err(_) => Outcome::Refused(Cause::OutOfMemory),
         }
     }
 
-    // Closes a session.
+    // Closes a session, and its cursors with it.
     fn bye(&mut self, sid: Sid) -> Outcome
         requires { IsSound (shown W.meaning self.old) }
         ensures sound { IsSound (shown W.meaning self.new) }
         ensures leads { Leads (shown W.meaning self.old) sid.number bye (reply_of result) (shown W.meaning self.new) }
+        ensures told { IfFetched result (λ name. ⊥) }
     {
         sessions_lead();
-        let was_open = is_open(&self.users, sid);
-        if !was_open {
-            return Outcome::Refused(Cause::NoConnection);
+        match take_seat(&mut self.seats, sid) {
+            Some(seat) => {
+                close_all(seat.cursors, &mut self.slots);
+                Outcome::Closed
+            }
+            None => Outcome::Refused(Cause::NoConnection),
         }
-        set_user(&mut self.users, sid, None);
-        Outcome::Closed
     }
 
     // Does a statement.
@@ -188,12 +205,14 @@ impl<W: Wrapper> Engine<W> {
         requires { IsSound (shown W.meaning self.old) }
         ensures sound { IsSound (shown W.meaning self.new) }
         ensures leads { Leads (shown W.meaning self.old) sid.number (sql text.now) (reply_of result) (shown W.meaning self.new) }
+        ensures untold { IfFetched result (λ name. MayBeUntold (shown W.meaning self.old) sid.number (sql text.now) name
+            (shown W.meaning self.new)) }
     {
         statements_are_refused();
-        let Some(user) = user_in(&self.users, sid) else {
+        let Some(user) = user_in(&self.seats, sid) else {
             return Outcome::Refused(Cause::NoConnection);
         };
-        let alloc = *self.users.allocator();
+        let alloc = *self.seats.allocator();
         one_tree();
         let command = match parse(alloc, text) {
             Ok(command) => command,
@@ -214,12 +233,14 @@ impl<W: Wrapper> Engine<W> {
             }
             Command::Rows(write) => {
                 let word = word_of(&write);
+                let leased = is_leased(&self.seats, table_of(&write));
                 let slots = &mut self.slots;
-                match run_write(slots, &self.catalog, &self.bound, alloc, user, write) {
+                match run_write(slots, &self.catalog, &self.bound, alloc, user, write, leased) {
                     Ok(count) => Outcome::Written(word, count),
                     Err(cause) => Outcome::Refused(cause),
                 }
             }
+            Command::Cursor(statement) => self.turn(sid, statement),
             Command::Ddl(ddl) => {
                 let Ok(name) = String::from_str(alloc, user) else {
                     return Outcome::Refused(Cause::OutOfMemory);

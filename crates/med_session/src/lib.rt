@@ -4,11 +4,13 @@
 pub mod adding;
 mod altering;
 mod binding;
+mod cursors;
 pub mod engine;
 mod places;
 mod replies;
 pub mod session;
 pub mod sources;
+mod turning;
 pub mod users;
 
 pub use adding::{AddFault, Sources};

@@ -1,59 +1,80 @@
-//! The places of the sessions: that of session n is n - 1, and holds its user where it is open.
-ghost use Rattle.std.specs.Prelude.{◌≡◌, ◌-◌, ◌≤◌, None, is_some, map, option_map, replicate, slice_set, string_bytes, vec_len, IfOk};
-ghost use Rattle.med_world.specs.Engine.{user_of};
+//! The places of the sessions: that of session n is n - 1, and holds its seat where it is open.
+ghost use Rattle.std.specs.Prelude.{◌≡◌, ◌-◌, ◌≤◌, None, Some, is_some, map, option_map, replicate, slice_set, vec_len, IfOk};
+ghost use Rattle.med_exec.specs.Running.{AllServed};
+ghost use Rattle.med_exec.specs.Slots.{states};
+ghost use Rattle.med_world.specs.Seats.{seat_of, user_of};
+ghost use Rattle.open_cursors.specs.Open.{seated, seats_shown};
 
 use crate::session::Sid;
+use fdw_api::interface::Wrapper;
+use med_exec::law::services_join;
 use med_value::NoMemory;
+use med_world::law::cursors_hold_no_scan;
+use open_cursors::{Seat, close_all};
 use std::alloc::Global;
 
 /// How many sessions there are.
 const SESSIONS: usize = 64;
 
 // The places of the sessions, all closed.
-pub(crate) fn closed_sessions(alloc: Global) -> Result<Vec<Option<String>>, NoMemory>
-    ensures { IfOk result (λ users. map (option_map string_bytes) users.items ≡ replicate 64 None) }
+pub(crate) fn closed_sessions(alloc: Global) -> Result<Vec<Option<Seat>>, NoMemory>
+    ensures { IfOk result (λ seats. seats_shown seats.items ≡ replicate 64 None) }
 {
-    let mut users = Vec::new(alloc);
-    while users.len() < SESSIONS {
-        users.push(None)?;
+    let mut seats = Vec::new(alloc);
+    while seats.len() < SESSIONS {
+        seats.push(None)?;
     }
-    Ok(users)
+    Ok(seats)
 }
 
 // Whether a session is open.
-pub(crate) fn is_open(users: &Vec<Option<String>>, sid: Sid) -> bool
-    requires { vec_len users.now ≡ 64 }
-    ensures { result ≡ is_some (user_of (map (option_map string_bytes) users.now.items) sid.number) }
+pub(crate) fn is_open(seats: &Vec<Option<Seat>>, sid: Sid) -> bool
+    requires { vec_len seats.now ≡ 64 }
+    ensures { result ≡ is_some (user_of (seats_shown seats.now.items) sid.number) }
 {
-    users[usize::from(sid.number) - 1].is_some()
+    seats[usize::from(sid.number) - 1].is_some()
 }
 
 // The user of an open session.
-pub(crate) fn user_in(users: &Vec<Option<String>>, sid: Sid) -> Option<&str>
-    requires { vec_len users.now ≡ 64 }
-    ensures { option_map (λ name. name.now) result ≡ user_of (map (option_map string_bytes) users.now.items) sid.number }
+pub(crate) fn user_in(seats: &Vec<Option<Seat>>, sid: Sid) -> Option<&str>
+    requires { vec_len seats.now ≡ 64 }
+    ensures { option_map (λ name. name.now) result ≡ user_of (seats_shown seats.now.items) sid.number }
 {
-    match &users[usize::from(sid.number) - 1] {
-        Some(name) => Some(name.as_str()),
+    match &seats[usize::from(sid.number) - 1] {
+        Some(seat) => Some(seat.user.as_str()),
         None => None,
     }
 }
 
-// Opens a session for a user, or closes it.
-pub(crate) fn set_user(users: &mut Vec<Option<String>>, sid: Sid, user: Option<String>)
-    requires { vec_len users.old ≡ 64 }
-    ensures { map (option_map string_bytes) users.new.items
-        ≡ slice_set (map (option_map string_bytes) users.old.items) (sid.number - 1) (option_map string_bytes user) }
+// Takes the seat of a session out, which leaves the session closed.
+pub(crate) fn take_seat(seats: &mut Vec<Option<Seat>>, sid: Sid) -> Option<Seat>
+    requires { vec_len seats.old ≡ 64 }
+    ensures taken { option_map seated result ≡ seat_of (seats_shown seats.old.items) sid.number }
+    ensures left { seats_shown seats.new.items ≡ slice_set (seats_shown seats.old.items) (sid.number - 1) None }
 {
-    users[usize::from(sid.number) - 1] = user;
+    seats[usize::from(sid.number) - 1].take()
 }
 
-// Closes every session.
-pub(crate) fn close_all(users: &mut Vec<Option<String>>)
-    requires { vec_len users.old ≡ 64 }
-    ensures { map (option_map string_bytes) users.new.items ≡ replicate 64 None }
+// Puts a seat in, which leaves the session open.
+pub(crate) fn put_seat(seats: &mut Vec<Option<Seat>>, sid: Sid, seat: Seat)
+    requires { vec_len seats.old ≡ 64 }
+    ensures { seats_shown seats.new.items ≡ slice_set (seats_shown seats.old.items) (sid.number - 1) (Some (seated seat)) }
 {
+    seats[usize::from(sid.number) - 1] = Some(seat);
+}
+
+// Closes every session, and its cursors with it.
+pub(crate) fn close_seats<W: Wrapper>(seats: &mut Vec<Option<Seat>>, slots: &mut Vec<Option<W>>)
+    requires { vec_len seats.old ≡ 64 }
+    ensures closed { seats_shown seats.new.items ≡ replicate 64 None }
+    ensures served { AllServed (states W.meaning slots.old.items) (states W.meaning slots.new.items) }
+{
+    services_join();
+    cursors_hold_no_scan();
     for place in 0..SESSIONS {
-        users[place] = None;
+        match seats[place].take() {
+            Some(seat) => close_all(seat.cursors, slots),
+            None => {}
+        }
     }
 }

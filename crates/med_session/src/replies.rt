@@ -4,8 +4,9 @@ ghost use Rattle.med_value.specs.Datum.{tuple};
 ghost use Rattle.med_value.specs.Text.{escaped_text};
 ghost use Rattle.med_world.specs.Replies.{reply_text, done, answered, refused, header, line, row_line, tag_line, rows_tag};
 ghost use Rattle.ddl_syntax.specs.DdlView.{ddl_tree};
-ghost use Rattle.med_session.specs.Outcomes.{Tells, reply_of, word_text};
+ghost use Rattle.med_session.specs.Outcomes.{HasRows, Tells, reply_of, word_text};
 ghost use Rattle.med_world.specs.Steps.{ddl_tag, write_tag};
+ghost use Rattle.write_parts.specs.Meaning.{target_of};
 ghost use Rattle.write_syntax.specs.WriteView.{write_tree};
 
 use ddl_syntax::Ddl;
@@ -40,6 +41,12 @@ pub enum Outcome {
     Written(RowsWord, u64),
     /// The rows of a query.
     Rows(RowSet),
+    /// A cursor was opened.
+    Declared,
+    /// The rows of a FETCH of the cursor of this name.
+    Fetched(String, RowSet),
+    /// A cursor was closed.
+    Ended,
     /// Why it was refused.
     Refused(Cause),
 }
@@ -110,6 +117,17 @@ pub(crate) fn word_of(write: &WriteStatement) -> RowsWord
         WriteStatement::Insert(_) => RowsWord::Insert,
         WriteStatement::Update(_) => RowsWord::Update,
         WriteStatement::Delete(_) => RowsWord::Delete,
+    }
+}
+
+/// The name of the table that a statement writes.
+pub(crate) fn table_of(write: &WriteStatement) -> &str
+    ensures { result.now ≡ target_of (write_tree write.now) }
+{
+    match write {
+        WriteStatement::Insert(insert) => insert.table.as_str(),
+        WriteStatement::Update(update) => update.entry.table.as_str(),
+        WriteStatement::Delete(delete) => delete.entry.table.as_str(),
     }
 }
 
@@ -194,54 +212,77 @@ fn append_rows(sid: u8, rows: &[Row], text: &mut Vec<u8>) -> Result<(), NoMemory
     Ok(())
 }
 
-// Appends the tag of a query that gave so many rows.
-fn append_count(sid: u8, count: usize, text: &mut Vec<u8>) -> Result<(), NoMemory>
-    ensures { OnOk result (text.new.items ≡ text.old.items ++ line sid (tag_line (rows_tag (codes "SELECT") count))) }
+// Appends the tag of this word and so many rows.
+fn append_count(sid: u8, word: &[u8], count: usize, text: &mut Vec<u8>) -> Result<(), NoMemory>
+    ensures { OnOk result (text.new.items ≡ text.old.items ++ line sid (tag_line (rows_tag word.now count))) }
 {
     let mut buffer = Buffer::new();
-    append_start(sid, b"T SELECT ", text)?;
+    append_start(sid, b"T ", text)?;
+    text.extend_from_slice(word)?;
+    text.push(b' ')?;
     text.extend_from_slice(buffer.format(count).as_bytes())?;
     text.push(b'\n')?;
     Ok(())
 }
 
-// The reply to a query.
-fn answer_text(alloc: Global, sid: u8, set: &RowSet) -> Result<Vec<u8>, NoMemory>
+// The reply of rows, with the word of its tag.
+fn answer_text(alloc: Global, sid: u8, word: &[u8], set: &RowSet) -> Result<Vec<u8>, NoMemory>
     ensures { IfOk result (λ text. text.items
-        ≡ reply_text sid (answered (codes "SELECT") (map string_bytes set.now.names.items) (map tuple set.now.rows.items))) }
+        ≡ reply_text sid (answered word.now (map string_bytes set.now.names.items) (map tuple set.now.rows.items))) }
 {
     let mut text = Vec::new(alloc);
     append_header(sid, &set.names, &mut text)?;
     append_rows(sid, &set.rows, &mut text)?;
-    append_count(sid, set.rows.len(), &mut text)?;
+    append_count(sid, word, set.rows.len(), &mut text)?;
     Ok(text)
 }
 
-// Writes the reply to a query, or that memory was refused.
-fn write_answer(alloc: Global, sid: u8, set: &RowSet, out: &mut Vec<u8>)
+// Writes the reply of rows, or that memory was refused; and whether it told the rows.
+fn write_answer(alloc: Global, sid: u8, word: &[u8], set: &RowSet, out: &mut Vec<u8>) -> bool
     requires { vec_len out.old + 128 ≤ vec_capacity out.old }
-    ensures { Tells sid (answered (codes "SELECT") (map string_bytes set.now.names.items) (map tuple set.now.rows.items)) out.old.items out.new.items }
+    ensures { Tells sid (answered word.now (map string_bytes set.now.names.items) (map tuple set.now.rows.items)) result
+        out.old.items out.new.items }
 {
-    match answer_text(alloc, sid, set) {
-        Ok(text) => match out.extend_from_slice(&text) {
-            Ok(()) => {}
-            Err(_) => write_refusal(sid, Cause::OutOfMemory, out),
-        },
-        Err(NoMemory) => write_refusal(sid, Cause::OutOfMemory, out),
+    if let Ok(text) = answer_text(alloc, sid, word, set) {
+        if out.extend_from_slice(&text).is_ok() {
+            return true;
+        }
     }
+    write_refusal(sid, Cause::OutOfMemory, out);
+    false
 }
 
-/// Writes a reply whole behind what `out` has: that of the outcome, or 53200 in place of rows for which memory was refused.
-pub(crate) fn write_reply(alloc: Global, sid: u8, outcome: &Outcome, out: &mut Vec<u8>)
-    requires { vec_len out.old + 128 ≤ vec_capacity out.old }
-    ensures { Tells sid (reply_of outcome.now) out.old.items out.new.items }
+// Writes the reply of an outcome without rows.
+fn write_told(sid: u8, outcome: &Outcome, out: &mut Vec<u8>)
+    requires room { vec_len out.old + 128 ≤ vec_capacity out.old }
+    requires short { HasRows (reply_of outcome.now) → ⊥ }
+    ensures { out.new.items ≡ out.old.items ++ reply_text sid (reply_of outcome.now) }
 {
     match outcome {
         Outcome::Opened => write_tag(sid, b"OPEN", out),
         Outcome::Closed => write_tag(sid, b"BYE", out),
         Outcome::Changed(ddl) => write_change(sid, ddl, out),
         Outcome::Written(word, count) => write_count(sid, *word, *count, out),
-        Outcome::Rows(set) => write_answer(alloc, sid, set, out),
+        Outcome::Declared => write_tag(sid, b"DECLARE CURSOR", out),
+        Outcome::Ended => write_tag(sid, b"CLOSE CURSOR", out),
         Outcome::Refused(cause) => write_refusal(sid, *cause, out),
+        Outcome::Rows(_) => unreachable!(),
+        Outcome::Fetched(_, _) => unreachable!(),
+    }
+}
+
+/// Writes a reply whole behind what `out` has: that of the outcome, or 53200 in place of rows for which memory was refused. Whether it told
+/// the outcome.
+pub(crate) fn write_reply(alloc: Global, sid: u8, outcome: &Outcome, out: &mut Vec<u8>) -> bool
+    requires { vec_len out.old + 128 ≤ vec_capacity out.old }
+    ensures { Tells sid (reply_of outcome.now) result out.old.items out.new.items }
+{
+    match outcome {
+        Outcome::Rows(set) => write_answer(alloc, sid, b"SELECT", set, out),
+        Outcome::Fetched(_, set) => write_answer(alloc, sid, b"FETCH", set, out),
+        _ => {
+            write_told(sid, outcome, out);
+            true
+        }
     }
 }

@@ -7,7 +7,7 @@ use med_exec::Run;
 /// How many cursors a session has open at most.
 pub const CURSORS: usize = 16;
 
-/// An open cursor (SQL:2016, 14.1 <declare cursor>). [`crate::close_cursor`] spends it.
+/// An open cursor (SQL:2016, 14.1 <declare cursor>).
 #[derive(Drop)]
 pub struct OpenCursor {
     pub name: String,

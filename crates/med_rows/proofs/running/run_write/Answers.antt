@@ -9,7 +9,7 @@ use Rattle.med_catalog.specs.View.{objects}
 use Rattle.bind_catalog.specs.Places.{Attached, attached}
 use Rattle.bind_write.specs.Binding.{IsQueryOf}
 use Rattle.med_select.proofs.Selections.{entries_bound}
-use Rattle.med_world.specs.Writing.{not_bound}
+use Rattle.med_world.specs.Writing.{not_bound, in_use}
 use Rattle.med_rows.proofs.Typed.{HasQuery, has_query}
 use Rattle.med_rows.proofs.Runs.{none_asked, asked, not_answered, crowded, untyped, can_alone, can_answered, ends_ok, ends_err}
 use Rattle.med_rows.proofs.running.run_write.Goals as goal
@@ -17,6 +17,10 @@ use Rattle.med_rows.proofs.running.run_write.Goals as goal
 -- it is not bound
 pub returns-in-Err-clause-err : goal.returns-in-Err-clause-err
 returns-in-Err-clause-err g c = not_bound c.in-Err.ensures.refused refl
+
+-- a cursor reads the table
+pub returns-then-is_leased-clause-err : goal.returns-then-is_leased-clause-err
+returns-then-is_leased-clause-err g c = in_use c.in-Ok.ensures.bindable c.if-is_leased.true refl refl
 
 -- no query
 pub write_rows-requires : goal.write_rows-requires
@@ -32,7 +36,7 @@ returns-in_default-clause-ok g c =
     let old = states g.W.Wrapper.meaning c.args.slots.now.items in
     let none : IsQueryOf o bound t None = subst (IsQueryOf o bound t) c.in_default.is c.in-Ok.ensures.meant.query in
     let can = can_alone c.written_rows_are_typed.ensures o c.args.user.now bound old t c.in-Ok.write c.requires.ready c.in-Ok.ensures.bindable c.requires.clean c.in-Ok.ensures.meant c.in_default.is in
-    ends_ok o c.args.user.now bound t c.in-Ok.write old old (states g.W.Wrapper.meaning c.write_rows.new.slots.items) [] c.write_rows.result c.in-Ok.ensures.bindable c.in-Ok.ensures.meant
+    ends_ok o c.args.user.now bound t c.in-Ok.write old old (states g.W.Wrapper.meaning c.write_rows.new.slots.items) [] c.write_rows.result c.args.is_leased c.if-is_leased.false c.in-Ok.ensures.bindable c.in-Ok.ensures.meant
     (none_asked o bound t old none) can c.write_rows.ensures.ok
 
 pub returns-in_default-clause-err : goal.returns-in_default-clause-err
@@ -42,7 +46,7 @@ returns-in_default-clause-err g c =
     let t = write_tree c.args.statement in
     let old = states g.W.Wrapper.meaning c.args.slots.now.items in
     let none : IsQueryOf o bound t None = subst (IsQueryOf o bound t) c.in_default.is c.in-Ok.ensures.meant.query in
-    ends_err o c.args.user.now bound t c.in-Ok.write old old (states g.W.Wrapper.meaning c.write_rows.new.slots.items) [] c.write_rows.result c.in-Ok.ensures.bindable c.in-Ok.ensures.meant
+    ends_err o c.args.user.now bound t c.in-Ok.write old old (states g.W.Wrapper.meaning c.write_rows.new.slots.items) [] c.write_rows.result c.args.is_leased c.if-is_leased.false c.in-Ok.ensures.bindable c.in-Ok.ensures.meant
     (none_asked o bound t old none) c.write_rows.ensures.err
 
 -- a query
@@ -58,7 +62,7 @@ returns-then-len-gt-ENTRIES-clause-err g c =
     let counted : c.len.result ≡ length b.entries.items = c.len.ensures ∙ b.entries.ok.0 in
     let least : 8 < c.len.result = c.if-len-gt-ENTRIES.true in
     let many : 8 < length b.entries.items = omega (arith, counted, least) in
-    crowded o c.args.user.now bound t b (states g.W.Wrapper.meaning c.args.slots.now.items) c.in-Ok.ensures.bindable
+    crowded o c.args.user.now bound t b (states g.W.Wrapper.meaning c.args.slots.now.items) c.args.is_leased c.in-Ok.ensures.bindable
     (query_there o bound t c.in-Ok.write.query b c.in-Some.is c.in-Ok.ensures.meant.query) many
 
 pub run_query-requires-clause-bound : goal.run_query-requires-clause-bound
@@ -82,7 +86,7 @@ returns-in-Err-run_query-clause-err g c =
     let least : c.len.result ≤ 8 = c.if-len-gt-ENTRIES.false in
     let few : length b.entries.items ≤ 8 = omega (arith, counted, least) in
     not_answered o c.args.user.now bound t c.in-Ok.write b (states g.W.Wrapper.meaning c.args.slots.now.items) (states g.W.Wrapper.meaning c.run_query.new.slots.items) c.in-Err-run_query.cause
-    c.in-Ok.ensures.bindable c.in-Ok.ensures.meant (query_there o bound t c.in-Ok.write.query b c.in-Some.is c.in-Ok.ensures.meant.query) few c.run_query.ensures.served c.in-Err-run_query.ensures.err
+    c.args.is_leased c.if-is_leased.false c.in-Ok.ensures.bindable c.in-Ok.ensures.meant (query_there o bound t c.in-Ok.write.query b c.in-Some.is c.in-Ok.ensures.meant.query) few c.run_query.ensures.served c.in-Err-run_query.ensures.err
 
 pub returns-then-not-fits-clause-err : goal.returns-then-not-fits-clause-err
 returns-then-not-fits-clause-err g c =
@@ -91,7 +95,7 @@ returns-then-not-fits-clause-err g c =
     let t = write_tree c.args.statement in
     let b = c.in-Some.query in
     untyped c.written_rows_are_typed.ensures o c.args.user.now bound t c.in-Ok.write b (states g.W.Wrapper.meaning c.args.slots.now.items) (states g.W.Wrapper.meaning c.run_query.new.slots.items)
-    (map tuple c.in-Ok-run_query.rows.items) c.requires.ready c.in-Ok.ensures.bindable c.requires.clean c.in-Ok.ensures.meant
+    (map tuple c.in-Ok-run_query.rows.items) c.args.is_leased c.if-is_leased.false c.requires.ready c.in-Ok.ensures.bindable c.requires.clean c.in-Ok.ensures.meant
     (query_there o bound t c.in-Ok.write.query b c.in-Some.is c.in-Ok.ensures.meant.query) c.in-Ok-run_query.ensures.ok c.run_query.ensures.served
     (λ places form. sym c.if-not-fits.true ∙ rw c.as_slice.ensures.value at c.fits.ensures places form)
 
@@ -121,7 +125,7 @@ returns-clause-ok g c =
     let h = query_there o bound t c.in-Ok.write.query b c.in-Some.is c.in-Ok.ensures.meant.query in
     let can = can_answered o bound old now t c.in-Ok.write b answer c.requires.ready c.run_query.ensures.served c.in-Ok.ensures.meant h
     (λ places form. sym c.if-not-fits.false ∙ rw c.as_slice.ensures.value at c.fits.ensures places form) in
-    ends_ok o c.args.user.now bound t c.in-Ok.write old now (states g.W.Wrapper.meaning c.write_rows-2.new.slots.items) answer c.write_rows-2.result c.in-Ok.ensures.bindable c.in-Ok.ensures.meant
+    ends_ok o c.args.user.now bound t c.in-Ok.write old now (states g.W.Wrapper.meaning c.write_rows-2.new.slots.items) answer c.write_rows-2.result c.args.is_leased c.if-is_leased.false c.in-Ok.ensures.bindable c.in-Ok.ensures.meant
     (asked o bound t b old now answer h few c.run_query.ensures.served c.in-Ok-run_query.ensures.ok) can (rw c.as_slice-2.ensures.value at c.write_rows-2.ensures.ok)
 
 pub returns-clause-err : goal.returns-clause-err
@@ -137,5 +141,5 @@ returns-clause-err g c =
     let least : c.len.result ≤ 8 = c.if-len-gt-ENTRIES.false in
     let few : length b.entries.items ≤ 8 = omega (arith, counted, least) in
     let h = query_there o bound t c.in-Ok.write.query b c.in-Some.is c.in-Ok.ensures.meant.query in
-    ends_err o c.args.user.now bound t c.in-Ok.write old now (states g.W.Wrapper.meaning c.write_rows-2.new.slots.items) answer c.write_rows-2.result c.in-Ok.ensures.bindable c.in-Ok.ensures.meant
+    ends_err o c.args.user.now bound t c.in-Ok.write old now (states g.W.Wrapper.meaning c.write_rows-2.new.slots.items) answer c.write_rows-2.result c.args.is_leased c.if-is_leased.false c.in-Ok.ensures.bindable c.in-Ok.ensures.meant
     (asked o bound t b old now answer h few c.run_query.ensures.served c.in-Ok-run_query.ensures.ok) (rw c.as_slice-2.ensures.value at c.write_rows-2.ensures.err)

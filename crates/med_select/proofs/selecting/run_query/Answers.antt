@@ -3,7 +3,8 @@ use Rattle.med_value.specs.Datum.{tuple}
 use Rattle.med_query.specs.Query.{Query}
 use Rattle.med_exec.specs.Slots.{states}
 use Rattle.pushdown.specs.Offered.{entry_place}
-use Rattle.med_world.specs.Selecting.{AnswersOver, RunFails}
+use Rattle.med_world.specs.Selecting.{AnswersOver}
+use Rattle.open_cursors.specs.Starting.{RunFails}
 use Rattle.med_world.specs.Altering.{cause_of}
 use Rattle.med_query.specs.Select.{query_of as written_query}
 use Rattle.med_select.proofs.Selections.{query_bound, steady, answers_over, fails_over}

@@ -1,11 +1,12 @@
-use Rattle.std.proofs.Common.{◌≡◌, ◌≤◌, ◌-◌, None, map, option_map, replicate, vec_len, string_bytes}
+use Rattle.std.proofs.Common.{◌≡◌, ◌≤◌, ◌-◌, None, replicate, vec_len}
+use Rattle.open_cursors.specs.Open.{seats_shown}
 use Rattle.med_session.proofs.places.closed_sessions.Given as goal
 
-abbrev pub invariant-loop-users : goal.invariant-loop-users
-invariant-loop-users l = record {
-  closed : map (option_map string_bytes) l.users.items ≡ replicate (vec_len l.users) None;
-  within : vec_len l.users ≤ 64;
+abbrev pub invariant-loop-seats : goal.invariant-loop-seats
+invariant-loop-seats l = record {
+  closed : seats_shown l.seats.items ≡ replicate (vec_len l.seats) None;
+  within : vec_len l.seats ≤ 64;
 }
 
-abbrev pub decreases-loop-users : goal.decreases-loop-users
-decreases-loop-users l = 64 - vec_len l.users
+abbrev pub decreases-loop-seats : goal.decreases-loop-seats
+decreases-loop-seats l = 64 - vec_len l.seats

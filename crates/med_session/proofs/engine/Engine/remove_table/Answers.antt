@@ -7,6 +7,11 @@ use Rattle.med_session.specs.Shows.{shown}
 use Rattle.med_session.proofs.Tables.{first_at, removed_first, attached_at, removed_attached, get_within, bound_within, unbinds_by}
 use Rattle.med_session.proofs.engine.Engine.remove_table.Goals as goal
 
+pub unbind_table-requires-clause-within : goal.unbind_table-requires-clause-within
+unbind_table-requires-clause-within g c =
+    let e = shown g.W.Wrapper.meaning c.args.self.now in
+    bound_within e c.args.self.now.bound.items c.in-Some.place _ c.requires.sound.many c.in-Some.ensures.there
+
 pub unbind_table-requires-clause-unbinds : goal.unbind_table-requires-clause-unbinds
 unbind_table-requires-clause-unbinds g c t at =
     let e = shown g.W.Wrapper.meaning c.args.self.now in

@@ -1,0 +1,21 @@
+use Rattle.std.proofs.Common.{ap, sym, refl, ◌∙◌, List, map}
+use Rattle.open_cursors.specs.Open.{Opened, opened, seated}
+use Rattle.med_session.specs.Cursors.{having}
+use Rattle.med_session.proofs.CursorLists.{all_stay}
+use Rattle.med_session.proofs.cursors.end_cursor.Goals as goal
+
+pub returns-in-Some-clause-ok : goal.returns-in-Some-clause-ok
+returns-in-Some-clause-ok g c = record {
+  at = opened c.in-Some.cursor;
+  there = sym c.in-Some.ensures.taken;
+  closes = c.close_cursor.ensures;
+  is = ap (λ (cs : List Opened). having (seated c.args.seat.now) cs) c.take.ensures.left;
+}
+
+pub returns-in-None-clause-err : goal.returns-in-None-clause-err
+returns-in-None-clause-err g c = record {
+  told = refl;
+  unknown = sym c.in-None.ensures.taken;
+  seat_kept = ap (λ (cs : List Opened). having (seated c.args.seat.now) cs) (c.take.ensures.left ∙ all_stay c.args.name.now (map opened c.args.seat.now.cursors.items) (sym c.in-None.ensures.taken));
+  boxes_kept = refl;
+}

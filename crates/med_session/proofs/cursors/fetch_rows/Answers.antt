@@ -1,0 +1,47 @@
+use Rattle.std.proofs.Common.{◌≡◌, ◌<◌, length, slice_get, List, map, string_bytes, ap, sym, ◌∙◌, refl}
+use Rattle.med_value.specs.declared.cause.Cause.{Cause}
+use Rattle.fdw_api.specs.State.{BoxState}
+use Rattle.fdw_api.specs.declared.interface.Fault.{Fault}
+use Rattle.med_exec.specs.Running.{Breaks, wants_memory, box_breaks, none_held}
+use Rattle.med_exec.specs.Slots.{states}
+use Rattle.med_world.specs.Altering.{cause_of}
+use Rattle.med_world.specs.Turning.{later}
+use Rattle.open_cursors.specs.Fetching.{GivesNone, no_memory, box_fails}
+use Rattle.open_cursors.specs.declared.cursors.OpenCursor.{OpenCursor}
+use Rattle.open_cursors.specs.Open.{Opened, opened, opened_named, seated}
+use Rattle.med_session.specs.Cursors.{having, fails}
+use Rattle.med_session.proofs.CursorLists.{same_at, place_within, named_there, runs_there, gone_there}
+use Rattle.med_session.proofs.cursors.fetch_rows.Goals as goal
+
+pub returns-in-Ok-fetch-clause-ok : goal.returns-in-Ok-fetch-clause-ok
+returns-in-Ok-fetch-clause-ok g c =
+    let cursors = c.args.seat.now.cursors.items in
+    let at = c.index_mut.result.now in
+    let lt : c.in-Some.place < length cursors = place_within c.args.name.now cursors c.in-Some.place (rw c.deref.ensures.value at c.in-Some.ensures.place) in
+    let there : slice_get (map opened cursors) c.in-Some.place ≡ opened_named c.args.name.now (map opened cursors) = rw c.deref.ensures.value at c.in-Some.ensures.there in
+    record {
+      at = opened at;
+      there = named_there c.args.name.now cursors c.in-Some.place at lt c.index_mut.ensures.value there;
+      named = c.in-Ok.ensures ∙ ap (λ (xs : List _). map string_bytes xs) c.deref-2.ensures.value ∙ ap (λ (o : OpenCursor). map string_bytes o.names.items) (same_at cursors c.in-Some.place c.index.result.now at lt c.index.ensures c.index_mut.ensures.value);
+      run = c.fetch.new.run;
+      gives = c.in-Ok-fetch.ensures.ok;
+      is = ap (λ (cs : List Opened). having (seated c.args.seat.now) cs) (runs_there c.args.name.now cursors c.in-Some.place at c.fetch.new.run c.requires.apart lt c.index_mut.ensures.value there);
+    }
+
+breaks_none : (fault : Fault) (c : Cause) (old new : List _) → c ≡ cause_of fault → Breaks fault old new → GivesNone c old new
+breaks_none fault c old new is (wants_memory w) = no_memory (is ∙ ap cause_of w)
+breaks_none fault c old new is (box_breaks w shows) = box_fails (is ∙ ap cause_of w) shows
+
+pub returns-in-Err-clause-err : goal.returns-in-Err-clause-err
+returns-in-Err-clause-err g c =
+    let cursors = c.args.seat.now.cursors.items in
+    let at = c.index_mut.result.now in
+    let old = states g.W.Wrapper.meaning c.args.slots.now.items in
+    let mid = states g.W.Wrapper.meaning c.fetch.new.slots.items in
+    let new = states g.W.Wrapper.meaning c.close_cursor.new.slots.items in
+    let lt : c.in-Some.place < length cursors = place_within c.args.name.now cursors c.in-Some.place (rw c.deref.ensures.value at c.in-Some.ensures.place) in
+    let there : slice_get (map opened cursors) c.in-Some.place ≡ opened_named c.args.name.now (map opened cursors) = rw c.deref.ensures.value at c.in-Some.ensures.there in
+    fails (opened at) (named_there c.args.name.now cursors c.in-Some.place at lt c.index_mut.ensures.value there)
+    (breaks_none c.in-Err.fault c.cause_of.result old new c.cause_of.ensures (c.services_join.ensures.broken none_held none_held none_held none_held old old mid new c.in-Err.fault (c.services_join.ensures.same none_held old) c.in-Err.ensures.breaks c.close_cursor.ensures))
+    (later c.fetch.new.run mid c.fetch.ensures.boxes c.close_cursor.ensures)
+    (ap (λ (cs : List Opened). having (seated c.args.seat.now) cs) (ap (map opened) c.remove.ensures.items ∙ gone_there c.args.name.now cursors c.in-Some.place at _ c.requires.apart lt c.index_mut.ensures.value there))

@@ -1,0 +1,12 @@
+use Rattle.std.proofs.Common.{◌≡◌, None, replicate, take, vec_len}
+use Rattle.med_exec.specs.Running.{AllServed}
+use Rattle.med_exec.specs.Slots.{states}
+use Rattle.open_cursors.specs.Open.{seats_shown}
+use Rattle.med_session.proofs.places.close_seats.Given as goal
+
+abbrev pub invariant-loop-place : goal.invariant-loop-place
+invariant-loop-place g l = record {
+  long : vec_len l.seats ≡ 64;
+  closed : seats_shown (take l.place l.seats.items) ≡ replicate l.place None;
+  served : AllServed (states g.W.Wrapper.meaning l.fn.slots.items) (states g.W.Wrapper.meaning l.slots.items);
+}

@@ -1,0 +1,110 @@
+-- What DECLARE, FETCH and CLOSE do to the cursors of a session and to the boxes (SQL:2016, <declare cursor>, <fetch statement>,
+-- <close statement>).
+use Rattle.std.specs.Prelude.{◌≡◌, ℕ, true, List, [], ◌∷◌, ◌++◌, Option, Some, None, is_some, string_bytes}
+use Rattle.med_value.specs.Datum.{Tuple}
+use Rattle.med_value.specs.declared.cause.Cause.{Cause}
+use Rattle.med_value.specs.declared.cause.Cause.TheVariants.{DuplicateCursor, InvalidCursorName, OutOfMemory}
+use Rattle.med_syntax.specs.Tree.{Name}
+use Rattle.med_syntax.specs.QueryTree.{SelectTree}
+use Rattle.cursor_syntax.specs.CursorTree.{CountTree}
+use Rattle.fdw_api.specs.State.{BoxState}
+use Rattle.med_exec.specs.declared.running.Run.{Run}
+use Rattle.med_exec.specs.Running.{ServesRun, none_held}
+use Rattle.med_exec.specs.Rests.{held}
+use Rattle.med_catalog.specs.Objects.{Objects}
+use Rattle.bind_catalog.specs.Places.{Attached}
+use Rattle.open_cursors.specs.Open.{Opened, Seated, is_full, opened_named, without_named, with_run}
+use Rattle.open_cursors.specs.Starting.{Starts, StartFails}
+use Rattle.open_cursors.specs.Fetching.{GivesRows, GivesNone}
+use Rattle.med_world.specs.Requests.{Asked}
+use Rattle.med_world.specs.Replies.{refused}
+use Rattle.med_world.specs.Seats.{seat_of}
+use Rattle.med_world.specs.Turning.{new_opened, with_cursors, Ends}
+use Rattle.med_world.specs.Engine.{Shown, Leads}
+use Rattle.med_session.specs.declared.replies.Outcome.{Outcome}
+use Rattle.med_session.specs.declared.replies.Outcome.TheVariants as outcome
+
+-- ---- in a session
+
+-- the session with these cursors
+abbrev pub having : Seated → List Opened → Seated
+having seat cursors = record seat { cursors = cursors }
+
+-- A cursor was opened: no other had its name, and it stands last.
+pub record Opens (o : Objects) (bound : List Attached) (name : Name) (q : SelectTree) (seat : Seated) (old : List (Option BoxState))
+    (after : Seated) (new : List (Option BoxState)) : Type 0 where
+  pub names : List Name
+  pub run : Run
+  pub unknown : opened_named name seat.cursors ≡ None
+  pub starts : Starts o seat.user bound q (is_full seat.cursors) old names run new
+  pub is : after ≡ having seat (seat.cursors ++ new_opened name names q run ∷ [])
+
+-- why it was not
+pub data OpensNone (o : Objects) (bound : List Attached) (name : Name) (q : SelectTree) (seat : Seated) (old : List (Option BoxState))
+    (c : Cause) (new : List (Option BoxState)) : Type 0 where
+  is_taken : c ≡ DuplicateCursor → is_some (opened_named name seat.cursors) ≡ true → new ≡ old → OpensNone o bound name q seat old c new
+  no_memory : c ≡ OutOfMemory → new ≡ old → OpensNone o bound name q seat old c new
+  not_started : opened_named name seat.cursors ≡ None → StartFails o seat.user bound q (is_full seat.cursors) old c new
+      → OpensNone o bound name q seat old c new
+
+-- Rows of the cursor of this name were given, under its output names, and its run goes on behind them.
+pub record Fetched (name : Name) (asked : CountTree) (seat : Seated) (old : List (Option BoxState)) (names : List Name)
+    (rows : List Tuple) (after : Seated) (new : List (Option BoxState)) : Type 0 where
+  pub at : Opened
+  pub there : opened_named name seat.cursors ≡ Some at
+  pub named : names ≡ at.names
+  pub run : Run
+  pub gives : GivesRows at.run asked old rows run new
+  pub is : after ≡ having seat (with_run name run seat.cursors)
+
+-- Why they were not. There is no such cursor, or memory was refused before it was asked for a row: then all is as it was. Or it failed, and
+-- is closed and gone.
+pub data NotFetched (name : Name) (seat : Seated) (old : List (Option BoxState)) (c : Cause) (after : Seated)
+    (new : List (Option BoxState)) : Type 0 where
+  is_unknown : c ≡ InvalidCursorName → opened_named name seat.cursors ≡ None → after ≡ seat → new ≡ old
+      → NotFetched name seat old c after new
+  no_memory : c ≡ OutOfMemory → after ≡ seat → new ≡ old → NotFetched name seat old c after new
+  fails : (at : Opened) → opened_named name seat.cursors ≡ Some at → GivesNone c old new → Ends at.run old new
+      → after ≡ having seat (without_named name seat.cursors) → NotFetched name seat old c after new
+
+-- The cursor of this name was closed, and is gone.
+pub record Ended (name : Name) (seat : Seated) (old : List (Option BoxState)) (after : Seated) (new : List (Option BoxState)) : Type 0 where
+  pub at : Opened
+  pub there : opened_named name seat.cursors ≡ Some at
+  pub closes : ServesRun (held at.run) none_held old new
+  pub is : after ≡ having seat (without_named name seat.cursors)
+
+-- there is none of this name
+pub record NotEnded (name : Name) (seat : Seated) (old : List (Option BoxState)) (c : Cause) (after : Seated)
+    (new : List (Option BoxState)) : Type 0 where
+  pub told : c ≡ InvalidCursorName
+  pub unknown : opened_named name seat.cursors ≡ None
+  pub seat_kept : after ≡ seat
+  pub boxes_kept : new ≡ old
+
+-- ---- in an engine
+
+-- the session has a cursor of this name
+pub record HasCursor (e : Shown) (sid : ℕ) (name : Name) : Type 0 where
+  pub seat : Seated
+  pub is_open : seat_of e.seats sid ≡ Some seat
+  pub there : is_some (opened_named name seat.cursors) ≡ true
+
+-- the session's cursor of this name was closed, and is gone
+pub record LosesCursor (old : Shown) (sid : ℕ) (name : Name) (new : Shown) : Type 0 where
+  pub seat : Seated
+  pub is_open : seat_of old.seats sid ≡ Some seat
+  pub at : Opened
+  pub there : opened_named name seat.cursors ≡ Some at
+  pub closes : ServesRun (held at.run) none_held old.boxes new.boxes
+  pub is : new ≡ with_cursors old sid seat (without_named name seat.cursors) new.boxes
+
+-- The rows of a FETCH need not be told: its cursor is there, and once that is closed too, the request is answered by want of memory.
+pub record MayBeUntold (old : Shown) (sid : ℕ) (request : Asked) (name : Name) (now : Shown) : Type 0 where
+  pub has : HasCursor now sid name
+  pub lost : (new : Shown) → LosesCursor now sid name new → Leads old sid request (refused OutOfMemory) new
+
+-- this holds of a FETCH that gave rows
+abbrev pub IfFetched : Outcome → (Name → Type 0) → Type 0
+IfFetched (outcome.Fetched name set) P = P (string_bytes name)
+IfFetched other P = Unit {0}

@@ -1,0 +1,135 @@
+//! The cursors of a session: DECLARE, FETCH and CLOSE (SQL:2016, part 2, 14 "Data manipulation").
+ghost use Rattle.std.specs.Prelude.{◌≡◌, length, map, All, IfOk, OnOk, IfErr, OnErr, string_bytes};
+ghost use Rattle.med_value.specs.Datum.{tuple};
+ghost use Rattle.med_syntax.specs.QueryView.{statement_tree};
+ghost use Rattle.cursor_syntax.specs.CursorView.{count_tree};
+ghost use Rattle.bind_catalog.specs.Looked.{query_in};
+ghost use Rattle.bind_catalog.specs.Places.{attached};
+ghost use Rattle.bind_catalog.specs.Tables.{AreNamedOnce};
+ghost use Rattle.med_catalog.specs.View.{objects};
+ghost use Rattle.med_exec.specs.Slots.{states, HasTable};
+ghost use Rattle.open_cursors.specs.Open.{seated};
+ghost use Rattle.med_world.specs.Seats.{IsSoundSeat};
+ghost use Rattle.med_session.specs.Cursors.{Opens, OpensNone, Fetched, NotFetched, Ended, NotEnded};
+
+use bind_catalog::BoundTable;
+use cursor_syntax::{Declare, FetchCount};
+use fdw_api::interface::Wrapper;
+use med_catalog::Catalog;
+use med_exec::law::{running_is_held, services_join};
+use med_select::{RowSet, Started, cause_of, start_select};
+use med_value::{Cause, NoMemory};
+use open_cursors::{OpenCursor, Seat, close_cursor, fetch, is_full, position, take};
+use std::alloc::Global;
+
+// The names of columns, once more.
+fn copy_names(alloc: Global, names: &[String]) -> Result<Vec<String>, NoMemory>
+    ensures { IfOk result (λ copies. map string_bytes copies.items ≡ map string_bytes names.now) }
+{
+    let mut copies = Vec::new(alloc);
+    for name in names {
+        copies.push(String::from_str(alloc, name.as_str())?)?;
+    }
+    Ok(copies)
+}
+
+// Opens a cursor over the tables as they stand, behind those that the session has. Room for it is taken before its query is begun.
+pub(crate) fn open_cursor<W: Wrapper>(
+    seat: &mut Seat,
+    slots: &mut Vec<Option<W>>,
+    catalog: &Catalog,
+    bound: &[BoundTable],
+    alloc: Global,
+    declare: &Declare,
+) -> Result<(), Cause>
+    requires many { length bound.now ≡ length (objects catalog.now).tables }
+    requires once { AreNamedOnce (objects catalog.now) }
+    requires tables { All (λ a. HasTable (states W.meaning slots.old.items) a.source a.number) (map attached bound.now) }
+    ensures ok { OnOk result (Opens (objects catalog.now) (map attached bound.now) (string_bytes declare.now.name)
+        (query_in (statement_tree declare.now.query)) (seated seat.old) (states W.meaning slots.old.items) (seated seat.new)
+        (states W.meaning slots.new.items)) }
+    ensures err { IfErr result (λ c. OpensNone (objects catalog.now) (map attached bound.now) (string_bytes declare.now.name)
+        (query_in (statement_tree declare.now.query)) (seated seat.old) (states W.meaning slots.old.items) c
+        (states W.meaning slots.new.items)) }
+    ensures kept { OnErr result (seated seat.new ≡ seated seat.old) }
+{
+    if position(&seat.cursors, declare.name.as_str()).is_some() {
+        return Err(Cause::DuplicateCursor);
+    }
+    let Ok(name) = String::from_str(alloc, declare.name.as_str()) else {
+        return Err(Cause::OutOfMemory);
+    };
+    if seat.cursors.reserve(1).is_err() {
+        return Err(Cause::OutOfMemory);
+    }
+    let full = is_full(&seat.cursors);
+    let user = seat.user.as_str();
+    let Started { names, leases, run } =
+        match start_select(slots, catalog, bound, alloc, user, &declare.query, full) {
+            Ok(started) => started,
+            Err(cause) => return Err(cause),
+        };
+    let cursor = OpenCursor {
+        name,
+        names,
+        leases,
+        run,
+    };
+    if seat.cursors.push(cursor).is_err() {
+        unreachable!()
+    }
+    Ok(())
+}
+
+// Gives rows of a cursor. One that fails, once it was asked for a row, is closed and gone.
+pub(crate) fn fetch_rows<W: Wrapper>(
+    seat: &mut Seat,
+    slots: &mut Vec<Option<W>>,
+    alloc: Global,
+    name: &str,
+    asked: FetchCount,
+) -> Result<RowSet, Cause>
+    requires { IsSoundSeat (states W.meaning slots.old.items) (seated seat.old) }
+    ensures ok { IfOk result (λ set. Fetched name.now (count_tree asked) (seated seat.old) (states W.meaning slots.old.items)
+        (map string_bytes set.names.items) (map tuple set.rows.items) (seated seat.new) (states W.meaning slots.new.items)) }
+    ensures err { IfErr result (λ c. NotFetched name.now (seated seat.old) (states W.meaning slots.old.items) c (seated seat.new)
+        (states W.meaning slots.new.items)) }
+{
+    running_is_held();
+    services_join();
+    let Some(place) = position(&seat.cursors, name) else {
+        return Err(Cause::InvalidCursorName);
+    };
+    let Ok(names) = copy_names(alloc, &seat.cursors[place].names) else {
+        return Err(Cause::OutOfMemory);
+    };
+    match fetch(&mut seat.cursors[place].run, slots, alloc, asked) {
+        Ok(rows) => Ok(RowSet { names, rows }),
+        Err(fault) => {
+            close_cursor(seat.cursors.remove(place), slots);
+            Err(cause_of(fault))
+        }
+    }
+}
+
+// Closes a cursor, which is gone then. Where there is none of the name, nothing is done.
+pub(crate) fn end_cursor<W: Wrapper>(
+    seat: &mut Seat,
+    slots: &mut Vec<Option<W>>,
+    name: &str,
+) -> Result<(), Cause>
+    requires { IsSoundSeat (states W.meaning slots.old.items) (seated seat.old) }
+    ensures ok { OnOk result (Ended name.now (seated seat.old) (states W.meaning slots.old.items) (seated seat.new)
+        (states W.meaning slots.new.items)) }
+    ensures err { IfErr result (λ c. NotEnded name.now (seated seat.old) (states W.meaning slots.old.items) c (seated seat.new)
+        (states W.meaning slots.new.items)) }
+{
+    running_is_held();
+    match take(&mut seat.cursors, name) {
+        Some(cursor) => {
+            close_cursor(cursor, slots);
+            Ok(())
+        }
+        None => Err(Cause::InvalidCursorName),
+    }
+}
