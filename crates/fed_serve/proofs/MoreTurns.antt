@@ -1,10 +1,10 @@
 -- One connection more.
-use Rattle.std.proofs.Common.{◌≡◌, ℕ, Bool, true, false, List, [], ◌∷◌, ◌++◌, ◌&&◌, Option, Some, None, Result, Ok, Err, refl, sym, ap, ◌∙◌, subst, append_assoc, append-nil}
+use Rattle.std.proofs.Common.{◌≡◌, ℕ, Bool, true, false, List, [], ◌∷◌, ◌++◌, ◌&&◌, Option, Some, None, Ok, Err, refl, sym, ap, ◌∙◌, subst, append_assoc, append-nil}
 use Rattle.std.specs.Io.KnownBytes.{Appends}
 use Rattle.med_session.specs.World.{World}
 use Rattle.med_session.specs.Engine.{Shown, Agrees}
 use Rattle.fed_cli.specs.Exits.{Tells, TellsRun}
-use Rattle.fed_cli.specs.Streams.{Stream, stream}
+use Rattle.fed_cli.specs.Streams.{stream}
 use Rattle.fed_cli.specs.Told.{Came, told_of, run_line}
 use Rattle.fed_serve.specs.Kept.{KeepsServed}
 use Rattle.fed_serve.specs.Turns.{Turn, Moves, AreTaken, told_lines, input_of, output_of, ServesEach, AreServed}
@@ -52,10 +52,30 @@ tells_line : (came : Came) (told : Bool) (had new : Option (List ℕ)) → Tells
 tells_line (Ok done) told had new h e = subst (λ a. Appends had a []) (sym h.1) (Appends-nil had)
 tells_line (Err fault) told had new h e = h e
 
+-- a line that is told is not empty
+no_line : (came : Came) (told : Bool) (had new : Option (List ℕ)) → TellsRun came told (stream had new) → run_line came ≡ [] → (told ≡ true) × (new ≡ had)
+no_line (Ok done) told had new h e = h
+no_line (Err fault) told had new h e = absurd cc
+
+-- where two texts are empty together, both are
+both_empty : (xs ys : List ℕ) → xs ++ ys ≡ [] → (xs ≡ []) × (ys ≡ [])
+both_empty [] ys e = (refl, e)
+both_empty (x ∷ xs) ys e = absurd cc
+
+-- no line was told, and of one more none is
+quiet_more : {R W : Type 0} (ts : List (Turn R W)) (t : Turn R W) (so_far told : Bool) (had held has : Option (List ℕ))
+    → (told_lines ts ≡ [] → (so_far ≡ true) × (held ≡ had)) → TellsRun (told_of t.ended) told (stream held has)
+    → told_lines (ts ++ t ∷ []) ≡ [] → ((so_far && told) ≡ true) × (has ≡ had)
+quiet_more ts t so_far told had held has quiet tells e =
+    let both = both_empty (told_lines ts) (run_line (told_of t.ended)) (sym (told_more ts t) ∙ e) in
+    let first = quiet both.0 in
+    let second = no_line (told_of t.ended) told held has tells both.1 in
+    (ap (λ b. b && told) first.0 ∙ second.0, second.1 ∙ first.1)
+
 -- no connection is served yet
 pub served_none : {R W : Type 0} (remaining : R → Option (List ℕ)) (contents : W → Option (List ℕ)) (e : Shown) (had : Option (List ℕ))
     → AreServed {R = R} {W = W} remaining contents e [] e true (stream had had)
-served_none remaining contents e had = record { worlds = λ w agrees. (w, (refl, refl), agrees); told = λ _. Appends-nil had }
+served_none remaining contents e had = record { worlds = λ w agrees. (w, (refl, refl), agrees); told = λ _. Appends-nil had; quiet = λ _. (refl, refl) }
 
 -- one more is served, and told
 pub served_more : {R W : Type 0} (remaining : R → Option (List ℕ)) (contents : W → Option (List ℕ)) (old mid new : Shown) (ts : List (Turn R W)) (t : Turn R W) (so_far told : Bool) (had held has : Option (List ℕ))
@@ -70,4 +90,5 @@ served_more remaining contents old mid new ts t so_far told had held has h kept 
   told =
       subst (λ l. Tells (so_far && told) (stream had has) l) (sym (told_more ts t))
       (tells_both so_far told had held has (told_lines ts) (run_line (told_of t.ended)) h.told (tells_line (told_of t.ended) told held has tells));
+  quiet = quiet_more ts t so_far told had held has h.quiet tells;
 }

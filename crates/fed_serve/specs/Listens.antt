@@ -9,6 +9,7 @@ use Rattle.std.specs.declared.net.socket_addr.SocketAddr.{SocketAddr}
 use Rattle.med_session.specs.Engine.{Shown}
 use Rattle.fed_cli.specs.Streams.{Stream, IsUntouched}
 use Rattle.fed_serve.specs.Turns.{Turn, AreServed}
+use Rattle.fed_serve.specs.declared.turns.AcceptFault.{AcceptFault}
 use Rattle.fed_serve.specs.declared.listening.ListenFault.{ListenFault}
 use Rattle.fed_serve.specs.declared.listening.ListenFault.TheVariants as faults
 
@@ -19,6 +20,11 @@ IsLocal address = (ip : Ipv4Addr) × (socket_ip address ≡ V4 ip) × (ipv4_octe
 -- the line that tells a port
 abbrev pub port_line : ℕ → List ℕ
 port_line port = codes "fedq: listening on 127.0.0.1:" ++ decimal port ++ codes "\n"
+
+-- what it came to that the connections to a port were served
+abbrev pub listened : Result (Unit {0}) AcceptFault → Result (Unit {0}) ListenFault
+listened (Ok done) = Ok done
+listened (Err fault) = Err faults.Accept
 
 -- the engine is as it was, and no connection was taken, of which anything could be told
 abbrev pub ServesNone : Shown → Shown → Bool → Stream → Type 0

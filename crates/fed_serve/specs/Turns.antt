@@ -1,9 +1,9 @@
 -- Connections that are served one after the other.
-use Rattle.std.specs.Prelude.{◌≡◌, ◌<◌, ℕ, Bool, List, [], ◌∷◌, ◌++◌, Option, Result, Ok, Err}
+use Rattle.std.specs.Prelude.{◌≡◌, ◌<◌, ℕ, Bool, true, List, [], ◌∷◌, ◌++◌, Option, Result, Ok, Err}
 use Rattle.med_session.specs.World.{World}
 use Rattle.med_session.specs.Engine.{Shown, Agrees}
 use Rattle.fed_cli.specs.Exits.{Tells}
-use Rattle.fed_cli.specs.Streams.{Stream, stream}
+use Rattle.fed_cli.specs.Streams.{Stream, stream, IsUntouched}
 use Rattle.fed_cli.specs.Told.{told_of, run_line}
 use Rattle.fed_cli.specs.declared.stream.Ended.{Ended}
 use Rattle.fed_cli.specs.declared.stream.StreamFault.{StreamFault}
@@ -56,8 +56,9 @@ told_lines [] = []
 told_lines (t ∷ ts) = run_line (told_of t.ended) ++ told_lines ts
 
 -- These connections were served by an engine that shows this before and that after, from each world that agrees with it to one that does.
--- Where all could be told, standard error got their lines, and nothing else.
-pub record AreServed {R W : Type 0} (remaining : R → Option (List ℕ)) (contents : W → Option (List ℕ)) (old : Shown) (turns : List (Turn R W))
-    (new : Shown) (is_told : Bool) (errors : Stream) : Type 0 where
+-- Where all could be told, standard error got their lines, and nothing else; where no line is to be told, it got nothing.
+pub record AreServed {R W : Type 0} (remaining : R → Option (List ℕ)) (contents : W → Option (List ℕ)) (old : Shown)
+    (turns : List (Turn R W)) (new : Shown) (is_told : Bool) (errors : Stream) : Type 0 where
   pub worlds : (w : World) → Agrees old w → (after : World) × ServesEach remaining contents old w turns new after × Agrees new after
   pub told : Tells is_told errors (told_lines turns)
+  pub quiet : told_lines turns ≡ [] → (is_told ≡ true) × IsUntouched errors

@@ -3,7 +3,7 @@ ghost use Rattle.std.specs.Prelude.{◌≡◌, ◌<◌, IsTrue, IfErr};
 ghost use Rattle.std.specs.Io.KnownBytes.{Appends};
 ghost use Rattle.std.specs.Net.Socket.{socket_port};
 ghost use Rattle.fed_cli.specs.Streams.{stream};
-ghost use Rattle.fed_serve.specs.Listens.{IsLocal, Listens, port_line};
+ghost use Rattle.fed_serve.specs.Listens.{IsLocal, Listens, listened, port_line};
 ghost use Rattle.med_session.specs.Engine.{IsSound};
 ghost use Rattle.med_session.specs.Shows.{shown};
 
@@ -26,16 +26,6 @@ pub enum ListenFault {
     /// No connection could be taken.
     #[error("accept fault")]
     Accept,
-}
-
-impl From<AcceptFault> for ListenFault {
-    ghost use Rattle.fed_serve.specs.declared.listening.ListenFault.TheVariants as faults;
-
-    ghost from_gives = { λ _ fault. fault ≡ faults.Accept };
-
-    fn from(_: AcceptFault) -> Self {
-        ListenFault::Accept
-    }
 }
 
 /// The connections to a port. What is taken, and what a connection gives, is the peers' doing: nothing is promised of it.
@@ -127,7 +117,7 @@ pub fn listen_and_serve<B: Wrapper, V: AllocGlobal + Net, O: Write, E: Write>(
     }
     let kept = serve_connections(rt.alloc(), engine, &mut listening, count, errors);
     Kept {
-        came: kept.came.map_err(ListenFault::from),
+        came: listened(kept.came),
         is_told: kept.is_told,
         engine: kept.engine,
     }
@@ -138,4 +128,14 @@ fn tell_port<O: Write>(port: u16, output: &mut O) -> bool
     ensures { IsTrue result → Appends (O.contents output.old) (O.contents output.new) (port_line port) }
 {
     writeln!(output, "fedq: listening on 127.0.0.1:{port}").is_ok() && output.flush().is_ok()
+}
+
+// What it came to that the connections to a port were served.
+fn listened(came: Result<(), AcceptFault>) -> Result<(), ListenFault>
+    ensures { result ≡ listened came }
+{
+    match came {
+        Ok(()) => Ok(()),
+        Err(_) => Err(ListenFault::Accept),
+    }
 }

@@ -53,7 +53,7 @@ pub trait Connections {
 pub struct Kept<B, F> {
     /// All were served, or why not.
     pub came: Result<(), F>,
-    /// Whether all that was to be told could be written.
+    /// Whether all that was to be told of connections could be written.
     pub is_told: bool,
     /// The engine that served them.
     pub engine: Engine<B>,

@@ -1,4 +1,4 @@
-use Rattle.std.proofs.Common.{◌≡◌, ◌+◌, [], ◌∷◌, ◌++◌, refl, ap, ◌∙◌, length-append}
+use Rattle.std.proofs.Common.{◌+◌, [], ◌∷◌, ◌++◌, refl, ap, ◌∙◌, length-append}
 use Rattle.fed_serve.specs.Turns.{Turn}
 use Rattle.fed_serve.proofs.MoreTurns.{taken_more, served_none, served_more}
 use Rattle.fed_serve.proofs.turns.serve_connections.Goals as goal
