@@ -4,12 +4,12 @@ use Rattle.std.specs.List.{before_first, after_first, list_all}
 use Rattle.med_catalog.specs.declared.kind.SourceKind.{SourceKind}
 use Rattle.med_catalog.specs.declared.kind.SourceKind.TheVariants as sources
 use Rattle.source_kinds.specs.Databases.{is_memory}
-use Rattle.fed_cli.specs.Names.{IsSourceName}
-use Rattle.fed_cli.specs.declared.places.AskedPlace.{AskedPlace}
-use Rattle.fed_cli.specs.declared.places.PlaceFault.{PlaceFault}
-use Rattle.fed_cli.specs.declared.places.PlaceFault.TheVariants.{NoPath, BadName, NoMemory}
-use Rattle.fed_cli.specs.declared.places.PlaceKind.{PlaceKind}
-use Rattle.fed_cli.specs.declared.places.PlaceKind.TheVariants.{Csv, JsonLines, Sqlite}
+use Rattle.fed_words.specs.Names.{IsSourceName}
+use Rattle.fed_words.specs.declared.places.AskedPlace.{AskedPlace}
+use Rattle.fed_words.specs.declared.places.PlaceFault.{PlaceFault}
+use Rattle.fed_words.specs.declared.places.PlaceFault.TheVariants.{NoPath, BadName, NoMemory}
+use Rattle.fed_words.specs.declared.places.PlaceKind.{PlaceKind}
+use Rattle.fed_words.specs.declared.places.PlaceKind.TheVariants.{Csv, JsonLines, Sqlite}
 
 -- what stands at a place, the name of the source that it is to be, and its path
 pub record Place : Type 0 where

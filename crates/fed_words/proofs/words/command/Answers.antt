@@ -2,8 +2,8 @@ use Rattle.std.proofs.Common.{◌≡◌, ◌∙◌, ◌||◌, Bool, true, false,
 use Rattle.std.proofs.lemmas.Result.{IfOk-weaker}
 use Rattle.clap.specs.Simple.{app_of_fields}
 use Rattle.clap.specs.Words.{App, app_of, with_rule, with_subcommand}
-use Rattle.fed_cli.specs.CommandLine.{run_command, fedq_command}
-use Rattle.fed_cli.proofs.words.command.Goals as goal
+use Rattle.fed_words.specs.CommandLine.{run_command, fedq_command}
+use Rattle.fed_words.proofs.words.command.Goals as goal
 
 or_false : (a b : Bool) → a ≡ false → b ≡ false → (a || b) ≡ false
 or_false false false p q = refl

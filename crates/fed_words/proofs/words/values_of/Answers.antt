@@ -1,8 +1,8 @@
 use Rattle.std.proofs.Common.{[], unwrap_or, ap, ◌∙◌}
 use Rattle.clap.specs.Words.{found_of}
 use Rattle.clap.proofs.WalkLemmas.{raw_values-rows}
-use Rattle.fed_cli.proofs.Parsed.{values_of_met}
-use Rattle.fed_cli.proofs.words.values_of.Goals as goal
+use Rattle.fed_words.proofs.Parsed.{values_of_met}
+use Rattle.fed_words.proofs.words.values_of.Goals as goal
 
 pub returns-in-Some : goal.returns-in-Some
 returns-in-Some c =

@@ -3,16 +3,16 @@ use Rattle.std.specs.Prelude.{◌≡◌, ◌≢◌, ◌⊎◌, ◌++◌, ℕ, Li
 use Rattle.clap.specs.Words.{Text, IsAmong}
 use Rattle.clap.specs.declared.error.ErrorKind.{ErrorKind}
 use Rattle.clap.specs.declared.error.ErrorKind.TheVariants.{OutOfMemory}
-use Rattle.fed_cli.specs.Places.{Place, place_of, place_in, AreGood, AreRefused}
-use Rattle.fed_cli.specs.Names.{IsSourceName}
-use Rattle.fed_cli.specs.declared.places.PlaceFault.{PlaceFault}
-use Rattle.fed_cli.specs.declared.places.PlaceFault.TheVariants as places
-use Rattle.fed_cli.specs.declared.places.PlaceKind.TheVariants as kinds
-use Rattle.fed_cli.specs.CommandLine.{faults, owner_named, list_named, init_named, IsHelp}
-use Rattle.fed_cli.specs.CommandLine.{csv_given, jsonl_given, sqlite_given, places_given}
-use Rattle.fed_cli.specs.declared.words.Asked.{Asked}
-use Rattle.fed_cli.specs.declared.words.WordsFault.{WordsFault}
-use Rattle.fed_cli.specs.declared.words.WordsFault.TheVariants.{Help, Usage, NoPath, BadName, NoMemory}
+use Rattle.fed_words.specs.Places.{Place, place_of, place_in, AreGood, AreRefused}
+use Rattle.fed_words.specs.Names.{IsSourceName}
+use Rattle.fed_words.specs.declared.places.PlaceFault.{PlaceFault}
+use Rattle.fed_words.specs.declared.places.PlaceFault.TheVariants as places
+use Rattle.fed_words.specs.declared.places.PlaceKind.TheVariants as kinds
+use Rattle.fed_words.specs.CommandLine.{faults, owner_named, list_named, init_named, IsHelp}
+use Rattle.fed_words.specs.CommandLine.{csv_given, jsonl_given, sqlite_given, places_given}
+use Rattle.fed_words.specs.declared.words.Asked.{Asked}
+use Rattle.fed_words.specs.declared.words.WordsFault.{WordsFault}
+use Rattle.fed_words.specs.declared.words.WordsFault.TheVariants.{Help, Usage, NoPath, BadName, NoMemory}
 
 -- how a parse that failed by a kind is told: help where it was asked, else the mistake; want of memory may take the place of each
 abbrev pub IsRefusal : ErrorKind → WordsFault → Type 0

@@ -1,5 +1,5 @@
-use Rattle.fed_cli.proofs.PlaceValues.{good_both, refused_first, refused_behind}
-use Rattle.fed_cli.proofs.words.places_of.Goals as goal
+use Rattle.fed_words.proofs.PlaceValues.{good_both, refused_first, refused_behind}
+use Rattle.fed_words.proofs.words.places_of.Goals as goal
 
 -- a value of CSV files is not taken
 pub returns-in-Err-clause-bad : goal.returns-in-Err-clause-bad

@@ -1,7 +1,7 @@
 use Rattle.std.proofs.Common.{◌≡◌, ◌++◌, map, drop}
-use Rattle.fed_cli.specs.Places.{AreGood, AreRefused, place_in, place_of}
-use Rattle.fed_cli.specs.declared.places.PlaceFault.{PlaceFault}
-use Rattle.fed_cli.proofs.places.read_places.Given as goal
+use Rattle.fed_words.specs.Places.{AreGood, AreRefused, place_in, place_of}
+use Rattle.fed_words.specs.declared.places.PlaceFault.{PlaceFault}
+use Rattle.fed_words.proofs.places.read_places.Given as goal
 
 -- what is read of the values left is what is read of all
 abbrev pub invariant-loop-value : goal.invariant-loop-value

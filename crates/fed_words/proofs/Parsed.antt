@@ -5,13 +5,13 @@ use Rattle.clap.specs.declared.ArgMatches.{ArgMatches}
 use Rattle.clap.specs.declared.error.ErrorKind.{ErrorKind}
 use Rattle.clap.specs.declared.error.ErrorKind.TheVariants.{OutOfMemory}
 use Rattle.clap.proofs.OnLiterals.{clap_on_literals}
-use Rattle.fed_cli.specs.CommandLine.{command_line, faults, value_in, value_given, values_in, values_given, IsHelp}
-use Rattle.fed_cli.specs.Names.{IsSourceName}
-use Rattle.fed_cli.specs.Words.{Reads, IsRefusal, HasBadPlace, told_place}
-use Rattle.fed_cli.specs.declared.places.PlaceFault.{PlaceFault}
-use Rattle.fed_cli.specs.declared.places.PlaceFault.TheVariants as places
-use Rattle.fed_cli.specs.declared.words.WordsFault.{WordsFault}
-use Rattle.fed_cli.specs.declared.words.WordsFault.TheVariants.{Help, Usage, NoPath, BadName, NoMemory}
+use Rattle.fed_words.specs.CommandLine.{command_line, faults, value_in, value_given, values_in, values_given, IsHelp}
+use Rattle.fed_words.specs.Names.{IsSourceName}
+use Rattle.fed_words.specs.Words.{Reads, IsRefusal, HasBadPlace, told_place}
+use Rattle.fed_words.specs.declared.places.PlaceFault.{PlaceFault}
+use Rattle.fed_words.specs.declared.places.PlaceFault.TheVariants as places
+use Rattle.fed_words.specs.declared.words.WordsFault.{WordsFault}
+use Rattle.fed_words.specs.declared.words.WordsFault.TheVariants.{Help, Usage, NoPath, BadName, NoMemory}
 
 -- the rows of the subcommand that was met
 pub value_of_met : (option : Text) (o : Option (Text × List Row)) (rows : List Row) → Some rows ≡ option_map (λ p. p.1) o → first_of option rows ≡ value_in option o

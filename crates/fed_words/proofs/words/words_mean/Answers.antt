@@ -3,8 +3,8 @@ use Rattle.std.specs.Str.{bytes_eq}
 use Rattle.clap.specs.Lexer.{strip_byte}
 use Rattle.clap.specs.Words.{Text}
 use Rattle.clap.proofs.OnLiterals.{clap_on_literals}
-use Rattle.fed_cli.specs.CommandLine.{faults, owner_named, list_named, csv_given, jsonl_given, sqlite_given, init_named}
-use Rattle.fed_cli.proofs.words.words_mean.Goals as goal
+use Rattle.fed_words.specs.CommandLine.{faults, owner_named, list_named, csv_given, jsonl_given, sqlite_given, init_named}
+use Rattle.fed_words.proofs.words.words_mean.Goals as goal
 
 pub returns-clause-alone : goal.returns-clause-alone
 unfolding clap_on_literals

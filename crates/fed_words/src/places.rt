@@ -1,6 +1,6 @@
 //! The folders and databases that the program's words name as sources, each with its place.
 ghost use Rattle.std.specs.Prelude.{◌≡◌, ◌++◌, IfOk, IfErr, OnOk, map};
-ghost use Rattle.fed_cli.specs.Places.{AreGood, AreRefused, IsGood, IsRefused, place_in, place_of, source_kind};
+ghost use Rattle.fed_words.specs.Places.{AreGood, AreRefused, IsGood, IsRefused, place_in, place_of, source_kind};
 
 use crate::words::is_source_name;
 use med_catalog::SourceKind;

@@ -1,10 +1,10 @@
 use Rattle.std.proofs.Common.{◌≡◌, ◌∙◌, true, false, List, ◌++◌, map, codes, refl, sym, subst, ap₂, inl, inr}
 use Rattle.clap.specs.Words.{Text, kind_of}
-use Rattle.fed_cli.specs.Places.{Place, AreGood, AreRefused, place_in}
-use Rattle.fed_cli.specs.Names.{IsSourceName}
-use Rattle.fed_cli.specs.declared.places.PlaceKind.TheVariants.{Csv, JsonLines, Sqlite}
-use Rattle.fed_cli.proofs.Parsed.{no_faults, given, all_given, refused, owner_of, list_is_good, place_refused}
-use Rattle.fed_cli.proofs.words.read_words.Goals as goal
+use Rattle.fed_words.specs.Places.{Place, AreGood, AreRefused, place_in}
+use Rattle.fed_words.specs.Names.{IsSourceName}
+use Rattle.fed_words.specs.declared.places.PlaceKind.TheVariants.{Csv, JsonLines, Sqlite}
+use Rattle.fed_words.proofs.Parsed.{no_faults, given, all_given, refused, owner_of, list_is_good, place_refused}
+use Rattle.fed_words.proofs.words.read_words.Goals as goal
 
 -- the words were not taken
 pub returns-in-Err : goal.returns-in-Err

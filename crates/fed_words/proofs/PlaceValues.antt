@@ -1,7 +1,7 @@
 -- Values of places, those of one option behind those of another.
 use Rattle.std.proofs.Common.{ℕ, List, [], ◌∷◌, ◌++◌, inl, inr}
-use Rattle.fed_cli.specs.Places.{AreGood, AreRefused}
-use Rattle.fed_cli.specs.declared.places.PlaceFault.{PlaceFault}
+use Rattle.fed_words.specs.Places.{AreGood, AreRefused}
+use Rattle.fed_words.specs.declared.places.PlaceFault.{PlaceFault}
 
 pub good_both : (xs ys : List (List ℕ)) → AreGood xs → AreGood ys → AreGood (xs ++ ys)
 good_both [] ys p q = q
