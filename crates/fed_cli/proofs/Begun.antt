@@ -9,16 +9,16 @@ use Rattle.fed_replay.specs.declared.script.ScriptFault.{ScriptFault}
 use Rattle.fed_replay.specs.declared.script.ScriptFault.TheVariants as scripts
 use Rattle.med_session.specs.declared.adding.Sources.{Sources}
 use Rattle.fed_cli.specs.Exits.{Runs, Exits, ExitsBy, on_words}
-use Rattle.fed_cli.specs.Places.{are_honest}
+use Rattle.fed_words.specs.Places.{are_honest}
 use Rattle.fed_cli.specs.Setup.{IsFirst, HasNoFirst, ReadsNot, IsReadOf, ReplaysInit, BeginsNot, list_asked}
 use Rattle.fed_cli.specs.Streams.{Stream, IsUntouched}
 use Rattle.fed_cli.specs.Told.{Came, replay_told}
-use Rattle.fed_cli.specs.Words.{places_asked}
+use Rattle.fed_words.specs.Words.{places_asked}
 use Rattle.fed_cli.specs.declared.program.ArgsFault.{ArgsFault}
 use Rattle.fed_cli.specs.declared.program.Exit.{Exit}
 use Rattle.fed_cli.specs.declared.told.RunFault.{RunFault}
 use Rattle.fed_cli.specs.declared.told.RunFault.TheVariants as faults
-use Rattle.fed_cli.specs.declared.words.Asked.{Asked}
+use Rattle.fed_words.specs.declared.words.Asked.{Asked}
 
 -- a script that is there was replayed
 pub replays_script : (o : Option (Vec ℕ Global)) (v : Vec ℕ Global) (bytes owner : List ℕ) (result : Result ℕ ScriptFault) (came : Came) (first after : Scene)

@@ -1,7 +1,7 @@
 -- The engine that a program begins with, and the demo list in it.
 use Rattle.std.proofs.Common.{◌≡◌, ◌≢◌, arith, ℕ, Bool, true, false, List, [], ◌∷◌, ◌++◌, ◌||◌, ◌&&◌, length, Option, Some, None, option_map, Result, Ok, Err, OnOk, IfErr, Bor, refl, sym, ap, ◌∙◌, subst, inl, inr}
 use Rattle.fdw_api.specs.Kinds.{Kind}
-use Rattle.fdw_api.specs.State.{BoxState, IsIdle, is_honest}
+use Rattle.fdw_api.specs.State.{BoxState, is_honest}
 use Rattle.ddl_syntax.specs.DdlTree.{TableTree}
 use Rattle.med_value.specs.declared.cause.Cause.{Cause}
 use Rattle.med_value.specs.declared.cause.Cause.TheVariants.{InvalidOptionName}
@@ -30,13 +30,13 @@ use Rattle.fed_cli.specs.Demo.{demo_list, setup_script}
 use Rattle.fed_cli.specs.Setup.{over, empty_scene, HasList, HasPlaces, SetsUp, IsNewAt, IsNewPlace, AddsPlace, AddsPlaces, AddsNoDemo, IsNotAdded, AreNotAdded, IsFirst, HasNoFirst, HasListAsked, IsSetUp, IsNotSetUp, SetUpFails, list_asked, list_label, labels_before, place_label}
 use Rattle.sqlite_wrapper.specs.Kinds.{sqlite_kind}
 use Rattle.source_kinds.specs.Databases.{by_path, is_memory}
-use Rattle.fed_cli.specs.Places.{Place, place_of, source_kind, is_honest_place, are_honest}
+use Rattle.fed_words.specs.Places.{Place, place_of, source_kind, is_honest_place, are_honest}
 use Rattle.fed_cli.specs.Told.{Came, added_of, setup_told}
-use Rattle.fed_cli.specs.Words.{places_asked}
-use Rattle.fed_cli.specs.declared.places.AskedPlace.{AskedPlace}
-use Rattle.fed_cli.specs.declared.places.PlaceKind.{PlaceKind}
-use Rattle.fed_cli.specs.declared.places.PlaceKind.TheVariants.{Csv, JsonLines, Sqlite}
-use Rattle.fed_cli.specs.declared.words.Asked.{Asked}
+use Rattle.fed_words.specs.Words.{places_asked}
+use Rattle.fed_words.specs.declared.places.AskedPlace.{AskedPlace}
+use Rattle.fed_words.specs.declared.places.PlaceKind.{PlaceKind}
+use Rattle.fed_words.specs.declared.places.PlaceKind.TheVariants.{Csv, JsonLines, Sqlite}
+use Rattle.fed_words.specs.declared.words.Asked.{Asked}
 use Rattle.fed_cli.specs.declared.told.RunFault.{RunFault}
 use Rattle.fed_cli.specs.declared.told.RunFault.TheVariants as faults
 

@@ -6,7 +6,7 @@ use Rattle.med_session.specs.Engine.{Shown, Agrees}
 use Rattle.session_wire.specs.Worlds.{SceneSteps, SceneEnds}
 use Rattle.fed_cli.specs.Streams.{Stream}
 use Rattle.fed_cli.specs.Served.{Serves}
-use Rattle.fed_cli.specs.Places.{Place}
+use Rattle.fed_words.specs.Places.{Place}
 use Rattle.fed_cli.specs.Setup.{Begins}
 use Rattle.fed_cli.specs.declared.stream.Ended.{Ended}
 use Rattle.fed_cli.specs.declared.stream.StreamFault.{StreamFault}

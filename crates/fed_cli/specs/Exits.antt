@@ -7,20 +7,21 @@ use Rattle.med_exec.specs.Slots.{states}
 use Rattle.med_session.specs.Engine.{EachBox, IsAtRest}
 use Rattle.med_session.specs.declared.adding.Sources.{Sources}
 use Rattle.fed_cli.specs.Answered.{ServesProgram}
-use Rattle.fed_cli.specs.Places.{are_honest}
+use Rattle.fed_words.specs.Places.{are_honest}
 use Rattle.fed_cli.specs.Setup.{BeginsNot, IsReadOf, list_asked}
 use Rattle.fed_cli.specs.Streams.{Stream, IsUntouched}
-use Rattle.fed_cli.specs.Told.{Came, told_of, run_status, run_line, words_status, words_text}
-use Rattle.fed_cli.specs.Words.{Reads, places_asked}
+use Rattle.fed_cli.specs.Told.{Came, told_of, run_status, run_line}
+use Rattle.fed_words.specs.Told.{words_status, words_text}
+use Rattle.fed_words.specs.Words.{Reads, places_asked}
 use Rattle.fed_cli.specs.declared.program.ArgsFault.{ArgsFault}
 use Rattle.fed_cli.specs.declared.program.ArgsFault.TheVariants as args
 use Rattle.fed_cli.specs.declared.program.Exit.{Exit}
 use Rattle.fed_cli.specs.declared.stream.Ended.{Ended}
 use Rattle.fed_cli.specs.declared.stream.StreamFault.{StreamFault}
 use Rattle.fed_cli.specs.declared.told.RunFault.{RunFault}
-use Rattle.fed_cli.specs.declared.words.Asked.{Asked}
-use Rattle.fed_cli.specs.declared.words.WordsFault.{WordsFault}
-use Rattle.fed_cli.specs.declared.words.WordsFault.TheVariants.{Help, Usage, NoPath, BadName, NoMemory}
+use Rattle.fed_words.specs.declared.words.Asked.{Asked}
+use Rattle.fed_words.specs.declared.words.WordsFault.{WordsFault}
+use Rattle.fed_words.specs.declared.words.WordsFault.TheVariants.{Help, Usage, NoPath, BadName, NoMemory}
 
 -- A run came to this, and these bytes of its init file were read. Where no sources are handed back it did not begin: nothing was read or
 -- written. Else the input was served. What was answered, and why it did not begin, is said where every source is honest: then standard

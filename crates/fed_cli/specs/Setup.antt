@@ -19,12 +19,12 @@ use Rattle.fed_replay.specs.declared.script.ScriptFault.{ScriptFault}
 use Rattle.fed_replay.specs.declared.script.ScriptFault.TheVariants as scripts
 use Rattle.fed_cli.specs.Demo.{demo_list, setup_script}
 use Rattle.source_kinds.specs.Databases.{IsNewDatabase}
-use Rattle.fed_cli.specs.Places.{Place, source_kind, are_honest, is_honest_place}
+use Rattle.fed_words.specs.Places.{Place, source_kind, are_honest, is_honest_place}
 use Rattle.fed_cli.specs.Told.{Came, replay_told}
-use Rattle.fed_cli.specs.Words.{places_asked}
-use Rattle.fed_cli.specs.declared.places.PlaceKind.{PlaceKind}
-use Rattle.fed_cli.specs.declared.places.PlaceKind.TheVariants.{Csv, JsonLines, Sqlite}
-use Rattle.fed_cli.specs.declared.words.Asked.{Asked}
+use Rattle.fed_words.specs.Words.{places_asked}
+use Rattle.fed_words.specs.declared.places.PlaceKind.{PlaceKind}
+use Rattle.fed_words.specs.declared.places.PlaceKind.TheVariants.{Csv, JsonLines, Sqlite}
+use Rattle.fed_words.specs.declared.words.Asked.{Asked}
 use Rattle.fed_cli.specs.declared.told.RunFault.{RunFault}
 use Rattle.fed_cli.specs.declared.told.RunFault.TheVariants as faults
 

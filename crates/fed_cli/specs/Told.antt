@@ -1,5 +1,5 @@
--- What the program tells at its end: its exit status, and its texts.
-use Rattle.std.specs.Prelude.{ℕ, List, [], ◌++◌, codes, decimal, Result, Ok, Err, string_bytes}
+-- What the program tells at the end of a run: its exit status, and its texts.
+use Rattle.std.specs.Prelude.{ℕ, List, [], ◌++◌, codes, decimal, Result, Ok, Err}
 use Rattle.std.specs.Borrow.{Bor}
 use Rattle.med_value.specs.Causes.{code_of, name_of}
 use Rattle.med_session.specs.declared.adding.AddFault.{AddFault}
@@ -12,8 +12,6 @@ use Rattle.fed_cli.specs.declared.stream.StreamFault.{StreamFault}
 use Rattle.fed_cli.specs.declared.stream.StreamFault.TheVariants as streams
 use Rattle.fed_cli.specs.declared.told.RunFault.{RunFault}
 use Rattle.fed_cli.specs.declared.told.RunFault.TheVariants as faults
-use Rattle.fed_cli.specs.declared.words.WordsFault.{WordsFault}
-use Rattle.fed_cli.specs.declared.words.WordsFault.TheVariants as words
 
 -- what a run came to
 abbrev pub Came : Type 0
@@ -70,19 +68,3 @@ run_status (Err fault) = 1
 abbrev pub run_line : Came → List ℕ
 run_line (Ok _) = []
 run_line (Err fault) = codes "fedq: " ++ fault_text fault ++ codes "\n"
-
--- the exit status of words that ask no run: 0 where help was asked, 1 for want of memory, else 2
-abbrev pub words_status : WordsFault → ℕ
-words_status (words.Help text) = 0
-words_status (words.Usage text) = 2
-words_status (words.NoPath value) = 2
-words_status (words.BadName name) = 2
-words_status words.NoMemory = 1
-
--- what is told of them
-abbrev pub words_text : WordsFault → List ℕ
-words_text (words.Help text) = string_bytes text
-words_text (words.Usage text) = string_bytes text
-words_text (words.NoPath value) = codes "fedq: NAME=PATH expected: " ++ value.now ++ codes "\n"
-words_text (words.BadName name) = codes "fedq: bad name: " ++ name.now ++ codes "\n"
-words_text words.NoMemory = codes "fedq: out of memory\n"

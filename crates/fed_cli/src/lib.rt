@@ -3,12 +3,10 @@
 
 pub mod demo;
 pub mod init;
-pub mod places;
 pub mod program;
 pub mod serving;
 pub mod stream;
 pub mod told;
-pub mod words;
 pub mod worlds;
 
 pub use stream::{Ended, StreamFault, serve_stream};

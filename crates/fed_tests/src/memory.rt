@@ -10,7 +10,7 @@ use crate::served::{ANSWER, STORED, counts_after, counts_at_end, demo_engine, de
 use fdw_api::interface::Counts;
 use fed_cli::program::run_asked;
 use fed_cli::told::RunFault;
-use fed_cli::words::Asked;
+use fed_words::words::Asked;
 use fed_cli::{StreamFault, serve_stream};
 use list_wrapper::ListWrapper;
 use med_session::{Engine, NoRoom, Request, Sid};

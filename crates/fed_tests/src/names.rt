@@ -1,6 +1,6 @@
 //! Names of sources.
 use crate::expect::same;
-use fed_cli::words::is_source_name;
+use fed_words::words::is_source_name;
 use std::test::Fail;
 
 // Fails at the first line that may name a source, or may not, against what is wanted.

@@ -1,5 +1,5 @@
 use Rattle.std.proofs.Common.{ap, map}
-use Rattle.fed_cli.specs.Places.{place_of}
+use Rattle.fed_words.specs.Places.{place_of}
 use Rattle.fed_cli.proofs.FirstEngines.{adds_more}
 use Rattle.fed_cli.proofs.program.+add_places.Goals as goal
 

@@ -1,6 +1,6 @@
 use Rattle.std.proofs.Common.{sym, subst}
 use Rattle.med_world.specs.Engine.{TakesAs}
-use Rattle.fed_cli.specs.Places.{place_of}
+use Rattle.fed_words.specs.Places.{place_of}
 use Rattle.fed_cli.proofs.FirstEngines.{place_added}
 use Rattle.fed_cli.proofs.program.add_place.Goals as goal
 

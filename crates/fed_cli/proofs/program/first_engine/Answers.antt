@@ -1,8 +1,8 @@
 use Rattle.std.proofs.Common.{ap, map}
 use Rattle.med_world.specs.World.{empty_world}
-use Rattle.fed_cli.specs.Places.{place_of}
+use Rattle.fed_words.specs.Places.{place_of}
 use Rattle.fed_cli.specs.Setup.{list_asked}
-use Rattle.fed_cli.specs.Words.{places_asked}
+use Rattle.fed_words.specs.Words.{places_asked}
 use Rattle.fed_cli.proofs.FirstEngines.{nothing_there, is_empty, first_made, adds_as, places_fail_as, set_up_fails}
 use Rattle.fed_cli.proofs.program.first_engine.Goals as goal
 

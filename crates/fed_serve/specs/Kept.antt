@@ -1,0 +1,23 @@
+-- What an engine is that served a stream and is kept.
+use Rattle.std.specs.Prelude.{◌≡◌, ℕ, List, [], Option, Result}
+use Rattle.med_session.specs.World.{World, without_sessions}
+use Rattle.med_session.specs.Engine.{Shown, Agrees}
+use Rattle.session_wire.specs.Worlds.{Scene, SceneSteps, SceneEnds}
+use Rattle.fed_cli.specs.Streams.{Stream}
+use Rattle.fed_cli.specs.Served.{Serves}
+use Rattle.fed_cli.specs.declared.stream.Ended.{Ended}
+use Rattle.fed_cli.specs.declared.stream.StreamFault.{StreamFault}
+
+-- this world, over what an engine shows of its boxes
+abbrev pub over : Shown → World → Scene
+over engine w = record { world = w; boxes = engine.boxes }
+
+-- A stream is served by an engine that shows this before and that after, from one world to another. What was read and written is that of a
+-- run, line by line over what the boxes show. The world that the run leads to, with its sessions ended, is the one that is left, and the
+-- engine stands for it.
+pub record KeepsServed (old new : Shown) (w after : World) (input output : Stream) (result : Result Ended StreamFault) : Type 0 where
+  pub last : World
+  pub left : Option (List ℕ)
+  pub serves : Serves SceneSteps SceneEnds (over old w) [] (over new last) left input output result
+  pub ended : after ≡ without_sessions last
+  pub agrees : Agrees new after

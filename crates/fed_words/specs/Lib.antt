@@ -1,0 +1,5 @@
+pub mod Names
+pub mod Places
+pub mod CommandLine
+pub mod Words
+pub mod Told
