@@ -4,6 +4,7 @@ An entry's key is the sum of all that a result rests on: the kit, HANDLES, the c
 edit's text. `check` runs this file where the toolchain's own gate has no store of its own, and hands itself in as `check`.
 """
 import argparse, json, os, re, shutil, subprocess, sys, tempfile, threading, time
+from concurrent.futures import ThreadPoolExecutor
 
 STORE = f"{os.environ.get('XDG_CACHE_HOME') or os.path.expanduser('~/.cache')}/fedq-check"
 rt, lib, where, data, digest, own, with_edits, TRIED, PROGRAM = (
@@ -119,19 +120,28 @@ class Gate:
         self.said[edit] = said
         self.ended(crate.name, "edits", f"{crate.name}/{os.path.basename(edit)}", "refused" if said[0] else "NOT REFUSED", kept, seconds)
 
+    def try_alone(self, crate, edit, alone, over, is_kept):
+        """Tries an edit over what was kept, and from nothing where that does not refuse it."""
+        said, seconds = alone(edit, over) if is_kept else ((False, ""), 0)
+        said, more = (said, 0) if said[0] else alone(edit)
+        self.tried_one(crate, edit, said, seconds + more)
+
     def edits(self, crate, good, flags):
         """Tries a crate's edits over one folder of kept work, as `rt ci` does: together, and then each that is left. From nothing is tried what is
-        not refused so, and all of them where the unedited crate is not proved over that folder."""
+        not refused so, and all of them where the unedited crate is not proved over that folder. Two are tried at a time."""
         for edit in good:
             if kept := self.recall(self.at_edit(crate, edit)):
                 self.tried_one(crate, edit, (True, f"{crate.name}/{os.path.basename(edit)}: refused (taken from the store)"), kept["seconds"], True)
         new, alone = [it for it in good if it not in self.said], lambda edit, *over: self.measured(edit, lambda: rt.must_fail(crate, edit, flags, *over))
         with tempfile.TemporaryDirectory(dir=self.room) as over:
             self.together(crate, new, over)
-            for edit in (it for it in new if it not in self.said):
-                said, seconds = alone(edit, over) if len(new) > 1 else ((False, ""), 0)
-                said, more = (said, 0) if said[0] else alone(edit)
-                self.tried_one(crate, edit, said, seconds + more)
+            left = [it for it in new if it not in self.said]
+            with tempfile.TemporaryDirectory(dir=self.room) as other, ThreadPoolExecutor(2) as workers:
+                if len(left) > 3:
+                    shutil.copytree(over, other, dirs_exist_ok=True)
+                rooms = [over, other] if len(left) > 3 else [over]
+                shares = [(room, left[number :: len(rooms)]) for number, room in enumerate(rooms)]
+                list(workers.map(lambda share: [self.try_alone(crate, it, alone, share[0], len(new) > 1) for it in share[1]], shares))
             sound, seconds = self.measured(crate.name, lambda: len(new) < 2 or not rt.checked(crate, {}, flags, over).returncode)
             self.times[crate.name, "edits"] = self.times.get((crate.name, "edits"), 0) + seconds
         for edit in [] if sound else new:

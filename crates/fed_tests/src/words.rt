@@ -4,7 +4,6 @@ use crate::served::{ANSWER, STORED, counts_after};
 use fdw_api::interface::{Counts, Wrapper};
 use fed_cli::program::{Exit, run_words};
 use med_exec::ledger_at;
-use source_kinds::Source;
 use sqlite_databases::Databases;
 use std::alloc::Global;
 use std::io;
@@ -32,14 +31,15 @@ fn counts_of<W: Wrapper>(exit: &Exit<W>) -> Option<Counts> {
     }
 }
 
-// Fails where the stored stream under these words ends, answers or tells otherwise; of an output its beginning is given.
+// Fails where the stored stream under these words ends, answers or tells otherwise; of an output its beginning is given. What its sources
+// count is answered.
 fn exits<V: AllocGlobal + Files + Clone + Databases + Drop>(
     rt: &V,
     line: &str,
     status: u8,
     output: &[u8],
     errors: &[u8],
-) -> Result<Exit<Source<V>>, Fail> {
+) -> Result<Option<Counts>, Fail> {
     let alloc = rt.alloc();
     let words = words_of(alloc, line)?;
     let mut input = STORED;
@@ -54,16 +54,16 @@ fn exits<V: AllocGlobal + Files + Clone + Databases + Drop>(
         &(written.is_empty(), told.is_empty()),
         &(output.is_empty(), errors.is_empty()),
     )?;
-    Ok(exit)
+    Ok(counts_of(&exit))
 }
 
 #[test]
 fn run_answers_and_hands_the_sources_back(rt: HostRuntime) -> Result<(), Fail> {
-    let exit = exits(&rt, "fedq run --list demo", 0, ANSWER, b"")?;
-    same("one scan", &counts_of(&exit), &counts_after(1))?;
+    let counts = exits(&rt, "fedq run --list demo", 0, ANSWER, b"")?;
+    same("one scan", &counts, &counts_after(1))?;
     let none = b"1 T OPEN\n1 E 42P01 undefined_table\n";
-    let exit = exits(&rt, "fedq run", 0, none, b"")?;
-    same("no source", &counts_of(&exit), &None)
+    let counts = exits(&rt, "fedq run", 0, none, b"")?;
+    same("no source", &counts, &None)
 }
 
 #[test]
@@ -86,26 +86,26 @@ fn other_words_answer_nothing(rt: HostRuntime) -> Result<(), Fail> {
         b"",
         b"fedq: bad name: user\n",
     )?;
-    let exit = exits(
+    let counts = exits(
         &rt,
         "fedq run --other",
         2,
         b"",
         b"error: unexpected argument '--other' found\n",
     )?;
-    same("no source", &counts_of(&exit), &None)
+    same("no source", &counts, &None)
 }
 
 #[test]
 fn init_that_is_not_there_answers_nothing(rt: HostRuntime) -> Result<(), Fail> {
-    let exit = exits(
+    let counts = exits(
         &rt,
         "fedq run --owner ann --list demo --init no/such.sql",
         1,
         b"",
         b"fedq: cannot read init no/such.sql\n",
     )?;
-    same("no source", &counts_of(&exit), &None)
+    same("no source", &counts, &None)
 }
 
 // Takes nothing.
