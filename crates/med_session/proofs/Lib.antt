@@ -4,3 +4,4 @@ mod AddingLists
 mod Tables
 mod Seats
 mod CursorLists
+mod Turns
