@@ -1,5 +1,4 @@
 mod Leading
-mod Telling
 mod AddingLists
 mod Tables
 mod Seats

@@ -10,7 +10,7 @@ use Rattle.open_cursors.specs.Open.{Opened, Seated, seated, seats_shown}
 use Rattle.med_parser.specs.CommandTree.{CommandTree, on_cursors}
 use Rattle.med_syntax.specs.Tree.{Name}
 use Rattle.med_world.specs.Engine.{Shown, IsSound}
-use Rattle.med_world.specs.Laws.{IsRead}
+use Rattle.med_world.specs.Laws.{IsRead, with_boxes, with_seats}
 use Rattle.med_world.specs.Seats.{seat_in, seat_of, user_of, IsSoundSeat}
 use Rattle.med_world.specs.Turning.{with_cursors}
 use Rattle.med_session.specs.Cursors.{having}
@@ -93,6 +93,17 @@ has_seat seats sid user e = go (seat_of seats sid) e
     go : (o : Option Seated) → Some user ≡ option_map (λ (s : Seated). s.user) o → IsSome o
     go None is = absurd cc
     go (Some s) is = refl
+
+-- a seat that was taken out, and its cursors closed
+pub vacated : (e : Shown) (sid : ℕ) (left : List (Option Seated)) (boxes : List (Option BoxState)) → left ≡ slice_set e.seats (sid - 1) None → record e { seats = left; boxes = boxes } ≡ with_boxes (with_seats e (slice_set e.seats (sid - 1) None)) boxes
+vacated e sid left boxes l = ap (λ (x : List (Option Seated)). record e { seats = x; boxes = boxes }) l
+
+pub shut : (e : Shown) (sid : ℕ) (left : List (Option Seated)) → left ≡ slice_set e.seats (sid - 1) None → record e { seats = left } ≡ with_seats e (slice_set e.seats (sid - 1) None)
+shut e sid left l = ap (λ (x : List (Option Seated)). with_seats e x) l
+
+-- where the session was closed, all is as it was
+pub left_shut : (e : Shown) (sid : ℕ) (left : List (Option Seated)) → seat_of e.seats sid ≡ None → left ≡ slice_set e.seats (sid - 1) None → record e { seats = left } ≡ e
+left_shut e sid left none l = ap (λ (x : List (Option Seated)). with_seats e x) (l ∙ set_none e.seats (sid - 1) none)
 
 -- ---- what the calls ask
 

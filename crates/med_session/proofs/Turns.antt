@@ -1,4 +1,4 @@
--- A FETCH that gave rows, which are not told.
+-- A FETCH that gave rows, which may not be told.
 use Rattle.std.proofs.Common.{◌≡◌, ℕ, ◌-◌, List, Option, Some, is_some, slice_set, refl, ap, sym, ◌∙◌, subst}
 use Rattle.med_value.specs.Datum.{Tuple}
 use Rattle.med_value.specs.declared.cause.Cause.{Cause}
@@ -19,7 +19,9 @@ use Rattle.med_world.specs.Seats.{seat_of}
 use Rattle.med_world.specs.Engine.{Shown, IsSound, Leads}
 use Rattle.med_world.specs.Laws.{IsRead}
 use Rattle.med_world.specs.Turning.{with_cursors, Ends, later}
-use Rattle.med_session.specs.Cursors.{having, Fetched, HasCursor, LosesCursor, MayBeUntold}
+use Rattle.med_session.specs.Cursors.{having, Fetched, HasCursor, LosesCursor, MayBeUntold, IfFetched}
+use Rattle.med_session.specs.declared.replies.Outcome.{Outcome}
+use Rattle.med_session.specs.declared.replies.Outcome.TheVariants as outcome
 use Rattle.med_session.proofs.Seats.{set_twice, seat_put}
 use Rattle.med_session.proofs.CursorLists.{named_runs, without_runs}
 
@@ -67,3 +69,15 @@ may_be_untold law e sid text seat name asked names rows after mid now read is_op
   };
   lost = lost law e sid text seat name asked names rows after mid read is_open sound f;
 })
+
+-- where no FETCH gave rows, nothing is owed of one
+pub never : (o : Outcome) (P : Name → Type 0) → IfFetched o (λ name. ⊥) → IfFetched o P
+never outcome.Opened P h = tt
+never outcome.Closed P h = tt
+never (outcome.Changed d) P h = tt
+never (outcome.Written word n) P h = tt
+never (outcome.Rows set) P h = tt
+never outcome.Declared P h = tt
+never (outcome.Fetched name set) P h = absurd h
+never outcome.Ended P h = tt
+never (outcome.Refused c) P h = tt

@@ -69,7 +69,7 @@ returns-in-Err-clause-sound g c =
       | is_unknown told unknown same kept ↦ subst (λ (n : Shown). IsSound n) (sym (put_back e sid seat _ _ _ boxes is_open c.take_seat.ensures.left c.put_seat.ensures same)) (rw kept c.requires.sound)
       | no_memory told same kept ↦ subst (λ (n : Shown). IsSound n) (sym (put_back e sid seat _ _ _ boxes is_open c.take_seat.ensures.left c.put_seat.ensures same)) (rw kept c.requires.sound)
       | fails at there gives ends is ↦ subst (λ (n : Shown). IsSound n) (sym (put_other e sid seat _ _ _ _ boxes c.take_seat.ensures.left c.put_seat.ensures is))
-        (c.cursors_lead.ensures.ended_sound e boxes sid seat _ at c.args.sid.in_range c.requires.sound is_open ends)
+          (c.cursors_lead.ensures.ended_sound e boxes sid seat _ at c.args.sid.in_range c.requires.sound is_open ends)
     ]
 
 pub returns-in-Err-clause-leads : goal.returns-in-Err-clause-leads
@@ -82,9 +82,9 @@ returns-in-Err-clause-leads g c = λ text user read.
     let asked = read_seat e sid text user _ seat read is_open in
     elim (rw c.as_str.ensures.value at c.in-Err.ensures.err) [
       | is_unknown told unknown same kept ↦ subst (λ (n : Shown). Leads e sid (sql text) (refused c.in-Err.cause) n) (sym (put_back e sid seat _ _ _ boxes is_open c.take_seat.ensures.left c.put_seat.ensures same))
-        (rw (told, kept) (c.cursors_lead.ensures.unknown e sid text seat _ _ refl asked is_open unknown))
+          (rw (told, kept) (c.cursors_lead.ensures.unknown e sid text seat _ _ refl asked is_open unknown))
       | no_memory told same kept ↦ subst (λ (n : Shown). Leads e sid (sql text) (refused c.in-Err.cause) n) (sym (put_back e sid seat _ _ _ boxes is_open c.take_seat.ensures.left c.put_seat.ensures same))
-        (rw (told, kept) (c.sessions_lead.ensures.no_memory e sid (sql text) tt))
+          (rw (told, kept) (c.sessions_lead.ensures.no_memory e sid (sql text) tt))
       | fails at there gives ends is ↦ subst (λ (n : Shown). Leads e sid (sql text) (refused c.in-Err.cause) n) (sym (put_other e sid seat _ _ _ _ boxes c.take_seat.ensures.left c.put_seat.ensures is))
-        (c.cursors_lead.ensures.not_fetched e boxes sid text seat _ _ at c.in-Err.cause asked is_open c.requires.sound there gives ends)
+          (c.cursors_lead.ensures.not_fetched e boxes sid text seat _ _ at c.in-Err.cause asked is_open c.requires.sound there gives ends)
     ]
