@@ -110,9 +110,10 @@ others : (name one : Name) (cs : List Opened) → bytes_eq one name ≡ true →
 others name one [] same apart r = (refl, refl)
 others name one (c ∷ cs) same apart r =
     let not_it : has_name name c ≡ false = other_name name one c.name same apart.0 (has_name name c) refl in
-    let rest = others name one cs same apart.1 r in
-    (ap (λ b. cond b (record c { run = r }) c ∷ with_run name r cs) not_it ∙ ap (λ more. c ∷ more) rest.0,
-    ap (λ b. cond (not b) (c ∷ without_named name cs) (without_named name cs)) not_it ∙ ap (λ more. c ∷ more) rest.1)
+    let rest = others name one cs same apart.1 r in (
+      ap (λ b. cond b (record c { run = r }) c ∷ with_run name r cs) not_it ∙ ap (λ more. c ∷ more) rest.0,
+      ap (λ b. cond (not b) (c ∷ without_named name cs) (without_named name cs)) not_it ∙ ap (λ more. c ∷ more) rest.1,
+    )
 
 -- an earlier one has another name
 earlier : (name : Name) (c at : Opened) (cs : List Opened) (k : ℕ) → AllByRecursion (λ y. bytes_eq c.name y ≡ false) (map (λ (x : Opened). x.name) cs) → slice_get cs k ≡ Some at → has_name name at ≡ true → (b : Bool) → has_name name c ≡ b → b ≡ false

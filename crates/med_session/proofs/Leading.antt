@@ -1,5 +1,5 @@
 -- What the requests of an engine share: rows are replaced by want of memory.
-use Rattle.std.proofs.Common.{◌≡◌, ℕ, true, false, List, ◌++◌, codes, refl, subst}
+use Rattle.std.proofs.Common.{◌≡◌, ℕ, Bool, true, false, String, Global, string_bytes, List, ◌++◌, codes, refl, subst}
 use Rattle.med_value.specs.Datum.{Tuple}
 use Rattle.med_value.specs.declared.cause.Cause.TheVariants.{OutOfMemory}
 use Rattle.med_syntax.specs.Tree.{Name}
@@ -14,6 +14,11 @@ use Rattle.med_world.specs.Replies.{Reply, done, answered, refused, reply_text}
 use Rattle.med_world.specs.Steps.{Trouble, TakesMemory, TreeDoes, Does, Step, is_refused, is_done, lacks_memory, fetch_lacks_memory, source_fails, numbers_end}
 use Rattle.med_world.specs.Engine.{Shown, Agrees, Leads, IsAnswered}
 use Rattle.med_world.specs.Laws.{IsRead}
+use Rattle.med_select.specs.declared.selecting.RowSet.{RowSet}
+use Rattle.med_session.specs.Outcomes.{HasRows, Tells, reply_of}
+use Rattle.med_session.specs.Cursors.{IfFetched}
+use Rattle.med_session.specs.declared.replies.Outcome.{Outcome}
+use Rattle.med_session.specs.declared.replies.Outcome.TheVariants as outcome
 
 -- ---- want of memory in place of rows
 
@@ -25,7 +30,7 @@ tree_rows : (w after : World) (sid : ℕ) (s : Session) (p : Pick) (tree : Comma
 tree_rows w after sid s p (on_data (select q)) names rows d = d.1
 tree_rows w after sid s p (on_rows t) names rows d = absurd (let e = d.1 in cc)
 tree_rows w after sid s p (on_cursors (declare name (select q))) names rows d = absurd (let e = d.0 in cc)
-tree_rows w after sid s p (on_cursors (fetch asked name)) names rows (c, is, given, gives, e, becomes) = absurd cc
+tree_rows w after sid s p (on_cursors (fetch asked name)) names rows d = absurd (let e = d.2.2 in cc)
 tree_rows w after sid s p (on_cursors (close name)) names rows d = absurd (let e = d.0 in cc)
 tree_rows w after sid s p (on_objects x) names rows d = absurd (let e = d.0 in cc)
 
@@ -55,6 +60,28 @@ memory_told e new sid request names rows h = record {
   rises = h.rises;
   step = λ w a. let s = h.step w a in rows_refused w sid request h.trouble names rows s.0 new s.1 s.2;
 }
+
+-- ---- what was told, and what was not
+
+pub not_told : (sid : ℕ) (meant : Reply) (b : Bool) (old out : List ℕ) → Tells sid meant b old out → b ≡ false → HasRows meant × (out ≡ old ++ reply_text sid (refused OutOfMemory))
+not_told sid meant true old out t e = absurd cc
+not_told sid meant false old out t e = t
+
+-- of a query that is
+pub rows_untold : (o : Outcome) → ((name : String Global) (set : RowSet) → o ≡ outcome.Fetched name set → ⊥) → HasRows (reply_of o) → (e new : Shown) (sid : ℕ) (request : Asked) → Leads e sid request (reply_of o) new → Leads e sid request (refused OutOfMemory) new
+rows_untold outcome.Opened other has e new sid request h = absurd has
+rows_untold outcome.Closed other has e new sid request h = absurd has
+rows_untold (outcome.Changed d) other has e new sid request h = absurd has
+rows_untold (outcome.Written word n) other has e new sid request h = absurd has
+rows_untold (outcome.Rows set) other has e new sid request h = memory_told e new sid request _ _ h
+rows_untold outcome.Declared other has e new sid request h = absurd has
+rows_untold (outcome.Fetched name set) other has e new sid request h = absurd (other name set refl)
+rows_untold outcome.Ended other has e new sid request h = absurd has
+rows_untold (outcome.Refused c) other has e new sid request h = absurd has
+
+-- and of a FETCH
+pub of_fetch : (o : Outcome) (name : String Global) (set : RowSet) (P : Name → Type 0) → o ≡ outcome.Fetched name set → IfFetched o P → P (string_bytes name)
+of_fetch o name set P is h = subst (λ (x : Outcome). IfFetched x P) is h
 
 -- what was written is a reply that the request leads to
 pub answers : (e new : Shown) (sid : ℕ) (request : Asked) (reply : Reply) (old out : List ℕ) → Leads e sid request reply new → out ≡ old ++ reply_text sid reply

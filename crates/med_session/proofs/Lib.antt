@@ -1,6 +1,6 @@
 mod Leading
-mod Telling
 mod AddingLists
 mod Tables
 mod Seats
 mod CursorLists
+mod Turns

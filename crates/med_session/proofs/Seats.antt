@@ -1,12 +1,17 @@
 -- Seats by the numbers of their sessions: taken out, put in, and put back.
-use Rattle.std.proofs.Common.{◌≡◌, ℕ, ◌-◌, zero, suc, List, [], ◌∷◌, Option, Some, None, slice_get, slice_set, refl, ap, sym, ◌∙◌, subst}
+use Rattle.std.proofs.Common.{◌≡◌, ℕ, ◌-◌, zero, suc, List, [], ◌∷◌, Option, Some, None, IsSome, is_some, option_map, false, length, slice_get, slice_set, refl, ap, sym, ◌∙◌, subst}
+use Rattle.std.proofs.lemmas.List.{length-map, length-set}
+use Rattle.cursor_syntax.specs.CursorTree.{declare}
+use Rattle.med_syntax.specs.QueryTree.{StatementTree, select}
+use Rattle.bind_catalog.specs.Looked.{query_in}
+use Rattle.open_cursors.specs.declared.cursors.Seat.{Seat}
 use Rattle.fdw_api.specs.State.{BoxState}
-use Rattle.open_cursors.specs.Open.{Opened, Seated}
-use Rattle.med_parser.specs.CommandTree.{CommandTree}
+use Rattle.open_cursors.specs.Open.{Opened, Seated, seated, seats_shown}
+use Rattle.med_parser.specs.CommandTree.{CommandTree, on_cursors}
 use Rattle.med_syntax.specs.Tree.{Name}
-use Rattle.med_world.specs.Engine.{Shown}
-use Rattle.med_world.specs.Laws.{IsRead}
-use Rattle.med_world.specs.Seats.{seat_in, seat_of, user_of}
+use Rattle.med_world.specs.Engine.{Shown, IsSound}
+use Rattle.med_world.specs.Laws.{IsRead, with_boxes, with_seats}
+use Rattle.med_world.specs.Seats.{seat_in, seat_of, user_of, IsSoundSeat}
 use Rattle.med_world.specs.Turning.{with_cursors}
 use Rattle.med_session.specs.Cursors.{having}
 
@@ -59,3 +64,51 @@ read_seat e sid text user t seat read is_open = subst (λ (u : Name). IsRead e s
     same =
         let a : user_of e.seats sid ≡ Some user = read.is_user in
         cc
+
+-- a statement of DECLARE, with its query
+pub read_declare : (e : Shown) (sid : ℕ) (text : List ℕ) (user name : Name) (t : StatementTree) (seat : Seated) → IsRead e sid text user (on_cursors (declare name t)) → seat_of e.seats sid ≡ Some seat → IsRead e sid text seat.user (on_cursors (declare name (select (query_in t))))
+read_declare e sid text user name (select q) seat read is_open = read_seat e sid text user (on_cursors (declare name (select q))) seat read is_open
+
+-- ---- closed sessions
+
+no_seat : (o : Option (Option Seated)) → seat_in o ≡ None → (x : Option Seated) → o ≡ Some x → x ≡ None
+no_seat o e None is = refl
+no_seat o e (Some s) is =
+    let bad : seat_in o ≡ Some s = ap seat_in is in
+    absurd cc
+
+pub set_none : (xs : List (Option Seated)) (k : ℕ) → seat_in (slice_get xs k) ≡ None → slice_set xs k None ≡ xs
+set_none [] k e = refl
+set_none (x ∷ xs) zero e = ap (λ (y : Option Seated). y ∷ xs) (sym (no_seat (Some x) e x refl))
+set_none (x ∷ xs) (suc k) e = ap (λ l. x ∷ l) (set_none xs k e)
+
+-- a session without a seat has no user
+pub no_user : (seats : List (Option Seated)) (sid : ℕ) → seat_of seats sid ≡ None → is_some (user_of seats sid) ≡ false
+no_user seats sid e = ap (λ (o : Option Seated). is_some (option_map (λ (s : Seated). s.user) o)) e
+
+-- one with a user has a seat
+pub has_seat : (seats : List (Option Seated)) (sid : ℕ) (user : Name) → Some user ≡ user_of seats sid → IsSome (seat_of seats sid)
+has_seat seats sid user e = go (seat_of seats sid) e
+  where
+    go : (o : Option Seated) → Some user ≡ option_map (λ (s : Seated). s.user) o → IsSome o
+    go None is = absurd cc
+    go (Some s) is = refl
+
+-- a seat that was taken out, and its cursors closed
+pub vacated : (e : Shown) (sid : ℕ) (left : List (Option Seated)) (boxes : List (Option BoxState)) → left ≡ slice_set e.seats (sid - 1) None → record e { seats = left; boxes = boxes } ≡ with_boxes (with_seats e (slice_set e.seats (sid - 1) None)) boxes
+vacated e sid left boxes l = ap (λ (x : List (Option Seated)). record e { seats = x; boxes = boxes }) l
+
+pub shut : (e : Shown) (sid : ℕ) (left : List (Option Seated)) → left ≡ slice_set e.seats (sid - 1) None → record e { seats = left } ≡ with_seats e (slice_set e.seats (sid - 1) None)
+shut e sid left l = ap (λ (x : List (Option Seated)). with_seats e x) l
+
+-- where the session was closed, all is as it was
+pub left_shut : (e : Shown) (sid : ℕ) (left : List (Option Seated)) → seat_of e.seats sid ≡ None → left ≡ slice_set e.seats (sid - 1) None → record e { seats = left } ≡ e
+left_shut e sid left none l = ap (λ (x : List (Option Seated)). with_seats e x) (l ∙ set_none e.seats (sid - 1) none)
+
+-- ---- what the calls ask
+
+pub seat_sound : (e : Shown) (sid : ℕ) (seat : Seated) → IsSound e → seat_of e.seats sid ≡ Some seat → IsSoundSeat e.boxes seat
+seat_sound e sid seat h is_open = h.seated (sid - 1) seat (place_there (slice_get e.seats (sid - 1)) seat is_open)
+
+pub left_long : (now : List (Option Seat)) (was : List (Option Seated)) (k : ℕ) (x : Option Seated) → seats_shown now ≡ slice_set was k x → length was ≡ 64 → length now ≡ 64
+left_long now was k x e long = sym (length-map now (option_map seated)) ∙ ap length e ∙ length-set was k x ∙ long

@@ -64,11 +64,18 @@ pub(crate) fn open_cursor<W: Wrapper>(
     }
     let full = is_full(&seat.cursors);
     let user = seat.user.as_str();
-    let Started { names, leases, run } =
-        match start_select(slots, catalog, bound, alloc, user, &declare.query, full) {
-            Ok(started) => started,
-            Err(cause) => return Err(cause),
-        };
+    let Started { names, leases, run } = match start_select(
+        slots,
+        catalog,
+        bound,
+        alloc,
+        user,
+        &declare.query,
+        full,
+    ) {
+        Ok(started) => started,
+        Err(cause) => return Err(cause),
+    };
     let cursor = OpenCursor {
         name,
         names,

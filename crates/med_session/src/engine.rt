@@ -235,7 +235,15 @@ impl<W: Wrapper> Engine<W> {
                 let word = word_of(&write);
                 let leased = is_leased(&self.seats, table_of(&write));
                 let slots = &mut self.slots;
-                match run_write(slots, &self.catalog, &self.bound, alloc, user, write, leased) {
+                match run_write(
+                    slots,
+                    &self.catalog,
+                    &self.bound,
+                    alloc,
+                    user,
+                    write,
+                    leased,
+                ) {
                     Ok(count) => Outcome::Written(word, count),
                     Err(cause) => Outcome::Refused(cause),
                 }

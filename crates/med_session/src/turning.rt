@@ -17,7 +17,7 @@ use crate::replies::Outcome;
 use crate::session::Sid;
 use cursor_syntax::{CursorStatement, Declare, Fetch};
 use fdw_api::interface::Wrapper;
-use med_world::law::cursors_lead;
+use med_world::law::{cursors_lead, sessions_lead};
 
 impl<W: Wrapper> Engine<W> {
     ghost use Rattle.med_session.specs.Cursors.{HasCursor, LosesCursor, IfFetched, MayBeUntold};
@@ -35,6 +35,7 @@ impl<W: Wrapper> Engine<W> {
             → Leads (shown W.meaning self.old) sid.number (sql text) (reply_of result) (shown W.meaning self.new) }
         ensures told { IfFetched result (λ name. ⊥) }
     {
+        sessions_lead();
         cursors_lead();
         let alloc = *self.seats.allocator();
         let Some(mut seat) = take_seat(&mut self.seats, sid) else {
@@ -61,6 +62,7 @@ impl<W: Wrapper> Engine<W> {
             (on_cursors (fetch_tree (count_tree asked.count) (string_bytes asked.name)))
             → IfFetched result (λ name. MayBeUntold (shown W.meaning self.old) sid.number (sql text) name (shown W.meaning self.new)) }
     {
+        sessions_lead();
         cursors_lead();
         let alloc = *self.seats.allocator();
         let Some(mut seat) = take_seat(&mut self.seats, sid) else {
@@ -108,10 +110,10 @@ impl<W: Wrapper> Engine<W> {
         let Some(mut seat) = take_seat(&mut self.seats, sid) else {
             unreachable!()
         };
-        if end_cursor(&mut seat, &mut self.slots, name).is_err() {
-            unreachable!()
+        match end_cursor(&mut seat, &mut self.slots, name) {
+            Ok(()) => put_seat(&mut self.seats, sid, seat),
+            Err(_) => unreachable!(),
         }
-        put_seat(&mut self.seats, sid, seat);
     }
 
     // Does a statement on a cursor of an open session.

@@ -1,19 +1,37 @@
-use Rattle.std.proofs.Common.{◌≡◌, true, false, sym, ◌∙◌, rules}
+use Rattle.std.proofs.Common.{◌≡◌, None, codes, sym, subst, ap, ◌-◌, slice_get, List, Option}
+use Rattle.fdw_api.specs.State.{BoxState}
+use Rattle.med_exec.specs.Slots.{states}
+use Rattle.open_cursors.specs.Open.{Seated, seated}
+use Rattle.med_world.specs.Engine.{Shown, IsSound, Leads}
+use Rattle.med_world.specs.Laws.{with_seats}
+use Rattle.med_world.specs.Replies.{done, refused}
+use Rattle.med_world.specs.Requests.{bye}
+use Rattle.med_value.specs.declared.cause.Cause.TheVariants.{NoConnection}
 use Rattle.med_session.specs.Shows.{shown}
-use Rattle.med_session.proofs.Leading.{sound_seat}
+use Rattle.med_session.proofs.Seats.{set_none, no_user, vacated, left_shut}
 use Rattle.med_session.proofs.engine.Engine.bye.Goals as goal
 
-pub returns-then-not-was_open-clause-leads : goal.returns-then-not-was_open-clause-leads
-returns-then-not-was_open-clause-leads g c =
+pub returns-in-Some-clause-sound : goal.returns-in-Some-clause-sound
+returns-in-Some-clause-sound g c =
     let e = shown g.W.Wrapper.meaning c.args.self.now in
-    let shut : c.is_open-was_open.result ≡ false = search rules in
-    c.sessions_lead.ensures.not_closed e c.args.sid.number c.args.sid.in_range (sym c.is_open-was_open.ensures ∙ shut)
+    let boxes = states g.W.Wrapper.meaning c.close_all.new.slots.items in
+    subst (λ (n : Shown). IsSound n) (sym (vacated e c.args.sid.number _ boxes c.take_seat.ensures.left))
+    (c.sessions_lead.ensures.closed_sound e boxes c.args.sid.number (seated c.in-Some.seat) c.args.sid.in_range c.requires c.close_all.ensures)
 
-pub returns-clause-sound : goal.returns-clause-sound
-returns-clause-sound g c = rw c.set_user.ensures (sound_seat (shown g.W.Wrapper.meaning c.args.self.now) c.args.sid.number _ c.requires)
-
-pub returns-clause-leads : goal.returns-clause-leads
-returns-clause-leads g c =
+pub returns-in-Some-clause-leads : goal.returns-in-Some-clause-leads
+returns-in-Some-clause-leads g c =
     let e = shown g.W.Wrapper.meaning c.args.self.now in
-    let is_open : c.is_open-was_open.result ≡ true = search rules in
-    rw c.set_user.ensures (c.sessions_lead.ensures.closed e c.args.sid.number c.args.sid.in_range c.requires.sessions (sym c.is_open-was_open.ensures ∙ is_open))
+    let boxes = states g.W.Wrapper.meaning c.close_all.new.slots.items in
+    subst (λ (n : Shown). Leads e c.args.sid.number bye (done (codes "BYE")) n) (sym (vacated e c.args.sid.number _ boxes c.take_seat.ensures.left))
+    (c.sessions_lead.ensures.closed e boxes c.args.sid.number (seated c.in-Some.seat) c.args.sid.in_range c.requires.sessions (sym c.in-Some.ensures.taken) c.close_all.ensures)
+
+pub returns-in-None-clause-sound : goal.returns-in-None-clause-sound
+returns-in-None-clause-sound g c =
+    let e = shown g.W.Wrapper.meaning c.args.self.now in
+    subst (λ (n : Shown). IsSound n) (sym (left_shut e c.args.sid.number _ (sym c.in-None.ensures.taken) c.take_seat.ensures.left)) c.requires
+
+pub returns-in-None-clause-leads : goal.returns-in-None-clause-leads
+returns-in-None-clause-leads g c =
+    let e = shown g.W.Wrapper.meaning c.args.self.now in
+    subst (λ (n : Shown). Leads e c.args.sid.number bye (refused NoConnection) n) (sym (left_shut e c.args.sid.number _ (sym c.in-None.ensures.taken) c.take_seat.ensures.left))
+    (c.sessions_lead.ensures.not_closed e c.args.sid.number c.args.sid.in_range (no_user e.seats c.args.sid.number (sym c.in-None.ensures.taken)))

@@ -1,12 +1,12 @@
-use Rattle.std.proofs.Common.{ap, ◌∙◌, length, None, Option}
-use Rattle.std.proofs.lemmas.List.{length-replicate}
-use Rattle.med_syntax.specs.Tree.{Name}
+use Rattle.med_exec.specs.Slots.{states}
+use Rattle.open_cursors.specs.Open.{seats_shown}
 use Rattle.med_session.specs.Shows.{shown}
-use Rattle.med_session.proofs.Leading.{sound_users}
 use Rattle.med_session.proofs.engine.Engine.close_sessions.Goals as goal
 
 pub returns-clause-sound : goal.returns-clause-sound
-returns-clause-sound g c = sound_users (shown g.W.Wrapper.meaning c.args.self.now) _ (ap length c.close_all.ensures ∙ length-replicate {A = Option Name} 64 None) c.requires
+returns-clause-sound g c =
+    c.sessions_end.ensures.all_sound (shown g.W.Wrapper.meaning c.args.self.now) (states g.W.Wrapper.meaning c.close_seats.new.slots.items) (seats_shown c.close_seats.new.seats.items) c.requires c.close_seats.ensures.closed c.close_seats.ensures.served
 
 pub returns-clause-closes : goal.returns-clause-closes
-returns-clause-closes g c = c.sessions_end.ensures.all (shown g.W.Wrapper.meaning c.args.self.now) _ c.close_all.ensures
+returns-clause-closes g c =
+    c.sessions_end.ensures.all (shown g.W.Wrapper.meaning c.args.self.now) (states g.W.Wrapper.meaning c.close_seats.new.slots.items) (seats_shown c.close_seats.new.seats.items) c.close_seats.ensures.closed c.close_seats.ensures.served

@@ -1,12 +1,13 @@
 use Rattle.std.proofs.Common.{◌≡◌, ℕ, List, true, false, Option, Some, None, subst, refl, is_some, option_map, sym, ap, ◌∙◌, rules}
-use Rattle.med_parser.specs.CommandTree.{on_data, on_rows, on_objects, command_tree}
+use Rattle.med_parser.specs.CommandTree.{on_data, on_rows, on_cursors, on_objects, command_tree}
+use Rattle.cursor_syntax.specs.CursorView.{cursor_tree}
 use Rattle.med_parser.specs.CommandGrammar.{HasCommand}
 use Rattle.med_parser.specs.declared.command.Command.{Command}
 use Rattle.ddl_syntax.specs.DdlView.{ddl_tree}
 use Rattle.write_syntax.specs.WriteView.{write_tree}
 use Rattle.med_syntax.specs.QueryView.{statement_tree}
 use Rattle.bind_catalog.specs.Looked.{query_in}
-use Rattle.med_world.specs.Engine.{user_of}
+use Rattle.med_world.specs.Seats.{user_of}
 use Rattle.med_world.specs.Laws.{IsRead}
 use Rattle.med_world.specs.Replies.{done}
 use Rattle.med_world.specs.Engine.{Shown, Leads}
@@ -29,7 +30,7 @@ returns-in_default-clause-leads g c =
 pub returns-in-Err-clause-leads : goal.returns-in-Err-clause-leads
 returns-in-Err-clause-leads g c =
     let e = shown g.W.Wrapper.meaning c.args.self.now in
-    let is_open : is_some (user_of e.users c.args.sid.number) ≡ true = ap is_some (sym c.in-Some.ensures) in
+    let is_open : is_some (user_of e.seats c.args.sid.number) ≡ true = ap is_some (sym c.in-Some.ensures) in
     c.statements_are_refused.ensures.not_read e c.args.sid.number c.args.text.now c.in-Err.cause c.args.sid.in_range is_open c.in-Err.ensures.refused
 
 pub run_select-requires-clause-tables : goal.run_select-requires-clause-tables
@@ -107,10 +108,10 @@ tag_told : (e after : Shown) (sid : ℕ) (text : List ℕ) (tag told : List ℕ)
 tag_told e after sid text tag told same h = subst (λ (x : List ℕ). Leads e sid (sql text) (done x) after) same h
 
 pub run_write-requires-clause-tables : goal.run_write-requires-clause-tables
-run_write-requires-clause-tables g c = rw c.deref-in-Rows.ensures.value (all_bound (shown g.W.Wrapper.meaning c.args.self.now) c.requires)
+run_write-requires-clause-tables g c = rw c.deref-in-Rows-2.ensures.value (all_bound (shown g.W.Wrapper.meaning c.args.self.now) c.requires)
 
 pub run_write-requires-clause-ready : goal.run_write-requires-clause-ready
-run_write-requires-clause-ready g c = rw c.deref-in-Rows.ensures.value (ready_of (shown g.W.Wrapper.meaning c.args.self.now) c.requires)
+run_write-requires-clause-ready g c = rw c.deref-in-Rows-2.ensures.value (ready_of (shown g.W.Wrapper.meaning c.args.self.now) c.requires)
 
 pub run_write-requires-clause-clean : goal.run_write-requires-clause-clean
 run_write-requires-clause-clean g c =
@@ -118,7 +119,7 @@ run_write-requires-clause-clean g c =
 
 pub returns-in-Ok-run_write-clause-sound : goal.returns-in-Ok-run_write-clause-sound
 returns-in-Ok-run_write-clause-sound g c =
-    c.writes_lead.ensures.done_sound (shown g.W.Wrapper.meaning c.args.self.now) _ c.in-Some.user.now (write_tree c.in-Rows.write) _ c.requires (rw c.deref-in-Rows.ensures.value at c.in-Ok-run_write.ensures.ok)
+    c.writes_lead.ensures.done_sound (shown g.W.Wrapper.meaning c.args.self.now) _ c.in-Some.user.now (write_tree c.in-Rows.write) _ c.requires (rw (c.deref-in-Rows-2.ensures.value, c.is_leased-leased.ensures, c.deref-in-Rows.ensures.value, c.table_of.ensures) at c.in-Ok-run_write.ensures.ok)
 
 pub returns-in-Ok-run_write-clause-leads : goal.returns-in-Ok-run_write-clause-leads
 returns-in-Ok-run_write-clause-leads g c =
@@ -132,11 +133,11 @@ returns-in-Ok-run_write-clause-leads g c =
       one = c.one_tree.ensures c.args.text.now;
     } in
     tag_told _ _ _ _ _ _ (sym (c.word_of-word.ensures c.in-Ok-run_write.count))
-    (c.writes_lead.ensures.done e _ c.args.sid.number c.args.text.now c.in-Some.user.now t c.in-Ok-run_write.count read c.requires (rw c.deref-in-Rows.ensures.value at c.in-Ok-run_write.ensures.ok))
+    (c.writes_lead.ensures.done e _ c.args.sid.number c.args.text.now c.in-Some.user.now t c.in-Ok-run_write.count read c.requires (rw (c.deref-in-Rows-2.ensures.value, c.is_leased-leased.ensures, c.deref-in-Rows.ensures.value, c.table_of.ensures) at c.in-Ok-run_write.ensures.ok))
 
 pub returns-in-Rows-clause-sound : goal.returns-in-Rows-clause-sound
 returns-in-Rows-clause-sound g c =
-    c.writes_lead.ensures.refused_sound (shown g.W.Wrapper.meaning c.args.self.now) _ c.in-Some.user.now (write_tree c.in-Rows.write) _ c.requires (rw c.deref-in-Rows.ensures.value at c.in-Err-run_write.ensures.err)
+    c.writes_lead.ensures.refused_sound (shown g.W.Wrapper.meaning c.args.self.now) _ c.in-Some.user.now (write_tree c.in-Rows.write) _ c.requires (rw (c.deref-in-Rows-2.ensures.value, c.is_leased-leased.ensures, c.deref-in-Rows.ensures.value, c.table_of.ensures) at c.in-Err-run_write.ensures.err)
 
 pub returns-in-Rows-clause-leads : goal.returns-in-Rows-clause-leads
 returns-in-Rows-clause-leads g c =
@@ -149,4 +150,30 @@ returns-in-Rows-clause-leads g c =
       has = subst (λ (x : Command). HasCommand c.args.text.now (command_tree x)) c.in-Rows.is c.in-Ok.ensures.found;
       one = c.one_tree.ensures c.args.text.now;
     } in
-    c.writes_lead.ensures.refused e _ c.args.sid.number c.args.text.now c.in-Some.user.now t _ read c.requires (rw c.deref-in-Rows.ensures.value at c.in-Err-run_write.ensures.err)
+    c.writes_lead.ensures.refused e _ c.args.sid.number c.args.text.now c.in-Some.user.now t _ read c.requires (rw (c.deref-in-Rows-2.ensures.value, c.is_leased-leased.ensures, c.deref-in-Rows.ensures.value, c.table_of.ensures) at c.in-Err-run_write.ensures.err)
+
+-- ---- a cursor
+
+pub returns-in-Cursor-clause-leads : goal.returns-in-Cursor-clause-leads
+returns-in-Cursor-clause-leads g c =
+    let t = cursor_tree c.in-Cursor.statement in
+    let read : IsRead (shown g.W.Wrapper.meaning c.args.self.now) c.args.sid.number c.args.text.now c.in-Some.user.now (on_cursors t) = record {
+      is_sid = c.args.sid.in_range;
+      is_user = sym c.in-Some.ensures;
+      clear = c.in-Ok.ensures.clear;
+      has = subst (λ (x : Command). HasCommand c.args.text.now (command_tree x)) c.in-Cursor.is c.in-Ok.ensures.found;
+      one = c.one_tree.ensures c.args.text.now;
+    } in
+    c.turn.ensures.leads c.args.text.now c.in-Some.user.now read
+
+pub returns-in-Cursor-clause-untold : goal.returns-in-Cursor-clause-untold
+returns-in-Cursor-clause-untold g c =
+    let t = cursor_tree c.in-Cursor.statement in
+    let read : IsRead (shown g.W.Wrapper.meaning c.args.self.now) c.args.sid.number c.args.text.now c.in-Some.user.now (on_cursors t) = record {
+      is_sid = c.args.sid.in_range;
+      is_user = sym c.in-Some.ensures;
+      clear = c.in-Ok.ensures.clear;
+      has = subst (λ (x : Command). HasCommand c.args.text.now (command_tree x)) c.in-Cursor.is c.in-Ok.ensures.found;
+      one = c.one_tree.ensures c.args.text.now;
+    } in
+    c.turn.ensures.untold c.args.text.now c.in-Some.user.now read

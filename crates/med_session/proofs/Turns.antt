@@ -1,0 +1,83 @@
+-- A FETCH that gave rows, which may not be told.
+use Rattle.std.proofs.Common.{◌≡◌, ℕ, ◌-◌, List, Option, Some, is_some, slice_set, refl, ap, sym, ◌∙◌, subst}
+use Rattle.med_value.specs.Datum.{Tuple}
+use Rattle.med_value.specs.declared.cause.Cause.{Cause}
+use Rattle.med_value.specs.declared.cause.Cause.TheVariants.{OutOfMemory}
+use Rattle.med_syntax.specs.Tree.{Name}
+use Rattle.cursor_syntax.specs.CursorTree.{CountTree, fetch}
+use Rattle.fdw_api.specs.State.{BoxState}
+use Rattle.med_exec.specs.declared.running.Run.{Run}
+use Rattle.med_exec.specs.Running.{ServesRun, none_held}
+use Rattle.med_exec.specs.Rests.{held}
+use Rattle.med_parser.specs.CommandTree.{on_cursors}
+use Rattle.open_cursors.specs.Open.{Opened, Seated, opened_named, without_named, with_run}
+use Rattle.open_cursors.specs.Fetching.{GivesNone, no_memory}
+use Rattle.med_world.proofs.Lists.{some_same}
+use Rattle.med_world.specs.Requests.{sql}
+use Rattle.med_world.specs.Replies.{refused}
+use Rattle.med_world.specs.Seats.{seat_of}
+use Rattle.med_world.specs.Engine.{Shown, IsSound, Leads}
+use Rattle.med_world.specs.Laws.{IsRead}
+use Rattle.med_world.specs.Turning.{with_cursors, Ends, later}
+use Rattle.med_session.specs.Cursors.{having, Fetched, HasCursor, LosesCursor, MayBeUntold, IfFetched}
+use Rattle.med_session.specs.declared.replies.Outcome.{Outcome}
+use Rattle.med_session.specs.declared.replies.Outcome.TheVariants as outcome
+use Rattle.med_session.proofs.Seats.{set_twice, seat_put}
+use Rattle.med_session.proofs.CursorLists.{named_runs, without_runs}
+
+-- what the law of a FETCH that fails says
+abbrev pub FailsLaw : Type 0
+FailsLaw = (e : Shown) (new : List (Option BoxState)) (sid : ℕ) (text : List ℕ) (seat : Seated) (name : Name) (asked : CountTree) (o : Opened) (c : Cause) → IsRead e sid text seat.user (on_cursors (fetch asked name)) → seat_of e.seats sid ≡ Some seat → IsSound e
+    → opened_named name seat.cursors ≡ Some o → GivesNone c e.boxes new → Ends o.run e.boxes new → Leads e sid (sql text) (refused c) (with_cursors e sid seat (without_named name seat.cursors) new)
+
+-- the engine behind such a FETCH
+abbrev behind : Shown → ℕ → Seated → Name → Run → List (Option BoxState) → Shown
+behind e sid seat name run mid = with_cursors e sid seat (with_run name run seat.cursors) mid
+
+lost : FailsLaw → (e : Shown) (sid : ℕ) (text : List ℕ) (seat : Seated) (name : Name) (asked : CountTree) (names : List Name) (rows : List Tuple) (after : Seated) (mid : List (Option BoxState)) → IsRead e sid text seat.user (on_cursors (fetch asked name))
+    → seat_of e.seats sid ≡ Some seat → IsSound e → (f : Fetched name asked seat e.boxes names rows after mid) → (new : Shown) → LosesCursor (behind e sid seat name f.run mid) sid name new → Leads e sid (sql text) (refused OutOfMemory) new
+lost law e sid text seat name asked names rows after mid read is_open sound f new l =
+    subst (λ (n : Shown). Leads e sid (sql text) (refused OutOfMemory) n) (sym is) (law e new.boxes sid text seat name asked f.at OutOfMemory read is_open sound f.there (no_memory refl) (later f.run mid f.gives.served closes))
+  where
+    seat_now : Seated
+    seat_now = having seat (with_run name f.run seat.cursors)
+
+    same_seat : l.seat ≡ seat_now
+    same_seat = some_same l.seat seat_now (sym l.is_open ∙ seat_put e.seats sid seat seat_now is_open)
+
+    same_at : l.at ≡ record f.at { run = f.run }
+    same_at = some_same l.at (record f.at { run = f.run }) (sym l.there ∙ ap (λ (s : Seated). opened_named name s.cursors) same_seat ∙ named_runs name f.run seat.cursors f.at f.there)
+
+    closes : ServesRun (held f.run) none_held mid new.boxes
+    closes = subst (λ (o : Opened). ServesRun (held o.run) none_held mid new.boxes) same_at l.closes
+
+    seats_now : List (Option Seated)
+    seats_now = slice_set e.seats (sid - 1) (Some seat_now)
+
+    is : new ≡ with_cursors e sid seat (without_named name seat.cursors) new.boxes
+    is = l.is ∙ ap (λ (s : Seated). record e { seats = slice_set seats_now (sid - 1) (Some (having s (without_named name s.cursors))); boxes = new.boxes }) same_seat
+        ∙ ap (λ (cs : List Opened). record e { seats = slice_set seats_now (sid - 1) (Some (having seat cs)); boxes = new.boxes }) (without_runs name f.run seat.cursors)
+        ∙ ap (λ (xs : List (Option Seated)). record e { seats = xs; boxes = new.boxes }) (set_twice e.seats (sid - 1) (Some seat_now) (Some (having seat (without_named name seat.cursors))))
+
+pub may_be_untold : FailsLaw → (e : Shown) (sid : ℕ) (text : List ℕ) (seat : Seated) (name : Name) (asked : CountTree) (names : List Name) (rows : List Tuple) (after : Seated) (mid : List (Option BoxState)) (now : Shown) → IsRead e sid text seat.user (on_cursors (fetch asked name))
+    → seat_of e.seats sid ≡ Some seat → IsSound e → (f : Fetched name asked seat e.boxes names rows after mid) → now ≡ behind e sid seat name f.run mid → MayBeUntold e sid (sql text) name now
+may_be_untold law e sid text seat name asked names rows after mid now read is_open sound f is = subst (λ (n : Shown). MayBeUntold e sid (sql text) name n) (sym is) (record {
+  has = record {
+    seat = having seat (with_run name f.run seat.cursors);
+    is_open = seat_put e.seats sid seat (having seat (with_run name f.run seat.cursors)) is_open;
+    there = ap is_some (named_runs name f.run seat.cursors f.at f.there);
+  };
+  lost = lost law e sid text seat name asked names rows after mid read is_open sound f;
+})
+
+-- where no FETCH gave rows, nothing is owed of one
+pub never : (o : Outcome) (P : Name → Type 0) → IfFetched o (λ name. ⊥) → IfFetched o P
+never outcome.Opened P h = tt
+never outcome.Closed P h = tt
+never (outcome.Changed d) P h = tt
+never (outcome.Written word n) P h = tt
+never (outcome.Rows set) P h = tt
+never outcome.Declared P h = tt
+never (outcome.Fetched name set) P h = absurd h
+never outcome.Ended P h = tt
+never (outcome.Refused c) P h = tt

@@ -1,0 +1,90 @@
+use Rattle.std.proofs.Common.{◌≡◌, ◌∙◌, List, map, Some, None, string_bytes, codes, refl, sym, subst}
+use Rattle.med_value.specs.Datum.{tuple}
+use Rattle.med_syntax.specs.Tree.{Name}
+use Rattle.med_exec.specs.Slots.{states}
+use Rattle.cursor_syntax.specs.CursorTree.{fetch}
+use Rattle.cursor_syntax.specs.CursorView.{count_tree}
+use Rattle.med_parser.specs.CommandTree.{on_cursors}
+use Rattle.open_cursors.specs.Open.{seated}
+use Rattle.med_world.specs.Engine.{Shown, IsSound, Leads}
+use Rattle.med_world.specs.Laws.{IsRead, with_boxes}
+use Rattle.med_world.specs.Replies.{answered, refused}
+use Rattle.med_world.specs.Requests.{sql}
+use Rattle.med_world.specs.Seats.{seat_of}
+use Rattle.med_session.specs.Cursors.{is_unknown, no_memory, fails}
+use Rattle.med_session.specs.Shows.{shown}
+use Rattle.med_session.proofs.Seats.{put_other, put_back, read_seat, seat_sound, left_long}
+use Rattle.med_session.proofs.Turns.{may_be_untold}
+use Rattle.med_session.proofs.engine.Engine.fetch.Goals as goal
+
+pub fetch_rows-given-requires : goal.fetch_rows-given-requires
+fetch_rows-given-requires g c = seat_sound (shown g.W.Wrapper.meaning c.args.self.now) c.args.sid.number (seated c.in-Some.seat) c.requires.sound (sym c.in-Some.ensures.taken)
+
+pub put_seat-requires : goal.put_seat-requires
+put_seat-requires g c =
+    let e = shown g.W.Wrapper.meaning c.args.self.now in
+    c.take_seat.new.seats.ok.0 ∙ left_long c.take_seat.new.seats.items e.seats _ None c.take_seat.ensures.left c.requires.sound.sessions
+
+pub returns-in-Ok-clause-sound : goal.returns-in-Ok-clause-sound
+returns-in-Ok-clause-sound g c =
+    let e = shown g.W.Wrapper.meaning c.args.self.now in
+    let sid = c.args.sid.number in
+    let seat = seated c.in-Some.seat in
+    let boxes = states g.W.Wrapper.meaning c.fetch_rows-given.new.slots.items in
+    let f = rw c.as_str.ensures.value at c.in-Ok.ensures.ok in
+    subst (λ (n : Shown). IsSound n) (sym (put_other e sid seat _ _ _ _ boxes c.take_seat.ensures.left c.put_seat.ensures f.is))
+    (c.cursors_lead.ensures.fetched_sound e boxes sid seat _ _ f.at _ f.run c.args.sid.in_range c.requires.sound (sym c.in-Some.ensures.taken) f.gives)
+
+pub returns-in-Ok-clause-leads : goal.returns-in-Ok-clause-leads
+returns-in-Ok-clause-leads g c = λ text user read.
+    let e = shown g.W.Wrapper.meaning c.args.self.now in
+    let sid = c.args.sid.number in
+    let seat = seated c.in-Some.seat in
+    let boxes = states g.W.Wrapper.meaning c.fetch_rows-given.new.slots.items in
+    let f = rw c.as_str.ensures.value at c.in-Ok.ensures.ok in
+    let is_open : seat_of e.seats sid ≡ Some seat = sym c.in-Some.ensures.taken in
+    let rows = map tuple c.in-Ok.set.rows.items in
+    subst (λ (n : Shown). Leads e sid (sql text) (answered (codes "FETCH") (map string_bytes c.in-Ok.set.names.items) rows) n) (sym (put_other e sid seat _ _ _ _ boxes c.take_seat.ensures.left c.put_seat.ensures f.is))
+    (rw f.named (c.cursors_lead.ensures.fetched e boxes sid text seat _ _ f.at rows f.run (read_seat e sid text user _ seat read is_open) is_open c.requires.sound f.there f.gives))
+
+pub returns-in-Ok-clause-untold : goal.returns-in-Ok-clause-untold
+returns-in-Ok-clause-untold g c = λ text user read.
+    let e = shown g.W.Wrapper.meaning c.args.self.now in
+    let sid = c.args.sid.number in
+    let seat = seated c.in-Some.seat in
+    let boxes = states g.W.Wrapper.meaning c.fetch_rows-given.new.slots.items in
+    let f = rw c.as_str.ensures.value at c.in-Ok.ensures.ok in
+    let is_open : seat_of e.seats sid ≡ Some seat = sym c.in-Some.ensures.taken in
+    may_be_untold c.cursors_lead.ensures.not_fetched e sid text seat _ _ _ _ _ boxes _ (read_seat e sid text user _ seat read is_open) is_open c.requires.sound f
+    (put_other e sid seat _ _ _ _ boxes c.take_seat.ensures.left c.put_seat.ensures f.is)
+
+pub returns-in-Err-clause-sound : goal.returns-in-Err-clause-sound
+returns-in-Err-clause-sound g c =
+    let e = shown g.W.Wrapper.meaning c.args.self.now in
+    let sid = c.args.sid.number in
+    let seat = seated c.in-Some.seat in
+    let boxes = states g.W.Wrapper.meaning c.fetch_rows-given.new.slots.items in
+    let is_open : seat_of e.seats sid ≡ Some seat = sym c.in-Some.ensures.taken in
+    elim (rw c.as_str.ensures.value at c.in-Err.ensures.err) [
+      | is_unknown told unknown same kept ↦ subst (λ (n : Shown). IsSound n) (sym (put_back e sid seat _ _ _ boxes is_open c.take_seat.ensures.left c.put_seat.ensures same)) (rw kept c.requires.sound)
+      | no_memory told same kept ↦ subst (λ (n : Shown). IsSound n) (sym (put_back e sid seat _ _ _ boxes is_open c.take_seat.ensures.left c.put_seat.ensures same)) (rw kept c.requires.sound)
+      | fails at there gives ends is ↦ subst (λ (n : Shown). IsSound n) (sym (put_other e sid seat _ _ _ _ boxes c.take_seat.ensures.left c.put_seat.ensures is))
+          (c.cursors_lead.ensures.ended_sound e boxes sid seat _ at c.args.sid.in_range c.requires.sound is_open ends)
+    ]
+
+pub returns-in-Err-clause-leads : goal.returns-in-Err-clause-leads
+returns-in-Err-clause-leads g c = λ text user read.
+    let e = shown g.W.Wrapper.meaning c.args.self.now in
+    let sid = c.args.sid.number in
+    let seat = seated c.in-Some.seat in
+    let boxes = states g.W.Wrapper.meaning c.fetch_rows-given.new.slots.items in
+    let is_open : seat_of e.seats sid ≡ Some seat = sym c.in-Some.ensures.taken in
+    let asked = read_seat e sid text user _ seat read is_open in
+    elim (rw c.as_str.ensures.value at c.in-Err.ensures.err) [
+      | is_unknown told unknown same kept ↦ subst (λ (n : Shown). Leads e sid (sql text) (refused c.in-Err.cause) n) (sym (put_back e sid seat _ _ _ boxes is_open c.take_seat.ensures.left c.put_seat.ensures same))
+          (rw (told, kept) (c.cursors_lead.ensures.unknown e sid text seat _ _ refl asked is_open unknown))
+      | no_memory told same kept ↦ subst (λ (n : Shown). Leads e sid (sql text) (refused c.in-Err.cause) n) (sym (put_back e sid seat _ _ _ boxes is_open c.take_seat.ensures.left c.put_seat.ensures same))
+          (rw (told, kept) (c.sessions_lead.ensures.no_memory e sid (sql text) tt))
+      | fails at there gives ends is ↦ subst (λ (n : Shown). Leads e sid (sql text) (refused c.in-Err.cause) n) (sym (put_other e sid seat _ _ _ _ boxes c.take_seat.ensures.left c.put_seat.ensures is))
+          (c.cursors_lead.ensures.not_fetched e boxes sid text seat _ _ at c.in-Err.cause asked is_open c.requires.sound there gives ends)
+    ]
