@@ -3,7 +3,8 @@ use Rattle.std.proofs.Common.{◌≡◌, ℕ, Bool, true, false, cond, List, [],
 use Rattle.fdw_api.specs.State.{BoxState}
 use Rattle.med_exec.specs.Slots.{states}
 use Rattle.med_session.specs.World.{World, without_sessions}
-use Rattle.med_session.specs.Engine.{Agrees}
+use Rattle.med_session.specs.Engine.{Agrees, EachRises}
+use Rattle.med_world.proofs.Faring.{none_rises}
 use Rattle.med_session.specs.Shows.{shown}
 use Rattle.med_session.specs.declared.engine.Engine.{Engine}
 use Rattle.session_wire.specs.Lines.{lines_within}
@@ -45,14 +46,15 @@ pub serves_world : {W : Type 0} (meaning : W → BoxState) (server : Server (Eng
     → (w : World) → Agrees (shown meaning engine) w → ServesWorld (shown meaning engine).boxes (states meaning slots) w input output result
 serves_world meaning server engine new closed slots left input output result law of unread serves ends is w agrees =
     let both = open_server server [] unread in
-    let boxes : states meaning slots ≡ (shown meaning new).boxes = is ∙ ap (λ s. s.boxes) ends.others in
     let begun = subst (λ b. Serves (EngineSteps meaning) (EngineEnds meaning) (handler_of server) b new left input output result) both.1 (serves both.0) in
     let run = subst (λ e. Serves (EngineSteps meaning) (EngineEnds meaning) e [] new left input output result) of begun in
     let one = law engine new [] left input output result run w agrees in
     record {
       after = one.0;
       left = left;
-      serves = subst (λ b. Serves SceneSteps SceneEnds (scene_of meaning engine w) [] (over b one.0) left input output result) (sym boxes) one.1;
+      ran = (shown meaning new).boxes;
+      serves = one.1;
+      rises = subst (λ b. EachRises (shown meaning new).boxes b) (sym is) ends.rises;
       engine = shown meaning closed;
       boxes = sym is;
       agrees = ends.world one.0 one.2;
@@ -64,10 +66,11 @@ pub no_server : {W : Type 0} (meaning : W → BoxState) (back engine closed : En
     → (w : World) → Agrees (shown meaning engine) w → ServesWorld (shown meaning engine).boxes (states meaning slots) w (stream had had) (stream held held) (Err NoRoom)
 unfolding lines_within
 no_server meaning back engine closed slots had held same ends is w agrees =
-    let boxes : states meaning slots ≡ (shown meaning engine).boxes = is ∙ ap (λ s. s.boxes) ends.others ∙ ap (λ e. (shown meaning e).boxes) same in
+    let rises : EachRises (shown meaning engine).boxes (states meaning slots) = subst (λ b. EachRises (shown meaning engine).boxes b) (sym is) (subst (λ e. EachRises (shown meaning e).boxes (shown meaning closed).boxes) same ends.rises) in
     record {
       after = without_sessions w;
       left = None;
+      ran = states meaning slots;
       serves = (
         record {
           between = had;
@@ -77,10 +80,11 @@ no_server meaning back engine closed slots had held same ends is w agrees =
           piece = [];
           read = Consumes-nil had;
           text = [];
-          broken = record { last = scene_of meaning engine w; front = (refl, refl); sessions = ap (λ b. over b (without_sessions w)) boxes };
+          broken = record { last = scene_of meaning engine w; front = (refl, refl); sessions = (refl, rises) };
         },
         refl,
       );
+      rises = none_rises (states meaning slots);
       engine = shown meaning closed;
       boxes = sym is;
       agrees = ends.world w (subst (λ e. Agrees (shown meaning e) w) (sym same) agrees);

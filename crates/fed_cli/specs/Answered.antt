@@ -2,7 +2,7 @@
 use Rattle.std.specs.Prelude.{◌≡◌, ℕ, Bool, List, [], Option, Result, Ok}
 use Rattle.fdw_api.specs.State.{BoxState}
 use Rattle.med_session.specs.World.{World, without_sessions}
-use Rattle.med_session.specs.Engine.{Shown, Agrees}
+use Rattle.med_session.specs.Engine.{Shown, Agrees, EachRises}
 use Rattle.session_wire.specs.Worlds.{SceneSteps, SceneEnds}
 use Rattle.fed_cli.specs.Streams.{Stream}
 use Rattle.fed_cli.specs.Served.{Serves}
@@ -12,14 +12,16 @@ use Rattle.fed_cli.specs.declared.stream.Ended.{Ended}
 use Rattle.fed_cli.specs.declared.stream.StreamFault.{StreamFault}
 
 -- A stream is served from this world on, by sources that show the first boxes before and the last ones when they are handed back. What
--- was read and written is that of a run, line by line over what the boxes show, and the last boxes stand for the world that the run leads
--- to, with its sessions ended.
+-- was read and written is that of a run, line by line over what the boxes show. Then its sessions are ended, for which the boxes only
+-- count what is asked of them; and the last boxes stand for the world that the run leads to, with its sessions ended.
 pub record ServesWorld (first last : List (Option BoxState)) (w : World)
     (input output : Stream) (result : Result Ended StreamFault) : Type 0 where
   pub after : World
   pub left : Option (List ℕ)
+  pub ran : List (Option BoxState)
   pub serves : Serves SceneSteps SceneEnds (record { world = w; boxes = first }) []
-      (record { world = after; boxes = last }) left input output result
+      (record { world = after; boxes = ran }) left input output result
+  pub rises : EachRises ran last
   pub engine : Shown
   pub boxes : engine.boxes ≡ last
   pub agrees : Agrees engine (without_sessions after)

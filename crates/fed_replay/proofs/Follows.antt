@@ -1,11 +1,13 @@
 -- Replays of engines, of their boxes, and of the worlds that they stand for.
 use Rattle.std.proofs.lemmas.Str.{is_utf8-from_IsUtf8, IsUtf8-from_is_utf8}
 use Rattle.std.specs.Str.{IsUtf8, is_utf8}
-use Rattle.std.proofs.Common.{◌≡◌, Bool, true, false, ℕ, List, [], ◌∷◌, Option, None, option_map, Result, Ok, Err, refl, sym, ap, ◌∙◌, subst, inl, inr, lit≤}
+use Rattle.std.proofs.Common.{◌≡◌, Bool, true, false, ℕ, List, [], ◌∷◌, Option, Some, None, option_map, Result, Ok, Err, refl, sym, ap, ◌∙◌, subst, inl, inr, lit≤}
 use Rattle.fdw_api.specs.State.{BoxState}
 use Rattle.med_session.specs.Requests.{Asked}
-use Rattle.med_session.specs.World.{World, new_session, with_session}
-use Rattle.med_session.specs.Engine.{Agrees, Befell, EachRises, user_of}
+use Rattle.med_session.specs.World.{World, Session, with_session}
+use Rattle.med_session.specs.Engine.{Agrees, Befell, EachRises}
+use Rattle.med_world.specs.Seats.{seat_of, user_of, SeatAgrees}
+use Rattle.open_cursors.specs.Open.{Seated}
 use Rattle.med_session.specs.Shows.{shown}
 use Rattle.med_session.specs.declared.engine.Engine.{Engine}
 use Rattle.med_world.proofs.Faring.{none_rises, rise_twice}
@@ -71,16 +73,21 @@ steps_follow meaning old sid request reply new h s a =
 
 closes_follows : {W : Type 0} (meaning : W → BoxState) (old new : Engine W) (s : Scene) → EngineCloses meaning old new → s.boxes ≡ (shown meaning old).boxes
     → SceneCloses s (scene_of meaning new (with_session s.world session None))
-closes_follows meaning old new s h same =
-    ap (λ (boxes : List (Option BoxState)). let all : Scene = record { world = with_session s.world session None; boxes = boxes } in all) (ap (λ e. e.boxes) h.others ∙ sym same)
+closes_follows meaning old new s h same = (refl, subst (λ boxes. EachRises boxes (shown meaning new).boxes) (sym same) h.rises)
+
+-- where the engine has no user of a session, a world that agrees has it closed
+shut_by : (boxes : List (Option BoxState)) (w : World) (o : Option Seated) (s : Option Session) → SeatAgrees boxes w o s → option_map (λ (x : Seated). x.user) o ≡ None → s ≡ None
+shut_by boxes w None None h e = refl
+shut_by boxes w None (Some s) h e = absurd h
+shut_by boxes w (Some seat) s h e = absurd cc
 
 pub in_worlds : {W : Type 0} (meaning : W → BoxState) (old new : Engine W) (owner script : List ℕ) (result : Result ℕ ScriptFault)
     → Replays (EngineSteps meaning) (EngineCloses meaning) old owner script result new
     → (w : World) → Agrees (shown meaning old) w
     → (after : World) × Replays SceneSteps SceneCloses (scene_of meaning old w) owner script result (scene_of meaning new after)
-    × Agrees (shown meaning new) after × (user_of (shown meaning old).users session ≡ None → after.sessions session ≡ None)
+    × Agrees (shown meaning new) after × (user_of (shown meaning old).seats session ≡ None → after.sessions session ≡ None)
 in_worlds meaning old new owner script result (not_text t r same) w a =
-    (w, not_text t r (ap (λ e. scene_of meaning e w) same), subst (λ e. Agrees (shown meaning e) w) (sym same) a, λ closed. a.sessions session (lit≤ tt, lit≤ tt) ∙ ap (option_map new_session) closed)
+    (w, not_text t r (ap (λ e. scene_of meaning e w) same), subst (λ e. Agrees (shown meaning e) w) (sym same) a, λ closed. shut_by (shown meaning old).boxes w (seat_of (shown meaning old).seats session) (w.sessions session) (a.sessions session (lit≤ tt, lit≤ tt)) closed)
 in_worlds meaning old new owner script result (runs t last h closes) w a =
     let one = runs_follow (EngineSteps meaning) SceneSteps (Stands meaning) (steps_follow meaning) old owner (statement_lines script) result last h (scene_of meaning old w) (a, refl) in
     (with_session one.0.world session None, runs t one.0 one.1 (closes_follows meaning last new one.0 closes one.2.1), closes.world one.0.world one.2.0, λ closed. refl)
@@ -113,7 +120,7 @@ pub replay_rises : {W : Type 0} (meaning : W → BoxState) (old new : Engine W) 
 replay_rises meaning old new owner script result (not_text t r same) = same_rises meaning old new same
 replay_rises meaning old new owner script result (runs t last h closes) =
     along meaning old last new (run_rises meaning old owner (statement_lines script) result last h)
-    (subst (λ boxes. EachRises (shown meaning last).boxes boxes) (sym (ap (λ e. e.boxes) closes.others)) (none_rises (shown meaning last).boxes))
+    closes.rises
 
 -- ---- the two ends of a replay
 

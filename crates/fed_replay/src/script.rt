@@ -2,7 +2,8 @@
 ghost use Rattle.std.specs.Prelude.{◌≡◌, ℕ, List, None, IfOk, IfErr, OnOk, OnErr};
 ghost use Rattle.med_session.specs.Asking.{asked};
 ghost use Rattle.med_session.specs.World.{World};
-ghost use Rattle.med_session.specs.Engine.{IsSound, Agrees, user_of};
+ghost use Rattle.med_session.specs.Engine.{IsSound, Agrees};
+ghost use Rattle.med_world.specs.Seats.{user_of};
 ghost use Rattle.med_session.specs.Shows.{shown};
 ghost use Rattle.session_wire.specs.Engines.{EngineSteps, EngineRises};
 ghost use Rattle.session_wire.specs.Worlds.{scene_of, SceneSteps};
@@ -54,7 +55,7 @@ pub fn replay<W: Wrapper>(
     ensures worlds { (w : World) → Agrees (shown W.meaning engine.old) w
         → (after : World) × Replays SceneSteps SceneCloses (scene_of W.meaning engine.old w) owner.now script.now result
         (scene_of W.meaning engine.new after) × Agrees (shown W.meaning engine.new) after
-        × (user_of (shown W.meaning engine.old).users session ≡ None → after.sessions session ≡ None) }
+        × (user_of (shown W.meaning engine.old).seats session ≡ None → after.sessions session ≡ None) }
     ensures rises { EngineRises W.meaning engine.old engine.new }
 {
     let Ok(text) = str::from_utf8(script) else {

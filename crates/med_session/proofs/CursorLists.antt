@@ -1,5 +1,5 @@
 -- Cursors of a session: by their names, and with another run.
-use Rattle.std.proofs.Common.{◌≡◌, ℕ, ◌+◌, ◌<◌, zero, suc, Bool, true, false, not, cond, if◌then◌else◌, List, [], ◌∷◌, ◌++◌, length, map, take, find, filter, remove, replicate, slice_get, slice_set, get_or, Option, Some, None, is_some, option_map, bytes_eq, string_bytes, refl, ap, sym, ◌∙◌, subst, arith}
+use Rattle.std.proofs.Common.{◌≡◌, ℕ, ◌+◌, ◌<◌, zero, suc, Bool, true, false, not, cond, if◌then◌else◌, List, [], ◌∷◌, ◌++◌, length, map, take, find, remove, replicate, slice_get, slice_set, get_or, Option, Some, None, is_some, option_map, bytes_eq, string_bytes, refl, ap, sym, ◌∙◌, subst, arith}
 use Rattle.std.specs.List.{AllByRecursion, position}
 use Rattle.std.specs.Option.{option_and_then}
 use Rattle.std.proofs.lemmas.List.{length-map}
@@ -10,7 +10,7 @@ use Rattle.med_syntax.specs.Tree.{Name}
 use Rattle.med_exec.specs.declared.running.Run.{Run}
 use Rattle.open_cursors.specs.declared.cursors.Seat.{Seat}
 use Rattle.open_cursors.specs.declared.cursors.OpenCursor.{OpenCursor}
-use Rattle.open_cursors.specs.Open.{Opened, opened, seats_shown, seated, AreNamedApart, has_name, opened_named, without_named, runs_on, with_run}
+use Rattle.open_cursors.specs.Open.{Opened, opened, seats_shown, seated, AreNamedApart, has_name, opened_named, without_named, with_run}
 use Rattle.med_session.proofs.AddingLists.{within_some, each_at, same_bytes, bytes_same}
 
 -- ---- places

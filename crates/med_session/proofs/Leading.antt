@@ -10,7 +10,7 @@ use Rattle.bind_catalog.specs.Looked.{query_in}
 use Rattle.med_world.specs.Requests.{Asked, opening, sql, bye}
 use Rattle.med_world.specs.World.{World, Session}
 use Rattle.med_world.specs.Picks.{Pick}
-use Rattle.med_world.specs.Replies.{Reply, done, answered, refused, reply_text}
+use Rattle.med_world.specs.Replies.{Reply, answered, refused, reply_text}
 use Rattle.med_world.specs.Steps.{Trouble, TakesMemory, TreeDoes, Does, Step, is_refused, is_done, lacks_memory, fetch_lacks_memory, source_fails, numbers_end}
 use Rattle.med_world.specs.Engine.{Shown, Agrees, Leads, IsAnswered}
 use Rattle.med_world.specs.Laws.{IsRead}

@@ -19,7 +19,7 @@ use Rattle.med_world.specs.Seats.{seat_of}
 use Rattle.med_world.specs.Engine.{Shown, IsSound, Leads}
 use Rattle.med_world.specs.Laws.{IsRead}
 use Rattle.med_world.specs.Turning.{with_cursors, Ends, later}
-use Rattle.med_session.specs.Cursors.{having, Fetched, HasCursor, LosesCursor, MayBeUntold, IfFetched}
+use Rattle.med_session.specs.Cursors.{having, Fetched, LosesCursor, MayBeUntold, IfFetched}
 use Rattle.med_session.specs.declared.replies.Outcome.{Outcome}
 use Rattle.med_session.specs.declared.replies.Outcome.TheVariants as outcome
 use Rattle.med_session.proofs.Seats.{set_twice, seat_put}

@@ -19,7 +19,7 @@ engine_kept {W} meaning = record {
   same = λ e. none_rises (shown meaning e).boxes;
   along = λ e f g. rise_twice (shown meaning e).boxes (shown meaning f).boxes (shown meaning g).boxes;
   steps = λ old sid request reply new h. h.leads.rises;
-  ends = λ old new h. subst (λ boxes. EachRises (shown meaning old).boxes boxes) (sym (ap (λ s. s.boxes) h.others)) (none_rises (shown meaning old).boxes);
+  ends = λ old new h. h.rises;
 }
 
 -- ---- worlds follow
@@ -37,7 +37,7 @@ steps_follow meaning old sid request reply new h s a =
     (scene_of meaning new one.0, (leads.trouble, befell, rises, (h.reply, h.is, one.1)), (one.2, refl))
 
 ends_follow : {W : Type 0} (meaning : W → BoxState) → EndsFollow (EngineEnds meaning) SceneEnds (Stands meaning)
-ends_follow meaning old new h s a = (record s { world = without_sessions s.world }, refl, (h.world s.world a.0, a.1 ∙ sym (ap (λ e. e.boxes) h.others)))
+ends_follow meaning old new h s a = (scene_of meaning new (without_sessions s.world), (refl, subst (λ boxes. EachRises boxes (shown meaning new).boxes) (sym a.1) h.rises), (h.world s.world a.0, refl))
 
 -- a scene with an engine's boxes is the engine's at its world
 is_scene : {W : Type 0} (meaning : W → BoxState) (e : Engine W) (s : Scene) → s.boxes ≡ (shown meaning e).boxes → s ≡ scene_of meaning e s.world

@@ -10,7 +10,7 @@ use Rattle.med_session.specs.declared.engine.Engine.{Engine}
 abbrev pub EngineSteps : {W : Type 0} → (W → BoxState) → Engine W → ℕ → Asked → List ℕ → Engine W → Type 0
 EngineSteps meaning old sid request text new = IsAnswered (shown meaning old) sid request text (shown meaning new)
 
--- every session is closed, and nothing else has changed
+-- every session is closed, and its cursors with it
 abbrev pub EngineEnds : {W : Type 0} → (W → BoxState) → Engine W → Engine W → Type 0
 EngineEnds meaning old new = ClosesAll (shown meaning old) (shown meaning new)
 

@@ -27,6 +27,6 @@ SceneSteps old sid request text new =
     (t : Trouble) × Befell old.boxes new.boxes t × EachRises old.boxes new.boxes
     × ((reply : Reply) × (text ≡ reply_text sid reply) × Step old.world sid request t reply new.world)
 
--- every session is ended, and the boxes show what they did
+-- every session is ended, and the boxes have counted what was asked of them for it, and nothing more
 abbrev pub SceneEnds : Scene → Scene → Type 0
-SceneEnds old new = new ≡ record old { world = without_sessions old.world }
+SceneEnds old new = (new.world ≡ without_sessions old.world) × EachRises old.boxes new.boxes

@@ -1,6 +1,5 @@
-use Rattle.std.proofs.Common.{◌≡◌, ◌<◌, length, slice_get, List, map, string_bytes, ap, sym, ◌∙◌, refl}
+use Rattle.std.proofs.Common.{◌≡◌, ◌<◌, length, slice_get, List, map, string_bytes, ap, ◌∙◌}
 use Rattle.med_value.specs.declared.cause.Cause.{Cause}
-use Rattle.fdw_api.specs.State.{BoxState}
 use Rattle.fdw_api.specs.declared.interface.Fault.{Fault}
 use Rattle.med_exec.specs.Running.{Breaks, wants_memory, box_breaks, none_held}
 use Rattle.med_exec.specs.Slots.{states}

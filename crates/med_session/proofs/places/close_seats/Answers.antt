@@ -1,5 +1,5 @@
 use Rattle.std.proofs.Common.{◌≡◌, map, ◌<◌, length, sym, subst, arith}
-use Rattle.med_exec.specs.Running.{Held, AllServed, ServesRun, none_held}
+use Rattle.med_exec.specs.Running.{Held, ServesRun, none_held}
 use Rattle.med_exec.specs.Slots.{states}
 use Rattle.open_cursors.specs.Open.{opened}
 use Rattle.med_session.proofs.CursorLists.{next_closed}

@@ -1,14 +1,12 @@
-use Rattle.std.proofs.Common.{◌≡◌, None, codes, sym, subst, ap, ◌-◌, slice_get, List, Option}
-use Rattle.fdw_api.specs.State.{BoxState}
+use Rattle.std.proofs.Common.{codes, sym, subst}
 use Rattle.med_exec.specs.Slots.{states}
-use Rattle.open_cursors.specs.Open.{Seated, seated}
+use Rattle.open_cursors.specs.Open.{seated}
 use Rattle.med_world.specs.Engine.{Shown, IsSound, Leads}
-use Rattle.med_world.specs.Laws.{with_seats}
 use Rattle.med_world.specs.Replies.{done, refused}
 use Rattle.med_world.specs.Requests.{bye}
 use Rattle.med_value.specs.declared.cause.Cause.TheVariants.{NoConnection}
 use Rattle.med_session.specs.Shows.{shown}
-use Rattle.med_session.proofs.Seats.{set_none, no_user, vacated, left_shut}
+use Rattle.med_session.proofs.Seats.{no_user, vacated, left_shut}
 use Rattle.med_session.proofs.engine.Engine.bye.Goals as goal
 
 pub returns-in-Some-clause-sound : goal.returns-in-Some-clause-sound

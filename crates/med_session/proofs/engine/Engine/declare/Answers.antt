@@ -1,15 +1,11 @@
-use Rattle.std.proofs.Common.{◌≡◌, ◌∙◌, ◌++◌, ◌∷◌, [], List, Some, None, string_bytes, codes, sym, subst, rules}
-use Rattle.med_value.specs.declared.cause.Cause.{Cause}
-use Rattle.med_syntax.specs.QueryView.{statement_tree}
-use Rattle.bind_catalog.specs.Looked.{query_in}
+use Rattle.std.proofs.Common.{◌≡◌, ◌∙◌, Some, None, codes, sym, subst}
 use Rattle.med_exec.specs.Slots.{states}
-use Rattle.open_cursors.specs.Open.{seated, seats_shown}
+use Rattle.open_cursors.specs.Open.{seated}
 use Rattle.med_world.specs.Engine.{Shown, IsSound, Leads}
 use Rattle.med_world.specs.Laws.{with_boxes}
 use Rattle.med_world.specs.Replies.{done, refused}
 use Rattle.med_world.specs.Requests.{sql}
 use Rattle.med_world.specs.Seats.{seat_of}
-use Rattle.med_world.specs.Turning.{new_opened, with_cursors}
 use Rattle.med_session.specs.Cursors.{is_taken, no_memory, not_started}
 use Rattle.med_session.specs.Shows.{shown}
 use Rattle.med_session.proofs.Seats.{put_other, put_back, read_declare, left_long}

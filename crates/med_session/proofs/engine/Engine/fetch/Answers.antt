@@ -1,13 +1,8 @@
-use Rattle.std.proofs.Common.{◌≡◌, ◌∙◌, List, map, Some, None, string_bytes, codes, refl, sym, subst}
+use Rattle.std.proofs.Common.{◌≡◌, ◌∙◌, map, Some, None, string_bytes, codes, refl, sym, subst}
 use Rattle.med_value.specs.Datum.{tuple}
-use Rattle.med_syntax.specs.Tree.{Name}
 use Rattle.med_exec.specs.Slots.{states}
-use Rattle.cursor_syntax.specs.CursorTree.{fetch}
-use Rattle.cursor_syntax.specs.CursorView.{count_tree}
-use Rattle.med_parser.specs.CommandTree.{on_cursors}
 use Rattle.open_cursors.specs.Open.{seated}
 use Rattle.med_world.specs.Engine.{Shown, IsSound, Leads}
-use Rattle.med_world.specs.Laws.{IsRead, with_boxes}
 use Rattle.med_world.specs.Replies.{answered, refused}
 use Rattle.med_world.specs.Requests.{sql}
 use Rattle.med_world.specs.Seats.{seat_of}

@@ -1,8 +1,7 @@
-use Rattle.std.proofs.Common.{◌≡◌, ◌∙◌, Some, None, sym, subst}
+use Rattle.std.proofs.Common.{◌∙◌, None, sym, subst}
 use Rattle.med_exec.specs.Slots.{states}
 use Rattle.open_cursors.specs.Open.{seated}
 use Rattle.med_world.specs.Engine.{Shown, IsSound}
-use Rattle.med_world.specs.Seats.{seat_of}
 use Rattle.med_world.specs.Turning.{at_once}
 use Rattle.med_session.specs.Shows.{shown}
 use Rattle.med_session.proofs.Seats.{put_other, seat_sound, left_long}
