@@ -1,13 +1,13 @@
 -- What a parse of the program's words gives.
 use Rattle.std.proofs.Common.{◌≡◌, ◌⊎◌, true, ℕ, List, [], codes, Option, Some, None, Err, Bor, option_map, unwrap_or, IfSome, refl, sym, ◌∙◌, ap, subst, inl, inr}
-use Rattle.clap.specs.Words.{App, Row, Text, HasMatchesOf, IsAmong, fault_of, all_of, first_of, is_simple, is_simple_and_free, subcommand_rows_of}
+use Rattle.clap.specs.Words.{App, Row, Text, HasMatchesOf, IsAmong, fault_of, all_of, first_of, is_simple, is_simple_and_free, subcommand_of, subcommand_rows_of}
 use Rattle.clap.specs.declared.ArgMatches.{ArgMatches}
 use Rattle.clap.specs.declared.error.ErrorKind.{ErrorKind}
 use Rattle.clap.specs.declared.error.ErrorKind.TheVariants.{OutOfMemory}
 use Rattle.clap.proofs.OnLiterals.{clap_on_literals}
 use Rattle.fed_words.specs.CommandLine.{command_line, faults, value_in, value_given, values_in, values_given, IsHelp}
 use Rattle.fed_words.specs.Names.{IsSourceName}
-use Rattle.fed_words.specs.Words.{Reads, IsRefusal, HasBadPlace, told_place}
+use Rattle.fed_words.specs.Words.{Reads, IsRefusal, HasBadNumber, IsNumberRefusal, HasBadPlace, told_place}
 use Rattle.fed_words.specs.declared.places.PlaceFault.{PlaceFault}
 use Rattle.fed_words.specs.declared.places.PlaceFault.TheVariants as places
 use Rattle.fed_words.specs.declared.words.WordsFault.{WordsFault}
@@ -75,7 +75,7 @@ refused app words kind fault e h told = by_kind fault (subst (λ a. is_simple_an
     by_kind (Help text) (inl m) t = absurd (not_both m t)
     by_kind (Help text) (inr among) t = (kind, among, t)
     by_kind (Usage text) (inl m) t = absurd (t.1 m)
-    by_kind (Usage text) (inr among) t = (kind, among, t.0)
+    by_kind (Usage text) (inr among) t = inl (kind, among, t.0)
     by_kind (NoPath value) s t = absurd t
     by_kind (BadName name) s t = absurd t
     by_kind NoMemory s t = tt
@@ -85,3 +85,15 @@ pub owner_of : (o : Option (Bor (List ℕ))) (d r : Bor (List ℕ)) (g : Option 
     → unwrap_or g (codes "admin") ≡ r.now
 owner_of None d r g is named e = subst (λ x. unwrap_or x (codes "admin") ≡ r.now) e (sym named ∙ ap (λ s. s.now) (sym is))
 owner_of (Some s) d r g is named e = subst (λ x. unwrap_or x (codes "admin") ≡ r.now) e (ap (λ s. s.now) (sym is))
+
+-- a number that is not in its range is told
+pub number_refused : (words : List Text) (fault : WordsFault) → faults words ≡ [] → HasBadNumber (subcommand_of command_line words) → IsNumberRefusal fault → Reads words (Err fault)
+number_refused words (Help text) none bad told = absurd told
+number_refused words (Usage text) none bad told = inr (none, bad)
+number_refused words (NoPath value) none bad told = absurd told
+number_refused words (BadName name) none bad told = absurd told
+number_refused words NoMemory none bad told = tt
+
+-- the matches of a parse are those of the words
+pub met_by : (app : App) (words : List Text) (m : ArgMatches) → app ≡ command_line → HasMatchesOf app words m → subcommand_rows_of m ≡ subcommand_of command_line words
+met_by app words m e h = (subst (λ a. HasMatchesOf a words m) e h line_is_simple).1

@@ -1,24 +1,35 @@
 //! The words of the program.
-ghost use Rattle.std.specs.Prelude.{◌≡◌, ◌↔◌, [], ◌∷◌, ◌++◌, IsTrue, false, IfOk, IfErr, OnOk, IfSome, None, Some};
+ghost use Rattle.std.specs.Prelude.{◌≡◌, ◌↔◌, ℕ, [], ◌∷◌, ◌++◌, IsTrue, true, false, IfOk, IfErr, OnOk, IfSome, None, Some};
 ghost use Rattle.std.specs.Prelude.{codes, map, option_map, unwrap_or};
 ghost use Rattle.clap.specs.Lexer.{strip_byte};
 ghost use Rattle.clap.specs.Words.{Text, app_of, kind_of, rule_of, subcommand_rows_of};
 ghost use Rattle.clap.specs.declared.error.ErrorKind.TheVariants.{DisplayHelp, DisplayHelpOnMissingArgumentOrSubcommand};
+ghost use Rattle.clap.specs.declared.error.ErrorKind.TheVariants.{MissingRequiredArgument, ValueValidation};
 ghost use Rattle.fed_words.specs.CommandLine.{command_line, text_rule, texts_rule, faults, value_in, values_in};
+ghost use Rattle.fed_words.specs.CommandLine.{number_rule, port_rule, with_beginning, run_command, serve_command};
+ghost use Rattle.fed_words.specs.CommandLine.{command_named, port_given, count_given};
 ghost use Rattle.fed_words.specs.CommandLine.{owner_named, list_named, csv_given, jsonl_given, sqlite_given, init_named};
 ghost use Rattle.fed_words.specs.Places.{AreGood, AreRefused, place_in, place_of};
 ghost use Rattle.fed_words.specs.Names.{IsSourceName};
 ghost use Rattle.fed_words.specs.Told.{words_status};
+ghost use Rattle.fed_words.specs.Words.{IsNumber, IsPort, IsCount, IsService, HasBadNumber, IsNumberRefusal};
 ghost use Rattle.fed_words.specs.Words.{IsRefusal, Reads, told_place};
 ghost use Rattle.fed_words.specs.declared.places.PlaceKind.TheVariants.{Csv, JsonLines, Sqlite};
 
 use crate::places::{AskedPlace, PlaceFault, PlaceKind, read_places};
+use clap::builder::ValueParser;
 use clap::error::ErrorKind;
 use clap::{Arg, ArgAction, ArgMatches, Command};
 use med_session::users::is_user;
 use med_syntax::is_reserved;
 use std::alloc::{AllocError, Global};
 use std::convert::AsStr;
+
+/// The most ports that there are.
+const MOST_PORT: u16 = 65_535;
+
+/// The most connections that can be asked.
+const MOST_COUNT: u16 = 1_000;
 
 /// The owner where the words name none.
 const OWNER: &str = "admin";
@@ -35,9 +46,27 @@ const JSONL_HELP: &str = "Adds the JSON lines files of the folder PATH as the so
 const SQLITE_HELP: &str =
     "Adds the SQLite database PATH as the source NAME; the path :memory: is a new one in memory";
 
+const PORT_HELP: &str = "The port of 127.0.0.1 to listen on, from 1 to 65535";
+
+const COUNT_HELP: &str = "The number of connections to serve, from 1 to 1000, by default 1";
+
 const INIT_HELP: &str = "Runs the lines of FILE as the owner's statements before";
 
-/// What the words ask: to answer standard input.
+/// What is to be served.
+#[derive(Clone, Copy, Debug, PartialEq, Eq)]
+pub enum Service {
+    /// Standard input, on standard output.
+    StandardInput,
+    /// Connections to a port of 127.0.0.1, one after the other.
+    Connections {
+        /// The port.
+        port: u16,
+        /// How many.
+        count: u16,
+    },
+}
+
+/// What the words ask.
 #[derive(Debug, Drop)]
 pub struct Asked<'a> {
     /// The name of the engine's owner.
@@ -46,8 +75,10 @@ pub struct Asked<'a> {
     pub list: Option<&'a str>,
     /// The folders and databases that are to be sources, in the order in which they are added.
     pub places: Vec<AskedPlace<'a>>,
-    /// The path of the file whose lines the owner runs before standard input is answered, if one is given.
+    /// The path of the file whose lines the owner runs before anything is served, if one is given.
     pub init: Option<&'a str>,
+    /// What is to be served.
+    pub service: Service,
 }
 
 /// Why the words ask no run.
@@ -109,9 +140,32 @@ fn texts_option<'a>(alloc: Global, name: &'a str, value: &'a str, help: &'a str)
         .help(help)
 }
 
-// The command line that the program understands.
-fn command<'a>(alloc: Global) -> Result<Command<'a>, AllocError>
-    ensures { IfOk result (λ c. app_of c ≡ command_line) }
+// An option of this name, which has one decimal number from 1 to `most`.
+fn number_option<'a>(
+    alloc: Global,
+    name: &'a str,
+    value: &'a str,
+    most: u16,
+    help: &'a str,
+) -> Arg<'a>
+    ensures rule { rule_of result ≡ number_rule name.now most }
+    ensures own { result.global ≡ false }
+{
+    let numbers = ValueParser::unsigned(1, u64::from(most));
+    text_option(alloc, name, value, help).value_parser(numbers)
+}
+
+// The option of the port.
+fn port_option<'a>(alloc: Global) -> Arg<'a>
+    ensures rule { rule_of result ≡ port_rule }
+    ensures own { result.global ≡ false }
+{
+    number_option(alloc, "port", "P", MOST_PORT, PORT_HELP).required(true)
+}
+
+// A command with the options of what it begins with: its owner, its sources and its init file.
+fn with_beginning<'a>(alloc: Global, command: Command<'a>) -> Result<Command<'a>, AllocError>
+    ensures { IfOk result (λ c. app_of c ≡ with_beginning (app_of command.entry)) }
 {
     let owner = text_option(alloc, "owner", "NAME", OWNER_HELP);
     let list = text_option(alloc, "list", "NAME", LIST_HELP);
@@ -119,20 +173,51 @@ fn command<'a>(alloc: Global) -> Result<Command<'a>, AllocError>
     let jsonl = texts_option(alloc, "jsonl", "NAME=PATH", JSONL_HELP);
     let sqlite = texts_option(alloc, "sqlite", "NAME=PATH", SQLITE_HELP);
     let init = text_option(alloc, "init", "FILE", INIT_HELP);
-    let run = Command::new(alloc, "run")
-        .about("Answers the request lines of standard input on standard output")
+    command
         .arg(owner)?
         .arg(list)?
         .arg(csv)?
         .arg(jsonl)?
         .arg(sqlite)?
-        .arg(init)?;
+        .arg(init)
+}
+
+// The command `run`.
+fn run_command<'a>(alloc: Global) -> Result<Command<'a>, AllocError>
+    ensures { IfOk result (λ c. app_of c ≡ run_command) }
+{
+    let run = Command::new(alloc, "run").about(
+        "Answers the request lines of standard input on standard output",
+    );
+    with_beginning(alloc, run)
+}
+
+// The command `serve`.
+fn serve_command<'a>(alloc: Global) -> Result<Command<'a>, AllocError>
+    ensures { IfOk result (λ c. app_of c ≡ serve_command) }
+{
+    let port = port_option(alloc);
+    let count = number_option(alloc, "count", "N", MOST_COUNT, COUNT_HELP);
+    let serve = Command::new(alloc, "serve")
+        .about("Answers the request lines of TCP connections, one connection after the other")
+        .arg(port)?
+        .arg(count)?;
+    with_beginning(alloc, serve)
+}
+
+// The command line that the program understands.
+fn command<'a>(alloc: Global) -> Result<Command<'a>, AllocError>
+    ensures { IfOk result (λ c. app_of c ≡ command_line) }
+{
+    let run = run_command(alloc)?;
+    let serve = serve_command(alloc)?;
     Command::new(alloc, "fedq")
         .about("One SQL front over tables that live elsewhere")
         .subcommand_required(true)
         .arg_required_else_help(true)
         .bin_name("fedq")?
-        .subcommand(run)
+        .subcommand(run)?
+        .subcommand(serve)
 }
 
 // What is told where the words are not taken.
@@ -242,6 +327,59 @@ fn list_of<'a>(matches: &ArgMatches<'a>) -> Result<Option<&'a str>, &'a str>
     }
 }
 
+// The number that a text says in decimal digits, if it is from 1 to `most`.
+fn number_in(text: &str, most: u16) -> Option<u16>
+    ensures some { IfSome result (IsNumber most text.now) }
+    ensures none { result ≡ None → (number : ℕ) → IsNumber most text.now number → ⊥ }
+{
+    match text.parse::<u16>() {
+        Ok(number) if 1 <= number && number <= most => Some(number),
+        _ => None,
+    }
+}
+
+// The port that the words gave.
+fn port_of(matches: &ArgMatches<'_>) -> Option<u16>
+    ensures some { IfSome result (IsPort (value_in (codes "port") (subcommand_rows_of matches.now))) }
+    ensures none { result ≡ None → (port : ℕ) → IsPort (value_in (codes "port") (subcommand_rows_of matches.now)) port → ⊥ }
+{
+    number_in(value_of(matches, "port")?, MOST_PORT)
+}
+
+// The number of connections that the words gave, or 1.
+fn count_of(matches: &ArgMatches<'_>) -> Option<u16>
+    ensures some { IfSome result (IsCount (value_in (codes "count") (subcommand_rows_of matches.now))) }
+    ensures none { result ≡ None → (count : ℕ) → IsCount (value_in (codes "count") (subcommand_rows_of matches.now)) count → ⊥ }
+{
+    match value_of(matches, "count") {
+        Some(text) => number_in(text, MOST_COUNT),
+        None => Some(1),
+    }
+}
+
+// What the words ask to be served. None where a number is not in its range.
+fn service_of(matches: &ArgMatches<'_>) -> Option<Service>
+    ensures some { IfSome result (IsService (subcommand_rows_of matches.now)) }
+    ensures none { result ≡ None → HasBadNumber (subcommand_rows_of matches.now) }
+{
+    if matches.subcommand_matches("serve").is_none() {
+        return Some(Service::StandardInput);
+    }
+    let port = port_of(matches)?;
+    let count = count_of(matches)?;
+    Some(Service::Connections { port, count })
+}
+
+// What is told of a number that is not in its range.
+fn number_refusal<'a>(alloc: Global) -> WordsFault<'a>
+    ensures { IsNumberRefusal result }
+{
+    match "error: a number is not in its range\n".to_string(alloc) {
+        Ok(text) => WordsFault::Usage(text),
+        Err(_) => WordsFault::NoMemory,
+    }
+}
+
 /// What the program's words ask, the first word being its own name.
 pub fn read_words<'a, S: AsStr>(alloc: Global, words: &'a [S]) -> Result<Asked<'a>, WordsFault<'a>>
     ensures { Reads (map S.text words.entry.now) result }
@@ -252,6 +390,9 @@ pub fn read_words<'a, S: AsStr>(alloc: Global, words: &'a [S]) -> Result<Asked<'
     let matches = match command.try_get_matches_from(words) {
         Ok(matches) => matches,
         Err(error) => return Err(refusal(alloc, error)),
+    };
+    let Some(service) = service_of(&matches) else {
+        return Err(number_refusal(alloc));
     };
     let owner = value_of(&matches, "owner").unwrap_or(OWNER);
     if !is_source_name(owner) {
@@ -271,14 +412,17 @@ pub fn read_words<'a, S: AsStr>(alloc: Global, words: &'a [S]) -> Result<Asked<'
         list,
         places,
         init,
+        service,
     })
 }
 
 /// What some words mean: `run` alone, `run --list NAME`, `run --owner NAME`, `run --csv NAME=PATH`,
-/// `run --jsonl NAME=PATH`, `run --sqlite NAME=PATH`, `run --init FILE`, `--help`, and none.
+/// `run --jsonl NAME=PATH`, `run --sqlite NAME=PATH`, `run --init FILE`, `serve` with numbers in their
+/// ranges and out of them, `serve` alone, `--help`, and none.
 pub fn words_mean()
     ensures alone { (program : Text) → (faults (program ∷ codes "run" ∷ []) ≡ []) × (list_named (program ∷ codes "run" ∷ []) ≡ None)
         × (owner_named (program ∷ codes "run" ∷ []) ≡ codes "admin") × (init_named (program ∷ codes "run" ∷ []) ≡ None)
+        × (command_named (program ∷ codes "run" ∷ []) ≡ Some (codes "run"))
         × (csv_given (program ∷ codes "run" ∷ []) ≡ []) × (jsonl_given (program ∷ codes "run" ∷ []) ≡ [])
         × (sqlite_given (program ∷ codes "run" ∷ []) ≡ []) }
     ensures list { (program name : Text) → strip_byte 45 name ≡ None
@@ -299,6 +443,19 @@ pub fn words_mean()
     ensures sqlite { (program value : Text) → strip_byte 45 value ≡ None
         → (faults (program ∷ codes "run" ∷ codes "--sqlite" ∷ value ∷ []) ≡ [])
         × (sqlite_given (program ∷ codes "run" ∷ codes "--sqlite" ∷ value ∷ []) ≡ value ∷ []) }
+    ensures serve { (program : Text)
+        → (faults (program ∷ codes "serve" ∷ codes "--port" ∷ codes "65535" ∷ codes "--count" ∷ codes "1000" ∷ []) ≡ [])
+        × (command_named (program ∷ codes "serve" ∷ codes "--port" ∷ codes "65535" ∷ codes "--count" ∷ codes "1000" ∷ []) ≡ Some (codes "serve"))
+        × (port_given (program ∷ codes "serve" ∷ codes "--port" ∷ codes "65535" ∷ codes "--count" ∷ codes "1000" ∷ []) ≡ Some (codes "65535"))
+        × (count_given (program ∷ codes "serve" ∷ codes "--port" ∷ codes "65535" ∷ codes "--count" ∷ codes "1000" ∷ []) ≡ Some (codes "1000")) }
+    ensures once { (program : Text) → (faults (program ∷ codes "serve" ∷ codes "--port" ∷ codes "1" ∷ []) ≡ [])
+        × (count_given (program ∷ codes "serve" ∷ codes "--port" ∷ codes "1" ∷ []) ≡ None) }
+    ensures ranges { (program : Text)
+        → (faults (program ∷ codes "serve" ∷ codes "--port" ∷ codes "0" ∷ []) ≡ ValueValidation ∷ [])
+        × (faults (program ∷ codes "serve" ∷ codes "--port" ∷ codes "65536" ∷ []) ≡ ValueValidation ∷ [])
+        × (faults (program ∷ codes "serve" ∷ codes "--port" ∷ codes "1" ∷ codes "--count" ∷ codes "0" ∷ []) ≡ ValueValidation ∷ [])
+        × (faults (program ∷ codes "serve" ∷ codes "--port" ∷ codes "1" ∷ codes "--count" ∷ codes "1001" ∷ []) ≡ ValueValidation ∷ []) }
+    ensures portless { (program : Text) → faults (program ∷ codes "serve" ∷ []) ≡ MissingRequiredArgument ∷ [] }
     ensures help { (program : Text) → faults (program ∷ codes "--help" ∷ []) ≡ DisplayHelp ∷ [] }
     ensures none { (program : Text) → faults (program ∷ []) ≡ DisplayHelpOnMissingArgumentOrSubcommand ∷ [] }
 {}

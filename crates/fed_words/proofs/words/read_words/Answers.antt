@@ -3,12 +3,20 @@ use Rattle.clap.specs.Words.{Text, kind_of}
 use Rattle.fed_words.specs.Places.{Place, AreGood, AreRefused, place_in}
 use Rattle.fed_words.specs.Names.{IsSourceName}
 use Rattle.fed_words.specs.declared.places.PlaceKind.TheVariants.{Csv, JsonLines, Sqlite}
-use Rattle.fed_words.proofs.Parsed.{no_faults, given, all_given, refused, owner_of, list_is_good, place_refused}
+use Rattle.fed_words.specs.Words.{IsService, HasBadNumber}
+use Rattle.fed_words.proofs.Parsed.{met_by, number_refused, no_faults, given, all_given, refused, owner_of, list_is_good, place_refused}
 use Rattle.fed_words.proofs.words.read_words.Goals as goal
 
 -- the words were not taken
 pub returns-in-Err : goal.returns-in-Err
 returns-in-Err g c = refused _ _ (kind_of c.in-Err.error) _ c.in-Ok.ensures c.in-Err.ensures.kinds c.refusal.ensures
+
+-- a number is not in its range
+pub returns-in_default-service_of : goal.returns-in_default-service_of
+returns-in_default-service_of g c =
+    let matches = c.in-Ok-try_get_matches_from.ensures in
+    number_refused (map g.S.AsStr.text c.args.words.now) _ (no_faults _ _ c.in-Ok.ensures matches.kinds)
+    (subst HasBadNumber (met_by _ _ _ c.in-Ok.ensures matches.matches) (c.service_of.ensures.none c.in_default-service_of.is)) c.number_refusal.ensures
 
 -- the owner's name is bad
 pub returns-then-not-is_source_name : goal.returns-then-not-is_source_name
@@ -58,5 +66,6 @@ returns g c =
         places = c.in-Ok-places_of.ensures.read ∙ ap₂ (λ (a : List Place) (b : List Text). a ++ map (place_in Sqlite) b) files sqlite;
         are_places = subst AreGood (ap₂ (λ (a b : List Text). a ++ b) (ap₂ (λ (a b : List Text). a ++ b) csv jsonl) sqlite) c.in-Ok-places_of.ensures.good;
         init = c.value_of-init.ensures ∙ given (codes "init") _ _ _ c.in-Ok.ensures matches.matches;
+        service = subst (λ met. IsService met c.in-Some.service) (met_by _ _ _ c.in-Ok.ensures matches.matches) c.in-Some.ensures.some;
       },
     )

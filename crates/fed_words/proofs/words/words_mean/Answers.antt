@@ -8,7 +8,7 @@ use Rattle.fed_words.proofs.words.words_mean.Goals as goal
 
 pub returns-clause-alone : goal.returns-clause-alone
 unfolding clap_on_literals
-returns-clause-alone c = λ program. (refl, refl, refl, refl, refl, refl, refl)
+returns-clause-alone c = λ program. (refl, refl, refl, refl, refl, refl, refl, refl)
 
 pub returns-clause-help : goal.returns-clause-help
 unfolding clap_on_literals
@@ -106,3 +106,19 @@ with_sqlite program (x ∷ xs) e =
 
 pub returns-clause-sqlite : goal.returns-clause-sqlite
 returns-clause-sqlite c = with_sqlite
+
+pub returns-clause-portless : goal.returns-clause-portless
+unfolding clap_on_literals
+returns-clause-portless c = λ program. refl
+
+pub returns-clause-serve : goal.returns-clause-serve
+unfolding clap_on_literals
+returns-clause-serve c = λ program. (refl, refl, refl, refl)
+
+pub returns-clause-once : goal.returns-clause-once
+unfolding clap_on_literals
+returns-clause-once c = λ program. (refl, refl)
+
+pub returns-clause-ranges : goal.returns-clause-ranges
+unfolding clap_on_literals
+returns-clause-ranges c = λ program. (refl, refl, refl, refl)
