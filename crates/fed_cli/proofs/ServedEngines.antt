@@ -3,8 +3,8 @@ use Rattle.std.proofs.Common.{◌≡◌, ℕ, Bool, true, false, cond, List, [],
 use Rattle.fdw_api.specs.State.{BoxState}
 use Rattle.med_exec.specs.Slots.{states}
 use Rattle.med_session.specs.World.{World, without_sessions}
-use Rattle.med_session.specs.Engine.{Agrees, EachRises}
-use Rattle.med_world.proofs.Faring.{none_rises}
+use Rattle.med_session.specs.Engine.{Shown, Agrees, EachRises, ClosesAll}
+use Rattle.med_world.proofs.Faring.{none_rises, rise_twice}
 use Rattle.med_session.specs.Shows.{shown}
 use Rattle.med_session.specs.declared.engine.Engine.{Engine}
 use Rattle.session_wire.specs.Lines.{lines_within}
@@ -38,13 +38,17 @@ Law {W} meaning = (old new : Engine W) (before : List ℕ) (left : Option (List 
 abbrev over : List (Option BoxState) → World → Scene
 over boxes w = record { world = w; boxes = boxes }
 
+-- the engine is handed back: once more its sessions are closed, and then its boxes are these
+abbrev HandsBack : {W : Type 0} → (W → BoxState) → Engine W → List (Option W) → Type 0
+HandsBack meaning closed slots = (last : Shown) × ClosesAll (shown meaning closed) last × (states meaning slots ≡ last.boxes)
+
 -- a new server was served, and its engine is handed back
 pub serves_world : {W : Type 0} (meaning : W → BoxState) (server : Server (Engine W)) (engine new closed : Engine W) (slots : List (Option W)) (left : Option (List ℕ)) (input output : Stream) (result : Result Ended StreamFault)
     → Law meaning → handler_of server ≡ engine → unread_of server ≡ Some []
     → (is_closed server ≡ false → Serves (EngineSteps meaning) (EngineEnds meaning) (handler_of server) (held_back server) new left input output result)
-    → EngineEnds meaning new closed → states meaning slots ≡ (shown meaning closed).boxes
+    → EngineEnds meaning new closed → HandsBack meaning closed slots
     → (w : World) → Agrees (shown meaning engine) w → ServesWorld (shown meaning engine).boxes (states meaning slots) w input output result
-serves_world meaning server engine new closed slots left input output result law of unread serves ends is w agrees =
+serves_world meaning server engine new closed slots left input output result law of unread serves ends (last, closes, is) w agrees =
     let both = open_server server [] unread in
     let begun = subst (λ b. Serves (EngineSteps meaning) (EngineEnds meaning) (handler_of server) b new left input output result) both.1 (serves both.0) in
     let run = subst (λ e. Serves (EngineSteps meaning) (EngineEnds meaning) e [] new left input output result) of begun in
@@ -54,19 +58,20 @@ serves_world meaning server engine new closed slots left input output result law
       left = left;
       ran = (shown meaning new).boxes;
       serves = one.1;
-      rises = subst (λ b. EachRises (shown meaning new).boxes b) (sym is) ends.rises;
-      engine = shown meaning closed;
+      rises = subst (λ b. EachRises (shown meaning new).boxes b) (sym is) (rise_twice (shown meaning new).boxes (shown meaning closed).boxes last.boxes ends.rises closes.rises);
+      engine = last;
       boxes = sym is;
-      agrees = ends.world one.0 one.2;
+      agrees = closes.world (without_sessions one.0) (ends.world one.0 one.2);
     }
 
 -- there was no room for a server
 pub no_server : {W : Type 0} (meaning : W → BoxState) (back engine closed : Engine W) (slots : List (Option W)) (had held : Option (List ℕ))
-    → back ≡ engine → EngineEnds meaning back closed → states meaning slots ≡ (shown meaning closed).boxes
+    → back ≡ engine → EngineEnds meaning back closed → HandsBack meaning closed slots
     → (w : World) → Agrees (shown meaning engine) w → ServesWorld (shown meaning engine).boxes (states meaning slots) w (stream had had) (stream held held) (Err NoRoom)
 unfolding lines_within
-no_server meaning back engine closed slots had held same ends is w agrees =
-    let rises : EachRises (shown meaning engine).boxes (states meaning slots) = subst (λ b. EachRises (shown meaning engine).boxes b) (sym is) (subst (λ e. EachRises (shown meaning e).boxes (shown meaning closed).boxes) same ends.rises) in
+no_server meaning back engine closed slots had held same ends (last, closes, is) w agrees =
+    let rises : EachRises (shown meaning engine).boxes (states meaning slots) = subst (λ b. EachRises (shown meaning engine).boxes b) (sym is)
+    (rise_twice (shown meaning engine).boxes (shown meaning closed).boxes last.boxes (subst (λ e. EachRises (shown meaning e).boxes (shown meaning closed).boxes) same ends.rises) closes.rises) in
     record {
       after = without_sessions w;
       left = None;
@@ -85,7 +90,7 @@ no_server meaning back engine closed slots had held same ends is w agrees =
         refl,
       );
       rises = none_rises (states meaning slots);
-      engine = shown meaning closed;
+      engine = last;
       boxes = sym is;
-      agrees = ends.world w (subst (λ e. Agrees (shown meaning e) w) (sym same) agrees);
+      agrees = closes.world (without_sessions w) (ends.world w (subst (λ e. Agrees (shown meaning e) w) (sym same) agrees));
     }

@@ -51,7 +51,7 @@ impl<W: Wrapper> Engine<W> {
     ghost use Rattle.med_session.specs.Adding.{AddCause, AreCounts};
     ghost use Rattle.med_session.specs.Shows.{shown};
     ghost use Rattle.med_world.specs.Adding.{Adds};
-    ghost use Rattle.med_world.specs.Engine.{IsSound, Agrees, TakesAs, EachBox, IsAtRest};
+    ghost use Rattle.med_world.specs.Engine.{Shown, IsSound, Agrees, TakesAs, EachBox, IsAtRest, ClosesAll};
     ghost use Rattle.med_world.specs.World.{World, with_source};
 
     /// Adds a source under a name, any text, that HANDLER names by this kind. Its wrapper is to be idle: nothing bound, live or staged; and it takes
@@ -112,12 +112,13 @@ impl<W: Wrapper> Engine<W> {
         }
     }
 
-    /// Hands the sources back as they are. No scan of them is live, and nothing is staged.
-    pub fn finish(self) -> Sources<W>
+    /// Closes every session, and every cursor with it, and hands the sources back. No scan of them is live, and nothing is staged.
+    pub fn finish(mut self) -> Sources<W>
         requires { IsSound (shown W.meaning self) }
-        ensures as_they_are { states W.meaning result.slots.items ≡ (shown W.meaning self).boxes }
+        ensures closed { (last : Shown) × ClosesAll (shown W.meaning self) last × (states W.meaning result.slots.items ≡ last.boxes) }
         ensures at_rest { EachBox IsAtRest (states W.meaning result.slots.items) }
     {
+        self.close_sessions();
         let Engine { slots, .. } = self;
         Sources { slots }
     }

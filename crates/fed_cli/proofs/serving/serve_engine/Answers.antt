@@ -7,11 +7,11 @@ use Rattle.fed_cli.proofs.serving.serve_engine.Goals as goal
 pub returns-in-Err-clause-worlds : goal.returns-in-Err-clause-worlds
 returns-in-Err-clause-worlds g c = λ w agrees.
     no_server g.B.Wrapper.meaning c.in-Err.engine c.args.engine c.close_sessions.new.self c.finish.result.slots.items (g.R.Read.remaining c.args.reader.now) (g.W.Write.contents c.args.writer.now)
-    c.in-Err.ensures.refused c.close_sessions.ensures.closes c.finish.ensures.as_they_are w agrees
+    c.in-Err.ensures.refused c.close_sessions.ensures.closes c.finish.ensures.closed w agrees
 
 -- the stream was served
 pub returns-clause-worlds : goal.returns-clause-worlds
 returns-clause-worlds g c = λ w agrees.
     serves_world g.B.Wrapper.meaning c.in-Ok.server c.args.engine (handler_of c.serve_stream-ended.new.server) c.finish-2.result c.finish-3.result.slots.items (unread_of c.serve_stream-ended.new.server)
     (stream (g.R.Read.remaining c.args.reader.now) (g.R.Read.remaining c.serve_stream-ended.new.reader)) (stream (g.W.Write.contents c.args.writer.now) (g.W.Write.contents c.serve_stream-ended.new.writer)) c.serve_stream-ended.result
-    c.served_worlds_follow.ensures c.in-Ok.ensures.ok.0 c.in-Ok.ensures.ok.1 c.serve_stream-ended.ensures.serves c.finish-2.ensures.ended c.finish-3.ensures.as_they_are w agrees
+    c.served_worlds_follow.ensures c.in-Ok.ensures.ok.0 c.in-Ok.ensures.ok.1 c.serve_stream-ended.ensures.serves c.finish-2.ensures.ended c.finish-3.ensures.closed w agrees
