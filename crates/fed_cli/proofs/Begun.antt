@@ -1,5 +1,5 @@
 -- A program that begins, or does not.
-use Rattle.std.proofs.Common.{◌≡◌, ℕ, Bool, true, List, Option, Some, None, option_map, Result, Ok, Err, Vec, String, string_bytes, map, refl, sym, subst}
+use Rattle.std.proofs.Common.{◌≡◌, ℕ, Bool, true, List, Option, Some, None, option_map, Result, Ok, Err, Vec, refl, sym, subst}
 use Rattle.std.specs.Global.{Global}
 use Rattle.fdw_api.specs.State.{BoxState}
 use Rattle.session_wire.specs.Worlds.{Scene, SceneSteps}
@@ -8,14 +8,12 @@ use Rattle.fed_replay.specs.Engines.{SceneCloses}
 use Rattle.fed_replay.specs.declared.script.ScriptFault.{ScriptFault}
 use Rattle.fed_replay.specs.declared.script.ScriptFault.TheVariants as scripts
 use Rattle.med_session.specs.declared.adding.Sources.{Sources}
-use Rattle.fed_cli.specs.Exits.{Runs, Exits, ExitsBy, on_words}
+use Rattle.fed_cli.specs.Exits.{Runs}
 use Rattle.fed_words.specs.Places.{are_honest}
 use Rattle.fed_cli.specs.Setup.{IsFirst, HasNoFirst, ReadsNot, IsReadOf, ReplaysInit, BeginsNot, list_asked}
 use Rattle.fed_cli.specs.Streams.{Stream, IsUntouched}
 use Rattle.fed_cli.specs.Told.{Came, replay_told}
 use Rattle.fed_words.specs.Words.{places_asked}
-use Rattle.fed_cli.specs.declared.program.ArgsFault.{ArgsFault}
-use Rattle.fed_cli.specs.declared.program.Exit.{Exit}
 use Rattle.fed_cli.specs.declared.told.RunFault.{RunFault}
 use Rattle.fed_cli.specs.declared.told.RunFault.TheVariants as faults
 use Rattle.fed_words.specs.declared.words.Asked.{Asked}
@@ -32,12 +30,6 @@ replays_script o v bytes owner result came first after is items told replays =
 pub not_begun : {W : Type 0} (honest : Bool) (meaning : W → BoxState) (asked : Asked) (came : Came) (script : Option (List ℕ)) (sources : Option (Sources W)) (input output : Stream) (fault : RunFault)
     → came ≡ Err fault → sources ≡ None → (are_honest honest (places_asked asked) ≡ true → BeginsNot honest asked script fault) → IsUntouched input → IsUntouched output → Runs honest meaning asked came script sources input output
 not_begun honest meaning asked came script sources input output fault e none why i o = subst (λ s. Runs honest meaning asked came script s input output) (sym none) (fault, e, why, i, o)
-
--- it exits on these words
-pub on_given : {W : Type 0} (honest : Bool) (meaning : W → BoxState) (words : Result (Vec (String Global) Global) ArgsFault) (given : Vec (String Global) Global) (texts : List (String Global)) (exit : Exit W) (input output errors : Stream)
-    → words ≡ Ok given → texts ≡ given.items → Exits honest meaning (map string_bytes texts) exit input output errors → ExitsBy honest meaning words exit.status input output errors
-on_given honest meaning words given texts exit input output errors is same exits =
-    on_words given is exit (subst (λ ts. Exits honest meaning (map string_bytes ts) exit input output errors) same exits) refl
 
 -- there is no first world
 pub no_first_world : (honest : Bool) (asked : Asked) (script : Option (List ℕ)) (fault : RunFault) → HasNoFirst honest asked fault → BeginsNot honest asked script fault

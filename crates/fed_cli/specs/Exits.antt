@@ -1,6 +1,5 @@
--- What the program has done when it exits.
-use Rattle.std.specs.Prelude.{◌≡◌, ℕ, Bool, true, List, map, Option, Some, None, option_map, Result, Ok, Err, Vec, String, string_bytes}
-use Rattle.std.specs.Global.{Global}
+-- What a run has done when it ends, and what is told of it.
+use Rattle.std.specs.Prelude.{◌≡◌, ℕ, Bool, true, List, Option, Some, None, Result, Ok, Err}
 use Rattle.std.specs.Io.KnownBytes.{Appends}
 use Rattle.fdw_api.specs.State.{BoxState}
 use Rattle.med_exec.specs.Slots.{states}
@@ -10,12 +9,9 @@ use Rattle.fed_cli.specs.Answered.{ServesProgram}
 use Rattle.fed_words.specs.Places.{are_honest}
 use Rattle.fed_cli.specs.Setup.{BeginsNot, IsReadOf, list_asked}
 use Rattle.fed_cli.specs.Streams.{Stream, IsUntouched}
-use Rattle.fed_cli.specs.Told.{Came, told_of, run_status, run_line}
-use Rattle.fed_words.specs.Told.{words_status, words_text}
-use Rattle.fed_words.specs.Words.{Reads, places_asked}
-use Rattle.fed_cli.specs.declared.program.ArgsFault.{ArgsFault}
-use Rattle.fed_cli.specs.declared.program.ArgsFault.TheVariants as args
-use Rattle.fed_cli.specs.declared.program.Exit.{Exit}
+use Rattle.fed_cli.specs.Told.{Came, told_of, run_line}
+use Rattle.fed_words.specs.Told.{words_text}
+use Rattle.fed_words.specs.Words.{places_asked}
 use Rattle.fed_cli.specs.declared.stream.Ended.{Ended}
 use Rattle.fed_cli.specs.declared.stream.StreamFault.{StreamFault}
 use Rattle.fed_cli.specs.declared.told.RunFault.{RunFault}
@@ -54,29 +50,3 @@ TellsWords (Usage text) is_told output errors = IsUntouched output × Tells is_t
 TellsWords (NoPath value) is_told output errors = IsUntouched output × Tells is_told errors (words_text (NoPath value))
 TellsWords (BadName name) is_told output errors = IsUntouched output × Tells is_told errors (words_text (BadName name))
 TellsWords NoMemory is_told output errors = IsUntouched output × Tells is_told errors (words_text NoMemory)
-
--- the program exits so on these words, with this done to standard input, standard output and standard error
-pub data Exits {W : Type 0} (honest : Bool) (meaning : W → BoxState) (words : List (List ℕ)) (exit : Exit W)
-    (input output errors : Stream) : Type 0 where
-  -- the words ask for a run
-  has_run : (asked : Asked) → Reads words (Ok asked) → (came : Came)
-      → Runs honest meaning asked came (option_map (λ v. v.items) exit.script) exit.sources input output → exit.status ≡ run_status came
-      → TellsRun came exit.is_told errors → Exits honest meaning words exit input output errors
-  -- they do not
-  has_refused : (fault : WordsFault) → Reads words (Err fault) → exit.sources ≡ None → exit.script ≡ None → IsUntouched input
-      → TellsWords fault exit.is_told output errors → exit.status ≡ words_status fault → Exits honest meaning words exit input output errors
-
--- the exit status where the environment gives no words
-abbrev pub args_status : ArgsFault → ℕ
-args_status args.NotText = 2
-args_status args.NoMemory = 1
-
--- The program exits by this status on what its environment gives: so on its words, or, where they cannot be read, with nothing read of
--- standard input and nothing written to standard output.
-pub data ExitsBy {W : Type 0} (honest : Bool) (meaning : W → BoxState) (words : Result (Vec (String Global) Global) ArgsFault) (status : ℕ)
-    (input output errors : Stream) : Type 0 where
-  on_words : (given : Vec (String Global) Global) → words ≡ Ok given → (exit : Exit W)
-      → Exits honest meaning (map string_bytes given.items) exit input output errors
-      → status ≡ exit.status → ExitsBy honest meaning words status input output errors
-  on_none : (fault : ArgsFault) → words ≡ Err fault → IsUntouched input → IsUntouched output → status ≡ args_status fault
-      → ExitsBy honest meaning words status input output errors

@@ -240,6 +240,13 @@ pub record Begins (honest : Bool) (owner : List ℕ) (source : Option (List ℕ)
   pub is_first : IsFirst honest owner source places first
   pub replays : ReplaysInit first owner script came after
 
+-- A program begins for what is asked with an engine that shows this, and with this script: the engine stands for a world to which its
+-- beginning leads.
+pub record BeginsBy (honest : Bool) (asked : Asked) (script : Option (List ℕ)) (engine : Shown) : Type 0 where
+  pub world : World
+  pub begins : Begins honest asked.owner.now (list_asked asked) (places_asked asked) script (Ok tt) (over engine world)
+  pub agrees : Agrees engine world
+
 -- it comes to this for what is asked, with this script
 abbrev pub BeginsAsked : Bool → Asked → Option (List ℕ) → Came → Type 0
 BeginsAsked honest asked script came =

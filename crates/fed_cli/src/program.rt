@@ -1,5 +1,5 @@
-//! The program: what it serves, and how it ends.
-ghost use Rattle.std.specs.Prelude.{◌≡◌, Bool, List, true, [], ◌∷◌, ◌++◌, IfOk, IfErr, Err, OnOk, None, option_map, map, string_bytes};
+//! What a program begins with, a run, and what is told of its end.
+ghost use Rattle.std.specs.Prelude.{◌≡◌, Bool, List, true, [], ◌∷◌, ◌++◌, IfOk, IfErr, Err, OnOk, None, option_map, map};
 ghost use Rattle.med_session.specs.Requests.{IsUser};
 ghost use Rattle.med_session.specs.World.{World};
 ghost use Rattle.fdw_api.specs.State.{IsIdle};
@@ -9,10 +9,10 @@ ghost use Rattle.med_session.specs.Shows.{shown};
 ghost use Rattle.list_wrapper.specs.Lists.{IsNewList};
 ghost use Rattle.session_wire.specs.Worlds.{scene_of};
 ghost use Rattle.fed_cli.specs.Demo.{demo_list};
-ghost use Rattle.fed_cli.specs.Exits.{Exits, ExitsBy, Runs, TellsRun, TellsWords};
+ghost use Rattle.fed_cli.specs.Exits.{Runs, TellsRun, TellsWords};
 ghost use Rattle.fed_words.specs.Places.{are_honest, place_of, source_kind};
 ghost use Rattle.fed_cli.specs.Setup.{HasDemo, HasList, IsFirst, HasNoFirst, AddsNoDemo, AddsPlace, AddsPlaces, AreNotAdded, IsNotAdded};
-ghost use Rattle.fed_cli.specs.Setup.{IsNewPlace, IsSetUp, SetUpFails, HasListAsked, labels_before, list_asked, list_label};
+ghost use Rattle.fed_cli.specs.Setup.{BeginsBy, BeginsNot, IsReadOf, IsNewPlace, IsSetUp, SetUpFails, HasListAsked, labels_before, list_asked, list_label};
 ghost use Rattle.fed_cli.specs.Told.{added_of};
 ghost use Rattle.fed_words.specs.Words.{places_asked};
 ghost use Rattle.med_session.specs.Adding.{AddCause};
@@ -23,11 +23,11 @@ ghost use Rattle.fed_cli.specs.Streams.{stream};
 use crate::demo::{demo_tables, setup_script};
 use crate::init::{read_init, replay_init};
 use crate::serving::serve_engine;
-use crate::told::{RunFault, add_fault, setup_told, status, told};
+use crate::told::{RunFault, add_fault, setup_told, told};
 use fdw_api::interface::Wrapper;
 use fed_replay::replay;
 use fed_words::places::{AskedPlace, PlaceKind};
-use fed_words::words::{Asked, WordsFault, read_words};
+use fed_words::words::{Asked, WordsFault};
 use list_wrapper::ListWrapper;
 use med_catalog::law::lists_are_told_nothing;
 use med_session::{Engine, SourceKind, Sources};
@@ -37,19 +37,6 @@ use sqlite_databases::Databases;
 use std::alloc::Global;
 use std::io::{Read, Write};
 use std::rt::Files;
-
-/// How the program exits.
-#[derive(Drop)]
-pub struct Exit<W> {
-    /// The exit status.
-    pub status: u8,
-    /// Whether all that was to be told could be written.
-    pub is_told: bool,
-    /// The bytes of the init file, if they were read.
-    pub script: Option<Vec<u8>>,
-    /// The sources that were served, handed back.
-    pub sources: Option<Sources<W>>,
-}
 
 /// Adds a list of the demo tables as the source of this name, and replays the script that makes its objects as this owner.
 ///
@@ -294,11 +281,69 @@ impl<'a, W: Drop> Ran<'a, W> {
     }
 }
 
-/// Answers the request lines of an input: the engine is made with the demo list and the folders and databases that are asked, the list is
-/// set up, then its owner replays the init file, if one is asked, and then the input is served.
+/// What a program begins with.
+#[derive(Drop)]
+pub struct Begun<W> {
+    /// The engine, which has the sources that are asked.
+    pub engine: Engine<W>,
+    /// The bytes of the init file, if one is asked.
+    pub script: Option<Vec<u8>>,
+}
+
+/// Why a program did not begin.
+#[derive(Drop)]
+pub struct NotBegun<'a> {
+    /// The fault that ended it.
+    pub fault: RunFault<'a>,
+    /// The bytes of the init file, if they were read.
+    pub script: Option<Vec<u8>>,
+}
+
+/// Makes the engine that a program begins with: it has the demo list and the folders and databases that are asked, the list is set up, and
+/// then its owner replays the init file, if one is asked.
 ///
-/// It ends before anything of the input is read and anything is written where memory was refused, a source was not added, a line of the
-/// list's set-up was refused, the init file could not be read, or its replay was refused.
+/// Refused where memory was, a source was not added, a line of the list's set-up was refused, the init file could not be read, or its
+/// replay was refused.
+pub fn begin<'a, V: AllocGlobal + Files + Clone + Databases + Drop>(
+    rt: &V,
+    asked: &Asked<'a>,
+) -> Result<Begun<Source<V>>, NotBegun<'a>>
+    requires { IsUser asked.now.owner.now }
+    ensures sound { IfOk result (λ begun. IsSound (shown ⟦<Source<V> as Wrapper>⟧.meaning begun.engine)) }
+    ensures read { IfOk result (λ begun. IsReadOf asked.now.init (option_map (λ v. v.items) begun.script)) }
+    ensures begins { are_honest V.Store.SourceStore.honest (places_asked asked.now) ≡ true
+        → IfOk result (λ begun. BeginsBy V.Store.SourceStore.honest asked.now (option_map (λ v. v.items) begun.script)
+        (shown ⟦<Source<V> as Wrapper>⟧.meaning begun.engine)) }
+    ensures refused { are_honest V.Store.SourceStore.honest (places_asked asked.now) ≡ true
+        → IfErr result (λ refused. BeginsNot V.Store.SourceStore.honest asked.now (option_map (λ v. v.items) refused.script) refused.fault) }
+{
+    let mut engine = match first_engine(rt, asked) {
+        Ok(engine) => engine,
+        Err(fault) => {
+            return Err(NotBegun {
+                fault,
+                script: None,
+            });
+        }
+    };
+    let script = match read_init(rt, asked.init) {
+        Ok(script) => script,
+        Err(fault) => {
+            return Err(NotBegun {
+                fault,
+                script: None,
+            });
+        }
+    };
+    match replay_init(rt.alloc(), &mut engine, asked.owner, &script) {
+        Ok(()) => Ok(Begun { engine, script }),
+        Err(fault) => Err(NotBegun { fault, script }),
+    }
+}
+
+/// Answers the request lines of an input: it begins as `begin` says, and then the input is served.
+///
+/// Where it does not begin, nothing of the input is read and nothing is written.
 pub fn run_asked<'a, V: AllocGlobal + Files + Clone + Databases + Drop, R: Read, W: Write>(
     rt: &V,
     asked: Asked<'a>,
@@ -310,28 +355,20 @@ pub fn run_asked<'a, V: AllocGlobal + Files + Clone + Databases + Drop, R: Read,
         (option_map (λ v. v.items) result.script) result.sources
         (stream (R.remaining reader.old) (R.remaining reader.new)) (stream (W.contents writer.old) (W.contents writer.new)) }
 {
-    let mut engine = match first_engine(rt, &asked) {
-        Ok(engine) => engine,
-        Err(fault) => return Ran::not_begun(fault, None),
+    let begun = match begin(rt, &asked) {
+        Ok(begun) => begun,
+        Err(refused) => return Ran::not_begun(refused.fault, refused.script),
     };
-    let script = match read_init(rt, asked.init) {
-        Ok(script) => script,
-        Err(fault) => return Ran::not_begun(fault, None),
-    };
-    match replay_init(rt.alloc(), &mut engine, asked.owner, &script) {
-        Ok(()) => {}
-        Err(fault) => return Ran::not_begun(fault, script),
-    }
-    let (ended, sources) = serve_engine(rt.alloc(), engine, reader, writer);
+    let (ended, sources) = serve_engine(rt.alloc(), begun.engine, reader, writer);
     Ran {
         came: told(ended),
-        script,
+        script: begun.script,
         sources: Some(sources),
     }
 }
 
-// Tells on standard error what a run came to, if it did not end with the input. The answer is whether it could be written.
-fn tell_run<E: Write>(came: Result<(), RunFault<'_>>, errors: &mut E) -> bool
+/// Tells on standard error what a run came to, if it did not end with the input. The answer is whether it could be written.
+pub fn tell_run<E: Write>(came: Result<(), RunFault<'_>>, errors: &mut E) -> bool
     ensures { TellsRun came.entry result (stream (E.contents errors.old) (E.contents errors.new)) }
 {
     match came {
@@ -340,8 +377,8 @@ fn tell_run<E: Write>(came: Result<(), RunFault<'_>>, errors: &mut E) -> bool
     }
 }
 
-// Tells help on standard output, and why words are refused on standard error. The answer is whether it could be written.
-fn tell_words<O: Write, E: Write>(fault: &WordsFault<'_>, output: &mut O, errors: &mut E) -> bool
+/// Tells help on standard output, and why words are refused on standard error. The answer is whether it could be written.
+pub fn tell_words<O: Write, E: Write>(fault: &WordsFault<'_>, output: &mut O, errors: &mut E) -> bool
     ensures { TellsWords fault.now result (stream (O.contents output.old) (O.contents output.new))
         (stream (E.contents errors.old) (E.contents errors.new)) }
 {
@@ -351,79 +388,5 @@ fn tell_words<O: Write, E: Write>(fault: &WordsFault<'_>, output: &mut O, errors
         WordsFault::NoPath(value) => writeln!(errors, "fedq: NAME=PATH expected: {value}").is_ok(),
         WordsFault::BadName(name) => writeln!(errors, "fedq: bad name: {name}").is_ok(),
         WordsFault::NoMemory => errors.write_all(b"fedq: out of memory\n").is_ok(),
-    }
-}
-
-/// Does what the program's words ask: it answers an input on an output, or prints help there, and tells on a second output how it
-/// failed.
-pub fn run_words<V: AllocGlobal + Files + Clone + Databases + Drop, I: Read, O: Write, E: Write>(
-    rt: &V,
-    words: &[String],
-    input: &mut I,
-    output: &mut O,
-    errors: &mut E,
-) -> Exit<Source<V>>
-    ensures { Exits V.Store.SourceStore.honest ⟦<Source<V> as Wrapper>⟧.meaning (map string_bytes words.now) result
-        (stream (I.remaining input.old) (I.remaining input.new)) (stream (O.contents output.old) (O.contents output.new))
-        (stream (E.contents errors.old) (E.contents errors.new)) }
-{
-    let asked = match read_words(rt.alloc(), words) {
-        Ok(asked) => asked,
-        Err(fault) => {
-            let is_told = tell_words(&fault, output, errors);
-            let refused = fault.status();
-            return Exit {
-                status: refused,
-                is_told,
-                script: None,
-                sources: None,
-            };
-        }
-    };
-    let ran = run_asked(rt, asked, input, output);
-    let is_told = tell_run(ran.came, errors);
-    let status = status(ran.came);
-    Exit {
-        status,
-        is_told,
-        script: ran.script,
-        sources: ran.sources,
-    }
-}
-
-/// Why the environment gives no words.
-#[derive(Clone, Copy, Debug, PartialEq, Eq)]
-pub enum ArgsFault {
-    /// A word is no text.
-    NotText,
-    /// Memory was refused.
-    NoMemory,
-}
-
-/// Runs the program with these words, and gives its exit status: 0 where the input ended or help was asked, 2 where the words are
-/// refused, and 1 else, with one line on standard error.
-pub fn run<V: AllocGlobal + Files + Clone + Databases + Drop, I: Read, O: Write, E: Write>(
-    rt: &V,
-    words: Result<Vec<String>, ArgsFault>,
-    input: &mut I,
-    output: &mut O,
-    errors: &mut E,
-) -> u8
-    ensures { ExitsBy V.Store.SourceStore.honest ⟦<Source<V> as Wrapper>⟧.meaning words result
-        (stream (I.remaining input.old) (I.remaining input.new)) (stream (O.contents output.old) (O.contents output.new))
-        (stream (E.contents errors.old) (E.contents errors.new)) }
-{
-    match words {
-        Ok(words) => run_words(rt, &words, input, output, errors).status,
-        Err(ArgsFault::NotText) => {
-            let _ = errors.write_all(
-                b"error: invalid UTF-8 was detected in one or more arguments\n",
-            );
-            2
-        }
-        Err(ArgsFault::NoMemory) => {
-            let _ = errors.write_all(b"fedq: out of memory\n");
-            1
-        }
     }
 }

@@ -1,3 +1,4 @@
 pub mod KeptEngines
 pub mod MoreTurns
 pub mod Heard
+pub mod Exited

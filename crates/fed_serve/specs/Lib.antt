@@ -1,3 +1,4 @@
 pub mod Kept
 pub mod Turns
 pub mod Listens
+pub mod Exits

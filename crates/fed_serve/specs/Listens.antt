@@ -17,6 +17,12 @@ use Rattle.fed_serve.specs.declared.listening.ListenFault.TheVariants as faults
 abbrev pub IsLocal : SocketAddr → Type 0
 IsLocal address = (ip : Ipv4Addr) × (socket_ip address ≡ V4 ip) × (ipv4_octets ip ≡ 127 ∷ 0 ∷ 0 ∷ 1 ∷ [])
 
+-- the text of a fault
+abbrev pub listen_text : ListenFault → List ℕ
+listen_text (faults.CannotListen port) = codes "cannot listen on port " ++ decimal port
+listen_text faults.Write = codes "write fault"
+listen_text faults.Accept = codes "accept fault"
+
 -- the line that tells a port
 abbrev pub port_line : ℕ → List ℕ
 port_line port = codes "fedq: listening on 127.0.0.1:" ++ decimal port ++ codes "\n"

@@ -10,23 +10,38 @@ ghost use Rattle.med_session.specs.Shows.{shown};
 use crate::turns::{AcceptFault, Connections, Kept, serve_connections};
 use fdw_api::interface::Wrapper;
 use med_session::Engine;
+use std::error::Error;
+use std::fmt;
 use std::io::Write;
 use std::net::{IpAddr, Ipv4Addr, Net, OpenListener, OpenStream, SocketAddr};
-use thiserror::Error;
 
 /// Why connections to a port were not all served.
-#[derive(Clone, Copy, Debug, PartialEq, Eq, Error)]
+#[derive(Clone, Copy, Debug, PartialEq, Eq)]
 pub enum ListenFault {
     /// The program cannot listen on this port.
-    #[error("cannot listen on port {0}")]
     CannotListen(u16),
     /// The line that says so could not be written.
-    #[error("write fault")]
     Write,
     /// No connection could be taken.
-    #[error("accept fault")]
     Accept,
 }
+
+impl fmt::Display for ListenFault {
+    ghost use Rattle.std.specs.Prelude.{Some};
+    ghost use Rattle.fed_serve.specs.Listens.{listen_text};
+
+    ghost output = { λ fault. Some (listen_text fault) };
+
+    fn fmt<W: fmt::Write>(&self, f: &mut fmt::Formatter<W>) -> fmt::Result {
+        match self {
+            ListenFault::CannotListen(port) => write!(f, "cannot listen on port {port}"),
+            ListenFault::Write => f.write_str("write fault"),
+            ListenFault::Accept => f.write_str("accept fault"),
+        }
+    }
+}
+
+impl Error for ListenFault {}
 
 /// The connections to a port. What is taken, and what a connection gives, is the peers' doing: nothing is promised of it.
 #[derive(Drop)]

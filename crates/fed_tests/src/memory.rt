@@ -10,8 +10,8 @@ use crate::served::{ANSWER, STORED, counts_after, counts_at_end, demo_engine, de
 use fdw_api::interface::Counts;
 use fed_cli::program::run_asked;
 use fed_cli::told::RunFault;
-use fed_words::words::Asked;
 use fed_cli::{StreamFault, serve_stream};
+use fed_words::words::{Asked, Service};
 use list_wrapper::ListWrapper;
 use med_session::{Engine, NoRoom, Request, Sid};
 use session_wire::{FeedFault, Handler, Server};
@@ -149,6 +149,7 @@ fn refused_allocation_leaves_whole_replies(rt: HostRuntime) -> Result<(), Fail> 
         list: Some("demo"),
         places: Vec::new(rt.alloc()),
         init: None,
+        service: Service::StandardInput,
     };
     let ran = run_asked(&rt, asked, &mut input, &mut out);
     is_one_of(&out, answers_to_piece(ran.came))

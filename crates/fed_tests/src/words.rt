@@ -2,12 +2,13 @@
 use crate::expect::{same, same_text};
 use crate::served::{ANSWER, STORED, counts_after};
 use fdw_api::interface::{Counts, Wrapper};
-use fed_cli::program::{Exit, run_words};
+use fed_serve::program::{Exit, run_words};
 use med_exec::ledger_at;
 use sqlite_databases::Databases;
 use std::alloc::Global;
 use std::io;
 use std::io::{ErrorKind, Write};
+use std::net::Net;
 use std::rt::Files;
 use std::test::Fail;
 
@@ -33,7 +34,7 @@ fn counts_of<W: Wrapper>(exit: &Exit<W>) -> Option<Counts> {
 
 // Fails where the stored stream under these words ends, answers or tells otherwise; of an output its beginning is given. What its sources
 // count is answered.
-fn exits<V: AllocGlobal + Files + Clone + Databases + Drop>(
+fn exits<V: AllocGlobal + Files + Clone + Databases + Drop + Net>(
     rt: &V,
     line: &str,
     status: u8,

@@ -1,3 +1,4 @@
 pub mod Commands
 pub mod Parsed
 pub mod PlaceValues
+pub mod Services

@@ -1,0 +1,22 @@
+-- A program that exits.
+use Rattle.std.proofs.Common.{◌≡◌, ℕ, Bool, List, Option, option_map, Result, Ok, Vec, String, string_bytes, map, refl, sym, subst}
+use Rattle.std.specs.Global.{Global}
+use Rattle.fdw_api.specs.State.{BoxState}
+use Rattle.fed_words.specs.declared.words.Asked.{Asked}
+use Rattle.fed_cli.specs.Setup.{BeginsNot}
+use Rattle.fed_cli.specs.Streams.{Stream}
+use Rattle.fed_cli.specs.declared.told.RunFault.{RunFault}
+use Rattle.fed_serve.specs.Exits.{Exits, ExitsBy, on_words}
+use Rattle.fed_serve.specs.declared.program.ArgsFault.{ArgsFault}
+use Rattle.fed_serve.specs.declared.program.Exit.{Exit}
+
+-- it exits on these words
+pub on_given : {W R S : Type 0} (honest : Bool) (meaning : W → BoxState) (remaining : R → Option (List ℕ)) (contents : S → Option (List ℕ)) (words : Result (Vec (String Global) Global) ArgsFault) (given : Vec (String Global) Global) (texts : List (String Global)) (exit : Exit W) (input output errors : Stream)
+    → words ≡ Ok given → texts ≡ given.items → Exits honest meaning remaining contents (map string_bytes texts) exit input output errors → ExitsBy honest meaning remaining contents words exit.status input output errors
+on_given honest meaning remaining contents words given texts exit input output errors is same exits =
+    on_words given is exit (subst (λ ts. Exits honest meaning remaining contents (map string_bytes ts) exit input output errors) same exits) refl
+
+-- the script is the one that was read
+pub by_script : (honest : Bool) (asked : Asked) (s r : Option (Vec ℕ Global)) (fault : RunFault) → s ≡ r → BeginsNot honest asked (option_map (λ v. v.items) r) fault
+    → BeginsNot honest asked (option_map (λ v. v.items) s) fault
+by_script honest asked s r fault e h = subst (λ q. BeginsNot honest asked (option_map (λ v. v.items) q) fault) (sym e) h

@@ -1,0 +1,29 @@
+use Rattle.std.proofs.Common.{refl}
+use Rattle.med_session.specs.Shows.{shown}
+use Rattle.fed_serve.specs.Exits.{has_not_begun, has_begun}
+use Rattle.fed_serve.proofs.Exited.{by_script}
+use Rattle.fed_serve.proofs.program.serve_asked.Goals as goal
+
+-- the program did not begin
+pub returns-in-Err : goal.returns-in-Err
+returns-in-Err g c =
+    has_not_begun c.in-Err.refused.fault
+    (λ trusted. by_script _ c.args.asked _ _ c.in-Err.refused.fault c.not_begun.ensures.script (c.in-Err.ensures.refused trusted))
+    c.not_begun.ensures.sources refl c.not_begun.ensures.status c.not_begun.ensures.told
+
+-- connections were served
+pub returns : goal.returns
+returns g c =
+    has_begun c.finish.result refl c.finish.ensures.at_rest c.in-Ok.ensures.read c.listen_and_serve-kept.result.came
+    (record {
+      engine = shown _ c.in-Ok.begun.engine;
+      begins = c.in-Ok.ensures.begins;
+      after = _;
+      between = _;
+      listened = c.listen_and_serve-kept.result.is_told;
+      listens = c.listen_and_serve-kept.ensures.listens;
+      told = c.tell_listened-is_told.result;
+      tells = c.tell_listened-is_told.ensures;
+      all = refl;
+      boxes = c.finish.ensures.as_they_are;
+    }) c.listen_status.ensures

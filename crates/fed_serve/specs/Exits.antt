@@ -1,0 +1,108 @@
+-- What the program has done when it exits.
+use Rattle.std.specs.Prelude.{◌≡◌, ◌&&◌, ℕ, Bool, true, List, [], ◌++◌, codes, map, Option, Some, None, option_map}
+use Rattle.std.specs.Prelude.{Result, Ok, Err, Vec, String, string_bytes}
+use Rattle.std.specs.Global.{Global}
+use Rattle.fdw_api.specs.State.{BoxState}
+use Rattle.med_exec.specs.Slots.{states}
+use Rattle.med_session.specs.Engine.{Shown, EachBox, IsAtRest}
+use Rattle.med_session.specs.declared.adding.Sources.{Sources}
+use Rattle.fed_words.specs.Places.{are_honest}
+use Rattle.fed_words.specs.Told.{words_status}
+use Rattle.fed_words.specs.Words.{Reads, places_asked}
+use Rattle.fed_words.specs.declared.words.Asked.{Asked}
+use Rattle.fed_words.specs.declared.words.Service.TheVariants.{StandardInput, Connections}
+use Rattle.fed_words.specs.declared.words.WordsFault.{WordsFault}
+use Rattle.fed_cli.specs.Exits.{Runs, Tells, TellsRun, TellsWords}
+use Rattle.fed_cli.specs.Setup.{BeginsBy, BeginsNot, IsReadOf}
+use Rattle.fed_cli.specs.Streams.{Stream, stream, IsUntouched}
+use Rattle.fed_cli.specs.Told.{Came, run_status}
+use Rattle.fed_cli.specs.declared.told.RunFault.{RunFault}
+use Rattle.fed_serve.specs.Listens.{Listens, listen_text}
+use Rattle.fed_serve.specs.declared.listening.ListenFault.{ListenFault}
+use Rattle.fed_serve.specs.declared.program.ArgsFault.{ArgsFault}
+use Rattle.fed_serve.specs.declared.program.ArgsFault.TheVariants as args
+use Rattle.fed_serve.specs.declared.program.Exit.{Exit}
+
+-- what it came to that connections were served
+abbrev pub Listened : Type 0
+Listened = Result (Unit {0}) ListenFault
+
+-- the exit status of a program that served connections, and the line on standard error: none where all were served
+abbrev pub listen_status : Listened → ℕ
+listen_status (Ok _) = 0
+listen_status (Err fault) = 1
+
+abbrev pub listen_line : Listened → List ℕ
+listen_line (Ok _) = []
+listen_line (Err fault) = codes "fedq: " ++ listen_text fault ++ codes "\n"
+
+-- Standard error gets nothing where all were served, and else that line. A write may fail: then not all was told.
+abbrev pub TellsListened : Listened → Bool → Stream → Type 0
+TellsListened (Ok x) is_told errors = (is_told ≡ true) × IsUntouched errors
+TellsListened (Err fault) is_told errors = Tells is_told errors (listen_line (Err fault))
+
+-- Connections to a port were served for what is asked, with this script, and it came to this: an engine with which the program begins, where
+-- every source is honest, served them, and its boxes are the last ones. Standard error got the lines of connections, and then the last one.
+pub record ServesPort {R S : Type 0} (honest : Bool) (remaining : R → Option (List ℕ)) (contents : S → Option (List ℕ)) (asked : Asked)
+    (script : Option (List ℕ)) (last : List (Option BoxState)) (port count : ℕ) (came : Listened) (is_told : Bool)
+    (output errors : Stream) : Type 0 where
+  pub engine : Shown
+  pub begins : are_honest honest (places_asked asked) ≡ true → BeginsBy honest asked script engine
+  pub after : Shown
+  pub between : Option (List ℕ)
+  pub listened : Bool
+  pub listens : Listens remaining contents engine port count came after listened output (stream errors.before between)
+  pub told : Bool
+  pub tells : TellsListened came told (stream between errors.after)
+  pub all : is_told ≡ (listened && told)
+  pub boxes : last ≡ after.boxes
+
+-- the bytes of the init file that an exit hands back
+abbrev pub script_of : {W : Type 0} → Exit W → Option (List ℕ)
+script_of exit = option_map (λ v. v.items) exit.script
+
+-- so many connections to a port are asked, and the program exits so, with this done to standard output and standard error
+pub data ServesAsked {W R S : Type 0} (honest : Bool) (meaning : W → BoxState) (remaining : R → Option (List ℕ))
+    (contents : S → Option (List ℕ)) (asked : Asked) (port count : ℕ) (exit : Exit W) (output errors : Stream) : Type 0 where
+  -- it did not begin, for this: nothing was listened to
+  has_not_begun : (fault : RunFault) → (are_honest honest (places_asked asked) ≡ true → BeginsNot honest asked (script_of exit) fault)
+      → exit.sources ≡ None → IsUntouched output → exit.status ≡ run_status (Err fault) → TellsRun (Err fault) exit.is_told errors
+      → ServesAsked honest meaning remaining contents asked port count exit output errors
+  -- it did, and the sources are handed back
+  has_begun : (sources : Sources W) → exit.sources ≡ Some sources → EachBox IsAtRest (states meaning sources.slots.items)
+      → IsReadOf asked.init (script_of exit) → (came : Listened)
+      → ServesPort honest remaining contents asked (script_of exit) (states meaning sources.slots.items) port count came exit.is_told
+      output errors
+      → exit.status ≡ listen_status came → ServesAsked honest meaning remaining contents asked port count exit output errors
+
+-- the program exits so on these words, with this done to standard input, standard output and standard error
+pub data Exits {W R S : Type 0} (honest : Bool) (meaning : W → BoxState) (remaining : R → Option (List ℕ)) (contents : S → Option (List ℕ))
+    (words : List (List ℕ)) (exit : Exit W) (input output errors : Stream) : Type 0 where
+  -- the words ask for a run
+  has_run : (asked : Asked) → Reads words (Ok asked) → asked.service ≡ StandardInput → (came : Came)
+      → Runs honest meaning asked came (script_of exit) exit.sources input output → exit.status ≡ run_status came
+      → TellsRun came exit.is_told errors → Exits honest meaning remaining contents words exit input output errors
+  -- they ask for connections
+  has_served : (asked : Asked) → Reads words (Ok asked) → (port count : ℕ) → asked.service ≡ Connections port count → IsUntouched input
+      → ServesAsked honest meaning remaining contents asked port count exit output errors
+      → Exits honest meaning remaining contents words exit input output errors
+  -- they do not ask for either
+  has_refused : (fault : WordsFault) → Reads words (Err fault) → exit.sources ≡ None → exit.script ≡ None → IsUntouched input
+      → TellsWords fault exit.is_told output errors → exit.status ≡ words_status fault
+      → Exits honest meaning remaining contents words exit input output errors
+
+-- the exit status where the environment gives no words
+abbrev pub args_status : ArgsFault → ℕ
+args_status args.NotText = 2
+args_status args.NoMemory = 1
+
+-- The program exits by this status on what its environment gives: so on its words, or, where they cannot be read, with nothing read of
+-- standard input and nothing written to standard output.
+pub data ExitsBy {W R S : Type 0} (honest : Bool) (meaning : W → BoxState) (remaining : R → Option (List ℕ)) (contents : S → Option (List ℕ))
+    (words : Result (Vec (String Global) Global) ArgsFault) (status : ℕ)
+    (input output errors : Stream) : Type 0 where
+  on_words : (given : Vec (String Global) Global) → words ≡ Ok given → (exit : Exit W)
+      → Exits honest meaning remaining contents (map string_bytes given.items) exit input output errors
+      → status ≡ exit.status → ExitsBy honest meaning remaining contents words status input output errors
+  on_none : (fault : ArgsFault) → words ≡ Err fault → IsUntouched input → IsUntouched output → status ≡ args_status fault
+      → ExitsBy honest meaning remaining contents words status input output errors
