@@ -378,7 +378,11 @@ pub fn tell_run<E: Write>(came: Result<(), RunFault<'_>>, errors: &mut E) -> boo
 }
 
 /// Tells help on standard output, and why words are refused on standard error. The answer is whether it could be written.
-pub fn tell_words<O: Write, E: Write>(fault: &WordsFault<'_>, output: &mut O, errors: &mut E) -> bool
+pub fn tell_words<O: Write, E: Write>(
+    fault: &WordsFault<'_>,
+    output: &mut O,
+    errors: &mut E,
+) -> bool
     ensures { TellsWords fault.now result (stream (O.contents output.old) (O.contents output.new))
         (stream (E.contents errors.old) (E.contents errors.new)) }
 {
