@@ -3,7 +3,8 @@ use Rattle.std.proofs.Common.{◌≡◌, ℕ, Bool, true, false, cond, List, [],
 use Rattle.std.specs.Io.KnownBytes.{Consumes, Appends}
 use Rattle.fdw_api.specs.State.{BoxState}
 use Rattle.med_session.specs.World.{World, without_sessions}
-use Rattle.med_session.specs.Engine.{Agrees}
+use Rattle.med_session.specs.Engine.{Agrees, EachRises}
+use Rattle.med_world.proofs.Faring.{none_rises}
 use Rattle.med_session.specs.Shows.{shown}
 use Rattle.med_session.specs.declared.engine.Engine.{Engine}
 use Rattle.session_wire.specs.Lines.{lines_within}
@@ -49,7 +50,6 @@ pub keeps_served : {W : Type 0} (meaning : W → BoxState) (server : Server (Eng
     → (after : World) × KeepsServed (shown meaning engine) (shown meaning closed) w after input output result
 keeps_served meaning server engine new closed left input output result law of unread serves ends w agrees =
     let both = open_server server [] unread in
-    let boxes : (shown meaning closed).boxes ≡ (shown meaning new).boxes = ap (λ s. s.boxes) ends.others in
     let begun = subst (λ b. Serves (EngineSteps meaning) (EngineEnds meaning) (handler_of server) b new left input output result) both.1 (serves both.0) in
     let run = subst (λ e. Serves (EngineSteps meaning) (EngineEnds meaning) e [] new left input output result) of begun in
     let one = law engine new [] left input output result run w agrees in (
@@ -57,9 +57,9 @@ keeps_served meaning server engine new closed left input output result law of un
       record {
         last = one.0;
         left = left;
-        serves =
-            subst (λ b. let last : Scene = record { world = one.0; boxes = b } in Serves SceneSteps SceneEnds (scene_of meaning engine w) [] last left input output result)
-            (sym boxes) one.1;
+        ran = (shown meaning new).boxes;
+        serves = one.1;
+        rises = ends.rises;
         ended = refl;
         agrees = ends.world one.0 one.2;
       },
@@ -71,11 +71,12 @@ pub no_server : {W : Type 0} (meaning : W → BoxState) (back engine closed : En
     → (after : World) × KeepsServed (shown meaning engine) (shown meaning closed) w after (stream had had) (stream held held) (Err NoRoom)
 unfolding lines_within
 no_server meaning back engine closed had held same ends w agrees =
-    let boxes : (shown meaning closed).boxes ≡ (shown meaning engine).boxes = ap (λ s. s.boxes) ends.others ∙ ap (λ e. (shown meaning e).boxes) same in (
+    let rises : EachRises (shown meaning engine).boxes (shown meaning closed).boxes = subst (λ e. EachRises (shown meaning e).boxes (shown meaning closed).boxes) same ends.rises in (
       without_sessions w,
       record {
         last = without_sessions w;
         left = None;
+        ran = (shown meaning closed).boxes;
         serves = (
           record {
             between = had;
@@ -85,14 +86,11 @@ no_server meaning back engine closed had held same ends w agrees =
             piece = [];
             read = Consumes-nil had;
             text = [];
-            broken = record {
-              last = scene_of meaning engine w;
-              front = (refl, refl);
-              sessions = ap (λ b. let s : Scene = record { world = without_sessions w; boxes = b } in s) boxes;
-            };
+            broken = record { last = scene_of meaning engine w; front = (refl, refl); sessions = (refl, rises) };
           },
           refl,
         );
+        rises = none_rises (shown meaning closed).boxes;
         ended = refl;
         agrees = ends.world w (subst (λ e. Agrees (shown meaning e) w) (sym same) agrees);
       },

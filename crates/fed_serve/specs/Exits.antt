@@ -4,7 +4,7 @@ use Rattle.std.specs.Prelude.{Result, Ok, Err, Vec, String, string_bytes}
 use Rattle.std.specs.Global.{Global}
 use Rattle.fdw_api.specs.State.{BoxState}
 use Rattle.med_exec.specs.Slots.{states}
-use Rattle.med_session.specs.Engine.{Shown, EachBox, IsAtRest}
+use Rattle.med_session.specs.Engine.{Shown, EachBox, IsAtRest, ClosesAll}
 use Rattle.med_session.specs.declared.adding.Sources.{Sources}
 use Rattle.fed_words.specs.Places.{are_honest}
 use Rattle.fed_words.specs.Told.{words_status}
@@ -42,7 +42,8 @@ TellsListened (Ok x) is_told errors = (is_told ≡ true) × IsUntouched errors
 TellsListened (Err fault) is_told errors = Tells is_told errors (listen_line (Err fault))
 
 -- Connections to a port were served for what is asked, with this script, and it came to this: an engine with which the program begins, where
--- every source is honest, served them, and its boxes are the last ones. Standard error got the lines of connections, and then the last one.
+-- every source is honest, served them, and once its sessions are closed its boxes are the last ones. Standard error got the lines of
+-- connections, and then the last one.
 pub record ServesPort {R S : Type 0} (honest : Bool) (remaining : R → Option (List ℕ)) (contents : S → Option (List ℕ)) (asked : Asked)
     (script : Option (List ℕ)) (last : List (Option BoxState)) (port count : ℕ) (came : Listened) (is_told : Bool)
     (output errors : Stream) : Type 0 where
@@ -55,7 +56,9 @@ pub record ServesPort {R S : Type 0} (honest : Bool) (remaining : R → Option (
   pub told : Bool
   pub tells : TellsListened came told (stream between errors.after)
   pub all : is_told ≡ (listened && told)
-  pub boxes : last ≡ after.boxes
+  pub closed : Shown
+  pub closes : ClosesAll after closed
+  pub boxes : last ≡ closed.boxes
 
 -- the bytes of the init file that an exit hands back
 abbrev pub script_of : {W : Type 0} → Exit W → Option (List ℕ)

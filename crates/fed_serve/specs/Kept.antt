@@ -1,7 +1,8 @@
 -- What an engine is that served a stream and is kept.
 use Rattle.std.specs.Prelude.{◌≡◌, ℕ, List, [], Option, Result}
 use Rattle.med_session.specs.World.{World, without_sessions}
-use Rattle.med_session.specs.Engine.{Shown, Agrees}
+use Rattle.fdw_api.specs.State.{BoxState}
+use Rattle.med_session.specs.Engine.{Shown, Agrees, EachRises}
 use Rattle.session_wire.specs.Worlds.{Scene, SceneSteps, SceneEnds}
 use Rattle.fed_cli.specs.Streams.{Stream}
 use Rattle.fed_cli.specs.Served.{Serves}
@@ -13,11 +14,13 @@ abbrev pub over : Shown → World → Scene
 over engine w = record { world = w; boxes = engine.boxes }
 
 -- A stream is served by an engine that shows this before and that after, from one world to another. What was read and written is that of a
--- run, line by line over what the boxes show. The world that the run leads to, with its sessions ended, is the one that is left, and the
--- engine stands for it.
+-- run, line by line over what the boxes show. Then its sessions are ended, for which the boxes only count what is asked of them. The world
+-- that the run leads to, with its sessions ended, is the one that is left, and the engine stands for it.
 pub record KeepsServed (old new : Shown) (w after : World) (input output : Stream) (result : Result Ended StreamFault) : Type 0 where
   pub last : World
   pub left : Option (List ℕ)
-  pub serves : Serves SceneSteps SceneEnds (over old w) [] (over new last) left input output result
+  pub ran : List (Option BoxState)
+  pub serves : Serves SceneSteps SceneEnds (over old w) [] (record { world = last; boxes = ran }) left input output result
+  pub rises : EachRises ran new.boxes
   pub ended : after ≡ without_sessions last
   pub agrees : Agrees new after

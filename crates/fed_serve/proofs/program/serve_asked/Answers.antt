@@ -25,5 +25,7 @@ returns g c =
       told = c.tell_listened-is_told.result;
       tells = c.tell_listened-is_told.ensures;
       all = refl;
-      boxes = c.finish.ensures.as_they_are;
+      closed = c.finish.ensures.closed.0;
+      closes = c.finish.ensures.closed.1;
+      boxes = c.finish.ensures.closed.2;
     }) c.listen_status.ensures
