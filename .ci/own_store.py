@@ -7,15 +7,10 @@ import argparse, json, os, re, shutil, subprocess, sys, tempfile, threading, tim
 from concurrent.futures import ThreadPoolExecutor
 
 STORE = f"{os.environ.get('XDG_CACHE_HOME') or os.path.expanduser('~/.cache')}/fedq-check"
-rt, lib, where, data, digest, own, with_edits, TRIED, PROGRAM = (
-    getattr(check, it) for it in ("rt", "lib", "where", "data", "digest", "own", "with_edits", "TRIED", "PROGRAM"))
+rt, lib, where, data, digest, own, once, with_edits, TRIED, PROGRAM = (
+    getattr(check, it) for it in "rt lib where data digest own once with_edits TRIED PROGRAM".split())
 its = argparse.Namespace(**vars(rt), ci_of=rt.Crate.ci, has_tests=rt.Crate.has_tests)
 meter, spent = threading.local(), {}
-
-def once(ask):
-    """Asks a crate once: what stands below it, and its sum, are asked for along every way down, of which there are very many."""
-    known = {}
-    return lambda crate: known[crate.folder] if crate.folder in known else known.setdefault(crate.folder, ask(crate))
 
 def kit(folder):
     return digest(data(f"{folder}/KIT-ID"), *[data(f"{folder}/bin/{it}") for it in sorted(os.listdir(f"{folder}/bin"))])
@@ -194,8 +189,7 @@ class Gate:
 
     def run(self):
         subprocess.Popen._try_wait = wait_and_count
-        below = once(lib.Crate.below)
-        rt.Crate.below, rt.Crate.stamp = lambda crate: [*below(crate)], once(lib.Crate.stamp)
+        rt.Crate.stamp = once(lib.Crate.stamp)
         rt.Crate.ci, rt.Crate.has_tests = lambda crate, *it: self.ci(crate, *it), lambda crate: self.has_tests(crate)
         rt.must_fail_all, rt.edits_of, rt.crates_of, rt.in_lanes, rt.print = self.edits, self.edits_of, self.crates_of, self.in_lanes, self.heard
         rt.processors = (lambda: self.words.jobs) if self.words.jobs else rt.processors
