@@ -22,9 +22,9 @@ use Rattle.med_exec.specs.Slots.{BoxAt, ChangesAt}
 use Rattle.med_exec.specs.Scanning.{RunsScan, FailsScan}
 use Rattle.med_exec.specs.Running.{none_held, AllServed, SlotShows, AllHonest, AllBegin, Stops, lacks_memory, source_fails, numbers_end, query_shows, Begun}
 use Rattle.med_exec.specs.Refusing.{refusal}
-use Rattle.med_query.specs.Answering.{IsSmall, IsShown}
-use Rattle.med_query.specs.declared.outputs.AnswerFault.{AnswerFault}
-use Rattle.med_query.specs.declared.outputs.AnswerFault.TheVariants.{Evaluation, TooManyRows}
+use Rattle.query_answer.specs.Answering.{IsSmall, IsShown}
+use Rattle.query_answer.specs.declared.outputs.AnswerFault.{AnswerFault}
+use Rattle.query_answer.specs.declared.outputs.AnswerFault.TheVariants.{Evaluation, TooManyRows}
 use Rattle.med_exec.proofs.ScanLemmas.{honest_on}
 use Rattle.med_exec.proofs.Served.{ServedAlone, ServedAt, before_service, box_inj, fails_counted}
 

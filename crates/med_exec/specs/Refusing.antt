@@ -2,8 +2,8 @@
 use Rattle.med_value.specs.declared.cause.Cause.TheVariants.{OutOfRange, DivisionByZero, TooLarge}
 use Rattle.tri_expr.specs.declared.expr.EvalFault.{EvalFault}
 use Rattle.tri_expr.specs.declared.expr.EvalFault.TheVariants.{OutOfRange as Overflow, ZeroDivisor, NoMemory as LacksMemory}
-use Rattle.med_query.specs.declared.outputs.AnswerFault.{AnswerFault}
-use Rattle.med_query.specs.declared.outputs.AnswerFault.TheVariants.{Evaluation, TooManyRows}
+use Rattle.query_answer.specs.declared.outputs.AnswerFault.{AnswerFault}
+use Rattle.query_answer.specs.declared.outputs.AnswerFault.TheVariants.{Evaluation, TooManyRows}
 use Rattle.fdw_api.specs.declared.interface.Fault.{Fault}
 use Rattle.fdw_api.specs.declared.interface.Fault.TheVariants.{NoMemory, Refused}
 

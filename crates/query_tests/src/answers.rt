@@ -1,7 +1,8 @@
 //! Queries over tables with NULL keys, and the rows that they give.
 use crate::expect::same_text;
-use med_query::{Grouping, JoinChain, Select, SortDirection, answer, is_safe_from};
+use med_query::{Grouping, JoinChain, Select, SortDirection, is_safe_from};
 use med_value::{Comparison, Row, Value, row_text};
+use query_answer::answer;
 use std::alloc::Global;
 use std::test::Fail;
 use tri_expr::{Expr, SetFunction};

@@ -4,7 +4,7 @@ use Rattle.std.proofs.lemmas.Result.{err_from_is_err_and}
 use Rattle.med_value.specs.Datum.{Tuple, tuple}
 use Rattle.pushdown.specs.declared.accepting.EntryScan.{EntryScan}
 use Rattle.med_exec.specs.Slots.{states}
-use Rattle.med_query.specs.Staging.{tuples_in}
+use Rattle.query_answer.specs.Staging.{tuples_in}
 use Rattle.med_exec.proofs.Served.{all_on, change_served, reads_served, fails_served, still_begins}
 use Rattle.med_exec.specs.Counting.{ReadsEach}
 use Rattle.med_exec.proofs.TableReads.{begins_scan, read_stops}

@@ -1,6 +1,6 @@
 use Rattle.std.proofs.Common.{map, take}
 use Rattle.med_exec.specs.Slots.{states}
-use Rattle.med_query.specs.Staging.{tuples_in}
+use Rattle.query_answer.specs.Staging.{tuples_in}
 use Rattle.med_exec.specs.Running.{AllServed}
 use Rattle.med_exec.specs.Counting.{ReadsEach}
 use Rattle.med_exec.proofs.running.read_scans.Given as goal

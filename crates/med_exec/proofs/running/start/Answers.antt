@@ -5,7 +5,7 @@ use Rattle.med_query.specs.Select.{query_of}
 use Rattle.med_query.specs.Query.{IsAnswer}
 use Rattle.med_planner.specs.Planned.{in_order}
 use Rattle.med_exec.specs.Slots.{states}
-use Rattle.med_query.specs.Staging.{tuples_in}
+use Rattle.query_answer.specs.Staging.{tuples_in}
 use Rattle.med_exec.specs.Rests.{Rests}
 use Rattle.med_exec.proofs.TableReads.{begins, shown_stops}
 use Rattle.med_exec.proofs.Counted.{all_read}

@@ -1,0 +1,10 @@
+pub mod Runs
+pub mod GroupRuns
+pub mod Pages
+pub mod KeyOrder
+pub mod SafeJoins
+pub mod Joining
+pub mod ToldParts
+pub mod Ungrouped
+pub mod Grouped
+pub mod Finished

@@ -1,0 +1,6 @@
+pub mod Chains
+pub mod Staging
+pub mod Ordering
+pub mod Grouping
+pub mod Finishing
+pub mod Answering

@@ -1,0 +1,76 @@
+-- What a class is sorted by and what it shows, where conditions keep it.
+use Rattle.std.specs.Prelude.{◌≡◌, IsPermutation, ℕ, false, if◌then◌else◌, List, [], ◌∷◌, ◌++◌, map, Option, Some, None, Vec}
+use Rattle.med_value.specs.Datum.{Tuple, tuple}
+use Rattle.med_value.specs.declared.value.Row.{Row}
+use Rattle.query_answer.specs.declared.staging.Staged.{Staged}
+use Rattle.tri_expr.specs.declared.expr.Fault.{Fault}
+use Rattle.tri_expr.specs.Outcome.{over, value_of}
+use Rattle.tri_expr.specs.Meaning.{OnClass}
+use Rattle.tri_expr.specs.Verdict.{is_in, faults_told, fault_list}
+use Rattle.med_query.specs.Query.{Output, Query, Chain, Tables, Grouping as Groups, faults, outputs_all, keeps, on_row}
+
+abbrev pub output_of : Staged → Output
+output_of s = (tuple s.keys, tuple s.shown)
+
+-- an output or none, as a list of outputs
+abbrev pub outputs_in : Option Staged → List Output
+outputs_in None = []
+outputs_in (Some s) = output_of s ∷ []
+
+-- a list of rows as tuples
+abbrev pub tuples_in : {A : Type 0} → Vec Row A → List Tuple
+tuples_in rows = map tuple rows.items
+
+abbrev pub class_output : List OnClass → List OnClass → List Tuple → Output
+class_output keys items class = (map value_of (over keys class), map value_of (over items class))
+
+abbrev pub output_told : List OnClass → List OnClass → List Tuple → List Fault
+output_told keys items class = fault_list (over keys class) ++ fault_list (over items class)
+
+-- the output of a class where the conditions keep it, else nothing
+abbrev pub class_staged : List OnClass → List OnClass → List OnClass → List Tuple → List Output
+class_staged conditions keys items class = if is_in (over conditions class) then class_output keys items class ∷ [] else []
+
+-- the faults of the conditions, and where they keep the class those of its order keys and items
+abbrev pub class_told : List OnClass → List OnClass → List OnClass → List Tuple → List Fault
+class_told conditions keys items class = faults_told (over conditions class) ++ (if is_in (over conditions class) then output_told keys items class else [])
+
+-- the same of the class of one row
+abbrev pub row_staged : List OnClass → List OnClass → List OnClass → Tuple → List Output
+row_staged conditions keys items r = class_staged conditions keys items (r ∷ [])
+
+abbrev pub row_told_all : List OnClass → List OnClass → List OnClass → Tuple → List Fault
+row_told_all conditions keys items r = class_told conditions keys items (r ∷ [])
+
+abbrev pub groups_by : List ℕ → List OnClass → List OnClass → Option Groups
+groups_by columns arguments having = Some (record { keys = columns; arguments = arguments; having = having })
+
+-- a query of which nothing but its outputs is asked
+abbrev pub staged_query : List Chain → List OnClass → Option Groups → List OnClass → List OnClass → Query
+staged_query from conditions group keys items = record {
+  from = from;
+  where_ = conditions;
+  group = group;
+  items = items;
+  unique = false;
+  keys = keys;
+  towards = [];
+  offset = 0;
+  limit = None;
+}
+
+-- the outputs of a query in some order, where no fault may be told
+pub record Stages (q : Query) (db : Tables) (outs : List Output) : Type 0 where
+  pub no_fault : faults q db ≡ []
+  pub same : IsPermutation (outputs_all q db) outs
+
+-- a row that WHERE keeps, and the faults of WHERE on it
+abbrev pub row_kept : List OnClass → Tuple → List Tuple
+row_kept conditions r = if keeps conditions r then r ∷ [] else []
+
+abbrev pub where_told : List OnClass → Tuple → List Fault
+where_told conditions r = faults_told (on_row conditions r)
+
+-- the faults of aggregates' arguments on a row
+abbrev pub arguments_told : List OnClass → Tuple → List Fault
+arguments_told arguments r = fault_list (on_row arguments r)

@@ -1,0 +1,74 @@
+//! WHERE, and the arguments of aggregates, row by row.
+ghost use Rattle.std.specs.Prelude.{◌≡◌, ◌++◌, [], IfOk, map, flat_map};
+ghost use Rattle.med_value.specs.Datum.{tuple};
+ghost use Rattle.med_query.specs.Query.{Tells, senses};
+ghost use Rattle.query_answer.specs.Staging.{row_kept, where_told, arguments_told};
+
+use crate::values::values_over;
+use med_value::Row;
+use std::alloc::Global;
+use std::slice;
+use tri_expr::{EvalFault, Expr, verdict};
+
+fn push_kept(conditions: &[Expr], row: Row, out: &mut Vec<Row>) -> Result<(), EvalFault>
+    ensures kept { IfOk result (λ _. map tuple out.new.items ≡ map tuple out.old.items ++ row_kept (senses [] conditions.now) (tuple row)) }
+    ensures no_fault { IfOk result (λ _. where_told (senses [] conditions.now) (tuple row) ≡ []) }
+    ensures told { Tells result (where_told (senses [] conditions.now) (tuple row)) }
+{
+    match verdict(conditions, &row, &[]) {
+        Ok(true) => match out.push(row) {
+            Ok(()) => Ok(()),
+            Err(_) => Err(EvalFault::NoMemory),
+        },
+        Ok(false) => Ok(()),
+        Err(fault) => Err(fault),
+    }
+}
+
+/// The rows that WHERE keeps.
+pub(crate) fn kept_rows(
+    alloc: Global,
+    conditions: &[Expr],
+    rows: Vec<Row>,
+) -> Result<Vec<Row>, EvalFault>
+    ensures kept { IfOk result (λ out. map tuple out.items ≡ flat_map (row_kept (senses [] conditions.now)) (map tuple rows.items)) }
+    ensures no_fault { IfOk result (λ _. flat_map (where_told (senses [] conditions.now)) (map tuple rows.items) ≡ []) }
+    ensures told { Tells result (flat_map (where_told (senses [] conditions.now)) (map tuple rows.items)) }
+{
+    let mut out = Vec::new(alloc);
+    for row in rows {
+        match push_kept(conditions, row, &mut out) {
+            Ok(()) => {}
+            Err(fault) => return Err(fault),
+        }
+    }
+    Ok(out)
+}
+
+fn check_row(alloc: Global, arguments: &[Expr], row: &Row) -> Result<(), EvalFault>
+    ensures no_fault { IfOk result (λ _. arguments_told (senses [] arguments.now) (tuple row.now) ≡ []) }
+    ensures told { Tells result (arguments_told (senses [] arguments.now) (tuple row.now)) }
+{
+    match values_over(alloc, arguments, slice::from_ref(row)) {
+        Ok(_) => Ok(()),
+        Err(fault) => Err(fault),
+    }
+}
+
+/// Whether an argument of an aggregate has a fault on some row.
+pub(crate) fn check_arguments(
+    alloc: Global,
+    arguments: &[Expr],
+    rows: &[Row],
+) -> Result<(), EvalFault>
+    ensures no_fault { IfOk result (λ _. flat_map (arguments_told (senses [] arguments.now)) (map tuple rows.now) ≡ []) }
+    ensures told { Tells result (flat_map (arguments_told (senses [] arguments.now)) (map tuple rows.now)) }
+{
+    for row in rows {
+        match check_row(alloc, arguments, row) {
+            Ok(()) => {}
+            Err(fault) => return Err(fault),
+        }
+    }
+    Ok(())
+}

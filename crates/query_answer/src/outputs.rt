@@ -1,0 +1,114 @@
+//! The outputs of a query over its joined rows.
+ghost use Rattle.std.specs.Prelude.{◌≡◌, ◌^◌, [], IfOk, map, List, None, Some};
+ghost use Rattle.med_value.specs.Datum.{tuple};
+ghost use Rattle.med_query.specs.Query.{Chain, Tables, Tells, senses, joined_chains, faults};
+ghost use Rattle.med_query.specs.Select.{groups_of};
+ghost use Rattle.query_answer.specs.Staging.{output_of, Stages, staged_query, groups_by};
+ghost use Rattle.query_answer.specs.Answering.{IsSmall, Shows};
+
+use crate::filtering::{check_arguments, kept_rows};
+use crate::grouping::groups;
+use crate::staging::{Staged, staged_classes, staged_rows};
+use med_query::Grouping;
+use med_query::law::{answers_ignore_order, expressions_ignore_order};
+use med_value::Row;
+use std::alloc::Global;
+use thiserror::Error;
+use tri_expr::{EvalFault, Expr};
+
+/// How many rows a query may group over at most: 2^62, so that no count and no sum of 64-bit numbers passes 128 bits.
+const MOST_GROUPED: usize = 1 << 62;
+
+/// Why a query over tables has no answer.
+#[derive(Clone, Copy, Debug, PartialEq, Eq, Error)]
+pub enum AnswerFault {
+    /// An expression has a fault on some row or group, or memory was refused.
+    #[error("{0}")]
+    Evaluation(EvalFault),
+    /// The query groups over more than 2^62 kept rows.
+    #[error("too many rows")]
+    TooManyRows,
+}
+
+// The outputs of a query that does not group.
+fn row_outputs(
+    alloc: Global,
+    conditions: &[Expr],
+    keys: &[Expr],
+    items: &[Expr],
+    rows: Vec<Row>,
+) -> Result<Vec<Staged>, EvalFault>
+    ensures stages { IfOk result (λ out. (from : List Chain) (db : Tables) → joined_chains db from ≡ map tuple rows.items → Stages (staged_query from (senses [] conditions.now) None (senses [] keys.now) (senses [] items.now)) db (map output_of out.items)) }
+    ensures told { (from : List Chain) (db : Tables) → joined_chains db from ≡ map tuple rows.items → Tells result (faults (staged_query from (senses [] conditions.now) None (senses [] keys.now) (senses [] items.now)) db) }
+{
+    staged_rows(alloc, conditions, keys, items, rows)
+}
+
+// The outputs of a query that groups by these columns.
+fn group_outputs(
+    alloc: Global,
+    conditions: &[Expr],
+    columns: &[usize],
+    arguments: &[Expr],
+    having: &[Expr],
+    keys: &[Expr],
+    items: &[Expr],
+    rows: Vec<Row>,
+) -> Result<Vec<Staged>, AnswerFault>
+    ensures stages { IfOk result (λ out. (from : List Chain) (db : Tables) → joined_chains db from ≡ map tuple rows.items → Stages (staged_query from (senses [] conditions.now) (groups_by columns.now (senses [] arguments.now) (senses [] having.now)) (senses [] keys.now) (senses [] items.now)) db (map output_of out.items)) }
+    ensures small { IfOk result (λ _. (from : List Chain) (db : Tables) → joined_chains db from ≡ map tuple rows.items → IsSmall (staged_query from (senses [] conditions.now) (groups_by columns.now (senses [] arguments.now) (senses [] having.now)) (senses [] keys.now) (senses [] items.now)) db) }
+    ensures told { (from : List Chain) (db : Tables) → joined_chains db from ≡ map tuple rows.items → Shows result (staged_query from (senses [] conditions.now) (groups_by columns.now (senses [] arguments.now) (senses [] having.now)) (senses [] keys.now) (senses [] items.now)) db }
+{
+    answers_ignore_order();
+    expressions_ignore_order();
+    let kept = match kept_rows(alloc, conditions, rows) {
+        Ok(kept) => kept,
+        Err(fault) => return Err(AnswerFault::Evaluation(fault)),
+    };
+    if kept.len() > MOST_GROUPED {
+        return Err(AnswerFault::TooManyRows);
+    }
+    match check_arguments(alloc, arguments, kept.as_slice()) {
+        Ok(()) => {}
+        Err(bad) => return Err(AnswerFault::Evaluation(bad)),
+    }
+    let classes = match groups(alloc, columns, kept) {
+        Ok(classes) => classes,
+        Err(_) => return Err(AnswerFault::Evaluation(EvalFault::NoMemory)),
+    };
+    match staged_classes(alloc, having, keys, items, classes) {
+        Ok(out) => Ok(out),
+        Err(wrong) => Err(AnswerFault::Evaluation(wrong)),
+    }
+}
+
+/// The outputs of a query over its joined rows, in some order.
+pub(crate) fn query_outputs(
+    alloc: Global,
+    conditions: &[Expr],
+    grouping: &Option<Grouping>,
+    keys: &[Expr],
+    items: &[Expr],
+    rows: Vec<Row>,
+) -> Result<Vec<Staged>, AnswerFault>
+    ensures stages { IfOk result (λ out. (from : List Chain) (db : Tables) → joined_chains db from ≡ map tuple rows.items → Stages (staged_query from (senses [] conditions.now) (groups_of grouping.now) (senses [] keys.now) (senses [] items.now)) db (map output_of out.items)) }
+    ensures small { IfOk result (λ _. (from : List Chain) (db : Tables) → joined_chains db from ≡ map tuple rows.items → IsSmall (staged_query from (senses [] conditions.now) (groups_of grouping.now) (senses [] keys.now) (senses [] items.now)) db) }
+    ensures told { (from : List Chain) (db : Tables) → joined_chains db from ≡ map tuple rows.items → Shows result (staged_query from (senses [] conditions.now) (groups_of grouping.now) (senses [] keys.now) (senses [] items.now)) db }
+{
+    match grouping {
+        None => match row_outputs(alloc, conditions, keys, items, rows) {
+            Ok(out) => Ok(out),
+            Err(fault) => Err(AnswerFault::Evaluation(fault)),
+        },
+        Some(groups) => group_outputs(
+            alloc,
+            conditions,
+            groups.keys.as_slice(),
+            groups.arguments.as_slice(),
+            groups.having.as_slice(),
+            keys,
+            items,
+            rows,
+        ),
+    }
+}
