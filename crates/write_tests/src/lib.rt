@@ -8,6 +8,8 @@ mod cursors;
 #[cfg(test)]
 mod expect;
 #[cfg(test)]
+mod fetched;
+#[cfg(test)]
 mod parts;
 #[cfg(test)]
 mod random;
