@@ -1,10 +1,10 @@
 -- Ids of which no two are the same.
-use Rattle.std.proofs.Common.{◌≡◌, ◌↔◌, ℕ, Bool, true, false, nat_eq, List, [], ◌∷◌, ◌++◌, cond, map, filter, length, IsTrue, sym, refl, ap, ◌∙◌, subst}
+use Rattle.std.proofs.Common.{◌≡◌, ◌↔◌, ◌<◌, ◌&&◌, ℕ, Bool, true, false, nat_eq, nat_lt, arith, List, [], ◌∷◌, ◌++◌, cond, map, filter, length, IsTrue, sym, refl, ap, ◌∙◌, subst}
 use Rattle.std.specs.BTreeSet.{BTreeSet, IsFromIterResult, btree_set_len}
 use Rattle.std.specs.Cmp.{nat_cmp_total, unsigned_tied}
 use Rattle.std.specs.List.{IsDistinct, AllByRecursion}
 use Rattle.std.specs.Ordering.{nat_cmp, eq_by_cmp}
-use Rattle.std.proofs.lemmas.Bool.Decides.{Decides-eqb}
+use Rattle.std.proofs.lemmas.Bool.Decides.{Decides-eqb, Decides-ltb}
 use Rattle.std.proofs.lemmas.Cmp.{eq_by_cmp_equiv, nat_eq_equiv}
 use Rattle.std.proofs.lemmas.List.{length-map, map-append}
 use Rattle.std.proofs.lemmas.List.Sorted.{IsPermutation-map}
@@ -13,6 +13,7 @@ use Rattle.std.proofs.lemmas.Map.Made.{IsDistinct-from_count, distinct_count-fro
 use Rattle.std.proofs.lemmas.Map.Views.{btree_set_len-from_list}
 use Rattle.fdw_api.specs.Scan.{TableRow, GivenRow, Spec, IsComing, plain_spec, shown}
 use Rattle.med_write.specs.Form.{WriteForm, insert_form, update_form, delete_form}
+use Rattle.write_exec.specs.Rising.{rise_from, are_rising}
 use Rattle.write_exec.specs.Writing.{AreRead}
 
 -- ---- a set of them
@@ -38,15 +39,49 @@ tells_distinct id rows n size f e xs is =
       λ h. d.1 (e ∙ as_many (map id rows) n f (subst (IsDistinct nat_eq) (sym is) h) ∙ length-map rows id),
     )
 
+both_true : (a b : Bool) → (a && b) ≡ true → (a ≡ true) × (b ≡ true)
+both_true true b e = (refl, e)
+both_true false b e = absurd cc
+
+apart : (m n : ℕ) → m < n → nat_eq m n ≡ false
+apart m n l = split (nat_eq m n) refl
+  where
+    split : (b : Bool) → nat_eq m n ≡ b → b ≡ false
+    split false e = refl
+    split true e = absurd (let same : m ≡ n = (Decides-eqb m n).0 e in omega (arith, same, l))
+
+none_at_all : IsDistinct nat_eq []
+unfolding IsDistinct
+none_at_all = tt
+
+-- numbers that rise differ
+above_all : (last x : ℕ) (xs : List ℕ) → last < x → rise_from x xs ≡ true → AllByRecursion (λ y. nat_eq last y ≡ false) xs
+above_all last x [] l e = tt
+above_all last x (y ∷ ys) l e =
+    let parts = both_true (nat_lt x y) (rise_from y ys) e in
+    let next : x < y = (Decides-ltb x y).0 parts.0 in
+    let far : last < y = omega (arith, l, next) in
+    (apart last y far, above_all last y ys far parts.1)
+
+rise_distinct : (last : ℕ) (xs : List ℕ) → rise_from last xs ≡ true → IsDistinct nat_eq (last ∷ xs)
+rise_distinct last [] e = IsDistinct-cons nat_eq last [] tt none_at_all
+rise_distinct last (x ∷ xs) e =
+    let parts = both_true (nat_lt last x) (rise_from x xs) e in
+    let next : last < x = (Decides-ltb last x).0 parts.0 in
+    IsDistinct-cons nat_eq last (x ∷ xs) (apart last x next, above_all last x xs next parts.1) (rise_distinct x xs parts.1)
+
+rising_distinct : (xs : List ℕ) → are_rising xs ≡ true → IsDistinct nat_eq xs
+rising_distinct [] e = none_at_all
+rising_distinct (x ∷ xs) e = rise_distinct x xs e
+
+pub rising_once : {X : Type 0} (id : X → ℕ) (rows : List X) (xs : List ℕ) → map id rows ≡ xs → are_rising (map id rows) ≡ true → IsTrue true ↔ IsDistinct nat_eq xs
+rising_once id rows xs is e = (λ t. subst (IsDistinct nat_eq) is (rising_distinct (map id rows) e), λ d. refl)
+
 pub map_seen : {X V Y : Type 0} (f : V → Y) (view : X → V) (xs : List X) → map (λ x. f (view x)) xs ≡ map f (map view xs)
 map_seen f view [] = refl
 map_seen f view (x ∷ xs) = ap (λ ys. f (view x) ∷ ys) (map_seen f view xs)
 
 -- ---- of rows that are read
-
-none_at_all : IsDistinct nat_eq []
-unfolding IsDistinct
-none_at_all = tt
 
 apart_first : (id : ℕ) (xs ys : List ℕ) → AllByRecursion (λ y. nat_eq id y ≡ false) (xs ++ ys) → AllByRecursion (λ y. nat_eq id y ≡ false) xs
 apart_first id [] ys a = tt

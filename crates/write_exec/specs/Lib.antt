@@ -1,3 +1,4 @@
+pub mod Rising
 pub mod Reading
 pub mod Staging
 pub mod Writing

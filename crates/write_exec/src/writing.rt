@@ -9,6 +9,7 @@ ghost use Rattle.fdw_api.specs.State.{table_of};
 ghost use Rattle.fdw_api.specs.declared.interface.Fault.TheVariants.{NoMemory};
 ghost use Rattle.med_exec.specs.Slots.{states, BoxAt, ChangesAt};
 ghost use Rattle.med_write.specs.Form.{form_of};
+ghost use Rattle.write_exec.specs.Rising.{are_rising};
 ghost use Rattle.write_exec.specs.Writing.{CanWrite, ReadsFor, FailsRead, write_refusal, Writes, RefusesWrite};
 
 use crate::reading::table_rows;
@@ -39,11 +40,33 @@ fn ids_of(alloc: Global, rows: &[SourceRow]) -> Result<BTreeSet<u64>, AllocError
     rows.iter().map(|row| row.id.number).collect(alloc)
 }
 
-// Whether no two rows have one id.
+// Whether each id is above the one before it: then no two are the same.
+fn are_rising(rows: &[SourceRow]) -> bool
+    ensures { result ≡ are_rising (map (λ r. r.id.number) rows.now) }
+{
+    let Some((first, rest)) = rows.split_first() else {
+        return true;
+    };
+    let mut last = first.id.number;
+    let mut left = rest;
+    while let Some((row, further)) = left.split_first() {
+        if row.id.number <= last {
+            return false;
+        }
+        last = row.id.number;
+        left = further;
+    }
+    true
+}
+
+// Whether no two rows have one id. The ids of a list's rows rise, and are read once; a set of them is made only where they do not.
 fn are_distinct(alloc: Global, rows: &[SourceRow]) -> Result<bool, Fault>
     ensures ok { IfOk result (λ b. IsTrue b ↔ IsDistinct nat_eq (map (λ r. r.id) (map row_of rows.now))) }
     ensures err { IfErr result (λ fault. fault ≡ NoMemory) }
 {
+    if are_rising(rows) {
+        return Ok(true);
+    }
     let ids = ids_of(alloc, rows)?;
     Ok(ids.len() == rows.len())
 }
