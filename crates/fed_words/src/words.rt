@@ -52,8 +52,8 @@ const COUNT_HELP: &str = "The number of connections to serve, from 1 to 1000, by
 
 const INIT_HELP: &str = "Runs the lines of FILE as the owner's statements before";
 
-// The version, and the kit of the toolchain that the program is proved with, as the toolchain tells it.
-const VERSION: &str = "0.1.0, proved with rattle-kit-13f logic dac8208d650f15bf";
+// The version, and the logic that the program is proved in: the sum by which each kit of the toolchain that has it names it.
+const VERSION: &str = "0.1.0, proved in Rattle's logic dac8208d650f15bf";
 
 // What stands at the end of help: the options of both commands, and examples.
 const FEDQ_MORE: &str = "Options of run and serve:\n  \
