@@ -52,11 +52,13 @@ orders_table = keyed_table (codes "orders") (codes "part") Integer (codes "n") I
 abbrev pub people_table : Table
 people_table = keyed_table (codes "people") (codes "name") Text (codes "active") Integer
 
-orders_page : command_of (understood (alone orders_table) orders.page) ≡ Select (record { lets = []; body = page_query 0 }) (codes "id" ∷ codes "part" ∷ codes "n" ∷ [])
+orders_page : command_of (understood (alone orders_table) orders.page)
+    ≡ Select (record { lets = []; body = page_query 0 }) (codes "id" ∷ codes "part" ∷ codes "n" ∷ [])
 unfolding understood everything
 orders_page = refl
 
-people_page : command_of (understood (alone people_table) people.page) ≡ Select (record { lets = []; body = page_query 0 }) (codes "id" ∷ codes "name" ∷ codes "active" ∷ [])
+people_page : command_of (understood (alone people_table) people.page)
+    ≡ Select (record { lets = []; body = page_query 0 }) (codes "id" ∷ codes "name" ∷ codes "active" ∷ [])
 unfolding understood everything
 people_page = refl
 
