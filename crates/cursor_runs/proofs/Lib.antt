@@ -1,0 +1,4 @@
+mod Named
+mod Replying
+mod Faring
+mod Joined
