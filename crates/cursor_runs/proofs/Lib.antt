@@ -2,3 +2,4 @@ mod Named
 mod Replying
 mod Faring
 mod Joined
+mod Opened

@@ -1,7 +1,6 @@
 -- Which lines pass a session's cursor by.
-use Rattle.std.proofs.Common.{◌≡◌, ◌≢◌, ℕ, ◌⊎◌, List, [], ◌∷◌, ◌++◌, refl, ap, sym, ◌∙◌, subst, inl, inr, codes, get_or, arith}
-use Rattle.std.specs.Fmt.{decimal}
-use Rattle.std.proofs.lemmas.List.{append_cancel_left}
+use Rattle.std.proofs.Common.{◌≡◌, ◌≢◌, ℕ, ◌⊎◌, List, [], ◌∷◌, ◌++◌, refl, ap, sym, ◌∙◌, subst, inl, inr, codes, decimal, get_or, arith}
+use Rattle.std.proofs.lemmas.List.{append_cancel_left, append_assoc}
 use Rattle.med_value.specs.declared.cause.Cause.{Cause}
 use Rattle.med_syntax.specs.Tree.{Name}
 use Rattle.med_syntax.specs.QueryTree.{SelectTree, select}
@@ -9,7 +8,7 @@ use Rattle.cursor_syntax.specs.CursorTree.{CursorTree, declare, fetch, close}
 use Rattle.med_parser.specs.CommandTree.{CommandTree, on_data, on_rows, on_cursors, on_objects}
 use Rattle.med_parser.specs.CommandGrammar.{HasCommand}
 use Rattle.med_world.specs.Requests.{Asked, sql, bye}
-use Rattle.med_world.specs.Replies.{done, refused, reply_text}
+use Rattle.med_world.specs.Replies.{done, refused, line, refusal, tag_line, reply_text}
 use Rattle.session_wire.specs.Frames.{IsFrame}
 use Rattle.session_wire.proofs.UniqueFrames.{one_frame}
 use Rattle.cursor_runs.specs.Exchanges.{Exchange}
@@ -19,10 +18,14 @@ use Rattle.cursor_runs.specs.Fetching.{Commands, EndsCursor, by_close, by_bye, b
 abbrev pub OneTree : Type 0
 OneTree = (text : List ℕ) (a b : CommandTree) → HasCommand text a → HasCommand text b → a ≡ b
 
+line_is : (sid : ℕ) (says : List ℕ) → line sid says ≡ decimal sid ++ ((codes " " ++ says) ++ codes "\n")
+line_is sid says = ap (λ (l : List ℕ). l ++ codes "\n") (append_assoc (decimal sid) (codes " ") says) ∙ append_assoc (decimal sid) (codes " " ++ says) (codes "\n")
+
 -- a refusal is the text of no tag
 pub done_refused : (sid : ℕ) (tag : List ℕ) (c : Cause) → reply_text sid (refused c) ≡ reply_text sid (done tag) → ⊥
 done_refused sid tag c e =
-    let others = append_cancel_left (decimal sid) _ _ e in
+    let others = append_cancel_left (decimal sid) ((codes " " ++ refusal c) ++ codes "\n") ((codes " " ++ tag_line tag) ++ codes "\n")
+    (sym (line_is sid (refusal c)) ∙ e ∙ line_is sid (tag_line tag)) in
     let at : 69 ≡ 84 = ap (λ (l : List ℕ). get_or l 1 0) others in
     omega arith
 
