@@ -21,13 +21,15 @@ OneTree = (text : List ℕ) (a b : CommandTree) → HasCommand text a → HasCom
 line_is : (sid : ℕ) (says : List ℕ) → line sid says ≡ decimal sid ++ ((codes " " ++ says) ++ codes "\n")
 line_is sid says = ap (λ (l : List ℕ). l ++ codes "\n") (append_assoc (decimal sid) (codes " ") says) ∙ append_assoc (decimal sid) (codes " " ++ says) (codes "\n")
 
+differ : (m n : ℕ) → m ≡ 69 → n ≡ 84 → m ≡ n → ⊥
+differ m n a b e = omega arith
+
 -- a refusal is the text of no tag
 pub done_refused : (sid : ℕ) (tag : List ℕ) (c : Cause) → reply_text sid (refused c) ≡ reply_text sid (done tag) → ⊥
 done_refused sid tag c e =
     let others = append_cancel_left (decimal sid) ((codes " " ++ refusal c) ++ codes "\n") ((codes " " ++ tag_line tag) ++ codes "\n")
     (sym (line_is sid (refusal c)) ∙ e ∙ line_is sid (tag_line tag)) in
-    let at : 69 ≡ 84 = ap (λ (l : List ℕ). get_or l 1 0) others in
-    omega arith
+    differ 69 84 refl refl (ap (λ (l : List ℕ). get_or l 1 0) others)
 
 refused_ends : (sid : ℕ) (name : Name) (e : Exchange) (c : Cause) → e.reply ≡ reply_text sid (refused c) → EndsCursor sid name e → ⊥
 refused_ends sid name e c told (by_close asks h) = done_refused sid (codes "CLOSE CURSOR") c (sym told ∙ h)
