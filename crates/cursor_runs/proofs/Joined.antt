@@ -22,9 +22,13 @@ pub run_list : {W : Type 0} (step : Steps W) (ended : W → W → Type 0) (old :
     → (es : List Exchange) × (last : W) × Exchanged step old es last × (texts_in es ≡ texts_of lines) × (replies ≡ replies_in es ++ end_reply lines)
 run_list step ended old (line text more) replies new h =
     let r = run_list step ended h.2 more h.1 new h.4 in
-    let e : Exchange = record { text = text; reply = h.0 } in
-    (e ∷ r.0, r.1, (h.2, h.3, r.2), ap (λ (ts : List (List ℕ)). text ∷ ts) r.3,
-        h.5 ∙ ap (λ (x : List ℕ). h.0 ++ x) r.4 ∙ sym (append_assoc h.0 (replies_in r.0) (end_reply more)))
+    let e : Exchange = record { text = text; reply = h.0 } in (
+      e ∷ r.0,
+      r.1,
+      (h.2, h.3, r.2),
+      ap (λ (ts : List (List ℕ)). text ∷ ts) r.3,
+      h.5 ∙ ap (λ (x : List ℕ). h.0 ++ x) r.4 ∙ sym (append_assoc h.0 (replies_in r.0) (end_reply more)),
+    )
 run_list step ended old (rest after) replies new h = ([], old, refl, refl, h.0)
 run_list step ended old closed replies new h = ([], old, refl, refl, h.0)
 
@@ -80,9 +84,11 @@ gave law old new sid name names (e ∷ es) o h named x = split (answer_fares law
         (r.0, inr (inl (by, r.1)), gave_none o r.0 (subst (λ (p : Option Cursor). Gave p r.0) lost r.2))
     split (gives c is f rows fetches there) others =
         let same : c.names ≡ names = subst (λ (p : Option Cursor). AreNames p names) is named in
-        let r = others (Some (handing c f.rows)) there same in
-        (f ∷ r.0, inr (inr (f, r.0, subst (λ (ns : List Name). GivesRows sid name ns e f) same rows, r.1, refl)),
-            subst (λ (p : Option Cursor). Gave p (f ∷ r.0)) (sym is) (fetches, r.2))
+        let r = others (Some (handing c f.rows)) there same in (
+          f ∷ r.0,
+          inr (inr (f, r.0, subst (λ (ns : List Name). GivesRows sid name ns e f) same rows, r.1, refl)),
+          subst (λ (p : Option Cursor). Gave p (f ∷ r.0)) (sym is) (fetches, r.2),
+        )
 
 -- ---- one answer
 

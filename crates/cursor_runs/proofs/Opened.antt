@@ -41,9 +41,11 @@ opened law w new sid name q query request t reply asks has told (is_done p pick 
     let same : d.1 ≡ on_cursors (declare name (select q)) = law query d.1 (on_cursors (declare name (select q))) d.2.1 has in
     let turns : Turns w sid d.0 (declare name (select q)) reply new = subst (λ (tree : CommandTree). TreeDoes w sid d.0 p tree reply new) same d.3 in
     let nowhere : cursor_named name d.0 ≡ None =
-    none_there (cursor_named name d.0) (λ some. free DuplicateCursor (inr (inr (d.0, on_cursors (declare name (select q)), (d.2.0, has), exists refl some)))) in
-    (with_cursor d.0 (new_cursor w name q), ap (λ (x : World). x.sessions sid) turns.1 ∙ set_there w sid (Some (with_cursor d.0 (new_cursor w name q))),
-        finds_new name d.0.cursors (new_cursor w name q) (same_bytes name name refl) nowhere)
+    none_there (cursor_named name d.0) (λ some. free DuplicateCursor (inr (inr (d.0, on_cursors (declare name (select q)), (d.2.0, has), exists refl some)))) in (
+      with_cursor d.0 (new_cursor w name q),
+      ap (λ (x : World). x.sessions sid) turns.1 ∙ set_there w sid (Some (with_cursor d.0 (new_cursor w name q))),
+      finds_new name d.0.cursors (new_cursor w name q) (same_bytes name name refl) nowhere,
+    )
 
 declared_has : OneTree → (old new : Scene) (e : Exchange) (sid : ℕ) (name : Name) (q : SelectTree) → IsAnswered SceneSteps old e.text e.reply new → Declares sid name q e → Has new.world sid name (Some (new_cursor old.world name q))
 declared_has law old new e sid name q (inr k) d = absurd (k.0 sid (sql d.asks.0) d.asks.1)
