@@ -1,12 +1,10 @@
 -- How a session's cursor of one name fares in a step.
-use Rattle.std.proofs.Common.{◌≡◌, ◌≢◌, ℕ, ◌⊎◌, Bool, true, false, if◌then◌else◌, List, [], ◌∷◌, ◌++◌, Option, Some, None, IsSome, nat_eq, refl, ap, sym, ◌∙◌, subst, inl, inr, codes, bytes_eq}
+use Rattle.std.proofs.Common.{◌≡◌, ◌≢◌, ℕ, ◌⊎◌, Bool, true, false, if◌then◌else◌, List, Option, Some, None, IsSome, nat_eq, refl, ap, sym, ◌∙◌, subst, inl, inr, codes, bytes_eq}
 use Rattle.std.proofs.lemmas.Bool.Decides.{eqb_tells}
-use Rattle.med_value.specs.Datum.{Tuple}
-use Rattle.med_value.specs.declared.cause.Cause.{Cause}
 use Rattle.med_value.specs.declared.cause.Cause.TheVariants.{Protocol, OutOfMemory, SourceFault, LimitExceeded}
 use Rattle.med_syntax.specs.Tree.{Name}
-use Rattle.med_syntax.specs.QueryTree.{SelectTree, select}
-use Rattle.cursor_syntax.specs.CursorTree.{CountTree, CursorTree, declare, fetch, close}
+use Rattle.med_syntax.specs.QueryTree.{select}
+use Rattle.cursor_syntax.specs.CursorTree.{CursorTree, declare, fetch, close}
 use Rattle.med_catalog.specs.Changes.{ObjectChange, nothing, new_wrapper, new_server, new_mapping, new_table, no_wrapper, no_server, no_mapping, no_table}
 use Rattle.med_parser.specs.CommandTree.{CommandTree, on_data, on_rows, on_cursors, on_objects}
 use Rattle.med_parser.specs.CommandGrammar.{HasCommand}
@@ -14,16 +12,16 @@ use Rattle.med_world.specs.Requests.{Asked, opening, sql, bye}
 use Rattle.med_world.specs.World.{World, Cursor, Session, with_session}
 use Rattle.med_world.specs.Cursors.{cursor_named, with_cursor, without_cursor, with_handed, handing, Fetches, Fetched}
 use Rattle.med_world.specs.Picks.{Pick}
-use Rattle.med_world.specs.Replies.{Reply, done, answered, refused, reply_text}
+use Rattle.med_world.specs.Replies.{Reply, done, reply_text}
 use Rattle.med_world.specs.Causes.{NoneStands, IsStatementOf}
 use Rattle.med_world.specs.Steps.{Trouble, new_cursor, Turns, Changes, TreeDoes, Does, Loses, Step, is_refused, is_done, lacks_memory, fetch_lacks_memory, source_fails, numbers_end}
-use Rattle.med_world.proofs.Lists.{some_same, same_bytes, bytes_same, bytes_other, other_bytes}
+use Rattle.med_world.proofs.Lists.{some_same, bytes_same, bytes_other, other_bytes}
 use Rattle.session_wire.specs.Frames.{IsFrame}
 use Rattle.session_wire.proofs.UniqueFrames.{one_frame}
 use Rattle.cursor_runs.specs.Exchanges.{Exchange}
 use Rattle.cursor_runs.specs.Fetching.{EndsCursor, by_close, by_bye, by_declare, GivesRows, PassesBy}
 use Rattle.cursor_runs.proofs.Named.{finds_more, gone, left, handed_else, handed_on}
-use Rattle.cursor_runs.proofs.Replying.{OneTree, refused_passes, other_passes, IsOn, tree_passes}
+use Rattle.cursor_runs.proofs.Replying.{OneTree, refused_passes, other_passes, tree_passes}
 
 -- the session is open, and this is its cursor of the name
 abbrev pub Has : World → ℕ → Name → Option Cursor → Type 0

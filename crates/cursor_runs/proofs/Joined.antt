@@ -1,16 +1,13 @@
 -- A run of lines is a list of lines with their replies, and the FETCHes from a cursor among them give one answer.
-use Rattle.std.proofs.Common.{◌≡◌, ℕ, ◌⊎◌, List, [], ◌∷◌, ◌++◌, Option, Some, None, Contains, refl, ap, sym, ◌∙◌, subst, inl, inr, codes, append_assoc}
+use Rattle.std.proofs.Common.{◌≡◌, ℕ, ◌⊎◌, List, [], ◌∷◌, ◌++◌, Option, Some, None, Contains, refl, ap, sym, ◌∙◌, subst, inl, inr, append_assoc}
 use Rattle.med_value.specs.Datum.{Tuple}
 use Rattle.med_syntax.specs.Tree.{Name}
-use Rattle.med_syntax.specs.QueryTree.{SelectTree, select}
 use Rattle.med_query.specs.Query.{IsAnswer}
-use Rattle.med_world.specs.World.{World, Cursor, Session}
+use Rattle.med_world.specs.World.{Cursor, Session}
 use Rattle.med_world.specs.Cursors.{cursor_named, rows_leased, handing, Fetched, AreFetched, IsLast, rows_fetched}
-use Rattle.session_wire.specs.Frames.{IsFrame}
-use Rattle.med_world.specs.Requests.{Asked}
 use Rattle.session_wire.specs.Lines.{Lines, line, rest, closed}
 use Rattle.session_wire.specs.Run.{Steps, IsAnswered, Run, RunFront}
-use Rattle.session_wire.specs.Worlds.{Scene, SceneSteps, SceneEnds}
+use Rattle.session_wire.specs.Worlds.{Scene, SceneSteps}
 use Rattle.cursor_runs.specs.Exchanges.{Exchange, Exchanged, texts_in, replies_in, texts_of, end_reply}
 use Rattle.cursor_runs.specs.Fetching.{AreFetchesOf, GivesRows, GivesOneAnswer}
 use Rattle.cursor_runs.proofs.Replying.{OneTree, other_passes}

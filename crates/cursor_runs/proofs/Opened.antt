@@ -1,5 +1,5 @@
 -- A DECLARE that was done opens its cursor, and every DECLARE of a run begins one answer.
-use Rattle.std.proofs.Common.{◌≡◌, ℕ, ◌⊎◌, List, [], ◌∷◌, ◌++◌, Option, Some, None, IsSome, refl, ap, sym, ◌∙◌, subst, inl, inr, codes}
+use Rattle.std.proofs.Common.{◌≡◌, ℕ, List, [], ◌∷◌, ◌++◌, Option, Some, None, IsSome, refl, ap, sym, ◌∙◌, subst, inl, inr, codes}
 use Rattle.med_value.specs.declared.cause.Cause.TheVariants.{OutOfMemory, SourceFault, LimitExceeded, DuplicateCursor}
 use Rattle.med_syntax.specs.Tree.{Name}
 use Rattle.med_syntax.specs.QueryTree.{SelectTree, select}
@@ -7,9 +7,9 @@ use Rattle.cursor_syntax.specs.CursorTree.{declare}
 use Rattle.med_parser.specs.CommandTree.{CommandTree, on_cursors}
 use Rattle.med_parser.specs.CommandGrammar.{HasCommand}
 use Rattle.med_world.specs.Requests.{Asked, sql}
-use Rattle.med_world.specs.World.{World, Cursor, Session}
+use Rattle.med_world.specs.World.{World, Cursor}
 use Rattle.med_world.specs.Cursors.{cursor_named, with_cursor}
-use Rattle.med_world.specs.Replies.{Reply, done, refused, reply_text}
+use Rattle.med_world.specs.Replies.{Reply, done, reply_text}
 use Rattle.med_world.specs.Causes.{NoneStands, exists}
 use Rattle.med_world.specs.Steps.{Trouble, new_cursor, Turns, TreeDoes, Does, Step, is_refused, is_done, lacks_memory, fetch_lacks_memory, source_fails, numbers_end}
 use Rattle.med_world.proofs.Lists.{same_bytes}
@@ -18,7 +18,7 @@ use Rattle.session_wire.specs.Worlds.{Scene, SceneSteps}
 use Rattle.session_wire.proofs.UniqueFrames.{one_frame}
 use Rattle.cursor_runs.specs.Exchanges.{Exchange, Exchanged}
 use Rattle.cursor_runs.specs.Fetching.{Declares, GivesOneAnswer}
-use Rattle.cursor_runs.specs.Runs.{KeepsCursor, KeepsCursors}
+use Rattle.cursor_runs.specs.Runs.{KeepsCursors}
 use Rattle.cursor_runs.proofs.Named.{finds_new}
 use Rattle.cursor_runs.proofs.Replying.{OneTree, done_refused}
 use Rattle.cursor_runs.proofs.Faring.{Has, set_there}
@@ -73,4 +73,4 @@ parted old new (e ∷ es) after x = let r = parted x.0 new es after x.2 in (r.0,
 pub keeps : EachGives → (old new : Scene) (es : List Exchange) → Exchanged SceneSteps old es new → KeepsCursors old es new
 keeps law old new es x before after e sid name q is d =
     let r = parted old new before (e ∷ after) (subst (λ (l : List Exchange). Exchanged SceneSteps old l new) is x) in
-    record { at = r.0; led = r.1; leads = r.2; gives = law r.0 new e after sid name q r.2 d }
+    record { at = r.0; led = r.1; leads = r.2; gives = λ there led leads. law there new e after sid name q leads d }

@@ -1,11 +1,11 @@
 -- Which lines pass a session's cursor by.
-use Rattle.std.proofs.Common.{◌≡◌, ◌≢◌, ℕ, ◌⊎◌, List, [], ◌∷◌, ◌++◌, refl, ap, sym, ◌∙◌, subst, inl, inr, codes, decimal, get_or, arith}
+use Rattle.std.proofs.Common.{◌≡◌, ℕ, List, [], ◌++◌, refl, ap, sym, ◌∙◌, subst, inl, inr, codes, decimal, get_or, arith}
 use Rattle.std.proofs.lemmas.List.{append_cancel_left, append_assoc}
 use Rattle.med_value.specs.declared.cause.Cause.{Cause}
 use Rattle.med_syntax.specs.Tree.{Name}
-use Rattle.med_syntax.specs.QueryTree.{SelectTree, select}
-use Rattle.cursor_syntax.specs.CursorTree.{CursorTree, declare, fetch, close}
-use Rattle.med_parser.specs.CommandTree.{CommandTree, on_data, on_rows, on_cursors, on_objects}
+use Rattle.med_syntax.specs.QueryTree.{select}
+use Rattle.cursor_syntax.specs.CursorTree.{declare, fetch, close}
+use Rattle.med_parser.specs.CommandTree.{CommandTree, on_cursors}
 use Rattle.med_parser.specs.CommandGrammar.{HasCommand}
 use Rattle.med_world.specs.Requests.{Asked, sql, bye}
 use Rattle.med_world.specs.Replies.{done, refused, line, refusal, tag_line, reply_text}

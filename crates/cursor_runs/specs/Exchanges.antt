@@ -1,5 +1,5 @@
 -- A run of lines as a list: each line with its reply.
-use Rattle.std.specs.Prelude.{◌≡◌, List, [], ◌∷◌, ◌++◌, ℕ, map, flat_map}
+use Rattle.std.specs.Prelude.{◌≡◌, List, [], ◌∷◌, ℕ, map, flat_map}
 use Rattle.session_wire.specs.Lines.{Lines, line, rest, closed}
 use Rattle.session_wire.specs.Replies.{closing_replies}
 use Rattle.session_wire.specs.Run.{Steps, IsAnswered}
