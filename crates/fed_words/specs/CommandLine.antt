@@ -66,11 +66,11 @@ run_command = with_beginning (new_app (codes "run"))
 abbrev pub serve_command : App
 serve_command = with_beginning (with_rule (with_rule (new_app (codes "serve")) port_rule) count_rule)
 
--- fedq: a command has to be given, and no word at all asks for help
+-- fedq: a command has to be given, no word at all asks for help, and it has a version
 abbrev pub fedq_command : App
 fedq_command =
     let fedq = new_app (codes "fedq") in
-    record fedq { top = record fedq.top { subcommand_required = true; arg_required_else_help = true } }
+    record fedq { top = record fedq.top { subcommand_required = true; arg_required_else_help = true; has_version = true } }
 
 -- fedq run or fedq serve
 abbrev pub command_line : App
@@ -137,6 +137,6 @@ count_given words = value_given (codes "count") words
 abbrev pub faults : List Text → Kinds
 faults words = fault_of command_line words
 
--- the words ask for help
+-- the words ask for help or for the version
 abbrev pub IsHelp : ErrorKind → Type 0
 IsHelp kind = (kind ≡ DisplayHelp) ⊎ (kind ≡ DisplayVersion)

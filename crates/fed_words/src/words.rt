@@ -3,7 +3,7 @@ ghost use Rattle.std.specs.Prelude.{◌≡◌, ◌↔◌, ℕ, [], ◌∷◌, �
 ghost use Rattle.std.specs.Prelude.{codes, map, option_map, unwrap_or};
 ghost use Rattle.clap.specs.Lexer.{strip_byte};
 ghost use Rattle.clap.specs.Words.{Text, app_of, kind_of, rule_of, subcommand_rows_of};
-ghost use Rattle.clap.specs.declared.error.ErrorKind.TheVariants.{DisplayHelp, DisplayHelpOnMissingArgumentOrSubcommand};
+ghost use Rattle.clap.specs.declared.error.ErrorKind.TheVariants.{DisplayHelp, DisplayHelpOnMissingArgumentOrSubcommand, DisplayVersion};
 ghost use Rattle.clap.specs.declared.error.ErrorKind.TheVariants.{MissingRequiredArgument, ValueValidation};
 ghost use Rattle.fed_words.specs.CommandLine.{command_line, text_rule, texts_rule, faults, value_in, values_in};
 ghost use Rattle.fed_words.specs.CommandLine.{number_rule, port_rule, with_beginning, run_command, serve_command};
@@ -11,7 +11,7 @@ ghost use Rattle.fed_words.specs.CommandLine.{command_named, port_given, count_g
 ghost use Rattle.fed_words.specs.CommandLine.{owner_named, list_named, csv_given, jsonl_given, sqlite_given, init_named};
 ghost use Rattle.fed_words.specs.Places.{AreGood, AreRefused, place_in, place_of};
 ghost use Rattle.fed_words.specs.Names.{IsSourceName};
-ghost use Rattle.fed_words.specs.Told.{words_status};
+ghost use Rattle.fed_words.specs.Told.{words_status, told_status};
 ghost use Rattle.fed_words.specs.Words.{IsNumber, IsPort, IsCount, IsService, HasBadNumber, IsNumberRefusal};
 ghost use Rattle.fed_words.specs.Words.{IsRefusal, Reads, told_place};
 ghost use Rattle.fed_words.specs.declared.places.PlaceKind.TheVariants.{Csv, JsonLines, Sqlite};
@@ -52,6 +52,31 @@ const COUNT_HELP: &str = "The number of connections to serve, from 1 to 1000, by
 
 const INIT_HELP: &str = "Runs the lines of FILE as the owner's statements before";
 
+// The version, and the logic that the program is proved in: the sum by which each kit of the toolchain that has it names it.
+const VERSION: &str = "0.1.0, proved in Rattle's logic dac8208d650f15bf";
+
+// What stands at the end of help: the options of both commands, and examples.
+const FEDQ_MORE: &str = "Options of run and serve:\n  \
+    --owner <NAME>        The user who may create and drop objects, as --owner keeper\n  \
+    --list <NAME>         Adds the demo list as a source, as --list demo\n  \
+    --csv <NAME=PATH>     Adds a folder of CSV files, as --csv files=data\n  \
+    --jsonl <NAME=PATH>   Adds a folder of JSON lines files, as --jsonl docs=data\n  \
+    --sqlite <NAME=PATH>  Adds a SQLite database, as --sqlite db=shop.db or --sqlite db=:memory:\n  \
+    --init <FILE>         Runs the lines of FILE as statements before, as --init setup.sql\n\n\
+    Options of serve:\n  \
+    --port <P>            The port of 127.0.0.1 to listen on, as --port 5433\n  \
+    --count <N>           The number of connections to serve, as --count 2\n\n\
+    Examples:\n  \
+    printf '1 OPEN ann\\n1 Q SELECT name FROM parts\\n' | fedq run --list demo\n  \
+    fedq serve --port 5433 --count 2 --list demo";
+
+const RUN_MORE: &str = "Examples:\n  \
+    printf '1 OPEN ann\\n1 Q SELECT name FROM parts\\n' | fedq run --list demo\n  \
+    fedq run --csv files=data --init setup.sql < requests.req";
+
+const SERVE_MORE: &str = "Example:\n  \
+    fedq serve --port 5433 --count 2 --list demo";
+
 /// What is to be served.
 #[derive(Clone, Copy, Debug, PartialEq, Eq)]
 pub enum Service {
@@ -84,7 +109,7 @@ pub struct Asked<'a> {
 /// Why the words ask no run.
 #[derive(Debug, Drop)]
 pub enum WordsFault<'a> {
-    /// The words ask for help, which is this.
+    /// The words ask for help or for the version, which is this.
     Help(String),
     /// The words are not in the command line's grammar, as this says.
     Usage(String),
@@ -105,6 +130,16 @@ impl WordsFault<'_> {
             WordsFault::Help(_) => 0,
             WordsFault::Usage(_) | WordsFault::NoPath(_) | WordsFault::BadName(_) => 2,
             WordsFault::NoMemory => 1,
+        }
+    }
+
+    /// The exit status once this was told, or could not be: 1 where help was asked and not written, and else `status`.
+    pub fn told_status(&self, is_told: bool) -> u8
+        ensures { result ≡ told_status self.now is_told }
+    {
+        match self {
+            WordsFault::Help(_) if !is_told => 1,
+            _ => self.status(),
         }
     }
 }
@@ -186,9 +221,9 @@ fn with_beginning<'a>(alloc: Global, command: Command<'a>) -> Result<Command<'a>
 fn run_command<'a>(alloc: Global) -> Result<Command<'a>, AllocError>
     ensures { IfOk result (λ c. app_of c ≡ run_command) }
 {
-    let run = Command::new(alloc, "run").about(
-        "Answers the request lines of standard input on standard output",
-    );
+    let run = Command::new(alloc, "run")
+        .about("Answers the request lines of standard input on standard output")
+        .after_help(RUN_MORE);
     with_beginning(alloc, run)
 }
 
@@ -200,6 +235,7 @@ fn serve_command<'a>(alloc: Global) -> Result<Command<'a>, AllocError>
     let count = number_option(alloc, "count", "N", MOST_COUNT, COUNT_HELP);
     let serve = Command::new(alloc, "serve")
         .about("Answers the request lines of TCP connections, one connection after the other")
+        .after_help(SERVE_MORE)
         .arg(port)?
         .arg(count)?;
     with_beginning(alloc, serve)
@@ -213,6 +249,8 @@ fn command<'a>(alloc: Global) -> Result<Command<'a>, AllocError>
     let serve = serve_command(alloc)?;
     Command::new(alloc, "fedq")
         .about("One SQL front over tables that live elsewhere")
+        .version(VERSION)
+        .after_help(FEDQ_MORE)
         .subcommand_required(true)
         .arg_required_else_help(true)
         .bin_name("fedq")?
@@ -418,7 +456,7 @@ pub fn read_words<'a, S: AsStr>(alloc: Global, words: &'a [S]) -> Result<Asked<'
 
 /// What some words mean: `run` alone, `run --list NAME`, `run --owner NAME`, `run --csv NAME=PATH`,
 /// `run --jsonl NAME=PATH`, `run --sqlite NAME=PATH`, `run --init FILE`, `serve` with numbers in their
-/// ranges and out of them, `serve` alone, `--help`, and none.
+/// ranges and out of them, `serve` alone, `--help`, `--version`, and none.
 pub fn words_mean()
     ensures alone { (program : Text) → (faults (program ∷ codes "run" ∷ []) ≡ []) × (list_named (program ∷ codes "run" ∷ []) ≡ None)
         × (owner_named (program ∷ codes "run" ∷ []) ≡ codes "admin") × (init_named (program ∷ codes "run" ∷ []) ≡ None)
@@ -457,5 +495,6 @@ pub fn words_mean()
         × (faults (program ∷ codes "serve" ∷ codes "--port" ∷ codes "1" ∷ codes "--count" ∷ codes "1001" ∷ []) ≡ ValueValidation ∷ []) }
     ensures portless { (program : Text) → faults (program ∷ codes "serve" ∷ []) ≡ MissingRequiredArgument ∷ [] }
     ensures help { (program : Text) → faults (program ∷ codes "--help" ∷ []) ≡ DisplayHelp ∷ [] }
+    ensures version { (program : Text) → faults (program ∷ codes "--version" ∷ []) ≡ DisplayVersion ∷ [] }
     ensures none { (program : Text) → faults (program ∷ []) ≡ DisplayHelpOnMissingArgumentOrSubcommand ∷ [] }
 {}

@@ -3,3 +3,4 @@ pub mod Writable
 pub mod Stored
 pub mod Changes
 pub mod Rewriting
+pub mod Shapes

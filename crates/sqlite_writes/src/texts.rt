@@ -2,14 +2,16 @@
 ghost use Rattle.std.specs.Prelude.{◌≡◌};
 ghost use Rattle.sqlite_writes.specs.Writable.{delete_text, insert_text};
 
+use crate::shapes::{Orders, People, RemoteShape};
+
 // The text that takes the row of a key out of a table.
 pub(crate) fn delete_text(table: u64) -> &'static str
     ensures { result.now ≡ delete_text table }
 {
     if table == 0 {
-        "DELETE FROM orders WHERE id = ?1"
+        Orders.delete_text()
     } else {
-        "DELETE FROM people WHERE id = ?1"
+        People.delete_text()
     }
 }
 
@@ -18,8 +20,8 @@ pub(crate) fn insert_text(table: u64) -> &'static str
     ensures { result.now ≡ insert_text table }
 {
     if table == 0 {
-        "INSERT INTO orders (id, part, n) VALUES (?1, ?2, ?3)"
+        Orders.insert_text()
     } else {
-        "INSERT INTO people (id, name, active) VALUES (?1, ?2, ?3)"
+        People.insert_text()
     }
 }

@@ -14,6 +14,10 @@ pub returns-clause-help : goal.returns-clause-help
 unfolding clap_on_literals
 returns-clause-help c = λ program. refl
 
+pub returns-clause-version : goal.returns-clause-version
+unfolding clap_on_literals
+returns-clause-version c = λ program. refl
+
 pub returns-clause-none : goal.returns-clause-none
 unfolding clap_on_literals
 returns-clause-none c = λ program. refl

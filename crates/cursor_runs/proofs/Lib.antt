@@ -1,0 +1,5 @@
+mod Named
+mod Replying
+mod Faring
+mod Joined
+mod Opened
