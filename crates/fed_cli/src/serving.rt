@@ -7,7 +7,7 @@ ghost use Rattle.med_session.specs.Shows.{shown};
 ghost use Rattle.med_session.specs.World.{World};
 
 use crate::stream::{Ended, StreamFault, serve_stream};
-use crate::worlds::served_worlds_follow;
+use crate::worlds::{fed_cursors_keep_their_tables, served_worlds_follow};
 use fdw_api::interface::Wrapper;
 use med_session::{Engine, Sources};
 use session_wire::Server;
@@ -34,6 +34,7 @@ pub fn serve_engine<B: Wrapper, R: Read, W: Write>(
     ensures at_rest { EachBox IsAtRest (states B.meaning result.1.slots.items) }
 {
     served_worlds_follow::<B>();
+    fed_cursors_keep_their_tables();
     let mut server = match Server::new(alloc, engine) {
         Ok(server) => server,
         Err((mut engine, _)) => {

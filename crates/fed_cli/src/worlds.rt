@@ -1,16 +1,21 @@
 //! What a stream served over an engine is, in the direct meaning of SQL over worlds.
-ghost use Rattle.std.specs.Prelude.{ℕ, List, Option, Result};
+ghost use Rattle.std.specs.Prelude.{◌≡◌, ◌++◌, ℕ, List, Option, Result};
+ghost use Rattle.cursor_runs.specs.Exchanges.{Exchange, Exchanged, texts_in, replies_in, texts_of, end_reply};
+ghost use Rattle.cursor_runs.specs.Runs.{KeepsCursors};
 ghost use Rattle.med_session.specs.World.{World};
 ghost use Rattle.med_session.specs.Engine.{Agrees};
 ghost use Rattle.med_session.specs.Shows.{shown};
 ghost use Rattle.med_session.specs.declared.engine.Engine.{Engine};
 ghost use Rattle.session_wire.specs.Engines.{EngineSteps, EngineEnds};
-ghost use Rattle.session_wire.specs.Worlds.{scene_of, SceneSteps, SceneEnds};
+ghost use Rattle.session_wire.specs.Lines.{lines_of};
+ghost use Rattle.session_wire.specs.Run.{Fed};
+ghost use Rattle.session_wire.specs.Worlds.{Scene, scene_of, SceneSteps, SceneEnds};
 ghost use Rattle.fed_cli.specs.declared.stream.Ended.{Ended};
 ghost use Rattle.fed_cli.specs.declared.stream.StreamFault.{StreamFault};
 ghost use Rattle.fed_cli.specs.Served.{Serves};
 ghost use Rattle.fed_cli.specs.Streams.{Stream};
 
+use cursor_runs::law::cursors_keep_their_tables;
 use fdw_api::interface::Wrapper;
 use session_wire::worlds::worlds_follow;
 
@@ -28,4 +33,15 @@ pub fn served_worlds_follow<W: Wrapper>()
         × Agrees (shown W.meaning new) after }
 {
     worlds_follow::<W>();
+}
+
+/// The law of leases over what is fed: the lines with their replies are a list, and at each DECLARE in it that was done, the rows that the
+/// FETCHes from its cursor gave, joined, begin one answer over the tables as they stood there, and are all of it once one FETCH gave fewer
+/// rows than it was asked for.
+pub fn fed_cursors_keep_their_tables()
+    ensures { (old new : Scene) (bytes text : List ℕ) (left : Option (List ℕ)) → Fed SceneSteps SceneEnds old bytes text new left
+        → (es : List Exchange) × (last : Scene) × Exchanged SceneSteps old es last × (texts_in es ≡ texts_of (lines_of bytes))
+        × (text ≡ replies_in es ++ end_reply (lines_of bytes)) × KeepsCursors old es last }
+{
+    cursors_keep_their_tables();
 }
