@@ -1,6 +1,6 @@
 //! A server between a reader and a writer.
-ghost use Rattle.std.specs.Prelude.{◌≡◌, ◌++◌, ℕ, List, true, false, Ok, OnOk, IfErr};
-ghost use Rattle.std.specs.Io.KnownBytes.{Appends};
+ghost use Rattle.std.specs.Prelude.{◌≡◌, ◌++◌, ℕ, List, Option, true, false, Ok, Err, OnOk, IfErr};
+ghost use Rattle.std.specs.Io.KnownBytes.{Appends, Consumes};
 ghost use Rattle.session_wire.specs.Run.{Fed};
 ghost use Rattle.session_wire.specs.Servers.{handler_of, is_closed, held_back, unread_of};
 ghost use Rattle.fed_cli.specs.Served.{Serves, Fails};
@@ -46,13 +46,14 @@ pub enum StreamFault {
 
 /// Serves an input to its end, or to the line that closes the stream.
 ///
-/// It reads pieces of at most 8,192 bytes, and writes and flushes the replies to each piece before it
-/// reads the next. It reads at most 4,294,967,295 times, and an interrupted read counts and is tried
+/// It reads pieces of at most 8,192 bytes, and answers each line by line: the replies to a line are written
+/// and flushed before the next line is answered. It reads at most 4,294,967,295 times, and an interrupted read counts and is tried
 /// again. Of a server that is closed before, nothing is read.
 ///
 /// After `Eof` the writer has got the text of the run of all bytes that the reader had; after `Closed` of
 /// those up to the closing line. After `Read` and `TooLong` what was read is a run, and its text was
-/// written; after `NoRoom` too, but for the last piece. After `Write` the run alone is known.
+/// written; after `NoRoom` too, but for the last piece. After `Write` a front of what was read is a run, and
+/// how much of its text was written is not known; the lines behind it were not answered.
 pub fn serve_stream<H: Handler, R: Read, W: Write>(
     alloc: Global,
     server: &mut Server<H>,
@@ -88,7 +89,7 @@ pub fn serve_stream<H: Handler, R: Read, W: Write>(
         if count == 0 {
             return Ok(Ended::Eof);
         }
-        match answer_piece(server, &piece[..count], &mut out, writer) {
+        match answer_parts(server, &piece[..count], &mut out, writer) {
             Ok(()) => {}
             Err(fault) => return Err(fault),
         }
@@ -99,7 +100,39 @@ pub fn serve_stream<H: Handler, R: Read, W: Write>(
     Err(StreamFault::TooLong)
 }
 
-// Answers one piece, and writes the answer.
+// Answers one piece, and writes the answer to each of its lines before the next is answered.
+fn answer_parts<H: Handler, W: Write>(
+    server: &mut Server<H>,
+    piece: &[u8],
+    out: &mut Vec<u8>,
+    writer: &mut W,
+) -> Result<(), StreamFault>
+    requires open { is_closed server.old ≡ false }
+    requires sound { H.sound (handler_of server.old) }
+    ensures ok { OnOk result ((text : List ℕ)
+        × Appends (W.contents writer.old) (W.contents writer.new) text
+        × Fed H.step H.ended (handler_of server.old) (held_back server.old ++ piece.now) text
+        (handler_of server.new) (unread_of server.new)) }
+    ensures fault { IfErr result (λ fault. (had has : Option (List ℕ)) → Consumes had has piece.now
+        → Serves H.step H.ended (handler_of server.old) (held_back server.old)
+        (handler_of server.new) (unread_of server.new) (stream had has)
+        (stream (W.contents writer.old) (W.contents writer.new)) (Err fault)) }
+    ensures sound { H.sound (handler_of server.new) }
+{
+    runs_join::<H>();
+    for part in piece.split_inclusive(|byte| *byte == b'\n') {
+        match answer_piece(server, part, out, writer) {
+            Ok(()) => {}
+            Err(fault) => return Err(fault),
+        }
+        if server.is_closed() {
+            return Ok(());
+        }
+    }
+    Ok(())
+}
+
+// Answers one part of a piece, and writes the answer.
 fn answer_piece<H: Handler, W: Write>(
     server: &mut Server<H>,
     piece: &[u8],
