@@ -36,7 +36,7 @@ ran_in_worlds : {W : Type 0} (meaning : W → BoxState) → Laws meaning → (ol
     → (after : World) × Ran SceneSteps SceneEnds (scene_of meaning old w) before (scene_of meaning new after) left input × Agrees (shown meaning new) after
 ran_in_worlds meaning law old before new left input h w agrees =
     let one = law.fed old new (before ++ h.bytes) h.text left h.fed w agrees in
-    (one.0, record { bytes = h.bytes; text = h.text; read = h.read; fed = one.1 }, one.2)
+    (one.0, record { bytes = h.bytes; dropped = h.dropped; text = h.text; read = h.read; in_piece = h.in_piece; fed = one.1 }, one.2)
 
 stopped_in_worlds : {W : Type 0} (meaning : W → BoxState) → Laws meaning → (old : Engine W) (before : List ℕ) (new : Engine W) (input output : Stream)
     → Stopped (EngineSteps meaning) (EngineEnds meaning) old before new input output → (w : World) → Agrees (shown meaning old) w

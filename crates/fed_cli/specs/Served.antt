@@ -1,5 +1,5 @@
 -- What was read and written when a stream ends.
-use Rattle.std.specs.Prelude.{◌≡◌, ℕ, Option, Some, None, IsSome, List, ◌++◌, Result, Ok, Err}
+use Rattle.std.specs.Prelude.{◌≡◌, ◌≤◌, ℕ, Option, Some, None, IsSome, List, ◌++◌, length, Result, Ok, Err}
 use Rattle.std.specs.Io.KnownBytes.{Consumes, Appends, IsAtEnd}
 use Rattle.session_wire.specs.Run.{Steps, Fed, BrokenOff}
 use Rattle.fed_cli.specs.Streams.{Stream, stream, IsUntouched}
@@ -17,12 +17,15 @@ pub record Served {W : Type 0} (step : Steps W) (ends : W → W → Type 0) (old
   pub written : Appends output.before output.after text
   pub fed : Fed step ends old (before ++ bytes) text new left
 
--- These bytes were read, and are a run. How much of its text was written is not known.
+-- These bytes were read and are a run, up to the line whose reply could not be written. What stood behind that line in the last piece
+-- read, of at most 8,192 bytes, is dropped. How much of the text of the run was written is not known.
 pub record Ran {W : Type 0} (step : Steps W) (ends : W → W → Type 0) (old : W) (before : List ℕ) (new : W)
     (left : Option (List ℕ)) (input : Stream) : Type 0 where
   pub bytes : List ℕ
+  pub dropped : List ℕ
   pub text : List ℕ
-  pub read : Consumes input.before input.after bytes
+  pub read : Consumes input.before input.after (bytes ++ dropped)
+  pub in_piece : length dropped ≤ 8192
   pub fed : Fed step ends old (before ++ bytes) text new left
 
 -- These bytes were read and served, and then a last piece, of which some lines were answered. Their text
@@ -55,7 +58,7 @@ Serves step ends old before new left input output (Err fault.Write) = Ran step e
 Serves step ends old before new left input output (Err fault.NoRoom) =
     Stopped step ends old before new input output × (left ≡ None)
 
--- what is known where a piece is not answered, or its answer not written
+-- what is known where a part of a piece is not answered, or its answer not written
 abbrev pub Fails : {W : Type 0} → Steps W → (W → W → Type 0) → W → List ℕ → W → Option (List ℕ) → Stream → StreamFault → Type 0
 Fails step ends old bytes new left output fault.Write = (text : List ℕ) × Fed step ends old bytes text new left
 Fails step ends old bytes new left output fault.NoRoom =

@@ -1,6 +1,6 @@
 //! A server between a reader and a writer.
-ghost use Rattle.std.specs.Prelude.{◌≡◌, ◌++◌, ℕ, List, true, false, Ok, OnOk, IfErr};
-ghost use Rattle.std.specs.Io.KnownBytes.{Appends};
+ghost use Rattle.std.specs.Prelude.{◌≡◌, ◌==◌, ◌<◌, ◌≤◌, ◌+◌, ◌++◌, ℕ, List, length, position, Option, IfSome, MatchOption, true, false, Ok, Err, OnOk, IfErr};
+ghost use Rattle.std.specs.Io.KnownBytes.{Appends, Consumes};
 ghost use Rattle.session_wire.specs.Run.{Fed};
 ghost use Rattle.session_wire.specs.Servers.{handler_of, is_closed, held_back, unread_of};
 ghost use Rattle.fed_cli.specs.Served.{Serves, Fails};
@@ -46,13 +46,15 @@ pub enum StreamFault {
 
 /// Serves an input to its end, or to the line that closes the stream.
 ///
-/// It reads pieces of at most 8,192 bytes, and writes and flushes the replies to each piece before it
-/// reads the next. It reads at most 4,294,967,295 times, and an interrupted read counts and is tried
-/// again. Of a server that is closed before, nothing is read.
+/// It reads pieces of at most 8,192 bytes, and answers each line by line: the replies to a line are written
+/// and flushed before the next line is answered. It reads at most 4,294,967,295 times, and an interrupted
+/// read counts and is tried again. Of a server that is closed before, nothing is read.
 ///
 /// After `Eof` the writer has got the text of the run of all bytes that the reader had; after `Closed` of
 /// those up to the closing line. After `Read` and `TooLong` what was read is a run, and its text was
-/// written; after `NoRoom` too, but for the last piece. After `Write` the run alone is known.
+/// written; after `NoRoom` too, but for the last piece. After `Write` what was read is a run up to the line
+/// whose reply could not be written, and what stood behind that line in the last piece is dropped; how much
+/// of the text was written is not known.
 pub fn serve_stream<H: Handler, R: Read, W: Write>(
     alloc: Global,
     server: &mut Server<H>,
@@ -88,7 +90,7 @@ pub fn serve_stream<H: Handler, R: Read, W: Write>(
         if count == 0 {
             return Ok(Ended::Eof);
         }
-        match answer_piece(server, &piece[..count], &mut out, writer) {
+        match answer_parts(server, &piece[..count], &mut out, writer) {
             Ok(()) => {}
             Err(fault) => return Err(fault),
         }
@@ -99,7 +101,64 @@ pub fn serve_stream<H: Handler, R: Read, W: Write>(
     Err(StreamFault::TooLong)
 }
 
-// Answers one piece, and writes the answer.
+// Answers one piece, and writes the answer to each of its lines before the next is answered.
+fn answer_parts<H: Handler, W: Write>(
+    server: &mut Server<H>,
+    piece: &[u8],
+    out: &mut Vec<u8>,
+    writer: &mut W,
+) -> Result<(), StreamFault>
+    requires is_open { is_closed server.old ≡ false }
+    requires sound { H.sound (handler_of server.old) }
+    requires piece { length piece.now ≤ 8192 }
+    ensures ok { OnOk result ((text : List ℕ)
+        × Appends (W.contents writer.old) (W.contents writer.new) text
+        × Fed H.step H.ended (handler_of server.old) (held_back server.old ++ piece.now) text
+        (handler_of server.new) (unread_of server.new)) }
+    ensures fault { IfErr result (λ fault. (had has : Option (List ℕ)) → Consumes had has piece.now
+        → Serves H.step H.ended (handler_of server.old) (held_back server.old)
+        (handler_of server.new) (unread_of server.new) (stream had has)
+        (stream (W.contents writer.old) (W.contents writer.new)) (Err fault)) }
+    ensures sound { H.sound (handler_of server.new) }
+{
+    runs_join::<H>();
+    let mut rest = piece;
+    while !rest.is_empty() {
+        let (part, others) = rest.split_at(first_line(rest));
+        rest = others;
+        match answer_piece(server, part, out, writer) {
+            Ok(()) => {}
+            Err(fault) => return Err(fault),
+        }
+        if server.is_closed() {
+            return Ok(());
+        }
+    }
+    Ok(())
+}
+
+// How long the first line of a piece is with its end, or the whole piece where it ends no line.
+fn first_line(piece: &[u8]) -> usize
+    ensures line { MatchOption (position (λ byte. byte == 10) piece.now)
+        (result ≡ length piece.now) (λ place. result ≡ place + 1) }
+    ensures within { result ≤ length piece.now }
+    ensures onward { 0 < length piece.now → 0 < result }
+{
+    match line_feed(piece) {
+        Some(place) => place + 1,
+        None => piece.len(),
+    }
+}
+
+// The place of the first line feed.
+fn line_feed(piece: &[u8]) -> Option<usize>
+    ensures place { result ≡ position (λ byte. byte == 10) piece.now }
+    ensures within { IfSome result (λ place. place < length piece.now) }
+{
+    piece.iter().position(|byte| *byte == b'\n')
+}
+
+// Answers one part of a piece, and writes the answer.
 fn answer_piece<H: Handler, W: Write>(
     server: &mut Server<H>,
     piece: &[u8],
