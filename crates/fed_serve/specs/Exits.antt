@@ -7,7 +7,7 @@ use Rattle.med_exec.specs.Slots.{states}
 use Rattle.med_session.specs.Engine.{Shown, EachBox, IsAtRest, ClosesAll}
 use Rattle.med_session.specs.declared.adding.Sources.{Sources}
 use Rattle.fed_words.specs.Places.{are_honest}
-use Rattle.fed_words.specs.Told.{words_status}
+use Rattle.fed_words.specs.Told.{told_status}
 use Rattle.fed_words.specs.Words.{Reads, places_asked}
 use Rattle.fed_words.specs.declared.words.Asked.{Asked}
 use Rattle.fed_words.specs.declared.words.Service.TheVariants.{StandardInput, Connections}
@@ -91,7 +91,7 @@ pub data Exits {W R S : Type 0} (honest : Bool) (meaning : W → BoxState) (rema
       → Exits honest meaning remaining contents words exit input output errors
   -- they do not ask for either
   has_refused : (fault : WordsFault) → Reads words (Err fault) → exit.sources ≡ None → exit.script ≡ None → IsUntouched input
-      → TellsWords fault exit.is_told output errors → exit.status ≡ words_status fault
+      → TellsWords fault exit.is_told output errors → exit.status ≡ told_status fault exit.is_told
       → Exits honest meaning remaining contents words exit input output errors
 
 -- the exit status where the environment gives no words

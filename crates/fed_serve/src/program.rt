@@ -115,7 +115,7 @@ pub fn run_words<
         Ok(asked) => asked,
         Err(fault) => {
             let is_told = tell_words(&fault, output, errors);
-            let refused = fault.status();
+            let refused = fault.told_status(is_told);
             return Exit {
                 status: refused,
                 is_told,
@@ -151,8 +151,8 @@ pub enum ArgsFault {
     NoMemory,
 }
 
-/// Runs the program with these words, and gives its exit status: 0 where the input ended or help was asked, 2 where the words are
-/// refused, and 1 else, with one line on standard error.
+/// Runs the program with these words, and gives its exit status: 0 where the input ended or the help that was asked was written, 2 where
+/// the words are refused, and 1 else, with one line on standard error, but for help that could not be written.
 pub fn run<V: AllocGlobal + Files + Clone + Databases + Drop + Net, I: Read, O: Write, E: Write>(
     rt: &V,
     words: Result<Vec<String>, ArgsFault>,

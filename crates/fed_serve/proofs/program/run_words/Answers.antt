@@ -6,7 +6,7 @@ use Rattle.fed_serve.proofs.program.run_words.Goals as goal
 
 -- the words ask neither for a run nor for connections
 pub returns-in-Err : goal.returns-in-Err
-returns-in-Err g c = has_refused c.in-Err.fault c.in-Err.ensures refl refl refl c.tell_words-is_told.ensures c.status-refused.ensures
+returns-in-Err g c = has_refused c.in-Err.fault c.in-Err.ensures refl refl refl c.tell_words-is_told.ensures c.told_status-refused.ensures
 
 -- they ask for connections
 pub serve_asked-requires-clause-port : goal.serve_asked-requires-clause-port
