@@ -6,6 +6,7 @@ ghost use Rattle.std.specs.Prelude.{◌≡◌, ◌∷◌, [], codes, false, map,
 ghost use Rattle.med_value.specs.declared.value.ColType.TheVariants as types;
 ghost use Rattle.fdw_api.specs.Kinds.{column_of};
 ghost use Rattle.fdw_api.specs.State.{IsIdle};
+ghost use Rattle.blob_store.specs.Memory.{shelf_of};
 ghost use Rattle.csv_wrapper.specs.CsvBoxes.{csv_state};
 ghost use Rattle.jsonl_wrapper.specs.JsonBoxes.{box_of as json_box};
 
@@ -61,12 +62,16 @@ fn blob(alloc: Global, bytes: &[u8]) -> Result<MemoryBlobs, Fail> {
 }
 
 /// A source of one CSV blob, `parts`.
-pub fn new_csv(alloc: Global) -> Result<CsvWrapper<MemoryBlobs>, Fail> {
+pub fn new_csv(alloc: Global) -> Result<CsvWrapper<MemoryBlobs>, Fail>
+    ensures { IfOk result (λ w. IsIdle (csv_state (shelf_of w.blobs) w.tables.items w.scans w.staged w.next w.pulled)) }
+{
     Ok(CsvWrapper::new(alloc, blob(alloc, CSV)?))
 }
 
 /// A source of one blob of JSON lines, `parts`.
-pub fn new_jsonl(alloc: Global) -> Result<JsonlWrapper<MemoryBlobs>, Fail> {
+pub fn new_jsonl(alloc: Global) -> Result<JsonlWrapper<MemoryBlobs>, Fail>
+    ensures { IfOk result (λ w. IsIdle (json_box shelf_of w)) }
+{
     Ok(JsonlWrapper::new(alloc, blob(alloc, LINES)?))
 }
 

@@ -1,8 +1,8 @@
 //! Scans under a source's own agreement, and the text of what they give.
-ghost use Rattle.std.specs.Prelude.{◌≡◌, [], ◌∷◌, map, Some, IfOk, OnOk, IsSome};
+ghost use Rattle.std.specs.Prelude.{◌≡◌, [], map, Some, IfOk, OnOk, IsSome};
 ghost use Rattle.med_value.specs.Datum.{datum};
 ghost use Rattle.fdw_api.specs.Kinds.{column_of, kinds_of};
-ghost use Rattle.fdw_api.specs.Scan.{check_of, filter_of, check_fits, params_fit, kind_is, has_kind};
+ghost use Rattle.fdw_api.specs.Scan.{check_of, filter_of, check_fits, params_fit, has_kind};
 ghost use Rattle.fdw_api.specs.State.{Bound, IsIdle, table_of, scan_of};
 ghost use Rattle.fdw_api.specs.Calls.{CanRescan};
 ghost use Rattle.fdw_api.specs.Writes.{CanModify};
@@ -167,8 +167,10 @@ pub fn scan<W: Wrapper>(
     } = asked;
     let agreement = source.plan(alloc, table, &wanted, &offered)?;
     write_agreement(&agreement, out)?;
-    let fits = fits(kinds, &offered, &params) && fits(kinds, &offered, &again);
-    if !fits {
+    if !fits(kinds, &offered, &params) {
+        return Err(Fault::Source);
+    }
+    if !fits(kinds, &offered, &again) {
         return Err(Fault::Source);
     }
     let spec = ScanSpec {
