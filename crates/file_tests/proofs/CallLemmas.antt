@@ -1,5 +1,5 @@
 -- How the calls of a wrapper go together.
-use Rattle.std.proofs.Common.{◌≡◌, ◌≢◌, ℕ, Bool, true, List, [], map, Result, Ok, Err, OnOk, Option, Some, None, IsSome, refl, ap, sym, ◌∙◌, subst, rules}
+use Rattle.std.proofs.Common.{◌≡◌, ℕ, Bool, true, List, [], map, Result, Ok, Err, OnOk, Option, Some, None, IsSome, refl, ap, sym, ◌∙◌, subst, rules}
 use Rattle.std.specs.Ordering.{nat_cmp}
 use Rattle.std.specs.FinMap as finmap
 use Rattle.std.specs.FinMap.{gets}
