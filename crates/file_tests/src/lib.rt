@@ -1,0 +1,12 @@
+//! Tests of the wrappers of CSV blobs and of JSON lines by themselves, under offered restrictions, and of blobs in memory, by public functions
+//! alone. They stand apart, so that no crate is proved a second time for its tests.
+#![tactic(auto)]
+
+#[cfg(test)]
+mod asked;
+#[cfg(test)]
+mod blobs;
+#[cfg(test)]
+mod files;
+#[cfg(test)]
+mod scans;
