@@ -8,8 +8,6 @@ mod cursors;
 #[cfg(test)]
 mod expect;
 #[cfg(test)]
-mod fetched;
-#[cfg(test)]
 mod parts;
 #[cfg(test)]
 mod random;

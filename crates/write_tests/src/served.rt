@@ -36,17 +36,16 @@ pub fn in_failing<W: Wrapper>(inner: W, passes: u64) -> Failing<W>
     Failing::new(inner, passes)
 }
 
-// Asks in a session: the reply alone stands in `out` then.
+// Asks in session 1: the reply alone stands in `out` then.
 fn request<W: Wrapper>(
     engine: &mut Engine<W>,
-    session: u8,
     request: Request<'_>,
     out: &mut Vec<u8>,
 ) -> Result<(), NoRoom>
     requires { IsSound (shown W.meaning engine.old) }
     ensures { IsSound (shown W.meaning engine.new) }
 {
-    let Some(sid) = Sid::new(session) else {
+    let Some(sid) = Sid::new(1) else {
         return Err(NoRoom);
     };
     out.clear();
@@ -58,30 +57,7 @@ pub fn ask<W: Wrapper>(engine: &mut Engine<W>, sql: &str, out: &mut Vec<u8>) -> 
     requires { IsSound (shown W.meaning engine.old) }
     ensures { IsSound (shown W.meaning engine.new) }
 {
-    request(engine, 1, Request::Sql(sql), out)?;
-    Ok(())
-}
-
-/// Opens session 2 for another user. It asks twice, since memory may be refused once.
-pub fn open_another<W: Wrapper>(engine: &mut Engine<W>, out: &mut Vec<u8>) -> Result<(), Fail>
-    requires { IsSound (shown W.meaning engine.old) }
-    ensures { IsSound (shown W.meaning engine.new) }
-{
-    request(engine, 2, Request::Open("bob"), out)?;
-    request(engine, 2, Request::Open("bob"), out)?;
-    Ok(())
-}
-
-/// Asks for a statement in session 2: the reply alone stands in `out` then.
-pub fn ask_another<W: Wrapper>(
-    engine: &mut Engine<W>,
-    sql: &str,
-    out: &mut Vec<u8>,
-) -> Result<(), Fail>
-    requires { IsSound (shown W.meaning engine.old) }
-    ensures { IsSound (shown W.meaning engine.new) }
-{
-    request(engine, 2, Request::Sql(sql), out)?;
+    request(engine, Request::Sql(sql), out)?;
     Ok(())
 }
 
@@ -98,7 +74,7 @@ pub fn engine_over<W: Wrapper>(
         return Err(RunFault::NoMemory);
     };
     add_demo(alloc, &mut engine, "admin", "demo", list)?;
-    match request(&mut engine, 1, Request::Open("admin"), out) {
+    match request(&mut engine, Request::Open("admin"), out) {
         Ok(()) if out.as_slice() == OPENED => Ok(engine),
         _ => Err(RunFault::NoMemory),
     }
