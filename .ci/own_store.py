@@ -106,7 +106,7 @@ class Gate:
         if not refused or not lines[-1].startswith("logic=not-proved") or lib.STALE.search(ran.stdout) or any(rt.unread(it, texts) for it in lines):
             return
         for it, told in refused.items():
-            self.tried_one(crate, it, (True, f"must-fail {crate.name}/{os.path.basename(it)}: refused, as it must be: {told[:160]}"), seconds / len(refused))
+            self.tried_one(crate, it, (True, f"must-fail {crate.name}/{os.path.basename(it)}: refused, as it must be: {told}"), seconds / len(refused))
         self.together(crate, [it for it in new if it not in refused and it not in proved], over)
 
     def tried_one(self, crate, edit, said, seconds, kept=False):
@@ -202,6 +202,8 @@ class Gate:
                 it.writelines(f"{name} {said}\n" for name, said in sorted({**self.tried, **self.refused}.items()))
         if self.words.whole:
             self.tell()
+        if new := [text for is_refused, text in self.said.values() if is_refused and not text.endswith("(taken from the store)")]:
+            self.say(where.little_of(new))
         self.say(f"not tried again: {sum(self.skipped.values())} edits of {len(self.skipped)} crates, which {TRIED} names with these texts")
         self.say(f"taken from the store: {self.taken} of {self.all}\n{self.counts[0]} passed, {self.counts[1]} failed")
         return 1 if self.counts[1] else 0

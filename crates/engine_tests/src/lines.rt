@@ -29,7 +29,8 @@ const REPLIES: &[u8] = b"01 O
 64 B
 ";
 
-// Answers `NN V`, NN the session and V the verb's first letter, or refuses.
+// Answers `NN V`, NN the session and V the verb's first letter. If it is full, it asks for no room, and refuses where 128 bytes
+// more have none.
 #[derive(Drop)]
 struct Echo {
     bytes: usize,
@@ -45,7 +46,7 @@ impl Handler for Echo {
     ghost sound = { λ _. ⊤ };
 
     fn request(&mut self, sid: Sid, request: Request<'_>, out: &mut Vec<u8>) -> Result<(), NoRoom> {
-        if self.is_full {
+        if self.is_full && out.capacity() - out.len() < 128 {
             return Err(NoRoom);
         }
         let (verb, length) = match request {

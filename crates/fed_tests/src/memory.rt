@@ -19,7 +19,8 @@ use std::alloc::Global;
 use std::str::from_utf8;
 use std::test::Fail;
 
-// Refuses room for each request after so many, and leaves the others to another handler.
+// Leaves so many requests to another handler, each with no more room in the output than its reply takes. Then it asks for no room,
+// and refuses where 128 bytes more have none.
 #[derive(Drop)]
 struct Tight<H> {
     inner: H,
@@ -34,12 +35,13 @@ impl<H: Handler> Handler for Tight<H> {
     ghost sound = { λ handler. H.sound handler.inner };
 
     fn request(&mut self, sid: Sid, request: Request<'_>, out: &mut Vec<u8>) -> Result<(), NoRoom> {
-        if self.before == 0 {
+        if self.before == 0 && out.capacity() - out.len() < 128 {
             return Err(NoRoom);
         }
         match self.inner.request(sid, request, out) {
             Ok(()) => {
-                self.before -= 1;
+                out.shrink_to_fit();
+                self.before = self.before.saturating_sub(1);
                 Ok(())
             }
             Err(NoRoom) => Err(NoRoom),
@@ -51,7 +53,7 @@ impl<H: Handler> Handler for Tight<H> {
     }
 }
 
-// A server over the demo list that refuses room for each request after so many.
+// A server over the demo list that has no room for a request after so many.
 fn tight_server(
     alloc: Global,
     before: usize,

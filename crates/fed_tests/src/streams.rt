@@ -17,7 +17,8 @@ const ANSWER: &[u8] = b"01\n0 E 08P01 protocol_violation\n02\n";
 
 const CLOSED: &[u8] = b"0 E 08P01 protocol_violation\n0 T CLOSED\n";
 
-// Answers each request by the two digits of its session, or refuses.
+// Answers each request by the two digits of its session. If it is full, it asks for no room, and refuses where 128 bytes more have
+// none.
 #[derive(Drop)]
 struct Echo {
     is_full: bool,
@@ -37,11 +38,11 @@ impl Handler for Echo {
         _request: Request<'_>,
         out: &mut Vec<u8>,
     ) -> Result<(), NoRoom> {
-        let reply = [b'0' + sid.number / 10, b'0' + sid.number % 10, b'\n'];
-        if self.is_full || out.extend_from_slice(&reply).is_err() {
+        if self.is_full && out.capacity() - out.len() < 128 {
             return Err(NoRoom);
         }
-        Ok(())
+        let reply = [b'0' + sid.number / 10, b'0' + sid.number % 10, b'\n'];
+        out.extend_from_slice(&reply).map_err(|_| NoRoom)
     }
 
     fn close_sessions(&mut self) {
@@ -71,7 +72,7 @@ impl Write for Target {
     }
 }
 
-// A server that echoes, or refuses.
+// A server that echoes, or asks for no room.
 fn echo_server(alloc: Global, is_full: bool) -> Result<Server<Echo>, Fail> {
     let echo = Echo {
         is_full,

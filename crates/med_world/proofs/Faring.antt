@@ -30,7 +30,7 @@ pub no_box : (x : BoxState) → Some (Some x) ≡ Some None → ⊥
 no_box x e = absurd cc
 
 pub rises_itself : (s : BoxState) → Rises s s
-rises_itself s = record { nature = refl; next = omega arith; end = λ e. e; faults = omega arith }
+rises_itself s = record { nature = refl; next = omega arith; end = λ e. e; pulled = omega arith; faults = omega arith }
 
 pub changes_by : (P Q : BoxState → BoxState → Type 0) (old new : List (Option BoxState)) (slot : ℕ) → ((b c : BoxState) → P b c → Q b c) → ChangesAt old slot P new → ChangesAt old slot Q new
 changes_by P Q old new slot f h = record { before = h.before; after = h.after; there = h.there; now = h.now; others = h.others; slots = h.slots; change = f h.before h.after h.change }
@@ -98,6 +98,7 @@ binds_rises b c remote columns settings t h = record {
   nature = h.nature;
   next = subst (λ (n : ℕ). b.ledger.next ≤ n) (sym (ap (λ l. l.next) h.ledger)) (omega arith);
   end = λ e. ap (λ l. l.next) h.ledger ∙ e;
+  pulled = subst (λ (n : ℕ). min b.ledger.pulled (2 ^ 64 - 1) ≤ n) (sym (ap (λ l. l.pulled) h.ledger)) (omega arith);
   faults = subst (λ (n : ℕ). min b.ledger.faults (2 ^ 64 - 1) ≤ n) (sym (ap (λ l. l.faults) h.ledger)) (omega arith);
 }
 
@@ -106,6 +107,7 @@ unbinds_rises b c t h = record {
   nature = h.nature;
   next = subst (λ (n : ℕ). b.ledger.next ≤ n) (sym (ap (λ l. l.next) h.ledger)) (omega arith);
   end = λ e. ap (λ l. l.next) h.ledger ∙ e;
+  pulled = subst (λ (n : ℕ). min b.ledger.pulled (2 ^ 64 - 1) ≤ n) (sym (ap (λ l. l.pulled) h.ledger)) (omega arith);
   faults = subst (λ (n : ℕ). min b.ledger.faults (2 ^ 64 - 1) ≤ n) (sym (ap (λ l. l.faults) h.ledger)) (omega arith);
 }
 
@@ -114,6 +116,7 @@ rises_twice a b c x y = record {
   nature = y.nature ∙ x.nature;
   next = (let p = x.next in let q = y.next in omega arith);
   end = λ e. y.end (x.end e);
+  pulled = (let p = x.pulled in let q = y.pulled in omega arith);
   faults = (let p = x.faults in let q = y.faults in omega arith);
 }
 
@@ -127,6 +130,7 @@ refuses_rises fault b c h = record {
   nature = h.nature;
   next = subst (λ (n : ℕ). b.ledger.next ≤ n) (sym (ap (λ l. l.next) h.ledger)) h.rises;
   end = λ e. ap (λ l. l.next) h.ledger ∙ h.stays e;
+  pulled = subst (λ (n : ℕ). min b.ledger.pulled (2 ^ 64 - 1) ≤ n) (sym (ap (λ l. l.pulled) h.ledger)) (omega arith);
   faults = subst (λ (n : ℕ). min b.ledger.faults (2 ^ 64 - 1) ≤ n) (sym (ap (λ l. l.faults) h.ledger)) (faults_rise fault b.ledger.faults);
 }
 

@@ -66,7 +66,7 @@ served_many (None ∷ xs) (None ∷ ys) h = ap suc (served_many xs ys h)
 served_many (Some a ∷ xs) (Some b ∷ ys) h = ap suc (served_many xs ys h.1)
 
 served_rises : (b c : BoxState) → ServedAlone b c → Rises b c
-served_rises b c h = record { nature = h.nature; next = h.next; end = h.end; faults = h.faults }
+served_rises b c h = record { nature = h.nature; next = h.next; end = h.end; pulled = h.pulled; faults = h.faults }
 
 pub serving_rises : (old new : List (Option BoxState)) → AllServed old new → EachRises old new
 serving_rises old new h = record {

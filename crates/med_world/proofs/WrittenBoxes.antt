@@ -101,6 +101,7 @@ written_rises columns w answer old t count new h = record {
   nature = h.nature;
   next = (let e : new.ledger.next ≡ old.ledger.next + scans_of w = ap (λ (l : Ledger). l.next) h.ledger in omega (arith, e));
   end = h.stays;
+  pulled = subst (λ (n : ℕ). min old.ledger.pulled (2 ^ 64 - 1) ≤ n) (sym (ap (λ (l : Ledger). l.pulled) h.ledger)) (pulled_rises (length h.read) old.ledger.pulled);
   faults = (let e : new.ledger.faults ≡ old.ledger.faults = ap (λ (l : Ledger). l.faults) h.ledger in omega (arith, e));
 }
 

@@ -192,6 +192,7 @@ pub record Rises (old new : BoxState) : Type 0 where
   pub nature : new.nature ≡ old.nature
   pub next : old.ledger.next ≤ new.ledger.next
   pub end : old.ledger.next ≡ 2 ^ 64 - 1 → new.ledger.next ≡ 2 ^ 64 - 1
+  pub pulled : min old.ledger.pulled (2 ^ 64 - 1) ≤ new.ledger.pulled
   pub faults : min old.ledger.faults (2 ^ 64 - 1) ≤ new.ledger.faults
 
 -- what becomes of a box: it rises, or it was dropped, and was idle as it went

@@ -1,5 +1,5 @@
 //! What answers requests.
-ghost use Rattle.std.specs.Prelude.{◌≡◌, ◌++◌, ℕ, List, OnOk, OnErr};
+ghost use Rattle.std.specs.Prelude.{◌≡◌, ◌<◌, ◌+◌, ◌++◌, ℕ, List, OnOk, OnErr, vec_len, vec_capacity};
 ghost use Rattle.med_session.specs.Asking.{asked};
 ghost use Rattle.med_session.specs.Requests.{Asked};
 
@@ -19,12 +19,14 @@ pub trait Handler: Drop {
 
     /// Answers one request: the reply is put behind what `out` has.
     ///
-    /// Refused where room is refused before the request is begun. Then nothing was done.
+    /// Refused where room is refused before the request is begun. Then nothing was done, and the output had not the room
+    /// for 128 bytes more: a caller that leaves that room never meets it.
     fn request(&mut self, sid: Sid, request: Request<'_>, out: &mut Vec<u8>) -> Result<(), NoRoom>
         requires { sound self.old }
         ensures ok { OnOk result ((reply : List ℕ) × (out.new.items ≡ out.old.items ++ reply)
             × step self.old sid.number (asked request.entry) reply self.new) }
         ensures refused { OnErr result ((self.new ≡ self.old) × (out.new.items ≡ out.old.items)) }
+        ensures full { OnErr result (vec_capacity out.old < vec_len out.old + 128) }
         ensures sound { sound self.new };
 
     /// Ends every session.
