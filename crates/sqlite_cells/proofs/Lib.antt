@@ -1,5 +1,6 @@
 pub mod PagesJoin
 pub mod Once
+pub mod Places
 pub mod Settled
 pub mod Strays
 pub mod Refused

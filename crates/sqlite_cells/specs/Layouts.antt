@@ -1,15 +1,19 @@
 -- The remote tables of a SQLite source: their names, types and texts.
-use Rattle.std.specs.Prelude.{ℕ, Bool, true, false, ◌&&◌, List, [], ◌∷◌, Option, Some, None, if◌then◌else◌, nat_eq, codes}
+use Rattle.std.specs.Prelude.{ℕ, Bool, true, false, ◌&&◌, List, [], ◌∷◌, length, Option, slice_index_or, nat_eq, codes}
+use Rattle.std.specs.List.{position}
 use lib.Pointwise.{pointwise}
 use Rattle.med_value.specs.declared.value.ColType.{ColType}
 use Rattle.med_value.specs.declared.value.ColType.TheVariants as types
 
--- a remote table: its name, the types of its two columns beside the key, and the text that reads a page of it
+-- a remote table: its name, the types of its two columns beside the key, the text that reads a page of it, the text that takes the row of a
+-- key out, and the text that puts a row in
 pub record Layout : Type 0 where
   pub name : List ℕ
   pub second : ColType
   pub third : ColType
   pub page : List ℕ
+  pub deleting : List ℕ
+  pub inserting : List ℕ
 
 abbrev pub kinds_in : Layout → List ColType
 kinds_in l = types.Int ∷ l.second ∷ l.third ∷ []
@@ -20,6 +24,8 @@ orders = record {
   second = types.Int;
   third = types.Int;
   page = codes "SELECT id, part, n FROM orders WHERE id >= ?1 AND id <= ?2 ORDER BY id LIMIT 64";
+  deleting = codes "DELETE FROM orders WHERE id = ?1";
+  inserting = codes "INSERT INTO orders (id, part, n) VALUES (?1, ?2, ?3)";
 }
 
 abbrev pub people : Layout
@@ -28,18 +34,27 @@ people = record {
   second = types.Text;
   third = types.Bool;
   page = codes "SELECT id, name, active FROM people WHERE id >= ?1 AND id <= ?2 ORDER BY id LIMIT 64";
+  deleting = codes "DELETE FROM people WHERE id = ?1";
+  inserting = codes "INSERT INTO people (id, name, active) VALUES (?1, ?2, ?3)";
 }
 
--- the layouts by table number
+-- the layouts that there are, by their numbers
+abbrev pub layouts : List Layout
+layouts = orders ∷ people ∷ []
+
+abbrev pub layout_count : ℕ
+layout_count = length layouts
+
+-- the layout of a number; people for a number of none
 abbrev pub layout_at : ℕ → Layout
-layout_at t = if nat_eq t 0 then orders else people
+layout_at t = slice_index_or layouts t people
 
 abbrev pub same_text : List ℕ → List ℕ → Bool
 same_text = pointwise nat_eq
 
--- the number of the table of a name
+-- the number of the first layout of a name
 abbrev pub place_of : List ℕ → Option ℕ
-place_of name = if same_text orders.name name then Some 0 else (if same_text people.name name then Some 1 else None)
+place_of name = position (λ l. same_text l.name name) layouts
 
 abbrev pub same_type : ColType → ColType → Bool
 same_type types.Int types.Int = true

@@ -1,19 +1,19 @@
-//! The layouts of the remote tables: their names, types and texts.
+//! The layouts of the remote tables by their numbers: their names, types and page texts.
 ghost use Rattle.std.specs.Prelude.{◌≡◌, map};
 ghost use Rattle.fdw_api.specs.Kinds.{column_of, kinds_of};
 ghost use Rattle.sqlite_cells.specs.Layouts.{layout_at, place_of, kinds_in, types_match};
 
+use crate::shapes::{layout_count, shape_at};
 use med_value::{ColType, ColumnDef};
 
-/// The number of the table of a name: 0 for orders, 1 for people, and none for another name.
+/// The number of the table of a name: 0 for orders, 1 for people, and none for a name of no shape.
 pub fn place_of(name: &str) -> Option<u64>
     ensures { result ≡ place_of name.now }
 {
-    if name == "orders" {
-        return Some(0);
-    }
-    if name == "people" {
-        return Some(1);
+    for table in 0..layout_count() {
+        if shape_at(table).name == name {
+            return Some(table);
+        }
     }
     None
 }
@@ -22,22 +22,14 @@ pub fn place_of(name: &str) -> Option<u64>
 pub(crate) fn page_text(table: u64) -> &'static str
     ensures { result.now ≡ (layout_at table).page }
 {
-    if table == 0 {
-        "SELECT id, part, n FROM orders WHERE id >= ?1 AND id <= ?2 ORDER BY id LIMIT 64"
-    } else {
-        "SELECT id, name, active FROM people WHERE id >= ?1 AND id <= ?2 ORDER BY id LIMIT 64"
-    }
+    shape_at(table).page_text
 }
 
 /// The types of the columns of a table.
 pub(crate) fn types_of(table: u64) -> [ColType; 3]
     ensures { result ≡ kinds_in (layout_at table) }
 {
-    if table == 0 {
-        [ColType::Int, ColType::Int, ColType::Int]
-    } else {
-        [ColType::Int, ColType::Text, ColType::Bool]
-    }
+    shape_at(table).kinds
 }
 
 // Whether columns are as many as these types, and of them.

@@ -6,10 +6,12 @@ pub mod cells;
 pub mod faults;
 pub mod layouts;
 pub mod pages;
+pub mod shapes;
 pub mod tables;
 
 pub use cells::{Keyed, Misread, key_and_cells};
 pub use faults::fault_of;
 pub use layouts::{place_of, types_match};
 pub use pages::page_between;
+pub use shapes::{Orders, People, RemoteShape, ShapeFacts, layout_count, shape_at};
 pub use tables::find_table;

@@ -12,7 +12,7 @@ use Rattle.med_value.specs.Order.{is_missing}
 use Rattle.med_value.specs.declared.value.Value.{Value}
 use Rattle.med_value.specs.declared.value.Value.TheVariants.{Null, Int, Text, Bool as Truth}
 use Rattle.med_value.specs.declared.value.Row.{Row}
-use Rattle.fdw_api.specs.Scan.{cell}
+use Rattle.fdw_api.specs.Scan.{cell, row_fits}
 use Rattle.fdw_api.specs.Kinds.{Change}
 use Rattle.fdw_api.specs.Writes.{row_of_change_fits}
 use Rattle.sqlite_cells.specs.Layouts.{kinds_in, layout_at}
@@ -88,3 +88,14 @@ each_row t (r ∷ rows) h = let parts = and_parts _ _ h in All-cons (λ (q : Row
 
 pub lacks : (cs : List Change) (c : Change) (ds : List Change) (b : Bool) → b ≡ list_any lacks_key cs → cs ≡ c ∷ ds → lacks_key c ≡ true → b ≡ true
 lacks cs c ds b i is one = i ∙ ap (list_any lacks_key) is ∙ ap (λ x. x || list_any lacks_key ds) one
+
+-- a row of a table's types of which it was found that it has a key, or has none
+pub place_by : (t : ℕ) (x : Tuple) (found : Bool) → row_fits (kinds_in (layout_at t)) x ≡ true → found ≡ not (is_missing (cell x 0)) → found ≡ true → has_place t x ≡ true
+place_by t x found fits is has = and_from _ _ fits (sym is ∙ has)
+
+pub missing_by : (x : Tuple) (found : Bool) → found ≡ not (is_missing (cell x 0)) → found ≡ false → is_missing (cell x 0) ≡ true
+missing_by x found is lacking = unnot (is_missing (cell x 0)) (sym is ∙ lacking)
+  where
+    unnot : (b : Bool) → not b ≡ false → b ≡ true
+    unnot true e = refl
+    unnot false e = absurd cc

@@ -1,5 +1,5 @@
 -- What the texts that make the tables do to a database.
-use Rattle.std.proofs.Common.{◌≡◌, ◌⊎◌, inl, inr, ℕ, zero, suc, List, [], ◌∷◌, Bool, true, false, Option, Some, None, option_map, map, Ok, Err, Result, OnOk, refl, sym, ap, subst, ◌∙◌, codes, nat_eq, arith, if◌then◌else◌}
+use Rattle.std.proofs.Common.{◌≡◌, ◌⊎◌, ◌<◌, inl, inr, ℕ, zero, suc, List, [], ◌∷◌, Bool, true, false, Option, Some, None, option_map, map, Ok, Err, Result, OnOk, refl, sym, ap, subst, ◌∙◌, codes, arith}
 use Rattle.sqlite.specs.Schema.{Schema}
 use Rattle.sqlite.specs.Command.TheVariants.{CreateTable}
 use Rattle.sqlite.specs.Compile.{table_defined_by}
@@ -14,17 +14,19 @@ use Rattle.sqlite.proofs.Callers.{IsPlain, command_of, statement_of, runs_as}
 use Rattle.sqlite_shapes.specs.Shapes.{IsPageText}
 use Rattle.fdw_api.specs.Scan.{TableRow}
 use Rattle.fdw_api.specs.Kinds.{Entry, Stored}
-use Rattle.sqlite_cells.specs.Layouts.{Layout, kinds_in, layout_at, orders, people}
+use Rattle.sqlite_cells.specs.Layouts.{Layout, kinds_in, layout_at, layout_count, orders, people}
 use Rattle.sqlite_cells.specs.Cells.{rows_in}
 use Rattle.sqlite_trees.specs.Tree.{Trees}
 use Rattle.sqlite_cells.specs.Tables.{IsKnown, tree_of, entry_of}
-use Rattle.sqlite_writes.specs.Texts.{IsTableAt, IsDeleteText, IsInsertText}
-use Rattle.sqlite_writes.specs.Writable.{AreApart, IsWritable, delete_text, insert_text}
+use Rattle.sqlite_cells.specs.Texts.{IsTableAt, IsDeleteText, IsInsertText}
+use Rattle.sqlite_cells.specs.Shapes.{AreTexts, orders_table, people_table}
+use Rattle.sqlite_cells.proofs.Settled.{tree_is}
+use Rattle.sqlite_writes.specs.Writable.{AreApart, IsWritable}
 use Rattle.med_value.specs.declared.value.ColType.TheVariants as types
-use Rattle.sqlite_databases.specs.Made.{orders_text, people_text, orders_table, people_table, no_tables, orders_alone, both_tables}
+use Rattle.sqlite_databases.specs.Made.{orders_text, people_text, no_tables, orders_alone, both_tables}
 
 orders_is : (command_of (understood no_tables orders_text) ≡ CreateTable)
-    × (statement_of orders_text (understood no_tables orders_text) ≡ orders_text) × (table_defined_by orders_text ≡ Ok orders_table)
+    × (statement_of orders_text (understood no_tables orders_text) ≡ orders_text) × (table_defined_by orders_text ≡ Ok (orders_table 0))
 unfolding understood everything
 orders_is = (refl, refl, refl)
 
@@ -57,8 +59,8 @@ made_orders old new (Ok count) has h =
     let all = went w.changed in
     let first = went all.1 in
     let made = first.1 in
-    let both : Ok made.table ≡ Ok orders_table = sym made.defined ∙ orders_is.2 in
-    let same : made.table ≡ orders_table = cc in
+    let both : Ok made.table ≡ Ok (orders_table 0) = sym made.defined ∙ orders_is.2 in
+    let same : made.table ≡ orders_table 0 = cc in
     let schema : first.0.schema ≡ orders_alone = made.is ∙ ap (λ s. created s made.table) has ∙ ap (created no_tables) same in
     let plain : lacks_sequence first.0.schema ≡ false = ap lacks_sequence schema in
     let now : new.now ≡ first.0 = ap (λ (p : Tally × Database). p.1) (same_value all.2) ∙ same_value (rw plain at first.2) in
@@ -92,7 +94,7 @@ orders_page = record {
   plain = (refl, refl);
   unlisted = refl;
   place = 0;
-  table = orders_table;
+  table = orders_table 0;
   at = refl;
   tree_is = refl;
 }
@@ -110,37 +112,21 @@ people_page = record {
   tree_is = refl;
 }
 
-orders_tree : tree_of both_tables orders ≡ Some 0
-unfolding understood everything
-orders_tree = refl
-
-people_tree : tree_of both_tables people ≡ Some 1
-unfolding understood everything
-people_tree = refl
-
-known_by : (b : Bool) → IsKnown both_tables (if b then orders else people)
-known_by true = inr (0, orders_page)
-known_by false = inr (1, people_page)
-
--- both page texts are understood
-pub known : (schema : Schema) (t : ℕ) → schema ≡ both_tables → ∥ IsKnown schema (layout_at t) ∥₁
-known schema t is = subst (λ s. ∥ IsKnown s (layout_at t) ∥₁) (sym is) ∣ known_by (nat_eq t 0) ∣₁
-
 abbrev orders_target : IsTableAt both_tables 0 0
-orders_target = record { table = orders_table; at = refl; tree_is = refl; free = λ olds news. refl }
+orders_target = record { table = orders_table 0; at = refl; tree_is = refl; free = λ olds news. refl }
 
 abbrev people_target : IsTableAt both_tables 1 1
 people_target = record { table = people_table 1; at = refl; tree_is = refl; free = λ olds news. refl }
 
-orders_delete : IsDeleteText both_tables (delete_text 0) 0
+orders_delete : IsDeleteText both_tables orders.deleting 0
 unfolding understood everything
 orders_delete = record { place = 0; target = orders_target; is = refl; plain = (refl, refl) }
 
-people_delete : IsDeleteText both_tables (delete_text 1) 1
+people_delete : IsDeleteText both_tables people.deleting 1
 unfolding understood everything
 people_delete = record { place = 1; target = people_target; is = refl; plain = (refl, refl) }
 
-orders_insert : IsInsertText both_tables (insert_text 0) 0 types.Int types.Int
+orders_insert : IsInsertText both_tables orders.inserting 0 types.Int types.Int
 unfolding understood everything
 orders_insert = record {
   place = 0;
@@ -152,7 +138,7 @@ orders_insert = record {
   unstamped = refl;
 }
 
-people_insert : IsInsertText both_tables (insert_text 1) 1 types.Text types.Bool
+people_insert : IsInsertText both_tables people.inserting 1 types.Text types.Bool
 unfolding understood everything
 people_insert = record {
   place = 1;
@@ -164,24 +150,43 @@ people_insert = record {
   unstamped = refl;
 }
 
-writable_by : (t : ℕ) (b : Bool) → nat_eq t 0 ≡ b → IsWritable both_tables t
-writable_by t true e = inr (0, record { page = rw e orders_page; delete = rw e orders_delete; insert = rw e orders_insert })
-writable_by t false e = inr (1, record { page = rw e people_page; delete = rw e people_delete; insert = rw e people_insert })
+orders_texts : AreTexts both_tables orders 0
+orders_texts = record { page = orders_page; delete = orders_delete; insert = orders_insert }
 
--- all three texts of both tables are understood
+people_texts : AreTexts both_tables people 1
+people_texts = record { page = people_page; delete = people_delete; insert = people_insert }
+
+-- the three texts of each layout are for the table in a tree
+texts_at : (t : ℕ) → (tree : ℕ) × AreTexts both_tables (layout_at t) tree
+texts_at zero = (0, orders_texts)
+texts_at (suc zero) = (1, people_texts)
+texts_at (suc (suc t)) = (1, people_texts)
+
+tree_at : (t : ℕ) → tree_of both_tables (layout_at t) ≡ Some (texts_at t).0
+tree_at t = tree_is both_tables (layout_at t) (texts_at t).0 (texts_at t).1.page
+
+-- the tree of a layout is its number
+own_tree : (t : ℕ) → t < layout_count → (texts_at t).0 ≡ t
+unfolding texts_at
+own_tree zero lt = refl
+own_tree (suc zero) lt = refl
+own_tree (suc (suc t)) lt = absurd (omega (arith, lt))
+
+-- each page text is understood
+pub known : (schema : Schema) (t : ℕ) → schema ≡ both_tables → ∥ IsKnown schema (layout_at t) ∥₁
+known schema t is = subst (λ s. ∥ IsKnown s (layout_at t) ∥₁) (sym is) ∣ inr ((texts_at t).0, (texts_at t).1.page) ∣₁
+
+-- all three texts of each table are understood
 pub writable : (schema : Schema) (t : ℕ) → schema ≡ both_tables → ∥ IsWritable schema t ∥₁
-writable schema t is = subst (λ s. ∥ IsWritable s t ∥₁) (sym is) ∣ writable_by t (nat_eq t 0) refl ∣₁
+writable schema t is = subst (λ s. ∥ IsWritable s t ∥₁) (sym is) ∣ inr (texts_at t) ∣₁
 
 abbrev get_or_zero : Option ℕ → ℕ
 get_or_zero None = 0
 get_or_zero (Some n) = n
 
--- they are two tables
+-- no two of them are one table
 two_tables : AreApart both_tables
-two_tables one = differ (sym orders_tree ∙ one ∙ people_tree)
-  where
-    differ : ◌≡◌ {A = Option ℕ} (Some 0) (Some 1) → tree_of both_tables orders ≡ None
-    differ e = let n : 0 ≡ 1 = ap (get_or_zero) e in absurd (omega (arith, n))
+two_tables t u lt lu differ one = absurd (differ (sym (own_tree t lt) ∙ ap get_or_zero (sym (tree_at t) ∙ one ∙ tree_at u) ∙ own_tree u lu))
 
 pub apart : (schema : Schema) → schema ≡ both_tables → AreApart schema
 apart schema is = subst AreApart (sym is) two_tables
@@ -196,11 +201,12 @@ emptied db l tree at is none =
     entry_in : Trees → Layout → Option ℕ → Option Entry
     entry_in trees l tree = option_map (λ t. Stored (kinds_in l) (map (λ (r : TableRow). r.cells) (rows_in l (trees t)))) tree
 
-entries_by : (db : Database) → db.schema ≡ both_tables → db.trees 0 ≡ [] → db.trees 1 ≡ [] → (b : Bool)
-    → entry_of db (if b then orders else people) ≡ Some (Stored (kinds_in (if b then orders else people)) [])
-entries_by db is first second true = emptied db orders 0 orders_tree is first
-entries_by db is first second false = emptied db people 1 people_tree is second
+no_rows : (db : Database) (t : ℕ) → db.trees 0 ≡ [] → db.trees 1 ≡ [] → db.trees (texts_at t).0 ≡ []
+unfolding texts_at
+no_rows db zero first second = first
+no_rows db (suc zero) first second = second
+no_rows db (suc (suc t)) first second = second
 
 pub entries : (db : Database) (t : ℕ) → db.schema ≡ both_tables → db.trees 0 ≡ [] → db.trees 1 ≡ []
     → entry_of db (layout_at t) ≡ Some (Stored (kinds_in (layout_at t)) [])
-entries db t is first second = entries_by db is first second (nat_eq t 0)
+entries db t is first second = emptied db (layout_at t) (texts_at t).0 (tree_at t) is (no_rows db t first second)

@@ -12,8 +12,8 @@ pub trait Databases {
     /// Where such a database stands.
     type Store: SourceStore + Drop;
 
-    /// The database at this path, in no transaction. One whose store always returns what was written has a table of orders and one of
-    /// people, two tables, each with its three texts, or the texts of one are not understood.
+    /// The database at this path, in no transaction. Of one whose store always returns what was written each layout's three texts are for one
+    /// table, of no two layouts the same, or are not understood.
     ///
     /// It is refused where it cannot be opened.
     fn open_database(&self, path: &str) -> Result<Connection<Self::Store>, Error>

@@ -2,7 +2,6 @@
 use Rattle.std.proofs.Common.{◌≡◌, ◌≢◌, ℕ, ◌<◌, Bool, true, false, if◌then◌else◌, nat_eq, List, [], ◌∷◌, Option, Some, None, length, map, option_map, slice_index_or, slice_set, refl, ap, sym, ◌∙◌, subst, arith, nat_lt}
 use Rattle.std.specs.List.{IsDistinct}
 use Rattle.std.specs.BTreeMap.{BTreeMap}
-use lib.Pointwise.{bytes_decides}
 use Rattle.sqlite.specs.Effect.{Database}
 use Rattle.sqlite.specs.Order.{Row as SqlRow}
 use Rattle.med_value.specs.Causes.{phase_of}
@@ -15,7 +14,8 @@ use Rattle.sqlite_shapes.specs.Shapes.{range_of}
 use Rattle.fdw_api.specs.Kinds.{Column, Setting, Stored, Held, held, kinds_of, is_late}
 use Rattle.fdw_api.specs.State.{Bound, BoxState}
 use Rattle.fdw_api.specs.Calls.{CanBind, Binds, BindCause, IsLeast, Refuses, RefusesBind, Leaves, none_of, faults_after}
-use Rattle.sqlite_cells.specs.Layouts.{Layout, kinds_in, orders, people, layout_at, place_of, same_text, types_match}
+use Rattle.sqlite_cells.specs.Layouts.{Layout, kinds_in, layout_at, layout_count, place_of, types_match}
+use Rattle.sqlite_cells.proofs.Places.{place_named}
 use Rattle.sqlite_cells.specs.Cells.{row_in, rows_in, least, greatest}
 use Rattle.sqlite_cells.specs.Tables.{tree_of, entry_of, rows_of, entries_at}
 use Rattle.sqlite_cells.specs.Refusing.{OnlyBy}
@@ -29,22 +29,8 @@ use Rattle.sqlite_wrapper.specs.Boxes.{bound_of, marked_bound, entry_at, sqlite_
 use Rattle.sqlite_wrapper.proofs.Bound.{marks}
 use Rattle.sqlite_wrapper.proofs.LiveScans.{some_inj}
 
--- a table has the name by which it was found, and is one of the two
-pub named : (remote : List ℕ) (t : ℕ) → place_of remote ≡ Some t → ((layout_at t).name ≡ remote) × (t < 2)
-named remote t e = go (same_text orders.name remote) (same_text people.name remote) refl refl e
-  where
-    go : (a b : Bool) → same_text orders.name remote ≡ a → same_text people.name remote ≡ b → (if a then Some 0 else (if b then Some 1 else None)) ≡ Some t
-        → ((layout_at t).name ≡ remote) × (t < 2)
-    go true b ea eb e =
-        let s : 0 ≡ t = some_inj 0 t e in
-        (subst (λ (u : ℕ). (layout_at u).name ≡ remote) s ((bytes_decides orders.name remote).0 ea), omega (arith, s))
-    go false true ea eb e =
-        let s : 1 ≡ t = some_inj 1 t e in
-        (subst (λ (u : ℕ). (layout_at u).name ≡ remote) s ((bytes_decides people.name remote).0 eb), omega (arith, s))
-    go false false ea eb e = absurd cc
-
-pub place_within : (bound : List Bool) (remote : List ℕ) (t : ℕ) → length bound ≡ 2 → place_of remote ≡ Some t → t < length bound
-place_within bound remote t two e = let lt = (named remote t e).1 in omega (arith, two, lt)
+pub place_within : (bound : List Bool) (remote : List ℕ) (t : ℕ) → length bound ≡ layout_count → place_of remote ≡ Some t → t < length bound
+place_within bound remote t each e = let lt = (place_named remote t e).1 in omega (arith, each, lt)
 
 held_rows : (l : Layout) (rs : List SqlRow) → map held (map (row_in l) rs) ≡ plain_rows (map (λ r. r.cells) (map (row_in l) rs))
 held_rows l [] = refl
@@ -80,11 +66,11 @@ module _ (honest : Bool) (db after : Database) (bound : List Bool) (scans : BTre
   abbrev as_new : List Bool → ℕ → Database → BoxState
   as_new marks_now count d = sqlite_state honest d marks_now scans staged next pulled count
 
-  pub sqlite_binds : (t : ℕ) → t < length bound → nat_lt t 2 ≡ true → CanBind old remote columns settings → place_of remote ≡ Some t → types_match (kinds_in (layout_at t)) (kinds_of columns) ≡ true
+  pub sqlite_binds : (t : ℕ) → t < length bound → nat_lt t layout_count ≡ true → CanBind old remote columns settings → place_of remote ≡ Some t → types_match (kinds_in (layout_at t)) (kinds_of columns) ≡ true
       → (honest ≡ true → causes_of columns db t ≡ []) → (honest ≡ true → IsDistinct nat_eq (map (λ r. r.id) (rows_of db (layout_at t))))
       → Binds old remote columns settings t (as_new (slice_set bound t true) faults after)
   sqlite_binds t lt within can place typed none once =
-      let name = (named remote t place).0 in
+      let name = (place_named remote t place).0 in
       let kinds : kinds_in (layout_at t) ≡ kinds_of columns = sym (same_types (kinds_in (layout_at t)) (kinds_of columns) typed) in
       let free : slice_index_or bound t false ≡ false = not_marked t (slice_index_or bound t false) remote (λ x e. can.free t x e) name in
       record {

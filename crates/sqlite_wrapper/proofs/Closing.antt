@@ -1,5 +1,5 @@
 -- The end of a write to a SQLite source.
-use Rattle.std.proofs.Common.{◌≡◌, ◌≢◌, ◌∙◌, ℕ, zero, suc, Bool, true, false, List, [], ◌∷◌, Option, Some, None, IsSome, option_map, map, length, nat_lt, slice_index_or, if◌then◌else◌, Contains, refl, sym, ap, subst, arith}
+use Rattle.std.proofs.Common.{◌≡◌, ◌≢◌, ◌∙◌, ℕ, ◌<◌, Bool, true, false, List, [], ◌∷◌, Option, Some, None, IsSome, option_map, map, length, nat_lt, slice_index_or, if◌then◌else◌, Contains, refl, sym, ap, subst, arith}
 use Rattle.std.specs.Ordering.{nat_cmp}
 use Rattle.std.specs.BTreeMap as tree
 use Rattle.std.specs.BTreeMap.{BTreeMap}
@@ -17,7 +17,7 @@ use Rattle.fdw_api.specs.declared.interface.Fault.TheVariants.{NoMemory, Source,
 use Rattle.staged_changes.specs.Staged.{change_is, write_is}
 use Rattle.staged_changes.specs.declared.changes.StagedWrite.{StagedWrite}
 use Rattle.sqlite_cells.specs.Cells.{rows_in}
-use Rattle.sqlite_cells.specs.Layouts.{Layout, kinds_in, layout_at, place_of}
+use Rattle.sqlite_cells.specs.Layouts.{Layout, kinds_in, layout_at, layout_count, place_of}
 use Rattle.sqlite_cells.specs.Refusing.{OnlyBy}
 use Rattle.sqlite_cells.specs.Tables.{IsKnown, entries_at, entries_in, entries_of, entry_of, rows_of, tree_of}
 use Rattle.sqlite_changes.specs.Kinds.{write_causes}
@@ -25,29 +25,24 @@ use Rattle.sqlite_writes.specs.Writable.{AreApart}
 use Rattle.sqlite_wrapper.specs.Boxes.{allows, bound_of, entry_at, given_of, held_in, marked_bound, rows_at, scan_is, scan_rows, sqlite_state, to_come}
 use Rattle.sqlite_wrapper.specs.Rewrites.{Rewrites}
 use Rattle.sqlite_wrapper.specs.declared.scans.KeyScan.{KeyScan}
-use Rattle.sqlite_wrapper.proofs.Binding.{named}
+use Rattle.sqlite_cells.proofs.Places.{name_place, place_named}
 use Rattle.sqlite_wrapper.proofs.Bound.{bound_within}
-use Rattle.sqlite_wrapper.proofs.Kept.{within_two}
+use Rattle.sqlite_wrapper.proofs.Kept.{within_count}
 use Rattle.sqlite_wrapper.proofs.LiveScans.{Allowed, both, some_inj}
 use Rattle.sqlite_wrapper.proofs.Maps.{mapped_get}
 
--- ---- the two tables
+-- ---- the tables
 
--- one of them is there: the other stands elsewhere
-differ : (schema : Schema) (t u : ℕ) → AreApart schema → tree_of schema (layout_at t) ≢ None → nat_lt t 2 ≡ true → nat_lt u 2 ≡ true → u ≢ t
+is_less : (m n : ℕ) → nat_lt m n ≡ true → m < n
+is_less m n e = grind (arith, e)
+
+-- one of them is there: each other stands elsewhere
+differ : (schema : Schema) (t u : ℕ) → AreApart schema → tree_of schema (layout_at t) ≢ None → nat_lt t layout_count ≡ true → nat_lt u layout_count ≡ true → u ≢ t
     → tree_of schema (layout_at u) ≢ tree_of schema (layout_at t)
-differ schema zero zero apart there p q ne = absurd (ne refl)
-differ schema zero (suc zero) apart there p q ne = λ e. there (apart (sym e))
-differ schema zero (suc (suc u)) apart there p q ne = absurd (grind (arith, q))
-differ schema (suc zero) zero apart there p q ne = λ e. there (sym e ∙ apart e)
-differ schema (suc zero) (suc zero) apart there p q ne = absurd (ne refl)
-differ schema (suc zero) (suc (suc u)) apart there p q ne = absurd (grind (arith, q))
-differ schema (suc (suc t)) u apart there p q ne = absurd (grind (arith, p))
+differ schema t u apart there p q ne = λ e. there (apart t u (is_less t layout_count p) (is_less u layout_count q) (λ same. ne (sym same)) (sym e))
 
-name_place : (t : ℕ) → nat_lt t 2 ≡ true → place_of (layout_at t).name ≡ Some t
-name_place zero p = refl
-name_place (suc zero) p = refl
-name_place (suc (suc t)) p = absurd (grind (arith, p))
+place_is : (t : ℕ) → nat_lt t layout_count ≡ true → place_of (layout_at t).name ≡ Some t
+place_is t p = name_place t (is_less t layout_count p)
 
 -- ---- entries
 
@@ -86,7 +81,7 @@ marked_is false t x e = absurd cc
 -- ---- the end
 
 module _ (honest : Bool) (db after : Database) (bound : List Bool) (scans : BTreeMap ℕ KeyScan) (staged : Option StagedWrite) (next pulled faults : ℕ) (write : StagedWrite)
-    (two : length bound ≡ 2) (is : staged ≡ Some write) (can : CanClose (sqlite_state honest db bound scans staged next pulled faults) true) where
+    (each : length bound ≡ layout_count) (is : staged ≡ Some write) (can : CanClose (sqlite_state honest db bound scans staged next pulled faults) true) where
   abbrev old : BoxState
   old = sqlite_state honest db bound scans staged next pulled faults
 
@@ -102,20 +97,20 @@ module _ (honest : Bool) (db after : Database) (bound : List Bool) (scans : BTre
   marked : IsSome (marked_bound (slice_index_or bound t false) t)
   marked = subst (λ (z : Staging). IsSome (marked_bound (slice_index_or bound z.table false) z.table)) same can.is_bound
 
-  pub within : nat_lt t 2 ≡ true
-  within = within_two t bound two (bound_within bound t marked)
+  pub within : nat_lt t layout_count ≡ true
+  within = within_count t bound each (bound_within bound t marked)
 
   no_scan : (q : ℕ) (s : KeyScan) → tree.get nat_cmp scans q ≡ Some s → s.table ≢ t
   no_scan q s e = subst (λ (z : Staging). s.table ≢ z.table) same (can.no_scan refl q (scan_is s) (mapped_get scan_is scans q ∙ ap (option_map scan_is) e))
 
   module _ (made : Rewrites db after t changes) (apart : AreApart db.schema) (known : (u : ℕ) → ∥ IsKnown db.schema (layout_at u) ∥₁) (allowed : Allowed scans) where
-    others : (u : ℕ) → nat_lt u 2 ≡ true → u ≢ t → entries_in after u ≡ entries_in db u
+    others : (u : ℕ) → nat_lt u layout_count ≡ true → u ≢ t → entries_in after u ≡ entries_in db u
     others u p ne = made.others u (known u) (differ db.schema t u apart made.there within p ne)
 
     same_rows : (u : ℕ) → u ≢ t → rows_at after u ≡ rows_at db u
-    same_rows u ne = go (nat_lt u 2) refl
+    same_rows u ne = go (nat_lt u layout_count) refl
       where
-        go : (b : Bool) → nat_lt u 2 ≡ b → (if b then rows_of after (layout_at u) else []) ≡ (if b then rows_of db (layout_at u) else [])
+        go : (b : Bool) → nat_lt u layout_count ≡ b → (if b then rows_of after (layout_at u) else []) ≡ (if b then rows_of db (layout_at u) else [])
         go true e = ap (rows_in (layout_at u)) (others u e ne)
         go false e = refl
 
@@ -126,7 +121,7 @@ module _ (honest : Bool) (db after : Database) (bound : List Bool) (scans : BTre
         go None f = refl
         go (Some s) f =
             ap (λ (es : List SqlRow). map (given_of (spec_of s.spec) (layout_at s.table)) (to_come es s))
-            (others s.table (both (nat_lt s.table 2) (allows (spec_of s.spec)) (allowed q s f)).0 (no_scan q s f))
+            (others s.table (both (nat_lt s.table layout_count) (allows (spec_of s.spec)) (allowed q s f)).0 (no_scan q s f))
 
     same_held : (r : List ℕ) → (r ≡ (layout_at t).name → ⊥) → held_in after r ≡ held_in db r
     same_held r ne = go (place_of r) refl
@@ -134,12 +129,12 @@ module _ (honest : Bool) (db after : Database) (bound : List Bool) (scans : BTre
         go : (o : Option ℕ) → place_of r ≡ o → ◌≡◌ {A = Holding} (Known (entry_at after o)) (Known (entry_at db o))
         go None e = refl
         go (Some u) e =
-            let at = named r u e in
+            let at = place_named r u e in
             ap Known (entry_same after db (layout_at u) made.schema (others u (let lt = at.1 in grind (arith, lt)) (λ q. ne (sym at.0 ∙ ap (λ (k : ℕ). (layout_at k).name) q))))
 
     image : held_in after (layout_at t).name ≡ Known (Some (Stored (kinds_in (layout_at t)) (map (λ (r : Held). r.cells) (map held (rows_at after t)))))
     image =
-        ap (λ o. Known (entry_at after o)) (name_place t within)
+        ap (λ o. Known (entry_at after o)) (place_is t within)
         ∙ ap Known (entry_there after (layout_at t) (subst (λ (s : Schema). tree_of s (layout_at t) ≢ None) (sym made.schema) made.there))
         ∙ ap (λ cs. Known (Some (Stored (kinds_in (layout_at t)) cs))) (sym (held_cells (rows_of after (layout_at t))) ∙ rw within refl)
 
@@ -148,7 +143,7 @@ module _ (honest : Bool) (db after : Database) (bound : List Bool) (scans : BTre
       bound = bound_of t;
       is = marked_some (slice_index_or bound t false) t marked;
       entry = entry_of db (layout_at t);
-      picked = sym (ap (entry_at db) (name_place t within));
+      picked = sym (ap (entry_at db) (place_is t within));
       no_cause = rw within made.no_cause;
       rows = rw within made.rows;
       once = rw within made.once;
@@ -179,7 +174,7 @@ module _ (honest : Bool) (db after : Database) (bound : List Bool) (scans : BTre
     λ honest_is b e. subst
         (λ (x : Bound). (entry : Option Entry) × (entry ≡ entry_at db (place_of x.remote)) × Contains (x.refuses.causes entry (rows_at db t) changes) c)
         (sym (marked_is (slice_index_or bound t false) t b e))
-        (entry_of db (layout_at t), sym (ap (entry_at db) (name_place t within)), rw within (h.1 honest_is)),
+        (entry_of db (layout_at t), sym (ap (entry_at db) (place_is t within)), rw within (h.1 honest_is)),
   )
 
   pub sqlite_keeps : (fault : Fault) → (honest ≡ true → after ≡ db)

@@ -1,5 +1,6 @@
 -- What `iterate` does to a SQLite source.
-use Rattle.std.proofs.Common.{◌≡◌, ℕ, ℤ, pos, ◌+ℤ◌, ◌+◌, ◌<◌, ◌≤ℤ◌, Bool, true, false, not, ◌||◌, if◌then◌else◌, int_lt, nat_lt, nat_eq, List, [], ◌∷◌, ◌++◌, Option, Some, None, IsSome, map, drop, length, option_map, zero, suc, refl, ap, sym, ◌∙◌, subst, arith}
+use Rattle.std.proofs.Common.{◌≡◌, inl, inr, ℕ, ℤ, pos, ◌+ℤ◌, ◌+◌, ◌<◌, ◌≤ℤ◌, Bool, true, false, not, ◌||◌, if◌then◌else◌, int_lt, nat_lt, List, [], ◌∷◌, ◌++◌, Option, Some, None, IsSome, map, drop, length, option_map, zero, suc, refl, ap, sym, ◌∙◌, subst, arith}
+use Rattle.std.proofs.Math.Logic.{∥∥₁_map}
 use Rattle.std.proofs.lemmas.Int.{ints}
 use Rattle.std.specs.Ordering.{nat_cmp}
 use Rattle.std.specs.BTreeMap as tree
@@ -20,29 +21,28 @@ use Rattle.sqlite_wrapper.specs.declared.scans.KeyScan.{KeyScan}
 use Rattle.staged_changes.specs.declared.changes.StagedWrite.{StagedWrite}
 use Rattle.sqlite_wrapper.specs.declared.scans.PageWanted.{PageWanted}
 use Rattle.sqlite_wrapper.specs.declared.rows.GivenNext.{GivenNext}
-use Rattle.sqlite_cells.specs.Layouts.{Layout, orders, people, layout_at}
+use Rattle.sqlite_cells.specs.Layouts.{Layout, layout_at}
 use Rattle.sqlite_cells.specs.Cells.{key_in}
 use Rattle.sqlite_cells.specs.Tables.{IsKnown, behind, entries_of}
+use Rattle.sqlite_writes.specs.Writable.{IsWritable}
 use Rattle.sqlite_wrapper.specs.Boxes.{is_allowed, lowest, from_to, scan_is, unread, to_come, given_of, scan_rows, mapped, Sets, sqlite_state}
 use Rattle.sqlite_wrapper.specs.Pages.{wanted_by, passed, Turns, IsNext}
 use Rattle.sqlite_wrapper.proofs.Maps.{mapped_get, mapped_insert, mapped_same, sets_on}
 use Rattle.sqlite_wrapper.proofs.LiveScans.{some_inj}
 use Rattle.sqlite_cells.proofs.PagesJoin.{between}
 
+-- a table that is read and written by its texts, where it is there, is read by its page text
+known_by : (schema : Schema) (t : ℕ) → IsWritable schema t → IsKnown schema (layout_at t)
+known_by schema t (inl absent) = inl absent.page
+known_by schema t (inr w) = inr (w.0, w.1.page)
+
 -- each layout is known
-pub known_at : (honest : Bool) (schema : Schema) (t : ℕ) → (honest ≡ true → ∥ IsKnown schema orders ∥₁) → (honest ≡ true → ∥ IsKnown schema people ∥₁) → honest ≡ true → ∥ IsKnown schema (layout_at t) ∥₁
-known_at honest schema t a b h = go (nat_eq t 0)
-  where
-    go : (c : Bool) → ∥ IsKnown schema (if c then orders else people) ∥₁
-    go true = a h
-    go false = b h
+pub known_at : (honest : Bool) (schema : Schema) (t : ℕ) → ((u : ℕ) → honest ≡ true → ∥ IsWritable schema u ∥₁) → honest ≡ true → ∥ IsKnown schema (layout_at t) ∥₁
+known_at honest schema t writable h = ∥∥₁_map (writable t h) (known_by schema t)
 
 -- `passed`, by whether a greater key may come
 abbrev passing : KeyScan → ℤ → Bool → KeyScan
 passing n key b = if b then record n { at = n.at + 1; low = key +ℤ pos 1 } else record n { at = n.at + 1; «open» = false }
-
-pub known_after : (honest : Bool) (db after : Database) (l : Layout) → (honest ≡ true → after ≡ db) → (honest ≡ true → ∥ IsKnown db.schema l ∥₁) → honest ≡ true → ∥ IsKnown after.schema l ∥₁
-known_after honest db after l same known h = subst (λ (d : Database). ∥ IsKnown d.schema l ∥₁) (sym (same h)) (known h)
 
 pub same_get : (m n : BTreeMap ℕ KeyScan) → n.entries ≡ m.entries → (k : ℕ) → tree.get nat_cmp n k ≡ tree.get nat_cmp m k
 same_get m n e k = ap (λ (es : List (ℕ × KeyScan)). lookup (is_at (nat_cmp k)) es) e

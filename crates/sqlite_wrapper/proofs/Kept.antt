@@ -1,13 +1,14 @@
--- What a database keeps where it is as before, and the numbers of its two tables.
+-- What a database keeps where it is as before, and the numbers of its tables.
 use Rattle.std.proofs.Common.{◌≡◌, ℕ, ◌<◌, Bool, true, List, Option, Some, None, IsSome, length, nat_lt, refl, sym, subst, arith}
 use Rattle.sqlite.specs.Effect.{Database}
 use Rattle.fdw_api.specs.State.{Staging}
+use Rattle.sqlite_cells.specs.Layouts.{layout_count}
 use Rattle.sqlite_writes.specs.Writable.{AreApart, IsWritable}
 use Rattle.sqlite_wrapper.specs.Changes.{names_rows}
 
--- a place of two marks is 0 or 1
-pub within_two : (t : ℕ) (marks : List Bool) → length marks ≡ 2 → t < length marks → nat_lt t 2 ≡ true
-within_two t marks two lt = grind (arith, two, lt)
+-- a place among as many marks as there are layouts is the number of one
+pub within_count : (t : ℕ) (marks : List Bool) → length marks ≡ layout_count → t < length marks → nat_lt t layout_count ≡ true
+within_count t marks each lt = grind (arith, each, lt)
 
 pub some_there : {A : Type 0} (o : Option A) (x : A) → o ≡ Some x → IsSome o
 some_there None x e = absurd cc

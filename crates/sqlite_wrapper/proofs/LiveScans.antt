@@ -23,7 +23,7 @@ use Rattle.fdw_api.specs.State.{Bound, Scan, BoxState, scan_of, table_of}
 use Rattle.fdw_api.specs.Calls.{LeavesOthers, new_scan, Begins, Breaks, CanRescan, Rescans, Ends, RefusesBegin, faults_after, not_refused, Allows}
 use Rattle.sqlite_wrapper.specs.declared.scans.KeyScan.{KeyScan}
 use Rattle.staged_changes.specs.declared.changes.StagedWrite.{StagedWrite}
-use Rattle.sqlite_cells.specs.Layouts.{layout_at, kinds_in}
+use Rattle.sqlite_cells.specs.Layouts.{layout_at, layout_count, kinds_in}
 use Rattle.sqlite_cells.specs.Cells.{least, greatest}
 use Rattle.sqlite_wrapper.specs.Boxes.{allows, is_allowed, bound_of, marked_bound, lowest, from_to, scan_is, given_of, scan_rows, mapped, Sets, sqlite_state, IsNewScan, IsBegun}
 use Rattle.sqlite_cells.specs.Tables.{entries_of, rows_of}
@@ -226,7 +226,7 @@ module _ (honest : Bool) (bound : List Bool) (staged : Option StagedWrite) where
     shows_new : scan_is s ≡ new_scan t (kinds_in (layout_at t)) spec params (from_to (lowest s) s.high)
     shows_new = rw (new.table, new.spec_is, new.params_are, new.whole) refl
 
-    pub sqlite_begins : (m n : BTreeMap ℕ KeyScan) (next pulled faults : ℕ) (b : Bound) → nat_lt t 2 ≡ true → marked_bound (slice_index_or bound t false) t ≡ Some b → tree.get nat_cmp m next ≡ None
+    pub sqlite_begins : (m n : BTreeMap ℕ KeyScan) (next pulled faults : ℕ) (b : Bound) → nat_lt t layout_count ≡ true → marked_bound (slice_index_or bound t false) t ≡ Some b → tree.get nat_cmp m next ≡ None
         → next < 2 ^ 64 - 1 → Sets m n next (Some s) → Begins (box db m next pulled faults) t spec params next (box db n (next + 1) pulled faults)
     sqlite_begins m n next pulled faults b within is_bound fresh room u = record {
       nature = refl;
@@ -245,7 +245,7 @@ module _ (honest : Bool) (bound : List Bool) (staged : Option StagedWrite) where
       leaves = λ h. others db m n next next (next + 1) pulled pulled faults faults (Some s) u;
     }
 
-    pub sqlite_rescans : (m n : BTreeMap ℕ KeyScan) (next pulled faults number : ℕ) (old : KeyScan) → tree.get nat_cmp m number ≡ Some old → nat_lt old.table 2 ≡ true → old.table ≡ t → spec_of old.spec ≡ spec
+    pub sqlite_rescans : (m n : BTreeMap ℕ KeyScan) (next pulled faults number : ℕ) (old : KeyScan) → tree.get nat_cmp m number ≡ Some old → nat_lt old.table layout_count ≡ true → old.table ≡ t → spec_of old.spec ≡ spec
         → Sets m n number (Some s) → Rescans (box db m next pulled faults) number params (box db n next pulled faults)
     sqlite_rescans m n next pulled faults number old is within et es u = record {
       nature = refl;
@@ -283,6 +283,6 @@ module _ (honest : Bool) (bound : List Bool) (staged : Option StagedWrite) where
       let at : marked_bound (slice_index_or bound s.table false) s.table ≡ Some can.bound =
       subst (λ (z : Scan). marked_bound (slice_index_or bound z.table false) z.table ≡ Some can.bound) (sym same) can.is in
       let typed = subst (λ (z : Scan). params_fit can.bound.kinds z.spec.offered params ≡ true) (sym same) can.typed in
-      let w = both (not (spec_of s.spec).narrow) (only_key_tests (spec_of s.spec).offered (spec_of s.spec).answers) (both (nat_lt s.table 2) (allows (spec_of s.spec)) (all n s is)).1 in
+      let w = both (not (spec_of s.spec).narrow) (only_key_tests (spec_of s.spec).offered (spec_of s.spec).answers) (both (nat_lt s.table layout_count) (allows (spec_of s.spec)) (all n s is)).1 in
       keys_fit ((layout_at s.table).second ∷ (layout_at s.table).third ∷ []) params (spec_of s.spec).offered (spec_of s.spec).answers w.1
       (subst (λ (k : List ColType). params_fit k (spec_of s.spec).offered params ≡ true) (bound_kinds (slice_index_or bound s.table false) s.table can.bound at) typed)

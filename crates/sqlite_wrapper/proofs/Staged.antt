@@ -11,13 +11,13 @@ use Rattle.fdw_api.specs.State.{Staging}
 use Rattle.fdw_api.specs.Writes.{CanChange, row_of_change_fits, is_first, id_is_there}
 use Rattle.sqlite_wrapper.specs.declared.scans.KeyScan.{KeyScan}
 use Rattle.staged_changes.specs.declared.changes.StagedWrite.{StagedWrite}
-use Rattle.sqlite_cells.specs.Layouts.{kinds_in, layout_at}
+use Rattle.sqlite_cells.specs.Layouts.{layout_count, kinds_in, layout_at}
 use Rattle.staged_changes.specs.Staged.{change_is, write_is, with_change, broken_write}
 use Rattle.sqlite_changes.specs.Splitting.{IsNamedOnce}
 use Rattle.sqlite_cells.specs.Tables.{rows_of}
 use Rattle.sqlite_wrapper.specs.Changes.{write_fits, NamesOnce, names_rows}
 use Rattle.sqlite_wrapper.proofs.Bound.{bound_within}
-use Rattle.sqlite_wrapper.proofs.Kept.{within_two, some_there}
+use Rattle.sqlite_wrapper.proofs.Kept.{within_count, some_there}
 use Rattle.sqlite_wrapper.specs.Boxes.{marked_bound, rows_at, sqlite_state}
 use Rattle.sqlite_wrapper.proofs.LiveScans.{some_inj, at_some, if_some, bound_kinds}
 
@@ -82,27 +82,27 @@ module _ (honest : Bool) (db : Database) (bound : List Bool) (m : BTreeMap ℕ K
       (more (map change_is write.changes.items) change (old_named named) (subst (λ (z : Staging). is_first z.changes change ≡ true) same can.once))
   named_after more (Err e) new named ok err = subst NamesOnce (sym (if_some staged _ write is err.1)) (old_named named)
 
-  within : length bound ≡ 2 → nat_lt write.table 2 ≡ true
-  within two =
+  within : length bound ≡ layout_count → nat_lt write.table layout_count ≡ true
+  within each =
       let at : marked_bound (slice_index_or bound write.table false) write.table ≡ Some can.bound =
       subst (λ (z : Staging). marked_bound (slice_index_or bound z.table false) z.table ≡ Some can.bound) same can.is in
-      within_two write.table bound two (bound_within bound write.table (some_there _ _ at))
+      within_count write.table bound each (bound_within bound write.table (some_there _ _ at))
 
   old_there : (honest ≡ true → names_rows db (option_map write_is staged) ≡ true) → honest ≡ true
       → list_all (id_is_there (rows_of db (layout_at write.table))) (map change_is write.changes.items) ≡ true
   old_there names h = subst (λ (o : Option StagedWrite). names_rows db (option_map write_is o) ≡ true) is (names h)
 
-  one_there : length bound ≡ 2 → honest ≡ true → id_is_there (rows_of db (layout_at write.table)) change ≡ true
-  one_there two h =
+  one_there : length bound ≡ layout_count → honest ≡ true → id_is_there (rows_of db (layout_at write.table)) change ≡ true
+  one_there each h =
       let at : id_is_there (rows_at db write.table) change ≡ true = subst (λ (z : Staging). id_is_there (rows_at db z.table) change ≡ true) same (can.there h) in
-      rw (within two) at at
+      rw (within each) at at
 
-  pub there_more : length bound ≡ 2 → {T : Type 0} (r : Result T Fault) (new : Option StagedWrite) → (honest ≡ true → names_rows db (option_map write_is staged) ≡ true)
+  pub there_more : length bound ≡ layout_count → {T : Type 0} (r : Result T Fault) (new : Option StagedWrite) → (honest ≡ true → names_rows db (option_map write_is staged) ≡ true)
       → OnOk r (IfSome staged (λ s. option_map write_is new ≡ Some (with_change s change)))
       → IfErr r (λ fault. (fault ≡ NoMemory) × IfSome staged (λ s. option_map write_is new ≡ Some (broken_write s)))
       → honest ≡ true → names_rows db (option_map write_is new) ≡ true
-  there_more two (Ok x) new names ok err h =
+  there_more each (Ok x) new names ok err h =
       subst (λ (o : Option Staging). names_rows db o ≡ true) (sym (if_some staged _ write is ok))
-      (one_more (id_is_there (rows_of db (layout_at write.table))) (map change_is write.changes.items) change (old_there names h) (one_there two h))
-  there_more two (Err e) new names ok err h =
+      (one_more (id_is_there (rows_of db (layout_at write.table))) (map change_is write.changes.items) change (old_there names h) (one_there each h))
+  there_more each (Err e) new names ok err h =
       subst (λ (o : Option Staging). names_rows db o ≡ true) (sym (if_some staged _ write is err.1)) (old_there names h)

@@ -18,7 +18,7 @@ use Rattle.fdw_api.specs.Kinds.{Entry, Holding, Known}
 use Rattle.fdw_api.specs.State.{Bound, Scan, Ledger, Content, BoxState}
 use Rattle.sqlite_wrapper.specs.declared.scans.KeyScan.{KeyScan}
 use Rattle.staged_changes.specs.declared.changes.StagedWrite.{StagedWrite}
-use Rattle.sqlite_cells.specs.Layouts.{Layout, kinds_in, layout_at, place_of}
+use Rattle.sqlite_cells.specs.Layouts.{Layout, kinds_in, layout_at, layout_count, place_of}
 use Rattle.sqlite_changes.specs.Kinds.{no_line, by_key, sqlite_refusals}
 use Rattle.sqlite_wrapper.specs.Kinds.{sqlite_image, sqlite_kind}
 use Rattle.sqlite_cells.specs.Cells.{row_in}
@@ -32,9 +32,9 @@ entry_at db (Some t) = entry_of db (layout_at t)
 abbrev pub allows : Spec → Bool
 allows spec = not spec.narrow && only_key_tests spec.offered spec.answers
 
--- such a scan of one of the two tables
+-- such a scan of a table of one of the layouts
 abbrev pub is_allowed : Scan → Bool
-is_allowed z = nat_lt z.table 2 && allows z.spec
+is_allowed z = nat_lt z.table layout_count && allows z.spec
 
 abbrev pub bound_of : ℕ → Bound
 bound_of t = record {
@@ -106,9 +106,9 @@ sqlite_ledger bound scans staged next pulled faults = record {
 abbrev pub held_in : Database → List ℕ → Holding
 held_in db remote = Known (entry_at db (place_of remote))
 
--- the rows of a table by its number: there are two
+-- the rows of a table by its number, where a layout has it
 abbrev pub rows_at : Database → ℕ → List TableRow
-rows_at db t = if nat_lt t 2 then rows_of db (layout_at t) else []
+rows_at db t = if nat_lt t layout_count then rows_of db (layout_at t) else []
 
 abbrev pub sqlite_content : Database → BTreeMap ℕ KeyScan → Content
 sqlite_content db scans = record {

@@ -6,10 +6,9 @@ ghost use Rattle.sqlite.specs.Held.{state};
 ghost use Rattle.fdw_api.specs.Scan.{filter_of, spec_of};
 ghost use Rattle.key_ranges.specs.Ranges.{answer_of};
 ghost use Rattle.sqlite_wrapper.specs.declared.scans.KeyScan.{KeyScan};
-ghost use Rattle.sqlite_cells.specs.Layouts.{orders, people};
+ghost use Rattle.sqlite_cells.specs.Layouts.{layout_count};
 ghost use Rattle.staged_changes.specs.Staged.{write_is};
 ghost use Rattle.sqlite_wrapper.specs.Changes.{NamesOnce, named_is_prop, names_rows, write_fits};
-ghost use Rattle.sqlite_cells.specs.Tables.{IsKnown};
 ghost use Rattle.sqlite_writes.specs.Writable.{AreApart, IsWritable};
 ghost use Rattle.sqlite_wrapper.specs.Boxes.{is_allowed, scan_is, sqlite_state};
 
@@ -21,7 +20,7 @@ use fdw_api::scan::{Agreement, Restriction, ScanSpec, copy_values};
 use key_ranges::answers_for;
 use med_value::{Cause, ColumnDef, NoMemory, Row, TableNo, Value};
 use sqlite::Connection;
-use sqlite_cells::place_of;
+use sqlite_cells::{layout_count, place_of};
 use sqlite_changes::law::first_changes_name_once;
 use sqlite_shapes::SourceStore;
 use sqlite_surveys::open_table;
@@ -31,7 +30,7 @@ use std::collections::BTreeMap;
 
 /// A SQLite database as a source of foreign tables.
 ///
-/// Its kind is `sqlite_kind`. Its remote tables are those of the two layouts, orders and people: table 0 and table 1. The id of a row is
+/// Its kind is `sqlite_kind`. Its remote tables are those of the layouts, by their numbers: orders is table 0, and people table 1. The id of a row is
 /// the 64 bits of its key. A scan takes over tests of the key alone, gives whole rows in the order of their keys, and reads them by pages
 /// of 64. It is honest where its store always returns what was written.
 #[derive(Drop)]
@@ -43,10 +42,8 @@ pub struct SqliteWrapper<S: SourceStore + Drop> {
     next: u64,
     pulled: u64,
     faults: u64,
-    ghost two: { length bound.items ≡ 2 },
+    ghost counted: { length bound.items ≡ layout_count },
     ghost idle: { conn.in_transaction ≡ false },
-    ghost known_orders: { S.honest ≡ true → ∥ IsKnown conn.schema orders ∥₁ },
-    ghost known_people: { S.honest ≡ true → ∥ IsKnown conn.schema people ∥₁ },
     ghost writable: { (table : ℕ) → S.honest ≡ true → ∥ IsWritable conn.schema table ∥₁ },
     ghost apart: { S.honest ≡ true → AreApart conn.schema },
     ghost named: { NamesOnce (option_map write_is staged) } by { named_is_prop (option_map write_is staged) },
@@ -61,18 +58,17 @@ impl<S: SourceStore + Drop> SqliteWrapper<S> {
 
     /// A source of this database, on which nothing is bound yet. It is as honest as its store.
     ///
-    /// It asks that the connection is in no transaction, and of an honest store that each layout's page text either is not understood under
-    /// its schema or reads a page of a table. It is refused for want of memory alone, and drops the connection then.
+    /// It asks that the connection is in no transaction, and of an honest store that each layout's three texts either are not understood
+    /// under its schema or are for one table, of no two layouts the same. It is refused for want of memory alone, and drops the connection
+    /// then.
     pub fn new(alloc: Global, conn: Connection<S>) -> Result<Self, NoMemory>
         requires idle { conn.in_transaction ≡ false }
-        requires orders { S.honest ≡ true → ∥ IsKnown conn.schema orders ∥₁ }
-        requires people { S.honest ≡ true → ∥ IsKnown conn.schema people ∥₁ }
         requires writable { (table : ℕ) → S.honest ≡ true → ∥ IsWritable conn.schema table ∥₁ }
         requires apart { S.honest ≡ true → AreApart conn.schema }
         ensures { IfOk result (λ w. IsNewSqlite S.honest (state S.Store conn).now
             (sqlite_state S.honest (state S.Store w.conn).now w.bound.items w.scans w.staged w.next w.pulled w.faults)) }
     {
-        let bound = vec![in alloc; false; 2]?;
+        let bound = vec![in alloc; false; layout_count() as usize]?;
         Ok(SqliteWrapper {
             conn,
             bound,

@@ -22,8 +22,9 @@ use Rattle.sqlite_shapes.specs.Shapes.{IsPageText}
 use Rattle.sqlite_cells.specs.Layouts.{layout_at}
 use Rattle.sqlite_cells.specs.Tables.{IsKnown, entries_in, entries_at, tree_of}
 use Rattle.sqlite_cells.proofs.Settled.{tree_is}
-use Rattle.sqlite_writes.specs.Texts.{IsDeleteText, IsInsertText, IsUnread}
-use Rattle.sqlite_writes.specs.Writable.{IsWritable, IsWritableAt, IsAbsent, KeepsTables, delete_text, insert_text}
+use Rattle.sqlite_cells.specs.Texts.{IsDeleteText, IsInsertText, IsUnread}
+use Rattle.sqlite_cells.specs.Shapes.{AreTexts}
+use Rattle.sqlite_writes.specs.Writable.{IsWritable, IsAbsent, KeepsTables}
 use Rattle.sqlite_writes.specs.Changes.{KeepsOthers, TakesOut, PutsIn}
 
 Schema-set : IsSet Schema
@@ -58,12 +59,12 @@ module _ (old new : Database) (t tree : ℕ) (page : IsPageText old.schema (layo
           let kept : new.trees h.0 ≡ old.trees h.0 = subst (λ (n : ℕ). new.trees n ≡ old.trees n) h.1.tree_is (others h.1.place h.1.table h.1.at differ) in
           after ∙ kept ∙ sym before
 
-module _ (old new : Database) (t : ℕ) (key : ℤ) (text : List ℕ) (e : text ≡ delete_text t) (writable : ∥ IsWritable old.schema t ∥₁) (shaped : IsShaped shape.Table (entries_in old t))
+module _ (old new : Database) (t : ℕ) (key : ℤ) (text : List ℕ) (e : text ≡ (layout_at t).deleting) (writable : ∥ IsWritable old.schema t ∥₁) (shaped : IsShaped shape.Table (entries_in old t))
     (done : (tree : ℕ) → IsDeleteText old.schema text tree → IsShaped shape.Table (old.trees tree) → TakesOut old new tree key) (unread : IsUnread old.schema text → ⊥) where
-  no_delete : IsAbsent old.schema t → ⊥
+  no_delete : IsAbsent old.schema (layout_at t) → ⊥
   no_delete h = unread (subst (λ (x : List ℕ). IsUnread old.schema x) (sym e) h.delete)
 
-  taken_out : (tree : ℕ) → IsWritableAt old.schema t tree → TakesOut old new tree key
+  taken_out : (tree : ℕ) → AreTexts old.schema (layout_at t) tree → TakesOut old new tree key
   taken_out tree h = done tree (subst (λ (x : List ℕ). IsDeleteText old.schema x tree) (sym e) h.delete) (subst (λ es. IsShaped shape.Table es) (here old new t tree h.page) shaped)
 
   pub delete_schema : new.schema ≡ old.schema
@@ -90,11 +91,11 @@ module _ (old new : Database) (t : ℕ) (key : ℤ) (text : List ℕ) (e : text 
   pub delete_ordered : IsShaped shape.Table (entries_in new t)
   delete_ordered = subst (λ es. IsShaped shape.Table es) (sym delete_rows) (IsShaped-filter shape.Table _ (entries_in old t) shaped)
 
-module _ (old new : Database) (t : ℕ) (row : Row) (text : List ℕ) (e : text ≡ insert_text t) (writable : ∥ IsWritable old.schema t ∥₁) where
-  as_insert : (tree : ℕ) → IsWritableAt old.schema t tree → IsInsertText old.schema text tree (layout_at t).second (layout_at t).third
+module _ (old new : Database) (t : ℕ) (row : Row) (text : List ℕ) (e : text ≡ (layout_at t).inserting) (writable : ∥ IsWritable old.schema t ∥₁) where
+  as_insert : (tree : ℕ) → AreTexts old.schema (layout_at t) tree → IsInsertText old.schema text tree (layout_at t).second (layout_at t).third
   as_insert tree h = subst (λ (x : List ℕ). IsInsertText old.schema x tree (layout_at t).second (layout_at t).third) (sym e) h.insert
 
-  no_insert : IsAbsent old.schema t → IsUnread old.schema text
+  no_insert : IsAbsent old.schema (layout_at t) → IsUnread old.schema text
   no_insert h = subst (λ (x : List ℕ). IsUnread old.schema x) (sym e) h.insert
 
   -- a key that the table in the tree has is one that the table has
@@ -107,7 +108,7 @@ module _ (old new : Database) (t : ℕ) (row : Row) (text : List ℕ) (e : text 
       go (inr h) = ap (λ es. is_taken es row) (here old new t h.0 h.1.page) ∙ taken h.0 (as_insert h.0 h.1)
 
   module _ (done : (tree : ℕ) → IsInsertText old.schema text tree (layout_at t).second (layout_at t).third → PutsIn old new tree row) (unread : IsUnread old.schema text → ⊥) where
-    put_in : (tree : ℕ) → IsWritableAt old.schema t tree → PutsIn old new tree row
+    put_in : (tree : ℕ) → AreTexts old.schema (layout_at t) tree → PutsIn old new tree row
     put_in tree h = done tree (as_insert tree h)
 
     pub insert_schema : new.schema ≡ old.schema
@@ -152,7 +153,7 @@ entries_ordered {S} g c t steady live writable = ∥∥₁_elim writable (IsShap
     none : (es : List Row) → es ≡ [] → IsShaped shape.Table es
     none es e = subst (λ xs. IsShaped shape.Table xs) (sym e) (tt, tt)
 
-    gone : IsAbsent c.schema t → tree_of c.schema (layout_at t) ≡ None
+    gone : IsAbsent c.schema (layout_at t) → tree_of c.schema (layout_at t) ≡ None
     gone h = rw h.page.1 refl
 
     go : IsWritable c.schema t → IsShaped shape.Table (entries_in (state g c).now t)

@@ -40,7 +40,7 @@ use Rattle.sqlite_value.specs.declared.keys.Collation.TheVariants.{Binary}
 use Rattle.sqlite_value.proofs.OrderLemmas.{value_cmp-Int}
 use Rattle.sqlite_shapes.proofs.Unique.{kept_all}
 use Rattle.sqlite_shapes.proofs.PageLemmas.{compare_is}
-use Rattle.sqlite_writes.specs.Texts.{IsDeleteText, delete_filter, delete_query}
+use Rattle.sqlite_cells.specs.Texts.{IsDeleteText, delete_filter, delete_query}
 use Rattle.sqlite_writes.specs.Changes.{TakesOut}
 use Rattle.sqlite_writes.proofs.Steps.{went, same_value, others_kept}
 

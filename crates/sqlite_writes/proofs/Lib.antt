@@ -4,5 +4,4 @@ pub mod Deleting
 pub mod Inserting
 pub mod Changed
 pub mod Loops
-pub mod TwoTables
 pub mod Shown

@@ -1,6 +1,4 @@
-pub mod Texts
 pub mod Writable
 pub mod Stored
 pub mod Changes
 pub mod Rewriting
-pub mod Shapes

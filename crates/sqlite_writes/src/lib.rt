@@ -3,10 +3,8 @@
 
 pub mod rewriting;
 pub mod rows;
-pub mod shapes;
 mod statements;
 mod texts;
 
 pub use rewriting::{entries_rise, rewrite};
 pub use rows::{delete_row, insert_row};
-pub use shapes::{Orders, People, RemoteShape};

@@ -1,27 +1,19 @@
 //! The texts that change a row of a table.
 ghost use Rattle.std.specs.Prelude.{◌≡◌};
-ghost use Rattle.sqlite_writes.specs.Writable.{delete_text, insert_text};
+ghost use Rattle.sqlite_cells.specs.Layouts.{layout_at};
 
-use crate::shapes::{Orders, People, RemoteShape};
+use sqlite_cells::shape_at;
 
 // The text that takes the row of a key out of a table.
 pub(crate) fn delete_text(table: u64) -> &'static str
-    ensures { result.now ≡ delete_text table }
+    ensures { result.now ≡ (layout_at table).deleting }
 {
-    if table == 0 {
-        Orders.delete_text()
-    } else {
-        People.delete_text()
-    }
+    shape_at(table).delete_text
 }
 
 // The text that puts a row into a table.
 pub(crate) fn insert_text(table: u64) -> &'static str
-    ensures { result.now ≡ insert_text table }
+    ensures { result.now ≡ (layout_at table).inserting }
 {
-    if table == 0 {
-        Orders.insert_text()
-    } else {
-        People.insert_text()
-    }
+    shape_at(table).insert_text
 }

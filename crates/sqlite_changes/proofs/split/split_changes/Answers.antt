@@ -1,10 +1,12 @@
-use Rattle.std.proofs.Common.{◌≡◌, ◌∷◌, ◌++◌, [], ap, sym, true, map, rules, append-nil}
+use Rattle.std.proofs.Common.{◌≡◌, ◌∷◌, ◌++◌, [], Err, IfErr, refl, ap, sym, subst, true, map, rules, append-nil}
 use Rattle.med_value.specs.Datum.{tuple}
+use Rattle.med_value.specs.declared.cause.Cause.TheVariants.{NotNull}
+use Rattle.fdw_api.specs.declared.interface.Fault.TheVariants.{Refused}
 use Rattle.fdw_api.specs.Kinds.{Inserts, Updates}
 use Rattle.staged_changes.specs.Staged.{change_is}
 use Rattle.sqlite_writes.specs.Rewriting.{has_place}
-use Rattle.sqlite_changes.specs.Splitting.{key_for, is_holdable}
-use Rattle.sqlite_changes.proofs.Splits.{gone_on, fresh_on, one_pushed, fit_on, keyed_on, all_on, has_its_key, each_row}
+use Rattle.sqlite_changes.specs.Splitting.{key_for, is_holdable, IsKeyless}
+use Rattle.sqlite_changes.proofs.Splits.{gone_on, fresh_on, one_pushed, fit_on, keyed_on, all_on, has_its_key, each_row, lacks}
 use Rattle.sqlite_changes.proofs.split.split_changes.Goals as goal
 
 pub loop-change-preserved-in_ok-push-in-Insert : goal.loop-change-preserved-in_ok-push-in-Insert
@@ -53,3 +55,25 @@ loop-change-preserved-in_ok-push-in-Update-2 c =
 
 pub returns-clause-placed : goal.returns-clause-placed
 returns-clause-placed c = each_row c.args.table c.loop-change.fresh.items c.loop-change.invariant.placed
+
+pub returns-in_err-keyed-in-Insert-clause-refused : goal.returns-in_err-keyed-in-Insert-clause-refused
+returns-in_err-keyed-in-Insert-clause-refused c =
+    let cs = map change_is c.loop-change.change-iterator.rest.items in
+    let ds = map change_is c.next.new.self.rest.items in
+    let x = tuple c.in-Insert.row in
+    let ce : cs ≡ Inserts x ∷ ds = search rules in
+    let fit = fit_on c.args.table (Inserts x) cs ds c.loop-change.invariant.fit ce in
+    let told : c.from_residual.result ≡ Err (Refused NotNull) = search rules in
+    subst (λ r. IfErr r (IsKeyless (map change_is c.args.changes.items))) (sym told)
+    (refl, lacks cs (Inserts x) ds _ (search rules) ce (c.in_err-keyed-in-Insert.ensures.err.1 c.args.table fit.0))
+
+pub returns-in_err-keyed-in-Update-clause-refused : goal.returns-in_err-keyed-in-Update-clause-refused
+returns-in_err-keyed-in-Update-clause-refused c =
+    let cs = map change_is c.loop-change.change-iterator.rest.items in
+    let ds = map change_is c.next.new.self.rest.items in
+    let x = tuple c.in-Update.row in
+    let ce : cs ≡ Updates c.in-Update.id x ∷ ds = search rules in
+    let fit = fit_on c.args.table (Updates c.in-Update.id x) cs ds c.loop-change.invariant.fit ce in
+    let told : c.from_residual-in_err-keyed-in-Update.result ≡ Err (Refused NotNull) = search rules in
+    subst (λ r. IfErr r (IsKeyless (map change_is c.args.changes.items))) (sym told)
+    (refl, lacks cs (Updates c.in-Update.id x) ds _ (search rules) ce (c.in_err-keyed-in-Update.ensures.err.1 c.args.table fit.0))

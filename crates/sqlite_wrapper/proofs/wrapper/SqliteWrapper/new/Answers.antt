@@ -11,10 +11,8 @@ returns g c = new_source g.S.SourceStore.honest (state g.S.Store c.args.conn).no
 
 pub invariant_of-result : goal.invariant_of-result
 invariant_of-result g c = record {
-  two = search rules;
+  counted = search rules;
   idle = c.requires.idle;
-  known_orders = c.requires.orders;
-  known_people = c.requires.people;
   writable = c.requires.writable;
   apart = c.requires.apart;
   named = none_named;

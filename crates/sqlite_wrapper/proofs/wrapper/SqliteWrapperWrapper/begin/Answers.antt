@@ -3,8 +3,9 @@ use Rattle.med_value.specs.Datum.{Tuple, datum}
 use Rattle.fdw_api.specs.Scan.{Spec, spec_of}
 use Rattle.key_ranges.specs.Ranges.{only_keys}
 use Rattle.sqlite.specs.Held.{state}
+use Rattle.sqlite_cells.specs.Layouts.{layout_count}
 use Rattle.sqlite_wrapper.proofs.Bound.{bound_within}
-use Rattle.sqlite_wrapper.proofs.Kept.{within_two, some_there}
+use Rattle.sqlite_wrapper.proofs.Kept.{within_count, some_there}
 use Rattle.sqlite_wrapper.specs.Boxes.{IsBegun, allows, is_allowed, scan_is}
 use Rattle.sqlite_wrapper.specs.declared.scans.KeyScan.{KeyScan}
 use Rattle.sqlite_wrapper.proofs.Maps.{sets}
@@ -27,7 +28,7 @@ returns-clause-ok g c =
     let one = subst (λ (z : Spec). IsBegun scan t z (map datum c.in_ok-params.params.items)) c.in_ok-spec.ensures c.new_scan-scan.ensures in
     let begun = subst (λ (p : Tuple). IsBegun scan t (spec_of c.args.spec.now) p) c.in_ok-params.ensures one in
     sqlite_begins g.S.SourceStore.honest s.bound.items s.staged (state g.S.Store s.conn).now scan t (spec_of c.args.spec.now) (map datum c.args.params.now) begun
-    s.scans c.insert.new.self s.next s.pulled s.faults c.requires.bound (within_two t s.bound.items s.two (bound_within s.bound.items t (some_there _ _ c.requires.is))) c.requires.is (s.fresh s.next (omega arith)) (omega arith) (sets s.scans c.insert.new.self s.next (Some scan) c.in_ok-insert.ensures.updates)
+    s.scans c.insert.new.self s.next s.pulled s.faults c.requires.bound (within_count t s.bound.items s.counted (bound_within s.bound.items t (some_there _ _ c.requires.is))) c.requires.is (s.fresh s.next (omega arith)) (omega arith) (sets s.scans c.insert.new.self s.next (Some scan) c.in_ok-insert.ensures.updates)
 
 pub returns-in_err-insert-clause-err : goal.returns-in_err-insert-clause-err
 returns-in_err-insert-clause-err g c =
@@ -42,17 +43,15 @@ invariant_of-self-2 g c =
     let scan = c.new_scan-scan.result in
     let one = subst (λ (z : Spec). IsBegun scan t z (map datum c.in_ok-params.params.items)) c.in_ok-spec.ensures c.new_scan-scan.ensures in
     let begun = subst (λ (p : Tuple). IsBegun scan t (spec_of c.args.spec.now) p) c.in_ok-params.ensures one in
-    let within = within_two t s.bound.items s.two (bound_within s.bound.items t (some_there _ _ c.requires.is)) in
+    let within = within_count t s.bound.items s.counted (bound_within s.bound.items t (some_there _ _ c.requires.is)) in
     let may = bound_allows (slice_index_or s.bound.items t false) t c.requires.bound (spec_of c.args.spec.now) c.requires.is c.requires.allowed in
     let ok : is_allowed (scan_is scan) ≡ true =
-    subst (λ (q : ℕ). (nat_lt q 2 && allows (spec_of scan.spec)) ≡ true) (sym begun.new.table)
-    (subst (λ (z : Spec). (nat_lt t 2 && allows z) ≡ true) (sym begun.new.spec_is) (rw (within, may) refl)) in
+    subst (λ (q : ℕ). (nat_lt q layout_count && allows (spec_of scan.spec)) ≡ true) (sym begun.new.table)
+    (subst (λ (z : Spec). (nat_lt t layout_count && allows z) ≡ true) (sym begun.new.spec_is) (rw (within, may) refl)) in
     let u = sets s.scans c.insert.new.self s.next (Some scan) c.in_ok-insert.ensures.updates in
     record {
-      two = s.two;
+      counted = s.counted;
       idle = s.idle;
-      known_orders = s.known_orders;
-      known_people = s.known_people;
       writable = s.writable;
       apart = s.apart;
       named = s.named;

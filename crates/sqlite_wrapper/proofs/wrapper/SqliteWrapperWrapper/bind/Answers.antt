@@ -2,10 +2,9 @@ use Rattle.std.proofs.Common.{◌∙◌, sym, rules}
 use Rattle.std.proofs.Common.{option_map}
 use Rattle.sqlite.specs.Held.{state}
 use Rattle.staged_changes.specs.Staged.{write_is}
-use Rattle.sqlite_wrapper.proofs.Kept.{within_two, writable_after, apart_after, there_after}
-use Rattle.sqlite_cells.specs.Layouts.{orders, people}
+use Rattle.sqlite_wrapper.proofs.Kept.{within_count, writable_after, apart_after, there_after}
 use Rattle.sqlite_wrapper.proofs.Binding.{place_within, sqlite_binds, sqlite_refuses, sqlite_lacks}
-use Rattle.sqlite_wrapper.proofs.Giving.{known_at, known_after}
+use Rattle.sqlite_wrapper.proofs.Giving.{known_at}
 use Rattle.sqlite_wrapper.proofs.wrapper.SqliteWrapperWrapper.bind.Goals as goal
 
 pub returns-in_default-clause-err : goal.returns-in_default-clause-err
@@ -16,7 +15,7 @@ returns-in_default-clause-err g c =
 pub open_table-requires-clause-known : goal.open_table-requires-clause-known
 open_table-requires-clause-known g c h =
     let s = c.args.self.now in
-    known_at g.S.SourceStore.honest s.conn.schema c.in-Some.number s.known_orders s.known_people h
+    known_at g.S.SourceStore.honest s.conn.schema c.in-Some.number s.writable h
 
 pub invariant_of-self : goal.invariant_of-self
 invariant_of-self g c =
@@ -24,10 +23,8 @@ invariant_of-self g c =
     let db = (state g.S.Store s.conn).now in
     let after = (state g.S.Store c.open_table.new.conn).now in
     record {
-      two = s.two;
+      counted = s.counted;
       idle = c.open_table.ensures.idle;
-      known_orders = known_after g.S.SourceStore.honest db after orders c.open_table.ensures.same s.known_orders;
-      known_people = known_after g.S.SourceStore.honest db after people c.open_table.ensures.same s.known_people;
       typed_write = s.typed_write;
       writable = writable_after g.S.SourceStore.honest db after c.open_table.ensures.same s.writable;
       apart = apart_after g.S.SourceStore.honest db after c.open_table.ensures.same s.apart;
@@ -49,7 +46,7 @@ returns-in-Err-clause-err g c =
 pub index_mut-requires : goal.index_mut-requires
 index_mut-requires g c =
     let s = c.args.self.now in
-    let lt = place_within s.bound.items c.args.remote.now c.in-Some.number s.two (sym c.place_of.ensures ∙ c.in-Some.is) in
+    let lt = place_within s.bound.items c.args.remote.now c.in-Some.number s.counted (sym c.place_of.ensures ∙ c.in-Some.is) in
     search rules
 
 pub invariant_of-self-2 : goal.invariant_of-self-2
@@ -58,10 +55,8 @@ invariant_of-self-2 g c =
     let db = (state g.S.Store s.conn).now in
     let after = (state g.S.Store c.open_table.new.conn).now in
     record {
-      two = search rules;
+      counted = search rules;
       idle = c.open_table.ensures.idle;
-      known_orders = known_after g.S.SourceStore.honest db after orders c.open_table.ensures.same s.known_orders;
-      known_people = known_after g.S.SourceStore.honest db after people c.open_table.ensures.same s.known_people;
       typed_write = s.typed_write;
       writable = writable_after g.S.SourceStore.honest db after c.open_table.ensures.same s.writable;
       apart = apart_after g.S.SourceStore.honest db after c.open_table.ensures.same s.apart;
@@ -77,6 +72,6 @@ returns-clause-ok g c =
     let db = (state g.S.Store s.conn).now in
     let after = (state g.S.Store c.open_table.new.conn).now in
     let place = sym c.place_of.ensures ∙ c.in-Some.is in
-    let lt = place_within s.bound.items c.args.remote.now c.in-Some.number s.two place in
-    sqlite_binds g.S.SourceStore.honest db after s.bound.items s.scans s.staged s.next s.pulled s.faults _ _ _ c.open_table.ensures.same c.in-Some.number lt (within_two c.in-Some.number s.bound.items s.two lt) c.requires place
+    let lt = place_within s.bound.items c.args.remote.now c.in-Some.number s.counted place in
+    sqlite_binds g.S.SourceStore.honest db after s.bound.items s.scans s.staged s.next s.pulled s.faults _ _ _ c.open_table.ensures.same c.in-Some.number lt (within_count c.in-Some.number s.bound.items s.counted lt) c.requires place
     c.in_default-open_table.ensures.types c.in_default-open_table.ensures.ok c.open_table.ensures.once

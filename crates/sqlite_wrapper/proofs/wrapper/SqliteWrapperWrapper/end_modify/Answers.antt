@@ -5,8 +5,6 @@ use Rattle.fdw_api.specs.Calls.{faults_after}
 use Rattle.fdw_api.specs.Writes.{CanClose, Closes, RefusesClose}
 use Rattle.staged_changes.specs.Staged.{write_is}
 use Rattle.staged_changes.specs.declared.changes.StagedWrite.{StagedWrite}
-use Rattle.sqlite_cells.specs.Layouts.{orders, people}
-use Rattle.sqlite_cells.specs.Tables.{IsKnown}
 use Rattle.sqlite_changes.proofs.Named.{none_named}
 use Rattle.sqlite_writes.specs.Writable.{AreApart, IsWritable}
 use Rattle.sqlite_wrapper.specs.Changes.{NamesOnce, names_rows, write_fits}
@@ -19,10 +17,8 @@ pub invariant_of-self : goal.invariant_of-self
 invariant_of-self g c =
     let s = c.args.self.now in
     record {
-      two = s.two;
+      counted = s.counted;
       idle = s.idle;
-      known_orders = s.known_orders;
-      known_people = s.known_people;
       writable = s.writable;
       apart = s.apart;
       named = subst NamesOnce (sym (ap (option_map write_is) c.take.ensures.after)) none_named;
@@ -35,16 +31,14 @@ invariant_of-self g c =
 pub write_rows-requires-clause-known : goal.write_rows-requires-clause-known
 write_rows-requires-clause-known g c h =
     let s = c.args.self.now in
-    known_at g.S.SourceStore.honest s.conn.schema c.in-Some.write.table s.known_orders s.known_people h
+    known_at g.S.SourceStore.honest s.conn.schema c.in-Some.write.table s.writable h
 
 pub invariant_of-self-in-Ok : goal.invariant_of-self-in-Ok
 invariant_of-self-in-Ok g c =
     let s = c.args.self.now in
     record {
-      two = s.two;
+      counted = s.counted;
       idle = c.write_rows.ensures.idle;
-      known_orders = λ h. subst (λ (k : Schema). ∥ IsKnown k orders ∥₁) (sym (c.write_rows.ensures.schema h)) (s.known_orders h);
-      known_people = λ h. subst (λ (k : Schema). ∥ IsKnown k people ∥₁) (sym (c.write_rows.ensures.schema h)) (s.known_people h);
       writable = λ t h. subst (λ (k : Schema). ∥ IsWritable k t ∥₁) (sym (c.write_rows.ensures.schema h)) (s.writable t h);
       apart = λ h. subst AreApart (sym (c.write_rows.ensures.schema h)) (s.apart h);
       named = subst NamesOnce (sym (ap (option_map write_is) c.take.ensures.after)) none_named;
@@ -58,10 +52,8 @@ pub invariant_of-self-in-Err : goal.invariant_of-self-in-Err
 invariant_of-self-in-Err g c =
     let s = c.args.self.now in
     record {
-      two = s.two;
+      counted = s.counted;
       idle = c.write_rows.ensures.idle;
-      known_orders = λ h. subst (λ (k : Schema). ∥ IsKnown k orders ∥₁) (sym (c.write_rows.ensures.schema h)) (s.known_orders h);
-      known_people = λ h. subst (λ (k : Schema). ∥ IsKnown k people ∥₁) (sym (c.write_rows.ensures.schema h)) (s.known_people h);
       writable = λ t h. subst (λ (k : Schema). ∥ IsWritable k t ∥₁) (sym (c.write_rows.ensures.schema h)) (s.writable t h);
       apart = λ h. subst AreApart (sym (c.write_rows.ensures.schema h)) (s.apart h);
       named = subst NamesOnce (sym (ap (option_map write_is) c.take.ensures.after)) none_named;
@@ -81,8 +73,8 @@ returns-in-Ok-clause-ok g c =
     let old = sqlite_state honest db s.bound.items s.scans s.staged s.next s.pulled s.faults in
     let can = subst (λ (k : Bool). CanClose old k) keep c.requires in
     let is : s.staged ≡ Some c.in-Some.write = sym c.take.ensures.value ∙ c.in-Some.is in
-    let closes = sqlite_closes honest db after s.bound.items s.scans s.staged s.next s.pulled s.faults c.in-Some.write s.two is can c.in-Ok.ensures.made s.apart
-    (λ u. known_at honest s.conn.schema u s.known_orders s.known_people) s.allowed in
+    let closes = sqlite_closes honest db after s.bound.items s.scans s.staged s.next s.pulled s.faults c.in-Some.write s.counted is can c.in-Ok.ensures.made s.apart
+    (λ u. known_at honest s.conn.schema u s.writable) s.allowed in
     subst (λ (o : Option StagedWrite). Closes old c.args.keep (sqlite_state honest after s.bound.items s.scans o s.next s.pulled s.faults)) (sym c.take.ensures.after)
     (subst (λ (k : Bool). Closes old k (sqlite_state honest after s.bound.items s.scans None s.next s.pulled s.faults)) (sym keep) closes)
 
@@ -97,7 +89,7 @@ returns-in-Err-clause-err g c =
     let can = subst (λ (k : Bool). CanClose old k) keep c.requires in
     let is : s.staged ≡ Some c.in-Some.write = sym c.take.ensures.value ∙ c.in-Some.is in
     let fault = c.in-Err.fault in
-    let keeps = sqlite_keeps honest db after s.bound.items s.scans s.staged s.next s.pulled s.faults c.in-Some.write s.two is can fault c.in-Err.ensures.same c.in-Err.ensures.refused in
+    let keeps = sqlite_keeps honest db after s.bound.items s.scans s.staged s.next s.pulled s.faults c.in-Some.write s.counted is can fault c.in-Err.ensures.same c.in-Err.ensures.refused in
     rw c.faults_after-self.ensures
     (subst (λ (o : Option StagedWrite). RefusesClose old c.args.keep fault (sqlite_state honest after s.bound.items s.scans o s.next s.pulled (faults_after fault s.faults))) (sym c.take.ensures.after)
     (subst (λ (k : Bool). RefusesClose old k fault (sqlite_state honest after s.bound.items s.scans None s.next s.pulled (faults_after fault s.faults))) (sym keep) keeps))

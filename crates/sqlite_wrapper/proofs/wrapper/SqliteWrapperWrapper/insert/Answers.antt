@@ -8,15 +8,13 @@ pub invariant_of-self : goal.invariant_of-self
 invariant_of-self g c =
     let s = c.args.self.now in
     record {
-      two = s.two;
+      counted = s.counted;
       idle = s.idle;
-      known_orders = s.known_orders;
-      known_people = s.known_people;
       typed_write = typed_after g.S.SourceStore.honest (state g.S.Store s.conn).now s.bound.items s.scans s.staged s.next s.pulled s.faults (Inserts (tuple c.args.row)) c.requires c.add_change.result c.add_change.new.staged s.typed_write c.add_change.ensures.ok c.add_change.ensures.err;
       writable = s.writable;
       apart = s.apart;
       named = named_after g.S.SourceStore.honest (state g.S.Store s.conn).now s.bound.items s.scans s.staged s.next s.pulled s.faults (Inserts (tuple c.args.row)) c.requires c.first_changes_name_once.ensures.more c.add_change.result c.add_change.new.staged s.named c.add_change.ensures.ok c.add_change.ensures.err;
-      there = there_more g.S.SourceStore.honest (state g.S.Store s.conn).now s.bound.items s.scans s.staged s.next s.pulled s.faults (Inserts (tuple c.args.row)) c.requires s.two c.add_change.result c.add_change.new.staged s.there c.add_change.ensures.ok c.add_change.ensures.err;
+      there = there_more g.S.SourceStore.honest (state g.S.Store s.conn).now s.bound.items s.scans s.staged s.next s.pulled s.faults (Inserts (tuple c.args.row)) c.requires s.counted c.add_change.result c.add_change.new.staged s.there c.add_change.ensures.ok c.add_change.ensures.err;
       allowed = s.allowed;
       fresh = s.fresh;
     }

@@ -5,11 +5,10 @@ use Rattle.sqlite.specs.Held.{state}
 use Rattle.staged_changes.specs.Staged.{write_is}
 use Rattle.sqlite_wrapper.proofs.Kept.{writable_after, apart_after, there_after}
 use Rattle.fdw_api.specs.State.{Scan}
-use Rattle.sqlite_cells.specs.Layouts.{orders, people}
 use Rattle.sqlite_wrapper.specs.Pages.{IsNext, passed}
 use Rattle.sqlite_wrapper.proofs.Maps.{sets, sets_on}
 use Rattle.sqlite_wrapper.proofs.LiveScans.{at_some, if_some, open_there, keeps_fresh, keeps_allowed}
-use Rattle.sqlite_wrapper.proofs.Giving.{known_at, known_after, same_get, sets_copy, there_is, allows_same, passed_allows, breaks_by, breaks_late, gives_none, gives_row}
+use Rattle.sqlite_wrapper.proofs.Giving.{known_at, same_get, sets_copy, there_is, allows_same, passed_allows, breaks_by, breaks_late, gives_none, gives_row}
 use Rattle.sqlite_wrapper.proofs.Turned.{some_if}
 use Rattle.sqlite_wrapper.proofs.wrapper.SqliteWrapperWrapper.iterate.Goals as goal
 
@@ -26,7 +25,7 @@ read_page-requires-clause-known g c h =
     let db = (state g.S.Store s.conn).now in
     let is = open_there honest s.bound.items s.staged db s.scans s.next s.pulled s.faults number _ c.requires.1 in
     let w = at_some _ is in
-    some_if _ _ w.0 w.1 (known_at honest s.conn.schema w.0.table s.known_orders s.known_people h)
+    some_if _ _ w.0 w.1 (known_at honest s.conn.schema w.0.table s.writable h)
 
 pub spoil-requires : goal.spoil-requires
 spoil-requires g c =
@@ -50,10 +49,8 @@ invariant_of-self g c =
     let u = sets_copy s.scans c.read_page.new.scans c.spoil.new.scans number (Some (record w.0 { broken = true })) c.in-Err.ensures.same_scans
     (sets c.read_page.new.scans c.spoil.new.scans number (Some (record w.0 { broken = true })) (if_some _ _ w.0 (same_get s.scans c.read_page.new.scans c.in-Err.ensures.same_scans number ∙ w.1) c.spoil.ensures)) in
     record {
-      two = s.two;
+      counted = s.counted;
       idle = c.read_page.ensures.idle;
-      known_orders = known_after honest db after orders c.read_page.ensures.same s.known_orders;
-      known_people = known_after honest db after people c.read_page.ensures.same s.known_people;
       typed_write = s.typed_write;
       writable = writable_after g.S.SourceStore.honest db after c.read_page.ensures.same s.writable;
       apart = apart_after g.S.SourceStore.honest db after c.read_page.ensures.same s.apart;
@@ -112,10 +109,8 @@ invariant_of-self-in-Err-next_of g c =
     let v = sets c.read_page.new.scans c.spoil-in-Err-next_of.new.scans number (Some (record t.0 { broken = true })) (if_some _ _ t.0 t.1.0 c.spoil-in-Err-next_of.ensures) in
     let u = sets_on s.scans c.read_page.new.scans c.spoil-in-Err-next_of.new.scans number _ _ t.1 v in
     record {
-      two = s.two;
+      counted = s.counted;
       idle = c.read_page.ensures.idle;
-      known_orders = known_after honest db after orders c.read_page.ensures.same s.known_orders;
-      known_people = known_after honest db after people c.read_page.ensures.same s.known_people;
       typed_write = s.typed_write;
       writable = writable_after g.S.SourceStore.honest db after c.read_page.ensures.same s.writable;
       apart = apart_after g.S.SourceStore.honest db after c.read_page.ensures.same s.apart;
@@ -150,10 +145,8 @@ invariant_of-self-in-Ok-None g c =
     let after = (state g.S.Store c.read_page.new.conn).now in
     let t = if_some _ _ w.0 w.1 c.in_default.ensures.turned in
     record {
-      two = s.two;
+      counted = s.counted;
       idle = c.read_page.ensures.idle;
-      known_orders = known_after honest db after orders c.read_page.ensures.same s.known_orders;
-      known_people = known_after honest db after people c.read_page.ensures.same s.known_people;
       typed_write = s.typed_write;
       writable = writable_after g.S.SourceStore.honest db after c.read_page.ensures.same s.writable;
       apart = apart_after g.S.SourceStore.honest db after c.read_page.ensures.same s.apart;
@@ -201,10 +194,8 @@ invariant_of-self-in-Ok-Some g c =
     let v = sets c.read_page.new.scans c.pass_row.new.scans number (Some (passed t.0 c.in-Ok-Some.next.key)) (rw e at (if_some _ _ t.0 t.1.0 c.pass_row.ensures)) in
     let u = sets_on s.scans c.read_page.new.scans c.pass_row.new.scans number _ _ t.1 v in
     record {
-      two = s.two;
+      counted = s.counted;
       idle = c.read_page.ensures.idle;
-      known_orders = known_after honest db after orders c.read_page.ensures.same s.known_orders;
-      known_people = known_after honest db after people c.read_page.ensures.same s.known_people;
       typed_write = s.typed_write;
       writable = writable_after g.S.SourceStore.honest db after c.read_page.ensures.same s.writable;
       apart = apart_after g.S.SourceStore.honest db after c.read_page.ensures.same s.apart;

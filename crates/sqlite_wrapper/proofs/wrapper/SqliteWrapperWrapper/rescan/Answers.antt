@@ -2,6 +2,7 @@ use Rattle.std.proofs.Common.{nat_lt, ℕ, ◌&&◌, Some, ◌≡◌, true, map,
 use Rattle.med_value.specs.Datum.{datum}
 use Rattle.fdw_api.specs.Scan.{Spec, spec_of}
 use Rattle.sqlite.specs.Held.{state}
+use Rattle.sqlite_cells.specs.Layouts.{layout_count}
 use Rattle.sqlite_wrapper.specs.declared.scans.KeyScan.{KeyScan}
 use Rattle.sqlite_wrapper.specs.Boxes.{allows, is_allowed, scan_is}
 use Rattle.sqlite_wrapper.proofs.Maps.{sets}
@@ -43,7 +44,7 @@ returns-in-Ok-clause-ok g c =
     let is = open_there g.S.SourceStore.honest s.bound.items s.staged (state g.S.Store s.conn).now s.scans s.next s.pulled s.faults c.args.ticket.now.number _ c.requires.at in
     let w = at_some _ is in
     sqlite_rescans g.S.SourceStore.honest s.bound.items s.staged (state g.S.Store s.conn).now c.in-Ok.scan w.0.table (spec_of w.0.spec) (map datum c.args.params.now) (if_some _ _ w.0 w.1 c.in-Ok.ensures)
-    s.scans c.put_scan.new.scans s.next s.pulled s.faults c.args.ticket.now.number w.0 w.1 (both (nat_lt w.0.table 2) (allows (spec_of w.0.spec)) (s.allowed c.args.ticket.now.number w.0 w.1)).0 refl refl (sets s.scans c.put_scan.new.scans c.args.ticket.now.number (Some c.in-Ok.scan) c.put_scan.ensures)
+    s.scans c.put_scan.new.scans s.next s.pulled s.faults c.args.ticket.now.number w.0 w.1 (both (nat_lt w.0.table layout_count) (allows (spec_of w.0.spec)) (s.allowed c.args.ticket.now.number w.0 w.1)).0 refl refl (sets s.scans c.put_scan.new.scans c.args.ticket.now.number (Some c.in-Ok.scan) c.put_scan.ensures)
 
 pub invariant_of-self : goal.invariant_of-self
 invariant_of-self g c =
@@ -52,10 +53,8 @@ invariant_of-self g c =
     let w = at_some _ is in
     let u = sets s.scans c.spoil.new.scans c.args.ticket.now.number (Some (record w.0 { broken = true })) (if_some _ _ w.0 w.1 c.spoil.ensures) in
     record {
-      two = s.two;
+      counted = s.counted;
       idle = s.idle;
-      known_orders = s.known_orders;
-      known_people = s.known_people;
       typed_write = s.typed_write;
       writable = s.writable;
       apart = s.apart;
@@ -72,13 +71,11 @@ invariant_of-self-in-Ok g c =
     let w = at_some _ is in
     let begun = if_some _ _ w.0 w.1 c.in-Ok.ensures in
     let same : is_allowed (scan_is c.in-Ok.scan) ≡ true =
-    subst (λ (q : ℕ). (nat_lt q 2 && allows (spec_of c.in-Ok.scan.spec)) ≡ true) (sym begun.new.table)
-    (subst (λ (z : Spec). (nat_lt w.0.table 2 && allows z) ≡ true) (sym begun.new.spec_is) (s.allowed c.args.ticket.now.number w.0 w.1)) in
+    subst (λ (q : ℕ). (nat_lt q layout_count && allows (spec_of c.in-Ok.scan.spec)) ≡ true) (sym begun.new.table)
+    (subst (λ (z : Spec). (nat_lt w.0.table layout_count && allows z) ≡ true) (sym begun.new.spec_is) (s.allowed c.args.ticket.now.number w.0 w.1)) in
     record {
-      two = s.two;
+      counted = s.counted;
       idle = s.idle;
-      known_orders = s.known_orders;
-      known_people = s.known_people;
       typed_write = s.typed_write;
       writable = s.writable;
       apart = s.apart;
