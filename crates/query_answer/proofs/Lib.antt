@@ -1,4 +1,5 @@
 pub mod Runs
+pub mod Slices
 pub mod GroupRuns
 pub mod Pages
 pub mod KeyOrder
