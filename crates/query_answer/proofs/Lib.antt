@@ -1,4 +1,6 @@
 pub mod Runs
+pub mod Slices
+pub mod Refused
 pub mod GroupRuns
 pub mod Pages
 pub mod KeyOrder

@@ -1,4 +1,5 @@
 pub mod Chains
+pub mod Joined
 pub mod Staging
 pub mod Ordering
 pub mod Grouping

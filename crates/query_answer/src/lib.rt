@@ -7,6 +7,7 @@ mod grouping;
 mod joins;
 mod ordering;
 pub mod outputs;
+mod refusals;
 mod staging;
 mod values;
 

@@ -3,11 +3,13 @@ ghost use Rattle.std.specs.Prelude.{◌≡◌, ◌^◌, [], IfOk, map, List, Non
 ghost use Rattle.med_value.specs.Datum.{tuple};
 ghost use Rattle.med_query.specs.Query.{Chain, Tables, Tells, senses, joined_chains, faults};
 ghost use Rattle.med_query.specs.Select.{groups_of};
+ghost use Rattle.query_answer.specs.Joined.{tuples_of};
 ghost use Rattle.query_answer.specs.Staging.{output_of, Stages, staged_query, groups_by};
 ghost use Rattle.query_answer.specs.Answering.{IsSmall, Shows};
 
 use crate::filtering::{check_arguments, kept_rows};
 use crate::grouping::groups;
+use crate::joins::Joined;
 use crate::staging::{Staged, staged_classes, staged_rows};
 use med_query::Grouping;
 use med_query::law::{answers_ignore_order, expressions_ignore_order};
@@ -36,10 +38,10 @@ fn row_outputs(
     conditions: &[Expr],
     keys: &[Expr],
     items: &[Expr],
-    rows: Vec<Row>,
+    rows: &[Row],
 ) -> Result<Vec<Staged>, EvalFault>
-    ensures stages { IfOk result (λ out. (from : List Chain) (db : Tables) → joined_chains db from ≡ map tuple rows.items → Stages (staged_query from (senses [] conditions.now) None (senses [] keys.now) (senses [] items.now)) db (map output_of out.items)) }
-    ensures told { (from : List Chain) (db : Tables) → joined_chains db from ≡ map tuple rows.items → Tells result (faults (staged_query from (senses [] conditions.now) None (senses [] keys.now) (senses [] items.now)) db) }
+    ensures stages { IfOk result (λ out. (from : List Chain) (db : Tables) → joined_chains db from ≡ map tuple rows.now → Stages (staged_query from (senses [] conditions.now) None (senses [] keys.now) (senses [] items.now)) db (map output_of out.items)) }
+    ensures told { (from : List Chain) (db : Tables) → joined_chains db from ≡ map tuple rows.now → Tells result (faults (staged_query from (senses [] conditions.now) None (senses [] keys.now) (senses [] items.now)) db) }
 {
     staged_rows(alloc, conditions, keys, items, rows)
 }
@@ -53,11 +55,11 @@ fn group_outputs(
     having: &[Expr],
     keys: &[Expr],
     items: &[Expr],
-    rows: Vec<Row>,
+    rows: Joined<'_>,
 ) -> Result<Vec<Staged>, AnswerFault>
-    ensures stages { IfOk result (λ out. (from : List Chain) (db : Tables) → joined_chains db from ≡ map tuple rows.items → Stages (staged_query from (senses [] conditions.now) (groups_by columns.now (senses [] arguments.now) (senses [] having.now)) (senses [] keys.now) (senses [] items.now)) db (map output_of out.items)) }
-    ensures small { IfOk result (λ _. (from : List Chain) (db : Tables) → joined_chains db from ≡ map tuple rows.items → IsSmall (staged_query from (senses [] conditions.now) (groups_by columns.now (senses [] arguments.now) (senses [] having.now)) (senses [] keys.now) (senses [] items.now)) db) }
-    ensures told { (from : List Chain) (db : Tables) → joined_chains db from ≡ map tuple rows.items → Shows result (staged_query from (senses [] conditions.now) (groups_by columns.now (senses [] arguments.now) (senses [] having.now)) (senses [] keys.now) (senses [] items.now)) db }
+    ensures stages { IfOk result (λ out. (from : List Chain) (db : Tables) → joined_chains db from ≡ tuples_of rows.entry → Stages (staged_query from (senses [] conditions.now) (groups_by columns.now (senses [] arguments.now) (senses [] having.now)) (senses [] keys.now) (senses [] items.now)) db (map output_of out.items)) }
+    ensures small { IfOk result (λ _. (from : List Chain) (db : Tables) → joined_chains db from ≡ tuples_of rows.entry → IsSmall (staged_query from (senses [] conditions.now) (groups_by columns.now (senses [] arguments.now) (senses [] having.now)) (senses [] keys.now) (senses [] items.now)) db) }
+    ensures told { (from : List Chain) (db : Tables) → joined_chains db from ≡ tuples_of rows.entry → Shows result (staged_query from (senses [] conditions.now) (groups_by columns.now (senses [] arguments.now) (senses [] having.now)) (senses [] keys.now) (senses [] items.now)) db }
 {
     answers_ignore_order();
     expressions_ignore_order();
@@ -89,14 +91,14 @@ pub(crate) fn query_outputs(
     grouping: &Option<Grouping>,
     keys: &[Expr],
     items: &[Expr],
-    rows: Vec<Row>,
+    rows: Joined<'_>,
 ) -> Result<Vec<Staged>, AnswerFault>
-    ensures stages { IfOk result (λ out. (from : List Chain) (db : Tables) → joined_chains db from ≡ map tuple rows.items → Stages (staged_query from (senses [] conditions.now) (groups_of grouping.now) (senses [] keys.now) (senses [] items.now)) db (map output_of out.items)) }
-    ensures small { IfOk result (λ _. (from : List Chain) (db : Tables) → joined_chains db from ≡ map tuple rows.items → IsSmall (staged_query from (senses [] conditions.now) (groups_of grouping.now) (senses [] keys.now) (senses [] items.now)) db) }
-    ensures told { (from : List Chain) (db : Tables) → joined_chains db from ≡ map tuple rows.items → Shows result (staged_query from (senses [] conditions.now) (groups_of grouping.now) (senses [] keys.now) (senses [] items.now)) db }
+    ensures stages { IfOk result (λ out. (from : List Chain) (db : Tables) → joined_chains db from ≡ tuples_of rows.entry → Stages (staged_query from (senses [] conditions.now) (groups_of grouping.now) (senses [] keys.now) (senses [] items.now)) db (map output_of out.items)) }
+    ensures small { IfOk result (λ _. (from : List Chain) (db : Tables) → joined_chains db from ≡ tuples_of rows.entry → IsSmall (staged_query from (senses [] conditions.now) (groups_of grouping.now) (senses [] keys.now) (senses [] items.now)) db) }
+    ensures told { (from : List Chain) (db : Tables) → joined_chains db from ≡ tuples_of rows.entry → Shows result (staged_query from (senses [] conditions.now) (groups_of grouping.now) (senses [] keys.now) (senses [] items.now)) db }
 {
     match grouping {
-        None => match row_outputs(alloc, conditions, keys, items, rows) {
+        None => match row_outputs(alloc, conditions, keys, items, rows.as_slice()) {
             Ok(out) => Ok(out),
             Err(fault) => Err(AnswerFault::Evaluation(fault)),
         },

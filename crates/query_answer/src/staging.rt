@@ -108,15 +108,15 @@ pub(crate) fn staged_rows(
     conditions: &[Expr],
     keys: &[Expr],
     items: &[Expr],
-    rows: Vec<Row>,
+    rows: &[Row],
 ) -> Result<Vec<Staged>, EvalFault>
-    ensures outputs { IfOk result (λ out. map output_of out.items ≡ flat_map (row_staged (senses [] conditions.now) (senses [] keys.now) (senses [] items.now)) (map tuple rows.items)) }
-    ensures no_fault { IfOk result (λ _. flat_map (row_told_all (senses [] conditions.now) (senses [] keys.now) (senses [] items.now)) (map tuple rows.items) ≡ []) }
-    ensures told { Tells result (flat_map (row_told_all (senses [] conditions.now) (senses [] keys.now) (senses [] items.now)) (map tuple rows.items)) }
+    ensures outputs { IfOk result (λ out. map output_of out.items ≡ flat_map (row_staged (senses [] conditions.now) (senses [] keys.now) (senses [] items.now)) (map tuple rows.now)) }
+    ensures no_fault { IfOk result (λ _. flat_map (row_told_all (senses [] conditions.now) (senses [] keys.now) (senses [] items.now)) (map tuple rows.now) ≡ []) }
+    ensures told { Tells result (flat_map (row_told_all (senses [] conditions.now) (senses [] keys.now) (senses [] items.now)) (map tuple rows.now)) }
 {
     let mut out = Vec::new(alloc);
     for row in rows {
-        match staged_row(alloc, conditions, keys, items, &row) {
+        match staged_row(alloc, conditions, keys, items, row) {
             Ok(staged) => push_staged(staged, &mut out)?,
             Err(fault) => return Err(fault),
         }

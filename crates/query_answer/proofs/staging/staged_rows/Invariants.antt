@@ -1,5 +1,4 @@
-use Rattle.std.proofs.Common.{◌≡◌, ◌++◌, map, flat_map, []}
-use Rattle.std.specs.Vec.Iter.{into_iter_items}
+use Rattle.std.proofs.Common.{◌≡◌, map, flat_map, take, []}
 use Rattle.med_value.specs.Datum.{tuple}
 use Rattle.med_query.specs.Query.{senses}
 use Rattle.query_answer.specs.Staging.{output_of, row_staged, row_told_all}
@@ -8,7 +7,6 @@ use Rattle.query_answer.proofs.staging.staged_rows.Given as goal
 abbrev pub invariant-loop-row : goal.invariant-loop-row
 invariant-loop-row l =
     record {
-      all : l.yielded ++ into_iter_items l.row-iterator ≡ into_iter_items l.initial.row-iterator;
-      outputs : map output_of l.out.items ≡ flat_map (row_staged (senses [] l.conditions) (senses [] l.keys) (senses [] l.items)) (map tuple l.yielded);
-      no_fault : flat_map (row_told_all (senses [] l.conditions) (senses [] l.keys) (senses [] l.items)) (map tuple l.yielded) ≡ [];
+      outputs : map output_of l.out.items ≡ flat_map (row_staged (senses [] l.conditions) (senses [] l.keys) (senses [] l.items)) (map tuple (take l.row-index l.rows));
+      no_fault : flat_map (row_told_all (senses [] l.conditions) (senses [] l.keys) (senses [] l.items)) (map tuple (take l.row-index l.rows)) ≡ [];
     }

@@ -3,7 +3,7 @@ use Rattle.std.specs.Vec.Iter.{into_iter_items}
 use Rattle.med_value.specs.Datum.{tuple}
 use Rattle.med_query.specs.Query.{senses}
 use Rattle.query_answer.specs.Staging.{row_kept, where_told}
-use Rattle.query_answer.proofs.filtering.kept_rows.Given as goal
+use Rattle.query_answer.proofs.filtering.kept_own.Given as goal
 
 abbrev pub invariant-loop-row : goal.invariant-loop-row
 invariant-loop-row l =

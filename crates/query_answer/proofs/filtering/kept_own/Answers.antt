@@ -4,7 +4,7 @@ use Rattle.med_query.specs.Query.{senses}
 use Rattle.query_answer.specs.Staging.{row_kept, where_told}
 use Rattle.med_query.proofs.Telling.{tells_more}
 use Rattle.med_query.proofs.RowByRow.{one_more, quiet_more, moved, among_seen}
-use Rattle.query_answer.proofs.filtering.kept_rows.Goals as goal
+use Rattle.query_answer.proofs.filtering.kept_own.Goals as goal
 
 pub loop-row-preserved : goal.loop-row-preserved
 loop-row-preserved c =

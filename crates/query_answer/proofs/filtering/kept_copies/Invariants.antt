@@ -1,0 +1,12 @@
+use Rattle.std.proofs.Common.{◌≡◌, map, flat_map, take, []}
+use Rattle.med_value.specs.Datum.{tuple}
+use Rattle.med_query.specs.Query.{senses}
+use Rattle.query_answer.specs.Staging.{row_kept, where_told}
+use Rattle.query_answer.proofs.filtering.kept_copies.Given as goal
+
+abbrev pub invariant-loop-row : goal.invariant-loop-row
+invariant-loop-row l =
+    record {
+      kept : map tuple l.out.items ≡ flat_map (row_kept (senses [] l.conditions)) (map tuple (take l.row-index l.rows));
+      no_fault : flat_map (where_told (senses [] l.conditions)) (map tuple (take l.row-index l.rows)) ≡ [];
+    }
