@@ -1,0 +1,4 @@
+pub mod Known
+pub mod Inlets
+pub mod Outlets
+pub mod Memory
