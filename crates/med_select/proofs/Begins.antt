@@ -20,6 +20,7 @@ use Rattle.med_catalog.specs.Objects.{Objects}
 use Rattle.bind_catalog.specs.Queries.{meant_by}
 use Rattle.bind_catalog.specs.Places.{Attached}
 use Rattle.med_world.specs.Altering.{cause_of}
+use Rattle.open_cursors.specs.Counted.{ReadsTables}
 use Rattle.open_cursors.specs.Starting.{is_risky_form, RestsOver, Starts, RunFails, no_memory, box_fails, numbers_out, shows_cause, StartFails, run_fails}
 use Rattle.med_select.proofs.Selections.{ExpressionsIgnoreOrder, AnswersInAnyOrder, CausesInAnyOrder, IsBoundBy, steady, same_back, query_bound, entries_counted}
 
@@ -51,9 +52,9 @@ safe_meant : (o : Objects) (user : Name) (bound : List Attached) (q : SelectTree
 safe_meant o user bound q b is safe = sym (ap is_risky_form is.meant.form) ∙ safe
 
 pub starts : ExpressionsIgnoreOrder → AnswersInAnyOrder → CausesInAnyOrder → (o : Objects) (user : Name) (bound : List Attached) (q : SelectTree) (full : Bool) (b : Bound) (run : Run) (old new : List (Option BoxState))
-    → IsBoundBy o user bound q b → MayBegin full b → ServesRun none_held (held run) old new → IsRunning run new → Begun (written_query b.select) (map entry_place b.entries.items) (Rests run new) old
+    → IsBoundBy o user bound q b → MayBegin full b → ServesRun none_held (held run) old new → IsRunning run new → ReadsTables (map entry_place b.entries.items) old new → Begun (written_query b.select) (map entry_place b.entries.items) (Rests run new) old
     → Starts o user bound q full old (map string_bytes b.names.items) run new
-starts order any causes o user bound q full b run old new is may served running begun =
+starts order any causes o user bound q full b run old new is may served running once begun =
     let m = meant_by o q in
     let places = map entry_place b.entries.items in
     record {
@@ -66,6 +67,7 @@ starts order any causes o user bound q full b run old new is may served running 
       running = running;
       places = places;
       are = is.places;
+      reads = once;
       rests = subst (λ (x : Query). RestsOver x places old (Rests run new)) (query_bound m b is.meant) (rests_over any causes (written_query b.select) (steady order b.select) places old (Rests run new) begun);
     }
 

@@ -1,3 +1,4 @@
 pub mod Runs
 pub mod Selections
+pub mod TablesRead
 pub mod Begins

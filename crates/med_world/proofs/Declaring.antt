@@ -2,7 +2,7 @@
 use Rattle.std.proofs.Common.{◌≡◌, ℕ, ◌<◌, ◌≤◌, true, false, List, [], ◌∷◌, ◌++◌, Option, Some, None, is_some, length, codes, refl, ap, sym, ◌∙◌, subst, arith, inl, inr, lit≤}
 use Rattle.std.proofs.lemmas.Bool.{false≢true}
 use Rattle.med_value.specs.declared.cause.Cause.{Cause}
-use Rattle.med_value.specs.declared.cause.Cause.TheVariants.{LimitExceeded, FeatureNotSupported, DuplicateCursor}
+use Rattle.med_value.specs.declared.cause.Cause.TheVariants.{LimitExceeded, FeatureNotSupported, DuplicateCursor, SourceFault}
 use Rattle.med_syntax.specs.Tree.{Name}
 use Rattle.med_syntax.specs.QueryTree.{SelectTree, select}
 use Rattle.med_query.specs.Query.{Tables, IsAnswer}
@@ -26,11 +26,12 @@ use Rattle.med_world.specs.Causes.{query_of, entry_tables, meant_over, QueryRun,
 use Rattle.med_world.specs.Replies.{Reply, done, refused}
 use Rattle.med_world.specs.Steps.{new_cursor, is_done, source_fails, numbers_end}
 use Rattle.med_world.specs.Seats.{seat_of, CursorAgrees, CursorsAgree}
-use Rattle.med_world.specs.Engine.{Shown, IsSound, Agrees, Leads}
+use Rattle.med_world.specs.Engine.{Shown, IsSound, Agrees, ReadsOnce, Leads}
 use Rattle.med_world.specs.Turning.{new_opened, with_cursors}
 use Rattle.med_world.specs.Laws.{IsRead, with_boxes}
 use Rattle.med_world.proofs.Seats.{stands_still, cursors_stay}
 use Rattle.med_world.proofs.Faring.{none_rises}
+use Rattle.med_world.proofs.OneRun.{once_refused, once_read}
 use Rattle.med_world.proofs.Told.{IsKnownAs, told_tree, none_tree, before_tree}
 use Rattle.med_world.proofs.Leading.{cursors_in, session_in, calm, calm_befell, known, leads_refused, leads_memory}
 use Rattle.med_world.proofs.Querying.{ArePhased, ShowsIn, from_types, from_state, from_run, run_phase, none_select, bindable_in, same_meant, same_entries, none_many}
@@ -61,6 +62,8 @@ declared e new sid text seat name q names run read at sound free h = record {
   trouble = calm;
   befell = calm_befell e.boxes new;
   rises = serving_rises e.boxes new h.served;
+  once = once_read e sid text seat.user (Tree name q) (done (codes "DECLARE CURSOR")) new read
+      (λ ran is. subst (λ (x : SelectTree). ReadsOnce e x new) is (record { places = h.places; are = h.are; reads = h.reads }));
   step = λ w a. (
     after w,
     is_done no_pick (picks_none e w sid text seat (declare name (select q)) a read)
@@ -151,6 +154,7 @@ run_leads e new sid text seat name q c places read at free b safe room few serve
         numbers = λ x. absurd (false≢true x);
       };
       rises = serving_rises e.boxes new served;
+      once = once_refused e (sql text) SourceFault new;
       step = λ w a. (
         w,
         source_fails refl (session_in w sid seat.user) (Tree name q) (known_declare e w sid text seat name q a read).is (late e w sid text seat name q read at free b safe a) refl refl,
@@ -165,6 +169,7 @@ run_leads e new sid text seat name q c places read at free b safe room few serve
         numbers = λ x. record { slot = h.slot; before = h.before; after = h.after; was = h.was; is = h.is; holds = h.shows };
       };
       rises = serving_rises e.boxes new served;
+      once = once_refused e (sql text) LimitExceeded new;
       step = λ w a. (
         w,
         numbers_end refl (session_in w sid seat.user) (Tree name q) (known_declare e w sid text seat name q a read).is (late e w sid text seat name q read at free b safe a) tt refl refl,

@@ -6,6 +6,7 @@ pub mod Faring
 mod Told
 mod Altered
 mod Objecting
+pub mod OneRun
 mod Leading
 mod Picking
 mod Ending

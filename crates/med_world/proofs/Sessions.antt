@@ -24,6 +24,7 @@ use Rattle.med_world.proofs.Seats.{held_none, seat_stays, stands_still}
 use Rattle.med_world.proofs.Lists.{some_same}
 use Rattle.med_world.proofs.Faring.{set_same, set_other, none_rises}
 use Rattle.med_world.proofs.Serving.{serving_rises, serving_agrees, serving_sound}
+use Rattle.med_world.proofs.OneRun.{once_unasked}
 use Rattle.med_world.proofs.Told.{told_protocol, told_bye}
 use Rattle.med_world.proofs.Leading.{calm, calm_befell, leads_refused}
 
@@ -147,6 +148,7 @@ opened e sid user is is_user long closed = record {
   trouble = calm;
   befell = calm_befell e.boxes e.boxes;
   rises = none_rises e.boxes;
+  once = once_unasked e (opening user) (done (codes "OPEN")) e.boxes (λ text is. absurd (cc));
   step = λ w a. (
     with_session w sid (Some (new_session user)),
     is_done no_pick (λ s t x formed. absurd x) (none w a) (refl, refl),
@@ -187,6 +189,7 @@ closed e new sid seat is long there ends = record {
   trouble = calm;
   befell = calm_befell e.boxes new;
   rises = serving_rises e.boxes new served;
+  once = once_unasked e bye (done (codes "BYE")) new (λ text is. absurd (cc));
   step = λ w a. (with_session w sid None, is_done no_pick (λ s t x formed. absurd x) (none w a) (refl, refl), shut_agrees e w new sid is long served a);
 }
   where

@@ -4,7 +4,7 @@ use Rattle.std.proofs.lemmas.Bool.{false≢true}
 use Rattle.std.proofs.lemmas.List.{append_assoc, append-nil}
 use Rattle.med_value.specs.Datum.{Tuple}
 use Rattle.med_value.specs.declared.cause.Cause.{Cause}
-use Rattle.med_value.specs.declared.cause.Cause.TheVariants.{InvalidCursorName}
+use Rattle.med_value.specs.declared.cause.Cause.TheVariants.{InvalidCursorName, OutOfMemory, SourceFault}
 use Rattle.med_syntax.specs.Tree.{Name}
 use Rattle.med_query.specs.Query.{IsAnswer}
 use Rattle.fdw_api.specs.State.{BoxState}
@@ -29,6 +29,7 @@ use Rattle.med_world.specs.Laws.{IsRead}
 use Rattle.med_world.proofs.Lists.{none_some}
 use Rattle.med_world.proofs.Seats.{stands_still, cursors_stay}
 use Rattle.med_world.proofs.Faring.{none_rises}
+use Rattle.med_world.proofs.OneRun.{once_refused, once_read}
 use Rattle.med_world.proofs.Told.{told_tree, none_tree, before_tree}
 use Rattle.med_world.proofs.Leading.{cursors_in, session_in, calm, calm_befell, known, leads_refused}
 use Rattle.med_world.proofs.Serving.{serving_rises}
@@ -107,6 +108,7 @@ fetched e new sid text seat name asked o rows after read at sound here g = recor
   trouble = calm;
   befell = calm_befell e.boxes new;
   rises = serving_rises e.boxes new g.served;
+  once = once_read e sid text seat.user (on_cursors (fetch asked name)) (answered (codes "FETCH") o.names rows) new read (λ q ran. absurd ran);
   step = λ w a. (
     now w,
     is_done no_pick (picks_none e w sid text seat (fetch asked name) a read)
@@ -150,6 +152,7 @@ not_fetched e new sid text seat name asked o c read at sound here (no_memory is)
       trouble = record { memory = true; asked = true; source = false; numbers = false };
       befell = record { source = λ x. absurd (false≢true x); numbers = λ x. absurd (false≢true x) };
       rises = serving_rises e.boxes new (ended_served o.run e.boxes new ends);
+      once = once_refused e (sql text) OutOfMemory new;
       step = λ w a. (
         with_session w sid (Some (without_cursor (session_in w sid seat.user) name)),
         fetch_lacks_memory refl refl (session_in w sid seat.user) asked name (known e w sid text seat.user (on_cursors (fetch asked name)) a read).is refl refl,
@@ -164,6 +167,7 @@ not_fetched e new sid text seat name asked o c read at sound here (box_fails is 
         numbers = λ x. absurd (false≢true x);
       };
       rises = serving_rises e.boxes new (ended_served o.run e.boxes new ends);
+      once = once_refused e (sql text) SourceFault new;
       step = λ w a. (
         with_session w sid (Some (without_cursor (session_in w sid seat.user) name)),
         source_fails refl (session_in w sid seat.user) (on_cursors (fetch asked name)) (known e w sid text seat.user (on_cursors (fetch asked name)) a read).is (late w a) refl refl,
@@ -181,6 +185,7 @@ closed e new sid text seat name o read at sound here ends = record {
   trouble = calm;
   befell = calm_befell e.boxes new;
   rises = serving_rises e.boxes new (ended_served o.run e.boxes new ends);
+  once = once_read e sid text seat.user (on_cursors (close name)) (done (codes "CLOSE CURSOR")) new read (λ q ran. absurd ran);
   step = λ w a. (
     with_session w sid (Some (without_cursor (session_in w sid seat.user) name)),
     is_done no_pick (picks_none e w sid text seat (close name) a read)

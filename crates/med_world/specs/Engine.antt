@@ -3,25 +3,32 @@ use Rattle.std.specs.Prelude.{◌≡◌, ◌≤◌, ◌-◌, ◌^◌, ℕ, zero,
 use Rattle.std.specs.List.{IsDistinct}
 use Rattle.med_value.specs.declared.cause.Cause.{Cause}
 use Rattle.med_syntax.specs.Tree.{Name}
+use Rattle.med_syntax.specs.QueryTree.{SelectTree, select}
 use Rattle.fdw_api.specs.Kinds.{Column, Kind, Held, held, kinds_of}
 use Rattle.fdw_api.specs.State.{BoxState, Bound, IsIdle, is_honest, table_of, scan_of, rows_of}
 use Rattle.fdw_api.specs.Calls.{Binds, Unbinds}
 use Rattle.fdw_api.specs.Sound.{IsSoundBox}
+use Rattle.pushdown.specs.Offered.{Place}
 use Rattle.med_exec.specs.Slots.{BoxAt, ChangesAt}
 use Rattle.med_exec.specs.Running.{HasFailed, IsUsedUp}
-use Rattle.bind_catalog.specs.Places.{Attached}
-use Rattle.med_world.specs.Requests.{Asked, IsSid, IsUser}
+use Rattle.bind_catalog.specs.Places.{Attached, ArePlaces}
+use Rattle.bind_catalog.specs.Queries.{meant_by}
+use Rattle.med_world.specs.Requests.{Asked, sql, IsSid, IsUser}
 use Rattle.med_catalog.specs.declared.kind.SourceKind.{SourceKind}
 use Rattle.med_catalog.specs.Objects.{ServerObject, TableObject, Objects, server_named}
 use Rattle.ddl_syntax.specs.DdlTree.{TableTree}
+use Rattle.cursor_syntax.specs.CursorTree.{declare}
+use Rattle.med_parser.specs.CommandTree.{CommandTree, on_data, on_cursors}
+use Rattle.med_parser.specs.CommandGrammar.{HasCommand}
 use Rattle.med_catalog.specs.Options.{table_settings, column_settings}
 use Rattle.med_catalog.specs.DdlCauses.{Stands, create_table_rows}
 use Rattle.med_catalog.specs.Changes.{AreDeclared, ObjectChange, new_table, no_server, no_table, changed}
+use Rattle.open_cursors.specs.Counted.{ReadsTables}
 use Rattle.open_cursors.specs.Open.{Seated, any_leases}
 use Rattle.med_world.specs.World.{World, Source, SourceState, standing, dropped, with_session, without_sessions, beside_without}
 use Rattle.med_world.specs.Seats.{seat_of, AreSoundSeats, SeatAgrees}
 use Rattle.med_world.specs.Steps.{Trouble, Step}
-use Rattle.med_world.specs.Replies.{Reply, reply_text}
+use Rattle.med_world.specs.Replies.{Reply, done, answered, reply_text}
 
 -- a source as it was added: its name, and its kind
 pub record Label : Type 0 where
@@ -208,11 +215,30 @@ pub record EachRises (old new : List (Option BoxState)) : Type 0 where
       → (s : BoxState) × (slice_get old slot ≡ Some (Some s)) × Rises s t
   pub gone : (slot : ℕ) → slice_get old slot ≡ Some None → slice_get new slot ≡ Some None
 
+-- A statement with this tree that is answered so ran this query: a SELECT was answered by rows, or DECLARE opened its cursor.
+abbrev pub HasRun : CommandTree → Reply → SelectTree → Type 0
+HasRun (on_data (select q)) (answered tag names rows) ran = q ≡ ran
+HasRun (on_cursors (declare name (select q))) (done tag) ran = q ≡ ran
+HasRun tree reply ran = ⊥
+
+-- the table of each entry of its FROM was read once
+pub record ReadsOnce (e : Shown) (q : SelectTree) (new : List (Option BoxState)) : Type 0 where
+  pub places : List Place
+  pub are : ArePlaces e.bound (meant_by e.catalog q).entries places
+  pub reads : ReadsTables places e.boxes new
+
+-- a query that the request ran was run once
+abbrev pub RunsOnce : Shown → Asked → Reply → List (Option BoxState) → Type 0
+RunsOnce old request reply new =
+    (text : List ℕ) (tree : CommandTree) (q : SelectTree) → request ≡ sql text → HasCommand text tree → HasRun tree reply q
+    → ReadsOnce old q new
+
 -- The request is answered by this reply: from each world that agrees before, a step leads to it and to a world that agrees after.
 pub record Leads (old : Shown) (sid : ℕ) (request : Asked) (reply : Reply) (new : Shown) : Type 0 where
   pub trouble : Trouble
   pub befell : Befell old.boxes new.boxes trouble
   pub rises : EachRises old.boxes new.boxes
+  pub once : RunsOnce old request reply new.boxes
   pub step : (w : World) → Agrees old w → (after : World) × Step w sid request trouble reply after × Agrees new after
 
 -- The request is answered by the bytes of a reply.

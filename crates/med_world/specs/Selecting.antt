@@ -10,6 +10,7 @@ use Rattle.fdw_api.specs.State.{BoxState}
 use Rattle.pushdown.specs.Offered.{Place}
 use Rattle.med_planner.specs.Planned.{entry_rows, QueryCauses}
 use Rattle.med_exec.specs.Running.{AllServed, AllHonest}
+use Rattle.open_cursors.specs.Counted.{ReadsTables}
 use Rattle.open_cursors.specs.Starting.{RunFails}
 use Rattle.bind_catalog.specs.Queries.{meant_by, IsBindable, NotBound}
 use Rattle.bind_catalog.specs.Places.{Attached, ArePlaces}
@@ -21,7 +22,7 @@ pub record AnswersOver (q : Query) (places : List Place) (boxes : List (Option B
   pub answers : AllHonest boxes → (db : Tables) → SameRows (entry_rows boxes places) db → IsAnswer q db rows
   pub clear : AllHonest boxes → (db : Tables) → SameRows (entry_rows boxes places) db → (c : Cause) → QueryCauses q db c → ⊥
 
--- The query was answered from the boxes.
+-- The query was answered from the boxes, which read each of its tables once.
 pub record Selects (o : Objects) (user : Name) (bound : List Attached) (q : SelectTree) (old : List (Option BoxState))
     (names : List Name) (given : List Tuple) (new : List (Option BoxState)) : Type 0 where
   pub bindable : IsBindable o user q
@@ -31,6 +32,7 @@ pub record Selects (o : Objects) (user : Name) (bound : List Attached) (q : Sele
   pub places : List Place
   pub are : ArePlaces bound (meant_by o q).entries places
   pub answers : AnswersOver (query_of (meant_by o q)) places old given
+  pub reads : ReadsTables places old new
 
 -- why it is not answered
 pub data SelectFails (o : Objects) (user : Name) (bound : List Attached) (q : SelectTree) (old : List (Option BoxState)) (c : Cause)

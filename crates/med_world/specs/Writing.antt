@@ -23,12 +23,13 @@ use Rattle.write_parts.specs.Meaning.{target_of, columns_in, written_column, wri
 use Rattle.bind_write.specs.Binding.{IsBindable, NotBound}
 use Rattle.med_world.specs.Causes.{query_of, OfQuery}
 use Rattle.med_world.specs.Altering.{cause_of}
+use Rattle.open_cursors.specs.Counted.{ReadsTables}
 use Rattle.open_cursors.specs.Starting.{RunFails}
 use Rattle.med_world.specs.Selecting.{AnswersOver}
 
 -- ---- the query of an INSERT
 
--- it was answered from the boxes
+-- it was answered from the boxes, which read each of its tables once
 pub record GivesAnswer (o : Objects) (bound : List Attached) (q : SelectTree) (old : List (Option BoxState)) (answer : List Tuple)
     (new : List (Option BoxState)) : Type 0 where
   pub few : length (meant_by o q).entries ≤ 8
@@ -36,6 +37,7 @@ pub record GivesAnswer (o : Objects) (bound : List Attached) (q : SelectTree) (o
   pub places : List Place
   pub are : ArePlaces bound (meant_by o q).entries places
   pub answers : AnswersOver (query_of (meant_by o q)) places old answer
+  pub reads : ReadsTables places old new
 
 -- it was not
 pub record FailsQuery (o : Objects) (bound : List Attached) (q : SelectTree) (old : List (Option BoxState)) (c : Cause)

@@ -1,3 +1,4 @@
 pub mod Rows
 pub mod Closing
 pub mod Names
+pub mod Counts

@@ -1,3 +1,4 @@
 pub mod Open
+pub mod Counted
 pub mod Starting
 pub mod Fetching

@@ -21,6 +21,7 @@ use Rattle.med_exec.specs.Rests.{Rests, held, IsRunning}
 use Rattle.med_catalog.specs.Objects.{Objects}
 use Rattle.bind_catalog.specs.Queries.{meant_by, IsBindable, NotBound}
 use Rattle.bind_catalog.specs.Places.{Attached, ArePlaces}
+use Rattle.open_cursors.specs.Counted.{ReadsTables}
 
 -- ---- a query that may fault, which no cursor has: 0A000
 
@@ -47,7 +48,7 @@ pub record RestsOver (q : Query) (places : List Place) (boxes : List (Option Box
       → IsAnswer q db rows
   pub clear : AllHonest boxes → (db : Tables) → SameRows (entry_rows boxes places) db → (c : Cause) → QueryCauses q db c → ⊥
 
--- The query of a cursor was begun over the boxes, and runs.
+-- The query of a cursor was begun over the boxes, which read each of its tables once, and runs.
 pub record Starts (o : Objects) (user : Name) (bound : List Attached) (q : SelectTree) (full : Bool) (old : List (Option BoxState))
     (names : List Name) (run : Run) (new : List (Option BoxState)) : Type 0 where
   pub bindable : IsBindable o user q
@@ -60,6 +61,7 @@ pub record Starts (o : Objects) (user : Name) (bound : List Attached) (q : Selec
   pub places : List Place
   pub are : ArePlaces bound (meant_by o q).entries places
   pub rests : RestsOver (query_by (meant_by o q).form) places old (Rests run new)
+  pub reads : ReadsTables places old new
 
 -- why the run of a query was not begun
 pub data RunFails (q : Query) (places : List Place) (c : Cause) (old new : List (Option BoxState)) : Type 0 where

@@ -3,6 +3,7 @@ ghost use Rattle.std.specs.Prelude.{◌≡◌, map, IfOk, IfErr};
 ghost use Rattle.med_value.specs.Datum.{tuple};
 ghost use Rattle.cursor_syntax.specs.CursorView.{count_tree};
 ghost use Rattle.med_exec.specs.Slots.{states};
+ghost use Rattle.med_exec.specs.Counting.{none_in, BeginsScans, PullsRows};
 ghost use Rattle.med_exec.specs.Running.{ServesRun, Breaks, none_held};
 ghost use Rattle.med_exec.specs.Rests.{held, IsRunning, IsHeld};
 ghost use Rattle.open_cursors.specs.Open.{opened, held_by, AreHeld};
@@ -26,7 +27,7 @@ fn is_enough(asked: FetchCount, given: usize) -> bool
 }
 
 /// Gives as many rows of a run as are asked for, or all that are left where they are fewer, in their order. It asks the run for no row
-/// beyond them, and the next FETCH goes on behind them.
+/// beyond them, and the next FETCH goes on behind them. No scan is begun, and no box gives a row: the run holds its answer.
 ///
 /// After a fault the run is good for its close alone.
 ///
@@ -44,6 +45,8 @@ pub fn fetch<W: Wrapper>(
     requires { IsRunning run.old (states W.meaning slots.old.items) }
     ensures boxes { ServesRun (held run.old) (held run.new) (states W.meaning slots.old.items) (states W.meaning slots.new.items) }
     ensures held { IsHeld run.new (states W.meaning slots.new.items) }
+    ensures begins { BeginsScans none_in (states W.meaning slots.old.items) (states W.meaning slots.new.items) }
+    ensures pulls { PullsRows none_in (states W.meaning slots.old.items) (states W.meaning slots.new.items) }
     ensures ok { IfOk result (λ rows. GivesRows run.old (count_tree asked) (states W.meaning slots.old.items) (map tuple rows.items)
         run.new (states W.meaning slots.new.items)) }
     ensures err { IfErr result (λ fault. GivesNone (cause_of fault)

@@ -41,7 +41,7 @@ returns-clause-ok g c =
     let least : c.len.result ≤ 8 = c.if-len-gt-ENTRIES.false in
     let few : length c.in_ok-query.query.entries.items ≤ 8 = omega (arith, counted, least) in
     selected c.expressions_ignore_order.ensures c.answers_ignore_order.ensures c.causes_ignore_order.ensures o c.args.user.now (map attached c.args.bound.now) q c.in_ok-query.query (map tuple c.in-Ok.rows.items)
-    (states m c.args.slots.now.items) (states m c.run_bound.new.slots.items) is few c.run_bound.ensures.served c.in-Ok.ensures.ok
+    (states m c.args.slots.now.items) (states m c.run_bound.new.slots.items) is few c.run_bound.ensures.served c.in-Ok.ensures.once c.in-Ok.ensures.ok
 
 pub returns-then-len-gt-ENTRIES-clause-err : goal.returns-then-len-gt-ENTRIES-clause-err
 returns-then-len-gt-ENTRIES-clause-err g c =

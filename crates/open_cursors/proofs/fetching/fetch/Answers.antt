@@ -4,9 +4,11 @@ use Rattle.med_value.specs.Datum.{tuple}
 use Rattle.med_value.specs.declared.value.Row.{Row}
 use Rattle.cursor_syntax.specs.CursorView.{count_tree}
 use Rattle.med_exec.specs.Slots.{states}
+use Rattle.med_exec.specs.Counting.{none_in}
 use Rattle.med_exec.specs.Running.{AllHonest, Gives}
 use Rattle.med_exec.specs.Rests.{Rests, rows_left, LessLeft, held}
 use Rattle.open_cursors.specs.Fetching.{has_enough}
+use Rattle.open_cursors.proofs.Counts.{begins_on, pulls_on}
 use Rattle.open_cursors.proofs.Rows.{IsWithin, one_more, all_given, all_then, within_more, all_there, some_left, gives_none}
 use Rattle.open_cursors.proofs.fetching.fetch.Goals as goal
 
@@ -54,9 +56,41 @@ loop-asked-preserved g c =
     let counted : length c.loop-asked.rows.items + 1 ≡ length c.push.new.self.items = omega (arith, sym (ap (λ (rs : List Row). length rs) pushed ∙ length-append c.loop-asked.rows.items (c.in-Ok-Some.row ∷ []))) in
     record {
       boxes = c.services_join.ensures.joined (held c.args.run.now) (held c.loop-asked.run) (held c.next.new.self) (states m c.args.slots.now.items) (states m c.loop-asked.slots.items) (states m c.next.new.slots.items) c.loop-asked.invariant.boxes c.next.ensures.boxes;
+      begins = begins_on (held c.args.run.now) (held c.loop-asked.run) none_in old now next c.loop-asked.invariant.boxes c.loop-asked.invariant.begins c.next.ensures.begins;
+      pulls = pulls_on (held c.args.run.now) (held c.loop-asked.run) none_in old now next c.loop-asked.invariant.boxes c.loop-asked.invariant.pulls c.next.ensures.pulls;
       running = c.in-Ok-Some.ensures.running;
       given = λ honest.
           one_more c.args.run.now c.loop-asked.run c.next.new.self old now next c.loop-asked.rows.items c.push.new.self.items c.in-Ok-Some.row pushed (c.loop-asked.invariant.given honest)
           (gives (c.services_join.ensures.honest (held c.args.run.now) (held c.loop-asked.run) old now c.loop-asked.invariant.boxes honest));
       most = subst (IsWithin (count_tree c.args.asked)) counted (within_more (count_tree c.args.asked) (length c.loop-asked.rows.items) more);
     }
+
+pub returns-in-Err-clause-begins : goal.returns-in-Err-clause-begins
+returns-in-Err-clause-begins g c =
+    let m = g.W.Wrapper.meaning in
+    begins_on (held c.args.run.now) (held c.loop-asked.run) none_in (states m c.args.slots.now.items) (states m c.loop-asked.slots.items) (states m c.next.new.slots.items) c.loop-asked.invariant.boxes c.loop-asked.invariant.begins c.next.ensures.begins
+
+pub returns-in-Err-clause-pulls : goal.returns-in-Err-clause-pulls
+returns-in-Err-clause-pulls g c =
+    let m = g.W.Wrapper.meaning in
+    pulls_on (held c.args.run.now) (held c.loop-asked.run) none_in (states m c.args.slots.now.items) (states m c.loop-asked.slots.items) (states m c.next.new.slots.items) c.loop-asked.invariant.boxes c.loop-asked.invariant.pulls c.next.ensures.pulls
+
+pub returns-in-Ok-None-clause-begins : goal.returns-in-Ok-None-clause-begins
+returns-in-Ok-None-clause-begins g c =
+    let m = g.W.Wrapper.meaning in
+    begins_on (held c.args.run.now) (held c.loop-asked.run) none_in (states m c.args.slots.now.items) (states m c.loop-asked.slots.items) (states m c.next.new.slots.items) c.loop-asked.invariant.boxes c.loop-asked.invariant.begins c.next.ensures.begins
+
+pub returns-in-Ok-None-clause-pulls : goal.returns-in-Ok-None-clause-pulls
+returns-in-Ok-None-clause-pulls g c =
+    let m = g.W.Wrapper.meaning in
+    pulls_on (held c.args.run.now) (held c.loop-asked.run) none_in (states m c.args.slots.now.items) (states m c.loop-asked.slots.items) (states m c.next.new.slots.items) c.loop-asked.invariant.boxes c.loop-asked.invariant.pulls c.next.ensures.pulls
+
+pub returns-then-is_err-clause-begins : goal.returns-then-is_err-clause-begins
+returns-then-is_err-clause-begins g c =
+    let m = g.W.Wrapper.meaning in
+    begins_on (held c.args.run.now) (held c.loop-asked.run) none_in (states m c.args.slots.now.items) (states m c.loop-asked.slots.items) (states m c.next.new.slots.items) c.loop-asked.invariant.boxes c.loop-asked.invariant.begins c.next.ensures.begins
+
+pub returns-then-is_err-clause-pulls : goal.returns-then-is_err-clause-pulls
+returns-then-is_err-clause-pulls g c =
+    let m = g.W.Wrapper.meaning in
+    pulls_on (held c.args.run.now) (held c.loop-asked.run) none_in (states m c.args.slots.now.items) (states m c.loop-asked.slots.items) (states m c.next.new.slots.items) c.loop-asked.invariant.boxes c.loop-asked.invariant.pulls c.next.ensures.pulls

@@ -1,6 +1,7 @@
 use Rattle.std.proofs.Common.{length}
 use Rattle.cursor_syntax.specs.CursorView.{count_tree}
 use Rattle.med_exec.specs.Slots.{states}
+use Rattle.med_exec.specs.Counting.{none_in, BeginsScans, PullsRows}
 use Rattle.med_exec.specs.Running.{AllHonest, ServesRun}
 use Rattle.med_exec.specs.Rests.{rows_left, held, IsRunning}
 use Rattle.open_cursors.proofs.Rows.{HasGiven, IsWithin}
@@ -10,6 +11,8 @@ abbrev pub invariant-loop-asked : goal.invariant-loop-asked
 invariant-loop-asked g l =
     record {
       boxes : ServesRun (held l.fn.run) (held l.run) (states g.W.Wrapper.meaning l.fn.slots.items) (states g.W.Wrapper.meaning l.slots.items);
+      begins : BeginsScans none_in (states g.W.Wrapper.meaning l.fn.slots.items) (states g.W.Wrapper.meaning l.slots.items);
+      pulls : PullsRows none_in (states g.W.Wrapper.meaning l.fn.slots.items) (states g.W.Wrapper.meaning l.slots.items);
       running : IsRunning l.run (states g.W.Wrapper.meaning l.slots.items);
       given : AllHonest (states g.W.Wrapper.meaning l.fn.slots.items) → HasGiven l.fn.run (states g.W.Wrapper.meaning l.fn.slots.items) l.rows.items l.run (states g.W.Wrapper.meaning l.slots.items);
       most : IsWithin (count_tree l.asked) (length l.rows.items);
