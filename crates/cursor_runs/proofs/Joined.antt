@@ -55,7 +55,7 @@ abbrev pub AreNames : Option Cursor → List Name → Type 0
 AreNames None names = Unit {0}
 AreNames (Some c) names = c.names ≡ names
 
-answer_fares : OneTree → (old new : Scene) (sid : ℕ) (name : Name) (e : Exchange) (o : Option Cursor) → Has old.world sid name o → IsAnswered SceneSteps old e.text e.reply new → Fares sid name e o new.world
+pub answer_fares : OneTree → (old new : Scene) (sid : ℕ) (name : Name) (e : Exchange) (o : Option Cursor) → Has old.world sid name o → IsAnswered SceneSteps old e.text e.reply new → Fares sid name e o new.world
 answer_fares law old new sid name e o h (inl k) =
     let t = k.3 in
     step_fares law old.world new.world sid k.0 name e o k.1 t.0 t.3.0 h k.2 t.3.1 t.3.2

@@ -3,3 +3,4 @@ mod Replying
 mod Faring
 mod Joined
 mod Opened
+mod Leased

@@ -19,6 +19,7 @@ use Rattle.session_wire.proofs.UniqueFrames.{one_frame}
 use Rattle.cursor_runs.specs.Exchanges.{Exchange, Exchanged}
 use Rattle.cursor_runs.specs.Fetching.{Declares, GivesOneAnswer}
 use Rattle.cursor_runs.specs.Runs.{KeepsCursors}
+use Rattle.cursor_runs.specs.Leases.{KeepsLeased}
 use Rattle.cursor_runs.proofs.Named.{finds_new}
 use Rattle.cursor_runs.proofs.Replying.{OneTree, done_refused}
 use Rattle.cursor_runs.proofs.Faring.{Has, set_there}
@@ -47,7 +48,7 @@ opened law w new sid name q query request t reply asks has told (is_done p pick 
       finds_new name d.0.cursors (new_cursor w name q) (same_bytes name name refl) nowhere,
     )
 
-declared_has : OneTree → (old new : Scene) (e : Exchange) (sid : ℕ) (name : Name) (q : SelectTree) → IsAnswered SceneSteps old e.text e.reply new → Declares sid name q e → Has new.world sid name (Some (new_cursor old.world name q))
+pub declared_has : OneTree → (old new : Scene) (e : Exchange) (sid : ℕ) (name : Name) (q : SelectTree) → IsAnswered SceneSteps old e.text e.reply new → Declares sid name q e → Has new.world sid name (Some (new_cursor old.world name q))
 declared_has law old new e sid name q (inr k) d = absurd (k.0 sid (sql d.asks.0) d.asks.1)
 declared_has law old new e sid name q (inl k) d =
     let one = one_frame e.text k.0 sid k.1 (sql d.asks.0) k.2 d.asks.1 in
@@ -65,12 +66,22 @@ declared_gives law join old new e es sid name q x d =
 abbrev pub EachGives : Type 0
 EachGives = (old new : Scene) (e : Exchange) (es : List Exchange) (sid : ℕ) (name : Name) (q : SelectTree) → Exchanged SceneSteps old (e ∷ es) new → Declares sid name q e → GivesOneAnswer sid (new_cursor old.world name q) es
 
+-- and the tables stay
+abbrev pub EachStays : Type 0
+EachStays = (old new : Scene) (e : Exchange) (es : List Exchange) (sid : ℕ) (name : Name) (q : SelectTree) → Exchanged SceneSteps old (e ∷ es) new → Declares sid name q e → KeepsLeased old es new sid (new_cursor old.world name q)
+
 -- lines and others behind them are two lists
 parted : (old new : Scene) (before after : List Exchange) → Exchanged SceneSteps old (before ++ after) new → (at : Scene) × Exchanged SceneSteps old before at × Exchanged SceneSteps at after new
 parted old new [] after x = (old, refl, x)
 parted old new (e ∷ es) after x = let r = parted x.0 new es after x.2 in (r.0, (x.0, x.1, r.1), r.2)
 
-pub keeps : EachGives → (old new : Scene) (es : List Exchange) → Exchanged SceneSteps old es new → KeepsCursors old es new
-keeps law old new es x before after e sid name q is d =
+pub keeps : EachGives → EachStays → (old new : Scene) (es : List Exchange) → Exchanged SceneSteps old es new → KeepsCursors old es new
+keeps law stays old new es x before after e sid name q is d =
     let r = parted old new before (e ∷ after) (subst (λ (l : List Exchange). Exchanged SceneSteps old l new) is x) in
-    record { at = r.0; led = r.1; leads = r.2; gives = λ there led leads. law there new e after sid name q leads d }
+    record {
+      at = r.0;
+      led = r.1;
+      leads = r.2;
+      gives = λ there led leads. law there new e after sid name q leads d;
+      stay = λ there mid some others front led leads. stays there mid e some sid name q leads d;
+    }

@@ -1,3 +1,4 @@
 pub mod Exchanges
 pub mod Fetching
 pub mod Runs
+pub mod Leases
