@@ -76,7 +76,7 @@ ends_leads e new sid text user q read b served h kept = record {
   trouble = record { memory = false; asked = false; source = false; numbers = true };
   befell = record {
     source = λ x. absurd (false≢true x);
-    numbers = λ x. record { slot = h.slot; before = h.before; after = h.after; was = h.was; is = h.is; holds = h.shows };
+    numbers = λ x. h;
   };
   rises = serving_rises e.boxes new.boxes served;
   once = once_refused e (sql text) LimitExceeded new.boxes;

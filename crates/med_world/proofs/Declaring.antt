@@ -150,7 +150,7 @@ run_leads e new sid text seat name q c places read at free b safe room few serve
     subst (λ (d : Cause). Leads e sid (sql text) (refused d) (with_boxes e new)) (sym is) (record {
       trouble = record { memory = false; asked = false; source = true; numbers = false };
       befell = record {
-        source = λ x. record { slot = h.slot; before = h.before; after = h.after; was = h.was; is = h.is; holds = h.shows };
+        source = λ x. h;
         numbers = λ x. absurd (false≢true x);
       };
       rises = serving_rises e.boxes new served;
@@ -166,7 +166,7 @@ run_leads e new sid text seat name q c places read at free b safe room few serve
       trouble = record { memory = false; asked = false; source = false; numbers = true };
       befell = record {
         source = λ x. absurd (false≢true x);
-        numbers = λ x. record { slot = h.slot; before = h.before; after = h.after; was = h.was; is = h.is; holds = h.shows };
+        numbers = λ x. h;
       };
       rises = serving_rises e.boxes new served;
       once = once_refused e (sql text) LimitExceeded new;

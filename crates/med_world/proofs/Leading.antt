@@ -342,7 +342,7 @@ unfolding failed_source
 failed_leads law e n sid text user d t place read sound allowed h rises kept = record {
   trouble = failed_source;
   befell = record {
-    source = λ q. record { slot = place; before = h.before; after = h.after; was = h.there; is = h.now; holds = has_failed h.before h.after h.change };
+    source = λ q. record { slot = place; before = h.before; after = h.after; was = h.there; is = h.now; shows = has_failed h.before h.after h.change };
     numbers = λ q. absurd (false≢true q);
   };
   rises = rises;

@@ -203,7 +203,7 @@ pub fails_leads : (e new : Shown) (sid : ℕ) (text : List ℕ) (user : Name) (q
 fails_leads e new sid text user q read b h rises kept = record {
   trouble = record { memory = false; asked = false; source = true; numbers = false };
   befell = record {
-    source = λ x. record { slot = h.slot; before = h.before; after = h.after; was = h.was; is = h.is; holds = h.shows };
+    source = λ x. h;
     numbers = λ x. absurd (false≢true x);
   };
   rises = rises;

@@ -49,7 +49,7 @@ source_leads : (e new : Shown) (sid : ℕ) (text : List ℕ) (user : Name) (t : 
 source_leads e new sid text user t read h none rises kept = record {
   trouble = record { memory = false; asked = false; source = true; numbers = false };
   befell = record {
-    source = λ x. record { slot = h.slot; before = h.before; after = h.after; was = h.was; is = h.is; holds = h.shows };
+    source = λ x. h;
     numbers = λ x. absurd (false≢true x);
   };
   rises = rises;
@@ -68,7 +68,7 @@ numbers_leads e new sid text user t read h none rises kept = record {
   trouble = record { memory = false; asked = false; source = false; numbers = true };
   befell = record {
     source = λ x. absurd (false≢true x);
-    numbers = λ x. record { slot = h.slot; before = h.before; after = h.after; was = h.was; is = h.is; holds = h.shows };
+    numbers = λ x. h;
   };
   rises = rises;
   once = once_refused e (sql text) LimitExceeded new.boxes;

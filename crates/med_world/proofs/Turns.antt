@@ -163,7 +163,7 @@ not_fetched e new sid text seat name asked o c read at sound here (box_fails is 
     subst (λ (d : Cause). Leads e sid (sql text) (refused d) (with_cursors e sid seat (without_named name seat.cursors) new)) (sym is) (record {
       trouble = record { memory = false; asked = false; source = true; numbers = false };
       befell = record {
-        source = λ x. record { slot = h.slot; before = h.before; after = h.after; was = h.was; is = h.is; holds = h.shows };
+        source = λ x. h;
         numbers = λ x. absurd (false≢true x);
       };
       rises = serving_rises e.boxes new (ended_served o.run e.boxes new ends);

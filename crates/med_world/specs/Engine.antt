@@ -10,7 +10,7 @@ use Rattle.fdw_api.specs.Calls.{Binds, Unbinds}
 use Rattle.fdw_api.specs.Sound.{IsSoundBox}
 use Rattle.pushdown.specs.Offered.{Place}
 use Rattle.med_exec.specs.Slots.{BoxAt, ChangesAt}
-use Rattle.med_exec.specs.Running.{HasFailed, IsUsedUp}
+use Rattle.med_exec.specs.Running.{SlotShows, HasFailed, IsUsedUp}
 use Rattle.bind_catalog.specs.Places.{Attached, ArePlaces}
 use Rattle.bind_catalog.specs.Queries.{meant_by}
 use Rattle.med_world.specs.Requests.{Asked, sql, IsSid, IsUser}
@@ -179,20 +179,11 @@ pub record Agrees (e : Shown) (w : World) : Type 0 where
 
 -- ---- from state to state
 
--- the box of a slot shows this before, and that after
-pub record BoxBecomes (old new : List (Option BoxState)) (P : BoxState → BoxState → Type 0) : Type 0 where
-  pub slot : ℕ
-  pub before : BoxState
-  pub after : BoxState
-  pub was : slice_get old slot ≡ Some (Some before)
-  pub is : slice_get new slot ≡ Some (Some after)
-  pub holds : P before after
-
 -- What trouble may be told of a request between these states: that a source failed or that numbers are used up only where a box shows
 -- it. Whether memory was refused, no box shows.
 pub record Befell (old new : List (Option BoxState)) (t : Trouble) : Type 0 where
-  pub source : t.source ≡ true → BoxBecomes old new HasFailed
-  pub numbers : t.numbers ≡ true → BoxBecomes old new IsUsedUp
+  pub source : t.source ≡ true → SlotShows old new HasFailed
+  pub numbers : t.numbers ≡ true → SlotShows old new IsUsedUp
 
 -- a box keeps its nature, and what it counts goes up alone, to 2^64 - 1
 pub record Rises (old new : BoxState) : Type 0 where
