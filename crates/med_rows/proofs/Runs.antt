@@ -31,6 +31,7 @@ use Rattle.bind_write.specs.Binding.{IsBindable, IsQueryOf, IsGiven as IsBoundGi
 use Rattle.med_select.proofs.Selections.{entries_counted}
 use Rattle.med_world.specs.Altering.{cause_of}
 use Rattle.med_world.specs.Causes.{query_of}
+use Rattle.open_cursors.specs.Counted.{ReadsTables}
 use Rattle.open_cursors.specs.Starting.{RunFails}
 use Rattle.med_world.specs.Selecting.{AnswersOver}
 use Rattle.med_world.specs.Writing.{GivesAnswer, FailsQuery, GivesRows, IsGiven, IsTargetAt, columns_for, form_for, DoesWrite, WritesRows, WriteFails, too_many, query_fails, box_refuses, rows_untyped}
@@ -126,13 +127,13 @@ none_asked o bound (delete d) boxes h = (refl, refl)
 few_entries : (o : Objects) (bound : List Attached) (t : WriteTree) (b : Bound) → (h : HasQuery o bound t b) → length b.entries.items ≤ 8 → length (meant_by o h.query).entries ≤ 8
 few_entries o bound t b h few = subst (λ (n : ℕ). n ≤ 8) (sym (entries_counted (meant_by o h.query) b h.meant)) few
 
-pub asked : (o : Objects) (bound : List Attached) (t : WriteTree) (b : Bound) (old now : List (Option BoxState)) (answer : List Tuple) → HasQuery o bound t b → length b.entries.items ≤ 8 → AllServed old now
+pub asked : (o : Objects) (bound : List Attached) (t : WriteTree) (b : Bound) (old now : List (Option BoxState)) (answer : List Tuple) → HasQuery o bound t b → length b.entries.items ≤ 8 → AllServed old now → ReadsTables (map entry_place b.entries.items) old now
     → ((m : Meant) → IsMeant m b → AnswersOver (query_of m) (map entry_place b.entries.items) old answer) → IsGiven o bound t old answer now
-asked o bound t b old now answer h few served over =
+asked o bound t b old now answer h few served once over =
     subst (λ (x : WriteTree). IsGiven o bound x old answer now) h.is (subst (λ (g : GivenTree). GivesRows o bound g old answer now) h.given gives)
   where
     gives : GivesAnswer o bound h.query old answer now
-    gives = record { few = few_entries o bound t b h few; served = served; places = map entry_place b.entries.items; are = h.places; answers = over (meant_by o h.query) h.meant }
+    gives = record { few = few_entries o bound t b h few; served = served; places = map entry_place b.entries.items; are = h.places; answers = over (meant_by o h.query) h.meant; reads = once }
 
 pub not_answered : (o : Objects) (user : Name) (bound : List Attached) (t : WriteTree) (w : TableWrite) (b : Bound) (old new : List (Option BoxState)) (c : Cause) (leased : Bool) → leased ≡ false → IsBindable o user t → IsMeantWrite o bound t w → HasQuery o bound t b → length b.entries.items ≤ 8 → AllServed old new
     → ((m : Meant) → IsMeant m b → RunFails (query_of m) (map entry_place b.entries.items) c old new) → WriteFails o user bound t leased old c new

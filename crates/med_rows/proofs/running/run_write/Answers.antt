@@ -126,7 +126,7 @@ returns-clause-ok g c =
     let can = can_answered o bound old now t c.in-Ok.write b answer c.requires.ready c.run_query.ensures.served c.in-Ok.ensures.meant h
     (λ places form. sym c.if-not-fits.false ∙ rw c.as_slice.ensures.value at c.fits.ensures places form) in
     ends_ok o c.args.user.now bound t c.in-Ok.write old now (states g.W.Wrapper.meaning c.write_rows-2.new.slots.items) answer c.write_rows-2.result c.args.is_leased c.if-is_leased.false c.in-Ok.ensures.bindable c.in-Ok.ensures.meant
-    (asked o bound t b old now answer h few c.run_query.ensures.served c.in-Ok-run_query.ensures.ok) can (rw c.as_slice-2.ensures.value at c.write_rows-2.ensures.ok)
+    (asked o bound t b old now answer h few c.run_query.ensures.served c.in-Ok-run_query.ensures.once c.in-Ok-run_query.ensures.ok) can (rw c.as_slice-2.ensures.value at c.write_rows-2.ensures.ok)
 
 pub returns-clause-err : goal.returns-clause-err
 returns-clause-err g c =
@@ -142,4 +142,4 @@ returns-clause-err g c =
     let few : length b.entries.items ≤ 8 = omega (arith, counted, least) in
     let h = query_there o bound t c.in-Ok.write.query b c.in-Some.is c.in-Ok.ensures.meant.query in
     ends_err o c.args.user.now bound t c.in-Ok.write old now (states g.W.Wrapper.meaning c.write_rows-2.new.slots.items) answer c.write_rows-2.result c.args.is_leased c.if-is_leased.false c.in-Ok.ensures.bindable c.in-Ok.ensures.meant
-    (asked o bound t b old now answer h few c.run_query.ensures.served c.in-Ok-run_query.ensures.ok) (rw c.as_slice-2.ensures.value at c.write_rows-2.ensures.err)
+    (asked o bound t b old now answer h few c.run_query.ensures.served c.in-Ok-run_query.ensures.once c.in-Ok-run_query.ensures.ok) (rw c.as_slice-2.ensures.value at c.write_rows-2.ensures.err)
