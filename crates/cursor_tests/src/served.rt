@@ -1,0 +1,74 @@
+//! An engine over the demo list in a box, and what it replies.
+ghost use Rattle.fed_cli.specs.Demo.{demo_list};
+ghost use Rattle.list_wrapper.specs.ListBoxes.{box_of};
+ghost use Rattle.list_wrapper.specs.Lists.{IsNewList};
+ghost use Rattle.med_session.specs.Engine.{IsSound};
+ghost use Rattle.med_session.specs.Shows.{shown};
+ghost use Rattle.probe_wrapper.specs.Failing.{failed};
+ghost use Rattle.std.specs.Prelude.{IfOk};
+
+use fdw_api::interface::Wrapper;
+use fed_cli::demo::demo_tables;
+use fed_cli::program::add_demo;
+use fed_cli::told::RunFault;
+use list_wrapper::ListWrapper;
+use med_session::{Engine, Request, Sid};
+use med_value::NoMemory;
+use probe_wrapper::Failing;
+use std::alloc::Global;
+use std::test::Fail;
+
+/// The demo list.
+pub fn new_list(alloc: Global) -> Result<ListWrapper, NoMemory>
+    ensures { IfOk result (λ w. IsNewList (box_of w) demo_list) }
+{
+    ListWrapper::new(alloc, demo_tables(alloc)?)
+}
+
+/// A box round another, that fails once, after so many calls.
+pub fn in_failing<W: Wrapper>(inner: W, passes: u64) -> Failing<W>
+    requires { IsNewList (W.meaning inner) demo_list }
+    ensures { IsNewList (failed (W.meaning result.inner) result.failure) demo_list }
+{
+    Failing::new(inner, passes)
+}
+
+// The lines of a reply in one line, each ended by a semicolon.
+fn join_lines(out: &mut [u8]) {
+    for byte in out {
+        if *byte == b'\n' {
+            *byte = b';';
+        }
+    }
+}
+
+/// Asks in a session: the reply alone stands in `out` then, in one line.
+pub fn ask<W: Wrapper>(
+    engine: &mut Engine<W>,
+    session: u8,
+    request: Request<'_>,
+    out: &mut Vec<u8>,
+) -> Result<(), Fail>
+    requires { IsSound (shown W.meaning engine.old) }
+    ensures { IsSound (shown W.meaning engine.new) }
+{
+    let Some(sid) = Sid::new(session) else {
+        return Err("no session's number".into());
+    };
+    out.clear();
+    engine.request(sid, request, out)?;
+    join_lines(out);
+    Ok(())
+}
+
+/// An engine over the demo list in this box.
+pub fn engine_over<W: Wrapper>(alloc: Global, list: W) -> Result<Engine<W>, RunFault<'static>>
+    requires { IsNewList (W.meaning list) demo_list }
+    ensures { IfOk result (λ engine. IsSound (shown W.meaning engine)) }
+{
+    let Ok(mut engine) = Engine::<W>::new(alloc, "admin") else {
+        return Err(RunFault::NoMemory);
+    };
+    add_demo(alloc, &mut engine, "admin", "demo", list)?;
+    Ok(engine)
+}
