@@ -4,7 +4,7 @@ use Rattle.std.specs.List.{list_any, list_all}
 use Rattle.med_value.specs.declared.cause.Cause.{Cause}
 use Rattle.med_value.specs.declared.cause.Cause.TheVariants.{UndefinedTable, UndefinedColumn, AmbiguousColumn, DuplicateAlias, InvalidColumnReference, MisplacedName}
 use Rattle.med_syntax.specs.Tree.{Name}
-use Rattle.med_syntax.specs.ExprTree.{ExprTree, ExprTrees, column, call, paren, minus, binary, between, among, like, compare, tested, negation, chain, none, more}
+use Rattle.med_syntax.specs.ExprTree.{ExprTree, ExprTrees, num, negative, text, truth, null, column, call_all, call, paren, minus, binary, between, among, like, compare, tested, negation, chain, none, more}
 use Rattle.med_syntax.specs.QueryTree.{ItemTree, all, all_of, value, EntryTree, JoinTree, inner_join, left_join, cross_join, ChainTree, GroupTree, KeyTree, SelectTree, StatementTree, select}
 use Rattle.tri_expr.specs.Tree.{Tree}
 use Rattle.tri_expr.specs.TreeParts.{same_tree}
@@ -24,7 +24,13 @@ column_causes scope q n = if has_entry scope q then counted_causes (candidates s
 -- of an expression: those of each column in it
 abbrev mutual
   pub name_causes : Scope → ExprTree → List Cause
+  name_causes s (num n) = []
+  name_causes s (negative n) = []
+  name_causes s (text x) = []
+  name_causes s (truth b) = []
+  name_causes s null = []
   name_causes s (column q n) = column_causes s q n
+  name_causes s (call_all f) = []
   name_causes s (call f es) = name_causes_of_all s es
   name_causes s (paren e) = name_causes s e
   name_causes s (minus e) = name_causes s e
@@ -36,7 +42,6 @@ abbrev mutual
   name_causes s (tested neg e t) = name_causes s e
   name_causes s (negation e) = name_causes s e
   name_causes s (chain joint first others) = name_causes s first ++ name_causes_of_all s others
-  name_causes s _ = []
 
   pub name_causes_of_all : Scope → ExprTrees → List Cause
   name_causes_of_all s none = []

@@ -128,6 +128,12 @@ as_pattern x = if ends_in_escape x then InvalidEscape ∷ [] else []
 
 abbrev mutual
   pub type_causes : Scope → ExprTree → List Cause
+  type_causes s (num n) = []
+  type_causes s (negative n) = []
+  type_causes s (text x) = []
+  type_causes s (truth b) = []
+  type_causes s null = []
+  type_causes s (column q n) = []
   type_causes s (call_all f) = as_call_all (function_named f)
   type_causes s (call f es) = type_causes_of_all s es ++ as_call (function_named f) (types_of s es)
   type_causes s (paren e) = type_causes s e
@@ -140,7 +146,6 @@ abbrev mutual
   type_causes s (tested neg e t) = type_causes s e ++ as_tested t (type_of s e)
   type_causes s (negation e) = type_causes s e ++ as_condition (type_of s e)
   type_causes s (chain joint first others) = (type_causes s first ++ as_condition (type_of s first)) ++ condition_causes s others
-  type_causes s _ = []
 
   pub type_causes_of_all : Scope → ExprTrees → List Cause
   type_causes_of_all s none = []
