@@ -19,7 +19,7 @@ use Rattle.med_query.specs.Select.{chains_of, groups_of, query_of}
 use Rattle.query_answer.specs.Staging.{output_of, staged_query, Stages}
 use Rattle.query_answer.specs.Ordering.{staged_cmp}
 use Rattle.query_answer.specs.Finishing.{Finishes, made_unique}
-use Rattle.query_answer.proofs.GroupRuns.{sorted_map}
+use Rattle.query_answer.proofs.Groups.{sorted_map}
 
 shown_of : (xs : List Staged) → map (λ (o : Output). o.1) (map output_of xs) ≡ map (λ (s : Staged). tuple s.shown) xs
 shown_of [] = refl

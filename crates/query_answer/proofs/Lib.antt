@@ -1,7 +1,7 @@
-pub mod Runs
+pub mod KeyNumbers
 pub mod Slices
 pub mod Refused
-pub mod GroupRuns
+pub mod Groups
 pub mod Pages
 pub mod KeyOrder
 pub mod SafeJoins

@@ -3,5 +3,7 @@ pub mod Joined
 pub mod Staging
 pub mod Ordering
 pub mod Grouping
+pub mod Keys
 pub mod Finishing
 pub mod Answering
+pub mod Equal

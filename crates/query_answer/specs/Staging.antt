@@ -7,7 +7,8 @@ use Rattle.tri_expr.specs.declared.expr.Fault.{Fault}
 use Rattle.tri_expr.specs.Outcome.{over, value_of}
 use Rattle.tri_expr.specs.Meaning.{OnClass}
 use Rattle.tri_expr.specs.Verdict.{is_in, faults_told, fault_list}
-use Rattle.med_query.specs.Query.{Output, Query, Chain, Tables, Grouping as Groups, faults, outputs_all, keeps, on_row}
+use Rattle.tri_expr.specs.declared.expr.Expr.{Expr}
+use Rattle.med_query.specs.Query.{Output, Query, Chain, Tables, Grouping as Groups, faults, outputs_all, keeps, on_row, senses}
 
 abbrev pub output_of : Staged → Output
 output_of s = (tuple s.keys, tuple s.shown)
@@ -33,7 +34,8 @@ class_staged conditions keys items class = if is_in (over conditions class) then
 
 -- the faults of the conditions, and where they keep the class those of its order keys and items
 abbrev pub class_told : List OnClass → List OnClass → List OnClass → List Tuple → List Fault
-class_told conditions keys items class = faults_told (over conditions class) ++ (if is_in (over conditions class) then output_told keys items class else [])
+class_told conditions keys items class =
+    faults_told (over conditions class) ++ (if is_in (over conditions class) then output_told keys items class else [])
 
 -- the same of the class of one row
 abbrev pub row_staged : List OnClass → List OnClass → List OnClass → Tuple → List Output
@@ -58,6 +60,11 @@ staged_query from conditions group keys items = record {
   offset = 0;
   limit = None;
 }
+
+-- the same of a query that groups, as its expressions are written
+abbrev pub grouped_query : List Chain → List Expr → (columns : List ℕ) (arguments having keys items : List Expr) → Query
+grouped_query from conditions columns arguments having keys items =
+    staged_query from (senses [] conditions) (groups_by columns (senses [] arguments) (senses [] having)) (senses [] keys) (senses [] items)
 
 -- the outputs of a query in some order, where no fault may be told
 pub record Stages (q : Query) (db : Tables) (outs : List Output) : Type 0 where

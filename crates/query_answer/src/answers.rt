@@ -43,7 +43,8 @@ fn finished(
     offset: usize,
     limit: Option<usize>,
 ) -> Result<Vec<Row>, NoMemory>
-    ensures { IfOk result (λ out. Finishes distinct (map direction_of directions.now) offset limit (map output_of staged.items) (map tuple out.items)) }
+    ensures { IfOk result (λ out. Finishes distinct (map direction_of directions.now) offset limit
+        (map output_of staged.items) (map tuple out.items)) }
 {
     let mut unique = unique_outputs(alloc, staged, distinct)?;
     sort_staged(directions, &mut unique)?;

@@ -49,7 +49,8 @@ fn push_copy(
     row: &Row,
     out: &mut Vec<Row>,
 ) -> Result<(), EvalFault>
-    ensures kept { IfOk result (λ _. map tuple out.new.items ≡ map tuple out.old.items ++ row_kept (senses [] conditions.now) (tuple row.now)) }
+    ensures kept { IfOk result (λ _. map tuple out.new.items
+        ≡ map tuple out.old.items ++ row_kept (senses [] conditions.now) (tuple row.now)) }
     ensures no_fault { IfOk result (λ _. where_told (senses [] conditions.now) (tuple row.now) ≡ []) }
     ensures told { Tells result (where_told (senses [] conditions.now) (tuple row.now)) }
 {

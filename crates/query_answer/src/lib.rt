@@ -8,6 +8,7 @@ mod joins;
 mod ordering;
 pub mod outputs;
 mod refusals;
+mod row_keys;
 mod staging;
 mod values;
 

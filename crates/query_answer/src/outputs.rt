@@ -1,10 +1,11 @@
 //! The outputs of a query over its joined rows.
-ghost use Rattle.std.specs.Prelude.{◌≡◌, ◌^◌, [], IfOk, map, List, None, Some};
+ghost use Rattle.std.specs.Prelude.{◌≡◌, ◌^◌, [], IfOk, map, flat_map, List, None, Some};
 ghost use Rattle.med_value.specs.Datum.{tuple};
 ghost use Rattle.med_query.specs.Query.{Chain, Tables, Tells, senses, joined_chains, faults};
 ghost use Rattle.med_query.specs.Select.{groups_of};
 ghost use Rattle.query_answer.specs.Joined.{tuples_of};
-ghost use Rattle.query_answer.specs.Staging.{output_of, Stages, staged_query, groups_by};
+ghost use Rattle.query_answer.specs.Staging.{output_of, tuples_in, Stages, staged_query, grouped_query, arguments_told};
+ghost use Rattle.query_answer.specs.Grouping.{AreGroups};
 ghost use Rattle.query_answer.specs.Answering.{IsSmall, Shows};
 
 use crate::filtering::{check_arguments, kept_rows};
@@ -40,10 +41,34 @@ fn row_outputs(
     items: &[Expr],
     rows: &[Row],
 ) -> Result<Vec<Staged>, EvalFault>
-    ensures stages { IfOk result (λ out. (from : List Chain) (db : Tables) → joined_chains db from ≡ map tuple rows.now → Stages (staged_query from (senses [] conditions.now) None (senses [] keys.now) (senses [] items.now)) db (map output_of out.items)) }
-    ensures told { (from : List Chain) (db : Tables) → joined_chains db from ≡ map tuple rows.now → Tells result (faults (staged_query from (senses [] conditions.now) None (senses [] keys.now) (senses [] items.now)) db) }
+    ensures stages { IfOk result (λ out. (from : List Chain) (db : Tables) → joined_chains db from ≡ map tuple rows.now
+        → Stages (staged_query from (senses [] conditions.now) None (senses [] keys.now) (senses [] items.now)) db
+        (map output_of out.items)) }
+    ensures told { (from : List Chain) (db : Tables) → joined_chains db from ≡ map tuple rows.now
+        → Tells result (faults (staged_query from (senses [] conditions.now) None (senses [] keys.now) (senses [] items.now)) db) }
 {
     staged_rows(alloc, conditions, keys, items, rows)
+}
+
+// The groups of rows on none of which an argument of an aggregate has a fault.
+fn checked_groups(
+    alloc: Global,
+    arguments: &[Expr],
+    columns: &[usize],
+    kept: Vec<Row>,
+) -> Result<Vec<Vec<Row>>, EvalFault>
+    ensures groups { IfOk result (λ out. AreGroups columns.now (map tuple kept.items) (map tuples_in out.items)) }
+    ensures no_fault { IfOk result (λ _. flat_map (arguments_told (senses [] arguments.now)) (map tuple kept.items) ≡ []) }
+    ensures told { Tells result (flat_map (arguments_told (senses [] arguments.now)) (map tuple kept.items)) }
+{
+    match check_arguments(alloc, arguments, kept.as_slice()) {
+        Ok(()) => {}
+        Err(fault) => return Err(fault),
+    }
+    match groups(alloc, columns, kept) {
+        Ok(classes) => Ok(classes),
+        Err(_) => Err(EvalFault::NoMemory),
+    }
 }
 
 // The outputs of a query that groups by these columns.
@@ -57,9 +82,12 @@ fn group_outputs(
     items: &[Expr],
     rows: Joined<'_>,
 ) -> Result<Vec<Staged>, AnswerFault>
-    ensures stages { IfOk result (λ out. (from : List Chain) (db : Tables) → joined_chains db from ≡ tuples_of rows.entry → Stages (staged_query from (senses [] conditions.now) (groups_by columns.now (senses [] arguments.now) (senses [] having.now)) (senses [] keys.now) (senses [] items.now)) db (map output_of out.items)) }
-    ensures small { IfOk result (λ _. (from : List Chain) (db : Tables) → joined_chains db from ≡ tuples_of rows.entry → IsSmall (staged_query from (senses [] conditions.now) (groups_by columns.now (senses [] arguments.now) (senses [] having.now)) (senses [] keys.now) (senses [] items.now)) db) }
-    ensures told { (from : List Chain) (db : Tables) → joined_chains db from ≡ tuples_of rows.entry → Shows result (staged_query from (senses [] conditions.now) (groups_by columns.now (senses [] arguments.now) (senses [] having.now)) (senses [] keys.now) (senses [] items.now)) db }
+    ensures stages { IfOk result (λ out. (from : List Chain) (db : Tables) → joined_chains db from ≡ tuples_of rows.entry
+        → Stages (grouped_query from conditions.now columns.now arguments.now having.now keys.now items.now) db (map output_of out.items)) }
+    ensures small { IfOk result (λ _. (from : List Chain) (db : Tables) → joined_chains db from ≡ tuples_of rows.entry
+        → IsSmall (grouped_query from conditions.now columns.now arguments.now having.now keys.now items.now) db) }
+    ensures told { (from : List Chain) (db : Tables) → joined_chains db from ≡ tuples_of rows.entry
+        → Shows result (grouped_query from conditions.now columns.now arguments.now having.now keys.now items.now) db }
 {
     answers_ignore_order();
     expressions_ignore_order();
@@ -70,13 +98,9 @@ fn group_outputs(
     if kept.len() > MOST_GROUPED {
         return Err(AnswerFault::TooManyRows);
     }
-    match check_arguments(alloc, arguments, kept.as_slice()) {
-        Ok(()) => {}
-        Err(bad) => return Err(AnswerFault::Evaluation(bad)),
-    }
-    let classes = match groups(alloc, columns, kept) {
+    let classes = match checked_groups(alloc, arguments, columns, kept) {
         Ok(classes) => classes,
-        Err(_) => return Err(AnswerFault::Evaluation(EvalFault::NoMemory)),
+        Err(bad) => return Err(AnswerFault::Evaluation(bad)),
     };
     match staged_classes(alloc, having, keys, items, classes) {
         Ok(out) => Ok(out),
@@ -93,9 +117,15 @@ pub(crate) fn query_outputs(
     items: &[Expr],
     rows: Joined<'_>,
 ) -> Result<Vec<Staged>, AnswerFault>
-    ensures stages { IfOk result (λ out. (from : List Chain) (db : Tables) → joined_chains db from ≡ tuples_of rows.entry → Stages (staged_query from (senses [] conditions.now) (groups_of grouping.now) (senses [] keys.now) (senses [] items.now)) db (map output_of out.items)) }
-    ensures small { IfOk result (λ _. (from : List Chain) (db : Tables) → joined_chains db from ≡ tuples_of rows.entry → IsSmall (staged_query from (senses [] conditions.now) (groups_of grouping.now) (senses [] keys.now) (senses [] items.now)) db) }
-    ensures told { (from : List Chain) (db : Tables) → joined_chains db from ≡ tuples_of rows.entry → Shows result (staged_query from (senses [] conditions.now) (groups_of grouping.now) (senses [] keys.now) (senses [] items.now)) db }
+    ensures stages { IfOk result (λ out. (from : List Chain) (db : Tables) → joined_chains db from ≡ tuples_of rows.entry
+        → Stages (staged_query from (senses [] conditions.now) (groups_of grouping.now)
+        (senses [] keys.now) (senses [] items.now)) db (map output_of out.items)) }
+    ensures small { IfOk result (λ _. (from : List Chain) (db : Tables) → joined_chains db from ≡ tuples_of rows.entry
+        → IsSmall (staged_query from (senses [] conditions.now) (groups_of grouping.now)
+        (senses [] keys.now) (senses [] items.now)) db) }
+    ensures told { (from : List Chain) (db : Tables) → joined_chains db from ≡ tuples_of rows.entry
+        → Shows result (staged_query from (senses [] conditions.now) (groups_of grouping.now)
+        (senses [] keys.now) (senses [] items.now)) db }
 {
     match grouping {
         None => match row_outputs(alloc, conditions, keys, items, rows.as_slice()) {

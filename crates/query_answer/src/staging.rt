@@ -2,7 +2,8 @@
 ghost use Rattle.std.specs.Prelude.{◌≡◌, ◌∷◌, ◌++◌, [], IfOk, map, flat_map};
 ghost use Rattle.med_value.specs.Datum.{tuple};
 ghost use Rattle.med_query.specs.Query.{Tells, senses};
-ghost use Rattle.query_answer.specs.Staging.{output_of, outputs_in, tuples_in, class_output, output_told, class_staged, class_told, row_staged, row_told_all};
+ghost use Rattle.query_answer.specs.Staging.{output_of, outputs_in, tuples_in, class_output, output_told};
+ghost use Rattle.query_answer.specs.Staging.{class_staged, class_told, row_staged, row_told_all};
 
 use crate::values::values_over;
 use med_value::Row;
@@ -46,8 +47,10 @@ fn staged_class(
     items: &[Expr],
     class: &[Row],
 ) -> Result<Option<Staged>, EvalFault>
-    ensures outputs { IfOk result (λ s. outputs_in s ≡ class_staged (senses [] conditions.now) (senses [] keys.now) (senses [] items.now) (map tuple class.now)) }
-    ensures no_fault { IfOk result (λ _. class_told (senses [] conditions.now) (senses [] keys.now) (senses [] items.now) (map tuple class.now) ≡ []) }
+    ensures outputs { IfOk result (λ s. outputs_in s
+        ≡ class_staged (senses [] conditions.now) (senses [] keys.now) (senses [] items.now) (map tuple class.now)) }
+    ensures no_fault { IfOk result (λ _. class_told (senses [] conditions.now) (senses [] keys.now) (senses [] items.now)
+        (map tuple class.now) ≡ []) }
     ensures told { Tells result (class_told (senses [] conditions.now) (senses [] keys.now) (senses [] items.now) (map tuple class.now)) }
 {
     match verdict_class(conditions, class, &[]) {
@@ -68,8 +71,10 @@ fn staged_row(
     items: &[Expr],
     row: &Row,
 ) -> Result<Option<Staged>, EvalFault>
-    ensures outputs { IfOk result (λ s. outputs_in s ≡ row_staged (senses [] conditions.now) (senses [] keys.now) (senses [] items.now) (tuple row.now)) }
-    ensures no_fault { IfOk result (λ _. row_told_all (senses [] conditions.now) (senses [] keys.now) (senses [] items.now) (tuple row.now) ≡ []) }
+    ensures outputs { IfOk result (λ s. outputs_in s
+        ≡ row_staged (senses [] conditions.now) (senses [] keys.now) (senses [] items.now) (tuple row.now)) }
+    ensures no_fault { IfOk result (λ _. row_told_all (senses [] conditions.now) (senses [] keys.now) (senses [] items.now)
+        (tuple row.now) ≡ []) }
     ensures told { Tells result (row_told_all (senses [] conditions.now) (senses [] keys.now) (senses [] items.now) (tuple row.now)) }
 {
     staged_class(alloc, conditions, keys, items, slice::from_ref(row))
@@ -82,8 +87,10 @@ fn staged_group(
     items: &[Expr],
     group: &Vec<Row>,
 ) -> Result<Option<Staged>, EvalFault>
-    ensures outputs { IfOk result (λ s. outputs_in s ≡ class_staged (senses [] having.now) (senses [] keys.now) (senses [] items.now) (tuples_in group.now)) }
-    ensures no_fault { IfOk result (λ _. class_told (senses [] having.now) (senses [] keys.now) (senses [] items.now) (tuples_in group.now) ≡ []) }
+    ensures outputs { IfOk result (λ s. outputs_in s
+        ≡ class_staged (senses [] having.now) (senses [] keys.now) (senses [] items.now) (tuples_in group.now)) }
+    ensures no_fault { IfOk result (λ _. class_told (senses [] having.now) (senses [] keys.now) (senses [] items.now)
+        (tuples_in group.now) ≡ []) }
     ensures told { Tells result (class_told (senses [] having.now) (senses [] keys.now) (senses [] items.now) (tuples_in group.now)) }
 {
     staged_class(alloc, having, keys, items, group.as_slice())
@@ -110,9 +117,12 @@ pub(crate) fn staged_rows(
     items: &[Expr],
     rows: &[Row],
 ) -> Result<Vec<Staged>, EvalFault>
-    ensures outputs { IfOk result (λ out. map output_of out.items ≡ flat_map (row_staged (senses [] conditions.now) (senses [] keys.now) (senses [] items.now)) (map tuple rows.now)) }
-    ensures no_fault { IfOk result (λ _. flat_map (row_told_all (senses [] conditions.now) (senses [] keys.now) (senses [] items.now)) (map tuple rows.now) ≡ []) }
-    ensures told { Tells result (flat_map (row_told_all (senses [] conditions.now) (senses [] keys.now) (senses [] items.now)) (map tuple rows.now)) }
+    ensures outputs { IfOk result (λ out. map output_of out.items
+        ≡ flat_map (row_staged (senses [] conditions.now) (senses [] keys.now) (senses [] items.now)) (map tuple rows.now)) }
+    ensures no_fault { IfOk result (λ _. flat_map (row_told_all (senses [] conditions.now) (senses [] keys.now) (senses [] items.now))
+        (map tuple rows.now) ≡ []) }
+    ensures told { Tells result (flat_map (row_told_all (senses [] conditions.now) (senses [] keys.now) (senses [] items.now))
+        (map tuple rows.now)) }
 {
     let mut out = Vec::new(alloc);
     for row in rows {
@@ -132,9 +142,12 @@ pub(crate) fn staged_classes(
     items: &[Expr],
     classes: Vec<Vec<Row>>,
 ) -> Result<Vec<Staged>, EvalFault>
-    ensures outputs { IfOk result (λ out. map output_of out.items ≡ flat_map (class_staged (senses [] having.now) (senses [] keys.now) (senses [] items.now)) (map tuples_in classes.items)) }
-    ensures no_fault { IfOk result (λ _. flat_map (class_told (senses [] having.now) (senses [] keys.now) (senses [] items.now)) (map tuples_in classes.items) ≡ []) }
-    ensures told { Tells result (flat_map (class_told (senses [] having.now) (senses [] keys.now) (senses [] items.now)) (map tuples_in classes.items)) }
+    ensures outputs { IfOk result (λ out. map output_of out.items
+        ≡ flat_map (class_staged (senses [] having.now) (senses [] keys.now) (senses [] items.now)) (map tuples_in classes.items)) }
+    ensures no_fault { IfOk result (λ _. flat_map (class_told (senses [] having.now) (senses [] keys.now) (senses [] items.now))
+        (map tuples_in classes.items) ≡ []) }
+    ensures told { Tells result (flat_map (class_told (senses [] having.now) (senses [] keys.now) (senses [] items.now))
+        (map tuples_in classes.items)) }
 {
     let mut out = Vec::new(alloc);
     for class in classes {
