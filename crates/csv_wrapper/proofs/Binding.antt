@@ -20,7 +20,7 @@ use Rattle.fdw_api.specs.declared.interface.Fault.TheVariants.{NoMemory, Source,
 use Rattle.blob_store.specs.Names.{is_blob_name}
 use Rattle.blob_store.specs.Shelves.{Shelf}
 use Rattle.csv_wrapper.specs.declared.table.CsvTable.{CsvTable}
-use Rattle.csv_wrapper.specs.declared.table.CsvScan.{CsvScan}
+use Rattle.blob_tables.specs.declared.scans.PlaceScan.{PlaceScan}
 use Rattle.staged_changes.specs.declared.changes.StagedWrite.{StagedWrite}
 use Rattle.csv_wrapper.specs.Cells.{line_of}
 use Rattle.csv_wrapper.specs.CsvRecords.{Record, csv_records, body, heading}
@@ -28,17 +28,19 @@ use Rattle.csv_wrapper.specs.CsvKind.{Shape, shape_of, read_row, unless, content
 use Rattle.csv_wrapper.specs.Content.{IsContent, TellsCause}
 use Rattle.csv_wrapper.specs.Flat.{header_in}
 use Rattle.csv_wrapper.specs.Tables.{bound_of, numbered, records_of, records_at, shape_is, shape_at, slot}
-use Rattle.csv_wrapper.specs.Scans.{mapped, scan_is, scan_rows}
+use Rattle.csv_wrapper.specs.Scans.{scan_is, scan_rows}
+use Rattle.blob_tables.specs.Mapped.{mapped}
 use Rattle.fdw_api.specs.State.{Staging}
 use Rattle.fdw_api.specs.Writes.{row_of_change_fits}
 use Rattle.blob_store.specs.Shelves.{Fails}
 use Rattle.blob_store.specs.declared.blobs.BlobFault.{BlobFault}
 use Rattle.blob_store.specs.declared.blobs.BlobFault.TheVariants as faults
 use Rattle.staged_changes.specs.Staged.{write_is}
-use Rattle.csv_wrapper.specs.CsvBoxes.{csv_state, csv_ledger, held_under, FailsBlob, IsNewCsv, fault_is, write_fits}
+use Rattle.csv_wrapper.specs.CsvBoxes.{csv_state, csv_ledger, FailsBlob, IsNewCsv, write_fits}
+use Rattle.blob_tables.specs.Holdings.{held_under, fault_is}
 use Rattle.csv_wrapper.specs.Bindings.{RefusesTable}
-use Rattle.csv_wrapper.proofs.Maps.{mapped_get, mapped_same}
-use Rattle.csv_wrapper.proofs.Scanning.{some_inj}
+use Rattle.blob_tables.proofs.Maps.{mapped_get, mapped_same}
+use Rattle.blob_tables.proofs.Tickets.{some_inj}
 
 pub set_there : (ts : List (Option CsvTable)) (t : ℕ) (o : Option CsvTable) → t < length ts → slot (slice_set ts t o) t ≡ o
 set_there [] t o lt = absurd (omega arith)
@@ -65,14 +67,14 @@ tables_set old new t o there others q = split (eqb_tells q t)
     split (inl w) = rw (w.0, w.1, there) refl
     split (inr w) = rw (w.0, others q w.1) refl
 
-abbrev pub Misses : ℕ → BTreeMap ℕ CsvScan → Type 0
-Misses t m = (q : ℕ) (s : CsvScan) → tree.get nat_cmp m q ≡ Some s → s.table ≢ t
+abbrev pub Misses : ℕ → BTreeMap ℕ PlaceScan → Type 0
+Misses t m = (q : ℕ) (s : PlaceScan) → tree.get nat_cmp m q ≡ Some s → s.table ≢ t
 
 -- live scans of other tables stay as they are
-pub scans_same : (old new : List (Option CsvTable)) (t : ℕ) (m : BTreeMap ℕ CsvScan) → ((q : ℕ) → q ≢ t → slot new q ≡ slot old q) → Misses t m → mapped (scan_is new) m.entries ≡ mapped (scan_is old) m.entries
+pub scans_same : (old new : List (Option CsvTable)) (t : ℕ) (m : BTreeMap ℕ PlaceScan) → ((q : ℕ) → q ≢ t → slot new q ≡ slot old q) → Misses t m → mapped (scan_is new) m.entries ≡ mapped (scan_is old) m.entries
 scans_same old new t m others misses = mapped_same (scan_is new) (scan_is old) m (λ q s e. ap (λ (o : Option CsvTable). record (scan_is old s) { kinds = (shape_at o).kinds }) (others s.table (misses q s e)))
 
-pub rows_same : (old new : List (Option CsvTable)) (t : ℕ) (o : Option CsvScan) → ((q : ℕ) → q ≢ t → slot new q ≡ slot old q) → ((s : CsvScan) → o ≡ Some s → s.table ≢ t) → scan_rows new o ≡ scan_rows old o
+pub rows_same : (old new : List (Option CsvTable)) (t : ℕ) (o : Option PlaceScan) → ((q : ℕ) → q ≢ t → slot new q ≡ slot old q) → ((s : PlaceScan) → o ≡ Some s → s.table ≢ t) → scan_rows new o ≡ scan_rows old o
 rows_same old new t None others misses = refl
 rows_same old new t (Some s) others misses = rw (others s.table (misses s refl)) refl
 
@@ -89,13 +91,13 @@ unfolding IsDistinct
 numbered_once shape n [] = tt
 numbered_once shape n (r ∷ rs) = (below shape n (n + 1) rs (omega arith), numbered_once shape (n + 1) rs)
 
-abbrev pub Served : List (Option CsvTable) → BTreeMap ℕ CsvScan → Type 0
-Served tables m = (k : ℕ) (s : CsvScan) → tree.get nat_cmp m k ≡ Some s → is_some (slot tables s.table) ≡ true
+abbrev pub Served : List (Option CsvTable) → BTreeMap ℕ PlaceScan → Type 0
+Served tables m = (k : ℕ) (s : PlaceScan) → tree.get nat_cmp m k ≡ Some s → is_some (slot tables s.table) ≡ true
 
-not_there : (old : List (Option CsvTable)) (t : ℕ) (m : BTreeMap ℕ CsvScan) → slot old t ≡ None → Served old m → Misses t m
+not_there : (old : List (Option CsvTable)) (t : ℕ) (m : BTreeMap ℕ PlaceScan) → slot old t ≡ None → Served old m → Misses t m
 not_there old t m none served q s e same = absurd (let w = served q s e in let z : slot old s.table ≡ None = rw same none in let v = rw z at w in cc)
 
-pub csv_binds : (h h2 : Shelf) (old new : List (Option CsvTable)) (m : BTreeMap ℕ CsvScan) (staged : Option StagedWrite) (next pulled t : ℕ) (remote : List ℕ) (columns : List Column) (settings : List Setting) (x : CsvTable) (bytes : List ℕ)
+pub csv_binds : (h h2 : Shelf) (old new : List (Option CsvTable)) (m : BTreeMap ℕ PlaceScan) (staged : Option StagedWrite) (next pulled t : ℕ) (remote : List ℕ) (columns : List Column) (settings : List Setting) (x : CsvTable) (bytes : List ℕ)
     → h2 ≡ h → slot old t ≡ None → slot new t ≡ Some x → ((q : ℕ) → q ≢ t → slot new q ≡ slot old q) → Served old m
     → string_bytes x.remote ≡ remote → shape_is x.layout ≡ shape_of columns settings → Picks (held_under h remote) (Some (Bytes bytes)) → IsContent (shape_is x.layout) bytes (header_in x.header) (records_of x.rows)
     → Binds (csv_state h old m staged next pulled) remote columns settings t (csv_state h2 new m staged next pulled)
@@ -184,7 +186,7 @@ run_is_late : (o : Option ℕ) → o ≡ Some 6 → is_late o ≡ true
 run_is_late o e = ap is_late e
 
 -- a call that is refused leaves all but the count of faults
-refuses : (fault : Fault) (h h2 : Shelf) (tables : List (Option CsvTable)) (m : BTreeMap ℕ CsvScan) (staged : Option StagedWrite) (next pulled : ℕ) → h2 ≡ record h { failures = faults_after fault h.failures } → Refuses fault (csv_state h tables m staged next pulled) (csv_state h2 tables m staged next pulled)
+refuses : (fault : Fault) (h h2 : Shelf) (tables : List (Option CsvTable)) (m : BTreeMap ℕ PlaceScan) (staged : Option StagedWrite) (next pulled : ℕ) → h2 ≡ record h { failures = faults_after fault h.failures } → Refuses fault (csv_state h tables m staged next pulled) (csv_state h2 tables m staged next pulled)
 refuses fault h h2 tables m staged next pulled eh = record {
   nature = refl;
   next = next;
@@ -209,7 +211,7 @@ reading_least shape (Some (Stored kinds rows)) c is = at (Contains-push_cases []
     at (inr same) = subst (λ (d : Cause). (is_late (phase_of d) ≡ true) × IsLeast (TableNotFound ∷ []) d) same (refl, only_cause TableNotFound 5 refl)
 reading_least shape (Some (Bytes bytes)) c is = (ap is_late (content_run shape bytes c is), content_least shape bytes c is)
 
-pub csv_refuses : (fault : Fault) (h h2 : Shelf) (tables : List (Option CsvTable)) (m : BTreeMap ℕ CsvScan) (staged : Option StagedWrite) (next pulled : ℕ) (remote : List ℕ) (columns : List Column) (settings : List Setting) → RefusesTable h remote columns settings fault h2 → RefusesBind (csv_state h tables m staged next pulled) remote columns settings fault (csv_state h2 tables m staged next pulled)
+pub csv_refuses : (fault : Fault) (h h2 : Shelf) (tables : List (Option CsvTable)) (m : BTreeMap ℕ PlaceScan) (staged : Option StagedWrite) (next pulled : ℕ) (remote : List ℕ) (columns : List Column) (settings : List Setting) → RefusesTable h remote columns settings fault h2 → RefusesBind (csv_state h tables m staged next pulled) remote columns settings fault (csv_state h2 tables m staged next pulled)
 csv_refuses NoMemory h h2 tables m staged next pulled remote columns settings r = record { refuses = refuses NoMemory h h2 tables m staged next pulled r.keeps; cause = tt }
 csv_refuses Source h h2 tables m staged next pulled remote columns settings r = record { refuses = refuses Source h h2 tables m staged next pulled r.keeps; cause = tt }
 csv_refuses (Refused c) h h2 tables m staged next pulled remote columns settings r =
@@ -217,7 +219,7 @@ csv_refuses (Refused c) h h2 tables m staged next pulled remote columns settings
     let least = reading_least (shape_of columns settings) w.0 c w.2 in
     record { refuses = refuses (Refused c) h h2 tables m staged next pulled r.keeps; cause = (least.0, λ honest. (w.0, w.1, least.1)) }
 
-pub csv_starves : (h h2 : Shelf) (tables : List (Option CsvTable)) (m : BTreeMap ℕ CsvScan) (staged : Option StagedWrite) (next pulled : ℕ) (remote : List ℕ) (columns : List Column) (settings : List Setting) → h2 ≡ h → RefusesBind (csv_state h tables m staged next pulled) remote columns settings NoMemory (csv_state h2 tables m staged next pulled)
+pub csv_starves : (h h2 : Shelf) (tables : List (Option CsvTable)) (m : BTreeMap ℕ PlaceScan) (staged : Option StagedWrite) (next pulled : ℕ) (remote : List ℕ) (columns : List Column) (settings : List Setting) → h2 ≡ h → RefusesBind (csv_state h tables m staged next pulled) remote columns settings NoMemory (csv_state h2 tables m staged next pulled)
 csv_starves h h2 tables m staged next pulled remote columns settings e = record { refuses = refuses NoMemory h h2 tables m staged next pulled e; cause = tt }
 
 -- how a table is not read
@@ -237,7 +239,7 @@ rejects NoMemory h h2 remote columns settings shape bytes e pk es told = starves
 rejects Source h h2 remote columns settings shape bytes e pk es told = absurd told
 rejects (Refused c) h h2 remote columns settings shape bytes e pk es told = record { keeps = e; stands = (Some (Bytes bytes), pk, subst (λ (s : Shape). Contains (content_causes s bytes) c) es told) }
 
-pub csv_unbinds : (h : Shelf) (old new : List (Option CsvTable)) (m : BTreeMap ℕ CsvScan) (staged : Option StagedWrite) (next pulled t : ℕ) → slot new t ≡ None → ((q : ℕ) → q ≢ t → slot new q ≡ slot old q) → CanUnbind (csv_state h old m staged next pulled) t → Unbinds (csv_state h old m staged next pulled) t (csv_state h new m staged next pulled)
+pub csv_unbinds : (h : Shelf) (old new : List (Option CsvTable)) (m : BTreeMap ℕ PlaceScan) (staged : Option StagedWrite) (next pulled t : ℕ) → slot new t ≡ None → ((q : ℕ) → q ≢ t → slot new q ≡ slot old q) → CanUnbind (csv_state h old m staged next pulled) t → Unbinds (csv_state h old m staged next pulled) t (csv_state h new m staged next pulled)
 csv_unbinds h old new m staged next pulled t there others can =
     let misses : Misses t m = λ q s e. can.no_scan q (scan_is old s) (mapped_get (scan_is old) m q ∙ ap (option_map (scan_is old)) e) in
     record {
@@ -310,7 +312,7 @@ bound_headed h old new t x bytes there others pk content olds u y e at known = g
         (ap (heading x.layout.header (map string_bytes x.layout.names.items)) (found (held_under h (string_bytes x.remote)) pk k) ∙ content.header_is)
     go (inr w) = olds u y e w known
 
-pub bound_served : (old new : List (Option CsvTable)) (m : BTreeMap ℕ CsvScan) (t : ℕ) (x : CsvTable) → slot old t ≡ None → slot new t ≡ Some x → ((q : ℕ) → q ≢ t → slot new q ≡ slot old q) → Served old m → Served new m
+pub bound_served : (old new : List (Option CsvTable)) (m : BTreeMap ℕ PlaceScan) (t : ℕ) (x : CsvTable) → slot old t ≡ None → slot new t ≡ Some x → ((q : ℕ) → q ≢ t → slot new q ≡ slot old q) → Served old m → Served new m
 bound_served old new m t x none there others served k s e = ap is_some (others s.table (not_there old t m none served k s e)) ∙ served k s e
 
 -- faults of the blobs as those of the source
@@ -325,7 +327,7 @@ fails_told faults.Worn h h2 f =
     let e : h.failures ≡ min (h.failures + 1) (2 ^ 64 - 1) = omega arith in
     (tt, f.1 ∙ ap (λ (n : ℕ). record h { failures = n }) e)
 
-pub new_csv : (h : Shelf) (tables : List (Option CsvTable)) (m : BTreeMap ℕ CsvScan) → tables ≡ [] → ((q : ℕ) → tree.get nat_cmp m q ≡ None) → IsNewCsv (csv_state h tables m None 0 0) h
+pub new_csv : (h : Shelf) (tables : List (Option CsvTable)) (m : BTreeMap ℕ PlaceScan) → tables ≡ [] → ((q : ℕ) → tree.get nat_cmp m q ≡ None) → IsNewCsv (csv_state h tables m None 0 0) h
 new_csv h tables m none empty = record {
   kind = refl;
   honest = refl;
@@ -365,7 +367,7 @@ gone_apart old new t there others olds u v x y at_u at_v same = olds u v x y (st
 pub gone_headed : (h : Shelf) (old new : List (Option CsvTable)) (t : ℕ) → slot new t ≡ None → ((q : ℕ) → q ≢ t → slot new q ≡ slot old q) → Headed h old → Headed h new
 gone_headed h old new t there others olds u y e at known = olds u y e (stays_at old new t u y there others at) known
 
-pub gone_served : (h : Shelf) (old new : List (Option CsvTable)) (m : BTreeMap ℕ CsvScan) (staged : Option StagedWrite) (next pulled t : ℕ) → ((q : ℕ) → q ≢ t → slot new q ≡ slot old q) → CanUnbind (csv_state h old m staged next pulled) t → Served old m → Served new m
+pub gone_served : (h : Shelf) (old new : List (Option CsvTable)) (m : BTreeMap ℕ PlaceScan) (staged : Option StagedWrite) (next pulled t : ℕ) → ((q : ℕ) → q ≢ t → slot new q ≡ slot old q) → CanUnbind (csv_state h old m staged next pulled) t → Served old m → Served new m
 gone_served h old new m staged next pulled t others can served k s e =
     ap is_some (others s.table (can.no_scan k (scan_is old s) (mapped_get (scan_is old) m k ∙ ap (option_map (scan_is old)) e))) ∙ served k s e
 
@@ -385,11 +387,11 @@ allows_at spec None e = absurd cc
 allows_at spec (Some t) e = (bound_of t, refl, refl)
 
 -- a bound table allows every scan
-pub csv_allows : (h : Shelf) (tables : List (Option CsvTable)) (m : BTreeMap ℕ CsvScan) (staged : Option StagedWrite) (next pulled t : ℕ) (spec : Spec) → IsSome (option_map bound_of (slot tables t)) → Allows (csv_state h tables m staged next pulled) t spec
+pub csv_allows : (h : Shelf) (tables : List (Option CsvTable)) (m : BTreeMap ℕ PlaceScan) (staged : Option StagedWrite) (next pulled t : ℕ) (spec : Spec) → IsSome (option_map bound_of (slot tables t)) → Allows (csv_state h tables m staged next pulled) t spec
 csv_allows h tables m staged next pulled t spec e = let w = allows_at spec (slot tables t) e in record { bound = w.0; is = w.1; allowed = w.2 }
 
 -- no bound table has a remote name that may be bound
-pub free_of : (h : Shelf) (tables : List (Option CsvTable)) (m : BTreeMap ℕ CsvScan) (staged : Option StagedWrite) (next pulled : ℕ) (remote : List ℕ) (columns : List Column) (settings : List Setting) (x : CsvTable) → CanBind (csv_state h tables m staged next pulled) remote columns settings → string_bytes x.remote ≡ remote → (u : ℕ) (y : CsvTable) → slot tables u ≡ Some y → string_bytes y.remote ≢ string_bytes x.remote
+pub free_of : (h : Shelf) (tables : List (Option CsvTable)) (m : BTreeMap ℕ PlaceScan) (staged : Option StagedWrite) (next pulled : ℕ) (remote : List ℕ) (columns : List Column) (settings : List Setting) (x : CsvTable) → CanBind (csv_state h tables m staged next pulled) remote columns settings → string_bytes x.remote ≡ remote → (u : ℕ) (y : CsvTable) → slot tables u ≡ Some y → string_bytes y.remote ≢ string_bytes x.remote
 free_of h tables m staged next pulled remote columns settings x can er u y at same = can.free u (bound_of y) (ap (option_map bound_of) at) (same ∙ er)
 
 pub found_under : (h : Shelf) (remote name : List ℕ) (entry : Option Entry) → name ≡ remote → Picks (held_under h remote) entry → Picks (held_under h name) entry

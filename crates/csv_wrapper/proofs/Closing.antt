@@ -20,7 +20,7 @@ use Rattle.blob_store.specs.declared.blobs.BlobFault.{BlobFault}
 use Rattle.blob_store.specs.Names.{is_blob_name}
 use Rattle.blob_store.specs.Shelves.{Shelf, Standing, Known as KnownBlob, Unknown as UnknownBlob, Fails, Replaces, after_writing}
 use Rattle.csv_wrapper.specs.declared.table.CsvTable.{CsvTable}
-use Rattle.csv_wrapper.specs.declared.table.CsvScan.{CsvScan}
+use Rattle.blob_tables.specs.declared.scans.PlaceScan.{PlaceScan}
 use Rattle.staged_changes.specs.declared.changes.StagedWrite.{StagedWrite}
 use Rattle.csv_wrapper.specs.declared.written.Written.{Written}
 use Rattle.csv_wrapper.specs.declared.layout.Layout.{Layout}
@@ -32,11 +32,12 @@ use Rattle.csv_wrapper.specs.Flat.{header_in}
 use Rattle.csv_wrapper.specs.Tables.{bound_of, bound_by, numbered, records_of, records_at, shape_is, shape_at, slot, PutsRows}
 use Rattle.csv_wrapper.specs.Scans.{scan_is}
 use Rattle.staged_changes.specs.Staged.{change_is, write_is}
-use Rattle.csv_wrapper.specs.CsvBoxes.{csv_state, csv_ledger, held_under, holding_is, write_fits, fault_is}
+use Rattle.csv_wrapper.specs.CsvBoxes.{csv_state, csv_ledger, write_fits}
+use Rattle.blob_tables.specs.Holdings.{held_under, holding_of, fault_is}
 use Rattle.csv_wrapper.specs.Rewriting.{Rewrites, rows_in}
-use Rattle.csv_wrapper.proofs.Maps.{mapped_get}
+use Rattle.blob_tables.proofs.Maps.{mapped_get}
 use Rattle.csv_wrapper.proofs.Binding.{scans_same, rows_same, held_numbered, numbered_once, both, all_run, IsOfRun, fails_told, Misses, Served, Named, Apart, Headed}
-use Rattle.csv_wrapper.proofs.Scanning.{some_inj}
+use Rattle.blob_tables.proofs.Tickets.{some_inj}
 use Rattle.csv_wrapper.proofs.Putting.{to_some}
 use Rattle.csv_wrapper.proofs.Headers.{header_of_entry, heading_is_header}
 use Rattle.csv_wrapper.proofs.Applying.{origins}
@@ -52,16 +53,16 @@ same_bound x y er el = ap (λ n. bound_by (string_bytes n) (shape_is y.layout)) 
 
 -- the image stands under the name, where it was known what stood there
 holds : (old new : Standing) (x : CsvTable) (image : List ℕ) (rows : List Held) → new ≡ after_writing old image
-    → ((e : Option Entry) → holding_is old ≡ Known e → Some (Bytes image) ≡ csv_image (shape_is x.layout) e rows)
-    → HoldsImage (bound_of x) rows (holding_is old) (holding_is new)
-holds (KnownBlob bytes) new x image rows e f = ap holding_is e ∙ ap (λ (o : Option Entry). Known o) (f (option_map Bytes bytes) refl)
-holds UnknownBlob new x image rows e f = ap holding_is e
+    → ((e : Option Entry) → holding_of old ≡ Known e → Some (Bytes image) ≡ csv_image (shape_is x.layout) e rows)
+    → HoldsImage (bound_of x) rows (holding_of old) (holding_of new)
+holds (KnownBlob bytes) new x image rows e f = ap holding_of e ∙ ap (λ (o : Option Entry). Known o) (f (option_map Bytes bytes) refl)
+holds UnknownBlob new x image rows e f = ap holding_of e
 
 holds_under : (h after : Shelf) (remote : List ℕ) (x : CsvTable) (image : List ℕ) (rows : List Held) → is_blob_name remote ≡ true → after.under remote ≡ after_writing (h.under remote) image
     → ((e : Option Entry) → held_under h remote ≡ Known e → Some (Bytes image) ≡ csv_image (shape_is x.layout) e rows)
     → HoldsImage (bound_of x) rows (held_under h remote) (held_under after remote)
 holds_under h after remote x image rows named e f =
-    let here : held_under h remote ≡ holding_is (h.under remote) = ap (λ (b : Bool). if b then holding_is (h.under remote) else Known None) named in
+    let here : held_under h remote ≡ holding_of (h.under remote) = ap (λ (b : Bool). if b then holding_of (h.under remote) else Known None) named in
     rw named (holds (h.under remote) (after.under remote) x image rows e (λ d known. f d (here ∙ known)))
 
 -- the rows of a table that was written
@@ -80,11 +81,11 @@ table_same old new t x y was there same others q = split (eqb_tells q t)
     split (inr w) = ap (option_map bound_of) (others q w.1)
 
 -- no live scan is of the written table
-pub missed : (h : Shelf) (tables : List (Option CsvTable)) (m : BTreeMap ℕ CsvScan) (staged : Option StagedWrite) (next pulled t : ℕ) → NoScan (csv_state h tables m staged next pulled) t → Misses t m
+pub missed : (h : Shelf) (tables : List (Option CsvTable)) (m : BTreeMap ℕ PlaceScan) (staged : Option StagedWrite) (next pulled t : ℕ) → NoScan (csv_state h tables m staged next pulled) t → Misses t m
 missed h tables m staged next pulled t none q s e = none q (scan_is tables s) (mapped_get (scan_is tables) m q ∙ ap (option_map (scan_is tables)) e)
 
 -- a write that is kept
-pub csv_closes : (h after : Shelf) (old new : List (Option CsvTable)) (m : BTreeMap ℕ CsvScan) (w : StagedWrite) (next pulled : ℕ) (x : CsvTable) (made : Written)
+pub csv_closes : (h after : Shelf) (old new : List (Option CsvTable)) (m : BTreeMap ℕ PlaceScan) (w : StagedWrite) (next pulled : ℕ) (x : CsvTable) (made : Written)
     → slot old w.table ≡ Some x → PutsRows old new w.table (header_in made.header) (records_of made.rows) → NoScan (csv_state h old m (Some w) next pulled) w.table
     → Replaces h (string_bytes x.remote) made.image.items after → is_blob_name (string_bytes x.remote) ≡ true
     → ((e : Option Entry) → held_under h (string_bytes x.remote) ≡ Known e → heading x.layout.header (map string_bytes x.layout.names.items) (records_in e) ≡ header_in x.header)
@@ -120,13 +121,13 @@ csv_closes h after old new m w next pulled x made was put scans replaced named h
         leaves = record {
           coming = λ q live o. rows_same old new w.table (tree.get nat_cmp m q) put.others (misses q);
           rows = λ u o. ap (λ (z : Option CsvTable). numbered (shape_at z) 0 (records_at z)) (put.others u o);
-          holdings = λ r o. ap (λ (s : Standing). if is_blob_name r then holding_is s else Known None) (replaced.others r o);
+          holdings = λ r o. ap (λ (s : Standing). if is_blob_name r then holding_of s else Known None) (replaced.others r o);
         };
       };
     }
 
 -- the write under way is of a table without live scans, and its rows fit
-pub staged_scans : (h : Shelf) (tables : List (Option CsvTable)) (m : BTreeMap ℕ CsvScan) (w : StagedWrite) (staged : Option StagedWrite) (keep : Bool) (next pulled : ℕ) → staged ≡ Some w → keep ≡ true
+pub staged_scans : (h : Shelf) (tables : List (Option CsvTable)) (m : BTreeMap ℕ PlaceScan) (w : StagedWrite) (staged : Option StagedWrite) (keep : Bool) (next pulled : ℕ) → staged ≡ Some w → keep ≡ true
     → CanClose (csv_state h tables m staged next pulled) keep → NoScan (csv_state h tables m staged next pulled) w.table
 staged_scans h tables m w staged keep next pulled es k can =
     let same : can.staging ≡ write_is w = some_inj can.staging (write_is w) (sym can.is_staged ∙ ap (option_map write_is) es) in
@@ -139,7 +140,7 @@ changes_fit tables w staged x es was fits =
     ap (λ (o : Option CsvTable). list_all (row_of_change_fits (shape_at o).kinds) (map change_is w.changes.items)) (sym was) ∙ one.1
 
 -- a write that is kept, from what the program knows
-pub kept_closes : (h after : Shelf) (old new : List (Option CsvTable)) (m : BTreeMap ℕ CsvScan) (w : StagedWrite) (staged left : Option StagedWrite) (keep : Bool) (next pulled : ℕ) (x : CsvTable) (made : Written)
+pub kept_closes : (h after : Shelf) (old new : List (Option CsvTable)) (m : BTreeMap ℕ PlaceScan) (w : StagedWrite) (staged left : Option StagedWrite) (keep : Bool) (next pulled : ℕ) (x : CsvTable) (made : Written)
     → staged ≡ Some w → left ≡ None → keep ≡ true → CanClose (csv_state h old m staged next pulled) keep
     → slot old w.table ≡ Some x → PutsRows old new w.table (header_in made.header) (records_of made.rows)
     → Replaces h (string_bytes x.remote) made.image.items after → Named old → Headed h old → Rewrites x (map change_is w.changes.items) made
@@ -150,7 +151,7 @@ kept_closes h after old new m w staged left keep next pulled x made es el k can 
     (csv_closes h after old new m w next pulled x made was put scans replaced (named w.table x was) (λ e known. headed w.table x e was known) did)
 
 -- a write that is not kept
-closes_not : (fault : Fault) (h h2 : Shelf) (tables : List (Option CsvTable)) (m : BTreeMap ℕ CsvScan) (w : StagedWrite) (next pulled : ℕ) → h2 ≡ record h { failures = faults_after fault h.failures }
+closes_not : (fault : Fault) (h h2 : Shelf) (tables : List (Option CsvTable)) (m : BTreeMap ℕ PlaceScan) (w : StagedWrite) (next pulled : ℕ) → h2 ≡ record h { failures = faults_after fault h.failures }
     → CloseCause (csv_state h tables m (Some w) next pulled) (write_is w) fault
     → RefusesClose (csv_state h tables m (Some w) next pulled) true fault (csv_state h2 tables m None next pulled)
 closes_not fault h h2 tables m w next pulled eh cause = record {
@@ -163,7 +164,7 @@ closes_not fault h h2 tables m w next pulled eh cause = record {
   leaves = λ honest. record { coming = λ q l o. refl; rows = λ t o. refl; holdings = λ r o. ap (λ (z : Shelf). held_under z r) eh };
 }
 
-told_close : (fault : Fault) (h : Shelf) (tables : List (Option CsvTable)) (m : BTreeMap ℕ CsvScan) (w : StagedWrite) (next pulled : ℕ) (x : CsvTable) → slot tables w.table ≡ Some x → Headed h tables
+told_close : (fault : Fault) (h : Shelf) (tables : List (Option CsvTable)) (m : BTreeMap ℕ PlaceScan) (w : StagedWrite) (next pulled : ℕ) (x : CsvTable) → slot tables w.table ≡ Some x → Headed h tables
     → TellsCause fault (causes_behind (shape_is x.layout) (header_in x.header) (rows_in x) (map change_is w.changes.items))
     → CloseCause (csv_state h tables m (Some w) next pulled) (write_is w) fault
 told_close NoMemory h tables m w next pulled x was headed told = tt
@@ -196,20 +197,20 @@ shelf_stays Source h causes told = absurd told
 shelf_stays (Refused c) h causes told = refl
 
 -- a write that is refused before the blob is touched
-pub unmade_refuses : (h : Shelf) (tables : List (Option CsvTable)) (m : BTreeMap ℕ CsvScan) (w : StagedWrite) (staged left : Option StagedWrite) (keep : Bool) (next pulled : ℕ) (x : CsvTable) (fault : Fault)
+pub unmade_refuses : (h : Shelf) (tables : List (Option CsvTable)) (m : BTreeMap ℕ PlaceScan) (w : StagedWrite) (staged left : Option StagedWrite) (keep : Bool) (next pulled : ℕ) (x : CsvTable) (fault : Fault)
     → staged ≡ Some w → left ≡ None → keep ≡ true → slot tables w.table ≡ Some x → Headed h tables
     → TellsCause fault (causes_behind (shape_is x.layout) (header_in x.header) (rows_in x) (map change_is w.changes.items))
     → RefusesClose (csv_state h tables m staged next pulled) keep fault (csv_state h tables m left next pulled)
 unmade_refuses h tables m w staged left keep next pulled x fault es el k was headed told =
     rw (es, el, k) (closes_not fault h h tables m w next pulled (shelf_stays fault h _ told) (told_close fault h tables m w next pulled x was headed told))
 
-blob_close : (fault : Fault) (h : Shelf) (tables : List (Option CsvTable)) (m : BTreeMap ℕ CsvScan) (w : StagedWrite) (next pulled : ℕ) → not_refused fault → CloseCause (csv_state h tables m (Some w) next pulled) (write_is w) fault
+blob_close : (fault : Fault) (h : Shelf) (tables : List (Option CsvTable)) (m : BTreeMap ℕ PlaceScan) (w : StagedWrite) (next pulled : ℕ) → not_refused fault → CloseCause (csv_state h tables m (Some w) next pulled) (write_is w) fault
 blob_close NoMemory h tables m w next pulled told = tt
 blob_close Source h tables m w next pulled told = tt
 blob_close (Refused c) h tables m w next pulled told = absurd told
 
 -- a write whose blob is not replaced
-pub unwritten_refuses : (h h2 : Shelf) (tables : List (Option CsvTable)) (m : BTreeMap ℕ CsvScan) (w : StagedWrite) (staged left : Option StagedWrite) (keep : Bool) (next pulled : ℕ) (fault : BlobFault) (told : Fault)
+pub unwritten_refuses : (h h2 : Shelf) (tables : List (Option CsvTable)) (m : BTreeMap ℕ PlaceScan) (w : StagedWrite) (staged left : Option StagedWrite) (keep : Bool) (next pulled : ℕ) (fault : BlobFault) (told : Fault)
     → staged ≡ Some w → left ≡ None → keep ≡ true → Fails fault h h2 → told ≡ fault_is fault
     → RefusesClose (csv_state h tables m staged next pulled) keep told (csv_state h2 tables m left next pulled)
 unwritten_refuses h h2 tables m w staged left keep next pulled fault told es el k failed is =
@@ -254,16 +255,16 @@ put_apart old new t header rows x was put olds u v y q at_u at_v same =
     let b = stood old new t v header rows x q was put at_v in
     olds u v a.0 b.0 a.1 b.1 (sym (ap string_bytes a.2) ∙ same ∙ ap string_bytes b.2)
 
-pub put_served : (h : Shelf) (old new : List (Option CsvTable)) (m : BTreeMap ℕ CsvScan) (staged : Option StagedWrite) (next pulled t : ℕ) (header rows : List Record) → PutsRows old new t header rows
+pub put_served : (h : Shelf) (old new : List (Option CsvTable)) (m : BTreeMap ℕ PlaceScan) (staged : Option StagedWrite) (next pulled t : ℕ) (header rows : List Record) → PutsRows old new t header rows
     → NoScan (csv_state h old m staged next pulled) t → Served old m → Served new m
 put_served h old new m staged next pulled t header rows put none served k s e = ap is_some (put.others s.table (missed h old m staged next pulled t none k s e)) ∙ served k s e
 
-read_there : (old new : Standing) (image : List ℕ) (e : Option Entry) → new ≡ after_writing old image → holding_is new ≡ Known e → records_in e ≡ csv_records image
-read_there (KnownBlob bytes) new image e is known = sym (ap records_in (inj (Some (Bytes image)) e (sym (ap holding_is is) ∙ known)))
+read_there : (old new : Standing) (image : List ℕ) (e : Option Entry) → new ≡ after_writing old image → holding_of new ≡ Known e → records_in e ≡ csv_records image
+read_there (KnownBlob bytes) new image e is known = sym (ap records_in (inj (Some (Bytes image)) e (sym (ap holding_of is) ∙ known)))
   where
     inj : (f e : Option Entry) → Known f ≡ Known e → f ≡ e
     inj f e q = cc
-read_there UnknownBlob new image e is known = absurd (let q : Unknown ≡ Known e = sym (ap holding_is is) ∙ known in cc)
+read_there UnknownBlob new image e is known = absurd (let q : Unknown ≡ Known e = sym (ap holding_of is) ∙ known in cc)
 
 pub put_headed : (h after : Shelf) (old new : List (Option CsvTable)) (t : ℕ) (x : CsvTable) (changes : List Change) (made : Written) → slot old t ≡ Some x → PutsRows old new t (header_in made.header) (records_of made.rows)
     → Replaces h (string_bytes x.remote) made.image.items after → Rewrites x changes made → Named old → Apart old → Headed h old → Headed after new
@@ -271,7 +272,7 @@ put_headed h after old new t x changes made was put replaced did named apart hea
   where
     here : held_under after (string_bytes x.remote) ≡ Known e → heading x.layout.header (map string_bytes x.layout.names.items) (records_in e) ≡ header_in made.header
     here q =
-        let is : held_under after (string_bytes x.remote) ≡ holding_is (after.under (string_bytes x.remote)) = ap (λ (b : Bool). if b then holding_is (after.under (string_bytes x.remote)) else Known None) (named t x was) in
+        let is : held_under after (string_bytes x.remote) ≡ holding_of (after.under (string_bytes x.remote)) = ap (λ (b : Bool). if b then holding_of (after.under (string_bytes x.remote)) else Known None) (named t x was) in
         ap (heading x.layout.header (map string_bytes x.layout.names.items)) (read_there (h.under (string_bytes x.remote)) (after.under (string_bytes x.remote)) made.image.items e replaced.there (sym is ∙ q)) ∙ did.header
 
     go : ((eqb u t ≡ true) × (u ≡ t)) ⊎ ((eqb u t ≡ false) × (u ≢ t)) → heading y.layout.header (map string_bytes y.layout.names.items) (records_in e) ≡ header_in y.header
@@ -285,4 +286,4 @@ put_headed h after old new t x changes made was put replaced did named apart hea
     go (inr w) =
         let before : slot old u ≡ Some y = sym (put.others u w.1) ∙ at in
         let other : string_bytes y.remote ≢ string_bytes x.remote = λ q. w.1 (apart u t y x before was q) in
-        headed u y e before (sym (ap (λ (s : Standing). if is_blob_name (string_bytes y.remote) then holding_is s else Known None) (replaced.others (string_bytes y.remote) other)) ∙ known)
+        headed u y e before (sym (ap (λ (s : Standing). if is_blob_name (string_bytes y.remote) then holding_of s else Known None) (replaced.others (string_bytes y.remote) other)) ∙ known)

@@ -3,7 +3,6 @@ pub mod Fields
 pub mod Flat
 pub mod RowCells
 pub mod Coming
-pub mod Maps
 pub mod ComingRows
 pub mod Scanning
 pub mod ReadLaws

@@ -4,7 +4,7 @@ use Rattle.csv_wrapper.specs.declared.table.CsvTable.{CsvTable}
 use Rattle.csv_wrapper.specs.CsvRecords.{Record}
 use Rattle.csv_wrapper.specs.Flat.{header_in}
 use Rattle.csv_wrapper.specs.Tables.{slot, records_of, PutsRows}
-use Rattle.csv_wrapper.proofs.Scanning.{some_inj}
+use Rattle.blob_tables.proofs.Tickets.{some_inj}
 use Rattle.csv_wrapper.proofs.Binding.{set_there, set_other, slot_less}
 
 pub of_some : (o : Option CsvTable) (P : CsvTable → Type 0) (x : CsvTable) → o ≡ Some x → IfSome o P → P x

@@ -12,7 +12,7 @@ use Rattle.csv_wrapper.specs.CsvKind.{shape_of, csv_reading}
 use Rattle.csv_wrapper.specs.Content.{IsContent}
 use Rattle.csv_wrapper.specs.Flat.{header_in}
 use Rattle.csv_wrapper.specs.Tables.{shape_is, records_of}
-use Rattle.csv_wrapper.specs.CsvBoxes.{held_under}
+use Rattle.blob_tables.specs.Holdings.{held_under}
 
 -- the table holds what the blob of this name gives, for which no cause stands
 pub record ReadsTable (old : Shelf) (remote : List ℕ) (columns : List Column) (settings : List Setting) (t : CsvTable) (new : Shelf)

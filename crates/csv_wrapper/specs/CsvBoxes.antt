@@ -1,38 +1,26 @@
 -- What a CSV wrapper shows as a wrapper.
-use Rattle.std.specs.Prelude.{◌≡◌, ℕ, Bool, true, false, ◌&&◌, if◌then◌else◌, List, Option, Some, None, is_some, option_map}
+use Rattle.std.specs.Prelude.{◌≡◌, ℕ, Bool, true, false, ◌&&◌, List, Option, Some, None, is_some, option_map}
 use Rattle.std.specs.Ordering.{nat_cmp}
 use Rattle.std.specs.BTreeMap as tree
 use Rattle.std.specs.BTreeMap.{BTreeMap}
-use Rattle.fdw_api.specs.Kinds.{Bytes, Holding, Known, Unknown}
 use Rattle.std.specs.List.{list_all}
 use Rattle.fdw_api.specs.Writes.{row_of_change_fits}
 use Rattle.fdw_api.specs.Calls.{not_refused, faults_after}
 use Rattle.fdw_api.specs.declared.interface.Fault.{Fault}
-use Rattle.fdw_api.specs.declared.interface.Fault.TheVariants.{NoMemory, Source}
-use Rattle.blob_store.specs.declared.blobs.BlobFault.{BlobFault}
-use Rattle.blob_store.specs.declared.blobs.BlobFault.TheVariants as faults
 use Rattle.fdw_api.specs.State.{Nature, Staging, Ledger, Content, BoxState, IsIdle, is_honest}
-use Rattle.blob_store.specs.Names.{is_blob_name}
-use Rattle.blob_store.specs.Shelves.{Shelf, Standing, Known as KnownBlob, Unknown as UnknownBlob}
+use Rattle.blob_store.specs.Shelves.{Shelf}
 use Rattle.csv_wrapper.specs.declared.table.CsvTable.{CsvTable}
-use Rattle.csv_wrapper.specs.declared.table.CsvScan.{CsvScan}
+use Rattle.blob_tables.specs.declared.scans.PlaceScan.{PlaceScan}
+use Rattle.blob_tables.specs.Holdings.{held_under}
+use Rattle.blob_tables.specs.Mapped.{mapped}
 use Rattle.staged_changes.specs.declared.changes.StagedWrite.{StagedWrite}
 use Rattle.staged_changes.specs.Staged.{write_is}
 use Rattle.csv_wrapper.specs.CsvKind.{csv_kind}
 use Rattle.csv_wrapper.specs.Tables.{shape_at, records_at, numbered, bound_of, slot}
-use Rattle.csv_wrapper.specs.Scans.{scan_is, scan_rows, mapped}
-
--- what is known of a blob is known of the remote table of its name
-abbrev pub holding_is : Standing → Holding
-holding_is (KnownBlob bytes) = Known (option_map Bytes bytes)
-holding_is UnknownBlob = Unknown
-
--- what stands under a remote name: the blob of this name, and nothing under what is no blob's name
-abbrev pub held_under : Shelf → List ℕ → Holding
-held_under shelf remote = if is_blob_name remote then holding_is (shelf.under remote) else Known None
+use Rattle.csv_wrapper.specs.Scans.{scan_is, scan_rows}
 
 -- the calls that failed by the source are those that failed by the blobs' device
-abbrev pub csv_ledger : Shelf → List (Option CsvTable) → BTreeMap ℕ CsvScan → Option StagedWrite → ℕ → ℕ → Ledger
+abbrev pub csv_ledger : Shelf → List (Option CsvTable) → BTreeMap ℕ PlaceScan → Option StagedWrite → ℕ → ℕ → Ledger
 csv_ledger shelf tables scans staged next pulled = record {
   tables = λ t. option_map bound_of (slot tables t);
   live = mapped (scan_is tables) scans.entries;
@@ -42,7 +30,7 @@ csv_ledger shelf tables scans staged next pulled = record {
   faults = shelf.failures;
 }
 
-abbrev pub csv_content : Shelf → List (Option CsvTable) → BTreeMap ℕ CsvScan → Content
+abbrev pub csv_content : Shelf → List (Option CsvTable) → BTreeMap ℕ PlaceScan → Content
 csv_content shelf tables scans = record {
   holdings = held_under shelf;
   rows = λ t. numbered (shape_at (slot tables t)) 0 (records_at (slot tables t));
@@ -52,7 +40,7 @@ csv_content shelf tables scans = record {
 abbrev pub csv_nature : Nature
 csv_nature = record { kind = csv_kind; honest = true; skips = false }
 
-abbrev pub csv_state : Shelf → List (Option CsvTable) → BTreeMap ℕ CsvScan → Option StagedWrite → ℕ → ℕ → BoxState
+abbrev pub csv_state : Shelf → List (Option CsvTable) → BTreeMap ℕ PlaceScan → Option StagedWrite → ℕ → ℕ → BoxState
 csv_state shelf tables scans staged next pulled = record {
   nature = csv_nature;
   ledger = csv_ledger shelf tables scans staged next pulled;
@@ -67,12 +55,6 @@ write_fits tables (Some s) = is_some (slot tables s.table) && list_all (row_of_c
 -- a blob is not read, or not replaced: nothing changes but the count of the device's faults
 abbrev pub FailsBlob : Fault → Shelf → Shelf → Type 0
 FailsBlob fault old new = not_refused fault × (new ≡ record old { failures = faults_after fault old.failures })
-
--- what a fault of the blobs is as one of the source
-abbrev pub fault_is : BlobFault → Fault
-fault_is faults.NoMemory = NoMemory
-fault_is faults.Device = Source
-fault_is faults.Worn = Source
 
 -- a new CSV source over these blobs: honest, nothing bound, live or staged, and no row given
 pub record IsNewCsv (s : BoxState) (shelf : Shelf) : Type 0 where

@@ -1,7 +1,5 @@
 -- What a scan of a CSV table gives.
 use Rattle.std.specs.Prelude.{◌≡◌, ◌<◌, ◌≤◌, ◌+◌, ◌-◌, ◌^◌, ◌&&◌, ℕ, zero, suc, Bool, true, false, List, [], ◌∷◌, length, map, drop, slice_get, Option, Some, None, nat_eq, if◌then◌else◌}
-use Rattle.std.specs.Ordering.{nat_cmp}
-use Rattle.std.specs.FinMap as finmap
 use Rattle.med_value.specs.Datum.{Datum, NoValue, Whole, Chars, Logic, Tuple, datum}
 use Rattle.med_value.specs.declared.order.Comparison.TheVariants as comparisons
 use Rattle.med_value.specs.declared.value.ColType.{ColType}
@@ -12,7 +10,7 @@ use Rattle.fdw_api.specs.Calls.{row_of}
 use Rattle.fdw_api.specs.declared.scan.Agree.{Agree}
 use Rattle.fdw_api.specs.declared.scan.Agree.TheVariants.{Ignored, Hint, Exact}
 use Rattle.fdw_api.specs.declared.interface.SourceRow.{SourceRow}
-use Rattle.csv_wrapper.specs.declared.table.CsvScan.{CsvScan}
+use Rattle.blob_tables.specs.declared.scans.PlaceScan.{PlaceScan}
 use Rattle.csv_wrapper.specs.declared.table.CsvTable.{CsvTable}
 use Rattle.csv_wrapper.specs.Cells.{record_cells}
 use Rattle.csv_wrapper.specs.CsvRecords.{Record}
@@ -72,7 +70,7 @@ NextIs shape spec params rows at (Some row) =
     ≡ row_of row ∷ coming_from shape spec params (row.id.number + 1) (drop (row.id.number + 1) rows))
 
 -- a scan, without its rows to come
-abbrev pub scan_is : List (Option CsvTable) → CsvScan → Scan
+abbrev pub scan_is : List (Option CsvTable) → PlaceScan → Scan
 scan_is tables s = record {
   table = s.table;
   kinds = (shape_at (slot tables s.table)).kinds;
@@ -82,11 +80,8 @@ scan_is tables s = record {
   broken = s.broken;
 }
 
-abbrev pub mapped : {X Y : Type 0} → (X → Y) → List (ℕ × X) → finmap.FinMap nat_cmp Y
-mapped f es = finmap.from_entries (map (λ e. (e.0, f e.1)) es)
-
 -- the rows that a scan has still to give
-abbrev pub scan_rows : List (Option CsvTable) → Option CsvScan → List GivenRow
+abbrev pub scan_rows : List (Option CsvTable) → Option PlaceScan → List GivenRow
 scan_rows tables None = []
 scan_rows tables (Some s) =
     coming_from (shape_at (slot tables s.table)) (spec_of s.spec) (map datum s.params.items) s.at

@@ -7,7 +7,6 @@ ghost use Rattle.csv_wrapper.specs.Flat.{header_in};
 use crate::cells::cell;
 use crate::layout::Layout;
 use csv::ByteRecord;
-use fdw_api::scan::ScanSpec;
 use med_value::{NoMemory, Row, Value};
 use std::alloc::Global;
 
@@ -33,16 +32,6 @@ pub(crate) struct CsvTable {
     ghost sized: { rows.width ≡ length layout.kinds.items },
     ghost named: { 0 < length layout.names.items },
     ghost headed: { is_header layout.header (header_in header) ≡ true },
-}
-
-/// A live scan: what it was asked for, and the place from which it goes on.
-#[derive(Drop)]
-pub(crate) struct CsvScan {
-    pub(crate) table: usize,
-    pub(crate) spec: ScanSpec,
-    pub(crate) params: Vec<Value>,
-    pub(crate) at: usize,
-    pub(crate) broken: bool,
 }
 
 impl CsvTable {

@@ -9,22 +9,24 @@ ghost use Rattle.fdw_api.specs.Kinds.{Entry, Bytes, Known, column_of, setting_of
 ghost use Rattle.fdw_api.specs.Calls.{Picks};
 ghost use Rattle.blob_store.specs.Names.{is_blob_name};
 ghost use Rattle.csv_wrapper.specs.declared.table.CsvTable.{CsvTable};
-ghost use Rattle.csv_wrapper.specs.declared.table.CsvScan.{CsvScan};
+ghost use Rattle.blob_tables.specs.declared.scans.PlaceScan.{PlaceScan};
 ghost use Rattle.staged_changes.specs.Staged.{write_is};
 ghost use Rattle.csv_wrapper.specs.CsvKind.{records_in};
 ghost use Rattle.csv_wrapper.specs.CsvRecords.{heading, is_header};
 ghost use Rattle.csv_wrapper.specs.Flat.{header_in};
 ghost use Rattle.csv_wrapper.specs.Tables.{slot, shape_at, records_at, records_of, PutsRows};
 ghost use Rattle.csv_wrapper.specs.Scans.{NextIs, answer_by};
-ghost use Rattle.csv_wrapper.specs.CsvBoxes.{held_under, write_fits, FailsBlob, fault_is};
+ghost use Rattle.csv_wrapper.specs.CsvBoxes.{write_fits, FailsBlob};
+ghost use Rattle.blob_tables.specs.Holdings.{held_under};
 ghost use Rattle.csv_wrapper.specs.Bindings.{ReadsTable, RefusesTable};
 
 use crate::content::{Content, read_content};
 use crate::layout::Layout;
 use crate::scan::{answer_to, next_row};
-use crate::table::{CsvScan, CsvTable, Rows};
+use crate::table::{CsvTable, Rows};
 use crate::written::{Written, apply_changes};
-use blob_store::blobs::{BlobFault, Blobs, is_blob_name};
+use blob_store::blobs::{Blobs, is_blob_name};
+use blob_tables::{PlaceScan, advance, fault_of, restart, spoil};
 use csv::ByteRecord;
 use fdw_api::interface::{Counts, Fault, Opt, RowId, SourceRow, Ticket, Wrapper};
 use fdw_api::law::rows_are_typed;
@@ -43,12 +45,12 @@ use std::collections::BTreeMap;
 pub struct CsvWrapper<B: Blobs> {
     blobs: B,
     tables: Vec<Option<CsvTable>>,
-    scans: BTreeMap<u64, CsvScan>,
+    scans: BTreeMap<u64, PlaceScan>,
     staged: Option<StagedWrite>,
     next: u64,
     pulled: u64,
     ghost fresh: { (k : ℕ) → next ≤ k → tree.get nat_cmp scans k ≡ None },
-    ghost served: { (k : ℕ) (s : CsvScan) → tree.get nat_cmp scans k ≡ Some s → is_some (slot tables.items s.table) ≡ true },
+    ghost served: { (k : ℕ) (s : PlaceScan) → tree.get nat_cmp scans k ≡ Some s → is_some (slot tables.items s.table) ≡ true },
     ghost named: { (t : ℕ) (x : CsvTable) → slot tables.items t ≡ Some x → is_blob_name (string_bytes x.remote) ≡ true },
     ghost apart: { (t u : ℕ) (x y : CsvTable) → slot tables.items t ≡ Some x → slot tables.items u ≡ Some y
         → string_bytes x.remote ≡ string_bytes y.remote → t ≡ u },
@@ -74,16 +76,6 @@ impl<B: Blobs> CsvWrapper<B> {
             next: 0,
             pulled: 0,
         }
-    }
-}
-
-/// What a fault of the blobs is as one of the source.
-fn fault_of(fault: BlobFault) -> Fault
-    ensures { result ≡ fault_is fault }
-{
-    match fault {
-        BlobFault::NoMemory => Fault::NoMemory,
-        BlobFault::Device | BlobFault::Worn => Fault::Source,
     }
 }
 
@@ -220,50 +212,11 @@ fn answers_to(
     Ok(answers)
 }
 
-/// Moves a scan on.
-fn advance(scans: &mut BTreeMap<u64, CsvScan>, number: u64, at: usize)
-    requires { IsSome (tree.get nat_cmp scans.old number) }
-    ensures { IfSome (tree.get nat_cmp scans.old number)
-        (λ s. tree.Updates nat_cmp scans.old scans.new number (Some (record s { at = at }))) }
-{
-    match scans.get_mut(&number) {
-        Some(scan) => scan.at = at,
-        None => unreachable!(),
-    }
-}
-
-/// Marks a scan as good for `end` alone.
-fn spoil(scans: &mut BTreeMap<u64, CsvScan>, number: u64)
-    requires { IsSome (tree.get nat_cmp scans.old number) }
-    ensures { IfSome (tree.get nat_cmp scans.old number)
-        (λ s. tree.Updates nat_cmp scans.old scans.new number (Some (record s { broken = true }))) }
-{
-    match scans.get_mut(&number) {
-        Some(scan) => scan.broken = true,
-        None => unreachable!(),
-    }
-}
-
-/// Begins a scan again.
-fn restart(scans: &mut BTreeMap<u64, CsvScan>, number: u64, params: Vec<Value>)
-    requires { IsSome (tree.get nat_cmp scans.old number) }
-    ensures { IfSome (tree.get nat_cmp scans.old number)
-        (λ s. tree.Updates nat_cmp scans.old scans.new number (Some (record s { params = params; at = 0 }))) }
-{
-    match scans.get_mut(&number) {
-        Some(scan) => {
-            scan.params = params;
-            scan.at = 0;
-        }
-        None => unreachable!(),
-    }
-}
-
 /// The next row of a live scan.
 fn row_of_scan(
     alloc: Global,
     tables: &Vec<Option<CsvTable>>,
-    scans: &BTreeMap<u64, CsvScan>,
+    scans: &BTreeMap<u64, PlaceScan>,
     number: u64,
 ) -> Result<Option<SourceRow>, NoMemory>
     requires { IsSome (tree.get nat_cmp scans.now number) }
@@ -355,7 +308,7 @@ impl<B: Blobs> Wrapper for CsvWrapper<B> {
         }
         let spec = spec.copy(alloc)?;
         let params = copy_values(alloc, params)?;
-        let scan = CsvScan {
+        let scan = PlaceScan {
             table: t.number as usize,
             spec,
             params,
