@@ -65,8 +65,9 @@ impl<B: Blobs> CsvWrapper<B> {
 
     /// A source of these blobs, on which nothing is bound yet. It takes no memory.
     pub fn new(alloc: Global, blobs: B) -> Self
-        ensures { IsNewCsv (csv_state (B.meaning result.blobs) result.tables.items result.scans result.staged result.next result.pulled)
+        ensures new { IsNewCsv (csv_state (B.meaning result.blobs) result.tables.items result.scans result.staged result.next result.pulled)
             (B.meaning blobs) }
+        ensures blobs { result.blobs ≡ blobs }
     {
         CsvWrapper {
             blobs,

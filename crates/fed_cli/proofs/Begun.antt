@@ -11,7 +11,7 @@ use Rattle.med_session.specs.declared.adding.Sources.{Sources}
 use Rattle.fed_cli.specs.Exits.{Runs}
 use Rattle.fed_words.specs.Places.{are_honest}
 use Rattle.fed_cli.specs.Setup.{IsFirst, HasNoFirst, ReadsNot, IsReadOf, ReplaysInit, BeginsNot, list_asked}
-use Rattle.fed_cli.specs.Streams.{Stream, IsUntouched}
+use Rattle.fed_stream.specs.Streams.{Stream, IsUntouched}
 use Rattle.fed_cli.specs.Told.{Came, replay_told}
 use Rattle.fed_words.specs.Words.{places_asked}
 use Rattle.fed_cli.specs.declared.told.RunFault.{RunFault}

@@ -8,12 +8,12 @@ use Rattle.med_session.specs.declared.engine.Engine.{Engine}
 use Rattle.session_wire.specs.Engines.{EngineSteps, EngineEnds}
 use Rattle.session_wire.specs.Run.{Fed, BrokenOff}
 use Rattle.session_wire.specs.Worlds.{scene_of, SceneSteps, SceneEnds}
-use Rattle.fed_cli.specs.Streams.{Stream}
-use Rattle.fed_cli.specs.Served.{Served, Ran, Stopped, Serves}
-use Rattle.fed_cli.specs.declared.stream.Ended.{Ended}
-use Rattle.fed_cli.specs.declared.stream.Ended.TheVariants as ended
-use Rattle.fed_cli.specs.declared.stream.StreamFault.{StreamFault}
-use Rattle.fed_cli.specs.declared.stream.StreamFault.TheVariants as faults
+use Rattle.fed_stream.specs.Streams.{Stream}
+use Rattle.fed_stream.specs.Served.{Served, Ran, Stopped, Serves}
+use Rattle.fed_stream.specs.declared.stream.Ended.{Ended}
+use Rattle.fed_stream.specs.declared.stream.Ended.TheVariants as ended
+use Rattle.fed_stream.specs.declared.stream.StreamFault.{StreamFault}
+use Rattle.fed_stream.specs.declared.stream.StreamFault.TheVariants as faults
 
 -- the law of worlds, as its public contract says it
 pub record Laws {W : Type 0} (meaning : W → BoxState) : Type 0 where
@@ -31,12 +31,26 @@ served_in_worlds meaning law old before new left input output h w agrees =
     let one = law.fed old new (before ++ h.bytes) h.text left h.fed w agrees in
     (one.0, record { bytes = h.bytes; text = h.text; read = h.read; written = h.written; fed = one.1 }, one.2)
 
-ran_in_worlds : {W : Type 0} (meaning : W → BoxState) → Laws meaning → (old : Engine W) (before : List ℕ) (new : Engine W) (left : Option (List ℕ)) (input : Stream)
-    → Ran (EngineSteps meaning) (EngineEnds meaning) old before new left input → (w : World) → Agrees (shown meaning old) w
-    → (after : World) × Ran SceneSteps SceneEnds (scene_of meaning old w) before (scene_of meaning new after) left input × Agrees (shown meaning new) after
-ran_in_worlds meaning law old before new left input h w agrees =
-    let one = law.fed old new (before ++ h.bytes) h.text left h.fed w agrees in
-    (one.0, record { bytes = h.bytes; dropped = h.dropped; text = h.text; read = h.read; in_piece = h.in_piece; fed = one.1 }, one.2)
+ran_in_worlds : {W : Type 0} (meaning : W → BoxState) → Laws meaning → (old : Engine W) (before : List ℕ) (new : Engine W) (left : Option (List ℕ)) (input output : Stream)
+    → Ran (EngineSteps meaning) (EngineEnds meaning) old before new left input output → (w : World) → Agrees (shown meaning old) w
+    → (after : World) × Ran SceneSteps SceneEnds (scene_of meaning old w) before (scene_of meaning new after) left input output × Agrees (shown meaning new) after
+ran_in_worlds meaning law old before new left input output h w agrees =
+    let one = law.fed old new (before ++ h.bytes) h.text left h.fed w agrees in (
+      one.0,
+      record {
+        bytes = h.bytes;
+        dropped = h.dropped;
+        text = h.text;
+        front = h.front;
+        others = h.others;
+        read = h.read;
+        in_piece = h.in_piece;
+        parts = h.parts;
+        written = h.written;
+        fed = one.1;
+      },
+      one.2,
+    )
 
 stopped_in_worlds : {W : Type 0} (meaning : W → BoxState) → Laws meaning → (old : Engine W) (before : List ℕ) (new : Engine W) (input output : Stream)
     → Stopped (EngineSteps meaning) (EngineEnds meaning) old before new input output → (w : World) → Agrees (shown meaning old) w
@@ -70,6 +84,6 @@ serves_in_worlds meaning law old before new left input output (Err faults.Read) 
     let one = served_in_worlds meaning law old before new left input output h.0 w agrees in (one.0, (one.1, h.1), one.2)
 serves_in_worlds meaning law old before new left input output (Err faults.TooLong) h w agrees =
     let one = served_in_worlds meaning law old before new left input output h.0 w agrees in (one.0, (one.1, h.1), one.2)
-serves_in_worlds meaning law old before new left input output (Err faults.Write) h w agrees = ran_in_worlds meaning law old before new left input h w agrees
+serves_in_worlds meaning law old before new left input output (Err faults.Write) h w agrees = ran_in_worlds meaning law old before new left input output h w agrees
 serves_in_worlds meaning law old before new left input output (Err faults.NoRoom) h w agrees =
     let one = stopped_in_worlds meaning law old before new input output h.0 w agrees in (one.0, (one.1, h.1), one.2)

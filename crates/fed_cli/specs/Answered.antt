@@ -4,12 +4,12 @@ use Rattle.fdw_api.specs.State.{BoxState}
 use Rattle.med_session.specs.World.{World, without_sessions}
 use Rattle.med_session.specs.Engine.{Shown, Agrees, EachRises}
 use Rattle.session_wire.specs.Worlds.{SceneSteps, SceneEnds}
-use Rattle.fed_cli.specs.Streams.{Stream}
-use Rattle.fed_cli.specs.Served.{Serves}
+use Rattle.fed_stream.specs.Streams.{Stream}
+use Rattle.fed_stream.specs.Served.{Serves}
 use Rattle.fed_words.specs.Places.{Place}
 use Rattle.fed_cli.specs.Setup.{Begins}
-use Rattle.fed_cli.specs.declared.stream.Ended.{Ended}
-use Rattle.fed_cli.specs.declared.stream.StreamFault.{StreamFault}
+use Rattle.fed_stream.specs.declared.stream.Ended.{Ended}
+use Rattle.fed_stream.specs.declared.stream.StreamFault.{StreamFault}
 
 -- A stream is served from this world on, by sources that show the first boxes before and the last ones when they are handed back. What
 -- was read and written is that of a run, line by line over what the boxes show. Then its sessions are ended, for which the boxes only

@@ -6,10 +6,10 @@ use Rattle.med_session.specs.declared.adding.AddFault.{AddFault}
 use Rattle.med_session.specs.declared.adding.AddFault.TheVariants as adding
 use Rattle.fed_replay.specs.declared.script.ScriptFault.{ScriptFault}
 use Rattle.fed_replay.specs.declared.script.ScriptFault.TheVariants as scripts
-use Rattle.fed_cli.specs.declared.stream.Ended.{Ended}
-use Rattle.fed_cli.specs.declared.stream.Ended.TheVariants as ends
-use Rattle.fed_cli.specs.declared.stream.StreamFault.{StreamFault}
-use Rattle.fed_cli.specs.declared.stream.StreamFault.TheVariants as streams
+use Rattle.fed_stream.specs.declared.stream.Ended.{Ended}
+use Rattle.fed_stream.specs.declared.stream.Ended.TheVariants as ends
+use Rattle.fed_stream.specs.declared.stream.StreamFault.{StreamFault}
+use Rattle.fed_stream.specs.declared.stream.StreamFault.TheVariants as streams
 use Rattle.fed_cli.specs.declared.told.RunFault.{RunFault}
 use Rattle.fed_cli.specs.declared.told.RunFault.TheVariants as faults
 

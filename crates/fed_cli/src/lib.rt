@@ -5,8 +5,8 @@ pub mod demo;
 pub mod init;
 pub mod program;
 pub mod serving;
-pub mod stream;
+pub mod telling;
 pub mod told;
 pub mod worlds;
 
-pub use stream::{Ended, StreamFault, serve_stream};
+pub use fed_stream::{Ended, StreamFault, serve_stream};

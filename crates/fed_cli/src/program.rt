@@ -1,4 +1,4 @@
-//! What a program begins with, a run, and what is told of its end.
+//! What a program begins with, and a run.
 ghost use Rattle.std.specs.Prelude.{◌≡◌, Bool, List, true, [], ◌∷◌, ◌++◌, IfOk, IfErr, Err, OnOk, None, option_map, map};
 ghost use Rattle.med_session.specs.Requests.{IsUser};
 ghost use Rattle.med_session.specs.World.{World};
@@ -9,7 +9,7 @@ ghost use Rattle.med_session.specs.Shows.{shown};
 ghost use Rattle.list_wrapper.specs.Lists.{IsNewList};
 ghost use Rattle.session_wire.specs.Worlds.{scene_of};
 ghost use Rattle.fed_cli.specs.Demo.{demo_list};
-ghost use Rattle.fed_cli.specs.Exits.{Runs, TellsRun, TellsWords};
+ghost use Rattle.fed_cli.specs.Exits.{Runs};
 ghost use Rattle.fed_words.specs.Places.{are_honest, place_of, source_kind};
 ghost use Rattle.fed_cli.specs.Setup.{HasDemo, HasList, IsFirst, HasNoFirst, AddsNoDemo, AddsPlace, AddsPlaces, AreNotAdded, IsNotAdded};
 ghost use Rattle.fed_cli.specs.Setup.{BeginsBy, BeginsNot, IsReadOf, IsNewPlace, IsSetUp, SetUpFails, HasListAsked, labels_before, list_asked, list_label};
@@ -18,7 +18,7 @@ ghost use Rattle.fed_words.specs.Words.{places_asked};
 ghost use Rattle.med_session.specs.Adding.{AddCause};
 ghost use Rattle.med_session.specs.declared.adding.AddFault.{AddFault};
 ghost use Rattle.fed_cli.specs.declared.told.RunFault.TheVariants as faults;
-ghost use Rattle.fed_cli.specs.Streams.{stream};
+ghost use Rattle.fed_stream.specs.Streams.{stream};
 
 use crate::demo::{demo_tables, setup_script};
 use crate::init::{read_init, replay_init};
@@ -27,7 +27,7 @@ use crate::told::{RunFault, add_fault, setup_told, told};
 use fdw_api::interface::Wrapper;
 use fed_replay::replay;
 use fed_words::places::{AskedPlace, PlaceKind};
-use fed_words::words::{Asked, WordsFault};
+use fed_words::words::Asked;
 use list_wrapper::ListWrapper;
 use med_catalog::law::lists_are_told_nothing;
 use med_session::{Engine, SourceKind, Sources};
@@ -364,33 +364,5 @@ pub fn run_asked<'a, V: AllocGlobal + Files + Clone + Databases + Drop, R: Read,
         came: told(ended),
         script: begun.script,
         sources: Some(sources),
-    }
-}
-
-/// Tells on standard error what a run came to, if it did not end with the input. The answer is whether it could be written.
-pub fn tell_run<E: Write>(came: Result<(), RunFault<'_>>, errors: &mut E) -> bool
-    ensures { TellsRun came.entry result (stream (E.contents errors.old) (E.contents errors.new)) }
-{
-    match came {
-        Ok(()) => true,
-        Err(fault) => writeln!(errors, "fedq: {fault}").is_ok(),
-    }
-}
-
-/// Tells help on standard output, and why words are refused on standard error. The answer is whether it could be written.
-pub fn tell_words<O: Write, E: Write>(
-    fault: &WordsFault<'_>,
-    output: &mut O,
-    errors: &mut E,
-) -> bool
-    ensures { TellsWords fault.now result (stream (O.contents output.old) (O.contents output.new))
-        (stream (E.contents errors.old) (E.contents errors.new)) }
-{
-    match fault {
-        WordsFault::Help(text) => output.write_all(text.as_bytes()).is_ok(),
-        WordsFault::Usage(text) => errors.write_all(text.as_bytes()).is_ok(),
-        WordsFault::NoPath(value) => writeln!(errors, "fedq: NAME=PATH expected: {value}").is_ok(),
-        WordsFault::BadName(name) => writeln!(errors, "fedq: bad name: {name}").is_ok(),
-        WordsFault::NoMemory => errors.write_all(b"fedq: out of memory\n").is_ok(),
     }
 }

@@ -1,26 +1,28 @@
 //! An engine between a reader and a writer.
 ghost use Rattle.fed_cli.specs.Answered.{ServesWorld};
-ghost use Rattle.fed_cli.specs.Streams.{stream};
+ghost use Rattle.fed_output.specs.Known.{Known};
+ghost use Rattle.fed_stream.specs.Calls.{ReadsStream, WritesStream};
+ghost use Rattle.fed_stream.specs.Streams.{stream};
 ghost use Rattle.med_exec.specs.Slots.{states};
 ghost use Rattle.med_session.specs.Engine.{IsSound, Agrees, EachBox, IsAtRest};
 ghost use Rattle.med_session.specs.Shows.{shown};
 ghost use Rattle.med_session.specs.World.{World};
 
-use crate::stream::{Ended, StreamFault, serve_stream};
 use crate::worlds::{fed_cursors_keep_their_tables, served_worlds_follow};
 use fdw_api::interface::Wrapper;
+use fed_output::{Sink, Source};
+use fed_stream::{Ended, StreamFault, serve_stream};
 use med_session::{Engine, Sources};
 use session_wire::Server;
 use std::alloc::Global;
-use std::io::{Read, Write};
 
 /// Serves an input by an engine to its end, as `serve_stream` does, and hands the sources back.
 ///
 /// For each world that agrees with the engine, the bytes that were read lead by a run of the SQL meaning to
 /// the text that was written, and to the world that the sources then stand for, whatever pieces the bytes
 /// came in. Every scan begun has been ended, and nothing is staged. `NoRoom` comes also where there is no
-/// room for a server: then nothing was read.
-pub fn serve_engine<B: Wrapper, R: Read, W: Write>(
+/// room for a server: then nothing was read. Of the calls of a source and a sink that tell them it says what `serve_stream` does.
+pub fn serve_engine<B: Wrapper, R: Source, W: Sink>(
     alloc: Global,
     engine: Engine<B>,
     reader: &mut R,
@@ -32,6 +34,8 @@ pub fn serve_engine<B: Wrapper, R: Read, W: Write>(
         (stream (R.remaining reader.old) (R.remaining reader.new))
         (stream (W.contents writer.old) (W.contents writer.new)) result.0 }
     ensures at_rest { EachBox IsAtRest (states B.meaning result.1.slots.items) }
+    ensures reads { Known (R.inlet reader.old) (R.inlet reader.new) (λ old new. ReadsStream old new result.0) }
+    ensures writes { Known (W.outlet writer.old) (W.outlet writer.new) (λ old new. WritesStream old new result.0) }
 {
     served_worlds_follow::<B>();
     fed_cursors_keep_their_tables();

@@ -2,8 +2,8 @@
 ghost use Rattle.std.specs.Prelude.{◌≡◌};
 ghost use Rattle.fed_cli.specs.Told.{told_of, added_of, setup_told, replay_told, run_status};
 
-use crate::stream::{Ended, StreamFault};
 use fed_replay::ScriptFault;
+use fed_stream::{Ended, StreamFault};
 use med_session::AddFault;
 use med_value::{Cause, NoMemory};
 use std::error::Error;

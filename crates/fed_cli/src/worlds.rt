@@ -10,10 +10,10 @@ ghost use Rattle.session_wire.specs.Engines.{EngineSteps, EngineEnds};
 ghost use Rattle.session_wire.specs.Lines.{lines_of};
 ghost use Rattle.session_wire.specs.Run.{Fed};
 ghost use Rattle.session_wire.specs.Worlds.{Scene, scene_of, SceneSteps, SceneEnds};
-ghost use Rattle.fed_cli.specs.declared.stream.Ended.{Ended};
-ghost use Rattle.fed_cli.specs.declared.stream.StreamFault.{StreamFault};
-ghost use Rattle.fed_cli.specs.Served.{Serves};
-ghost use Rattle.fed_cli.specs.Streams.{Stream};
+ghost use Rattle.fed_stream.specs.declared.stream.Ended.{Ended};
+ghost use Rattle.fed_stream.specs.declared.stream.StreamFault.{StreamFault};
+ghost use Rattle.fed_stream.specs.Served.{Serves};
+ghost use Rattle.fed_stream.specs.Streams.{Stream};
 
 use cursor_runs::law::cursors_keep_their_tables;
 use fdw_api::interface::Wrapper;

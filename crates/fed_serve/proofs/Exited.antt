@@ -1,12 +1,15 @@
 -- A program that exits.
-use Rattle.std.proofs.Common.{◌≡◌, ℕ, Bool, List, Option, option_map, Result, Ok, Vec, String, string_bytes, map, refl, sym, subst}
+use Rattle.std.proofs.Common.{◌≡◌, ℕ, Bool, List, Option, option_map, Result, Ok, Err, is_ok, Vec, String, string_bytes, map, refl, sym, subst}
 use Rattle.std.specs.Global.{Global}
 use Rattle.fdw_api.specs.State.{BoxState}
 use Rattle.fed_words.specs.declared.words.Asked.{Asked}
 use Rattle.fed_cli.specs.Setup.{BeginsNot}
-use Rattle.fed_cli.specs.Streams.{Stream}
+use Rattle.fed_cli.specs.Exits.{Written}
+use Rattle.fed_cli.proofs.Called.{front_told}
+use Rattle.fed_output.specs.Outlets.{Outlet}
+use Rattle.fed_stream.specs.Streams.{Stream, stream}
 use Rattle.fed_cli.specs.declared.told.RunFault.{RunFault}
-use Rattle.fed_serve.specs.Exits.{Exits, ExitsBy, on_words}
+use Rattle.fed_serve.specs.Exits.{Exits, ExitsBy, Listened, TellsListened, WritesListened, listen_line, on_words}
 use Rattle.fed_serve.specs.declared.program.ArgsFault.{ArgsFault}
 use Rattle.fed_serve.specs.declared.program.Exit.{Exit}
 
@@ -20,3 +23,9 @@ on_given honest meaning remaining contents words given texts exit input output e
 pub by_script : (honest : Bool) (asked : Asked) (s r : Option (Vec ℕ Global)) (fault : RunFault) → s ≡ r → BeginsNot honest asked (option_map (λ v. v.items) r) fault
     → BeginsNot honest asked (option_map (λ v. v.items) s) fault
 by_script honest asked s r fault e h = subst (λ q. BeginsNot honest asked (option_map (λ v. v.items) q) fault) (sym e) h
+
+-- what connections came to is told
+pub listened_told : (came : Listened) (held holds : Option (List ℕ)) (old new : Option Outlet) (result : Written) (told : Bool) → told ≡ is_ok result → WritesListened came result held holds old new
+    → TellsListened came told (stream held holds)
+listened_told (Ok x) held holds old new result told e w = (cc, w.1)
+listened_told (Err fault) held holds old new result told e w = front_told held holds old new result told (listen_line (Err fault)) e w

@@ -1,6 +1,6 @@
 -- An engine that served a stream and is kept.
-use Rattle.std.proofs.Common.{◌≡◌, ℕ, Bool, true, false, cond, List, [], Option, Some, None, Result, Err, refl, sym, ap, ◌∙◌, subst, append-nil}
-use Rattle.std.specs.Io.KnownBytes.{Consumes, Appends}
+use Rattle.std.proofs.Common.{◌≡◌, ℕ, Bool, true, false, cond, List, [], Option, Some, None, Result, Err, refl, sym, subst}
+use Rattle.std.proofs.KnownBytes.{Consumes-nil, Appends-nil}
 use Rattle.fdw_api.specs.State.{BoxState}
 use Rattle.med_session.specs.World.{World, without_sessions}
 use Rattle.med_session.specs.Engine.{Agrees, EachRises}
@@ -10,26 +10,17 @@ use Rattle.med_session.specs.declared.engine.Engine.{Engine}
 use Rattle.session_wire.specs.Lines.{lines_within}
 use Rattle.session_wire.specs.Engines.{EngineSteps, EngineEnds}
 use Rattle.session_wire.specs.Servers.{handler_of, is_closed, held_back, unread_of}
-use Rattle.session_wire.specs.Worlds.{Scene, scene_of, SceneSteps, SceneEnds}
+use Rattle.session_wire.specs.Worlds.{scene_of, SceneSteps, SceneEnds}
 use Rattle.session_wire.specs.declared.server.Server.{Server}
-use Rattle.fed_cli.specs.Streams.{Stream, stream}
-use Rattle.fed_cli.specs.Served.{Serves}
-use Rattle.fed_cli.specs.declared.stream.Ended.{Ended}
-use Rattle.fed_cli.specs.declared.stream.StreamFault.{StreamFault}
-use Rattle.fed_cli.specs.declared.stream.StreamFault.TheVariants.{NoRoom}
+use Rattle.fed_stream.specs.Streams.{Stream, stream}
+use Rattle.fed_stream.specs.Served.{Serves}
+use Rattle.fed_stream.specs.declared.stream.Ended.{Ended}
+use Rattle.fed_stream.specs.declared.stream.StreamFault.{StreamFault}
+use Rattle.fed_stream.specs.declared.stream.StreamFault.TheVariants.{NoRoom}
 use Rattle.fed_serve.specs.Kept.{KeepsServed}
 
--- nothing is read, or written
-Consumes-nil : (a : Option (List ℕ)) → Consumes a a []
-Consumes-nil None = tt
-Consumes-nil (Some x) = refl
-
-pub Appends-nil : (a : Option (List ℕ)) → Appends a a []
-Appends-nil None = tt
-Appends-nil (Some x) = sym (append-nil x)
-
 -- a server of which some bytes are left unread is open, and holds them back
-open_server : {H : Type 0} (server : Server H) (bytes : List ℕ) → unread_of server ≡ Some bytes → (is_closed server ≡ false) × (held_back server ≡ bytes)
+pub open_server : {H : Type 0} (server : Server H) (bytes : List ℕ) → unread_of server ≡ Some bytes → (is_closed server ≡ false) × (held_back server ≡ bytes)
 open_server server bytes e = split (is_closed server) refl e
   where
     split : (b : Bool) → is_closed server ≡ b → cond b None (Some (held_back server)) ≡ Some bytes → (is_closed server ≡ false) × (held_back server ≡ bytes)

@@ -1,20 +1,24 @@
 -- One connection more.
-use Rattle.std.proofs.Common.{◌≡◌, ℕ, Bool, true, false, List, [], ◌∷◌, ◌++◌, ◌&&◌, Option, Some, None, Ok, Err, refl, sym, ap, ◌∙◌, subst, append_assoc, append-nil}
-use Rattle.std.specs.Io.KnownBytes.{Appends}
+use Rattle.std.proofs.Common.{◌≡◌, ℕ, Bool, true, false, List, [], ◌∷◌, ◌++◌, ◌&&◌, Option, Result, is_ok, refl, sym, ap, ◌∙◌, subst}
 use Rattle.med_session.specs.World.{World}
 use Rattle.med_session.specs.Engine.{Shown, Agrees}
-use Rattle.fed_cli.specs.Exits.{Tells, TellsRun}
-use Rattle.fed_cli.specs.Streams.{stream}
-use Rattle.fed_cli.specs.Told.{Came, told_of, run_line}
+use Rattle.fed_cli.specs.Exits.{TellsRun, Written, WritesRun}
+use Rattle.fed_cli.proofs.Called.{run_told}
+use Rattle.fed_output.specs.Outlets.{Outlet}
+use Rattle.fed_stream.specs.declared.stream.Ended.{Ended}
+use Rattle.fed_stream.specs.declared.stream.StreamFault.{StreamFault}
+use Rattle.fed_stream.specs.Streams.{stream}
+use Rattle.fed_cli.specs.Told.{Came, told_of}
 use Rattle.fed_serve.specs.Kept.{KeepsServed}
-use Rattle.fed_serve.specs.Turns.{Turn, Moves, AreTaken, told_lines, input_of, output_of, ServesEach, AreServed}
-use Rattle.fed_serve.proofs.KeptEngines.{Appends-nil}
+use Rattle.fed_serve.specs.Turns.{Turn, Moves, AreTaken, TellsEach, input_of, output_of, ServesEach, AreServed}
 
-Appends-trans : (a b c : Option (List ℕ)) (bs cs : List ℕ) → Appends a b bs → Appends b c cs → Appends a c (bs ++ cs)
-Appends-trans None b c bs cs p q = tt
-Appends-trans (Some x) None c bs cs p q = absurd p
-Appends-trans (Some x) (Some y) None bs cs p q = absurd q
-Appends-trans (Some x) (Some y) (Some z) bs cs p q = q ∙ ap (λ l. l ++ cs) p ∙ append_assoc x bs cs
+and_true : (b : Bool) → (b && true) ≡ b
+and_true true = refl
+and_true false = refl
+
+and_assoc : (a b c : Bool) → ((a && b) && c) ≡ (a && (b && c))
+and_assoc true b c = refl
+and_assoc false b c = refl
 
 -- one more is taken and given back
 pub taken_more : {C R W : Type 0} (accepts closes : Moves C R W) (old mid taken back : C) (ts : List (Turn R W)) (t : Turn R W)
@@ -34,48 +38,23 @@ serves_more remaining contents old mid new w between after [] t each k =
 serves_more remaining contents old mid new w between after (u ∷ ts) t each k =
     (each.0, each.1, each.2, serves_more remaining contents each.0 mid new each.1 between after ts t each.3 k)
 
--- the lines with that of one more
-told_more : {R W : Type 0} (ts : List (Turn R W)) (t : Turn R W) → told_lines (ts ++ t ∷ []) ≡ told_lines ts ++ run_line (told_of t.ended)
-told_more [] t = append-nil (run_line (told_of t.ended))
-told_more (u ∷ ts) t =
-    ap (λ l. run_line (told_of u.ended) ++ l) (told_more ts t) ∙ sym (append_assoc (run_line (told_of u.ended)) (told_lines ts) (run_line (told_of t.ended)))
+-- how one more ended is told
+tells_more : {R W : Type 0} (ts : List (Turn R W)) (t : Turn R W) (so_far told : Bool) (had held has : Option (List ℕ))
+    → TellsEach ts so_far had held → TellsRun (told_of t.ended) told (stream held has) → TellsEach (ts ++ t ∷ []) (so_far && told) had has
+tells_more [] t so_far told had held has h tells =
+    (told, true, has, ap (λ b. b && told) h.0 ∙ sym (and_true told), subst (λ a. TellsRun (told_of t.ended) told (stream a has)) h.1 tells, (refl, refl))
+tells_more (u ∷ ts) t so_far told had held has h tells =
+    (h.0, h.1 && told, h.2, ap (λ b. b && told) h.3 ∙ and_assoc h.0 h.1 told, h.4, tells_more ts t h.1 told h.2 held has h.5 tells)
 
--- where all of two texts could be told, both were
-tells_both : (so_far told : Bool) (had held new : Option (List ℕ)) (xs ys : List ℕ) → Tells so_far (stream had held) xs → Tells told (stream held new) ys
-    → Tells (so_far && told) (stream had new) (xs ++ ys)
-tells_both true true had held new xs ys p q e = Appends-trans had held new xs ys (p refl) (q refl)
-tells_both true false had held new xs ys p q e = absurd cc
-tells_both false told had held new xs ys p q e = absurd cc
-
--- what is told of a run is its line
-tells_line : (came : Came) (told : Bool) (had new : Option (List ℕ)) → TellsRun came told (stream had new) → Tells told (stream had new) (run_line came)
-tells_line (Ok done) told had new h e = subst (λ a. Appends had a []) (sym h.1) (Appends-nil had)
-tells_line (Err fault) told had new h e = h e
-
--- a line that is told is not empty
-no_line : (came : Came) (told : Bool) (had new : Option (List ℕ)) → TellsRun came told (stream had new) → run_line came ≡ [] → (told ≡ true) × (new ≡ had)
-no_line (Ok done) told had new h e = h
-no_line (Err fault) told had new h e = absurd cc
-
--- where two texts are empty together, both are
-both_empty : (xs ys : List ℕ) → xs ++ ys ≡ [] → (xs ≡ []) × (ys ≡ [])
-both_empty [] ys e = (refl, e)
-both_empty (x ∷ xs) ys e = absurd cc
-
--- no line was told, and of one more none is
-quiet_more : {R W : Type 0} (ts : List (Turn R W)) (t : Turn R W) (so_far told : Bool) (had held has : Option (List ℕ))
-    → (told_lines ts ≡ [] → (so_far ≡ true) × (held ≡ had)) → TellsRun (told_of t.ended) told (stream held has)
-    → told_lines (ts ++ t ∷ []) ≡ [] → ((so_far && told) ≡ true) × (has ≡ had)
-quiet_more ts t so_far told had held has quiet tells e =
-    let both = both_empty (told_lines ts) (run_line (told_of t.ended)) (sym (told_more ts t) ∙ e) in
-    let first = quiet both.0 in
-    let second = no_line (told_of t.ended) told held has tells both.1 in
-    (ap (λ b. b && told) first.0 ∙ second.0, second.1 ∙ first.1)
+-- how a connection ended is told by its line, or a front of it
+pub told_ended : (ended : Result Ended StreamFault) (came : Came) (held holds : Option (List ℕ)) (old new : Option Outlet) (result : Written) (told : Bool) → came ≡ told_of ended → told ≡ is_ok result
+    → WritesRun came result held holds old new → TellsRun (told_of ended) told (stream held holds)
+told_ended ended came held holds old new result told same e w = subst (λ c. TellsRun c told (stream held holds)) same (run_told came held holds old new result told e w)
 
 -- no connection is served yet
 pub served_none : {R W : Type 0} (remaining : R → Option (List ℕ)) (contents : W → Option (List ℕ)) (e : Shown) (had : Option (List ℕ))
     → AreServed {R = R} {W = W} remaining contents e [] e true (stream had had)
-served_none remaining contents e had = record { worlds = λ w agrees. (w, (refl, refl), agrees); told = λ _. Appends-nil had; quiet = λ _. (refl, refl) }
+served_none remaining contents e had = record { worlds = λ w agrees. (w, (refl, refl), agrees); told = (refl, refl) }
 
 -- one more is served, and told
 pub served_more : {R W : Type 0} (remaining : R → Option (List ℕ)) (contents : W → Option (List ℕ)) (old mid new : Shown) (ts : List (Turn R W)) (t : Turn R W) (so_far told : Bool) (had held has : Option (List ℕ))
@@ -87,8 +66,5 @@ served_more remaining contents old mid new ts t so_far told had held has h kept 
       let one = h.worlds w agrees in
       let two = kept one.0 one.2 in
       (two.0, serves_more remaining contents old mid new w one.0 two.0 ts t one.1 two.1, two.1.agrees);
-  told =
-      subst (λ l. Tells (so_far && told) (stream had has) l) (sym (told_more ts t))
-      (tells_both so_far told had held has (told_lines ts) (run_line (told_of t.ended)) h.told (tells_line (told_of t.ended) told held has tells));
-  quiet = quiet_more ts t so_far told had held has h.quiet tells;
+  told = tells_more ts t so_far told had held has h.told tells;
 }

@@ -12,9 +12,10 @@ use Rattle.fed_words.specs.Words.{Reads, places_asked}
 use Rattle.fed_words.specs.declared.words.Asked.{Asked}
 use Rattle.fed_words.specs.declared.words.Service.TheVariants.{StandardInput, Connections}
 use Rattle.fed_words.specs.declared.words.WordsFault.{WordsFault}
-use Rattle.fed_cli.specs.Exits.{Runs, Tells, TellsRun, TellsWords}
+use Rattle.fed_cli.specs.Exits.{Runs, Tells, TellsRun, TellsWords, Written}
 use Rattle.fed_cli.specs.Setup.{BeginsBy, BeginsNot, IsReadOf}
-use Rattle.fed_cli.specs.Streams.{Stream, stream, IsUntouched}
+use Rattle.fed_output.specs.Outlets.{Outlet, FrontWritten}
+use Rattle.fed_stream.specs.Streams.{Stream, stream, IsUntouched}
 use Rattle.fed_cli.specs.Told.{Came, run_status}
 use Rattle.fed_cli.specs.declared.told.RunFault.{RunFault}
 use Rattle.fed_serve.specs.Listens.{Listens, listen_text}
@@ -36,10 +37,15 @@ abbrev pub listen_line : Listened → List ℕ
 listen_line (Ok _) = []
 listen_line (Err fault) = codes "fedq: " ++ listen_text fault ++ codes "\n"
 
--- Standard error gets nothing where all were served, and else that line. A write may fail: then not all was told.
+-- Standard error gets nothing where all were served, and else that line. A write may fail: then it got a front of it.
 abbrev pub TellsListened : Listened → Bool → Stream → Type 0
 TellsListened (Ok x) is_told errors = (is_told ≡ true) × IsUntouched errors
 TellsListened (Err fault) is_told errors = Tells is_told errors (listen_line (Err fault))
+
+-- That line was written to a sink, or a front of it and then a call was given up; nothing was done to it where all were served.
+abbrev pub WritesListened : Listened → Written → Option (List ℕ) → Option (List ℕ) → Option Outlet → Option Outlet → Type 0
+WritesListened (Ok x) result held holds old new = (result ≡ Ok tt) × (holds ≡ held) × (new ≡ old)
+WritesListened (Err fault) result held holds old new = FrontWritten held holds old new result (listen_line (Err fault))
 
 -- Connections to a port were served for what is asked, with this script, and it came to this: an engine with which the program begins, where
 -- every source is honest, served them, and once its sessions are closed its boxes are the last ones. Standard error got the lines of
@@ -94,13 +100,17 @@ pub data Exits {W R S : Type 0} (honest : Bool) (meaning : W → BoxState) (rema
       → TellsWords fault exit.is_told output errors → exit.status ≡ told_status fault exit.is_told
       → Exits honest meaning remaining contents words exit input output errors
 
--- the exit status where the environment gives no words
+-- the exit status where the environment gives no words, and the line on standard error
 abbrev pub args_status : ArgsFault → ℕ
 args_status args.NotText = 2
 args_status args.NoMemory = 1
 
+abbrev pub args_line : ArgsFault → List ℕ
+args_line args.NotText = codes "error: invalid UTF-8 was detected in one or more arguments\n"
+args_line args.NoMemory = codes "fedq: out of memory\n"
+
 -- The program exits by this status on what its environment gives: so on its words, or, where they cannot be read, with nothing read of
--- standard input and nothing written to standard output.
+-- standard input, nothing written to standard output, and that line on standard error, or a front of it.
 pub data ExitsBy {W R S : Type 0} (honest : Bool) (meaning : W → BoxState) (remaining : R → Option (List ℕ)) (contents : S → Option (List ℕ))
     (words : Result (Vec (String Global) Global) ArgsFault) (status : ℕ)
     (input output errors : Stream) : Type 0 where
@@ -108,4 +118,5 @@ pub data ExitsBy {W R S : Type 0} (honest : Bool) (meaning : W → BoxState) (re
       → Exits honest meaning remaining contents (map string_bytes given.items) exit input output errors
       → status ≡ exit.status → ExitsBy honest meaning remaining contents words status input output errors
   on_none : (fault : ArgsFault) → words ≡ Err fault → IsUntouched input → IsUntouched output → status ≡ args_status fault
+      → (is_told : Bool) → Tells is_told errors (args_line fault)
       → ExitsBy honest meaning remaining contents words status input output errors

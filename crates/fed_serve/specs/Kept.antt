@@ -4,10 +4,10 @@ use Rattle.med_session.specs.World.{World, without_sessions}
 use Rattle.fdw_api.specs.State.{BoxState}
 use Rattle.med_session.specs.Engine.{Shown, Agrees, EachRises}
 use Rattle.session_wire.specs.Worlds.{Scene, SceneSteps, SceneEnds}
-use Rattle.fed_cli.specs.Streams.{Stream}
-use Rattle.fed_cli.specs.Served.{Serves}
-use Rattle.fed_cli.specs.declared.stream.Ended.{Ended}
-use Rattle.fed_cli.specs.declared.stream.StreamFault.{StreamFault}
+use Rattle.fed_stream.specs.Streams.{Stream}
+use Rattle.fed_stream.specs.Served.{Serves}
+use Rattle.fed_stream.specs.declared.stream.Ended.{Ended}
+use Rattle.fed_stream.specs.declared.stream.StreamFault.{StreamFault}
 
 -- this world, over what an engine shows of its boxes
 abbrev pub over : Shown → World → Scene

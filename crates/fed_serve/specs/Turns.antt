@@ -1,12 +1,12 @@
 -- Connections that are served one after the other.
-use Rattle.std.specs.Prelude.{◌≡◌, ◌<◌, ℕ, Bool, true, List, [], ◌∷◌, ◌++◌, Option, Result, Ok, Err}
+use Rattle.std.specs.Prelude.{◌≡◌, ◌<◌, ℕ, Bool, true, List, [], ◌∷◌, ◌&&◌, Option, Result, Ok, Err}
 use Rattle.med_session.specs.World.{World}
 use Rattle.med_session.specs.Engine.{Shown, Agrees}
-use Rattle.fed_cli.specs.Exits.{Tells}
-use Rattle.fed_cli.specs.Streams.{Stream, stream, IsUntouched}
-use Rattle.fed_cli.specs.Told.{told_of, run_line}
-use Rattle.fed_cli.specs.declared.stream.Ended.{Ended}
-use Rattle.fed_cli.specs.declared.stream.StreamFault.{StreamFault}
+use Rattle.fed_cli.specs.Exits.{TellsRun}
+use Rattle.fed_stream.specs.Streams.{Stream, stream}
+use Rattle.fed_cli.specs.Told.{told_of}
+use Rattle.fed_stream.specs.declared.stream.Ended.{Ended}
+use Rattle.fed_stream.specs.declared.stream.StreamFault.{StreamFault}
 use Rattle.fed_serve.specs.Kept.{KeepsServed}
 
 -- A connection that was served: its reader and writer as they were taken, and as they were given back, and how it ended.
@@ -50,15 +50,17 @@ ServesEach remaining contents old w (t ∷ ts) new after =
     (mid : Shown) × (between : World) × KeepsServed old mid w between (input_of remaining t) (output_of contents t) t.ended
     × ServesEach remaining contents mid between ts new after
 
--- the lines of those that ended otherwise than with their input
-abbrev pub told_lines : {R W : Type 0} → List (Turn R W) → List ℕ
-told_lines [] = []
-told_lines (t ∷ ts) = run_line (told_of t.ended) ++ told_lines ts
+-- How these connections ended was told in order, and nothing else: of each that ended otherwise than with its input its line, or a front of
+-- it. All of it where all is told.
+abbrev pub TellsEach : {R W : Type 0} → List (Turn R W) → Bool → Option (List ℕ) → Option (List ℕ) → Type 0
+TellsEach [] is_told before after = (is_told ≡ true) × (after ≡ before)
+TellsEach (t ∷ ts) is_told before after =
+    (first : Bool) × (rest : Bool) × (between : Option (List ℕ)) × (is_told ≡ (first && rest))
+    × TellsRun (told_of t.ended) first (stream before between) × TellsEach ts rest between after
 
--- These connections were served by an engine that shows this before and that after, from each world that agrees with it to one that does.
--- Where all could be told, standard error got their lines, and nothing else; where no line is to be told, it got nothing.
+-- These connections were served by an engine that shows this before and that after, from each world that agrees with it to one that does,
+-- and standard error was told of them.
 pub record AreServed {R W : Type 0} (remaining : R → Option (List ℕ)) (contents : W → Option (List ℕ)) (old : Shown)
     (turns : List (Turn R W)) (new : Shown) (is_told : Bool) (errors : Stream) : Type 0 where
   pub worlds : (w : World) → Agrees old w → (after : World) × ServesEach remaining contents old w turns new after × Agrees new after
-  pub told : Tells is_told errors (told_lines turns)
-  pub quiet : told_lines turns ≡ [] → (is_told ≡ true) × IsUntouched errors
+  pub told : TellsEach turns is_told errors.before errors.after

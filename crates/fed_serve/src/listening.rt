@@ -1,18 +1,22 @@
 //! Connections over TCP.
-ghost use Rattle.std.specs.Prelude.{◌≡◌, ◌<◌, IsTrue, IfErr};
-ghost use Rattle.std.specs.Io.KnownBytes.{Appends};
+ghost use Rattle.std.specs.Prelude.{◌≡◌, ◌<◌, Err, IfErr, is_ok};
 ghost use Rattle.std.specs.Net.Socket.{socket_port};
-ghost use Rattle.fed_cli.specs.Streams.{stream};
-ghost use Rattle.fed_serve.specs.Listens.{IsLocal, Listens, listened, port_line};
+ghost use Rattle.fed_stream.specs.Streams.{stream};
+ghost use Rattle.fed_cli.specs.Exits.{Tells};
+ghost use Rattle.fed_output.specs.Known.{Known};
+ghost use Rattle.fed_output.specs.declared.source.GivenUp.{GivenUp};
+ghost use Rattle.fed_serve.specs.Listens.{CallsPort, IsLocal, Listens, listened, port_line};
 ghost use Rattle.med_session.specs.Engine.{IsSound};
 ghost use Rattle.med_session.specs.Shows.{shown};
 
 use crate::turns::{AcceptFault, Connections, Kept, serve_connections};
 use fdw_api::interface::Wrapper;
+use fed_output::{GivenUp, Sink, flush};
+use fed_tell::write_line;
+use itoa::Buffer;
 use med_session::Engine;
 use std::error::Error;
 use std::fmt;
-use std::io::Write;
 use std::net::{IpAddr, Ipv4Addr, Net, OpenListener, OpenStream, SocketAddr};
 
 /// Why connections to a port were not all served.
@@ -97,8 +101,8 @@ fn local_address(port: u16) -> SocketAddr
 /// engine, one after the other, as `serve_connections` does.
 ///
 /// Of what peers send and get nothing can be said: they are others. Nothing is served where the port is not to be had or the line could
-/// not be written.
-pub fn listen_and_serve<B: Wrapper, V: AllocGlobal + Net, O: Write, E: Write>(
+/// not be written: then a front of it was, and where the output tells its calls one of them failed, or 4,294,967,295 were interrupted.
+pub fn listen_and_serve<B: Wrapper, V: AllocGlobal + Net, O: Sink, E: Sink>(
     rt: &V,
     engine: Engine<B>,
     port: u16,
@@ -112,6 +116,8 @@ pub fn listen_and_serve<B: Wrapper, V: AllocGlobal + Net, O: Write, E: Write>(
         (shown B.meaning result.engine) result.is_told
         (stream (O.contents output.old) (O.contents output.new)) (stream (E.contents errors.old) (E.contents errors.new)) }
     ensures sound { IsSound (shown B.meaning result.engine) }
+    ensures writes { result.came ≡ Err ListenFault.Write
+        → Known (O.outlet output.old) (O.outlet output.new) (λ old new. (fault : GivenUp) × CallsPort old new (Err fault)) }
 {
     let mut listening = match Listening::<V>::bind(rt, port) {
         Ok(listening) => listening,
@@ -123,12 +129,15 @@ pub fn listen_and_serve<B: Wrapper, V: AllocGlobal + Net, O: Write, E: Write>(
             };
         }
     };
-    if !tell_port(port, output) {
-        return Kept {
-            came: Err(ListenFault::Write),
-            is_told: true,
-            engine,
-        };
+    match tell_port(port, output) {
+        Ok(()) => {}
+        Err(_) => {
+            return Kept {
+                came: Err(ListenFault::Write),
+                is_told: true,
+                engine,
+            };
+        }
     }
     let kept = serve_connections(rt.alloc(), engine, &mut listening, count, errors);
     Kept {
@@ -138,11 +147,16 @@ pub fn listen_and_serve<B: Wrapper, V: AllocGlobal + Net, O: Write, E: Write>(
     }
 }
 
-// Tells the port on standard output. The answer is whether it could be written.
-fn tell_port<O: Write>(port: u16, output: &mut O) -> bool
-    ensures { IsTrue result → Appends (O.contents output.old) (O.contents output.new) (port_line port) }
+// Tells the port on standard output, and flushes it. A write or flush that is interrupted is tried again.
+fn tell_port<O: Sink>(port: u16, output: &mut O) -> Result<(), GivenUp>
+    ensures told { Tells (is_ok result) (stream (O.contents output.old) (O.contents output.new)) (port_line port) }
+    ensures calls { Known (O.outlet output.old) (O.outlet output.new) (λ old new. CallsPort old new result) }
 {
-    writeln!(output, "fedq: listening on 127.0.0.1:{port}").is_ok() && output.flush().is_ok()
+    let mut digits = Buffer::new();
+    match write_line(output, &["listening on 127.0.0.1:", digits.format(port)]) {
+        Ok(()) => flush(output),
+        Err(fault) => Err(fault),
+    }
 }
 
 // What it came to that the connections to a port were served.

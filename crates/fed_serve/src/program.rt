@@ -2,15 +2,19 @@
 ghost use Rattle.std.specs.Prelude.{◌≡◌, ◌<◌, Err, None, map, string_bytes};
 ghost use Rattle.med_session.specs.Requests.{IsUser};
 ghost use Rattle.fed_cli.specs.Exits.{TellsRun};
-ghost use Rattle.fed_cli.specs.Streams.{stream};
+ghost use Rattle.fed_stream.specs.Streams.{stream};
 ghost use Rattle.fed_cli.specs.Told.{run_status};
-ghost use Rattle.fed_serve.specs.Exits.{Exits, ExitsBy, ServesAsked, TellsListened, listen_status};
+ghost use Rattle.fed_serve.specs.Exits.{Exits, ExitsBy, ServesAsked, WritesListened, listen_status};
 
 use crate::listening::{ListenFault, listen_and_serve};
 use fdw_api::interface::Wrapper;
-use fed_cli::program::{NotBegun, begin, run_asked, tell_run, tell_words};
+use fed_cli::program::{NotBegun, begin, run_asked};
+use fed_cli::telling::{tell_run, tell_words};
 use fed_cli::told::status;
+use fed_output::{GivenUp, Sink, write_front};
+use fed_tell::write_line;
 use fed_words::words::{Asked, Service, read_words};
+use itoa::Buffer;
 use med_session::Sources;
 use source_kinds::Source;
 use sqlite_databases::Databases;
@@ -31,13 +35,18 @@ pub struct Exit<W> {
     pub sources: Option<Sources<W>>,
 }
 
-// Tells on standard error what it came to that connections were served, if not all were. The answer is whether it could be written.
-fn tell_listened<E: Write>(came: Result<(), ListenFault>, errors: &mut E) -> bool
-    ensures { TellsListened came result (stream (E.contents errors.old) (E.contents errors.new)) }
+// Tells on standard error what it came to that connections were served, by one line if not all were.
+fn tell_listened<E: Sink>(came: Result<(), ListenFault>, errors: &mut E) -> Result<(), GivenUp>
+    ensures { WritesListened came result (E.contents errors.old) (E.contents errors.new) (E.outlet errors.old) (E.outlet errors.new) }
 {
     match came {
-        Ok(()) => true,
-        Err(fault) => writeln!(errors, "fedq: {fault}").is_ok(),
+        Ok(()) => Ok(()),
+        Err(ListenFault::CannotListen(port)) => {
+            let mut digits = Buffer::new();
+            write_line(errors, &["cannot listen on port ", digits.format(port)])
+        }
+        Err(ListenFault::Write) => write_line(errors, &["write fault"]),
+        Err(ListenFault::Accept) => write_line(errors, &["accept fault"]),
     }
 }
 
@@ -52,13 +61,13 @@ fn listen_status(came: Result<(), ListenFault>) -> u8
 }
 
 // How a program exits that did not begin, and tells why.
-fn not_begun<'a, W: Drop, E: Write>(refused: NotBegun<'a>, errors: &mut E) -> Exit<W>
+fn not_begun<'a, W: Drop, E: Sink>(refused: NotBegun<'a>, errors: &mut E) -> Exit<W>
     ensures told { TellsRun (Err refused.entry.fault) result.is_told (stream (E.contents errors.old) (E.contents errors.new)) }
     ensures status { result.status ≡ run_status (Err refused.entry.fault) }
     ensures script { result.script ≡ refused.entry.script }
     ensures sources { result.sources ≡ None }
 {
-    let is_told = tell_run(Err(refused.fault), errors);
+    let is_told = tell_run(Err(refused.fault), errors).is_ok();
     Exit {
         status: status(Err(refused.fault)),
         is_told,
@@ -89,7 +98,7 @@ pub fn serve_asked<V: AllocGlobal + Files + Clone + Databases + Drop + Net, O: W
         Err(refused) => return not_begun(refused, errors),
     };
     let kept = listen_and_serve(rt, begun.engine, port, count, output, errors);
-    let is_told = tell_listened(kept.came, errors);
+    let is_told = tell_listened(kept.came, errors).is_ok();
     Exit {
         status: listen_status(kept.came),
         is_told: kept.is_told & is_told,
@@ -114,7 +123,7 @@ pub fn run_words<
     let asked = match read_words(rt.alloc(), words) {
         Ok(asked) => asked,
         Err(fault) => {
-            let is_told = tell_words(&fault, output, errors);
+            let is_told = tell_words(&fault, output, errors).is_ok();
             let refused = fault.told_status(is_told);
             return Exit {
                 status: refused,
@@ -130,7 +139,7 @@ pub fn run_words<
         }
         Service::StandardInput => {
             let ran = run_asked(rt, asked, input, output);
-            let is_told = tell_run(ran.came, errors);
+            let is_told = tell_run(ran.came, errors).is_ok();
             let status = status(ran.came);
             Exit {
                 status,
@@ -167,13 +176,14 @@ pub fn run<V: AllocGlobal + Files + Clone + Databases + Drop + Net, I: Read, O: 
     match words {
         Ok(words) => run_words(rt, &words, input, output, errors).status,
         Err(ArgsFault::NotText) => {
-            let _ = errors.write_all(
+            let _ = write_front(
+                errors,
                 b"error: invalid UTF-8 was detected in one or more arguments\n",
             );
             2
         }
         Err(ArgsFault::NoMemory) => {
-            let _ = errors.write_all(b"fedq: out of memory\n");
+            let _ = write_front(errors, b"fedq: out of memory\n");
             1
         }
     }

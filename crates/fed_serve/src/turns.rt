@@ -1,16 +1,15 @@
 //! Connections, one after the other.
 ghost use Rattle.std.specs.Prelude.{◌≡◌, List, length, IfOk, OnErr};
-ghost use Rattle.fed_cli.specs.Exits.{TellsRun};
-ghost use Rattle.fed_cli.specs.Streams.{stream};
-ghost use Rattle.fed_cli.specs.Told.{told_of};
+ghost use Rattle.fed_stream.specs.Streams.{stream};
 ghost use Rattle.fed_serve.specs.Turns.{Turn, AreTaken, Ends, AreServed};
 ghost use Rattle.med_session.specs.Engine.{IsSound};
 ghost use Rattle.med_session.specs.Shows.{shown};
 
 use crate::kept::serve_kept;
 use fdw_api::interface::Wrapper;
+use fed_cli::telling::tell_run;
 use fed_cli::told::told;
-use fed_cli::{Ended, StreamFault};
+use fed_output::Sink;
 use med_session::Engine;
 use std::alloc::Global;
 use std::io::{Read, Write};
@@ -63,7 +62,7 @@ pub struct Kept<B, F> {
 ///
 /// Objects stay between connections, and sessions do not. A connection that ends otherwise than with its input is told by one line on
 /// `errors`, and the next is taken. Where no connection can be taken, no further one is.
-pub fn serve_connections<B: Wrapper, C: Connections, E: Write>(
+pub fn serve_connections<B: Wrapper, C: Connections, E: Sink>(
     alloc: Global,
     engine: Engine<B>,
     connections: &mut C,
@@ -94,21 +93,11 @@ pub fn serve_connections<B: Wrapper, C: Connections, E: Write>(
         let (ended, after) = serve_kept(alloc, kept, &mut reader, &mut writer);
         connections.close(reader, writer);
         kept = after;
-        is_told &= tell_ended(ended, errors);
+        is_told &= tell_run(told(ended), errors).is_ok();
     }
     Kept {
         came: Ok(()),
         is_told,
         engine: kept,
-    }
-}
-
-// Tells how a connection ended, if not with its input. The answer is whether it could be written.
-fn tell_ended<E: Write>(ended: Result<Ended, StreamFault>, errors: &mut E) -> bool
-    ensures { TellsRun (told_of ended) result (stream (E.contents errors.old) (E.contents errors.new)) }
-{
-    match told(ended) {
-        Ok(()) => true,
-        Err(fault) => writeln!(errors, "fedq: {fault}").is_ok(),
     }
 }

@@ -1,6 +1,7 @@
 pub mod KeyNumbers
 pub mod Slices
 pub mod Refused
+pub mod Found
 pub mod Groups
 pub mod Pages
 pub mod KeyOrder

@@ -1,5 +1,6 @@
 pub mod Chains
 pub mod Joined
+pub mod Lookups
 pub mod Staging
 pub mod Ordering
 pub mod Grouping

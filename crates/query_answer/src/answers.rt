@@ -55,8 +55,8 @@ fn finished(
 /// groups, those of them that HAVING keeps, what these show, each once under DISTINCT, in an order that ORDER BY allows, cut by
 /// OFFSET and LIMIT.
 ///
-/// It asks that no conjunct of an ON may fault. A join takes time by the product of its two sides, and groups, DISTINCT and ORDER BY
-/// take the time of a sort.
+/// It asks that no conjunct of an ON may fault. A join tries all pairs of its two sides, or where ON compares columns of both by `=`
+/// those that are equal there, and groups, DISTINCT and ORDER BY take the time of a sort.
 ///
 /// # Errors
 ///

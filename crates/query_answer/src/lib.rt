@@ -5,6 +5,7 @@ pub mod answers;
 mod filtering;
 mod grouping;
 mod joins;
+mod lookups;
 mod ordering;
 pub mod outputs;
 mod refusals;

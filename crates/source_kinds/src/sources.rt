@@ -1,5 +1,5 @@
 //! A source of any kind that a program serves, and how one of each is made.
-ghost use Rattle.std.specs.Prelude.{◌≡◌, IfOk};
+ghost use Rattle.std.specs.Prelude.{◌≡◌, Some, IfOk, option_map, string_bytes};
 ghost use Rattle.fdw_api.specs.State.{IsIdle};
 ghost use Rattle.blob_store.specs.Shelves.{nothing_known};
 ghost use Rattle.med_catalog.specs.declared.kind.SourceKind.TheVariants.{Csv, JsonLines, Sqlite, List as Lists};
@@ -8,6 +8,7 @@ ghost use Rattle.list_wrapper.specs.ListBoxes.{box_of};
 ghost use Rattle.csv_wrapper.specs.CsvBoxes.{IsNewCsv};
 ghost use Rattle.jsonl_wrapper.specs.Boxes.{IsNewJsonl};
 ghost use Rattle.source_kinds.specs.Databases.{IsNewDatabase, IsNewFile, IsNewMemory};
+ghost use Rattle.source_kinds.specs.Folders.{folder_in};
 
 use crate::law::{
     csv_takes_its_tables, jsonl_takes_its_tables, lists_take_their_tables, sqlite_takes_its_tables,
@@ -67,6 +68,7 @@ pub fn of_csv<V: Files + Clone + Databases + Drop>(
     ensures new { IfOk result (λ s. IsNewCsv (⟦<Source<V> as Wrapper>⟧.meaning s) (nothing_known 0)) }
     ensures idle { IfOk result (λ s. IsIdle (⟦<Source<V> as Wrapper>⟧.meaning s)) }
     ensures takes { IfOk result (λ s. TakesAs Csv (⟦<Source<V> as Wrapper>⟧.meaning s)) }
+    ensures path { IfOk result (λ s. option_map (λ f. string_bytes f.path) (folder_in s) ≡ Some path.now) }
 {
     csv_takes_its_tables();
     let files = Folder::new(alloc, rt, path)?;
@@ -84,6 +86,7 @@ pub fn of_jsonl<V: Files + Clone + Databases + Drop>(
     ensures new { IfOk result (λ s. IsNewJsonl (⟦<Source<V> as Wrapper>⟧.meaning s) (nothing_known 0)) }
     ensures idle { IfOk result (λ s. IsIdle (⟦<Source<V> as Wrapper>⟧.meaning s)) }
     ensures takes { IfOk result (λ s. TakesAs JsonLines (⟦<Source<V> as Wrapper>⟧.meaning s)) }
+    ensures path { IfOk result (λ s. option_map (λ f. string_bytes f.path) (folder_in s) ≡ Some path.now) }
 {
     jsonl_takes_its_tables();
     let files = Folder::new(alloc, rt, path)?;

@@ -1,5 +1,5 @@
 -- What binding does to a SQLite source.
-use Rattle.std.proofs.Common.{◌≡◌, ◌≢◌, ℕ, ◌<◌, Bool, true, false, if◌then◌else◌, nat_eq, List, [], ◌∷◌, Option, Some, None, length, map, option_map, slice_index_or, slice_set, refl, ap, sym, ◌∙◌, subst, arith, nat_lt}
+use Rattle.std.proofs.Common.{◌≡◌, ◌≢◌, ℕ, ◌<◌, Bool, true, false, nat_eq, List, [], ◌∷◌, Option, Some, None, length, map, option_map, slice_index_or, slice_set, refl, ap, sym, ◌∙◌, subst, arith, nat_lt}
 use Rattle.std.specs.List.{IsDistinct}
 use Rattle.std.specs.BTreeMap.{BTreeMap}
 use Rattle.sqlite.specs.Effect.{Database}
@@ -27,7 +27,6 @@ use Rattle.staged_changes.specs.declared.changes.StagedWrite.{StagedWrite}
 use Rattle.sqlite_wrapper.specs.Kinds.{sqlite_image}
 use Rattle.sqlite_wrapper.specs.Boxes.{bound_of, marked_bound, entry_at, sqlite_state}
 use Rattle.sqlite_wrapper.proofs.Bound.{marks}
-use Rattle.sqlite_wrapper.proofs.LiveScans.{some_inj}
 
 pub place_within : (bound : List Bool) (remote : List ℕ) (t : ℕ) → length bound ≡ layout_count → place_of remote ≡ Some t → t < length bound
 place_within bound remote t each e = let lt = (place_named remote t e).1 in omega (arith, each, lt)

@@ -21,7 +21,7 @@ use Rattle.sqlite_wrapper.specs.declared.scans.KeyScan.{KeyScan}
 use Rattle.staged_changes.specs.declared.changes.StagedWrite.{StagedWrite}
 use Rattle.sqlite_wrapper.specs.declared.scans.PageWanted.{PageWanted}
 use Rattle.sqlite_wrapper.specs.declared.rows.GivenNext.{GivenNext}
-use Rattle.sqlite_cells.specs.Layouts.{Layout, layout_at}
+use Rattle.sqlite_cells.specs.Layouts.{layout_at}
 use Rattle.sqlite_cells.specs.Cells.{key_in}
 use Rattle.sqlite_cells.specs.Tables.{IsKnown, behind, entries_of}
 use Rattle.sqlite_writes.specs.Writable.{IsWritable}

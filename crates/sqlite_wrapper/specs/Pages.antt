@@ -1,11 +1,11 @@
 -- Which page a scan asks for, and how it stands behind a row.
-use Rattle.std.specs.Prelude.{◌≡◌, ◌<◌, ◌≤ℤ◌, List, [], ◌∷◌, drop, ℤ, pos, ◌+ℤ◌, ◌+◌, Bool, true, false, not, ◌||◌, length, Option, Some, None, if◌then◌else◌, nat_lt, int_lt}
+use Rattle.std.specs.Prelude.{◌≡◌, ◌<◌, ◌≤ℤ◌, List, [], ◌∷◌, drop, ℤ, pos, ◌+ℤ◌, ◌+◌, Bool, true, false, not, ◌||◌, length, Option, Some, None, if◌then◌else◌, nat_lt, int_lt, int_le, ◌&&◌}
 use Rattle.sqlite.specs.Order.{Row as SqlRow}
 use Rattle.med_value.specs.Datum.{tuple}
-use Rattle.fdw_api.specs.Scan.{spec_of, shown_fits}
+use Rattle.fdw_api.specs.Scan.{spec_of, shown_fits, row_fits}
 use Rattle.fdw_api.specs.Calls.{row_of}
 use Rattle.sqlite_cells.specs.Layouts.{kinds_in, layout_at}
-use Rattle.sqlite_cells.specs.Cells.{key_in}
+use Rattle.sqlite_cells.specs.Cells.{key_in, cells_of, is_row}
 use Rattle.sqlite_wrapper.specs.Boxes.{scan_is, unread, to_come, given_of}
 use Rattle.sqlite_wrapper.specs.declared.rows.GivenNext.{GivenNext}
 use Rattle.sqlite_wrapper.specs.declared.scans.KeyScan.{KeyScan}
@@ -27,6 +27,12 @@ pub record Turns (honest : Bool) (entries : List SqlRow) (old new : KeyScan) : T
   pub keys : (new.low ≡ old.low) × (new.high ≡ old.high) × (new.«open» ≡ old.«open»)
   pub rows : honest ≡ true → to_come entries new ≡ to_come entries old
   pub read : wanted_by new ≡ None
+
+-- whether a row of a page is one of its table's types, of a key that may come
+abbrev pub may_be_next : KeyScan → SqlRow → Bool
+may_be_next s r =
+    is_row r && row_fits (kinds_in (layout_at s.table)) (cells_of (layout_at s.table) r)
+    && s.«open» && int_le s.low (key_in r) && int_le (key_in r) s.high
 
 -- the next row of the page, of a key that may come, as the scan gives it; none where the page has no more
 abbrev pub IsNext : KeyScan → Option GivenNext → Type 0

@@ -1,5 +1,5 @@
 //! The rows of live scans: pages are read, and rows given.
-ghost use Rattle.std.specs.Prelude.{◌≡◌, true, false, Some, IfOk, IfErr, IfSome, IsSome, OnOk, OnErr};
+ghost use Rattle.std.specs.Prelude.{◌≡◌, true, false, Some, slice_get, IfOk, IfErr, IfSome, IsSome, OnOk, OnErr};
 ghost use Rattle.std.specs.Ordering.{nat_cmp};
 ghost use Rattle.std.specs.BTreeMap as tree;
 ghost use Rattle.fdw_api.specs.Calls.{faults_after, not_refused};
@@ -8,7 +8,7 @@ ghost use Rattle.sqlite_wrapper.specs.declared.scans.KeyScan.{KeyScan};
 ghost use Rattle.sqlite_cells.specs.Layouts.{layout_at};
 ghost use Rattle.sqlite_cells.specs.Tables.{IsKnown, entries_of};
 ghost use Rattle.sqlite_wrapper.specs.Boxes.{Sets};
-ghost use Rattle.sqlite_wrapper.specs.Pages.{IsNext, Turns};
+ghost use Rattle.sqlite_wrapper.specs.Pages.{IsNext, Turns, may_be_next};
 
 use crate::scans::{KeyScan, page_wanted, turn_page};
 use fdw_api::interface::{Fault, RowId, SourceRow};
@@ -38,7 +38,8 @@ pub(crate) fn faults_after(faults: u64, fault: Fault) -> u64
 }
 
 fn fault_of_misread(misread: Misread) -> Fault
-    ensures { not_refused result }
+    ensures no_cause { not_refused result }
+    ensures memory { misread ≡ Misread.NoMemory → result ≡ Fault.NoMemory }
 {
     match misread {
         Misread::NoMemory => Fault::NoMemory,
@@ -49,6 +50,8 @@ fn fault_of_misread(misread: Misread) -> Fault
 fn given_next(alloc: Global, scan: &KeyScan) -> Result<Option<GivenNext>, Fault>
     ensures ok { IfOk result (IsNext scan.now) }
     ensures err { IfErr result not_refused }
+    ensures source { IfErr result (λ f. f ≡ Fault.Source → (r : _) → slice_get scan.now.page.items scan.now.at ≡ Some r
+        → may_be_next scan.now r ≡ false) }
 {
     if scan.page.len() <= scan.at {
         return Ok(None);

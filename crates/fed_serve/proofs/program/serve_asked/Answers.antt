@@ -1,7 +1,7 @@
 use Rattle.std.proofs.Common.{refl}
 use Rattle.med_session.specs.Shows.{shown}
 use Rattle.fed_serve.specs.Exits.{has_not_begun, has_begun}
-use Rattle.fed_serve.proofs.Exited.{by_script}
+use Rattle.fed_serve.proofs.Exited.{by_script, listened_told}
 use Rattle.fed_serve.proofs.program.serve_asked.Goals as goal
 
 -- the program did not begin
@@ -22,8 +22,8 @@ returns g c =
       between = _;
       listened = c.listen_and_serve-kept.result.is_told;
       listens = c.listen_and_serve-kept.ensures.listens;
-      told = c.tell_listened-is_told.result;
-      tells = c.tell_listened-is_told.ensures;
+      told = c.is_ok-is_told.result;
+      tells = listened_told c.listen_and_serve-kept.result.came _ _ _ _ c.tell_listened.result c.is_ok-is_told.result c.is_ok-is_told.ensures.value c.tell_listened.ensures;
       all = refl;
       closed = c.finish.ensures.closed.0;
       closes = c.finish.ensures.closed.1;

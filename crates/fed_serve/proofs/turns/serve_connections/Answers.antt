@@ -1,6 +1,6 @@
 use Rattle.std.proofs.Common.{◌+◌, [], ◌∷◌, ◌++◌, refl, ap, ◌∙◌, length-append}
 use Rattle.fed_serve.specs.Turns.{Turn}
-use Rattle.fed_serve.proofs.MoreTurns.{taken_more, served_none, served_more}
+use Rattle.fed_serve.proofs.MoreTurns.{taken_more, served_none, served_more, told_ended}
 use Rattle.fed_serve.proofs.turns.serve_connections.Goals as goal
 
 -- no connection is taken yet
@@ -22,7 +22,8 @@ loop-preserved g c =
         so_far.0 ++ turn ∷ [],
         taken_more g.C.Connections.accepts g.C.Connections.closes c.args.connections.now c.loop.connections c.accept.new.self c.close.new.self so_far.0 turn so_far.1 c.in-Ok.ensures.taken c.close.ensures,
         length-append so_far.0 (turn ∷ []) ∙ ap (λ n. n + 1) so_far.2,
-        served_more _ _ _ _ _ so_far.0 turn _ _ _ _ _ so_far.3 c.serve_kept-ended.ensures.worlds c.tell_ended-is_told.ensures,
+        served_more _ _ _ _ _ so_far.0 turn _ _ _ _ _ so_far.3 c.serve_kept-ended.ensures.worlds
+            (told_ended turn.ended c.told.result (g.E.Sink.contents c.loop.errors) (g.E.Sink.contents c.tell_run.new.errors) (g.E.Sink.outlet c.loop.errors) (g.E.Sink.outlet c.tell_run.new.errors) c.tell_run.result c.is_ok-is_told.result c.told.ensures c.is_ok-is_told.ensures.value c.tell_run.ensures),
       ),
       c.serve_kept-ended.ensures.sound,
     )

@@ -1,0 +1,49 @@
+-- What was written to a sink, and the calls where nothing was done.
+use Rattle.std.proofs.Common.{◌≡◌, Bool, ℕ, List, [], Option, Ok, Err, is_ok, refl, arith}
+use Rattle.fed_output.specs.Inlets.{Inlet}
+use Rattle.fed_output.specs.Outlets.{Outlet, FrontWritten}
+use Rattle.fed_output.specs.Known.{Known}
+use Rattle.fed_output.proofs.Known.{known_self}
+use Rattle.fed_stream.specs.Calls.{ReadsStream, WritesStream}
+use Rattle.fed_stream.specs.Streams.{stream}
+use Rattle.fed_stream.specs.declared.stream.Ended.{Ended}
+use Rattle.fed_stream.specs.declared.stream.StreamFault.TheVariants as faults
+use Rattle.fed_stream.proofs.Calls.{writes_no_room}
+use Rattle.fed_cli.specs.Exits.{Tells, TellsRun, TellsWords, Written, WritesRun, WritesIf, is_help}
+use Rattle.fed_cli.specs.Told.{Came, run_line}
+use Rattle.fed_words.specs.Told.{words_text}
+use Rattle.fed_words.specs.declared.words.WordsFault.{WordsFault}
+use Rattle.fed_words.specs.declared.words.WordsFault.TheVariants.{Help, Usage, NoPath, BadName, NoMemory}
+use Rattle.std.specs.Prelude.{not}
+
+-- ---- where there is no room for a server
+
+reads_none : (a : Inlet) → ReadsStream a a (Err faults.NoRoom)
+reads_none a = record { met = []; reads = 0; gone = refl; count = refl; most = omega arith; ends = tt }
+
+pub nothing_read : (old : Option Inlet) → Known old old (λ a b. ReadsStream a b (Err faults.NoRoom))
+nothing_read old = known_self old _ reads_none
+
+pub nothing_called : (old : Option Outlet) → Known old old (λ a b. WritesStream {T = Ended} a b (Err faults.NoRoom))
+nothing_called old = known_self old _ writes_no_room
+
+-- ---- a text that was written, or a front of it
+
+pub front_told : (held holds : Option (List ℕ)) (old new : Option Outlet) (result : Written) (told : Bool) (text : List ℕ) → told ≡ is_ok result → FrontWritten held holds old new result text
+    → Tells told (stream held holds) text
+front_told held holds old new (Ok x) told text e p = record { front = p.front; others = p.others; parts = p.parts; whole = λ _. p.whole; written = p.written }
+front_told held holds old new (Err f) told text e p = record { front = p.front; others = p.others; parts = p.parts; whole = λ yes. absurd cc; written = p.written }
+
+pub run_told : (came : Came) (held holds : Option (List ℕ)) (old new : Option Outlet) (result : Written) (told : Bool) → told ≡ is_ok result → WritesRun came result held holds old new
+    → TellsRun came told (stream held holds)
+run_told (Ok x) held holds old new result told e w = (cc, w.1)
+run_told (Err fault) held holds old new result told e w = front_told held holds old new result told (run_line (Err fault)) e w
+
+pub words_told : (fault : WordsFault) (out outs held holds : Option (List ℕ)) (o os old new : Option Outlet) (result : Written) (told : Bool) → told ≡ is_ok result
+    → WritesIf (is_help fault) (words_text fault) result out outs o os → WritesIf (not (is_help fault)) (words_text fault) result held holds old new
+    → TellsWords fault told (stream out outs) (stream held holds)
+words_told (Help text) out outs held holds o os old new result told e p q = (front_told out outs o os result told (words_text (Help text)) e p, q.0)
+words_told (Usage text) out outs held holds o os old new result told e p q = (p.0, front_told held holds old new result told (words_text (Usage text)) e q)
+words_told (NoPath value) out outs held holds o os old new result told e p q = (p.0, front_told held holds old new result told (words_text (NoPath value)) e q)
+words_told (BadName name) out outs held holds o os old new result told e p q = (p.0, front_told held holds old new result told (words_text (BadName name)) e q)
+words_told NoMemory out outs held holds o os old new result told e p q = (p.0, front_told held holds old new result told (words_text NoMemory) e q)
