@@ -1,6 +1,6 @@
 -- A list takes each table that the catalogue lets pass.
 use Rattle.std.proofs.Common.{◌≡◌, ◌<◌, arith, Bool, true, false, List, [], ◌++◌, refl, ap, ◌∙◌}
-use Rattle.fdw_api.specs.Kinds.{Column, Setting}
+use Rattle.fdw_api.specs.Kinds.{Column, OptionForm}
 use Rattle.fdw_api.specs.State.{BoxState}
 use Rattle.ddl_syntax.specs.DdlTree.{TableTree}
 use Rattle.med_value.specs.declared.cause.Cause.{Cause}
@@ -26,4 +26,4 @@ none_unknown o t none =
 
 pub list_takes : (s : BoxState) → ((columns : List Column) → s.nature.kind.objections columns [] ≡ []) → Law → TakesAs Lists s
 list_takes s h law = λ o t columns declared none.
-    ap (λ (settings : List Setting). s.nature.kind.objections columns settings) (law t (none_unknown o t none)) ∙ h columns
+    ap (λ (settings : List OptionForm). s.nature.kind.objections columns settings) (law t (none_unknown o t none)) ∙ h columns

@@ -2,7 +2,7 @@
 use Rattle.std.specs.Prelude.{◌≡◌, ℕ, List, [], ◌∷◌, ◌++◌, codes}
 use Rattle.fdw_api.specs.State.{BoxState}
 use Rattle.med_catalog.specs.declared.kind.SourceKind.TheVariants as kinds
-use Rattle.med_world.specs.Requests.{Asked, opening, sql, bye}
+use Rattle.med_world.specs.Requests.{AskedLine, opening, sql, bye}
 use Rattle.med_world.specs.Replies.{Reply, reply_text}
 use Rattle.med_world.specs.Steps.{Trouble, Step}
 use Rattle.med_world.specs.World.{World, empty_world, with_source}
@@ -11,10 +11,10 @@ use Rattle.bench_tables.specs.Tables.{bench_list}
 
 -- a request, and the text that answers it
 pub record Exchange : Type 0 where
-  pub request : Asked
+  pub request : AskedLine
   pub reply : List ℕ
 
-abbrev pub exchange : Asked → List ℕ → Exchange
+abbrev pub exchange : AskedLine → List ℕ → Exchange
 exchange request reply = record { request = request; reply = reply }
 
 -- In session 1 the request is answered by this text, and the world becomes the other.

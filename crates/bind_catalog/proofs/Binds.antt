@@ -11,10 +11,10 @@ use Rattle.med_query.specs.declared.select.Select.{Select}
 use Rattle.bind_names.specs.Scope.{TableShape, entries_of, entry_place}
 use Rattle.bind_names.specs.Naming.{entry_causes, alias_causes, from_causes, asked_causes, once_known, select_name_causes, NameCauses}
 use Rattle.bind_names.specs.Scope.{exposed_name}
-use Rattle.bind_names.specs.Telling.{Tells}
+use Rattle.bind_names.specs.Telling.{TellsCause}
 use Rattle.bind_types.specs.Typing.{select_type_causes}
 use Rattle.med_binder.specs.Binding.{IsBound, BindCauses, BindTells}
-use Rattle.med_binder.specs.declared.bound.Bound.{Bound}
+use Rattle.med_binder.specs.declared.bound.BoundQuery.{BoundQuery}
 use Rattle.pushdown.specs.Offered as offered
 use Rattle.med_catalog.specs.Objects.{Objects, table_named}
 use Rattle.bind_catalog.specs.Tables.{shapes}
@@ -29,7 +29,7 @@ use Rattle.bind_catalog.proofs.Found.{sees_gathered}
 abbrev pub rights_of : Objects → Name → List EntryTree → List Cause
 rights_of o user es = flat_map (λ (e : EntryTree). table_causes reading_causes o user (table_named o e.table)) es
 
-pub rights_told : (o : Objects) (user : Name) (q : SelectTree) (es : List EntryTree) (c : Cause) → es ≡ entries_of q.from → Tells (rights_of o user es) c → IsToldOver o user q c
+pub rights_told : (o : Objects) (user : Name) (q : SelectTree) (es : List EntryTree) (c : Cause) → es ≡ entries_of q.from → TellsCause (rights_of o user es) c → IsToldOver o user q c
 rights_told o user q es c is t = record { told = by t.told }
   where
     by : (c ≡ OutOfMemory) ⊎ Contains (rights_of o user es) c → (c ≡ OutOfMemory) ⊎ (QueryNames o user q c ⊎ (Contains (select_type_causes (shapes o) q) c × ((d : Cause) → QueryNames o user q d → ⊥)))
@@ -40,7 +40,7 @@ once_left : (xs ys : List Cause) (c : Cause) → Contains xs c → Contains (onc
 once_left [] ys c h = absurd (let within = h.1 in omega arith)
 once_left (x ∷ xs) ys c h = h
 
-pub entries_told : (o : Objects) (user : Name) (q : SelectTree) (es : List EntryTree) (c : Cause) → es ≡ entries_of q.from → Tells (flat_map (entry_causes (shapes o)) es) c → IsToldOver o user q c
+pub entries_told : (o : Objects) (user : Name) (q : SelectTree) (es : List EntryTree) (c : Cause) → es ≡ entries_of q.from → TellsCause (flat_map (entry_causes (shapes o)) es) c → IsToldOver o user q c
 entries_told o user q es c is t = record { told = by t.told }
   where
     by : (c ≡ OutOfMemory) ⊎ Contains (flat_map (entry_causes (shapes o)) es) c → (c ≡ OutOfMemory) ⊎ (QueryNames o user q c ⊎ (Contains (select_type_causes (shapes o) q) c × ((d : Cause) → QueryNames o user q d → ⊥)))
@@ -87,7 +87,7 @@ empty_by : (xs : List Cause) → ((c : Cause) → Contains xs c → ⊥) → xs 
 empty_by [] h = refl
 empty_by (x ∷ xs) h = absurd (h x (0, omega arith, refl))
 
-pub bound_over : (o : Objects) (bound : List Attached) (user : Name) (q : SelectTree) (es : List EntryTree) (small : List TableShape) (b n : Bound) → AreGathered o user q es small
+pub bound_over : (o : Objects) (bound : List Attached) (user : Name) (q : SelectTree) (es : List EntryTree) (small : List TableShape) (b n : BoundQuery) → AreGathered o user q es small
     → IsBound small (select q) b → is_safe_from b.select.from.items ≡ true → ((c : Cause) → BindCauses small (select q) c → ⊥) → AreEntriesAt o bound es n.entries.items → n.names ≡ b.names → n.select ≡ b.select → IsBoundOver o bound user q n
 bound_over o bound user q es small b n g is safe clear entries names selects = record {
   meant = record {
@@ -106,7 +106,7 @@ bound_over o bound user q es small b n g is safe clear entries names selects = r
     seen = sees o q es small g.are g.gathered g.known
 
 -- where no cause stands, only memory is refused
-pub only_memory : (o : Objects) (bound : List Attached) (user : Name) (q : SelectTree) (r : Result Bound Cause) → ((c : Cause) → QueryNames o user q c → ⊥) → ((c : Cause) → QueryTypes o q c → ⊥) → BindsOver o bound user q r → IfErr r (λ c. c ≡ OutOfMemory)
+pub only_memory : (o : Objects) (bound : List Attached) (user : Name) (q : SelectTree) (r : Result BoundQuery Cause) → ((c : Cause) → QueryNames o user q c → ⊥) → ((c : Cause) → QueryTypes o q c → ⊥) → BindsOver o bound user q r → IfErr r (λ c. c ≡ OutOfMemory)
 only_memory o bound user q (Ok b) names types h = tt
 only_memory o bound user q (Err c) names types h = by h.told
   where

@@ -106,9 +106,9 @@ module _ (small full : List TableShape) where
         conditions = conditions_of s q.condition;
         group = group_meant s q (keys ++ items);
         items = items;
-        unique = q.distinct;
+        distinct = q.distinct;
         keys = keys;
-        towards = map key_direction q.keys;
+        directions = map key_direction q.keys;
         offset = unwrap_or q.offset 0;
         limit = rows_left q.limit;
       }

@@ -7,11 +7,11 @@ use Rattle.med_syntax.specs.QueryTree.{EntryTree, SelectTree, StatementTree, sel
 use Rattle.med_query.specs.Select.{is_safe_from}
 use Rattle.bind_names.specs.Scope.{TableShape, entry_place, entry_columns}
 use Rattle.bind_names.specs.Naming.{entry_causes, select_name_causes}
-use Rattle.bind_names.specs.Telling.{Tells}
+use Rattle.bind_names.specs.Telling.{TellsCause}
 use Rattle.bind_types.specs.Typing.{select_type_causes}
 use Rattle.med_binder.specs.Binding.{IsMeant}
 use Rattle.med_binder.specs.declared.bound.BoundEntry.{BoundEntry}
-use Rattle.med_binder.specs.declared.bound.Bound.{Bound}
+use Rattle.med_binder.specs.declared.bound.BoundQuery.{BoundQuery}
 use Rattle.pushdown.specs.Offered as offered
 use Rattle.med_catalog.specs.Objects.{Objects}
 use Rattle.bind_catalog.specs.Tables.{shapes}
@@ -34,7 +34,7 @@ pub record IsEntryAt (o : Objects) (bound : List Attached) (e : EntryTree) (b : 
 
 abbrev pub PlacesEntry : Objects → List Attached → EntryTree → Result BoundEntry Cause → Type 0
 PlacesEntry o bound e (Ok b) = IsEntryAt o bound e b × (entry_causes (shapes o) e ≡ [])
-PlacesEntry o bound e (Err c) = Tells (entry_causes (shapes o) e) c
+PlacesEntry o bound e (Err c) = TellsCause (entry_causes (shapes o) e) c
 
 -- of each entry
 pub record AreEntriesAt (o : Objects) (bound : List Attached) (es : List EntryTree) (bs : List BoundEntry) : Type 0 where
@@ -43,10 +43,10 @@ pub record AreEntriesAt (o : Objects) (bound : List Attached) (es : List EntryTr
 
 abbrev pub PlacesEntries : {A : Type 0} → Objects → List Attached → List EntryTree → Result (Vec BoundEntry A) Cause → Type 0
 PlacesEntries o bound es (Ok v) = AreEntriesAt o bound es v.items × (flat_map (entry_causes (shapes o)) es ≡ [])
-PlacesEntries o bound es (Err c) = Tells (flat_map (entry_causes (shapes o)) es) c
+PlacesEntries o bound es (Err c) = TellsCause (flat_map (entry_causes (shapes o)) es) c
 
 -- the query, and no cause stands
-pub record IsBoundOver (o : Objects) (bound : List Attached) (user : Name) (q : SelectTree) (b : Bound) : Type 0 where
+pub record IsBoundOver (o : Objects) (bound : List Attached) (user : Name) (q : SelectTree) (b : BoundQuery) : Type 0 where
   pub meant : IsMeant (meant_by o q) b
   pub there : ArePlaces bound (meant_by o q).entries (map offered.entry_place b.entries.items)
   pub safe : is_safe_from b.select.from.items ≡ true
@@ -59,6 +59,6 @@ pub record IsToldOver (o : Objects) (user : Name) (q : SelectTree) (c : Cause) :
   pub told : (c ≡ OutOfMemory)
       ⊎ (QueryNames o user q c ⊎ (Contains (select_type_causes (shapes o) q) c × ((d : Cause) → QueryNames o user q d → ⊥)))
 
-abbrev pub BindsOver : Objects → List Attached → Name → SelectTree → Result Bound Cause → Type 0
+abbrev pub BindsOver : Objects → List Attached → Name → SelectTree → Result BoundQuery Cause → Type 0
 BindsOver o bound user q (Ok b) = IsBoundOver o bound user q b
 BindsOver o bound user q (Err c) = IsToldOver o user q c

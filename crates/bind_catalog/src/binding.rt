@@ -17,7 +17,7 @@ use crate::bound::BoundTable;
 use crate::entries::{bound_entries, gathered};
 use crate::rights::check_rights;
 use bind_names::entries_of;
-use med_binder::Bound;
+use med_binder::BoundQuery;
 use med_catalog::Catalog;
 use med_syntax::{Select, Statement};
 use med_value::Cause;
@@ -39,7 +39,7 @@ fn bind_over(
     catalog: &Catalog,
     bound: &[BoundTable],
     user: &str,
-) -> Result<Bound, Cause>
+) -> Result<BoundQuery, Cause>
     requires many { length bound.now ≡ length (objects catalog.now).tables }
     requires once { AreNamedOnce (objects catalog.now) }
     ensures { BindsOver (objects catalog.now) (map attached bound.now) user.now (query_in (statement_tree statement.now)) result }
@@ -49,8 +49,8 @@ fn bind_over(
     let entries = bound_entries(alloc, catalog, bound, written.as_slice())?;
     let tables = gathered(alloc, catalog, written.as_slice())?;
     let found = med_binder::bind(alloc, statement, tables.as_slice(), user)?;
-    let Bound { names, select, .. } = found;
-    Ok(Bound {
+    let BoundQuery { names, select, .. } = found;
+    Ok(BoundQuery {
         names,
         entries,
         select,
@@ -70,7 +70,7 @@ pub fn bind(
     catalog: &Catalog,
     bound: &[BoundTable],
     user: &str,
-) -> Result<Bound, Cause>
+) -> Result<BoundQuery, Cause>
     requires many { length bound.now ≡ length (objects catalog.now).tables }
     requires once { AreNamedOnce (objects catalog.now) }
     // What is answered has no cause against it.

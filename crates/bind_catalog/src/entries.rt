@@ -7,7 +7,7 @@ ghost use Rattle.med_syntax.specs.QueryView.{entry_tree};
 ghost use Rattle.bind_names.specs.Scope.{table_shape};
 ghost use Rattle.bind_names.specs.Naming.{entry_causes};
 ghost use Rattle.bind_names.specs.Seen.{seen_entry};
-ghost use Rattle.bind_names.specs.Telling.{Gives};
+ghost use Rattle.bind_names.specs.Telling.{Means};
 ghost use Rattle.med_catalog.specs.View.{objects};
 ghost use Rattle.bind_catalog.specs.Tables.{shapes, AreNamedOnce};
 ghost use Rattle.bind_catalog.specs.Places.{attached};
@@ -70,7 +70,7 @@ fn copied(alloc: Global, columns: &[ColumnDef]) -> Result<Vec<ColumnDef>, NoMemo
 
 // The table that an entry stands for, by its name and columns. Where its rows are is not asked.
 fn gathered_table(alloc: Global, catalog: &Catalog, entry: &Entry) -> Result<AttachedTable, Cause>
-    ensures { Gives table_shape (entry_causes (shapes (objects catalog.now)) (entry_tree entry.now))
+    ensures { Means table_shape (entry_causes (shapes (objects catalog.now)) (entry_tree entry.now))
         (gathered_shape (shapes (objects catalog.now)) (entry_tree entry.now)) result }
 {
     match catalog.table(entry.table.as_str()) {
@@ -91,7 +91,7 @@ pub fn gathered(
     catalog: &Catalog,
     entries: &[&Entry],
 ) -> Result<Vec<AttachedTable>, Cause>
-    ensures { Gives (λ v. map table_shape v.items) (flat_map (entry_causes (shapes (objects catalog.now))) (map seen_entry entries.now))
+    ensures { Means (λ v. map table_shape v.items) (flat_map (entry_causes (shapes (objects catalog.now))) (map seen_entry entries.now))
         (map (gathered_shape (shapes (objects catalog.now))) (map seen_entry entries.now)) result }
 {
     let mut out = Vec::new(alloc);

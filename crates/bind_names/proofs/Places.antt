@@ -10,11 +10,11 @@ use Rattle.bind_names.proofs.Parts.{drop_read}
 use Rattle.bind_names.specs.declared.scope.Visible.{Visible}
 use Rattle.bind_names.specs.Scope.{TableShape, Scope, visible, scope_of, columns_of, candidates_from, candidates, is_meant, places_from, has_entry, kind_there, kind_at}
 use Rattle.bind_names.specs.Naming.{counted_causes, column_causes}
-use Rattle.bind_names.specs.declared.scope.Found.{Found}
-use Rattle.bind_names.specs.declared.scope.Found.TheVariants.{Nothing, One, Several}
+use Rattle.bind_names.specs.declared.scope.FoundPlaces.{FoundPlaces}
+use Rattle.bind_names.specs.declared.scope.FoundPlaces.TheVariants.{Nothing, One, Several}
 use Rattle.bind_names.specs.Telling.{with_place, with_places, IsOverfull}
 
-pub found_then : (f : Found) (xs ys : List ℕ) → with_places f (xs ++ ys) ≡ with_places (with_places f xs) ys
+pub found_then : (f : FoundPlaces) (xs ys : List ℕ) → with_places f (xs ++ ys) ≡ with_places (with_places f xs) ys
 found_then f [] ys = refl
 found_then f (x ∷ xs) ys = found_then (with_place f x) xs ys
 
@@ -84,7 +84,7 @@ kind_past_entry all xs i k v e lt read h =
     let n = length-map v.columns.now column_of in
     e ∙ ap (λ ys. kind_at (scope_of ys) k) (drop_read xs i v lt read) ∙ kind_further (visible v) (scope_of (drop (i + 1) xs)) k (rw n h) ∙ ap (λ m. kind_at (scope_of (drop (i + 1) xs)) (k - m)) n
 
-pub found_past_entry : (all found further : Found) (xs : List Visible) (i at end : ℕ) (v : Visible) (q : Option Name) (n : Name) → all ≡ with_places found (candidates_from at (scope_of (drop i xs)) q n) → i < length xs → v ≡ get_or xs i v
+pub found_past_entry : (all found further : FoundPlaces) (xs : List Visible) (i at end : ℕ) (v : Visible) (q : Option Name) (n : Name) → all ≡ with_places found (candidates_from at (scope_of (drop i xs)) q n) → i < length xs → v ≡ get_or xs i v
     → further ≡ with_places found (if is_meant q (visible v) then places_from at (visible v).columns n else []) → end ≡ at + length v.columns.now
     → all ≡ with_places further (candidates_from end (scope_of (drop (i + 1) xs)) q n)
 found_past_entry all found further xs i at end v q n e lt read f g =

@@ -5,18 +5,18 @@ use Rattle.std.specs.List.{list_any}
 use Rattle.med_value.specs.Column.{Column}
 use Rattle.med_value.specs.Datum.{NoValue, Whole, Chars, Logic}
 use Rattle.med_syntax.specs.Tree.{Name}
-use Rattle.med_syntax.specs.declared.expr.BinaryOp.{BinaryOp}
-use Rattle.med_syntax.specs.declared.expr.BinaryOp.TheVariants as arithmetic
-use Rattle.med_syntax.specs.declared.expr.Status.{Status}
-use Rattle.med_syntax.specs.declared.expr.Status.TheVariants as statuses
+use Rattle.med_syntax.specs.declared.expr.Operation.{Operation as WrittenOperation}
+use Rattle.med_syntax.specs.declared.expr.Operation.TheVariants as arithmetic
+use Rattle.med_syntax.specs.declared.expr.Status.{Status as WrittenStatus}
+use Rattle.med_syntax.specs.declared.expr.Status.TheVariants as written
 use Rattle.med_syntax.specs.declared.expr.Joint.{Joint}
 use Rattle.med_syntax.specs.declared.expr.Joint.TheVariants.{Or, And}
 use Rattle.med_syntax.specs.ExprTree.{ExprTree, ExprTrees}
 use Rattle.med_syntax.specs.ExprTree as w
 use Rattle.tri_expr.specs.declared.expr.Operation.{Operation}
 use Rattle.tri_expr.specs.declared.expr.Operation.TheVariants.{Add, Subtract, Multiply, Divide, Remainder}
-use Rattle.tri_expr.specs.declared.expr.Test.{Test}
-use Rattle.tri_expr.specs.declared.expr.Test.TheVariants as tests
+use Rattle.tri_expr.specs.declared.expr.Status.{Status}
+use Rattle.tri_expr.specs.declared.expr.Status.TheVariants as statuses
 use Rattle.tri_expr.specs.declared.expr.SetFunction.{SetFunction}
 use Rattle.tri_expr.specs.declared.expr.SetFunction.TheVariants.{Count, Sum, Min, Max}
 use Rattle.med_query.specs.Query.{Direction}
@@ -27,18 +27,18 @@ use Rattle.tri_expr.specs.Tree.{Tree, Trees, conjunct_trees, column, literal, co
 use Rattle.med_syntax.specs.QueryTree.{ItemTree, all, all_of as all_of_entry, value, JoinTree, inner_join, left_join, cross_join, ChainTree, GroupTree, KeyTree, LimitTree, no_limit, rows, SelectTree, StatementTree, select}
 use Rattle.bind_names.specs.Scope.{TableShape, Scope, is_meant, candidates, joined_entry, chain_entries, entry_columns, entry_shape, from_scope, from_places}
 
-abbrev pub operation_of : BinaryOp → Operation
+abbrev pub operation_of : WrittenOperation → Operation
 operation_of arithmetic.Add = Add
-operation_of arithmetic.Sub = Subtract
-operation_of arithmetic.Mul = Multiply
-operation_of arithmetic.Div = Divide
-operation_of arithmetic.Rem = Remainder
+operation_of arithmetic.Subtract = Subtract
+operation_of arithmetic.Multiply = Multiply
+operation_of arithmetic.Divide = Divide
+operation_of arithmetic.Remainder = Remainder
 
-abbrev pub test_of : Status → Test
-test_of statuses.Null = tests.Null
-test_of statuses.True = tests.True
-test_of statuses.False = tests.False
-test_of statuses.Unknown = tests.Unknown
+abbrev pub status_of : WrittenStatus → Status
+status_of written.Null = statuses.Null
+status_of written.True = statuses.True
+status_of written.False = statuses.False
+status_of written.Unknown = statuses.Unknown
 
 -- the one place that a name means; where a cause of names stands there is none, and the place says nothing
 abbrev pub one_place : List ℕ → ℕ
@@ -86,7 +86,7 @@ abbrev mutual
   resolved s (w.among neg e first others) = within neg (resolved s e) (part (resolved s first) (resolved_all s others))
   resolved s (w.like neg e x) = matches neg (resolved s e) x
   resolved s (w.compare op a b) = compare op (resolved s a) (resolved s b)
-  resolved s (w.tested neg e t) = asks (test_of t) neg (resolved s e)
+  resolved s (w.tested neg e t) = asks (status_of t) neg (resolved s e)
   resolved s (w.negation e) = opposite (resolved s e)
   resolved s (w.chain joint first others) = joined joint (part (resolved s first) (resolved_all s others))
 
@@ -213,13 +213,15 @@ is_empty (x ∷ xs) = false
 abbrev pub groups_rows : SelectTree → List Tree → Bool
 groups_rows q shown = not (is_empty q.groups) || (is_some q.having || list_any has_aggregate shown)
 
+-- the groups of a query that groups by these places and shows this
+abbrev pub group_of : Bool → List ℕ → List Tree → List Tree → Option GroupForm
+group_of groups keys having shown =
+    if groups then Some (record { keys = keys; arguments = flat_map arguments_in (having ++ shown); having = having }) else None
+
 -- the groups of a query whose items and order keys are these
 abbrev pub group_meant : Scope → SelectTree → List Tree → Option GroupForm
 group_meant s q shown =
-    let having = conditions_of s q.having in
-    if groups_rows q shown
-    then Some (record { keys = map (group_place s) q.groups; arguments = flat_map arguments_in (having ++ shown); having = having })
-    else None
+    group_of (groups_rows q shown) (map (group_place s) q.groups) (conditions_of s q.having) shown
 
 -- ---- the whole
 
@@ -249,9 +251,9 @@ meant_in tables q =
         conditions = conditions_of s q.condition;
         group = group_meant s q (keys ++ items);
         items = items;
-        unique = q.distinct;
+        distinct = q.distinct;
         keys = keys;
-        towards = map key_direction q.keys;
+        directions = map key_direction q.keys;
         offset = unwrap_or q.offset 0;
         limit = rows_left q.limit;
       };

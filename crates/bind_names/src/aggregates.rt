@@ -7,6 +7,7 @@ ghost use Rattle.tri_expr.specs.Tree.{tree, trees};
 
 use tri_expr::Expr;
 
+// Whether an aggregate stands in one of the parts.
 #[cycle(has_aggregate)]
 fn some_have_aggregate(parts: &[Expr]) -> bool
     ensures { result ≡ spec.some_have_aggregate (trees (map tree parts.now)) }

@@ -18,7 +18,7 @@ ghost use Rattle.med_syntax.specs.QueryView.{entry_tree, join_tree, chain_tree};
 ghost use Rattle.bind_names.specs.Scope as spec;
 ghost use Rattle.bind_names.specs.Scope.{table_shape, visible, entry_shape, entry_columns, chain_entries, from_scope};
 ghost use Rattle.bind_names.specs.Naming.{alias_causes};
-ghost use Rattle.bind_names.specs.Telling.{Gives, Passes};
+ghost use Rattle.bind_names.specs.Telling.{Means, Passes};
 ghost use Rattle.bind_names.specs.Seen.{seen_entry, AddsEntries, name_of, FindsTable};
 
 use crate::scope::Visible;
@@ -69,6 +69,7 @@ pub fn joined_entry(join: &Join) -> &Entry
     }
 }
 
+// Appends the entries that the joins bring.
 fn push_joined<'a>(joins: &'a [Join], out: &mut Vec<&'a Entry>) -> Result<(), Cause>
     ensures { AddsEntries (map spec.joined_entry (map join_tree joins.now)) out.old.items out.new.items result }
 {
@@ -78,6 +79,7 @@ fn push_joined<'a>(joins: &'a [Join], out: &mut Vec<&'a Entry>) -> Result<(), Ca
     Ok(())
 }
 
+// Appends the entries of a chain.
 fn push_chain<'a>(chain: &'a Chain, out: &mut Vec<&'a Entry>) -> Result<(), Cause>
     ensures { AddsEntries (chain_entries (chain_tree chain.now)) out.old.items out.new.items result }
 {
@@ -85,6 +87,7 @@ fn push_chain<'a>(chain: &'a Chain, out: &mut Vec<&'a Entry>) -> Result<(), Caus
     push_joined(chain.joins.as_slice(), out)
 }
 
+// Appends the entries of the chains, one chain after another.
 fn push_chains<'a>(chains: &'a [Chain], out: &mut Vec<&'a Entry>) -> Result<(), Cause>
     ensures { AddsEntries (spec.entries_of (map chain_tree chains.now)) out.old.items out.new.items result }
 {
@@ -96,7 +99,7 @@ fn push_chains<'a>(chains: &'a [Chain], out: &mut Vec<&'a Entry>) -> Result<(), 
 
 /// The entries of FROM, in the order in which they are written.
 pub fn entries_of(alloc: Global, chains: &[Chain]) -> Result<Vec<&Entry>, Cause>
-    ensures { Gives (λ v. map seen_entry v.items) [] (spec.entries_of (map chain_tree chains.now)) result }
+    ensures { Means (λ v. map seen_entry v.items) [] (spec.entries_of (map chain_tree chains.now)) result }
 {
     let mut out = Vec::new(alloc);
     push_chains(chains, &mut out)?;
@@ -129,7 +132,7 @@ pub fn scope_of<'a>(
     tables: &'a [AttachedTable],
     entries: &[&'a Entry],
 ) -> Result<Vec<Visible<'a>>, Cause>
-    ensures { Gives (λ v. map visible v.items) [] (map (entry_shape (map table_shape tables.now)) (map seen_entry entries.now)) result }
+    ensures { Means (λ v. map visible v.items) [] (map (entry_shape (map table_shape tables.now)) (map seen_entry entries.now)) result }
 {
     let mut out = Vec::new(alloc);
     for entry in entries {
@@ -144,12 +147,13 @@ pub fn from_in_view<'a>(
     tables: &'a [AttachedTable],
     chains: &'a [Chain],
 ) -> Result<Vec<Visible<'a>>, Cause>
-    ensures { Gives (λ v. map visible v.items) [] (from_scope (map table_shape tables.now) (map chain_tree chains.now)) result }
+    ensures { Means (λ v. map visible v.items) [] (from_scope (map table_shape tables.now) (map chain_tree chains.now)) result }
 {
     let written = entries_of(alloc, chains)?;
     scope_of(alloc, tables, written.as_slice())
 }
 
+// Whether one of the entries has this name.
 fn is_among(name: &str, scope: &[Visible<'_>]) -> bool
     ensures { result ≡ list_any (bytes_eq name.now) (map name_of scope.now) }
 {

@@ -18,5 +18,5 @@ pub use from::{
     Located, check_names, entries_of, from_in_view, joined_entry, scope_of, table_named, visible_of,
 };
 pub use functions::function_named;
-pub use scope::{Found, Visible, column_kind, find_column, is_any_named, is_named};
+pub use scope::{FoundPlaces, Visible, column_kind, find_column, is_any_named, is_named};
 pub use table::AttachedTable;

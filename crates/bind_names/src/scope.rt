@@ -20,7 +20,7 @@ pub struct Visible<'a> {
 
 /// The columns of a name that were found.
 #[derive(Clone, Copy)]
-pub enum Found {
+pub enum FoundPlaces {
     /// None so far.
     Nothing,
     /// The one in this place.
@@ -30,18 +30,18 @@ pub enum Found {
 }
 
 // One more was found in this place.
-fn one_more(found: Found, place: usize) -> Found
+fn one_more(found: FoundPlaces, place: usize) -> FoundPlaces
     ensures { result ≡ with_place found place }
 {
     match found {
-        Found::Nothing => Found::One(place),
-        Found::One(_) | Found::Several => Found::Several,
+        FoundPlaces::Nothing => FoundPlaces::One(place),
+        FoundPlaces::One(_) | FoundPlaces::Several => FoundPlaces::Several,
     }
 }
 
 // What was found, with the columns of this name, the first column standing at a place.
 #[tactic(auto, using(crate::proofs::Places::found_then))]
-fn find_in(columns: &[ColumnDef], name: &str, at: usize, found: Found) -> Found
+fn find_in(columns: &[ColumnDef], name: &str, at: usize, found: FoundPlaces) -> FoundPlaces
     requires { at + length columns.now ≤ 18446744073709551615 }
     ensures { result ≡ with_places found (places_from at (map column_of columns.now) name.now) }
 {
@@ -99,8 +99,8 @@ fn find_under(
     qualifier: &Option<String>,
     name: &str,
     at: usize,
-    found: Found,
-) -> Found
+    found: FoundPlaces,
+) -> FoundPlaces
     requires { at + length entry.columns.now ≤ 18446744073709551615 }
     ensures { result ≡ with_places found (places_under at (visible entry.entry) (option_map string_bytes qualifier.now) name.now) }
 {
@@ -113,10 +113,14 @@ fn find_under(
 
 // The columns that a name can mean. Refused only where there are more columns in view than places.
 #[tactic(auto, using(crate::proofs::Places::found_past_entry, crate::proofs::Places::overfull_there))]
-fn gather(scope: &[Visible<'_>], qualifier: &Option<String>, name: &str) -> Result<Found, Cause>
+fn gather(
+    scope: &[Visible<'_>],
+    qualifier: &Option<String>,
+    name: &str,
+) -> Result<FoundPlaces, Cause>
     ensures { Gathers (scope_of scope.now) (option_map string_bytes qualifier.now) name.now result }
 {
-    let mut found = Found::Nothing;
+    let mut found = FoundPlaces::Nothing;
     let mut at: usize = 0;
     for entry in scope {
         let end = match at.checked_add(entry.columns.len()) {
@@ -150,12 +154,13 @@ pub fn find_column(
         return Err(Cause::UndefinedTable);
     }
     match gather(scope, qualifier, name.as_str())? {
-        Found::Nothing => Err(Cause::UndefinedColumn),
-        Found::One(place) => Ok(place),
-        Found::Several => Err(Cause::AmbiguousColumn),
+        FoundPlaces::Nothing => Err(Cause::UndefinedColumn),
+        FoundPlaces::One(place) => Ok(place),
+        FoundPlaces::Several => Err(Cause::AmbiguousColumn),
     }
 }
 
+// The type of the column at a place among these; none past the end.
 fn kind_in(columns: &[ColumnDef], place: usize) -> Option<ColType>
     ensures { result ≡ kind_there (map column_of columns.now) place }
 {
@@ -191,7 +196,7 @@ pub fn column_kind(
     ensures { FindsNamed (scope_of scope.now) (option_map string_bytes qualifier.now) (string_bytes name.now) result }
 {
     match gather(scope, qualifier, name.as_str())? {
-        Found::One(place) => Ok(kind_of(scope, place)),
-        Found::Nothing | Found::Several => Ok(None),
+        FoundPlaces::One(place) => Ok(kind_of(scope, place)),
+        FoundPlaces::Nothing | FoundPlaces::Several => Ok(None),
     }
 }

@@ -11,7 +11,7 @@ use Rattle.med_query.specs.Form.{JoinForm, ChainForm}
 use Rattle.bind_names.specs.Scope.{TableShape, Scope, visible, scope_of, entry_shape, entry_columns, joined_entry, chain_entries}
 use Rattle.bind_names.specs.Naming.{on_name_causes, joins_name_causes}
 use Rattle.bind_names.specs.Meaning.{with_join, join_meant, joins_meant, chain_meant, chains_meant}
-use Rattle.bind_names.specs.Telling.{Tells}
+use Rattle.bind_names.specs.Telling.{TellsCause}
 use Rattle.bind_names.specs.declared.scope.Visible.{Visible}
 use Rattle.bind_names.proofs.Causes.{tells_first, next_causes}
 use Rattle.bind_names.proofs.Added.{added_after}
@@ -38,7 +38,7 @@ joins_next tables all out new before after last table xs i x e lt read t s h =
     (ap (λ ys. out ++ joins_meant tables before (suc last) (map join_tree ys)) (sym (drop_read xs i x lt read)) ∙ e) h
 
 pub joins_told : (tables : List TableShape) (all : List Cause) (before : Scope) (xs : List Join) (i : ℕ) (x : Join) (c : Cause) → all ≡ joins_name_causes tables before (map join_tree (drop i xs)) → i < length xs → x ≡ get_or xs i x
-    → Tells (on_name_causes (with_join tables before (join_tree x)) (join_tree x)) c → Tells all c
+    → TellsCause (on_name_causes (with_join tables before (join_tree x)) (join_tree x)) c → TellsCause all c
 joins_told tables all before xs i x c e lt read h =
     tells_first all (on_name_causes (with_join tables before (join_tree x)) (join_tree x)) _ c (e ∙ ap (λ ys. joins_name_causes tables before (map join_tree ys)) (drop_read xs i x lt read)) h
 

@@ -15,7 +15,7 @@ use Rattle.tri_expr.specs.Tree.{Tree, tree}
 use Rattle.tri_expr.specs.TreeParts.{bare, same_tree}
 use Rattle.bind_names.specs.Naming.{position_causes, output_name_causes, are_same}
 use Rattle.bind_names.specs.Meaning.{Output, first_value, is_named, one_place, sort_key, expression}
-use Rattle.bind_query.specs.Shown.{shown}
+use Rattle.bind_query.specs.Shown.{output_of}
 use Rattle.bind_query.specs.declared.outputs.Shown.{Shown}
 use Rattle.bind_names.proofs.Parts.{drop_read}
 
@@ -28,20 +28,20 @@ is_false : (b : Bool) → (b ≡ true → ⊥) → b ≡ false
 is_false true f = absurd (f refl)
 is_false false f = refl
 
-pub position_past : (outs : List Shown) (n : ℕ) → 0 < n → length outs ≤ n - 1 → position_causes (map shown outs) n ≡ InvalidColumnReference ∷ []
+pub position_past : (outs : List Shown) (n : ℕ) → 0 < n → length outs ≤ n - 1 → position_causes (map output_of outs) n ≡ InvalidColumnReference ∷ []
 position_past outs n lt h =
     let a : nat_le 1 n ≡ true = le-leb 1 n (omega (arith, lt)) in
     let b : nat_le n (length outs) ≡ false = is_false (nat_le n (length outs)) (λ e. let k = leb-true n (length outs) e in omega (arith, lt, h, k)) in
-    rw (a, length-map outs shown, b) refl
+    rw (a, length-map outs output_of, b) refl
 
-pub position_there : (outs : List Shown) (n : ℕ) → 0 < n → n - 1 < length outs → position_causes (map shown outs) n ≡ []
+pub position_there : (outs : List Shown) (n : ℕ) → 0 < n → n - 1 < length outs → position_causes (map output_of outs) n ≡ []
 position_there outs n lt h =
     let a : nat_le 1 n ≡ true = le-leb 1 n (omega (arith, lt)) in
     let b : nat_le n (length outs) ≡ true = le-leb n (length outs) (omega (arith, lt, h)) in
-    rw (a, length-map outs shown, b) refl
+    rw (a, length-map outs output_of, b) refl
 
-pub position_value : (outs : List Shown) (k : ℕ) (x : Shown) → k < length outs → x ≡ get_or outs k x → tree x.value ≡ first_value (drop k (map shown outs))
-position_value outs k x lt read = sym (ap first_value (drop-map shown k outs ∙ ap (λ ys. map shown ys) (drop_read outs k x lt read)))
+pub position_value : (outs : List Shown) (k : ℕ) (x : Shown) → k < length outs → x ≡ get_or outs k x → tree x.value ≡ first_value (drop k (map output_of outs))
+position_value outs k x lt read = sym (ap first_value (drop-map output_of k outs ∙ ap (λ ys. map output_of ys) (drop_read outs k x lt read)))
 
 -- ---- names of outputs
 

@@ -4,5 +4,5 @@ use Rattle.tri_expr.specs.Tree.{tree}
 use Rattle.bind_names.specs.Meaning.{Output}
 use Rattle.bind_query.specs.declared.outputs.Shown.{Shown}
 
-abbrev pub shown : Shown → Output
-shown s = record { name = string_bytes s.name; value = tree s.value }
+abbrev pub output_of : Shown → Output
+output_of s = record { name = string_bytes s.name; value = tree s.value }

@@ -2,7 +2,7 @@
 #![tactic(auto, using(bind_names::proofs::Causes::tells_memory, bind_names::proofs::Added::added_end))]
 
 ghost use Rattle.bind_names.specs.Meaning.{groups_rows};
-ghost use Rattle.bind_names.specs.Telling.{Gives, Adds};
+ghost use Rattle.bind_names.specs.Telling.{Means, Adds};
 ghost use Rattle.bind_query.specs.Resolving.{GroupsBy, shown_trees};
 ghost use Rattle.med_syntax.specs.QueryView.{select_tree};
 ghost use Rattle.std.specs.List.{list_any};
@@ -19,6 +19,7 @@ use med_value::Cause;
 use std::alloc::Global;
 use tri_expr::Expr;
 
+// Appends the arguments of the aggregates of the expressions.
 fn push_arguments(alloc: Global, es: &[Expr], out: &mut Vec<Expr>) -> Result<(), Cause>
     ensures { Adds [] (flat_map arguments_in (map tree es.now)) (map tree out.old.items) (map tree out.new.items) result }
 {
@@ -36,7 +37,7 @@ fn all_arguments(
     keys: &[Expr],
     items: &[Expr],
 ) -> Result<Vec<Expr>, Cause>
-    ensures { Gives (λ v. map tree v.items) [] (flat_map arguments_in (map tree having.now ++ shown_trees keys.now items.now)) result }
+    ensures { Means (λ v. map tree v.items) [] (flat_map arguments_in (map tree having.now ++ shown_trees keys.now items.now)) result }
 {
     let mut out = Vec::new(alloc);
     push_arguments(alloc, having, &mut out)?;

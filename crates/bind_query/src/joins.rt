@@ -8,7 +8,7 @@ bind_names::proofs::Causes::tells_memory, bind_names::proofs::Causes::tells_one,
 bind_names::proofs::Causes::none_of_two))]
 
 ghost use Rattle.bind_names.specs.Scope.{scope_of, shapes_of, chain_entries};
-ghost use Rattle.bind_names.specs.Telling.{Gives};
+ghost use Rattle.bind_names.specs.Telling.{Means};
 ghost use Rattle.bind_query.specs.Resolving.{ResolvesCondition, ResolvesJoin, ResolvesJoins, ResolvesChain, ResolvesChains};
 ghost use Rattle.bind_query.specs.Steps.{AddsJoin};
 ghost use Rattle.med_syntax.specs.ExprView.{expr_tree};
@@ -136,7 +136,7 @@ fn chain(
 // The number of the first entry behind a chain.
 #[tactic(auto, using(bind_names::proofs::Causes::tells_memory, crate::proofs::JoinSteps::after_chain))]
 fn after_chain(number: usize, chain: &Chain) -> Result<usize, Cause>
-    ensures { Gives (λ (n : ℕ). n) [] (number + length (chain_entries (chain_tree chain.now))) result }
+    ensures { Means (λ (n : ℕ). n) [] (number + length (chain_entries (chain_tree chain.now))) result }
 {
     let last = match number.checked_add(chain.joins.as_slice().len()) {
         Some(last) => last,

@@ -11,9 +11,9 @@ ghost use Rattle.bind_names.specs.Meaning as spec;
 ghost use Rattle.bind_names.specs.Meaning.{Output, first_value, sort_key, expression, key_direction};
 ghost use Rattle.bind_names.specs.Naming.{position_causes, output_name_causes, distinct_causes};
 ghost use Rattle.bind_names.specs.Scope.{scope_of};
-ghost use Rattle.bind_names.specs.Telling.{Gives, Passes};
+ghost use Rattle.bind_names.specs.Telling.{Means, Passes};
 ghost use Rattle.bind_query.specs.Resolving.{key_form, outputs_named, SortsBy, ResolvesKeys, FindsPlaces};
-ghost use Rattle.bind_query.specs.Shown.{shown};
+ghost use Rattle.bind_query.specs.Shown.{output_of};
 ghost use Rattle.bind_query.specs.Steps.{IsFirst};
 ghost use Rattle.med_query.specs.Form.{direction_of};
 ghost use Rattle.med_syntax.specs.ExprView.{expr_tree};
@@ -36,7 +36,7 @@ use tri_expr::law::same_trees_are_equal;
 
 // Whether an output has this name.
 fn is_output(outputs: &[Shown], name: &str) -> bool
-    ensures { result ≡ list_any (spec.is_named name.now) (map shown outputs.now) }
+    ensures { result ≡ list_any (spec.is_named name.now) (map output_of outputs.now) }
 {
     for output in outputs {
         if output.name.as_str() == name {
@@ -55,7 +55,8 @@ crate::proofs::KeySteps::position_zero, crate::proofs::KeySteps::position_past,
 // what stands there
 crate::proofs::KeySteps::position_value, crate::proofs::KeySteps::position_there))]
 fn at_position(alloc: Global, outputs: &[Shown], number: u64) -> Result<Expr, Cause>
-    ensures { Gives tree (position_causes (map shown outputs.now) number) (first_value (drop (number - 1) (map shown outputs.now))) result }
+    ensures { Means tree (position_causes (map output_of outputs.now) number)
+        (first_value (drop (number - 1) (map output_of outputs.now))) result }
 {
     if number == 0 {
         return Err(Cause::InvalidColumnReference);
@@ -69,7 +70,7 @@ fn at_position(alloc: Global, outputs: &[Shown], number: u64) -> Result<Expr, Ca
 
 // Whether an output shows the same.
 fn shows(outputs: &[Shown], value: &Expr) -> bool
-    ensures { result ≡ list_any (λ (o : Output). same_tree o.value (tree value.now)) (map shown outputs.now) }
+    ensures { result ≡ list_any (λ (o : Output). same_tree o.value (tree value.now)) (map output_of outputs.now) }
 {
     for output in outputs {
         if is_same(&output.value, value) {
@@ -110,7 +111,8 @@ bind_names::proofs::Causes::tells_memory, bind_names::proofs::Causes::tells_one,
 // names of outputs
 crate::proofs::KeySteps::no_output, crate::proofs::KeySteps::outputs_agree, crate::proofs::KeySteps::outputs_differ))]
 fn named(alloc: Global, outputs: &[Shown], name: &str) -> Result<Expr, Cause>
-    ensures { Gives tree (output_name_causes (map shown outputs.now) name.now) (first_value (outputs_named name.now outputs.now)) result }
+    ensures { Means tree (output_name_causes (map output_of outputs.now) name.now)
+        (first_value (outputs_named name.now outputs.now)) result }
 {
     same_trees_are_equal();
     match first_named(outputs, name) {
@@ -132,7 +134,7 @@ fn expressed(
     outputs: &[Shown],
     e: &Written,
 ) -> Result<Expr, Cause>
-    ensures { SortsBy (scope_of scope.now) distinct (map shown outputs.now) (expression (expr_tree e.now)) result }
+    ensures { SortsBy (scope_of scope.now) distinct (map output_of outputs.now) (expression (expr_tree e.now)) result }
 {
     let value = resolve(alloc, scope, e)?;
     check_shown(distinct, outputs, &value)?;
@@ -141,7 +143,7 @@ fn expressed(
 
 // 42P10 under DISTINCT where no output shows this.
 fn check_shown(distinct: bool, outputs: &[Shown], value: &Expr) -> Result<(), Cause>
-    ensures { Passes (distinct_causes distinct (map shown outputs.now) (tree value.now)) result }
+    ensures { Passes (distinct_causes distinct (map output_of outputs.now) (tree value.now)) result }
 {
     if !distinct {
         return Ok(());
@@ -167,7 +169,7 @@ enum KeyForm<'a> {
 // What a key is; parentheses are looked through.
 #[tactic(auto)]
 fn form_of_key<'a>(outputs: &[Shown], e: &'a Written) -> KeyForm<'a>
-    ensures { key_form result ≡ sort_key (map shown outputs.now) (expr_tree e.now) }
+    ensures { key_form result ≡ sort_key (map output_of outputs.now) (expr_tree e.now) }
 {
     match e {
         Written::Paren(inner) => form_of_key(outputs, inner),
@@ -208,7 +210,8 @@ fn key(
     outputs: &[Shown],
     e: &Written,
 ) -> Result<Expr, Cause>
-    ensures { SortsBy (scope_of scope.now) distinct (map shown outputs.now) (sort_key (map shown outputs.now) (expr_tree e.now)) result }
+    ensures { SortsBy (scope_of scope.now) distinct (map output_of outputs.now)
+        (sort_key (map output_of outputs.now) (expr_tree e.now)) result }
 {
     match form_of_key(outputs, e) {
         KeyForm::Position(number) => at_position(alloc, outputs, number),
@@ -225,7 +228,7 @@ pub fn keys(
     outputs: &[Shown],
     keys: &[OrderKey],
 ) -> Result<Vec<Expr>, Cause>
-    ensures { ResolvesKeys (scope_of scope.now) distinct (map shown outputs.now) (map key_tree keys.now) result }
+    ensures { ResolvesKeys (scope_of scope.now) distinct (map output_of outputs.now) (map key_tree keys.now) result }
 {
     let mut out = Vec::new(alloc);
     for written in keys {
@@ -237,7 +240,7 @@ pub fn keys(
 
 /// Their directions.
 pub fn directions(alloc: Global, keys: &[OrderKey]) -> Result<Vec<SortDirection>, Cause>
-    ensures { Gives (λ v. map direction_of v.items) [] (map key_direction (map key_tree keys.now)) result }
+    ensures { Means (λ v. map direction_of v.items) [] (map key_direction (map key_tree keys.now)) result }
 {
     let mut out = Vec::new(alloc);
     for key in keys {

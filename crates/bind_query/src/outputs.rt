@@ -175,6 +175,7 @@ fn push_item(
     }
 }
 
+// Appends what the items stand for.
 fn push_items(
     alloc: Global,
     scope: &[Visible<'_>],

@@ -7,9 +7,9 @@ bind_names::proofs::Causes::tells_memory, bind_names::proofs::Causes::tells_one,
 // no cause in either part
 bind_names::proofs::Causes::none_of_two))]
 
-ghost use Rattle.bind_names.specs.Meaning.{operation_of, test_of, joined, aggregate_of};
+ghost use Rattle.bind_names.specs.Meaning.{operation_of, status_of, joined, aggregate_of};
 ghost use Rattle.bind_names.specs.Scope.{scope_of};
-ghost use Rattle.bind_names.specs.Telling.{Gives};
+ghost use Rattle.bind_names.specs.Telling.{Means};
 ghost use Rattle.bind_query.specs.Resolving.{Resolves, ResolvesBy, ResolvesAll, ResolvesBehind};
 ghost use Rattle.med_syntax.specs.ExprTree as w;
 ghost use Rattle.med_syntax.specs.ExprView.{expr_tree, expr_trees};
@@ -19,34 +19,37 @@ ghost use Rattle.tri_expr.specs.Tree.{tree, trees, literal, count_rows};
 
 use crate::numbers::{negative, number};
 use bind_names::{Visible, find_column, function_named};
-use med_syntax::{BinaryOp, Expr as Written, Joint, Status};
+use med_syntax::{Expr as Written, Joint, Operation as WrittenOperation, Status as WrittenStatus};
 use med_value::{Cause, Comparison, Value};
 use std::alloc::Global;
-use tri_expr::{Expr, Operation, SetFunction, Test};
+use tri_expr::{Expr, Operation, SetFunction, Status};
 
-fn operation(op: BinaryOp) -> Operation
+// The operation of an operator.
+fn operation(op: WrittenOperation) -> Operation
     ensures { result ≡ operation_of op }
 {
     match op {
-        BinaryOp::Add => Operation::Add,
-        BinaryOp::Sub => Operation::Subtract,
-        BinaryOp::Mul => Operation::Multiply,
-        BinaryOp::Div => Operation::Divide,
-        BinaryOp::Rem => Operation::Remainder,
+        WrittenOperation::Add => Operation::Add,
+        WrittenOperation::Subtract => Operation::Subtract,
+        WrittenOperation::Multiply => Operation::Multiply,
+        WrittenOperation::Divide => Operation::Divide,
+        WrittenOperation::Remainder => Operation::Remainder,
     }
 }
 
-fn test(status: Status) -> Test
-    ensures { result ≡ test_of status }
+// The test of a status.
+fn test(status: WrittenStatus) -> Status
+    ensures { result ≡ status_of status }
 {
     match status {
-        Status::Null => Test::Null,
-        Status::True => Test::True,
-        Status::False => Test::False,
-        Status::Unknown => Test::Unknown,
+        WrittenStatus::Null => Status::Null,
+        WrittenStatus::True => Status::True,
+        WrittenStatus::False => Status::False,
+        WrittenStatus::Unknown => Status::Unknown,
     }
 }
 
+// The parts with AND or OR between them.
 fn chain(joint: Joint, parts: Vec<Expr>) -> Expr
     ensures { tree result ≡ joined joint (trees (map tree parts.items)) }
 {
@@ -76,7 +79,7 @@ fn nothing() -> Expr
 
 // A call of a function.
 fn applied(alloc: Global, function: SetFunction, mut arguments: Vec<Expr>) -> Result<Expr, Cause>
-    ensures { Gives tree [] (aggregate_of (Some function) (trees (map tree arguments.items))) result }
+    ensures { Means tree [] (aggregate_of (Some function) (trees (map tree arguments.items))) result }
 {
     let count = arguments.as_slice().len();
     if count != 1 {
@@ -94,7 +97,7 @@ fn aggregate(
     function: Option<SetFunction>,
     arguments: Vec<Expr>,
 ) -> Result<Expr, Cause>
-    ensures { Gives tree [] (aggregate_of function (trees (map tree arguments.items))) result }
+    ensures { Means tree [] (aggregate_of function (trees (map tree arguments.items))) result }
 {
     match function {
         Some(function) => applied(alloc, function, arguments),
@@ -102,6 +105,7 @@ fn aggregate(
     }
 }
 
+// The expression with its names resolved, in a box.
 #[cycle(resolve)]
 fn boxed(alloc: Global, scope: &[Visible<'_>], e: &Written) -> Result<Box<Expr>, Cause>
     ensures { ResolvesBy (λ b. tree b.value) (scope_of scope.now) (expr_tree e.now) result }
@@ -142,6 +146,7 @@ fn listed(
     Ok(parts)
 }
 
+// A comparison of the two, resolved.
 #[cycle(resolve)]
 fn compared(
     alloc: Global,
@@ -157,11 +162,12 @@ fn compared(
     Ok(Expr::Compare(op, a, b))
 }
 
+// An operation on the two, resolved.
 #[cycle(resolve)]
 fn computed(
     alloc: Global,
     scope: &[Visible<'_>],
-    op: BinaryOp,
+    op: WrittenOperation,
     a: &Written,
     b: &Written,
 ) -> Result<Expr, Cause>
@@ -172,6 +178,7 @@ fn computed(
     Ok(Expr::Compute(operation(op), a, b))
 }
 
+// A call of this name with its parts resolved.
 #[cycle(resolve)]
 fn called(
     alloc: Global,
@@ -185,6 +192,7 @@ fn called(
     aggregate(alloc, function_named(name), parts)
 }
 
+// BETWEEN, its operands resolved.
 #[cycle(resolve)]
 fn bounded(
     alloc: Global,
@@ -202,6 +210,7 @@ fn bounded(
     Ok(Expr::Between(negated, e, low, high))
 }
 
+// IN, its operands resolved.
 #[cycle(resolve)]
 fn contained(
     alloc: Global,
@@ -219,6 +228,7 @@ fn contained(
     Ok(Expr::In(negated, e, parts))
 }
 
+// AND or OR, its operands resolved.
 #[cycle(resolve)]
 fn chained(
     alloc: Global,

@@ -8,7 +8,7 @@ use Rattle.tri_expr.specs.declared.expr.SetFunction.{SetFunction}
 use Rattle.tri_expr.specs.declared.expr.SetFunction.TheVariants.{Count, Sum, Min, Max}
 use Rattle.bind_names.specs.Scope.{Scope}
 use Rattle.bind_types.specs.Typing.{type_of, types_of, call_type, as_call, type_causes_of_all}
-use Rattle.bind_names.specs.Telling.{Tells}
+use Rattle.bind_names.specs.Telling.{TellsCause}
 use Rattle.bind_names.proofs.Causes.{tells_right, tells_one}
 
 two_untyped : (f : Option SetFunction) (t u : Option ColType) (ts : List (Option ColType)) → call_type f (t ∷ u ∷ ts) ≡ None
@@ -43,5 +43,5 @@ several_unknown s f (e ∷ []) h = absurd (omega arith)
 several_unknown s f (e ∷ d ∷ es) h = two_unknown f (type_of s (expr_tree e)) (type_of s (expr_tree d)) (types_of s (expr_trees es))
 
 -- a call of several arguments is refused
-pub tells_several : (s : Scope) (f : Option SetFunction) (es : List Expr) → 2 ≤ length es → Tells (type_causes_of_all s (expr_trees es) ++ as_call f (types_of s (expr_trees es))) UndefinedFunction
+pub tells_several : (s : Scope) (f : Option SetFunction) (es : List Expr) → 2 ≤ length es → TellsCause (type_causes_of_all s (expr_trees es) ++ as_call f (types_of s (expr_trees es))) UndefinedFunction
 tells_several s f es h = tells_right (type_causes_of_all s (expr_trees es)) _ _ (tells_one _ _ (several_unknown s f es h))

@@ -17,4 +17,6 @@ written_key_causes s k = type_causes s k.key
 
 -- of the types of what a query asks of its entries
 abbrev pub asked_type_causes : Scope → SelectTree → List Cause
-asked_type_causes s q = flat_map (item_type_causes s) q.items ++ (condition_type_causes s q.condition ++ (condition_type_causes s q.having ++ flat_map (written_key_causes s) q.keys))
+asked_type_causes s q =
+    flat_map (item_type_causes s) q.items ++ (condition_type_causes s q.condition
+    ++ (condition_type_causes s q.having ++ flat_map (written_key_causes s) q.keys))

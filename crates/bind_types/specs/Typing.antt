@@ -139,8 +139,12 @@ abbrev mutual
   type_causes s (paren e) = type_causes s e
   type_causes s (minus e) = type_causes s e ++ as_number (type_of s e)
   type_causes s (binary op a b) = (type_causes s a ++ as_number (type_of s a)) ++ (type_causes s b ++ as_number (type_of s b))
-  type_causes s (between neg e low high) = (type_causes s e ++ (type_causes s low ++ type_causes s high)) ++ comparing (type_of s e ∷ type_of s low ∷ type_of s high ∷ [])
-  type_causes s (among neg e first others) = (type_causes s e ++ (type_causes s first ++ type_causes_of_all s others)) ++ comparing (type_of s e ∷ type_of s first ∷ types_of s others)
+  type_causes s (between neg e low high) =
+      (type_causes s e ++ (type_causes s low ++ type_causes s high))
+      ++ comparing (type_of s e ∷ type_of s low ∷ type_of s high ∷ [])
+  type_causes s (among neg e first others) =
+      (type_causes s e ++ (type_causes s first ++ type_causes_of_all s others))
+      ++ comparing (type_of s e ∷ type_of s first ∷ types_of s others)
   type_causes s (like neg e x) = (type_causes s e ++ as_text (type_of s e)) ++ as_pattern x
   type_causes s (compare op a b) = (type_causes s a ++ type_causes s b) ++ comparing (type_of s a ∷ type_of s b ∷ [])
   type_causes s (tested neg e t) = type_causes s e ++ as_tested t (type_of s e)

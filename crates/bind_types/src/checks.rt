@@ -15,12 +15,14 @@ use med_syntax::{Chain, Expr as Written, Item, Join, OrderKey, Select};
 use med_value::{Cause, ColType};
 use std::alloc::Global;
 
+// Refuses a condition of ON by its types.
 fn check_on(scope: &[Visible<'_>], on: &Written) -> Result<(), Cause>
     ensures { Passes (spec.as_where (scope_of scope.now) (expr_tree on.now)) result }
 {
     operand(scope, on, ColType::Bool, Cause::DatatypeMismatch)
 }
 
+// Refuses a join by the types of its ON, if it has one.
 fn check_join(scope: &[Visible<'_>], join: &Join) -> Result<(), Cause>
     ensures { Passes (spec.on_type_causes (scope_of scope.now) (join_tree join.now)) result }
 {
@@ -49,6 +51,7 @@ fn check_joins<'a>(
     Ok(())
 }
 
+// Refuses a chain by the types of each ON.
 fn check_chain(alloc: Global, chain: &Chain, tables: &[AttachedTable]) -> Result<(), Cause>
     ensures { Passes (spec.chain_type_causes (map table_shape tables.now) (chain_tree chain.now)) result }
 {
@@ -60,6 +63,7 @@ fn check_chain(alloc: Global, chain: &Chain, tables: &[AttachedTable]) -> Result
     )
 }
 
+// Refuses FROM by the types of each ON.
 fn check_from(alloc: Global, chains: &[Chain], tables: &[AttachedTable]) -> Result<(), Cause>
     ensures { Passes (flat_map (spec.chain_type_causes (map table_shape tables.now)) (map chain_tree chains.now)) result }
 {
@@ -69,6 +73,7 @@ fn check_from(alloc: Global, chains: &[Chain], tables: &[AttachedTable]) -> Resu
     Ok(())
 }
 
+// Refuses an item by the types of its expression, if it has one.
 fn check_item(scope: &[Visible<'_>], item: &Item) -> Result<(), Cause>
     ensures { Passes (spec.item_type_causes (scope_of scope.now) (item_tree item.now)) result }
 {
@@ -81,6 +86,7 @@ fn check_item(scope: &[Visible<'_>], item: &Item) -> Result<(), Cause>
     }
 }
 
+// The same of each item.
 fn check_items(scope: &[Visible<'_>], items: &[Item]) -> Result<(), Cause>
     ensures { Passes (flat_map (spec.item_type_causes (scope_of scope.now)) (map item_tree items.now)) result }
 {
@@ -108,6 +114,7 @@ fn check_key(scope: &[Visible<'_>], key: &OrderKey) -> Result<(), Cause>
     Ok(())
 }
 
+// Refuses ORDER BY by the types of its keys.
 fn check_keys(scope: &[Visible<'_>], keys: &[OrderKey]) -> Result<(), Cause>
     ensures { Passes (flat_map (written_key_causes (scope_of scope.now)) (map key_tree keys.now)) result }
 {

@@ -28,6 +28,7 @@ fn is_no_key(keys: &[usize], place: usize) -> bool
     true
 }
 
+// Whether one of the parts has no one meaning over groups with these keys.
 #[cycle(is_ungrouped)]
 fn some_ungrouped(keys: &[usize], parts: &[Expr]) -> bool
     ensures { result ≡ spec.some_ungrouped keys.now (trees (map tree parts.now)) }
@@ -68,6 +69,7 @@ fn is_ungrouped(keys: &[usize], e: &Expr) -> bool
     }
 }
 
+// Whether an aggregate stands in one of the conjuncts.
 fn any_aggregate(conjuncts: &[Expr]) -> bool
     ensures { result ≡ list_any spec.has_aggregate (map tree conjuncts.now) }
 {
@@ -79,6 +81,7 @@ fn any_aggregate(conjuncts: &[Expr]) -> bool
     false
 }
 
+// Whether one of the expressions has no one meaning over groups with these keys.
 fn any_ungrouped(keys: &[usize], shown: &[Expr]) -> bool
     ensures { result ≡ list_any (spec.is_ungrouped keys.now) (map tree shown.now) }
 {
@@ -90,6 +93,7 @@ fn any_ungrouped(keys: &[usize], shown: &[Expr]) -> bool
     false
 }
 
+// Whether one of the conjuncts may fault.
 fn any_fault(conjuncts: &[Expr]) -> bool
     ensures { result ≡ list_any is_risky_tree (map tree conjuncts.now) }
 {
@@ -123,6 +127,7 @@ fn check_no_risk(conjuncts: &[Expr]) -> Result<(), Cause>
     }
 }
 
+// Refuses an aggregate in ON, and an ON that may fault.
 fn check_on(conjuncts: &[Expr]) -> Result<(), Cause>
     ensures { Passes (causes.no_aggregate (map tree conjuncts.now) ++ causes.no_risk (map tree conjuncts.now)) result }
 {
@@ -130,6 +135,7 @@ fn check_on(conjuncts: &[Expr]) -> Result<(), Cause>
     check_no_risk(conjuncts)
 }
 
+// The same of a join's ON, if it has one.
 fn check_join(join: &Join) -> Result<(), Cause>
     ensures { Passes (causes.join_causes (join_form join.now)) result }
 {
@@ -140,6 +146,7 @@ fn check_join(join: &Join) -> Result<(), Cause>
     }
 }
 
+// The same of each of the joins.
 fn check_joins(joins: &[Join]) -> Result<(), Cause>
     ensures { Passes (flat_map causes.join_causes (map join_form joins.now)) result }
 {
@@ -149,12 +156,14 @@ fn check_joins(joins: &[Join]) -> Result<(), Cause>
     Ok(())
 }
 
+// The same of the joins of a chain.
 fn check_chain(chain: &JoinChain) -> Result<(), Cause>
     ensures { Passes (causes.chain_causes (chain_form chain.now)) result }
 {
     check_joins(chain.joins.as_slice())
 }
 
+// The same of each chain of FROM.
 fn check_from(chains: &[JoinChain]) -> Result<(), Cause>
     ensures { Passes (flat_map causes.chain_causes (map chain_form chains.now)) result }
 {
@@ -166,7 +175,8 @@ fn check_from(chains: &[JoinChain]) -> Result<(), Cause>
 
 // Refuses what has no one meaning over groups.
 fn check_groups(groups: &Grouping, keys: &[Expr], items: &[Expr]) -> Result<(), Cause>
-    ensures { Passes (causes.unless (Rattle.std.specs.Prelude.not (list_any (spec.is_ungrouped (group_form groups.now).keys) ((group_form groups.now).having ++ (map tree keys.now ++ map tree items.now)))) Cause.Grouping) result }
+    ensures { Passes (causes.unless (Rattle.std.specs.Prelude.not (list_any (spec.is_ungrouped (group_form groups.now).keys)
+        ((group_form groups.now).having ++ (map tree keys.now ++ map tree items.now)))) Cause.Grouping) result }
 {
     let places = groups.keys.as_slice();
     if any_ungrouped(places, groups.having.as_slice())
@@ -179,6 +189,7 @@ fn check_groups(groups: &Grouping, keys: &[Expr], items: &[Expr]) -> Result<(), 
     }
 }
 
+// Refuses what has no one meaning over groups, where the query groups.
 fn check_grouping(grouping: &Option<Grouping>, keys: &[Expr], items: &[Expr]) -> Result<(), Cause>
     ensures { Passes (causes.grouping_causes (option_map group_form grouping.now) (map tree keys.now ++ map tree items.now)) result }
 {
@@ -188,8 +199,10 @@ fn check_grouping(grouping: &Option<Grouping>, keys: &[Expr], items: &[Expr]) ->
     }
 }
 
+// Refuses an aggregate in WHERE, and what has no one meaning over groups.
 fn check_rest(select: &Select) -> Result<(), Cause>
-    ensures { Passes (causes.no_aggregate (form_of select.now).conditions ++ causes.grouping_causes (form_of select.now).group ((form_of select.now).keys ++ (form_of select.now).items)) result }
+    ensures { Passes (causes.no_aggregate (form_of select.now).conditions
+        ++ causes.grouping_causes (form_of select.now).group ((form_of select.now).keys ++ (form_of select.now).items)) result }
 {
     check_no_aggregate(select.conditions.as_slice())?;
     check_grouping(

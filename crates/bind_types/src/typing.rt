@@ -3,7 +3,7 @@
 
 ghost use Rattle.bind_names.specs.Meaning.{function_named};
 ghost use Rattle.bind_names.specs.Scope.{scope_of};
-ghost use Rattle.bind_names.specs.Telling.{Gives, Passes, FindsKind};
+ghost use Rattle.bind_names.specs.Telling.{Means, Passes, FindsKind};
 ghost use Rattle.bind_types.specs.Kinds.{Meets};
 ghost use Rattle.bind_types.specs.Typing as spec;
 ghost use Rattle.med_syntax.specs.ExprView.{expr_tree, expr_trees};
@@ -156,7 +156,8 @@ fn called_kind(
     name: &String,
     arguments: &[Written],
 ) -> Result<Option<ColType>, Cause>
-    ensures { FindsKind (scope_of scope.now) (spec.call_type (function_named (string_bytes name.now)) (spec.types_of (scope_of scope.now) (expr_trees arguments.now))) result }
+    ensures { FindsKind (scope_of scope.now) (spec.call_type (function_named (string_bytes name.now))
+        (spec.types_of (scope_of scope.now) (expr_trees arguments.now))) result }
 {
     match arguments {
         [argument] => {
@@ -196,32 +197,44 @@ pub fn operand(
     asked: ColType,
     cause: Cause,
 ) -> Result<(), Cause>
-    ensures { Passes (spec.type_causes (scope_of scope.now) (expr_tree e.now) ++ spec.unless (spec.takes asked (spec.type_of (scope_of scope.now) (expr_tree e.now))) cause) result }
+    ensures { Passes (spec.type_causes (scope_of scope.now) (expr_tree e.now)
+        ++ spec.unless (spec.takes asked (spec.type_of (scope_of scope.now) (expr_tree e.now))) cause) result }
 {
     let kind = type_of(scope, e)?;
     ask(asked, kind, cause)
 }
 
+// Refuses operands of arithmetic that are no whole numbers.
 #[cycle(check)]
 fn computed(scope: &[Visible<'_>], a: &Written, b: &Written) -> Result<(), Cause>
-    ensures { Passes ((spec.type_causes (scope_of scope.now) (expr_tree a.now) ++ spec.as_number (spec.type_of (scope_of scope.now) (expr_tree a.now))) ++ (spec.type_causes (scope_of scope.now) (expr_tree b.now) ++ spec.as_number (spec.type_of (scope_of scope.now) (expr_tree b.now)))) result }
+    ensures { Passes ((spec.type_causes (scope_of scope.now) (expr_tree a.now)
+        ++ spec.as_number (spec.type_of (scope_of scope.now) (expr_tree a.now)))
+        ++ (spec.type_causes (scope_of scope.now) (expr_tree b.now)
+        ++ spec.as_number (spec.type_of (scope_of scope.now) (expr_tree b.now)))) result }
 {
     operand(scope, a, ColType::Int, Cause::UndefinedFunction)?;
     operand(scope, b, ColType::Int, Cause::UndefinedFunction)
 }
 
+// Refuses operands of a comparison that have two types.
 #[cycle(check)]
 fn compared(scope: &[Visible<'_>], a: &Written, b: &Written) -> Result<(), Cause>
-    ensures { Passes ((spec.type_causes (scope_of scope.now) (expr_tree a.now) ++ spec.type_causes (scope_of scope.now) (expr_tree b.now)) ++ spec.comparing (spec.type_of (scope_of scope.now) (expr_tree a.now) ∷ spec.type_of (scope_of scope.now) (expr_tree b.now) ∷ [])) result }
+    ensures { Passes ((spec.type_causes (scope_of scope.now) (expr_tree a.now) ++ spec.type_causes (scope_of scope.now) (expr_tree b.now))
+        ++ spec.comparing (spec.type_of (scope_of scope.now) (expr_tree a.now)
+        ∷ spec.type_of (scope_of scope.now) (expr_tree b.now) ∷ [])) result }
 {
     let a = type_of(scope, a)?;
     let b = type_of(scope, b)?;
     check_two(a, b)
 }
 
+// Refuses operands of BETWEEN that have more than one type.
 #[cycle(check)]
 fn bounded(scope: &[Visible<'_>], e: &Written, low: &Written, high: &Written) -> Result<(), Cause>
-    ensures { Passes ((spec.type_causes (scope_of scope.now) (expr_tree e.now) ++ (spec.type_causes (scope_of scope.now) (expr_tree low.now) ++ spec.type_causes (scope_of scope.now) (expr_tree high.now))) ++ spec.comparing (spec.type_of (scope_of scope.now) (expr_tree e.now) ∷ spec.type_of (scope_of scope.now) (expr_tree low.now) ∷ spec.type_of (scope_of scope.now) (expr_tree high.now) ∷ [])) result }
+    ensures { Passes ((spec.type_causes (scope_of scope.now) (expr_tree e.now)
+        ++ (spec.type_causes (scope_of scope.now) (expr_tree low.now) ++ spec.type_causes (scope_of scope.now) (expr_tree high.now)))
+        ++ spec.comparing (spec.type_of (scope_of scope.now) (expr_tree e.now) ∷ spec.type_of (scope_of scope.now) (expr_tree low.now)
+        ∷ spec.type_of (scope_of scope.now) (expr_tree high.now) ∷ [])) result }
 {
     let e = type_of(scope, e)?;
     let low = type_of(scope, low)?;
@@ -232,7 +245,8 @@ fn bounded(scope: &[Visible<'_>], e: &Written, low: &Written, high: &Written) ->
 // Refuses expressions that are compared with one of this type.
 #[cycle(check)]
 fn listed(scope: &[Visible<'_>], kind: Option<ColType>, others: &[Written]) -> Result<(), Cause>
-    ensures { Passes (spec.type_causes_of_all (scope_of scope.now) (expr_trees others.now) ++ spec.comparing (kind ∷ spec.types_of (scope_of scope.now) (expr_trees others.now))) result }
+    ensures { Passes (spec.type_causes_of_all (scope_of scope.now) (expr_trees others.now)
+        ++ spec.comparing (kind ∷ spec.types_of (scope_of scope.now) (expr_trees others.now))) result }
 {
     let mut all = kind;
     for other in others {
@@ -242,6 +256,7 @@ fn listed(scope: &[Visible<'_>], kind: Option<ColType>, others: &[Written]) -> R
     Ok(())
 }
 
+// Refuses operands of IN that have more than one type.
 #[cycle(check)]
 fn contained(
     scope: &[Visible<'_>],
@@ -249,7 +264,11 @@ fn contained(
     first: &Written,
     others: &[Written],
 ) -> Result<(), Cause>
-    ensures { Passes ((spec.type_causes (scope_of scope.now) (expr_tree e.now) ++ (spec.type_causes (scope_of scope.now) (expr_tree first.now) ++ spec.type_causes_of_all (scope_of scope.now) (expr_trees others.now))) ++ spec.comparing (spec.type_of (scope_of scope.now) (expr_tree e.now) ∷ spec.type_of (scope_of scope.now) (expr_tree first.now) ∷ spec.types_of (scope_of scope.now) (expr_trees others.now))) result }
+    ensures { Passes ((spec.type_causes (scope_of scope.now) (expr_tree e.now)
+        ++ (spec.type_causes (scope_of scope.now) (expr_tree first.now)
+        ++ spec.type_causes_of_all (scope_of scope.now) (expr_trees others.now)))
+        ++ spec.comparing (spec.type_of (scope_of scope.now) (expr_tree e.now) ∷ spec.type_of (scope_of scope.now) (expr_tree first.now)
+        ∷ spec.types_of (scope_of scope.now) (expr_trees others.now))) result }
 {
     let e = type_of(scope, e)?;
     let first = type_of(scope, first)?;
@@ -257,17 +276,21 @@ fn contained(
     listed(scope, both, others)
 }
 
+// Refuses an operand of LIKE that is no text, and a pattern that ends in a lone backslash.
 #[cycle(check)]
 fn liked(scope: &[Visible<'_>], e: &Written, pattern: &String) -> Result<(), Cause>
-    ensures { Passes ((spec.type_causes (scope_of scope.now) (expr_tree e.now) ++ spec.as_text (spec.type_of (scope_of scope.now) (expr_tree e.now))) ++ spec.as_pattern (string_bytes pattern.now)) result }
+    ensures { Passes ((spec.type_causes (scope_of scope.now) (expr_tree e.now)
+        ++ spec.as_text (spec.type_of (scope_of scope.now) (expr_tree e.now))) ++ spec.as_pattern (string_bytes pattern.now)) result }
 {
     operand(scope, e, ColType::Text, Cause::UndefinedFunction)?;
     check_pattern(pattern.as_str())
 }
 
+// Refuses an operand of IS TRUE, FALSE or UNKNOWN that is no condition.
 #[cycle(check)]
 fn tested(scope: &[Visible<'_>], e: &Written, status: Status) -> Result<(), Cause>
-    ensures { Passes (spec.type_causes (scope_of scope.now) (expr_tree e.now) ++ spec.as_tested status (spec.type_of (scope_of scope.now) (expr_tree e.now))) result }
+    ensures { Passes (spec.type_causes (scope_of scope.now) (expr_tree e.now)
+        ++ spec.as_tested status (spec.type_of (scope_of scope.now) (expr_tree e.now))) result }
 {
     match status {
         Status::Null => {
@@ -291,9 +314,12 @@ fn conditions(scope: &[Visible<'_>], others: &[Written]) -> Result<(), Cause>
     Ok(())
 }
 
+// Refuses operands of AND or OR that are no conditions.
 #[cycle(check)]
 fn chained(scope: &[Visible<'_>], first: &Written, others: &[Written]) -> Result<(), Cause>
-    ensures { Passes ((spec.type_causes (scope_of scope.now) (expr_tree first.now) ++ spec.as_condition (spec.type_of (scope_of scope.now) (expr_tree first.now))) ++ spec.condition_causes (scope_of scope.now) (expr_trees others.now)) result }
+    ensures { Passes ((spec.type_causes (scope_of scope.now) (expr_tree first.now)
+        ++ spec.as_condition (spec.type_of (scope_of scope.now) (expr_tree first.now)))
+        ++ spec.condition_causes (scope_of scope.now) (expr_trees others.now)) result }
 {
     operand(scope, first, ColType::Bool, Cause::DatatypeMismatch)?;
     conditions(scope, others)
@@ -302,7 +328,8 @@ fn chained(scope: &[Visible<'_>], first: &Written, others: &[Written]) -> Result
 // Refuses a call, unless it is one of a function of one argument.
 #[cycle(check)]
 fn called(scope: &[Visible<'_>], name: &String, arguments: &[Written]) -> Result<(), Cause>
-    ensures { Passes (spec.type_causes_of_all (scope_of scope.now) (expr_trees arguments.now) ++ spec.as_call (function_named (string_bytes name.now)) (spec.types_of (scope_of scope.now) (expr_trees arguments.now))) result }
+    ensures { Passes (spec.type_causes_of_all (scope_of scope.now) (expr_trees arguments.now)
+        ++ spec.as_call (function_named (string_bytes name.now)) (spec.types_of (scope_of scope.now) (expr_trees arguments.now))) result }
 {
     match arguments {
         [argument] => called_with(scope, name, argument),
@@ -313,7 +340,8 @@ fn called(scope: &[Visible<'_>], name: &String, arguments: &[Written]) -> Result
 // Refuses a call of one argument.
 #[cycle(check)]
 fn called_with(scope: &[Visible<'_>], name: &String, argument: &Written) -> Result<(), Cause>
-    ensures { Passes ((spec.type_causes (scope_of scope.now) (expr_tree argument.now) ++ []) ++ spec.as_call (function_named (string_bytes name.now)) (spec.type_of (scope_of scope.now) (expr_tree argument.now) ∷ [])) result }
+    ensures { Passes ((spec.type_causes (scope_of scope.now) (expr_tree argument.now) ++ [])
+        ++ spec.as_call (function_named (string_bytes name.now)) (spec.type_of (scope_of scope.now) (expr_tree argument.now) ∷ [])) result }
 {
     let argument = type_of(scope, argument)?;
     check_call(function_named(name.as_str()), argument)
@@ -345,7 +373,8 @@ fn check(scope: &[Visible<'_>], e: &Written) -> Result<(), Cause>
 /// The type of an expression, or why a part of it is refused.
 #[cycle(check)]
 pub fn type_of(scope: &[Visible<'_>], e: &Written) -> Result<Option<ColType>, Cause>
-    ensures { Gives (λ t. t) (spec.type_causes (scope_of scope.now) (expr_tree e.now)) (spec.type_of (scope_of scope.now) (expr_tree e.now)) result }
+    ensures { Means (λ t. t) (spec.type_causes (scope_of scope.now) (expr_tree e.now))
+        (spec.type_of (scope_of scope.now) (expr_tree e.now)) result }
 {
     check(scope, e)?;
     Ok(kind(scope, e)?)

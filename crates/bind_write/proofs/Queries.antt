@@ -22,11 +22,11 @@ use Rattle.med_write.specs.Form.{insert_form, answer_form}
 use Rattle.bind_names.specs.Naming.{from_causes, asked_causes, select_name_causes, once_known}
 use Rattle.bind_names.proofs.Causes.{none_of_two}
 use Rattle.bind_names.specs.Scope.{TableShape, place_named, columns_of, entry_columns, from_scope}
-use Rattle.bind_names.specs.Telling.{Tells}
+use Rattle.bind_names.specs.Telling.{TellsCause}
 use Rattle.bind_types.specs.Typing.{select_type_causes}
 use Rattle.med_binder.specs.Binding.{IsMeant}
 use Rattle.med_binder.specs.Turns.{TellsInTurn}
-use Rattle.med_binder.specs.declared.bound.Bound.{Bound}
+use Rattle.med_binder.specs.declared.bound.BoundQuery.{BoundQuery}
 use Rattle.pushdown.specs.Offered.{entry_place}
 use Rattle.med_catalog.specs.DdlCauses.{phase}
 use Rattle.med_catalog.specs.Objects.{Objects, table_named}
@@ -67,7 +67,7 @@ parts_clear o user q clear =
 names_clear : (f l a r : List Cause) → f ≡ [] → l ≡ [] → a ≡ [] → r ≡ [] → once_known f (l ++ a) ++ r ≡ []
 names_clear f l a r e k h i = rw (e, k, h, i) refl
 
-pub query_fine : (o : Objects) (bound : List Attached) (user : Name) (columns : List Column) (names : Option (List Name)) (q : SelectTree) (b : Bound)
+pub query_fine : (o : Objects) (bound : List Attached) (user : Name) (columns : List Column) (names : Option (List Name)) (q : SelectTree) (b : BoundQuery)
     → queries.IsBindable o user q → IsMeant (meant_by o q) b → ArePlaces bound (meant_by o q).entries (map entry_place b.entries.items) → is_safe_from b.select.from.items ≡ true
     → named_causes columns names ≡ [] → IsAskedQuery o bound user columns names q b
 query_fine o bound user columns names q b is meant there safe listed =
@@ -81,7 +81,7 @@ query_fine o bound user columns names q b is meant there safe listed =
     }
 
 pub query_list : (o : Objects) (user : Name) (columns : List Column) (names : Option (List Name)) (q : SelectTree) (c : Cause)
-    → ((d : Cause) → QueryNames o user q d → ⊥) → Tells (named_causes columns names) c → TellsInTurn (query_names o user columns names q) (select_type_causes (shapes o) q) c
+    → ((d : Cause) → QueryNames o user q d → ⊥) → TellsCause (named_causes columns names) c → TellsInTurn (query_names o user columns names q) (select_type_causes (shapes o) q) c
 query_list o user columns names q c clear t =
     list_told (from_causes (shapes o) q.from) (named_causes columns names) (asked_causes (shapes o) q) (query_right_causes o user q) (select_type_causes (shapes o) q) c (parts_clear o user q clear).0 t
 
@@ -155,28 +155,28 @@ asked_told o bound user name names q t c is h =
 abbrev pub seen_types : Objects → SelectTree → List Tree → List (Option ColType)
 seen_types o q items = map (tree_type (column_kinds (columns_of (from_scope (shapes o) q.from)))) items
 
-fits_answer : (o : Objects) (bound : List Attached) (user name : Name) (names : Option (List Name)) (q : SelectTree) (t : Target) (b : Bound) (items : List Tree) → IsTarget o bound user name t
+fits_answer : (o : Objects) (bound : List Attached) (user name : Name) (names : Option (List Name)) (q : SelectTree) (t : Target) (b : BoundQuery) (items : List Tree) → IsTarget o bound user name t
     → IsAskedQuery o bound user (map column_of t.columns.now) names q b → items ≡ map tree b.select.items.items
     → row_fit_causes (map column_of t.columns.now) names (seen_types o q items) ≡ row_fit_causes (columns_in (shapes o) name) names (answer_types (shapes o) q)
 fits_answer o bound user name names q t b items is asked e =
     ap (λ cs. row_fit_causes cs names (seen_types o q items)) is.columns
     ∙ ap (λ ts. row_fit_causes (columns_in (shapes o) name) names (seen_types o q ts)) (e ∙ ap (λ (f : Form). f.items) asked.meant.form)
 
-pub answer_told : (o : Objects) (bound : List Attached) (user name : Name) (names : Option (List Name)) (q : SelectTree) (t : Target) (b : Bound) (items : List Tree) (c : Cause)
+pub answer_told : (o : Objects) (bound : List Attached) (user name : Name) (names : Option (List Name)) (q : SelectTree) (t : Target) (b : BoundQuery) (items : List Tree) (c : Cause)
     → IsTarget o bound user name t → IsAskedQuery o bound user (map column_of t.columns.now) names q b → items ≡ map tree b.select.items.items
-    → Tells (row_fit_causes (map column_of t.columns.now) names (seen_types o q items)) c
+    → TellsCause (row_fit_causes (map column_of t.columns.now) names (seen_types o q items)) c
     → TellsInTurn (names_of o user (query_write name names q)) (types_of o (query_write name names q)) c
 answer_told o bound user name names q t b items c is asked e h =
     types_in_turn (names_of o user (query_write name names q)) (row_fit_causes (columns_in (shapes o) name) names (answer_types (shapes o) q)) (types_of o (query_write name names q)) c
     (sym (asked_same o bound user name names q t is) ∙ asked.names)
     (λ d i. Contains-append_right (select_type_causes (shapes o) q) (row_fit_causes (columns_in (shapes o) name) names (answer_types (shapes o) q)) d i)
-    (subst (λ xs. Tells xs c) (fits_answer o bound user name names q t b items is asked e) h)
+    (subst (λ xs. TellsCause xs c) (fits_answer o bound user name names q t b items is asked e) h)
 
-pub query_clear : (o : Objects) (bound : List Attached) (user name : Name) (names : Option (List Name)) (q : SelectTree) (t : Target) (b : Bound) → IsTarget o bound user name t
+pub query_clear : (o : Objects) (bound : List Attached) (user name : Name) (names : Option (List Name)) (q : SelectTree) (t : Target) (b : BoundQuery) → IsTarget o bound user name t
     → IsAskedQuery o bound user (map column_of t.columns.now) names q b → names_of o user (query_write name names q) ≡ []
 query_clear o bound user name names q t b is asked = sym (asked_same o bound user name names q t is) ∙ asked.names
 
-pub query_typed : (o : Objects) (bound : List Attached) (user name : Name) (names : Option (List Name)) (q : SelectTree) (t : Target) (b : Bound) (items : List Tree) → IsTarget o bound user name t
+pub query_typed : (o : Objects) (bound : List Attached) (user name : Name) (names : Option (List Name)) (q : SelectTree) (t : Target) (b : BoundQuery) (items : List Tree) → IsTarget o bound user name t
     → IsAskedQuery o bound user (map column_of t.columns.now) names q b → items ≡ map tree b.select.items.items
     → row_fit_causes (map column_of t.columns.now) names (seen_types o q items) ≡ [] → types_of o (query_write name names q) ≡ []
 query_typed o bound user name names q t b items is asked e none =

@@ -10,7 +10,7 @@ use Rattle.med_value.specs.declared.cause.Cause.TheVariants.{OutOfMemory, Values
 use Rattle.med_syntax.specs.Tree.{Name}
 use Rattle.med_syntax.specs.ExprTree.{ExprTree}
 use Rattle.tri_expr.specs.Tree.{Tree}
-use Rattle.bind_names.specs.Telling.{Tells}
+use Rattle.bind_names.specs.Telling.{TellsCause}
 use Rattle.bind_types.specs.Typing.{unless}
 use Rattle.med_binder.specs.Turns.{TellsInTurn}
 use Rattle.med_catalog.specs.Objects.{Objects}
@@ -39,7 +39,7 @@ late_cause es c t four = by t.told
 
 -- of another phase, or of none: a cause of names, or want of memory. Types are of phase 4
 pub early_cause : (es : List ExprTree) (c : Cause) → TellsInTurn (row_name_causes es) (row_type_causes es) c → (phase_of c ≡ Some 4 → ⊥) → ((d : Cause) → Contains (row_type_causes es) d → phase_of d ≡ Some 4)
-    → Tells (row_name_causes es) c
+    → TellsCause (row_name_causes es) c
 early_cause es c t other of_types = record { told = by t.told }
   where
     by : (c ≡ OutOfMemory) ⊎ (Contains (row_name_causes es) c ⊎ ((row_name_causes es ≡ []) × Contains (row_type_causes es) c)) → (c ≡ OutOfMemory) ⊎ Contains (row_name_causes es) c
@@ -65,7 +65,7 @@ so_far_more rows es old new None h e none = (e ∙ ap (λ xs. xs ++ row_meant es
 so_far_more rows es old new (Some c) h e none =
     subst (λ xs. Contains xs c) (sym (flat_end row_type_causes rows es)) (Contains-append_left (flat_map row_type_causes rows) (row_type_causes es) c h)
 
-pub early : (es : List ExprTree) (c : Cause) → TellsInTurn (row_name_causes es) (row_type_causes es) c → (phase_of c ≡ Some 4 → ⊥) → Tells (row_name_causes es) c
+pub early : (es : List ExprTree) (c : Cause) → TellsInTurn (row_name_causes es) (row_type_causes es) c → (phase_of c ≡ Some 4 → ⊥) → TellsCause (row_name_causes es) c
 early es c t other = early_cause es c t other (row_types_phase es)
 
 pub other_phase : (p : Option ℕ) (n : ℕ) → p ≡ Some n → (n ≡ 4 → ⊥) → p ≡ Some 4 → ⊥

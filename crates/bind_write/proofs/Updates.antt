@@ -10,12 +10,12 @@ use Rattle.write_syntax.specs.WriteTree.{UpdateTree, update}
 use Rattle.tri_expr.specs.Tree.{Tree}
 use Rattle.med_write.specs.Form.{update_form}
 use Rattle.bind_names.specs.Naming.{once_known}
-use Rattle.bind_names.specs.Telling.{Tells}
+use Rattle.bind_names.specs.Telling.{TellsCause}
 use Rattle.med_binder.specs.Turns.{TellsInTurn}
 use Rattle.med_catalog.specs.Objects.{Objects}
 use Rattle.bind_catalog.specs.Places.{Attached}
 use Rattle.bind_catalog.specs.Tables.{shapes}
-use Rattle.write_parts.specs.declared.asking.Asked.{Asked}
+use Rattle.write_parts.specs.declared.asking.AskedValues.{AskedValues}
 use Rattle.write_parts.specs.declared.target.Target.{Target}
 use Rattle.write_parts.specs.Meaning.{columns_in, scope_in, cells_meant}
 use Rattle.write_parts.specs.Naming.{list_causes, names_of, set_names, set_values}
@@ -25,7 +25,7 @@ use Rattle.write_parts.proofs.Lists.{in_turn_by, names_in_turn, types_in_turn}
 use Rattle.bind_write.proofs.Writes.{names_asked}
 
 -- a cause of the list of columns
-pub list_told : (known others names rights ts : List Cause) (c : Cause) → known ≡ [] → Tells others c → TellsInTurn (once_known known (others ++ names) ++ rights) ts c
+pub list_told : (known others names rights ts : List Cause) (c : Cause) → known ≡ [] → TellsCause others c → TellsInTurn (once_known known (others ++ names) ++ rights) ts c
 list_told known others names rights ts c k t =
     names_in_turn others (once_known known (others ++ names) ++ rights) ts c
     (λ d h. Contains-append_left (once_known known (others ++ names)) rights d
@@ -54,20 +54,20 @@ written_cells o u =
     let columns = columns_in (shapes o) u.entry.table in
     cells_causes columns (set_types columns (cells_meant (scope_in (shapes o) u.entry) columns u.sets))
 
-pub cells_told : (o : Objects) (bound : List Attached) (user : Name) (u : UpdateTree) (t : Target) (es : List ExprTree) (a : Asked) (c : Cause) (xs : List Cause) → IsTarget o bound user u.entry.table t → set_list o u ≡ []
-    → es ≡ set_values u.sets → IsAsked o user (Some u.entry) es u.condition a → xs ≡ written_cells o u → Tells xs c → TellsInTurn (names_of o user (update u)) (types_of o (update u)) c
+pub cells_told : (o : Objects) (bound : List Attached) (user : Name) (u : UpdateTree) (t : Target) (es : List ExprTree) (a : AskedValues) (c : Cause) (xs : List Cause) → IsTarget o bound user u.entry.table t → set_list o u ≡ []
+    → es ≡ set_values u.sets → IsAsked o user (Some u.entry) es u.condition a → xs ≡ written_cells o u → TellsCause xs c → TellsInTurn (names_of o user (update u)) (types_of o (update u)) c
 cells_told o bound user u t es a c xs is none e asked same h =
     types_in_turn (names_of o user (update u)) (written_cells o u) (types_of o (update u)) c
     (sym (update_names o bound user u t is none) ∙ ap (λ vs. asked_names o user (Some u.entry) vs u.condition) (sym e) ∙ asked.names)
     (λ d i. Contains-append_right (asked_types (scope_in (shapes o) u.entry) (set_values u.sets) u.condition) (written_cells o u) d i)
-    (subst (λ ys. Tells ys c) same h)
+    (subst (λ ys. TellsCause ys c) same h)
 
-pub update_clear : (o : Objects) (bound : List Attached) (user : Name) (u : UpdateTree) (t : Target) (es : List ExprTree) (a : Asked) → IsTarget o bound user u.entry.table t → set_list o u ≡ []
+pub update_clear : (o : Objects) (bound : List Attached) (user : Name) (u : UpdateTree) (t : Target) (es : List ExprTree) (a : AskedValues) → IsTarget o bound user u.entry.table t → set_list o u ≡ []
     → es ≡ set_values u.sets → IsAsked o user (Some u.entry) es u.condition a → names_of o user (update u) ≡ []
 update_clear o bound user u t es a is none e asked =
     sym (update_names o bound user u t is none) ∙ ap (λ vs. asked_names o user (Some u.entry) vs u.condition) (sym e) ∙ asked.names
 
-pub update_typed : (o : Objects) (user : Name) (u : UpdateTree) (es : List ExprTree) (a : Asked) (xs : List Cause) → es ≡ set_values u.sets → IsAsked o user (Some u.entry) es u.condition a
+pub update_typed : (o : Objects) (user : Name) (u : UpdateTree) (es : List ExprTree) (a : AskedValues) (xs : List Cause) → es ≡ set_values u.sets → IsAsked o user (Some u.entry) es u.condition a
     → xs ≡ written_cells o u → xs ≡ [] → types_of o (update u) ≡ []
 update_typed o user u es a xs e asked same none =
     let types : asked_types (scope_in (shapes o) u.entry) (set_values u.sets) u.condition ≡ [] = ap (λ vs. asked_types (scope_in (shapes o) u.entry) vs u.condition) (sym e) ∙ asked.types in

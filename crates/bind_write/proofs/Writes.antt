@@ -8,7 +8,7 @@ use Rattle.med_syntax.specs.ExprTree.{ExprTree}
 use Rattle.med_syntax.specs.QueryTree.{EntryTree}
 use Rattle.write_syntax.specs.WriteTree.{DeleteTree, WriteTree, delete}
 use Rattle.bind_names.specs.Naming.{once_known, name_causes, condition_name_causes}
-use Rattle.bind_names.specs.Telling.{Tells}
+use Rattle.bind_names.specs.Telling.{TellsCause}
 use Rattle.med_binder.specs.Turns.{TellsInTurn}
 use Rattle.med_catalog.specs.Objects.{Objects}
 use Rattle.med_write.specs.Form.{form_of}
@@ -31,7 +31,7 @@ once_left [] ys c h = absurd (let within = h.1 in omega arith)
 once_left (x ∷ xs) ys c h = h
 
 -- a cause of the table is one of the write
-pub target_told : (known all asked rights more ts : List Cause) (c : Cause) → ((d : Cause) → Contains known d → Contains all d) → Tells (known ++ rights) c → TellsInTurn (once_known all asked ++ (rights ++ more)) ts c
+pub target_told : (known all asked rights more ts : List Cause) (c : Cause) → ((d : Cause) → Contains known d → Contains all d) → TellsCause (known ++ rights) c → TellsInTurn (once_known all asked ++ (rights ++ more)) ts c
 target_told known all asked rights more ts c f t = record { told = by t.told }
   where
     part : Contains known c ⊎ Contains rights c → Contains (once_known all asked ++ (rights ++ more)) c

@@ -9,7 +9,7 @@ use Rattle.write_syntax.specs.WriteTree.{GivenTree, values, rows_of, WriteTree, 
 use Rattle.med_query.specs.Select.{is_safe_from}
 use Rattle.bind_names.specs.Scope.{place_named}
 use Rattle.med_binder.specs.Binding.{IsMeant}
-use Rattle.med_binder.specs.declared.bound.Bound.{Bound}
+use Rattle.med_binder.specs.declared.bound.BoundQuery.{BoundQuery}
 use Rattle.pushdown.specs.Offered as offered
 use Rattle.med_catalog.specs.DdlCauses.{phase}
 use Rattle.med_catalog.specs.Objects.{Objects}
@@ -37,7 +37,7 @@ pub record IsLeast (o : Objects) (user : Name) (t : WriteTree) (c : Cause) : Typ
   pub least : (d : Cause) → WriteNames o user t d ⊎ WriteTypes o t d → phase c ≤ phase d
 
 -- the query of an INSERT that has one
-abbrev pub IsGiven : Objects → List Attached → GivenTree → Option Bound → Type 0
+abbrev pub IsGiven : Objects → List Attached → GivenTree → Option BoundQuery → Type 0
 IsGiven o bound (values rows) None = Unit {0}
 IsGiven o bound (values rows) (Some b) = ⊥
 IsGiven o bound (rows_of q) None = ⊥
@@ -45,7 +45,7 @@ IsGiven o bound (rows_of q) (Some b) =
     IsMeant (meant_by o q) b × ArePlaces bound (meant_by o q).entries (map offered.entry_place b.entries.items)
     × (is_safe_from b.select.from.items ≡ true)
 
-abbrev pub IsQueryOf : Objects → List Attached → WriteTree → Option Bound → Type 0
+abbrev pub IsQueryOf : Objects → List Attached → WriteTree → Option BoundQuery → Type 0
 IsQueryOf o bound (insert i) q = IsGiven o bound i.given q
 IsQueryOf o bound (update u) q = q ≡ None
 IsQueryOf o bound (delete d) q = q ≡ None

@@ -13,10 +13,10 @@ use Rattle.tri_expr.specs.Tree.{Tree}
 use Rattle.med_write.specs.Form.{trees_of}
 use Rattle.med_query.specs.Select.{is_safe_from}
 use Rattle.bind_names.specs.Naming.{from_causes, asked_causes, once_known}
-use Rattle.bind_names.specs.Telling.{Tells}
+use Rattle.bind_names.specs.Telling.{TellsCause}
 use Rattle.bind_types.specs.Typing.{select_type_causes}
 use Rattle.med_binder.specs.Binding.{IsMeant}
-use Rattle.med_binder.specs.declared.bound.Bound.{Bound}
+use Rattle.med_binder.specs.declared.bound.BoundQuery.{BoundQuery}
 use Rattle.med_binder.specs.Turns.{TellsInTurn}
 use Rattle.med_catalog.specs.Objects.{Objects}
 use Rattle.pushdown.specs.Offered.{entry_place}
@@ -59,7 +59,7 @@ AsksRow es (Err c) = TellsInTurn (row_name_causes es) (row_type_causes es) c
 abbrev pub GoesOnWith : List ExprTree → List (List Tree) → List (List Tree) → Result (Option Cause) Cause → Type 0
 GoesOnWith es old new (Ok None) = (new ≡ old ++ row_meant es ∷ []) × (row_name_causes es ≡ []) × (row_type_causes es ≡ [])
 GoesOnWith es old new (Ok (Some c)) = (row_name_causes es ≡ []) × Contains (row_type_causes es) c
-GoesOnWith es old new (Err c) = Tells (row_name_causes es) c
+GoesOnWith es old new (Err c) = TellsCause (row_name_causes es) c
 
 -- so far no cause of names stands; the rows are resolved, or a cause of types is at hand
 abbrev pub AreSoFar : List (List ExprTree) → List (List Tree) → Option Cause → Type 0
@@ -67,7 +67,8 @@ AreSoFar rows out None = (out ≡ map row_meant rows) × (flat_map row_type_caus
 AreSoFar rows out (Some c) = Contains (flat_map row_type_causes rows) c
 
 abbrev pub AsksRows : {A B : Type 0} → List (List ExprTree) → Result (Vec (Vec Expr A) B) Cause → Type 0
-AsksRows rows (Ok v) = (map trees_of v.items ≡ map row_meant rows) × (flat_map row_name_causes rows ≡ []) × (flat_map row_type_causes rows ≡ [])
+AsksRows rows (Ok v) =
+    (map trees_of v.items ≡ map row_meant rows) × (flat_map row_name_causes rows ≡ []) × (flat_map row_type_causes rows ≡ [])
 AsksRows rows (Err c) = TellsInTurn (flat_map row_name_causes rows) (flat_map row_type_causes rows) c
 
 -- ---- the query of an INSERT
@@ -78,14 +79,14 @@ query_names o user columns names q =
     once_known (from_causes (shapes o) q.from) (named_causes columns names ++ asked_causes (shapes o) q) ++ query_right_causes o user q
 
 -- it is bound, and no cause stands
-pub record IsAskedQuery (o : Objects) (bound : List Attached) (user : Name) (columns : List Column) (list : Option (List Name)) (q : SelectTree)
-    (b : Bound) : Type 0 where
+pub record IsAskedQuery (o : Objects) (bound : List Attached) (user : Name) (columns : List Column) (list : Option (List Name))
+    (q : SelectTree) (b : BoundQuery) : Type 0 where
   pub meant : IsMeant (meant_by o q) b
   pub there : ArePlaces bound (meant_by o q).entries (map entry_place b.entries.items)
   pub safe : is_safe_from b.select.from.items ≡ true
   pub names : query_names o user columns list q ≡ []
   pub types : select_type_causes (shapes o) q ≡ []
 
-abbrev pub AsksQuery : Objects → List Attached → Name → List Column → Option (List Name) → SelectTree → Result Bound Cause → Type 0
+abbrev pub AsksQuery : Objects → List Attached → Name → List Column → Option (List Name) → SelectTree → Result BoundQuery Cause → Type 0
 AsksQuery o bound user columns names q (Ok b) = IsAskedQuery o bound user columns names q b
 AsksQuery o bound user columns names q (Err c) = TellsInTurn (query_names o user columns names q) (select_type_causes (shapes o) q) c

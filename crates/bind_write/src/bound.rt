@@ -1,6 +1,6 @@
 //! Writes with their names resolved.
 
-use med_binder::Bound;
+use med_binder::BoundQuery;
 use med_value::TableNo;
 use med_write::BoundWrite;
 
@@ -16,5 +16,5 @@ pub struct TableWrite {
     /// What is done to its rows.
     pub write: BoundWrite,
     /// The query of an INSERT that has one.
-    pub query: Option<Bound>,
+    pub query: Option<BoundQuery>,
 }

@@ -9,5 +9,6 @@ ghost use Rattle.bind_write.specs.Binding.{IsLeast, NotBound};
 
 /// A cause by which a write is not bound is of the least phase in which one stands, unless it is want of memory.
 pub fn least_phase_is_told()
-    ensures { (o : Objects) (user : Name) (t : WriteTree) (c : AnyCause) → NotBound o user t c → (c ≡ AnyCause.OutOfMemory) ⊎ IsLeast o user t c }
+    ensures { (o : Objects) (user : Name) (t : WriteTree) (c : AnyCause)
+        → NotBound o user t c → (c ≡ AnyCause.OutOfMemory) ⊎ IsLeast o user t c }
 {}

@@ -21,7 +21,7 @@ ghost use Rattle.bind_write.specs.Steps.{AsksQuery};
 
 use bind_catalog::{BoundTable, bind};
 use bind_names::entries_of;
-use med_binder::Bound;
+use med_binder::BoundQuery;
 use med_catalog::Catalog;
 use med_syntax::{Entry, Select, Statement};
 use med_value::{Cause, ColType, ColumnDef, NoMemory};
@@ -58,11 +58,11 @@ pub(crate) fn ask_query(
     columns: &[ColumnDef],
     names: &Option<Vec<String>>,
     query: &Statement,
-) -> Result<Bound, Cause>
+) -> Result<BoundQuery, Cause>
     requires many { length bound.now ≡ length (objects catalog.now).tables }
     requires once { AreNamedOnce (objects catalog.now) }
-    ensures { AsksQuery (objects catalog.now) (map attached bound.now) user.now (map column_of columns.now) (option_map names_tree names.now)
-        (query_in (statement_tree query.now)) result }
+    ensures { AsksQuery (objects catalog.now) (map attached bound.now) user.now (map column_of columns.now)
+        (option_map names_tree names.now) (query_in (statement_tree query.now)) result }
 {
     match bind(alloc, query, catalog, bound, user) {
         Ok(found) => {

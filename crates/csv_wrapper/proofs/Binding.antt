@@ -12,8 +12,8 @@ use Rattle.med_value.specs.Causes.{phase_of}
 use Rattle.med_value.specs.declared.cause.Cause.{Cause}
 use Rattle.med_value.specs.declared.cause.Cause.TheVariants.{TableNotFound, InvalidFormat, InvalidText, TooLarge}
 use Rattle.fdw_api.specs.Scan.{Spec}
-use Rattle.fdw_api.specs.Kinds.{Column, Setting, Entry, Bytes, Stored, Holding, Known, Unknown, Held, held, is_late, is_of_run}
-use Rattle.fdw_api.specs.State.{Bound, Scan, set_at}
+use Rattle.fdw_api.specs.Kinds.{Column, OptionForm, Entry, Bytes, Stored, Holding, Known, Unknown, Held, held, is_late, is_of_run}
+use Rattle.fdw_api.specs.State.{BoxTable, Scan, set_at}
 use Rattle.fdw_api.specs.Calls.{Allows, Binds, CanBind, CanUnbind, Unbinds, IsLeast, Picks, Refuses, RefusesBind, faults_after}
 use Rattle.fdw_api.specs.declared.interface.Fault.{Fault}
 use Rattle.fdw_api.specs.declared.interface.Fault.TheVariants.{NoMemory, Source, Refused}
@@ -97,7 +97,7 @@ Served tables m = (k : ℕ) (s : PlaceScan) → tree.get nat_cmp m k ≡ Some s 
 not_there : (old : List (Option CsvTable)) (t : ℕ) (m : BTreeMap ℕ PlaceScan) → slot old t ≡ None → Served old m → Misses t m
 not_there old t m none served q s e same = absurd (let w = served q s e in let z : slot old s.table ≡ None = rw same none in let v = rw z at w in cc)
 
-pub csv_binds : (h h2 : Shelf) (old new : List (Option CsvTable)) (m : BTreeMap ℕ PlaceScan) (staged : Option StagedWrite) (next pulled t : ℕ) (remote : List ℕ) (columns : List Column) (settings : List Setting) (x : CsvTable) (bytes : List ℕ)
+pub csv_binds : (h h2 : Shelf) (old new : List (Option CsvTable)) (m : BTreeMap ℕ PlaceScan) (staged : Option StagedWrite) (next pulled t : ℕ) (remote : List ℕ) (columns : List Column) (settings : List OptionForm) (x : CsvTable) (bytes : List ℕ)
     → h2 ≡ h → slot old t ≡ None → slot new t ≡ Some x → ((q : ℕ) → q ≢ t → slot new q ≡ slot old q) → Served old m
     → string_bytes x.remote ≡ remote → shape_is x.layout ≡ shape_of columns settings → Picks (held_under h remote) (Some (Bytes bytes)) → IsContent (shape_is x.layout) bytes (header_in x.header) (records_of x.rows)
     → Binds (csv_state h old m staged next pulled) remote columns settings t (csv_state h2 new m staged next pulled)
@@ -114,7 +114,7 @@ csv_binds h h2 old new m staged next pulled t remote columns settings x bytes eh
       arrangement_is = refl;
       refuses_is = ap csv_refusals es;
       ledger = ap (λ (z : Shelf). csv_ledger z new m staged next pulled) eh
-          ∙ ap (λ (f : ℕ → Option Bound). record (csv_ledger h new m staged next pulled) { tables = f }) (λ i q. tables_set old new t (Some x) there others q i)
+          ∙ ap (λ (f : ℕ → Option BoxTable). record (csv_ledger h new m staged next pulled) { tables = f }) (λ i q. tables_set old new t (Some x) there others q i)
           ∙ ap (λ (l : finmap.FinMap nat_cmp Scan). record (csv_ledger h old m staged next pulled) { tables = set_at (λ u. option_map bound_of (slot old u)) t (Some (bound_of x)); live = l }) (scans_same old new t m others misses);
       entry = Some (Bytes bytes);
       picked = λ honest. pk;
@@ -211,7 +211,7 @@ reading_least shape (Some (Stored kinds rows)) c is = at (Contains-push_cases []
     at (inr same) = subst (λ (d : Cause). (is_late (phase_of d) ≡ true) × IsLeast (TableNotFound ∷ []) d) same (refl, only_cause TableNotFound 5 refl)
 reading_least shape (Some (Bytes bytes)) c is = (ap is_late (content_run shape bytes c is), content_least shape bytes c is)
 
-pub csv_refuses : (fault : Fault) (h h2 : Shelf) (tables : List (Option CsvTable)) (m : BTreeMap ℕ PlaceScan) (staged : Option StagedWrite) (next pulled : ℕ) (remote : List ℕ) (columns : List Column) (settings : List Setting) → RefusesTable h remote columns settings fault h2 → RefusesBind (csv_state h tables m staged next pulled) remote columns settings fault (csv_state h2 tables m staged next pulled)
+pub csv_refuses : (fault : Fault) (h h2 : Shelf) (tables : List (Option CsvTable)) (m : BTreeMap ℕ PlaceScan) (staged : Option StagedWrite) (next pulled : ℕ) (remote : List ℕ) (columns : List Column) (settings : List OptionForm) → RefusesTable h remote columns settings fault h2 → RefusesBind (csv_state h tables m staged next pulled) remote columns settings fault (csv_state h2 tables m staged next pulled)
 csv_refuses NoMemory h h2 tables m staged next pulled remote columns settings r = record { refuses = refuses NoMemory h h2 tables m staged next pulled r.keeps; cause = tt }
 csv_refuses Source h h2 tables m staged next pulled remote columns settings r = record { refuses = refuses Source h h2 tables m staged next pulled r.keeps; cause = tt }
 csv_refuses (Refused c) h h2 tables m staged next pulled remote columns settings r =
@@ -219,22 +219,22 @@ csv_refuses (Refused c) h h2 tables m staged next pulled remote columns settings
     let least = reading_least (shape_of columns settings) w.0 c w.2 in
     record { refuses = refuses (Refused c) h h2 tables m staged next pulled r.keeps; cause = (least.0, λ honest. (w.0, w.1, least.1)) }
 
-pub csv_starves : (h h2 : Shelf) (tables : List (Option CsvTable)) (m : BTreeMap ℕ PlaceScan) (staged : Option StagedWrite) (next pulled : ℕ) (remote : List ℕ) (columns : List Column) (settings : List Setting) → h2 ≡ h → RefusesBind (csv_state h tables m staged next pulled) remote columns settings NoMemory (csv_state h2 tables m staged next pulled)
+pub csv_starves : (h h2 : Shelf) (tables : List (Option CsvTable)) (m : BTreeMap ℕ PlaceScan) (staged : Option StagedWrite) (next pulled : ℕ) (remote : List ℕ) (columns : List Column) (settings : List OptionForm) → h2 ≡ h → RefusesBind (csv_state h tables m staged next pulled) remote columns settings NoMemory (csv_state h2 tables m staged next pulled)
 csv_starves h h2 tables m staged next pulled remote columns settings e = record { refuses = refuses NoMemory h h2 tables m staged next pulled e; cause = tt }
 
 -- how a table is not read
-pub blob_fails : (fault : Fault) (h h2 : Shelf) (remote : List ℕ) (columns : List Column) (settings : List Setting) → FailsBlob fault h h2 → RefusesTable h remote columns settings fault h2
+pub blob_fails : (fault : Fault) (h h2 : Shelf) (remote : List ℕ) (columns : List Column) (settings : List OptionForm) → FailsBlob fault h h2 → RefusesTable h remote columns settings fault h2
 blob_fails NoMemory h h2 remote columns settings f = record { keeps = f.1; stands = tt }
 blob_fails Source h h2 remote columns settings f = record { keeps = f.1; stands = tt }
 blob_fails (Refused c) h h2 remote columns settings f = absurd f.0
 
-pub starves : (h h2 : Shelf) (remote : List ℕ) (columns : List Column) (settings : List Setting) → h2 ≡ h → RefusesTable h remote columns settings NoMemory h2
+pub starves : (h h2 : Shelf) (remote : List ℕ) (columns : List Column) (settings : List OptionForm) → h2 ≡ h → RefusesTable h remote columns settings NoMemory h2
 starves h h2 remote columns settings e = record { keeps = e; stands = tt }
 
-pub lacks : (h h2 : Shelf) (remote : List ℕ) (columns : List Column) (settings : List Setting) → h2 ≡ h → Picks (held_under h remote) None → RefusesTable h remote columns settings (Refused TableNotFound) h2
+pub lacks : (h h2 : Shelf) (remote : List ℕ) (columns : List Column) (settings : List OptionForm) → h2 ≡ h → Picks (held_under h remote) None → RefusesTable h remote columns settings (Refused TableNotFound) h2
 lacks h h2 remote columns settings e pk = record { keeps = e; stands = (None, pk, Contains-push [] TableNotFound) }
 
-pub rejects : (fault : Fault) (h h2 : Shelf) (remote : List ℕ) (columns : List Column) (settings : List Setting) (shape : Shape) (bytes : List ℕ) → h2 ≡ h → Picks (held_under h remote) (Some (Bytes bytes)) → shape ≡ shape_of columns settings → TellsCause fault (content_causes shape bytes) → RefusesTable h remote columns settings fault h2
+pub rejects : (fault : Fault) (h h2 : Shelf) (remote : List ℕ) (columns : List Column) (settings : List OptionForm) (shape : Shape) (bytes : List ℕ) → h2 ≡ h → Picks (held_under h remote) (Some (Bytes bytes)) → shape ≡ shape_of columns settings → TellsCause fault (content_causes shape bytes) → RefusesTable h remote columns settings fault h2
 rejects NoMemory h h2 remote columns settings shape bytes e pk es told = starves h h2 remote columns settings e
 rejects Source h h2 remote columns settings shape bytes e pk es told = absurd told
 rejects (Refused c) h h2 remote columns settings shape bytes e pk es told = record { keeps = e; stands = (Some (Bytes bytes), pk, subst (λ (s : Shape). Contains (content_causes s bytes) c) es told) }
@@ -245,7 +245,7 @@ csv_unbinds h old new m staged next pulled t there others can =
     record {
       nature = refl;
       ledger =
-          ap (λ (f : ℕ → Option Bound). record (csv_ledger h new m staged next pulled) { tables = f }) (λ i q. tables_set old new t None there others q i)
+          ap (λ (f : ℕ → Option BoxTable). record (csv_ledger h new m staged next pulled) { tables = f }) (λ i q. tables_set old new t None there others q i)
           ∙ ap (λ (l : finmap.FinMap nat_cmp Scan). record (csv_ledger h old m staged next pulled) { tables = set_at (λ u. option_map bound_of (slot old u)) t None; live = l }) (scans_same old new t m others misses);
       leaves = λ honest. record {
         coming = λ q live o. rows_same old new t (tree.get nat_cmp m q) others (misses q);
@@ -268,7 +268,7 @@ Apart tables = (t u : ℕ) (x y : CsvTable) → slot tables t ≡ Some x → slo
 pub keeps_headed : (h h2 : Shelf) (tables : List (Option CsvTable)) → ((r : List ℕ) → held_under h2 r ≡ held_under h r) → Headed h tables → Headed h2 tables
 keeps_headed h h2 tables same headed t x e at known = headed t x e at (sym (same (string_bytes x.remote)) ∙ known)
 
-pub refused_headed : (fault : Fault) (h h2 : Shelf) (remote : List ℕ) (columns : List Column) (settings : List Setting) (tables : List (Option CsvTable)) → RefusesTable h remote columns settings fault h2 → Headed h tables → Headed h2 tables
+pub refused_headed : (fault : Fault) (h h2 : Shelf) (remote : List ℕ) (columns : List Column) (settings : List OptionForm) (tables : List (Option CsvTable)) → RefusesTable h remote columns settings fault h2 → Headed h tables → Headed h2 tables
 refused_headed fault h h2 remote columns settings tables r = keeps_headed h h2 tables (λ q. ap (λ (z : Shelf). held_under z q) r.keeps)
 
 -- a slot after one was filled
@@ -382,7 +382,7 @@ bound_fits old new t (Some s) none others e =
     let ne : s.table ≢ t = λ q. absurd (let z : slot old s.table ≡ None = ap (slot old) q ∙ none in let v = rw z at w.0 in cc) in
     ap (λ (o : Option CsvTable). is_some o && list_all (row_of_change_fits (shape_at o).kinds) s.changes) (others s.table ne) ∙ e
 
-allows_at : (spec : Spec) (o : Option CsvTable) → IsSome (option_map bound_of o) → (b : Bound) × (option_map bound_of o ≡ Some b) × (b.allows spec ≡ true)
+allows_at : (spec : Spec) (o : Option CsvTable) → IsSome (option_map bound_of o) → (b : BoxTable) × (option_map bound_of o ≡ Some b) × (b.allows spec ≡ true)
 allows_at spec None e = absurd cc
 allows_at spec (Some t) e = (bound_of t, refl, refl)
 
@@ -391,7 +391,7 @@ pub csv_allows : (h : Shelf) (tables : List (Option CsvTable)) (m : BTreeMap ℕ
 csv_allows h tables m staged next pulled t spec e = let w = allows_at spec (slot tables t) e in record { bound = w.0; is = w.1; allowed = w.2 }
 
 -- no bound table has a remote name that may be bound
-pub free_of : (h : Shelf) (tables : List (Option CsvTable)) (m : BTreeMap ℕ PlaceScan) (staged : Option StagedWrite) (next pulled : ℕ) (remote : List ℕ) (columns : List Column) (settings : List Setting) (x : CsvTable) → CanBind (csv_state h tables m staged next pulled) remote columns settings → string_bytes x.remote ≡ remote → (u : ℕ) (y : CsvTable) → slot tables u ≡ Some y → string_bytes y.remote ≢ string_bytes x.remote
+pub free_of : (h : Shelf) (tables : List (Option CsvTable)) (m : BTreeMap ℕ PlaceScan) (staged : Option StagedWrite) (next pulled : ℕ) (remote : List ℕ) (columns : List Column) (settings : List OptionForm) (x : CsvTable) → CanBind (csv_state h tables m staged next pulled) remote columns settings → string_bytes x.remote ≡ remote → (u : ℕ) (y : CsvTable) → slot tables u ≡ Some y → string_bytes y.remote ≢ string_bytes x.remote
 free_of h tables m staged next pulled remote columns settings x can er u y at same = can.free u (bound_of y) (ap (option_map bound_of) at) (same ∙ er)
 
 pub found_under : (h : Shelf) (remote name : List ℕ) (entry : Option Entry) → name ≡ remote → Picks (held_under h remote) entry → Picks (held_under h name) entry

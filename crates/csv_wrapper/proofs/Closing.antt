@@ -11,7 +11,7 @@ use Rattle.std.specs.FinMap as finmap
 use Rattle.med_value.specs.Causes.{phase_of}
 use Rattle.med_value.specs.declared.cause.Cause.{Cause}
 use Rattle.fdw_api.specs.Kinds.{Entry, Bytes, Held, held, Holding, Known, Unknown, Change, is_of_run}
-use Rattle.fdw_api.specs.State.{Bound, Scan, Staging}
+use Rattle.fdw_api.specs.State.{BoxTable, Scan, Staging}
 use Rattle.fdw_api.specs.Calls.{NoScan, Picks, faults_after, not_refused}
 use Rattle.fdw_api.specs.Writes.{CanClose, Closes, CloseCause, RefusesClose, HoldsImage, row_of_change_fits, rows_after}
 use Rattle.fdw_api.specs.declared.interface.Fault.{Fault}
@@ -77,7 +77,7 @@ table_same : (old new : List (Option CsvTable)) (t : ℕ) (x y : CsvTable) → s
 table_same old new t x y was there same others q = split (eqb_tells q t)
   where
     split : ((eqb q t ≡ true) × (q ≡ t)) ⊎ ((eqb q t ≡ false) × (q ≢ t)) → option_map bound_of (slot new q) ≡ option_map bound_of (slot old q)
-    split (inl w) = ap (λ (k : ℕ). option_map bound_of (slot new k)) w.1 ∙ ap (option_map bound_of) there ∙ ap (λ (b : Bound). Some b) same ∙ sym (ap (option_map bound_of) was) ∙ sym (ap (λ (k : ℕ). option_map bound_of (slot old k)) w.1)
+    split (inl w) = ap (λ (k : ℕ). option_map bound_of (slot new k)) w.1 ∙ ap (option_map bound_of) there ∙ ap (λ (b : BoxTable). Some b) same ∙ sym (ap (option_map bound_of) was) ∙ sym (ap (λ (k : ℕ). option_map bound_of (slot old k)) w.1)
     split (inr w) = ap (option_map bound_of) (others q w.1)
 
 -- no live scan is of the written table
@@ -104,7 +104,7 @@ csv_closes h after old new m w next pulled x made was put scans replaced named h
       staging = write_is w;
       is_staged = refl;
       ledger = ap (λ (n : ℕ). record (csv_ledger after new m None next pulled) { faults = n }) replaced.failures
-          ∙ ap (λ (f : ℕ → Option Bound). record (csv_ledger h new m None next pulled) { tables = f }) (λ i q. table_same old new w.table x y was p.1 (same_bound x y p.2 p.3) put.others q i)
+          ∙ ap (λ (f : ℕ → Option BoxTable). record (csv_ledger h new m None next pulled) { tables = f }) (λ i q. table_same old new w.table x y was p.1 (same_bound x y p.2 p.3) put.others q i)
           ∙ ap (λ (l : finmap.FinMap nat_cmp Scan). record (csv_ledger h old m None next pulled) { live = l }) (scans_same old new w.table m put.others misses);
       content = λ honest. record {
         bound = bound_of x;
@@ -182,13 +182,13 @@ told_close (Refused c) h tables m w next pulled x was headed told = (of_run, λ 
         (all_run (causes_behind shape (header_in x.header) (rows_in x) changes) (three_of_run (not (list_any (hides_value shape.null) changes))
         (nat_le (length (rows_after (line_of shape.null) (rows_in x) changes)) 1000000) (nat_le (length (rows_text (header_in x.header) (rows_after (line_of shape.null) (rows_in x) changes))) 67108864)))) told
 
-    stands : (b : Bound) → option_map bound_of (slot tables w.table) ≡ Some b
+    stands : (b : BoxTable) → option_map bound_of (slot tables w.table) ≡ Some b
         → (entry : Option Entry) × Picks (held_under h b.remote) entry × Contains (b.refuses.causes entry (numbered (shape_at (slot tables w.table)) 0 (records_at (slot tables w.table))) changes) c
     stands b at =
         let pick = entry_under (held_under h (string_bytes x.remote)) x (λ e known. headed w.table x e was known) in
         let same : b ≡ bound_of x = some_inj b (bound_of x) (sym at ∙ ap (option_map bound_of) was) in
         let cs = ap (λ (o : Option CsvTable). write_causes shape pick.0 (numbered (shape_at o) 0 (records_at o)) changes) was ∙ ap (λ (l : List Record). causes_behind shape l (rows_in x) changes) pick.2 in
-        subst (λ (z : Bound). (entry : Option Entry) × Picks (held_under h z.remote) entry × Contains (z.refuses.causes entry (numbered (shape_at (slot tables w.table)) 0 (records_at (slot tables w.table))) changes) c) (sym same)
+        subst (λ (z : BoxTable). (entry : Option Entry) × Picks (held_under h z.remote) entry × Contains (z.refuses.causes entry (numbered (shape_at (slot tables w.table)) 0 (records_at (slot tables w.table))) changes) c) (sym same)
         (pick.0, pick.1, subst (λ (l : List Cause). Contains l c) (sym cs) told)
 
 shelf_stays : (fault : Fault) (h : Shelf) (causes : List Cause) → TellsCause fault causes → h ≡ record h { failures = faults_after fault h.failures }

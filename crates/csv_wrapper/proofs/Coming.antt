@@ -2,7 +2,7 @@
 use Rattle.std.proofs.Common.{◌≡◌, ℕ, ◌+◌, ◌<◌, ◌≤◌, Bool, true, false, ◌&&◌, List, [], ◌∷◌, drop, refl, ap, ◌∙◌, arith}
 use Rattle.std.proofs.lemmas.List.{drop_all}
 use Rattle.med_value.specs.Datum.{Tuple}
-use Rattle.fdw_api.specs.Scan.{Spec, Filter, meets, shown_cells}
+use Rattle.fdw_api.specs.Scan.{Spec, RestrictionForm, meets, shown_cells}
 use Rattle.fdw_api.specs.declared.scan.Agree.{Agree}
 use Rattle.fdw_api.specs.declared.scan.Agree.TheVariants.{Ignored, Hint, Exact}
 use Rattle.csv.specs.Records.{fields_of}
@@ -21,15 +21,15 @@ failed true x e = absurd cc
 failed false x e = refl
 
 -- past a restriction that lets the record come
-pub comes_more : (f : Filter) (fs : List Filter) (a : Agree) (answers : List Agree) (params cells : Tuple) (r : Record) → comes (f ∷ []) (a ∷ []) params cells r ≡ true → comes (f ∷ fs) (a ∷ answers) params cells r ≡ comes fs answers params cells r
+pub comes_more : (f : RestrictionForm) (fs : List RestrictionForm) (a : Agree) (answers : List Agree) (params cells : Tuple) (r : Record) → comes (f ∷ []) (a ∷ []) params cells r ≡ true → comes (f ∷ fs) (a ∷ answers) params cells r ≡ comes fs answers params cells r
 comes_more f fs Exact answers params cells r e = passed (meets params cells f) (comes fs answers params cells r) e
-comes_more f fs Hint answers params cells r e = passed (may_meet params (field_size r f.column) f.check) (comes fs answers params cells r) e
+comes_more f fs Hint answers params cells r e = passed (may_meet params (field_size r f.column) f.test) (comes fs answers params cells r) e
 comes_more f fs Ignored answers params cells r e = refl
 
 -- at one that does not
-pub comes_fails : (f : Filter) (fs : List Filter) (a : Agree) (answers : List Agree) (params cells : Tuple) (r : Record) → comes (f ∷ []) (a ∷ []) params cells r ≡ false → comes (f ∷ fs) (a ∷ answers) params cells r ≡ false
+pub comes_fails : (f : RestrictionForm) (fs : List RestrictionForm) (a : Agree) (answers : List Agree) (params cells : Tuple) (r : Record) → comes (f ∷ []) (a ∷ []) params cells r ≡ false → comes (f ∷ fs) (a ∷ answers) params cells r ≡ false
 comes_fails f fs Exact answers params cells r e = failed (meets params cells f) (comes fs answers params cells r) e
-comes_fails f fs Hint answers params cells r e = failed (may_meet params (field_size r f.column) f.check) (comes fs answers params cells r) e
+comes_fails f fs Hint answers params cells r e = failed (may_meet params (field_size r f.column) f.test) (comes fs answers params cells r) e
 comes_fails f fs Ignored answers params cells r e = absurd cc
 
 here : (t : CsvTable) (at : ℕ) → at < t.rows.count → drop at (records_of t.rows) ≡ fields_at t at ∷ drop (at + 1) (records_of t.rows)

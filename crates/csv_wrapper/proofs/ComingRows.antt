@@ -13,7 +13,7 @@ use Rattle.med_value.specs.Order.{compares_true}
 use Rattle.med_value.specs.declared.order.Comparison.TheVariants as comparisons
 use Rattle.med_value.specs.declared.value.ColType.{ColType}
 use Rattle.med_value.specs.declared.value.ColType.TheVariants as types
-use Rattle.fdw_api.specs.Scan.{Spec, Filter, Check, Compares, Missing, Present, value_of as operand_of, GivenRow, TableRow, IsComing, cell, checks, meets, meets_all, meets_exact, shown}
+use Rattle.fdw_api.specs.Scan.{Spec, RestrictionForm, TestForm, Compares, Missing, Present, value_of as operand_of, GivenRow, TableRow, IsComing, cell, checks, meets, meets_all, meets_exact, given_row}
 use Rattle.fdw_api.specs.declared.scan.Agree.{Agree}
 use Rattle.fdw_api.specs.declared.scan.Agree.TheVariants.{Ignored, Hint, Exact}
 use Rattle.csv_wrapper.specs.Cells.{cell_of, record_cells, value_of, integer_of, truth_of, without_spaces}
@@ -91,7 +91,7 @@ equal_fails size v (Chars t) h e = not_equal v t (λ s q. rw (h s q) at e)
 equal_fails size v (Whole n) h e = absurd cc
 equal_fails size v (Logic b) h e = absurd cc
 
-check_fails : (params : Tuple) (size : ℕ) (check : Check) (v : Datum) → ((s : List ℕ) → v ≡ Chars s → size ≡ length s) → may_meet params size check ≡ false → checks params check v ≡ false
+check_fails : (params : Tuple) (size : ℕ) (check : TestForm) (v : Datum) → ((s : List ℕ) → v ≡ Chars s → size ≡ length s) → may_meet params size check ≡ false → checks params check v ≡ false
 check_fails params size (Compares comparisons.Equal o) v h e = equal_fails size v (operand_of params o) h e
 check_fails params size (Compares comparisons.Apart o) v h e = absurd cc
 check_fails params size (Compares comparisons.Below o) v h e = absurd cc
@@ -102,8 +102,8 @@ check_fails params size Missing v h e = absurd cc
 check_fails params size Present v h e = absurd cc
 
 -- a record that a hint leaves out does not meet its restriction
-hint_fails : (null : List ℕ) (ks : List ColType) (r : Record) (params : Tuple) (f : Filter) → may_meet params (field_size r f.column) f.check ≡ false → meets params (record_cells null ks r) f ≡ false
-hint_fails null ks r params f e = check_fails params (field_size r f.column) f.check (cell (record_cells null ks r) f.column) (λ s q. cell_chars null ks r f.column s q) e
+hint_fails : (null : List ℕ) (ks : List ColType) (r : Record) (params : Tuple) (f : RestrictionForm) → may_meet params (field_size r f.column) f.test ≡ false → meets params (record_cells null ks r) f ≡ false
+hint_fails null ks r params f e = check_fails params (field_size r f.column) f.test (cell (record_cells null ks r) f.column) (λ s q. cell_chars null ks r f.column s q) e
 
 both_fail : (b x y : Bool) → (not x ≡ true → y ≡ false) → not (b && x) ≡ true → (b && y) ≡ false
 both_fail true x y f e = f e
@@ -118,15 +118,15 @@ either_fails true x m y h g e = one_fails m y (g e)
 either_fails false x m y h g e = rw (h refl) refl
 
 -- a record that does not come does not meet all restrictions
-left_out_fails : (null : List ℕ) (ks : List ColType) (r : Record) (fs : List Filter) (answers : List Agree) (params : Tuple) → not (comes fs answers params (record_cells null ks r) r) ≡ true → meets_all fs params (record_cells null ks r) ≡ false
+left_out_fails : (null : List ℕ) (ks : List ColType) (r : Record) (fs : List RestrictionForm) (answers : List Agree) (params : Tuple) → not (comes fs answers params (record_cells null ks r) r) ≡ true → meets_all fs params (record_cells null ks r) ≡ false
 left_out_fails null ks r [] answers params e = absurd cc
 left_out_fails null ks r (f ∷ fs) [] params e = absurd cc
 left_out_fails null ks r (f ∷ fs) (Exact ∷ answers) params e = both_fail (meets params (record_cells null ks r) f) (comes fs answers params (record_cells null ks r) r) _ (left_out_fails null ks r fs answers params) e
 left_out_fails null ks r (f ∷ fs) (Ignored ∷ answers) params e = one_fails (meets params (record_cells null ks r) f) _ (left_out_fails null ks r fs answers params e)
-left_out_fails null ks r (f ∷ fs) (Hint ∷ answers) params e = either_fails (may_meet params (field_size r f.column) f.check) (comes fs answers params (record_cells null ks r) r) (meets params (record_cells null ks r) f) _ (hint_fails null ks r params f) (left_out_fails null ks r fs answers params) e
+left_out_fails null ks r (f ∷ fs) (Hint ∷ answers) params e = either_fails (may_meet params (field_size r f.column) f.test) (comes fs answers params (record_cells null ks r) r) (meets params (record_cells null ks r) f) _ (hint_fails null ks r params f) (left_out_fails null ks r fs answers params) e
 
 -- a record that comes meets what is answered Exact
-taken_meets : (cells : Tuple) (r : Record) (fs : List Filter) (answers : List Agree) (params : Tuple) → comes fs answers params cells r ≡ true → meets_exact fs answers params cells ≡ true
+taken_meets : (cells : Tuple) (r : Record) (fs : List RestrictionForm) (answers : List Agree) (params : Tuple) → comes fs answers params cells r ≡ true → meets_exact fs answers params cells ≡ true
 taken_meets cells r [] answers params e = refl
 taken_meets cells r (f ∷ fs) [] params e = refl
 taken_meets cells r (f ∷ fs) (Exact ∷ answers) params e = keep (meets params cells f) (comes fs answers params cells r) (meets_exact fs answers params cells) (taken_meets cells r fs answers params) e
@@ -135,7 +135,7 @@ taken_meets cells r (f ∷ fs) (Exact ∷ answers) params e = keep (meets params
     keep true x y h g = h g
     keep false x y h g = g
 taken_meets cells r (f ∷ fs) (Ignored ∷ answers) params e = taken_meets cells r fs answers params e
-taken_meets cells r (f ∷ fs) (Hint ∷ answers) params e = taken_meets cells r fs answers params (second (may_meet params (field_size r f.column) f.check) (comes fs answers params cells r) e)
+taken_meets cells r (f ∷ fs) (Hint ∷ answers) params e = taken_meets cells r fs answers params (second (may_meet params (field_size r f.column) f.test) (comes fs answers params cells r) e)
   where
     second : (b x : Bool) → (b && x) ≡ true → x ≡ true
     second true x g = g
@@ -144,11 +144,11 @@ taken_meets cells r (f ∷ fs) (Hint ∷ answers) params e = taken_meets cells r
 abbrev passes : Shape → Spec → Tuple → TableRow → Bool
 passes shape spec params r = comes_by shape spec params r.origin
 
-step : (spec : Spec) (b : Bool) (y : TableRow) (xs : List GivenRow) (ys : List TableRow) → xs ≡ map (shown spec) ys → (if b then shown spec y ∷ xs else xs) ≡ map (shown spec) (cond b (y ∷ ys) ys)
-step spec true y xs ys e = ap (λ (l : List GivenRow). shown spec y ∷ l) e
+step : (spec : Spec) (b : Bool) (y : TableRow) (xs : List GivenRow) (ys : List TableRow) → xs ≡ map (given_row spec) ys → (if b then given_row spec y ∷ xs else xs) ≡ map (given_row spec) (cond b (y ∷ ys) ys)
+step spec true y xs ys e = ap (λ (l : List GivenRow). given_row spec y ∷ l) e
 step spec false y xs ys e = e
 
-coming_is : (shape : Shape) (spec : Spec) (params : Tuple) (n : ℕ) (rs : List Record) → coming_from shape spec params n rs ≡ map (shown spec) (filter (passes shape spec params) (numbered shape n rs))
+coming_is : (shape : Shape) (spec : Spec) (params : Tuple) (n : ℕ) (rs : List Record) → coming_from shape spec params n rs ≡ map (given_row spec) (filter (passes shape spec params) (numbered shape n rs))
 coming_is shape spec params n [] = refl
 coming_is shape spec params n (r ∷ rs) = step spec (comes_by shape spec params r) _ _ _ (coming_is shape spec params (n + 1) rs)
 

@@ -10,19 +10,19 @@ use Rattle.med_value.specs.declared.cause.Cause.TheVariants.{InvalidOptionName, 
 use Rattle.med_value.specs.declared.value.ColType.{ColType}
 use Rattle.med_value.specs.declared.value.ColType.TheVariants as types
 use Rattle.fdw_api.specs.Scan.{TableRow, row_fits, has_kind, is_clean}
-use Rattle.fdw_api.specs.Kinds.{Kind, Column, Setting, Entry, Bytes, Stored, Held, Reading, Change, Inserts, Updates, Deletes, Refusals, kinds_of, all_fit, as_they_come, is_late, is_of_run}
+use Rattle.fdw_api.specs.Kinds.{Kind, Column, OptionForm, Entry, Bytes, Stored, Held, Reading, Change, Inserts, Updates, Deletes, Refusals, kinds_of, all_fit, as_they_come, is_late, is_of_run}
 use Rattle.fdw_api.specs.Writes.{rows_after}
 use Rattle.csv_wrapper.specs.Cells.{cell_of, is_readable, record_cells, line_of, reads_as_null, value_of, integer_of, truth_of, without_spaces}
 use Rattle.csv_wrapper.specs.CsvRecords.{Record, csv_records, csv_text, is_whole, body, heading}
 
 -- the text of a table's option, if it is written
-abbrev pub option_text : List ℕ → List Setting → Option (List ℕ)
+abbrev pub option_text : List ℕ → List OptionForm → Option (List ℕ)
 option_text key [] = None
 option_text key (s ∷ ss) = if nat_eq s.level 0 && bytes_eq s.key key then Some s.text else option_text key ss
 
 -- a table has the options `header`, `true` or `false`, and `null`, any text; another is HV00D, another value of `header` 22P02.
 -- Columns have none
-abbrev pub objections_to : Setting → List Cause
+abbrev pub objections_to : OptionForm → List Cause
 objections_to s =
     if not (nat_eq s.level 0) then InvalidOptionName ∷ []
     else (if bytes_eq s.key (codes "null") then []
@@ -37,7 +37,7 @@ pub record Shape : Type 0 where
   pub header : Bool
   pub null : List ℕ
 
-abbrev pub shape_of : List Column → List Setting → Shape
+abbrev pub shape_of : List Column → List OptionForm → Shape
 shape_of columns settings = record {
   kinds = kinds_of columns;
   names = map (λ c. c.name) columns;

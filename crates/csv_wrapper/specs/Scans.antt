@@ -4,7 +4,7 @@ use Rattle.med_value.specs.Datum.{Datum, NoValue, Whole, Chars, Logic, Tuple, da
 use Rattle.med_value.specs.declared.order.Comparison.TheVariants as comparisons
 use Rattle.med_value.specs.declared.value.ColType.{ColType}
 use Rattle.med_value.specs.declared.value.ColType.TheVariants as types
-use Rattle.fdw_api.specs.Scan.{Spec, spec_of, Filter, Check, Compares, Missing, Present, value_of as operand_of, GivenRow, meets, shown_cells}
+use Rattle.fdw_api.specs.Scan.{Spec, spec_of, RestrictionForm, TestForm, Compares, Missing, Present, value_of as operand_of, GivenRow, meets, shown_cells}
 use Rattle.fdw_api.specs.State.{Scan}
 use Rattle.fdw_api.specs.Calls.{row_of}
 use Rattle.fdw_api.specs.declared.scan.Agree.{Agree}
@@ -31,7 +31,7 @@ field_size (f ∷ fs) zero = length f
 field_size (f ∷ fs) (suc column) = field_size fs column
 
 -- a field of this many bytes may meet a test, as far as its length tells
-abbrev pub may_meet : Tuple → ℕ → Check → Bool
+abbrev pub may_meet : Tuple → ℕ → TestForm → Bool
 may_meet params size (Compares comparisons.Equal o) = may_equal size (operand_of params o)
 may_meet params size (Compares comparisons.Apart o) = true
 may_meet params size (Compares comparisons.Below o) = true
@@ -42,12 +42,12 @@ may_meet params size Missing = true
 may_meet params size Present = true
 
 -- a record comes: each restriction answered Exact is true of it, and each answered Hint may be
-abbrev pub comes : List Filter → List Agree → Tuple → Tuple → Record → Bool
+abbrev pub comes : List RestrictionForm → List Agree → Tuple → Tuple → Record → Bool
 comes [] answers params cells fields = true
 comes (f ∷ fs) [] params cells fields = true
 comes (f ∷ fs) (Exact ∷ answers) params cells fields = meets params cells f && comes fs answers params cells fields
 comes (f ∷ fs) (Hint ∷ answers) params cells fields =
-    may_meet params (field_size fields f.column) f.check && comes fs answers params cells fields
+    may_meet params (field_size fields f.column) f.test && comes fs answers params cells fields
 comes (f ∷ fs) (Ignored ∷ answers) params cells fields = comes fs answers params cells fields
 
 abbrev pub comes_by : Shape → Spec → Tuple → Record → Bool
@@ -88,7 +88,7 @@ scan_rows tables (Some s) =
     (drop s.at (records_at (slot tables s.table)))
 
 -- what a table answers to a restriction: Exact to a test for NULL and to any test of an integer or a truth value, Hint to `=` of a text
-abbrev pub answer_to : Option ColType → Check → Agree
+abbrev pub answer_to : Option ColType → TestForm → Agree
 answer_to kind Missing = Exact
 answer_to kind Present = Exact
 answer_to (Some types.Int) (Compares op o) = Exact
@@ -102,5 +102,5 @@ answer_to (Some types.Text) (Compares comparisons.AtLeast o) = Ignored
 answer_to None (Compares op o) = Ignored
 
 -- the answer of a table of these columns to a restriction
-abbrev pub answer_by : List ColType → Filter → Agree
-answer_by kinds f = answer_to (slice_get kinds f.column) f.check
+abbrev pub answer_by : List ColType → RestrictionForm → Agree
+answer_by kinds f = answer_to (slice_get kinds f.column) f.test

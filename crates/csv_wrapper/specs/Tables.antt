@@ -5,7 +5,7 @@ use Rattle.csv.specs.Records.{fields_of}
 use Rattle.med_value.specs.Datum.{Tuple}
 use Rattle.fdw_api.specs.Scan.{TableRow}
 use Rattle.fdw_api.specs.Kinds.{as_they_come}
-use Rattle.fdw_api.specs.State.{Bound}
+use Rattle.fdw_api.specs.State.{BoxTable}
 use Rattle.csv_wrapper.specs.declared.layout.Layout.{Layout}
 use Rattle.csv_wrapper.specs.declared.table.Rows.{Rows}
 use Rattle.csv_wrapper.specs.declared.table.CsvTable.{CsvTable}
@@ -27,7 +27,7 @@ numbered shape n [] = []
 numbered shape n (r ∷ rs) = record { id = n; cells = record_cells shape.null shape.kinds r; origin = r } ∷ numbered shape (n + 1) rs
 
 -- a bound table allows every scan: what it is asked to take over it takes over
-abbrev pub bound_by : List ℕ → Shape → Bound
+abbrev pub bound_by : List ℕ → Shape → BoxTable
 bound_by remote shape = record {
   remote = remote;
   kinds = shape.kinds;
@@ -39,7 +39,7 @@ bound_by remote shape = record {
   refuses = csv_refusals shape;
 }
 
-abbrev pub bound_of : CsvTable → Bound
+abbrev pub bound_of : CsvTable → BoxTable
 bound_of t = bound_by (string_bytes t.remote) (shape_is t.layout)
 
 -- the table of a number, None where none is bound

@@ -4,8 +4,8 @@ ghost use Rattle.std.specs.Ordering.{nat_cmp};
 ghost use Rattle.std.specs.BTreeMap as tree;
 ghost use Rattle.std.specs.String.{string_bytes};
 ghost use Rattle.med_value.specs.Datum.{datum};
-ghost use Rattle.fdw_api.specs.Scan.{filter_of, spec_of};
-ghost use Rattle.fdw_api.specs.Kinds.{Entry, Bytes, Known, column_of, setting_of};
+ghost use Rattle.fdw_api.specs.Scan.{restriction_form, spec_of};
+ghost use Rattle.fdw_api.specs.Kinds.{Entry, Bytes, Known, column_of, option_form};
 ghost use Rattle.fdw_api.specs.Calls.{Picks};
 ghost use Rattle.blob_store.specs.Names.{is_blob_name};
 ghost use Rattle.csv_wrapper.specs.declared.table.CsvTable.{CsvTable};
@@ -28,7 +28,7 @@ use crate::written::{Written, apply_changes};
 use blob_store::blobs::{Blobs, is_blob_name};
 use blob_tables::{PlaceScan, advance, fault_of, restart, spoil};
 use csv::ByteRecord;
-use fdw_api::interface::{Counts, Fault, Opt, RowId, SourceRow, Ticket, Wrapper};
+use fdw_api::interface::{Counts, Fault, RowId, SourceRow, TableOption, Ticket, Wrapper};
 use fdw_api::law::rows_are_typed;
 use fdw_api::scan::{Agree, Agreement, Restriction, ScanSpec, copy_values};
 use med_value::{Cause, ColType, ColumnDef, NoMemory, Row, TableNo, Value};
@@ -102,12 +102,12 @@ fn read_table<B: Blobs>(
     alloc: Global,
     remote: &str,
     columns: &[ColumnDef],
-    options: &[Opt],
+    options: &[TableOption],
 ) -> Result<CsvTable, Fault>
     ensures ok { IfOk result (λ t. ReadsTable (B.meaning blobs.old) remote.now (map column_of columns.now)
-        (map setting_of options.now) t (B.meaning blobs.new)) }
+        (map option_form options.now) t (B.meaning blobs.new)) }
     ensures err { IfErr result (λ fault. RefusesTable (B.meaning blobs.old) remote.now (map column_of columns.now)
-        (map setting_of options.now) fault (B.meaning blobs.new)) }
+        (map option_form options.now) fault (B.meaning blobs.new)) }
 {
     let bytes = match find_blob(blobs, alloc, remote) {
         Ok(Some(bytes)) => bytes,
@@ -204,7 +204,7 @@ fn answers_to(
     kinds: &[ColType],
     offered: &[Restriction],
 ) -> Result<Vec<Agree>, NoMemory>
-    ensures { IfOk result (λ v. v.items ≡ map (answer_by kinds.now) (map filter_of offered.now)) }
+    ensures { IfOk result (λ v. v.items ≡ map (answer_by kinds.now) (map restriction_form offered.now)) }
 {
     let mut answers = Vec::new(alloc);
     for restriction in offered {
@@ -252,7 +252,7 @@ impl<B: Blobs> Wrapper for CsvWrapper<B> {
         alloc: Global,
         remote: &str,
         columns: &[ColumnDef],
-        options: &[Opt],
+        options: &[TableOption],
     ) -> Result<TableNo, Fault> {
         let table = match read_table(&mut self.blobs, alloc, remote, columns, options) {
             Ok(table) => table,
@@ -282,11 +282,11 @@ impl<B: Blobs> Wrapper for CsvWrapper<B> {
             (B.meaning self.now.blobs) self.now.tables.items self.now.scans self.now.staged self.now.next self.now.pulled) t.number) }
         ensures ok { IfOk result (λ a. Allows (csv_state
             (B.meaning self.now.blobs) self.now.tables.items self.now.scans self.now.staged self.now.next self.now.pulled)
-            t.number (spec_by _wanted.now (map filter_of offered.now) a)) }
+            t.number (spec_by _wanted.now (map restriction_form offered.now) a)) }
         ensures each { IfOk result (λ a. length a.answers.items ≡ length offered.now) }
         ensures err { IfErr result (λ fault. fault ≡ Fault.NoMemory) }
         ensures takes { IfOk result (λ a. a.answers.items ≡ map (answer_by (shape_at (slot self.now.tables.items t.number)).kinds)
-            (map filter_of offered.now)) }
+            (map restriction_form offered.now)) }
         ensures narrow { IfOk result (λ a. a.narrow ≡ true) }
     {
         let kinds = kinds_of_slot(&self.tables, t.number as usize);

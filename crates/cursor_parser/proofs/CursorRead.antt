@@ -9,7 +9,7 @@ use Rattle.expr_grammar.specs.declared.refusal.ReadFault.{ReadFault}
 use Rattle.expr_grammar.specs.declared.refusal.ReadFault.TheVariants as faults
 use Rattle.expr_grammar.specs.declared.refusal.Refusal.{Refusal}
 use Rattle.expr_grammar.specs.declared.refusal.Refusal.TheVariants.{Syntax, TooHigh}
-use Rattle.expr_grammar.specs.ExprAnswers.{Gives}
+use Rattle.expr_grammar.specs.ExprAnswers.{ReadsAs}
 use Rattle.expr_grammar.specs.ExprReading.{◌>>=◌}
 use Rattle.expr_grammar.specs.ExprTerminals.{AreReadable}
 use Rattle.expr_grammar.specs.Shapes.{deepens}
@@ -29,7 +29,7 @@ use Rattle.query_reader.proofs.QueryComplete as query_line
 use Rattle.ddl_syntax.specs.DdlTree.{DdlTree}
 use Rattle.ddl_parser.specs.DdlGrammar.{Both, IsEnd, IsDdl}
 use Rattle.ddl_parser.specs.DdlReading.{seq, behind_word, words_if}
-use Rattle.ddl_parser.proofs.DdlSound.{Found, word_is}
+use Rattle.ddl_parser.proofs.DdlSound.{FoundForm, word_is}
 use Rattle.ddl_parser.proofs.DdlComplete as ddl
 use Rattle.cursor_syntax.specs.declared.cursor.CursorStatement.{CursorStatement}
 use Rattle.cursor_syntax.specs.CursorTree.{CursorTree, declare, fetch, close, cursor_height}
@@ -55,7 +55,7 @@ query_asked n ss d h =
 
 declared_as : (ss : List Shape) (n : Name) (rest : List Shape) (q : StatementTree) → declared_of ss ≡ Ok (n, rest) → IsStatement rest q → IsCursor ss (declare n q)
 declared_as ss n rest q p s =
-    let f : Found (Declaring n) ss rest = declared_sound ss n rest p in
+    let f : FoundForm (Declaring n) ss rest = declared_sound ss n rest p in
     record { front = f.front; behind = rest; is = f.is; first = f.spelled; second = s }
 
 -- a tree with no expression higher than 64
@@ -82,11 +82,11 @@ line_sound ss d h =
     ]
     in go (declared_of ss) refl h
 
-pub line_found : (ss : List Shape) (r : Result CursorStatement ReadFault) → Gives cursor_tree r (line_of ss) → IfOk r (λ c. IsCursor ss (cursor_tree c))
+pub line_found : (ss : List Shape) (r : Result CursorStatement ReadFault) → ReadsAs cursor_tree r (line_of ss) → IfOk r (λ c. IsCursor ss (cursor_tree c))
 line_found ss (Ok c) h = (line_sound ss (cursor_tree c) h).0
 line_found ss (Err f) h = tt
 
-pub line_low : (ss : List Shape) (r : Result CursorStatement ReadFault) → Gives cursor_tree r (line_of ss) → IfOk r (λ c. cursor_height (cursor_tree c) ≤ 64)
+pub line_low : (ss : List Shape) (r : Result CursorStatement ReadFault) → ReadsAs cursor_tree r (line_of ss) → IfOk r (λ c. cursor_height (cursor_tree c) ≤ 64)
 line_low ss (Ok c) h = (line_sound ss (cursor_tree c) h).1
 line_low ss (Err f) h = tt
 
@@ -170,7 +170,7 @@ heavy_behind ss front behind is = omega (arith, deep_more front behind, deep_is 
 asked_refused : (ss : List Shape) (x : Name × List Shape) (f : Refusal) → declared_of ss ≡ Ok x → bounded_line (Words x.1) ≡ Err f → Refuses ss (faults.Refused f)
 asked_refused ss x Syntax p h = none_asked ss x p (bounded_out (Words x.1) h)
 asked_refused ss x TooHigh p h =
-    let f : Found (Declaring x.0) ss x.1 = declared_sound ss x.0 x.1 p in
+    let f : FoundForm (Declaring x.0) ss x.1 = declared_sound ss x.0 x.1 p in
     elim (bounded_told (Words x.1) h) [
       | inl y ↦ inl (declare x.0 y.0, declared_as ss x.0 x.1 y.0 p (of_terminals x.1 y.0 y.1), y.2)
       | inr y ↦ inr (none_asked ss x p y.0, omega (arith, y.1, words_weigh (Before false) false x.1, heavy_behind ss f.front x.1 f.is))
@@ -199,7 +199,7 @@ line_refuses ss f h =
     ]
     in go (declared_of ss) refl h
 
-pub line_refused : (ss : List Shape) (r : Result CursorStatement ReadFault) → Gives cursor_tree r (line_of ss) → IfErr r (Refuses ss)
+pub line_refused : (ss : List Shape) (r : Result CursorStatement ReadFault) → ReadsAs cursor_tree r (line_of ss) → IfErr r (Refuses ss)
 line_refused ss (Ok c) h = tt
 line_refused ss (Err faults.NoMemory) h = tt
 line_refused ss (Err (faults.Refused f)) h = line_refuses ss f h
@@ -215,7 +215,7 @@ word_readable w ss after h r = (subst AreReadable (word_is w ss after h) r).1
 
 pub query_readable : (ss : List Shape) (n : Name) (rest : List Shape) → declared_of ss ≡ Ok (n, rest) → AreReadable ss → AreReadable rest
 query_readable ss n rest p h =
-    let f : Found (Declaring n) ss rest = declared_sound ss n rest p in
+    let f : FoundForm (Declaring n) ss rest = declared_sound ss n rest p in
     readable_behind f.front rest (subst AreReadable f.is h)
 
 pub properties_at : (ss us vs : List Shape) (b c : Bool) → words_if (codes "insensitive" ∷ []) ss ≡ Ok (b, us) → words_if (codes "no" ∷ codes "scroll" ∷ []) us ≡ Ok (c, vs) → properties_of ss ≡ held_of vs

@@ -12,14 +12,14 @@ use Rattle.med_syntax.specs.Tree.{Name}
 use Rattle.med_syntax.specs.Words.{is_reserved}
 use Rattle.ddl_parser.specs.DdlGrammar.{Form, Both, ◌⋯◌, keywords, Words, WordsIf, WordsOrNot, NameIs, IsEnd}
 use Rattle.ddl_parser.specs.DdlReading.{Parser, seq, behind_word, behind_words, expect, words_if, name_of, is_end}
-use Rattle.ddl_parser.proofs.DdlSound.{Found, Sound, word_is, words_are}
+use Rattle.ddl_parser.proofs.DdlSound.{FoundForm, Sound, word_is, words_are}
 use Rattle.cursor_syntax.specs.CursorTree.{CountTree, some_rows, all_rows, CursorTree, declare, fetch, close}
 use Rattle.cursor_parser.specs.CursorGrammar.{Properties, Declaring, CountIs, FromOrIn, Fetching, Closing, IsCursor}
 use Rattle.cursor_parser.specs.CursorReading.{held_of, properties_of, declared_of, next_of, word_count_of, count_of, from_of, fetch_of, close_of, plain_of, ended, plain_line}
 
 -- ---- what is found
 
-found_both : {S T : Form} {ts middle rest : List Shape} → Found S ts middle → Found T middle rest → Found (Both S T) ts rest
+found_both : {S T : Form} {ts middle rest : List Shape} → FoundForm S ts middle → FoundForm T middle rest → FoundForm (Both S T) ts rest
 found_both {S} {T} {ts} {middle} {rest} f g = record {
   front = f.front ++ g.front;
   is = f.is ∙ ap (λ us. f.front ++ us) g.is ∙ sym (append_assoc f.front g.front rest);
@@ -27,10 +27,10 @@ found_both {S} {T} {ts} {middle} {rest} f g = record {
 }
 
 -- what is found for x, where x and what is left are told to be others
-found_as : {X : Type 0} (S : X → Form) (ts : List Shape) (x y : X) (rest last : List Shape) → ◌≡◌ {A = Result (X × List Shape) Refusal} (Ok (x, rest)) (Ok (y, last)) → Found (S x) ts rest → Found (S y) ts last
+found_as : {X : Type 0} (S : X → Form) (ts : List Shape) (x y : X) (rest last : List Shape) → ◌≡◌ {A = Result (X × List Shape) Refusal} (Ok (x, rest)) (Ok (y, last)) → FoundForm (S x) ts rest → FoundForm (S y) ts last
 found_as {X} S ts x y rest last h f =
     let e : ◌≡◌ {A = X × List Shape} (x, rest) (y, last) = ok_same (x, rest) (y, last) h in
-    subst (λ (p : X × List Shape). Found (S p.0) ts p.1) e f
+    subst (λ (p : X × List Shape). FoundForm (S p.0) ts p.1) e f
 
 pub err_ok : {A : Type 0} (f : Refusal) (x : A) → ◌≡◌ {A = Result A Refusal} (Err f) (Ok x) → ⊥
 err_ok f x h = absurd (cc)
@@ -41,19 +41,19 @@ seq_sound p f ts y rest h = let x = bind_ok (p ts) (λ x. f x.0 x.1) (y, rest) h
 
 -- ---- words and names
 
-words_found : (ws : List (List ℕ)) (ts after : List Shape) → behind_words ws ts ≡ Some after → Found (Words ws) ts after
+words_found : (ws : List (List ℕ)) (ts after : List Shape) → behind_words ws ts ≡ Some after → FoundForm (Words ws) ts after
 words_found ws ts after h = record { front = keywords ws; is = words_are ws ts after h; spelled = refl }
 
-word_found : (w : List ℕ) (ts after : List Shape) → behind_word w ts ≡ Some after → Found (Words (w ∷ [])) ts after
+word_found : (w : List ℕ) (ts after : List Shape) → behind_word w ts ≡ Some after → FoundForm (Words (w ∷ [])) ts after
 word_found w ts after h = record { front = word w ∷ []; is = word_is w ts after h; spelled = refl }
 
-nothing_found : (S : Form) (ts : List Shape) → S [] → Found S ts ts
+nothing_found : (S : Form) (ts : List Shape) → S [] → FoundForm S ts ts
 nothing_found S ts s = record { front = []; is = refl; spelled = s }
 
 expect_sound : (ws : List (List ℕ)) → Sound (λ (u : Unit {0}). Words ws) (expect ws)
 unfolding expect
 expect_sound ws ts u rest h =
-    let go : (o : Option (List Shape)) → behind_words ws ts ≡ o → choose {B = Result (Unit {0} × List Shape) Refusal} o (Err Syntax) (λ after. Ok (tt, after)) ≡ Ok (u, rest) → Found (Words ws) ts rest = elim [
+    let go : (o : Option (List Shape)) → behind_words ws ts ≡ o → choose {B = Result (Unit {0} × List Shape) Refusal} o (Err Syntax) (λ after. Ok (tt, after)) ≡ Ok (u, rest) → FoundForm (Words ws) ts rest = elim [
       | None ↦ (λ p e. absurd (err_ok Syntax (u, rest) e))
       | Some after ↦ (λ p e. found_as (λ (v : Unit {0}). Words ws) ts tt u after rest e (words_found ws ts after p))
     ]
@@ -62,18 +62,18 @@ expect_sound ws ts u rest h =
 if_sound : (ws : List (List ℕ)) → Sound (WordsIf ws) (words_if ws)
 unfolding words_if
 if_sound ws ts b rest h =
-    let go : (o : Option (List Shape)) → behind_words ws ts ≡ o → choose {B = Result (Bool × List Shape) Refusal} o (Ok (false, ts)) (λ after. Ok (true, after)) ≡ Ok (b, rest) → Found (WordsIf ws b) ts rest = elim [
+    let go : (o : Option (List Shape)) → behind_words ws ts ≡ o → choose {B = Result (Bool × List Shape) Refusal} o (Ok (false, ts)) (λ after. Ok (true, after)) ≡ Ok (b, rest) → FoundForm (WordsIf ws b) ts rest = elim [
       | None ↦ (λ p e. found_as (WordsIf ws) ts false b ts rest e (nothing_found (WordsIf ws false) ts refl))
       | Some after ↦ (λ p e. found_as (WordsIf ws) ts true b after rest e (words_found ws ts after p))
     ]
     in go (behind_words ws ts) refl h
 
 -- words that the tree does not hold
-or_not : (ws : List (List ℕ)) (b : Bool) (ts rest : List Shape) → Found (WordsIf ws b) ts rest → Found (WordsOrNot ws) ts rest
+or_not : (ws : List (List ℕ)) (b : Bool) (ts rest : List Shape) → FoundForm (WordsIf ws b) ts rest → FoundForm (WordsOrNot ws) ts rest
 or_not ws true ts rest f = record { front = f.front; is = f.is; spelled = inr f.spelled }
 or_not ws false ts rest f = record { front = f.front; is = f.is; spelled = inl f.spelled }
 
-word_name : (w : List ℕ) (us : List Shape) (n : Name) (rest : List Shape) (b : Bool) → is_reserved w ≡ b → cond {A = Result (Name × List Shape) Refusal} b (Err Syntax) (Ok (w, us)) ≡ Ok (n, rest) → Found (NameIs n) (word w ∷ us) rest
+word_name : (w : List ℕ) (us : List Shape) (n : Name) (rest : List Shape) (b : Bool) → is_reserved w ≡ b → cond {A = Result (Name × List Shape) Refusal} b (Err Syntax) (Ok (w, us)) ≡ Ok (n, rest) → FoundForm (NameIs n) (word w ∷ us) rest
 word_name w us n rest true e h = absurd (err_ok Syntax (n, rest) h)
 word_name w us n rest false e h = found_as NameIs (word w ∷ us) w n us rest h (record { front = word w ∷ []; is = refl; spelled = inr (refl, e) })
 
@@ -117,7 +117,7 @@ declared_sound ts n rest h =
 
 -- ---- FETCH and CLOSE
 
-next_at : (ts after : List Shape) (c : CountTree) (rest : List Shape) (b : Bool) → behind_word (codes "next") ts ≡ Some after → ◌≡◌ {A = Result (CountTree × List Shape) Refusal} (Ok (some_rows 1, cond b ts after)) (Ok (c, rest)) → Found (CountIs c) ts rest
+next_at : (ts after : List Shape) (c : CountTree) (rest : List Shape) (b : Bool) → behind_word (codes "next") ts ≡ Some after → ◌≡◌ {A = Result (CountTree × List Shape) Refusal} (Ok (some_rows 1, cond b ts after)) (Ok (c, rest)) → FoundForm (CountIs c) ts rest
 next_at ts after c rest true p e = found_as CountIs ts (some_rows 1) c ts rest e (nothing_found (CountIs (some_rows 1)) ts (inl (inl refl, refl)))
 next_at ts after c rest false p e =
     found_as CountIs ts (some_rows 1) c after rest e (record { front = word (codes "next") ∷ []; is = word_is (codes "next") ts after p; spelled = inl (inr refl, refl) })
@@ -125,7 +125,7 @@ next_at ts after c rest false p e =
 next_sound : Sound CountIs next_of
 unfolding next_of
 next_sound ts c rest h =
-    let go : (o : Option (List Shape)) → behind_word (codes "next") ts ≡ o → choose {B = Result (CountTree × List Shape) Refusal} o (Ok (some_rows 1, ts)) (λ after. Ok (some_rows 1, cond (is_end after) ts after)) ≡ Ok (c, rest) → Found (CountIs c) ts rest = elim [
+    let go : (o : Option (List Shape)) → behind_word (codes "next") ts ≡ o → choose {B = Result (CountTree × List Shape) Refusal} o (Ok (some_rows 1, ts)) (λ after. Ok (some_rows 1, cond (is_end after) ts after)) ≡ Ok (c, rest) → FoundForm (CountIs c) ts rest = elim [
       | None ↦ (λ p e. found_as CountIs ts (some_rows 1) c ts rest e (nothing_found (CountIs (some_rows 1)) ts (inl (inl refl, refl))))
       | Some after ↦ (λ p e. next_at ts after c rest (is_end after) p e)
     ]
@@ -134,7 +134,7 @@ next_sound ts c rest h =
 word_count_sound : Sound CountIs word_count_of
 unfolding word_count_of
 word_count_sound ts c rest h =
-    let go : (o : Option (List Shape)) → behind_word (codes "all") ts ≡ o → choose {B = Result (CountTree × List Shape) Refusal} o (next_of ts) (λ after. Ok (all_rows, after)) ≡ Ok (c, rest) → Found (CountIs c) ts rest = elim [
+    let go : (o : Option (List Shape)) → behind_word (codes "all") ts ≡ o → choose {B = Result (CountTree × List Shape) Refusal} o (next_of ts) (λ after. Ok (all_rows, after)) ≡ Ok (c, rest) → FoundForm (CountIs c) ts rest = elim [
       | None ↦ (λ p e. next_sound ts c rest e)
       | Some after ↦ (λ p e. found_as CountIs ts all_rows c after rest e (word_found (codes "all") ts after p))
     ]
@@ -149,12 +149,12 @@ count_sound (t ∷ us) c rest h = word_count_sound (t ∷ us) c rest h
 from_sound : Sound (λ (u : Unit {0}). FromOrIn) from_of
 unfolding from_of
 from_sound ts u rest h =
-    let other : (o : Option (List Shape)) → behind_word (codes "in") ts ≡ o → choose {B = Result (Unit {0} × List Shape) Refusal} o (Ok (tt, ts)) (λ after. Ok (tt, after)) ≡ Ok (u, rest) → Found FromOrIn ts rest = elim [
+    let other : (o : Option (List Shape)) → behind_word (codes "in") ts ≡ o → choose {B = Result (Unit {0} × List Shape) Refusal} o (Ok (tt, ts)) (λ after. Ok (tt, after)) ≡ Ok (u, rest) → FoundForm FromOrIn ts rest = elim [
       | None ↦ (λ p e. found_as (λ (v : Unit {0}). FromOrIn) ts tt u ts rest e (nothing_found FromOrIn ts (inl refl)))
       | Some after ↦ (λ p e. found_as (λ (v : Unit {0}). FromOrIn) ts tt u after rest e (record { front = word (codes "in") ∷ []; is = word_is (codes "in") ts after p; spelled = inr (inr refl) }))
     ]
     in
-    let go : (o : Option (List Shape)) → behind_word (codes "from") ts ≡ o → choose {B = Result (Unit {0} × List Shape) Refusal} o (choose (behind_word (codes "in") ts) (Ok (tt, ts)) (λ after. Ok (tt, after))) (λ after. Ok (tt, after)) ≡ Ok (u, rest) → Found FromOrIn ts rest = elim [
+    let go : (o : Option (List Shape)) → behind_word (codes "from") ts ≡ o → choose {B = Result (Unit {0} × List Shape) Refusal} o (choose (behind_word (codes "in") ts) (Ok (tt, ts)) (λ after. Ok (tt, after))) (λ after. Ok (tt, after)) ≡ Ok (u, rest) → FoundForm FromOrIn ts rest = elim [
       | None ↦ (λ p e. other (behind_word (codes "in") ts) refl e)
       | Some after ↦ (λ p e. found_as (λ (v : Unit {0}). FromOrIn) ts tt u after rest e (record { front = word (codes "from") ∷ []; is = word_is (codes "from") ts after p; spelled = inr (inl refl) }))
     ]
@@ -166,7 +166,7 @@ Plain (declare n q) = λ ts. ⊥
 Plain (fetch c n) = Fetching c n
 Plain (close n) = Closing n
 
-fetch_sound : (ts before : List Shape) (d : CursorTree) (rest : List Shape) → Found (Words (codes "fetch" ∷ [])) ts before → fetch_of before ≡ Ok (d, rest) → Found (Plain d) ts rest
+fetch_sound : (ts before : List Shape) (d : CursorTree) (rest : List Shape) → FoundForm (Words (codes "fetch" ∷ [])) ts before → fetch_of before ≡ Ok (d, rest) → FoundForm (Plain d) ts rest
 unfolding fetch_of
 fetch_sound ts before d rest f h =
     let a = seq_sound count_of _ before d rest h in
@@ -174,7 +174,7 @@ fetch_sound ts before d rest f h =
     let c = seq_sound name_of _ b.1 d rest b.3 in
     found_as Plain ts (fetch a.0 c.0) d c.1 rest c.3 (found_both f (found_both (count_sound before a.0 a.1 a.2) (found_both (from_sound a.1 b.0 b.1 b.2) (name_sound b.1 c.0 c.1 c.2))))
 
-close_sound : (ts before : List Shape) (d : CursorTree) (rest : List Shape) → Found (Words (codes "close" ∷ [])) ts before → close_of before ≡ Ok (d, rest) → Found (Plain d) ts rest
+close_sound : (ts before : List Shape) (d : CursorTree) (rest : List Shape) → FoundForm (Words (codes "close" ∷ [])) ts before → close_of before ≡ Ok (d, rest) → FoundForm (Plain d) ts rest
 unfolding close_of
 close_sound ts before d rest f h =
     let a = seq_sound name_of _ before d rest h in
@@ -183,12 +183,12 @@ close_sound ts before d rest f h =
 plain_sound : Sound Plain plain_of
 unfolding plain_of
 plain_sound ts d rest h =
-    let other : (o : Option (List Shape)) → behind_word (codes "close") ts ≡ o → choose o (Err Syntax) close_of ≡ Ok (d, rest) → Found (Plain d) ts rest = elim [
+    let other : (o : Option (List Shape)) → behind_word (codes "close") ts ≡ o → choose o (Err Syntax) close_of ≡ Ok (d, rest) → FoundForm (Plain d) ts rest = elim [
       | None ↦ (λ p e. absurd (err_ok Syntax (d, rest) e))
       | Some after ↦ (λ p e. close_sound ts after d rest (word_found (codes "close") ts after p) e)
     ]
     in
-    let go : (o : Option (List Shape)) → behind_word (codes "fetch") ts ≡ o → choose o (choose (behind_word (codes "close") ts) (Err Syntax) close_of) fetch_of ≡ Ok (d, rest) → Found (Plain d) ts rest = elim [
+    let go : (o : Option (List Shape)) → behind_word (codes "fetch") ts ≡ o → choose o (choose (behind_word (codes "close") ts) (Err Syntax) close_of) fetch_of ≡ Ok (d, rest) → FoundForm (Plain d) ts rest = elim [
       | None ↦ (λ p e. other (behind_word (codes "close") ts) refl e)
       | Some after ↦ (λ p e. fetch_sound ts after d rest (word_found (codes "fetch") ts after p) e)
     ]
@@ -209,7 +209,7 @@ unfolding plain_line
 plain_line_sound ts d h =
     let go : (r : Result (CursorTree × List Shape) Refusal) → plain_of ts ≡ r → ended r ≡ Ok d → Both (Plain d) IsEnd ts = elim [
       | Ok x ↦ (λ p q.
-          let f : Found (Plain x.0) ts x.1 = plain_sound ts x.0 x.1 p in
+          let f : FoundForm (Plain x.0) ts x.1 = plain_sound ts x.0 x.1 p in
           let e = end_sound x.1 x.0 d q in
           record { front = f.front; behind = x.1; is = f.is; first = subst (λ r. Plain r f.front) e.1 f.spelled; second = e.0 })
       | Err e ↦ (λ p q. absurd (err_ok Syntax d q))

@@ -40,7 +40,8 @@ count_of ts = word_count_of ts
 -- [FROM | IN]
 unfoldable pub from_of : Parser (Unit {0})
 from_of ts =
-    choose (behind_word (codes "from") ts) (choose (behind_word (codes "in") ts) (Ok (tt, ts)) (λ after. Ok (tt, after))) (λ after. Ok (tt, after))
+    choose (behind_word (codes "from") ts)
+    (choose (behind_word (codes "in") ts) (Ok (tt, ts)) (λ after. Ok (tt, after))) (λ after. Ok (tt, after))
 
 -- behind FETCH
 unfoldable pub fetch_of : Parser CursorTree

@@ -7,7 +7,7 @@ ghost use Rattle.cursor_parser.specs.CursorGrammar.{IsCursor};
 ghost use Rattle.cursor_parser.specs.CursorReading as reading;
 ghost use Rattle.cursor_syntax.specs.CursorTree.{cursor_height};
 ghost use Rattle.cursor_syntax.specs.CursorView.{count_tree, cursor_tree};
-ghost use Rattle.expr_grammar.specs.ExprAnswers.{Gives};
+ghost use Rattle.expr_grammar.specs.ExprAnswers.{ReadsAs};
 ghost use Rattle.expr_grammar.specs.ExprTerminals.{AreReadable};
 ghost use Rattle.expr_grammar.specs.View.{shapes_of};
 ghost use Rattle.std.specs.Prelude.{◌≡◌, ◌≤◌, IfErr, IfOk};
@@ -28,7 +28,7 @@ const MAX_COUNT: u64 = 9223372036854775807;
 /// The tokens behind CURSOR [WITH HOLD] FOR, which has to stand in front.
 #[tactic(auto, unfolding(ddl_parser::specs::DdlReading::seq, crate::specs::CursorReading::held_of))]
 fn behind_held(tokens: &[Token]) -> Result<&[Token], ReadFault>
-    ensures { Gives (λ x. (tt, shapes_of x.now)) result (reading.held_of (shapes_of tokens.now)) }
+    ensures { ReadsAs (λ x. (tt, shapes_of x.now)) result (reading.held_of (shapes_of tokens.now)) }
 {
     let rest = expect("cursor", tokens)?;
     let (_, rest) = two_if("with", "hold", rest);
@@ -38,7 +38,7 @@ fn behind_held(tokens: &[Token]) -> Result<&[Token], ReadFault>
 /// The tokens behind what stands between a cursor's name and its query.
 #[tactic(auto, unfolding(ddl_parser::specs::DdlReading::seq, crate::specs::CursorReading::properties_of))]
 fn behind_properties(tokens: &[Token]) -> Result<&[Token], ReadFault>
-    ensures { Gives (λ x. (tt, shapes_of x.now)) result (reading.properties_of (shapes_of tokens.now)) }
+    ensures { ReadsAs (λ x. (tt, shapes_of x.now)) result (reading.properties_of (shapes_of tokens.now)) }
 {
     let (_, rest) = word_if("insensitive", tokens);
     let (_, rest) = two_if("no", "scroll", rest);
@@ -48,7 +48,7 @@ fn behind_properties(tokens: &[Token]) -> Result<&[Token], ReadFault>
 /// The name of the cursor that is declared, and the tokens of its query.
 #[tactic(auto, unfolding(ddl_parser::specs::DdlReading::seq, crate::specs::CursorReading::declared_of))]
 fn declared(tokens: &[Token]) -> Result<(String, &[Token]), ReadFault>
-    ensures { Gives (λ x. (string_bytes x.0, shapes_of x.1.now)) result (reading.declared_of (shapes_of tokens.now)) }
+    ensures { ReadsAs (λ x. (string_bytes x.0, shapes_of x.1.now)) result (reading.declared_of (shapes_of tokens.now)) }
 {
     let rest = expect("declare", tokens)?;
     let (name, rest) = name(rest)?;
@@ -60,7 +60,7 @@ fn declared(tokens: &[Token]) -> Result<(String, &[Token]), ReadFault>
 #[tactic(auto, unfolding(ddl_parser::specs::DdlReading::seq, crate::specs::CursorReading::fetch_of))]
 fn fetch(tokens: &[Token]) -> Result<(CursorStatement, &[Token]), ReadFault>
     requires { AreReadable (shapes_of tokens.now) }
-    ensures { Gives (λ x. (cursor_tree x.0, shapes_of x.1.now)) result (reading.fetch_of (shapes_of tokens.now)) }
+    ensures { ReadsAs (λ x. (cursor_tree x.0, shapes_of x.1.now)) result (reading.fetch_of (shapes_of tokens.now)) }
 {
     let (count, rest) = count(tokens);
     let (name, rest) = name(behind_from(rest))?;
@@ -70,7 +70,7 @@ fn fetch(tokens: &[Token]) -> Result<(CursorStatement, &[Token]), ReadFault>
 /// The CLOSE behind CLOSE.
 #[tactic(auto, unfolding(ddl_parser::specs::DdlReading::seq, crate::specs::CursorReading::close_of))]
 fn close(tokens: &[Token]) -> Result<(CursorStatement, &[Token]), ReadFault>
-    ensures { Gives (λ x. (cursor_tree x.0, shapes_of x.1.now)) result (reading.close_of (shapes_of tokens.now)) }
+    ensures { ReadsAs (λ x. (cursor_tree x.0, shapes_of x.1.now)) result (reading.close_of (shapes_of tokens.now)) }
 {
     let (name, rest) = name(tokens)?;
     Ok((CursorStatement::Close(Close { name }), rest))
@@ -80,7 +80,7 @@ fn close(tokens: &[Token]) -> Result<(CursorStatement, &[Token]), ReadFault>
 #[tactic(auto, unfolding(crate::specs::CursorReading::plain_of))]
 fn plain(tokens: &[Token]) -> Result<(CursorStatement, &[Token]), ReadFault>
     requires { AreReadable (shapes_of tokens.now) }
-    ensures { Gives (λ x. (cursor_tree x.0, shapes_of x.1.now)) result (reading.plain_of (shapes_of tokens.now)) }
+    ensures { ReadsAs (λ x. (cursor_tree x.0, shapes_of x.1.now)) result (reading.plain_of (shapes_of tokens.now)) }
 {
     if let Some(after) = behind_word("fetch", tokens) {
         return fetch(after);
@@ -95,7 +95,7 @@ fn plain(tokens: &[Token]) -> Result<(CursorStatement, &[Token]), ReadFault>
 #[tactic(auto, unfolding(crate::specs::CursorReading::plain_line))]
 fn plain_line(tokens: &[Token]) -> Result<CursorStatement, ReadFault>
     requires { AreReadable (shapes_of tokens.now) }
-    ensures { Gives cursor_tree result (reading.plain_line (shapes_of tokens.now)) }
+    ensures { ReadsAs cursor_tree result (reading.plain_line (shapes_of tokens.now)) }
 {
     match plain(tokens) {
         Ok((statement, rest)) if is_end(rest) => Ok(statement),
@@ -108,7 +108,7 @@ fn plain_line(tokens: &[Token]) -> Result<CursorStatement, ReadFault>
 #[tactic(auto, unfolding(crate::specs::CursorReading::query_of))]
 fn query(alloc: Global, name: String, tokens: &[Token]) -> Result<CursorStatement, ReadFault>
     requires { AreReadable (shapes_of tokens.now) }
-    ensures { Gives cursor_tree result (reading.query_of (string_bytes name) (shapes_of tokens.now)) }
+    ensures { ReadsAs cursor_tree result (reading.query_of (string_bytes name) (shapes_of tokens.now)) }
 {
     let query = statement_of(alloc, tokens)?;
     Ok(CursorStatement::Declare(Declare { name, query }))
@@ -118,7 +118,7 @@ fn query(alloc: Global, name: String, tokens: &[Token]) -> Result<CursorStatemen
 #[tactic(auto, unfolding(crate::specs::CursorReading::line_of))]
 fn line(alloc: Global, tokens: &[Token]) -> Result<CursorStatement, ReadFault>
     requires { AreReadable (shapes_of tokens.now) }
-    ensures { Gives cursor_tree result (reading.line_of (shapes_of tokens.now)) }
+    ensures { ReadsAs cursor_tree result (reading.line_of (shapes_of tokens.now)) }
 {
     match declared(tokens) {
         Ok((name, rest)) => query(alloc, name, rest),

@@ -3,7 +3,7 @@
 ghost use Rattle.cursor_parser.specs.CursorReading as reading;
 ghost use Rattle.cursor_syntax.specs.CursorView.{count_tree};
 ghost use Rattle.ddl_parser.specs.DdlReading as ddl;
-ghost use Rattle.expr_grammar.specs.ExprAnswers.{Gives};
+ghost use Rattle.expr_grammar.specs.ExprAnswers.{ReadsAs};
 ghost use Rattle.expr_grammar.specs.ExprTerminals.{AreReadable};
 ghost use Rattle.expr_grammar.specs.View.{shapes_of};
 ghost use Rattle.std.specs.Prelude.{◌≡◌, ◌∷◌, [], Ok, IfOk, map, option_map};
@@ -43,7 +43,7 @@ fn behind_two<'a>(first: &str, second: &str, tokens: &'a [Token]) -> Option<&'a 
 /// The tokens behind the keyword, which has to stand in front.
 #[tactic(auto, unfolding(ddl_parser::specs::DdlReading::expect))]
 pub fn expect<'a>(word: &str, tokens: &'a [Token]) -> Result<&'a [Token], ReadFault>
-    ensures { Gives (λ x. (tt, shapes_of x.now)) result (ddl.expect (word.now ∷ []) (shapes_of tokens.now)) }
+    ensures { ReadsAs (λ x. (tt, shapes_of x.now)) result (ddl.expect (word.now ∷ []) (shapes_of tokens.now)) }
 {
     match behind_word(word, tokens) {
         Some(after) => Ok(after),
@@ -75,7 +75,7 @@ pub fn two_if<'a>(first: &str, second: &str, tokens: &'a [Token]) -> (bool, &'a 
 
 /// The name at the front, and the tokens behind it.
 pub fn name(tokens: &[Token]) -> Result<(String, &[Token]), ReadFault>
-    ensures { Gives (λ x. (string_bytes x.0, shapes_of x.1.now)) result (ddl.name_of (shapes_of tokens.now)) }
+    ensures { ReadsAs (λ x. (string_bytes x.0, shapes_of x.1.now)) result (ddl.name_of (shapes_of tokens.now)) }
 {
     match tokens {
         [

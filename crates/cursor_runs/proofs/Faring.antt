@@ -8,7 +8,7 @@ use Rattle.cursor_syntax.specs.CursorTree.{CursorTree, declare, fetch, close}
 use Rattle.med_catalog.specs.Changes.{ObjectChange, nothing, new_wrapper, new_server, new_mapping, new_table, no_wrapper, no_server, no_mapping, no_table}
 use Rattle.med_parser.specs.CommandTree.{CommandTree, on_data, on_rows, on_cursors, on_objects}
 use Rattle.med_parser.specs.CommandGrammar.{HasCommand}
-use Rattle.med_world.specs.Requests.{Asked, opening, sql, bye}
+use Rattle.med_world.specs.Requests.{AskedLine, opening, sql, bye}
 use Rattle.med_world.specs.World.{World, Cursor, Session, with_session}
 use Rattle.med_world.specs.Cursors.{cursor_named, with_cursor, without_cursor, with_handed, handing, Fetches, Fetched}
 use Rattle.med_world.specs.Picks.{Pick}
@@ -74,7 +74,7 @@ tree_else w n sid s p (on_rows t) reply new apart h = ap (λ (x : World). x.sess
 tree_else w n sid s p (on_cursors t) reply new apart h = turns_else w n sid s t reply new apart h
 tree_else w n sid s p (on_objects d) reply new apart h = ap (λ (f : ℕ → Option Session). f sid) (changes_leave w p h.1.0 new h.1.2)
 
-does_else : (w : World) (n sid : ℕ) (p : Pick) (request : Asked) (reply : Reply) (new : World) → n ≢ sid → Does w n p request reply new → new.sessions sid ≡ w.sessions sid
+does_else : (w : World) (n sid : ℕ) (p : Pick) (request : AskedLine) (reply : Reply) (new : World) → n ≢ sid → Does w n p request reply new → new.sessions sid ≡ w.sessions sid
 does_else w n sid p (opening user) reply new apart h = ap (λ (x : World). x.sessions sid) h.1 ∙ set_else w n sid _ apart
 does_else w n sid p (sql text) reply new apart h = tree_else w n sid h.0 p h.1 reply new apart h.3
 does_else w n sid p bye reply new apart h = ap (λ (x : World). x.sessions sid) h.1 ∙ set_else w n sid _ apart
@@ -87,7 +87,7 @@ loses_else w n sid s (on_data q) new apart h = ap (λ (x : World). x.sessions si
 loses_else w n sid s (on_rows t) new apart h = ap (λ (x : World). x.sessions sid) h
 loses_else w n sid s (on_objects d) new apart h = ap (λ (x : World). x.sessions sid) h
 
-step_else : (w : World) (n sid : ℕ) (request : Asked) (t : Trouble) (reply : Reply) (new : World) → n ≢ sid → Step w n request t reply new → new.sessions sid ≡ w.sessions sid
+step_else : (w : World) (n sid : ℕ) (request : AskedLine) (t : Trouble) (reply : Reply) (new : World) → n ≢ sid → Step w n request t reply new → new.sessions sid ≡ w.sessions sid
 step_else w n sid request t reply new apart (is_refused p c pick told is same) = ap (λ (x : World). x.sessions sid) same
 step_else w n sid request t reply new apart (is_done p pick none does) = does_else w n sid p request reply new apart does
 step_else w n sid request t reply new apart (lacks_memory m a takes is same) = ap (λ (x : World). x.sessions sid) same
@@ -172,7 +172,7 @@ tree_fares law w new sid name e o query s p (on_cursors t) reply h at frame has 
 tree_fares law w new sid name e o query s p (on_objects d) reply h at frame has told does =
     stays w new sid name e o h (ap (λ (f : ℕ → Option Session). f sid) (changes_leave w p does.1.0 new does.1.2)) (tree_passes law sid name e query (on_objects d) frame has (λ x. x))
 
-does_fares : OneTree → (w new : World) (sid : ℕ) (name : Name) (e : Exchange) (o : Option Cursor) (p : Pick) (request : Asked) (reply : Reply) → Has w sid name o → IsFrame e.text sid request → e.reply ≡ reply_text sid reply
+does_fares : OneTree → (w new : World) (sid : ℕ) (name : Name) (e : Exchange) (o : Option Cursor) (p : Pick) (request : AskedLine) (reply : Reply) → Has w sid name o → IsFrame e.text sid request → e.reply ≡ reply_text sid reply
     → NoneStands w sid p request → Does w sid p request reply new → Fares sid name e o new
 does_fares law w new sid name e o p (opening user) reply h frame told none does = absurd (none Protocol (inl (refl, inl (subst (λ (x : Option Session). IsSome x) (sym h.1) refl))))
 does_fares law w new sid name e o p (sql text) reply h frame told none does = tree_fares law w new sid name e o text does.0 p does.1 reply h does.2.0 frame does.2.1 told does.3
@@ -187,12 +187,12 @@ loses_fares w new sid name e o s (on_rows t) h at is by = stays w new sid name e
 loses_fares w new sid name e o s (on_objects d) h at is by = stays w new sid name e o h (ap (λ (x : World). x.sessions sid) is) by
 
 -- a statement's session
-open_in : (w : World) (sid : ℕ) (request : Asked) (s : Session) (tree : CommandTree) → IsStatementOf w sid request s tree → w.sessions sid ≡ Some s
+open_in : (w : World) (sid : ℕ) (request : AskedLine) (s : Session) (tree : CommandTree) → IsStatementOf w sid request s tree → w.sessions sid ≡ Some s
 open_in w sid (opening user) s tree h = absurd h
 open_in w sid (sql text) s tree h = h.0
 open_in w sid bye s tree h = absurd h
 
-own_fares : OneTree → (w new : World) (sid : ℕ) (name : Name) (e : Exchange) (o : Option Cursor) (request : Asked) (t : Trouble) (reply : Reply) → Has w sid name o → IsFrame e.text sid request → e.reply ≡ reply_text sid reply
+own_fares : OneTree → (w new : World) (sid : ℕ) (name : Name) (e : Exchange) (o : Option Cursor) (request : AskedLine) (t : Trouble) (reply : Reply) → Has w sid name o → IsFrame e.text sid request → e.reply ≡ reply_text sid reply
     → Step w sid request t reply new → Fares sid name e o new
 own_fares law w new sid name e o request t reply h frame told (is_refused p c pick is_told is same) =
     stays w new sid name e o h (ap (λ (x : World). x.sessions sid) same) (refused_passes sid name e c (told ∙ ap (reply_text sid) is))
@@ -206,7 +206,7 @@ own_fares law w new sid name e o request t reply h frame told (source_fails f s 
 own_fares law w new sid name e o request t reply h frame told (numbers_end f s tree st none may is same) =
     stays w new sid name e o h (ap (λ (x : World). x.sessions sid) same) (refused_passes sid name e LimitExceeded (told ∙ ap (reply_text sid) is))
 
-pub step_fares : OneTree → (w new : World) (sid n : ℕ) (name : Name) (e : Exchange) (o : Option Cursor) (request : Asked) (t : Trouble) (reply : Reply) → Has w sid name o → IsFrame e.text n request → e.reply ≡ reply_text n reply
+pub step_fares : OneTree → (w new : World) (sid n : ℕ) (name : Name) (e : Exchange) (o : Option Cursor) (request : AskedLine) (t : Trouble) (reply : Reply) → Has w sid name o → IsFrame e.text n request → e.reply ≡ reply_text n reply
     → Step w n request t reply new → Fares sid name e o new
 step_fares law w new sid n name e o request t reply h frame told step = split (eqb_tells n sid)
   where

@@ -16,7 +16,7 @@ use Rattle.med_catalog.specs.Changes.{ObjectChange, nothing, new_wrapper, new_se
 use Rattle.med_parser.specs.CommandTree.{CommandTree, on_data, on_rows, on_cursors, on_objects}
 use Rattle.med_parser.specs.CommandGrammar.{HasCommand}
 use Rattle.bind_names.specs.Scope.{entries_of}
-use Rattle.med_world.specs.Requests.{Asked, opening, sql, bye, IsSid}
+use Rattle.med_world.specs.Requests.{AskedLine, opening, sql, bye, IsSid}
 use Rattle.med_world.specs.World.{World, Leased, Cursor, Session, cells_of, rows_named, reads_table, leases, is_leased, beside_without, rows_with}
 use Rattle.med_world.specs.Cursors.{cursor_named, is_cursor, handing}
 use Rattle.med_world.specs.Picks.{Pick}
@@ -150,7 +150,7 @@ tree_keeps w sid s p (on_objects d) reply new table rows leased none does has =
     (λ n is. apart_of w n table leased (drops_free w.catalog (is_leased w) s.user d n (λ c x. none c (inl x)) (subst (Asks w.catalog s.user d) is does.1.1)))
     does.1.2 has
 
-does_keeps : (w : World) (sid : ℕ) (p : Pick) (request : Asked) (reply : Reply) (new : World) (table : Name) (rows : List Held) → is_leased w table ≡ true → NoneStands w sid p request → Does w sid p request reply new
+does_keeps : (w : World) (sid : ℕ) (p : Pick) (request : AskedLine) (reply : Reply) (new : World) (table : Name) (rows : List Held) → is_leased w table ≡ true → NoneStands w sid p request → Does w sid p request reply new
     → HasRows w table rows → HasRows new table rows
 does_keeps w sid p (opening user) reply new table rows leased none does has = subst (λ (x : World). HasRows x table rows) (sym does.1) has
 does_keeps w sid p (sql text) reply new table rows leased none does has =
@@ -165,7 +165,7 @@ loses_keep w sid s (on_data q) new table rows is has = by_same w new table rows 
 loses_keep w sid s (on_rows t) new table rows is has = by_same w new table rows is has
 loses_keep w sid s (on_objects d) new table rows is has = by_same w new table rows is has
 
-step_keeps : (w new : World) (sid : ℕ) (request : Asked) (t : Trouble) (reply : Reply) (table : Name) (rows : List Held) → is_leased w table ≡ true → Step w sid request t reply new → HasRows w table rows → HasRows new table rows
+step_keeps : (w new : World) (sid : ℕ) (request : AskedLine) (t : Trouble) (reply : Reply) (table : Name) (rows : List Held) → is_leased w table ≡ true → Step w sid request t reply new → HasRows w table rows → HasRows new table rows
 step_keeps w new sid request t reply table rows leased (is_refused p c pick told is same) has = by_same w new table rows same has
 step_keeps w new sid request t reply table rows leased (is_done p pick none does) has = does_keeps w sid p request reply new table rows leased none does has
 step_keeps w new sid request t reply table rows leased (lacks_memory m a takes is same) has = by_same w new table rows same has
@@ -216,7 +216,7 @@ stay law old new es sid s c is x at found = λ stays table rows reads has.
 -- ---- from a DECLARE on
 
 -- it leaves the rows of all tables
-declaring_keeps : OneTree → (w new : World) (sid : ℕ) (name : Name) (q : SelectTree) (query : List ℕ) (request : Asked) (t : Trouble) (reply : Reply) (table : Name) (rows : List Held) → request ≡ sql query
+declaring_keeps : OneTree → (w new : World) (sid : ℕ) (name : Name) (q : SelectTree) (query : List ℕ) (request : AskedLine) (t : Trouble) (reply : Reply) (table : Name) (rows : List Held) → request ≡ sql query
     → HasCommand query (on_cursors (declare name (select q))) → Step w sid request t reply new → HasRows w table rows → HasRows new table rows
 declaring_keeps law w new sid name q query request t reply table rows asks command (is_refused p c pick told is same) has = by_same w new table rows same has
 declaring_keeps law w new sid name q query request t reply table rows asks command (lacks_memory m a takes is same) has = by_same w new table rows same has
@@ -224,7 +224,7 @@ declaring_keeps law w new sid name q query request t reply table rows asks comma
 declaring_keeps law w new sid name q query request t reply table rows asks command (source_fails f s tree st none is loses) has = loses_keep w sid s tree new table rows loses has
 declaring_keeps law w new sid name q query request t reply table rows asks command (numbers_end f s tree st none may is same) has = by_same w new table rows same has
 declaring_keeps law w new sid name q query request t reply table rows asks command (is_done p pick none does) has =
-    let d = subst (λ (r : Asked). Does w sid p r reply new) asks does in
+    let d = subst (λ (r : AskedLine). Does w sid p r reply new) asks does in
     let same : d.1 ≡ on_cursors (declare name (select q)) = law query d.1 (on_cursors (declare name (select q))) d.2.1 command in
     turns_keep w sid d.0 (declare name (select q)) reply new table rows (subst (λ (tree : CommandTree). TreeDoes w sid d.0 p tree reply new) same d.3) has
 

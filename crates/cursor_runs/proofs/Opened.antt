@@ -6,7 +6,7 @@ use Rattle.med_syntax.specs.QueryTree.{SelectTree, select}
 use Rattle.cursor_syntax.specs.CursorTree.{declare}
 use Rattle.med_parser.specs.CommandTree.{CommandTree, on_cursors}
 use Rattle.med_parser.specs.CommandGrammar.{HasCommand}
-use Rattle.med_world.specs.Requests.{Asked, sql}
+use Rattle.med_world.specs.Requests.{AskedLine, sql}
 use Rattle.med_world.specs.World.{World, Cursor}
 use Rattle.med_world.specs.Cursors.{cursor_named, with_cursor}
 use Rattle.med_world.specs.Replies.{Reply, done, reply_text}
@@ -29,7 +29,7 @@ none_there : (o : Option Cursor) → (IsSome o → ⊥) → o ≡ None
 none_there None h = refl
 none_there (Some c) h = absurd (h refl)
 
-opened : OneTree → (w new : World) (sid : ℕ) (name : Name) (q : SelectTree) (query : List ℕ) (request : Asked) (t : Trouble) (reply : Reply) → request ≡ sql query → HasCommand query (on_cursors (declare name (select q)))
+opened : OneTree → (w new : World) (sid : ℕ) (name : Name) (q : SelectTree) (query : List ℕ) (request : AskedLine) (t : Trouble) (reply : Reply) → request ≡ sql query → HasCommand query (on_cursors (declare name (select q)))
     → reply_text sid reply ≡ reply_text sid (done (codes "DECLARE CURSOR")) → Step w sid request t reply new → Has new sid name (Some (new_cursor w name q))
 opened law w new sid name q query request t reply asks has told (is_refused p c pick is_told is same) = absurd (done_refused sid (codes "DECLARE CURSOR") c (sym (ap (reply_text sid) is) ∙ told))
 opened law w new sid name q query request t reply asks has told (lacks_memory m a takes is same) = absurd (done_refused sid (codes "DECLARE CURSOR") OutOfMemory (sym (ap (reply_text sid) is) ∙ told))
@@ -37,8 +37,8 @@ opened law w new sid name q query request t reply asks has told (fetch_lacks_mem
 opened law w new sid name q query request t reply asks has told (source_fails f s tree st none is loses) = absurd (done_refused sid (codes "DECLARE CURSOR") SourceFault (sym (ap (reply_text sid) is) ∙ told))
 opened law w new sid name q query request t reply asks has told (numbers_end f s tree st none may is same) = absurd (done_refused sid (codes "DECLARE CURSOR") LimitExceeded (sym (ap (reply_text sid) is) ∙ told))
 opened law w new sid name q query request t reply asks has told (is_done p pick none does) =
-    let d = subst (λ (r : Asked). Does w sid p r reply new) asks does in
-    let free = subst (λ (r : Asked). NoneStands w sid p r) asks none in
+    let d = subst (λ (r : AskedLine). Does w sid p r reply new) asks does in
+    let free = subst (λ (r : AskedLine). NoneStands w sid p r) asks none in
     let same : d.1 ≡ on_cursors (declare name (select q)) = law query d.1 (on_cursors (declare name (select q))) d.2.1 has in
     let turns : Turns w sid d.0 (declare name (select q)) reply new = subst (λ (tree : CommandTree). TreeDoes w sid d.0 p tree reply new) same d.3 in
     let nowhere : cursor_named name d.0 ≡ None =

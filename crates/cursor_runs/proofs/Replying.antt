@@ -7,7 +7,7 @@ use Rattle.med_syntax.specs.QueryTree.{select}
 use Rattle.cursor_syntax.specs.CursorTree.{declare, fetch, close}
 use Rattle.med_parser.specs.CommandTree.{CommandTree, on_cursors}
 use Rattle.med_parser.specs.CommandGrammar.{HasCommand}
-use Rattle.med_world.specs.Requests.{Asked, sql, bye}
+use Rattle.med_world.specs.Requests.{AskedLine, sql, bye}
 use Rattle.med_world.specs.Replies.{done, refused, line, refusal, tag_line, reply_text}
 use Rattle.session_wire.specs.Frames.{IsFrame}
 use Rattle.session_wire.proofs.UniqueFrames.{one_frame}
@@ -40,7 +40,7 @@ pub refused_passes : (sid : ℕ) (name : Name) (e : Exchange) (c : Cause) → e.
 refused_passes sid name e c told = record { no_rows = inr (c, told); no_end = refused_ends sid name e c told }
 
 -- a line that is no request of the session
-pub other_passes : (sid : ℕ) (name : Name) (e : Exchange) → ((request : Asked) → IsFrame e.text sid request → ⊥) → PassesBy sid name e
+pub other_passes : (sid : ℕ) (name : Name) (e : Exchange) → ((request : AskedLine) → IsFrame e.text sid request → ⊥) → PassesBy sid name e
 other_passes sid name e none = record { no_rows = inl (λ asked h. none (sql h.0) h.1); no_end = ends }
   where
     ends : EndsCursor sid name e → ⊥
@@ -61,7 +61,7 @@ tree_of law sid e query a b frame has h =
     let same : h.0 ≡ query = ap text_of (one_frame e.text sid sid (sql h.0) (sql query) h.1 frame).1 in
     law query b a (subst (λ (t : List ℕ). HasCommand t b) same h.2) has
   where
-    text_of : Asked → List ℕ
+    text_of : AskedLine → List ℕ
     text_of (sql t) = t
     text_of other = []
 

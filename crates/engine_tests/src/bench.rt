@@ -1,6 +1,6 @@
 //! The tables that are measured, worked by hand from their rules, the text of their rows, and the words that ask for a measurement.
 use bench_tables::setup::bench_engine;
-use bench_tables::words::{Asked, read_words};
+use bench_tables::words::{AskedBench, read_words};
 use med_session::{Request, Sid};
 use std::alloc::Global;
 use std::test::Fail;
@@ -67,8 +67,8 @@ fn text_of_rows(rt: HostRuntime) -> Result<(), Fail> {
 // What words ask, in words.
 fn asked(alloc: Global, words: &[&str]) -> Result<String, Fail> {
     match read_words(words) {
-        Some(Asked::Nothing) => Ok("nothing".to_string(alloc)?),
-        Some(Asked::Measure { rows, sql }) => Ok(format!(in alloc; "{rows} rows, {sql}")?),
+        Some(AskedBench::Nothing) => Ok("nothing".to_string(alloc)?),
+        Some(AskedBench::Measure { rows, sql }) => Ok(format!(in alloc; "{rows} rows, {sql}")?),
         None => Ok("refused".to_string(alloc)?),
     }
 }

@@ -3,8 +3,8 @@ use Rattle.std.proofs.Common.{◌≡◌, ℕ, zero, suc, ◌+◌, ◌≤◌, ◌
 use Rattle.std.specs.Prelude.{nat_le, Ok, Err, Option, Some, None}
 use Rattle.std.proofs.lemmas.Bool.{le-leb, lt-leb}
 use Rattle.std.proofs.lemmas.Bool.Decides.{leb_tells}
-use Rattle.med_syntax.specs.declared.expr.BinaryOp.{BinaryOp}
-use Rattle.med_syntax.specs.declared.expr.BinaryOp.TheVariants.{Add, Sub, Mul, Div, Rem}
+use Rattle.med_syntax.specs.declared.expr.Operation.{Operation}
+use Rattle.med_syntax.specs.declared.expr.Operation.TheVariants.{Add, Subtract, Multiply, Divide, Remainder}
 use Rattle.med_syntax.specs.declared.expr.Joint.{Joint}
 use Rattle.med_syntax.specs.declared.expr.Joint.TheVariants.{Or, And}
 use Rattle.med_syntax.specs.Terminal.{Terminal}
@@ -36,10 +36,10 @@ reach_of t.Between = 6
 reach_of t.In = 6
 reach_of t.Like = 6
 reach_of (t.Binary Add) = 7
-reach_of (t.Binary Sub) = 7
-reach_of (t.Binary Mul) = 8
-reach_of (t.Binary Div) = 8
-reach_of (t.Binary Rem) = 8
+reach_of (t.Binary Subtract) = 7
+reach_of (t.Binary Multiply) = 8
+reach_of (t.Binary Divide) = 8
+reach_of (t.Binary Remainder) = 8
 reach_of t.Dot = 10
 reach_of t.LeftParen = 10
 reach_of _ = 0
@@ -48,12 +48,12 @@ abbrev pub reach : List Terminal → ℕ
 reach [] = 0
 reach (u ∷ ts) = reach_of u
 
-reach_binary : (op : BinaryOp) → reach_of (t.Binary op) ≡ suc (binary_level op)
+reach_binary : (op : Operation) → reach_of (t.Binary op) ≡ suc (binary_level op)
 reach_binary Add = refl
-reach_binary Sub = refl
-reach_binary Mul = refl
-reach_binary Div = refl
-reach_binary Rem = refl
+reach_binary Subtract = refl
+reach_binary Multiply = refl
+reach_binary Divide = refl
+reach_binary Remainder = refl
 
 reach_joint : (j : Joint) → reach_of (t.Joined j) ≡ suc (joint_level j)
 reach_joint Or = refl
@@ -69,23 +69,23 @@ pub record Completes (b : Below) (room : ℕ) : Type 0 where
 
 -- ---- chains to the left
 
-pub record Ops (op_of : Terminal → Option BinaryOp) (n : ℕ) : Type 0 where
-  pub takes : (op : BinaryOp) → binary_level op ≡ n → op_of (t.Binary op) ≡ Some op
+pub record Ops (op_of : Terminal → Option Operation) (n : ℕ) : Type 0 where
+  pub takes : (op : Operation) → binary_level op ≡ n → op_of (t.Binary op) ≡ Some op
   pub stops : (u : Terminal) → reach_of u ≤ n → op_of u ≡ None
   pub low : 6 ≤ n
   pub high : n ≤ 7
 
-left_done : (op_of : Terminal → Option BinaryOp) (item : Parser) (room n k : ℕ) → Ops op_of n → (e : ExprTree) (rest : List Terminal) → reach rest ≤ n → left_more op_of item room k e rest ≡ Ok (e, rest)
+left_done : (op_of : Terminal → Option Operation) (item : Parser) (room n k : ℕ) → Ops op_of n → (e : ExprTree) (rest : List Terminal) → reach rest ≤ n → left_more op_of item room k e rest ≡ Ok (e, rest)
 left_done op_of item room n zero o e rest h = refl
 left_done op_of item room n (suc k) o e [] h = refl
 left_done op_of item room n (suc k) o e (u ∷ ts) h = rw (o.stops u h) refl
 
 -- the loop that goes on after e
-abbrev pub Continues : (Terminal → Option BinaryOp) → Parser → ℕ → ExprTree → List Terminal → Type 0
+abbrev pub Continues : (Terminal → Option Operation) → Parser → ℕ → ExprTree → List Terminal → Type 0
 Continues op_of item room e rest =
     (k : ℕ) × (length rest ≤ k) × (left_of op_of item room (spelling e ++ rest) ≡ (within room e rest >>= λ x. left_more op_of item room k x.0 x.1))
 
-left_base : (op_of : Terminal → Option BinaryOp) (item : Parser) (room n : ℕ) → Takes (suc n) item room → (e : ExprTree) (rest : List Terminal) → Fits e → suc n ≤ level e → reach rest ≤ suc n → Continues op_of item room e rest
+left_base : (op_of : Terminal → Option Operation) (item : Parser) (room n : ℕ) → Takes (suc n) item room → (e : ExprTree) (rest : List Terminal) → Fits e → suc n ≤ level e → reach rest ≤ suc n → Continues op_of item room e rest
 unfolding left_of
 left_base op_of item room n takes e rest f l r = (
   length rest,
@@ -93,7 +93,7 @@ left_base op_of item room n takes e rest f l r = (
   rw (takes e rest f l r) (elim (low_or_high (height e) room) [ inl h ↦ rw (within_low room e rest h) refl | inr h ↦ rw (within_high room e rest h) refl ]),
 )
 
-left_step : (op_of : Terminal → Option BinaryOp) (item : Parser) (room n k : ℕ) → Ops op_of n → Takes (suc n) item room → (op : BinaryOp) (a b : ExprTree) (rest : List Terminal) → binary_level op ≡ n → Fits b → suc n ≤ level b → reach rest ≤ suc n →
+left_step : (op_of : Terminal → Option Operation) (item : Parser) (room n k : ℕ) → Ops op_of n → Takes (suc n) item room → (op : Operation) (a b : ExprTree) (rest : List Terminal) → binary_level op ≡ n → Fits b → suc n ≤ level b → reach rest ≤ suc n →
     (within room a (t.Binary op ∷ (spelling b ++ rest)) >>= λ x. left_more op_of item room (suc k) x.0 x.1) ≡ (within room (binary op a b) rest >>= λ x. left_more op_of item room k x.0 x.1)
 left_step op_of item room n k o takes op a b rest is f l r =
     elim (low_or_high (height a) room) [
@@ -105,7 +105,7 @@ left_step op_of item room n k o takes op a b rest is f l r =
           ])))
     ]
 
-left_binary : (op_of : Terminal → Option BinaryOp) (item : Parser) (room n : ℕ) → Ops op_of n → Takes (suc n) item room → (op : BinaryOp) (a b : ExprTree) (rest : List Terminal) → binary_level op ≡ n → Fits (binary op a b) → reach rest ≤ suc n →
+left_binary : (op_of : Terminal → Option Operation) (item : Parser) (room n : ℕ) → Ops op_of n → Takes (suc n) item room → (op : Operation) (a b : ExprTree) (rest : List Terminal) → binary_level op ≡ n → Fits (binary op a b) → reach rest ≤ suc n →
     Continues op_of item room a (t.Binary op ∷ (spelling b ++ rest)) → Continues op_of item room (binary op a b) rest
 left_binary op_of item room n o takes op a b rest is f r (zero, enough, reads) = absurd (omega arith)
 left_binary op_of item room n o takes op a b rest is f r (suc k, enough, reads) = (
@@ -114,28 +114,28 @@ left_binary op_of item room n o takes op a b rest is f r (suc k, enough, reads) 
   rw (append_assoc (spelling a) (t.Binary op ∷ spelling b) rest) (reads ∙ left_step op_of item room n k o takes op a b rest is f.1 (omega (arith, f.3)) r),
 )
 
-pub binary_high : (op : BinaryOp) → 6 ≤ binary_level op
+pub binary_high : (op : Operation) → 6 ≤ binary_level op
 binary_high Add = omega arith
-binary_high Sub = omega arith
-binary_high Mul = omega arith
-binary_high Div = omega arith
-binary_high Rem = omega arith
+binary_high Subtract = omega arith
+binary_high Multiply = omega arith
+binary_high Divide = omega arith
+binary_high Remainder = omega arith
 
-pub binary_low : (op : BinaryOp) → binary_level op ≤ 7
+pub binary_low : (op : Operation) → binary_level op ≤ 7
 binary_low Add = omega arith
-binary_low Sub = omega arith
-binary_low Mul = omega arith
-binary_low Div = omega arith
-binary_low Rem = omega arith
+binary_low Subtract = omega arith
+binary_low Multiply = omega arith
+binary_low Divide = omega arith
+binary_low Remainder = omega arith
 
 pub joint_low : (j : Joint) → joint_level j < 2
 joint_low Or = omega arith
 joint_low And = omega arith
 
-level_cases : (op : BinaryOp) (n : ℕ) → n ≤ binary_level op → (binary_level op ≡ n) ⊎ (suc n ≤ binary_level op)
+level_cases : (op : Operation) (n : ℕ) → n ≤ binary_level op → (binary_level op ≡ n) ⊎ (suc n ≤ binary_level op)
 level_cases op n h = elim (low_or_high (binary_level op) n) [ inl g ↦ inl (omega arith) | inr g ↦ inr (omega arith) ]
 
-left_reads : (op_of : Terminal → Option BinaryOp) (item : Parser) (room n : ℕ) → Ops op_of n → Takes (suc n) item room → (e : ExprTree) (rest : List Terminal) → Fits e → n ≤ level e → reach rest ≤ suc n → Continues op_of item room e rest
+left_reads : (op_of : Terminal → Option Operation) (item : Parser) (room n : ℕ) → Ops op_of n → Takes (suc n) item room → (e : ExprTree) (rest : List Terminal) → Fits e → n ≤ level e → reach rest ≤ suc n → Continues op_of item room e rest
 left_reads op_of item room n o takes (binary op a b) rest f l r =
     elim (level_cases op n l) [
       | inr up ↦ left_base op_of item room n takes (binary op a b) rest f up r
@@ -145,7 +145,7 @@ left_reads op_of item room n o takes (binary op a b) rest f l r =
 left_reads op_of item room n o takes (chain j first others) rest f l r = left_base op_of item room n takes (chain j first others) rest f (omega (arith, o.low, joint_low j)) r
 left_reads op_of item room n o takes e rest f l r = left_base op_of item room n takes e rest f (omega (arith, o.high, o.low)) r
 
-pub left_takes : (op_of : Terminal → Option BinaryOp) (item : Parser) (room n : ℕ) → Ops op_of n → Takes (suc n) item room → Takes n (left_of op_of item room) room
+pub left_takes : (op_of : Terminal → Option Operation) (item : Parser) (room n : ℕ) → Ops op_of n → Takes (suc n) item room → Takes n (left_of op_of item room) room
 left_takes op_of item room n o takes e rest f l r =
     let go : Continues op_of item room e rest = left_reads op_of item room n o takes e rest f l (omega arith) in
     rw (go.2) (elim (low_or_high (height e) room) [

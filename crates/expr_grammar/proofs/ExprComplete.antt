@@ -1,8 +1,8 @@
 -- What is spelled so is read so.
 use Rattle.std.proofs.Common.{◌≡◌, ℕ, zero, suc, ◌+◌, ◌≤◌, ◌<◌, inl, inr, Bool, true, false, List, [], ◌∷◌, ◌++◌, length, refl, sym, ◌∙◌, arith, append_assoc, append-nil}
 use Rattle.std.specs.Prelude.{Ok, Err, Some, None}
-use Rattle.med_syntax.specs.declared.expr.BinaryOp.{BinaryOp}
-use Rattle.med_syntax.specs.declared.expr.BinaryOp.TheVariants.{Add, Sub, Mul, Div, Rem}
+use Rattle.med_syntax.specs.declared.expr.Operation.{Operation}
+use Rattle.med_syntax.specs.declared.expr.Operation.TheVariants.{Add, Subtract, Multiply, Divide, Remainder}
 use Rattle.med_value.specs.declared.order.Comparison.{Comparison}
 use Rattle.med_syntax.specs.declared.expr.Joint.TheVariants.{Or, And}
 use Rattle.med_syntax.specs.Terminal.{Terminal}
@@ -131,27 +131,27 @@ signed_takes b r c (binary op x y) rest f l h = absurd (omega (arith, binary_low
 signed_takes b r c (chain j first others) rest f l h = absurd (omega (arith, joint_low j))
 signed_takes b r c e rest f l h = absurd (omega arith)
 
-products_take : (op : BinaryOp) → binary_level op ≡ 7 → multiplicative (t.Binary op) ≡ Some op
-products_take Mul h = refl
-products_take Div h = refl
-products_take Rem h = refl
+products_take : (op : Operation) → binary_level op ≡ 7 → multiplicative (t.Binary op) ≡ Some op
+products_take Multiply h = refl
+products_take Divide h = refl
+products_take Remainder h = refl
 products_take Add h = absurd (omega arith)
-products_take Sub h = absurd (omega arith)
+products_take Subtract h = absurd (omega arith)
 
 products_stop : (u : Terminal) → reach_of u ≤ 7 → multiplicative u ≡ None
-products_stop (t.Binary Mul) h = absurd (omega arith)
-products_stop (t.Binary Div) h = absurd (omega arith)
-products_stop (t.Binary Rem) h = absurd (omega arith)
+products_stop (t.Binary Multiply) h = absurd (omega arith)
+products_stop (t.Binary Divide) h = absurd (omega arith)
+products_stop (t.Binary Remainder) h = absurd (omega arith)
 products_stop u h = refl
 
-sums_take : (op : BinaryOp) → binary_level op ≡ 6 → additive (t.Binary op) ≡ Some op
+sums_take : (op : Operation) → binary_level op ≡ 6 → additive (t.Binary op) ≡ Some op
 sums_take Add h = refl
-sums_take Sub h = refl
+sums_take Subtract h = refl
 sums_take op h = absurd (omega arith)
 
 sums_stop : (u : Terminal) → reach_of u ≤ 6 → additive u ≡ None
 sums_stop (t.Binary Add) h = absurd (omega arith)
-sums_stop (t.Binary Sub) h = absurd (omega arith)
+sums_stop (t.Binary Subtract) h = absurd (omega arith)
 sums_stop u h = refl
 
 products : Ops multiplicative 7

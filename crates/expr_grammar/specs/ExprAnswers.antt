@@ -8,10 +8,10 @@ use Rattle.med_value.specs.declared.cause.Cause.{Cause}
 use Rattle.med_value.specs.declared.cause.Cause.TheVariants as causes
 
 -- What was returned, seen by view, is what reading gives, unless memory ran out.
-abbrev pub Gives : {X Y : Type 0} → (X → Y) → Result X ReadFault → Result Y Refusal → Type 0
-Gives view (Ok x) read = read ≡ Ok (view x)
-Gives view (Err faults.NoMemory) read = Unit {0}
-Gives view (Err (faults.Refused e)) read = read ≡ Err e
+abbrev pub ReadsAs : {X Y : Type 0} → (X → Y) → Result X ReadFault → Result Y Refusal → Type 0
+ReadsAs view (Ok x) read = read ≡ Ok (view x)
+ReadsAs view (Err faults.NoMemory) read = Unit {0}
+ReadsAs view (Err (faults.Refused e)) read = read ≡ Err e
 
 abbrev pub cause_of_read : ReadFault → Cause
 cause_of_read faults.NoMemory = causes.OutOfMemory

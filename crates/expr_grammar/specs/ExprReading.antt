@@ -1,7 +1,7 @@
 -- Reading expressions by recursive descent, on lists of terminals.
 use Rattle.std.specs.Prelude.{ℕ, zero, suc, Bool, true, false, cond, nat_le, List, [], ◌∷◌, length, Result, Ok, Err, Option, Some, None}
-use Rattle.med_syntax.specs.declared.expr.BinaryOp.{BinaryOp}
-use Rattle.med_syntax.specs.declared.expr.BinaryOp.TheVariants.{Add, Sub, Mul, Div, Rem}
+use Rattle.med_syntax.specs.declared.expr.Operation.{Operation}
+use Rattle.med_syntax.specs.declared.expr.Operation.TheVariants.{Add, Subtract, Multiply, Divide, Remainder}
 use Rattle.med_syntax.specs.declared.expr.Joint.{Joint}
 use Rattle.med_syntax.specs.declared.expr.Joint.TheVariants.{Or, And}
 use Rattle.med_syntax.specs.declared.expr.Status.{Status}
@@ -44,15 +44,15 @@ choose (Some x) absent present = present x
 
 -- ---- terminals
 
-abbrev pub additive : Terminal → Option BinaryOp
+abbrev pub additive : Terminal → Option Operation
 additive (t.Binary Add) = Some Add
-additive (t.Binary Sub) = Some Sub
+additive (t.Binary Subtract) = Some Subtract
 additive _ = None
 
-abbrev pub multiplicative : Terminal → Option BinaryOp
-multiplicative (t.Binary Mul) = Some Mul
-multiplicative (t.Binary Div) = Some Div
-multiplicative (t.Binary Rem) = Some Rem
+abbrev pub multiplicative : Terminal → Option Operation
+multiplicative (t.Binary Multiply) = Some Multiply
+multiplicative (t.Binary Divide) = Some Divide
+multiplicative (t.Binary Remainder) = Some Remainder
 multiplicative _ = None
 
 abbrev pub is_comma : Terminal → Bool
@@ -73,14 +73,14 @@ status_of _ = None
 
 -- ---- loops, each bounded by the terminals that are left
 
-abbrev pub left_more : (Terminal → Option BinaryOp) → Parser → ℕ → ℕ → ExprTree → Parser
+abbrev pub left_more : (Terminal → Option Operation) → Parser → ℕ → ℕ → ExprTree → Parser
 left_more op_of item room zero e ts = Ok (e, ts)
 left_more op_of item room (suc k) e [] = Ok (e, [])
 left_more op_of item room (suc k) e (u ∷ ts) =
     choose (op_of u) (Ok (e, u ∷ ts))
     (λ op. item ts >>= λ x. within room (binary op e x.0) x.1 >>= λ y. left_more op_of item room k y.0 y.1)
 
-unfoldable pub left_of : (Terminal → Option BinaryOp) → Parser → ℕ → Parser
+unfoldable pub left_of : (Terminal → Option Operation) → Parser → ℕ → Parser
 left_of op_of item room ts = item ts >>= λ x. left_more op_of item room (length x.1) x.0 x.1
 
 abbrev pub others_after : (Terminal → Bool) → Parser → ℕ → List Terminal → Reads
@@ -128,7 +128,7 @@ parts_after b f ts = do
 
 -- behind a name and (
 abbrev pub call_after : Below → Name → Parser
-call_after b f (t.Binary Mul ∷ ts) = closed_call_all f ts
+call_after b f (t.Binary Multiply ∷ ts) = closed_call_all f ts
 call_after b f (t.RightParen ∷ ts) = Ok (call f none, ts)
 call_after b f ts = parts_after b f ts
 
@@ -151,7 +151,7 @@ after_minus b (t.Num n ∷ ts) = Ok (negative n, ts)
 after_minus b ts = b.signed ts >>= λ x. Ok (minus x.0, x.1)
 
 abbrev pub signed_of : Below → Parser
-signed_of b (t.Binary Sub ∷ ts) = after_minus b ts
+signed_of b (t.Binary Subtract ∷ ts) = after_minus b ts
 signed_of b ts = primary_of b ts
 
 abbrev pub product_of : Below → ℕ → Parser

@@ -1,7 +1,7 @@
 -- The levels that one function of the code reads, as it is told.
 use Rattle.std.specs.Prelude.{ℕ, Bool, cond, List, [], ◌∷◌, Option, Some, None, option_map}
-use Rattle.med_syntax.specs.declared.expr.BinaryOp.{BinaryOp}
-use Rattle.med_syntax.specs.declared.expr.BinaryOp.TheVariants.{Sub}
+use Rattle.med_syntax.specs.declared.expr.Operation.{Operation}
+use Rattle.med_syntax.specs.declared.expr.Operation.TheVariants.{Subtract}
 use Rattle.med_syntax.specs.declared.expr.Joint.{Joint}
 use Rattle.med_syntax.specs.declared.expr.Joint.TheVariants.{Or, And}
 use Rattle.expr_grammar.specs.declared.symbols.Separator.{Separator}
@@ -21,14 +21,14 @@ behind_of mark [] = None
 behind_of mark (u ∷ ts) = cond (is_mark mark u) (Some ts) None
 
 abbrev pub behind_minus_of : List Terminal → Option (List Terminal)
-behind_minus_of (t.Binary Sub ∷ ts) = Some ts
+behind_minus_of (t.Binary Subtract ∷ ts) = Some ts
 behind_minus_of ts = None
 
-abbrev pub op_of : Level → Terminal → Option BinaryOp
+abbrev pub op_of : Level → Terminal → Option Operation
 op_of Sum = additive
 op_of Product = multiplicative
 
-abbrev pub operator_of : Level → List Terminal → Option (BinaryOp × List Terminal)
+abbrev pub operator_of : Level → List Terminal → Option (Operation × List Terminal)
 operator_of level [] = None
 operator_of level (u ∷ ts) = option_map (λ op. (op, ts)) (op_of level u)
 

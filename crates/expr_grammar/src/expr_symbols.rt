@@ -11,7 +11,7 @@ ghost use Rattle.expr_grammar.specs.View.{shapes_of};
 
 use crate::symbols::Symbol;
 use med_lexer::{Kind, Mark, Token, number_value};
-use med_syntax::{BinaryOp, Joint, is_reserved};
+use med_syntax::{Joint, Operation, is_reserved};
 use med_value::Comparison;
 use std::alloc::{AllocError, Global};
 
@@ -25,11 +25,11 @@ fn mark_symbol(mark: Mark) -> Symbol
         Mark::Comma => Symbol::Comma,
         Mark::Dot => Symbol::Dot,
         Mark::Semicolon => Symbol::Semicolon,
-        Mark::Star => Symbol::Binary(BinaryOp::Mul),
-        Mark::Plus => Symbol::Binary(BinaryOp::Add),
-        Mark::Minus => Symbol::Binary(BinaryOp::Sub),
-        Mark::Slash => Symbol::Binary(BinaryOp::Div),
-        Mark::Percent => Symbol::Binary(BinaryOp::Rem),
+        Mark::Star => Symbol::Binary(Operation::Multiply),
+        Mark::Plus => Symbol::Binary(Operation::Add),
+        Mark::Minus => Symbol::Binary(Operation::Subtract),
+        Mark::Slash => Symbol::Binary(Operation::Divide),
+        Mark::Percent => Symbol::Binary(Operation::Remainder),
         Mark::Equal => Symbol::Compare(Comparison::Equal),
         Mark::Apart => Symbol::Compare(Comparison::Apart),
         Mark::Below => Symbol::Compare(Comparison::Below),

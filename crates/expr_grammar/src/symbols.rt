@@ -5,7 +5,7 @@ ghost use Rattle.expr_grammar.specs.ExprReading as reading;
 ghost use Rattle.expr_grammar.specs.ExprSteps.{behind_minus_of, behind_of, operator_of};
 ghost use Rattle.expr_grammar.specs.SymbolView.{terminal_of_symbol, terminals_of};
 
-use med_syntax::{BinaryOp, Joint, Status};
+use med_syntax::{Joint, Operation, Status};
 use med_value::Comparison;
 
 /// A terminal symbol of the grammar.
@@ -16,7 +16,7 @@ pub enum Symbol {
     Comma,
     Dot,
     Semicolon,
-    Binary(BinaryOp),
+    Binary(Operation),
     Compare(Comparison),
     Joint(Joint),
     Not,
@@ -66,21 +66,33 @@ pub fn behind_minus(symbols: &[Symbol]) -> Option<&[Symbol]>
     ensures { behind_minus_of (terminals_of symbols.now) ≡ option_map (λ x. terminals_of x.now) result }
 {
     match symbols {
-        [Symbol::Binary(BinaryOp::Sub), rest @ ..] => Some(rest),
+        [Symbol::Binary(Operation::Subtract), rest @ ..] => Some(rest),
         _ => None,
     }
 }
 
 /// The operator of the level, where one comes first, and the symbols behind it.
-pub fn operator(level: Level, symbols: &[Symbol]) -> Option<(BinaryOp, &[Symbol])>
+pub fn operator(level: Level, symbols: &[Symbol]) -> Option<(Operation, &[Symbol])>
     ensures { operator_of level (terminals_of symbols.now) ≡ option_map (λ x. (x.0, terminals_of x.1.now)) result }
 {
     match (level, symbols) {
-        (Level::Sum, [Symbol::Binary(BinaryOp::Add), rest @ ..]) => Some((BinaryOp::Add, rest)),
-        (Level::Sum, [Symbol::Binary(BinaryOp::Sub), rest @ ..]) => Some((BinaryOp::Sub, rest)),
-        (Level::Product, [Symbol::Binary(BinaryOp::Mul), rest @ ..]) => Some((BinaryOp::Mul, rest)),
-        (Level::Product, [Symbol::Binary(BinaryOp::Div), rest @ ..]) => Some((BinaryOp::Div, rest)),
-        (Level::Product, [Symbol::Binary(BinaryOp::Rem), rest @ ..]) => Some((BinaryOp::Rem, rest)),
+        (Level::Sum, [Symbol::Binary(Operation::Add), rest @ ..]) => Some((Operation::Add, rest)),
+        (Level::Sum, [Symbol::Binary(Operation::Subtract), rest @ ..]) => Some((
+            Operation::Subtract,
+            rest,
+        )),
+        (Level::Product, [Symbol::Binary(Operation::Multiply), rest @ ..]) => Some((
+            Operation::Multiply,
+            rest,
+        )),
+        (Level::Product, [Symbol::Binary(Operation::Divide), rest @ ..]) => Some((
+            Operation::Divide,
+            rest,
+        )),
+        (Level::Product, [Symbol::Binary(Operation::Remainder), rest @ ..]) => Some((
+            Operation::Remainder,
+            rest,
+        )),
         _ => None,
     }
 }

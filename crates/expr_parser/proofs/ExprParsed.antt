@@ -19,7 +19,7 @@ use Rattle.expr_grammar.specs.ExprTerminals.{terminals_at, AreReadable}
 use Rattle.expr_grammar.specs.ExprWeight.{bounded_of, weight}
 use Rattle.expr_grammar.specs.ExprGrammar.{IsExpression, HasExpr, in_range, TokenCauses, ExprCauses}
 use Rattle.med_syntax.specs.ExprView.{expr_tree}
-use Rattle.expr_grammar.specs.ExprAnswers.{Gives, cause_of_read}
+use Rattle.expr_grammar.specs.ExprAnswers.{ReadsAs, cause_of_read}
 use Rattle.expr_grammar.proofs.TokenShapes.{OneList, shapes_are}
 use Rattle.expr_grammar.proofs.TokenNumbers.{small_at}
 use Rattle.expr_grammar.proofs.ExprComplete.{one_tree}
@@ -32,7 +32,7 @@ deep_told : (ss : List Shape) → ((e : ExprTree) × IsExpr (terminals_at false 
 deep_told ss (inl h) = inl (h.0, of_terminals ss h.0 h.1, h.2)
 deep_told ss (inr h) = inr ((λ e x. h.0 e (to_terminals ss e x)), omega (arith, h.1, weight_is false ss))
 
-pub told : (ss : List Shape) (f : ReadFault) → Gives expr_tree (Err f) (bounded_of (terminals_at false ss)) → (cause_of_read f ≡ causes.OutOfMemory) ⊎ TokenCauses ss (cause_of_read f)
+pub told : (ss : List Shape) (f : ReadFault) → ReadsAs expr_tree (Err f) (bounded_of (terminals_at false ss)) → (cause_of_read f ≡ causes.OutOfMemory) ⊎ TokenCauses ss (cause_of_read f)
 told ss faults.NoMemory h = inl refl
 told ss (faults.Refused Syntax) h = inr (λ e x. bounded_out (terminals_at false ss) h e (to_terminals ss e x))
 told ss (faults.Refused TooHigh) h = inr (deep_told ss (bounded_told (terminals_at false ss) h))

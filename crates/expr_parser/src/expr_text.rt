@@ -10,7 +10,7 @@ ghost use Rattle.expr_grammar.specs.ExprTerminals.{AreReadable, terminals_at};
 ghost use Rattle.expr_grammar.specs.View.{shapes_of};
 ghost use Rattle.med_syntax.specs.ExprView.{expr_tree};
 ghost use Rattle.expr_grammar.specs.SymbolView.{terminals_of};
-ghost use Rattle.expr_grammar.specs.ExprAnswers.{Gives};
+ghost use Rattle.expr_grammar.specs.ExprAnswers.{ReadsAs};
 
 use expr_grammar::expr_symbols::{has_unreadable, symbols_of};
 use expr_grammar::number_range::is_in_range;
@@ -28,7 +28,7 @@ use std::alloc::Global;
 #[tactic(auto, unfolding(expr_grammar::specs::ExprReading::all_of))]
 fn all(alloc: Global, room: u32, symbols: &[Symbol]) -> Result<Expr, ReadFault>
     requires { room < 1000 }
-    ensures { Gives expr_tree result (all_of room (terminals_of symbols.now)) }
+    ensures { ReadsAs expr_tree result (all_of room (terminals_of symbols.now)) }
 {
     let found = whole(alloc, room, symbols)?;
     if found.rest.is_empty() {
@@ -41,7 +41,7 @@ fn all(alloc: Global, room: u32, symbols: &[Symbol]) -> Result<Expr, ReadFault>
 /// The expression that all of the symbols are. Where few of them are heavy, what is told to be too high is an expression.
 #[tactic(auto, unfolding(expr_grammar::specs::ExprWeight::bounded_of))]
 fn bounded(alloc: Global, symbols: &[Symbol]) -> Result<Expr, ReadFault>
-    ensures { Gives expr_tree result (spec.bounded_of (terminals_of symbols.now)) }
+    ensures { ReadsAs expr_tree result (spec.bounded_of (terminals_of symbols.now)) }
 {
     match all(alloc, MAX_HEIGHT, symbols) {
         Err(ReadFault::Refused(Refusal::TooHigh)) => {
@@ -62,7 +62,7 @@ fn bounded(alloc: Global, symbols: &[Symbol]) -> Result<Expr, ReadFault>
 /// The expression that all of the tokens are.
 fn expr_of(alloc: Global, tokens: &[Token]) -> Result<Expr, ReadFault>
     requires { AreReadable (shapes_of tokens.now) }
-    ensures { Gives expr_tree result (spec.bounded_of (terminals_at false (shapes_of tokens.now))) }
+    ensures { ReadsAs expr_tree result (spec.bounded_of (terminals_at false (shapes_of tokens.now))) }
 {
     let symbols = symbols_of(alloc, tokens)?;
     bounded(alloc, &symbols)

@@ -6,7 +6,7 @@ use Rattle.std.specs.declared.string.String.{String}
 use Rattle.med_value.specs.declared.value.Value.{Value}
 use Rattle.med_value.specs.declared.order.Comparison.{Comparison}
 use Rattle.tri_expr.specs.declared.expr.Operation.{Operation}
-use Rattle.tri_expr.specs.declared.expr.Test.{Test}
+use Rattle.tri_expr.specs.declared.expr.Status.{Status}
 use Rattle.tri_expr.specs.declared.expr.SetFunction.{SetFunction}
 use Rattle.tri_expr.specs.declared.expr.Expr.{Expr}
 use Rattle.tri_expr.specs.declared.expr.Expr.TheOpen as layer
@@ -148,11 +148,11 @@ layer_not y n e = unlike (kind (stepped y)) 8 refl e
 pub not_not : (f : Expr) → ((a : Part) → f ≡ form.Not a → ⊥) → kind (tree f) ≡ 8 → ⊥
 not_not f n = opened f 8 (layer_not (out-Expr f) (λ a h. n a (sym (roll-out-Expr f) ∙ h)))
 
-layer_is : (y : layer.Expr-F Expr) → ((test : Test) (negative : Bool) (a : Part) → roll-Expr y ≡ form.Is test negative a → ⊥) → kind (stepped y) ≡ 9 → ⊥
+layer_is : (y : layer.Expr-F Expr) → ((test : Status) (negative : Bool) (a : Part) → roll-Expr y ≡ form.Is test negative a → ⊥) → kind (stepped y) ≡ 9 → ⊥
 layer_is (layer.Is test negative a) n e = n test negative a (form.rolls-Is test negative a)
 layer_is y n e = unlike (kind (stepped y)) 9 refl e
 
-pub not_is : (f : Expr) → ((test : Test) (negative : Bool) (a : Part) → f ≡ form.Is test negative a → ⊥) → kind (tree f) ≡ 9 → ⊥
+pub not_is : (f : Expr) → ((test : Status) (negative : Bool) (a : Part) → f ≡ form.Is test negative a → ⊥) → kind (tree f) ≡ 9 → ⊥
 not_is f n = opened f 9 (layer_is (out-Expr f) (λ test negative a h. n test negative a (sym (roll-out-Expr f) ∙ h)))
 
 layer_between : (y : layer.Expr-F Expr) → ((negative : Bool) (x : Part) (a : Part) (b : Part) → roll-Expr y ≡ form.Between negative x a b → ⊥) → kind (stepped y) ≡ 10 → ⊥

@@ -8,6 +8,7 @@ use med_value::NoMemory;
 use std::alloc::Global;
 use tri_expr::Expr;
 
+// Appends the arguments of the aggregates of several expressions, one expression after another.
 #[cycle(arguments)]
 fn push_all(alloc: Global, parts: &[Expr], out: &mut Vec<Expr>) -> Result<(), NoMemory>
     ensures { IfOk result (λ _. map tree out.new.items ≡ map tree out.old.items ++ arguments_in_all (trees (map tree parts.now))) }
@@ -18,6 +19,7 @@ fn push_all(alloc: Global, parts: &[Expr], out: &mut Vec<Expr>) -> Result<(), No
     Ok(())
 }
 
+// Appends the argument of each aggregate of an expression, from the left on.
 #[cycle(arguments)]
 fn push_arguments(alloc: Global, e: &Expr, out: &mut Vec<Expr>) -> Result<(), NoMemory>
     ensures { IfOk result (λ _. map tree out.new.items ≡ map tree out.old.items ++ arguments_in (tree e.now)) }

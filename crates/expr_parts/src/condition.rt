@@ -7,6 +7,7 @@ use med_value::NoMemory;
 use std::alloc::Global;
 use tri_expr::Expr;
 
+// Appends the conjuncts of several conditions, one condition after another.
 #[cycle(conjuncts)]
 fn push_all(alloc: Global, parts: &[Expr], out: &mut Vec<Expr>) -> Result<(), NoMemory>
     ensures { IfOk result (λ _. map tree out.new.items ≡ map tree out.old.items ++ conjuncts_of_all (trees (map tree parts.now))) }
@@ -17,6 +18,7 @@ fn push_all(alloc: Global, parts: &[Expr], out: &mut Vec<Expr>) -> Result<(), No
     Ok(())
 }
 
+// Appends the conjuncts of a condition.
 #[cycle(conjuncts)]
 fn push_conjuncts(alloc: Global, e: &Expr, out: &mut Vec<Expr>) -> Result<(), NoMemory>
     ensures { IfOk result (λ _. map tree out.new.items ≡ map tree out.old.items ++ conjunct_trees (tree e.now)) }

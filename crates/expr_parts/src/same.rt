@@ -19,6 +19,7 @@ fn inner(e: &Expr) -> &Expr
     }
 }
 
+// Whether two lists have the same expressions one by one, written with or without parentheses.
 #[cycle(same)]
 fn are_same(a: &[Expr], b: &[Expr]) -> bool
     ensures { result ≡ trees_eq (bare_all (trees (map tree a.now))) (bare_all (trees (map tree b.now))) }

@@ -1,8 +1,8 @@
 -- The loops of the parser.
 use Rattle.std.proofs.Common.{◌≡◌, ℕ, zero, suc, ◌≤◌, ◌<◌, Bool, true, false, cond, List, [], ◌∷◌, ◌++◌, length, refl, sym, ◌∙◌, ap, subst, arith, max, length-append}
 use Rattle.std.specs.Prelude.{nat_le, Result, Ok, Err, Option, Some, None}
-use Rattle.med_syntax.specs.declared.expr.BinaryOp.{BinaryOp}
-use Rattle.med_syntax.specs.declared.expr.BinaryOp.TheVariants.{Sub}
+use Rattle.med_syntax.specs.declared.expr.Operation.{Operation}
+use Rattle.med_syntax.specs.declared.expr.Operation.TheVariants.{Subtract}
 use Rattle.med_syntax.specs.declared.expr.Joint.{Joint}
 use Rattle.med_syntax.specs.declared.expr.Joint.TheVariants.{Or, And}
 use Rattle.med_syntax.specs.Terminal.{Terminal}
@@ -23,12 +23,12 @@ use Rattle.expr_reader.specs.ReaderAnswers.{Answers, AnswersAll}
 use Rattle.expr_reader.specs.declared.reader.Items.{Items}
 use Rattle.expr_grammar.specs.declared.refusal.ReadFault.{ReadFault}
 use Rattle.expr_grammar.specs.declared.refusal.ReadFault.TheVariants as errors
-use Rattle.expr_reader.specs.declared.reader.Found as was
-use Rattle.expr_grammar.proofs.ExprSound.{Found, FoundAll, sounds, ok_same, is_comma_true, others_sound, chain_sound, negated_sound, product_sound, signed_sound}
+use Rattle.expr_reader.specs.declared.reader.FoundExpr as was
+use Rattle.expr_grammar.proofs.ExprSound.{FoundExpr, FoundAll, sounds, ok_same, is_comma_true, others_sound, chain_sound, negated_sound, product_sound, signed_sound}
 
 -- ---- what is left is no longer
 
-no_longer : (n room : ℕ) (ts : List Terminal) (e : ExprTree) (rest : List Terminal) → Found n room ts e rest → length rest ≤ length ts
+no_longer : (n room : ℕ) (ts : List Terminal) (e : ExprTree) (rest : List Terminal) → FoundExpr n room ts e rest → length rest ≤ length ts
 no_longer n room ts e rest f = omega (arith, ap length f.spelled, length-append (spelling e) rest)
 
 item_sound : (mark : Separator) (r : ℕ) (ts : List Terminal) (e : ExprTree) (rest : List Terminal) → item_of mark (below r) (suc r) ts ≡ Ok (e, rest) → length rest ≤ length ts
@@ -53,16 +53,16 @@ operand_shorter level (suc r) ts e rest low h = operand_sound level r ts e rest 
 some_same : {A : Type 0} (x y : A) → ◌≡◌ {A = Option A} (Some x) (Some y) → x ≡ y
 some_same x y h = cc
 
-operator_found : (level : Level) (ts : List Terminal) (op : BinaryOp) (after : List Terminal) → operator_of level ts ≡ Some (op, after) → (u : Terminal) × (ts ≡ u ∷ after) × (op_of level u ≡ Some op)
+operator_found : (level : Level) (ts : List Terminal) (op : Operation) (after : List Terminal) → operator_of level ts ≡ Some (op, after) → (u : Terminal) × (ts ≡ u ∷ after) × (op_of level u ≡ Some op)
 operator_found level [] op after h = absurd (cc)
 operator_found level (u ∷ ts) op after h =
-    let go : (o : Option BinaryOp) → op_of level u ≡ o → option_map {U = BinaryOp × List Terminal} (λ p. (p, ts)) o ≡ Some (op, after) → (v : Terminal) × (u ∷ ts ≡ v ∷ after) × (op_of level v ≡ Some op) = elim [
+    let go : (o : Option Operation) → op_of level u ≡ o → option_map {U = Operation × List Terminal} (λ p. (p, ts)) o ≡ Some (op, after) → (v : Terminal) × (u ∷ ts ≡ v ∷ after) × (op_of level v ≡ Some op) = elim [
       | None ↦ (λ p q. absurd (cc))
-      | Some x ↦ (λ p q. let same : (x, ts) ≡ (op, after) = some_same (x, ts) (op, after) q in (u, ap (λ (y : BinaryOp × List Terminal). u ∷ y.1) same, p ∙ ap (λ (y : BinaryOp × List Terminal). Some y.0) same))
+      | Some x ↦ (λ p q. let same : (x, ts) ≡ (op, after) = some_same (x, ts) (op, after) q in (u, ap (λ (y : Operation × List Terminal). u ∷ y.1) same, p ∙ ap (λ (y : Operation × List Terminal). Some y.0) same))
     ]
     in go (op_of level u) refl h
 
-map_none : (o : Option BinaryOp) (ts : List Terminal) → option_map {U = BinaryOp × List Terminal} (λ p. (p, ts)) o ≡ None → o ≡ None
+map_none : (o : Option Operation) (ts : List Terminal) → option_map {U = Operation × List Terminal} (λ p. (p, ts)) o ≡ None → o ≡ None
 map_none None ts h = refl
 map_none (Some x) ts h = absurd (cc)
 
@@ -77,13 +77,13 @@ pub chain_start : (level : Level) (room : ℕ) (tokens : List Terminal) (e : Exp
 unfolding left_of
 chain_start level room tokens e h rest read is low = record { k = length rest; enough = omega arith; same = rw read refl; is_height = is; low = low }
 
-chain_unfolds : (level : Level) (room k : ℕ) (e : ExprTree) (ts : List Terminal) (op : BinaryOp) (after : List Terminal) (item : Parser) → operator_of level ts ≡ Some (op, after) →
+chain_unfolds : (level : Level) (room k : ℕ) (e : ExprTree) (ts : List Terminal) (op : Operation) (after : List Terminal) (item : Parser) → operator_of level ts ≡ Some (op, after) →
     left_more (op_of level) item room (suc k) e ts ≡ (item after >>= λ x. within room (binary op e x.0) x.1 >>= λ y. left_more (op_of level) item room k y.0 y.1)
 chain_unfolds level room k e ts op after item h =
     let f = operator_found level ts op after h in
     rw f.1 (rw f.2 refl)
 
-chain_next_at : (level : Level) (room : ℕ) (tokens : List Terminal) (e : ExprTree) (h : ℕ) (rest : List Terminal) (op : BinaryOp) (after : List Terminal) (b : ExprTree) (us : List Terminal) (d : ExprTree) (hd : ℕ) (vs : List Terminal) (k : ℕ) → length rest ≤ k →
+chain_next_at : (level : Level) (room : ℕ) (tokens : List Terminal) (e : ExprTree) (h : ℕ) (rest : List Terminal) (op : Operation) (after : List Terminal) (b : ExprTree) (us : List Terminal) (d : ExprTree) (hd : ℕ) (vs : List Terminal) (k : ℕ) → length rest ≤ k →
     left_of (op_of level) (operand_of level (below (room - 1)) room) room tokens ≡ left_more (op_of level) (operand_of level (below (room - 1)) room) room k e rest →
     {u : Terminal} → rest ≡ u ∷ after → length us ≤ length after → operator_of level rest ≡ Some (op, after) → operand_of level (below (room - 1)) room after ≡ Ok (b, us) → within room (binary op e b) us ≡ Ok (d, vs) → vs ≡ us → hd ≡ height d → hd ≤ room → ChainLoop level room tokens d hd vs
 chain_next_at level room tokens e h rest op after b us d hd vs zero enough same {u} cut shorter o read fits tail is low = absurd (omega (arith, ap length cut))
@@ -96,34 +96,34 @@ chain_next_at level room tokens e h rest op after b us d hd vs (suc k) enough sa
       low = low;
     }
 
-chain_fault_at : (level : Level) (room : ℕ) (tokens : List Terminal) (e : ExprTree) (rest : List Terminal) (op : BinaryOp) (after : List Terminal) (f : Refusal) (k : ℕ) → length rest ≤ k →
+chain_fault_at : (level : Level) (room : ℕ) (tokens : List Terminal) (e : ExprTree) (rest : List Terminal) (op : Operation) (after : List Terminal) (f : Refusal) (k : ℕ) → length rest ≤ k →
     left_of (op_of level) (operand_of level (below (room - 1)) room) room tokens ≡ left_more (op_of level) (operand_of level (below (room - 1)) room) room k e rest →
     {u : Terminal} → rest ≡ u ∷ after → operator_of level rest ≡ Some (op, after) → operand_of level (below (room - 1)) room after ≡ Err f → left_of (op_of level) (operand_of level (below (room - 1)) room) room tokens ≡ Err f
 chain_fault_at level room tokens e rest op after f zero enough same {u} cut o read = absurd (omega (arith, ap length cut))
 chain_fault_at level room tokens e rest op after f (suc k) enough same {u} cut o read =
     same ∙ chain_unfolds level room k e rest op after (operand_of level (below (room - 1)) room) o ∙ rw read refl
 
-chain_high_at : (level : Level) (room : ℕ) (tokens : List Terminal) (e : ExprTree) (rest : List Terminal) (op : BinaryOp) (after : List Terminal) (b : ExprTree) (us : List Terminal) (f : Refusal) (k : ℕ) → length rest ≤ k →
+chain_high_at : (level : Level) (room : ℕ) (tokens : List Terminal) (e : ExprTree) (rest : List Terminal) (op : Operation) (after : List Terminal) (b : ExprTree) (us : List Terminal) (f : Refusal) (k : ℕ) → length rest ≤ k →
     left_of (op_of level) (operand_of level (below (room - 1)) room) room tokens ≡ left_more (op_of level) (operand_of level (below (room - 1)) room) room k e rest →
     {u : Terminal} → rest ≡ u ∷ after → operator_of level rest ≡ Some (op, after) → operand_of level (below (room - 1)) room after ≡ Ok (b, us) → within room (binary op e b) us ≡ Err f → left_of (op_of level) (operand_of level (below (room - 1)) room) room tokens ≡ Err f
 chain_high_at level room tokens e rest op after b us f zero enough same {u} cut o read high = absurd (omega (arith, ap length cut))
 chain_high_at level room tokens e rest op after b us f (suc k) enough same {u} cut o read high =
     same ∙ chain_unfolds level room k e rest op after (operand_of level (below (room - 1)) room) o ∙ rw read (rw high refl)
 
-pub chain_next : (level : Level) (room : ℕ) (tokens : List Terminal) (e : ExprTree) (h : ℕ) (rest : List Terminal) (op : BinaryOp) (after : List Terminal) (b : ExprTree) (us : List Terminal) (d : ExprTree) (hd : ℕ) (vs : List Terminal) → 1 ≤ room →
+pub chain_next : (level : Level) (room : ℕ) (tokens : List Terminal) (e : ExprTree) (h : ℕ) (rest : List Terminal) (op : Operation) (after : List Terminal) (b : ExprTree) (us : List Terminal) (d : ExprTree) (hd : ℕ) (vs : List Terminal) → 1 ≤ room →
     ChainLoop level room tokens e h rest → operator_of level rest ≡ Some (op, after) → operand_of level (below (room - 1)) room after ≡ Ok (b, us) → within room (binary op e b) us ≡ Ok (d, vs) → vs ≡ us → hd ≡ height d → hd ≤ room → ChainLoop level room tokens d hd vs
 chain_next level room tokens e h rest op after b us d hd vs some loop o read fits tail is low =
     let f = operator_found level rest op after o in
     let shorter : length us ≤ length after = operand_shorter level room after b us some read in
     chain_next_at level room tokens e h rest op after b us d hd vs loop.k loop.enough loop.same f.1 shorter o read fits tail is low
 
-pub chain_fault : (level : Level) (room : ℕ) (tokens : List Terminal) (e : ExprTree) (h : ℕ) (rest : List Terminal) (op : BinaryOp) (after : List Terminal) (f : Refusal) →
+pub chain_fault : (level : Level) (room : ℕ) (tokens : List Terminal) (e : ExprTree) (h : ℕ) (rest : List Terminal) (op : Operation) (after : List Terminal) (f : Refusal) →
     ChainLoop level room tokens e h rest → operator_of level rest ≡ Some (op, after) → operand_of level (below (room - 1)) room after ≡ Err f → left_of (op_of level) (operand_of level (below (room - 1)) room) room tokens ≡ Err f
 chain_fault level room tokens e h rest op after f loop o read =
     let g = operator_found level rest op after o in
     chain_fault_at level room tokens e rest op after f loop.k loop.enough loop.same g.1 o read
 
-pub chain_high : (level : Level) (room : ℕ) (tokens : List Terminal) (e : ExprTree) (h : ℕ) (rest : List Terminal) (op : BinaryOp) (after : List Terminal) (b : ExprTree) (us : List Terminal) (f : Refusal) →
+pub chain_high : (level : Level) (room : ℕ) (tokens : List Terminal) (e : ExprTree) (h : ℕ) (rest : List Terminal) (op : Operation) (after : List Terminal) (b : ExprTree) (us : List Terminal) (f : Refusal) →
     ChainLoop level room tokens e h rest → operator_of level rest ≡ Some (op, after) → operand_of level (below (room - 1)) room after ≡ Ok (b, us) → within room (binary op e b) us ≡ Err f → left_of (op_of level) (operand_of level (below (room - 1)) room) room tokens ≡ Err f
 chain_high level room tokens e h rest op after b us f loop o read high =
     let g = operator_found level rest op after o in
@@ -284,12 +284,12 @@ within_rest room x us d vs h =
     ]
     in go (nat_le (height x) room) h
 
-pub chain_preserved : (level : Level) (room : ℕ) (tokens : List Terminal) (e : ExprTree) (h : ℕ) (rest : List Terminal) (op : BinaryOp) (after : List Terminal) (b : ExprTree) (us : List Terminal) (x d : ExprTree) (hd : ℕ) (vs : List Terminal) → 1 ≤ room →
+pub chain_preserved : (level : Level) (room : ℕ) (tokens : List Terminal) (e : ExprTree) (h : ℕ) (rest : List Terminal) (op : Operation) (after : List Terminal) (b : ExprTree) (us : List Terminal) (x d : ExprTree) (hd : ℕ) (vs : List Terminal) → 1 ≤ room →
     ChainLoop level room tokens e h rest → operator_of level rest ≡ Some (op, after) → operand_of level (below (room - 1)) room after ≡ Ok (b, us) → x ≡ binary op e b → within room x us ≡ Ok (d, vs) → hd ≡ height d → hd ≤ room → ChainLoop level room tokens d hd vs
 chain_preserved level room tokens e h rest op after b us x d hd vs some loop o read same fits is low =
     chain_next level room tokens e h rest op after b us d hd vs some loop o read (subst (λ y. within room y us ≡ Ok (d, vs)) same fits) (within_rest room x us d vs fits) is low
 
-pub chain_smaller : (level : Level) (room : ℕ) (rest : List Terminal) (op : BinaryOp) (after : List Terminal) (b : ExprTree) (us : List Terminal) (x d : ExprTree) (vs : List Terminal) → 1 ≤ room →
+pub chain_smaller : (level : Level) (room : ℕ) (rest : List Terminal) (op : Operation) (after : List Terminal) (b : ExprTree) (us : List Terminal) (x d : ExprTree) (vs : List Terminal) → 1 ≤ room →
     operator_of level rest ≡ Some (op, after) → operand_of level (below (room - 1)) room after ≡ Ok (b, us) → within room x us ≡ Ok (d, vs) → length vs < length rest
 chain_smaller level room rest op after b us x d vs some o read fits =
     let f = operator_found level rest op after o in
@@ -314,12 +314,12 @@ pub chained_many : (j : Joint) (room : ℕ) (first : ExprTree) (es : List Expr) 
 chained_many j room first [] ts h = absurd (omega arith)
 chained_many j room first (e ∷ es) ts h = refl
 
-pub chain_failed : (level : Level) (room : ℕ) (tokens : List Terminal) (e : ExprTree) (h : ℕ) (rest : List Terminal) (op : BinaryOp) (after : List Terminal) (x : ReadFault) (r : Result was.Found ReadFault) → ChainLoop level room tokens e h rest → operator_of level rest ≡ Some (op, after) → Answers room (Err x) (operand_of level (below (room - 1)) room after) → r ≡ Err x →
+pub chain_failed : (level : Level) (room : ℕ) (tokens : List Terminal) (e : ExprTree) (h : ℕ) (rest : List Terminal) (op : Operation) (after : List Terminal) (x : ReadFault) (r : Result was.Found ReadFault) → ChainLoop level room tokens e h rest → operator_of level rest ≡ Some (op, after) → Answers room (Err x) (operand_of level (below (room - 1)) room after) → r ≡ Err x →
     Answers room r (left_of (op_of level) (operand_of level (below (room - 1)) room) room tokens)
 chain_failed level room tokens e h rest op after errors.NoMemory r loop o a is = rw is tt
 chain_failed level room tokens e h rest op after (errors.Refused f) r loop o a is = rw is (chain_fault level room tokens e h rest op after f loop o a)
 
-pub chain_failed_high : (level : Level) (room : ℕ) (tokens : List Terminal) (e : ExprTree) (h : ℕ) (rest : List Terminal) (op : BinaryOp) (after : List Terminal) (b : ExprTree) (us : List Terminal) (y : ExprTree) (x : ReadFault) (r : Result was.Found ReadFault) → ChainLoop level room tokens e h rest → operator_of level rest ≡ Some (op, after) → operand_of level (below (room - 1)) room after ≡ Ok (b, us) → y ≡ binary op e b → Answers room (Err x) (within room y us) → r ≡ Err x →
+pub chain_failed_high : (level : Level) (room : ℕ) (tokens : List Terminal) (e : ExprTree) (h : ℕ) (rest : List Terminal) (op : Operation) (after : List Terminal) (b : ExprTree) (us : List Terminal) (y : ExprTree) (x : ReadFault) (r : Result was.Found ReadFault) → ChainLoop level room tokens e h rest → operator_of level rest ≡ Some (op, after) → operand_of level (below (room - 1)) room after ≡ Ok (b, us) → y ≡ binary op e b → Answers room (Err x) (within room y us) → r ≡ Err x →
     Answers room r (left_of (op_of level) (operand_of level (below (room - 1)) room) room tokens)
 chain_failed_high level room tokens e h rest op after b us y errors.NoMemory r loop o read same a is = rw is tt
 chain_failed_high level room tokens e h rest op after b us y (errors.Refused f) r loop o read same a is =
@@ -340,9 +340,9 @@ parts_low room h us others vs some read is =
     omega (arith, g.low)
 
 pub signed_plain : (b : Below) (ts : List Terminal) → behind_minus_of ts ≡ None → signed_of b ts ≡ primary_of b ts
-signed_plain b (t.Binary Sub ∷ ts) h = absurd (cc)
+signed_plain b (t.Binary Subtract ∷ ts) h = absurd (cc)
 signed_plain b ts h = refl
 
 pub signed_minus : (b : Below) (ts us : List Terminal) → behind_minus_of ts ≡ Some us → signed_of b ts ≡ after_minus b us
-signed_minus b (t.Binary Sub ∷ ts) us h = ap (after_minus b) (some_same ts us h)
+signed_minus b (t.Binary Subtract ∷ ts) us h = ap (after_minus b) (some_same ts us h)
 signed_minus b ts us h = absurd (cc)

@@ -3,14 +3,14 @@ use Rattle.std.specs.Prelude.{◌≡◌, ℕ, ◌≤◌, Result, Ok, Err}
 use Rattle.expr_grammar.specs.declared.refusal.ReadFault.{ReadFault}
 use Rattle.expr_grammar.specs.declared.refusal.ReadFault.TheVariants as faults
 use Rattle.expr_reader.specs.declared.reader.Boxed.{Boxed}
-use Rattle.expr_reader.specs.declared.reader.Found.{Found}
+use Rattle.expr_reader.specs.declared.reader.FoundExpr.{FoundExpr}
 use Rattle.expr_reader.specs.declared.reader.Items.{Items}
 use Rattle.med_syntax.specs.ExprTree.{height, highest}
 use Rattle.expr_grammar.specs.ExprReading.{Read, Reads}
 use Rattle.med_syntax.specs.ExprView.{expr_tree, expr_trees}
 use Rattle.expr_grammar.specs.SymbolView.{terminals_of}
 
-abbrev pub Answers : ℕ → Result Found ReadFault → Read → Type 0
+abbrev pub Answers : ℕ → Result FoundExpr ReadFault → Read → Type 0
 Answers room (Ok f) read =
     (read ≡ Ok (expr_tree f.expr, terminals_of f.rest.now)) × (f.height ≡ height (expr_tree f.expr)) × (f.height ≤ room)
 Answers room (Err faults.NoMemory) read = Unit {0}

@@ -5,4 +5,4 @@
 mod build;
 mod reader;
 
-pub use reader::{Found, whole};
+pub use reader::{FoundExpr, whole};

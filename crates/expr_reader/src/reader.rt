@@ -18,19 +18,19 @@ use crate::build::{
 };
 use expr_grammar::refusal::{ReadFault, Refusal};
 use expr_grammar::symbols::{Level, Separator, Symbol, behind, behind_minus, operator, status};
-use med_syntax::{BinaryOp, Expr, Joint};
+use med_syntax::{Expr, Joint, Operation};
 use med_value::Comparison;
 use std::alloc::Global;
 
 /// An expression, its height, and the symbols behind it.
 #[derive(Debug, Drop)]
-pub struct Found<'a> {
+pub struct FoundExpr<'a> {
     pub expr: Expr,
     pub height: u32,
     pub rest: &'a [Symbol],
 }
 
-/// A Found whose expression is in a box, where it waits for what follows.
+/// A FoundExpr whose expression is in a box, where it waits for what follows.
 #[derive(Drop)]
 struct Boxed<'a> {
     expr: Box<Expr>,
@@ -47,20 +47,21 @@ struct Items<'a> {
 }
 
 /// The expression, if it has room.
-fn within(room: u32, expr: Expr, height: u32, rest: &[Symbol]) -> Result<Found<'_>, ReadFault>
+fn within(room: u32, expr: Expr, height: u32, rest: &[Symbol]) -> Result<FoundExpr<'_>, ReadFault>
     requires { height ≡ spec_height (expr_tree expr) }
     ensures { Answers room result (reading.within room (expr_tree expr) (terminals_of rest.now)) }
 {
     if height <= room {
-        Ok(Found { expr, height, rest })
+        Ok(FoundExpr { expr, height, rest })
     } else {
         Err(ReadFault::Refused(Refusal::TooHigh))
     }
 }
 
+/// The expression that the symbols begin with, if it has room.
 #[cycle(reader)]
 #[tactic(auto, using(crate::proofs::ExprLoops::whole_some, crate::proofs::ExprLoops::whole_none))]
-pub fn whole(alloc: Global, room: u32, symbols: &[Symbol]) -> Result<Found<'_>, ReadFault>
+pub fn whole(alloc: Global, room: u32, symbols: &[Symbol]) -> Result<FoundExpr<'_>, ReadFault>
     requires { room < 1000 }
     ensures { Answers room result ((reading.below room).whole (terminals_of symbols.now)) }
 {
@@ -107,7 +108,7 @@ fn joined(
     joint: Joint,
     room: u32,
     symbols: &[Symbol],
-) -> Result<Found<'_>, ReadFault>
+) -> Result<FoundExpr<'_>, ReadFault>
     requires some { 1 ≤ room }
     requires few { room < 1000 }
     ensures { Answers room result (steps.joined_of joint (reading.below (room - 1)) room (terminals_of symbols.now)) }
@@ -125,7 +126,7 @@ fn chain_made(
     first: Expr,
     first_height: u32,
     others: Items<'_>,
-) -> Result<Found<'_>, ReadFault>
+) -> Result<FoundExpr<'_>, ReadFault>
     requires few { room < 1000 }
     requires height { first_height ≡ spec_height (expr_tree first) }
     requires highest { others.highest ≡ spec_highest (expr_trees others.list.items) }
@@ -134,7 +135,7 @@ fn chain_made(
         (reading.chained joint room (expr_tree first) (expr_trees others.entry.list.items) (terminals_of others.entry.rest.now)) }
 {
     if others.list.is_empty() {
-        return Ok(Found {
+        return Ok(FoundExpr {
             expr: first,
             height: first_height,
             rest: others.rest,
@@ -157,7 +158,7 @@ fn item(
     separator: Separator,
     room: u32,
     symbols: &[Symbol],
-) -> Result<Found<'_>, ReadFault>
+) -> Result<FoundExpr<'_>, ReadFault>
     requires some { 1 ≤ room }
     requires few { room < 1000 }
     ensures { Answers room result (steps.item_of separator (reading.below (room - 1)) room (terminals_of symbols.now)) }
@@ -197,9 +198,10 @@ fn others(
     })
 }
 
+// What AND stands between, if it has room.
 #[cycle(reader)]
 #[tactic(auto, using(crate::proofs::ExprLoops::negated_some, crate::proofs::ExprLoops::negated_none))]
-fn inversion(alloc: Global, room: u32, symbols: &[Symbol]) -> Result<Found<'_>, ReadFault>
+fn inversion(alloc: Global, room: u32, symbols: &[Symbol]) -> Result<FoundExpr<'_>, ReadFault>
     requires { room < 1000 }
     ensures { Answers room result ((reading.below room).negated (terminals_of symbols.now)) }
 {
@@ -209,8 +211,9 @@ fn inversion(alloc: Global, room: u32, symbols: &[Symbol]) -> Result<Found<'_>, 
     inversion_here(alloc, room, symbols)
 }
 
+// The same where there is room: perhaps behind NOT.
 #[cycle(reader)]
-fn inversion_here(alloc: Global, room: u32, symbols: &[Symbol]) -> Result<Found<'_>, ReadFault>
+fn inversion_here(alloc: Global, room: u32, symbols: &[Symbol]) -> Result<FoundExpr<'_>, ReadFault>
     requires some { 1 ≤ room }
     requires few { room < 1000 }
     ensures { Answers room result (reading.negated_of (reading.below (room - 1)) room (terminals_of symbols.now)) }
@@ -218,7 +221,7 @@ fn inversion_here(alloc: Global, room: u32, symbols: &[Symbol]) -> Result<Found<
     match symbols {
         [Symbol::Not, rest @ ..] => {
             let inner = inversion(alloc, room - 1, rest)?;
-            Ok(Found {
+            Ok(FoundExpr {
                 expr: inverted(alloc, inner.expr)?,
                 height: inner.height + 1,
                 rest: inner.rest,
@@ -228,9 +231,10 @@ fn inversion_here(alloc: Global, room: u32, symbols: &[Symbol]) -> Result<Found<
     }
 }
 
+// A comparison, perhaps IS what follows.
 #[cycle(reader)]
 #[tactic(auto, unfolding(expr_grammar::specs::ExprReading::is_of))]
-fn checked(alloc: Global, room: u32, symbols: &[Symbol]) -> Result<Found<'_>, ReadFault>
+fn checked(alloc: Global, room: u32, symbols: &[Symbol]) -> Result<FoundExpr<'_>, ReadFault>
     requires some { 1 ≤ room }
     requires few { room < 1000 }
     ensures { Answers room result (reading.is_of (reading.below (room - 1)) room (terminals_of symbols.now)) }
@@ -262,7 +266,7 @@ fn is_status(
     value: Box<Expr>,
     value_height: u32,
     symbols: &[Symbol],
-) -> Result<Found<'_>, ReadFault>
+) -> Result<FoundExpr<'_>, ReadFault>
     requires few { room < 1000 }
     requires height { value_height ≡ spec_height (expr_tree value.value) }
     requires low { value_height ≤ room }
@@ -277,9 +281,10 @@ fn is_status(
     }
 }
 
+// An operand of a comparison, perhaps compared with another.
 #[cycle(reader)]
 #[tactic(auto, unfolding(expr_grammar::specs::ExprReading::compare_of))]
-fn compared(alloc: Global, room: u32, symbols: &[Symbol]) -> Result<Found<'_>, ReadFault>
+fn compared(alloc: Global, room: u32, symbols: &[Symbol]) -> Result<FoundExpr<'_>, ReadFault>
     requires some { 1 ≤ room }
     requires few { room < 1000 }
     ensures { Answers room result (reading.compare_of (reading.below (room - 1)) room (terminals_of symbols.now)) }
@@ -302,8 +307,8 @@ fn comparison_made(
     op: Comparison,
     left: Box<Expr>,
     left_height: u32,
-    right: Found<'_>,
-) -> Result<Found<'_>, ReadFault>
+    right: FoundExpr<'_>,
+) -> Result<FoundExpr<'_>, ReadFault>
     requires few { room < 1000 }
     requires height { left_height ≡ spec_height (expr_tree left.value) }
     requires right_height { right.height ≡ spec_height (expr_tree right.expr) }
@@ -320,9 +325,10 @@ fn comparison_made(
     )
 }
 
+// A sum, perhaps NOT, BETWEEN, IN or LIKE what follows.
 #[cycle(reader)]
 #[tactic(auto, unfolding(expr_grammar::specs::ExprReading::range_of))]
-fn ranged(alloc: Global, room: u32, symbols: &[Symbol]) -> Result<Found<'_>, ReadFault>
+fn ranged(alloc: Global, room: u32, symbols: &[Symbol]) -> Result<FoundExpr<'_>, ReadFault>
     requires some { 1 ≤ room }
     requires few { room < 1000 }
     ensures { Answers room result (reading.range_of (reading.below (room - 1)) room (terminals_of symbols.now)) }
@@ -359,7 +365,7 @@ fn in_range(
     value: Box<Expr>,
     value_height: u32,
     symbols: &[Symbol],
-) -> Result<Found<'_>, ReadFault>
+) -> Result<FoundExpr<'_>, ReadFault>
     requires some { 1 ≤ room }
     requires few { room < 1000 }
     requires height { value_height ≡ spec_height (expr_tree value.value) }
@@ -410,7 +416,7 @@ fn in_bounds(
     value: Box<Expr>,
     value_height: u32,
     symbols: &[Symbol],
-) -> Result<Found<'_>, ReadFault>
+) -> Result<FoundExpr<'_>, ReadFault>
     requires some { 1 ≤ room }
     requires few { room < 1000 }
     requires height { value_height ≡ spec_height (expr_tree value.value) }
@@ -437,7 +443,7 @@ fn bounds_made(
     low: Box<Expr>,
     below_high: u32,
     high: Boxed<'_>,
-) -> Result<Found<'_>, ReadFault>
+) -> Result<FoundExpr<'_>, ReadFault>
     requires few { room < 1000 }
     requires height { below_high ≡ max (spec_height (expr_tree value.value)) (spec_height (expr_tree low.value)) }
     requires high_height { high.height ≡ spec_height (expr_tree high.expr.value) }
@@ -464,7 +470,7 @@ fn in_list(
     value: Box<Expr>,
     value_height: u32,
     symbols: &[Symbol],
-) -> Result<Found<'_>, ReadFault>
+) -> Result<FoundExpr<'_>, ReadFault>
     requires some { 1 ≤ room }
     requires few { room < 1000 }
     requires height { value_height ≡ spec_height (expr_tree value.value) }
@@ -495,7 +501,7 @@ fn operand(
     level: Level,
     room: u32,
     symbols: &[Symbol],
-) -> Result<Found<'_>, ReadFault>
+) -> Result<FoundExpr<'_>, ReadFault>
     requires some { 1 ≤ room }
     requires few { room < 1000 }
     ensures { Answers room result (steps.operand_of level (reading.below (room - 1)) room (terminals_of symbols.now)) }
@@ -506,9 +512,15 @@ fn operand(
     }
 }
 
+// The operands of the level with its operators between them, taken together from the left on.
 #[cycle(reader)]
 #[tactic(auto, unfolding(expr_grammar::specs::ExprReading::left_of))]
-fn chain(alloc: Global, level: Level, room: u32, symbols: &[Symbol]) -> Result<Found<'_>, ReadFault>
+fn chain(
+    alloc: Global,
+    level: Level,
+    room: u32,
+    symbols: &[Symbol],
+) -> Result<FoundExpr<'_>, ReadFault>
     requires some { 1 ≤ room }
     requires few { room < 1000 }
     ensures { Answers room result
@@ -527,11 +539,11 @@ fn chain(alloc: Global, level: Level, room: u32, symbols: &[Symbol]) -> Result<F
 fn operation_made(
     alloc: Global,
     room: u32,
-    op: BinaryOp,
+    op: Operation,
     left: Box<Expr>,
     left_height: u32,
-    right: Found<'_>,
-) -> Result<Found<'_>, ReadFault>
+    right: FoundExpr<'_>,
+) -> Result<FoundExpr<'_>, ReadFault>
     requires few { room < 1000 }
     requires height { left_height ≡ spec_height (expr_tree left.value) }
     requires right_height { right.height ≡ spec_height (expr_tree right.expr) }
@@ -548,9 +560,10 @@ fn operation_made(
     )
 }
 
+// What the operators of a product stand between, if it has room.
 #[cycle(reader)]
 #[tactic(auto, using(crate::proofs::ExprLoops::signed_some, crate::proofs::ExprLoops::signed_none))]
-fn signed(alloc: Global, room: u32, symbols: &[Symbol]) -> Result<Found<'_>, ReadFault>
+fn signed(alloc: Global, room: u32, symbols: &[Symbol]) -> Result<FoundExpr<'_>, ReadFault>
     requires { room < 1000 }
     ensures { Answers room result ((reading.below room).signed (terminals_of symbols.now)) }
 {
@@ -560,8 +573,9 @@ fn signed(alloc: Global, room: u32, symbols: &[Symbol]) -> Result<Found<'_>, Rea
     signed_here(alloc, room, symbols)
 }
 
+// The same where there is room: perhaps behind a minus.
 #[cycle(reader)]
-fn signed_here(alloc: Global, room: u32, symbols: &[Symbol]) -> Result<Found<'_>, ReadFault>
+fn signed_here(alloc: Global, room: u32, symbols: &[Symbol]) -> Result<FoundExpr<'_>, ReadFault>
     requires some { 1 ≤ room }
     requires few { room < 1000 }
     ensures { Answers room result (reading.signed_of (reading.below (room - 1)) (terminals_of symbols.now)) }
@@ -574,7 +588,7 @@ fn signed_here(alloc: Global, room: u32, symbols: &[Symbol]) -> Result<Found<'_>
 
 /// What stands behind a minus.
 #[cycle(reader)]
-fn minus(alloc: Global, room: u32, symbols: &[Symbol]) -> Result<Found<'_>, ReadFault>
+fn minus(alloc: Global, room: u32, symbols: &[Symbol]) -> Result<FoundExpr<'_>, ReadFault>
     requires some { 1 ≤ room }
     requires few { room < 1000 }
     ensures { Answers room result (reading.after_minus (reading.below (room - 1)) (terminals_of symbols.now)) }
@@ -583,7 +597,7 @@ fn minus(alloc: Global, room: u32, symbols: &[Symbol]) -> Result<Found<'_>, Read
         [Symbol::Number(n), rest @ ..] => Ok(leaf(negative_number(*n), rest)),
         _ => {
             let inner = signed(alloc, room - 1, symbols)?;
-            Ok(Found {
+            Ok(FoundExpr {
                 expr: negated(alloc, inner.expr)?,
                 height: inner.height + 1,
                 rest: inner.rest,
@@ -592,8 +606,9 @@ fn minus(alloc: Global, room: u32, symbols: &[Symbol]) -> Result<Found<'_>, Read
     }
 }
 
+// A literal, a column, a call, or an expression in parentheses.
 #[cycle(reader)]
-fn primary(alloc: Global, room: u32, symbols: &[Symbol]) -> Result<Found<'_>, ReadFault>
+fn primary(alloc: Global, room: u32, symbols: &[Symbol]) -> Result<FoundExpr<'_>, ReadFault>
     requires some { 1 ≤ room }
     requires few { room < 1000 }
     ensures { Answers room result (reading.primary_of (reading.below (room - 1)) (terminals_of symbols.now)) }
@@ -611,7 +626,7 @@ fn primary(alloc: Global, room: u32, symbols: &[Symbol]) -> Result<Found<'_>, Re
 
 /// What stands in parentheses, behind the opening one.
 #[cycle(reader)]
-fn parens(alloc: Global, room: u32, symbols: &[Symbol]) -> Result<Found<'_>, ReadFault>
+fn parens(alloc: Global, room: u32, symbols: &[Symbol]) -> Result<FoundExpr<'_>, ReadFault>
     requires some { 1 ≤ room }
     requires few { room < 1000 }
     ensures { Answers room result (parens_of (reading.below (room - 1)) (terminals_of symbols.now)) }
@@ -619,7 +634,7 @@ fn parens(alloc: Global, room: u32, symbols: &[Symbol]) -> Result<Found<'_>, Rea
     let inner = boxed_whole(alloc, room - 1, symbols)?;
     match inner.rest {
         [Symbol::RightParen, rest @ ..] => {
-            Ok(Found {
+            Ok(FoundExpr {
                 expr: in_parens(inner.expr),
                 height: inner.height + 1,
                 rest,
@@ -636,7 +651,7 @@ fn named<'a>(
     room: u32,
     name: &String,
     symbols: &'a [Symbol],
-) -> Result<Found<'a>, ReadFault>
+) -> Result<FoundExpr<'a>, ReadFault>
     requires some { 1 ≤ room }
     requires few { room < 1000 }
     ensures { Answers room result (reading.named_after (reading.below (room - 1)) (string_bytes name.now) (terminals_of symbols.now)) }
@@ -656,16 +671,18 @@ fn call<'a>(
     room: u32,
     function: &String,
     symbols: &'a [Symbol],
-) -> Result<Found<'a>, ReadFault>
+) -> Result<FoundExpr<'a>, ReadFault>
     requires some { 1 ≤ room }
     requires few { room < 1000 }
     ensures { Answers room result (reading.call_after (reading.below (room - 1)) (string_bytes function.now) (terminals_of symbols.now)) }
 {
     match symbols {
-        [Symbol::Binary(BinaryOp::Mul), Symbol::RightParen, rest @ ..] => {
-            Ok(leaf(call_all(function)?, rest))
-        }
-        [Symbol::Binary(BinaryOp::Mul), ..] => Err(ReadFault::Refused(Refusal::Syntax)),
+        [
+            Symbol::Binary(Operation::Multiply),
+            Symbol::RightParen,
+            rest @ ..,
+        ] => { Ok(leaf(call_all(function)?, rest)) }
+        [Symbol::Binary(Operation::Multiply), ..] => Err(ReadFault::Refused(Refusal::Syntax)),
         [Symbol::RightParen, rest @ ..] => Ok(leaf(call_of_nothing(alloc, function)?, rest)),
         _ => call_of_parts(alloc, room, function, symbols),
     }
@@ -678,7 +695,7 @@ fn call_of_parts<'a>(
     room: u32,
     function: &String,
     symbols: &'a [Symbol],
-) -> Result<Found<'a>, ReadFault>
+) -> Result<FoundExpr<'a>, ReadFault>
     requires some { 1 ≤ room }
     requires few { room < 1000 }
     ensures { Answers room result (reading.parts_after (reading.below (room - 1)) (string_bytes function.now) (terminals_of symbols.now)) }
@@ -695,7 +712,7 @@ fn call_made<'a>(
     first: Box<Expr>,
     first_height: u32,
     others: Items<'a>,
-) -> Result<Found<'a>, ReadFault>
+) -> Result<FoundExpr<'a>, ReadFault>
     requires few { room < 1000 }
     requires height { first_height ≡ spec_height (expr_tree first.value) }
     requires highest { others.highest ≡ spec_highest (expr_trees others.list.items) }
@@ -707,7 +724,7 @@ fn call_made<'a>(
     match others.rest {
         [Symbol::RightParen, rest @ ..] => {
             let height = 1 + first_height.max(others.highest);
-            Ok(Found {
+            Ok(FoundExpr {
                 expr: call_of(function, first, others.list)?,
                 height,
                 rest,
@@ -718,12 +735,12 @@ fn call_made<'a>(
 }
 
 /// An expression without parts.
-fn leaf(expr: Expr, rest: &[Symbol]) -> Found<'_>
+fn leaf(expr: Expr, rest: &[Symbol]) -> FoundExpr<'_>
     ensures expr { result.expr ≡ expr }
     ensures height { result.height ≡ 1 }
     ensures rest { result.rest.now ≡ rest.now }
 {
-    Found {
+    FoundExpr {
         expr,
         height: 1,
         rest,

@@ -2,7 +2,7 @@
 use med_value::{Comparison, Row, Value};
 use std::alloc::Global;
 use std::test::Fail;
-use tri_expr::{Expr, Operation, SetFunction, Test};
+use tri_expr::{Expr, Operation, SetFunction, Status};
 
 fn text(alloc: Global, s: &str) -> Result<Value, Fail> {
     Ok(Value::Text(s.to_string(alloc)?))
@@ -80,16 +80,16 @@ fn set_function(step: &str) -> Option<SetFunction> {
     }
 }
 
-fn test(step: &str) -> Option<(Test, bool)> {
+fn test(step: &str) -> Option<(Status, bool)> {
     match step {
-        "is:null" => Some((Test::Null, false)),
-        "is:not_null" => Some((Test::Null, true)),
-        "is:true" => Some((Test::True, false)),
-        "is:not_true" => Some((Test::True, true)),
-        "is:false" => Some((Test::False, false)),
-        "is:not_false" => Some((Test::False, true)),
-        "is:unknown" => Some((Test::Unknown, false)),
-        "is:not_unknown" => Some((Test::Unknown, true)),
+        "is:null" => Some((Status::Null, false)),
+        "is:not_null" => Some((Status::Null, true)),
+        "is:true" => Some((Status::True, false)),
+        "is:not_true" => Some((Status::True, true)),
+        "is:false" => Some((Status::False, false)),
+        "is:not_false" => Some((Status::False, true)),
+        "is:unknown" => Some((Status::Unknown, false)),
+        "is:not_unknown" => Some((Status::Unknown, true)),
         _ => None,
     }
 }

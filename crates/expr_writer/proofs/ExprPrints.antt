@@ -13,7 +13,7 @@ use Rattle.med_lexer.specs.declared.Mark.{Mark}
 use Rattle.med_lexer.specs.declared.Mark.TheVariants as marks
 use Rattle.med_lexer.specs.Lexemes.{is_part, is_start, is_text, Every, Shape, word, quoted, literal, number, mark, mark_bytes, Spells, Lexeme, Lexes}
 use Rattle.med_lexer.specs.Printing.{IsShape, AreShapes, behind_spaces, raw_of, printed}
-use Rattle.med_syntax.specs.declared.expr.BinaryOp.TheVariants.{Add, Sub, Mul, Div, Rem}
+use Rattle.med_syntax.specs.declared.expr.Operation.TheVariants.{Add, Subtract, Multiply, Divide, Remainder}
 use Rattle.med_value.specs.declared.order.Comparison.TheVariants.{Equal, Apart, Below, AtMost, Above, AtLeast}
 use Rattle.med_syntax.specs.declared.expr.Joint.{Joint}
 use Rattle.med_syntax.specs.declared.expr.Joint.TheVariants.{Or, And}
@@ -79,16 +79,16 @@ begins_append us vs b = (b.0, b.1 ++ vs, ap (λ x. x ++ vs) b.2)
 
 pub begins : (e : ExprTree) → Begins (spelling e)
 begins (num n) = (t.Num n, [], refl)
-begins (negative n) = (t.Binary Sub, t.Num n ∷ [], refl)
+begins (negative n) = (t.Binary Subtract, t.Num n ∷ [], refl)
 begins (text x) = (t.Text x, [], refl)
 begins (truth b) = (t.Truth b, [], refl)
 begins null = (t.Null, [], refl)
 begins (column None n) = (t.Name n, [], refl)
 begins (column (Some q) n) = (t.Name q, t.Dot ∷ t.Name n ∷ [], refl)
-begins (call_all f) = (t.Name f, t.LeftParen ∷ t.Binary Mul ∷ t.RightParen ∷ [], refl)
+begins (call_all f) = (t.Name f, t.LeftParen ∷ t.Binary Multiply ∷ t.RightParen ∷ [], refl)
 begins (call f parts) = (t.Name f, t.LeftParen ∷ parts_spelling parts, refl)
 begins (paren e) = (t.LeftParen, spelling e ++ t.RightParen ∷ [], refl)
-begins (minus e) = (t.Binary Sub, spelling e, refl)
+begins (minus e) = (t.Binary Subtract, spelling e, refl)
 begins (binary op a b) = begins_append (spelling a) _ (begins a)
 begins (between neg e low high) = begins_append (spelling e) _ (begins e)
 begins (among neg e first others) = begins_append (spelling e) _ (begins e)
@@ -199,10 +199,10 @@ written_terminal t.Unknown h = inr (refl, refl)
 written_terminal (t.Num n) h = number_terminal n h
 written_terminal (t.Reserved w) h = absurd h
 written_terminal (t.Binary Add) h = inl refl
-written_terminal (t.Binary Sub) h = inl refl
-written_terminal (t.Binary Mul) h = inl refl
-written_terminal (t.Binary Div) h = inl refl
-written_terminal (t.Binary Rem) h = inl refl
+written_terminal (t.Binary Subtract) h = inl refl
+written_terminal (t.Binary Multiply) h = inl refl
+written_terminal (t.Binary Divide) h = inl refl
+written_terminal (t.Binary Remainder) h = inl refl
 written_terminal (t.Compare Equal) h = inl refl
 written_terminal (t.Compare Apart) h = inl refl
 written_terminal (t.Compare Below) h = inl refl

@@ -6,8 +6,8 @@ use Rattle.med_lexer.specs.declared.Mark.{Mark}
 use Rattle.med_lexer.specs.declared.Mark.TheVariants as marks
 use Rattle.med_lexer.specs.Lexemes.{Shape, word, quoted, literal, number, mark}
 use Rattle.med_lexer.specs.Printing.{behind_spaces, printed}
-use Rattle.med_syntax.specs.declared.expr.BinaryOp.{BinaryOp}
-use Rattle.med_syntax.specs.declared.expr.BinaryOp.TheVariants.{Add, Sub, Mul, Div, Rem}
+use Rattle.med_syntax.specs.declared.expr.Operation.{Operation}
+use Rattle.med_syntax.specs.declared.expr.Operation.TheVariants.{Add, Subtract, Multiply, Divide, Remainder}
 use Rattle.med_value.specs.declared.order.Comparison.{Comparison}
 use Rattle.med_value.specs.declared.order.Comparison.TheVariants.{Equal, Apart, Below, AtMost, Above, AtLeast}
 use Rattle.med_syntax.specs.declared.expr.Joint.TheVariants.{Or, And}
@@ -17,12 +17,12 @@ use Rattle.expr_writer.specs.declared.writer.Fixed.{Fixed}
 use Rattle.expr_writer.specs.declared.writer.Fixed.TheVariants as f
 use Rattle.med_syntax.specs.ExprTree.{ExprTree, status_terminal, spelling}
 
-abbrev pub binary_mark : BinaryOp → Mark
+abbrev pub binary_mark : Operation → Mark
 binary_mark Add = marks.Plus
-binary_mark Sub = marks.Minus
-binary_mark Mul = marks.Star
-binary_mark Div = marks.Slash
-binary_mark Rem = marks.Percent
+binary_mark Subtract = marks.Minus
+binary_mark Multiply = marks.Star
+binary_mark Divide = marks.Slash
+binary_mark Remainder = marks.Percent
 
 abbrev pub compare_mark : Comparison → Mark
 compare_mark Equal = marks.Equal

@@ -11,7 +11,7 @@ ghost use Rattle.med_syntax.specs.ExprTree.{spelling, spellings, parts_spelling,
 ghost use Rattle.expr_writer.specs.ExprPrinting.{Writes, fixed_terminal, shape_for};
 ghost use Rattle.med_syntax.specs.ExprView.{expr_tree, expr_trees};
 
-use med_syntax::{BinaryOp, Expr, Joint, Status};
+use med_syntax::{Expr, Joint, Operation, Status};
 use med_value::Comparison;
 use std::alloc::{AllocError, Global};
 
@@ -22,7 +22,7 @@ pub enum Fixed {
     RightParen,
     Comma,
     Dot,
-    Binary(BinaryOp),
+    Binary(Operation),
     Compare(Comparison),
     Joint(Joint),
     Not,
@@ -33,18 +33,20 @@ pub enum Fixed {
     Status(Status),
 }
 
-fn binary_text(op: BinaryOp) -> &'static str
+// How the operator is written.
+fn binary_text(op: Operation) -> &'static str
     ensures { result.now ≡ raw_of (shape_for (t.Binary op)) }
 {
     match op {
-        BinaryOp::Add => "+",
-        BinaryOp::Sub => "-",
-        BinaryOp::Mul => "*",
-        BinaryOp::Div => "/",
-        BinaryOp::Rem => "%",
+        Operation::Add => "+",
+        Operation::Subtract => "-",
+        Operation::Multiply => "*",
+        Operation::Divide => "/",
+        Operation::Remainder => "%",
     }
 }
 
+// How the comparison is written.
 fn compare_text(op: Comparison) -> &'static str
     ensures { result.now ≡ raw_of (shape_for (t.Compare op)) }
 {
@@ -58,6 +60,7 @@ fn compare_text(op: Comparison) -> &'static str
     }
 }
 
+// How the symbol is written.
 fn fixed_text(fixed: Fixed) -> &'static str
     ensures { result.now ≡ raw_of (shape_for (fixed_terminal fixed)) }
 {
@@ -155,7 +158,7 @@ fn write_call_all(function: &String, out: &mut String) -> Result<(), AllocError>
 {
     write_name(function, out)?;
     write_fixed(Fixed::LeftParen, out)?;
-    write_fixed(Fixed::Binary(BinaryOp::Mul), out)?;
+    write_fixed(Fixed::Binary(Operation::Multiply), out)?;
     write_fixed(Fixed::RightParen, out)
 }
 
@@ -178,7 +181,7 @@ pub fn write(alloc: Global, expr: &Expr, out: &mut String) -> Result<(), AllocEr
     match expr {
         Expr::Number(n) => write_number(alloc, *n, out),
         Expr::Negative(n) => {
-            write_fixed(Fixed::Binary(BinaryOp::Sub), out)?;
+            write_fixed(Fixed::Binary(Operation::Subtract), out)?;
             write_number(alloc, *n, out)
         }
         Expr::Text(text) => write_text(text, out),
@@ -190,7 +193,7 @@ pub fn write(alloc: Global, expr: &Expr, out: &mut String) -> Result<(), AllocEr
         Expr::Call(function, parts) => write_call(alloc, function, parts, out),
         Expr::Paren(e) => write_paren(alloc, e, out),
         Expr::Minus(e) => {
-            write_fixed(Fixed::Binary(BinaryOp::Sub), out)?;
+            write_fixed(Fixed::Binary(Operation::Subtract), out)?;
             write(alloc, e, out)
         }
         Expr::Binary(op, a, b) => write_pair(alloc, Fixed::Binary(*op), a, b, out),

@@ -7,17 +7,17 @@ use Rattle.med_value.specs.Datum.{Tuple}
 use Rattle.med_value.specs.declared.value.ColType.{ColType}
 pub use Rattle.med_value.specs.Column.{Column, column_of}
 use Rattle.med_value.specs.declared.cause.Cause.{Cause}
-use Rattle.fdw_api.specs.declared.interface.Opt.{Opt}
+use Rattle.fdw_api.specs.declared.interface.TableOption.{TableOption}
 use Rattle.fdw_api.specs.Scan.{TableRow, row_fits}
 
 -- an option of a foreign table (level 0) or of its k-th column (level k)
-pub record Setting : Type 0 where
+pub record OptionForm : Type 0 where
   pub level : ℕ
   pub key : List ℕ
   pub text : List ℕ
 
-abbrev pub setting_of : Opt → Setting
-setting_of o = record { level = o.level; key = string_bytes o.key; text = string_bytes o.text }
+abbrev pub option_form : TableOption → OptionForm
+option_form o = record { level = o.level; key = string_bytes o.key; text = string_bytes o.text }
 
 -- what stands under a remote name: bytes, or column types and rows
 pub data Entry : Type 0 where
@@ -88,16 +88,16 @@ as_they_come = record { arranged = λ rows. rows; permutes = λ rows. record { m
 -- a kind of source, with what binding and writing mean for it
 pub record Kind : Type 0 where
   -- the causes of refusal by names and types (phases 3 and 4) that these columns and options show for this kind
-  pub objections : List Column → List Setting → List Cause
+  pub objections : List Column → List OptionForm → List Cause
   -- what the entry under the remote name gives a table of these columns and options: where no cause stands, rows of the columns' types
-  pub reads : List Column → List Setting → Option Entry → Reading
-  pub typed : (columns : List Column) (settings : List Setting) (entry : Option Entry)
+  pub reads : List Column → List OptionForm → Option Entry → Reading
+  pub typed : (columns : List Column) (settings : List OptionForm) (entry : Option Entry)
       → (reads columns settings entry).causes ≡ [] → all_fit (kinds_of columns) (reads columns settings entry).rows ≡ true
   -- the record or line that a written row becomes
-  pub line : List Column → List Setting → Tuple → List (List ℕ)
+  pub line : List Column → List OptionForm → Tuple → List (List ℕ)
   -- what stands under the remote name, where this entry stood, when these rows were written in this order
-  pub image : List Column → List Setting → Option Entry → List Held → Option Entry
+  pub image : List Column → List OptionForm → Option Entry → List Held → Option Entry
   -- the order of the rows that a write leaves
-  pub arrangement : List Column → List Setting → Arrangement
+  pub arrangement : List Column → List OptionForm → Arrangement
   -- the causes by which a write is refused
-  pub refuses : List Column → List Setting → Refusals
+  pub refuses : List Column → List OptionForm → Refusals

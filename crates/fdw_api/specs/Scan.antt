@@ -17,51 +17,56 @@ use Rattle.fdw_api.specs.declared.scan.Agreement.{Agreement}
 use Rattle.fdw_api.specs.declared.scan.ScanSpec.{ScanSpec}
 
 -- the operand of a restriction: a value, or the parameter of a number
-pub data Other : Type 0 where
-  Given : Datum → Other
-  Slot : ℕ → Other
+pub data OperandForm : Type 0 where
+  Given : Datum → OperandForm
+  Slot : ℕ → OperandForm
 
 -- the test of a restriction: a comparison, IS NULL or IS NOT NULL
-pub data Check : Type 0 where
-  Compares : Comparison → Other → Check
-  Missing : Check
-  Present : Check
+pub data TestForm : Type 0 where
+  Compares : Comparison → OperandForm → TestForm
+  Missing : TestForm
+  Present : TestForm
 
 -- a restriction: a column, and the test of its cells
-pub record Filter : Type 0 where
+pub record RestrictionForm : Type 0 where
   pub column : ℕ
-  pub check : Check
+  pub test : TestForm
 
 -- what an operand, a test and a restriction of the program mean
-abbrev pub other_of : Operand → Other
-other_of (Constant v) = Given (datum v)
-other_of (Parameter at) = Slot at
+abbrev pub operand_form : Operand → OperandForm
+operand_form (Constant v) = Given (datum v)
+operand_form (Parameter at) = Slot at
 
-abbrev pub check_of : Test → Check
-check_of (Compare op o) = Compares op (other_of o)
-check_of IsNull = Missing
-check_of IsNotNull = Present
+abbrev pub test_form : Test → TestForm
+test_form (Compare op o) = Compares op (operand_form o)
+test_form IsNull = Missing
+test_form IsNotNull = Present
 
-abbrev pub filter_of : Restriction → Filter
-filter_of r = record { column = r.column; check = check_of r.test }
+abbrev pub restriction_form : Restriction → RestrictionForm
+restriction_form r = record { column = r.column; test = test_form r.test }
 
 -- what a scan is asked for: the columns that are wanted, the restrictions that are offered, one answer for each, and whether rows hold
 -- the wanted columns only
 pub record Spec : Type 0 where
   pub wanted : List ℕ
-  pub offered : List Filter
+  pub offered : List RestrictionForm
   pub answers : List Agree
   pub narrow : Bool
 
 abbrev pub spec_of : ScanSpec → Spec
-spec_of s = record { wanted = s.wanted.items; offered = map filter_of s.offered.items; answers = s.agreement.answers.items; narrow = s.agreement.narrow }
+spec_of s = record {
+  wanted = s.wanted.items;
+  offered = map restriction_form s.offered.items;
+  answers = s.agreement.answers.items;
+  narrow = s.agreement.narrow;
+}
 
 -- what a scan is asked for under an agreement
-abbrev pub spec_by : List ℕ → List Filter → Agreement → Spec
+abbrev pub spec_by : List ℕ → List RestrictionForm → Agreement → Spec
 spec_by wanted offered a = record { wanted = wanted; offered = offered; answers = a.answers.items; narrow = a.narrow }
 
 -- the scan of whole rows for which the wrapper takes nothing over
-abbrev pub plain_spec : List ℕ → List Filter → Spec
+abbrev pub plain_spec : List ℕ → List RestrictionForm → Spec
 plain_spec wanted offered = record { wanted = wanted; offered = offered; answers = replicate (length offered) Ignored; narrow = false }
 
 -- the cell of a column, NULL past the row's end
@@ -69,26 +74,26 @@ abbrev pub cell : Tuple → ℕ → Datum
 cell cells column = slice_index_or cells column NoValue
 
 -- the value of an operand under these parameters
-abbrev pub value_of : Tuple → Other → Datum
+abbrev pub value_of : Tuple → OperandForm → Datum
 value_of params (Given v) = v
 value_of params (Slot at) = cell params at
 
 -- a test is true of a value
-abbrev pub checks : Tuple → Check → Datum → Bool
+abbrev pub checks : Tuple → TestForm → Datum → Bool
 checks params (Compares op o) v = compares_true op v (value_of params o)
 checks params Missing v = is_missing v
 checks params Present v = not (is_missing v)
 
 -- a restriction is true of a row
-abbrev pub meets : Tuple → Tuple → Filter → Bool
-meets params cells f = checks params f.check (cell cells f.column)
+abbrev pub meets : Tuple → Tuple → RestrictionForm → Bool
+meets params cells f = checks params f.test (cell cells f.column)
 
 -- all restrictions are true of a row
-abbrev pub meets_all : List Filter → Tuple → Tuple → Bool
+abbrev pub meets_all : List RestrictionForm → Tuple → Tuple → Bool
 meets_all offered params cells = list_all (meets params cells) offered
 
 -- each restriction answered Exact is true of a row
-abbrev pub meets_exact : List Filter → List Agree → Tuple → Tuple → Bool
+abbrev pub meets_exact : List RestrictionForm → List Agree → Tuple → Tuple → Bool
 meets_exact [] answers params cells = true
 meets_exact (f ∷ fs) [] params cells = true
 meets_exact (f ∷ fs) (Exact ∷ answers) params cells = meets params cells f && meets_exact fs answers params cells
@@ -115,8 +120,8 @@ abbrev pub shown_cells : Spec → Tuple → Tuple
 shown_cells spec cells = if spec.narrow then pick spec.wanted cells else cells
 
 -- a row as this scan gives it
-abbrev pub shown : Spec → TableRow → GivenRow
-shown spec r = record { id = r.id; cells = shown_cells spec r.cells }
+abbrev pub given_row : Spec → TableRow → GivenRow
+given_row spec r = record { id = r.id; cells = shown_cells spec r.cells }
 
 -- the rows that a scan may give, in an order of the wrapper's choice: each row of the table at most once, every row of which all
 -- restrictions are true, and none of which an Exact one is not true
@@ -126,7 +131,7 @@ pub record IsComing (rows : List TableRow) (spec : Spec) (params : Tuple) (comin
   pub parts : IsPermutation rows (taken ++ left_out)
   pub failing : All (λ r. meets_all spec.offered params r.cells ≡ false) left_out
   pub exact : All (λ r. meets_exact spec.offered spec.answers params r.cells ≡ true) taken
-  pub is : coming ≡ map (shown spec) taken
+  pub is : coming ≡ map (given_row spec) taken
 
 -- a value is of a type, or NULL
 abbrev pub has_kind : ColType → Datum → Bool
@@ -142,15 +147,15 @@ kind_is None v = false
 kind_is (Some k) v = has_kind k v
 
 -- a parameter is there, with a value of its column's type
-abbrev pub check_fits : List ColType → Tuple → ℕ → Check → Bool
-check_fits kinds params column (Compares op (Slot at)) = nat_lt at (length params) && kind_is (slice_get kinds column) (cell params at)
-check_fits kinds params column (Compares op (Given v)) = true
-check_fits kinds params column Missing = true
-check_fits kinds params column Present = true
+abbrev pub test_fits : List ColType → Tuple → ℕ → TestForm → Bool
+test_fits kinds params column (Compares op (Slot at)) = nat_lt at (length params) && kind_is (slice_get kinds column) (cell params at)
+test_fits kinds params column (Compares op (Given v)) = true
+test_fits kinds params column Missing = true
+test_fits kinds params column Present = true
 
 -- all parameters that the restrictions name are there, with values of their columns' types
-abbrev pub params_fit : List ColType → List Filter → Tuple → Bool
-params_fit kinds offered params = list_all (λ f. check_fits kinds params f.column f.check) offered
+abbrev pub params_fit : List ColType → List RestrictionForm → Tuple → Bool
+params_fit kinds offered params = list_all (λ f. test_fits kinds params f.column f.test) offered
 
 -- a text has no U+0000
 abbrev pub is_clean : Datum → Bool

@@ -6,7 +6,7 @@ use Rattle.std.specs.Ordering.{nat_cmp}
 use Rattle.std.specs.FinMap as map
 use Rattle.med_value.specs.Datum.{Tuple}
 use Rattle.med_value.specs.declared.value.ColType.{ColType}
-use Rattle.fdw_api.specs.Scan.{Spec, Filter, plain_spec, TableRow, GivenRow}
+use Rattle.fdw_api.specs.Scan.{Spec, RestrictionForm, plain_spec, TableRow, GivenRow}
 use Rattle.fdw_api.specs.Kinds.{Kind, Holding, Entry, Held, Change, Arrangement, Refusals}
 
 -- what a wrapper is for its whole life: its kind, whether it tells the truth about rows, and whether a refused call of it may use ticket
@@ -19,11 +19,11 @@ pub record Nature : Type 0 where
 -- a bound table, without its rows: its remote name, the types of its columns, and the scans that it allows.
 -- The scan of whole rows for which nothing is taken over is always allowed. `line`, `image`, `arrangement` and `refuses` are what its kind
 -- says of writes to a table of its columns and options
-pub record Bound : Type 0 where
+pub record BoxTable : Type 0 where
   pub remote : List ℕ
   pub kinds : List ColType
   pub allows : Spec → Bool
-  pub allows_plain : (wanted : List ℕ) (offered : List Filter) → allows (plain_spec wanted offered) ≡ true
+  pub allows_plain : (wanted : List ℕ) (offered : List RestrictionForm) → allows (plain_spec wanted offered) ≡ true
   pub line : Tuple → List (List ℕ)
   pub image : Option Entry → List Held → Option Entry
   pub arrangement : Arrangement
@@ -48,7 +48,7 @@ pub record Staging : Type 0 where
 -- what is known of every wrapper: the bound tables by number, the live scans by ticket number, the write under way, the next ticket's
 -- number, and how many rows were given and how many calls failed by the source
 pub record Ledger : Type 0 where
-  pub tables : ℕ → Option Bound
+  pub tables : ℕ → Option BoxTable
   pub live : map.FinMap nat_cmp Scan
   pub staged : Option Staging
   pub next : ℕ
@@ -73,7 +73,7 @@ abbrev pub is_honest : BoxState → Type 0
 is_honest s = s.nature.honest ≡ true
 
 -- the table of this number, None where none is bound
-abbrev pub table_of : BoxState → ℕ → Option Bound
+abbrev pub table_of : BoxState → ℕ → Option BoxTable
 table_of s t = s.ledger.tables t
 
 -- the scan of this ticket number, None where none is live

@@ -7,7 +7,7 @@ use Rattle.med_value.specs.declared.value.ColType.{ColType}
 use Rattle.med_value.specs.Causes.{phase_of}
 use Rattle.fdw_api.specs.Scan.{row_fits, TableRow}
 use Rattle.fdw_api.specs.Kinds.{Entry, Holding, Known, Unknown, Held, held, Change, Inserts, Updates, Deletes, is_of_run}
-use Rattle.fdw_api.specs.State.{Bound, Staging, BoxState, is_honest, table_of, rows_of}
+use Rattle.fdw_api.specs.State.{BoxTable, Staging, BoxState, is_honest, table_of, rows_of}
 use Rattle.fdw_api.specs.Calls.{Leaves, LeavesAll, none_of, NoScan, Refuses, Picks, not_refused, faults_after}
 use Rattle.fdw_api.specs.declared.interface.Fault.{Fault}
 use Rattle.fdw_api.specs.declared.interface.Fault.TheVariants.{NoMemory, Source, Refused}
@@ -66,7 +66,7 @@ pub record CanChange (s : BoxState) (change : Change) : Type 0 where
   pub staging : Staging
   pub is_staged : s.ledger.staged ≡ Some staging
   pub whole : staging.broken ≡ false
-  pub bound : Bound
+  pub bound : BoxTable
   pub is : table_of s staging.table ≡ Some bound
   pub fits : row_of_change_fits bound.kinds change ≡ true
   pub there : is_honest s → id_is_there (rows_of s staging.table) change ≡ true
@@ -86,7 +86,7 @@ ChangeCause old staging change NoMemory = Unit {0}
 ChangeCause old staging change Source = Unit {0}
 ChangeCause old staging change (Refused c) =
     (is_of_run (phase_of c) ≡ true)
-    × (is_honest old → (bound : Bound) → table_of old staging.table ≡ Some bound
+    × (is_honest old → (bound : BoxTable) → table_of old staging.table ≡ Some bound
     → (entry : Option Entry) × Picks (old.content.holdings bound.remote) entry
     × ((more : List Change) → Contains (bound.refuses.causes entry (rows_of old staging.table) (staging.changes ++ change ∷ more)) c))
 
@@ -95,7 +95,8 @@ pub record RefusesChange (old : BoxState) (change : Change) (fault : Fault) (new
   pub nature : new.nature ≡ old.nature
   pub staging : Staging
   pub is_staged : old.ledger.staged ≡ Some staging
-  pub ledger : new.ledger ≡ record old.ledger { staged = Some (record staging { broken = true }); faults = faults_after fault old.ledger.faults }
+  pub ledger : new.ledger
+      ≡ record old.ledger { staged = Some (record staging { broken = true }); faults = faults_after fault old.ledger.faults }
   pub cause : ChangeCause old staging change fault
   pub leaves : is_honest old → LeavesAll old new
 
@@ -125,14 +126,14 @@ abbrev pub rows_after : (Tuple → List (List ℕ)) → List TableRow → List C
 rows_after line rows changes = flat_map (λ r. row_after line r.id changes (held r ∷ [])) rows ++ flat_map (inserted line) changes
 
 -- what stands under the remote name is the image of these rows, in this order; what was unknown stays unknown
-abbrev pub HoldsImage : Bound → List Held → Holding → Holding → Type 0
+abbrev pub HoldsImage : BoxTable → List Held → Holding → Holding → Type 0
 HoldsImage bound rows Unknown new = new ≡ Unknown
 HoldsImage bound rows (Known e) new = new ≡ Known (bound.image e rows)
 
 -- a kept write, where no cause stands for its changes: exactly they are made, the rows stand in the order of their kind, each under an id of
 -- its own, and the remote name holds them in that order, so that a later bind reads them
 pub record Written (old : BoxState) (staging : Staging) (new : BoxState) : Type 0 where
-  pub bound : Bound
+  pub bound : BoxTable
   pub is : table_of old staging.table ≡ Some bound
   pub entry : Option Entry
   pub picked : Picks (old.content.holdings bound.remote) entry
@@ -140,7 +141,8 @@ pub record Written (old : BoxState) (staging : Staging) (new : BoxState) : Type 
   pub rows : map held (rows_of new staging.table)
       ≡ bound.arrangement.arranged (rows_after bound.line (rows_of old staging.table) staging.changes)
   pub once : IsDistinct nat_eq (map (λ r. r.id) (rows_of new staging.table))
-  pub holdings : HoldsImage bound (map held (rows_of new staging.table)) (old.content.holdings bound.remote) (new.content.holdings bound.remote)
+  pub holdings : HoldsImage bound (map held (rows_of new staging.table))
+      (old.content.holdings bound.remote) (new.content.holdings bound.remote)
   pub leaves : Leaves none_of (λ t. t ≡ staging.table) (λ r. r ≡ bound.remote) old new
 
 -- a write that is kept is made, one that is given up leaves everything as it was
@@ -162,7 +164,7 @@ CloseCause old staging NoMemory = Unit {0}
 CloseCause old staging Source = Unit {0}
 CloseCause old staging (Refused c) =
     (is_of_run (phase_of c) ≡ true)
-    × (is_honest old → (bound : Bound) → table_of old staging.table ≡ Some bound
+    × (is_honest old → (bound : BoxTable) → table_of old staging.table ≡ Some bound
     → (entry : Option Entry) × Picks (old.content.holdings bound.remote) entry
     × Contains (bound.refuses.causes entry (rows_of old staging.table) staging.changes) c)
 

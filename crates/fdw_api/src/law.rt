@@ -4,10 +4,11 @@ ghost use Rattle.std.specs.List.{list_all};
 ghost use Rattle.med_value.specs.Datum.{Tuple};
 ghost use Rattle.med_value.specs.declared.value.ColType.{ColType};
 ghost use Rattle.fdw_api.specs.Scan.{TableRow, Spec, cell, has_kind, row_fits, cells_fit, shown_cells, shown_fits};
-ghost use Rattle.fdw_api.specs.Kinds.{Column, Setting, Change, all_fit};
+ghost use Rattle.fdw_api.specs.Kinds.{Column, OptionForm, Change, all_fit};
 ghost use Rattle.fdw_api.specs.State.{BoxState, IsIdle};
-ghost use Rattle.fdw_api.specs.Calls.{Binds, CanUnbind, Unbinds, Refuses, Begins, Gives, Breaks, Rescans, Ends};
-ghost use Rattle.fdw_api.specs.Writes.{CanModify, Opens, CanChange, Stages, RefusesChange, Closes, RefusesClose, row_of_change_fits, rows_after};
+ghost use Rattle.fdw_api.specs.Calls.{Binds, CanUnbind, Unbinds, Refuses, Begins, Iterates, Breaks, Rescans, Ends};
+ghost use Rattle.fdw_api.specs.Writes.{CanModify, Opens, CanChange, Stages, RefusesChange};
+ghost use Rattle.fdw_api.specs.Writes.{Closes, RefusesClose, row_of_change_fits, rows_after};
 ghost use Rattle.fdw_api.specs.Sound.{IsSoundBox};
 ghost use Rattle.fdw_api.specs.declared.interface.Fault.{Fault as Failure};
 ghost use Rattle.fdw_api.specs.declared.interface.SourceRow.{SourceRow};
@@ -16,7 +17,7 @@ ghost use Rattle.fdw_api.specs.declared.interface.SourceRow.{SourceRow};
 /// is refused.
 pub fn tables_stay_sound()
     ensures idle { (s : BoxState) → IsIdle s → IsSoundBox s }
-    ensures binds { (old new : BoxState) (remote : List ℕ) (columns : List Column) (settings : List Setting) (t : ℕ)
+    ensures binds { (old new : BoxState) (remote : List ℕ) (columns : List Column) (settings : List OptionForm) (t : ℕ)
         → IsSoundBox old → Binds old remote columns settings t new → IsSoundBox new }
     ensures unbinds { (old new : BoxState) (t : ℕ) → IsSoundBox old → CanUnbind old t → Unbinds old t new → IsSoundBox new }
     ensures refuses { (old new : BoxState) (fault : Failure) → IsSoundBox old → Refuses fault old new → IsSoundBox new }
@@ -27,7 +28,7 @@ pub fn scans_stay_sound()
     ensures begins { (old new : BoxState) (t : ℕ) (spec : Spec) (params : Tuple) (number : ℕ)
         → IsSoundBox old → Begins old t spec params number new → IsSoundBox new }
     ensures gives { (old new : BoxState) (number : ℕ) (row : Option SourceRow)
-        → IsSoundBox old → Gives old number row new → IsSoundBox new }
+        → IsSoundBox old → Iterates old number row new → IsSoundBox new }
     ensures breaks { (old new : BoxState) (number : ℕ) (fault : Failure)
         → IsSoundBox old → Breaks old number fault new → IsSoundBox new }
     ensures rescans { (old new : BoxState) (number : ℕ) (params : Tuple)

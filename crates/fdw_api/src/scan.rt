@@ -1,12 +1,13 @@
 //! What a scan is asked for, and what a wrapper agrees to take over.
 ghost use Rattle.std.specs.Prelude.{◌≡◌, ℕ, [], map, IfOk, IsSome};
 ghost use Rattle.med_value.specs.Datum.{datum, tuple};
-ghost use Rattle.med_value.specs.Order.{compares_true, is_missing};
-ghost use Rattle.fdw_api.specs.Scan.{other_of, check_of, filter_of, spec_of, plain_spec, cell, checks, meets, meets_exact, pick, shown_cells};
+ghost use Rattle.med_value.specs.Order.{compares_true};
+ghost use Rattle.fdw_api.specs.Scan.{operand_form, test_form, restriction_form, spec_of, plain_spec};
+ghost use Rattle.fdw_api.specs.Scan.{cell, checks, meets, meets_exact, pick, shown_cells};
 ghost use Rattle.fdw_api.specs.State.{BoxState, table_of};
 ghost use Rattle.fdw_api.specs.Calls.{CanBegin};
 
-use med_value::{Comparison, NoMemory, Row, Value};
+use med_value::{Comparison, NoMemory, Row, Value, is_missing};
 use std::alloc::Global;
 
 /// What a column is compared with.
@@ -82,7 +83,7 @@ pub fn copy_values(alloc: Global, values: &[Value]) -> Result<Vec<Value>, NoMemo
 
 impl Operand {
     fn copy(&self, alloc: Global) -> Result<Operand, NoMemory>
-        ensures { IfOk result (λ o. other_of o ≡ other_of self.now) }
+        ensures { IfOk result (λ o. operand_form o ≡ operand_form self.now) }
     {
         match self {
             Operand::Constant(value) => Ok(Operand::Constant(value.copy(alloc)?)),
@@ -93,7 +94,7 @@ impl Operand {
 
 impl Test {
     fn copy(&self, alloc: Global) -> Result<Test, NoMemory>
-        ensures { IfOk result (λ t. check_of t ≡ check_of self.now) }
+        ensures { IfOk result (λ t. test_form t ≡ test_form self.now) }
     {
         match self {
             Test::Compare(comparison, operand) => Ok(Test::Compare(
@@ -104,12 +105,6 @@ impl Test {
             Test::IsNotNull => Ok(Test::IsNotNull),
         }
     }
-}
-
-fn is_missing(value: &Value) -> bool
-    ensures { result ≡ is_missing (datum value.now) }
-{
-    matches!(value, Value::Null)
 }
 
 /// Whether a comparison with a cell that may not be there is true.
@@ -123,8 +118,9 @@ fn compares(comparison: Comparison, left: &Value, params: &[Value], at: usize) -
 }
 
 impl Test {
+    // Whether the test is true of a value, under these parameters.
     fn passes(&self, value: &Value, params: &[Value]) -> bool
-        ensures { result ≡ checks (map datum params.now) (check_of self.now) (datum value.now) }
+        ensures { result ≡ checks (map datum params.now) (test_form self.now) (datum value.now) }
     {
         match self {
             Test::Compare(comparison, Operand::Constant(right)) => comparison.is_true(value, right),
@@ -143,7 +139,7 @@ impl Test {
 impl Restriction {
     /// A copy, that tests the same.
     pub fn copy(&self, alloc: Global) -> Result<Restriction, NoMemory>
-        ensures { IfOk result (λ r. filter_of r ≡ filter_of self.now) }
+        ensures { IfOk result (λ r. restriction_form r ≡ restriction_form self.now) }
     {
         Ok(Restriction {
             column: self.column,
@@ -153,14 +149,14 @@ impl Restriction {
 
     /// Whether the restriction is true of a row that has this value in its column.
     pub fn is_met_by(&self, value: &Value, params: &[Value]) -> bool
-        ensures { result ≡ checks (map datum params.now) (check_of self.now.test) (datum value.now) }
+        ensures { result ≡ checks (map datum params.now) (test_form self.now.test) (datum value.now) }
     {
         self.test.passes(value, params)
     }
 
     /// Whether the restriction is true of a row.
     pub fn is_met(&self, row: &Row, params: &[Value]) -> bool
-        ensures { result ≡ meets (map datum params.now) (tuple row.now) (filter_of self.now) }
+        ensures { result ≡ meets (map datum params.now) (tuple row.now) (restriction_form self.now) }
     {
         match row.cells.get(self.column) {
             Some(value) => self.is_met_by(value, params),
@@ -171,7 +167,7 @@ impl Restriction {
 
 /// Whether each restriction answered Exact is true of a row.
 pub fn meets_taken(offered: &[Restriction], answers: &[Agree], row: &Row, params: &[Value]) -> bool
-    ensures { result ≡ meets_exact (map filter_of offered.now) answers.now (map datum params.now) (tuple row.now) }
+    ensures { result ≡ meets_exact (map restriction_form offered.now) answers.now (map datum params.now) (tuple row.now) }
 {
     let mut offered = offered;
     let mut answers = answers;

@@ -16,7 +16,7 @@ use Rattle.fed_cli.specs.Told.{Came, replay_told}
 use Rattle.fed_words.specs.Words.{places_asked}
 use Rattle.fed_cli.specs.declared.told.RunFault.{RunFault}
 use Rattle.fed_cli.specs.declared.told.RunFault.TheVariants as faults
-use Rattle.fed_words.specs.declared.words.Asked.{Asked}
+use Rattle.fed_words.specs.declared.words.AskedRun.{AskedRun}
 
 -- a script that is there was replayed
 pub replays_script : (o : Option (Vec ℕ Global)) (v : Vec ℕ Global) (bytes owner : List ℕ) (result : Result ℕ ScriptFault) (came : Came) (first after : Scene)
@@ -27,12 +27,12 @@ replays_script o v bytes owner result came first after is items told replays =
     (result, told, subst (λ bs. Replays SceneSteps SceneCloses first owner bs result after) items replays)
 
 -- nothing is handed back
-pub not_begun : {W : Type 0} (honest : Bool) (meaning : W → BoxState) (asked : Asked) (came : Came) (script : Option (List ℕ)) (sources : Option (Sources W)) (input output : Stream) (fault : RunFault)
+pub not_begun : {W : Type 0} (honest : Bool) (meaning : W → BoxState) (asked : AskedRun) (came : Came) (script : Option (List ℕ)) (sources : Option (Sources W)) (input output : Stream) (fault : RunFault)
     → came ≡ Err fault → sources ≡ None → (are_honest honest (places_asked asked) ≡ true → BeginsNot honest asked script fault) → IsUntouched input → IsUntouched output → Runs honest meaning asked came script sources input output
 not_begun honest meaning asked came script sources input output fault e none why i o = subst (λ s. Runs honest meaning asked came script s input output) (sym none) (fault, e, why, i, o)
 
 -- there is no first world
-pub no_first_world : (honest : Bool) (asked : Asked) (script : Option (List ℕ)) (fault : RunFault) → HasNoFirst honest asked fault → BeginsNot honest asked script fault
+pub no_first_world : (honest : Bool) (asked : AskedRun) (script : Option (List ℕ)) (fault : RunFault) → HasNoFirst honest asked fault → BeginsNot honest asked script fault
 no_first_world honest asked script faults.NoMemory h = tt
 no_first_world honest asked script (faults.CannotOpen told) h = h
 no_first_world honest asked script (faults.NameTaken told) h = h
@@ -46,7 +46,7 @@ no_first_world honest asked script faults.InitNotText h = absurd h
 no_first_world honest asked script (faults.InitLine number cause) h = absurd h
 
 -- the init file was not read
-pub not_read : (honest : Bool) (asked : Asked) (fault : RunFault) (first : Scene) → IsFirst honest asked.owner.now (list_asked asked) (places_asked asked) first → ReadsNot asked.init fault
+pub not_read : (honest : Bool) (asked : AskedRun) (fault : RunFault) (first : Scene) → IsFirst honest asked.owner.now (list_asked asked) (places_asked asked) first → ReadsNot asked.init fault
     → BeginsNot honest asked None fault
 not_read honest asked faults.NoMemory first is h = tt
 not_read honest asked (faults.CannotReadInit told) first is h = (h, refl, (first, is))
@@ -61,7 +61,7 @@ not_read honest asked faults.InitNotText first is h = absurd h
 not_read honest asked (faults.InitLine number cause) first is h = absurd h
 
 -- its replay was refused
-pub not_replayed : (honest : Bool) (asked : Asked) (script : Option (List ℕ)) (fault : RunFault) (first after : Scene) → IsReadOf asked.init script
+pub not_replayed : (honest : Bool) (asked : AskedRun) (script : Option (List ℕ)) (fault : RunFault) (first after : Scene) → IsReadOf asked.init script
     → IsFirst honest asked.owner.now (list_asked asked) (places_asked asked) first → ReplaysInit first asked.owner.now script (Err fault) after → BeginsNot honest asked script fault
 not_replayed honest asked None fault first after read is (e, same) = absurd cc
 not_replayed honest asked (Some script) fault first after read is (Ok count, e, replays) = absurd cc
@@ -77,6 +77,6 @@ not_replayed honest asked (Some script) fault first after read is (Err (scripts.
     (read, (after, record { first = first; is_first = is; replays = (Err (scripts.Line number cause), refl, replays) }))
 
 -- the same of the same script
-pub by_script : (honest : Bool) (asked : Asked) (s r : Option (Vec ℕ Global)) (fault : RunFault) → s ≡ r → BeginsNot honest asked (option_map (λ v. v.items) r) fault
+pub by_script : (honest : Bool) (asked : AskedRun) (s r : Option (Vec ℕ Global)) (fault : RunFault) → s ≡ r → BeginsNot honest asked (option_map (λ v. v.items) r) fault
     → BeginsNot honest asked (option_map (λ v. v.items) s) fault
 by_script honest asked s r fault e h = subst (λ q. BeginsNot honest asked (option_map (λ v. v.items) q) fault) (sym e) h

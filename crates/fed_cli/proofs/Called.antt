@@ -9,7 +9,7 @@ use Rattle.fed_stream.specs.Streams.{stream}
 use Rattle.fed_stream.specs.declared.stream.Ended.{Ended}
 use Rattle.fed_stream.specs.declared.stream.StreamFault.TheVariants as faults
 use Rattle.fed_stream.proofs.Calls.{writes_no_room}
-use Rattle.fed_cli.specs.Exits.{Tells, TellsRun, TellsWords, Written, WritesRun, WritesIf, is_help}
+use Rattle.fed_cli.specs.Exits.{TellsText, TellsRun, TellsWords, Written, WritesRun, WritesIf, is_help}
 use Rattle.fed_cli.specs.Told.{Came, run_line}
 use Rattle.fed_words.specs.Told.{words_text}
 use Rattle.fed_words.specs.declared.words.WordsFault.{WordsFault}
@@ -30,7 +30,7 @@ nothing_called old = known_self old _ writes_no_room
 -- ---- a text that was written, or a front of it
 
 pub front_told : (held holds : Option (List ℕ)) (old new : Option Outlet) (result : Written) (told : Bool) (text : List ℕ) → told ≡ is_ok result → FrontWritten held holds old new result text
-    → Tells told (stream held holds) text
+    → TellsText told (stream held holds) text
 front_told held holds old new (Ok x) told text e p = record { front = p.front; others = p.others; parts = p.parts; whole = λ _. p.whole; written = p.written }
 front_told held holds old new (Err f) told text e p = record { front = p.front; others = p.others; parts = p.parts; whole = λ yes. absurd cc; written = p.written }
 

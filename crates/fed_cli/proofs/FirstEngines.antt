@@ -36,7 +36,7 @@ use Rattle.fed_words.specs.Words.{places_asked}
 use Rattle.fed_words.specs.declared.places.AskedPlace.{AskedPlace}
 use Rattle.fed_words.specs.declared.places.PlaceKind.{PlaceKind}
 use Rattle.fed_words.specs.declared.places.PlaceKind.TheVariants.{Csv, JsonLines, Sqlite}
-use Rattle.fed_words.specs.declared.words.Asked.{Asked}
+use Rattle.fed_words.specs.declared.words.AskedRun.{AskedRun}
 use Rattle.fed_cli.specs.declared.told.RunFault.{RunFault}
 use Rattle.fed_cli.specs.declared.told.RunFault.TheVariants as faults
 
@@ -258,10 +258,10 @@ no_other fault none labels [] h = h
 no_other fault none labels (f ∷ fs) (inl h) = none labels f h
 no_other fault none labels (f ∷ fs) (inr h) = no_other fault none (labels ++ place_label f ∷ []) fs h.1
 
-pub no_memory : (honest : Bool) (asked : Asked) (fault : RunFault) → fault ≡ faults.NoMemory → HasNoFirst honest asked fault
+pub no_memory : (honest : Bool) (asked : AskedRun) (fault : RunFault) → fault ≡ faults.NoMemory → HasNoFirst honest asked fault
 no_memory honest asked fault e = subst (HasNoFirst honest asked) (sym e) tt
 
-pub places_fail : (honest : Bool) (asked : Asked) (labels : List Label) (fault : RunFault) → labels ≡ labels_before (list_asked asked) → AreNotAdded labels (places_asked asked) fault
+pub places_fail : (honest : Bool) (asked : AskedRun) (labels : List Label) (fault : RunFault) → labels ≡ labels_before (list_asked asked) → AreNotAdded labels (places_asked asked) fault
     → HasNoFirst honest asked fault
 places_fail honest asked labels fault e h = by fault (subst (λ ls. AreNotAdded ls (places_asked asked) fault) e h)
   where
@@ -278,14 +278,14 @@ places_fail honest asked labels fault e h = by fault (subst (λ ls. AreNotAdded 
     by faults.InitNotText p = no_other faults.InitNotText (λ ls f q. q) _ _ p
     by (faults.InitLine number cause) p = no_other (faults.InitLine number cause) (λ ls f q. q) _ _ p
 
-pub places_fail_as : (honest : Bool) (asked : Asked) (labels : List Label) (fs : List Place) (fault : RunFault) → fs ≡ places_asked asked → labels ≡ labels_before (list_asked asked)
+pub places_fail_as : (honest : Bool) (asked : AskedRun) (labels : List Label) (fs : List Place) (fault : RunFault) → fs ≡ places_asked asked → labels ≡ labels_before (list_asked asked)
     → AreNotAdded labels fs fault → HasNoFirst honest asked fault
 places_fail_as honest asked labels fs fault is e h = places_fail honest asked labels fault e (subst (λ l. AreNotAdded labels l fault) is h)
 
 pub adds_as : (honest : Bool) (old new : Shown) (fs gs : List Place) → fs ≡ gs → AddsPlaces honest old fs new → AddsPlaces honest old gs new
 adds_as honest old new fs gs is adds = subst (λ l. AddsPlaces honest old l new) is adds
 
-pub set_up_fails : (honest : Bool) (asked : Asked) (old listed before : Scene) (fault : RunFault) → old ≡ empty_scene asked.owner.now → HasListAsked old (list_asked asked) listed
+pub set_up_fails : (honest : Bool) (asked : AskedRun) (old listed before : Scene) (fault : RunFault) → old ≡ empty_scene asked.owner.now → HasListAsked old (list_asked asked) listed
     → HasPlaces honest listed (places_asked asked) before → SetUpFails before asked.owner.now asked.list fault → HasNoFirst honest asked fault
 set_up_fails honest asked old listed before faults.NoMemory empty l fs h = tt
 set_up_fails honest asked old listed before (faults.CannotOpen told) empty l fs h =

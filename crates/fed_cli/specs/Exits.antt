@@ -17,14 +17,14 @@ use Rattle.fed_words.specs.Words.{places_asked}
 use Rattle.fed_stream.specs.declared.stream.Ended.{Ended}
 use Rattle.fed_stream.specs.declared.stream.StreamFault.{StreamFault}
 use Rattle.fed_cli.specs.declared.told.RunFault.{RunFault}
-use Rattle.fed_words.specs.declared.words.Asked.{Asked}
+use Rattle.fed_words.specs.declared.words.AskedRun.{AskedRun}
 use Rattle.fed_words.specs.declared.words.WordsFault.{WordsFault}
 use Rattle.fed_words.specs.declared.words.WordsFault.TheVariants.{Help, Usage, NoPath, BadName, NoMemory}
 
 -- A run came to this, and these bytes of its init file were read. Where no sources are handed back it did not begin: nothing was read or
 -- written. Else the input was served. What was answered, and why it did not begin, is said where every source is honest: then standard
 -- output got the replies alone.
-abbrev pub Runs : {W : Type 0} → Bool → (W → BoxState) → Asked → Came → Option (List ℕ) → Option (Sources W) → Stream → Stream → Type 0
+abbrev pub Runs : {W : Type 0} → Bool → (W → BoxState) → AskedRun → Came → Option (List ℕ) → Option (Sources W) → Stream → Stream → Type 0
 Runs honest meaning asked came script None input output =
     (fault : RunFault) × (came ≡ Err fault) × (are_honest honest (places_asked asked) ≡ true → BeginsNot honest asked script fault)
     × IsUntouched input × IsUntouched output
@@ -36,7 +36,7 @@ Runs honest meaning asked came script (Some sources) input output =
     × EachBox IsAtRest (states meaning sources.slots.items)
 
 -- A front of this text was written to a stream, and nothing else: all of it where it is told.
-pub record Tells (is_told : Bool) (s : Stream) (text : List ℕ) : Type 0 where
+pub record TellsText (is_told : Bool) (s : Stream) (text : List ℕ) : Type 0 where
   pub front : List ℕ
   pub others : List ℕ
   pub parts : text ≡ front ++ others
@@ -46,16 +46,16 @@ pub record Tells (is_told : Bool) (s : Stream) (text : List ℕ) : Type 0 where
 -- Standard error gets nothing where the input ended, and else the line of the run. A write may fail: then it got a front of it.
 abbrev pub TellsRun : Came → Bool → Stream → Type 0
 TellsRun (Ok x) is_told errors = (is_told ≡ true) × IsUntouched errors
-TellsRun (Err fault) is_told errors = Tells is_told errors (run_line (Err fault))
+TellsRun (Err fault) is_told errors = TellsText is_told errors (run_line (Err fault))
 
 -- Where the words ask no run, standard output gets the help that was asked alone, and else nothing; standard error gets nothing where
 -- help was asked, and else what is told of the words. A write may fail: then a front of it was written.
 abbrev pub TellsWords : WordsFault → Bool → Stream → Stream → Type 0
-TellsWords (Help text) is_told output errors = Tells is_told output (words_text (Help text)) × IsUntouched errors
-TellsWords (Usage text) is_told output errors = IsUntouched output × Tells is_told errors (words_text (Usage text))
-TellsWords (NoPath value) is_told output errors = IsUntouched output × Tells is_told errors (words_text (NoPath value))
-TellsWords (BadName name) is_told output errors = IsUntouched output × Tells is_told errors (words_text (BadName name))
-TellsWords NoMemory is_told output errors = IsUntouched output × Tells is_told errors (words_text NoMemory)
+TellsWords (Help text) is_told output errors = TellsText is_told output (words_text (Help text)) × IsUntouched errors
+TellsWords (Usage text) is_told output errors = IsUntouched output × TellsText is_told errors (words_text (Usage text))
+TellsWords (NoPath value) is_told output errors = IsUntouched output × TellsText is_told errors (words_text (NoPath value))
+TellsWords (BadName name) is_told output errors = IsUntouched output × TellsText is_told errors (words_text (BadName name))
+TellsWords NoMemory is_told output errors = IsUntouched output × TellsText is_told errors (words_text NoMemory)
 
 -- what writes came to
 abbrev pub Written : Type 0

@@ -24,7 +24,7 @@ use Rattle.fed_cli.specs.Told.{Came, replay_told}
 use Rattle.fed_words.specs.Words.{places_asked}
 use Rattle.fed_words.specs.declared.places.PlaceKind.{PlaceKind}
 use Rattle.fed_words.specs.declared.places.PlaceKind.TheVariants.{Csv, JsonLines, Sqlite}
-use Rattle.fed_words.specs.declared.words.Asked.{Asked}
+use Rattle.fed_words.specs.declared.words.AskedRun.{AskedRun}
 use Rattle.fed_cli.specs.declared.told.RunFault.{RunFault}
 use Rattle.fed_cli.specs.declared.told.RunFault.TheVariants as faults
 
@@ -188,16 +188,16 @@ pub record AddsPlaces (honest : Bool) (old : Shown) (places : List Place) (new :
       → (after : World) × HasPlaces honest (over old w) places (over new after) × Agrees new after
 
 -- the name of the list that is asked, if one is
-abbrev pub list_asked : Asked → Option (List ℕ)
+abbrev pub list_asked : AskedRun → Option (List ℕ)
 list_asked asked = option_map (λ s. s.now) asked.list
 
 -- the folders and databases that are asked are not all added beside the list, for this
-abbrev pub PlacesFail : Asked → RunFault → Type 0
+abbrev pub PlacesFail : AskedRun → RunFault → Type 0
 PlacesFail asked fault = AreNotAdded (labels_before (list_asked asked)) (places_asked asked) fault
 
 -- Why a program has no first world: memory was refused; a source is not added, and why; or, all sources being added, a line of
 -- the set-up of its list was refused.
-abbrev pub HasNoFirst : Bool → Asked → RunFault → Type 0
+abbrev pub HasNoFirst : Bool → AskedRun → RunFault → Type 0
 HasNoFirst honest asked faults.NoMemory = Unit {0}
 HasNoFirst honest asked (faults.NameTaken told) = PlacesFail asked (faults.NameTaken told)
 HasNoFirst honest asked (faults.TooManySources told) = PlacesFail asked (faults.TooManySources told)
@@ -242,19 +242,19 @@ pub record Begins (honest : Bool) (owner : List ℕ) (source : Option (List ℕ)
 
 -- A program begins for what is asked with an engine that shows this, and with this script: the engine stands for a world to which its
 -- beginning leads.
-pub record BeginsBy (honest : Bool) (asked : Asked) (script : Option (List ℕ)) (engine : Shown) : Type 0 where
+pub record BeginsBy (honest : Bool) (asked : AskedRun) (script : Option (List ℕ)) (engine : Shown) : Type 0 where
   pub world : World
   pub begins : Begins honest asked.owner.now (list_asked asked) (places_asked asked) script (Ok tt) (over engine world)
   pub agrees : Agrees engine world
 
 -- it comes to this for what is asked, with this script
-abbrev pub BeginsAsked : Bool → Asked → Option (List ℕ) → Came → Type 0
+abbrev pub BeginsAsked : Bool → AskedRun → Option (List ℕ) → Came → Type 0
 BeginsAsked honest asked script came =
     (after : Scene) × Begins honest asked.owner.now (list_asked asked) (places_asked asked) script came after
 
 -- Why a program does not begin, of whose init file these bytes were read: it has no first world, its init file could not be read once its
 -- first world was made, or its replay came to that fault.
-abbrev pub BeginsNot : Bool → Asked → Option (List ℕ) → RunFault → Type 0
+abbrev pub BeginsNot : Bool → AskedRun → Option (List ℕ) → RunFault → Type 0
 BeginsNot honest asked script faults.NoMemory = Unit {0}
 BeginsNot honest asked script (faults.NameTaken told) = HasNoFirst honest asked (faults.NameTaken told)
 BeginsNot honest asked script (faults.TooManySources told) = HasNoFirst honest asked (faults.TooManySources told)

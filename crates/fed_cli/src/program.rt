@@ -27,7 +27,7 @@ use crate::told::{RunFault, add_fault, setup_told, told};
 use fdw_api::interface::Wrapper;
 use fed_replay::replay;
 use fed_words::places::{AskedPlace, PlaceKind};
-use fed_words::words::Asked;
+use fed_words::words::AskedRun;
 use list_wrapper::ListWrapper;
 use med_catalog::law::lists_are_told_nothing;
 use med_session::{Engine, SourceKind, Sources};
@@ -227,7 +227,7 @@ fn set_up<'a, W: Wrapper>(
 // The engine that the program begins with, which has the sources that are asked, and in which the list is set up.
 fn first_engine<'a, V: AllocGlobal + Files + Clone + Databases + Drop>(
     rt: &V,
-    asked: &Asked<'a>,
+    asked: &AskedRun<'a>,
 ) -> Result<Engine<Source<V>>, RunFault<'a>>
     requires { IsUser asked.now.owner.now }
     ensures sound { IfOk result (λ engine. IsSound (shown ⟦<Source<V> as Wrapper>⟧.meaning engine)) }
@@ -306,7 +306,7 @@ pub struct NotBegun<'a> {
 /// replay was refused.
 pub fn begin<'a, V: AllocGlobal + Files + Clone + Databases + Drop>(
     rt: &V,
-    asked: &Asked<'a>,
+    asked: &AskedRun<'a>,
 ) -> Result<Begun<Source<V>>, NotBegun<'a>>
     requires { IsUser asked.now.owner.now }
     ensures sound { IfOk result (λ begun. IsSound (shown ⟦<Source<V> as Wrapper>⟧.meaning begun.engine)) }
@@ -346,7 +346,7 @@ pub fn begin<'a, V: AllocGlobal + Files + Clone + Databases + Drop>(
 /// Where it does not begin, nothing of the input is read and nothing is written.
 pub fn run_asked<'a, V: AllocGlobal + Files + Clone + Databases + Drop, R: Read, W: Write>(
     rt: &V,
-    asked: Asked<'a>,
+    asked: AskedRun<'a>,
     reader: &mut R,
     writer: &mut W,
 ) -> Ran<'a, Source<V>>

@@ -3,7 +3,7 @@ use Rattle.std.proofs.lemmas.Str.{is_utf8-from_IsUtf8, IsUtf8-from_is_utf8}
 use Rattle.std.specs.Str.{IsUtf8, is_utf8}
 use Rattle.std.proofs.Common.{◌≡◌, Bool, true, false, ℕ, List, [], ◌∷◌, Option, Some, None, option_map, Result, Ok, Err, refl, sym, ap, ◌∙◌, subst, inl, inr, lit≤}
 use Rattle.fdw_api.specs.State.{BoxState}
-use Rattle.med_session.specs.Requests.{Asked}
+use Rattle.med_session.specs.Requests.{AskedLine}
 use Rattle.med_session.specs.World.{World, Session, with_session}
 use Rattle.med_session.specs.Engine.{Agrees, Befell, EachRises}
 use Rattle.med_world.specs.Seats.{seat_of, user_of, SeatAgrees}
@@ -24,11 +24,11 @@ use Rattle.fed_replay.specs.declared.script.ScriptFault.TheVariants as fault
 
 -- each step of a state is a step of everything that it stands for
 abbrev pub StepsFollow : {W V : Type 0} → Steps W → Steps V → (W → V → Type 0) → Type 0
-StepsFollow {W} {V} step steps agrees = (old : W) (sid : ℕ) (request : Asked) (reply : List ℕ) (new : W) → step old sid request reply new
+StepsFollow {W} {V} step steps agrees = (old : W) (sid : ℕ) (request : AskedLine) (reply : List ℕ) (new : W) → step old sid request reply new
     → (v : V) → agrees old v → (w : V) × steps v sid request reply w × agrees new w
 
 done_follows : {W V : Type 0} (step : Steps W) (steps : Steps V) (agrees : W → V → Type 0) → StepsFollow step steps agrees
-    → (old : W) (rs : List (ℕ × Asked)) (new : W) → AreDone step old rs new → (v : V) → agrees old v → (w : V) × AreDone steps v rs w × agrees new w
+    → (old : W) (rs : List (ℕ × AskedLine)) (new : W) → AreDone step old rs new → (v : V) → agrees old v → (w : V) × AreDone steps v rs w × agrees new w
 done_follows step steps agrees f old [] new h v a = (v, refl, subst (λ s. agrees s v) (sym h) a)
 done_follows step steps agrees f old (r ∷ rs) new h v a =
     let one = f old session r.1 h.1.0 h.0 h.1.1 v a in
@@ -36,7 +36,7 @@ done_follows step steps agrees f old (r ∷ rs) new h v a =
     (more.0, (one.0, (h.1.0, one.1, h.1.2), more.1), more.2)
 
 ends_follow : {W V : Type 0} (step : Steps W) (steps : Steps V) (agrees : W → V → Type 0) → StepsFollow step steps agrees
-    → (old : W) (r : ℕ × Asked) (why : ScriptFault) (new : W) → Ends step old r why new → (v : V) → agrees old v → (w : V) × Ends steps v r why w × agrees new w
+    → (old : W) (r : ℕ × AskedLine) (why : ScriptFault) (new : W) → Ends step old r why new → (v : V) → agrees old v → (w : V) × Ends steps v r why w × agrees new w
 ends_follow step steps agrees f old r (fault.Line number c) new h v a =
     let one = f old session r.1 _ new h.2 v a in
     (one.0, (h.0, h.1, one.1), one.2)
@@ -100,11 +100,11 @@ same_rises meaning old new same = subst (λ e. EngineRises meaning old e) (sym s
 along : {W : Type 0} (meaning : W → BoxState) (a b c : Engine W) → EngineRises meaning a b → EngineRises meaning b c → EngineRises meaning a c
 along meaning a b c = rise_twice (shown meaning a).boxes (shown meaning b).boxes (shown meaning c).boxes
 
-done_rises : {W : Type 0} (meaning : W → BoxState) (old : Engine W) (rs : List (ℕ × Asked)) (new : Engine W) → AreDone (EngineSteps meaning) old rs new → EngineRises meaning old new
+done_rises : {W : Type 0} (meaning : W → BoxState) (old : Engine W) (rs : List (ℕ × AskedLine)) (new : Engine W) → AreDone (EngineSteps meaning) old rs new → EngineRises meaning old new
 done_rises meaning old [] new h = same_rises meaning old new h
 done_rises meaning old (r ∷ rs) new h = along meaning old h.0 new h.1.1.leads.rises (done_rises meaning h.0 rs new h.2)
 
-ends_rises : {W : Type 0} (meaning : W → BoxState) (old : Engine W) (r : ℕ × Asked) (why : ScriptFault) (new : Engine W) → Ends (EngineSteps meaning) old r why new → EngineRises meaning old new
+ends_rises : {W : Type 0} (meaning : W → BoxState) (old : Engine W) (r : ℕ × AskedLine) (why : ScriptFault) (new : Engine W) → Ends (EngineSteps meaning) old r why new → EngineRises meaning old new
 ends_rises meaning old r (fault.Line number c) new h = h.2.leads.rises
 ends_rises meaning old r fault.NoMemory new (inl h) = same_rises meaning old new h
 ends_rises meaning old r fault.NoMemory new (inr h) = h.leads.rises

@@ -3,7 +3,7 @@ use Rattle.std.proofs.Common.{◌≡◌, ◌<◌, ◌≤◌, ℕ, ◌+◌, suc, 
 use Rattle.std.specs.List.{filter, enumerate_from}
 use Rattle.std.specs.Option.{MatchOption}
 use Rattle.std.proofs.lemmas.List.{map-append}
-use Rattle.med_session.specs.Requests.{Asked, opening, sql}
+use Rattle.med_session.specs.Requests.{AskedLine, opening, sql}
 use Rattle.session_wire.specs.Run.{Steps}
 use Rattle.fed_replay.specs.Scripts.{Numbered, lines_of, is_blank, has_statement, statement_lines}
 use Rattle.fed_replay.specs.Replays.{requests_of, IsDone, AreDone, Ends, Runs}
@@ -64,8 +64,8 @@ next_left : {W : Type 0} (step : Steps W) (old : W) (owner script : List ℕ) (n
 next_left step old owner script new number count text line after h cut filled =
     h.split ∙ ap (λ ls. h.lines ++ ls) (cut_left number text.now line after cut ∙ ap (λ b. cond (not b) ((number + 1, line) ∷ left (number + 1) after) (left (number + 1) after)) filled)
 
-requests_more : (owner : List ℕ) (lines more : List Numbered) → requests_of owner (lines ++ more) ≡ requests_of owner lines ++ map (λ (l : Numbered). let r : ℕ × Asked = (l.0, sql l.1) in r) more
-requests_more owner lines more = ap (λ rs. (0, opening owner) ∷ rs) (map-append (λ (l : Numbered). let r : ℕ × Asked = (l.0, sql l.1) in r) lines more)
+requests_more : (owner : List ℕ) (lines more : List Numbered) → requests_of owner (lines ++ more) ≡ requests_of owner lines ++ map (λ (l : Numbered). let r : ℕ × AskedLine = (l.0, sql l.1) in r) more
+requests_more owner lines more = ap (λ rs. (0, opening owner) ∷ rs) (map-append (λ (l : Numbered). let r : ℕ × AskedLine = (l.0, sql l.1) in r) lines more)
 
 -- a statement is done
 pub done_next : {W : Type 0} (step : Steps W) (old : W) (owner script : List ℕ) (mid new : W) (number count : ℕ) (text : Bor (List ℕ)) (line : List ℕ) (after : Option (Bor (List ℕ)))
@@ -88,7 +88,7 @@ pub ends_next : {W : Type 0} (step : Steps W) (old : W) (owner script : List ℕ
 ends_next step old owner script mid new number count text line after why h cut filled ends = record {
   before = requests_of owner h.lines;
   request = (number + 1, sql line);
-  after = map (λ (l : Numbered). let r : ℕ × Asked = (l.0, sql l.1) in r) (left (number + 1) after);
+  after = map (λ (l : Numbered). let r : ℕ × AskedLine = (l.0, sql l.1) in r) (left (number + 1) after);
   are = ap (requests_of owner) (next_left step old owner script mid number count text line after h cut filled) ∙ requests_more owner h.lines ((number + 1, line) ∷ left (number + 1) after);
   mid = mid;
   done = h.run;
@@ -101,7 +101,7 @@ pub ends_first : {W : Type 0} (step : Steps W) (old : W) (owner : List ℕ) (lin
 ends_first step old owner lines new why ends = record {
   before = [];
   request = (0, opening owner);
-  after = map (λ (l : Numbered). let r : ℕ × Asked = (l.0, sql l.1) in r) lines;
+  after = map (λ (l : Numbered). let r : ℕ × AskedLine = (l.0, sql l.1) in r) lines;
   are = refl;
   mid = old;
   done = refl;

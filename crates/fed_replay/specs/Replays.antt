@@ -3,7 +3,7 @@ use Rattle.std.specs.Prelude.{◌≡◌, ◌≢◌, ◌⊎◌, ℕ, List, [], �
 use Rattle.std.specs.Str.{is_utf8}
 use Rattle.med_value.specs.declared.cause.Cause.{Cause}
 use Rattle.med_value.specs.declared.cause.Cause.TheVariants.{OutOfMemory}
-use Rattle.med_session.specs.Requests.{Asked, opening, sql}
+use Rattle.med_session.specs.Requests.{AskedLine, opening, sql}
 use Rattle.med_session.specs.Replies.{reply_text, refused}
 use Rattle.session_wire.specs.Run.{Steps}
 use Rattle.fed_replay.specs.Scripts.{Numbered, statement_lines}
@@ -20,34 +20,34 @@ refusal_text c = reply_text session (refused c)
 
 -- The requests of a replay, each with the number of its line: the owner's session is opened, as request 0, and then each statement
 -- is a query.
-abbrev pub requests_of : List ℕ → List Numbered → List (ℕ × Asked)
+abbrev pub requests_of : List ℕ → List Numbered → List (ℕ × AskedLine)
 requests_of owner lines = (0, opening owner) ∷ map (λ (l : Numbered). (l.0, sql l.1)) lines
 
 -- from old the request may be answered, by no refusal, and new is what it leaves
-abbrev pub IsDone : {W : Type 0} → Steps W → W → Asked → W → Type 0
+abbrev pub IsDone : {W : Type 0} → Steps W → W → AskedLine → W → Type 0
 IsDone step old request new = (reply : List ℕ) × step old session request reply new × ((c : Cause) → reply ≢ refusal_text c)
 
 -- from old the request may be refused with this cause
-abbrev pub IsRefused : {W : Type 0} → Steps W → W → Asked → Cause → W → Type 0
+abbrev pub IsRefused : {W : Type 0} → Steps W → W → AskedLine → Cause → W → Type 0
 IsRefused step old request c new = step old session request (refusal_text c) new
 
 -- the requests are done one after another, and none of them is refused
-abbrev pub AreDone : {W : Type 0} → Steps W → W → List (ℕ × Asked) → W → Type 0
+abbrev pub AreDone : {W : Type 0} → Steps W → W → List (ℕ × AskedLine) → W → Type 0
 AreDone step old [] new = new ≡ old
 AreDone {W} step old (r ∷ rs) new = (mid : W) × IsDone step old r.1 mid × AreDone step mid rs new
 
 -- How a request ends a replay: it is refused, which is told by its number and its cause; or memory is refused, by 53200 or before it
 -- is begun.
-abbrev pub Ends : {W : Type 0} → Steps W → W → ℕ × Asked → ScriptFault → W → Type 0
+abbrev pub Ends : {W : Type 0} → Steps W → W → ℕ × AskedLine → ScriptFault → W → Type 0
 Ends step old r (fault.Line number c) new = (number ≡ r.0) × (c ≢ OutOfMemory) × IsRefused step old r.1 c new
 Ends step old r fault.NoMemory new = (new ≡ old) ⊎ IsRefused step old r.1 OutOfMemory new
 Ends step old r fault.NotText new = ⊥
 
 -- The requests before one are done, and that one ends the replay. Those after it are not begun.
-pub record Stops {W : Type 0} (step : Steps W) (old : W) (requests : List (ℕ × Asked)) (why : ScriptFault) (new : W) : Type 0 where
-  pub before : List (ℕ × Asked)
-  pub request : ℕ × Asked
-  pub after : List (ℕ × Asked)
+pub record Stops {W : Type 0} (step : Steps W) (old : W) (requests : List (ℕ × AskedLine)) (why : ScriptFault) (new : W) : Type 0 where
+  pub before : List (ℕ × AskedLine)
+  pub request : ℕ × AskedLine
+  pub after : List (ℕ × AskedLine)
   pub are : requests ≡ before ++ request ∷ after
   pub mid : W
   pub done : AreDone step old before mid

@@ -2,7 +2,7 @@
 use Rattle.std.proofs.Common.{◌≡◌, ℕ, Bool, List, Option, option_map, Result, Ok, Err, is_ok, Vec, String, string_bytes, map, refl, sym, subst}
 use Rattle.std.specs.Global.{Global}
 use Rattle.fdw_api.specs.State.{BoxState}
-use Rattle.fed_words.specs.declared.words.Asked.{Asked}
+use Rattle.fed_words.specs.declared.words.AskedRun.{AskedRun}
 use Rattle.fed_cli.specs.Setup.{BeginsNot}
 use Rattle.fed_cli.specs.Exits.{Written}
 use Rattle.fed_cli.proofs.Called.{front_told}
@@ -20,7 +20,7 @@ on_given honest meaning remaining contents words given texts exit input output e
     on_words given is exit (subst (λ ts. Exits honest meaning remaining contents (map string_bytes ts) exit input output errors) same exits) refl
 
 -- the script is the one that was read
-pub by_script : (honest : Bool) (asked : Asked) (s r : Option (Vec ℕ Global)) (fault : RunFault) → s ≡ r → BeginsNot honest asked (option_map (λ v. v.items) r) fault
+pub by_script : (honest : Bool) (asked : AskedRun) (s r : Option (Vec ℕ Global)) (fault : RunFault) → s ≡ r → BeginsNot honest asked (option_map (λ v. v.items) r) fault
     → BeginsNot honest asked (option_map (λ v. v.items) s) fault
 by_script honest asked s r fault e h = subst (λ q. BeginsNot honest asked (option_map (λ v. v.items) q) fault) (sym e) h
 

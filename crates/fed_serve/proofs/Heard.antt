@@ -3,7 +3,7 @@ use Rattle.std.proofs.Common.{◌≡◌, ℕ, Bool, true, List, [], ◌++◌, �
 use Rattle.std.specs.Prelude.{OnOk}
 use Rattle.std.specs.Io.KnownBytes.{Appends}
 use Rattle.med_session.specs.Engine.{Shown}
-use Rattle.fed_cli.specs.Exits.{Tells}
+use Rattle.fed_cli.specs.Exits.{TellsText}
 use Rattle.fed_output.specs.Known.{Known}
 use Rattle.fed_output.specs.Outlets.{Outlet, Does, WritesFront, FlushesAtLast, faults_at_last}
 use Rattle.fed_output.specs.declared.source.GivenUp.{GivenUp}
@@ -26,7 +26,7 @@ heard refuses remaining contents turns last back (Err fault) result old new port
     subst (λ r. Listens remaining contents old port count r new is_told output errors) (sym same) (line, (turns, ends.0, served))
 
 -- a text that was told whole
-pub told_whole : (s : Stream) (told : Bool) (text : List ℕ) → told ≡ true → Tells told s text → Appends s.before s.after text
+pub told_whole : (s : Stream) (told : Bool) (text : List ℕ) → told ≡ true → TellsText told s text → Appends s.before s.after text
 told_whole s told text e t =
     subst (λ l. Appends s.before s.after l) (sym (t.parts ∙ ap (λ l. t.front ++ l) (t.whole e) ∙ append-nil t.front)) t.written
 

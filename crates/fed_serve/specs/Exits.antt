@@ -9,10 +9,10 @@ use Rattle.med_session.specs.declared.adding.Sources.{Sources}
 use Rattle.fed_words.specs.Places.{are_honest}
 use Rattle.fed_words.specs.Told.{told_status}
 use Rattle.fed_words.specs.Words.{Reads, places_asked}
-use Rattle.fed_words.specs.declared.words.Asked.{Asked}
+use Rattle.fed_words.specs.declared.words.AskedRun.{AskedRun}
 use Rattle.fed_words.specs.declared.words.Service.TheVariants.{StandardInput, Connections}
 use Rattle.fed_words.specs.declared.words.WordsFault.{WordsFault}
-use Rattle.fed_cli.specs.Exits.{Runs, Tells, TellsRun, TellsWords, Written}
+use Rattle.fed_cli.specs.Exits.{Runs, TellsText, TellsRun, TellsWords, Written}
 use Rattle.fed_cli.specs.Setup.{BeginsBy, BeginsNot, IsReadOf}
 use Rattle.fed_output.specs.Outlets.{Outlet, FrontWritten}
 use Rattle.fed_stream.specs.Streams.{Stream, stream, IsUntouched}
@@ -40,7 +40,7 @@ listen_line (Err fault) = codes "fedq: " ++ listen_text fault ++ codes "\n"
 -- Standard error gets nothing where all were served, and else that line. A write may fail: then it got a front of it.
 abbrev pub TellsListened : Listened → Bool → Stream → Type 0
 TellsListened (Ok x) is_told errors = (is_told ≡ true) × IsUntouched errors
-TellsListened (Err fault) is_told errors = Tells is_told errors (listen_line (Err fault))
+TellsListened (Err fault) is_told errors = TellsText is_told errors (listen_line (Err fault))
 
 -- That line was written to a sink, or a front of it and then a call was given up; nothing was done to it where all were served.
 abbrev pub WritesListened : Listened → Written → Option (List ℕ) → Option (List ℕ) → Option Outlet → Option Outlet → Type 0
@@ -50,7 +50,7 @@ WritesListened (Err fault) result held holds old new = FrontWritten held holds o
 -- Connections to a port were served for what is asked, with this script, and it came to this: an engine with which the program begins, where
 -- every source is honest, served them, and once its sessions are closed its boxes are the last ones. Standard error got the lines of
 -- connections, and then the last one.
-pub record ServesPort {R S : Type 0} (honest : Bool) (remaining : R → Option (List ℕ)) (contents : S → Option (List ℕ)) (asked : Asked)
+pub record ServesPort {R S : Type 0} (honest : Bool) (remaining : R → Option (List ℕ)) (contents : S → Option (List ℕ)) (asked : AskedRun)
     (script : Option (List ℕ)) (last : List (Option BoxState)) (port count : ℕ) (came : Listened) (is_told : Bool)
     (output errors : Stream) : Type 0 where
   pub engine : Shown
@@ -72,7 +72,7 @@ script_of exit = option_map (λ v. v.items) exit.script
 
 -- so many connections to a port are asked, and the program exits so, with this done to standard output and standard error
 pub data ServesAsked {W R S : Type 0} (honest : Bool) (meaning : W → BoxState) (remaining : R → Option (List ℕ))
-    (contents : S → Option (List ℕ)) (asked : Asked) (port count : ℕ) (exit : Exit W) (output errors : Stream) : Type 0 where
+    (contents : S → Option (List ℕ)) (asked : AskedRun) (port count : ℕ) (exit : Exit W) (output errors : Stream) : Type 0 where
   -- it did not begin, for this: nothing was listened to
   has_not_begun : (fault : RunFault) → (are_honest honest (places_asked asked) ≡ true → BeginsNot honest asked (script_of exit) fault)
       → exit.sources ≡ None → IsUntouched output → exit.status ≡ run_status (Err fault) → TellsRun (Err fault) exit.is_told errors
@@ -88,11 +88,11 @@ pub data ServesAsked {W R S : Type 0} (honest : Bool) (meaning : W → BoxState)
 pub data Exits {W R S : Type 0} (honest : Bool) (meaning : W → BoxState) (remaining : R → Option (List ℕ)) (contents : S → Option (List ℕ))
     (words : List (List ℕ)) (exit : Exit W) (input output errors : Stream) : Type 0 where
   -- the words ask for a run
-  has_run : (asked : Asked) → Reads words (Ok asked) → asked.service ≡ StandardInput → (came : Came)
+  has_run : (asked : AskedRun) → Reads words (Ok asked) → asked.service ≡ StandardInput → (came : Came)
       → Runs honest meaning asked came (script_of exit) exit.sources input output → exit.status ≡ run_status came
       → TellsRun came exit.is_told errors → Exits honest meaning remaining contents words exit input output errors
   -- they ask for connections
-  has_served : (asked : Asked) → Reads words (Ok asked) → (port count : ℕ) → asked.service ≡ Connections port count → IsUntouched input
+  has_served : (asked : AskedRun) → Reads words (Ok asked) → (port count : ℕ) → asked.service ≡ Connections port count → IsUntouched input
       → ServesAsked honest meaning remaining contents asked port count exit output errors
       → Exits honest meaning remaining contents words exit input output errors
   -- they do not ask for either
@@ -118,5 +118,5 @@ pub data ExitsBy {W R S : Type 0} (honest : Bool) (meaning : W → BoxState) (re
       → Exits honest meaning remaining contents (map string_bytes given.items) exit input output errors
       → status ≡ exit.status → ExitsBy honest meaning remaining contents words status input output errors
   on_none : (fault : ArgsFault) → words ≡ Err fault → IsUntouched input → IsUntouched output → status ≡ args_status fault
-      → (is_told : Bool) → Tells is_told errors (args_line fault)
+      → (is_told : Bool) → TellsText is_told errors (args_line fault)
       → ExitsBy honest meaning remaining contents words status input output errors

@@ -7,7 +7,7 @@ use Rattle.std.specs.declared.net.ip_addr.IpAddr.TheVariants.{V4}
 use Rattle.std.specs.declared.net.ipv4_addr.Ipv4Addr.{Ipv4Addr}
 use Rattle.std.specs.declared.net.socket_addr.SocketAddr.{SocketAddr}
 use Rattle.med_session.specs.Engine.{Shown}
-use Rattle.fed_cli.specs.Exits.{Tells}
+use Rattle.fed_cli.specs.Exits.{TellsText}
 use Rattle.fed_output.specs.Outlets.{Outlet, Does, faults_at_last}
 use Rattle.fed_output.specs.declared.source.GivenUp.{GivenUp}
 use Rattle.fed_output.specs.declared.source.GivenUp.TheVariants as given_up
@@ -56,7 +56,7 @@ abbrev pub Listens : {R W : Type 0} → (R → Option (List ℕ)) → (W → Opt
 Listens remaining contents old port count (Err (faults.CannotListen told)) new is_told output errors =
     (told ≡ port) × IsUntouched output × ServesNone old new is_told errors
 Listens remaining contents old port count (Err faults.Write) new is_told output errors =
-    Tells false output (port_line port) × ServesNone old new is_told errors
+    TellsText false output (port_line port) × ServesNone old new is_told errors
 Listens {R} {W} remaining contents old port count (Err faults.Accept) new is_told output errors =
     Appends output.before output.after (port_line port)
     × ((turns : List (Turn R W)) × (length turns < count) × AreServed remaining contents old turns new is_told errors)

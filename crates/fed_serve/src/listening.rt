@@ -2,7 +2,7 @@
 ghost use Rattle.std.specs.Prelude.{◌≡◌, ◌<◌, Err, IfErr, is_ok};
 ghost use Rattle.std.specs.Net.Socket.{socket_port};
 ghost use Rattle.fed_stream.specs.Streams.{stream};
-ghost use Rattle.fed_cli.specs.Exits.{Tells};
+ghost use Rattle.fed_cli.specs.Exits.{TellsText};
 ghost use Rattle.fed_output.specs.Known.{Known};
 ghost use Rattle.fed_output.specs.declared.source.GivenUp.{GivenUp};
 ghost use Rattle.fed_serve.specs.Listens.{CallsPort, IsLocal, Listens, listened, port_line};
@@ -149,7 +149,7 @@ pub fn listen_and_serve<B: Wrapper, V: AllocGlobal + Net, O: Sink, E: Sink>(
 
 // Tells the port on standard output, and flushes it. A write or flush that is interrupted is tried again.
 fn tell_port<O: Sink>(port: u16, output: &mut O) -> Result<(), GivenUp>
-    ensures told { Tells (is_ok result) (stream (O.contents output.old) (O.contents output.new)) (port_line port) }
+    ensures told { TellsText (is_ok result) (stream (O.contents output.old) (O.contents output.new)) (port_line port) }
     ensures calls { Known (O.outlet output.old) (O.outlet output.new) (λ old new. CallsPort old new result) }
 {
     let mut digits = Buffer::new();

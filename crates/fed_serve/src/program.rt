@@ -13,7 +13,7 @@ use fed_cli::telling::{tell_run, tell_words};
 use fed_cli::told::status;
 use fed_output::{GivenUp, Sink, write_front};
 use fed_tell::write_line;
-use fed_words::words::{Asked, Service, read_words};
+use fed_words::words::{AskedRun, Service, read_words};
 use itoa::Buffer;
 use med_session::Sources;
 use source_kinds::Source;
@@ -82,7 +82,7 @@ fn not_begun<'a, W: Drop, E: Sink>(refused: NotBegun<'a>, errors: &mut E) -> Exi
 /// Where it does not begin, nothing is listened to and nothing is written to the first output.
 pub fn serve_asked<V: AllocGlobal + Files + Clone + Databases + Drop + Net, O: Write, E: Write>(
     rt: &V,
-    asked: Asked<'_>,
+    asked: AskedRun<'_>,
     port: u16,
     count: u16,
     output: &mut O,

@@ -1,7 +1,7 @@
 -- A table of the box in a slot, bound and let go.
 use Rattle.std.proofs.Common.{◌≡◌, ℕ, List, [], Option, Some, None, IsSome, refl, sym, ◌∙◌, ap, subst, rules}
 use Rattle.std.specs.FinMap as finmap
-use Rattle.fdw_api.specs.Kinds.{Column, Setting}
+use Rattle.fdw_api.specs.Kinds.{Column, OptionForm}
 use Rattle.fdw_api.specs.State.{BoxState, IsIdle, set_at}
 use Rattle.fdw_api.specs.Calls.{CanBind, Binds, CanUnbind}
 use Rattle.med_exec.specs.Slots.{BoxAt, ChangesAt}
@@ -19,7 +19,7 @@ not_none o a e f = absurd cc
 set_same : {A : Type 0} (f : ℕ → A) (k : ℕ) (a : A) → set_at f k a k ≡ a
 set_same f k a = search rules
 
-idle_can_bind : (s : BoxState) (remote : List ℕ) (columns : List Column) (settings : List Setting) → IsIdle s → s.nature.kind.objections columns settings ≡ [] → CanBind s remote columns settings
+idle_can_bind : (s : BoxState) (remote : List ℕ) (columns : List Column) (settings : List OptionForm) → IsIdle s → s.nature.kind.objections columns settings ≡ [] → CanBind s remote columns settings
 idle_can_bind s remote columns settings idle no_objection = record {
   free = λ t b is. absurd (not_none (s.ledger.tables t) b (idle.no_table t) is);
   no_objection = no_objection;
@@ -29,7 +29,7 @@ idle_can_bind s remote columns settings idle no_objection = record {
 pub takes_bind : (s : BoxState) (remote : List ℕ) (columns : List Column) → IsIdle s → TakesColumns s → CanBind s remote columns []
 takes_bind s remote columns idle takes = idle_can_bind s remote columns [] idle (takes columns)
 
-pub bound_can_unbind : (old new : BoxState) (remote : List ℕ) (columns : List Column) (settings : List Setting) (t : ℕ) → IsIdle old → Binds old remote columns settings t new → CanUnbind new t
+pub bound_can_unbind : (old new : BoxState) (remote : List ℕ) (columns : List Column) (settings : List OptionForm) (t : ℕ) → IsIdle old → Binds old remote columns settings t new → CanUnbind new t
 bound_can_unbind old new remote columns settings t idle b = record {
   is_bound = subst IsSome (sym (ap (λ z. z.tables t) b.ledger ∙ set_same old.ledger.tables t (Some b.bound))) refl;
   no_scan = λ n scan is. absurd (not_none (finmap.get new.ledger.live n) scan (ap (λ z. finmap.get z.live n) b.ledger ∙ idle.no_scan n) is);
@@ -51,5 +51,5 @@ follows_at Q R boxes slot f b = record { box = b.box; there = b.there; holds = f
 pub new_can_bind : (boxes : List (Option BoxState)) (slot : ℕ) (remote : List ℕ) (columns : List Column) → BoxAt boxes slot (λ s. IsIdle s × TakesColumns s) → BoxAt boxes slot (λ s. CanBind s remote columns [])
 new_can_bind boxes slot remote columns = follows_at _ _ boxes slot (λ s q. takes_bind s remote columns q.0 q.1)
 
-pub bound_rests : (old new : List (Option BoxState)) (slot t : ℕ) (remote : List ℕ) (columns : List Column) (settings : List Setting) → BoxAt old slot (λ s. IsIdle s × TakesColumns s) → ChangesAt old slot (λ s r. Binds s remote columns settings t r) new → BoxAt new slot (λ s. CanUnbind s t)
+pub bound_rests : (old new : List (Option BoxState)) (slot t : ℕ) (remote : List ℕ) (columns : List Column) (settings : List OptionForm) → BoxAt old slot (λ s. IsIdle s × TakesColumns s) → ChangesAt old slot (λ s r. Binds s remote columns settings t r) new → BoxAt new slot (λ s. CanUnbind s t)
 bound_rests old new slot t remote columns settings = moves_on _ _ _ old new slot (λ s r q b. bound_can_unbind s r remote columns settings t q.0 b)

@@ -11,7 +11,7 @@ use fdw_api::interface::Counts;
 use fed_cli::program::run_asked;
 use fed_cli::told::RunFault;
 use fed_cli::{StreamFault, serve_stream};
-use fed_words::words::{Asked, Service};
+use fed_words::words::{AskedRun, Service};
 use list_wrapper::ListWrapper;
 use med_session::{Engine, NoRoom, Request, Sid};
 use session_wire::{FeedFault, Handler, Server};
@@ -146,7 +146,7 @@ fn answers_to_piece(came: Result<(), RunFault<'_>>) -> &'static [&'static [u8]] 
 fn refused_allocation_leaves_whole_replies(rt: HostRuntime) -> Result<(), Fail> {
     let mut out = Vec::new(rt.alloc());
     let mut input = STORED;
-    let asked = Asked {
+    let asked = AskedRun {
         owner: "admin",
         list: Some("demo"),
         places: Vec::new(rt.alloc()),

@@ -11,7 +11,7 @@ use Rattle.fed_words.specs.declared.places.PlaceFault.TheVariants as places
 use Rattle.fed_words.specs.declared.places.PlaceKind.TheVariants as kinds
 use Rattle.fed_words.specs.CommandLine.{command_line, command_in, value_in, faults, owner_named, list_named, init_named, IsHelp}
 use Rattle.fed_words.specs.CommandLine.{csv_given, jsonl_given, sqlite_given, places_given}
-use Rattle.fed_words.specs.declared.words.Asked.{Asked}
+use Rattle.fed_words.specs.declared.words.AskedRun.{AskedRun}
 use Rattle.fed_words.specs.declared.words.Service.{Service}
 use Rattle.fed_words.specs.declared.words.Service.TheVariants.{StandardInput, Connections}
 use Rattle.fed_words.specs.declared.words.WordsFault.{WordsFault}
@@ -32,7 +32,7 @@ places_named words =
     ++ map (place_in kinds.Sqlite) (sqlite_given words)
 
 -- the folders and databases that are asked
-abbrev pub places_asked : Asked → List Place
+abbrev pub places_asked : AskedRun → List Place
 places_asked asked = map place_of asked.places.items
 
 -- a text says this number in decimal digits, and it is from 1 to the most
@@ -70,7 +70,7 @@ IsNumberRefusal _ = ⊥
 
 -- The words ask this: an owner of this name, the list under the name that they give it, if they do, the places that they name, and the
 -- init file that they name, if they do, and what their command serves. Each name is a user's name that is no reserved word.
-pub record Ask (words : List Text) (asked : Asked) : Type 0 where
+pub record Ask (words : List Text) (asked : AskedRun) : Type 0 where
   pub owner : asked.owner.now ≡ owner_named words
   pub is_owner : IsSourceName asked.owner.now
   pub list : option_map (λ s. s.now) asked.list ≡ list_named words
@@ -103,7 +103,7 @@ IsBadName words name =
 -- What words are read as. Words against which nothing stands ask for a run, if the names and places that they give are good, and else the
 -- first bad one is told: the owner's name, the list's, and then the values of places; words that ask for help are told it;
 -- any others are refused, and so are those with a number that is not in its range. Want of memory may take the place of each.
-abbrev pub Reads : List Text → Result Asked WordsFault → Type 0
+abbrev pub Reads : List Text → Result AskedRun WordsFault → Type 0
 Reads words (Ok asked) = (faults words ≡ []) × Ask words asked
 Reads words (Err (Help text)) = (kind : ErrorKind) × IsAmong kind (faults words) × IsHelp kind
 Reads words (Err (Usage text)) =

@@ -5,4 +5,4 @@ pub mod places;
 pub mod words;
 
 pub use places::{AskedPlace, PlaceFault, PlaceKind};
-pub use words::{Asked, WordsFault, read_words};
+pub use words::{AskedRun, WordsFault, read_words};

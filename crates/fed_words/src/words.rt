@@ -93,7 +93,7 @@ pub enum Service {
 
 /// What the words ask.
 #[derive(Debug, Drop)]
-pub struct Asked<'a> {
+pub struct AskedRun<'a> {
     /// The name of the engine's owner.
     pub owner: &'a str,
     /// The name of the source that the demo list is to be, if one is given.
@@ -419,7 +419,10 @@ fn number_refusal<'a>(alloc: Global) -> WordsFault<'a>
 }
 
 /// What the program's words ask, the first word being its own name.
-pub fn read_words<'a, S: AsStr>(alloc: Global, words: &'a [S]) -> Result<Asked<'a>, WordsFault<'a>>
+pub fn read_words<'a, S: AsStr>(
+    alloc: Global,
+    words: &'a [S],
+) -> Result<AskedRun<'a>, WordsFault<'a>>
     ensures { Reads (map S.text words.entry.now) result }
 {
     let Ok(command) = command(alloc) else {
@@ -445,7 +448,7 @@ pub fn read_words<'a, S: AsStr>(alloc: Global, words: &'a [S]) -> Result<Asked<'
         Err(fault) => return Err(place_refusal(fault)),
     };
     let init = value_of(&matches, "init");
-    Ok(Asked {
+    Ok(AskedRun {
         owner,
         list,
         places,

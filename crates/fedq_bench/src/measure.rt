@@ -4,7 +4,7 @@ ghost use Rattle.med_session.specs.Shows.{shown};
 ghost use Rattle.list_wrapper.specs.ListBoxes.{box_of};
 
 use bench_tables::setup::{BenchFault, bench_engine};
-use bench_tables::words::{Asked, read_words};
+use bench_tables::words::{AskedBench, read_words};
 use list_wrapper::ListWrapper;
 use med_session::{Engine, Request, Sid};
 use std::alloc::{AllocError, Global};
@@ -62,8 +62,8 @@ fn measure<R: AllocGlobal + Clock + Print + Eprint>(
 // Does what the words ask, and gives the exit status.
 fn run_words<R: AllocGlobal + Clock + Print + Eprint>(rt: &R, words: &[String]) -> u8 {
     match read_words(words) {
-        Some(Asked::Nothing) => 0,
-        Some(Asked::Measure { rows, sql }) => match measure(rt, rows, sql) {
+        Some(AskedBench::Nothing) => 0,
+        Some(AskedBench::Measure { rows, sql }) => match measure(rt, rows, sql) {
             Ok(()) => 0,
             Err(fault) => {
                 let _ = eprintln!(rt; "fedq_bench: {fault}");

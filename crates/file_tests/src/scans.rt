@@ -2,8 +2,8 @@
 ghost use Rattle.std.specs.Prelude.{◌≡◌, [], map, Some, IfOk, OnOk, IsSome};
 ghost use Rattle.med_value.specs.Datum.{datum};
 ghost use Rattle.fdw_api.specs.Kinds.{column_of, kinds_of};
-ghost use Rattle.fdw_api.specs.Scan.{check_of, filter_of, check_fits, params_fit, has_kind};
-ghost use Rattle.fdw_api.specs.State.{Bound, IsIdle, table_of, scan_of};
+ghost use Rattle.fdw_api.specs.Scan.{test_form, restriction_form, test_fits, params_fit, has_kind};
+ghost use Rattle.fdw_api.specs.State.{BoxTable, IsIdle, table_of, scan_of};
 ghost use Rattle.fdw_api.specs.Calls.{CanRescan};
 ghost use Rattle.fdw_api.specs.Writes.{CanModify};
 
@@ -67,7 +67,7 @@ fn has_kind(kind: ColType, value: &Value) -> bool
 
 /// Whether the parameter that a restriction names is there, with a value of its column's type.
 fn fits_one(kinds: &[ColType], restriction: &Restriction, params: &[Value]) -> bool
-    ensures { result ≡ check_fits kinds.now (map datum params.now) restriction.now.column (check_of restriction.now.test) }
+    ensures { result ≡ test_fits kinds.now (map datum params.now) restriction.now.column (test_form restriction.now.test) }
 {
     match &restriction.test {
         Test::Compare(_, Operand::Parameter(at)) => match params.get(*at) {
@@ -83,7 +83,7 @@ fn fits_one(kinds: &[ColType], restriction: &Restriction, params: &[Value]) -> b
 
 /// Whether all parameters that restrictions name are there, with values of their columns' types.
 fn fits(kinds: &[ColType], offered: &[Restriction], params: &[Value]) -> bool
-    ensures { result ≡ params_fit kinds.now (map filter_of offered.now) (map datum params.now) }
+    ensures { result ≡ params_fit kinds.now (map restriction_form offered.now) (map datum params.now) }
 {
     let mut offered = offered;
     while let Some((restriction, others)) = offered.split_first() {
@@ -157,7 +157,7 @@ pub fn scan<W: Wrapper>(
     out: &mut Vec<u8>,
 ) -> Result<(), Fault>
     requires bound { IsSome (table_of (W.meaning source.old) table.number) }
-    requires kinds { (bound : Bound) → table_of (W.meaning source.old) table.number ≡ Some bound → bound.kinds ≡ kinds.now }
+    requires kinds { (bound : BoxTable) → table_of (W.meaning source.old) table.number ≡ Some bound → bound.kinds ≡ kinds.now }
 {
     let Asked {
         wanted,
@@ -195,7 +195,7 @@ pub fn bind_new<W: Wrapper>(
     requires free { (W.meaning source.old).nature.kind.objections (map column_of columns.now) [] ≡ [] }
     ensures bound { IfOk result (λ t. IsSome (table_of (W.meaning source.new) t.number)) }
     ensures modify { IfOk result (λ t. CanModify (W.meaning source.new) t.number) }
-    ensures kinds { IfOk result (λ t. (bound : Bound) → table_of (W.meaning source.new) t.number ≡ Some bound
+    ensures kinds { IfOk result (λ t. (bound : BoxTable) → table_of (W.meaning source.new) t.number ≡ Some bound
         → bound.kinds ≡ kinds_of (map column_of columns.now)) }
 {
     source.bind(alloc, remote, columns, &[])

@@ -1,5 +1,5 @@
 -- What the end of a write does to a list wrapper.
-use Rattle.std.proofs.Common.{◌≡◌, ◌≢◌, ℕ, ◌+◌, ◌<◌, ◌≤◌, ◌⊎◌, Bool, true, false, not, ◌&&◌, nat_lt, List, [], ◌∷◌, Option, Some, None, IsSome, length, map, option_map, slice_get, slice_index_or, slice_set, zero, suc, refl, ap, sym, ◌∙◌, subst, rules, eqb, inl, inr}
+use Rattle.std.proofs.Common.{◌≡◌, ◌≢◌, ℕ, ◌+◌, ◌<◌, ◌≤◌, ◌⊎◌, Bool, true, false, not, ◌&&◌, nat_lt, List, [], ◌∷◌, Option, Some, None, IsSome, length, map, option_map, slice_get, slice_index_or, slice_set, zero, suc, refl, ap, sym, ◌∙◌, subst, rules, eqb, inl, inr, bytes_eq}
 use Rattle.std.specs.List.{list_all}
 use Rattle.std.specs.Ordering.{nat_cmp}
 use Rattle.std.specs.String.{string_bytes}
@@ -10,7 +10,7 @@ use lib.Pointwise.{bytes_decides}
 use Rattle.med_value.specs.Datum.{Tuple, tuple}
 use Rattle.med_value.specs.declared.value.Row.{Row}
 use Rattle.fdw_api.specs.Kinds.{Entry, Held, held, Known, Stored}
-use Rattle.fdw_api.specs.State.{Bound, Scan}
+use Rattle.fdw_api.specs.State.{BoxTable, Scan}
 use Rattle.fdw_api.specs.Scan.{row_fits, TableRow}
 use Rattle.fdw_api.specs.Kinds.{Change, all_fit}
 use Rattle.med_value.specs.declared.value.ColType.{ColType}
@@ -24,7 +24,7 @@ use Rattle.fdw_api.specs.declared.interface.Fault.TheVariants.{Refused}
 use Rattle.list_wrapper.specs.declared.list.ListTable.{ListTable}
 use Rattle.list_wrapper.specs.declared.list.ListScan.{ListScan}
 use Rattle.list_wrapper.specs.declared.changes.ListWrite.{ListWrite}
-use Rattle.list_wrapper.specs.Lists.{entry_of, listed, rows_fit, names_differ, same_text, no_line, list_refusals}
+use Rattle.list_wrapper.specs.Lists.{entry_of, listed, rows_fit, names_differ, no_line, list_refusals}
 use Rattle.list_wrapper.specs.Changes.{as_held, change_is, write_is}
 use Rattle.list_wrapper.specs.Scans.{numbered, rows_at, listed_rows, listed_kinds, kinds_at, stored, bound_of, marked_bound, mapped, list_state, scan_rows, scan_is, write_fits}
 use Rattle.list_wrapper.proofs.Maps.{mapped_get}
@@ -70,7 +70,7 @@ same_bound ts t q x y b e s = split (eqb_tells q t)
     split (inl w) = rw (w.1, set_there ts t x y e, e) (case b)
       where
         case : (b : Bool) → marked_bound b (Some y) ≡ marked_bound b (Some x)
-        case true = ap (λ (z : Bound). Some z) s
+        case true = ap (λ (z : BoxTable). Some z) s
         case false = refl
     split (inr w) = rw (set_other ts t q y w.1) refl
 
@@ -86,28 +86,28 @@ none_there : (t : ℕ) (x : ListTable) → slice_get [] t ≡ Some x → ⊥
 none_there zero x e = cc
 none_there (suc t) x e = cc
 
-differs : (a b : List ℕ) → (a ≡ b → ⊥) → same_text a b ≡ false
-differs a b ne = go (same_text a b) refl
+differs : (a b : List ℕ) → (a ≡ b → ⊥) → bytes_eq a b ≡ false
+differs a b ne = go (bytes_eq a b) refl
   where
-    go : (f : Bool) → same_text a b ≡ f → same_text a b ≡ false
+    go : (f : Bool) → bytes_eq a b ≡ f → bytes_eq a b ≡ false
     go true e = absurd (ne ((bytes_decides a b).0 e))
     go false e = e
 
-same_self : (a : List ℕ) → same_text a a ≡ true
+same_self : (a : List ℕ) → bytes_eq a a ≡ true
 same_self a = (bytes_decides a a).1 refl
 
 -- a later table has another name
-later_differs : (n : List ℕ) (ts : List ListTable) (t : ℕ) (x : ListTable) → list_all (λ u. not (same_text n u.name)) (map listed ts) ≡ true → slice_get ts t ≡ Some x → same_text n (string_bytes x.name) ≡ false
+later_differs : (n : List ℕ) (ts : List ListTable) (t : ℕ) (x : ListTable) → list_all (λ u. not (bytes_eq n u.name)) (map listed ts) ≡ true → slice_get ts t ≡ Some x → bytes_eq n (string_bytes x.name) ≡ false
 later_differs n [] t x d e = absurd (none_there t x e)
-later_differs n (y ∷ ts) zero x d e = subst (λ (w : ListTable). same_text n (string_bytes w.name) ≡ false) (some_inj y x e) (not_true _ (both (not (same_text n (string_bytes y.name))) _ d).0)
-later_differs n (y ∷ ts) (suc t) x d e = later_differs n ts t x (both (not (same_text n (string_bytes y.name))) _ d).1 e
+later_differs n (y ∷ ts) zero x d e = subst (λ (w : ListTable). bytes_eq n (string_bytes w.name) ≡ false) (some_inj y x e) (not_true _ (both (not (bytes_eq n (string_bytes y.name))) _ d).0)
+later_differs n (y ∷ ts) (suc t) x d e = later_differs n ts t x (both (not (bytes_eq n (string_bytes y.name))) _ d).1 e
 
 -- under its name stands the table
 entry_is : (ts : List ListTable) (t : ℕ) (x : ListTable) → names_differ (map listed ts) ≡ true → slice_get ts t ≡ Some x → entry_of (map listed ts) (string_bytes x.name) ≡ Some (stored x)
 entry_is [] t x d e = absurd (none_there t x e)
 entry_is (z ∷ ts) zero x d e = subst (λ (w : ListTable). entry_of (map listed (w ∷ ts)) (string_bytes x.name) ≡ Some (stored x)) (sym (some_inj z x e)) (rw (same_self (string_bytes x.name)) refl)
 entry_is (z ∷ ts) (suc t) x d e =
-    let w = both (list_all (λ u. not (same_text (string_bytes z.name) u.name)) (map listed ts)) (names_differ (map listed ts)) d in
+    let w = both (list_all (λ u. not (bytes_eq (string_bytes z.name) u.name)) (map listed ts)) (names_differ (map listed ts)) d in
     rw (later_differs (string_bytes z.name) ts t x w.0 e) (entry_is ts t x w.1 e)
 
 -- under another name stands what stood there
@@ -119,7 +119,7 @@ entry_other (z ∷ ts) zero x y name e s ne =
     rw (dy, dz) refl
 entry_other (z ∷ ts) (suc t) x y name e s ne = rw (entry_other ts t x y name e s ne) refl
 
-all_stay : (n : List ℕ) (ts : List ListTable) (t : ℕ) (x y : ListTable) → slice_get ts t ≡ Some x → y.name ≡ x.name → list_all (λ u. not (same_text n u.name)) (map listed (slice_set ts t y)) ≡ list_all (λ u. not (same_text n u.name)) (map listed ts)
+all_stay : (n : List ℕ) (ts : List ListTable) (t : ℕ) (x y : ListTable) → slice_get ts t ≡ Some x → y.name ≡ x.name → list_all (λ u. not (bytes_eq n u.name)) (map listed (slice_set ts t y)) ≡ list_all (λ u. not (bytes_eq n u.name)) (map listed ts)
 all_stay n [] t x y e s = refl
 all_stay n (z ∷ ts) zero x y e s = rw (s, ap (λ (w : ListTable). w.name) (sym (some_inj z x e))) refl
 all_stay n (z ∷ ts) (suc t) x y e s = rw (all_stay n ts t x y e s) refl
@@ -159,7 +159,7 @@ list_closes tables bound m s next pulled x y marked is distinct en ek er small s
       is_staged = refl;
       ledger =
           ap (λ (f : ListScan → Scan). record (list_state (slice_set tables s.table y) bound m None next pulled).ledger { live = mapped f m.entries }) (λ i z. same_scan tables s.table x y z is ek i)
-          ∙ ap (λ (f : ℕ → Option Bound). record (list_state tables bound m None next pulled).ledger { tables = f }) (λ i q. same_bound tables s.table q x y (slice_index_or bound q false) is (same en ek) i);
+          ∙ ap (λ (f : ℕ → Option BoxTable). record (list_state tables bound m None next pulled).ledger { tables = f }) (λ i q. same_bound tables s.table q x y (slice_index_or bound q false) is (same en ek) i);
       content = λ honest. record {
         bound = bound_of x;
         is = rw (marked, is) refl;
@@ -230,10 +230,10 @@ list_refuses tables bound m s staged after keep next pulled x y es ea k is er la
     one : Contains (TooLarge ∷ []) TooLarge
     one = search rules
 
-    in_it : (entry : Option Entry) (f : Bool) (o : Option ListTable) (b : Bound) → marked_bound f o ≡ Some b → Contains (b.refuses.causes entry (numbered 0 (rows_at tables s.table)) (map change_is s.changes.items)) TooLarge
+    in_it : (entry : Option Entry) (f : Bool) (o : Option ListTable) (b : BoxTable) → marked_bound f o ≡ Some b → Contains (b.refuses.causes entry (numbered 0 (rows_at tables s.table)) (map change_is s.changes.items)) TooLarge
     in_it entry false o b e = absurd cc
     in_it entry true None b e = absurd cc
-    in_it entry true (Some z) b e = subst (λ (v : Bound). Contains (v.refuses.causes entry (numbered 0 (rows_at tables s.table)) (map change_is s.changes.items)) TooLarge) (some_inj (bound_of z) b e) (subst (λ (l : List Cause). Contains l TooLarge) (sym (causes entry)) one)
+    in_it entry true (Some z) b e = subst (λ (v : BoxTable). Contains (v.refuses.causes entry (numbered 0 (rows_at tables s.table)) (map change_is s.changes.items)) TooLarge) (some_inj (bound_of z) b e) (subst (λ (l : List Cause). Contains l TooLarge) (sym (causes entry)) one)
 
 -- the rows of a table that a write leaves are of its types
 fit_at : (ts : List ListTable) (t : ℕ) (x : ListTable) → slice_get ts t ≡ Some x → rows_fit (map listed ts) ≡ true → list_all (row_fits x.kinds.items) (map tuple x.rows.items) ≡ true

@@ -11,10 +11,10 @@ use Rattle.std.proofs.lemmas.List.Elements.{filter_passes, All-weaker}
 use Rattle.med_value.specs.Datum.{Tuple, datum, tuple}
 use Rattle.med_value.specs.declared.value.Row.{Row}
 use Rattle.med_value.specs.declared.value.ColType.{ColType}
-use Rattle.fdw_api.specs.Scan.{Spec, spec_of, Filter, GivenRow, TableRow, IsComing, meets, meets_all, meets_exact, shown, shown_cells, shown_fits, row_fits}
+use Rattle.fdw_api.specs.Scan.{Spec, spec_of, RestrictionForm, GivenRow, TableRow, IsComing, meets, meets_all, meets_exact, given_row, shown_cells, shown_fits, row_fits}
 use Rattle.fdw_api.specs.declared.scan.Agree.{Agree}
 use Rattle.fdw_api.specs.declared.scan.Agree.TheVariants.{Ignored, Hint, Exact}
-use Rattle.fdw_api.specs.State.{Bound, Scan, scan_of}
+use Rattle.fdw_api.specs.State.{BoxTable, Scan, scan_of}
 use Rattle.fdw_api.specs.Calls.{LeavesOthers, new_scan, Begins, GivesRow, GivesNone, Breaks, Rescans, Ends, row_of}
 use Rattle.fdw_api.specs.declared.interface.Fault.TheVariants.{NoMemory}
 use Rattle.fdw_api.specs.declared.interface.SourceRow.{SourceRow}
@@ -34,7 +34,7 @@ one_fails true y e = e
 one_fails false y e = refl
 
 -- what an Exact restriction refuses does not meet all
-exact_fails : (fs : List Filter) (answers : List Agree) (params cells : Tuple) → not (meets_exact fs answers params cells) ≡ true → meets_all fs params cells ≡ false
+exact_fails : (fs : List RestrictionForm) (answers : List Agree) (params cells : Tuple) → not (meets_exact fs answers params cells) ≡ true → meets_all fs params cells ≡ false
 exact_fails [] answers params cells e = absurd cc
 exact_fails (f ∷ fs) [] params cells e = absurd cc
 exact_fails (f ∷ fs) (Exact ∷ answers) params cells e = both_fail (meets params cells f) (meets_exact fs answers params cells) _ (exact_fails fs answers params cells) e
@@ -44,11 +44,11 @@ exact_fails (f ∷ fs) (Hint ∷ answers) params cells e = one_fails (meets para
 abbrev passes : Spec → Tuple → TableRow → Bool
 passes spec params r = meets_exact spec.offered spec.answers params r.cells
 
-step : (spec : Spec) (b : Bool) (y : TableRow) (xs : List GivenRow) (ys : List TableRow) → xs ≡ map (shown spec) ys → (if b then shown spec y ∷ xs else xs) ≡ map (shown spec) (cond b (y ∷ ys) ys)
-step spec true y xs ys e = ap (λ (l : List GivenRow). shown spec y ∷ l) e
+step : (spec : Spec) (b : Bool) (y : TableRow) (xs : List GivenRow) (ys : List TableRow) → xs ≡ map (given_row spec) ys → (if b then given_row spec y ∷ xs else xs) ≡ map (given_row spec) (cond b (y ∷ ys) ys)
+step spec true y xs ys e = ap (λ (l : List GivenRow). given_row spec y ∷ l) e
 step spec false y xs ys e = e
 
-coming_is : (spec : Spec) (params : Tuple) (n : ℕ) (rs : List Row) → coming_from spec params n rs ≡ map (shown spec) (filter (passes spec params) (numbered n rs))
+coming_is : (spec : Spec) (params : Tuple) (n : ℕ) (rs : List Row) → coming_from spec params n rs ≡ map (given_row spec) (filter (passes spec params) (numbered n rs))
 coming_is spec params n [] = refl
 coming_is spec params n (r ∷ rs) = step spec (meets_exact spec.offered spec.answers params (tuple r)) _ _ _ (coming_is spec params (n + 1) rs)
 
@@ -101,16 +101,16 @@ others tables bound m n staged number next next' pulled pulled' w u = record {
 }
 
 -- the types of a bound table are those at its place
-pub kinds_bound : (f : Bool) (o : Option ListTable) (b : Bound) → marked_bound f o ≡ Some b → listed_kinds o ≡ b.kinds
+pub kinds_bound : (f : Bool) (o : Option ListTable) (b : BoxTable) → marked_bound f o ≡ Some b → listed_kinds o ≡ b.kinds
 kinds_bound false o b e = absurd cc
 kinds_bound true None b e = absurd cc
-kinds_bound true (Some x) b e = ap (λ (o : Option Bound). kinds_or o) e
+kinds_bound true (Some x) b e = ap (λ (o : Option BoxTable). kinds_or o) e
   where
-    kinds_or : Option Bound → List ColType
+    kinds_or : Option BoxTable → List ColType
     kinds_or None = []
     kinds_or (Some z) = z.kinds
 
-pub list_begins : (tables : List ListTable) (bound : List Bool) (m n : BTreeMap ℕ ListScan) (staged : Option ListWrite) (t next pulled : ℕ) (spec : Spec) (params : Tuple) (s : ListScan) (b : Bound) → marked_bound (slice_index_or bound t false) (slice_get tables t) ≡ Some b → tree.get nat_cmp m next ≡ None → next < 2 ^ 64 - 1 → tree.Updates nat_cmp m n next (Some s) → s.table ≡ t → spec_of s.spec ≡ spec → map datum s.params.items ≡ params → s.at ≡ 0 → s.broken ≡ false → Begins (list_state tables bound m staged next pulled) t spec params next (list_state tables bound n staged (next + 1) pulled)
+pub list_begins : (tables : List ListTable) (bound : List Bool) (m n : BTreeMap ℕ ListScan) (staged : Option ListWrite) (t next pulled : ℕ) (spec : Spec) (params : Tuple) (s : ListScan) (b : BoxTable) → marked_bound (slice_index_or bound t false) (slice_get tables t) ≡ Some b → tree.get nat_cmp m next ≡ None → next < 2 ^ 64 - 1 → tree.Updates nat_cmp m n next (Some s) → s.table ≡ t → spec_of s.spec ≡ spec → map datum s.params.items ≡ params → s.at ≡ 0 → s.broken ≡ false → Begins (list_state tables bound m staged next pulled) t spec params next (list_state tables bound n staged (next + 1) pulled)
 list_begins tables bound m n staged t next pulled spec params s b is_bound fresh room u et es ep ea eb =
     let coming : scan_rows tables (tree.get nat_cmp n next) ≡ coming_from spec params 0 (rows_at tables t) = ap (scan_rows tables) u.1 ∙ rw (es, ep, ea, et) refl in
     record {

@@ -1,9 +1,8 @@
 -- List sources: tables of rows in memory, and what binding one gives.
-use Rattle.std.specs.Prelude.{◌≡◌, ℕ, Bool, true, false, not, ◌&&◌, List, [], ◌∷◌, map, length, Option, Some, None, if◌then◌else◌, nat_eq, nat_lt}
+use Rattle.std.specs.Prelude.{◌≡◌, ℕ, Bool, true, false, not, ◌&&◌, List, [], ◌∷◌, map, length, Option, Some, None, if◌then◌else◌, nat_lt, bytes_eq}
 use mathlib.Core.Path.{ap, ◌∙◌}
 use Rattle.std.specs.List.{list_all}
 use Rattle.std.specs.String.{string_bytes}
-use lib.Pointwise.{pointwise}
 use Rattle.med_value.specs.Datum.{Tuple, tuple}
 use Rattle.med_value.specs.declared.value.ColType.{ColType}
 use Rattle.med_value.specs.declared.value.ColType.TheVariants as types
@@ -11,7 +10,7 @@ use Rattle.med_value.specs.declared.cause.Cause.{Cause}
 use Rattle.med_value.specs.declared.cause.Cause.TheVariants.{InvalidOptionName, TableNotFound, InvalidDataType, InvalidText, TooLarge}
 use Rattle.med_value.specs.Causes.{phase_of}
 use Rattle.fdw_api.specs.Scan.{row_fits}
-use Rattle.fdw_api.specs.Kinds.{Kind, Setting, Entry, Bytes, Stored, Known, Held, Reading, Refusals, kinds_of, all_fit, as_they_come, is_of_run}
+use Rattle.fdw_api.specs.Kinds.{Kind, OptionForm, Entry, Bytes, Stored, Known, Held, Reading, Refusals, kinds_of, all_fit, as_they_come, is_of_run}
 use Rattle.fdw_api.specs.State.{BoxState, IsIdle, is_honest}
 use Rattle.fdw_api.specs.Writes.{rows_after}
 use Rattle.list_wrapper.specs.declared.list.ListTable.{ListTable}
@@ -25,13 +24,10 @@ pub record Listed : Type 0 where
 abbrev pub listed : ListTable → Listed
 listed t = record { name = string_bytes t.name; kinds = t.kinds.items; rows = map tuple t.rows.items }
 
-abbrev pub same_text : List ℕ → List ℕ → Bool
-same_text = pointwise nat_eq
-
 -- no two tables have one name
 abbrev pub names_differ : List Listed → Bool
 names_differ [] = true
-names_differ (t ∷ ts) = list_all (λ u. not (same_text t.name u.name)) ts && names_differ ts
+names_differ (t ∷ ts) = list_all (λ u. not (bytes_eq t.name u.name)) ts && names_differ ts
 
 -- each row is of its table's types, and no text has U+0000
 abbrev pub rows_fit : List Listed → Bool
@@ -40,11 +36,11 @@ rows_fit tables = list_all (λ t. list_all (row_fits t.kinds) t.rows) tables
 -- what stands under a remote name: the types and rows of the table of this name
 abbrev pub entry_of : List Listed → List ℕ → Option Entry
 entry_of [] name = None
-entry_of (t ∷ ts) name = if same_text t.name name then Some (Stored t.kinds t.rows) else entry_of ts name
+entry_of (t ∷ ts) name = if bytes_eq t.name name then Some (Stored t.kinds t.rows) else entry_of ts name
 
 -- the only option of a list table is `table`, its remote name: each further one is HV00D. Columns have none.
 -- What every kind objects to, as a column declared twice, is not a list's own objection.
-abbrev pub list_objections : List Setting → List Cause
+abbrev pub list_objections : List OptionForm → List Cause
 list_objections [] = []
 list_objections (s ∷ ss) = InvalidOptionName ∷ []
 

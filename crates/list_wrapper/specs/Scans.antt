@@ -10,7 +10,7 @@ use Rattle.med_value.specs.declared.value.Row.{Row}
 use Rattle.fdw_api.specs.Scan.{Spec, spec_of, TableRow, GivenRow, meets_exact, shown_cells}
 use Rattle.med_value.specs.declared.value.ColType.{ColType}
 use Rattle.fdw_api.specs.Kinds.{Entry, Stored, Known, as_they_come}
-use Rattle.fdw_api.specs.State.{Nature, Bound, Scan, Staging, Ledger, Content, BoxState}
+use Rattle.fdw_api.specs.State.{Nature, BoxTable, Scan, Staging, Ledger, Content, BoxState}
 use Rattle.fdw_api.specs.Calls.{row_of}
 use Rattle.fdw_api.specs.Writes.{row_of_change_fits}
 use Rattle.std.specs.List.{list_all}
@@ -72,7 +72,7 @@ write_fits tables None = true
 write_fits tables (Some s) = list_all (row_of_change_fits (kinds_at tables s.table)) s.changes
 
 -- a bound table allows every scan: a list takes over whatever it is asked to
-abbrev pub bound_of : ListTable → Bound
+abbrev pub bound_of : ListTable → BoxTable
 bound_of t = record {
   remote = string_bytes t.name;
   kinds = t.kinds.items;
@@ -85,7 +85,7 @@ bound_of t = record {
 }
 
 -- the table at a place, where it is marked as bound
-abbrev pub marked_bound : Bool → Option ListTable → Option Bound
+abbrev pub marked_bound : Bool → Option ListTable → Option BoxTable
 marked_bound true o = option_map bound_of o
 marked_bound false o = None
 

@@ -1,5 +1,5 @@
 //! Tables of rows in memory.
-ghost use Rattle.std.specs.Prelude.{◌≡◌, ◌≤◌, ◌<◌, [], ℕ, List, map, length, replicate, Some, None, IfOk, IfErr, IsSome, IfSome, IsTrue, true, false, slice_get, option_map};
+ghost use Rattle.std.specs.Prelude.{◌≡◌, ◌≤◌, ◌<◌, [], ℕ, List, map, length, replicate, Some, None, IfOk, IfErr, IsSome, IfSome, IsTrue, true, false, slice_get, option_map, bytes_eq};
 ghost use Rattle.std.specs.Ordering.{nat_cmp};
 ghost use Rattle.std.specs.BTreeMap as tree;
 ghost use Rattle.std.specs.String.{string_bytes};
@@ -8,12 +8,12 @@ ghost use Rattle.fdw_api.specs.Scan.{spec_of};
 ghost use Rattle.fdw_api.specs.declared.scan.Agree.TheVariants.{Exact};
 ghost use Rattle.fdw_api.specs.Kinds.{Column, column_of, kinds_of};
 ghost use Rattle.list_wrapper.specs.declared.list.ListTable.{ListTable};
-ghost use Rattle.list_wrapper.specs.Lists.{listed, entry_of, names_differ, rows_fit, IsNewList, same_text, types_match};
+ghost use Rattle.list_wrapper.specs.Lists.{listed, entry_of, names_differ, rows_fit, IsNewList, types_match};
 ghost use Rattle.list_wrapper.specs.Changes.{write_is};
 ghost use Rattle.list_wrapper.specs.Scans.{NextIs, entry_at, rows_at, write_fits};
 
 use crate::changes::{ListChange, ListWrite, add_change, applied};
-use fdw_api::interface::{Counts, Fault, Opt, RowId, SourceRow, Ticket, Wrapper};
+use fdw_api::interface::{Counts, Fault, RowId, SourceRow, TableOption, Ticket, Wrapper};
 use fdw_api::law::{rows_are_typed, writes_are_typed};
 use fdw_api::scan::{Agree, Agreement, Restriction, ScanSpec, copy_values, meets_taken};
 use med_value::{Cause, ColType, ColumnDef, NoMemory, Row, TableNo, Value};
@@ -93,7 +93,7 @@ fn find(tables: &Vec<ListTable>, name: &str) -> Option<usize>
     ensures entry { entry_of (map listed tables.now.items) name.now ≡ entry_at tables.now.items result }
     ensures within { IfSome result (λ at. at < length tables.now.items) }
     ensures named { IfSome result (λ at. (x : ListTable)
-        × (slice_get tables.now.items at ≡ Some x) × (same_text (string_bytes x.name) name.now ≡ true)) }
+        × (slice_get tables.now.items at ≡ Some x) × (bytes_eq (string_bytes x.name) name.now ≡ true)) }
 {
     let mut at = 0;
     while at < tables.len() {
@@ -207,7 +207,7 @@ fn row_of_scan(
 }
 
 impl Wrapper for ListWrapper {
-    ghost use Rattle.fdw_api.specs.Scan.{filter_of, spec_by};
+    ghost use Rattle.fdw_api.specs.Scan.{restriction_form, spec_by};
     ghost use Rattle.fdw_api.specs.State.{table_of};
     ghost use Rattle.fdw_api.specs.Calls.{Allows};
     ghost use Rattle.list_wrapper.specs.ListBoxes.{box_of};
@@ -219,7 +219,7 @@ impl Wrapper for ListWrapper {
         _alloc: Global,
         remote: &str,
         columns: &[ColumnDef],
-        _options: &[Opt],
+        _options: &[TableOption],
     ) -> Result<TableNo, Fault> {
         let Some(at) = find(&self.tables, remote) else {
             return Err(Fault::Refused(Cause::TableNotFound));
@@ -244,7 +244,7 @@ impl Wrapper for ListWrapper {
         offered: &[Restriction],
     ) -> Result<Agreement, Fault>
         requires { IsSome (table_of (box_of self.now) _t.number) }
-        ensures ok { IfOk result (λ a. Allows (box_of self.now) _t.number (spec_by _wanted.now (map filter_of offered.now) a)) }
+        ensures ok { IfOk result (λ a. Allows (box_of self.now) _t.number (spec_by _wanted.now (map restriction_form offered.now) a)) }
         ensures each { IfOk result (λ a. length a.answers.items ≡ length offered.now) }
         ensures err { IfErr result (λ fault. fault ≡ Fault.NoMemory) }
         ensures takes_all { IfOk result (λ a. a.answers.items ≡ replicate (length offered.now) Exact) }

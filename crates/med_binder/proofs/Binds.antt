@@ -3,13 +3,13 @@ use Rattle.std.proofs.Common.{◌≡◌, ◌⊎◌, List, [], ◌∷◌, Result,
 use Rattle.med_value.specs.declared.cause.Cause.{Cause}
 use Rattle.med_value.specs.declared.cause.Cause.TheVariants.{OutOfMemory}
 use Rattle.med_syntax.specs.QueryTree.{StatementTree}
-use Rattle.med_binder.specs.declared.bound.Bound.{Bound}
+use Rattle.med_binder.specs.declared.bound.BoundQuery.{BoundQuery}
 use Rattle.bind_names.specs.Scope.{TableShape}
 use Rattle.bind_names.specs.Naming.{statement_name_causes}
 use Rattle.bind_types.specs.Typing.{statement_type_causes}
 use Rattle.bind_names.specs.Meaning.{meant}
 use Rattle.med_binder.specs.Binding.{BindCauses, BindTells}
-use Rattle.bind_names.specs.Telling.{Tells}
+use Rattle.bind_names.specs.Telling.{TellsCause}
 use Rattle.med_binder.specs.Turns.{TellsInTurn, Binds}
 
 -- ---- one after the other
@@ -18,14 +18,14 @@ names_told : (names types : List Cause) (c : Cause) → (c ≡ OutOfMemory) ⊎ 
 names_told names types c (inl h) = inl h
 names_told names types c (inr h) = inr (inl h)
 
-pub names_first : (names types : List Cause) (c : Cause) → Tells names c → TellsInTurn names types c
+pub names_first : (names types : List Cause) (c : Cause) → TellsCause names c → TellsInTurn names types c
 names_first names types c t = record { told = names_told names types c t.told }
 
 types_told : (names types : List Cause) (c : Cause) → names ≡ [] → (c ≡ OutOfMemory) ⊎ Contains types c → (c ≡ OutOfMemory) ⊎ Contains names c ⊎ ((names ≡ []) × Contains types c)
 types_told names types c e (inl h) = inl h
 types_told names types c e (inr h) = inr (inr (e, h))
 
-pub types_then : (names types : List Cause) (c : Cause) → names ≡ [] → Tells types c → TellsInTurn names types c
+pub types_then : (names types : List Cause) (c : Cause) → names ≡ [] → TellsCause types c → TellsInTurn names types c
 types_then names types c e t = record { told = types_told names types c e t.told }
 
 -- ---- the clauses
@@ -51,11 +51,11 @@ in_turn tables statement c (inl h) = inl h
 in_turn tables statement c (inr (inl h)) = inr (inl h)
 in_turn tables statement c (inr (inr h)) = inr (inr (h.1, λ d m. no_element _ d h.0 m))
 
-pub binds_refused : (tables : List TableShape) (statement : StatementTree) (r : Result Bound Cause) → Binds (statement_name_causes tables statement) (statement_type_causes tables statement) (meant tables statement) r
+pub binds_refused : (tables : List TableShape) (statement : StatementTree) (r : Result BoundQuery Cause) → Binds (statement_name_causes tables statement) (statement_type_causes tables statement) (meant tables statement) r
     → IfErr r (λ c. (c ≡ OutOfMemory) ⊎ BindTells tables statement c)
 binds_refused tables statement (Ok b) h = tt
 binds_refused tables statement (Err c) h = in_turn tables statement c h.told
 
-pub binds_read : (tables : List TableShape) (statement : StatementTree) (r : Result Bound Cause) → Binds (statement_name_causes tables statement) (statement_type_causes tables statement) (meant tables statement) r
+pub binds_read : (tables : List TableShape) (statement : StatementTree) (r : Result BoundQuery Cause) → Binds (statement_name_causes tables statement) (statement_type_causes tables statement) (meant tables statement) r
     → ((c : Cause) → BindCauses tables statement c → ⊥) → IfErr r (λ c. c ≡ OutOfMemory)
 binds_read tables statement r h n = only_memory r (BindCauses tables statement) (BindTells tables statement) (told_stands tables statement) (binds_refused tables statement r h) n

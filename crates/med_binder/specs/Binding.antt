@@ -9,10 +9,10 @@ use Rattle.bind_types.specs.Typing.{TypeCauses}
 use Rattle.bind_names.specs.Meaning.{Meant, meant}
 use Rattle.bind_names.specs.declared.table.AttachedTable.{AttachedTable}
 use Rattle.med_binder.specs.declared.bound.BoundEntry.{BoundEntry}
-use Rattle.med_binder.specs.declared.bound.Bound.{Bound}
+use Rattle.med_binder.specs.declared.bound.BoundQuery.{BoundQuery}
 
 -- the bound query is this one
-pub record IsMeant (m : Meant) (b : Bound) : Type 0 where
+pub record IsMeant (m : Meant) (b : BoundQuery) : Type 0 where
   pub names : map string_bytes b.names.items ≡ m.names
   pub entries : map (λ (e : BoundEntry). e.place) b.entries.items ≡ m.entries
   pub form : form_of b.select ≡ m.form
@@ -26,7 +26,7 @@ pub record IsEntryOf (tables : List AttachedTable) (e : BoundEntry) : Type 0 whe
   pub width : e.width ≡ length table.columns.items
 
 -- the bound query is the statement over these tables
-abbrev pub IsBound : List TableShape → StatementTree → Bound → Type 0
+abbrev pub IsBound : List TableShape → StatementTree → BoundQuery → Type 0
 IsBound tables statement b = IsMeant (meant tables statement) b
 
 -- a cause of names or types stands
@@ -35,4 +35,5 @@ BindCauses tables statement c = NameCauses tables statement c ⊎ TypeCauses tab
 
 -- one that may be told: of names, or of types where none of names stands
 abbrev pub BindTells : List TableShape → StatementTree → Cause → Type 0
-BindTells tables statement c = NameCauses tables statement c ⊎ (TypeCauses tables statement c × ((d : Cause) → NameCauses tables statement d → ⊥))
+BindTells tables statement c =
+    NameCauses tables statement c ⊎ (TypeCauses tables statement c × ((d : Cause) → NameCauses tables statement d → ⊥))

@@ -4,12 +4,12 @@ use Rattle.med_value.specs.declared.cause.Cause.{Cause}
 use Rattle.med_value.specs.declared.cause.Cause.TheVariants.{OutOfMemory}
 use Rattle.bind_names.specs.Meaning.{Meant}
 use Rattle.med_binder.specs.Binding.{IsMeant}
-use Rattle.med_binder.specs.declared.bound.Bound.{Bound}
+use Rattle.med_binder.specs.declared.bound.BoundQuery.{BoundQuery}
 
 -- a cause of names is told, or one of types where none of names stands, or that memory was refused
 pub record TellsInTurn (names types : List Cause) (c : Cause) : Type 0 where
   pub told : (c ≡ OutOfMemory) ⊎ Contains names c ⊎ ((names ≡ []) × Contains types c)
 
-abbrev pub Binds : List Cause → List Cause → Meant → Result Bound Cause → Type 0
+abbrev pub Binds : List Cause → List Cause → Meant → Result BoundQuery Cause → Type 0
 Binds names types m (Ok b) = IsMeant m b × (names ≡ []) × (types ≡ [])
 Binds names types m (Err c) = TellsInTurn names types c

@@ -12,7 +12,7 @@ ghost use Rattle.med_syntax.specs.QueryView.{select_tree, statement_tree};
 ghost use Rattle.med_value.specs.declared.cause.Cause.{Cause};
 ghost use Rattle.std.specs.Prelude.{◌≡◌, ◌⊎◌, map, true, All, IfOk, OnOk, IfErr};
 
-use crate::bound::Bound;
+use crate::bound::BoundQuery;
 use crate::look_up::look_up;
 use bind_names::AttachedTable;
 use bind_types::{check_form, check_written};
@@ -21,8 +21,14 @@ use med_value::Cause;
 use std::alloc::Global;
 
 // A query over the tables: its names, then its types, then where its aggregates and columns stand.
-fn bind_select(alloc: Global, select: &Select, tables: &[AttachedTable]) -> Result<Bound, Cause>
-    ensures binds { Binds (select_name_causes (map table_shape tables.now) (select_tree select.now)) (select_type_causes (map table_shape tables.now) (select_tree select.now)) (meant_in (map table_shape tables.now) (select_tree select.now)) result }
+fn bind_select(
+    alloc: Global,
+    select: &Select,
+    tables: &[AttachedTable],
+) -> Result<BoundQuery, Cause>
+    ensures binds { Binds (select_name_causes (map table_shape tables.now) (select_tree select.now))
+        (select_type_causes (map table_shape tables.now) (select_tree select.now))
+        (meant_in (map table_shape tables.now) (select_tree select.now)) result }
     ensures entries { IfOk result (λ b. All (IsEntryOf tables.now) b.entries.items) }
     ensures safe { IfOk result (λ b. is_safe_from b.select.from.items ≡ true) }
 {
@@ -46,8 +52,10 @@ fn bind_statement(
     alloc: Global,
     statement: &Statement,
     tables: &[AttachedTable],
-) -> Result<Bound, Cause>
-    ensures binds { Binds (statement_name_causes (map table_shape tables.now) (statement_tree statement.now)) (statement_type_causes (map table_shape tables.now) (statement_tree statement.now)) (meant (map table_shape tables.now) (statement_tree statement.now)) result }
+) -> Result<BoundQuery, Cause>
+    ensures binds { Binds (statement_name_causes (map table_shape tables.now) (statement_tree statement.now))
+        (statement_type_causes (map table_shape tables.now) (statement_tree statement.now))
+        (meant (map table_shape tables.now) (statement_tree statement.now)) result }
     ensures entries { IfOk result (λ b. All (IsEntryOf tables.now) b.entries.items) }
     ensures safe { IfOk result (λ b. is_safe_from b.select.from.items ≡ true) }
 {
@@ -69,7 +77,7 @@ pub fn bind(
     statement: &Statement,
     tables: &[AttachedTable],
     _user: &str,
-) -> Result<Bound, Cause>
+) -> Result<BoundQuery, Cause>
     // What is answered means the statement.
     ensures bound { IfOk result (λ b. IsBound (map table_shape tables.now) (statement_tree statement.now) b) }
     // Its entries are the tables that they stand for.
@@ -79,9 +87,11 @@ pub fn bind(
     // A statement for which a cause of names or types stands is not answered.
     ensures clear { OnOk result ((c : Cause) → BindCauses (map table_shape tables.now) (statement_tree statement.now) c → ⊥) }
     // A refusal tells a cause that stands, one of names before one of types, or that memory was refused.
-    ensures refused { IfErr result (λ c. (c ≡ Cause.OutOfMemory) ⊎ BindTells (map table_shape tables.now) (statement_tree statement.now) c) }
+    ensures refused { IfErr result (λ c. (c ≡ Cause.OutOfMemory)
+        ⊎ BindTells (map table_shape tables.now) (statement_tree statement.now) c) }
     // Where no cause stands, only memory can be refused.
-    ensures read { ((c : Cause) → BindCauses (map table_shape tables.now) (statement_tree statement.now) c → ⊥) → IfErr result (λ c. c ≡ Cause.OutOfMemory) }
+    ensures read { ((c : Cause) → BindCauses (map table_shape tables.now) (statement_tree statement.now) c → ⊥)
+        → IfErr result (λ c. c ≡ Cause.OutOfMemory) }
 {
     bind_statement(alloc, statement, tables)
 }

@@ -18,7 +18,7 @@ pub struct BoundEntry {
 
 /// A query over tables: its names are places, and its types fit.
 #[derive(Debug, Drop)]
-pub struct Bound {
+pub struct BoundQuery {
     /// The names of the answer's columns.
     pub names: Vec<String>,
     /// The entries of FROM in their order, all chains together. The query counts its tables by them, from 0.

@@ -13,17 +13,21 @@ ghost use Rattle.med_binder.specs.Within.{ArePlacesOf, FormWithin, widths_of};
 
 /// Each cause of names is of phase 3, and each cause of types of phase 4.
 pub fn causes_have_their_phase()
-    ensures names { (tables : List TableShape) (statement : StatementTree) (c : AnyCause) → NameCauses tables statement c → phase_of c ≡ Some 3 }
-    ensures types { (tables : List TableShape) (statement : StatementTree) (c : AnyCause) → TypeCauses tables statement c → phase_of c ≡ Some 4 }
+    ensures names { (tables : List TableShape) (statement : StatementTree) (c : AnyCause)
+        → NameCauses tables statement c → phase_of c ≡ Some 3 }
+    ensures types { (tables : List TableShape) (statement : StatementTree) (c : AnyCause)
+        → TypeCauses tables statement c → phase_of c ≡ Some 4 }
 {}
 
 /// Where no cause of names stands, each entry of FROM is the place of a table.
 pub fn entries_are_tables()
-    ensures { (tables : List TableShape) (statement : StatementTree) → ((c : AnyCause) → NameCauses tables statement c → ⊥) → ArePlacesOf tables (meant tables statement).entries }
+    ensures { (tables : List TableShape) (statement : StatementTree) → ((c : AnyCause) → NameCauses tables statement c → ⊥)
+        → ArePlacesOf tables (meant tables statement).entries }
 {}
 
 /// Where no cause of names stands, each column of the query is one of those in view: of all entries, and in an ON of those on its left in
 /// its chain and of its own entry.
 pub fn columns_are_in_view()
-    ensures { (tables : List TableShape) (statement : StatementTree) → ((c : AnyCause) → NameCauses tables statement c → ⊥) → FormWithin (widths_of tables statement) (meant tables statement).form }
+    ensures { (tables : List TableShape) (statement : StatementTree) → ((c : AnyCause) → NameCauses tables statement c → ⊥)
+        → FormWithin (widths_of tables statement) (meant tables statement).form }
 {}

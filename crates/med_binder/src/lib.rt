@@ -17,4 +17,4 @@ mod look_up;
 
 pub use bind_names::AttachedTable;
 pub use binding::bind;
-pub use bound::{Bound, BoundEntry};
+pub use bound::{BoundEntry, BoundQuery};

@@ -3,12 +3,12 @@
 
 ghost use Rattle.bind_names.specs.Meaning.{rows_left};
 ghost use Rattle.bind_names.specs.Scope.{scope_of as seen_as, table_shape};
-ghost use Rattle.bind_query.specs.Shown.{shown};
+ghost use Rattle.bind_query.specs.Shown.{output_of};
 ghost use Rattle.med_binder.specs.Looking.{Asks, Splits, Assembles, LooksUp};
 ghost use Rattle.med_syntax.specs.QueryView.{select_tree, limit_tree};
 ghost use Rattle.std.specs.Prelude.{◌≡◌, map, option_map, unwrap_or};
 
-use crate::bound::{Bound, BoundEntry};
+use crate::bound::{BoundEntry, BoundQuery};
 use crate::entries::bound_entries;
 use bind_names::{AttachedTable, Visible, check_names, entries_of, scope_of};
 use bind_query::grouping::grouping;
@@ -23,7 +23,7 @@ use tri_expr::Expr;
 
 // What is asked of the entries of FROM, its names being resolved.
 #[derive(Drop)]
-struct Asked {
+struct AskedQuery {
     // FROM.
     from: Vec<JoinChain>,
     // What is answered.
@@ -38,12 +38,13 @@ struct Asked {
     keys: Vec<Expr>,
 }
 
+// What a query asks of the entries in view, or why a name in it is refused.
 fn ask(
     alloc: Global,
     tables: &[AttachedTable],
     scope: &[Visible<'_>],
     select: &Select,
-) -> Result<Asked, Cause>
+) -> Result<AskedQuery, Cause>
     ensures { Asks (map table_shape tables.now) (seen_as scope.now) (select_tree select.now) result }
 {
     let from = chains(alloc, tables, select.from.as_slice())?;
@@ -58,7 +59,7 @@ fn ask(
         outputs.as_slice(),
         select.keys.as_slice(),
     )?;
-    Ok(Asked {
+    Ok(AskedQuery {
         from,
         outputs,
         conditions: conditions_met,
@@ -75,8 +76,9 @@ struct Columns {
     items: Vec<Expr>,
 }
 
+// The names of the outputs, and their expressions.
 fn split(alloc: Global, outputs: Vec<Shown>) -> Result<Columns, Cause>
-    ensures { Splits (map shown outputs.items) result }
+    ensures { Splits (map output_of outputs.items) result }
 {
     let mut names = Vec::new(alloc);
     let mut items = Vec::new(alloc);
@@ -88,6 +90,7 @@ fn split(alloc: Global, outputs: Vec<Shown>) -> Result<Columns, Cause>
     Ok(Columns { names, items })
 }
 
+// How many rows LIMIT leaves at most: without it, and by ALL, there is no bound.
 fn rows_left(limit: &Option<Limit>) -> Option<usize>
     ensures { result ≡ rows_left (option_map limit_tree limit.now) }
 {
@@ -100,6 +103,7 @@ fn rows_left(limit: &Option<Limit>) -> Option<usize>
     }
 }
 
+// How many rows OFFSET skips; 0 without it.
 fn rows_skipped(offset: &Option<u64>) -> usize
     ensures { result ≡ unwrap_or offset.now 0 }
 {
@@ -114,11 +118,11 @@ fn assemble(
     alloc: Global,
     select: &Select,
     entries: Vec<BoundEntry>,
-    asked: Asked,
-) -> Result<Bound, Cause>
+    asked: AskedQuery,
+) -> Result<BoundQuery, Cause>
     ensures { Assembles (select_tree select.now) asked entries.items result }
 {
-    let Asked {
+    let AskedQuery {
         from,
         outputs,
         conditions,
@@ -147,7 +151,7 @@ fn assemble(
         offset: rows_skipped(&select.offset),
         limit: rows_left(&select.limit),
     };
-    Ok(Bound {
+    Ok(BoundQuery {
         names,
         entries,
         select,
@@ -157,7 +161,11 @@ fn assemble(
 /// Looks the names of a query up: 42P01 where there is no such table or a qualifier names no visible entry, 42712 where two entries have one
 /// name, 42703 where a name means no column, 42702 where it can mean several columns or outputs, 42601 for `*` without FROM, 42P10 for an
 /// order key that is the position of no output, or no output under DISTINCT.
-pub fn look_up(alloc: Global, select: &Select, tables: &[AttachedTable]) -> Result<Bound, Cause>
+pub fn look_up(
+    alloc: Global,
+    select: &Select,
+    tables: &[AttachedTable],
+) -> Result<BoundQuery, Cause>
     ensures { LooksUp tables.now (select_tree select.now) result }
 {
     let written = entries_of(alloc, select.from.as_slice())?;

@@ -6,7 +6,7 @@ use Rattle.std.proofs.lemmas.Bool.Decides.{eqb_tells}
 use Rattle.std.proofs.lemmas.List.Sorted.{IsPermutation-filter_both, IsPermutation-append_left, IsPermutation-trans}
 use Rattle.std.proofs.lemmas.List.Elements.{filter_passes, All-weaker, All-append, All-head, All-tail}
 use Rattle.med_value.specs.Datum.{Tuple}
-use Rattle.fdw_api.specs.Scan.{Spec, Filter, GivenRow, TableRow, IsComing, cell, checks, pick, meets, meets_all, meets_exact, shown, shown_cells}
+use Rattle.fdw_api.specs.Scan.{Spec, RestrictionForm, GivenRow, TableRow, IsComing, cell, checks, pick, meets, meets_all, meets_exact, given_row, shown_cells}
 use Rattle.fdw_api.specs.declared.scan.Agree.{Agree}
 use Rattle.fdw_api.specs.declared.scan.Agree.TheVariants.{Ignored, Hint, Exact}
 use Rattle.med_exec.specs.Reading.{cells_of}
@@ -40,21 +40,21 @@ seen_cell spec whole c h = go spec.narrow h
     go true h = picked whole spec.wanted c (h refl)
     go false h = refl
 
-meets_same : (spec : Spec) (params whole : Tuple) (f : Filter) (fs : List Filter) → ShowsAll spec (f ∷ fs) → meets_shown spec params (shown_cells spec whole) f ≡ meets params whole f
-meets_same spec params whole f fs seen = ap (checks params f.check) (seen_cell spec whole f.column (λ n. (both (list_any (λ w. nat_eq w f.column) spec.wanted) (all_wanted spec.wanted fs) (seen n)).0))
+meets_same : (spec : Spec) (params whole : Tuple) (f : RestrictionForm) (fs : List RestrictionForm) → ShowsAll spec (f ∷ fs) → meets_shown spec params (shown_cells spec whole) f ≡ meets params whole f
+meets_same spec params whole f fs seen = ap (checks params f.test) (seen_cell spec whole f.column (λ n. (both (list_any (λ w. nat_eq w f.column) spec.wanted) (all_wanted spec.wanted fs) (seen n)).0))
 
-seen_rest : (spec : Spec) (f : Filter) (fs : List Filter) → ShowsAll spec (f ∷ fs) → ShowsAll spec fs
+seen_rest : (spec : Spec) (f : RestrictionForm) (fs : List RestrictionForm) → ShowsAll spec (f ∷ fs) → ShowsAll spec fs
 seen_rest spec f fs seen n = (both (list_any (λ w. nat_eq w f.column) spec.wanted) (all_wanted spec.wanted fs) (seen n)).1
 
 both_same : (a b c d : Bool) → a ≡ b → c ≡ d → (a && c) ≡ (b && d)
 both_same a b c d e f = rw (e, f) refl
 
 -- where the Exact ones hold, the rest decides
-rest_decides : (spec : Spec) (params whole : Tuple) (fs : List Filter) (answers : List Agree) → ShowsAll spec fs → meets_exact fs answers params whole ≡ true → meets_rest spec params (shown_cells spec whole) fs answers ≡ meets_all fs params whole
+rest_decides : (spec : Spec) (params whole : Tuple) (fs : List RestrictionForm) (answers : List Agree) → ShowsAll spec fs → meets_exact fs answers params whole ≡ true → meets_rest spec params (shown_cells spec whole) fs answers ≡ meets_all fs params whole
 rest_decides spec params whole [] answers seen e = refl
 rest_decides spec params whole (f ∷ fs) [] seen e = both_same _ _ _ _ (meets_same spec params whole f fs seen) (rest_decides spec params whole fs [] (seen_rest spec f fs seen) (none fs))
   where
-    none : (gs : List Filter) → meets_exact gs [] params whole ≡ true
+    none : (gs : List RestrictionForm) → meets_exact gs [] params whole ≡ true
     none [] = refl
     none (g ∷ gs) = refl
 rest_decides spec params whole (f ∷ fs) (Exact ∷ answers) seen e =
@@ -76,7 +76,7 @@ one f true false x xs ys e i = absurd cc
 one f false true x xs ys e i = absurd cc
 
 -- what is left of the rows given after they were checked again
-left_over : (spec : Spec) (params : Tuple) (taken : List TableRow) → ShowsAll spec spec.offered → All (λ r. meets_exact spec.offered spec.answers params r.cells ≡ true) taken → filter (checked spec params) (cells_of (map (shown spec) taken)) ≡ map (shows spec) (filter (all_of spec params) taken)
+left_over : (spec : Spec) (params : Tuple) (taken : List TableRow) → ShowsAll spec spec.offered → All (λ r. meets_exact spec.offered spec.answers params r.cells ≡ true) taken → filter (checked spec params) (cells_of (map (given_row spec) taken)) ≡ map (shows spec) (filter (all_of spec params) taken)
 left_over spec params [] seen exact = refl
 left_over spec params (r ∷ rs) seen exact =
     one (shows spec) (checked spec params (shows spec r)) (all_of spec params r) r _ _

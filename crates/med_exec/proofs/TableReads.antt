@@ -16,13 +16,13 @@ use Rattle.fdw_api.specs.declared.interface.Fault.TheVariants.{NoMemory, Source,
 use Rattle.pushdown.specs.Offered.{Place}
 use Rattle.pushdown.specs.declared.accepting.EntryScan.{EntryScan}
 use Rattle.med_planner.specs.declared.plans.Plan.{Plan}
-use Rattle.med_planner.specs.Planned.{QueryCauses, MayGive, AllMayGive, in_order, IsPlanOf}
+use Rattle.med_planner.specs.Planned.{IsShownCause, MayGive, AllMayGive, in_order, IsPlanOf}
 use Rattle.med_exec.specs.Reading.{cells_of}
 use Rattle.med_exec.specs.Slots.{BoxAt, ChangesAt}
 use Rattle.med_exec.specs.Scanning.{RunsScan, FailsScan}
 use Rattle.med_exec.specs.Running.{none_held, AllServed, SlotShows, AllHonest, AllBegin, Stops, lacks_memory, source_fails, numbers_end, query_shows, Begun}
 use Rattle.med_exec.specs.Refusing.{refusal}
-use Rattle.query_answer.specs.Answering.{IsSmall, IsShown}
+use Rattle.query_answer.specs.Answering.{IsSmall, IsShownFault}
 use Rattle.query_answer.specs.declared.outputs.AnswerFault.{AnswerFault}
 use Rattle.query_answer.specs.declared.outputs.AnswerFault.TheVariants.{Evaluation, TooManyRows}
 use Rattle.med_exec.proofs.ScanLemmas.{honest_on}
@@ -82,7 +82,7 @@ read_stops old mid new slot Source s c q entries = source_fails refl (source_sho
 read_stops old mid new slot (Refused x) s c q entries = numbers_end (ap Refused c.change.cause.0) (source_shows old mid new slot (λ a b. FailsScan (Refused x) a b) _ s c (used_up x))
 
 -- the faults of a plan's query over the rows that were read
-pub shown_stops : (q : Query) (entries : List Place) (plan : Plan) (bad : AnswerFault) (lists : List (List Tuple)) (old new : List (Option BoxState)) → IsPlanOf q entries old plan → (AllHonest old → AllMayGive old plan.scans.items lists) → IsShown bad (query_of plan.select) (in_order lists)
+pub shown_stops : (q : Query) (entries : List Place) (plan : Plan) (bad : AnswerFault) (lists : List (List Tuple)) (old new : List (Option BoxState)) → IsPlanOf q entries old plan → (AllHonest old → AllMayGive old plan.scans.items lists) → IsShownFault bad (query_of plan.select) (in_order lists)
     → Stops q entries (refusal bad) old new
 shown_stops q entries plan (Evaluation LacksMemory) lists old new is read h = lacks_memory refl
 shown_stops q entries plan (Evaluation Overflow) lists old new is read h = query_shows OutOfRange refl (λ honest. is.told lists (read honest) OutOfRange (inl (Range, h, refl)))
@@ -93,7 +93,7 @@ shown_stops q entries plan TooManyRows lists old new is read h = query_shows Too
 none_in : (fs : List Wrong) (f : Wrong) → fs ≡ [] → Contains fs f → ⊥
 none_in fs f e h = let k : Contains [] f = subst (λ (l : List Wrong). Contains l f) e h in let n = k.1 in omega arith
 
-no_cause : (q : Query) (db : Tables) (c : Cause) → faults q db ≡ [] → IsSmall q db → QueryCauses q db c → ⊥
+no_cause : (q : Query) (db : Tables) (c : Cause) → faults q db ≡ [] → IsSmall q db → IsShownCause q db c → ⊥
 no_cause q db c quiet small (inl (f, h, e)) = none_in (faults q db) f quiet h
 no_cause q db c quiet small (inr (some, large, e)) = let least : length (kept q db) ≤ 2 ^ 62 = small some in let most : 2 ^ 62 < length (kept q db) = large in omega (arith, least, most)
 

@@ -2,7 +2,7 @@
 use Rattle.std.specs.Prelude.{◌≡◌, ℕ, zero, suc, Bool, true, false, ◌&&◌, if◌then◌else◌, nat_eq, List, [], ◌∷◌, ◌++◌, map, filter, All, IsPermutation}
 use Rattle.std.specs.List.{list_all, list_any}
 use Rattle.med_value.specs.Datum.{Tuple}
-use Rattle.fdw_api.specs.Scan.{Spec, Filter, GivenRow, TableRow, cell, checks, meets_all, shown_cells}
+use Rattle.fdw_api.specs.Scan.{Spec, RestrictionForm, GivenRow, TableRow, cell, checks, meets_all, shown_cells}
 use Rattle.fdw_api.specs.declared.scan.Agree.{Agree}
 use Rattle.fdw_api.specs.declared.scan.Agree.TheVariants.{Ignored, Hint, Exact}
 use Rattle.med_exec.specs.Reading.{cells_of}
@@ -24,19 +24,19 @@ abbrev pub place_shown : Spec → ℕ → ℕ
 place_shown spec column = if spec.narrow then place_in spec.wanted column else column
 
 -- each restriction is on a wanted column
-abbrev pub all_wanted : List ℕ → List Filter → Bool
+abbrev pub all_wanted : List ℕ → List RestrictionForm → Bool
 all_wanted wanted offered = list_all (λ f. list_any (λ w. nat_eq w f.column) wanted) offered
 
 -- the scan shows the column of each of these restrictions
-abbrev pub ShowsAll : Spec → List Filter → Type 0
+abbrev pub ShowsAll : Spec → List RestrictionForm → Type 0
 ShowsAll spec offered = spec.narrow ≡ true → all_wanted spec.wanted offered ≡ true
 
 -- a restriction is true of a row as the scan shows it
-abbrev pub meets_shown : Spec → Tuple → Tuple → Filter → Bool
-meets_shown spec params cells f = checks params f.check (cell cells (place_shown spec f.column))
+abbrev pub meets_shown : Spec → Tuple → Tuple → RestrictionForm → Bool
+meets_shown spec params cells f = checks params f.test (cell cells (place_shown spec f.column))
 
 -- each restriction that is not answered Exact is true of a row as the scan shows it
-abbrev pub meets_rest : Spec → Tuple → Tuple → List Filter → List Agree → Bool
+abbrev pub meets_rest : Spec → Tuple → Tuple → List RestrictionForm → List Agree → Bool
 meets_rest spec params cells [] answers = true
 meets_rest spec params cells (f ∷ fs) [] = meets_shown spec params cells f && meets_rest spec params cells fs []
 meets_rest spec params cells (f ∷ fs) (Exact ∷ answers) = meets_rest spec params cells fs answers

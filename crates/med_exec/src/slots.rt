@@ -1,10 +1,10 @@
 //! Calls of the box in a slot, over any kind of box.
 ghost use Rattle.std.specs.Prelude.{◌≡◌, map, IfOk, IfErr};
 ghost use Rattle.fdw_api.specs.Calls.{CanBind, Binds, RefusesBind, CanUnbind, Unbinds};
-ghost use Rattle.fdw_api.specs.Kinds.{column_of, setting_of};
+ghost use Rattle.fdw_api.specs.Kinds.{column_of, option_form};
 ghost use Rattle.med_exec.specs.Slots.{states, BoxAt, ChangesAt, counts_at};
 
-use fdw_api::interface::{Counts, Fault, Opt, Wrapper};
+use fdw_api::interface::{Counts, Fault, TableOption, Wrapper};
 use med_value::{ColumnDef, TableNo};
 use std::alloc::Global;
 
@@ -17,15 +17,15 @@ pub fn bind_at<W: Wrapper>(
     slot: usize,
     remote: &str,
     columns: &[ColumnDef],
-    options: &[Opt],
+    options: &[TableOption],
 ) -> Result<TableNo, Fault>
     requires { BoxAt (states W.meaning slots.old.items) slot
-        (λ s. CanBind s remote.now (map column_of columns.now) (map setting_of options.now)) }
+        (λ s. CanBind s remote.now (map column_of columns.now) (map option_form options.now)) }
     ensures ok { IfOk result (λ t. ChangesAt (states W.meaning slots.old.items) slot
-        (λ old new. Binds old remote.now (map column_of columns.now) (map setting_of options.now) t.number new)
+        (λ old new. Binds old remote.now (map column_of columns.now) (map option_form options.now) t.number new)
         (states W.meaning slots.new.items)) }
     ensures err { IfErr result (λ fault. ChangesAt (states W.meaning slots.old.items) slot
-        (λ old new. RefusesBind old remote.now (map column_of columns.now) (map setting_of options.now) fault new)
+        (λ old new. RefusesBind old remote.now (map column_of columns.now) (map option_form options.now) fault new)
         (states W.meaning slots.new.items)) }
 {
     match &mut slots[slot] {

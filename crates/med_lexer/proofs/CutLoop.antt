@@ -7,7 +7,7 @@ use Rattle.med_lexer.specs.declared.error.LexFault.TheVariants.{NoMemory, BadTok
 use Rattle.med_lexer.specs.Lexemes.{Shape, Lexeme}
 use Rattle.med_lexer.specs.Cutting.{Next, done, blank, token, bad, next, continued, lex}
 use Rattle.med_lexer.specs.View.{view, views, Tokens}
-use Rattle.med_lexer.specs.Steps.{Steps, Gives}
+use Rattle.med_lexer.specs.Steps.{Steps, GivesLexed}
 use Rattle.med_lexer.proofs.Tells.{next_shorter, blank_shorter}
 use Rattle.med_lexer.proofs.Stops.{lexes_of_lex, none_of_lex}
 
@@ -93,11 +93,11 @@ pub views_push : (xs : List Token) (x : Token) → views (xs ++ x ∷ []) ≡ vi
 views_push [] x = refl
 views_push (y ∷ ys) x = ap (λ z. view y ∷ z) (views_push ys x)
 
-pub is_tokens : {A : Type 0} (text : List ℕ) (r : Result (Vec Token A) LexFault) → Gives (λ v. views v.items) r (lex (suc (length text)) 0 text) → Tokens r text
+pub is_tokens : {A : Type 0} (text : List ℕ) (r : Result (Vec Token A) LexFault) → GivesLexed (λ v. views v.items) r (lex (suc (length text)) 0 text) → Tokens r text
 is_tokens text (Ok v) h = lexes_of_lex (suc (length text)) 0 text (views v.items) h
 is_tokens text (Err NoMemory) h = tt
 is_tokens text (Err BadToken) h = λ ts x. none_of_lex text ts h x
 
-pub cut_failed : {A : Type 0} (text : List ℕ) (ts : List Lexeme) (rest : List ℕ) (e : LexFault) (r : Result (Vec Token A) LexFault) → CutLoop text ts rest → Steps (Err e) (next rest) → r ≡ Err e → Gives (λ v. views v.items) r (lex (suc (length text)) 0 text)
+pub cut_failed : {A : Type 0} (text : List ℕ) (ts : List Lexeme) (rest : List ℕ) (e : LexFault) (r : Result (Vec Token A) LexFault) → CutLoop text ts rest → Steps (Err e) (next rest) → r ≡ Err e → GivesLexed (λ v. views v.items) r (lex (suc (length text)) 0 text)
 cut_failed text ts rest NoMemory r loop n is = rw is tt
 cut_failed text ts rest BadToken r loop n is = rw is (cut_bad text ts rest loop n)

@@ -4,7 +4,7 @@ use Rattle.std.specs.Prelude.{true, Option, Some, None, option_map}
 use Rattle.med_lexer.specs.Lexemes.{is_blank, Lexeme, Lexes}
 use Rattle.med_lexer.specs.Faults.{Begins, IsFaulty}
 use Rattle.med_lexer.specs.Cutting.{Next, done, blank, token, bad, next, continued, lex}
-use Rattle.med_lexer.proofs.Tells.{Tells, next_tells}
+use Rattle.med_lexer.proofs.Tells.{TellsNext, next_tells}
 use Rattle.med_lexer.proofs.Exact.{some_bytes}
 use Rattle.med_lexer.proofs.Maximal.{longest_of, precedes_of}
 use Rattle.med_lexer.proofs.Stops.{lexes_of_lex}
@@ -32,7 +32,7 @@ map_none : (o : Option (List Lexeme)) (t : Lexeme) → option_map (λ ts. t ∷ 
 map_none None t h = refl
 map_none (Some ts) t h = absurd (cc)
 
-faulty_front : (k at : ℕ) (text : List ℕ) (n : Next) → Tells text n → length text < suc k → ((place : ℕ) (rest : List ℕ) → length rest < k → lex k place rest ≡ None → IsFaulty place rest) →
+faulty_front : (k at : ℕ) (text : List ℕ) (n : Next) → TellsNext text n → length text < suc k → ((place : ℕ) (rest : List ℕ) → length rest < k → lex k place rest ≡ None → IsFaulty place rest) →
     continued at text (lex k) n ≡ None → IsFaulty at text
 faulty_front k at text done tells l ih h = absurd (cc)
 faulty_front k at text (blank rest) tells l ih h =

@@ -52,13 +52,13 @@ pub record Front (text : List ℕ) (s : Shape) (rest : List ℕ) : Type 0 where
   pub ends : Ends s rest
 
 -- what stands at the front, by what `next` answers
-abbrev pub Tells : List ℕ → Next → Type 0
-Tells text done = IsEnd text
-Tells text (blank rest) = (b : ℕ) × (text ≡ b ∷ rest) × (is_blank b ≡ true)
-Tells text (token s rest) = Front text s rest
-Tells text bad = IsFault text
+abbrev pub TellsNext : List ℕ → Next → Type 0
+TellsNext text done = IsEnd text
+TellsNext text (blank rest) = (b : ℕ) × (text ≡ b ∷ rest) × (is_blank b ≡ true)
+TellsNext text (token s rest) = Front text s rest
+TellsNext text bad = IsFault text
 
-tells_word : (b : ℕ) (bs w rest : List ℕ) → is_start b ≡ true → Part is_part (b ∷ bs) w rest → Tells (b ∷ bs) (word_next (w, rest))
+tells_word : (b : ℕ) (bs w rest : List ℕ) → is_start b ≡ true → Part is_part (b ∷ bs) w rest → TellsNext (b ∷ bs) (word_next (w, rest))
 tells_word b bs [] [] h p = absurd (omega (arith, ap length p.whole))
 tells_word b bs [] (c ∷ cs) h p = absurd (let e : b ≡ c = cc (p.whole) in let n : is_part c ≡ false = p.ends in let y : is_part c ≡ true = ap is_part (sym e) ∙ start_part b h in let bad : true ≡ false = sym y ∙ n in cc)
 tells_word b bs (x ∷ xs) rest h p =
@@ -72,11 +72,11 @@ not_joint (c ∷ cs) n s = rw n s
 tells_number_at : (b : ℕ) (bs d rest : List ℕ) → 0 < length d → Part is_ascii_digit (b ∷ bs) d rest → Without is_start rest → Front (b ∷ bs) (number d) rest
 tells_number_at b bs d rest h p n = record { raw = d; whole = p.whole; spells = (refl, (p.all, h)); ends = not_joint rest p.ends n }
 
-either : (text : List ℕ) (v : Bool) (x y : Next) → (v ≡ true → Tells text x) → (v ≡ false → Tells text y) → Tells text (cond v x y)
+either : (text : List ℕ) (v : Bool) (x y : Next) → (v ≡ true → TellsNext text x) → (v ≡ false → TellsNext text y) → TellsNext text (cond v x y)
 either text true x y f g = f refl
 either text false x y f g = g refl
 
-tells_number : (b : ℕ) (bs d rest : List ℕ) → is_ascii_digit b ≡ true → Part is_ascii_digit (b ∷ bs) d rest → Tells (b ∷ bs) (number_next (d, rest))
+tells_number : (b : ℕ) (bs d rest : List ℕ) → is_ascii_digit b ≡ true → Part is_ascii_digit (b ∷ bs) d rest → TellsNext (b ∷ bs) (number_next (d, rest))
 tells_number b bs [] [] h p = absurd (omega (arith, ap length p.whole))
 tells_number b bs [] (c ∷ cs) h p = absurd (let e : b ≡ c = cc (p.whole) in let n : is_ascii_digit c ≡ false = p.ends in let y : is_ascii_digit c ≡ true = ap is_ascii_digit (sym e) ∙ h in let bad : true ≡ false = sym y ∙ n in cc)
 tells_number b bs (x ∷ xs) [] h p = tells_number_at b bs (x ∷ xs) [] (omega arith) p tt
@@ -87,7 +87,7 @@ not_closed q bs n w after is t e =
     let found : quote q bs ≡ Some (w, after) = ap (quote q) is ∙ quote_again q w after t e in
     let bad : ◌≡◌ {A = Option (List ℕ × List ℕ)} None (Some (w, after)) = sym n ∙ found in cc
 
-tells_name : (b : ℕ) (bs : List ℕ) (o : Option (List ℕ × List ℕ)) → b ≡ 34 → quote 34 bs ≡ o → Quoted 34 bs o → Tells (b ∷ bs) (name_next o)
+tells_name : (b : ℕ) (bs : List ℕ) (o : Option (List ℕ × List ℕ)) → b ≡ 34 → quote 34 bs ≡ o → Quoted 34 bs o → TellsNext (b ∷ bs) (name_next o)
 tells_name b bs None is e x = subst (λ q. IsFault (q ∷ bs)) (sym is) (open_quote 34 bs (inl refl) (not_closed 34 bs e))
 tells_name b bs (Some ([], rest)) is e x = subst IsFault (λ i. sym is i ∷ sym x.whole i) (empty_name rest x.ends)
 tells_name b bs (Some (c ∷ cs, rest)) is e x =
@@ -98,7 +98,7 @@ tells_name b bs (Some (c ∷ cs, rest)) is e x =
       ends = x.ends;
     }
 
-tells_literal : (b : ℕ) (bs : List ℕ) (o : Option (List ℕ × List ℕ)) → b ≡ 39 → quote 39 bs ≡ o → Quoted 39 bs o → Tells (b ∷ bs) (literal_next o)
+tells_literal : (b : ℕ) (bs : List ℕ) (o : Option (List ℕ × List ℕ)) → b ≡ 39 → quote 39 bs ≡ o → Quoted 39 bs o → TellsNext (b ∷ bs) (literal_next o)
 tells_literal b bs None is e x = subst (λ q. IsFault (q ∷ bs)) (sym is) (open_quote 39 bs (inr refl) (not_closed 39 bs e))
 tells_literal b bs (Some y) is e x =
     record {
@@ -111,7 +111,7 @@ tells_literal b bs (Some y) is e x =
 zero_byte : (d : ℕ) → is_text d ≡ false → d ≡ 0
 zero_byte d h = grind (arith, nat_tests)
 
-tells_comment : (b : ℕ) (bs w rest : List ℕ) → b ≡ 45 → first bs ≡ 45 → Part is_text (b ∷ bs) w rest → Tells (b ∷ bs) (ended rest)
+tells_comment : (b : ℕ) (bs w rest : List ℕ) → b ≡ 45 → first bs ≡ 45 → Part is_text (b ∷ bs) w rest → TellsNext (b ∷ bs) (ended rest)
 tells_comment b [] w rest is two p = absurd (omega (arith, two))
 tells_comment b (c ∷ cs) w [] is two p =
     let all : Every is_text (b ∷ c ∷ cs) = subst (Every is_text) (sym (p.whole ∙ append-nil w)) p.all in (is, two, (all.1).1)
@@ -283,7 +283,7 @@ no_token b bs o s d (number n) (x ∷ xs) after e sp =
 no_token b bs o s d (mark m) (x ∷ xs) after e (inl sp) = no_mark m b bs after s d (e ∙ ap (λ l. l ++ after) sp)
 no_token b bs o s d (mark m) (x ∷ xs) after e (inr sp) = no_double 33 61 marks.Apart b bs after refl (e ∙ ap (λ l. l ++ after) sp.1) d
 
-tells_single : (b : ℕ) (bs : List ℕ) (o : Option Mark) → IsOther b bs → single b ≡ o → double b (first bs) ≡ None → IsSingle b bs o → Tells (b ∷ bs) (single_next o bs)
+tells_single : (b : ℕ) (bs : List ℕ) (o : Option Mark) → IsOther b bs → single b ≡ o → double b (first bs) ≡ None → IsSingle b bs o → TellsNext (b ∷ bs) (single_next o bs)
 tells_single b bs None other s d is = bad_character b bs other.blank (apart b 34 other.name) (apart b 39 other.text) (no_token b bs other s d)
 tells_single b bs (Some m) other s d is = record { raw = b ∷ []; whole = refl; spells = inl (sym is.0); ends = is.1 }
 
@@ -321,11 +321,11 @@ tells_double m b (c ∷ cs) is =
       ends = is.1 cs;
     }
 
-tells_mark : (b : ℕ) (bs : List ℕ) (o : Option Mark) → double b (first bs) ≡ o → IsOther b bs → Tells (b ∷ bs) (mark_next o (single b) bs)
+tells_mark : (b : ℕ) (bs : List ℕ) (o : Option Mark) → double b (first bs) ≡ o → IsOther b bs → TellsNext (b ∷ bs) (mark_next o (single b) bs)
 tells_mark b bs None d other = tells_single b bs (single b) other refl d (single_is b bs d other.comment)
 tells_mark b bs (Some m) d other = tells_double m b bs (subst (λ o. IsDouble b (first bs) o) d (double_is b (first bs)))
 
-pub next_tells : (text : List ℕ) → Tells text (next text)
+pub next_tells : (text : List ℕ) → TellsNext text (next text)
 unfolding next
 next_tells [] = tt
 next_tells (b ∷ bs) =
@@ -345,7 +345,7 @@ map_some : (o : Option (List Lexeme)) (t : Lexeme) (us : List Lexeme) → option
 map_some None t us h = absurd (cc)
 map_some (Some ts) t us h = (ts, refl, sym (some_same (t ∷ ts) us h))
 
-lex_front : (at k : ℕ) (text : List ℕ) (us : List Lexeme) (n : Next) → Tells text n → ((at' : ℕ) (rest : List ℕ) (ts : List Lexeme) → lex k at' rest ≡ Some ts → Cuts at' rest ts) → continued at text (lex k) n ≡ Some us → Cuts at text us
+lex_front : (at k : ℕ) (text : List ℕ) (us : List Lexeme) (n : Next) → TellsNext text n → ((at' : ℕ) (rest : List ℕ) (ts : List Lexeme) → lex k at' rest ≡ Some ts → Cuts at' rest ts) → continued at text (lex k) n ≡ Some us → Cuts at text us
 lex_front at k text us done tells ih h = subst (λ y. Cuts at text y) (some_same [] us h) ([], text, tt, refl, tells)
 lex_front at k text us (blank rest) tells ih h = rw tells.1 (after_blank at tells.0 rest us tells.2 (ih (at + 1) rest us h))
 lex_front at k text us (token s rest) tells ih h =
@@ -365,10 +365,10 @@ lex_sound (suc k) at text us h = lex_front at k text us (next text) (next_tells 
 -- what is left gets shorter
 pub next_shorter : (text : List ℕ) (s : Shape) (rest : List ℕ) → next text ≡ token s rest → length rest < length text
 next_shorter text s rest h =
-    let f : Front text s rest = subst (Tells text) h (next_tells text) in
+    let f : Front text s rest = subst (TellsNext text) h (next_tells text) in
     omega (arith, ap length f.whole, length-append f.raw rest, some_bytes s f.raw f.spells)
 
 pub blank_shorter : (text rest : List ℕ) → next text ≡ blank rest → length text ≡ length rest + 1
 blank_shorter text rest h =
-    let f : Tells text (blank rest) = subst (Tells text) h (next_tells text) in
+    let f : TellsNext text (blank rest) = subst (TellsNext text) h (next_tells text) in
     omega (arith, ap length f.1)

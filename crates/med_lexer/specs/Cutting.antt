@@ -41,7 +41,9 @@ ahead w (Some x) = Some (w ++ x.0, x.1)
 abbrev pub quote : ℕ → List ℕ → Option (List ℕ × List ℕ)
 quote q [] = None
 quote q (b ∷ []) = cond (b == q) (Some ([], [])) None
-quote q (b ∷ c ∷ cs) = cond (b == q) (cond (c == q) (ahead (q ∷ []) (quote q cs)) (Some ([], c ∷ cs))) (cond (is_text b) (ahead (b ∷ []) (quote q (c ∷ cs))) None)
+quote q (b ∷ c ∷ cs) =
+    cond (b == q) (cond (c == q) (ahead (q ∷ []) (quote q cs)) (Some ([], c ∷ cs)))
+    (cond (is_text b) (ahead (b ∷ []) (quote q (c ∷ cs))) None)
 
 abbrev pub word_next : List ℕ × List ℕ → Next
 word_next x = token (word (map to_ascii_lowercase x.0)) x.1
@@ -83,9 +85,10 @@ behind (b ∷ bs) = bs
 
 abbrev pub single : ℕ → Option Mark
 single b =
-    cond (b == 40) (Some marks.LeftParen) (cond (b == 41) (Some marks.RightParen) (cond (b == 44) (Some marks.Comma) (cond (b == 46) (Some marks.Dot)
-    (cond (b == 59) (Some marks.Semicolon) (cond (b == 42) (Some marks.Star) (cond (b == 43) (Some marks.Plus) (cond (b == 45) (Some marks.Minus)
-    (cond (b == 47) (Some marks.Slash) (cond (b == 37) (Some marks.Percent) (cond (b == 61) (Some marks.Equal) (cond (b == 60) (Some marks.Below)
+    cond (b == 40) (Some marks.LeftParen) (cond (b == 41) (Some marks.RightParen) (cond (b == 44) (Some marks.Comma)
+    (cond (b == 46) (Some marks.Dot) (cond (b == 59) (Some marks.Semicolon) (cond (b == 42) (Some marks.Star)
+    (cond (b == 43) (Some marks.Plus) (cond (b == 45) (Some marks.Minus) (cond (b == 47) (Some marks.Slash)
+    (cond (b == 37) (Some marks.Percent) (cond (b == 61) (Some marks.Equal) (cond (b == 60) (Some marks.Below)
     (cond (b == 62) (Some marks.Above) None))))))))))))
 
 abbrev pub double : ℕ → ℕ → Option Mark

@@ -18,7 +18,7 @@ Steps (Err NoMemory) n = Unit {0}
 Steps (Err BadToken) n = n ≡ bad
 
 -- what was returned, seen by f, is this, unless memory ran out
-abbrev pub Gives : {X Y : Type 0} → (X → Y) → Result X LexFault → Option Y → Type 0
-Gives f (Ok x) o = o ≡ Some (f x)
-Gives f (Err NoMemory) o = Unit {0}
-Gives f (Err BadToken) o = o ≡ None
+abbrev pub GivesLexed : {X Y : Type 0} → (X → Y) → Result X LexFault → Option Y → Type 0
+GivesLexed f (Ok x) o = o ≡ Some (f x)
+GivesLexed f (Err NoMemory) o = Unit {0}
+GivesLexed f (Err BadToken) o = o ≡ None

@@ -4,7 +4,7 @@ ghost use Rattle.std.specs.Prelude.{length, suc};
 ghost use Rattle.med_lexer.specs.Lexemes as spec;
 ghost use Rattle.med_lexer.specs.Cutting as cutting;
 ghost use Rattle.med_lexer.specs.View.{views, Tokens};
-ghost use Rattle.med_lexer.specs.Steps.{Steps, Gives};
+ghost use Rattle.med_lexer.specs.Steps.{Steps, GivesLexed};
 ghost use Rattle.std.specs.Char.{is_ascii_digit};
 
 use crate::bytes::{Class, behind, cut_run, first, is_blank, is_start};
@@ -124,7 +124,7 @@ fn next(alloc: Global, text: &str) -> Result<Step<'_>, LexFault>
 
 /// The tokens of the text, one after another.
 fn cut(alloc: Global, text: &str) -> Result<Vec<Token>, LexFault>
-    ensures { Gives (λ v. views v.items) result (cutting.lex (suc (length text.now)) 0 text.now) }
+    ensures { GivesLexed (λ v. views v.items) result (cutting.lex (suc (length text.now)) 0 text.now) }
 {
     let mut out = Vec::new(alloc);
     let mut rest = text;

@@ -3,7 +3,7 @@
 ghost use Rattle.std.specs.Prelude.{◌≡◌, ◌<◌, length};
 ghost use Rattle.std.specs.String.{string_bytes};
 ghost use Rattle.med_lexer.specs.Cutting as cutting;
-ghost use Rattle.med_lexer.specs.Steps.{Gives};
+ghost use Rattle.med_lexer.specs.Steps.{GivesLexed};
 
 use crate::bytes::{Class, cut_run, strip};
 use crate::error::LexFault;
@@ -12,7 +12,7 @@ use std::alloc::Global;
 /// What stands up to the closing quote, a doubled quote as one, and the text behind it.
 pub fn unquoted(alloc: Global, quote: u8, text: &str) -> Result<(String, &str), LexFault>
     requires ascii { (0 < quote) × (quote < 128) }
-    ensures { Gives (λ x. (string_bytes x.0, x.1.now)) result (cutting.quote quote text.now) }
+    ensures { GivesLexed (λ x. (string_bytes x.0, x.1.now)) result (cutting.quote quote text.now) }
 {
     let mut out = String::new(alloc);
     let mut rest = text;

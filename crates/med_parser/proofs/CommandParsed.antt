@@ -19,7 +19,7 @@ use Rattle.expr_grammar.specs.declared.refusal.Refusal.TheVariants.{Syntax, TooH
 use Rattle.expr_grammar.specs.ExprTerminals.{AreReadable}
 use Rattle.query_grammar.specs.declared.query_symbols.Place.TheVariants.{Before}
 use Rattle.query_grammar.specs.QueryTerminals.{words_at}
-use Rattle.expr_grammar.specs.ExprAnswers.{Gives, cause_of_read}
+use Rattle.expr_grammar.specs.ExprAnswers.{ReadsAs, cause_of_read}
 use Rattle.med_syntax.specs.QueryTree.{StatementTree, select, statement_height}
 use Rattle.query_grammar.specs.QueryGrammar.{Spells, IsStatement, HasStatement}
 use Rattle.query_grammar.specs.QueryCauses.{statement_in_range}
@@ -258,7 +258,7 @@ no_command ss objects rows cursors queries (on_objects d) x = objects d x
 
 -- the reader of statements on data refused the tokens so
 abbrev QueryRefused : List Shape → ReadFault → Type 0
-QueryRefused ss f = Gives statement_tree (Err f) (bounded_line (words_at (Before false) false ss))
+QueryRefused ss f = ReadsAs statement_tree (Err f) (bounded_line (words_at (Before false) false ss))
 
 -- the reader of statements on data found none
 no_data : (ss : List Shape) → QueryRefused ss (faults.Refused Syntax) → (s : StatementTree) → IsStatement ss s → ⊥
@@ -321,7 +321,7 @@ told_cause ss Syntax Syntax Syntax none h k g = no_command ss none h k (no_data 
 pub refused_as : (ss : List Shape) (r s : Refusal) → r ≡ s → Refuses ss (faults.Refused r) → Refuses ss (faults.Refused s)
 refused_as ss r s p h = subst (λ x. Refuses ss (faults.Refused x)) p h
 
-pub told : (ss : List Shape) (r e q : Refusal) (f g : ReadFault) → f ≡ faults.Refused e → g ≡ faults.Refused q → ((d : DdlTree) → IsDdl ss d → ⊥) → Refuses ss (faults.Refused r) → cursor_causes.Refuses ss f → Gives statement_tree (Err g) (bounded_line (words_at (Before false) false ss)) → TokenCauses ss (cause_of_read (faults.Refused (highest r e q)))
+pub told : (ss : List Shape) (r e q : Refusal) (f g : ReadFault) → f ≡ faults.Refused e → g ≡ faults.Refused q → ((d : DdlTree) → IsDdl ss d → ⊥) → Refuses ss (faults.Refused r) → cursor_causes.Refuses ss f → ReadsAs statement_tree (Err g) (bounded_line (words_at (Before false) false ss)) → TokenCauses ss (cause_of_read (faults.Refused (highest r e q)))
 told ss r e q f g p o none h k x = told_cause ss r e q none h (subst (cursor_causes.Refuses ss) p k) (subst (QueryRefused ss) o x)
 
 pub read_statement : (ss : List Shape) (s : StatementTree) → bounded_line (words_at (Before false) false ss) ≡ Ok s → IsStatement ss s × (statement_height s ≤ 64)

@@ -14,7 +14,7 @@ use Rattle.med_query.specs.Form.{form_of, query_by}
 use Rattle.med_query.specs.Select.{query_of, groups_of}
 use Rattle.med_query.specs.Laws.{AllIgnoreOrder, IsSteady, AnswersIgnoreOrder}
 use Rattle.med_query.specs.Query.{Query, Tables, SameRows, IsAnswer, senses, having_of, has_class, kept, plain, outputs_all, output, kept_classes}
-use Rattle.fdw_api.specs.Scan.{Spec, Filter, spec_of, filter_of, TableRow, GivenRow, IsComing, shown, shown_cells, pick, meets_all}
+use Rattle.fdw_api.specs.Scan.{Spec, RestrictionForm, spec_of, restriction_form, TableRow, GivenRow, IsComing, given_row, shown_cells, pick, meets_all}
 use Rattle.fdw_api.specs.State.{BoxState, rows_of}
 use Rattle.med_value.specs.declared.value.TableNo.{TableNo}
 use Rattle.fdw_api.specs.declared.scan.Agreement.{Agreement}
@@ -24,7 +24,7 @@ use Rattle.pushdown.specs.Offered.{Place, IsOffer, AreOffers, IsScanOf, AreScans
 use Rattle.pushdown.specs.declared.offers.Offer.{Offer}
 use Rattle.pushdown.specs.declared.accepting.EntryScan.{EntryScan}
 use Rattle.med_planner.specs.declared.plans.Plan.{Plan}
-use Rattle.med_planner.specs.Planned.{tuples_of, rows_shown, entry_rows, QueryCauses, MayGive, AllMayGive, in_order, IsPlanOf}
+use Rattle.med_planner.specs.Planned.{tuples_of, rows_shown, entry_rows, IsShownCause, MayGive, AllMayGive, in_order, IsPlanOf}
 
 -- ---- rows
 
@@ -34,16 +34,16 @@ none_left [] a = refl
 none_left (r ∷ rs) a = absurd (false≢true (sym (All-head (λ r. meets_all [] [] r.cells ≡ false) r rs a)))
 
 -- rows that are not narrow come with all their cells
-whole_cells : (spec : Spec) → spec.narrow ≡ false → (rows : List TableRow) → map (λ (r : GivenRow). r.cells) (map (shown spec) rows) ≡ map (λ (r : TableRow). r.cells) rows
+whole_cells : (spec : Spec) → spec.narrow ≡ false → (rows : List TableRow) → map (λ (r : GivenRow). r.cells) (map (given_row spec) rows) ≡ map (λ (r : TableRow). r.cells) rows
 whole_cells spec wide [] = refl
 whole_cells spec wide (r ∷ rs) =
-    ap (λ (b : Bool). (if b then pick spec.wanted r.cells else r.cells) ∷ map (λ (g : GivenRow). g.cells) (map (shown spec) rs)) wide
+    ap (λ (b : Bool). (if b then pick spec.wanted r.cells else r.cells) ∷ map (λ (g : GivenRow). g.cells) (map (given_row spec) rs)) wide
     ∙ ap (λ (l : List Tuple). r.cells ∷ l) (whole_cells spec wide rs)
 
 -- what comes of a table where nothing was offered and rows come whole: its rows, each once
 all_come : (rows : List TableRow) (spec : Spec) (coming : List GivenRow) → spec.offered ≡ [] → spec.narrow ≡ false → IsComing rows spec [] coming → IsPermutation (map (λ r. r.cells) rows) (map (λ r. r.cells) coming)
 all_come rows spec coming none wide c =
-    let out : c.left_out ≡ [] = none_left c.left_out (subst (λ (l : List Filter). All (λ r. meets_all l [] r.cells ≡ false) c.left_out) none c.failing) in
+    let out : c.left_out ≡ [] = none_left c.left_out (subst (λ (l : List RestrictionForm). All (λ r. meets_all l [] r.cells ≡ false) c.left_out) none c.failing) in
     let same : IsPermutation rows c.taken = subst (λ (l : List TableRow). IsPermutation rows l) (ap (λ (l : List TableRow). c.taken ++ l) out ∙ append-nil c.taken) c.parts in
     let cells : map (λ (r : GivenRow). r.cells) coming ≡ map (λ (r : TableRow). r.cells) c.taken = ap (map (λ (r : GivenRow). r.cells)) c.is ∙ whole_cells spec wide c.taken in
     subst (λ (l : List Tuple). IsPermutation (map (λ r. r.cells) rows) l) (sym cells) (IsPermutation-map (λ (r : TableRow). r.cells) rows c.taken same)
@@ -51,7 +51,7 @@ all_come rows spec coming none wide c =
 table_comes : (box : Option (Option BoxState)) (scan : EntryScan) (rows : List Tuple) → scan.spec.offered.items ≡ [] → scan.spec.agreement.narrow ≡ false → MayGive box scan rows → IsPermutation (rows_shown box scan.table.number) rows
 table_comes (Some (Some s)) scan rows none wide h =
     subst (λ (l : List Tuple). IsPermutation (tuples_of s scan.table.number) l) (sym h.2)
-    (all_come (rows_of s scan.table.number) (spec_of scan.spec) h.0 (ap (map filter_of) none) wide h.1)
+    (all_come (rows_of s scan.table.number) (spec_of scan.spec) h.0 (ap (map restriction_form) none) wide h.1)
 table_comes (Some None) scan rows none wide h = absurd h
 table_comes None scan rows none wide h = absurd h
 
@@ -85,7 +85,7 @@ abbrev pub Steady : Type 0
 Steady = (params : Tuple) (es : List Expr) → AllIgnoreOrder (senses params es)
 
 abbrev pub CausesAny : Type 0
-CausesAny = (q : Query) → IsSteady q → (db other : Tables) → SameRows db other → (c : Cause) → QueryCauses q db c → QueryCauses q other c
+CausesAny = (q : Query) → IsSteady q → (db other : Tables) → SameRows db other → (c : Cause) → IsShownCause q db c → IsShownCause q other c
 
 -- as many rows are kept, in whatever order they come
 one_each : (rows : List Tuple) → length (filter (has_class None) (map (λ r. r ∷ []) rows)) ≡ length rows
@@ -101,7 +101,7 @@ kept_as_many any q db other same =
     let h = any p db other (record { having = tt; keys = tt; items = tt }) same in
     sym (shown_for_each q db) ∙ sym (length_permutation (outputs_all p db) (outputs_all p other) h.outputs) ∙ shown_for_each q other
 
-pub causes_any : AnyOrder → (q : Query) → IsSteady q → (db other : Tables) → SameRows db other → (c : Cause) → QueryCauses q db c → QueryCauses q other c
+pub causes_any : AnyOrder → (q : Query) → IsSteady q → (db other : Tables) → SameRows db other → (c : Cause) → IsShownCause q db c → IsShownCause q other c
 causes_any any q is db other same c (inl (f, told, e)) = inl (f, (any q db other is same).told f told, e)
 causes_any any q is db other same c (inr (grouped, big, e)) = inr (grouped, subst (λ (n : ℕ). 2 ^ 62 < n) (kept_as_many any q db other same) big, e)
 
@@ -128,6 +128,6 @@ promised any law causes es written p boxes same is =
     record {
       answers = λ lists h rows a.
           (any q (in_order lists) db steady (same_back db (in_order lists) (there lists h))).answers rows (subst (λ (x : Query). IsAnswer x (in_order lists) rows) one a);
-      told = λ lists h c k. causes q steady (in_order lists) db (same_back db (in_order lists) (there lists h)) c (subst (λ (x : Query). QueryCauses x (in_order lists) c) one k);
-      tells = λ lists h c k. subst (λ (x : Query). QueryCauses x (in_order lists) c) (sym one) (causes q steady db (in_order lists) (there lists h) c k);
+      told = λ lists h c k. causes q steady (in_order lists) db (same_back db (in_order lists) (there lists h)) c (subst (λ (x : Query). IsShownCause x (in_order lists) c) one k);
+      tells = λ lists h c k. subst (λ (x : Query). IsShownCause x (in_order lists) c) (sym one) (causes q steady db (in_order lists) (there lists h) c k);
     }

@@ -38,8 +38,8 @@ wrong_cause Range = OutOfRange
 wrong_cause Zero = DivisionByZero
 
 -- The causes of the phase of the run that a query shows over tables: its faults, and 54000 where it groups over 2^62 kept rows.
-abbrev pub QueryCauses : Query → Tables → Cause → Type 0
-QueryCauses q db c =
+abbrev pub IsShownCause : Query → Tables → Cause → Type 0
+IsShownCause q db c =
     ((f : Wrong) × Contains (faults q db) f × (c ≡ wrong_cause f)) ⊎ (IsSome q.group × (2 ^ 62 < length (kept q db)) × (c ≡ TooLarge))
 
 -- ---- scans
@@ -71,6 +71,6 @@ pub record IsPlanOf (q : Query) (entries : List Place) (boxes : List (Option Box
   pub answers : (lists : List (List Tuple)) → AllMayGive boxes plan.scans.items lists → (rows : List Tuple)
       → IsAnswer (query_of plan.select) (in_order lists) rows → IsAnswer q (entry_rows boxes entries) rows
   pub told : (lists : List (List Tuple)) → AllMayGive boxes plan.scans.items lists → (c : Cause)
-      → QueryCauses (query_of plan.select) (in_order lists) c → QueryCauses q (entry_rows boxes entries) c
+      → IsShownCause (query_of plan.select) (in_order lists) c → IsShownCause q (entry_rows boxes entries) c
   pub tells : (lists : List (List Tuple)) → AllMayGive boxes plan.scans.items lists → (c : Cause)
-      → QueryCauses q (entry_rows boxes entries) c → QueryCauses (query_of plan.select) (in_order lists) c
+      → IsShownCause q (entry_rows boxes entries) c → IsShownCause (query_of plan.select) (in_order lists) c

@@ -4,13 +4,14 @@
 ghost use Rattle.med_query.specs.Query.{Query, Tables, SameRows};
 ghost use Rattle.med_query.specs.Laws.{IsSteady};
 ghost use Rattle.med_value.specs.declared.cause.Cause.{Cause as Told};
-ghost use Rattle.med_planner.specs.Planned.{QueryCauses};
+ghost use Rattle.med_planner.specs.Planned.{IsShownCause};
 
 use med_query::law::answers_ignore_order;
 
 /// A query over the same rows in any other order shows the same causes: so a source may give its rows in any order.
 pub fn causes_ignore_order()
-    ensures { (q : Query) → IsSteady q → (db other : Tables) → SameRows db other → (c : Told) → QueryCauses q db c → QueryCauses q other c }
+    ensures { (q : Query) → IsSteady q → (db other : Tables) → SameRows db other → (c : Told) → IsShownCause q db c
+        → IsShownCause q other c }
 {
     answers_ignore_order();
 }

@@ -1,4 +1,4 @@
-//! Bound queries to plans.
+//! BoundQuery queries to plans.
 #![tactic(auto)]
 
 ghost use Rattle.std.specs.Prelude.{◌≡◌, List, Option, IfOk, map};
@@ -10,7 +10,7 @@ ghost use Rattle.med_planner.specs.Planned.{IsPlanOf};
 
 use crate::law::causes_ignore_order;
 use crate::plans::Plan;
-use med_binder::Bound;
+use med_binder::BoundQuery;
 use med_query::law::{answers_ignore_order, expressions_ignore_order};
 use med_value::NoMemory;
 use pushdown::Split;
@@ -21,7 +21,7 @@ use std::alloc::Global;
 /// same faults.
 ///
 /// Refused only for want of memory.
-pub fn plan(alloc: Global, bound: &Bound, split: Split) -> Result<Plan, NoMemory>
+pub fn plan(alloc: Global, bound: &BoundQuery, split: Split) -> Result<Plan, NoMemory>
     ensures scans { IfOk result (λ p. p.scans.items ≡ split.scans.items) }
     ensures query { IfOk result (λ p. form_of p.select ≡ form_of bound.now.select) }
     ensures plans { IfOk result (λ p. (boxes : List (Option BoxState)) → AreScansOf bound.now.entries.items split.scans.items

@@ -7,7 +7,7 @@ use Rattle.med_value.specs.Datum.{Datum, NoValue, Whole, Chars, Logic, Tuple}
 use Rattle.tri_expr.specs.declared.expr.Fault.TheVariants.{Range, Zero}
 use Rattle.med_value.specs.declared.order.Comparison.TheVariants.{Equal, Apart, Above}
 use Rattle.tri_expr.specs.declared.expr.Operation.TheVariants.{Divide}
-use Rattle.tri_expr.specs.declared.expr.Test.TheVariants.{Null}
+use Rattle.tri_expr.specs.declared.expr.Status.TheVariants.{Null}
 use Rattle.tri_expr.specs.declared.expr.SetFunction.TheVariants.{Count, Sum}
 use Rattle.tri_expr.specs.Outcome.{Is, compared, computed, tested}
 use Rattle.tri_expr.specs.Aggregate.{aggregated}
@@ -57,9 +57,9 @@ unequal = record {
   where_ = (λ r. compared Apart (col 2 r) (lit 0 r)) ∷ [];
   group = None;
   items = col 0 ∷ [];
-  unique = false;
+  distinct = false;
   keys = [];
-  towards = [];
+  directions = [];
   offset = 0;
   limit = None;
 }
@@ -127,7 +127,7 @@ abbrev unmatched : Query
 unmatched = record (plain (Table 0 ∷ []) ((λ r. tested Null false (col 4 r)) ∷ []) (col 0 ∷ [])) {
   from = LeftJoin (Table 0) 1 3 ((λ r. compared Equal (col 5 r) (col 0 r)) ∷ []) ∷ [];
   keys = col 0 ∷ [];
-  towards = asc ∷ [];
+  directions = asc ∷ [];
 }
 
 unmatched_outputs : outputs unmatched db ≡ (int 2 ∷ [], int 2 ∷ []) ∷ (int 3 ∷ [], int 3 ∷ []) ∷ []
@@ -157,7 +157,7 @@ abbrev null_group : Query
 null_group = record (plain (Table 1 ∷ []) [] (col 1 ∷ sum (col 2) ∷ [])) {
   group = Some (record { keys = 1 ∷ []; arguments = col 2 ∷ []; having = [] });
   keys = col 1 ∷ [];
-  towards = asc ∷ [];
+  directions = asc ∷ [];
 }
 
 null_group_outputs : outputs null_group more ≡ (int 1 ∷ [], int 1 ∷ int 10 ∷ []) ∷ (int 9 ∷ [], int 9 ∷ int 1 ∷ []) ∷ (NoValue ∷ [], NoValue ∷ int 3 ∷ []) ∷ []

@@ -34,9 +34,9 @@ pub record Form : Type 0 where
   pub conditions : List Tree
   pub group : Option GroupForm
   pub items : List Tree
-  pub unique : Bool
+  pub distinct : Bool
   pub keys : List Tree
-  pub towards : List Direction
+  pub directions : List Direction
   pub offset : ℕ
   pub limit : Option ℕ
 
@@ -62,39 +62,39 @@ form_of s = record {
   conditions = map tree s.conditions.items;
   group = option_map group_form s.grouping;
   items = map tree s.items.items;
-  unique = s.distinct;
+  distinct = s.distinct;
   keys = map tree s.keys.items;
-  towards = map direction_of s.directions.items;
+  directions = map direction_of s.directions.items;
   offset = s.offset;
   limit = s.limit;
 }
 
 -- ---- the query that a form is
 
-abbrev pub join_meant : Chain → JoinForm → Chain
-join_meant left (cross_form table) = Cross left table
-join_meant left (inner_form table on) = Inner left table (means [] on)
-join_meant left (left_form table width on) = LeftJoin left table width (means [] on)
+abbrev pub join_by : Chain → JoinForm → Chain
+join_by left (cross_form table) = Cross left table
+join_by left (inner_form table on) = Inner left table (means [] on)
+join_by left (left_form table width on) = LeftJoin left table width (means [] on)
 
-abbrev pub joins_meant : Chain → List JoinForm → Chain
-joins_meant left [] = left
-joins_meant left (j ∷ js) = joins_meant (join_meant left j) js
+abbrev pub joins_by : Chain → List JoinForm → Chain
+joins_by left [] = left
+joins_by left (j ∷ js) = joins_by (join_by left j) js
 
-abbrev pub chain_meant : ChainForm → Chain
-chain_meant c = joins_meant (Table c.first) c.joins
+abbrev pub chain_by : ChainForm → Chain
+chain_by c = joins_by (Table c.first) c.joins
 
-abbrev pub group_meant : GroupForm → Groups
-group_meant g = record { keys = g.keys; arguments = means [] g.arguments; having = means [] g.having }
+abbrev pub group_by : GroupForm → Groups
+group_by g = record { keys = g.keys; arguments = means [] g.arguments; having = means [] g.having }
 
 abbrev pub query_by : Form → Query
 query_by f = record {
-  from = map chain_meant f.from;
+  from = map chain_by f.from;
   where_ = means [] f.conditions;
-  group = option_map group_meant f.group;
+  group = option_map group_by f.group;
   items = means [] f.items;
-  unique = f.unique;
+  distinct = f.distinct;
   keys = means [] f.keys;
-  towards = f.towards;
+  directions = f.directions;
   offset = f.offset;
   limit = f.limit;
 }

@@ -86,6 +86,7 @@ pub struct Select {
     pub limit: Option<usize>,
 }
 
+// Whether none of the conjuncts of an ON may fault.
 fn are_safe(on: &[Expr]) -> bool
     ensures { result ≡ all_safe_trees (map tree on.now) }
 {
@@ -97,6 +98,7 @@ fn are_safe(on: &[Expr]) -> bool
     true
 }
 
+// Whether no conjunct of a join's ON, if it has one, may fault.
 fn is_safe_join(join: &Join) -> bool
     ensures { result ≡ is_safe_join_form (join_form join.now) }
 {
@@ -107,6 +109,7 @@ fn is_safe_join(join: &Join) -> bool
     }
 }
 
+// The same of each of the joins.
 fn are_safe_joins(joins: &[Join]) -> bool
     ensures { result ≡ list_all is_safe_join_form (map join_form joins.now) }
 {
@@ -118,6 +121,7 @@ fn are_safe_joins(joins: &[Join]) -> bool
     true
 }
 
+// The same of each join of a chain.
 fn is_safe_chain(chain: &JoinChain) -> bool
     ensures { result ≡ list_all is_safe_join_form (chain_form chain.now).joins }
 {

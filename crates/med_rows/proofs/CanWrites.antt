@@ -4,7 +4,7 @@ use Rattle.med_value.specs.Datum.{Tuple}
 use Rattle.med_value.specs.declared.value.ColType.{ColType}
 use Rattle.write_syntax.specs.WriteTree.{WriteTree}
 use Rattle.fdw_api.specs.Kinds.{kinds_of}
-use Rattle.fdw_api.specs.State.{Bound, Scan, BoxState, table_of, scan_of}
+use Rattle.fdw_api.specs.State.{BoxTable, Scan, BoxState, table_of, scan_of}
 use Rattle.fdw_api.specs.Sound.{IsTableOf, IsSoundBox}
 use Rattle.med_exec.specs.Slots.{BoxAt}
 use Rattle.med_catalog.specs.Objects.{TableObject, Objects, table_named}
@@ -24,7 +24,7 @@ use Rattle.med_rows.specs.Ready.{IsReady}
 none_live : (scan : Scan) (o : Option Scan) → o ≡ None → o ≡ Some scan → ⊥
 none_live scan o a b = absurd cc
 
-one_bound : (a b : Bound) (o : Option Bound) → o ≡ Some a → o ≡ Some b → a ≡ b
+one_bound : (a b : BoxTable) (o : Option BoxTable) → o ≡ Some a → o ≡ Some b → a ≡ b
 one_bound a b o p q = cc
 
 -- a table of a box at rest may be written
@@ -35,7 +35,7 @@ box_can s number kinds form answer rest sound is typed = record {
     no_scan = λ q scan live. absurd (none_live scan (scan_of s q) (rest.no_scan q) live);
     not_staged = rest.no_staging;
   };
-  typed = λ b at. subst (λ (ks : List ColType). IsTypedWrite ks form answer) (sym is.2 ∙ ap (λ (x : Bound). x.kinds) (one_bound is.0 b (table_of s number) is.1 at)) typed;
+  typed = λ b at. subst (λ (ks : List ColType). IsTypedWrite ks form answer) (sym is.2 ∙ ap (λ (x : BoxTable). x.kinds) (one_bound is.0 b (table_of s number) is.1 at)) typed;
   once = λ honest. sound.once honest number is.0 is.1;
 }
 

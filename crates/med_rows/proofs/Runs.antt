@@ -20,7 +20,7 @@ use Rattle.bind_catalog.specs.Places.{Attached}
 use Rattle.bind_catalog.specs.Queries.{meant_by}
 use Rattle.bind_catalog.specs.Tables.{shapes}
 use Rattle.med_binder.specs.Binding.{IsMeant}
-use Rattle.med_binder.specs.declared.bound.Bound.{Bound}
+use Rattle.med_binder.specs.declared.bound.BoundQuery.{BoundQuery}
 use Rattle.med_write.specs.declared.write.WrittenColumn.{WrittenColumn}
 use Rattle.med_write.specs.Form.{WriteForm, insert_form, answer_form, form_of}
 use Rattle.write_exec.specs.Writing.{IsTypedWrite, CanWrite, Writes, RefusesWrite}
@@ -124,10 +124,10 @@ none_asked o bound (delete d) boxes h = (refl, refl)
 
 -- ---- a query
 
-few_entries : (o : Objects) (bound : List Attached) (t : WriteTree) (b : Bound) → (h : HasQuery o bound t b) → length b.entries.items ≤ 8 → length (meant_by o h.query).entries ≤ 8
+few_entries : (o : Objects) (bound : List Attached) (t : WriteTree) (b : BoundQuery) → (h : HasQuery o bound t b) → length b.entries.items ≤ 8 → length (meant_by o h.query).entries ≤ 8
 few_entries o bound t b h few = subst (λ (n : ℕ). n ≤ 8) (sym (entries_counted (meant_by o h.query) b h.meant)) few
 
-pub asked : (o : Objects) (bound : List Attached) (t : WriteTree) (b : Bound) (old now : List (Option BoxState)) (answer : List Tuple) → HasQuery o bound t b → length b.entries.items ≤ 8 → AllServed old now → ReadsTables (map entry_place b.entries.items) old now
+pub asked : (o : Objects) (bound : List Attached) (t : WriteTree) (b : BoundQuery) (old now : List (Option BoxState)) (answer : List Tuple) → HasQuery o bound t b → length b.entries.items ≤ 8 → AllServed old now → ReadsTables (map entry_place b.entries.items) old now
     → ((m : Meant) → IsMeant m b → AnswersOver (query_of m) (map entry_place b.entries.items) old answer) → IsGiven o bound t old answer now
 asked o bound t b old now answer h few served once over =
     subst (λ (x : WriteTree). IsGiven o bound x old answer now) h.is (subst (λ (g : GivenTree). GivesRows o bound g old answer now) h.given gives)
@@ -135,23 +135,23 @@ asked o bound t b old now answer h few served once over =
     gives : GivesAnswer o bound h.query old answer now
     gives = record { few = few_entries o bound t b h few; served = served; places = map entry_place b.entries.items; are = h.places; answers = over (meant_by o h.query) h.meant; reads = once }
 
-pub not_answered : (o : Objects) (user : Name) (bound : List Attached) (t : WriteTree) (w : TableWrite) (b : Bound) (old new : List (Option BoxState)) (c : Cause) (leased : Bool) → leased ≡ false → IsBindable o user t → IsMeantWrite o bound t w → HasQuery o bound t b → length b.entries.items ≤ 8 → AllServed old new
+pub not_answered : (o : Objects) (user : Name) (bound : List Attached) (t : WriteTree) (w : TableWrite) (b : BoundQuery) (old new : List (Option BoxState)) (c : Cause) (leased : Bool) → leased ≡ false → IsBindable o user t → IsMeantWrite o bound t w → HasQuery o bound t b → length b.entries.items ≤ 8 → AllServed old new
     → ((m : Meant) → IsMeant m b → RunFails (query_of m) (map entry_place b.entries.items) c old new) → WriteFails o user bound t leased old c new
 not_answered o user bound t w b old new c leased free bindable is h few served fails =
     query_fails bindable free is.there.at (target_at o bound t w is) (of_its_query (λ q. FailsQuery o bound q old c new) o bound t b h
     (record { few = few_entries o bound t b h few; served = served; places = map entry_place b.entries.items; are = h.places; fails = fails (meant_by o h.query) h.meant }))
 
-pub crowded : (o : Objects) (user : Name) (bound : List Attached) (t : WriteTree) (b : Bound) (boxes : List (Option BoxState)) (leased : Bool) → IsBindable o user t → HasQuery o bound t b → 8 < length b.entries.items → WriteFails o user bound t leased boxes LimitExceeded boxes
+pub crowded : (o : Objects) (user : Name) (bound : List Attached) (t : WriteTree) (b : BoundQuery) (boxes : List (Option BoxState)) (leased : Bool) → IsBindable o user t → HasQuery o bound t b → 8 < length b.entries.items → WriteFails o user bound t leased boxes LimitExceeded boxes
 crowded o user bound t b boxes leased bindable h many =
     too_many bindable (of_its_query (λ q. 8 < length (meant_by o q).entries) o bound t b h (subst (λ (n : ℕ). 8 < n) (sym (entries_counted (meant_by o h.query) b h.meant)) many)) refl refl
 
 -- ---- whether the answer fits
 
 -- the places of the values, and the types of the columns
-abbrev places_for : (o : Objects) (bound : List Attached) (t : WriteTree) (b : Bound) → HasQuery o bound t b → List (Option ℕ)
+abbrev places_for : (o : Objects) (bound : List Attached) (t : WriteTree) (b : BoundQuery) → HasQuery o bound t b → List (Option ℕ)
 places_for o bound t b h = places_meant h.inserts.columns (columns_in (shapes o) h.inserts.table)
 
-form_asked : (o : Objects) (bound : List Attached) (t : WriteTree) (b : Bound) → (h : HasQuery o bound t b) → write_meant (shapes o) t ≡ insert_form (places_for o bound t b h) answer_form
+form_asked : (o : Objects) (bound : List Attached) (t : WriteTree) (b : BoundQuery) → (h : HasQuery o bound t b) → write_meant (shapes o) t ≡ insert_form (places_for o bound t b h) answer_form
 form_asked o bound t b h = ap (write_meant (shapes o)) (sym h.is) ∙ ap (λ (g : GivenTree). insert_form (places_for o bound t b h) (given_meant g)) (sym h.given)
 
 kinds_map : (columns : List Column) → kinds_written (map written_column columns) ≡ column_kinds columns
@@ -165,14 +165,14 @@ kinds_asked o bound t w is = ap kinds_written is.columns ∙ kinds_map (columns_
 abbrev pub IsTest : TableWrite → List Tuple → Bool → Type 0
 IsTest w answer r = (places : List (Option ℕ)) → form_of w.write.rows ≡ insert_form places answer_form → r ≡ answer_fits (kinds_written w.write.columns.items) places answer
 
-pub typed_by : (o : Objects) (bound : List Attached) (t : WriteTree) (w : TableWrite) (b : Bound) (answer : List Tuple) → IsMeantWrite o bound t w → HasQuery o bound t b → IsTest w answer true → IsTypedFor o t answer
+pub typed_by : (o : Objects) (bound : List Attached) (t : WriteTree) (w : TableWrite) (b : BoundQuery) (answer : List Tuple) → IsMeantWrite o bound t w → HasQuery o bound t b → IsTest w answer true → IsTypedFor o t answer
 typed_by o bound t w b answer is h test =
     let form : write_meant (shapes o) t ≡ insert_form (places_for o bound t b h) answer_form = form_asked o bound t b h in
     subst (λ (f : WriteForm). IsTypedWrite (column_kinds (columns_in (shapes o) (target_of t))) f answer) (sym form)
     (subst (λ (ks : List ColType). IsTypedWrite ks (insert_form (places_for o bound t b h) answer_form) answer) (kinds_asked o bound t w is)
     (fits_typed (kinds_written w.write.columns.items) (places_for o bound t b h) answer (sym (test (places_for o bound t b h) (is.form ∙ form)))))
 
-pub untyped : WritesAreTyped → (o : Objects) (user : Name) (bound : List Attached) (t : WriteTree) (w : TableWrite) (b : Bound) (old new : List (Option BoxState)) (answer : List Tuple) (leased : Bool) → leased ≡ false → IsReady o bound old → IsBindable o user t → IsClean t → IsMeantWrite o bound t w
+pub untyped : WritesAreTyped → (o : Objects) (user : Name) (bound : List Attached) (t : WriteTree) (w : TableWrite) (b : BoundQuery) (old new : List (Option BoxState)) (answer : List Tuple) (leased : Bool) → leased ≡ false → IsReady o bound old → IsBindable o user t → IsClean t → IsMeantWrite o bound t w
     → HasQuery o bound t b → ((m : Meant) → IsMeant m b → AnswersOver (query_of m) (map entry_place b.entries.items) old answer) → AllServed old new → IsTest w answer false → WriteFails o user bound t leased old SourceFault new
 untyped law o user bound t w b old new answer leased free ready bindable clean is h over served test = rows_untyped bindable free not_honest refl served
   where
@@ -196,7 +196,7 @@ pub can_alone : WritesAreTyped → (o : Objects) (user : Name) (bound : List Att
 can_alone law o user bound boxes t w ready bindable clean is none =
     can_be o bound boxes t w [] ready is (typed_alone law o user bound t [] bindable clean (subst (IsQueryOf o bound t) none is.query))
 
-pub can_answered : (o : Objects) (bound : List Attached) (old now : List (Option BoxState)) (t : WriteTree) (w : TableWrite) (b : Bound) (answer : List Tuple) → IsReady o bound old → AllServed old now → IsMeantWrite o bound t w → HasQuery o bound t b → IsTest w answer true → CanAt w answer now
+pub can_answered : (o : Objects) (bound : List Attached) (old now : List (Option BoxState)) (t : WriteTree) (w : TableWrite) (b : BoundQuery) (answer : List Tuple) → IsReady o bound old → AllServed old now → IsMeantWrite o bound t w → HasQuery o bound t b → IsTest w answer true → CanAt w answer now
 can_answered o bound old now t w b answer ready served is h test =
     can_be o bound now t w answer (ready_served o bound old now served ready) is (typed_by o bound t w b answer is h test)
 

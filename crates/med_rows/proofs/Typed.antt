@@ -30,7 +30,7 @@ use Rattle.bind_catalog.specs.Queries.{meant_by}
 use Rattle.bind_catalog.specs.Tables.{shapes}
 use Rattle.bind_catalog.proofs.Rows.{columns_there}
 use Rattle.med_binder.specs.Binding.{IsMeant}
-use Rattle.med_binder.specs.declared.bound.Bound.{Bound}
+use Rattle.med_binder.specs.declared.bound.BoundQuery.{BoundQuery}
 use Rattle.write_exec.specs.Writing.{IsTypedWrite}
 use Rattle.write_parts.specs.Meaning.{target_of, columns_in, write_meant}
 use Rattle.write_parts.specs.Naming.{target_causes, names_of}
@@ -69,7 +69,7 @@ typed_alone law o user bound t answer is clean none = law o t (λ k. []) answer 
 -- ---- a query
 
 -- the write is an INSERT of the rows of this query
-pub record HasQuery (o : Objects) (bound : List Attached) (t : WriteTree) (b : Bound) : Type 0 where
+pub record HasQuery (o : Objects) (bound : List Attached) (t : WriteTree) (b : BoundQuery) : Type 0 where
   pub inserts : InsertTree
   pub is : insert inserts ≡ t
   pub query : SelectTree
@@ -78,7 +78,7 @@ pub record HasQuery (o : Objects) (bound : List Attached) (t : WriteTree) (b : B
   pub places : ArePlaces bound (meant_by o query).entries (map place_of b.entries.items)
   pub safe : is_safe_from b.select.from.items ≡ true
 
-pub has_query : (o : Objects) (bound : List Attached) (t : WriteTree) (b : Bound) → IsQueryOf o bound t (Some b) → HasQuery o bound t b
+pub has_query : (o : Objects) (bound : List Attached) (t : WriteTree) (b : BoundQuery) → IsQueryOf o bound t (Some b) → HasQuery o bound t b
 has_query o bound (insert i) b h = of_given i.given refl h
   where
     of_given : (g : GivenTree) → g ≡ i.given → IsBoundGiven o bound g (Some b) → HasQuery o bound (insert i) b
@@ -87,7 +87,7 @@ has_query o bound (insert i) b h = of_given i.given refl h
 has_query o bound (update u) b h = absurd cc
 has_query o bound (delete d) b h = absurd cc
 
-pub of_its_query : (P : SelectTree → Type 0) (o : Objects) (bound : List Attached) (t : WriteTree) (b : Bound) → (h : HasQuery o bound t b) → P h.query → OfQuery P t
+pub of_its_query : (P : SelectTree → Type 0) (o : Objects) (bound : List Attached) (t : WriteTree) (b : BoundQuery) → (h : HasQuery o bound t b) → P h.query → OfQuery P t
 of_its_query P o bound t b h p = subst (λ (x : WriteTree). OfQuery P x) h.is (subst (λ (g : GivenTree). OfGiven P g) h.given p)
 
 -- ---- the rows of its entries
@@ -164,7 +164,7 @@ from_known o user i (rows_of r) q same h =
     (left_none (flat_map (entry_causes (shapes o)) (entries_of r.from)) _ (right_none (target_causes (shapes o) i.table) (from_causes (shapes o) r.from)
     (known_first (target_causes (shapes o) i.table ++ from_causes (shapes o) r.from) _ (left_none _ _ h))))
 
-pub typed_answer : WritesAreTyped → (o : Objects) (user : Name) (bound : List Attached) (t : WriteTree) (b : Bound) (boxes : List (Option BoxState)) (answer : List Tuple) → IsReady o bound boxes → IsBindable o user t → IsClean t → (h : HasQuery o bound t b)
+pub typed_answer : WritesAreTyped → (o : Objects) (user : Name) (bound : List Attached) (t : WriteTree) (b : BoundQuery) (boxes : List (Option BoxState)) (answer : List Tuple) → IsReady o bound boxes → IsBindable o user t → IsClean t → (h : HasQuery o bound t b)
     → AnswersOver (query_of (meant_by o h.query)) (map place_of b.entries.items) boxes answer → AllHonest boxes → IsTypedFor o t answer
 typed_answer law o user bound t b boxes answer ready is clean h over honest = law o t db answer is.types clean (subst (λ (x : WriteTree). IsGiven (shapes o) x db answer) h.is (subst (λ (g : GivenTree). IsAnswered (shapes o) g db answer) h.given (typed, shows)))
   where

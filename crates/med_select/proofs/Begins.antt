@@ -10,11 +10,11 @@ use Rattle.med_query.specs.Select.{query_of as written_query}
 use Rattle.fdw_api.specs.State.{BoxState}
 use Rattle.fdw_api.specs.declared.interface.Fault.{Fault}
 use Rattle.pushdown.specs.Offered.{Place, entry_place}
-use Rattle.med_planner.specs.Planned.{entry_rows, QueryCauses}
+use Rattle.med_planner.specs.Planned.{entry_rows, IsShownCause}
 use Rattle.med_exec.specs.Running.{AllServed, ServesRun, Stops, lacks_memory, source_fails, numbers_end, query_shows, Begun, none_held}
 use Rattle.med_exec.specs.Rests.{Rests, held, IsRunning}
 use Rattle.med_exec.specs.declared.running.Run.{Run}
-use Rattle.med_binder.specs.declared.bound.Bound.{Bound}
+use Rattle.med_binder.specs.declared.bound.BoundQuery.{BoundQuery}
 use Rattle.med_value.specs.declared.cause.Cause.{Cause}
 use Rattle.med_catalog.specs.Objects.{Objects}
 use Rattle.bind_catalog.specs.Queries.{meant_by}
@@ -37,21 +37,21 @@ stopped_over law q is places fault old new (lacks_memory e) = no_memory (ap caus
 stopped_over law q is places fault old new (source_fails e failed) = box_fails (ap cause_of e) failed
 stopped_over law q is places fault old new (numbers_end e used) = numbers_out (ap cause_of e) used
 stopped_over law q is places fault old new (query_shows c e shows) =
-    shows_cause (λ honest db same. subst (λ (d : Cause). QueryCauses q db d) (sym (ap cause_of e)) (law q is (entry_rows old places) db same c (shows honest)))
+    shows_cause (λ honest db same. subst (λ (d : Cause). IsShownCause q db d) (sym (ap cause_of e)) (law q is (entry_rows old places) db same c (shows honest)))
 
 -- a query that was bound and may have a cursor
-pub record MayBegin (full : Bool) (b : Bound) : Type 0 where
+pub record MayBegin (full : Bool) (b : BoundQuery) : Type 0 where
   pub safe : is_risky_form (form_of b.select) ≡ false
   pub room : full ≡ false
   pub few : length b.entries.items ≤ 8
 
-few_meant : (o : Objects) (user : Name) (bound : List Attached) (q : SelectTree) (b : Bound) → IsBoundBy o user bound q b → length b.entries.items ≤ 8 → length (meant_by o q).entries ≤ 8
+few_meant : (o : Objects) (user : Name) (bound : List Attached) (q : SelectTree) (b : BoundQuery) → IsBoundBy o user bound q b → length b.entries.items ≤ 8 → length (meant_by o q).entries ≤ 8
 few_meant o user bound q b is few = subst (λ (n : ℕ). n ≤ 8) (sym (entries_counted (meant_by o q) b is.meant)) few
 
-safe_meant : (o : Objects) (user : Name) (bound : List Attached) (q : SelectTree) (b : Bound) → IsBoundBy o user bound q b → is_risky_form (form_of b.select) ≡ false → is_risky_form (meant_by o q).form ≡ false
+safe_meant : (o : Objects) (user : Name) (bound : List Attached) (q : SelectTree) (b : BoundQuery) → IsBoundBy o user bound q b → is_risky_form (form_of b.select) ≡ false → is_risky_form (meant_by o q).form ≡ false
 safe_meant o user bound q b is safe = sym (ap is_risky_form is.meant.form) ∙ safe
 
-pub starts : ExpressionsIgnoreOrder → AnswersInAnyOrder → CausesInAnyOrder → (o : Objects) (user : Name) (bound : List Attached) (q : SelectTree) (full : Bool) (b : Bound) (run : Run) (old new : List (Option BoxState))
+pub starts : ExpressionsIgnoreOrder → AnswersInAnyOrder → CausesInAnyOrder → (o : Objects) (user : Name) (bound : List Attached) (q : SelectTree) (full : Bool) (b : BoundQuery) (run : Run) (old new : List (Option BoxState))
     → IsBoundBy o user bound q b → MayBegin full b → ServesRun none_held (held run) old new → IsRunning run new → ReadsTables (map entry_place b.entries.items) old new → Begun (written_query b.select) (map entry_place b.entries.items) (Rests run new) old
     → Starts o user bound q full old (map string_bytes b.names.items) run new
 starts order any causes o user bound q full b run old new is may served running once begun =
@@ -71,7 +71,7 @@ starts order any causes o user bound q full b run old new is may served running 
       rests = subst (λ (x : Query). RestsOver x places old (Rests run new)) (query_bound m b is.meant) (rests_over any causes (written_query b.select) (steady order b.select) places old (Rests run new) begun);
     }
 
-pub not_begun : ExpressionsIgnoreOrder → CausesInAnyOrder → (o : Objects) (user : Name) (bound : List Attached) (q : SelectTree) (full : Bool) (b : Bound) (fault : Fault) (old new : List (Option BoxState))
+pub not_begun : ExpressionsIgnoreOrder → CausesInAnyOrder → (o : Objects) (user : Name) (bound : List Attached) (q : SelectTree) (full : Bool) (b : BoundQuery) (fault : Fault) (old new : List (Option BoxState))
     → IsBoundBy o user bound q b → MayBegin full b → AllServed old new → Stops (written_query b.select) (map entry_place b.entries.items) fault old new → StartFails o user bound q full old (cause_of fault) new
 not_begun order causes o user bound q full b fault old new is may served stops =
     let m = meant_by o q in

@@ -13,8 +13,8 @@ use Rattle.med_query.specs.Form.{query_by}
 use Rattle.med_query.specs.Select.{query_of as written_query, groups_of}
 use Rattle.med_query.specs.Laws.{AllIgnoreOrder, IsSteady, AnswersIgnoreOrder}
 use Rattle.med_query.specs.Query.{Query, Tables, SameRows, senses, having_of, plain}
-use Rattle.fdw_api.specs.Scan.{Filter, spec_of, plain_spec, filter_of, params_fit}
-use Rattle.fdw_api.specs.State.{BoxState, Bound as TableBound, table_of}
+use Rattle.fdw_api.specs.Scan.{RestrictionForm, spec_of, plain_spec, restriction_form, params_fit}
+use Rattle.fdw_api.specs.State.{BoxState, BoxTable as TableBound, table_of}
 use Rattle.fdw_api.specs.Calls.{CanBegin}
 use Rattle.fdw_api.specs.declared.interface.Fault.{Fault}
 use Rattle.med_value.specs.declared.value.TableNo.{TableNo}
@@ -25,13 +25,13 @@ use Rattle.fdw_api.specs.declared.scan.ScanSpec.{ScanSpec}
 use Rattle.pushdown.specs.Offered.{Place, IsOffer, AreOffers, IsScanOf, AreScans, entry_place}
 use Rattle.pushdown.specs.declared.offers.Offer.{Offer}
 use Rattle.pushdown.specs.declared.accepting.EntryScan.{EntryScan}
-use Rattle.med_planner.specs.Planned.{entry_rows, QueryCauses}
+use Rattle.med_planner.specs.Planned.{entry_rows, IsShownCause}
 use Rattle.med_exec.specs.Slots.{BoxAt, HasTable}
 use Rattle.med_exec.specs.Running.{AllServed, AllBegin, Stops, lacks_memory, source_fails, numbers_end, query_shows}
 use Rattle.med_syntax.specs.QueryTree.{SelectTree}
 use Rattle.bind_names.specs.Meaning.{Meant}
 use Rattle.med_binder.specs.Binding.{IsMeant}
-use Rattle.med_binder.specs.declared.bound.Bound.{Bound}
+use Rattle.med_binder.specs.declared.bound.BoundQuery.{BoundQuery}
 use Rattle.med_binder.specs.declared.bound.BoundEntry.{BoundEntry}
 use Rattle.med_world.specs.Causes.{query_of}
 use Rattle.med_syntax.specs.Tree.{Name}
@@ -47,7 +47,7 @@ use Rattle.med_select.specs.Agreeing.{answers_given, answers_wanted, IsAgreed, A
 -- ---- what was bound
 
 -- as many entries
-pub entries_counted : (m : Meant) (b : Bound) → IsMeant m b → length m.entries ≡ length b.entries.items
+pub entries_counted : (m : Meant) (b : BoundQuery) → IsMeant m b → length m.entries ≡ length b.entries.items
 entries_counted m b is = sym (ap (λ (ks : List ℕ). length ks) is.entries) ∙ length-map b.entries.items (λ (e : BoundEntry). e.place)
 
 -- ---- entries, offers and scans
@@ -116,7 +116,7 @@ no_answers [] many = refl
 no_answers (x ∷ xs) many = absurd cc
 
 -- a scan of whole rows for which nothing is offered may begin on every bound table
-offers_none : (wanted : List ℕ) (offered : List Filter) (answers : List Agree) (narrow : Bool) → offered ≡ [] → answers ≡ [] → narrow ≡ false → record { wanted = wanted; offered = offered; answers = answers; narrow = narrow } ≡ plain_spec wanted []
+offers_none : (wanted : List ℕ) (offered : List RestrictionForm) (answers : List Agree) (narrow : Bool) → offered ≡ [] → answers ≡ [] → narrow ≡ false → record { wanted = wanted; offered = offered; answers = answers; narrow = narrow } ≡ plain_spec wanted []
 offers_none wanted offered answers narrow p q r = λ i. record { wanted = wanted; offered = p i; answers = q i; narrow = r i }
 
 whole_on : (s : BoxState) (t : ℕ) (spec : ScanSpec) → spec.offered.items ≡ [] → spec_of spec ≡ plain_spec spec.wanted.items [] → (o : Option TableBound) → table_of s t ≡ o → IsSome o → CanBegin s t spec []
@@ -125,12 +125,12 @@ whole_on s t spec none plain (Some bound) at is_bound = record {
   bound = bound;
   is = at;
   allowed = ap bound.allows plain ∙ bound.allows_plain spec.wanted.items [];
-  typed = ap (λ (l : List Restriction). params_fit bound.kinds (map filter_of l) []) none;
+  typed = ap (λ (l : List Restriction). params_fit bound.kinds (map restriction_form l) []) none;
 }
 
 whole_begins : (s : BoxState) (t : ℕ) (spec : ScanSpec) → spec.offered.items ≡ [] → spec.agreement.answers.items ≡ [] → spec.agreement.narrow ≡ false → IsSome (table_of s t) → CanBegin s t spec []
 whole_begins s t spec none silent wide is_bound =
-    whole_on s t spec none (offers_none spec.wanted.items (map filter_of spec.offered.items) spec.agreement.answers.items spec.agreement.narrow (ap (map filter_of) none) silent wide) (table_of s t) refl is_bound
+    whole_on s t spec none (offers_none spec.wanted.items (map restriction_form spec.offered.items) spec.agreement.answers.items spec.agreement.narrow (ap (map restriction_form) none) silent wide) (table_of s t) refl is_bound
 
 scan_begins : (boxes : List (Option BoxState)) (e : BoundEntry) (o : Offer) (a : Agreement) (s : EntryScan) → IsOffer e o → answers_given a ≡ answers_wanted o → IsScanOf o a s → HasEntry boxes e → BoxAt boxes s.source (λ b. CanBegin b s.table.number s.spec [])
 scan_begins boxes e o a s i many j h =
@@ -168,7 +168,7 @@ scans_begin boxes (e ∷ es) (o ∷ os) (a ∷ more) (s ∷ ss) is many js h =
 -- ---- the query
 
 -- the query of what was bound is the statement's
-pub query_bound : (m : Meant) (b : Bound) → IsMeant m b → written_query b.select ≡ query_of m
+pub query_bound : (m : Meant) (b : BoundQuery) → IsMeant m b → written_query b.select ≡ query_of m
 query_bound m b is = ap query_by is.form
 
 abbrev pub ExpressionsIgnoreOrder : Type 0
@@ -188,7 +188,7 @@ pub same_back : (db other : Tables) → SameRows db other → SameRows other db
 same_back db other h t = IsPermutation-sym (db t) (other t) (h t)
 
 abbrev pub CausesInAnyOrder : Type 0
-CausesInAnyOrder = (q : Query) → IsSteady q → (db other : Tables) → SameRows db other → (c : Cause) → QueryCauses q db c → QueryCauses q other c
+CausesInAnyOrder = (q : Query) → IsSteady q → (db other : Tables) → SameRows db other → (c : Cause) → IsShownCause q db c → IsShownCause q other c
 
 -- what holds over the rows as the boxes give them holds of them in any order
 pub answers_over : AnswersInAnyOrder → CausesInAnyOrder → (q : Query) → IsSteady q → (places : List Place) (boxes : List (Option BoxState)) (rows : List Tuple) → RunAnswers q places boxes rows → AnswersOver q places boxes rows
@@ -202,17 +202,17 @@ fails_over law q is places fault old new (lacks_memory e) = no_memory (ap cause_
 fails_over law q is places fault old new (source_fails e failed) = box_fails (ap cause_of e) failed
 fails_over law q is places fault old new (numbers_end e used) = numbers_out (ap cause_of e) used
 fails_over law q is places fault old new (query_shows c e shows) =
-    shows_cause (λ honest db same. subst (λ (d : Cause). QueryCauses q db d) (sym (ap cause_of e)) (law q is (entry_rows old places) db same c (shows honest)))
+    shows_cause (λ honest db same. subst (λ (d : Cause). IsShownCause q db d) (sym (ap cause_of e)) (law q is (entry_rows old places) db same c (shows honest)))
 
 -- ---- the whole
 
 -- what binding said of a query
-pub record IsBoundBy (o : Objects) (user : Name) (bound : List Attached) (q : SelectTree) (b : Bound) : Type 0 where
+pub record IsBoundBy (o : Objects) (user : Name) (bound : List Attached) (q : SelectTree) (b : BoundQuery) : Type 0 where
   pub bindable : IsBindable o user q
   pub meant : IsMeant (meant_by o q) b
   pub places : ArePlaces bound (meant_by o q).entries (map entry_place b.entries.items)
 
-pub selected : ExpressionsIgnoreOrder → AnswersInAnyOrder → CausesInAnyOrder → (o : Objects) (user : Name) (bound : List Attached) (q : SelectTree) (b : Bound) (rows : List Tuple) (old new : List (Option BoxState))
+pub selected : ExpressionsIgnoreOrder → AnswersInAnyOrder → CausesInAnyOrder → (o : Objects) (user : Name) (bound : List Attached) (q : SelectTree) (b : BoundQuery) (rows : List Tuple) (old new : List (Option BoxState))
     → IsBoundBy o user bound q b → length b.entries.items ≤ 8 → AllServed old new → ReadsTables (map entry_place b.entries.items) old new → RunAnswers (written_query b.select) (map entry_place b.entries.items) old rows → Selects o user bound q old (map string_bytes b.names.items) rows new
 selected order any causes o user bound q b rows old new is few served once run =
     let m = meant_by o q in
@@ -228,7 +228,7 @@ selected order any causes o user bound q b rows old new is few served once run =
       answers = subst (λ (x : Query). AnswersOver x places old rows) (query_bound m b is.meant) (answers_over any causes (written_query b.select) (steady order b.select) places old rows run);
     }
 
-pub unanswered : ExpressionsIgnoreOrder → CausesInAnyOrder → (o : Objects) (user : Name) (bound : List Attached) (q : SelectTree) (b : Bound) (fault : Fault) (old new : List (Option BoxState))
+pub unanswered : ExpressionsIgnoreOrder → CausesInAnyOrder → (o : Objects) (user : Name) (bound : List Attached) (q : SelectTree) (b : BoundQuery) (fault : Fault) (old new : List (Option BoxState))
     → IsBoundBy o user bound q b → length b.entries.items ≤ 8 → AllServed old new → Stops (written_query b.select) (map entry_place b.entries.items) fault old new → SelectFails o user bound q old (cause_of fault) new
 unanswered order causes o user bound q b fault old new is few served stops =
     let m = meant_by o q in
@@ -236,7 +236,7 @@ unanswered order causes o user bound q b fault old new is few served stops =
     run_fails is.bindable (subst (λ (n : ℕ). n ≤ 8) (sym (entries_counted m b is.meant)) few) served places is.places
     (subst (λ (x : Query). RunFails x places (cause_of fault) old new) (query_bound m b is.meant) (fails_over causes (written_query b.select) (steady order b.select) places fault old new stops))
 
-pub crowded : (o : Objects) (user : Name) (bound : List Attached) (q : SelectTree) (b : Bound) (old : List (Option BoxState)) → IsBoundBy o user bound q b → 8 < length b.entries.items → SelectFails o user bound q old LimitExceeded old
+pub crowded : (o : Objects) (user : Name) (bound : List Attached) (q : SelectTree) (b : BoundQuery) (old : List (Option BoxState)) → IsBoundBy o user bound q b → 8 < length b.entries.items → SelectFails o user bound q old LimitExceeded old
 crowded o user bound q b old is many =
     too_many is.bindable (subst (λ (n : ℕ). 8 < n) (sym (entries_counted (meant_by o q) b is.meant)) many) refl refl
 

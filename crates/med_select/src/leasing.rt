@@ -12,6 +12,7 @@ use med_syntax::{Entry, Statement};
 use med_value::Cause;
 use std::alloc::Global;
 
+// The names of the tables of these entries, in their order.
 fn tables_of(alloc: Global, entries: &[&Entry]) -> Result<Vec<String>, Cause>
     ensures ok { IfOk result (λ names. map string_bytes names.items ≡ map (λ (e : EntryTree). e.table) (map seen_entry entries.now)) }
     ensures err { IfErr result (λ c. c ≡ OutOfMemory) }

@@ -9,6 +9,7 @@ ghost use Rattle.open_cursors.specs.Starting.{is_risky_form, group_trees};
 use med_query::{Grouping, Select};
 use tri_expr::{Expr, is_risky};
 
+// Whether one of the expressions may fault.
 fn some_risky(expressions: &[Expr]) -> bool
     ensures { result ≡ list_any is_risky_tree (map tree expressions.now) }
 {
@@ -20,6 +21,7 @@ fn some_risky(expressions: &[Expr]) -> bool
     false
 }
 
+// Whether an argument of an aggregate or a conjunct of HAVING may fault, where the query groups.
 fn is_risky_group(grouping: &Option<Grouping>) -> bool
     ensures { result ≡ list_any is_risky_tree (group_trees (option_map group_form grouping.now)) }
 {

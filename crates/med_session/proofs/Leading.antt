@@ -7,7 +7,7 @@ use Rattle.med_syntax.specs.QueryTree.{StatementTree, select}
 use Rattle.med_parser.specs.CommandTree.{CommandTree, on_data, on_rows, on_cursors, on_objects}
 use Rattle.cursor_syntax.specs.CursorTree.{declare, fetch, close}
 use Rattle.bind_catalog.specs.Looked.{query_in}
-use Rattle.med_world.specs.Requests.{Asked, opening, sql, bye}
+use Rattle.med_world.specs.Requests.{AskedLine, opening, sql, bye}
 use Rattle.med_world.specs.World.{World, Session}
 use Rattle.med_world.specs.Picks.{Pick}
 use Rattle.med_world.specs.Replies.{Reply, answered, refused, reply_text}
@@ -16,7 +16,7 @@ use Rattle.med_world.specs.Engine.{Shown, Agrees, Leads, IsAnswered}
 use Rattle.med_world.specs.Laws.{IsRead}
 use Rattle.med_world.proofs.OneRun.{once_refused}
 use Rattle.med_select.specs.declared.selecting.RowSet.{RowSet}
-use Rattle.med_session.specs.Outcomes.{HasRows, Tells, reply_of}
+use Rattle.med_session.specs.Outcomes.{HasRows, TellsReply, reply_of}
 use Rattle.med_session.specs.Cursors.{IfFetched}
 use Rattle.med_session.specs.declared.replies.Outcome.{Outcome}
 use Rattle.med_session.specs.declared.replies.Outcome.TheVariants as outcome
@@ -35,12 +35,12 @@ tree_rows w after sid s p (on_cursors (fetch asked name)) names rows d = absurd 
 tree_rows w after sid s p (on_cursors (close name)) names rows d = absurd (let e = d.0 in cc)
 tree_rows w after sid s p (on_objects x) names rows d = absurd (let e = d.0 in cc)
 
-does_rows : (w after : World) (sid : ℕ) (p : Pick) (request : Asked) (names : List Name) (rows : List Tuple) → Does w sid p request (answered (codes "SELECT") names rows) after → TakesMemory request × (after ≡ w)
+does_rows : (w after : World) (sid : ℕ) (p : Pick) (request : AskedLine) (names : List Name) (rows : List Tuple) → Does w sid p request (answered (codes "SELECT") names rows) after → TakesMemory request × (after ≡ w)
 does_rows w after sid p (opening user) names rows d = absurd (let e = d.0 in cc)
 does_rows w after sid p (sql text) names rows (s, tree, is, d) = (tt, tree_rows w after sid s p tree names rows d)
 does_rows w after sid p bye names rows d = absurd (let e = d.0 in cc)
 
-rows_refused : (w : World) (sid : ℕ) (request : Asked) (t : Trouble) (names : List Name) (rows : List Tuple) (after : World) (new : Shown) → Step w sid request t (answered (codes "SELECT") names rows) after → Agrees new after
+rows_refused : (w : World) (sid : ℕ) (request : AskedLine) (t : Trouble) (names : List Name) (rows : List Tuple) (after : World) (new : Shown) → Step w sid request t (answered (codes "SELECT") names rows) after → Agrees new after
     → (z : World) × Step w sid request (with_memory t) (refused OutOfMemory) z × Agrees new z
 unfolding with_memory
 rows_refused w sid request t names rows after new (is_refused p c picked told e same) a = absurd (cc)
@@ -53,7 +53,7 @@ rows_refused w sid request t names rows after new (source_fails m s tree is befo
 rows_refused w sid request t names rows after new (numbers_end m s tree is before may e same) a = absurd (cc)
 
 -- the rows of a query need not be told: then want of memory is
-pub memory_told : (e new : Shown) (sid : ℕ) (request : Asked) (names : List Name) (rows : List Tuple) → Leads e sid request (answered (codes "SELECT") names rows) new → Leads e sid request (refused OutOfMemory) new
+pub memory_told : (e new : Shown) (sid : ℕ) (request : AskedLine) (names : List Name) (rows : List Tuple) → Leads e sid request (answered (codes "SELECT") names rows) new → Leads e sid request (refused OutOfMemory) new
 unfolding with_memory
 memory_told e new sid request names rows h = record {
   trouble = with_memory h.trouble;
@@ -65,12 +65,12 @@ memory_told e new sid request names rows h = record {
 
 -- ---- what was told, and what was not
 
-pub not_told : (sid : ℕ) (meant : Reply) (b : Bool) (old out : List ℕ) → Tells sid meant b old out → b ≡ false → HasRows meant × (out ≡ old ++ reply_text sid (refused OutOfMemory))
+pub not_told : (sid : ℕ) (meant : Reply) (b : Bool) (old out : List ℕ) → TellsReply sid meant b old out → b ≡ false → HasRows meant × (out ≡ old ++ reply_text sid (refused OutOfMemory))
 not_told sid meant true old out t e = absurd cc
 not_told sid meant false old out t e = t
 
 -- of a query that is
-pub rows_untold : (o : Outcome) → ((name : String Global) (set : RowSet) → o ≡ outcome.Fetched name set → ⊥) → HasRows (reply_of o) → (e new : Shown) (sid : ℕ) (request : Asked) → Leads e sid request (reply_of o) new → Leads e sid request (refused OutOfMemory) new
+pub rows_untold : (o : Outcome) → ((name : String Global) (set : RowSet) → o ≡ outcome.Fetched name set → ⊥) → HasRows (reply_of o) → (e new : Shown) (sid : ℕ) (request : AskedLine) → Leads e sid request (reply_of o) new → Leads e sid request (refused OutOfMemory) new
 rows_untold outcome.Opened other has e new sid request h = absurd has
 rows_untold outcome.Closed other has e new sid request h = absurd has
 rows_untold (outcome.Changed d) other has e new sid request h = absurd has
@@ -86,7 +86,7 @@ pub of_fetch : (o : Outcome) (name : String Global) (set : RowSet) (P : Name →
 of_fetch o name set P is h = subst (λ (x : Outcome). IfFetched x P) is h
 
 -- what was written is a reply that the request leads to
-pub answers : (e new : Shown) (sid : ℕ) (request : Asked) (reply : Reply) (old out : List ℕ) → Leads e sid request reply new → out ≡ old ++ reply_text sid reply
+pub answers : (e new : Shown) (sid : ℕ) (request : AskedLine) (reply : Reply) (old out : List ℕ) → Leads e sid request reply new → out ≡ old ++ reply_text sid reply
     → (text : List ℕ) × (out ≡ old ++ text) × IsAnswered e sid request text new
 answers e new sid request reply old out h is = (reply_text sid reply, is, record { reply = reply; is = refl; leads = h })
 

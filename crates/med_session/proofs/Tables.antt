@@ -15,8 +15,8 @@ use Rattle.bind_catalog.specs.Places.{Attached, attached}
 use Rattle.med_world.specs.World.{is_taken, beside_without}
 use Rattle.med_world.specs.Engine.{Label, Shown, leased, IsNamedAt, IsStandingAt, IsServerAt, IsFirst, IsAtRest, IsSound, with_change, Alters}
 use Rattle.med_value.specs.declared.cause.Cause.{Cause}
-use Rattle.fdw_api.specs.Kinds.{Column, Setting}
-use Rattle.fdw_api.specs.State.{Bound, scan_of}
+use Rattle.fdw_api.specs.Kinds.{Column, OptionForm}
+use Rattle.fdw_api.specs.State.{BoxTable, scan_of}
 use Rattle.fdw_api.specs.Calls.{Binds, CanUnbind, Unbinds}
 use Rattle.med_exec.specs.Slots.{BoxAt, ChangesAt, HasTable}
 use Rattle.med_value.specs.declared.cause.Cause.TheVariants.{OutOfMemory, UndefinedObject, UndefinedTable}
@@ -175,7 +175,7 @@ err_kept (Err e) h k f = f e h k
 -- ---- a table that was just bound
 
 -- what was just bound may be unbound, where the box was at rest
-mid_ready : (b mid : BoxState) (remote : List ℕ) (columns : List Column) (settings : List Setting) (t : ℕ) → IsAtRest b → Binds b remote columns settings t mid → CanUnbind mid t
+mid_ready : (b mid : BoxState) (remote : List ℕ) (columns : List Column) (settings : List OptionForm) (t : ℕ) → IsAtRest b → Binds b remote columns settings t mid → CanUnbind mid t
 mid_ready b mid remote columns settings t rest binds = record {
   is_bound = ap is_some (ap (λ l. l.tables t) binds.ledger ∙ set_this b.ledger.tables t (Some binds.bound) t refl);
   no_scan = λ q scan is. absurd (none_some scan (scan_of mid q) (none q) is);
@@ -197,7 +197,7 @@ last_bound old new place number t is at =
 pub grown_by_one : (old new : List BoundTable) (a : Attached) → map attached new ≡ map attached old ++ a ∷ [] → length new ≡ length old + 1
 grown_by_one old new a is = sym (length-map new attached) ∙ ap (λ (xs : List Attached). length xs) is ∙ length_push (map attached old) a ∙ ap (λ n. n + 1) (length-map old attached)
 
-pub can_let_go : (e : Shown) (boxes : List (Option BoxState)) (place number : ℕ) (remote : List ℕ) (columns : List Column) (settings : List Setting) (t : BoundTable) → IsSound e → ChangesAt e.boxes place (λ a b. Binds a remote columns settings number b) boxes
+pub can_let_go : (e : Shown) (boxes : List (Option BoxState)) (place number : ℕ) (remote : List ℕ) (columns : List Column) (settings : List OptionForm) (t : BoundTable) → IsSound e → ChangesAt e.boxes place (λ a b. Binds a remote columns settings number b) boxes
     → attached t ≡ record { source = place; number = number } → BoxAt boxes t.source (λ s. CanUnbind s t.number.number)
 can_let_go e boxes place number remote columns settings t h binds is = record {
   box = binds.after;
@@ -317,7 +317,7 @@ all_bound e h k d lt =
     let t = has_table e.catalog.tables e.bound k x.0 h.many x.1 in
     let b = h.tables_bound k t.0 x.0 t.1 x.1 in
     let same : x.0 ≡ get_or e.bound k d = some_same x.0 (get_or e.bound k d) (sym x.1 ∙ slice_get-get_or e.bound k d lt) in
-    subst (λ (a : Attached). HasTable e.boxes a.source a.number) same (record { box = b.box; there = b.there; holds = subst (λ (o : Option Bound). IsSome o) (sym b.is) refl })
+    subst (λ (a : Attached). HasTable e.boxes a.source a.number) same (record { box = b.box; there = b.there; holds = subst (λ (o : Option BoxTable). IsSome o) (sym b.is) refl })
 
 -- the engine is as it was, but for its boxes
 pub undone_by : (e : Shown) (o : Objects) (boxes : List (Option BoxState)) (bound : List Attached) → o ≡ e.catalog → bound ≡ e.bound → record { catalog = o; labels = e.labels; boxes = boxes; bound = bound; seats = e.seats } ≡ record e { boxes = boxes }

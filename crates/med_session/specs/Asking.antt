@@ -1,9 +1,9 @@
 -- What a request asks, as text.
-use Rattle.med_world.specs.Requests.{Asked, opening, sql, bye}
+use Rattle.med_world.specs.Requests.{AskedLine, opening, sql, bye}
 use Rattle.med_session.specs.declared.session.Request.{Request}
 use Rattle.med_session.specs.declared.session.Request.TheVariants as request
 
-abbrev pub asked : Request → Asked
+abbrev pub asked : Request → AskedLine
 asked (request.Open user) = opening user.now
 asked (request.Sql text) = sql text.now
 asked request.Bye = bye

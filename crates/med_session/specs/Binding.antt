@@ -2,7 +2,7 @@
 use Rattle.std.specs.Prelude.{◌≡◌, ℕ, List, [], ◌∷◌, ◌++◌, Option}
 use Rattle.med_value.specs.declared.cause.Cause.{Cause}
 use Rattle.med_value.specs.declared.cause.Cause.TheVariants.{OutOfMemory}
-use Rattle.fdw_api.specs.Kinds.{Column, Setting}
+use Rattle.fdw_api.specs.Kinds.{Column, OptionForm}
 use Rattle.fdw_api.specs.State.{BoxState}
 use Rattle.fdw_api.specs.Calls.{Binds, RefusesBind}
 use Rattle.fdw_api.specs.declared.interface.Fault.{Fault}
@@ -11,14 +11,14 @@ use Rattle.bind_catalog.specs.Places.{Attached}
 use Rattle.med_world.specs.Altering.{cause_of}
 
 -- the table is bound in the box in this place, and stands last
-pub record BindsLast (place : ℕ) (remote : List ℕ) (columns : List Column) (settings : List Setting)
+pub record BindsLast (place : ℕ) (remote : List ℕ) (columns : List Column) (settings : List OptionForm)
     (boxes : List (Option BoxState)) (bound : List Attached) (new_boxes : List (Option BoxState)) (new_bound : List Attached) : Type 0 where
   pub number : ℕ
   pub binds : ChangesAt boxes place (λ s t. Binds s remote columns settings number t) new_boxes
   pub appends : new_bound ≡ bound ++ record { source = place; number = number } ∷ []
 
 -- the bind was refused, or memory before it
-pub data BindFails (place : ℕ) (remote : List ℕ) (columns : List Column) (settings : List Setting) (c : Cause)
+pub data BindFails (place : ℕ) (remote : List ℕ) (columns : List Column) (settings : List OptionForm) (c : Cause)
     (old new : List (Option BoxState)) : Type 0 where
   before_bind : c ≡ OutOfMemory → new ≡ old → BindFails place remote columns settings c old new
   by_fault : (fault : Fault) → c ≡ cause_of fault → ChangesAt old place (λ s t. RefusesBind s remote columns settings fault t) new

@@ -16,7 +16,7 @@ use Rattle.bind_catalog.specs.Places.{Attached}
 use Rattle.open_cursors.specs.Open.{Opened, Seated, is_full, opened_named, without_named, with_run}
 use Rattle.open_cursors.specs.Starting.{Starts, StartFails}
 use Rattle.open_cursors.specs.Fetching.{GivesRows, GivesNone}
-use Rattle.med_world.specs.Requests.{Asked}
+use Rattle.med_world.specs.Requests.{AskedLine}
 use Rattle.med_world.specs.Replies.{refused}
 use Rattle.med_world.specs.Seats.{seat_of}
 use Rattle.med_world.specs.Turning.{new_opened, with_cursors, Ends}
@@ -100,7 +100,7 @@ pub record LosesCursor (old : Shown) (sid : ℕ) (name : Name) (new : Shown) : T
   pub is : new ≡ with_cursors old sid seat (without_named name seat.cursors) new.boxes
 
 -- The rows of a FETCH need not be told: its cursor is there, and once that is closed too, the request is answered by want of memory.
-pub record MayBeUntold (old : Shown) (sid : ℕ) (request : Asked) (name : Name) (now : Shown) : Type 0 where
+pub record MayBeUntold (old : Shown) (sid : ℕ) (request : AskedLine) (name : Name) (now : Shown) : Type 0 where
   pub has : HasCursor now sid name
   pub lost : (new : Shown) → LosesCursor now sid name new → Leads old sid request (refused OutOfMemory) new
 

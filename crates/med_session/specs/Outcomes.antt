@@ -34,6 +34,6 @@ HasRows (answered word names rows) = Unit {0}
 HasRows (refused c) = ⊥
 
 -- the text of the reply stands behind what was there, or that of want of memory in place of rows
-abbrev pub Tells : ℕ → Reply → Bool → List ℕ → List ℕ → Type 0
-Tells sid meant true old new = new ≡ old ++ reply_text sid meant
-Tells sid meant false old new = HasRows meant × (new ≡ old ++ reply_text sid (refused OutOfMemory))
+abbrev pub TellsReply : ℕ → Reply → Bool → List ℕ → List ℕ → Type 0
+TellsReply sid meant true old new = new ≡ old ++ reply_text sid meant
+TellsReply sid meant false old new = HasRows meant × (new ≡ old ++ reply_text sid (refused OutOfMemory))

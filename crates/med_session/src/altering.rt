@@ -57,7 +57,8 @@ impl<W: Wrapper> Engine<W> {
     fn free_place(&self, server: &Server) -> Option<usize>
         requires { IsSound (shown W.meaning self.now) }
         ensures found { IfSome result (λ place. (name : Name) → IsFreeAt (shown W.meaning self.now) (server_of name server.now) place) }
-        ensures none { IfNone result ((name : Name) (place : ℕ) → IsFreeAt (shown W.meaning self.now) (server_of name server.now) place → ⊥) }
+        ensures none { IfNone result ((name : Name) (place : ℕ)
+            → IsFreeAt (shown W.meaning self.now) (server_of name server.now) place → ⊥) }
     {
         let place = place_of_source(&self.sources, server.source.as_str())?;
         if !is_same_kind(self.sources[place].kind, server.kind) {
@@ -96,7 +97,8 @@ impl<W: Wrapper> Engine<W> {
             → CanBind s (table_of (string_bytes name) table).remote (table_of (string_bytes name) table).columns
             (table_of (string_bytes name) table).settings }
         ensures ok { OnOk result (BindsTable (shown W.meaning self.old) (table_of (string_bytes name) table) (shown W.meaning self.new)) }
-        ensures err { IfErr result (λ c. TableFails (shown W.meaning self.old) (table_of (string_bytes name) table) c (shown W.meaning self.new)) }
+        ensures err { IfErr result (λ c. TableFails (shown W.meaning self.old) (table_of (string_bytes name) table) c
+            (shown W.meaning self.new)) }
     {
         boxes_are_ready();
         let Some(place) = self.server_place(table.server.as_str()) else {
@@ -172,7 +174,8 @@ impl<W: Wrapper> Engine<W> {
     fn add_server(&mut self, name: String, server: Server) -> Result<(), Cause>
         requires sound { IsSound (shown W.meaning self.old) }
         requires fresh { server_named (shown W.meaning self.old).catalog (string_bytes name) ≡ None }
-        ensures ok { OnOk result (TakesSource (shown W.meaning self.old) (server_of (string_bytes name) server) (shown W.meaning self.new)) }
+        ensures ok { OnOk result (TakesSource (shown W.meaning self.old) (server_of (string_bytes name) server)
+            (shown W.meaning self.new)) }
         ensures err { IfErr result (λ c. ServerFails (shown W.meaning self.old) (server_of (string_bytes name) server) c) }
         ensures kept { OnErr result (shown W.meaning self.new ≡ shown W.meaning self.old) }
     {

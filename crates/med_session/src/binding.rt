@@ -2,14 +2,14 @@
 ghost use Rattle.bind_catalog.specs.Places.{attached};
 ghost use Rattle.bind_catalog.specs.declared.bound.BoundTable.{BoundTable};
 ghost use Rattle.fdw_api.specs.Calls.{CanBind, CanUnbind, Unbinds};
-ghost use Rattle.fdw_api.specs.Kinds.{column_of, setting_of};
+ghost use Rattle.fdw_api.specs.Kinds.{column_of, option_form};
 ghost use Rattle.fdw_api.specs.State.{IsIdle};
 ghost use Rattle.med_exec.specs.Slots.{states, BoxAt, ChangesAt};
 ghost use Rattle.med_session.specs.Binding.{BindsLast, BindFails};
 ghost use Rattle.std.specs.Prelude.{◌≡◌, ◌<◌, None, Some, map, remove, slice_get, slice_set, length, IfErr, OnOk, OnErr};
 
 use bind_catalog::BoundTable;
-use fdw_api::interface::{Opt, Wrapper};
+use fdw_api::interface::{TableOption, Wrapper};
 use med_exec::slots::{bind_at, unbind_at};
 use med_select::cause_of;
 use med_value::{Cause, ColumnDef};
@@ -32,14 +32,14 @@ pub(crate) fn bind_table<W: Wrapper>(
     place: usize,
     remote: &str,
     columns: &[ColumnDef],
-    options: &[Opt],
+    options: &[TableOption],
 ) -> Result<(), Cause>
     requires { BoxAt (states W.meaning slots.old.items) place
-        (λ s. CanBind s remote.now (map column_of columns.now) (map setting_of options.now)) }
-    ensures ok { OnOk result (BindsLast place remote.now (map column_of columns.now) (map setting_of options.now)
+        (λ s. CanBind s remote.now (map column_of columns.now) (map option_form options.now)) }
+    ensures ok { OnOk result (BindsLast place remote.now (map column_of columns.now) (map option_form options.now)
         (states W.meaning slots.old.items) (map attached bound.old.items)
         (states W.meaning slots.new.items) (map attached bound.new.items)) }
-    ensures err { IfErr result (λ c. BindFails place remote.now (map column_of columns.now) (map setting_of options.now) c
+    ensures err { IfErr result (λ c. BindFails place remote.now (map column_of columns.now) (map option_form options.now) c
         (states W.meaning slots.old.items) (states W.meaning slots.new.items)) }
     ensures kept { OnErr result (bound.new.items ≡ bound.old.items) }
 {

@@ -1,10 +1,11 @@
 //! Replies to requests, and their text.
-ghost use Rattle.std.specs.Prelude.{◌≡◌, ◌+◌, ◌≤◌, ◌++◌, ◌∷◌, [], ℕ, flat_map, length, map, IfOk, OnOk, string_bytes, vec_len, vec_capacity, codes, decimal};
+ghost use Rattle.std.specs.Prelude.{◌≡◌, ◌+◌, ◌≤◌, ◌++◌, ◌∷◌, [], ℕ, flat_map, length, map, IfOk};
+ghost use Rattle.std.specs.Prelude.{OnOk, string_bytes, vec_len, vec_capacity, codes, decimal};
 ghost use Rattle.med_value.specs.Datum.{tuple};
 ghost use Rattle.med_value.specs.Text.{escaped_text};
 ghost use Rattle.med_world.specs.Replies.{reply_text, done, answered, refused, header, line, row_line, tag_line, rows_tag};
 ghost use Rattle.ddl_syntax.specs.DdlView.{ddl_tree};
-ghost use Rattle.med_session.specs.Outcomes.{HasRows, Tells, reply_of, word_text};
+ghost use Rattle.med_session.specs.Outcomes.{HasRows, TellsReply, reply_of, word_text};
 ghost use Rattle.med_world.specs.Steps.{ddl_tag, write_tag};
 ghost use Rattle.write_parts.specs.Meaning.{target_of};
 ghost use Rattle.write_syntax.specs.WriteView.{write_tree};
@@ -240,7 +241,7 @@ fn answer_text(alloc: Global, sid: u8, word: &[u8], set: &RowSet) -> Result<Vec<
 // Writes the reply of rows, or that memory was refused; and whether it told the rows.
 fn write_answer(alloc: Global, sid: u8, word: &[u8], set: &RowSet, out: &mut Vec<u8>) -> bool
     requires { vec_len out.old + 128 ≤ vec_capacity out.old }
-    ensures { Tells sid (answered word.now (map string_bytes set.now.names.items) (map tuple set.now.rows.items)) result
+    ensures { TellsReply sid (answered word.now (map string_bytes set.now.names.items) (map tuple set.now.rows.items)) result
         out.old.items out.new.items }
 {
     if let Ok(text) = answer_text(alloc, sid, word, set) {
@@ -275,7 +276,7 @@ fn write_told(sid: u8, outcome: &Outcome, out: &mut Vec<u8>)
 /// the outcome.
 pub(crate) fn write_reply(alloc: Global, sid: u8, outcome: &Outcome, out: &mut Vec<u8>) -> bool
     requires { vec_len out.old + 128 ≤ vec_capacity out.old }
-    ensures { Tells sid (reply_of outcome.now) result out.old.items out.new.items }
+    ensures { TellsReply sid (reply_of outcome.now) result out.old.items out.new.items }
 {
     match outcome {
         Outcome::Rows(set) => write_answer(alloc, sid, b"SELECT", set, out),

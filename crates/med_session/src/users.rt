@@ -17,18 +17,21 @@ pub fn is_user(name: &str) -> bool
     all_in_user(bytes)
 }
 
+// Whether each byte may stand in a user's name.
 fn all_in_user(bytes: &[u8]) -> bool
     ensures { result ≡ list_all in_user bytes.now }
 {
     bytes.iter().all(|b| in_user(*b))
 }
 
+// Whether a user's name may begin with the byte: a to z and `_`.
 fn starts_user(b: u8) -> bool
     ensures { result ≡ starts_user b }
 {
     b.is_ascii_lowercase() || b == b'_'
 }
 
+// Whether the byte may stand in a user's name: those and 0 to 9.
 fn in_user(b: u8) -> bool
     ensures { result ≡ in_user b }
 {

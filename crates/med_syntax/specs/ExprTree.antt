@@ -9,8 +9,8 @@
 --     prim  = num | text | TRUE | FALSE | NULL | name [. name] | name ( * ) | name ( [expr {, expr}] ) | ( expr )
 -- A minus directly before a number, in the place of a unary, makes a negative literal. A name before a parenthesis is a function.
 use Rattle.std.specs.Prelude.{◌≡◌, ℕ, suc, ◌≤◌, Bool, true, false, List, [], ◌∷◌, ◌++◌, max, Option, Some, None}
-use Rattle.med_syntax.specs.declared.expr.BinaryOp.{BinaryOp}
-use Rattle.med_syntax.specs.declared.expr.BinaryOp.TheVariants.{Add, Sub, Mul, Div, Rem}
+use Rattle.med_syntax.specs.declared.expr.Operation.{Operation}
+use Rattle.med_syntax.specs.declared.expr.Operation.TheVariants.{Add, Subtract, Multiply, Divide, Remainder}
 use Rattle.med_value.specs.declared.order.Comparison.{Comparison}
 use Rattle.med_syntax.specs.declared.expr.Joint.{Joint}
 use Rattle.med_syntax.specs.declared.expr.Joint.TheVariants.{Or, And}
@@ -34,7 +34,7 @@ mutual
     call : Name → ExprTrees → ExprTree
     paren : ExprTree → ExprTree
     minus : ExprTree → ExprTree
-    binary : BinaryOp → ExprTree → ExprTree → ExprTree
+    binary : Operation → ExprTree → ExprTree → ExprTree
     between : Bool → ExprTree → ExprTree → ExprTree → ExprTree
     among : Bool → ExprTree → ExprTree → ExprTrees → ExprTree
     like : Bool → ExprTree → List ℕ → ExprTree
@@ -68,15 +68,15 @@ column_spelling (Some q) n = t.Name q ∷ t.Dot ∷ t.Name n ∷ []
 abbrev mutual
   pub spelling : ExprTree → List Terminal
   spelling (num n) = t.Num n ∷ []
-  spelling (negative n) = t.Binary Sub ∷ t.Num n ∷ []
+  spelling (negative n) = t.Binary Subtract ∷ t.Num n ∷ []
   spelling (text x) = t.Text x ∷ []
   spelling (truth b) = t.Truth b ∷ []
   spelling null = t.Null ∷ []
   spelling (column q n) = column_spelling q n
-  spelling (call_all f) = t.Name f ∷ t.LeftParen ∷ t.Binary Mul ∷ t.RightParen ∷ []
+  spelling (call_all f) = t.Name f ∷ t.LeftParen ∷ t.Binary Multiply ∷ t.RightParen ∷ []
   spelling (call f parts) = t.Name f ∷ t.LeftParen ∷ parts_spelling parts
   spelling (paren e) = t.LeftParen ∷ (spelling e ++ t.RightParen ∷ [])
-  spelling (minus e) = t.Binary Sub ∷ spelling e
+  spelling (minus e) = t.Binary Subtract ∷ spelling e
   spelling (binary op a b) = spelling a ++ t.Binary op ∷ spelling b
   spelling (between neg e low high) = spelling e ++ (perhaps_not neg ++ t.Between ∷ (spelling low ++ t.Joined And ∷ spelling high))
   spelling (among neg e first others) =
@@ -99,12 +99,12 @@ abbrev mutual
 
 -- ---- how tightly a form binds
 
-abbrev pub binary_level : BinaryOp → ℕ
+abbrev pub binary_level : Operation → ℕ
 binary_level Add = 6
-binary_level Sub = 6
-binary_level Mul = 7
-binary_level Div = 7
-binary_level Rem = 7
+binary_level Subtract = 6
+binary_level Multiply = 7
+binary_level Divide = 7
+binary_level Remainder = 7
 
 abbrev pub joint_level : Joint → ℕ
 joint_level Or = 0

@@ -5,8 +5,8 @@ use Rattle.std.specs.Str.Parse.{digits_value}
 use Rattle.med_lexer.specs.declared.Mark.{Mark}
 use Rattle.med_lexer.specs.declared.Mark.TheVariants as marks
 use Rattle.med_lexer.specs.Lexemes.{Shape, word, quoted, literal, number, mark}
-use Rattle.med_syntax.specs.declared.expr.BinaryOp.{BinaryOp}
-use Rattle.med_syntax.specs.declared.expr.BinaryOp.TheVariants.{Add, Sub, Mul, Div, Rem}
+use Rattle.med_syntax.specs.declared.expr.Operation.{Operation}
+use Rattle.med_syntax.specs.declared.expr.Operation.TheVariants.{Add, Subtract, Multiply, Divide, Remainder}
 use Rattle.med_value.specs.declared.order.Comparison.{Comparison}
 use Rattle.med_value.specs.declared.order.Comparison.TheVariants.{Equal, Apart, Below, AtMost, Above, AtLeast}
 use Rattle.med_syntax.specs.declared.expr.Joint.{Joint}
@@ -19,7 +19,7 @@ pub data Terminal : Type 0 where
   Comma : Terminal
   Dot : Terminal
   Semicolon : Terminal
-  Binary : BinaryOp → Terminal
+  Binary : Operation → Terminal
   Compare : Comparison → Terminal
   Joined : Joint → Terminal
   Not : Terminal
@@ -43,11 +43,11 @@ mark_terminal marks.RightParen = RightParen
 mark_terminal marks.Comma = Comma
 mark_terminal marks.Dot = Dot
 mark_terminal marks.Semicolon = Semicolon
-mark_terminal marks.Star = Binary Mul
+mark_terminal marks.Star = Binary Multiply
 mark_terminal marks.Plus = Binary Add
-mark_terminal marks.Minus = Binary Sub
-mark_terminal marks.Slash = Binary Div
-mark_terminal marks.Percent = Binary Rem
+mark_terminal marks.Minus = Binary Subtract
+mark_terminal marks.Slash = Binary Divide
+mark_terminal marks.Percent = Binary Remainder
 mark_terminal marks.Equal = Compare Equal
 mark_terminal marks.Apart = Compare Apart
 mark_terminal marks.Below = Compare Below

@@ -4,17 +4,17 @@ use med_value::Comparison;
 
 /// An operator between two numbers (SQL:2016, 6.29 <numeric value expression>).
 #[derive(Clone, Copy, Debug, PartialEq, Eq, Drop)]
-pub enum BinaryOp {
+pub enum Operation {
     /// `+`
     Add,
     /// `-`
-    Sub,
+    Subtract,
     /// `*`
-    Mul,
+    Multiply,
     /// `/`
-    Div,
+    Divide,
     /// `%`
-    Rem,
+    Remainder,
 }
 
 /// What joins conditions.
@@ -63,7 +63,7 @@ pub enum Expr {
     /// `- e`
     Minus(Box<Expr>),
     /// `a op b`
-    Binary(BinaryOp, Box<Expr>, Box<Expr>),
+    Binary(Operation, Box<Expr>, Box<Expr>),
     /// `e [NOT] BETWEEN low AND high`
     Between(bool, Box<Expr>, Box<Expr>, Box<Expr>),
     /// `e [NOT] IN ( first {, other} )`

@@ -1,7 +1,7 @@
 -- A box in one slot changes, and all others stay.
 use Rattle.std.proofs.Common.{◌≡◌, ◌≢◌, ℕ, ◌-◌, ◌^◌, ◌≤◌, min, ◌⊎◌, true, false, cond, List, [], ◌∷◌, Option, Some, None, slice_get, slice_set, refl, ap, sym, ◌∙◌, subst, arith, zero, suc, eqb, inl, inr}
 use Rattle.std.proofs.lemmas.Bool.Decides.{eqb_tells}
-use Rattle.fdw_api.specs.Kinds.{Column, Setting}
+use Rattle.fdw_api.specs.Kinds.{Column, OptionForm}
 use Rattle.fdw_api.specs.State.{scan_of, BoxState, IsIdle, is_honest, table_of, rows_of, set_at}
 use Rattle.fdw_api.specs.Calls.{Binds, Unbinds, Refuses, faults_after}
 use Rattle.fdw_api.specs.declared.interface.Fault.{Fault}
@@ -63,7 +63,7 @@ set_that f k x q ne = split (eqb_tells q k)
     split (inl s) = absurd (ne s.1)
     split (inr s) = ap (λ r. cond r x (f q)) s.0
 
-pub binds_spares : (b c : BoxState) (remote : List ℕ) (columns : List Column) (settings : List Setting) (t : ℕ) → Binds b remote columns settings t c → Spares (that_is t) b c
+pub binds_spares : (b c : BoxState) (remote : List ℕ) (columns : List Column) (settings : List OptionForm) (t : ℕ) → Binds b remote columns settings t c → Spares (that_is t) b c
 binds_spares b c remote columns settings t h = record {
   nature = h.nature;
   live = ap (λ l. l.live) h.ledger;
@@ -93,7 +93,7 @@ refuses_spares fault only b c h = record {
   holdings = λ honest. λ i r. (h.leaves honest).holdings r (λ z. z) i;
 }
 
-pub binds_rises : (b c : BoxState) (remote : List ℕ) (columns : List Column) (settings : List Setting) (t : ℕ) → Binds b remote columns settings t c → Rises b c
+pub binds_rises : (b c : BoxState) (remote : List ℕ) (columns : List Column) (settings : List OptionForm) (t : ℕ) → Binds b remote columns settings t c → Rises b c
 binds_rises b c remote columns settings t h = record {
   nature = h.nature;
   next = subst (λ (n : ℕ). b.ledger.next ≤ n) (sym (ap (λ l. l.next) h.ledger)) (omega arith);

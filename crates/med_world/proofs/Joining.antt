@@ -3,7 +3,7 @@ use Rattle.std.proofs.Common.{◌≡◌, ℕ, ◌+◌, ◌<◌, ◌≤◌, List,
 use Rattle.std.specs.List.{IsDistinct}
 use Rattle.std.proofs.lemmas.List.{length_push, map-append}
 use Rattle.fdw_api.specs.Kinds.{Held}
-use Rattle.fdw_api.specs.State.{BoxState, Bound, IsIdle, is_honest, table_of}
+use Rattle.fdw_api.specs.State.{BoxState, BoxTable, IsIdle, is_honest, table_of}
 use Rattle.fdw_api.specs.Sound.{IsSoundBox}
 use Rattle.med_catalog.specs.declared.kind.SourceKind.{SourceKind}
 use Rattle.bind_catalog.specs.Places.{Attached}
@@ -85,7 +85,7 @@ added_sound law e name kind b h none room idle takes = record {
     l : Label
     l = record { name = name; kind = kind }
 
-    attached : (slot number : ℕ) (s : BoxState) (x : Bound) → slice_get (e.boxes ++ Some b ∷ []) slot ≡ Some (Some s) → table_of s number ≡ Some x → IsAmong e.bound slot number
+    attached : (slot number : ℕ) (s : BoxState) (x : BoxTable) → slice_get (e.boxes ++ Some b ∷ []) slot ≡ Some (Some s) → table_of s number ≡ Some x → IsAmong e.bound slot number
     attached slot number s x at is = either (push_cases e.boxes (Some b) slot (Some s) at)
       where
         either : (slice_get e.boxes slot ≡ Some (Some s)) ⊎ ((slot ≡ length e.boxes) × (Some b ≡ Some s)) → IsAmong e.bound slot number

@@ -8,7 +8,7 @@ use Rattle.med_value.specs.declared.cause.Cause.TheVariants.{DuplicateTable, Dup
 use Rattle.med_syntax.specs.Tree.{Name}
 use Rattle.ddl_syntax.specs.DdlTree.{ColumnTree, ServerTree, MappingTree, TableTree, DdlTree, create_wrapper, create_server, create_mapping, create_table, drop_wrapper, drop_server, drop_table, drop_mapping}
 use Rattle.med_catalog.specs.Objects.{MappingObject, ServerObject, TableObject, Objects, server_named, table_named}
-use Rattle.fdw_api.specs.Kinds.{Setting}
+use Rattle.fdw_api.specs.Kinds.{OptionForm}
 use Rattle.med_catalog.specs.Rights.{user_meant}
 use Rattle.med_catalog.specs.Options.{text_of, remote_label, table_settings, column_settings}
 use Rattle.med_catalog.specs.Changes.{ObjectChange, nothing, new_wrapper, new_server, new_mapping, new_table, no_wrapper, no_server, no_mapping, no_table, without, with_first, changed, is_skipped, IsDeclared, AreDeclared, IsNewServer, IsNewMapping, IsNewTable, Makes, Asks, skips, makes}
@@ -53,7 +53,7 @@ table_once o t a b h k =
       settings = (h.settings ∙ ap (λ (x : ServerObject). settings_of x) s ∙ sym k.settings) i;
     }
   where
-    settings_of : ServerObject → List Setting
+    settings_of : ServerObject → List OptionForm
     settings_of x = table_settings x.kind t.options ++ column_settings 1 t.columns
 
 makes_once : (o : Objects) (user : Name) (d : DdlTree) (a b : ObjectChange) → Makes o user d a → Makes o user d b → a ≡ b

@@ -14,7 +14,7 @@ use Rattle.ddl_syntax.specs.DdlTree.{DdlTree}
 use Rattle.med_catalog.specs.Objects.{ServerObject, TableObject, Objects}
 use Rattle.med_catalog.specs.Changes.{changed, ObjectChange, nothing, new_wrapper, new_server, new_mapping, new_table, no_wrapper, no_server, no_mapping, no_table, Asks}
 use Rattle.med_catalog.specs.DdlCauses.{DdlCauses}
-use Rattle.med_world.specs.Requests.{Asked, sql}
+use Rattle.med_world.specs.Requests.{AskedLine, sql}
 use Rattle.med_parser.specs.CommandTree.{CommandTree, on_objects}
 use Rattle.med_world.specs.Steps.{ddl_tag}
 use Rattle.med_world.specs.Picks.{Pick, no_pick}
@@ -55,7 +55,7 @@ unfolding refused_memory
 memory_befell old new = record { source = λ e. absurd (false≢true e); numbers = λ e. absurd (false≢true e) }
 
 -- a request that is refused by a cause, with the worlds as they were
-pub leads_refused : (e new : Shown) (sid : ℕ) (request : Asked) (c : Cause) → EachRises e.boxes new.boxes → ((w : World) → Agrees e w → Agrees new w)
+pub leads_refused : (e new : Shown) (sid : ℕ) (request : AskedLine) (c : Cause) → EachRises e.boxes new.boxes → ((w : World) → Agrees e w → Agrees new w)
     → ((w : World) → Agrees e w → (p : Pick) × IsPickOf w sid request p × IsTold w sid p request c) → Leads e sid request (refused c) new
 leads_refused e new sid request c rises kept told = record {
   trouble = calm;
@@ -66,7 +66,7 @@ leads_refused e new sid request c rises kept told = record {
 }
 
 -- one for which memory was refused
-pub leads_memory : (e new : Shown) (sid : ℕ) (request : Asked) → TakesMemory request → EachRises e.boxes new.boxes → ((w : World) → Agrees e w → Agrees new w) → Leads e sid request (refused OutOfMemory) new
+pub leads_memory : (e new : Shown) (sid : ℕ) (request : AskedLine) → TakesMemory request → EachRises e.boxes new.boxes → ((w : World) → Agrees e w → Agrees new w) → Leads e sid request (refused OutOfMemory) new
 unfolding refused_memory
 leads_memory e new sid request takes rises kept = record {
   trouble = refused_memory;

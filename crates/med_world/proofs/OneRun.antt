@@ -7,7 +7,7 @@ use Rattle.cursor_syntax.specs.CursorTree.{declare, fetch, close}
 use Rattle.med_parser.specs.CommandTree.{CommandTree, on_data, on_rows, on_cursors, on_objects}
 use Rattle.med_parser.specs.CommandGrammar.{HasCommand}
 use Rattle.fdw_api.specs.State.{BoxState}
-use Rattle.med_world.specs.Requests.{Asked, sql}
+use Rattle.med_world.specs.Requests.{AskedLine, sql}
 use Rattle.med_world.specs.Replies.{Reply, refused}
 use Rattle.med_world.specs.Engine.{Shown, HasRun, ReadsOnce, RunsOnce}
 use Rattle.med_world.specs.Laws.{IsRead}
@@ -21,11 +21,11 @@ none_run (on_cursors (fetch asked name)) c q h = h
 none_run (on_cursors (close name)) c q h = h
 none_run (on_objects d) c q h = h
 
-pub once_refused : (old : Shown) (request : Asked) (c : Cause) (new : List (Option BoxState)) → RunsOnce old request (refused c) new
+pub once_refused : (old : Shown) (request : AskedLine) (c : Cause) (new : List (Option BoxState)) → RunsOnce old request (refused c) new
 once_refused old request c new text tree q is has ran = absurd (none_run tree c q ran)
 
 -- one that is no statement
-pub once_unasked : (old : Shown) (request : Asked) (reply : Reply) (new : List (Option BoxState)) → ((text : List ℕ) → request ≡ sql text → ⊥) → RunsOnce old request reply new
+pub once_unasked : (old : Shown) (request : AskedLine) (reply : Reply) (new : List (Option BoxState)) → ((text : List ℕ) → request ≡ sql text → ⊥) → RunsOnce old request reply new
 once_unasked old request reply new other text tree q is has ran = absurd (other text is)
 
 -- a statement that was read

@@ -13,7 +13,7 @@ use Rattle.fdw_api.specs.Kinds.{Held, held}
 use Rattle.fdw_api.specs.Scan.{TableRow}
 use Rattle.fdw_api.specs.State.{BoxState, rows_of}
 use Rattle.pushdown.specs.Offered.{Place}
-use Rattle.med_planner.specs.Planned.{tuples_of, rows_shown, entry_rows, QueryCauses}
+use Rattle.med_planner.specs.Planned.{tuples_of, rows_shown, entry_rows, IsShownCause}
 use Rattle.med_exec.specs.Slots.{BoxAt}
 use Rattle.med_exec.specs.Running.{SlotShows, HasFailed, AllHonest}
 use Rattle.bind_names.specs.Meaning.{Meant}
@@ -126,7 +126,7 @@ none_many e w q a few d h =
     omega arith
 
 abbrev pub ShowsIn : World → Meant → Cause → Type 0
-ShowsIn w m c = QueryCauses (query_of m) (entry_tables m.entries (rows_in w.rows)) c
+ShowsIn w m c = IsShownCause (query_of m) (entry_tables m.entries (rows_in w.rows)) c
 
 none_runs : (e new : Shown) (w : World) (user : Name) (q : SelectTree) (names : List Name) (given : List Tuple) → Agrees e w → Selects e.catalog user e.bound q e.boxes names given new.boxes → (d : Cause) → QueryRun w q d → ⊥
 none_runs e new w user q names given a h = subst (λ (m : Meant). (d : Cause) → ShowsIn w m d → ⊥) (same_meant e w q a)
@@ -187,7 +187,7 @@ not_bound_leads law e sid text user q c read (inr (inr (h, none))) = leads_refus
 
 -- one whose run shows a cause
 pub shows_run_leads : (e new : Shown) (sid : ℕ) (text : List ℕ) (user : Name) (q : SelectTree) (places : List Place) (c : Cause) → IsRead e sid text user (on_data (select q)) → IsBindable e.catalog user q → length (meant_by e.catalog q).entries ≤ 8
-    → ArePlaces e.bound (meant_by e.catalog q).entries places → (AllHonest e.boxes → (db : Tables) → SameRows (entry_rows e.boxes places) db → QueryCauses (query_of (meant_by e.catalog q)) db c)
+    → ArePlaces e.bound (meant_by e.catalog q).entries places → (AllHonest e.boxes → (db : Tables) → SameRows (entry_rows e.boxes places) db → IsShownCause (query_of (meant_by e.catalog q)) db c)
     → EachRises e.boxes new.boxes → ((w : World) → Agrees e w → Agrees new w) → Leads e sid (sql text) (refused c) new
 shows_run_leads e new sid text user q places c read b few are h rises kept = leads_refused e new sid (sql text) c rises kept (λ w a. (
   no_pick,

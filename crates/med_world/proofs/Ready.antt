@@ -1,7 +1,7 @@
 -- What the calls of boxes ask holds in an engine that is sound.
 use Rattle.std.proofs.Common.{◌≡◌, ◌≢◌, ℕ, [], Option, Some, IsSome, slice_get, refl, ap, sym, ◌∙◌, subst}
 use Rattle.med_syntax.specs.Tree.{Name}
-use Rattle.fdw_api.specs.State.{BoxState, Bound, table_of, scan_of}
+use Rattle.fdw_api.specs.State.{BoxState, BoxTable, table_of, scan_of}
 use Rattle.fdw_api.specs.Calls.{CanBind, CanUnbind}
 use Rattle.med_exec.specs.Slots.{BoxAt}
 use Rattle.med_catalog.specs.Objects.{ServerObject, TableObject, Objects, server_named}
@@ -22,7 +22,7 @@ pub bind_ready : (e : Shown) (t : TableObject) (place : ℕ) (box : BoxState) �
     → ((u : TableObject) (k : ℕ) → slice_get e.catalog.tables k ≡ Some u → u.server ≡ t.server → u.remote ≡ t.remote → ⊥) → box.nature.kind.objections t.columns t.settings ≡ [] → CanBind box t.remote t.columns t.settings
 bind_ready e t place box sound once server there unbound takes = record { free = free; no_objection = takes }
   where
-    free : (q : ℕ) (b : Bound) → table_of box q ≡ Some b → b.remote ≢ t.remote
+    free : (q : ℕ) (b : BoxTable) → table_of box q ≡ Some b → b.remote ≢ t.remote
     free q b is same = of_table (sound.tables_bound among.place u.0 among.at u.1 among.there)
       where
         among : IsAmong e.bound place q
@@ -38,7 +38,7 @@ bind_ready e t place box sound once server there unbound takes = record { free =
             let servers : u.0.server ≡ t.server = once x.server.at server.at u.0.server t.server x.server.is server.is sources in
             let boxes : x.box ≡ box = same_box x.box box (sym x.there ∙ ap (slice_get e.boxes) among.source_is ∙ there) in
             let bounds : x.bound ≡ b = some_same x.bound b (sym x.is ∙ ap (λ (y : BoxState). table_of y among.at.number) boxes ∙ ap (table_of box) among.number_is ∙ is) in
-            unbound u.0 among.place u.1 servers (sym x.remote ∙ ap (λ (y : Bound). y.remote) bounds ∙ same)
+            unbound u.0 among.place u.1 servers (sym x.remote ∙ ap (λ (y : BoxTable). y.remote) bounds ∙ same)
 
 -- a bound table may be unbound, since no scan is live
 pub unbind_ready : (e : Shown) (t : TableObject) (k : ℕ) (a : Attached) → IsSound e → slice_get e.catalog.tables k ≡ Some t → slice_get e.bound k ≡ Some a → BoxAt e.boxes a.source (λ s. CanUnbind s a.number)
@@ -49,7 +49,7 @@ unbind_ready e t k a sound at_t at_a =
       box = x.box;
       there = x.there;
       holds = record {
-        is_bound = subst (λ (o : Option Bound). IsSome o) (sym x.is) refl;
+        is_bound = subst (λ (o : Option BoxTable). IsSome o) (sym x.is) refl;
         no_scan = λ q scan is. absurd (none_some scan (scan_of x.box q) (rest.no_scan q) is);
         not_staged = rest.no_staging;
       };

@@ -15,12 +15,12 @@ use Rattle.tri_expr.proofs.Shuffled.{Shuffled, back, to_swaps, each_mapped, none
 use Rattle.med_query.specs.Query.{IsAnswer}
 use Rattle.fdw_api.specs.Kinds.{Kind, Holding, held, Change, Refusals}
 use Rattle.fdw_api.specs.Scan.{TableRow, GivenRow}
-use Rattle.fdw_api.specs.State.{Bound, BoxState, is_honest, rows_of as rows_in_box}
+use Rattle.fdw_api.specs.State.{BoxTable, BoxState, is_honest, rows_of as rows_in_box}
 use Rattle.fdw_api.specs.Calls.{Picks}
 use Rattle.fdw_api.specs.Writes.{Written}
 use Rattle.med_exec.specs.Running.{AllServed}
 use Rattle.med_exec.proofs.Served.{all_served}
-use Rattle.med_planner.specs.Planned.{QueryCauses, wrong_cause}
+use Rattle.med_planner.specs.Planned.{IsShownCause, wrong_cause}
 use Rattle.med_catalog.specs.Objects.{TableObject, Objects}
 use Rattle.bind_names.specs.Meaning.{Meant}
 use Rattle.bind_catalog.specs.Places.{Attached}
@@ -50,7 +50,7 @@ abbrev AnswersIn : World → Meant → List Tuple → Type 0
 AnswersIn w m answer = IsAnswer (query_of m) (entry_tables m.entries (rows_in w.rows)) answer
 
 abbrev ShowsIn : World → Meant → Cause → Type 0
-ShowsIn w m c = QueryCauses (query_of m) (entry_tables m.entries (rows_in w.rows)) c
+ShowsIn w m c = IsShownCause (query_of m) (entry_tables m.entries (rows_in w.rows)) c
 
 given_answer : (e : Shown) (w : World) (q : SelectTree) (answer : List Tuple) (now : List (Option BoxState)) → Agrees e w → GivesAnswer e.catalog e.bound q e.boxes answer now → IsAnswer (query_of (meant_over w q)) (entries_in w q) answer
 given_answer e w q answer now a h = subst (λ (m : Meant). AnswersIn w m answer) (same_meant e w q a)
@@ -189,7 +189,7 @@ done_clear e w t answer at count new sound target_at h a answered clear = record
     one = some_same k.bound x.bound (sym k.is ∙ x.is)
 
     entry : Picks (b.content.holdings x.table.remote) k.entry
-    entry = subst (λ (r : Name). Picks (b.content.holdings r) k.entry) (ap (λ (z : Bound). z.remote) one ∙ x.remote) k.picked
+    entry = subst (λ (r : Name). Picks (b.content.holdings r) k.entry) (ap (λ (z : BoxTable). z.remote) one ∙ x.remote) k.picked
 
     picks : PicksWrite w t p
     picks = picks_write e w t at b sound a h.there x p entry refl (to_swaps (read_all form (rows_in_box b at.number) read are)) answered
@@ -218,7 +218,7 @@ done_clear e w t answer at count new sound target_at h a answered clear = record
 
     not_refused : (b.nature.kind.refuses x.table.columns x.table.settings).causes k.entry (rows_in_box b at.number) (changes_of (write_over w t) answer p.read) ≡ []
     not_refused =
-        ap (λ (r : Refusals). r.causes k.entry (rows_in_box b at.number) (changes_of (write_over w t) answer p.read)) (sym (ap (λ (z : Bound). z.refuses) one ∙ x.writes.refuses))
+        ap (λ (r : Refusals). r.causes k.entry (rows_in_box b at.number) (changes_of (write_over w t) answer p.read)) (sym (ap (λ (z : BoxTable). z.refuses) one ∙ x.writes.refuses))
         ∙ ap (λ (cs : List Change). k.bound.refuses.causes k.entry (rows_in_box b at.number) cs) (sym changes_are)
         ∙ k.no_cause
 
@@ -260,7 +260,7 @@ kind_told e w t answer at b c sound target_at there a k answered = record { pick
     one = some_same k.bound x.bound (sym k.is ∙ x.is)
 
     entry : Picks (b.content.holdings x.table.remote) k.entry
-    entry = subst (λ (r : Name). Picks (b.content.holdings r) k.entry) (ap (λ (z : Bound). z.remote) one ∙ x.remote) k.picked
+    entry = subst (λ (r : Name). Picks (b.content.holdings r) k.entry) (ap (λ (z : BoxTable). z.remote) one ∙ x.remote) k.picked
 
     picks : PicksWrite w t p
     picks = picks_write e w t at b sound a there x p entry refl (to_swaps (read_all form (rows_in_box b at.number) k.read k.are_read)) answered
@@ -283,7 +283,7 @@ kind_told e w t answer at b c sound target_at there a k answered = record { pick
       holdings = b.content.holdings;
       target = target_world e w t at b sound a there x;
       valued = valued;
-      stands = subst (λ (r : Refusals). Contains (r.causes k.entry (rows_in_box b at.number) (changes_of (write_over w t) answer p.read)) c) (ap (λ (z : Bound). z.refuses) one ∙ x.writes.refuses)
+      stands = subst (λ (r : Refusals). Contains (r.causes k.entry (rows_in_box b at.number) (changes_of (write_over w t) answer p.read)) c) (ap (λ (z : BoxTable). z.refuses) one ∙ x.writes.refuses)
           (subst (λ (cs : List Change). Contains (k.bound.refuses.causes k.entry (rows_in_box b at.number) cs) c) changes_are k.stands);
     }
 

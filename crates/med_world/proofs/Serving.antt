@@ -5,7 +5,7 @@ use Rattle.std.specs.FinMap as finmap
 use Rattle.med_value.specs.declared.value.ColType.{ColType}
 use Rattle.fdw_api.specs.Kinds.{Held, held}
 use Rattle.fdw_api.specs.Scan.{TableRow, row_fits}
-use Rattle.fdw_api.specs.State.{BoxState, Bound, is_honest, table_of, scan_of}
+use Rattle.fdw_api.specs.State.{BoxState, BoxTable, is_honest, table_of, scan_of}
 use Rattle.fdw_api.specs.Sound.{IsTableOf, IsSoundBox}
 use Rattle.med_exec.specs.Running.{Served, AllServed}
 use Rattle.med_catalog.specs.Options.{table_settings, column_settings}
@@ -126,7 +126,7 @@ serving_agrees e new h w agrees = record {
 honest_before : (b c : BoxState) → ServedAlone b c → is_honest c → is_honest b
 honest_before b c k h = ap (λ n. n.honest) (sym k.nature) ∙ h
 
-table_before : (b c : BoxState) (t : ℕ) (x : Bound) → ServedAlone b c → table_of c t ≡ Some x → table_of b t ≡ Some x
+table_before : (b c : BoxState) (t : ℕ) (x : BoxTable) → ServedAlone b c → table_of c t ≡ Some x → table_of b t ≡ Some x
 table_before b c t x k is = sym (ap (λ f. f t) k.tables) ∙ is
 
 still_table : (b c : BoxState) (t : ℕ) (kinds : List ColType) → ServedAlone b c → IsTableOf b t kinds → IsTableOf c t kinds

@@ -3,8 +3,8 @@ use Rattle.std.proofs.Common.{◌≡◌, ◌≢◌, ℕ, ◌+◌, ◌⊎◌, tru
 use Rattle.std.proofs.lemmas.Bool.Decides.{eqb_tells}
 use Rattle.std.proofs.lemmas.List.{length-set, length_push}
 use Rattle.med_syntax.specs.Tree.{Name}
-use Rattle.fdw_api.specs.Kinds.{Column, Setting}
-use Rattle.fdw_api.specs.State.{Nature, BoxState, Bound, IsIdle, table_of, scan_of, set_at}
+use Rattle.fdw_api.specs.Kinds.{Column, OptionForm}
+use Rattle.fdw_api.specs.State.{Nature, BoxState, BoxTable, IsIdle, table_of, scan_of, set_at}
 use Rattle.fdw_api.specs.Calls.{Binds, CanUnbind, Unbinds, Refuses}
 use Rattle.fdw_api.specs.declared.interface.Fault.{Fault}
 use Rattle.fdw_api.specs.Sound.{IsSoundBox}
@@ -27,7 +27,7 @@ use Rattle.med_world.proofs.Seats.{seats_sound}
 
 -- boxes stay sound: `tables_stay_sound` of fdw_api
 pub record StaySound : Type 0 where
-  pub binds : (old new : BoxState) (remote : List ℕ) (columns : List Column) (settings : List Setting) (t : ℕ) → IsSoundBox old → Binds old remote columns settings t new → IsSoundBox new
+  pub binds : (old new : BoxState) (remote : List ℕ) (columns : List Column) (settings : List OptionForm) (t : ℕ) → IsSoundBox old → Binds old remote columns settings t new → IsSoundBox new
   pub refuses : (old new : BoxState) (fault : Fault) → IsSoundBox old → Refuses fault old new → IsSoundBox new
 
 -- What a change of the catalogue leaves of its servers but those of a name: a law of med_catalog, for each change.
@@ -78,7 +78,7 @@ server_still e n gone server place labels stay other h =
     record { at = now.0; is = now.1; source = (h.source.0, ap (λ (l : List Label). slice_get l place) labels ∙ h.source.1, h.source.2 ∙ sym now.2) }
 
 -- a kind says of writes to a bound table what it said, while the box is of its kind
-pub written_still : (t : TableObject) (bound : Bound) (m n : Nature) → n ≡ m → IsWrittenAs m.kind t bound → IsWrittenAs n.kind t bound
+pub written_still : (t : TableObject) (bound : BoxTable) (m n : Nature) → n ≡ m → IsWrittenAs m.kind t bound → IsWrittenAs n.kind t bound
 written_still t bound m n same h = subst (λ (x : Nature). IsWrittenAs x.kind t bound) (sym same) h
 
 -- ---- a change of the catalogue alone
@@ -181,7 +181,7 @@ unbound_sound e n name law sound objects h = subst IsSound (sym h.is) (record {
                 (spares.after, ap (slice_get n.boxes) s.1 ∙ spares.now, spares.change.tables a.number (apart s.1) ∙ ap (λ (b : BoxState). table_of b a.number) same, spares.change.nature ∙ ap (λ (b : BoxState). b.nature) same)
             split (inr s) = (x.box, spares.others a.source s.1 ∙ x.there, refl, refl)
 
-    attached : (slot number : ℕ) (s : BoxState) (b : Bound) → slice_get n.boxes slot ≡ Some (Some s) → table_of s number ≡ Some b → IsAmong shrunk.bound slot number
+    attached : (slot number : ℕ) (s : BoxState) (b : BoxTable) → slice_get n.boxes slot ≡ Some (Some s) → table_of s number ≡ Some b → IsAmong shrunk.bound slot number
     attached slot number s b at is = split (eqb_tells slot h.at.source)
       where
         left : (q : BoxState) → slice_get e.boxes slot ≡ Some (Some q) → table_of q number ≡ Some b → (slot ≡ h.at.source → number ≢ h.at.number) → IsAmong shrunk.bound slot number
@@ -297,7 +297,7 @@ bound_sound law e n t sound objects h = subst IsSound (sym h.is) (record {
     among_more : (slot number : ℕ) → IsAmong e.bound slot number → IsAmong grown.bound slot number
     among_more slot number x = record { place = x.place; at = x.at; there = push_before e.bound new_one x.place x.at x.there; source_is = x.source_is; number_is = x.number_is }
 
-    attached : (slot number : ℕ) (s : BoxState) (b : Bound) → slice_get n.boxes slot ≡ Some (Some s) → table_of s number ≡ Some b → IsAmong grown.bound slot number
+    attached : (slot number : ℕ) (s : BoxState) (b : BoxTable) → slice_get n.boxes slot ≡ Some (Some s) → table_of s number ≡ Some b → IsAmong grown.bound slot number
     attached slot number s b at is = split (eqb_tells slot h.place)
       where
         split : ((eqb slot h.place ≡ true) × (slot ≡ h.place)) ⊎ ((eqb slot h.place ≡ false) × (slot ≢ h.place)) → IsAmong grown.bound slot number
@@ -390,11 +390,11 @@ idle_at e name place box sound server there unused once = record {
   no_staging = (sound.at_rest place box there).no_staging;
 }
   where
-    none_at : (o : Option Bound) → ((b : Bound) → o ≡ Some b → ⊥) → o ≡ None
+    none_at : (o : Option BoxTable) → ((b : BoxTable) → o ≡ Some b → ⊥) → o ≡ None
     none_at None f = refl
     none_at (Some b) f = absurd (f b refl)
 
-    bound_there : (q : ℕ) (b : Bound) → table_of box q ≡ Some b → ⊥
+    bound_there : (q : ℕ) (b : BoxTable) → table_of box q ≡ Some b → ⊥
     bound_there q b is = of_server (sound.tables_bound among.place u.0 among.at u.1 among.there)
       where
         among : IsAmong e.bound place q
@@ -442,7 +442,7 @@ refused_sound law e new place fault sound h = record {
 -- ---- nor does a bind that was undone unsettle it
 
 -- what was just bound may be unbound, where the box was at rest
-mid_ready : (b mid : BoxState) (remote : List ℕ) (columns : List Column) (settings : List Setting) (t : ℕ) → IsAtRest b → Binds b remote columns settings t mid → CanUnbind mid t
+mid_ready : (b mid : BoxState) (remote : List ℕ) (columns : List Column) (settings : List OptionForm) (t : ℕ) → IsAtRest b → Binds b remote columns settings t mid → CanUnbind mid t
 mid_ready b mid remote columns settings t rest binds = record {
   is_bound = ap is_some (ap (λ l. l.tables t) binds.ledger ∙ set_this b.ledger.tables t (Some binds.bound) t refl);
   no_scan = λ q scan is. absurd (none_some scan (scan_of mid q) (none q) is);

@@ -8,7 +8,7 @@ use Rattle.write_syntax.specs.WriteTree.{WriteTree}
 use Rattle.tri_expr.proofs.Shuffled.{Shuffled, back, to_swaps, from_swaps, same as same_shuffled}
 use Rattle.fdw_api.specs.Kinds.{Kind, Entry, Holding, Known, Unknown, Held, held}
 use Rattle.fdw_api.specs.Scan.{TableRow}
-use Rattle.fdw_api.specs.State.{Bound, BoxState, is_honest, table_of, scan_of, rows_of}
+use Rattle.fdw_api.specs.State.{BoxTable, BoxState, is_honest, table_of, scan_of, rows_of}
 use Rattle.fdw_api.specs.Writes.{HoldsImage, Written}
 use Rattle.med_exec.specs.Slots.{ChangesAt}
 use Rattle.med_write.specs.Writing.{rows_after}
@@ -41,7 +41,7 @@ pub record TargetIn (e : Shown) (t : WriteTree) (at : Attached) (b : BoxState) :
   pub table : TableObject
   pub named : table_named e.catalog (target_of t) ≡ Some table
   pub server : IsServerAt e table.server at.source
-  pub bound : Bound
+  pub bound : BoxTable
   pub is : table_of b at.number ≡ Some bound
   pub remote : bound.remote ≡ table.remote
   pub writes : IsWrittenAs b.nature.kind table bound
@@ -115,7 +115,7 @@ stays_elsewhere old new P slot number c h kept other rows r = split (eqb_tells c
 
 -- ---- what the source holds
 
-image_after : (bound : Bound) (rows : List Held) (old new : Holding) → HoldsImage bound rows old new → new ≡ holding_after (λ e. bound.image e rows) old
+image_after : (bound : BoxTable) (rows : List Held) (old new : Holding) → HoldsImage bound rows old new → new ≡ holding_after (λ e. bound.image e rows) old
 image_after bound rows (Known e) new h = h
 image_after bound rows Unknown new h = h
 
@@ -192,7 +192,7 @@ done_sound e t answer at count new sound h = record {
 
 -- ---- in a world
 
-bound_one : (a b : Bound) (o : Option Bound) → o ≡ Some a → o ≡ Some b → a ≡ b
+bound_one : (a b : BoxTable) (o : Option BoxTable) → o ≡ Some a → o ≡ Some b → a ≡ b
 bound_one a b o p q = cc
 
 honest_kept : (b c : BoxState) → KeepsBox b c → is_honest b → is_honest c
@@ -279,13 +279,13 @@ done_agrees e w t answer at count new sound free target_at h a = record {
 
     -- what the source holds
     remote_is : k.bound.remote ≡ x.table.remote
-    remote_is = ap (λ (z : Bound). z.remote) one ∙ x.remote
+    remote_is = ap (λ (z : BoxTable). z.remote) one ∙ x.remote
 
     held_now : c.content.holdings x.table.remote ≡ now
     held_now =
         subst (λ (r : Name). c.content.holdings r ≡ holding_after (λ en. k.bound.image en rows) (b.content.holdings r)) remote_is
         (image_after k.bound rows (b.content.holdings k.bound.remote) (c.content.holdings k.bound.remote) k.holdings)
-        ∙ ap (λ (f : Option Entry → List Held → Option Entry). holding_after (λ en. f en rows) (b.content.holdings x.table.remote)) (ap (λ (z : Bound). z.image) one ∙ x.writes.image)
+        ∙ ap (λ (f : Option Entry → List Held → Option Entry). holding_after (λ en. f en rows) (b.content.holdings x.table.remote)) (ap (λ (z : BoxTable). z.image) one ∙ x.writes.image)
 
     holdings_are : c.content.holdings ≡ holding_at x.table.remote now b.content.holdings
     holdings_are = holding_now x.table.remote now b.content.holdings c.content.holdings held_now (λ r other. k.leaves.holdings r (λ is. other (is ∙ remote_is)))

@@ -8,7 +8,7 @@ use Rattle.med_value.specs.Datum.{Tuple}
 use Rattle.med_value.specs.declared.value.ColType.{ColType}
 use Rattle.tri_expr.proofs.Shuffled.{all_kept}
 use Rattle.fdw_api.specs.Scan.{GivenRow, TableRow, row_fits}
-use Rattle.fdw_api.specs.State.{Bound, Staging, Ledger, BoxState, is_honest, rows_of}
+use Rattle.fdw_api.specs.State.{BoxTable, Staging, Ledger, BoxState, is_honest, rows_of}
 use Rattle.fdw_api.specs.Calls.{bumped, faults_after}
 use Rattle.fdw_api.specs.Writes.{Written, Closes, row_of_change_fits}
 use Rattle.fdw_api.specs.Sound.{IsTableOf, IsSoundBox}
@@ -118,7 +118,7 @@ not_staged : (staging : Staging) (s : Option Staging) → s ≡ None → s ≡ S
 not_staged staging s a b = absurd cc
 
 still_table : (b c : BoxState) (t : ℕ) (kinds : List ColType) → KeepsBox b c → IsTableOf b t kinds → IsTableOf c t kinds
-still_table b c t kinds k h = (h.0, ap (λ (f : ℕ → Option Bound). f t) k.tables ∙ h.1, h.2)
+still_table b c t kinds k h = (h.0, ap (λ (f : ℕ → Option BoxTable). f t) k.tables ∙ h.1, h.2)
 
 pub written_box_sound : (columns : List WrittenColumn) (w : WriteForm) (answer : List Tuple) (old : BoxState) (t count : ℕ) (new : BoxState) → IsSoundBox old → CanWrite old t w answer → Writes columns w answer old t count new → IsSoundBox new
 written_box_sound columns w answer old t count new sound can h = record {
@@ -157,7 +157,7 @@ written_box_sound columns w answer old t count new sound can h = record {
         typed_staging s is = subst (λ (x : Staging). (kinds : List ColType) × IsTableOf now x.table kinds × (list_all (row_of_change_fits kinds) x.changes ≡ true)) (some_staging staging s is)
             (b.kinds, (b, (written honest).is, refl), fits)
           where
-            b : Bound
+            b : BoxTable
             b = (written honest).bound
 
             fits : list_all (row_of_change_fits b.kinds) h.changes ≡ true

@@ -13,7 +13,7 @@ use Rattle.fdw_api.specs.Kinds.{Kind, Entry, Holding, Held, Reading}
 use Rattle.fdw_api.specs.Calls.{Picks}
 use Rattle.med_parser.specs.CommandCauses.{SyntaxCauses}
 use Rattle.bind_names.specs.Meaning.{Meant}
-use Rattle.med_planner.specs.Planned.{QueryCauses, wrong_cause}
+use Rattle.med_planner.specs.Planned.{IsShownCause, wrong_cause}
 use Rattle.ddl_syntax.specs.DdlTree.{DdlTree}
 use Rattle.cursor_syntax.specs.CursorTree.{CursorTree, declare, fetch, close}
 use Rattle.open_cursors.specs.Starting.{is_risky_form}
@@ -32,13 +32,13 @@ use Rattle.bind_catalog.specs.Queries.{meant_by, QueryNames, QueryTypes}
 use Rattle.med_parser.specs.CommandTree.{CommandTree, on_data, on_rows, on_cursors, on_objects}
 use Rattle.med_parser.specs.CommandGrammar.{HasCommand}
 use Rattle.med_world.specs.Picks.{Pick, PicksAnswer, IsNumbering, as_given}
-use Rattle.med_world.specs.Requests.{Asked, opening, sql, bye, IsUser}
+use Rattle.med_world.specs.Requests.{AskedLine, opening, sql, bye, IsUser}
 use Rattle.med_world.specs.World.{World, Session, IsOpen, cells_of, rows_in, rows_named, IsFree, Serves, is_leased}
 use Rattle.med_world.specs.Cursors.{cursor_named}
 
 -- Phase 1, the frame. 08P01: OPEN of a session that is open, or with a user who is none by the protocol.
 -- 08003: a statement or BYE of a session that is not open.
-abbrev pub FrameCauses : World → ℕ → Asked → Cause → Type 0
+abbrev pub FrameCauses : World → ℕ → AskedLine → Cause → Type 0
 FrameCauses w sid (opening user) c = (c ≡ Protocol) × (IsOpen w sid ⊎ (IsUser user → ⊥))
 FrameCauses w sid (sql text) c = (c ≡ NoConnection) × (IsOpen w sid → ⊥)
 FrameCauses w sid bye c = (c ≡ NoConnection) × (IsOpen w sid → ⊥)
@@ -68,7 +68,7 @@ QueryState w q c = (8 < length (meant_over w q).entries) × (c ≡ LimitExceeded
 
 -- Phase 6: the faults that the query shows over the rows of its entries, and 54000 where it groups too many of them.
 abbrev pub QueryRun : World → SelectTree → Cause → Type 0
-QueryRun w q c = QueryCauses (query_of (meant_over w q)) (entries_in w q) c
+QueryRun w q c = IsShownCause (query_of (meant_over w q)) (entries_in w q) c
 
 abbrev pub SelectCauses : World → Name → SelectTree → Cause → Type 0
 SelectCauses w user q c = QueryNames w.catalog user q c ⊎ (QueryTypes w.catalog q c ⊎ (QueryState w q c ⊎ QueryRun w q c))
@@ -175,19 +175,19 @@ TreeCauses w s p (on_cursors t) c = CursorCauses w s t c
 TreeCauses w s p (on_objects d) c = ObjectCauses w s.user p d c
 
 -- the session is open, and the request is a statement with this tree
-abbrev pub IsStatementOf : World → ℕ → Asked → Session → CommandTree → Type 0
+abbrev pub IsStatementOf : World → ℕ → AskedLine → Session → CommandTree → Type 0
 IsStatementOf w sid (opening user) s tree = ⊥
 IsStatementOf w sid (sql text) s tree = (w.sessions sid ≡ Some s) × HasCommand text tree
 IsStatementOf w sid bye s tree = ⊥
 
 -- Of a statement: phase 2, its syntax, and what its tree shows.
-abbrev pub StatementCauses : World → ℕ → Pick → Asked → Cause → Type 0
+abbrev pub StatementCauses : World → ℕ → Pick → AskedLine → Cause → Type 0
 StatementCauses w sid p (opening user) c = ⊥
 StatementCauses w sid p (sql text) c =
     SyntaxCauses text c ⊎ ((s : Session) × (tree : CommandTree) × IsStatementOf w sid (sql text) s tree × TreeCauses w s p tree c)
 StatementCauses w sid p bye c = ⊥
 
-abbrev pub Stands : World → ℕ → Pick → Asked → Cause → Type 0
+abbrev pub Stands : World → ℕ → Pick → AskedLine → Cause → Type 0
 Stands w sid p request c = FrameCauses w sid request c ⊎ StatementCauses w sid p request c
 
 -- ---- what may be picked
@@ -218,13 +218,13 @@ IsPick w s (on_cursors t) p = Unit {0}
 IsPick w s (on_objects d) p = (t : TableObject) → Asks w.catalog s.user d (new_table t) → PicksEntry w t p
 
 -- no cause of syntax stands against the text
-abbrev pub IsWellFormed : Asked → Type 0
+abbrev pub IsWellFormed : AskedLine → Type 0
 IsWellFormed (opening user) = Unit {0}
 IsWellFormed (sql text) = (c : Cause) → SyntaxCauses text c → ⊥
 IsWellFormed bye = Unit {0}
 
 -- of a request: nothing is open but of its statement, once its text is well formed
-abbrev pub IsPickOf : World → ℕ → Asked → Pick → Type 0
+abbrev pub IsPickOf : World → ℕ → AskedLine → Pick → Type 0
 IsPickOf w sid request p =
     (s : Session) (tree : CommandTree) → IsStatementOf w sid request s tree → IsWellFormed request → IsPick w s tree p
 
@@ -235,13 +235,13 @@ abbrev pub phase : Cause → ℕ
 phase c = unwrap_or (phase_of c) 7
 
 -- a cause of the least phase in which one stands
-pub record IsTold (w : World) (sid : ℕ) (p : Pick) (request : Asked) (c : Cause) : Type 0 where
+pub record IsTold (w : World) (sid : ℕ) (p : Pick) (request : AskedLine) (c : Cause) : Type 0 where
   pub stands : Stands w sid p request c
   pub least : (d : Cause) → Stands w sid p request d → phase c ≤ phase d
 
-abbrev pub NoneStands : World → ℕ → Pick → Asked → Type 0
+abbrev pub NoneStands : World → ℕ → Pick → AskedLine → Type 0
 NoneStands w sid p request = (c : Cause) → Stands w sid p request c → ⊥
 
 -- no cause of phases 1 to 4 stands, whatever is picked
-abbrev pub NoneBeforeState : World → ℕ → Asked → Type 0
+abbrev pub NoneBeforeState : World → ℕ → AskedLine → Type 0
 NoneBeforeState w sid request = (p : Pick) (c : Cause) → Stands w sid p request c → 4 < phase c

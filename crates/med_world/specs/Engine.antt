@@ -5,7 +5,7 @@ use Rattle.med_value.specs.declared.cause.Cause.{Cause}
 use Rattle.med_syntax.specs.Tree.{Name}
 use Rattle.med_syntax.specs.QueryTree.{SelectTree, select}
 use Rattle.fdw_api.specs.Kinds.{Column, Kind, Held, held, kinds_of}
-use Rattle.fdw_api.specs.State.{BoxState, Bound, IsIdle, is_honest, table_of, scan_of, rows_of}
+use Rattle.fdw_api.specs.State.{BoxState, BoxTable, IsIdle, is_honest, table_of, scan_of, rows_of}
 use Rattle.fdw_api.specs.Calls.{Binds, Unbinds}
 use Rattle.fdw_api.specs.Sound.{IsSoundBox}
 use Rattle.pushdown.specs.Offered.{Place}
@@ -13,7 +13,7 @@ use Rattle.med_exec.specs.Slots.{BoxAt, ChangesAt}
 use Rattle.med_exec.specs.Running.{SlotShows, HasFailed, IsUsedUp}
 use Rattle.bind_catalog.specs.Places.{Attached, ArePlaces}
 use Rattle.bind_catalog.specs.Queries.{meant_by}
-use Rattle.med_world.specs.Requests.{Asked, sql, IsSid, IsUser}
+use Rattle.med_world.specs.Requests.{AskedLine, sql, IsSid, IsUser}
 use Rattle.med_catalog.specs.declared.kind.SourceKind.{SourceKind}
 use Rattle.med_catalog.specs.Objects.{ServerObject, TableObject, Objects, server_named}
 use Rattle.ddl_syntax.specs.DdlTree.{TableTree}
@@ -89,7 +89,7 @@ pub record IsStandingAt (e : Shown) (s : ServerObject) (place : ℕ) : Type 0 wh
   pub box_there : slice_get e.boxes place ≡ Some (Some box)
 
 -- what a kind says of writes to a table of these columns and options is said of the bound table
-pub record IsWrittenAs (kind : Kind) (t : TableObject) (bound : Bound) : Type 0 where
+pub record IsWrittenAs (kind : Kind) (t : TableObject) (bound : BoxTable) : Type 0 where
   pub line : bound.line ≡ kind.line t.columns t.settings
   pub image : bound.image ≡ kind.image t.columns t.settings
   pub arrangement : bound.arrangement ≡ kind.arrangement t.columns t.settings
@@ -100,7 +100,7 @@ pub record IsBoundAs (e : Shown) (t : TableObject) (a : Attached) : Type 0 where
   pub server : IsServerAt e t.server a.source
   pub box : BoxState
   pub there : slice_get e.boxes a.source ≡ Some (Some box)
-  pub bound : Bound
+  pub bound : BoxTable
   pub is : table_of box a.number ≡ Some bound
   pub remote : bound.remote ≡ t.remote
   pub kinds : bound.kinds ≡ kinds_of t.columns
@@ -141,7 +141,7 @@ pub record IsSound (e : Shown) : Type 0 where
   pub many : length e.bound ≡ length e.catalog.tables
   pub tables_bound : (k : ℕ) (t : TableObject) (a : Attached) → slice_get e.catalog.tables k ≡ Some t → slice_get e.bound k ≡ Some a
       → IsBoundAs e t a
-  pub bound_attached : (slot number : ℕ) (s : BoxState) (b : Bound) → slice_get e.boxes slot ≡ Some (Some s) → table_of s number ≡ Some b
+  pub bound_attached : (slot number : ℕ) (s : BoxState) (b : BoxTable) → slice_get e.boxes slot ≡ Some (Some s) → table_of s number ≡ Some b
       → IsAmong e.bound slot number
   pub bound_once : (j k : ℕ) (a b : Attached) → slice_get e.bound j ≡ Some a → slice_get e.bound k ≡ Some b
       → a.source ≡ b.source → a.number ≡ b.number → j ≡ k
@@ -219,13 +219,13 @@ pub record ReadsOnce (e : Shown) (q : SelectTree) (new : List (Option BoxState))
   pub reads : ReadsTables places e.boxes new
 
 -- a query that the request ran was run once
-abbrev pub RunsOnce : Shown → Asked → Reply → List (Option BoxState) → Type 0
+abbrev pub RunsOnce : Shown → AskedLine → Reply → List (Option BoxState) → Type 0
 RunsOnce old request reply new =
     (text : List ℕ) (tree : CommandTree) (q : SelectTree) → request ≡ sql text → HasCommand text tree → HasRun tree reply q
     → ReadsOnce old q new
 
 -- The request is answered by this reply: from each world that agrees before, a step leads to it and to a world that agrees after.
-pub record Leads (old : Shown) (sid : ℕ) (request : Asked) (reply : Reply) (new : Shown) : Type 0 where
+pub record Leads (old : Shown) (sid : ℕ) (request : AskedLine) (reply : Reply) (new : Shown) : Type 0 where
   pub trouble : Trouble
   pub befell : Befell old.boxes new.boxes trouble
   pub rises : EachRises old.boxes new.boxes
@@ -233,7 +233,7 @@ pub record Leads (old : Shown) (sid : ℕ) (request : Asked) (reply : Reply) (ne
   pub step : (w : World) → Agrees old w → (after : World) × Step w sid request trouble reply after × Agrees new after
 
 -- The request is answered by the bytes of a reply.
-pub record IsAnswered (old : Shown) (sid : ℕ) (request : Asked) (text : List ℕ) (new : Shown) : Type 0 where
+pub record IsAnswered (old : Shown) (sid : ℕ) (request : AskedLine) (text : List ℕ) (new : Shown) : Type 0 where
   pub reply : Reply
   pub is : text ≡ reply_text sid reply
   pub leads : Leads old sid request reply new

@@ -5,9 +5,9 @@ use Rattle.std.specs.List.{IsDistinct}
 use Rattle.med_value.specs.Datum.{Tuple}
 use Rattle.med_value.specs.declared.cause.Cause.{Cause}
 use Rattle.med_query.specs.Query.{Query, Tables, IsAnswer}
-use Rattle.med_planner.specs.Planned.{QueryCauses}
+use Rattle.med_planner.specs.Planned.{IsShownCause}
 use Rattle.fdw_api.specs.Kinds.{Entry, Held, held}
-use Rattle.fdw_api.specs.Scan.{TableRow, GivenRow, plain_spec, shown}
+use Rattle.fdw_api.specs.Scan.{TableRow, GivenRow, plain_spec, given_row}
 
 pub record Pick : Type 0 where
   -- what a table's source holds under its remote name
@@ -26,7 +26,7 @@ no_pick = record { entry = None; answer = []; rows = []; read = [] }
 -- one answer; or no row, where a cause stands against the query's run
 pub data PicksAnswer (q : Query) (db : Tables) (rows : List Tuple) : Type 0 where
   answers : IsAnswer q db rows → PicksAnswer q db rows
-  has_none : (c : Cause) → QueryCauses q db c → rows ≡ [] → PicksAnswer q db rows
+  has_none : (c : Cause) → IsShownCause q db c → rows ≡ [] → PicksAnswer q db rows
 
 -- these rows, each under an id of its own
 pub record IsNumbering (rows : List Held) (numbered : List TableRow) : Type 0 where
@@ -35,4 +35,4 @@ pub record IsNumbering (rows : List Held) (numbered : List TableRow) : Type 0 wh
 
 -- a row as a scan of whole rows gives it
 abbrev pub as_given : TableRow → GivenRow
-as_given r = shown (plain_spec [] []) r
+as_given r = given_row (plain_spec [] []) r

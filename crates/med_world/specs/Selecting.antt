@@ -8,7 +8,7 @@ use Rattle.med_syntax.specs.QueryTree.{SelectTree}
 use Rattle.med_query.specs.Query.{Query, Tables, SameRows, IsAnswer}
 use Rattle.fdw_api.specs.State.{BoxState}
 use Rattle.pushdown.specs.Offered.{Place}
-use Rattle.med_planner.specs.Planned.{entry_rows, QueryCauses}
+use Rattle.med_planner.specs.Planned.{entry_rows, IsShownCause}
 use Rattle.med_exec.specs.Running.{AllServed, AllHonest}
 use Rattle.open_cursors.specs.Counted.{ReadsTables}
 use Rattle.open_cursors.specs.Starting.{RunFails}
@@ -20,7 +20,7 @@ use Rattle.med_world.specs.Causes.{query_of}
 -- the same in whatever order the rows come
 pub record AnswersOver (q : Query) (places : List Place) (boxes : List (Option BoxState)) (rows : List Tuple) : Type 0 where
   pub answers : AllHonest boxes → (db : Tables) → SameRows (entry_rows boxes places) db → IsAnswer q db rows
-  pub clear : AllHonest boxes → (db : Tables) → SameRows (entry_rows boxes places) db → (c : Cause) → QueryCauses q db c → ⊥
+  pub clear : AllHonest boxes → (db : Tables) → SameRows (entry_rows boxes places) db → (c : Cause) → IsShownCause q db c → ⊥
 
 -- The query was answered from the boxes, which read each of its tables once.
 pub record Selects (o : Objects) (user : Name) (bound : List Attached) (q : SelectTree) (old : List (Option BoxState))

@@ -18,7 +18,7 @@ use Rattle.med_catalog.specs.Changes.{ObjectChange, new_table, no_server, no_tab
 use Rattle.med_parser.specs.CommandTree.{CommandTree, on_data, on_rows, on_cursors, on_objects}
 use Rattle.med_world.specs.Cursors.{cursor_named, with_cursor, without_cursor, with_handed, Fetches}
 use Rattle.med_world.specs.Picks.{Pick}
-use Rattle.med_world.specs.Requests.{Asked, opening, sql, bye}
+use Rattle.med_world.specs.Requests.{AskedLine, opening, sql, bye}
 use Rattle.med_world.specs.World.{World, Leased, Cursor, Session, cells_of, rows_named, beside_without, rows_with, drop_source_of, with_state, holds_at, with_session, new_session}
 use Rattle.med_world.specs.Causes.{query_of, meant_over, entries_in, Reads, write_over, rows_held, IsTarget, IsStatementOf, IsPickOf, IsTold, NoneStands, NoneBeforeState}
 use Rattle.med_world.specs.Replies.{Reply, done, answered, refused, rows_tag}
@@ -32,7 +32,7 @@ pub record Trouble : Type 0 where
   pub numbers : Bool
 
 -- only statements and OPEN take memory
-abbrev pub TakesMemory : Asked → Type 0
+abbrev pub TakesMemory : AskedLine → Type 0
 TakesMemory (opening user) = Unit {0}
 TakesMemory (sql text) = Unit {0}
 TakesMemory bye = ⊥
@@ -131,7 +131,7 @@ TreeDoes w sid s p (on_objects d) reply new =
     (reply ≡ done (ddl_tag d)) × ((change : ObjectChange) × Asks w.catalog s.user d change × Changes w p change new)
 
 -- what a request for which no cause stands is answered, and what it changes
-abbrev pub Does : World → ℕ → Pick → Asked → Reply → World → Type 0
+abbrev pub Does : World → ℕ → Pick → AskedLine → Reply → World → Type 0
 Does w sid p (opening user) reply new = (reply ≡ done (codes "OPEN")) × (new ≡ with_session w sid (Some (new_session user)))
 Does w sid p (sql text) reply new =
     (s : Session) × (tree : CommandTree) × IsStatementOf w sid (sql text) s tree × TreeDoes w sid s p tree reply new
@@ -150,7 +150,7 @@ MayBegin (on_cursors (fetch asked name)) = ⊥
 MayBegin other = Unit {0}
 
 -- One request in a world, under the trouble that befell it. What a case does not name stays as it was.
-pub data Step (w : World) (sid : ℕ) (request : Asked) (t : Trouble) (reply : Reply) (new : World) : Type 0 where
+pub data Step (w : World) (sid : ℕ) (request : AskedLine) (t : Trouble) (reply : Reply) (new : World) : Type 0 where
   -- a cause of the least phase in which one stands is told
   is_refused : (p : Pick) (c : Cause) → IsPickOf w sid request p → IsTold w sid p request c → reply ≡ refused c → new ≡ w
       → Step w sid request t reply new

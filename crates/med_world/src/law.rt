@@ -2,10 +2,12 @@
 //! it shows after it, for every world that agrees.
 #![tactic(auto)]
 
-ghost use Rattle.std.specs.Prelude.{◌≡◌, ◌≢◌, ◌<◌, ◌-◌, ◌⊎◌, ℕ, Bool, true, false, List, [], ◌∷◌, ◌++◌, Contains, Option, Some, None, is_some, length, slice_get, slice_set, replicate, codes};
+ghost use Rattle.std.specs.Prelude.{◌≡◌, ◌≢◌, ◌<◌, ◌-◌, ◌⊎◌, ℕ, Bool, true, false, List, [], ◌∷◌, ◌++◌, Contains};
+ghost use Rattle.std.specs.Prelude.{Option, Some, None, is_some, length, slice_get, slice_set, replicate, codes};
 ghost use Rattle.med_value.specs.Datum.{Tuple};
 ghost use Rattle.med_value.specs.declared.cause.Cause.{Cause as AnyCause};
-ghost use Rattle.med_value.specs.declared.cause.Cause.TheVariants.{OutOfMemory, Protocol, NoConnection, InUse, DuplicateCursor, InvalidCursorName};
+ghost use Rattle.med_value.specs.declared.cause.Cause.TheVariants.{OutOfMemory, Protocol, NoConnection};
+ghost use Rattle.med_value.specs.declared.cause.Cause.TheVariants.{InUse, DuplicateCursor, InvalidCursorName};
 ghost use Rattle.med_syntax.specs.Tree.{Name};
 ghost use Rattle.med_query.specs.Query.{IsAnswer};
 ghost use Rattle.med_syntax.specs.QueryTree.{SelectTree, select};
@@ -30,7 +32,7 @@ ghost use Rattle.med_catalog.specs.declared.kind.SourceKind.{SourceKind as AnyKi
 ghost use Rattle.bind_catalog.specs.Places.{Attached};
 ghost use Rattle.med_world.specs.Causes.{IsTold};
 ghost use Rattle.med_world.specs.Picks.{Pick};
-ghost use Rattle.med_world.specs.Requests.{Asked, opening, sql, bye, IsSid, IsUser};
+ghost use Rattle.med_world.specs.Requests.{AskedLine, opening, sql, bye, IsSid, IsUser};
 ghost use Rattle.med_world.specs.World.{World, Cursor, with_source, empty_world};
 ghost use Rattle.med_world.specs.Cursors.{rows_leased, Fetched, AreFetched, IsLast, rows_fetched};
 ghost use Rattle.med_world.specs.Replies.{done, answered, refused};
@@ -77,7 +79,7 @@ pub fn sessions_lead()
         → Leads e sid bye (done (codes "BYE")) (with_boxes (with_seats e (slice_set e.seats (sid - 1) None)) new) }
     ensures not_closed { (e : Shown) (sid : ℕ) → IsSid sid → is_some (user_of e.seats sid) ≡ false
         → Leads e sid bye (refused NoConnection) e }
-    ensures no_memory { (e : Shown) (sid : ℕ) (request : Asked) → TakesMemory request → Leads e sid request (refused OutOfMemory) e }
+    ensures no_memory { (e : Shown) (sid : ℕ) (request : AskedLine) → TakesMemory request → Leads e sid request (refused OutOfMemory) e }
     ensures opened_sound { (e : Shown) (sid : ℕ) (user : Name) → IsSid sid → IsSound e
         → IsSound (with_seats e (slice_set e.seats (sid - 1) (Some (new_seat user)))) }
     ensures closed_sound { (e : Shown) (new : List (Option BoxState)) (sid : ℕ) (seat : Seated) → IsSid sid → IsSound e

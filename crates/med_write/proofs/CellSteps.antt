@@ -12,7 +12,7 @@ use Rattle.tri_expr.specs.Verdict.{fault_list}
 use Rattle.med_query.specs.Query.{IsTold}
 use Rattle.med_query.proofs.Telling.{tells_more, fault_list-append}
 use Rattle.med_write.specs.Writing.{outcomes_of, value_for, cell_after, cells_after}
-use Rattle.med_write.specs.Making.{Gives}
+use Rattle.med_write.specs.Making.{GivesOutcome}
 
 -- an element that is there, seen by a view
 pub get_mapped : {X Y : Type 0} (f : X → Y) (xs : List X) (i : ℕ) (x : X) (d : Y) → i < length xs → x ≡ get_or xs i x → get_or (map f xs) i d ≡ f x
@@ -82,7 +82,7 @@ read_twice (x ∷ xs) zero d e lt = refl
 read_twice (x ∷ xs) (suc i) d e lt = read_twice xs i d e (omega arith)
 
 -- the value at a place that is there
-pub value_found : {X Y : Type 0} (f : Y → Outcome) (g : X → Y) (xs : List X) (place : Option ℕ) (at : ℕ) (x : X) (r : Result Value EvalFault) → place ≡ Some at → at < length xs → x ≡ get_or xs at x → Gives r (f (g x)) → Gives r (value_for (map f (map g xs)) place)
+pub value_found : {X Y : Type 0} (f : Y → Outcome) (g : X → Y) (xs : List X) (place : Option ℕ) (at : ℕ) (x : X) (r : Result Value EvalFault) → place ≡ Some at → at < length xs → x ≡ get_or xs at x → GivesOutcome r (f (g x)) → GivesOutcome r (value_for (map f (map g xs)) place)
 value_found f g xs place at x r is lt e gives =
     let inner : g x ≡ get_or (map g xs) at (g x) = sym (get_mapped g xs at x (g x) lt e) in
     let long : at < length (map g xs) = rw (length-map xs g) lt in

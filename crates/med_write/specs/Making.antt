@@ -18,9 +18,9 @@ use Rattle.med_write.specs.Form.{WriteForm}
 use Rattle.med_write.specs.Writing.{outcomes_of, choice_faults, write_faults, lacks_value, write_lacks, changes_of, count_of}
 
 -- a call answers an outcome: its value or its fault. Want of memory may stand in the place of anything
-abbrev pub Gives : Result Value EvalFault → Outcome → Type 0
-Gives (Ok v) o = o ≡ Is (datum v)
-Gives (Err f) o = IsTold f (fault_list (o ∷ []))
+abbrev pub GivesOutcome : Result Value EvalFault → Outcome → Type 0
+GivesOutcome (Ok v) o = o ≡ Is (datum v)
+GivesOutcome (Err f) o = IsTold f (fault_list (o ∷ []))
 
 -- a row has a value in each cell, these, and none is NULL in a NOT NULL column
 pub record IsRow (columns : List WrittenColumn) (os : List Outcome) (r : Tuple) : Type 0 where

@@ -4,19 +4,20 @@ ghost use Rattle.med_value.specs.Datum.{datum, tuple};
 ghost use Rattle.tri_expr.specs.Outcome.{Is};
 ghost use Rattle.tri_expr.specs.Tree.{tree};
 ghost use Rattle.tri_expr.specs.Verdict.{fault_list};
-ghost use Rattle.med_query.specs.Query.{Tells};
+ghost use Rattle.med_query.specs.Query.{TellsFault};
 ghost use Rattle.med_write.specs.Writing.{outcome_on, outcomes_on, outcomes_of, value_for, new_cells, cell_after, row_made};
 ghost use Rattle.med_write.specs.Writing.{is_null, lacks_value};
-ghost use Rattle.med_write.specs.Making.{Gives};
+ghost use Rattle.med_write.specs.Making.{GivesOutcome};
 
 use crate::write::WrittenColumn;
 use med_value::{Row, Value};
 use std::alloc::Global;
 use tri_expr::{EvalFault, Expr, eval};
 
+// Appends a value. Refused only for want of memory.
 fn push_value(v: Value, cells: &mut Vec<Value>) -> Result<(), EvalFault>
     ensures ok { IfOk result (λ _. cells.new.items ≡ cells.old.items ++ v ∷ []) }
-    ensures told { Tells result [] }
+    ensures told { TellsFault result [] }
 {
     match cells.push(v) {
         Ok(()) => Ok(()),
@@ -26,14 +27,14 @@ fn push_value(v: Value, cells: &mut Vec<Value>) -> Result<(), EvalFault>
 
 // What an expression gives on a row.
 fn value_on(alloc: Global, row: &Row, e: &Expr) -> Result<Value, EvalFault>
-    ensures { Gives result (outcome_on (tuple row.now) (tree e.now)) }
+    ensures { GivesOutcome result (outcome_on (tuple row.now) (tree e.now)) }
 {
     eval(alloc, e, row, &[])
 }
 
 // A copy of a value, which no fault stands for.
 fn same_value(alloc: Global, v: &Value) -> Result<Value, EvalFault>
-    ensures { Gives result (Is (datum v.now)) }
+    ensures { GivesOutcome result (Is (datum v.now)) }
 {
     match v.copy(alloc) {
         Ok(copy) => Ok(copy),
@@ -48,7 +49,7 @@ fn placed_value(
     place: Option<usize>,
     row: &Row,
 ) -> Result<Value, EvalFault>
-    ensures { Gives result (value_for (outcomes_on (tuple row.now) (map tree given.now)) place) }
+    ensures { GivesOutcome result (value_for (outcomes_on (tuple row.now) (map tree given.now)) place) }
 {
     match place {
         None => Ok(Value::Null),
@@ -61,7 +62,7 @@ fn placed_value(
 
 // The value at a place of a row, NULL without one.
 fn picked_value(alloc: Global, row: &Row, place: Option<usize>) -> Result<Value, EvalFault>
-    ensures { Gives result (value_for (outcomes_of (tuple row.now)) place) }
+    ensures { GivesOutcome result (value_for (outcomes_of (tuple row.now)) place) }
 {
     match place {
         None => Ok(Value::Null),
@@ -79,7 +80,7 @@ fn cell_value(
     place: usize,
     set: &Option<Expr>,
 ) -> Result<Value, EvalFault>
-    ensures { Gives result (cell_after (tuple row.now) place (option_map tree set.now)) }
+    ensures { GivesOutcome result (cell_after (tuple row.now) place (option_map tree set.now)) }
 {
     match set {
         Some(e) => value_on(alloc, row, e),
@@ -98,7 +99,7 @@ pub(crate) fn row_of_values(
     nothing: &Row,
 ) -> Result<Row, EvalFault>
     ensures ok { IfOk result (λ r. new_cells places.now (outcomes_on (tuple nothing.now) (map tree given.now)) ≡ outcomes_of (tuple r)) }
-    ensures told { Tells result (fault_list (new_cells places.now (outcomes_on (tuple nothing.now) (map tree given.now)))) }
+    ensures told { TellsFault result (fault_list (new_cells places.now (outcomes_on (tuple nothing.now) (map tree given.now)))) }
 {
     let mut cells = Vec::new(alloc);
     for place in places {
@@ -118,7 +119,7 @@ pub(crate) fn row_of_answer(
     row: &Row,
 ) -> Result<Row, EvalFault>
     ensures ok { IfOk result (λ r. new_cells places.now (outcomes_of (tuple row.now)) ≡ outcomes_of (tuple r)) }
-    ensures told { Tells result (fault_list (new_cells places.now (outcomes_of (tuple row.now)))) }
+    ensures told { TellsFault result (fault_list (new_cells places.now (outcomes_of (tuple row.now)))) }
 {
     let mut cells = Vec::new(alloc);
     for place in places {
@@ -138,7 +139,7 @@ pub(crate) fn row_of_update(
     row: &Row,
 ) -> Result<Row, EvalFault>
     ensures ok { IfOk result (λ r. row_made (map (option_map tree) sets.now) (tuple row.now) ≡ outcomes_of (tuple r)) }
-    ensures told { Tells result (fault_list (row_made (map (option_map tree) sets.now) (tuple row.now))) }
+    ensures told { TellsFault result (fault_list (row_made (map (option_map tree) sets.now) (tuple row.now))) }
 {
     let mut cells = Vec::new(alloc);
     for (place, set) in sets.iter().enumerate() {

@@ -15,6 +15,7 @@ use med_value::Row;
 use std::alloc::Global;
 use tri_expr::Expr;
 
+// The changes of an INSERT: a new row for each given one.
 fn insert(
     alloc: Global,
     columns: &[WrittenColumn],
@@ -33,6 +34,7 @@ fn insert(
     }
 }
 
+// The changes of an UPDATE: a row in the place of each of which WHERE is true.
 fn update(
     alloc: Global,
     columns: &[WrittenColumn],
@@ -53,6 +55,7 @@ fn update(
     }
 }
 
+// The changes of a DELETE: each row goes of which WHERE is true.
 fn delete(
     alloc: Global,
     columns: &[WrittenColumn],

@@ -19,6 +19,7 @@ use med_value::Row;
 use std::alloc::Global;
 use tri_expr::{EvalFault, Expr};
 
+// Appends a change. Refused only for want of memory.
 fn push_change(change: RowChange, out: &mut Vec<RowChange>) -> Result<(), WriteFault>
     ensures ok { IfOk result (λ _. map change_of out.new.items ≡ map change_of out.old.items ++ change_of change ∷ []) }
     ensures err { IfErr result (λ fault. (columns : List Target) (rows : List (List Outcome)) → IsFaultOf fault columns rows) }
@@ -41,6 +42,7 @@ fn whole_row(columns: &[WrittenColumn], row: Row) -> Result<Row, WriteFault>
     }
 }
 
+// The new row of a list of VALUES, where it may be written.
 fn inserted_values(
     alloc: Global,
     columns: &[WrittenColumn],
@@ -59,6 +61,7 @@ fn inserted_values(
     }
 }
 
+// The new row of a row of a query's answer, where it may be written.
 fn inserted_answer(
     alloc: Global,
     columns: &[WrittenColumn],
@@ -74,6 +77,7 @@ fn inserted_answer(
     }
 }
 
+// The row that an UPDATE makes of an old one, where it may be written.
 fn updated_row(
     alloc: Global,
     columns: &[WrittenColumn],

@@ -6,7 +6,7 @@ use Rattle.med_value.specs.Datum.{Tuple, tuple}
 use Rattle.med_value.specs.declared.value.Row.{Row}
 use Rattle.fdw_api.specs.State.{BoxState}
 use Rattle.cursor_syntax.specs.CursorTree.{CountTree, some_rows, all_rows}
-use Rattle.med_exec.specs.Running.{Gives, Breaks, wants_memory, box_breaks}
+use Rattle.med_exec.specs.Running.{GivesNext, Breaks, wants_memory, box_breaks}
 use Rattle.med_exec.specs.Rests.{Rests, rows_left, LessLeft}
 use Rattle.med_exec.specs.declared.running.Run.{Run}
 use Rattle.fdw_api.specs.declared.interface.Fault.{Fault}
@@ -28,12 +28,12 @@ last_to_rest : (rows : List Row) (row : Row) (rest : List Tuple) → map tuple r
 last_to_rest [] row rest = refl
 last_to_rest (r ∷ rows) row rest = ap (λ (xs : List Tuple). tuple r ∷ xs) (last_to_rest rows row rest)
 
-pub one_more : (first before after : Run) (old now next : List (Option BoxState)) (rows new : List Row) (row : Row) → new ≡ rows ++ (row ∷ []) → HasGiven first old rows before now → Gives (Rests before now) (Some (tuple row)) (Rests after next) → HasGiven first old new after next
+pub one_more : (first before after : Run) (old now next : List (Option BoxState)) (rows new : List Row) (row : Row) → new ≡ rows ++ (row ∷ []) → HasGiven first old rows before now → GivesNext (Rests before now) (Some (tuple row)) (Rests after next) → HasGiven first old new after next
 one_more first before after old now next rows new row e given gives rest h =
     subst (λ (rs : List Row). Rests first old (map tuple rs ++ rest)) (sym e)
     (subst (λ (xs : List Tuple). Rests first old xs) (last_to_rest rows row rest) (given (tuple row ∷ rest) (gives rest h)))
 
-pub all_given : (first before after : Run) (old now next : List (Option BoxState)) (rows : List Row) → HasGiven first old rows before now → Gives (Rests before now) None (Rests after next) → Rests first old (map tuple rows)
+pub all_given : (first before after : Run) (old now next : List (Option BoxState)) (rows : List Row) → HasGiven first old rows before now → GivesNext (Rests before now) None (Rests after next) → Rests first old (map tuple rows)
 all_given first before after old now next rows given gives = subst (λ (xs : List Tuple). Rests first old xs) (append-nil (map tuple rows)) (given [] gives)
 
 none_counted : (rows : List Tuple) → length rows ≡ 0 → rows ≡ []
@@ -45,7 +45,7 @@ none_left : (before after : Run) (now next : List (Option BoxState)) → Rests b
 none_left before after now next none fewer left h =
     none_counted left (ap (λ (xs : List Tuple). length xs) h ∙ length-map after.rest.items tuple ∙ fewer ∙ sym (length-map before.rest.items tuple) ∙ sym (ap (λ (xs : List Tuple). length xs) none))
 
-pub all_then : (first before after : Run) (old now next : List (Option BoxState)) (rows : List Row) → HasGiven first old rows before now → Gives (Rests before now) None (Rests after next) → LessLeft None (rows_left before now) (rows_left after next)
+pub all_then : (first before after : Run) (old now next : List (Option BoxState)) (rows : List Row) → HasGiven first old rows before now → GivesNext (Rests before now) None (Rests after next) → LessLeft None (rows_left before now) (rows_left after next)
     → (left : List Tuple) → Rests after next left → Rests first old (map tuple rows ++ left)
 all_then first before after old now next rows given gives fewer left h =
     subst (λ (xs : List Tuple). Rests first old (map tuple rows ++ xs)) (sym (none_left before after now next gives fewer left h)) (given [] gives)

@@ -14,7 +14,7 @@ use Rattle.med_query.specs.Query.{Query, Tables, SameRows, IsAnswer}
 use Rattle.med_query.specs.Form.{Form, GroupForm, query_by}
 use Rattle.fdw_api.specs.State.{BoxState}
 use Rattle.pushdown.specs.Offered.{Place}
-use Rattle.med_planner.specs.Planned.{entry_rows, QueryCauses}
+use Rattle.med_planner.specs.Planned.{entry_rows, IsShownCause}
 use Rattle.med_exec.specs.declared.running.Run.{Run}
 use Rattle.med_exec.specs.Running.{AllHonest, AllServed, ServesRun, SlotShows, HasFailed, IsUsedUp, none_held}
 use Rattle.med_exec.specs.Rests.{Rests, held, IsRunning}
@@ -46,7 +46,7 @@ pub record RestsOver (q : Query) (places : List Place) (boxes : List (Option Box
   pub some : AllHonest boxes → (rows : List Tuple) × rests rows
   pub answers : AllHonest boxes → (db : Tables) → SameRows (entry_rows boxes places) db → (rows : List Tuple) → rests rows
       → IsAnswer q db rows
-  pub clear : AllHonest boxes → (db : Tables) → SameRows (entry_rows boxes places) db → (c : Cause) → QueryCauses q db c → ⊥
+  pub clear : AllHonest boxes → (db : Tables) → SameRows (entry_rows boxes places) db → (c : Cause) → IsShownCause q db c → ⊥
 
 -- The query of a cursor was begun over the boxes, which read each of its tables once, and runs.
 pub record Starts (o : Objects) (user : Name) (bound : List Attached) (q : SelectTree) (full : Bool) (old : List (Option BoxState))
@@ -68,7 +68,7 @@ pub data RunFails (q : Query) (places : List Place) (c : Cause) (old new : List 
   no_memory : c ≡ OutOfMemory → RunFails q places c old new
   box_fails : c ≡ SourceFault → SlotShows old new HasFailed → RunFails q places c old new
   numbers_out : c ≡ LimitExceeded → SlotShows old new IsUsedUp → RunFails q places c old new
-  shows_cause : (AllHonest old → (db : Tables) → SameRows (entry_rows old places) db → QueryCauses q db c) → RunFails q places c old new
+  shows_cause : (AllHonest old → (db : Tables) → SameRows (entry_rows old places) db → IsShownCause q db c) → RunFails q places c old new
 
 -- Why it was not begun. `full` says that the session has as many cursors as it may have.
 pub data StartFails (o : Objects) (user : Name) (bound : List Attached) (q : SelectTree) (full : Bool) (old : List (Option BoxState))

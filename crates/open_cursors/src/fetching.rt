@@ -17,6 +17,7 @@ use med_exec::law::{running_is_held, services_join};
 use med_value::Row;
 use std::alloc::Global;
 
+// Whether so many rows are as many as were asked for.
 fn is_enough(asked: FetchCount, given: usize) -> bool
     ensures { result ≡ has_enough (count_tree asked) given }
 {

@@ -5,6 +5,7 @@ ghost use Rattle.open_cursors.specs.Open.{opened, seated, seats_shown, leases_ta
 
 use crate::cursors::{OpenCursor, Seat};
 
+// Whether the name is among these.
 fn is_among(tables: &[String], table: &str) -> bool
     ensures { result ≡ list_any (bytes_eq table.now) (map string_bytes tables.now) }
 {
@@ -16,6 +17,7 @@ fn is_among(tables: &[String], table: &str) -> bool
     false
 }
 
+// Whether one of the cursors reads the table of this name.
 fn some_leases(cursors: &[OpenCursor], table: &str) -> bool
     ensures { result ≡ list_any (leases_table table.now) (map opened cursors.now) }
 {
@@ -27,6 +29,7 @@ fn some_leases(cursors: &[OpenCursor], table: &str) -> bool
     false
 }
 
+// Whether a cursor of the session in this seat, if there is one, reads the table of this name.
 fn seat_leases(seat: &Option<Seat>, table: &str) -> bool
     ensures { result ≡ seat_leases table.now (option_map seated seat.now) }
 {

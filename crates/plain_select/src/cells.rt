@@ -3,7 +3,7 @@
 ghost use Rattle.std.specs.Prelude.{◌≡◌, IfOk, map};
 ghost use Rattle.med_value.specs.Datum.{datum, tuple};
 ghost use Rattle.med_query.specs.Lists.{tuple_eq};
-ghost use Rattle.tri_expr.specs.Meaning.{cell as spec_cell};
+ghost use Rattle.tri_expr.specs.Meaning.{cell_at as spec_cell};
 ghost use Rattle.med_query.specs.Query.{key_of as spec_key_of};
 
 use med_value::order::compare_values;

@@ -5,8 +5,8 @@ ghost use Rattle.med_value.specs.Datum.{tuple};
 ghost use Rattle.med_query.specs.Lists.{distinct};
 ghost use Rattle.tri_expr.specs.Outcome.{over, value_of};
 ghost use Rattle.tri_expr.specs.Verdict.{is_in};
-ghost use Rattle.med_query.specs.Query.{senses, output_eq};
-ghost use Rattle.plain_select.specs.Plain.{Clears, tuples_in, shown_told, output_of};
+ghost use Rattle.med_query.specs.Query.{senses, output_eq, output_faults};
+ghost use Rattle.plain_select.specs.Plain.{Clears, tuples_in, output_of};
 
 use crate::cells::is_same_row;
 use crate::filtering::{holds, values};
@@ -48,7 +48,7 @@ fn shown_by(
     class: &[Row],
 ) -> Result<Output, EvalFault>
     ensures output { IfOk result (λ o. output_of o ≡ (map value_of (over (senses [] keys.now) (map tuple class.now)), map value_of (over (senses [] items.now) (map tuple class.now)))) }
-    ensures told { Clears result (shown_told (senses [] keys.now) (senses [] items.now) (map tuple class.now)) }
+    ensures told { Clears result (output_faults (senses [] keys.now) (senses [] items.now) (map tuple class.now)) }
 {
     let key = match values(alloc, keys, class) {
         Ok(key) => key,
@@ -79,7 +79,7 @@ pub fn outputs_of(
     classes: &[Vec<Row>],
 ) -> Result<Vec<Output>, EvalFault>
     ensures outputs { IfOk result (λ v. map output_of v.items ≡ map (λ c. (map value_of (over (senses [] keys.now) c), map value_of (over (senses [] items.now) c))) (map tuples_in classes.now)) }
-    ensures told { Clears result (flat_map (shown_told (senses [] keys.now) (senses [] items.now)) (map tuples_in classes.now)) }
+    ensures told { Clears result (flat_map (output_faults (senses [] keys.now) (senses [] items.now)) (map tuples_in classes.now)) }
 {
     let mut out = Vec::new(alloc);
     for class in classes {

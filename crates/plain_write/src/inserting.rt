@@ -2,7 +2,7 @@
 
 use crate::after::{After, copied};
 use crate::asking::{asked, items_of};
-use med_binder::{AttachedTable, Bound, bind};
+use med_binder::{AttachedTable, BoundQuery, bind};
 use med_syntax::{Expr, Statement};
 use med_value::{Cause, ColumnDef, NoMemory, Row, Value};
 use plain_select::plain_answer;
@@ -62,7 +62,11 @@ pub fn rows_of_values(
 }
 
 // The rows of each entry of FROM.
-fn entry_rows(alloc: Global, bound: &Bound, rows: &[Vec<Row>]) -> Result<Vec<Vec<Row>>, NoMemory> {
+fn entry_rows(
+    alloc: Global,
+    bound: &BoundQuery,
+    rows: &[Vec<Row>],
+) -> Result<Vec<Vec<Row>>, NoMemory> {
     let mut entries = Vec::new(alloc);
     for entry in &bound.entries {
         match rows.get(entry.place) {

@@ -2,7 +2,7 @@
 use Rattle.std.proofs.Common.{ℕ, Bool, true, false, List, ap, Result, Ok, Err, IfOk, IfErr}
 use Rattle.med_value.specs.Datum.{Tuple}
 use Rattle.fdw_api.specs.Scan.{Spec}
-use Rattle.fdw_api.specs.Kinds.{Column, Setting, Change}
+use Rattle.fdw_api.specs.Kinds.{Column, OptionForm, Change}
 use Rattle.fdw_api.specs.State.{BoxState, Ledger, Staging}
 use Rattle.fdw_api.specs.Calls.{Leaves, Binds, Allows, Begins}
 use Rattle.fdw_api.specs.Writes.{RefusesChange, Closes, Outcome}
@@ -21,7 +21,7 @@ if_err P Q (Err e) f p = f e p
 leaves : {tickets tables : ℕ → Type 0} {remotes : List ℕ → Type 0} (s t : BoxState) (p : ℕ) → Leaves tickets tables remotes s t → Leaves tickets tables remotes (counted s p) (counted t p)
 leaves s t p l = record { coming = l.coming; rows = l.rows; holdings = l.holdings }
 
-pub binds : (p : ℕ) (s t : BoxState) (remote : List ℕ) (columns : List Column) (settings : List Setting) (n : ℕ) → Binds s remote columns settings n t → Binds (counted s p) remote columns settings n (counted t p)
+pub binds : (p : ℕ) (s t : BoxState) (remote : List ℕ) (columns : List Column) (settings : List OptionForm) (n : ℕ) → Binds s remote columns settings n t → Binds (counted s p) remote columns settings n (counted t p)
 binds p s t remote columns settings n b = record {
   nature = b.nature;
   fresh = b.fresh;

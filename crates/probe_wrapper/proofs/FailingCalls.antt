@@ -2,9 +2,9 @@
 use Rattle.std.proofs.Common.{◌≡◌, ℕ, Bool, List, Option, sym, subst}
 use Rattle.med_value.specs.Datum.{Tuple}
 use Rattle.fdw_api.specs.Scan.{Spec}
-use Rattle.fdw_api.specs.Kinds.{Column, Setting, Change}
+use Rattle.fdw_api.specs.Kinds.{Column, OptionForm, Change}
 use Rattle.fdw_api.specs.State.{BoxState}
-use Rattle.fdw_api.specs.Calls.{Binds, RefusesBind, Begins, RefusesBegin, IsOpen, Gives, Breaks, Rescans, Ends}
+use Rattle.fdw_api.specs.Calls.{Binds, RefusesBind, Begins, RefusesBegin, IsOpen, Iterates, Breaks, Rescans, Ends}
 use Rattle.fdw_api.specs.Writes.{Opens, RefusesModify, CanChange, Stages, RefusesChange, Closes, RefusesClose}
 use Rattle.fdw_api.specs.declared.interface.Fault.{Fault}
 use Rattle.fdw_api.specs.declared.interface.SourceRow.{SourceRow}
@@ -13,10 +13,10 @@ use Rattle.probe_wrapper.specs.Failing.{after_call, failed, failed_ledger, past_
 use Rattle.probe_wrapper.proofs.FailingLemmas as inner
 use Rattle.probe_wrapper.proofs.RoundLemmas.{bind_cause}
 
-pub binds_after : (f g : Failure) (s t : BoxState) (remote : List ℕ) (columns : List Column) (settings : List Setting) (n : ℕ) → g ≡ after_call f → Binds s remote columns settings n t → Binds (failed s f) remote columns settings n (failed t g)
+pub binds_after : (f g : Failure) (s t : BoxState) (remote : List ℕ) (columns : List Column) (settings : List OptionForm) (n : ℕ) → g ≡ after_call f → Binds s remote columns settings n t → Binds (failed s f) remote columns settings n (failed t g)
 binds_after f g s t remote columns settings n e b = inner.moved (λ o. Binds o remote columns settings n (failed t g)) s f g e (inner.binds g s t remote columns settings n b)
 
-pub refuses_bind_after : (f g : Failure) (s t : BoxState) (remote : List ℕ) (columns : List Column) (settings : List Setting) (fault : Fault) → g ≡ after_call f → RefusesBind s remote columns settings fault t → RefusesBind (failed s f) remote columns settings fault (failed t g)
+pub refuses_bind_after : (f g : Failure) (s t : BoxState) (remote : List ℕ) (columns : List Column) (settings : List OptionForm) (fault : Fault) → g ≡ after_call f → RefusesBind s remote columns settings fault t → RefusesBind (failed s f) remote columns settings fault (failed t g)
 refuses_bind_after f g s t remote columns settings fault e r =
     inner.moved (λ o. RefusesBind o remote columns settings fault (failed t g)) s f g e
     (record { refuses = inner.refuses g s t fault r.refuses; cause = bind_cause s s.nature.skips (failed_ledger g s.ledger) s.content.coming remote columns settings fault r.cause })
@@ -32,8 +32,8 @@ refuses_begin_after f g s t fault e r = inner.moved (λ o. RefusesBegin fault o 
 pub open_inside : (f : Failure) (s : BoxState) (q : ℕ) → IsOpen (failed s f) q → IsOpen s q
 open_inside f s q o = (o.0, (inner.open_in f s q o.0 o.1 o.2).0, o.2)
 
-pub gives_after : (f g : Failure) (s t : BoxState) (q : ℕ) (row : Option SourceRow) → g ≡ after_call f → IsOpen (failed s f) q → Gives s q row t → Gives (failed s f) q row (failed t g)
-gives_after f g s t q row e o r = inner.moved (λ x. Gives x q row (failed t g)) s f g e (inner.gives g s t q row (inner.same_of f g q e (inner.open_in f s q o.0 o.1 o.2).1) r)
+pub gives_after : (f g : Failure) (s t : BoxState) (q : ℕ) (row : Option SourceRow) → g ≡ after_call f → IsOpen (failed s f) q → Iterates s q row t → Iterates (failed s f) q row (failed t g)
+gives_after f g s t q row e o r = inner.moved (λ x. Iterates x q row (failed t g)) s f g e (inner.gives g s t q row (inner.same_of f g q e (inner.open_in f s q o.0 o.1 o.2).1) r)
 
 pub breaks_after : (f g : Failure) (s t : BoxState) (q : ℕ) (fault : Fault) → g ≡ after_call f → IsOpen (failed s f) q → Breaks s q fault t → Breaks (failed s f) q fault (failed t g)
 breaks_after f g s t q fault e o r = inner.moved (λ x. Breaks x q fault (failed t g)) s f g e (inner.breaks g s t q fault (inner.same_of f g q e (inner.open_in f s q o.0 o.1 o.2).1) r)

@@ -6,9 +6,9 @@ use Rattle.std.specs.Cmp.{nat_cmp_total}
 use Rattle.std.proofs.lemmas.Bool.Decides.{eqb_tells}
 use Rattle.med_value.specs.Datum.{Tuple}
 use Rattle.fdw_api.specs.Scan.{Spec}
-use Rattle.fdw_api.specs.Kinds.{Column, Setting, Change}
+use Rattle.fdw_api.specs.Kinds.{Column, OptionForm, Change}
 use Rattle.fdw_api.specs.State.{BoxState, Ledger, Staging, Scan as LiveScan, scan_of, table_of}
-use Rattle.fdw_api.specs.Calls.{bumped, faults_after, Leaves, NoScan, Allows, Binds, CanUnbind, Unbinds, Refuses, Begins, Gives, Breaks, CanRescan, Rescans, Ends, new_scan}
+use Rattle.fdw_api.specs.Calls.{bumped, faults_after, Leaves, NoScan, Allows, Binds, CanUnbind, Unbinds, Refuses, Begins, Iterates, Breaks, CanRescan, Rescans, Ends, new_scan}
 use Rattle.fdw_api.specs.Writes.{CanModify, Opens, CanChange, Stages, RefusesChange, CanClose, Closes, RefusesClose, Outcome}
 use Rattle.fdw_api.specs.declared.interface.Fault.{Fault}
 use Rattle.fdw_api.specs.declared.interface.Fault.TheVariants.{NoMemory, Source, Refused}
@@ -173,7 +173,7 @@ leaves f g s t l = record { coming = λ q live other. l.coming q (live_in f s q 
 pub allows : (f : Failure) (s : BoxState) (t : ℕ) (spec : Spec) → Allows s t spec → Allows (failed s f) t spec
 allows f s t spec a = record { bound = a.bound; is = a.is; allowed = a.allowed }
 
-pub binds : (f : Failure) (s t : BoxState) (remote : List ℕ) (columns : List Column) (settings : List Setting) (n : ℕ) → Binds s remote columns settings n t → Binds (failed s f) remote columns settings n (failed t f)
+pub binds : (f : Failure) (s t : BoxState) (remote : List ℕ) (columns : List Column) (settings : List OptionForm) (n : ℕ) → Binds s remote columns settings n t → Binds (failed s f) remote columns settings n (failed t f)
 binds f s t remote columns settings n b = record {
   nature = b.nature;
   fresh = b.fresh;
@@ -268,7 +268,7 @@ begins f s t n spec params q b = record {
 at_seen : (f : Failure) (s : BoxState) (q : ℕ) (scan : LiveScan) → is_of f q ≡ false → scan_of s q ≡ Some scan → scan_of (failed s f) q ≡ Some scan
 at_seen f s q scan e at = seen_at f s.ledger.live q ∙ all_id (is_of f q) (scan_of s q) e ∙ at
 
-pub gives : (f : Failure) (s t : BoxState) (q : ℕ) (row : Option SourceRow) → is_of f q ≡ false → Gives s q row t → Gives (failed s f) q row (failed t f)
+pub gives : (f : Failure) (s t : BoxState) (q : ℕ) (row : Option SourceRow) → is_of f q ≡ false → Iterates s q row t → Iterates (failed s f) q row (failed t f)
 gives f s t q None e g = record { nature = g.nature; ledger = ap (failed_ledger f) g.ledger; coming = g.coming; still = g.still; leaves = λ h. leaves f f s t (g.leaves h) }
 gives f s t q (Some row) e g = record {
   nature = g.nature;

@@ -3,7 +3,7 @@ use Rattle.std.proofs.Common.{◌≡◌, ◌≢◌, ℕ, ◌+◌, ◌-◌, ◌^�
 use Rattle.std.specs.FinMap as finmap
 use Rattle.med_value.specs.Datum.{Tuple}
 use Rattle.fdw_api.specs.Scan.{Spec, GivenRow}
-use Rattle.fdw_api.specs.Kinds.{Column, Setting, Change}
+use Rattle.fdw_api.specs.Kinds.{Column, OptionForm, Change}
 use Rattle.fdw_api.specs.State.{BoxState, Nature, Ledger, Staging, Scan, is_honest, scan_of}
 use Rattle.fdw_api.specs.Calls.{Leaves, LeavesAll, BindCause, Begins, Ends, new_scan}
 use Rattle.fdw_api.specs.Writes.{ChangeCause, CloseCause}
@@ -28,7 +28,7 @@ around s skips l coming = record {
 }
 
 -- a cause that stands for the one stands for the other
-pub bind_cause : (s : BoxState) (skips : Bool) (l : Ledger) (coming : ℕ → List GivenRow) (remote : List ℕ) (columns : List Column) (settings : List Setting) (fault : Fault)
+pub bind_cause : (s : BoxState) (skips : Bool) (l : Ledger) (coming : ℕ → List GivenRow) (remote : List ℕ) (columns : List Column) (settings : List OptionForm) (fault : Fault)
     → BindCause s remote columns settings fault → BindCause (around s skips l coming) remote columns settings fault
 bind_cause s skips l coming remote columns settings NoMemory c = tt
 bind_cause s skips l coming remote columns settings Source c = tt

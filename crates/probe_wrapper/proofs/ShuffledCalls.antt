@@ -4,9 +4,9 @@ use Rattle.std.specs.FinMap as finmap
 use Rattle.med_value.specs.Datum.{Tuple}
 use Rattle.std.specs.List.{list_all}
 use Rattle.fdw_api.specs.Scan.{Spec, GivenRow, IsComing, params_fit, shown_fits}
-use Rattle.fdw_api.specs.Kinds.{Column, Setting, Change}
+use Rattle.fdw_api.specs.Kinds.{Column, OptionForm, Change}
 use Rattle.fdw_api.specs.State.{BoxState, Staging, Scan, IsIdle, scan_of, table_of, rows_of}
-use Rattle.fdw_api.specs.Calls.{bumped, faults_after, row_of, Leaves, NoScan, Allows, Binds, RefusesBind, CanUnbind, Unbinds, Refuses, Begins, RefusesBegin, IsOpen, Gives, Breaks, CanRescan, Rescans, Ends, new_scan}
+use Rattle.fdw_api.specs.Calls.{bumped, faults_after, row_of, Leaves, NoScan, Allows, Binds, RefusesBind, CanUnbind, Unbinds, Refuses, Begins, RefusesBegin, IsOpen, Iterates, Breaks, CanRescan, Rescans, Ends, new_scan}
 use Rattle.fdw_api.specs.Writes.{CanModify, Opens, RefusesModify, CanChange, Stages, RefusesChange, CanClose, Closes, RefusesClose, Outcome}
 use Rattle.fdw_api.specs.declared.interface.Fault.{Fault}
 use Rattle.fdw_api.specs.declared.interface.Fault.TheVariants.{NoMemory}
@@ -90,7 +90,7 @@ is_idle s turns p i = record { no_table = i.no_table; no_scan = λ q. seen_get t
 pub allows : (s : BoxState) (turns : Turns) (p t : ℕ) (spec : Spec) → Allows s t spec → Allows (reordered s turns p) t spec
 allows s turns p t spec a = record { bound = a.bound; is = a.is; allowed = a.allowed }
 
-pub binds : (turns : Turns) (p : ℕ) (s t : BoxState) (remote : List ℕ) (columns : List Column) (settings : List Setting) (n : ℕ) → Binds s remote columns settings n t → Binds (reordered s turns p) remote columns settings n (reordered t turns p)
+pub binds : (turns : Turns) (p : ℕ) (s t : BoxState) (remote : List ℕ) (columns : List Column) (settings : List OptionForm) (n : ℕ) → Binds s remote columns settings n t → Binds (reordered s turns p) remote columns settings n (reordered t turns p)
 binds turns p s t remote columns settings n b = record {
   nature = ap round b.nature;
   fresh = b.fresh;
@@ -121,7 +121,7 @@ refuses turns p s t fault r = record {
   leaves = λ h. leaves s t turns p (r.leaves h);
 }
 
-pub refuses_bind : (turns : Turns) (p : ℕ) (s t : BoxState) (remote : List ℕ) (columns : List Column) (settings : List Setting) (fault : Fault) → RefusesBind s remote columns settings fault t → RefusesBind (reordered s turns p) remote columns settings fault (reordered t turns p)
+pub refuses_bind : (turns : Turns) (p : ℕ) (s t : BoxState) (remote : List ℕ) (columns : List Column) (settings : List OptionForm) (fault : Fault) → RefusesBind s remote columns settings fault t → RefusesBind (reordered s turns p) remote columns settings fault (reordered t turns p)
 refuses_bind turns p s t remote columns settings fault r = record { refuses = refuses turns p s t fault r.refuses; cause = bind_cause s true (reordered_ledger turns p s.ledger) (λ q. turned_coming (turns q) (s.content.coming q)) remote columns settings fault r.cause }
 
 no_scan_in : (turns : Turns) (p : ℕ) (s : BoxState) (t : ℕ) → NoScan (reordered s turns p) t → NoScan s t
@@ -200,7 +200,7 @@ still_whole : (a b c : Bool) → a ≡ false → b ≡ false → c ≡ true → 
 still_whole a b c e f h = rw (e, f, h) refl
 
 -- a row that waited is given
-pub gives_waiting : (old new : Turns) (p : ℕ) (s : BoxState) (q : ℕ) (row : Option SourceRow) → IsOpen (reordered s old p) q → TakesFirst old q row new → Gives (reordered s old p) q row (reordered s new (counted row p))
+pub gives_waiting : (old new : Turns) (p : ℕ) (s : BoxState) (q : ℕ) (row : Option SourceRow) → IsOpen (reordered s old p) q → TakesFirst old q row new → Iterates (reordered s old p) q row (reordered s new (counted row p))
 gives_waiting old new p s q None o k = record {
   nature = refl;
   ledger = ap (λ (m : Scans). record (reordered_ledger old p s.ledger) { live = m }) (keep_of old new s.ledger.live k.hands.1);
@@ -253,7 +253,7 @@ unread_waits (Some x) t e u = at x.waiting refl u
     at (Some rows) f u = absurd cc
 
 -- the first row of a scan is given, whose inner scan was read for it
-pub gives_first : (old new : Turns) (p : ℕ) (s t : BoxState) (q : ℕ) (inner : List GivenRow) (row : Option SourceRow) → is_unread (old q) ≡ true → ReadsOut s q inner t → TurnsRows old q inner row new → Gives (reordered s old p) q row (reordered t new (counted row p))
+pub gives_first : (old new : Turns) (p : ℕ) (s t : BoxState) (q : ℕ) (inner : List GivenRow) (row : Option SourceRow) → is_unread (old q) ≡ true → ReadsOut s q inner t → TurnsRows old q inner row new → Iterates (reordered s old p) q row (reordered t new (counted row p))
 gives_first old new p s t q inner None u r k =
     let waits = unread_waits (old q) k.turn k.at u in
     let empty : inner ≡ [] = nil_turned k.turn.places inner k.hands.0 in

@@ -8,7 +8,7 @@ use Rattle.std.proofs.lemmas.List.Sorted.{IsPermutation-append_comm, IsPermutati
 use Rattle.std.proofs.lemmas.List.Sums.{AllPass-from_list_all, list_all-from_AllPass}
 use Rattle.std.specs.List.{list_all}
 use Rattle.med_value.specs.Datum.{Tuple}
-use Rattle.fdw_api.specs.Scan.{Spec, GivenRow, TableRow, IsComing, shown, meets_exact}
+use Rattle.fdw_api.specs.Scan.{Spec, GivenRow, TableRow, IsComing, given_row, meets_exact}
 use Rattle.fdw_api.specs.State.{Scan}
 use Rattle.probe_wrapper.specs.Shuffled.{turned, Turn, seen_scan, seen, Stays}
 use Rattle.probe_wrapper.proofs.SeenScans.{Scans, See, each_get, each_len, each_insert, each_change, each_remove, each_keep}
@@ -84,5 +84,5 @@ turned_come rows spec params places coming c =
       parts = IsPermutation-trans rows (c.taken ++ c.left_out) (turned places c.taken ++ c.left_out) c.parts (IsPermutation-append_left c.left_out c.taken (turned places c.taken) (turned_permutes places c.taken));
       failing = c.failing;
       exact = All-append P (drop k c.taken) (take k c.taken) (All-drop P k c.taken c.exact) (All-take P k c.taken c.exact);
-      is = ap (turned places) c.is ∙ turned_map (shown spec) places c.taken;
+      is = ap (turned places) c.is ∙ turned_map (given_row spec) places c.taken;
     }

@@ -2,28 +2,28 @@
 use Rattle.std.proofs.Common.{◌≡◌, ◌≢◌, ◌+◌, ◌-◌, ◌^◌, ◌<◌, ℕ, Bool, true, false, List, [], ◌∷◌, ◌++◌, Contains, length, replicate, Option, Some, None, IsSome, option_map, refl, ap, sym, ◌∙◌, subst, arith}
 use Rattle.std.specs.FinMap as finmap
 use Rattle.med_value.specs.Datum.{Tuple}
-use Rattle.fdw_api.specs.Scan.{Spec, spec_of, Filter, plain_spec, params_fit, shown_fits}
+use Rattle.fdw_api.specs.Scan.{Spec, spec_of, RestrictionForm, plain_spec, params_fit, shown_fits}
 use Rattle.fdw_api.specs.declared.scan.ScanSpec.{ScanSpec}
 use Rattle.fdw_api.specs.declared.scan.Agree.{Agree}
 use Rattle.fdw_api.specs.declared.scan.Agree.TheVariants.{Ignored}
-use Rattle.fdw_api.specs.Kinds.{Column, Setting, Change, Entry, Held, Holding, Known, Unknown}
-use Rattle.fdw_api.specs.State.{Bound, BoxState, Staging, Scan, table_of}
-use Rattle.fdw_api.specs.Calls.{row_of, Picks, NoScan, Allows, CanBind, Binds, RefusesBind, CanUnbind, Unbinds, Refuses, bumped, faults_after, CanBegin, Begins, RefusesBegin, IsOpen, Gives, Breaks, CanRescan, Rescans, Ends, new_scan}
+use Rattle.fdw_api.specs.Kinds.{Column, OptionForm, Change, Entry, Held, Holding, Known, Unknown}
+use Rattle.fdw_api.specs.State.{BoxTable, BoxState, Staging, Scan, table_of}
+use Rattle.fdw_api.specs.Calls.{row_of, Picks, NoScan, Allows, CanBind, Binds, RefusesBind, CanUnbind, Unbinds, Refuses, bumped, faults_after, CanBegin, Begins, RefusesBegin, IsOpen, Iterates, Breaks, CanRescan, Rescans, Ends, new_scan}
 use Rattle.fdw_api.specs.Writes.{CanModify, Opens, RefusesModify, CanChange, Stages, RefusesChange, ChangeCause, CanClose, Closes, RefusesClose, CloseCause, Outcome, HoldsImage, row_of_change_fits}
 use Rattle.fdw_api.specs.declared.interface.Fault.{Fault}
 use Rattle.fdw_api.specs.declared.interface.Fault.TheVariants.{NoMemory, Source, Refused}
 use Rattle.fdw_api.specs.declared.interface.SourceRow.{SourceRow}
-use Rattle.probe_wrapper.specs.Shy.{all_ignored, is_plain, is_bare, plain_is_ignored, Asked, new_ask, asked_scan, shied_bound, shied_ledger, shied, AsksNow, OffersNothing}
+use Rattle.probe_wrapper.specs.Shy.{all_ignored, is_plain, is_bare, plain_is_ignored, AskedForm, new_ask, asked_scan, shied_bound, shied_ledger, shied, AsksNow, OffersNothing}
 use Rattle.probe_wrapper.specs.LiveScans.{round}
 use Rattle.probe_wrapper.proofs.SeenScans.{Scans, put_same}
 use Rattle.probe_wrapper.proofs.RoundLemmas.{some_inj, never, bind_cause, begun_and_ended}
 use Rattle.probe_wrapper.proofs.ShyLemmas.{Asks, inner_of, some_of, none_of_none, plain_is_whole, whole_fits, bare_is_whole, bare_offers, bare_fits, plain_come, seen_get, insert_of, change_of, remove_of, keep_of, open_in, seen_at, seen_left, left_seen, table_seen, seen_broken, seen_begun, leaves, tables_set}
 
 -- tables
-pub can_bind : (s : BoxState) (asked : Asks) (remote : List ℕ) (columns : List Column) (settings : List Setting) → CanBind (shied s asked) remote columns settings → CanBind s remote columns settings
+pub can_bind : (s : BoxState) (asked : Asks) (remote : List ℕ) (columns : List Column) (settings : List OptionForm) → CanBind (shied s asked) remote columns settings → CanBind s remote columns settings
 can_bind s asked remote columns settings c = record { free = λ t b e. c.free t (shied_bound b) (ap (option_map shied_bound) e); no_objection = c.no_objection }
 
-pub binds : (asked : Asks) (s t : BoxState) (remote : List ℕ) (columns : List Column) (settings : List Setting) (n : ℕ) → Binds s remote columns settings n t → Binds (shied s asked) remote columns settings n (shied t asked)
+pub binds : (asked : Asks) (s t : BoxState) (remote : List ℕ) (columns : List Column) (settings : List OptionForm) (n : ℕ) → Binds s remote columns settings n t → Binds (shied s asked) remote columns settings n (shied t asked)
 binds asked s t remote columns settings n b = record {
   nature = ap round b.nature;
   fresh = none_of_none _ b.fresh;
@@ -54,7 +54,7 @@ refuses asked s t fault r = record {
   leaves = λ h. leaves s t asked asked (r.leaves h);
 }
 
-pub refuses_bind : (asked : Asks) (s t : BoxState) (remote : List ℕ) (columns : List Column) (settings : List Setting) (fault : Fault) → RefusesBind s remote columns settings fault t → RefusesBind (shied s asked) remote columns settings fault (shied t asked)
+pub refuses_bind : (asked : Asks) (s t : BoxState) (remote : List ℕ) (columns : List Column) (settings : List OptionForm) (fault : Fault) → RefusesBind s remote columns settings fault t → RefusesBind (shied s asked) remote columns settings fault (shied t asked)
 refuses_bind asked s t remote columns settings fault r = record { refuses = refuses asked s t fault r.refuses; cause = bind_cause s true (shied_ledger asked s.ledger) s.content.coming remote columns settings fault r.cause }
 
 no_scan_in : (asked : Asks) (s : BoxState) (t : ℕ) → NoScan (shied s asked) t → NoScan s t
@@ -66,10 +66,10 @@ can_unbind asked s t c = record { is_bound = some_of _ c.is_bound; no_scan = no_
 pub unbinds : (asked : Asks) (s t : BoxState) (n : ℕ) → Unbinds s n t → Unbinds (shied s asked) n (shied t asked)
 unbinds asked s t n u = record { nature = ap round u.nature; ledger = ap (shied_ledger asked) u.ledger ∙ tables_set asked s.ledger n None; leaves = λ h. leaves s t asked asked (u.leaves h) }
 
-pub plain_allowed : (s : BoxState) (asked : Asks) (t : ℕ) (wanted : List ℕ) (offered : List Filter) (answers : List Agree) → IsSome (table_of (shied s asked) t) → answers ≡ replicate (length offered) Ignored → Allows (shied s asked) t (record { wanted = wanted; offered = offered; answers = answers; narrow = false })
+pub plain_allowed : (s : BoxState) (asked : Asks) (t : ℕ) (wanted : List ℕ) (offered : List RestrictionForm) (answers : List Agree) → IsSome (table_of (shied s asked) t) → answers ≡ replicate (length offered) Ignored → Allows (shied s asked) t (record { wanted = wanted; offered = offered; answers = answers; narrow = false })
 plain_allowed s asked t wanted offered answers is e = at_table (table_of s t) refl is
   where
-    at_table : (o : Option Bound) → table_of s t ≡ o → IsSome (option_map shied_bound o) → Allows (shied s asked) t (record { wanted = wanted; offered = offered; answers = answers; narrow = false })
+    at_table : (o : Option BoxTable) → table_of s t ≡ o → IsSome (option_map shied_bound o) → Allows (shied s asked) t (record { wanted = wanted; offered = offered; answers = answers; narrow = false })
     at_table None eq is = absurd cc
     at_table (Some b) eq is = record {
       bound = shied_bound b;
@@ -81,7 +81,7 @@ plain_allowed s asked t wanted offered answers is e = at_table (table_of s t) re
 pub is_plainly : (s : BoxState) (asked : Asks) (t : ℕ) (spec : ScanSpec) (params : Tuple) → CanBegin (shied s asked) t spec params → is_plain (spec_of spec) ≡ true
 is_plainly s asked t spec params c =
     let w = inner_of (table_of s t) c.bound c.is in
-    subst (λ (b : Bound). b.allows (spec_of spec) ≡ true) (sym w.2) c.allowed
+    subst (λ (b : BoxTable). b.allows (spec_of spec) ≡ true) (sym w.2) c.allowed
 
 pub can_begin : (s : BoxState) (asked : Asks) (t : ℕ) (spec bare : ScanSpec) (params : Tuple) (wanted : List ℕ) → spec_of bare ≡ plain_spec wanted [] → CanBegin (shied s asked) t spec params → CanBegin s t bare []
 can_begin s asked t spec bare params wanted e c =
@@ -109,7 +109,7 @@ begins old new s t n spec inner params wanted q e plain b w =
           ap (shied_ledger new) b.ledger
           ∙ ap (λ (m : Scans). record (shied_ledger old s.ledger) { live = m; next = q + 1 })
           (insert_of old new s.ledger s.ledger.live q (new_scan n b.bound.kinds inner [] b.left) w.others
-          ∙ ap (λ (o : Option Asked). finmap.insert (shied_ledger old s.ledger).live q (asked_scan o (new_scan n b.bound.kinds inner [] b.left))) w.now
+          ∙ ap (λ (o : Option AskedForm). finmap.insert (shied_ledger old s.ledger).live q (asked_scan o (new_scan n b.bound.kinds inner [] b.left))) w.now
           ∙ ap (λ (z : Scan). finmap.insert (shied_ledger old s.ledger).live q z) (seen_begun (new_ask spec params) n b.bound.kinds inner b.left plain bare refl));
       coming = λ h. plain_come (s.content.rows n) spec inner params (t.content.coming q) plain bare (b.coming h);
       leaves = λ h. leaves s t old new (b.leaves h);
@@ -160,7 +160,7 @@ begun_in_vain old new s mid t n spec params q b e stays =
     }
 
 -- rows are given
-pub gives : (asked : Asks) (s t : BoxState) (q : ℕ) (row : Option SourceRow) → IsOpen (shied s asked) q → Gives s q row t → Gives (shied s asked) q row (shied t asked)
+pub gives : (asked : Asks) (s t : BoxState) (q : ℕ) (row : Option SourceRow) → IsOpen (shied s asked) q → Iterates s q row t → Iterates (shied s asked) q row (shied t asked)
 gives asked s t q None c g = record { nature = ap round g.nature; ledger = ap (shied_ledger asked) g.ledger; coming = g.coming; still = g.still; leaves = λ h. leaves s t asked asked (g.leaves h) }
 gives asked s t q (Some row) c g = record {
   nature = ap round g.nature;
@@ -182,7 +182,7 @@ gives asked s t q (Some row) c g = record {
         let o = open_in s asked q c.0 c.1 c.2 in
         let same : o.inner ≡ g.scan = some_inj o.inner g.scan (sym o.is ∙ g.at) in
         let bare : is_bare g.scan.spec ≡ true = subst (λ (z : Scan). is_bare z.spec ≡ true) same o.bare in
-        ap (λ (x : Option Asked). shown_fits (asked_scan x g.scan).kinds (asked_scan x g.scan).spec (row_of row).cells) o.at
+        ap (λ (x : Option AskedForm). shown_fits (asked_scan x g.scan).kinds (asked_scan x g.scan).spec (row_of row).cells) o.at
         ∙ whole_fits g.scan.kinds o.ask.spec g.scan.spec (row_of row).cells (plain_is_whole o.ask.spec o.plain) (bare_is_whole g.scan.spec bare) g.typed
 
 pub breaks : (asked : Asks) (s t : BoxState) (q : ℕ) (fault : Fault) → Breaks s q fault t → Breaks (shied s asked) q fault (shied t asked)
@@ -206,7 +206,7 @@ can_rescan asked s q params c =
     let w = inner_of (table_of s c.scan.table) c.bound c.is in
     record { scan = o.inner; at = o.is; whole = o.whole_in; bound = w.0; is = ap (table_of s) (sym table) ∙ w.1; typed = bare_fits w.0.kinds o.inner.spec o.bare }
 
-pub rescans : (old new : Asks) (s t : BoxState) (q : ℕ) (params : Tuple) → CanRescan (shied s old) q params → Rescans s q [] t → ((ask : Asked) → old q ≡ Some ask → AsksNow old q (record ask { params = params }) new) → Rescans (shied s old) q params (shied t new)
+pub rescans : (old new : Asks) (s t : BoxState) (q : ℕ) (params : Tuple) → CanRescan (shied s old) q params → Rescans s q [] t → ((ask : AskedForm) → old q ≡ Some ask → AsksNow old q (record ask { params = params }) new) → Rescans (shied s old) q params (shied t new)
 rescans old new s t q params c r again =
     let o = open_in s old q c.scan c.at c.whole in
     let w = again o.ask o.at in
@@ -215,14 +215,14 @@ rescans old new s t q params c r again =
     record {
       nature = ap round r.nature;
       scan = asked_scan (Some o.ask) r.scan;
-      at = seen_at s old q r.scan r.at ∙ ap (λ (x : Option Asked). Some (asked_scan x r.scan)) o.at;
+      at = seen_at s old q r.scan r.at ∙ ap (λ (x : Option AskedForm). Some (asked_scan x r.scan)) o.at;
       left = r.left;
       few = r.few;
       ledger =
           ap (shied_ledger new) r.ledger
           ∙ ap (λ (m : Scans). record (shied_ledger old s.ledger) { live = m })
           (insert_of old new s.ledger s.ledger.live q (new_scan r.scan.table r.scan.kinds r.scan.spec [] r.left) w.others
-          ∙ ap (λ (x : Option Asked). finmap.insert (shied_ledger old s.ledger).live q (asked_scan x (new_scan r.scan.table r.scan.kinds r.scan.spec [] r.left))) w.now
+          ∙ ap (λ (x : Option AskedForm). finmap.insert (shied_ledger old s.ledger).live q (asked_scan x (new_scan r.scan.table r.scan.kinds r.scan.spec [] r.left))) w.now
           ∙ ap (λ (z : Scan). finmap.insert (shied_ledger old s.ledger).live q z) (seen_begun (record o.ask { params = params }) r.scan.table r.scan.kinds r.scan.spec r.left o.plain bare o.whole));
       coming = λ h. plain_come (s.content.rows r.scan.table) o.ask.spec r.scan.spec params (t.content.coming q) o.plain bare (r.coming h);
       leaves = λ h. leaves s t old new (r.leaves h);
@@ -242,7 +242,7 @@ again_bare asked s t q params c r =
     }
 
 -- memory was refused before a scan began again
-pub spoils : (old new : Asks) (s : BoxState) (q : ℕ) → IsOpen (shied s old) q → ((ask : Asked) → old q ≡ Some ask → AsksNow old q (record ask { broken = true }) new) → Breaks (shied s old) q NoMemory (shied s new)
+pub spoils : (old new : Asks) (s : BoxState) (q : ℕ) → IsOpen (shied s old) q → ((ask : AskedForm) → old q ≡ Some ask → AsksNow old q (record ask { broken = true }) new) → Breaks (shied s old) q NoMemory (shied s new)
 spoils old new s q c spoil =
     let o = open_in s old q c.0 c.1 c.2 in
     let w = spoil o.ask o.at in
@@ -250,10 +250,10 @@ spoils old new s q c spoil =
       nature = refl;
       no_cause = tt;
       scan = asked_scan (Some o.ask) o.inner;
-      at = seen_at s old q o.inner o.is ∙ ap (λ (x : Option Asked). Some (asked_scan x o.inner)) o.at;
+      at = seen_at s old q o.inner o.is ∙ ap (λ (x : Option AskedForm). Some (asked_scan x o.inner)) o.at;
       ledger =
           ap (λ (m : Scans). record (shied_ledger old s.ledger) { live = m })
-          (change_of old new s.ledger q o.inner o.is w.others ∙ ap (λ (x : Option Asked). finmap.insert (shied_ledger old s.ledger).live q (asked_scan x o.inner)) w.now);
+          (change_of old new s.ledger q o.inner o.is w.others ∙ ap (λ (x : Option AskedForm). finmap.insert (shied_ledger old s.ledger).live q (asked_scan x o.inner)) w.now);
       leaves = λ h. leaves s s old new (record { coming = λ x live other. refl; rows = λ u other. refl; holdings = λ r other. refl });
     }
 
@@ -283,7 +283,7 @@ can_change asked s change c =
       whole = c.whole;
       bound = w.0;
       is = w.1;
-      fits = subst (λ (b : Bound). row_of_change_fits b.kinds change ≡ true) (sym w.2) c.fits;
+      fits = subst (λ (b : BoxTable). row_of_change_fits b.kinds change ≡ true) (sym w.2) c.fits;
       there = c.there;
       once = c.once;
     }
@@ -298,7 +298,7 @@ change_cause asked s staging change (Refused x) c = (
   c.0,
   λ h b e.
       let w = inner_of (table_of s staging.table) b e in
-      subst (λ (z : Bound). (entry : Option Entry) × Picks (s.content.holdings z.remote) entry × ((more : List Change) → Contains (z.refuses.causes entry (s.content.rows staging.table) (staging.changes ++ change ∷ more)) x)) w.2 (c.1 h w.0 w.1),
+      subst (λ (z : BoxTable). (entry : Option Entry) × Picks (s.content.holdings z.remote) entry × ((more : List Change) → Contains (z.refuses.causes entry (s.content.rows staging.table) (staging.changes ++ change ∷ more)) x)) w.2 (c.1 h w.0 w.1),
 )
 
 pub refuses_change : (asked : Asks) (s t : BoxState) (change : Change) (fault : Fault) → RefusesChange s change fault t → RefusesChange (shied s asked) change fault (shied t asked)
@@ -314,7 +314,7 @@ refuses_change asked s t change fault r = record {
 pub can_close : (asked : Asks) (s : BoxState) (keep : Bool) → CanClose (shied s asked) keep → CanClose s keep
 can_close asked s keep c = record { staging = c.staging; is_staged = c.is_staged; is_bound = some_of _ c.is_bound; whole = c.whole; no_scan = λ k. no_scan_in asked s c.staging.table (c.no_scan k) }
 
-same_image : (b : Bound) (rows : List Held) (old new : Holding) → HoldsImage b rows old new → HoldsImage (shied_bound b) rows old new
+same_image : (b : BoxTable) (rows : List Held) (old new : Holding) → HoldsImage b rows old new → HoldsImage (shied_bound b) rows old new
 same_image b rows (Known e) new h = h
 same_image b rows Unknown new h = h
 
@@ -348,7 +348,7 @@ close_cause asked s staging (Refused x) c = (
   c.0,
   λ h b e.
       let w = inner_of (table_of s staging.table) b e in
-      subst (λ (z : Bound). (entry : Option Entry) × Picks (s.content.holdings z.remote) entry × Contains (z.refuses.causes entry (s.content.rows staging.table) staging.changes) x) w.2 (c.1 h w.0 w.1),
+      subst (λ (z : BoxTable). (entry : Option Entry) × Picks (s.content.holdings z.remote) entry × Contains (z.refuses.causes entry (s.content.rows staging.table) staging.changes) x) w.2 (c.1 h w.0 w.1),
 )
 
 pub refuses_close : (asked : Asks) (s t : BoxState) (keep : Bool) (fault : Fault) → RefusesClose s keep fault t → RefusesClose (shied s asked) keep fault (shied t asked)

@@ -3,33 +3,33 @@ use Rattle.std.proofs.Common.{◌≡◌, ◌≢◌, ℕ, Bool, true, false, not,
 use Rattle.std.specs.FinMap as finmap
 use Rattle.std.proofs.lemmas.List.Elements.{All-weaker}
 use Rattle.med_value.specs.Datum.{Tuple}
-use Rattle.fdw_api.specs.Scan.{Spec, Filter, pick, shown, GivenRow, TableRow, IsComing, meets_all, meets_exact, params_fit, row_fits, cells_fit, shown_fits}
+use Rattle.fdw_api.specs.Scan.{Spec, RestrictionForm, pick, given_row, GivenRow, TableRow, IsComing, meets_all, meets_exact, params_fit, row_fits, cells_fit, shown_fits}
 use Rattle.med_value.specs.declared.value.ColType.{ColType}
 use Rattle.fdw_api.specs.declared.scan.Agree.{Agree}
 use Rattle.fdw_api.specs.declared.scan.Agree.TheVariants.{Ignored, Hint, Exact}
-use Rattle.fdw_api.specs.State.{Bound, BoxState, Ledger, Scan, IsIdle, scan_of, set_at}
+use Rattle.fdw_api.specs.State.{BoxTable, BoxState, Ledger, Scan, IsIdle, scan_of, set_at}
 use Rattle.fdw_api.specs.Calls.{Leaves, IsOpen, new_scan}
-use Rattle.probe_wrapper.specs.Shy.{all_ignored, is_plain, has_none, is_bare, Asked, asked_scan, shied_bound, shied_ledger, shied}
+use Rattle.probe_wrapper.specs.Shy.{all_ignored, is_plain, has_none, is_bare, AskedForm, asked_scan, shied_bound, shied_ledger, shied}
 use Rattle.probe_wrapper.proofs.RoundLemmas.{some_inj}
 use Rattle.probe_wrapper.proofs.SeenScans.{Scans, See, each_get, each_len, each_insert, each_change, each_remove, each_keep}
 
 abbrev pub Asks : Type 0
-Asks = ℕ → Option Asked
+Asks = ℕ → Option AskedForm
 
 -- the inner wrapper's table
-pub inner_of : (o : Option Bound) (b : Bound) → option_map shied_bound o ≡ Some b → (a : Bound) × (o ≡ Some a) × (shied_bound a ≡ b)
+pub inner_of : (o : Option BoxTable) (b : BoxTable) → option_map shied_bound o ≡ Some b → (a : BoxTable) × (o ≡ Some a) × (shied_bound a ≡ b)
 inner_of None b e = absurd cc
 inner_of (Some a) b e = (a, refl, some_inj _ _ e)
 
-pub some_of : (o : Option Bound) → IsSome (option_map shied_bound o) → IsSome o
+pub some_of : (o : Option BoxTable) → IsSome (option_map shied_bound o) → IsSome o
 some_of None e = absurd cc
 some_of (Some a) e = refl
 
-pub none_of_none : (o : Option Bound) → o ≡ None → option_map shied_bound o ≡ None
+pub none_of_none : (o : Option BoxTable) → o ≡ None → option_map shied_bound o ≡ None
 none_of_none o e = rw e refl
 
 -- all Ignored is what a plain scan answers
-ignored_is : (fs : List Filter) (answers : List Agree) → all_ignored fs answers ≡ true → answers ≡ replicate (length fs) Ignored
+ignored_is : (fs : List RestrictionForm) (answers : List Agree) → all_ignored fs answers ≡ true → answers ≡ replicate (length fs) Ignored
 ignored_is [] [] e = refl
 ignored_is [] (a ∷ answers) e = absurd cc
 ignored_is (f ∷ fs) [] e = absurd cc
@@ -45,7 +45,7 @@ not_true : (a : Bool) → not a ≡ true → a ≡ false
 not_true true e = absurd cc
 not_true false e = refl
 
-none_there : (fs : List Filter) → has_none fs ≡ true → fs ≡ []
+none_there : (fs : List RestrictionForm) → has_none fs ≡ true → fs ≡ []
 none_there [] e = refl
 none_there (f ∷ fs) e = absurd cc
 
@@ -64,17 +64,17 @@ pub bare_offers : (spec : Spec) → is_bare spec ≡ true → spec.offered ≡ [
 bare_offers spec e = none_there spec.offered (both (not spec.narrow) (has_none spec.offered) e).1
 
 pub bare_fits : (kinds : List ColType) (spec : Spec) → is_bare spec ≡ true → params_fit kinds spec.offered [] ≡ true
-bare_fits kinds spec e = ap (λ (l : List Filter). params_fit kinds l []) (bare_offers spec e)
+bare_fits kinds spec e = ap (λ (l : List RestrictionForm). params_fit kinds l []) (bare_offers spec e)
 
 -- a plain scan may give what its bare inner scan gives
-no_exact : (fs : List Filter) (answers : List Agree) (params cells : Tuple) → all_ignored fs answers ≡ true → meets_exact fs answers params cells ≡ true
+no_exact : (fs : List RestrictionForm) (answers : List Agree) (params cells : Tuple) → all_ignored fs answers ≡ true → meets_exact fs answers params cells ≡ true
 no_exact [] answers params cells e = refl
 no_exact (f ∷ fs) [] params cells e = refl
 no_exact (f ∷ fs) (Ignored ∷ answers) params cells e = no_exact fs answers params cells e
 no_exact (f ∷ fs) (Hint ∷ answers) params cells e = absurd cc
 no_exact (f ∷ fs) (Exact ∷ answers) params cells e = absurd cc
 
-whole_shown : (spec : Spec) (r : TableRow) → spec.narrow ≡ false → shown spec r ≡ record { id = r.id; cells = r.cells }
+whole_shown : (spec : Spec) (r : TableRow) → spec.narrow ≡ false → given_row spec r ≡ record { id = r.id; cells = r.cells }
 whole_shown spec r e = ap (λ (b : Bool). record { id = r.id; cells = if b then pick spec.wanted r.cells else r.cells }) e
 
 clash : {X : Type 0} → true ≡ false → X
@@ -83,12 +83,12 @@ clash e = absurd cc
 pub plain_come : (rows : List TableRow) (spec inner : Spec) (params : Tuple) (coming : List GivenRow) → is_plain spec ≡ true → is_bare inner ≡ true → IsComing rows inner [] coming → IsComing rows spec params coming
 plain_come rows spec inner params coming plain bare c =
     let w = both (not spec.narrow) (all_ignored spec.offered spec.answers) plain in
-    let same : (r : TableRow) → shown inner r ≡ shown spec r = λ r. whole_shown inner r (bare_is_whole inner bare) ∙ sym (whole_shown spec r (not_true spec.narrow w.0)) in
+    let same : (r : TableRow) → given_row inner r ≡ given_row spec r = λ r. whole_shown inner r (bare_is_whole inner bare) ∙ sym (whole_shown spec r (not_true spec.narrow w.0)) in
     record {
       taken = c.taken;
       left_out = c.left_out;
       parts = c.parts;
-      failing = All-weaker _ (λ r. meets_all spec.offered params r.cells ≡ false) (λ r e. clash (sym (ap (λ (l : List Filter). meets_all l [] r.cells) (bare_offers inner bare)) ∙ e)) c.left_out c.failing;
+      failing = All-weaker _ (λ r. meets_all spec.offered params r.cells ≡ false) (λ r e. clash (sym (ap (λ (l : List RestrictionForm). meets_all l [] r.cells) (bare_offers inner bare)) ∙ e)) c.left_out c.failing;
       exact = All-weaker (λ r. meets_exact inner.offered inner.answers [] r.cells ≡ true) _ (λ r e. no_exact spec.offered spec.answers params r.cells w.1) c.taken c.exact;
       is = c.is ∙ ap (λ (f : TableRow → GivenRow). map f c.taken) (λ i r. same r i);
     }
@@ -116,7 +116,7 @@ pub keep_of : (old new : Asks) (l : Ledger) → ((x : ℕ) → new x ≡ old x) 
 keep_of old new l same = ap (λ (m : Scans). record (shied_ledger old l) { live = m }) (each_keep (see old) (see new) l.live (λ x. ap asked_scan (same x)))
 
 -- what is live or open outside is so inside
-some_seen : (t : Option Asked) (o : Option Scan) → IsSome (option_map (asked_scan t) o) → IsSome o
+some_seen : (t : Option AskedForm) (o : Option Scan) → IsSome (option_map (asked_scan t) o) → IsSome o
 some_seen t None e = absurd cc
 some_seen t (Some s) e = refl
 
@@ -125,7 +125,7 @@ live_in s asked q live = some_seen (asked q) (scan_of s q) (subst IsSome (seen_g
 
 -- an open scan, with what it was asked for and its inner scan
 pub record OpenInside (s : BoxState) (asked : Asks) (q : ℕ) (scan : Scan) : Type 0 where
-  pub ask : Asked
+  pub ask : AskedForm
   pub at : asked q ≡ Some ask
   pub inner : Scan
   pub is : scan_of s q ≡ Some inner
@@ -150,7 +150,7 @@ not_false false e = absurd cc
 pub open_in : (s : BoxState) (asked : Asks) (q : ℕ) (scan : Scan) → scan_of (shied s asked) q ≡ Some scan → scan.broken ≡ false → OpenInside s asked q scan
 open_in s asked q scan at whole = go (asked q) (scan_of s q) refl refl (sym (seen_get s asked q) ∙ at)
   where
-    go : (o : Option Asked) (i : Option Scan) → asked q ≡ o → scan_of s q ≡ i → option_map (asked_scan o) i ≡ Some scan → OpenInside s asked q scan
+    go : (o : Option AskedForm) (i : Option Scan) → asked q ≡ o → scan_of s q ≡ i → option_map (asked_scan o) i ≡ Some scan → OpenInside s asked q scan
     go o None e f h = absurd cc
     go None (Some x) e f h =
         let same = some_inj (record x { broken = true }) scan h in
@@ -169,19 +169,19 @@ is_open_in s asked q o = let w = open_in s asked q o.0 o.1 o.2 in (w.inner, w.is
 pub seen_at : (s : BoxState) (asked : Asks) (q : ℕ) (scan : Scan) → scan_of s q ≡ Some scan → scan_of (shied s asked) q ≡ Some (asked_scan (asked q) scan)
 seen_at s asked q scan is = seen_get s asked q ∙ ap (option_map (asked_scan (asked q))) is
 
-pub seen_left : (o : Option Asked) (s : Scan) (n : ℕ) → asked_scan o (record s { left = n }) ≡ record (asked_scan o s) { left = n }
+pub seen_left : (o : Option AskedForm) (s : Scan) (n : ℕ) → asked_scan o (record s { left = n }) ≡ record (asked_scan o s) { left = n }
 seen_left None s n = refl
 seen_left (Some a) s n = refl
 
-pub left_seen : (o : Option Asked) (s : Scan) → (asked_scan o s).left ≡ s.left
+pub left_seen : (o : Option AskedForm) (s : Scan) → (asked_scan o s).left ≡ s.left
 left_seen None s = refl
 left_seen (Some a) s = refl
 
-pub table_seen : (o : Option Asked) (s : Scan) → (asked_scan o s).table ≡ s.table
+pub table_seen : (o : Option AskedForm) (s : Scan) → (asked_scan o s).table ≡ s.table
 table_seen None s = refl
 table_seen (Some a) s = refl
 
-pub seen_broken : (o : Option Asked) (s : Scan) → asked_scan o (record s { broken = true }) ≡ record (asked_scan o s) { broken = true }
+pub seen_broken : (o : Option AskedForm) (s : Scan) → asked_scan o (record s { broken = true }) ≡ record (asked_scan o s) { broken = true }
 seen_broken None s = refl
 seen_broken (Some a) s = at a.broken
   where
@@ -190,7 +190,7 @@ seen_broken (Some a) s = at a.broken
     at false = refl
 
 -- a scan of its asking that was just begun, where the inner one was
-pub seen_begun : (ask : Asked) (t : ℕ) (kinds : List ColType) (inner : Spec) (left : ℕ) → is_plain ask.spec ≡ true → is_bare inner ≡ true → ask.broken ≡ false → asked_scan (Some ask) (new_scan t kinds inner [] left) ≡ new_scan t kinds ask.spec ask.params left
+pub seen_begun : (ask : AskedForm) (t : ℕ) (kinds : List ColType) (inner : Spec) (left : ℕ) → is_plain ask.spec ≡ true → is_bare inner ≡ true → ask.broken ≡ false → asked_scan (Some ask) (new_scan t kinds inner [] left) ≡ new_scan t kinds ask.spec ask.params left
 seen_begun ask t kinds inner left plain bare whole =
     ap (λ (b : Bool). record (new_scan t kinds ask.spec ask.params left) { broken = b || (false || not (is_plain ask.spec && is_bare inner)) }) whole
     ∙ ap (λ (b : Bool). record (new_scan t kinds ask.spec ask.params left) { broken = not (b && is_bare inner) }) plain
@@ -199,13 +199,13 @@ seen_begun ask t kinds inner left plain bare whole =
 pub leaves : {tickets tables : ℕ → Type 0} {remotes : List ℕ → Type 0} (s t : BoxState) (old new : Asks) → Leaves tickets tables remotes s t → Leaves tickets tables remotes (shied s old) (shied t new)
 leaves s t old new l = record { coming = λ q live other. l.coming q (live_in s old q live) other; rows = l.rows; holdings = l.holdings }
 
-setting : (f : ℕ → Option Bound) (t : ℕ) (x : Option Bound) (b : Bool) (q : ℕ) → option_map shied_bound (if b then x else f q) ≡ (if b then option_map shied_bound x else option_map shied_bound (f q))
+setting : (f : ℕ → Option BoxTable) (t : ℕ) (x : Option BoxTable) (b : Bool) (q : ℕ) → option_map shied_bound (if b then x else f q) ≡ (if b then option_map shied_bound x else option_map shied_bound (f q))
 setting f t x true q = refl
 setting f t x false q = refl
 
 -- a table changed, seen from outside
-pub tables_set : (asked : Asks) (l : Ledger) (t : ℕ) (x : Option Bound) → shied_ledger asked (record l { tables = set_at l.tables t x }) ≡ record (shied_ledger asked l) { tables = set_at (λ q. option_map shied_bound (l.tables q)) t (option_map shied_bound x) }
-tables_set asked l t x = ap (λ (f : ℕ → Option Bound). record (shied_ledger asked l) { tables = f }) (λ i q. setting l.tables t x (nat_eq q t) q i)
+pub tables_set : (asked : Asks) (l : Ledger) (t : ℕ) (x : Option BoxTable) → shied_ledger asked (record l { tables = set_at l.tables t x }) ≡ record (shied_ledger asked l) { tables = set_at (λ q. option_map shied_bound (l.tables q)) t (option_map shied_bound x) }
+tables_set asked l t x = ap (λ (f : ℕ → Option BoxTable). record (shied_ledger asked l) { tables = f }) (λ i q. setting l.tables t x (nat_eq q t) q i)
 
 -- a wrapper round an idle one is idle
 pub is_idle : (s : BoxState) (asked : Asks) → IsIdle s → IsIdle (shied s asked)

@@ -5,16 +5,16 @@ use Rattle.std.specs.Ordering.{nat_cmp}
 use Rattle.std.specs.BTreeMap as tree
 use Rattle.std.specs.BTreeMap.{BTreeMap}
 use Rattle.med_value.specs.Datum.{Tuple, datum}
-use Rattle.fdw_api.specs.Scan.{Spec, Filter, spec_of}
+use Rattle.fdw_api.specs.Scan.{Spec, RestrictionForm, spec_of}
 use Rattle.fdw_api.specs.declared.scan.Agree.{Agree}
 use Rattle.fdw_api.specs.declared.scan.Agree.TheVariants.{Ignored, Hint, Exact}
-use Rattle.fdw_api.specs.State.{Bound, Scan, Ledger, BoxState, scan_of}
+use Rattle.fdw_api.specs.State.{BoxTable, Scan, Ledger, BoxState, scan_of}
 use Rattle.probe_wrapper.specs.LiveScans.{round, each_seen}
 use Rattle.probe_wrapper.specs.declared.shy.Shy.{Shy}
 use Rattle.probe_wrapper.specs.declared.shy.AskedScan.{AskedScan}
 
 -- one Ignored for each restriction
-abbrev pub all_ignored : List Filter → List Agree → Bool
+abbrev pub all_ignored : List RestrictionForm → List Agree → Bool
 all_ignored [] [] = true
 all_ignored [] (a ∷ answers) = false
 all_ignored (f ∷ fs) [] = false
@@ -27,12 +27,12 @@ abbrev pub is_plain : Spec → Bool
 is_plain spec = not spec.narrow && all_ignored spec.offered spec.answers
 
 -- plain scans are so
-pub plain_is_ignored : (fs : List Filter) → all_ignored fs (replicate (length fs) Ignored) ≡ true
+pub plain_is_ignored : (fs : List RestrictionForm) → all_ignored fs (replicate (length fs) Ignored) ≡ true
 plain_is_ignored [] = mathlib.Core.Path.refl
 plain_is_ignored (f ∷ fs) = plain_is_ignored fs
 
 -- no restriction
-abbrev pub has_none : List Filter → Bool
+abbrev pub has_none : List RestrictionForm → Bool
 has_none [] = true
 has_none (f ∷ fs) = false
 
@@ -41,43 +41,43 @@ abbrev pub is_bare : Spec → Bool
 is_bare spec = not spec.narrow && has_none spec.offered
 
 -- a scan as it was asked for, and whether it is good for `end` alone
-pub record Asked : Type 0 where
+pub record AskedForm : Type 0 where
   pub spec : Spec
   pub params : Tuple
   pub broken : Bool
 
-abbrev pub ask_of : AskedScan → Asked
-ask_of a = record { spec = spec_of a.spec; params = map datum a.params.items; broken = a.broken }
+abbrev pub asked_form : AskedScan → AskedForm
+asked_form a = record { spec = spec_of a.spec; params = map datum a.params.items; broken = a.broken }
 
 -- the scans by ticket number
-abbrev pub asked_of : BTreeMap ℕ AskedScan → ℕ → Option Asked
-asked_of scans q = option_map ask_of (tree.get nat_cmp scans q)
+abbrev pub asked_of : BTreeMap ℕ AskedScan → ℕ → Option AskedForm
+asked_of scans q = option_map asked_form (tree.get nat_cmp scans q)
 
 -- a scan that was just begun
-abbrev pub new_ask : Spec → Tuple → Asked
+abbrev pub new_ask : Spec → Tuple → AskedForm
 new_ask spec params = record { spec = spec; params = params; broken = false }
 
 -- a plain scan stands on a bare inner one
-abbrev pub stands : Asked → Scan → Bool
+abbrev pub stands : AskedForm → Scan → Bool
 stands a s = is_plain a.spec && is_bare s.spec
 
 -- an inner scan as it is seen: as it was asked for. One that was not begun through this wrapper is good for `end` alone
-abbrev pub asked_scan : Option Asked → Scan → Scan
+abbrev pub asked_scan : Option AskedForm → Scan → Scan
 asked_scan None s = record s { broken = true }
 asked_scan (Some a) s = record s { spec = a.spec; params = a.params; broken = a.broken || (s.broken || not (stands a s)) }
 
 -- a bound table, and all that is shown
-abbrev pub shied_bound : Bound → Bound
+abbrev pub shied_bound : BoxTable → BoxTable
 shied_bound b = record b { allows = is_plain; allows_plain = λ wanted offered. plain_is_ignored offered }
 
-abbrev pub shied_ledger : (ℕ → Option Asked) → Ledger → Ledger
+abbrev pub shied_ledger : (ℕ → Option AskedForm) → Ledger → Ledger
 shied_ledger asked l = record l { tables = λ t. option_map shied_bound (l.tables t); live = each_seen (λ q. asked_scan (asked q)) l.live }
 
-abbrev pub shied : BoxState → (ℕ → Option Asked) → BoxState
+abbrev pub shied : BoxState → (ℕ → Option AskedForm) → BoxState
 shied s asked = record { nature = round s.nature; ledger = shied_ledger asked s.ledger; content = s.content }
 
 -- what is asked for under one number becomes this, and all else is as before
-pub record AsksNow (old : ℕ → Option Asked) (number : ℕ) (ask : Asked) (new : ℕ → Option Asked) : Type 0 where
+pub record AsksNow (old : ℕ → Option AskedForm) (number : ℕ) (ask : AskedForm) (new : ℕ → Option AskedForm) : Type 0 where
   pub now : new number ≡ Some ask
   pub others : (q : ℕ) → q ≢ number → new q ≡ old q
 

@@ -2,7 +2,7 @@
 ghost use Rattle.std.specs.Prelude.{◌≡◌};
 ghost use Rattle.probe_wrapper.specs.Counting.{counted};
 
-use fdw_api::interface::{Counts, Fault, Opt, RowId, SourceRow, Ticket, Wrapper};
+use fdw_api::interface::{Counts, Fault, RowId, SourceRow, TableOption, Ticket, Wrapper};
 use fdw_api::scan::{Agreement, Restriction, ScanSpec};
 use med_value::{ColumnDef, Row, TableNo, Value};
 use std::alloc::Global;
@@ -31,7 +31,7 @@ impl<W: Wrapper> Wrapper for Counting<W> {
         alloc: Global,
         remote: &str,
         columns: &[ColumnDef],
-        options: &[Opt],
+        options: &[TableOption],
     ) -> Result<TableNo, Fault> {
         self.inner.bind(alloc, remote, columns, options)
     }

@@ -3,7 +3,7 @@ ghost use Rattle.std.specs.Prelude.{◌≡◌};
 ghost use Rattle.probe_wrapper.specs.Failing.{failed, is_due, after_call, has_come, past_scan, past_write};
 ghost use Rattle.probe_wrapper.specs.declared.failing.Failure.TheVariants.{Before};
 
-use fdw_api::interface::{Counts, Fault, Opt, RowId, SourceRow, Ticket, Wrapper};
+use fdw_api::interface::{Counts, Fault, RowId, SourceRow, TableOption, Ticket, Wrapper};
 use fdw_api::scan::{Agreement, Restriction, ScanSpec};
 use med_value::{ColumnDef, Row, TableNo, Value};
 use std::alloc::Global;
@@ -95,9 +95,9 @@ impl<W: Wrapper> Wrapper for Failing<W> {
     ghost use Rattle.std.specs.Prelude.{true, false, map, IfOk, IfErr, IsSome};
     ghost use Rattle.med_value.specs.Datum.{datum, tuple};
     ghost use Rattle.fdw_api.specs.Scan.{spec_of};
-    ghost use Rattle.fdw_api.specs.Kinds.{column_of, setting_of, Inserts, Updates, Deletes};
+    ghost use Rattle.fdw_api.specs.Kinds.{column_of, option_form, Inserts, Updates, Deletes};
     ghost use Rattle.fdw_api.specs.State.{scan_of};
-    ghost use Rattle.fdw_api.specs.Calls.{CanBind, Binds, RefusesBind, CanUnbind, Unbinds, CanBegin, Begins, RefusesBegin, IsOpen, Gives, Breaks, CanRescan, Rescans, Ends};
+    ghost use Rattle.fdw_api.specs.Calls.{CanBind, Binds, RefusesBind, CanUnbind, Unbinds, CanBegin, Begins, RefusesBegin, IsOpen, Iterates, Breaks, CanRescan, Rescans, Ends};
     ghost use Rattle.fdw_api.specs.Writes.{CanModify, Opens, RefusesModify, CanChange, Stages, RefusesChange, CanClose, Closes, RefusesClose};
     ghost use Rattle.probe_wrapper.specs.Failing.{box_of, to_pass, CountsCall};
 
@@ -108,13 +108,13 @@ impl<W: Wrapper> Wrapper for Failing<W> {
         alloc: Global,
         remote: &str,
         columns: &[ColumnDef],
-        options: &[Opt],
+        options: &[TableOption],
     ) -> Result<TableNo, Fault>
-        requires { CanBind (box_of W.meaning self.old) remote.now (map column_of columns.now) (map setting_of options.now) }
+        requires { CanBind (box_of W.meaning self.old) remote.now (map column_of columns.now) (map option_form options.now) }
         ensures ok { IfOk result (λ t. Binds (box_of W.meaning self.old)
-            remote.now (map column_of columns.now) (map setting_of options.now) t.number (box_of W.meaning self.new)) }
+            remote.now (map column_of columns.now) (map option_form options.now) t.number (box_of W.meaning self.new)) }
         ensures err { IfErr result (λ fault. RefusesBind (box_of W.meaning self.old)
-            remote.now (map column_of columns.now) (map setting_of options.now) fault (box_of W.meaning self.new)) }
+            remote.now (map column_of columns.now) (map option_form options.now) fault (box_of W.meaning self.new)) }
         ensures counted { CountsCall (to_pass self.old.failure) result (to_pass self.new.failure) }
     {
         if self.failure.counts() {
@@ -171,7 +171,7 @@ impl<W: Wrapper> Wrapper for Failing<W> {
 
     fn iterate(&mut self, alloc: Global, ticket: &Ticket) -> Result<Option<SourceRow>, Fault>
         requires { IsOpen (box_of W.meaning self.old) ticket.now.number }
-        ensures ok { IfOk result (λ row. Gives (box_of W.meaning self.old) ticket.now.number row (box_of W.meaning self.new)) }
+        ensures ok { IfOk result (λ row. Iterates (box_of W.meaning self.old) ticket.now.number row (box_of W.meaning self.new)) }
         ensures err { IfErr result (λ fault. Breaks (box_of W.meaning self.old) ticket.now.number fault (box_of W.meaning self.new)) }
         ensures counted { CountsCall (to_pass self.old.failure) result (to_pass self.new.failure) }
     {

@@ -3,11 +3,11 @@ ghost use Rattle.std.specs.Prelude.{◌≡◌, ◌<◌, ◌^◌, true, map, leng
 ghost use Rattle.std.specs.Ordering.{nat_cmp};
 ghost use Rattle.std.specs.BTreeMap as tree;
 ghost use Rattle.fdw_api.specs.State.{IsIdle};
-ghost use Rattle.fdw_api.specs.Calls.{row_of, IsOpen, Gives, Breaks, bumped};
+ghost use Rattle.fdw_api.specs.Calls.{row_of, IsOpen, Iterates, Breaks, bumped};
 ghost use Rattle.probe_wrapper.specs.Shuffled.{turned, turns_of, reordered, box_of, is_unread};
 ghost use Rattle.probe_wrapper.specs.Shuffled.{IsRead, TakesFirst, TurnsRows, ReadsOut, StopsOut};
 
-use fdw_api::interface::{Counts, Fault, Opt, RowId, SourceRow, Ticket, Wrapper};
+use fdw_api::interface::{Counts, Fault, RowId, SourceRow, TableOption, Ticket, Wrapper};
 use fdw_api::scan::{Agreement, Restriction, ScanSpec};
 use med_value::{ColumnDef, Row, TableNo, Value};
 use std::alloc::Global;
@@ -177,7 +177,7 @@ impl<W: Wrapper> Shuffled<W> {
     fn read_first(&mut self, alloc: Global, ticket: &Ticket) -> Result<Option<SourceRow>, Fault>
         requires open { IsOpen (box_of W.meaning self.old) ticket.now.number }
         requires unread { is_unread (turns_of self.old.scans ticket.now.number) ≡ true }
-        ensures ok { IfOk result (λ row. Gives (box_of W.meaning self.old) ticket.now.number row (box_of W.meaning self.new)) }
+        ensures ok { IfOk result (λ row. Iterates (box_of W.meaning self.old) ticket.now.number row (box_of W.meaning self.new)) }
         ensures err { IfErr result (λ fault. Breaks (box_of W.meaning self.old) ticket.now.number fault (box_of W.meaning self.new)) }
         ensures turns { self.new.turns ≡ self.old.turns }
     {
@@ -201,7 +201,7 @@ impl<W: Wrapper> Wrapper for Shuffled<W> {
     ghost use Rattle.std.specs.Prelude.{OnErr};
     ghost use Rattle.med_value.specs.Datum.{datum, tuple};
     ghost use Rattle.fdw_api.specs.Scan.{spec_of};
-    ghost use Rattle.fdw_api.specs.Kinds.{column_of, setting_of, Inserts, Updates, Deletes};
+    ghost use Rattle.fdw_api.specs.Kinds.{column_of, option_form, Inserts, Updates, Deletes};
     ghost use Rattle.fdw_api.specs.State.{scan_of};
     ghost use Rattle.fdw_api.specs.Calls.{CanBind, Binds, RefusesBind, CanUnbind, Unbinds, CanBegin, Begins, RefusesBegin, CanRescan, Rescans, Ends};
     ghost use Rattle.fdw_api.specs.Writes.{CanModify, Opens, RefusesModify, CanChange, Stages, RefusesChange, CanClose, Closes, RefusesClose};
@@ -215,13 +215,13 @@ impl<W: Wrapper> Wrapper for Shuffled<W> {
         alloc: Global,
         remote: &str,
         columns: &[ColumnDef],
-        options: &[Opt],
+        options: &[TableOption],
     ) -> Result<TableNo, Fault>
-        requires { CanBind (box_of W.meaning self.old) remote.now (map column_of columns.now) (map setting_of options.now) }
+        requires { CanBind (box_of W.meaning self.old) remote.now (map column_of columns.now) (map option_form options.now) }
         ensures ok { IfOk result (λ t. Binds (box_of W.meaning self.old)
-            remote.now (map column_of columns.now) (map setting_of options.now) t.number (box_of W.meaning self.new)) }
+            remote.now (map column_of columns.now) (map option_form options.now) t.number (box_of W.meaning self.new)) }
         ensures err { IfErr result (λ fault. RefusesBind (box_of W.meaning self.old)
-            remote.now (map column_of columns.now) (map setting_of options.now) fault (box_of W.meaning self.new)) }
+            remote.now (map column_of columns.now) (map option_form options.now) fault (box_of W.meaning self.new)) }
         ensures turns { self.new.turns ≡ self.old.turns }
     {
         self.inner.bind(alloc, remote, columns, options)
@@ -283,7 +283,7 @@ impl<W: Wrapper> Wrapper for Shuffled<W> {
 
     fn iterate(&mut self, alloc: Global, ticket: &Ticket) -> Result<Option<SourceRow>, Fault>
         requires { IsOpen (box_of W.meaning self.old) ticket.now.number }
-        ensures ok { IfOk result (λ row. Gives (box_of W.meaning self.old) ticket.now.number row (box_of W.meaning self.new)) }
+        ensures ok { IfOk result (λ row. Iterates (box_of W.meaning self.old) ticket.now.number row (box_of W.meaning self.new)) }
         ensures err { IfErr result (λ fault. Breaks (box_of W.meaning self.old) ticket.now.number fault (box_of W.meaning self.new)) }
         ensures turns { self.new.turns ≡ self.old.turns }
     {

@@ -5,9 +5,9 @@ ghost use Rattle.std.specs.BTreeMap as tree;
 ghost use Rattle.med_value.specs.Datum.{datum};
 ghost use Rattle.fdw_api.specs.Scan.{spec_of, plain_spec};
 ghost use Rattle.fdw_api.specs.State.{IsIdle};
-ghost use Rattle.probe_wrapper.specs.Shy.{shied, ask_of, asked_of, new_ask};
+ghost use Rattle.probe_wrapper.specs.Shy.{shied, asked_form, asked_of, new_ask};
 
-use fdw_api::interface::{Counts, Fault, Opt, RowId, SourceRow, Ticket, Wrapper};
+use fdw_api::interface::{Counts, Fault, RowId, SourceRow, TableOption, Ticket, Wrapper};
 use fdw_api::scan::{Agree, Agreement, Restriction, ScanSpec, copy_values};
 use med_value::{ColumnDef, NoMemory, Row, TableNo, Value};
 use std::alloc::Global;
@@ -23,7 +23,7 @@ pub(crate) struct AskedScan {
 
 /// Notes what is asked for.
 fn note(alloc: Global, spec: &ScanSpec, params: &[Value]) -> Result<AskedScan, NoMemory>
-    ensures { IfOk result (λ a. ask_of a ≡ new_ask (spec_of spec.now) (map datum params.now)) }
+    ensures { IfOk result (λ a. asked_form a ≡ new_ask (spec_of spec.now) (map datum params.now)) }
 {
     Ok(AskedScan {
         spec: spec.copy(alloc)?,
@@ -100,7 +100,7 @@ impl<W: Wrapper> Wrapper for Shy<W> {
         alloc: Global,
         remote: &str,
         columns: &[ColumnDef],
-        options: &[Opt],
+        options: &[TableOption],
     ) -> Result<TableNo, Fault> {
         self.inner.bind(alloc, remote, columns, options)
     }

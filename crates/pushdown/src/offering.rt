@@ -6,7 +6,7 @@ ghost use Rattle.pushdown.specs.Offered.{AreOffers, IsOffer};
 ghost use Rattle.std.specs.List.{range_with_len};
 
 use crate::offers::{Offer, Offers};
-use med_binder::{Bound, BoundEntry};
+use med_binder::{BoundEntry, BoundQuery};
 use med_value::NoMemory;
 use std::alloc::Global;
 
@@ -33,6 +33,7 @@ fn entry_offer(alloc: Global, entry: &BoundEntry) -> Result<Offer, NoMemory>
     })
 }
 
+// One offer for each entry, in order.
 fn entry_offers(alloc: Global, entries: &[BoundEntry]) -> Result<Vec<Offer>, NoMemory>
     ensures { IfOk result (λ offers. AreOffers entries.now offers.items) }
 {
@@ -48,7 +49,7 @@ fn entry_offers(alloc: Global, entries: &[BoundEntry]) -> Result<Vec<Offer>, NoM
 /// Refused only for want of memory.
 ///
 /// PostgreSQL: Writing a Foreign Data Wrapper, `GetForeignPlan`.
-pub fn offer(alloc: Global, bound: &Bound) -> Result<Offers, NoMemory>
+pub fn offer(alloc: Global, bound: &BoundQuery) -> Result<Offers, NoMemory>
     ensures { IfOk result (λ offers. AreOffers bound.now.entries.items offers.entries.items) }
 {
     let entries = entry_offers(alloc, bound.entries.as_slice())?;

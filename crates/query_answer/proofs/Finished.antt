@@ -11,7 +11,7 @@ use Rattle.query_answer.specs.declared.staging.Staged.{Staged}
 use Rattle.tri_expr.specs.declared.expr.Expr.{Expr}
 use Rattle.query_answer.specs.declared.outputs.AnswerFault.{AnswerFault}
 use Rattle.query_answer.specs.declared.outputs.AnswerFault.TheVariants.{Evaluation, TooManyRows}
-use Rattle.query_answer.specs.Answering.{IsShown, IsTooLarge, IsSmall}
+use Rattle.query_answer.specs.Answering.{IsShownFault, IsTooLarge, IsSmall}
 use Rattle.med_query.specs.declared.select.Select.{Select}
 use Rattle.med_query.specs.declared.select.JoinChain.{JoinChain}
 use Rattle.med_query.specs.Form.{direction_of}
@@ -43,11 +43,11 @@ unique_same : ((os us : List Output) → IsPermutation os us → IsPermutation (
 unique_same law true os us p = law os us p
 unique_same law false os us p = p
 
-pub finished_answer : ((os us : List Output) → IsPermutation os us → IsPermutation (distinct output_eq os) (distinct output_eq us)) → (q : Query) (db : Tables) (outs : List Output) (rows : List Tuple) → faults q db ≡ [] → IsPermutation (outputs_all q db) outs → Finishes q.unique q.towards q.offset q.limit outs rows → IsAnswer q db rows
+pub finished_answer : ((os us : List Output) → IsPermutation os us → IsPermutation (distinct output_eq os) (distinct output_eq us)) → (q : Query) (db : Tables) (outs : List Output) (rows : List Tuple) → faults q db ≡ [] → IsPermutation (outputs_all q db) outs → Finishes q.distinct q.directions q.offset q.limit outs rows → IsAnswer q db rows
 finished_answer law q db outs rows quiet same f = record {
   no_fault = quiet;
   ordered = f.ordered;
-  same = IsPermutation-trans (made_unique q.unique (outputs_all q db)) (made_unique q.unique outs) f.ordered (unique_same law q.unique (outputs_all q db) outs same) f.same;
+  same = IsPermutation-trans (made_unique q.distinct (outputs_all q db)) (made_unique q.distinct outs) f.ordered (unique_same law q.distinct (outputs_all q db) outs same) f.same;
   sorted = f.sorted;
   shown = f.shown;
 }
@@ -57,7 +57,7 @@ moved : {A B C D : Type 0} (P : A → B → C → D → Type 0) (a a' : A) (b b'
 moved P a a' b b' c c' d d' p q r s h = subst (λ x. P x b' c' d') p (subst (λ x. P a x c' d') q (subst (λ x. P a b x d') r (subst (λ x. P a b c x) s h)))
 
 pub told_all : (f : AnswerFault) (select : Select) (db : Tables) (from : List JoinChain) (cs ks is : List Expr) (rows : List Tuple) → from ≡ select.from.items → cs ≡ select.conditions.items → ks ≡ select.keys.items → is ≡ select.items.items → rows ≡ joined_chains db (chains_of from)
-    → ((chains : List Chain) (db : Tables) → joined_chains db chains ≡ rows → IsShown f (staged_query chains (senses [] cs) (groups_of select.grouping) (senses [] ks) (senses [] is)) db) → IsShown f (query_of select) db
+    → ((chains : List Chain) (db : Tables) → joined_chains db chains ≡ rows → IsShownFault f (staged_query chains (senses [] cs) (groups_of select.grouping) (senses [] ks) (senses [] is)) db) → IsShownFault f (query_of select) db
 told_all (Evaluation f) select db from cs ks is rows a b c d j h =
     moved (λ fs xs ys zs. IsTold f (faults (staged_query (chains_of fs) (senses [] xs) (groups_of select.grouping) (senses [] ys) (senses [] zs)) db)) from select.from.items cs select.conditions.items ks select.keys.items is select.items.items a b c d (h (chains_of from) db (sym j))
 told_all TooManyRows select db from cs ks is rows a b c d j h =

@@ -10,9 +10,9 @@ use Rattle.tri_expr.specs.Outcome.{over}
 use Rattle.tri_expr.specs.Meaning.{OnClass}
 use Rattle.tri_expr.specs.Verdict.{is_in, faults_told}
 use Rattle.med_query.specs.Laws.{IsSteady, AllIgnoreOrder, AnswersIgnoreOrder}
-use Rattle.med_query.specs.Query.{Query, Chain, Table, Tables, SameRows, Output, senses, keeps, joined_chains, classes_by, faults, outputs_all, IsTold}
+use Rattle.med_query.specs.Query.{Query, Chain, Table, Tables, SameRows, Output, senses, keeps, joined_chains, classes_by, faults, outputs_all, IsTold, output_faults}
 use Rattle.query_answer.specs.Grouping.{AreGroups}
-use Rattle.query_answer.specs.Staging.{staged_query, Stages, row_kept, where_told, arguments_told, output_told, class_output, class_staged, class_told, groups_by}
+use Rattle.query_answer.specs.Staging.{staged_query, Stages, row_kept, where_told, arguments_told, class_output, class_staged, class_told, groups_by}
 use Rattle.query_answer.specs.Answering.{IsSmall}
 use Rattle.med_query.proofs.Telling.{tells_more}
 use Rattle.query_answer.proofs.ToldParts.{both_told, quiet_parts, told_parts}
@@ -31,7 +31,7 @@ abbrev alone_query : List ℕ → List OnClass → List OnClass → List OnClass
 alone_query at having keys items = staged_query (Table 0 ∷ []) [] (groups_by at [] having) keys items
 
 abbrev over_groups : List OnClass → List OnClass → List OnClass → List (List Tuple) → List Fault
-over_groups having keys items gs = both_told (λ c. faults_told (over having c)) (output_told keys items) (λ c. is_in (over having c)) gs
+over_groups having keys items gs = both_told (λ c. faults_told (over having c)) (output_faults keys items) (λ c. is_in (over having c)) gs
 
 alone_faults : (at : List ℕ) (having keys items : List OnClass) (rows : List Tuple) → faults (alone_query at having keys items) (λ t. rows) ≡ over_groups having keys items (classes_by at rows)
 alone_faults at having keys items rows =
@@ -72,7 +72,7 @@ group_stages any law from fs at arguments having keys items db rows kept gs outs
     let is = senses [] items in
     let q = alone_query at hs ks is in
     let moved : AnswersIgnoreOrder q (λ t. kept) (λ t. g.ordered) = any q (λ t. kept) (λ t. g.ordered) (steady law at having keys items) (λ t. g.same) in
-    let still : faults q (λ t. g.ordered) ≡ [] = alone_faults at hs ks is g.ordered ∙ ap (over_groups hs ks is) (sym g.are) ∙ quiet_parts (λ c. faults_told (over hs c)) (output_told ks is) (λ c. is_in (over hs c)) gs quiet in
+    let still : faults q (λ t. g.ordered) ≡ [] = alone_faults at hs ks is g.ordered ∙ ap (over_groups hs ks is) (sym g.are) ∙ quiet_parts (λ c. faults_told (over hs c)) (output_faults ks is) (λ c. is_in (over hs c)) gs quiet in
     let none : over_groups hs ks is (classes_by at kept) ≡ [] = sym (alone_faults at hs ks is kept) ∙ nothing_in (faults q (λ t. kept)) (faults q (λ t. g.ordered)) moved.told still in
     let made : outputs_all q (λ t. g.ordered) ≡ outs = alone_outputs at hs ks is g.ordered ∙ ap (λ (cs : List (List Tuple)). map (class_output ks is) (filter (λ c. is_in (over hs c)) cs)) (sym g.are) ∙ sym (kept_mapped (λ c. is_in (over hs c)) (class_output ks is) gs) ∙ sym o in
     let same : outputs_all q (λ t. kept) ≡ outputs_all (staged_query from fs (groups_by at arguments hs) ks is) db = alone_outputs at hs ks is kept ∙ sym (group_outputs from fs at arguments hs ks is db rows kept j k) in
@@ -104,7 +104,7 @@ tells_groups f any law from fs at arguments having keys items db rows kept gs j 
     let q = alone_query at hs ks is in
     let moved : AnswersIgnoreOrder q (λ t. g.ordered) (λ t. kept) = any q (λ t. g.ordered) (λ t. kept) (steady law at having keys items) (λ t. IsPermutation-sym kept g.ordered g.same) in
     tells_more f _ _ (λ c t.
-    let here : Contains (over_groups hs ks is gs) c = told_parts (λ c. faults_told (over hs c)) (output_told ks is) (λ c. is_in (over hs c)) gs c t in
+    let here : Contains (over_groups hs ks is gs) c = told_parts (λ c. faults_told (over hs c)) (output_faults ks is) (λ c. is_in (over hs c)) gs c t in
     let there : Contains (faults q (λ t. g.ordered)) c = subst (λ l. Contains l c) (sym (alone_faults at hs ks is g.ordered ∙ ap (over_groups hs ks is) (sym g.are))) here in
     let back : Contains (over_groups hs ks is (classes_by at kept)) c = subst (λ l. Contains l c) (alone_faults at hs ks is kept) (moved.told c there) in
     rw (group_faults from fs at arguments hs ks is db rows kept j k) (Contains-append_right (flat_map (where_told fs) rows) (flat_map (arguments_told arguments) kept ++ over_groups hs ks is (classes_by at kept)) c (Contains-append_right (flat_map (arguments_told arguments) kept) (over_groups hs ks is (classes_by at kept)) c back))) h

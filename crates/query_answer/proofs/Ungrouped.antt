@@ -7,21 +7,21 @@ use Rattle.tri_expr.specs.declared.expr.EvalFault.{EvalFault}
 use Rattle.tri_expr.specs.Outcome.{over}
 use Rattle.tri_expr.specs.Meaning.{OnClass}
 use Rattle.tri_expr.specs.Verdict.{faults_told, fault_list}
-use Rattle.med_query.specs.Query.{Query, Chain, Tables, Direction, Output, on_row, keeps, joined_chains, classes, kept_classes, class_faults, faults, output, outputs_all, has_class, Tells}
-use Rattle.query_answer.specs.Staging.{staged_query, Stages, where_told, output_told, row_staged, row_told_all}
+use Rattle.med_query.specs.Query.{Query, Chain, Tables, Direction, Output, on_row, keeps, joined_chains, classes, kept_classes, class_faults, faults, output, outputs_all, has_class, TellsFault, output_faults}
+use Rattle.query_answer.specs.Staging.{staged_query, Stages, where_told, row_staged, row_told_all}
 use Rattle.med_query.proofs.Telling.{tells_more}
 use Rattle.query_answer.proofs.ToldParts.{both_told, quiet_parts, told_parts}
 
 -- each part of a query that does not group
 abbrev pub ungrouped : List Chain → List OnClass → List OnClass → Bool → List OnClass → List Direction → ℕ → Option ℕ → Query
-ungrouped from fs items unique keys towards offset limit = record {
+ungrouped from fs items unique keys directions offset limit = record {
   from = from;
   where_ = fs;
   group = None;
   items = items;
-  unique = unique;
+  distinct = unique;
   keys = keys;
-  towards = towards;
+  directions = directions;
   offset = offset;
   limit = limit;
 }
@@ -38,11 +38,11 @@ ones_kept [] = refl
 ones_kept (r ∷ rs) = ap (λ (cs : List (List Tuple)). alone r ∷ cs) (ones_kept rs)
 
 -- the faults of WHERE, and those of the classes that are kept
-pub ungrouped_faults : (from : List Chain) (fs items : List OnClass) (unique : Bool) (keys : List OnClass) (towards : List Direction) (offset : ℕ) (limit : Option ℕ) (db : Tables)
-    → faults (ungrouped from fs items unique keys towards offset limit) db
-    ≡ flat_map (λ r. faults_told (on_row fs r)) (joined_chains db from) ++ flat_map (class_faults (ungrouped from fs items unique keys towards offset limit)) (map alone (filter (keeps fs) (joined_chains db from)))
-ungrouped_faults from fs items unique keys towards offset limit db =
-    let q = ungrouped from fs items unique keys towards offset limit in
+pub ungrouped_faults : (from : List Chain) (fs items : List OnClass) (unique : Bool) (keys : List OnClass) (directions : List Direction) (offset : ℕ) (limit : Option ℕ) (db : Tables)
+    → faults (ungrouped from fs items unique keys directions offset limit) db
+    ≡ flat_map (λ r. faults_told (on_row fs r)) (joined_chains db from) ++ flat_map (class_faults (ungrouped from fs items unique keys directions offset limit)) (map alone (filter (keeps fs) (joined_chains db from)))
+ungrouped_faults from fs items unique keys directions offset limit db =
+    let q = ungrouped from fs items unique keys directions offset limit in
     let rows = filter (keeps fs) (joined_chains db from) in
     let a : flat_map (λ r. fault_list (on_row [] r)) rows ≡ [] = none_told _ (λ r. refl) rows in
     let b : flat_map (λ (c : List Tuple). faults_told (over [] c)) (classes q db) ≡ [] = none_told _ (λ c. refl) (classes q db) in
@@ -51,9 +51,9 @@ ungrouped_faults from fs items unique keys towards offset limit db =
     ∙ ap (λ (gs : List Fault). flat_map (λ r. faults_told (on_row fs r)) (joined_chains db from) ++ (gs ++ flat_map (class_faults q) (kept_classes q db))) b
     ∙ ap (λ (gs : List Fault). flat_map (λ r. faults_told (on_row fs r)) (joined_chains db from) ++ gs) e
 
-pub ungrouped_outputs : (from : List Chain) (fs items : List OnClass) (unique : Bool) (keys : List OnClass) (towards : List Direction) (offset : ℕ) (limit : Option ℕ) (db : Tables)
-    → outputs_all (ungrouped from fs items unique keys towards offset limit) db ≡ map (output (ungrouped from fs items unique keys towards offset limit)) (map alone (filter (keeps fs) (joined_chains db from)))
-ungrouped_outputs from fs items unique keys towards offset limit db = ap (map (output (ungrouped from fs items unique keys towards offset limit))) (ones_kept (filter (keeps fs) (joined_chains db from)))
+pub ungrouped_outputs : (from : List Chain) (fs items : List OnClass) (unique : Bool) (keys : List OnClass) (directions : List Direction) (offset : ℕ) (limit : Option ℕ) (db : Tables)
+    → outputs_all (ungrouped from fs items unique keys directions offset limit) db ≡ map (output (ungrouped from fs items unique keys directions offset limit)) (map alone (filter (keeps fs) (joined_chains db from)))
+ungrouped_outputs from fs items unique keys directions offset limit db = ap (map (output (ungrouped from fs items unique keys directions offset limit))) (ones_kept (filter (keeps fs) (joined_chains db from)))
 
 -- what a test keeps, one by one
 mapped_one : {X Y : Type 0} (p : X → Bool) (h : X → Y) (x : X) (xs : List X) (b : Bool) → p x ≡ b → flat_map (λ z. cond (p z) (h z ∷ []) []) xs ≡ map h (filter p xs) → flat_map (λ z. cond (p z) (h z ∷ []) []) (x ∷ xs) ≡ map h (filter p (x ∷ xs))
@@ -82,16 +82,16 @@ map_alone : {Y : Type 0} (h : List Tuple → Y) (rows : List Tuple) → map h (m
 map_alone h [] = refl
 map_alone h (r ∷ rs) = ap (λ ys. h (alone r) ∷ ys) (map_alone h rs)
 
-row_faults : (from : List Chain) (fs keys items : List OnClass) (db : Tables) (rows : List Tuple) → joined_chains db from ≡ rows → faults (staged_query from fs None keys items) db ≡ both_told (where_told fs) (λ r. output_told keys items (alone r)) (keeps fs) rows
+row_faults : (from : List Chain) (fs keys items : List OnClass) (db : Tables) (rows : List Tuple) → joined_chains db from ≡ rows → faults (staged_query from fs None keys items) db ≡ both_told (where_told fs) (λ r. output_faults keys items (alone r)) (keeps fs) rows
 row_faults from fs keys items db rows j =
-    ungrouped_faults from fs items false keys [] 0 None db ∙ rw j (ap (λ (gs : List Fault). flat_map (where_told fs) rows ++ gs) (told_alone (output_told keys items) (filter (keeps fs) rows)))
+    ungrouped_faults from fs items false keys [] 0 None db ∙ rw j (ap (λ (gs : List Fault). flat_map (where_told fs) rows ++ gs) (told_alone (output_faults keys items) (filter (keeps fs) rows)))
 
 row_stages : (from : List Chain) (fs keys items : List OnClass) (db : Tables) (rows : List Tuple) (outs : List Output) → joined_chains db from ≡ rows → flat_map (row_told_all fs keys items) rows ≡ [] → outs ≡ flat_map (row_staged fs keys items) rows → Stages (staged_query from fs None keys items) db outs
 row_stages from fs keys items db rows outs j quiet is =
     let q = staged_query from fs None keys items in
     let made : outputs_all q db ≡ outs = ungrouped_outputs from fs items false keys [] 0 None db ∙ rw j (map_alone (output q) (filter (keeps fs) rows)) ∙ sym (kept_mapped (keeps fs) (λ r. output q (alone r)) rows) ∙ sym is in
     record {
-      no_fault = row_faults from fs keys items db rows j ∙ quiet_parts (where_told fs) (λ r. output_told keys items (alone r)) (keeps fs) rows quiet;
+      no_fault = row_faults from fs keys items db rows j ∙ quiet_parts (where_told fs) (λ r. output_faults keys items (alone r)) (keeps fs) rows quiet;
       same = subst (λ l. IsPermutation (outputs_all q db) l) made (IsPermutation-refl (outputs_all q db));
     }
 
@@ -99,6 +99,6 @@ pub rows_stage : {T : Type 0} (view : T → List Output) (r : Result T EvalFault
 rows_stage view (Ok out) fs keys items rows h quiet = λ from db j. row_stages from fs keys items db rows (view out) j quiet h
 rows_stage view (Err f) fs keys items rows h quiet = tt
 
-pub rows_tell : {T : Type 0} (r : Result T EvalFault) (from : List Chain) (fs keys items : List OnClass) (db : Tables) (rows : List Tuple) → joined_chains db from ≡ rows → Tells r (flat_map (row_told_all fs keys items) rows) → Tells r (faults (staged_query from fs None keys items) db)
+pub rows_tell : {T : Type 0} (r : Result T EvalFault) (from : List Chain) (fs keys items : List OnClass) (db : Tables) (rows : List Tuple) → joined_chains db from ≡ rows → TellsFault r (flat_map (row_told_all fs keys items) rows) → TellsFault r (faults (staged_query from fs None keys items) db)
 rows_tell (Ok x) from fs keys items db rows j h = tt
-rows_tell (Err f) from fs keys items db rows j h = tells_more f _ _ (λ c t. rw (row_faults from fs keys items db rows j) (told_parts (where_told fs) (λ r. output_told keys items (alone r)) (keeps fs) rows c t)) h
+rows_tell (Err f) from fs keys items db rows j h = tells_more f _ _ (λ c t. rw (row_faults from fs keys items db rows j) (told_parts (where_told fs) (λ r. output_faults keys items (alone r)) (keeps fs) rows c t)) h

@@ -13,11 +13,11 @@ abbrev pub IsSmall : Query → Tables → Type 0
 IsSmall q db = IsSome q.group → length (kept q db) ≤ 2 ^ 62
 
 -- a fault that the query shows: one that may be told, or that it is too large
-abbrev pub IsShown : AnswerFault → Query → Tables → Type 0
-IsShown (Evaluation f) q db = IsTold f (faults q db)
-IsShown TooManyRows q db = IsTooLarge q db
+abbrev pub IsShownFault : AnswerFault → Query → Tables → Type 0
+IsShownFault (Evaluation f) q db = IsTold f (faults q db)
+IsShownFault TooManyRows q db = IsTooLarge q db
 
 -- a fault that is answered is one that the query shows
 abbrev pub Shows : {T : Type 0} → Result T AnswerFault → Query → Tables → Type 0
 Shows (Ok v) q db = Unit {0}
-Shows (Err f) q db = IsShown f q db
+Shows (Err f) q db = IsShownFault f q db

@@ -9,9 +9,9 @@ abbrev pub made_unique : Bool → List Output → List Output
 made_unique unique outs = if unique then distinct output_eq outs else outs
 
 -- the rows are what OFFSET and LIMIT leave of the outputs in an order that ORDER BY allows
-pub record Finishes (unique : Bool) (towards : List Direction) (offset : ℕ) (limit : Option ℕ)
+pub record Finishes (unique : Bool) (directions : List Direction) (offset : ℕ) (limit : Option ℕ)
     (outs : List Output) (rows : List Tuple) : Type 0 where
   pub ordered : List Output
   pub same : IsPermutation (made_unique unique outs) ordered
-  pub sorted : IsSorted (on (λ o. o.0) (keys_cmp towards)) ordered
+  pub sorted : IsSorted (on (λ o. o.0) (keys_cmp directions)) ordered
   pub shown : rows ≡ limited limit (drop offset (map (λ o. o.1) ordered))

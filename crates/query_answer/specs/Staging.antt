@@ -8,7 +8,7 @@ use Rattle.tri_expr.specs.Outcome.{over, value_of}
 use Rattle.tri_expr.specs.Meaning.{OnClass}
 use Rattle.tri_expr.specs.Verdict.{is_in, faults_told, fault_list}
 use Rattle.tri_expr.specs.declared.expr.Expr.{Expr}
-use Rattle.med_query.specs.Query.{Output, Query, Chain, Tables, Grouping as Groups, faults, outputs_all, keeps, on_row, senses}
+use Rattle.med_query.specs.Query.{Output, Query, Chain, Tables, Grouping as Groups, faults, outputs_all, keeps, on_row, senses, output_faults}
 
 abbrev pub output_of : Staged → Output
 output_of s = (tuple s.keys, tuple s.shown)
@@ -25,9 +25,6 @@ tuples_in rows = map tuple rows.items
 abbrev pub class_output : List OnClass → List OnClass → List Tuple → Output
 class_output keys items class = (map value_of (over keys class), map value_of (over items class))
 
-abbrev pub output_told : List OnClass → List OnClass → List Tuple → List Fault
-output_told keys items class = fault_list (over keys class) ++ fault_list (over items class)
-
 -- the output of a class where the conditions keep it, else nothing
 abbrev pub class_staged : List OnClass → List OnClass → List OnClass → List Tuple → List Output
 class_staged conditions keys items class = if is_in (over conditions class) then class_output keys items class ∷ [] else []
@@ -35,7 +32,7 @@ class_staged conditions keys items class = if is_in (over conditions class) then
 -- the faults of the conditions, and where they keep the class those of its order keys and items
 abbrev pub class_told : List OnClass → List OnClass → List OnClass → List Tuple → List Fault
 class_told conditions keys items class =
-    faults_told (over conditions class) ++ (if is_in (over conditions class) then output_told keys items class else [])
+    faults_told (over conditions class) ++ (if is_in (over conditions class) then output_faults keys items class else [])
 
 -- the same of the class of one row
 abbrev pub row_staged : List OnClass → List OnClass → List OnClass → Tuple → List Output
@@ -54,9 +51,9 @@ staged_query from conditions group keys items = record {
   where_ = conditions;
   group = group;
   items = items;
-  unique = false;
+  distinct = false;
   keys = keys;
-  towards = [];
+  directions = [];
   offset = 0;
   limit = None;
 }

@@ -1,7 +1,7 @@
 //! WHERE, and the arguments of aggregates, row by row.
 ghost use Rattle.std.specs.Prelude.{◌≡◌, ◌++◌, ◌∷◌, [], IfOk, map, flat_map};
 ghost use Rattle.med_value.specs.Datum.{tuple};
-ghost use Rattle.med_query.specs.Query.{Tells, senses};
+ghost use Rattle.med_query.specs.Query.{TellsFault, senses};
 ghost use Rattle.query_answer.specs.Joined.{tuples_of};
 ghost use Rattle.query_answer.specs.Staging.{row_kept, where_told, arguments_told};
 
@@ -12,10 +12,11 @@ use std::alloc::Global;
 use std::slice;
 use tri_expr::{EvalFault, Expr, verdict};
 
+// Appends the row, where WHERE keeps it.
 fn push_kept(conditions: &[Expr], row: Row, out: &mut Vec<Row>) -> Result<(), EvalFault>
     ensures kept { IfOk result (λ _. map tuple out.new.items ≡ map tuple out.old.items ++ row_kept (senses [] conditions.now) (tuple row)) }
     ensures no_fault { IfOk result (λ _. where_told (senses [] conditions.now) (tuple row) ≡ []) }
-    ensures told { Tells result (where_told (senses [] conditions.now) (tuple row)) }
+    ensures told { TellsFault result (where_told (senses [] conditions.now) (tuple row)) }
 {
     match verdict(conditions, &row, &[]) {
         Ok(true) => match out.push(row) {
@@ -31,7 +32,7 @@ fn push_kept(conditions: &[Expr], row: Row, out: &mut Vec<Row>) -> Result<(), Ev
 fn kept_own(alloc: Global, conditions: &[Expr], rows: Vec<Row>) -> Result<Vec<Row>, EvalFault>
     ensures kept { IfOk result (λ out. map tuple out.items ≡ flat_map (row_kept (senses [] conditions.now)) (map tuple rows.items)) }
     ensures no_fault { IfOk result (λ _. flat_map (where_told (senses [] conditions.now)) (map tuple rows.items) ≡ []) }
-    ensures told { Tells result (flat_map (where_told (senses [] conditions.now)) (map tuple rows.items)) }
+    ensures told { TellsFault result (flat_map (where_told (senses [] conditions.now)) (map tuple rows.items)) }
 {
     let mut out = Vec::new(alloc);
     for row in rows {
@@ -43,6 +44,7 @@ fn kept_own(alloc: Global, conditions: &[Expr], rows: Vec<Row>) -> Result<Vec<Ro
     Ok(out)
 }
 
+// Appends a copy of the row, where WHERE keeps it.
 fn push_copy(
     alloc: Global,
     conditions: &[Expr],
@@ -52,7 +54,7 @@ fn push_copy(
     ensures kept { IfOk result (λ _. map tuple out.new.items
         ≡ map tuple out.old.items ++ row_kept (senses [] conditions.now) (tuple row.now)) }
     ensures no_fault { IfOk result (λ _. where_told (senses [] conditions.now) (tuple row.now) ≡ []) }
-    ensures told { Tells result (where_told (senses [] conditions.now) (tuple row.now)) }
+    ensures told { TellsFault result (where_told (senses [] conditions.now) (tuple row.now)) }
 {
     match verdict(conditions, row, &[]) {
         Ok(true) => push_row(alloc, row, out),
@@ -61,9 +63,10 @@ fn push_copy(
     }
 }
 
+// Appends a copy of a row. Refused only for want of memory.
 fn push_row(alloc: Global, row: &Row, out: &mut Vec<Row>) -> Result<(), EvalFault>
     ensures ok { IfOk result (λ _. map tuple out.new.items ≡ map tuple out.old.items ++ tuple row.now ∷ []) }
-    ensures told { Tells result [] }
+    ensures told { TellsFault result [] }
 {
     let Ok(copy) = row.copy(alloc) else {
         return Err(EvalFault::NoMemory);
@@ -78,7 +81,7 @@ fn push_row(alloc: Global, row: &Row, out: &mut Vec<Row>) -> Result<(), EvalFaul
 fn kept_copies(alloc: Global, conditions: &[Expr], rows: &[Row]) -> Result<Vec<Row>, EvalFault>
     ensures kept { IfOk result (λ out. map tuple out.items ≡ flat_map (row_kept (senses [] conditions.now)) (map tuple rows.now)) }
     ensures no_fault { IfOk result (λ _. flat_map (where_told (senses [] conditions.now)) (map tuple rows.now) ≡ []) }
-    ensures told { Tells result (flat_map (where_told (senses [] conditions.now)) (map tuple rows.now)) }
+    ensures told { TellsFault result (flat_map (where_told (senses [] conditions.now)) (map tuple rows.now)) }
 {
     let mut out = Vec::new(alloc);
     for row in rows {
@@ -98,7 +101,7 @@ pub(crate) fn kept_rows(
 ) -> Result<Vec<Row>, EvalFault>
     ensures kept { IfOk result (λ out. map tuple out.items ≡ flat_map (row_kept (senses [] conditions.now)) (tuples_of rows.entry)) }
     ensures no_fault { IfOk result (λ _. flat_map (where_told (senses [] conditions.now)) (tuples_of rows.entry) ≡ []) }
-    ensures told { Tells result (flat_map (where_told (senses [] conditions.now)) (tuples_of rows.entry)) }
+    ensures told { TellsFault result (flat_map (where_told (senses [] conditions.now)) (tuples_of rows.entry)) }
 {
     match rows {
         Joined::Lent(lent) => kept_copies(alloc, conditions, lent),
@@ -106,9 +109,10 @@ pub(crate) fn kept_rows(
     }
 }
 
+// Whether an argument of an aggregate has a fault on the row.
 fn check_row(alloc: Global, arguments: &[Expr], row: &Row) -> Result<(), EvalFault>
     ensures no_fault { IfOk result (λ _. arguments_told (senses [] arguments.now) (tuple row.now) ≡ []) }
-    ensures told { Tells result (arguments_told (senses [] arguments.now) (tuple row.now)) }
+    ensures told { TellsFault result (arguments_told (senses [] arguments.now) (tuple row.now)) }
 {
     match values_over(alloc, arguments, slice::from_ref(row)) {
         Ok(_) => Ok(()),
@@ -123,7 +127,7 @@ pub(crate) fn check_arguments(
     rows: &[Row],
 ) -> Result<(), EvalFault>
     ensures no_fault { IfOk result (λ _. flat_map (arguments_told (senses [] arguments.now)) (map tuple rows.now) ≡ []) }
-    ensures told { Tells result (flat_map (arguments_told (senses [] arguments.now)) (map tuple rows.now)) }
+    ensures told { TellsFault result (flat_map (arguments_told (senses [] arguments.now)) (map tuple rows.now)) }
 {
     for row in rows {
         match check_row(alloc, arguments, row) {

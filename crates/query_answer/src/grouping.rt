@@ -60,6 +60,7 @@ fn gathered(alloc: Global, numbers: &[usize], rows: Vec<Row>) -> Result<Vec<Vec<
     Ok(groups)
 }
 
+// All rows as one group.
 fn one_group(alloc: Global, rows: Vec<Row>) -> Result<Vec<Vec<Row>>, NoMemory>
     ensures { IfOk result (λ out. map tuples_in out.items ≡ map tuple rows.items ∷ []) }
 {
@@ -96,6 +97,7 @@ fn news_of(alloc: Global, staged: &[Staged]) -> Result<Vec<bool>, NoMemory>
     Ok(out)
 }
 
+// Appends the output, if it is marked.
 fn push_marked(mark: bool, one: Staged, out: &mut Vec<Staged>) -> Result<(), NoMemory>
     ensures { IfOk result (λ _. map output_of out.new.items ≡ map output_of out.old.items ++ (if mark then output_of one ∷ [] else [])) }
 {

@@ -1,7 +1,7 @@
 //! The outputs of a query over its joined rows.
 ghost use Rattle.std.specs.Prelude.{◌≡◌, ◌^◌, [], IfOk, map, flat_map, List, None, Some};
 ghost use Rattle.med_value.specs.Datum.{tuple};
-ghost use Rattle.med_query.specs.Query.{Chain, Tables, Tells, senses, joined_chains, faults};
+ghost use Rattle.med_query.specs.Query.{Chain, Tables, TellsFault, senses, joined_chains, faults};
 ghost use Rattle.med_query.specs.Select.{groups_of};
 ghost use Rattle.query_answer.specs.Joined.{tuples_of};
 ghost use Rattle.query_answer.specs.Staging.{output_of, tuples_in, Stages, staged_query, grouped_query, arguments_told};
@@ -45,7 +45,7 @@ fn row_outputs(
         → Stages (staged_query from (senses [] conditions.now) None (senses [] keys.now) (senses [] items.now)) db
         (map output_of out.items)) }
     ensures told { (from : List Chain) (db : Tables) → joined_chains db from ≡ map tuple rows.now
-        → Tells result (faults (staged_query from (senses [] conditions.now) None (senses [] keys.now) (senses [] items.now)) db) }
+        → TellsFault result (faults (staged_query from (senses [] conditions.now) None (senses [] keys.now) (senses [] items.now)) db) }
 {
     staged_rows(alloc, conditions, keys, items, rows)
 }
@@ -59,7 +59,7 @@ fn checked_groups(
 ) -> Result<Vec<Vec<Row>>, EvalFault>
     ensures groups { IfOk result (λ out. AreGroups columns.now (map tuple kept.items) (map tuples_in out.items)) }
     ensures no_fault { IfOk result (λ _. flat_map (arguments_told (senses [] arguments.now)) (map tuple kept.items) ≡ []) }
-    ensures told { Tells result (flat_map (arguments_told (senses [] arguments.now)) (map tuple kept.items)) }
+    ensures told { TellsFault result (flat_map (arguments_told (senses [] arguments.now)) (map tuple kept.items)) }
 {
     match check_arguments(alloc, arguments, kept.as_slice()) {
         Ok(()) => {}

@@ -1,8 +1,8 @@
 //! What rows and groups are sorted by, and what they show.
 ghost use Rattle.std.specs.Prelude.{◌≡◌, ◌∷◌, ◌++◌, [], IfOk, map, flat_map};
 ghost use Rattle.med_value.specs.Datum.{tuple};
-ghost use Rattle.med_query.specs.Query.{Tells, senses};
-ghost use Rattle.query_answer.specs.Staging.{output_of, outputs_in, tuples_in, class_output, output_told};
+ghost use Rattle.med_query.specs.Query.{TellsFault, senses, output_faults};
+ghost use Rattle.query_answer.specs.Staging.{output_of, outputs_in, tuples_in, class_output};
 ghost use Rattle.query_answer.specs.Staging.{class_staged, class_told, row_staged, row_told_all};
 
 use crate::values::values_over;
@@ -18,6 +18,7 @@ pub(crate) struct Staged {
     pub shown: Row,
 }
 
+// What a class is sorted by, and what it shows.
 fn staged_output(
     alloc: Global,
     keys: &[Expr],
@@ -25,8 +26,8 @@ fn staged_output(
     class: &[Row],
 ) -> Result<Staged, EvalFault>
     ensures output { IfOk result (λ s. output_of s ≡ class_output (senses [] keys.now) (senses [] items.now) (map tuple class.now)) }
-    ensures no_fault { IfOk result (λ _. output_told (senses [] keys.now) (senses [] items.now) (map tuple class.now) ≡ []) }
-    ensures told { Tells result (output_told (senses [] keys.now) (senses [] items.now) (map tuple class.now)) }
+    ensures no_fault { IfOk result (λ _. output_faults (senses [] keys.now) (senses [] items.now) (map tuple class.now) ≡ []) }
+    ensures told { TellsFault result (output_faults (senses [] keys.now) (senses [] items.now) (map tuple class.now)) }
 {
     let keys = match values_over(alloc, keys, class) {
         Ok(keys) => keys,
@@ -51,7 +52,8 @@ fn staged_class(
         ≡ class_staged (senses [] conditions.now) (senses [] keys.now) (senses [] items.now) (map tuple class.now)) }
     ensures no_fault { IfOk result (λ _. class_told (senses [] conditions.now) (senses [] keys.now) (senses [] items.now)
         (map tuple class.now) ≡ []) }
-    ensures told { Tells result (class_told (senses [] conditions.now) (senses [] keys.now) (senses [] items.now) (map tuple class.now)) }
+    ensures told { TellsFault result (class_told (senses [] conditions.now) (senses [] keys.now) (senses [] items.now)
+        (map tuple class.now)) }
 {
     match verdict_class(conditions, class, &[]) {
         Ok(true) => {}
@@ -64,6 +66,7 @@ fn staged_class(
     }
 }
 
+// What a row is sorted by and what it shows, where WHERE keeps it.
 fn staged_row(
     alloc: Global,
     conditions: &[Expr],
@@ -75,11 +78,12 @@ fn staged_row(
         ≡ row_staged (senses [] conditions.now) (senses [] keys.now) (senses [] items.now) (tuple row.now)) }
     ensures no_fault { IfOk result (λ _. row_told_all (senses [] conditions.now) (senses [] keys.now) (senses [] items.now)
         (tuple row.now) ≡ []) }
-    ensures told { Tells result (row_told_all (senses [] conditions.now) (senses [] keys.now) (senses [] items.now) (tuple row.now)) }
+    ensures told { TellsFault result (row_told_all (senses [] conditions.now) (senses [] keys.now) (senses [] items.now) (tuple row.now)) }
 {
     staged_class(alloc, conditions, keys, items, slice::from_ref(row))
 }
 
+// What a group is sorted by and what it shows, where HAVING keeps it.
 fn staged_group(
     alloc: Global,
     having: &[Expr],
@@ -91,14 +95,15 @@ fn staged_group(
         ≡ class_staged (senses [] having.now) (senses [] keys.now) (senses [] items.now) (tuples_in group.now)) }
     ensures no_fault { IfOk result (λ _. class_told (senses [] having.now) (senses [] keys.now) (senses [] items.now)
         (tuples_in group.now) ≡ []) }
-    ensures told { Tells result (class_told (senses [] having.now) (senses [] keys.now) (senses [] items.now) (tuples_in group.now)) }
+    ensures told { TellsFault result (class_told (senses [] having.now) (senses [] keys.now) (senses [] items.now) (tuples_in group.now)) }
 {
     staged_class(alloc, having, keys, items, group.as_slice())
 }
 
+// Appends what is staged, if anything is. Refused only for want of memory.
 fn push_staged(staged: Option<Staged>, out: &mut Vec<Staged>) -> Result<(), EvalFault>
     ensures ok { IfOk result (λ _. map output_of out.new.items ≡ map output_of out.old.items ++ outputs_in staged) }
-    ensures told { Tells result [] }
+    ensures told { TellsFault result [] }
 {
     match staged {
         None => Ok(()),
@@ -121,7 +126,7 @@ pub(crate) fn staged_rows(
         ≡ flat_map (row_staged (senses [] conditions.now) (senses [] keys.now) (senses [] items.now)) (map tuple rows.now)) }
     ensures no_fault { IfOk result (λ _. flat_map (row_told_all (senses [] conditions.now) (senses [] keys.now) (senses [] items.now))
         (map tuple rows.now) ≡ []) }
-    ensures told { Tells result (flat_map (row_told_all (senses [] conditions.now) (senses [] keys.now) (senses [] items.now))
+    ensures told { TellsFault result (flat_map (row_told_all (senses [] conditions.now) (senses [] keys.now) (senses [] items.now))
         (map tuple rows.now)) }
 {
     let mut out = Vec::new(alloc);
@@ -146,7 +151,7 @@ pub(crate) fn staged_classes(
         ≡ flat_map (class_staged (senses [] having.now) (senses [] keys.now) (senses [] items.now)) (map tuples_in classes.items)) }
     ensures no_fault { IfOk result (λ _. flat_map (class_told (senses [] having.now) (senses [] keys.now) (senses [] items.now))
         (map tuples_in classes.items) ≡ []) }
-    ensures told { Tells result (flat_map (class_told (senses [] having.now) (senses [] keys.now) (senses [] items.now))
+    ensures told { TellsFault result (flat_map (class_told (senses [] having.now) (senses [] keys.now) (senses [] items.now))
         (map tuples_in classes.items)) }
 {
     let mut out = Vec::new(alloc);

@@ -3,7 +3,7 @@ ghost use Rattle.std.specs.Prelude.{◌≡◌, ◌∷◌, ◌++◌, [], IfOk, ma
 ghost use Rattle.med_value.specs.Datum.{tuple};
 ghost use Rattle.tri_expr.specs.Outcome.{over, value_of};
 ghost use Rattle.tri_expr.specs.Verdict.{fault_list};
-ghost use Rattle.med_query.specs.Query.{Tells, senses};
+ghost use Rattle.med_query.specs.Query.{TellsFault, senses};
 
 use med_value::{Row, Value};
 use std::alloc::Global;
@@ -13,7 +13,7 @@ use tri_expr::{EvalFault, Expr, eval_class};
 pub(crate) fn values_over(alloc: Global, parts: &[Expr], class: &[Row]) -> Result<Row, EvalFault>
     ensures values { IfOk result (λ r. tuple r ≡ map value_of (over (senses [] parts.now) (map tuple class.now))) }
     ensures no_fault { IfOk result (λ _. fault_list (over (senses [] parts.now) (map tuple class.now)) ≡ []) }
-    ensures told { Tells result (fault_list (over (senses [] parts.now) (map tuple class.now))) }
+    ensures told { TellsFault result (fault_list (over (senses [] parts.now) (map tuple class.now))) }
 {
     let mut cells = Vec::new(alloc);
     for part in parts {
@@ -26,9 +26,10 @@ pub(crate) fn values_over(alloc: Global, parts: &[Expr], class: &[Row]) -> Resul
     Ok(Row { cells })
 }
 
+// Appends a value. Refused only for want of memory.
 fn push_value(v: Value, cells: &mut Vec<Value>) -> Result<(), EvalFault>
     ensures ok { IfOk result (λ _. cells.new.items ≡ cells.old.items ++ v ∷ []) }
-    ensures told { Tells result [] }
+    ensures told { TellsFault result [] }
 {
     match cells.push(v) {
         Ok(()) => Ok(()),

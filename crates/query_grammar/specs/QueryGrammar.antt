@@ -11,7 +11,7 @@
 -- A label is a name or any word. An AS belongs to the nearest item. NULLS, FIRST, LAST, ROW and ROWS are not reserved.
 use Rattle.std.specs.Prelude.{◌≡◌, ℕ, ◌⊎◌, Bool, true, false, List, [], ◌∷◌, ◌++◌, codes, Option, Some, None}
 use Rattle.med_lexer.specs.Lexemes.{Shape, Lexeme, Lexes}
-use Rattle.med_syntax.specs.declared.expr.BinaryOp.TheVariants.{Mul}
+use Rattle.med_syntax.specs.declared.expr.Operation.TheVariants.{Multiply}
 use Rattle.med_syntax.specs.Tree.{Name}
 use Rattle.expr_grammar.specs.Shapes.{shapes}
 use Rattle.med_syntax.specs.Terminal.{Terminal, word_terminal}
@@ -53,8 +53,8 @@ SpellsAlias (Some n) ts = (ts ≡ t.Name n ∷ []) ⊎ (ts ≡ t.Reserved (codes
 
 -- * | name . * | expr [AS label | name] (SQL:2016, <asterisk>, <qualified asterisk>, <derived column>)
 abbrev pub SpellsItem : ItemTree → List Terminal → Type 0
-SpellsItem all ts = ts ≡ t.Binary Mul ∷ []
-SpellsItem (all_of q) ts = ts ≡ t.Name q ∷ t.Dot ∷ t.Binary Mul ∷ []
+SpellsItem all ts = ts ≡ t.Binary Multiply ∷ []
+SpellsItem (all_of q) ts = ts ≡ t.Name q ∷ t.Dot ∷ t.Binary Multiply ∷ []
 SpellsItem (value e label) ts = (expr behind : List Terminal) × (ts ≡ expr ++ behind) × IsExpr expr e × SpellsLabel label behind
 
 -- name [[AS] name]

@@ -5,7 +5,7 @@ use Rattle.med_lexer.specs.declared.Mark.{Mark}
 use Rattle.med_lexer.specs.declared.Mark.TheVariants as marks
 use Rattle.med_lexer.specs.Lexemes.{Shape, word, quoted, literal, number, mark, Lexeme, Lexes}
 use Rattle.med_lexer.specs.Printing.{IsShape, AreShapes}
-use Rattle.med_syntax.specs.declared.expr.BinaryOp.TheVariants.{Mul}
+use Rattle.med_syntax.specs.declared.expr.Operation.TheVariants.{Multiply}
 use Rattle.med_syntax.specs.Tree.{Name}
 use Rattle.expr_grammar.specs.Shapes.{shapes}
 use Rattle.med_syntax.specs.Words.{is_reserved}
@@ -183,7 +183,7 @@ first_printed = record { shape = (codes "first", (refl, (refl, (refl, (refl, (re
 last_printed : Printed (t.Reserved (codes "last"))
 last_printed = record { shape = (codes "last", (refl, (refl, (refl, (refl, tt))), refl)); is = inr (codes "last", refl, refl, refl) }
 
-star_printed : Printed (t.Binary Mul)
+star_printed : Printed (t.Binary Multiply)
 star_printed = record { shape = ((42 ∷ []), inl refl); is = inl (inl refl) }
 
 dot_printed : Printed t.Dot

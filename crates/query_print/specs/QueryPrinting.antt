@@ -2,7 +2,7 @@
 -- each key, LIMIT before OFFSET, no optional word but these, and one space between tokens.
 use Rattle.std.specs.Prelude.{ℕ, Bool, true, false, List, [], ◌∷◌, ◌++◌, codes, Option, Some, None}
 use Rattle.med_lexer.specs.Printing.{printed}
-use Rattle.med_syntax.specs.declared.expr.BinaryOp.TheVariants.{Mul}
+use Rattle.med_syntax.specs.declared.expr.Operation.TheVariants.{Multiply}
 use Rattle.query_print.specs.declared.query_writer.Keyword.{Keyword}
 use Rattle.query_print.specs.declared.query_writer.Keyword.TheVariants as k
 use Rattle.med_syntax.specs.Tree.{Name}
@@ -53,8 +53,8 @@ alias_written None = []
 alias_written (Some n) = t.Reserved (codes "as") ∷ t.Name n ∷ []
 
 abbrev pub item_written : ItemTree → List Terminal
-item_written all = t.Binary Mul ∷ []
-item_written (all_of q) = t.Name q ∷ t.Dot ∷ t.Binary Mul ∷ []
+item_written all = t.Binary Multiply ∷ []
+item_written (all_of q) = t.Name q ∷ t.Dot ∷ t.Binary Multiply ∷ []
 item_written (value e label) = spelling e ++ alias_written label
 
 abbrev pub others_written : {X : Type 0} → (X → List Terminal) → List X → List Terminal

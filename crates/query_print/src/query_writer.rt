@@ -6,18 +6,23 @@ ghost use Rattle.med_lexer.specs.Printing.{raw_of};
 ghost use Rattle.med_syntax.specs.ExprTree.{spelling};
 ghost use Rattle.med_syntax.specs.ExprView.{expr_tree};
 ghost use Rattle.med_syntax.specs.QueryTree.{left_join, cross_join};
-ghost use Rattle.med_syntax.specs.QueryView.{item_tree, items_tree, entry_tree, join_tree, chain_tree, group_tree, key_tree, limit_tree, select_tree, statement_tree};
+ghost use Rattle.med_syntax.specs.QueryView.{item_tree, items_tree, entry_tree, join_tree, chain_tree};
+ghost use Rattle.med_syntax.specs.QueryView.{group_tree, key_tree, limit_tree, select_tree, statement_tree};
 ghost use Rattle.med_syntax.specs.Terminal as t;
 ghost use Rattle.query_grammar.specs.QueryCauses.{statement_in_range};
 ghost use Rattle.query_grammar.specs.QueryGrammar.{HasStatement};
-ghost use Rattle.query_print.specs.QueryPrinting.{keyword_word, keyword_terminal, alias_written, item_written, others_written, list_written, entry_written, on_written, join_written, joins_written, chain_written, group_written, flag_written, nulls_written, key_written, quantifier_written, limit_written, offset_written, perhaps_written, listed_written, tail_written, clauses_written, select_written, statement_written, printed_statement};
+ghost use Rattle.query_print.specs.QueryPrinting.{keyword_word, keyword_terminal, alias_written, item_written, others_written};
+ghost use Rattle.query_print.specs.QueryPrinting.{list_written, entry_written, on_written, join_written, joins_written, chain_written};
+ghost use Rattle.query_print.specs.QueryPrinting.{group_written, flag_written, nulls_written, key_written, quantifier_written};
+ghost use Rattle.query_print.specs.QueryPrinting.{limit_written, offset_written, perhaps_written, listed_written};
+ghost use Rattle.query_print.specs.QueryPrinting.{tail_written, clauses_written, select_written, statement_written, printed_statement};
 ghost use Rattle.std.specs.Prelude.{◌≡◌, ◌++◌, ◌∷◌, [], ℕ, List, IfOk, true, map, option_map, codes};
 ghost use Rattle.std.specs.String.{string_bytes};
 
 use crate::query_laws::printed_statement;
 use expr_writer::{Fixed, write, write_column, write_fixed, write_name, write_number};
 use med_syntax::{
-    BinaryOp, Chain, Entry, Expr, GroupColumn, Item, Join, Limit, OrderKey, Select, Statement,
+    Chain, Entry, Expr, GroupColumn, Item, Join, Limit, Operation, OrderKey, Select, Statement,
 };
 use med_value::NoMemory;
 use std::alloc::{AllocError, Global};
@@ -54,6 +59,7 @@ pub enum Keyword {
     Delete,
 }
 
+// How the keyword is written.
 fn keyword_text(keyword: Keyword) -> &'static str
     ensures { result.now ≡ raw_of (shape_for (keyword_terminal keyword)) }
 {
@@ -127,11 +133,11 @@ fn write_item(alloc: Global, item: &Item, out: &mut String) -> Result<(), AllocE
     ensures { Writes result out.old out.new (item_written (item_tree item.now)) }
 {
     match item {
-        Item::All => write_fixed(Fixed::Binary(BinaryOp::Mul), out),
+        Item::All => write_fixed(Fixed::Binary(Operation::Multiply), out),
         Item::AllOf(name) => {
             write_name(name, out)?;
             write_fixed(Fixed::Dot, out)?;
-            write_fixed(Fixed::Binary(BinaryOp::Mul), out)
+            write_fixed(Fixed::Binary(Operation::Multiply), out)
         }
         Item::Expression(expr, alias) => write_value(alloc, expr, alias, out),
     }

@@ -13,12 +13,12 @@ use Rattle.med_syntax.specs.QueryTree.{all, EntryTree, JoinTree, inner_join, lef
 use Rattle.query_grammar.specs.QueryGrammar.{keywords, SpellsEntry, SpellsOn, SpellsJoin, SpellsJoins, SpellsChain, SpellsGroup, SpellsNulls, SpellsKey, SpellsLimit, SpellsOffset, SpellsLimits, SpellsExpr}
 use Rattle.query_reader.specs.QueryReading.{behind_word, behind_words, flag_of, entry_of, join_words, on_of, join_of, joins_of, all_joins_of, source_of, group_of, nulls_of, key_after, key_of, number_of, limit_at, limit_of, behind_unit, offset_of, limit_after, limits_of}
 use Rattle.expr_grammar.proofs.ExprSound.{bind_ok, ok_same}
-use Rattle.query_reader.proofs.PartSound.{Found, Sound, found_as, flat, none_some, some_is, err_ok, word_is, words_are, entry_sound, expr_sound, FoundFlag, flag_sound}
+use Rattle.query_reader.proofs.PartSound.{FoundPart, Sound, found_as, flat, none_some, some_is, err_ok, word_is, words_are, entry_sound, expr_sound, FoundFlag, flag_sound}
 
 -- ---- FROM
 
-found_on : (room : ℕ) (ts a after rest : List Terminal) (e : EntryTree) (on : ExprTree) → Found SpellsEntry flat 0 ts e a → a ≡ t.Reserved (codes "on") ∷ after → Found SpellsExpr height room after on rest →
-    Found (λ (x : EntryTree × ExprTree). SpellsOn x.0 x.1) (λ x. height x.1) room ts (e, on) rest
+found_on : (room : ℕ) (ts a after rest : List Terminal) (e : EntryTree) (on : ExprTree) → FoundPart SpellsEntry flat 0 ts e a → a ≡ t.Reserved (codes "on") ∷ after → FoundPart SpellsExpr height room after on rest →
+    FoundPart (λ (x : EntryTree × ExprTree). SpellsOn x.0 x.1) (λ x. height x.1) room ts (e, on) rest
 found_on room ts a after rest e on f p g = record {
   front = f.front ++ t.Reserved (codes "on") ∷ g.front;
   is = f.is ∙ ap (λ us. f.front ++ us) (p ∙ ap (λ us. t.Reserved (codes "on") ∷ us) g.is) ∙ sym (append_assoc f.front (t.Reserved (codes "on") ∷ g.front) rest);
@@ -31,7 +31,7 @@ unfolding on_of
 on_sound room ts y rest h =
     let on : EntryTree → List Terminal → Result ((EntryTree × ExprTree) × List Terminal) Refusal = λ e after. (below room).whole after >>= λ z. Ok ((e, z.0), z.1) in
     let x = bind_ok (entry_of ts) (λ x. choose (behind_word (codes "on") x.1) (Err Syntax) (on x.0)) (y, rest) h in
-    let go : (o : Option (List Terminal)) → behind_word (codes "on") x.0.1 ≡ o → choose o (Err Syntax) (on x.0.0) ≡ Ok (y, rest) → Found (λ (x : EntryTree × ExprTree). SpellsOn x.0 x.1) (λ x. height x.1) room ts y rest = elim [
+    let go : (o : Option (List Terminal)) → behind_word (codes "on") x.0.1 ≡ o → choose o (Err Syntax) (on x.0.0) ≡ Ok (y, rest) → FoundPart (λ (x : EntryTree × ExprTree). SpellsOn x.0 x.1) (λ x. height x.1) room ts y rest = elim [
       | None ↦ (λ is e. absurd (err_ok Syntax (y, rest) e))
       | Some after ↦ (λ is e.
           let z = bind_ok ((below room).whole after) (λ z. Ok ((x.0.0, z.0), z.1)) (y, rest) e in
@@ -76,7 +76,7 @@ way_sound ts x h =
     (way_step ts (codes "left" ∷ codes "outer" ∷ codes "join" ∷ []) ways.Left (inr refl) _
     (way_step ts (codes "cross" ∷ codes "join" ∷ []) ways.Cross refl None (λ y p. absurd (none_some y p)))))) x h
 
-found_inner : (room : ℕ) (ts after : List Terminal) (e : EntryTree) (on : ExprTree) (rest : List Terminal) → FoundWay ts ways.Inner after → Found (λ (x : EntryTree × ExprTree). SpellsOn x.0 x.1) (λ x. height x.1) room after (e, on) rest → Found SpellsJoin join_height room ts (inner_join e on) rest
+found_inner : (room : ℕ) (ts after : List Terminal) (e : EntryTree) (on : ExprTree) (rest : List Terminal) → FoundWay ts ways.Inner after → FoundPart (λ (x : EntryTree × ExprTree). SpellsOn x.0 x.1) (λ x. height x.1) room after (e, on) rest → FoundPart SpellsJoin join_height room ts (inner_join e on) rest
 found_inner room ts after e on rest w f = record {
   front = w.front ++ f.front;
   is = w.is ∙ ap (λ us. w.front ++ us) f.is ∙ sym (append_assoc w.front f.front rest);
@@ -84,7 +84,7 @@ found_inner room ts after e on rest w f = record {
   low = f.low;
 }
 
-found_left : (room : ℕ) (ts after : List Terminal) (e : EntryTree) (on : ExprTree) (rest : List Terminal) → FoundWay ts ways.Left after → Found (λ (x : EntryTree × ExprTree). SpellsOn x.0 x.1) (λ x. height x.1) room after (e, on) rest → Found SpellsJoin join_height room ts (left_join e on) rest
+found_left : (room : ℕ) (ts after : List Terminal) (e : EntryTree) (on : ExprTree) (rest : List Terminal) → FoundWay ts ways.Left after → FoundPart (λ (x : EntryTree × ExprTree). SpellsOn x.0 x.1) (λ x. height x.1) room after (e, on) rest → FoundPart SpellsJoin join_height room ts (left_join e on) rest
 found_left room ts after e on rest w f = record {
   front = w.front ++ f.front;
   is = w.is ∙ ap (λ us. w.front ++ us) f.is ∙ sym (append_assoc w.front f.front rest);
@@ -92,7 +92,7 @@ found_left room ts after e on rest w f = record {
   low = f.low;
 }
 
-found_cross : (room : ℕ) (ts after : List Terminal) (e : EntryTree) (rest : List Terminal) → FoundWay ts ways.Cross after → Found SpellsEntry flat 0 after e rest → Found SpellsJoin join_height room ts (cross_join e) rest
+found_cross : (room : ℕ) (ts after : List Terminal) (e : EntryTree) (rest : List Terminal) → FoundWay ts ways.Cross after → FoundPart SpellsEntry flat 0 after e rest → FoundPart SpellsJoin join_height room ts (cross_join e) rest
 found_cross room ts after e rest w f = record {
   front = keywords (codes "cross" ∷ codes "join" ∷ []) ++ f.front;
   is = w.is ∙ ap (λ us. us ++ after) w.words ∙ ap (λ us. keywords (codes "cross" ∷ codes "join" ∷ []) ++ us) f.is;
@@ -100,7 +100,7 @@ found_cross room ts after e rest w f = record {
   low = omega arith;
 }
 
-join_sound : (room : ℕ) (way : JoinWay) (ts after : List Terminal) (x : JoinTree) (rest : List Terminal) → FoundWay ts way after → join_of way room after ≡ Ok (x, rest) → Found SpellsJoin join_height room ts x rest
+join_sound : (room : ℕ) (way : JoinWay) (ts after : List Terminal) (x : JoinTree) (rest : List Terminal) → FoundWay ts way after → join_of way room after ≡ Ok (x, rest) → FoundPart SpellsJoin join_height room ts x rest
 join_sound room ways.Inner ts after x rest w h =
     let y = bind_ok (on_of room after) (λ y. Ok (inner_join y.0.0 y.0.1, y.1)) (x, rest) h in
     found_as SpellsJoin join_height room ts (inner_join y.0.0.0 y.0.0.1) x y.0.1 rest y.2 (found_inner room ts after y.0.0.0 y.0.0.1 y.0.1 w (on_sound room after y.0.0 y.0.1 y.1))
@@ -112,10 +112,10 @@ join_sound room ways.Cross ts after x rest w h =
     found_as SpellsJoin join_height room ts (cross_join y.0.0) x y.0.1 rest y.2 (found_cross room ts after y.0.0 y.0.1 w (entry_sound after y.0.0 y.0.1 y.1))
 
 -- what one join leaves
-pub join_found : (room : ℕ) (ts after : List Terminal) (way : JoinWay) (x : JoinTree) (rest : List Terminal) → join_words ts ≡ Some (way, after) → join_of way room after ≡ Ok (x, rest) → Found SpellsJoin join_height room ts x rest
+pub join_found : (room : ℕ) (ts after : List Terminal) (way : JoinWay) (x : JoinTree) (rest : List Terminal) → join_words ts ≡ Some (way, after) → join_of way room after ≡ Ok (x, rest) → FoundPart SpellsJoin join_height room ts x rest
 join_found room ts after way x rest p h = join_sound room way ts after x rest (way_sound ts (way, after) p) h
 
-found_joins : (room : ℕ) (ts : List Terminal) (x : JoinTree) (middle : List Terminal) (xs : List JoinTree) (rest : List Terminal) → Found SpellsJoin join_height room ts x middle → Found SpellsJoins (highest_of join_height) room middle xs rest → Found SpellsJoins (highest_of join_height) room ts (x ∷ xs) rest
+found_joins : (room : ℕ) (ts : List Terminal) (x : JoinTree) (middle : List Terminal) (xs : List JoinTree) (rest : List Terminal) → FoundPart SpellsJoin join_height room ts x middle → FoundPart SpellsJoins (highest_of join_height) room middle xs rest → FoundPart SpellsJoins (highest_of join_height) room ts (x ∷ xs) rest
 found_joins room ts x middle xs rest f o = record {
   front = f.front ++ o.front;
   is = f.is ∙ ap (λ us. f.front ++ us) o.is ∙ sym (append_assoc f.front o.front rest);
@@ -123,7 +123,7 @@ found_joins room ts x middle xs rest f o = record {
   low = omega (arith, f.low, o.low);
 }
 
-no_joins : (room : ℕ) (ts : List Terminal) (xs : List JoinTree) (rest : List Terminal) → ◌≡◌ {A = Result (List JoinTree × List Terminal) Refusal} (Ok ([], ts)) (Ok (xs, rest)) → Found SpellsJoins (highest_of join_height) room ts xs rest
+no_joins : (room : ℕ) (ts : List Terminal) (xs : List JoinTree) (rest : List Terminal) → ◌≡◌ {A = Result (List JoinTree × List Terminal) Refusal} (Ok ([], ts)) (Ok (xs, rest)) → FoundPart SpellsJoins (highest_of join_height) room ts xs rest
 no_joins room ts xs rest h = found_as SpellsJoins (highest_of join_height) room ts [] xs ts rest h (record { front = []; is = refl; spelled = refl; low = omega arith })
 
 joins_sound : (room k : ℕ) → Sound SpellsJoins (highest_of join_height) room (joins_of room k)
@@ -131,7 +131,7 @@ unfolding joins_of
 joins_sound room zero ts xs rest h = no_joins room ts xs rest h
 joins_sound room (suc k) ts xs rest h =
     let go_on : JoinWay × List Terminal → Result (List JoinTree × List Terminal) Refusal = λ j. join_of j.0 room j.1 >>= λ x. joins_of room k x.1 >>= λ y. Ok (x.0 ∷ y.0, y.1) in
-    let go : (o : Ways) → join_words ts ≡ o → choose o (Ok ([], ts)) go_on ≡ Ok (xs, rest) → Found SpellsJoins (highest_of join_height) room ts xs rest = elim [
+    let go : (o : Ways) → join_words ts ≡ o → choose o (Ok ([], ts)) go_on ≡ Ok (xs, rest) → FoundPart SpellsJoins (highest_of join_height) room ts xs rest = elim [
       | None ↦ (λ p e. no_joins room ts xs rest e)
       | Some j ↦ (λ p e.
           let x = bind_ok (join_of j.0 room j.1) (λ x. joins_of room k x.1 >>= λ y. Ok (x.0 ∷ y.0, y.1)) (xs, rest) e in
@@ -145,7 +145,7 @@ all_joins_sound : (room : ℕ) → Sound SpellsJoins (highest_of join_height) ro
 unfolding all_joins_of
 all_joins_sound room ts xs rest h = joins_sound room (length ts) ts xs rest h
 
-found_chain : (room : ℕ) (ts a rest : List Terminal) (e : EntryTree) (xs : List JoinTree) → Found SpellsEntry flat 0 ts e a → Found SpellsJoins (highest_of join_height) room a xs rest → Found SpellsChain chain_height room ts (record { first = e; joins = xs }) rest
+found_chain : (room : ℕ) (ts a rest : List Terminal) (e : EntryTree) (xs : List JoinTree) → FoundPart SpellsEntry flat 0 ts e a → FoundPart SpellsJoins (highest_of join_height) room a xs rest → FoundPart SpellsChain chain_height room ts (record { first = e; joins = xs }) rest
 found_chain room ts a rest e xs f g = record {
   front = f.front ++ g.front;
   is = f.is ∙ ap (λ us. f.front ++ us) g.is ∙ sym (append_assoc f.front g.front rest);
@@ -193,8 +193,8 @@ nulls_sound b ts =
     ]
     in go (behind_words first ts) refl (nulls_of b ts) refl
 
-found_key : (room : ℕ) (ts a b rest : List Terminal) (e : ExprTree) (descending first : Bool) → Found SpellsExpr height room ts e a → FoundFlag (codes "desc") (codes "asc") a descending b → FoundNulls descending b first rest →
-    Found SpellsKey key_height room ts (record { key = e; descending = descending; nulls_first = first }) rest
+found_key : (room : ℕ) (ts a b rest : List Terminal) (e : ExprTree) (descending first : Bool) → FoundPart SpellsExpr height room ts e a → FoundFlag (codes "desc") (codes "asc") a descending b → FoundNulls descending b first rest →
+    FoundPart SpellsKey key_height room ts (record { key = e; descending = descending; nulls_first = first }) rest
 found_key room ts a b rest e descending first f g k = record {
   front = f.front ++ (g.front ++ k.front);
   is = f.is ∙ ap (λ us. f.front ++ us) (g.is ∙ ap (λ us. g.front ++ us) k.is ∙ sym (append_assoc g.front k.front rest)) ∙ sym (append_assoc f.front (g.front ++ k.front) rest);
@@ -202,7 +202,7 @@ found_key room ts a b rest e descending first f g k = record {
   low = f.low;
 }
 
-directed_sound : (room : ℕ) (ts a : List Terminal) (e : ExprTree) → Found SpellsExpr height room ts e a → Found SpellsKey key_height room ts (key_after e a).0 (key_after e a).1
+directed_sound : (room : ℕ) (ts a : List Terminal) (e : ExprTree) → FoundPart SpellsExpr height room ts e a → FoundPart SpellsKey key_height room ts (key_after e a).0 (key_after e a).1
 unfolding key_after
 directed_sound room ts a e f =
     let d : Bool × List Terminal = flag_of (codes "desc") (codes "asc") a in
@@ -213,7 +213,7 @@ unfolding key_of
 key_sound room ts k rest h =
     let x = bind_ok ((below room).whole ts) (λ x. Ok (key_after x.0 x.1)) (k, rest) h in
     let same : key_after x.0.0 x.0.1 ≡ (k, rest) = ok_same (key_after x.0.0 x.0.1) (k, rest) x.2 in
-    subst (λ (p : KeyTree × List Terminal). Found SpellsKey key_height room ts p.0 p.1) same (directed_sound room ts x.0.1 x.0.0 (expr_sound room ts x.0.0 x.0.1 x.1))
+    subst (λ (p : KeyTree × List Terminal). FoundPart SpellsKey key_height room ts p.0 p.1) same (directed_sound room ts x.0.1 x.0.0 (expr_sound room ts x.0.0 x.0.1 x.1))
 
 -- ---- LIMIT and OFFSET
 
@@ -222,11 +222,11 @@ number_is [] n rest h = absurd (err_ok Syntax (n, rest) h)
 number_is (t.Num m ∷ us) n rest h = ap (λ (p : ℕ × List Terminal). t.Num p.0 ∷ p.1) (ok_same (m, us) (n, rest) h)
 number_is (u ∷ us) n rest h = absurd (err_ok Syntax (n, rest) h)
 
-limit_at_sound : (ts after : List Terminal) (limit : Option LimitTree) (rest : List Terminal) → ts ≡ t.Reserved (codes "limit") ∷ after → limit_at after ≡ Ok (limit, rest) → Found SpellsLimit flat 0 ts limit rest
+limit_at_sound : (ts after : List Terminal) (limit : Option LimitTree) (rest : List Terminal) → ts ≡ t.Reserved (codes "limit") ∷ after → limit_at after ≡ Ok (limit, rest) → FoundPart SpellsLimit flat 0 ts limit rest
 unfolding limit_at
 limit_at_sound ts after limit rest p h =
     let counted : Result (Option LimitTree × List Terminal) Refusal = number_of after >>= λ x. Ok (Some (rows x.0), x.1) in
-    let go : (o : Option (List Terminal)) → behind_word (codes "all") after ≡ o → choose o counted (λ us. Ok (Some no_limit, us)) ≡ Ok (limit, rest) → Found SpellsLimit flat 0 ts limit rest = elim [
+    let go : (o : Option (List Terminal)) → behind_word (codes "all") after ≡ o → choose o counted (λ us. Ok (Some no_limit, us)) ≡ Ok (limit, rest) → FoundPart SpellsLimit flat 0 ts limit rest = elim [
       | None ↦ (λ is e.
           let x = bind_ok (number_of after) (λ x. Ok (Some (rows x.0), x.1)) (limit, rest) e in
           found_as SpellsLimit flat 0 ts (Some (rows x.0.0)) limit x.0.1 rest x.2 (record {
@@ -247,7 +247,7 @@ limit_at_sound ts after limit rest p h =
 limit_sound : Sound SpellsLimit flat 0 limit_of
 unfolding limit_of
 limit_sound ts limit rest h =
-    let go : (o : Option (List Terminal)) → behind_word (codes "limit") ts ≡ o → choose {B = Result (Option LimitTree × List Terminal) Refusal} o (Ok (None, ts)) limit_at ≡ Ok (limit, rest) → Found SpellsLimit flat 0 ts limit rest = elim [
+    let go : (o : Option (List Terminal)) → behind_word (codes "limit") ts ≡ o → choose {B = Result (Option LimitTree × List Terminal) Refusal} o (Ok (None, ts)) limit_at ≡ Ok (limit, rest) → FoundPart SpellsLimit flat 0 ts limit rest = elim [
       | None ↦ (λ is e. found_as SpellsLimit flat 0 ts None limit ts rest e (record { front = []; is = refl; spelled = refl; low = omega arith }))
       | Some after ↦ (λ is e. limit_at_sound ts after limit rest (word_is (codes "limit") ts after is) e)
     ]
@@ -272,7 +272,7 @@ unit_sound ts =
     ]
     in go (behind_word (codes "row") ts) refl
 
-found_offset : (ts after middle rest : List Terminal) (n : ℕ) → ts ≡ t.Reserved (codes "offset") ∷ after → after ≡ t.Num n ∷ middle → FoundUnit middle rest → Found SpellsOffset flat 0 ts (Some n) rest
+found_offset : (ts after middle rest : List Terminal) (n : ℕ) → ts ≡ t.Reserved (codes "offset") ∷ after → after ≡ t.Num n ∷ middle → FoundUnit middle rest → FoundPart SpellsOffset flat 0 ts (Some n) rest
 found_offset ts after middle rest n p q f = record {
   front = t.Reserved (codes "offset") ∷ t.Num n ∷ f.front;
   is = p ∙ ap (λ us. t.Reserved (codes "offset") ∷ us) (q ∙ ap (λ us. t.Num n ∷ us) f.is);
@@ -284,7 +284,7 @@ offset_sound : Sound SpellsOffset flat 0 offset_of
 unfolding offset_of
 offset_sound ts offset rest h =
     let counted : List Terminal → Result (Option ℕ × List Terminal) Refusal = λ after. number_of after >>= λ x. Ok (Some x.0, behind_unit x.1) in
-    let go : (o : Option (List Terminal)) → behind_word (codes "offset") ts ≡ o → choose o (Ok (None, ts)) counted ≡ Ok (offset, rest) → Found SpellsOffset flat 0 ts offset rest = elim [
+    let go : (o : Option (List Terminal)) → behind_word (codes "offset") ts ≡ o → choose o (Ok (None, ts)) counted ≡ Ok (offset, rest) → FoundPart SpellsOffset flat 0 ts offset rest = elim [
       | None ↦ (λ is e. found_as SpellsOffset flat 0 ts None offset ts rest e (record { front = []; is = refl; spelled = refl; low = omega arith }))
       | Some after ↦ (λ is e.
           let x = bind_ok (number_of after) (λ x. Ok (Some x.0, behind_unit x.1)) (offset, rest) e in
@@ -296,7 +296,7 @@ offset_sound ts offset rest h =
 abbrev pub SpellsCut : Option LimitTree × Option ℕ → List Terminal → Type 0
 SpellsCut x ts = SpellsLimits x.0 x.1 ts
 
-found_limits : (ts a b rest : List Terminal) (before limit : Option LimitTree) (offset : Option ℕ) → Found SpellsLimit flat 0 ts before a → Found SpellsOffset flat 0 a offset b → limit_after before b ≡ Ok (limit, rest) → Found SpellsCut flat 0 ts (limit, offset) rest
+found_limits : (ts a b rest : List Terminal) (before limit : Option LimitTree) (offset : Option ℕ) → FoundPart SpellsLimit flat 0 ts before a → FoundPart SpellsOffset flat 0 a offset b → limit_after before b ≡ Ok (limit, rest) → FoundPart SpellsCut flat 0 ts (limit, offset) rest
 found_limits ts a b rest (Some l) limit offset f g h =
     found_as SpellsCut flat 0 ts (Some l, offset) (limit, offset) b rest (ap (λ (p : Result (Option LimitTree × List Terminal) Refusal). p >>= λ x. Ok ((x.0, offset), x.1)) h) (record {
       front = f.front ++ g.front;
@@ -305,7 +305,7 @@ found_limits ts a b rest (Some l) limit offset f g h =
       low = omega arith;
     })
 found_limits ts a b rest None limit offset f g h =
-    let k : Found SpellsLimit flat 0 b limit rest = limit_sound b limit rest h in
+    let k : FoundPart SpellsLimit flat 0 b limit rest = limit_sound b limit rest h in
     record {
       front = g.front ++ k.front;
       is = f.is ∙ ap (λ us. us ++ a) f.spelled ∙ g.is ∙ ap (λ us. g.front ++ us) k.is ∙ sym (append_assoc g.front k.front rest);

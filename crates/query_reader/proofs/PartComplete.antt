@@ -4,8 +4,8 @@ use Rattle.std.specs.Prelude.{nat_le, max, Result, Ok, Err, Option, Some, None}
 use Rattle.std.specs.Str.{bytes_eq}
 use Rattle.std.proofs.lemmas.Bool.{le-leb, lt-leb}
 use Rattle.std.proofs.lemmas.Slice.Eq.{bytes_eq-Decides}
-use Rattle.med_syntax.specs.declared.expr.BinaryOp.{BinaryOp}
-use Rattle.med_syntax.specs.declared.expr.BinaryOp.TheVariants.{Add, Sub, Mul, Div, Rem}
+use Rattle.med_syntax.specs.declared.expr.Operation.{Operation}
+use Rattle.med_syntax.specs.declared.expr.Operation.TheVariants.{Add, Subtract, Multiply, Divide, Remainder}
 use Rattle.med_syntax.specs.declared.expr.Joint.{Joint}
 use Rattle.med_syntax.specs.declared.expr.Joint.TheVariants.{Or, And}
 use Rattle.expr_grammar.specs.declared.refusal.Refusal.{Refusal}
@@ -148,12 +148,12 @@ name_skips room n [] h = refl
 name_skips room n (t.Dot ∷ us) h = absurd (omega (arith, h))
 name_skips room n (u ∷ us) h = refl
 
-binary_reach : (op : BinaryOp) (us : List Terminal) → reach (t.Binary op ∷ us) ≤ 9
+binary_reach : (op : Operation) (us : List Terminal) → reach (t.Binary op ∷ us) ≤ 9
 binary_reach Add us = omega arith
-binary_reach Sub us = omega arith
-binary_reach Mul us = omega arith
-binary_reach Div us = omega arith
-binary_reach Rem us = omega arith
+binary_reach Subtract us = omega arith
+binary_reach Multiply us = omega arith
+binary_reach Divide us = omega arith
+binary_reach Remainder us = omega arith
 
 not_reach : (neg : Bool) (u : Terminal) (us rest : List Terminal) → reach (u ∷ us) ≤ 9 → reach ((perhaps_not neg ++ u ∷ us) ++ rest) ≤ 9
 not_reach true u us rest h = omega arith

@@ -3,7 +3,7 @@ use Rattle.std.proofs.Common.{◌≡◌, ℕ, zero, suc, ◌≤◌, inl, inr, Bo
 use Rattle.std.specs.Prelude.{Result, Ok, Err, Option, Some, None}
 use Rattle.std.specs.Str.{bytes_eq}
 use Rattle.std.proofs.lemmas.Slice.Eq.{bytes_eq-Decides}
-use Rattle.med_syntax.specs.declared.expr.BinaryOp.TheVariants.{Mul}
+use Rattle.med_syntax.specs.declared.expr.Operation.TheVariants.{Multiply}
 use Rattle.med_syntax.specs.declared.expr.Joint.TheVariants.{Or, And}
 use Rattle.expr_grammar.specs.declared.refusal.Refusal.{Refusal}
 use Rattle.expr_grammar.specs.declared.refusal.Refusal.TheVariants.{Syntax}
@@ -23,19 +23,19 @@ use Rattle.expr_grammar.proofs.ExprSound.{bind_ok, ok_same, sounds}
 use Rattle.expr_grammar.proofs.ExprSound as expr
 
 -- the front of the terminals spells x, which has room, and the rest is left
-pub record Found {X : Type 0} (Spelling : X → List Terminal → Type 0) (high : X → ℕ) (room : ℕ) (ts : List Terminal) (x : X) (rest : List Terminal) : Type 0 where
+pub record FoundPart {X : Type 0} (Spelling : X → List Terminal → Type 0) (high : X → ℕ) (room : ℕ) (ts : List Terminal) (x : X) (rest : List Terminal) : Type 0 where
   pub front : List Terminal
   pub is : ts ≡ front ++ rest
   pub spelled : Spelling x front
   pub low : high x ≤ room
 
 abbrev pub Sound : {X : Type 0} → (X → List Terminal → Type 0) → (X → ℕ) → ℕ → Parser X → Type 0
-Sound {X} Spelling high room item = (ts : List Terminal) (x : X) (rest : List Terminal) → item ts ≡ Ok (x, rest) → Found Spelling high room ts x rest
+Sound {X} Spelling high room item = (ts : List Terminal) (x : X) (rest : List Terminal) → item ts ≡ Ok (x, rest) → FoundPart Spelling high room ts x rest
 
-pub found_as : {X : Type 0} (Spelling : X → List Terminal → Type 0) (high : X → ℕ) (room : ℕ) (ts : List Terminal) (x y : X) (rest last : List Terminal) → ◌≡◌ {A = Result (X × List Terminal) Refusal} (Ok (x, rest)) (Ok (y, last)) → Found Spelling high room ts x rest → Found Spelling high room ts y last
+pub found_as : {X : Type 0} (Spelling : X → List Terminal → Type 0) (high : X → ℕ) (room : ℕ) (ts : List Terminal) (x y : X) (rest last : List Terminal) → ◌≡◌ {A = Result (X × List Terminal) Refusal} (Ok (x, rest)) (Ok (y, last)) → FoundPart Spelling high room ts x rest → FoundPart Spelling high room ts y last
 found_as {X} Spelling high room ts x y rest last h f =
     let e : ◌≡◌ {A = X × List Terminal} (x, rest) (y, last) = ok_same (x, rest) (y, last) h in
-    subst (λ (p : X × List Terminal). Found Spelling high room ts p.0 p.1) e f
+    subst (λ (p : X × List Terminal). FoundPart Spelling high room ts p.0 p.1) e f
 
 -- a part that is found without room for an expression
 abbrev pub flat : {X : Type 0} → X → ℕ
@@ -82,12 +82,12 @@ name_is (u ∷ us) n rest h = absurd (err_ok Syntax (n, rest) h)
 
 -- ---- labels and aliases
 
-perhaps_label : (ts : List Terminal) (label : Option Name) (rest : List Terminal) → perhaps_name ts ≡ Ok (label, rest) → Found SpellsLabel flat 0 ts label rest
+perhaps_label : (ts : List Terminal) (label : Option Name) (rest : List Terminal) → perhaps_name ts ≡ Ok (label, rest) → FoundPart SpellsLabel flat 0 ts label rest
 perhaps_label [] label rest h = found_as SpellsLabel flat 0 [] None label [] rest h (record { front = []; is = refl; spelled = refl; low = omega arith })
 perhaps_label (t.Name m ∷ us) label rest h = found_as SpellsLabel flat 0 (t.Name m ∷ us) (Some m) label us rest h (record { front = t.Name m ∷ []; is = refl; spelled = inl refl; low = omega arith })
 perhaps_label (u ∷ us) label rest h = found_as SpellsLabel flat 0 (u ∷ us) None label (u ∷ us) rest h (record { front = []; is = refl; spelled = refl; low = omega arith })
 
-perhaps_alias : (ts : List Terminal) (alias : Option Name) (rest : List Terminal) → perhaps_name ts ≡ Ok (alias, rest) → Found SpellsAlias flat 0 ts alias rest
+perhaps_alias : (ts : List Terminal) (alias : Option Name) (rest : List Terminal) → perhaps_name ts ≡ Ok (alias, rest) → FoundPart SpellsAlias flat 0 ts alias rest
 perhaps_alias [] alias rest h = found_as SpellsAlias flat 0 [] None alias [] rest h (record { front = []; is = refl; spelled = refl; low = omega arith })
 perhaps_alias (t.Name m ∷ us) alias rest h = found_as SpellsAlias flat 0 (t.Name m ∷ us) (Some m) alias us rest h (record { front = t.Name m ∷ []; is = refl; spelled = inl refl; low = omega arith })
 perhaps_alias (u ∷ us) alias rest h = found_as SpellsAlias flat 0 (u ∷ us) None alias (u ∷ us) rest h (record { front = []; is = refl; spelled = refl; low = omega arith })
@@ -115,10 +115,10 @@ label_terminal (t.Name m) n h = inl (ap t.Name (some_is m n h))
 label_terminal (t.Reserved w) n h = reserved_label w n (is_reserved w) refl h
 label_terminal u n h = absurd (none_some n h)
 
-label_at_sound : (ts after : List Terminal) (label : Option Name) (rest : List Terminal) → ts ≡ t.Reserved (codes "as") ∷ after → label_at after ≡ Ok (label, rest) → Found SpellsLabel flat 0 ts label rest
+label_at_sound : (ts after : List Terminal) (label : Option Name) (rest : List Terminal) → ts ≡ t.Reserved (codes "as") ∷ after → label_at after ≡ Ok (label, rest) → FoundPart SpellsLabel flat 0 ts label rest
 label_at_sound ts [] label rest p h = absurd (err_ok Syntax (label, rest) h)
 label_at_sound ts (u ∷ us) label rest p h =
-    let go : (o : Option Name) → label_of u ≡ o → choose {B = Result (Option Name × List Terminal) Refusal} o (Err Syntax) (λ n. Ok (Some n, us)) ≡ Ok (label, rest) → Found SpellsLabel flat 0 ts label rest = elim [
+    let go : (o : Option Name) → label_of u ≡ o → choose {B = Result (Option Name × List Terminal) Refusal} o (Err Syntax) (λ n. Ok (Some n, us)) ≡ Ok (label, rest) → FoundPart SpellsLabel flat 0 ts label rest = elim [
       | None ↦ (λ is e. absurd (err_ok Syntax (label, rest) e))
       | Some n ↦ (λ is e. found_as SpellsLabel flat 0 ts (Some n) label us rest e (record { front = t.Reserved (codes "as") ∷ u ∷ []; is = p; spelled = inr (u, refl, label_terminal u n is); low = omega arith }))
     ]
@@ -127,7 +127,7 @@ label_at_sound ts (u ∷ us) label rest p h =
 pub label_sound : Sound SpellsLabel flat 0 label_after
 unfolding label_after
 label_sound ts label rest h =
-    let go : (o : Option (List Terminal)) → behind_word (codes "as") ts ≡ o → choose o (perhaps_name ts) label_at ≡ Ok (label, rest) → Found SpellsLabel flat 0 ts label rest = elim [
+    let go : (o : Option (List Terminal)) → behind_word (codes "as") ts ≡ o → choose o (perhaps_name ts) label_at ≡ Ok (label, rest) → FoundPart SpellsLabel flat 0 ts label rest = elim [
       | None ↦ (λ is e. perhaps_label ts label rest e)
       | Some after ↦ (λ is e. label_at_sound ts after label rest (word_is (codes "as") ts after is) e)
     ]
@@ -137,7 +137,7 @@ pub alias_sound : Sound SpellsAlias flat 0 alias_after
 unfolding alias_after
 alias_sound ts alias rest h =
     let named : List Terminal → Result (Option Name × List Terminal) Refusal = λ after. read_name after >>= λ x. Ok (Some x.0, x.1) in
-    let go : (o : Option (List Terminal)) → behind_word (codes "as") ts ≡ o → choose o (perhaps_name ts) named ≡ Ok (alias, rest) → Found SpellsAlias flat 0 ts alias rest = elim [
+    let go : (o : Option (List Terminal)) → behind_word (codes "as") ts ≡ o → choose o (perhaps_name ts) named ≡ Ok (alias, rest) → FoundPart SpellsAlias flat 0 ts alias rest = elim [
       | None ↦ (λ is e. perhaps_alias ts alias rest e)
       | Some after ↦ (λ is e.
           let x = bind_ok (read_name after) (λ x. Ok (Some x.0, x.1)) (alias, rest) e in
@@ -152,7 +152,7 @@ alias_sound ts alias rest h =
 
 -- ---- items
 
-found_value : (room : ℕ) (ts middle : List Terminal) (e : ExprTree) (label : Option Name) (rest : List Terminal) → expr.Found 0 room ts e middle → Found SpellsLabel flat 0 middle label rest → Found SpellsItem item_height room ts (value e label) rest
+found_value : (room : ℕ) (ts middle : List Terminal) (e : ExprTree) (label : Option Name) (rest : List Terminal) → expr.FoundExpr 0 room ts e middle → FoundPart SpellsLabel flat 0 middle label rest → FoundPart SpellsItem item_height room ts (value e label) rest
 found_value room ts middle e label rest f l = record {
   front = spelling e ++ l.front;
   is = f.spelled ∙ ap (λ us. spelling e ++ us) l.is ∙ sym (append_assoc (spelling e) l.front rest);
@@ -169,17 +169,17 @@ value_sound room ts item rest h =
     (found_value room ts x.0.1 x.0.0 y.0.0 y.0.1 ((sounds room).whole ts x.0.0 x.0.1 x.1) (label_sound x.0.1 y.0.0 y.0.1 y.1))
 
 pub item_sound : (room : ℕ) → Sound SpellsItem item_height room (item_of room)
-item_sound room (t.Binary Mul ∷ us) item rest h = found_as SpellsItem item_height room (t.Binary Mul ∷ us) all item us rest h (record { front = t.Binary Mul ∷ []; is = refl; spelled = refl; low = omega arith })
-item_sound room (t.Name q ∷ t.Dot ∷ t.Binary Mul ∷ us) item rest h =
-    found_as SpellsItem item_height room (t.Name q ∷ t.Dot ∷ t.Binary Mul ∷ us) (all_of q) item us rest h (record { front = t.Name q ∷ t.Dot ∷ t.Binary Mul ∷ []; is = refl; spelled = refl; low = omega arith })
+item_sound room (t.Binary Multiply ∷ us) item rest h = found_as SpellsItem item_height room (t.Binary Multiply ∷ us) all item us rest h (record { front = t.Binary Multiply ∷ []; is = refl; spelled = refl; low = omega arith })
+item_sound room (t.Name q ∷ t.Dot ∷ t.Binary Multiply ∷ us) item rest h =
+    found_as SpellsItem item_height room (t.Name q ∷ t.Dot ∷ t.Binary Multiply ∷ us) (all_of q) item us rest h (record { front = t.Name q ∷ t.Dot ∷ t.Binary Multiply ∷ []; is = refl; spelled = refl; low = omega arith })
 item_sound room ts item rest h = value_sound room ts item rest h
 
 -- ---- lists
 
-found_none : {X : Type 0} (Spelling : X → List Terminal → Type 0) (high : X → ℕ) (room : ℕ) (ts : List Terminal) (xs : List X) (rest : List Terminal) → ◌≡◌ {A = Result (List X × List Terminal) Refusal} (Ok ([], ts)) (Ok (xs, rest)) → Found (SpellsOthers Spelling) (highest_of high) room ts xs rest
+found_none : {X : Type 0} (Spelling : X → List Terminal → Type 0) (high : X → ℕ) (room : ℕ) (ts : List Terminal) (xs : List X) (rest : List Terminal) → ◌≡◌ {A = Result (List X × List Terminal) Refusal} (Ok ([], ts)) (Ok (xs, rest)) → FoundPart (SpellsOthers Spelling) (highest_of high) room ts xs rest
 found_none Spelling high room ts xs rest h = found_as (SpellsOthers Spelling) (highest_of high) room ts [] xs ts rest h (record { front = []; is = refl; spelled = refl; low = omega arith })
 
-found_more : {X : Type 0} (Spelling : X → List Terminal → Type 0) (high : X → ℕ) (room : ℕ) (ts after : List Terminal) (x : X) (middle : List Terminal) (xs : List X) (rest : List Terminal) → ts ≡ t.Comma ∷ after → Found Spelling high room after x middle → Found (SpellsOthers Spelling) (highest_of high) room middle xs rest → Found (SpellsOthers Spelling) (highest_of high) room ts (x ∷ xs) rest
+found_more : {X : Type 0} (Spelling : X → List Terminal → Type 0) (high : X → ℕ) (room : ℕ) (ts after : List Terminal) (x : X) (middle : List Terminal) (xs : List X) (rest : List Terminal) → ts ≡ t.Comma ∷ after → FoundPart Spelling high room after x middle → FoundPart (SpellsOthers Spelling) (highest_of high) room middle xs rest → FoundPart (SpellsOthers Spelling) (highest_of high) room ts (x ∷ xs) rest
 found_more Spelling high room ts after x middle xs rest c f o = record {
   front = t.Comma ∷ (f.front ++ o.front);
   is = c ∙ ap (λ us. t.Comma ∷ us) (f.is ∙ ap (λ us. f.front ++ us) o.is ∙ sym (append_assoc f.front o.front rest));
@@ -187,7 +187,7 @@ found_more Spelling high room ts after x middle xs rest c f o = record {
   low = omega (arith, f.low, o.low);
 }
 
-found_list : {X : Type 0} (Spelling : X → List Terminal → Type 0) (high : X → ℕ) (room : ℕ) (ts : List Terminal) (x : X) (middle : List Terminal) (xs : List X) (rest : List Terminal) → Found Spelling high room ts x middle → Found (SpellsOthers Spelling) (highest_of high) room middle xs rest → Found (SpellsList Spelling) (highest_of high) room ts (x ∷ xs) rest
+found_list : {X : Type 0} (Spelling : X → List Terminal → Type 0) (high : X → ℕ) (room : ℕ) (ts : List Terminal) (x : X) (middle : List Terminal) (xs : List X) (rest : List Terminal) → FoundPart Spelling high room ts x middle → FoundPart (SpellsOthers Spelling) (highest_of high) room middle xs rest → FoundPart (SpellsList Spelling) (highest_of high) room ts (x ∷ xs) rest
 found_list Spelling high room ts x middle xs rest f o = record {
   front = f.front ++ o.front;
   is = f.is ∙ ap (λ us. f.front ++ us) o.is ∙ sym (append_assoc f.front o.front rest);
@@ -200,7 +200,7 @@ unfolding others
 others_sound Spelling high room item sound zero ts xs rest h = found_none Spelling high room ts xs rest h
 others_sound {X} Spelling high room item sound (suc k) ts xs rest h =
     let go_on : List Terminal → Result (List X × List Terminal) Refusal = λ after. item after >>= λ x. others item k x.1 >>= λ y. Ok (x.0 ∷ y.0, y.1) in
-    let go : (o : Option (List Terminal)) → behind_of Comma ts ≡ o → choose o (Ok ([], ts)) go_on ≡ Ok (xs, rest) → Found (SpellsOthers Spelling) (highest_of high) room ts xs rest = elim [
+    let go : (o : Option (List Terminal)) → behind_of Comma ts ≡ o → choose o (Ok ([], ts)) go_on ≡ Ok (xs, rest) → FoundPart (SpellsOthers Spelling) (highest_of high) room ts xs rest = elim [
       | None ↦ (λ c e. found_none Spelling high room ts xs rest e)
       | Some after ↦ (λ c e.
           let x = bind_ok (item after) (λ x. others item k x.1 >>= λ y. Ok (x.0 ∷ y.0, y.1)) (xs, rest) e in
@@ -225,7 +225,7 @@ unfolding entry_of
 entry_sound ts e rest h =
     let x = bind_ok (read_name ts) (λ x. alias_after x.1 >>= λ y. Ok (record { table = x.0; alias = y.0 }, y.1)) (e, rest) h in
     let y = bind_ok (alias_after x.0.1) (λ y. Ok (record { table = x.0.0; alias = y.0 }, y.1)) (e, rest) x.2 in
-    let a : Found SpellsAlias flat 0 x.0.1 y.0.0 y.0.1 = alias_sound x.0.1 y.0.0 y.0.1 y.1 in
+    let a : FoundPart SpellsAlias flat 0 x.0.1 y.0.0 y.0.1 = alias_sound x.0.1 y.0.0 y.0.1 y.1 in
     found_as SpellsEntry flat 0 ts (record { table = x.0.0; alias = y.0.0 }) e y.0.1 rest y.2 (record {
       front = t.Name x.0.0 ∷ a.front;
       is = name_is ts x.0.0 x.0.1 x.1 ∙ ap (λ us. t.Name x.0.0 ∷ us) a.is;
@@ -240,11 +240,11 @@ perhaps_sound : {X : Type 0} (words : List (List ℕ)) (Spelling : X → List Te
 unfolding perhaps_of
 perhaps_sound {X} words Spelling high high_perhaps room item sound low lows ts x rest h =
     let named : List Terminal → Result (Option X × List Terminal) Refusal = λ after. item after >>= λ y. Ok (Some y.0, y.1) in
-    let go : (o : Option (List Terminal)) → behind_words words ts ≡ o → choose o (Ok (None, ts)) named ≡ Ok (x, rest) → Found (SpellsPerhaps words Spelling) high_perhaps room ts x rest = elim [
+    let go : (o : Option (List Terminal)) → behind_words words ts ≡ o → choose o (Ok (None, ts)) named ≡ Ok (x, rest) → FoundPart (SpellsPerhaps words Spelling) high_perhaps room ts x rest = elim [
       | None ↦ (λ is e. found_as (SpellsPerhaps words Spelling) high_perhaps room ts None x ts rest e (record { front = []; is = refl; spelled = refl; low = low }))
       | Some after ↦ (λ is e.
           let y = bind_ok (item after) (λ y. Ok (Some y.0, y.1)) (x, rest) e in
-          let f : Found Spelling high room after y.0.0 y.0.1 = sound after y.0.0 y.0.1 y.1 in
+          let f : FoundPart Spelling high room after y.0.0 y.0.1 = sound after y.0.0 y.0.1 y.1 in
           found_as (SpellsPerhaps words Spelling) high_perhaps room ts (Some y.0.0) x y.0.1 rest y.2 (record {
             front = keywords words ++ f.front;
             is = words_are words ts after is ∙ ap (λ us. keywords words ++ us) f.is ∙ sym (append_assoc (keywords words) f.front y.0.1);
@@ -256,13 +256,13 @@ perhaps_sound {X} words Spelling high high_perhaps room item sound low lows ts x
 
 pub expr_sound : (room : ℕ) → Sound SpellsExpr height room (below room).whole
 expr_sound room ts e rest h =
-    let f : expr.Found 0 room ts e rest = (sounds room).whole ts e rest h in
+    let f : expr.FoundExpr 0 room ts e rest = (sounds room).whole ts e rest h in
     record { front = spelling e; is = f.spelled; spelled = record { fits = f.fits; spelled = refl }; low = f.low }
 
 pub condition_sound : (room : ℕ) (words : List (List ℕ)) → Sound (SpellsPerhaps words SpellsExpr) condition_height room (perhaps_of words (below room).whole)
 condition_sound room words = perhaps_sound words SpellsExpr height condition_height room (below room).whole (expr_sound room) (omega arith) (λ e l. l)
 
-found_listed : {X : Type 0} (words : List (List ℕ)) (Spelling : X → List Terminal → Type 0) (high : X → ℕ) (room : ℕ) (ts after : List Terminal) (xs : List X) (rest : List Terminal) → ts ≡ keywords words ++ after → Found (SpellsList Spelling) (highest_of high) room after xs rest → Found (SpellsListed words Spelling) (highest_of high) room ts xs rest
+found_listed : {X : Type 0} (words : List (List ℕ)) (Spelling : X → List Terminal → Type 0) (high : X → ℕ) (room : ℕ) (ts after : List Terminal) (xs : List X) (rest : List Terminal) → ts ≡ keywords words ++ after → FoundPart (SpellsList Spelling) (highest_of high) room after xs rest → FoundPart (SpellsListed words Spelling) (highest_of high) room ts xs rest
 found_listed words Spelling high room ts after [] rest is f = absurd f.spelled
 found_listed words Spelling high room ts after (x ∷ xs) rest is f = record {
   front = keywords words ++ f.front;
@@ -274,7 +274,7 @@ found_listed words Spelling high room ts after (x ∷ xs) rest is f = record {
 pub listed_sound : {X : Type 0} (words : List (List ℕ)) (Spelling : X → List Terminal → Type 0) (high : X → ℕ) (room : ℕ) (item : Parser X) → Sound Spelling high room item → Sound (SpellsListed words Spelling) (highest_of high) room (listed_of words item)
 unfolding listed_of
 listed_sound {X} words Spelling high room item sound ts xs rest h =
-    let go : (o : Option (List Terminal)) → behind_words words ts ≡ o → choose {B = Result (List X × List Terminal) Refusal} o (Ok ([], ts)) (list_of item) ≡ Ok (xs, rest) → Found (SpellsListed words Spelling) (highest_of high) room ts xs rest = elim [
+    let go : (o : Option (List Terminal)) → behind_words words ts ≡ o → choose {B = Result (List X × List Terminal) Refusal} o (Ok ([], ts)) (list_of item) ≡ Ok (xs, rest) → FoundPart (SpellsListed words Spelling) (highest_of high) room ts xs rest = elim [
       | None ↦ (λ is e. found_as (SpellsListed words Spelling) (highest_of high) room ts [] xs ts rest e (record { front = []; is = refl; spelled = refl; low = omega arith }))
       | Some after ↦ (λ is e. found_listed words Spelling high room ts after xs rest (words_are words ts after is) (list_sound Spelling high room item sound after xs rest e))
     ]

@@ -7,7 +7,7 @@ use Rattle.expr_grammar.specs.declared.refusal.Refusal.{Refusal}
 use Rattle.expr_grammar.specs.declared.symbols.Separator.TheVariants.{Comma}
 use Rattle.med_syntax.specs.Terminal.{Terminal}
 use Rattle.med_syntax.specs.Terminal as t
-use Rattle.expr_grammar.specs.ExprAnswers.{Gives}
+use Rattle.expr_grammar.specs.ExprAnswers.{ReadsAs}
 use Rattle.expr_grammar.specs.ExprReading.{◌>>=◌}
 use Rattle.expr_grammar.specs.ExprSteps.{behind_of}
 use Rattle.query_reader.specs.declared.query_source.JoinWay.{JoinWay}
@@ -68,7 +68,7 @@ failed_at item zero ts xs after f enough same h = absurd (omega arith)
 failed_at item (suc k) ts xs after f enough same h = same ∙ ap (after_these xs) (others_failed item k after f h)
 
 pub list_failed : {X Y Z : Type 0} (view : Y → List X × List Terminal) (seen : Z → X × List Terminal) (item : Parser X) (ts : List Terminal) (xs : List X) (rest after : List Terminal) (e : ReadFault) (r : Result Y ReadFault) →
-    ListLoop item ts xs rest → behind_of Comma rest ≡ Some after → Gives seen (Err e) (item after) → r ≡ Err e → Gives view r (list_of item ts)
+    ListLoop item ts xs rest → behind_of Comma rest ≡ Some after → ReadsAs seen (Err e) (item after) → r ≡ Err e → ReadsAs view r (list_of item ts)
 list_failed view seen item ts xs rest after faults.NoMemory r loop b h is = rw is tt
 list_failed view seen item ts xs rest after (faults.Refused f) r loop b h is =
     let e = comma_is rest after b in
@@ -78,7 +78,7 @@ start_none : {X : Type 0} (item : Parser X) (ts : List Terminal) (f : Refusal) �
 unfolding list_of
 start_none item ts f h = rw h refl
 
-pub list_unstarted : {X Y Z : Type 0} (view : Y → List X × List Terminal) (seen : Z → X × List Terminal) (item : Parser X) (ts : List Terminal) (e : ReadFault) (r : Result Y ReadFault) → Gives seen (Err e) (item ts) → r ≡ Err e → Gives view r (list_of item ts)
+pub list_unstarted : {X Y Z : Type 0} (view : Y → List X × List Terminal) (seen : Z → X × List Terminal) (item : Parser X) (ts : List Terminal) (e : ReadFault) (r : Result Y ReadFault) → ReadsAs seen (Err e) (item ts) → r ≡ Err e → ReadsAs view r (list_of item ts)
 list_unstarted view seen item ts faults.NoMemory r h is = rw is tt
 list_unstarted view seen item ts (faults.Refused f) r h is = rw is (start_none item ts f h)
 
@@ -165,6 +165,6 @@ joins_stop_at room zero ts xs rest after way f enough same p h = absurd (omega (
 joins_stop_at room (suc k) ts xs rest after way f enough same p h = same ∙ ap (after_these xs) (joins_failed_at room k rest after way f p h)
 
 pub joins_failed : {Y Z : Type 0} (view : Y → List JoinTree × List Terminal) (seen : Z → JoinTree × List Terminal) (room : ℕ) (ts : List Terminal) (xs : List JoinTree) (rest after : List Terminal) (way : JoinWay) (e : ReadFault) (r : Result Y ReadFault) →
-    JoinsLoop room ts xs rest → join_words rest ≡ Some (way, after) → Gives seen (Err e) (join_of way room after) → r ≡ Err e → Gives view r (all_joins_of room ts)
+    JoinsLoop room ts xs rest → join_words rest ≡ Some (way, after) → ReadsAs seen (Err e) (join_of way room after) → r ≡ Err e → ReadsAs view r (all_joins_of room ts)
 joins_failed view seen room ts xs rest after way faults.NoMemory r loop p h is = rw is tt
 joins_failed view seen room ts xs rest after way (faults.Refused f) r loop p h is = rw is (joins_stop_at room loop.k ts xs rest after way f loop.enough loop.same p h)

@@ -10,7 +10,7 @@ use Rattle.med_syntax.specs.QueryTree.{all, SelectTree, StatementTree, select, i
 use Rattle.query_grammar.specs.QueryGrammar.{SpellsList, SpellsItem, SpellsChain, SpellsGroup, SpellsKey, SpellsPerhaps, SpellsListed, SpellsExpr, Spells, IsEnd, IsLine}
 use Rattle.query_reader.specs.QueryReading.{Parser, seq, behind_word, flag_of, item_of, list_of, perhaps_of, listed_of, source_of, group_of, key_of, limits_of, select_of, query_of, statement_of, is_end, line_of}
 use Rattle.expr_grammar.proofs.ExprSound.{bind_ok, ok_same}
-use Rattle.query_reader.proofs.PartSound.{Found, Sound, found_as, flat, err_ok, word_is, item_sound, list_sound, condition_sound, listed_sound, FoundFlag, flag_sound}
+use Rattle.query_reader.proofs.PartSound.{FoundPart, Sound, found_as, flat, err_ok, word_is, item_sound, list_sound, condition_sound, listed_sound, FoundFlag, flag_sound}
 use Rattle.query_reader.proofs.ClauseSound.{chain_sound, group_sound, key_sound, SpellsCut, limits_sound}
 
 -- ---- statements
@@ -27,13 +27,13 @@ record Parts (room : ℕ) (ts : List Terminal) (q : SelectTree) (rest : List Ter
   d : List Terminal
   e : List Terminal
   f : List Terminal
-  items : Found (SpellsList SpellsItem) (highest_of item_height) room ts q.items a
-  from : Found (SpellsListed (codes "from" ∷ []) SpellsChain) (highest_of chain_height) room a q.from b
-  condition : Found (SpellsPerhaps (codes "where" ∷ []) SpellsExpr) condition_height room b q.condition c
-  groups : Found (SpellsListed (codes "group" ∷ codes "by" ∷ []) SpellsGroup) (highest_of flat) room c q.groups d
-  having : Found (SpellsPerhaps (codes "having" ∷ []) SpellsExpr) condition_height room d q.having e
-  keys : Found (SpellsListed (codes "order" ∷ codes "by" ∷ []) SpellsKey) (highest_of key_height) room e q.keys f
-  limits : Found SpellsCut flat 0 f (q.limit, q.offset) rest
+  items : FoundPart (SpellsList SpellsItem) (highest_of item_height) room ts q.items a
+  from : FoundPart (SpellsListed (codes "from" ∷ []) SpellsChain) (highest_of chain_height) room a q.from b
+  condition : FoundPart (SpellsPerhaps (codes "where" ∷ []) SpellsExpr) condition_height room b q.condition c
+  groups : FoundPart (SpellsListed (codes "group" ∷ codes "by" ∷ []) SpellsGroup) (highest_of flat) room c q.groups d
+  having : FoundPart (SpellsPerhaps (codes "having" ∷ []) SpellsExpr) condition_height room d q.having e
+  keys : FoundPart (SpellsListed (codes "order" ∷ codes "by" ∷ []) SpellsKey) (highest_of key_height) room e q.keys f
+  limits : FoundPart SpellsCut flat 0 f (q.limit, q.offset) rest
 
 record Quantified (room : ℕ) (distinct : Bool) (ts : List Terminal) (q : SelectTree) (rest : List Terminal) : Type 0 where
   same : q.distinct ≡ distinct
@@ -73,7 +73,7 @@ select_parts distinct room ts q rest h =
 joined : (a b ts us rest : List Terminal) → ts ≡ a ++ us → us ≡ b ++ rest → ts ≡ (a ++ b) ++ rest
 joined a b ts us rest p q = p ∙ ap (λ vs. a ++ vs) q ∙ sym (append_assoc a b rest)
 
-found_select : (room : ℕ) (ts after middle rest : List Terminal) (q : SelectTree) → ts ≡ t.Reserved (codes "select") ∷ after → FoundFlag (codes "distinct") (codes "all") after q.distinct middle → Parts room middle q rest → Found Spells statement_height room ts (select q) rest
+found_select : (room : ℕ) (ts after middle rest : List Terminal) (q : SelectTree) → ts ≡ t.Reserved (codes "select") ∷ after → FoundFlag (codes "distinct") (codes "all") after q.distinct middle → Parts room middle q rest → FoundPart Spells statement_height room ts (select q) rest
 found_select room ts after middle rest q p d k =
     let g6 = joined k.keys.front k.limits.front k.e k.f rest k.keys.is k.limits.is in
     let g5 = joined k.having.front (k.keys.front ++ k.limits.front) k.d k.e rest k.having.is g6 in
@@ -107,7 +107,7 @@ found_select room ts after middle rest q p d k =
       low = omega (arith, k.items.low, k.from.low, k.condition.low, k.having.low, k.keys.low);
     }
 
-query_sound : (room : ℕ) (ts after : List Terminal) (q : SelectTree) (rest : List Terminal) → ts ≡ t.Reserved (codes "select") ∷ after → query_of room after ≡ Ok (q, rest) → Found Spells statement_height room ts (select q) rest
+query_sound : (room : ℕ) (ts after : List Terminal) (q : SelectTree) (rest : List Terminal) → ts ≡ t.Reserved (codes "select") ∷ after → query_of room after ≡ Ok (q, rest) → FoundPart Spells statement_height room ts (select q) rest
 unfolding query_of
 query_sound room ts after q rest p h =
     let d : Bool × List Terminal = flag_of (codes "distinct") (codes "all") after in
@@ -118,7 +118,7 @@ pub statement_sound : (room : ℕ) → Sound Spells statement_height room (state
 unfolding statement_of
 statement_sound room ts s rest h =
     let named : List Terminal → Result (StatementTree × List Terminal) Refusal = λ after. query_of room after >>= λ x. Ok (select x.0, x.1) in
-    let go : (o : Option (List Terminal)) → behind_word (codes "select") ts ≡ o → choose o (Err Syntax) named ≡ Ok (s, rest) → Found Spells statement_height room ts s rest = elim [
+    let go : (o : Option (List Terminal)) → behind_word (codes "select") ts ≡ o → choose o (Err Syntax) named ≡ Ok (s, rest) → FoundPart Spells statement_height room ts s rest = elim [
       | None ↦ (λ is e. absurd (err_ok Syntax (s, rest) e))
       | Some after ↦ (λ is e.
           let x = bind_ok (query_of room after) (λ x. Ok (select x.0, x.1)) (s, rest) e in
@@ -137,6 +137,6 @@ pub line_sound : (room : ℕ) (ts : List Terminal) (s : StatementTree) → line_
 unfolding line_of
 line_sound room ts s h =
     let x = bind_ok (statement_of room ts) (λ x. cond (is_end x.1) (Ok x.0) (Err Syntax)) s h in
-    let f : Found Spells statement_height room ts x.0.0 x.0.1 = statement_sound room ts x.0.0 x.0.1 x.1 in
+    let f : FoundPart Spells statement_height room ts x.0.0 x.0.1 = statement_sound room ts x.0.0 x.0.1 x.1 in
     let e = end_sound x.0.1 x.0.0 s x.2 in
     ((f.front, x.0.1, f.is, subst (λ r. Spells r f.front) e.1 f.spelled, e.0), subst (λ r. statement_height r ≤ room) e.1 f.low)

@@ -5,11 +5,11 @@ use Rattle.expr_grammar.specs.declared.refusal.ReadFault.{ReadFault}
 use Rattle.expr_grammar.specs.declared.refusal.ReadFault.TheVariants as faults
 use Rattle.expr_grammar.specs.declared.refusal.Refusal.{Refusal}
 use Rattle.med_syntax.specs.Terminal.{Terminal}
-use Rattle.expr_grammar.specs.ExprAnswers.{Gives}
+use Rattle.expr_grammar.specs.ExprAnswers.{ReadsAs}
 use Rattle.query_reader.specs.QueryReading.{Parser, seq}
 
 -- where the first part was read, what is returned of the others
-pub seq_goes : {X Y V : Type 0} (view : V → Y × List Terminal) (first : Parser X) (next : X → Parser Y) (ts : List Terminal) (x : X) (middle : List Terminal) (r : Result V ReadFault) → first ts ≡ Ok (x, middle) → Gives view r (next x middle) → Gives view r (seq first next ts)
+pub seq_goes : {X Y V : Type 0} (view : V → Y × List Terminal) (first : Parser X) (next : X → Parser Y) (ts : List Terminal) (x : X) (middle : List Terminal) (r : Result V ReadFault) → first ts ≡ Ok (x, middle) → ReadsAs view r (next x middle) → ReadsAs view r (seq first next ts)
 unfolding seq
 seq_goes view first next ts x middle r h g = rw h g
 
@@ -23,6 +23,6 @@ unfolding seq
 seq_reads first next ts x middle w h g = rw h g
 
 -- where the first part was refused, its refusal
-pub seq_fails : {X Y V : Type 0} (view : V → Y × List Terminal) (first : Parser X) (next : X → Parser Y) (ts : List Terminal) (e : ReadFault) (r : Result V ReadFault) → Gives (λ (x : X × List Terminal). x) (Err e) (first ts) → r ≡ Err e → Gives view r (seq first next ts)
+pub seq_fails : {X Y V : Type 0} (view : V → Y × List Terminal) (first : Parser X) (next : X → Parser Y) (ts : List Terminal) (e : ReadFault) (r : Result V ReadFault) → ReadsAs (λ (x : X × List Terminal). x) (Err e) (first ts) → r ≡ Err e → ReadsAs view r (seq first next ts)
 seq_fails view first next ts faults.NoMemory r h is = rw is tt
 seq_fails view first next ts (faults.Refused f) r h is = rw is (seq_err first next ts f h)

@@ -1,7 +1,7 @@
 -- Reading statements by recursive descent, on lists of terminals, with room for the height of each expression.
 use Rattle.std.specs.Prelude.{ℕ, zero, suc, Bool, true, false, cond, nat_le, List, [], ◌∷◌, length, codes, Result, Ok, Err, Option, Some, None}
 use Rattle.std.specs.Str.{bytes_eq}
-use Rattle.med_syntax.specs.declared.expr.BinaryOp.TheVariants.{Mul}
+use Rattle.med_syntax.specs.declared.expr.Operation.TheVariants.{Multiply}
 use Rattle.expr_grammar.specs.declared.refusal.Refusal.{Refusal}
 use Rattle.expr_grammar.specs.declared.refusal.Refusal.TheVariants.{Syntax}
 use Rattle.expr_grammar.specs.declared.symbols.Separator.TheVariants.{Comma}
@@ -63,8 +63,8 @@ unfoldable pub value_of : ℕ → Parser ItemTree
 value_of room ts = (below room).whole ts >>= λ x. label_after x.1 >>= λ y. Ok (value x.0 y.0, y.1)
 
 abbrev pub item_of : ℕ → Parser ItemTree
-item_of room (t.Binary Mul ∷ ts) = Ok (all, ts)
-item_of room (t.Name q ∷ t.Dot ∷ t.Binary Mul ∷ ts) = Ok (all_of q, ts)
+item_of room (t.Binary Multiply ∷ ts) = Ok (all, ts)
+item_of room (t.Name q ∷ t.Dot ∷ t.Binary Multiply ∷ ts) = Ok (all_of q, ts)
 item_of room ts = value_of room ts
 
 -- {, x}, of at most as many as the number

@@ -1,6 +1,6 @@
 //! GROUP BY, ORDER BY, LIMIT and OFFSET, by recursive descent.
 
-ghost use Rattle.expr_grammar.specs.ExprAnswers.{Gives};
+ghost use Rattle.expr_grammar.specs.ExprAnswers.{ReadsAs};
 ghost use Rattle.expr_grammar.specs.SymbolView.{terminals_of};
 ghost use Rattle.med_syntax.specs.ExprView.{expr_tree};
 ghost use Rattle.med_syntax.specs.QueryView.{group_tree, key_tree, limit_tree};
@@ -33,7 +33,7 @@ pub fn flag<'a>(one: &str, other: &str, symbols: &'a [Symbol]) -> (bool, &'a [Sy
 
 /// The column at the front, and the symbols behind it.
 fn group(symbols: &[Symbol]) -> Result<(GroupColumn, &[Symbol]), ReadFault>
-    ensures { Gives (λ x. (group_tree x.0, terminals_of x.1.now)) result (reading.group_of (terminals_of symbols.now)) }
+    ensures { ReadsAs (λ x. (group_tree x.0, terminals_of x.1.now)) result (reading.group_of (terminals_of symbols.now)) }
 {
     match symbols {
         [
@@ -64,7 +64,7 @@ fn group(symbols: &[Symbol]) -> Result<(GroupColumn, &[Symbol]), ReadFault>
 
 /// The columns at the front, with a comma between each two, and the symbols behind them.
 fn group_list(alloc: Global, symbols: &[Symbol]) -> Result<(Vec<GroupColumn>, &[Symbol]), ReadFault>
-    ensures { Gives (λ x. (map group_tree x.0.items, terminals_of x.1.now))
+    ensures { ReadsAs (λ x. (map group_tree x.0.items, terminals_of x.1.now))
         result (reading.list_of reading.group_of (terminals_of symbols.now)) }
 {
     let mut list = Vec::new(alloc);
@@ -82,7 +82,7 @@ fn group_list(alloc: Global, symbols: &[Symbol]) -> Result<(Vec<GroupColumn>, &[
 /// The columns behind GROUP BY; none where it is not written.
 #[tactic(auto, unfolding(crate::specs::QueryReading::listed_of))]
 pub fn groups(alloc: Global, symbols: &[Symbol]) -> Result<(Vec<GroupColumn>, &[Symbol]), ReadFault>
-    ensures { Gives (λ x. (map group_tree x.0.items, terminals_of x.1.now))
+    ensures { ReadsAs (λ x. (map group_tree x.0.items, terminals_of x.1.now))
         result (reading.listed_of (codes "group" ∷ codes "by" ∷ []) reading.group_of (terminals_of symbols.now)) }
 {
     match behind_two("group", "by", symbols) {
@@ -128,7 +128,7 @@ fn directed(key: Expr, symbols: &[Symbol]) -> (OrderKey, &[Symbol])
 #[tactic(auto, unfolding(crate::specs::QueryReading::key_of))]
 fn key(alloc: Global, room: u32, symbols: &[Symbol]) -> Result<(OrderKey, &[Symbol]), ReadFault>
     requires { room < 1000 }
-    ensures { Gives (λ x. (key_tree x.0, terminals_of x.1.now)) result (reading.key_of room (terminals_of symbols.now)) }
+    ensures { ReadsAs (λ x. (key_tree x.0, terminals_of x.1.now)) result (reading.key_of room (terminals_of symbols.now)) }
 {
     let found = whole(alloc, room, symbols)?;
     Ok(directed(found.expr, found.rest))
@@ -141,7 +141,7 @@ fn key_list(
     symbols: &[Symbol],
 ) -> Result<(Vec<OrderKey>, &[Symbol]), ReadFault>
     requires { room < 1000 }
-    ensures { Gives (λ x. (map key_tree x.0.items, terminals_of x.1.now))
+    ensures { ReadsAs (λ x. (map key_tree x.0.items, terminals_of x.1.now))
         result (reading.list_of (reading.key_of room) (terminals_of symbols.now)) }
 {
     let mut list = Vec::new(alloc);
@@ -164,7 +164,7 @@ pub fn keys(
     symbols: &[Symbol],
 ) -> Result<(Vec<OrderKey>, &[Symbol]), ReadFault>
     requires { room < 1000 }
-    ensures { Gives (λ x. (map key_tree x.0.items, terminals_of x.1.now))
+    ensures { ReadsAs (λ x. (map key_tree x.0.items, terminals_of x.1.now))
         result (reading.listed_of (codes "order" ∷ codes "by" ∷ []) (reading.key_of room) (terminals_of symbols.now)) }
 {
     match behind_two("order", "by", symbols) {
@@ -177,7 +177,7 @@ pub fn keys(
 
 /// The number at the front, and the symbols behind it.
 fn number(symbols: &[Symbol]) -> Result<(u64, &[Symbol]), ReadFault>
-    ensures { Gives (λ x. (x.0, terminals_of x.1.now)) result (reading.number_of (terminals_of symbols.now)) }
+    ensures { ReadsAs (λ x. (x.0, terminals_of x.1.now)) result (reading.number_of (terminals_of symbols.now)) }
 {
     match symbols {
         [Symbol::Number(number), rest @ ..] => Ok((*number, rest)),
@@ -188,7 +188,7 @@ fn number(symbols: &[Symbol]) -> Result<(u64, &[Symbol]), ReadFault>
 /// The limit behind LIMIT.
 #[tactic(auto, unfolding(crate::specs::QueryReading::limit_at))]
 fn limit_at(symbols: &[Symbol]) -> Result<(Option<Limit>, &[Symbol]), ReadFault>
-    ensures { Gives (λ x. (option_map limit_tree x.0, terminals_of x.1.now)) result (reading.limit_at (terminals_of symbols.now)) }
+    ensures { ReadsAs (λ x. (option_map limit_tree x.0, terminals_of x.1.now)) result (reading.limit_at (terminals_of symbols.now)) }
 {
     match behind_word("all", symbols) {
         Some(after) => Ok((Some(Limit::All), after)),
@@ -202,7 +202,7 @@ fn limit_at(symbols: &[Symbol]) -> Result<(Option<Limit>, &[Symbol]), ReadFault>
 /// The limit, where LIMIT stands in front.
 #[tactic(auto, unfolding(crate::specs::QueryReading::limit_of))]
 fn limit(symbols: &[Symbol]) -> Result<(Option<Limit>, &[Symbol]), ReadFault>
-    ensures { Gives (λ x. (option_map limit_tree x.0, terminals_of x.1.now)) result (reading.limit_of (terminals_of symbols.now)) }
+    ensures { ReadsAs (λ x. (option_map limit_tree x.0, terminals_of x.1.now)) result (reading.limit_of (terminals_of symbols.now)) }
 {
     match behind_word("limit", symbols) {
         Some(after) => limit_at(after),
@@ -227,7 +227,7 @@ fn behind_unit(symbols: &[Symbol]) -> &[Symbol]
 /// How many rows are left out, where OFFSET stands in front.
 #[tactic(auto, unfolding(crate::specs::QueryReading::offset_of))]
 fn offset(symbols: &[Symbol]) -> Result<(Option<u64>, &[Symbol]), ReadFault>
-    ensures { Gives (λ x. (x.0, terminals_of x.1.now)) result (reading.offset_of (terminals_of symbols.now)) }
+    ensures { ReadsAs (λ x. (x.0, terminals_of x.1.now)) result (reading.offset_of (terminals_of symbols.now)) }
 {
     match behind_word("offset", symbols) {
         Some(after) => {
@@ -243,7 +243,7 @@ fn limit_after(
     before: Option<Limit>,
     symbols: &[Symbol],
 ) -> Result<(Option<Limit>, &[Symbol]), ReadFault>
-    ensures { Gives (λ x. (option_map limit_tree x.0, terminals_of x.1.now))
+    ensures { ReadsAs (λ x. (option_map limit_tree x.0, terminals_of x.1.now))
         result (reading.limit_after (option_map limit_tree before) (terminals_of symbols.now)) }
 {
     match before {
@@ -255,7 +255,8 @@ fn limit_after(
 /// LIMIT and OFFSET in either order, and the symbols behind them.
 #[tactic(auto, unfolding(crate::specs::QueryReading::limits_of))]
 pub fn limits(symbols: &[Symbol]) -> Result<(Option<Limit>, Option<u64>, &[Symbol]), ReadFault>
-    ensures { Gives (λ x. ((option_map limit_tree x.0, x.1), terminals_of x.2.now)) result (reading.limits_of (terminals_of symbols.now)) }
+    ensures { ReadsAs (λ x. ((option_map limit_tree x.0, x.1), terminals_of x.2.now)) result
+        (reading.limits_of (terminals_of symbols.now)) }
 {
     let (before, rest) = limit(symbols)?;
     let (offset, rest) = offset(rest)?;

@@ -1,6 +1,6 @@
 //! What stands behind FROM, by recursive descent.
 
-ghost use Rattle.expr_grammar.specs.ExprAnswers.{Gives};
+ghost use Rattle.expr_grammar.specs.ExprAnswers.{ReadsAs};
 ghost use Rattle.expr_grammar.specs.SymbolView.{terminals_of};
 ghost use Rattle.med_syntax.specs.ExprView.{expr_tree};
 ghost use Rattle.med_syntax.specs.QueryView.{chain_tree, entry_tree, join_tree};
@@ -26,7 +26,7 @@ pub enum JoinWay {
 /// The name that a table has in the statement, where it has one of its own.
 #[tactic(auto, unfolding(crate::specs::QueryReading::alias_after))]
 fn alias(symbols: &[Symbol]) -> Result<(Option<String>, &[Symbol]), ReadFault>
-    ensures { Gives (λ x. (option_map string_bytes x.0, terminals_of x.1.now)) result (reading.alias_after (terminals_of symbols.now)) }
+    ensures { ReadsAs (λ x. (option_map string_bytes x.0, terminals_of x.1.now)) result (reading.alias_after (terminals_of symbols.now)) }
 {
     match behind_word("as", symbols) {
         Some(after) => {
@@ -40,7 +40,7 @@ fn alias(symbols: &[Symbol]) -> Result<(Option<String>, &[Symbol]), ReadFault>
 /// The entry at the front, and the symbols behind it.
 #[tactic(auto, unfolding(crate::specs::QueryReading::entry_of))]
 fn entry(symbols: &[Symbol]) -> Result<(Entry, &[Symbol]), ReadFault>
-    ensures { Gives (λ x. (entry_tree x.0, terminals_of x.1.now)) result (reading.entry_of (terminals_of symbols.now)) }
+    ensures { ReadsAs (λ x. (entry_tree x.0, terminals_of x.1.now)) result (reading.entry_of (terminals_of symbols.now)) }
 {
     let (table, rest) = name(symbols)?;
     let (alias, rest) = alias(rest)?;
@@ -78,7 +78,8 @@ fn entry_on(
     symbols: &[Symbol],
 ) -> Result<(Entry, Expr, &[Symbol]), ReadFault>
     requires { room < 1000 }
-    ensures { Gives (λ x. ((entry_tree x.0, expr_tree x.1), terminals_of x.2.now)) result (reading.on_of room (terminals_of symbols.now)) }
+    ensures { ReadsAs (λ x. ((entry_tree x.0, expr_tree x.1), terminals_of x.2.now)) result
+        (reading.on_of room (terminals_of symbols.now)) }
 {
     let (entry, rest) = entry(symbols)?;
     match behind_word("on", rest) {
@@ -98,7 +99,7 @@ fn join(
     symbols: &[Symbol],
 ) -> Result<(Join, &[Symbol]), ReadFault>
     requires { room < 1000 }
-    ensures { Gives (λ x. (join_tree x.0, terminals_of x.1.now)) result (reading.join_of way room (terminals_of symbols.now)) }
+    ensures { ReadsAs (λ x. (join_tree x.0, terminals_of x.1.now)) result (reading.join_of way room (terminals_of symbols.now)) }
 {
     match way {
         JoinWay::Inner => {
@@ -120,7 +121,7 @@ fn join(
 #[tactic(auto, unfolding(crate::specs::QueryReading::all_joins_of))]
 fn joins(alloc: Global, room: u32, symbols: &[Symbol]) -> Result<(Vec<Join>, &[Symbol]), ReadFault>
     requires { room < 1000 }
-    ensures { Gives (λ x. (map join_tree x.0.items, terminals_of x.1.now)) result (reading.all_joins_of room (terminals_of symbols.now)) }
+    ensures { ReadsAs (λ x. (map join_tree x.0.items, terminals_of x.1.now)) result (reading.all_joins_of room (terminals_of symbols.now)) }
 {
     let mut list = Vec::new(alloc);
     let mut rest = symbols;
@@ -136,7 +137,7 @@ fn joins(alloc: Global, room: u32, symbols: &[Symbol]) -> Result<(Vec<Join>, &[S
 #[tactic(auto, unfolding(crate::specs::QueryReading::source_of))]
 fn chain(alloc: Global, room: u32, symbols: &[Symbol]) -> Result<(Chain, &[Symbol]), ReadFault>
     requires { room < 1000 }
-    ensures { Gives (λ x. (chain_tree x.0, terminals_of x.1.now)) result (reading.source_of room (terminals_of symbols.now)) }
+    ensures { ReadsAs (λ x. (chain_tree x.0, terminals_of x.1.now)) result (reading.source_of room (terminals_of symbols.now)) }
 {
     let (first, rest) = entry(symbols)?;
     let (joins, rest) = joins(alloc, room, rest)?;
@@ -150,7 +151,7 @@ fn chain_list(
     symbols: &[Symbol],
 ) -> Result<(Vec<Chain>, &[Symbol]), ReadFault>
     requires { room < 1000 }
-    ensures { Gives (λ x. (map chain_tree x.0.items, terminals_of x.1.now))
+    ensures { ReadsAs (λ x. (map chain_tree x.0.items, terminals_of x.1.now))
         result (reading.list_of (reading.source_of room) (terminals_of symbols.now)) }
 {
     let mut list = Vec::new(alloc);
@@ -173,7 +174,7 @@ pub fn chains(
     symbols: &[Symbol],
 ) -> Result<(Vec<Chain>, &[Symbol]), ReadFault>
     requires { room < 1000 }
-    ensures { Gives (λ x. (map chain_tree x.0.items, terminals_of x.1.now))
+    ensures { ReadsAs (λ x. (map chain_tree x.0.items, terminals_of x.1.now))
         result (reading.listed_of (codes "from" ∷ []) (reading.source_of room) (terminals_of symbols.now)) }
 {
     match behind_word("from", symbols) {

@@ -1,6 +1,6 @@
 //! Statements, by recursive descent.
 
-ghost use Rattle.expr_grammar.specs.ExprAnswers.{Gives};
+ghost use Rattle.expr_grammar.specs.ExprAnswers.{ReadsAs};
 ghost use Rattle.expr_grammar.specs.ExprReading.{below};
 ghost use Rattle.expr_grammar.specs.SymbolView.{terminal_of_symbol, terminals_of};
 ghost use Rattle.med_syntax.specs.ExprView.{expr_tree};
@@ -15,7 +15,7 @@ use crate::query_source::chains;
 use expr_grammar::refusal::{ReadFault, Refusal};
 use expr_grammar::symbols::{Separator, Symbol, behind};
 use expr_reader::whole;
-use med_syntax::{BinaryOp, Expr, Item, Joint, Select, Statement, is_reserved};
+use med_syntax::{Expr, Item, Joint, Operation, Select, Statement, is_reserved};
 use std::alloc::Global;
 
 /// The symbols behind the keyword, where it comes first.
@@ -56,7 +56,7 @@ pub fn behind_three<'a>(
 
 /// The name at the front, and the symbols behind it.
 pub fn name(symbols: &[Symbol]) -> Result<(String, &[Symbol]), ReadFault>
-    ensures { Gives (λ x. (string_bytes x.0, terminals_of x.1.now)) result (reading.read_name (terminals_of symbols.now)) }
+    ensures { ReadsAs (λ x. (string_bytes x.0, terminals_of x.1.now)) result (reading.read_name (terminals_of symbols.now)) }
 {
     match symbols {
         [Symbol::Name(name), rest @ ..] => Ok((name.clone()?, rest)),
@@ -66,7 +66,7 @@ pub fn name(symbols: &[Symbol]) -> Result<(String, &[Symbol]), ReadFault>
 
 /// The name at the front, where there is one.
 pub fn perhaps_name(symbols: &[Symbol]) -> Result<(Option<String>, &[Symbol]), ReadFault>
-    ensures { Gives (λ x. (option_map string_bytes x.0, terminals_of x.1.now)) result (reading.perhaps_name (terminals_of symbols.now)) }
+    ensures { ReadsAs (λ x. (option_map string_bytes x.0, terminals_of x.1.now)) result (reading.perhaps_name (terminals_of symbols.now)) }
 {
     match symbols {
         [Symbol::Name(name), rest @ ..] => Ok((Some(name.clone()?), rest)),
@@ -97,7 +97,7 @@ fn word_of(symbol: &Symbol) -> Option<&str>
 
 /// The label behind AS.
 fn label_at(alloc: Global, symbols: &[Symbol]) -> Result<(Option<String>, &[Symbol]), ReadFault>
-    ensures { Gives (λ x. (option_map string_bytes x.0, terminals_of x.1.now)) result (reading.label_at (terminals_of symbols.now)) }
+    ensures { ReadsAs (λ x. (option_map string_bytes x.0, terminals_of x.1.now)) result (reading.label_at (terminals_of symbols.now)) }
 {
     let [symbol, rest @ ..] = symbols else {
         return Err(ReadFault::Refused(Refusal::Syntax));
@@ -111,7 +111,7 @@ fn label_at(alloc: Global, symbols: &[Symbol]) -> Result<(Option<String>, &[Symb
 /// The label of an item: behind AS any word or a name, and else perhaps a name.
 #[tactic(auto, unfolding(crate::specs::QueryReading::label_after))]
 fn label(alloc: Global, symbols: &[Symbol]) -> Result<(Option<String>, &[Symbol]), ReadFault>
-    ensures { Gives (λ x. (option_map string_bytes x.0, terminals_of x.1.now)) result (reading.label_after (terminals_of symbols.now)) }
+    ensures { ReadsAs (λ x. (option_map string_bytes x.0, terminals_of x.1.now)) result (reading.label_after (terminals_of symbols.now)) }
 {
     match behind_word("as", symbols) {
         Some(after) => label_at(alloc, after),
@@ -123,7 +123,7 @@ fn label(alloc: Global, symbols: &[Symbol]) -> Result<(Option<String>, &[Symbol]
 #[tactic(auto, unfolding(crate::specs::QueryReading::value_of))]
 fn value(alloc: Global, room: u32, symbols: &[Symbol]) -> Result<(Item, &[Symbol]), ReadFault>
     requires { room < 1000 }
-    ensures { Gives (λ x. (item_tree x.0, terminals_of x.1.now)) result (reading.value_of room (terminals_of symbols.now)) }
+    ensures { ReadsAs (λ x. (item_tree x.0, terminals_of x.1.now)) result (reading.value_of room (terminals_of symbols.now)) }
 {
     let found = whole(alloc, room, symbols)?;
     let (label, rest) = label(alloc, found.rest)?;
@@ -134,14 +134,14 @@ fn value(alloc: Global, room: u32, symbols: &[Symbol]) -> Result<(Item, &[Symbol
 #[tactic(auto)]
 fn item(alloc: Global, room: u32, symbols: &[Symbol]) -> Result<(Item, &[Symbol]), ReadFault>
     requires { room < 1000 }
-    ensures { Gives (λ x. (item_tree x.0, terminals_of x.1.now)) result (reading.item_of room (terminals_of symbols.now)) }
+    ensures { ReadsAs (λ x. (item_tree x.0, terminals_of x.1.now)) result (reading.item_of room (terminals_of symbols.now)) }
 {
     match symbols {
-        [Symbol::Binary(BinaryOp::Mul), rest @ ..] => Ok((Item::All, rest)),
+        [Symbol::Binary(Operation::Multiply), rest @ ..] => Ok((Item::All, rest)),
         [
             Symbol::Name(name),
             Symbol::Dot,
-            Symbol::Binary(BinaryOp::Mul),
+            Symbol::Binary(Operation::Multiply),
             rest @ ..,
         ] => Ok((Item::AllOf(name.clone()?), rest)),
         _ => value(alloc, room, symbols),
@@ -151,7 +151,7 @@ fn item(alloc: Global, room: u32, symbols: &[Symbol]) -> Result<(Item, &[Symbol]
 /// The items at the front, with a comma between each two, and the symbols behind them.
 fn items(alloc: Global, room: u32, symbols: &[Symbol]) -> Result<(Vec<Item>, &[Symbol]), ReadFault>
     requires { room < 1000 }
-    ensures { Gives (λ x. (items_tree x.0.items, terminals_of x.1.now))
+    ensures { ReadsAs (λ x. (items_tree x.0.items, terminals_of x.1.now))
         result (reading.list_of (reading.item_of room) (terminals_of symbols.now)) }
 {
     let mut list = Vec::new(alloc);
@@ -175,7 +175,7 @@ fn clause<'a>(
     symbols: &'a [Symbol],
 ) -> Result<(Option<Expr>, &'a [Symbol]), ReadFault>
     requires { room < 1000 }
-    ensures { Gives (λ x. (option_map expr_tree x.0, terminals_of x.1.now))
+    ensures { ReadsAs (λ x. (option_map expr_tree x.0, terminals_of x.1.now))
         result (reading.perhaps_of (word.now ∷ []) (below room).whole (terminals_of symbols.now)) }
 {
     match behind_word(word, symbols) {
@@ -196,7 +196,7 @@ fn select(
     symbols: &[Symbol],
 ) -> Result<(Select, &[Symbol]), ReadFault>
     requires { room < 1000 }
-    ensures { Gives (λ x. (select_tree x.0, terminals_of x.1.now)) result (reading.select_of distinct room (terminals_of symbols.now)) }
+    ensures { ReadsAs (λ x. (select_tree x.0, terminals_of x.1.now)) result (reading.select_of distinct room (terminals_of symbols.now)) }
 {
     let (items, rest) = items(alloc, room, symbols)?;
     let (from, rest) = chains(alloc, room, rest)?;
@@ -225,7 +225,7 @@ fn select(
 #[tactic(auto, unfolding(crate::specs::QueryReading::query_of))]
 fn query(alloc: Global, room: u32, symbols: &[Symbol]) -> Result<(Select, &[Symbol]), ReadFault>
     requires { room < 1000 }
-    ensures { Gives (λ x. (select_tree x.0, terminals_of x.1.now)) result (reading.query_of room (terminals_of symbols.now)) }
+    ensures { ReadsAs (λ x. (select_tree x.0, terminals_of x.1.now)) result (reading.query_of room (terminals_of symbols.now)) }
 {
     let (distinct, rest) = flag("distinct", "all", symbols);
     select(alloc, distinct, room, rest)
@@ -239,7 +239,7 @@ fn statement(
     symbols: &[Symbol],
 ) -> Result<(Statement, &[Symbol]), ReadFault>
     requires { room < 1000 }
-    ensures { Gives (λ x. (statement_tree x.0, terminals_of x.1.now)) result (reading.statement_of room (terminals_of symbols.now)) }
+    ensures { ReadsAs (λ x. (statement_tree x.0, terminals_of x.1.now)) result (reading.statement_of room (terminals_of symbols.now)) }
 {
     match behind_word("select", symbols) {
         Some(after) => {
@@ -261,7 +261,7 @@ fn is_end(symbols: &[Symbol]) -> bool
 #[tactic(auto, unfolding(crate::specs::QueryReading::line_of))]
 pub fn line(alloc: Global, room: u32, symbols: &[Symbol]) -> Result<Statement, ReadFault>
     requires { room < 1000 }
-    ensures { Gives statement_tree result (reading.line_of room (terminals_of symbols.now)) }
+    ensures { ReadsAs statement_tree result (reading.line_of room (terminals_of symbols.now)) }
 {
     let (statement, rest) = statement(alloc, room, symbols)?;
     if is_end(rest) {

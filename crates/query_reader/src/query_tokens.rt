@@ -1,6 +1,6 @@
 //! Tokens to statements.
 
-ghost use Rattle.expr_grammar.specs.ExprAnswers.{Gives};
+ghost use Rattle.expr_grammar.specs.ExprAnswers.{ReadsAs};
 ghost use Rattle.expr_grammar.specs.ExprTerminals.{AreReadable};
 ghost use Rattle.expr_grammar.specs.SymbolView.{terminals_of};
 ghost use Rattle.expr_grammar.specs.View.{shapes_of};
@@ -21,7 +21,7 @@ use std::alloc::Global;
 /// The statement that all of the symbols are. Where few of them are heavy, what is told to be too high is a statement.
 #[tactic(auto, unfolding(crate::specs::QueryReading::bounded_line))]
 fn bounded(alloc: Global, symbols: &[Symbol]) -> Result<Statement, ReadFault>
-    ensures { Gives statement_tree result (bounded_line (terminals_of symbols.now)) }
+    ensures { ReadsAs statement_tree result (bounded_line (terminals_of symbols.now)) }
 {
     match line(alloc, MAX_HEIGHT, symbols) {
         Err(ReadFault::Refused(Refusal::TooHigh)) => {
@@ -42,7 +42,7 @@ fn bounded(alloc: Global, symbols: &[Symbol]) -> Result<Statement, ReadFault>
 /// The statement that all of the tokens are.
 pub fn statement_of(alloc: Global, tokens: &[Token]) -> Result<Statement, ReadFault>
     requires { AreReadable (shapes_of tokens.now) }
-    ensures { Gives statement_tree result (bounded_line (words_at (Place.Before false) false (shapes_of tokens.now))) }
+    ensures { ReadsAs statement_tree result (bounded_line (words_at (Place.Before false) false (shapes_of tokens.now))) }
 {
     let symbols = words_of(alloc, tokens)?;
     bounded(alloc, &symbols)

@@ -4,9 +4,9 @@ use Rattle.std.proofs.lemmas.List.{length-map}
 use Rattle.med_value.specs.declared.value.ColType.{ColType}
 use Rattle.med_query.specs.Select.{is_safe_from}
 use Rattle.med_query.specs.declared.select.Select.{Select}
-use Rattle.fdw_api.specs.Kinds.{Column, Setting}
-use Rattle.fdw_api.specs.Scan.{Filter, spec_of, plain_spec, filter_of, params_fit}
-use Rattle.fdw_api.specs.State.{Bound, Ledger, BoxState, table_of, set_at}
+use Rattle.fdw_api.specs.Kinds.{Column, OptionForm}
+use Rattle.fdw_api.specs.Scan.{RestrictionForm, spec_of, plain_spec, restriction_form, params_fit}
+use Rattle.fdw_api.specs.State.{BoxTable, Ledger, BoxState, table_of, set_at}
 use Rattle.fdw_api.specs.Calls.{Binds, Allows, CanBegin}
 use Rattle.med_value.specs.declared.value.TableNo.{TableNo}
 use Rattle.fdw_api.specs.declared.scan.Agree.{Agree}
@@ -21,12 +21,12 @@ set_same : {A : Type 0} (f : ℕ → A) (k : ℕ) (a : A) → set_at f k a k ≡
 set_same f k a = search rules
 
 -- a table that was bound is there
-pub bound_table : (old new : BoxState) (remote : List ℕ) (columns : List Column) (settings : List Setting) (t : ℕ) → Binds old remote columns settings t new → IsSome (table_of new t)
+pub bound_table : (old new : BoxState) (remote : List ℕ) (columns : List Column) (settings : List OptionForm) (t : ℕ) → Binds old remote columns settings t new → IsSome (table_of new t)
 bound_table old new remote columns settings t b = subst IsSome (sym (ap (λ (z : Ledger). z.tables t) b.ledger ∙ set_same old.ledger.tables t (Some b.bound))) refl
 
 -- no parameter is named
 abbrev Typed : ScanSpec → Type 0
-Typed spec = (kinds : List ColType) → params_fit kinds (map filter_of spec.offered.items) [] ≡ true
+Typed spec = (kinds : List ColType) → params_fit kinds (map restriction_form spec.offered.items) [] ≡ true
 
 -- a scan that the box agreed to may begin
 pub agreed_begins : (boxes : List (Option BoxState)) (slot t : ℕ) (spec : ScanSpec) → Typed spec → BoxAt boxes slot (λ s. Allows s t (spec_of spec)) → BoxAt boxes slot (λ s. CanBegin s t spec [])
@@ -37,20 +37,20 @@ agreed_begins boxes slot t spec typed b = record {
 }
 
 -- so may one of which the box takes nothing over
-plain_begins : (s : BoxState) (t : ℕ) (spec : ScanSpec) → Typed spec → spec_of spec ≡ plain_spec spec.wanted.items (map filter_of spec.offered.items) → (o : Option Bound) → table_of s t ≡ o → IsSome o → CanBegin s t spec []
+plain_begins : (s : BoxState) (t : ℕ) (spec : ScanSpec) → Typed spec → spec_of spec ≡ plain_spec spec.wanted.items (map restriction_form spec.offered.items) → (o : Option BoxTable) → table_of s t ≡ o → IsSome o → CanBegin s t spec []
 plain_begins s t spec typed plain None at is_bound = absurd cc
 plain_begins s t spec typed plain (Some bound) at is_bound = record {
   bound = bound;
   is = at;
-  allowed = ap bound.allows plain ∙ bound.allows_plain spec.wanted.items (map filter_of spec.offered.items);
+  allowed = ap bound.allows plain ∙ bound.allows_plain spec.wanted.items (map restriction_form spec.offered.items);
   typed = typed bound.kinds;
 }
 
-ignores_one : (spec : ScanSpec) → length spec.offered.items ≡ 1 → spec.agreement.answers.items ≡ Ignored ∷ [] → spec.agreement.narrow ≡ false → spec_of spec ≡ plain_spec spec.wanted.items (map filter_of spec.offered.items)
+ignores_one : (spec : ScanSpec) → length spec.offered.items ≡ 1 → spec.agreement.answers.items ≡ Ignored ∷ [] → spec.agreement.narrow ≡ false → spec_of spec ≡ plain_spec spec.wanted.items (map restriction_form spec.offered.items)
 ignores_one spec one silent wide =
-    let many : replicate (length (map filter_of spec.offered.items)) Ignored ≡ Ignored ∷ [] = ap (λ (n : ℕ). replicate n Ignored) (length-map spec.offered.items filter_of ∙ one) in
-    let answers : spec.agreement.answers.items ≡ replicate (length (map filter_of spec.offered.items)) Ignored = silent ∙ sym many in
-    λ i. record { wanted = spec.wanted.items; offered = map filter_of spec.offered.items; answers = answers i; narrow = wide i }
+    let many : replicate (length (map restriction_form spec.offered.items)) Ignored ≡ Ignored ∷ [] = ap (λ (n : ℕ). replicate n Ignored) (length-map spec.offered.items restriction_form ∙ one) in
+    let answers : spec.agreement.answers.items ≡ replicate (length (map restriction_form spec.offered.items)) Ignored = silent ∙ sym many in
+    λ i. record { wanted = spec.wanted.items; offered = map restriction_form spec.offered.items; answers = answers i; narrow = wide i }
 
 pub ignored_begins : (boxes : List (Option BoxState)) (slot t : ℕ) (spec : ScanSpec) → Typed spec → length spec.offered.items ≡ 1 → spec.agreement.answers.items ≡ Ignored ∷ [] → spec.agreement.narrow ≡ false → HasTable boxes slot t
     → BoxAt boxes slot (λ s. CanBegin s t spec [])

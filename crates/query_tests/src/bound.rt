@@ -1,6 +1,6 @@
 //! Texts bound over the tables parts, orders and "Odd", and what is told of them.
 use crate::expect::{cut, same_text};
-use med_binder::{AttachedTable, Bound, bind};
+use med_binder::{AttachedTable, BoundQuery, bind};
 use med_parser::{Command, parse};
 use med_value::{Cause, ColType, ColumnDef, Row, TableNo, Value, row_text};
 use std::alloc::Global;
@@ -78,7 +78,7 @@ fn row(alloc: Global, from: Option<usize>) -> Result<Row, Fail> {
 }
 
 // What the text is bound to over the three tables.
-fn bound(alloc: Global, text: &str) -> Result<Result<Bound, Cause>, Fail> {
+fn bound(alloc: Global, text: &str) -> Result<Result<BoundQuery, Cause>, Fail> {
     let Ok(Command::Data(statement)) = parse(alloc, text) else {
         return Err(text.into());
     };
@@ -107,7 +107,7 @@ pub enum Told {
     Groups,
 }
 
-fn tell(alloc: Global, told: Told, bound: &Bound) -> Result<String, Fail> {
+fn tell(alloc: Global, told: Told, bound: &BoundQuery) -> Result<String, Fail> {
     match told {
         Told::Taken => Ok("taken".to_string(alloc)?),
         Told::Names => names_text(alloc, &bound.names),
@@ -134,7 +134,7 @@ pub fn each_tells(alloc: Global, told: Told, rows: &str) -> Result<(), Fail> {
 }
 
 // The place of the first entry's table; none without FROM.
-fn place(bound: &Bound) -> Option<usize> {
+fn place(bound: &BoundQuery) -> Option<usize> {
     match bound.entries.get(0) {
         Some(entry) => Some(entry.place),
         None => None,
@@ -154,7 +154,7 @@ fn names_text(alloc: Global, names: &[String]) -> Result<String, Fail> {
 }
 
 // Or the fault of an item.
-fn answer(alloc: Global, bound: &Bound) -> Result<String, Fail> {
+fn answer(alloc: Global, bound: &BoundQuery) -> Result<String, Fail> {
     let row = row(alloc, place(bound))?;
     let mut cells = Vec::new(alloc);
     for item in &bound.select.items {
@@ -170,19 +170,19 @@ fn answer(alloc: Global, bound: &Bound) -> Result<String, Fail> {
     Ok(format!(in alloc; "{names} = {fields}")?)
 }
 
-fn conditions(alloc: Global, bound: &Bound) -> Result<String, Fail> {
+fn conditions(alloc: Global, bound: &BoundQuery) -> Result<String, Fail> {
     let row = row(alloc, place(bound))?;
     let count = bound.select.conditions.len();
     let verdict = verdict(&bound.select.conditions, &row, &[]);
     Ok(format!(in alloc; "{count} {verdict:?}")?)
 }
 
-fn table_place(alloc: Global, bound: &Bound) -> Result<String, Fail> {
+fn table_place(alloc: Global, bound: &BoundQuery) -> Result<String, Fail> {
     let place = place(bound);
     Ok(format!(in alloc; "{place:?}")?)
 }
 
-fn entries(alloc: Global, bound: &Bound) -> Result<String, Fail> {
+fn entries(alloc: Global, bound: &BoundQuery) -> Result<String, Fail> {
     let mut line = "".to_string(alloc)?;
     for entry in &bound.entries {
         if !line.is_empty() {
@@ -194,14 +194,14 @@ fn entries(alloc: Global, bound: &Bound) -> Result<String, Fail> {
     Ok(line)
 }
 
-fn first_column(alloc: Global, bound: &Bound) -> Result<String, Fail> {
+fn first_column(alloc: Global, bound: &BoundQuery) -> Result<String, Fail> {
     match bound.select.items.get(0) {
         Some(Expr::Column(place)) => Ok(format!(in alloc; "{place}")?),
         _ => Ok("no column".to_string(alloc)?),
     }
 }
 
-fn groups(alloc: Global, bound: &Bound) -> Result<String, Fail> {
+fn groups(alloc: Global, bound: &BoundQuery) -> Result<String, Fail> {
     match &bound.select.grouping {
         None => Ok("none".to_string(alloc)?),
         Some(grouping) => {

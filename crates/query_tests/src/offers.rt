@@ -1,7 +1,7 @@
 //! Offers and scans of a query's entries.
 use crate::expect::{same, same_text};
 use fdw_api::scan::Agreement;
-use med_binder::{Bound, BoundEntry};
+use med_binder::{BoundEntry, BoundQuery};
 use med_planner::{Plan, plan};
 use med_query::Select;
 use med_value::TableNo;
@@ -10,7 +10,7 @@ use std::alloc::Global;
 use std::test::Fail;
 
 // `SELECT .. FROM a, b`, of which `a` has two columns and `b` three.
-fn two_entries(alloc: Global) -> Result<Bound, Fail> {
+fn two_entries(alloc: Global) -> Result<BoundQuery, Fail> {
     let mut entries = Vec::new(alloc);
     entries.push(BoundEntry {
         place: 1,
@@ -35,7 +35,7 @@ fn two_entries(alloc: Global) -> Result<Bound, Fail> {
         offset: 0,
         limit: None,
     };
-    Ok(Bound {
+    Ok(BoundQuery {
         names: Vec::new(alloc),
         entries,
         select,
@@ -90,7 +90,7 @@ fn agreement(alloc: Global, narrow: bool) -> Agreement {
 }
 
 // The scans of two entries, whose boxes agreed to nothing and to narrow rows of the first.
-fn two_scans(alloc: Global, bound: &Bound, narrow: bool) -> Result<Split, Fail> {
+fn two_scans(alloc: Global, bound: &BoundQuery, narrow: bool) -> Result<Split, Fail> {
     let offers = offer(alloc, bound)?;
     let agreements = vec![in alloc; agreement(alloc, narrow), agreement(alloc, false)]?;
     if offers.entries.len() != agreements.len() {

@@ -1,6 +1,6 @@
 //! Runs of plans, row by row, by whatever their boxes agreed to take over.
 ghost use Rattle.fdw_api.specs.Kinds.{column_of};
-ghost use Rattle.fdw_api.specs.Scan.{filter_of, params_fit};
+ghost use Rattle.fdw_api.specs.Scan.{restriction_form, params_fit};
 ghost use Rattle.med_exec.specs.Rests.{IsRunning, IsHeld};
 ghost use Rattle.med_exec.specs.Running.{CanRun};
 ghost use Rattle.med_exec.specs.Slots.{states, HasTable};
@@ -79,7 +79,7 @@ fn bound_orders(alloc: Global) -> Result<(Vec<Option<ListWrapper>>, TableNo), Fa
 
 // n > 1
 fn above_one(alloc: Global) -> Result<Vec<Restriction>, Fail>
-    ensures typed { IfOk result (λ rs. (kinds : List ColType) → params_fit kinds (map filter_of rs.items) [] ≡ true) }
+    ensures typed { IfOk result (λ rs. (kinds : List ColType) → params_fit kinds (map restriction_form rs.items) [] ≡ true) }
     ensures one { IfOk result (λ rs. length rs.items ≡ 1) }
 {
     Ok(vec![in alloc;

@@ -16,7 +16,7 @@ use fdw_api::interface::Wrapper;
 use fed_cli::Ended;
 use fed_cli::serving::serve_engine;
 use list_wrapper::{ListTable, ListWrapper};
-use med_binder::{AttachedTable, Bound, bind};
+use med_binder::{AttachedTable, BoundQuery, bind};
 use med_parser::{Command, parse};
 use med_session::{Engine, Request, Sid, SourceKind};
 use med_value::text::row_text;
@@ -292,7 +292,7 @@ fn attached(alloc: Global, name: &str, names: [&str; 2]) -> Result<AttachedTable
 }
 
 // A query with its names resolved.
-fn bound(alloc: Global, query: &str) -> Result<Bound, Fail> {
+fn bound(alloc: Global, query: &str) -> Result<BoundQuery, Fail> {
     let left = attached(alloc, "t", LEFT)?;
     let right = attached(alloc, "u", RIGHT)?;
     let tables = vec![in alloc; left, right]?;
@@ -303,7 +303,7 @@ fn bound(alloc: Global, query: &str) -> Result<Bound, Fail> {
 }
 
 // The rows of each entry of FROM.
-fn entry_rows(alloc: Global, bound: &Bound, seed: u64) -> Result<Vec<Vec<Row>>, NoMemory> {
+fn entry_rows(alloc: Global, bound: &BoundQuery, seed: u64) -> Result<Vec<Vec<Row>>, NoMemory> {
     let mut tables = Vec::new(alloc);
     for entry in &bound.entries {
         tables.push(rows(alloc, seed, entry.place)?)?;
@@ -353,7 +353,7 @@ fn reply_of_fault(alloc: Global, line: &str) -> Result<Vec<u8>, NoMemory> {
 }
 
 // The reply that is defined over the tables of a seed.
-fn defined(alloc: Global, bound: &Bound, seed: u64) -> Result<Vec<u8>, Fail> {
+fn defined(alloc: Global, bound: &BoundQuery, seed: u64) -> Result<Vec<u8>, Fail> {
     let tables = entry_rows(alloc, bound, seed)?;
     let reply = match plain_answer(alloc, &bound.select, &tables) {
         Ok(rows) => reply_of(alloc, &bound.names, &rows)?,

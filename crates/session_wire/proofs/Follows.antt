@@ -1,12 +1,12 @@
 -- Runs of a handler's states, and of what the states stand for.
 use Rattle.std.proofs.Common.{ℕ, List, refl, sym, subst, inl, inr, Option}
-use Rattle.med_session.specs.Requests.{Asked}
+use Rattle.med_session.specs.Requests.{AskedLine}
 use Rattle.session_wire.specs.Lines.{Lines, line, rest, closed, lines_of}
 use Rattle.session_wire.specs.Run.{Steps, IsAnswered, Run, RunFront, Fed, BrokenOff}
 
 -- each step of a state is a step of every world that it stands for
 abbrev pub StepsFollow : {W V : Type 0} → Steps W → Steps V → (W → V → Type 0) → Type 0
-StepsFollow {W} {V} step steps agrees = (old : W) (sid : ℕ) (request : Asked) (reply : List ℕ) (new : W) → step old sid request reply new
+StepsFollow {W} {V} step steps agrees = (old : W) (sid : ℕ) (request : AskedLine) (reply : List ℕ) (new : W) → step old sid request reply new
     → (v : V) → agrees old v → (w : V) × steps v sid request reply w × agrees new w
 
 abbrev pub EndsFollow : {W V : Type 0} → (W → W → Type 0) → (V → V → Type 0) → (W → V → Type 0) → Type 0
@@ -60,7 +60,7 @@ broken_follows step ended steps ends agrees f e old bytes text new h v a =
 pub record IsKept {W : Type 0} (step : Steps W) (ended : W → W → Type 0) (before : W → W → Type 0) : Type 0 where
   pub same : (s : W) → before s s
   pub along : (s t u : W) → before s t → before t u → before s u
-  pub steps : (old : W) (sid : ℕ) (request : Asked) (reply : List ℕ) (new : W) → step old sid request reply new → before old new
+  pub steps : (old : W) (sid : ℕ) (request : AskedLine) (reply : List ℕ) (new : W) → step old sid request reply new → before old new
   pub ends : (old new : W) → ended old new → before old new
 
 answer_kept : {W : Type 0} (step : Steps W) (ended before : W → W → Type 0) → IsKept step ended before → (old : W) (text reply : List ℕ) (new : W) → IsAnswered step old text reply new → before old new

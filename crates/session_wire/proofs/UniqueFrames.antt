@@ -3,7 +3,7 @@ use Rattle.std.proofs.Common.{◌≡◌, ◌≢◌, ℕ, ◌+◌, ◌*◌, ◌/�
 use Rattle.std.proofs.lemmas.Bool.{cases_lt}
 use Rattle.std.proofs.lemmas.Fmt.{decimal_digit, decimal_injective}
 use Rattle.std.specs.Fmt.{decimal}
-use Rattle.med_session.specs.Requests.{Asked, opening, sql, bye}
+use Rattle.med_session.specs.Requests.{AskedLine, opening, sql, bye}
 use Rattle.session_wire.specs.Frames.{BeginsWithSid, IsRequest, IsFrame, IsReplySid}
 use Rattle.session_wire.proofs.Digits.{decimal_two}
 
@@ -36,7 +36,7 @@ cut_once (x ∷ r) (y ∷ s) a b h k e =
 apart : (m n : ℕ) (a b : List ℕ) → m ≢ n → m ∷ a ≡ n ∷ b → ⊥
 apart m n a b h e = h (ap (λ l. get_or l 0 0) e)
 
-one_request : (text : List ℕ) (p q : Asked) → IsRequest text p → IsRequest text q → p ≡ q
+one_request : (text : List ℕ) (p q : AskedLine) → IsRequest text p → IsRequest text q → p ≡ q
 one_request text (opening user) (opening other) h k = let e : codes "OPEN " ++ user ≡ codes "OPEN " ++ other = sym h.0 ∙ k.0 in ap (λ l. opening (drop 5 l)) e
 one_request text (opening user) (sql query) h k = absurd (apart 79 81 _ _ (λ e. omega arith) (sym h.0 ∙ k))
 one_request text (opening user) bye h k = absurd (apart 79 66 _ _ (λ e. omega arith) (sym h.0 ∙ k))
@@ -52,7 +52,7 @@ one_sid text m n a b h k =
     let both = cut_once (decimal m) (decimal n) a b (spaceless_number m (omega arith)) (spaceless_number n (omega arith)) (sym h.1 ∙ k.1) in
     (decimal_injective m n (omega arith) (omega arith) both.0, both.1)
 
-pub one_frame : (text : List ℕ) (m n : ℕ) (p q : Asked) → IsFrame text m p → IsFrame text n q → (m ≡ n) × (p ≡ q)
+pub one_frame : (text : List ℕ) (m n : ℕ) (p q : AskedLine) → IsFrame text m p → IsFrame text n q → (m ≡ n) × (p ≡ q)
 one_frame text m n p q f g =
     let both = one_sid text m n f.0 g.0 f.1 g.1 in
     (both.0, one_request g.0 p q (subst (λ l. IsRequest l p) both.1 f.2) g.2)

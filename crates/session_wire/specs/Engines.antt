@@ -1,13 +1,13 @@
 -- What it means that an engine answers requests.
 use Rattle.std.specs.Prelude.{ℕ, List}
 use Rattle.fdw_api.specs.State.{BoxState}
-use Rattle.med_session.specs.Requests.{Asked}
+use Rattle.med_session.specs.Requests.{AskedLine}
 use Rattle.med_session.specs.Engine.{IsSound, EachRises, IsAnswered, ClosesAll}
 use Rattle.med_session.specs.Shows.{shown}
 use Rattle.med_session.specs.declared.engine.Engine.{Engine}
 
 -- from each world that agrees with the old engine, a step leads to a reply of this text, and to a world that agrees with the new one
-abbrev pub EngineSteps : {W : Type 0} → (W → BoxState) → Engine W → ℕ → Asked → List ℕ → Engine W → Type 0
+abbrev pub EngineSteps : {W : Type 0} → (W → BoxState) → Engine W → ℕ → AskedLine → List ℕ → Engine W → Type 0
 EngineSteps meaning old sid request text new = IsAnswered (shown meaning old) sid request text (shown meaning new)
 
 -- every session is closed, and its cursors with it

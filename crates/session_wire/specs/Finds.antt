@@ -3,8 +3,8 @@ use Rattle.std.specs.Prelude.{◌≡◌, ℕ, List, string_bytes}
 use Rattle.tokio_util.specs.declared.codec.lines_codec.LinesCodec.{LinesCodec}
 use Rattle.tokio_util.specs.Codec.Lines.{gives_lines, at_line_start}
 use Rattle.tokio_util.specs.Codec.Next.{Resumes}
-use Rattle.session_wire.specs.declared.lines.Found.{Found}
-use Rattle.session_wire.specs.declared.lines.Found.TheVariants as found
+use Rattle.session_wire.specs.declared.lines.FoundLine.{FoundLine}
+use Rattle.session_wire.specs.declared.lines.FoundLine.TheVariants as found
 use Rattle.session_wire.specs.Lines.{line, rest, closed, lines_of, line_limit}
 
 -- the codec finds what a new one would find, whatever bytes follow
@@ -12,7 +12,7 @@ abbrev pub IsReady : ℕ → LinesCodec → List ℕ → Type 0
 IsReady limit codec bytes = Resumes gives_lines (at_line_start limit) bytes codec bytes
 
 -- what was found at the front of the old bytes, with the codec and the bytes that are left
-abbrev pub Finds : Found → List ℕ → LinesCodec → List ℕ → Type 0
+abbrev pub Finds : FoundLine → List ℕ → LinesCodec → List ℕ → Type 0
 Finds (found.Line text) old codec new =
     (lines_of old ≡ line (string_bytes text) (lines_of new)) × IsReady line_limit codec new
 Finds found.Nothing old codec new = (lines_of old ≡ rest old) × (new ≡ old) × IsReady line_limit codec new

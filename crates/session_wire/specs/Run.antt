@@ -1,20 +1,20 @@
 -- What is answered to the lines of a stream.
 use Rattle.std.specs.Prelude.{◌≡◌, ℕ, suc, ◌⊎◌, Option, List, [], ◌++◌}
-use Rattle.med_session.specs.Requests.{Asked}
+use Rattle.med_session.specs.Requests.{AskedLine}
 use Rattle.session_wire.specs.Lines.{Lines, line, rest, closed, lines_of, unread_after}
 use Rattle.session_wire.specs.Frames.{IsFrame, IsReplySid}
 use Rattle.session_wire.specs.Replies.{refusal, closing_replies}
 
 -- From old, a request in this session may be answered by this text, and new is what it leaves.
 abbrev pub Steps : Type 0 → Type 1
-Steps W = W → ℕ → Asked → List ℕ → W → Type 0
+Steps W = W → ℕ → AskedLine → List ℕ → W → Type 0
 
 -- A line that is in the grammar is answered by a step. Any other is refused by the number that it begins
 -- with, and changes nothing.
 abbrev pub IsAnswered : {W : Type 0} → Steps W → W → List ℕ → List ℕ → W → Type 0
 IsAnswered step old text reply new =
-    ((sid : ℕ) × (request : Asked) × IsFrame text sid request × step old sid request reply new)
-    ⊎ (((sid : ℕ) (request : Asked) → IsFrame text sid request → ⊥)
+    ((sid : ℕ) × (request : AskedLine) × IsFrame text sid request × step old sid request reply new)
+    ⊎ (((sid : ℕ) (request : AskedLine) → IsFrame text sid request → ⊥)
     × ((sid : ℕ) × IsReplySid text sid × (reply ≡ refusal sid)) × (new ≡ old))
 
 -- The lines lead, one after another, from old to these replies and to new. A line that closes the stream

@@ -6,7 +6,7 @@ ghost use Rattle.session_wire.specs.Ends.{Leaves};
 
 use crate::frames::frame;
 use crate::handler::Handler;
-use crate::lines::{Found, LINE_LIMIT, new_codec, next_line};
+use crate::lines::{FoundLine, LINE_LIMIT, new_codec, next_line};
 use crate::replies::{write_closing, write_refusal};
 use bytes::BytesMut;
 use med_session::NoRoom;
@@ -68,9 +68,9 @@ fn answer_lines<H: Handler>(
             return Err(NoRoom);
         };
         match found {
-            Found::Line(text) => answer_line(handler, text.as_str(), out)?,
-            Found::Nothing => return Ok(End::Open),
-            Found::Closing => {
+            FoundLine::Line(text) => answer_line(handler, text.as_str(), out)?,
+            FoundLine::Nothing => return Ok(End::Open),
+            FoundLine::Closing => {
                 write_closing(out)?;
                 handler.close_sessions();
                 return Ok(End::Closed);

@@ -6,7 +6,7 @@
 ghost use Rattle.std.specs.Prelude.{◌≡◌, ◌≢◌, ◌+◌, ◌*◌, ◌<◌, ◌≤◌, ℕ, List, IfSome, IfNone, IfOk, IfErr};
 ghost use Rattle.std.specs.Fmt.{decimal};
 ghost use Rattle.med_session.specs.Asking.{asked};
-ghost use Rattle.med_session.specs.Requests.{Asked, IsSid};
+ghost use Rattle.med_session.specs.Requests.{AskedLine, IsSid};
 ghost use Rattle.session_wire.specs.Frames.{IsRequest, IsFrame, IsReplySid};
 
 use med_session::users::is_user;
@@ -26,7 +26,7 @@ pub struct BadFrame {
 pub fn frame(text: &str) -> Result<(Sid, Request<'_>), BadFrame>
     ensures ok { IfOk result (λ read. IsFrame text.now read.0.number (asked read.1)) }
     ensures bad { IfErr result (λ _.
-        (sid : ℕ) (request : Asked) → IsFrame text.now sid request → ⊥) }
+        (sid : ℕ) (request : AskedLine) → IsFrame text.now sid request → ⊥) }
     ensures sid { IfErr result (λ bad. IsReplySid text.now bad.sid) }
 {
     let Some((number, after)) = text.split_once(' ') else {
@@ -43,7 +43,7 @@ pub fn frame(text: &str) -> Result<(Sid, Request<'_>), BadFrame>
 
 /// A text is at most one line, and the reply to one that is none begins with one number alone.
 pub fn frames_are_unique()
-    ensures frame { (text : List ℕ) (m n : ℕ) (p q : Asked)
+    ensures frame { (text : List ℕ) (m n : ℕ) (p q : AskedLine)
         → IsFrame text m p → IsFrame text n q → (m ≡ n) × (p ≡ q) }
     ensures sid { (text : List ℕ) (m n : ℕ) → IsReplySid text m → IsReplySid text n → m ≡ n }
 {}
@@ -71,6 +71,7 @@ fn number_of(digits: &[u8]) -> Option<u8>
     }
 }
 
+// The number of this digit.
 fn one_digit(unit: u8) -> Option<u8>
     ensures some { IfSome result (λ n. (n < 10) × (unit ≡ 48 + n)) }
     ensures none { IfNone result ((n : ℕ) → n < 10 → unit ≢ 48 + n) }
@@ -81,6 +82,7 @@ fn one_digit(unit: u8) -> Option<u8>
     Some(unit - b'0')
 }
 
+// The number of these two digits, with no leading zero.
 fn two_digits(ten: u8, unit: u8) -> Option<u8>
     ensures some { IfSome result (λ n. (t : ℕ) × (u : ℕ) × (1 ≤ t) × (t < 10) × (u < 10)
         × (n ≡ 10 * t + u) × (ten ≡ 48 + t) × (unit ≡ 48 + u)) }
@@ -95,7 +97,7 @@ fn two_digits(ten: u8, unit: u8) -> Option<u8>
 // What stands behind the number and its space.
 fn request_of(text: &str) -> Option<Request<'_>>
     ensures some { IfSome result (λ request. IsRequest text.now (asked request)) }
-    ensures none { IfNone result ((request : Asked) → IsRequest text.now request → ⊥) }
+    ensures none { IfNone result ((request : AskedLine) → IsRequest text.now request → ⊥) }
 {
     if let Some(query) = text.strip_prefix("Q ") {
         return Some(Request::Sql(query));

@@ -1,7 +1,7 @@
 //! What answers requests.
 ghost use Rattle.std.specs.Prelude.{◌≡◌, ◌<◌, ◌+◌, ◌++◌, ℕ, List, OnOk, OnErr, vec_len, vec_capacity};
 ghost use Rattle.med_session.specs.Asking.{asked};
-ghost use Rattle.med_session.specs.Requests.{Asked};
+ghost use Rattle.med_session.specs.Requests.{AskedLine};
 
 use med_session::{NoRoom, Request, Sid};
 
@@ -9,7 +9,7 @@ use med_session::{NoRoom, Request, Sid};
 pub trait Handler: Drop {
     /// From the first state, a request in the session of this number may be answered by this text, which
     /// leaves the last state.
-    ghost step: { Self → ℕ → Asked → List ℕ → Self → Type 0 };
+    ghost step: { Self → ℕ → AskedLine → List ℕ → Self → Type 0 };
 
     /// The second state is the first one with every session ended.
     ghost ended: { Self → Self → Type 0 };

@@ -17,7 +17,7 @@ pub const LINE_LIMIT: usize = 65_536;
 
 /// What stands at the front of some bytes.
 #[derive(Drop)]
-pub enum Found {
+pub enum FoundLine {
     /// The text of a whole line.
     Line(String),
     /// No whole line yet.
@@ -36,16 +36,16 @@ pub fn new_codec() -> LinesCodec
 /// Takes the next line from the front of some bytes, and leaves the bytes where there is none yet.
 ///
 /// Refused only for want of memory: nothing of the bytes is promised then.
-pub fn next_line(codec: &mut LinesCodec, unread: &mut BytesMut) -> Result<Found, NoMemory>
+pub fn next_line(codec: &mut LinesCodec, unread: &mut BytesMut) -> Result<FoundLine, NoMemory>
     requires { IsReady line_limit codec.old unread.old.items }
     ensures { IfOk result (λ found. Finds found unread.old.items codec.new unread.new.items) }
 {
     match codec.decode(unread) {
-        Ok(Some(text)) => Ok(Found::Line(text)),
-        Ok(None) => Ok(Found::Nothing),
-        Err(LinesCodecError::MaxLineLengthExceeded) => Ok(Found::Closing),
+        Ok(Some(text)) => Ok(FoundLine::Line(text)),
+        Ok(None) => Ok(FoundLine::Nothing),
+        Err(LinesCodecError::MaxLineLengthExceeded) => Ok(FoundLine::Closing),
         Err(LinesCodecError::Io(error)) => match error.kind() {
-            io::ErrorKind::InvalidData => Ok(Found::Closing),
+            io::ErrorKind::InvalidData => Ok(FoundLine::Closing),
             _ => Err(NoMemory),
         },
     }

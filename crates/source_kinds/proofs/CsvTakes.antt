@@ -3,7 +3,7 @@ use Rattle.std.proofs.Common.{◌≡◌, ℕ, ◌+◌, Bool, true, false, cond, 
 use Rattle.std.specs.List.{flat_map}
 use Rattle.med_value.specs.declared.cause.Cause.{Cause}
 use Rattle.med_value.specs.declared.cause.Cause.TheVariants.{InvalidOptionValue}
-use Rattle.fdw_api.specs.Kinds.{Kind, Setting}
+use Rattle.fdw_api.specs.Kinds.{Kind, OptionForm}
 use Rattle.fdw_api.specs.State.{BoxState}
 use Rattle.ddl_syntax.specs.DdlTree.{OptionTree, ColumnTree}
 use Rattle.med_catalog.specs.declared.kind.SourceKind.TheVariants.{Csv}
@@ -45,7 +45,7 @@ no_objection o false false false is_f is_h is_n other known good = absurd (true�
     unknown e = rw (is_f, is_h, is_n) at e
 
 -- the options of the table are not objected to; what follows them is objected to alone
-one_told : (o : OptionTree) (os : List OptionTree) (rest : List Setting) (b : Bool) → is_other o ≡ b → is_unknown (Table Csv) o ≡ false
+one_told : (o : OptionTree) (os : List OptionTree) (rest : List OptionForm) (b : Bool) → is_other o ≡ b → is_unknown (Table Csv) o ≡ false
     → is_refused (texts_of (Table Csv) o.label) o.text ≡ false
     → flat_map objections_to (map (setting_at 0) os ++ rest) ≡ flat_map objections_to rest
     → flat_map objections_to (map (setting_at 0) (cond b (o ∷ os) os) ++ rest) ≡ flat_map objections_to rest
@@ -55,7 +55,7 @@ one_told o os rest true is known good more =
     (no_objection o (bytes_eq o.label (codes "filename")) (bytes_eq o.label (codes "header")) (bytes_eq o.label (codes "null")) refl refl refl is known good)
     ∙ more
 
-table_told : (os : List OptionTree) (rest : List Setting) → has_unknown (Table Csv) os ≡ false → has_bad_text (Table Csv) os ≡ false
+table_told : (os : List OptionTree) (rest : List OptionForm) → has_unknown (Table Csv) os ≡ false → has_bad_text (Table Csv) os ≡ false
     → flat_map objections_to (table_settings Csv os ++ rest) ≡ flat_map objections_to rest
 table_told [] rest known good = refl
 table_told (o ∷ os) rest known good =

@@ -3,7 +3,7 @@ use Rattle.std.proofs.Common.{◌≡◌, ◌≢◌, ◌<◌, ◌≤◌, ℕ, ◌
 use Rattle.std.specs.List.{list_any, list_all}
 use Rattle.std.proofs.lemmas.Bool.Decides.{nat_tests}
 use Rattle.med_value.specs.Column.{Column as ColumnIs}
-use Rattle.fdw_api.specs.Kinds.{Kind, Setting}
+use Rattle.fdw_api.specs.Kinds.{Kind, OptionForm}
 use Rattle.fdw_api.specs.State.{BoxState}
 use Rattle.ddl_syntax.specs.DdlTree.{OptionTree, ColumnTree}
 use Rattle.med_catalog.specs.declared.kind.SourceKind.TheVariants.{JsonLines}
@@ -42,7 +42,7 @@ and_more : (b c d : Bool) → (b && c) ≡ true → (c ≡ true → d ≡ true) 
 and_more true c d p more = more p
 and_more false c d p more = absurd (true≢false (sym p))
 
-all_more : (test : Setting → Bool) (xs ys : List Setting) → list_all test xs ≡ true → list_all test ys ≡ true → list_all test (xs ++ ys) ≡ true
+all_more : (test : OptionForm → Bool) (xs ys : List OptionForm) → list_all test xs ≡ true → list_all test ys ≡ true → list_all test (xs ++ ys) ≡ true
 all_more test [] ys p q = q
 all_more test (x ∷ xs) ys p q = and_more (test x) (list_all test xs) (list_all test (xs ++ ys)) p (λ r. all_more test xs ys r q)
 
@@ -67,7 +67,7 @@ columns_told level (c ∷ cs) le known =
 -- ---- each column reads the member that the catalogue says
 
 -- the option `member` of the column in this place
-abbrev is_at : ℕ → Setting → Bool
+abbrev is_at : ℕ → OptionForm → Bool
 is_at place s = nat_eq s.level place && bytes_eq s.key (codes "member")
 
 same_place : (n : ℕ) → nat_eq n n ≡ true
@@ -77,7 +77,7 @@ other_place : (m n : ℕ) → m ≢ n → nat_eq m n ≡ false
 other_place m n ne = grind (arith, nat_tests)
 
 -- options of another column are passed over
-passed_over : (place level : ℕ) (os : List OptionTree) (rest : List Setting) → level ≢ place
+passed_over : (place level : ℕ) (os : List OptionTree) (rest : List OptionForm) → level ≢ place
     → find (is_at place) (map (setting_at level) os ++ rest) ≡ find (is_at place) rest
 passed_over place level [] rest ne = refl
 passed_over place level (o ∷ os) rest ne = rw (other_place level place ne) (passed_over place level os rest ne)
@@ -89,41 +89,41 @@ none_later place level (c ∷ cs) lt =
     passed_over place level c.options (column_settings (level + 1) cs) (omega (arith, lt)) ∙ none_later place (level + 1) cs (omega (arith, lt))
 
 -- what a column is told is the text of its own option
-own_by : (place : ℕ) (b : Bool) (o : OptionTree) (told : Option Setting) (own : Option OptionTree)
-    → option_map (λ (s : Setting). s.text) told ≡ option_map (λ (q : OptionTree). q.text) own
-    → option_map (λ (s : Setting). s.text) (cond b (Some (setting_at place o)) told) ≡ option_map (λ (q : OptionTree). q.text) (cond b (Some o) own)
+own_by : (place : ℕ) (b : Bool) (o : OptionTree) (told : Option OptionForm) (own : Option OptionTree)
+    → option_map (λ (s : OptionForm). s.text) told ≡ option_map (λ (q : OptionTree). q.text) own
+    → option_map (λ (s : OptionForm). s.text) (cond b (Some (setting_at place o)) told) ≡ option_map (λ (q : OptionTree). q.text) (cond b (Some o) own)
 own_by place true o told own more = refl
 own_by place false o told own more = more
 
-own_text : (place : ℕ) (os : List OptionTree) (rest : List Setting) → find (is_at place) rest ≡ None
-    → option_map (λ (s : Setting). s.text) (find (is_at place) (map (setting_at place) os ++ rest)) ≡ text_of os (codes "member")
-own_text place [] rest none = ap (option_map (λ (s : Setting). s.text)) none
+own_text : (place : ℕ) (os : List OptionTree) (rest : List OptionForm) → find (is_at place) rest ≡ None
+    → option_map (λ (s : OptionForm). s.text) (find (is_at place) (map (setting_at place) os ++ rest)) ≡ text_of os (codes "member")
+own_text place [] rest none = ap (option_map (λ (s : OptionForm). s.text)) none
 own_text place (o ∷ os) rest none =
     rw (same_place place, bytes_sym o.label (codes "member"))
     (own_by place (bytes_eq (codes "member") o.label) o (find (is_at place) (map (setting_at place) os ++ rest))
     (find (λ (q : OptionTree). bytes_eq (codes "member") q.label) os) (own_text place os rest none))
 
 -- these settings say of the columns from this place on what those of these columns do
-abbrev TellsFrom : ℕ → List ColumnTree → List Setting → Type 0
+abbrev TellsFrom : ℕ → List ColumnTree → List OptionForm → Type 0
 TellsFrom place cs told = (q : ℕ) → place ≤ q → find (is_at q) told ≡ find (is_at q) (column_settings place cs)
 
-text_told : (place : ℕ) (c : ColumnTree) (cs : List ColumnTree) (told : List Setting) → TellsFrom place (c ∷ cs) told
-    → option_map (λ (s : Setting). s.text) (find (is_at place) told) ≡ text_of c.options (codes "member")
+text_told : (place : ℕ) (c : ColumnTree) (cs : List ColumnTree) (told : List OptionForm) → TellsFrom place (c ∷ cs) told
+    → option_map (λ (s : OptionForm). s.text) (find (is_at place) told) ≡ text_of c.options (codes "member")
 text_told place c cs told tells =
-    ap (option_map (λ (s : Setting). s.text)) (tells place (omega arith))
+    ap (option_map (λ (s : OptionForm). s.text)) (tells place (omega arith))
     ∙ own_text place c.options (column_settings (place + 1) cs) (none_later place (place + 1) cs (omega arith))
 
-later_told : (place : ℕ) (c : ColumnTree) (cs : List ColumnTree) (told : List Setting) → TellsFrom place (c ∷ cs) told → TellsFrom (place + 1) cs told
+later_told : (place : ℕ) (c : ColumnTree) (cs : List ColumnTree) (told : List OptionForm) → TellsFrom place (c ∷ cs) told → TellsFrom (place + 1) cs told
 later_told place c cs told tells q le = tells q (omega (arith, le)) ∙ passed_over q place c.options (column_settings (place + 1) cs) (omega (arith, le))
 
-member_is : (place : ℕ) (c : ColumnTree) (x : ColumnIs) (told : List Setting) → x.name ≡ c.name
-    → option_map (λ (s : Setting). s.text) (find (is_at place) told) ≡ text_of c.options (codes "member") → member_of place x told ≡ member_named c
+member_is : (place : ℕ) (c : ColumnTree) (x : ColumnIs) (told : List OptionForm) → x.name ≡ c.name
+    → option_map (λ (s : OptionForm). s.text) (find (is_at place) told) ≡ text_of c.options (codes "member") → member_of place x told ≡ member_named c
 member_is place c x told name text = ap (λ (l : Option (List ℕ)). unwrap_or l x.name) text ∙ ap (unwrap_or (text_of c.options (codes "member"))) name
 
 one_more : {a b : List ℕ} {l m : List (List ℕ)} → a ≡ b → l ≡ m → (a ∷ l) ≡ (b ∷ m)
 one_more p q = cc
 
-members_are : (place : ℕ) (cs : List ColumnTree) (columns : List ColumnIs) (told : List Setting) → AreDeclared cs columns → TellsFrom place cs told
+members_are : (place : ℕ) (cs : List ColumnTree) (columns : List ColumnIs) (told : List OptionForm) → AreDeclared cs columns → TellsFrom place cs told
     → map (λ (f : Reader). f.member) (readers_from place columns told) ≡ map member_named cs
 members_are place [] [] told declared tells = refl
 members_are place [] (x ∷ xs) told declared tells = absurd declared
@@ -147,13 +147,13 @@ differ (f ∷ fs) once =
 
 -- ---- nothing is objected to
 
-clear : (columns : List ColumnIs) (told : List Setting) → list_all is_member_option told ≡ true → members_differ (readers_of columns told) ≡ true → json_objections columns told ≡ []
+clear : (columns : List ColumnIs) (told : List OptionForm) → list_all is_member_option told ≡ true → members_differ (readers_of columns told) ≡ true → json_objections columns told ≡ []
 clear columns told alone apart = rw (alone, apart) refl
 
 pub json_takes : (s : BoxState) → s.nature.kind ≡ json_kind → TakesAs JsonLines s
 json_takes s is o t columns declared none =
     ap (λ (k : Kind). k.objections columns (table_settings JsonLines t.options ++ column_settings 1 t.columns)) is
-    ∙ ap (λ (l : List Setting). json_objections columns (l ++ column_settings 1 t.columns)) (table_told t.options of_table)
+    ∙ ap (λ (l : List OptionForm). json_objections columns (l ++ column_settings 1 t.columns)) (table_told t.options of_table)
     ∙ clear columns (column_settings 1 t.columns) (columns_told 1 t.columns (omega arith) of_columns) apart
   where
     of_table : has_unknown (Table JsonLines) t.options ≡ false

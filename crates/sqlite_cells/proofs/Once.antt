@@ -9,7 +9,7 @@ use Rattle.sqlite.specs.View.{IsShaped, is_int}
 use Rattle.sqlite_trees.specs.declared.store.Shape.TheVariants as shape
 use Rattle.sqlite_trees.proofs.ListLemmas.{all-filter}
 use Rattle.sqlite_catalog.proofs.LayoutLemmas.{ascending_filter}
-use Rattle.sqlite_shapes.specs.Shapes.{in_range, key_of, shown as paged}
+use Rattle.sqlite_shapes.specs.Shapes.{in_range, key_of, paged}
 use Rattle.sqlite_cells.specs.Layouts.{Layout}
 use Rattle.sqlite_cells.specs.Cells.{id_of, row_in, rows_in, least, greatest}
 use Rattle.sqlite_cells.proofs.PagesJoin.{Inside, Ints, key_fits, lower, inside_filter}

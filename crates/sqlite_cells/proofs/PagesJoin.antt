@@ -17,7 +17,7 @@ use Rattle.sqlite_trees.specs.declared.store.Shape.TheVariants as shape
 use Rattle.sqlite_trees.proofs.ListLemmas.{filter-filter, filter_all, all-filter}
 use Rattle.sqlite_catalog.proofs.LayoutLemmas.{ascending_filter}
 use Rattle.sqlite_value.proofs.OrderLemmas.{value_cmp-Int}
-use Rattle.sqlite_shapes.specs.Shapes.{in_range, key_of, range_of, shown as paged}
+use Rattle.sqlite_shapes.specs.Shapes.{in_range, key_of, range_of, paged}
 use Rattle.sqlite_cells.specs.Cells.{least, greatest}
 use Rattle.sqlite_cells.specs.Tables.{behind, rest_of}
 

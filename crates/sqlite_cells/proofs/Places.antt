@@ -1,14 +1,14 @@
 -- The places of the layouts by their names.
-use Rattle.std.proofs.Common.{◌≡◌, ℕ, ◌<◌, Bool, true, false, cond, List, Option, Some, None, nat_lt, refl, ap, ◌∙◌, arith}
+use Rattle.std.proofs.Common.{◌≡◌, ℕ, ◌<◌, Bool, true, false, cond, List, Option, Some, None, nat_lt, refl, ap, ◌∙◌, arith, bytes_eq}
 use Rattle.std.specs.List.{position, position_or_len, IsDistinct}
 use Rattle.std.proofs.lemmas.List.Sums.{position_or_len_is}
 use Rattle.std.proofs.lemmas.List.Quantifiers.{position-Some}
 use Rattle.std.proofs.lemmas.Map.Keys.{apart_from_distinct}
 use lib.Pointwise.{bytes_decides}
-use Rattle.sqlite_cells.specs.Layouts.{Layout, layouts, layout_count, layout_at, people, place_of, same_text}
+use Rattle.sqlite_cells.specs.Layouts.{Layout, layouts, layout_count, layout_at, people, place_of}
 
 abbrev pub has_name : List ℕ → Layout → Bool
-has_name name l = same_text l.name name
+has_name name l = bytes_eq l.name name
 
 is_less : (m n : ℕ) → m < n → nat_lt m n ≡ true
 is_less m n lt = grind (arith, lt)
@@ -29,11 +29,11 @@ place_named name t e =
     ((bytes_decides (layout_at t).name name).0 p.1, p.0)
 
 -- no two layouts have one name
-names_differ : IsDistinct (λ (l : Layout) (m : Layout). same_text l.name m.name) layouts
+names_differ : IsDistinct (λ (l : Layout) (m : Layout). bytes_eq l.name m.name) layouts
 unfolding IsDistinct
 names_differ = ((refl, tt), (tt, tt))
 
 pub name_place : (t : ℕ) → t < layout_count → place_of (layout_at t).name ≡ Some t
 name_place t lt =
-    found (layout_at t).name t lt (λ k le. apart_from_distinct (λ (l : Layout) (m : Layout). same_text l.name m.name) layouts k t people names_differ le lt)
+    found (layout_at t).name t lt (λ k le. apart_from_distinct (λ (l : Layout) (m : Layout). bytes_eq l.name m.name) layouts k t people names_differ le lt)
     ((bytes_decides (layout_at t).name (layout_at t).name).1 refl)

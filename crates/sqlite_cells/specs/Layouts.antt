@@ -1,7 +1,6 @@
 -- The remote tables of a SQLite source: their names, types and texts.
-use Rattle.std.specs.Prelude.{ℕ, Bool, true, false, ◌&&◌, List, [], ◌∷◌, length, Option, slice_index_or, nat_eq, codes}
+use Rattle.std.specs.Prelude.{ℕ, Bool, true, false, ◌&&◌, List, [], ◌∷◌, length, Option, slice_index_or, codes, bytes_eq}
 use Rattle.std.specs.List.{position}
-use lib.Pointwise.{pointwise}
 use Rattle.med_value.specs.declared.value.ColType.{ColType}
 use Rattle.med_value.specs.declared.value.ColType.TheVariants as types
 
@@ -49,12 +48,9 @@ layout_count = length layouts
 abbrev pub layout_at : ℕ → Layout
 layout_at t = slice_index_or layouts t people
 
-abbrev pub same_text : List ℕ → List ℕ → Bool
-same_text = pointwise nat_eq
-
 -- the number of the first layout of a name
 abbrev pub place_of : List ℕ → Option ℕ
-place_of name = position (λ l. same_text l.name name) layouts
+place_of name = position (λ l. bytes_eq l.name name) layouts
 
 abbrev pub same_type : ColType → ColType → Bool
 same_type types.Int types.Int = true

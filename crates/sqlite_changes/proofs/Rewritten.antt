@@ -13,7 +13,7 @@ use Rattle.sqlite.specs.Tree.{rowid, IsTable}
 use Rattle.sqlite.specs.View.{IsShaped, is_int}
 use Rattle.sqlite_trees.specs.declared.store.Shape.TheVariants as shape
 use Rattle.sqlite_trees.proofs.ListLemmas.{all-filter, ascending-filter, filter_all, map-map, IsPermutation-filter}
-use Rattle.sqlite_shapes.specs.Shapes.{in_range, key_of, shown as paged}
+use Rattle.sqlite_shapes.specs.Shapes.{in_range, key_of, paged}
 use Rattle.sqlite_shapes.proofs.Unique.{Rises}
 use Rattle.med_value.specs.Datum.{Tuple}
 use Rattle.fdw_api.specs.Scan.{TableRow}

@@ -11,7 +11,7 @@ use Rattle.std.proofs.lemmas.Int.{to_z-of_z}
 use Rattle.sqlite.specs.Order.{Row as SqlRow}
 use Rattle.sqlite.specs.Tree.{rowid}
 use Rattle.sqlite.specs.View.{is_int}
-use Rattle.sqlite_shapes.specs.Shapes.{in_range, key_of, shown as paged}
+use Rattle.sqlite_shapes.specs.Shapes.{in_range, key_of, paged}
 use Rattle.sqlite_trees.proofs.ListLemmas.{filter-map, filter_same, map-map}
 use Rattle.med_value.specs.Datum.{Datum, NoValue, Whole, Chars, Logic, Tuple}
 use Rattle.med_value.specs.Order.{is_missing}

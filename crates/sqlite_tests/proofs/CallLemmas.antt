@@ -6,11 +6,11 @@ use Rattle.std.specs.FinMap.{gets}
 use Rattle.med_value.specs.Datum.{Tuple, datum}
 use Rattle.med_value.specs.declared.value.Value.{Value}
 use Rattle.med_value.specs.declared.value.ColType.{ColType}
-use Rattle.fdw_api.specs.Scan.{Spec, filter_of, params_fit}
+use Rattle.fdw_api.specs.Scan.{Spec, restriction_form, params_fit}
 use Rattle.fdw_api.specs.declared.scan.Restriction.{Restriction}
-use Rattle.fdw_api.specs.Kinds.{Column, Setting}
-use Rattle.fdw_api.specs.State.{Bound, Scan, BoxState, IsIdle, table_of, scan_of, set_at}
-use Rattle.fdw_api.specs.Calls.{CanBind, Binds, CanUnbind, Begins, IsOpen, Gives, Breaks, CanRescan, Rescans}
+use Rattle.fdw_api.specs.Kinds.{Column, OptionForm}
+use Rattle.fdw_api.specs.State.{BoxTable, Scan, BoxState, IsIdle, table_of, scan_of, set_at}
+use Rattle.fdw_api.specs.Calls.{CanBind, Binds, CanUnbind, Begins, IsOpen, Iterates, Breaks, CanRescan, Rescans}
 use Rattle.fdw_api.specs.Writes.{CanModify}
 use Rattle.fdw_api.specs.declared.interface.Fault.{Fault}
 use Rattle.fdw_api.specs.declared.interface.SourceRow.{SourceRow}
@@ -28,24 +28,24 @@ set_same : {X : Type 0} (f : ℕ → X) (k : ℕ) (x : X) → set_at f k x k ≡
 set_same f k x = search rules
 
 -- on an idle wrapper every remote name is free
-pub idle_can_bind : (s : BoxState) (remote : List ℕ) (columns : List Column) (settings : List Setting) → IsIdle s → s.nature.kind.objections columns settings ≡ [] → CanBind s remote columns settings
+pub idle_can_bind : (s : BoxState) (remote : List ℕ) (columns : List Column) (settings : List OptionForm) → IsIdle s → s.nature.kind.objections columns settings ≡ [] → CanBind s remote columns settings
 idle_can_bind s remote columns settings idle no_objection = record {
   free = λ t b is. absurd (not_none (table_of s t) b (idle.no_table t) is);
   no_objection = no_objection;
 }
 
 -- what is bound is a table
-pub bound_is_table : (old new : BoxState) (remote : List ℕ) (columns : List Column) (settings : List Setting) (t : ℕ) (b : Binds old remote columns settings t new) → table_of new t ≡ Some b.bound
+pub bound_is_table : (old new : BoxState) (remote : List ℕ) (columns : List Column) (settings : List OptionForm) (t : ℕ) (b : Binds old remote columns settings t new) → table_of new t ≡ Some b.bound
 bound_is_table old new remote columns settings t b = ap (λ z. z.tables t) b.ledger ∙ set_same old.ledger.tables t (Some b.bound)
 
 some_is : {X : Type 0} (o : Option X) (x : X) → o ≡ Some x → IsSome o
 some_is o x e = subst IsSome (sym e) refl
 
-pub bound_is_some : (old new : BoxState) (remote : List ℕ) (columns : List Column) (settings : List Setting) (t : ℕ) → Binds old remote columns settings t new → IsSome (table_of new t)
+pub bound_is_some : (old new : BoxState) (remote : List ℕ) (columns : List Column) (settings : List OptionForm) (t : ℕ) → Binds old remote columns settings t new → IsSome (table_of new t)
 bound_is_some old new remote columns settings t b = some_is _ _ (bound_is_table old new remote columns settings t b)
 
 -- a table bound on an idle wrapper may be let go
-pub bound_can_unbind : (old new : BoxState) (remote : List ℕ) (columns : List Column) (settings : List Setting) (t : ℕ) → IsIdle old → Binds old remote columns settings t new → CanUnbind new t
+pub bound_can_unbind : (old new : BoxState) (remote : List ℕ) (columns : List Column) (settings : List OptionForm) (t : ℕ) → IsIdle old → Binds old remote columns settings t new → CanUnbind new t
 bound_can_unbind old new remote columns settings t idle b = record {
   is_bound = bound_is_some old new remote columns settings t b;
   no_scan = λ q scan is. absurd (not_none (scan_of new q) scan (ap (λ z. finmap.get z.live q) b.ledger ∙ idle.no_scan q) is);
@@ -56,7 +56,7 @@ bound_can_unbind old new remote columns settings t idle b = record {
 pub broken_is_live : (old new : BoxState) (n : ℕ) (fault : Fault) → Breaks old n fault new → IsSome (scan_of new n)
 broken_is_live old new n fault b = some_is _ _ (ap (λ z. finmap.get z.live n) b.ledger ∙ put_same old.ledger.live n _)
 
-pub given_can_rescan : (old new : BoxState) (n : ℕ) (row : Option SourceRow) (params : Tuple) → Gives old n row new → CanRescan old n params → CanRescan new n params
+pub given_can_rescan : (old new : BoxState) (n : ℕ) (row : Option SourceRow) (params : Tuple) → Iterates old n row new → CanRescan old n params → CanRescan new n params
 given_can_rescan old new n None params g c = record {
   scan = c.scan;
   at = ap (λ z. finmap.get z.live n) g.ledger ∙ c.at;
@@ -77,21 +77,21 @@ given_can_rescan old new n (Some row) params g c =
     }
 
 -- a table bound on an idle wrapper may be written
-pub bound_can_modify : (old new : BoxState) (remote : List ℕ) (columns : List Column) (settings : List Setting) (t : ℕ) → IsIdle old → Binds old remote columns settings t new → CanModify new t
+pub bound_can_modify : (old new : BoxState) (remote : List ℕ) (columns : List Column) (settings : List OptionForm) (t : ℕ) → IsIdle old → Binds old remote columns settings t new → CanModify new t
 bound_can_modify old new remote columns settings t idle b = let c = bound_can_unbind old new remote columns settings t idle b in record { is_bound = c.is_bound; no_scan = c.no_scan; not_staged = c.not_staged }
 
-pub bound_kinds : (old new : BoxState) (remote : List ℕ) (columns : List Column) (settings : List Setting) (kinds : List ColType) (t : ℕ) (b : Binds old remote columns settings t new) → map (λ c. c.kind) columns ≡ kinds → (bound : Bound) → table_of new t ≡ Some bound → bound.kinds ≡ kinds
-bound_kinds old new remote columns settings kinds t b e bound is = ap (λ (z : Bound). z.kinds) (some_inj bound b.bound (sym is ∙ bound_is_table old new remote columns settings t b)) ∙ b.kinds_are ∙ e
+pub bound_kinds : (old new : BoxState) (remote : List ℕ) (columns : List Column) (settings : List OptionForm) (kinds : List ColType) (t : ℕ) (b : Binds old remote columns settings t new) → map (λ c. c.kind) columns ≡ kinds → (bound : BoxTable) → table_of new t ≡ Some bound → bound.kinds ≡ kinds
+bound_kinds old new remote columns settings kinds t b e bound is = ap (λ (z : BoxTable). z.kinds) (some_inj bound b.bound (sym is ∙ bound_is_table old new remote columns settings t b)) ∙ b.kinds_are ∙ e
 
 pub on_ok_any : {T E P : Type 0} (r : Result T E) → P → OnOk r P
 on_ok_any (Ok x) p = p
 on_ok_any (Err e) p = tt
 
 -- a scan begun by some parameters may begin again by others that fit
-pub begun_can_rescan_by : (old new : BoxState) (t : ℕ) (spec : Spec) (params others : Tuple) (n : ℕ) → ((bound : Bound) → table_of old t ≡ Some bound → params_fit bound.kinds spec.offered others ≡ true) → IsSome (table_of old t) → Begins old t spec params n new → CanRescan new n others
+pub begun_can_rescan_by : (old new : BoxState) (t : ℕ) (spec : Spec) (params others : Tuple) (n : ℕ) → ((bound : BoxTable) → table_of old t ≡ Some bound → params_fit bound.kinds spec.offered others ≡ true) → IsSome (table_of old t) → Begins old t spec params n new → CanRescan new n others
 begun_can_rescan_by old new t spec params others n fit is b = at_table (table_of old t) refl is
   where
-    at_table : (o : Option Bound) → table_of old t ≡ o → IsSome o → CanRescan new n others
+    at_table : (o : Option BoxTable) → table_of old t ≡ o → IsSome o → CanRescan new n others
     at_table None e is = absurd cc
     at_table (Some bound) e is = record {
       scan = _;
@@ -123,11 +123,11 @@ again_can_rescan old new n params r c =
     }
 
 -- parameters that were found to fit, do
-pub found_to_fit : (kinds own : List ColType) (offered o : List Restriction) (params p : List Value) (b : Bool) → kinds ≡ own → o ≡ offered → p ≡ params → b ≡ params_fit own (map filter_of o) (map datum p) → b ≡ true → params_fit kinds (map filter_of offered) (map datum params) ≡ true
+pub found_to_fit : (kinds own : List ColType) (offered o : List Restriction) (params p : List Value) (b : Bool) → kinds ≡ own → o ≡ offered → p ≡ params → b ≡ params_fit own (map restriction_form o) (map datum p) → b ≡ true → params_fit kinds (map restriction_form offered) (map datum params) ≡ true
 found_to_fit kinds own offered o params p b k e f is holds =
-    ap (λ (x : List ColType). params_fit x (map filter_of offered) (map datum params)) k
-    ∙ ap (λ (l : List Restriction). params_fit own (map filter_of l) (map datum params)) (sym e)
-    ∙ ap (λ (l : List Value). params_fit own (map filter_of o) (map datum l)) (sym f)
+    ap (λ (x : List ColType). params_fit x (map restriction_form offered) (map datum params)) k
+    ∙ ap (λ (l : List Restriction). params_fit own (map restriction_form l) (map datum params)) (sym e)
+    ∙ ap (λ (l : List Value). params_fit own (map restriction_form o) (map datum l)) (sym f)
     ∙ sym is ∙ holds
 
 pub on_ok : {T E : Type 0} (P : T → Type 0) (Q : Type 0) (r : Result T E) → ((x : T) → P x → Q) → IfOk r P → OnOk r Q

@@ -4,7 +4,7 @@ use Rattle.std.specs.FinMap as finmap
 use Rattle.med_value.specs.Datum.{Tuple}
 use Rattle.med_value.specs.declared.value.ColType.{ColType}
 use Rattle.fdw_api.specs.Kinds.{Change, Inserts}
-use Rattle.fdw_api.specs.State.{Bound, Staging, BoxState, IsIdle, table_of}
+use Rattle.fdw_api.specs.State.{BoxTable, Staging, BoxState, IsIdle, table_of}
 use Rattle.fdw_api.specs.Writes.{CanModify, Opens, CanChange, Stages, CanClose, Closes, RefusesClose, row_of_change_fits}
 use Rattle.fdw_api.specs.declared.interface.Fault.{Fault}
 use Rattle.probe_wrapper.specs.declared.failing.Failure.TheVariants.{Before}
@@ -16,10 +16,10 @@ some_inj : {A : Type 0} (a b : A) → Some a ≡ Some b → a ≡ b
 some_inj a b q = cc
 
 -- a write that was just begun may go on
-pub opened_is_writing : (old s : BoxState) (t : ℕ) (kinds : List ColType) → CanModify old t → ((bound : Bound) → table_of old t ≡ Some bound → bound.kinds ≡ kinds) → Opens old t s → IsWriting s t kinds
+pub opened_is_writing : (old s : BoxState) (t : ℕ) (kinds : List ColType) → CanModify old t → ((bound : BoxTable) → table_of old t ≡ Some bound → bound.kinds ≡ kinds) → Opens old t s → IsWriting s t kinds
 opened_is_writing old s t kinds can typed o = at_table (table_of old t) refl can.is_bound
   where
-    at_table : (x : Option Bound) → table_of old t ≡ x → IsSome x → IsWriting s t kinds
+    at_table : (x : Option BoxTable) → table_of old t ≡ x → IsSome x → IsWriting s t kinds
     at_table None e is = absurd cc
     at_table (Some bound) e is = record {
       staging = _;

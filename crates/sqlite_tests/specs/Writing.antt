@@ -1,7 +1,7 @@
 -- A write that may go on.
 use Rattle.std.specs.Prelude.{◌≡◌, ℕ, false, List, Some}
 use Rattle.med_value.specs.declared.value.ColType.{ColType}
-use Rattle.fdw_api.specs.State.{Bound, Staging, BoxState, table_of}
+use Rattle.fdw_api.specs.State.{BoxTable, Staging, BoxState, table_of}
 use Rattle.fdw_api.specs.Calls.{NoScan}
 
 -- a write to a table of these types is under way and not broken, and the table has no live scan
@@ -10,7 +10,7 @@ pub record IsWriting (s : BoxState) (t : ℕ) (kinds : List ColType) : Type 0 wh
   pub is_staged : s.ledger.staged ≡ Some staging
   pub whole : staging.broken ≡ false
   pub on : staging.table ≡ t
-  pub bound : Bound
+  pub bound : BoxTable
   pub is : table_of s t ≡ Some bound
   pub kinds_are : bound.kinds ≡ kinds
   pub no_scan : NoScan s t

@@ -3,7 +3,7 @@ ghost use Rattle.std.specs.Prelude.{◌≡◌, ◌∷◌, [], ℕ, true, false, 
 ghost use Rattle.med_value.specs.Datum.{tuple, Whole};
 ghost use Rattle.med_value.specs.declared.value.ColType.TheVariants.{Int};
 ghost use Rattle.fdw_api.specs.Kinds.{Column, column_of, kinds_of};
-ghost use Rattle.fdw_api.specs.State.{Bound, IsIdle, table_of};
+ghost use Rattle.fdw_api.specs.State.{BoxTable, IsIdle, table_of};
 ghost use Rattle.fdw_api.specs.Writes.{CanModify};
 ghost use Rattle.sqlite.specs.Held.{state};
 ghost use Rattle.sqlite.specs.Steps.{over_memory};
@@ -48,7 +48,7 @@ pub fn bind_orders<W: Wrapper>(source: &mut W, alloc: Global) -> Result<TableNo,
     requires idle { IsIdle (W.meaning source.old) }
     requires free { (columns : List Column) → (W.meaning source.old).nature.kind.objections columns [] ≡ [] }
     ensures modify { IfOk result (λ t. CanModify (W.meaning source.new) t.number) }
-    ensures kinds { IfOk result (λ t. (bound : Bound) → table_of (W.meaning source.new) t.number ≡ Some bound
+    ensures kinds { IfOk result (λ t. (bound : BoxTable) → table_of (W.meaning source.new) t.number ≡ Some bound
         → bound.kinds ≡ Int ∷ Int ∷ Int ∷ []) }
 {
     let columns = columns(alloc)?;
@@ -89,7 +89,7 @@ pub fn write_keys<W: Wrapper>(
     keys: &[i64],
 ) -> Result<(), Fault>
     requires can { CanModify (W.meaning source.old) table.number }
-    requires kinds { (bound : Bound) → table_of (W.meaning source.old) table.number ≡ Some bound → bound.kinds ≡ Int ∷ Int ∷ Int ∷ [] }
+    requires kinds { (bound : BoxTable) → table_of (W.meaning source.old) table.number ≡ Some bound → bound.kinds ≡ Int ∷ Int ∷ Int ∷ [] }
     ensures bound { table_of (W.meaning source.new) table.number ≡ table_of (W.meaning source.old) table.number }
     ensures can { OnOk result (CanModify (W.meaning source.new) table.number) }
 {

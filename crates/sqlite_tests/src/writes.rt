@@ -1,7 +1,7 @@
 //! A write of orders and a scan behind it.
 ghost use Rattle.std.specs.Prelude.{◌≡◌, ◌∷◌, [], Some};
 ghost use Rattle.med_value.specs.declared.value.ColType.TheVariants.{Int};
-ghost use Rattle.fdw_api.specs.State.{Bound, table_of};
+ghost use Rattle.fdw_api.specs.State.{BoxTable, table_of};
 ghost use Rattle.fdw_api.specs.Writes.{CanModify};
 
 use crate::asked::Asked;
@@ -28,7 +28,7 @@ pub fn write_and_read<W: Wrapper>(
     asked: Asked,
 ) -> Came
     requires can { CanModify (W.meaning source.old) table.number }
-    requires kinds { (bound : Bound) → table_of (W.meaning source.old) table.number ≡ Some bound → bound.kinds ≡ Int ∷ Int ∷ Int ∷ [] }
+    requires kinds { (bound : BoxTable) → table_of (W.meaning source.old) table.number ≡ Some bound → bound.kinds ≡ Int ∷ Int ∷ Int ∷ [] }
 {
     let mut out = Vec::new(alloc);
     let written = write_keys(source, alloc, table, keys);

@@ -11,8 +11,8 @@ use Rattle.fdw_api.specs.declared.interface.Fault.{Fault}
 use Rattle.fdw_api.specs.declared.interface.Fault.TheVariants.{NoMemory, Source, Refused}
 use Rattle.med_value.specs.declared.value.ColType.{ColType}
 use Rattle.sqlite_shapes.specs.Shapes.{range_of}
-use Rattle.fdw_api.specs.Kinds.{Column, Setting, Stored, Held, held, kinds_of, is_late}
-use Rattle.fdw_api.specs.State.{Bound, BoxState}
+use Rattle.fdw_api.specs.Kinds.{Column, OptionForm, Stored, Held, held, kinds_of, is_late}
+use Rattle.fdw_api.specs.State.{BoxTable, BoxState}
 use Rattle.fdw_api.specs.Calls.{CanBind, Binds, BindCause, IsLeast, Refuses, RefusesBind, Leaves, none_of, faults_after}
 use Rattle.sqlite_cells.specs.Layouts.{Layout, kinds_in, layout_at, layout_count, place_of, types_match}
 use Rattle.sqlite_cells.proofs.Places.{place_named}
@@ -53,12 +53,12 @@ read_are db l declared m none = go (tree_of db.schema l) none
     go None e = absurd (subst IsNone (sym e) tt)
     go (Some t) e = sym (typed_rows l declared (range_of least greatest (db.trees t)) m)
 
-not_marked : (t : ℕ) (b : Bool) (remote : List ℕ) → ((x : Bound) → marked_bound b t ≡ Some x → x.remote ≢ remote) → (layout_at t).name ≡ remote → b ≡ false
+not_marked : (t : ℕ) (b : Bool) (remote : List ℕ) → ((x : BoxTable) → marked_bound b t ≡ Some x → x.remote ≢ remote) → (layout_at t).name ≡ remote → b ≡ false
 not_marked t true remote free e = absurd (free (bound_of t) refl e)
 not_marked t false remote free e = refl
 
 module _ (honest : Bool) (db after : Database) (bound : List Bool) (scans : BTreeMap ℕ KeyScan) (staged : Option StagedWrite) (next pulled faults : ℕ) (remote : List ℕ)
-    (columns : List Column) (settings : List Setting) (same : honest ≡ true → after ≡ db) where
+    (columns : List Column) (settings : List OptionForm) (same : honest ≡ true → after ≡ db) where
   abbrev old : BoxState
   old = sqlite_state honest db bound scans staged next pulled faults
 
@@ -82,7 +82,7 @@ module _ (honest : Bool) (db after : Database) (bound : List Bool) (scans : BTre
         image_is = ap sqlite_image kinds;
         arrangement_is = refl;
         refuses_is = refl;
-        ledger = ap (λ (f : ℕ → Option Bound). record old.ledger { tables = f }) (λ i q. marks bound t true (Some (bound_of t)) lt refl q i);
+        ledger = ap (λ (f : ℕ → Option BoxTable). record old.ledger { tables = f }) (λ i q. marks bound t true (Some (bound_of t)) lt refl q i);
         entry = entry_of db (layout_at t);
         picked = λ h. sym (ap (entry_at db) place);
         no_cause = none;
@@ -119,7 +119,7 @@ module _ (honest : Bool) (db after : Database) (bound : List Bool) (scans : BTre
 
 -- a name of no table refuses it
 pub sqlite_lacks : (honest : Bool) (db : Database) (bound : List Bool) (scans : BTreeMap ℕ KeyScan) (staged : Option StagedWrite) (next pulled faults : ℕ) (remote : List ℕ)
-    (columns : List Column) (settings : List Setting) → place_of remote ≡ None
+    (columns : List Column) (settings : List OptionForm) → place_of remote ≡ None
     → RefusesBind (sqlite_state honest db bound scans staged next pulled faults) remote columns settings (Refused TableNotFound) (sqlite_state honest db bound scans staged next pulled faults)
 sqlite_lacks honest db bound scans staged next pulled faults remote columns settings none = record {
   refuses = refused honest db db bound scans staged next pulled faults remote columns settings (λ h. refl) (Refused TableNotFound);

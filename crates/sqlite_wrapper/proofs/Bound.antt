@@ -3,7 +3,7 @@ use Rattle.std.proofs.Common.{◌≡◌, ◌≢◌, ℕ, ◌<◌, ◌⊎◌, Boo
 use Rattle.std.specs.BTreeMap.{BTreeMap}
 use Rattle.std.proofs.lemmas.Bool.Decides.{eqb_tells}
 use Rattle.sqlite.specs.Effect.{Database}
-use Rattle.fdw_api.specs.State.{Bound, set_at}
+use Rattle.fdw_api.specs.State.{BoxTable, set_at}
 use Rattle.fdw_api.specs.Calls.{Unbinds}
 use Rattle.sqlite_wrapper.specs.declared.scans.KeyScan.{KeyScan}
 use Rattle.staged_changes.specs.declared.changes.StagedWrite.{StagedWrite}
@@ -16,7 +16,7 @@ mark_other : (bs : List Bool) (i q : ℕ) (b : Bool) → q ≢ i → slice_index
 mark_other bs i q b ne = search rules
 
 -- the marks after one is set
-pub marks : (bound : List Bool) (t : ℕ) (b : Bool) (new : Option Bound) → t < length bound → marked_bound b t ≡ new → (q : ℕ)
+pub marks : (bound : List Bool) (t : ℕ) (b : Bool) (new : Option BoxTable) → t < length bound → marked_bound b t ≡ new → (q : ℕ)
     → marked_bound (slice_index_or (slice_set bound t b) q false) q ≡ set_at (λ u. marked_bound (slice_index_or bound u false) u) t new q
 marks bound t b new lt e q = split (eqb_tells q t)
   where
@@ -37,6 +37,6 @@ pub sqlite_unbinds : (honest : Bool) (bound : List Bool) (staged : Option Staged
     → Unbinds (sqlite_state honest db bound scans staged next pulled faults) t (sqlite_state honest db (slice_set bound t false) scans staged next pulled faults)
 sqlite_unbinds honest bound staged db scans next pulled faults t lt = record {
   nature = refl;
-  ledger = ap (λ (f : ℕ → Option Bound). record (sqlite_state honest db bound scans staged next pulled faults).ledger { tables = f }) (λ i q. marks bound t false None lt refl q i);
+  ledger = ap (λ (f : ℕ → Option BoxTable). record (sqlite_state honest db bound scans staged next pulled faults).ledger { tables = f }) (λ i q. marks bound t false None lt refl q i);
   leaves = λ h. record { coming = λ q l o. refl; rows = λ u o. refl; holdings = λ r o. refl };
 }

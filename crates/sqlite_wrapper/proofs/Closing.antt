@@ -10,7 +10,7 @@ use Rattle.med_value.specs.Causes.{phase_of}
 use Rattle.fdw_api.specs.Calls.{none_of, faults_after, Leaves}
 use Rattle.fdw_api.specs.Kinds.{Change, Entry, Stored, Held, Holding, Known, held, is_of_run}
 use Rattle.fdw_api.specs.Scan.{TableRow, spec_of}
-use Rattle.fdw_api.specs.State.{Bound, BoxState, Staging, scan_of}
+use Rattle.fdw_api.specs.State.{BoxTable, BoxState, Staging, scan_of}
 use Rattle.fdw_api.specs.Writes.{CanClose, Closes, CloseCause, RefusesClose, Written}
 use Rattle.fdw_api.specs.declared.interface.Fault.{Fault}
 use Rattle.fdw_api.specs.declared.interface.Fault.TheVariants.{NoMemory, Source, Refused}
@@ -74,7 +74,7 @@ marked_some : (b : Bool) (t : ℕ) → IsSome (marked_bound b t) → marked_boun
 marked_some true t e = refl
 marked_some false t e = absurd cc
 
-marked_is : (b : Bool) (t : ℕ) (x : Bound) → marked_bound b t ≡ Some x → x ≡ bound_of t
+marked_is : (b : Bool) (t : ℕ) (x : BoxTable) → marked_bound b t ≡ Some x → x ≡ bound_of t
 marked_is true t x e = sym (some_inj _ _ e)
 marked_is false t x e = absurd cc
 
@@ -172,7 +172,7 @@ module _ (honest : Bool) (db after : Database) (bound : List Bool) (scans : BTre
   refused_by (Refused c) h = (
     h.0,
     λ honest_is b e. subst
-        (λ (x : Bound). (entry : Option Entry) × (entry ≡ entry_at db (place_of x.remote)) × Contains (x.refuses.causes entry (rows_at db t) changes) c)
+        (λ (x : BoxTable). (entry : Option Entry) × (entry ≡ entry_at db (place_of x.remote)) × Contains (x.refuses.causes entry (rows_at db t) changes) c)
         (sym (marked_is (slice_index_or bound t false) t b e))
         (entry_of db (layout_at t), sym (ap (entry_at db) (place_is t within)), rw within (h.1 honest_is)),
   )

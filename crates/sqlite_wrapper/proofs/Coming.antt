@@ -4,11 +4,11 @@ use Rattle.std.proofs.lemmas.Int.{ints}
 use Rattle.std.proofs.lemmas.List.Sorted.{IsPermutation-filter_both}
 use Rattle.std.proofs.lemmas.List.Elements.{filter_passes, All-weaker}
 use Rattle.sqlite.specs.Order.{Row as SqlRow}
-use Rattle.sqlite_shapes.specs.Shapes.{in_range, key_of, range_of, shown as paged}
+use Rattle.sqlite_shapes.specs.Shapes.{in_range, key_of, range_of, paged}
 use Rattle.key_ranges.specs.declared.ranges.KeyRange.{KeyRange}
 use Rattle.key_ranges.specs.Ranges.{has_key}
 use Rattle.med_value.specs.Datum.{Tuple, Whole}
-use Rattle.fdw_api.specs.Scan.{Spec, Filter, TableRow, GivenRow, IsComing, meets, meets_all, meets_exact, shown}
+use Rattle.fdw_api.specs.Scan.{Spec, RestrictionForm, TableRow, GivenRow, IsComing, meets, meets_all, meets_exact, given_row}
 use Rattle.fdw_api.specs.declared.scan.Agree.{Agree}
 use Rattle.fdw_api.specs.declared.scan.Agree.TheVariants.{Ignored, Hint, Exact}
 use Rattle.sqlite_cells.specs.Layouts.{Layout}
@@ -25,7 +25,7 @@ one_fails true y e = e
 one_fails false y e = refl
 
 -- what an Exact restriction refuses does not meet all
-exact_fails : (fs : List Filter) (answers : List Agree) (params cells : Tuple) → not (meets_exact fs answers params cells) ≡ true → meets_all fs params cells ≡ false
+exact_fails : (fs : List RestrictionForm) (answers : List Agree) (params cells : Tuple) → not (meets_exact fs answers params cells) ≡ true → meets_all fs params cells ≡ false
 exact_fails [] answers params cells e = absurd cc
 exact_fails (f ∷ fs) [] params cells e = absurd cc
 exact_fails (f ∷ fs) (Exact ∷ answers) params cells e = both_fail (meets params cells f) (meets_exact fs answers params cells) _ (exact_fails fs answers params cells) e
@@ -73,7 +73,7 @@ module _ (l : Layout) (spec : Spec) (params : Tuple) (low high : ℤ) (from : le
   same [] = refl
   same (r ∷ rs) = more r (filter (in_range least greatest) rs) (filter (in_range low high) rs) (same rs) (in_range least greatest r) refl
 
-  shows : (xs : List SqlRow) → map (given_of spec l) xs ≡ map (shown spec) (map (row_in l) xs)
+  shows : (xs : List SqlRow) → map (given_of spec l) xs ≡ map (given_row spec) (map (row_in l) xs)
   shows [] = refl
   shows (x ∷ xs) = ap (λ (gs : List GivenRow). given_of spec l x ∷ gs) (shows xs)
 
@@ -84,5 +84,5 @@ module _ (l : Layout) (spec : Spec) (params : Tuple) (low high : ℤ) (from : le
     parts = IsPermutation-filter_both passes (λ r. not (passes r)) (λ r. refl) (rows_in l entries);
     failing = All-weaker _ _ (λ r e. exact_fails spec.offered spec.answers params r.cells e) _ (filter_passes (λ r. not (passes r)) (rows_in l entries));
     exact = filter_passes passes (rows_in l entries);
-    is = shows (range_of low high entries) ∙ ap (map (shown spec)) (sym (same entries));
+    is = shows (range_of low high entries) ∙ ap (map (given_row spec)) (sym (same entries));
   }

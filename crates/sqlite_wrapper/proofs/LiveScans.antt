@@ -14,12 +14,12 @@ use Rattle.key_ranges.specs.Ranges.{is_key_value, is_apart, is_range_check, is_k
 use Rattle.med_value.specs.Datum.{Datum, NoValue, Whole, Chars, Logic, Tuple}
 use Rattle.med_value.specs.declared.value.ColType.{ColType}
 use Rattle.med_value.specs.declared.value.ColType.TheVariants.{Int}
-use Rattle.fdw_api.specs.Scan.{Spec, spec_of, Filter, Check, Compares, Missing, Present, Given, Slot, cell, has_kind, kind_is, check_fits, params_fit, IsComing, meets_exact}
+use Rattle.fdw_api.specs.Scan.{Spec, spec_of, RestrictionForm, TestForm, Compares, Missing, Present, Given, Slot, cell, has_kind, kind_is, test_fits, params_fit, IsComing, meets_exact}
 use Rattle.fdw_api.specs.declared.scan.Agree.{Agree}
 use Rattle.fdw_api.specs.declared.scan.Agree.TheVariants.{Ignored, Hint, Exact}
 use Rattle.fdw_api.specs.declared.interface.Fault.{Fault}
 use Rattle.fdw_api.specs.declared.interface.Fault.TheVariants.{NoMemory}
-use Rattle.fdw_api.specs.State.{Bound, Scan, BoxState, scan_of, table_of}
+use Rattle.fdw_api.specs.State.{BoxTable, Scan, BoxState, scan_of, table_of}
 use Rattle.fdw_api.specs.Calls.{LeavesOthers, new_scan, Begins, Breaks, CanRescan, Rescans, Ends, RefusesBegin, faults_after, not_refused, Allows}
 use Rattle.sqlite_wrapper.specs.declared.scans.KeyScan.{KeyScan}
 use Rattle.staged_changes.specs.declared.changes.StagedWrite.{StagedWrite}
@@ -63,7 +63,7 @@ is_zero : (n : ℕ) → nat_eq n 0 ≡ true → n ≡ 0
 is_zero zero e = refl
 is_zero (suc n) e = absurd (grind arith)
 
-typed_check : (ks : List ColType) (params : Tuple) (column : ℕ) (check : Check) → nat_eq column 0 ≡ true → is_range_check check ≡ true → check_fits (Int ∷ ks) params column check ≡ true → is_typed_check params check ≡ true
+typed_check : (ks : List ColType) (params : Tuple) (column : ℕ) (check : TestForm) → nat_eq column 0 ≡ true → is_range_check check ≡ true → test_fits (Int ∷ ks) params column check ≡ true → is_typed_check params check ≡ true
 typed_check ks params column (Compares op (Given v)) zero_is range fits = range
 typed_check ks params column (Compares op (Slot at)) zero_is range fits =
     let w = both (not (is_apart op)) true range in
@@ -74,35 +74,35 @@ typed_check ks params column Missing zero_is range fits = refl
 typed_check ks params column Present zero_is range fits = refl
 
 -- tests of the key with parameters of its type
-pub keys_fit : (ks : List ColType) (params : Tuple) (fs : List Filter) (gs : List Agree) → only_key_tests fs gs ≡ true → params_fit (Int ∷ ks) fs params ≡ true → only_keys params fs gs ≡ true
+pub keys_fit : (ks : List ColType) (params : Tuple) (fs : List RestrictionForm) (gs : List Agree) → only_key_tests fs gs ≡ true → params_fit (Int ∷ ks) fs params ≡ true → only_keys params fs gs ≡ true
 keys_fit ks params [] gs allowed fits = refl
 keys_fit ks params (f ∷ fs) [] allowed fits = refl
 keys_fit ks params (f ∷ fs) (Exact ∷ gs) allowed fits =
     let w = both (is_key_test f) (only_key_tests fs gs) allowed in
-    let v = both (check_fits (Int ∷ ks) params f.column f.check) _ fits in
-    let t = both (nat_eq f.column 0) (is_range_check f.check) w.0 in
-    pair (asks_key params f) (only_keys params fs gs) (pair (nat_eq f.column 0) _ t.0 (typed_check ks params f.column f.check t.0 t.1 v.0)) (keys_fit ks params fs gs w.1 v.1)
-keys_fit ks params (f ∷ fs) (Ignored ∷ gs) allowed fits = keys_fit ks params fs gs allowed (both (check_fits (Int ∷ ks) params f.column f.check) _ fits).1
-keys_fit ks params (f ∷ fs) (Hint ∷ gs) allowed fits = keys_fit ks params fs gs allowed (both (check_fits (Int ∷ ks) params f.column f.check) _ fits).1
+    let v = both (test_fits (Int ∷ ks) params f.column f.test) _ fits in
+    let t = both (nat_eq f.column 0) (is_range_check f.test) w.0 in
+    pair (asks_key params f) (only_keys params fs gs) (pair (nat_eq f.column 0) _ t.0 (typed_check ks params f.column f.test t.0 t.1 v.0)) (keys_fit ks params fs gs w.1 v.1)
+keys_fit ks params (f ∷ fs) (Ignored ∷ gs) allowed fits = keys_fit ks params fs gs allowed (both (test_fits (Int ∷ ks) params f.column f.test) _ fits).1
+keys_fit ks params (f ∷ fs) (Hint ∷ gs) allowed fits = keys_fit ks params fs gs allowed (both (test_fits (Int ∷ ks) params f.column f.test) _ fits).1
 
-marked_is : (f : Bool) (t : ℕ) (b : Bound) → marked_bound f t ≡ Some b → b ≡ bound_of t
+marked_is : (f : Bool) (t : ℕ) (b : BoxTable) → marked_bound f t ≡ Some b → b ≡ bound_of t
 marked_is true t b e = sym (some_inj _ _ e)
 marked_is false t b e = absurd cc
 
 -- a bound table has the types of its layout, and allows tests of the key
-pub bound_kinds : (f : Bool) (t : ℕ) (b : Bound) → marked_bound f t ≡ Some b → b.kinds ≡ kinds_in (layout_at t)
-bound_kinds f t b e = ap (λ (z : Bound). z.kinds) (marked_is f t b e)
+pub bound_kinds : (f : Bool) (t : ℕ) (b : BoxTable) → marked_bound f t ≡ Some b → b.kinds ≡ kinds_in (layout_at t)
+bound_kinds f t b e = ap (λ (z : BoxTable). z.kinds) (marked_is f t b e)
 
-pub bound_allows : (f : Bool) (t : ℕ) (b : Bound) (spec : Spec) → marked_bound f t ≡ Some b → b.allows spec ≡ true → allows spec ≡ true
-bound_allows f t b spec e a = subst (λ (z : Bound). z.allows spec ≡ true) (marked_is f t b e) a
+pub bound_allows : (f : Bool) (t : ℕ) (b : BoxTable) (spec : Spec) → marked_bound f t ≡ Some b → b.allows spec ≡ true → allows spec ≡ true
+bound_allows f t b spec e a = subst (λ (z : BoxTable). z.allows spec ≡ true) (marked_is f t b e) a
 
 -- what begin asks of the keys
-pub asks : (f : Bool) (t : ℕ) (b : Bound) (spec : Spec) (params : Tuple) → marked_bound f t ≡ Some b → b.allows spec ≡ true → params_fit b.kinds spec.offered params ≡ true → only_keys params spec.offered spec.answers ≡ true
+pub asks : (f : Bool) (t : ℕ) (b : BoxTable) (spec : Spec) (params : Tuple) → marked_bound f t ≡ Some b → b.allows spec ≡ true → params_fit b.kinds spec.offered params ≡ true → only_keys params spec.offered spec.answers ≡ true
 asks f t b spec params e a p =
     let w = both (not spec.narrow) (only_key_tests spec.offered spec.answers) (bound_allows f t b spec e a) in
     keys_fit ((layout_at t).second ∷ (layout_at t).third ∷ []) params spec.offered spec.answers w.1 (subst (λ (k : List ColType). params_fit k spec.offered params ≡ true) (bound_kinds f t b e) p)
 
-marked_there : (spec : Spec) (f : Bool) (t : ℕ) → IsSome (marked_bound f t) → allows spec ≡ true → (b : Bound) × (marked_bound f t ≡ Some b) × (b.allows spec ≡ true)
+marked_there : (spec : Spec) (f : Bool) (t : ℕ) → IsSome (marked_bound f t) → allows spec ≡ true → (b : BoxTable) × (marked_bound f t ≡ Some b) × (b.allows spec ≡ true)
 marked_there spec false t e a = absurd cc
 marked_there spec true t e a = (bound_of t, refl, a)
 
@@ -226,7 +226,7 @@ module _ (honest : Bool) (bound : List Bool) (staged : Option StagedWrite) where
     shows_new : scan_is s ≡ new_scan t (kinds_in (layout_at t)) spec params (from_to (lowest s) s.high)
     shows_new = rw (new.table, new.spec_is, new.params_are, new.whole) refl
 
-    pub sqlite_begins : (m n : BTreeMap ℕ KeyScan) (next pulled faults : ℕ) (b : Bound) → nat_lt t layout_count ≡ true → marked_bound (slice_index_or bound t false) t ≡ Some b → tree.get nat_cmp m next ≡ None
+    pub sqlite_begins : (m n : BTreeMap ℕ KeyScan) (next pulled faults : ℕ) (b : BoxTable) → nat_lt t layout_count ≡ true → marked_bound (slice_index_or bound t false) t ≡ Some b → tree.get nat_cmp m next ≡ None
         → next < 2 ^ 64 - 1 → Sets m n next (Some s) → Begins (box db m next pulled faults) t spec params next (box db n (next + 1) pulled faults)
     sqlite_begins m n next pulled faults b within is_bound fresh room u = record {
       nature = refl;

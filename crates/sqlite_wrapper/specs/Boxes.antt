@@ -13,9 +13,9 @@ use Rattle.sqlite_cells.specs.Tables.{entries_of, rows_of, entry_of, behind}
 use Rattle.key_ranges.specs.Ranges.{has_key, only_key_tests, plain_is_allowed}
 use Rattle.key_ranges.specs.declared.ranges.KeyRange.{KeyRange}
 use Rattle.med_value.specs.Datum.{Whole, Tuple, datum}
-use Rattle.fdw_api.specs.Scan.{Spec, spec_of, TableRow, GivenRow, shown, meets_exact}
+use Rattle.fdw_api.specs.Scan.{Spec, spec_of, TableRow, GivenRow, given_row, meets_exact}
 use Rattle.fdw_api.specs.Kinds.{Entry, Holding, Known}
-use Rattle.fdw_api.specs.State.{Bound, Scan, Ledger, Content, BoxState}
+use Rattle.fdw_api.specs.State.{BoxTable, Scan, Ledger, Content, BoxState}
 use Rattle.sqlite_wrapper.specs.declared.scans.KeyScan.{KeyScan}
 use Rattle.staged_changes.specs.declared.changes.StagedWrite.{StagedWrite}
 use Rattle.sqlite_cells.specs.Layouts.{Layout, kinds_in, layout_at, layout_count, place_of}
@@ -36,7 +36,7 @@ allows spec = not spec.narrow && only_key_tests spec.offered spec.answers
 abbrev pub is_allowed : Scan → Bool
 is_allowed z = nat_lt z.table layout_count && allows z.spec
 
-abbrev pub bound_of : ℕ → Bound
+abbrev pub bound_of : ℕ → BoxTable
 bound_of t = record {
   remote = (layout_at t).name;
   kinds = kinds_in (layout_at t);
@@ -48,7 +48,7 @@ bound_of t = record {
   refuses = sqlite_refusals;
 }
 
-abbrev pub marked_bound : Bool → ℕ → Option Bound
+abbrev pub marked_bound : Bool → ℕ → Option BoxTable
 marked_bound true t = Some (bound_of t)
 marked_bound false t = None
 
@@ -79,7 +79,7 @@ abbrev pub to_come : List SqlRow → KeyScan → List SqlRow
 to_come entries s = unread s ++ (if s.full then range_of (behind (lowest s) (unread s)) s.high entries else [])
 
 abbrev pub given_of : Spec → Layout → SqlRow → GivenRow
-given_of spec l r = shown spec (row_in l r)
+given_of spec l r = given_row spec (row_in l r)
 
 abbrev pub scan_rows : Database → Option KeyScan → List GivenRow
 scan_rows db None = []

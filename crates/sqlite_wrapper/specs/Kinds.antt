@@ -3,12 +3,12 @@ use Rattle.std.specs.Prelude.{List, [], ◌∷◌, map, Option, Some}
 use Rattle.med_value.specs.declared.value.ColType.{ColType}
 use Rattle.med_value.specs.declared.cause.Cause.{Cause}
 use Rattle.med_value.specs.declared.cause.Cause.TheVariants.{InvalidOptionName}
-use Rattle.fdw_api.specs.Kinds.{Kind, Setting, Entry, Stored, Held, kinds_of}
+use Rattle.fdw_api.specs.Kinds.{Kind, OptionForm, Entry, Stored, Held, kinds_of}
 use Rattle.sqlite_surveys.specs.Readings.{sqlite_reading, sqlite_fits}
 use Rattle.sqlite_changes.specs.Kinds.{no_line, by_key, sqlite_refusals}
 
 -- the only option of a sqlite table is `table`, its remote name: each further one is HV00D
-abbrev pub sqlite_objections : List Setting → List Cause
+abbrev pub sqlite_objections : List OptionForm → List Cause
 sqlite_objections [] = []
 sqlite_objections (s ∷ ss) = InvalidOptionName ∷ []
 

@@ -3,7 +3,7 @@ ghost use Rattle.std.specs.Prelude.{◌≡◌, ◌≤◌, ℕ, true, false, leng
 ghost use Rattle.std.specs.Ordering.{nat_cmp};
 ghost use Rattle.std.specs.BTreeMap as tree;
 ghost use Rattle.sqlite.specs.Held.{state};
-ghost use Rattle.fdw_api.specs.Scan.{filter_of, spec_of};
+ghost use Rattle.fdw_api.specs.Scan.{restriction_form, spec_of};
 ghost use Rattle.key_ranges.specs.Ranges.{answer_of};
 ghost use Rattle.sqlite_wrapper.specs.declared.scans.KeyScan.{KeyScan};
 ghost use Rattle.sqlite_cells.specs.Layouts.{layout_count};
@@ -15,7 +15,7 @@ ghost use Rattle.sqlite_wrapper.specs.Boxes.{is_allowed, scan_is, sqlite_state};
 use crate::rows::{GivenNext, faults_after, next_of, read_page};
 use crate::scans::{KeyScan, begun_again, new_scan, pass_row, put_scan, spoil};
 use crate::writing::write_rows;
-use fdw_api::interface::{Counts, Fault, Opt, RowId, SourceRow, Ticket, Wrapper};
+use fdw_api::interface::{Counts, Fault, RowId, SourceRow, TableOption, Ticket, Wrapper};
 use fdw_api::scan::{Agreement, Restriction, ScanSpec, copy_values};
 use key_ranges::answers_for;
 use med_value::{Cause, ColumnDef, NoMemory, Row, TableNo, Value};
@@ -93,7 +93,7 @@ impl<S: SourceStore + Drop> Wrapper for SqliteWrapper<S> {
         alloc: Global,
         remote: &str,
         columns: &[ColumnDef],
-        _options: &[Opt],
+        _options: &[TableOption],
     ) -> Result<TableNo, Fault> {
         let Some(number) = place_of(remote) else {
             return Err(Fault::Refused(Cause::TableNotFound));
@@ -122,10 +122,10 @@ impl<S: SourceStore + Drop> Wrapper for SqliteWrapper<S> {
             self.now.bound.items self.now.scans self.now.staged self.now.next self.now.pulled self.now.faults) _t.number) }
         ensures ok { IfOk result (λ a. Allows (sqlite_state S.honest (state S.Store self.now.conn).now
             self.now.bound.items self.now.scans self.now.staged self.now.next self.now.pulled self.now.faults)
-            _t.number (spec_by _wanted.now (map filter_of offered.now) a)) }
+            _t.number (spec_by _wanted.now (map restriction_form offered.now) a)) }
         ensures each { IfOk result (λ a. length a.answers.items ≡ length offered.now) }
         ensures err { IfErr result (λ fault. fault ≡ Fault.NoMemory) }
-        ensures takes { IfOk result (λ a. a.answers.items ≡ map answer_of (map filter_of offered.now)) }
+        ensures takes { IfOk result (λ a. a.answers.items ≡ map answer_of (map restriction_form offered.now)) }
         ensures narrow { IfOk result (λ a. a.narrow ≡ false) }
     {
         let answers = answers_for(alloc, offered)?;

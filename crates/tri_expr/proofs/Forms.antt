@@ -9,7 +9,7 @@ use Rattle.med_value.specs.declared.value.Value.{Value}
 use Rattle.med_value.specs.Datum.{Tuple, datum}
 use Rattle.med_value.specs.declared.order.Comparison.{Comparison}
 use Rattle.tri_expr.specs.declared.expr.Operation.{Operation}
-use Rattle.tri_expr.specs.declared.expr.Test.{Test}
+use Rattle.tri_expr.specs.declared.expr.Status.{Status}
 use Rattle.tri_expr.specs.declared.expr.SetFunction.{SetFunction}
 use Rattle.tri_expr.specs.declared.expr.Expr.{Expr}
 use Rattle.tri_expr.specs.declared.expr.Expr.TheOpen as layer
@@ -64,7 +64,7 @@ tree_or e parts is = treed e (layer.Or parts) (is ∙ sym (form.rolls-Or parts))
 pub tree_not : (e : Expr) (a : Part) → e ≡ form.Not a → tree e ≡ opposite (tree a.value)
 tree_not e a is = treed e (layer.Not a) (is ∙ sym (form.rolls-Not a))
 
-pub tree_is : (e : Expr) (test : Test) (negative : Bool) (a : Part) → e ≡ form.Is test negative a → tree e ≡ asks test negative (tree a.value)
+pub tree_is : (e : Expr) (test : Status) (negative : Bool) (a : Part) → e ≡ form.Is test negative a → tree e ≡ asks test negative (tree a.value)
 tree_is e test negative a is = treed e (layer.Is test negative a) (is ∙ sym (form.rolls-Is test negative a))
 
 pub tree_between : (e : Expr) (negative : Bool) (x a b : Part) → e ≡ form.Between negative x a b → tree e ≡ between negative (tree x.value) (tree a.value) (tree b.value)

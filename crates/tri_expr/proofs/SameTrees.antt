@@ -14,12 +14,12 @@ use Rattle.tri_expr.specs.declared.expr.Operation.{Operation}
 use Rattle.tri_expr.specs.declared.expr.Operation.TheVariants.{Add, Subtract, Multiply, Divide, Remainder}
 use Rattle.med_value.specs.declared.order.Comparison.{Comparison}
 use Rattle.med_value.specs.declared.order.Comparison.TheVariants.{Equal, Apart, Below, AtMost, Above, AtLeast}
-use Rattle.tri_expr.specs.declared.expr.Test.{Test}
-use Rattle.tri_expr.specs.declared.expr.Test.TheVariants as tests
+use Rattle.tri_expr.specs.declared.expr.Status.{Status}
+use Rattle.tri_expr.specs.declared.expr.Status.TheVariants as statuses
 use Rattle.tri_expr.specs.declared.expr.Expr.{Expr}
 use Rattle.tri_expr.specs.Lists.{datum_eq}
 use Rattle.tri_expr.specs.Tree.{Tree, column, parameter, literal, compare, compute, negate, all_of, some_of, opposite, asks, between, within, matches, parenthesised, count_rows, aggregate, Trees, none, part, trees, tree}
-use Rattle.tri_expr.specs.TreeParts.{bare, bare_all, same_operation, same_comparison, same_test, same_function, same_bool, tree_eq, trees_eq, same_tree}
+use Rattle.tri_expr.specs.TreeParts.{bare, bare_all, same_operation, same_comparison, same_status, same_function, same_bool, tree_eq, trees_eq, same_tree}
 use Rattle.tri_expr.proofs.Choice.{datum_cmp_self}
 
 left_on : (p q : Bool) → (p && q) ≡ true → p ≡ true
@@ -50,12 +50,12 @@ one_operation Divide Divide e = refl
 one_operation Remainder Remainder e = refl
 one_operation a b e = absurd (false≢true e)
 
-one_test : (a b : Test) → same_test a b ≡ true → a ≡ b
-one_test tests.Null tests.Null e = refl
-one_test tests.True tests.True e = refl
-one_test tests.False tests.False e = refl
-one_test tests.Unknown tests.Unknown e = refl
-one_test a b e = absurd (false≢true e)
+one_status : (a b : Status) → same_status a b ≡ true → a ≡ b
+one_status statuses.Null statuses.Null e = refl
+one_status statuses.True statuses.True e = refl
+one_status statuses.False statuses.False e = refl
+one_status statuses.Unknown statuses.Unknown e = refl
+one_status a b e = absurd (false≢true e)
 
 one_function : (a b : SetFunction) → same_function a b ≡ true → a ≡ b
 one_function Count Count e = refl
@@ -100,8 +100,8 @@ mutual
   one_tree (some_of ts) (some_of us) e = ap some_of (one_list ts us e)
   one_tree (opposite a) (opposite b) e = ap opposite (one_tree a b e)
   one_tree (asks t negative a) (asks u other b) e =
-      let f = right_on (same_test t u) (same_bool negative other && tree_eq a b) e in
-      let p = one_test t u (left_on (same_test t u) (same_bool negative other && tree_eq a b) e) in
+      let f = right_on (same_status t u) (same_bool negative other && tree_eq a b) e in
+      let p = one_status t u (left_on (same_status t u) (same_bool negative other && tree_eq a b) e) in
       let q = one_bool negative other (left_on (same_bool negative other) (tree_eq a b) f) in
       let r = one_tree a b (right_on (same_bool negative other) (tree_eq a b) f) in
       cc
@@ -161,11 +161,11 @@ own_operation Multiply = refl
 own_operation Divide = refl
 own_operation Remainder = refl
 
-own_test : (a : Test) → same_test a a ≡ true
-own_test tests.Null = refl
-own_test tests.True = refl
-own_test tests.False = refl
-own_test tests.Unknown = refl
+own_status : (a : Status) → same_status a a ≡ true
+own_status statuses.Null = refl
+own_status statuses.True = refl
+own_status statuses.False = refl
+own_status statuses.Unknown = refl
 
 own_function : (a : SetFunction) → same_function a a ≡ true
 own_function Count = refl
@@ -188,7 +188,7 @@ mutual
   own_tree (all_of ts) = own_list ts
   own_tree (some_of ts) = own_list ts
   own_tree (opposite a) = own_tree a
-  own_tree (asks t negative a) = both_on (own_test t) (both_on (own_bool negative) (own_tree a))
+  own_tree (asks t negative a) = both_on (own_status t) (both_on (own_bool negative) (own_tree a))
   own_tree (between negative x a b) = both_on (own_bool negative) (both_on (own_tree x) (both_on (own_tree a) (own_tree b)))
   own_tree (within negative x ts) = both_on (own_bool negative) (both_on (own_tree x) (own_list ts))
   own_tree (matches negative x pattern) = both_on (own_bool negative) (both_on (own_tree x) ((bytes_eq-Decides pattern pattern).1 refl))

@@ -9,7 +9,9 @@ use Rattle.tri_expr.specs.declared.like.Piece.TheVariants.{Run, One, This}
 abbrev pub pieces : List ℕ → List Piece
 pieces [] = []
 pieces (c ∷ []) = if c == 37 then Run ∷ [] else (if c == 95 then One ∷ [] else This c ∷ [])
-pieces (c ∷ d ∷ cs) = if c == 92 then This d ∷ pieces cs else (if c == 37 then Run ∷ pieces (d ∷ cs) else (if c == 95 then One ∷ pieces (d ∷ cs) else This c ∷ pieces (d ∷ cs)))
+pieces (c ∷ d ∷ cs) =
+    if c == 92 then This d ∷ pieces cs
+    else (if c == 37 then Run ∷ pieces (d ∷ cs) else (if c == 95 then One ∷ pieces (d ∷ cs) else This c ∷ pieces (d ∷ cs)))
 
 -- the text behind some run of its characters, also the empty one
 abbrev pub some_rest : (List ℕ → Bool) → List ℕ → Bool

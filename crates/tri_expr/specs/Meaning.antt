@@ -22,17 +22,17 @@ liked pattern (Chars t) = truth (is_like pattern t)
 liked pattern v = Is NoValue
 
 -- the cell at a place of a row; NULL past the end
-abbrev pub cell : ℕ → Tuple → Datum
-cell at r = slice_index_or r at NoValue
+abbrev pub cell_at : ℕ → Tuple → Datum
+cell_at at r = slice_index_or r at NoValue
 
 -- a row has this value at a place, NULL being equal to NULL
 abbrev pub has_cell : ℕ → Datum → Tuple → Bool
-has_cell at v r = is_eq (datum_cmp (cell at r) v)
+has_cell at v r = is_eq (datum_cmp (cell_at at r) v)
 
 -- the value that all rows of the class have there; NULL where they differ
 abbrev pub shared : ℕ → List Tuple → Datum
 shared at [] = NoValue
-shared at (r ∷ rs) = if list_all (has_cell at (cell at r)) rs then cell at r else NoValue
+shared at (r ∷ rs) = if list_all (has_cell at (cell_at at r)) rs then cell_at at r else NoValue
 
 -- an aggregate's argument over each row by itself; a fault of it is told by itself
 abbrev pub argument : OnClass → List Tuple → List Datum
@@ -43,7 +43,7 @@ argument f (r ∷ rs) = value_of (f (r ∷ [])) ∷ argument f rs
 abbrev mutual
   pub tree_meaning : Tuple → Tree → OnClass
   tree_meaning ps (column at) c = Is (shared at c)
-  tree_meaning ps (parameter at) c = Is (cell at ps)
+  tree_meaning ps (parameter at) c = Is (cell_at at ps)
   tree_meaning ps (literal v) c = Is v
   tree_meaning ps (compare op a b) c = compared op (tree_meaning ps a c) (tree_meaning ps b c)
   tree_meaning ps (compute op a b) c = computed op (tree_meaning ps a c) (tree_meaning ps b c)
@@ -52,8 +52,11 @@ abbrev mutual
   tree_meaning ps (some_of ts) c = settled true (over (tree_meanings ps ts) c)
   tree_meaning ps (opposite a) c = turned_over (tree_meaning ps a c)
   tree_meaning ps (asks t negative a) c = tested t negative (tree_meaning ps a c)
-  tree_meaning ps (between negative x a b) c = turned negative (settled false (compared AtLeast (tree_meaning ps x c) (tree_meaning ps a c) ∷ compared AtMost (tree_meaning ps x c) (tree_meaning ps b c) ∷ []))
-  tree_meaning ps (within negative x ts) c = turned negative (strict (λ v. settled true (map (compared Equal (Is v)) (over (tree_meanings ps ts) c))) (tree_meaning ps x c))
+  tree_meaning ps (between negative x a b) c =
+      turned negative (settled false (compared AtLeast (tree_meaning ps x c) (tree_meaning ps a c)
+      ∷ compared AtMost (tree_meaning ps x c) (tree_meaning ps b c) ∷ []))
+  tree_meaning ps (within negative x ts) c =
+      turned negative (strict (λ v. settled true (map (compared Equal (Is v)) (over (tree_meanings ps ts) c))) (tree_meaning ps x c))
   tree_meaning ps (matches negative x pattern) c = turned negative (strict (liked pattern) (tree_meaning ps x c))
   tree_meaning ps (parenthesised a) c = tree_meaning ps a c
   tree_meaning ps count_rows c = Is (Whole (pos (length c)))

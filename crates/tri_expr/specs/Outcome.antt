@@ -8,8 +8,8 @@ use Rattle.med_value.specs.Order.{datum_cmp, holds}
 use Rattle.med_value.specs.declared.order.Comparison.{Comparison}
 use Rattle.tri_expr.specs.declared.expr.Operation.{Operation}
 use Rattle.tri_expr.specs.declared.expr.Operation.TheVariants.{Add, Subtract, Multiply, Divide, Remainder}
-use Rattle.tri_expr.specs.declared.expr.Test.{Test}
-use Rattle.tri_expr.specs.declared.expr.Test.TheVariants.{Null, True, False, Unknown}
+use Rattle.tri_expr.specs.declared.expr.Status.{Status}
+use Rattle.tri_expr.specs.declared.expr.Status.TheVariants.{Null, True, False, Unknown}
 use Rattle.tri_expr.specs.declared.expr.Fault.{Fault}
 use Rattle.tri_expr.specs.declared.expr.Fault.TheVariants.{Range, Zero}
 use Rattle.tri_expr.specs.declared.expr.EvalFault.{EvalFault}
@@ -124,7 +124,7 @@ settled by os =
     else or_else (first_fault os) (if list_all (is_truth (not by)) os then truth (not by) else Is NoValue)
 
 -- IS NULL, TRUE, FALSE and UNKNOWN are never unknown
-abbrev pub passes : Test → Datum → Bool
+abbrev pub passes : Status → Datum → Bool
 passes Null NoValue = true
 passes Unknown NoValue = true
 passes True (Logic b) = b
@@ -132,7 +132,7 @@ passes False (Logic b) = not b
 passes t v = false
 
 -- IS [NOT] of an operand, whose fault stays
-abbrev pub tested : Test → Bool → Outcome → Outcome
+abbrev pub tested : Status → Bool → Outcome → Outcome
 tested t negative = strict (λ v. truth (if negative then not (passes t v) else passes t v))
 
 -- the outcomes of many over the same rows

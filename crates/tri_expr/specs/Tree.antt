@@ -7,7 +7,7 @@ use Rattle.tri_expr.specs.declared.expr.Expr.TheOpen as layer
 use Rattle.tri_expr.specs.declared.expr.Expr.TheFolds.{fold-Expr}
 use Rattle.med_value.specs.declared.order.Comparison.{Comparison}
 use Rattle.tri_expr.specs.declared.expr.Operation.{Operation}
-use Rattle.tri_expr.specs.declared.expr.Test.{Test}
+use Rattle.tri_expr.specs.declared.expr.Status.{Status}
 use Rattle.tri_expr.specs.declared.expr.SetFunction.{SetFunction}
 
 -- one case for each form; AND, OR and IN have their parts as a list
@@ -22,7 +22,7 @@ mutual
     all_of : Trees → Tree
     some_of : Trees → Tree
     opposite : Tree → Tree
-    asks : Test → Bool → Tree → Tree
+    asks : Status → Bool → Tree → Tree
     between : Bool → Tree → Tree → Tree → Tree
     within : Bool → Tree → Trees → Tree
     matches : Bool → Tree → List ℕ → Tree

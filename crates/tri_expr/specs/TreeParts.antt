@@ -7,8 +7,8 @@ use Rattle.tri_expr.specs.declared.expr.Operation.{Operation}
 use Rattle.tri_expr.specs.declared.expr.Operation.TheVariants.{Add, Subtract, Multiply, Divide, Remainder}
 use Rattle.med_value.specs.declared.order.Comparison.{Comparison}
 use Rattle.med_value.specs.declared.order.Comparison.TheVariants.{Equal, Apart, Below, AtMost, Above, AtLeast}
-use Rattle.tri_expr.specs.declared.expr.Test.{Test}
-use Rattle.tri_expr.specs.declared.expr.Test.TheVariants as tests
+use Rattle.tri_expr.specs.declared.expr.Status.{Status}
+use Rattle.tri_expr.specs.declared.expr.Status.TheVariants as statuses
 use Rattle.tri_expr.specs.Lists.{datum_eq}
 use Rattle.tri_expr.specs.Tree.{Tree, Trees, column, parameter, literal, compare, compute, negate, all_of, some_of, opposite, asks, between, within, matches, parenthesised, count_rows, aggregate, none, part, tree}
 
@@ -110,12 +110,12 @@ same_comparison Above Above = true
 same_comparison AtLeast AtLeast = true
 same_comparison a b = false
 
-abbrev pub same_test : Test → Test → Bool
-same_test tests.Null tests.Null = true
-same_test tests.True tests.True = true
-same_test tests.False tests.False = true
-same_test tests.Unknown tests.Unknown = true
-same_test a b = false
+abbrev pub same_status : Status → Status → Bool
+same_status statuses.Null statuses.Null = true
+same_status statuses.True statuses.True = true
+same_status statuses.False statuses.False = true
+same_status statuses.Unknown statuses.Unknown = true
+same_status a b = false
 
 abbrev pub same_function : SetFunction → SetFunction → Bool
 same_function Count Count = true
@@ -139,7 +139,7 @@ abbrev mutual
   tree_eq (all_of ts) (all_of us) = trees_eq ts us
   tree_eq (some_of ts) (some_of us) = trees_eq ts us
   tree_eq (opposite a) (opposite b) = tree_eq a b
-  tree_eq (asks t negative a) (asks u other b) = same_test t u && (same_bool negative other && tree_eq a b)
+  tree_eq (asks t negative a) (asks u other b) = same_status t u && (same_bool negative other && tree_eq a b)
   tree_eq (between negative x a b) (between other y c d) = same_bool negative other && (tree_eq x y && (tree_eq a c && tree_eq b d))
   tree_eq (within negative x ts) (within other y us) = same_bool negative other && (tree_eq x y && trees_eq ts us)
   tree_eq (matches negative x p) (matches other y q) = same_bool negative other && (tree_eq x y && bytes_eq p q)

@@ -7,6 +7,7 @@ ghost use Rattle.tri_expr.specs.View.{seen, Sees};
 use crate::expr::{Fault, Operation};
 use crate::view::View;
 
+// Exact arithmetic on two whole numbers: a result out of range and a divisor of zero are faults.
 fn compute_numbers(op: Operation, a: i64, b: i64) -> Result<View<'static>, Fault>
     ensures { Sees result (computed_numbers op a b) }
 {
@@ -37,6 +38,7 @@ fn compute_numbers(op: Operation, a: i64, b: i64) -> Result<View<'static>, Fault
     }
 }
 
+// The quotient, truncated towards zero: a divisor of zero and a quotient out of range are faults.
 fn divide(a: i64, b: i64) -> Result<View<'static>, Fault>
     ensures { Sees result (computed_numbers Divide a b) }
 {

@@ -30,12 +30,14 @@ fn cell(cells: &[Value], at: usize) -> View<'_>
     }
 }
 
+// Whether a row has this value at a place, NULL being equal to NULL.
 fn has_cell(row: &Row, at: usize, v: View<'_>) -> bool
     ensures { result ≡ spec_has_cell at (seen v.entry) (tuple row.now) }
 {
     compare_views(cell(&row.cells, at), v).is_eq()
 }
 
+// Whether all rows have this value at a place.
 fn all_have(rows: &[Row], at: usize, v: View<'_>) -> bool
     ensures { result ≡ list_all (spec_has_cell at (seen v.entry)) (map tuple rows.now) }
 {
@@ -47,6 +49,7 @@ fn all_have(rows: &[Row], at: usize, v: View<'_>) -> bool
     true
 }
 
+// The value that the first row and the rest have at a place; NULL where they differ.
 fn shared_of<'a>(first: &'a Row, rest: &[Row], at: usize) -> View<'a>
     ensures { seen result ≡ spec_shared at (tuple first.now ∷ map tuple rest.now) }
 {
@@ -64,6 +67,7 @@ fn shared(class: &[Row], at: usize) -> View<'_>
     }
 }
 
+// LIKE of an operand, whose fault stays: NULL is unknown.
 fn like(pattern: &str, answer: Result<View<'_>, Fault>) -> Result<View<'static>, Fault>
     ensures { (o : Outcome) → Sees answer.entry o → Sees result (strict (liked pattern.now) o) }
 {

@@ -24,7 +24,7 @@ pub enum Operation {
 
 /// What IS asks of its operand (SQL standard, 8.8 <null predicate> and 6.42 <boolean test>).
 #[derive(Clone, Copy, Debug, PartialEq, Eq)]
-pub enum Test {
+pub enum Status {
     /// `IS NULL`
     Null,
     /// `IS TRUE`
@@ -73,7 +73,7 @@ pub enum Expr {
     /// NOT.
     Not(Box<Expr>),
     /// `IS [NOT]` and the test; the second field is negative.
-    Is(Test, bool, Box<Expr>),
+    Is(Status, bool, Box<Expr>),
     /// `x [NOT] BETWEEN low AND high`; the first field is negative.
     Between(bool, Box<Expr>, Box<Expr>, Box<Expr>),
     /// `x [NOT] IN (parts)`; the first field is negative.

@@ -43,7 +43,8 @@ pub fn verdicts_ignore_order()
 
 /// A column over rows that all have one value there is that value: so over a group a key reads its value.
 pub fn column_over_equal_rows_is_their_value()
-    ensures { (at : ℕ) (v : Datum) (row : Tuple) (rows : List Tuple) → list_all (has_cell at v) (row ∷ rows) ≡ true → shared at (row ∷ rows) ≡ v }
+    ensures { (at : ℕ) (v : Datum) (row : Tuple) (rows : List Tuple)
+        → list_all (has_cell at v) (row ∷ rows) ≡ true → shared at (row ∷ rows) ≡ v }
 {}
 
 /// Two expressions are the same exactly where they are one tree without their parentheses.

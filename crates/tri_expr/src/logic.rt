@@ -5,7 +5,7 @@ ghost use Rattle.med_value.specs.declared.order.Comparison.TheVariants.{AtLeast,
 ghost use Rattle.tri_expr.specs.Outcome.{Outcome, Is, compared, compared_values, opposite_value, passes, settled, tested, turned, value_of};
 ghost use Rattle.tri_expr.specs.View.{seen, Sees};
 
-use crate::expr::{Fault, Test};
+use crate::expr::{Fault, Status};
 use crate::view::{View, compare_views};
 use med_value::Comparison;
 
@@ -51,20 +51,20 @@ pub fn opposite(a: View<'_>) -> View<'static>
 }
 
 // Whether IS finds what it asks for.
-fn does_pass(test: Test, a: View<'_>) -> bool
+fn does_pass(test: Status, a: View<'_>) -> bool
     ensures { result ≡ passes test (seen a.entry) }
 {
     match test {
-        Test::Null => matches!(a, View::Null),
-        Test::Unknown => matches!(a, View::Null),
-        Test::True => matches!(a, View::Bool(true)),
-        Test::False => matches!(a, View::Bool(false)),
+        Status::Null => matches!(a, View::Null),
+        Status::Unknown => matches!(a, View::Null),
+        Status::True => matches!(a, View::Bool(true)),
+        Status::False => matches!(a, View::Bool(false)),
     }
 }
 
 /// IS and its test, or under NOT what it does not find.
 pub fn ask(
-    test: Test,
+    test: Status,
     negative: bool,
     answer: Result<View<'_>, Fault>,
 ) -> Result<View<'static>, Fault>
@@ -95,7 +95,8 @@ pub fn between(
     low: Result<View<'_>, Fault>,
     high: Result<View<'_>, Fault>,
 ) -> Result<View<'static>, Fault>
-    ensures { (o a b : Outcome) → Sees value.entry o → Sees low.entry a → Sees high.entry b → Sees result (settled false (compared AtLeast o a ∷ compared AtMost o b ∷ [])) }
+    ensures { (o a b : Outcome) → Sees value.entry o → Sees low.entry a → Sees high.entry b
+        → Sees result (settled false (compared AtLeast o a ∷ compared AtMost o b ∷ [])) }
 {
     let first = compare_both(Comparison::AtLeast, value, low);
     let second = compare_both(Comparison::AtMost, value, high);

@@ -6,6 +6,7 @@ ghost use Rattle.tri_expr.specs.TreeParts as spec;
 
 use crate::expr::{Expr, SetFunction};
 
+// Whether one of the expressions may fault.
 #[cycle(is_risky)]
 fn some_risky(parts: &[Expr]) -> bool
     ensures { result ≡ spec.has_risky_tree (trees (map tree parts.now)) }

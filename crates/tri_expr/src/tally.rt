@@ -19,6 +19,7 @@ pub struct Tally<'a> {
     pub best: View<'a>,
 }
 
+// The number that a value adds to the total; 0 for a value that is no number.
 fn whole(v: View<'_>) -> i128
     ensures is { result ≡ whole_of (seen v.entry) }
     ensures small { magnitude result ≤ 2 ^ 63 }
@@ -29,6 +30,7 @@ fn whole(v: View<'_>) -> i128
     }
 }
 
+// Whether MIN or MAX holds this value in the place of its best one; COUNT and SUM hold none.
 fn is_better(function: SetFunction, v: View<'_>, best: View<'_>) -> bool
     ensures { (if result then seen v.entry else seen best.entry) ≡ better_of function (seen best.entry) (seen v.entry) }
 {
@@ -43,6 +45,7 @@ fn is_better(function: SetFunction, v: View<'_>, best: View<'_>) -> bool
     }
 }
 
+// The total as a number of 64 bits, or a fault where it is out of range.
 fn in_range(total: i128) -> Result<View<'static>, Fault>
     ensures { Sees result (ranged total) }
 {
@@ -53,6 +56,7 @@ fn in_range(total: i128) -> Result<View<'static>, Fault>
 }
 
 impl<'a> Tally<'a> {
+    /// An aggregate over no values yet.
     pub fn new(function: SetFunction) -> Tally<'a>
         ensures tallied { Tallied result [] }
         ensures function { result.function ≡ function }
@@ -85,6 +89,7 @@ impl<'a> Tally<'a> {
         }
     }
 
+    // What the aggregate ends in, by its count, its total and its best value.
     fn answer(self) -> Result<View<'a>, Fault>
         requires few { self.count < 2 ^ 63 }
         ensures { Sees result (finished self.entry.function self.entry.count self.entry.total (seen self.entry.best)) }

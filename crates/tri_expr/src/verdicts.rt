@@ -20,6 +20,7 @@ fn is_true(v: View<'_>) -> bool
     matches!(v, View::Bool(true))
 }
 
+// The fault told before, or else this one.
 fn first_told(told: Option<Fault>, fault: Fault) -> Option<Fault>
     ensures { result ≡ or_some told fault }
 {
@@ -29,6 +30,7 @@ fn first_told(told: Option<Fault>, fault: Fault) -> Option<Fault>
     }
 }
 
+// The verdict of conjuncts over a class of rows, or a fault that may be told.
 #[tactic(auto, using(crate::proofs::Judged::judged_step, crate::proofs::Judged::step_met, crate::proofs::Judged::step_fault, crate::proofs::Judged::verdict_false, crate::proofs::Judged::verdict_true, crate::proofs::Judged::verdict_told))]
 fn judge(conjuncts: &[Expr], class: &[Row], params: &[Value]) -> Result<bool, Fault>
     ensures { Judges result (over (means (map datum params.now) (map tree conjuncts.now)) (map tuple class.now)) }

@@ -18,6 +18,7 @@ pub enum View<'a> {
     Bool(bool),
 }
 
+/// The value, looked at where it stands.
 pub fn view_of(value: &Value) -> View<'_>
     ensures { seen result ≡ datum value.now }
 {
@@ -42,12 +43,14 @@ pub fn owned(alloc: Global, view: View<'_>) -> Result<Value, NoMemory>
     }
 }
 
+/// Whether the value is NULL.
 pub fn is_null(view: View<'_>) -> bool
     ensures { result ≡ is_missing (seen view.entry) }
 {
     matches!(view, View::Null)
 }
 
+// The number of a value's type, which keeps values of two types apart.
 fn type_number(view: View<'_>) -> u8
     ensures { result ≡ type_of (seen view.entry) }
 {

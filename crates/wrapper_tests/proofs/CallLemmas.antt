@@ -6,10 +6,10 @@ use Rattle.std.specs.FinMap.{gets}
 use Rattle.std.proofs.lemmas.Bool.Decides.{eqb_tells}
 use Rattle.med_value.specs.Datum.{Tuple}
 use Rattle.med_value.specs.declared.value.ColType.{ColType}
-use Rattle.fdw_api.specs.Scan.{Spec, spec_of, filter_of, params_fit}
-use Rattle.fdw_api.specs.Kinds.{Column, Setting, Change, Inserts}
-use Rattle.fdw_api.specs.State.{Bound, Scan, Staging, BoxState, IsIdle, table_of, scan_of, set_at}
-use Rattle.fdw_api.specs.Calls.{CanBind, Binds, RefusesBind, Allows, CanBegin, CanUnbind, Unbinds, Begins, IsOpen, Gives, Breaks, CanRescan, Rescans, Ends, Refuses}
+use Rattle.fdw_api.specs.Scan.{Spec, spec_of, restriction_form, params_fit}
+use Rattle.fdw_api.specs.Kinds.{Column, OptionForm, Change, Inserts}
+use Rattle.fdw_api.specs.State.{BoxTable, Scan, Staging, BoxState, IsIdle, table_of, scan_of, set_at}
+use Rattle.fdw_api.specs.Calls.{CanBind, Binds, RefusesBind, Allows, CanBegin, CanUnbind, Unbinds, Begins, IsOpen, Iterates, Breaks, CanRescan, Rescans, Ends, Refuses}
 use Rattle.fdw_api.specs.Writes.{CanModify, Opens, CanChange, Stages, CanClose, Closes, row_of_change_fits}
 use Rattle.fdw_api.specs.declared.scan.ScanSpec.{ScanSpec}
 use Rattle.fdw_api.specs.declared.interface.Fault.{Fault}
@@ -38,14 +38,14 @@ set_same : {X : Type 0} (f : ℕ → X) (k : ℕ) (x : X) → set_at f k x k ≡
 set_same f k x = search rules
 
 -- on an idle wrapper every remote name is free
-pub idle_can_bind : (s : BoxState) (remote : List ℕ) (columns : List Column) (settings : List Setting) → IsIdle s → s.nature.kind.objections columns settings ≡ [] → CanBind s remote columns settings
+pub idle_can_bind : (s : BoxState) (remote : List ℕ) (columns : List Column) (settings : List OptionForm) → IsIdle s → s.nature.kind.objections columns settings ≡ [] → CanBind s remote columns settings
 idle_can_bind s remote columns settings idle no_objection = record {
   free = λ t b is. absurd (not_none (table_of s t) b (idle.no_table t) is);
   no_objection = no_objection;
 }
 
 -- a refused bind leaves a wrapper idle
-pub refused_is_idle : (old new : BoxState) (remote : List ℕ) (columns : List Column) (settings : List Setting) (fault : Fault) → IsIdle old → RefusesBind old remote columns settings fault new → IsIdle new
+pub refused_is_idle : (old new : BoxState) (remote : List ℕ) (columns : List Column) (settings : List OptionForm) (fault : Fault) → IsIdle old → RefusesBind old remote columns settings fault new → IsIdle new
 refused_is_idle old new remote columns settings fault idle r = record {
   no_table = λ t. ap (λ z. z.tables t) r.refuses.ledger ∙ idle.no_table t;
   no_scan = λ q. ap (λ z. finmap.get z.live q) r.refuses.ledger ∙ idle.no_scan q;
@@ -57,17 +57,17 @@ pub refused_keeps : (fault : Fault) (old new : BoxState) (q : ℕ) → Refuses f
 refused_keeps fault old new q r = ap (λ z. finmap.get z.live q) r.ledger
 
 -- what is bound is a table
-pub bound_is_table : (old new : BoxState) (remote : List ℕ) (columns : List Column) (settings : List Setting) (t : ℕ) (b : Binds old remote columns settings t new) → table_of new t ≡ Some b.bound
+pub bound_is_table : (old new : BoxState) (remote : List ℕ) (columns : List Column) (settings : List OptionForm) (t : ℕ) (b : Binds old remote columns settings t new) → table_of new t ≡ Some b.bound
 bound_is_table old new remote columns settings t b = ap (λ z. z.tables t) b.ledger ∙ set_same old.ledger.tables t (Some b.bound)
 
 some_is : {X : Type 0} (o : Option X) (x : X) → o ≡ Some x → IsSome o
 some_is o x e = subst IsSome (sym e) refl
 
-pub bound_is_some : (old new : BoxState) (remote : List ℕ) (columns : List Column) (settings : List Setting) (t : ℕ) → Binds old remote columns settings t new → IsSome (table_of new t)
+pub bound_is_some : (old new : BoxState) (remote : List ℕ) (columns : List Column) (settings : List OptionForm) (t : ℕ) → Binds old remote columns settings t new → IsSome (table_of new t)
 bound_is_some old new remote columns settings t b = some_is _ _ (bound_is_table old new remote columns settings t b)
 
 -- a table bound on an idle wrapper may be let go
-pub bound_can_unbind : (old new : BoxState) (remote : List ℕ) (columns : List Column) (settings : List Setting) (t : ℕ) → IsIdle old → Binds old remote columns settings t new → CanUnbind new t
+pub bound_can_unbind : (old new : BoxState) (remote : List ℕ) (columns : List Column) (settings : List OptionForm) (t : ℕ) → IsIdle old → Binds old remote columns settings t new → CanUnbind new t
 bound_can_unbind old new remote columns settings t idle b = record {
   is_bound = bound_is_some old new remote columns settings t b;
   no_scan = λ q scan is. absurd (not_none (scan_of new q) scan (ap (λ z. finmap.get z.live q) b.ledger ∙ idle.no_scan q) is);
@@ -75,7 +75,7 @@ bound_can_unbind old new remote columns settings t idle b = record {
 }
 
 -- and the wrapper is idle again
-pub unbound_is_idle : (old mid new : BoxState) (remote : List ℕ) (columns : List Column) (settings : List Setting) (t : ℕ) → IsIdle old → Binds old remote columns settings t mid → Unbinds mid t new → IsIdle new
+pub unbound_is_idle : (old mid new : BoxState) (remote : List ℕ) (columns : List Column) (settings : List OptionForm) (t : ℕ) → IsIdle old → Binds old remote columns settings t mid → Unbinds mid t new → IsIdle new
 unbound_is_idle old mid new remote columns settings t idle b u = record {
   no_table = λ q. ap (λ z. z.tables q) u.ledger ∙ split q (eqb_tells q t);
   no_scan = λ q. ap (λ z. finmap.get z.live q) u.ledger ∙ ap (λ z. finmap.get z.live q) b.ledger ∙ idle.no_scan q;
@@ -104,12 +104,12 @@ pub live_stays : (old new : BoxState) (n : ℕ) → scan_of new n ≡ scan_of ol
 live_stays old new n same live = subst IsSome (sym same) live
 
 -- a scan that answers stays open, and the others are as before
-pub given_is_open : (old new : BoxState) (n : ℕ) (row : Option SourceRow) → Gives old n row new → IsOpen old n → IsOpen new n
+pub given_is_open : (old new : BoxState) (n : ℕ) (row : Option SourceRow) → Iterates old n row new → IsOpen old n → IsOpen new n
 given_is_open old new n None g is_open = open_stays old new n (ap (λ z. finmap.get z.live n) g.ledger) is_open
 given_is_open old new n (Some row) g is_open =
     (record g.scan { left = g.left }, ap (λ z. finmap.get z.live n) g.ledger ∙ put_same old.ledger.live n _, ap (λ (z : Scan). z.broken) (some_inj g.scan is_open.0 (sym g.at ∙ is_open.1)) ∙ is_open.2)
 
-pub given_keeps : (old new : BoxState) (n q : ℕ) (row : Option SourceRow) → Gives old n row new → q ≢ n → scan_of new q ≡ scan_of old q
+pub given_keeps : (old new : BoxState) (n q : ℕ) (row : Option SourceRow) → Iterates old n row new → q ≢ n → scan_of new q ≡ scan_of old q
 given_keeps old new n q None g ne = ap (λ z. finmap.get z.live q) g.ledger
 given_keeps old new n q (Some row) g ne = ap (λ z. finmap.get z.live q) g.ledger ∙ put_other old.ledger.live n q _ ne
 
@@ -124,7 +124,7 @@ broken_keeps old new n q fault b ne = ap (λ z. finmap.get z.live q) b.ledger �
 pub ended_keeps : (old new : BoxState) (n q : ℕ) → Ends old n new → q ≢ n → scan_of new q ≡ scan_of old q
 ended_keeps old new n q e ne = ap (λ z. finmap.get z.live q) e.ledger ∙ taken_other old.ledger.live n q ne
 
-pub given_can_rescan : (old new : BoxState) (n : ℕ) (row : Option SourceRow) (params : Tuple) → Gives old n row new → CanRescan old n params → CanRescan new n params
+pub given_can_rescan : (old new : BoxState) (n : ℕ) (row : Option SourceRow) (params : Tuple) → Iterates old n row new → CanRescan old n params → CanRescan new n params
 given_can_rescan old new n None params g c = record {
   scan = c.scan;
   at = ap (λ z. finmap.get z.live n) g.ledger ∙ c.at;
@@ -149,13 +149,13 @@ again_is_open old new n params r = (_, ap (λ z. finmap.get z.live n) r.ledger �
 
 -- a scan without restrictions may begin by the wrapper's own answer
 pub planned_begins : (s : BoxState) (t : ℕ) (spec : ScanSpec) → spec.offered.items ≡ [] → Allows s t (spec_of spec) → CanBegin s t spec []
-planned_begins s t spec none a = record { bound = a.bound; is = a.is; allowed = a.allowed; typed = ap (λ l. params_fit a.bound.kinds (map filter_of l) []) none }
+planned_begins s t spec none a = record { bound = a.bound; is = a.is; allowed = a.allowed; typed = ap (λ l. params_fit a.bound.kinds (map restriction_form l) []) none }
 
 -- and begun, it may begin again
 pub begun_can_rescan : (old new : BoxState) (t : ℕ) (spec : Spec) (n : ℕ) → spec.offered ≡ [] → IsSome (table_of old t) → Begins old t spec [] n new → CanRescan new n []
 begun_can_rescan old new t spec n none is b = at_table (table_of old t) refl is
   where
-    at_table : (o : Option Bound) → table_of old t ≡ o → IsSome o → CanRescan new n []
+    at_table : (o : Option BoxTable) → table_of old t ≡ o → IsSome o → CanRescan new n []
     at_table None e is = absurd cc
     at_table (Some bound) e is = record {
       scan = _;
@@ -167,7 +167,7 @@ begun_can_rescan old new t spec n none is b = at_table (table_of old t) refl is
     }
 
 -- no call of a scan changes the tables
-pub given_tables : (old new : BoxState) (n t : ℕ) (row : Option SourceRow) → Gives old n row new → table_of new t ≡ table_of old t
+pub given_tables : (old new : BoxState) (n t : ℕ) (row : Option SourceRow) → Iterates old n row new → table_of new t ≡ table_of old t
 given_tables old new n t None g = ap (λ z. z.tables t) g.ledger
 given_tables old new n t (Some row) g = ap (λ z. z.tables t) g.ledger
 
@@ -185,17 +185,17 @@ pub idle_failed : (s : BoxState) (passes : ℕ) → IsIdle s → IsIdle (failed 
 idle_failed s passes i = record { no_table = i.no_table; no_scan = i.no_scan; no_staging = ap (option_map (staging_of (Before passes))) i.no_staging }
 
 -- a table bound on an idle wrapper may be written
-pub bound_can_modify : (old new : BoxState) (remote : List ℕ) (columns : List Column) (settings : List Setting) (t : ℕ) → IsIdle old → Binds old remote columns settings t new → CanModify new t
+pub bound_can_modify : (old new : BoxState) (remote : List ℕ) (columns : List Column) (settings : List OptionForm) (t : ℕ) → IsIdle old → Binds old remote columns settings t new → CanModify new t
 bound_can_modify old new remote columns settings t idle b = let c = bound_can_unbind old new remote columns settings t idle b in record { is_bound = c.is_bound; no_scan = c.no_scan; not_staged = c.not_staged }
 
-pub bound_kinds : (old new : BoxState) (remote : List ℕ) (columns : List Column) (settings : List Setting) (kinds : List ColType) (t : ℕ) (b : Binds old remote columns settings t new) → map (λ c. c.kind) columns ≡ kinds → (bound : Bound) → table_of new t ≡ Some bound → bound.kinds ≡ kinds
-bound_kinds old new remote columns settings kinds t b e bound is = ap (λ (z : Bound). z.kinds) (some_inj bound b.bound (sym is ∙ bound_is_table old new remote columns settings t b)) ∙ b.kinds_are ∙ e
+pub bound_kinds : (old new : BoxState) (remote : List ℕ) (columns : List Column) (settings : List OptionForm) (kinds : List ColType) (t : ℕ) (b : Binds old remote columns settings t new) → map (λ c. c.kind) columns ≡ kinds → (bound : BoxTable) → table_of new t ≡ Some bound → bound.kinds ≡ kinds
+bound_kinds old new remote columns settings kinds t b e bound is = ap (λ (z : BoxTable). z.kinds) (some_inj bound b.bound (sym is ∙ bound_is_table old new remote columns settings t b)) ∙ b.kinds_are ∙ e
 
 -- a row may be inserted where it is of the columns' types
-pub opened_can_insert : (old s : BoxState) (t : ℕ) (row : Tuple) (kinds : List ColType) → CanModify old t → ((bound : Bound) → table_of old t ≡ Some bound → bound.kinds ≡ kinds) → row_of_change_fits kinds (Inserts row) ≡ true → Opens old t s → CanChange s (Inserts row)
+pub opened_can_insert : (old s : BoxState) (t : ℕ) (row : Tuple) (kinds : List ColType) → CanModify old t → ((bound : BoxTable) → table_of old t ≡ Some bound → bound.kinds ≡ kinds) → row_of_change_fits kinds (Inserts row) ≡ true → Opens old t s → CanChange s (Inserts row)
 opened_can_insert old s t row kinds can typed fits o = at_table (table_of old t) refl can.is_bound
   where
-    at_table : (x : Option Bound) → table_of old t ≡ x → IsSome x → CanChange s (Inserts row)
+    at_table : (x : Option BoxTable) → table_of old t ≡ x → IsSome x → CanChange s (Inserts row)
     at_table None e is = absurd cc
     at_table (Some bound) e is = record {
       staging = _;
@@ -232,7 +232,7 @@ on_ok P Q (Ok x) f p = f x p
 on_ok P Q (Err e) f p = tt
 
 -- a scan whose restrictions name no parameter may begin by the wrapper's own answer
-pub planned_fits : (s : BoxState) (t : ℕ) (spec : ScanSpec) → ((kinds : List ColType) → params_fit kinds (map filter_of spec.offered.items) [] ≡ true) → Allows s t (spec_of spec) → CanBegin s t spec []
+pub planned_fits : (s : BoxState) (t : ℕ) (spec : ScanSpec) → ((kinds : List ColType) → params_fit kinds (map restriction_form spec.offered.items) [] ≡ true) → Allows s t (spec_of spec) → CanBegin s t spec []
 planned_fits s t spec fits a = record { bound = a.bound; is = a.is; allowed = a.allowed; typed = fits a.bound.kinds }
 
 pub on_ok_any : {T E P : Type 0} (r : Result T E) → P → OnOk r P

@@ -7,12 +7,12 @@ use Rattle.std.specs.List.{list_any}
 use Rattle.std.proofs.lemmas.Bool.Decides.{eqb_tells}
 use Rattle.std.proofs.lemmas.List.Sorted.{list_any-IsPermutation}
 use Rattle.med_value.specs.Datum.{Tuple}
-use Rattle.fdw_api.specs.Scan.{Spec, GivenRow, TableRow, IsComing, shown, filter_of, params_fit}
+use Rattle.fdw_api.specs.Scan.{Spec, GivenRow, TableRow, IsComing, given_row, restriction_form, params_fit}
 use Rattle.fdw_api.specs.declared.scan.Restriction.{Restriction}
 use Rattle.med_value.specs.declared.value.ColType.{ColType}
 use Rattle.fdw_api.specs.Kinds.{Deletes}
-use Rattle.fdw_api.specs.State.{Bound, Scan, BoxState, Nature, is_honest, table_of, scan_of, rows_of}
-use Rattle.fdw_api.specs.Calls.{Begins, IsOpen, Gives, Breaks, Ends, CanRescan}
+use Rattle.fdw_api.specs.State.{BoxTable, Scan, BoxState, Nature, is_honest, table_of, scan_of, rows_of}
+use Rattle.fdw_api.specs.Calls.{Begins, IsOpen, Iterates, Breaks, Ends, CanRescan}
 use Rattle.fdw_api.specs.Writes.{CanModify, Opens, CanChange, has_id}
 use Rattle.fdw_api.specs.declared.interface.Fault.{Fault}
 use Rattle.fdw_api.specs.declared.interface.SourceRow.{SourceRow}
@@ -34,10 +34,10 @@ or_first false c e = absurd cc
 coming_is_there : (rows : List TableRow) (spec : Spec) (params : Tuple) (row : GivenRow) (rest : List GivenRow) → IsComing rows spec params (row ∷ rest) → has_id rows row.id ≡ true
 coming_is_there rows spec params row rest c = list_any-IsPermutation (λ r. nat_eq row.id r.id) rows (c.taken ++ c.left_out) c.parts ∙ go c.taken c.is
   where
-    go : (taken : List TableRow) → row ∷ rest ≡ map (shown spec) taken → list_any (λ r. nat_eq row.id r.id) (taken ++ c.left_out) ≡ true
+    go : (taken : List TableRow) → row ∷ rest ≡ map (given_row spec) taken → list_any (λ r. nat_eq row.id r.id) (taken ++ c.left_out) ≡ true
     go [] e = absurd cc
     go (x ∷ xs) e =
-        let same : row ≡ shown spec x = cc in
+        let same : row ≡ given_row spec x = cc in
         or_first (nat_eq row.id x.id) _ (subst (λ (k : ℕ). nat_eq row.id k ≡ true) (ap (λ (z : GivenRow). z.id) same) (same_number row.id))
 
 taken_same : (m : finmap.FinMap nat_cmp Scan) (k : ℕ) → finmap.get (finmap.remove m k) k ≡ None
@@ -50,14 +50,14 @@ not_none : (o : Option Scan) (x : Scan) → o ≡ None → o ≡ Some x → ⊥
 not_none o x e f = absurd cc
 
 -- after the scan the table may be written as before
-pub can_modify_still : (old begun given ended : BoxState) (t : ℕ) (spec : Spec) (params : Tuple) (n : ℕ) (row : Option SourceRow) → CanModify old t → Begins old t spec params n begun → Gives begun n row given → Ends given n ended → CanModify ended t
+pub can_modify_still : (old begun given ended : BoxState) (t : ℕ) (spec : Spec) (params : Tuple) (n : ℕ) (row : Option SourceRow) → CanModify old t → Begins old t spec params n begun → Iterates begun n row given → Ends given n ended → CanModify ended t
 can_modify_still old begun given ended t spec params n row can b g e = record {
   is_bound = subst IsSome (sym (ap (λ z. z.tables t) e.ledger ∙ given_tables begun given n t row g ∙ ap (λ z. z.tables t) b.ledger)) can.is_bound;
   no_scan = λ q scan is. at q scan is (eqb_tells q n);
   not_staged = ap (λ z. z.staged) e.ledger ∙ staged row g ∙ ap (λ z. z.staged) b.ledger ∙ can.not_staged;
 }
   where
-    staged : (row : Option SourceRow) → Gives begun n row given → given.ledger.staged ≡ begun.ledger.staged
+    staged : (row : Option SourceRow) → Iterates begun n row given → given.ledger.staged ≡ begun.ledger.staged
     staged None g = ap (λ z. z.staged) g.ledger
     staged (Some r) g = ap (λ z. z.staged) g.ledger
 
@@ -68,7 +68,7 @@ can_modify_still old begun given ended t spec params n row can b g e = record {
         (sym (begun_keeps old begun t spec params n q b w.1) ∙ sym (given_keeps begun given n q row g w.1) ∙ sym (ap (λ z. finmap.get z.live q) e.ledger ∙ taken_other given.ledger.live n q w.1) ∙ is)
 
 -- and the row that was given may be deleted
-pub can_delete_given : (old begun given ended opened : BoxState) (t : ℕ) (spec : Spec) (params : Tuple) (n : ℕ) (row : SourceRow) → CanModify ended t → Begins old t spec params n begun → Gives begun n (Some row) given → Ends given n ended → Opens ended t opened → CanChange opened (Deletes row.id.number)
+pub can_delete_given : (old begun given ended opened : BoxState) (t : ℕ) (spec : Spec) (params : Tuple) (n : ℕ) (row : SourceRow) → CanModify ended t → Begins old t spec params n begun → Iterates begun n (Some row) given → Ends given n ended → Opens ended t opened → CanChange opened (Deletes row.id.number)
 can_delete_given old begun given ended opened t spec params n row can b g e o = at_table (table_of ended t) refl can.is_bound
   where
     back : (s u : BoxState) → u.nature ≡ s.nature → is_honest u → is_honest s
@@ -84,7 +84,7 @@ can_delete_given old begun given ended opened t spec params n row can b g e o = 
         ap (λ (l : List TableRow). has_id l row.id.number) same
         ∙ coming_is_there (rows_of old t) spec params _ _ (subst (λ (l : List GivenRow). IsComing (rows_of old t) spec params l) (g.coming h_begun) (b.coming h_old))
 
-    at_table : (x : Option Bound) → table_of ended t ≡ x → IsSome x → CanChange opened (Deletes row.id.number)
+    at_table : (x : Option BoxTable) → table_of ended t ≡ x → IsSome x → CanChange opened (Deletes row.id.number)
     at_table None is some = absurd cc
     at_table (Some bound) is some = record {
       staging = _;
@@ -98,7 +98,7 @@ can_delete_given old begun given ended opened t spec params n row can b g e o = 
     }
 
 -- a scan is live after each answer
-pub live_still : (old new : BoxState) (n : ℕ) (r : Result (Option SourceRow) Fault) → IsOpen old n → IfOk r (λ row. Gives old n row new) → IfErr r (λ fault. Breaks old n fault new) → IsSome (scan_of new n)
+pub live_still : (old new : BoxState) (n : ℕ) (r : Result (Option SourceRow) Fault) → IsOpen old n → IfOk r (λ row. Iterates old n row new) → IfErr r (λ fault. Breaks old n fault new) → IsSome (scan_of new n)
 live_still old new n (Ok row) o g b = open_is_live new n (given_is_open old new n row g o)
 live_still old new n (Err fault) o g b = broken_is_live old new n fault b
 
@@ -106,10 +106,10 @@ put_same : (m : finmap.FinMap nat_cmp Scan) (k : ℕ) (v : Scan) → finmap.get 
 put_same m k v = grind (gets, rules)
 
 -- a scan begun by some parameters may begin again by others that fit
-pub begun_can_rescan_by : (old new : BoxState) (t : ℕ) (spec : Spec) (params others : Tuple) (n : ℕ) → ((bound : Bound) → table_of old t ≡ Some bound → params_fit bound.kinds spec.offered others ≡ true) → IsSome (table_of old t) → Begins old t spec params n new → CanRescan new n others
+pub begun_can_rescan_by : (old new : BoxState) (t : ℕ) (spec : Spec) (params others : Tuple) (n : ℕ) → ((bound : BoxTable) → table_of old t ≡ Some bound → params_fit bound.kinds spec.offered others ≡ true) → IsSome (table_of old t) → Begins old t spec params n new → CanRescan new n others
 begun_can_rescan_by old new t spec params others n fit is b = at_table (table_of old t) refl is
   where
-    at_table : (o : Option Bound) → table_of old t ≡ o → IsSome o → CanRescan new n others
+    at_table : (o : Option BoxTable) → table_of old t ≡ o → IsSome o → CanRescan new n others
     at_table None e is = absurd cc
     at_table (Some bound) e is = record {
       scan = _;
@@ -121,5 +121,5 @@ begun_can_rescan_by old new t spec params others n fit is b = at_table (table_of
     }
 
 -- parameters fit restrictions that are known
-pub typed_by : (kinds own : List ColType) (offered given : List Restriction) (params : Tuple) → kinds ≡ own → offered ≡ given → params_fit own (map filter_of given) params ≡ true → params_fit kinds (map filter_of offered) params ≡ true
-typed_by kinds own offered given params k o e = ap (λ (x : List ColType). params_fit x (map filter_of offered) params) k ∙ ap (λ (l : List Restriction). params_fit own (map filter_of l) params) o ∙ e
+pub typed_by : (kinds own : List ColType) (offered given : List Restriction) (params : Tuple) → kinds ≡ own → offered ≡ given → params_fit own (map restriction_form given) params ≡ true → params_fit kinds (map restriction_form offered) params ≡ true
+typed_by kinds own offered given params k o e = ap (λ (x : List ColType). params_fit x (map restriction_form offered) params) k ∙ ap (λ (l : List Restriction). params_fit own (map restriction_form l) params) o ∙ e

@@ -3,7 +3,7 @@ ghost use Rattle.std.specs.Prelude.{◌≡◌, ◌∷◌, [], ℕ, List, map, So
 ghost use Rattle.med_value.specs.Datum.{tuple, Whole};
 ghost use Rattle.med_value.specs.declared.value.ColType.TheVariants.{Int};
 ghost use Rattle.fdw_api.specs.Kinds.{Column, column_of};
-ghost use Rattle.fdw_api.specs.State.{Bound, IsIdle, table_of};
+ghost use Rattle.fdw_api.specs.State.{BoxTable, IsIdle, table_of};
 ghost use Rattle.fdw_api.specs.Writes.{CanModify};
 ghost use Rattle.list_wrapper.specs.Lists.{listed, names_differ, rows_fit};
 ghost use Rattle.list_wrapper.specs.ListBoxes.{box_of};
@@ -67,7 +67,8 @@ pub fn bind_orders<W: Wrapper>(source: &mut W, alloc: Global) -> Result<TableNo,
     requires free { (columns : List Column) → (W.meaning source.old).nature.kind.objections columns [] ≡ [] }
     ensures bound { IfOk result (λ t. IsSome (table_of (W.meaning source.new) t.number)) }
     ensures modify { IfOk result (λ t. CanModify (W.meaning source.new) t.number) }
-    ensures kinds { IfOk result (λ t. (bound : Bound) → table_of (W.meaning source.new) t.number ≡ Some bound → bound.kinds ≡ Int ∷ Int ∷ Int ∷ []) }
+    ensures kinds { IfOk result (λ t. (bound : BoxTable) → table_of (W.meaning source.new) t.number ≡ Some bound → bound.kinds
+        ≡ Int ∷ Int ∷ Int ∷ []) }
 {
     let columns = columns(alloc, &THREE_NUMBERS)?;
     source.bind(alloc, "orders", &columns, &[])
@@ -88,7 +89,7 @@ fn bind_again<W: Wrapper>(source: &mut W, alloc: Global) -> Result<TableNo, Faul
 /// Writes an order: the row (13, 9, 2).
 fn insert_order<W: Wrapper>(source: &mut W, alloc: Global, table: TableNo) -> Result<(), Fault>
     requires can { CanModify (W.meaning source.old) table.number }
-    requires kinds { (bound : Bound) → table_of (W.meaning source.old) table.number ≡ Some bound → bound.kinds ≡ Int ∷ Int ∷ Int ∷ [] }
+    requires kinds { (bound : BoxTable) → table_of (W.meaning source.old) table.number ≡ Some bound → bound.kinds ≡ Int ∷ Int ∷ Int ∷ [] }
     ensures { OnOk result (IsSome (table_of (W.meaning source.new) table.number)) }
 {
     let row = order(alloc, 13, 9, 2)?;

@@ -2,7 +2,7 @@
 ghost use Rattle.std.specs.Prelude.{◌≡◌, ◌∷◌, [], Some, IsSome};
 ghost use Rattle.med_value.specs.Datum.{NoValue};
 ghost use Rattle.med_value.specs.declared.value.ColType.TheVariants.{Int};
-ghost use Rattle.fdw_api.specs.State.{Bound, table_of, scan_of};
+ghost use Rattle.fdw_api.specs.State.{BoxTable, table_of, scan_of};
 ghost use Rattle.fdw_api.specs.Calls.{CanRescan};
 
 use crate::reads::take_row;
@@ -35,7 +35,7 @@ pub fn read_by_part<W: Wrapper>(
     out: &mut Vec<u8>,
 ) -> Result<(), Fault>
     requires bound { IsSome (table_of (W.meaning source.old) table.number) }
-    requires kinds { (bound : Bound) → table_of (W.meaning source.old) table.number ≡ Some bound → bound.kinds ≡ Int ∷ Int ∷ Int ∷ [] }
+    requires kinds { (bound : BoxTable) → table_of (W.meaning source.old) table.number ≡ Some bound → bound.kinds ≡ Int ∷ Int ∷ Int ∷ [] }
 {
     let by_part = Restriction {
         column: 1,

@@ -6,7 +6,7 @@ use Rattle.std.proofs.lemmas.List.{length-map}
 use Rattle.med_value.specs.Datum.{Tuple}
 use Rattle.fdw_api.specs.Kinds.{Change}
 use Rattle.fdw_api.specs.Scan.{GivenRow}
-use Rattle.fdw_api.specs.State.{Nature, Bound, Ledger, BoxState, is_honest, table_of, rows_of}
+use Rattle.fdw_api.specs.State.{Nature, BoxTable, Ledger, BoxState, is_honest, table_of, rows_of}
 use Rattle.fdw_api.specs.Calls.{LeavesAll, faults_after}
 use Rattle.fdw_api.specs.Writes.{CanModify}
 use Rattle.fdw_api.specs.declared.interface.Fault.{Fault}
@@ -36,7 +36,7 @@ pub record HasRead (w : WriteForm) (old : BoxState) (t : ℕ) (read : List Given
   pub ends : old.ledger.next ≡ 2 ^ 64 - 1 → old.ledger.next + scans_of w ≡ 2 ^ 64 - 1
   pub leaves : is_honest old → LeavesAll old mid
   pub are_read : is_honest old → AreRead w (rows_of old t) read
-  pub typed : (b : Bound) → (table_of old t ≡ Some b) → are_typed b.kinds read ≡ true
+  pub typed : (b : BoxTable) → (table_of old t ≡ Some b) → are_typed b.kinds read ≡ true
 
 nothing_read : (old mid : BoxState) (read : List GivenRow) → read ≡ [] → mid ≡ old → mid.ledger ≡ record old.ledger { next = old.ledger.next + 0; pulled = pulled_after (length read) old.ledger.pulled }
 nothing_read old mid read none same =

@@ -15,7 +15,7 @@ use Rattle.tri_expr.specs.Outcome.{value_of}
 use Rattle.tri_expr.specs.Meaning.{means}
 use Rattle.med_query.specs.Query.{keeps}
 use Rattle.fdw_api.specs.Kinds.{Change, Inserts, Updates, Deletes}
-use Rattle.fdw_api.specs.Scan.{GivenRow, TableRow, IsComing, plain_spec, row_fits, shown}
+use Rattle.fdw_api.specs.Scan.{GivenRow, TableRow, IsComing, plain_spec, row_fits, given_row}
 use Rattle.fdw_api.specs.Writes.{row_of_change_fits, id_is_there, is_first, names_id, has_id}
 use Rattle.med_write.specs.Form.{WriteForm, insert_form, update_form, delete_form}
 use Rattle.med_write.specs.Writing.{new_cells, row_made, rows_given, changes_of}
@@ -68,7 +68,7 @@ all_there rows read c =
     let both : list_all (λ r. here (id r)) (c.taken ++ c.left_out) ≡ true = sym (list_all-map here id (c.taken ++ c.left_out)) ∙ list_all-from_AllPass here (map id (c.taken ++ c.left_out)) moved in
     let taken : list_all (λ r. here (id r)) c.taken ≡ true = both_first (list_all (λ r. here (id r)) c.taken) (list_all (λ r. here (id r)) c.left_out) (sym (list_all-append (λ r. here (id r)) c.taken c.left_out) ∙ both) in
     ap (list_all (λ r. has_id rows r.id)) c.is
-    ∙ list_all-map (λ r. has_id rows r.id) (shown (plain_spec [] [])) c.taken
+    ∙ list_all-map (λ r. has_id rows r.id) (given_row (plain_spec [] [])) c.taken
     ∙ sym (λ i. list_all (λ r. any_seen (nat_eq r.id) id rows i) c.taken)
     ∙ taken
 

@@ -11,7 +11,7 @@ use Rattle.std.proofs.lemmas.List.Sorted.{IsPermutation-map}
 use Rattle.std.proofs.lemmas.Map.Keys.{IsDistinct-head, IsDistinct-tail, IsDistinct-cons, IsDistinct-IsPermutation}
 use Rattle.std.proofs.lemmas.Map.Made.{IsDistinct-from_count, distinct_count-from_IsDistinct}
 use Rattle.std.proofs.lemmas.Map.Views.{btree_set_len-from_list}
-use Rattle.fdw_api.specs.Scan.{TableRow, GivenRow, Spec, IsComing, plain_spec, shown}
+use Rattle.fdw_api.specs.Scan.{TableRow, GivenRow, Spec, IsComing, plain_spec, given_row}
 use Rattle.med_write.specs.Form.{WriteForm, insert_form, update_form, delete_form}
 use Rattle.write_exec.specs.Rising.{rise_from, are_rising}
 use Rattle.write_exec.specs.Writing.{AreRead}
@@ -97,7 +97,7 @@ coming_once rows spec read c d =
     let id : TableRow → ℕ = λ r. r.id in
     let all : IsDistinct nat_eq (map id (c.taken ++ c.left_out)) = IsDistinct-IsPermutation nat_eq nat_eq_equiv.symm (map id rows) (map id (c.taken ++ c.left_out)) (IsPermutation-map id rows (c.taken ++ c.left_out) c.parts) d in
     let taken : IsDistinct nat_eq (map id c.taken) = first_distinct (map id c.taken) (map id c.left_out) (subst (IsDistinct nat_eq) (map-append id c.taken c.left_out) all) in
-    subst (IsDistinct nat_eq) (map_seen (λ (r : GivenRow). r.id) (shown spec) c.taken ∙ ap (map (λ (r : GivenRow). r.id)) (sym c.is)) taken
+    subst (IsDistinct nat_eq) (map_seen (λ (r : GivenRow). r.id) (given_row spec) c.taken ∙ ap (map (λ (r : GivenRow). r.id)) (sym c.is)) taken
 
 -- no two rows are read under one id, where no two rows of the table have one
 pub read_once : (w : WriteForm) (rows : List TableRow) (read : List GivenRow) → AreRead w rows read → IsDistinct nat_eq (map (λ r. r.id) rows) → IsDistinct nat_eq (map (λ r. r.id) read)

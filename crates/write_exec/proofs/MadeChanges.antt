@@ -2,7 +2,7 @@
 use Rattle.std.proofs.Common.{◌≡◌, ℕ, true, false, List, [], Option, Some, None, IsSome, refl, ap, sym, ◌∙◌, subst, arith}
 use Rattle.std.specs.FinMap as finmap
 use Rattle.fdw_api.specs.Kinds.{Change}
-use Rattle.fdw_api.specs.State.{Bound, Staging, Ledger, BoxState, is_honest, table_of}
+use Rattle.fdw_api.specs.State.{BoxTable, Staging, Ledger, BoxState, is_honest, table_of}
 use Rattle.fdw_api.specs.Calls.{LeavesAll, NoScan, faults_after, not_refused}
 use Rattle.fdw_api.specs.Writes.{CanModify, Opens, RefusesModify, CanClose, Closes, RefusesClose, CloseCause, Written}
 use Rattle.fdw_api.specs.declared.interface.Fault.{Fault}
@@ -106,7 +106,7 @@ can_give_up fault old s t cs can h = record {
 pub written_since : (old s new : BoxState) (st : Staging) → s.ledger.tables ≡ old.ledger.tables → LeavesAll old s → s.ledger.live ≡ old.ledger.live → Written s st new → Written old st new
 written_since old s new st tables left live w = record {
   bound = w.bound;
-  is = ap (λ (f : ℕ → Option Bound). f st.table) (sym tables) ∙ w.is;
+  is = ap (λ (f : ℕ → Option BoxTable). f st.table) (sym tables) ∙ w.is;
   entry = w.entry;
   picked = rw (left.holdings w.bound.remote (λ n. n)) at w.picked;
   no_cause = rw (left.rows st.table (λ n. n)) at w.no_cause;

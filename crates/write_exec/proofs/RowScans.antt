@@ -8,7 +8,7 @@ use Rattle.std.proofs.lemmas.List.Folds.{list_all-append}
 use Rattle.med_value.specs.Datum.{Tuple}
 use Rattle.med_value.specs.declared.value.ColType.{ColType}
 use Rattle.fdw_api.specs.Scan.{GivenRow, Spec, IsComing, plain_spec, row_fits, shown_fits}
-use Rattle.fdw_api.specs.State.{Bound, Scan, BoxState, is_honest, scan_of, rows_of}
+use Rattle.fdw_api.specs.State.{BoxTable, Scan, BoxState, is_honest, scan_of, rows_of}
 use Rattle.fdw_api.specs.Calls.{IsOpen, GivesRow, GivesNone, Begins, Ends, new_scan}
 use Rattle.fdw_api.specs.declared.interface.Fault.{Fault}
 use Rattle.med_exec.specs.Reading.{cells_of, StopsBy}
@@ -73,7 +73,7 @@ reads_table : (t n : ℕ) (old begun last new : BoxState) (given : List GivenRow
 reads_table t n old begun last new given b g e = record {
   runs = reads t n (plain_spec [] []) old begun last new (cells_of given) b g.all e;
   coming = λ h. subst (IsComing (rows_of old t) (plain_spec [] []) []) (g.coming (honest_on old begun b.nature h)) (b.coming h);
-  typed = λ bound is. subst (λ (z : Bound). are_typed z.kinds given ≡ true) (some_inj b.bound bound (sym b.is ∙ is)) g.typed;
+  typed = λ bound is. subst (λ (z : BoxTable). are_typed z.kinds given ≡ true) (some_inj b.bound bound (sym b.is ∙ is)) g.typed;
 }
 
 pub ok_table : {T : Type 0} (rows : T → List GivenRow) (t n : ℕ) (old begun last new : BoxState) (r : Result T Fault) → Begins old t (plain_spec [] []) [] n begun → IfOk r (λ x. (kinds : List ColType) → ReadsWhole begun n kinds → GivesRows n kinds begun (rows x) last) → Ends last n new → IfOk r (λ x. ReadsTable old t (rows x) new)

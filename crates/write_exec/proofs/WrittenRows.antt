@@ -11,8 +11,8 @@ use Rattle.tri_expr.specs.Outcome.{Outcome, value_of}
 use Rattle.tri_expr.specs.Meaning.{means}
 use Rattle.med_query.specs.Query.{keeps}
 use Rattle.fdw_api.specs.Kinds.{Held, held, Change, Inserts, Updates, Deletes}
-use Rattle.fdw_api.specs.Scan.{GivenRow, TableRow, IsComing, plain_spec, shown}
-use Rattle.fdw_api.specs.State.{Bound, BoxState, is_honest, table_of, rows_of}
+use Rattle.fdw_api.specs.Scan.{GivenRow, TableRow, IsComing, plain_spec, given_row}
+use Rattle.fdw_api.specs.State.{BoxTable, BoxState, is_honest, table_of, rows_of}
 use Rattle.fdw_api.specs.Writes.{row_after, inserted, rows_after as rows_changed}
 use Rattle.med_write.specs.declared.write.WrittenColumn.{WrittenColumn}
 use Rattle.med_write.specs.Form.{WriteForm, insert_form, update_form, delete_form}
@@ -95,7 +95,7 @@ found line change effect m p (x ∷ xs) g now d (inr i) =
 -- ---- of all rows of the table
 
 abbrev as_given : TableRow → GivenRow
-as_given r = shown (plain_spec [] []) r
+as_given r = given_row (plain_spec [] []) r
 
 -- a scan that asks for all rows leaves none out
 all_rows : (P : TableRow → Type 0) (rows : List TableRow) (read : List GivenRow) (c : IsComing rows (plain_spec [] []) [] read) → All P c.taken → All P rows
@@ -169,11 +169,11 @@ as_written line (delete_form conditions) answer rows read d a =
 some_inj : {A : Type 0} (a b : A) → Some a ≡ Some b → a ≡ b
 some_inj a b q = cc
 
-pub rows_written : (columns : List WrittenColumn) (w : WriteForm) (answer : List Tuple) (old new : BoxState) (t count : ℕ) → is_honest old → IsDistinct nat_eq (map (λ r. r.id) (rows_of old t)) → Writes columns w answer old t count new → (b : Bound) → table_of old t ≡ Some b → map held (rows_of new t) ≡ b.arrangement.arranged (rows_after b.line w answer (map held (rows_of old t)))
+pub rows_written : (columns : List WrittenColumn) (w : WriteForm) (answer : List Tuple) (old new : BoxState) (t count : ℕ) → is_honest old → IsDistinct nat_eq (map (λ r. r.id) (rows_of old t)) → Writes columns w answer old t count new → (b : BoxTable) → table_of old t ≡ Some b → map held (rows_of new t) ≡ b.arrangement.arranged (rows_after b.line w answer (map held (rows_of old t)))
 rows_written columns w answer old new t count honest d h b is =
     let k = h.content honest in
     let same : k.bound ≡ b = some_inj k.bound b (sym k.is ∙ is) in
     k.rows
     ∙ ap (λ cs. k.bound.arrangement.arranged (rows_changed k.bound.line (rows_of old t) cs)) h.are_changes.are
     ∙ ap k.bound.arrangement.arranged (as_written k.bound.line w answer (rows_of old t) h.read d (h.are_read honest))
-    ∙ ap (λ (z : Bound). z.arrangement.arranged (rows_after z.line w answer (map held (rows_of old t)))) same
+    ∙ ap (λ (z : BoxTable). z.arrangement.arranged (rows_after z.line w answer (map held (rows_of old t)))) same

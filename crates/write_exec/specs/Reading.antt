@@ -3,7 +3,7 @@ use Rattle.std.specs.Prelude.{◌≡◌, ℕ, Bool, true, List, [], Some}
 use Rattle.std.specs.List.{list_all}
 use Rattle.med_value.specs.declared.value.ColType.{ColType}
 use Rattle.fdw_api.specs.Scan.{GivenRow, IsComing, plain_spec, row_fits}
-use Rattle.fdw_api.specs.State.{Bound, Scan, BoxState, is_honest, table_of, scan_of, rows_of}
+use Rattle.fdw_api.specs.State.{BoxTable, Scan, BoxState, is_honest, table_of, scan_of, rows_of}
 use Rattle.med_exec.specs.Reading.{GivesAll, cells_of}
 use Rattle.med_exec.specs.Scanning.{RunsScan}
 
@@ -25,4 +25,4 @@ pub record GivesRows (number : ℕ) (kinds : List ColType) (old : BoxState) (giv
 pub record ReadsTable (old : BoxState) (t : ℕ) (given : List GivenRow) (new : BoxState) : Type 0 where
   pub runs : RunsScan old t (plain_spec [] []) (cells_of given) new
   pub coming : is_honest old → IsComing (rows_of old t) (plain_spec [] []) [] given
-  pub typed : (b : Bound) → table_of old t ≡ Some b → are_typed b.kinds given ≡ true
+  pub typed : (b : BoxTable) → table_of old t ≡ Some b → are_typed b.kinds given ≡ true

@@ -3,7 +3,7 @@ use Rattle.std.specs.Prelude.{◌≡◌, ◌≤◌, ◌-◌, ◌^◌, ℕ, Bool,
 use Rattle.std.specs.List.{list_all}
 use Rattle.med_value.specs.Causes.{phase_of}
 use Rattle.fdw_api.specs.Kinds.{Entry, Change, is_of_run}
-use Rattle.fdw_api.specs.State.{Bound, Staging, BoxState, is_honest, table_of, rows_of}
+use Rattle.fdw_api.specs.State.{BoxTable, Staging, BoxState, is_honest, table_of, rows_of}
 use Rattle.fdw_api.specs.Calls.{LeavesAll, Picks, faults_after}
 use Rattle.fdw_api.specs.Writes.{Written, row_of_change_fits, id_is_there, is_first}
 use Rattle.fdw_api.specs.declared.interface.Fault.{Fault}
@@ -16,7 +16,7 @@ all_first before (c ∷ cs) = is_first before c && all_first (before ++ c ∷ []
 
 -- the changes may be staged for a table, one after another
 pub record AreStageable (s : BoxState) (t : ℕ) (changes : List Change) : Type 0 where
-  pub bound : Bound
+  pub bound : BoxTable
   pub is : table_of s t ≡ Some bound
   pub fit : list_all (row_of_change_fits bound.kinds) changes ≡ true
   pub there : is_honest s → list_all (id_is_there (rows_of s t)) changes ≡ true
@@ -34,7 +34,7 @@ ChangesCause old t changes NoMemory = Unit {0}
 ChangesCause old t changes Source = Unit {0}
 ChangesCause old t changes (Refused c) =
     (is_of_run (phase_of c) ≡ true)
-    × (is_honest old → (bound : Bound) → table_of old t ≡ Some bound
+    × (is_honest old → (bound : BoxTable) → table_of old t ≡ Some bound
     → (entry : Option Entry) × Picks (old.content.holdings bound.remote) entry
     × Contains (bound.refuses.causes entry (rows_of old t) changes) c)
 

@@ -9,7 +9,7 @@ use Rattle.med_value.specs.declared.value.ColType.{ColType}
 use Rattle.tri_expr.specs.Outcome.{value_of}
 use Rattle.fdw_api.specs.Kinds.{Entry, Change, is_of_run}
 use Rattle.fdw_api.specs.Scan.{GivenRow, TableRow, IsComing, plain_spec, row_fits}
-use Rattle.fdw_api.specs.State.{Bound, BoxState, is_honest, table_of, rows_of}
+use Rattle.fdw_api.specs.State.{BoxTable, BoxState, is_honest, table_of, rows_of}
 use Rattle.fdw_api.specs.Calls.{LeavesAll, Picks, faults_after}
 use Rattle.fdw_api.specs.Writes.{CanModify, Written}
 use Rattle.fdw_api.specs.declared.interface.Fault.{Fault}
@@ -37,7 +37,7 @@ IsTypedWrite kinds w answer =
 -- the table have one id
 pub record CanWrite (s : BoxState) (t : ℕ) (w : WriteForm) (answer : List Tuple) : Type 0 where
   pub can : CanModify s t
-  pub typed : (b : Bound) → table_of s t ≡ Some b → IsTypedWrite b.kinds w answer
+  pub typed : (b : BoxTable) → table_of s t ≡ Some b → IsTypedWrite b.kinds w answer
   pub once : is_honest s → IsDistinct nat_eq (map (λ r. r.id) (rows_of s t))
 
 -- ---- what is read
@@ -96,7 +96,7 @@ pub record KindRefuses (columns : List WrittenColumn) (w : WriteForm) (answer : 
   pub are_read : AreRead w (rows_of old t) read
   pub changes : List Change
   pub are_changes : AreChanges columns w read answer changes
-  pub bound : Bound
+  pub bound : BoxTable
   pub is : table_of old t ≡ Some bound
   pub entry : Option Entry
   pub picked : Picks (old.content.holdings bound.remote) entry

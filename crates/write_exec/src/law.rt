@@ -4,7 +4,7 @@ ghost use Rattle.std.specs.List.{IsDistinct};
 ghost use Rattle.med_value.specs.Datum.{Tuple};
 ghost use Rattle.fdw_api.specs.Kinds.{held};
 ghost use Rattle.fdw_api.specs.Scan.{GivenRow, TableRow};
-ghost use Rattle.fdw_api.specs.State.{Bound, BoxState, is_honest, table_of, rows_of};
+ghost use Rattle.fdw_api.specs.State.{BoxTable, BoxState, is_honest, table_of, rows_of};
 ghost use Rattle.fdw_api.specs.Writes.{rows_after as rows_changed};
 ghost use Rattle.med_write.specs.declared.write.WrittenColumn.{WrittenColumn as Target};
 ghost use Rattle.med_write.specs.Form.{WriteForm};
@@ -20,6 +20,6 @@ pub fn writes_are_of_the_standard()
         → rows_changed line rows (changes_of w answer read) ≡ rows_after line w answer (map held rows) }
     ensures rows { (columns : List Target) (w : WriteForm) (answer : List Tuple) (old new : BoxState) (t count : ℕ)
         → is_honest old → IsDistinct nat_eq (map (λ r. r.id) (rows_of old t)) → Writes columns w answer old t count new
-        → (b : Bound) → table_of old t ≡ Some b
+        → (b : BoxTable) → table_of old t ≡ Some b
         → map held (rows_of new t) ≡ b.arrangement.arranged (rows_after b.line w answer (map held (rows_of old t))) }
 {}

@@ -9,6 +9,7 @@ use med_value::TableNo;
 use med_write::RowChange;
 use std::alloc::Global;
 
+// Stages one change of a write that is under way.
 fn stage_change<W: Wrapper>(b: &mut W, alloc: Global, change: RowChange) -> Result<(), Fault>
     requires { CanChange (W.meaning b.old) (change_of change) }
     ensures ok { IfOk result (λ _. Stages (W.meaning b.old) (change_of change) (W.meaning b.new)) }

@@ -90,6 +90,7 @@ fn rows_for<W: Wrapper>(
     }
 }
 
+// Does a write to a table of a box, and answers how many rows it is told of.
 fn write_box<W: Wrapper>(
     b: &mut W,
     alloc: Global,

@@ -14,7 +14,7 @@ use Rattle.expr_grammar.specs.declared.refusal.ReadFault.{ReadFault}
 use Rattle.expr_grammar.specs.declared.refusal.ReadFault.TheVariants as faults
 use Rattle.expr_grammar.specs.declared.refusal.Refusal.{Refusal}
 use Rattle.expr_grammar.specs.declared.refusal.Refusal.TheVariants.{Syntax, TooHigh}
-use Rattle.expr_grammar.specs.ExprAnswers.{Gives}
+use Rattle.expr_grammar.specs.ExprAnswers.{ReadsAs}
 use Rattle.expr_grammar.specs.ExprTerminals.{terminals_at, AreReadable}
 use Rattle.expr_grammar.specs.Shapes.{deepens}
 use Rattle.expr_grammar.proofs.ExprTerminals.{terminals_are}
@@ -45,15 +45,15 @@ use Rattle.write_parser.proofs.WriteComplete.{reads_line, one_line}
 use Rattle.write_parser.proofs.QueryWeighing.{words_weigh}
 use Rattle.write_parser.proofs.QueryWeighing as query
 use Rattle.write_parser.proofs.WriteWeighing.{bounded_sound, bounded_out, bounded_told}
-use Rattle.write_parser.proofs.WriteTokens.{Asked, Parted, plain_write, write_cases, query_reads, query_plain, query_parted, same_length}
+use Rattle.write_parser.proofs.WriteTokens.{AskedInsert, Parted, plain_write, write_cases, query_reads, query_plain, query_parted, same_length}
 
 -- ---- statements without a query
 
-pub plain_found : (ss : List Shape) (r : Result WriteStatement ReadFault) → Gives write_tree r (bounded_plain (terminals_at false ss)) → IfOk r (λ w. IsWrite ss (write_tree w))
+pub plain_found : (ss : List Shape) (r : Result WriteStatement ReadFault) → ReadsAs write_tree r (bounded_plain (terminals_at false ss)) → IfOk r (λ w. IsWrite ss (write_tree w))
 plain_found ss (Ok w) h = plain_write ss (write_tree w) (bounded_sound (terminals_at false ss) (write_tree w) h).0
 plain_found ss (Err f) h = tt
 
-pub plain_low : (ss : List Shape) (r : Result WriteStatement ReadFault) → Gives write_tree r (bounded_plain (terminals_at false ss)) → IfOk r (λ w. write_height (write_tree w) ≤ 64)
+pub plain_low : (ss : List Shape) (r : Result WriteStatement ReadFault) → ReadsAs write_tree r (bounded_plain (terminals_at false ss)) → IfOk r (λ w. write_height (write_tree w) ≤ 64)
 plain_low ss (Ok w) h = (bounded_sound (terminals_at false ss) (write_tree w) h).1
 plain_low ss (Err f) h = tt
 
@@ -65,7 +65,7 @@ none_spelled ss e outside none w x =
       | inr a ↦ absurd (err_ok e ((a.table, a.columns), terminals_at false (a.spelled).1) (sym outside ∙ query_reads ss a.table a.columns a.query a.spelled))
     ]
 
-pub plain_refused : (ss : List Shape) (e : Refusal) → query_at (terminals_at false ss) ≡ Err e → (r : Result WriteStatement ReadFault) → Gives write_tree r (bounded_plain (terminals_at false ss)) → IfErr r (Refuses ss)
+pub plain_refused : (ss : List Shape) (e : Refusal) → query_at (terminals_at false ss) ≡ Err e → (r : Result WriteStatement ReadFault) → ReadsAs write_tree r (bounded_plain (terminals_at false ss)) → IfErr r (Refuses ss)
 plain_refused ss e outside (Ok w) h = tt
 plain_refused ss e outside (Err faults.NoMemory) h = tt
 plain_refused ss e outside (Err (faults.Refused Syntax)) h = none_spelled ss e outside (bounded_out (terminals_at false ss) h)
@@ -90,7 +90,7 @@ suffix_same [] b (y ∷ c) d h l = absurd (omega (arith, ap length h, l, length-
 suffix_same (x ∷ a) b [] d h l = absurd (omega (arith, ap length h, l, length-append a b))
 suffix_same (x ∷ a) b (y ∷ c) d h l = suffix_same a b c d (let same : a ++ b ≡ c ++ d = cc in same) l
 
-asked_behind : (ss : List Shape) (n : Name) (c : Option (List Name)) (rest : List Terminal) → query_at (terminals_at false ss) ≡ Ok ((n, c), rest) → (y : Parted ss n c rest) → (w : WriteTree) → (a : Asked ss w) → IsStatement y.behind (select a.query)
+asked_behind : (ss : List Shape) (n : Name) (c : Option (List Name)) (rest : List Terminal) → query_at (terminals_at false ss) ≡ Ok ((n, c), rest) → (y : Parted ss n c rest) → (w : WriteTree) → (a : AskedInsert ss w) → IsStatement y.behind (select a.query)
 asked_behind ss n c rest at y w a =
     let x = a.spelled in
     let both : Ok ((n, c), rest) ≡ Ok ((a.table, a.columns), terminals_at false x.1) = sym at ∙ query_reads ss a.table a.columns a.query x in
@@ -126,7 +126,7 @@ heavy_behind ss front behind is = omega (arith, deep_more front behind, deep_is 
 told_high : (ss : List Shape) (n : Name) (c : Option (List Name)) (rest : List Terminal) (y : Parted ss n c rest) (q : StatementTree) → IsLine (words_at (Before false) false y.behind) q → 64 < statement_height q → (w : WriteTree) × IsWrite ss w × (64 < write_height w)
 told_high ss n c rest y (select q) l h = (insert (record { table = n; columns = c; given = rows_of q }), (y.front, y.behind, y.is, y.spelled, of_terminals y.behind (select q) l), h)
 
-pub query_refused : (ss : List Shape) (n : Name) (c : Option (List Name)) (rest : List Terminal) → query_at (terminals_at false ss) ≡ Ok ((n, c), rest) → (y : Parted ss n c rest) → (f : ReadFault) → Gives statement_tree (Err f) (bounded_line (words_at (Before false) false y.behind)) → Refuses ss f
+pub query_refused : (ss : List Shape) (n : Name) (c : Option (List Name)) (rest : List Terminal) → query_at (terminals_at false ss) ≡ Ok ((n, c), rest) → (y : Parted ss n c rest) → (f : ReadFault) → ReadsAs statement_tree (Err f) (bounded_line (words_at (Before false) false y.behind)) → Refuses ss f
 query_refused ss n c rest at y faults.NoMemory h = tt
 query_refused ss n c rest at y (faults.Refused Syntax) h = none_asked ss n c rest at y (query.bounded_out (words_at (Before false) false y.behind) h)
 query_refused ss n c rest at y (faults.Refused TooHigh) h =
@@ -157,7 +157,7 @@ suffix_is ts n c rest y =
 pub suffix_readable : (ss : List Shape) (n : Name) (c : Option (List Name)) (rest : List Terminal) → (y : Parted ss n c rest) → AreReadable ss → AreReadable y.behind
 suffix_readable ss n c rest y h = readable_behind y.front y.behind (subst AreReadable y.is h)
 
-pub refused_at : {X Y : Type 0} (view : X → Y) (f : ReadFault) (e : Refusal) (r : Result Y Refusal) → Gives view (Err f) r → f ≡ faults.Refused e → r ≡ Err e
+pub refused_at : {X Y : Type 0} (view : X → Y) (f : ReadFault) (e : Refusal) (r : Result Y Refusal) → ReadsAs view (Err f) r → f ≡ faults.Refused e → r ≡ Err e
 refused_at view faults.NoMemory e r h is = absurd (cc)
 refused_at view (faults.Refused d) e r h is = h ∙ ap Err (let same : d ≡ e = cc in same)
 
@@ -172,7 +172,7 @@ same_insert n m b c q r f g h = (λ i. insert (record { table = f i; columns = g
 query_of_select : (q r : SelectTree) → select q ≡ select r → q ≡ r
 query_of_select q r h = cc
 
-one_asked : (ss : List Shape) (v w : WriteTree) → Asked ss v → Asked ss w → v ≡ w
+one_asked : (ss : List Shape) (v w : WriteTree) → AskedInsert ss v → AskedInsert ss w → v ≡ w
 one_asked ss v w a b =
     let rest : List Terminal = terminals_at false (a.spelled).1 in
     let at : query_at (terminals_at false ss) ≡ Ok ((a.table, a.columns), rest) = query_reads ss a.table a.columns a.query a.spelled in
@@ -188,7 +188,7 @@ one_asked ss v w a b =
 
 pub one_write : (ss : List Shape) (v w : WriteTree) → IsWrite ss v → IsWrite ss w → v ≡ w
 one_write ss v w x y =
-    let go : IsPlain (terminals_at false ss) v ⊎ Asked ss v → IsPlain (terminals_at false ss) w ⊎ Asked ss w → v ≡ w = elim [
+    let go : IsPlain (terminals_at false ss) v ⊎ AskedInsert ss v → IsPlain (terminals_at false ss) w ⊎ AskedInsert ss w → v ≡ w = elim [
       | inl a ↦ elim [
         | inl b ↦ one_line (terminals_at false ss) v w a b
         | inr b ↦ absurd (plain_none ss (b.table, b.columns) (terminals_at false (b.spelled).1) (query_reads ss b.table b.columns b.query b.spelled) v a)

@@ -17,7 +17,7 @@ use Rattle.query_grammar.specs.QueryTerminals.{word_at, words_at}
 use Rattle.query_grammar.specs.QueryGrammar.{keywords, SpellsOthers, SpellsList, SpellsAlias, SpellsEntry, SpellsExpr, IsEnd, IsLine, IsStatement}
 use Rattle.query_grammar.proofs.QueryTerminals.{to_terminals}
 use Rattle.query_reader.specs.QueryReading.{behind_word, behind_words}
-use Rattle.query_reader.proofs.PartSound.{Found, flat, err_ok, word_is, words_are}
+use Rattle.query_reader.proofs.PartSound.{FoundPart, flat, err_ok, word_is, words_are}
 use Rattle.write_syntax.specs.WriteTree.{GivenTree, values, rows_of, WriteTree, insert, update, delete}
 use Rattle.write_parser.specs.WriteGrammar.{SpellsTuple, SpellsName, SpellsColumns, SpellsTarget, SpellsSet, SpellsWhere, IsLineOf, IsInsert, IsWrite}
 use Rattle.write_parser.specs.WriteReading.{target_of, insert_of, plain_line, query_at}
@@ -110,18 +110,18 @@ plain_write ss (update u) x = of_plain ss (update u) x
 plain_write ss (delete d) x = of_plain ss (delete d) x
 
 -- an INSERT of a query
-pub record Asked (ss : List Shape) (w : WriteTree) : Type 0 where
+pub record AskedInsert (ss : List Shape) (w : WriteTree) : Type 0 where
   pub table : Name
   pub columns : Option (List Name)
   pub query : SelectTree
   pub is : w ≡ insert (record { table = table; columns = columns; given = rows_of query })
   pub spelled : IsInsert table columns (rows_of query) ss
 
-given_cases : (n : Name) (c : Option (List Name)) (g : GivenTree) (ss : List Shape) → IsInsert n c g ss → IsPlain (terminals_at false ss) (insert (record { table = n; columns = c; given = g })) ⊎ Asked ss (insert (record { table = n; columns = c; given = g }))
+given_cases : (n : Name) (c : Option (List Name)) (g : GivenTree) (ss : List Shape) → IsInsert n c g ss → IsPlain (terminals_at false ss) (insert (record { table = n; columns = c; given = g })) ⊎ AskedInsert ss (insert (record { table = n; columns = c; given = g }))
 given_cases n c (values rows) ss x = inl (to_plain ss (insert (record { table = n; columns = c; given = values rows })) x)
 given_cases n c (rows_of q) ss x = inr (record { table = n; columns = c; query = q; is = refl; spelled = x })
 
-pub write_cases : (ss : List Shape) (w : WriteTree) → IsWrite ss w → IsPlain (terminals_at false ss) w ⊎ Asked ss w
+pub write_cases : (ss : List Shape) (w : WriteTree) → IsWrite ss w → IsPlain (terminals_at false ss) w ⊎ AskedInsert ss w
 write_cases ss (insert i) x = given_cases i.table i.columns i.given ss x
 write_cases ss (update u) x = inl (to_plain ss (update u) x)
 write_cases ss (delete d) x = inl (to_plain ss (delete d) x)
@@ -205,7 +205,7 @@ refused_line room after h = rw (plain_insert room after ∙ h) refl
 
 target_found : (ts after : List Terminal) (x : Name × Option (List Name)) (rest : List Terminal) → ts ≡ keywords (codes "insert" ∷ codes "into" ∷ []) ++ after → target_of after ≡ Ok (x, rest) → (more : List Terminal) → rest ≡ t.Reserved (codes "select") ∷ more → Target ts x rest
 target_found ts after x rest is h more asks =
-    let f : Found SpellsNamed flat 0 after x rest = target_sound after x rest h in
+    let f : FoundPart SpellsNamed flat 0 after x rest = target_sound after x rest h in
     record {
       front = keywords (codes "insert" ∷ codes "into" ∷ []) ++ f.front;
       is = is ∙ ap (λ us. keywords (codes "insert" ∷ codes "into" ∷ []) ++ us) f.is;

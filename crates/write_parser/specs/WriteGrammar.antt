@@ -37,7 +37,8 @@ SpellsTarget table columns ts =
 
 -- VALUES ( expr {, expr} ) {, ( expr {, expr} )} (SQL:2016, <contextually typed table value constructor>)
 abbrev pub SpellsValues : List (List ExprTree) → List Terminal → Type 0
-SpellsValues rows ts = (behind : List Terminal) × (ts ≡ t.Reserved (codes "values") ∷ behind) × SpellsList (SpellsTuple SpellsExpr) rows behind
+SpellsValues rows ts =
+    (behind : List Terminal) × (ts ≡ t.Reserved (codes "values") ∷ behind) × SpellsList (SpellsTuple SpellsExpr) rows behind
 
 -- INSERT INTO name [( name {, name} )] VALUES tuple {, tuple} (SQL:2016, <insert statement>)
 abbrev pub SpellsInsert : Name → Option (List Name) → List (List ExprTree) → List Terminal → Type 0

@@ -1,6 +1,6 @@
 //! Statements that write rows, by recursive descent.
 
-ghost use Rattle.expr_grammar.specs.ExprAnswers.{Gives};
+ghost use Rattle.expr_grammar.specs.ExprAnswers.{ReadsAs};
 ghost use Rattle.expr_grammar.specs.ExprWeight.{again};
 ghost use Rattle.expr_grammar.specs.SymbolView.{terminals_of};
 ghost use Rattle.med_syntax.specs.ExprView.{expr_tree};
@@ -25,7 +25,7 @@ fn target(
     alloc: Global,
     symbols: &[Symbol],
 ) -> Result<(String, Option<Vec<String>>, &[Symbol]), ReadFault>
-    ensures { Gives (λ x. ((string_bytes x.0, option_map names_tree x.1), terminals_of x.2.now))
+    ensures { ReadsAs (λ x. ((string_bytes x.0, option_map names_tree x.1), terminals_of x.2.now))
         result (reading.target_of (terminals_of symbols.now)) }
 {
     let (table, rest) = name(symbols)?;
@@ -39,7 +39,7 @@ pub fn query_at(
     alloc: Global,
     symbols: &[Symbol],
 ) -> Result<(String, Option<Vec<String>>, &[Symbol]), ReadFault>
-    ensures { Gives (λ x. ((string_bytes x.0, option_map names_tree x.1), terminals_of x.2.now))
+    ensures { ReadsAs (λ x. ((string_bytes x.0, option_map names_tree x.1), terminals_of x.2.now))
         result (reading.query_at (terminals_of symbols.now)) }
 {
     match behind_two("insert", "into", symbols) {
@@ -62,7 +62,7 @@ fn insert(
     symbols: &[Symbol],
 ) -> Result<(WriteStatement, &[Symbol]), ReadFault>
     requires { room < 1000 }
-    ensures { Gives (λ x. (write_tree x.0, terminals_of x.1.now)) result (reading.insert_of room (terminals_of symbols.now)) }
+    ensures { ReadsAs (λ x. (write_tree x.0, terminals_of x.1.now)) result (reading.insert_of room (terminals_of symbols.now)) }
 {
     let (table, columns, rest) = target(alloc, symbols)?;
     match behind_word("values", rest) {
@@ -90,7 +90,7 @@ fn condition(
     symbols: &[Symbol],
 ) -> Result<(Option<Expr>, &[Symbol]), ReadFault>
     requires { room < 1000 }
-    ensures { Gives (λ x. (option_map expr_tree x.0, terminals_of x.1.now)) result (reading.where_of room (terminals_of symbols.now)) }
+    ensures { ReadsAs (λ x. (option_map expr_tree x.0, terminals_of x.1.now)) result (reading.where_of room (terminals_of symbols.now)) }
 {
     match behind_word("where", symbols) {
         Some(after) => {
@@ -109,7 +109,7 @@ fn sets(
     symbols: &[Symbol],
 ) -> Result<(Vec<SetClause>, Option<Expr>, &[Symbol]), ReadFault>
     requires { room < 1000 }
-    ensures { Gives (λ x. ((map set_tree x.0.items, option_map expr_tree x.1), terminals_of x.2.now))
+    ensures { ReadsAs (λ x. ((map set_tree x.0.items, option_map expr_tree x.1), terminals_of x.2.now))
         result (reading.sets_of room (terminals_of symbols.now)) }
 {
     let (sets, rest) = set_list(alloc, room, symbols)?;
@@ -125,7 +125,7 @@ fn update(
     symbols: &[Symbol],
 ) -> Result<(WriteStatement, &[Symbol]), ReadFault>
     requires { room < 1000 }
-    ensures { Gives (λ x. (write_tree x.0, terminals_of x.1.now)) result (reading.update_of room (terminals_of symbols.now)) }
+    ensures { ReadsAs (λ x. (write_tree x.0, terminals_of x.1.now)) result (reading.update_of room (terminals_of symbols.now)) }
 {
     let (entry, rest) = entry(symbols)?;
     match behind_word("set", rest) {
@@ -152,7 +152,7 @@ fn delete(
     symbols: &[Symbol],
 ) -> Result<(WriteStatement, &[Symbol]), ReadFault>
     requires { room < 1000 }
-    ensures { Gives (λ x. (write_tree x.0, terminals_of x.1.now)) result (reading.delete_of room (terminals_of symbols.now)) }
+    ensures { ReadsAs (λ x. (write_tree x.0, terminals_of x.1.now)) result (reading.delete_of room (terminals_of symbols.now)) }
 {
     let (entry, rest) = entry(symbols)?;
     let (condition, rest) = condition(alloc, room, rest)?;
@@ -167,7 +167,7 @@ fn plain(
     symbols: &[Symbol],
 ) -> Result<(WriteStatement, &[Symbol]), ReadFault>
     requires { room < 1000 }
-    ensures { Gives (λ x. (write_tree x.0, terminals_of x.1.now)) result (reading.plain_of room (terminals_of symbols.now)) }
+    ensures { ReadsAs (λ x. (write_tree x.0, terminals_of x.1.now)) result (reading.plain_of room (terminals_of symbols.now)) }
 {
     if let Some(after) = behind_two("insert", "into", symbols) {
         return insert(alloc, room, after);
@@ -192,7 +192,7 @@ fn ends(symbols: &[Symbol]) -> bool
 #[tactic(auto, unfolding(crate::specs::WriteReading::plain_line))]
 fn line(alloc: Global, room: u32, symbols: &[Symbol]) -> Result<WriteStatement, ReadFault>
     requires { room < 1000 }
-    ensures { Gives write_tree result (reading.plain_line room (terminals_of symbols.now)) }
+    ensures { ReadsAs write_tree result (reading.plain_line room (terminals_of symbols.now)) }
 {
     let (statement, rest) = plain(alloc, room, symbols)?;
     if ends(rest) {
@@ -204,7 +204,7 @@ fn line(alloc: Global, room: u32, symbols: &[Symbol]) -> Result<WriteStatement, 
 
 /// Why symbols of few heavy ones are refused that have no room: they are a statement, or they are none.
 fn wide_fault(alloc: Global, symbols: &[Symbol]) -> ReadFault
-    ensures { Gives write_tree (Err result) (again (reading.plain_line 455 (terminals_of symbols.now))) }
+    ensures { ReadsAs write_tree (Err result) (again (reading.plain_line 455 (terminals_of symbols.now))) }
 {
     match line(alloc, ROOM, symbols) {
         Ok(_) => ReadFault::Refused(Refusal::TooHigh),
@@ -216,7 +216,7 @@ fn wide_fault(alloc: Global, symbols: &[Symbol]) -> ReadFault
 /// The statement without a query that all of the symbols are. Where few of them are heavy, what is told to be too high is a statement.
 #[tactic(auto, unfolding(crate::specs::WriteReading::bounded_plain))]
 pub fn bounded(alloc: Global, symbols: &[Symbol]) -> Result<WriteStatement, ReadFault>
-    ensures { Gives write_tree result (reading.bounded_plain (terminals_of symbols.now)) }
+    ensures { ReadsAs write_tree result (reading.bounded_plain (terminals_of symbols.now)) }
 {
     match line(alloc, MAX_HEIGHT, symbols) {
         Err(ReadFault::Refused(Refusal::TooHigh)) => {

@@ -1,6 +1,6 @@
 //! Lists with a comma between each two.
 
-ghost use Rattle.expr_grammar.specs.ExprAnswers.{Gives};
+ghost use Rattle.expr_grammar.specs.ExprAnswers.{ReadsAs};
 ghost use Rattle.expr_grammar.specs.ExprReading.{below};
 ghost use Rattle.expr_grammar.specs.SymbolView.{terminals_of};
 ghost use Rattle.med_syntax.specs.ExprView.{expr_tree};
@@ -19,7 +19,7 @@ use write_syntax::SetClause;
 
 /// The names at the front, and the symbols behind them.
 fn name_list(alloc: Global, symbols: &[Symbol]) -> Result<(Vec<String>, &[Symbol]), ReadFault>
-    ensures { Gives (λ x. (map string_bytes x.0.items, terminals_of x.1.now)) result (list_of read_name (terminals_of symbols.now)) }
+    ensures { ReadsAs (λ x. (map string_bytes x.0.items, terminals_of x.1.now)) result (list_of read_name (terminals_of symbols.now)) }
 {
     let mut list = Vec::new(alloc);
     let (first, behind_first) = name(symbols)?;
@@ -39,7 +39,7 @@ pub fn columns(
     alloc: Global,
     symbols: &[Symbol],
 ) -> Result<(Option<Vec<String>>, &[Symbol]), ReadFault>
-    ensures { Gives (λ x. (option_map names_tree x.0, terminals_of x.1.now)) result (reading.columns_of (terminals_of symbols.now)) }
+    ensures { ReadsAs (λ x. (option_map names_tree x.0, terminals_of x.1.now)) result (reading.columns_of (terminals_of symbols.now)) }
 {
     match behind_left(symbols) {
         None => Ok((None, symbols)),
@@ -58,7 +58,8 @@ fn expr_list(
     symbols: &[Symbol],
 ) -> Result<(Vec<Expr>, &[Symbol]), ReadFault>
     requires { room < 1000 }
-    ensures { Gives (λ x. (map expr_tree x.0.items, terminals_of x.1.now)) result (list_of (below room).whole (terminals_of symbols.now)) }
+    ensures { ReadsAs (λ x. (map expr_tree x.0.items, terminals_of x.1.now)) result
+        (list_of (below room).whole (terminals_of symbols.now)) }
 {
     let mut list = Vec::new(alloc);
     let (first, behind_first) = expr(alloc, room, symbols)?;
@@ -76,7 +77,7 @@ fn expr_list(
 #[tactic(auto, unfolding(crate::specs::WriteReading::row_of, crate::specs::WriteReading::inside))]
 fn row(alloc: Global, room: u32, symbols: &[Symbol]) -> Result<(Vec<Expr>, &[Symbol]), ReadFault>
     requires { room < 1000 }
-    ensures { Gives (λ x. (row_tree x.0, terminals_of x.1.now)) result (reading.row_of room (terminals_of symbols.now)) }
+    ensures { ReadsAs (λ x. (row_tree x.0, terminals_of x.1.now)) result (reading.row_of room (terminals_of symbols.now)) }
 {
     match behind_left(symbols) {
         None => Err(ReadFault::Refused(Refusal::Syntax)),
@@ -95,7 +96,8 @@ pub fn row_list(
     symbols: &[Symbol],
 ) -> Result<(Vec<Vec<Expr>>, &[Symbol]), ReadFault>
     requires { room < 1000 }
-    ensures { Gives (λ x. (map row_tree x.0.items, terminals_of x.1.now)) result (list_of (reading.row_of room) (terminals_of symbols.now)) }
+    ensures { ReadsAs (λ x. (map row_tree x.0.items, terminals_of x.1.now)) result
+        (list_of (reading.row_of room) (terminals_of symbols.now)) }
 {
     let mut list = Vec::new(alloc);
     let (first, behind_first) = row(alloc, room, symbols)?;
@@ -113,7 +115,7 @@ pub fn row_list(
 #[tactic(auto, unfolding(crate::specs::WriteReading::set_of))]
 fn set(alloc: Global, room: u32, symbols: &[Symbol]) -> Result<(SetClause, &[Symbol]), ReadFault>
     requires { room < 1000 }
-    ensures { Gives (λ x. (set_tree x.0, terminals_of x.1.now)) result (reading.set_of room (terminals_of symbols.now)) }
+    ensures { ReadsAs (λ x. (set_tree x.0, terminals_of x.1.now)) result (reading.set_of room (terminals_of symbols.now)) }
 {
     let (column, rest) = set_at(symbols)?;
     let (value, rest) = expr(alloc, room, rest)?;
@@ -127,7 +129,8 @@ pub fn set_list(
     symbols: &[Symbol],
 ) -> Result<(Vec<SetClause>, &[Symbol]), ReadFault>
     requires { room < 1000 }
-    ensures { Gives (λ x. (map set_tree x.0.items, terminals_of x.1.now)) result (list_of (reading.set_of room) (terminals_of symbols.now)) }
+    ensures { ReadsAs (λ x. (map set_tree x.0.items, terminals_of x.1.now)) result
+        (list_of (reading.set_of room) (terminals_of symbols.now)) }
 {
     let mut list = Vec::new(alloc);
     let (first, behind_first) = set(alloc, room, symbols)?;

@@ -1,6 +1,6 @@
 //! Words, names and tables at the front of symbols.
 
-ghost use Rattle.expr_grammar.specs.ExprAnswers.{Gives};
+ghost use Rattle.expr_grammar.specs.ExprAnswers.{ReadsAs};
 ghost use Rattle.expr_grammar.specs.ExprReading.{below};
 ghost use Rattle.expr_grammar.specs.SymbolView.{terminals_of};
 ghost use Rattle.med_syntax.specs.ExprView.{expr_tree};
@@ -49,7 +49,7 @@ pub fn behind_left(symbols: &[Symbol]) -> Option<&[Symbol]>
 
 /// The symbols behind a right parenthesis, which has to come first.
 pub fn behind_right(symbols: &[Symbol]) -> Result<&[Symbol], ReadFault>
-    ensures { Gives (λ x. terminals_of x.now) result (reading.behind_right (terminals_of symbols.now)) }
+    ensures { ReadsAs (λ x. terminals_of x.now) result (reading.behind_right (terminals_of symbols.now)) }
 {
     match symbols {
         [Symbol::RightParen, rest @ ..] => Ok(rest),
@@ -59,7 +59,7 @@ pub fn behind_right(symbols: &[Symbol]) -> Result<&[Symbol], ReadFault>
 
 /// The name at the front, and the symbols behind it.
 pub fn name(symbols: &[Symbol]) -> Result<(String, &[Symbol]), ReadFault>
-    ensures { Gives (λ x. (string_bytes x.0, terminals_of x.1.now)) result (query.read_name (terminals_of symbols.now)) }
+    ensures { ReadsAs (λ x. (string_bytes x.0, terminals_of x.1.now)) result (query.read_name (terminals_of symbols.now)) }
 {
     match symbols {
         [Symbol::Name(name), rest @ ..] => Ok((name.clone()?, rest)),
@@ -69,7 +69,7 @@ pub fn name(symbols: &[Symbol]) -> Result<(String, &[Symbol]), ReadFault>
 
 /// The name at the front, where there is one.
 fn perhaps_name(symbols: &[Symbol]) -> Result<(Option<String>, &[Symbol]), ReadFault>
-    ensures { Gives (λ x. (option_map string_bytes x.0, terminals_of x.1.now)) result (query.perhaps_name (terminals_of symbols.now)) }
+    ensures { ReadsAs (λ x. (option_map string_bytes x.0, terminals_of x.1.now)) result (query.perhaps_name (terminals_of symbols.now)) }
 {
     match symbols {
         [Symbol::Name(name), rest @ ..] => Ok((Some(name.clone()?), rest)),
@@ -80,7 +80,7 @@ fn perhaps_name(symbols: &[Symbol]) -> Result<(Option<String>, &[Symbol]), ReadF
 /// The name that a table has in the statement, where it has one of its own.
 #[tactic(auto, unfolding(query_reader::specs::QueryReading::alias_after))]
 fn alias(symbols: &[Symbol]) -> Result<(Option<String>, &[Symbol]), ReadFault>
-    ensures { Gives (λ x. (option_map string_bytes x.0, terminals_of x.1.now)) result (query.alias_after (terminals_of symbols.now)) }
+    ensures { ReadsAs (λ x. (option_map string_bytes x.0, terminals_of x.1.now)) result (query.alias_after (terminals_of symbols.now)) }
 {
     match behind_word("as", symbols) {
         Some(after) => {
@@ -94,7 +94,7 @@ fn alias(symbols: &[Symbol]) -> Result<(Option<String>, &[Symbol]), ReadFault>
 /// The entry at the front, and the symbols behind it.
 #[tactic(auto, unfolding(query_reader::specs::QueryReading::entry_of))]
 pub fn entry(symbols: &[Symbol]) -> Result<(Entry, &[Symbol]), ReadFault>
-    ensures { Gives (λ x. (entry_tree x.0, terminals_of x.1.now)) result (query.entry_of (terminals_of symbols.now)) }
+    ensures { ReadsAs (λ x. (entry_tree x.0, terminals_of x.1.now)) result (query.entry_of (terminals_of symbols.now)) }
 {
     let (table, rest) = name(symbols)?;
     let (alias, rest) = alias(rest)?;
@@ -103,7 +103,7 @@ pub fn entry(symbols: &[Symbol]) -> Result<(Entry, &[Symbol]), ReadFault>
 
 /// The column that a name and an equals sign at the front set, and the symbols behind them.
 pub fn set_at(symbols: &[Symbol]) -> Result<(String, &[Symbol]), ReadFault>
-    ensures { Gives (λ x. (string_bytes x.0, terminals_of x.1.now)) result (reading.set_at (terminals_of symbols.now)) }
+    ensures { ReadsAs (λ x. (string_bytes x.0, terminals_of x.1.now)) result (reading.set_at (terminals_of symbols.now)) }
 {
     match symbols {
         [
@@ -118,7 +118,7 @@ pub fn set_at(symbols: &[Symbol]) -> Result<(String, &[Symbol]), ReadFault>
 /// The expression at the front, and the symbols behind it.
 pub fn expr(alloc: Global, room: u32, symbols: &[Symbol]) -> Result<(Expr, &[Symbol]), ReadFault>
     requires { room < 1000 }
-    ensures { Gives (λ x. (expr_tree x.0, terminals_of x.1.now)) result ((below room).whole (terminals_of symbols.now)) }
+    ensures { ReadsAs (λ x. (expr_tree x.0, terminals_of x.1.now)) result ((below room).whole (terminals_of symbols.now)) }
 {
     let found = whole(alloc, room, symbols)?;
     Ok((found.expr, found.rest))

@@ -13,19 +13,19 @@ use Rattle.bind_names.specs.Scope.{TableShape, Scope, from_scope}
 use Rattle.bind_names.specs.Naming.{name_causes, condition_name_causes, item_name_causes, select_name_causes, once_known}
 use Rattle.bind_names.specs.Meaning.{Output, resolved, conditions_of, outputs_of, item_outputs, meant_in}
 use Rattle.bind_names.specs.Meaning.{group_meant, shown_name}
-use Rattle.bind_names.specs.Telling.{Tells}
+use Rattle.bind_names.specs.Telling.{TellsCause}
 use Rattle.bind_types.specs.Typing.{type_causes, item_type_causes, condition_type_causes, no_aggregate, grouping_causes, unless, select_type_causes}
 use Rattle.tri_expr.specs.Tree.{tree}
 use Rattle.med_query.specs.Form.{GroupForm, Form}
 use Rattle.med_binder.specs.Binding.{IsMeant}
-use Rattle.med_binder.specs.declared.bound.Bound.{Bound}
+use Rattle.med_binder.specs.declared.bound.BoundQuery.{BoundQuery}
 use Rattle.med_binder.specs.Turns.{TellsInTurn}
 use Rattle.med_catalog.specs.Objects.{Objects}
 use Rattle.bind_catalog.specs.Barred.{query_right_causes}
 use Rattle.bind_catalog.specs.Tables.{shapes}
 use Rattle.bind_catalog.specs.Queries as queries
 use Rattle.write_parts.specs.Typing.{asked_types}
-use Rattle.write_parts.specs.declared.asking.Asked.{Asked}
+use Rattle.write_parts.specs.declared.asking.AskedValues.{AskedValues}
 use Rattle.write_parts.specs.Asking.{scope_for, known_for, rights_for, asked_names, item_for, query_for, IsAsked}
 use Rattle.write_parts.proofs.Lists.{left_empty, right_empty, empty_by, none_in, of_two, flat_over, map_flat_ones, types_in_turn}
 
@@ -177,7 +177,7 @@ ask_told o user entry es condition c (inr (inl h)) = record { told = inr (inl (n
 ask_told o user entry es condition c (inr (inr (h, clear))) = record { told = inr (inr (no_names o user entry es condition clear, typed_by o entry es condition c h)) }
 
 pub aggregate_told : (o : Objects) (user : Name) (entry : Option EntryTree) (es : List ExprTree) (condition : Option ExprTree) (c : Cause) (ts : List Tree)
-    → queries.IsBindable o user (query_for entry es condition) → ts ≡ map (resolved (scope_for (shapes o) entry)) es → Tells (no_aggregate ts) c
+    → queries.IsBindable o user (query_for entry es condition) → ts ≡ map (resolved (scope_for (shapes o) entry)) es → TellsCause (no_aggregate ts) c
     → TellsInTurn (asked_names o user entry es condition) (asked_types (scope_for (shapes o) entry) es condition) c
 aggregate_told o user entry es condition c ts is e t =
     let s = scope_for (shapes o) entry in
@@ -186,9 +186,9 @@ aggregate_told o user entry es condition c ts is e t =
     (λ d h. Contains-append_right (flat_map (type_causes s) es) (condition_type_causes s condition ++ (no_aggregate (conditions_of s condition) ++ no_aggregate (map (resolved s) es))) d
     (Contains-append_right (condition_type_causes s condition) (no_aggregate (conditions_of s condition) ++ no_aggregate (map (resolved s) es)) d
     (Contains-append_right (no_aggregate (conditions_of s condition)) (no_aggregate (map (resolved s) es)) d h)))
-    (subst (λ xs. Tells (no_aggregate xs) c) e t)
+    (subst (λ xs. TellsCause (no_aggregate xs) c) e t)
 
-pub asked_is : (o : Objects) (user : Name) (entry : Option EntryTree) (es : List ExprTree) (condition : Option ExprTree) (b : Bound) (a : Asked)
+pub asked_is : (o : Objects) (user : Name) (entry : Option EntryTree) (es : List ExprTree) (condition : Option ExprTree) (b : BoundQuery) (a : AskedValues)
     → queries.IsBindable o user (query_for entry es condition) → IsMeant (queries.meant_by o (query_for entry es condition)) b
     → no_aggregate (map tree b.select.items.items) ≡ [] → a.values ≡ b.select.items → a.conditions ≡ b.select.conditions → IsAsked o user entry es condition a
 asked_is o user entry es condition b a is meant none values conditions =

@@ -3,7 +3,7 @@ use Rattle.std.proofs.Common.{◌≡◌, ◌⊎◌, inl, inr, zero, suc, List, [
 use Rattle.med_value.specs.declared.cause.Cause.{Cause}
 use Rattle.med_value.specs.declared.cause.Cause.TheVariants.{OutOfMemory}
 use Rattle.bind_names.specs.Naming.{once_known}
-use Rattle.bind_names.specs.Telling.{Tells}
+use Rattle.bind_names.specs.Telling.{TellsCause}
 use Rattle.med_binder.specs.Turns.{TellsInTurn}
 
 pub left_empty : (xs ys : List Cause) → xs ++ ys ≡ [] → xs ≡ []
@@ -56,7 +56,7 @@ in_turn_by ns ms ts us c e f t = record { told = by t.told }
     by (inr (inr (none, h))) = inr (inr (sym e ∙ none, f h))
 
 -- a cause of names
-pub names_in_turn : (xs ns ts : List Cause) (c : Cause) → ((d : Cause) → Contains xs d → Contains ns d) → Tells xs c → TellsInTurn ns ts c
+pub names_in_turn : (xs ns ts : List Cause) (c : Cause) → ((d : Cause) → Contains xs d → Contains ns d) → TellsCause xs c → TellsInTurn ns ts c
 names_in_turn xs ns ts c f t = record { told = by t.told }
   where
     by : (c ≡ OutOfMemory) ⊎ Contains xs c → (c ≡ OutOfMemory) ⊎ (Contains ns c ⊎ ((ns ≡ []) × Contains ts c))
@@ -64,7 +64,7 @@ names_in_turn xs ns ts c f t = record { told = by t.told }
     by (inr h) = inr (inl (f c h))
 
 -- a cause of types, where none of names stands
-pub types_in_turn : (ns xs ts : List Cause) (c : Cause) → ns ≡ [] → ((d : Cause) → Contains xs d → Contains ts d) → Tells xs c → TellsInTurn ns ts c
+pub types_in_turn : (ns xs ts : List Cause) (c : Cause) → ns ≡ [] → ((d : Cause) → Contains xs d → Contains ts d) → TellsCause xs c → TellsInTurn ns ts c
 types_in_turn ns xs ts c e f t = record { told = by t.told }
   where
     by : (c ≡ OutOfMemory) ⊎ Contains xs c → (c ≡ OutOfMemory) ⊎ (Contains ns c ⊎ ((ns ≡ []) × Contains ts c))
@@ -75,7 +75,7 @@ pub memory_in_turn : (ns ts : List Cause) (c : Cause) → c ≡ OutOfMemory → 
 memory_in_turn ns ts c e = record { told = inl e }
 
 -- only memory is told where nothing stands
-pub memory_alone : (c : Cause) → Tells [] c → c ≡ OutOfMemory
+pub memory_alone : (c : Cause) → TellsCause [] c → c ≡ OutOfMemory
 memory_alone c t = by t.told
   where
     by : (c ≡ OutOfMemory) ⊎ Contains [] c → c ≡ OutOfMemory

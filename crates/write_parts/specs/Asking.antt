@@ -9,14 +9,14 @@ use Rattle.tri_expr.specs.Tree.{tree}
 use Rattle.bind_names.specs.Scope.{TableShape, Scope, place_named}
 use Rattle.bind_names.specs.Naming.{name_causes, condition_name_causes, once_known}
 use Rattle.bind_names.specs.Meaning.{resolved, conditions_of}
-use Rattle.bind_names.specs.Telling.{Tells}
+use Rattle.bind_names.specs.Telling.{TellsCause}
 use Rattle.med_binder.specs.Turns.{TellsInTurn}
 use Rattle.med_catalog.specs.Objects.{Objects, table_named}
 use Rattle.bind_catalog.specs.Barred.{reading_causes, table_causes, target_right_causes}
 use Rattle.bind_catalog.specs.Tables.{shapes}
 use Rattle.bind_catalog.specs.Places.{Attached, IsPlaceOf}
 use Rattle.write_parts.specs.declared.target.Target.{Target}
-use Rattle.write_parts.specs.declared.asking.Asked.{Asked}
+use Rattle.write_parts.specs.declared.asking.AskedValues.{AskedValues}
 use Rattle.write_parts.specs.Meaning.{columns_in, scope_in}
 use Rattle.write_parts.specs.Naming.{target_causes}
 use Rattle.write_parts.specs.Typing.{asked_types}
@@ -33,7 +33,7 @@ pub record IsTarget (o : Objects) (bound : List Attached) (user : Name) (name : 
 
 abbrev pub FindsTarget : Objects → List Attached → Name → Name → Result Target Cause → Type 0
 FindsTarget o bound user name (Ok t) = IsTarget o bound user name t
-FindsTarget o bound user name (Err c) = Tells (target_causes (shapes o) name ++ target_right_causes o user name) c
+FindsTarget o bound user name (Err c) = TellsCause (target_causes (shapes o) name ++ target_right_causes o user name) c
 
 -- ---- expressions that see the columns of one entry, or none
 
@@ -79,14 +79,15 @@ query_for entry es condition = record {
 }
 
 -- they are resolved, and no cause stands
-pub record IsAsked (o : Objects) (user : Name) (entry : Option EntryTree) (es : List ExprTree) (condition : Option ExprTree) (a : Asked)
+pub record IsAsked (o : Objects) (user : Name) (entry : Option EntryTree) (es : List ExprTree) (condition : Option ExprTree)
+    (a : AskedValues)
     : Type 0 where
   pub values : map tree a.values.items ≡ map (resolved (scope_for (shapes o) entry)) es
   pub conditions : map tree a.conditions.items ≡ conditions_of (scope_for (shapes o) entry) condition
   pub names : asked_names o user entry es condition ≡ []
   pub types : asked_types (scope_for (shapes o) entry) es condition ≡ []
 
-abbrev pub AsksFor : Objects → Name → Option EntryTree → List ExprTree → Option ExprTree → Result Asked Cause → Type 0
+abbrev pub AsksFor : Objects → Name → Option EntryTree → List ExprTree → Option ExprTree → Result AskedValues Cause → Type 0
 AsksFor o user entry es condition (Ok a) = IsAsked o user entry es condition a
 AsksFor o user entry es condition (Err c) =
     TellsInTurn (asked_names o user entry es condition) (asked_types (scope_for (shapes o) entry) es condition) c

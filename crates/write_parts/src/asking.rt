@@ -5,7 +5,7 @@ ghost use Rattle.std.specs.Prelude.{◌≡◌, [], map, length, option_map, IfOk
 ghost use Rattle.med_syntax.specs.ExprView.{expr_tree};
 ghost use Rattle.med_syntax.specs.QueryTree.{select};
 ghost use Rattle.med_syntax.specs.QueryView.{entry_tree, item_tree, chain_tree, statement_tree};
-ghost use Rattle.bind_names.specs.Telling.{Gives, Passes};
+ghost use Rattle.bind_names.specs.Telling.{Means, Passes};
 ghost use Rattle.bind_types.specs.Typing.{no_aggregate};
 ghost use Rattle.med_catalog.specs.View.{objects};
 ghost use Rattle.bind_catalog.specs.Tables.{AreNamedOnce};
@@ -14,7 +14,7 @@ ghost use Rattle.write_parts.specs.Asking.{item_for, from_for, query_for, AsksFo
 
 use bind_catalog::{BoundTable, bind};
 use bind_names::any_has_aggregate;
-use med_binder::Bound;
+use med_binder::BoundQuery;
 use med_catalog::Catalog;
 use med_syntax::{Chain, Entry, Expr as Written, Item, Select, Statement};
 use med_value::Cause;
@@ -23,7 +23,7 @@ use tri_expr::Expr;
 
 /// Expressions with their names resolved, and the conjuncts of WHERE.
 #[derive(Debug, Drop)]
-pub struct Asked {
+pub struct AskedValues {
     /// The expressions, in their order.
     pub values: Vec<Expr>,
     /// The conjuncts of WHERE; none without it.
@@ -32,7 +32,7 @@ pub struct Asked {
 
 // Each expression as an item of a query.
 fn items_for(alloc: Global, values: Vec<Written>) -> Result<Vec<Item>, Cause>
-    ensures { Gives (λ v. map item_tree v.items) [] (map item_for (map expr_tree values.items)) result }
+    ensures { Means (λ v. map item_tree v.items) [] (map item_for (map expr_tree values.items)) result }
 {
     let mut out = Vec::new(alloc);
     for value in values {
@@ -43,7 +43,7 @@ fn items_for(alloc: Global, values: Vec<Written>) -> Result<Vec<Item>, Cause>
 
 // FROM with this entry alone.
 fn from_for(alloc: Global, entry: Option<Entry>) -> Result<Vec<Chain>, Cause>
-    ensures { Gives (λ v. map chain_tree v.items) [] (from_for (option_map entry_tree entry)) result }
+    ensures { Means (λ v. map chain_tree v.items) [] (from_for (option_map entry_tree entry)) result }
 {
     let mut out = Vec::new(alloc);
     if let Some(first) = entry {
@@ -60,7 +60,7 @@ fn query_for(
     values: Vec<Written>,
     condition: Option<Written>,
 ) -> Result<Statement, Cause>
-    ensures { Gives statement_tree [] (select (query_for (option_map entry_tree entry) (map expr_tree values.items)
+    ensures { Means statement_tree [] (select (query_for (option_map entry_tree entry) (map expr_tree values.items)
         (option_map expr_tree condition))) result }
 {
     let from = from_for(alloc, entry)?;
@@ -104,7 +104,7 @@ pub fn ask(
     entry: Option<Entry>,
     values: Vec<Written>,
     condition: Option<Written>,
-) -> Result<Asked, Cause>
+) -> Result<AskedValues, Cause>
     requires many { length bound.now ≡ length (objects catalog.now).tables }
     requires once { AreNamedOnce (objects catalog.now) }
     ensures { AsksFor (objects catalog.now) user.now (option_map entry_tree entry) (map expr_tree values.items)
@@ -113,8 +113,8 @@ pub fn ask(
     let query = query_for(alloc, entry, values, condition)?;
     let found = bind(alloc, &query, catalog, bound, user)?;
     check_no_aggregate(found.select.items.as_slice())?;
-    let Bound { select, .. } = found;
-    Ok(Asked {
+    let BoundQuery { select, .. } = found;
+    Ok(AskedValues {
         values: select.items,
         conditions: select.conditions,
     })

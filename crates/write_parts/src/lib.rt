@@ -14,7 +14,7 @@ pub mod law;
 mod places;
 mod target;
 
-pub use asking::{Asked, ask};
+pub use asking::{AskedValues, ask};
 pub use columns::{check_list, name_place};
 pub use kinds::{cell_kinds, check_cells, kinds_of};
 pub use places::{check_fit, check_named, kinds_of_all, places_for};

@@ -8,7 +8,7 @@ use Rattle.med_value.specs.declared.value.ColType.{ColType}
 use Rattle.med_syntax.specs.QueryTree.{EntryTree, JoinTree, inner_join, left_join, cross_join, ChainTree}
 use Rattle.tri_expr.specs.Meaning.{OnClass, means}
 use Rattle.tri_expr.specs.Tree.{conjunct_trees}
-use Rattle.med_query.specs.Form.{join_meant, joins_meant, chain_meant}
+use Rattle.med_query.specs.Form.{join_by, joins_by, chain_by}
 use Rattle.med_query.specs.Query.{Tables, Chain, Table, beside, pairs, keeps, or_nulls, matched, joined_chain, joined_chains}
 use Rattle.fdw_api.specs.Scan.{has_kind, is_clean, row_fits}
 use Rattle.bind_names.specs.Scope.{TableShape, Scope, columns_of, joined_entry, chain_entries, entries_of, entry_columns, entry_shape, from_scope}
@@ -79,7 +79,7 @@ AreTypedFrom tables number (e ∷ es) db = AllRows (kinds_of_entry tables e) (db
 join_fits : (tables : List TableShape) (db : Tables) (left : Chain) (ks : List ColType) (s : Scope) (number : ℕ) (j : JoinTree)
     → AllRows ks (joined_chain db left) → AllRows (kinds_of_entry tables (joined_entry j)) (db number)
     → AllRows (ks ++ kinds_of_entry tables (joined_entry j))
-    (joined_chain db (join_meant left (names.join_meant s number (length (entry_columns tables (joined_entry j))) j)))
+    (joined_chain db (join_by left (names.join_meant s number (length (entry_columns tables (joined_entry j))) j)))
 join_fits tables db left ks s number (inner_join e on) h k =
     All-filter (keeps (means [] (conjunct_trees (names.resolved s on)))) (λ r. row_fits (ks ++ kinds_of_entry tables e) r ≡ true) (pairs (joined_chain db left) (db number))
     (pairs_fit ks (kinds_of_entry tables e) (joined_chain db left) (db number) h k)
@@ -91,17 +91,17 @@ join_fits tables db left ks s number (cross_join e) h k = pairs_fit ks (kinds_of
 
 joins_fit : (tables : List TableShape) (db : Tables) (left : Chain) (ks : List ColType) (s : Scope) (number : ℕ) (js : List JoinTree)
     → AllRows ks (joined_chain db left) → AreTypedFrom tables number (map joined_entry js) db
-    → AllRows (ks ++ kinds_of_entries tables (map joined_entry js)) (joined_chain db (joins_meant left (names.joins_meant tables s number js)))
+    → AllRows (ks ++ kinds_of_entries tables (map joined_entry js)) (joined_chain db (joins_by left (names.joins_meant tables s number js)))
 joins_fit tables db left ks s number [] h k = subst (λ ls. AllRows ls (joined_chain db left)) (sym (append-nil ks)) h
 joins_fit tables db left ks s number (j ∷ js) h k =
     let t = names.with_join tables s j in
-    let next = join_meant left (names.join_meant t number (length (entry_columns tables (joined_entry j))) j) in
-    subst (λ ls. AllRows ls (joined_chain db (joins_meant next (names.joins_meant tables t (suc number) js))))
+    let next = join_by left (names.join_meant t number (length (entry_columns tables (joined_entry j))) j) in
+    subst (λ ls. AllRows ls (joined_chain db (joins_by next (names.joins_meant tables t (suc number) js))))
     (append_assoc ks (kinds_of_entry tables (joined_entry j)) (kinds_of_entries tables (map joined_entry js)))
     (joins_fit tables db next (ks ++ kinds_of_entry tables (joined_entry j)) t (suc number) js (join_fits tables db left ks t number j h k.0) k.1)
 
 chain_fits : (tables : List TableShape) (db : Tables) (number : ℕ) (c : ChainTree) → AreTypedFrom tables number (chain_entries c) db
-    → AllRows (kinds_of_entries tables (chain_entries c)) (joined_chain db (chain_meant (names.chain_meant tables number c)))
+    → AllRows (kinds_of_entries tables (chain_entries c)) (joined_chain db (chain_by (names.chain_meant tables number c)))
 chain_fits tables db number c h =
     joins_fit tables db (Table number) (kinds_of_entry tables c.first) (entry_shape tables c.first ∷ []) (suc number) c.joins h.0 h.1
 
@@ -121,17 +121,17 @@ kinds_apart tables [] fs = refl
 kinds_apart tables (e ∷ es) fs = ap (λ ls. kinds_of_entry tables e ++ ls) (kinds_apart tables es fs) ∙ sym (append_assoc (kinds_of_entry tables e) (kinds_of_entries tables es) (kinds_of_entries tables fs))
 
 chains_fit : (tables : List TableShape) (db : Tables) (number : ℕ) (cs : List ChainTree) → AreTypedFrom tables number (entries_of cs) db
-    → AllRows (kinds_of_entries tables (entries_of cs)) (joined_chains db (map chain_meant (names.chains_meant tables number cs)))
+    → AllRows (kinds_of_entries tables (entries_of cs)) (joined_chains db (map chain_by (names.chains_meant tables number cs)))
 chains_fit tables db number [] h = All-cons (λ r. row_fits [] r ≡ true) [] [] refl (All-nil (λ r. row_fits [] r ≡ true))
 chains_fit tables db number (c ∷ []) h =
-    subst (λ ls. AllRows ls (joined_chain db (chain_meant (names.chain_meant tables number c))))
+    subst (λ ls. AllRows ls (joined_chain db (chain_by (names.chain_meant tables number c))))
     (sym (ap (kinds_of_entries tables) (append-nil (chain_entries c))))
     (chain_fits tables db number c (typed_left tables db number (chain_entries c) [] h))
 chains_fit tables db number (c ∷ d ∷ cs) h =
-    subst (λ ls. AllRows ls (joined_chains db (map chain_meant (names.chains_meant tables number (c ∷ d ∷ cs)))))
+    subst (λ ls. AllRows ls (joined_chains db (map chain_by (names.chains_meant tables number (c ∷ d ∷ cs)))))
     (sym (kinds_apart tables (chain_entries c) (entries_of (d ∷ cs))))
-    (pairs_fit (kinds_of_entries tables (chain_entries c)) (kinds_of_entries tables (entries_of (d ∷ cs))) (joined_chain db (chain_meant (names.chain_meant tables number c)))
-    (joined_chains db (map chain_meant (names.chains_meant tables (number + length (chain_entries c)) (d ∷ cs))))
+    (pairs_fit (kinds_of_entries tables (chain_entries c)) (kinds_of_entries tables (entries_of (d ∷ cs))) (joined_chain db (chain_by (names.chain_meant tables number c)))
+    (joined_chains db (map chain_by (names.chains_meant tables (number + length (chain_entries c)) (d ∷ cs))))
     (chain_fits tables db number c (typed_left tables db number (chain_entries c) (entries_of (d ∷ cs)) h))
     (chains_fit tables db (number + length (chain_entries c)) (d ∷ cs) (typed_right tables db number (chain_entries c) (entries_of (d ∷ cs)) h)))
 
@@ -151,7 +151,7 @@ kinds_in_view tables (e ∷ es) =
     ∙ sym (map-append (λ (c : Column). c.kind) (entry_columns tables e) (columns_of (map (entry_shape tables) es)))
 
 pub joined_fit : (tables : List TableShape) (db : Tables) (cs : List ChainTree) → AreTyped tables (entries_of cs) db
-    → AllRows (column_kinds (columns_of (from_scope tables cs))) (joined_chains db (map chain_meant (names.chains_meant tables 0 cs)))
+    → AllRows (column_kinds (columns_of (from_scope tables cs))) (joined_chains db (map chain_by (names.chains_meant tables 0 cs)))
 joined_fit tables db cs h =
-    subst (λ ls. AllRows ls (joined_chains db (map chain_meant (names.chains_meant tables 0 cs)))) (kinds_in_view tables (entries_of cs))
+    subst (λ ls. AllRows ls (joined_chains db (map chain_by (names.chains_meant tables 0 cs)))) (kinds_in_view tables (entries_of cs))
     (chains_fit tables db 0 cs (typed_from tables db 0 (entries_of cs) (λ k e there. subst (λ n. AllRows (kinds_of_entry tables e) (db n)) (let q : k ≡ 0 + k = omega arith in q) (h k e there))))

@@ -1,6 +1,6 @@
 use Rattle.std.proofs.Common.{◌≡◌, ◌+◌, length, drop, option_map, string_bytes}
 use Rattle.bind_names.specs.Scope.{scope_of, columns_of, candidates_from}
-use Rattle.bind_names.specs.declared.scope.Found.TheVariants.{Nothing}
+use Rattle.bind_names.specs.declared.scope.FoundPlaces.TheVariants.{Nothing}
 use Rattle.bind_names.specs.Telling.{with_places}
 use Rattle.bind_names.proofs.scope.gather.Given as goal
 

@@ -6,7 +6,7 @@ use Rattle.tri_expr.specs.Tree.{tree}
 use Rattle.bind_names.specs.Scope.{scope_of}
 use Rattle.bind_names.specs.Naming.{key_name_causes}
 use Rattle.bind_names.specs.Meaning.{key_meant}
-use Rattle.bind_query.specs.Shown.{shown}
+use Rattle.bind_query.specs.Shown.{output_of}
 use Rattle.bind_names.proofs.Causes.{tells_first, next_causes}
 use Rattle.bind_names.proofs.Added.{added_after}
 use Rattle.bind_names.proofs.Parts.{drop_read}
@@ -14,7 +14,7 @@ use Rattle.bind_query.proofs.keys.keys.Goals as goal
 
 pub returns-in_err-value : goal.returns-in_err-value
 returns-in_err-value c =
-    let f = key_name_causes (scope_of c.args.scope.now) c.args.distinct (map shown c.args.outputs.now) in
+    let f = key_name_causes (scope_of c.args.scope.now) c.args.distinct (map output_of c.args.outputs.now) in
     let lt : c.loop-written.written-index < length c.args.keys.now = omega arith in
     let at = drop_read c.args.keys.now c.loop-written.written-index c.written-item.result lt c.written-item.is in
     let p = err_from_is_err_and c.from_residual.result c.from_residual.ensures.1 in
@@ -22,8 +22,8 @@ returns-in_err-value c =
 
 pub loop-written-preserved : goal.loop-written-preserved
 loop-written-preserved c =
-    let f = key_name_causes (scope_of c.args.scope.now) c.args.distinct (map shown c.args.outputs.now) in
-    let g = key_meant (scope_of c.args.scope.now) (map shown c.args.outputs.now) in
+    let f = key_name_causes (scope_of c.args.scope.now) c.args.distinct (map output_of c.args.outputs.now) in
+    let g = key_meant (scope_of c.args.scope.now) (map output_of c.args.outputs.now) in
     let lt : c.loop-written.written-index < length c.args.keys.now = omega arith in
     let at = drop_read c.args.keys.now c.loop-written.written-index c.written-item.result lt c.written-item.is in
     record {

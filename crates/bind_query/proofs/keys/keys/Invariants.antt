@@ -4,11 +4,11 @@ use Rattle.tri_expr.specs.Tree.{tree}
 use Rattle.bind_names.specs.Scope.{scope_of}
 use Rattle.bind_names.specs.Naming.{key_name_causes}
 use Rattle.bind_names.specs.Meaning.{key_meant}
-use Rattle.bind_query.specs.Shown.{shown}
+use Rattle.bind_query.specs.Shown.{output_of}
 use Rattle.bind_query.proofs.keys.keys.Given as goal
 
 abbrev pub invariant-loop-written : goal.invariant-loop-written
 invariant-loop-written l = record {
-  causes : flat_map (key_name_causes (scope_of l.scope) l.distinct (map shown l.outputs)) (map key_tree l.keys) ≡ flat_map (key_name_causes (scope_of l.scope) l.distinct (map shown l.outputs)) (map key_tree (drop l.written-index l.keys));
-  keys : map tree l.out.items ++ map (key_meant (scope_of l.scope) (map shown l.outputs)) (map key_tree (drop l.written-index l.keys)) ≡ map (key_meant (scope_of l.scope) (map shown l.outputs)) (map key_tree l.keys);
+  causes : flat_map (key_name_causes (scope_of l.scope) l.distinct (map output_of l.outputs)) (map key_tree l.keys) ≡ flat_map (key_name_causes (scope_of l.scope) l.distinct (map output_of l.outputs)) (map key_tree (drop l.written-index l.keys));
+  keys : map tree l.out.items ++ map (key_meant (scope_of l.scope) (map output_of l.outputs)) (map key_tree (drop l.written-index l.keys)) ≡ map (key_meant (scope_of l.scope) (map output_of l.outputs)) (map key_tree l.keys);
 }

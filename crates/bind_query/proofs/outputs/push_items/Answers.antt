@@ -4,7 +4,7 @@ use Rattle.med_syntax.specs.QueryView.{item_tree}
 use Rattle.bind_names.specs.Scope.{scope_of}
 use Rattle.bind_names.specs.Naming.{item_name_causes}
 use Rattle.bind_names.specs.Meaning.{item_outputs}
-use Rattle.bind_query.specs.Shown.{shown}
+use Rattle.bind_query.specs.Shown.{output_of}
 use Rattle.bind_names.proofs.Causes.{tells_first, next_causes}
 use Rattle.bind_names.proofs.Added.{added_after}
 use Rattle.bind_names.proofs.Parts.{drop_read}
@@ -26,6 +26,6 @@ loop-item-preserved c =
     let at = drop_read c.args.items.now c.loop-item.item-index c.item-item.result lt c.item-item.is in
     record {
       causes = next_causes _ (f (item_tree c.item-item.result)) _ (c.loop-item.invariant.causes ∙ ap (λ xs. flat_map f (map item_tree xs)) at) c.in_ok-push_item.ensures.1;
-      added = added_after _ (map shown c.loop-item.out.items) _ (g (item_tree c.item-item.result)) _
-          (ap (λ xs. map shown c.loop-item.out.items ++ flat_map g (map item_tree xs)) (sym at) ∙ c.loop-item.invariant.added) c.in_ok-push_item.ensures.0;
+      added = added_after _ (map output_of c.loop-item.out.items) _ (g (item_tree c.item-item.result)) _
+          (ap (λ xs. map output_of c.loop-item.out.items ++ flat_map g (map item_tree xs)) (sym at) ∙ c.loop-item.invariant.added) c.in_ok-push_item.ensures.0;
     }

@@ -3,11 +3,11 @@ use Rattle.med_syntax.specs.QueryView.{item_tree}
 use Rattle.bind_names.specs.Scope.{scope_of}
 use Rattle.bind_names.specs.Naming.{item_name_causes}
 use Rattle.bind_names.specs.Meaning.{item_outputs}
-use Rattle.bind_query.specs.Shown.{shown}
+use Rattle.bind_query.specs.Shown.{output_of}
 use Rattle.bind_query.proofs.outputs.push_items.Given as goal
 
 abbrev pub invariant-loop-item : goal.invariant-loop-item
 invariant-loop-item l = record {
   causes : flat_map (item_name_causes (scope_of l.scope)) (map item_tree l.items) ≡ flat_map (item_name_causes (scope_of l.scope)) (map item_tree (drop l.item-index l.items));
-  added : map shown l.out.items ++ flat_map (item_outputs (scope_of l.scope)) (map item_tree (drop l.item-index l.items)) ≡ map shown l.initial.out.items ++ flat_map (item_outputs (scope_of l.scope)) (map item_tree l.items);
+  added : map output_of l.out.items ++ flat_map (item_outputs (scope_of l.scope)) (map item_tree (drop l.item-index l.items)) ≡ map output_of l.initial.out.items ++ flat_map (item_outputs (scope_of l.scope)) (map item_tree l.items);
 }

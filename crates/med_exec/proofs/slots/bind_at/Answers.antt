@@ -1,6 +1,6 @@
 use Rattle.std.proofs.Common.{map}
 use Rattle.fdw_api.specs.Calls.{Binds, RefusesBind}
-use Rattle.fdw_api.specs.Kinds.{column_of, setting_of}
+use Rattle.fdw_api.specs.Kinds.{column_of, option_form}
 use Rattle.med_exec.proofs.SlotLemmas.{read_at, ok_changes, err_changes}
 use Rattle.med_exec.proofs.slots.bind_at.Goals as goal
 
@@ -10,7 +10,7 @@ returns-clause-ok g c =
     let xs = c.args.slots.now.items in
     let i = c.args.slot in
     let at = read_at m _ xs i _ _ c.requires c.index_mut.ensures.value c.in-Some.is in
-    ok_changes m (λ t old new. Binds old c.args.remote.now (map column_of c.args.columns.now) (map setting_of c.args.options.now) t.number new) xs i c.in-Some.b c.bind.new.self c.bind.result at c.bind.ensures.ok
+    ok_changes m (λ t old new. Binds old c.args.remote.now (map column_of c.args.columns.now) (map option_form c.args.options.now) t.number new) xs i c.in-Some.b c.bind.new.self c.bind.result at c.bind.ensures.ok
 
 pub returns-clause-err : goal.returns-clause-err
 returns-clause-err g c =
@@ -18,4 +18,4 @@ returns-clause-err g c =
     let xs = c.args.slots.now.items in
     let i = c.args.slot in
     let at = read_at m _ xs i _ _ c.requires c.index_mut.ensures.value c.in-Some.is in
-    err_changes m (λ fault old new. RefusesBind old c.args.remote.now (map column_of c.args.columns.now) (map setting_of c.args.options.now) fault new) xs i c.in-Some.b c.bind.new.self c.bind.result at c.bind.ensures.err
+    err_changes m (λ fault old new. RefusesBind old c.args.remote.now (map column_of c.args.columns.now) (map option_form c.args.options.now) fault new) xs i c.in-Some.b c.bind.new.self c.bind.result at c.bind.ensures.err

@@ -2,7 +2,7 @@ use Rattle.std.proofs.Common.{◌≡◌, ◌∙◌, ◌<◌, ◌≤◌, List, []
 use Rattle.med_value.specs.Datum.{tuple}
 use Rattle.write_syntax.specs.WriteTree.{WriteTree}
 use Rattle.write_syntax.specs.WriteView.{write_tree}
-use Rattle.med_binder.specs.declared.bound.Bound.{Bound}
+use Rattle.med_binder.specs.declared.bound.BoundQuery.{BoundQuery}
 use Rattle.med_exec.specs.Slots.{states}
 use Rattle.med_catalog.specs.Objects.{Objects}
 use Rattle.med_catalog.specs.View.{objects}
@@ -50,7 +50,7 @@ returns-in_default-clause-err g c =
     (none_asked o bound t old none) c.write_rows.ensures.err
 
 -- a query
-query_there : (o : Objects) (bound : List Attached) (t : WriteTree) (q : Option Bound) (b : Bound) → q ≡ Some b → IsQueryOf o bound t q → HasQuery o bound t b
+query_there : (o : Objects) (bound : List Attached) (t : WriteTree) (q : Option BoundQuery) (b : BoundQuery) → q ≡ Some b → IsQueryOf o bound t q → HasQuery o bound t b
 query_there o bound t q b is h = has_query o bound t b (subst (IsQueryOf o bound t) is h)
 
 pub returns-then-len-gt-ENTRIES-clause-err : goal.returns-then-len-gt-ENTRIES-clause-err

@@ -5,7 +5,7 @@ use Rattle.med_value.specs.declared.value.Row.{Row}
 use Rattle.cursor_syntax.specs.CursorView.{count_tree}
 use Rattle.med_exec.specs.Slots.{states}
 use Rattle.med_exec.specs.Counting.{none_in}
-use Rattle.med_exec.specs.Running.{AllHonest, Gives}
+use Rattle.med_exec.specs.Running.{AllHonest, GivesNext}
 use Rattle.med_exec.specs.Rests.{Rests, rows_left, LessLeft, held}
 use Rattle.open_cursors.specs.Fetching.{has_enough}
 use Rattle.open_cursors.proofs.Counts.{begins_on, pulls_on}
@@ -28,7 +28,7 @@ returns-in-Ok-None-clause-ok g c =
     let old = states m c.args.slots.now.items in
     let now = states m c.loop-asked.slots.items in
     let next = states m c.next.new.slots.items in
-    let gives : AllHonest now → Gives (Rests c.loop-asked.run now) None (Rests c.next.new.self next) = rw c.in-Ok-None.field-0-is at c.in-Ok-None.ensures.gives in
+    let gives : AllHonest now → GivesNext (Rests c.loop-asked.run now) None (Rests c.next.new.self next) = rw c.in-Ok-None.field-0-is at c.in-Ok-None.ensures.gives in
     let fewer : LessLeft None (rows_left c.loop-asked.run now) (rows_left c.next.new.self next) = rw c.in-Ok-None.field-0-is at c.in-Ok-None.ensures.fewer in
     let counted : c.len.result ≡ length c.loop-asked.rows.items = c.len.ensures ∙ c.loop-asked.rows.ok.0 in
     let more : has_enough (count_tree c.args.asked) (length c.loop-asked.rows.items) ≡ false = ap (has_enough (count_tree c.args.asked)) (sym counted) ∙ sym c.is_enough.ensures ∙ c.loop-asked-test.true in
@@ -50,7 +50,7 @@ loop-asked-preserved g c =
     let now = states m c.loop-asked.slots.items in
     let next = states m c.next.new.slots.items in
     let pushed : c.push.new.self.items ≡ c.loop-asked.rows.items ++ (c.in-Ok-Some.row ∷ []) = grind (arith, common_steps) in
-    let gives : AllHonest now → Gives (Rests c.loop-asked.run now) (Some (tuple c.in-Ok-Some.row)) (Rests c.next.new.self next) = rw c.in-Ok-Some.field-0-is at c.in-Ok-Some.ensures.gives in
+    let gives : AllHonest now → GivesNext (Rests c.loop-asked.run now) (Some (tuple c.in-Ok-Some.row)) (Rests c.next.new.self next) = rw c.in-Ok-Some.field-0-is at c.in-Ok-Some.ensures.gives in
     let before : c.len.result ≡ length c.loop-asked.rows.items = c.len.ensures ∙ c.loop-asked.rows.ok.0 in
     let more : has_enough (count_tree c.args.asked) (length c.loop-asked.rows.items) ≡ false = ap (has_enough (count_tree c.args.asked)) (sym before) ∙ sym c.is_enough.ensures ∙ c.loop-asked-test.true in
     let counted : length c.loop-asked.rows.items + 1 ≡ length c.push.new.self.items = omega (arith, sym (ap (λ (rs : List Row). length rs) pushed ∙ length-append c.loop-asked.rows.items (c.in-Ok-Some.row ∷ []))) in

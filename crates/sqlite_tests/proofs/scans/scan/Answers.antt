@@ -1,6 +1,6 @@
 use Rattle.std.proofs.Common.{◌≡◌, ℕ, List, map, sym, ◌∙◌, subst}
 use Rattle.med_value.specs.Datum.{datum}
-use Rattle.fdw_api.specs.Scan.{spec_by, spec_of, filter_of}
+use Rattle.fdw_api.specs.Scan.{spec_by, spec_of, restriction_form}
 use Rattle.fdw_api.specs.Calls.{Allows}
 use Rattle.fdw_api.specs.declared.scan.Restriction.{Restriction}
 use Rattle.sqlite_tests.proofs.CallLemmas.{begun_can_rescan_by, found_to_fit}
@@ -14,7 +14,7 @@ begin-requires g c =
     let w : c.deref.result.now ≡ c.args.asked.wanted.items = c.deref.ensures.value in
     let o : c.deref-2.result.now ≡ c.args.asked.offered.items = c.deref-2.ensures.value in
     let allowed : Allows s t (spec_of record { wanted = c.args.asked.wanted; offered = c.args.asked.offered; agreement = a }) =
-    subst (λ (x : List ℕ). Allows s t (spec_by x (map filter_of c.args.asked.offered.items) a)) w (subst (λ (x : List Restriction). Allows s t (spec_by c.deref.result.now (map filter_of x) a)) o c.in_ok-agreement.ensures.ok) in
+    subst (λ (x : List ℕ). Allows s t (spec_by x (map restriction_form c.args.asked.offered.items) a)) w (subst (λ (x : List Restriction). Allows s t (spec_by c.deref.result.now (map restriction_form x) a)) o c.in_ok-agreement.ensures.ok) in
     record {
       bound = allowed.bound;
       is = allowed.is;

@@ -1,7 +1,7 @@
 use Rattle.std.proofs.Common.{◌≡◌, ℕ, List, [], ◌∷◌, map, refl, subst, pos}
 use Rattle.med_value.specs.Datum.{NoValue, Whole}
 use Rattle.med_value.specs.declared.value.ColType.TheVariants.{Int}
-use Rattle.fdw_api.specs.Scan.{spec_by, spec_of, filter_of}
+use Rattle.fdw_api.specs.Scan.{spec_by, spec_of, restriction_form}
 use Rattle.fdw_api.specs.Calls.{Allows}
 use Rattle.fdw_api.specs.declared.scan.Restriction.{Restriction}
 use Rattle.wrapper_tests.proofs.Deletes.{begun_can_rescan_by, typed_by}
@@ -15,7 +15,7 @@ begin-requires g c =
     let w : c.deref.result.now ≡ c.in_ok-wanted.wanted.items = c.deref.ensures.value in
     let o : c.deref-2.result.now ≡ c.in_ok-offered.offered.items = c.deref-2.ensures.value in
     let allowed : Allows s t (spec_of record { wanted = c.in_ok-wanted.wanted; offered = c.in_ok-offered.offered; agreement = a }) =
-    subst (λ (x : List ℕ). Allows s t (spec_by x (map filter_of c.in_ok-offered.offered.items) a)) w (subst (λ (x : List Restriction). Allows s t (spec_by c.deref.result.now (map filter_of x) a)) o c.in_ok-agreement.ensures.ok) in
+    subst (λ (x : List ℕ). Allows s t (spec_by x (map restriction_form c.in_ok-offered.offered.items) a)) w (subst (λ (x : List Restriction). Allows s t (spec_by c.deref.result.now (map restriction_form x) a)) o c.in_ok-agreement.ensures.ok) in
     record {
       bound = allowed.bound;
       is = allowed.is;

@@ -1,5 +1,5 @@
 use Rattle.std.proofs.Common.{◌≡◌, ℕ, List, [], map, ap, subst, rules}
-use Rattle.fdw_api.specs.Scan.{spec_by, filter_of, params_fit}
+use Rattle.fdw_api.specs.Scan.{spec_by, restriction_form, params_fit}
 use Rattle.fdw_api.specs.Calls.{Allows}
 use Rattle.fdw_api.specs.declared.scan.Restriction.{Restriction}
 use Rattle.probe_wrapper.proofs.CallLemmas.{begun_is_open}
@@ -13,8 +13,8 @@ begin-requires g c =
     let a = c.in_ok-agreement.agreement in
     let w : c.deref.result.now ≡ c.in_ok-wanted.wanted.items = search rules in
     let o : c.deref-2.result.now ≡ c.in_ok-offered.offered.items = search rules in
-    planned_fits s t record { wanted = c.in_ok-wanted.wanted; offered = c.in_ok-offered.offered; agreement = a } (λ kinds. ap (λ (l : List Restriction). params_fit kinds (map filter_of l) []) c.in_ok-offered.ensures.items)
-    (subst (λ (x : List ℕ). Allows s t (spec_by x (map filter_of c.in_ok-offered.offered.items) a)) w (subst (λ (x : List Restriction). Allows s t (spec_by c.deref.result.now (map filter_of x) a)) o c.in_ok-agreement.ensures.ok))
+    planned_fits s t record { wanted = c.in_ok-wanted.wanted; offered = c.in_ok-offered.offered; agreement = a } (λ kinds. ap (λ (l : List Restriction). params_fit kinds (map restriction_form l) []) c.in_ok-offered.ensures.items)
+    (subst (λ (x : List ℕ). Allows s t (spec_by x (map restriction_form c.in_ok-offered.offered.items) a)) w (subst (λ (x : List Restriction). Allows s t (spec_by c.deref.result.now (map restriction_form x) a)) o c.in_ok-agreement.ensures.ok))
 
 pub take_four-taken-requires : goal.take_four-taken-requires
 take_four-taken-requires g c = begun_is_open _ _ _ _ _ _ c.in_ok-ticket.ensures.ok

@@ -3,7 +3,7 @@ use Rattle.std.specs.Prelude.{Ok, Err, String, Vec, Option, option_map}
 use Rattle.std.specs.String.{string_bytes}
 use Rattle.std.proofs.lemmas.Result.{err_from_is_err_and}
 use Rattle.expr_grammar.specs.declared.symbols.Symbol.{Symbol}
-use Rattle.expr_grammar.specs.ExprAnswers.{Gives}
+use Rattle.expr_grammar.specs.ExprAnswers.{ReadsAs}
 use Rattle.expr_grammar.specs.ExprTerminals.{terminals_at, AreReadable}
 use Rattle.expr_grammar.specs.SymbolView.{terminals_of}
 use Rattle.expr_grammar.specs.View.{shapes_of}
@@ -22,7 +22,7 @@ returns-in-Err-Refused-clause-found c =
     let p = c.in_ok-symbols.ensures in
     let q = c.deref-in-Err-Refused.ensures.value in
     let same : terminals_of c.deref-in-Err-Refused.result.now ≡ terminals_at false (shapes_of c.args.tokens.now) = (cc) in
-    let gives : Gives write_tree c.bounded.result (bounded_plain (terminals_at false (shapes_of c.args.tokens.now))) = subst (λ ts. Gives write_tree c.bounded.result (bounded_plain ts)) same c.bounded.ensures in
+    let gives : ReadsAs write_tree c.bounded.result (bounded_plain (terminals_at false (shapes_of c.args.tokens.now))) = subst (λ ts. ReadsAs write_tree c.bounded.result (bounded_plain ts)) same c.bounded.ensures in
     plain_found (shapes_of c.args.tokens.now) c.bounded.result gives
 
 pub returns-in-Err-Refused-clause-low : goal.returns-in-Err-Refused-clause-low
@@ -30,7 +30,7 @@ returns-in-Err-Refused-clause-low c =
     let p = c.in_ok-symbols.ensures in
     let q = c.deref-in-Err-Refused.ensures.value in
     let same : terminals_of c.deref-in-Err-Refused.result.now ≡ terminals_at false (shapes_of c.args.tokens.now) = (cc) in
-    let gives : Gives write_tree c.bounded.result (bounded_plain (terminals_at false (shapes_of c.args.tokens.now))) = subst (λ ts. Gives write_tree c.bounded.result (bounded_plain ts)) same c.bounded.ensures in
+    let gives : ReadsAs write_tree c.bounded.result (bounded_plain (terminals_at false (shapes_of c.args.tokens.now))) = subst (λ ts. ReadsAs write_tree c.bounded.result (bounded_plain ts)) same c.bounded.ensures in
     plain_low (shapes_of c.args.tokens.now) c.bounded.result gives
 
 pub returns-in-Err-Refused-clause-refused : goal.returns-in-Err-Refused-clause-refused
@@ -38,7 +38,7 @@ returns-in-Err-Refused-clause-refused c =
     let p = c.in_ok-symbols.ensures in
     let q = c.deref-in-Err-Refused.ensures.value in
     let same : terminals_of c.deref-in-Err-Refused.result.now ≡ terminals_at false (shapes_of c.args.tokens.now) = (cc) in
-    let gives : Gives write_tree c.bounded.result (bounded_plain (terminals_at false (shapes_of c.args.tokens.now))) = subst (λ ts. Gives write_tree c.bounded.result (bounded_plain ts)) same c.bounded.ensures in
+    let gives : ReadsAs write_tree c.bounded.result (bounded_plain (terminals_at false (shapes_of c.args.tokens.now))) = subst (λ ts. ReadsAs write_tree c.bounded.result (bounded_plain ts)) same c.bounded.ensures in
     let q2 = c.deref.ensures.value in
     let first : terminals_of c.deref.result.now ≡ terminals_at false (shapes_of c.args.tokens.now) = (cc) in
     let at = refused_at (λ (x : String Global × Option (Vec (String Global) Global) × Bor (List Symbol)). ((string_bytes x.0, option_map names_tree x.1), terminals_of x.2.now)) c.in-Err-Refused.field-0 c.in-Err-Refused.field-0-0 (query_at (terminals_of c.deref.result.now)) c.in-Err-Refused.ensures (cc) in
@@ -70,7 +70,7 @@ returns-in_err-statement_of-in-Ok-clause-refused c =
     let at : query_at (terminals_at false (shapes_of c.args.tokens.now)) ≡ Ok (((string_bytes c.in-Ok.table), (option_map names_tree c.in-Ok.columns)), (terminals_of c.in-Ok.rest.now)) = ap query_at (sym same) ∙ c.in-Ok.ensures in
     let y : Parted (shapes_of c.args.tokens.now) (string_bytes c.in-Ok.table) (option_map names_tree c.in-Ok.columns) (terminals_of c.in-Ok.rest.now) = query_parted (shapes_of c.args.tokens.now) ((string_bytes c.in-Ok.table), (option_map names_tree c.in-Ok.columns)) (terminals_of c.in-Ok.rest.now) at in
     let f = c.in_err-statement_of-in-Ok.field-0.0 in
-    let gives = subst (λ us. Gives statement_tree (Err f) (bounded_line (words_at (Before false) false us))) (suffix_is c.args.tokens.now (string_bytes c.in-Ok.table) (option_map names_tree c.in-Ok.columns) c.in-Ok.rest.now y) c.in_err-statement_of-in-Ok.ensures in
+    let gives = subst (λ us. ReadsAs statement_tree (Err f) (bounded_line (words_at (Before false) false us))) (suffix_is c.args.tokens.now (string_bytes c.in-Ok.table) (option_map names_tree c.in-Ok.columns) c.in-Ok.rest.now y) c.in_err-statement_of-in-Ok.ensures in
     let r = err_from_is_err_and c.from_residual-in_err-statement_of-in-Ok.result c.from_residual-in_err-statement_of-in-Ok.ensures.1 in
     refused_as (shapes_of c.args.tokens.now) f c.from_residual-in_err-statement_of-in-Ok.result (query_refused (shapes_of c.args.tokens.now) (string_bytes c.in-Ok.table) (option_map names_tree c.in-Ok.columns) (terminals_of c.in-Ok.rest.now) at y f gives) (cc)
 

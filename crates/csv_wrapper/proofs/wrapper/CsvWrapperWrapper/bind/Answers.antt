@@ -2,7 +2,7 @@ use Rattle.std.proofs.Common.{◌≡◌, ◌<◌, ◌∙◌, ap, sym, map, Some,
 use Rattle.std.specs.String.{string_bytes}
 use Rattle.blob_store.specs.Names.{is_blob_name}
 use Rattle.blob_store.specs.Shelves.{Shelf}
-use Rattle.fdw_api.specs.Kinds.{Bytes, column_of, setting_of}
+use Rattle.fdw_api.specs.Kinds.{Bytes, column_of, option_form}
 use Rattle.staged_changes.specs.Staged.{write_is}
 use Rattle.blob_tables.specs.Holdings.{held_under}
 use Rattle.csv_wrapper.specs.Tables.{slot}
@@ -47,7 +47,7 @@ invariant_of-self-2 g c =
       served = bound_served old (slice_set mid at (Some x)) s.scans at x none there (λ q ne. set_other mid at q (Some x) ne ∙ f.others q) s.served;
       named = bound_named old (slice_set mid at (Some x)) at x there (λ q ne. set_other mid at q (Some x) ne ∙ f.others q) (ap is_blob_name t.remote_is ∙ t.named) s.named;
       apart = bound_apart old (slice_set mid at (Some x)) at x there (λ q ne. set_other mid at q (Some x) ne ∙ f.others q)
-          (free_of h old s.scans s.staged s.next s.pulled c.args.remote.now (map column_of c.args.columns.now) (map setting_of c.args.options.now) x c.requires t.remote_is) s.apart;
+          (free_of h old s.scans s.staged s.next s.pulled c.args.remote.now (map column_of c.args.columns.now) (map option_form c.args.options.now) x c.requires t.remote_is) s.apart;
       headed = keeps_headed h (g.B.Blobs.meaning c.read_table.new.blobs) (slice_set mid at (Some x)) (λ r. ap (λ (z : Shelf). held_under z r) t.same)
           (bound_headed h old (slice_set mid at (Some x)) at x t.bytes there (λ q ne. set_other mid at q (Some x) ne ∙ f.others q)
           (found_under h c.args.remote.now (string_bytes x.remote) (Some (Bytes t.bytes)) t.remote_is t.picked) t.content s.headed);

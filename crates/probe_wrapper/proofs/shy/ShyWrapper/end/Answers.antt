@@ -1,5 +1,5 @@
 use Rattle.std.proofs.Common.{ap, option_map}
-use Rattle.probe_wrapper.specs.Shy.{asked_of, ask_of}
+use Rattle.probe_wrapper.specs.Shy.{asked_of, asked_form}
 use Rattle.probe_wrapper.proofs.SeenScans.{apart}
 use Rattle.probe_wrapper.proofs.ShyLemmas.{live_in}
 use Rattle.probe_wrapper.proofs.ShyCalls.{ends}
@@ -11,10 +11,10 @@ end-requires g c = live_in (g.W.Wrapper.meaning c.args.self.now.inner) (asked_of
 pub returns-clause-ended : goal.returns-clause-ended
 returns-clause-ended g c =
     ends (asked_of c.args.self.now.scans) (asked_of c.remove.new.self) (g.W.Wrapper.meaning c.args.self.now.inner) (g.W.Wrapper.meaning c.end.new.self) c.args.ticket.number
-    (λ q ne. ap (option_map ask_of) (c.remove.ensures.updates.2 q (apart c.args.ticket.number q ne))) c.end.ensures
+    (λ q ne. ap (option_map asked_form) (c.remove.ensures.updates.2 q (apart c.args.ticket.number q ne))) c.end.ensures
 
 pub returns-clause-forgotten : goal.returns-clause-forgotten
 returns-clause-forgotten g c = record {
-  gone = ap (option_map ask_of) c.remove.ensures.updates.1;
-  others = λ q ne. ap (option_map ask_of) (c.remove.ensures.updates.2 q (apart c.args.ticket.number q ne));
+  gone = ap (option_map asked_form) c.remove.ensures.updates.1;
+  others = λ q ne. ap (option_map asked_form) (c.remove.ensures.updates.2 q (apart c.args.ticket.number q ne));
 }
