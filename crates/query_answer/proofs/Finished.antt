@@ -17,7 +17,7 @@ use Rattle.med_query.specs.declared.select.JoinChain.{JoinChain}
 use Rattle.med_query.specs.Form.{direction_of}
 use Rattle.med_query.specs.Select.{chains_of, groups_of, query_of}
 use Rattle.query_answer.specs.Staging.{output_of, staged_query, Stages}
-use Rattle.query_answer.specs.Ordering.{staged_cmp}
+use Rattle.query_answer.specs.Ordering.{staged_cmp, LeadsIn}
 use Rattle.query_answer.specs.Finishing.{Finishes, made_unique}
 use Rattle.query_answer.proofs.Groups.{sorted_map}
 
@@ -29,14 +29,14 @@ limited-map : {X Y : Type 0} (f : X → Y) (limit : Option ℕ) (xs : List X) �
 limited-map f None xs = refl
 limited-map f (Some n) xs = take-map f n xs
 
-pub finishes : (unique : Bool) (directions : List SortDirection) (offset : ℕ) (limit : Option ℕ) (outs : List Output) (before after : List Staged) (rows : List Tuple)
-    → IsPermutation (made_unique unique outs) (map output_of before) → IsPermutation before after → IsSorted (staged_cmp directions) after → rows ≡ map (λ s. tuple s.shown) (limited limit (drop offset after))
+pub finishes : (unique : Bool) (directions : List SortDirection) (offset : ℕ) (limit : Option ℕ) (outs : List Output) (before first : List Staged) (rows : List Tuple)
+    → IsPermutation (made_unique unique outs) (map output_of before) → LeadsIn (staged_cmp directions) offset limit before first → rows ≡ map (λ s. tuple s.shown) (limited limit (drop offset first))
     → Finishes unique (map direction_of directions) offset limit outs rows
-finishes unique directions offset limit outs before after rows p s o r = record {
-  ordered = map output_of after;
-  same = IsPermutation-trans (made_unique unique outs) (map output_of before) (map output_of after) p (IsPermutation-map output_of before after s);
-  sorted = sorted_map output_of (on (λ o. o.0) (keys_cmp (map direction_of directions))) after o;
-  shown = r ∙ sym (limited-map (λ (x : Staged). tuple x.shown) limit (drop offset after)) ∙ ap (limited limit) (sym (drop-map (λ (x : Staged). tuple x.shown) offset after) ∙ ap (drop offset) (sym (shown_of after)));
+finishes unique directions offset limit outs before first rows p l r = record {
+  ordered = map output_of l.ordered;
+  same = IsPermutation-trans (made_unique unique outs) (map output_of before) (map output_of l.ordered) p (IsPermutation-map output_of before l.ordered l.same);
+  sorted = sorted_map output_of (on (λ o. o.0) (keys_cmp (map direction_of directions))) l.ordered l.sorted;
+  shown = r ∙ ap (map (λ s. tuple s.shown)) l.shown ∙ sym (limited-map (λ (x : Staged). tuple x.shown) limit (drop offset l.ordered)) ∙ ap (limited limit) (sym (drop-map (λ (x : Staged). tuple x.shown) offset l.ordered) ∙ ap (drop offset) (sym (shown_of l.ordered)));
 }
 
 unique_same : ((os us : List Output) → IsPermutation os us → IsPermutation (distinct output_eq os) (distinct output_eq us)) → (unique : Bool) (os us : List Output) → IsPermutation os us → IsPermutation (made_unique unique os) (made_unique unique us)

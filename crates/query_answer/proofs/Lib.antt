@@ -10,4 +10,5 @@ pub mod Joining
 pub mod ToldParts
 pub mod Ungrouped
 pub mod Grouped
+pub mod Leading
 pub mod Finished

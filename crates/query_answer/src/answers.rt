@@ -10,7 +10,7 @@ ghost use Rattle.query_answer.specs.Answering.{IsSmall, Shows};
 
 use crate::grouping::distinct_outputs;
 use crate::joins::joined_rows;
-use crate::ordering::{shown_page, sort_staged};
+use crate::ordering::{in_order, shown_page};
 use crate::outputs::{AnswerFault, query_outputs};
 use crate::staging::Staged;
 use med_query::law::distinct_ignores_order;
@@ -46,9 +46,9 @@ fn finished(
     ensures { IfOk result (λ out. Finishes distinct (map direction_of directions.now) offset limit
         (map output_of staged.items) (map tuple out.items)) }
 {
-    let mut unique = unique_outputs(alloc, staged, distinct)?;
-    sort_staged(directions, &mut unique)?;
-    shown_page(alloc, unique, offset, limit)
+    let unique = unique_outputs(alloc, staged, distinct)?;
+    let ordered = in_order(alloc, directions, unique, offset, limit)?;
+    shown_page(alloc, ordered, offset, limit)
 }
 
 /// The answer of a SELECT over tables (SQL standard, <query expression>): its joined rows, those of them that WHERE keeps, their
@@ -56,7 +56,8 @@ fn finished(
 /// OFFSET and LIMIT.
 ///
 /// It asks that no conjunct of an ON may fault. A join tries all pairs of its two sides, or where ON compares columns of both by `=`
-/// those that are equal there, and groups, DISTINCT and ORDER BY take the time of a sort.
+/// those that are equal there, and groups, DISTINCT and ORDER BY take the time of a sort; where OFFSET and LIMIT leave none but a
+/// few of the first rows, these alone are kept in order.
 ///
 /// # Errors
 ///

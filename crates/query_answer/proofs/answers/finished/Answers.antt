@@ -7,4 +7,4 @@ use Rattle.query_answer.proofs.answers.finished.Goals as goal
 
 pub returns : goal.returns
 returns c =
-    if_ok_then c.shown_page.result _ _ (λ out h. finishes c.args.distinct c.args.directions.now c.args.offset c.args.limit (map output_of c.args.staged.items) c.in_ok-unique.unique.items c.sort_staged.new.staged.items (map tuple out.items) c.in_ok-unique.ensures c.sort_staged.ensures.same c.in_ok-sort_staged.ensures.sorted h) c.shown_page.ensures
+    if_ok_then c.shown_page.result _ _ (λ out h. finishes c.args.distinct c.args.directions.now c.args.offset c.args.limit (map output_of c.args.staged.items) c.in_ok-unique.unique.items c.in_ok-ordered.ordered.items (map tuple out.items) c.in_ok-unique.ensures c.in_ok-ordered.ensures h) c.shown_page.ensures
