@@ -1,8 +1,8 @@
 -- Records that are put together, and what a write leaves of records.
-use Rattle.std.proofs.Common.{◌≡◌, ℕ, zero, suc, ◌+◌, ◌*◌, ◌<◌, ◌≤◌, Bool, true, false, ◌&&◌, if◌then◌else◌, nat_eq, List, [], ◌∷◌, ◌++◌, length, map, flat_map, replicate, take, drop, slice_set, refl, ap, sym, ◌∙◌, subst, arith, rules}
+use Rattle.std.proofs.Common.{◌≡◌, ℕ, zero, suc, ◌+◌, ◌*◌, ◌<◌, ◌≤◌, Bool, true, false, ◌&&◌, List, [], ◌∷◌, ◌++◌, length, map, flat_map, replicate, take, drop, slice_set, refl, ap, sym, ◌∙◌, subst, arith}
 use Rattle.std.specs.List.{list_all}
 use Rattle.std.proofs.lemmas.Bool.Decides.{nat_tests}
-use Rattle.std.proofs.lemmas.List.{map-append, length-drop, append_assoc}
+use Rattle.std.proofs.lemmas.List.{length-drop, append_assoc}
 use native.Mathlib.Nat.{mul-le-mul_right, suc-mul}
 use Rattle.csv.specs.Records.{fields_of, partial_of}
 use Rattle.csv.specs.declared.record.ByteRecord.{ByteRecord}
