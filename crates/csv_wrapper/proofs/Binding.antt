@@ -19,15 +19,17 @@ use Rattle.fdw_api.specs.declared.interface.Fault.{Fault}
 use Rattle.fdw_api.specs.declared.interface.Fault.TheVariants.{NoMemory, Source, Refused}
 use Rattle.blob_store.specs.Names.{is_blob_name}
 use Rattle.blob_store.specs.Shelves.{Shelf}
-use Rattle.csv_wrapper.specs.declared.table.CsvTable.{CsvTable}
+use Rattle.csv_tables.specs.declared.table.CsvTable.{CsvTable}
 use Rattle.blob_tables.specs.declared.scans.PlaceScan.{PlaceScan}
 use Rattle.staged_changes.specs.declared.changes.StagedWrite.{StagedWrite}
-use Rattle.csv_wrapper.specs.Cells.{line_of}
-use Rattle.csv_wrapper.specs.CsvRecords.{Record, csv_records, body, heading}
-use Rattle.csv_wrapper.specs.CsvKind.{Shape, shape_of, read_row, unless, content_causes, csv_reading, csv_image, csv_refusals, records_in, all_whole, all_readable, unless_of_run}
-use Rattle.csv_wrapper.specs.Content.{IsContent, TellsCause}
-use Rattle.csv_wrapper.specs.Flat.{header_in}
-use Rattle.csv_wrapper.specs.Tables.{bound_of, numbered, records_of, records_at, shape_is, shape_at, slot}
+use Rattle.csv_tables.specs.Cells.{line_of}
+use Rattle.csv_tables.specs.CsvRecords.{Record, csv_records, body, heading}
+use Rattle.csv_tables.specs.Shapes.{Shape, shape_of, read_row, unless, content_causes, csv_reading, csv_image, records_in, all_whole, all_readable}
+use Rattle.csv_wrapper.specs.CsvKind.{csv_refusals, unless_of_run}
+use Rattle.csv_tables.specs.Content.{IsContent, TellsCause}
+use Rattle.csv_tables.specs.Flat.{header_in}
+use Rattle.csv_wrapper.specs.Slots.{bound_of, records_at, shape_at, slot}
+use Rattle.csv_tables.specs.Tables.{numbered, records_of, shape_is}
 use Rattle.csv_wrapper.specs.Scans.{scan_is, scan_rows}
 use Rattle.blob_tables.specs.Mapped.{mapped}
 use Rattle.fdw_api.specs.State.{Staging}

@@ -19,28 +19,30 @@ use Rattle.fdw_api.specs.declared.interface.Fault.TheVariants.{NoMemory, Source,
 use Rattle.blob_store.specs.declared.blobs.BlobFault.{BlobFault}
 use Rattle.blob_store.specs.Names.{is_blob_name}
 use Rattle.blob_store.specs.Shelves.{Shelf, Standing, Known as KnownBlob, Unknown as UnknownBlob, Fails, Replaces, after_writing}
-use Rattle.csv_wrapper.specs.declared.table.CsvTable.{CsvTable}
+use Rattle.csv_tables.specs.declared.table.CsvTable.{CsvTable}
 use Rattle.blob_tables.specs.declared.scans.PlaceScan.{PlaceScan}
 use Rattle.staged_changes.specs.declared.changes.StagedWrite.{StagedWrite}
-use Rattle.csv_wrapper.specs.declared.written.Written.{Written}
-use Rattle.csv_wrapper.specs.declared.layout.Layout.{Layout}
-use Rattle.csv_wrapper.specs.Cells.{line_of}
-use Rattle.csv_wrapper.specs.CsvRecords.{Record, csv_records, csv_text, heading, has_field, is_header}
-use Rattle.csv_wrapper.specs.CsvKind.{Shape, read_row, csv_image, records_in, write_causes, causes_behind, hides_value, rows_text, three_of_run}
-use Rattle.csv_wrapper.specs.Content.{TellsCause}
-use Rattle.csv_wrapper.specs.Flat.{header_in}
-use Rattle.csv_wrapper.specs.Tables.{bound_of, bound_by, numbered, records_of, records_at, shape_is, shape_at, slot, PutsRows}
+use Rattle.csv_tables.specs.declared.written.Written.{Written}
+use Rattle.csv_tables.specs.declared.layout.Layout.{Layout}
+use Rattle.csv_tables.specs.Cells.{line_of}
+use Rattle.csv_tables.specs.CsvRecords.{Record, csv_records, csv_text, heading, has_field, is_header}
+use Rattle.csv_tables.specs.Shapes.{Shape, read_row, csv_image, records_in, causes_behind, hides_value, rows_text}
+use Rattle.csv_wrapper.specs.CsvKind.{write_causes, three_of_run}
+use Rattle.csv_tables.specs.Content.{TellsCause}
+use Rattle.csv_tables.specs.Flat.{header_in}
+use Rattle.csv_wrapper.specs.Slots.{bound_of, bound_by, records_at, shape_at, slot, PutsRows}
+use Rattle.csv_tables.specs.Tables.{numbered, records_of, shape_is}
 use Rattle.csv_wrapper.specs.Scans.{scan_is}
 use Rattle.staged_changes.specs.Staged.{change_is, write_is}
 use Rattle.csv_wrapper.specs.CsvBoxes.{csv_state, csv_ledger, write_fits}
 use Rattle.blob_tables.specs.Holdings.{held_under, holding_of, fault_is}
-use Rattle.csv_wrapper.specs.Rewriting.{Rewrites, rows_in}
+use Rattle.csv_tables.specs.Rewriting.{Rewrites, rows_in}
 use Rattle.blob_tables.proofs.Maps.{mapped_get}
 use Rattle.csv_wrapper.proofs.Binding.{scans_same, rows_same, held_numbered, numbered_once, both, all_run, IsOfRun, fails_told, Misses, Served, Named, Apart, Headed}
 use Rattle.blob_tables.proofs.Tickets.{some_inj}
 use Rattle.csv_wrapper.proofs.Putting.{to_some}
 use Rattle.csv_wrapper.proofs.Headers.{header_of_entry, heading_is_header}
-use Rattle.csv_wrapper.proofs.Applying.{origins}
+use Rattle.csv_tables.proofs.Applying.{origins}
 
 -- an entry that may stand there, and has the header that the table holds
 pub entry_under : (held : Holding) (x : CsvTable) → ((e : Option Entry) → held ≡ Known e → heading x.layout.header (map string_bytes x.layout.names.items) (records_in e) ≡ header_in x.header)

@@ -6,11 +6,11 @@ use Rattle.fdw_api.specs.Scan.{Spec, RestrictionForm, meets, shown_cells}
 use Rattle.fdw_api.specs.declared.scan.Agree.{Agree}
 use Rattle.fdw_api.specs.declared.scan.Agree.TheVariants.{Ignored, Hint, Exact}
 use Rattle.csv.specs.Records.{fields_of}
-use Rattle.csv_wrapper.specs.declared.table.CsvTable.{CsvTable}
-use Rattle.csv_wrapper.specs.CsvRecords.{Record}
-use Rattle.csv_wrapper.specs.Tables.{shape_is, records_of, cells_at, fields_at}
-use Rattle.csv_wrapper.specs.Scans.{comes, comes_by, coming_from, may_meet, field_size}
-use Rattle.csv_wrapper.proofs.Flat.{cut_drop, cut_length}
+use Rattle.csv_tables.specs.declared.table.CsvTable.{CsvTable}
+use Rattle.csv_tables.specs.CsvRecords.{Record}
+use Rattle.csv_tables.specs.Tables.{shape_is, records_of, cells_at, fields_at, field_size}
+use Rattle.csv_wrapper.specs.Scans.{comes, comes_by, coming_from, may_meet}
+use Rattle.csv_tables.proofs.Flat.{cut_drop, cut_length}
 
 passed : (b x : Bool) → (b && true) ≡ true → (b && x) ≡ x
 passed true x e = refl

@@ -16,11 +16,11 @@ use Rattle.med_value.specs.declared.value.ColType.TheVariants as types
 use Rattle.fdw_api.specs.Scan.{Spec, RestrictionForm, TestForm, Compares, Missing, Present, value_of as operand_of, GivenRow, TableRow, IsComing, cell, checks, meets, meets_all, meets_exact, given_row}
 use Rattle.fdw_api.specs.declared.scan.Agree.{Agree}
 use Rattle.fdw_api.specs.declared.scan.Agree.TheVariants.{Ignored, Hint, Exact}
-use Rattle.csv_wrapper.specs.Cells.{cell_of, record_cells, value_of, integer_of, truth_of, without_spaces}
-use Rattle.csv_wrapper.specs.CsvRecords.{Record}
-use Rattle.csv_wrapper.specs.CsvKind.{Shape}
-use Rattle.csv_wrapper.specs.Tables.{numbered}
-use Rattle.csv_wrapper.specs.Scans.{comes, comes_by, coming_from, may_equal, may_meet, field_size}
+use Rattle.csv_tables.specs.Cells.{cell_of, record_cells, value_of, integer_of, truth_of, without_spaces}
+use Rattle.csv_tables.specs.CsvRecords.{Record}
+use Rattle.csv_tables.specs.Shapes.{Shape}
+use Rattle.csv_tables.specs.Tables.{numbered, field_size}
+use Rattle.csv_wrapper.specs.Scans.{comes, comes_by, coming_from, may_equal, may_meet}
 
 -- a cell that is a text is its field
 typed_chars : (kind : ColType) (f s : List ℕ) → unwrap_or (value_of kind f) NoValue ≡ Chars s → f ≡ s

@@ -9,9 +9,9 @@ use Rattle.csv.specs.declared.parser.Action.{Action}
 use Rattle.csv.specs.declared.parser.Action.TheVariants as act
 use Rattle.csv.proofs.RoundTrip.{read-write}
 use Rattle.fdw_api.specs.Kinds.{Entry, Bytes}
-use Rattle.csv_wrapper.specs.CsvRecords.{Record, csv_records, csv_text, heading, has_field, is_header}
-use Rattle.csv_wrapper.specs.CsvKind.{records_in}
-use Rattle.csv_wrapper.proofs.ReadLaws.{are_the_records, none_at_end}
+use Rattle.csv_tables.specs.CsvRecords.{Record, csv_records, csv_text, heading, has_field, is_header}
+use Rattle.csv_tables.specs.Shapes.{records_in}
+use Rattle.csv_tables.proofs.ReadLaws.{are_the_records, none_at_end}
 
 same_read : (p q : Read) → Some p ≡ Some q → p ≡ q
 same_read p q e = cc

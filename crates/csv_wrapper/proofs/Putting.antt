@@ -1,9 +1,10 @@
 -- A header and rows put in the place of a table's own.
 use Rattle.std.proofs.Common.{◌≡◌, ℕ, zero, suc, ◌<◌, ◌≤◌, List, [], ◌∷◌, length, slice_set, Option, Some, None, IfSome, refl, ap, sym, ◌∙◌, subst, arith}
-use Rattle.csv_wrapper.specs.declared.table.CsvTable.{CsvTable}
-use Rattle.csv_wrapper.specs.CsvRecords.{Record}
-use Rattle.csv_wrapper.specs.Flat.{header_in}
-use Rattle.csv_wrapper.specs.Tables.{slot, records_of, PutsRows}
+use Rattle.csv_tables.specs.declared.table.CsvTable.{CsvTable}
+use Rattle.csv_tables.specs.CsvRecords.{Record}
+use Rattle.csv_tables.specs.Flat.{header_in}
+use Rattle.csv_wrapper.specs.Slots.{slot, PutsRows}
+use Rattle.csv_tables.specs.Tables.{records_of}
 use Rattle.blob_tables.proofs.Tickets.{some_inj}
 use Rattle.csv_wrapper.proofs.Binding.{set_there, set_other, slot_less}
 

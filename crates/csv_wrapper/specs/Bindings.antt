@@ -7,11 +7,11 @@ use Rattle.fdw_api.specs.declared.interface.Fault.{Fault}
 use Rattle.fdw_api.specs.declared.interface.Fault.TheVariants.{NoMemory, Source, Refused}
 use Rattle.blob_store.specs.Names.{is_blob_name}
 use Rattle.blob_store.specs.Shelves.{Shelf}
-use Rattle.csv_wrapper.specs.declared.table.CsvTable.{CsvTable}
-use Rattle.csv_wrapper.specs.CsvKind.{shape_of, csv_reading}
-use Rattle.csv_wrapper.specs.Content.{IsContent}
-use Rattle.csv_wrapper.specs.Flat.{header_in}
-use Rattle.csv_wrapper.specs.Tables.{shape_is, records_of}
+use Rattle.csv_tables.specs.declared.table.CsvTable.{CsvTable}
+use Rattle.csv_tables.specs.Shapes.{shape_of, csv_reading}
+use Rattle.csv_tables.specs.Content.{IsContent}
+use Rattle.csv_tables.specs.Flat.{header_in}
+use Rattle.csv_tables.specs.Tables.{shape_is, records_of}
 use Rattle.blob_tables.specs.Holdings.{held_under}
 
 -- the table holds what the blob of this name gives, for which no cause stands

@@ -9,14 +9,15 @@ use Rattle.fdw_api.specs.Calls.{not_refused, faults_after}
 use Rattle.fdw_api.specs.declared.interface.Fault.{Fault}
 use Rattle.fdw_api.specs.State.{Nature, Staging, Ledger, Content, BoxState, IsIdle, is_honest}
 use Rattle.blob_store.specs.Shelves.{Shelf}
-use Rattle.csv_wrapper.specs.declared.table.CsvTable.{CsvTable}
+use Rattle.csv_tables.specs.declared.table.CsvTable.{CsvTable}
 use Rattle.blob_tables.specs.declared.scans.PlaceScan.{PlaceScan}
 use Rattle.blob_tables.specs.Holdings.{held_under}
 use Rattle.blob_tables.specs.Mapped.{mapped}
 use Rattle.staged_changes.specs.declared.changes.StagedWrite.{StagedWrite}
 use Rattle.staged_changes.specs.Staged.{write_is}
 use Rattle.csv_wrapper.specs.CsvKind.{csv_kind}
-use Rattle.csv_wrapper.specs.Tables.{shape_at, records_at, numbered, bound_of, slot}
+use Rattle.csv_wrapper.specs.Slots.{shape_at, records_at, bound_of, slot}
+use Rattle.csv_tables.specs.Tables.{numbered}
 use Rattle.csv_wrapper.specs.Scans.{scan_is, scan_rows}
 
 -- the calls that failed by the source are those that failed by the blobs' device

@@ -1,11 +1,5 @@
-pub mod Cells
-pub mod CsvRecords
 pub mod CsvKind
-pub mod Flat
-pub mod Tables
+pub mod Slots
 pub mod Scans
-pub mod Content
 pub mod CsvBoxes
 pub mod Bindings
-pub mod Rewriting
-pub mod ReadAgain

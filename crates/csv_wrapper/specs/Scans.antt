@@ -1,5 +1,5 @@
 -- What a scan of a CSV table gives.
-use Rattle.std.specs.Prelude.{◌≡◌, ◌<◌, ◌≤◌, ◌+◌, ◌-◌, ◌^◌, ◌&&◌, ℕ, zero, suc, Bool, true, false, List, [], ◌∷◌, length, map, drop, slice_get, Option, Some, None, nat_eq, if◌then◌else◌}
+use Rattle.std.specs.Prelude.{◌≡◌, ◌<◌, ◌≤◌, ◌+◌, ◌-◌, ◌^◌, ◌&&◌, ℕ, Bool, true, false, List, [], ◌∷◌, length, map, drop, slice_get, Option, Some, None, nat_eq, if◌then◌else◌}
 use Rattle.med_value.specs.Datum.{Datum, NoValue, Whole, Chars, Logic, Tuple, datum}
 use Rattle.med_value.specs.declared.order.Comparison.TheVariants as comparisons
 use Rattle.med_value.specs.declared.value.ColType.{ColType}
@@ -11,11 +11,12 @@ use Rattle.fdw_api.specs.declared.scan.Agree.{Agree}
 use Rattle.fdw_api.specs.declared.scan.Agree.TheVariants.{Ignored, Hint, Exact}
 use Rattle.fdw_api.specs.declared.interface.SourceRow.{SourceRow}
 use Rattle.blob_tables.specs.declared.scans.PlaceScan.{PlaceScan}
-use Rattle.csv_wrapper.specs.declared.table.CsvTable.{CsvTable}
-use Rattle.csv_wrapper.specs.Cells.{record_cells}
-use Rattle.csv_wrapper.specs.CsvRecords.{Record}
-use Rattle.csv_wrapper.specs.CsvKind.{Shape}
-use Rattle.csv_wrapper.specs.Tables.{shape_at, records_at, slot}
+use Rattle.csv_tables.specs.declared.table.CsvTable.{CsvTable}
+use Rattle.csv_tables.specs.Cells.{record_cells}
+use Rattle.csv_tables.specs.CsvRecords.{Record}
+use Rattle.csv_tables.specs.Shapes.{Shape}
+use Rattle.csv_tables.specs.Tables.{field_size}
+use Rattle.csv_wrapper.specs.Slots.{shape_at, records_at, slot}
 
 -- a text of this many bytes may be equal to a value: not to NULL, and to no text of another length
 abbrev pub may_equal : ℕ → Datum → Bool
@@ -23,12 +24,6 @@ may_equal size NoValue = false
 may_equal size (Chars text) = nat_eq size (length text)
 may_equal size (Whole n) = true
 may_equal size (Logic b) = true
-
--- how many bytes the field of a column has, 0 where it is not there
-abbrev pub field_size : Record → ℕ → ℕ
-field_size [] column = 0
-field_size (f ∷ fs) zero = length f
-field_size (f ∷ fs) (suc column) = field_size fs column
 
 -- a field of this many bytes may meet a test, as far as its length tells
 abbrev pub may_meet : Tuple → ℕ → TestForm → Bool

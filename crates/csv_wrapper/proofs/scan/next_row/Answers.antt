@@ -1,7 +1,7 @@
 use Rattle.std.proofs.Common.{◌≡◌, ◌∙◌, ◌∷◌, ◌+◌, drop, true, false, map, sym, ap, arith, rules}
 use Rattle.med_value.specs.Datum.{datum, Tuple}
 use Rattle.fdw_api.specs.Scan.{spec_of}
-use Rattle.csv_wrapper.specs.Tables.{shape_is, records_of, fields_at}
+use Rattle.csv_tables.specs.Tables.{shape_is, records_of, fields_at}
 use Rattle.csv_wrapper.specs.Scans.{comes_by, coming_from}
 use Rattle.csv_wrapper.proofs.Coming.{gives_at, skips_at, ends_at}
 use Rattle.csv_wrapper.proofs.scan.next_row.Goals as goal

@@ -1,6 +1,6 @@
 use Rattle.std.proofs.Common.{◌<◌, ◌≤◌, ◌∙◌, sym, ap, Option, length, arith}
-use Rattle.csv_wrapper.specs.declared.table.CsvTable.{CsvTable}
-use Rattle.csv_wrapper.specs.Tables.{shape_at}
+use Rattle.csv_tables.specs.declared.table.CsvTable.{CsvTable}
+use Rattle.csv_wrapper.specs.Slots.{shape_at}
 use Rattle.csv_wrapper.proofs.Scanning.{slot_read, slot_past}
 use Rattle.csv_wrapper.proofs.wrapper.kinds_of_slot.Goals as goal
 

@@ -1,8 +1,8 @@
 use Rattle.std.proofs.Common.{◌≡◌, ◌<◌, ◌≤◌, ◌∙◌, Some, sym, refl, length, true, arith}
-use Rattle.csv_wrapper.specs.declared.table.CsvTable.{CsvTable}
-use Rattle.csv_wrapper.specs.CsvRecords.{is_header}
-use Rattle.csv_wrapper.specs.Flat.{header_in}
-use Rattle.csv_wrapper.specs.Tables.{slot}
+use Rattle.csv_tables.specs.declared.table.CsvTable.{CsvTable}
+use Rattle.csv_tables.specs.CsvRecords.{is_header}
+use Rattle.csv_tables.specs.Flat.{header_in}
+use Rattle.csv_wrapper.specs.Slots.{slot}
 use Rattle.csv_wrapper.proofs.Scanning.{slot_read}
 use Rattle.csv_wrapper.proofs.Putting.{of_some, puts, puts_none, puts_past}
 use Rattle.csv_wrapper.proofs.wrapper.put_rows.Goals as goal

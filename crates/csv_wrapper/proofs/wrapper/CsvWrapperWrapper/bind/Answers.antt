@@ -5,7 +5,7 @@ use Rattle.blob_store.specs.Shelves.{Shelf}
 use Rattle.fdw_api.specs.Kinds.{Bytes, column_of, option_form}
 use Rattle.staged_changes.specs.Staged.{write_is}
 use Rattle.blob_tables.specs.Holdings.{held_under}
-use Rattle.csv_wrapper.specs.Tables.{slot}
+use Rattle.csv_wrapper.specs.Slots.{slot}
 use Rattle.csv_wrapper.proofs.Binding.{csv_binds, csv_refuses, set_there, set_other, keeps_headed, bound_served, bound_named, bound_apart, bound_headed, bound_fits, free_of, found_under}
 use Rattle.csv_wrapper.proofs.wrapper.CsvWrapperWrapper.bind.Goals as goal
 

@@ -1,0 +1,103 @@
+-- Going over the fields of a record.
+use Rattle.std.proofs.Common.{◌≡◌, ℕ, zero, suc, ◌+◌, ◌<◌, ◌≤◌, Bool, true, false, ◌&&◌, List, [], ◌∷◌, ◌++◌, length, drop, Some, None, slice_get, is_some, Result, Ok, Err, refl, ap, sym, ◌∙◌, arith}
+use Rattle.std.specs.List.{list_all}
+use Rattle.std.specs.Result.{MatchResult, is_err}
+use Rattle.std.specs.Str.{IsUtf8, is_utf8}
+use Rattle.std.proofs.lemmas.Str.{IsUtf8-from_is_utf8, is_utf8-from_IsUtf8}
+use Rattle.csv.specs.Records.{field_at}
+use Rattle.med_value.specs.declared.value.ColType.{ColType}
+use Rattle.csv_tables.specs.Cells.{cell_of, is_readable}
+use Rattle.csv_tables.specs.CsvRecords.{Record}
+
+pub field_next : (fs : Record) (i : ℕ) (f : List ℕ) → field_at fs i ≡ Some f → drop i fs ≡ f ∷ drop (i + 1) fs
+unfolding field_at
+field_next [] i f e = absurd cc
+field_next (x ∷ fs) zero f e = let s : x ≡ f = cc in ap (λ (y : List ℕ). y ∷ fs) s
+field_next (x ∷ fs) (suc i) f e =
+    let p : suc (i + 1) ≡ suc i + 1 = omega arith in
+    field_next fs i f e ∙ ap (λ (k : ℕ). f ∷ drop k (x ∷ fs)) p
+
+pub field_end : (fs : Record) (i : ℕ) → field_at fs i ≡ None → drop i fs ≡ []
+unfolding field_at
+field_end [] zero e = refl
+field_end [] (suc i) e = refl
+field_end (x ∷ fs) zero e = absurd cc
+field_end (x ∷ fs) (suc i) e = field_end fs i e
+
+pub field_less : (fs : Record) (i : ℕ) (f : List ℕ) → field_at fs i ≡ Some f → i < length fs
+unfolding field_at
+field_less [] i f e = absurd cc
+field_less (x ∷ fs) zero f e = omega arith
+field_less (x ∷ fs) (suc i) f e = let l = field_less fs i f e in omega arith
+
+-- past a field that is UTF-8, and at one that is not
+pub text_next : (fs : Record) (i : ℕ) (f : List ℕ) → field_at fs i ≡ Some f → IsUtf8 f → list_all is_utf8 (drop i fs) ≡ list_all is_utf8 (drop (i + 1) fs)
+text_next fs i f e u = ap (list_all is_utf8) (field_next fs i f e) ∙ rw (is_utf8-from_IsUtf8 f u) refl
+
+pub text_fails : (fs : Record) (i : ℕ) (f : List ℕ) → field_at fs i ≡ Some f → (IsUtf8 f → ⊥) → list_all is_utf8 (drop i fs) ≡ false
+text_fails fs i f e bad = ap (list_all is_utf8) (field_next fs i f e) ∙ rw (not_utf8 (is_utf8 f) refl) refl
+  where
+    not_utf8 : (b : Bool) → is_utf8 f ≡ b → is_utf8 f ≡ false
+    not_utf8 true h = absurd (bad (IsUtf8-from_is_utf8 f h))
+    not_utf8 false h = h
+
+pub text_ends : (fs : Record) (i : ℕ) → field_at fs i ≡ None → list_all is_utf8 (drop i fs) ≡ true
+text_ends fs i e = ap (list_all is_utf8) (field_end fs i e)
+
+kind_next : (ks : List ColType) (i : ℕ) (k : ColType) → slice_get ks i ≡ Some k → drop i ks ≡ k ∷ drop (i + 1) ks
+kind_next [] zero k e = absurd cc
+kind_next [] (suc i) k e = absurd cc
+kind_next (x ∷ ks) zero k e = let s : x ≡ k = cc in ap (λ (y : ColType). y ∷ ks) s
+kind_next (x ∷ ks) (suc i) k e =
+    let p : suc (i + 1) ≡ suc i + 1 = omega arith in
+    kind_next ks i k e ∙ ap (λ (j : ℕ). k ∷ drop j (x ∷ ks)) p
+
+both_next : (null : List ℕ) (ks : List ColType) (fs : Record) (i : ℕ) (k : ColType) (f : List ℕ) → slice_get ks i ≡ Some k → field_at fs i ≡ Some f → is_readable null (drop i ks) (drop i fs) ≡ (is_some (cell_of null k f) && is_readable null (drop (i + 1) ks) (drop (i + 1) fs))
+both_next null ks fs i k f ek ef = ap (λ (l : List ColType). is_readable null l (drop i fs)) (kind_next ks i k ek) ∙ ap (is_readable null (k ∷ drop (i + 1) ks)) (field_next fs i f ef)
+
+-- past a field of its column's type, and at one that is not
+pub cell_next : (null : List ℕ) (ks : List ColType) (fs : Record) (i : ℕ) (k : ColType) (f : List ℕ) → slice_get ks i ≡ Some k → field_at fs i ≡ Some f → is_some (cell_of null k f) ≡ true → is_readable null (drop i ks) (drop i fs) ≡ is_readable null (drop (i + 1) ks) (drop (i + 1) fs)
+cell_next null ks fs i k f ek ef e = both_next null ks fs i k f ek ef ∙ rw e refl
+
+pub cell_fails : (null : List ℕ) (ks : List ColType) (fs : Record) (i : ℕ) (k : ColType) (f : List ℕ) → slice_get ks i ≡ Some k → field_at fs i ≡ Some f → is_some (cell_of null k f) ≡ false → is_readable null (drop i ks) (drop i fs) ≡ false
+cell_fails null ks fs i k f ek ef e = both_next null ks fs i k f ek ef ∙ rw e refl
+
+no_more : (ks : List ColType) (i : ℕ) → length ks ≤ i → drop i ks ≡ []
+no_more [] zero le = refl
+no_more [] (suc i) le = refl
+no_more (x ∷ ks) zero le = absurd (omega arith)
+no_more (x ∷ ks) (suc i) le = no_more ks i (omega arith)
+
+pub columns_end : (null : List ℕ) (ks : List ColType) (fs : Record) (i : ℕ) → length ks ≤ i → is_readable null (drop i ks) (drop i fs) ≡ true
+columns_end null ks fs i le = ap (λ (l : List ColType). is_readable null l (drop i fs)) (no_more ks i le)
+
+readable_none : (null : List ℕ) (ks : List ColType) → is_readable null ks [] ≡ true
+readable_none null [] = refl
+readable_none null (k ∷ ks) = refl
+
+pub fields_end : (null : List ℕ) (ks : List ColType) (fs : Record) (i : ℕ) → field_at fs i ≡ None → is_readable null (drop i ks) (drop i fs) ≡ true
+fields_end null ks fs i e = ap (is_readable null (drop i ks)) (field_end fs i e) ∙ readable_none null (drop i ks)
+
+-- one more field of a record goes over
+pub pushed : (fs xs ys all : Record) (i : ℕ) (f : List ℕ) → field_at fs i ≡ Some f → xs ++ drop i fs ≡ all → ys ≡ xs ++ f ∷ [] → ys ++ drop (i + 1) fs ≡ all
+pushed fs xs ys all i f e inv is =
+    ap (λ (l : Record). l ++ drop (i + 1) fs) is ∙ regroup xs ∙ ap (λ (l : Record). xs ++ l) (sym (field_next fs i f e)) ∙ inv
+  where
+    regroup : (l : Record) → (l ++ f ∷ []) ++ drop (i + 1) fs ≡ l ++ (f ∷ drop (i + 1) fs)
+    regroup [] = refl
+    regroup (x ∷ l) = ap (λ (m : Record). x ∷ m) (regroup l)
+
+pub all_pushed : (fs xs all : Record) (i : ℕ) → field_at fs i ≡ None → xs ++ drop i fs ≡ all → xs ≡ all
+all_pushed fs xs all i e inv = sym (no_tail xs) ∙ sym (ap (λ (l : Record). xs ++ l) (field_end fs i e)) ∙ inv
+  where
+    no_tail : (l : Record) → l ++ [] ≡ l
+    no_tail [] = refl
+    no_tail (x ∷ l) = ap (λ (m : Record). x ∷ m) (no_tail l)
+
+pub utf8_read : {T E : Type 0} (f : List ℕ) (P : T → Type 0) (Q : E → Type 0) (r : Result T E) → MatchResult r (λ s. P s × IsUtf8 f) (λ e. (IsUtf8 f → ⊥) × Q e) → is_err r ≡ false → IsUtf8 f
+utf8_read f P Q (Ok s) m e = m.1
+utf8_read f P Q (Err x) m e = absurd cc
+
+pub utf8_refused : {T E : Type 0} (f : List ℕ) (P : T → Type 0) (Q : E → Type 0) (r : Result T E) → MatchResult r (λ s. P s × IsUtf8 f) (λ e. (IsUtf8 f → ⊥) × Q e) → is_err r ≡ true → IsUtf8 f → ⊥
+utf8_refused f P Q (Ok s) m e u = absurd cc
+utf8_refused f P Q (Err x) m e u = m.0 u

@@ -1,0 +1,135 @@
+-- Records that are put together, and what a write leaves of records.
+use Rattle.std.proofs.Common.{◌≡◌, ℕ, zero, suc, ◌+◌, ◌*◌, ◌<◌, ◌≤◌, Bool, true, false, ◌&&◌, List, [], ◌∷◌, ◌++◌, length, map, flat_map, replicate, take, drop, slice_set, refl, ap, sym, ◌∙◌, subst, arith}
+use Rattle.std.specs.List.{list_all}
+use Rattle.std.proofs.lemmas.Bool.Decides.{nat_tests}
+use Rattle.std.proofs.lemmas.List.{length-drop, append_assoc}
+use native.Mathlib.Nat.{mul-le-mul_right, suc-mul}
+use Rattle.csv.specs.Records.{fields_of, partial_of}
+use Rattle.csv.specs.declared.record.ByteRecord.{ByteRecord}
+use Rattle.med_value.specs.Datum.{Tuple}
+use Rattle.fdw_api.specs.Kinds.{Held, held, Change}
+use Rattle.fdw_api.specs.Writes.{row_after}
+use Rattle.staged_changes.specs.declared.fates.Fate.{Fate}
+use Rattle.staged_changes.specs.declared.fates.Fate.TheVariants.{Keep, Gone}
+use Rattle.csv_tables.specs.declared.written.Gathered.{Gathered}
+use Rattle.csv_tables.specs.Cells.{line_of}
+use Rattle.csv_tables.specs.CsvRecords.{Record}
+use Rattle.csv_tables.specs.Shapes.{Shape, read_row}
+use Rattle.csv_tables.specs.Flat.{cut_into}
+use Rattle.csv_tables.specs.declared.table.Rows.{Rows}
+use Rattle.csv_tables.specs.Tables.{numbered, record_at}
+use Rattle.csv_tables.specs.Rewriting.{has_width, is_wide, left_by, woven, Gathers}
+use Rattle.staged_changes.specs.Weaving.{outcome}
+use Rattle.csv_tables.proofs.Drafts.{cut_push, full_push}
+
+both : (a b : Bool) → (a && b) ≡ true → (a ≡ true) × (b ≡ true)
+both true b e = (refl, e)
+both false b e = absurd cc
+
+same_width : (width : ℕ) (f : Record) → has_width width f ≡ true → length f ≡ width
+same_width width f e = grind (arith, nat_tests)
+
+-- one more record
+pub gathers_more : (width : ℕ) (rows : List Record) (g h : Gathered) (f : Record) → Gathers width rows g → has_width width f ≡ true
+    → fields_of h.fields ≡ fields_of g.fields ++ f → partial_of h.fields ≡ [] → h.count ≡ g.count + 1 → Gathers width (rows ++ f ∷ []) h
+gathers_more width rows g h f was wide ef ep ec =
+    let len = same_width width f wide in
+    record {
+      no_partial = ep;
+      full = ap (λ (n : ℕ). n * width) ec ∙ full_push g.count width (fields_of g.fields) f was.full len ∙ sym (ap length ef);
+      rows_are = ap (λ (n : ℕ). cut_into n width (fields_of h.fields)) ec ∙ ap (cut_into (g.count + 1) width) ef
+          ∙ cut_push g.count width (fields_of g.fields) f was.full len ∙ ap (λ (l : List Record). l ++ f ∷ []) was.rows_are;
+    }
+
+-- none as yet
+pub gathers_none : (width : ℕ) (r : ByteRecord) → fields_of r ≡ [] → partial_of r ≡ [] → Gathers width [] (record { fields = r; count = 0 })
+gathers_none width r ef ep = record { no_partial = ep; full = (let z : 0 * width ≡ 0 = omega arith in z ∙ sym (ap length ef)); rows_are = refl }
+
+pub gathers_as : (width : ℕ) (xs ys : List Record) (g : Gathered) → Gathers width xs g → xs ≡ ys → Gathers width ys g
+gathers_as width xs ys g h e = subst (λ (l : List Record). Gathers width l g) e h
+
+-- a step over fates
+left_none : (rs : List Record) → left_by [] rs ≡ []
+left_none [] = refl
+left_none (r ∷ rs) = refl
+
+pub wide_first : (width : ℕ) (f : Fate ByteRecord) (fs gs : List (Fate ByteRecord)) → fs ≡ f ∷ gs → list_all (is_wide width) fs ≡ true → (is_wide width f ≡ true) × (list_all (is_wide width) gs ≡ true)
+wide_first width f fs gs e h = both (is_wide width f) (list_all (is_wide width) gs) (sym (ap (list_all (is_wide width)) e) ∙ h)
+
+pub left_on : (done olds more all : List Record) (r x : Record) (f : Fate ByteRecord) (fs gs : List (Fate ByteRecord)) → done ++ left_by fs olds ≡ all → fs ≡ f ∷ gs → olds ≡ r ∷ more
+    → outcome fields_of r f ≡ x ∷ [] → (done ++ x ∷ []) ++ left_by gs more ≡ all
+left_on done olds more all r x f fs gs i ef eo out =
+    let s : left_by fs olds ≡ x ∷ left_by gs more = rw (ef, eo) (ap (λ (l : List Record). l ++ left_by gs more) out) in
+    append_assoc done (x ∷ []) (left_by gs more) ∙ ap (λ (l : List Record). done ++ l) (sym s) ∙ i
+
+pub left_gone : (done olds more all : List Record) (r : Record) (fs gs : List (Fate ByteRecord)) → done ++ left_by fs olds ≡ all → fs ≡ Gone ∷ gs → olds ≡ r ∷ more → done ++ left_by gs more ≡ all
+left_gone done olds more all r fs gs i ef eo =
+    let s : left_by fs olds ≡ left_by gs more = rw (ef, eo) refl in
+    ap (λ (l : List Record). done ++ l) (sym s) ∙ i
+
+-- past the last record nothing is left
+pub left_past : (done olds all : List Record) (fs gs : List (Fate ByteRecord)) → done ++ left_by fs olds ≡ all → olds ≡ [] → done ++ left_by gs olds ≡ all
+left_past done olds all fs gs i eo =
+    let s : left_by gs olds ≡ left_by fs olds = rw eo refl in
+    ap (λ (l : List Record). done ++ l) s ∙ i
+
+append_none : (l : List Record) → l ++ [] ≡ l
+append_none [] = refl
+append_none (r ∷ l) = ap (λ (m : List Record). r ∷ m) (append_none l)
+
+pub left_ends : (done olds all : List Record) (fs : List (Fate ByteRecord)) → done ++ left_by fs olds ≡ all → fs ≡ [] → done ≡ all
+left_ends done olds all fs i ef =
+    sym (append_none done) ∙ ap (λ (l : List Record). done ++ l) (sym (ap (λ (gs : List (Fate ByteRecord)). left_by gs olds) ef ∙ left_none olds)) ∙ i
+
+-- the new records, one after the other
+pub lines_first : (width : ℕ) (x : ByteRecord) (xs ys : List ByteRecord) → xs ≡ x ∷ ys → list_all (has_width width) (map fields_of xs) ≡ true
+    → (has_width width (fields_of x) ≡ true) × (list_all (has_width width) (map fields_of ys) ≡ true)
+lines_first width x xs ys e h = both (has_width width (fields_of x)) (list_all (has_width width) (map fields_of ys)) (sym (ap (λ (l : List ByteRecord). list_all (has_width width) (map fields_of l)) e) ∙ h)
+
+pub lines_on : (done all : List Record) (x : ByteRecord) (xs ys : List ByteRecord) → done ++ map fields_of xs ≡ all → xs ≡ x ∷ ys → (done ++ fields_of x ∷ []) ++ map fields_of ys ≡ all
+lines_on done all x xs ys i e = append_assoc done (fields_of x ∷ []) (map fields_of ys) ∙ ap (λ (l : List ByteRecord). done ++ map fields_of l) (sym e) ∙ i
+
+pub lines_end : (done all : List Record) (xs : List ByteRecord) → done ++ map fields_of xs ≡ all → xs ≡ [] → done ≡ all
+lines_end done all xs i e = sym (append_none done) ∙ ap (λ (l : List ByteRecord). done ++ map fields_of l) (sym e) ∙ i
+
+-- kept records, before any change
+pub woven_kept : (shape : Shape) (n : ℕ) (rs : List Record) (cs : List Change) → woven shape n rs (replicate (length rs) Keep) cs
+    ≡ flat_map (λ r. row_after (line_of shape.null) r.id cs (held r ∷ [])) (numbered shape n rs)
+woven_kept shape n [] cs = refl
+woven_kept shape n (r ∷ rs) cs = ap (λ (l : List Held). row_after (line_of shape.null) n cs (read_row shape r ∷ []) ++ l) (woven_kept shape (n + 1) rs cs)
+
+-- the row of a written record
+abbrev pub WritesRow : Shape → ByteRecord → Tuple → Type 0
+WritesRow shape r x = read_row shape (fields_of r) ≡ record { cells = x; origin = line_of shape.null x }
+
+-- every fate stays wide
+pub wide_kept : (width n : ℕ) → list_all (is_wide width) (replicate n Keep) ≡ true
+wide_kept width zero = refl
+wide_kept width (suc n) = wide_kept width n
+
+pub wide_set : (width : ℕ) (fs : List (Fate ByteRecord)) (j : ℕ) (f : Fate ByteRecord) → list_all (is_wide width) fs ≡ true → is_wide width f ≡ true → list_all (is_wide width) (slice_set fs j f) ≡ true
+wide_set width [] j f h e = refl
+wide_set width (g ∷ fs) zero f h e = let w = both (is_wide width g) (list_all (is_wide width) fs) h in rw e w.1
+wide_set width (g ∷ fs) (suc j) f h e = let w = both (is_wide width g) (list_all (is_wide width) fs) h in rw w.0 (wide_set width fs j f w.1 e)
+
+-- a record of a table is as wide as the table
+pub record_width : (r : Rows) (at : ℕ) → at < r.count → has_width r.width (record_at r at) ≡ true
+record_width r at lt =
+    let e : suc at * r.width ≡ at * r.width + r.width = suc-mul at r.width in
+    let m : suc at * r.width ≤ r.count * r.width = mul-le-mul_right r.width (omega arith) in
+    let d = length-drop (at * r.width) (fields_of r.fields) in
+    let whole = r.whole in
+    let le : r.width ≤ length (drop (at * r.width) (fields_of r.fields)) = omega arith in
+    width_is r.width (record_at r at) (length_taken r.width (drop (at * r.width) (fields_of r.fields)) le)
+  where
+    length_taken : (w : ℕ) (fs : Record) → w ≤ length fs → length (take w fs) ≡ w
+    length_taken zero fs h = refl
+    length_taken (suc w) [] h = absurd (omega arith)
+    length_taken (suc w) (f ∷ fs) h = ap suc (length_taken w fs (omega arith))
+
+    width_is : (w : ℕ) (fs : Record) → length fs ≡ w → has_width w fs ≡ true
+    width_is w fs e = grind (arith, nat_tests)
+
+pub no_lines : (l : List ByteRecord) → length l ≡ 0 → l ≡ []
+no_lines [] e = refl
+no_lines (x ∷ l) e = absurd (omega arith)

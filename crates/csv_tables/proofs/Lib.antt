@@ -1,0 +1,14 @@
+pub mod Integers
+pub mod Fields
+pub mod Flat
+pub mod RowCells
+pub mod ReadLaws
+pub mod FieldSteps
+pub mod Drafts
+pub mod Gathering
+pub mod ReadBack
+pub mod Sorting
+pub mod Writing
+pub mod Applying
+pub mod Again
+pub mod Images

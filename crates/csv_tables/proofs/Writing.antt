@@ -1,0 +1,85 @@
+-- A writer of records, line by line.
+use Rattle.std.proofs.Common.{◌≡◌, ◌≢◌, ℕ, ◌+◌, ◌<◌, ◌≤◌, zero, suc, false, List, [], ◌∷◌, ◌++◌, length, take, drop, Option, Some, None, Vec, Global, refl, ap, sym, ◌∙◌, arith}
+use Rattle.std.specs.Io.KnownBytes.{Appends, Keeps}
+use Rattle.std.proofs.lemmas.List.{append_assoc, take_all}
+use Rattle.csv.specs.Writing.{default_writer, row_text, text_written, fields_written, has_written, writer_setup}
+use Rattle.csv.specs.declared.writer.Writer.{Writer}
+use Rattle.csv.specs.declared.writer.WriterBuilder.{WriterBuilder}
+use Rattle.csv.specs.declared.writer.QuoteStyle.TheVariants as style
+use Rattle.csv.specs.Records.{fields_of}
+use Rattle.csv_tables.specs.declared.table.Rows.{Rows}
+use Rattle.csv_tables.specs.CsvRecords.{Record, csv_text}
+use Rattle.csv_tables.specs.Tables.{record_at, records_of}
+use Rattle.csv_tables.specs.Rewriting.{HasWritten}
+use Rattle.csv_tables.proofs.Flat.{cut_drop, cut_length}
+
+appended : (o : Option (List ℕ)) (text more : List ℕ) → Appends (Some text) o more → o ≡ Some (text ++ more)
+appended None text more e = absurd e
+appended (Some xs) text more e = ap (λ (l : List ℕ). Some l) e
+
+known_text : (o p : Option (List ℕ)) (b : WriterBuilder) (text : List ℕ) (fields : Record) → o ≡ Some text → b ≡ default_writer
+    → Appends o p (row_text b fields) → p ≡ Some (text ++ row_text default_writer fields)
+known_text o p b text fields eo eb a = appended p text (row_text default_writer fields) (rw (eo, eb) at a)
+
+not_numeric : (b : WriterBuilder) → b ≡ default_writer → b.style ≢ style.NonNumeric
+not_numeric b e h = absurd (let q : style.Necessary ≡ style.NonNumeric = sym (ap (λ (w : WriterBuilder). w.style) e) ∙ h in cc)
+
+-- a writer has written a record more
+pub writes_more : (text : List ℕ) (old new : Writer (Vec ℕ Global)) (fields : Record) → HasWritten text old
+    → (fields_written old ≡ 0 → has_written old ≡ false → (writer_setup old).style ≢ style.NonNumeric
+    → Appends (text_written (λ (v : Vec ℕ Global). Some v.items) old) (text_written (λ (v : Vec ℕ Global). Some v.items) new) (row_text (writer_setup old) fields))
+    → fields_written new ≡ 0 → has_written new ≡ false → writer_setup new ≡ writer_setup old
+    → HasWritten (text ++ row_text default_writer fields) new
+writes_more text old new fields was bytes ended clean setup = record {
+  fields = ended;
+  wrote = clean;
+  setup = setup ∙ was.setup;
+  text_is = known_text _ _ (writer_setup old) text fields was.text_is was.setup (bytes was.fields was.wrote (not_numeric (writer_setup old) was.setup));
+}
+
+pub writes_as : (xs ys : List ℕ) (w : Writer (Vec ℕ Global)) → HasWritten xs w → xs ≡ ys → HasWritten ys w
+writes_as xs ys w h e = rw e at h
+
+-- one record more
+take_row : (rs : List Record) (at : ℕ) (r : Record) (more : List Record) → drop at rs ≡ r ∷ more → take (suc at) rs ≡ take at rs ++ r ∷ []
+take_row [] zero r more e = absurd cc
+take_row [] (suc at) r more e = absurd cc
+take_row (x ∷ rs) zero r more e = let s : x ≡ r = cc in ap (λ (y : Record). y ∷ []) s
+take_row (x ∷ rs) (suc at) r more e = ap (λ (l : List Record). x ∷ l) (take_row rs at r more e)
+
+none_behind : (l : List ℕ) → l ++ [] ≡ l
+none_behind [] = refl
+none_behind (x ∷ l) = ap (λ (m : List ℕ). x ∷ m) (none_behind l)
+
+text_push : (rs : List Record) (r : Record) → csv_text (rs ++ r ∷ []) ≡ csv_text rs ++ row_text default_writer r
+text_push [] r = none_behind (row_text default_writer r)
+text_push (x ∷ rs) r = ap (λ (l : List ℕ). row_text default_writer x ++ l) (text_push rs r) ∙ sym (append_assoc (row_text default_writer x) (csv_text rs) (row_text default_writer r))
+
+rows_joined : (xs ys : List Record) (r : Record) → xs ++ (ys ++ r ∷ []) ≡ (xs ++ ys) ++ r ∷ []
+rows_joined [] ys r = refl
+rows_joined (x ∷ xs) ys r = ap (λ (l : List Record). x ∷ l) (rows_joined xs ys r)
+
+pub text_next : (header : List Record) (rows : Rows) (at : ℕ) (r : Record) → at < rows.count → r ≡ record_at rows at
+    → csv_text (header ++ take at (records_of rows)) ++ row_text default_writer r ≡ csv_text (header ++ take (at + 1) (records_of rows))
+text_next header rows at r lt e =
+    let next = cut_drop at rows.count rows.width (fields_of rows.fields) lt in
+    let p : at + 1 ≡ suc at = omega arith in
+    let t : take (at + 1) (records_of rows) ≡ take at (records_of rows) ++ record_at rows at ∷ [] = ap (λ (k : ℕ). take k (records_of rows)) p ∙ take_row (records_of rows) at _ _ next in
+    ap (λ (x : Record). csv_text (header ++ take at (records_of rows)) ++ row_text default_writer x) e
+    ∙ sym (text_push (header ++ take at (records_of rows)) (record_at rows at))
+    ∙ ap csv_text (sym (rows_joined header (take at (records_of rows)) (record_at rows at)))
+    ∙ ap (λ (l : List Record). csv_text (header ++ l)) (sym t)
+
+pub text_whole : (header : List Record) (rows : Rows) (at : ℕ) → rows.count ≤ at → csv_text (header ++ take at (records_of rows)) ≡ csv_text (header ++ records_of rows)
+text_whole header rows at le =
+    let n = cut_length rows.count rows.width (fields_of rows.fields) in
+    let few : length (records_of rows) ≤ at = omega arith in
+    ap (λ (l : List Record). csv_text (header ++ l)) (take_all at (records_of rows) few)
+
+-- what a writer gives back
+kept_text : (o : Option (List ℕ)) (text image : List ℕ) → o ≡ Some text → Keeps o (Some image) → image ≡ text
+kept_text o text image e k = rw e at k
+
+pub image_is : (text : List ℕ) (w : Writer (Vec ℕ Global)) (image : Vec ℕ Global) → HasWritten text w
+    → Keeps (text_written (λ (v : Vec ℕ Global). Some v.items) w) (Some image.items) → image.items ≡ text
+image_is text w image was k = kept_text _ text image.items was.text_is k

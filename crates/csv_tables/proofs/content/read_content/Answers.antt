@@ -1,0 +1,28 @@
+use Rattle.std.proofs.Common.{◌≡◌, ◌≤◌, ◌∙◌, [], true, ap, sym, ℕ, length, arith}
+use Rattle.csv.specs.Records.{fields_of}
+use Rattle.csv_tables.specs.CsvRecords.{csv_records}
+use Rattle.csv_tables.specs.Content.{rows_so_far}
+use Rattle.csv_tables.specs.Flat.{cut_into, header_in}
+use Rattle.csv_tables.specs.Tables.{shape_is}
+use Rattle.csv_tables.proofs.Flat.{cut_length}
+use Rattle.csv_tables.proofs.Drafts.{no_causes, heading_first}
+use Rattle.csv_tables.proofs.content.read_content.Goals as goal
+
+pub returns-clause-ok : goal.returns-clause-ok
+returns-clause-ok c =
+    let shape = shape_is c.args.layout.now in
+    let d = c.in_ok-draft.draft in
+    let was = c.in_ok-draft.ensures.draft in
+    let all = c.in_ok-draft.ensures.all in
+    let n = cut_length d.count (length shape.kinds) (fields_of d.fields) in
+    let f = was.few in
+    let few : length (rows_so_far shape d) ≤ 1000000 = omega arith in
+    let small : length c.args.bytes.now ≤ 67108864 = omega arith in
+    let first = λ (h : shape.header ≡ true) (z : header_in d.header ≡ []). ap (λ (k : ℕ). cut_into k (length shape.kinds) (fields_of d.fields)) (was.header_first h z) in
+    let w = no_causes shape c.args.bytes.now d.header (rows_so_far shape d) all small was.columns was.no_header first was.whole was.readable few in
+    let e : length shape.kinds ≡ c.len-width.result = omega arith in
+    record {
+      no_cause = w.0;
+      header_is = heading_first shape.header shape.names d.header (rows_so_far shape d) (csv_records c.args.bytes.now) was.no_header first all ∙ sym c.in_ok-header.ensures;
+      rows_are = w.1 ∙ ap (λ (k : ℕ). cut_into d.count k (fields_of d.fields)) e;
+    }

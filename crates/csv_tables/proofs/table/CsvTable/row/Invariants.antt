@@ -1,0 +1,7 @@
+use Rattle.std.proofs.Common.{◌≡◌, map, take}
+use Rattle.med_value.specs.Datum.{datum}
+use Rattle.csv_tables.specs.Tables.{cells_at}
+use Rattle.csv_tables.proofs.table.CsvTable.row.Given as goal
+
+abbrev pub invariant-loop-column : goal.invariant-loop-column
+invariant-loop-column l = map datum l.cells.items ≡ take l.column (cells_at l.self l.at)

@@ -1,0 +1,99 @@
+use Rattle.std.proofs.Common.{◌≡◌, ◌∙◌, ◌∷◌, ap, sym, refl, length, map, rules}
+use Rattle.std.specs.List.{list_all}
+use Rattle.std.specs.String.{string_bytes}
+use Rattle.med_value.specs.Datum.{tuple}
+use Rattle.fdw_api.specs.Kinds.{Inserts, Updates, Deletes}
+use Rattle.staged_changes.specs.declared.fates.Fate.TheVariants.{Change as ChangeTo, Gone}
+use Rattle.staged_changes.specs.Staged.{change_is}
+use Rattle.csv_tables.specs.Tables.{shape_is}
+use Rattle.csv_tables.specs.Rewriting.{woven}
+use Rattle.csv_tables.proofs.Gathering.{wide_set, wide_kept}
+use Rattle.staged_changes.proofs.Weaves.{woven_on, woven_insert, woven_update, woven_delete}
+use Rattle.csv.specs.Records.{fields_of}
+use Rattle.csv_tables.specs.Cells.{line_of}
+use Rattle.csv_tables.specs.Shapes.{read_row}
+use Rattle.csv_tables.proofs.Sorting.{first_fits, written_row, fresh_on, same_on, wide_line, clear_on, fresh_wide_on}
+use Rattle.csv_tables.proofs.written.sort_changes.Goals as goal
+
+pub loop-change-preserved : goal.loop-change-preserved
+loop-change-preserved c =
+    let l = c.args.layout.now in
+    let shape = shape_is l in
+    let write = line_of shape.null in
+    let read = read_row shape in
+    let i = c.loop-change.invariant in
+    let cs = map change_is c.loop-change.change-iterator.rest.items in
+    let ds = map change_is c.next.new.self.rest.items in
+    let id = c.in-Delete.id in
+    let ce : cs ≡ Deletes id ∷ ds = search rules in
+    let fit = first_fits l.kinds.items (Deletes id) cs ds ce i.fit in
+    record {
+      fit = fit.1;
+      fates = λ rows. woven_on write read fields_of rows c.loop-change.fates.items c.set_fate-in-Delete.new.fates.items (Deletes id) cs ds _ (i.fates rows) ce
+          (woven_delete write read fields_of id rows c.loop-change.fates.items ds ∙ ap (λ fs. woven shape 0 rows fs ds) (sym c.set_fate-in-Delete.ensures));
+      fresh = same_on shape _ (Deletes id) cs ds _ i.fresh ce refl;
+      wide = ap (list_all _) c.set_fate-in-Delete.ensures ∙ wide_set (length l.kinds.items) c.loop-change.fates.items id Gone i.wide refl;
+      fresh_wide = i.fresh_wide;
+      clear = clear_on (string_bytes l.null) _ (Deletes id) cs ds i.clear ce refl;
+    }
+
+pub loop-change-init : goal.loop-change-init
+loop-change-init c =
+    let l = c.args.layout.now in
+    let start = c.into_iter-change-iterator.ensures.into_iter_gives in
+    record {
+      fit = search rules;
+      fates = λ rows. refl;
+      fresh = search rules;
+      wide = ap (list_all _) c.in_ok-fates.ensures ∙ wide_kept (length l.kinds.items) c.args.count;
+      fresh_wide = search rules;
+      clear = refl;
+    }
+
+pub loop-change-preserved-in-Insert : goal.loop-change-preserved-in-Insert
+loop-change-preserved-in-Insert c =
+    let l = c.args.layout.now in
+    let shape = shape_is l in
+    let write = line_of shape.null in
+    let read = read_row shape in
+    let i = c.loop-change.invariant in
+    let cs = map change_is c.loop-change.change-iterator.rest.items in
+    let ds = map change_is c.next.new.self.rest.items in
+    let x = tuple c.in-Insert.row in
+    let line = c.in_ok-line-in-Insert.line in
+    let did = rw c.deref.ensures at c.in_ok-line-in-Insert.ensures in
+    let ce : cs ≡ Inserts x ∷ ds = search rules in
+    let fit = first_fits l.kinds.items (Inserts x) cs ds ce i.fit in
+    record {
+      fit = fit.1;
+      fates = λ rows. woven_on write read fields_of rows c.loop-change.fates.items c.loop-change.fates.items (Inserts x) cs ds _ (i.fates rows) ce (woven_insert write read fields_of 0 rows c.loop-change.fates.items x ds);
+      fresh = fresh_on shape c.loop-change.fresh.items c.push.new.self.items line x cs ds _ i.fresh ce (search rules) (written_row shape line x did.line (did.back l.kinds.items fit.0));
+      wide = i.wide;
+      fresh_wide = fresh_wide_on (length l.kinds.items) c.loop-change.fresh.items c.push.new.self.items line (search rules) i.fresh_wide (wide_line shape line x did.line fit.0);
+      clear = clear_on (string_bytes l.null) _ (Inserts x) cs ds i.clear ce did.clear;
+    }
+
+pub loop-change-preserved-in-Update : goal.loop-change-preserved-in-Update
+loop-change-preserved-in-Update c =
+    let l = c.args.layout.now in
+    let shape = shape_is l in
+    let write = line_of shape.null in
+    let read = read_row shape in
+    let i = c.loop-change.invariant in
+    let cs = map change_is c.loop-change.change-iterator.rest.items in
+    let ds = map change_is c.next.new.self.rest.items in
+    let x = tuple c.in-Update.row in
+    let id = c.in-Update.id in
+    let line = c.in_ok-line-in-Update.line in
+    let did = rw c.deref-in-Update.ensures at c.in_ok-line-in-Update.ensures in
+    let ce : cs ≡ Updates id x ∷ ds = search rules in
+    let fit = first_fits l.kinds.items (Updates id x) cs ds ce i.fit in
+    record {
+      fit = fit.1;
+      fates = λ rows. woven_on write read fields_of rows c.loop-change.fates.items c.set_fate.new.fates.items (Updates id x) cs ds _ (i.fates rows) ce
+          (woven_update write read fields_of id rows c.loop-change.fates.items line x ds (written_row shape line x did.line (did.back l.kinds.items fit.0)) ∙ ap (λ fs. woven shape 0 rows fs ds) (sym c.set_fate.ensures));
+      fresh = same_on shape _ (Updates id x) cs ds _ i.fresh ce refl;
+      wide = ap (list_all _) c.set_fate.ensures ∙ wide_set (length l.kinds.items) c.loop-change.fates.items id (ChangeTo line) i.wide (wide_line shape line x did.line fit.0);
+      fresh_wide = i.fresh_wide;
+      clear = clear_on (string_bytes l.null) _ (Updates id x) cs ds i.clear ce did.clear;
+    }

@@ -1,0 +1,79 @@
+-- What the staged changes of a write make of the records of a table.
+use Rattle.std.specs.Prelude.{◌≡◌, ◌*◌, ℕ, ℤ, pos, negsuc, ◌^◌, Bool, true, false, List, [], ◌++◌, length, map, nat_eq, nat_lt, Some, Vec}
+use Rattle.std.specs.Global.{Global}
+use Rattle.std.specs.String.{string_bytes}
+use Rattle.std.specs.Str.{is_utf8}
+use Rattle.csv.specs.Records.{fields_of, partial_of}
+use Rattle.csv.specs.Writing.{default_writer, text_written, fields_written, has_written, writer_setup}
+use Rattle.csv.specs.declared.writer.Writer.{Writer}
+use Rattle.csv.specs.declared.record.ByteRecord.{ByteRecord}
+use Rattle.med_value.specs.Datum.{Datum, NoValue, Whole, Chars, Logic}
+use Rattle.fdw_api.specs.Scan.{TableRow}
+use Rattle.fdw_api.specs.Kinds.{Held, Change}
+use Rattle.fdw_api.specs.Writes.{rows_after}
+use Rattle.csv_tables.specs.declared.table.CsvTable.{CsvTable}
+use Rattle.staged_changes.specs.declared.fates.Fate.{Fate}
+use Rattle.staged_changes.specs.declared.fates.Fate.TheVariants.{Keep, Change as ChangeTo, Gone}
+use Rattle.staged_changes.specs.Weaving as weaving
+use Rattle.csv_tables.specs.declared.written.Gathered.{Gathered}
+use Rattle.csv_tables.specs.declared.written.Written.{Written}
+use Rattle.csv_tables.specs.Cells.{line_of}
+use Rattle.csv_tables.specs.CsvRecords.{Record, csv_records, csv_text, heading}
+use Rattle.csv_tables.specs.Shapes.{Shape, read_row, causes_behind}
+use Rattle.csv_tables.specs.Flat.{cut_into, header_in}
+use Rattle.csv_tables.specs.Tables.{shape_is, numbered, records_of}
+
+-- an integer from -2^63 to 2^63 - 1, and a text that is UTF-8: what a value of a program always is
+abbrev pub is_i64 : ℤ → Bool
+is_i64 (pos n) = nat_lt n (2 ^ 63)
+is_i64 (negsuc n) = nat_lt n (2 ^ 63)
+
+abbrev pub is_storable : Datum → Bool
+is_storable NoValue = true
+is_storable (Whole n) = is_i64 n
+is_storable (Chars text) = is_utf8 text
+is_storable (Logic b) = true
+
+-- a record of this many fields
+abbrev pub has_width : ℕ → Record → Bool
+has_width width fields = nat_eq (length fields) width
+
+-- the record of a fate, if it has one, is of this many fields
+abbrev pub is_wide : ℕ → Fate ByteRecord → Bool
+is_wide width Keep = true
+is_wide width (ChangeTo r) = has_width width (fields_of r)
+is_wide width Gone = true
+
+-- the records that their fates leave
+abbrev pub left_by : List (Fate ByteRecord) → List Record → List Record
+left_by = weaving.left_by fields_of
+
+-- the rows from the place n on, after their fates so far and the changes still to come
+abbrev pub woven : Shape → ℕ → List Record → List (Fate ByteRecord) → List Change → List Held
+woven shape = weaving.woven (line_of shape.null) (read_row shape) fields_of
+
+-- these records were put together, each of this many fields
+pub record Gathers (width : ℕ) (rows : List Record) (g : Gathered) : Type 0 where
+  pub no_partial : partial_of g.fields ≡ []
+  pub full : g.count * width ≡ length (fields_of g.fields)
+  pub rows_are : cut_into g.count width (fields_of g.fields) ≡ rows
+
+-- a writer with the crate's defaults has written this text, and stands between two records
+pub record HasWritten (text : List ℕ) (w : Writer (Vec ℕ Global)) : Type 0 where
+  pub fields : fields_written w ≡ 0
+  pub wrote : has_written w ≡ false
+  pub setup : writer_setup w ≡ default_writer
+  pub text_is : text_written (λ (v : Vec ℕ Global). Some v.items) w ≡ Some text
+
+-- the rows of a table, under their ids
+abbrev pub rows_in : CsvTable → List TableRow
+rows_in t = numbered (shape_is t.layout) 0 (records_of t.rows)
+
+-- what a kept write leaves, for whose changes no cause stands: the rows after the changes, and the blob in which they stand behind the
+-- header that the table holds
+pub record Rewrites (t : CsvTable) (changes : List Change) (w : Written) : Type 0 where
+  pub rows : map (read_row (shape_is t.layout)) (records_of w.rows) ≡ rows_after (line_of (string_bytes t.layout.null)) (rows_in t) changes
+  pub no_cause : causes_behind (shape_is t.layout) (header_in t.header) (rows_in t) changes ≡ []
+  pub image : w.image.items ≡ csv_text (header_in t.header ++ records_of w.rows)
+  pub header : heading t.layout.header (map string_bytes t.layout.names.items) (csv_records w.image.items) ≡ header_in w.header
+  pub width : w.rows.width ≡ length t.layout.kinds.items

@@ -1,0 +1,159 @@
+//! The fields of a record as values, and values as fields.
+ghost use Rattle.std.specs.Prelude.{◌≡◌, true, IfOk, option_map, is_some};
+ghost use Rattle.std.specs.String.{string_bytes};
+ghost use Rattle.med_value.specs.Datum.{datum};
+ghost use Rattle.csv_tables.specs.Rewriting.{is_storable};
+ghost use Rattle.csv_tables.specs.Cells.{skip_spaces, without_spaces, integer_of, is_among, true_words, false_words, truth_of, cell_of, field_of, reads_as_null};
+
+use med_value::{ColType, NoMemory, Value};
+use std::alloc::Global;
+use std::str::from_utf8;
+
+fn skip_spaces(text: &[u8]) -> &[u8]
+    ensures { result.now ≡ skip_spaces text.now }
+{
+    let mut text = text;
+    while let Some((first, others)) = text.split_first() {
+        if *first != b' ' {
+            break;
+        }
+        text = others;
+    }
+    text
+}
+
+fn without_spaces(text: &[u8]) -> &[u8]
+    ensures { result.now ≡ without_spaces text.now }
+{
+    let mut text = skip_spaces(text);
+    while let Some((last, others)) = text.split_last() {
+        if *last != b' ' {
+            break;
+        }
+        text = others;
+    }
+    text
+}
+
+fn integer(text: &[u8]) -> Option<i64>
+    ensures { result ≡ integer_of text.now }
+{
+    match from_utf8(text) {
+        Ok(text) => text.parse::<i64>().ok(),
+        Err(_) => None,
+    }
+}
+
+fn is_true_word(text: &[u8]) -> bool
+    ensures { result ≡ is_among true_words text.now }
+{
+    text.eq_ignore_ascii_case(b"t")
+        || text.eq_ignore_ascii_case(b"true")
+        || text.eq_ignore_ascii_case(b"y")
+        || text.eq_ignore_ascii_case(b"yes")
+        || text.eq_ignore_ascii_case(b"on")
+        || text.eq_ignore_ascii_case(b"1")
+}
+
+fn is_false_word(text: &[u8]) -> bool
+    ensures { result ≡ is_among false_words text.now }
+{
+    text.eq_ignore_ascii_case(b"f")
+        || text.eq_ignore_ascii_case(b"false")
+        || text.eq_ignore_ascii_case(b"n")
+        || text.eq_ignore_ascii_case(b"no")
+        || text.eq_ignore_ascii_case(b"off")
+        || text.eq_ignore_ascii_case(b"0")
+}
+
+fn truth(text: &[u8]) -> Option<bool>
+    ensures { result ≡ truth_of text.now }
+{
+    if is_true_word(text) {
+        Some(true)
+    } else if is_false_word(text) {
+        Some(false)
+    } else {
+        None
+    }
+}
+
+/// What a field means in a column of this type; None where it is not of the type.
+pub(crate) fn cell(
+    alloc: Global,
+    null: &str,
+    kind: ColType,
+    field: &[u8],
+) -> Result<Option<Value>, NoMemory>
+    ensures { IfOk result (λ cell. option_map datum cell ≡ cell_of null.now kind field.now) }
+{
+    let Ok(text) = from_utf8(field) else {
+        return Ok(None);
+    };
+    if text == null {
+        return Ok(Some(Value::Null));
+    }
+    match kind {
+        ColType::Text => {
+            if field.contains(&0) {
+                return Ok(None);
+            }
+            Ok(Some(Value::Text(text.to_string(alloc)?)))
+        }
+        ColType::Int if field.is_empty() => Ok(Some(Value::Null)),
+        ColType::Int => match integer(without_spaces(field)) {
+            Some(number) => Ok(Some(Value::Int(number))),
+            None => Ok(None),
+        },
+        ColType::Bool if field.is_empty() => Ok(Some(Value::Null)),
+        ColType::Bool => match truth(field) {
+            Some(truth) => Ok(Some(Value::Bool(truth))),
+            None => Ok(None),
+        },
+    }
+}
+
+/// Whether a field that is UTF-8 is of this type.
+pub(crate) fn is_cell(null: &str, kind: ColType, field: &[u8]) -> bool
+    ensures { result ≡ is_some (cell_of null.now kind field.now) }
+{
+    let Ok(text) = from_utf8(field) else {
+        return false;
+    };
+    if text == null {
+        return true;
+    }
+    match kind {
+        ColType::Text => !field.contains(&0),
+        ColType::Int => field.is_empty() || integer(without_spaces(field)).is_some(),
+        ColType::Bool => field.is_empty() || truth(field).is_some(),
+    }
+}
+
+/// The field as which a value is written.
+pub(crate) fn field_text(alloc: Global, null: &str, value: &Value) -> Result<String, NoMemory>
+    ensures field { IfOk result (λ text. string_bytes text ≡ field_of null.now (datum value.now)) }
+    ensures storable { IfOk result (λ text. is_storable (datum value.now) ≡ true) }
+{
+    match value {
+        Value::Null => Ok(null.to_string(alloc)?),
+        Value::Int(number) => {
+            let number = *number;
+            Ok(number.to_string(alloc)?)
+        }
+        Value::Text(text) => Ok(text.as_str().to_string(alloc)?),
+        Value::Bool(true) => Ok("t".to_string(alloc)?),
+        Value::Bool(false) => Ok("f".to_string(alloc)?),
+    }
+}
+
+/// Whether a value other than NULL is written as this text, which would be read as NULL.
+pub(crate) fn reads_as_null(null: &str, value: &Value, text: &str) -> bool
+    requires { text.now ≡ field_of null.now (datum value.now) }
+    ensures { result ≡ reads_as_null null.now (datum value.now) }
+{
+    match value {
+        Value::Null => false,
+        _ => text == null,
+    }
+}

@@ -1,0 +1,9 @@
+//! CSV blobs as tables: what a blob is read as, the cells of its records, and what a write leaves of it.
+#![tactic(auto)]
+
+mod cells;
+pub mod content;
+pub mod law;
+pub mod layout;
+pub mod table;
+pub mod written;

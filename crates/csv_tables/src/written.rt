@@ -1,0 +1,250 @@
+//! What a kept write makes of the records of a table, and the blob as which they are written.
+ghost use Rattle.std.specs.Prelude.{◌≡◌, ◌++◌, ◌+◌, ◌^◌, ◌<◌, ◌≤◌, ℕ, List, [], ◌∷◌, true, false, not, length, map, flat_map, replicate, nat_lt, IfOk, IfErr, OnOk};
+ghost use Rattle.std.specs.List.{list_all, list_any};
+ghost use Rattle.std.specs.String.{string_bytes};
+ghost use Rattle.csv.specs.Records.{fields_of, partial_of};
+ghost use Rattle.csv.specs.Writing.{default_writer, row_text};
+ghost use Rattle.med_value.specs.Datum.{tuple};
+ghost use Rattle.med_value.specs.declared.cause.Cause.TheVariants.{NotInState};
+ghost use Rattle.fdw_api.specs.Scan.{row_fits};
+ghost use Rattle.fdw_api.specs.Writes.{inserted, row_of_change_fits};
+ghost use Rattle.staged_changes.specs.Staged.{change_is};
+ghost use Rattle.csv_tables.specs.Cells.{line_of, record_cells, reads_as_null};
+ghost use Rattle.csv_tables.specs.CsvRecords.{Record, csv_text};
+ghost use Rattle.csv_tables.specs.Shapes.{read_row, unless, hides_value, causes_behind};
+ghost use Rattle.csv_tables.specs.Content.{TellsCause};
+ghost use Rattle.csv_tables.specs.Flat.{header_in};
+ghost use Rattle.csv_tables.specs.Tables.{shape_is, record_at, records_of};
+ghost use Rattle.csv_tables.specs.Rewriting.{has_width, is_wide, left_by, woven, Gathers, HasWritten, Rewrites, rows_in};
+
+use crate::cells::{field_text, reads_as_null};
+use crate::content::{first_header, push_fields};
+use crate::layout::Layout;
+use crate::table::{CsvTable, Rows};
+use csv::{ByteRecord, Writer};
+use fdw_api::interface::Fault;
+use med_value::{Cause, ColType, NoMemory, Row};
+use staged_changes::{Fate, RowChange, keep_all, set_fate};
+use std::alloc::Global;
+
+/// A sorted write: what it makes of each old record, and its new ones.
+#[derive(Drop)]
+struct Sorted {
+    fates: Vec<Fate<ByteRecord>>,
+    fresh: Vec<ByteRecord>,
+}
+
+/// Records that are put together: their fields, and how many they are.
+#[derive(Drop)]
+struct Gathered {
+    fields: ByteRecord,
+    count: usize,
+}
+
+/// What a kept write leaves: the header and the rows of its table, and the bytes of its blob.
+#[derive(Drop)]
+pub struct Written {
+    pub header: Option<ByteRecord>,
+    pub rows: Rows,
+    pub image: Vec<u8>,
+}
+
+/// A row as a record. It is refused by `Cause::NotInState` (55000) where a value would be read as NULL.
+fn record_of(alloc: Global, null: &str, row: &Row) -> Result<ByteRecord, Fault>
+    ensures line { IfOk result (λ r. fields_of r ≡ line_of null.now (tuple row.now)) }
+    ensures clear { IfOk result (λ r. list_any (reads_as_null null.now) (tuple row.now) ≡ false) }
+    ensures back { IfOk result (λ r. (kinds : List ColType) → row_fits kinds (tuple row.now) ≡ true
+        → record_cells null.now kinds (line_of null.now (tuple row.now)) ≡ tuple row.now) }
+    ensures err { IfErr result (λ fault. TellsCause fault
+        (unless (not (list_any (reads_as_null null.now) (tuple row.now))) NotInState [])) }
+{
+    let mut fields = ByteRecord::new(alloc);
+    for value in &row.cells {
+        let text = field_text(alloc, null, value)?;
+        if reads_as_null(null, value, &text) {
+            return Err(Fault::Refused(Cause::NotInState));
+        }
+        fields.push_field(text.as_bytes())?;
+    }
+    Ok(fields)
+}
+
+/// Sorts changes to this many records by the records that they name, and makes records of the new rows.
+fn sort_changes(
+    alloc: Global,
+    layout: &Layout,
+    count: usize,
+    changes: Vec<RowChange>,
+) -> Result<Sorted, Fault>
+    requires { list_all (row_of_change_fits layout.now.kinds.items) (map change_is changes.items) ≡ true }
+    ensures fates { IfOk result (λ s. (rows : List Record) → woven (shape_is layout.now) 0 rows s.fates.items []
+        ≡ woven (shape_is layout.now) 0 rows (replicate count Fate.Keep) (map change_is changes.items)) }
+    ensures fresh { IfOk result (λ s. map (read_row (shape_is layout.now)) (map fields_of s.fresh.items)
+        ≡ flat_map (inserted (line_of (string_bytes layout.now.null))) (map change_is changes.items)) }
+    ensures wide { IfOk result (λ s. list_all (is_wide (length layout.now.kinds.items)) s.fates.items ≡ true) }
+    ensures fresh_wide { IfOk result (λ s. list_all (has_width (length layout.now.kinds.items)) (map fields_of s.fresh.items) ≡ true) }
+    ensures clear { IfOk result (λ s. list_any (hides_value (string_bytes layout.now.null)) (map change_is changes.items) ≡ false) }
+    ensures err { IfErr result (λ fault. TellsCause fault
+        (unless (not (list_any (hides_value (string_bytes layout.now.null)) (map change_is changes.items))) NotInState [])) }
+{
+    let mut fates = keep_all(alloc, count)?;
+    let mut fresh = Vec::new(alloc);
+    for change in changes {
+        match change {
+            RowChange::Insert(row) => {
+                let line = record_of(alloc, &layout.null, &row)?;
+                fresh.push(line)?;
+            }
+            RowChange::Update(id, row) => {
+                let line = record_of(alloc, &layout.null, &row)?;
+                set_fate(&mut fates, id, Fate::Change(line));
+            }
+            RowChange::Delete(id) => set_fate(&mut fates, id, Fate::Gone),
+        }
+    }
+    Ok(Sorted { fates, fresh })
+}
+
+/// The fields of a record of a table.
+fn record_at(rows: &Rows, at: usize, row: &mut ByteRecord) -> Result<(), NoMemory>
+    requires { at < rows.now.count }
+    ensures { OnOk result (fields_of row.new ≡ record_at rows.now at) }
+{
+    let _fields = rows.fields.len();
+    row.clear();
+    for column in 0..rows.width {
+        if let Some(field) = rows.fields.get(at * rows.width + column) {
+            row.push_field(field)?;
+        }
+    }
+    Ok(())
+}
+
+/// Appends a record.
+fn gather(gathered: &mut Gathered, row: &ByteRecord) -> Result<(), NoMemory>
+    requires partial { partial_of gathered.old.fields ≡ [] }
+    requires room { gathered.old.count + 1 < 2 ^ 64 }
+    ensures partial { OnOk result (partial_of gathered.new.fields ≡ []) }
+    ensures count { OnOk result (gathered.new.count ≡ gathered.old.count + 1) }
+    ensures rows { OnOk result ((width : ℕ) (rows : List Record) → Gathers width rows gathered.old
+        → has_width width (fields_of row.now) ≡ true → Gathers width (rows ++ fields_of row.now ∷ []) gathered.new) }
+{
+    push_fields(&mut gathered.fields, row)?;
+    gathered.count += 1;
+    Ok(())
+}
+
+/// The old records that are left, as their fates say. One that a write leaves keeps its fields.
+fn rewritten(alloc: Global, rows: &Rows, fates: Vec<Fate<ByteRecord>>) -> Result<Gathered, NoMemory>
+    requires { list_all (is_wide rows.now.width) fates.items ≡ true }
+    ensures { IfOk result (λ g. Gathers rows.now.width (left_by fates.items (records_of rows.now)) g) }
+{
+    let mut gathered = Gathered {
+        fields: ByteRecord::new(alloc),
+        count: 0,
+    };
+    let mut old = ByteRecord::new(alloc);
+    let mut at = 0;
+    for fate in fates {
+        if at < rows.count {
+            match fate {
+                Fate::Keep => {
+                    record_at(rows, at, &mut old)?;
+                    gather(&mut gathered, &old)?;
+                }
+                Fate::Change(new) => gather(&mut gathered, &new)?,
+                Fate::Gone => {}
+            }
+            at += 1;
+        }
+    }
+    Ok(gathered)
+}
+
+/// Whether these are too many rows for a table.
+fn are_too_many(kept: usize, fresh: usize) -> bool
+    ensures { result ≡ nat_lt 1000000 (kept + fresh) }
+{
+    kept > 1_000_000 || fresh > 1_000_000 - kept
+}
+
+/// Appends new records.
+fn with_fresh(gathered: Gathered, fresh: Vec<ByteRecord>) -> Result<Gathered, NoMemory>
+    requires partial { partial_of gathered.fields ≡ [] }
+    requires few { gathered.count + length fresh.items ≤ 1000000 }
+    ensures { (width : ℕ) (rows : List Record) → Gathers width rows gathered → list_all (has_width width) (map fields_of fresh.items) ≡ true
+        → IfOk result (λ g. Gathers width (rows ++ map fields_of fresh.items) g) }
+{
+    let mut gathered = gathered;
+    for line in fresh {
+        gather(&mut gathered, &line)?;
+    }
+    Ok(gathered)
+}
+
+/// Writes a record.
+fn write_line(wtr: &mut Writer<Vec<u8>>, row: &ByteRecord) -> Result<(), NoMemory>
+    ensures { OnOk result ((text : List ℕ) → HasWritten text wtr.old
+        → HasWritten (text ++ row_text default_writer (fields_of row.now)) wtr.new) }
+{
+    let Ok(()) = wtr.write_byte_record(row) else {
+        return Err(NoMemory);
+    };
+    Ok(())
+}
+
+/// The blob of a header and rows.
+fn image_of(alloc: Global, header: &Option<ByteRecord>, rows: &Rows) -> Result<Vec<u8>, NoMemory>
+    ensures { IfOk result (λ image. image.items ≡ csv_text (header_in header.now ++ records_of rows.now)) }
+{
+    let mut wtr = Writer::from_writer(Vec::new(alloc));
+    if let Some(header) = header {
+        write_line(&mut wtr, header)?;
+    }
+    let mut line = ByteRecord::new(alloc);
+    for at in 0..rows.count {
+        record_at(rows, at, &mut line)?;
+        write_line(&mut wtr, &line)?;
+    }
+    match wtr.into_inner() {
+        Ok(image) => Ok(image),
+        Err(_) => Err(NoMemory),
+    }
+}
+
+/// What changes make of a table, which itself stays as it is: its header and rows after them, and the blob in which they stand.
+///
+/// It is refused by a cause that stands for the changes (`causes_behind`): `NotInState` (55000) where a value would be read as NULL,
+/// `TooLarge` (54000) over 1,000,000 rows or 67,108,864 bytes. It fails besides for want of memory alone.
+pub fn apply_changes(
+    alloc: Global,
+    table: &CsvTable,
+    changes: Vec<RowChange>,
+) -> Result<Written, Fault>
+    requires { list_all (row_of_change_fits table.now.layout.kinds.items) (map change_is changes.items) ≡ true }
+    ensures ok { IfOk result (λ w. Rewrites table.now (map change_is changes.items) w) }
+    ensures err { IfErr result (λ fault. TellsCause fault (causes_behind (shape_is table.now.layout) (header_in table.now.header)
+        (rows_in table.now) (map change_is changes.items))) }
+{
+    let Sorted { fates, fresh } = sort_changes(alloc, &table.layout, table.rows.count, changes)?;
+    let kept = rewritten(alloc, &table.rows, fates)?;
+    if are_too_many(kept.count, fresh.len()) {
+        return Err(Fault::Refused(Cause::TooLarge));
+    }
+    let Gathered { fields, count } = with_fresh(kept, fresh)?;
+    let rows = Rows {
+        width: table.rows.width,
+        fields,
+        count,
+    };
+    let image = image_of(alloc, &table.header, &rows)?;
+    if image.len() > 67_108_864 {
+        return Err(Fault::Refused(Cause::TooLarge));
+    }
+    let header = first_header(alloc, &table.layout, &image)?;
+    Ok(Written {
+        header,
+        rows,
+        image,
+    })
+}

@@ -1,9 +1,0 @@
-use Rattle.std.proofs.Common.{◌++◌, take}
-use Rattle.csv_wrapper.specs.CsvRecords.{csv_text}
-use Rattle.csv_wrapper.specs.Flat.{header_in}
-use Rattle.csv_wrapper.specs.Tables.{records_of}
-use Rattle.csv_wrapper.specs.Rewriting.{HasWritten}
-use Rattle.csv_wrapper.proofs.written.image_of.Given as goal
-
-abbrev pub invariant-loop-at : goal.invariant-loop-at
-invariant-loop-at l = HasWritten (csv_text (header_in l.header ++ take l.at (records_of l.rows))) l.wtr
