@@ -314,12 +314,12 @@ pub chained_many : (j : Joint) (room : ℕ) (first : ExprTree) (es : List Expr) 
 chained_many j room first [] ts h = absurd (omega arith)
 chained_many j room first (e ∷ es) ts h = refl
 
-pub chain_failed : (level : Level) (room : ℕ) (tokens : List Terminal) (e : ExprTree) (h : ℕ) (rest : List Terminal) (op : Operation) (after : List Terminal) (x : ReadFault) (r : Result was.Found ReadFault) → ChainLoop level room tokens e h rest → operator_of level rest ≡ Some (op, after) → Answers room (Err x) (operand_of level (below (room - 1)) room after) → r ≡ Err x →
+pub chain_failed : (level : Level) (room : ℕ) (tokens : List Terminal) (e : ExprTree) (h : ℕ) (rest : List Terminal) (op : Operation) (after : List Terminal) (x : ReadFault) (r : Result was.FoundExpr ReadFault) → ChainLoop level room tokens e h rest → operator_of level rest ≡ Some (op, after) → Answers room (Err x) (operand_of level (below (room - 1)) room after) → r ≡ Err x →
     Answers room r (left_of (op_of level) (operand_of level (below (room - 1)) room) room tokens)
 chain_failed level room tokens e h rest op after errors.NoMemory r loop o a is = rw is tt
 chain_failed level room tokens e h rest op after (errors.Refused f) r loop o a is = rw is (chain_fault level room tokens e h rest op after f loop o a)
 
-pub chain_failed_high : (level : Level) (room : ℕ) (tokens : List Terminal) (e : ExprTree) (h : ℕ) (rest : List Terminal) (op : Operation) (after : List Terminal) (b : ExprTree) (us : List Terminal) (y : ExprTree) (x : ReadFault) (r : Result was.Found ReadFault) → ChainLoop level room tokens e h rest → operator_of level rest ≡ Some (op, after) → operand_of level (below (room - 1)) room after ≡ Ok (b, us) → y ≡ binary op e b → Answers room (Err x) (within room y us) → r ≡ Err x →
+pub chain_failed_high : (level : Level) (room : ℕ) (tokens : List Terminal) (e : ExprTree) (h : ℕ) (rest : List Terminal) (op : Operation) (after : List Terminal) (b : ExprTree) (us : List Terminal) (y : ExprTree) (x : ReadFault) (r : Result was.FoundExpr ReadFault) → ChainLoop level room tokens e h rest → operator_of level rest ≡ Some (op, after) → operand_of level (below (room - 1)) room after ≡ Ok (b, us) → y ≡ binary op e b → Answers room (Err x) (within room y us) → r ≡ Err x →
     Answers room r (left_of (op_of level) (operand_of level (below (room - 1)) room) room tokens)
 chain_failed_high level room tokens e h rest op after b us y errors.NoMemory r loop o read same a is = rw is tt
 chain_failed_high level room tokens e h rest op after b us y (errors.Refused f) r loop o read same a is =
@@ -329,7 +329,7 @@ chain_failed_high level room tokens e h rest op after b us y (errors.Refused f) 
 pub operand_sum : (level : Level) (b : Below) (room : ℕ) (ts : List Terminal) → level ≡ Sum → operand_of level b room ts ≡ left_of (op_of Product) (operand_of Product b room) room ts
 operand_sum level b room ts is = rw is refl
 
-pub chain_made_of : (j : Joint) (room : ℕ) (first : ExprTree) (es : List Expr) (ts : List Terminal) (x : ExprTree) (r : Result was.Found ReadFault) → 0 < length es → x ≡ chain j first (expr_trees es) → Answers room r (within room x ts) →
+pub chain_made_of : (j : Joint) (room : ℕ) (first : ExprTree) (es : List Expr) (ts : List Terminal) (x : ExprTree) (r : Result was.FoundExpr ReadFault) → 0 < length es → x ≡ chain j first (expr_trees es) → Answers room r (within room x ts) →
     Answers room r (chained j room first (expr_trees es) ts)
 chain_made_of j room first es ts x r some is h = subst (λ (y : Read). Answers room r y) (ap (λ y. within room y ts) is ∙ sym (chained_many j room first es ts some)) h
 

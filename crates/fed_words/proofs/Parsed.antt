@@ -89,7 +89,7 @@ owner_of (Some s) d r g is named e = subst (λ x. unwrap_or x (codes "admin") �
 -- a number that is not in its range is told
 pub number_refused : (words : List Text) (fault : WordsFault) → faults words ≡ [] → HasBadNumber (subcommand_of command_line words) → IsNumberRefusal fault → Reads words (Err fault)
 number_refused words (Help text) none bad told = absurd told
-number_refused words (Usage text) none bad told = inr (none, bad)
+number_refused words (Usage text) none bad told = inr (none, bad, told)
 number_refused words (NoPath value) none bad told = absurd told
 number_refused words (BadName name) none bad told = absurd told
 number_refused words NoMemory none bad told = tt

@@ -1,5 +1,5 @@
 -- What the program's words are read as.
-use Rattle.std.specs.Prelude.{◌≡◌, ◌≢◌, ◌⊎◌, ◌++◌, ℕ, List, [], codes, Option, Some, None, map, option_map, IfSome, Result, Ok, Err}
+use Rattle.std.specs.Prelude.{◌≡◌, ◌≢◌, ◌⊎◌, ◌++◌, ℕ, List, [], codes, Option, Some, None, map, option_map, IfSome, Result, Ok, Err, string_bytes}
 use Rattle.std.specs.Str.Parse.{digits_value, without_leading_plus}
 use Rattle.clap.specs.Words.{Text, Row, IsAmong, IsUnsignedIn, subcommand_of}
 use Rattle.clap.specs.declared.error.ErrorKind.{ErrorKind}
@@ -62,9 +62,13 @@ HasBadNumber met =
     (command_in met ≡ Some (codes "serve"))
     × (((port : ℕ) → IsPort (value_in (codes "port") met) port → ⊥) ⊎ ((count : ℕ) → IsCount (value_in (codes "count") met) count → ⊥))
 
--- how it is told: as a mistake, or as want of memory
+-- what is told of it
+abbrev pub number_text : Text
+number_text = codes "error: a number is not in its range\n"
+
+-- how it is told: as a mistake, by this text, or as want of memory
 abbrev pub IsNumberRefusal : WordsFault → Type 0
-IsNumberRefusal (Usage text) = Unit {0}
+IsNumberRefusal (Usage text) = string_bytes text ≡ number_text
 IsNumberRefusal NoMemory = Unit {0}
 IsNumberRefusal _ = ⊥
 
@@ -102,13 +106,14 @@ IsBadName words name =
 
 -- What words are read as. Words against which nothing stands ask for a run, if the names and places that they give are good, and else the
 -- first bad one is told: the owner's name, the list's, and then the values of places; words that ask for help are told it;
--- any others are refused, and so are those with a number that is not in its range. Want of memory may take the place of each.
+-- any others are refused, and so are those with a number that is not in its range, by a text of their own. Want of memory may take the
+-- place of each.
 abbrev pub Reads : List Text → Result AskedRun WordsFault → Type 0
 Reads words (Ok asked) = (faults words ≡ []) × Ask words asked
 Reads words (Err (Help text)) = (kind : ErrorKind) × IsAmong kind (faults words) × IsHelp kind
 Reads words (Err (Usage text)) =
     ((kind : ErrorKind) × IsAmong kind (faults words) × (IsHelp kind → ⊥))
-    ⊎ ((faults words ≡ []) × HasBadNumber (subcommand_of command_line words))
+    ⊎ ((faults words ≡ []) × HasBadNumber (subcommand_of command_line words) × (string_bytes text ≡ number_text))
 Reads words (Err (NoPath value)) = (faults words ≡ []) × HasBadPlace words (places.NoPath value)
 Reads words (Err (BadName name)) = (faults words ≡ []) × (IsBadName words name.now ⊎ HasBadPlace words (places.BadName name))
 Reads words (Err NoMemory) = Unit {0}
