@@ -1,0 +1,27 @@
+-- What a table is: what its columns read, its lines and its rows.
+use Rattle.std.specs.Prelude.{◌+◌, ℕ, List, [], ◌∷◌, map}
+use Rattle.med_value.specs.declared.value.ColType.{ColType}
+use Rattle.fdw_api.specs.Scan.{TableRow}
+use Rattle.jsonl_tables.specs.declared.table.JsonTable.{JsonTable}
+use Rattle.jsonl_tables.specs.Lines.{lines_at}
+use Rattle.jsonl_tables.specs.Fields.{Reader, reader_of}
+use Rattle.jsonl_tables.specs.Objects.{cells_at}
+
+-- lines with their places as ids
+abbrev pub numbered : List Reader → ℕ → List (List ℕ) → List TableRow
+numbered readers n [] = []
+numbered readers n (l ∷ ls) = record { id = n; cells = cells_at readers l; origin = l ∷ [] } ∷ numbered readers (n + 1) ls
+
+-- what a table's columns read, and its lines
+abbrev pub readers_in : JsonTable → List Reader
+readers_in t = map reader_of t.fields.items
+
+abbrev pub lines_in : JsonTable → List (List ℕ)
+lines_in t = lines_at t.content.items t.lines.items
+
+abbrev pub kinds_in : JsonTable → List ColType
+kinds_in t = map (λ f. f.kind) (readers_in t)
+
+-- its rows
+abbrev pub rows_in : JsonTable → List TableRow
+rows_in t = numbered (readers_in t) 0 (lines_in t)

@@ -1,0 +1,73 @@
+//! Contents: their lines, which are checked when a table is bound, and the rows that these are.
+ghost use Rattle.std.specs.Prelude.{◌≡◌, true, false, length, map, IfOk, IfErr, OnOk};
+ghost use Rattle.std.specs.List.{list_all};
+ghost use Rattle.med_value.specs.Datum.{tuple};
+ghost use Rattle.jsonl_tables.specs.Lines.{lines_of, lines_at};
+ghost use Rattle.jsonl_tables.specs.Fields.{reader_of};
+ghost use Rattle.jsonl_tables.specs.Objects.{is_object, is_typed, cells_at};
+ghost use Rattle.jsonl_tables.specs.Contents.{is_too_large, LineRefused, ContentRefused};
+
+use crate::fields::Field;
+use crate::lines::{Span, is_blank, line_at, line_from};
+use crate::objects::{LineFault, has_types, parse_line, read_row};
+use fdw_api::interface::Fault;
+use med_value::{Cause, NoMemory, Row};
+use std::alloc::Global;
+
+/// Checks that a line is an object, with members of the columns' types.
+fn check_line(alloc: Global, line: &[u8], fields: &[Field]) -> Result<(), Fault>
+    ensures ok { OnOk result ((is_object line.now ≡ true) × (is_typed (map reader_of fields.now) line.now ≡ true)) }
+    ensures err { IfErr result (λ fault. LineRefused (map reader_of fields.now) line.now fault) }
+{
+    match parse_line(alloc, line) {
+        Err(LineFault::NoMemory) => Err(Fault::NoMemory),
+        Err(LineFault::NotObject) => Err(Fault::Refused(Cause::InvalidFormat)),
+        Ok(value) => {
+            if has_types(&value, fields) {
+                Ok(())
+            } else {
+                Err(Fault::Refused(Cause::InvalidText))
+            }
+        }
+    }
+}
+
+/// Where the lines of a content stand, each of which is checked: refused by `TooLarge` (54000), `InvalidFormat` (HV00A) or `InvalidText`
+/// (22P02), each where the content shows it, or for want of memory.
+pub fn read_lines(alloc: Global, content: &[u8], fields: &[Field]) -> Result<Vec<Span>, Fault>
+    ensures lines { IfOk result (λ spans. lines_at content.now spans.items ≡ lines_of content.now) }
+    ensures objects { IfOk result (λ spans. list_all is_object (lines_of content.now) ≡ true) }
+    ensures typed { IfOk result (λ spans. list_all (is_typed (map reader_of fields.now)) (lines_of content.now) ≡ true) }
+    ensures few { IfOk result (λ spans. is_too_large (length (lines_of content.now)) (length content.now) ≡ false) }
+    ensures err { IfErr result (λ fault. ContentRefused (map reader_of fields.now) content.now fault) }
+{
+    if content.len() > 67_108_864 {
+        return Err(Fault::Refused(Cause::TooLarge));
+    }
+    let mut spans = Vec::new(alloc);
+    let mut start = 0;
+    while start <= content.len() {
+        let span = line_from(content, start);
+        let line = line_at(content, span);
+        if !is_blank(line) {
+            check_line(alloc, line, fields)?;
+            if spans.len() == 1_000_000 {
+                return Err(Fault::Refused(Cause::TooLarge));
+            }
+            spans.push(span)?;
+        }
+        start = span.end + 1;
+    }
+    Ok(spans)
+}
+
+/// The row that a line is: in each column the value of its member, NULL where that is absent or of another type. A line that is no object
+/// is told as want of memory: each line was read when its table was bound, so memory alone can be missing then.
+pub fn row_of_line(alloc: Global, line: &[u8], fields: &[Field]) -> Result<Row, NoMemory>
+    ensures { IfOk result (λ row. tuple row ≡ cells_at (map reader_of fields.now) line.now) }
+{
+    match parse_line(alloc, line) {
+        Ok(value) => read_row(alloc, &value, fields),
+        Err(_) => Err(NoMemory),
+    }
+}

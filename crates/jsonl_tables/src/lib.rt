@@ -1,0 +1,17 @@
+//! What a blob of JSON lines is as a table: what its columns read, its lines and their rows, and how changes write it again.
+#![tactic(auto)]
+
+pub mod contents;
+pub mod fields;
+pub mod law;
+pub mod lines;
+mod objects;
+pub mod rewrite;
+pub mod table;
+mod written;
+
+pub use contents::{read_lines, row_of_line};
+pub use fields::{Field, fields_of};
+pub use lines::{Image, Span, line_at};
+pub use rewrite::rewritten;
+pub use table::JsonTable;

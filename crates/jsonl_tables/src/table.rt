@@ -1,0 +1,19 @@
+//! What is kept of a bound table.
+ghost use Rattle.std.specs.Prelude.{◌≡◌, true, map};
+ghost use Rattle.std.specs.String.{string_bytes};
+ghost use Rattle.blob_store.specs.Names.{is_blob_name};
+ghost use Rattle.jsonl_tables.specs.Fields.{reader_of, members_differ};
+
+use crate::fields::Field;
+use crate::lines::Span;
+
+/// A bound table: its remote name, what its columns read, the bytes of its blob, and where its lines stand in them.
+#[derive(Drop)]
+pub struct JsonTable {
+    pub remote: String,
+    pub fields: Vec<Field>,
+    pub content: Vec<u8>,
+    pub lines: Vec<Span>,
+    pub ghost named: { is_blob_name (string_bytes remote) ≡ true },
+    pub ghost apart: { members_differ (map reader_of fields.items) ≡ true },
+}
