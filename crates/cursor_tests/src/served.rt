@@ -1,5 +1,5 @@
 //! An engine over the demo list in a box, and what it replies.
-ghost use Rattle.fed_cli.specs.Demo.{demo_list};
+ghost use Rattle.fed_setup.specs.Demo.{demo_list};
 ghost use Rattle.list_wrapper.specs.ListBoxes.{box_of};
 ghost use Rattle.list_wrapper.specs.Lists.{IsNewList};
 ghost use Rattle.med_session.specs.Engine.{IsSound};
@@ -8,9 +8,9 @@ ghost use Rattle.probe_wrapper.specs.Failing.{failed};
 ghost use Rattle.std.specs.Prelude.{IfOk};
 
 use fdw_api::interface::Wrapper;
-use fed_cli::demo::demo_tables;
-use fed_cli::program::add_demo;
-use fed_cli::told::RunFault;
+use fed_setup::demo::demo_tables;
+use fed_setup::program::add_demo;
+use fed_setup::told::RunFault;
 use list_wrapper::ListWrapper;
 use med_session::{Engine, Request, Sid};
 use med_value::NoMemory;

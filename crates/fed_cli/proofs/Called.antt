@@ -10,7 +10,8 @@ use Rattle.fed_stream.specs.declared.stream.Ended.{Ended}
 use Rattle.fed_stream.specs.declared.stream.StreamFault.TheVariants as faults
 use Rattle.fed_stream.proofs.Calls.{writes_no_room}
 use Rattle.fed_cli.specs.Exits.{TellsText, TellsRun, TellsWords, Written, WritesRun, WritesIf, is_help}
-use Rattle.fed_cli.specs.Told.{Came, run_line}
+use Rattle.fed_cli.specs.Told.{run_line}
+use Rattle.fed_setup.specs.Told.{Came}
 use Rattle.fed_words.specs.Told.{words_text}
 use Rattle.fed_words.specs.declared.words.WordsFault.{WordsFault}
 use Rattle.fed_words.specs.declared.words.WordsFault.TheVariants.{Help, Usage, NoPath, BadName, NoMemory}

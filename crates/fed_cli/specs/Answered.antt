@@ -7,7 +7,7 @@ use Rattle.session_wire.specs.Worlds.{SceneSteps, SceneEnds}
 use Rattle.fed_stream.specs.Streams.{Stream}
 use Rattle.fed_stream.specs.Served.{Serves}
 use Rattle.fed_words.specs.Places.{Place}
-use Rattle.fed_cli.specs.Setup.{Begins}
+use Rattle.fed_setup.specs.Setup.{Begins}
 use Rattle.fed_stream.specs.declared.stream.Ended.{Ended}
 use Rattle.fed_stream.specs.declared.stream.StreamFault.{StreamFault}
 

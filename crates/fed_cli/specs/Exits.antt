@@ -7,16 +7,17 @@ use Rattle.med_session.specs.Engine.{EachBox, IsAtRest}
 use Rattle.med_session.specs.declared.adding.Sources.{Sources}
 use Rattle.fed_cli.specs.Answered.{ServesProgram}
 use Rattle.fed_words.specs.Places.{are_honest}
-use Rattle.fed_cli.specs.Setup.{BeginsNot, IsReadOf, list_asked}
+use Rattle.fed_setup.specs.Setup.{BeginsNot, IsReadOf, list_asked}
 use Rattle.fed_stream.specs.Streams.{Stream, IsUntouched}
-use Rattle.fed_cli.specs.Told.{Came, told_of, run_line}
+use Rattle.fed_cli.specs.Told.{told_of, run_line}
+use Rattle.fed_setup.specs.Told.{Came}
 use Rattle.fed_output.specs.Outlets.{Outlet, FrontWritten}
 use Rattle.fed_output.specs.declared.source.GivenUp.{GivenUp}
 use Rattle.fed_words.specs.Told.{words_text}
 use Rattle.fed_words.specs.Words.{places_asked}
 use Rattle.fed_stream.specs.declared.stream.Ended.{Ended}
 use Rattle.fed_stream.specs.declared.stream.StreamFault.{StreamFault}
-use Rattle.fed_cli.specs.declared.told.RunFault.{RunFault}
+use Rattle.fed_setup.specs.declared.told.RunFault.{RunFault}
 use Rattle.fed_words.specs.declared.words.AskedRun.{AskedRun}
 use Rattle.fed_words.specs.declared.words.WordsFault.{WordsFault}
 use Rattle.fed_words.specs.declared.words.WordsFault.TheVariants.{Help, Usage, NoPath, BadName, NoMemory}

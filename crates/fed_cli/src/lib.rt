@@ -1,8 +1,6 @@
-//! What the program is made of.
+//! What a run is made of.
 #![tactic(auto)]
 
-pub mod demo;
-pub mod init;
 pub mod program;
 pub mod serving;
 pub mod telling;

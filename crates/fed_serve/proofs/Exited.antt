@@ -3,12 +3,12 @@ use Rattle.std.proofs.Common.{◌≡◌, ℕ, Bool, List, Option, option_map, Re
 use Rattle.std.specs.Global.{Global}
 use Rattle.fdw_api.specs.State.{BoxState}
 use Rattle.fed_words.specs.declared.words.AskedRun.{AskedRun}
-use Rattle.fed_cli.specs.Setup.{BeginsNot}
+use Rattle.fed_setup.specs.Setup.{BeginsNot}
 use Rattle.fed_cli.specs.Exits.{Written}
 use Rattle.fed_cli.proofs.Called.{front_told}
 use Rattle.fed_output.specs.Outlets.{Outlet}
 use Rattle.fed_stream.specs.Streams.{Stream, stream}
-use Rattle.fed_cli.specs.declared.told.RunFault.{RunFault}
+use Rattle.fed_setup.specs.declared.told.RunFault.{RunFault}
 use Rattle.fed_serve.specs.Exits.{Exits, ExitsBy, Listened, TellsListened, WritesListened, listen_line, on_words}
 use Rattle.fed_serve.specs.declared.program.ArgsFault.{ArgsFault}
 use Rattle.fed_serve.specs.declared.program.Exit.{Exit}

@@ -8,7 +8,8 @@ use Rattle.fed_output.specs.Outlets.{Outlet}
 use Rattle.fed_stream.specs.declared.stream.Ended.{Ended}
 use Rattle.fed_stream.specs.declared.stream.StreamFault.{StreamFault}
 use Rattle.fed_stream.specs.Streams.{stream}
-use Rattle.fed_cli.specs.Told.{Came, told_of}
+use Rattle.fed_cli.specs.Told.{told_of}
+use Rattle.fed_setup.specs.Told.{Came}
 use Rattle.fed_serve.specs.Kept.{KeepsServed}
 use Rattle.fed_serve.specs.Turns.{Turn, Moves, AreTaken, TellsEach, input_of, output_of, ServesEach, AreServed}
 

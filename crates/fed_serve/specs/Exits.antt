@@ -13,11 +13,12 @@ use Rattle.fed_words.specs.declared.words.AskedRun.{AskedRun}
 use Rattle.fed_words.specs.declared.words.Service.TheVariants.{StandardInput, Connections}
 use Rattle.fed_words.specs.declared.words.WordsFault.{WordsFault}
 use Rattle.fed_cli.specs.Exits.{Runs, TellsText, TellsRun, TellsWords, Written}
-use Rattle.fed_cli.specs.Setup.{BeginsBy, BeginsNot, IsReadOf}
+use Rattle.fed_setup.specs.Setup.{BeginsBy, BeginsNot, IsReadOf}
 use Rattle.fed_output.specs.Outlets.{Outlet, FrontWritten}
 use Rattle.fed_stream.specs.Streams.{Stream, stream, IsUntouched}
-use Rattle.fed_cli.specs.Told.{Came, run_status}
-use Rattle.fed_cli.specs.declared.told.RunFault.{RunFault}
+use Rattle.fed_cli.specs.Told.{run_status}
+use Rattle.fed_setup.specs.Told.{Came}
+use Rattle.fed_setup.specs.declared.told.RunFault.{RunFault}
 use Rattle.fed_serve.specs.Listens.{Listens, listen_text}
 use Rattle.fed_serve.specs.declared.listening.ListenFault.{ListenFault}
 use Rattle.fed_serve.specs.declared.program.ArgsFault.{ArgsFault}

@@ -8,10 +8,11 @@ ghost use Rattle.fed_serve.specs.Exits.{Exits, ExitsBy, ServesAsked, WritesListe
 
 use crate::listening::{ListenFault, listen_and_serve};
 use fdw_api::interface::Wrapper;
-use fed_cli::program::{NotBegun, begin, run_asked};
+use fed_cli::program::run_asked;
 use fed_cli::telling::{tell_run, tell_words};
 use fed_cli::told::status;
 use fed_output::{GivenUp, Sink, write_front};
+use fed_setup::program::{NotBegun, begin};
 use fed_tell::write_line;
 use fed_words::words::{AskedRun, Service, read_words};
 use itoa::Buffer;

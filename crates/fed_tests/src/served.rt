@@ -6,9 +6,9 @@ ghost use Rattle.session_wire.specs.Servers.{handler_of};
 ghost use Rattle.std.specs.Prelude.{IfOk};
 
 use fdw_api::interface::Counts;
-use fed_cli::demo::demo_tables;
-use fed_cli::program::add_demo;
-use fed_cli::told::RunFault;
+use fed_setup::demo::demo_tables;
+use fed_setup::program::add_demo;
+use fed_setup::told::RunFault;
 use list_wrapper::ListWrapper;
 use med_exec::ledger_at;
 use med_session::Engine;

@@ -7,7 +7,7 @@ ghost use Rattle.std.specs.Prelude.{◌≡◌, [], IfOk, List};
 
 use crate::expect::same;
 use crate::served::counts_after;
-use fed_cli::demo::demo_tables;
+use fed_setup::demo::demo_tables;
 use list_wrapper::ListWrapper;
 use med_exec::{bind_at, ledger_at, unbind_at};
 use med_value::{ColType, ColumnDef, NoMemory};

@@ -5,8 +5,8 @@ ghost use Rattle.med_session.specs.Shows.{shown};
 ghost use Rattle.std.specs.Prelude.{IfOk};
 
 use bench_tables::law::lists_take_tables;
-use fed_cli::demo::{demo_tables, setup_script};
 use fed_replay::{ScriptFault, replay};
+use fed_setup::demo::{demo_tables, setup_script};
 use list_wrapper::ListWrapper;
 use med_session::{Engine, Request, Sid, SourceKind};
 use med_value::Cause;

@@ -7,7 +7,7 @@ ghost use Rattle.std.specs.Prelude.{IfOk};
 use crate::expect::same_text;
 use crate::served::{ask, engine_over, new_list};
 use crate::statements::{Draws, statement};
-use fed_cli::demo::demo_tables;
+use fed_setup::demo::demo_tables;
 use list_wrapper::ListWrapper;
 use med_binder::AttachedTable;
 use med_parser::{Command, parse};

@@ -1,5 +1,0 @@
-use Rattle.std.proofs.Common.{length}
-use Rattle.fed_cli.proofs.program.+add_places.Given as goal
-
-abbrev pub decreases-add_places : goal.decreases-add_places
-decreases-add_places g l = length l.places.now

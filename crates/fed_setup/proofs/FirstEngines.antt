@@ -1,0 +1,317 @@
+-- The engine that a program begins with, and the demo list in it.
+use Rattle.std.proofs.Common.{◌≡◌, ◌≢◌, arith, ℕ, Bool, true, false, List, [], ◌∷◌, ◌++◌, ◌||◌, ◌&&◌, length, Option, Some, None, option_map, Result, Ok, Err, OnOk, IfErr, Bor, refl, sym, ap, ◌∙◌, subst, inl, inr}
+use Rattle.fdw_api.specs.Kinds.{Kind}
+use Rattle.fdw_api.specs.State.{BoxState, is_honest}
+use Rattle.ddl_syntax.specs.DdlTree.{TableTree}
+use Rattle.med_value.specs.declared.cause.Cause.{Cause}
+use Rattle.med_value.specs.declared.cause.Cause.TheVariants.{InvalidOptionName}
+use Rattle.med_catalog.specs.DdlCauses.{CauseRow, Stands, are_options_unknown, create_table_rows}
+use Rattle.med_catalog.specs.Objects.{Objects}
+use Rattle.med_catalog.specs.Options.{table_settings, column_settings}
+use Rattle.med_catalog.specs.declared.kind.SourceKind.{SourceKind}
+use Rattle.med_catalog.specs.declared.kind.SourceKind.TheVariants.{List as Lists}
+use Rattle.med_catalog.specs.declared.kind.SourceKind.TheVariants as sources
+use Rattle.med_world.specs.Adding.{HasSource, Adds}
+use Rattle.med_world.specs.Engine.{Shown, Label, IsSound, Agrees, TakesAs, sources_of}
+use Rattle.med_world.specs.World.{World, empty_world, with_source}
+use Rattle.med_session.specs.Adding.{AddCause}
+use Rattle.med_session.specs.declared.adding.AddFault.{AddFault}
+use Rattle.med_session.specs.declared.adding.AddFault.TheVariants as adding
+use Rattle.list_wrapper.specs.Lists.{IsNewList, list_objections}
+use Rattle.blob_store.specs.Shelves.{Shelf, nothing_known}
+use Rattle.csv_wrapper.specs.CsvBoxes.{IsNewCsv}
+use Rattle.jsonl_wrapper.specs.Boxes.{IsNewJsonl}
+use Rattle.session_wire.specs.Worlds.{Scene, SceneSteps}
+use Rattle.fed_replay.specs.Replays.{Replays}
+use Rattle.fed_replay.specs.Engines.{SceneCloses}
+use Rattle.fed_replay.specs.declared.script.ScriptFault.{ScriptFault}
+use Rattle.fed_replay.specs.declared.script.ScriptFault.TheVariants as scripts
+use Rattle.fed_setup.specs.Demo.{demo_list, setup_script}
+use Rattle.fed_setup.specs.Setup.{over, empty_scene, HasList, HasPlaces, SetsUp, IsNewAt, IsNewPlace, AddsPlace, AddsPlaces, AddsNoDemo, IsNotAdded, AreNotAdded, IsFirst, HasNoFirst, HasListAsked, IsSetUp, IsNotSetUp, SetUpFails, list_asked, list_label, labels_before, place_label}
+use Rattle.sqlite_wrapper.specs.Kinds.{sqlite_kind}
+use Rattle.source_kinds.specs.Databases.{by_path, is_memory}
+use Rattle.fed_words.specs.Places.{Place, place_of, source_kind, is_honest_place, are_honest}
+use Rattle.fed_setup.specs.Told.{Came, added_of, setup_told}
+use Rattle.fed_words.specs.Words.{places_asked}
+use Rattle.fed_words.specs.declared.places.AskedPlace.{AskedPlace}
+use Rattle.fed_words.specs.declared.places.PlaceKind.{PlaceKind}
+use Rattle.fed_words.specs.declared.places.PlaceKind.TheVariants.{Csv, JsonLines, Sqlite}
+use Rattle.fed_words.specs.declared.words.AskedRun.{AskedRun}
+use Rattle.fed_setup.specs.declared.told.RunFault.{RunFault}
+use Rattle.fed_setup.specs.declared.told.RunFault.TheVariants as faults
+
+-- ---- a list takes each table that the catalogue lets pass
+
+not_true : (b : Bool) → (b ≡ true → ⊥) → b ≡ false
+not_true true h = absurd (h refl)
+not_true false h = refl
+
+-- the law of lists, as its contract says it
+abbrev pub Law : Type 0
+Law = (t : TableTree) → are_options_unknown Lists t.options t.columns ≡ false → table_settings Lists t.options ++ column_settings 1 t.columns ≡ []
+
+none_unknown : (o : Objects) (t : TableTree) → ((c : Cause) → Stands (create_table_rows o Lists t) c → ⊥) → are_options_unknown Lists t.options t.columns ≡ false
+none_unknown o t none =
+    not_true (are_options_unknown Lists t.options t.columns)
+    (λ e. none InvalidOptionName (5, omega arith, ap (λ (b : Bool). let r : CauseRow = (b, InvalidOptionName) in r) e))
+
+pub list_takes : (s : BoxState) → IsNewList s demo_list → Law → TakesAs Lists s
+list_takes s h law = λ o t columns declared none.
+    ap (λ (k : Kind). k.objections columns (table_settings Lists t.options ++ column_settings 1 t.columns)) h.kind
+    ∙ ap list_objections (law t (none_unknown o t none))
+
+-- ---- a new engine has no box and no source
+
+none_of : (labels : List Label) (boxes : List (Option BoxState)) → length boxes ≡ length labels → [] ≡ sources_of labels boxes → (labels ≡ []) × (boxes ≡ [])
+none_of [] [] h e = (refl, refl)
+none_of [] (b ∷ bs) h e = absurd cc
+none_of (l ∷ ls) [] h e = absurd cc
+none_of (l ∷ ls) (b ∷ bs) h e = absurd cc
+
+pub nothing_there : (e : Shown) (owner : List ℕ) → IsSound e → Agrees e (empty_world owner) → (e.labels ≡ []) × (e.boxes ≡ [])
+nothing_there e owner sound agrees = none_of e.labels e.boxes sound.places agrees.sources
+
+-- the empty world over these boxes
+abbrev pub empty_over : List ℕ → List (Option BoxState) → Scene
+empty_over owner boxes = record { world = empty_world owner; boxes = boxes }
+
+-- its scene is the empty one
+pub is_empty : (owner : List ℕ) (boxes : List (Option BoxState)) → boxes ≡ [] → empty_over owner boxes ≡ empty_scene owner
+is_empty owner boxes none = ap (empty_over owner) none
+
+-- ---- the list is added
+
+-- to a world over what an engine shows
+pub list_added : (old listed : Shown) (w : World) (name : List ℕ) (list : BoxState) → IsNewList list demo_list → Adds old name Lists list listed
+    → HasList (record { world = w; boxes = old.boxes }) name (record { world = with_source w name Lists list.nature.kind list.content.holdings; boxes = listed.boxes })
+list_added old listed w name list demo adds = record { list = list; is_demo = demo; world = refl; boxes = ap (λ (e : Shown). e.boxes) adds.is }
+
+-- the list stands besides
+pub has_list : (old listed : Shown) (w : World) (name : List ℕ) (list : BoxState) → IsNewList list demo_list → Adds old name Lists list listed
+    → ((v : World) → Agrees old v → is_honest list → Agrees listed (with_source v name Lists list.nature.kind list.content.holdings)) → Agrees old w
+    → (after : World) × HasList (over old w) name (over listed after) × Agrees listed after
+has_list old listed w name list demo adds world agrees =
+    (with_source w name Lists list.nature.kind list.content.holdings, list_added old listed w name list demo adds, world w agrees demo.honest)
+
+-- ---- folders and databases are added
+
+-- a new source that is honest
+database_is_honest : (honest memory : Bool) (s : BoxState) → by_path honest memory s → (memory || honest) ≡ true → is_honest s
+database_is_honest honest true s h trusted = h.1.honest_is
+database_is_honest honest false s h trusted = h.1.honest_is ∙ trusted
+
+honest_at : (honest : Bool) (kind : PlaceKind) (name path : List ℕ) (s : BoxState) → IsNewAt honest kind path s
+    → is_honest_place honest (record { kind = kind; name = name; path = path }) ≡ true → is_honest s
+honest_at honest Csv name path s h trusted = h.honest
+honest_at honest JsonLines name path s h trusted = h.honest
+honest_at honest Sqlite name path s h trusted = database_is_honest honest (is_memory path) s h trusted
+
+place_added_as : (honest : Bool) (old new : Shown) (place : Place) (s : BoxState) → IsNewPlace honest place s → Adds old place.name (source_kind place.kind) s new
+    → ((w : World) → Agrees old w → is_honest s → Agrees new (with_source w place.name (source_kind place.kind) s.nature.kind s.content.holdings))
+    → AddsPlace honest old place new
+place_added_as honest old new place s is_new adds world = record {
+  labels = ap (λ (e : Shown). e.labels) adds.is;
+  could = (adds.name_free, adds.room);
+  world = λ trusted w agrees. (
+    with_source w place.name (source_kind place.kind) s.nature.kind s.content.holdings,
+    record { box = s; is_new = is_new; world = refl; boxes = ap (λ (e : Shown). e.boxes) adds.is },
+    world w agrees (honest_at honest place.kind place.name place.path s is_new trusted),
+  );
+}
+
+pub place_added : (honest : Bool) (old new : Shown) (place : Place) (s : BoxState) (k : SourceKind) → k ≡ source_kind place.kind → IsNewPlace honest place s → Adds old place.name k s new
+    → ((w : World) → Agrees old w → is_honest s → Agrees new (with_source w place.name k s.nature.kind s.content.holdings))
+    → AddsPlace honest old place new
+place_added honest old new place s k e is_new = subst
+    (λ q. Adds old place.name q s new → ((w : World) → Agrees old w → is_honest s → Agrees new (with_source w place.name q s.nature.kind s.content.holdings)) → AddsPlace honest old place new)
+    (sym e) (place_added_as honest old new place s is_new)
+
+-- what a new source takes, by the laws of its kind
+database_kind : (honest memory : Bool) (s : BoxState) → by_path honest memory s → s.nature.kind ≡ sqlite_kind
+database_kind honest true s h = h.1.kind
+database_kind honest false s h = h.1.kind
+
+pub place_takes : (honest : Bool) (kind : PlaceKind) (path : List ℕ) (s : BoxState) → IsNewAt honest kind path s
+    → ((b : BoxState) (shelf : Shelf) → IsNewCsv b shelf → TakesAs sources.Csv b) → ((b : BoxState) (shelf : Shelf) → IsNewJsonl b shelf → TakesAs sources.JsonLines b)
+    → ((b : BoxState) → b.nature.kind ≡ sqlite_kind → TakesAs sources.Sqlite b) → TakesAs (source_kind kind) s
+place_takes honest Csv path s h csv jsonl sqlite = csv s (nothing_known 0) h
+place_takes honest JsonLines path s h csv jsonl sqlite = jsonl s (nothing_known 0) h
+place_takes honest Sqlite path s h csv jsonl sqlite = sqlite s (database_kind honest (is_memory path) s h)
+
+-- of several the first is added, and then the others
+pub adds_none : (honest : Bool) (e : Shown) (all : List Place) → all ≡ [] → AddsPlaces honest e all e
+adds_none honest e all is = record { world = λ trusted w agrees. (w, subst (λ fs. HasPlaces honest (over e w) fs (over e w)) (sym is) refl, agrees) }
+
+both : (a b : Bool) → (a && b) ≡ true → (a ≡ true) × (b ≡ true)
+both true b e = (refl, e)
+both false b e = absurd cc
+
+pub adds_first : (honest : Bool) (old mid new : Shown) (f : Place) (all rest : List Place) → all ≡ f ∷ rest → AddsPlace honest old f mid → AddsPlaces honest mid rest new → AddsPlaces honest old all new
+adds_first honest old mid new f all rest is one more = record {
+  world = λ trusted w agrees.
+      let each = both (is_honest_place honest f) (are_honest honest rest) (subst (λ fs. are_honest honest fs ≡ true) is trusted) in
+      let here = one.world each.0 w agrees in
+      let then = more.world each.1 here.0 here.2 in
+      (then.0, subst (λ fs. HasPlaces honest (over old w) fs (over new then.0)) (sym is) (over mid here.0, here.1, then.1), then.2);
+}
+
+pub adds_more : (honest : Bool) {T E : Type 0} (r : Result T E) (old mid new : Shown) (f : Place) (all rest : List Place) → all ≡ f ∷ rest → AddsPlace honest old f mid
+    → OnOk r (AddsPlaces honest mid rest new) → OnOk r (AddsPlaces honest old all new)
+adds_more honest (Ok x) old mid new f all rest is one more = adds_first honest old mid new f all rest is one more
+adds_more honest (Err x) old mid new f all rest is one more = tt
+
+-- or one is not
+pub fails_first : (labels : List Label) (f : Place) (all rest : List Place) (fault : RunFault) → all ≡ f ∷ rest → IsNotAdded labels f fault → AreNotAdded labels all fault
+fails_first labels f all rest fault is h = subst (λ fs. AreNotAdded labels fs fault) (sym is) (inl h)
+
+pub fails_later : (honest : Bool) (old mid : Shown) (f : Place) (all rest : List Place) (fault : RunFault) → all ≡ f ∷ rest → AddsPlace honest old f mid → AreNotAdded mid.labels rest fault
+    → AreNotAdded old.labels all fault
+fails_later honest old mid f all rest fault is one h =
+    subst (λ fs. AreNotAdded old.labels fs fault) (sym is) (inr (one.could, subst (λ ls. AreNotAdded ls rest fault) one.labels h))
+
+pub place_not_added : (labels : List Label) (asked : AskedPlace) (fault : AddFault) (told : RunFault) → told ≡ added_of asked.name fault
+    → AddCause labels asked.name.now fault → IsNotAdded labels (place_of asked) told
+place_not_added labels asked adding.NoMemory told e h = subst (λ f. IsNotAdded labels (place_of asked) f) (sym e) tt
+place_not_added labels asked adding.Taken told e h = subst (λ f. IsNotAdded labels (place_of asked) f) (sym e) (refl, h)
+place_not_added labels asked adding.TooMany told e h = subst (λ f. IsNotAdded labels (place_of asked) f) (sym e) (refl, h.0, h.1)
+
+-- ---- what the set-up came to
+
+-- a replay of the script is one of its text
+pub sets_up : (old listed new : Scene) (owner name script : List ℕ) (came : Result ℕ ScriptFault) → HasList old name listed → script ≡ setup_script name
+    → Replays SceneSteps SceneCloses listed owner script came new → SetsUp old owner name came new
+sets_up old listed new owner name script came has is replays = record {
+  listed = listed;
+  has_list = has;
+  replays = subst (λ s. Replays SceneSteps SceneCloses listed owner s came new) is replays;
+}
+
+-- every line of it is done
+pub told_ok : (name : Bor (List ℕ)) (came : Result ℕ ScriptFault) (told : Came) (P : Type 0) → told ≡ setup_told name came → ((count : ℕ) → came ≡ Ok count → P) → OnOk told P
+told_ok name (Ok count) told P e f = subst (λ t. OnOk t P) (sym e) (f count refl)
+told_ok name (Err scripts.NoMemory) told P e f = subst (λ t. OnOk t P) (sym e) tt
+told_ok name (Err scripts.NotText) told P e f = subst (λ t. OnOk t P) (sym e) tt
+told_ok name (Err (scripts.Line number cause)) told P e f = subst (λ t. OnOk t P) (sym e) tt
+
+-- one of them is refused
+pub told_err : (name : Bor (List ℕ)) (came : Result ℕ ScriptFault) (told : Came) (P : RunFault → Type 0) → told ≡ setup_told name came → P faults.NoMemory
+    → ((why : ScriptFault) → came ≡ Err why → why ≢ scripts.NoMemory → P (faults.CannotOpen name)) → IfErr told P
+told_err name (Ok count) told P e n f = subst (λ t. IfErr t P) (sym e) tt
+told_err name (Err scripts.NoMemory) told P e n f = subst (λ t. IfErr t P) (sym e) n
+told_err name (Err scripts.NotText) told P e n f = subst (λ t. IfErr t P) (sym e) (f scripts.NotText refl (λ h. absurd cc))
+told_err name (Err (scripts.Line number cause)) told P e n f = subst (λ t. IfErr t P) (sym e) (f (scripts.Line number cause) refl (λ h. absurd cc))
+
+-- ---- why the list is not added
+
+pub not_added : (old : Scene) (owner : List ℕ) (labels : List Label) (name : Bor (List ℕ)) (fault : AddFault) (told : RunFault) → told ≡ added_of name fault
+    → AddCause labels name.now fault → AddsNoDemo old owner labels name told
+not_added old owner labels name adding.NoMemory told e h = subst (λ f. AddsNoDemo old owner labels name f) (sym e) tt
+not_added old owner labels name adding.Taken told e h = subst (λ f. AddsNoDemo old owner labels name f) (sym e) (refl, h)
+not_added old owner labels name adding.TooMany told e h = subst (λ f. AddsNoDemo old owner labels name f) (sym e) (refl, h.1)
+
+-- ---- the list that is asked, in an engine that has no source
+
+pub no_list : (old : Scene) (o : Option (Bor (List ℕ))) → ((x : Bor (List ℕ)) → o ≡ Some x → ⊥) → HasListAsked old (option_map (λ s. s.now) o) old
+no_list old None none = refl
+no_list old (Some x) none = absurd (none x refl)
+
+pub no_label : (labels : List Label) (o : Option (Bor (List ℕ))) → labels ≡ [] → ((x : Bor (List ℕ)) → o ≡ Some x → ⊥) → labels ≡ labels_before (option_map (λ s. s.now) o)
+no_label labels None e none = e
+no_label labels (Some x) e none = absurd (none x refl)
+
+pub one_list : (old new : Scene) (o : Option (Bor (List ℕ))) (name : Bor (List ℕ)) → o ≡ Some name → HasList old name.now new → HasListAsked old (option_map (λ s. s.now) o) new
+one_list old new o name is has = subst (λ p. HasListAsked old (option_map (λ s. s.now) p) new) (sym is) has
+
+pub one_label : (labels new : List Label) (o : Option (Bor (List ℕ))) (name : Bor (List ℕ)) → labels ≡ [] → o ≡ Some name → new ≡ labels ++ list_label name.now ∷ []
+    → new ≡ labels_before (option_map (λ s. s.now) o)
+one_label labels new o name none is added =
+    subst (λ p. new ≡ labels_before (option_map (λ s. s.now) p)) (sym is) (added ∙ ap (λ ls. ls ++ list_label name.now ∷ []) none)
+
+nothing_named : (ls : List Label) (name : List ℕ) → HasSource ls name → ls ≡ [] → ⊥
+nothing_named [] name s e = let no : None ≡ Some s.1.0 = s.1.1 in absurd cc
+nothing_named (l ∷ ls) name s e = cc
+
+not_many : (ls : List Label) → length ls ≡ 64 → ls ≡ [] → ⊥
+not_many [] n e = cc
+not_many (l ∷ ls) n e = cc
+
+-- it is not added for want of memory alone
+pub list_needs_memory : (labels : List Label) (name : Bor (List ℕ)) (fault : RunFault) → labels ≡ []
+    → (why : AddFault) × (fault ≡ added_of name why) × AddCause labels name.now why → fault ≡ faults.NoMemory
+list_needs_memory labels name fault none (adding.NoMemory, e, h) = e
+list_needs_memory labels name fault none (adding.Taken, e, h) = absurd (nothing_named labels name.now h none)
+list_needs_memory labels name fault none (adding.TooMany, e, h) = absurd (not_many labels h.1 none)
+
+-- ---- the first engine
+
+pub first_made : (honest : Bool) (owner : List ℕ) (list : Option (List ℕ)) (places : List Place) (old listed before first : Scene) → old ≡ empty_scene owner
+    → HasListAsked old list listed → HasPlaces honest listed places before → IsSetUp before owner list first → IsFirst honest owner list places first
+first_made honest owner list places old listed before first empty has_list has_places set = record {
+  before = before;
+  has_sources = record { listed = listed; has_list = subst (λ s. HasListAsked s list listed) empty has_list; has_places = has_places };
+  is_set_up = set;
+}
+
+-- no source fails in another way than by what it is opened as, by its name, by too many, or by want of memory
+no_other : (fault : RunFault) → ((labels : List Label) (f : Place) → IsNotAdded labels f fault → ⊥) → (labels : List Label) (fs : List Place) → AreNotAdded labels fs fault → ⊥
+no_other fault none labels [] h = h
+no_other fault none labels (f ∷ fs) (inl h) = none labels f h
+no_other fault none labels (f ∷ fs) (inr h) = no_other fault none (labels ++ place_label f ∷ []) fs h.1
+
+pub no_memory : (honest : Bool) (asked : AskedRun) (fault : RunFault) → fault ≡ faults.NoMemory → HasNoFirst honest asked fault
+no_memory honest asked fault e = subst (HasNoFirst honest asked) (sym e) tt
+
+pub places_fail : (honest : Bool) (asked : AskedRun) (labels : List Label) (fault : RunFault) → labels ≡ labels_before (list_asked asked) → AreNotAdded labels (places_asked asked) fault
+    → HasNoFirst honest asked fault
+places_fail honest asked labels fault e h = by fault (subst (λ ls. AreNotAdded ls (places_asked asked) fault) e h)
+  where
+    by : (f : RunFault) → AreNotAdded (labels_before (list_asked asked)) (places_asked asked) f → HasNoFirst honest asked f
+    by faults.NoMemory p = tt
+    by (faults.NameTaken told) p = p
+    by (faults.TooManySources told) p = p
+    by (faults.CannotOpen told) p = inl p
+    by faults.Read p = no_other faults.Read (λ ls f q. q) _ _ p
+    by faults.Write p = no_other faults.Write (λ ls f q. q) _ _ p
+    by faults.TooManyReads p = no_other faults.TooManyReads (λ ls f q. q) _ _ p
+    by faults.ProtocolViolation p = no_other faults.ProtocolViolation (λ ls f q. q) _ _ p
+    by (faults.CannotReadInit told) p = no_other (faults.CannotReadInit told) (λ ls f q. q) _ _ p
+    by faults.InitNotText p = no_other faults.InitNotText (λ ls f q. q) _ _ p
+    by (faults.InitLine number cause) p = no_other (faults.InitLine number cause) (λ ls f q. q) _ _ p
+
+pub places_fail_as : (honest : Bool) (asked : AskedRun) (labels : List Label) (fs : List Place) (fault : RunFault) → fs ≡ places_asked asked → labels ≡ labels_before (list_asked asked)
+    → AreNotAdded labels fs fault → HasNoFirst honest asked fault
+places_fail_as honest asked labels fs fault is e h = places_fail honest asked labels fault e (subst (λ l. AreNotAdded labels l fault) is h)
+
+pub adds_as : (honest : Bool) (old new : Shown) (fs gs : List Place) → fs ≡ gs → AddsPlaces honest old fs new → AddsPlaces honest old gs new
+adds_as honest old new fs gs is adds = subst (λ l. AddsPlaces honest old l new) is adds
+
+pub set_up_fails : (honest : Bool) (asked : AskedRun) (old listed before : Scene) (fault : RunFault) → old ≡ empty_scene asked.owner.now → HasListAsked old (list_asked asked) listed
+    → HasPlaces honest listed (places_asked asked) before → SetUpFails before asked.owner.now asked.list fault → HasNoFirst honest asked fault
+set_up_fails honest asked old listed before faults.NoMemory empty l fs h = tt
+set_up_fails honest asked old listed before (faults.CannotOpen told) empty l fs h =
+    inr (h.0, (before, record { listed = listed; has_list = subst (λ s. HasListAsked s (list_asked asked) listed) empty l; has_places = fs }, h.1))
+set_up_fails honest asked old listed before (faults.NameTaken told) empty l fs h = absurd h
+set_up_fails honest asked old listed before (faults.TooManySources told) empty l fs h = absurd h
+set_up_fails honest asked old listed before faults.Read empty l fs h = h
+set_up_fails honest asked old listed before faults.Write empty l fs h = h
+set_up_fails honest asked old listed before faults.TooManyReads empty l fs h = h
+set_up_fails honest asked old listed before faults.ProtocolViolation empty l fs h = h
+set_up_fails honest asked old listed before (faults.CannotReadInit told) empty l fs h = h
+set_up_fails honest asked old listed before faults.InitNotText empty l fs h = h
+set_up_fails honest asked old listed before (faults.InitLine number cause) empty l fs h = h
+
+-- the list is set up, or none is asked
+pub set_up_none : (list : Option (Bor (List ℕ))) (old : Scene) (owner : List ℕ) → ((x : Bor (List ℕ)) → list ≡ Some x → ⊥) → IsSetUp old owner (option_map (λ s. s.now) list) old
+set_up_none None old owner none = refl
+set_up_none (Some x) old owner none = absurd (none x refl)
+
+pub set_up_done : (list : Option (Bor (List ℕ))) (name : Bor (List ℕ)) (old new : Scene) (owner script : List ℕ) (count : ℕ) (came : Result ℕ ScriptFault) → list ≡ Some name
+    → script ≡ setup_script name.now → came ≡ Ok count → Replays SceneSteps SceneCloses old owner script came new → IsSetUp old owner (option_map (λ s. s.now) list) new
+set_up_done list name old new owner script count came is text e replays =
+    subst (λ p. IsSetUp old owner (option_map (λ s. s.now) p) new) (sym is)
+    (count, subst (λ r. Replays SceneSteps SceneCloses old owner (setup_script name.now) r new) e (subst (λ s. Replays SceneSteps SceneCloses old owner s came new) text replays))
+
+pub set_up_refused : (name : Bor (List ℕ)) (old new : Scene) (owner script : List ℕ) (why : ScriptFault) (came : Result ℕ ScriptFault)
+    → script ≡ setup_script name.now → came ≡ Err why → why ≢ scripts.NoMemory → Replays SceneSteps SceneCloses old owner script came new → IsNotSetUp old owner name.now
+set_up_refused name old new owner script why came text e other replays =
+    (why, other, (new, subst (λ r. Replays SceneSteps SceneCloses old owner (setup_script name.now) r new) e (subst (λ s. Replays SceneSteps SceneCloses old owner s came new) text replays)))

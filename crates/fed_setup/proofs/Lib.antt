@@ -1,0 +1,2 @@
+pub mod FirstEngines
+pub mod Begun

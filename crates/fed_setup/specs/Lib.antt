@@ -1,0 +1,3 @@
+pub mod Demo
+pub mod Setup
+pub mod Told

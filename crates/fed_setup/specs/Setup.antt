@@ -1,0 +1,271 @@
+-- What a program begins with: the demo list, folders and databases as sources, the set-up of the list by a script, and the replay of its
+-- init file. Of databases in files all is said by whether their store is honest: always returns what was written.
+use Rattle.std.specs.Prelude.{◌≡◌, ◌≢◌, ◌<◌, ◌⊎◌, ℕ, Bool, true, List, [], ◌∷◌, ◌++◌, length}
+use Rattle.std.specs.Prelude.{Option, Some, None, option_map, Result, Ok, Err}
+use Rattle.std.specs.Borrow.{Bor}
+use Rattle.fdw_api.specs.State.{BoxState}
+use Rattle.med_catalog.specs.declared.kind.SourceKind.TheVariants as kinds
+use Rattle.med_world.specs.Adding.{HasSource}
+use Rattle.med_world.specs.Engine.{Label, Shown, Agrees}
+use Rattle.med_world.specs.World.{World, empty_world, with_source}
+use Rattle.blob_store.specs.Shelves.{nothing_known}
+use Rattle.list_wrapper.specs.Lists.{IsNewList}
+use Rattle.csv_wrapper.specs.CsvBoxes.{IsNewCsv}
+use Rattle.jsonl_wrapper.specs.Boxes.{IsNewJsonl}
+use Rattle.session_wire.specs.Worlds.{Scene, SceneSteps}
+use Rattle.fed_replay.specs.Replays.{Replays}
+use Rattle.fed_replay.specs.Engines.{SceneCloses}
+use Rattle.fed_replay.specs.declared.script.ScriptFault.{ScriptFault}
+use Rattle.fed_replay.specs.declared.script.ScriptFault.TheVariants as scripts
+use Rattle.fed_setup.specs.Demo.{demo_list, setup_script}
+use Rattle.source_kinds.specs.Databases.{IsNewDatabase}
+use Rattle.fed_words.specs.Places.{Place, source_kind, are_honest, is_honest_place}
+use Rattle.fed_setup.specs.Told.{Came, replay_told}
+use Rattle.fed_words.specs.Words.{places_asked}
+use Rattle.fed_words.specs.declared.places.PlaceKind.{PlaceKind}
+use Rattle.fed_words.specs.declared.places.PlaceKind.TheVariants.{Csv, JsonLines, Sqlite}
+use Rattle.fed_words.specs.declared.words.AskedRun.{AskedRun}
+use Rattle.fed_setup.specs.declared.told.RunFault.{RunFault}
+use Rattle.fed_setup.specs.declared.told.RunFault.TheVariants as faults
+
+-- a world over the boxes that an engine shows
+abbrev pub over : Shown → World → Scene
+over e w = record { world = w; boxes = e.boxes }
+
+-- where every program of this owner begins: no object, no source, no session
+abbrev pub empty_scene : List ℕ → Scene
+empty_scene owner = record { world = empty_world owner; boxes = [] }
+
+-- The source of this name is a new demo list that is free, and its box stands last. Nothing was done in it: no scan was begun, and no
+-- fault, row or ticket is counted.
+pub record HasList (old : Scene) (name : List ℕ) (new : Scene) : Type 0 where
+  pub list : BoxState
+  pub is_demo : IsNewList list demo_list
+  pub world : new.world ≡ with_source old.world name kinds.List list.nature.kind list.content.holdings
+  pub boxes : new.boxes ≡ old.boxes ++ Some list ∷ []
+
+-- the list is the source of this name, and then the owner's replay of the set-up script comes to this, and leads there
+pub record SetsUp (old : Scene) (owner name : List ℕ) (result : Result ℕ ScriptFault) (new : Scene) : Type 0 where
+  pub listed : Scene
+  pub has_list : HasList old name listed
+  pub replays : Replays SceneSteps SceneCloses listed owner (setup_script name) result new
+
+-- every line of it is done
+abbrev pub HasDemo : Scene → List ℕ → List ℕ → Scene → Type 0
+HasDemo old owner name new = (count : ℕ) × SetsUp old owner name (Ok count) new
+
+-- a line is refused, and not for want of memory
+abbrev pub LacksDemo : Scene → List ℕ → List ℕ → Type 0
+LacksDemo old owner name = (why : ScriptFault) × (why ≢ scripts.NoMemory) × ((new : Scene) × SetsUp old owner name (Err why) new)
+
+-- what stands at a path as a new source: nothing is known of what a folder holds, or a database in a file; nothing is bound, live or
+-- staged, and nothing is counted
+abbrev pub IsNewAt : Bool → PlaceKind → List ℕ → BoxState → Type 0
+IsNewAt honest Csv path s = IsNewCsv s (nothing_known 0)
+IsNewAt honest JsonLines path s = IsNewJsonl s (nothing_known 0)
+IsNewAt honest Sqlite path s = IsNewDatabase honest path s
+
+abbrev pub IsNewPlace : Bool → Place → BoxState → Type 0
+IsNewPlace honest place s = IsNewAt honest place.kind place.path s
+
+-- the source of this name is what stands at this place, which is free, and its box stands last
+pub record HasPlace (honest : Bool) (old : Scene) (place : Place) (new : Scene) : Type 0 where
+  pub box : BoxState
+  pub is_new : IsNewPlace honest place box
+  pub world : new.world ≡ with_source old.world place.name (source_kind place.kind) box.nature.kind box.content.holdings
+  pub boxes : new.boxes ≡ old.boxes ++ Some box ∷ []
+
+-- each of these is, in order
+abbrev pub HasPlaces : Bool → Scene → List Place → Scene → Type 0
+HasPlaces honest old [] new = new ≡ old
+HasPlaces honest old (f ∷ fs) new = (mid : Scene) × HasPlace honest old f mid × HasPlaces honest mid fs new
+
+-- the list is, if one is asked
+abbrev pub HasListAsked : Scene → Option (List ℕ) → Scene → Type 0
+HasListAsked old None new = new ≡ old
+HasListAsked old (Some name) new = HasList old name new
+
+-- the list is, if one is asked, and then the folders and databases are
+pub record HasSources (honest : Bool) (old : Scene) (list : Option (List ℕ)) (places : List Place) (new : Scene) : Type 0 where
+  pub listed : Scene
+  pub has_list : HasListAsked old list listed
+  pub has_places : HasPlaces honest listed places new
+
+-- the owner's replay of the set-up of the list, if one is asked, leads there, and every line of it is done
+abbrev pub IsSetUp : Scene → List ℕ → Option (List ℕ) → Scene → Type 0
+IsSetUp old owner None new = new ≡ old
+IsSetUp old owner (Some name) new = (count : ℕ) × Replays SceneSteps SceneCloses old owner (setup_script name) (Ok count) new
+
+-- a line of the set-up of the list of this name is refused, and not for want of memory
+abbrev pub IsNotSetUp : Scene → List ℕ → List ℕ → Type 0
+IsNotSetUp old owner name =
+    (why : ScriptFault) × (why ≢ scripts.NoMemory)
+    × ((new : Scene) × Replays SceneSteps SceneCloses old owner (setup_script name) (Err why) new)
+
+-- What a program of this owner begins with: from nothing at all the demo list as the source of this name, if one is asked, and these
+-- folders and databases as sources; and then the set-up of the list.
+pub record IsFirst (honest : Bool) (owner : List ℕ) (list : Option (List ℕ)) (places : List Place) (first : Scene) : Type 0 where
+  pub before : Scene
+  pub has_sources : HasSources honest (empty_scene owner) list places before
+  pub is_set_up : IsSetUp before owner list first
+
+-- why the list, if one is asked, is not set up from here as this owner: memory was refused, or a line of it
+abbrev pub SetUpFails : Scene → List ℕ → Option (Bor (List ℕ)) → RunFault → Type 0
+SetUpFails old owner list faults.NoMemory = Unit {0}
+SetUpFails old owner list (faults.CannotOpen told) = (list ≡ Some told) × IsNotSetUp old owner told.now
+SetUpFails old owner list (faults.NameTaken told) = ⊥
+SetUpFails old owner list (faults.TooManySources told) = ⊥
+SetUpFails old owner list faults.Read = ⊥
+SetUpFails old owner list faults.Write = ⊥
+SetUpFails old owner list faults.TooManyReads = ⊥
+SetUpFails old owner list faults.ProtocolViolation = ⊥
+SetUpFails old owner list (faults.CannotReadInit told) = ⊥
+SetUpFails old owner list faults.InitNotText = ⊥
+SetUpFails old owner list (faults.InitLine number cause) = ⊥
+
+-- how an engine labels the list, and what stands at a place
+abbrev pub list_label : List ℕ → Label
+list_label name = record { name = name; kind = kinds.List }
+
+abbrev pub place_label : Place → Label
+place_label f = record { name = f.name; kind = source_kind f.kind }
+
+-- the list alone, if one is asked
+abbrev pub labels_before : Option (List ℕ) → List Label
+labels_before None = []
+labels_before (Some name) = list_label name ∷ []
+
+-- Why this source is not added beside sources of these labels: its database cannot be opened; or its name is taken, or else there are 64;
+-- or memory was refused.
+abbrev pub IsNotAdded : List Label → Place → RunFault → Type 0
+IsNotAdded labels f faults.NoMemory = Unit {0}
+IsNotAdded labels f (faults.NameTaken told) = (told.now ≡ f.name) × HasSource labels f.name
+IsNotAdded labels f (faults.TooManySources told) = (told.now ≡ f.name) × (HasSource labels f.name → ⊥) × (length labels ≡ 64)
+IsNotAdded labels f (faults.CannotOpen told) = (told.now ≡ f.name) × (f.kind ≡ Sqlite)
+IsNotAdded labels f faults.Read = ⊥
+IsNotAdded labels f faults.Write = ⊥
+IsNotAdded labels f faults.TooManyReads = ⊥
+IsNotAdded labels f faults.ProtocolViolation = ⊥
+IsNotAdded labels f (faults.CannotReadInit told) = ⊥
+IsNotAdded labels f faults.InitNotText = ⊥
+IsNotAdded labels f (faults.InitLine number cause) = ⊥
+
+-- it can be added: its name is free, and there are fewer than 64
+abbrev pub CanBeAdded : List Label → Place → Type 0
+CanBeAdded labels f = (HasSource labels f.name → ⊥) × (length labels < 64)
+
+-- the first of these that is not added, in order, beside sources of these labels, and why: those before it are
+abbrev pub AreNotAdded : List Label → List Place → RunFault → Type 0
+AreNotAdded labels [] fault = ⊥
+AreNotAdded labels (f ∷ fs) fault = IsNotAdded labels f fault ⊎ (CanBeAdded labels f × AreNotAdded (labels ++ place_label f ∷ []) fs fault)
+
+-- Why the demo list is not added beside the sources of these names: its name is taken, or there are 64 sources; a line of its set-up is
+-- refused; or memory was refused. No fault of a stream is told.
+abbrev pub AddsNoDemo : Scene → List ℕ → List Label → Bor (List ℕ) → RunFault → Type 0
+AddsNoDemo old owner labels name faults.NoMemory = Unit {0}
+AddsNoDemo old owner labels name (faults.NameTaken told) = (told ≡ name) × HasSource labels name.now
+AddsNoDemo old owner labels name (faults.TooManySources told) = (told ≡ name) × (length labels ≡ 64)
+AddsNoDemo old owner labels name (faults.CannotOpen told) = (told ≡ name) × LacksDemo old owner name.now
+AddsNoDemo old owner labels name faults.Read = ⊥
+AddsNoDemo old owner labels name faults.Write = ⊥
+AddsNoDemo old owner labels name faults.TooManyReads = ⊥
+AddsNoDemo old owner labels name faults.ProtocolViolation = ⊥
+AddsNoDemo old owner labels name (faults.CannotReadInit told) = ⊥
+AddsNoDemo old owner labels name faults.InitNotText = ⊥
+AddsNoDemo old owner labels name (faults.InitLine number cause) = ⊥
+
+-- An engine that stands for a world stands for the one with this source besides, where it is honest: its box stands last, and it could be
+-- added.
+pub record AddsPlace (honest : Bool) (old : Shown) (place : Place) (new : Shown) : Type 0 where
+  pub labels : new.labels ≡ old.labels ++ place_label place ∷ []
+  pub could : CanBeAdded old.labels place
+  pub world : is_honest_place honest place ≡ true → (w : World) → Agrees old w
+      → (after : World) × HasPlace honest (over old w) place (over new after) × Agrees new after
+
+-- the same of each of these, in order
+pub record AddsPlaces (honest : Bool) (old : Shown) (places : List Place) (new : Shown) : Type 0 where
+  pub world : are_honest honest places ≡ true → (w : World) → Agrees old w
+      → (after : World) × HasPlaces honest (over old w) places (over new after) × Agrees new after
+
+-- the name of the list that is asked, if one is
+abbrev pub list_asked : AskedRun → Option (List ℕ)
+list_asked asked = option_map (λ s. s.now) asked.list
+
+-- the folders and databases that are asked are not all added beside the list, for this
+abbrev pub PlacesFail : AskedRun → RunFault → Type 0
+PlacesFail asked fault = AreNotAdded (labels_before (list_asked asked)) (places_asked asked) fault
+
+-- Why a program has no first world: memory was refused; a source is not added, and why; or, all sources being added, a line of
+-- the set-up of its list was refused.
+abbrev pub HasNoFirst : Bool → AskedRun → RunFault → Type 0
+HasNoFirst honest asked faults.NoMemory = Unit {0}
+HasNoFirst honest asked (faults.NameTaken told) = PlacesFail asked (faults.NameTaken told)
+HasNoFirst honest asked (faults.TooManySources told) = PlacesFail asked (faults.TooManySources told)
+HasNoFirst honest asked (faults.CannotOpen told) =
+    PlacesFail asked (faults.CannotOpen told)
+    ⊎ ((asked.list ≡ Some told)
+    × ((before : Scene) × HasSources honest (empty_scene asked.owner.now) (list_asked asked) (places_asked asked) before
+    × IsNotSetUp before asked.owner.now told.now))
+HasNoFirst honest asked faults.Read = ⊥
+HasNoFirst honest asked faults.Write = ⊥
+HasNoFirst honest asked faults.TooManyReads = ⊥
+HasNoFirst honest asked faults.ProtocolViolation = ⊥
+HasNoFirst honest asked (faults.CannotReadInit told) = ⊥
+HasNoFirst honest asked faults.InitNotText = ⊥
+HasNoFirst honest asked (faults.InitLine number cause) = ⊥
+
+-- bytes of an init file were read exactly where one is asked
+abbrev pub IsReadOf : Option (Bor (List ℕ)) → Option (List ℕ) → Type 0
+IsReadOf None None = Unit {0}
+IsReadOf (Some path) (Some script) = Unit {0}
+IsReadOf _ _ = ⊥
+
+-- why they could not be read: memory was refused, or the file could not be
+abbrev pub ReadsNot : Option (Bor (List ℕ)) → RunFault → Type 0
+ReadsNot init faults.NoMemory = Unit {0}
+ReadsNot init (faults.CannotReadInit told) = init ≡ Some told
+ReadsNot init _ = ⊥
+
+-- From here the owner's replay of the script of the init file, if there is one, comes to this, and leads there.
+abbrev pub ReplaysInit : Scene → List ℕ → Option (List ℕ) → Came → Scene → Type 0
+ReplaysInit first owner None came after = (came ≡ Ok tt) × (after ≡ first)
+ReplaysInit first owner (Some script) came after =
+    (result : Result ℕ ScriptFault) × (came ≡ replay_told result) × Replays SceneSteps SceneCloses first owner script result after
+
+-- What the beginning of a program comes to, and where it leads: its first world and boxes are made, and then its owner replays the script
+-- of its init file.
+pub record Begins (honest : Bool) (owner : List ℕ) (source : Option (List ℕ)) (places : List Place) (script : Option (List ℕ)) (came : Came)
+    (after : Scene) : Type 0 where
+  pub first : Scene
+  pub is_first : IsFirst honest owner source places first
+  pub replays : ReplaysInit first owner script came after
+
+-- A program begins for what is asked with an engine that shows this, and with this script: the engine stands for a world to which its
+-- beginning leads.
+pub record BeginsBy (honest : Bool) (asked : AskedRun) (script : Option (List ℕ)) (engine : Shown) : Type 0 where
+  pub world : World
+  pub begins : Begins honest asked.owner.now (list_asked asked) (places_asked asked) script (Ok tt) (over engine world)
+  pub agrees : Agrees engine world
+
+-- it comes to this for what is asked, with this script
+abbrev pub BeginsAsked : Bool → AskedRun → Option (List ℕ) → Came → Type 0
+BeginsAsked honest asked script came =
+    (after : Scene) × Begins honest asked.owner.now (list_asked asked) (places_asked asked) script came after
+
+-- Why a program does not begin, of whose init file these bytes were read: it has no first world, its init file could not be read once its
+-- first world was made, or its replay came to that fault.
+abbrev pub BeginsNot : Bool → AskedRun → Option (List ℕ) → RunFault → Type 0
+BeginsNot honest asked script faults.NoMemory = Unit {0}
+BeginsNot honest asked script (faults.NameTaken told) = HasNoFirst honest asked (faults.NameTaken told)
+BeginsNot honest asked script (faults.TooManySources told) = HasNoFirst honest asked (faults.TooManySources told)
+BeginsNot honest asked script (faults.CannotOpen told) = HasNoFirst honest asked (faults.CannotOpen told)
+BeginsNot honest asked script (faults.CannotReadInit told) =
+    (asked.init ≡ Some told) × (script ≡ None)
+    × ((first : Scene) × IsFirst honest asked.owner.now (list_asked asked) (places_asked asked) first)
+BeginsNot honest asked script faults.InitNotText = IsReadOf asked.init script × BeginsAsked honest asked script (Err faults.InitNotText)
+BeginsNot honest asked script (faults.InitLine number cause) =
+    IsReadOf asked.init script × BeginsAsked honest asked script (Err (faults.InitLine number cause))
+BeginsNot honest asked script faults.Read = ⊥
+BeginsNot honest asked script faults.Write = ⊥
+BeginsNot honest asked script faults.TooManyReads = ⊥
+BeginsNot honest asked script faults.ProtocolViolation = ⊥

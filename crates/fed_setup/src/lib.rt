@@ -1,0 +1,7 @@
+//! How an engine begins.
+#![tactic(auto)]
+
+pub mod demo;
+pub mod init;
+pub mod program;
+pub mod told;
