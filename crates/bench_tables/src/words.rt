@@ -1,7 +1,7 @@
 //! The words of the program.
 ghost use Rattle.std.specs.Prelude.{IfSome, IfNone, map};
 ghost use Rattle.bench_tables.specs.Words.{Asks};
-ghost use Rattle.bench_tables.specs.declared.words.AskedBench.{Asked as Meant};
+ghost use Rattle.bench_tables.specs.declared.words.AskedBench.{AskedBench as Meant};
 
 use std::convert::AsStr;
 
