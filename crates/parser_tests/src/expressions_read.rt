@@ -295,7 +295,7 @@ fn trees(rt: HostRuntime) -> Result<(), Fail> {
     assert_rows::<Tree>(
         rt.alloc(),
         &rt,
-        "1 - 2 - 3 * 4 => Binary(Sub, Binary(Sub, Number(1), Number(2)), Binary(Mul, Number(3), Number(4)))\n\
+        "1 - 2 - 3 * 4 => Binary(Subtract, Binary(Subtract, Number(1), Number(2)), Binary(Multiply, Number(3), Number(4)))\n\
         not a = b or c or d => Chain(Or, Not(Compare(Equal, Column(None, \"a\"), Column(None, \"b\"))), [Column(None, \"c\"), Column(None, \"d\")])\n\
         count(*) => CallAll(\"count\")\n\
         now() => Call(\"now\", [])\n\
