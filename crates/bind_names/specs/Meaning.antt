@@ -5,18 +5,10 @@ use Rattle.std.specs.List.{list_any}
 use Rattle.med_value.specs.Column.{Column}
 use Rattle.med_value.specs.Datum.{NoValue, Whole, Chars, Logic}
 use Rattle.med_syntax.specs.Tree.{Name}
-use Rattle.med_syntax.specs.declared.expr.Operation.{Operation as WrittenOperation}
-use Rattle.med_syntax.specs.declared.expr.Operation.TheVariants as arithmetic
-use Rattle.med_syntax.specs.declared.expr.Status.{Status as WrittenStatus}
-use Rattle.med_syntax.specs.declared.expr.Status.TheVariants as written
 use Rattle.med_syntax.specs.declared.expr.Joint.{Joint}
 use Rattle.med_syntax.specs.declared.expr.Joint.TheVariants.{Or, And}
 use Rattle.med_syntax.specs.ExprTree.{ExprTree, ExprTrees}
 use Rattle.med_syntax.specs.ExprTree as w
-use Rattle.tri_expr.specs.declared.expr.Operation.{Operation}
-use Rattle.tri_expr.specs.declared.expr.Operation.TheVariants.{Add, Subtract, Multiply, Divide, Remainder}
-use Rattle.tri_expr.specs.declared.expr.Status.{Status}
-use Rattle.tri_expr.specs.declared.expr.Status.TheVariants as statuses
 use Rattle.tri_expr.specs.declared.expr.SetFunction.{SetFunction}
 use Rattle.tri_expr.specs.declared.expr.SetFunction.TheVariants.{Count, Sum, Min, Max}
 use Rattle.med_query.specs.Query.{Direction}
@@ -26,19 +18,6 @@ use Rattle.bind_names.specs.Aggregates.{has_aggregate}
 use Rattle.tri_expr.specs.Tree.{Tree, Trees, conjunct_trees, column, literal, compare, compute, negate, all_of, some_of, opposite, asks, between, within, matches, parenthesised, count_rows, aggregate, none, part}
 use Rattle.med_syntax.specs.QueryTree.{ItemTree, all, all_of as all_of_entry, value, JoinTree, inner_join, left_join, cross_join, ChainTree, GroupTree, KeyTree, LimitTree, no_limit, rows, SelectTree, StatementTree, select}
 use Rattle.bind_names.specs.Scope.{TableShape, Scope, is_meant, candidates, joined_entry, chain_entries, entry_columns, entry_shape, from_scope, from_places}
-
-abbrev pub operation_of : WrittenOperation → Operation
-operation_of arithmetic.Add = Add
-operation_of arithmetic.Subtract = Subtract
-operation_of arithmetic.Multiply = Multiply
-operation_of arithmetic.Divide = Divide
-operation_of arithmetic.Remainder = Remainder
-
-abbrev pub status_of : WrittenStatus → Status
-status_of written.Null = statuses.Null
-status_of written.True = statuses.True
-status_of written.False = statuses.False
-status_of written.Unknown = statuses.Unknown
 
 -- the one place that a name means; where a cause of names stands there is none, and the place says nothing
 abbrev pub one_place : List ℕ → ℕ
@@ -81,12 +60,12 @@ abbrev mutual
   resolved s (w.call f es) = aggregate_of (function_named f) (resolved_all s es)
   resolved s (w.paren e) = parenthesised (resolved s e)
   resolved s (w.minus e) = negate (resolved s e)
-  resolved s (w.binary op a b) = compute (operation_of op) (resolved s a) (resolved s b)
+  resolved s (w.binary op a b) = compute op (resolved s a) (resolved s b)
   resolved s (w.between neg e low high) = between neg (resolved s e) (resolved s low) (resolved s high)
   resolved s (w.among neg e first others) = within neg (resolved s e) (part (resolved s first) (resolved_all s others))
   resolved s (w.like neg e x) = matches neg (resolved s e) x
   resolved s (w.compare op a b) = compare op (resolved s a) (resolved s b)
-  resolved s (w.tested neg e t) = asks (status_of t) neg (resolved s e)
+  resolved s (w.tested neg e t) = asks t neg (resolved s e)
   resolved s (w.negation e) = opposite (resolved s e)
   resolved s (w.chain joint first others) = joined joint (part (resolved s first) (resolved_all s others))
 

@@ -7,7 +7,7 @@ bind_names::proofs::Causes::tells_memory, bind_names::proofs::Causes::tells_one,
 // no cause in either part
 bind_names::proofs::Causes::none_of_two))]
 
-ghost use Rattle.bind_names.specs.Meaning.{operation_of, status_of, joined, aggregate_of};
+ghost use Rattle.bind_names.specs.Meaning.{joined, aggregate_of};
 ghost use Rattle.bind_names.specs.Scope.{scope_of};
 ghost use Rattle.bind_names.specs.Telling.{Means};
 ghost use Rattle.bind_query.specs.Resolving.{Resolves, ResolvesBy, ResolvesAll, ResolvesBehind};
@@ -19,35 +19,10 @@ ghost use Rattle.tri_expr.specs.Tree.{tree, trees, literal, count_rows};
 
 use crate::numbers::{negative, number};
 use bind_names::{Visible, find_column, function_named};
-use med_syntax::{Expr as Written, Joint, Operation as WrittenOperation, Status as WrittenStatus};
-use med_value::{Cause, Comparison, Value};
+use med_syntax::{Expr as Written, Joint};
+use med_value::{Cause, Comparison, Operation, Value};
 use std::alloc::Global;
-use tri_expr::{Expr, Operation, SetFunction, Status};
-
-// The operation of an operator.
-fn operation(op: WrittenOperation) -> Operation
-    ensures { result ≡ operation_of op }
-{
-    match op {
-        WrittenOperation::Add => Operation::Add,
-        WrittenOperation::Subtract => Operation::Subtract,
-        WrittenOperation::Multiply => Operation::Multiply,
-        WrittenOperation::Divide => Operation::Divide,
-        WrittenOperation::Remainder => Operation::Remainder,
-    }
-}
-
-// The test of a status.
-fn test(status: WrittenStatus) -> Status
-    ensures { result ≡ status_of status }
-{
-    match status {
-        WrittenStatus::Null => Status::Null,
-        WrittenStatus::True => Status::True,
-        WrittenStatus::False => Status::False,
-        WrittenStatus::Unknown => Status::Unknown,
-    }
-}
+use tri_expr::{Expr, SetFunction};
 
 // The parts with AND or OR between them.
 fn chain(joint: Joint, parts: Vec<Expr>) -> Expr
@@ -167,7 +142,7 @@ fn compared(
 fn computed(
     alloc: Global,
     scope: &[Visible<'_>],
-    op: WrittenOperation,
+    op: Operation,
     a: &Written,
     b: &Written,
 ) -> Result<Expr, Cause>
@@ -175,7 +150,7 @@ fn computed(
 {
     let a = boxed(alloc, scope, a)?;
     let b = boxed(alloc, scope, b)?;
-    Ok(Expr::Compute(operation(op), a, b))
+    Ok(Expr::Compute(op, a, b))
 }
 
 // A call of this name with its parts resolved.
@@ -274,7 +249,7 @@ pub fn resolve(alloc: Global, scope: &[Visible<'_>], e: &Written) -> Result<Expr
         }
         Written::Compare(op, a, b) => compared(alloc, scope, *op, a, b),
         Written::Is(negated, e, status) => {
-            Ok(Expr::Is(test(*status), *negated, boxed(alloc, scope, e)?))
+            Ok(Expr::Is(*status, *negated, boxed(alloc, scope, e)?))
         }
         Written::Not(e) => Ok(Expr::Not(boxed(alloc, scope, e)?)),
         Written::Chain(joint, first, others) => chained(alloc, scope, *joint, first, others),

@@ -10,8 +10,8 @@ ghost use Rattle.med_syntax.specs.ExprView.{expr_tree, expr_trees};
 ghost use Rattle.std.specs.Prelude.{◌≡◌, ◌++◌, ◌∷◌, [], string_bytes};
 
 use bind_names::{Visible, column_kind, function_named};
-use med_syntax::{Expr as Written, Status};
-use med_value::{Cause, ColType};
+use med_syntax::Expr as Written;
+use med_value::{Cause, ColType, Status};
 use tri_expr::SetFunction;
 
 // Whether an operand of this type can stand where that one is asked.

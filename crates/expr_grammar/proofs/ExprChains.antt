@@ -3,8 +3,8 @@ use Rattle.std.proofs.Common.{◌≡◌, ℕ, zero, suc, ◌+◌, ◌≤◌, ◌
 use Rattle.std.specs.Prelude.{nat_le, Ok, Err, Option, Some, None}
 use Rattle.std.proofs.lemmas.Bool.{le-leb, lt-leb}
 use Rattle.std.proofs.lemmas.Bool.Decides.{leb_tells}
-use Rattle.med_syntax.specs.declared.expr.Operation.{Operation}
-use Rattle.med_syntax.specs.declared.expr.Operation.TheVariants.{Add, Subtract, Multiply, Divide, Remainder}
+use Rattle.med_value.specs.declared.operators.Operation.{Operation}
+use Rattle.med_value.specs.declared.operators.Operation.TheVariants.{Add, Subtract, Multiply, Divide, Remainder}
 use Rattle.med_syntax.specs.declared.expr.Joint.{Joint}
 use Rattle.med_syntax.specs.declared.expr.Joint.TheVariants.{Or, And}
 use Rattle.med_syntax.specs.Terminal.{Terminal}

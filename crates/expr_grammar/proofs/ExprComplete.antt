@@ -1,16 +1,16 @@
 -- What is spelled so is read so.
 use Rattle.std.proofs.Common.{◌≡◌, ℕ, zero, suc, ◌+◌, ◌≤◌, ◌<◌, inl, inr, Bool, true, false, List, [], ◌∷◌, ◌++◌, length, refl, sym, ◌∙◌, arith, append_assoc, append-nil}
 use Rattle.std.specs.Prelude.{Ok, Err, Some, None}
-use Rattle.med_syntax.specs.declared.expr.Operation.{Operation}
-use Rattle.med_syntax.specs.declared.expr.Operation.TheVariants.{Add, Subtract, Multiply, Divide, Remainder}
+use Rattle.med_value.specs.declared.operators.Operation.{Operation}
+use Rattle.med_value.specs.declared.operators.Operation.TheVariants.{Add, Subtract, Multiply, Divide, Remainder}
 use Rattle.med_value.specs.declared.order.Comparison.{Comparison}
 use Rattle.med_syntax.specs.declared.expr.Joint.TheVariants.{Or, And}
 use Rattle.med_syntax.specs.Terminal.{Terminal}
 use Rattle.med_syntax.specs.Terminal as t
 use Rattle.expr_grammar.specs.declared.refusal.Refusal.TheVariants.{TooHigh}
 use Rattle.med_syntax.specs.Tree.{Name}
-use Rattle.med_syntax.specs.declared.expr.Status.{Status}
-use Rattle.med_syntax.specs.declared.expr.Status.TheVariants as statuses
+use Rattle.med_value.specs.declared.operators.Status.{Status}
+use Rattle.med_value.specs.declared.operators.Status.TheVariants as statuses
 use Rattle.med_syntax.specs.ExprTree.{ExprTree, ExprTrees, num, negative, text, truth, null, column, call_all, call, paren, minus, binary, between, among, like, compare, tested, negation, chain, none, more, perhaps_not, status_terminal, binary_level, height, highest, level, Fits, AllFit, is_num, spelling, parts_spelling, spellings, IsExpr}
 use Rattle.expr_grammar.specs.ExprReading.{Parser, ◌>>=◌, within, Below, additive, multiplicative, is_comma, others_after, parts_after, call_after, named_after, primary_of, after_minus, signed_of, product_of, sum_of, list_after, bounds_after, range_after, range_of, compare_after, compare_of, is_after, is_of, negated_of, conjunction_of, whole_of, below, all_of}
 use Rattle.expr_grammar.proofs.ExprChains.{within_low, within_high, low_or_high, reach_of, reach, Takes, Completes, Ops, binary_high, binary_low, joint_low, left_takes, all_low, all_high, Marks, reach_others, others_take, chain_takes}

@@ -2,8 +2,8 @@
 use Rattle.std.proofs.Common.{◌≡◌, ℕ, zero, suc, ◌≤◌, inl, inr, Bool, true, false, cond, List, [], ◌∷◌, ◌++◌, length, refl, sym, ◌∙◌, ap, subst, arith, append_assoc, append-nil}
 use Rattle.std.specs.Prelude.{Result, Ok, Err, Option, Some, None}
 use Rattle.std.proofs.lemmas.Bool.Decides.{leb_tells}
-use Rattle.med_syntax.specs.declared.expr.Operation.{Operation}
-use Rattle.med_syntax.specs.declared.expr.Operation.TheVariants.{Add, Subtract, Multiply, Divide, Remainder}
+use Rattle.med_value.specs.declared.operators.Operation.{Operation}
+use Rattle.med_value.specs.declared.operators.Operation.TheVariants.{Add, Subtract, Multiply, Divide, Remainder}
 use Rattle.med_syntax.specs.declared.expr.Joint.{Joint}
 use Rattle.med_syntax.specs.declared.expr.Joint.TheVariants.{Or, And}
 use Rattle.med_syntax.specs.Terminal.{Terminal}
@@ -11,8 +11,8 @@ use Rattle.med_syntax.specs.Terminal as t
 use Rattle.expr_grammar.specs.declared.refusal.Refusal.{Refusal}
 use Rattle.expr_grammar.specs.declared.refusal.Refusal.TheVariants.{Syntax, TooHigh}
 use Rattle.med_syntax.specs.Tree.{Name}
-use Rattle.med_syntax.specs.declared.expr.Status.{Status}
-use Rattle.med_syntax.specs.declared.expr.Status.TheVariants as statuses
+use Rattle.med_value.specs.declared.operators.Status.{Status}
+use Rattle.med_value.specs.declared.operators.Status.TheVariants as statuses
 use Rattle.med_syntax.specs.ExprTree.{ExprTree, ExprTrees, num, negative, text, truth, null, column, call_all, call, paren, minus, binary, between, among, like, compare, tested, negation, chain, none, more, perhaps_not, status_terminal, binary_level, joint_level, height, highest, level, Fits, AllFit, is_num, spelling, spellings, IsExpr}
 use Rattle.expr_grammar.specs.ExprReading.{Read, Reads, Parser, ◌>>=◌, within, Below, choose, additive, multiplicative, is_comma, is_joint, status_of, left_more, left_of, others_after, chained, chain_of, closed, column_after, closed_call_all, closed_call, parts_after, call_after, named_after, primary_of, after_minus, signed_of, product_of, sum_of, closed_in, list_after, high_after, bounds_after, test_after, range_after, range_of, compare_after, compare_of, status_after, is_after, is_of, negated_of, conjunction_of, whole_of, below, ended, all_of}
 

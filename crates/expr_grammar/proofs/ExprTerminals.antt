@@ -6,7 +6,7 @@ use Rattle.std.proofs.lemmas.Slice.Eq.{bytes_eq-Decides}
 use Rattle.med_lexer.specs.Lexemes.{Shape, word, quoted, literal, number, mark}
 use Rattle.med_syntax.specs.declared.expr.Joint.{Joint}
 use Rattle.med_syntax.specs.declared.expr.Joint.TheVariants.{And}
-use Rattle.med_syntax.specs.declared.expr.Status.TheVariants as statuses
+use Rattle.med_value.specs.declared.operators.Status.TheVariants as statuses
 use Rattle.expr_grammar.specs.declared.symbols.Symbol.{Symbol}
 use Rattle.med_syntax.specs.Terminal.{Terminal, terminal_of, word_terminal, IsTerminal, AreTerminals}
 use Rattle.med_syntax.specs.Terminal as t

@@ -1,7 +1,7 @@
 -- The levels that one function of the code reads, as it is told.
 use Rattle.std.specs.Prelude.{ℕ, Bool, cond, List, [], ◌∷◌, Option, Some, None, option_map}
-use Rattle.med_syntax.specs.declared.expr.Operation.{Operation}
-use Rattle.med_syntax.specs.declared.expr.Operation.TheVariants.{Subtract}
+use Rattle.med_value.specs.declared.operators.Operation.{Operation}
+use Rattle.med_value.specs.declared.operators.Operation.TheVariants.{Subtract}
 use Rattle.med_syntax.specs.declared.expr.Joint.{Joint}
 use Rattle.med_syntax.specs.declared.expr.Joint.TheVariants.{Or, And}
 use Rattle.expr_grammar.specs.declared.symbols.Separator.{Separator}

@@ -11,8 +11,8 @@ ghost use Rattle.expr_grammar.specs.View.{shapes_of};
 
 use crate::symbols::Symbol;
 use med_lexer::{Kind, Mark, Token, number_value};
-use med_syntax::{Joint, Operation, is_reserved};
-use med_value::Comparison;
+use med_syntax::{Joint, is_reserved};
+use med_value::{Comparison, Operation};
 use std::alloc::{AllocError, Global};
 
 /// The symbol of a mark.

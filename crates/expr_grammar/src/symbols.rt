@@ -5,8 +5,8 @@ ghost use Rattle.expr_grammar.specs.ExprReading as reading;
 ghost use Rattle.expr_grammar.specs.ExprSteps.{behind_minus_of, behind_of, operator_of};
 ghost use Rattle.expr_grammar.specs.SymbolView.{terminal_of_symbol, terminals_of};
 
-use med_syntax::{Joint, Operation, Status};
-use med_value::Comparison;
+use med_syntax::Joint;
+use med_value::{Comparison, Operation, Status};
 
 /// A terminal symbol of the grammar.
 #[derive(Debug, Drop)]

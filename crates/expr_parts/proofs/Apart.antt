@@ -5,8 +5,8 @@ use Rattle.std.specs.declared.alloc.Global.{Global}
 use Rattle.std.specs.declared.string.String.{String}
 use Rattle.med_value.specs.declared.value.Value.{Value}
 use Rattle.med_value.specs.declared.order.Comparison.{Comparison}
-use Rattle.tri_expr.specs.declared.expr.Operation.{Operation}
-use Rattle.tri_expr.specs.declared.expr.Status.{Status}
+use Rattle.med_value.specs.declared.operators.Operation.{Operation}
+use Rattle.med_value.specs.declared.operators.Status.{Status}
 use Rattle.tri_expr.specs.declared.expr.SetFunction.{SetFunction}
 use Rattle.tri_expr.specs.declared.expr.Expr.{Expr}
 use Rattle.tri_expr.specs.declared.expr.Expr.TheOpen as layer

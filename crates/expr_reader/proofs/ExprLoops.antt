@@ -1,8 +1,8 @@
 -- The loops of the parser.
 use Rattle.std.proofs.Common.{◌≡◌, ℕ, zero, suc, ◌≤◌, ◌<◌, Bool, true, false, cond, List, [], ◌∷◌, ◌++◌, length, refl, sym, ◌∙◌, ap, subst, arith, max, length-append}
 use Rattle.std.specs.Prelude.{nat_le, Result, Ok, Err, Option, Some, None}
-use Rattle.med_syntax.specs.declared.expr.Operation.{Operation}
-use Rattle.med_syntax.specs.declared.expr.Operation.TheVariants.{Subtract}
+use Rattle.med_value.specs.declared.operators.Operation.{Operation}
+use Rattle.med_value.specs.declared.operators.Operation.TheVariants.{Subtract}
 use Rattle.med_syntax.specs.declared.expr.Joint.{Joint}
 use Rattle.med_syntax.specs.declared.expr.Joint.TheVariants.{Or, And}
 use Rattle.med_syntax.specs.Terminal.{Terminal}

@@ -5,8 +5,8 @@ ghost use Rattle.std.specs.String.{string_bytes};
 ghost use Rattle.med_syntax.specs.ExprTree as spec;
 ghost use Rattle.med_syntax.specs.ExprView.{expr_tree, expr_trees};
 
-use med_syntax::{Expr, Joint, Operation, Status};
-use med_value::Comparison;
+use med_syntax::{Expr, Joint};
+use med_value::{Comparison, Operation, Status};
 use std::alloc::{AllocError, Global};
 
 /// A whole number.

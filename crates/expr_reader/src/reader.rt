@@ -18,8 +18,8 @@ use crate::build::{
 };
 use expr_grammar::refusal::{ReadFault, Refusal};
 use expr_grammar::symbols::{Level, Separator, Symbol, behind, behind_minus, operator, status};
-use med_syntax::{Expr, Joint, Operation};
-use med_value::Comparison;
+use med_syntax::{Expr, Joint};
+use med_value::{Comparison, Operation};
 use std::alloc::Global;
 
 /// An expression, its height, and the symbols behind it.

@@ -1,8 +1,8 @@
 //! Expressions from their steps, and the rows that they are over.
-use med_value::{Comparison, Row, Value};
+use med_value::{Comparison, Operation, Row, Status, Value};
 use std::alloc::Global;
 use std::test::Fail;
-use tri_expr::{Expr, Operation, SetFunction, Status};
+use tri_expr::{Expr, SetFunction};
 
 fn text(alloc: Global, s: &str) -> Result<Value, Fail> {
     Ok(Value::Text(s.to_string(alloc)?))

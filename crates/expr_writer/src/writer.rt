@@ -11,8 +11,8 @@ ghost use Rattle.med_syntax.specs.ExprTree.{spelling, spellings, parts_spelling,
 ghost use Rattle.expr_writer.specs.ExprPrinting.{Writes, fixed_terminal, shape_for};
 ghost use Rattle.med_syntax.specs.ExprView.{expr_tree, expr_trees};
 
-use med_syntax::{Expr, Joint, Operation, Status};
-use med_value::Comparison;
+use med_syntax::{Expr, Joint};
+use med_value::{Comparison, Operation, Status};
 use std::alloc::{AllocError, Global};
 
 /// A terminal symbol that is always written the same.

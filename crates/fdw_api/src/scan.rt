@@ -188,7 +188,7 @@ pub fn meets_taken(offered: &[Restriction], answers: &[Agree], row: &Row, params
 pub fn pick_cells(alloc: Global, row: &Row, wanted: &[usize]) -> Result<Row, NoMemory>
     ensures { IfOk result (λ r. tuple r ≡ pick wanted.now (tuple row.now)) }
 {
-    let mut cells = Vec::new(alloc);
+    let mut cells = Vec::with_capacity(alloc, wanted.len())?;
     for column in wanted {
         let value = match row.cells.get(*column) {
             Some(value) => value.copy(alloc)?,

@@ -7,8 +7,8 @@ use Rattle.med_value.specs.declared.cause.Cause.TheVariants.{UndefinedTable, Und
 use Rattle.med_value.specs.declared.value.ColType.{ColType}
 use Rattle.med_value.specs.declared.value.ColType.TheVariants.{Int, Text}
 use Rattle.med_syntax.specs.Tree.{Name}
-use Rattle.med_syntax.specs.declared.expr.Status.{Status}
-use Rattle.med_syntax.specs.declared.expr.Status.TheVariants as statuses
+use Rattle.med_value.specs.declared.operators.Status.{Status}
+use Rattle.med_value.specs.declared.operators.Status.TheVariants as statuses
 use Rattle.med_syntax.specs.ExprTree.{ExprTree, ExprTrees, num, negative, text, truth, null, column, call_all, call, paren, minus, binary, between, among, like, compare, tested, negation, chain, none, more}
 use Rattle.med_syntax.specs.QueryTree.{ItemTree, all, all_of, value, EntryTree, JoinTree, inner_join, left_join, cross_join, ChainTree, GroupTree, KeyTree, SelectTree, StatementTree, select}
 use Rattle.tri_expr.specs.declared.expr.SetFunction.{SetFunction}

@@ -6,8 +6,8 @@ use Rattle.std.specs.Ordering.{is_lt}
 use Rattle.med_value.specs.Datum.{Datum, NoValue, Whole, Chars, Logic, Tuple}
 use Rattle.tri_expr.specs.declared.expr.Fault.TheVariants.{Range, Zero}
 use Rattle.med_value.specs.declared.order.Comparison.TheVariants.{Equal, Apart, Above}
-use Rattle.tri_expr.specs.declared.expr.Operation.TheVariants.{Divide}
-use Rattle.tri_expr.specs.declared.expr.Status.TheVariants.{Null}
+use Rattle.med_value.specs.declared.operators.Operation.TheVariants.{Divide}
+use Rattle.med_value.specs.declared.operators.Status.TheVariants.{Null}
 use Rattle.tri_expr.specs.declared.expr.SetFunction.TheVariants.{Count, Sum}
 use Rattle.tri_expr.specs.Outcome.{Is, compared, computed, tested}
 use Rattle.tri_expr.specs.Aggregate.{aggregated}

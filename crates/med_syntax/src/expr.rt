@@ -1,21 +1,6 @@
 //! Expressions, as they are written.
 
-use med_value::Comparison;
-
-/// An operator between two numbers (SQL:2016, 6.29 <numeric value expression>).
-#[derive(Clone, Copy, Debug, PartialEq, Eq, Drop)]
-pub enum Operation {
-    /// `+`
-    Add,
-    /// `-`
-    Subtract,
-    /// `*`
-    Multiply,
-    /// `/`
-    Divide,
-    /// `%`
-    Remainder,
-}
+use med_value::{Comparison, Operation, Status};
 
 /// What joins conditions.
 #[derive(Clone, Copy, Debug, PartialEq, Eq, Drop)]
@@ -24,19 +9,6 @@ pub enum Joint {
     Or,
     /// `AND`
     And,
-}
-
-/// What `IS` asks for (SQL:2016, 8.8 <null predicate> and 6.39 <boolean test>).
-#[derive(Clone, Copy, Debug, PartialEq, Eq, Drop)]
-pub enum Status {
-    /// `NULL`
-    Null,
-    /// `TRUE`
-    True,
-    /// `FALSE`
-    False,
-    /// `UNKNOWN`
-    Unknown,
 }
 
 /// An expression, with each pair of its parentheses. A `bool` at the front of a test says whether it is written with `NOT`.

@@ -8,6 +8,6 @@ mod expr;
 mod statement;
 mod words;
 
-pub use expr::{Expr, Joint, Operation, Status};
+pub use expr::{Expr, Joint};
 pub use statement::{Chain, Entry, GroupColumn, Item, Join, Limit, OrderKey, Select, Statement};
 pub use words::is_reserved;

@@ -15,7 +15,9 @@ pub(crate) fn values_over(alloc: Global, parts: &[Expr], class: &[Row]) -> Resul
     ensures no_fault { IfOk result (λ _. fault_list (over (senses [] parts.now) (map tuple class.now)) ≡ []) }
     ensures told { TellsFault result (fault_list (over (senses [] parts.now) (map tuple class.now))) }
 {
-    let mut cells = Vec::new(alloc);
+    let Ok(mut cells) = Vec::with_capacity(alloc, parts.len()) else {
+        return Err(EvalFault::NoMemory);
+    };
     for part in parts {
         let v = match eval_class(alloc, part, class, &[]) {
             Ok(v) => v,

@@ -5,7 +5,7 @@ use Rattle.std.specs.Str.{bytes_eq}
 use Rattle.med_lexer.specs.Lexemes.{Shape}
 use Rattle.med_syntax.specs.declared.expr.Joint.{Joint}
 use Rattle.med_syntax.specs.declared.expr.Joint.TheVariants.{Or, And}
-use Rattle.med_syntax.specs.declared.expr.Status.TheVariants as statuses
+use Rattle.med_value.specs.declared.operators.Status.TheVariants as statuses
 use Rattle.query_grammar.specs.declared.query_symbols.Place.{Place}
 use Rattle.query_grammar.specs.declared.query_symbols.Place.TheVariants as p
 use Rattle.med_syntax.specs.Tree.{Name}

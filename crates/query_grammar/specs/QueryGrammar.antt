@@ -11,7 +11,7 @@
 -- A label is a name or any word. An AS belongs to the nearest item. NULLS, FIRST, LAST, ROW and ROWS are not reserved.
 use Rattle.std.specs.Prelude.{◌≡◌, ℕ, ◌⊎◌, Bool, true, false, List, [], ◌∷◌, ◌++◌, codes, Option, Some, None}
 use Rattle.med_lexer.specs.Lexemes.{Shape, Lexeme, Lexes}
-use Rattle.med_syntax.specs.declared.expr.Operation.TheVariants.{Multiply}
+use Rattle.med_value.specs.declared.operators.Operation.TheVariants.{Multiply}
 use Rattle.med_syntax.specs.Tree.{Name}
 use Rattle.expr_grammar.specs.Shapes.{shapes}
 use Rattle.med_syntax.specs.Terminal.{Terminal, word_terminal}

@@ -5,7 +5,7 @@ use Rattle.med_lexer.specs.declared.Mark.{Mark}
 use Rattle.med_lexer.specs.declared.Mark.TheVariants as marks
 use Rattle.med_lexer.specs.Lexemes.{Shape, word, quoted, literal, number, mark, Lexeme, Lexes}
 use Rattle.med_lexer.specs.Printing.{IsShape, AreShapes}
-use Rattle.med_syntax.specs.declared.expr.Operation.TheVariants.{Multiply}
+use Rattle.med_value.specs.declared.operators.Operation.TheVariants.{Multiply}
 use Rattle.med_syntax.specs.Tree.{Name}
 use Rattle.expr_grammar.specs.Shapes.{shapes}
 use Rattle.med_syntax.specs.Words.{is_reserved}

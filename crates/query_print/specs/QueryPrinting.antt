@@ -2,7 +2,7 @@
 -- each key, LIMIT before OFFSET, no optional word but these, and one space between tokens.
 use Rattle.std.specs.Prelude.{ℕ, Bool, true, false, List, [], ◌∷◌, ◌++◌, codes, Option, Some, None}
 use Rattle.med_lexer.specs.Printing.{printed}
-use Rattle.med_syntax.specs.declared.expr.Operation.TheVariants.{Multiply}
+use Rattle.med_value.specs.declared.operators.Operation.TheVariants.{Multiply}
 use Rattle.query_print.specs.declared.query_writer.Keyword.{Keyword}
 use Rattle.query_print.specs.declared.query_writer.Keyword.TheVariants as k
 use Rattle.med_syntax.specs.Tree.{Name}

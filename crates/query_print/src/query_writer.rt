@@ -21,10 +21,8 @@ ghost use Rattle.std.specs.String.{string_bytes};
 
 use crate::query_laws::printed_statement;
 use expr_writer::{Fixed, write, write_column, write_fixed, write_name, write_number};
-use med_syntax::{
-    Chain, Entry, Expr, GroupColumn, Item, Join, Limit, Operation, OrderKey, Select, Statement,
-};
-use med_value::NoMemory;
+use med_syntax::{Chain, Entry, Expr, GroupColumn, Item, Join, Limit, OrderKey, Select, Statement};
+use med_value::{NoMemory, Operation};
 use std::alloc::{AllocError, Global};
 
 /// A keyword that no expression has.

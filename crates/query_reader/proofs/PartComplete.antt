@@ -4,8 +4,8 @@ use Rattle.std.specs.Prelude.{nat_le, max, Result, Ok, Err, Option, Some, None}
 use Rattle.std.specs.Str.{bytes_eq}
 use Rattle.std.proofs.lemmas.Bool.{le-leb, lt-leb}
 use Rattle.std.proofs.lemmas.Slice.Eq.{bytes_eq-Decides}
-use Rattle.med_syntax.specs.declared.expr.Operation.{Operation}
-use Rattle.med_syntax.specs.declared.expr.Operation.TheVariants.{Add, Subtract, Multiply, Divide, Remainder}
+use Rattle.med_value.specs.declared.operators.Operation.{Operation}
+use Rattle.med_value.specs.declared.operators.Operation.TheVariants.{Add, Subtract, Multiply, Divide, Remainder}
 use Rattle.med_syntax.specs.declared.expr.Joint.{Joint}
 use Rattle.med_syntax.specs.declared.expr.Joint.TheVariants.{Or, And}
 use Rattle.expr_grammar.specs.declared.refusal.Refusal.{Refusal}

@@ -3,7 +3,7 @@ use Rattle.std.proofs.Common.{◌≡◌, ℕ, zero, suc, ◌≤◌, inl, inr, Bo
 use Rattle.std.specs.Prelude.{Result, Ok, Err, Option, Some, None}
 use Rattle.std.specs.Str.{bytes_eq}
 use Rattle.std.proofs.lemmas.Slice.Eq.{bytes_eq-Decides}
-use Rattle.med_syntax.specs.declared.expr.Operation.TheVariants.{Multiply}
+use Rattle.med_value.specs.declared.operators.Operation.TheVariants.{Multiply}
 use Rattle.med_syntax.specs.declared.expr.Joint.TheVariants.{Or, And}
 use Rattle.expr_grammar.specs.declared.refusal.Refusal.{Refusal}
 use Rattle.expr_grammar.specs.declared.refusal.Refusal.TheVariants.{Syntax}

@@ -1,7 +1,7 @@
 -- Reading statements by recursive descent, on lists of terminals, with room for the height of each expression.
 use Rattle.std.specs.Prelude.{ℕ, zero, suc, Bool, true, false, cond, nat_le, List, [], ◌∷◌, length, codes, Result, Ok, Err, Option, Some, None}
 use Rattle.std.specs.Str.{bytes_eq}
-use Rattle.med_syntax.specs.declared.expr.Operation.TheVariants.{Multiply}
+use Rattle.med_value.specs.declared.operators.Operation.TheVariants.{Multiply}
 use Rattle.expr_grammar.specs.declared.refusal.Refusal.{Refusal}
 use Rattle.expr_grammar.specs.declared.refusal.Refusal.TheVariants.{Syntax}
 use Rattle.expr_grammar.specs.declared.symbols.Separator.TheVariants.{Comma}

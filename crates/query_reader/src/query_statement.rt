@@ -15,7 +15,8 @@ use crate::query_source::chains;
 use expr_grammar::refusal::{ReadFault, Refusal};
 use expr_grammar::symbols::{Separator, Symbol, behind};
 use expr_reader::whole;
-use med_syntax::{Expr, Item, Joint, Operation, Select, Statement, is_reserved};
+use med_syntax::{Expr, Item, Joint, Select, Statement, is_reserved};
+use med_value::Operation;
 use std::alloc::Global;
 
 /// The symbols behind the keyword, where it comes first.

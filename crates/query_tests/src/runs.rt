@@ -20,11 +20,11 @@ use med_exec::law::running_is_held;
 use med_exec::{Run, ledger_at, plan_at, start};
 use med_planner::Plan;
 use med_query::{Select, is_safe_from};
-use med_value::{ColType, ColumnDef, Comparison, Row, TableNo, Value, row_text};
+use med_value::{ColType, ColumnDef, Comparison, Operation, Row, TableNo, Value, row_text};
 use pushdown::EntryScan;
 use std::alloc::Global;
 use std::test::Fail;
-use tri_expr::{Expr, Operation};
+use tri_expr::Expr;
 
 fn order(alloc: Global, number: i64, part: i64, quantity: i64) -> Result<Row, Fail>
     ensures { IfOk result (λ r. tuple r ≡ Whole number ∷ Whole part ∷ Whole quantity ∷ []) }

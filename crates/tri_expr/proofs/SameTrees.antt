@@ -10,12 +10,12 @@ use Rattle.med_value.specs.Order.{datum_cmp}
 use Rattle.med_value.proofs.OrderLemmas.{datum_cmp_equal}
 use Rattle.tri_expr.specs.declared.expr.SetFunction.{SetFunction}
 use Rattle.tri_expr.specs.declared.expr.SetFunction.TheVariants.{Count, Sum, Min, Max}
-use Rattle.tri_expr.specs.declared.expr.Operation.{Operation}
-use Rattle.tri_expr.specs.declared.expr.Operation.TheVariants.{Add, Subtract, Multiply, Divide, Remainder}
+use Rattle.med_value.specs.declared.operators.Operation.{Operation}
+use Rattle.med_value.specs.declared.operators.Operation.TheVariants.{Add, Subtract, Multiply, Divide, Remainder}
 use Rattle.med_value.specs.declared.order.Comparison.{Comparison}
 use Rattle.med_value.specs.declared.order.Comparison.TheVariants.{Equal, Apart, Below, AtMost, Above, AtLeast}
-use Rattle.tri_expr.specs.declared.expr.Status.{Status}
-use Rattle.tri_expr.specs.declared.expr.Status.TheVariants as statuses
+use Rattle.med_value.specs.declared.operators.Status.{Status}
+use Rattle.med_value.specs.declared.operators.Status.TheVariants as statuses
 use Rattle.tri_expr.specs.declared.expr.Expr.{Expr}
 use Rattle.tri_expr.specs.Lists.{datum_eq}
 use Rattle.tri_expr.specs.Tree.{Tree, column, parameter, literal, compare, compute, negate, all_of, some_of, opposite, asks, between, within, matches, parenthesised, count_rows, aggregate, Trees, none, part, trees, tree}

@@ -6,10 +6,10 @@ use Rattle.med_value.specs.declared.value.Value.{Value}
 use Rattle.med_value.specs.Datum.{Datum, NoValue, Whole, Chars, Logic, datum, is_text}
 use Rattle.med_value.specs.Order.{datum_cmp, holds}
 use Rattle.med_value.specs.declared.order.Comparison.{Comparison}
-use Rattle.tri_expr.specs.declared.expr.Operation.{Operation}
-use Rattle.tri_expr.specs.declared.expr.Operation.TheVariants.{Add, Subtract, Multiply, Divide, Remainder}
-use Rattle.tri_expr.specs.declared.expr.Status.{Status}
-use Rattle.tri_expr.specs.declared.expr.Status.TheVariants.{Null, True, False, Unknown}
+use Rattle.med_value.specs.declared.operators.Operation.{Operation}
+use Rattle.med_value.specs.declared.operators.Operation.TheVariants.{Add, Subtract, Multiply, Divide, Remainder}
+use Rattle.med_value.specs.declared.operators.Status.{Status}
+use Rattle.med_value.specs.declared.operators.Status.TheVariants.{Null, True, False, Unknown}
 use Rattle.tri_expr.specs.declared.expr.Fault.{Fault}
 use Rattle.tri_expr.specs.declared.expr.Fault.TheVariants.{Range, Zero}
 use Rattle.tri_expr.specs.declared.expr.EvalFault.{EvalFault}

@@ -6,8 +6,8 @@ use Rattle.tri_expr.specs.declared.expr.Expr.{Expr}
 use Rattle.tri_expr.specs.declared.expr.Expr.TheOpen as layer
 use Rattle.tri_expr.specs.declared.expr.Expr.TheFolds.{fold-Expr}
 use Rattle.med_value.specs.declared.order.Comparison.{Comparison}
-use Rattle.tri_expr.specs.declared.expr.Operation.{Operation}
-use Rattle.tri_expr.specs.declared.expr.Status.{Status}
+use Rattle.med_value.specs.declared.operators.Operation.{Operation}
+use Rattle.med_value.specs.declared.operators.Status.{Status}
 use Rattle.tri_expr.specs.declared.expr.SetFunction.{SetFunction}
 
 -- one case for each form; AND, OR and IN have their parts as a list

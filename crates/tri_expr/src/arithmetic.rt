@@ -1,11 +1,12 @@
 //! Exact arithmetic on 64-bit whole numbers.
 
-ghost use Rattle.tri_expr.specs.declared.expr.Operation.TheVariants.{Divide};
+ghost use Rattle.med_value.specs.declared.operators.Operation.TheVariants.{Divide};
 ghost use Rattle.tri_expr.specs.Outcome.{Outcome, computed, computed_numbers, computed_values, negated, negated_value};
 ghost use Rattle.tri_expr.specs.View.{seen, Sees};
 
-use crate::expr::{Fault, Operation};
+use crate::expr::Fault;
 use crate::view::View;
+use med_value::Operation;
 
 // Exact arithmetic on two whole numbers: a result out of range and a divisor of zero are faults.
 fn compute_numbers(op: Operation, a: i64, b: i64) -> Result<View<'static>, Fault>

@@ -181,12 +181,28 @@ fn look_chain<'a>(
 }
 
 /// The value of an expression over a class of rows, its text left where it is.
+///
+/// A leaf, which most parts of an expression are, is looked at here at once: what `look_parts` keeps of a form's parts takes time to
+/// set up on each row.
 #[cycle(look)]
 pub(crate) fn look<'a>(
     e: &'a Expr,
     class: &'a [Row],
     params: &'a [Value],
 ) -> Result<View<'a>, Fault>
+    ensures { Sees result (meaning (map datum params.now) e.now (map tuple class.now)) }
+{
+    match e {
+        Expr::Column(at) => Ok(shared(class, *at)),
+        Expr::Parameter(at) => Ok(cell(params, *at)),
+        Expr::Literal(v) => Ok(view_of(v)),
+        _ => look_parts(e, class, params),
+    }
+}
+
+// The value of an expression from those of its parts.
+#[cycle(look)]
+fn look_parts<'a>(e: &'a Expr, class: &'a [Row], params: &'a [Value]) -> Result<View<'a>, Fault>
     ensures { Sees result (meaning (map datum params.now) e.now (map tuple class.now)) }
 {
     match e {

@@ -4,36 +4,8 @@ ghost use Rattle.std.specs.Prelude.{◌≡◌};
 ghost use Rattle.tri_expr.specs.Told.{told_as};
 ghost use Rattle.tri_expr.specs.declared.expr.EvalFault.TheVariants.{NoMemory as Refused};
 
-use med_value::{Comparison, NoMemory, Value};
+use med_value::{Comparison, NoMemory, Operation, Status, Value};
 use thiserror::Error;
-
-/// An operator on two whole numbers (SQL standard, 6.32 <numeric value expression>; the remainder as in PostgreSQL).
-#[derive(Clone, Copy, Debug, PartialEq, Eq)]
-pub enum Operation {
-    /// `+`
-    Add,
-    /// `-`
-    Subtract,
-    /// `*`
-    Multiply,
-    /// `/`, truncating towards zero
-    Divide,
-    /// `%`, with the sign of the dividend
-    Remainder,
-}
-
-/// What IS asks of its operand (SQL standard, 8.8 <null predicate> and 6.42 <boolean test>).
-#[derive(Clone, Copy, Debug, PartialEq, Eq)]
-pub enum Status {
-    /// `IS NULL`
-    Null,
-    /// `IS TRUE`
-    True,
-    /// `IS FALSE`
-    False,
-    /// `IS UNKNOWN`
-    Unknown,
-}
 
 /// What an aggregate makes of the values of its argument (SQL standard, 10.9 <general set function>). NULL is skipped.
 #[derive(Clone, Copy, Debug, PartialEq, Eq)]

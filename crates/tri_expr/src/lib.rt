@@ -14,6 +14,6 @@ pub mod verdicts;
 mod view;
 
 pub use evaluate::{eval, eval_class};
-pub use expr::{EvalFault, Expr, Fault, Operation, SetFunction, Status};
+pub use expr::{EvalFault, Expr, Fault, SetFunction};
 pub use risk::is_risky;
 pub use verdicts::{verdict, verdict_class};

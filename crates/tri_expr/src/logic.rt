@@ -5,9 +5,9 @@ ghost use Rattle.med_value.specs.declared.order.Comparison.TheVariants.{AtLeast,
 ghost use Rattle.tri_expr.specs.Outcome.{Outcome, Is, compared, compared_values, opposite_value, passes, settled, tested, turned, value_of};
 ghost use Rattle.tri_expr.specs.View.{seen, Sees};
 
-use crate::expr::{Fault, Status};
+use crate::expr::Fault;
 use crate::view::{View, compare_views};
-use med_value::Comparison;
+use med_value::{Comparison, Status};
 
 /// A comparison; with NULL on either side unknown.
 pub fn compare(op: Comparison, a: View<'_>, b: View<'_>) -> View<'static>
