@@ -1,10 +1,9 @@
 -- The cells of a record, column by column.
 use Rattle.std.proofs.Common.{◌≡◌, ◌+◌, ◌<◌, ◌≤◌, ℕ, zero, suc, List, [], ◌∷◌, ◌++◌, length, map, take, Some, None, unwrap_or, slice_get, refl, ap, sym, ◌∙◌, arith}
 use Rattle.std.proofs.lemmas.List.{map-append, take_more, take_all}
-use Rattle.med_value.specs.Datum.{Datum, NoValue, Tuple, datum}
+use Rattle.med_value.specs.Datum.{Datum, NoValue, Tuple, datum, cell}
 use Rattle.med_value.specs.declared.value.Value.{Value}
 use Rattle.med_value.specs.declared.value.ColType.{ColType}
-use Rattle.fdw_api.specs.Scan.{cell}
 use Rattle.csv_tables.specs.Cells.{cell_of, record_cells}
 use Rattle.csv_tables.specs.CsvRecords.{Record}
 use Rattle.csv_tables.specs.Tables.{field_size}

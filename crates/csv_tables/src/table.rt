@@ -37,8 +37,8 @@ pub struct CsvTable {
 }
 
 impl CsvTable {
-    ghost use Rattle.med_value.specs.Datum.{datum, tuple};
-    ghost use Rattle.fdw_api.specs.Scan.{cell as cell_at, pick};
+    ghost use Rattle.med_value.specs.Datum.{datum, tuple, cell as cell_at};
+    ghost use Rattle.fdw_api.specs.Scan.{pick};
     ghost use Rattle.csv_tables.specs.Tables.{cells_at, fields_at, field_size};
 
     /// The field of a record in a column, if the table has such a column.

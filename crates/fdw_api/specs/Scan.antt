@@ -1,7 +1,7 @@
 -- What a scan is asked for, and which rows it may give.
-use Rattle.std.specs.Prelude.{◌≡◌, ℕ, Bool, true, false, not, ◌&&◌, if◌then◌else◌, List, [], ◌∷◌, ◌++◌, map, length, replicate, All, IsPermutation, slice_index_or, Option, Some, None, slice_get, nat_lt, nat_eq}
+use Rattle.std.specs.Prelude.{◌≡◌, ℕ, Bool, true, false, not, ◌&&◌, if◌then◌else◌, List, [], ◌∷◌, ◌++◌, map, length, replicate, All, IsPermutation, Option, Some, None, slice_get, nat_lt, nat_eq}
 use Rattle.std.specs.List.{list_all, list_any}
-use Rattle.med_value.specs.Datum.{Datum, NoValue, Whole, Chars, Logic, Tuple, datum}
+use Rattle.med_value.specs.Datum.{Datum, NoValue, Whole, Chars, Logic, Tuple, datum, cell}
 use Rattle.med_value.specs.Order.{is_missing, compares_true}
 use Rattle.med_value.specs.declared.order.Comparison.{Comparison}
 use Rattle.med_value.specs.declared.value.ColType.{ColType}
@@ -68,10 +68,6 @@ spec_by wanted offered a = record { wanted = wanted; offered = offered; answers 
 -- the scan of whole rows for which the wrapper takes nothing over
 abbrev pub plain_spec : List ℕ → List RestrictionForm → Spec
 plain_spec wanted offered = record { wanted = wanted; offered = offered; answers = replicate (length offered) Ignored; narrow = false }
-
--- the cell of a column, NULL past the row's end
-abbrev pub cell : Tuple → ℕ → Datum
-cell cells column = slice_index_or cells column NoValue
 
 -- the value of an operand under these parameters
 abbrev pub value_of : Tuple → OperandForm → Datum

@@ -1,9 +1,9 @@
 //! Laws of what the calls of a wrapper do to its box.
 ghost use Rattle.std.specs.Prelude.{◌≡◌, ℕ, Bool, true, List, Option, Some, slice_get};
 ghost use Rattle.std.specs.List.{list_all};
-ghost use Rattle.med_value.specs.Datum.{Tuple};
+ghost use Rattle.med_value.specs.Datum.{Tuple, cell};
 ghost use Rattle.med_value.specs.declared.value.ColType.{ColType};
-ghost use Rattle.fdw_api.specs.Scan.{TableRow, Spec, cell, has_kind, row_fits, cells_fit, shown_cells, shown_fits};
+ghost use Rattle.fdw_api.specs.Scan.{TableRow, Spec, has_kind, row_fits, cells_fit, shown_cells, shown_fits};
 ghost use Rattle.fdw_api.specs.Kinds.{Column, OptionForm, Change, all_fit};
 ghost use Rattle.fdw_api.specs.State.{BoxState, IsIdle};
 ghost use Rattle.fdw_api.specs.Calls.{Binds, CanUnbind, Unbinds, Refuses, Begins, Iterates, Breaks, Rescans, Ends};

@@ -5,8 +5,8 @@ use Rattle.std.specs.List.Sorted.{IsPermutation}
 use Rattle.std.proofs.lemmas.Bool.Decides.{eqb_tells}
 use Rattle.std.proofs.lemmas.List.Sorted.{IsPermutation-filter_both, IsPermutation-append_left, IsPermutation-trans}
 use Rattle.std.proofs.lemmas.List.Elements.{filter_passes, All-weaker, All-append, All-head, All-tail}
-use Rattle.med_value.specs.Datum.{Tuple}
-use Rattle.fdw_api.specs.Scan.{Spec, RestrictionForm, GivenRow, TableRow, IsComing, cell, checks, pick, meets, meets_all, meets_exact, given_row, shown_cells}
+use Rattle.med_value.specs.Datum.{Tuple, cell}
+use Rattle.fdw_api.specs.Scan.{Spec, RestrictionForm, GivenRow, TableRow, IsComing, checks, pick, meets, meets_all, meets_exact, given_row, shown_cells}
 use Rattle.fdw_api.specs.declared.scan.Agree.{Agree}
 use Rattle.fdw_api.specs.declared.scan.Agree.TheVariants.{Ignored, Hint, Exact}
 use Rattle.med_exec.specs.Reading.{cells_of}

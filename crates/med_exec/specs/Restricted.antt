@@ -1,8 +1,8 @@
 -- Checking again what a wrapper did not take over: the rows of a scan that pass are those of which all restrictions are true.
 use Rattle.std.specs.Prelude.{◌≡◌, ℕ, zero, suc, Bool, true, false, ◌&&◌, if◌then◌else◌, nat_eq, List, [], ◌∷◌, ◌++◌, map, filter, All, IsPermutation}
 use Rattle.std.specs.List.{list_all, list_any}
-use Rattle.med_value.specs.Datum.{Tuple}
-use Rattle.fdw_api.specs.Scan.{Spec, RestrictionForm, GivenRow, TableRow, cell, checks, meets_all, shown_cells}
+use Rattle.med_value.specs.Datum.{Tuple, cell}
+use Rattle.fdw_api.specs.Scan.{Spec, RestrictionForm, GivenRow, TableRow, checks, meets_all, shown_cells}
 use Rattle.fdw_api.specs.declared.scan.Agree.{Agree}
 use Rattle.fdw_api.specs.declared.scan.Agree.TheVariants.{Ignored, Hint, Exact}
 use Rattle.med_exec.specs.Reading.{cells_of}

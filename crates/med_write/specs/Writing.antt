@@ -1,10 +1,10 @@
 -- What INSERT, UPDATE and DELETE whose names were resolved mean over the rows of their table, and what the table is after them.
 use Rattle.std.specs.Prelude.{ℕ, suc, Bool, true, false, not, ◌&&◌, ◌||◌, List, [], ◌∷◌, ◌++◌, map, filter, flat_map, length, Option, Some, None, cond, slice_index_or}
 use Rattle.std.specs.List.{list_any}
-use Rattle.med_value.specs.Datum.{NoValue, Tuple}
+use Rattle.med_value.specs.Datum.{NoValue, Tuple, cell}
 use Rattle.tri_expr.specs.declared.expr.Fault.{Fault}
 use Rattle.tri_expr.specs.Outcome.{Outcome, Is, value_of}
-use Rattle.tri_expr.specs.Meaning.{OnClass, cell_at, tree_meaning, means}
+use Rattle.tri_expr.specs.Meaning.{OnClass, tree_meaning, means}
 use Rattle.tri_expr.specs.Verdict.{faults_told, fault_list}
 use Rattle.tri_expr.specs.Tree.{Tree}
 use Rattle.med_query.specs.Query.{keeps, on_row}
@@ -44,7 +44,7 @@ rows_given answer_form answer = map outcomes_of answer
 
 -- a cell of a row that is kept: by SET on the old row, or the old cell
 abbrev pub cell_after : Tuple → ℕ → Option Tree → Outcome
-cell_after r place None = Is (cell_at place r)
+cell_after r place None = Is (cell r place)
 cell_after r place (Some t) = outcome_on r t
 
 -- the cells from this place on

@@ -1,9 +1,8 @@
 //! Cells of rows, and equality of rows, where two NULLs are equal.
 
 ghost use Rattle.std.specs.Prelude.{◌≡◌, IfOk, map};
-ghost use Rattle.med_value.specs.Datum.{datum, tuple};
+ghost use Rattle.med_value.specs.Datum.{datum, tuple, cell as spec_cell};
 ghost use Rattle.med_query.specs.Lists.{tuple_eq};
-ghost use Rattle.tri_expr.specs.Meaning.{cell_at as spec_cell};
 ghost use Rattle.med_query.specs.Query.{key_of as spec_key_of};
 
 use med_value::order::compare_values;
@@ -13,7 +12,7 @@ use std::cmp::Ordering;
 
 /// A copy of the cell at a place of a row; NULL past the end.
 pub fn cell(alloc: Global, at: usize, row: &Row) -> Result<Value, NoMemory>
-    ensures { IfOk result (λ v. datum v ≡ spec_cell at (tuple row.now)) }
+    ensures { IfOk result (λ v. datum v ≡ spec_cell (tuple row.now) at) }
 {
     match row.cells.get(at) {
         Some(v) => v.copy(alloc),

@@ -13,11 +13,11 @@ use Rattle.sqlite.specs.Tree.{rowid}
 use Rattle.sqlite.specs.View.{is_int}
 use Rattle.sqlite_shapes.specs.Shapes.{in_range, key_of, paged}
 use Rattle.sqlite_trees.proofs.ListLemmas.{filter-map, filter_same, map-map}
-use Rattle.med_value.specs.Datum.{Datum, NoValue, Whole, Chars, Logic, Tuple}
+use Rattle.med_value.specs.Datum.{Datum, NoValue, Whole, Chars, Logic, Tuple, cell}
 use Rattle.med_value.specs.Order.{is_missing}
 use Rattle.med_value.specs.declared.value.ColType.{ColType}
 use Rattle.med_value.specs.declared.value.ColType.TheVariants as types
-use Rattle.fdw_api.specs.Scan.{TableRow, cell, has_kind, is_clean, row_fits}
+use Rattle.fdw_api.specs.Scan.{TableRow, has_kind, is_clean, row_fits}
 use Rattle.fdw_api.specs.Kinds.{Held, held, Change, Inserts, Updates, Deletes}
 use Rattle.fdw_api.specs.Writes.{has_id}
 use Rattle.sqlite_cells.specs.Layouts.{Layout, kinds_in}

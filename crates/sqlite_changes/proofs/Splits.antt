@@ -7,12 +7,12 @@ use Rattle.std.proofs.lemmas.Int.{ints}
 use Rattle.std.proofs.lemmas.List.{map-append}
 use Rattle.std.proofs.lemmas.List.Elements.{All-nil, All-cons}
 use Rattle.std.proofs.lemmas.Str.{is_utf8-from_IsUtf8, IsUtf8-string_bytes}
-use Rattle.med_value.specs.Datum.{Whole, Tuple, datum, tuple}
+use Rattle.med_value.specs.Datum.{Whole, Tuple, datum, tuple, cell}
 use Rattle.med_value.specs.Order.{is_missing}
 use Rattle.med_value.specs.declared.value.Value.{Value}
 use Rattle.med_value.specs.declared.value.Value.TheVariants.{Null, Int, Text, Bool as Truth}
 use Rattle.med_value.specs.declared.value.Row.{Row}
-use Rattle.fdw_api.specs.Scan.{cell, row_fits}
+use Rattle.fdw_api.specs.Scan.{row_fits}
 use Rattle.fdw_api.specs.Kinds.{Change}
 use Rattle.fdw_api.specs.Writes.{row_of_change_fits}
 use Rattle.sqlite_cells.specs.Layouts.{kinds_in, layout_at}

@@ -3,12 +3,12 @@ use Rattle.std.specs.Prelude.{◌≡◌, ℕ, Bool, true, false, not, ◌&&◌, 
 use Rattle.std.specs.List.{list_all, list_any}
 use Rattle.std.specs.Ordering.{is_le, is_eq}
 use mathlib.Core.Path.{ap, ◌∙◌}
-use Rattle.med_value.specs.Datum.{Datum, Tuple}
+use Rattle.med_value.specs.Datum.{Datum, Tuple, cell}
 use Rattle.med_value.specs.Order.{datum_cmp, is_missing}
 use Rattle.med_value.specs.declared.cause.Cause.{Cause}
 use Rattle.med_value.specs.declared.cause.Cause.TheVariants.{TooLarge, NotNull, NotUnique}
 use Rattle.med_value.specs.Causes.{phase_of}
-use Rattle.fdw_api.specs.Scan.{TableRow, cell}
+use Rattle.fdw_api.specs.Scan.{TableRow}
 use Rattle.fdw_api.specs.Kinds.{Held, Change, Inserts, Updates, Deletes, Refusals, Arrangement, is_of_run}
 use Rattle.fdw_api.specs.Writes.{rows_after}
 use Rattle.std.proofs.lemmas.List.Sorted.{IsPermutation-refl, IsPermutation-cons, IsPermutation-trans, IsPermutation-middle}

@@ -7,9 +7,8 @@ use Rattle.std.specs.Str.{is_utf8}
 use Rattle.sqlite.specs.Order.{Row as SqlRow}
 use Rattle.sqlite.specs.View.{IsShaped}
 use Rattle.sqlite_trees.specs.declared.store.Shape.TheVariants as shape
-use Rattle.med_value.specs.Datum.{Datum, NoValue, Whole, Chars, Logic, Tuple}
+use Rattle.med_value.specs.Datum.{Datum, NoValue, Whole, Chars, Logic, Tuple, cell}
 use Rattle.med_value.specs.declared.cause.Cause.TheVariants.{NotNull}
-use Rattle.fdw_api.specs.Scan.{cell}
 use Rattle.fdw_api.specs.Kinds.{Change, Inserts, Updates, Deletes}
 use Rattle.fdw_api.specs.Writes.{id_is_there}
 use Rattle.fdw_api.specs.declared.interface.Fault.{Fault}

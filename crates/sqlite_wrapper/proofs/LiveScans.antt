@@ -11,10 +11,10 @@ use Rattle.sqlite.specs.Effect.{Database}
 use Rattle.sqlite_shapes.specs.Shapes.{range_of}
 use Rattle.key_ranges.specs.declared.ranges.KeyRange.{KeyRange}
 use Rattle.key_ranges.specs.Ranges.{is_key_value, is_apart, is_range_check, is_key_test, is_typed_check, asks_key, only_key_tests, only_keys}
-use Rattle.med_value.specs.Datum.{Datum, NoValue, Whole, Chars, Logic, Tuple}
+use Rattle.med_value.specs.Datum.{Datum, NoValue, Whole, Chars, Logic, Tuple, cell}
 use Rattle.med_value.specs.declared.value.ColType.{ColType}
 use Rattle.med_value.specs.declared.value.ColType.TheVariants.{Int}
-use Rattle.fdw_api.specs.Scan.{Spec, spec_of, RestrictionForm, TestForm, Compares, Missing, Present, Given, Slot, cell, has_kind, kind_is, test_fits, params_fit, IsComing, meets_exact}
+use Rattle.fdw_api.specs.Scan.{Spec, spec_of, RestrictionForm, TestForm, Compares, Missing, Present, Given, Slot, has_kind, kind_is, test_fits, params_fit, IsComing, meets_exact}
 use Rattle.fdw_api.specs.declared.scan.Agree.{Agree}
 use Rattle.fdw_api.specs.declared.scan.Agree.TheVariants.{Ignored, Hint, Exact}
 use Rattle.fdw_api.specs.declared.interface.Fault.{Fault}

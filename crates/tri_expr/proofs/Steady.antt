@@ -4,7 +4,7 @@ use Rattle.std.specs.List.{list_all}
 use Rattle.std.specs.declared.cmp.Ordering.{Ordering}
 use Rattle.std.specs.declared.cmp.Ordering.TheVariants.{Less, Equal, Greater}
 use Rattle.std.specs.Ordering.{is_eq}
-use Rattle.med_value.specs.Datum.{Datum, Whole, Tuple}
+use Rattle.med_value.specs.Datum.{Datum, Whole, Tuple, cell}
 use Rattle.med_value.specs.Order.{datum_cmp}
 use Rattle.med_value.proofs.OrderLemmas.{datum_cmp_equal}
 use Rattle.tri_expr.proofs.Choice.{datum_cmp_self}
@@ -12,7 +12,7 @@ use Rattle.tri_expr.proofs.Shuffled.{Shuffled, back, mapped, as_long, all_kept, 
 use Rattle.tri_expr.specs.declared.expr.Expr.{Expr}
 use Rattle.med_value.specs.declared.order.Comparison.TheVariants.{Equal as Same, AtMost, AtLeast}
 use Rattle.tri_expr.specs.Outcome.{Outcome, Is, compared, computed, negated, opposite as not_of, turned, settled, tested, strict, over, value_of}
-use Rattle.tri_expr.specs.Meaning.{OnClass, cell_at, has_cell, shared, argument, liked, tree_meaning, tree_meanings, meaning}
+use Rattle.tri_expr.specs.Meaning.{OnClass, has_cell, shared, argument, liked, tree_meaning, tree_meanings, meaning}
 use Rattle.tri_expr.specs.Tree.{Tree, column, parameter, literal, compare, compute, negate, all_of, some_of, opposite, asks, between, within, matches, parenthesised, count_rows, aggregate, Trees, none, part, tree}
 use Rattle.tri_expr.proofs.Tallies.{aggregated_shuffled}
 use Rattle.tri_expr.proofs.Counted.{argument-map}
@@ -30,22 +30,22 @@ both_true : (p q : Bool) → (p && q) ≡ true → (p ≡ true) × (q ≡ true)
 both_true true q e = (refl, e)
 both_true false q e = absurd cc
 
-has_own : (at : ℕ) (r : Tuple) → has_cell at (cell_at at r) r ≡ true
-has_own at r = ap is_eq (datum_cmp_self (cell_at at r))
+has_own : (at : ℕ) (r : Tuple) → has_cell at (cell r at) r ≡ true
+has_own at r = ap is_eq (datum_cmp_self (cell r at))
 
 -- all rows of the class have v
 pub all_have : (at : ℕ) (v : Datum) (s : Tuple) (ss : List Tuple) → list_all (has_cell at v) (s ∷ ss) ≡ true → shared at (s ∷ ss) ≡ v
 all_have at v s ss e =
     let h = both_true (has_cell at v s) (list_all (has_cell at v) ss) e in
-    let is : cell_at at s ≡ v = datum_cmp_equal (cell_at at s) v (eq_only (datum_cmp (cell_at at s) v) h.0) in
+    let is : cell s at ≡ v = datum_cmp_equal (cell s at) v (eq_only (datum_cmp (cell s at) v) h.0) in
     rw is (rw h.1 refl)
 
-where_true : (at : ℕ) (r s : Tuple) (rs ss : List Tuple) → list_all (has_cell at (cell_at at r)) rs ≡ true → Shuffled (r ∷ rs) (s ∷ ss) → shared at (s ∷ ss) ≡ cell_at at r
-where_true at r s rs ss e t = all_have at (cell_at at r) s ss (sym (all_kept (has_cell at (cell_at at r)) t) ∙ rw (has_own at r, e) refl)
+where_true : (at : ℕ) (r s : Tuple) (rs ss : List Tuple) → list_all (has_cell at (cell r at)) rs ≡ true → Shuffled (r ∷ rs) (s ∷ ss) → shared at (s ∷ ss) ≡ cell r at
+where_true at r s rs ss e t = all_have at (cell r at) s ss (sym (all_kept (has_cell at (cell r at)) t) ∙ rw (has_own at r, e) refl)
 
-shared_by : (at : ℕ) (r s : Tuple) (rs ss : List Tuple) (a b : Bool) → list_all (has_cell at (cell_at at r)) rs ≡ a → list_all (has_cell at (cell_at at s)) ss ≡ b → Shuffled (r ∷ rs) (s ∷ ss) → shared at (r ∷ rs) ≡ shared at (s ∷ ss)
+shared_by : (at : ℕ) (r s : Tuple) (rs ss : List Tuple) (a b : Bool) → list_all (has_cell at (cell r at)) rs ≡ a → list_all (has_cell at (cell s at)) ss ≡ b → Shuffled (r ∷ rs) (s ∷ ss) → shared at (r ∷ rs) ≡ shared at (s ∷ ss)
 shared_by at r s rs ss true b e f t = rw e (sym (where_true at r s rs ss e t))
-shared_by at r s rs ss false true e f t = let w : shared at (r ∷ rs) ≡ cell_at at s = where_true at s r ss rs f (back t) in w ∙ sym (rw f refl)
+shared_by at r s rs ss false true e f t = let w : shared at (r ∷ rs) ≡ cell s at = where_true at s r ss rs f (back t) in w ∙ sym (rw f refl)
 shared_by at r s rs ss false false e f t = rw (e, f) refl
 
 shared_steady : (at : ℕ) (c d : List Tuple) → Shuffled c d → shared at c ≡ shared at d

@@ -1,9 +1,9 @@
 -- The value of an expression over a class of rows, by its tree; one row is the class of that row.
 -- Each form has its value by cases, from the values of all its operands: nothing is skipped.
-use Rattle.std.specs.Prelude.{ℕ, Bool, true, false, if◌then◌else◌, List, [], ◌∷◌, map, slice_index_or, length, pos}
+use Rattle.std.specs.Prelude.{ℕ, Bool, true, false, if◌then◌else◌, List, [], ◌∷◌, map, length, pos}
 use Rattle.std.specs.List.{list_all}
 use Rattle.std.specs.Ordering.{is_eq}
-use Rattle.med_value.specs.Datum.{Datum, NoValue, Whole, Chars, Tuple}
+use Rattle.med_value.specs.Datum.{Datum, NoValue, Whole, Chars, Tuple, cell}
 use Rattle.med_value.specs.Order.{datum_cmp}
 use Rattle.med_value.specs.declared.order.Comparison.TheVariants.{Equal, AtMost, AtLeast}
 use Rattle.tri_expr.specs.declared.expr.Expr.{Expr}
@@ -21,18 +21,14 @@ abbrev pub liked : List ℕ → Datum → Outcome
 liked pattern (Chars t) = truth (is_like pattern t)
 liked pattern v = Is NoValue
 
--- the cell at a place of a row; NULL past the end
-abbrev pub cell_at : ℕ → Tuple → Datum
-cell_at at r = slice_index_or r at NoValue
-
 -- a row has this value at a place, NULL being equal to NULL
 abbrev pub has_cell : ℕ → Datum → Tuple → Bool
-has_cell at v r = is_eq (datum_cmp (cell_at at r) v)
+has_cell at v r = is_eq (datum_cmp (cell r at) v)
 
 -- the value that all rows of the class have there; NULL where they differ
 abbrev pub shared : ℕ → List Tuple → Datum
 shared at [] = NoValue
-shared at (r ∷ rs) = if list_all (has_cell at (cell_at at r)) rs then cell_at at r else NoValue
+shared at (r ∷ rs) = if list_all (has_cell at (cell r at)) rs then cell r at else NoValue
 
 -- an aggregate's argument over each row by itself; a fault of it is told by itself
 abbrev pub argument : OnClass → List Tuple → List Datum
@@ -43,7 +39,7 @@ argument f (r ∷ rs) = value_of (f (r ∷ [])) ∷ argument f rs
 abbrev mutual
   pub tree_meaning : Tuple → Tree → OnClass
   tree_meaning ps (column at) c = Is (shared at c)
-  tree_meaning ps (parameter at) c = Is (cell_at at ps)
+  tree_meaning ps (parameter at) c = Is (cell ps at)
   tree_meaning ps (literal v) c = Is v
   tree_meaning ps (compare op a b) c = compared op (tree_meaning ps a c) (tree_meaning ps b c)
   tree_meaning ps (compute op a b) c = computed op (tree_meaning ps a c) (tree_meaning ps b c)

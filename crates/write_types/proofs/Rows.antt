@@ -2,7 +2,7 @@
 use Rattle.std.proofs.Common.{◌≡◌, ℕ, zero, suc, true, false, ◌&&◌, Bool, if◌then◌else◌, bytes_eq, codes, arith, length, List, [], ◌∷◌, ◌++◌, map, flat_map, drop, All, Option, Some, None, option_map, slice_get, slice_index_or, refl, ap, subst}
 use Rattle.std.proofs.lemmas.List.Elements.{All-cons, All-nil, All-head, All-tail}
 use Rattle.med_value.specs.Column.{Column}
-use Rattle.med_value.specs.Datum.{Datum, NoValue, Whole, Chars, Logic, Tuple}
+use Rattle.med_value.specs.Datum.{Datum, NoValue, Whole, Chars, Logic, Tuple, cell}
 use Rattle.med_value.specs.declared.value.ColType.{ColType}
 use Rattle.med_value.specs.declared.value.ColType.TheVariants.{Int, Text, Bool as Truth}
 use Rattle.med_value.specs.declared.cause.Cause.{Cause}
@@ -14,7 +14,6 @@ use Rattle.med_syntax.specs.declared.expr.Joint.{Joint}
 use Rattle.med_syntax.specs.declared.expr.Joint.TheVariants.{Or, And}
 use Rattle.tri_expr.specs.declared.expr.SetFunction.{SetFunction}
 use Rattle.tri_expr.specs.Outcome.{Outcome, Is, value_of}
-use Rattle.tri_expr.specs.Meaning.{cell_at}
 use Rattle.tri_expr.specs.Tree.{Tree, Trees, literal, count_rows, none, part}
 use Rattle.fdw_api.specs.Scan.{has_kind, is_clean, row_fits}
 use Rattle.med_write.specs.Writing.{outcome_on, outcomes_on, value_for, new_cells, cell_after, cells_after}
@@ -182,7 +181,7 @@ one_row kinds r h = rw h refl
 
 cell_made_fits : (c : Column) (m : Option Tree) (all : List ColType) (r : Tuple) (place : ℕ) → IsCleanCell m → row_fits all r ≡ true → slice_get all place ≡ Some c.kind
     → column_causes c (option_map (tree_type all) m) ≡ [] → Fits (Some c.kind) (value_of (cell_after r place m))
-cell_made_fits c None all r place clean h g k = subst (λ t. Fits t (cell_at place r)) g (cell_typed all r place h)
+cell_made_fits c None all r place clean h g k = subst (λ t. Fits t (cell r place)) g (cell_typed all r place h)
 cell_made_fits c (Some t) all r place clean h g k =
     takes_fits c.kind (tree_type all t) (value_of (outcome_on r t)) (passed (takes c.kind (tree_type all t)) DatatypeMismatch k) (tree_fits all t clean (r ∷ []) (one_row all r h))
 

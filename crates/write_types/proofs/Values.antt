@@ -3,7 +3,7 @@ use Rattle.std.proofs.Common.{◌≡◌, ℕ, zero, suc, ◌^◌, nat_lt, ◌==�
 use Rattle.std.specs.List.{list_all, list_any}
 use Rattle.std.specs.Prelude.{neg_ℤ, int_div, int_rem, ℤ, ◌+ℤ◌, ◌-ℤ◌, ◌*ℤ◌}
 use Rattle.std.specs.Ordering.{is_lt}
-use Rattle.med_value.specs.Datum.{Datum, NoValue, Whole, Chars, Logic, Tuple}
+use Rattle.med_value.specs.Datum.{Datum, NoValue, Whole, Chars, Logic, Tuple, cell}
 use Rattle.med_value.specs.Order.{datum_cmp, is_missing}
 use Rattle.med_value.specs.declared.value.ColType.{ColType}
 use Rattle.med_value.specs.declared.value.ColType.TheVariants.{Int, Text, Bool as Truth}
@@ -18,7 +18,7 @@ use Rattle.tri_expr.specs.declared.expr.SetFunction.TheVariants.{Count, Sum, Min
 use Rattle.tri_expr.specs.Aggregate.{number, total, aggregated, lesser, greater}
 use Rattle.tri_expr.specs.Lists.{gather}
 use Rattle.tri_expr.specs.Outcome.{Outcome, Is, Fails, value_of, truth, strict, strict_two, compared, compared_values, computed_numbers, computed_values, ranged, size_of, is_zero, negated_value, opposite_value, turned, is_truth, first_fault, or_else, settled, over, passes}
-use Rattle.tri_expr.specs.Meaning.{OnClass, cell_at, has_cell, shared, argument, liked, tree_meaning, tree_meanings}
+use Rattle.tri_expr.specs.Meaning.{OnClass, has_cell, shared, argument, liked, tree_meaning, tree_meanings}
 use Rattle.tri_expr.specs.Tree.{Tree, column, parameter, literal, compare, compute, negate, all_of, some_of, opposite, asks, between, within, matches, parenthesised, count_rows, aggregate}
 use Rattle.fdw_api.specs.Scan.{has_kind, is_clean, row_fits, cell_fits}
 use Rattle.write_parts.specs.Kinds.{datum_type, set_type, tree_type}
@@ -52,7 +52,7 @@ joined false b c h k = absurd cc
 
 -- ---- the cells of a row
 
-pub cell_typed : (kinds : List ColType) (r : Tuple) (at : ℕ) → row_fits kinds r ≡ true → Fits (slice_get kinds at) (cell_at at r)
+pub cell_typed : (kinds : List ColType) (r : Tuple) (at : ℕ) → row_fits kinds r ≡ true → Fits (slice_get kinds at) (cell r at)
 cell_typed [] [] at h = refl
 cell_typed [] (v ∷ vs) at h = absurd cc
 cell_typed (k ∷ ks) [] at h = absurd cc
@@ -66,7 +66,7 @@ value_by t false v w h k = k
 shared_typed : (kinds : List ColType) (rows : List Tuple) (at : ℕ) → list_all (row_fits kinds) rows ≡ true → Fits (slice_get kinds at) (shared at rows)
 shared_typed kinds [] at h = null_fits (slice_get kinds at)
 shared_typed kinds (r ∷ rs) at h =
-    value_by (slice_get kinds at) (list_all (has_cell at (cell_at at r)) rs) (cell_at at r) NoValue
+    value_by (slice_get kinds at) (list_all (has_cell at (cell r at)) rs) (cell r at) NoValue
     (cell_typed kinds r at (both (row_fits kinds r) (list_all (row_fits kinds) rs) h).0) (null_fits (slice_get kinds at))
 
 -- ---- the rules
