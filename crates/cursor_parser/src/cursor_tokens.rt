@@ -11,7 +11,7 @@ ghost use Rattle.std.specs.String.{string_bytes};
 
 use cursor_syntax::FetchCount;
 use expr_grammar::refusal::{ReadFault, Refusal};
-use med_lexer::{Kind, Mark, Token, number_value};
+use med_lexer::{Mark, Token, TokenKind, number_value};
 use med_syntax::is_reserved;
 
 /// The tokens behind the keyword, where it comes first.
@@ -21,7 +21,7 @@ pub fn behind_word<'a>(word: &str, tokens: &'a [Token]) -> Option<&'a [Token]>
     match tokens {
         [
             Token {
-                kind: Kind::Word(found),
+                kind: TokenKind::Word(found),
                 ..
             },
             rest @ ..,
@@ -80,14 +80,14 @@ pub fn name(tokens: &[Token]) -> Result<(String, &[Token]), ReadFault>
     match tokens {
         [
             Token {
-                kind: Kind::Quoted(name),
+                kind: TokenKind::Quoted(name),
                 ..
             },
             rest @ ..,
         ] => Ok((name.clone()?, rest)),
         [
             Token {
-                kind: Kind::Word(name),
+                kind: TokenKind::Word(name),
                 ..
             },
             rest @ ..,
@@ -103,7 +103,7 @@ pub fn is_end(tokens: &[Token]) -> bool
     matches!(
         tokens,
         [] | [Token {
-            kind: Kind::Mark(Mark::Semicolon),
+            kind: TokenKind::Mark(Mark::Semicolon),
             ..
         }]
     )
@@ -139,7 +139,7 @@ pub fn count(tokens: &[Token]) -> (FetchCount, &[Token])
     match tokens {
         [
             Token {
-                kind: Kind::Number(digits),
+                kind: TokenKind::Number(digits),
                 ..
             },
             rest @ ..,

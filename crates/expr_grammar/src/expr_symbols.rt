@@ -10,7 +10,7 @@ ghost use Rattle.expr_grammar.specs.SymbolView.{terminal_of_symbol, terminals_of
 ghost use Rattle.expr_grammar.specs.View.{shapes_of};
 
 use crate::symbols::Symbol;
-use med_lexer::{Kind, Mark, Token, number_value};
+use med_lexer::{Mark, Token, TokenKind, number_value};
 use med_syntax::{Joint, is_reserved};
 use med_value::{Comparison, Operation};
 use std::alloc::{AllocError, Global};
@@ -92,17 +92,17 @@ pub fn follows_is(before: bool, symbol: &Symbol) -> bool
 }
 
 /// The symbol of a token.
-pub fn symbol(behind_is: bool, kind: &Kind) -> Result<Symbol, AllocError>
+pub fn symbol(behind_is: bool, kind: &TokenKind) -> Result<Symbol, AllocError>
     requires { spec.IsReadable (shape_of kind.now) }
     ensures { IfOk result (λ s. terminal_of_symbol s ≡ spec.terminal_at behind_is (shape_of kind.now)) }
 {
     match kind {
-        Kind::Word(word) if behind_is && word.as_str() == "unknown" => Ok(Symbol::Unknown),
-        Kind::Word(word) => word_symbol(word),
-        Kind::Quoted(name) => Ok(Symbol::Name(name.clone()?)),
-        Kind::Literal(text) => Ok(Symbol::Text(text.clone()?)),
-        Kind::Number(digits) => Ok(Symbol::Number(number_value(digits).unwrap_or(0))),
-        Kind::Mark(mark) => Ok(mark_symbol(*mark)),
+        TokenKind::Word(word) if behind_is && word.as_str() == "unknown" => Ok(Symbol::Unknown),
+        TokenKind::Word(word) => word_symbol(word),
+        TokenKind::Quoted(name) => Ok(Symbol::Name(name.clone()?)),
+        TokenKind::Literal(text) => Ok(Symbol::Text(text.clone()?)),
+        TokenKind::Number(digits) => Ok(Symbol::Number(number_value(digits).unwrap_or(0))),
+        TokenKind::Mark(mark) => Ok(mark_symbol(*mark)),
     }
 }
 
@@ -124,11 +124,11 @@ pub fn symbols_of(alloc: Global, tokens: &[Token]) -> Result<Vec<Symbol>, AllocE
 }
 
 /// Whether the token is a number that cannot be read.
-fn is_unreadable(kind: &Kind) -> bool
+fn is_unreadable(kind: &TokenKind) -> bool
     ensures { IsTrue result ↔ (spec.IsReadable (shape_of kind.now) → ⊥) }
 {
     match kind {
-        Kind::Number(digits) => number_value(digits).is_none(),
+        TokenKind::Number(digits) => number_value(digits).is_none(),
         _ => false,
     }
 }

@@ -7,7 +7,7 @@ ghost use Rattle.expr_grammar.specs.Shapes.{IsLongName};
 ghost use Rattle.expr_grammar.specs.View.{LexesOnly};
 
 use crate::fault::ParseFault;
-use med_lexer::{Kind, LexFault, Token, one_list, tokens};
+use med_lexer::{LexFault, Token, TokenKind, one_list, tokens};
 use std::alloc::Global;
 
 /// The most bytes that a name may have.
@@ -26,11 +26,11 @@ pub fn tokens_of(alloc: Global, text: &str) -> Result<Vec<Token>, ParseFault>
 }
 
 /// Whether the token is a word or a quoted name that is too long for a name.
-fn is_long_name(kind: &Kind) -> bool
+fn is_long_name(kind: &TokenKind) -> bool
     ensures { IsTrue result ↔ IsLongName (shape_of kind.now) }
 {
     match kind {
-        Kind::Word(name) | Kind::Quoted(name) => name.len() > MAX_NAME,
+        TokenKind::Word(name) | TokenKind::Quoted(name) => name.len() > MAX_NAME,
         _ => false,
     }
 }

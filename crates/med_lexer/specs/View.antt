@@ -1,14 +1,14 @@
 -- A token without where its text lies in memory, and what `tokens` answers.
 use Rattle.std.specs.Prelude.{ℕ, List, map, Result, Ok, Err, Vec}
 use Rattle.std.specs.String.{string_bytes}
-use Rattle.med_lexer.specs.declared.Kind.{Kind}
-use Rattle.med_lexer.specs.declared.Kind.TheVariants as k
+use Rattle.med_lexer.specs.declared.TokenKind.{TokenKind}
+use Rattle.med_lexer.specs.declared.TokenKind.TheVariants as k
 use Rattle.med_lexer.specs.declared.Token.{Token}
 use Rattle.med_lexer.specs.declared.error.LexFault.{LexFault}
 use Rattle.med_lexer.specs.declared.error.LexFault.TheVariants.{NoMemory, BadToken}
 use Rattle.med_lexer.specs.Lexemes.{Shape, word, quoted, literal, number, mark, Lexeme, Lexes}
 
-abbrev pub shape_of : Kind → Shape
+abbrev pub shape_of : TokenKind → Shape
 shape_of (k.Word s) = word (string_bytes s)
 shape_of (k.Quoted s) = quoted (string_bytes s)
 shape_of (k.Literal s) = literal (string_bytes s)

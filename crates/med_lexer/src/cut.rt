@@ -11,7 +11,7 @@ use crate::bytes::{Class, behind, cut_run, first, is_blank, is_start};
 use crate::error::LexFault;
 use crate::marks::{double, single};
 use crate::quotes::unquoted;
-use crate::{Kind, Token};
+use crate::{Token, TokenKind};
 use std::alloc::Global;
 
 /// What stands at the front of a text.
@@ -22,7 +22,7 @@ enum Step<'a> {
     /// a blank, and the text behind it
     Blank(&'a str),
     /// a token, and the text behind it
-    Cut(Kind, &'a str),
+    Cut(TokenKind, &'a str),
 }
 
 /// The word at the front of a text.
@@ -30,7 +30,7 @@ fn word(alloc: Global, text: &str) -> Result<Step<'_>, LexFault>
     ensures { Steps result (cutting.word_next (cutting.run spec.is_part text.now)) }
 {
     let (raw, after) = cut_run(text, Class::Part);
-    Ok(Step::Cut(Kind::Word(raw.to_ascii_lowercase(alloc)?), after))
+    Ok(Step::Cut(TokenKind::Word(raw.to_ascii_lowercase(alloc)?), after))
 }
 
 /// The number at the front of a text.
@@ -42,7 +42,7 @@ fn number(alloc: Global, text: &str) -> Result<Step<'_>, LexFault>
     if !bytes.is_empty() && is_start(bytes[0]) {
         return Err(LexFault::BadToken);
     }
-    Ok(Step::Cut(Kind::Number(String::from_str(alloc, digits)?), after))
+    Ok(Step::Cut(TokenKind::Number(String::from_str(alloc, digits)?), after))
 }
 
 /// The quoted name of which the first quote stands before the text.
@@ -53,7 +53,7 @@ fn name(alloc: Global, text: &str) -> Result<Step<'_>, LexFault>
     if name.is_empty() {
         return Err(LexFault::BadToken);
     }
-    Ok(Step::Cut(Kind::Quoted(name), after))
+    Ok(Step::Cut(TokenKind::Quoted(name), after))
 }
 
 /// The text literal of which the first quote stands before the text.
@@ -61,7 +61,7 @@ fn literal(alloc: Global, text: &str) -> Result<Step<'_>, LexFault>
     ensures { Steps result (cutting.literal_next (cutting.quote 39 text.now)) }
 {
     let (literal, after) = unquoted(alloc, b'\'', text)?;
-    Ok(Step::Cut(Kind::Literal(literal), after))
+    Ok(Step::Cut(TokenKind::Literal(literal), after))
 }
 
 /// The comment at the front of a text.
@@ -81,9 +81,9 @@ fn mark(b: u8, text: &str) -> Result<Step<'_>, LexFault>
     ensures { Steps result (cutting.mark_next (cutting.double b (cutting.first text.now)) (cutting.single b) text.now) }
 {
     match double(b, first(text.as_bytes())) {
-        Some(m) => Ok(Step::Cut(Kind::Mark(m), behind(text))),
+        Some(m) => Ok(Step::Cut(TokenKind::Mark(m), behind(text))),
         None => match single(b) {
-            Some(m) => Ok(Step::Cut(Kind::Mark(m), text)),
+            Some(m) => Ok(Step::Cut(TokenKind::Mark(m), text)),
             None => Err(LexFault::BadToken),
         },
     }

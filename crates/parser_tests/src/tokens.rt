@@ -1,17 +1,17 @@
 //! Tokens of texts.
 use crate::rows::{Answer, assert_row, assert_rows};
-use med_lexer::{Kind, LexFault, Mark, Token, number_value, tokens};
+use med_lexer::{LexFault, Mark, Token, TokenKind, number_value, tokens};
 use std::alloc::Global;
 use std::test::Fail;
 
 /// A token: its kind, what it says, and the bytes that it covers.
 fn shown_token(alloc: Global, token: &Token) -> Result<String, Fail> {
     let (kind, said) = match &token.kind {
-        Kind::Word(said) => ("word", said.as_str()),
-        Kind::Quoted(said) => ("quoted", said.as_str()),
-        Kind::Literal(said) => ("text", said.as_str()),
-        Kind::Number(said) => ("number", said.as_str()),
-        Kind::Mark(mark) => ("mark", mark.as_str()),
+        TokenKind::Word(said) => ("word", said.as_str()),
+        TokenKind::Quoted(said) => ("quoted", said.as_str()),
+        TokenKind::Literal(said) => ("text", said.as_str()),
+        TokenKind::Number(said) => ("number", said.as_str()),
+        TokenKind::Mark(mark) => ("mark", mark.as_str()),
     };
     Ok(format!(in alloc; "{kind} {said} {}..{}|", token.start, token.end)?)
 }

@@ -11,7 +11,7 @@ ghost use Rattle.std.specs.String.{string_bytes};
 
 use expr_grammar::expr_symbols::{follows_is, symbol};
 use expr_grammar::symbols::Symbol;
-use med_lexer::{Kind, Token};
+use med_lexer::{Token, TokenKind};
 use std::alloc::{AllocError, Global};
 
 /// What the next token stands behind, as far as keywords that are not reserved need it. The truth value says whether it is among the keys
@@ -103,12 +103,12 @@ fn place_behind(place: Place, symbol: &Symbol) -> Place
 }
 
 /// The symbol of a token at the place.
-fn word_symbol(place: Place, behind_is: bool, kind: &Kind) -> Result<Symbol, AllocError>
+fn word_symbol(place: Place, behind_is: bool, kind: &TokenKind) -> Result<Symbol, AllocError>
     requires { IsReadable (shape_of kind.now) }
     ensures { IfOk result (λ s. terminal_of_symbol s ≡ spec.word_at place behind_is (shape_of kind.now)) }
 {
     match kind {
-        Kind::Word(word) if is_keyword(place, word) => Ok(Symbol::Reserved(word.clone()?)),
+        TokenKind::Word(word) if is_keyword(place, word) => Ok(Symbol::Reserved(word.clone()?)),
         _ => symbol(behind_is, kind),
     }
 }
