@@ -1,4 +1,3 @@
 pub mod KeptEngines
 pub mod MoreTurns
 pub mod Heard
-pub mod Exited

@@ -1,4 +1,3 @@
 pub mod Kept
 pub mod Turns
 pub mod Listens
-pub mod Exits

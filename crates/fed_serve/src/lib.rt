@@ -1,9 +1,8 @@
-//! The program, and connections that are served one after the other by one engine.
+//! Connections that are served one after the other by one engine.
 #![tactic(auto)]
 
 pub mod kept;
 pub mod listening;
-pub mod program;
 pub mod turns;
 
 pub use kept::serve_kept;

@@ -2,7 +2,7 @@
 use crate::expect::{same, same_text};
 use crate::served::{ANSWER, STORED, counts_after};
 use fdw_api::interface::{Counts, Wrapper};
-use fed_serve::program::{Exit, run_words};
+use fed_program::{Exit, run_words};
 use med_exec::ledger_at;
 use sqlite_databases::Databases;
 use std::alloc::Global;

@@ -1,8 +1,8 @@
 use Rattle.std.proofs.Common.{refl}
 use Rattle.med_session.specs.Shows.{shown}
-use Rattle.fed_serve.specs.Exits.{has_not_begun, has_begun}
-use Rattle.fed_serve.proofs.Exited.{by_script, listened_told}
-use Rattle.fed_serve.proofs.program.serve_asked.Goals as goal
+use Rattle.fed_program.specs.Exits.{has_not_begun, has_begun}
+use Rattle.fed_program.proofs.Exited.{by_script, listened_told}
+use Rattle.fed_program.proofs.program.serve_asked.Goals as goal
 
 -- the program did not begin
 pub returns-in-Err : goal.returns-in-Err

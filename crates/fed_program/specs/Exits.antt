@@ -21,9 +21,9 @@ use Rattle.fed_setup.specs.Told.{Came}
 use Rattle.fed_setup.specs.declared.told.RunFault.{RunFault}
 use Rattle.fed_serve.specs.Listens.{Listens, listen_text}
 use Rattle.fed_serve.specs.declared.listening.ListenFault.{ListenFault}
-use Rattle.fed_serve.specs.declared.program.ArgsFault.{ArgsFault}
-use Rattle.fed_serve.specs.declared.program.ArgsFault.TheVariants as args
-use Rattle.fed_serve.specs.declared.program.Exit.{Exit}
+use Rattle.fed_program.specs.declared.program.ArgsFault.{ArgsFault}
+use Rattle.fed_program.specs.declared.program.ArgsFault.TheVariants as args
+use Rattle.fed_program.specs.declared.program.Exit.{Exit}
 
 -- what it came to that connections were served
 abbrev pub Listened : Type 0

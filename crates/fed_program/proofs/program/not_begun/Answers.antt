@@ -1,6 +1,6 @@
 use Rattle.std.proofs.Common.{Err}
 use Rattle.fed_cli.proofs.Called.{run_told}
-use Rattle.fed_serve.proofs.program.not_begun.Goals as goal
+use Rattle.fed_program.proofs.program.not_begun.Goals as goal
 
 -- why is told
 pub returns-clause-told : goal.returns-clause-told

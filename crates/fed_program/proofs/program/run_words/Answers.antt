@@ -2,8 +2,8 @@ use Rattle.std.proofs.Common.{None, map, refl}
 use Rattle.std.specs.Prelude.{string_bytes}
 use Rattle.fed_cli.proofs.Called.{run_told, words_told}
 use Rattle.fed_words.proofs.Services.{asked_port}
-use Rattle.fed_serve.specs.Exits.{has_run, has_served, has_refused}
-use Rattle.fed_serve.proofs.program.run_words.Goals as goal
+use Rattle.fed_program.specs.Exits.{has_run, has_served, has_refused}
+use Rattle.fed_program.proofs.program.run_words.Goals as goal
 
 -- the words ask neither for a run nor for connections
 pub returns-in-Err : goal.returns-in-Err

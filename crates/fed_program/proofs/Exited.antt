@@ -9,9 +9,9 @@ use Rattle.fed_cli.proofs.Called.{front_told}
 use Rattle.fed_output.specs.Outlets.{Outlet}
 use Rattle.fed_stream.specs.Streams.{Stream, stream}
 use Rattle.fed_setup.specs.declared.told.RunFault.{RunFault}
-use Rattle.fed_serve.specs.Exits.{Exits, ExitsBy, Listened, TellsListened, WritesListened, listen_line, on_words}
-use Rattle.fed_serve.specs.declared.program.ArgsFault.{ArgsFault}
-use Rattle.fed_serve.specs.declared.program.Exit.{Exit}
+use Rattle.fed_program.specs.Exits.{Exits, ExitsBy, Listened, TellsListened, WritesListened, listen_line, on_words}
+use Rattle.fed_program.specs.declared.program.ArgsFault.{ArgsFault}
+use Rattle.fed_program.specs.declared.program.Exit.{Exit}
 
 -- it exits on these words
 pub on_given : {W R S : Type 0} (honest : Bool) (meaning : W → BoxState) (remaining : R → Option (List ℕ)) (contents : S → Option (List ℕ)) (words : Result (Vec (String Global) Global) ArgsFault) (given : Vec (String Global) Global) (texts : List (String Global)) (exit : Exit W) (input output errors : Stream)

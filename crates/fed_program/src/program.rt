@@ -4,14 +4,14 @@ ghost use Rattle.med_session.specs.Requests.{IsUser};
 ghost use Rattle.fed_cli.specs.Exits.{TellsRun};
 ghost use Rattle.fed_stream.specs.Streams.{stream};
 ghost use Rattle.fed_cli.specs.Told.{run_status};
-ghost use Rattle.fed_serve.specs.Exits.{Exits, ExitsBy, ServesAsked, WritesListened, listen_status};
+ghost use Rattle.fed_program.specs.Exits.{Exits, ExitsBy, ServesAsked, WritesListened, listen_status};
 
-use crate::listening::{ListenFault, listen_and_serve};
 use fdw_api::interface::Wrapper;
 use fed_cli::program::run_asked;
 use fed_cli::telling::{tell_run, tell_words};
 use fed_cli::told::status;
 use fed_output::{GivenUp, Sink, write_front};
+use fed_serve::{ListenFault, listen_and_serve};
 use fed_setup::program::{NotBegun, begin};
 use fed_tell::write_line;
 use fed_words::words::{AskedRun, Service, read_words};

@@ -1,9 +1,9 @@
 use Rattle.std.proofs.Common.{refl, rules}
-use Rattle.fed_serve.specs.Exits.{on_none}
-use Rattle.fed_serve.specs.declared.program.ArgsFault.TheVariants.{NotText, NoMemory}
+use Rattle.fed_program.specs.Exits.{on_none}
+use Rattle.fed_program.specs.declared.program.ArgsFault.TheVariants.{NotText, NoMemory}
 use Rattle.fed_cli.proofs.Called.{front_told}
-use Rattle.fed_serve.proofs.Exited.{on_given}
-use Rattle.fed_serve.proofs.program.run.Goals as goal
+use Rattle.fed_program.proofs.Exited.{on_given}
+use Rattle.fed_program.proofs.program.run.Goals as goal
 
 -- the words are there
 pub returns-in-Ok : goal.returns-in-Ok
