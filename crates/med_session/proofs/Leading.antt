@@ -16,10 +16,10 @@ use Rattle.med_world.specs.Engine.{Shown, Agrees, Leads, IsAnswered}
 use Rattle.med_world.specs.Laws.{IsRead}
 use Rattle.med_world.proofs.OneRun.{once_refused}
 use Rattle.med_select.specs.declared.selecting.RowSet.{RowSet}
-use Rattle.med_session.specs.Outcomes.{HasRows, TellsReply, reply_of}
+use Rattle.session_replies.specs.Outcomes.{HasRows, TellsReply, reply_of}
 use Rattle.med_session.specs.Cursors.{IfFetched}
-use Rattle.med_session.specs.declared.replies.Outcome.{Outcome}
-use Rattle.med_session.specs.declared.replies.Outcome.TheVariants as outcome
+use Rattle.session_replies.specs.declared.replies.Outcome.{Outcome}
+use Rattle.session_replies.specs.declared.replies.Outcome.TheVariants as outcome
 
 -- ---- want of memory in place of rows
 

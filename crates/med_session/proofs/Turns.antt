@@ -20,8 +20,8 @@ use Rattle.med_world.specs.Engine.{Shown, IsSound, Leads}
 use Rattle.med_world.specs.Laws.{IsRead}
 use Rattle.med_world.specs.Turning.{with_cursors, Ends, later}
 use Rattle.med_session.specs.Cursors.{having, Fetched, LosesCursor, MayBeUntold, IfFetched}
-use Rattle.med_session.specs.declared.replies.Outcome.{Outcome}
-use Rattle.med_session.specs.declared.replies.Outcome.TheVariants as outcome
+use Rattle.session_replies.specs.declared.replies.Outcome.{Outcome}
+use Rattle.session_replies.specs.declared.replies.Outcome.TheVariants as outcome
 use Rattle.med_session.proofs.Seats.{set_twice, seat_put}
 use Rattle.med_session.proofs.CursorLists.{named_runs, without_runs}
 

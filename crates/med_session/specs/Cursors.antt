@@ -21,8 +21,8 @@ use Rattle.med_world.specs.Replies.{refused}
 use Rattle.med_world.specs.Seats.{seat_of}
 use Rattle.med_world.specs.Turning.{new_opened, with_cursors, Ends}
 use Rattle.med_world.specs.Engine.{Shown, Leads}
-use Rattle.med_session.specs.declared.replies.Outcome.{Outcome}
-use Rattle.med_session.specs.declared.replies.Outcome.TheVariants as outcome
+use Rattle.session_replies.specs.declared.replies.Outcome.{Outcome}
+use Rattle.session_replies.specs.declared.replies.Outcome.TheVariants as outcome
 
 -- ---- in a session
 

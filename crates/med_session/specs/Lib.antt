@@ -6,7 +6,6 @@ pub use Rattle.med_world.specs.Steps
 pub use Rattle.med_world.specs.Engine
 pub mod Asking
 pub mod Shows
-pub mod Outcomes
 pub mod Cursors
 pub mod Adding
 pub mod Binding

@@ -2,7 +2,6 @@
 ghost use Rattle.std.specs.Prelude.{◌≡◌, ◌<◌, ◌+◌, ◌++◌, ℕ, List, IfOk, IfErr, OnOk, OnErr, IsErrOf, vec_len, vec_capacity};
 
 use crate::places::{close_seats, closed_sessions, is_open, put_seat, take_seat, user_in};
-use crate::replies::{Outcome, table_of, word_of, write_reply};
 use crate::session::{NoRoom, Request, Sid};
 use crate::sources::NamedSource;
 use crate::users::is_user;
@@ -18,6 +17,7 @@ use med_world::law::{
     writes_lead,
 };
 use open_cursors::{Seat, close_all, is_leased};
+use session_replies::{Outcome, table_of, word_of, write_reply};
 use std::alloc::Global;
 use thiserror::Error;
 use write_texts::law::texts_are_clean;
@@ -49,7 +49,7 @@ pub enum NewFault {
 impl<W: Wrapper> Engine<W> {
     ghost use Rattle.med_session.specs.Asking.{asked};
     ghost use Rattle.med_session.specs.Cursors.{IfFetched, MayBeUntold};
-    ghost use Rattle.med_session.specs.Outcomes.{reply_of};
+    ghost use Rattle.session_replies.specs.Outcomes.{reply_of};
     ghost use Rattle.med_session.specs.Shows.{shown};
     ghost use Rattle.med_world.specs.Engine.{IsSound, Agrees, Leads, IsAnswered, Closes, ClosesAll};
     ghost use Rattle.med_world.specs.Requests.{IsUser, opening, sql, bye};

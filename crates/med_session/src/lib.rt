@@ -7,7 +7,6 @@ mod binding;
 mod cursors;
 pub mod engine;
 mod places;
-mod replies;
 pub mod session;
 pub mod sources;
 mod turning;

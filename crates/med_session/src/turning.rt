@@ -13,15 +13,15 @@ ghost use Rattle.med_world.specs.Seats.{seat_of};
 use crate::cursors::{end_cursor, fetch_rows, open_cursor};
 use crate::engine::Engine;
 use crate::places::{put_seat, take_seat};
-use crate::replies::Outcome;
 use crate::session::Sid;
 use cursor_syntax::{CursorStatement, Declare, Fetch};
 use fdw_api::interface::Wrapper;
 use med_world::law::{cursors_lead, sessions_lead};
+use session_replies::Outcome;
 
 impl<W: Wrapper> Engine<W> {
     ghost use Rattle.med_session.specs.Cursors.{HasCursor, LosesCursor, IfFetched, MayBeUntold};
-    ghost use Rattle.med_session.specs.Outcomes.{reply_of};
+    ghost use Rattle.session_replies.specs.Outcomes.{reply_of};
     ghost use Rattle.med_session.specs.Shows.{shown};
     ghost use Rattle.med_world.specs.Engine.{IsSound, Leads};
 

@@ -1,7 +1,7 @@
 use Rattle.med_value.specs.declared.cause.Cause.TheVariants.{OutOfMemory}
 use Rattle.med_world.specs.Replies.{refused}
 use Rattle.med_session.specs.Asking.{asked}
-use Rattle.med_session.specs.Outcomes.{reply_of}
+use Rattle.session_replies.specs.Outcomes.{reply_of}
 use Rattle.med_session.specs.Shows.{shown}
 use Rattle.med_session.proofs.Leading.{answers, not_told, rows_untold, of_fetch}
 use Rattle.med_session.proofs.engine.Engine.request.Goals as goal

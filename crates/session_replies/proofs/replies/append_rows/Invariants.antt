@@ -1,7 +1,7 @@
 use Rattle.std.proofs.Common.{◌≡◌, ◌++◌, map, take, flat_map}
 use Rattle.med_value.specs.Datum.{tuple}
 use Rattle.med_world.specs.Replies.{line, row_line}
-use Rattle.med_session.proofs.replies.append_rows.Given as goal
+use Rattle.session_replies.proofs.replies.append_rows.Given as goal
 
 abbrev pub invariant-loop-row : goal.invariant-loop-row
 invariant-loop-row l = l.text.items ≡ l.fn.text.items ++ flat_map (λ row. line l.sid (row_line row)) (map tuple (take l.row-index l.rows))

@@ -5,7 +5,7 @@ ghost use Rattle.med_value.specs.Datum.{tuple};
 ghost use Rattle.med_value.specs.Text.{escaped_text};
 ghost use Rattle.med_world.specs.Replies.{reply_text, done, answered, refused, header, line, row_line, tag_line, rows_tag};
 ghost use Rattle.ddl_syntax.specs.DdlView.{ddl_tree};
-ghost use Rattle.med_session.specs.Outcomes.{HasRows, TellsReply, reply_of, word_text};
+ghost use Rattle.session_replies.specs.Outcomes.{HasRows, TellsReply, reply_of, word_text};
 ghost use Rattle.med_world.specs.Steps.{ddl_tag, write_tag};
 ghost use Rattle.write_parts.specs.Meaning.{target_of};
 ghost use Rattle.write_syntax.specs.WriteView.{write_tree};
@@ -111,7 +111,7 @@ fn write_rows_tag(sid: u8, word: &[u8], count: u64, out: &mut Vec<u8>)
 }
 
 /// The word with which the tag of a statement begins.
-pub(crate) fn word_of(write: &WriteStatement) -> RowsWord
+pub fn word_of(write: &WriteStatement) -> RowsWord
     ensures { (n : ℕ) → rows_tag (word_text result) n ≡ write_tag (write_tree write.now) n }
 {
     match write {
@@ -122,7 +122,7 @@ pub(crate) fn word_of(write: &WriteStatement) -> RowsWord
 }
 
 /// The name of the table that a statement writes.
-pub(crate) fn table_of(write: &WriteStatement) -> &str
+pub fn table_of(write: &WriteStatement) -> &str
     ensures { result.now ≡ target_of (write_tree write.now) }
 {
     match write {
@@ -274,7 +274,7 @@ fn write_told(sid: u8, outcome: &Outcome, out: &mut Vec<u8>)
 
 /// Writes a reply whole behind what `out` has: that of the outcome, or 53200 in place of rows for which memory was refused. Whether it told
 /// the outcome.
-pub(crate) fn write_reply(alloc: Global, sid: u8, outcome: &Outcome, out: &mut Vec<u8>) -> bool
+pub fn write_reply(alloc: Global, sid: u8, outcome: &Outcome, out: &mut Vec<u8>) -> bool
     requires { vec_len out.old + 128 ≤ vec_capacity out.old }
     ensures { TellsReply sid (reply_of outcome.now) result out.old.items out.new.items }
 {

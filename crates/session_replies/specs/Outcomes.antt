@@ -5,10 +5,10 @@ use Rattle.med_value.specs.declared.cause.Cause.TheVariants.{OutOfMemory}
 use Rattle.ddl_syntax.specs.DdlView.{ddl_tree}
 use Rattle.med_world.specs.Replies.{Reply, done, answered, refused, reply_text, rows_tag}
 use Rattle.med_world.specs.Steps.{ddl_tag}
-use Rattle.med_session.specs.declared.replies.RowsWord.{RowsWord}
-use Rattle.med_session.specs.declared.replies.RowsWord.TheVariants.{Insert, Update, Delete}
-use Rattle.med_session.specs.declared.replies.Outcome.{Outcome}
-use Rattle.med_session.specs.declared.replies.Outcome.TheVariants.{Opened, Closed, Changed, Written, Rows, Declared, Fetched, Ended, Refused}
+use Rattle.session_replies.specs.declared.replies.RowsWord.{RowsWord}
+use Rattle.session_replies.specs.declared.replies.RowsWord.TheVariants.{Insert, Update, Delete}
+use Rattle.session_replies.specs.declared.replies.Outcome.{Outcome}
+use Rattle.session_replies.specs.declared.replies.Outcome.TheVariants.{Opened, Closed, Changed, Written, Rows, Declared, Fetched, Ended, Refused}
 
 -- with what the tag of a write begins
 abbrev pub word_text : RowsWord → List ℕ
