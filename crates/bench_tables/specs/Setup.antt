@@ -48,4 +48,5 @@ set_up =
 pub record HasBench (count : ℕ) (w : World) : Type 0 where
   pub list : BoxState
   pub is_bench : IsNewList list (bench_list count)
-  pub made : AnswersAll (with_source (empty_world (codes "admin")) (codes "bench") kinds.List list.nature.kind list.content.holdings) set_up w
+  pub made : AnswersAll
+      (with_source (empty_world (codes "admin")) (codes "bench") kinds.List list.nature.kind list.content.holdings) set_up w

@@ -134,9 +134,9 @@ fn check_asked(scope: &[Visible<'_>], select: &Select) -> Result<(), Cause>
     check_keys(scope, select.keys.as_slice())
 }
 
-/// Refuses a query by the types of what it writes: 42804 where a condition is not boolean, 42883 where an operator or a function has no such
-/// operands, 22025 where a pattern of LIKE ends in a lone backslash; and 53200 where memory was refused, or more columns are in view than
-/// there are places.
+/// Refuses a query by the types of what it writes: 42804 where a condition is not boolean, 42883 where an operator or a function has no
+/// such operands, 22025 where a pattern of LIKE ends in a lone backslash; and 53200 where memory was refused, or more columns are in view
+/// than there are places.
 pub fn check_written(alloc: Global, select: &Select, tables: &[AttachedTable]) -> Result<(), Cause>
     ensures { Passes (spec.written_type_causes (map table_shape tables.now) (select_tree select.now)) result }
 {

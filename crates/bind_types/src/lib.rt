@@ -1,7 +1,8 @@
 //! Phase 4 of binding, types: whether the types of a query fit, and whether its aggregates and columns stand where they may.
 //!
-//! `specs/Typing.antt` says what type an expression has and which causes of refusal stand. `src/checks.rt` checks the types of what is written,
-//! by `src/typing.rt`, and `src/forms.rt` where aggregates and columns stand in the query whose names are places, and which ON may fault.
+//! `specs/Typing.antt` says what type an expression has and which causes of refusal stand. `src/checks.rt` checks the types of what is
+//! written, by `src/typing.rt`, and `src/forms.rt` where aggregates and columns stand in the query whose names are places, and which ON
+//! may fault.
 #![tactic(auto)]
 
 mod checks;

@@ -120,8 +120,8 @@ fn kinds_in_view(
     Ok(out)
 }
 
-/// Whether the rows that a query answers can be inserted: 42601 for more values than columns and for not as many as named columns, 42804 for
-/// an item of another type than its column.
+/// Whether the rows that a query answers can be inserted: 42601 for more values than columns and for not as many as named columns, 42804
+/// for an item of another type than its column.
 pub(crate) fn check_answer(
     alloc: Global,
     catalog: &Catalog,

@@ -24,8 +24,8 @@ IsUnmarked text = strip_bom text ≡ text
 abbrev pub field_behind_mark : List ℕ → List ℕ
 field_behind_mark field = if needs_quotes default_writer field then field else strip_bom field
 
--- the records of a text, without a byte order mark at its start. Where the first record is the mark alone, a blank line is left of it, which
--- is no record
+-- the records of a text, without a byte order mark at its start. Where the first record is the mark alone, a blank line is left of it,
+-- which is no record
 abbrev pub records_behind_mark : List Record → List Record
 records_behind_mark [] = []
 records_behind_mark ([] ∷ rows) = [] ∷ rows

@@ -42,10 +42,10 @@ pub fn leased_tables_stay()
 }
 
 /// The law of leases: a run of lines of up to 64 sessions is a list of lines with their replies, whose replies joined are those of the run;
-/// and at each DECLARE in it that was done, the rows that the FETCHes from its cursor gave, joined, begin one answer over the tables as they
-/// stood there, and are all of it once one FETCH gave fewer rows than it was asked for; and as long as the cursor is open, behind each line
-/// these tables have the rows that it reads. This holds of each list of lines with their replies that leads from scene to scene, whichever
-/// it is.
+/// and at each DECLARE in it that was done, the rows that the FETCHes from its cursor gave, joined, begin one answer over the tables as
+/// they stood there, and are all of it once one FETCH gave fewer rows than it was asked for; and as long as the cursor is open, behind
+/// each line these tables have the rows that it reads. This holds of each list of lines with their replies that leads from scene to scene,
+/// whichever it is.
 pub fn cursors_keep_their_tables()
     ensures each { (old new : Scene) (es : List Exchange) → Exchanged SceneSteps old es new → KeepsCursors old es new }
     ensures run { (old new : Scene) (lines : Lines) (replies : List ℕ) → Run SceneSteps SceneEnds old lines replies new

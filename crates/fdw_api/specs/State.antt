@@ -29,8 +29,8 @@ pub record BoxTable : Type 0 where
   pub arrangement : Arrangement
   pub refuses : Refusals
 
--- a live scan, without its rows to come: its table and the types of its columns, what it was asked for and its parameters. `left` falls with
--- each row given, so that every scan comes to an end; a broken scan is good for `end` alone
+-- a live scan, without its rows to come: its table and the types of its columns, what it was asked for and its parameters. `left` falls
+-- with each row given, so that every scan comes to an end; a broken scan is good for `end` alone
 pub record Scan : Type 0 where
   pub table : ℕ
   pub kinds : List ColType

@@ -48,8 +48,8 @@ abbrev pub WritesListened : Listened → Written → Option (List ℕ) → Optio
 WritesListened (Ok x) result held holds old new = (result ≡ Ok tt) × (holds ≡ held) × (new ≡ old)
 WritesListened (Err fault) result held holds old new = FrontWritten held holds old new result (listen_line (Err fault))
 
--- Connections to a port were served for what is asked, with this script, and it came to this: an engine with which the program begins, where
--- every source is honest, served them, and once its sessions are closed its boxes are the last ones. Standard error got the lines of
+-- Connections to a port were served for what is asked, with this script, and it came to this: an engine with which the program begins,
+-- where every source is honest, served them, and once its sessions are closed its boxes are the last ones. Standard error got the lines of
 -- connections, and then the last one.
 pub record ServesPort {R S : Type 0} (honest : Bool) (remaining : R → Option (List ℕ)) (contents : S → Option (List ℕ)) (asked : AskedRun)
     (script : Option (List ℕ)) (last : List (Option BoxState)) (port count : ℕ) (came : Listened) (is_told : Bool)
@@ -112,8 +112,8 @@ args_line args.NoMemory = codes "fedq: out of memory\n"
 
 -- The program exits by this status on what its environment gives: so on its words, or, where they cannot be read, with nothing read of
 -- standard input, nothing written to standard output, and that line on standard error, or a front of it.
-pub data ExitsBy {W R S : Type 0} (honest : Bool) (meaning : W → BoxState) (remaining : R → Option (List ℕ)) (contents : S → Option (List ℕ))
-    (words : Result (Vec (String Global) Global) ArgsFault) (status : ℕ)
+pub data ExitsBy {W R S : Type 0} (honest : Bool) (meaning : W → BoxState)
+    (remaining : R → Option (List ℕ)) (contents : S → Option (List ℕ)) (words : Result (Vec (String Global) Global) ArgsFault) (status : ℕ)
     (input output errors : Stream) : Type 0 where
   on_words : (given : Vec (String Global) Global) → words ≡ Ok given → (exit : Exit W)
       → Exits honest meaning remaining contents (map string_bytes given.items) exit input output errors

@@ -92,7 +92,8 @@ pub fn serve_asked<V: AllocGlobal + Files + Clone + Databases + Drop + Net, O: W
     requires owner { IsUser asked.owner.now }
     requires port { 0 < port }
     ensures { ServesAsked V.Store.SourceStore.honest ⟦<Source<V> as Wrapper>⟧.meaning V.Stream.remaining V.Stream.contents asked.entry
-        port count result (stream (O.contents output.old) (O.contents output.new)) (stream (E.contents errors.old) (E.contents errors.new)) }
+        port count result (stream (O.contents output.old) (O.contents output.new))
+        (stream (E.contents errors.old) (E.contents errors.new)) }
 {
     let begun = match begin(rt, &asked) {
         Ok(begun) => begun,

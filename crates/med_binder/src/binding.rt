@@ -64,12 +64,12 @@ fn bind_statement(
 
 /// What a statement means over the tables, or why it is refused (SQL:2016, 7.16 <query specification>).
 ///
-/// All names of the statement are looked up first: 42P01 where there is no such table or a qualifier names no visible entry, 42712 where two
-/// entries have one name, 42703 where a name means no column and 42702 where it can mean several columns or outputs, 42601 for `*` without
-/// FROM, 42P10 for an order key that is the position of no output, or no output under DISTINCT. Then its types are checked: 42804 where a
-/// condition is not boolean, 42883 where an operator or a function has no such operands, 42803 where a column or an aggregate stands where it
-/// may not in a query that groups, 22025 where a pattern of LIKE ends in a lone backslash, 0A000 for an ON that may fault. Of several causes
-/// of the first kind that stands any may be told; and 53200 where memory was refused.
+/// All names of the statement are looked up first: 42P01 where there is no such table or a qualifier names no visible entry, 42712 where
+/// two entries have one name, 42703 where a name means no column and 42702 where it can mean several columns or outputs, 42601 for `*`
+/// without FROM, 42P10 for an order key that is the position of no output, or no output under DISTINCT. Then its types are checked: 42804
+/// where a condition is not boolean, 42883 where an operator or a function has no such operands, 42803 where a column or an aggregate
+/// stands where it may not in a query that groups, 22025 where a pattern of LIKE ends in a lone backslash, 0A000 for an ON that may fault.
+/// Of several causes of the first kind that stands any may be told; and 53200 where memory was refused.
 ///
 /// There are no rights yet: each user may read each table.
 pub fn bind(

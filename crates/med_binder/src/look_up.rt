@@ -158,9 +158,9 @@ fn assemble(
     })
 }
 
-/// Looks the names of a query up: 42P01 where there is no such table or a qualifier names no visible entry, 42712 where two entries have one
-/// name, 42703 where a name means no column, 42702 where it can mean several columns or outputs, 42601 for `*` without FROM, 42P10 for an
-/// order key that is the position of no output, or no output under DISTINCT.
+/// Looks the names of a query up: 42P01 where there is no such table or a qualifier names no visible entry, 42712 where two entries have
+/// one name, 42703 where a name means no column, 42702 where it can mean several columns or outputs, 42601 for `*` without FROM, 42P10 for
+/// an order key that is the position of no output, or no output under DISTINCT.
 pub fn look_up(
     alloc: Global,
     select: &Select,

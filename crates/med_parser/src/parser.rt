@@ -108,8 +108,8 @@ fn checked_command(alloc: Global, tokens: &[Token]) -> Result<Command, Cause>
 
 /// The command of a text, or why it is refused: 42601 where the text is not in the grammar, 22003 where a number is out of range,
 /// 42622 where a name has over 63 bytes, 54000 where an expression is higher than 64, or the text is not in the grammar and has over 64 of
-/// the tokens `( + - * / %` and NOT, 0A000 for FETCH 0, and 53200 where memory was refused. Where several stand, any of them may be told, but of a text that
-/// is not in the grammar never 42622.
+/// the tokens `( + - * / %` and NOT, 0A000 for FETCH 0, and 53200 where memory was refused. Where several stand, any of them may be told,
+/// but of a text that is not in the grammar never 42622.
 pub fn parse(alloc: Global, text: &str) -> Result<Command, Cause>
     // What is answered is the text's one tree.
     ensures found { IfOk result (λ c. HasCommand text.now (command_tree c)) }

@@ -19,8 +19,8 @@ use write_exec::write;
 ///
 /// # Errors
 ///
-/// What the write shows over the rows of its table, and what the kind of the box refuses; 53200, HV000 and 54000 where memory was refused, the
-/// source failed, and the box has given all its ticket numbers. No table has changed then.
+/// What the write shows over the rows of its table, and what the kind of the box refuses; 53200, HV000 and 54000 where memory was refused,
+/// the source failed, and the box has given all its ticket numbers. No table has changed then.
 pub fn write_rows<W: Wrapper>(
     slots: &mut Vec<Option<W>>,
     alloc: Global,

@@ -54,8 +54,8 @@ impl<W: Wrapper> Engine<W> {
     ghost use Rattle.med_world.specs.Engine.{Shown, IsSound, Agrees, TakesAs, EachBox, IsAtRest, ClosesAll};
     ghost use Rattle.med_world.specs.World.{World, with_source};
 
-    /// Adds a source under a name, any text, that HANDLER names by this kind. Its wrapper is to be idle: nothing bound, live or staged; and it takes
-    /// each table that the catalogue lets pass for this kind.
+    /// Adds a source under a name, any text, that HANDLER names by this kind. Its wrapper is to be idle: nothing bound, live or staged;
+    /// and it takes each table that the catalogue lets pass for this kind.
     ///
     /// # Errors
     ///

@@ -189,9 +189,9 @@ impl<W: Wrapper> Engine<W> {
     ///
     /// # Errors
     ///
-    /// A cause of the least phase in which the catalogue shows one; 55006 where a table that is dropped is leased; HV00N where the source of
-    /// a new server is not a free one of its kind; what the source of a new table says of its remote table; and 53200 and HV000 where memory
-    /// was refused, and a source failed. Then nothing changes but what a box counts.
+    /// A cause of the least phase in which the catalogue shows one; 55006 where a table that is dropped is leased; HV00N where the source
+    /// of a new server is not a free one of its kind; what the source of a new table says of its remote table; and 53200 and HV000 where
+    /// memory was refused, and a source failed. Then nothing changes but what a box counts.
     pub(crate) fn alter(&mut self, alloc: Global, user: &str, ddl: &Ddl) -> Result<(), Cause>
         requires { IsSound (shown W.meaning self.old) }
         ensures ok { OnOk result (IsAltered (shown W.meaning self.old) user.now (ddl_tree ddl.now) (shown W.meaning self.new)) }

@@ -217,8 +217,8 @@ pub fn cursors_lead()
     med_binder::law::causes_have_their_phase();
 }
 
-/// The rows that the FETCHes of one cursor gave, joined, begin one answer to its query over its tables as they stood at DECLARE; and they are
-/// all of it once one FETCH gave fewer rows than it was asked for, or was asked for ALL.
+/// The rows that the FETCHes of one cursor gave, joined, begin one answer to its query over its tables as they stood at DECLARE; and they
+/// are all of it once one FETCH gave fewer rows than it was asked for, or was asked for ALL.
 pub fn fetches_join()
     ensures begins { (c : Cursor) (f : Fetched) (fs : List Fetched) → c.handed ≡ [] → AreFetched c (f ∷ fs)
         → (left : List Tuple) × IsAnswer c.query (rows_leased c.reads) (rows_fetched (f ∷ fs) ++ left) }

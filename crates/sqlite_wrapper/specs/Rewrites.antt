@@ -9,8 +9,8 @@ use Rattle.sqlite_cells.specs.Tables.{rows_of, tree_of}
 use Rattle.sqlite_changes.specs.Kinds.{in_key_order, no_line, write_causes}
 use Rattle.sqlite_writes.specs.Writable.{KeepsTables}
 
--- the table is there and no cause stands for the changes: exactly they are made, the rows stand in the order of their keys, each under an id
--- of its own, and the other table has the rows that it had
+-- the table is there and no cause stands for the changes: exactly they are made, the rows stand in the order of their keys, each under an
+-- id of its own, and the other table has the rows that it had
 pub record Rewrites (old new : Database) (t : ℕ) (changes : List Change) : Type 0 where
   pub schema : new.schema ≡ old.schema
   pub there : tree_of old.schema (layout_at t) ≢ None

@@ -30,9 +30,9 @@ use std::collections::BTreeMap;
 
 /// A SQLite database as a source of foreign tables.
 ///
-/// Its kind is `sqlite_kind`. Its remote tables are those of the layouts, by their numbers: orders is table 0, and people table 1. The id of a row is
-/// the 64 bits of its key. A scan takes over tests of the key alone, gives whole rows in the order of their keys, and reads them by pages
-/// of 64. It is honest where its store always returns what was written.
+/// Its kind is `sqlite_kind`. Its remote tables are those of the layouts, by their numbers: orders is table 0, and people table 1. The id
+/// of a row is the 64 bits of its key. A scan takes over tests of the key alone, gives whole rows in the order of their keys, and reads
+/// them by pages of 64. It is honest where its store always returns what was written.
 #[derive(Drop)]
 pub struct SqliteWrapper<S: SourceStore + Drop> {
     conn: Connection<S>,

@@ -52,8 +52,8 @@ fn rows_there<S: SourceStore>(
 
 /// Makes the changes of a write to a table, whole or not at all, as one transaction.
 ///
-/// Refused by 23502 where a new row has no key, by 54000 where more than 1,000,000 rows would be left, and by 23505 where two would have one
-/// key; then the rows are as they were.
+/// Refused by 23502 where a new row has no key, by 54000 where more than 1,000,000 rows would be left, and by 23505 where two would have
+/// one key; then the rows are as they were.
 pub(crate) fn write_rows<S: SourceStore>(
     alloc: Global,
     conn: &mut Connection<S>,

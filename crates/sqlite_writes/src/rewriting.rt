@@ -144,8 +144,8 @@ fn change_rows<S: SourceStore>(
 
 /// Changes the rows of a table as one transaction: those of some keys are taken out, then these rows are put in, each in its place by key.
 ///
-/// Each new row is of the table's types and has a key. No key is then there twice. Refused, the rows are as they were; by 23505 alone where a key of a new row stands
-/// twice among them or is that of a row that stays. No transaction is under way after it.
+/// Each new row is of the table's types and has a key. No key is then there twice. Refused, the rows are as they were; by 23505 alone
+/// where a key of a new row stands twice among them or is that of a row that stays. No transaction is under way after it.
 pub fn rewrite<S: SourceStore>(
     conn: &mut Connection<S>,
     table: u64,

@@ -4,8 +4,8 @@
 --     tuple  = ( expr {, expr} )
 --     update = UPDATE entry SET name = expr {, name = expr} [WHERE expr]
 --     delete = DELETE FROM entry [WHERE expr]
--- An entry and a select are those of queries. Their keywords are reserved words; those of a query that are not (NULLS, FIRST and others) are
--- keywords in its tokens alone.
+-- An entry and a select are those of queries. Their keywords are reserved words; those of a query that are not (NULLS, FIRST and others)
+-- are keywords in its tokens alone.
 use Rattle.std.specs.Prelude.{◌≡◌, ℕ, List, [], ◌∷◌, ◌++◌, codes, Option, Some, None}
 use Rattle.med_value.specs.declared.order.Comparison.TheVariants.{Equal}
 use Rattle.med_lexer.specs.Lexemes.{Shape, Lexeme, Lexes}

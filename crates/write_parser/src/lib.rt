@@ -3,8 +3,8 @@
 //! `UPDATE entry SET name = expr {, name = expr} [WHERE expr]` and `DELETE FROM entry [WHERE expr]`, each with perhaps a semicolon.
 //!
 //! The grammar stands apart from the readers: `specs/WriteGrammar.antt` says which tokens spell which tree. The readers are functions on
-//! lists of terminals in `specs/WriteReading.antt`, and are proved to find each of these trees, and no other; the query of an INSERT is read
-//! by the crate of queries.
+//! lists of terminals in `specs/WriteReading.antt`, and are proved to find each of these trees, and no other; the query of an INSERT is
+//! read by the crate of queries.
 #![tactic(auto)]
 
 mod write_clauses;

@@ -3,8 +3,8 @@
 //! columns, and the types of what is written.
 //!
 //! `specs/Meaning.antt` says what a write means in terms of places, `specs/Naming.antt` which causes of names and rights stand against it,
-//! and `specs/Typing.antt` which of types, by the types of expressions whose names are places (`specs/Kinds.antt`). Expressions are bound as
-//! the query that has them as its items (`src/asking.rt`).
+//! and `specs/Typing.antt` which of types, by the types of expressions whose names are places (`specs/Kinds.antt`). Expressions are bound
+//! as the query that has them as its items (`src/asking.rt`).
 #![tactic(auto)]
 
 mod asking;
