@@ -285,7 +285,8 @@ pub fn begin<'a, V: AllocGlobal + Files + Clone + Databases + Drop>(
         → IfOk result (λ begun. BeginsBy V.Store.SourceStore.honest asked.now (option_map (λ v. v.items) begun.script)
         (shown ⟦<Source<V> as Wrapper>⟧.meaning begun.engine)) }
     ensures refused { are_honest V.Store.SourceStore.honest (places_asked asked.now) ≡ true
-        → IfErr result (λ refused. BeginsNot V.Store.SourceStore.honest asked.now (option_map (λ v. v.items) refused.script) refused.fault) }
+        → IfErr result (λ refused. BeginsNot V.Store.SourceStore.honest asked.now
+        (option_map (λ v. v.items) refused.script) refused.fault) }
 {
     let mut engine = match first_engine(rt, asked) {
         Ok(engine) => engine,

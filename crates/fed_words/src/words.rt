@@ -486,9 +486,12 @@ pub fn words_mean()
         × (sqlite_given (program ∷ codes "run" ∷ codes "--sqlite" ∷ value ∷ []) ≡ value ∷ []) }
     ensures serve { (program : Text)
         → (faults (program ∷ codes "serve" ∷ codes "--port" ∷ codes "65535" ∷ codes "--count" ∷ codes "1000" ∷ []) ≡ [])
-        × (command_named (program ∷ codes "serve" ∷ codes "--port" ∷ codes "65535" ∷ codes "--count" ∷ codes "1000" ∷ []) ≡ Some (codes "serve"))
-        × (port_given (program ∷ codes "serve" ∷ codes "--port" ∷ codes "65535" ∷ codes "--count" ∷ codes "1000" ∷ []) ≡ Some (codes "65535"))
-        × (count_given (program ∷ codes "serve" ∷ codes "--port" ∷ codes "65535" ∷ codes "--count" ∷ codes "1000" ∷ []) ≡ Some (codes "1000")) }
+        × (command_named (program ∷ codes "serve" ∷ codes "--port" ∷ codes "65535" ∷ codes "--count" ∷ codes "1000" ∷ [])
+        ≡ Some (codes "serve"))
+        × (port_given (program ∷ codes "serve" ∷ codes "--port" ∷ codes "65535" ∷ codes "--count" ∷ codes "1000" ∷ [])
+        ≡ Some (codes "65535"))
+        × (count_given (program ∷ codes "serve" ∷ codes "--port" ∷ codes "65535" ∷ codes "--count" ∷ codes "1000" ∷ [])
+        ≡ Some (codes "1000")) }
     ensures once { (program : Text) → (faults (program ∷ codes "serve" ∷ codes "--port" ∷ codes "1" ∷ []) ≡ [])
         × (count_given (program ∷ codes "serve" ∷ codes "--port" ∷ codes "1" ∷ []) ≡ None) }
     ensures ranges { (program : Text)

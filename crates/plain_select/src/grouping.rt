@@ -74,7 +74,8 @@ fn classes_of_keys(
     keys: &[Row],
     rows: &[Row],
 ) -> Result<Vec<Vec<Row>>, NoMemory>
-    ensures { IfOk result (λ v. map tuples_in v.items ≡ map (λ k. filter (spec_has_key places.now k) (map tuple rows.now)) (map tuple keys.now)) }
+    ensures { IfOk result (λ v. map tuples_in v.items
+        ≡ map (λ k. filter (spec_has_key places.now k) (map tuple rows.now)) (map tuple keys.now)) }
 {
     let mut out = Vec::new(alloc);
     for key in keys {

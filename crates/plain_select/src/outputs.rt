@@ -47,7 +47,10 @@ fn shown_by(
     items: &[Expr],
     class: &[Row],
 ) -> Result<Output, EvalFault>
-    ensures output { IfOk result (λ o. output_of o ≡ (map value_of (over (senses [] keys.now) (map tuple class.now)), map value_of (over (senses [] items.now) (map tuple class.now)))) }
+    ensures output { IfOk result (λ o. output_of o ≡ (
+      map value_of (over (senses [] keys.now) (map tuple class.now)),
+      map value_of (over (senses [] items.now) (map tuple class.now)),
+    )) }
     ensures told { Clears result (output_faults (senses [] keys.now) (senses [] items.now) (map tuple class.now)) }
 {
     let key = match values(alloc, keys, class) {
@@ -78,7 +81,8 @@ pub fn outputs_of(
     items: &[Expr],
     classes: &[Vec<Row>],
 ) -> Result<Vec<Output>, EvalFault>
-    ensures outputs { IfOk result (λ v. map output_of v.items ≡ map (λ c. (map value_of (over (senses [] keys.now) c), map value_of (over (senses [] items.now) c))) (map tuples_in classes.now)) }
+    ensures outputs { IfOk result (λ v. map output_of v.items
+        ≡ map (λ c. (map value_of (over (senses [] keys.now) c), map value_of (over (senses [] items.now) c))) (map tuples_in classes.now)) }
     ensures told { Clears result (flat_map (output_faults (senses [] keys.now) (senses [] items.now)) (map tuples_in classes.now)) }
 {
     let mut out = Vec::new(alloc);
