@@ -40,54 +40,6 @@ fn cursors(rt: HostRuntime) -> Result<(), Fail> {
     )
 }
 
-#[test]
-fn refused_cursors(rt: HostRuntime) -> Result<(), Fail> {
-    assert_rows::<Printed>(
-        rt.alloc(),
-        &rt,
-        "DECLARE c => Syntax\n\
-        DECLARE CURSOR FOR SELECT 1 => Syntax\n\
-        DECLARE c CURSOR SELECT 1 => Syntax\n\
-        DECLARE c CURSOR FOR => Syntax\n\
-        DECLARE c SCROLL CURSOR FOR SELECT 1 => Syntax\n\
-        DECLARE c NO SCROLL INSENSITIVE CURSOR FOR SELECT 1 => Syntax\n\
-        DECLARE c CURSOR WITHOUT HOLD FOR SELECT 1 => Syntax\n\
-        DECLARE c CURSOR FOR (SELECT 1) => Syntax\n\
-        DECLARE c CURSOR FOR DELETE FROM t => Syntax\n\
-        DECLARE c CURSOR FOR FETCH d => Syntax\n\
-        DECLARE c CURSOR FOR SELECT 1; CLOSE c => Syntax\n\
-        DECLARE select CURSOR FOR SELECT 1 => Syntax\n\
-        FETCH => Syntax\n\
-        FETCH ALL => Syntax\n\
-        FETCH 1 => Syntax\n\
-        FETCH FROM => Syntax\n\
-        FETCH -1 c => Syntax\n\
-        FETCH 1 2 c => Syntax\n\
-        FETCH NEXT 1 c => Syntax\n\
-        FETCH FROM IN c => Syntax\n\
-        FETCH PRIOR FROM c => Syntax\n\
-        FETCH 'c' => Syntax\n\
-        FETCH c d => Syntax\n\
-        FETCH c.d => Syntax\n\
-        CLOSE => Syntax\n\
-        CLOSE ALL => Syntax\n\
-        CLOSE c d => Syntax\n\
-        CLOSE c;; => Syntax\n\
-        INSERT INTO t FETCH c => Syntax\n\
-        FETCH c a234567890b234567890c234567890d234567890e234567890f234567890g234 => Syntax\n\
-        FETCH a234567890b234567890c234567890d234567890e234567890f234567890g234 => NameTooLong\n\
-        CLOSE a234567890b234567890c234567890d234567890e234567890f234567890g234 => NameTooLong\n\
-        DECLARE a234567890b234567890c234567890d234567890e234567890f234567890g234 CURSOR FOR SELECT 1 => NameTooLong\n\
-        FETCH 0 => Syntax\n\
-        FETCH 0 c => FetchZero\n\
-        FETCH 00 FROM c; => FetchZero\n\
-        FETCH 9223372036854775808 c => LiteralOutOfRange\n\
-        FETCH 99999999999999999999 FROM c => LiteralOutOfRange\n\
-        DECLARE c CURSOR FOR SELECT 9223372036854775808 => LiteralOutOfRange\n\
-        DECLARE c CURSOR FOR SELECT 1 LIMIT 9223372036854775808 => LiteralOutOfRange",
-    )
-}
-
 // 64 is the height that is read; of a text that is no command 64 tokens that can deepen an expression are not too many.
 #[test]
 fn heights_of_cursors(rt: HostRuntime) -> Result<(), Fail> {

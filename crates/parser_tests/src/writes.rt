@@ -49,48 +49,6 @@ fn updates_and_deletes(rt: HostRuntime) -> Result<(), Fail> {
     )
 }
 
-#[test]
-fn refused_writes(rt: HostRuntime) -> Result<(), Fail> {
-    assert_rows::<Printed>(
-        rt.alloc(),
-        &rt,
-        "INSERT t VALUES (1) => Syntax\n\
-        INSERT INTO t => Syntax\n\
-        INSERT INTO t VALUES => Syntax\n\
-        INSERT INTO t VALUES () => Syntax\n\
-        INSERT INTO t VALUES 1 => Syntax\n\
-        INSERT INTO t VALUES (1), => Syntax\n\
-        INSERT INTO t () VALUES (1) => Syntax\n\
-        INSERT INTO t (a + 1) VALUES (1) => Syntax\n\
-        INSERT INTO t u VALUES (1) => Syntax\n\
-        INSERT INTO t (SELECT 1) => Syntax\n\
-        INSERT INTO t VALUES (1) WHERE a => Syntax\n\
-        INSERT INTO t VALUES (1); DELETE FROM t => Syntax\n\
-        INSERT INTO t UPDATE u SET a = 1 => Syntax\n\
-        UPDATE t => Syntax\n\
-        UPDATE t SET a => Syntax\n\
-        UPDATE t SET t.a = 1 => Syntax\n\
-        UPDATE t SET a = 1, => Syntax\n\
-        UPDATE t SET (a) = 1 => Syntax\n\
-        UPDATE t, u SET a = 1 => Syntax\n\
-        UPDATE SET a = 1 => Syntax\n\
-        DELETE t => Syntax\n\
-        DELETE FROM t, u => Syntax\n\
-        DELETE FROM t WHERE => Syntax\n\
-        DELETE FROM t WHERE a ORDER BY a => Syntax\n\
-        DELETE FROM a234567890b234567890c234567890d234567890e234567890f234567890g234 => NameTooLong\n\
-        UPDATE t SET a234567890b234567890c234567890d234567890e234567890f234567890g234 = 1 => NameTooLong\n\
-        INSERT INTO t (a234567890b234567890c234567890d234567890e234567890f234567890g234) VALUES (1) => NameTooLong\n\
-        UPDATE a234567890b234567890c234567890d234567890e234567890f234567890g234 SET => Syntax\n\
-        INSERT INTO t VALUES (9223372036854775808) => LiteralOutOfRange\n\
-        INSERT INTO t VALUES (1), (2, 1 - 9223372036854775808) => LiteralOutOfRange\n\
-        INSERT INTO t SELECT 1 LIMIT 9223372036854775808 => LiteralOutOfRange\n\
-        UPDATE t SET a = 1, b = 9223372036854775808 => LiteralOutOfRange\n\
-        UPDATE t SET a = 1 WHERE b = 9223372036854775808 => LiteralOutOfRange\n\
-        DELETE FROM t WHERE a = 99999999999999999999 => LiteralOutOfRange",
-    )
-}
-
 // 64 is the height that is read; many low expressions are no high one.
 #[test]
 fn heights_of_writes(rt: HostRuntime) -> Result<(), Fail> {
