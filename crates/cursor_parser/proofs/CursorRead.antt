@@ -37,7 +37,7 @@ use Rattle.cursor_syntax.specs.CursorView.{cursor_tree}
 use Rattle.cursor_parser.specs.CursorGrammar.{Declaring, QueryIs, IsCursor}
 use Rattle.cursor_parser.specs.CursorReading.{held_of, properties_of, declared_of, plain_of, ended, plain_line, query_of, line_behind, line_of}
 use Rattle.cursor_parser.specs.CursorCauses.{Refuses}
-use Rattle.cursor_parser.proofs.QueryWeighing.{words_weigh, bounded_sound, bounded_out, bounded_told}
+use Rattle.query_reader.proofs.QueryWeighing.{words_weigh, bounded_sound, bounded_out, bounded_told}
 use Rattle.cursor_parser.proofs.CursorSound.{err_ok, Plain, declared_sound, plain_line_sound, plain_found}
 use Rattle.cursor_parser.proofs.CursorComplete.{declared_takes, plain_line_takes, undeclared, first_fetch, first_close, first_declare}
 

@@ -1,87 +1,24 @@
 -- What is read so is spelled so.
-use Rattle.std.proofs.Common.{◌≡◌, ℕ, inl, inr, Bool, true, false, cond, List, [], ◌∷◌, ◌++◌, refl, sym, ◌∙◌, ap, subst, append_assoc, codes}
+use Rattle.std.proofs.Common.{◌≡◌, ℕ, inl, inr, Bool, true, false, cond, List, [], ◌∷◌, refl, subst, codes}
 use Rattle.std.specs.Prelude.{Result, Ok, Err, Option, Some, None}
 use Rattle.std.specs.Str.Parse.{digits_value}
 use Rattle.med_lexer.specs.declared.Mark.TheVariants as marks
-use Rattle.med_lexer.specs.Lexemes.{Shape, word, quoted, number, mark}
+use Rattle.med_lexer.specs.Lexemes.{Shape, word, number, mark}
 use Rattle.expr_grammar.specs.declared.refusal.Refusal.{Refusal}
 use Rattle.expr_grammar.specs.declared.refusal.Refusal.TheVariants.{Syntax}
 use Rattle.expr_grammar.specs.ExprReading.{choose}
-use Rattle.expr_grammar.proofs.ExprSound.{bind_ok, ok_same}
-use Rattle.med_syntax.specs.Tree.{Name}
-use Rattle.med_syntax.specs.Words.{is_reserved}
-use Rattle.ddl_parser.specs.DdlGrammar.{Form, Both, ◌⋯◌, keywords, Words, WordsIf, WordsOrNot, NameIs, IsEnd}
-use Rattle.ddl_parser.specs.DdlReading.{Parser, seq, behind_word, behind_words, expect, words_if, name_of, is_end}
-use Rattle.ddl_parser.proofs.DdlSound.{FoundForm, Sound, word_is, words_are}
+use Rattle.expr_grammar.proofs.ExprSound.{ok_same}
+use Rattle.ddl_parser.specs.DdlGrammar.{Form, Both, ◌⋯◌, Words, WordsOrNot, IsEnd}
+use Rattle.ddl_parser.specs.DdlReading.{behind_word, expect, words_if, name_of, is_end}
+use Rattle.ddl_parser.proofs.DdlSound.{FoundForm, Sound, word_is}
 use Rattle.cursor_syntax.specs.CursorTree.{CountTree, some_rows, all_rows, CursorTree, declare, fetch, close}
 use Rattle.cursor_parser.specs.CursorGrammar.{Properties, Declaring, CountIs, FromOrIn, Fetching, Closing, IsCursor}
 use Rattle.cursor_parser.specs.CursorReading.{held_of, properties_of, declared_of, next_of, word_count_of, count_of, from_of, fetch_of, close_of, plain_of, ended, plain_line}
+use Rattle.ddl_parser.proofs.DdlSound.{found_both, found_as, err_ok, seq_sound, word_found, nothing_found, expect_sound, if_sound, or_not, name_sound}
 
 -- ---- what is found
 
-found_both : {S T : Form} {ts middle rest : List Shape} → FoundForm S ts middle → FoundForm T middle rest → FoundForm (Both S T) ts rest
-found_both {S} {T} {ts} {middle} {rest} f g = record {
-  front = f.front ++ g.front;
-  is = f.is ∙ ap (λ us. f.front ++ us) g.is ∙ sym (append_assoc f.front g.front rest);
-  spelled = record { front = f.front; behind = g.front; is = refl; first = f.spelled; second = g.spelled };
-}
-
--- what is found for x, where x and what is left are told to be others
-found_as : {X : Type 0} (S : X → Form) (ts : List Shape) (x y : X) (rest last : List Shape) → ◌≡◌ {A = Result (X × List Shape) Refusal} (Ok (x, rest)) (Ok (y, last)) → FoundForm (S x) ts rest → FoundForm (S y) ts last
-found_as {X} S ts x y rest last h f =
-    let e : ◌≡◌ {A = X × List Shape} (x, rest) (y, last) = ok_same (x, rest) (y, last) h in
-    subst (λ (p : X × List Shape). FoundForm (S p.0) ts p.1) e f
-
-pub err_ok : {A : Type 0} (f : Refusal) (x : A) → ◌≡◌ {A = Result A Refusal} (Err f) (Ok x) → ⊥
-err_ok f x h = absurd (cc)
-
-seq_sound : {X Y : Type 0} (p : Parser X) (f : X → Parser Y) (ts : List Shape) (y : Y) (rest : List Shape) → seq p f ts ≡ Ok (y, rest) → (x : X) × (middle : List Shape) × (p ts ≡ Ok (x, middle)) × (f x middle ≡ Ok (y, rest))
-unfolding seq
-seq_sound p f ts y rest h = let x = bind_ok (p ts) (λ x. f x.0 x.1) (y, rest) h in (x.0.0, x.0.1, x.1, x.2)
-
 -- ---- words and names
-
-words_found : (ws : List (List ℕ)) (ts after : List Shape) → behind_words ws ts ≡ Some after → FoundForm (Words ws) ts after
-words_found ws ts after h = record { front = keywords ws; is = words_are ws ts after h; spelled = refl }
-
-word_found : (w : List ℕ) (ts after : List Shape) → behind_word w ts ≡ Some after → FoundForm (Words (w ∷ [])) ts after
-word_found w ts after h = record { front = word w ∷ []; is = word_is w ts after h; spelled = refl }
-
-nothing_found : (S : Form) (ts : List Shape) → S [] → FoundForm S ts ts
-nothing_found S ts s = record { front = []; is = refl; spelled = s }
-
-expect_sound : (ws : List (List ℕ)) → Sound (λ (u : Unit {0}). Words ws) (expect ws)
-unfolding expect
-expect_sound ws ts u rest h =
-    let go : (o : Option (List Shape)) → behind_words ws ts ≡ o → choose {B = Result (Unit {0} × List Shape) Refusal} o (Err Syntax) (λ after. Ok (tt, after)) ≡ Ok (u, rest) → FoundForm (Words ws) ts rest = elim [
-      | None ↦ (λ p e. absurd (err_ok Syntax (u, rest) e))
-      | Some after ↦ (λ p e. found_as (λ (v : Unit {0}). Words ws) ts tt u after rest e (words_found ws ts after p))
-    ]
-    in go (behind_words ws ts) refl h
-
-if_sound : (ws : List (List ℕ)) → Sound (WordsIf ws) (words_if ws)
-unfolding words_if
-if_sound ws ts b rest h =
-    let go : (o : Option (List Shape)) → behind_words ws ts ≡ o → choose {B = Result (Bool × List Shape) Refusal} o (Ok (false, ts)) (λ after. Ok (true, after)) ≡ Ok (b, rest) → FoundForm (WordsIf ws b) ts rest = elim [
-      | None ↦ (λ p e. found_as (WordsIf ws) ts false b ts rest e (nothing_found (WordsIf ws false) ts refl))
-      | Some after ↦ (λ p e. found_as (WordsIf ws) ts true b after rest e (words_found ws ts after p))
-    ]
-    in go (behind_words ws ts) refl h
-
--- words that the tree does not hold
-or_not : (ws : List (List ℕ)) (b : Bool) (ts rest : List Shape) → FoundForm (WordsIf ws b) ts rest → FoundForm (WordsOrNot ws) ts rest
-or_not ws true ts rest f = record { front = f.front; is = f.is; spelled = inr f.spelled }
-or_not ws false ts rest f = record { front = f.front; is = f.is; spelled = inl f.spelled }
-
-word_name : (w : List ℕ) (us : List Shape) (n : Name) (rest : List Shape) (b : Bool) → is_reserved w ≡ b → cond {A = Result (Name × List Shape) Refusal} b (Err Syntax) (Ok (w, us)) ≡ Ok (n, rest) → FoundForm (NameIs n) (word w ∷ us) rest
-word_name w us n rest true e h = absurd (err_ok Syntax (n, rest) h)
-word_name w us n rest false e h = found_as NameIs (word w ∷ us) w n us rest h (record { front = word w ∷ []; is = refl; spelled = inr (refl, e) })
-
-name_sound : Sound NameIs name_of
-name_sound [] n rest h = absurd (err_ok Syntax (n, rest) h)
-name_sound (word w ∷ us) n rest h = word_name w us n rest (is_reserved w) refl h
-name_sound (quoted q ∷ us) n rest h = found_as NameIs (quoted q ∷ us) q n us rest h (record { front = quoted q ∷ []; is = refl; spelled = inl refl })
-name_sound (t ∷ us) n rest h = absurd (err_ok Syntax (n, rest) h)
 
 -- ---- DECLARE
 

@@ -1,4 +1,3 @@
-pub mod QueryWeighing
 pub mod CursorSound
 pub mod CursorComplete
 pub mod CursorRead

@@ -1,27 +1,26 @@
 -- The height of an expression is bounded by its heavy terminals.
-use Rattle.std.proofs.Common.{◌≡◌, ℕ, suc, ◌+◌, ◌-◌, ◌*◌, ◌≤◌, ◌<◌, ◌⊎◌, inl, inr, Bool, true, false, cond, List, [], ◌∷◌, ◌++◌, length, refl, sym, ◌∙◌, ap, subst, arith, codes}
-use Rattle.std.specs.Prelude.{Result, Ok, Err, count_by, nat_le}
+use Rattle.std.proofs.Common.{◌≡◌, ℕ, suc, ◌+◌, ◌-◌, ◌*◌, ◌≤◌, ◌<◌, ◌⊎◌, Bool, true, false, cond, List, [], ◌∷◌, ◌++◌, length, refl, sym, ◌∙◌, ap, arith, codes}
+use Rattle.std.specs.Prelude.{Ok, Err, count_by}
 use Rattle.std.specs.Str.{bytes_eq}
-use Rattle.std.proofs.lemmas.Bool.{le-leb, lt-leb}
 use Rattle.std.proofs.lemmas.List.Recursion.{is_count_by}
 use Rattle.std.proofs.lemmas.Slice.Eq.{bytes_eq-Decides}
 use Rattle.med_lexer.specs.declared.Mark.{Mark}
 use Rattle.med_lexer.specs.declared.Mark.TheVariants as marks
 use Rattle.med_lexer.specs.Lexemes.{Shape, word, quoted, literal, number, mark}
 use Rattle.med_syntax.specs.declared.expr.Joint.TheVariants.{Or, And}
-use Rattle.expr_grammar.specs.declared.refusal.Refusal.{Refusal}
 use Rattle.expr_grammar.specs.declared.refusal.Refusal.TheVariants.{Syntax, TooHigh}
 use Rattle.expr_grammar.specs.Shapes.{deepens}
 use Rattle.med_syntax.specs.Words.{is_reserved}
-use Rattle.med_syntax.specs.Terminal.{Terminal, mark_terminal, plain_word, word_terminal}
+use Rattle.med_syntax.specs.Terminal.{Terminal, mark_terminal, word_terminal}
 use Rattle.med_syntax.specs.Terminal as t
 use Rattle.expr_grammar.specs.ExprTerminals.{follows, terminal_at, terminals_at}
 use Rattle.med_syntax.specs.ExprTree.{ExprTree, ExprTrees, call, paren, minus, binary, between, among, like, compare, tested, negation, chain, none, more, perhaps_not, status_terminal, joint_level, height, highest, level, Fits, AllFit, spelling, parts_spelling, spellings, IsExpr}
 use Rattle.expr_grammar.specs.ExprReading.{all_of}
-use Rattle.expr_grammar.specs.ExprWeight.{is_heavy, weight, again, judged, bounded_of}
-use Rattle.expr_grammar.proofs.ExprChains.{binary_high, joint_low, low_or_high}
+use Rattle.expr_grammar.specs.ExprWeight.{is_heavy, weight, bounded_of}
+use Rattle.expr_grammar.proofs.ExprChains.{binary_high, joint_low}
 use Rattle.expr_grammar.proofs.ExprComplete.{reads_all, refuses_high}
-use Rattle.expr_grammar.proofs.ExprSound.{all_sound, ok_same}
+use Rattle.expr_grammar.proofs.BoundedReading.{ReadsInRoom, tried_sound, tried_out, tried_told}
+use Rattle.expr_grammar.proofs.ExprSound.{all_sound}
 
 weight_cons : (u : Terminal) (us vs : List Terminal) → weight (us ++ vs) ≡ weight us + weight vs → weight (u ∷ (us ++ vs)) ≡ weight (u ∷ us) + weight vs
 weight_cons u us vs h =
@@ -104,81 +103,24 @@ mutual
       let b = all_bound sep n es f.2 in
       omega (arith, weight_append (spelling e) (spellings sep es), weight_more sep (spelling e ++ spellings sep es))
 
-bounded_height : (ts : List Terminal) (e : ExprTree) → IsExpr ts e → weight ts ≤ 64 → height e ≤ 455
-bounded_height ts e x h = omega (arith, bound e x.fits, ap weight x.spelled)
-
 -- ---- what the bounded reader gives
 
-judged_high : (ts : List Terminal) → all_of 64 ts ≡ Err TooHigh → bounded_of ts ≡ cond (nat_le (weight ts) 64) (again (all_of 455 ts)) (Err TooHigh)
-unfolding bounded_of
-judged_high ts h = rw h refl
-
-pub bounded_reads : (ts : List Terminal) (e : ExprTree) → IsExpr ts e → height e ≤ 64 → bounded_of ts ≡ Ok e
-unfolding bounded_of
-bounded_reads ts e x low = rw (reads_all 64 ts e x low) refl
-
-pub bounded_high : (ts : List Terminal) (e : ExprTree) → IsExpr ts e → 64 < height e → bounded_of ts ≡ Err TooHigh
-bounded_high ts e x high =
-    judged_high ts (refuses_high 64 ts e x high) ∙ elim (low_or_high (weight ts) 64) [
-      | inl h ↦ rw (le-leb (weight ts) 64 h) (ap again (reads_all 455 ts e x (bounded_height ts e x h)))
-      | inr h ↦ rw (lt-leb (weight ts) 64 h) refl
-    ]
+in_room : ReadsInRoom IsExpr height all_of
+in_room = record { reads = reads_all; refuses = refuses_high; sound = all_sound; low = λ ts e x. omega (arith, bound e x.fits, ap weight x.spelled) }
 
 pub bounded_sound : (ts : List Terminal) (e : ExprTree) → bounded_of ts ≡ Ok e → IsExpr ts e × (height e ≤ 64)
 unfolding bounded_of
-bounded_sound ts e g =
-    let again_no : (r : Result ExprTree Refusal) → ◌≡◌ {A = Result ExprTree Refusal} (again r) (Ok e) → ⊥ = elim [ Ok x ↦ (λ h. absurd (cc)) | Err f ↦ (λ h. absurd (cc)) ] in
-    let few_no : (b : Bool) → ◌≡◌ {A = Result ExprTree Refusal} (cond b (again (all_of 455 ts)) (Err TooHigh)) (Ok e) → ⊥ = elim [ true ↦ again_no (all_of 455 ts) | false ↦ (λ h. absurd (cc)) ] in
-    let go : (r : Result ExprTree Refusal) → all_of 64 ts ≡ r → judged (nat_le (weight ts) 64) r (all_of 455 ts) ≡ Ok e → IsExpr ts e × (height e ≤ 64) = elim [
-      | Ok d ↦ (λ p q. subst (λ y. IsExpr ts y × (height y ≤ 64)) (ok_same d e q) (all_sound 64 ts d p))
-      | Err Syntax ↦ (λ p q. absurd (cc))
-      | Err TooHigh ↦ (λ p q. absurd (few_no (nat_le (weight ts) 64) q))
-    ]
-    in go (all_of 64 ts) refl g
+bounded_sound ts e g = tried_sound IsExpr height all_of in_room ts e g
 
 -- what is refused as no expression is none
 pub bounded_out : (ts : List Terminal) → bounded_of ts ≡ Err Syntax → (e : ExprTree) → IsExpr ts e → ⊥
-bounded_out ts g e x =
-    elim (low_or_high (height e) 64) [
-      | inl h ↦ (let p : ◌≡◌ {A = Result ExprTree Refusal} (Ok e) (Err Syntax) = sym (bounded_reads ts e x h) ∙ g in absurd (cc))
-      | inr h ↦ (let p : ◌≡◌ {A = Result ExprTree Refusal} (Err TooHigh) (Err Syntax) = sym (bounded_high ts e x h) ∙ g in absurd (cc))
-    ]
-
-wide_told : (ts : List Terminal) → ((e : ExprTree) → IsExpr ts e → ⊥) → (w : Result ExprTree Refusal) → all_of 455 ts ≡ w → again w ≡ Err TooHigh → ⊥
-wide_told ts outside (Ok d) p h = outside d (all_sound 455 ts d p).0
-wide_told ts outside (Err f) p h = absurd (let bad : ◌≡◌ {A = Result ExprTree Refusal} (Err Syntax) (Err TooHigh) = h in cc)
-
-few_told : (ts : List Terminal) → ((e : ExprTree) → IsExpr ts e → ⊥) → (r : Result ExprTree Refusal) → judged true r (all_of 455 ts) ≡ Err TooHigh → ⊥
-few_told ts outside (Ok d) h = absurd (cc)
-few_told ts outside (Err Syntax) h = absurd (let bad : ◌≡◌ {A = Result ExprTree Refusal} (Err Syntax) (Err TooHigh) = h in cc)
-few_told ts outside (Err TooHigh) h = wide_told ts outside (all_of 455 ts) refl h
-
-many_of : (ts : List Terminal) → ((e : ExprTree) → IsExpr ts e → ⊥) → bounded_of ts ≡ Err TooHigh → 64 < weight ts
 unfolding bounded_of
-many_of ts outside g =
-    elim (low_or_high (weight ts) 64) [
-      | inl h ↦ absurd (few_told ts outside (all_of 64 ts) (ap (λ b. judged b (all_of 64 ts) (all_of 455 ts)) (sym (le-leb (weight ts) 64 h)) ∙ g))
-      | inr h ↦ h
-    ]
-
-high_of : (ts : List Terminal) (d : ExprTree) → IsExpr ts d → bounded_of ts ≡ Err TooHigh → 64 < height d
-high_of ts d x g =
-    elim (low_or_high (height d) 64) [
-      | inl h ↦ absurd (let p : ◌≡◌ {A = Result ExprTree Refusal} (Ok d) (Err TooHigh) = sym (bounded_reads ts d x h) ∙ g in cc)
-      | inr h ↦ h
-    ]
+bounded_out ts g e x = tried_out IsExpr height all_of in_room ts g e x
 
 -- what is refused as too high is so, or is no expression and has many heavy terminals
 pub bounded_told : (ts : List Terminal) → bounded_of ts ≡ Err TooHigh → ((e : ExprTree) × IsExpr ts e × (64 < height e)) ⊎ (((e : ExprTree) → IsExpr ts e → ⊥) × (64 < weight ts))
-bounded_told ts g =
-    let room : ℕ = 7 * weight ts + 7 in
-    let go : (r : Result ExprTree Refusal) → all_of room ts ≡ r → ((e : ExprTree) × IsExpr ts e × (64 < height e)) ⊎ (((e : ExprTree) → IsExpr ts e → ⊥) × (64 < weight ts)) = elim [
-      | Ok d ↦ (λ p. let x = (all_sound room ts d p).0 in inl (d, x, high_of ts d x g))
-      | Err f ↦ (λ p.
-          let outside : (e : ExprTree) → IsExpr ts e → ⊥ = λ e x. (let q : ◌≡◌ {A = Result ExprTree Refusal} (Ok e) (Err f) = sym (reads_all room ts e x (omega (arith, bound e x.fits, ap weight x.spelled))) ∙ p in absurd (cc)) in
-          inr (outside, many_of ts outside g))
-    ]
-    in go (all_of room ts) refl
+unfolding bounded_of
+bounded_told ts g = tried_told IsExpr height all_of in_room ts g
 
 -- ---- heavy terminals are the tokens that deepen
 

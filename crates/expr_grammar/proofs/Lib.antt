@@ -4,4 +4,5 @@ pub mod ExprChains
 pub mod ExprComplete
 pub mod ExprSound
 pub mod ExprTerminals
+pub mod BoundedReading
 pub mod ExprWeighing

@@ -28,6 +28,10 @@ judged few (Err TooHigh) wide = cond few (again wide) (Err TooHigh)
 judged few (Err Syntax) wide = Err Syntax
 judged few (Ok e) wide = Ok e
 
--- With few heavy terminals, room for any tree that they can have: then no room left means no tree.
+-- What a reader gives with room for 64 levels; with few heavy terminals, room for any tree that they can have: then no room left means no
+-- tree.
+abbrev pub bounded : {X : Type 0} → (ℕ → List Terminal → Result X Refusal) → List Terminal → Result X Refusal
+bounded read ts = judged (nat_le (weight ts) 64) (read 64 ts) (read 455 ts)
+
 unfoldable pub bounded_of : List Terminal → Result ExprTree Refusal
-bounded_of ts = judged (nat_le (weight ts) 64) (all_of 64 ts) (all_of 455 ts)
+bounded_of ts = bounded all_of ts

@@ -63,7 +63,7 @@ use Rattle.expr_grammar.proofs.TokenNumbers.{small_at}
 use Rattle.query_reader.proofs.QueryComplete.{one_line}
 use Rattle.ddl_parser.proofs.DdlComplete as ddl
 use Rattle.query_grammar.proofs.QueryTerminals.{to_terminals, of_terminals}
-use Rattle.write_parser.proofs.QueryWeighing.{words_weigh, bounded_sound, bounded_out, bounded_told}
+use Rattle.query_reader.proofs.QueryWeighing.{words_weigh, bounded_sound, bounded_out, bounded_told}
 use Rattle.std.specs.Str.{bytes_eq}
 use Rattle.std.proofs.lemmas.Slice.Eq.{bytes_eq-Decides}
 

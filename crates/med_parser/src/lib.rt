@@ -13,7 +13,7 @@
 //! `query_reader` a part of the list reader (`specs/QueryReading.antt`), a lemma `_takes` and one `_sound` (`proofs/ClauseComplete.antt`,
 //! `proofs/ClauseSound.antt`), and a function in `src/query_statement.rt`, `src/query_source.rt` or `src/query_keys.rt`; in `query_print`
 //! a line in `specs/QueryPrinting.antt` and `proofs/QueryPrints.antt`, and a function in `src/query_writer.rt`; a line in
-//! `proofs/QueryWeighing.antt` of `write_parser`; and a function in `query_range`. Lists, and parts that may be left out behind their
+//! `proofs/QueryWeighing.antt` of `query_reader`; and a function in `query_range`. Lists, and parts that may be left out behind their
 //! keywords, have relations, readers and lemmas of their own (`SpellsListed`, `SpellsPerhaps`). The part before a clause has to stop at its
 //! keyword (`Clear`). A word that is optional in the text is no part of the tree: its relation allows both spellings. A kind of statement
 //! is a constructor of `StatementTree` with the same.

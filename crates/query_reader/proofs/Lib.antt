@@ -6,3 +6,4 @@ pub mod ClauseSound
 pub mod QuerySound
 pub mod QueryLoop
 pub mod QuerySteps
+pub mod QueryWeighing

@@ -1,5 +1,5 @@
 -- Reading statements by recursive descent, on lists of terminals, with room for the height of each expression.
-use Rattle.std.specs.Prelude.{ℕ, zero, suc, Bool, true, false, cond, nat_le, List, [], ◌∷◌, length, codes, Result, Ok, Err, Option, Some, None}
+use Rattle.std.specs.Prelude.{ℕ, zero, suc, Bool, true, false, cond, List, [], ◌∷◌, length, codes, Result, Ok, Err, Option, Some, None}
 use Rattle.std.specs.Str.{bytes_eq}
 use Rattle.med_value.specs.declared.operators.Operation.TheVariants.{Multiply}
 use Rattle.expr_grammar.specs.declared.refusal.Refusal.{Refusal}
@@ -14,7 +14,7 @@ use Rattle.med_syntax.specs.Terminal as t
 use Rattle.med_syntax.specs.ExprTree.{ExprTree}
 use Rattle.expr_grammar.specs.ExprReading.{◌>>=◌, choose, below}
 use Rattle.expr_grammar.specs.ExprSteps.{behind_of}
-use Rattle.expr_grammar.specs.ExprWeight.{weight, judged}
+use Rattle.expr_grammar.specs.ExprWeight.{bounded}
 use Rattle.med_syntax.specs.QueryTree.{ItemTree, all, all_of, value, EntryTree, JoinTree, inner_join, left_join, cross_join, ChainTree, GroupTree, KeyTree, LimitTree, no_limit, rows, SelectTree, StatementTree, select}
 
 -- what stands at the front and the terminals behind it, or the refusal
@@ -225,6 +225,5 @@ is_end ts = false
 unfoldable pub line_of : ℕ → List Terminal → Result StatementTree Refusal
 line_of room ts = statement_of room ts >>= λ x. cond (is_end x.1) (Ok x.0) (Err Syntax)
 
--- With few heavy terminals, room for any tree that they can have: then no room left means no tree.
 unfoldable pub bounded_line : List Terminal → Result StatementTree Refusal
-bounded_line ts = judged (nat_le (weight ts) 64) (line_of 64 ts) (line_of 455 ts)
+bounded_line ts = bounded line_of ts

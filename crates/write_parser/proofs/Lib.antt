@@ -1,6 +1,5 @@
 pub mod WriteSound
 pub mod WriteComplete
-pub mod QueryWeighing
 pub mod WriteWeighing
 pub mod WriteTokens
 pub mod WriteRead

@@ -42,8 +42,8 @@ use Rattle.write_parser.specs.WriteReading.{query_at, bounded_plain}
 use Rattle.write_parser.specs.WriteCauses.{Refuses}
 use Rattle.write_parser.proofs.WriteSound.{IsPlain}
 use Rattle.write_parser.proofs.WriteComplete.{reads_line, one_line}
-use Rattle.write_parser.proofs.QueryWeighing.{words_weigh}
-use Rattle.write_parser.proofs.QueryWeighing as query
+use Rattle.query_reader.proofs.QueryWeighing.{words_weigh}
+use Rattle.query_reader.proofs.QueryWeighing as query
 use Rattle.write_parser.proofs.WriteWeighing.{bounded_sound, bounded_out, bounded_told}
 use Rattle.write_parser.proofs.WriteTokens.{AskedInsert, Parted, plain_write, write_cases, query_reads, query_plain, query_parted, same_length}
 

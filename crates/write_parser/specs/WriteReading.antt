@@ -1,10 +1,10 @@
 -- Reading the statements that write rows by recursive descent, on lists of terminals, with room for the height of each expression.
-use Rattle.std.specs.Prelude.{ℕ, cond, nat_le, List, [], ◌∷◌, codes, Result, Ok, Err, Option, Some, None}
+use Rattle.std.specs.Prelude.{ℕ, cond, List, [], ◌∷◌, codes, Result, Ok, Err, Option, Some, None}
 use Rattle.med_value.specs.declared.order.Comparison.TheVariants.{Equal}
 use Rattle.expr_grammar.specs.declared.refusal.Refusal.{Refusal}
 use Rattle.expr_grammar.specs.declared.refusal.Refusal.TheVariants.{Syntax}
 use Rattle.expr_grammar.specs.ExprReading.{◌>>=◌, choose, below}
-use Rattle.expr_grammar.specs.ExprWeight.{weight, judged}
+use Rattle.expr_grammar.specs.ExprWeight.{bounded}
 use Rattle.med_syntax.specs.Tree.{Name}
 use Rattle.med_syntax.specs.Terminal.{Terminal}
 use Rattle.med_syntax.specs.Terminal as t
@@ -78,9 +78,8 @@ plain_of room ts =
 unfoldable pub plain_line : ℕ → List Terminal → Result WriteTree Refusal
 plain_line room ts = plain_of room ts >>= λ x. cond (is_end x.1) (Ok x.0) (Err Syntax)
 
--- With few heavy terminals, room for any tree that they can have: then no room left means no tree.
 unfoldable pub bounded_plain : List Terminal → Result WriteTree Refusal
-bounded_plain ts = judged (nat_le (weight ts) 64) (plain_line 64 ts) (plain_line 455 ts)
+bounded_plain ts = bounded plain_line ts
 
 -- behind a target, where SELECT follows
 unfoldable pub query_at : Parser (Name × Option (List Name))

@@ -1,8 +1,6 @@
 -- The height of a statement's expressions is bounded by its heavy terminals.
-use Rattle.std.proofs.Common.{◌≡◌, ℕ, ◌+◌, ◌*◌, ◌≤◌, ◌<◌, ◌⊎◌, inl, inr, Bool, true, false, cond, List, [], ◌∷◌, ◌++◌, refl, sym, ◌∙◌, ap, subst, arith, codes}
-use Rattle.std.specs.Prelude.{Result, Ok, Err, Some, None, nat_le, count_by}
-use Rattle.std.proofs.lemmas.Bool.{le-leb, lt-leb}
-use Rattle.expr_grammar.specs.declared.refusal.Refusal.{Refusal}
+use Rattle.std.proofs.Common.{◌≡◌, ℕ, ◌+◌, ◌*◌, ◌≤◌, ◌<◌, ◌⊎◌, Bool, true, false, cond, List, [], ◌∷◌, ◌++◌, refl, sym, ◌∙◌, ap, arith, codes}
+use Rattle.std.specs.Prelude.{Ok, Err, Some, None, count_by}
 use Rattle.expr_grammar.specs.declared.refusal.Refusal.TheVariants.{Syntax, TooHigh}
 use Rattle.std.proofs.lemmas.List.Recursion.{is_count_by}
 use Rattle.med_lexer.specs.Lexemes.{Shape, word, quoted, literal, number, mark}
@@ -13,12 +11,11 @@ use Rattle.query_grammar.specs.QueryTerminals.{is_one_of, keywords_at, word_at, 
 use Rattle.med_syntax.specs.Terminal.{Terminal}
 use Rattle.med_syntax.specs.Terminal as t
 use Rattle.med_syntax.specs.ExprTree.{ExprTree, height, IsExpr}
-use Rattle.expr_grammar.specs.ExprWeight.{is_heavy, weight, again, judged}
+use Rattle.expr_grammar.specs.ExprWeight.{is_heavy, weight}
 use Rattle.med_syntax.specs.QueryTree.{ItemTree, all, all_of, value, EntryTree, inner_join, left_join, cross_join, SelectTree, StatementTree, select, item_height, join_height, chain_height, key_height, highest_of, condition_height, select_height, statement_height}
 use Rattle.query_grammar.specs.QueryGrammar.{keywords, SpellsOthers, SpellsList, SpellsItem, SpellsOn, SpellsJoin, SpellsJoins, SpellsChain, SpellsKey, SpellsPerhaps, SpellsListed, SpellsExpr, SpellsSelect, Spells, IsLine}
 use Rattle.query_reader.specs.QueryReading.{line_of, bounded_line}
-use Rattle.expr_grammar.proofs.ExprChains.{low_or_high}
-use Rattle.expr_grammar.proofs.ExprSound.{ok_same}
+use Rattle.expr_grammar.proofs.BoundedReading.{ReadsInRoom, tried_sound, tried_out, tried_told}
 use Rattle.expr_grammar.proofs.ExprWeighing.{weight_append, weight_more, weight_step, heavy_at, deep, bound}
 use Rattle.query_grammar.proofs.QueryKeywords.{keyword_name}
 use Rattle.query_reader.proofs.QueryComplete.{reads_line, refuses_line}
@@ -130,73 +127,19 @@ words_weigh at b ss = words_deep at b ss ∙ is_count_by deep deepens refl (λ s
 
 -- ---- what the bounded reader gives
 
-judged_high : (ts : List Terminal) → line_of 64 ts ≡ Err TooHigh → bounded_line ts ≡ cond (nat_le (weight ts) 64) (again (line_of 455 ts)) (Err TooHigh)
-unfolding bounded_line
-judged_high ts h = rw h refl
-
-bounded_reads : (ts : List Terminal) (s : StatementTree) → IsLine ts s → statement_height s ≤ 64 → bounded_line ts ≡ Ok s
-unfolding bounded_line
-bounded_reads ts s x low = rw (reads_line 64 ts s x low) refl
-
-bounded_high : (ts : List Terminal) (s : StatementTree) → IsLine ts s → 64 < statement_height s → bounded_line ts ≡ Err TooHigh
-bounded_high ts s x high =
-    judged_high ts (refuses_line 64 ts s x high) ∙ elim (low_or_high (weight ts) 64) [
-      | inl h ↦ rw (le-leb (weight ts) 64 h) (ap again (reads_line 455 ts s x (omega (arith, line_bound ts s x, h))))
-      | inr h ↦ rw (lt-leb (weight ts) 64 h) refl
-    ]
+in_room : ReadsInRoom IsLine statement_height line_of
+in_room = record { reads = reads_line; refuses = refuses_line; sound = line_sound; low = line_bound }
 
 pub bounded_sound : (ts : List Terminal) (s : StatementTree) → bounded_line ts ≡ Ok s → IsLine ts s × (statement_height s ≤ 64)
 unfolding bounded_line
-bounded_sound ts s g =
-    let again_no : (r : Result StatementTree Refusal) → ◌≡◌ {A = Result StatementTree Refusal} (again r) (Ok s) → ⊥ = elim [ Ok x ↦ (λ h. absurd (cc)) | Err f ↦ (λ h. absurd (cc)) ] in
-    let few_no : (b : Bool) → ◌≡◌ {A = Result StatementTree Refusal} (cond b (again (line_of 455 ts)) (Err TooHigh)) (Ok s) → ⊥ = elim [ true ↦ again_no (line_of 455 ts) | false ↦ (λ h. absurd (cc)) ] in
-    let go : (r : Result StatementTree Refusal) → line_of 64 ts ≡ r → judged (nat_le (weight ts) 64) r (line_of 455 ts) ≡ Ok s → IsLine ts s × (statement_height s ≤ 64) = elim [
-      | Ok d ↦ (λ p q. subst (λ y. IsLine ts y × (statement_height y ≤ 64)) (ok_same d s q) (line_sound 64 ts d p))
-      | Err Syntax ↦ (λ p q. absurd (cc))
-      | Err TooHigh ↦ (λ p q. absurd (few_no (nat_le (weight ts) 64) q))
-    ]
-    in go (line_of 64 ts) refl g
+bounded_sound ts s g = tried_sound IsLine statement_height line_of in_room ts s g
 
 -- what is refused as no statement is none
 pub bounded_out : (ts : List Terminal) → bounded_line ts ≡ Err Syntax → (s : StatementTree) → IsLine ts s → ⊥
-bounded_out ts g s x =
-    elim (low_or_high (statement_height s) 64) [
-      | inl h ↦ (let p : ◌≡◌ {A = Result StatementTree Refusal} (Ok s) (Err Syntax) = sym (bounded_reads ts s x h) ∙ g in absurd (cc))
-      | inr h ↦ (let p : ◌≡◌ {A = Result StatementTree Refusal} (Err TooHigh) (Err Syntax) = sym (bounded_high ts s x h) ∙ g in absurd (cc))
-    ]
-
-wide_told : (ts : List Terminal) → ((s : StatementTree) → IsLine ts s → ⊥) → (w : Result StatementTree Refusal) → line_of 455 ts ≡ w → again w ≡ Err TooHigh → ⊥
-wide_told ts outside (Ok d) p h = outside d (line_sound 455 ts d p).0
-wide_told ts outside (Err f) p h = absurd (let bad : ◌≡◌ {A = Result StatementTree Refusal} (Err Syntax) (Err TooHigh) = h in cc)
-
-few_told : (ts : List Terminal) → ((s : StatementTree) → IsLine ts s → ⊥) → (r : Result StatementTree Refusal) → judged true r (line_of 455 ts) ≡ Err TooHigh → ⊥
-few_told ts outside (Ok d) h = absurd (cc)
-few_told ts outside (Err Syntax) h = absurd (let bad : ◌≡◌ {A = Result StatementTree Refusal} (Err Syntax) (Err TooHigh) = h in cc)
-few_told ts outside (Err TooHigh) h = wide_told ts outside (line_of 455 ts) refl h
-
-many_of : (ts : List Terminal) → ((s : StatementTree) → IsLine ts s → ⊥) → bounded_line ts ≡ Err TooHigh → 64 < weight ts
 unfolding bounded_line
-many_of ts outside g =
-    elim (low_or_high (weight ts) 64) [
-      | inl h ↦ absurd (few_told ts outside (line_of 64 ts) (ap (λ b. judged b (line_of 64 ts) (line_of 455 ts)) (sym (le-leb (weight ts) 64 h)) ∙ g))
-      | inr h ↦ h
-    ]
-
-high_of : (ts : List Terminal) (d : StatementTree) → IsLine ts d → bounded_line ts ≡ Err TooHigh → 64 < statement_height d
-high_of ts d x g =
-    elim (low_or_high (statement_height d) 64) [
-      | inl h ↦ absurd (let p : ◌≡◌ {A = Result StatementTree Refusal} (Ok d) (Err TooHigh) = sym (bounded_reads ts d x h) ∙ g in cc)
-      | inr h ↦ h
-    ]
+bounded_out ts g s x = tried_out IsLine statement_height line_of in_room ts g s x
 
 -- what is refused as too high has an expression that is so, or is no statement and has many heavy terminals
 pub bounded_told : (ts : List Terminal) → bounded_line ts ≡ Err TooHigh → ((s : StatementTree) × IsLine ts s × (64 < statement_height s)) ⊎ (((s : StatementTree) → IsLine ts s → ⊥) × (64 < weight ts))
-bounded_told ts g =
-    let room : ℕ = 7 * weight ts + 7 in
-    let go : (r : Result StatementTree Refusal) → line_of room ts ≡ r → ((s : StatementTree) × IsLine ts s × (64 < statement_height s)) ⊎ (((s : StatementTree) → IsLine ts s → ⊥) × (64 < weight ts)) = elim [
-      | Ok d ↦ (λ p. let x = (line_sound room ts d p).0 in inl (d, x, high_of ts d x g))
-      | Err f ↦ (λ p.
-          let outside : (s : StatementTree) → IsLine ts s → ⊥ = λ s x. (let q : ◌≡◌ {A = Result StatementTree Refusal} (Ok s) (Err f) = sym (reads_line room ts s x (line_bound ts s x)) ∙ p in absurd (cc)) in
-          inr (outside, many_of ts outside g))
-    ]
-    in go (line_of room ts) refl
+unfolding bounded_line
+bounded_told ts g = tried_told IsLine statement_height line_of in_room ts g
