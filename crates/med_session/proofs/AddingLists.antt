@@ -1,4 +1,4 @@
--- Lists that get one more element at their end, and names that stand once.
+-- The elements of a list, and a name that stands nowhere in one.
 use Rattle.std.proofs.Common.{◌≡◌, ℕ, ◌<◌, false, List, [], ◌∷◌, ◌++◌, Some, slice_get, length, refl, ap, zero, suc, arith, bytes_eq}
 use Rattle.std.specs.List.{IsDistinct, AllByRecursion}
 use Rattle.med_world.proofs.Lists.{other_bytes}
