@@ -20,10 +20,10 @@ use Rattle.med_syntax.specs.ExprView.{expr_tree, expr_trees}
 use Rattle.med_syntax.specs.declared.expr.Expr.{Expr}
 use Rattle.std.specs.Prelude.{option_map, ◌-◌}
 use Rattle.expr_reader.specs.ReaderAnswers.{Answers, AnswersAll}
-use Rattle.expr_reader.specs.declared.reader.Items.{Items}
+use Rattle.expr_reader.specs.declared.found.Items.{Items}
 use Rattle.expr_grammar.specs.declared.refusal.ReadFault.{ReadFault}
 use Rattle.expr_grammar.specs.declared.refusal.ReadFault.TheVariants as errors
-use Rattle.expr_reader.specs.declared.reader.FoundExpr as was
+use Rattle.expr_reader.specs.declared.found.FoundExpr as was
 use Rattle.expr_grammar.proofs.ExprSound.{FoundExpr, FoundAll, sounds, ok_same, is_comma_true, others_sound, chain_sound, negated_sound, product_sound, signed_sound}
 
 -- ---- what is left is no longer

@@ -2,9 +2,9 @@
 use Rattle.std.specs.Prelude.{◌≡◌, ℕ, ◌≤◌, Result, Ok, Err}
 use Rattle.expr_grammar.specs.declared.refusal.ReadFault.{ReadFault}
 use Rattle.expr_grammar.specs.declared.refusal.ReadFault.TheVariants as faults
-use Rattle.expr_reader.specs.declared.reader.Boxed.{Boxed}
-use Rattle.expr_reader.specs.declared.reader.FoundExpr.{FoundExpr}
-use Rattle.expr_reader.specs.declared.reader.Items.{Items}
+use Rattle.expr_reader.specs.declared.found.Boxed.{Boxed}
+use Rattle.expr_reader.specs.declared.found.FoundExpr.{FoundExpr}
+use Rattle.expr_reader.specs.declared.found.Items.{Items}
 use Rattle.med_syntax.specs.ExprTree.{height, highest}
 use Rattle.expr_grammar.specs.ExprReading.{Read, Reads}
 use Rattle.med_syntax.specs.ExprView.{expr_tree, expr_trees}

@@ -2,7 +2,12 @@
 //! `expr_grammar` gives for the terminals of its symbols.
 #![tactic(auto)]
 
+mod arithmetic;
 mod build;
-mod reader;
+mod conditions;
+mod found;
+mod operands;
+mod predicates;
 
-pub use reader::{FoundExpr, whole};
+pub use conditions::whole;
+pub use found::FoundExpr;

@@ -12,11 +12,11 @@
 //! range; in `query_grammar` a `Spells` relation (`specs/QueryGrammar.antt`) and a line in `proofs/QueryTerminals.antt`; in
 //! `query_reader` a part of the list reader (`specs/QueryReading.antt`), a lemma `_takes` and one `_sound` (`proofs/ClauseComplete.antt`,
 //! `proofs/ClauseSound.antt`), and a function in `src/query_statement.rt`, `src/query_source.rt` or `src/query_keys.rt`; in `query_print`
-//! a line in `specs/QueryPrinting.antt` and `proofs/QueryPrints.antt`, and a function in `src/query_writer.rt`; a line in
-//! `proofs/QueryWeighing.antt` of `query_reader`; and a function in `query_range`. Lists, and parts that may be left out behind their
-//! keywords, have relations, readers and lemmas of their own (`SpellsListed`, `SpellsPerhaps`). The part before a clause has to stop at its
-//! keyword (`Clear`). A word that is optional in the text is no part of the tree: its relation allows both spellings. A kind of statement
-//! is a constructor of `StatementTree` with the same.
+//! a line in `specs/QueryPrinting.antt` and `proofs/QueryPrints.antt`, and a function in `src/query_items.rt`, `src/query_source.rt`,
+//! `src/query_keys.rt` or `src/query_writer.rt`; a line in `proofs/QueryWeighing.antt` of `query_reader`; and a function in `query_range`.
+//! Lists, and parts that may be left out behind their keywords, have relations, readers and lemmas of their own (`SpellsListed`,
+//! `SpellsPerhaps`). The part before a clause has to stop at its keyword (`Clear`). A word that is optional in the text is no part of the
+//! tree: its relation allows both spellings. A kind of statement is a constructor of `StatementTree` with the same.
 #![tactic(auto)]
 
 mod command;

@@ -3,8 +3,8 @@
 use Rattle.std.specs.Prelude.{ℕ, Bool, true, false, List, [], ◌∷◌, ◌++◌, codes, Option, Some, None}
 use Rattle.med_lexer.specs.Printing.{printed}
 use Rattle.med_value.specs.declared.operators.Operation.TheVariants.{Multiply}
-use Rattle.query_print.specs.declared.query_writer.Keyword.{Keyword}
-use Rattle.query_print.specs.declared.query_writer.Keyword.TheVariants as k
+use Rattle.query_print.specs.declared.query_words.Keyword.{Keyword}
+use Rattle.query_print.specs.declared.query_words.Keyword.TheVariants as k
 use Rattle.med_syntax.specs.Tree.{Name}
 use Rattle.med_syntax.specs.Terminal.{Terminal}
 use Rattle.med_syntax.specs.Terminal as t

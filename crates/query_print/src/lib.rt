@@ -5,10 +5,14 @@
 //! `write_statement`.
 #![tactic(auto)]
 
+mod query_items;
+mod query_keys;
 mod query_laws;
+mod query_source;
+mod query_words;
 mod query_writer;
 
 pub use query_laws::printed_statement;
-pub use query_writer::{
-    Keyword, print, write_condition, write_entry, write_keyword, write_statement,
-};
+pub use query_source::write_entry;
+pub use query_words::{Keyword, write_keyword};
+pub use query_writer::{print, write_condition, write_statement};
