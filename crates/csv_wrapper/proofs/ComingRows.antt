@@ -1,11 +1,11 @@
 -- The rows that a scan gives are rows that it may give.
-use Rattle.std.proofs.Common.{◌≡◌, ℕ, ℤ, zero, suc, ◌+◌, ◌⊎◌, inl, inr, Bool, true, false, cond, not, ◌&&◌, if◌then◌else◌, nat_eq, List, [], ◌∷◌, length, map, filter, Option, Some, None, option_map, unwrap_or, refl, ap, ◌∙◌, eqb}
+use Rattle.std.proofs.Common.{◌≡◌, ℕ, ℤ, zero, suc, ◌+◌, ◌⊎◌, inl, inr, Bool, true, false, not, ◌&&◌, if◌then◌else◌, nat_eq, List, [], ◌∷◌, length, filter, Option, Some, None, option_map, unwrap_or, refl, ap, sym, ◌∙◌, eqb}
 use Rattle.std.specs.List.{list_any, AllByRecursion}
 use Rattle.std.specs.Prelude.{All}
 use Rattle.std.specs.Str.{is_utf8, bytes_eq}
 use Rattle.std.proofs.lemmas.Bool.Decides.{eqb_tells}
 use Rattle.std.proofs.lemmas.List.Sorted.{IsPermutation-filter_both}
-use Rattle.std.proofs.lemmas.List.Elements.{filter_passes, All-filter, All-from_recursion, recursion_from_All}
+use Rattle.std.proofs.lemmas.List.Elements.{filter_passes, All-filter, All-weaker, All-from_recursion, recursion_from_All}
 use Rattle.std.proofs.lemmas.Map.Text.{is_eq-slice_cmp}
 use lib.Pointwise.{bytes_decides}
 use Rattle.med_value.specs.Datum.{Datum, NoValue, Whole, Chars, Logic, Tuple, cell}
@@ -13,14 +13,14 @@ use Rattle.med_value.specs.Order.{compares_true}
 use Rattle.med_value.specs.declared.order.Comparison.TheVariants as comparisons
 use Rattle.med_value.specs.declared.value.ColType.{ColType}
 use Rattle.med_value.specs.declared.value.ColType.TheVariants as types
-use Rattle.fdw_api.specs.Scan.{Spec, RestrictionForm, TestForm, Compares, Missing, Present, value_of as operand_of, GivenRow, TableRow, IsComing, checks, meets, meets_all, meets_exact, given_row}
+use Rattle.fdw_api.specs.Scan.{Spec, RestrictionForm, TestForm, Compares, Missing, Present, value_of as operand_of, TableRow, IsComing, checks, meets, meets_all, meets_exact}
 use Rattle.fdw_api.specs.declared.scan.Agree.{Agree}
 use Rattle.fdw_api.specs.declared.scan.Agree.TheVariants.{Ignored, Hint, Exact}
 use Rattle.csv_tables.specs.Cells.{cell_of, record_cells, value_of, integer_of, truth_of, without_spaces}
 use Rattle.csv_tables.specs.CsvRecords.{Record}
 use Rattle.csv_tables.specs.Shapes.{Shape}
 use Rattle.csv_tables.specs.Tables.{numbered, field_size}
-use Rattle.csv_wrapper.specs.Scans.{comes, comes_by, coming_from, may_equal, may_meet}
+use Rattle.csv_wrapper.specs.Scans.{comes, is_taken, rows_to_come, may_equal, may_meet}
 
 -- a cell that is a text is its field
 typed_chars : (kind : ColType) (f s : List ℕ) → unwrap_or (value_of kind f) NoValue ≡ Chars s → f ≡ s
@@ -141,17 +141,6 @@ taken_meets cells r (f ∷ fs) (Hint ∷ answers) params e = taken_meets cells r
     second true x g = g
     second false x g = absurd cc
 
-abbrev passes : Shape → Spec → Tuple → TableRow → Bool
-passes shape spec params r = comes_by shape spec params r.origin
-
-step : (spec : Spec) (b : Bool) (y : TableRow) (xs : List GivenRow) (ys : List TableRow) → xs ≡ map (given_row spec) ys → (if b then given_row spec y ∷ xs else xs) ≡ map (given_row spec) (cond b (y ∷ ys) ys)
-step spec true y xs ys e = ap (λ (l : List GivenRow). given_row spec y ∷ l) e
-step spec false y xs ys e = e
-
-coming_is : (shape : Shape) (spec : Spec) (params : Tuple) (n : ℕ) (rs : List Record) → coming_from shape spec params n rs ≡ map (given_row spec) (filter (passes shape spec params) (numbered shape n rs))
-coming_is shape spec params n [] = refl
-coming_is shape spec params n (r ∷ rs) = step spec (comes_by shape spec params r) _ _ _ (coming_is shape spec params (n + 1) rs)
-
 -- each row has the cells of its record
 abbrev Decoded : Shape → TableRow → Type 0
 Decoded shape r = r.cells ≡ record_cells shape.null shape.kinds r.origin
@@ -167,20 +156,19 @@ with_both P Q S (r ∷ rs) f p q = (f r p.0 q.0, with_both P Q S rs f p.1 q.1)
 both_all : (P Q S : TableRow → Type 0) (rs : List TableRow) → ((r : TableRow) → P r → Q r → S r) → All P rs → All Q rs → All S rs
 both_all P Q S rs f p q = All-from_recursion S rs (with_both P Q S rs f (recursion_from_All P rs p) (recursion_from_All Q rs q))
 
--- a scan gives the rows that come
-pub comes_rows : (shape : Shape) (spec : Spec) (params : Tuple) (rs : List Record) → IsComing (numbered shape 0 rs) spec params (coming_from shape spec params 0 rs)
+-- a scan that begins has the rows to come that it may give
+pub comes_rows : (shape : Shape) (spec : Spec) (params : Tuple) (rs : List Record) → IsComing (numbered shape 0 rs) spec params (rows_to_come spec params 0 (numbered shape 0 rs))
 comes_rows shape spec params rs =
     let rows = numbered shape 0 rs in
     let decoded = All-from_recursion (Decoded shape) rows (all_decoded shape 0 rs) in
     record {
-      taken = filter (passes shape spec params) rows;
-      left_out = filter (λ r. not (passes shape spec params r)) rows;
-      parts = IsPermutation-filter_both (passes shape spec params) (λ r. not (passes shape spec params r)) (λ r. refl) rows;
-      failing = both_all (Decoded shape) (λ r. not (passes shape spec params r) ≡ true) (λ r. meets_all spec.offered params r.cells ≡ false) _
-          (λ r d e. ap (meets_all spec.offered params) d ∙ left_out_fails shape.null shape.kinds r.origin spec.offered spec.answers params e)
-          (All-filter (λ r. not (passes shape spec params r)) (Decoded shape) rows decoded) (filter_passes (λ r. not (passes shape spec params r)) rows);
-      exact = both_all (Decoded shape) (λ r. passes shape spec params r ≡ true) (λ r. meets_exact spec.offered spec.answers params r.cells ≡ true) _
-          (λ r d e. ap (meets_exact spec.offered spec.answers params) d ∙ taken_meets (record_cells shape.null shape.kinds r.origin) r.origin spec.offered spec.answers params e)
-          (All-filter (passes shape spec params) (Decoded shape) rows decoded) (filter_passes (passes shape spec params) rows);
-      is = coming_is shape spec params 0 rs;
+      taken = filter (is_taken spec params) rows;
+      left_out = filter (λ r. not (is_taken spec params r)) rows;
+      parts = IsPermutation-filter_both (is_taken spec params) (λ r. not (is_taken spec params r)) (λ r. refl) rows;
+      failing = both_all (Decoded shape) (λ r. not (is_taken spec params r) ≡ true) (λ r. meets_all spec.offered params r.cells ≡ false) _
+          (λ r d e. ap (meets_all spec.offered params) d
+          ∙ left_out_fails shape.null shape.kinds r.origin spec.offered spec.answers params (ap (λ (cells : Tuple). not (comes spec.offered spec.answers params cells r.origin)) (sym d) ∙ e))
+          (All-filter (λ r. not (is_taken spec params r)) (Decoded shape) rows decoded) (filter_passes (λ r. not (is_taken spec params r)) rows);
+      exact = All-weaker _ _ (λ r e. taken_meets r.cells r.origin spec.offered spec.answers params e) _ (filter_passes (is_taken spec params) rows);
+      is = refl;
     }

@@ -16,8 +16,7 @@ use Rattle.blob_tables.specs.Mapped.{mapped}
 use Rattle.staged_changes.specs.declared.changes.StagedWrite.{StagedWrite}
 use Rattle.staged_changes.specs.Staged.{write_is}
 use Rattle.csv_wrapper.specs.CsvKind.{csv_kind}
-use Rattle.csv_wrapper.specs.Slots.{shape_at, records_at, bound_of, slot}
-use Rattle.csv_tables.specs.Tables.{numbered}
+use Rattle.csv_wrapper.specs.Slots.{shape_at, rows_at, bound_of, slot}
 use Rattle.csv_wrapper.specs.Scans.{scan_is, scan_rows}
 
 -- the calls that failed by the source are those that failed by the blobs' device
@@ -34,7 +33,7 @@ csv_ledger shelf tables scans staged next pulled = record {
 abbrev pub csv_content : Shelf → List (Option CsvTable) → BTreeMap ℕ PlaceScan → Content
 csv_content shelf tables scans = record {
   holdings = held_under shelf;
-  rows = λ t. numbered (shape_at (slot tables t)) 0 (records_at (slot tables t));
+  rows = λ t. rows_at (slot tables t);
   coming = λ q. scan_rows tables (tree.get nat_cmp scans q);
 }
 

@@ -1,10 +1,10 @@
 -- What a scan of a CSV table gives.
-use Rattle.std.specs.Prelude.{◌≡◌, ◌<◌, ◌≤◌, ◌+◌, ◌-◌, ◌^◌, ◌&&◌, ℕ, Bool, true, false, List, [], ◌∷◌, length, map, drop, slice_get, Option, Some, None, nat_eq, if◌then◌else◌}
+use Rattle.std.specs.Prelude.{◌≡◌, ◌<◌, ◌≤◌, ◌+◌, ◌-◌, ◌^◌, ◌&&◌, ℕ, Bool, true, false, List, [], ◌∷◌, length, map, filter, drop, slice_get, Option, Some, None, nat_eq}
 use Rattle.med_value.specs.Datum.{Datum, NoValue, Whole, Chars, Logic, Tuple, datum}
 use Rattle.med_value.specs.declared.order.Comparison.TheVariants as comparisons
 use Rattle.med_value.specs.declared.value.ColType.{ColType}
 use Rattle.med_value.specs.declared.value.ColType.TheVariants as types
-use Rattle.fdw_api.specs.Scan.{Spec, spec_of, RestrictionForm, TestForm, Compares, Missing, Present, value_of as operand_of, GivenRow, meets, shown_cells}
+use Rattle.fdw_api.specs.Scan.{Spec, spec_of, RestrictionForm, TestForm, Compares, Missing, Present, value_of as operand_of, TableRow, GivenRow, meets, given_row}
 use Rattle.fdw_api.specs.State.{Scan}
 use Rattle.fdw_api.specs.Calls.{row_of}
 use Rattle.fdw_api.specs.declared.scan.Agree.{Agree}
@@ -12,11 +12,9 @@ use Rattle.fdw_api.specs.declared.scan.Agree.TheVariants.{Ignored, Hint, Exact}
 use Rattle.fdw_api.specs.declared.interface.SourceRow.{SourceRow}
 use Rattle.blob_tables.specs.declared.scans.PlaceScan.{PlaceScan}
 use Rattle.csv_tables.specs.declared.table.CsvTable.{CsvTable}
-use Rattle.csv_tables.specs.Cells.{record_cells}
 use Rattle.csv_tables.specs.CsvRecords.{Record}
-use Rattle.csv_tables.specs.Shapes.{Shape}
 use Rattle.csv_tables.specs.Tables.{field_size}
-use Rattle.csv_wrapper.specs.Slots.{shape_at, records_at, slot}
+use Rattle.csv_wrapper.specs.Slots.{shape_at, rows_at, slot}
 
 -- a text of this many bytes may be equal to a value: not to NULL, and to no text of another length
 abbrev pub may_equal : ℕ → Datum → Bool
@@ -45,24 +43,21 @@ comes (f ∷ fs) (Hint ∷ answers) params cells fields =
     may_meet params (field_size fields f.column) f.test && comes fs answers params cells fields
 comes (f ∷ fs) (Ignored ∷ answers) params cells fields = comes fs answers params cells fields
 
-abbrev pub comes_by : Shape → Spec → Tuple → Record → Bool
-comes_by shape spec params fields = comes spec.offered spec.answers params (record_cells shape.null shape.kinds fields) fields
+-- a row of the table comes: its cells meet what is answered Exact, and its written fields may meet what is answered Hint
+abbrev pub is_taken : Spec → Tuple → TableRow → Bool
+is_taken spec params r = comes spec.offered spec.answers params r.cells r.origin
 
--- what a scan gives from a place on, in the order of the blob
-abbrev pub coming_from : Shape → Spec → Tuple → ℕ → List Record → List GivenRow
-coming_from shape spec params n [] = []
-coming_from shape spec params n (r ∷ rs) =
-    if comes_by shape spec params r
-    then record { id = n; cells = shown_cells spec (record_cells shape.null shape.kinds r) } ∷ coming_from shape spec params (n + 1) rs
-    else coming_from shape spec params (n + 1) rs
+-- what a scan that stands at a place has still to give: of the table's rows from there on, in the order of the blob, those that come,
+-- each as the scan shows it
+abbrev pub rows_to_come : Spec → Tuple → ℕ → List TableRow → List GivenRow
+rows_to_come spec params at rows = map (given_row spec) (filter (is_taken spec params) (drop at rows))
 
--- the next row of a scan that stands at a place; None where no row is left
-abbrev pub NextIs : Shape → Spec → Tuple → List Record → ℕ → Option SourceRow → Type 0
-NextIs shape spec params rows at None = coming_from shape spec params at (drop at rows) ≡ []
-NextIs shape spec params rows at (Some row) =
+-- the next row of a scan that stands at a place: the first of the rows to come, and the scan goes on after it; None where none is left
+abbrev pub NextIs : Spec → Tuple → List TableRow → ℕ → Option SourceRow → Type 0
+NextIs spec params rows at None = rows_to_come spec params at rows ≡ []
+NextIs spec params rows at (Some row) =
     (at ≤ row.id.number) × (row.id.number < 2 ^ 64 - 1)
-    × (coming_from shape spec params at (drop at rows)
-    ≡ row_of row ∷ coming_from shape spec params (row.id.number + 1) (drop (row.id.number + 1) rows))
+    × (rows_to_come spec params at rows ≡ row_of row ∷ rows_to_come spec params (row.id.number + 1) rows)
 
 -- a scan, without its rows to come
 abbrev pub scan_is : List (Option CsvTable) → PlaceScan → Scan
@@ -78,9 +73,7 @@ scan_is tables s = record {
 -- the rows that a scan has still to give
 abbrev pub scan_rows : List (Option CsvTable) → Option PlaceScan → List GivenRow
 scan_rows tables None = []
-scan_rows tables (Some s) =
-    coming_from (shape_at (slot tables s.table)) (spec_of s.spec) (map datum s.params.items) s.at
-    (drop s.at (records_at (slot tables s.table)))
+scan_rows tables (Some s) = rows_to_come (spec_of s.spec) (map datum s.params.items) s.at (rows_at (slot tables s.table))
 
 -- what a table answers to a restriction: Exact to a test for NULL and to any test of an integer or a truth value, Hint to `=` of a text
 abbrev pub answer_to : Option ColType → TestForm → Agree

@@ -1,6 +1,7 @@
 -- The tables that are bound to a CSV source, under their numbers.
 use Rattle.std.specs.Prelude.{◌≡◌, ◌≢◌, ℕ, zero, suc, true, false, List, [], ◌∷◌, Option, Some, None}
 use Rattle.std.specs.String.{string_bytes}
+use Rattle.fdw_api.specs.Scan.{TableRow}
 use Rattle.fdw_api.specs.Kinds.{as_they_come}
 use Rattle.fdw_api.specs.State.{BoxTable}
 use Rattle.csv_tables.specs.declared.table.CsvTable.{CsvTable}
@@ -9,7 +10,7 @@ use Rattle.csv_tables.specs.CsvRecords.{Record}
 use Rattle.csv_tables.specs.Shapes.{Shape, csv_image}
 use Rattle.csv_wrapper.specs.CsvKind.{csv_refusals}
 use Rattle.csv_tables.specs.Flat.{header_in}
-use Rattle.csv_tables.specs.Tables.{shape_is, records_of}
+use Rattle.csv_tables.specs.Tables.{shape_is, records_of, numbered}
 
 -- a bound table allows every scan: what it is asked to take over it takes over
 abbrev pub bound_by : List ℕ → Shape → BoxTable
@@ -44,6 +45,13 @@ shape_at (Some t) = shape_is t.layout
 abbrev pub records_at : Option CsvTable → List Record
 records_at None = []
 records_at (Some t) = records_of t.rows
+
+-- the rows of a table with their places as ids, each with its record; of no table none
+abbrev pub rows_in : CsvTable → List TableRow
+rows_in t = numbered (shape_is t.layout) 0 (records_of t.rows)
+
+abbrev pub rows_at : Option CsvTable → List TableRow
+rows_at o = numbered (shape_at o) 0 (records_at o)
 
 -- the table of a number has this header and these rows now: its name and its columns stay, and so do the other tables
 pub record PutsRows (old new : List (Option CsvTable)) (t : ℕ) (header : List Record) (rows : List Record) : Type 0 where

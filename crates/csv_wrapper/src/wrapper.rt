@@ -14,7 +14,7 @@ ghost use Rattle.staged_changes.specs.Staged.{write_is};
 ghost use Rattle.csv_tables.specs.Shapes.{records_in};
 ghost use Rattle.csv_tables.specs.CsvRecords.{heading, is_header};
 ghost use Rattle.csv_tables.specs.Flat.{header_in};
-ghost use Rattle.csv_wrapper.specs.Slots.{slot, shape_at, records_at, PutsRows};
+ghost use Rattle.csv_wrapper.specs.Slots.{slot, shape_at, rows_at, PutsRows};
 ghost use Rattle.csv_tables.specs.Tables.{records_of};
 ghost use Rattle.csv_wrapper.specs.Scans.{NextIs, answer_by};
 ghost use Rattle.csv_wrapper.specs.CsvBoxes.{write_fits, FailsBlob};
@@ -223,8 +223,7 @@ fn row_of_scan(
 ) -> Result<Option<SourceRow>, NoMemory>
     requires { IsSome (tree.get nat_cmp scans.now number) }
     ensures { IfOk result (λ next. IfSome (tree.get nat_cmp scans.now number)
-        (λ s. NextIs (shape_at (slot tables.now.items s.table)) (spec_of s.spec) (map datum s.params.items) (records_at
-        (slot tables.now.items s.table)) s.at next)) }
+        (λ s. NextIs (spec_of s.spec) (map datum s.params.items) (rows_at (slot tables.now.items s.table)) s.at next)) }
 {
     match scans.get(&number) {
         None => unreachable!(),

@@ -27,6 +27,7 @@ use Rattle.list_wrapper.specs.declared.changes.ListWrite.{ListWrite}
 use Rattle.list_wrapper.specs.Lists.{entry_of, listed, rows_fit, names_differ, no_line, list_refusals}
 use Rattle.list_wrapper.specs.Changes.{as_held, change_is, write_is}
 use Rattle.list_wrapper.specs.Scans.{numbered, rows_at, listed_rows, listed_kinds, kinds_at, stored, bound_of, marked_bound, mapped, list_state, scan_rows, scan_is, write_fits}
+use Rattle.list_wrapper.proofs.Numbered.{numbered_fit}
 use Rattle.list_wrapper.proofs.Maps.{mapped_get}
 use Rattle.list_wrapper.proofs.Scans.{rows_fit_at}
 use Rattle.list_wrapper.proofs.Tables.{numbered_once, some_inj}
@@ -266,7 +267,3 @@ written_fits ts s staged x y law es is ek f w er =
     let after : list_all (row_fits x.kinds.items) (map tuple y.rows.items) ≡ true =
     sym (line_fits x.kinds.items y.rows.items) ∙ ap (all_fit x.kinds.items) er ∙ law x.kinds.items no_line (numbered 0 x.rows.items) (map change_is s.changes.items) changes old in
     set_fits ts s.table x y is (rw ek after) f
-  where
-    numbered_fit : (kinds : List ColType) (n : ℕ) (rs : List Row) → list_all (λ (r : TableRow). row_fits kinds r.cells) (numbered n rs) ≡ list_all (row_fits kinds) (map tuple rs)
-    numbered_fit kinds n [] = refl
-    numbered_fit kinds n (r ∷ rs) = ap (λ (b : Bool). row_fits kinds (tuple r) && b) (numbered_fit kinds (n + 1) rs)

@@ -1,4 +1,5 @@
 pub mod Names
+pub mod Numbered
 pub mod Maps
 pub mod Scans
 pub mod Tables

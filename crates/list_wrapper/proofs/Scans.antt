@@ -1,5 +1,5 @@
 -- What the calls of a scan do to a list wrapper.
-use Rattle.std.proofs.Common.{◌≡◌, ◌≢◌, ℕ, ◌+◌, ◌-◌, ◌^◌, ◌<◌, ◌≤◌, ◌⊎◌, Bool, true, false, cond, not, ◌&&◌, if◌then◌else◌, List, [], ◌∷◌, Option, Some, None, IsSome, Result, Ok, Err, OnOk, is_err, IfSome, map, drop, filter, min, option_map, slice_get, slice_index_or, zero, suc, refl, ap, sym, ◌∙◌, subst, arith, eqb, inl, inr}
+use Rattle.std.proofs.Common.{◌≡◌, ◌≢◌, ℕ, ◌+◌, ◌-◌, ◌^◌, ◌<◌, ◌≤◌, ◌⊎◌, Bool, true, false, cond, not, ◌&&◌, List, [], ◌∷◌, Option, Some, None, IsSome, Result, Ok, Err, OnOk, is_err, IfSome, map, length, drop, filter, min, option_map, slice_get, slice_index_or, zero, suc, refl, ap, sym, ◌∙◌, subst, arith, eqb, inl, inr}
 use Rattle.std.specs.Ordering.{nat_cmp}
 use Rattle.std.specs.List.{list_all}
 use Rattle.std.specs.BTreeMap as tree
@@ -9,7 +9,6 @@ use Rattle.std.proofs.lemmas.Bool.Decides.{eqb_tells}
 use Rattle.std.proofs.lemmas.List.Sorted.{IsPermutation-filter_both}
 use Rattle.std.proofs.lemmas.List.Elements.{filter_passes, All-weaker}
 use Rattle.med_value.specs.Datum.{Tuple, datum, tuple}
-use Rattle.med_value.specs.declared.value.Row.{Row}
 use Rattle.med_value.specs.declared.value.ColType.{ColType}
 use Rattle.fdw_api.specs.Scan.{Spec, spec_of, RestrictionForm, GivenRow, TableRow, IsComing, meets, meets_all, meets_exact, given_row, shown_cells, shown_fits, row_fits}
 use Rattle.fdw_api.specs.declared.scan.Agree.{Agree}
@@ -22,7 +21,9 @@ use Rattle.list_wrapper.specs.declared.list.ListTable.{ListTable}
 use Rattle.list_wrapper.specs.declared.list.ListScan.{ListScan}
 use Rattle.list_wrapper.specs.declared.changes.ListWrite.{ListWrite}
 use Rattle.list_wrapper.specs.Lists.{listed, rows_fit}
-use Rattle.list_wrapper.specs.Scans.{numbered, coming_from, rows_at, listed_kinds, kinds_at, marked_bound, scan_is, scan_rows, mapped, list_state, NextIs}
+use Rattle.list_wrapper.specs.Scans.{numbered, is_taken, rows_to_come, rows_at, listed_kinds, kinds_at, marked_bound, scan_is, scan_rows, mapped, list_state, NextIs}
+use Rattle.std.proofs.lemmas.List.{drop_all}
+use Rattle.list_wrapper.proofs.Numbered.{numbered_fit}
 use Rattle.list_wrapper.proofs.Maps.{mapped_get, mapped_insert, mapped_remove, apart}
 
 both_fail : (b x y : Bool) → (not x ≡ true → y ≡ false) → not (b && x) ≡ true → (b && y) ≡ false
@@ -41,27 +42,26 @@ exact_fails (f ∷ fs) (Exact ∷ answers) params cells e = both_fail (meets par
 exact_fails (f ∷ fs) (Ignored ∷ answers) params cells e = one_fails (meets params cells f) _ (exact_fails fs answers params cells e)
 exact_fails (f ∷ fs) (Hint ∷ answers) params cells e = one_fails (meets params cells f) _ (exact_fails fs answers params cells e)
 
-abbrev passes : Spec → Tuple → TableRow → Bool
-passes spec params r = meets_exact spec.offered spec.answers params r.cells
-
-step : (spec : Spec) (b : Bool) (y : TableRow) (xs : List GivenRow) (ys : List TableRow) → xs ≡ map (given_row spec) ys → (if b then given_row spec y ∷ xs else xs) ≡ map (given_row spec) (cond b (y ∷ ys) ys)
-step spec true y xs ys e = ap (λ (l : List GivenRow). given_row spec y ∷ l) e
-step spec false y xs ys e = e
-
-coming_is : (spec : Spec) (params : Tuple) (n : ℕ) (rs : List Row) → coming_from spec params n rs ≡ map (given_row spec) (filter (passes spec params) (numbered n rs))
-coming_is spec params n [] = refl
-coming_is spec params n (r ∷ rs) = step spec (meets_exact spec.offered spec.answers params (tuple r)) _ _ _ (coming_is spec params (n + 1) rs)
-
--- a scan of a list gives the rows that meet what it took over
-pub comes : (spec : Spec) (params : Tuple) (rs : List Row) → IsComing (numbered 0 rs) spec params (coming_from spec params 0 rs)
-comes spec params rs = record {
-  taken = filter (passes spec params) (numbered 0 rs);
-  left_out = filter (λ r. not (passes spec params r)) (numbered 0 rs);
-  parts = IsPermutation-filter_both (passes spec params) (λ r. not (passes spec params r)) (λ r. refl) (numbered 0 rs);
-  failing = All-weaker _ _ (λ r e. exact_fails spec.offered spec.answers params r.cells e) _ (filter_passes (λ r. not (passes spec params r)) (numbered 0 rs));
-  exact = filter_passes (passes spec params) (numbered 0 rs);
-  is = coming_is spec params 0 rs;
+-- a scan that begins has the rows to come that it may give
+pub comes : (spec : Spec) (params : Tuple) (rows : List TableRow) → IsComing rows spec params (rows_to_come spec params 0 rows)
+comes spec params rows = record {
+  taken = filter (is_taken spec params) rows;
+  left_out = filter (λ r. not (is_taken spec params r)) rows;
+  parts = IsPermutation-filter_both (is_taken spec params) (λ r. not (is_taken spec params r)) (λ r. refl) rows;
+  failing = All-weaker _ _ (λ r e. exact_fails spec.offered spec.answers params r.cells e) _ (filter_passes (λ r. not (is_taken spec params r)) rows);
+  exact = filter_passes (is_taken spec params) rows;
+  is = refl;
 }
+
+-- the rows to come where the next row is taken, where it is not, and where none is left
+pub takes_next : (spec : Spec) (params : Tuple) (rows : List TableRow) (at : ℕ) (r : TableRow) → drop at rows ≡ r ∷ drop (at + 1) rows → is_taken spec params r ≡ true → rows_to_come spec params at rows ≡ given_row spec r ∷ rows_to_come spec params (at + 1) rows
+takes_next spec params rows at r d e = ap (λ (l : List TableRow). map (given_row spec) (filter (is_taken spec params) l)) d ∙ rw e refl
+
+pub skips_next : (spec : Spec) (params : Tuple) (rows : List TableRow) (at : ℕ) (r : TableRow) → drop at rows ≡ r ∷ drop (at + 1) rows → is_taken spec params r ≡ false → rows_to_come spec params at rows ≡ rows_to_come spec params (at + 1) rows
+skips_next spec params rows at r d e = ap (λ (l : List TableRow). map (given_row spec) (filter (is_taken spec params) l)) d ∙ rw e refl
+
+pub none_left : (spec : Spec) (params : Tuple) (rows : List TableRow) (at : ℕ) → length rows ≤ at → rows_to_come spec params at rows ≡ []
+none_left spec params rows at le = ap (λ (l : List TableRow). map (given_row spec) (filter (is_taken spec params) l)) (drop_all at rows le)
 
 pub there : {X Y : Type 0} (f : X → Y) (o : Option X) (y : Y) → option_map f o ≡ Some y → IsSome o
 there f None y e = absurd cc
@@ -112,7 +112,7 @@ kinds_bound true (Some x) b e = ap (λ (o : Option BoxTable). kinds_or o) e
 
 pub list_begins : (tables : List ListTable) (bound : List Bool) (m n : BTreeMap ℕ ListScan) (staged : Option ListWrite) (t next pulled : ℕ) (spec : Spec) (params : Tuple) (s : ListScan) (b : BoxTable) → marked_bound (slice_index_or bound t false) (slice_get tables t) ≡ Some b → tree.get nat_cmp m next ≡ None → next < 2 ^ 64 - 1 → tree.Updates nat_cmp m n next (Some s) → s.table ≡ t → spec_of s.spec ≡ spec → map datum s.params.items ≡ params → s.at ≡ 0 → s.broken ≡ false → Begins (list_state tables bound m staged next pulled) t spec params next (list_state tables bound n staged (next + 1) pulled)
 list_begins tables bound m n staged t next pulled spec params s b is_bound fresh room u et es ep ea eb =
-    let coming : scan_rows tables (tree.get nat_cmp n next) ≡ coming_from spec params 0 (rows_at tables t) = ap (scan_rows tables) u.1 ∙ rw (es, ep, ea, et) refl in
+    let coming : scan_rows tables (tree.get nat_cmp n next) ≡ rows_to_come spec params 0 (numbered 0 (rows_at tables t)) = ap (scan_rows tables) u.1 ∙ rw (es, ep, ea, et) refl in
     record {
       nature = refl;
       is_next = refl;
@@ -126,7 +126,7 @@ list_begins tables bound m n staged t next pulled spec params s b is_bound fresh
           ap (λ (l : finmap.FinMap nat_cmp Scan). record (list_state tables bound n staged (next + 1) pulled).ledger { live = l })
           (mapped_insert (scan_is tables) m n next s u ∙ ap (finmap.insert (mapped (scan_is tables) m.entries) next) (scan_same s t spec params et es ep eb)
           ∙ ap (λ (k : List ColType). finmap.insert (mapped (scan_is tables) m.entries) next (new_scan t k spec params (2 ^ 64 - s.at))) (kinds_bound (slice_index_or bound t false) (slice_get tables t) b is_bound));
-      coming = λ honest. subst (λ (l : List GivenRow). IsComing (numbered 0 (rows_at tables t)) spec params l) (sym coming) (comes spec params (rows_at tables t));
+      coming = λ honest. subst (λ (l : List GivenRow). IsComing (numbered 0 (rows_at tables t)) spec params l) (sym coming) (comes spec params (numbered 0 (rows_at tables t)));
       leaves = λ honest. others tables bound m n staged next next (next + 1) pulled pulled (Some s) u;
     }
   where
@@ -150,27 +150,30 @@ rows_fit_at (x ∷ ts) (suc t) e = rows_fit_at ts t (both (list_all (row_fits x.
 abbrev ShowsTyped : Type 0
 ShowsTyped = (kinds : List ColType) (spec : Spec) (cells : Tuple) → row_fits kinds cells ≡ true → shown_fits kinds spec (shown_cells spec cells) ≡ true
 
-coming_fit : (kinds : List ColType) (spec : Spec) (params : Tuple) (n : ℕ) (rs : List Row) → ShowsTyped → list_all (row_fits kinds) (map tuple rs) ≡ true → list_all (λ r. shown_fits kinds spec r.cells) (coming_from spec params n rs) ≡ true
-coming_fit kinds spec params n [] shows e = refl
-coming_fit kinds spec params n (r ∷ rs) shows e =
-    let w = both (row_fits kinds (tuple r)) _ e in
-    at (meets_exact spec.offered spec.answers params (tuple r)) (shows kinds spec (tuple r) w.0) (coming_fit kinds spec params (n + 1) rs shows w.1)
+shown_typed : (kinds : List ColType) (spec : Spec) (params : Tuple) (rows : List TableRow) → ShowsTyped → list_all (λ r. row_fits kinds r.cells) rows ≡ true → list_all (λ r. shown_fits kinds spec r.cells) (map (given_row spec) (filter (is_taken spec params) rows)) ≡ true
+shown_typed kinds spec params [] shows e = refl
+shown_typed kinds spec params (r ∷ rows) shows e =
+    let w = both (row_fits kinds r.cells) _ e in
+    at (is_taken spec params r) (shows kinds spec r.cells w.0) (shown_typed kinds spec params rows shows w.1)
   where
-    at : (b : Bool) → shown_fits kinds spec (shown_cells spec (tuple r)) ≡ true → list_all (λ r. shown_fits kinds spec r.cells) (coming_from spec params (n + 1) rs) ≡ true → list_all (λ r. shown_fits kinds spec r.cells) (if b then record { id = n; cells = shown_cells spec (tuple r) } ∷ coming_from spec params (n + 1) rs else coming_from spec params (n + 1) rs) ≡ true
+    at : (b : Bool) → shown_fits kinds spec (shown_cells spec r.cells) ≡ true → list_all (λ r. shown_fits kinds spec r.cells) (map (given_row spec) (filter (is_taken spec params) rows)) ≡ true
+        → list_all (λ r. shown_fits kinds spec r.cells) (map (given_row spec) (cond b (r ∷ filter (is_taken spec params) rows) (filter (is_taken spec params) rows))) ≡ true
     at true f g = rw (f, g) refl
     at false f g = g
 
-rest_fit : (kinds : List ColType) (n : ℕ) (rs : List Row) → list_all (row_fits kinds) (map tuple rs) ≡ true → list_all (row_fits kinds) (map tuple (drop n rs)) ≡ true
-rest_fit kinds zero rs e = e
+rest_fit : (kinds : List ColType) (n : ℕ) (rows : List TableRow) → list_all (λ r. row_fits kinds r.cells) rows ≡ true → list_all (λ r. row_fits kinds r.cells) (drop n rows) ≡ true
+rest_fit kinds zero rows e = e
 rest_fit kinds (suc n) [] e = e
-rest_fit kinds (suc n) (r ∷ rs) e = rest_fit kinds n rs (both (row_fits kinds (tuple r)) _ e).1
+rest_fit kinds (suc n) (r ∷ rows) e = rest_fit kinds n rows (both (row_fits kinds r.cells) _ e).1
 
-row_typed : (tables : List ListTable) (s : ListScan) (row : SourceRow) (rest : List GivenRow) → ShowsTyped → rows_fit (map listed tables) ≡ true → coming_from (spec_of s.spec) (map datum s.params.items) s.at (drop s.at (rows_at tables s.table)) ≡ row_of row ∷ rest → shown_fits (kinds_at tables s.table) (spec_of s.spec) (row_of row).cells ≡ true
+row_typed : (tables : List ListTable) (s : ListScan) (row : SourceRow) (rest : List GivenRow) → ShowsTyped → rows_fit (map listed tables) ≡ true → scan_rows tables (Some s) ≡ row_of row ∷ rest → shown_fits (kinds_at tables s.table) (spec_of s.spec) (row_of row).cells ≡ true
 row_typed tables s row rest shows typed e =
-    let all = coming_fit (kinds_at tables s.table) (spec_of s.spec) (map datum s.params.items) s.at (drop s.at (rows_at tables s.table)) shows (rest_fit (kinds_at tables s.table) s.at (rows_at tables s.table) (rows_fit_at tables s.table typed)) in
-    (both (shown_fits (kinds_at tables s.table) (spec_of s.spec) (row_of row).cells) _ (subst (λ (l : List GivenRow). list_all (λ r. shown_fits (kinds_at tables s.table) (spec_of s.spec) r.cells) l ≡ true) e all)).0
+    let kinds = kinds_at tables s.table in
+    let fit = numbered_fit kinds 0 (rows_at tables s.table) ∙ rows_fit_at tables s.table typed in
+    let all = shown_typed kinds (spec_of s.spec) (map datum s.params.items) (drop s.at (numbered 0 (rows_at tables s.table))) shows (rest_fit kinds s.at (numbered 0 (rows_at tables s.table)) fit) in
+    (both (shown_fits kinds (spec_of s.spec) (row_of row).cells) _ (subst (λ (l : List GivenRow). list_all (λ r. shown_fits kinds (spec_of s.spec) r.cells) l ≡ true) e all)).0
 
-pub list_gives : (tables : List ListTable) (bound : List Bool) (m n : BTreeMap ℕ ListScan) (staged : Option ListWrite) (next pulled number : ℕ) (s : ListScan) (row : SourceRow) → ShowsTyped → rows_fit (map listed tables) ≡ true → tree.get nat_cmp m number ≡ Some s → NextIs (spec_of s.spec) (map datum s.params.items) (rows_at tables s.table) s.at (Some row) → tree.Updates nat_cmp m n number (Some (record s { at = row.id.number + 1 })) → GivesRow (list_state tables bound m staged next pulled) number (row_of row) (list_state tables bound n staged next (min (pulled + 1) (2 ^ 64 - 1)))
+pub list_gives : (tables : List ListTable) (bound : List Bool) (m n : BTreeMap ℕ ListScan) (staged : Option ListWrite) (next pulled number : ℕ) (s : ListScan) (row : SourceRow) → ShowsTyped → rows_fit (map listed tables) ≡ true → tree.get nat_cmp m number ≡ Some s → NextIs (spec_of s.spec) (map datum s.params.items) (numbered 0 (rows_at tables s.table)) s.at (Some row) → tree.Updates nat_cmp m n number (Some (record s { at = row.id.number + 1 })) → GivesRow (list_state tables bound m staged next pulled) number (row_of row) (list_state tables bound n staged next (min (pulled + 1) (2 ^ 64 - 1)))
 list_gives tables bound m n staged next pulled number s row shows typed is next_is u = record {
   nature = refl;
   scan = scan_is tables s;
@@ -185,7 +188,7 @@ list_gives tables bound m n staged next pulled number s row shows typed is next_
   leaves = λ honest. others tables bound m n staged number next next pulled _ _ u;
 }
 
-pub list_gives_none : (tables : List ListTable) (bound : List Bool) (m : BTreeMap ℕ ListScan) (staged : Option ListWrite) (next pulled number : ℕ) (s : ListScan) → tree.get nat_cmp m number ≡ Some s → NextIs (spec_of s.spec) (map datum s.params.items) (rows_at tables s.table) s.at None → GivesNone (list_state tables bound m staged next pulled) number (list_state tables bound m staged next pulled)
+pub list_gives_none : (tables : List ListTable) (bound : List Bool) (m : BTreeMap ℕ ListScan) (staged : Option ListWrite) (next pulled number : ℕ) (s : ListScan) → tree.get nat_cmp m number ≡ Some s → NextIs (spec_of s.spec) (map datum s.params.items) (numbered 0 (rows_at tables s.table)) s.at None → GivesNone (list_state tables bound m staged next pulled) number (list_state tables bound m staged next pulled)
 list_gives_none tables bound m staged next pulled number s is next_is = record {
   nature = refl;
   ledger = refl;
@@ -206,7 +209,7 @@ list_breaks tables bound m n staged next pulled number s is u = record {
 
 pub list_rescans : (tables : List ListTable) (bound : List Bool) (m n : BTreeMap ℕ ListScan) (staged : Option ListWrite) (next pulled number : ℕ) (params : Tuple) (s t : ListScan) → tree.get nat_cmp m number ≡ Some s → s.broken ≡ false → tree.Updates nat_cmp m n number (Some t) → t.table ≡ s.table → spec_of t.spec ≡ spec_of s.spec → map datum t.params.items ≡ params → t.at ≡ 0 → t.broken ≡ s.broken → Rescans (list_state tables bound m staged next pulled) number params (list_state tables bound n staged next pulled)
 list_rescans tables bound m n staged next pulled number params s t is whole u et es ep ea eb =
-    let coming : scan_rows tables (tree.get nat_cmp n number) ≡ coming_from (spec_of s.spec) params 0 (rows_at tables s.table) = ap (scan_rows tables) u.1 ∙ rw (es, ep, ea, et) refl in
+    let coming : scan_rows tables (tree.get nat_cmp n number) ≡ rows_to_come (spec_of s.spec) params 0 (numbered 0 (rows_at tables s.table)) = ap (scan_rows tables) u.1 ∙ rw (es, ep, ea, et) refl in
     record {
       nature = refl;
       scan = scan_is tables s;
@@ -216,7 +219,7 @@ list_rescans tables bound m n staged next pulled number params s t is whole u et
       ledger =
           ap (λ (l : finmap.FinMap nat_cmp Scan). record (list_state tables bound m staged next pulled).ledger { live = l })
           (mapped_insert (scan_is tables) m n number t u ∙ ap (finmap.insert (mapped (scan_is tables) m.entries) number) (same s t et es ep (eb ∙ whole)));
-      coming = λ honest. subst (λ (l : List GivenRow). IsComing (numbered 0 (rows_at tables s.table)) (spec_of s.spec) params l) (sym coming) (comes (spec_of s.spec) params (rows_at tables s.table));
+      coming = λ honest. subst (λ (l : List GivenRow). IsComing (numbered 0 (rows_at tables s.table)) (spec_of s.spec) params l) (sym coming) (comes (spec_of s.spec) params (numbered 0 (rows_at tables s.table)));
       leaves = λ honest. others tables bound m n staged number next next pulled pulled (Some t) u;
     }
   where

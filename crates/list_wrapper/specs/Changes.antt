@@ -1,8 +1,9 @@
 -- What staged changes make of the rows of a list.
-use Rattle.std.specs.Prelude.{ℕ, ◌+◌, true, List, [], ◌∷◌, ◌++◌, map}
+use Rattle.std.specs.Prelude.{true, List, [], ◌∷◌, ◌++◌, map, flat_map, zip}
 use Rattle.med_value.specs.Datum.{tuple}
 use Rattle.med_value.specs.declared.value.Row.{Row}
-use Rattle.fdw_api.specs.Kinds.{Held, Change, Inserts, Updates, Deletes}
+use Rattle.fdw_api.specs.Scan.{TableRow}
+use Rattle.fdw_api.specs.Kinds.{Held, held, Change, Inserts, Updates, Deletes}
 use Rattle.fdw_api.specs.State.{Staging}
 use Rattle.fdw_api.specs.Writes.{row_after}
 use Rattle.list_wrapper.specs.declared.changes.ListChange.{ListChange}
@@ -32,13 +33,15 @@ abbrev pub as_held : Row → Held
 as_held r = record { cells = tuple r; origin = [] }
 
 -- what a fate makes of a row
-abbrev pub outcome : Row → Fate → List Held
-outcome r Keep = as_held r ∷ []
+abbrev pub outcome : TableRow → Fate → List Held
+outcome r Keep = held r ∷ []
 outcome r (ChangeTo x) = as_held x ∷ []
 outcome r Gone = []
 
--- the rows from the place n on, after their fates so far and the changes still to come
-abbrev pub woven : ℕ → List Row → List Fate → List Change → List Held
-woven n [] fs cs = []
-woven n (r ∷ rs) [] cs = []
-woven n (r ∷ rs) (f ∷ fs) cs = row_after no_line n cs (outcome r f) ++ woven (n + 1) rs fs cs
+-- what is left of a row under its fate so far, after the changes still to come
+abbrev pub left_of : List Change → TableRow → Fate → List Held
+left_of changes r fate = row_after no_line r.id changes (outcome r fate)
+
+-- what is left of all rows, each under its own fate
+abbrev pub rows_left : List TableRow → List Fate → List Change → List Held
+rows_left rows fates changes = flat_map (λ e. left_of changes e.0 e.1) (zip rows fates)

@@ -1,5 +1,5 @@
 -- What a list source shows: its tables by place, and its scans.
-use Rattle.std.specs.Prelude.{◌≡◌, ◌<◌, ◌≤◌, ◌+◌, ◌-◌, ◌^◌, ℕ, Bool, true, false, List, [], ◌∷◌, map, drop, Option, Some, None, slice_get, slice_index_or, if◌then◌else◌, option_map}
+use Rattle.std.specs.Prelude.{◌≡◌, ◌<◌, ◌≤◌, ◌+◌, ◌-◌, ◌^◌, ℕ, Bool, true, false, List, [], ◌∷◌, map, filter, drop, Option, Some, None, slice_get, slice_index_or, option_map}
 use Rattle.std.specs.Ordering.{nat_cmp}
 use Rattle.std.specs.FinMap as finmap
 use Rattle.std.specs.BTreeMap as tree
@@ -7,7 +7,7 @@ use Rattle.std.specs.BTreeMap.{BTreeMap}
 use Rattle.std.specs.String.{string_bytes}
 use Rattle.med_value.specs.Datum.{Tuple, datum, tuple}
 use Rattle.med_value.specs.declared.value.Row.{Row}
-use Rattle.fdw_api.specs.Scan.{Spec, spec_of, TableRow, GivenRow, meets_exact, shown_cells}
+use Rattle.fdw_api.specs.Scan.{Spec, spec_of, TableRow, GivenRow, meets_exact, given_row}
 use Rattle.med_value.specs.declared.value.ColType.{ColType}
 use Rattle.fdw_api.specs.Kinds.{Entry, Stored, Known, as_they_come}
 use Rattle.fdw_api.specs.State.{Nature, BoxTable, Scan, Staging, Ledger, Content, BoxState}
@@ -26,20 +26,21 @@ abbrev pub numbered : ℕ → List Row → List TableRow
 numbered n [] = []
 numbered n (r ∷ rs) = record { id = n; cells = tuple r; origin = [] } ∷ numbered (n + 1) rs
 
--- what a scan gives from a place on: in list order, each row that meets what the list took over
-abbrev pub coming_from : Spec → Tuple → ℕ → List Row → List GivenRow
-coming_from spec params n [] = []
-coming_from spec params n (r ∷ rs) =
-    if meets_exact spec.offered spec.answers params (tuple r)
-    then record { id = n; cells = shown_cells spec (tuple r) } ∷ coming_from spec params (n + 1) rs
-    else coming_from spec params (n + 1) rs
+-- a row meets what the list took over
+abbrev pub is_taken : Spec → Tuple → TableRow → Bool
+is_taken spec params r = meets_exact spec.offered spec.answers params r.cells
 
--- the next row of a scan that stands at a place; None where no row is left
-abbrev pub NextIs : Spec → Tuple → List Row → ℕ → Option SourceRow → Type 0
-NextIs spec params rows at None = coming_from spec params at (drop at rows) ≡ []
+-- what a scan that stands at a place has still to give: of the table's rows from there on, those that meet what the list took over,
+-- each as the scan shows it
+abbrev pub rows_to_come : Spec → Tuple → ℕ → List TableRow → List GivenRow
+rows_to_come spec params at rows = map (given_row spec) (filter (is_taken spec params) (drop at rows))
+
+-- the next row of a scan that stands at a place: the first of the rows to come, and the scan goes on after it; None where none is left
+abbrev pub NextIs : Spec → Tuple → List TableRow → ℕ → Option SourceRow → Type 0
+NextIs spec params rows at None = rows_to_come spec params at rows ≡ []
 NextIs spec params rows at (Some row) =
     (at ≤ row.id.number) × (row.id.number < 2 ^ 64 - 1)
-    × (coming_from spec params at (drop at rows) ≡ row_of row ∷ coming_from spec params (row.id.number + 1) (drop (row.id.number + 1) rows))
+    × (rows_to_come spec params at rows ≡ row_of row ∷ rows_to_come spec params (row.id.number + 1) rows)
 
 -- a table as it stands in the source
 abbrev pub stored : ListTable → Entry
@@ -105,7 +106,7 @@ mapped f es = finmap.from_entries (map (λ e. (e.0, f e.1)) es)
 
 abbrev pub scan_rows : List ListTable → Option ListScan → List GivenRow
 scan_rows tables None = []
-scan_rows tables (Some s) = coming_from (spec_of s.spec) (map datum s.params.items) s.at (drop s.at (rows_at tables s.table))
+scan_rows tables (Some s) = rows_to_come (spec_of s.spec) (map datum s.params.items) s.at (numbered 0 (rows_at tables s.table))
 
 -- a list never fails by its source, so that `faults` stays 0
 abbrev pub list_ledger : List ListTable → List Bool → BTreeMap ℕ ListScan → Option ListWrite → ℕ → ℕ → Ledger

@@ -4,7 +4,7 @@ ghost use Rattle.med_value.specs.declared.value.Row.{Row};
 ghost use Rattle.fdw_api.specs.Writes.{rows_after, inserted};
 ghost use Rattle.list_wrapper.specs.Lists.{no_line};
 ghost use Rattle.list_wrapper.specs.Scans.{numbered};
-ghost use Rattle.list_wrapper.specs.Changes.{change_is, write_is, with_change, broken_write, as_held, woven};
+ghost use Rattle.list_wrapper.specs.Changes.{change_is, write_is, with_change, broken_write, as_held, rows_left};
 
 use fdw_api::interface::Fault;
 use med_value::{NoMemory, Row};
@@ -88,7 +88,7 @@ fn sort_changes(
     changes: Vec<ListChange>,
 ) -> Result<Sorted, NoMemory>
     ensures fates { IfOk result (λ s. (rows : List Row)
-        → woven 0 rows s.fates.items [] ≡ woven 0 rows fates.items (map change_is changes.items)) }
+        → rows_left (numbered 0 rows) s.fates.items [] ≡ rows_left (numbered 0 rows) fates.items (map change_is changes.items)) }
     ensures fresh { IfOk result (λ s. map as_held s.fresh.items ≡ flat_map (inserted no_line) (map change_is changes.items)) }
 {
     let mut fates = fates;
@@ -105,7 +105,7 @@ fn sort_changes(
 
 /// The old rows that are left, as their fates say. The old ones stay as they are.
 fn rewritten(alloc: Global, rows: &Vec<Row>, fates: Vec<Fate>) -> Result<Vec<Row>, NoMemory>
-    ensures { IfOk result (λ after. map as_held after.items ≡ woven 0 rows.now.items fates.items []) }
+    ensures { IfOk result (λ after. map as_held after.items ≡ rows_left (numbered 0 rows.now.items) fates.items []) }
 {
     let mut after = Vec::new(alloc);
     let mut at = 0;

@@ -10,7 +10,7 @@ ghost use Rattle.fdw_api.specs.Kinds.{Column, column_of, kinds_of};
 ghost use Rattle.list_wrapper.specs.declared.list.ListTable.{ListTable};
 ghost use Rattle.list_wrapper.specs.Lists.{listed, entry_of, names_differ, rows_fit, IsNewList, types_match};
 ghost use Rattle.list_wrapper.specs.Changes.{write_is};
-ghost use Rattle.list_wrapper.specs.Scans.{NextIs, entry_at, rows_at, write_fits};
+ghost use Rattle.list_wrapper.specs.Scans.{NextIs, numbered, entry_at, rows_at, write_fits};
 
 use crate::changes::{ListChange, ListWrite, add_change, applied};
 use fdw_api::interface::{Counts, Fault, RowId, SourceRow, TableOption, Ticket, Wrapper};
@@ -126,7 +126,8 @@ fn has_types(types: &[ColType], columns: &[ColumnDef]) -> bool
 
 /// The next row of a scan, from its place on.
 fn next_row(alloc: Global, rows: &[Row], scan: &ListScan) -> Result<Option<SourceRow>, NoMemory>
-    ensures { IfOk result (λ next. NextIs (spec_of scan.now.spec) (map datum scan.now.params.items) rows.now scan.now.at next) }
+    ensures { IfOk result (λ next. NextIs (spec_of scan.now.spec) (map datum scan.now.params.items) (numbered 0 rows.now)
+        scan.now.at next) }
 {
     let mut at = scan.at;
     while at < rows.len() {
@@ -195,7 +196,7 @@ fn row_of_scan(
 ) -> Result<Option<SourceRow>, NoMemory>
     requires { IsSome (tree.get nat_cmp scans.now number) }
     ensures { IfOk result (λ next. IfSome (tree.get nat_cmp scans.now number)
-        (λ s. NextIs (spec_of s.spec) (map datum s.params.items) (rows_at tables.now.items s.table) s.at next)) }
+        (λ s. NextIs (spec_of s.spec) (map datum s.params.items) (numbered 0 (rows_at tables.now.items s.table)) s.at next)) }
 {
     match scans.get(&number) {
         None => unreachable!(),

@@ -1,8 +1,9 @@
-use Rattle.std.proofs.Common.{◌≡◌, ◌∙◌, ◌∷◌, ◌+◌, drop, true, false, map, sym, ap, arith, rules}
+use Rattle.std.proofs.Common.{◌≡◌, ◌∙◌, ◌∷◌, ◌+◌, true, false, map, sym, ap, arith, rules}
 use Rattle.med_value.specs.Datum.{datum, Tuple}
 use Rattle.fdw_api.specs.Scan.{spec_of}
-use Rattle.csv_tables.specs.Tables.{shape_is, records_of, fields_at}
-use Rattle.csv_wrapper.specs.Scans.{comes_by, coming_from}
+use Rattle.csv_tables.specs.Tables.{cells_at, fields_at}
+use Rattle.csv_wrapper.specs.Slots.{rows_in}
+use Rattle.csv_wrapper.specs.Scans.{comes, rows_to_come}
 use Rattle.csv_wrapper.proofs.Coming.{gives_at, skips_at, ends_at}
 use Rattle.csv_wrapper.proofs.scan.next_row.Goals as goal
 
@@ -11,12 +12,12 @@ returns-then-branch c =
     let t = c.args.table.now in
     let s = c.args.scan.now in
     let small = t.rows.small in
-    let e : comes_by (shape_is t.layout) (spec_of s.spec) (map datum s.params.items) (fields_at t c.loop-at.at) ≡ true = search rules in
+    let e : comes (spec_of s.spec).offered (spec_of s.spec).answers (map datum s.params.items) (cells_at t c.loop-at.at) (fields_at t c.loop-at.at) ≡ true = search rules in
     let shown = c.in_ok-cells.ensures in (
       c.loop-at.invariant.past,
       omega arith,
       c.loop-at.invariant.same ∙ gives_at t (spec_of s.spec) (map datum s.params.items) c.loop-at.at c.loop-at-test.true e
-          ∙ ap (λ (cells : Tuple). record { id = c.loop-at.at; cells = cells } ∷ coming_from (shape_is t.layout) (spec_of s.spec) (map datum s.params.items) (c.loop-at.at + 1) (drop (c.loop-at.at + 1) (records_of t.rows))) (sym shown),
+          ∙ ap (λ (cells : Tuple). record { id = c.loop-at.at; cells = cells } ∷ rows_to_come (spec_of s.spec) (map datum s.params.items) (c.loop-at.at + 1) (rows_in t)) (sym shown),
     )
 
 pub overflow_add-at : goal.overflow_add-at
@@ -26,7 +27,7 @@ pub loop-at-preserved : goal.loop-at-preserved
 loop-at-preserved c =
     let t = c.args.table.now in
     let s = c.args.scan.now in
-    let e : comes_by (shape_is t.layout) (spec_of s.spec) (map datum s.params.items) (fields_at t c.loop-at.at) ≡ false = search rules in
+    let e : comes (spec_of s.spec).offered (spec_of s.spec).answers (map datum s.params.items) (cells_at t c.loop-at.at) (fields_at t c.loop-at.at) ≡ false = search rules in
     let past = c.loop-at.invariant.past in
     record {
       past = omega arith;
