@@ -6,8 +6,8 @@ use Rattle.query_answer.proofs.values.values_over.Goals as goal
 pub loop-part-preserved : goal.loop-part-preserved
 loop-part-preserved c =
     record {
-      values = step_value c.args.parts.now (map tuple c.args.class.now) c.loop-part.cells.items c.push_value.new.cells.items c.in-Ok.v c.loop-part.part-index c.part-item.result (omega arith) c.part-item.is (search rules) (search rules) c.loop-part.invariant.values;
-      no_fault = step_value_quiet c.args.parts.now (map tuple c.args.class.now) c.in-Ok.v c.loop-part.part-index c.part-item.result (omega arith) c.part-item.is (search rules) c.loop-part.invariant.no_fault;
+      values = step_value c.args.parts.now (map tuple c.args.class.now) c.loop-part.cells.items c.push_value.new.cells.items c.in-Ok-eval_class.v c.loop-part.part-index c.part-item.result (omega arith) c.part-item.is (search rules) (search rules) c.loop-part.invariant.values;
+      no_fault = step_value_quiet c.args.parts.now (map tuple c.args.class.now) c.in-Ok-eval_class.v c.loop-part.part-index c.part-item.result (omega arith) c.part-item.is (search rules) c.loop-part.invariant.no_fault;
     }
 
 pub returns-in-Err-clause-told : goal.returns-in-Err-clause-told
