@@ -101,12 +101,20 @@ orders_texts = (
   refl,
   record {
     page = record {
-      names = _; is = orders_page; plain = orders_plain.0; unlisted = unlisted.0; place = 0; table = orders_table 0; at = refl; tree_is = refl;
+      names = _;
+      is = orders_page;
+      plain = orders_plain.0;
+      unlisted = unlisted.0;
+      place = 0;
+      table = orders_table 0;
+      at = refl;
+      tree_is = refl;
     };
     delete = record {
       place = 0;
       target = record { table = orders_table 0; at = refl; tree_is = refl; free = λ olds news. refl };
-      is = orders_delete; plain = orders_plain.1;
+      is = orders_delete;
+      plain = orders_plain.1;
     };
     insert = record {
       place = 0;
@@ -125,12 +133,20 @@ people_texts = (
   refl,
   record {
     page = record {
-      names = _; is = people_page; plain = people_plain.0; unlisted = unlisted.1; place = 0; table = people_table 0; at = refl; tree_is = refl;
+      names = _;
+      is = people_page;
+      plain = people_plain.0;
+      unlisted = unlisted.1;
+      place = 0;
+      table = people_table 0;
+      at = refl;
+      tree_is = refl;
     };
     delete = record {
       place = 0;
       target = record { table = people_table 0; at = refl; tree_is = refl; free = λ olds news. refl };
-      is = people_delete; plain = people_plain.1;
+      is = people_delete;
+      plain = people_plain.1;
     };
     insert = record {
       place = 0;
