@@ -29,7 +29,7 @@ use Rattle.query_reader.proofs.QueryComplete as query_line
 use Rattle.ddl_syntax.specs.DdlTree.{DdlTree}
 use Rattle.ddl_parser.specs.DdlGrammar.{Both, IsEnd, IsDdl}
 use Rattle.ddl_parser.specs.DdlReading.{seq, behind_word, words_if}
-use Rattle.ddl_parser.proofs.DdlSound.{FoundForm, word_is}
+use Rattle.ddl_parser.proofs.DdlSound.{FoundForm, word_is, err_ok}
 use Rattle.ddl_parser.proofs.DdlComplete as ddl
 use Rattle.cursor_syntax.specs.declared.cursor.CursorStatement.{CursorStatement}
 use Rattle.cursor_syntax.specs.CursorTree.{CursorTree, declare, fetch, close, cursor_height}
@@ -38,7 +38,7 @@ use Rattle.cursor_parser.specs.CursorGrammar.{Declaring, QueryIs, IsCursor}
 use Rattle.cursor_parser.specs.CursorReading.{held_of, properties_of, declared_of, plain_of, ended, plain_line, query_of, line_behind, line_of}
 use Rattle.cursor_parser.specs.CursorCauses.{Refuses}
 use Rattle.query_reader.proofs.QueryWeighing.{words_weigh, bounded_sound, bounded_out, bounded_told}
-use Rattle.cursor_parser.proofs.CursorSound.{err_ok, Plain, declared_sound, plain_line_sound, plain_found}
+use Rattle.cursor_parser.proofs.CursorSound.{Plain, declared_sound, plain_line_sound, plain_found}
 use Rattle.cursor_parser.proofs.CursorComplete.{declared_takes, plain_line_takes, undeclared, first_fetch, first_close, first_declare}
 
 -- the terminals of a query's tokens
