@@ -25,11 +25,10 @@ use Rattle.csv_tables.specs.Shapes.{Shape, read_row, unless, hides_value, causes
 use Rattle.csv_tables.specs.Content.{TellsCause}
 use Rattle.csv_tables.specs.Flat.{header_in}
 use Rattle.csv_tables.specs.Tables.{shape_is, records_of, numbered}
-use Rattle.csv_tables.specs.Rewriting.{left_by, woven, Gathers, Rewrites, rows_in}
+use Rattle.csv_tables.specs.Rewriting.{left_by, rows_left, Gathers, Rewrites, rows_in}
 use Rattle.csv_tables.proofs.Flat.{cut_length}
 use Rattle.csv_tables.proofs.Drafts.{told, under}
-use Rattle.csv_tables.proofs.Gathering.{woven_kept}
-use Rattle.staged_changes.proofs.Weaves.{woven_left}
+use Rattle.csv_tables.proofs.Gathering.{left_kept}
 
 pub origins : (shape : Shape) (rs : List Record) → map (λ r. r.origin) (map (read_row shape) rs) ≡ rs
 origins shape [] = refl
@@ -45,16 +44,16 @@ length_lines (f ∷ fs) = ap suc (length_lines fs)
 
 -- the records that are left, and the new ones, are the rows after the changes
 made : (shape : Shape) (rs fresh : List Record) (count : ℕ) (fates : List (Fate ByteRecord)) (changes : List Change) → length rs ≡ count
-    → woven shape 0 rs fates [] ≡ woven shape 0 rs (replicate count Keep) changes
+    → map (read_row shape) (left_by fates rs) ≡ rows_left shape rs (replicate count Keep) changes
     → map (read_row shape) fresh ≡ flat_map (inserted (line_of shape.null)) changes
     → map (read_row shape) (left_by fates rs ++ fresh) ≡ rows_after (line_of shape.null) (numbered shape 0 rs) changes
 made shape rs fresh count fates changes size same new =
     map-append (read_row shape) (left_by fates rs) fresh
-    ∙ ap (λ (l : List Held). l ++ map (read_row shape) fresh) (sym (woven_left (line_of shape.null) (read_row shape) fields_of 0 rs fates) ∙ same ∙ ap (λ (n : ℕ). woven shape 0 rs (replicate n Keep) changes) (sym size) ∙ woven_kept shape 0 rs changes)
+    ∙ ap (λ (l : List Held). l ++ map (read_row shape) fresh) (same ∙ ap (λ (n : ℕ). rows_left shape rs (replicate n Keep) changes) (sym size) ∙ left_kept shape 0 rs changes)
     ∙ ap (λ (l : List Held). flat_map (λ r. row_after (line_of shape.null) r.id changes (held r ∷ [])) (numbered shape 0 rs) ++ l) new
 
 pub rows_made : (t : CsvTable) (fates : List (Fate ByteRecord)) (fresh : List ByteRecord) (changes : List Change)
-    → ((rows : List Record) → woven (shape_is t.layout) 0 rows fates [] ≡ woven (shape_is t.layout) 0 rows (replicate t.rows.count Keep) changes)
+    → ((rows : List Record) → map (read_row (shape_is t.layout)) (left_by fates rows) ≡ rows_left (shape_is t.layout) rows (replicate t.rows.count Keep) changes)
     → map (read_row (shape_is t.layout)) (map fields_of fresh) ≡ flat_map (inserted (line_of (string_bytes t.layout.null))) changes
     → map (read_row (shape_is t.layout)) (left_by fates (records_of t.rows) ++ map fields_of fresh) ≡ rows_after (line_of (string_bytes t.layout.null)) (rows_in t) changes
 rows_made t fates fresh changes same new =

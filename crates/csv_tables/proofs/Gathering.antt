@@ -10,7 +10,7 @@ use Rattle.med_value.specs.Datum.{Tuple}
 use Rattle.fdw_api.specs.Kinds.{Held, held, Change}
 use Rattle.fdw_api.specs.Writes.{row_after}
 use Rattle.staged_changes.specs.declared.fates.Fate.{Fate}
-use Rattle.staged_changes.specs.declared.fates.Fate.TheVariants.{Keep, Gone}
+use Rattle.staged_changes.specs.declared.fates.Fate.TheVariants.{Keep}
 use Rattle.csv_tables.specs.declared.written.Gathered.{Gathered}
 use Rattle.csv_tables.specs.Cells.{line_of}
 use Rattle.csv_tables.specs.CsvRecords.{Record}
@@ -18,8 +18,8 @@ use Rattle.csv_tables.specs.Shapes.{Shape, read_row}
 use Rattle.csv_tables.specs.Flat.{cut_into}
 use Rattle.csv_tables.specs.declared.table.Rows.{Rows}
 use Rattle.csv_tables.specs.Tables.{numbered, record_at}
-use Rattle.csv_tables.specs.Rewriting.{has_width, is_wide, left_by, woven, Gathers}
-use Rattle.staged_changes.specs.Weaving.{outcome}
+use Rattle.csv_tables.specs.Rewriting.{has_width, is_wide, Gathers}
+use Rattle.staged_changes.proofs.Weaves.{left_from}
 use Rattle.csv_tables.proofs.Drafts.{cut_push, full_push}
 
 both : (a b : Bool) → (a && b) ≡ true → (a ≡ true) × (b ≡ true)
@@ -49,37 +49,12 @@ pub gathers_as : (width : ℕ) (xs ys : List Record) (g : Gathered) → Gathers 
 gathers_as width xs ys g h e = subst (λ (l : List Record). Gathers width l g) e h
 
 -- a step over fates
-left_none : (rs : List Record) → left_by [] rs ≡ []
-left_none [] = refl
-left_none (r ∷ rs) = refl
-
 pub wide_first : (width : ℕ) (f : Fate ByteRecord) (fs gs : List (Fate ByteRecord)) → fs ≡ f ∷ gs → list_all (is_wide width) fs ≡ true → (is_wide width f ≡ true) × (list_all (is_wide width) gs ≡ true)
 wide_first width f fs gs e h = both (is_wide width f) (list_all (is_wide width) gs) (sym (ap (list_all (is_wide width)) e) ∙ h)
-
-pub left_on : (done olds more all : List Record) (r x : Record) (f : Fate ByteRecord) (fs gs : List (Fate ByteRecord)) → done ++ left_by fs olds ≡ all → fs ≡ f ∷ gs → olds ≡ r ∷ more
-    → outcome fields_of r f ≡ x ∷ [] → (done ++ x ∷ []) ++ left_by gs more ≡ all
-left_on done olds more all r x f fs gs i ef eo out =
-    let s : left_by fs olds ≡ x ∷ left_by gs more = rw (ef, eo) (ap (λ (l : List Record). l ++ left_by gs more) out) in
-    append_assoc done (x ∷ []) (left_by gs more) ∙ ap (λ (l : List Record). done ++ l) (sym s) ∙ i
-
-pub left_gone : (done olds more all : List Record) (r : Record) (fs gs : List (Fate ByteRecord)) → done ++ left_by fs olds ≡ all → fs ≡ Gone ∷ gs → olds ≡ r ∷ more → done ++ left_by gs more ≡ all
-left_gone done olds more all r fs gs i ef eo =
-    let s : left_by fs olds ≡ left_by gs more = rw (ef, eo) refl in
-    ap (λ (l : List Record). done ++ l) (sym s) ∙ i
-
--- past the last record nothing is left
-pub left_past : (done olds all : List Record) (fs gs : List (Fate ByteRecord)) → done ++ left_by fs olds ≡ all → olds ≡ [] → done ++ left_by gs olds ≡ all
-left_past done olds all fs gs i eo =
-    let s : left_by gs olds ≡ left_by fs olds = rw eo refl in
-    ap (λ (l : List Record). done ++ l) s ∙ i
 
 append_none : (l : List Record) → l ++ [] ≡ l
 append_none [] = refl
 append_none (r ∷ l) = ap (λ (m : List Record). r ∷ m) (append_none l)
-
-pub left_ends : (done olds all : List Record) (fs : List (Fate ByteRecord)) → done ++ left_by fs olds ≡ all → fs ≡ [] → done ≡ all
-left_ends done olds all fs i ef =
-    sym (append_none done) ∙ ap (λ (l : List Record). done ++ l) (sym (ap (λ (gs : List (Fate ByteRecord)). left_by gs olds) ef ∙ left_none olds)) ∙ i
 
 -- the new records, one after the other
 pub lines_first : (width : ℕ) (x : ByteRecord) (xs ys : List ByteRecord) → xs ≡ x ∷ ys → list_all (has_width width) (map fields_of xs) ≡ true
@@ -93,10 +68,11 @@ pub lines_end : (done all : List Record) (xs : List ByteRecord) → done ++ map 
 lines_end done all xs i e = sym (append_none done) ∙ ap (λ (l : List ByteRecord). done ++ map fields_of l) (sym e) ∙ i
 
 -- kept records, before any change
-pub woven_kept : (shape : Shape) (n : ℕ) (rs : List Record) (cs : List Change) → woven shape n rs (replicate (length rs) Keep) cs
+pub left_kept : (shape : Shape) (n : ℕ) (rs : List Record) (cs : List Change)
+    → left_from (line_of shape.null) (read_row shape) fields_of n rs (replicate (length rs) Keep) cs
     ≡ flat_map (λ r. row_after (line_of shape.null) r.id cs (held r ∷ [])) (numbered shape n rs)
-woven_kept shape n [] cs = refl
-woven_kept shape n (r ∷ rs) cs = ap (λ (l : List Held). row_after (line_of shape.null) n cs (read_row shape r ∷ []) ++ l) (woven_kept shape (n + 1) rs cs)
+left_kept shape n [] cs = refl
+left_kept shape n (r ∷ rs) cs = ap (λ (l : List Held). row_after (line_of shape.null) n cs (read_row shape r ∷ []) ++ l) (left_kept shape (n + 1) rs cs)
 
 -- the row of a written record
 abbrev pub WritesRow : Shape → ByteRecord → Tuple → Type 0

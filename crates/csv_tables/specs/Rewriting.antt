@@ -48,9 +48,9 @@ is_wide width Gone = true
 abbrev pub left_by : List (Fate ByteRecord) → List Record → List Record
 left_by = weaving.left_by fields_of
 
--- the rows from the place n on, after their fates so far and the changes still to come
-abbrev pub woven : Shape → ℕ → List Record → List (Fate ByteRecord) → List Change → List Held
-woven shape = weaving.woven (line_of shape.null) (read_row shape) fields_of
+-- the rows of records, after their fates so far and the changes still to come
+abbrev pub rows_left : Shape → List Record → List (Fate ByteRecord) → List Change → List Held
+rows_left shape = weaving.rows_left (line_of shape.null) (read_row shape) fields_of
 
 -- these records were put together, each of this many fields
 pub record Gathers (width : ℕ) (rows : List Record) (g : Gathered) : Type 0 where

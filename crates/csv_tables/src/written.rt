@@ -15,7 +15,7 @@ ghost use Rattle.csv_tables.specs.Shapes.{read_row, unless, hides_value, causes_
 ghost use Rattle.csv_tables.specs.Content.{TellsCause};
 ghost use Rattle.csv_tables.specs.Flat.{header_in};
 ghost use Rattle.csv_tables.specs.Tables.{shape_is, record_at, records_of};
-ghost use Rattle.csv_tables.specs.Rewriting.{has_width, is_wide, left_by, woven, Gathers, HasWritten, Rewrites, rows_in};
+ghost use Rattle.csv_tables.specs.Rewriting.{has_width, is_wide, left_by, rows_left, Gathers, HasWritten, Rewrites, rows_in};
 
 use crate::cells::{field_text, reads_as_null};
 use crate::content::{first_header, push_fields};
@@ -77,8 +77,8 @@ fn sort_changes(
     changes: Vec<RowChange>,
 ) -> Result<Sorted, Fault>
     requires { list_all (row_of_change_fits layout.now.kinds.items) (map change_is changes.items) ≡ true }
-    ensures fates { IfOk result (λ s. (rows : List Record) → woven (shape_is layout.now) 0 rows s.fates.items []
-        ≡ woven (shape_is layout.now) 0 rows (replicate count Fate.Keep) (map change_is changes.items)) }
+    ensures fates { IfOk result (λ s. (rows : List Record) → map (read_row (shape_is layout.now)) (left_by s.fates.items rows)
+        ≡ rows_left (shape_is layout.now) rows (replicate count Fate.Keep) (map change_is changes.items)) }
     ensures fresh { IfOk result (λ s. map (read_row (shape_is layout.now)) (map fields_of s.fresh.items)
         ≡ flat_map (inserted (line_of (string_bytes layout.now.null))) (map change_is changes.items)) }
     ensures wide { IfOk result (λ s. list_all (is_wide (length layout.now.kinds.items)) s.fates.items ≡ true) }

@@ -1,7 +1,7 @@
 -- What staged changes make of the lines of a table.
 use Rattle.std.proofs.Common.{◌≡◌, ℕ, ◌+◌, ◌<◌, ◌≤◌, ◌||◌, ◌&&◌, Bool, true, false, nat_eq, nat_lt, List, [], ◌∷◌, ◌++◌, length, map, flat_map, replicate, drop, get_or, slice_get, String, Global, string_bytes, suc, zero, refl, ap, sym, ◌∙◌, arith, rules, Contains, Option, Some, None, is_some, option_and_then}
 use Rattle.std.specs.List.{list_all, list_any}
-use Rattle.std.proofs.lemmas.List.{drop_more, drop_all, append_assoc, map-append}
+use Rattle.std.proofs.lemmas.List.{drop_more, append_assoc, map-append}
 use Rattle.med_value.specs.Datum.{Tuple}
 use Rattle.med_value.specs.declared.value.ColType.{ColType}
 use Rattle.med_value.specs.declared.cause.Cause.TheVariants.{NotInState, TooLarge}
@@ -19,8 +19,8 @@ use Rattle.jsonl_tables.specs.Objects.{cells_at, is_wider, is_object, json_of, o
 use Rattle.jsonl_tables.specs.Written.{line_text}
 use Rattle.jsonl_tables.specs.Contents.{row_at, rows_at, json_line, widens, updates_wider, write_causes, is_too_large, image_too_large, lines_held}
 use Rattle.jsonl_tables.specs.Tables.{numbered}
-use Rattle.staged_changes.specs.Weaving.{outcome}
-use Rattle.jsonl_tables.specs.Changes.{woven}
+use Rattle.staged_changes.proofs.Weaves.{left_from, fate_on, fate_gone}
+use Rattle.jsonl_tables.specs.Changes.{left_by, rows_left}
 
 both : (a b : Bool) → (a && b) ≡ true → (a ≡ true) × (b ≡ true)
 both true b e = (refl, e)
@@ -30,10 +30,6 @@ rows_more : (readers : List Reader) (ls : List (List ℕ)) (l : List ℕ) (ws : 
 rows_more readers [] l ws = refl
 rows_more readers (x ∷ ls) l ws = ap (λ (rs : List Held). row_at readers x ∷ rs) (rows_more readers ls l ws)
 
-woven_done : (readers : List Reader) (n : ℕ) (rs : List (List ℕ)) (cs : List Change) → woven readers n rs [] cs ≡ []
-woven_done readers n [] cs = refl
-woven_done readers n (r ∷ rs) cs = refl
-
 -- the line at a place, and those behind it
 pub next_line : (content : List ℕ) (spans : List Span) (at : ℕ) (span : Span) → at < length spans → span ≡ get_or spans at span → lines_at content (drop at spans) ≡ line_at content span ∷ lines_at content (drop (at + 1) spans)
 next_line content spans at span lt e = ap (lines_at content) (drop_more spans at span lt) ∙ ap (λ (s : Span). line_at content s ∷ lines_at content (drop (at + 1) spans)) (sym e)
@@ -42,41 +38,18 @@ some_line : (content : List ℕ) (spans : List Span) (at : ℕ) → at < length 
 some_line content [] at lt = absurd (omega arith)
 some_line content (s ∷ spans) at lt = (line_at content (get_or (s ∷ spans) at s), ap (lines_at content) (drop_more (s ∷ spans) at s lt))
 
--- a step of the loop over fates that gives a line
-gives_on : (readers : List Reader) (ls : List (List ℕ)) (here : List ℕ) (at : ℕ) (old l : List ℕ) (olds olds' : List (List ℕ)) (f : Fate (String Global)) (fs gs : List (Fate (String Global))) (all : List Held) → rows_at readers ls ++ woven readers at olds fs [] ≡ all → fs ≡ f ∷ gs → olds ≡ old ∷ olds' → outcome string_bytes old f ≡ l ∷ []
-    → rows_at readers (ls ++ l ∷ []) ++ woven readers (at + 1) olds' gs [] ≡ all
-gives_on readers ls here at old l olds olds' f fs gs all i is d o =
-    let w = woven readers (at + 1) olds' gs [] in
-    let s : woven readers at olds fs [] ≡ row_at readers l ∷ w = rw (is, d) (ap (λ (ls : List (List ℕ)). rows_at readers ls ++ w) o) in
-    rows_more readers ls l w ∙ sym (ap (λ (rs : List Held). rows_at readers ls ++ rs) s) ∙ i
+-- a step of the loop over fates
+pub keeps_on : (content : List ℕ) (spans : List Span) (ls : List (List ℕ)) (at : ℕ) (span : Span) (fs gs : List (Fate (String Global))) (all : List (List ℕ)) → at < length spans → span ≡ get_or spans at span → ls ++ left_by fs (lines_at content (drop at spans)) ≡ all → fs ≡ Keep ∷ gs
+    → (ls ++ line_at content span ∷ []) ++ left_by gs (lines_at content (drop (at + 1) spans)) ≡ all
+keeps_on content spans ls at span fs gs all lt e i is = fate_on string_bytes ls _ _ all (line_at content span) (line_at content span) Keep fs gs i is (next_line content spans at span lt e) refl
 
-pub keeps_on : (readers : List Reader) (content : List ℕ) (spans : List Span) (ls : List (List ℕ)) (at : ℕ) (span : Span) (fs gs : List (Fate (String Global))) (all : List Held) → at < length spans → span ≡ get_or spans at span → rows_at readers ls ++ woven readers at (lines_at content (drop at spans)) fs [] ≡ all → fs ≡ Keep ∷ gs
-    → rows_at readers (ls ++ line_at content span ∷ []) ++ woven readers (at + 1) (lines_at content (drop (at + 1) spans)) gs [] ≡ all
-keeps_on readers content spans ls at span fs gs all lt e i is = gives_on readers ls [] at (line_at content span) (line_at content span) _ _ Keep fs gs all i is (next_line content spans at span lt e) refl
+pub changes_on : (content : List ℕ) (spans : List Span) (ls : List (List ℕ)) (at : ℕ) (line : String Global) (fs gs : List (Fate (String Global))) (all : List (List ℕ)) → at < length spans → ls ++ left_by fs (lines_at content (drop at spans)) ≡ all → fs ≡ ChangeTo line ∷ gs
+    → (ls ++ string_bytes line ∷ []) ++ left_by gs (lines_at content (drop (at + 1) spans)) ≡ all
+changes_on content spans ls at line fs gs all lt i is = let n = some_line content spans at lt in fate_on string_bytes ls _ _ all n.0 (string_bytes line) (ChangeTo line) fs gs i is n.1 refl
 
-pub changes_on : (readers : List Reader) (content : List ℕ) (spans : List Span) (ls : List (List ℕ)) (at : ℕ) (line : String Global) (fs gs : List (Fate (String Global))) (all : List Held) → at < length spans → rows_at readers ls ++ woven readers at (lines_at content (drop at spans)) fs [] ≡ all → fs ≡ ChangeTo line ∷ gs
-    → rows_at readers (ls ++ string_bytes line ∷ []) ++ woven readers (at + 1) (lines_at content (drop (at + 1) spans)) gs [] ≡ all
-changes_on readers content spans ls at line fs gs all lt i is = let n = some_line content spans at lt in gives_on readers ls [] at n.0 (string_bytes line) _ _ (ChangeTo line) fs gs all i is n.1 refl
-
-pub drops_on : (readers : List Reader) (content : List ℕ) (spans : List Span) (ls : List (List ℕ)) (at : ℕ) (fs gs : List (Fate (String Global))) (all : List Held) → at < length spans → rows_at readers ls ++ woven readers at (lines_at content (drop at spans)) fs [] ≡ all → fs ≡ Gone ∷ gs
-    → rows_at readers ls ++ woven readers (at + 1) (lines_at content (drop (at + 1) spans)) gs [] ≡ all
-drops_on readers content spans ls at fs gs all lt i is =
-    let n = some_line content spans at lt in
-    let s : woven readers at (lines_at content (drop at spans)) fs [] ≡ woven readers (at + 1) (lines_at content (drop (at + 1) spans)) gs [] = rw (is, n.1) refl in
-    ap (λ (rs : List Held). rows_at readers ls ++ rs) (sym s) ∙ i
-
--- past the last line nothing is left to weave
-pub past_on : (readers : List Reader) (content : List ℕ) (spans : List Span) (ls : List (List ℕ)) (at : ℕ) (fs gs : List (Fate (String Global))) (all : List Held) → length spans ≤ at → rows_at readers ls ++ woven readers at (lines_at content (drop at spans)) fs [] ≡ all → rows_at readers ls ++ woven readers at (lines_at content (drop at spans)) gs [] ≡ all
-past_on readers content spans ls at fs gs all le i =
-    let none : drop at spans ≡ [] = drop_all at spans le in
-    let s : woven readers at (lines_at content (drop at spans)) gs [] ≡ woven readers at (lines_at content (drop at spans)) fs [] = rw none refl in
-    ap (λ (rs : List Held). rows_at readers ls ++ rs) s ∙ i
-
-no_more : (l : List Held) → l ++ [] ≡ l
-no_more l = search rules
-
-pub ends_on : (readers : List Reader) (n : ℕ) (rs : List (List ℕ)) (fs : List (Fate (String Global))) (ls : List (List ℕ)) (all : List Held) → rows_at readers ls ++ woven readers n rs fs [] ≡ all → fs ≡ [] → rows_at readers ls ≡ all
-ends_on readers n rs fs ls all i f = sym (no_more (rows_at readers ls)) ∙ sym (ap (λ (l : List Held). rows_at readers ls ++ l) (ap (λ (gs : List (Fate (String Global))). woven readers n rs gs []) f ∙ woven_done readers n rs [])) ∙ i
+pub drops_on : (content : List ℕ) (spans : List Span) (ls : List (List ℕ)) (at : ℕ) (fs gs : List (Fate (String Global))) (all : List (List ℕ)) → at < length spans → ls ++ left_by fs (lines_at content (drop at spans)) ≡ all → fs ≡ Gone ∷ gs
+    → ls ++ left_by gs (lines_at content (drop (at + 1) spans)) ≡ all
+drops_on content spans ls at fs gs all lt i is = let n = some_line content spans at lt in fate_gone string_bytes ls _ _ all n.0 fs gs i is n.1
 
 -- a written row is the row of its line
 pub written_row : (readers : List Reader) (line : List ℕ) (cells : Tuple) → line ≡ line_text readers cells → cells_at readers line ≡ cells → row_at readers line ≡ record { cells = cells; origin = json_line readers cells }
@@ -97,9 +70,9 @@ same_on readers xs c cs ds all i is none =
     ap (λ (l : List Held). xs ++ l) (sym s) ∙ i
 
 -- kept lines, before any change
-pub woven_kept : (readers : List Reader) (n : ℕ) (ls : List (List ℕ)) (cs : List Change) → woven readers n ls (replicate (length ls) Keep) cs ≡ flat_map (λ r. row_after (json_line readers) r.id cs (held r ∷ [])) (numbered readers n ls)
-woven_kept readers n [] cs = refl
-woven_kept readers n (l ∷ ls) cs = ap (λ (rs : List Held). row_after (json_line readers) n cs (row_at readers l ∷ []) ++ rs) (woven_kept readers (n + 1) ls cs)
+left_kept : (readers : List Reader) (n : ℕ) (ls : List (List ℕ)) (cs : List Change) → left_from (json_line readers) (row_at readers) (string_bytes {Z = Global}) n ls (replicate (length ls) Keep) cs ≡ flat_map (λ r. row_after (json_line readers) r.id cs (held r ∷ [])) (numbered readers n ls)
+left_kept readers n [] cs = refl
+left_kept readers n (l ∷ ls) cs = ap (λ (rs : List Held). row_after (json_line readers) n cs (row_at readers l ∷ []) ++ rs) (left_kept readers (n + 1) ls cs)
 
 past : (m n : ℕ) → m < n → nat_eq m n ≡ false
 past m n lt = search rules
@@ -199,14 +172,13 @@ pub image_text : (content : List ℕ) (spans : List Span) (lines : List (List �
 image_text content spans lines is = is.text ∙ ap text_of (sym (image_lines content spans lines is))
 
 -- the rows of an image of the lines that are left and the new ones
-pub image_rows : (readers : List Reader) (content : List ℕ) (spans : List Span) (made : List ℕ) (places : List Span) (lines : List (List ℕ)) (fresh : List (String Global)) (fates sorted : List (Fate (String Global))) (changes : List Change)
-    → IsImage made places (lines ++ map string_bytes fresh) → rows_at readers lines ≡ woven readers 0 (lines_at content spans) sorted []
-    → woven readers 0 (lines_at content spans) sorted [] ≡ woven readers 0 (lines_at content spans) fates changes → fates ≡ replicate (length spans) Keep
+pub image_rows : (readers : List Reader) (content : List ℕ) (spans : List Span) (made : List ℕ) (places : List Span) (lines : List (List ℕ)) (fresh : List (String Global)) (fates : List (Fate (String Global))) (changes : List Change)
+    → IsImage made places (lines ++ map string_bytes fresh) → rows_at readers lines ≡ rows_left readers (lines_at content spans) fates changes → fates ≡ replicate (length spans) Keep
     → rows_at readers (map string_bytes fresh) ≡ flat_map (inserted (json_line readers)) changes
     → rows_at readers (lines_at made places) ≡ rows_after (json_line readers) (numbered readers 0 (lines_at content spans)) changes
-image_rows readers content spans made places lines fresh fates sorted changes is kept same all new =
+image_rows readers content spans made places lines fresh fates changes is same all new =
     ap (rows_at readers) (image_lines made places (lines ++ map string_bytes fresh) is) ∙ map-append (row_at readers) lines (map string_bytes fresh)
-    ∙ ap (λ (l : List Held). l ++ rows_at readers (map string_bytes fresh)) (kept ∙ same ∙ ap (λ (fs : List (Fate (String Global))). woven readers 0 (lines_at content spans) fs changes) (all ∙ ap (λ n. replicate n Keep) (sym (length_lines content spans))) ∙ woven_kept readers 0 (lines_at content spans) changes)
+    ∙ ap (λ (l : List Held). l ++ rows_at readers (map string_bytes fresh)) (same ∙ ap (λ (fs : List (Fate (String Global))). rows_left readers (lines_at content spans) fs changes) (all ∙ ap (λ n. replicate n Keep) (sym (length_lines content spans))) ∙ left_kept readers 0 (lines_at content spans) changes)
     ∙ ap (λ (l : List Held). flat_map (λ r. row_after (json_line readers) r.id changes (held r ∷ [])) (numbered readers 0 (lines_at content spans)) ++ l) new
 
 -- its size is that of its rows

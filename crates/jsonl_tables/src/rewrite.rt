@@ -6,7 +6,7 @@ ghost use Rattle.jsonl_tables.specs.Lines.{lines_at, text_of, IsImage};
 ghost use Rattle.jsonl_tables.specs.Contents.{rows_at, json_line, widens, updates_wider, write_causes, WriteRefused};
 ghost use Rattle.jsonl_tables.specs.Tables.{readers_in, kinds_in, lines_in, rows_in};
 ghost use Rattle.staged_changes.specs.Staged.{change_is};
-ghost use Rattle.jsonl_tables.specs.Changes.{woven};
+ghost use Rattle.jsonl_tables.specs.Changes.{left_by, rows_left};
 
 use crate::lines::{Image, line_at};
 use crate::objects::{LineFault, is_wider, parse_line};
@@ -47,8 +47,8 @@ fn sort_changes(
     changes: Vec<RowChange>,
 ) -> Result<Sorted, Fault>
     requires { list_all (row_of_change_fits (kinds_in table.now)) (map change_is changes.items) ≡ true }
-    ensures fates { IfOk result (λ s. woven (readers_in table.now) 0 (lines_in table.now) s.fates.items []
-        ≡ woven (readers_in table.now) 0 (lines_in table.now) fates.items (map change_is changes.items)) }
+    ensures fates { IfOk result (λ s. rows_at (readers_in table.now) (left_by s.fates.items (lines_in table.now))
+        ≡ rows_left (readers_in table.now) (lines_in table.now) fates.items (map change_is changes.items)) }
     ensures fresh { IfOk result (λ s. rows_at (readers_in table.now) (map string_bytes s.fresh.items)
         ≡ flat_map (inserted (json_line (readers_in table.now))) (map change_is changes.items)) }
     ensures narrow { IfOk result (λ s. list_any (updates_wider (readers_in table.now) (rows_in table.now))
@@ -75,9 +75,7 @@ fn sort_changes(
 
 /// The old lines that are left, as their fates say: kept ones byte for byte.
 fn kept_lines(alloc: Global, table: &JsonTable, fates: Vec<Fate<String>>) -> Result<Image, NoMemory>
-    ensures { IfOk result (λ image. (lines : List (List ℕ)) × IsImage image.content.items image.lines.items lines
-        × (rows_at (readers_in table.now) lines
-        ≡ woven (readers_in table.now) 0 (lines_in table.now) fates.items [])) }
+    ensures { IfOk result (λ image. IsImage image.content.items image.lines.items (left_by fates.items (lines_in table.now))) }
 {
     let mut image = Image::new(alloc);
     let mut at = 0;

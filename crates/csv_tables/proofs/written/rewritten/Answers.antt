@@ -1,13 +1,13 @@
 use Rattle.std.proofs.Common.{◌≡◌, ◌<◌, ◌≤◌, ◌∷◌, ◌++◌, [], ◌∙◌, sym, ap, length, refl, arith, rules}
-use Rattle.std.proofs.lemmas.List.{drop_all}
+use Rattle.std.proofs.lemmas.List.{drop_all, nil_from_length}
 use Rattle.csv.specs.Records.{fields_of}
 use Rattle.staged_changes.specs.declared.fates.Fate.TheVariants.{Keep, Change as ChangeTo, Gone}
 use Rattle.csv_tables.specs.CsvRecords.{Record}
 use Rattle.csv_tables.specs.Tables.{records_of}
 use Rattle.csv_tables.specs.Rewriting.{has_width, left_by}
 use Rattle.csv_tables.proofs.Flat.{cut_drop, cut_length}
-use Rattle.csv_tables.proofs.Gathering.{wide_first, left_on, left_gone, left_past, left_ends, gathers_as, record_width}
-use Rattle.staged_changes.proofs.Weaves.{no_fates}
+use Rattle.csv_tables.proofs.Gathering.{wide_first, gathers_as, record_width}
+use Rattle.staged_changes.proofs.Weaves.{fate_on, fate_gone, fate_past, fates_end}
 use Rattle.csv_tables.proofs.written.rewritten.Goals.{in-Keep+in_ok-record_at-in-Keep+in_ok-gather-in-Keep, in-Change+in_ok-gather-in-Change, in-Gone}
 use Rattle.csv_tables.proofs.written.rewritten.Goals as goal
 
@@ -34,7 +34,7 @@ loop-fate-preserved-then-at-rows c =
             done = (
               i.done.0 ++ fields_of w.record_at.new.row ∷ [],
               g.rows s.width i.done.0 i.done.1 (ap (has_width s.width) row ∙ record_width s at lt),
-              left_on i.done.0 _ _ _ _ (fields_of w.record_at.new.row) Keep fs gs i.done.2 e next (ap (λ (r : Record). r ∷ []) (sym row)),
+              fate_on fields_of i.done.0 _ _ _ _ (fields_of w.record_at.new.row) Keep fs gs i.done.2 e next (ap (λ (r : Record). r ∷ []) (sym row)),
             );
           })
       | in-Change+in_ok-gather-in-Change w ↦
@@ -49,7 +49,7 @@ loop-fate-preserved-then-at-rows c =
             done = (
               i.done.0 ++ fields_of w.in-Change.new ∷ [],
               g.rows s.width i.done.0 i.done.1 wide.0,
-              left_on i.done.0 _ _ _ _ (fields_of w.in-Change.new) (ChangeTo w.in-Change.new) fs gs i.done.2 e next refl,
+              fate_on fields_of i.done.0 _ _ _ _ (fields_of w.in-Change.new) (ChangeTo w.in-Change.new) fs gs i.done.2 e next refl,
             );
           })
       | in-Gone w ↦
@@ -58,7 +58,7 @@ loop-fate-preserved-then-at-rows c =
             wide = (wide_first s.width Gone fs gs e i.wide).1;
             few = omega arith;
             within = omega arith;
-            done = (i.done.0, i.done.1, left_gone i.done.0 _ _ _ _ fs gs i.done.2 e next);
+            done = (i.done.0, i.done.1, fate_gone fields_of i.done.0 _ _ _ _ fs gs i.done.2 e next);
           })
     ]
 
@@ -75,7 +75,7 @@ loop-fate-preserved-else-at-rows c =
       wide = (wide_first s.width c.in-Some.fate fs gs e i.wide).1;
       few = i.few;
       within = i.within;
-      done = (i.done.0, i.done.1, left_past i.done.0 _ _ fs gs i.done.2 (drop_all c.loop-fate.at (records_of s) le));
+      done = (i.done.0, i.done.1, fate_past fields_of i.done.0 _ _ fs gs i.done.2 (drop_all c.loop-fate.at (records_of s) le));
     }
 
 pub loop-fate-preserved : goal.loop-fate-preserved
@@ -91,13 +91,13 @@ loop-fate-preserved c =
       wide = (wide_first s.width c.in-Some.fate fs gs e i.wide).1;
       few = i.few;
       within = i.within;
-      done = (i.done.0, i.done.1, left_past i.done.0 _ _ fs gs i.done.2 (drop_all c.loop-fate.at (records_of s) le));
+      done = (i.done.0, i.done.1, fate_past fields_of i.done.0 _ _ fs gs i.done.2 (drop_all c.loop-fate.at (records_of s) le));
     }
 
 pub returns : goal.returns
 returns c =
     let s = c.args.rows.now in
     let i = c.loop-fate.invariant in
-    let none = no_fates c.loop-fate.fate-iterator.rest.items (search rules) in
+    let none = nil_from_length c.loop-fate.fate-iterator.rest.items (search rules) in
     let start : c.into_iter-fate-iterator.result.rest.items ≡ c.args.fates.items = search rules in
-    gathers_as s.width i.done.0 _ c.loop-fate.gathered i.done.1 (left_ends i.done.0 _ _ c.loop-fate.fate-iterator.rest.items i.done.2 none ∙ ap (λ fs. left_by fs (records_of s)) start)
+    gathers_as s.width i.done.0 _ c.loop-fate.gathered i.done.1 (fates_end fields_of i.done.0 _ _ c.loop-fate.fate-iterator.rest.items i.done.2 none ∙ ap (λ fs. left_by fs (records_of s)) start)

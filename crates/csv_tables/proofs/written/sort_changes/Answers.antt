@@ -1,4 +1,5 @@
 use Rattle.std.proofs.Common.{◌≡◌, ◌∙◌, ◌∷◌, ap, sym, refl, length, map, rules}
+use Rattle.std.proofs.lemmas.List.{nil_from_length}
 use Rattle.std.specs.List.{list_all}
 use Rattle.std.specs.String.{string_bytes}
 use Rattle.med_value.specs.Datum.{tuple}
@@ -6,9 +7,9 @@ use Rattle.fdw_api.specs.Kinds.{Inserts, Updates, Deletes}
 use Rattle.staged_changes.specs.declared.fates.Fate.TheVariants.{Change as ChangeTo, Gone}
 use Rattle.staged_changes.specs.Staged.{change_is}
 use Rattle.csv_tables.specs.Tables.{shape_is}
-use Rattle.csv_tables.specs.Rewriting.{woven}
+use Rattle.csv_tables.specs.Rewriting.{rows_left}
 use Rattle.csv_tables.proofs.Gathering.{wide_set, wide_kept}
-use Rattle.staged_changes.proofs.Weaves.{woven_on, woven_insert, woven_update, woven_delete}
+use Rattle.staged_changes.proofs.Weaves.{left_on, left_insert, left_update, left_delete, left_without_changes}
 use Rattle.csv.specs.Records.{fields_of}
 use Rattle.csv_tables.specs.Cells.{line_of}
 use Rattle.csv_tables.specs.Shapes.{read_row}
@@ -29,8 +30,8 @@ loop-change-preserved c =
     let fit = first_fits l.kinds.items (Deletes id) cs ds ce i.fit in
     record {
       fit = fit.1;
-      fates = λ rows. woven_on write read fields_of rows c.loop-change.fates.items c.set_fate-in-Delete.new.fates.items (Deletes id) cs ds _ (i.fates rows) ce
-          (woven_delete write read fields_of id rows c.loop-change.fates.items ds ∙ ap (λ fs. woven shape 0 rows fs ds) (sym c.set_fate-in-Delete.ensures));
+      fates = λ rows. left_on write read fields_of rows c.loop-change.fates.items c.set_fate-in-Delete.new.fates.items (Deletes id) cs ds _ (i.fates rows) ce
+          (left_delete write read fields_of id rows c.loop-change.fates.items ds ∙ ap (λ fs. rows_left shape rows fs ds) (sym c.set_fate-in-Delete.ensures));
       fresh = same_on shape _ (Deletes id) cs ds _ i.fresh ce refl;
       wide = ap (list_all _) c.set_fate-in-Delete.ensures ∙ wide_set (length l.kinds.items) c.loop-change.fates.items id Gone i.wide refl;
       fresh_wide = i.fresh_wide;
@@ -66,7 +67,7 @@ loop-change-preserved-in-Insert c =
     let fit = first_fits l.kinds.items (Inserts x) cs ds ce i.fit in
     record {
       fit = fit.1;
-      fates = λ rows. woven_on write read fields_of rows c.loop-change.fates.items c.loop-change.fates.items (Inserts x) cs ds _ (i.fates rows) ce (woven_insert write read fields_of 0 rows c.loop-change.fates.items x ds);
+      fates = λ rows. left_on write read fields_of rows c.loop-change.fates.items c.loop-change.fates.items (Inserts x) cs ds _ (i.fates rows) ce (left_insert write read fields_of 0 rows c.loop-change.fates.items x ds);
       fresh = fresh_on shape c.loop-change.fresh.items c.push.new.self.items line x cs ds _ i.fresh ce (search rules) (written_row shape line x did.line (did.back l.kinds.items fit.0));
       wide = i.wide;
       fresh_wide = fresh_wide_on (length l.kinds.items) c.loop-change.fresh.items c.push.new.self.items line (search rules) i.fresh_wide (wide_line shape line x did.line fit.0);
@@ -90,10 +91,21 @@ loop-change-preserved-in-Update c =
     let fit = first_fits l.kinds.items (Updates id x) cs ds ce i.fit in
     record {
       fit = fit.1;
-      fates = λ rows. woven_on write read fields_of rows c.loop-change.fates.items c.set_fate.new.fates.items (Updates id x) cs ds _ (i.fates rows) ce
-          (woven_update write read fields_of id rows c.loop-change.fates.items line x ds (written_row shape line x did.line (did.back l.kinds.items fit.0)) ∙ ap (λ fs. woven shape 0 rows fs ds) (sym c.set_fate.ensures));
+      fates = λ rows. left_on write read fields_of rows c.loop-change.fates.items c.set_fate.new.fates.items (Updates id x) cs ds _ (i.fates rows) ce
+          (left_update write read fields_of id rows c.loop-change.fates.items line x ds (written_row shape line x did.line (did.back l.kinds.items fit.0)) ∙ ap (λ fs. rows_left shape rows fs ds) (sym c.set_fate.ensures));
       fresh = same_on shape _ (Updates id x) cs ds _ i.fresh ce refl;
       wide = ap (list_all _) c.set_fate.ensures ∙ wide_set (length l.kinds.items) c.loop-change.fates.items id (ChangeTo line) i.wide (wide_line shape line x did.line fit.0);
       fresh_wide = i.fresh_wide;
       clear = clear_on (string_bytes l.null) _ (Updates id x) cs ds i.clear ce did.clear;
     }
+
+pub returns-clause-fates : goal.returns-clause-fates
+returns-clause-fates c =
+    let shape = shape_is c.args.layout.now in
+    let kept = c.loop-change.fates.items in
+    let none = nil_from_length c.loop-change.change-iterator.rest.items (search rules) in
+    let start : c.into_iter-change-iterator.result.rest.items ≡ c.args.changes.items = search rules in
+    λ rows. sym (left_without_changes (line_of shape.null) (read_row shape) fields_of 0 rows kept)
+    ∙ ap (λ cs. rows_left shape rows kept (map change_is cs)) (sym none) ∙ c.loop-change.invariant.fates rows
+    ∙ ap (λ cs. rows_left shape rows c.in_ok-fates.fates.items (map change_is cs)) start
+    ∙ ap (λ fs. rows_left shape rows fs (map change_is c.args.changes.items)) c.in_ok-fates.ensures

@@ -8,14 +8,14 @@ use Rattle.csv_tables.specs.CsvRecords.{Record}
 use Rattle.csv_tables.specs.Shapes.{read_row, hides_value}
 use Rattle.staged_changes.specs.Staged.{change_is}
 use Rattle.csv_tables.specs.Tables.{shape_is}
-use Rattle.csv_tables.specs.Rewriting.{has_width, is_wide, woven}
+use Rattle.csv_tables.specs.Rewriting.{has_width, is_wide, rows_left}
 use Rattle.csv_tables.proofs.written.sort_changes.Given as goal
 
 abbrev pub invariant-loop-change : goal.invariant-loop-change
 invariant-loop-change l = record {
   fit : list_all (row_of_change_fits l.layout.kinds.items) (map change_is l.change-iterator.rest.items) ≡ true;
-  fates : (rows : List Record) → woven (shape_is l.layout) 0 rows l.fates.items (map change_is l.change-iterator.rest.items)
-      ≡ woven (shape_is l.layout) 0 rows l.initial.fates.items (map change_is l.initial.change-iterator.rest.items);
+  fates : (rows : List Record) → rows_left (shape_is l.layout) rows l.fates.items (map change_is l.change-iterator.rest.items)
+      ≡ rows_left (shape_is l.layout) rows l.initial.fates.items (map change_is l.initial.change-iterator.rest.items);
   fresh : map (read_row (shape_is l.layout)) (map fields_of l.fresh.items) ++ flat_map (inserted (line_of (string_bytes l.layout.null))) (map change_is l.change-iterator.rest.items)
       ≡ flat_map (inserted (line_of (string_bytes l.layout.null))) (map change_is l.initial.change-iterator.rest.items);
   wide : list_all (is_wide (length l.layout.kinds.items)) l.fates.items ≡ true;

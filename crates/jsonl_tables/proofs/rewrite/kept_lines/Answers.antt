@@ -1,9 +1,10 @@
 use Rattle.std.proofs.Common.{◌≡◌, ◌<◌, ◌∙◌, ◌∷◌, ◌++◌, [], ap, subst, length, string_bytes, arith, rules, drop}
+use Rattle.std.proofs.lemmas.List.{nil_from_length}
 use Rattle.jsonl_tables.specs.Lines.{line_at, lines_at, IsImage}
-use Rattle.jsonl_tables.specs.Tables.{readers_in, lines_in}
-use Rattle.jsonl_tables.specs.Changes.{woven}
-use Rattle.jsonl_tables.proofs.RewriteLaws.{keeps_on, changes_on, drops_on, ends_on}
-use Rattle.staged_changes.proofs.Weaves.{no_fates}
+use Rattle.jsonl_tables.specs.Tables.{lines_in}
+use Rattle.jsonl_tables.specs.Changes.{left_by}
+use Rattle.jsonl_tables.proofs.RewriteLaws.{keeps_on, changes_on, drops_on}
+use Rattle.staged_changes.proofs.Weaves.{fates_end}
 use Rattle.jsonl_tables.proofs.rewrite.kept_lines.Goals.{in-Keep+in_ok-push-in-Keep, in-Change+in_ok-push-in-Change, in-Gone}
 use Rattle.jsonl_tables.proofs.rewrite.kept_lines.Goals as goal
 
@@ -19,24 +20,25 @@ loop-fate-preserved-then-at-len c =
           rw w.image-is (
             i.0 ++ line_at t.content.items w.index.result.now ∷ [],
             subst (λ l. IsImage w.push.new.self.content.items w.push.new.self.lines.items (i.0 ++ l ∷ [])) line (w.in_ok-push-in-Keep.ensures i.0 i.1),
-            keeps_on (readers_in t) t.content.items t.lines.items i.0 at w.index.result.now c.loop-fate.fate-iterator.rest.items c.next.new.self.rest.items _ lt w.index.ensures i.2 (search rules),
+            keeps_on t.content.items t.lines.items i.0 at w.index.result.now c.loop-fate.fate-iterator.rest.items c.next.new.self.rest.items _ lt w.index.ensures i.2 (search rules),
           ))
       | in-Change+in_ok-push-in-Change w ↦
           rw w.image-is (
             i.0 ++ string_bytes w.in-Change.line ∷ [],
             subst (λ l. IsImage w.push-in-Change.new.self.content.items w.push-in-Change.new.self.lines.items (i.0 ++ l ∷ [])) w.as_bytes.ensures.value (w.in_ok-push-in-Change.ensures i.0 i.1),
-            changes_on (readers_in t) t.content.items t.lines.items i.0 at w.in-Change.line c.loop-fate.fate-iterator.rest.items c.next.new.self.rest.items _ lt i.2 (search rules),
+            changes_on t.content.items t.lines.items i.0 at w.in-Change.line c.loop-fate.fate-iterator.rest.items c.next.new.self.rest.items _ lt i.2 (search rules),
           )
       | in-Gone w ↦
-          rw w.image-is (i.0, i.1, drops_on (readers_in t) t.content.items t.lines.items i.0 at c.loop-fate.fate-iterator.rest.items c.next.new.self.rest.items _ lt i.2 (search rules))
+          rw w.image-is (i.0, i.1, drops_on t.content.items t.lines.items i.0 at c.loop-fate.fate-iterator.rest.items c.next.new.self.rest.items _ lt i.2 (search rules))
     ]
 
 pub returns : goal.returns
 returns c =
     let t = c.args.table.now in
-    let i = c.loop-fate.invariant in (
-      i.0,
-      i.1,
-      ends_on (readers_in t) c.loop-fate.at (lines_at t.content.items (drop c.loop-fate.at t.lines.items)) c.loop-fate.fate-iterator.rest.items i.0 _ i.2 (no_fates c.loop-fate.fate-iterator.rest.items (search rules))
-          ∙ ap (λ l. woven (readers_in t) 0 (lines_in t) l []) (search rules),
-    )
+    let i = c.loop-fate.invariant in
+    let olds = lines_at t.content.items (drop c.loop-fate.at t.lines.items) in
+    let none = nil_from_length c.loop-fate.fate-iterator.rest.items (search rules) in
+    let start : c.into_iter-fate-iterator.result.rest.items ≡ c.args.fates.items = search rules in
+    let all : i.0 ≡ left_by c.args.fates.items (lines_in t) =
+    fates_end string_bytes i.0 olds _ c.loop-fate.fate-iterator.rest.items i.2 none ∙ ap (λ fs. left_by fs (lines_in t)) start in
+    subst (λ lines. IsImage c.loop-fate.image.content.items c.loop-fate.image.lines.items lines) all i.1

@@ -1,4 +1,4 @@
-use Rattle.std.proofs.Common.{◌≡◌, ◌≤◌, ◌∙◌, [], false, map, flat_map, replicate, length, string_bytes, arith, rules}
+use Rattle.std.proofs.Common.{◌≡◌, ◌≤◌, ◌∙◌, false, map, flat_map, replicate, length, string_bytes, arith, rules}
 use Rattle.std.specs.List.{list_any}
 use Rattle.fdw_api.specs.Writes.{inserted}
 use Rattle.staged_changes.specs.declared.fates.Fate.TheVariants.{Keep}
@@ -6,7 +6,7 @@ use Rattle.jsonl_tables.specs.Lines.{lines_at}
 use Rattle.jsonl_tables.specs.Contents.{rows_at, json_line, updates_wider}
 use Rattle.jsonl_tables.specs.Tables.{readers_in, rows_in, lines_in}
 use Rattle.staged_changes.specs.Staged.{change_is}
-use Rattle.jsonl_tables.specs.Changes.{woven}
+use Rattle.jsonl_tables.specs.Changes.{left_by, rows_left}
 use Rattle.jsonl_tables.proofs.RewriteLaws.{image_text, image_rows, image_size, no_write_cause, large_cause, many_rows, many_bytes, few_enough}
 use Rattle.jsonl_tables.proofs.rewrite.rewritten.Goals.{then-len-gt1000000-via-then-len-gt1000000, then-len-gt1000000-via-else-len-gt1000000+then-len-gt67108864}
 use Rattle.jsonl_tables.proofs.rewrite.rewritten.Goals as goal
@@ -14,7 +14,7 @@ use Rattle.jsonl_tables.proofs.rewrite.rewritten.Goals as goal
 pub returns-clause-text : goal.returns-clause-text
 returns-clause-text c =
     let k = c.in_ok-kept_lines.ensures in
-    image_text c.in_ok-image.image.content.items c.in_ok-image.image.lines.items _ (c.in_ok-image.ensures k.0 k.1)
+    image_text c.in_ok-image.image.content.items c.in_ok-image.image.lines.items _ (c.in_ok-image.ensures _ k)
 
 pub returns-clause-rows : goal.returns-clause-rows
 returns-clause-rows c =
@@ -22,10 +22,11 @@ returns-clause-rows c =
     let readers = readers_in t in
     let changes = map change_is c.args.changes.items in
     let k = c.in_ok-kept_lines.ensures in
-    let same : woven readers 0 (lines_in t) c.in_ok-fates-2.field-0.fates.items [] ≡ woven readers 0 (lines_in t) c.in_ok-fates.fates.items changes = search rules in
+    let left = left_by c.in_ok-fates-2.field-0.fates.items (lines_in t) in
+    let same : rows_at readers left ≡ rows_left readers (lines_in t) c.in_ok-fates.fates.items changes = search rules in
     let all : c.in_ok-fates.fates.items ≡ replicate (length t.lines.items) Keep = search rules in
     let new : rows_at readers (map string_bytes c.in_ok-fates-2.field-0.fresh.items) ≡ flat_map (inserted (json_line readers)) changes = search rules in
-    image_rows readers t.content.items t.lines.items c.in_ok-image.image.content.items c.in_ok-image.image.lines.items k.0 c.in_ok-fates-2.field-0.fresh.items c.in_ok-fates.fates.items c.in_ok-fates-2.field-0.fates.items changes (c.in_ok-image.ensures k.0 k.1) k.2 same all new
+    image_rows readers t.content.items t.lines.items c.in_ok-image.image.content.items c.in_ok-image.image.lines.items left c.in_ok-fates-2.field-0.fresh.items c.in_ok-fates.fates.items changes (c.in_ok-image.ensures left k) same all new
 
 pub returns-clause-no_cause : goal.returns-clause-no_cause
 returns-clause-no_cause c =
@@ -46,12 +47,13 @@ returns-then-len-gt1000000-clause-err c =
     let changes = map change_is c.args.changes.items in
     let made = c.in_ok-image.image in
     let k = c.in_ok-kept_lines.ensures in
-    let same : woven readers 0 (lines_in t) c.in_ok-fates-2.field-0.fates.items [] ≡ woven readers 0 (lines_in t) c.in_ok-fates.fates.items changes = search rules in
+    let left = left_by c.in_ok-fates-2.field-0.fates.items (lines_in t) in
+    let same : rows_at readers left ≡ rows_left readers (lines_in t) c.in_ok-fates.fates.items changes = search rules in
     let all : c.in_ok-fates.fates.items ≡ replicate (length t.lines.items) Keep = search rules in
     let new : rows_at readers (map string_bytes c.in_ok-fates-2.field-0.fresh.items) ≡ flat_map (inserted (json_line readers)) changes = search rules in
     let narrow : list_any (updates_wider readers (rows_in t)) changes ≡ false = search rules in
-    let rows = image_rows readers t.content.items t.lines.items made.content.items made.lines.items k.0 c.in_ok-fates-2.field-0.fresh.items c.in_ok-fates.fates.items c.in_ok-fates-2.field-0.fates.items changes (c.in_ok-image.ensures k.0 k.1) k.2 same all new in
-    let size = image_size readers made.content.items made.lines.items (image_text made.content.items made.lines.items _ (c.in_ok-image.ensures k.0 k.1)) in
+    let rows = image_rows readers t.content.items t.lines.items made.content.items made.lines.items left c.in_ok-fates-2.field-0.fresh.items c.in_ok-fates.fates.items changes (c.in_ok-image.ensures left k) same all new in
+    let size = image_size readers made.content.items made.lines.items (image_text made.content.items made.lines.items _ (c.in_ok-image.ensures _ k)) in
     large_cause readers (rows_in t) changes (rows_at readers (lines_at made.content.items made.lines.items)) rows narrow
     (size ∙ elim c.then-len-gt1000000.branch [
       | then-len-gt1000000-via-then-len-gt1000000 w ↦ many_rows (length made.lines.items) (length made.content.items) (omega arith)
