@@ -1,62 +1,146 @@
-"""Where a must-fail edit stands, what `check` needs to try several edits of a crate in one check, and which refusals show little."""
-import os, re
+"""Where a must-fail edit stands, which edits of a crate one check can try, and what that check tells of each."""
+import argparse, os, re
 
 # Why a refusal shows little, in the kit's words; and what it tells of a proof file then (a name of a goal that is gone, or what cites that proof).
 LITTLE = "only because a proof file names what the edit took away"
 NAMES = re.compile(r"has no field|is not in scope|has no `|was not admitted")
+HEAD = re.compile(r"^( *)(?:pub(?:\(\w+\))? )?(?:const )?fn (\w+)", re.M)
+ANY_HEAD = re.compile(r"\bfn \w")
 
 def text_of(file):
     with open(file, encoding="utf-8") as it:
         return it.read()
 
-def function_at(crate, path, old):
-    """The function in whose body alone this text stands: who it is, or the cycle of calls that it is in, how a check's line of it begins, and the
-    folder of its proof."""
-    text = text_of(f"{crate.folder}/{path}") if path.startswith("src/") and os.path.isfile(f"{crate.folder}/{path}") else ""
+def pairs_of(edit):
+    """The files that an edit changes, each with an old and a new text."""
+    path, old, pairs = "", "", []
+    for line in text_of(edit).split("\n"):
+        word, _, rest = line.partition(":")
+        path, old = (rest.strip(), old) if word == "file" else (path, rest.removeprefix(" ")) if word == "old" else (path, old)
+        if word == "new":
+            pairs.append((path, old, rest.removeprefix(" ")))
+    return pairs
+
+def changed_part(text, old, new):
+    """From where to where the text is another after the edit: what the old and the new text have in common at their ends stays."""
+    before = len(os.path.commonprefix([old, new]))
+    after = len(os.path.commonprefix([old[before:][::-1], new[before:][::-1]]))
     at = text.find(old)
-    heads = [*re.finditer(r"^( *)(?:pub(?:\(\w+\))? )?fn (\w+)", text[: max(at, 0)], re.M)]
-    if text.count(old) != 1 or not heads:
+    return at + before, at + len(old) - after
+
+def type_around(text, head):
+    """How a check names the type that a method is of, with the trait that it implements: none of a function, and None where that cannot be told."""
+    if not head[1]:
+        return ""
+    around = [*re.finditer(r"^(?:unsafe )?(?:impl|(?:pub(?:\(\w+\))? )?trait)\b[^{]*\{", text[: head.start()], re.M)]
+    if not around or re.search(r"^\}", text[around[-1].end() : head.start()], re.M):
         return None
-    head = heads[-1]
-    body = re.compile(rf"^{head[1]}(?:\S[^\n]*)?\{{\n(.*?)^{head[1]}\}}\n", re.M | re.S).search(text, head.start())
-    if not body or not body.start(1) <= at <= at + len(old) <= body.end(1):
+    words = re.sub(r"\s+", " ", around[-1][0].partition(" where")[0].rstrip("{ \n"))
+    of = re.search(r"(?<=<)[^<>]*(?:<[^<>]*>)?[^<>]*(?=> for )", words)
+    while (bare := re.sub(r"<[^<>]*>", "", words)) != words:
+        words = bare
+    named = re.fullmatch(r"(?:.*\btrait (\w+)(?::.*)?|impl (?:(?:\w+::)*(\w+) for )?&?(?:mut )?(?:\w+::)*(\w+))", words)
+    # (of `From<AllocError>` the name is `FromAllocError`, and of `impl<T> Source for T` it is `AnySource`)
+    given = re.sub(r"<.*>|\w+::|\W", "", of[0]) if of else ""
+    is_any = named and named[2] and re.match(rf"(?:unsafe )?impl<[^>]*\b{named[3]}\b", around[-1][0])
+    return named and (named[1] or ("Any" if is_any else named[3]) + (named[2] or "") + given)
+
+def function_of(crate, path, text, head):
+    """What a check tells of the function that begins here, or None where that cannot be said: its name, and whether it is in a cycle of calls; the name
+    that `--only` takes; how a check's line of it begins (a method's under the module of its type, which may be another than this file's); the folder of
+    its proof; its file, its lines there, and its body's place in the text."""
+    kind = type_around(text, head)
+    body = re.compile(rf"^{head[1]}(?:\S[^\n]*)?\{{(\n.*?^{head[1]})\}}\n", re.M | re.S).search(text, head.start())
+    if kind is None or not body:
         return None
-    module = "" if path == "src/lib.rt" else path[4:-3].replace("/", "::") + "::"
+    module = "" if path == "src/lib.rt" else path[4:-3].removesuffix("/mod").replace("/", "::") + "::"
     cycle = re.search(r"cycle\((\w+)\)", text[text.rfind("\n\n", 0, head.start()) : head.start()])
-    folder = rf"(?:\./)?proofs/{module.replace('::', '/')}(?:[^/\n]+/)?{head[2]}/"
-    return cycle[1] if cycle else module + head[2], rf"^fn {crate.name}::{module}(?:\w+::)?{head[2]}: (.*)$", folder
+    under = rf"(?:\w+/)*{kind}/" if kind else module.replace("::", "/")
+    proofs = rf"(?:{under}{head[2]}{rf'|(?:[^/]+/)*[+]{cycle[1]}' if cycle else ''})/"
+    above = re.search(r"(?:^(?! *//)[^\n]*[^{};\n]\n)*\Z", text[: head.start()], re.M).start()
+    return argparse.Namespace(
+        who=f"{path} {len(HEAD.findall(text, 0, head.start()))}", name=head[2], in_cycle=bool(cycle), only=f"{kind}::{head[2]}" if kind else f"{module}{head[2]}",
+        begins=rf"^fn {crate.name}::{under.replace('/', '::')}{head[2]}: (.*)$", folder=rf"(?:\./)?proofs/{proofs}",
+        path=path, lines=range(text.count("\n", 0, above) + 1, text.count("\n", 0, body.end()) + 1), body=body.span(1))
+
+def function_at(crate, path, text, old, new):
+    """The function in whose body alone an edit changes this text, or None."""
+    start, end = changed_part(text, old, new)
+    heads = [*HEAD.finditer(text, 0, max(start, 0))] if text.count(old) == 1 and len(ANY_HEAD.findall(old)) == len(ANY_HEAD.findall(new)) else []
+    at = heads and function_of(crate, path, text, heads[-1])
+    return at if at and at.body[0] <= start <= end <= at.body[1] else None
+
+def named(crate, edit):
+    """The function that the edit's name names, with its type before it or not, where one function alone has that name in the files that it changes."""
+    name, found = os.path.basename(edit).partition("__")[0], []
+    for path in sorted({path for path, _, _ in pairs_of(edit) if path.startswith("src/") and os.path.isfile(f"{crate.folder}/{path}")}):
+        text = text_of(f"{crate.folder}/{path}")
+        found += [function_of(crate, path, text, it) for it in HEAD.finditer(text) if name in (it[2], f"{type_around(text, it)}_{it[2]}".lower())]
+    return found[0] if len(found) == 1 else None
 
 def place(crate, edit):
-    """Of an edit that changes one text, in the body of one function: what `function_at` tells of it, the file, the old and the new text. Else none."""
-    found = re.fullmatch(r"(?:.*\n)*?file: *(\S+)\nold: (.*)\nnew:(?: (.*))?\n*", text_of(edit))
-    at = found and function_at(crate, found[1], found[2])
-    return at and (*at, found[1], found[2], found[3] or "")
+    """Of an edit that changes the body of one function, and at most the proof of that function beside it: what `function_at` tells of it. Else None."""
+    texts, found, beside = {}, [], []
+    for path, old, new in pairs_of(edit):
+        if not os.path.isfile(f"{crate.folder}/{path}"):
+            return None
+        text = texts.get(path) or text_of(f"{crate.folder}/{path}")
+        if path.startswith("src/"):
+            found.append(function_at(crate, path, text, old, new))
+        else:
+            beside.append(path)
+        texts[path] = text.replace(old, new)
+    if not found or not all(it and (it.who, it.only) == (found[0].who, found[0].only) for it in found):
+        return None
+    return found[0] if all(re.match(found[0].folder, it) for it in beside) else None
 
-def group_of(crate, edits):
-    """The edits, one of a function or a cycle, that can be tried together, each with how a check's line of its function begins and the folder of its
-    proof; and the texts of the files with all of them, by their path in the crate."""
-    group, taken, texts = {}, set(), {}
-    for edit, at in ((it, place(crate, it)) for it in edits):
-        who, begins, folder, path, old, new = at or (None,) * 6
-        now = texts.get(path) or text_of(f"{crate.folder}/{path}") if at else ""
-        if at and who not in taken and now.count(old) == 1:
-            group[edit], texts[path] = (begins, folder), now.replace(old, new)
-            taken.add(who)
-    return group, texts
+def applied(crate, edits):
+    """The texts of the files with all of these edits, by their path in the crate; None where one cannot be applied beside the others."""
+    texts = {}
+    for path, old, new in [it for edit in edits for it in pairs_of(edit)]:
+        now = texts.get(path) or text_of(f"{crate.folder}/{path}")
+        if now.count(old) != 1:
+            return None
+        texts[path] = now.replace(old, new)
+    return texts
 
-def shows_little(begins, folder, told):
-    """Whether a check of several edits tells of this function no open goal, and of its proof only names that are gone."""
-    errors = re.findall(rf"^(?:note: )?{folder}\S*?:\d+:\d+: error: (.*)$", told, re.M)
-    before = told[: re.search(begins, told, re.M).start()].rpartition("\nfn ")[2]
-    return bool(errors) and all(map(NAMES.search, errors)) and not re.search(r"^note: src/\S+:\d+:\d+: ", before, re.M)
+def rounds_of(crate, edits):
+    """The edits in groups that one check each can try, no two of one function in a group, each with its place; and those that change no body of one
+    function."""
+    rounds, others = [], []
+    for edit in edits:
+        at = place(crate, edit)
+        if not at or applied(crate, [edit]) is None:
+            others.append(edit)
+            continue
+        fits = lambda group: at.who not in {it.who for it in group.values()} and applied(crate, [*group, edit]) is not None
+        group = next(filter(fits, rounds), None)
+        if group is None:
+            rounds.append(group := {})
+        group[edit] = at
+    return rounds, others
+
+def goals_at(at, told):
+    """The goals that a check leaves open at a function's lines."""
+    notes = re.finditer(rf"^note: {re.escape(at.path)}:(\d+):\d+: (it is not proved .*)$", told, re.M)
+    return [it[2] for it in notes if int(it[1]) in at.lines]
 
 def refused_alone(group, told):
-    """Of a group, the edits whose function the prover refused for itself, and not for one that it calls, with what was told, and whether that shows
-    little; and those whose function it still proved."""
-    said = {it: re.findall(begins, told, re.M) for it, (begins, _) in group.items()}
-    refused = {it: lines[0] for it, lines in said.items() if len(lines) == 1 and re.match(r"no(t proved| proof)(?!.*it calls `)", lines[0])}
-    refused = {it: f"{line[:160]} ({LITTLE})" if line == "not proved" and shows_little(*group[it], told) else line[:160] for it, line in refused.items()}
-    return refused, [it for it, lines in said.items() if "proved" in lines]
+    """Of a group, the edits whose function the prover refused for itself: it tells of an open goal at the function's lines, or of an error in its
+    proof. That a function which it calls is refused too changes neither, since a function is proved from the contracts of what it calls. With what was
+    told, and whether that shows little: no open goal, and of its proof only names that are gone."""
+    refused = {}
+    for edit, at in group.items():
+        lines, goals, errors = re.findall(at.begins, told, re.M), goals_at(at, told), []
+        if len(lines) == 1:
+            # (else the name is that of several functions; the functions of a cycle have one proof, in which a goal's name begins with its function's)
+            goals += [line for line in lines if "`search` did not prove" in line and not at.in_cycle]
+            errors = re.findall(rf"^(?:note: )?{at.folder}\S*?:\d+:\d+: error: ({f'`{at.name}-' if at.in_cycle else ''}.*)$", told, re.M)
+        little = not goals and all(map(NAMES.search, errors))
+        # (a name that is gone may be that of a proof which it cites of what it calls)
+        if "proved" not in lines and (goals or errors and not (little and re.search("it (calls|passes) ", lines[0]))):
+            refused[edit] = f"{(goals or errors)[0][:160]}{f' ({LITTLE})' if little else ''}"
+    return refused
 
 def little_of(refusals):
     """The line that counts apart which of these refusals show little, and names them."""

@@ -1,3 +1,2 @@
 pub mod Setup
 pub mod Tables
-pub mod Words

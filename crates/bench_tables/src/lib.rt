@@ -1,7 +1,6 @@
-//! The tables that statements are measured over, an engine over them, and the words that ask for a measurement.
+//! The tables that statements are measured over, and an engine over them.
 #![tactic(auto)]
 
 pub mod law;
 pub mod setup;
 pub mod tables;
-pub mod words;

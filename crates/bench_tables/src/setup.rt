@@ -26,7 +26,7 @@ const ITEMS: &str =
 const OTHERS: &str =
     "CREATE FOREIGN TABLE others (no integer, item integer, n integer) SERVER bench OPTIONS (table 'others')";
 
-/// Why nothing was measured.
+/// Why there is no such engine.
 #[derive(Clone, Copy, Debug, PartialEq, Eq, Error)]
 pub enum BenchFault {
     /// Memory was refused.
@@ -35,12 +35,6 @@ pub enum BenchFault {
     /// The foreign tables could not be made.
     #[error("tables not made")]
     NotMade,
-    /// The clock could not be read.
-    #[error("clock fault")]
-    Clock,
-    /// The reply could not be written.
-    #[error("write fault")]
-    Write,
 }
 
 impl From<NoMemory> for BenchFault {

@@ -6,7 +6,7 @@ use Rattle.med_value.specs.declared.cause.Cause.TheVariants.{OutOfMemory}
 use Rattle.med_syntax.specs.Tree.{Name}
 use Rattle.med_syntax.specs.QueryTree.{EntryTree, SelectTree, select}
 use Rattle.med_query.specs.Form.{form_of}
-use Rattle.med_query.specs.Select.{is_safe_from}
+use Rattle.med_query.specs.Select.{are_safe_cores}
 use Rattle.med_query.specs.declared.select.Select.{Select}
 use Rattle.bind_names.specs.Scope.{TableShape, entries_of, entry_place}
 use Rattle.bind_names.specs.Naming.{entry_causes, alias_causes, from_causes, asked_causes, once_known, select_name_causes, NameCauses}
@@ -88,7 +88,7 @@ empty_by [] h = refl
 empty_by (x ∷ xs) h = absurd (h x (0, omega arith, refl))
 
 pub bound_over : (o : Objects) (bound : List Attached) (user : Name) (q : SelectTree) (es : List EntryTree) (small : List TableShape) (b n : BoundQuery) → AreGathered o user q es small
-    → IsBound small (select q) b → is_safe_from b.select.from.items ≡ true → ((c : Cause) → BindCauses small (select q) c → ⊥) → AreEntriesAt o bound es n.entries.items → n.names ≡ b.names → n.select ≡ b.select → IsBoundOver o bound user q n
+    → IsBound small (select q) b → are_safe_cores b.select.cores.items ≡ true → ((c : Cause) → BindCauses small (select q) c → ⊥) → AreEntriesAt o bound es n.entries.items → n.names ≡ b.names → n.select ≡ b.select → IsBoundOver o bound user q n
 bound_over o bound user q es small b n g is safe clear entries names selects = record {
   meant = record {
     names = ap (λ v. map string_bytes v.items) names ∙ is.names ∙ names_same small (shapes o) q seen;
@@ -96,7 +96,7 @@ bound_over o bound user q es small b n g is safe clear entries names selects = r
     form = ap form_of selects ∙ is.form ∙ form_same small (shapes o) q seen;
   };
   there = subst (λ (ks : List ℕ). ArePlaces bound ks (map offered.entry_place n.entries.items)) (entries.places ∙ ap (map (entry_place (shapes o))) g.are) entries.there;
-  safe = ap (λ (s : Select). is_safe_from s.from.items) selects ∙ safe;
+  safe = ap (λ (s : Select). are_safe_cores s.cores.items) selects ∙ safe;
   names = empty_by (select_name_causes (shapes o) q) (λ c h. clear c (inl (subst (λ (xs : List Cause). Contains xs c) (sym (name_causes_same small (shapes o) q seen)) h)));
   rights = rights_none o user q es small g;
   types = empty_by (select_type_causes (shapes o) q) (λ c h. clear c (inr (subst (λ (xs : List Cause). Contains xs c) (sym (type_causes_same small (shapes o) q seen)) h)));

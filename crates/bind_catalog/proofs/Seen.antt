@@ -102,12 +102,14 @@ module _ (small full : List TableShape) where
       let items = map (λ (o : Output). o.value) outs in
       let keys = map (key_meant s outs) q.keys in
       record {
-        from = chains;
-        conditions = conditions_of s q.condition;
-        group = group_meant s q (keys ++ items);
-        items = items;
-        distinct = q.distinct;
-        keys = keys;
+        cores = record {
+          from = chains;
+          conditions = conditions_of s q.condition;
+          group = group_meant s q (keys ++ items);
+          items = items;
+          distinct = q.distinct;
+          keys = keys;
+        } ∷ [];
         directions = map key_direction q.keys;
         offset = unwrap_or q.offset 0;
         limit = rows_left q.limit;

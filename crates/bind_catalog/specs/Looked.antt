@@ -4,7 +4,7 @@ use Rattle.med_value.specs.declared.cause.Cause.{Cause}
 use Rattle.med_value.specs.declared.cause.Cause.TheVariants.{OutOfMemory}
 use Rattle.med_syntax.specs.Tree.{Name}
 use Rattle.med_syntax.specs.QueryTree.{EntryTree, SelectTree, StatementTree, select}
-use Rattle.med_query.specs.Select.{is_safe_from}
+use Rattle.med_query.specs.Select.{are_safe_cores}
 use Rattle.bind_names.specs.Scope.{TableShape, entry_place, entry_columns}
 use Rattle.bind_names.specs.Naming.{entry_causes, select_name_causes}
 use Rattle.bind_names.specs.Telling.{TellsCause}
@@ -49,7 +49,7 @@ PlacesEntries o bound es (Err c) = TellsCause (flat_map (entry_causes (shapes o)
 pub record IsBoundOver (o : Objects) (bound : List Attached) (user : Name) (q : SelectTree) (b : BoundQuery) : Type 0 where
   pub meant : IsMeant (meant_by o q) b
   pub there : ArePlaces bound (meant_by o q).entries (map offered.entry_place b.entries.items)
-  pub safe : is_safe_from b.select.from.items ≡ true
+  pub safe : are_safe_cores b.select.cores.items ≡ true
   pub names : select_name_causes (shapes o) q ≡ []
   pub rights : query_right_causes o user q ≡ []
   pub types : select_type_causes (shapes o) q ≡ []

@@ -4,7 +4,7 @@ ghost use Rattle.std.specs.Prelude.{◌≡◌, length, map, true, IfOk, OnOk, If
 ghost use Rattle.med_value.specs.declared.cause.Cause.{Cause as AnyCause};
 ghost use Rattle.med_syntax.specs.QueryTree.{select};
 ghost use Rattle.med_syntax.specs.QueryView.{select_tree, statement_tree};
-ghost use Rattle.med_query.specs.Select.{is_safe_from};
+ghost use Rattle.med_query.specs.Select.{are_safe_cores};
 ghost use Rattle.med_binder.specs.Binding.{IsMeant};
 ghost use Rattle.pushdown.specs.Offered.{entry_place};
 ghost use Rattle.med_catalog.specs.View.{objects};
@@ -81,7 +81,7 @@ pub fn bind(
     ensures places { IfOk result (λ b. ArePlaces (map attached bound.now)
         (meant_by (objects catalog.now) (query_in (statement_tree statement.now))).entries (map entry_place b.entries.items)) }
     // No ON of it may fault.
-    ensures safe { IfOk result (λ b. is_safe_from b.select.from.items ≡ true) }
+    ensures safe { IfOk result (λ b. are_safe_cores b.select.cores.items ≡ true) }
     // A refusal tells a cause that stands, one of names or rights before one of types, or that memory was refused.
     ensures refused { IfErr result (λ c. NotBound (objects catalog.now) user.now (query_in (statement_tree statement.now)) c) }
     // Where no cause stands, only memory can be refused.

@@ -1,11 +1,14 @@
 -- Where no cause stands, no ON may fault.
-use Rattle.std.proofs.Common.{◌≡◌, Bool, true, false, not, ◌&&◌, ◌||◌, List, [], ◌∷◌, ◌++◌, Result, Ok, Err, OnOk, flat_map, refl, sym, ◌∙◌}
+use Rattle.std.proofs.Common.{◌≡◌, Bool, true, false, not, ◌&&◌, ◌||◌, List, [], ◌∷◌, ◌++◌, Result, Ok, Err, OnOk, map, flat_map, refl, sym, ◌∙◌}
 use Rattle.std.specs.List.{list_any, list_all}
 use Rattle.med_value.specs.declared.cause.Cause.{Cause}
 use Rattle.tri_expr.specs.Tree.{Tree}
 use Rattle.tri_expr.specs.TreeParts.{is_risky_tree}
-use Rattle.med_query.specs.Form.{JoinForm, cross_form, inner_form, left_form, ChainForm, all_safe_trees, is_safe_join_form, are_safe_chains}
-use Rattle.bind_types.specs.Typing.{unless, no_aggregate, no_risk, join_causes, chain_causes}
+use Rattle.med_query.specs.Form.{JoinForm, cross_form, inner_form, left_form, ChainForm, all_safe_trees, is_safe_join_form, are_safe_chains, core_form}
+use Rattle.med_query.specs.Select.{are_safe_cores}
+use Rattle.med_query.specs.declared.select.SelectCore.{SelectCore}
+use Rattle.bind_names.specs.Telling.{Passes}
+use Rattle.bind_types.specs.Typing.{unless, no_aggregate, no_risk, join_causes, chain_causes, core_causes}
 
 pub on_ok : {X : Type 0} (r : Result X Cause) (P : Type 0) → P → OnOk r P
 on_ok (Ok x) P h = h
@@ -46,3 +49,14 @@ safe_joins (j ∷ js) h = both _ _ (safe_join j (left_empty (join_causes j) (fla
 pub safe_chains : (cs : List ChainForm) → flat_map chain_causes cs ≡ [] → are_safe_chains cs ≡ true
 safe_chains [] h = refl
 safe_chains (c ∷ cs) h = both _ _ (safe_joins c.joins (left_empty (chain_causes c) (flat_map chain_causes cs) h)) (safe_chains cs (right_empty (chain_causes c) (flat_map chain_causes cs) h))
+
+-- a query that passes has no cause
+safe_froms : (cs : List SelectCore) → flat_map core_causes (map core_form cs) ≡ [] → are_safe_cores cs ≡ true
+safe_froms [] h = refl
+safe_froms (c ∷ cs) h =
+    let here = left_empty (core_causes (core_form c)) (flat_map core_causes (map core_form cs)) h in
+    both _ _ (safe_chains (core_form c).from (left_empty (flat_map chain_causes (core_form c).from) _ here)) (safe_froms cs (right_empty (core_causes (core_form c)) (flat_map core_causes (map core_form cs)) h))
+
+pub safe_cores : {X : Type 0} (r : Result X Cause) (cs : List SelectCore) → Passes (flat_map core_causes (map core_form cs)) r → OnOk r (are_safe_cores cs ≡ true)
+safe_cores (Ok x) cs p = safe_froms cs p
+safe_cores (Err c) cs p = tt

@@ -14,7 +14,7 @@ use Rattle.tri_expr.specs.declared.expr.SetFunction.{SetFunction}
 use Rattle.tri_expr.specs.declared.expr.SetFunction.TheVariants.{Count, Sum, Min, Max}
 use Rattle.tri_expr.specs.Tree.{Tree}
 use Rattle.tri_expr.specs.TreeParts.{is_risky_tree}
-use Rattle.med_query.specs.Form.{JoinForm, cross_form, inner_form, left_form, ChainForm, GroupForm, Form}
+use Rattle.med_query.specs.Form.{JoinForm, cross_form, inner_form, left_form, ChainForm, GroupForm, CoreForm, Form}
 use Rattle.bind_names.specs.Scope.{TableShape, Scope, candidates, kind_among, entry_shape, from_scope}
 use Rattle.bind_names.specs.Aggregates.{has_aggregate, is_ungrouped}
 use Rattle.bind_names.specs.Meaning.{Output, outputs_of, SortKey, position, output_name, expression, sort_key, function_named, with_join, meant_in}
@@ -217,8 +217,11 @@ abbrev pub grouping_causes : Option GroupForm → List Tree → List Cause
 grouping_causes None shown = []
 grouping_causes (Some g) shown = unless (not (list_any (is_ungrouped g.keys) (g.having ++ shown))) Grouping
 
+abbrev pub core_causes : CoreForm → List Cause
+core_causes f = flat_map chain_causes f.from ++ (no_aggregate f.conditions ++ grouping_causes f.group (f.keys ++ f.items))
+
 abbrev pub form_causes : Form → List Cause
-form_causes f = flat_map chain_causes f.from ++ (no_aggregate f.conditions ++ grouping_causes f.group (f.keys ++ f.items))
+form_causes f = flat_map core_causes f.cores
 
 -- of the types of what is written
 abbrev pub written_type_causes : List TableShape → SelectTree → List Cause

@@ -4,15 +4,15 @@
 ghost use Rattle.bind_names.specs.Aggregates as spec;
 ghost use Rattle.bind_names.specs.Telling.{Passes};
 ghost use Rattle.bind_types.specs.Typing as causes;
-ghost use Rattle.med_query.specs.Form.{join_form, chain_form, group_form, form_of};
-ghost use Rattle.med_query.specs.Select.{is_safe_from};
+ghost use Rattle.med_query.specs.Form.{join_form, chain_form, group_form, core_form, form_of};
+ghost use Rattle.med_query.specs.Select.{are_safe_cores};
 ghost use Rattle.std.specs.List.{list_any};
 ghost use Rattle.std.specs.Prelude.{◌≡◌, ◌++◌, map, flat_map, option_map, true, IfOk, OnOk};
 ghost use Rattle.tri_expr.specs.Tree.{tree, trees};
 ghost use Rattle.tri_expr.specs.TreeParts.{is_risky_tree};
 
 use bind_names::has_aggregate;
-use med_query::{Grouping, Join, JoinChain, Select};
+use med_query::{Grouping, Join, JoinChain, Select, SelectCore};
 use med_value::Cause;
 use tri_expr::{Expr, is_risky};
 
@@ -200,16 +200,30 @@ fn check_grouping(grouping: &Option<Grouping>, keys: &[Expr], items: &[Expr]) ->
 }
 
 // Refuses an aggregate in WHERE, and what has no one meaning over groups.
-fn check_rest(select: &Select) -> Result<(), Cause>
-    ensures { Passes (causes.no_aggregate (form_of select.now).conditions
-        ++ causes.grouping_causes (form_of select.now).group ((form_of select.now).keys ++ (form_of select.now).items)) result }
+fn check_rest(core: &SelectCore) -> Result<(), Cause>
+    ensures { Passes (causes.no_aggregate (core_form core.now).conditions
+        ++ causes.grouping_causes (core_form core.now).group ((core_form core.now).keys ++ (core_form core.now).items)) result }
 {
-    check_no_aggregate(select.conditions.as_slice())?;
-    check_grouping(
-        &select.grouping,
-        select.keys.as_slice(),
-        select.items.as_slice(),
-    )
+    check_no_aggregate(core.conditions.as_slice())?;
+    check_grouping(&core.grouping, core.keys.as_slice(), core.items.as_slice())
+}
+
+// Refuses a core by where its aggregates and columns stand, and by an ON that may fault.
+fn check_core(core: &SelectCore) -> Result<(), Cause>
+    ensures { Passes (causes.core_causes (core_form core.now)) result }
+{
+    check_from(core.from.as_slice())?;
+    check_rest(core)
+}
+
+// The same of each core.
+fn check_cores(cores: &[SelectCore]) -> Result<(), Cause>
+    ensures { Passes (flat_map causes.core_causes (map core_form cores.now)) result }
+{
+    for core in cores {
+        check_core(core)?;
+    }
+    Ok(())
 }
 
 /// Refuses a query by where its aggregates and columns stand, and by an ON that may fault: 42803 for an aggregate in WHERE or ON, and in a
@@ -218,8 +232,7 @@ fn check_rest(select: &Select) -> Result<(), Cause>
 pub fn check_form(select: &Select) -> Result<(), Cause>
     ensures passes { Passes (causes.form_causes (form_of select.now)) result }
     // No ON of a query that passes may fault.
-    ensures safe { OnOk result (is_safe_from select.now.from.items ≡ true) }
+    ensures safe { OnOk result (are_safe_cores select.now.cores.items ≡ true) }
 {
-    check_from(select.from.as_slice())?;
-    check_rest(select)
+    check_cores(select.cores.as_slice())
 }

@@ -16,8 +16,8 @@ use Rattle.write_syntax.specs.WriteTree.{rows_of}
 use Rattle.write_syntax.specs.WriteView.{given_tree}
 use Rattle.write_syntax.specs.declared.write.Given.TheVariants as g
 use Rattle.tri_expr.specs.Tree.{Tree, tree}
-use Rattle.med_query.specs.Form.{Form}
-use Rattle.med_query.specs.Select.{is_safe_from}
+use Rattle.med_query.specs.Form.{Form, core_form}
+use Rattle.med_query.specs.Select.{are_safe_cores}
 use Rattle.med_write.specs.Form.{insert_form, answer_form}
 use Rattle.bind_names.specs.Naming.{from_causes, asked_causes, select_name_causes, once_known}
 use Rattle.bind_names.proofs.Causes.{none_of_two}
@@ -43,7 +43,7 @@ use Rattle.write_parts.specs.Asking.{IsTarget}
 use Rattle.write_parts.specs.Kinds.{tree_type}
 use Rattle.write_parts.specs.Meaning.{columns_in, places_meant}
 use Rattle.write_parts.specs.Naming.{target_causes, named_causes, names_of}
-use Rattle.write_parts.specs.Typing.{column_kinds, row_fit_causes, answer_types, types_of}
+use Rattle.write_parts.specs.Typing.{column_kinds, row_fit_causes, first_items, answer_types, types_of}
 use Rattle.write_parts.specs.declared.target.Target.{Target}
 use Rattle.bind_write.proofs.Updates.{list_told}
 use Rattle.bind_write.specs.Binding.{query_write}
@@ -68,7 +68,7 @@ names_clear : (f l a r : List Cause) → f ≡ [] → l ≡ [] → a ≡ [] → 
 names_clear f l a r e k h i = rw (e, k, h, i) refl
 
 pub query_fine : (o : Objects) (bound : List Attached) (user : Name) (columns : List Column) (names : Option (List Name)) (q : SelectTree) (b : BoundQuery)
-    → queries.IsBindable o user q → IsMeant (meant_by o q) b → ArePlaces bound (meant_by o q).entries (map entry_place b.entries.items) → is_safe_from b.select.from.items ≡ true
+    → queries.IsBindable o user q → IsMeant (meant_by o q) b → ArePlaces bound (meant_by o q).entries (map entry_place b.entries.items) → are_safe_cores b.select.cores.items ≡ true
     → named_causes columns names ≡ [] → IsAskedQuery o bound user columns names q b
 query_fine o bound user columns names q b is meant there safe listed =
     let parts = parts_clear o user q is.names in
@@ -156,14 +156,14 @@ abbrev pub seen_types : Objects → SelectTree → List Tree → List (Option Co
 seen_types o q items = map (tree_type (column_kinds (columns_of (from_scope (shapes o) q.from)))) items
 
 fits_answer : (o : Objects) (bound : List Attached) (user name : Name) (names : Option (List Name)) (q : SelectTree) (t : Target) (b : BoundQuery) (items : List Tree) → IsTarget o bound user name t
-    → IsAskedQuery o bound user (map column_of t.columns.now) names q b → items ≡ map tree b.select.items.items
+    → IsAskedQuery o bound user (map column_of t.columns.now) names q b → items ≡ first_items (map core_form b.select.cores.items)
     → row_fit_causes (map column_of t.columns.now) names (seen_types o q items) ≡ row_fit_causes (columns_in (shapes o) name) names (answer_types (shapes o) q)
 fits_answer o bound user name names q t b items is asked e =
     ap (λ cs. row_fit_causes cs names (seen_types o q items)) is.columns
-    ∙ ap (λ ts. row_fit_causes (columns_in (shapes o) name) names (seen_types o q ts)) (e ∙ ap (λ (f : Form). f.items) asked.meant.form)
+    ∙ ap (λ ts. row_fit_causes (columns_in (shapes o) name) names (seen_types o q ts)) (e ∙ ap (λ (f : Form). first_items f.cores) asked.meant.form)
 
 pub answer_told : (o : Objects) (bound : List Attached) (user name : Name) (names : Option (List Name)) (q : SelectTree) (t : Target) (b : BoundQuery) (items : List Tree) (c : Cause)
-    → IsTarget o bound user name t → IsAskedQuery o bound user (map column_of t.columns.now) names q b → items ≡ map tree b.select.items.items
+    → IsTarget o bound user name t → IsAskedQuery o bound user (map column_of t.columns.now) names q b → items ≡ first_items (map core_form b.select.cores.items)
     → TellsCause (row_fit_causes (map column_of t.columns.now) names (seen_types o q items)) c
     → TellsInTurn (names_of o user (query_write name names q)) (types_of o (query_write name names q)) c
 answer_told o bound user name names q t b items c is asked e h =
@@ -177,7 +177,7 @@ pub query_clear : (o : Objects) (bound : List Attached) (user name : Name) (name
 query_clear o bound user name names q t b is asked = sym (asked_same o bound user name names q t is) ∙ asked.names
 
 pub query_typed : (o : Objects) (bound : List Attached) (user name : Name) (names : Option (List Name)) (q : SelectTree) (t : Target) (b : BoundQuery) (items : List Tree) → IsTarget o bound user name t
-    → IsAskedQuery o bound user (map column_of t.columns.now) names q b → items ≡ map tree b.select.items.items
+    → IsAskedQuery o bound user (map column_of t.columns.now) names q b → items ≡ first_items (map core_form b.select.cores.items)
     → row_fit_causes (map column_of t.columns.now) names (seen_types o q items) ≡ [] → types_of o (query_write name names q) ≡ []
 query_typed o bound user name names q t b items is asked e none =
     none_of_two (select_type_causes (shapes o) q) (row_fit_causes (columns_in (shapes o) name) names (answer_types (shapes o) q)) asked.types

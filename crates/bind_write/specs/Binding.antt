@@ -6,7 +6,7 @@ use Rattle.med_syntax.specs.Tree.{Name}
 use Rattle.med_syntax.specs.ExprTree.{ExprTree}
 use Rattle.med_syntax.specs.QueryTree.{SelectTree}
 use Rattle.write_syntax.specs.WriteTree.{GivenTree, values, rows_of, WriteTree, insert, update, delete}
-use Rattle.med_query.specs.Select.{is_safe_from}
+use Rattle.med_query.specs.Select.{are_safe_cores}
 use Rattle.bind_names.specs.Scope.{place_named}
 use Rattle.med_binder.specs.Binding.{IsMeant}
 use Rattle.med_binder.specs.declared.bound.BoundQuery.{BoundQuery}
@@ -43,7 +43,7 @@ IsGiven o bound (values rows) (Some b) = ⊥
 IsGiven o bound (rows_of q) None = ⊥
 IsGiven o bound (rows_of q) (Some b) =
     IsMeant (meant_by o q) b × ArePlaces bound (meant_by o q).entries (map offered.entry_place b.entries.items)
-    × (is_safe_from b.select.from.items ≡ true)
+    × (are_safe_cores b.select.cores.items ≡ true)
 
 abbrev pub IsQueryOf : Objects → List Attached → WriteTree → Option BoundQuery → Type 0
 IsQueryOf o bound (insert i) q = IsGiven o bound i.given q

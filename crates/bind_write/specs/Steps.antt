@@ -11,7 +11,7 @@ use Rattle.write_syntax.specs.WriteTree.{SetTree, WriteTree}
 use Rattle.tri_expr.specs.declared.expr.Expr.{Expr}
 use Rattle.tri_expr.specs.Tree.{Tree}
 use Rattle.med_write.specs.Form.{trees_of}
-use Rattle.med_query.specs.Select.{is_safe_from}
+use Rattle.med_query.specs.Select.{are_safe_cores}
 use Rattle.bind_names.specs.Naming.{from_causes, asked_causes, once_known}
 use Rattle.bind_names.specs.Telling.{TellsCause}
 use Rattle.bind_types.specs.Typing.{select_type_causes}
@@ -83,7 +83,7 @@ pub record IsAskedQuery (o : Objects) (bound : List Attached) (user : Name) (col
     (q : SelectTree) (b : BoundQuery) : Type 0 where
   pub meant : IsMeant (meant_by o q) b
   pub there : ArePlaces bound (meant_by o q).entries (map entry_place b.entries.items)
-  pub safe : is_safe_from b.select.from.items ≡ true
+  pub safe : are_safe_cores b.select.cores.items ≡ true
   pub names : query_names o user columns list q ≡ []
   pub types : select_type_causes (shapes o) q ≡ []
 

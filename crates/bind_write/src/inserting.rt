@@ -13,7 +13,7 @@ ghost use Rattle.bind_write.specs.Binding.{values_write, query_write};
 ghost use Rattle.bind_write.specs.Steps.{BindsWrite};
 
 use crate::bound::TableWrite;
-use crate::querying::{ask_query, check_answer};
+use crate::querying::{ask_query, check_answer, first_items};
 use crate::values::{ask_rows, check_rows};
 use bind_catalog::BoundTable;
 use med_catalog::Catalog;
@@ -81,7 +81,7 @@ fn query_over(
         target.columns,
         names,
         query,
-        found.select.items.as_slice(),
+        first_items(found.select.cores.as_slice()),
     )?;
     Ok(TableWrite {
         place: target.place,

@@ -7,6 +7,7 @@ ghost use Rattle.med_value.specs.Column.{column_of};
 ghost use Rattle.med_syntax.specs.QueryTree.{select};
 ghost use Rattle.med_syntax.specs.QueryView.{entry_tree, select_tree, statement_tree};
 ghost use Rattle.tri_expr.specs.Tree.{tree};
+ghost use Rattle.med_query.specs.Form.{core_form};
 ghost use Rattle.write_syntax.specs.WriteView.{names_tree};
 ghost use Rattle.bind_names.specs.Scope.{columns_of, entry_columns, entry_shape, from_scope};
 ghost use Rattle.bind_names.specs.Seen.{seen_entry};
@@ -16,13 +17,14 @@ ghost use Rattle.bind_catalog.specs.Looked.{query_in};
 ghost use Rattle.bind_catalog.specs.Places.{attached};
 ghost use Rattle.bind_catalog.specs.Tables.{shapes, AreNamedOnce};
 ghost use Rattle.write_parts.specs.Kinds.{tree_type};
-ghost use Rattle.write_parts.specs.Typing.{column_kinds, row_fit_causes};
+ghost use Rattle.write_parts.specs.Typing.{column_kinds, first_items as spec_first_items, row_fit_causes};
 ghost use Rattle.bind_write.specs.Steps.{AsksQuery};
 
 use bind_catalog::{BoundTable, bind};
 use bind_names::entries_of;
 use med_binder::BoundQuery;
 use med_catalog::Catalog;
+use med_query::SelectCore;
 use med_syntax::{Entry, Select, Statement};
 use med_value::{Cause, ColType, ColumnDef, NoMemory};
 use std::alloc::Global;
@@ -118,6 +120,16 @@ fn kinds_in_view(
         push_entry(catalog, *entry, &mut out)?;
     }
     Ok(out)
+}
+
+/// The items of the first core, whose types are those of the query.
+pub(crate) fn first_items(cores: &[SelectCore]) -> &[Expr]
+    ensures { map tree result.now ≡ spec_first_items (map core_form cores.now) }
+{
+    match cores.first() {
+        Some(core) => core.items.as_slice(),
+        None => &[],
+    }
 }
 
 /// Whether the rows that a query answers can be inserted: 42601 for more values than columns and for not as many as named columns, 42804

@@ -1,13 +1,17 @@
 -- Going over the fields of a record.
-use Rattle.std.proofs.Common.{◌≡◌, ℕ, zero, suc, ◌+◌, ◌<◌, ◌≤◌, Bool, true, false, ◌&&◌, List, [], ◌∷◌, ◌++◌, length, drop, Some, None, slice_get, is_some, Result, Ok, Err, refl, ap, sym, ◌∙◌, arith}
+use Rattle.std.proofs.Common.{◌≡◌, ℕ, zero, suc, ◌+◌, ◌-◌, ◌<◌, ◌≤◌, Bool, true, false, ◌&&◌, List, [], ◌∷◌, ◌++◌, length, take, drop, Some, None, slice_get, is_some, Result, Ok, Err, refl, ap, sym, ◌∙◌, subst, arith}
 use Rattle.std.specs.List.{list_all}
 use Rattle.std.specs.Result.{MatchResult, is_err}
-use Rattle.std.specs.Str.{IsUtf8, is_utf8}
-use Rattle.std.proofs.lemmas.Str.{IsUtf8-from_is_utf8, is_utf8-from_IsUtf8}
-use Rattle.csv.specs.Records.{field_at}
+use Rattle.std.specs.Str.{IsAscii, IsUtf8, is_utf8}
+use Rattle.std.proofs.lemmas.Str.{IsUtf8-from_is_utf8, IsUtf8-from_ascii, IsAscii-take, IsAscii-drop, is_utf8-from_IsUtf8}
+use Rattle.csv.specs.Records.{Row, cut_from, field_at, fields_of, text_of}
 use Rattle.med_value.specs.declared.value.ColType.{ColType}
 use Rattle.csv_tables.specs.Cells.{cell_of, is_readable}
 use Rattle.csv_tables.specs.CsvRecords.{Record}
+
+pub both : (a b : Bool) → (a && b) ≡ true → (a ≡ true) × (b ≡ true)
+both true b e = (refl, e)
+both false b e = absurd cc
 
 pub field_next : (fs : Record) (i : ℕ) (f : List ℕ) → field_at fs i ≡ Some f → drop i fs ≡ f ∷ drop (i + 1) fs
 unfolding field_at
@@ -29,6 +33,26 @@ unfolding field_at
 field_less [] i f e = absurd cc
 field_less (x ∷ fs) zero f e = omega arith
 field_less (x ∷ fs) (suc i) f e = let l = field_less fs i f e in omega arith
+
+-- a field of a record whose fields are all UTF-8
+pub text_there : (fs : Record) (i : ℕ) (f : List ℕ) → list_all is_utf8 fs ≡ true → field_at fs i ≡ Some f → IsUtf8 f
+unfolding field_at
+text_there [] i f all e = absurd cc
+text_there (x ∷ fs) zero f all e =
+    let s : x ≡ f = cc in
+    subst IsUtf8 s (IsUtf8-from_is_utf8 x (both (is_utf8 x) (list_all is_utf8 fs) all).0)
+text_there (x ∷ fs) (suc i) f all e = text_there fs i f (both (is_utf8 x) (list_all is_utf8 fs) all).1 e
+
+-- the fields that are cut from ASCII
+ascii_cut : (start : ℕ) (ends bytes : List ℕ) → IsAscii bytes → list_all is_utf8 (cut_from start ends bytes) ≡ true
+unfolding cut_from
+ascii_cut start [] bytes a = refl
+ascii_cut start (end ∷ ends) bytes a =
+    let u = IsUtf8-from_ascii (take (end - start) (drop start bytes)) (IsAscii-take (drop start bytes) (end - start) (IsAscii-drop bytes start a)) in
+    rw (is_utf8-from_IsUtf8 (take (end - start) (drop start bytes)) u) (ascii_cut end ends bytes a)
+
+pub ascii_fields : (r : Row) → IsAscii (text_of r) → list_all is_utf8 (fields_of r) ≡ true
+ascii_fields r a = ascii_cut 0 r.ends r.bytes a
 
 -- past a field that is UTF-8, and at one that is not
 pub text_next : (fs : Record) (i : ℕ) (f : List ℕ) → field_at fs i ≡ Some f → IsUtf8 f → list_all is_utf8 (drop i fs) ≡ list_all is_utf8 (drop (i + 1) fs)

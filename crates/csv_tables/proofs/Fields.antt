@@ -1,24 +1,13 @@
 -- What a field means, by cases on what it is.
 use Rattle.std.proofs.Common.{◌≡◌, ℕ, ◌<◌, Bool, true, false, not, if◌then◌else◌, nat_eq, List, [], ◌∷◌, length, Option, Some, None, option_map, is_some, refl, ap, sym, ◌∙◌, arith}
 use Rattle.std.specs.List.{list_any}
-use Rattle.std.specs.Str.{IsUtf8, is_utf8, bytes_eq}
-use Rattle.std.proofs.lemmas.Str.{IsUtf8-from_is_utf8, is_utf8-from_IsUtf8}
+use Rattle.std.specs.Str.{IsUtf8, bytes_eq}
+use Rattle.std.proofs.lemmas.Str.{is_utf8-from_IsUtf8}
 use Rattle.std.proofs.lemmas.Bool.Decides.{nat_tests}
 use Rattle.med_value.specs.Datum.{NoValue, Whole, Chars, Logic}
 use Rattle.med_value.specs.declared.value.ColType.{ColType}
 use Rattle.med_value.specs.declared.value.ColType.TheVariants as types
 use Rattle.csv_tables.specs.Cells.{cell_of, value_of, integer_of, truth_of, without_spaces}
-
-not_utf8 : (f : List ℕ) → (IsUtf8 f → ⊥) → is_utf8 f ≡ false
-not_utf8 f bad = by (is_utf8 f) refl
-  where
-    by : (b : Bool) → is_utf8 f ≡ b → is_utf8 f ≡ false
-    by true e = absurd (bad (IsUtf8-from_is_utf8 f e))
-    by false e = e
-
--- a field that is no UTF-8 means nothing
-pub cell_bad : (null : List ℕ) (kind : ColType) (f : List ℕ) → (IsUtf8 f → ⊥) → cell_of null kind f ≡ None
-cell_bad null kind f bad = rw (not_utf8 f bad) refl
 
 -- the null text is NULL
 pub cell_null : (null : List ℕ) (kind : ColType) (f : List ℕ) → IsUtf8 f → bytes_eq f null ≡ true → cell_of null kind f ≡ Some NoValue

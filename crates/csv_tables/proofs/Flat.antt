@@ -1,10 +1,17 @@
 -- Records cut from one list of fields.
-use Rattle.std.proofs.Common.{◌≡◌, ℕ, zero, suc, ◌+◌, ◌*◌, ◌<◌, ◌≤◌, List, [], ◌∷◌, ◌++◌, length, take, drop, Some, None, slice_get, refl, ap, sym, ◌∙◌, arith}
-use Rattle.std.proofs.lemmas.List.{drop-drop}
+use Rattle.std.proofs.Common.{◌≡◌, ℕ, zero, suc, ◌+◌, ◌*◌, ◌<◌, ◌≤◌, Bool, true, false, ◌&&◌, nat_eq, List, [], ◌∷◌, ◌++◌, length, take, drop, Some, None, slice_get, refl, ap, sym, ◌∙◌, subst, arith}
+use Rattle.std.specs.List.{list_all}
+use Rattle.std.specs.Str.{IsUtf8, is_utf8}
+use Rattle.std.proofs.lemmas.List.{drop-drop, length-drop}
+use Rattle.std.proofs.lemmas.Str.{IsUtf8-from_is_utf8}
 use native.Mathlib.Nat.{mul-le-mul_right, suc-mul}
 use Rattle.csv.specs.Records.{field_at}
-use Rattle.csv_tables.specs.CsvRecords.{Record}
+use Rattle.csv_tables.specs.CsvRecords.{Record, is_whole}
 use Rattle.csv_tables.specs.Flat.{cut_into}
+
+both : (a b : Bool) → (a && b) ≡ true → (a ≡ true) × (b ≡ true)
+both true b e = (refl, e)
+both false b e = absurd cc
 
 pub slice_none : {X : Type 0} (k : ℕ) → slice_get {X = X} [] k ≡ None
 slice_none zero = refl
@@ -72,3 +79,45 @@ take_some fs c f e = let p : c + 1 ≡ suc c = omega arith in ap (λ (k : ℕ). 
 
 pub take_none : (fs : Record) (c : ℕ) → slice_get fs c ≡ None → take (c + 1) fs ≡ take c fs
 take_none fs c e = let p : c + 1 ≡ suc c = omega arith in ap (λ (k : ℕ). take k fs) p ∙ take_past fs c e
+
+-- fields that are UTF-8 stay so in each part of them
+pub texts_take : (n : ℕ) (fs : Record) → list_all is_utf8 fs ≡ true → list_all is_utf8 (take n fs) ≡ true
+texts_take zero fs e = refl
+texts_take (suc n) [] e = refl
+texts_take (suc n) (f ∷ fs) e = let b = both (is_utf8 f) (list_all is_utf8 fs) e in rw b.0 (texts_take n fs b.1)
+
+pub texts_drop : (n : ℕ) (fs : Record) → list_all is_utf8 fs ≡ true → list_all is_utf8 (drop n fs) ≡ true
+texts_drop zero fs e = e
+texts_drop (suc n) [] e = refl
+texts_drop (suc n) (f ∷ fs) e = texts_drop n fs (both (is_utf8 f) (list_all is_utf8 fs) e).1
+
+pub texts_append : (fs gs : Record) → list_all is_utf8 fs ≡ true → list_all is_utf8 gs ≡ true → list_all is_utf8 (fs ++ gs) ≡ true
+texts_append [] gs e h = h
+texts_append (f ∷ fs) gs e h = let b = both (is_utf8 f) (list_all is_utf8 fs) e in rw b.0 (texts_append fs gs b.1 h)
+
+pub text_of_slice : (fs : Record) (c : ℕ) (f : List ℕ) → list_all is_utf8 fs ≡ true → slice_get fs c ≡ Some f → IsUtf8 f
+text_of_slice [] c f all e = absurd (let n = slice_none {X = List ℕ} c in cc)
+text_of_slice (x ∷ fs) zero f all e =
+    let s : x ≡ f = cc in
+    subst IsUtf8 s (IsUtf8-from_is_utf8 x (both (is_utf8 x) (list_all is_utf8 fs) all).0)
+text_of_slice (x ∷ fs) (suc c) f all e = text_of_slice fs c f (both (is_utf8 x) (list_all is_utf8 fs) all).1 e
+
+-- the fields of records that are whole
+pub texts_cut : (n w : ℕ) (fs : Record) → n * w ≡ length fs → list_all (is_whole w) (cut_into n w fs) ≡ true → list_all is_utf8 fs ≡ true
+texts_cut zero w [] full e = refl
+texts_cut zero w (f ∷ fs) full e = absurd (let z : zero * w ≡ 0 = omega arith in omega arith)
+texts_cut (suc n) w fs full e =
+    let m : suc n * w ≡ n * w + w = suc-mul n w in
+    let d = length-drop w fs in
+    let b = both (is_whole w (take w fs)) (list_all (is_whole w) (cut_into n w (drop w fs))) e in
+    let first = (both (nat_eq (length (take w fs)) w) (list_all is_utf8 (take w fs)) b.0).1 in
+    ap (list_all is_utf8) (sym (take_drop w fs)) ∙ texts_append (take w fs) (drop w fs) first (texts_cut n w (drop w fs) (omega arith) b.1)
+  where
+    take_drop : (n : ℕ) (l : Record) → take n l ++ drop n l ≡ l
+    take_drop zero l = refl
+    take_drop (suc n) [] = refl
+    take_drop (suc n) (x ∷ l) = ap (λ (k : Record). x ∷ k) (take_drop n l)
+
+pub texts_behind : (header rows : List Record) (w : ℕ) → list_all (is_whole w) (header ++ rows) ≡ true → list_all (is_whole w) rows ≡ true
+texts_behind [] rows w e = e
+texts_behind (r ∷ header) rows w e = texts_behind header rows w (both (is_whole w r) (list_all (is_whole w) (header ++ rows)) e).1

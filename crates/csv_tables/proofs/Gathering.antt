@@ -1,6 +1,7 @@
 -- Records that are put together, and what a write leaves of records.
-use Rattle.std.proofs.Common.{◌≡◌, ℕ, zero, suc, ◌+◌, ◌*◌, ◌<◌, ◌≤◌, Bool, true, false, ◌&&◌, List, [], ◌∷◌, ◌++◌, length, map, flat_map, replicate, take, drop, slice_set, refl, ap, sym, ◌∙◌, subst, arith}
+use Rattle.std.proofs.Common.{◌≡◌, ℕ, zero, suc, ◌+◌, ◌*◌, ◌<◌, ◌≤◌, Bool, true, false, ◌&&◌, nat_eq, List, [], ◌∷◌, ◌++◌, length, map, flat_map, replicate, take, drop, slice_set, refl, ap, sym, ◌∙◌, subst, arith}
 use Rattle.std.specs.List.{list_all}
+use Rattle.std.specs.Str.{is_utf8}
 use Rattle.std.proofs.lemmas.Bool.Decides.{nat_tests}
 use Rattle.std.proofs.lemmas.List.{length-drop, append_assoc}
 use native.Mathlib.Nat.{mul-le-mul_right, suc-mul}
@@ -13,24 +14,28 @@ use Rattle.staged_changes.specs.declared.fates.Fate.{Fate}
 use Rattle.staged_changes.specs.declared.fates.Fate.TheVariants.{Keep}
 use Rattle.csv_tables.specs.declared.written.Gathered.{Gathered}
 use Rattle.csv_tables.specs.Cells.{line_of}
-use Rattle.csv_tables.specs.CsvRecords.{Record}
+use Rattle.csv_tables.specs.CsvRecords.{Record, is_whole}
 use Rattle.csv_tables.specs.Shapes.{Shape, read_row}
 use Rattle.csv_tables.specs.Flat.{cut_into}
 use Rattle.csv_tables.specs.declared.table.Rows.{Rows}
 use Rattle.csv_tables.specs.Tables.{numbered, record_at}
-use Rattle.csv_tables.specs.Rewriting.{has_width, is_wide, Gathers}
+use Rattle.csv_tables.specs.Rewriting.{is_wide, Gathers}
 use Rattle.staged_changes.proofs.Weaves.{left_from}
 use Rattle.csv_tables.proofs.Drafts.{cut_push, full_push}
+use Rattle.csv_tables.proofs.Flat.{texts_take, texts_drop, texts_append}
 
 both : (a b : Bool) → (a && b) ≡ true → (a ≡ true) × (b ≡ true)
 both true b e = (refl, e)
 both false b e = absurd cc
 
-same_width : (width : ℕ) (f : Record) → has_width width f ≡ true → length f ≡ width
-same_width width f e = grind (arith, nat_tests)
+same_width : (width : ℕ) (f : Record) → is_whole width f ≡ true → length f ≡ width
+same_width width f e = equal (length f) width (both (nat_eq (length f) width) (list_all is_utf8 f) e).0
+  where
+    equal : (m n : ℕ) → nat_eq m n ≡ true → m ≡ n
+    equal m n h = grind (arith, nat_tests)
 
 -- one more record
-pub gathers_more : (width : ℕ) (rows : List Record) (g h : Gathered) (f : Record) → Gathers width rows g → has_width width f ≡ true
+pub gathers_more : (width : ℕ) (rows : List Record) (g h : Gathered) (f : Record) → Gathers width rows g → is_whole width f ≡ true
     → fields_of h.fields ≡ fields_of g.fields ++ f → partial_of h.fields ≡ [] → h.count ≡ g.count + 1 → Gathers width (rows ++ f ∷ []) h
 gathers_more width rows g h f was wide ef ep ec =
     let len = same_width width f wide in
@@ -39,11 +44,12 @@ gathers_more width rows g h f was wide ef ep ec =
       full = ap (λ (n : ℕ). n * width) ec ∙ full_push g.count width (fields_of g.fields) f was.full len ∙ sym (ap length ef);
       rows_are = ap (λ (n : ℕ). cut_into n width (fields_of h.fields)) ec ∙ ap (cut_into (g.count + 1) width) ef
           ∙ cut_push g.count width (fields_of g.fields) f was.full len ∙ ap (λ (l : List Record). l ++ f ∷ []) was.rows_are;
+      texts = ap (list_all is_utf8) ef ∙ texts_append (fields_of g.fields) f was.texts (both (nat_eq (length f) width) (list_all is_utf8 f) wide).1;
     }
 
 -- none as yet
 pub gathers_none : (width : ℕ) (r : ByteRecord) → fields_of r ≡ [] → partial_of r ≡ [] → Gathers width [] (record { fields = r; count = 0 })
-gathers_none width r ef ep = record { no_partial = ep; full = (let z : 0 * width ≡ 0 = omega arith in z ∙ sym (ap length ef)); rows_are = refl }
+gathers_none width r ef ep = record { no_partial = ep; full = (let z : 0 * width ≡ 0 = omega arith in z ∙ sym (ap length ef)); rows_are = refl; texts = ap (list_all is_utf8) ef }
 
 pub gathers_as : (width : ℕ) (xs ys : List Record) (g : Gathered) → Gathers width xs g → xs ≡ ys → Gathers width ys g
 gathers_as width xs ys g h e = subst (λ (l : List Record). Gathers width l g) e h
@@ -57,9 +63,9 @@ append_none [] = refl
 append_none (r ∷ l) = ap (λ (m : List Record). r ∷ m) (append_none l)
 
 -- the new records, one after the other
-pub lines_first : (width : ℕ) (x : ByteRecord) (xs ys : List ByteRecord) → xs ≡ x ∷ ys → list_all (has_width width) (map fields_of xs) ≡ true
-    → (has_width width (fields_of x) ≡ true) × (list_all (has_width width) (map fields_of ys) ≡ true)
-lines_first width x xs ys e h = both (has_width width (fields_of x)) (list_all (has_width width) (map fields_of ys)) (sym (ap (λ (l : List ByteRecord). list_all (has_width width) (map fields_of l)) e) ∙ h)
+pub lines_first : (width : ℕ) (x : ByteRecord) (xs ys : List ByteRecord) → xs ≡ x ∷ ys → list_all (is_whole width) (map fields_of xs) ≡ true
+    → (is_whole width (fields_of x) ≡ true) × (list_all (is_whole width) (map fields_of ys) ≡ true)
+lines_first width x xs ys e h = both (is_whole width (fields_of x)) (list_all (is_whole width) (map fields_of ys)) (sym (ap (λ (l : List ByteRecord). list_all (is_whole width) (map fields_of l)) e) ∙ h)
 
 pub lines_on : (done all : List Record) (x : ByteRecord) (xs ys : List ByteRecord) → done ++ map fields_of xs ≡ all → xs ≡ x ∷ ys → (done ++ fields_of x ∷ []) ++ map fields_of ys ≡ all
 lines_on done all x xs ys i e = append_assoc done (fields_of x ∷ []) (map fields_of ys) ∙ ap (λ (l : List ByteRecord). done ++ map fields_of l) (sym e) ∙ i
@@ -88,23 +94,27 @@ wide_set width [] j f h e = refl
 wide_set width (g ∷ fs) zero f h e = let w = both (is_wide width g) (list_all (is_wide width) fs) h in rw e w.1
 wide_set width (g ∷ fs) (suc j) f h e = let w = both (is_wide width g) (list_all (is_wide width) fs) h in rw w.0 (wide_set width fs j f w.1 e)
 
--- a record of a table is as wide as the table
-pub record_width : (r : Rows) (at : ℕ) → at < r.count → has_width r.width (record_at r at) ≡ true
+-- a record of a table is as wide as the table, and UTF-8
+pub record_width : (r : Rows) (at : ℕ) → at < r.count → is_whole r.width (record_at r at) ≡ true
 record_width r at lt =
     let e : suc at * r.width ≡ at * r.width + r.width = suc-mul at r.width in
     let m : suc at * r.width ≤ r.count * r.width = mul-le-mul_right r.width (omega arith) in
     let d = length-drop (at * r.width) (fields_of r.fields) in
     let whole = r.whole in
     let le : r.width ≤ length (drop (at * r.width) (fields_of r.fields)) = omega arith in
-    width_is r.width (record_at r at) (length_taken r.width (drop (at * r.width) (fields_of r.fields)) le)
+    whole_is r.width (record_at r at) (length_taken r.width (drop (at * r.width) (fields_of r.fields)) le)
+    (texts_take r.width (drop (at * r.width) (fields_of r.fields)) (texts_drop (at * r.width) (fields_of r.fields) r.texts))
   where
     length_taken : (w : ℕ) (fs : Record) → w ≤ length fs → length (take w fs) ≡ w
     length_taken zero fs h = refl
     length_taken (suc w) [] h = absurd (omega arith)
     length_taken (suc w) (f ∷ fs) h = ap suc (length_taken w fs (omega arith))
 
-    width_is : (w : ℕ) (fs : Record) → length fs ≡ w → has_width w fs ≡ true
-    width_is w fs e = grind (arith, nat_tests)
+    same : (m n : ℕ) → m ≡ n → nat_eq m n ≡ true
+    same m n e = grind (arith, nat_tests)
+
+    whole_is : (w : ℕ) (fs : Record) → length fs ≡ w → list_all is_utf8 fs ≡ true → is_whole w fs ≡ true
+    whole_is w fs e h = rw (same (length fs) w e) h
 
 pub no_lines : (l : List ByteRecord) → length l ≡ 0 → l ≡ []
 no_lines [] e = refl

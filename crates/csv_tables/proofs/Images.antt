@@ -99,7 +99,7 @@ field_utf8 null (Chars t) n h = h
 field_utf8 null (Logic true) n h = is_utf8-from_IsUtf8 (codes "t") (IsUtf8-from_ascii (codes "t") (one_ascii 116 (lit< tt)))
 field_utf8 null (Logic false) n h = is_utf8-from_IsUtf8 (codes "f") (IsUtf8-from_ascii (codes "f") (one_ascii 102 (lit< tt)))
 
-fields_utf8 : (null : List ℕ) (vs : Tuple) → is_utf8 null ≡ true → list_all is_storable vs ≡ true
+pub fields_utf8 : (null : List ℕ) (vs : Tuple) → is_utf8 null ≡ true → list_all is_storable vs ≡ true
     → list_all is_utf8 (line_of null vs) ≡ true
 fields_utf8 null [] n h = refl
 fields_utf8 null (v ∷ vs) n h =

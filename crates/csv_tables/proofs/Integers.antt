@@ -1,104 +1,94 @@
--- A text is an integer where `parse` reads it as one.
-use Rattle.std.proofs.Common.{◌≡◌, ◌≢◌, ℕ, ℤ, zero, suc, ◌-◌, ◌^◌, ◌<◌, ◌≤◌, ◌⊎◌, inl, inr, Bool, true, false, ◌&&◌, if◌then◌else◌, nat_lt, nat_le, List, [], ◌∷◌, length, drop, get_or, Some, None, Result, Ok, Err, refl, ap, arith, lit<, w64, eqb}
-use Rattle.std.specs.Result.{OkIff, result_ok}
-use Rattle.std.specs.Str.{IsAscii, IsUtf8, all_ascii_digits}
-use Rattle.std.specs.Str.Parse.{ParsesSigned, digits_value, without_leading_sign}
+-- The number that digits write, read byte by byte.
+use Rattle.std.proofs.Common.{◌≡◌, ◌≢◌, ℕ, pos, neg_ℤ, ◌+◌, ◌-◌, ◌*◌, ◌^◌, ◌<◌, ◌≤◌, ◌⊎◌, inl, inr, Bool, true, false, ◌&&◌, if◌then◌else◌, nat_lt, nat_le, List, [], ◌∷◌, length, Some, None, option_map, refl, ap, sym, ◌∙◌, arith, eqb}
+use Rattle.std.specs.Char.{is_ascii_digit, digit_value}
+use Rattle.std.specs.Str.{all_ascii_digits}
+use Rattle.std.specs.Str.Parse.{digits_value, digits_value_after}
 use Rattle.std.proofs.lemmas.Bool.Decides.{eqb_tells, nat_tests}
-use Rattle.std.proofs.lemmas.Str.{IsUtf8-from_ascii, IsAscii-append}
-use Rattle.std.proofs.lemmas.Str.Parse.{IsNumeralModel, numerals_by_value, tells_all_ascii_digits, parse_signed_plain, parse_signed_minus, parse_signed_plus}
-use Rattle.std.proofs.lemmas.Fmt.{IsAscii-from_digits}
-use Rattle.csv_tables.specs.Cells.{is_integer, integer_of}
+use Rattle.csv_tables.specs.Cells.{number_up_to, integer_of}
 
-abbrev AreDigits : List ℕ → Type 0
-AreDigits ds = all_ascii_digits ds ≡ true
+-- digits were read so far as this number, and the others go on behind them
+pub record GoesOn (n : ℕ) (others text : List ℕ) : Type 0 where
+  pub digits : all_ascii_digits others ≡ all_ascii_digits text
+  pub value : digits_value_after 10 n others ≡ digits_value 10 text
 
-own : IsNumeralModel AreDigits (digits_value 10)
-own = numerals_by_value AreDigits tells_all_ascii_digits
+le_after : (n : ℕ) (ds : List ℕ) → n ≤ digits_value_after 10 n ds
+le_after n [] = omega arith
+le_after n (c ∷ cs) = let l = le_after (n * 10 + digit_value c) cs in omega arith
 
-both : (a b : Bool) → (a && b) ≡ true → (a ≡ true) × (b ≡ true)
-both true b e = (refl, e)
-both false b e = absurd cc
-
-and_true : (a b : Bool) → a ≡ true → b ≡ true → (a && b) ≡ true
-and_true a b e f = rw (e, f) refl
-
--- a result is told by a test of what it asks
-decided : {E : Type 0} (r : Result ℤ E) (test : Bool) (P : Type 0) (v : ℤ) → OkIff r P v → (test ≡ true → P) → (P → test ≡ true) → result_ok r ≡ (if test then Some v else None)
-decided (Ok x) test P v h to from = rw (from h.0) (ap (λ (z : ℤ). Some z) h.1)
-decided (Err e) true P v h to from = absurd (h (to refl))
-decided (Err e) false P v h to from = refl
-
-lt_true : (m n : ℕ) → nat_lt m n ≡ true → m < n
-lt_true m n e = grind (arith, nat_tests)
-
-true_lt : (m n : ℕ) → m < n → nat_lt m n ≡ true
-true_lt m n e = grind (arith, nat_tests)
-
-le_true : (m n : ℕ) → nat_le m n ≡ true → m ≤ n
-le_true m n e = grind (arith, nat_tests)
-
-true_le : (m n : ℕ) → m ≤ n → nat_le m n ≡ true
-true_le m n e = grind (arith, nat_tests)
-
-to_parts : (n v m : ℕ) (d : Bool) → (nat_lt 0 n && d && nat_le v m) ≡ true → (d ≡ true) × (0 < n) × (v ≤ m)
-to_parts n v m d e =
-    let w = both (nat_lt 0 n && d) (nat_le v m) e in
-    let u = both (nat_lt 0 n) d w.0 in
-    (u.1, lt_true 0 n u.0, le_true v m w.1)
-
-from_parts : (n v m : ℕ) (d : Bool) → (d ≡ true) → (0 < n) → (v ≤ m) → (nat_lt 0 n && d && nat_le v m) ≡ true
-from_parts n v m d e lt le = and_true (nat_lt 0 n && d) (nat_le v m) (and_true (nat_lt 0 n) d (true_lt 0 n lt) e) (true_le v m le)
-
-pub integer_parsed : {E : Type 0} (t : List ℕ) (r : Result ℤ E) → ParsesSigned w64 10 t r → result_ok r ≡ integer_of t
-integer_parsed t r h = split (eqb_tells (get_or t 0 0) 45) (eqb_tells (get_or t 0 0) 43)
+pub not_up_to : (most : ℕ) (text : List ℕ) → all_ascii_digits text ≡ false → number_up_to most text ≡ None
+not_up_to most text e = by (nat_lt 0 (length text))
   where
-    split : ((eqb (get_or t 0 0) 45 ≡ true) × (get_or t 0 0 ≡ 45)) ⊎ ((eqb (get_or t 0 0) 45 ≡ false) × (get_or t 0 0 ≢ 45))
-        → ((eqb (get_or t 0 0) 43 ≡ true) × (get_or t 0 0 ≡ 43)) ⊎ ((eqb (get_or t 0 0) 43 ≡ false) × (get_or t 0 0 ≢ 43))
-        → result_ok r ≡ integer_of t
-    split (inl m) p =
-        rw m.0
-        (decided r _ _ _ (parse_signed_minus own w64 t r h m.1)
-        (λ e. to_parts (length (drop 1 t)) (digits_value 10 (drop 1 t)) (2 ^ 63) (all_ascii_digits (drop 1 t)) e)
-        (λ q. from_parts (length (drop 1 t)) (digits_value 10 (drop 1 t)) (2 ^ 63) (all_ascii_digits (drop 1 t)) q.0 q.1 q.2))
-    split (inr m) (inl p) =
-        rw (m.0, p.0)
-        (decided r _ _ _ (parse_signed_plus own w64 t r h p.1)
-        (λ e. let q = to_parts (length (drop 1 t)) (digits_value 10 (drop 1 t)) (2 ^ 63 - 1) (all_ascii_digits (drop 1 t)) e in let b = q.2 in (q.0, q.1, omega arith))
-        (λ q. let b = q.2 in from_parts (length (drop 1 t)) (digits_value 10 (drop 1 t)) (2 ^ 63 - 1) (all_ascii_digits (drop 1 t)) q.0 q.1 (omega arith)))
-    split (inr m) (inr p) =
-        rw (m.0, p.0)
-        (decided r _ _ _ (parse_signed_plain own w64 t r h p.1 m.1)
-        (λ e. let q = to_parts (length t) (digits_value 10 t) (2 ^ 63 - 1) (all_ascii_digits t) e in let b = q.2 in (q.0, q.1, omega arith))
-        (λ q. let b = q.2 in from_parts (length t) (digits_value 10 t) (2 ^ 63 - 1) (all_ascii_digits t) q.0 q.1 (omega arith)))
+    by : (b : Bool) → (if b && all_ascii_digits text && nat_le (digits_value 10 text) most then Some (digits_value 10 text) else None) ≡ None
+    by true = rw e refl
+    by false = refl
 
-none_ascii : IsAscii []
-none_ascii zero = lit< tt
-none_ascii (suc i) = lit< tt
+-- a byte that is no digit
+pub no_digit : (most n c : ℕ) (cs text : List ℕ) → GoesOn n (c ∷ cs) text → is_ascii_digit c ≡ false → number_up_to most text ≡ None
+no_digit most n c cs text on e = not_up_to most text (sym on.digits ∙ rw e refl)
 
-one_ascii : (c : ℕ) → c < 128 → IsAscii (c ∷ [])
-one_ascii c lt zero = lt
-one_ascii c lt (suc zero) = lit< tt
-one_ascii c lt (suc (suc i)) = lit< tt
+over : (most v : ℕ) → most < v → nat_le v most ≡ false
+over most v lt = grind (arith, nat_tests)
 
-digits_ascii : (ds : List ℕ) → all_ascii_digits ds ≡ true → IsAscii ds
-digits_ascii ds e = IsAscii-from_digits ds (own.to ds e)
+within : (most v : ℕ) → v ≤ most → nat_le v most ≡ true
+within most v le = grind (arith, nat_tests)
 
-integer_digits : (t : List ℕ) → is_integer t ≡ true → all_ascii_digits (without_leading_sign t) ≡ true
-integer_digits t e = (both (nat_lt 0 (length (without_leading_sign t))) (all_ascii_digits (without_leading_sign t)) (both (nat_lt 0 (length (without_leading_sign t)) && all_ascii_digits (without_leading_sign t)) _ e).0).1
-
-signed_ascii : (t : List ℕ) → all_ascii_digits (without_leading_sign t) ≡ true → IsAscii t
-signed_ascii [] e = none_ascii
-signed_ascii (c ∷ cs) e = split (eqb_tells c 45) (eqb_tells c 43)
+too_much : (most : ℕ) (text : List ℕ) → most < digits_value 10 text → number_up_to most text ≡ None
+too_much most text lt = by (nat_lt 0 (length text) && all_ascii_digits text)
   where
-    split : ((eqb c 45 ≡ true) × (c ≡ 45)) ⊎ ((eqb c 45 ≡ false) × (c ≢ 45)) → ((eqb c 43 ≡ true) × (c ≡ 43)) ⊎ ((eqb c 43 ≡ false) × (c ≢ 43)) → IsAscii (c ∷ cs)
-    split (inl m) p = IsAscii-append (c ∷ []) cs (one_ascii c (let s = m.1 in omega arith)) (digits_ascii cs (rw m.0 at e))
-    split (inr m) (inl p) = IsAscii-append (c ∷ []) cs (one_ascii c (let s = p.1 in omega arith)) (digits_ascii cs (rw (m.0, p.0) at e))
-    split (inr m) (inr p) = digits_ascii (c ∷ cs) (rw (m.0, p.0) at e)
+    by : (b : Bool) → (if b && nat_le (digits_value 10 text) most then Some (digits_value 10 text) else None) ≡ None
+    by true = rw (over most (digits_value 10 text) lt) refl
+    by false = refl
 
--- what is no UTF-8 is no integer
-pub not_integer : (t : List ℕ) → (IsUtf8 t → ⊥) → integer_of t ≡ None
-not_integer t bad = by (is_integer t) refl
+-- a number that is too great with one digit more
+pub too_great : (most n c : ℕ) (cs text : List ℕ) → GoesOn n (c ∷ cs) text → most < n * 10 → number_up_to most text ≡ None
+too_great most n c cs text on lt =
+    let l = le_after (n * 10 + digit_value c) cs in
+    let v = on.value in
+    too_much most text (omega arith)
+
+pub is_great : (most n : ℕ) (text : List ℕ) → GoesOn n [] text → most < n → number_up_to most text ≡ None
+is_great most n text on lt = let v = on.value in too_much most text (omega arith)
+
+pub is_number : (most n : ℕ) (text : List ℕ) → GoesOn n [] text → 0 < length text → n ≤ most → number_up_to most text ≡ Some n
+is_number most n text on lt le =
+    let v : digits_value 10 text ≡ n = sym on.value in
+    let d : all_ascii_digits text ≡ true = sym on.digits in
+    rw (some (length text) lt, d, v, within most n le) refl
   where
-    by : (b : Bool) → is_integer t ≡ b → integer_of t ≡ None
-    by true e = absurd (bad (IsUtf8-from_ascii t (signed_ascii t (integer_digits t e))))
-    by false e = rw e refl
+    some : (k : ℕ) → 0 < k → nat_lt 0 k ≡ true
+    some k l = grind (arith, nat_tests)
+
+pub no_text : (most : ℕ) (text : List ℕ) → length text ≡ 0 → number_up_to most text ≡ None
+no_text most [] e = refl
+no_text most (c ∷ cs) e = absurd (omega arith)
+
+-- one digit more
+pub goes_on : (n c : ℕ) (cs text : List ℕ) → GoesOn n (c ∷ cs) text → is_ascii_digit c ≡ true → 48 ≤ c → c ≤ 57 → GoesOn (n * 10 + (c - 48)) cs text
+goes_on n c cs text on e low high = record {
+  digits = rw e at on.digits;
+  value = ap (λ (k : ℕ). digits_value_after 10 (n * 10 + k) cs) (sym (worth c low high)) ∙ on.value;
+}
+  where
+    worth : (c : ℕ) → 48 ≤ c → c ≤ 57 → digit_value c ≡ c - 48
+    worth c l h = grind (arith, nat_tests)
+
+mapped : {X Y : Type 0} (f : X → Y) (b : Bool) (x : X) → option_map f (if b then Some x else None) ≡ (if b then Some (f x) else None)
+mapped f true x = refl
+mapped f false x = refl
+
+pub with_minus : (cs : List ℕ) → option_map (λ n. neg_ℤ (pos n)) (number_up_to (2 ^ 63) cs) ≡ integer_of (45 ∷ cs)
+with_minus cs = mapped (λ n. neg_ℤ (pos n)) (nat_lt 0 (length cs) && all_ascii_digits cs && nat_le (digits_value 10 cs) (2 ^ 63)) (digits_value 10 cs)
+
+pub with_plus : (cs : List ℕ) → option_map pos (number_up_to (2 ^ 63 - 1) cs) ≡ integer_of (43 ∷ cs)
+with_plus cs = mapped pos (nat_lt 0 (length cs) && all_ascii_digits cs && nat_le (digits_value 10 cs) (2 ^ 63 - 1)) (digits_value 10 cs)
+
+pub without_sign : (c : ℕ) (cs : List ℕ) → c ≢ 45 → c ≢ 43 → option_map pos (number_up_to (2 ^ 63 - 1) (c ∷ cs)) ≡ integer_of (c ∷ cs)
+without_sign c cs m p = split (eqb_tells c 45) (eqb_tells c 43)
+  where
+    split : ((eqb c 45 ≡ true) × (c ≡ 45)) ⊎ ((eqb c 45 ≡ false) × (c ≢ 45)) → ((eqb c 43 ≡ true) × (c ≡ 43)) ⊎ ((eqb c 43 ≡ false) × (c ≢ 43))
+        → option_map pos (number_up_to (2 ^ 63 - 1) (c ∷ cs)) ≡ integer_of (c ∷ cs)
+    split (inl h) q = absurd (m h.1)
+    split (inr h) (inl q) = absurd (p q.1)
+    split (inr h) (inr q) =
+        rw (h.0, q.0)
+        (mapped pos (nat_lt 0 (length (c ∷ cs)) && all_ascii_digits (c ∷ cs) && nat_le (digits_value 10 (c ∷ cs)) (2 ^ 63 - 1)) (digits_value 10 (c ∷ cs)))

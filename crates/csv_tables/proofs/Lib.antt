@@ -12,3 +12,6 @@ pub mod Writing
 pub mod Applying
 pub mod Again
 pub mod Images
+pub mod Headers
+pub mod Placing
+pub mod ScanLaws

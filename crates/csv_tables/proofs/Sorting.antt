@@ -1,5 +1,6 @@
 -- The loop over the changes of a write.
-use Rattle.std.proofs.Common.{◌≡◌, ℕ, Bool, true, false, ◌&&◌, List, [], ◌∷◌, ◌++◌, length, map, flat_map, refl, ap, sym, ◌∙◌, arith}
+use Rattle.std.proofs.Common.{◌≡◌, ℕ, Bool, true, false, ◌&&◌, nat_eq, List, [], ◌∷◌, ◌++◌, length, map, flat_map, refl, ap, sym, ◌∙◌, arith}
+use Rattle.std.specs.Str.{is_utf8}
 use Rattle.std.specs.List.{list_all, list_any}
 use Rattle.std.proofs.lemmas.Bool.Decides.{nat_tests}
 use Rattle.std.proofs.lemmas.List.{map-append, append_assoc}
@@ -11,9 +12,8 @@ use Rattle.fdw_api.specs.Scan.{row_fits}
 use Rattle.fdw_api.specs.Kinds.{Held, Change, Inserts}
 use Rattle.fdw_api.specs.Writes.{inserted, row_of_change_fits}
 use Rattle.csv_tables.specs.Cells.{line_of, record_cells}
-use Rattle.csv_tables.specs.CsvRecords.{Record}
+use Rattle.csv_tables.specs.CsvRecords.{Record, is_whole}
 use Rattle.csv_tables.specs.Shapes.{Shape, read_row, hides_value}
-use Rattle.csv_tables.specs.Rewriting.{has_width}
 use Rattle.csv_tables.proofs.Gathering.{WritesRow}
 use Rattle.csv_tables.proofs.ReadBack.{line_width}
 
@@ -30,11 +30,14 @@ first_fits kinds c cs ds e all = both (row_of_change_fits kinds c) (list_all (ro
 pub written_row : (shape : Shape) (line : ByteRecord) (x : Tuple) → fields_of line ≡ line_of shape.null x → record_cells shape.null shape.kinds (line_of shape.null x) ≡ x → WritesRow shape line x
 written_row shape line x e back = ap (read_row shape) e ∙ ap (λ (t : Tuple). record { cells = t; origin = line_of shape.null x }) back
 
-pub wide_line : (shape : Shape) (line : ByteRecord) (x : Tuple) → fields_of line ≡ line_of shape.null x → row_fits shape.kinds x ≡ true → has_width (length shape.kinds) (fields_of line) ≡ true
-wide_line shape line x e fits = is_wide (fields_of line) (ap length e ∙ line_width shape.null shape.kinds x fits)
+pub wide_line : (shape : Shape) (line : ByteRecord) (x : Tuple) → fields_of line ≡ line_of shape.null x → list_all is_utf8 (fields_of line) ≡ true → row_fits shape.kinds x ≡ true → is_whole (length shape.kinds) (fields_of line) ≡ true
+wide_line shape line x e texts fits = is_wide (fields_of line) texts (ap length e ∙ line_width shape.null shape.kinds x fits)
   where
-    is_wide : (f : Record) → length f ≡ length shape.kinds → has_width (length shape.kinds) f ≡ true
-    is_wide f h = grind (arith, nat_tests)
+    same : (m n : ℕ) → m ≡ n → nat_eq m n ≡ true
+    same m n h = grind (arith, nat_tests)
+
+    is_wide : (f : Record) → list_all is_utf8 f ≡ true → length f ≡ length shape.kinds → is_whole (length shape.kinds) f ≡ true
+    is_wide f t h = rw (same (length f) (length shape.kinds) h) t
 
 -- the loop goes on with a new row, and with a change of an old one
 pub fresh_on : (shape : Shape) (xs ys : List ByteRecord) (line : ByteRecord) (x : Tuple) (cs ds : List Change) (all : List Held)
@@ -58,10 +61,10 @@ pub clear_on : (null : List ℕ) (all : Bool) (c : Change) (cs ds : List Change)
 clear_on null all c cs ds i e hides = i ∙ ap (list_any (hides_value null)) e ∙ rw hides refl
 
 -- the new records are as wide as the columns
-pub fresh_wide_on : (width : ℕ) (xs ys : List ByteRecord) (line : ByteRecord) → ys ≡ xs ++ line ∷ [] → list_all (has_width width) (map fields_of xs) ≡ true → has_width width (fields_of line) ≡ true
-    → list_all (has_width width) (map fields_of ys) ≡ true
-fresh_wide_on width xs ys line e h l = ap (λ (z : List ByteRecord). list_all (has_width width) (map fields_of z)) e ∙ more xs h
+pub fresh_wide_on : (width : ℕ) (xs ys : List ByteRecord) (line : ByteRecord) → ys ≡ xs ++ line ∷ [] → list_all (is_whole width) (map fields_of xs) ≡ true → is_whole width (fields_of line) ≡ true
+    → list_all (is_whole width) (map fields_of ys) ≡ true
+fresh_wide_on width xs ys line e h l = ap (λ (z : List ByteRecord). list_all (is_whole width) (map fields_of z)) e ∙ more xs h
   where
-    more : (zs : List ByteRecord) → list_all (has_width width) (map fields_of zs) ≡ true → list_all (has_width width) (map fields_of (zs ++ line ∷ [])) ≡ true
+    more : (zs : List ByteRecord) → list_all (is_whole width) (map fields_of zs) ≡ true → list_all (is_whole width) (map fields_of (zs ++ line ∷ [])) ≡ true
     more [] q = rw l refl
-    more (z ∷ zs) q = let b = both (has_width width (fields_of z)) (list_all (has_width width) (map fields_of zs)) q in rw b.0 (more zs b.1)
+    more (z ∷ zs) q = let b = both (is_whole width (fields_of z)) (list_all (is_whole width) (map fields_of zs)) q in rw b.0 (more zs b.1)

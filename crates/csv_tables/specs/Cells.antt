@@ -26,6 +26,11 @@ is_integer text =
     nat_lt 0 (length (without_leading_sign text)) && all_ascii_digits (without_leading_sign text)
     && nat_le (digits_value 10 (without_leading_sign text)) (greatest (starts_with_minus text))
 
+-- the number that at least one digit and nothing else writes, where it is at most this one
+abbrev pub number_up_to : ℕ → List ℕ → Option ℕ
+number_up_to most text =
+    if nat_lt 0 (length text) && all_ascii_digits text && nat_le (digits_value 10 text) most then Some (digits_value 10 text) else None
+
 abbrev pub integer_of : List ℕ → Option ℤ
 integer_of text = if is_integer text then Some (signed_digits_value 10 text) else None
 

@@ -8,6 +8,7 @@ use Rattle.csv.specs.declared.reader.Reader.{Reader}
 use Rattle.csv.specs.declared.parser.State.TheVariants as st
 use Rattle.csv.specs.declared.reader.Trim.TheVariants as trim
 use Rattle.med_value.specs.declared.cause.Cause.{Cause}
+use Rattle.med_value.specs.Limits.{row_limit}
 use Rattle.fdw_api.specs.declared.interface.Fault.{Fault}
 use Rattle.fdw_api.specs.declared.interface.Fault.TheVariants.{NoMemory, Source, Refused}
 use Rattle.csv_tables.specs.declared.content.Draft.{Draft}
@@ -58,7 +59,7 @@ pub record IsDraft (shape : Shape) (d : Draft) : Type 0 where
   pub columns : 0 < length shape.kinds
   pub full : d.count * length shape.kinds ≡ length (fields_of d.fields)
   pub no_partial : partial_of d.fields ≡ []
-  pub few : d.count ≤ 1000000
+  pub few : d.count ≤ row_limit
   pub no_header : shape.header ≡ false → header_in d.header ≡ []
   pub header_first : shape.header ≡ true → header_in d.header ≡ [] → d.count ≡ 0
   pub whole : list_all (is_whole (length shape.kinds)) (records_so_far shape d) ≡ true

@@ -6,3 +6,4 @@ pub mod Tables
 pub mod Content
 pub mod Rewriting
 pub mod ReadAgain
+pub mod Scans

@@ -1,7 +1,8 @@
 -- What the staged changes of a write make of the records of a table.
-use Rattle.std.specs.Prelude.{◌≡◌, ◌*◌, ℕ, ℤ, pos, negsuc, ◌^◌, Bool, true, false, List, [], ◌++◌, length, map, nat_eq, nat_lt, Some, Vec}
+use Rattle.std.specs.Prelude.{◌≡◌, ◌*◌, ℕ, ℤ, pos, negsuc, ◌^◌, Bool, true, false, List, [], ◌++◌, length, map, nat_lt, Some, Vec}
 use Rattle.std.specs.Global.{Global}
 use Rattle.std.specs.String.{string_bytes}
+use Rattle.std.specs.List.{list_all}
 use Rattle.std.specs.Str.{is_utf8}
 use Rattle.csv.specs.Records.{fields_of, partial_of}
 use Rattle.csv.specs.Writing.{default_writer, text_written, fields_written, has_written, writer_setup}
@@ -18,7 +19,7 @@ use Rattle.staged_changes.specs.Weaving as weaving
 use Rattle.csv_tables.specs.declared.written.Gathered.{Gathered}
 use Rattle.csv_tables.specs.declared.written.Written.{Written}
 use Rattle.csv_tables.specs.Cells.{line_of}
-use Rattle.csv_tables.specs.CsvRecords.{Record, csv_records, csv_text, heading}
+use Rattle.csv_tables.specs.CsvRecords.{Record, csv_records, csv_text, heading, is_whole}
 use Rattle.csv_tables.specs.Shapes.{Shape, read_row, causes_behind}
 use Rattle.csv_tables.specs.Flat.{cut_into, header_in}
 use Rattle.csv_tables.specs.Tables.{shape_is, numbered, records_of}
@@ -34,14 +35,10 @@ is_storable (Whole n) = is_i64 n
 is_storable (Chars text) = is_utf8 text
 is_storable (Logic b) = true
 
--- a record of this many fields
-abbrev pub has_width : ℕ → Record → Bool
-has_width width fields = nat_eq (length fields) width
-
--- the record of a fate, if it has one, is of this many fields
+-- the record of a fate, if it has one, is of this many fields, each of them UTF-8
 abbrev pub is_wide : ℕ → Fate ByteRecord → Bool
 is_wide width Keep = true
-is_wide width (ChangeTo r) = has_width width (fields_of r)
+is_wide width (ChangeTo r) = is_whole width (fields_of r)
 is_wide width Gone = true
 
 -- the records that their fates leave
@@ -52,11 +49,12 @@ left_by = weaving.left_by fields_of
 abbrev pub rows_left : Shape → List Record → List (Fate ByteRecord) → List Change → List Held
 rows_left shape = weaving.rows_left (line_of shape.null) (read_row shape) fields_of
 
--- these records were put together, each of this many fields
+-- these records were put together, each of this many fields, and each field is UTF-8
 pub record Gathers (width : ℕ) (rows : List Record) (g : Gathered) : Type 0 where
   pub no_partial : partial_of g.fields ≡ []
   pub full : g.count * width ≡ length (fields_of g.fields)
   pub rows_are : cut_into g.count width (fields_of g.fields) ≡ rows
+  pub texts : list_all is_utf8 (fields_of g.fields) ≡ true
 
 -- a writer with the crate's defaults has written this text, and stands between two records
 pub record HasWritten (text : List ℕ) (w : Writer (Vec ℕ Global)) : Type 0 where

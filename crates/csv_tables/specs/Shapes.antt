@@ -7,6 +7,7 @@ use Rattle.med_value.specs.Causes.{phase_of}
 use Rattle.med_value.specs.declared.cause.Cause.{Cause}
 use Rattle.med_value.specs.declared.cause.Cause.TheVariants.{TableNotFound, InvalidFormat, InvalidText, NotInState, TooLarge}
 use Rattle.med_value.specs.declared.value.ColType.{ColType}
+use Rattle.med_value.specs.Limits.{row_limit, byte_limit}
 use Rattle.fdw_api.specs.Scan.{TableRow}
 use Rattle.fdw_api.specs.Kinds.{Column, OptionForm, Entry, Bytes, Stored, Held, Reading, Change, Inserts, Updates, Deletes, kinds_of, is_late}
 use Rattle.fdw_api.specs.Writes.{rows_after}
@@ -54,10 +55,10 @@ all_readable shape bytes =
 -- 54000 over 67,108,864 bytes, HV00A where a record is not whole, 22P02 where a cell is not of its column's type, 54000 over 1,000,000 rows
 abbrev pub content_causes : Shape → List ℕ → List Cause
 content_causes shape bytes =
-    unless (nat_le (length bytes) 67108864) TooLarge
+    unless (nat_le (length bytes) byte_limit) TooLarge
     (unless (all_whole shape bytes) InvalidFormat
     (unless (all_readable shape bytes) InvalidText
-    (unless (nat_le (length (body shape.header (csv_records bytes))) 1000000) TooLarge [])))
+    (unless (nat_le (length (body shape.header (csv_records bytes))) row_limit) TooLarge [])))
 
 pub unless_late : (test : Bool) (cause : Cause) (more : List Cause) → is_late (phase_of cause) ≡ true
     → list_all (λ c. is_late (phase_of c)) more ≡ true → list_all (λ c. is_late (phase_of c)) (unless test cause more) ≡ true
@@ -73,8 +74,8 @@ four_late a b c d =
 
 pub content_late : (shape : Shape) (bytes : List ℕ) → list_all (λ c. is_late (phase_of c)) (content_causes shape bytes) ≡ true
 content_late shape bytes =
-    four_late (nat_le (length bytes) 67108864) (all_whole shape bytes) (all_readable shape bytes)
-    (nat_le (length (body shape.header (csv_records bytes))) 1000000)
+    four_late (nat_le (length bytes) byte_limit) (all_whole shape bytes) (all_readable shape bytes)
+    (nat_le (length (body shape.header (csv_records bytes))) row_limit)
 
 -- what a blob gives a table: HV00R where there is none, else the causes of its content, and its records behind the header as rows
 abbrev pub csv_reading : Shape → Option Entry → Reading
@@ -113,5 +114,5 @@ hides_value null (Deletes id) = false
 abbrev pub causes_behind : Shape → List Record → List TableRow → List Change → List Cause
 causes_behind shape header rows changes =
     unless (not (list_any (hides_value shape.null) changes)) NotInState
-    (unless (nat_le (length (rows_after (line_of shape.null) rows changes)) 1000000) TooLarge
-    (unless (nat_le (length (rows_text header (rows_after (line_of shape.null) rows changes))) 67108864) TooLarge []))
+    (unless (nat_le (length (rows_after (line_of shape.null) rows changes)) row_limit) TooLarge
+    (unless (nat_le (length (rows_text header (rows_after (line_of shape.null) rows changes))) byte_limit) TooLarge []))

@@ -1,13 +1,13 @@
 //! The fields of a record as values, and values as fields.
-ghost use Rattle.std.specs.Prelude.{◌≡◌, true, IfOk, option_map, is_some};
+ghost use Rattle.std.specs.Prelude.{◌≡◌, ◌≤◌, ◌-◌, ◌^◌, true, IfOk, option_map, is_some, pos, neg_ℤ, IsUtf8};
 ghost use Rattle.std.specs.String.{string_bytes};
 ghost use Rattle.med_value.specs.Datum.{datum};
 ghost use Rattle.csv_tables.specs.Rewriting.{is_storable};
-ghost use Rattle.csv_tables.specs.Cells.{skip_spaces, without_spaces, integer_of, is_among, true_words, false_words, truth_of, cell_of, field_of, reads_as_null};
+ghost use Rattle.csv_tables.specs.Cells.{skip_spaces, without_spaces, number_up_to, integer_of, is_among, true_words, false_words, truth_of, cell_of, field_of, reads_as_null};
 
 use med_value::{ColType, NoMemory, Value};
 use std::alloc::Global;
-use std::str::from_utf8;
+use std::str::from_utf8_unchecked;
 
 fn skip_spaces(text: &[u8]) -> &[u8]
     ensures { result.now ≡ skip_spaces text.now }
@@ -35,12 +35,60 @@ fn without_spaces(text: &[u8]) -> &[u8]
     text
 }
 
+// The number that a text of digits writes, where it is at most this one.
+fn number(text: &[u8], most: u64) -> Option<u64>
+    requires { most ≤ 2 ^ 63 }
+    ensures { result ≡ number_up_to most text.now }
+{
+    if text.is_empty() {
+        return None;
+    }
+    let mut text = text;
+    let mut number = 0;
+    while let Some((first, others)) = text.split_first() {
+        if !first.is_ascii_digit() {
+            return None;
+        }
+        if number > most / 10 {
+            return None;
+        }
+        number = number * 10 + u64::from(*first - b'0');
+        text = others;
+    }
+    if number > most { None } else { Some(number) }
+}
+
+// The number that a text of digits writes.
+fn plain_integer(text: &[u8]) -> Option<i64>
+    ensures { result ≡ option_map pos (number_up_to (2 ^ 63 - 1) text.now) }
+{
+    match number(text, 9_223_372_036_854_775_807) {
+        Some(number) => Some(number as i64),
+        None => None,
+    }
+}
+
+// The number that a minus and a text of digits write.
+fn minus_integer(text: &[u8]) -> Option<i64>
+    ensures { result ≡ option_map (λ n. neg_ℤ (pos n)) (number_up_to (2 ^ 63) text.now) }
+{
+    match number(text, 9_223_372_036_854_775_808) {
+        Some(9_223_372_036_854_775_808) => Some(i64::MIN),
+        Some(number) => Some(-(number as i64)),
+        None => None,
+    }
+}
+
 fn integer(text: &[u8]) -> Option<i64>
     ensures { result ≡ integer_of text.now }
 {
-    match from_utf8(text) {
-        Ok(text) => text.parse::<i64>().ok(),
-        Err(_) => None,
+    let Some((first, others)) = text.split_first() else {
+        return None;
+    };
+    match *first {
+        b'-' => minus_integer(others),
+        b'+' => plain_integer(others),
+        _ => plain_integer(text),
     }
 }
 
@@ -78,18 +126,25 @@ fn truth(text: &[u8]) -> Option<bool>
     }
 }
 
-/// What a field means in a column of this type; None where it is not of the type.
+// The text of bytes that are UTF-8, without a look at them.
+fn known_text(field: &[u8]) -> &str
+    requires { IsUtf8 field.now }
+    ensures { result.now ≡ field.now }
+{
+    unsafe { from_utf8_unchecked(field) }
+}
+
+/// What a field that is UTF-8 means in a column of this type; None where it is not of the type.
 pub(crate) fn cell(
     alloc: Global,
     null: &str,
     kind: ColType,
     field: &[u8],
 ) -> Result<Option<Value>, NoMemory>
+    requires { IsUtf8 field.now }
     ensures { IfOk result (λ cell. option_map datum cell ≡ cell_of null.now kind field.now) }
 {
-    let Ok(text) = from_utf8(field) else {
-        return Ok(None);
-    };
+    let text = known_text(field);
     if text == null {
         return Ok(Some(Value::Null));
     }
@@ -115,11 +170,10 @@ pub(crate) fn cell(
 
 /// Whether a field that is UTF-8 is of this type.
 pub(crate) fn is_cell(null: &str, kind: ColType, field: &[u8]) -> bool
+    requires { IsUtf8 field.now }
     ensures { result ≡ is_some (cell_of null.now kind field.now) }
 {
-    let Ok(text) = from_utf8(field) else {
-        return false;
-    };
+    let text = known_text(field);
     if text == null {
         return true;
     }

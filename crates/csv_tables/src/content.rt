@@ -1,5 +1,5 @@
 //! The records of a blob, checked as they are read.
-ghost use Rattle.std.specs.Prelude.{◌≡◌, ◌++◌, ◌∷◌, [], ◌≤◌, ◌<◌, ℕ, List, map, length, false, not, ◌&&◌, is_some, IfOk, IfErr, OnOk};
+ghost use Rattle.std.specs.Prelude.{◌≡◌, ◌++◌, ◌∷◌, [], ◌≤◌, ◌<◌, ℕ, List, map, length, true, false, not, ◌&&◌, is_some, IfOk, IfErr, OnOk};
 ghost use Rattle.std.specs.List.{list_all};
 ghost use Rattle.std.specs.Str.{is_utf8};
 ghost use Rattle.std.specs.String.{string_bytes};
@@ -16,6 +16,7 @@ use crate::layout::Layout;
 use crate::table::Rows;
 use csv::{ByteRecord, Reader, ReaderBuilder};
 use fdw_api::interface::Fault;
+use med_value::limits::{BYTE_LIMIT, ROW_LIMIT};
 use med_value::{Cause, NoMemory};
 use std::alloc::Global;
 use std::str::from_utf8;
@@ -63,7 +64,14 @@ fn is_whole(width: usize, row: &ByteRecord) -> bool
     row.len() == width && has_text(row)
 }
 
+// Whether each field of a record is UTF-8. All of them are where no byte of the record is beyond ASCII.
 fn has_text(row: &ByteRecord) -> bool
+    ensures { result ≡ list_all is_utf8 (fields_of row.now) }
+{
+    row.as_slice().is_ascii() || are_texts(row)
+}
+
+fn are_texts(row: &ByteRecord) -> bool
     ensures { result ≡ list_all is_utf8 (fields_of row.now) }
 {
     let mut at = 0;
@@ -76,8 +84,9 @@ fn has_text(row: &ByteRecord) -> bool
     true
 }
 
-/// Whether each field of a record is of its column's type.
+/// Whether each field of a record, all of them UTF-8, is of its column's type.
 fn is_readable(layout: &Layout, row: &ByteRecord) -> bool
+    requires { list_all is_utf8 (fields_of row.now) ≡ true }
     ensures { result ≡ is_readable (string_bytes layout.now.null) layout.now.kinds.items (fields_of row.now) }
 {
     let mut at = 0;
@@ -134,7 +143,7 @@ fn add_record(layout: &Layout, draft: &mut Draft, row: &ByteRecord) -> Result<()
     if !is_readable(layout, row) {
         return Err(Fault::Refused(Cause::InvalidText));
     }
-    if draft.count == 1_000_000 {
+    if draft.count == ROW_LIMIT {
         return Err(Fault::Refused(Cause::TooLarge));
     }
     push_fields(&mut draft.fields, row)?;
@@ -200,7 +209,7 @@ pub fn read_content(alloc: Global, layout: &Layout, bytes: &[u8]) -> Result<Cont
     ensures width { IfOk result (λ c. c.rows.width ≡ length layout.now.kinds.items) }
     ensures err { IfErr result (λ fault. TellsCause fault (content_causes (shape_is layout.now) bytes.now)) }
 {
-    if bytes.len() > 67_108_864 {
+    if bytes.len() > BYTE_LIMIT {
         return Err(Fault::Refused(Cause::TooLarge));
     }
     if layout.kinds.is_empty() {

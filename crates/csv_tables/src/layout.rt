@@ -42,6 +42,17 @@ fn names_of(alloc: Global, columns: &[ColumnDef]) -> Result<Vec<String>, NoMemor
     Ok(names)
 }
 
+/// Copies of names.
+fn copy_names(alloc: Global, names: &[String]) -> Result<Vec<String>, NoMemory>
+    ensures { IfOk result (λ copies. map string_bytes copies.items ≡ map string_bytes names.now) }
+{
+    let mut copies = Vec::new(alloc);
+    for name in names {
+        copies.push(name.as_str().to_string(alloc)?)?;
+    }
+    Ok(copies)
+}
+
 /// The text of the table's option of this name.
 fn option_text<'a>(options: &'a [TableOption], key: &str) -> Option<&'a str>
     ensures { option_map (λ text. text.now) result ≡ option_text key.now (map option_form options.now) }
@@ -75,6 +86,21 @@ impl Layout {
             kinds,
             names,
             header,
+            null,
+        })
+    }
+
+    /// The same columns and options. It fails for want of memory alone.
+    pub fn copy(&self, alloc: Global) -> Result<Layout, NoMemory>
+        ensures { IfOk result (λ l. shape_is l ≡ shape_is self.now) }
+    {
+        let kinds = Vec::from_slice(alloc, &self.kinds)?;
+        let names = copy_names(alloc, &self.names)?;
+        let null = self.null.as_str().to_string(alloc)?;
+        Ok(Layout {
+            kinds,
+            names,
+            header: self.header,
             null,
         })
     }

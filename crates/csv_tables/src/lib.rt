@@ -5,5 +5,6 @@ mod cells;
 pub mod content;
 pub mod law;
 pub mod layout;
+pub mod scan;
 pub mod table;
 pub mod written;

@@ -1,5 +1,7 @@
 //! The records of a bound table.
 ghost use Rattle.std.specs.Prelude.{◌≡◌, ◌*◌, ◌^◌, ◌<◌, true, length, option_map, slice_get, IfOk};
+ghost use Rattle.std.specs.List.{list_all};
+ghost use Rattle.std.specs.Str.{is_utf8};
 ghost use Rattle.csv.specs.Records.{fields_of};
 ghost use Rattle.csv_tables.specs.CsvRecords.{is_header};
 ghost use Rattle.csv_tables.specs.Flat.{header_in};
@@ -10,7 +12,7 @@ use csv::ByteRecord;
 use med_value::{NoMemory, Row, Value};
 use std::alloc::Global;
 
-/// Records of one number of fields: the fields of all of them, one after the other.
+/// Records of one number of fields, each of them UTF-8: the fields of all of them, one after the other.
 #[derive(Drop)]
 pub struct Rows {
     /// How many fields each record has.
@@ -20,6 +22,7 @@ pub struct Rows {
     pub count: usize,
     pub ghost whole: { count * width ≡ length (fields_of fields) },
     pub ghost small: { count < 2 ^ 64 },
+    pub ghost texts: { list_all is_utf8 (fields_of fields) ≡ true },
 }
 
 /// A bound table.
@@ -87,7 +90,7 @@ impl CsvTable {
         requires { at < self.now.rows.count }
         ensures { IfOk result (λ r. tuple r ≡ pick wanted.now (cells_at self.now at)) }
     {
-        let mut cells = Vec::new(alloc);
+        let mut cells = Vec::with_capacity(alloc, wanted.len())?;
         for column in wanted {
             cells.push(self.value(alloc, at, *column)?)?;
         }
@@ -99,7 +102,7 @@ impl CsvTable {
         requires { at < self.now.rows.count }
         ensures { IfOk result (λ r. tuple r ≡ cells_at self.now at) }
     {
-        let mut cells = Vec::new(alloc);
+        let mut cells = Vec::with_capacity(alloc, self.layout.kinds.len())?;
         for column in 0..self.layout.kinds.len() {
             let value = self.value(alloc, at, column)?;
             cells.push(value)?;

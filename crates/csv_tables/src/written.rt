@@ -1,21 +1,23 @@
 //! What a kept write makes of the records of a table, and the blob as which they are written.
 ghost use Rattle.std.specs.Prelude.{◌≡◌, ◌++◌, ◌+◌, ◌^◌, ◌<◌, ◌≤◌, ℕ, List, [], ◌∷◌, true, false, not, length, map, flat_map, replicate, nat_lt, IfOk, IfErr, OnOk};
 ghost use Rattle.std.specs.List.{list_all, list_any};
+ghost use Rattle.std.specs.Str.{is_utf8};
 ghost use Rattle.std.specs.String.{string_bytes};
 ghost use Rattle.csv.specs.Records.{fields_of, partial_of};
 ghost use Rattle.csv.specs.Writing.{default_writer, row_text};
 ghost use Rattle.med_value.specs.Datum.{tuple};
 ghost use Rattle.med_value.specs.declared.cause.Cause.TheVariants.{NotInState};
+ghost use Rattle.med_value.specs.Limits.{row_limit};
 ghost use Rattle.fdw_api.specs.Scan.{row_fits};
 ghost use Rattle.fdw_api.specs.Writes.{inserted, row_of_change_fits};
 ghost use Rattle.staged_changes.specs.Staged.{change_is};
 ghost use Rattle.csv_tables.specs.Cells.{line_of, record_cells, reads_as_null};
-ghost use Rattle.csv_tables.specs.CsvRecords.{Record, csv_text};
+ghost use Rattle.csv_tables.specs.CsvRecords.{Record, csv_text, is_whole};
 ghost use Rattle.csv_tables.specs.Shapes.{read_row, unless, hides_value, causes_behind};
 ghost use Rattle.csv_tables.specs.Content.{TellsCause};
 ghost use Rattle.csv_tables.specs.Flat.{header_in};
 ghost use Rattle.csv_tables.specs.Tables.{shape_is, record_at, records_of};
-ghost use Rattle.csv_tables.specs.Rewriting.{has_width, is_wide, left_by, rows_left, Gathers, HasWritten, Rewrites, rows_in};
+ghost use Rattle.csv_tables.specs.Rewriting.{is_wide, left_by, rows_left, Gathers, HasWritten, Rewrites, rows_in};
 
 use crate::cells::{field_text, reads_as_null};
 use crate::content::{first_header, push_fields};
@@ -23,6 +25,7 @@ use crate::layout::Layout;
 use crate::table::{CsvTable, Rows};
 use csv::{ByteRecord, Writer};
 use fdw_api::interface::Fault;
+use med_value::limits::{BYTE_LIMIT, ROW_LIMIT};
 use med_value::{Cause, ColType, NoMemory, Row};
 use staged_changes::{Fate, RowChange, keep_all, set_fate};
 use std::alloc::Global;
@@ -52,6 +55,7 @@ pub struct Written {
 /// A row as a record. It is refused by `Cause::NotInState` (55000) where a value would be read as NULL.
 fn record_of(alloc: Global, null: &str, row: &Row) -> Result<ByteRecord, Fault>
     ensures line { IfOk result (λ r. fields_of r ≡ line_of null.now (tuple row.now)) }
+    ensures texts { IfOk result (λ r. list_all is_utf8 (fields_of r) ≡ true) }
     ensures clear { IfOk result (λ r. list_any (reads_as_null null.now) (tuple row.now) ≡ false) }
     ensures back { IfOk result (λ r. (kinds : List ColType) → row_fits kinds (tuple row.now) ≡ true
         → record_cells null.now kinds (line_of null.now (tuple row.now)) ≡ tuple row.now) }
@@ -82,7 +86,7 @@ fn sort_changes(
     ensures fresh { IfOk result (λ s. map (read_row (shape_is layout.now)) (map fields_of s.fresh.items)
         ≡ flat_map (inserted (line_of (string_bytes layout.now.null))) (map change_is changes.items)) }
     ensures wide { IfOk result (λ s. list_all (is_wide (length layout.now.kinds.items)) s.fates.items ≡ true) }
-    ensures fresh_wide { IfOk result (λ s. list_all (has_width (length layout.now.kinds.items)) (map fields_of s.fresh.items) ≡ true) }
+    ensures fresh_wide { IfOk result (λ s. list_all (is_whole (length layout.now.kinds.items)) (map fields_of s.fresh.items) ≡ true) }
     ensures clear { IfOk result (λ s. list_any (hides_value (string_bytes layout.now.null)) (map change_is changes.items) ≡ false) }
     ensures err { IfErr result (λ fault. TellsCause fault
         (unless (not (list_any (hides_value (string_bytes layout.now.null)) (map change_is changes.items))) NotInState [])) }
@@ -127,7 +131,7 @@ fn gather(gathered: &mut Gathered, row: &ByteRecord) -> Result<(), NoMemory>
     ensures partial { OnOk result (partial_of gathered.new.fields ≡ []) }
     ensures count { OnOk result (gathered.new.count ≡ gathered.old.count + 1) }
     ensures rows { OnOk result ((width : ℕ) (rows : List Record) → Gathers width rows gathered.old
-        → has_width width (fields_of row.now) ≡ true → Gathers width (rows ++ fields_of row.now ∷ []) gathered.new) }
+        → is_whole width (fields_of row.now) ≡ true → Gathers width (rows ++ fields_of row.now ∷ []) gathered.new) }
 {
     push_fields(&mut gathered.fields, row)?;
     gathered.count += 1;
@@ -163,16 +167,16 @@ fn rewritten(alloc: Global, rows: &Rows, fates: Vec<Fate<ByteRecord>>) -> Result
 
 /// Whether these are too many rows for a table.
 fn are_too_many(kept: usize, fresh: usize) -> bool
-    ensures { result ≡ nat_lt 1000000 (kept + fresh) }
+    ensures { result ≡ nat_lt row_limit (kept + fresh) }
 {
-    kept > 1_000_000 || fresh > 1_000_000 - kept
+    kept > ROW_LIMIT || fresh > ROW_LIMIT - kept
 }
 
 /// Appends new records.
 fn with_fresh(gathered: Gathered, fresh: Vec<ByteRecord>) -> Result<Gathered, NoMemory>
     requires partial { partial_of gathered.fields ≡ [] }
-    requires few { gathered.count + length fresh.items ≤ 1000000 }
-    ensures { (width : ℕ) (rows : List Record) → Gathers width rows gathered → list_all (has_width width) (map fields_of fresh.items) ≡ true
+    requires few { gathered.count + length fresh.items ≤ row_limit }
+    ensures { (width : ℕ) (rows : List Record) → Gathers width rows gathered → list_all (is_whole width) (map fields_of fresh.items) ≡ true
         → IfOk result (λ g. Gathers width (rows ++ map fields_of fresh.items) g) }
 {
     let mut gathered = gathered;
@@ -238,7 +242,7 @@ pub fn apply_changes(
         count,
     };
     let image = image_of(alloc, &table.header, &rows)?;
-    if image.len() > 67_108_864 {
+    if image.len() > BYTE_LIMIT {
         return Err(Fault::Refused(Cause::TooLarge));
     }
     let header = first_header(alloc, &table.layout, &image)?;

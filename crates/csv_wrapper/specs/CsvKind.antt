@@ -9,6 +9,7 @@ use Rattle.med_value.specs.declared.cause.Cause.{Cause}
 use Rattle.med_value.specs.declared.cause.Cause.TheVariants.{InvalidOptionName, InvalidOptionValue, NotInState, TooLarge}
 use Rattle.med_value.specs.declared.value.ColType.{ColType}
 use Rattle.med_value.specs.declared.value.ColType.TheVariants as types
+use Rattle.med_value.specs.Limits.{row_limit, byte_limit}
 use Rattle.fdw_api.specs.Scan.{TableRow, row_fits, has_kind, is_clean}
 use Rattle.fdw_api.specs.Kinds.{Kind, OptionForm, Entry, Bytes, Stored, Change, Refusals, all_fit, as_they_come, is_of_run}
 use Rattle.fdw_api.specs.Writes.{rows_after}
@@ -44,8 +45,8 @@ abbrev pub csv_refusals : Shape → Refusals
 csv_refusals shape = record {
   causes = write_causes shape;
   of_run = λ entry rows changes. three_of_run (not (list_any (hides_value shape.null) changes))
-      (nat_le (length (rows_after (line_of shape.null) rows changes)) 1000000)
-      (nat_le (length (image_bytes shape entry (rows_after (line_of shape.null) rows changes))) 67108864);
+      (nat_le (length (rows_after (line_of shape.null) rows changes)) row_limit)
+      (nat_le (length (image_bytes shape entry (rows_after (line_of shape.null) rows changes))) byte_limit);
 }
 
 -- a value that a field means is of its column's type, without U+0000

@@ -1,5 +1,4 @@
 pub mod CsvKind
-pub mod Slots
-pub mod Scans
+pub mod Bound
+pub mod Places
 pub mod CsvBoxes
-pub mod Bindings

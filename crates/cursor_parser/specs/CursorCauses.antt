@@ -1,5 +1,6 @@
 -- What stands against the tokens of a statement on cursors, as far as its tree says it.
 use Rattle.std.specs.Prelude.{◌<◌, ◌⊎◌, Bool, true, false, ◌==◌, List, count_by}
+use Rattle.med_value.specs.Limits.{height_limit}
 use Rattle.med_lexer.specs.Lexemes.{Shape}
 use Rattle.expr_grammar.specs.Shapes.{deepens}
 use Rattle.expr_grammar.specs.declared.refusal.ReadFault.{ReadFault}
@@ -38,4 +39,5 @@ abbrev pub Refuses : List Shape → ReadFault → Type 0
 Refuses ss faults.NoMemory = Unit {0}
 Refuses ss (faults.Refused Syntax) = (c : CursorTree) → IsCursor ss c → ⊥
 Refuses ss (faults.Refused TooHigh) =
-    ((c : CursorTree) × IsCursor ss c × (64 < cursor_height c)) ⊎ (((c : CursorTree) → IsCursor ss c → ⊥) × (64 < count_by deepens ss))
+    ((c : CursorTree) × IsCursor ss c × (height_limit < cursor_height c))
+    ⊎ (((c : CursorTree) → IsCursor ss c → ⊥) × (height_limit < count_by deepens ss))

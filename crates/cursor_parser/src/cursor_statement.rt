@@ -12,6 +12,7 @@ ghost use Rattle.expr_grammar.specs.ExprTerminals.{AreReadable};
 ghost use Rattle.expr_grammar.specs.View.{shapes_of};
 ghost use Rattle.std.specs.Prelude.{◌≡◌, ◌≤◌, IfErr, IfOk};
 ghost use Rattle.std.specs.String.{string_bytes};
+ghost use Rattle.med_value.specs.Limits.{height_limit};
 
 use crate::cursor_tokens::{
     behind_from, behind_word, count, expect, is_end, name, two_if, word_if,
@@ -134,7 +135,7 @@ pub fn cursor_of(alloc: Global, tokens: &[Token]) -> Result<CursorStatement, Rea
     // What is answered is the tokens' tree.
     ensures found { IfOk result (λ c. IsCursor (shapes_of tokens.now) (cursor_tree c)) }
     // No expression of it is higher than 64.
-    ensures low { IfOk result (λ c. cursor_height (cursor_tree c) ≤ 64) }
+    ensures low { IfOk result (λ c. cursor_height (cursor_tree c) ≤ height_limit) }
     // A refusal says what stands against the tokens.
     ensures refused { IfErr result (Refuses (shapes_of tokens.now)) }
 {

@@ -41,7 +41,7 @@ pub fn leased_tables_stay()
     one_tree();
 }
 
-/// The law of leases: a run of lines of up to 64 sessions is a list of lines with their replies, whose replies joined are those of the run;
+/// The law of leases: a run of the lines of all sessions is a list of lines with their replies, whose replies joined are those of the run;
 /// and at each DECLARE in it that was done, the rows that the FETCHes from its cursor gave, joined, begin one answer over the tables as
 /// they stood there, and are all of it once one FETCH gave fewer rows than it was asked for; and as long as the cursor is open, behind
 /// each line these tables have the rows that it reads. This holds of each list of lines with their replies that leads from scene to scene,

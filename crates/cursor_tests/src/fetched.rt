@@ -3,7 +3,7 @@ ghost use Rattle.med_session.specs.Engine.{IsSound};
 ghost use Rattle.med_session.specs.Shows.{shown};
 
 use crate::served::{ask, engine_over, in_failing, new_list};
-use fdw_api::interface::Wrapper;
+use fdw_api::wishes::Wrapper2;
 use med_session::{Engine, Request};
 use std::alloc::Global;
 use std::str::from_utf8;
@@ -41,9 +41,9 @@ fn unwanted(case: &str, row: &str, came: &[u8]) -> Fail {
 }
 
 // Asks for a statement, once more where it is refused so: what fails does so once. Tells whether it was refused.
-fn ask_again<W: Wrapper>(
+fn ask_again<W: Wrapper2>(
     engine: &mut Engine<W>,
-    session: u8,
+    session: u16,
     sql: &str,
     refusal: &[u8],
     out: &mut Vec<u8>,
@@ -77,7 +77,7 @@ fn is_open_after(
 }
 
 // Fails where a row is not answered as it says. A FETCH that is refused may lose its cursor, and nothing else does. Tells whether it is open.
-fn follows<W: Wrapper>(
+fn follows<W: Wrapper2>(
     case: &str,
     engine: &mut Engine<W>,
     row: &str,
@@ -101,7 +101,7 @@ fn follows<W: Wrapper>(
 }
 
 // Declares the cursor. Tells whether that was done; if not, it was refused so.
-fn declares<W: Wrapper>(
+fn declares<W: Wrapper2>(
     case: &str,
     engine: &mut Engine<W>,
     refusal: &[u8],
@@ -121,7 +121,7 @@ fn declares<W: Wrapper>(
 }
 
 // Opens both sessions. It asks twice, since memory may be refused once.
-fn open_both<W: Wrapper>(engine: &mut Engine<W>, out: &mut Vec<u8>) -> Result<(), Fail>
+fn open_both<W: Wrapper2>(engine: &mut Engine<W>, out: &mut Vec<u8>) -> Result<(), Fail>
     requires { IsSound (shown W.meaning engine.old) }
     ensures { IsSound (shown W.meaning engine.new) }
 {
@@ -133,7 +133,7 @@ fn open_both<W: Wrapper>(engine: &mut Engine<W>, out: &mut Vec<u8>) -> Result<()
 
 // Reads the orders by a cursor, to its end or until it is lost, while another session writes to them as soon as it may. Tells whether the
 // cursor was declared.
-fn reads<W: Wrapper>(
+fn reads<W: Wrapper2>(
     case: &str,
     engine: &mut Engine<W>,
     refusal: &[u8],

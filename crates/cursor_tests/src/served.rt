@@ -7,7 +7,7 @@ ghost use Rattle.med_session.specs.Shows.{shown};
 ghost use Rattle.probe_wrapper.specs.Failing.{failed};
 ghost use Rattle.std.specs.Prelude.{IfOk};
 
-use fdw_api::interface::Wrapper;
+use fdw_api::wishes::Wrapper2;
 use fed_setup::demo::demo_tables;
 use fed_setup::program::add_demo;
 use fed_setup::told::RunFault;
@@ -26,7 +26,7 @@ pub fn new_list(alloc: Global) -> Result<ListWrapper, NoMemory>
 }
 
 /// A box round another, that fails once, after so many calls.
-pub fn in_failing<W: Wrapper>(inner: W, passes: u64) -> Failing<W>
+pub fn in_failing<W: Wrapper2>(inner: W, passes: u64) -> Failing<W>
     requires { IsNewList (W.meaning inner) demo_list }
     ensures { IsNewList (failed (W.meaning result.inner) result.failure) demo_list }
 {
@@ -43,9 +43,9 @@ fn join_lines(out: &mut [u8]) {
 }
 
 /// Asks in a session: the reply alone stands in `out` then, in one line.
-pub fn ask<W: Wrapper>(
+pub fn ask<W: Wrapper2>(
     engine: &mut Engine<W>,
-    session: u8,
+    session: u16,
     request: Request<'_>,
     out: &mut Vec<u8>,
 ) -> Result<(), Fail>
@@ -62,7 +62,7 @@ pub fn ask<W: Wrapper>(
 }
 
 /// An engine over the demo list in this box.
-pub fn engine_over<W: Wrapper>(alloc: Global, list: W) -> Result<Engine<W>, RunFault<'static>>
+pub fn engine_over<W: Wrapper2>(alloc: Global, list: W) -> Result<Engine<W>, RunFault<'static>>
     requires { IsNewList (W.meaning list) demo_list }
     ensures { IfOk result (λ engine. IsSound (shown W.meaning engine)) }
 {

@@ -1,6 +1,5 @@
-//! The tables that are measured, worked by hand from their rules, the text of their rows, and the words that ask for a measurement.
+//! The tables of `bench_tables`, worked by hand from their rules, and the text of their rows.
 use bench_tables::setup::bench_engine;
-use bench_tables::words::{AskedBench, read_words};
 use med_session::{Request, Sid};
 use std::alloc::Global;
 use std::test::Fail;
@@ -61,41 +60,5 @@ fn text_of_rows(rt: HostRuntime) -> Result<(), Fail> {
 7 T SELECT 2
 ";
     assert_eq!(rt; out.as_slice(), want.as_slice());
-    Ok(())
-}
-
-// What words ask, in words.
-fn asked(alloc: Global, words: &[&str]) -> Result<String, Fail> {
-    match read_words(words) {
-        Some(AskedBench::Nothing) => Ok("nothing".to_string(alloc)?),
-        Some(AskedBench::Measure { rows, sql }) => Ok(format!(in alloc; "{rows} rows, {sql}")?),
-        None => Ok("refused".to_string(alloc)?),
-    }
-}
-
-fn check_row(alloc: Global, row: &str) -> Result<(), Fail> {
-    let Some((words, want)) = row.split_once('=') else {
-        return Err(row.to_string(alloc)?)?;
-    };
-    let words: Vec<&str> = words.split('|').collect(alloc)?;
-    let found = asked(alloc, &words)?;
-    if found.as_str() == want {
-        return Ok(());
-    }
-    Err(format!(in alloc; "{row}: {found} came")?)?
-}
-
-#[test]
-fn words_that_are_taken_and_refused(rt: HostRuntime) -> Result<(), Fail> {
-    let rows = "fedq_bench=nothing
-fedq_bench|1000000|SELECT 1=1000000 rows, SELECT 1
-fedq_bench|1=refused
-fedq_bench|many|SELECT 1=refused
-fedq_bench|-1|SELECT 1=refused
-fedq_bench|1000001|SELECT 1=refused
-fedq_bench|1|SELECT 1|SELECT 2=refused";
-    for row in rows.lines() {
-        check_row(rt.alloc(), row)?;
-    }
     Ok(())
 }

@@ -1,4 +1,4 @@
-//! Tests of the engine, of its request lines, and of the tables and words of `fedq_bench`, by public functions alone. They stand apart, so
+//! Tests of the engine, of its request lines, and of the tables of `bench_tables`, by public functions alone. They stand apart, so
 //! that no crate is proved a second time for its tests.
 #![tactic(auto)]
 

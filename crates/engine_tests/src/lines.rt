@@ -13,23 +13,25 @@ const STREAM: &[u8] = b"1 OPEN ann\r
 1 Q SELECT 1
 
 65 BYE
+257 BYE
 07 BYE
 2 bye
 1 OPEN public
-64 BYE
+256 BYE
 1 Q rest";
 
-const REPLIES: &[u8] = b"01 O
-01 Q
+const REPLIES: &[u8] = b"001 O
+001 Q
 0 E 08P01 protocol_violation
+065 B
 0 E 08P01 protocol_violation
 0 E 08P01 protocol_violation
 2 E 08P01 protocol_violation
 1 E 08P01 protocol_violation
-64 B
+256 B
 ";
 
-// Answers `NN V`, NN the session and V the verb's first letter. If it is full, it asks for no room, and refuses where 128 bytes
+// Answers `NNN V`, NNN the session and V the verb's first letter. If it is full, it asks for no room, and refuses where 128 bytes
 // more have none.
 #[derive(Drop)]
 struct Echo {
@@ -54,10 +56,11 @@ impl Handler for Echo {
             Request::Sql(text) => (b'Q', text.len()),
             Request::Bye => (b'B', 0),
         };
-        let ten = b'0' + sid.number / 10;
-        let unit = b'0' + sid.number % 10;
+        let hundred = b'0' + (sid.number / 100) as u8;
+        let ten = b'0' + (sid.number / 10 % 10) as u8;
+        let unit = b'0' + (sid.number % 10) as u8;
         if out
-            .extend_from_slice(&[ten, unit, b' ', verb, b'\n'])
+            .extend_from_slice(&[hundred, ten, unit, b' ', verb, b'\n'])
             .is_err()
         {
             return Err(NoRoom);
@@ -130,10 +133,21 @@ fn bytes_come_one_by_one(rt: HostRuntime) -> Result<(), Fail> {
 }
 
 #[test]
-fn line_of_65537_bytes_closes(rt: HostRuntime) -> Result<(), Fail> {
+fn line_of_1048576_bytes_is_answered(rt: HostRuntime) -> Result<(), Fail> {
     let mut server = server(rt.alloc(), false)?;
     let mut out = Vec::new(rt.alloc());
-    server.feed(long_line(rt.alloc(), 65_537)?.as_slice(), &mut out)?;
+    server.feed(long_line(rt.alloc(), 1_048_576)?.as_slice(), &mut out)?;
+    assert_eq!(rt; out.as_slice(), b"001 Q\n".as_slice());
+    assert!(rt; !server.is_closed());
+    assert_eq!(rt; server.finish().bytes, 1_048_572);
+    Ok(())
+}
+
+#[test]
+fn line_of_1048577_bytes_closes(rt: HostRuntime) -> Result<(), Fail> {
+    let mut server = server(rt.alloc(), false)?;
+    let mut out = Vec::new(rt.alloc());
+    server.feed(long_line(rt.alloc(), 1_048_577)?.as_slice(), &mut out)?;
     assert_eq!(rt; out.as_slice(), CLOSED);
     assert_eq!(rt; server.feed(b"1 BYE\n", &mut out), Err(FeedFault::Closed));
     assert_eq!(rt; out.as_slice(), CLOSED);

@@ -3,6 +3,7 @@ use Rattle.std.specs.Prelude.{◌≡◌, ℕ, ◌<◌, ◌⊎◌, Bool, true, fa
 use Rattle.std.specs.Str.Parse.{digits_value}
 use Rattle.med_value.specs.declared.cause.Cause.{Cause}
 use Rattle.med_value.specs.declared.cause.Cause.TheVariants as causes
+use Rattle.med_value.specs.Limits.{height_limit}
 use Rattle.med_lexer.specs.Lexemes.{Shape, number, Lexeme, Lexes}
 use Rattle.expr_grammar.specs.Shapes.{IsLongName, deepens, shapes}
 use Rattle.med_syntax.specs.Terminal.{AreTerminals}
@@ -54,7 +55,8 @@ TokenCauses ts causes.Syntax = (e : ExprTree) → IsExpression ts e → ⊥
 TokenCauses ts causes.NameTooLong = Any IsLongName ts
 TokenCauses ts causes.LiteralOutOfRange = Any IsHuge ts ⊎ ((e : ExprTree) × IsExpression ts e × (in_range e ≡ false))
 TokenCauses ts causes.TooDeep =
-    ((e : ExprTree) × IsExpression ts e × (64 < height e)) ⊎ (((e : ExprTree) → IsExpression ts e → ⊥) × (64 < count_by deepens ts))
+    ((e : ExprTree) × IsExpression ts e × (height_limit < height e))
+    ⊎ (((e : ExprTree) → IsExpression ts e → ⊥) × (height_limit < count_by deepens ts))
 TokenCauses ts _ = ⊥
 
 -- The causes that stand for a text: 42601 where it has no tree, and so where it has no tokens, and the others for its tokens.

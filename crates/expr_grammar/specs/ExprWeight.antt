@@ -1,5 +1,6 @@
 -- How high an expression can be, by its terminals, and reading with room for it.
 use Rattle.std.specs.Prelude.{ℕ, suc, Bool, true, false, cond, nat_le, List, [], ◌∷◌, Result, Ok, Err}
+use Rattle.med_value.specs.Limits.{height_limit}
 use Rattle.med_syntax.specs.Terminal.{Terminal}
 use Rattle.med_syntax.specs.Terminal as t
 use Rattle.expr_grammar.specs.declared.refusal.Refusal.{Refusal}
@@ -31,7 +32,7 @@ judged few (Ok e) wide = Ok e
 -- What a reader gives with room for 64 levels; with few heavy terminals, room for any tree that they can have: then no room left means no
 -- tree.
 abbrev pub bounded : {X : Type 0} → (ℕ → List Terminal → Result X Refusal) → List Terminal → Result X Refusal
-bounded read ts = judged (nat_le (weight ts) 64) (read 64 ts) (read 455 ts)
+bounded read ts = judged (nat_le (weight ts) height_limit) (read height_limit ts) (read 455 ts)
 
 unfoldable pub bounded_of : List Terminal → Result ExprTree Refusal
 bounded_of ts = bounded all_of ts

@@ -1,6 +1,7 @@
 -- What tokens say, and which of them may have no place in a statement.
 use Rattle.std.specs.Prelude.{◌<◌, Bool, true, false, List, length, map, codes}
 use Rattle.std.specs.Str.{bytes_eq}
+use Rattle.med_value.specs.Limits.{name_limit}
 use Rattle.med_lexer.specs.declared.Mark.TheVariants as marks
 use Rattle.med_lexer.specs.Lexemes.{Shape, word, quoted, mark, Lexeme}
 
@@ -10,8 +11,8 @@ shapes = map (λ (t : Lexeme). t.shape)
 
 -- A name has at most 63 bytes, as in PostgreSQL. An unquoted word counts as a name here.
 abbrev pub IsLongName : Shape → Type 0
-IsLongName (word w) = 63 < length w
-IsLongName (quoted q) = 63 < length q
+IsLongName (word w) = name_limit < length w
+IsLongName (quoted q) = name_limit < length q
 IsLongName _ = ⊥
 
 -- The tokens with which an expression can get deeper without bound: ( + - * / % and the word NOT.

@@ -8,10 +8,8 @@ ghost use Rattle.expr_grammar.specs.View.{LexesOnly};
 
 use crate::fault::ParseFault;
 use med_lexer::{LexFault, Token, TokenKind, one_list, tokens};
+use med_value::limits::NAME_LIMIT;
 use std::alloc::Global;
-
-/// The most bytes that a name may have.
-const MAX_NAME: usize = 63;
 
 /// The tokens of a text.
 pub fn tokens_of(alloc: Global, text: &str) -> Result<Vec<Token>, ParseFault>
@@ -30,7 +28,7 @@ fn is_long_name(kind: &TokenKind) -> bool
     ensures { IsTrue result ↔ IsLongName (shape_of kind.now) }
 {
     match kind {
-        TokenKind::Word(name) | TokenKind::Quoted(name) => name.len() > MAX_NAME,
+        TokenKind::Word(name) | TokenKind::Quoted(name) => name.len() > NAME_LIMIT,
         _ => false,
     }
 }

@@ -6,9 +6,6 @@ ghost use Rattle.expr_grammar.specs.SymbolView.{terminal_of_symbol, terminals_of
 
 use crate::symbols::Symbol;
 
-/// The greatest height of an expression, and how many heavy symbols are few.
-pub const MAX_HEIGHT: u32 = 64;
-
 /// Higher than any expression of few heavy symbols.
 pub const ROOM: u32 = 455;
 

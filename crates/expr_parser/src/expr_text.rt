@@ -17,11 +17,12 @@ use expr_grammar::number_range::is_in_range;
 use expr_grammar::refusal::{ReadFault, Refusal};
 use expr_grammar::symbols::Symbol;
 use expr_grammar::token_list::{has_long_name, tokens_of};
-use expr_grammar::weighing::{MAX_HEIGHT, ROOM, weight};
+use expr_grammar::weighing::{ROOM, weight};
 use expr_reader::whole;
 use med_lexer::{Token, tokens_can_be_printed};
 use med_syntax::Expr;
 use med_value::Cause;
+use med_value::limits::HEIGHT_LIMIT;
 use std::alloc::Global;
 
 /// The expression that all of the symbols are, where it is no higher than the room.
@@ -43,9 +44,9 @@ fn all(alloc: Global, room: u32, symbols: &[Symbol]) -> Result<Expr, ReadFault>
 fn bounded(alloc: Global, symbols: &[Symbol]) -> Result<Expr, ReadFault>
     ensures { ReadsAs expr_tree result (spec.bounded_of (terminals_of symbols.now)) }
 {
-    match all(alloc, MAX_HEIGHT, symbols) {
+    match all(alloc, HEIGHT_LIMIT, symbols) {
         Err(ReadFault::Refused(Refusal::TooHigh)) => {
-            if weight(symbols) > 64 {
+            if weight(symbols) > HEIGHT_LIMIT as usize {
                 return Err(ReadFault::Refused(Refusal::TooHigh));
             }
             match all(alloc, ROOM, symbols) {

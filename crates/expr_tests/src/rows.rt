@@ -1,5 +1,4 @@
-//! Rows of cases, many in one text literal, since each literal and each call of a function is proved by itself. A row is a text, ` => ` and the
-//! answer that is wanted of it.
+//! Rows of cases, many in one text literal: a row is a text, ` => ` and the answer that is wanted of it.
 use std::alloc::Global;
 use std::process::Abort;
 use std::test::Fail;

@@ -1,6 +1,6 @@
 //! Copies of a SELECT, and the laws on SELECTs.
 use crate::build::build;
-use med_query::{Grouping, Join, JoinChain, Select, SortDirection, is_safe_from};
+use med_query::{Grouping, Join, JoinChain, Select, SelectCore, SortDirection, is_safe_from};
 use std::alloc::Global;
 use std::test::Fail;
 use tri_expr::Expr;
@@ -36,18 +36,36 @@ fn grouping(alloc: Global) -> Result<Grouping, Fail> {
     })
 }
 
-fn selected(alloc: Global) -> Result<Select, Fail> {
-    let direction = SortDirection {
-        descending: true,
-        nulls_first: false,
-    };
-    Ok(Select {
+fn whole_core(alloc: Global) -> Result<SelectCore, Fail> {
+    Ok(SelectCore {
         from: chains(alloc)?,
         conditions: list(alloc, "live")?,
         grouping: Some(grouping(alloc)?),
         items: list(alloc, "name")?,
         distinct: true,
         keys: list(alloc, "name ()")?,
+    })
+}
+
+/// SELECT 'x', with this key.
+fn bare_core(alloc: Global) -> Result<SelectCore, Fail> {
+    Ok(SelectCore {
+        from: Vec::new(alloc),
+        conditions: Vec::new(alloc),
+        grouping: None,
+        items: list(alloc, "'x'")?,
+        distinct: false,
+        keys: list(alloc, "'y'")?,
+    })
+}
+
+fn selected(alloc: Global) -> Result<Select, Fail> {
+    let direction = SortDirection {
+        descending: true,
+        nulls_first: false,
+    };
+    Ok(Select {
+        cores: vec![in alloc; whole_core(alloc)?, bare_core(alloc)?]?,
         directions: vec![in alloc; direction]?,
         offset: 6,
         limit: Some(7),
@@ -63,7 +81,9 @@ fn copy_of_a_select_has_each_part(rt: HostRuntime) -> Result<(), Fail> {
         format!(in alloc; "{copy:?}")?,
         format!(in alloc; "{select:?}")?
     );
-    assert!(rt; is_safe_from(&copy.from));
+    for core in &copy.cores {
+        assert!(rt; is_safe_from(&core.from));
+    }
     Ok(())
 }
 

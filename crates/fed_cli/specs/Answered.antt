@@ -7,7 +7,7 @@ use Rattle.session_wire.specs.Worlds.{SceneSteps, SceneEnds}
 use Rattle.fed_stream.specs.Streams.{Stream}
 use Rattle.fed_stream.specs.Served.{Serves}
 use Rattle.fed_words.specs.Places.{Place}
-use Rattle.fed_setup.specs.Setup.{Begins}
+use Rattle.fed_setup.specs.Setup.{Outside, Begins}
 use Rattle.fed_stream.specs.declared.stream.Ended.{Ended}
 use Rattle.fed_stream.specs.declared.stream.StreamFault.{StreamFault}
 
@@ -28,10 +28,10 @@ pub record ServesWorld (first last : List (Option BoxState)) (w : World)
 
 -- The program serves a stream, that ends so: from the world and the boxes to which its beginning leads, for which an engine stands, to the
 -- last boxes, which are those of the sources that it hands back.
-pub record ServesProgram (honest : Bool) (owner : List ℕ) (source : Option (List ℕ)) (places : List Place) (script : Option (List ℕ))
+pub record ServesProgram (outside : Outside) (owner : List ℕ) (source : Option (List ℕ)) (places : List Place) (script : Option (List ℕ))
     (last : List (Option BoxState)) (input output : Stream) (ended : Result Ended StreamFault) : Type 0 where
   pub world : World
   pub engine : Shown
-  pub begins : Begins honest owner source places script (Ok tt) (record { world = world; boxes = engine.boxes })
+  pub begins : Begins outside owner source places script (Ok tt) (record { world = world; boxes = engine.boxes })
   pub agrees : Agrees engine world
   pub serves : ServesWorld engine.boxes last world input output ended

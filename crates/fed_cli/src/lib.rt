@@ -7,4 +7,4 @@ pub mod telling;
 pub mod told;
 pub mod worlds;
 
-pub use fed_stream::{Ended, StreamFault, serve_stream};
+pub use fed_stream::{Ended, StreamFault, serve_stream, serve_stream_within};

@@ -6,15 +6,12 @@ ghost use Rattle.fed_stream.specs.Streams.{stream};
 
 use crate::serving::serve_engine;
 use crate::told::told;
-use fdw_api::interface::Wrapper;
 use fed_setup::program::begin;
+use fed_setup::surroundings::Surroundings;
 use fed_setup::told::RunFault;
 use fed_words::words::AskedRun;
 use med_session::Sources;
-use source_kinds::Source;
-use sqlite_databases::Databases;
 use std::io::{Read, Write};
-use std::rt::Files;
 
 /// What a run came to.
 #[derive(Drop)]
@@ -45,15 +42,14 @@ impl<'a, W: Drop> Ran<'a, W> {
 /// Answers the request lines of an input: it begins as `begin` says, and then the input is served.
 ///
 /// Where it does not begin, nothing of the input is read and nothing is written.
-pub fn run_asked<'a, V: AllocGlobal + Files + Clone + Databases + Drop, R: Read, W: Write>(
+pub fn run_asked<'a, V: AllocGlobal + Surroundings, R: Read, W: Write>(
     rt: &V,
     asked: AskedRun<'a>,
     reader: &mut R,
     writer: &mut W,
-) -> Ran<'a, Source<V>>
+) -> Ran<'a, V::Source>
     requires { IsUser asked.owner.now }
-    ensures { Runs V.Store.SourceStore.honest ⟦<Source<V> as Wrapper>⟧.meaning asked.entry result.came
-        (option_map (λ v. v.items) result.script) result.sources
+    ensures { Runs (V.outside rt.now) V.Source.meaning asked.entry result.came (option_map (λ v. v.items) result.script) result.sources
         (stream (R.remaining reader.old) (R.remaining reader.new)) (stream (W.contents writer.old) (W.contents writer.new)) }
 {
     let begun = match begin(rt, &asked) {

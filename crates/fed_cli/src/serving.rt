@@ -9,7 +9,7 @@ ghost use Rattle.med_session.specs.Shows.{shown};
 ghost use Rattle.med_session.specs.World.{World};
 
 use crate::worlds::{fed_cursors_keep_their_tables, served_worlds_follow};
-use fdw_api::interface::Wrapper;
+use fdw_api::wishes::Wrapper2;
 use fed_output::{Sink, Source};
 use fed_stream::{Ended, StreamFault, serve_stream};
 use med_session::{Engine, Sources};
@@ -22,7 +22,7 @@ use std::alloc::Global;
 /// the text that was written, and to the world that the sources then stand for, whatever pieces the bytes
 /// came in. Every scan begun has been ended, and nothing is staged. `NoRoom` comes also where there is no
 /// room for a server: then nothing was read. Of the calls of a source and a sink that tell them it says what `serve_stream` does.
-pub fn serve_engine<B: Wrapper, R: Source, W: Sink>(
+pub fn serve_engine<B: Wrapper2, R: Source, W: Sink>(
     alloc: Global,
     engine: Engine<B>,
     reader: &mut R,

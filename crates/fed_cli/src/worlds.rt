@@ -16,14 +16,14 @@ ghost use Rattle.fed_stream.specs.Served.{Serves};
 ghost use Rattle.fed_stream.specs.Streams.{Stream};
 
 use cursor_runs::law::cursors_keep_their_tables;
-use fdw_api::interface::Wrapper;
+use fdw_api::wishes::Wrapper2;
 use session_wire::worlds::worlds_follow;
 
 /// The law of worlds: what `serve_stream` answers over an engine is, for each world that agrees with the
 /// engine before, what a run of worlds over the engine's boxes answers, and leads to a world that agrees
 /// with the engine after. A source's failure befalls a line only where a box counted a fault in that line,
 /// or its count stands at its end after it.
-pub fn served_worlds_follow<W: Wrapper>()
+pub fn served_worlds_follow<W: Wrapper2>()
     ensures { (old new : Engine W) (before : List ℕ)
         (left : Option (List ℕ)) (input output : Stream) (result : Result Ended StreamFault)
         → Serves (EngineSteps W.meaning) (EngineEnds W.meaning) old before new left input output result

@@ -13,7 +13,7 @@ use Rattle.fed_words.specs.declared.words.AskedRun.{AskedRun}
 use Rattle.fed_words.specs.declared.words.Service.TheVariants.{StandardInput, Connections}
 use Rattle.fed_words.specs.declared.words.WordsFault.{WordsFault}
 use Rattle.fed_cli.specs.Exits.{Runs, TellsText, TellsRun, TellsWords, Written}
-use Rattle.fed_setup.specs.Setup.{BeginsBy, BeginsNot, IsReadOf}
+use Rattle.fed_setup.specs.Setup.{Outside, BeginsBy, BeginsNot, IsReadOf}
 use Rattle.fed_output.specs.Outlets.{Outlet, FrontWritten}
 use Rattle.fed_stream.specs.Streams.{Stream, stream, IsUntouched}
 use Rattle.fed_cli.specs.Told.{run_status}
@@ -51,11 +51,11 @@ WritesListened (Err fault) result held holds old new = FrontWritten held holds o
 -- Connections to a port were served for what is asked, with this script, and it came to this: an engine with which the program begins,
 -- where every source is honest, served them, and once its sessions are closed its boxes are the last ones. Standard error got the lines of
 -- connections, and then the last one.
-pub record ServesPort {R S : Type 0} (honest : Bool) (remaining : R → Option (List ℕ)) (contents : S → Option (List ℕ)) (asked : AskedRun)
+pub record ServesPort {R S : Type 0} (outside : Outside) (remaining : R → Option (List ℕ)) (contents : S → Option (List ℕ)) (asked : AskedRun)
     (script : Option (List ℕ)) (last : List (Option BoxState)) (port count : ℕ) (came : Listened) (is_told : Bool)
     (output errors : Stream) : Type 0 where
   pub engine : Shown
-  pub begins : are_honest honest (places_asked asked) ≡ true → BeginsBy honest asked script engine
+  pub begins : are_honest outside.honest (places_asked asked) ≡ true → BeginsBy outside asked script engine
   pub after : Shown
   pub between : Option (List ℕ)
   pub listened : Bool
@@ -72,34 +72,34 @@ abbrev pub script_of : {W : Type 0} → Exit W → Option (List ℕ)
 script_of exit = option_map (λ v. v.items) exit.script
 
 -- so many connections to a port are asked, and the program exits so, with this done to standard output and standard error
-pub data ServesAsked {W R S : Type 0} (honest : Bool) (meaning : W → BoxState) (remaining : R → Option (List ℕ))
+pub data ServesAsked {W R S : Type 0} (outside : Outside) (meaning : W → BoxState) (remaining : R → Option (List ℕ))
     (contents : S → Option (List ℕ)) (asked : AskedRun) (port count : ℕ) (exit : Exit W) (output errors : Stream) : Type 0 where
   -- it did not begin, for this: nothing was listened to
-  has_not_begun : (fault : RunFault) → (are_honest honest (places_asked asked) ≡ true → BeginsNot honest asked (script_of exit) fault)
+  has_not_begun : (fault : RunFault) → (are_honest outside.honest (places_asked asked) ≡ true → BeginsNot outside asked (script_of exit) fault)
       → exit.sources ≡ None → IsUntouched output → exit.status ≡ run_status (Err fault) → TellsRun (Err fault) exit.is_told errors
-      → ServesAsked honest meaning remaining contents asked port count exit output errors
+      → ServesAsked outside meaning remaining contents asked port count exit output errors
   -- it did, and the sources are handed back
   has_begun : (sources : Sources W) → exit.sources ≡ Some sources → EachBox IsAtRest (states meaning sources.slots.items)
-      → IsReadOf asked.init (script_of exit) → (came : Listened)
-      → ServesPort honest remaining contents asked (script_of exit) (states meaning sources.slots.items) port count came exit.is_told
+      → IsReadOf outside asked.init (script_of exit) → (came : Listened)
+      → ServesPort outside remaining contents asked (script_of exit) (states meaning sources.slots.items) port count came exit.is_told
       output errors
-      → exit.status ≡ listen_status came → ServesAsked honest meaning remaining contents asked port count exit output errors
+      → exit.status ≡ listen_status came → ServesAsked outside meaning remaining contents asked port count exit output errors
 
 -- the program exits so on these words, with this done to standard input, standard output and standard error
-pub data Exits {W R S : Type 0} (honest : Bool) (meaning : W → BoxState) (remaining : R → Option (List ℕ)) (contents : S → Option (List ℕ))
+pub data Exits {W R S : Type 0} (outside : Outside) (meaning : W → BoxState) (remaining : R → Option (List ℕ)) (contents : S → Option (List ℕ))
     (words : List (List ℕ)) (exit : Exit W) (input output errors : Stream) : Type 0 where
   -- the words ask for a run
   has_run : (asked : AskedRun) → Reads words (Ok asked) → asked.service ≡ StandardInput → (came : Came)
-      → Runs honest meaning asked came (script_of exit) exit.sources input output → exit.status ≡ run_status came
-      → TellsRun came exit.is_told errors → Exits honest meaning remaining contents words exit input output errors
+      → Runs outside meaning asked came (script_of exit) exit.sources input output → exit.status ≡ run_status came
+      → TellsRun came exit.is_told errors → Exits outside meaning remaining contents words exit input output errors
   -- they ask for connections
   has_served : (asked : AskedRun) → Reads words (Ok asked) → (port count : ℕ) → asked.service ≡ Connections port count → IsUntouched input
-      → ServesAsked honest meaning remaining contents asked port count exit output errors
-      → Exits honest meaning remaining contents words exit input output errors
+      → ServesAsked outside meaning remaining contents asked port count exit output errors
+      → Exits outside meaning remaining contents words exit input output errors
   -- they do not ask for either
   has_refused : (fault : WordsFault) → Reads words (Err fault) → exit.sources ≡ None → exit.script ≡ None → IsUntouched input
       → TellsWords fault exit.is_told output errors → exit.status ≡ told_status fault exit.is_told
-      → Exits honest meaning remaining contents words exit input output errors
+      → Exits outside meaning remaining contents words exit input output errors
 
 -- the exit status where the environment gives no words, and the line on standard error
 abbrev pub args_status : ArgsFault → ℕ
@@ -112,12 +112,12 @@ args_line args.NoMemory = codes "fedq: out of memory\n"
 
 -- The program exits by this status on what its environment gives: so on its words, or, where they cannot be read, with nothing read of
 -- standard input, nothing written to standard output, and that line on standard error, or a front of it.
-pub data ExitsBy {W R S : Type 0} (honest : Bool) (meaning : W → BoxState)
+pub data ExitsBy {W R S : Type 0} (outside : Outside) (meaning : W → BoxState)
     (remaining : R → Option (List ℕ)) (contents : S → Option (List ℕ)) (words : Result (Vec (String Global) Global) ArgsFault) (status : ℕ)
     (input output errors : Stream) : Type 0 where
   on_words : (given : Vec (String Global) Global) → words ≡ Ok given → (exit : Exit W)
-      → Exits honest meaning remaining contents (map string_bytes given.items) exit input output errors
-      → status ≡ exit.status → ExitsBy honest meaning remaining contents words status input output errors
+      → Exits outside meaning remaining contents (map string_bytes given.items) exit input output errors
+      → status ≡ exit.status → ExitsBy outside meaning remaining contents words status input output errors
   on_none : (fault : ArgsFault) → words ≡ Err fault → IsUntouched input → IsUntouched output → status ≡ args_status fault
       → (is_told : Bool) → TellsText is_told errors (args_line fault)
-      → ExitsBy honest meaning remaining contents words status input output errors
+      → ExitsBy outside meaning remaining contents words status input output errors

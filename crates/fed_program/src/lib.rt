@@ -3,4 +3,4 @@
 
 pub mod program;
 
-pub use program::{ArgsFault, Exit, run, run_words, serve_asked};
+pub use program::{ArgsFault, Exit, run, run_on, run_words, serve_asked};

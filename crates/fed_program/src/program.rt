@@ -4,15 +4,19 @@ ghost use Rattle.med_session.specs.Requests.{IsUser};
 ghost use Rattle.fed_cli.specs.Exits.{TellsRun};
 ghost use Rattle.fed_stream.specs.Streams.{stream};
 ghost use Rattle.fed_cli.specs.Told.{run_status};
+ghost use Rattle.fed_setup.specs.Setup.{outside_of};
 ghost use Rattle.fed_program.specs.Exits.{Exits, ExitsBy, ServesAsked, WritesListened, listen_status};
 
+use blob_store::Disks;
 use fdw_api::interface::Wrapper;
 use fed_cli::program::run_asked;
 use fed_cli::telling::{tell_run, tell_words};
 use fed_cli::told::status;
 use fed_output::{GivenUp, Sink, write_front};
 use fed_serve::{ListenFault, listen_and_serve};
+use fed_setup::inputs::ReadsInputs;
 use fed_setup::program::{NotBegun, begin};
+use fed_setup::surroundings::Surroundings;
 use fed_tell::write_line;
 use fed_words::words::{AskedRun, Service, read_words};
 use itoa::Buffer;
@@ -21,7 +25,6 @@ use source_kinds::Source;
 use sqlite_databases::Databases;
 use std::io::{Read, Write};
 use std::net::Net;
-use std::rt::Files;
 
 /// How the program exits.
 #[derive(Drop)]
@@ -81,18 +84,18 @@ fn not_begun<'a, W: Drop, E: Sink>(refused: NotBegun<'a>, errors: &mut E) -> Exi
 /// `listen_and_serve` does. What it came to is told by one line on the second output, if not all were served.
 ///
 /// Where it does not begin, nothing is listened to and nothing is written to the first output.
-pub fn serve_asked<V: AllocGlobal + Files + Clone + Databases + Drop + Net, O: Write, E: Write>(
+pub fn serve_asked<V: AllocGlobal + Surroundings + Net, O: Write, E: Write>(
     rt: &V,
     asked: AskedRun<'_>,
     port: u16,
     count: u16,
     output: &mut O,
     errors: &mut E,
-) -> Exit<Source<V>>
+) -> Exit<V::Source>
     requires owner { IsUser asked.owner.now }
     requires port { 0 < port }
-    ensures { ServesAsked V.Store.SourceStore.honest ⟦<Source<V> as Wrapper>⟧.meaning V.Stream.remaining V.Stream.contents asked.entry
-        port count result (stream (O.contents output.old) (O.contents output.new))
+    ensures { ServesAsked (V.outside rt.now) V.Source.meaning
+        V.Stream.remaining V.Stream.contents asked.entry port count result (stream (O.contents output.old) (O.contents output.new))
         (stream (E.contents errors.old) (E.contents errors.new)) }
 {
     let begun = match begin(rt, &asked) {
@@ -111,14 +114,15 @@ pub fn serve_asked<V: AllocGlobal + Files + Clone + Databases + Drop + Net, O: W
 
 /// Does what the program's words ask: it answers an input on an output, or connections to a port, or prints help on the output, and tells
 /// on a second output how it failed.
-pub fn run_words<
-    V: AllocGlobal + Files + Clone + Databases + Drop + Net,
-    I: Read,
-    O: Write,
-    E: Write,
->(rt: &V, words: &[String], input: &mut I, output: &mut O, errors: &mut E) -> Exit<Source<V>>
-    ensures { Exits V.Store.SourceStore.honest ⟦<Source<V> as Wrapper>⟧.meaning V.Stream.remaining V.Stream.contents
-        (map string_bytes words.now) result
+pub fn run_words<V: AllocGlobal + Surroundings + Net, I: Read, O: Write, E: Write>(
+    rt: &V,
+    words: &[String],
+    input: &mut I,
+    output: &mut O,
+    errors: &mut E,
+) -> Exit<V::Source>
+    ensures { Exits (V.outside rt.now) V.Source.meaning
+        V.Stream.remaining V.Stream.contents (map string_bytes words.now) result
         (stream (I.remaining input.old) (I.remaining input.new)) (stream (O.contents output.old) (O.contents output.new))
         (stream (E.contents errors.old) (E.contents errors.new)) }
 {
@@ -164,14 +168,14 @@ pub enum ArgsFault {
 
 /// Runs the program with these words, and gives its exit status: 0 where the input ended or the help that was asked was written, 2 where
 /// the words are refused, and 1 else, with one line on standard error, but for help that could not be written.
-pub fn run<V: AllocGlobal + Files + Clone + Databases + Drop + Net, I: Read, O: Write, E: Write>(
+pub fn run<V: AllocGlobal + Surroundings + Net, I: Read, O: Write, E: Write>(
     rt: &V,
     words: Result<Vec<String>, ArgsFault>,
     input: &mut I,
     output: &mut O,
     errors: &mut E,
 ) -> u8
-    ensures { ExitsBy V.Store.SourceStore.honest ⟦<Source<V> as Wrapper>⟧.meaning V.Stream.remaining V.Stream.contents words result
+    ensures { ExitsBy (V.outside rt.now) V.Source.meaning V.Stream.remaining V.Stream.contents words result
         (stream (I.remaining input.old) (I.remaining input.new)) (stream (O.contents output.old) (O.contents output.new))
         (stream (E.contents errors.old) (E.contents errors.new)) }
 {
@@ -189,4 +193,21 @@ pub fn run<V: AllocGlobal + Files + Clone + Databases + Drop + Net, I: Read, O: 
             1
         }
     }
+}
+
+/// The same over a runtime, whose allocations, databases, disks, inputs and network the program takes: what it finds outside itself is what
+/// these tell.
+pub fn run_on<V: AllocGlobal + Databases + Disks + ReadsInputs + Net, I: Read, O: Write, E: Write>(
+    rt: &V,
+    words: Result<Vec<String>, ArgsFault>,
+    input: &mut I,
+    output: &mut O,
+    errors: &mut E,
+) -> u8
+    ensures { ExitsBy (outside_of V.Store.SourceStore.honest (V.Disks.stands rt.now) (V.inputs rt.now))
+        ⟦<Source<V> as Wrapper>⟧.meaning V.Stream.remaining V.Stream.contents words result
+        (stream (I.remaining input.old) (I.remaining input.new)) (stream (O.contents output.old) (O.contents output.new))
+        (stream (E.contents errors.old) (E.contents errors.new)) }
+{
+    run(rt, words, input, output, errors)
 }

@@ -13,7 +13,7 @@ ghost use Rattle.fed_replay.specs.Engines.{EngineCloses, SceneCloses};
 
 use crate::lines::{is_blank, next_line};
 use crate::refusals::refusal_in;
-use fdw_api::interface::Wrapper;
+use fdw_api::wishes::Wrapper2;
 use med_session::{Engine, Request, Sid};
 use med_value::Cause;
 use std::alloc::Global;
@@ -43,7 +43,7 @@ pub enum ScriptFault {
 ///
 /// `NotText` exactly where the script is not UTF-8: then nothing is done. `NoMemory` where a request is answered 53200, or memory is
 /// refused before it is begun. What was done is the same run of each world that agrees with the engine before.
-pub fn replay<W: Wrapper>(
+pub fn replay<W: Wrapper2>(
     alloc: Global,
     engine: &mut Engine<W>,
     owner: &str,
@@ -67,7 +67,7 @@ pub fn replay<W: Wrapper>(
 }
 
 // Opens the session, and runs the statements of a script in it.
-fn run<W: Wrapper>(
+fn run<W: Wrapper2>(
     alloc: Global,
     engine: &mut Engine<W>,
     owner: &str,
@@ -95,7 +95,7 @@ fn run<W: Wrapper>(
 }
 
 // Does one request of a replay, of the line of this number.
-fn request<W: Wrapper>(
+fn request<W: Wrapper2>(
     engine: &mut Engine<W>,
     number: u64,
     request: Request<'_>,

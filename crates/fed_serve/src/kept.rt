@@ -7,7 +7,7 @@ ghost use Rattle.med_session.specs.Engine.{IsSound, Agrees};
 ghost use Rattle.med_session.specs.Shows.{shown};
 ghost use Rattle.med_session.specs.World.{World};
 
-use fdw_api::interface::Wrapper;
+use fdw_api::wishes::Wrapper2;
 use fed_cli::worlds::served_worlds_follow;
 use fed_cli::{Ended, StreamFault, serve_stream};
 use fed_output::{Sink, Source};
@@ -21,7 +21,7 @@ use std::alloc::Global;
 /// For each world that agrees with the engine, the bytes that were read lead by a run of the SQL meaning to the text that was written,
 /// and to a world that, with its sessions ended, agrees with the engine that is handed back. `NoRoom` comes also where there is no room
 /// for a server: then nothing was read. Of the calls of a source and a sink that tell them it says what `serve_stream` does.
-pub fn serve_kept<B: Wrapper, R: Source, W: Sink>(
+pub fn serve_kept<B: Wrapper2, R: Source, W: Sink>(
     alloc: Global,
     engine: Engine<B>,
     reader: &mut R,

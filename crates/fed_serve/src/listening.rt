@@ -10,7 +10,7 @@ ghost use Rattle.med_session.specs.Engine.{IsSound};
 ghost use Rattle.med_session.specs.Shows.{shown};
 
 use crate::turns::{AcceptFault, Connections, Kept, serve_connections};
-use fdw_api::interface::Wrapper;
+use fdw_api::wishes::Wrapper2;
 use fed_output::{GivenUp, Sink, flush};
 use fed_tell::write_line;
 use itoa::Buffer;
@@ -102,7 +102,7 @@ fn local_address(port: u16) -> SocketAddr
 ///
 /// Of what peers send and get nothing can be said: they are others. Nothing is served where the port is not to be had or the line could
 /// not be written: then a front of it was, and where the output tells its calls one of them failed, or 4,294,967,295 were interrupted.
-pub fn listen_and_serve<B: Wrapper, V: AllocGlobal + Net, O: Sink, E: Sink>(
+pub fn listen_and_serve<B: Wrapper2, V: AllocGlobal + Net, O: Sink, E: Sink>(
     rt: &V,
     engine: Engine<B>,
     port: u16,

@@ -6,7 +6,7 @@ ghost use Rattle.med_session.specs.Engine.{IsSound};
 ghost use Rattle.med_session.specs.Shows.{shown};
 
 use crate::kept::serve_kept;
-use fdw_api::interface::Wrapper;
+use fdw_api::wishes::Wrapper2;
 use fed_cli::telling::tell_run;
 use fed_cli::told::told;
 use fed_output::Sink;
@@ -62,7 +62,7 @@ pub struct Kept<B, F> {
 ///
 /// Objects stay between connections, and sessions do not. A connection that ends otherwise than with its input is told by one line on
 /// `errors`, and the next is taken. Where no connection can be taken, no further one is.
-pub fn serve_connections<B: Wrapper, C: Connections, E: Sink>(
+pub fn serve_connections<B: Wrapper2, C: Connections, E: Sink>(
     alloc: Global,
     engine: Engine<B>,
     connections: &mut C,

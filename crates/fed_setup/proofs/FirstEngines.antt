@@ -18,7 +18,8 @@ use Rattle.med_session.specs.Adding.{AddCause}
 use Rattle.med_session.specs.declared.adding.AddFault.{AddFault}
 use Rattle.med_session.specs.declared.adding.AddFault.TheVariants as adding
 use Rattle.list_wrapper.specs.Lists.{IsNewList, list_objections}
-use Rattle.blob_store.specs.Shelves.{Shelf, nothing_known}
+use Rattle.blob_store.specs.Shelves.{Shelf}
+use Rattle.blob_store.specs.Files.{folder_shelf}
 use Rattle.csv_wrapper.specs.CsvBoxes.{IsNewCsv}
 use Rattle.jsonl_wrapper.specs.Boxes.{IsNewJsonl}
 use Rattle.session_wire.specs.Worlds.{Scene, SceneSteps}
@@ -27,7 +28,7 @@ use Rattle.fed_replay.specs.Engines.{SceneCloses}
 use Rattle.fed_replay.specs.declared.script.ScriptFault.{ScriptFault}
 use Rattle.fed_replay.specs.declared.script.ScriptFault.TheVariants as scripts
 use Rattle.fed_setup.specs.Demo.{demo_list, setup_script}
-use Rattle.fed_setup.specs.Setup.{over, empty_scene, HasList, HasPlaces, SetsUp, IsNewAt, IsNewPlace, AddsPlace, AddsPlaces, AddsNoDemo, IsNotAdded, AreNotAdded, IsFirst, HasNoFirst, HasListAsked, IsSetUp, IsNotSetUp, SetUpFails, list_asked, list_label, labels_before, place_label}
+use Rattle.fed_setup.specs.Setup.{Outside, over, empty_scene, HasList, HasPlaces, SetsUp, IsNewAt, IsNewPlace, AddsPlace, AddsPlaces, AddsNoDemo, IsNotAdded, AreNotAdded, IsFirst, HasNoFirst, HasListAsked, IsSetUp, IsNotSetUp, SetUpFails, list_asked, list_label, labels_before, place_label}
 use Rattle.sqlite_wrapper.specs.Kinds.{sqlite_kind}
 use Rattle.source_kinds.specs.Databases.{by_path, is_memory}
 use Rattle.fed_words.specs.Places.{Place, place_of, source_kind, is_honest_place, are_honest}
@@ -100,73 +101,73 @@ database_is_honest : (honest memory : Bool) (s : BoxState) → by_path honest me
 database_is_honest honest true s h trusted = h.1.honest_is
 database_is_honest honest false s h trusted = h.1.honest_is ∙ trusted
 
-honest_at : (honest : Bool) (kind : PlaceKind) (name path : List ℕ) (s : BoxState) → IsNewAt honest kind path s
-    → is_honest_place honest (record { kind = kind; name = name; path = path }) ≡ true → is_honest s
-honest_at honest Csv name path s h trusted = h.honest
-honest_at honest JsonLines name path s h trusted = h.honest
-honest_at honest Sqlite name path s h trusted = database_is_honest honest (is_memory path) s h trusted
+honest_at : (outside : Outside) (kind : PlaceKind) (name path : List ℕ) (s : BoxState) → IsNewAt outside kind path s
+    → is_honest_place outside.honest (record { kind = kind; name = name; path = path }) ≡ true → is_honest s
+honest_at outside Csv name path s h trusted = h.honest
+honest_at outside JsonLines name path s h trusted = h.honest
+honest_at outside Sqlite name path s h trusted = database_is_honest outside.honest (is_memory path) s h trusted
 
-place_added_as : (honest : Bool) (old new : Shown) (place : Place) (s : BoxState) → IsNewPlace honest place s → Adds old place.name (source_kind place.kind) s new
+place_added_as : (outside : Outside) (old new : Shown) (place : Place) (s : BoxState) → IsNewPlace outside place s → Adds old place.name (source_kind place.kind) s new
     → ((w : World) → Agrees old w → is_honest s → Agrees new (with_source w place.name (source_kind place.kind) s.nature.kind s.content.holdings))
-    → AddsPlace honest old place new
-place_added_as honest old new place s is_new adds world = record {
+    → AddsPlace outside old place new
+place_added_as outside old new place s is_new adds world = record {
   labels = ap (λ (e : Shown). e.labels) adds.is;
   could = (adds.name_free, adds.room);
   world = λ trusted w agrees. (
     with_source w place.name (source_kind place.kind) s.nature.kind s.content.holdings,
     record { box = s; is_new = is_new; world = refl; boxes = ap (λ (e : Shown). e.boxes) adds.is },
-    world w agrees (honest_at honest place.kind place.name place.path s is_new trusted),
+    world w agrees (honest_at outside place.kind place.name place.path s is_new trusted),
   );
 }
 
-pub place_added : (honest : Bool) (old new : Shown) (place : Place) (s : BoxState) (k : SourceKind) → k ≡ source_kind place.kind → IsNewPlace honest place s → Adds old place.name k s new
+pub place_added : (outside : Outside) (old new : Shown) (place : Place) (s : BoxState) (k : SourceKind) → k ≡ source_kind place.kind → IsNewPlace outside place s → Adds old place.name k s new
     → ((w : World) → Agrees old w → is_honest s → Agrees new (with_source w place.name k s.nature.kind s.content.holdings))
-    → AddsPlace honest old place new
-place_added honest old new place s k e is_new = subst
-    (λ q. Adds old place.name q s new → ((w : World) → Agrees old w → is_honest s → Agrees new (with_source w place.name q s.nature.kind s.content.holdings)) → AddsPlace honest old place new)
-    (sym e) (place_added_as honest old new place s is_new)
+    → AddsPlace outside old place new
+place_added outside old new place s k e is_new = subst
+    (λ q. Adds old place.name q s new → ((w : World) → Agrees old w → is_honest s → Agrees new (with_source w place.name q s.nature.kind s.content.holdings)) → AddsPlace outside old place new)
+    (sym e) (place_added_as outside old new place s is_new)
 
 -- what a new source takes, by the laws of its kind
 database_kind : (honest memory : Bool) (s : BoxState) → by_path honest memory s → s.nature.kind ≡ sqlite_kind
 database_kind honest true s h = h.1.kind
 database_kind honest false s h = h.1.kind
 
-pub place_takes : (honest : Bool) (kind : PlaceKind) (path : List ℕ) (s : BoxState) → IsNewAt honest kind path s
+pub place_takes : (outside : Outside) (kind : PlaceKind) (path : List ℕ) (s : BoxState) → IsNewAt outside kind path s
     → ((b : BoxState) (shelf : Shelf) → IsNewCsv b shelf → TakesAs sources.Csv b) → ((b : BoxState) (shelf : Shelf) → IsNewJsonl b shelf → TakesAs sources.JsonLines b)
     → ((b : BoxState) → b.nature.kind ≡ sqlite_kind → TakesAs sources.Sqlite b) → TakesAs (source_kind kind) s
-place_takes honest Csv path s h csv jsonl sqlite = csv s (nothing_known 0) h
-place_takes honest JsonLines path s h csv jsonl sqlite = jsonl s (nothing_known 0) h
-place_takes honest Sqlite path s h csv jsonl sqlite = sqlite s (database_kind honest (is_memory path) s h)
+place_takes outside Csv path s h csv jsonl sqlite = csv s (folder_shelf outside.files path 0) h
+place_takes outside JsonLines path s h csv jsonl sqlite = jsonl s (folder_shelf outside.files path 0) h
+place_takes outside Sqlite path s h csv jsonl sqlite = sqlite s (database_kind outside.honest (is_memory path) s h)
 
 -- of several the first is added, and then the others
-pub adds_none : (honest : Bool) (e : Shown) (all : List Place) → all ≡ [] → AddsPlaces honest e all e
-adds_none honest e all is = record { world = λ trusted w agrees. (w, subst (λ fs. HasPlaces honest (over e w) fs (over e w)) (sym is) refl, agrees) }
+pub adds_none : (outside : Outside) (e : Shown) (all : List Place) → all ≡ [] → AddsPlaces outside e all e
+adds_none outside e all is = record { world = λ trusted w agrees. (w, subst (λ fs. HasPlaces outside (over e w) fs (over e w)) (sym is) refl, agrees) }
 
 both : (a b : Bool) → (a && b) ≡ true → (a ≡ true) × (b ≡ true)
 both true b e = (refl, e)
 both false b e = absurd cc
 
-pub adds_first : (honest : Bool) (old mid new : Shown) (f : Place) (all rest : List Place) → all ≡ f ∷ rest → AddsPlace honest old f mid → AddsPlaces honest mid rest new → AddsPlaces honest old all new
-adds_first honest old mid new f all rest is one more = record {
+pub adds_first : (outside : Outside) (old mid new : Shown) (f : Place) (all rest : List Place) → all ≡ f ∷ rest → AddsPlace outside old f mid → AddsPlaces outside mid rest new → AddsPlaces outside old all new
+adds_first outside old mid new f all rest is one more = record {
   world = λ trusted w agrees.
-      let each = both (is_honest_place honest f) (are_honest honest rest) (subst (λ fs. are_honest honest fs ≡ true) is trusted) in
+      let each = both (is_honest_place outside.honest f) (are_honest outside.honest rest) (subst (λ fs. are_honest outside.honest fs ≡ true) is trusted) in
       let here = one.world each.0 w agrees in
       let then = more.world each.1 here.0 here.2 in
-      (then.0, subst (λ fs. HasPlaces honest (over old w) fs (over new then.0)) (sym is) (over mid here.0, here.1, then.1), then.2);
+      (then.0, subst (λ fs. HasPlaces outside (over old w) fs (over new then.0)) (sym is) (over mid here.0, here.1, then.1), then.2);
 }
 
-pub adds_more : (honest : Bool) {T E : Type 0} (r : Result T E) (old mid new : Shown) (f : Place) (all rest : List Place) → all ≡ f ∷ rest → AddsPlace honest old f mid
-    → OnOk r (AddsPlaces honest mid rest new) → OnOk r (AddsPlaces honest old all new)
-adds_more honest (Ok x) old mid new f all rest is one more = adds_first honest old mid new f all rest is one more
-adds_more honest (Err x) old mid new f all rest is one more = tt
+pub adds_more : (outside : Outside) {T E : Type 0} (r : Result T E) (old mid new : Shown) (f : Place) (all rest : List Place) → all ≡ f ∷ rest → AddsPlace outside old f mid
+    → OnOk r (AddsPlaces outside mid rest new) → OnOk r (AddsPlaces outside old all new)
+adds_more outside (Ok x) old mid new f all rest is one more = adds_first outside old mid new f all rest is one more
+adds_more outside (Err x) old mid new f all rest is one more = tt
 
 -- or one is not
 pub fails_first : (labels : List Label) (f : Place) (all rest : List Place) (fault : RunFault) → all ≡ f ∷ rest → IsNotAdded labels f fault → AreNotAdded labels all fault
 fails_first labels f all rest fault is h = subst (λ fs. AreNotAdded labels fs fault) (sym is) (inl h)
 
-pub fails_later : (honest : Bool) (old mid : Shown) (f : Place) (all rest : List Place) (fault : RunFault) → all ≡ f ∷ rest → AddsPlace honest old f mid → AreNotAdded mid.labels rest fault
+pub fails_later : (outside : Outside) (old mid : Shown) (f : Place) (all rest : List Place) (fault : RunFault) → all ≡ f ∷ rest → AddsPlace outside old f mid → AreNotAdded mid.labels rest fault
     → AreNotAdded old.labels all fault
-fails_later honest old mid f all rest fault is one h =
+fails_later outside old mid f all rest fault is one h =
     subst (λ fs. AreNotAdded old.labels fs fault) (sym is) (inr (one.could, subst (λ ls. AreNotAdded ls rest fault) one.labels h))
 
 pub place_not_added : (labels : List Label) (asked : AskedPlace) (fault : AddFault) (told : RunFault) → told ≡ added_of asked.name fault
@@ -244,9 +245,9 @@ list_needs_memory labels name fault none (adding.TooMany, e, h) = absurd (not_ma
 
 -- ---- the first engine
 
-pub first_made : (honest : Bool) (owner : List ℕ) (list : Option (List ℕ)) (places : List Place) (old listed before first : Scene) → old ≡ empty_scene owner
-    → HasListAsked old list listed → HasPlaces honest listed places before → IsSetUp before owner list first → IsFirst honest owner list places first
-first_made honest owner list places old listed before first empty has_list has_places set = record {
+pub first_made : (outside : Outside) (owner : List ℕ) (list : Option (List ℕ)) (places : List Place) (old listed before first : Scene) → old ≡ empty_scene owner
+    → HasListAsked old list listed → HasPlaces outside listed places before → IsSetUp before owner list first → IsFirst outside owner list places first
+first_made outside owner list places old listed before first empty has_list has_places set = record {
   before = before;
   has_sources = record { listed = listed; has_list = subst (λ s. HasListAsked s list listed) empty has_list; has_places = has_places };
   is_set_up = set;
@@ -258,14 +259,14 @@ no_other fault none labels [] h = h
 no_other fault none labels (f ∷ fs) (inl h) = none labels f h
 no_other fault none labels (f ∷ fs) (inr h) = no_other fault none (labels ++ place_label f ∷ []) fs h.1
 
-pub no_memory : (honest : Bool) (asked : AskedRun) (fault : RunFault) → fault ≡ faults.NoMemory → HasNoFirst honest asked fault
-no_memory honest asked fault e = subst (HasNoFirst honest asked) (sym e) tt
+pub no_memory : (outside : Outside) (asked : AskedRun) (fault : RunFault) → fault ≡ faults.NoMemory → HasNoFirst outside asked fault
+no_memory outside asked fault e = subst (HasNoFirst outside asked) (sym e) tt
 
-pub places_fail : (honest : Bool) (asked : AskedRun) (labels : List Label) (fault : RunFault) → labels ≡ labels_before (list_asked asked) → AreNotAdded labels (places_asked asked) fault
-    → HasNoFirst honest asked fault
-places_fail honest asked labels fault e h = by fault (subst (λ ls. AreNotAdded ls (places_asked asked) fault) e h)
+pub places_fail : (outside : Outside) (asked : AskedRun) (labels : List Label) (fault : RunFault) → labels ≡ labels_before (list_asked asked) → AreNotAdded labels (places_asked asked) fault
+    → HasNoFirst outside asked fault
+places_fail outside asked labels fault e h = by fault (subst (λ ls. AreNotAdded ls (places_asked asked) fault) e h)
   where
-    by : (f : RunFault) → AreNotAdded (labels_before (list_asked asked)) (places_asked asked) f → HasNoFirst honest asked f
+    by : (f : RunFault) → AreNotAdded (labels_before (list_asked asked)) (places_asked asked) f → HasNoFirst outside asked f
     by faults.NoMemory p = tt
     by (faults.NameTaken told) p = p
     by (faults.TooManySources told) p = p
@@ -278,27 +279,27 @@ places_fail honest asked labels fault e h = by fault (subst (λ ls. AreNotAdded 
     by faults.InitNotText p = no_other faults.InitNotText (λ ls f q. q) _ _ p
     by (faults.InitLine number cause) p = no_other (faults.InitLine number cause) (λ ls f q. q) _ _ p
 
-pub places_fail_as : (honest : Bool) (asked : AskedRun) (labels : List Label) (fs : List Place) (fault : RunFault) → fs ≡ places_asked asked → labels ≡ labels_before (list_asked asked)
-    → AreNotAdded labels fs fault → HasNoFirst honest asked fault
-places_fail_as honest asked labels fs fault is e h = places_fail honest asked labels fault e (subst (λ l. AreNotAdded labels l fault) is h)
+pub places_fail_as : (outside : Outside) (asked : AskedRun) (labels : List Label) (fs : List Place) (fault : RunFault) → fs ≡ places_asked asked → labels ≡ labels_before (list_asked asked)
+    → AreNotAdded labels fs fault → HasNoFirst outside asked fault
+places_fail_as outside asked labels fs fault is e h = places_fail outside asked labels fault e (subst (λ l. AreNotAdded labels l fault) is h)
 
-pub adds_as : (honest : Bool) (old new : Shown) (fs gs : List Place) → fs ≡ gs → AddsPlaces honest old fs new → AddsPlaces honest old gs new
-adds_as honest old new fs gs is adds = subst (λ l. AddsPlaces honest old l new) is adds
+pub adds_as : (outside : Outside) (old new : Shown) (fs gs : List Place) → fs ≡ gs → AddsPlaces outside old fs new → AddsPlaces outside old gs new
+adds_as outside old new fs gs is adds = subst (λ l. AddsPlaces outside old l new) is adds
 
-pub set_up_fails : (honest : Bool) (asked : AskedRun) (old listed before : Scene) (fault : RunFault) → old ≡ empty_scene asked.owner.now → HasListAsked old (list_asked asked) listed
-    → HasPlaces honest listed (places_asked asked) before → SetUpFails before asked.owner.now asked.list fault → HasNoFirst honest asked fault
-set_up_fails honest asked old listed before faults.NoMemory empty l fs h = tt
-set_up_fails honest asked old listed before (faults.CannotOpen told) empty l fs h =
+pub set_up_fails : (outside : Outside) (asked : AskedRun) (old listed before : Scene) (fault : RunFault) → old ≡ empty_scene asked.owner.now → HasListAsked old (list_asked asked) listed
+    → HasPlaces outside listed (places_asked asked) before → SetUpFails before asked.owner.now asked.list fault → HasNoFirst outside asked fault
+set_up_fails outside asked old listed before faults.NoMemory empty l fs h = tt
+set_up_fails outside asked old listed before (faults.CannotOpen told) empty l fs h =
     inr (h.0, (before, record { listed = listed; has_list = subst (λ s. HasListAsked s (list_asked asked) listed) empty l; has_places = fs }, h.1))
-set_up_fails honest asked old listed before (faults.NameTaken told) empty l fs h = absurd h
-set_up_fails honest asked old listed before (faults.TooManySources told) empty l fs h = absurd h
-set_up_fails honest asked old listed before faults.Read empty l fs h = h
-set_up_fails honest asked old listed before faults.Write empty l fs h = h
-set_up_fails honest asked old listed before faults.TooManyReads empty l fs h = h
-set_up_fails honest asked old listed before faults.ProtocolViolation empty l fs h = h
-set_up_fails honest asked old listed before (faults.CannotReadInit told) empty l fs h = h
-set_up_fails honest asked old listed before faults.InitNotText empty l fs h = h
-set_up_fails honest asked old listed before (faults.InitLine number cause) empty l fs h = h
+set_up_fails outside asked old listed before (faults.NameTaken told) empty l fs h = absurd h
+set_up_fails outside asked old listed before (faults.TooManySources told) empty l fs h = absurd h
+set_up_fails outside asked old listed before faults.Read empty l fs h = h
+set_up_fails outside asked old listed before faults.Write empty l fs h = h
+set_up_fails outside asked old listed before faults.TooManyReads empty l fs h = h
+set_up_fails outside asked old listed before faults.ProtocolViolation empty l fs h = h
+set_up_fails outside asked old listed before (faults.CannotReadInit told) empty l fs h = h
+set_up_fails outside asked old listed before faults.InitNotText empty l fs h = h
+set_up_fails outside asked old listed before (faults.InitLine number cause) empty l fs h = h
 
 -- the list is set up, or none is asked
 pub set_up_none : (list : Option (Bor (List ℕ))) (old : Scene) (owner : List ℕ) → ((x : Bor (List ℕ)) → list ≡ Some x → ⊥) → IsSetUp old owner (option_map (λ s. s.now) list) old
@@ -309,9 +310,17 @@ pub set_up_done : (list : Option (Bor (List ℕ))) (name : Bor (List ℕ)) (old 
     → script ≡ setup_script name.now → came ≡ Ok count → Replays SceneSteps SceneCloses old owner script came new → IsSetUp old owner (option_map (λ s. s.now) list) new
 set_up_done list name old new owner script count came is text e replays =
     subst (λ p. IsSetUp old owner (option_map (λ s. s.now) p) new) (sym is)
-    (count, subst (λ r. Replays SceneSteps SceneCloses old owner (setup_script name.now) r new) e (subst (λ s. Replays SceneSteps SceneCloses old owner s came new) text replays))
+    (record {
+      count = count;
+      replays = subst (λ r. Replays SceneSteps SceneCloses old owner (setup_script name.now) r new) e (subst (λ s. Replays SceneSteps SceneCloses old owner s came new) text replays);
+    })
 
 pub set_up_refused : (name : Bor (List ℕ)) (old new : Scene) (owner script : List ℕ) (why : ScriptFault) (came : Result ℕ ScriptFault)
     → script ≡ setup_script name.now → came ≡ Err why → why ≢ scripts.NoMemory → Replays SceneSteps SceneCloses old owner script came new → IsNotSetUp old owner name.now
 set_up_refused name old new owner script why came text e other replays =
-    (why, other, (new, subst (λ r. Replays SceneSteps SceneCloses old owner (setup_script name.now) r new) e (subst (λ s. Replays SceneSteps SceneCloses old owner s came new) text replays)))
+    record {
+      why = why;
+      other = other;
+      new = new;
+      replays = subst (λ r. Replays SceneSteps SceneCloses old owner (setup_script name.now) r new) e (subst (λ s. Replays SceneSteps SceneCloses old owner s came new) text replays);
+    }

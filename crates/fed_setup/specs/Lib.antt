@@ -1,3 +1,4 @@
 pub mod Demo
+pub mod Inputs
 pub mod Setup
 pub mod Told

@@ -1,5 +1,5 @@
 -- What a program begins with: the demo list, folders and databases as sources, the set-up of the list by a script, and the replay of its
--- init file. Of databases in files all is said by whether their store is honest: always returns what was written.
+-- init file.
 use Rattle.std.specs.Prelude.{◌≡◌, ◌≢◌, ◌<◌, ◌⊎◌, ℕ, Bool, true, List, [], ◌∷◌, ◌++◌, length}
 use Rattle.std.specs.Prelude.{Option, Some, None, option_map, Result, Ok, Err}
 use Rattle.std.specs.Borrow.{Bor}
@@ -8,7 +8,9 @@ use Rattle.med_catalog.specs.declared.kind.SourceKind.TheVariants as kinds
 use Rattle.med_world.specs.Adding.{HasSource}
 use Rattle.med_world.specs.Engine.{Label, Shown, Agrees}
 use Rattle.med_world.specs.World.{World, empty_world, with_source}
-use Rattle.blob_store.specs.Shelves.{nothing_known}
+use Rattle.blob_store.specs.Drives.{Drive}
+use Rattle.blob_store.specs.Files.{folder_shelf}
+use Rattle.blob_store.specs.Known.{Sure}
 use Rattle.list_wrapper.specs.Lists.{IsNewList}
 use Rattle.csv_wrapper.specs.CsvBoxes.{IsNewCsv}
 use Rattle.jsonl_wrapper.specs.Boxes.{IsNewJsonl}
@@ -18,6 +20,7 @@ use Rattle.fed_replay.specs.Engines.{SceneCloses}
 use Rattle.fed_replay.specs.declared.script.ScriptFault.{ScriptFault}
 use Rattle.fed_replay.specs.declared.script.ScriptFault.TheVariants as scripts
 use Rattle.fed_setup.specs.Demo.{demo_list, setup_script}
+use Rattle.fed_setup.specs.Inputs.{Inputs}
 use Rattle.source_kinds.specs.Databases.{IsNewDatabase}
 use Rattle.fed_words.specs.Places.{Place, source_kind, are_honest, is_honest_place}
 use Rattle.fed_setup.specs.Told.{Came, replay_told}
@@ -27,6 +30,16 @@ use Rattle.fed_words.specs.declared.places.PlaceKind.TheVariants.{Csv, JsonLines
 use Rattle.fed_words.specs.declared.words.AskedRun.{AskedRun}
 use Rattle.fed_setup.specs.declared.told.RunFault.{RunFault}
 use Rattle.fed_setup.specs.declared.told.RunFault.TheVariants as faults
+
+-- What a program finds outside itself: whether the store of its databases in files is honest, always returning what was written; and what
+-- stands on its disks, and what reading a path to its end gives, where that is known.
+pub record Outside : Type 0 where
+  pub honest : Bool
+  pub files : Option Drive
+  pub inputs : Option Inputs
+
+abbrev pub outside_of : Bool → Option Drive → Option Inputs → Outside
+outside_of honest files inputs = record { honest = honest; files = files; inputs = inputs }
 
 -- a world over the boxes that an engine shows
 abbrev pub over : Shown → World → Scene
@@ -58,27 +71,27 @@ HasDemo old owner name new = (count : ℕ) × SetsUp old owner name (Ok count) n
 abbrev pub LacksDemo : Scene → List ℕ → List ℕ → Type 0
 LacksDemo old owner name = (why : ScriptFault) × (why ≢ scripts.NoMemory) × ((new : Scene) × SetsUp old owner name (Err why) new)
 
--- what stands at a path as a new source: nothing is known of what a folder holds, or a database in a file; nothing is bound, live or
--- staged, and nothing is counted
-abbrev pub IsNewAt : Bool → PlaceKind → List ℕ → BoxState → Type 0
-IsNewAt honest Csv path s = IsNewCsv s (nothing_known 0)
-IsNewAt honest JsonLines path s = IsNewJsonl s (nothing_known 0)
-IsNewAt honest Sqlite path s = IsNewDatabase honest path s
+-- what stands at a path as a new source: the files of the folder at this path, as far as it is known which stand there, or the database;
+-- nothing is known of what a database in a file holds; nothing is bound, live or staged, and nothing is counted
+abbrev pub IsNewAt : Outside → PlaceKind → List ℕ → BoxState → Type 0
+IsNewAt outside Csv path s = IsNewCsv s (folder_shelf outside.files path 0)
+IsNewAt outside JsonLines path s = IsNewJsonl s (folder_shelf outside.files path 0)
+IsNewAt outside Sqlite path s = IsNewDatabase outside.honest path s
 
-abbrev pub IsNewPlace : Bool → Place → BoxState → Type 0
-IsNewPlace honest place s = IsNewAt honest place.kind place.path s
+abbrev pub IsNewPlace : Outside → Place → BoxState → Type 0
+IsNewPlace outside place s = IsNewAt outside place.kind place.path s
 
 -- the source of this name is what stands at this place, which is free, and its box stands last
-pub record HasPlace (honest : Bool) (old : Scene) (place : Place) (new : Scene) : Type 0 where
+pub record HasPlace (outside : Outside) (old : Scene) (place : Place) (new : Scene) : Type 0 where
   pub box : BoxState
-  pub is_new : IsNewPlace honest place box
+  pub is_new : IsNewPlace outside place box
   pub world : new.world ≡ with_source old.world place.name (source_kind place.kind) box.nature.kind box.content.holdings
   pub boxes : new.boxes ≡ old.boxes ++ Some box ∷ []
 
 -- each of these is, in order
-abbrev pub HasPlaces : Bool → Scene → List Place → Scene → Type 0
-HasPlaces honest old [] new = new ≡ old
-HasPlaces honest old (f ∷ fs) new = (mid : Scene) × HasPlace honest old f mid × HasPlaces honest mid fs new
+abbrev pub HasPlaces : Outside → Scene → List Place → Scene → Type 0
+HasPlaces outside old [] new = new ≡ old
+HasPlaces outside old (f ∷ fs) new = (mid : Scene) × HasPlace outside old f mid × HasPlaces outside mid fs new
 
 -- the list is, if one is asked
 abbrev pub HasListAsked : Scene → Option (List ℕ) → Scene → Type 0
@@ -86,27 +99,33 @@ HasListAsked old None new = new ≡ old
 HasListAsked old (Some name) new = HasList old name new
 
 -- the list is, if one is asked, and then the folders and databases are
-pub record HasSources (honest : Bool) (old : Scene) (list : Option (List ℕ)) (places : List Place) (new : Scene) : Type 0 where
+pub record HasSources (outside : Outside) (old : Scene) (list : Option (List ℕ)) (places : List Place) (new : Scene) : Type 0 where
   pub listed : Scene
   pub has_list : HasListAsked old list listed
-  pub has_places : HasPlaces honest listed places new
+  pub has_places : HasPlaces outside listed places new
 
--- the owner's replay of the set-up of the list, if one is asked, leads there, and every line of it is done
+-- the owner's replay of the set-up of the list of this name leads there, and every line of it is done
+pub record SetsUpList (old : Scene) (owner name : List ℕ) (new : Scene) : Type 0 where
+  pub count : ℕ
+  pub replays : Replays SceneSteps SceneCloses old owner (setup_script name) (Ok count) new
+
+-- the same if one is asked
 abbrev pub IsSetUp : Scene → List ℕ → Option (List ℕ) → Scene → Type 0
 IsSetUp old owner None new = new ≡ old
-IsSetUp old owner (Some name) new = (count : ℕ) × Replays SceneSteps SceneCloses old owner (setup_script name) (Ok count) new
+IsSetUp old owner (Some name) new = SetsUpList old owner name new
 
 -- a line of the set-up of the list of this name is refused, and not for want of memory
-abbrev pub IsNotSetUp : Scene → List ℕ → List ℕ → Type 0
-IsNotSetUp old owner name =
-    (why : ScriptFault) × (why ≢ scripts.NoMemory)
-    × ((new : Scene) × Replays SceneSteps SceneCloses old owner (setup_script name) (Err why) new)
+pub record IsNotSetUp (old : Scene) (owner name : List ℕ) : Type 0 where
+  pub why : ScriptFault
+  pub other : why ≢ scripts.NoMemory
+  pub new : Scene
+  pub replays : Replays SceneSteps SceneCloses old owner (setup_script name) (Err why) new
 
 -- What a program of this owner begins with: from nothing at all the demo list as the source of this name, if one is asked, and these
 -- folders and databases as sources; and then the set-up of the list.
-pub record IsFirst (honest : Bool) (owner : List ℕ) (list : Option (List ℕ)) (places : List Place) (first : Scene) : Type 0 where
+pub record IsFirst (outside : Outside) (owner : List ℕ) (list : Option (List ℕ)) (places : List Place) (first : Scene) : Type 0 where
   pub before : Scene
-  pub has_sources : HasSources honest (empty_scene owner) list places before
+  pub has_sources : HasSources outside (empty_scene owner) list places before
   pub is_set_up : IsSetUp before owner list first
 
 -- why the list, if one is asked, is not set up from here as this owner: memory was refused, or a line of it
@@ -176,16 +195,16 @@ AddsNoDemo old owner labels name (faults.InitLine number cause) = ⊥
 
 -- An engine that stands for a world stands for the one with this source besides, where it is honest: its box stands last, and it could be
 -- added.
-pub record AddsPlace (honest : Bool) (old : Shown) (place : Place) (new : Shown) : Type 0 where
+pub record AddsPlace (outside : Outside) (old : Shown) (place : Place) (new : Shown) : Type 0 where
   pub labels : new.labels ≡ old.labels ++ place_label place ∷ []
   pub could : CanBeAdded old.labels place
-  pub world : is_honest_place honest place ≡ true → (w : World) → Agrees old w
-      → (after : World) × HasPlace honest (over old w) place (over new after) × Agrees new after
+  pub world : is_honest_place outside.honest place ≡ true → (w : World) → Agrees old w
+      → (after : World) × HasPlace outside (over old w) place (over new after) × Agrees new after
 
 -- the same of each of these, in order
-pub record AddsPlaces (honest : Bool) (old : Shown) (places : List Place) (new : Shown) : Type 0 where
-  pub world : are_honest honest places ≡ true → (w : World) → Agrees old w
-      → (after : World) × HasPlaces honest (over old w) places (over new after) × Agrees new after
+pub record AddsPlaces (outside : Outside) (old : Shown) (places : List Place) (new : Shown) : Type 0 where
+  pub world : are_honest outside.honest places ≡ true → (w : World) → Agrees old w
+      → (after : World) × HasPlaces outside (over old w) places (over new after) × Agrees new after
 
 -- the name of the list that is asked, if one is
 abbrev pub list_asked : AskedRun → Option (List ℕ)
@@ -197,28 +216,29 @@ PlacesFail asked fault = AreNotAdded (labels_before (list_asked asked)) (places_
 
 -- Why a program has no first world: memory was refused; a source is not added, and why; or, all sources being added, a line of
 -- the set-up of its list was refused.
-abbrev pub HasNoFirst : Bool → AskedRun → RunFault → Type 0
-HasNoFirst honest asked faults.NoMemory = Unit {0}
-HasNoFirst honest asked (faults.NameTaken told) = PlacesFail asked (faults.NameTaken told)
-HasNoFirst honest asked (faults.TooManySources told) = PlacesFail asked (faults.TooManySources told)
-HasNoFirst honest asked (faults.CannotOpen told) =
+abbrev pub HasNoFirst : Outside → AskedRun → RunFault → Type 0
+HasNoFirst outside asked faults.NoMemory = Unit {0}
+HasNoFirst outside asked (faults.NameTaken told) = PlacesFail asked (faults.NameTaken told)
+HasNoFirst outside asked (faults.TooManySources told) = PlacesFail asked (faults.TooManySources told)
+HasNoFirst outside asked (faults.CannotOpen told) =
     PlacesFail asked (faults.CannotOpen told)
     ⊎ ((asked.list ≡ Some told)
-    × ((before : Scene) × HasSources honest (empty_scene asked.owner.now) (list_asked asked) (places_asked asked) before
+    × ((before : Scene) × HasSources outside (empty_scene asked.owner.now) (list_asked asked) (places_asked asked) before
     × IsNotSetUp before asked.owner.now told.now))
-HasNoFirst honest asked faults.Read = ⊥
-HasNoFirst honest asked faults.Write = ⊥
-HasNoFirst honest asked faults.TooManyReads = ⊥
-HasNoFirst honest asked faults.ProtocolViolation = ⊥
-HasNoFirst honest asked (faults.CannotReadInit told) = ⊥
-HasNoFirst honest asked faults.InitNotText = ⊥
-HasNoFirst honest asked (faults.InitLine number cause) = ⊥
+HasNoFirst outside asked faults.Read = ⊥
+HasNoFirst outside asked faults.Write = ⊥
+HasNoFirst outside asked faults.TooManyReads = ⊥
+HasNoFirst outside asked faults.ProtocolViolation = ⊥
+HasNoFirst outside asked (faults.CannotReadInit told) = ⊥
+HasNoFirst outside asked faults.InitNotText = ⊥
+HasNoFirst outside asked (faults.InitLine number cause) = ⊥
 
--- bytes of an init file were read exactly where one is asked
-abbrev pub IsReadOf : Option (Bor (List ℕ)) → Option (List ℕ) → Type 0
-IsReadOf None None = Unit {0}
-IsReadOf (Some path) (Some script) = Unit {0}
-IsReadOf _ _ = ⊥
+-- bytes of an init file were read exactly where one is asked, and they are those that reading its path to its end gives, where that is
+-- known
+abbrev pub IsReadOf : Outside → Option (Bor (List ℕ)) → Option (List ℕ) → Type 0
+IsReadOf outside None None = Unit {0}
+IsReadOf outside (Some path) (Some script) = Sure outside.inputs (λ known. known path.now ≡ Some script)
+IsReadOf outside _ _ = ⊥
 
 -- why they could not be read: memory was refused, or the file could not be
 abbrev pub ReadsNot : Option (Bor (List ℕ)) → RunFault → Type 0
@@ -234,38 +254,39 @@ ReplaysInit first owner (Some script) came after =
 
 -- What the beginning of a program comes to, and where it leads: its first world and boxes are made, and then its owner replays the script
 -- of its init file.
-pub record Begins (honest : Bool) (owner : List ℕ) (source : Option (List ℕ)) (places : List Place) (script : Option (List ℕ)) (came : Came)
+pub record Begins (outside : Outside) (owner : List ℕ) (source : Option (List ℕ)) (places : List Place) (script : Option (List ℕ)) (came : Came)
     (after : Scene) : Type 0 where
   pub first : Scene
-  pub is_first : IsFirst honest owner source places first
+  pub is_first : IsFirst outside owner source places first
   pub replays : ReplaysInit first owner script came after
 
 -- A program begins for what is asked with an engine that shows this, and with this script: the engine stands for a world to which its
 -- beginning leads.
-pub record BeginsBy (honest : Bool) (asked : AskedRun) (script : Option (List ℕ)) (engine : Shown) : Type 0 where
+pub record BeginsBy (outside : Outside) (asked : AskedRun) (script : Option (List ℕ)) (engine : Shown) : Type 0 where
   pub world : World
-  pub begins : Begins honest asked.owner.now (list_asked asked) (places_asked asked) script (Ok tt) (over engine world)
+  pub begins : Begins outside asked.owner.now (list_asked asked) (places_asked asked) script (Ok tt) (over engine world)
   pub agrees : Agrees engine world
 
 -- it comes to this for what is asked, with this script
-abbrev pub BeginsAsked : Bool → AskedRun → Option (List ℕ) → Came → Type 0
-BeginsAsked honest asked script came =
-    (after : Scene) × Begins honest asked.owner.now (list_asked asked) (places_asked asked) script came after
+abbrev pub BeginsAsked : Outside → AskedRun → Option (List ℕ) → Came → Type 0
+BeginsAsked outside asked script came =
+    (after : Scene) × Begins outside asked.owner.now (list_asked asked) (places_asked asked) script came after
 
 -- Why a program does not begin, of whose init file these bytes were read: it has no first world, its init file could not be read once its
 -- first world was made, or its replay came to that fault.
-abbrev pub BeginsNot : Bool → AskedRun → Option (List ℕ) → RunFault → Type 0
-BeginsNot honest asked script faults.NoMemory = Unit {0}
-BeginsNot honest asked script (faults.NameTaken told) = HasNoFirst honest asked (faults.NameTaken told)
-BeginsNot honest asked script (faults.TooManySources told) = HasNoFirst honest asked (faults.TooManySources told)
-BeginsNot honest asked script (faults.CannotOpen told) = HasNoFirst honest asked (faults.CannotOpen told)
-BeginsNot honest asked script (faults.CannotReadInit told) =
+abbrev pub BeginsNot : Outside → AskedRun → Option (List ℕ) → RunFault → Type 0
+BeginsNot outside asked script faults.NoMemory = Unit {0}
+BeginsNot outside asked script (faults.NameTaken told) = HasNoFirst outside asked (faults.NameTaken told)
+BeginsNot outside asked script (faults.TooManySources told) = HasNoFirst outside asked (faults.TooManySources told)
+BeginsNot outside asked script (faults.CannotOpen told) = HasNoFirst outside asked (faults.CannotOpen told)
+BeginsNot outside asked script (faults.CannotReadInit told) =
     (asked.init ≡ Some told) × (script ≡ None)
-    × ((first : Scene) × IsFirst honest asked.owner.now (list_asked asked) (places_asked asked) first)
-BeginsNot honest asked script faults.InitNotText = IsReadOf asked.init script × BeginsAsked honest asked script (Err faults.InitNotText)
-BeginsNot honest asked script (faults.InitLine number cause) =
-    IsReadOf asked.init script × BeginsAsked honest asked script (Err (faults.InitLine number cause))
-BeginsNot honest asked script faults.Read = ⊥
-BeginsNot honest asked script faults.Write = ⊥
-BeginsNot honest asked script faults.TooManyReads = ⊥
-BeginsNot honest asked script faults.ProtocolViolation = ⊥
+    × ((first : Scene) × IsFirst outside asked.owner.now (list_asked asked) (places_asked asked) first)
+BeginsNot outside asked script faults.InitNotText =
+    IsReadOf outside asked.init script × BeginsAsked outside asked script (Err faults.InitNotText)
+BeginsNot outside asked script (faults.InitLine number cause) =
+    IsReadOf outside asked.init script × BeginsAsked outside asked script (Err (faults.InitLine number cause))
+BeginsNot outside asked script faults.Read = ⊥
+BeginsNot outside asked script faults.Write = ⊥
+BeginsNot outside asked script faults.TooManyReads = ⊥
+BeginsNot outside asked script faults.ProtocolViolation = ⊥

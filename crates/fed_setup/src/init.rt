@@ -6,33 +6,34 @@ ghost use Rattle.med_session.specs.Shows.{shown};
 ghost use Rattle.session_wire.specs.Worlds.{scene_of};
 ghost use Rattle.fed_setup.specs.Setup.{IsReadOf, ReadsNot, ReplaysInit};
 
+use crate::surroundings::Surroundings;
 use crate::told::{RunFault, replay_told};
-use fdw_api::interface::Wrapper;
+use blob_store::disk::DiskFault;
+use fdw_api::wishes::Wrapper2;
 use fed_replay::replay;
 use med_session::Engine;
 use std::alloc::Global;
-use std::fs;
-use std::io::ErrorKind;
-use std::rt::Files;
 
-/// The bytes of the init file, if one is asked.
+/// The bytes of the init file, if one is asked: those that reading its path to its end gives.
 ///
-/// That they are those of the file at this path is the system's word, and not proved: for any bytes that it gives, the program does what
-/// they say. A file whose bytes have no end ends by want of memory.
-pub fn read_init<'a, V: AllocGlobal + Files>(
+/// # Errors
+///
+/// [`RunFault::CannotReadInit`] where it cannot be read, and [`RunFault::NoMemory`] where memory was refused: so ends a file whose bytes
+/// have no end.
+pub fn read_init<'a, V: Surroundings>(
     rt: &V,
     init: Option<&'a str>,
 ) -> Result<Option<Vec<u8>>, RunFault<'a>>
-    ensures read { IfOk result (λ script. IsReadOf init.entry (option_map (λ v. v.items) script)) }
+    ensures read { IfOk result (λ script. IsReadOf (V.outside rt.now) init.entry (option_map (λ v. v.items) script)) }
     ensures refused { IfErr result (ReadsNot init.entry) }
 {
     let Some(path) = init else {
         return Ok(None);
     };
-    match fs::read(rt, path) {
+    match rt.script(path) {
         Ok(script) => Ok(Some(script)),
-        Err(error) if error.kind() == ErrorKind::OutOfMemory => Err(RunFault::NoMemory),
-        Err(_) => Err(RunFault::CannotReadInit(path)),
+        Err(DiskFault::NoMemory) => Err(RunFault::NoMemory),
+        Err(DiskFault::Failed) => Err(RunFault::CannotReadInit(path)),
     }
 }
 
@@ -40,7 +41,7 @@ pub fn read_init<'a, V: AllocGlobal + Files>(
 ///
 /// What was done is, for each world that agrees with the engine, the replay of the script from there. A script that is not UTF-8, a line
 /// that is refused, and want of memory are told.
-pub fn replay_init<'a, W: Wrapper>(
+pub fn replay_init<'a, W: Wrapper2>(
     alloc: Global,
     engine: &mut Engine<W>,
     owner: &str,

@@ -3,5 +3,7 @@
 
 pub mod demo;
 pub mod init;
+pub mod inputs;
 pub mod program;
+pub mod surroundings;
 pub mod told;

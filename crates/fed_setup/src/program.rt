@@ -1,5 +1,5 @@
 //! What a program begins with.
-ghost use Rattle.std.specs.Prelude.{◌≡◌, Bool, List, true, [], ◌∷◌, ◌++◌, IfOk, IfErr, OnOk, option_map, map};
+ghost use Rattle.std.specs.Prelude.{◌≡◌, List, true, [], ◌∷◌, ◌++◌, IfOk, IfErr, OnOk, option_map, map};
 ghost use Rattle.med_session.specs.Requests.{IsUser};
 ghost use Rattle.med_session.specs.World.{World};
 ghost use Rattle.fdw_api.specs.State.{IsIdle};
@@ -10,7 +10,7 @@ ghost use Rattle.list_wrapper.specs.Lists.{IsNewList};
 ghost use Rattle.session_wire.specs.Worlds.{scene_of};
 ghost use Rattle.fed_setup.specs.Demo.{demo_list};
 ghost use Rattle.fed_words.specs.Places.{are_honest, place_of, source_kind};
-ghost use Rattle.fed_setup.specs.Setup.{HasDemo, HasList, IsFirst, HasNoFirst, AddsNoDemo, AddsPlace, AddsPlaces, AreNotAdded, IsNotAdded};
+ghost use Rattle.fed_setup.specs.Setup.{Outside, HasDemo, HasList, IsFirst, HasNoFirst, AddsNoDemo, AddsPlace, AddsPlaces, AreNotAdded, IsNotAdded};
 ghost use Rattle.fed_setup.specs.Setup.{BeginsBy, BeginsNot, IsReadOf, IsNewPlace, IsSetUp, SetUpFails, HasListAsked, labels_before, list_asked, list_label};
 ghost use Rattle.fed_setup.specs.Told.{added_of};
 ghost use Rattle.fed_words.specs.Words.{places_asked};
@@ -20,24 +20,23 @@ ghost use Rattle.fed_setup.specs.declared.told.RunFault.TheVariants as faults;
 
 use crate::demo::{demo_tables, setup_script};
 use crate::init::{read_init, replay_init};
+use crate::surroundings::Surroundings;
 use crate::told::{RunFault, add_fault, setup_told};
-use fdw_api::interface::Wrapper;
+use fdw_api::wishes::Wrapper2;
 use fed_replay::replay;
 use fed_words::places::{AskedPlace, PlaceKind};
 use fed_words::words::AskedRun;
 use list_wrapper::ListWrapper;
 use med_catalog::law::lists_are_told_nothing;
 use med_session::{Engine, SourceKind};
+use source_kinds::OpenFault;
 use source_kinds::law::{csv_takes_its_tables, jsonl_takes_its_tables, sqlite_takes_its_tables};
-use source_kinds::{OpenFault, Source, of_csv, of_jsonl, of_list, of_sqlite};
-use sqlite_databases::Databases;
 use std::alloc::Global;
-use std::rt::Files;
 
 /// Adds a list of the demo tables as the source of this name, and replays the script that makes its objects as this owner.
 ///
 /// Where a line of the script is refused, the source and what the lines before it made stay.
-pub fn add_demo<'a, W: Wrapper>(
+pub fn add_demo<'a, W: Wrapper2>(
     alloc: Global,
     engine: &mut Engine<W>,
     owner: &str,
@@ -63,7 +62,7 @@ pub fn add_demo<'a, W: Wrapper>(
 }
 
 // Adds a list of the demo tables as the source of this name.
-fn add_list<'a, W: Wrapper>(
+fn add_list<'a, W: Wrapper2>(
     engine: &mut Engine<W>,
     name: &'a str,
     demo: W,
@@ -88,26 +87,27 @@ fn add_list<'a, W: Wrapper>(
 }
 
 // Adds the demo list as the source of this name, if one is asked, to an engine that has no source.
-fn add_asked_list<'a, V: Files + Clone + Databases + Drop>(
-    alloc: Global,
-    engine: &mut Engine<Source<V>>,
+fn add_asked_list<'a, V: AllocGlobal + Surroundings>(
+    rt: &V,
+    engine: &mut Engine<V::Source>,
     list: Option<&'a str>,
 ) -> Result<(), RunFault<'a>>
-    requires engine { IsSound (shown ⟦<Source<V> as Wrapper>⟧.meaning engine.old) }
-    requires empty { (shown ⟦<Source<V> as Wrapper>⟧.meaning engine.old).labels ≡ [] }
-    ensures sound { IsSound (shown ⟦<Source<V> as Wrapper>⟧.meaning engine.new) }
-    ensures labels { OnOk result ((shown ⟦<Source<V> as Wrapper>⟧.meaning engine.new).labels
+    requires engine { IsSound (shown V.Source.meaning engine.old) }
+    requires empty { (shown V.Source.meaning engine.old).labels ≡ [] }
+    ensures sound { IsSound (shown V.Source.meaning engine.new) }
+    ensures labels { OnOk result ((shown V.Source.meaning engine.new).labels
         ≡ labels_before (option_map (λ s. s.now) list.entry)) }
-    ensures world { OnOk result ((w : World) → Agrees (shown ⟦<Source<V> as Wrapper>⟧.meaning engine.old) w
-        → (after : World) × HasListAsked (scene_of ⟦<Source<V> as Wrapper>⟧.meaning engine.old w) (option_map (λ s. s.now) list.entry)
-        (scene_of ⟦<Source<V> as Wrapper>⟧.meaning engine.new after) × Agrees (shown ⟦<Source<V> as Wrapper>⟧.meaning engine.new) after) }
+    ensures world { OnOk result ((w : World) → Agrees (shown V.Source.meaning engine.old) w
+        → (after : World) × HasListAsked (scene_of V.Source.meaning engine.old w) (option_map (λ s. s.now) list.entry)
+        (scene_of V.Source.meaning engine.new after) × Agrees (shown V.Source.meaning engine.new) after) }
     ensures fault { IfErr result (λ fault. fault ≡ faults.NoMemory) }
 {
     let Some(name) = list else {
         return Ok(());
     };
+    let alloc = rt.alloc();
     let demo = ListWrapper::new(alloc, demo_tables(alloc)?)?;
-    match add_list(engine, name, of_list(demo)) {
+    match add_list(engine, name, rt.list_source(demo)) {
         Ok(()) => {}
         Err(fault) => return Err(fault),
     }
@@ -115,7 +115,7 @@ fn add_asked_list<'a, V: Files + Clone + Databases + Drop>(
 }
 
 // Adds what stands at a place as the source that is asked.
-fn add_place<'a, W: Wrapper>(
+fn add_place<'a, W: Wrapper2>(
     engine: &mut Engine<W>,
     place: AskedPlace<'a>,
     source: W,
@@ -124,8 +124,8 @@ fn add_place<'a, W: Wrapper>(
     requires idle { IsIdle (W.meaning source) }
     requires takes { TakesAs (source_kind place.kind) (W.meaning source) }
     ensures sound { IsSound (shown W.meaning engine.new) }
-    ensures added { OnOk result ((honest : Bool) → IsNewPlace honest (place_of place.entry) (W.meaning source)
-        → AddsPlace honest (shown W.meaning engine.old) (place_of place.entry) (shown W.meaning engine.new)) }
+    ensures added { OnOk result ((outside : Outside) → IsNewPlace outside (place_of place.entry) (W.meaning source)
+        → AddsPlace outside (shown W.meaning engine.old) (place_of place.entry) (shown W.meaning engine.new)) }
     ensures fault { IfErr result (IsNotAdded (shown W.meaning engine.old).labels (place_of place.entry)) }
 {
     match engine.add_source(place.name, place.kind.source_kind(), source) {
@@ -136,18 +136,15 @@ fn add_place<'a, W: Wrapper>(
 }
 
 // The source that stands at a place.
-fn source_of<'a, V: AllocGlobal + Files + Clone + Databases + Drop>(
-    rt: &V,
-    place: AskedPlace<'a>,
-) -> Result<Source<V>, RunFault<'a>>
-    ensures new { IfOk result (λ s. IsNewPlace V.Store.SourceStore.honest (place_of place.entry) (⟦<Source<V> as Wrapper>⟧.meaning s)) }
-    ensures idle { IfOk result (λ s. IsIdle (⟦<Source<V> as Wrapper>⟧.meaning s)) }
+fn source_of<'a, V: Surroundings>(rt: &V, place: AskedPlace<'a>) -> Result<V::Source, RunFault<'a>>
+    ensures new { IfOk result (λ s. IsNewPlace (V.outside rt.now) (place_of place.entry) (V.Source.meaning s)) }
+    ensures idle { IfOk result (λ s. IsIdle (V.Source.meaning s)) }
     ensures fault { (labels : List Label) → IfErr result (IsNotAdded labels (place_of place.entry)) }
 {
     match place.kind {
-        PlaceKind::Csv => Ok(of_csv(rt.alloc(), rt, place.path)?),
-        PlaceKind::JsonLines => Ok(of_jsonl(rt.alloc(), rt, place.path)?),
-        PlaceKind::Sqlite => match of_sqlite(rt.alloc(), rt, place.path) {
+        PlaceKind::Csv => Ok(rt.csv_source(place.path)?),
+        PlaceKind::JsonLines => Ok(rt.jsonl_source(place.path)?),
+        PlaceKind::Sqlite => match rt.sqlite_source(place.path) {
             Ok(source) => Ok(source),
             Err(OpenFault::NoMemory) => Err(RunFault::NoMemory),
             Err(OpenFault::CannotOpen) => Err(RunFault::CannotOpen(place.name)),
@@ -156,16 +153,16 @@ fn source_of<'a, V: AllocGlobal + Files + Clone + Databases + Drop>(
 }
 
 // Adds what stands at this place as a source.
-fn add_one<'a, V: AllocGlobal + Files + Clone + Databases + Drop>(
+fn add_one<'a, V: Surroundings>(
     rt: &V,
-    engine: &mut Engine<Source<V>>,
+    engine: &mut Engine<V::Source>,
     place: AskedPlace<'a>,
 ) -> Result<(), RunFault<'a>>
-    requires { IsSound (shown ⟦<Source<V> as Wrapper>⟧.meaning engine.old) }
-    ensures sound { IsSound (shown ⟦<Source<V> as Wrapper>⟧.meaning engine.new) }
-    ensures added { OnOk result (AddsPlace V.Store.SourceStore.honest (shown ⟦<Source<V> as Wrapper>⟧.meaning engine.old)
-        (place_of place.entry) (shown ⟦<Source<V> as Wrapper>⟧.meaning engine.new)) }
-    ensures fault { IfErr result (IsNotAdded (shown ⟦<Source<V> as Wrapper>⟧.meaning engine.old).labels (place_of place.entry)) }
+    requires { IsSound (shown V.Source.meaning engine.old) }
+    ensures sound { IsSound (shown V.Source.meaning engine.new) }
+    ensures added { OnOk result (AddsPlace (V.outside rt.now)
+        (shown V.Source.meaning engine.old) (place_of place.entry) (shown V.Source.meaning engine.new)) }
+    ensures fault { IfErr result (IsNotAdded (shown V.Source.meaning engine.old).labels (place_of place.entry)) }
 {
     csv_takes_its_tables();
     jsonl_takes_its_tables();
@@ -177,16 +174,16 @@ fn add_one<'a, V: AllocGlobal + Files + Clone + Databases + Drop>(
 }
 
 // Adds what stands at these places as sources, in order.
-fn add_places<'a, V: AllocGlobal + Files + Clone + Databases + Drop>(
+fn add_places<'a, V: Surroundings>(
     rt: &V,
-    engine: &mut Engine<Source<V>>,
+    engine: &mut Engine<V::Source>,
     places: &[AskedPlace<'a>],
 ) -> Result<(), RunFault<'a>>
-    requires { IsSound (shown ⟦<Source<V> as Wrapper>⟧.meaning engine.old) }
-    ensures sound { IsSound (shown ⟦<Source<V> as Wrapper>⟧.meaning engine.new) }
-    ensures added { OnOk result (AddsPlaces V.Store.SourceStore.honest (shown ⟦<Source<V> as Wrapper>⟧.meaning engine.old)
-        (map place_of places.now) (shown ⟦<Source<V> as Wrapper>⟧.meaning engine.new)) }
-    ensures fault { IfErr result (AreNotAdded (shown ⟦<Source<V> as Wrapper>⟧.meaning engine.old).labels (map place_of places.now)) }
+    requires { IsSound (shown V.Source.meaning engine.old) }
+    ensures sound { IsSound (shown V.Source.meaning engine.new) }
+    ensures added { OnOk result (AddsPlaces (V.outside rt.now)
+        (shown V.Source.meaning engine.old) (map place_of places.now) (shown V.Source.meaning engine.new)) }
+    ensures fault { IfErr result (AreNotAdded (shown V.Source.meaning engine.old).labels (map place_of places.now)) }
 {
     let Some((place, rest)) = places.split_first() else {
         return Ok(());
@@ -199,7 +196,7 @@ fn add_places<'a, V: AllocGlobal + Files + Clone + Databases + Drop>(
 }
 
 // Replays the script that sets up the list of this name, if one is asked, as this owner.
-fn set_up<'a, W: Wrapper>(
+fn set_up<'a, W: Wrapper2>(
     alloc: Global,
     engine: &mut Engine<W>,
     owner: &str,
@@ -221,23 +218,23 @@ fn set_up<'a, W: Wrapper>(
 }
 
 // The engine that the program begins with, which has the sources that are asked, and in which the list is set up.
-fn first_engine<'a, V: AllocGlobal + Files + Clone + Databases + Drop>(
+fn first_engine<'a, V: AllocGlobal + Surroundings>(
     rt: &V,
     asked: &AskedRun<'a>,
-) -> Result<Engine<Source<V>>, RunFault<'a>>
+) -> Result<Engine<V::Source>, RunFault<'a>>
     requires { IsUser asked.now.owner.now }
-    ensures sound { IfOk result (λ engine. IsSound (shown ⟦<Source<V> as Wrapper>⟧.meaning engine)) }
-    ensures first { are_honest V.Store.SourceStore.honest (places_asked asked.now) ≡ true
-        → IfOk result (λ engine. (w : World) × Agrees (shown ⟦<Source<V> as Wrapper>⟧.meaning engine) w
-        × IsFirst V.Store.SourceStore.honest asked.now.owner.now (list_asked asked.now) (places_asked asked.now)
-        (scene_of ⟦<Source<V> as Wrapper>⟧.meaning engine w)) }
-    ensures refused { are_honest V.Store.SourceStore.honest (places_asked asked.now) ≡ true
-        → IfErr result (HasNoFirst V.Store.SourceStore.honest asked.now) }
+    ensures sound { IfOk result (λ engine. IsSound (shown V.Source.meaning engine)) }
+    ensures first { are_honest (V.outside rt.now).honest (places_asked asked.now) ≡ true
+        → IfOk result (λ engine. (w : World) × Agrees (shown V.Source.meaning engine) w
+        × IsFirst (V.outside rt.now) asked.now.owner.now (list_asked asked.now)
+        (places_asked asked.now) (scene_of V.Source.meaning engine w)) }
+    ensures refused { are_honest (V.outside rt.now).honest (places_asked asked.now) ≡ true
+        → IfErr result (HasNoFirst (V.outside rt.now) asked.now) }
 {
-    let Ok(mut engine) = Engine::<Source<V>>::new(rt.alloc(), asked.owner) else {
+    let Ok(mut engine) = Engine::<V::Source>::new(rt.alloc(), asked.owner) else {
         return Err(RunFault::NoMemory);
     };
-    match add_asked_list(rt.alloc(), &mut engine, asked.list) {
+    match add_asked_list(rt, &mut engine, asked.list) {
         Ok(()) => {}
         Err(fault) => return Err(fault),
     }
@@ -274,18 +271,18 @@ pub struct NotBegun<'a> {
 ///
 /// Refused where memory was, a source was not added, a line of the list's set-up was refused, the init file could not be read, or its
 /// replay was refused.
-pub fn begin<'a, V: AllocGlobal + Files + Clone + Databases + Drop>(
+pub fn begin<'a, V: AllocGlobal + Surroundings>(
     rt: &V,
     asked: &AskedRun<'a>,
-) -> Result<Begun<Source<V>>, NotBegun<'a>>
+) -> Result<Begun<V::Source>, NotBegun<'a>>
     requires { IsUser asked.now.owner.now }
-    ensures sound { IfOk result (λ begun. IsSound (shown ⟦<Source<V> as Wrapper>⟧.meaning begun.engine)) }
-    ensures read { IfOk result (λ begun. IsReadOf asked.now.init (option_map (λ v. v.items) begun.script)) }
-    ensures begins { are_honest V.Store.SourceStore.honest (places_asked asked.now) ≡ true
-        → IfOk result (λ begun. BeginsBy V.Store.SourceStore.honest asked.now (option_map (λ v. v.items) begun.script)
-        (shown ⟦<Source<V> as Wrapper>⟧.meaning begun.engine)) }
-    ensures refused { are_honest V.Store.SourceStore.honest (places_asked asked.now) ≡ true
-        → IfErr result (λ refused. BeginsNot V.Store.SourceStore.honest asked.now
+    ensures sound { IfOk result (λ begun. IsSound (shown V.Source.meaning begun.engine)) }
+    ensures read { IfOk result (λ begun. IsReadOf (V.outside rt.now) asked.now.init (option_map (λ v. v.items) begun.script)) }
+    ensures begins { are_honest (V.outside rt.now).honest (places_asked asked.now) ≡ true
+        → IfOk result (λ begun. BeginsBy (V.outside rt.now) asked.now
+        (option_map (λ v. v.items) begun.script) (shown V.Source.meaning begun.engine)) }
+    ensures refused { are_honest (V.outside rt.now).honest (places_asked asked.now) ≡ true
+        → IfErr result (λ refused. BeginsNot (V.outside rt.now) asked.now
         (option_map (λ v. v.items) refused.script) refused.fault) }
 {
     let mut engine = match first_engine(rt, asked) {

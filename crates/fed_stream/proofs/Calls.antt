@@ -10,7 +10,7 @@ use Rattle.fed_output.specs.declared.source.Arrival.{Arrival}
 use Rattle.fed_output.specs.declared.source.Arrival.TheVariants.{Byte, Interruption, Fault}
 use Rattle.fed_output.specs.declared.source.GivenUp.{GivenUp}
 use Rattle.fed_output.specs.declared.source.GivenUp.TheVariants as given_up
-use Rattle.fed_stream.specs.Calls.{IsClean, ReadsStream, WritesStream, IsWrittenTo}
+use Rattle.fed_stream.specs.Calls.{IsClean, ReadsWithin, WritesStream, IsWrittenTo}
 use Rattle.fed_stream.specs.declared.stream.Ended.{Ended}
 use Rattle.fed_stream.specs.declared.stream.Ended.TheVariants as ended
 use Rattle.fed_stream.specs.declared.stream.StreamFault.{StreamFault}
@@ -183,16 +183,16 @@ read_more n piece first before after a b c p q = record {
   granted = omega (arith, p.granted, q.granted);
 }
 
-pub read_end : (piece : List ℕ) (before after : ℕ) (a b c : Inlet) → ReadSoFar a b 4294967295 before → ReadsPiece b c before after (Ok 0) piece → ReadsStream a c (Ok ended.Eof)
-read_end piece before after a b c p q =
-    let more = read_more 0 piece 4294967295 before after a b c p q in
+pub read_end : (limit : ℕ) (piece : List ℕ) (before after : ℕ) (a b c : Inlet) → ReadSoFar a b limit before → ReadsPiece b c before after (Ok 0) piece → ReadsWithin limit a c (Ok ended.Eof)
+read_end limit piece before after a b c p q =
+    let more = read_more 0 piece _ before after a b c p q in
     record { met = more.met; reads = more.reads; gone = more.gone; count = more.count; most = omega (arith, more.granted); ends = (more.clean, q.at_end refl) }
 
-pub read_closed : (after : ℕ) (a b : Inlet) → ReadSoFar a b 4294967295 after → ReadsStream a b (Ok ended.Closed)
-read_closed after a b p = record { met = p.met; reads = p.reads; gone = p.gone; count = p.count; most = omega (arith, p.granted); ends = p.clean }
+pub read_closed : (limit : ℕ) (after : ℕ) (a b : Inlet) → ReadSoFar a b limit after → ReadsWithin limit a b (Ok ended.Closed)
+read_closed limit after a b p = record { met = p.met; reads = p.reads; gone = p.gone; count = p.count; most = omega (arith, p.granted); ends = p.clean }
 
-pub read_too_long : (after : ℕ) (a b : Inlet) → after ≡ 0 → ReadSoFar a b 4294967295 after → ReadsStream a b (Err faults.TooLong)
-read_too_long after a b e p = record {
+pub read_too_long : (limit : ℕ) (after : ℕ) (a b : Inlet) → after ≡ 0 → ReadSoFar a b limit after → ReadsWithin limit a b (Err faults.TooLong)
+read_too_long limit after a b e p = record {
   met = p.met;
   reads = p.reads;
   gone = p.gone;
@@ -201,8 +201,8 @@ read_too_long after a b e p = record {
   ends = (p.clean, omega (arith, p.granted, e));
 }
 
-pub read_too_many : (piece : List ℕ) (before after : ℕ) (a b c : Inlet) → after ≡ 0 → ReadSoFar a b 4294967295 before → ReadsPiece b c before after (Err given_up.TooMany) piece → ReadsStream a c (Err faults.TooLong)
-read_too_many piece before after a b c e p q = read_too_long after a c e (
+pub read_too_many : (limit : ℕ) (piece : List ℕ) (before after : ℕ) (a b c : Inlet) → after ≡ 0 → ReadSoFar a b limit before → ReadsPiece b c before after (Err given_up.TooMany) piece → ReadsWithin limit a c (Err faults.TooLong)
+read_too_many limit piece before after a b c e p q = read_too_long limit after a c e (
     record {
       met = p.met ++ interrupted q.times [];
       reads = q.times + p.reads;
@@ -213,8 +213,8 @@ read_too_many piece before after a b c e p q = read_too_long after a c e (
     }
     )
 
-pub read_fault : (piece : List ℕ) (before after : ℕ) (a b c : Inlet) → ReadSoFar a b 4294967295 before → ReadsPiece b c before after (Err given_up.Failed) piece → ReadsStream a c (Err faults.Read)
-read_fault piece before after a b c p q = record {
+pub read_fault : (limit : ℕ) (piece : List ℕ) (before after : ℕ) (a b c : Inlet) → ReadSoFar a b limit before → ReadsPiece b c before after (Err given_up.Failed) piece → ReadsWithin limit a c (Err faults.Read)
+read_fault limit piece before after a b c p q = record {
   met = p.met ++ interrupted q.times (Fault ∷ []);
   reads = suc q.times + p.reads;
   gone = gone_more a.comes p.met b.comes (Fault ∷ []) c.comes q.times p.gone q.met;
@@ -228,11 +228,11 @@ read_fault piece before after a b c p q = record {
 }
 
 -- a fault of the answers to what was read
-pub read_part_fault : (after : ℕ) (f : StreamFault) (a b : Inlet) → ReadSoFar a b 4294967295 after → ((f ≡ faults.Write) ⊎ (f ≡ faults.NoRoom)) → ReadsStream a b (Err f)
-read_part_fault after f a b p (inl e) = subst (λ g. ReadsStream a b (Err g)) (sym e) (
+pub read_part_fault : (limit : ℕ) (after : ℕ) (f : StreamFault) (a b : Inlet) → ReadSoFar a b limit after → ((f ≡ faults.Write) ⊎ (f ≡ faults.NoRoom)) → ReadsWithin limit a b (Err f)
+read_part_fault limit after f a b p (inl e) = subst (λ g. ReadsWithin limit a b (Err g)) (sym e) (
     record { met = p.met; reads = p.reads; gone = p.gone; count = p.count; most = omega (arith, p.granted); ends = p.clean }
     )
-read_part_fault after f a b p (inr e) = subst (λ g. ReadsStream a b (Err g)) (sym e) (
+read_part_fault limit after f a b p (inr e) = subst (λ g. ReadsWithin limit a b (Err g)) (sym e) (
     record { met = p.met; reads = p.reads; gone = p.gone; count = p.count; most = omega (arith, p.granted); ends = p.clean }
     )
 
@@ -242,31 +242,31 @@ pub known_reads : (n : ℕ) (piece : List ℕ) (first before after : ℕ) (a b c
     → Known a c (λ x y. ReadSoFar x y first after)
 known_reads n piece first before after a b c p q = known_then a b c _ _ _ (read_more n piece first before after) p q
 
-pub known_end : (n : ℕ) → n ≡ 0 → (piece : List ℕ) (before after : ℕ) (a b c : Option Inlet) → Known a b (λ x y. ReadSoFar x y 4294967295 before) → Known b c (λ x y. ReadsPiece x y before after (Ok n) piece)
-    → Known a c (λ x y. ReadsStream x y (Ok ended.Eof))
-known_end n e piece before after a b c p q = known_then a b c _ _ _ (read_end piece before after) p (subst (λ m. Known b c (λ x y. ReadsPiece x y before after (Ok m) piece)) e q)
+pub known_end : (limit : ℕ) (n : ℕ) → n ≡ 0 → (piece : List ℕ) (before after : ℕ) (a b c : Option Inlet) → Known a b (λ x y. ReadSoFar x y limit before) → Known b c (λ x y. ReadsPiece x y before after (Ok n) piece)
+    → Known a c (λ x y. ReadsWithin limit x y (Ok ended.Eof))
+known_end limit n e piece before after a b c p q = known_then a b c _ _ _ (read_end limit piece before after) p (subst (λ m. Known b c (λ x y. ReadsPiece x y before after (Ok m) piece)) e q)
 
-pub known_closed : (n : ℕ) (piece : List ℕ) (before after : ℕ) (a b c : Option Inlet) → Known a b (λ x y. ReadSoFar x y 4294967295 before) → Known b c (λ x y. ReadsPiece x y before after (Ok n) piece)
-    → Known a c (λ x y. ReadsStream x y (Ok ended.Closed))
-known_closed n piece before after a b c p q = known_map a c _ _ (read_closed after) (known_reads n piece 4294967295 before after a b c p q)
+pub known_closed : (limit : ℕ) (n : ℕ) (piece : List ℕ) (before after : ℕ) (a b c : Option Inlet) → Known a b (λ x y. ReadSoFar x y limit before) → Known b c (λ x y. ReadsPiece x y before after (Ok n) piece)
+    → Known a c (λ x y. ReadsWithin limit x y (Ok ended.Closed))
+known_closed limit n piece before after a b c p q = known_map a c _ _ (read_closed limit after) (known_reads n piece _ before after a b c p q)
 
-pub known_part_fault : (f : StreamFault) → ((f ≡ faults.Write) ⊎ (f ≡ faults.NoRoom)) → (n : ℕ) (piece : List ℕ) (before after : ℕ) (a b c : Option Inlet) → Known a b (λ x y. ReadSoFar x y 4294967295 before)
-    → Known b c (λ x y. ReadsPiece x y before after (Ok n) piece) → Known a c (λ x y. ReadsStream x y (Err f))
-known_part_fault f e n piece before after a b c p q =
-    known_map a c _ _ (λ x y r. read_part_fault after f x y r e) (known_reads n piece 4294967295 before after a b c p q)
+pub known_part_fault : (limit : ℕ) (f : StreamFault) → ((f ≡ faults.Write) ⊎ (f ≡ faults.NoRoom)) → (n : ℕ) (piece : List ℕ) (before after : ℕ) (a b c : Option Inlet) → Known a b (λ x y. ReadSoFar x y limit before)
+    → Known b c (λ x y. ReadsPiece x y before after (Ok n) piece) → Known a c (λ x y. ReadsWithin limit x y (Err f))
+known_part_fault limit f e n piece before after a b c p q =
+    known_map a c _ _ (λ x y r. read_part_fault limit after f x y r e) (known_reads n piece _ before after a b c p q)
 
-pub known_read_fault : (f : GivenUp) → f ≡ given_up.Failed → (piece : List ℕ) (before after : ℕ) (a b c : Option Inlet) → Known a b (λ x y. ReadSoFar x y 4294967295 before)
-    → Known b c (λ x y. ReadsPiece x y before after (Err f) piece) → Known a c (λ x y. ReadsStream x y (Err faults.Read))
-known_read_fault f e piece before after a b c p q =
-    known_then a b c _ _ _ (read_fault piece before after) p (subst (λ g. Known b c (λ x y. ReadsPiece x y before after (Err g) piece)) e q)
+pub known_read_fault : (limit : ℕ) (f : GivenUp) → f ≡ given_up.Failed → (piece : List ℕ) (before after : ℕ) (a b c : Option Inlet) → Known a b (λ x y. ReadSoFar x y limit before)
+    → Known b c (λ x y. ReadsPiece x y before after (Err f) piece) → Known a c (λ x y. ReadsWithin limit x y (Err faults.Read))
+known_read_fault limit f e piece before after a b c p q =
+    known_then a b c _ _ _ (read_fault limit piece before after) p (subst (λ g. Known b c (λ x y. ReadsPiece x y before after (Err g) piece)) e q)
 
-pub known_too_many : (f : GivenUp) → f ≡ given_up.TooMany → (piece : List ℕ) (before after : ℕ) → after ≡ 0 → (a b c : Option Inlet) → Known a b (λ x y. ReadSoFar x y 4294967295 before)
-    → Known b c (λ x y. ReadsPiece x y before after (Err f) piece) → Known a c (λ x y. ReadsStream x y (Err faults.TooLong))
-known_too_many f e piece before after z a b c p q =
-    known_then a b c _ _ _ (λ x y w. read_too_many piece before after x y w z) p (subst (λ g. Known b c (λ x y. ReadsPiece x y before after (Err g) piece)) e q)
+pub known_too_many : (limit : ℕ) (f : GivenUp) → f ≡ given_up.TooMany → (piece : List ℕ) (before after : ℕ) → after ≡ 0 → (a b c : Option Inlet) → Known a b (λ x y. ReadSoFar x y limit before)
+    → Known b c (λ x y. ReadsPiece x y before after (Err f) piece) → Known a c (λ x y. ReadsWithin limit x y (Err faults.TooLong))
+known_too_many limit f e piece before after z a b c p q =
+    known_then a b c _ _ _ (λ x y w. read_too_many limit piece before after x y w z) p (subst (λ g. Known b c (λ x y. ReadsPiece x y before after (Err g) piece)) e q)
 
-pub known_too_long_read : (after : ℕ) → after ≡ 0 → (a b : Option Inlet) → Known a b (λ x y. ReadSoFar x y 4294967295 after) → Known a b (λ x y. ReadsStream x y (Err faults.TooLong))
-known_too_long_read after e a b p = known_map a b _ _ (λ x y r. read_too_long after x y e r) p
+pub known_too_long_read : (limit : ℕ) (after : ℕ) → after ≡ 0 → (a b : Option Inlet) → Known a b (λ x y. ReadSoFar x y limit after) → Known a b (λ x y. ReadsWithin limit x y (Err faults.TooLong))
+known_too_long_read limit after e a b p = known_map a b _ _ (λ x y r. read_too_long limit after x y e r) p
 
 -- before the first read
 pub known_untouched : (n : ℕ) (a : Option Inlet) → Known a a (λ v w. ReadSoFar v w n n)

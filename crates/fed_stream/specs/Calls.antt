@@ -17,23 +17,27 @@ IsClean (Interruption ∷ more) = IsClean more
 IsClean (Fault ∷ more) = ⊥
 
 -- What reads met while a stream was served: at its end nothing comes any more; a read fault is told of the one read that failed, the
--- last; and too many reads are 4,294,967,295. At each other end no read failed.
-abbrev pub IsReadTo : Result Ended StreamFault → List Arrival → Inlet → ℕ → Type 0
-IsReadTo (Ok ended.Eof) met after reads = IsClean met × (after.comes ≡ [])
-IsReadTo (Ok ended.Closed) met after reads = IsClean met
-IsReadTo (Err fault.Read) met after reads = (others : List Arrival) × IsClean others × (met ≡ others ++ (Fault ∷ []))
-IsReadTo (Err fault.TooLong) met after reads = IsClean met × (reads ≡ 4294967295)
-IsReadTo (Err fault.Write) met after reads = IsClean met
-IsReadTo (Err fault.NoRoom) met after reads = IsClean met
+-- last; and too many reads are all that are allowed. At each other end no read failed.
+abbrev pub IsReadTo : ℕ → Result Ended StreamFault → List Arrival → Inlet → ℕ → Type 0
+IsReadTo most (Ok ended.Eof) met after reads = IsClean met × (after.comes ≡ [])
+IsReadTo most (Ok ended.Closed) met after reads = IsClean met
+IsReadTo most (Err fault.Read) met after reads = (others : List Arrival) × IsClean others × (met ≡ others ++ (Fault ∷ []))
+IsReadTo most (Err fault.TooLong) met after reads = IsClean met × (reads ≡ most)
+IsReadTo most (Err fault.Write) met after reads = IsClean met
+IsReadTo most (Err fault.NoRoom) met after reads = IsClean met
 
--- The reads of a stream that ended so: what they met comes no more, and there were at most 4,294,967,295.
-pub record ReadsStream (old new : Inlet) (result : Result Ended StreamFault) : Type 0 where
+-- The reads of a stream that ended so, of which so many are allowed: what they met comes no more, and there were no more.
+pub record ReadsWithin (limit : ℕ) (old new : Inlet) (result : Result Ended StreamFault) : Type 0 where
   pub met : List Arrival
   pub reads : ℕ
   pub gone : old.comes ≡ met ++ new.comes
   pub count : new.reads ≡ counted old.reads reads
-  pub most : reads ≤ 4294967295
-  pub ends : IsReadTo result met new reads
+  pub most : reads ≤ limit
+  pub ends : IsReadTo limit result met new reads
+
+-- the same of a stream of which as many are allowed as a number of 32 bits counts
+abbrev pub ReadsStream : Inlet → Inlet → Result Ended StreamFault → Type 0
+ReadsStream old new result = ReadsWithin 4294967295 old new result
 
 -- All that was written was flushed, where all was before.
 abbrev pub KeepsFlushed : Outlet → Outlet → Type 0

@@ -3,4 +3,4 @@
 
 pub mod stream;
 
-pub use stream::{Ended, StreamFault, serve_stream};
+pub use stream::{Ended, StreamFault, serve_stream, serve_stream_within};

@@ -4,7 +4,7 @@ ghost use Rattle.std.specs.Io.KnownBytes.{Appends, Consumes, Keeps};
 ghost use Rattle.session_wire.specs.Run.{Fed};
 ghost use Rattle.session_wire.specs.Servers.{handler_of, is_closed, held_back, unread_of};
 ghost use Rattle.fed_output.specs.Known.{Known};
-ghost use Rattle.fed_stream.specs.Calls.{ReadsStream, WritesStream};
+ghost use Rattle.fed_stream.specs.Calls.{ReadsStream, ReadsWithin, WritesStream};
 ghost use Rattle.fed_stream.specs.Served.{Serves, Fails};
 ghost use Rattle.fed_stream.specs.Streams.{stream};
 
@@ -38,7 +38,7 @@ pub enum StreamFault {
     /// A reply could not be written.
     #[error("write fault")]
     Write,
-    /// The input did not end in 4,294,967,295 reads.
+    /// The input did not end in as many reads as were allowed.
     #[error("too many reads")]
     TooLong,
     /// Room for a piece or its replies was refused.
@@ -46,22 +46,7 @@ pub enum StreamFault {
     NoRoom,
 }
 
-/// Serves an input to its end, or to the line that closes the stream.
-///
-/// It reads pieces of at most 8,192 bytes, and answers each line by line: the replies to a line are written
-/// and flushed before the next line is answered. It reads at most 4,294,967,295 times, and an interrupted
-/// read counts and is tried again. Of a server that is closed before, nothing is read.
-///
-/// After `Eof` the sink has got the text of the run of all bytes that the source had; after `Closed` of
-/// those up to the closing line. After `Read` and `TooLong` what was read is a run, and its text was
-/// written; after `NoRoom` too, but for the last piece. After `Write` what was read is a run up to the line
-/// whose reply could not be written, a front of its text was written, and what stood behind that line in the
-/// last piece is dropped.
-///
-/// Where the source tells what comes, `Eof` is answered only where nothing comes any more, `Read` only
-/// after the one read that failed, and `TooLong` only after 4,294,967,295 reads. Where the sink tells its calls,
-/// `Write` is answered only where one of them failed or 4,294,967,295 were interrupted, and after any other
-/// end all that was written is flushed.
+/// Serves an input as [`serve_stream_within`] does, and reads at most 4,294,967,295 times.
 pub fn serve_stream<H: Handler, R: Source, W: Sink>(
     alloc: Global,
     server: &mut Server<H>,
@@ -84,13 +69,55 @@ pub fn serve_stream<H: Handler, R: Source, W: Sink>(
     ensures untouched { is_closed server.old ≡ true → (reader.new ≡ reader.old) × (writer.new ≡ writer.old) }
     ensures sound { H.sound (handler_of server.new) }
 {
+    serve_stream_within(alloc, server, reader, writer, READS)
+}
+
+/// Serves an input to its end, or to the line that closes the stream.
+///
+/// It reads pieces of at most 8,192 bytes, and answers each line by line: the replies to a line are written
+/// and flushed before the next line is answered. It reads at most as many times as `reads` says, and an interrupted
+/// read counts and is tried again. Of a server that is closed before, nothing is read.
+///
+/// After `Eof` the sink has got the text of the run of all bytes that the source had; after `Closed` of
+/// those up to the closing line. After `Read` and `TooLong` what was read is a run, and its text was
+/// written; after `NoRoom` too, but for the last piece. After `Write` what was read is a run up to the line
+/// whose reply could not be written, a front of its text was written, and what stood behind that line in the
+/// last piece is dropped.
+///
+/// Where the source tells what comes, `Eof` is answered only where nothing comes any more, `Read` only
+/// after the one read that failed, and `TooLong` only after all the reads that are allowed. Where the sink tells its calls,
+/// `Write` is answered only where one of them failed or 4,294,967,295 were interrupted, and after any other
+/// end all that was written is flushed.
+pub fn serve_stream_within<H: Handler, R: Source, W: Sink>(
+    alloc: Global,
+    server: &mut Server<H>,
+    reader: &mut R,
+    writer: &mut W,
+    reads: u32,
+) -> Result<Ended, StreamFault>
+    requires { H.sound (handler_of server.old) }
+    ensures serves { is_closed server.old ≡ false
+        → Serves H.step H.ended (handler_of server.old) (held_back server.old)
+        (handler_of server.new) (unread_of server.new)
+        (stream (R.remaining reader.old) (R.remaining reader.new))
+        (stream (W.contents writer.old) (W.contents writer.new)) result }
+    ensures reads { is_closed server.old ≡ false
+        → Known (R.inlet reader.old) (R.inlet reader.new) (λ old new. ReadsWithin reads old new result) }
+    ensures writes { Known (W.outlet writer.old) (W.outlet writer.new) (λ old new. WritesStream old new result) }
+    ensures closed_before { is_closed server.old ≡ true → (result ≡ Ok Ended.Closed)
+        × (handler_of server.new ≡ handler_of server.old) × (is_closed server.new ≡ true)
+        × (R.remaining reader.new ≡ R.remaining reader.old)
+        × (W.contents writer.new ≡ W.contents writer.old) }
+    ensures untouched { is_closed server.old ≡ true → (reader.new ≡ reader.old) × (writer.new ≡ writer.old) }
+    ensures sound { H.sound (handler_of server.new) }
+{
     if server.is_closed() {
         return Ok(Ended::Closed);
     }
     runs_join::<H>();
     let mut piece = [0u8; PIECE];
     let mut out = Vec::new(alloc);
-    let mut granted = READS;
+    let mut granted = reads;
     while granted > 0 {
         let count = match read_piece(reader, &mut piece, &mut granted) {
             Ok(0) => return Ok(Ended::Eof),

@@ -10,7 +10,7 @@ ghost use Rattle.fed_setup.specs.Demo.{demo_list};
 
 use crate::expect::same_text;
 use crate::served::{ANSWER, STORED};
-use fdw_api::interface::Wrapper;
+use fdw_api::wishes::Wrapper2;
 use fed_cli::Ended;
 use fed_cli::serving::serve_engine;
 use fed_setup::demo::demo_tables;
@@ -31,28 +31,28 @@ fn new_list(alloc: Global) -> Result<ListWrapper, NoMemory>
     ListWrapper::new(alloc, demo_tables(alloc)?)
 }
 
-fn in_counting<W: Wrapper>(inner: W) -> Counting<W>
+fn in_counting<W: Wrapper2>(inner: W) -> Counting<W>
     requires { IsNewList (W.meaning inner) demo_list }
     ensures { IsNewList (counted (W.meaning result.inner) result.pulled) demo_list }
 {
     Counting::new(inner)
 }
 
-fn in_shy<W: Wrapper>(alloc: Global, inner: W) -> Shy<W>
+fn in_shy<W: Wrapper2>(alloc: Global, inner: W) -> Shy<W>
     requires { IsNewList (W.meaning inner) demo_list }
     ensures { IsNewList (shied (W.meaning result.inner) (asked_of result.scans)) demo_list }
 {
     Shy::new(alloc, inner)
 }
 
-fn in_failing<W: Wrapper>(inner: W, passes: u64) -> Failing<W>
+fn in_failing<W: Wrapper2>(inner: W, passes: u64) -> Failing<W>
     requires { IsNewList (W.meaning inner) demo_list }
     ensures { IsNewList (failed (W.meaning result.inner) result.failure) demo_list }
 {
     Failing::new(inner, passes)
 }
 
-fn in_shuffled<W: Wrapper>(alloc: Global, inner: W) -> Shuffled<W>
+fn in_shuffled<W: Wrapper2>(alloc: Global, inner: W) -> Shuffled<W>
     requires { IsNewList (W.meaning inner) demo_list }
     ensures { IsNewList (reordered (W.meaning result.inner) (turns_of result.scans) result.pulled) demo_list }
 {
@@ -75,7 +75,11 @@ fn is_answer(text: &[u8]) -> bool {
 }
 
 // What an engine with the demo list in this box answers to a stream; nothing where it was not read to its end.
-fn answered<W: Wrapper>(alloc: Global, list: W, stream: &[u8]) -> Result<Vec<u8>, RunFault<'static>>
+fn answered<W: Wrapper2>(
+    alloc: Global,
+    list: W,
+    stream: &[u8],
+) -> Result<Vec<u8>, RunFault<'static>>
     requires { IsNewList (W.meaning list) demo_list }
 {
     let Ok(mut engine) = Engine::<W>::new(alloc, "admin") else {
@@ -92,7 +96,7 @@ fn answered<W: Wrapper>(alloc: Global, list: W, stream: &[u8]) -> Result<Vec<u8>
 }
 
 // Fails where an engine over this box does not answer the stored stream.
-fn gives_rows<W: Wrapper>(alloc: Global, case: &str, list: W) -> Result<(), Fail>
+fn gives_rows<W: Wrapper2>(alloc: Global, case: &str, list: W) -> Result<(), Fail>
     requires { IsNewList (W.meaning list) demo_list }
 {
     let out = answered(alloc, list, STORED)?;

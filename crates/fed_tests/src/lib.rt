@@ -4,8 +4,7 @@
 
 #[cfg(test)]
 mod boxes;
-#[cfg(test)]
-mod expect;
+pub mod expect;
 #[cfg(test)]
 mod faults;
 #[cfg(test)]
@@ -16,8 +15,7 @@ mod names;
 mod reader;
 #[cfg(test)]
 mod refusals;
-#[cfg(test)]
-mod served;
+pub mod served;
 #[cfg(test)]
 mod slots;
 #[cfg(test)]
@@ -26,5 +24,3 @@ mod sources;
 mod streams;
 #[cfg(test)]
 mod texts;
-#[cfg(test)]
-mod words;

@@ -3,7 +3,7 @@ ghost use Rattle.std.specs.Prelude.{◌≡◌, ⊤, true};
 
 use crate::expect::{same, same_text};
 use crate::reader::Failing;
-use fed_cli::{Ended, StreamFault, serve_stream};
+use fed_cli::{Ended, StreamFault, serve_stream, serve_stream_within};
 use med_session::{NoRoom, Request, Sid};
 use session_wire::{Handler, Server};
 use std::alloc::Global;
@@ -17,7 +17,7 @@ const ANSWER: &[u8] = b"01\n0 E 08P01 protocol_violation\n02\n";
 
 const CLOSED: &[u8] = b"0 E 08P01 protocol_violation\n0 T CLOSED\n";
 
-// Answers each request by the two digits of its session. If it is full, it asks for no room, and refuses where 128 bytes more have
+// Answers each request by the last two digits of its session. If it is full, it asks for no room, and refuses where 128 bytes more have
 // none.
 #[derive(Drop)]
 struct Echo {
@@ -41,7 +41,9 @@ impl Handler for Echo {
         if self.is_full && out.capacity() - out.len() < 128 {
             return Err(NoRoom);
         }
-        let reply = [b'0' + sid.number / 10, b'0' + sid.number % 10, b'\n'];
+        let ten = (sid.number / 10 % 10) as u8;
+        let unit = (sid.number % 10) as u8;
+        let reply = [b'0' + ten, b'0' + unit, b'\n'];
         out.extend_from_slice(&reply).map_err(|_| NoRoom)
     }
 
@@ -220,6 +222,39 @@ fn interruptions_are_tried_again(rt: HostRuntime) -> Result<(), Fail> {
     let ended = serve_stream(rt.alloc(), &mut server, &mut reader, &mut output);
     same("the end", &ended, &Ok(Ended::Eof))?;
     same_text("the replies", &output, ANSWER)
+}
+
+// Fails where so many reads of an input that is interrupted so often do not end so, with this text written.
+fn ends_within(
+    alloc: Global,
+    reads: u32,
+    times: u32,
+    ended: Result<Ended, StreamFault>,
+    text: &[u8],
+) -> Result<(), Fail> {
+    let case = format!(in alloc; "{reads} reads, {times} interruptions")?;
+    let mut server = echo_server(alloc, false)?;
+    let mut reader = Interrupted {
+        times,
+        bytes: INPUT,
+    };
+    let mut output = Vec::new(alloc);
+    let came = serve_stream_within(alloc, &mut server, &mut reader, &mut output, reads);
+    same(&case, &came, &ended)?;
+    same(&case, &server.is_closed(), &false)?;
+    same_text(&case, &output, text)
+}
+
+#[test]
+fn reads_are_counted(rt: HostRuntime) -> Result<(), Fail> {
+    let alloc = rt.alloc();
+    let long = Err(StreamFault::TooLong);
+    ends_within(alloc, 0, 0, long, b"")?;
+    ends_within(alloc, 3, 4_294_967_295, long, b"")?;
+    ends_within(alloc, 1, 0, long, ANSWER)?;
+    ends_within(alloc, 2, 0, Ok(Ended::Eof), ANSWER)?;
+    ends_within(alloc, 4, 3, long, ANSWER)?;
+    ends_within(alloc, 5, 3, Ok(Ended::Eof), ANSWER)
 }
 
 // Fails where a write that fails, after so many, does not end the stream, or another text is written.

@@ -41,8 +41,6 @@ stream TooLong: too many reads
 stream NoRoom: out of memory
 measuring NoMemory: out of memory
 measuring NotMade: tables not made
-measuring Clock: clock fault
-measuring Write: write fault
 ";
 
 // Writes a line for each fault.
@@ -111,12 +109,7 @@ fn tell_served(alloc: Global, out: &mut String) -> Result<(), Fail> {
 
 // The faults of the measurements.
 fn tell_measuring(alloc: Global, out: &mut String) -> Result<(), Fail> {
-    let faults = [
-        BenchFault::NoMemory,
-        BenchFault::NotMade,
-        BenchFault::Clock,
-        BenchFault::Write,
-    ];
+    let faults = [BenchFault::NoMemory, BenchFault::NotMade];
     tell(alloc, "measuring", &faults, out)
 }
 

@@ -1,7 +1,7 @@
 //! The program `fedq`: one SQL front over tables that live elsewhere.
 #![tactic(auto)]
 
-use fed_program::{ArgsFault, run};
+use fed_program::{ArgsFault, run_on};
 use std::env;
 use std::io::ErrorKind;
 use std::process::ExitCode;
@@ -18,7 +18,7 @@ fn own_words<V: AllocGlobal + Env>(rt: &V) -> Result<Vec<String>, ArgsFault> {
 
 fn main(rt: HostRuntime) -> ExitCode {
     let words = own_words(&rt);
-    let status = run(
+    let status = run_on(
         &rt,
         words,
         &mut rt.reader(),

@@ -6,14 +6,12 @@ ghost use Rattle.std.specs.Prelude.{◌≡◌, ◌∷◌, [], codes, false, map,
 ghost use Rattle.med_value.specs.declared.value.ColType.TheVariants as types;
 ghost use Rattle.fdw_api.specs.Kinds.{column_of};
 ghost use Rattle.fdw_api.specs.State.{IsIdle};
-ghost use Rattle.blob_store.specs.Memory.{shelf_of};
-ghost use Rattle.csv_wrapper.specs.CsvBoxes.{csv_state};
-ghost use Rattle.jsonl_wrapper.specs.JsonBoxes.{box_of as json_box};
 
 use crate::asked::written_scan;
 use crate::scans::answered;
 use blob_store::MemoryBlobs;
 use csv_wrapper::CsvWrapper;
+use fdw_api::Wrapper;
 use jsonl_wrapper::JsonlWrapper;
 use med_value::{ColType, ColumnDef, NoMemory};
 use std::alloc::Global;
@@ -63,14 +61,14 @@ fn blob(alloc: Global, bytes: &[u8]) -> Result<MemoryBlobs, Fail> {
 
 /// A source of one CSV blob, `parts`.
 pub fn new_csv(alloc: Global) -> Result<CsvWrapper<MemoryBlobs>, Fail>
-    ensures { IfOk result (λ w. IsIdle (csv_state (shelf_of w.blobs) w.tables.items w.scans w.staged w.next w.pulled)) }
+    ensures { IfOk result (λ w. IsIdle (⟦<CsvWrapper<MemoryBlobs> as Wrapper>⟧.meaning w)) }
 {
     Ok(CsvWrapper::new(alloc, blob(alloc, CSV)?))
 }
 
 /// A source of one blob of JSON lines, `parts`.
 pub fn new_jsonl(alloc: Global) -> Result<JsonlWrapper<MemoryBlobs>, Fail>
-    ensures { IfOk result (λ w. IsIdle (json_box shelf_of w)) }
+    ensures { IfOk result (λ w. IsIdle (⟦<JsonlWrapper<MemoryBlobs> as Wrapper>⟧.meaning w)) }
 {
     Ok(JsonlWrapper::new(alloc, blob(alloc, LINES)?))
 }

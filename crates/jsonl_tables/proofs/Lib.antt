@@ -5,3 +5,4 @@ pub mod ReadLaws
 pub mod RewriteLaws
 pub mod ImageLaws
 pub mod CleanLaws
+pub mod FormatLaws

@@ -8,6 +8,7 @@ use Rattle.med_value.specs.declared.value.ColType.TheVariants as types
 use Rattle.med_value.specs.declared.cause.Cause.{Cause}
 use Rattle.med_value.specs.declared.cause.Cause.TheVariants.{InvalidFormat, InvalidText, NotInState, TooLarge}
 use Rattle.med_value.specs.Causes.{phase_of}
+use Rattle.med_value.specs.Limits.{row_limit, byte_limit}
 use Rattle.fdw_api.specs.Scan.{has_kind, is_clean as no_zero, row_fits, TableRow}
 use Rattle.fdw_api.specs.Kinds.{Held, Reading, Change, Inserts, Updates, Deletes, all_fit, is_late}
 use Rattle.fdw_api.specs.Writes.{rows_after}
@@ -34,7 +35,7 @@ rows_at readers lines = map (row_at readers) lines
 
 -- over 1,000,000 lines, or over 67,108,864 bytes
 abbrev pub is_too_large : ℕ → ℕ → Bool
-is_too_large rows bytes = nat_lt 1000000 rows || nat_lt 67108864 bytes
+is_too_large rows bytes = nat_lt row_limit rows || nat_lt byte_limit bytes
 
 -- the causes that a content shows: 54000 by its size, HV00A by a line that is no object, 22P02 by a member that is not of its column's type
 abbrev pub content_causes : List Reader → List ℕ → List Cause

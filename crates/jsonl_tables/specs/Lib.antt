@@ -5,3 +5,5 @@ pub mod Written
 pub mod Contents
 pub mod Tables
 pub mod Changes
+pub mod Jsonl
+pub mod Formats

@@ -1,17 +1,18 @@
 //! Contents: their lines, which are checked when a table is bound, and the rows that these are.
 ghost use Rattle.std.specs.Prelude.{◌≡◌, true, false, length, map, IfOk, IfErr, OnOk};
 ghost use Rattle.std.specs.List.{list_all};
-ghost use Rattle.med_value.specs.Datum.{tuple};
+ghost use Rattle.med_value.specs.Datum.{datum, tuple};
 ghost use Rattle.jsonl_tables.specs.Lines.{lines_of, lines_at};
 ghost use Rattle.jsonl_tables.specs.Fields.{reader_of};
-ghost use Rattle.jsonl_tables.specs.Objects.{is_object, is_typed, cells_at};
+ghost use Rattle.jsonl_tables.specs.Objects.{is_object, is_typed, cells_at, json_of, read_cell};
 ghost use Rattle.jsonl_tables.specs.Contents.{is_too_large, LineRefused, ContentRefused};
 
 use crate::fields::Field;
 use crate::lines::{Span, is_blank, line_at, line_from};
-use crate::objects::{LineFault, has_types, parse_line, read_row};
+use crate::objects::{LineFault, has_types, parse_line, read_cell, read_row};
 use fdw_api::interface::Fault;
-use med_value::{Cause, NoMemory, Row};
+use med_value::limits::{BYTE_LIMIT, ROW_LIMIT};
+use med_value::{Cause, NoMemory, Row, Value};
 use std::alloc::Global;
 
 /// Checks that a line is an object, with members of the columns' types.
@@ -41,7 +42,7 @@ pub fn read_lines(alloc: Global, content: &[u8], fields: &[Field]) -> Result<Vec
     ensures few { IfOk result (λ spans. is_too_large (length (lines_of content.now)) (length content.now) ≡ false) }
     ensures err { IfErr result (λ fault. ContentRefused (map reader_of fields.now) content.now fault) }
 {
-    if content.len() > 67_108_864 {
+    if content.len() > BYTE_LIMIT {
         return Err(Fault::Refused(Cause::TooLarge));
     }
     let mut spans = Vec::new(alloc);
@@ -51,7 +52,7 @@ pub fn read_lines(alloc: Global, content: &[u8], fields: &[Field]) -> Result<Vec
         let line = line_at(content, span);
         if !is_blank(line) {
             check_line(alloc, line, fields)?;
-            if spans.len() == 1_000_000 {
+            if spans.len() == ROW_LIMIT {
                 return Err(Fault::Refused(Cause::TooLarge));
             }
             spans.push(span)?;
@@ -68,6 +69,17 @@ pub fn row_of_line(alloc: Global, line: &[u8], fields: &[Field]) -> Result<Row, 
 {
     match parse_line(alloc, line) {
         Ok(value) => read_row(alloc, &value, fields),
+        Err(_) => Err(NoMemory),
+    }
+}
+
+/// The cell of one column in a line: the value of its member, NULL where that is absent or of another type. A line that is no object is
+/// told as want of memory, as `row_of_line` tells it.
+pub fn cell_of_line(alloc: Global, line: &[u8], field: &Field) -> Result<Value, NoMemory>
+    ensures { IfOk result (λ cell. datum cell ≡ read_cell (json_of line.now) (reader_of field.now)) }
+{
+    match parse_line(alloc, line) {
+        Ok(value) => read_cell(alloc, field, &value),
         Err(_) => Err(NoMemory),
     }
 }

@@ -50,3 +50,17 @@ pub fn fields_of(
     }
     Ok(fields)
 }
+
+/// Copies of what columns read.
+pub(crate) fn copy_fields(alloc: Global, fields: &[Field]) -> Result<Vec<Field>, NoMemory>
+    ensures { IfOk result (λ copies. map reader_of copies.items ≡ map reader_of fields.now) }
+{
+    let mut copies = Vec::new(alloc);
+    for field in fields {
+        copies.push(Field {
+            member: field.member.as_str().to_string(alloc)?,
+            kind: field.kind,
+        })?;
+    }
+    Ok(copies)
+}

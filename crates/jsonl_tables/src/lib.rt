@@ -6,11 +6,12 @@ pub mod fields;
 pub mod law;
 pub mod lines;
 mod objects;
+pub mod placed;
 pub mod rewrite;
 pub mod table;
 mod written;
 
-pub use contents::{read_lines, row_of_line};
+pub use contents::{cell_of_line, read_lines, row_of_line};
 pub use fields::{Field, fields_of};
 pub use lines::{Image, Span, line_at};
 pub use rewrite::rewritten;

@@ -120,7 +120,7 @@ fn read_value(alloc: Global, kind: ColType, value: &Value) -> Result<Cell, NoMem
 }
 
 /// The cell of a column.
-fn read_cell(alloc: Global, field: &Field, value: &Value) -> Result<Cell, NoMemory>
+pub(crate) fn read_cell(alloc: Global, field: &Field, value: &Value) -> Result<Cell, NoMemory>
     ensures { IfOk result (λ cell. datum cell ≡ read_cell (Some (view value.now)) (reader_of field.now)) }
 {
     match value.get(field.member.as_str()) {

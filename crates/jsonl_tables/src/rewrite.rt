@@ -13,6 +13,7 @@ use crate::objects::{LineFault, is_wider, parse_line};
 use crate::table::JsonTable;
 use crate::written::line_of;
 use fdw_api::interface::Fault;
+use med_value::limits::{BYTE_LIMIT, ROW_LIMIT};
 use med_value::{Cause, NoMemory};
 use staged_changes::{Fate, RowChange, keep_all, set_fate};
 use std::alloc::Global;
@@ -118,7 +119,7 @@ pub fn rewritten(alloc: Global, table: &JsonTable, changes: Vec<RowChange>) -> R
     let fates = keep_all(alloc, table.lines.len())?;
     let Sorted { fates, fresh } = sort_changes(alloc, table, fates, changes)?;
     let image = with_lines(kept_lines(alloc, table, fates)?, fresh)?;
-    if image.lines.len() > 1_000_000 || image.content.len() > 67_108_864 {
+    if image.lines.len() > ROW_LIMIT || image.content.len() > BYTE_LIMIT {
         return Err(Fault::Refused(Cause::TooLarge));
     }
     Ok(image)

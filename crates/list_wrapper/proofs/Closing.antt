@@ -22,14 +22,14 @@ use Rattle.med_value.specs.declared.cause.Cause.{Cause}
 use Rattle.med_value.specs.declared.cause.Cause.TheVariants.{TooLarge}
 use Rattle.fdw_api.specs.declared.interface.Fault.TheVariants.{Refused}
 use Rattle.list_wrapper.specs.declared.list.ListTable.{ListTable}
-use Rattle.list_wrapper.specs.declared.list.ListScan.{ListScan}
+use Rattle.list_wrapper.specs.declared.scans.ListScan.{ListScan}
 use Rattle.list_wrapper.specs.declared.changes.ListWrite.{ListWrite}
 use Rattle.list_wrapper.specs.Lists.{entry_of, listed, rows_fit, names_differ, no_line, list_refusals}
 use Rattle.list_wrapper.specs.Changes.{as_held, change_is, write_is}
-use Rattle.list_wrapper.specs.Scans.{numbered, rows_at, listed_rows, listed_kinds, kinds_at, stored, bound_of, marked_bound, mapped, list_state, scan_rows, scan_is, write_fits}
+use Rattle.list_wrapper.specs.Scans.{numbered, rows_at, listed_rows, listed_kinds, kinds_at, stored, bound_of, marked_bound, mapped, list_state, scan_rows, scan_is, write_fits, ScanFits, ScansFit}
 use Rattle.list_wrapper.proofs.Numbered.{numbered_fit}
 use Rattle.list_wrapper.proofs.Maps.{mapped_get}
-use Rattle.list_wrapper.proofs.Scans.{rows_fit_at}
+use Rattle.list_wrapper.proofs.Calls.{rows_fit_at}
 use Rattle.list_wrapper.proofs.Tables.{numbered_once, some_inj}
 
 pub held_rows : (n : ℕ) (rs : List Row) → map held (numbered n rs) ≡ map as_held rs
@@ -148,6 +148,12 @@ other_rows ts t q y ne = rw (set_other ts t q y ne) refl
 same_coming : (ts : List ListTable) (t : ℕ) (y : ListTable) (o : Option ListScan) → ((z : ListScan) → o ≡ Some z → z.table ≢ t) → scan_rows (slice_set ts t y) o ≡ scan_rows ts o
 same_coming ts t y None ne = refl
 same_coming ts t y (Some z) ne = rw (other_rows ts t z.table y (ne z refl)) refl
+
+-- no live scan is of a table that has no scan, so scans fit as before
+pub stay_fitting : (ts : List ListTable) (t : ℕ) (y : ListTable) (bound : List Bool) (m : BTreeMap ℕ ListScan) (staged : Option ListWrite) (next pulled : ℕ) → NoScan (list_state ts bound m staged next pulled) t → ScansFit ts m → ScansFit (slice_set ts t y) m
+stay_fitting ts t y bound m staged next pulled scans old q s e =
+    let ne : s.table ≢ t = scans q (scan_is ts s) (mapped_get (scan_is ts) m q ∙ ap (option_map (scan_is ts)) e) in
+    subst (λ (rows : List Row). ScanFits rows s) (sym (other_rows ts t s.table y ne)) (old q s e)
 
 pub list_closes : (tables : List ListTable) (bound : List Bool) (m : BTreeMap ℕ ListScan) (s : ListWrite) (next pulled : ℕ) (x y : ListTable) → slice_index_or bound s.table false ≡ true → slice_get tables s.table ≡ Some x → names_differ (map listed tables) ≡ true → y.name ≡ x.name → y.kinds ≡ x.kinds → map as_held y.rows.items ≡ rows_after no_line (numbered 0 x.rows.items) (map change_is s.changes.items) → length y.rows.items ≤ 1000000 → NoScan (list_state tables bound m (Some s) next pulled) s.table → Closes (list_state tables bound m (Some s) next pulled) true (list_state (slice_set tables s.table y) bound m None next pulled)
 list_closes tables bound m s next pulled x y marked is distinct en ek er small scans =

@@ -1,7 +1,10 @@
 pub mod Names
 pub mod Numbered
 pub mod Maps
-pub mod Scans
+pub mod Rows
+pub mod Places
+pub mod Walks
+pub mod Calls
 pub mod Tables
 pub mod NewLists
 pub mod Kept

@@ -4,7 +4,7 @@ use Rattle.std.specs.Ordering.{nat_cmp}
 use Rattle.std.specs.BTreeMap as tree
 use Rattle.std.specs.BTreeMap.{BTreeMap}
 use Rattle.list_wrapper.specs.declared.list.ListTable.{ListTable}
-use Rattle.list_wrapper.specs.declared.list.ListScan.{ListScan}
+use Rattle.list_wrapper.specs.declared.scans.ListScan.{ListScan}
 use Rattle.list_wrapper.specs.Lists.{listed, IsNewList}
 use Rattle.list_wrapper.specs.Scans.{list_state, marked_bound, scan_is}
 use Rattle.list_wrapper.proofs.Maps.{mapped_get}

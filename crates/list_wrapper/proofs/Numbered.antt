@@ -12,7 +12,7 @@ use Rattle.list_wrapper.specs.Scans.{numbered}
 abbrev pub row_at : ℕ → Row → TableRow
 row_at id r = record { id = id; cells = tuple r; origin = [] }
 
-length_numbered : (n : ℕ) (rs : List Row) → length (numbered n rs) ≡ length rs
+pub length_numbered : (n : ℕ) (rs : List Row) → length (numbered n rs) ≡ length rs
 length_numbered n [] = refl
 length_numbered n (r ∷ rs) = ap (λ (k : ℕ). suc k) (length_numbered (n + 1) rs)
 

@@ -18,12 +18,13 @@ use Rattle.fdw_api.specs.declared.interface.Fault.TheVariants.{Refused}
 use Rattle.fdw_api.specs.Scan.{Spec, row_fits}
 use Rattle.fdw_api.specs.State.{BoxTable, BoxState, set_at, table_of}
 use Rattle.fdw_api.specs.Calls.{Allows, CanBind, Binds, Unbinds, IsLeast, RefusesBind}
+use Rattle.fdw_api.specs.Wishes.{AllowsPromise}
 use Rattle.list_wrapper.specs.declared.list.ListTable.{ListTable}
-use Rattle.list_wrapper.specs.declared.list.ListScan.{ListScan}
+use Rattle.list_wrapper.specs.declared.scans.ListScan.{ListScan}
 use Rattle.list_wrapper.specs.declared.changes.ListWrite.{ListWrite}
 use Rattle.list_wrapper.specs.Lists.{list_image, list_reading, same_type, types_match, entry_of, listed, rows_fit}
 use Rattle.list_wrapper.specs.Scans.{numbered, stored, entry_at, rows_at, listed_rows, listed_kinds, bound_of, marked_bound, list_state}
-use Rattle.list_wrapper.proofs.Scans.{rows_fit_at}
+use Rattle.list_wrapper.proofs.Calls.{rows_fit_at}
 
 pub some_inj : {A : Type 0} (a b : A) → Some a ≡ Some b → a ≡ b
 some_inj a b q = cc
@@ -38,6 +39,13 @@ pub list_allows : (tables : List ListTable) (bound : List Bool) (scans : BTreeMa
 list_allows tables bound scans staged next pulled t spec e =
     let w = bound_allows spec (slice_index_or bound t false) (slice_get tables t) e in
     record { bound = w.0; is = w.1; allowed = w.2 }
+
+-- and what a list promises of it
+pub list_promises : (tables : List ListTable) (bound : List Bool) (scans : BTreeMap ℕ ListScan) (staged : Option ListWrite) (next pulled t : ℕ) (spec : Spec) → IsSome (table_of (list_state tables bound scans staged next pulled) t) → AllowsPromise (list_state tables bound scans staged next pulled) t spec
+list_promises tables bound scans staged next pulled t spec e = record {
+  allows = list_allows tables bound scans staged next pulled t spec e;
+  may = λ none. absurd cc;
+}
 
 mark_same : (bs : List Bool) (i : ℕ) (b : Bool) → i < length bs → slice_index_or (slice_set bs i b) i false ≡ b
 mark_same bs i b lt = search rules

@@ -9,6 +9,7 @@ use Rattle.med_value.specs.declared.value.ColType.TheVariants as types
 use Rattle.med_value.specs.declared.cause.Cause.{Cause}
 use Rattle.med_value.specs.declared.cause.Cause.TheVariants.{InvalidOptionName, TableNotFound, InvalidDataType, InvalidText, TooLarge}
 use Rattle.med_value.specs.Causes.{phase_of}
+use Rattle.med_value.specs.Limits.{row_limit}
 use Rattle.fdw_api.specs.Scan.{row_fits}
 use Rattle.fdw_api.specs.Kinds.{Kind, OptionForm, Entry, Bytes, Stored, Known, Held, Reading, Refusals, kinds_of, all_fit, as_they_come, is_of_run}
 use Rattle.fdw_api.specs.State.{BoxState, IsIdle, is_honest}
@@ -114,8 +115,8 @@ size_is_of_run false = mathlib.Core.Path.refl
 -- a write is refused by 54000 alone, where it would leave more than 1,000,000 rows
 abbrev pub list_refusals : Refusals
 list_refusals = record {
-  causes = λ entry rows changes. size_causes (nat_lt 1000000 (length (rows_after no_line rows changes)));
-  of_run = λ entry rows changes. size_is_of_run (nat_lt 1000000 (length (rows_after no_line rows changes)));
+  causes = λ entry rows changes. size_causes (nat_lt row_limit (length (rows_after no_line rows changes)));
+  of_run = λ entry rows changes. size_is_of_run (nat_lt row_limit (length (rows_after no_line rows changes)));
 }
 
 abbrev pub list_kind : Kind

@@ -1,22 +1,30 @@
 -- What a list source shows: its tables by place, and its scans.
-use Rattle.std.specs.Prelude.{◌≡◌, ◌<◌, ◌≤◌, ◌+◌, ◌-◌, ◌^◌, ℕ, Bool, true, false, List, [], ◌∷◌, map, filter, drop, Option, Some, None, slice_get, slice_index_or, option_map}
-use Rattle.std.specs.Ordering.{nat_cmp}
+use Rattle.std.specs.Prelude.{◌≡◌, ◌<◌, ◌≤◌, ◌+◌, ◌-◌, ◌^◌, ℕ, Bool, true, false, List, [], ◌∷◌, map, filter, drop, length, Option, Some, None, slice_get, slice_index_or, option_map, nat_eq, IsPermutation, IsSorted}
+use Rattle.std.specs.Ordering.{nat_cmp, on, then_cmp}
 use Rattle.std.specs.FinMap as finmap
 use Rattle.std.specs.BTreeMap as tree
 use Rattle.std.specs.BTreeMap.{BTreeMap}
 use Rattle.std.specs.String.{string_bytes}
-use Rattle.med_value.specs.Datum.{Tuple, datum, tuple}
+use Rattle.std.specs.declared.cmp.Ordering.{Ordering}
+use Rattle.std.specs.declared.cmp.Ordering.TheVariants.{Equal}
+use Rattle.med_value.specs.Datum.{Tuple, datum, tuple, cell}
+use Rattle.med_value.specs.Order.{key_cmp}
 use Rattle.med_value.specs.declared.value.Row.{Row}
-use Rattle.fdw_api.specs.Scan.{Spec, spec_of, TableRow, GivenRow, meets_exact, given_row}
+use Rattle.fdw_api.specs.Scan.{Spec, KeyForm, spec_of, TableRow, GivenRow, given_row, first_of, row_cmp}
+use Rattle.fdw_api.specs.Wishes.{key_form}
 use Rattle.med_value.specs.declared.value.ColType.{ColType}
 use Rattle.fdw_api.specs.Kinds.{Entry, Stored, Known, as_they_come}
 use Rattle.fdw_api.specs.State.{Nature, BoxTable, Scan, Staging, Ledger, Content, BoxState}
 use Rattle.fdw_api.specs.Calls.{row_of}
 use Rattle.fdw_api.specs.Writes.{row_of_change_fits}
 use Rattle.std.specs.List.{list_all}
-use Rattle.fdw_api.specs.declared.interface.SourceRow.{SourceRow}
+use Rattle.place_index.specs.declared.index.PlaceIndex.{PlaceIndex}
+use Rattle.place_index.specs.Scans.{is_taken, rows_taken, rows_at as rows_of_places, Serves, Stands}
 use Rattle.list_wrapper.specs.declared.list.ListTable.{ListTable}
-use Rattle.list_wrapper.specs.declared.list.ListScan.{ListScan}
+use Rattle.list_wrapper.specs.declared.scans.ListScan.{ListScan}
+use Rattle.list_wrapper.specs.declared.scans.Step.{Step}
+use Rattle.list_wrapper.specs.declared.scans.Walk.{Walk}
+use Rattle.list_wrapper.specs.declared.scans.Walk.TheVariants.{InTurn, ByIndex, ByKeys}
 use Rattle.list_wrapper.specs.declared.changes.ListWrite.{ListWrite}
 use Rattle.list_wrapper.specs.Lists.{entry_of, listed, list_kind, list_image, list_refusals, no_line}
 use Rattle.list_wrapper.specs.Changes.{write_is}
@@ -26,21 +34,95 @@ abbrev pub numbered : ℕ → List Row → List TableRow
 numbered n [] = []
 numbered n (r ∷ rs) = record { id = n; cells = tuple r; origin = [] } ∷ numbered (n + 1) rs
 
--- a row meets what the list took over
-abbrev pub is_taken : Spec → Tuple → TableRow → Bool
-is_taken spec params r = meets_exact spec.offered spec.answers params r.cells
+-- what a scan was asked for, with what is promised of it
+abbrev pub spec_is : ListScan → Spec
+spec_is s = record (spec_of s.spec) { order = map key_form s.order.items; limit = s.limit }
 
--- what a scan that stands at a place has still to give: of the table's rows from there on, those that meet what the list took over,
--- each as the scan shows it
-abbrev pub rows_to_come : Spec → Tuple → ℕ → List TableRow → List GivenRow
-rows_to_come spec params at rows = map (given_row spec) (filter (is_taken spec params) (drop at rows))
+abbrev pub params_of : ListScan → Tuple
+params_of s = map datum s.params.items
 
--- the next row of a scan that stands at a place: the first of the rows to come, and the scan goes on after it; None where none is left
-abbrev pub NextIs : Spec → Tuple → List TableRow → ℕ → Option SourceRow → Type 0
-NextIs spec params rows at None = rows_to_come spec params at rows ≡ []
-NextIs spec params rows at (Some row) =
-    (at ≤ row.id.number) × (row.id.number < 2 ^ 64 - 1)
-    × (rows_to_come spec params at rows ≡ row_of row ∷ rows_to_come spec params (row.id.number + 1) rows)
+-- of a table's rows from a place on, in list order, those that a scan takes: they meet what was answered Exact, and have what it looks for
+abbrev pub left_in_turn : Spec → Tuple → List TableRow → ℕ → List TableRow
+left_in_turn spec params rows at = filter (is_taken spec params) (drop at rows)
+
+-- the places of the rows that a scan takes, in list order
+abbrev pub places_taken : Spec → Tuple → List TableRow → List ℕ
+places_taken spec params rows = map (λ r. r.id) (rows_taken spec params rows)
+
+-- the rows at these places, from the at-th place on
+abbrev pub left_by_keys : List ℕ → List TableRow → ℕ → List TableRow
+left_by_keys places rows at = rows_of_places (drop at places) rows
+
+-- what of a table's rows a scan that goes by this walk takes and has not passed yet
+abbrev pub rows_left : Spec → Tuple → List TableRow → Walk → ℕ → List TableRow
+rows_left spec params rows InTurn at = left_in_turn spec params rows at
+rows_left spec params rows (ByIndex x) at = left_in_turn spec params rows at
+rows_left spec params rows (ByKeys places) at = left_by_keys places.items rows at
+
+-- the order of two rows' cells by these keys (SQL:2016, <sort specification list>): the first key that tells them apart decides
+abbrev pub cells_cmp : List KeyForm → Tuple → Tuple → Ordering
+cells_cmp [] = λ a b. Equal
+cells_cmp (k ∷ ks) = then_cmp (on (λ c. cell c k.column) (key_cmp k.descending k.nulls_first)) (cells_cmp ks)
+
+-- a scan that begins may go by a walk: it has all rows that the scan takes, in an order that the promised keys allow
+pub record Arranges (spec : Spec) (params : Tuple) (rows : List TableRow) (walk : Walk) : Type 0 where
+  pub same : IsPermutation (rows_taken spec params rows) (rows_left spec params rows walk 0)
+  pub sorted : IsSorted (row_cmp spec.order) (rows_left spec params rows walk 0)
+
+-- what a scan has still to give: those, each as the scan shows it, and no more of them than may still come
+abbrev pub rows_to_come : Spec → Tuple → List TableRow → Walk → ℕ → Option ℕ → List GivenRow
+rows_to_come spec params rows walk at more = first_of more (map (given_row spec) (rows_left spec params rows walk at))
+
+-- no more may come, and how many may once a row is given
+abbrev pub is_spent : Option ℕ → Bool
+is_spent None = false
+is_spent (Some n) = nat_eq n 0
+
+abbrev pub one_less : Option ℕ → Option ℕ
+one_less None = None
+one_less (Some n) = Some (n - 1)
+
+-- the next row of a scan that stands at a place, where these rows are left at each place: the first of them, if one more may come, and the
+-- scan goes on from a later place; None where none is left
+abbrev pub NextOf : Spec → (ℕ → List TableRow) → ℕ → Option ℕ → Option Step → Type 0
+NextOf spec left at more None = first_of more (map (given_row spec) (left at)) ≡ []
+NextOf spec left at more (Some step) =
+    (at < step.after) × (step.after < 2 ^ 64)
+    × (first_of more (map (given_row spec) (left at)) ≡ row_of step.row ∷ first_of (one_less more) (map (given_row spec) (left step.after)))
+
+abbrev pub NextIs : Spec → Tuple → List TableRow → Walk → ℕ → Option ℕ → Option Step → Type 0
+NextIs spec params rows walk = NextOf spec (rows_left spec params rows walk)
+
+-- the index by which a scan goes
+abbrev pub index_of : Walk → Option PlaceIndex
+index_of InTurn = None
+index_of (ByIndex x) = Some x
+index_of (ByKeys places) = None
+
+abbrev pub index_in : Option Walk → Option PlaceIndex
+index_in None = None
+index_in (Some walk) = index_of walk
+
+-- a scan that is begun again goes on a new walk, if there is one
+abbrev pub newer : Option Walk → Walk → Walk
+newer (Some walk) old = walk
+newer None old = old
+
+-- a scan goes from a place to another: it takes no row between them, and can go on behind the other
+pub record Moves (spec : Spec) (params : Tuple) (rows : List TableRow) (index : Option PlaceIndex) (at to : ℕ) : Type 0 where
+  pub past : at ≤ to
+  pub same : left_in_turn spec params rows at ≡ left_in_turn spec params rows to
+  pub on : to < length rows → Stands spec params rows (to + 1) index
+
+-- the index of a scan is of its table's rows, and it stands where its index goes on
+abbrev pub ScanFits : List Row → ListScan → Type 0
+ScanFits rows s =
+    Serves (spec_is s) (numbered 0 rows) (index_of s.walk) × Stands (spec_is s) (params_of s) (numbered 0 rows) s.at (index_of s.walk)
+
+-- its index goes on behind a row that it gives
+abbrev pub StandsAfter : List Row → ListScan → Option Step → Type 0
+StandsAfter rows s None = Unit {0}
+StandsAfter rows s (Some step) = Stands (spec_is s) (params_of s) (numbered 0 rows) step.after (index_of s.walk)
 
 -- a table as it stands in the source
 abbrev pub stored : ListTable → Entry
@@ -58,6 +140,9 @@ listed_rows (Some t) = t.rows.items
 
 abbrev pub rows_at : List ListTable → ℕ → List Row
 rows_at tables t = listed_rows (slice_get tables t)
+
+abbrev pub ScansFit : List ListTable → BTreeMap ℕ ListScan → Type 0
+ScansFit tables scans = (q : ℕ) (s : ListScan) → tree.get nat_cmp scans q ≡ Some s → ScanFits (rows_at tables s.table) s
 
 -- the types of the columns of the table at a place
 abbrev pub listed_kinds : Option ListTable → List ColType
@@ -95,8 +180,8 @@ abbrev pub scan_is : List ListTable → ListScan → Scan
 scan_is tables s = record {
   table = s.table;
   kinds = kinds_at tables s.table;
-  spec = spec_of s.spec;
-  params = map datum s.params.items;
+  spec = spec_is s;
+  params = params_of s;
   left = 2 ^ 64 - s.at;
   broken = s.broken;
 }
@@ -106,7 +191,7 @@ mapped f es = finmap.from_entries (map (λ e. (e.0, f e.1)) es)
 
 abbrev pub scan_rows : List ListTable → Option ListScan → List GivenRow
 scan_rows tables None = []
-scan_rows tables (Some s) = rows_to_come (spec_of s.spec) (map datum s.params.items) s.at (numbered 0 (rows_at tables s.table))
+scan_rows tables (Some s) = rows_to_come (spec_is s) (params_of s) (numbered 0 (rows_at tables s.table)) s.walk s.at s.more
 
 -- a list never fails by its source, so that `faults` stays 0
 abbrev pub list_ledger : List ListTable → List Bool → BTreeMap ℕ ListScan → Option ListWrite → ℕ → ℕ → Ledger
@@ -127,7 +212,7 @@ list_content tables scans = record {
 }
 
 abbrev pub list_nature : Nature
-list_nature = record { kind = list_kind; honest = true; skips = false }
+list_nature = record { kind = list_kind; honest = true; skips = false; promises = true }
 
 abbrev pub list_state : List ListTable → List Bool → BTreeMap ℕ ListScan → Option ListWrite → ℕ → ℕ → BoxState
 list_state tables bound scans staged next pulled = record {

@@ -3,5 +3,7 @@
 
 mod changes;
 pub mod list;
+mod scans;
+mod sorting;
 
 pub use list::{ListTable, ListWrapper};

@@ -1,21 +1,24 @@
 //! Tables of rows in memory.
-ghost use Rattle.std.specs.Prelude.{◌≡◌, ◌≤◌, ◌<◌, [], ℕ, List, map, length, replicate, Some, None, IfOk, IfErr, IsSome, IfSome, IsTrue, true, false, slice_get, option_map, bytes_eq};
+ghost use Rattle.std.specs.Prelude.{◌≡◌, ◌≤◌, ◌<◌, [], ℕ, List, map, length, replicate, Some, None, IfOk, IfErr, IsSome, IfSome, IsTrue, true, false, slice_get, option_map, is_some, bytes_eq};
 ghost use Rattle.std.specs.Ordering.{nat_cmp};
 ghost use Rattle.std.specs.BTreeMap as tree;
 ghost use Rattle.std.specs.String.{string_bytes};
-ghost use Rattle.med_value.specs.Datum.{datum};
-ghost use Rattle.fdw_api.specs.Scan.{spec_of};
 ghost use Rattle.fdw_api.specs.declared.scan.Agree.TheVariants.{Exact};
 ghost use Rattle.fdw_api.specs.Kinds.{Column, column_of, kinds_of};
+ghost use Rattle.fdw_api.specs.Wishes.{key_form, spec2_of};
+ghost use Rattle.med_value.specs.Datum.{datum};
 ghost use Rattle.list_wrapper.specs.declared.list.ListTable.{ListTable};
 ghost use Rattle.list_wrapper.specs.Lists.{listed, entry_of, names_differ, rows_fit, IsNewList, types_match};
 ghost use Rattle.list_wrapper.specs.Changes.{write_is};
-ghost use Rattle.list_wrapper.specs.Scans.{NextIs, numbered, entry_at, rows_at, write_fits};
+ghost use Rattle.list_wrapper.specs.Scans.{entry_at, write_fits, ScansFit};
 
 use crate::changes::{ListChange, ListWrite, add_change, applied};
+use crate::scans::{ListScan, advance, first_walk, new_walk, restart, row_of_scan, rows_of, spoil};
 use fdw_api::interface::{Counts, Fault, RowId, SourceRow, TableOption, Ticket, Wrapper};
 use fdw_api::law::{rows_are_typed, writes_are_typed};
-use fdw_api::scan::{Agree, Agreement, Restriction, ScanSpec, copy_values, meets_taken};
+use fdw_api::scan::{Agree, Agreement, Restriction, ScanSpec, copy_values};
+use fdw_api::wishes::{Agreement2, OrderKey, ScanSpec2, Wish, Wrapper2};
+use med_value::limits::ROW_LIMIT;
 use med_value::{Cause, ColType, ColumnDef, NoMemory, Row, TableNo, Value};
 use std::alloc::Global;
 use std::collections::BTreeMap;
@@ -31,22 +34,15 @@ pub struct ListTable {
     pub rows: Vec<Row>,
 }
 
-/// A live scan: what it was asked for, and the place from which it goes on.
-#[derive(Drop)]
-struct ListScan {
-    table: usize,
-    spec: ScanSpec,
-    params: Vec<Value>,
-    at: usize,
-    broken: bool,
-}
-
 /// Tables of rows in memory, as a source of foreign tables.
 ///
 /// It answers `Fault::Source` never. Its kind is `list_kind`: the name of a table stands for it, and its columns may have any names.
 /// The number of a table is its place, and the id of a row is its place in its table. It takes over every restriction, and gives the
-/// wanted columns alone where it is asked to. A write that is kept leaves the rows that stay in list order, and then the new ones; over
-/// 1,000,000 rows it is refused by `Cause::TooLarge` (54000). A refused call uses no ticket number up.
+/// wanted columns alone where it is asked to. A scan that looks for a parameter builds an index of that column when it is begun again, and
+/// goes from place to place by it until it ends, unless an order is promised. It promises each order that is wished, and each limit: a scan
+/// of which an order is promised sorts the places of the rows that it takes as it begins, and as it is begun again. A write that is kept
+/// leaves the rows that stay in list order, and then the new ones; over 1,000,000 rows it is refused by `Cause::TooLarge` (54000). A refused
+/// call uses no ticket number up.
 #[derive(Drop)]
 pub struct ListWrapper {
     tables: Vec<ListTable>,
@@ -58,11 +54,15 @@ pub struct ListWrapper {
     ghost marked: { length bound.items ≡ length tables.items },
     ghost distinct: { IsTrue (names_differ (map listed tables.items)) },
     ghost typed: { IsTrue (rows_fit (map listed tables.items)) },
+    ghost fitting: { ScansFit tables.items scans },
     ghost typed_write: { IsTrue (write_fits tables.items (option_map write_is staged)) },
     ghost fresh: { (k : ℕ) → next ≤ k → tree.get nat_cmp scans k ≡ None },
 }
 
 impl ListWrapper {
+    ghost use Rattle.fdw_api.specs.Scan.{spec_of};
+    ghost use Rattle.fdw_api.specs.State.{table_of};
+    ghost use Rattle.fdw_api.specs.Calls.{Begins, RefusesBegin};
     ghost use Rattle.list_wrapper.specs.ListBoxes.{box_of};
 
     /// A source of these tables, on which nothing is bound yet.
@@ -86,6 +86,66 @@ impl ListWrapper {
             pulled: 0,
         })
     }
+
+    // Begins a scan of which this order and this limit are promised.
+    fn start(
+        &mut self,
+        alloc: Global,
+        t: TableNo,
+        spec: &ScanSpec,
+        order: Vec<OrderKey>,
+        limit: Option<u64>,
+        params: &[Value],
+    ) -> Result<Ticket, Fault>
+        requires { IsSome (table_of (box_of self.old) t.number) }
+        ensures ok { IfOk result (λ ticket. Begins (box_of self.old) t.number
+            (record (spec_of spec.now) { order = map key_form order.items; limit = limit }) (map datum params.now) ticket.number
+            (box_of self.new)) }
+        ensures err { IfErr result (λ fault. RefusesBegin fault (box_of self.old) (box_of self.new)) }
+    {
+        if self.next == u64::MAX {
+            return Err(Fault::Refused(Cause::LimitExceeded));
+        }
+        let table = t.number as usize;
+        let walk = first_walk(alloc, rows_of(&self.tables, table), spec, &order, params)?;
+        let spec = spec.copy(alloc)?;
+        let params = copy_values(alloc, params)?;
+        let scan = ListScan {
+            table,
+            spec,
+            order,
+            limit,
+            params,
+            walk,
+            at: 0,
+            more: limit,
+            broken: false,
+        };
+        let number = self.next;
+        let Ok(_) = self.scans.insert(number, scan) else {
+            return Err(Fault::NoMemory);
+        };
+        self.next += 1;
+        Ok(Ticket { number })
+    }
+}
+
+/// The keys of the order that is promised of a scan, none where no order is.
+fn promised_order(alloc: Global, spec: &ScanSpec2) -> Result<Vec<OrderKey>, NoMemory>
+    ensures { IfOk result (λ keys. map key_form keys.items ≡ (spec2_of spec.now).order) }
+{
+    if spec.ordered {
+        Ok(spec.wish.order.clone()?)
+    } else {
+        Ok(Vec::new(alloc))
+    }
+}
+
+/// How many rows are promised to be all that come of a scan.
+fn promised_limit(spec: &ScanSpec2) -> Option<u64>
+    ensures { result ≡ (spec2_of spec.now).limit }
+{
+    if spec.limited { spec.wish.limit } else { None }
 }
 
 /// The place of the first table of a name.
@@ -122,89 +182,6 @@ fn has_types(types: &[ColType], columns: &[ColumnDef]) -> bool
         columns = columns_after;
     }
     columns.is_empty()
-}
-
-/// The next row of a scan, from its place on.
-fn next_row(alloc: Global, rows: &[Row], scan: &ListScan) -> Result<Option<SourceRow>, NoMemory>
-    ensures { IfOk result (λ next. NextIs (spec_of scan.now.spec) (map datum scan.now.params.items) (numbered 0 rows.now)
-        scan.now.at next) }
-{
-    let mut at = scan.at;
-    while at < rows.len() {
-        if meets_taken(
-            &scan.spec.offered,
-            &scan.spec.agreement.answers,
-            &rows[at],
-            &scan.params,
-        ) {
-            let cells = scan.spec.show(alloc, &rows[at])?;
-            return Ok(Some(SourceRow {
-                id: RowId { number: at as u64 },
-                cells,
-            }));
-        }
-        at += 1;
-    }
-    Ok(None)
-}
-
-/// Moves a scan on.
-fn advance(scans: &mut BTreeMap<u64, ListScan>, number: u64, at: usize)
-    requires { IsSome (tree.get nat_cmp scans.old number) }
-    ensures { IfSome (tree.get nat_cmp scans.old number)
-        (λ s. tree.Updates nat_cmp scans.old scans.new number (Some (record s { at = at }))) }
-{
-    match scans.get_mut(&number) {
-        Some(scan) => scan.at = at,
-        None => unreachable!(),
-    }
-}
-
-/// Marks a scan as good for `end` alone.
-fn spoil(scans: &mut BTreeMap<u64, ListScan>, number: u64)
-    requires { IsSome (tree.get nat_cmp scans.old number) }
-    ensures { IfSome (tree.get nat_cmp scans.old number)
-        (λ s. tree.Updates nat_cmp scans.old scans.new number (Some (record s { broken = true }))) }
-{
-    match scans.get_mut(&number) {
-        Some(scan) => scan.broken = true,
-        None => unreachable!(),
-    }
-}
-
-/// Begins a scan again.
-fn restart(scans: &mut BTreeMap<u64, ListScan>, number: u64, params: Vec<Value>)
-    requires { IsSome (tree.get nat_cmp scans.old number) }
-    ensures { IfSome (tree.get nat_cmp scans.old number)
-        (λ s. tree.Updates nat_cmp scans.old scans.new number (Some (record s { params = params; at = 0 }))) }
-{
-    match scans.get_mut(&number) {
-        Some(scan) => {
-            scan.params = params;
-            scan.at = 0;
-        }
-        None => unreachable!(),
-    }
-}
-
-/// The next row of a live scan.
-fn row_of_scan(
-    alloc: Global,
-    tables: &Vec<ListTable>,
-    scans: &BTreeMap<u64, ListScan>,
-    number: u64,
-) -> Result<Option<SourceRow>, NoMemory>
-    requires { IsSome (tree.get nat_cmp scans.now number) }
-    ensures { IfOk result (λ next. IfSome (tree.get nat_cmp scans.now number)
-        (λ s. NextIs (spec_of s.spec) (map datum s.params.items) (numbered 0 (rows_at tables.now.items s.table)) s.at next)) }
-{
-    match scans.get(&number) {
-        None => unreachable!(),
-        Some(scan) => match tables.get(scan.table) {
-            Some(table) => next_row(alloc, &table.rows, scan),
-            None => next_row(alloc, &[], scan),
-        },
-    }
 }
 
 impl Wrapper for ListWrapper {
@@ -265,22 +242,7 @@ impl Wrapper for ListWrapper {
         spec: &ScanSpec,
         params: &[Value],
     ) -> Result<Ticket, Fault> {
-        if self.next == u64::MAX {
-            return Err(Fault::Refused(Cause::LimitExceeded));
-        }
-        let spec = spec.copy(alloc)?;
-        let params = copy_values(alloc, params)?;
-        let scan = ListScan {
-            table: t.number as usize,
-            spec,
-            params,
-            at: 0,
-            broken: false,
-        };
-        let number = self.next;
-        self.scans.insert(number, scan)?;
-        self.next += 1;
-        Ok(Ticket { number })
+        self.start(alloc, t, spec, Vec::new(alloc), None, params)
     }
 
     fn iterate(&mut self, alloc: Global, ticket: &Ticket) -> Result<Option<SourceRow>, Fault> {
@@ -291,23 +253,27 @@ impl Wrapper for ListWrapper {
                 Err(Fault::NoMemory)
             }
             Ok(None) => Ok(None),
-            Ok(Some(row)) => {
+            Ok(Some(step)) => {
                 rows_are_typed();
-                advance(&mut self.scans, number, row.id.number as usize + 1);
+                advance(&mut self.scans, number, step.after);
                 self.pulled = self.pulled.saturating_add(1);
-                Ok(Some(row))
+                Ok(Some(step.row))
             }
         }
     }
 
     fn rescan(&mut self, alloc: Global, ticket: &Ticket, params: &[Value]) -> Result<(), Fault> {
-        match copy_values(alloc, params) {
+        let Ok(copies) = copy_values(alloc, params) else {
+            spoil(&mut self.scans, ticket.number);
+            return Err(Fault::NoMemory);
+        };
+        match new_walk(alloc, &self.tables, &self.scans, ticket.number, params) {
             Err(_) => {
                 spoil(&mut self.scans, ticket.number);
                 Err(Fault::NoMemory)
             }
-            Ok(params) => {
-                restart(&mut self.scans, ticket.number, params);
+            Ok(walk) => {
+                restart(&mut self.scans, ticket.number, copies, walk);
                 Ok(())
             }
         }
@@ -353,7 +319,7 @@ impl Wrapper for ListWrapper {
         } = staged;
         let at = table as usize;
         let rows = applied(alloc, &self.tables[at].rows, changes)?;
-        if rows.len() > 1_000_000 {
+        if rows.len() > ROW_LIMIT {
             return Err(Fault::Refused(Cause::TooLarge));
         }
         writes_are_typed();
@@ -368,5 +334,51 @@ impl Wrapper for ListWrapper {
             pulled: self.pulled,
             faults: 0,
         }
+    }
+}
+
+impl Wrapper2 for ListWrapper {
+    ghost use Rattle.fdw_api.specs.Scan.{restriction_form};
+    ghost use Rattle.fdw_api.specs.State.{table_of};
+    ghost use Rattle.fdw_api.specs.Wishes.{wish_form, spec2_by, is_fair, AllowsPromise};
+    ghost use Rattle.list_wrapper.specs.ListBoxes.{box_of};
+
+    /// Takes over every restriction, gives the wanted columns alone, and promises the order that is wished, and the limit if one is.
+    fn plan2(
+        &self,
+        alloc: Global,
+        t: TableNo,
+        wanted: &[usize],
+        offered: &[Restriction],
+        wish: &Wish,
+    ) -> Result<Agreement2, Fault>
+        requires { IsSome (table_of (box_of self.now) t.number) }
+        ensures ok { IfOk result (λ a. AllowsPromise (box_of self.now) t.number
+            (spec2_by wanted.now (map restriction_form offered.now) wish.now a)) }
+        ensures each { IfOk result (λ a. length a.base.answers.items ≡ length offered.now) }
+        ensures fair { IfOk result (λ a. is_fair (wish_form wish.now) a.base.answers.items a.ordered a.limited ≡ true) }
+        ensures err { IfErr result (λ fault. fault ≡ Fault.NoMemory) }
+        ensures takes_all { IfOk result (λ a. a.base.answers.items ≡ replicate (length offered.now) Exact) }
+        ensures narrow { IfOk result (λ a. a.base.narrow ≡ true) }
+        ensures ordered { IfOk result (λ a. a.ordered ≡ true) }
+        ensures limited { IfOk result (λ a. a.limited ≡ is_some wish.now.limit) }
+    {
+        let base = self.plan(alloc, t, wanted, offered)?;
+        Ok(Agreement2 {
+            base,
+            ordered: true,
+            limited: wish.limit.is_some(),
+        })
+    }
+
+    fn begin2(
+        &mut self,
+        alloc: Global,
+        t: TableNo,
+        spec: &ScanSpec2,
+        params: &[Value],
+    ) -> Result<Ticket, Fault> {
+        let order = promised_order(alloc, spec)?;
+        self.start(alloc, t, &spec.base, order, promised_limit(spec), params)
     }
 }

@@ -14,11 +14,11 @@ use Rattle.med_syntax.specs.QueryTree.{ItemTree, all, all_of, value, EntryTree, 
 use Rattle.tri_expr.specs.declared.expr.SetFunction.{SetFunction}
 use Rattle.tri_expr.specs.declared.expr.SetFunction.TheVariants.{Count, Sum, Min, Max}
 use Rattle.tri_expr.specs.Tree.{Tree}
-use Rattle.med_query.specs.Form.{JoinForm, cross_form, inner_form, left_form, ChainForm, GroupForm, Form}
+use Rattle.med_query.specs.Form.{JoinForm, cross_form, inner_form, left_form, ChainForm, GroupForm, CoreForm, Form}
 use Rattle.bind_names.specs.Scope.{TableShape, Scope, has_entry, candidates, exposed_name, entries_of, is_known, entry_shape, from_scope}
 use Rattle.bind_names.specs.Meaning.{Output, outputs_of, SortKey, position, output_name, expression, is_named, sort_key, function_named, resolved, with_join, meant_in}
 use Rattle.bind_names.specs.Naming.{counted_causes, column_causes, name_causes, name_causes_of_all, star_causes, item_name_causes, condition_name_causes, on_name_causes, joins_name_causes, chain_name_causes, group_name_causes, are_same, distinct_causes, sort_key_causes, key_name_causes, entry_causes, alias_causes, from_causes, asked_causes, once_known, statement_name_causes, NameCauses}
-use Rattle.bind_types.specs.Typing.{type_of, types_of, takes, have_one_type, unless, comparing, as_number, as_text, as_ordered, as_call_all, as_call, as_condition, as_tested, ends_in_escape, as_pattern, type_causes, type_causes_of_all, condition_causes, item_type_causes, as_where, condition_type_causes, on_type_causes, joins_type_causes, chain_type_causes, sort_key_type_causes, key_type_causes, no_aggregate, no_risk, join_causes, chain_causes, grouping_causes, form_causes, written_type_causes, statement_type_causes, TypeCauses}
+use Rattle.bind_types.specs.Typing.{type_of, types_of, takes, have_one_type, unless, comparing, as_number, as_text, as_ordered, as_call_all, as_call, as_condition, as_tested, ends_in_escape, as_pattern, type_causes, type_causes_of_all, condition_causes, item_type_causes, as_where, condition_type_causes, on_type_causes, joins_type_causes, chain_type_causes, sort_key_type_causes, key_type_causes, no_aggregate, no_risk, join_causes, chain_causes, grouping_causes, core_causes, form_causes, written_type_causes, statement_type_causes, TypeCauses}
 use Rattle.med_value.specs.Causes.{phase_of}
 
 abbrev OfNames : List Cause → Type 0
@@ -305,10 +305,13 @@ grouping_types : (g : Option GroupForm) (shown : List Tree) → OfTypes (groupin
 grouping_types None shown = none_of typed
 grouping_types (Some g) shown = unless_types _ Grouping refl
 
-form_types : (f : Form) → OfTypes (form_causes f)
-form_types f =
+core_types : (f : CoreForm) → OfTypes (core_causes f)
+core_types f =
     with_types (flat_map chain_causes f.from) (no_aggregate f.conditions ++ grouping_causes f.group (f.keys ++ f.items)) (flat_of typed chain_causes f.from chain_types)
     (with_types (no_aggregate f.conditions) (grouping_causes f.group (f.keys ++ f.items)) (aggregate_types f.conditions) (grouping_types f.group (f.keys ++ f.items)))
+
+form_types : (f : Form) → OfTypes (form_causes f)
+form_types f = flat_of typed core_causes f.cores core_types
 
 written_types : (tables : List TableShape) (q : SelectTree) → OfTypes (written_type_causes tables q)
 written_types tables q =

@@ -14,12 +14,12 @@ use Rattle.med_syntax.specs.QueryTree.{ItemTree, all, all_of as all_of_entry, va
 use Rattle.tri_expr.specs.declared.expr.SetFunction.{SetFunction}
 use Rattle.tri_expr.specs.Tree.{Tree, Trees, conjunct_trees, conjuncts_of_all, column, parameter, literal, compare, compute, negate, all_of, some_of, opposite, asks, between, within, matches, parenthesised, count_rows, aggregate, none, part}
 use Rattle.tri_expr.specs.TreeParts.{arguments_in, arguments_in_all}
-use Rattle.med_query.specs.Form.{GroupForm}
+use Rattle.med_query.specs.Form.{GroupForm, CoreForm}
 use Rattle.med_value.specs.Datum.{NoValue}
 use Rattle.bind_names.specs.Scope.{TableShape, Scope, is_meant, has_entry, places_from, candidates_from, candidates, columns_of, joined_entry, chain_entries, entries_of, entry_columns, entry_shape, from_scope}
 use Rattle.bind_names.specs.Naming.{counted_causes, column_causes, name_causes, name_causes_of_all, item_name_causes, condition_name_causes, on_name_causes, joins_name_causes, chain_name_causes, group_name_causes, distinct_causes, sort_key_causes, key_name_causes, NameCauses}
 use Rattle.bind_names.specs.Meaning.{Output, one_place, joined, function_named, aggregate_of, resolved, resolved_all, columns_from, starred, item_outputs, outputs_of, conditions_of, SortKey, position, output_name, expression, is_named, sort_key, first_value, sorted_by, key_meant, join_meant, with_join, joins_meant, chain_meant, chains_meant, group_place, groups_rows, group_meant, meant}
-use Rattle.med_binder.specs.Within.{IsWithin, AreWithin, widths, widths_of, width_between, JoinWithin, ChainWithin, GroupWithin, FormWithin}
+use Rattle.med_binder.specs.Within.{IsWithin, AreWithin, widths, widths_of, width_between, JoinWithin, ChainWithin, GroupWithin, CoreWithin, FormWithin}
 use Rattle.med_binder.proofs.LawEntries.{left_empty, right_empty, no_asked}
 
 -- ---- places
@@ -364,11 +364,13 @@ form_within tables (select q) n =
     let items_in = All-map (IsWithin (length (columns_of s))) (λ (o : Output). o.value) outs shows in
     let keys_in = keys_within s q.distinct outs q.keys shows (right_empty having_part key_part rest4) in
     let wide = total s in
-    record {
+    let core : CoreForm = record { from = chains_meant tables 0 q.from; conditions = conditions_of s q.condition; group = group_meant s q (keys ++ items); items = items; distinct = q.distinct; keys = keys } in
+    let inside : CoreWithin (widths s) core = record {
       joins = chains_within tables (widths s) 0 q.from (shape_widths tables (entries_of q.from)) (left_empty chain_part (item_part ++ (where_part ++ (group_part ++ (having_part ++ key_part)))) asked);
       conditions = subst (λ (k : ℕ). All (IsWithin k) (conditions_of s q.condition)) wide (condition_within s q.condition (left_empty where_part (group_part ++ (having_part ++ key_part)) rest2));
       group = subst (λ (k : ℕ). GroupWithin k (group_meant s q (keys ++ items))) wide
           (group_within s q (keys ++ items) (left_empty group_part (having_part ++ key_part) rest3) (left_empty having_part key_part rest4) (two_within (length (columns_of s)) keys items keys_in items_in));
       items = subst (λ (k : ℕ). All (IsWithin k) items) wide items_in;
       keys = subst (λ (k : ℕ). All (IsWithin k) keys) wide keys_in;
-    }
+    } in
+    All-cons (CoreWithin (widths s)) core [] inside (All-nil (CoreWithin (widths s)))

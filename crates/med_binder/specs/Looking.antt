@@ -1,5 +1,5 @@
 -- What looking up the names of a query answers.
-use Rattle.std.specs.Prelude.{◌≡◌, List, [], ◌++◌, map, flat_map, string_bytes, All, unwrap_or, Result, Ok, Err}
+use Rattle.std.specs.Prelude.{◌≡◌, List, [], ◌∷◌, ◌++◌, map, flat_map, string_bytes, All, unwrap_or, Result, Ok, Err}
 use Rattle.med_value.specs.declared.cause.Cause.{Cause}
 use Rattle.med_syntax.specs.QueryTree.{SelectTree}
 use Rattle.tri_expr.specs.Tree.{tree}
@@ -52,12 +52,14 @@ form_with q a =
     let items = map (λ (o : Output). o.value) (map output_of a.outputs.items) in
     let keys = map tree a.keys.items in
     record {
-      from = map chain_form a.from.items;
-      conditions = map tree a.conditions.items;
-      group = group_of (groups_rows q (keys ++ items)) a.places.items (map tree a.having.items) (keys ++ items);
-      items = items;
-      distinct = q.distinct;
-      keys = keys;
+      cores = record {
+        from = map chain_form a.from.items;
+        conditions = map tree a.conditions.items;
+        group = group_of (groups_rows q (keys ++ items)) a.places.items (map tree a.having.items) (keys ++ items);
+        items = items;
+        distinct = q.distinct;
+        keys = keys;
+      } ∷ [];
       directions = map key_direction q.keys;
       offset = unwrap_or q.offset 0;
       limit = rows_left q.limit;

@@ -3,7 +3,7 @@
 use Rattle.std.specs.Prelude.{ℕ, suc, ◌-◌, ◌<◌, List, length, map, sum, take, drop, All, Option, Some, None}
 use Rattle.med_syntax.specs.QueryTree.{StatementTree, select}
 use Rattle.tri_expr.specs.Tree.{Tree, Trees, column, parameter, literal, compare, compute, negate, all_of, some_of, opposite, asks, between, within, matches, parenthesised, count_rows, aggregate, none, part}
-use Rattle.med_query.specs.Form.{JoinForm, cross_form, inner_form, left_form, ChainForm, GroupForm, Form}
+use Rattle.med_query.specs.Form.{JoinForm, cross_form, inner_form, left_form, ChainForm, GroupForm, CoreForm, Form}
 use Rattle.bind_names.specs.Scope.{TableShape, Scope, from_scope}
 
 -- each place in a list of tables is that of one of them
@@ -60,9 +60,13 @@ GroupWithin w None = Unit {0}
 GroupWithin w (Some g) = All (λ (place : ℕ). place < w) g.keys × All (IsWithin w) g.arguments × All (IsWithin w) g.having
 
 -- ON sees the entries on its left, all else the columns of all entries
-pub record FormWithin (ws : List ℕ) (f : Form) : Type 0 where
+pub record CoreWithin (ws : List ℕ) (f : CoreForm) : Type 0 where
   pub joins : All (ChainWithin ws) f.from
   pub conditions : All (IsWithin (sum ws)) f.conditions
   pub group : GroupWithin (sum ws) f.group
   pub items : All (IsWithin (sum ws)) f.items
   pub keys : All (IsWithin (sum ws)) f.keys
+
+-- the same of each core
+abbrev pub FormWithin : List ℕ → Form → Type 0
+FormWithin ws f = All (CoreWithin ws) f.cores

@@ -6,7 +6,7 @@ ghost use Rattle.bind_names.specs.Scope.{table_shape};
 ghost use Rattle.bind_types.specs.Typing.{select_type_causes, statement_type_causes};
 ghost use Rattle.med_binder.specs.Binding.{IsBound, IsEntryOf, BindCauses, BindTells};
 ghost use Rattle.med_binder.specs.Turns.{Binds};
-ghost use Rattle.med_query.specs.Select.{is_safe_from};
+ghost use Rattle.med_query.specs.Select.{are_safe_cores};
 ghost use Rattle.med_syntax.specs.QueryTree.{select};
 ghost use Rattle.med_syntax.specs.QueryView.{select_tree, statement_tree};
 ghost use Rattle.med_value.specs.declared.cause.Cause.{Cause};
@@ -30,7 +30,7 @@ fn bind_select(
         (select_type_causes (map table_shape tables.now) (select_tree select.now))
         (meant_in (map table_shape tables.now) (select_tree select.now)) result }
     ensures entries { IfOk result (λ b. All (IsEntryOf tables.now) b.entries.items) }
-    ensures safe { IfOk result (λ b. is_safe_from b.select.from.items ≡ true) }
+    ensures safe { IfOk result (λ b. are_safe_cores b.select.cores.items ≡ true) }
 {
     let bound = look_up(alloc, select, tables)?;
     check_written(alloc, select, tables)?;
@@ -57,7 +57,7 @@ fn bind_statement(
         (statement_type_causes (map table_shape tables.now) (statement_tree statement.now))
         (meant (map table_shape tables.now) (statement_tree statement.now)) result }
     ensures entries { IfOk result (λ b. All (IsEntryOf tables.now) b.entries.items) }
-    ensures safe { IfOk result (λ b. is_safe_from b.select.from.items ≡ true) }
+    ensures safe { IfOk result (λ b. are_safe_cores b.select.cores.items ≡ true) }
 {
     bind_select(alloc, query_of(statement), tables)
 }
@@ -83,7 +83,7 @@ pub fn bind(
     // Its entries are the tables that they stand for.
     ensures entries { IfOk result (λ b. All (IsEntryOf tables.now) b.entries.items) }
     // No ON of it may fault.
-    ensures safe { IfOk result (λ b. is_safe_from b.select.from.items ≡ true) }
+    ensures safe { IfOk result (λ b. are_safe_cores b.select.cores.items ≡ true) }
     // A statement for which a cause of names or types stands is not answered.
     ensures clear { OnOk result ((c : Cause) → BindCauses (map table_shape tables.now) (statement_tree statement.now) c → ⊥) }
     // A refusal tells a cause that stands, one of names before one of types, or that memory was refused.

@@ -15,7 +15,7 @@ use bind_query::grouping::grouping;
 use bind_query::joins::{chains, conditions};
 use bind_query::keys::{directions, keys, places};
 use bind_query::outputs::{Shown, outputs_of};
-use med_query::{JoinChain, Select as Resolved};
+use med_query::{JoinChain, Select as Resolved, SelectCore};
 use med_syntax::{Limit, Select};
 use med_value::Cause;
 use std::alloc::Global;
@@ -140,13 +140,17 @@ fn assemble(
         keys.as_slice(),
         items.as_slice(),
     )?;
-    let select = Resolved {
+    let mut cores = Vec::new(alloc);
+    cores.push(SelectCore {
         from,
         conditions,
         grouping,
         items,
         distinct: select.distinct,
         keys,
+    })?;
+    let select = Resolved {
+        cores,
         directions,
         offset: rows_skipped(&select.offset),
         limit: rows_left(&select.limit),

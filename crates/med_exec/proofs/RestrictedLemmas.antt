@@ -1,5 +1,5 @@
 -- Rows of a scan that are checked again are the rows of which all restrictions are true, whatever the wrapper agreed to.
-use Rattle.std.proofs.Common.{◌≡◌, ◌≢◌, ℕ, ◌⊎◌, zero, suc, eqb, nat_eq, Bool, true, false, cond, not, ◌&&◌, ◌||◌, if◌then◌else◌, List, [], ◌∷◌, ◌++◌, map, filter, refl, ap, sym, ◌∙◌, subst, append_assoc, inl, inr}
+use Rattle.std.proofs.Common.{◌≡◌, ◌≢◌, ℕ, ◌⊎◌, zero, suc, eqb, nat_eq, Bool, true, false, cond, not, ◌&&◌, ◌||◌, if◌then◌else◌, List, [], ◌∷◌, ◌++◌, map, filter, refl, ap, sym, ◌∙◌, subst, append_assoc, inl, inr, None}
 use Rattle.std.specs.List.{All, list_any}
 use Rattle.std.specs.List.Sorted.{IsPermutation}
 use Rattle.std.proofs.lemmas.Bool.Decides.{eqb_tells}
@@ -10,6 +10,7 @@ use Rattle.fdw_api.specs.Scan.{Spec, RestrictionForm, GivenRow, TableRow, IsComi
 use Rattle.fdw_api.specs.declared.scan.Agree.{Agree}
 use Rattle.fdw_api.specs.declared.scan.Agree.TheVariants.{Ignored, Hint, Exact}
 use Rattle.med_exec.specs.Reading.{cells_of}
+use Rattle.fdw_api.proofs.Unpromised.{all_first}
 use Rattle.med_exec.specs.Restricted.{ShowsAll, place_in, place_shown, all_wanted, meets_shown, meets_rest, checked, AreRestricted}
 
 both : (a b : Bool) → (a && b) ≡ true → (a ≡ true) × (b ≡ true)
@@ -84,8 +85,8 @@ left_over spec params (r ∷ rs) seen exact =
     (left_over spec params rs seen (All-tail (λ x. meets_exact spec.offered spec.answers params x.cells ≡ true) r rs exact))
 
 -- exactly the rows of which all restrictions are true, up to order
-pub checked_again : (rows : List TableRow) (spec : Spec) (params : Tuple) (coming : List GivenRow) → ShowsAll spec spec.offered → IsComing rows spec params coming → AreRestricted rows spec params coming
-checked_again rows spec params coming seen c =
+pub checked_again : (rows : List TableRow) (spec : Spec) (params : Tuple) (coming : List GivenRow) → ShowsAll spec spec.offered → spec.limit ≡ None → IsComing rows spec params coming → AreRestricted rows spec params coming
+checked_again rows spec params coming seen all c =
     let passed = filter (all_of spec params) c.taken in
     let failed = filter (λ r. not (all_of spec params r)) c.taken in
     record {
@@ -99,5 +100,5 @@ checked_again rows spec params coming seen c =
         passing = filter_passes (all_of spec params) c.taken;
         failing = All-append (λ r. all_of spec params r ≡ false) failed c.left_out (All-weaker (λ r. not (all_of spec params r) ≡ true) (λ r. all_of spec params r ≡ false) (λ r e. not_true (all_of spec params r) e) failed (filter_passes (λ r. not (all_of spec params r)) c.taken)) c.failing;
       };
-      passed = ap (λ l. filter (checked spec params) (cells_of l)) c.is ∙ left_over spec params c.taken seen c.exact;
+      passed = ap (λ l. filter (checked spec params) (cells_of l)) (c.is ∙ ap (map (given_row spec)) (all_first spec.limit all c.taken)) ∙ left_over spec params c.taken seen c.exact;
     }

@@ -7,7 +7,7 @@ use Rattle.tri_expr.specs.declared.expr.Fault.{Fault as Wrong}
 use Rattle.tri_expr.specs.declared.expr.Fault.TheVariants.{Range, Zero}
 use Rattle.tri_expr.specs.declared.expr.EvalFault.TheVariants.{OutOfRange as Overflow, ZeroDivisor, NoMemory as LacksMemory}
 use Rattle.med_query.specs.Select.{query_of}
-use Rattle.med_query.specs.Query.{Query, Tables, IsAnswer, faults, kept}
+use Rattle.med_query.specs.Query.{Core, Query, Tables, IsAnswer, faults, kept}
 use Rattle.fdw_api.specs.Scan.{TableRow, GivenRow, IsComing, spec_of}
 use Rattle.fdw_api.specs.State.{Ledger, BoxState, is_honest, rows_of}
 use Rattle.fdw_api.specs.Calls.{CanBegin}
@@ -22,7 +22,7 @@ use Rattle.med_exec.specs.Slots.{BoxAt, ChangesAt}
 use Rattle.med_exec.specs.Scanning.{RunsScan, FailsScan}
 use Rattle.med_exec.specs.Running.{none_held, AllServed, SlotShows, AllHonest, AllBegin, Stops, lacks_memory, source_fails, numbers_end, query_shows, Begun}
 use Rattle.med_exec.specs.Refusing.{refusal}
-use Rattle.query_answer.specs.Answering.{IsSmall, IsShownFault}
+use Rattle.query_answer.specs.Answering.{IsSmall, AreSmall, IsShownFault}
 use Rattle.query_answer.specs.declared.outputs.AnswerFault.{AnswerFault}
 use Rattle.query_answer.specs.declared.outputs.AnswerFault.TheVariants.{Evaluation, TooManyRows}
 use Rattle.med_exec.proofs.ScanLemmas.{honest_on}
@@ -87,18 +87,21 @@ pub shown_stops : (q : Query) (entries : List Place) (plan : Plan) (bad : Answer
 shown_stops q entries plan (Evaluation LacksMemory) lists old new is read h = lacks_memory refl
 shown_stops q entries plan (Evaluation Overflow) lists old new is read h = query_shows OutOfRange refl (λ honest. is.told lists (read honest) OutOfRange (inl (Range, h, refl)))
 shown_stops q entries plan (Evaluation ZeroDivisor) lists old new is read h = query_shows DivisionByZero refl (λ honest. is.told lists (read honest) DivisionByZero (inl (Zero, h, refl)))
-shown_stops q entries plan TooManyRows lists old new is read h = query_shows TooLarge refl (λ honest. is.told lists (read honest) TooLarge (inr (h.0, h.1, refl)))
+shown_stops q entries plan TooManyRows lists old new is read h = query_shows TooLarge refl (λ honest. is.told lists (read honest) TooLarge (inr (h, refl)))
 
 -- the answer over the rows that were read
 none_in : (fs : List Wrong) (f : Wrong) → fs ≡ [] → Contains fs f → ⊥
 none_in fs f e h = let k : Contains [] f = subst (λ (l : List Wrong). Contains l f) e h in let n = k.1 in omega arith
 
-no_cause : (q : Query) (db : Tables) (c : Cause) → faults q db ≡ [] → IsSmall q db → IsShownCause q db c → ⊥
+no_cause : (q : Query) (db : Tables) (c : Cause) → faults q db ≡ [] → AreSmall q.cores db → IsShownCause q db c → ⊥
 no_cause q db c quiet small (inl (f, h, e)) = none_in (faults q db) f quiet h
-no_cause q db c quiet small (inr (some, large, e)) = let least : length (kept q db) ≤ 2 ^ 62 = small some in let most : 2 ^ 62 < length (kept q db) = large in omega (arith, least, most)
+no_cause q db c quiet small (inr (w, e)) =
+    let least : length (kept w.1 db) ≤ 2 ^ 62 = subst (λ (k : Core). IsSmall k db) w.3 (small w.0 w.1 w.2) w.4.0 in
+    let most : 2 ^ 62 < length (kept w.1 db) = w.4.1 in
+    omega (arith, least, most)
 
 pub begins : (q : Query) (entries : List Place) (plan : Plan) (lists : List (List Tuple)) (old : List (Option BoxState)) (out : List Tuple) (rests : List Tuple → Type 0) → rests out → ((rows : List Tuple) → rests rows → rows ≡ out) → IsPlanOf q entries old plan → (AllHonest old → AllMayGive old plan.scans.items lists)
-    → IsAnswer (query_of plan.select) (in_order lists) out → IsSmall (query_of plan.select) (in_order lists) → Begun q entries rests old
+    → IsAnswer (query_of plan.select) (in_order lists) out → AreSmall (query_of plan.select).cores (in_order lists) → Begun q entries rests old
 begins q entries plan lists old out rests some only is read answer small = record {
   some = λ honest. (out, some);
   answers = λ rows r honest. is.answers lists (read honest) rows (subst (λ (l : List Tuple). IsAnswer (query_of plan.select) (in_order lists) l) (sym (only rows r)) answer);

@@ -7,14 +7,15 @@ ghost use Rattle.med_exec.specs.Slots.{states, BoxAt, ChangesAt};
 ghost use Rattle.med_exec.specs.Reading.{GivesAll, StopsBy};
 ghost use Rattle.med_exec.specs.Scanning.{RunsScan, FailsScan};
 
-use fdw_api::interface::{Fault, Ticket, Wrapper};
+use fdw_api::interface::{Fault, Ticket};
 use fdw_api::scan::ScanSpec;
+use fdw_api::wishes::Wrapper2;
 use med_value::{Row, TableNo};
 use pushdown::EntryScan;
 use std::alloc::Global;
 
 // Reads a scan to its end. The scan stays live.
-fn read_all<W: Wrapper>(b: &mut W, alloc: Global, ticket: &Ticket) -> Result<Vec<Row>, Fault>
+fn read_all<W: Wrapper2>(b: &mut W, alloc: Global, ticket: &Ticket) -> Result<Vec<Row>, Fault>
     requires { IsOpen (W.meaning b.old) ticket.now.number }
     ensures ok { IfOk result (λ rows. GivesAll ticket.now.number (W.meaning b.old) (map tuple rows.items) (W.meaning b.new)) }
     ensures err { IfErr result (λ fault. StopsBy ticket.now.number fault (W.meaning b.old) (W.meaning b.new)) }
@@ -27,7 +28,7 @@ fn read_all<W: Wrapper>(b: &mut W, alloc: Global, ticket: &Ticket) -> Result<Vec
 }
 
 // Reads what a scan of a table of a box gives, under an agreement that the table allows.
-fn scan_box<W: Wrapper>(
+fn scan_box<W: Wrapper2>(
     b: &mut W,
     alloc: Global,
     table: TableNo,
@@ -53,7 +54,7 @@ fn scan_box<W: Wrapper>(
 /// [`Fault::Refused`] by 54000 alone, where the box's ticket numbers are used up. No scan is then left live.
 ///
 /// PostgreSQL: Writing a Foreign Data Wrapper, `BeginForeignScan`, `IterateForeignScan`, `EndForeignScan`.
-pub(crate) fn read_scan<W: Wrapper>(
+pub(crate) fn read_scan<W: Wrapper2>(
     slots: &mut Vec<Option<W>>,
     alloc: Global,
     scan: &EntryScan,

@@ -4,14 +4,15 @@ ghost use Rattle.fdw_api.specs.Calls.{CanBind, Binds, RefusesBind, CanUnbind, Un
 ghost use Rattle.fdw_api.specs.Kinds.{column_of, option_form};
 ghost use Rattle.med_exec.specs.Slots.{states, BoxAt, ChangesAt, counts_at};
 
-use fdw_api::interface::{Counts, Fault, TableOption, Wrapper};
+use fdw_api::interface::{Counts, Fault, TableOption};
+use fdw_api::wishes::Wrapper2;
 use med_value::{ColumnDef, TableNo};
 use std::alloc::Global;
 
 /// Binds a foreign table of the slot's box to what its source holds under a remote name.
 ///
 /// Refuses as [`Wrapper::bind`] does.
-pub fn bind_at<W: Wrapper>(
+pub fn bind_at<W: Wrapper2>(
     slots: &mut Vec<Option<W>>,
     alloc: Global,
     slot: usize,
@@ -35,7 +36,7 @@ pub fn bind_at<W: Wrapper>(
 }
 
 /// Unbinds a table of the slot's box. It always succeeds.
-pub fn unbind_at<W: Wrapper>(slots: &mut Vec<Option<W>>, slot: usize, table: TableNo)
+pub fn unbind_at<W: Wrapper2>(slots: &mut Vec<Option<W>>, slot: usize, table: TableNo)
     requires { BoxAt (states W.meaning slots.old.items) slot (λ s. CanUnbind s table.number) }
     ensures { ChangesAt (states W.meaning slots.old.items) slot (λ old new. Unbinds old table.number new)
         (states W.meaning slots.new.items) }
@@ -47,7 +48,7 @@ pub fn unbind_at<W: Wrapper>(slots: &mut Vec<Option<W>>, slot: usize, table: Tab
 }
 
 /// The counts of the slot's box, or `None` where there is no such slot or its box was dropped.
-pub fn ledger_at<W: Wrapper>(slots: &Vec<Option<W>>, slot: usize) -> Option<Counts>
+pub fn ledger_at<W: Wrapper2>(slots: &Vec<Option<W>>, slot: usize) -> Option<Counts>
     ensures { result ≡ counts_at (states W.meaning slots.now.items) slot }
 {
     match slots.get(slot) {

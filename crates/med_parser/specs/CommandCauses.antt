@@ -2,6 +2,7 @@
 use Rattle.std.specs.Prelude.{◌≡◌, ℕ, ◌<◌, ◌⊎◌, Bool, true, false, List, Any, count_by}
 use Rattle.med_value.specs.declared.cause.Cause.{Cause}
 use Rattle.med_value.specs.declared.cause.Cause.TheVariants as causes
+use Rattle.med_value.specs.Limits.{height_limit}
 use Rattle.med_lexer.specs.Lexemes.{Shape, Lexeme, Lexes}
 use Rattle.expr_grammar.specs.Shapes.{shapes, IsLongName, deepens}
 use Rattle.expr_grammar.specs.ExprGrammar.{IsHuge}
@@ -36,8 +37,8 @@ TokenCauses ts causes.Syntax = (c : CommandTree) → IsCommand ts c → ⊥
 TokenCauses ts causes.NameTooLong = Any IsLongName ts
 TokenCauses ts causes.LiteralOutOfRange = Any IsHuge ts ⊎ ((c : CommandTree) × IsCommand ts c × (command_in_range c ≡ false))
 TokenCauses ts causes.TooDeep =
-    ((c : CommandTree) × IsCommand ts c × (64 < command_height c))
-    ⊎ (((c : CommandTree) → IsCommand ts c → ⊥) × (64 < count_by deepens ts))
+    ((c : CommandTree) × IsCommand ts c × (height_limit < command_height c))
+    ⊎ (((c : CommandTree) → IsCommand ts c → ⊥) × (height_limit < count_by deepens ts))
 TokenCauses ts causes.FetchZero = (c : CommandTree) × IsCommand ts c × (is_fetch_zero_command c ≡ true)
 TokenCauses ts _ = ⊥
 

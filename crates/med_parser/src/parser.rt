@@ -11,6 +11,7 @@ ghost use Rattle.med_parser.specs.CommandCauses.{SyntaxCauses, TokenCauses};
 ghost use Rattle.med_parser.specs.CommandGrammar.{HasCommand, IsCommand};
 ghost use Rattle.med_parser.specs.CommandTree.{command_height, command_tree};
 ghost use Rattle.med_value.specs.declared.cause.Cause.{Cause};
+ghost use Rattle.med_value.specs.Limits.{height_limit};
 ghost use Rattle.std.specs.Prelude.{◌≡◌, ◌≤◌, ◌⊎◌, IfErr, IfOk, OnOk};
 ghost use Rattle.write_parser.specs.WriteCauses.{Refuses};
 
@@ -33,7 +34,7 @@ use write_parser::write_of;
 fn cursor_or_data(alloc: Global, tokens: &[Token], rows: Refusal) -> Result<Command, ReadFault>
     requires { AreReadable (shapes_of tokens.now) }
     ensures found { IfOk result (λ c. IsCommand (shapes_of tokens.now) (command_tree c)) }
-    ensures low { IfOk result (λ c. command_height (command_tree c) ≤ 64) }
+    ensures low { IfOk result (λ c. command_height (command_tree c) ≤ height_limit) }
     ensures refused { ((d : DdlTree) → IsDdl (shapes_of tokens.now) d → ⊥) → Refuses (shapes_of tokens.now) (faults.Refused rows)
         → IfErr result (λ f. (f ≡ faults.NoMemory) ⊎ TokenCauses (shapes_of tokens.now) (cause_of_read f)) }
 {
@@ -56,7 +57,7 @@ fn cursor_or_data(alloc: Global, tokens: &[Token], rows: Refusal) -> Result<Comm
 fn rows_or_other(alloc: Global, tokens: &[Token]) -> Result<Command, ReadFault>
     requires { AreReadable (shapes_of tokens.now) }
     ensures found { IfOk result (λ c. IsCommand (shapes_of tokens.now) (command_tree c)) }
-    ensures low { IfOk result (λ c. command_height (command_tree c) ≤ 64) }
+    ensures low { IfOk result (λ c. command_height (command_tree c) ≤ height_limit) }
     ensures refused { ((d : DdlTree) → IsDdl (shapes_of tokens.now) d → ⊥)
         → IfErr result (λ f. (f ≡ faults.NoMemory) ⊎ TokenCauses (shapes_of tokens.now) (cause_of_read f)) }
 {
@@ -71,7 +72,7 @@ fn rows_or_other(alloc: Global, tokens: &[Token]) -> Result<Command, ReadFault>
 fn command_of(alloc: Global, tokens: &[Token]) -> Result<Command, ReadFault>
     requires { AreReadable (shapes_of tokens.now) }
     ensures found { IfOk result (λ c. IsCommand (shapes_of tokens.now) (command_tree c)) }
-    ensures low { IfOk result (λ c. command_height (command_tree c) ≤ 64) }
+    ensures low { IfOk result (λ c. command_height (command_tree c) ≤ height_limit) }
     ensures refused { IfErr result (λ f. (f ≡ faults.NoMemory) ⊎ TokenCauses (shapes_of tokens.now) (cause_of_read f)) }
 {
     match ddl_of(alloc, tokens) {

@@ -1,8 +1,8 @@
 -- What a plan of a query over whole scans promises.
 use Rattle.std.proofs.Common.{◌≡◌, ℕ, ◌<◌, ◌^◌, zero, suc, false, true, if◌then◌else◌, Bool, List, [], ◌∷◌, ◌++◌, length, map, filter, Option, Some, None, IsSome, slice_get, slice_index_or, refl, ap, sym, ◌∙◌, subst, inl, inr, IsPermutation}
-use Rattle.std.specs.List.{All}
+use Rattle.std.specs.List.{All, Any}
 use Rattle.std.proofs.lemmas.Bool.{false≢true}
-use Rattle.std.proofs.lemmas.List.{length-map, append-nil}
+use Rattle.std.proofs.lemmas.List.{append-nil}
 use Rattle.std.proofs.lemmas.List.Elements.{All-head}
 use Rattle.std.proofs.lemmas.List.Sorted.{IsPermutation-refl, IsPermutation-sym, IsPermutation-map, length_permutation}
 use Rattle.med_value.specs.Datum.{Tuple}
@@ -10,12 +10,14 @@ use Rattle.med_value.specs.declared.cause.Cause.{Cause}
 use Rattle.tri_expr.specs.declared.expr.Expr.{Expr}
 use Rattle.med_query.specs.declared.select.Grouping.{Grouping}
 use Rattle.med_query.specs.declared.select.Select.{Select}
-use Rattle.med_query.specs.Form.{form_of, query_by}
-use Rattle.med_query.specs.Select.{query_of, groups_of}
-use Rattle.med_query.specs.Laws.{AllIgnoreOrder, IsSteady, AnswersIgnoreOrder}
-use Rattle.med_query.specs.Query.{Query, Tables, SameRows, IsAnswer, senses, having_of, has_class, kept, plain, outputs_all, output, kept_classes}
+use Rattle.med_query.specs.declared.select.SelectCore.{SelectCore}
+use Rattle.med_query.specs.Form.{core_form, form_of, core_by, query_by}
+use Rattle.med_query.specs.Select.{core_of, query_of, groups_of}
+use Rattle.med_query.specs.Laws.{AllIgnoreOrder, IsSteadyCore, AreSteady, IsSteady, AnswersIgnoreOrder}
+use Rattle.med_query.specs.Query.{Query, Tables, SameRows, IsAnswer, senses, having_of, kept}
 use Rattle.fdw_api.specs.Scan.{Spec, RestrictionForm, spec_of, restriction_form, TableRow, GivenRow, IsComing, given_row, shown_cells, pick, meets_all}
 use Rattle.fdw_api.specs.State.{BoxState, rows_of}
+use Rattle.fdw_api.proofs.Unpromised.{all_first}
 use Rattle.med_value.specs.declared.value.TableNo.{TableNo}
 use Rattle.fdw_api.specs.declared.scan.Agreement.{Agreement}
 use Rattle.fdw_api.specs.declared.scan.Restriction.{Restriction}
@@ -24,7 +26,7 @@ use Rattle.pushdown.specs.Offered.{Place, IsOffer, AreOffers, IsScanOf, AreScans
 use Rattle.pushdown.specs.declared.offers.Offer.{Offer}
 use Rattle.pushdown.specs.declared.accepting.EntryScan.{EntryScan}
 use Rattle.med_planner.specs.declared.plans.Plan.{Plan}
-use Rattle.med_planner.specs.Planned.{tuples_of, rows_shown, entry_rows, IsShownCause, MayGive, AllMayGive, in_order, IsPlanOf}
+use Rattle.med_planner.specs.Planned.{tuples_of, rows_shown, entry_rows, IsTooLarge, IsShownCause, MayGive, AllMayGive, in_order, IsPlanOf}
 
 -- ---- rows
 
@@ -41,17 +43,17 @@ whole_cells spec wide (r ∷ rs) =
     ∙ ap (λ (l : List Tuple). r.cells ∷ l) (whole_cells spec wide rs)
 
 -- what comes of a table where nothing was offered and rows come whole: its rows, each once
-all_come : (rows : List TableRow) (spec : Spec) (coming : List GivenRow) → spec.offered ≡ [] → spec.narrow ≡ false → IsComing rows spec [] coming → IsPermutation (map (λ r. r.cells) rows) (map (λ r. r.cells) coming)
-all_come rows spec coming none wide c =
+all_come : (rows : List TableRow) (spec : Spec) (coming : List GivenRow) → spec.offered ≡ [] → spec.narrow ≡ false → spec.limit ≡ None → IsComing rows spec [] coming → IsPermutation (map (λ r. r.cells) rows) (map (λ r. r.cells) coming)
+all_come rows spec coming none wide all c =
     let out : c.left_out ≡ [] = none_left c.left_out (subst (λ (l : List RestrictionForm). All (λ r. meets_all l [] r.cells ≡ false) c.left_out) none c.failing) in
     let same : IsPermutation rows c.taken = subst (λ (l : List TableRow). IsPermutation rows l) (ap (λ (l : List TableRow). c.taken ++ l) out ∙ append-nil c.taken) c.parts in
-    let cells : map (λ (r : GivenRow). r.cells) coming ≡ map (λ (r : TableRow). r.cells) c.taken = ap (map (λ (r : GivenRow). r.cells)) c.is ∙ whole_cells spec wide c.taken in
+    let cells : map (λ (r : GivenRow). r.cells) coming ≡ map (λ (r : TableRow). r.cells) c.taken = ap (map (λ (r : GivenRow). r.cells)) (c.is ∙ ap (map (given_row spec)) (all_first spec.limit all c.taken)) ∙ whole_cells spec wide c.taken in
     subst (λ (l : List Tuple). IsPermutation (map (λ r. r.cells) rows) l) (sym cells) (IsPermutation-map (λ (r : TableRow). r.cells) rows c.taken same)
 
 table_comes : (box : Option (Option BoxState)) (scan : EntryScan) (rows : List Tuple) → scan.spec.offered.items ≡ [] → scan.spec.agreement.narrow ≡ false → MayGive box scan rows → IsPermutation (rows_shown box scan.table.number) rows
 table_comes (Some (Some s)) scan rows none wide h =
     subst (λ (l : List Tuple). IsPermutation (tuples_of s scan.table.number) l) (sym h.2)
-    (all_come (rows_of s scan.table.number) (spec_of scan.spec) h.0 (ap (map restriction_form) none) wide h.1)
+    (all_come (rows_of s scan.table.number) (spec_of scan.spec) h.0 (ap (map restriction_form) none) wide refl h.1)
 table_comes (Some None) scan rows none wide h = absurd h
 table_comes None scan rows none wide h = absurd h
 
@@ -87,30 +89,29 @@ Steady = (params : Tuple) (es : List Expr) → AllIgnoreOrder (senses params es)
 abbrev pub CausesAny : Type 0
 CausesAny = (q : Query) → IsSteady q → (db other : Tables) → SameRows db other → (c : Cause) → IsShownCause q db c → IsShownCause q other c
 
--- as many rows are kept, in whatever order they come
-one_each : (rows : List Tuple) → length (filter (has_class None) (map (λ r. r ∷ []) rows)) ≡ length rows
-one_each [] = refl
-one_each (r ∷ rows) = ap suc (one_each rows)
-
-shown_for_each : (q : Query) (db : Tables) → length (outputs_all (plain q.from q.where_ []) db) ≡ length (kept q db)
-shown_for_each q db = length-map (kept_classes (plain q.from q.where_ []) db) (output (plain q.from q.where_ [])) ∙ one_each (kept q db)
-
-kept_as_many : AnyOrder → (q : Query) (db other : Tables) → SameRows db other → length (kept q db) ≡ length (kept q other)
-kept_as_many any q db other same =
-    let p = plain q.from q.where_ [] in
-    let h = any p db other (record { having = tt; keys = tt; items = tt }) same in
-    sym (shown_for_each q db) ∙ sym (length_permutation (outputs_all p db) (outputs_all p other) h.outputs) ∙ shown_for_each q other
+-- a core is too large in whatever order its rows come
+large_any : AnyOrder → (q : Query) → IsSteady q → (db other : Tables) → SameRows db other → Any (λ k. IsTooLarge k db) q.cores → Any (λ k. IsTooLarge k other) q.cores
+large_any any q is db other same w =
+    let as_many = length_permutation (kept w.1 db) (kept w.1 other) ((any q db other is same).kept w.1) in
+    (w.0, w.1, w.2, w.3, (w.4.0, subst (λ (n : ℕ). 2 ^ 62 < n) (sym as_many) w.4.1))
 
 pub causes_any : AnyOrder → (q : Query) → IsSteady q → (db other : Tables) → SameRows db other → (c : Cause) → IsShownCause q db c → IsShownCause q other c
 causes_any any q is db other same c (inl (f, told, e)) = inl (f, (any q db other is same).told f told, e)
-causes_any any q is db other same c (inr (grouped, big, e)) = inr (grouped, subst (λ (n : ℕ). 2 ^ 62 < n) (kept_as_many any q db other same) big, e)
+causes_any any q is db other same c (inr (large, e)) = inr (large_any any q is db other same large, e)
 
 having_steady : Steady → (g : Option Grouping) → AllIgnoreOrder (having_of (groups_of g))
 having_steady law None = tt
 having_steady law (Some g) = law [] g.having.items
 
+steady_core : Steady → (c : SelectCore) → IsSteadyCore (core_of c)
+steady_core law c = record { having = having_steady law c.grouping; keys = law [] c.keys.items; items = law [] c.items.items }
+
+steady_cores : Steady → (cs : List SelectCore) → AreSteady (map core_by (map core_form cs))
+steady_cores law [] = tt
+steady_cores law (c ∷ cs) = (steady_core law c, steady_cores law cs)
+
 steady_select : Steady → (s : Select) → IsSteady (query_of s)
-steady_select law s = record { having = having_steady law s.grouping; keys = law [] s.keys.items; items = law [] s.items.items }
+steady_select law s = steady_cores law s.cores.items
 
 same_back : (db other : Tables) → SameRows db other → SameRows other db
 same_back db other h t = IsPermutation-sym (db t) (other t) (h t)

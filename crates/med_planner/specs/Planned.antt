@@ -3,9 +3,11 @@ use Rattle.std.specs.Prelude.{◌≡◌, ◌<◌, ◌^◌, ◌⊎◌, ℕ, zero,
 use Rattle.med_value.specs.Datum.{Tuple}
 use Rattle.med_value.specs.declared.cause.Cause.{Cause}
 use Rattle.med_value.specs.declared.cause.Cause.TheVariants.{OutOfRange, DivisionByZero, TooLarge}
+use Rattle.med_value.specs.Limits.{group_limit}
 use Rattle.tri_expr.specs.declared.expr.Fault.{Fault as Wrong}
 use Rattle.tri_expr.specs.declared.expr.Fault.TheVariants.{Range, Zero}
-use Rattle.med_query.specs.Query.{Query, Tables, IsAnswer, faults, kept}
+use Rattle.std.specs.List.{Any}
+use Rattle.med_query.specs.Query.{Core, Query, Tables, IsAnswer, faults, kept}
 use Rattle.med_query.specs.Select.{query_of}
 use Rattle.fdw_api.specs.Scan.{GivenRow, IsComing, spec_of}
 use Rattle.fdw_api.specs.State.{BoxState, rows_of}
@@ -37,10 +39,14 @@ abbrev pub wrong_cause : Wrong → Cause
 wrong_cause Range = OutOfRange
 wrong_cause Zero = DivisionByZero
 
--- The causes of the phase of the run that a query shows over tables: its faults, and 54000 where it groups over 2^62 kept rows.
+-- A core groups over more than 2^62 kept rows.
+abbrev pub IsTooLarge : Core → Tables → Type 0
+IsTooLarge k db = IsSome k.group × (group_limit < length (kept k db))
+
+-- The causes of the phase of the run that a query shows over tables: its faults, and 54000 where a core of it groups over too many rows.
 abbrev pub IsShownCause : Query → Tables → Cause → Type 0
 IsShownCause q db c =
-    ((f : Wrong) × Contains (faults q db) f × (c ≡ wrong_cause f)) ⊎ (IsSome q.group × (2 ^ 62 < length (kept q db)) × (c ≡ TooLarge))
+    ((f : Wrong) × Contains (faults q db) f × (c ≡ wrong_cause f)) ⊎ (Any (λ k. IsTooLarge k db) q.cores × (c ≡ TooLarge))
 
 -- ---- scans
 

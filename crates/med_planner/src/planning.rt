@@ -1,7 +1,7 @@
 //! BoundQuery queries to plans.
 #![tactic(auto)]
 
-ghost use Rattle.std.specs.Prelude.{◌≡◌, List, Option, IfOk, map};
+ghost use Rattle.std.specs.Prelude.{◌≡◌, List, Option, map};
 ghost use Rattle.med_query.specs.Form.{form_of};
 ghost use Rattle.med_query.specs.Select.{query_of};
 ghost use Rattle.fdw_api.specs.State.{BoxState};
@@ -12,27 +12,22 @@ use crate::law::causes_ignore_order;
 use crate::plans::Plan;
 use med_binder::BoundQuery;
 use med_query::law::{answers_ignore_order, expressions_ignore_order};
-use med_value::NoMemory;
 use pushdown::Split;
-use std::alloc::Global;
 
 /// The plan of a query by these scans. Where they are the scans of the query's entries, whatever rows the boxes give under what
 /// they agreed to, each answer of the plan's query over these rows is an answer of the query over the tables, and the two show the
 /// same faults.
-///
-/// Refused only for want of memory.
-pub fn plan(alloc: Global, bound: &BoundQuery, split: Split) -> Result<Plan, NoMemory>
-    ensures scans { IfOk result (λ p. p.scans.items ≡ split.scans.items) }
-    ensures query { IfOk result (λ p. form_of p.select ≡ form_of bound.now.select) }
-    ensures plans { IfOk result (λ p. (boxes : List (Option BoxState)) → AreScansOf bound.now.entries.items split.scans.items
-        → IsPlanOf (query_of bound.now.select) (map entry_place bound.now.entries.items) boxes p) }
+pub fn plan(bound: BoundQuery, split: Split) -> Plan
+    ensures scans { result.scans.items ≡ split.scans.items }
+    ensures query { form_of result.select ≡ form_of bound.select }
+    ensures plans { (boxes : List (Option BoxState)) → AreScansOf bound.entries.items split.scans.items
+        → IsPlanOf (query_of bound.select) (map entry_place bound.entries.items) boxes result }
 {
     answers_ignore_order();
     expressions_ignore_order();
     causes_ignore_order();
-    let select = bound.select.copy(alloc)?;
-    Ok(Plan {
+    Plan {
         scans: split.scans,
-        select,
-    })
+        select: bound.select,
+    }
 }

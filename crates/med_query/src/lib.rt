@@ -3,6 +3,5 @@
 
 pub mod law;
 pub mod select;
-pub mod select_copy;
 
-pub use select::{Grouping, Join, JoinChain, Select, SortDirection, is_safe_from};
+pub use select::{Grouping, Join, JoinChain, Select, SelectCore, SortDirection, is_safe_from};

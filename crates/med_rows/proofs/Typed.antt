@@ -13,7 +13,7 @@ use Rattle.med_syntax.specs.Tree.{Name}
 use Rattle.med_syntax.specs.QueryTree.{EntryTree, SelectTree}
 use Rattle.write_syntax.specs.WriteTree.{GivenTree, values, rows_of, InsertTree, WriteTree, insert, update, delete}
 use Rattle.med_query.specs.Query.{Tables, IsAnswer}
-use Rattle.med_query.specs.Select.{is_safe_from}
+use Rattle.med_query.specs.Select.{are_safe_cores}
 use Rattle.fdw_api.specs.Kinds.{kinds_of}
 use Rattle.fdw_api.specs.Scan.{TableRow, row_fits}
 use Rattle.fdw_api.specs.State.{BoxState, rows_of as rows_in_box}
@@ -76,7 +76,7 @@ pub record HasQuery (o : Objects) (bound : List Attached) (t : WriteTree) (b : B
   pub given : rows_of query ≡ inserts.given
   pub meant : IsMeant (meant_by o query) b
   pub places : ArePlaces bound (meant_by o query).entries (map place_of b.entries.items)
-  pub safe : is_safe_from b.select.from.items ≡ true
+  pub safe : are_safe_cores b.select.cores.items ≡ true
 
 pub has_query : (o : Objects) (bound : List Attached) (t : WriteTree) (b : BoundQuery) → IsQueryOf o bound t (Some b) → HasQuery o bound t b
 has_query o bound (insert i) b h = of_given i.given refl h

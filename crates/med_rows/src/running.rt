@@ -12,17 +12,15 @@ ghost use Rattle.med_rows.specs.Ready.{IsReady};
 use crate::writing::write_rows;
 use bind_catalog::BoundTable;
 use bind_write::bind_write;
-use fdw_api::interface::Wrapper;
+use fdw_api::wishes::Wrapper2;
 use med_catalog::Catalog;
 use med_select::run_query;
 use med_value::Cause;
+use med_value::limits::ENTRY_LIMIT;
 use std::alloc::Global;
 use write_fits::fits;
 use write_syntax::WriteStatement;
 use write_types::law::written_rows_are_typed;
-
-/// How many entries a FROM has at most.
-const ENTRIES: usize = 8;
 
 /// Does an INSERT, UPDATE or DELETE over the tables of a catalogue, each of which is bound in the box of its source, and answers how many
 /// rows it is told of (SQL standard, <insert statement>, <update statement: searched>, <delete statement: searched>).
@@ -36,7 +34,7 @@ const ENTRIES: usize = 8;
 /// what the query shows over the rows of its tables, and the write over the rows of its own; what the kind of the box refuses; and 53200,
 /// HV000 and 54000 where memory was refused, a source failed, and a box has given all its ticket numbers. HV000 too where a source gives
 /// values of other types than its tables have. No table has changed then.
-pub fn run_write<W: Wrapper>(
+pub fn run_write<W: Wrapper2>(
     slots: &mut Vec<Option<W>>,
     catalog: &Catalog,
     bound: &[BoundTable],
@@ -56,17 +54,17 @@ pub fn run_write<W: Wrapper>(
         (states W.meaning slots.old.items) c (states W.meaning slots.new.items)) }
 {
     written_rows_are_typed();
-    let write = match bind_write(alloc, statement, catalog, bound, user) {
+    let mut write = match bind_write(alloc, statement, catalog, bound, user) {
         Ok(write) => write,
         Err(cause) => return Err(cause),
     };
     if is_leased {
         return Err(Cause::InUse);
     }
-    let Some(query) = &write.query else {
+    let Some(query) = write.query.take() else {
         return write_rows(slots, alloc, &write, &[]);
     };
-    if query.entries.len() > ENTRIES {
+    if query.entries.len() > ENTRY_LIMIT {
         return Err(Cause::LimitExceeded);
     }
     let rows = match run_query(slots, alloc, query) {

@@ -8,7 +8,7 @@ ghost use Rattle.write_exec.specs.Writing.{CanWrite, Writes, RefusesWrite};
 ghost use Rattle.med_world.specs.Altering.{cause_of as cause_told};
 
 use bind_write::TableWrite;
-use fdw_api::interface::Wrapper;
+use fdw_api::wishes::Wrapper2;
 use med_select::cause_of;
 use med_value::{Cause, Row};
 use std::alloc::Global;
@@ -21,7 +21,7 @@ use write_exec::write;
 ///
 /// What the write shows over the rows of its table, and what the kind of the box refuses; 53200, HV000 and 54000 where memory was refused,
 /// the source failed, and the box has given all its ticket numbers. No table has changed then.
-pub fn write_rows<W: Wrapper>(
+pub fn write_rows<W: Wrapper2>(
     slots: &mut Vec<Option<W>>,
     alloc: Global,
     bound: &TableWrite,

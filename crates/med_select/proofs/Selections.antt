@@ -1,18 +1,20 @@
 -- The parts of a query: its entries, its scans, its run, and what it means in whatever order rows come.
-use Rattle.std.proofs.Common.{◌≡◌, ℕ, ◌<◌, ◌≤◌, string_bytes, List, [], ◌∷◌, ◌++◌, ◌+◌, take, get_or, slice_get, Option, Some, None, map, length, All, refl, sym, ap, ◌∙◌, subst, zero, suc, arith, Result, Ok, Err, IfOk, IfErr, Bool, IsSome, false}
+use Rattle.std.proofs.Common.{◌≡◌, ℕ, ◌<◌, ◌≤◌, string_bytes, List, [], ◌∷◌, ◌++◌, ◌+◌, take, get_or, slice_get, Option, Some, None, map, length, All, refl, sym, ap, ◌∙◌, subst, zero, suc, arith, Result, Ok, Err, IfOk, IfErr, Bool, IsSome, true, false}
 use Rattle.std.proofs.lemmas.List.{length-map, map-append, take_more}
 use Rattle.std.proofs.lemmas.List.Elements.{All-cons}
+use Rattle.std.proofs.lemmas.List.Folds.{list_all-map}
 use Rattle.std.proofs.lemmas.List.Sorted.{IsPermutation-sym}
 use Rattle.med_value.specs.Datum.{Tuple}
 use Rattle.med_value.specs.declared.cause.Cause.{Cause}
 use Rattle.med_value.specs.declared.cause.Cause.TheVariants.{LimitExceeded}
 use Rattle.tri_expr.specs.declared.expr.Expr.{Expr}
 use Rattle.med_query.specs.declared.select.Grouping.{Grouping}
+use Rattle.med_query.specs.declared.select.SelectCore.{SelectCore}
 use Rattle.med_query.specs.declared.select.Select.{Select}
-use Rattle.med_query.specs.Form.{query_by}
-use Rattle.med_query.specs.Select.{query_of as written_query, groups_of}
-use Rattle.med_query.specs.Laws.{AllIgnoreOrder, IsSteady, AnswersIgnoreOrder}
-use Rattle.med_query.specs.Query.{Query, Tables, SameRows, senses, having_of, plain}
+use Rattle.med_query.specs.Form.{CoreForm, core_form, form_of, core_by, query_by, are_safe_chains, is_safe_form}
+use Rattle.med_query.specs.Select.{query_of as written_query, core_of, groups_of, are_safe_cores}
+use Rattle.med_query.specs.Laws.{AllIgnoreOrder, IsSteadyCore, AreSteady, IsSteady, AnswersIgnoreOrder}
+use Rattle.med_query.specs.Query.{Query, Tables, SameRows, senses, having_of}
 use Rattle.fdw_api.specs.Scan.{RestrictionForm, spec_of, plain_spec, restriction_form, params_fit}
 use Rattle.fdw_api.specs.State.{BoxState, BoxTable as TableBound, table_of}
 use Rattle.fdw_api.specs.Calls.{CanBegin}
@@ -116,8 +118,8 @@ no_answers [] many = refl
 no_answers (x ∷ xs) many = absurd cc
 
 -- a scan of whole rows for which nothing is offered may begin on every bound table
-offers_none : (wanted : List ℕ) (offered : List RestrictionForm) (answers : List Agree) (narrow : Bool) → offered ≡ [] → answers ≡ [] → narrow ≡ false → record { wanted = wanted; offered = offered; answers = answers; narrow = narrow } ≡ plain_spec wanted []
-offers_none wanted offered answers narrow p q r = λ i. record { wanted = wanted; offered = p i; answers = q i; narrow = r i }
+offers_none : (wanted : List ℕ) (offered : List RestrictionForm) (answers : List Agree) (narrow : Bool) → offered ≡ [] → answers ≡ [] → narrow ≡ false → record { wanted = wanted; offered = offered; answers = answers; narrow = narrow; order = []; limit = None } ≡ plain_spec wanted []
+offers_none wanted offered answers narrow p q r = λ i. record { wanted = wanted; offered = p i; answers = q i; narrow = r i; order = []; limit = None }
 
 whole_on : (s : BoxState) (t : ℕ) (spec : ScanSpec) → spec.offered.items ≡ [] → spec_of spec ≡ plain_spec spec.wanted.items [] → (o : Option TableBound) → table_of s t ≡ o → IsSome o → CanBegin s t spec []
 whole_on s t spec none plain None at is_bound = absurd cc
@@ -171,6 +173,13 @@ scans_begin boxes (e ∷ es) (o ∷ os) (a ∷ more) (s ∷ ss) is many js h =
 pub query_bound : (m : Meant) (b : BoundQuery) → IsMeant m b → written_query b.select ≡ query_of m
 query_bound m b is = ap query_by is.form
 
+abbrev safe_chains : CoreForm → Bool
+safe_chains c = are_safe_chains c.from
+
+-- a SELECT of the same form has no ON that may fault either
+pub still_safe : (s t : Select) → form_of s ≡ form_of t → are_safe_cores t.cores.items ≡ true → are_safe_cores s.cores.items ≡ true
+still_safe s t e safe = sym (list_all-map safe_chains core_form s.cores.items) ∙ (ap is_safe_form e ∙ (list_all-map safe_chains core_form t.cores.items ∙ safe))
+
 abbrev pub ExpressionsIgnoreOrder : Type 0
 ExpressionsIgnoreOrder = (params : Tuple) (es : List Expr) → AllIgnoreOrder (senses params es)
 
@@ -178,8 +187,15 @@ having_steady : ExpressionsIgnoreOrder → (g : Option Grouping) → AllIgnoreOr
 having_steady law None = tt
 having_steady law (Some g) = law [] g.having.items
 
+steady_core : ExpressionsIgnoreOrder → (c : SelectCore) → IsSteadyCore (core_of c)
+steady_core law c = record { having = having_steady law c.grouping; keys = law [] c.keys.items; items = law [] c.items.items }
+
+steady_cores : ExpressionsIgnoreOrder → (cs : List SelectCore) → AreSteady (map core_by (map core_form cs))
+steady_cores law [] = tt
+steady_cores law (c ∷ cs) = (steady_core law c, steady_cores law cs)
+
 pub steady : ExpressionsIgnoreOrder → (s : Select) → IsSteady (written_query s)
-steady law s = record { having = having_steady law s.grouping; keys = law [] s.keys.items; items = law [] s.items.items }
+steady law s = steady_cores law s.cores.items
 
 abbrev pub AnswersInAnyOrder : Type 0
 AnswersInAnyOrder = (q : Query) (db other : Tables) → IsSteady q → SameRows db other → AnswersIgnoreOrder q db other

@@ -5,6 +5,7 @@ use Rattle.std.proofs.lemmas.List.Elements.{All-head}
 use Rattle.std.proofs.lemmas.List.Sorted.{length_permutation}
 use Rattle.med_value.specs.Datum.{Tuple}
 use Rattle.fdw_api.specs.Scan.{RestrictionForm, Spec, TableRow, GivenRow, IsComing, restriction_form, spec_of, given_row, meets_all}
+use Rattle.fdw_api.proofs.Unpromised.{all_first}
 use Rattle.fdw_api.specs.State.{BoxState, rows_of}
 use Rattle.fdw_api.specs.declared.scan.Agreement.{Agreement}
 use Rattle.pushdown.specs.Offered.{Place, AreOffers, AreScans, AreScansOf, IsOffer, IsScanOf, entry_place, scan_place}
@@ -27,17 +28,17 @@ none_out (r ∷ rows) h = absurd (let e = All-head (λ (x : TableRow). true ≡ 
 abbrev IsOut : List RestrictionForm → TableRow → Type 0
 IsOut offered r = meets_all offered [] r.cells ≡ false
 
-all_come : (rows : List TableRow) (spec : Spec) (coming : List GivenRow) → spec.offered ≡ [] → IsComing rows spec [] coming → length coming ≡ length rows
-all_come rows spec coming none c =
+all_come : (rows : List TableRow) (spec : Spec) (coming : List GivenRow) → spec.offered ≡ [] → spec.limit ≡ None → IsComing rows spec [] coming → length coming ≡ length rows
+all_come rows spec coming none all c =
     let out : c.left_out ≡ [] = none_out c.left_out (subst (λ (fs : List RestrictionForm). All (IsOut fs) c.left_out) none c.failing) in
     let taken : c.taken ++ c.left_out ≡ c.taken = ap (λ (l : List TableRow). c.taken ++ l) out ∙ append-nil c.taken in
-    ap (λ (l : List GivenRow). length l) c.is ∙ length-map c.taken (given_row spec) ∙ sym (ap (λ (l : List TableRow). length l) taken) ∙ length_permutation rows (c.taken ++ c.left_out) c.parts
+    ap (λ (l : List GivenRow). length l) (c.is ∙ ap (map (given_row spec)) (all_first spec.limit all c.taken)) ∙ length-map c.taken (given_row spec) ∙ sym (ap (λ (l : List TableRow). length l) taken) ∙ length_permutation rows (c.taken ++ c.left_out) c.parts
 
 all_given : (box : Option (Option BoxState)) (scan : EntryScan) (rows : List Tuple) → scan.spec.offered.items ≡ [] → MayGive box scan rows → length rows ≡ length (rows_shown box scan.table.number)
 all_given None scan rows none h = absurd h
 all_given (Some None) scan rows none h = absurd h
 all_given (Some (Some s)) scan rows none (coming, is, e) =
-    ap (λ (l : List Tuple). length l) e ∙ length-map coming (λ (r : GivenRow). r.cells) ∙ all_come (rows_of s scan.table.number) (spec_of scan.spec) coming (ap (map restriction_form) none) is
+    ap (λ (l : List Tuple). length l) e ∙ length-map coming (λ (r : GivenRow). r.cells) ∙ all_come (rows_of s scan.table.number) (spec_of scan.spec) coming (ap (map restriction_form) none) refl is
     ∙ sym (length-map (rows_of s scan.table.number) (λ (r : TableRow). r.cells))
 
 -- ---- one scan for each entry

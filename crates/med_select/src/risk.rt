@@ -3,10 +3,10 @@ ghost use Rattle.std.specs.Prelude.{◌≡◌, map, option_map};
 ghost use Rattle.std.specs.List.{list_any};
 ghost use Rattle.tri_expr.specs.Tree.{tree};
 ghost use Rattle.tri_expr.specs.TreeParts.{is_risky_tree};
-ghost use Rattle.med_query.specs.Form.{form_of, group_form};
-ghost use Rattle.open_cursors.specs.Starting.{is_risky_form, group_trees};
+ghost use Rattle.med_query.specs.Form.{core_form, form_of, group_form};
+ghost use Rattle.open_cursors.specs.Starting.{is_risky_core as spec_is_risky_core, is_risky_form, group_trees};
 
-use med_query::{Grouping, Select};
+use med_query::{Grouping, Select, SelectCore};
 use tri_expr::{Expr, is_risky};
 
 // Whether one of the expressions may fault.
@@ -33,13 +33,32 @@ fn is_risky_group(grouping: &Option<Grouping>) -> bool
     }
 }
 
+// Whether an expression of a core may fault.
+fn is_risky_core(core: &SelectCore) -> bool
+    ensures { result ≡ spec_is_risky_core (core_form core.now) }
+{
+    some_risky(core.conditions.as_slice())
+        || is_risky_group(&core.grouping)
+        || some_risky(core.items.as_slice())
+        || some_risky(core.keys.as_slice())
+}
+
+// Whether one of the cores has an expression that may fault.
+fn some_core_risky(cores: &[SelectCore]) -> bool
+    ensures { result ≡ list_any spec_is_risky_core (map core_form cores.now) }
+{
+    for core in cores {
+        if is_risky_core(core) {
+            return true;
+        }
+    }
+    false
+}
+
 /// Whether an expression of the query may fault: of WHERE, of HAVING, an aggregate's argument, an item or an order key. No cursor is
 /// declared for such a query. An ON may not fault in any query that is bound.
 pub fn is_risky_query(select: &Select) -> bool
     ensures { result ≡ is_risky_form (form_of select.now) }
 {
-    some_risky(select.conditions.as_slice())
-        || is_risky_group(&select.grouping)
-        || some_risky(select.items.as_slice())
-        || some_risky(select.keys.as_slice())
+    some_core_risky(select.cores.as_slice())
 }

@@ -11,9 +11,9 @@ ghost use Rattle.std.specs.Prelude.{◌≡◌, length, map, All, IfOk, IfErr, st
 use crate::fault::cause_of;
 use crate::leasing::leased_tables;
 use crate::risk::is_risky_query;
-use crate::selecting::{ENTRIES, begun};
+use crate::selecting::begun;
 use bind_catalog::{BoundTable, bind};
-use fdw_api::interface::Wrapper;
+use fdw_api::wishes::Wrapper2;
 use med_catalog::Catalog;
 use med_exec::law::services_join;
 use med_exec::running::Run;
@@ -21,7 +21,9 @@ use med_planner::law::causes_ignore_order;
 use med_query::law::{answers_ignore_order, expressions_ignore_order};
 use med_syntax::Statement;
 use med_value::Cause;
+use med_value::limits::ENTRY_LIMIT;
 use std::alloc::Global;
+use std::mem;
 
 /// A query that is begun. Its run must be spent by [`Run::close`].
 pub struct Started {
@@ -43,7 +45,7 @@ pub struct Started {
 /// query shows over the rows of its tables.
 ///
 /// SQL:2016, 14.1 <declare cursor>.
-pub fn start_select<W: Wrapper>(
+pub fn start_select<W: Wrapper2>(
     slots: &mut Vec<Option<W>>,
     catalog: &Catalog,
     bound: &[BoundTable],
@@ -66,24 +68,21 @@ pub fn start_select<W: Wrapper>(
     answers_ignore_order();
     causes_ignore_order();
     services_join();
-    let query = bind(alloc, statement, catalog, bound, user)?;
+    let mut query = bind(alloc, statement, catalog, bound, user)?;
     if is_risky_query(&query.select) {
         return Err(Cause::FeatureNotSupported);
     }
-    if is_full || query.entries.len() > ENTRIES {
+    if is_full || query.entries.len() > ENTRY_LIMIT {
         return Err(Cause::LimitExceeded);
     }
     let leases = match leased_tables(alloc, statement) {
         Ok(leases) => leases,
         Err(cause) => return Err(cause),
     };
-    let run = match begun(slots, alloc, &query) {
+    let names = mem::replace(&mut query.names, Vec::new(alloc));
+    let run = match begun(slots, alloc, query) {
         Ok(run) => run,
         Err(fault) => return Err(cause_of(fault)),
     };
-    Ok(Started {
-        names: query.names,
-        leases,
-        run,
-    })
+    Ok(Started { names, leases, run })
 }

@@ -9,6 +9,7 @@ use Rattle.fdw_api.specs.State.{BoxState}
 use Rattle.open_cursors.specs.Open.{Opened, Seated, seated, seats_shown}
 use Rattle.med_parser.specs.CommandTree.{CommandTree, on_cursors}
 use Rattle.med_syntax.specs.Tree.{Name}
+use Rattle.med_value.specs.Limits.{session_count}
 use Rattle.med_world.specs.Engine.{Shown, IsSound}
 use Rattle.med_world.specs.Laws.{IsRead, with_boxes, with_seats}
 use Rattle.med_world.specs.Seats.{seat_in, seat_of, user_of, IsSoundSeat}
@@ -110,5 +111,5 @@ left_shut e sid left none l = ap (λ (x : List (Option Seated)). with_seats e x)
 pub seat_sound : (e : Shown) (sid : ℕ) (seat : Seated) → IsSound e → seat_of e.seats sid ≡ Some seat → IsSoundSeat e.boxes seat
 seat_sound e sid seat h is_open = h.seated (sid - 1) seat (place_there (slice_get e.seats (sid - 1)) seat is_open)
 
-pub left_long : (now : List (Option Seat)) (was : List (Option Seated)) (k : ℕ) (x : Option Seated) → seats_shown now ≡ slice_set was k x → length was ≡ 64 → length now ≡ 64
+pub left_long : (now : List (Option Seat)) (was : List (Option Seated)) (k : ℕ) (x : Option Seated) → seats_shown now ≡ slice_set was k x → length was ≡ session_count → length now ≡ session_count
 left_long now was k x e long = sym (length-map now (option_map seated)) ∙ ap length e ∙ length-set was k x ∙ long

@@ -8,14 +8,13 @@ ghost use Rattle.std.specs.Prelude.{◌≡◌, map, option_map, IfSome, IfNone, 
 
 use crate::engine::Engine;
 use crate::sources::NamedSource;
-use fdw_api::interface::{Counts, Wrapper};
+use fdw_api::interface::Counts;
+use fdw_api::wishes::Wrapper2;
 use med_catalog::SourceKind;
 use med_exec::slots::ledger_at;
+use med_value::limits::SOURCE_LIMIT;
 use med_world::law::sources_are_added;
 use thiserror::Error;
-
-/// How many sources an engine takes.
-const SOURCES: usize = 64;
 
 /// Why a source was not added.
 #[derive(Clone, Copy, Debug, PartialEq, Eq, Error)]
@@ -47,7 +46,7 @@ pub(crate) fn place_of_source(sources: &[NamedSource], name: &str) -> Option<usi
         .position(|source| source.name.as_str() == name)
 }
 
-impl<W: Wrapper> Engine<W> {
+impl<W: Wrapper2> Engine<W> {
     ghost use Rattle.med_session.specs.Adding.{AddCause, AreCounts};
     ghost use Rattle.med_session.specs.Shows.{shown};
     ghost use Rattle.med_world.specs.Adding.{Adds};
@@ -85,7 +84,7 @@ impl<W: Wrapper> Engine<W> {
         if place_of_source(&self.sources, name).is_some() {
             return Err((wrapper, AddFault::Taken));
         }
-        if self.sources.len() >= SOURCES {
+        if self.sources.len() >= SOURCE_LIMIT {
             return Err((wrapper, AddFault::TooMany));
         }
         let Ok(name) = String::from_str(*self.sources.allocator(), name) else {

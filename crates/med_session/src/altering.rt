@@ -14,7 +14,7 @@ use crate::adding::place_of_source;
 use crate::binding::{bind_table, drop_at, unbind_table};
 use crate::engine::Engine;
 use ddl_syntax::Ddl;
-use fdw_api::interface::Wrapper;
+use fdw_api::wishes::Wrapper2;
 use med_catalog::{Change, Server, SourceKind, Table};
 use med_exec::slots::ledger_at;
 use med_value::Cause;
@@ -35,7 +35,7 @@ fn is_same_kind(one: SourceKind, other: SourceKind) -> bool
     }
 }
 
-impl<W: Wrapper> Engine<W> {
+impl<W: Wrapper2> Engine<W> {
     ghost use Rattle.med_session.specs.Shows.{shown};
     ghost use Rattle.med_session.specs.Tables.{TableFails, TakesSource, ServerFails};
     ghost use Rattle.med_world.specs.Altering.{IsFreeAt, IsAltered, NotAltered};

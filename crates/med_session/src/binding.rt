@@ -9,14 +9,15 @@ ghost use Rattle.med_session.specs.Binding.{BindsLast, BindFails};
 ghost use Rattle.std.specs.Prelude.{◌≡◌, ◌<◌, None, Some, map, remove, slice_get, slice_set, length, IfErr, OnOk, OnErr};
 
 use bind_catalog::BoundTable;
-use fdw_api::interface::{TableOption, Wrapper};
+use fdw_api::interface::TableOption;
+use fdw_api::wishes::Wrapper2;
 use med_exec::slots::{bind_at, unbind_at};
 use med_select::cause_of;
 use med_value::{Cause, ColumnDef};
 use std::alloc::Global;
 
 // Drops the box in this place, which is idle. The place stays empty.
-pub(crate) fn drop_at<W: Wrapper>(slots: &mut Vec<Option<W>>, place: usize)
+pub(crate) fn drop_at<W: Wrapper2>(slots: &mut Vec<Option<W>>, place: usize)
     requires { BoxAt (states W.meaning slots.old.items) place IsIdle }
     ensures { states W.meaning slots.new.items ≡ slice_set (states W.meaning slots.old.items) place None }
 {
@@ -25,7 +26,7 @@ pub(crate) fn drop_at<W: Wrapper>(slots: &mut Vec<Option<W>>, place: usize)
 
 // Binds a foreign table of the source in this place, and notes where it is bound: refused by want of memory, and by the causes of the box.
 // Then no table is bound.
-pub(crate) fn bind_table<W: Wrapper>(
+pub(crate) fn bind_table<W: Wrapper2>(
     slots: &mut Vec<Option<W>>,
     bound: &mut Vec<BoundTable>,
     alloc: Global,
@@ -61,7 +62,7 @@ pub(crate) fn bind_table<W: Wrapper>(
 }
 
 // Lets the foreign table in this place go: unbinds it in the box of its source.
-pub(crate) fn unbind_table<W: Wrapper>(
+pub(crate) fn unbind_table<W: Wrapper2>(
     slots: &mut Vec<Option<W>>,
     bound: &mut Vec<BoundTable>,
     place: usize,

@@ -14,7 +14,7 @@ ghost use Rattle.med_session.specs.Cursors.{Opens, OpensNone, Fetched, NotFetche
 
 use bind_catalog::BoundTable;
 use cursor_syntax::{Declare, FetchCount};
-use fdw_api::interface::Wrapper;
+use fdw_api::wishes::Wrapper2;
 use med_catalog::Catalog;
 use med_exec::law::{running_is_held, services_join};
 use med_select::{RowSet, Started, cause_of, start_select};
@@ -34,7 +34,7 @@ fn copy_names(alloc: Global, names: &[String]) -> Result<Vec<String>, NoMemory>
 }
 
 // Opens a cursor over the tables as they stand, behind those that the session has. Room for it is taken before its query is begun.
-pub(crate) fn open_cursor<W: Wrapper>(
+pub(crate) fn open_cursor<W: Wrapper2>(
     seat: &mut Seat,
     slots: &mut Vec<Option<W>>,
     catalog: &Catalog,
@@ -89,7 +89,7 @@ pub(crate) fn open_cursor<W: Wrapper>(
 }
 
 // Gives rows of a cursor. One that fails, once it was asked for a row, is closed and gone.
-pub(crate) fn fetch_rows<W: Wrapper>(
+pub(crate) fn fetch_rows<W: Wrapper2>(
     seat: &mut Seat,
     slots: &mut Vec<Option<W>>,
     alloc: Global,
@@ -120,7 +120,7 @@ pub(crate) fn fetch_rows<W: Wrapper>(
 }
 
 // Closes a cursor, which is gone then. Where there is none of the name, nothing is done.
-pub(crate) fn end_cursor<W: Wrapper>(
+pub(crate) fn end_cursor<W: Wrapper2>(
     seat: &mut Seat,
     slots: &mut Vec<Option<W>>,
     name: &str,

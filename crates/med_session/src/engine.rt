@@ -6,7 +6,7 @@ use crate::session::{NoRoom, Request, Sid};
 use crate::sources::NamedSource;
 use crate::users::is_user;
 use bind_catalog::BoundTable;
-use fdw_api::interface::Wrapper;
+use fdw_api::wishes::Wrapper2;
 use med_catalog::Catalog;
 use med_parser::{Command, one_tree, parse};
 use med_rows::run_write;
@@ -25,7 +25,7 @@ use write_texts::law::texts_are_clean;
 /// The room in the output that is taken before a request is begun.
 const ROOM: usize = 128;
 
-/// An engine over boxed sources: the catalogue of their objects, where its foreign tables are bound, and 64 sessions.
+/// An engine over boxed sources: the catalogue of their objects, where its foreign tables are bound, and 256 sessions.
 #[derive(Drop)]
 pub struct Engine<W> {
     pub(crate) catalog: Catalog,
@@ -46,7 +46,7 @@ pub enum NewFault {
     BadName,
 }
 
-impl<W: Wrapper> Engine<W> {
+impl<W: Wrapper2> Engine<W> {
     ghost use Rattle.med_session.specs.Asking.{asked};
     ghost use Rattle.med_session.specs.Cursors.{IfFetched, MayBeUntold};
     ghost use Rattle.session_replies.specs.Outcomes.{reply_of};

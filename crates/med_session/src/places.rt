@@ -2,26 +2,25 @@
 ghost use Rattle.std.specs.Prelude.{◌≡◌, ◌-◌, ◌≤◌, None, Some, is_some, map, option_map, replicate, slice_set, vec_len, IfOk};
 ghost use Rattle.med_exec.specs.Running.{AllServed};
 ghost use Rattle.med_exec.specs.Slots.{states};
+ghost use Rattle.med_value.specs.Limits.{session_count};
 ghost use Rattle.med_world.specs.Seats.{seat_of, user_of};
 ghost use Rattle.open_cursors.specs.Open.{seated, seats_shown};
 
 use crate::session::Sid;
-use fdw_api::interface::Wrapper;
+use fdw_api::wishes::Wrapper2;
 use med_exec::law::services_join;
 use med_value::NoMemory;
+use med_value::limits::SESSION_COUNT;
 use med_world::law::cursors_hold_no_scan;
 use open_cursors::{Seat, close_all};
 use std::alloc::Global;
 
-/// How many sessions there are.
-const SESSIONS: usize = 64;
-
 // The places of the sessions, all closed.
 pub(crate) fn closed_sessions(alloc: Global) -> Result<Vec<Option<Seat>>, NoMemory>
-    ensures { IfOk result (λ seats. seats_shown seats.items ≡ replicate 64 None) }
+    ensures { IfOk result (λ seats. seats_shown seats.items ≡ replicate session_count None) }
 {
     let mut seats = Vec::new(alloc);
-    while seats.len() < SESSIONS {
+    while seats.len() < SESSION_COUNT {
         seats.push(None)?;
     }
     Ok(seats)
@@ -29,7 +28,7 @@ pub(crate) fn closed_sessions(alloc: Global) -> Result<Vec<Option<Seat>>, NoMemo
 
 // Whether a session is open.
 pub(crate) fn is_open(seats: &Vec<Option<Seat>>, sid: Sid) -> bool
-    requires { vec_len seats.now ≡ 64 }
+    requires { vec_len seats.now ≡ session_count }
     ensures { result ≡ is_some (user_of (seats_shown seats.now.items) sid.number) }
 {
     seats[usize::from(sid.number) - 1].is_some()
@@ -37,7 +36,7 @@ pub(crate) fn is_open(seats: &Vec<Option<Seat>>, sid: Sid) -> bool
 
 // The user of an open session.
 pub(crate) fn user_in(seats: &Vec<Option<Seat>>, sid: Sid) -> Option<&str>
-    requires { vec_len seats.now ≡ 64 }
+    requires { vec_len seats.now ≡ session_count }
     ensures { option_map (λ name. name.now) result ≡ user_of (seats_shown seats.now.items) sid.number }
 {
     match &seats[usize::from(sid.number) - 1] {
@@ -48,7 +47,7 @@ pub(crate) fn user_in(seats: &Vec<Option<Seat>>, sid: Sid) -> Option<&str>
 
 // Takes the seat of a session out, which leaves the session closed.
 pub(crate) fn take_seat(seats: &mut Vec<Option<Seat>>, sid: Sid) -> Option<Seat>
-    requires { vec_len seats.old ≡ 64 }
+    requires { vec_len seats.old ≡ session_count }
     ensures taken { option_map seated result ≡ seat_of (seats_shown seats.old.items) sid.number }
     ensures left { seats_shown seats.new.items ≡ slice_set (seats_shown seats.old.items) (sid.number - 1) None }
 {
@@ -57,21 +56,21 @@ pub(crate) fn take_seat(seats: &mut Vec<Option<Seat>>, sid: Sid) -> Option<Seat>
 
 // Puts a seat in, which leaves the session open.
 pub(crate) fn put_seat(seats: &mut Vec<Option<Seat>>, sid: Sid, seat: Seat)
-    requires { vec_len seats.old ≡ 64 }
+    requires { vec_len seats.old ≡ session_count }
     ensures { seats_shown seats.new.items ≡ slice_set (seats_shown seats.old.items) (sid.number - 1) (Some (seated seat)) }
 {
     seats[usize::from(sid.number) - 1] = Some(seat);
 }
 
 // Closes every session, and its cursors with it.
-pub(crate) fn close_seats<W: Wrapper>(seats: &mut Vec<Option<Seat>>, slots: &mut Vec<Option<W>>)
-    requires { vec_len seats.old ≡ 64 }
-    ensures closed { seats_shown seats.new.items ≡ replicate 64 None }
+pub(crate) fn close_seats<W: Wrapper2>(seats: &mut Vec<Option<Seat>>, slots: &mut Vec<Option<W>>)
+    requires { vec_len seats.old ≡ session_count }
+    ensures closed { seats_shown seats.new.items ≡ replicate session_count None }
     ensures served { AllServed (states W.meaning slots.old.items) (states W.meaning slots.new.items) }
 {
     services_join();
     cursors_hold_no_scan();
-    for place in 0..SESSIONS {
+    for place in 0..SESSION_COUNT {
         match seats[place].take() {
             Some(seat) => close_all(seat.cursors, slots),
             None => {}

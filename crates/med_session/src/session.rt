@@ -1,11 +1,14 @@
 //! Sessions and what they ask.
 ghost use Rattle.std.specs.Prelude.{◌≡◌, ◌-◌, ◌≤◌, is_some, map, option_map, slice_set, string_bytes, vec_len};
+ghost use Rattle.med_value.specs.Limits.{session_count};
 
-/// The number of a session: 1 to 64.
+use med_value::limits::SESSION_COUNT;
+
+/// The number of a session: 1 to 256.
 #[derive(Clone, Copy, Debug, PartialEq, Eq)]
 pub struct Sid {
-    pub number: u8,
-    ghost in_range: { (1 ≤ number) × (number ≤ 64) },
+    pub number: u16,
+    ghost in_range: { (1 ≤ number) × (number ≤ session_count) },
 }
 
 /// What a line asks.
@@ -28,11 +31,11 @@ impl Sid {
     ghost use Rattle.med_world.specs.Requests.{IsSid};
 
     /// The session of this number, where there is one.
-    pub fn new(number: u8) -> Option<Sid>
+    pub fn new(number: u16) -> Option<Sid>
         ensures exact { IsSome result ↔ IsSid number }
         ensures number { IfSome result (λ sid. sid.number ≡ number) }
     {
-        if number < 1 || 64 < number {
+        if number < 1 || SESSION_COUNT < usize::from(number) {
             return None;
         }
         Some(Sid { number })

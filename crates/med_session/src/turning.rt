@@ -15,11 +15,11 @@ use crate::engine::Engine;
 use crate::places::{put_seat, take_seat};
 use crate::session::Sid;
 use cursor_syntax::{CursorStatement, Declare, Fetch};
-use fdw_api::interface::Wrapper;
+use fdw_api::wishes::Wrapper2;
 use med_world::law::{cursors_lead, sessions_lead};
 use session_replies::Outcome;
 
-impl<W: Wrapper> Engine<W> {
+impl<W: Wrapper2> Engine<W> {
     ghost use Rattle.med_session.specs.Cursors.{HasCursor, LosesCursor, IfFetched, MayBeUntold};
     ghost use Rattle.session_replies.specs.Outcomes.{reply_of};
     ghost use Rattle.med_session.specs.Shows.{shown};

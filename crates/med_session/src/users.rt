@@ -3,12 +3,14 @@ ghost use Rattle.std.specs.Prelude.{◌≡◌, ◌↔◌, IsTrue};
 ghost use Rattle.std.specs.List.{list_all};
 ghost use Rattle.med_world.specs.Requests.{IsUser, starts_user, in_user};
 
+use med_value::limits::NAME_LIMIT;
+
 /// Whether a text is the name of a user.
 pub fn is_user(name: &str) -> bool
     ensures { IsTrue result ↔ IsUser name.now }
 {
     let bytes = name.as_bytes();
-    if bytes.is_empty() || bytes.len() > 63 || !starts_user(bytes[0]) {
+    if bytes.is_empty() || bytes.len() > NAME_LIMIT || !starts_user(bytes[0]) {
         return false;
     }
     if name == "public" || name == "user" || name == "current_user" {

@@ -4,6 +4,7 @@ use Rattle.std.specs.List.{IsDistinct}
 use Rattle.med_syntax.specs.Tree.{Name}
 use Rattle.fdw_api.specs.State.{BoxState}
 use Rattle.med_catalog.specs.Objects.{no_objects}
+use Rattle.med_value.specs.Limits.{session_count}
 use Rattle.med_world.specs.Requests.{IsUser}
 use Rattle.open_cursors.specs.Open.{Seated}
 use Rattle.med_world.specs.World.{empty_world}
@@ -27,7 +28,7 @@ empty_objects owner is_user = record {
   served = λ t c. absurd (let within = c.1 in omega arith);
 }
 
-pub empty_sound : (owner : Name) (seats : List (Option Seated)) → IsUser owner → seats ≡ replicate 64 None → IsSound (empty_shown owner seats)
+pub empty_sound : (owner : Name) (seats : List (Option Seated)) → IsUser owner → seats ≡ replicate session_count None → IsSound (empty_shown owner seats)
 unfolding IsDistinct
 empty_sound owner seats is_user closed = record {
   objects = empty_objects owner is_user;
@@ -46,7 +47,7 @@ empty_sound owner seats is_user closed = record {
   bound_once = λ j k a b at_j at_k. absurd (no_place j a at_j);
 }
 
-pub empty_agrees : (owner : Name) (seats : List (Option Seated)) → seats ≡ replicate 64 None → Agrees (empty_shown owner seats) (empty_world owner)
+pub empty_agrees : (owner : Name) (seats : List (Option Seated)) → seats ≡ replicate session_count None → Agrees (empty_shown owner seats) (empty_world owner)
 empty_agrees owner seats closed = record {
   honest = λ slot s at. absurd (no_box slot s at);
   catalog = refl;

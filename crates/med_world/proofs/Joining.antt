@@ -7,6 +7,7 @@ use Rattle.fdw_api.specs.State.{BoxState, BoxTable, IsIdle, is_honest, table_of}
 use Rattle.fdw_api.specs.Sound.{IsSoundBox}
 use Rattle.med_catalog.specs.declared.kind.SourceKind.{SourceKind}
 use Rattle.bind_catalog.specs.Places.{Attached}
+use Rattle.med_value.specs.Limits.{source_limit}
 use Rattle.med_world.specs.World.{World, Source, standing, with_source}
 use Rattle.med_world.specs.Engine.{Label, Shown, IsAtRest, EachBox, EachTakes, TakesAs, IsNamedAt, IsAmong, IsSound, state_of, sources_of, RowsAgree, Agrees}
 use Rattle.med_world.specs.Adding.{HasSource, with_box, Adds}
@@ -44,11 +45,11 @@ takes_push labels boxes l b same h takes place k s at_k at_s = both (push_cases 
 abbrev pub IdleIsSound : Type 0
 IdleIsSound = (s : BoxState) → IsIdle s → IsSoundBox s
 
-added_sound : IdleIsSound → (e : Shown) (name : List ℕ) (kind : SourceKind) (b : BoxState) → IsSound e → (HasSource e.labels name → ⊥) → length e.labels < 64 → IsIdle b → TakesAs kind b → IsSound (with_box e name kind b)
+added_sound : IdleIsSound → (e : Shown) (name : List ℕ) (kind : SourceKind) (b : BoxState) → IsSound e → (HasSource e.labels name → ⊥) → length e.labels < source_limit → IsIdle b → TakesAs kind b → IsSound (with_box e name kind b)
 added_sound law e name kind b h none room idle takes = record {
   objects = h.objects;
   places = length_push e.boxes (Some b) ∙ ap (λ n. n + 1) h.places ∙ sym (length_push e.labels l);
-  sources = subst (λ n. n ≤ 64) (sym (length_push e.labels l)) (omega arith);
+  sources = subst (λ n. n ≤ source_limit) (sym (length_push e.labels l)) (omega arith);
   sessions = h.sessions;
   seated = seats_sound e.boxes _ e.seats h.seated;
   source_names = subst (λ names. IsDistinct bytes_eq names) (sym (map-append (λ (x : Label). x.name) e.labels (l ∷ [])))

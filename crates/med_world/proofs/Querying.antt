@@ -47,7 +47,7 @@ state_phase w q c (many, e) = ap phase e
 pub run_phase : (w : World) (q : SelectTree) (c : Cause) → QueryRun w q c → phase c ≡ 6
 run_phase w q c (inl (Range, h, e)) = ap phase e
 run_phase w q c (inl (Zero, h, e)) = ap phase e
-run_phase w q c (inr (grouped, big, e)) = ap phase e
+run_phase w q c (inr (large, e)) = ap phase e
 
 pub select_phase : ArePhased → (w : World) (user : Name) (q : SelectTree) (c : Cause) → SelectCauses w user q c → 3 ≤ phase c
 select_phase law w user q c (inl h) = let p : phase c ≡ 3 = law.names w.catalog user q c h in omega arith

@@ -14,6 +14,7 @@ use Rattle.bind_catalog.specs.Places.{Attached}
 use Rattle.med_catalog.specs.Objects.{TableObject, Objects, table_named}
 use Rattle.med_catalog.specs.Changes.{new_table, no_table, without}
 use Rattle.open_cursors.specs.Open.{Opened, Seated, leases_table, seat_leases, any_leases, held_by}
+use Rattle.med_value.specs.Limits.{session_count}
 use Rattle.med_world.specs.Requests.{IsSid}
 use Rattle.med_world.specs.World.{World, Leased, Cursor, Session, cells_of, rows_named, rows_with, beside_without, reads_table, leases, any_session, is_leased}
 use Rattle.med_world.specs.Steps.{with_catalog}
@@ -111,7 +112,7 @@ leases_same e w sound a = λ i name. (ap (any_session (λ sid. leases name (w.se
     each : (name : Name) (k : ℕ) (seat : Option Seated) → slice_get e.seats k ≡ Some seat → leases name (w.sessions (suc k)) ≡ seat_leases name seat
     each name k seat at =
         let few : k < length e.seats = within_seats e.seats k seat at in
-        let many : length e.seats ≡ 64 = sound.sessions in
+        let many : length e.seats ≡ session_count = sound.sessions in
         let is : IsSid (suc k) = (omega arith, omega (arith, few, many)) in
         seat_lease e.boxes w name (seat_of e.seats (suc k)) (w.sessions (suc k)) (a.sessions (suc k) is) ∙ ap (seat_leases name) (seat_there e.seats k seat at)
 
@@ -133,7 +134,7 @@ none_session p (suc n) sid e low high = split (eqb_tells sid (suc n)) (λ h. non
 
 -- a table that is not leased is read by no cursor of any session
 pub unleased : (w : World) (name : Name) (sid : ℕ) → is_leased w name ≡ false → IsSid sid → leases name (w.sessions sid) ≡ false
-unleased w name sid e is = none_session (λ k. leases name (w.sessions k)) 64 sid e is.0 is.1
+unleased w name sid e is = none_session (λ k. leases name (w.sessions k)) session_count sid e is.0 is.1
 
 -- ---- cursors after a change
 

@@ -11,6 +11,7 @@ use Rattle.fdw_api.specs.State.{BoxState}
 use Rattle.med_exec.specs.Running.{Held, ServesRun, AllServed, none_held}
 use Rattle.med_exec.proofs.Served.{all_served}
 use Rattle.open_cursors.specs.Open.{Opened, Seated, held_by}
+use Rattle.med_value.specs.Limits.{session_count}
 use Rattle.med_world.specs.Requests.{opening, bye, IsSid, IsUser}
 use Rattle.med_world.specs.Picks.{no_pick}
 use Rattle.med_world.specs.World.{World, Session, new_session, IsOpen, with_session, without_sessions}
@@ -45,7 +46,7 @@ is_closed_by e w sid a s h o = false≢true (sym h ∙ sym (open_same e.boxes w 
 -- ---- one session is another one now
 
 -- its place
-pub seat_now : (seats : List (Option Seated)) (sid : ℕ) (seat : Option Seated) → IsSid sid → length seats ≡ 64 → seat_of (slice_set seats (sid - 1) seat) sid ≡ seat
+pub seat_now : (seats : List (Option Seated)) (sid : ℕ) (seat : Option Seated) → IsSid sid → length seats ≡ session_count → seat_of (slice_set seats (sid - 1) seat) sid ≡ seat
 seat_now seats sid seat (one, most) long =
     let within : sid - 1 < length seats = omega arith in
     ap seat_in (set_same seats (sid - 1) (slice_index_or seats (sid - 1) None) seat (slice_get-get_or seats (sid - 1) None within))
@@ -57,7 +58,7 @@ seat_other seats sid s seat (one, most) (one', most') ne =
     ap seat_in (set_other seats (sid - 1) (s - 1) seat apart)
 
 -- The session becomes this one, in the engine as in the world, whose boxes have served.
-pub turned_agrees : (e : Shown) (w : World) (new : List (Option BoxState)) (sid : ℕ) (seat : Option Seated) (s : Option Session) → IsSid sid → length e.seats ≡ 64 → AllServed e.boxes new
+pub turned_agrees : (e : Shown) (w : World) (new : List (Option BoxState)) (sid : ℕ) (seat : Option Seated) (s : Option Session) → IsSid sid → length e.seats ≡ session_count → AllServed e.boxes new
     → SeatAgrees new (with_session w sid s) seat s → Agrees e w → Agrees (with_boxes (with_seats e (slice_set e.seats (sid - 1) seat)) new) (with_session w sid s)
 turned_agrees e w new sid seat s is long served here a = record {
   honest = now.honest;
@@ -85,7 +86,7 @@ turned_agrees e w new sid seat s is long served here a = record {
         (seat_stays e.boxes new w after (seat_of e.seats k) (w.sessions k) (λ l e x. stands_still w after l refl refl x) (a.sessions k is_k)))
 
 -- an engine with other sessions stays sound
-pub seats_turned : (e : Shown) (seats : List (Option Seated)) → IsSound e → length seats ≡ 64 → AreSoundSeats e.boxes seats → IsSound (with_seats e seats)
+pub seats_turned : (e : Shown) (seats : List (Option Seated)) → IsSound e → length seats ≡ session_count → AreSoundSeats e.boxes seats → IsSound (with_seats e seats)
 seats_turned e seats h long sound = record {
   objects = h.objects;
   places = h.places;
@@ -132,7 +133,7 @@ pub turned_sound : (e : Shown) (new : List (Option BoxState)) (sid : ℕ) (seat 
     → IsSound (with_boxes (with_seats e (slice_set e.seats (sid - 1) seat)) new)
 turned_sound e new sid seat (one, most) served sound here =
     let now : IsSound (with_boxes e new) = serving_sound e new served sound in
-    let long : length e.seats ≡ 64 = sound.sessions in
+    let long : length e.seats ≡ session_count = sound.sessions in
     let within : sid - 1 < length e.seats = omega (arith, long) in
     seats_turned (with_boxes e new) (slice_set e.seats (sid - 1) seat) now (length-set e.seats (sid - 1) seat ∙ long) (seat_turned new e.seats (sid - 1) seat within now.seated here)
 
@@ -142,7 +143,7 @@ new_seat_sound : (boxes : List (Option BoxState)) (user : Name) → IsSoundSeat 
 unfolding IsDistinct
 new_seat_sound boxes user = record { running = λ c has. absurd (let within = has.1 in omega arith); apart = tt; few = omega arith }
 
-pub opened : (e : Shown) (sid : ℕ) (user : Name) → IsSid sid → IsUser user → length e.seats ≡ 64 → is_some (user_of e.seats sid) ≡ false
+pub opened : (e : Shown) (sid : ℕ) (user : Name) → IsSid sid → IsUser user → length e.seats ≡ session_count → is_some (user_of e.seats sid) ≡ false
     → Leads e sid (opening user) (done (codes "OPEN")) (with_seats e (slice_set e.seats (sid - 1) (Some (new_seat user))))
 opened e sid user is is_user long closed = record {
   trouble = calm;
@@ -179,11 +180,11 @@ opened_sound e sid user is sound =
 pub closed_served : (cursors : List Opened) (old new : List (Option BoxState)) → ServesRun (held_by cursors) none_held old new → AllServed old new
 closed_served cursors old new h = subst (λ (own : Held). ServesRun own none_held old new) (held_none cursors) h
 
-pub shut_agrees : (e : Shown) (w : World) (new : List (Option BoxState)) (sid : ℕ) → IsSid sid → length e.seats ≡ 64 → AllServed e.boxes new → Agrees e w
+pub shut_agrees : (e : Shown) (w : World) (new : List (Option BoxState)) (sid : ℕ) → IsSid sid → length e.seats ≡ session_count → AllServed e.boxes new → Agrees e w
     → Agrees (with_boxes (with_seats e (slice_set e.seats (sid - 1) None)) new) (with_session w sid None)
 shut_agrees e w new sid is long served a = turned_agrees e w new sid None None is long served tt a
 
-pub closed : (e : Shown) (new : List (Option BoxState)) (sid : ℕ) (seat : Seated) → IsSid sid → length e.seats ≡ 64 → seat_of e.seats sid ≡ Some seat → ServesRun (held_by seat.cursors) none_held e.boxes new
+pub closed : (e : Shown) (new : List (Option BoxState)) (sid : ℕ) (seat : Seated) → IsSid sid → length e.seats ≡ session_count → seat_of e.seats sid ≡ Some seat → ServesRun (held_by seat.cursors) none_held e.boxes new
     → Leads e sid bye (done (codes "BYE")) (with_boxes (with_seats e (slice_set e.seats (sid - 1) None)) new)
 closed e new sid seat is long there ends = record {
   trouble = calm;
@@ -213,13 +214,13 @@ closed_sound e new sid seat is sound ends = shut_sound e new sid is (closed_serv
 pub none_sound : (e : Shown) (sid : ℕ) → IsSid sid → IsSound e → IsSound (with_seats e (slice_set e.seats (sid - 1) None))
 none_sound e sid is sound = shut_sound e e.boxes sid is (all_served e.boxes) sound
 
-pub closes : (e : Shown) (new : List (Option BoxState)) (sid : ℕ) (seat : Seated) → IsSid sid → length e.seats ≡ 64 → ServesRun (held_by seat.cursors) none_held e.boxes new
+pub closes : (e : Shown) (new : List (Option BoxState)) (sid : ℕ) (seat : Seated) → IsSid sid → length e.seats ≡ session_count → ServesRun (held_by seat.cursors) none_held e.boxes new
     → Closes e sid (with_boxes (with_seats e (slice_set e.seats (sid - 1) None)) new)
 closes e new sid seat is long ends =
     let served = closed_served seat.cursors e.boxes new ends in
     record { others = refl; rises = serving_rises e.boxes new served; world = λ w a. shut_agrees e w new sid is long served a }
 
-pub closes_none : (e : Shown) (sid : ℕ) → IsSid sid → length e.seats ≡ 64 → Closes e sid (with_seats e (slice_set e.seats (sid - 1) None))
+pub closes_none : (e : Shown) (sid : ℕ) → IsSid sid → length e.seats ≡ session_count → Closes e sid (with_seats e (slice_set e.seats (sid - 1) None))
 closes_none e sid is long = record { others = refl; rises = none_rises e.boxes; world = λ w a. shut_agrees e w e.boxes sid is long (all_served e.boxes) a }
 
 -- ---- all sessions
@@ -230,18 +231,18 @@ none_at (suc n) zero = refl
 none_at (suc n) (suc k) = none_at n k
 
 -- closed places
-pub all_shut : (boxes : List (Option BoxState)) (w : World) (seats : List (Option Seated)) (sid : ℕ) → seats ≡ replicate 64 None → SeatAgrees boxes w (seat_of seats sid) None
+pub all_shut : (boxes : List (Option BoxState)) (w : World) (seats : List (Option Seated)) (sid : ℕ) → seats ≡ replicate session_count None → SeatAgrees boxes w (seat_of seats sid) None
 all_shut boxes w seats sid closed =
-    subst (λ (x : Option Seated). SeatAgrees boxes w x None) (sym (ap (λ (s : List (Option Seated)). seat_of s sid) closed ∙ none_at 64 (sid - 1))) tt
+    subst (λ (x : Option Seated). SeatAgrees boxes w x None) (sym (ap (λ (s : List (Option Seated)). seat_of s sid) closed ∙ none_at session_count (sid - 1))) tt
 
-pub shut_seats : (boxes : List (Option BoxState)) (seats : List (Option Seated)) → seats ≡ replicate 64 None → AreSoundSeats boxes seats
+pub shut_seats : (boxes : List (Option BoxState)) (seats : List (Option Seated)) → seats ≡ replicate session_count None → AreSoundSeats boxes seats
 shut_seats boxes seats closed place s at =
-    absurd (none_some_seat s (sym (none_at 64 place) ∙ ap seat_in (sym (ap (λ (l : List (Option Seated)). slice_get l place) closed) ∙ at)))
+    absurd (none_some_seat s (sym (none_at session_count place) ∙ ap seat_in (sym (ap (λ (l : List (Option Seated)). slice_get l place) closed) ∙ at)))
 
-pub shut_many : (seats : List (Option Seated)) → seats ≡ replicate 64 None → length seats ≡ 64
-shut_many seats closed = ap length closed ∙ length-replicate {A = Option Seated} 64 None
+pub shut_many : (seats : List (Option Seated)) → seats ≡ replicate session_count None → length seats ≡ session_count
+shut_many seats closed = ap length closed ∙ length-replicate {A = Option Seated} session_count None
 
-pub closes_all : (e : Shown) (new : List (Option BoxState)) (seats : List (Option Seated)) → seats ≡ replicate 64 None → AllServed e.boxes new → ClosesAll e (with_boxes (with_seats e seats) new)
+pub closes_all : (e : Shown) (new : List (Option BoxState)) (seats : List (Option Seated)) → seats ≡ replicate session_count None → AllServed e.boxes new → ClosesAll e (with_boxes (with_seats e seats) new)
 closes_all e new seats closed served = record {
   others = refl;
   rises = serving_rises e.boxes new served;
@@ -255,6 +256,6 @@ closes_all e new seats closed served = record {
   };
 }
 
-pub closes_all_sound : (e : Shown) (new : List (Option BoxState)) (seats : List (Option Seated)) → IsSound e → seats ≡ replicate 64 None → AllServed e.boxes new → IsSound (with_boxes (with_seats e seats) new)
+pub closes_all_sound : (e : Shown) (new : List (Option BoxState)) (seats : List (Option Seated)) → IsSound e → seats ≡ replicate session_count None → AllServed e.boxes new → IsSound (with_boxes (with_seats e seats) new)
 closes_all_sound e new seats sound closed served =
     seats_turned (with_boxes e new) seats (serving_sound e new served sound) (shut_many seats closed) (shut_seats new seats closed)

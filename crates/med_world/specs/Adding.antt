@@ -2,6 +2,7 @@
 use Rattle.std.specs.Prelude.{◌≡◌, ◌<◌, ℕ, List, [], ◌∷◌, ◌++◌, length, Some}
 use Rattle.fdw_api.specs.State.{BoxState}
 use Rattle.med_catalog.specs.declared.kind.SourceKind.{SourceKind}
+use Rattle.med_value.specs.Limits.{source_limit}
 use Rattle.med_world.specs.Engine.{Label, Shown, IsNamedAt}
 
 -- a source of this name was added, dropped since or not
@@ -15,5 +16,5 @@ with_box e name kind box = record e { labels = e.labels ++ record { name = name;
 -- the source is added: its name was free, there was room, and all else is as before
 pub record Adds (old : Shown) (name : List ℕ) (kind : SourceKind) (box : BoxState) (new : Shown) : Type 0 where
   pub name_free : HasSource old.labels name → ⊥
-  pub room : length old.labels < 64
+  pub room : length old.labels < source_limit
   pub is : new ≡ with_box old name kind box

@@ -31,6 +31,7 @@ use Rattle.bind_catalog.specs.Tables.{shapes}
 use Rattle.bind_catalog.specs.Queries.{meant_by, QueryNames, QueryTypes}
 use Rattle.med_parser.specs.CommandTree.{CommandTree, on_data, on_rows, on_cursors, on_objects}
 use Rattle.med_parser.specs.CommandGrammar.{HasCommand}
+use Rattle.med_value.specs.Limits.{entry_limit, cursor_limit}
 use Rattle.med_world.specs.Picks.{Pick, PicksAnswer, IsNumbering, as_given}
 use Rattle.med_world.specs.Requests.{AskedLine, opening, sql, bye, IsUser}
 use Rattle.med_world.specs.World.{World, Session, IsOpen, cells_of, rows_in, rows_named, IsFree, Serves, is_leased}
@@ -64,7 +65,7 @@ entries_in w q = entry_tables (meant_over w q).entries (rows_in w.rows)
 
 -- Phase 5: 54000 where FROM has more than 8 entries.
 abbrev pub QueryState : World → SelectTree → Cause → Type 0
-QueryState w q c = (8 < length (meant_over w q).entries) × (c ≡ LimitExceeded)
+QueryState w q c = (entry_limit < length (meant_over w q).entries) × (c ≡ LimitExceeded)
 
 -- Phase 6: the faults that the query shows over the rows of its entries, and 54000 where it groups too many of them.
 abbrev pub QueryRun : World → SelectTree → Cause → Type 0
@@ -157,7 +158,7 @@ pub data DeclareCauses (w : World) (s : Session) (name : Name) (q : SelectTree) 
   exists : c ≡ DuplicateCursor → IsSome (cursor_named name s) → DeclareCauses w s name q c
   of_query : SelectCauses w s.user q c → DeclareCauses w s name q c
   is_risky : c ≡ FeatureNotSupported → is_risky_form (meant_over w q).form ≡ true → DeclareCauses w s name q c
-  too_many : c ≡ LimitExceeded → 16 ≤ length s.cursors → DeclareCauses w s name q c
+  too_many : c ≡ LimitExceeded → cursor_limit ≤ length s.cursors → DeclareCauses w s name q c
 
 -- Of FETCH and CLOSE: 34000 where the session has no cursor of this name.
 abbrev pub CursorCauses : World → Session → CursorTree → Cause → Type 0

@@ -13,6 +13,7 @@ use Rattle.med_exec.specs.Slots.{BoxAt, ChangesAt}
 use Rattle.med_exec.specs.Running.{SlotShows, HasFailed, IsUsedUp}
 use Rattle.bind_catalog.specs.Places.{Attached, ArePlaces}
 use Rattle.bind_catalog.specs.Queries.{meant_by}
+use Rattle.med_value.specs.Limits.{session_count, source_limit}
 use Rattle.med_world.specs.Requests.{AskedLine, sql, IsSid, IsUser}
 use Rattle.med_catalog.specs.declared.kind.SourceKind.{SourceKind}
 use Rattle.med_catalog.specs.Objects.{ServerObject, TableObject, Objects, server_named}
@@ -130,8 +131,8 @@ EachTakes labels boxes =
 pub record IsSound (e : Shown) : Type 0 where
   pub objects : AreSound e.catalog
   pub places : length e.boxes ≡ length e.labels
-  pub sources : length e.labels ≤ 64
-  pub sessions : length e.seats ≡ 64
+  pub sources : length e.labels ≤ source_limit
+  pub sessions : length e.seats ≡ session_count
   pub seated : AreSoundSeats e.boxes e.seats
   pub source_names : IsDistinct bytes_eq (map (λ (l : Label). l.name) e.labels)
   pub at_rest : EachBox IsAtRest e.boxes

@@ -7,6 +7,7 @@ use Rattle.fdw_api.specs.State.{BoxState}
 use Rattle.med_exec.specs.Rests.{Rests, IsRunning}
 use Rattle.med_catalog.specs.Objects.{table_named}
 use Rattle.open_cursors.specs.Open.{Opened, Seated, AreNamedApart}
+use Rattle.med_value.specs.Limits.{cursor_limit}
 use Rattle.med_world.specs.World.{World, Leased, Cursor, Session, cells_of, rows_named}
 use Rattle.med_world.specs.Cursors.{rows_leased}
 
@@ -30,11 +31,11 @@ new_seat user = record { user = user; cursors = [] }
 
 -- ---- what an engine keeps of them
 
--- the runs of the session's cursors run on, no two cursors have one name, and they are at most 16
+-- the runs of the session's cursors run on, no two cursors have one name, and they are not too many
 pub record IsSoundSeat (boxes : List (Option BoxState)) (s : Seated) : Type 0 where
   pub running : (c : Opened) → Contains s.cursors c → IsRunning c.run boxes
   pub apart : AreNamedApart s.cursors
-  pub few : length s.cursors ≤ 16
+  pub few : length s.cursors ≤ cursor_limit
 
 -- so is each session that is open
 abbrev pub AreSoundSeats : List (Option BoxState) → List (Option Seated) → Type 0

@@ -15,6 +15,7 @@ use Rattle.open_cursors.specs.Starting.{RunFails}
 use Rattle.bind_catalog.specs.Queries.{meant_by, IsBindable, NotBound}
 use Rattle.bind_catalog.specs.Places.{Attached, ArePlaces}
 use Rattle.med_catalog.specs.Objects.{Objects}
+use Rattle.med_value.specs.Limits.{entry_limit}
 use Rattle.med_world.specs.Causes.{query_of}
 
 -- the same in whatever order the rows come
@@ -26,7 +27,7 @@ pub record AnswersOver (q : Query) (places : List Place) (boxes : List (Option B
 pub record Selects (o : Objects) (user : Name) (bound : List Attached) (q : SelectTree) (old : List (Option BoxState))
     (names : List Name) (given : List Tuple) (new : List (Option BoxState)) : Type 0 where
   pub bindable : IsBindable o user q
-  pub few : length (meant_by o q).entries ≤ 8
+  pub few : length (meant_by o q).entries ≤ entry_limit
   pub named : names ≡ (meant_by o q).names
   pub served : AllServed old new
   pub places : List Place
@@ -38,7 +39,8 @@ pub record Selects (o : Objects) (user : Name) (bound : List Attached) (q : Sele
 pub data SelectFails (o : Objects) (user : Name) (bound : List Attached) (q : SelectTree) (old : List (Option BoxState)) (c : Cause)
     (new : List (Option BoxState)) : Type 0 where
   not_bound : NotBound o user q c → new ≡ old → SelectFails o user bound q old c new
-  too_many : IsBindable o user q → 8 < length (meant_by o q).entries → c ≡ LimitExceeded → new ≡ old → SelectFails o user bound q old c new
-  run_fails : IsBindable o user q → length (meant_by o q).entries ≤ 8 → AllServed old new → (places : List Place)
+  too_many : IsBindable o user q → entry_limit < length (meant_by o q).entries → c ≡ LimitExceeded → new ≡ old
+      → SelectFails o user bound q old c new
+  run_fails : IsBindable o user q → length (meant_by o q).entries ≤ entry_limit → AllServed old new → (places : List Place)
       → ArePlaces bound (meant_by o q).entries places → RunFails (query_of (meant_by o q)) places c old new
       → SelectFails o user bound q old c new

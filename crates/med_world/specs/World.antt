@@ -9,6 +9,7 @@ use Rattle.fdw_api.specs.Kinds.{Kind, Holding, Held}
 use Rattle.fdw_api.specs.State.{set_at}
 use Rattle.med_catalog.specs.Objects.{ServerObject, TableObject, Objects, no_objects, server_named}
 use Rattle.med_catalog.specs.declared.kind.SourceKind.{SourceKind}
+use Rattle.med_value.specs.Limits.{session_count}
 
 -- ---- sources
 
@@ -135,7 +136,7 @@ any_session p zero = false
 any_session p (suc n) = p (suc n) || any_session p n
 
 abbrev pub is_leased : World → Name → Bool
-is_leased w name = any_session (λ sid. leases name (w.sessions sid)) 64
+is_leased w name = any_session (λ sid. leases name (w.sessions sid)) session_count
 
 -- ---- changes of sources and sessions
 

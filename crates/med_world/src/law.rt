@@ -32,6 +32,7 @@ ghost use Rattle.med_catalog.specs.declared.kind.SourceKind.{SourceKind as AnyKi
 ghost use Rattle.bind_catalog.specs.Places.{Attached};
 ghost use Rattle.med_world.specs.Causes.{IsTold};
 ghost use Rattle.med_world.specs.Picks.{Pick};
+ghost use Rattle.med_value.specs.Limits.{session_count};
 ghost use Rattle.med_world.specs.Requests.{AskedLine, opening, sql, bye, IsSid, IsUser};
 ghost use Rattle.med_world.specs.World.{World, Cursor, with_source, empty_world};
 ghost use Rattle.med_world.specs.Cursors.{rows_leased, Fetched, AreFetched, IsLast, rows_fetched};
@@ -50,9 +51,9 @@ use fdw_api::law::tables_stay_sound;
 
 /// An engine without objects and sources, whose sessions are closed, is sound, and stands for the empty world.
 pub fn engines_begin()
-    ensures sound { (owner : Name) (seats : List (Option Seated)) → IsUser owner → seats ≡ replicate 64 None
+    ensures sound { (owner : Name) (seats : List (Option Seated)) → IsUser owner → seats ≡ replicate session_count None
         → IsSound (empty_shown owner seats) }
-    ensures agrees { (owner : Name) (seats : List (Option Seated)) → seats ≡ replicate 64 None
+    ensures agrees { (owner : Name) (seats : List (Option Seated)) → seats ≡ replicate session_count None
         → Agrees (empty_shown owner seats) (empty_world owner) }
 {}
 
@@ -69,12 +70,12 @@ pub fn sources_are_added()
 /// OPEN and BYE: by a session's being open, and the user's name; and any request but BYE for which memory is refused. BYE ends the runs of
 /// the session's cursors.
 pub fn sessions_lead()
-    ensures opened { (e : Shown) (sid : ℕ) (user : Name) → IsSid sid → IsUser user → length e.seats ≡ 64
+    ensures opened { (e : Shown) (sid : ℕ) (user : Name) → IsSid sid → IsUser user → length e.seats ≡ session_count
         → is_some (user_of e.seats sid) ≡ false
         → Leads e sid (opening user) (done (codes "OPEN")) (with_seats e (slice_set e.seats (sid - 1) (Some (new_seat user)))) }
     ensures not_opened { (e : Shown) (sid : ℕ) (user : Name) → IsSid sid → (is_some (user_of e.seats sid) ≡ true) ⊎ (IsUser user → ⊥)
         → Leads e sid (opening user) (refused Protocol) e }
-    ensures closed { (e : Shown) (new : List (Option BoxState)) (sid : ℕ) (seat : Seated) → IsSid sid → length e.seats ≡ 64
+    ensures closed { (e : Shown) (new : List (Option BoxState)) (sid : ℕ) (seat : Seated) → IsSid sid → length e.seats ≡ session_count
         → seat_of e.seats sid ≡ Some seat → ServesRun (held_by seat.cursors) none_held e.boxes new
         → Leads e sid bye (done (codes "BYE")) (with_boxes (with_seats e (slice_set e.seats (sid - 1) None)) new) }
     ensures not_closed { (e : Shown) (sid : ℕ) → IsSid sid → is_some (user_of e.seats sid) ≡ false
@@ -89,19 +90,19 @@ pub fn sessions_lead()
 
 /// Sessions that are closed without a request: one that is open, one that is not, and all. The runs of their cursors are ended.
 pub fn sessions_end()
-    ensures one { (e : Shown) (new : List (Option BoxState)) (sid : ℕ) (seat : Seated) → IsSid sid → length e.seats ≡ 64
+    ensures one { (e : Shown) (new : List (Option BoxState)) (sid : ℕ) (seat : Seated) → IsSid sid → length e.seats ≡ session_count
         → ServesRun (held_by seat.cursors) none_held e.boxes new
         → Closes e sid (with_boxes (with_seats e (slice_set e.seats (sid - 1) None)) new) }
-    ensures none { (e : Shown) (sid : ℕ) → IsSid sid → length e.seats ≡ 64
+    ensures none { (e : Shown) (sid : ℕ) → IsSid sid → length e.seats ≡ session_count
         → seat_of e.seats sid ≡ None → Closes e sid (with_seats e (slice_set e.seats (sid - 1) None)) }
-    ensures all { (e : Shown) (new : List (Option BoxState)) (seats : List (Option Seated)) → seats ≡ replicate 64 None
+    ensures all { (e : Shown) (new : List (Option BoxState)) (seats : List (Option Seated)) → seats ≡ replicate session_count None
         → AllServed e.boxes new → ClosesAll e (with_boxes (with_seats e seats) new) }
     ensures one_sound { (e : Shown) (new : List (Option BoxState)) (sid : ℕ) (seat : Seated) → IsSid sid → IsSound e
         → ServesRun (held_by seat.cursors) none_held e.boxes new
         → IsSound (with_boxes (with_seats e (slice_set e.seats (sid - 1) None)) new) }
     ensures none_sound { (e : Shown) (sid : ℕ) → IsSid sid → IsSound e → IsSound (with_seats e (slice_set e.seats (sid - 1) None)) }
     ensures all_sound { (e : Shown) (new : List (Option BoxState)) (seats : List (Option Seated)) → IsSound e
-        → seats ≡ replicate 64 None → AllServed e.boxes new → IsSound (with_boxes (with_seats e seats) new) }
+        → seats ≡ replicate session_count None → AllServed e.boxes new → IsSound (with_boxes (with_seats e seats) new) }
 {}
 
 /// A run that is there holds its answer, and no scan: so boxes that served the close of cursors have served, and no scan is live in them

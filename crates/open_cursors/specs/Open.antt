@@ -1,6 +1,7 @@
 -- Cursors that are open, as an engine holds them (SQL:2016, <declare cursor>; ISO/IEC 9075-2, 14 "Data manipulation").
 use Rattle.std.specs.Prelude.{Bool, false, List, length, map, filter, find, not, cond, flat_map, nat_le, Option, Some, None, option_map, bytes_eq, string_bytes}
 use Rattle.std.specs.List.{All, IsDistinct, list_any}
+use Rattle.med_value.specs.Limits.{cursor_limit}
 use Rattle.med_syntax.specs.Tree.{Name}
 use Rattle.fdw_api.specs.State.{BoxState}
 use Rattle.med_exec.specs.declared.running.Run.{Run}
@@ -36,9 +37,9 @@ seated s = record { user = string_bytes s.user; cursors = map opened s.cursors.i
 abbrev pub seats_shown : List (Option Seat) → List (Option Seated)
 seats_shown seats = map (option_map seated) seats
 
--- a session has as many cursors as it may have, which is 16
+-- a session has as many cursors as it may have, which `cursor_limit` says
 abbrev pub is_full : List Opened → Bool
-is_full cursors = nat_le 16 (length cursors)
+is_full cursors = nat_le cursor_limit (length cursors)
 
 -- ---- by name
 

@@ -7,11 +7,12 @@ use Rattle.tri_expr.specs.TreeParts.{is_risky_tree}
 use Rattle.med_value.specs.Datum.{Tuple}
 use Rattle.med_value.specs.declared.cause.Cause.{Cause}
 use Rattle.med_value.specs.declared.cause.Cause.TheVariants.{FeatureNotSupported, LimitExceeded, OutOfMemory, SourceFault}
+use Rattle.med_value.specs.Limits.{entry_limit}
 use Rattle.med_syntax.specs.Tree.{Name}
 use Rattle.med_syntax.specs.QueryTree.{EntryTree, SelectTree}
 use Rattle.bind_names.specs.Scope.{entries_of}
 use Rattle.med_query.specs.Query.{Query, Tables, SameRows, IsAnswer}
-use Rattle.med_query.specs.Form.{Form, GroupForm, query_by}
+use Rattle.med_query.specs.Form.{CoreForm, Form, GroupForm, query_by}
 use Rattle.fdw_api.specs.State.{BoxState}
 use Rattle.pushdown.specs.Offered.{Place}
 use Rattle.med_planner.specs.Planned.{entry_rows, IsShownCause}
@@ -29,9 +30,12 @@ abbrev pub group_trees : Option GroupForm → List Tree
 group_trees None = []
 group_trees (Some g) = g.arguments ++ g.having
 
--- An expression of the query is risky; those of ON never are in a query that is bound.
+-- An expression of a core, or of a query, is risky; those of ON never are in a query that is bound.
+abbrev pub is_risky_core : CoreForm → Bool
+is_risky_core f = list_any is_risky_tree (f.conditions ++ (group_trees f.group ++ (f.items ++ f.keys)))
+
 abbrev pub is_risky_form : Form → Bool
-is_risky_form f = list_any is_risky_tree (f.conditions ++ (group_trees f.group ++ (f.items ++ f.keys)))
+is_risky_form f = list_any is_risky_core f.cores
 
 -- ---- the tables that a cursor leases
 
@@ -54,7 +58,7 @@ pub record Starts (o : Objects) (user : Name) (bound : List Attached) (q : Selec
   pub bindable : IsBindable o user q
   pub safe : is_risky_form (meant_by o q).form ≡ false
   pub room : full ≡ false
-  pub few : length (meant_by o q).entries ≤ 8
+  pub few : length (meant_by o q).entries ≤ entry_limit
   pub named : names ≡ (meant_by o q).names
   pub served : ServesRun none_held (held run) old new
   pub running : IsRunning run new
@@ -78,8 +82,8 @@ pub data StartFails (o : Objects) (user : Name) (bound : List Attached) (q : Sel
       → StartFails o user bound q full old c new
   no_room : IsBindable o user q → is_risky_form (meant_by o q).form ≡ false → full ≡ true → c ≡ LimitExceeded → new ≡ old
       → StartFails o user bound q full old c new
-  too_many : IsBindable o user q → is_risky_form (meant_by o q).form ≡ false → 8 < length (meant_by o q).entries → c ≡ LimitExceeded
-      → new ≡ old → StartFails o user bound q full old c new
-  run_fails : IsBindable o user q → is_risky_form (meant_by o q).form ≡ false → full ≡ false → length (meant_by o q).entries ≤ 8
+  too_many : IsBindable o user q → is_risky_form (meant_by o q).form ≡ false → entry_limit < length (meant_by o q).entries
+      → c ≡ LimitExceeded → new ≡ old → StartFails o user bound q full old c new
+  run_fails : IsBindable o user q → is_risky_form (meant_by o q).form ≡ false → full ≡ false → length (meant_by o q).entries ≤ entry_limit
       → AllServed old new → (places : List Place) → ArePlaces bound (meant_by o q).entries places
       → RunFails (query_by (meant_by o q).form) places c old new → StartFails o user bound q full old c new

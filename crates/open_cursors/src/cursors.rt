@@ -3,9 +3,7 @@ ghost use Rattle.std.specs.Prelude.{◌≡◌, map};
 ghost use Rattle.open_cursors.specs.Open.{opened, is_full as holds_most};
 
 use med_exec::Run;
-
-/// How many cursors a session has open at most.
-pub const CURSORS: usize = 16;
+use med_value::limits::CURSOR_LIMIT;
 
 /// An open cursor (SQL:2016, 14.1 <declare cursor>).
 #[derive(Drop)]
@@ -30,5 +28,5 @@ pub struct Seat {
 pub fn is_full(cursors: &[OpenCursor]) -> bool
     ensures { result ≡ holds_most (map opened cursors.now) }
 {
-    cursors.len() >= CURSORS
+    cursors.len() >= CURSOR_LIMIT
 }

@@ -11,7 +11,8 @@ ghost use Rattle.open_cursors.specs.Fetching.{has_enough, GivesRows, GivesNone, 
 
 use crate::cursors::OpenCursor;
 use cursor_syntax::FetchCount;
-use fdw_api::interface::{Fault, Wrapper};
+use fdw_api::interface::Fault;
+use fdw_api::wishes::Wrapper2;
 use med_exec::Run;
 use med_exec::law::{running_is_held, services_join};
 use med_value::Row;
@@ -37,7 +38,7 @@ fn is_enough(asked: FetchCount, given: usize) -> bool
 /// [`Fault::NoMemory`] where memory was asked for and refused, and [`Fault::Source`] where a source failed.
 ///
 /// SQL:2016, 14.5 <fetch statement>.
-pub fn fetch<W: Wrapper>(
+pub fn fetch<W: Wrapper2>(
     run: &mut Run,
     slots: &mut Vec<Option<W>>,
     alloc: Global,
@@ -71,7 +72,7 @@ pub fn fetch<W: Wrapper>(
 }
 
 /// Closes a cursor: each scan that its run holds is ended, and the boxes hold what they held besides (SQL:2016, 14.6 <close statement>).
-pub fn close_cursor<W: Wrapper>(cursor: OpenCursor, slots: &mut Vec<Option<W>>)
+pub fn close_cursor<W: Wrapper2>(cursor: OpenCursor, slots: &mut Vec<Option<W>>)
     requires { IsHeld cursor.run (states W.meaning slots.old.items) }
     ensures { ServesRun (held cursor.run) none_held (states W.meaning slots.old.items) (states W.meaning slots.new.items) }
 {
@@ -85,7 +86,7 @@ pub fn close_cursor<W: Wrapper>(cursor: OpenCursor, slots: &mut Vec<Option<W>>)
 }
 
 /// Closes each of these cursors.
-pub fn close_all<W: Wrapper>(mut cursors: Vec<OpenCursor>, slots: &mut Vec<Option<W>>)
+pub fn close_all<W: Wrapper2>(mut cursors: Vec<OpenCursor>, slots: &mut Vec<Option<W>>)
     requires { AreHeld (map opened cursors.items) (states W.meaning slots.old.items) }
     ensures { ServesRun (held_by (map opened cursors.items)) none_held
         (states W.meaning slots.old.items) (states W.meaning slots.new.items) }

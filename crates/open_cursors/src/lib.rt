@@ -8,7 +8,7 @@ mod fetching;
 mod leases;
 mod named;
 
-pub use cursors::{CURSORS, OpenCursor, Seat, is_full};
+pub use cursors::{OpenCursor, Seat, is_full};
 pub use fetching::{close_all, close_cursor, fetch};
 pub use leases::is_leased;
 pub use named::{position, take};

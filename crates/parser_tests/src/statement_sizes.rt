@@ -42,8 +42,8 @@ fn long_texts(rt: HostRuntime) -> Result<(), Fail> {
         rt.alloc(),
         &rt,
         "1*SELECT *, t.*, a * 1 b\t1000*, -a * (1) c => read in 12022 bytes\n\
-        1*SELECT *\t9000*, * => read in 27008 bytes\n\
-        1*SELECT 1\t32764*+1 => TooDeep in 65536 bytes\n\
+        1*SELECT *\t349522*, * => read in 1048574 bytes\n\
+        1*SELECT 1\t524284*+1 => TooDeep in 1048576 bytes\n\
         1*SELECT a WHERE 1\t30000*+1 => TooDeep in 60016 bytes",
     )
 }
@@ -53,7 +53,7 @@ fn long_texts_that_are_refused(rt: HostRuntime) -> Result<(), Fail> {
     assert_rows::<Refusal>(
         rt.alloc(),
         &rt,
-        "1*SELECT \t65529*( => refused in 65536 bytes\n\
+        "1*SELECT \t1048569*( => refused in 1048576 bytes\n\
         1*SELECT a FROM t WHERE \t60000*( => refused in 60022 bytes\n\
         1*SELECT \t16000*not  => refused in 64007 bytes",
     )

@@ -82,7 +82,8 @@ pub fn outputs_of(
     classes: &[Vec<Row>],
 ) -> Result<Vec<Output>, EvalFault>
     ensures outputs { IfOk result (λ v. map output_of v.items
-        ≡ map (λ c. (map value_of (over (senses [] keys.now) c), map value_of (over (senses [] items.now) c))) (map tuples_in classes.now)) }
+        ≡ map (λ c. (map value_of (over (senses [] keys.now) c), map value_of (over (senses [] items.now) c)))
+        (map tuples_in classes.now)) }
     ensures told { Clears result (flat_map (output_faults (senses [] keys.now) (senses [] items.now)) (map tuples_in classes.now)) }
 {
     let mut out = Vec::new(alloc);

@@ -1,7 +1,9 @@
 //! The parts of a write as the query that has them: SET or the values as its items, and WHERE.
 
-use med_binder::{AttachedTable, bind};
-use med_query::Select;
+ghost use Rattle.std.specs.Prelude.{◌≡◌, length};
+
+use med_binder::{AttachedTable, BoundQuery, bind};
+use med_query::SelectCore;
 use med_syntax::{Chain, Entry, Expr, Item, Select as Written, Statement};
 use med_value::{Cause, ColumnDef, NoMemory};
 use std::alloc::Global;
@@ -47,14 +49,25 @@ pub fn from_of(alloc: Global, first: Entry) -> Result<Vec<Chain>, NoMemory> {
     Ok(vec![in alloc; Chain { first, joins }]?)
 }
 
-/// The query of these parts, its names being places.
+// The core of a query that has one.
+fn only_core(cores: Vec<SelectCore>) -> SelectCore
+    requires { length cores.items ≡ 1 }
+{
+    let mut cores = cores;
+    match cores.pop() {
+        Some(core) => core,
+        None => unreachable!(),
+    }
+}
+
+/// The query of these parts, its names being places: one core, with no order and no limit.
 pub fn asked(
     alloc: Global,
     tables: &[AttachedTable],
     items: Vec<Item>,
     from: Vec<Chain>,
     condition: Option<Expr>,
-) -> Result<Select, Cause> {
+) -> Result<SelectCore, Cause> {
     let query = Statement::Select(Written {
         distinct: false,
         items,
@@ -67,5 +80,6 @@ pub fn asked(
         offset: None,
     });
     let bound = bind(alloc, &query, tables, "ann")?;
-    Ok(bound.select)
+    let BoundQuery { select, .. } = bound;
+    Ok(only_core(select.cores))
 }

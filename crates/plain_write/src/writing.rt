@@ -4,7 +4,7 @@ use crate::after::{After, copied};
 use crate::asking::{asked, cells_of, from_of};
 use crate::inserting::{add_rows, rows_of_query, rows_of_values};
 use med_binder::AttachedTable;
-use med_query::Select;
+use med_query::SelectCore;
 use med_value::{Cause, ColumnDef, NoMemory, Row};
 use std::alloc::Global;
 use write_syntax::{Delete, Given, Insert, Update, WriteStatement};
@@ -61,7 +61,7 @@ fn insert(
 fn change_rows(
     alloc: Global,
     columns: &[ColumnDef],
-    query: &Select,
+    query: &SelectCore,
     rows: &[Row],
     after: &mut After,
 ) -> Result<(), NoMemory> {
@@ -98,7 +98,7 @@ fn update(
 // Each row of which WHERE is true goes.
 fn leave_out(
     alloc: Global,
-    query: &Select,
+    query: &SelectCore,
     rows: &[Row],
     after: &mut After,
 ) -> Result<(), NoMemory> {

@@ -5,6 +5,7 @@ use Rattle.fdw_api.specs.Scan.{Spec}
 use Rattle.fdw_api.specs.Kinds.{Column, OptionForm, Change}
 use Rattle.fdw_api.specs.State.{BoxState, Ledger, Staging}
 use Rattle.fdw_api.specs.Calls.{Leaves, Binds, Allows, Begins}
+use Rattle.fdw_api.specs.Wishes.{AllowsPromise}
 use Rattle.fdw_api.specs.Writes.{RefusesChange, Closes, Outcome}
 use Rattle.fdw_api.specs.declared.interface.Fault.{Fault}
 use Rattle.probe_wrapper.specs.Counting.{counted}
@@ -59,13 +60,16 @@ begins p s t n spec params q b = record {
 pub allows : (p : ℕ) (s : BoxState) (t : ℕ) (spec : Spec) → Allows s t spec → Allows (counted s p) t spec
 allows p s t spec a = record { bound = a.bound; is = a.is; allowed = a.allowed }
 
+pub allows_promise : (p : ℕ) (s : BoxState) (t : ℕ) (spec : Spec) → AllowsPromise s t spec → AllowsPromise (counted s p) t spec
+allows_promise p s t spec a = record { allows = allows p s t spec a.allows; may = a.may }
+
 pub refuses_change : (p : ℕ) (s t : BoxState) (change : Change) (fault : Fault) → RefusesChange s change fault t → RefusesChange (counted s p) change fault (counted t p)
 refuses_change p s t change fault r = record {
   nature = r.nature;
   staging = r.staging;
   is_staged = r.is_staged;
   ledger = ap (λ (l : Ledger). record l { pulled = p }) r.ledger;
-  cause = change_cause s s.nature.skips (record s.ledger { pulled = p }) s.content.coming r.staging change fault r.cause;
+  cause = change_cause s s.nature (record s.ledger { pulled = p }) s.content.coming r.staging change fault r.cause;
   leaves = λ h. leaves s t p (r.leaves h);
 }
 

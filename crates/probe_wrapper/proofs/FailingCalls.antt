@@ -19,7 +19,7 @@ binds_after f g s t remote columns settings n e b = inner.moved (λ o. Binds o r
 pub refuses_bind_after : (f g : Failure) (s t : BoxState) (remote : List ℕ) (columns : List Column) (settings : List OptionForm) (fault : Fault) → g ≡ after_call f → RefusesBind s remote columns settings fault t → RefusesBind (failed s f) remote columns settings fault (failed t g)
 refuses_bind_after f g s t remote columns settings fault e r =
     inner.moved (λ o. RefusesBind o remote columns settings fault (failed t g)) s f g e
-    (record { refuses = inner.refuses g s t fault r.refuses; cause = bind_cause s s.nature.skips (failed_ledger g s.ledger) s.content.coming remote columns settings fault r.cause })
+    (record { refuses = inner.refuses g s t fault r.refuses; cause = bind_cause s s.nature (failed_ledger g s.ledger) s.content.coming remote columns settings fault r.cause })
 
 pub begins_after : (f g h : Failure) (s t : BoxState) (n : ℕ) (spec : Spec) (params : Tuple) (q : ℕ) → g ≡ after_call f → h ≡ past_scan g q → Begins s n spec params q t → Begins (failed s f) n spec params q (failed t h)
 begins_after f g h s t n spec params q e p b =

@@ -9,6 +9,7 @@ use Rattle.fdw_api.specs.Scan.{Spec}
 use Rattle.fdw_api.specs.Kinds.{Column, OptionForm, Change}
 use Rattle.fdw_api.specs.State.{BoxState, Ledger, Staging, Scan as LiveScan, scan_of, table_of}
 use Rattle.fdw_api.specs.Calls.{bumped, faults_after, Leaves, NoScan, Allows, Binds, CanUnbind, Unbinds, Refuses, Begins, Iterates, Breaks, CanRescan, Rescans, Ends, new_scan}
+use Rattle.fdw_api.specs.Wishes.{AllowsPromise}
 use Rattle.fdw_api.specs.Writes.{CanModify, Opens, CanChange, Stages, RefusesChange, CanClose, Closes, RefusesClose, Outcome}
 use Rattle.fdw_api.specs.declared.interface.Fault.{Fault}
 use Rattle.fdw_api.specs.declared.interface.Fault.TheVariants.{NoMemory, Source, Refused}
@@ -172,6 +173,9 @@ leaves f g s t l = record { coming = λ q live other. l.coming q (live_in f s q 
 -- the calls
 pub allows : (f : Failure) (s : BoxState) (t : ℕ) (spec : Spec) → Allows s t spec → Allows (failed s f) t spec
 allows f s t spec a = record { bound = a.bound; is = a.is; allowed = a.allowed }
+
+pub allows_promise : (f : Failure) (s : BoxState) (t : ℕ) (spec : Spec) → AllowsPromise s t spec → AllowsPromise (failed s f) t spec
+allows_promise f s t spec a = record { allows = allows f s t spec a.allows; may = a.may }
 
 pub binds : (f : Failure) (s t : BoxState) (remote : List ℕ) (columns : List Column) (settings : List OptionForm) (n : ℕ) → Binds s remote columns settings n t → Binds (failed s f) remote columns settings n (failed t f)
 binds f s t remote columns settings n b = record {
@@ -386,7 +390,7 @@ refuses_change f s t change fault e r = record {
       ap (failed_ledger f) r.ledger
       ∙ ap (λ (o : Option Staging). record (failed_ledger f s.ledger) { staged = o; faults = faults_of f (faults_after fault s.ledger.faults) }) (seen_staged f (record r.staging { broken = true }) e)
       ∙ ap (λ (n : ℕ). record (failed_ledger f s.ledger) { staged = Some (record r.staging { broken = true }); faults = n }) (tells f fault s.ledger.faults);
-  cause = change_cause s s.nature.skips (failed_ledger f s.ledger) s.content.coming r.staging change fault r.cause;
+  cause = change_cause s s.nature (failed_ledger f s.ledger) s.content.coming r.staging change fault r.cause;
   leaves = λ h. leaves f f s t (r.leaves h);
 }
 
@@ -430,7 +434,7 @@ refuses_close f s t keep fault r = record {
   staging = staging_of f r.staging;
   is_staged = ap (option_map (staging_of f)) r.is_staged;
   ledger = ap (failed_ledger f) r.ledger ∙ ap (λ (n : ℕ). record (failed_ledger f s.ledger) { staged = None; faults = n }) (tells f fault s.ledger.faults);
-  cause = close_cause s s.nature.skips (failed_ledger f s.ledger) s.content.coming r.staging (is_write f || r.staging.broken) fault r.cause;
+  cause = close_cause s s.nature (failed_ledger f s.ledger) s.content.coming r.staging (is_write f || r.staging.broken) fault r.cause;
   leaves = λ h. leaves f f s t (r.leaves h);
 }
 

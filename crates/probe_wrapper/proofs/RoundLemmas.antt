@@ -19,32 +19,32 @@ pub never : {X : Type 0} → true ≡ false → X
 never e = absurd cc
 
 -- a box as a wrapper round it shows it, where the tables and what stands in them are its own: the ledger but for the tables, the rows to come
--- and whether numbers are skipped are the wrapper's
-abbrev pub around : BoxState → Bool → Ledger → (ℕ → List GivenRow) → BoxState
-around s skips l coming = record {
-  nature = record s.nature { skips = skips };
+-- and what its nature says of numbers and promises are the wrapper's
+abbrev pub around : BoxState → Nature → Ledger → (ℕ → List GivenRow) → BoxState
+around s n l coming = record {
+  nature = record s.nature { skips = n.skips; promises = n.promises };
   ledger = record l { tables = s.ledger.tables };
   content = record s.content { coming = coming };
 }
 
 -- a cause that stands for the one stands for the other
-pub bind_cause : (s : BoxState) (skips : Bool) (l : Ledger) (coming : ℕ → List GivenRow) (remote : List ℕ) (columns : List Column) (settings : List OptionForm) (fault : Fault)
-    → BindCause s remote columns settings fault → BindCause (around s skips l coming) remote columns settings fault
-bind_cause s skips l coming remote columns settings NoMemory c = tt
-bind_cause s skips l coming remote columns settings Source c = tt
-bind_cause s skips l coming remote columns settings (Refused x) c = c
+pub bind_cause : (s : BoxState) (n : Nature) (l : Ledger) (coming : ℕ → List GivenRow) (remote : List ℕ) (columns : List Column) (settings : List OptionForm) (fault : Fault)
+    → BindCause s remote columns settings fault → BindCause (around s n l coming) remote columns settings fault
+bind_cause s n l coming remote columns settings NoMemory c = tt
+bind_cause s n l coming remote columns settings Source c = tt
+bind_cause s n l coming remote columns settings (Refused x) c = c
 
-pub change_cause : (s : BoxState) (skips : Bool) (l : Ledger) (coming : ℕ → List GivenRow) (staging : Staging) (change : Change) (fault : Fault)
-    → ChangeCause s staging change fault → ChangeCause (around s skips l coming) staging change fault
-change_cause s skips l coming staging change NoMemory c = tt
-change_cause s skips l coming staging change Source c = tt
-change_cause s skips l coming staging change (Refused x) c = c
+pub change_cause : (s : BoxState) (n : Nature) (l : Ledger) (coming : ℕ → List GivenRow) (staging : Staging) (change : Change) (fault : Fault)
+    → ChangeCause s staging change fault → ChangeCause (around s n l coming) staging change fault
+change_cause s n l coming staging change NoMemory c = tt
+change_cause s n l coming staging change Source c = tt
+change_cause s n l coming staging change (Refused x) c = c
 
-pub close_cause : (s : BoxState) (skips : Bool) (l : Ledger) (coming : ℕ → List GivenRow) (staging : Staging) (broken : Bool) (fault : Fault)
-    → CloseCause s staging fault → CloseCause (around s skips l coming) (record staging { broken = broken }) fault
-close_cause s skips l coming staging broken NoMemory c = tt
-close_cause s skips l coming staging broken Source c = tt
-close_cause s skips l coming staging broken (Refused x) c = c
+pub close_cause : (s : BoxState) (n : Nature) (l : Ledger) (coming : ℕ → List GivenRow) (staging : Staging) (broken : Bool) (fault : Fault)
+    → CloseCause s staging fault → CloseCause (around s n l coming) (record staging { broken = broken }) fault
+close_cause s n l coming staging broken NoMemory c = tt
+close_cause s n l coming staging broken Source c = tt
+close_cause s n l coming staging broken (Refused x) c = c
 
 -- a number was used up, and all else is as before
 pub record UsesNumberUp (s t : BoxState) : Type 0 where

@@ -11,7 +11,8 @@ use Rattle.fdw_api.specs.Writes.{CanModify, Opens, RefusesModify, CanChange, Sta
 use Rattle.fdw_api.specs.declared.interface.Fault.{Fault}
 use Rattle.fdw_api.specs.declared.interface.Fault.TheVariants.{NoMemory}
 use Rattle.fdw_api.specs.declared.interface.SourceRow.{SourceRow}
-use Rattle.probe_wrapper.specs.Shuffled.{turned, Turn, unread, turned_rows, turned_coming, left_of, waiting_fits, seen_scan, seen, reordered_ledger, reordered, Becomes, Stays, is_unread, TakesFirst, TurnsRows, ReadsOut, StopsOut}
+use Rattle.fdw_api.specs.Wishes.{is_unpromised}
+use Rattle.probe_wrapper.specs.Shuffled.{turned, Turn, unread, turned_rows, turned_coming, left_of, waiting_fits, is_spoilt, seen_scan, seen, reordered_ledger, reordered, Becomes, Stays, is_unread, TakesFirst, TurnsRows, ReadsOut, StopsOut}
 use Rattle.probe_wrapper.specs.LiveScans.{round}
 use Rattle.probe_wrapper.proofs.SeenScans.{Scans}
 use Rattle.probe_wrapper.proofs.RoundLemmas.{some_inj, never, bind_cause, change_cause, close_cause, begun_and_ended}
@@ -34,6 +35,7 @@ pub record OpenInside (s : BoxState) (turns : Turns) (q : ℕ) (scan : Scan) : T
   pub seen_as : scan ≡ seen_scan (Some turn) inner
   pub whole : turn.broken ≡ false
   pub whole_in : inner.broken ≡ false
+  pub unpromised : is_unpromised inner.spec ≡ true
   pub fits : waiting_fits inner.kinds inner.spec turn.waiting ≡ true
 
 or_left : (a b : Bool) → (a || b) ≡ false → a ≡ false
@@ -61,9 +63,20 @@ open_in s turns p q scan at whole = go (turns q) (scan_of s q) refl refl (sym (s
         clash e = cc
     go (Some t) (Some x) e f h =
         let same = some_inj (seen_scan (Some t) x) scan h in
-        let all : (t.broken || (x.broken || not (waiting_fits x.kinds x.spec t.waiting))) ≡ false = ap (λ (z : Scan). z.broken) same ∙ whole in
+        let all : (t.broken || (is_spoilt x || not (waiting_fits x.kinds x.spec t.waiting))) ≡ false = ap (λ (z : Scan). z.broken) same ∙ whole in
         let rest = or_right t.broken _ all in
-        record { turn = t; at = e; inner = x; is = f; seen_as = sym same; whole = or_left t.broken _ all; whole_in = or_left x.broken _ rest; fits = not_false _ (or_right x.broken _ rest) }
+        let good = or_left (is_spoilt x) _ rest in
+        record {
+          turn = t;
+          at = e;
+          inner = x;
+          is = f;
+          seen_as = sym same;
+          whole = or_left t.broken _ all;
+          whole_in = or_left x.broken _ good;
+          unpromised = not_false _ (or_right x.broken _ good);
+          fits = not_false _ (or_right (is_spoilt x) _ rest);
+        }
 
 pub is_open_in : (s : BoxState) (turns : Turns) (p q : ℕ) → IsOpen (reordered s turns p) q → IsOpen s q
 is_open_in s turns p q o = let w = open_in s turns p q o.0 o.1 o.2 in (w.inner, w.is, w.whole_in)
@@ -122,7 +135,7 @@ refuses turns p s t fault r = record {
 }
 
 pub refuses_bind : (turns : Turns) (p : ℕ) (s t : BoxState) (remote : List ℕ) (columns : List Column) (settings : List OptionForm) (fault : Fault) → RefusesBind s remote columns settings fault t → RefusesBind (reordered s turns p) remote columns settings fault (reordered t turns p)
-refuses_bind turns p s t remote columns settings fault r = record { refuses = refuses turns p s t fault r.refuses; cause = bind_cause s true (reordered_ledger turns p s.ledger) (λ q. turned_coming (turns q) (s.content.coming q)) remote columns settings fault r.cause }
+refuses_bind turns p s t remote columns settings fault r = record { refuses = refuses turns p s t fault r.refuses; cause = bind_cause s (round s.nature) (reordered_ledger turns p s.ledger) (λ q. turned_coming (turns q) (s.content.coming q)) remote columns settings fault r.cause }
 
 no_scan_in : (turns : Turns) (p : ℕ) (s : BoxState) (t : ℕ) → NoScan (reordered s turns p) t → NoScan s t
 no_scan_in turns p s t none q scan e = λ same. none q (seen_scan (turns q) scan) (seen_get turns s.ledger.live q ∙ ap (option_map (seen_scan (turns q))) e) (table (turns q) ∙ same)
@@ -137,8 +150,8 @@ can_unbind turns p s t c = record { is_bound = c.is_bound; no_scan = no_scan_in 
 pub unbinds : (turns : Turns) (p : ℕ) (s t : BoxState) (n : ℕ) → Unbinds s n t → Unbinds (reordered s turns p) n (reordered t turns p)
 unbinds turns p s t n u = record { nature = ap round u.nature; ledger = ap (reordered_ledger turns p) u.ledger; leaves = λ h. leaves s t turns p (u.leaves h) }
 
-pub begins : (old new : Turns) (p : ℕ) (s t : BoxState) (n : ℕ) (spec : Spec) (params : Tuple) (q places : ℕ) → Begins s n spec params q t → Becomes old q (unread places) new → Begins (reordered s old p) n spec params q (reordered t new p)
-begins old new p s t n spec params q places b w = record {
+pub begins : (old new : Turns) (p : ℕ) (s t : BoxState) (n : ℕ) (spec : Spec) (params : Tuple) (q places : ℕ) → is_unpromised spec ≡ true → Begins s n spec params q t → Becomes old q (unread places) new → Begins (reordered s old p) n spec params q (reordered t new p)
+begins old new p s t n spec params q places e b w = record {
   nature = ap round b.nature;
   is_next = b.is_next;
   room = b.room;
@@ -150,8 +163,9 @@ begins old new p s t n spec params q places b w = record {
   ledger =
       ap (reordered_ledger new p) b.ledger
       ∙ ap (λ (m : Scans). record (reordered_ledger old p s.ledger) { live = m; next = q + 1 })
-      (insert_of old new s.ledger.live q (new_scan n b.bound.kinds spec params b.left) w.others ∙ ap (λ (o : Option Turn). finmap.insert (seen old s.ledger.live) q (seen_scan o (new_scan n b.bound.kinds spec params b.left))) w.now);
-  coming = λ h. subst (λ (l : List GivenRow). IsComing (rows_of s n) spec params l) (sym (ap (λ (o : Option Turn). turned_coming o (t.content.coming q)) w.now)) (turned_come (rows_of s n) spec params places (t.content.coming q) (b.coming h));
+      (insert_of old new s.ledger.live q (new_scan n b.bound.kinds spec params b.left) w.others ∙ ap (λ (o : Option Turn). finmap.insert (seen old s.ledger.live) q (seen_scan o (new_scan n b.bound.kinds spec params b.left))) w.now
+      ∙ ap (λ (c : Bool). finmap.insert (seen old s.ledger.live) q (record (new_scan n b.bound.kinds spec params (2 ^ 64)) { broken = not c || false })) e);
+  coming = λ h. subst (λ (l : List GivenRow). IsComing (rows_of s n) spec params l) (sym (ap (λ (o : Option Turn). turned_coming o (t.content.coming q)) w.now)) (turned_come (rows_of s n) spec params places (t.content.coming q) e (b.coming h));
   leaves = λ h. leaves_but s t old new p p (λ x ne. w.others x ne) (b.leaves h);
 }
 
@@ -220,9 +234,10 @@ gives_waiting old new p s q (Some row) o k =
     let fits : list_all (λ r. shown_fits w.inner.kinds w.inner.spec r.cells) (row_of row ∷ rest) ≡ true =
     sym (ap (waiting_fits w.inner.kinds w.inner.spec) (ap (λ (t : Turn). t.waiting) same ∙ k.wait ∙ ap (λ (l : List GivenRow). Some l) k.hands.1)) ∙ w.fits in
     let pair = both (shown_fits w.inner.kinds w.inner.spec (row_of row).cells) _ fits in
-    let whole_after : (k.turn.broken || (w.inner.broken || not (list_all (λ r. shown_fits w.inner.kinds w.inner.spec r.cells) rest))) ≡ false =
-    still_whole k.turn.broken w.inner.broken _ (ap (λ (t : Turn). t.broken) (sym same) ∙ w.whole) w.whole_in pair.1 in
-    let whole_was : (w.turn.broken || (w.inner.broken || not (waiting_fits w.inner.kinds w.inner.spec w.turn.waiting))) ≡ false = ap (λ (z : Scan). z.broken) (sym w.seen_as) ∙ o.2 in
+    let good : is_spoilt w.inner ≡ false = rw (w.whole_in, w.unpromised) refl in
+    let whole_after : (k.turn.broken || (is_spoilt w.inner || not (list_all (λ r. shown_fits w.inner.kinds w.inner.spec r.cells) rest))) ≡ false =
+    still_whole k.turn.broken (is_spoilt w.inner) _ (ap (λ (t : Turn). t.broken) (sym same) ∙ w.whole) good pair.1 in
+    let whole_was : (w.turn.broken || (is_spoilt w.inner || not (waiting_fits w.inner.kinds w.inner.spec w.turn.waiting))) ≡ false = ap (λ (z : Scan). z.broken) (sym w.seen_as) ∙ o.2 in
     let left_was : scan.left ≡ length (row_of row ∷ rest) = ap (λ (z : Scan). z.left) w.seen_as ∙ ap (λ (t : Turn). left_of t.waiting) same ∙ ap left_of k.wait ∙ ap (λ (l : List GivenRow). length l) k.hands.1 in
     record {
       nature = refl;
@@ -296,7 +311,7 @@ gives_first old new p s t q inner (Some row) u r k =
           ∙ ap (λ (m : Scans). record (reordered_ledger old p s.ledger) { live = m; pulled = bumped p })
           (insert_of old new s.ledger.live q (record r.scan { left = r.left }) becomes.others
           ∙ ap (λ (x : Option Turn). finmap.insert (seen old s.ledger.live) q (seen_scan x (record r.scan { left = r.left }))) becomes.now
-          ∙ ap (λ (b : Bool). finmap.insert (seen old s.ledger.live) q (record r.scan { left = length rest; broken = k.turn.broken || (r.scan.broken || not b) })) (pair.1 ∙ sym (ap (waiting_fits r.scan.kinds r.scan.spec) waits)));
+          ∙ ap (λ (b : Bool). finmap.insert (seen old s.ledger.live) q (record r.scan { left = length rest; broken = k.turn.broken || (is_spoilt r.scan || not b) })) (pair.1 ∙ sym (ap (waiting_fits r.scan.kinds r.scan.spec) waits)));
       coming = λ h.
           ap (λ (x : Option Turn). turned_coming x (s.content.coming q)) k.at ∙ ap (λ (x : Option (List GivenRow)). turned_rows k.turn.places x (s.content.coming q)) waits
           ∙ ap (turned k.turn.places) (r.coming h) ∙ k.hands.1 ∙ ap (λ (x : Option Turn). row_of row ∷ turned_coming x (t.content.coming q)) (sym becomes.now);
@@ -337,6 +352,7 @@ pub rescans : (old new : Turns) (p : ℕ) (s t : BoxState) (q places : ℕ) (par
 rescans old new p s t q places params c r becomes =
     let o = open_in s old p q c.scan c.at c.whole in
     let w = becomes o.turn o.at in
+    let plain : is_unpromised r.scan.spec ≡ true = ap (λ (z : Scan). is_unpromised z.spec) (some_inj r.scan o.inner (sym r.at ∙ o.is)) ∙ o.unpromised in
     record {
       nature = ap round r.nature;
       scan = seen_scan (Some o.turn) r.scan;
@@ -348,8 +364,9 @@ rescans old new p s t q places params c r becomes =
           ∙ ap (λ (m : Scans). record (reordered_ledger old p s.ledger) { live = m })
           (insert_of old new s.ledger.live q (new_scan r.scan.table r.scan.kinds r.scan.spec params r.left) w.others
           ∙ ap (λ (x : Option Turn). finmap.insert (seen old s.ledger.live) q (seen_scan x (new_scan r.scan.table r.scan.kinds r.scan.spec params r.left))) w.now
-          ∙ ap (λ (b : Bool). finmap.insert (seen old s.ledger.live) q (record (new_scan r.scan.table r.scan.kinds r.scan.spec params (2 ^ 64)) { broken = b || false })) o.whole);
-      coming = λ h. subst (λ (l : List GivenRow). IsComing (rows_of s r.scan.table) r.scan.spec params l) (sym (ap (λ (x : Option Turn). turned_coming x (t.content.coming q)) w.now)) (turned_come (rows_of s r.scan.table) r.scan.spec params places (t.content.coming q) (r.coming h));
+          ∙ ap (λ (b : Bool). finmap.insert (seen old s.ledger.live) q (record (new_scan r.scan.table r.scan.kinds r.scan.spec params (2 ^ 64)) { broken = b || (not (is_unpromised r.scan.spec) || false) })) o.whole
+          ∙ ap (λ (b : Bool). finmap.insert (seen old s.ledger.live) q (record (new_scan r.scan.table r.scan.kinds r.scan.spec params (2 ^ 64)) { broken = not b || false })) plain);
+      coming = λ h. subst (λ (l : List GivenRow). IsComing (rows_of s r.scan.table) r.scan.spec params l) (sym (ap (λ (x : Option Turn). turned_coming x (t.content.coming q)) w.now)) (turned_come (rows_of s r.scan.table) r.scan.spec params places (t.content.coming q) plain (r.coming h));
       leaves = λ h. leaves_but s t old new p p (λ x ne. w.others x ne) (r.leaves h);
     }
 
@@ -395,7 +412,7 @@ refuses_change turns p s t change fault r = record {
   staging = r.staging;
   is_staged = r.is_staged;
   ledger = ap (reordered_ledger turns p) r.ledger;
-  cause = change_cause s true (reordered_ledger turns p s.ledger) (λ q. turned_coming (turns q) (s.content.coming q)) r.staging change fault r.cause;
+  cause = change_cause s (round s.nature) (reordered_ledger turns p s.ledger) (λ q. turned_coming (turns q) (s.content.coming q)) r.staging change fault r.cause;
   leaves = λ h. leaves s t turns p (r.leaves h);
 }
 
@@ -416,6 +433,6 @@ refuses_close turns p s t keep fault r = record {
   staging = r.staging;
   is_staged = r.is_staged;
   ledger = ap (reordered_ledger turns p) r.ledger;
-  cause = close_cause s true (reordered_ledger turns p s.ledger) (λ q. turned_coming (turns q) (s.content.coming q)) r.staging r.staging.broken fault r.cause;
+  cause = close_cause s (round s.nature) (reordered_ledger turns p s.ledger) (λ q. turned_coming (turns q) (s.content.coming q)) r.staging r.staging.broken fault r.cause;
   leaves = λ h. leaves s t turns p (r.leaves h);
 }

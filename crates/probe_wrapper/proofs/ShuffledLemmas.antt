@@ -10,6 +10,8 @@ use Rattle.std.specs.List.{list_all}
 use Rattle.med_value.specs.Datum.{Tuple}
 use Rattle.fdw_api.specs.Scan.{Spec, GivenRow, TableRow, IsComing, given_row, meets_exact}
 use Rattle.fdw_api.specs.State.{Scan}
+use Rattle.fdw_api.specs.Wishes.{is_unpromised}
+use Rattle.fdw_api.proofs.Unpromised.{any_order, all_first, promises_none}
 use Rattle.probe_wrapper.specs.Shuffled.{turned, Turn, seen_scan, seen, Stays}
 use Rattle.probe_wrapper.proofs.SeenScans.{Scans, See, each_get, each_len, each_insert, each_change, each_remove, each_keep}
 
@@ -74,8 +76,9 @@ pub turned_pass : {X : Type 0} (p : X → Bool) (places : ℕ) (xs : List X) →
 turned_pass p places xs e = list_all-from_AllPass p (turned places xs) (All-permutation (λ x. p x ≡ true) xs (turned places xs) (turned_permutes places xs) (AllPass-from_list_all p xs e))
 
 -- the rows that a scan may give may come turned
-pub turned_come : (rows : List TableRow) (spec : Spec) (params : Tuple) (places : ℕ) (coming : List GivenRow) → IsComing rows spec params coming → IsComing rows spec params (turned places coming)
-turned_come rows spec params places coming c =
+pub turned_come : (rows : List TableRow) (spec : Spec) (params : Tuple) (places : ℕ) (coming : List GivenRow) → is_unpromised spec ≡ true → IsComing rows spec params coming → IsComing rows spec params (turned places coming)
+turned_come rows spec params places coming e c =
+    let none = promises_none spec e in
     let P : TableRow → Type 0 = λ r. meets_exact spec.offered spec.answers params r.cells ≡ true in
     let k = places % length c.taken in
     record {
@@ -84,5 +87,8 @@ turned_come rows spec params places coming c =
       parts = IsPermutation-trans rows (c.taken ++ c.left_out) (turned places c.taken ++ c.left_out) c.parts (IsPermutation-append_left c.left_out c.taken (turned places c.taken) (turned_permutes places c.taken));
       failing = c.failing;
       exact = All-append P (drop k c.taken) (take k c.taken) (All-drop P k c.taken c.exact) (All-take P k c.taken c.exact);
-      is = ap (turned places) c.is ∙ turned_map (given_row spec) places c.taken;
+      sorted = any_order spec.order none.0 (turned places c.taken);
+      is =
+          ap (turned places) (c.is ∙ ap (map (given_row spec)) (all_first spec.limit none.1 c.taken)) ∙ turned_map (given_row spec) places c.taken
+          ∙ ap (map (given_row spec)) (sym (all_first spec.limit none.1 (turned places c.taken)));
     }

@@ -11,6 +11,7 @@ use Rattle.fdw_api.specs.State.{Scan, Ledger, Content, BoxState, is_honest, scan
 use Rattle.fdw_api.specs.Calls.{bumped, LeavesOthers, faults_after, not_refused, row_of}
 use Rattle.fdw_api.specs.declared.interface.Fault.{Fault}
 use Rattle.fdw_api.specs.declared.interface.SourceRow.{SourceRow}
+use Rattle.fdw_api.specs.Wishes.{is_unpromised}
 use Rattle.probe_wrapper.specs.LiveScans.{round, each_seen}
 pub use Rattle.probe_wrapper.specs.Entries.{Stays}
 use Rattle.probe_wrapper.specs.declared.shuffled.Shuffled.{Shuffled}
@@ -56,10 +57,14 @@ abbrev pub waiting_fits : List ColType → Spec → Option (List GivenRow) → B
 waiting_fits kinds spec None = true
 waiting_fits kinds spec (Some rows) = list_all (λ r. shown_fits kinds spec r.cells) rows
 
+-- a scan that is good for `end` alone, since it broke, or since an order or a limit of its rows is promised: turned rows keep none
+abbrev pub is_spoilt : Scan → Bool
+is_spoilt s = s.broken || not (is_unpromised s.spec)
+
 -- an inner scan as it is seen. One that was not begun through this wrapper is good for `end` alone
 abbrev pub seen_scan : Option Turn → Scan → Scan
 seen_scan None s = record s { broken = true }
-seen_scan (Some t) s = record s { left = left_of t.waiting; broken = t.broken || (s.broken || not (waiting_fits s.kinds s.spec t.waiting)) }
+seen_scan (Some t) s = record s { left = left_of t.waiting; broken = t.broken || (is_spoilt s || not (waiting_fits s.kinds s.spec t.waiting)) }
 
 abbrev pub seen : (ℕ → Option Turn) → finmap.FinMap nat_cmp Scan → finmap.FinMap nat_cmp Scan
 seen turns m = each_seen (λ q. seen_scan (turns q)) m

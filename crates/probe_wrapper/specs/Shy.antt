@@ -1,5 +1,5 @@
--- What a shy wrapper shows: what its inner one shows, but that it allows only scans of whole rows for which nothing is taken over. Each
--- scan is seen as it was asked for, while its inner scan offers nothing.
+-- What a wrapper shows that offers its inner one nothing: what that shows, but that it allows only scans of whole rows for which no restriction
+-- is answered Exact; a shy one allows Ignored alone, a vague one Hint too. Each scan is seen as it was asked for.
 use Rattle.std.specs.Prelude.{◌≡◌, ◌≢◌, ℕ, Bool, true, false, not, ◌&&◌, ◌||◌, List, [], ◌∷◌, length, map, replicate, Option, Some, None, option_map}
 use Rattle.std.specs.Ordering.{nat_cmp}
 use Rattle.std.specs.BTreeMap as tree
@@ -9,36 +9,37 @@ use Rattle.fdw_api.specs.Scan.{Spec, RestrictionForm, spec_of}
 use Rattle.fdw_api.specs.declared.scan.Agree.{Agree}
 use Rattle.fdw_api.specs.declared.scan.Agree.TheVariants.{Ignored, Hint, Exact}
 use Rattle.fdw_api.specs.State.{BoxTable, Scan, Ledger, BoxState, scan_of}
+use Rattle.fdw_api.specs.Wishes.{is_unpromised}
 use Rattle.probe_wrapper.specs.LiveScans.{round, each_seen}
 use Rattle.probe_wrapper.specs.declared.shy.Shy.{Shy}
 use Rattle.probe_wrapper.specs.declared.shy.AskedScan.{AskedScan}
 
--- one Ignored for each restriction
-abbrev pub all_ignored : List RestrictionForm → List Agree → Bool
-all_ignored [] [] = true
-all_ignored [] (a ∷ answers) = false
-all_ignored (f ∷ fs) [] = false
-all_ignored (f ∷ fs) (Ignored ∷ answers) = all_ignored fs answers
-all_ignored (f ∷ fs) (Hint ∷ answers) = false
-all_ignored (f ∷ fs) (Exact ∷ answers) = false
+-- one Ignored for each restriction, or where hints are given a Hint
+abbrev pub all_left : (hints : Bool) → List RestrictionForm → List Agree → Bool
+all_left hints [] [] = true
+all_left hints [] (a ∷ answers) = false
+all_left hints (f ∷ fs) [] = false
+all_left hints (f ∷ fs) (Ignored ∷ answers) = all_left hints fs answers
+all_left hints (f ∷ fs) (Hint ∷ answers) = hints && all_left hints fs answers
+all_left hints (f ∷ fs) (Exact ∷ answers) = false
 
--- whole rows, and nothing taken over
-abbrev pub is_plain : Spec → Bool
-is_plain spec = not spec.narrow && all_ignored spec.offered spec.answers
+-- whole rows, and no restriction kept or order or limit promised
+abbrev pub is_plain : (hints : Bool) → Spec → Bool
+is_plain hints spec = not spec.narrow && (is_unpromised spec && all_left hints spec.offered spec.answers)
 
 -- plain scans are so
-pub plain_is_ignored : (fs : List RestrictionForm) → all_ignored fs (replicate (length fs) Ignored) ≡ true
-plain_is_ignored [] = mathlib.Core.Path.refl
-plain_is_ignored (f ∷ fs) = plain_is_ignored fs
+pub plain_is_left : (hints : Bool) (fs : List RestrictionForm) → all_left hints fs (replicate (length fs) Ignored) ≡ true
+plain_is_left hints [] = mathlib.Core.Path.refl
+plain_is_left hints (f ∷ fs) = plain_is_left hints fs
 
 -- no restriction
 abbrev pub has_none : List RestrictionForm → Bool
 has_none [] = true
 has_none (f ∷ fs) = false
 
--- whole rows, and nothing offered
+-- whole rows, and nothing offered or promised
 abbrev pub is_bare : Spec → Bool
-is_bare spec = not spec.narrow && has_none spec.offered
+is_bare spec = not spec.narrow && (is_unpromised spec && has_none spec.offered)
 
 -- a scan as it was asked for, and whether it is good for `end` alone
 pub record AskedForm : Type 0 where
@@ -58,23 +59,29 @@ abbrev pub new_ask : Spec → Tuple → AskedForm
 new_ask spec params = record { spec = spec; params = params; broken = false }
 
 -- a plain scan stands on a bare inner one
-abbrev pub stands : AskedForm → Scan → Bool
-stands a s = is_plain a.spec && is_bare s.spec
+abbrev pub stands : (hints : Bool) → AskedForm → Scan → Bool
+stands hints a s = is_plain hints a.spec && is_bare s.spec
 
 -- an inner scan as it is seen: as it was asked for. One that was not begun through this wrapper is good for `end` alone
-abbrev pub asked_scan : Option AskedForm → Scan → Scan
-asked_scan None s = record s { broken = true }
-asked_scan (Some a) s = record s { spec = a.spec; params = a.params; broken = a.broken || (s.broken || not (stands a s)) }
+abbrev pub asked_scan : (hints : Bool) → Option AskedForm → Scan → Scan
+asked_scan hints None s = record s { broken = true }
+asked_scan hints (Some a) s = record s { spec = a.spec; params = a.params; broken = a.broken || (s.broken || not (stands hints a s)) }
 
 -- a bound table, and all that is shown
-abbrev pub shied_bound : BoxTable → BoxTable
-shied_bound b = record b { allows = is_plain; allows_plain = λ wanted offered. plain_is_ignored offered }
+abbrev pub hidden_bound : (hints : Bool) → BoxTable → BoxTable
+hidden_bound hints b = record b { allows = is_plain hints; allows_plain = λ wanted offered. plain_is_left hints offered }
 
-abbrev pub shied_ledger : (ℕ → Option AskedForm) → Ledger → Ledger
-shied_ledger asked l = record l { tables = λ t. option_map shied_bound (l.tables t); live = each_seen (λ q. asked_scan (asked q)) l.live }
+abbrev pub hidden_ledger : (hints : Bool) → (ℕ → Option AskedForm) → Ledger → Ledger
+hidden_ledger hints asked l = record l {
+  tables = λ t. option_map (hidden_bound hints) (l.tables t);
+  live = each_seen (λ q. asked_scan hints (asked q)) l.live;
+}
+
+abbrev pub hidden : (hints : Bool) → BoxState → (ℕ → Option AskedForm) → BoxState
+hidden hints s asked = record { nature = round s.nature; ledger = hidden_ledger hints asked s.ledger; content = s.content }
 
 abbrev pub shied : BoxState → (ℕ → Option AskedForm) → BoxState
-shied s asked = record { nature = round s.nature; ledger = shied_ledger asked s.ledger; content = s.content }
+shied = hidden false
 
 -- what is asked for under one number becomes this, and all else is as before
 pub record AsksNow (old : ℕ → Option AskedForm) (number : ℕ) (ask : AskedForm) (new : ℕ → Option AskedForm) : Type 0 where

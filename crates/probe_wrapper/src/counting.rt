@@ -4,6 +4,7 @@ ghost use Rattle.probe_wrapper.specs.Counting.{counted};
 
 use fdw_api::interface::{Counts, Fault, RowId, SourceRow, TableOption, Ticket, Wrapper};
 use fdw_api::scan::{Agreement, Restriction, ScanSpec};
+use fdw_api::wishes::{Agreement2, ScanSpec2, Wish, Wrapper2};
 use med_value::{ColumnDef, Row, TableNo, Value};
 use std::alloc::Global;
 
@@ -101,5 +102,28 @@ impl<W: Wrapper> Wrapper for Counting<W> {
             pulled: self.pulled,
             ..self.inner.ledger()
         }
+    }
+}
+
+impl<W: Wrapper2> Wrapper2 for Counting<W> {
+    fn plan2(
+        &self,
+        alloc: Global,
+        t: TableNo,
+        wanted: &[usize],
+        offered: &[Restriction],
+        wish: &Wish,
+    ) -> Result<Agreement2, Fault> {
+        self.inner.plan2(alloc, t, wanted, offered, wish)
+    }
+
+    fn begin2(
+        &mut self,
+        alloc: Global,
+        t: TableNo,
+        spec: &ScanSpec2,
+        params: &[Value],
+    ) -> Result<Ticket, Fault> {
+        self.inner.begin2(alloc, t, spec, params)
     }
 }

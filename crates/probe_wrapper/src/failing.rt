@@ -5,6 +5,7 @@ ghost use Rattle.probe_wrapper.specs.declared.failing.Failure.TheVariants.{Befor
 
 use fdw_api::interface::{Counts, Fault, RowId, SourceRow, TableOption, Ticket, Wrapper};
 use fdw_api::scan::{Agreement, Restriction, ScanSpec};
+use fdw_api::wishes::{Agreement2, ScanSpec2, Wish, Wrapper2};
 use med_value::{ColumnDef, Row, TableNo, Value};
 use std::alloc::Global;
 
@@ -70,8 +71,9 @@ impl Failure {
 
 /// Does what its inner wrapper does, but for one call, which answers `Fault::Source`.
 ///
-/// Counted are the calls that may fail: `bind`, `begin`, `iterate`, `rescan`, `begin_modify`, the three changes and `end_modify(true)`,
-/// but not `plan`. The call that fails does not reach the inner wrapper; if it is `end_modify(true)`, the inner write is given up.
+/// Counted are the calls that may fail: `bind`, `begin`, `begin2`, `iterate`, `rescan`, `begin_modify`, the three changes and
+/// `end_modify(true)`, but not `plan` and `plan2`. The call that fails does not reach the inner wrapper; if it is `end_modify(true)`, the
+/// inner write is given up.
 #[derive(Drop)]
 pub struct Failing<W> {
     inner: W,
@@ -292,6 +294,52 @@ impl<W: Wrapper> Wrapper for Failing<W> {
         Counts {
             faults: counts.faults.saturating_add(1),
             ..counts
+        }
+    }
+}
+
+impl<W: Wrapper2> Wrapper2 for Failing<W> {
+    ghost use Rattle.std.specs.Prelude.{map, IfOk, IfErr};
+    ghost use Rattle.med_value.specs.Datum.{datum};
+    ghost use Rattle.fdw_api.specs.Calls.{Begins, RefusesBegin};
+    ghost use Rattle.fdw_api.specs.Wishes.{spec2_of, CanBegin2};
+    ghost use Rattle.probe_wrapper.specs.Failing.{box_of, to_pass, CountsCall};
+
+    fn plan2(
+        &self,
+        alloc: Global,
+        t: TableNo,
+        wanted: &[usize],
+        offered: &[Restriction],
+        wish: &Wish,
+    ) -> Result<Agreement2, Fault> {
+        self.inner.plan2(alloc, t, wanted, offered, wish)
+    }
+
+    fn begin2(
+        &mut self,
+        alloc: Global,
+        t: TableNo,
+        spec: &ScanSpec2,
+        params: &[Value],
+    ) -> Result<Ticket, Fault>
+        requires { CanBegin2 (box_of W.meaning self.old) t.number spec.now (map datum params.now) }
+        ensures ok { IfOk result (λ ticket. Begins (box_of W.meaning self.old) t.number (spec2_of spec.now) (map datum params.now)
+            ticket.number (box_of W.meaning self.new)) }
+        ensures err { IfErr result (λ fault. RefusesBegin fault (box_of W.meaning self.old) (box_of W.meaning self.new)) }
+        ensures counted { CountsCall (to_pass self.old.failure) result (to_pass self.new.failure) }
+    {
+        if self.failure.counts() {
+            // It does not reach the inner wrapper.
+            self.failure = Failure::Past;
+            return Err(Fault::Source);
+        }
+        match self.inner.begin2(alloc, t, spec, params) {
+            Ok(ticket) => {
+                self.failure.forget_scan(ticket.number);
+                Ok(ticket)
+            }
+            Err(fault) => Err(fault),
         }
     }
 }

@@ -9,6 +9,7 @@ ghost use Rattle.probe_wrapper.specs.Shuffled.{IsRead, TakesFirst, TurnsRows, Re
 
 use fdw_api::interface::{Counts, Fault, RowId, SourceRow, TableOption, Ticket, Wrapper};
 use fdw_api::scan::{Agreement, Restriction, ScanSpec};
+use fdw_api::wishes::{Agreement2, ScanSpec2, Wish, Wrapper2};
 use med_value::{ColumnDef, Row, TableNo, Value};
 use std::alloc::Global;
 use std::collections::{BTreeMap, VecDeque};
@@ -382,5 +383,34 @@ impl<W: Wrapper> Wrapper for Shuffled<W> {
             pulled: self.pulled,
             ..self.inner.ledger()
         }
+    }
+}
+
+impl<W: Wrapper> Wrapper2 for Shuffled<W> {
+    /// Promises no order and no limit.
+    fn plan2(
+        &self,
+        alloc: Global,
+        t: TableNo,
+        wanted: &[usize],
+        offered: &[Restriction],
+        _wish: &Wish,
+    ) -> Result<Agreement2, Fault> {
+        let base = self.plan(alloc, t, wanted, offered)?;
+        Ok(Agreement2 {
+            base,
+            ordered: false,
+            limited: false,
+        })
+    }
+
+    fn begin2(
+        &mut self,
+        alloc: Global,
+        t: TableNo,
+        spec: &ScanSpec2,
+        params: &[Value],
+    ) -> Result<Ticket, Fault> {
+        self.begin(alloc, t, &spec.base, params)
     }
 }

@@ -9,6 +9,7 @@ ghost use Rattle.probe_wrapper.specs.Shy.{shied, asked_form, asked_of, new_ask};
 
 use fdw_api::interface::{Counts, Fault, RowId, SourceRow, TableOption, Ticket, Wrapper};
 use fdw_api::scan::{Agree, Agreement, Restriction, ScanSpec, copy_values};
+use fdw_api::wishes::{Agreement2, ScanSpec2, Wish, Wrapper2};
 use med_value::{ColumnDef, NoMemory, Row, TableNo, Value};
 use std::alloc::Global;
 use std::collections::BTreeMap;
@@ -22,7 +23,7 @@ pub(crate) struct AskedScan {
 }
 
 /// Notes what is asked for.
-fn note(alloc: Global, spec: &ScanSpec, params: &[Value]) -> Result<AskedScan, NoMemory>
+pub(crate) fn note(alloc: Global, spec: &ScanSpec, params: &[Value]) -> Result<AskedScan, NoMemory>
     ensures { IfOk result (λ a. asked_form a ≡ new_ask (spec_of spec.now) (map datum params.now)) }
 {
     Ok(AskedScan {
@@ -33,7 +34,7 @@ fn note(alloc: Global, spec: &ScanSpec, params: &[Value]) -> Result<AskedScan, N
 }
 
 /// A scan of whole rows of which the same columns are wanted, and that offers nothing.
-fn bare(alloc: Global, spec: &ScanSpec) -> Result<ScanSpec, NoMemory>
+pub(crate) fn bare(alloc: Global, spec: &ScanSpec) -> Result<ScanSpec, NoMemory>
     ensures { IfOk result (λ s. spec_of s ≡ plain_spec spec.now.wanted.items []) }
 {
     Ok(ScanSpec {
@@ -43,7 +44,7 @@ fn bare(alloc: Global, spec: &ScanSpec) -> Result<ScanSpec, NoMemory>
 }
 
 /// Marks a scan as good for `end` alone.
-fn spoil(scans: &mut BTreeMap<u64, AskedScan>, number: u64)
+pub(crate) fn spoil(scans: &mut BTreeMap<u64, AskedScan>, number: u64)
     requires { IsSome (tree.get nat_cmp scans.old number) }
     ensures { IfSome (tree.get nat_cmp scans.old number)
         (λ s. tree.Updates nat_cmp scans.old scans.new number (Some (record s { broken = true }))) }
@@ -55,7 +56,7 @@ fn spoil(scans: &mut BTreeMap<u64, AskedScan>, number: u64)
 }
 
 /// Notes that a scan began again with these parameters.
-fn ask_again(scans: &mut BTreeMap<u64, AskedScan>, number: u64, params: Vec<Value>)
+pub(crate) fn ask_again(scans: &mut BTreeMap<u64, AskedScan>, number: u64, params: Vec<Value>)
     requires { IsSome (tree.get nat_cmp scans.old number) }
     ensures { IfSome (tree.get nat_cmp scans.old number)
         (λ s. tree.Updates nat_cmp scans.old scans.new number (Some (record s { params = params }))) }
@@ -209,5 +210,34 @@ impl<W: Wrapper> Wrapper for Shy<W> {
 
     fn ledger(&self) -> Counts {
         self.inner.ledger()
+    }
+}
+
+impl<W: Wrapper> Wrapper2 for Shy<W> {
+    /// Promises no order and no limit.
+    fn plan2(
+        &self,
+        alloc: Global,
+        t: TableNo,
+        wanted: &[usize],
+        offered: &[Restriction],
+        _wish: &Wish,
+    ) -> Result<Agreement2, Fault> {
+        let base = self.plan(alloc, t, wanted, offered)?;
+        Ok(Agreement2 {
+            base,
+            ordered: false,
+            limited: false,
+        })
+    }
+
+    fn begin2(
+        &mut self,
+        alloc: Global,
+        t: TableNo,
+        spec: &ScanSpec2,
+        params: &[Value],
+    ) -> Result<Ticket, Fault> {
+        self.begin(alloc, t, &spec.base, params)
     }
 }

@@ -1,4 +1,4 @@
--- A query that does not group: its classes are its rows, one by one.
+-- A core that does not group: its classes are its rows, one by one.
 use Rattle.std.proofs.Common.{IsPermutation, subst, ◌≡◌, ℕ, Bool, true, false, cond, List, [], ◌∷◌, ◌++◌, map, filter, flat_map, refl, sym, ap, ◌∙◌, Option, None, Result, Ok, Err, IfOk}
 use Rattle.std.proofs.lemmas.List.Sorted.{IsPermutation-refl}
 use Rattle.med_value.specs.Datum.{Tuple}
@@ -7,23 +7,20 @@ use Rattle.tri_expr.specs.declared.expr.EvalFault.{EvalFault}
 use Rattle.tri_expr.specs.Outcome.{over}
 use Rattle.tri_expr.specs.Meaning.{OnClass}
 use Rattle.tri_expr.specs.Verdict.{faults_told, fault_list}
-use Rattle.med_query.specs.Query.{Query, Chain, Tables, Direction, Output, on_row, keeps, joined_chains, classes, kept_classes, class_faults, faults, output, outputs_all, has_class, TellsFault, output_faults}
-use Rattle.query_answer.specs.Staging.{staged_query, Stages, where_told, row_staged, row_told_all}
+use Rattle.med_query.specs.Query.{Core, Chain, Tables, Output, on_row, keeps, joined_chains, classes, kept_classes, class_faults, core_faults, output, outputs_all, has_class, TellsFault, output_faults}
+use Rattle.query_answer.specs.Staging.{staged_core, Stages, where_told, row_staged, row_told_all}
 use Rattle.med_query.proofs.Telling.{tells_more}
 use Rattle.query_answer.proofs.ToldParts.{both_told, quiet_parts, told_parts}
 
--- each part of a query that does not group
-abbrev pub ungrouped : List Chain → List OnClass → List OnClass → Bool → List OnClass → List Direction → ℕ → Option ℕ → Query
-ungrouped from fs items unique keys directions offset limit = record {
+-- each part of a core that does not group
+abbrev pub ungrouped : List Chain → List OnClass → List OnClass → Bool → List OnClass → Core
+ungrouped from fs items unique keys = record {
   from = from;
   where_ = fs;
   group = None;
   items = items;
   distinct = unique;
   keys = keys;
-  directions = directions;
-  offset = offset;
-  limit = limit;
 }
 
 abbrev pub alone : Tuple → List Tuple
@@ -38,11 +35,11 @@ ones_kept [] = refl
 ones_kept (r ∷ rs) = ap (λ (cs : List (List Tuple)). alone r ∷ cs) (ones_kept rs)
 
 -- the faults of WHERE, and those of the classes that are kept
-pub ungrouped_faults : (from : List Chain) (fs items : List OnClass) (unique : Bool) (keys : List OnClass) (directions : List Direction) (offset : ℕ) (limit : Option ℕ) (db : Tables)
-    → faults (ungrouped from fs items unique keys directions offset limit) db
-    ≡ flat_map (λ r. faults_told (on_row fs r)) (joined_chains db from) ++ flat_map (class_faults (ungrouped from fs items unique keys directions offset limit)) (map alone (filter (keeps fs) (joined_chains db from)))
-ungrouped_faults from fs items unique keys directions offset limit db =
-    let q = ungrouped from fs items unique keys directions offset limit in
+pub ungrouped_faults : (from : List Chain) (fs items : List OnClass) (unique : Bool) (keys : List OnClass) (db : Tables)
+    → core_faults (ungrouped from fs items unique keys) db
+    ≡ flat_map (λ r. faults_told (on_row fs r)) (joined_chains db from) ++ flat_map (class_faults (ungrouped from fs items unique keys)) (map alone (filter (keeps fs) (joined_chains db from)))
+ungrouped_faults from fs items unique keys db =
+    let q = ungrouped from fs items unique keys in
     let rows = filter (keeps fs) (joined_chains db from) in
     let a : flat_map (λ r. fault_list (on_row [] r)) rows ≡ [] = none_told _ (λ r. refl) rows in
     let b : flat_map (λ (c : List Tuple). faults_told (over [] c)) (classes q db) ≡ [] = none_told _ (λ c. refl) (classes q db) in
@@ -51,9 +48,9 @@ ungrouped_faults from fs items unique keys directions offset limit db =
     ∙ ap (λ (gs : List Fault). flat_map (λ r. faults_told (on_row fs r)) (joined_chains db from) ++ (gs ++ flat_map (class_faults q) (kept_classes q db))) b
     ∙ ap (λ (gs : List Fault). flat_map (λ r. faults_told (on_row fs r)) (joined_chains db from) ++ gs) e
 
-pub ungrouped_outputs : (from : List Chain) (fs items : List OnClass) (unique : Bool) (keys : List OnClass) (directions : List Direction) (offset : ℕ) (limit : Option ℕ) (db : Tables)
-    → outputs_all (ungrouped from fs items unique keys directions offset limit) db ≡ map (output (ungrouped from fs items unique keys directions offset limit)) (map alone (filter (keeps fs) (joined_chains db from)))
-ungrouped_outputs from fs items unique keys directions offset limit db = ap (map (output (ungrouped from fs items unique keys directions offset limit))) (ones_kept (filter (keeps fs) (joined_chains db from)))
+pub ungrouped_outputs : (from : List Chain) (fs items : List OnClass) (unique : Bool) (keys : List OnClass) (db : Tables)
+    → outputs_all (ungrouped from fs items unique keys) db ≡ map (output (ungrouped from fs items unique keys)) (map alone (filter (keeps fs) (joined_chains db from)))
+ungrouped_outputs from fs items unique keys db = ap (map (output (ungrouped from fs items unique keys))) (ones_kept (filter (keeps fs) (joined_chains db from)))
 
 -- what a test keeps, one by one
 mapped_one : {X Y : Type 0} (p : X → Bool) (h : X → Y) (x : X) (xs : List X) (b : Bool) → p x ≡ b → flat_map (λ z. cond (p z) (h z ∷ []) []) xs ≡ map h (filter p xs) → flat_map (λ z. cond (p z) (h z ∷ []) []) (x ∷ xs) ≡ map h (filter p (x ∷ xs))
@@ -72,7 +69,7 @@ pub kept_filtered : {X : Type 0} (p : X → Bool) (xs : List X) → flat_map (λ
 kept_filtered p [] = refl
 kept_filtered p (x ∷ xs) = filtered_one p x xs (p x) refl (kept_filtered p xs)
 
--- the outputs of a query that does not group
+-- the outputs of a core that does not group
 
 told_alone : (g : List Tuple → List Fault) (rows : List Tuple) → flat_map g (map alone rows) ≡ flat_map (λ r. g (alone r)) rows
 told_alone g [] = refl
@@ -82,23 +79,23 @@ map_alone : {Y : Type 0} (h : List Tuple → Y) (rows : List Tuple) → map h (m
 map_alone h [] = refl
 map_alone h (r ∷ rs) = ap (λ ys. h (alone r) ∷ ys) (map_alone h rs)
 
-row_faults : (from : List Chain) (fs keys items : List OnClass) (db : Tables) (rows : List Tuple) → joined_chains db from ≡ rows → faults (staged_query from fs None keys items) db ≡ both_told (where_told fs) (λ r. output_faults keys items (alone r)) (keeps fs) rows
+row_faults : (from : List Chain) (fs keys items : List OnClass) (db : Tables) (rows : List Tuple) → joined_chains db from ≡ rows → core_faults (staged_core from fs None keys items) db ≡ both_told (where_told fs) (λ r. output_faults keys items (alone r)) (keeps fs) rows
 row_faults from fs keys items db rows j =
-    ungrouped_faults from fs items false keys [] 0 None db ∙ rw j (ap (λ (gs : List Fault). flat_map (where_told fs) rows ++ gs) (told_alone (output_faults keys items) (filter (keeps fs) rows)))
+    ungrouped_faults from fs items false keys db ∙ rw j (ap (λ (gs : List Fault). flat_map (where_told fs) rows ++ gs) (told_alone (output_faults keys items) (filter (keeps fs) rows)))
 
-row_stages : (from : List Chain) (fs keys items : List OnClass) (db : Tables) (rows : List Tuple) (outs : List Output) → joined_chains db from ≡ rows → flat_map (row_told_all fs keys items) rows ≡ [] → outs ≡ flat_map (row_staged fs keys items) rows → Stages (staged_query from fs None keys items) db outs
+row_stages : (from : List Chain) (fs keys items : List OnClass) (db : Tables) (rows : List Tuple) (outs : List Output) → joined_chains db from ≡ rows → flat_map (row_told_all fs keys items) rows ≡ [] → outs ≡ flat_map (row_staged fs keys items) rows → Stages (staged_core from fs None keys items) db outs
 row_stages from fs keys items db rows outs j quiet is =
-    let q = staged_query from fs None keys items in
-    let made : outputs_all q db ≡ outs = ungrouped_outputs from fs items false keys [] 0 None db ∙ rw j (map_alone (output q) (filter (keeps fs) rows)) ∙ sym (kept_mapped (keeps fs) (λ r. output q (alone r)) rows) ∙ sym is in
+    let q = staged_core from fs None keys items in
+    let made : outputs_all q db ≡ outs = ungrouped_outputs from fs items false keys db ∙ rw j (map_alone (output q) (filter (keeps fs) rows)) ∙ sym (kept_mapped (keeps fs) (λ r. output q (alone r)) rows) ∙ sym is in
     record {
       no_fault = row_faults from fs keys items db rows j ∙ quiet_parts (where_told fs) (λ r. output_faults keys items (alone r)) (keeps fs) rows quiet;
       same = subst (λ l. IsPermutation (outputs_all q db) l) made (IsPermutation-refl (outputs_all q db));
     }
 
-pub rows_stage : {T : Type 0} (view : T → List Output) (r : Result T EvalFault) (fs keys items : List OnClass) (rows : List Tuple) → IfOk r (λ out. view out ≡ flat_map (row_staged fs keys items) rows) → IfOk r (λ _. flat_map (row_told_all fs keys items) rows ≡ []) → IfOk r (λ out. (from : List Chain) (db : Tables) → joined_chains db from ≡ rows → Stages (staged_query from fs None keys items) db (view out))
+pub rows_stage : {T : Type 0} (view : T → List Output) (r : Result T EvalFault) (fs keys items : List OnClass) (rows : List Tuple) → IfOk r (λ out. view out ≡ flat_map (row_staged fs keys items) rows) → IfOk r (λ _. flat_map (row_told_all fs keys items) rows ≡ []) → IfOk r (λ out. (from : List Chain) (db : Tables) → joined_chains db from ≡ rows → Stages (staged_core from fs None keys items) db (view out))
 rows_stage view (Ok out) fs keys items rows h quiet = λ from db j. row_stages from fs keys items db rows (view out) j quiet h
 rows_stage view (Err f) fs keys items rows h quiet = tt
 
-pub rows_tell : {T : Type 0} (r : Result T EvalFault) (from : List Chain) (fs keys items : List OnClass) (db : Tables) (rows : List Tuple) → joined_chains db from ≡ rows → TellsFault r (flat_map (row_told_all fs keys items) rows) → TellsFault r (faults (staged_query from fs None keys items) db)
+pub rows_tell : {T : Type 0} (r : Result T EvalFault) (from : List Chain) (fs keys items : List OnClass) (db : Tables) (rows : List Tuple) → joined_chains db from ≡ rows → TellsFault r (flat_map (row_told_all fs keys items) rows) → TellsFault r (core_faults (staged_core from fs None keys items) db)
 rows_tell (Ok x) from fs keys items db rows j h = tt
 rows_tell (Err f) from fs keys items db rows j h = tells_more f _ _ (λ c t. rw (row_faults from fs keys items db rows j) (told_parts (where_told fs) (λ r. output_faults keys items (alone r)) (keeps fs) rows c t)) h

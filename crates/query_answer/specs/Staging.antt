@@ -1,5 +1,5 @@
 -- What a class is sorted by and what it shows, where conditions keep it.
-use Rattle.std.specs.Prelude.{◌≡◌, IsPermutation, ℕ, false, if◌then◌else◌, List, [], ◌∷◌, ◌++◌, map, Option, Some, None, Vec}
+use Rattle.std.specs.Prelude.{◌≡◌, IsPermutation, ℕ, false, if◌then◌else◌, List, [], ◌∷◌, ◌++◌, map, flat_map, Option, Some, None, Vec}
 use Rattle.med_value.specs.Datum.{Tuple, tuple}
 use Rattle.med_value.specs.declared.value.Row.{Row}
 use Rattle.query_answer.specs.declared.staging.Staged.{Staged}
@@ -8,7 +8,7 @@ use Rattle.tri_expr.specs.Outcome.{over, value_of}
 use Rattle.tri_expr.specs.Meaning.{OnClass}
 use Rattle.tri_expr.specs.Verdict.{is_in, faults_told, fault_list}
 use Rattle.tri_expr.specs.declared.expr.Expr.{Expr}
-use Rattle.med_query.specs.Query.{Output, Query, Chain, Tables, Grouping as Groups, faults, outputs_all, keeps, on_row, senses, output_faults}
+use Rattle.med_query.specs.Query.{Output, Core, Chain, Tables, Grouping as Groups, core_faults, core_outputs, outputs_all, keeps, on_row, senses, output_faults}
 
 abbrev pub output_of : Staged → Output
 output_of s = (tuple s.keys, tuple s.shown)
@@ -44,29 +44,35 @@ row_told_all conditions keys items r = class_told conditions keys items (r ∷ [
 abbrev pub groups_by : List ℕ → List OnClass → List OnClass → Option Groups
 groups_by columns arguments having = Some (record { keys = columns; arguments = arguments; having = having })
 
--- a query of which nothing but its outputs is asked
-abbrev pub staged_query : List Chain → List OnClass → Option Groups → List OnClass → List OnClass → Query
-staged_query from conditions group keys items = record {
+-- a core of which nothing but its outputs is asked
+abbrev pub staged_core : List Chain → List OnClass → Option Groups → List OnClass → List OnClass → Core
+staged_core from conditions group keys items = record {
   from = from;
   where_ = conditions;
   group = group;
   items = items;
   distinct = false;
   keys = keys;
-  directions = [];
-  offset = 0;
-  limit = None;
 }
 
--- the same of a query that groups, as its expressions are written
-abbrev pub grouped_query : List Chain → List Expr → (columns : List ℕ) (arguments having keys items : List Expr) → Query
-grouped_query from conditions columns arguments having keys items =
-    staged_query from (senses [] conditions) (groups_by columns (senses [] arguments) (senses [] having)) (senses [] keys) (senses [] items)
+-- the same of a core that groups, as its expressions are written
+abbrev pub grouped_core : List Chain → List Expr → (columns : List ℕ) (arguments having keys items : List Expr) → Core
+grouped_core from conditions columns arguments having keys items =
+    staged_core from (senses [] conditions) (groups_by columns (senses [] arguments) (senses [] having)) (senses [] keys) (senses [] items)
 
--- the outputs of a query in some order, where no fault may be told
-pub record Stages (q : Query) (db : Tables) (outs : List Output) : Type 0 where
-  pub no_fault : faults q db ≡ []
-  pub same : IsPermutation (outputs_all q db) outs
+-- what the classes of a core show, in some order, where no fault may be told
+pub record Stages (c : Core) (db : Tables) (outs : List Output) : Type 0 where
+  pub no_fault : core_faults c db ≡ []
+  pub same : IsPermutation (outputs_all c db) outs
+
+-- the outputs of a core in some order, and those of several, where no fault may be told
+pub record Gives (c : Core) (db : Tables) (outs : List Output) : Type 0 where
+  pub no_fault : core_faults c db ≡ []
+  pub same : IsPermutation (core_outputs c db) outs
+
+pub record AllGive (cs : List Core) (db : Tables) (outs : List Output) : Type 0 where
+  pub no_fault : flat_map (λ c. core_faults c db) cs ≡ []
+  pub same : IsPermutation (flat_map (λ c. core_outputs c db) cs) outs
 
 -- a row that WHERE keeps, and the faults of WHERE on it
 abbrev pub row_kept : List OnClass → Tuple → List Tuple

@@ -1,12 +1,12 @@
-//! The outputs of a query over its joined rows.
+//! What the classes of a core show over its joined rows.
 ghost use Rattle.std.specs.Prelude.{◌≡◌, ◌^◌, [], IfOk, map, flat_map, List, None, Some};
 ghost use Rattle.med_value.specs.Datum.{tuple};
-ghost use Rattle.med_query.specs.Query.{Chain, Tables, TellsFault, senses, joined_chains, faults};
+ghost use Rattle.med_query.specs.Query.{Chain, Tables, TellsFault, senses, joined_chains, core_faults};
 ghost use Rattle.med_query.specs.Select.{groups_of};
 ghost use Rattle.query_answer.specs.Joined.{tuples_of};
-ghost use Rattle.query_answer.specs.Staging.{output_of, tuples_in, Stages, staged_query, grouped_query, arguments_told};
+ghost use Rattle.query_answer.specs.Staging.{output_of, tuples_in, Stages, staged_core, grouped_core, arguments_told};
 ghost use Rattle.query_answer.specs.Grouping.{AreGroups};
-ghost use Rattle.query_answer.specs.Answering.{IsSmall, Shows};
+ghost use Rattle.query_answer.specs.Answering.{IsSmall, CoreShows};
 
 use crate::filtering::{check_arguments, kept_rows};
 use crate::grouping::groups;
@@ -15,12 +15,10 @@ use crate::staging::{Staged, staged_classes, staged_rows};
 use med_query::Grouping;
 use med_query::law::{answers_ignore_order, expressions_ignore_order};
 use med_value::Row;
+use med_value::limits::GROUP_LIMIT;
 use std::alloc::Global;
 use thiserror::Error;
 use tri_expr::{EvalFault, Expr};
-
-/// How many rows a query may group over at most: 2^62, so that no count and no sum of 64-bit numbers passes 128 bits.
-const MOST_GROUPED: usize = 1 << 62;
 
 /// Why a query over tables has no answer.
 #[derive(Clone, Copy, Debug, PartialEq, Eq, Error)]
@@ -28,12 +26,12 @@ pub enum AnswerFault {
     /// An expression has a fault on some row or group, or memory was refused.
     #[error("{0}")]
     Evaluation(EvalFault),
-    /// The query groups over more than 2^62 kept rows.
+    /// A core of the query groups over more than 2^62 kept rows.
     #[error("too many rows")]
     TooManyRows,
 }
 
-// The outputs of a query that does not group.
+// What a core shows that does not group.
 fn row_outputs(
     alloc: Global,
     conditions: &[Expr],
@@ -42,10 +40,10 @@ fn row_outputs(
     rows: &[Row],
 ) -> Result<Vec<Staged>, EvalFault>
     ensures stages { IfOk result (λ out. (from : List Chain) (db : Tables) → joined_chains db from ≡ map tuple rows.now
-        → Stages (staged_query from (senses [] conditions.now) None (senses [] keys.now) (senses [] items.now)) db
+        → Stages (staged_core from (senses [] conditions.now) None (senses [] keys.now) (senses [] items.now)) db
         (map output_of out.items)) }
     ensures told { (from : List Chain) (db : Tables) → joined_chains db from ≡ map tuple rows.now
-        → TellsFault result (faults (staged_query from (senses [] conditions.now) None (senses [] keys.now) (senses [] items.now)) db) }
+        → TellsFault result (core_faults (staged_core from (senses [] conditions.now) None (senses [] keys.now) (senses [] items.now)) db) }
 {
     staged_rows(alloc, conditions, keys, items, rows)
 }
@@ -71,7 +69,7 @@ fn checked_groups(
     }
 }
 
-// The outputs of a query that groups by these columns.
+// What a core shows that groups by these columns.
 fn group_outputs(
     alloc: Global,
     conditions: &[Expr],
@@ -83,11 +81,11 @@ fn group_outputs(
     rows: Joined<'_>,
 ) -> Result<Vec<Staged>, AnswerFault>
     ensures stages { IfOk result (λ out. (from : List Chain) (db : Tables) → joined_chains db from ≡ tuples_of rows.entry
-        → Stages (grouped_query from conditions.now columns.now arguments.now having.now keys.now items.now) db (map output_of out.items)) }
+        → Stages (grouped_core from conditions.now columns.now arguments.now having.now keys.now items.now) db (map output_of out.items)) }
     ensures small { IfOk result (λ _. (from : List Chain) (db : Tables) → joined_chains db from ≡ tuples_of rows.entry
-        → IsSmall (grouped_query from conditions.now columns.now arguments.now having.now keys.now items.now) db) }
+        → IsSmall (grouped_core from conditions.now columns.now arguments.now having.now keys.now items.now) db) }
     ensures told { (from : List Chain) (db : Tables) → joined_chains db from ≡ tuples_of rows.entry
-        → Shows result (grouped_query from conditions.now columns.now arguments.now having.now keys.now items.now) db }
+        → CoreShows result (grouped_core from conditions.now columns.now arguments.now having.now keys.now items.now) db }
 {
     answers_ignore_order();
     expressions_ignore_order();
@@ -95,7 +93,7 @@ fn group_outputs(
         Ok(kept) => kept,
         Err(fault) => return Err(AnswerFault::Evaluation(fault)),
     };
-    if kept.len() > MOST_GROUPED {
+    if kept.len() > GROUP_LIMIT {
         return Err(AnswerFault::TooManyRows);
     }
     let classes = match checked_groups(alloc, arguments, columns, kept) {
@@ -108,8 +106,8 @@ fn group_outputs(
     }
 }
 
-/// The outputs of a query over its joined rows, in some order.
-pub(crate) fn query_outputs(
+/// What the classes of a core show over its joined rows, in some order.
+pub(crate) fn class_outputs(
     alloc: Global,
     conditions: &[Expr],
     grouping: &Option<Grouping>,
@@ -118,13 +116,13 @@ pub(crate) fn query_outputs(
     rows: Joined<'_>,
 ) -> Result<Vec<Staged>, AnswerFault>
     ensures stages { IfOk result (λ out. (from : List Chain) (db : Tables) → joined_chains db from ≡ tuples_of rows.entry
-        → Stages (staged_query from (senses [] conditions.now) (groups_of grouping.now)
+        → Stages (staged_core from (senses [] conditions.now) (groups_of grouping.now)
         (senses [] keys.now) (senses [] items.now)) db (map output_of out.items)) }
     ensures small { IfOk result (λ _. (from : List Chain) (db : Tables) → joined_chains db from ≡ tuples_of rows.entry
-        → IsSmall (staged_query from (senses [] conditions.now) (groups_of grouping.now)
+        → IsSmall (staged_core from (senses [] conditions.now) (groups_of grouping.now)
         (senses [] keys.now) (senses [] items.now)) db) }
     ensures told { (from : List Chain) (db : Tables) → joined_chains db from ≡ tuples_of rows.entry
-        → Shows result (staged_query from (senses [] conditions.now) (groups_of grouping.now)
+        → CoreShows result (staged_core from (senses [] conditions.now) (groups_of grouping.now)
         (senses [] keys.now) (senses [] items.now)) db }
 {
     match grouping {

@@ -2,6 +2,7 @@
 use Rattle.std.specs.Prelude.{◌≡◌, ℕ, ◌<◌, ◌⊎◌, Bool, true, false, ◌&&◌, List, [], ◌∷◌, Option, Some, None, nat_le, Any, count_by}
 use Rattle.med_value.specs.declared.cause.Cause.{Cause}
 use Rattle.med_value.specs.declared.cause.Cause.TheVariants as causes
+use Rattle.med_value.specs.Limits.{height_limit}
 use Rattle.med_lexer.specs.Lexemes.{Shape, Lexeme, Lexes}
 use Rattle.expr_grammar.specs.Shapes.{shapes, IsLongName, deepens}
 use Rattle.expr_grammar.specs.ExprGrammar.{in_range, IsHuge}
@@ -63,8 +64,8 @@ TokenCauses ts causes.Syntax = (s : StatementTree) → IsStatement ts s → ⊥
 TokenCauses ts causes.NameTooLong = Any IsLongName ts
 TokenCauses ts causes.LiteralOutOfRange = Any IsHuge ts ⊎ ((s : StatementTree) × IsStatement ts s × (statement_in_range s ≡ false))
 TokenCauses ts causes.TooDeep =
-    ((s : StatementTree) × IsStatement ts s × (64 < statement_height s))
-    ⊎ (((s : StatementTree) → IsStatement ts s → ⊥) × (64 < count_by deepens ts))
+    ((s : StatementTree) × IsStatement ts s × (height_limit < statement_height s))
+    ⊎ (((s : StatementTree) → IsStatement ts s → ⊥) × (height_limit < count_by deepens ts))
 TokenCauses ts _ = ⊥
 
 -- The causes that stand for a text: 42601 where it has no tree, and so where it has no tokens, and the others for its tokens.

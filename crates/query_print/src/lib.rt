@@ -1,7 +1,7 @@
 //! Writes statements out, so that what is written is read as the same tree.
 //!
-//! What a tree is written by stands in `specs/QueryPrinting.antt`: of a word that is optional in the text, it has the printed spelling.
-//! The parts that statements of other kinds have in common with queries are written by `write_keyword`, `write_entry`, `write_condition` and
+//! What a tree is written by stands in `specs/QueryPrinting.antt`: of a word that is optional in the text, it has the printed spelling. The
+//! parts that statements of other kinds have in common with queries are written by `write_keyword`, `write_entry`, `write_condition` and
 //! `write_statement`.
 #![tactic(auto)]
 

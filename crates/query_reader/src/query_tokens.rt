@@ -12,9 +12,10 @@ ghost use Rattle.std.specs.Prelude.{false};
 use crate::query_statement::line;
 use expr_grammar::refusal::{ReadFault, Refusal};
 use expr_grammar::symbols::Symbol;
-use expr_grammar::weighing::{MAX_HEIGHT, ROOM, weight};
+use expr_grammar::weighing::{ROOM, weight};
 use med_lexer::Token;
 use med_syntax::Statement;
+use med_value::limits::HEIGHT_LIMIT;
 use query_grammar::{Place, words_of};
 use std::alloc::Global;
 
@@ -23,9 +24,9 @@ use std::alloc::Global;
 fn bounded(alloc: Global, symbols: &[Symbol]) -> Result<Statement, ReadFault>
     ensures { ReadsAs statement_tree result (bounded_line (terminals_of symbols.now)) }
 {
-    match line(alloc, MAX_HEIGHT, symbols) {
+    match line(alloc, HEIGHT_LIMIT, symbols) {
         Err(ReadFault::Refused(Refusal::TooHigh)) => {
-            if weight(symbols) > 64 {
+            if weight(symbols) > HEIGHT_LIMIT as usize {
                 return Err(ReadFault::Refused(Refusal::TooHigh));
             }
             match line(alloc, ROOM, symbols) {

@@ -2,7 +2,7 @@
 use Rattle.std.proofs.Common.{◌≡◌, ℕ, false, true, List, [], ◌∷◌, map, length, replicate, Option, Some, None, IsSome, Result, Ok, Err, IfOk, refl, ap, sym, ◌∙◌, subst, rules}
 use Rattle.std.proofs.lemmas.List.{length-map}
 use Rattle.med_value.specs.declared.value.ColType.{ColType}
-use Rattle.med_query.specs.Select.{is_safe_from}
+use Rattle.med_query.specs.Select.{are_safe_cores}
 use Rattle.med_query.specs.declared.select.Select.{Select}
 use Rattle.fdw_api.specs.Kinds.{Column, OptionForm}
 use Rattle.fdw_api.specs.Scan.{RestrictionForm, spec_of, plain_spec, restriction_form, params_fit}
@@ -50,7 +50,7 @@ ignores_one : (spec : ScanSpec) → length spec.offered.items ≡ 1 → spec.agr
 ignores_one spec one silent wide =
     let many : replicate (length (map restriction_form spec.offered.items)) Ignored ≡ Ignored ∷ [] = ap (λ (n : ℕ). replicate n Ignored) (length-map spec.offered.items restriction_form ∙ one) in
     let answers : spec.agreement.answers.items ≡ replicate (length (map restriction_form spec.offered.items)) Ignored = silent ∙ sym many in
-    λ i. record { wanted = spec.wanted.items; offered = map restriction_form spec.offered.items; answers = answers i; narrow = wide i }
+    λ i. record { wanted = spec.wanted.items; offered = map restriction_form spec.offered.items; answers = answers i; narrow = wide i; order = []; limit = None }
 
 pub ignored_begins : (boxes : List (Option BoxState)) (slot t : ℕ) (spec : ScanSpec) → Typed spec → length spec.offered.items ≡ 1 → spec.agreement.answers.items ≡ Ignored ∷ [] → spec.agreement.narrow ≡ false → HasTable boxes slot t
     → BoxAt boxes slot (λ s. CanBegin s t spec [])
@@ -62,9 +62,9 @@ ignored_begins boxes slot t spec typed one silent wide b = record {
 
 -- a plan of one scan that may begin may be run
 pub one_runs : {E : Type 0} (boxes : List (Option BoxState)) (table : TableNo) (spec : ScanSpec) (select : Select) (r : Result Plan E) → IfOk r (λ p. p.scans.items ≡ record { source = 0; table = table; spec = spec } ∷ []) → IfOk r (λ p. p.select ≡ select)
-    → BoxAt boxes 0 (λ s. CanBegin s table.number spec []) → is_safe_from select.from.items ≡ true → IfOk r (CanRun boxes)
+    → BoxAt boxes 0 (λ s. CanBegin s table.number spec []) → are_safe_cores select.cores.items ≡ true → IfOk r (CanRun boxes)
 one_runs boxes table spec select (Err e) scans query begins safe = tt
 one_runs boxes table spec select (Ok p) scans query begins safe = record {
   begins = subst (λ (ss : List EntryScan). AllBegin boxes ss) (sym scans) (begins, tt);
-  safe = subst (λ (s : Select). is_safe_from s.from.items ≡ true) (sym query) safe;
+  safe = subst (λ (s : Select). are_safe_cores s.cores.items ≡ true) (sym query) safe;
 }

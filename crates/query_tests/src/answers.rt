@@ -1,11 +1,15 @@
-//! Queries over tables with NULL keys, and the rows that they give.
+//! Queries over tables with NULL keys, and the rows that they give: by the engine, and as they are defined.
+ghost use Rattle.med_query.specs.Select.{are_safe_cores};
+ghost use Rattle.std.specs.Prelude.{◌≡◌};
+
 use crate::expect::same_text;
-use med_query::{Grouping, JoinChain, Select, SortDirection, is_safe_from};
-use med_value::{Comparison, Row, Value, row_text};
-use query_answer::answer;
+use med_query::{Grouping, JoinChain, Select, SelectCore, SortDirection, is_safe_from};
+use med_value::{Comparison, Operation, Row, Value, row_text};
+use plain_select::plain_answer;
+use query_answer::{AnswerFault, answer};
 use std::alloc::Global;
 use std::test::Fail;
-use tri_expr::{Expr, SetFunction};
+use tri_expr::{EvalFault, Expr, SetFunction};
 
 fn push_order(
     alloc: Global,
@@ -54,32 +58,55 @@ pub(crate) fn one(alloc: Global, e: Expr) -> Result<Vec<Expr>, Fail> {
 }
 
 /// SELECT items FROM the table of this place
-pub(crate) fn select(alloc: Global, table: usize, items: Vec<Expr>) -> Result<Select, Fail> {
+pub(crate) fn core_over(alloc: Global, table: usize, items: Vec<Expr>) -> Result<SelectCore, Fail> {
     let chain = JoinChain {
         first: table,
         joins: Vec::new(alloc),
     };
-    Ok(Select {
+    Ok(SelectCore {
         from: vec![in alloc; chain]?,
         conditions: Vec::new(alloc),
         grouping: None,
         items,
         distinct: false,
         keys: Vec::new(alloc),
+    })
+}
+
+/// The query of this core, whose rows come in any order.
+pub(crate) fn alone(alloc: Global, core: SelectCore) -> Result<Select, Fail> {
+    Ok(Select {
+        cores: vec![in alloc; core]?,
         directions: Vec::new(alloc),
         offset: 0,
         limit: None,
     })
 }
 
-// ORDER BY part
-fn order_by_part(alloc: Global, select: &mut Select) -> Result<(), Fail> {
-    select.keys = columns(alloc, &[1])?;
-    select.directions.push(SortDirection {
-        descending: false,
-        nulls_first: false,
-    })?;
-    Ok(())
+/// Whether no ON of a core may fault.
+pub(crate) fn are_safe(cores: &[SelectCore]) -> bool
+    ensures { result ≡ are_safe_cores cores.now }
+{
+    for core in cores {
+        if !is_safe_from(core.from.as_slice()) {
+            return false;
+        }
+    }
+    true
+}
+
+// The query of these cores, its rows sorted by one key.
+fn in_order(alloc: Global, cores: Vec<SelectCore>, descending: bool) -> Result<Select, Fail> {
+    let direction = SortDirection {
+        descending,
+        nulls_first: descending,
+    };
+    Ok(Select {
+        cores,
+        directions: vec![in alloc; direction]?,
+        offset: 0,
+        limit: None,
+    })
 }
 
 fn lines(alloc: Global, rows: &[Row]) -> Result<Vec<u8>, Fail> {
@@ -91,13 +118,15 @@ fn lines(alloc: Global, rows: &[Row]) -> Result<Vec<u8>, Fail> {
     Ok(text)
 }
 
-// Fails where the query over the orders gives other rows.
+// Fails where the query over the orders gives other rows, or has others as it is defined.
 fn gives(alloc: Global, select: &Select, wanted: &str) -> Result<(), Fail> {
     let tables = vec![in alloc; orders(alloc)?]?;
-    if !is_safe_from(select.from.as_slice()) {
+    let plain = plain_answer(alloc, select, &tables)?;
+    same_text("the rows by definition", &lines(alloc, &plain)?, wanted)?;
+    if !are_safe(select.cores.as_slice()) {
         return Err("a risky ON".into());
     }
-    let rows = answer(alloc, select, &tables)?;
+    let rows = answer(alloc, select, tables)?;
     same_text("the rows", &lines(alloc, &rows)?, wanted)
 }
 
@@ -105,22 +134,87 @@ fn gives(alloc: Global, select: &Select, wanted: &str) -> Result<(), Fail> {
 fn null_keys_are_one_group(rt: HostRuntime) -> Result<(), Fail> {
     let alloc = rt.alloc();
     let sum = Expr::Aggregate(SetFunction::Sum, Box::new(alloc, Expr::Column(2))?);
-    let items = vec![in alloc; Expr::Column(1), sum]?;
-    let mut query = select(alloc, 0, items)?;
-    query.grouping = Some(Grouping {
+    let mut sums = core_over(alloc, 0, vec![in alloc; Expr::Column(1), sum]?)?;
+    sums.grouping = Some(Grouping {
         keys: vec![in alloc; 1]?,
         arguments: columns(alloc, &[2])?,
         having: Vec::new(alloc),
     });
-    order_by_part(alloc, &mut query)?;
+    sums.keys = columns(alloc, &[1])?;
+    let query = in_order(alloc, vec![in alloc; sums]?, false)?;
     gives(alloc, &query, "1\t10\n9\t1\n\\N\t3\n")
+}
+
+// SELECT DISTINCT part, sorted by it
+fn parts_once(alloc: Global) -> Result<SelectCore, Fail> {
+    let mut parts = core_over(alloc, 0, columns(alloc, &[1])?)?;
+    parts.distinct = true;
+    parts.keys = columns(alloc, &[1])?;
+    Ok(parts)
 }
 
 #[test]
 fn distinct_takes_nulls_as_equal(rt: HostRuntime) -> Result<(), Fail> {
     let alloc = rt.alloc();
-    let mut query = select(alloc, 0, columns(alloc, &[1])?)?;
-    query.distinct = true;
-    order_by_part(alloc, &mut query)?;
+    let query = in_order(alloc, vec![in alloc; parts_once(alloc)?]?, false)?;
     gives(alloc, &query, "1\n9\n\\N\n")
+}
+
+#[test]
+fn cores_are_distinct_each_by_itself(rt: HostRuntime) -> Result<(), Fail> {
+    let alloc = rt.alloc();
+    let cores = vec![in alloc; parts_once(alloc)?, parts_once(alloc)?]?;
+    let query = in_order(alloc, cores, false)?;
+    gives(alloc, &query, "1\n1\n9\n9\n\\N\n\\N\n")
+}
+
+// SELECT no WHERE n > 1, sorted by it
+fn large_orders(alloc: Global) -> Result<SelectCore, Fail> {
+    let mut large = core_over(alloc, 0, columns(alloc, &[0])?)?;
+    let is_large = compare(alloc, Comparison::Above, Expr::Column(2), int(1))?;
+    large.conditions = one(alloc, is_large)?;
+    large.keys = columns(alloc, &[0])?;
+    Ok(large)
+}
+
+#[test]
+fn order_and_page_are_over_all_cores(rt: HostRuntime) -> Result<(), Fail> {
+    let alloc = rt.alloc();
+    let cores = vec![in alloc; large_orders(alloc)?, parts_once(alloc)?]?;
+    let mut query = in_order(alloc, cores, true)?;
+    gives(alloc, &query, "\\N\n21\n11\n10\n9\n1\n")?;
+    query.offset = 1;
+    query.limit = Some(4);
+    gives(alloc, &query, "21\n11\n10\n9\n")
+}
+
+// SELECT 1/0
+fn zero_divisor(alloc: Global) -> Result<SelectCore, Fail> {
+    let quotient = Expr::Compute(
+        Operation::Divide,
+        Box::new(alloc, int(1))?,
+        Box::new(alloc, int(0))?,
+    );
+    core_over(alloc, 0, one(alloc, quotient)?)
+}
+
+#[test]
+fn limit_hides_no_fault_of_a_later_core(rt: HostRuntime) -> Result<(), Fail> {
+    let alloc = rt.alloc();
+    let rest = zero_divisor(alloc)?;
+    let mut query = alone(alloc, core_over(alloc, 0, columns(alloc, &[0])?)?)?;
+    query.cores.push(rest)?;
+    query.limit = Some(0);
+    let tables = vec![in alloc; orders(alloc)?]?;
+    let plain = plain_answer(alloc, &query, &tables);
+    if !matches!(plain, Err(EvalFault::ZeroDivisor)) {
+        return Err("no fault by definition".into());
+    }
+    if !are_safe(query.cores.as_slice()) {
+        return Err("a risky ON".into());
+    }
+    match answer(alloc, &query, tables) {
+        Err(AnswerFault::Evaluation(EvalFault::ZeroDivisor)) => Ok(()),
+        _ => Err("no fault".into()),
+    }
 }

@@ -2,6 +2,7 @@
 use crate::expect::{cut, same_text};
 use med_binder::{AttachedTable, BoundQuery, bind};
 use med_parser::{Command, parse};
+use med_query::SelectCore;
 use med_value::{Cause, ColType, ColumnDef, Row, TableNo, Value, row_text};
 use std::alloc::Global;
 use std::str::from_utf8;
@@ -141,6 +142,14 @@ fn place(bound: &BoundQuery) -> Option<usize> {
     }
 }
 
+// Its core: a SELECT has one.
+fn only_core(bound: &BoundQuery) -> Result<&SelectCore, Fail> {
+    match bound.select.cores.as_slice() {
+        [core] => Ok(core),
+        _ => Err("not one core".into()),
+    }
+}
+
 // The names with a space between each two.
 fn names_text(alloc: Global, names: &[String]) -> Result<String, Fail> {
     let mut line = "".to_string(alloc)?;
@@ -157,7 +166,7 @@ fn names_text(alloc: Global, names: &[String]) -> Result<String, Fail> {
 fn answer(alloc: Global, bound: &BoundQuery) -> Result<String, Fail> {
     let row = row(alloc, place(bound))?;
     let mut cells = Vec::new(alloc);
-    for item in &bound.select.items {
+    for item in &only_core(bound)?.items {
         match eval(alloc, item, &row, &[]) {
             Ok(value) => cells.push(value)?,
             Err(fault) => return Ok(format!(in alloc; "{fault:?}")?),
@@ -172,8 +181,9 @@ fn answer(alloc: Global, bound: &BoundQuery) -> Result<String, Fail> {
 
 fn conditions(alloc: Global, bound: &BoundQuery) -> Result<String, Fail> {
     let row = row(alloc, place(bound))?;
-    let count = bound.select.conditions.len();
-    let verdict = verdict(&bound.select.conditions, &row, &[]);
+    let core = only_core(bound)?;
+    let count = core.conditions.len();
+    let verdict = verdict(&core.conditions, &row, &[]);
     Ok(format!(in alloc; "{count} {verdict:?}")?)
 }
 
@@ -195,14 +205,14 @@ fn entries(alloc: Global, bound: &BoundQuery) -> Result<String, Fail> {
 }
 
 fn first_column(alloc: Global, bound: &BoundQuery) -> Result<String, Fail> {
-    match bound.select.items.get(0) {
+    match only_core(bound)?.items.get(0) {
         Some(Expr::Column(place)) => Ok(format!(in alloc; "{place}")?),
         _ => Ok("no column".to_string(alloc)?),
     }
 }
 
 fn groups(alloc: Global, bound: &BoundQuery) -> Result<String, Fail> {
-    match &bound.select.grouping {
+    match &only_core(bound)?.grouping {
         None => Ok("none".to_string(alloc)?),
         Some(grouping) => {
             let keys = grouping.keys.len();

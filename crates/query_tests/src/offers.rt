@@ -3,7 +3,7 @@ use crate::expect::{same, same_text};
 use fdw_api::scan::Agreement;
 use med_binder::{BoundEntry, BoundQuery};
 use med_planner::{Plan, plan};
-use med_query::Select;
+use med_query::{Select, SelectCore};
 use med_value::TableNo;
 use pushdown::{EntryScan, Offers, Split, accept, offer};
 use std::alloc::Global;
@@ -24,13 +24,16 @@ fn two_entries(alloc: Global) -> Result<BoundQuery, Fail> {
         table: TableNo { number: 8 },
         width: 3,
     })?;
-    let select = Select {
+    let core = SelectCore {
         from: Vec::new(alloc),
         conditions: Vec::new(alloc),
         grouping: None,
         items: Vec::new(alloc),
         distinct: false,
         keys: Vec::new(alloc),
+    };
+    let select = Select {
+        cores: vec![in alloc; core]?,
         directions: Vec::new(alloc),
         offset: 0,
         limit: None,
@@ -115,7 +118,7 @@ fn plan_has_the_scans_and_the_query(rt: HostRuntime) -> Result<(), Fail> {
     let mut bound = two_entries(alloc)?;
     bound.select.limit = Some(3);
     let split = two_scans(alloc, &bound, false)?;
-    let Plan { scans, select } = plan(alloc, &bound, split)?;
+    let Plan { scans, select } = plan(bound, split);
     let text = scans_text(alloc, &scans)?;
     same_text("the scans", text.as_bytes(), SCANS)?;
     same("the limit", &select.limit, &Some(3))

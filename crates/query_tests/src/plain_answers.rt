@@ -1,6 +1,6 @@
 //! Answers by hand.
 use crate::expect::same_text;
-use med_query::{JoinChain, Select};
+use med_query::{JoinChain, Select, SelectCore};
 use med_value::{Row, Value};
 use plain_select::plain_answer;
 use std::test::Fail;
@@ -21,13 +21,16 @@ fn select_of_one_table(rt: HostRuntime) -> Result<(), Fail> {
         first: 0,
         joins: Vec::new(alloc),
     };
-    let select = Select {
+    let core = SelectCore {
         from: vec![in alloc; chain]?,
         conditions: Vec::new(alloc),
         grouping: None,
         items: vec![in alloc; Expr::Column(1)]?,
         distinct: false,
         keys: Vec::new(alloc),
+    };
+    let select = Select {
+        cores: vec![in alloc; core]?,
         directions: Vec::new(alloc),
         offset: 1,
         limit: None,

@@ -4,22 +4,23 @@ ghost use Rattle.fdw_api.specs.Scan.{restriction_form, params_fit};
 ghost use Rattle.med_exec.specs.Rests.{IsRunning, IsHeld};
 ghost use Rattle.med_exec.specs.Running.{CanRun};
 ghost use Rattle.med_exec.specs.Slots.{states, HasTable};
-ghost use Rattle.med_query.specs.Select.{is_safe_from};
+ghost use Rattle.med_query.specs.Select.{are_safe_cores};
 ghost use Rattle.med_value.specs.Datum.{Whole, tuple};
 ghost use Rattle.list_wrapper.specs.ListBoxes.{box_of};
 ghost use Rattle.list_wrapper.specs.Lists.{listed};
 ghost use Rattle.query_tests.specs.Orders as spec;
 ghost use Rattle.std.specs.Prelude.{◌≡◌, ◌∷◌, [], true, List, length, map, IfOk};
 
-use crate::answers::{columns, compare, int, one, select};
+use crate::answers::{alone, are_safe, columns, compare, core_over, int, one};
 use crate::expect::{same, same_text};
 use fdw_api::interface::{Counts, Fault, Wrapper};
 use fdw_api::scan::{Agree, Agreement, Operand, Restriction, ScanSpec, Test};
+use fdw_api::wishes::Wrapper2;
 use list_wrapper::{ListTable, ListWrapper};
 use med_exec::law::running_is_held;
 use med_exec::{Run, ledger_at, plan_at, start};
 use med_planner::Plan;
-use med_query::{Select, is_safe_from};
+use med_query::Select;
 use med_value::{ColType, ColumnDef, Comparison, Operation, Row, TableNo, Value, row_text};
 use pushdown::EntryScan;
 use std::alloc::Global;
@@ -106,14 +107,14 @@ fn one_scan(alloc: Global, table: TableNo, spec: ScanSpec, select: Select) -> Re
 }
 
 // The plan of a query over n and no of the orders of more than 1, by what their box agrees to.
-fn agreed_plan<W: Wrapper>(
+fn agreed_plan<W: Wrapper2>(
     slots: &Vec<Option<W>>,
     alloc: Global,
     table: TableNo,
     select: Select,
 ) -> Result<Plan, Fail>
     requires table { HasTable (states W.meaning slots.now.items) 0 table.number }
-    requires safe { is_safe_from select.from.items ≡ true }
+    requires safe { are_safe_cores select.cores.items ≡ true }
     ensures { IfOk result (CanRun (states W.meaning slots.now.items)) }
 {
     let wanted = vec![in alloc; 2, 0]?;
@@ -128,14 +129,14 @@ fn agreed_plan<W: Wrapper>(
 }
 
 // The plan of a query over the orders, of which more than 1 are offered, where their box takes nothing over.
-fn ignored_plan<W: Wrapper>(
+fn ignored_plan<W: Wrapper2>(
     slots: &Vec<Option<W>>,
     alloc: Global,
     table: TableNo,
     select: Select,
 ) -> Result<Plan, Fail>
     requires table { HasTable (states W.meaning slots.now.items) 0 table.number }
-    requires safe { is_safe_from select.from.items ≡ true }
+    requires safe { are_safe_cores select.cores.items ≡ true }
     ensures { IfOk result (CanRun (states W.meaning slots.now.items)) }
 {
     let spec = ScanSpec {
@@ -150,7 +151,7 @@ fn ignored_plan<W: Wrapper>(
 }
 
 // The text of the rows that a run gives, at most so many, each with an LF.
-fn rest_of<W: Wrapper>(
+fn rest_of<W: Wrapper2>(
     alloc: Global,
     run: &mut Run,
     slots: &mut Vec<Option<W>>,
@@ -174,7 +175,7 @@ fn rest_of<W: Wrapper>(
 }
 
 // The rows that a run of a plan gives, or the code of its fault.
-fn run_text<W: Wrapper>(
+fn run_text<W: Wrapper2>(
     alloc: Global,
     slots: &mut Vec<Option<W>>,
     plan: Plan,
@@ -205,8 +206,8 @@ fn counts(pulled: u64) -> Option<Counts> {
 fn box_takes_over_what_it_agreed_to(rt: HostRuntime) -> Result<(), Fail> {
     let alloc = rt.alloc();
     let (mut slots, table) = bound_orders(alloc)?;
-    let query = select(alloc, 0, columns(alloc, &[1, 0])?)?;
-    if !is_safe_from(query.from.as_slice()) {
+    let query = alone(alloc, core_over(alloc, 0, columns(alloc, &[1, 0])?)?)?;
+    if !are_safe(query.cores.as_slice()) {
         return Err("a risky ON".into());
     }
     let plan = agreed_plan(&slots, alloc, table, query)?;
@@ -222,10 +223,11 @@ fn box_takes_over_what_it_agreed_to(rt: HostRuntime) -> Result<(), Fail> {
 fn query_decides_what_the_box_ignores(rt: HostRuntime) -> Result<(), Fail> {
     let alloc = rt.alloc();
     let (mut slots, table) = bound_orders(alloc)?;
-    let mut query = select(alloc, 0, columns(alloc, &[0, 2])?)?;
+    let mut orders = core_over(alloc, 0, columns(alloc, &[0, 2])?)?;
     let large = compare(alloc, Comparison::Above, Expr::Column(2), int(1))?;
-    query.conditions = one(alloc, large)?;
-    if !is_safe_from(query.from.as_slice()) {
+    orders.conditions = one(alloc, large)?;
+    let query = alone(alloc, orders)?;
+    if !are_safe(query.cores.as_slice()) {
         return Err("a risky ON".into());
     }
     let plan = ignored_plan(&slots, alloc, table, query)?;
@@ -239,9 +241,10 @@ fn query_decides_what_the_box_ignores(rt: HostRuntime) -> Result<(), Fail> {
 
 // The rows that a query without tables gives, or the code of its fault.
 fn run_without_tables(alloc: Global, items: Vec<Expr>) -> Result<Vec<u8>, Fail> {
-    let mut query = select(alloc, 0, items)?;
-    query.from = Vec::new(alloc);
-    if !is_safe_from(query.from.as_slice()) {
+    let mut bare = core_over(alloc, 0, items)?;
+    bare.from = Vec::new(alloc);
+    let query = alone(alloc, bare)?;
+    if !are_safe(query.cores.as_slice()) {
         return Err("a risky ON".into());
     }
     let mut slots: Vec<Option<ListWrapper>> = Vec::new(alloc);

@@ -12,7 +12,7 @@ ghost use Rattle.std.specs.Prelude.{◌≡◌, ◌<◌, ◌&&◌, true, [], ◌�
 ghost use Rattle.std.specs.String.{string_bytes};
 
 use bench_tables::law::lists_take_tables;
-use fdw_api::interface::Wrapper;
+use fdw_api::wishes::Wrapper2;
 use fed_cli::Ended;
 use fed_cli::serving::serve_engine;
 use list_wrapper::{ListTable, ListWrapper};
@@ -192,7 +192,7 @@ fn list(alloc: Global, seed: u64) -> Result<ListWrapper, NoMemory>
     ListWrapper::new(alloc, vec![in alloc; left, right]?)
 }
 
-fn in_shuffled<W: Wrapper>(alloc: Global, inner: W) -> Shuffled<W>
+fn in_shuffled<W: Wrapper2>(alloc: Global, inner: W) -> Shuffled<W>
     requires { IsIdle (W.meaning inner) × TakesAs Lists (W.meaning inner) }
     ensures { IsIdle (reordered (W.meaning result.inner) (turns_of result.scans) result.pulled)
         × TakesAs Lists (reordered (W.meaning result.inner) (turns_of result.scans) result.pulled) }
@@ -216,7 +216,7 @@ fn columns(alloc: Global, names: [&str; 2]) -> Result<Vec<ColumnDef>, NoMemory> 
 }
 
 // Asks for a statement in session 1.
-fn ask<W: Wrapper>(engine: &mut Engine<W>, sql: &str, out: &mut Vec<u8>) -> Result<(), Fail>
+fn ask<W: Wrapper2>(engine: &mut Engine<W>, sql: &str, out: &mut Vec<u8>) -> Result<(), Fail>
     requires { IsSound (shown W.meaning engine.old) }
     ensures { IsSound (shown W.meaning engine.new) }
 {
@@ -228,7 +228,7 @@ fn ask<W: Wrapper>(engine: &mut Engine<W>, sql: &str, out: &mut Vec<u8>) -> Resu
 }
 
 // Makes foreign tables of both, as the owner.
-fn make_both<W: Wrapper>(alloc: Global, engine: &mut Engine<W>) -> Result<(), Fail>
+fn make_both<W: Wrapper2>(alloc: Global, engine: &mut Engine<W>) -> Result<(), Fail>
     requires { IsSound (shown W.meaning engine.old) }
     ensures { IsSound (shown W.meaning engine.new) }
 {
@@ -247,7 +247,7 @@ fn make_both<W: Wrapper>(alloc: Global, engine: &mut Engine<W>) -> Result<(), Fa
 }
 
 // An engine over the tables of a list.
-fn engine_over<W: Wrapper>(alloc: Global, list: W) -> Result<Engine<W>, Fail>
+fn engine_over<W: Wrapper2>(alloc: Global, list: W) -> Result<Engine<W>, Fail>
     requires { IsIdle (W.meaning list) × TakesAs Lists (W.meaning list) }
     ensures { IfOk result (λ engine. IsSound (shown W.meaning engine)) }
 {
@@ -263,7 +263,7 @@ fn engine_over<W: Wrapper>(alloc: Global, list: W) -> Result<Engine<W>, Fail>
 }
 
 // What an engine over a list replies to a query; nothing where it was not read to its end.
-fn replied_over<W: Wrapper>(alloc: Global, list: W, query: &str) -> Result<Vec<u8>, Fail>
+fn replied_over<W: Wrapper2>(alloc: Global, list: W, query: &str) -> Result<Vec<u8>, Fail>
     requires { IsIdle (W.meaning list) × TakesAs Lists (W.meaning list) }
 {
     let engine = engine_over(alloc, list)?;

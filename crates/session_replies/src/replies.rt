@@ -66,7 +66,7 @@ fn put(bytes: &[u8], out: &mut Vec<u8>)
 }
 
 // Writes the reply of a tag alone.
-fn write_tag(sid: u8, tag: &[u8], out: &mut Vec<u8>)
+fn write_tag(sid: u16, tag: &[u8], out: &mut Vec<u8>)
     requires room { vec_len out.old + 128 ≤ vec_capacity out.old }
     requires short { length tag.now ≤ 32 }
     ensures { out.new.items ≡ out.old.items ++ reply_text sid (done tag.now) }
@@ -79,7 +79,7 @@ fn write_tag(sid: u8, tag: &[u8], out: &mut Vec<u8>)
 }
 
 // Writes the tag of a statement on objects.
-fn write_change(sid: u8, ddl: &Ddl, out: &mut Vec<u8>)
+fn write_change(sid: u16, ddl: &Ddl, out: &mut Vec<u8>)
     requires { vec_len out.old + 128 ≤ vec_capacity out.old }
     ensures { out.new.items ≡ out.old.items ++ reply_text sid (done (ddl_tag (ddl_tree ddl.now))) }
 {
@@ -96,7 +96,7 @@ fn write_change(sid: u8, ddl: &Ddl, out: &mut Vec<u8>)
 }
 
 // Writes the reply of a tag with a number of rows.
-fn write_rows_tag(sid: u8, word: &[u8], count: u64, out: &mut Vec<u8>)
+fn write_rows_tag(sid: u16, word: &[u8], count: u64, out: &mut Vec<u8>)
     requires room { vec_len out.old + 128 ≤ vec_capacity out.old }
     requires short { length word.now ≤ 32 }
     ensures { out.new.items ≡ out.old.items ++ reply_text sid (done (rows_tag word.now count)) }
@@ -133,7 +133,7 @@ pub fn table_of(write: &WriteStatement) -> &str
 }
 
 // Writes the tag of a statement that wrote so many rows.
-fn write_count(sid: u8, word: RowsWord, count: u64, out: &mut Vec<u8>)
+fn write_count(sid: u16, word: RowsWord, count: u64, out: &mut Vec<u8>)
     requires { vec_len out.old + 128 ≤ vec_capacity out.old }
     ensures { out.new.items ≡ out.old.items ++ reply_text sid (done (rows_tag (word_text word) count)) }
 {
@@ -145,7 +145,7 @@ fn write_count(sid: u8, word: RowsWord, count: u64, out: &mut Vec<u8>)
 }
 
 // Writes a refusal.
-fn write_refusal(sid: u8, cause: Cause, out: &mut Vec<u8>)
+fn write_refusal(sid: u16, cause: Cause, out: &mut Vec<u8>)
     requires { vec_len out.old + 128 ≤ vec_capacity out.old }
     ensures { out.new.items ≡ out.old.items ++ reply_text sid (refused cause) }
 {
@@ -159,7 +159,7 @@ fn write_refusal(sid: u8, cause: Cause, out: &mut Vec<u8>)
 }
 
 // Appends the number of a session, and what a line of it begins with.
-fn append_start(sid: u8, begins: &[u8], text: &mut Vec<u8>) -> Result<(), NoMemory>
+fn append_start(sid: u16, begins: &[u8], text: &mut Vec<u8>) -> Result<(), NoMemory>
     ensures { OnOk result (text.new.items ≡ text.old.items ++ decimal sid ++ codes " " ++ begins.now) }
 {
     let mut buffer = Buffer::new();
@@ -170,7 +170,7 @@ fn append_start(sid: u8, begins: &[u8], text: &mut Vec<u8>) -> Result<(), NoMemo
 }
 
 // Appends the line of output names.
-fn append_header(sid: u8, names: &[String], text: &mut Vec<u8>) -> Result<(), NoMemory>
+fn append_header(sid: u16, names: &[String], text: &mut Vec<u8>) -> Result<(), NoMemory>
     ensures { OnOk result (text.new.items ≡ text.old.items ++ line sid (header (map string_bytes names.now))) }
 {
     append_start(sid, b"H", text)?;
@@ -191,7 +191,7 @@ fn append_names(names: &[String], text: &mut Vec<u8>) -> Result<(), NoMemory>
 }
 
 // Appends the line of a row.
-fn append_row(sid: u8, row: &Row, text: &mut Vec<u8>) -> Result<(), NoMemory>
+fn append_row(sid: u16, row: &Row, text: &mut Vec<u8>) -> Result<(), NoMemory>
     ensures { OnOk result (text.new.items ≡ text.old.items ++ line sid (row_line (tuple row.now))) }
 {
     append_start(sid, b"R", text)?;
@@ -204,7 +204,7 @@ fn append_row(sid: u8, row: &Row, text: &mut Vec<u8>) -> Result<(), NoMemory>
 }
 
 // Appends the lines of rows.
-fn append_rows(sid: u8, rows: &[Row], text: &mut Vec<u8>) -> Result<(), NoMemory>
+fn append_rows(sid: u16, rows: &[Row], text: &mut Vec<u8>) -> Result<(), NoMemory>
     ensures { OnOk result (text.new.items ≡ text.old.items ++ flat_map (λ row. line sid (row_line row)) (map tuple rows.now)) }
 {
     for row in rows {
@@ -214,7 +214,7 @@ fn append_rows(sid: u8, rows: &[Row], text: &mut Vec<u8>) -> Result<(), NoMemory
 }
 
 // Appends the tag of this word and so many rows.
-fn append_count(sid: u8, word: &[u8], count: usize, text: &mut Vec<u8>) -> Result<(), NoMemory>
+fn append_count(sid: u16, word: &[u8], count: usize, text: &mut Vec<u8>) -> Result<(), NoMemory>
     ensures { OnOk result (text.new.items ≡ text.old.items ++ line sid (tag_line (rows_tag word.now count))) }
 {
     let mut buffer = Buffer::new();
@@ -227,7 +227,7 @@ fn append_count(sid: u8, word: &[u8], count: usize, text: &mut Vec<u8>) -> Resul
 }
 
 // The reply of rows, with the word of its tag.
-fn answer_text(alloc: Global, sid: u8, word: &[u8], set: &RowSet) -> Result<Vec<u8>, NoMemory>
+fn answer_text(alloc: Global, sid: u16, word: &[u8], set: &RowSet) -> Result<Vec<u8>, NoMemory>
     ensures { IfOk result (λ text. text.items
         ≡ reply_text sid (answered word.now (map string_bytes set.now.names.items) (map tuple set.now.rows.items))) }
 {
@@ -239,7 +239,7 @@ fn answer_text(alloc: Global, sid: u8, word: &[u8], set: &RowSet) -> Result<Vec<
 }
 
 // Writes the reply of rows, or that memory was refused; and whether it told the rows.
-fn write_answer(alloc: Global, sid: u8, word: &[u8], set: &RowSet, out: &mut Vec<u8>) -> bool
+fn write_answer(alloc: Global, sid: u16, word: &[u8], set: &RowSet, out: &mut Vec<u8>) -> bool
     requires { vec_len out.old + 128 ≤ vec_capacity out.old }
     ensures { TellsReply sid (answered word.now (map string_bytes set.now.names.items) (map tuple set.now.rows.items)) result
         out.old.items out.new.items }
@@ -254,7 +254,7 @@ fn write_answer(alloc: Global, sid: u8, word: &[u8], set: &RowSet, out: &mut Vec
 }
 
 // Writes the reply of an outcome without rows.
-fn write_told(sid: u8, outcome: &Outcome, out: &mut Vec<u8>)
+fn write_told(sid: u16, outcome: &Outcome, out: &mut Vec<u8>)
     requires room { vec_len out.old + 128 ≤ vec_capacity out.old }
     requires short { HasRows (reply_of outcome.now) → ⊥ }
     ensures { out.new.items ≡ out.old.items ++ reply_text sid (reply_of outcome.now) }
@@ -274,7 +274,7 @@ fn write_told(sid: u8, outcome: &Outcome, out: &mut Vec<u8>)
 
 /// Writes a reply whole behind what `out` has: that of the outcome, or 53200 in place of rows for which memory was refused. Whether it told
 /// the outcome.
-pub fn write_reply(alloc: Global, sid: u8, outcome: &Outcome, out: &mut Vec<u8>) -> bool
+pub fn write_reply(alloc: Global, sid: u16, outcome: &Outcome, out: &mut Vec<u8>) -> bool
     requires { vec_len out.old + 128 ≤ vec_capacity out.old }
     ensures { TellsReply sid (reply_of outcome.now) result out.old.items out.new.items }
 {

@@ -6,10 +6,11 @@ use Rattle.std.specs.Option.{MatchOption}
 use Rattle.session_wire.specs.Frames.{BeginsWithSid}
 use Rattle.session_wire.proofs.Digits.{shapes}
 
-no_space : (ds : List ℕ) (n : ℕ) → n < 100 → ds ≡ decimal n → (i : ℕ) → i < length ds → get_or ds i 0 ≢ 32
-no_space ds n small e zero h same = elim (shapes ds n small e) [ inl one ↦ omega arith | inr two ↦ omega arith ]
-no_space ds n small e (suc zero) h same = elim (shapes ds n small e) [ inl one ↦ omega arith | inr two ↦ omega arith ]
-no_space ds n small e (suc (suc i)) h same = elim (shapes ds n small e) [ inl one ↦ omega arith | inr two ↦ omega arith ]
+no_space : (ds : List ℕ) (n : ℕ) → n < 1000 → ds ≡ decimal n → (i : ℕ) → i < length ds → get_or ds i 0 ≢ 32
+no_space ds n small e zero h same = elim (shapes ds n small e) [ inl one ↦ omega arith | inr (inl two) ↦ omega arith | inr (inr three) ↦ omega arith ]
+no_space ds n small e (suc zero) h same = elim (shapes ds n small e) [ inl one ↦ omega arith | inr (inl two) ↦ omega arith | inr (inr three) ↦ omega arith ]
+no_space ds n small e (suc (suc zero)) h same = elim (shapes ds n small e) [ inl one ↦ omega arith | inr (inl two) ↦ omega arith | inr (inr three) ↦ omega arith ]
+no_space ds n small e (suc (suc (suc i))) h same = elim (shapes ds n small e) [ inl one ↦ omega arith | inr (inl two) ↦ omega arith | inr (inr three) ↦ omega arith ]
 
 -- a line that begins with a good number is cut behind that number
 cut_behind : (text : List ℕ) (n : ℕ) (after : List ℕ) (r : Option (Bor (List ℕ) × Bor (List ℕ))) → IsSplitOnceResult 32 text r → BeginsWithSid text n after → MatchOption r ⊥ (λ x. (x.0.now ≡ decimal n) × (x.1.now ≡ after))

@@ -3,7 +3,8 @@ use Rattle.std.proofs.Common.{◌≡◌, ℕ, ◌-◌, ◌≤◌, ◌==◌, ◌|
 use Rattle.std.proofs.lemmas.Bool.Decides.{nat_tests}
 use Rattle.std.proofs.lemmas.List.Folds.{list_any-append}
 use Rattle.std.specs.List.{list_any}
-use Rattle.session_wire.specs.Lines.{rest, lines_of, line_limit, unread_after, IsFrontOfLine}
+use Rattle.med_value.specs.Limits.{line_limit}
+use Rattle.session_wire.specs.Lines.{rest, lines_of, unread_after, IsFrontOfLine}
 use Rattle.session_wire.proofs.Pieces.{HasNoLf, rest_has_no_lf}
 use Rattle.session_wire.proofs.FirstLine.{lines_free, within_ends}
 

@@ -2,7 +2,8 @@
 use Rattle.std.proofs.Common.{◌≡◌, ℕ, List, [], ◌++◌, refl, sym, ap, ◌∙◌, subst, append_assoc, append-nil, inl, inr, Option, Some, None, Result, Ok, Err, OnErr}
 use Rattle.tokio_util.specs.declared.codec.lines_codec.LinesCodec.{LinesCodec}
 use Rattle.session_wire.specs.Finds.{IsReady}
-use Rattle.session_wire.specs.Lines.{unread_after, Lines, line, rest, closed, go_on, lines_of, line_limit}
+use Rattle.med_value.specs.Limits.{line_limit}
+use Rattle.session_wire.specs.Lines.{unread_after, Lines, line, rest, closed, go_on, lines_of}
 use Rattle.session_wire.proofs.Pieces.{lines-append}
 use Rattle.session_wire.specs.Run.{Steps, IsAnswered, Run, RunFront, Fed, BrokenOff}
 use Rattle.session_wire.specs.Replies.{closing_replies}

@@ -5,21 +5,27 @@ use Rattle.std.proofs.lemmas.Fmt.{decimal_digit, decimal_injective}
 use Rattle.std.specs.Fmt.{decimal}
 use Rattle.med_session.specs.Requests.{AskedLine, opening, sql, bye}
 use Rattle.session_wire.specs.Frames.{BeginsWithSid, IsRequest, IsFrame, IsReplySid}
-use Rattle.session_wire.proofs.Digits.{decimal_two}
+use Rattle.session_wire.proofs.Digits.{decimal_two, decimal_three}
 
 -- no space in it
 abbrev HasNoSpace : List ℕ → Type 0
 HasNoSpace [] = Unit {0}
 HasNoSpace (b ∷ bs) = (b ≢ 32) × HasNoSpace bs
 
-spaceless_number : (n : ℕ) → n < 100 → HasNoSpace (decimal n)
+spaceless_number : (n : ℕ) → n < 1000 → HasNoSpace (decimal n)
 spaceless_number n small =
     elim (cases_lt n 10) [
       | inl one ↦ subst HasNoSpace (sym (decimal_digit n one)) (λ e. omega arith, tt)
-      | inr two ↦
-          let same : n ≡ 10 * (n / 10) + n % 10 = omega arith in
-          let d : decimal n ≡ (48 + n / 10) ∷ (48 + n % 10) ∷ [] = ap decimal same ∙ decimal_two (n / 10) (n % 10) (omega arith) (omega arith) (omega arith) in
-          subst HasNoSpace (sym d) (λ e. omega arith, (λ e. omega arith, tt))
+      | inr two ↦ elim (cases_lt n 100) [
+        | inl less ↦
+            let same : n ≡ 10 * (n / 10) + n % 10 = omega arith in
+            let d : decimal n ≡ (48 + n / 10) ∷ (48 + n % 10) ∷ [] = ap decimal same ∙ decimal_two (n / 10) (n % 10) (omega arith) (omega arith) (omega arith) in
+            subst HasNoSpace (sym d) (λ e. omega arith, (λ e. omega arith, tt))
+        | inr three ↦
+            let same : n ≡ 100 * (n / 100) + 10 * (n / 10 % 10) + n % 10 = omega arith in
+            let d : decimal n ≡ (48 + n / 100) ∷ (48 + n / 10 % 10) ∷ (48 + n % 10) ∷ [] = ap decimal same ∙ decimal_three (n / 100) (n / 10 % 10) (n % 10) (omega arith) (omega arith) (omega arith) (omega arith) in
+            subst HasNoSpace (sym d) (λ e. omega arith, (λ e. omega arith, (λ e. omega arith, tt)))
+      ]
     ]
 
 cut_once : (r s a b : List ℕ) → HasNoSpace r → HasNoSpace s → r ++ 32 ∷ a ≡ s ++ 32 ∷ b → (r ≡ s) × (a ≡ b)

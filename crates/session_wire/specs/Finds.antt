@@ -5,7 +5,8 @@ use Rattle.tokio_util.specs.Codec.Lines.{gives_lines, at_line_start}
 use Rattle.tokio_util.specs.Codec.Next.{Resumes}
 use Rattle.session_wire.specs.declared.lines.FoundLine.{FoundLine}
 use Rattle.session_wire.specs.declared.lines.FoundLine.TheVariants as found
-use Rattle.session_wire.specs.Lines.{line, rest, closed, lines_of, line_limit}
+use Rattle.med_value.specs.Limits.{line_limit}
+use Rattle.session_wire.specs.Lines.{line, rest, closed, lines_of}
 
 -- the codec finds what a new one would find, whatever bytes follow
 abbrev pub IsReady : ℕ → LinesCodec → List ℕ → Type 0

@@ -3,10 +3,7 @@ use Rattle.std.specs.Prelude.{◌≡◌, ℕ, ◌≤◌, ◌==◌, nat_lt, nat_l
 use Rattle.std.specs.List.{list_any}
 use Rattle.std.specs.Str.{is_utf8}
 use Rattle.tokio_util.specs.Codec.Lines.{without_carriage_return}
-
--- a line has at most so many bytes before its LF, the CR counted
-abbrev pub line_limit : ℕ
-line_limit = 65536
+use Rattle.med_value.specs.Limits.{line_limit}
 
 -- the texts of the lines in order, and how they end
 pub data Lines : Type 0 where

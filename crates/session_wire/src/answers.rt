@@ -6,10 +6,11 @@ ghost use Rattle.session_wire.specs.Ends.{Leaves};
 
 use crate::frames::frame;
 use crate::handler::Handler;
-use crate::lines::{FoundLine, LINE_LIMIT, new_codec, next_line};
+use crate::lines::{FoundLine, new_codec, next_line};
 use crate::replies::{write_closing, write_refusal};
 use bytes::BytesMut;
 use med_session::NoRoom;
+use med_value::limits::LINE_LIMIT;
 
 // How the lines of a piece end.
 #[derive(Clone, Copy, Debug)]

@@ -1,10 +1,10 @@
 //! The engine as what answers requests.
 
 use crate::handler::Handler;
-use fdw_api::interface::Wrapper;
+use fdw_api::wishes::Wrapper2;
 use med_session::{Engine, NoRoom, Request, Sid};
 
-impl<W: Wrapper> Handler for Engine<W> {
+impl<W: Wrapper2> Handler for Engine<W> {
     ghost use Rattle.session_wire.specs.Engines.{EngineSteps, EngineEnds, EngineIsSound};
 
     ghost step = { λ old sid request text new. EngineSteps W.meaning old sid request text new };

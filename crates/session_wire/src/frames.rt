@@ -1,7 +1,7 @@
 //! The grammar of a request line.
 //!
 //! A line is `SID OPEN USER`, `SID Q SQL` or `SID BYE`, with one space between two parts. SID is a
-//! session's number, 1 to 64, in decimal with no leading zeros; the verbs are in upper case; SQL is any
+//! session's number, 1 to 256, in decimal with no leading zeros; the verbs are in upper case; SQL is any
 //! text, also the empty one.
 ghost use Rattle.std.specs.Prelude.{◌≡◌, ◌≢◌, ◌+◌, ◌*◌, ◌<◌, ◌≤◌, ℕ, List, IfSome, IfNone, IfOk, IfErr};
 ghost use Rattle.std.specs.Fmt.{decimal};
@@ -19,7 +19,7 @@ use thiserror::Error;
 pub struct BadFrame {
     /// The number that the reply begins with: that of the line, if it begins with a session's number
     /// and a space, else 0.
-    pub sid: u8,
+    pub sid: u16,
 }
 
 /// Reads a line. It is refused only where it is not in the grammar.
@@ -57,33 +57,35 @@ fn sid_of(digits: &[u8]) -> Option<Sid>
     Sid::new(number)
 }
 
-// The number below 100 of these digits, with no leading zero.
-fn number_of(digits: &[u8]) -> Option<u8>
+// The number below 1,000 of these digits, with no leading zero.
+fn number_of(digits: &[u8]) -> Option<u16>
     ensures some { IfSome result (λ n. digits.now ≡ decimal n) }
-    ensures none { IfNone result ((n : ℕ) → n < 100 → digits.now ≢ decimal n) }
+    ensures none { IfNone result ((n : ℕ) → n < 1000 → digits.now ≢ decimal n) }
 {
     if digits.len() == 1 {
         one_digit(digits[0])
     } else if digits.len() == 2 {
         two_digits(digits[0], digits[1])
+    } else if digits.len() == 3 {
+        three_digits(digits[0], digits[1], digits[2])
     } else {
         None
     }
 }
 
 // The number of this digit.
-fn one_digit(unit: u8) -> Option<u8>
+fn one_digit(unit: u8) -> Option<u16>
     ensures some { IfSome result (λ n. (n < 10) × (unit ≡ 48 + n)) }
     ensures none { IfNone result ((n : ℕ) → n < 10 → unit ≢ 48 + n) }
 {
     if unit < b'0' || b'9' < unit {
         return None;
     }
-    Some(unit - b'0')
+    Some(u16::from(unit - b'0'))
 }
 
 // The number of these two digits, with no leading zero.
-fn two_digits(ten: u8, unit: u8) -> Option<u8>
+fn two_digits(ten: u8, unit: u8) -> Option<u16>
     ensures some { IfSome result (λ n. (t : ℕ) × (u : ℕ) × (1 ≤ t) × (t < 10) × (u < 10)
         × (n ≡ 10 * t + u) × (ten ≡ 48 + t) × (unit ≡ 48 + u)) }
     ensures none { IfNone result ((t u : ℕ) → 1 ≤ t → t < 10 → u < 10 → ten ≡ 48 + t → unit ≡ 48 + u → ⊥) }
@@ -91,7 +93,20 @@ fn two_digits(ten: u8, unit: u8) -> Option<u8>
     if ten < b'1' || b'9' < ten || unit < b'0' || b'9' < unit {
         return None;
     }
-    Some((ten - b'0') * 10 + (unit - b'0'))
+    Some(u16::from(ten - b'0') * 10 + u16::from(unit - b'0'))
+}
+
+// The number of these three digits, with no leading zero.
+fn three_digits(hundred: u8, ten: u8, unit: u8) -> Option<u16>
+    ensures some { IfSome result (λ n. (h : ℕ) × (t : ℕ) × (u : ℕ) × (1 ≤ h) × (h < 10) × (t < 10) × (u < 10)
+        × (n ≡ 100 * h + 10 * t + u) × (hundred ≡ 48 + h) × (ten ≡ 48 + t) × (unit ≡ 48 + u)) }
+    ensures none { IfNone result ((h t u : ℕ) → 1 ≤ h → h < 10 → t < 10 → u < 10
+        → hundred ≡ 48 + h → ten ≡ 48 + t → unit ≡ 48 + u → ⊥) }
+{
+    if hundred < b'1' || b'9' < hundred || ten < b'0' || b'9' < ten || unit < b'0' || b'9' < unit {
+        return None;
+    }
+    Some(u16::from(hundred - b'0') * 100 + u16::from(ten - b'0') * 10 + u16::from(unit - b'0'))
 }
 
 // What stands behind the number and its space.

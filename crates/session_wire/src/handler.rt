@@ -5,7 +5,7 @@ ghost use Rattle.med_session.specs.Requests.{AskedLine};
 
 use med_session::{NoRoom, Request, Sid};
 
-/// What answers the requests of up to 64 sessions.
+/// What answers the requests of up to 256 sessions.
 pub trait Handler: Drop {
     /// From the first state, a request in the session of this number may be answered by this text, which
     /// leaves the last state.

@@ -1,19 +1,18 @@
 //! How a stream of bytes is cut into request lines.
 //!
-//! A line ends in LF, and one CR before it is dropped. It has at most 65,536 bytes before its LF, the
+//! A line ends in LF, and one CR before it is dropped. It has at most 1,048,576 bytes before its LF, the
 //! CR counted, and is UTF-8. A line that is longer, as soon as that is seen, or that is no UTF-8 closes
 //! the stream. `LinesCodec` of `tokio_util` cuts the lines.
 ghost use Rattle.std.specs.Prelude.{◌≡◌, ◌++◌, List, ℕ, IfOk};
-ghost use Rattle.session_wire.specs.Lines.{lines_of, line_limit, go_on};
+ghost use Rattle.med_value.specs.Limits.{line_limit};
+ghost use Rattle.session_wire.specs.Lines.{lines_of, go_on};
 ghost use Rattle.session_wire.specs.Finds.{Finds, IsReady};
 
 use bytes::BytesMut;
 use med_value::NoMemory;
+use med_value::limits::LINE_LIMIT;
 use std::io;
 use tokio_util::codec::{Decoder, LinesCodec, LinesCodecError};
-
-/// The most bytes that a line may have before its LF.
-pub const LINE_LIMIT: usize = 65_536;
 
 /// What stands at the front of some bytes.
 #[derive(Drop)]

@@ -6,7 +6,7 @@ use itoa::Buffer;
 use med_session::NoRoom;
 
 // Writes the reply to a line that is not in the grammar, whole or not at all: refused only where its room was not there.
-pub(crate) fn write_refusal(sid: u8, out: &mut Vec<u8>) -> Result<(), NoRoom>
+pub(crate) fn write_refusal(sid: u16, out: &mut Vec<u8>) -> Result<(), NoRoom>
     ensures ok { OnOk result (out.new.items ≡ out.old.items ++ refusal sid) }
     ensures refused { OnErr result (out.new.items ≡ out.old.items) }
     ensures full { OnErr result (vec_capacity out.old < vec_len out.old + length (refusal sid)) }

@@ -8,14 +8,14 @@ ghost use Rattle.session_wire.specs.Engines.{EngineSteps, EngineEnds, EngineRise
 ghost use Rattle.session_wire.specs.Run.{Fed, BrokenOff};
 ghost use Rattle.session_wire.specs.Worlds.{scene_of, SceneSteps, SceneEnds};
 
-use fdw_api::interface::Wrapper;
+use fdw_api::wishes::Wrapper2;
 
 /// The law of worlds: what a server feeds to an engine is, for each world that agrees with the engine
 /// before, a run of worlds over the engine's boxes that leads to the same text, to the boxes of the engine
 /// after, and to a world that agrees with it. A source's failure befalls a line only where a box counted a
 /// fault in that line, or its count stands at its end after it. So what is fed piece by piece is one run of
 /// worlds.
-pub fn worlds_follow<W: Wrapper>()
+pub fn worlds_follow<W: Wrapper2>()
     ensures fed { (old new : Engine W) (bytes text : List ℕ) (left : Option (List ℕ))
         → Fed (EngineSteps W.meaning) (EngineEnds W.meaning) old bytes text new left
         → (w : World) → Agrees (shown W.meaning old) w
@@ -32,7 +32,7 @@ pub fn worlds_follow<W: Wrapper>()
 
 /// The law of boxes: while a server feeds an engine no box comes, one goes only idle and for good, what each
 /// counts goes up alone, and boxes that rise twice have risen.
-pub fn boxes_rise<W: Wrapper>()
+pub fn boxes_rise<W: Wrapper2>()
     ensures same { (e : Engine W) → EngineRises W.meaning e e }
     ensures fed { (old new : Engine W) (bytes text : List ℕ) (left : Option (List ℕ))
         → Fed (EngineSteps W.meaning) (EngineEnds W.meaning) old bytes text new left

@@ -1,11 +1,15 @@
 -- New SQLite databases as sources.
-use Rattle.std.specs.Prelude.{◌≡◌, ℕ, Bool, true, false, List, [], Some, codes, bytes_eq}
+use Rattle.std.specs.Prelude.{◌≡◌, ℕ, Bool, true, false, List, [], Option, Some, None, codes, bytes_eq}
+use Rattle.either_source.specs.declared.EitherSource.{EitherSource}
+use Rattle.either_source.specs.declared.EitherSource.TheVariants.{First, Second}
 use Rattle.fdw_api.specs.Kinds.{Stored}
 use Rattle.fdw_api.specs.State.{BoxState}
 use Rattle.sqlite.specs.Effect.{Database}
+use Rattle.sqlite.specs.Held.{Held}
 use Rattle.sqlite_cells.specs.Layouts.{kinds_in, layout_at}
 use Rattle.sqlite_cells.specs.Tables.{entry_of}
 use Rattle.sqlite_wrapper.specs.SqliteBoxes.{IsNewSqlite}
+use Rattle.sqlite_wrapper.specs.declared.wrapper.SqliteWrapper.{SqliteWrapper}
 
 -- a new database in memory: honest, with both tables, which have no rows
 abbrev pub IsNewMemory : BoxState → Type 0
@@ -27,3 +31,10 @@ is_memory path = bytes_eq path (codes ":memory:")
 -- the new source of the database at this path
 abbrev pub IsNewDatabase : Bool → List ℕ → BoxState → Type 0
 IsNewDatabase honest path s = by_path honest (is_memory path) s
+
+-- the connection of a source of a database in a file; no other has one (`g` and `h` are what makes its store one of a source)
+abbrev pub database_in : {L F M S : Type 0} {g h : _} → EitherSource L (EitherSource F (EitherSource M (SqliteWrapper S g h))) → Option (Held S)
+database_in (First list) = None
+database_in (Second (First folder)) = None
+database_in (Second (Second (First memory))) = None
+database_in (Second (Second (Second file))) = Some file.conn

@@ -1,34 +1,39 @@
 //! A source of any kind that a program serves, and how one of each is made.
-ghost use Rattle.std.specs.Prelude.{◌≡◌, Some, IfOk, option_map, string_bytes};
+ghost use Rattle.std.specs.Prelude.{◌≡◌, false, Some, IfOk, IsSomeAnd, option_map, string_bytes};
 ghost use Rattle.fdw_api.specs.State.{IsIdle};
-ghost use Rattle.blob_store.specs.Shelves.{nothing_known};
+ghost use Rattle.blob_store.specs.Files.{folder_shelf};
 ghost use Rattle.med_catalog.specs.declared.kind.SourceKind.TheVariants.{Csv, JsonLines, Sqlite, List as Lists};
 ghost use Rattle.med_world.specs.Engine.{TakesAs};
 ghost use Rattle.list_wrapper.specs.ListBoxes.{box_of};
 ghost use Rattle.csv_wrapper.specs.CsvBoxes.{IsNewCsv};
 ghost use Rattle.jsonl_wrapper.specs.Boxes.{IsNewJsonl};
-ghost use Rattle.source_kinds.specs.Databases.{IsNewDatabase, IsNewFile, IsNewMemory};
+ghost use Rattle.sqlite.specs.Held.{state};
+ghost use Rattle.sqlite_databases.specs.Found.{ShowsKnown};
+ghost use Rattle.source_kinds.specs.Databases.{IsNewDatabase, IsNewFile, IsNewMemory, database_in, is_memory};
 ghost use Rattle.source_kinds.specs.Folders.{folder_in};
 
 use crate::law::{
     csv_takes_its_tables, jsonl_takes_its_tables, lists_take_their_tables, sqlite_takes_its_tables,
 };
-use blob_store::Folder;
+use blob_store::{Disks, Folder};
 use csv_wrapper::CsvWrapper;
 use either_source::EitherSource;
+use fdw_api::Lift;
 use fdw_api::interface::Wrapper;
 use jsonl_wrapper::JsonlWrapper;
 use list_wrapper::ListWrapper;
 use med_value::NoMemory;
 use sqlite::{Error as DatabaseError, ErrorCode, MemStore};
-use sqlite_databases::{Databases, memory_database};
+use sqlite_databases::{Databases, memory_database, open_database};
 use sqlite_wrapper::SqliteWrapper;
 use std::alloc::Global;
-use std::rt::Files;
 use thiserror::Error;
 
+/// The files of a folder, on a disk of the runtime.
+type Files<V> = Folder<<V as Disks>::Disk>;
+
 /// A folder of CSV files or of JSON lines.
-type FolderSource<V> = EitherSource<CsvWrapper<Folder<V>>, JsonlWrapper<Folder<V>>>;
+type FolderSource<V> = EitherSource<Lift<CsvWrapper<Files<V>>>, Lift<JsonlWrapper<Files<V>>>>;
 
 /// A SQLite database in memory, or in a file.
 type DatabaseSource<V> = EitherSource<
@@ -51,7 +56,7 @@ pub enum OpenFault {
 }
 
 /// A list as a source. It shows what the list shows.
-pub fn of_list<V: Files + Clone + Databases + Drop>(list: ListWrapper) -> Source<V>
+pub fn of_list<V: Databases + Disks>(list: ListWrapper) -> Source<V>
     ensures is { ⟦<Source<V> as Wrapper>⟧.meaning result ≡ box_of list }
     ensures takes { TakesAs Lists (⟦<Source<V> as Wrapper>⟧.meaning result) }
 {
@@ -59,13 +64,17 @@ pub fn of_list<V: Files + Clone + Databases + Drop>(list: ListWrapper) -> Source
     EitherSource::First(list)
 }
 
-/// The CSV files of the folder at this path as a source, on which nothing is bound yet. Of what stands in the folder nothing is known.
-pub fn of_csv<V: Files + Clone + Databases + Drop>(
+/// The CSV files of the folder at this path as a source, on which nothing is bound yet: what a new disk has there is what it shows.
+///
+/// # Errors
+///
+/// Memory was refused.
+pub fn of_csv<V: Databases + Disks>(
     alloc: Global,
     rt: &V,
     path: &str,
 ) -> Result<Source<V>, NoMemory>
-    ensures new { IfOk result (λ s. IsNewCsv (⟦<Source<V> as Wrapper>⟧.meaning s) (nothing_known 0)) }
+    ensures new { IfOk result (λ s. IsNewCsv (⟦<Source<V> as Wrapper>⟧.meaning s) (folder_shelf (V.Disks.stands rt.now) path.now 0)) }
     ensures idle { IfOk result (λ s. IsIdle (⟦<Source<V> as Wrapper>⟧.meaning s)) }
     ensures takes { IfOk result (λ s. TakesAs Csv (⟦<Source<V> as Wrapper>⟧.meaning s)) }
     ensures path { IfOk result (λ s. option_map (λ f. string_bytes f.path) (folder_in s) ≡ Some path.now) }
@@ -73,17 +82,21 @@ pub fn of_csv<V: Files + Clone + Databases + Drop>(
     csv_takes_its_tables();
     let files = Folder::new(alloc, rt, path)?;
     let csv = CsvWrapper::new(alloc, files);
-    Ok(EitherSource::Second(EitherSource::First(EitherSource::First(csv))))
+    Ok(EitherSource::Second(EitherSource::First(EitherSource::First(Lift::new(csv)))))
 }
 
-/// The files of JSON lines of the folder at this path as a source, on which nothing is bound yet. Of what stands in the folder nothing is
-/// known.
-pub fn of_jsonl<V: Files + Clone + Databases + Drop>(
+/// The files of JSON lines of the folder at this path as a source, on which nothing is bound yet: what a new disk has there is what it
+/// shows.
+///
+/// # Errors
+///
+/// Memory was refused.
+pub fn of_jsonl<V: Databases + Disks>(
     alloc: Global,
     rt: &V,
     path: &str,
 ) -> Result<Source<V>, NoMemory>
-    ensures new { IfOk result (λ s. IsNewJsonl (⟦<Source<V> as Wrapper>⟧.meaning s) (nothing_known 0)) }
+    ensures new { IfOk result (λ s. IsNewJsonl (⟦<Source<V> as Wrapper>⟧.meaning s) (folder_shelf (V.Disks.stands rt.now) path.now 0)) }
     ensures idle { IfOk result (λ s. IsIdle (⟦<Source<V> as Wrapper>⟧.meaning s)) }
     ensures takes { IfOk result (λ s. TakesAs JsonLines (⟦<Source<V> as Wrapper>⟧.meaning s)) }
     ensures path { IfOk result (λ s. option_map (λ f. string_bytes f.path) (folder_in s) ≡ Some path.now) }
@@ -91,7 +104,7 @@ pub fn of_jsonl<V: Files + Clone + Databases + Drop>(
     jsonl_takes_its_tables();
     let files = Folder::new(alloc, rt, path)?;
     let jsonl = JsonlWrapper::new(alloc, files);
-    Ok(EitherSource::Second(EitherSource::First(EitherSource::Second(jsonl))))
+    Ok(EitherSource::Second(EitherSource::First(EitherSource::Second(Lift::new(jsonl)))))
 }
 
 // Why the database of an error is not opened.
@@ -106,7 +119,7 @@ fn open_fault(error: DatabaseError) -> OpenFault
 }
 
 // A new database in memory as a source.
-fn of_memory<V: Files + Clone + Databases + Drop>(alloc: Global) -> Result<Source<V>, OpenFault>
+fn of_memory<V: Databases + Disks>(alloc: Global) -> Result<Source<V>, OpenFault>
     ensures { IfOk result (λ s. IsNewMemory (⟦<Source<V> as Wrapper>⟧.meaning s)) }
 {
     let conn = match memory_database(alloc) {
@@ -120,14 +133,12 @@ fn of_memory<V: Files + Clone + Databases + Drop>(alloc: Global) -> Result<Sourc
 }
 
 // The database in the file at this path as a source.
-fn of_file<V: Files + Clone + Databases + Drop>(
-    alloc: Global,
-    rt: &V,
-    path: &str,
-) -> Result<Source<V>, OpenFault>
-    ensures { IfOk result (λ s. IsNewFile V.Store.SourceStore.honest (⟦<Source<V> as Wrapper>⟧.meaning s)) }
+fn of_file<V: Databases + Disks>(alloc: Global, rt: &V, path: &str) -> Result<Source<V>, OpenFault>
+    ensures new { IfOk result (λ s. IsNewFile V.Store.SourceStore.honest (⟦<Source<V> as Wrapper>⟧.meaning s)) }
+    ensures file { IfOk result (λ s. IsSomeAnd (database_in s)
+        (λ conn. ShowsKnown (V.Databases.stands rt.now path.now) (state V.Store.Store conn))) }
 {
-    let conn = match rt.open_database(path) {
+    let conn = match open_database(rt, path) {
         Ok(conn) => conn,
         Err(error) => return Err(open_fault(error)),
     };
@@ -138,12 +149,13 @@ fn of_file<V: Files + Clone + Databases + Drop>(
 }
 
 /// The SQLite database at this path as a source, on which nothing is bound yet: `:memory:` is a new database in memory, with the tables of
-/// orders and people, which have no rows. Any other path is that of a file.
+/// orders and people, which have no rows. Any other path is that of a file, whose database is the source's, where it is known what stands
+/// there.
 ///
 /// # Errors
 ///
 /// [`OpenFault::CannotOpen`] where the database cannot be opened, and [`OpenFault::NoMemory`] where memory was refused.
-pub fn of_sqlite<V: Files + Clone + Databases + Drop>(
+pub fn of_sqlite<V: Databases + Disks>(
     alloc: Global,
     rt: &V,
     path: &str,
@@ -151,10 +163,12 @@ pub fn of_sqlite<V: Files + Clone + Databases + Drop>(
     ensures new { IfOk result (λ s. IsNewDatabase V.Store.SourceStore.honest path.now (⟦<Source<V> as Wrapper>⟧.meaning s)) }
     ensures idle { IfOk result (λ s. IsIdle (⟦<Source<V> as Wrapper>⟧.meaning s)) }
     ensures takes { IfOk result (λ s. TakesAs Sqlite (⟦<Source<V> as Wrapper>⟧.meaning s)) }
+    ensures file { is_memory path.now ≡ false → IfOk result (λ s. IsSomeAnd (database_in s)
+        (λ conn. ShowsKnown (V.Databases.stands rt.now path.now) (state V.Store.Store conn))) }
 {
     sqlite_takes_its_tables();
     if path == ":memory:" {
-        of_memory(alloc)
+        of_memory::<V>(alloc)
     } else {
         of_file(alloc, rt, path)
     }

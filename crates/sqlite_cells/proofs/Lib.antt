@@ -4,3 +4,4 @@ pub mod Places
 pub mod Settled
 pub mod Strays
 pub mod Refused
+pub mod Found

@@ -1,5 +1,5 @@
 -- No two rows of a table have one id.
-use Rattle.std.proofs.Common.{◌≡◌, ℕ, ℤ, ◌<ℤ◌, Bool, true, false, nat_eq, List, [], ◌∷◌, map, filter, IsTrue, FitsSigned, w64, to_z, refl, ap, sym, ◌∙◌, subst, arith}
+use Rattle.std.proofs.Common.{◌≡◌, ℕ, ℤ, ◌<ℤ◌, Bool, true, false, nat_eq, List, [], ◌∷◌, map, filter, IsTrue, FitsSigned, w64, to_z, refl, ap, sym, ◌∙◌, arith}
 use Rattle.std.proofs.lemmas.Int.{ints, to_z-of_z}
 use Rattle.std.specs.List.{AllByRecursion, IsDistinct}
 use Rattle.std.specs.declared.cmp.Ordering.TheVariants.{Less}

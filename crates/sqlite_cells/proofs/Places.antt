@@ -1,6 +1,6 @@
 -- The places of the layouts by their names.
 use Rattle.std.proofs.Common.{◌≡◌, ℕ, ◌<◌, Bool, true, false, cond, List, Option, Some, None, nat_lt, refl, ap, ◌∙◌, arith, bytes_eq}
-use Rattle.std.specs.List.{position, position_or_len, IsDistinct}
+use Rattle.std.specs.List.{position_or_len, IsDistinct}
 use Rattle.std.proofs.lemmas.List.Sums.{position_or_len_is}
 use Rattle.std.proofs.lemmas.List.Quantifiers.{position-Some}
 use Rattle.std.proofs.lemmas.Map.Keys.{apart_from_distinct}

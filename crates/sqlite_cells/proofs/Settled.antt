@@ -1,5 +1,5 @@
 -- What a page that is read, or refused, is where a text is understood or is not.
-use Rattle.std.proofs.Common.{◌≡◌, ◌≢◌, ℕ, ℤ, ◌⊎◌, inl, inr, List, [], ◌++◌, Vec, Option, Some, None, Result, Ok, Err, IfOk, IfErr, OnOk, map, nat_eq, take, refl, ap, sym, ◌∙◌, subst}
+use Rattle.std.proofs.Common.{◌≡◌, ◌≢◌, ℕ, ℤ, inl, inr, List, ◌++◌, Option, Some, None, Err, map, nat_eq, take, refl, ap, sym, ◌∙◌, subst}
 use Rattle.std.proofs.Math.Logic.{∥∥₁_elim}
 use Rattle.sqlite.specs.Order.{Row as SqlRow}
 use Rattle.sqlite.specs.Effect.{Database}
@@ -11,7 +11,7 @@ use Rattle.sqlite_trees.specs.Props.{Trees-set, rows_set}
 use base.Stored.{Coded-set}
 use Rattle.sqlite_schema.specs.contracts.schema.Schema as schema
 use Rattle.sqlite_resolve.specs.declared.error.CompileError.{CompileError}
-use Rattle.sqlite_shapes.specs.Shapes.{IsPageText, range_of, command_of}
+use Rattle.sqlite_shapes.specs.Shapes.{IsPageText, range_of}
 use Rattle.sqlite_cells.specs.Layouts.{Layout}
 use Rattle.std.specs.List.{IsDistinct}
 use Rattle.std.proofs.lemmas.Map.Keys.{IsDistinct-prop}

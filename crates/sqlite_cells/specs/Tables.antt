@@ -1,11 +1,11 @@
 -- What a database holds for a layout, and the pages of its rows.
-use Rattle.std.specs.Prelude.{◌≡◌, ◌⊎◌, ℕ, ℤ, pos, ◌+ℤ◌, List, [], ◌∷◌, ◌++◌, map, length, nat_eq, if◌then◌else◌, Option, Some, None, option_map, Err}
+use Rattle.std.specs.Prelude.{◌≡◌, ◌⊎◌, ℕ, ℤ, pos, ◌+ℤ◌, List, [], ◌∷◌, map, length, nat_eq, if◌then◌else◌, Option, Some, None, option_map, Err}
 use Rattle.sqlite.specs.Effect.{Database}
 use Rattle.sqlite.specs.Schema.{Schema}
 use Rattle.sqlite.specs.Order.{Row as SqlRow}
 use Rattle.sqlite.specs.Command.{Command}
 use Rattle.sqlite.specs.Command.TheVariants.{Select}
-use Rattle.sqlite.specs.Query.{inner, left}
+use Rattle.sqlite.specs.Query.{inner}
 use Rattle.sqlite_sql.specs.Query.{Join}
 use Rattle.sqlite.specs.Listing.{understood}
 use Rattle.sqlite_trees.specs.Tree.{Trees}
@@ -15,6 +15,7 @@ use Rattle.fdw_api.specs.Scan.{TableRow}
 use Rattle.fdw_api.specs.Kinds.{Entry, Stored}
 use Rattle.sqlite_cells.specs.Layouts.{Layout, kinds_in, layout_at}
 use Rattle.sqlite_cells.specs.Cells.{rows_in, key_in}
+use Rattle.sqlite_cells.specs.Fitting.{is_of_shape}
 
 -- the tree that a page text reads; none where the text is not understood
 abbrev pub first_tree : Join → Option ℕ
@@ -47,9 +48,13 @@ entries_in db t = entries_of db (layout_at t)
 abbrev pub IsKnown : Schema → Layout → Type 0
 IsKnown schema l = ((fault : CompileError) × (understood schema l.page ≡ Err fault)) ⊎ ((tree : ℕ) × IsPageText schema l.page tree)
 
--- the entry of a table by its number: None where its page text is not understood
+-- the tree of the table that is found for a layout: none where the stored table is not of the layout's shape
+abbrev pub tree_found : Schema → Layout → Option ℕ
+tree_found schema l = if is_of_shape schema l then tree_of schema l else None
+
+-- the entry of a layout: None where no table is found for it
 abbrev pub entry_of : Database → Layout → Option Entry
-entry_of db l = option_map (λ t. Stored (kinds_in l) (map (λ r. r.cells) (rows_in l (db.trees t)))) (tree_of db.schema l)
+entry_of db l = option_map (λ t. Stored (kinds_in l) (map (λ r. r.cells) (rows_in l (db.trees t)))) (tree_found db.schema l)
 
 -- the first key behind rows of a page
 abbrev pub behind : ℤ → List SqlRow → ℤ

@@ -4,6 +4,7 @@
 
 pub mod cells;
 pub mod faults;
+pub mod fitting;
 pub mod layouts;
 pub mod pages;
 pub mod shapes;
@@ -11,6 +12,7 @@ pub mod tables;
 
 pub use cells::{Keyed, Misread, key_and_cells};
 pub use faults::fault_of;
+pub use fitting::is_of_shape;
 pub use layouts::{place_of, types_match};
 pub use pages::page_between;
 pub use shapes::{Orders, People, RemoteShape, ShapeFacts, layout_count, shape_at};

@@ -4,10 +4,12 @@ ghost use Rattle.std.specs.List.{IsDistinct};
 ghost use Rattle.sqlite.specs.Held.{state};
 ghost use Rattle.med_value.specs.declared.cause.Cause.TheVariants.{TableNotFound};
 ghost use Rattle.sqlite_cells.specs.Layouts.{layout_at};
-ghost use Rattle.sqlite_cells.specs.Tables.{IsKnown, rows_of, tree_of};
+ghost use Rattle.sqlite_cells.specs.Fitting.{is_of_shape};
+ghost use Rattle.sqlite_cells.specs.Tables.{IsKnown, rows_of, tree_found};
 ghost use Rattle.sqlite_cells.specs.Refusing.{OnlyBy};
 
 use crate::faults::fault_of;
+use crate::fitting::is_of_shape;
 use crate::layouts::page_text;
 use fdw_api::interface::Fault;
 use med_value::Cause;
@@ -25,20 +27,23 @@ fn fault_of_text(error: Error) -> Fault
     }
 }
 
-/// Finds a remote table, which is refused where it is not there (HV00R): where its page text is not understood. No two of
-/// its rows have one id. It changes nothing, also where it fails.
+/// Finds a remote table, which is refused where it is not there (HV00R): where its page text is not understood, or where the stored table
+/// is not of its shape. No two of its rows have one id. It changes nothing, also where it fails.
 pub fn find_table<S: SourceStore>(conn: &mut Connection<S>, table: u64) -> Result<(), Fault>
     requires idle { conn.old.in_transaction ≡ false }
     requires known { S.honest ≡ true → ∥ IsKnown conn.old.schema (layout_at table) ∥₁ }
     ensures once { S.honest ≡ true → IsDistinct nat_eq (map (λ r. r.id) (rows_of (state S.Store conn.old).now (layout_at table))) }
-    ensures found { S.honest ≡ true → OnOk result (tree_of (state S.Store conn.old).now.schema (layout_at table) ≢ None) }
+    ensures found { S.honest ≡ true → OnOk result (tree_found (state S.Store conn.old).now.schema (layout_at table) ≢ None) }
+    ensures fits { OnOk result (is_of_shape (state S.Store conn.old).now.schema (layout_at table) ≡ true) }
     ensures refused { IfErr result (OnlyBy (λ c. (c ≡ TableNotFound)
-        × (S.honest ≡ true → tree_of (state S.Store conn.old).now.schema (layout_at table) ≡ None))) }
+        × (S.honest ≡ true → tree_found (state S.Store conn.old).now.schema (layout_at table) ≡ None))) }
     ensures same { S.honest ≡ true → (state S.Store conn.new).now ≡ (state S.Store conn.old).now }
     ensures idle { conn.new.in_transaction ≡ false }
 {
+    let fits = is_of_shape(conn.schema(), table);
     match page_of(conn, page_text(table), 1, 0) {
-        Ok(_page) => Ok(()),
+        Ok(_page) if fits => Ok(()),
+        Ok(_page) => Err(Fault::Refused(Cause::TableNotFound)),
         Err(error) => Err(fault_of_text(error)),
     }
 }

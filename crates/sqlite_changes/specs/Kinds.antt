@@ -8,6 +8,7 @@ use Rattle.med_value.specs.Order.{datum_cmp, is_missing}
 use Rattle.med_value.specs.declared.cause.Cause.{Cause}
 use Rattle.med_value.specs.declared.cause.Cause.TheVariants.{TooLarge, NotNull, NotUnique}
 use Rattle.med_value.specs.Causes.{phase_of}
+use Rattle.med_value.specs.Limits.{row_limit}
 use Rattle.fdw_api.specs.Scan.{TableRow}
 use Rattle.fdw_api.specs.Kinds.{Held, Change, Inserts, Updates, Deletes, Refusals, Arrangement, is_of_run}
 use Rattle.fdw_api.specs.Writes.{rows_after}
@@ -75,7 +76,7 @@ runs_on false c cs one more = more
 abbrev pub write_causes : List TableRow → List Change → List Cause
 write_causes rows changes =
     with_cause (list_any lacks_key changes) NotNull (with_cause (repeats (map key_cell (rows_after no_line rows changes))) NotUnique
-    (with_cause (nat_lt 1000000 (length (rows_after no_line rows changes))) TooLarge []))
+    (with_cause (nat_lt row_limit (length (rows_after no_line rows changes))) TooLarge []))
 
 abbrev pub sqlite_refusals : Refusals
 sqlite_refusals = record {
@@ -83,5 +84,5 @@ sqlite_refusals = record {
   of_run = λ entry rows changes.
       runs_on (list_any lacks_key changes) NotNull _ mathlib.Core.Path.refl
       (runs_on (repeats (map key_cell (rows_after no_line rows changes))) NotUnique _ mathlib.Core.Path.refl
-      (runs_on (nat_lt 1000000 (length (rows_after no_line rows changes))) TooLarge [] mathlib.Core.Path.refl mathlib.Core.Path.refl));
+      (runs_on (nat_lt row_limit (length (rows_after no_line rows changes))) TooLarge [] mathlib.Core.Path.refl mathlib.Core.Path.refl));
 }

@@ -1,6 +1,7 @@
 -- What the texts that make the tables do to a database.
-use Rattle.std.proofs.Common.{◌≡◌, ◌⊎◌, ◌<◌, inl, inr, ℕ, zero, suc, List, [], ◌∷◌, Bool, true, false, Option, Some, None, option_map, map, Ok, Err, Result, OnOk, refl, sym, ap, subst, ◌∙◌, codes, arith}
+use Rattle.std.proofs.Common.{◌≡◌, ◌⊎◌, ◌<◌, inl, inr, ℕ, zero, suc, [], ◌∷◌, true, false, Option, Some, None, option_map, map, Ok, Err, Result, OnOk, refl, sym, ap, subst, ◌∙◌, codes, arith}
 use Rattle.sqlite.specs.Schema.{Schema}
+use Rattle.sqlite_schema.specs.Names.{same_name}
 use Rattle.sqlite.specs.Command.TheVariants.{CreateTable}
 use Rattle.sqlite.specs.Compile.{table_defined_by}
 use Rattle.sqlite.specs.Change.{created, next_tree, KeepsRows}
@@ -17,7 +18,8 @@ use Rattle.fdw_api.specs.Kinds.{Entry, Stored}
 use Rattle.sqlite_cells.specs.Layouts.{Layout, kinds_in, layout_at, layout_count, orders, people}
 use Rattle.sqlite_cells.specs.Cells.{rows_in}
 use Rattle.sqlite_trees.specs.Tree.{Trees}
-use Rattle.sqlite_cells.specs.Tables.{IsKnown, tree_of, entry_of}
+use Rattle.sqlite_cells.specs.Fitting.{is_of_shape}
+use Rattle.sqlite_cells.specs.Tables.{IsKnown, tree_of, tree_found, entry_of}
 use Rattle.sqlite_cells.specs.Texts.{IsTableAt, IsDeleteText, IsInsertText}
 use Rattle.sqlite_cells.specs.Shapes.{AreTexts, orders_table, people_table}
 use Rattle.sqlite_cells.proofs.Settled.{tree_is}
@@ -191,11 +193,22 @@ two_tables t u lt lu differ one = absurd (differ (sym (own_tree t lt) ∙ ap get
 pub apart : (schema : Schema) → schema ≡ both_tables → AreApart schema
 apart schema is = subst AreApart (sym is) two_tables
 
+-- each is of its shape
+fits : (t : ℕ) → is_of_shape both_tables (layout_at t) ≡ true
+unfolding same_name
+fits zero = refl
+fits (suc zero) = refl
+fits (suc (suc t)) = refl
+
+-- the tree that is found for a layout
+found_at : (t : ℕ) → tree_found both_tables (layout_at t) ≡ Some (texts_at t).0
+found_at t = rw (fits t) (tree_at t)
+
 -- a tree without rows is a table without rows
-emptied : (db : Database) (l : Layout) (tree : ℕ) → tree_of both_tables l ≡ Some tree → db.schema ≡ both_tables → db.trees tree ≡ []
+emptied : (db : Database) (l : Layout) (tree : ℕ) → tree_found both_tables l ≡ Some tree → db.schema ≡ both_tables → db.trees tree ≡ []
     → entry_of db l ≡ Some (Stored (kinds_in l) [])
 emptied db l tree at is none =
-    ap (λ s. entry_in db.trees l (tree_of s l)) is ∙ ap (entry_in db.trees l) at
+    ap (λ s. entry_in db.trees l (tree_found s l)) is ∙ ap (entry_in db.trees l) at
     ∙ ap (λ rows. Some (Stored (kinds_in l) (map (λ (r : TableRow). r.cells) (rows_in l rows)))) none
   where
     entry_in : Trees → Layout → Option ℕ → Option Entry
@@ -209,4 +222,4 @@ no_rows db (suc (suc t)) first second = second
 
 pub entries : (db : Database) (t : ℕ) → db.schema ≡ both_tables → db.trees 0 ≡ [] → db.trees 1 ≡ []
     → entry_of db (layout_at t) ≡ Some (Stored (kinds_in (layout_at t)) [])
-entries db t is first second = emptied db (layout_at t) (texts_at t).0 (tree_at t) is (no_rows db t first second)
+entries db t is first second = emptied db (layout_at t) (texts_at t).0 (found_at t) is (no_rows db t first second)

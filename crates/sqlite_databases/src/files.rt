@@ -1,22 +1,46 @@
 //! Databases in files.
-ghost use Rattle.std.specs.Prelude.{◌≡◌, ℕ, true, false, IfOk};
+ghost use Rattle.std.specs.Prelude.{◌≡◌, ℕ, true, false, List, Option, Some, IfSome, IfOk};
+ghost use Rattle.sqlite_wal.specs.Recovery.{Image};
+ghost use Rattle.sqlite.specs.Held.{state};
 ghost use Rattle.sqlite_cells.specs.Layouts.{layout_at};
 ghost use Rattle.sqlite_cells.specs.Tables.{IsKnown};
 ghost use Rattle.sqlite_writes.specs.Writable.{AreApart, IsWritable};
+ghost use Rattle.sqlite_databases.specs.Found.{ShowsKnown};
 
-use sqlite::{Connection, Error, File, FileStore};
+use sqlite::{Connection, Error};
 use sqlite_shapes::SourceStore;
 
+/// The files of a database, opened and locked, of which nothing was read yet.
+///
+/// `image` is what they hold, where that is known: the bytes of the log and of the database file.
+pub trait DatabaseFiles: Drop {
+    ghost image: { Self → Option Image };
+}
+
 /// What opens the databases of a program: its runtime, or what a test has in its place.
+///
+/// `stands` is what stands at each path as the files of a database, where that is known: a file that is missing has no bytes.
 pub trait Databases {
+    /// The files of such a database.
+    type Files: DatabaseFiles;
+
     /// Where such a database stands.
     type Store: SourceStore + Drop;
 
-    /// The database at this path, in no transaction. Of one whose store always returns what was written each layout's three texts are for one
-    /// table, of no two layouts the same, or are not understood.
+    ghost stands: { Self → List ℕ → Option Image };
+
+    /// The files of the database at this path. Those that are missing are made.
     ///
-    /// It is refused where it cannot be opened.
-    fn open_database(&self, path: &str) -> Result<Connection<Self::Store>, Error>
+    /// It is refused where they cannot be opened.
+    fn open_files(&self, path: &str) -> Result<Self::Files, Error>
+        ensures { IfSome (stands self.now path.now) (λ image. IfOk result (λ files. Self.Files.DatabaseFiles.image files ≡ Some image)) };
+
+    /// The database in these files, in no transaction. Of one whose store always returns what was written each layout's three texts are
+    /// for one table, of no two layouts the same, or are not understood.
+    ///
+    /// It is refused where it cannot be read.
+    fn connect(&self, files: Self::Files) -> Result<Connection<Self::Store>, Error>
+        ensures found { IfOk result (λ conn. ShowsKnown (Self.Files.DatabaseFiles.image files) (state Self.Store.Store conn)) }
         ensures known { (table : ℕ) → Self.Store.SourceStore.honest ≡ true
             → IfOk result (λ conn. ∥ IsKnown conn.schema (layout_at table) ∥₁) }
         ensures writable { (table : ℕ) → Self.Store.SourceStore.honest ≡ true
@@ -25,10 +49,19 @@ pub trait Databases {
         ensures idle { IfOk result (λ conn. conn.in_transaction ≡ false) };
 }
 
-impl Databases for HostRuntime {
-    type Store = FileStore<File>;
-
-    fn open_database(&self, path: &str) -> Result<Connection<FileStore<File>>, Error> {
-        Connection::open(self, path)
-    }
+/// The database at this path, in no transaction: that of the files that stand there, where these are known. Of one whose store always
+/// returns what was written each layout's three texts are for one table, of no two layouts the same, or are not understood.
+///
+/// # Errors
+///
+/// The database cannot be opened or read.
+pub fn open_database<V: Databases>(rt: &V, path: &str) -> Result<Connection<V::Store>, Error>
+    ensures file { IfOk result (λ conn. ShowsKnown (V.stands rt.now path.now) (state V.Store.Store conn)) }
+    ensures known { (table : ℕ) → V.Store.SourceStore.honest ≡ true → IfOk result (λ conn. ∥ IsKnown conn.schema (layout_at table) ∥₁) }
+    ensures writable { (table : ℕ) → V.Store.SourceStore.honest ≡ true → IfOk result (λ conn. ∥ IsWritable conn.schema table ∥₁) }
+    ensures apart { V.Store.SourceStore.honest ≡ true → IfOk result (λ conn. AreApart conn.schema) }
+    ensures idle { IfOk result (λ conn. conn.in_transaction ≡ false) }
+{
+    let files = rt.open_files(path)?;
+    rt.connect(files)
 }

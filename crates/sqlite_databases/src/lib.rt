@@ -3,6 +3,7 @@
 
 pub mod files;
 pub mod made;
+pub mod system;
 
-pub use files::Databases;
+pub use files::{Databases, open_database};
 pub use made::memory_database;

@@ -1,8 +1,7 @@
 -- What the reading of a remote table shows, from what was found of it.
-use Rattle.std.proofs.Common.{◌≡◌, ◌≢◌, ℕ, ◌<◌, Bool, true, false, ◌&&◌, if◌then◌else◌, nat_eq, nat_le, nat_lt, List, [], ◌∷◌, map, length, zero, suc, Option, Some, None, option_map, Contains, refl, ap, sym, ◌∙◌, subst, arith}
+use Rattle.std.proofs.Common.{◌≡◌, ◌≢◌, ℕ, Bool, true, false, ◌&&◌, if◌then◌else◌, nat_eq, nat_lt, List, [], ◌∷◌, map, length, zero, suc, Option, Some, None, option_map, Contains, refl, ap, sym, ◌∙◌, subst, arith}
 use Rattle.std.specs.List.{list_all}
 use Rattle.sqlite.specs.Effect.{Database}
-use Rattle.sqlite.specs.Order.{Row as SqlRow}
 use Rattle.med_value.specs.Datum.{Tuple}
 use Rattle.med_value.specs.Causes.{phase_of}
 use Rattle.med_value.specs.declared.value.ColType.{ColType}
@@ -15,7 +14,8 @@ use Rattle.fdw_api.specs.Kinds.{Entry, Bytes, Stored, is_late, is_of_run}
 use Rattle.sqlite_cells.specs.Layouts.{Layout, kinds_in, same_type, types_match}
 use Rattle.sqlite_cells.specs.Cells.{rows_in}
 use Rattle.sqlite_surveys.specs.Readings.{content_causes, read_rows, sqlite_reading}
-use Rattle.sqlite_cells.specs.Tables.{tree_of, entry_of, entries_of, entries_at}
+use Rattle.sqlite_cells.specs.Tables.{tree_found, entry_of, entries_of, entries_at}
+use Rattle.sqlite_cells.proofs.Found.{found_is_read}
 use Rattle.sqlite_surveys.specs.Surveys.{causes_in}
 
 pub run_is_late : (phase : Option ℕ) → is_of_run phase ≡ true → is_late phase ≡ true
@@ -48,9 +48,9 @@ matched : (own declared : List ColType) (rows : List Tuple) → types_match own 
 matched own declared rows e = rw e (ap (λ (k : List ColType). content_causes (list_all (row_fits k) rows) (nat_lt 1000000 (length rows))) (same_types own declared e))
 
 -- a table that was found, of the columns' types, shows the causes of its rows
-pub opened : (db : Database) (l : Layout) (declared : List ColType) → tree_of db.schema l ≢ None → types_match (kinds_in l) declared ≡ true
+pub opened : (db : Database) (l : Layout) (declared : List ColType) → tree_found db.schema l ≢ None → types_match (kinds_in l) declared ≡ true
     → (sqlite_reading declared (entry_of db l)).causes ≡ causes_in l (entries_of db l)
-opened db l declared ne e = go (tree_of db.schema l) ne
+opened db l declared ne e = go (tree_found db.schema l) ne ∙ ap (λ (o : Option ℕ). causes_in l (entries_at db.trees o)) (found_is_read db.schema l ne)
   where
     go : (o : Option ℕ) → o ≢ None
         → (sqlite_reading declared (option_map (λ t. Stored (kinds_in l) (map (λ r. r.cells) (rows_in l (db.trees t)))) o)).causes ≡ causes_in l (entries_at db.trees o)
@@ -61,9 +61,9 @@ alone : (c : Cause) → Contains (c ∷ []) c
 alone c = (0, omega arith, refl)
 
 -- of a table that was found, of other columns: HV004
-pub mismatched : (db : Database) (l : Layout) (declared : List ColType) → tree_of db.schema l ≢ None → types_match (kinds_in l) declared ≡ false
+pub mismatched : (db : Database) (l : Layout) (declared : List ColType) → tree_found db.schema l ≢ None → types_match (kinds_in l) declared ≡ false
     → Contains (sqlite_reading declared (entry_of db l)).causes InvalidDataType
-mismatched db l declared ne e = go (tree_of db.schema l) ne
+mismatched db l declared ne e = go (tree_found db.schema l) ne
   where
     go : (o : Option ℕ) → o ≢ None
         → Contains (sqlite_reading declared (option_map (λ t. Stored (kinds_in l) (map (λ r. r.cells) (rows_in l (db.trees t)))) o)).causes InvalidDataType
@@ -71,7 +71,7 @@ mismatched db l declared ne e = go (tree_of db.schema l) ne
     go (Some t) ne = rw e (alone InvalidDataType)
 
 -- of a table that is not there: HV00R
-pub not_found : (db : Database) (l : Layout) (declared : List ColType) (c : Cause) → tree_of db.schema l ≡ None → c ≡ TableNotFound
+pub not_found : (db : Database) (l : Layout) (declared : List ColType) (c : Cause) → tree_found db.schema l ≡ None → c ≡ TableNotFound
     → Contains (sqlite_reading declared (entry_of db l)).causes c
 not_found db l declared c none is = rw (none, is) (alone TableNotFound)
 

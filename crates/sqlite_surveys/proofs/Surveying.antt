@@ -1,14 +1,13 @@
 -- Pages of a table that is read whole.
-use Rattle.std.proofs.Common.{◌≡◌, ℕ, ℤ, pos, zero, suc, ◌+ℤ◌, ◌+◌, ◌<◌, ◌≤◌, Bool, true, false, ◌&&◌, if◌then◌else◌, nat_eq, nat_lt, int_lt, List, [], ◌∷◌, ◌++◌, map, filter, take, length, Option, Some, None, IfSome, Contains, refl, ap, sym, ◌∙◌, subst, arith, get_or}
+use Rattle.std.proofs.Common.{◌≡◌, ℕ, ℤ, pos, zero, suc, ◌+ℤ◌, ◌+◌, ◌<◌, ◌≤◌, Bool, true, false, ◌&&◌, if◌then◌else◌, nat_eq, nat_lt, int_lt, List, [], ◌∷◌, ◌++◌, map, take, length, Option, Some, None, IfSome, Contains, refl, ap, sym, ◌∙◌, subst, arith, get_or}
 use Rattle.std.proofs.lemmas.Int.{ints}
 use Rattle.std.proofs.lemmas.List.{take_more, length-append, length-map}
 use Rattle.std.specs.List.{list_all}
-use Rattle.std.specs.Ordering.{is_ge, is_le, int_cmp}
 use Rattle.sqlite.specs.Order.{Row as SqlRow}
 use Rattle.sqlite_shapes.specs.Shapes.{range_of, key_of}
 use Rattle.med_value.specs.declared.cause.Cause.{Cause}
 use Rattle.med_value.specs.declared.cause.Cause.TheVariants.{InvalidText, TooLarge}
-use Rattle.fdw_api.specs.Scan.{TableRow, row_fits}
+use Rattle.fdw_api.specs.Scan.{row_fits}
 use Rattle.sqlite_cells.specs.Layouts.{Layout, kinds_in}
 use Rattle.sqlite_surveys.specs.Readings.{content_causes}
 use Rattle.sqlite_cells.specs.Cells.{key_in, greatest, least, row_in, rows_in}

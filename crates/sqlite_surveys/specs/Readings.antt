@@ -7,6 +7,7 @@ use Rattle.med_value.specs.declared.value.ColType.{ColType}
 use Rattle.med_value.specs.declared.cause.Cause.{Cause}
 use Rattle.med_value.specs.declared.cause.Cause.TheVariants.{TableNotFound, InvalidDataType, InvalidText, TooLarge}
 use Rattle.med_value.specs.Causes.{phase_of}
+use Rattle.med_value.specs.Limits.{row_limit}
 use Rattle.fdw_api.specs.Scan.{row_fits}
 use Rattle.fdw_api.specs.Kinds.{Entry, Bytes, Stored, Held, Reading, all_fit, is_late}
 use Rattle.sqlite_cells.specs.Layouts.{types_match}
@@ -35,7 +36,7 @@ abbrev pub sqlite_reading : List ColType → Option Entry → Reading
 sqlite_reading declared None = record { causes = TableNotFound ∷ []; rows = []; late = refl }
 sqlite_reading declared (Some (Bytes content)) = record { causes = TableNotFound ∷ []; rows = []; late = refl }
 sqlite_reading declared (Some (Stored own rows)) =
-    if types_match own declared then read_rows (list_all (row_fits declared) rows) (nat_lt 1000000 (length rows)) rows
+    if types_match own declared then read_rows (list_all (row_fits declared) rows) (nat_lt row_limit (length rows)) rows
     else record { causes = InvalidDataType ∷ []; rows = []; late = refl }
 
 -- rows that are read fit the columns
@@ -56,12 +57,12 @@ read_fit kinds rows false true e none = absurd (subst IsEmptyList (sym none) tt)
 read_fit kinds rows false false e none = absurd (subst IsEmptyList (sym none) tt)
 
 pub stored_fit : (kinds : List ColType) (rows : List Tuple) (b : Bool)
-    → (if b then read_rows (list_all (row_fits kinds) rows) (nat_lt 1000000 (length rows)) rows
+    → (if b then read_rows (list_all (row_fits kinds) rows) (nat_lt row_limit (length rows)) rows
     else record { causes = InvalidDataType ∷ []; rows = []; late = refl }).causes ≡ []
-    → all_fit kinds (if b then read_rows (list_all (row_fits kinds) rows) (nat_lt 1000000 (length rows)) rows
+    → all_fit kinds (if b then read_rows (list_all (row_fits kinds) rows) (nat_lt row_limit (length rows)) rows
     else record { causes = InvalidDataType ∷ []; rows = []; late = refl }).rows ≡ true
 stored_fit kinds rows true none =
-    read_fit kinds rows (list_all (row_fits kinds) rows) (nat_lt 1000000 (length rows)) refl none
+    read_fit kinds rows (list_all (row_fits kinds) rows) (nat_lt row_limit (length rows)) refl none
 stored_fit kinds rows false none = refl
 
 pub sqlite_fits : (kinds : List ColType) (entry : Option Entry) → (sqlite_reading kinds entry).causes ≡ []

@@ -1,11 +1,12 @@
 -- How a table is read whole when it is bound: page by page, up to 1,000,000 rows.
-use Rattle.std.specs.Prelude.{◌≡◌, ◌-◌, ℕ, ℤ, pos, ◌+ℤ◌, Bool, true, false, ◌&&◌, List, [], ◌∷◌, ◌++◌, map, length, Option, Some, None, if◌then◌else◌, nat_eq, nat_lt, int_lt}
+use Rattle.std.specs.Prelude.{◌≡◌, ◌-◌, ℕ, ℤ, pos, ◌+ℤ◌, Bool, true, ◌&&◌, List, [], ◌∷◌, ◌++◌, map, length, Option, Some, None, if◌then◌else◌, nat_eq, nat_lt, int_lt}
 use Rattle.std.specs.List.{list_all}
 use Rattle.sqlite.specs.Order.{Row as SqlRow}
 use Rattle.sqlite_shapes.specs.Shapes.{range_of}
 use Rattle.med_value.specs.declared.cause.Cause.{Cause}
 use Rattle.fdw_api.specs.Scan.{row_fits}
 use Rattle.med_value.specs.Datum.{Tuple}
+use Rattle.med_value.specs.Limits.{row_limit}
 use Rattle.sqlite.specs.Effect.{Database}
 use Rattle.fdw_api.specs.Kinds.{Column, kinds_of}
 use Rattle.sqlite_cells.specs.Layouts.{Layout, kinds_in, layout_at}
@@ -24,7 +25,7 @@ tuples_in l entries = map (λ r. r.cells) (rows_in l entries)
 -- the causes that the rows of a table show when it is bound
 abbrev pub causes_in : Layout → List SqlRow → List Cause
 causes_in l entries =
-    content_causes (list_all (row_fits (kinds_in l)) (tuples_in l entries)) (nat_lt 1000000 (length (tuples_in l entries)))
+    content_causes (list_all (row_fits (kinds_in l)) (tuples_in l entries)) (nat_lt row_limit (length (tuples_in l entries)))
 
 -- the causes that a table shows which is bound with these columns
 abbrev pub causes_of : List Column → Database → ℕ → List Cause

@@ -1,16 +1,18 @@
 //! Remote tables as they are found when they are bound.
-ghost use Rattle.std.specs.Prelude.{◌≡◌, true, false, [], map, nat_eq, IfErr, OnOk};
+ghost use Rattle.std.specs.Prelude.{◌≡◌, ◌≤◌, true, false, [], length, map, nat_eq, IfOk, IfErr, OnOk};
 ghost use Rattle.std.specs.List.{IsDistinct};
 ghost use Rattle.sqlite.specs.Held.{state};
 ghost use Rattle.med_value.specs.Causes.{phase_of};
+ghost use Rattle.med_value.specs.Limits.{row_limit};
 ghost use Rattle.fdw_api.specs.Calls.{IsLeast};
 ghost use Rattle.fdw_api.specs.Kinds.{column_of, kinds_of, is_late};
 ghost use Rattle.sqlite_cells.specs.Layouts.{layout_at, kinds_in, types_match};
+ghost use Rattle.sqlite_cells.specs.Fitting.{is_of_shape};
 ghost use Rattle.sqlite_cells.specs.Tables.{IsKnown, rows_of};
 ghost use Rattle.sqlite_cells.specs.Refusing.{OnlyBy};
 ghost use Rattle.sqlite_surveys.specs.Surveys.{causes_of};
 
-use crate::surveys::survey;
+use crate::surveys::read_whole;
 use fdw_api::interface::Fault;
 use med_value::{Cause, ColumnDef};
 use sqlite::Connection;
@@ -18,22 +20,25 @@ use sqlite_cells::{find_table, types_match};
 use sqlite_shapes::SourceStore;
 use std::alloc::Global;
 
-/// Looks at a remote table whole, which is to be bound with these columns.
+/// Looks at a remote table whole, which is to be bound with these columns, and answers how many rows it has.
 ///
-/// It is refused where there is no such table (HV00R), where the number or types of the columns are not its own (HV004), where a cell is
-/// not of its column's type or a text has U+0000 (22P02), or where there are more than 1,000,000 rows (54000), by one of the least phase.
-/// No two rows have one id. It changes nothing, also where it fails.
+/// It is refused where there is no such table, or one of another shape (HV00R), where the number or types of the columns are not its own
+/// (HV004), where a cell is not of its column's type or a text has U+0000 (22P02), or where there are more than 1,000,000 rows (54000), by
+/// one of the least phase. No two rows have one id. It changes nothing, also where it fails.
 pub fn open_table<S: SourceStore>(
     alloc: Global,
     conn: &mut Connection<S>,
     table: u64,
     columns: &[ColumnDef],
-) -> Result<(), Fault>
+) -> Result<usize, Fault>
     requires idle { conn.old.in_transaction ≡ false }
     requires known { S.honest ≡ true → ∥ IsKnown conn.old.schema (layout_at table) ∥₁ }
     ensures types { OnOk result (types_match (kinds_in (layout_at table)) (kinds_of (map column_of columns.now)) ≡ true) }
+    ensures fits { OnOk result (is_of_shape (state S.Store conn.old).now.schema (layout_at table) ≡ true) }
     ensures ok { S.honest ≡ true
         → OnOk result (causes_of (map column_of columns.now) (state S.Store conn.old).now table ≡ []) }
+    ensures count { S.honest ≡ true → IfOk result (λ n. n ≡ length (rows_of (state S.Store conn.old).now (layout_at table))) }
+    ensures few { IfOk result (λ n. n ≤ row_limit) }
     ensures once { S.honest ≡ true → IsDistinct nat_eq (map (λ r. r.id) (rows_of (state S.Store conn.old).now (layout_at table))) }
     ensures refused { IfErr result (OnlyBy (λ c. (is_late (phase_of c) ≡ true) × (S.honest ≡ true
         → IsLeast (causes_of (map column_of columns.now) (state S.Store conn.old).now table) c))) }
@@ -47,5 +52,5 @@ pub fn open_table<S: SourceStore>(
     if !types_match(table, columns) {
         return Err(Fault::Refused(Cause::InvalidDataType));
     }
-    survey(alloc, conn, table)
+    read_whole(alloc, conn, table)
 }

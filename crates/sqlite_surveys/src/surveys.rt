@@ -4,6 +4,7 @@ ghost use Rattle.std.specs.List.{list_all};
 ghost use Rattle.sqlite.specs.Held.{state};
 ghost use Rattle.med_value.specs.Causes.{phase_of};
 ghost use Rattle.med_value.specs.declared.cause.Cause.TheVariants.{InvalidText};
+ghost use Rattle.med_value.specs.Limits.{row_limit};
 ghost use Rattle.fdw_api.specs.Calls.{not_refused};
 ghost use Rattle.fdw_api.specs.Kinds.{is_of_run};
 ghost use Rattle.sqlite_shapes.specs.Shapes.{range_of};
@@ -15,13 +16,11 @@ ghost use Rattle.sqlite_surveys.specs.Surveys.{fits_in, last_key, next_after, Is
 
 use fdw_api::interface::Fault;
 use med_value::Cause;
+use med_value::limits::ROW_LIMIT;
 use sqlite::{Connection, Row};
 use sqlite_cells::{Misread, key_and_cells, page_between};
 use sqlite_shapes::SourceStore;
 use std::alloc::Global;
-
-// The most rows that a table may have.
-const MOST_ROWS: usize = 1_000_000;
 
 // Reads the rows of a page, and answers the key of the last one.
 fn check_rows(alloc: Global, table: u64, page: &[Row]) -> Result<Option<i64>, Misread>
@@ -106,9 +105,9 @@ fn survey_page<S: SourceStore>(
     }
 }
 
-/// Reads a table whole, and answers how many rows it has. It is refused where a cell is not of its column's type (22P02), or where there are
-/// more than 1,000,000 rows (54000).
-fn read_whole<S: SourceStore>(
+/// Reads a table whole, and answers how many rows it has. It is refused where a cell is not of its column's type (22P02), or where there
+/// are more than 1,000,000 rows (54000).
+pub(crate) fn read_whole<S: SourceStore>(
     alloc: Global,
     conn: &mut Connection<S>,
     table: u64,
@@ -117,7 +116,7 @@ fn read_whole<S: SourceStore>(
     requires known { S.honest ≡ true → ∥ IsKnown conn.old.schema (layout_at table) ∥₁ }
     ensures ok { S.honest ≡ true → OnOk result (causes_in (layout_at table) (entries_in (state S.Store conn.old).now table) ≡ []) }
     ensures count { S.honest ≡ true → IfOk result (λ n. n ≡ length (rows_of (state S.Store conn.old).now (layout_at table))) }
-    ensures few { IfOk result (λ n. n ≤ 1000000) }
+    ensures few { IfOk result (λ n. n ≤ row_limit) }
     ensures refused { IfErr result (OnlyBy (λ c. (is_of_run (phase_of c) ≡ true)
         × (S.honest ≡ true → Contains (causes_in (layout_at table) (entries_in (state S.Store conn.old).now table)) c))) }
     ensures same { S.honest ≡ true → (state S.Store conn.new).now ≡ (state S.Store conn.old).now }
@@ -133,32 +132,11 @@ fn read_whole<S: SourceStore>(
                 next = page.next;
             }
         }
-        if count > MOST_ROWS {
+        if count > ROW_LIMIT {
             return Err(Fault::Refused(Cause::TooLarge));
         }
     }
     Ok(count)
-}
-
-/// Reads a table whole. It is refused where a cell is not of its column's type (22P02), or where there are more than 1,000,000 rows
-/// (54000).
-pub(crate) fn survey<S: SourceStore>(
-    alloc: Global,
-    conn: &mut Connection<S>,
-    table: u64,
-) -> Result<(), Fault>
-    requires idle { conn.old.in_transaction ≡ false }
-    requires known { S.honest ≡ true → ∥ IsKnown conn.old.schema (layout_at table) ∥₁ }
-    ensures ok { S.honest ≡ true → OnOk result (causes_in (layout_at table) (entries_in (state S.Store conn.old).now table) ≡ []) }
-    ensures refused { IfErr result (OnlyBy (λ c. (is_of_run (phase_of c) ≡ true)
-        × (S.honest ≡ true → Contains (causes_in (layout_at table) (entries_in (state S.Store conn.old).now table)) c))) }
-    ensures same { S.honest ≡ true → (state S.Store conn.new).now ≡ (state S.Store conn.old).now }
-    ensures idle { conn.new.in_transaction ≡ false }
-{
-    match read_whole(alloc, conn, table) {
-        Ok(_count) => Ok(()),
-        Err(fault) => Err(fault),
-    }
 }
 
 /// The number of rows of a table whose rows are of its types, and at most 1,000,000. It changes nothing, also where it fails.
@@ -172,7 +150,7 @@ pub fn count_rows<S: SourceStore>(
     requires idle { conn.old.in_transaction ≡ false }
     requires known { S.honest ≡ true → ∥ IsKnown conn.old.schema (layout_at table) ∥₁ }
     ensures count { S.honest ≡ true → IfOk result (λ n. n ≡ length (rows_of (state S.Store conn.old).now (layout_at table))) }
-    ensures few { IfOk result (λ n. n ≤ 1000000) }
+    ensures few { IfOk result (λ n. n ≤ row_limit) }
     ensures refused { IfErr result not_refused }
     ensures same { S.honest ≡ true → (state S.Store conn.new).now ≡ (state S.Store conn.old).now }
     ensures idle { conn.new.in_transaction ≡ false }

@@ -7,6 +7,8 @@ mod asked;
 #[cfg(test)]
 mod boxes;
 #[cfg(test)]
+mod drawer;
+#[cfg(test)]
 mod keys;
 #[cfg(test)]
 mod limits;

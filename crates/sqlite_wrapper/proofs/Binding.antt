@@ -17,7 +17,8 @@ use Rattle.fdw_api.specs.Calls.{CanBind, Binds, BindCause, IsLeast, Refuses, Ref
 use Rattle.sqlite_cells.specs.Layouts.{Layout, kinds_in, layout_at, layout_count, place_of, types_match}
 use Rattle.sqlite_cells.proofs.Places.{place_named}
 use Rattle.sqlite_cells.specs.Cells.{row_in, rows_in, least, greatest}
-use Rattle.sqlite_cells.specs.Tables.{tree_of, entry_of, rows_of, entries_at}
+use Rattle.sqlite_cells.specs.Tables.{tree_found, entry_of, rows_of, entries_at}
+use Rattle.sqlite_cells.proofs.Found.{found_is_read}
 use Rattle.sqlite_cells.specs.Refusing.{OnlyBy}
 use Rattle.sqlite_surveys.specs.Readings.{plain_rows, sqlite_reading}
 use Rattle.sqlite_surveys.specs.Surveys.{causes_of}
@@ -46,12 +47,20 @@ typed_rows l declared rs e = rw e (sym (held_rows l rs))
 
 read_are : (db : Database) (l : Layout) (declared : List ColType) → types_match (kinds_in l) declared ≡ true → (sqlite_reading declared (entry_of db l)).causes ≡ []
     → map held (rows_of db l) ≡ (sqlite_reading declared (entry_of db l)).rows
-read_are db l declared m none = go (tree_of db.schema l) none
+read_are db l declared m none = found none (go (tree_found db.schema l) none)
   where
     go : (o : Option ℕ) → (sqlite_reading declared (option_map (λ t. Stored (kinds_in l) (map (λ r. r.cells) (rows_in l (db.trees t)))) o)).causes ≡ []
         → map held (rows_in l (entries_at db.trees o)) ≡ (sqlite_reading declared (option_map (λ t. Stored (kinds_in l) (map (λ r. r.cells) (rows_in l (db.trees t)))) o)).rows
     go None e = absurd (subst IsNone (sym e) tt)
     go (Some t) e = sym (typed_rows l declared (range_of least greatest (db.trees t)) m)
+
+    there : (o : Option ℕ) → (sqlite_reading declared (option_map (λ t. Stored (kinds_in l) (map (λ r. r.cells) (rows_in l (db.trees t)))) o)).causes ≡ [] → o ≢ None
+    there None e = absurd (subst IsNone (sym e) tt)
+    there (Some t) e = λ is. absurd (let f = is in cc)
+
+    found : (sqlite_reading declared (entry_of db l)).causes ≡ [] → map held (rows_in l (entries_at db.trees (tree_found db.schema l))) ≡ (sqlite_reading declared (entry_of db l)).rows
+        → map held (rows_of db l) ≡ (sqlite_reading declared (entry_of db l)).rows
+    found e rows = ap (λ (o : Option ℕ). map held (rows_in l (entries_at db.trees o))) (sym (found_is_read db.schema l (there (tree_found db.schema l) e))) ∙ rows
 
 not_marked : (t : ℕ) (b : Bool) (remote : List ℕ) → ((x : BoxTable) → marked_bound b t ≡ Some x → x.remote ≢ remote) → (layout_at t).name ≡ remote → b ≡ false
 not_marked t true remote free e = absurd (free (bound_of t) refl e)

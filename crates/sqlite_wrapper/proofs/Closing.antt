@@ -18,13 +18,15 @@ use Rattle.staged_changes.specs.Staged.{change_is, write_is}
 use Rattle.staged_changes.specs.declared.changes.StagedWrite.{StagedWrite}
 use Rattle.sqlite_cells.specs.Cells.{rows_in}
 use Rattle.sqlite_cells.specs.Layouts.{Layout, kinds_in, layout_at, layout_count, place_of}
+use Rattle.sqlite_cells.specs.Fitting.{is_of_shape}
 use Rattle.sqlite_cells.specs.Refusing.{OnlyBy}
-use Rattle.sqlite_cells.specs.Tables.{IsKnown, entries_at, entries_in, entries_of, entry_of, rows_of, tree_of}
+use Rattle.sqlite_cells.specs.Tables.{IsKnown, entries_at, entries_in, entries_of, entry_of, rows_of, tree_found, tree_of}
 use Rattle.sqlite_changes.specs.Kinds.{write_causes}
 use Rattle.sqlite_writes.specs.Writable.{AreApart}
 use Rattle.sqlite_wrapper.specs.Boxes.{allows, bound_of, entry_at, given_of, held_in, marked_bound, rows_at, scan_is, scan_rows, sqlite_state, to_come}
 use Rattle.sqlite_wrapper.specs.Rewrites.{Rewrites}
 use Rattle.sqlite_wrapper.specs.declared.scans.KeyScan.{KeyScan}
+use Rattle.sqlite_cells.proofs.Found.{found_is_read}
 use Rattle.sqlite_cells.proofs.Places.{name_place, place_named}
 use Rattle.sqlite_wrapper.proofs.Bound.{bound_within}
 use Rattle.sqlite_wrapper.proofs.Kept.{within_count}
@@ -37,9 +39,9 @@ is_less : (m n : ℕ) → nat_lt m n ≡ true → m < n
 is_less m n e = grind (arith, e)
 
 -- one of them is there: each other stands elsewhere
-differ : (schema : Schema) (t u : ℕ) → AreApart schema → tree_of schema (layout_at t) ≢ None → nat_lt t layout_count ≡ true → nat_lt u layout_count ≡ true → u ≢ t
+differ : (schema : Schema) (t u : ℕ) → AreApart schema → tree_found schema (layout_at t) ≢ None → nat_lt t layout_count ≡ true → nat_lt u layout_count ≡ true → u ≢ t
     → tree_of schema (layout_at u) ≢ tree_of schema (layout_at t)
-differ schema t u apart there p q ne = λ e. there (apart t u (is_less t layout_count p) (is_less u layout_count q) (λ same. ne (sym same)) (sym e))
+differ schema t u apart there p q ne = λ e. there (found_is_read schema (layout_at t) there ∙ apart t u (is_less t layout_count p) (is_less u layout_count q) (λ same. ne (sym same)) (sym e))
 
 place_is : (t : ℕ) → nat_lt t layout_count ≡ true → place_of (layout_at t).name ≡ Some t
 place_is t p = name_place t (is_less t layout_count p)
@@ -51,8 +53,10 @@ held_cells [] = refl
 held_cells (x ∷ xs) = ap (λ cs. x.cells ∷ cs) (held_cells xs)
 
 -- a table that is there holds its types and rows
-entry_there : (d : Database) (l : Layout) → tree_of d.schema l ≢ None → entry_of d l ≡ Some (Stored (kinds_in l) (map (λ (r : TableRow). r.cells) (rows_of d l)))
-entry_there d l there = go (tree_of d.schema l) there
+entry_there : (d : Database) (l : Layout) → tree_found d.schema l ≢ None → entry_of d l ≡ Some (Stored (kinds_in l) (map (λ (r : TableRow). r.cells) (rows_of d l)))
+entry_there d l there =
+    go (tree_found d.schema l) there
+    ∙ ap (λ (o : Option ℕ). Some (Stored (kinds_in l) (map (λ (r : TableRow). r.cells) (rows_in l (entries_at d.trees o))))) (found_is_read d.schema l there)
   where
     go : (o : Option ℕ) → o ≢ None → option_map (λ tr. Stored (kinds_in l) (map (λ (r : TableRow). r.cells) (rows_in l (d.trees tr)))) o
         ≡ Some (Stored (kinds_in l) (map (λ (r : TableRow). r.cells) (rows_in l (entries_at d.trees o))))
@@ -62,13 +66,19 @@ entry_there d l there = go (tree_of d.schema l) there
 -- the same entries under the same schema are the same table
 entry_same : (new old : Database) (l : Layout) → new.schema ≡ old.schema → entries_of new l ≡ entries_of old l → entry_of new l ≡ entry_of old l
 entry_same new old l schema same =
-    go (tree_of new.schema l) (same ∙ ap (λ s. entries_at old.trees (tree_of s l)) (sym schema))
-    ∙ ap (λ s. option_map (λ tr. Stored (kinds_in l) (map (λ (r : TableRow). r.cells) (rows_in l (old.trees tr)))) (tree_of s l)) schema
+    go (is_of_shape new.schema l) (tree_of new.schema l) (same ∙ ap (λ s. entries_at old.trees (tree_of s l)) (sym schema))
+    ∙ ap (λ s. option_map (λ tr. Stored (kinds_in l) (map (λ (r : TableRow). r.cells) (rows_in l (old.trees tr)))) (tree_found s l)) schema
   where
-    go : (o : Option ℕ) → entries_at new.trees o ≡ entries_at old.trees o → option_map (λ tr. Stored (kinds_in l) (map (λ (r : TableRow). r.cells) (rows_in l (new.trees tr)))) o
+    each : (o : Option ℕ) → entries_at new.trees o ≡ entries_at old.trees o → option_map (λ tr. Stored (kinds_in l) (map (λ (r : TableRow). r.cells) (rows_in l (new.trees tr)))) o
         ≡ option_map (λ tr. Stored (kinds_in l) (map (λ (r : TableRow). r.cells) (rows_in l (old.trees tr)))) o
-    go None e = refl
-    go (Some tr) e = ap (λ (es : List SqlRow). Some (Stored (kinds_in l) (map (λ (r : TableRow). r.cells) (rows_in l es)))) e
+    each None e = refl
+    each (Some tr) e = ap (λ (es : List SqlRow). Some (Stored (kinds_in l) (map (λ (r : TableRow). r.cells) (rows_in l es)))) e
+
+    go : (b : Bool) (o : Option ℕ) → entries_at new.trees o ≡ entries_at old.trees o
+        → option_map (λ tr. Stored (kinds_in l) (map (λ (r : TableRow). r.cells) (rows_in l (new.trees tr)))) (if b then o else None)
+        ≡ option_map (λ tr. Stored (kinds_in l) (map (λ (r : TableRow). r.cells) (rows_in l (old.trees tr)))) (if b then o else None)
+    go true o e = each o e
+    go false o e = refl
 
 marked_some : (b : Bool) (t : ℕ) → IsSome (marked_bound b t) → marked_bound b t ≡ Some (bound_of t)
 marked_some true t e = refl
@@ -107,7 +117,7 @@ module _ (honest : Bool) (db after : Database) (bound : List Bool) (scans : BTre
     others : (u : ℕ) → nat_lt u layout_count ≡ true → u ≢ t → entries_in after u ≡ entries_in db u
     others u p ne = made.others u (known u) (differ db.schema t u apart made.there within p ne)
 
-    same_rows : (u : ℕ) → u ≢ t → rows_at after u ≡ rows_at db u
+    pub same_rows : (u : ℕ) → u ≢ t → rows_at after u ≡ rows_at db u
     same_rows u ne = go (nat_lt u layout_count) refl
       where
         go : (b : Bool) → nat_lt u layout_count ≡ b → (if b then rows_of after (layout_at u) else []) ≡ (if b then rows_of db (layout_at u) else [])
@@ -135,7 +145,7 @@ module _ (honest : Bool) (db after : Database) (bound : List Bool) (scans : BTre
     image : held_in after (layout_at t).name ≡ Known (Some (Stored (kinds_in (layout_at t)) (map (λ (r : Held). r.cells) (map held (rows_at after t)))))
     image =
         ap (λ o. Known (entry_at after o)) (place_is t within)
-        ∙ ap Known (entry_there after (layout_at t) (subst (λ (s : Schema). tree_of s (layout_at t) ≢ None) (sym made.schema) made.there))
+        ∙ ap Known (entry_there after (layout_at t) (subst (λ (s : Schema). tree_found s (layout_at t) ≢ None) (sym made.schema) made.there))
         ∙ ap (λ cs. Known (Some (Stored (kinds_in (layout_at t)) cs))) (sym (held_cells (rows_of after (layout_at t))) ∙ rw within refl)
 
     written : Written old (write_is write) (sqlite_state honest after bound scans None next pulled faults)

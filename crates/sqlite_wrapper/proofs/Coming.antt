@@ -1,5 +1,5 @@
 -- The rows of a key range are rows that a scan may give.
-use Rattle.std.proofs.Common.{◌≡◌, ℤ, pos, ◌+ℤ◌, ◌≤ℤ◌, Bool, true, false, cond, not, ◌&&◌, if◌then◌else◌, int_le, List, [], ◌∷◌, map, filter, FitsSigned, w64, refl, ap, sym, ◌∙◌, arith}
+use Rattle.std.proofs.Common.{◌≡◌, ℤ, pos, ◌+ℤ◌, ◌≤ℤ◌, Bool, true, false, cond, not, ◌&&◌, if◌then◌else◌, int_le, List, [], ◌∷◌, map, filter, FitsSigned, w64, None, refl, ap, sym, ◌∙◌, arith}
 use Rattle.std.proofs.lemmas.Int.{ints}
 use Rattle.std.proofs.lemmas.List.Sorted.{IsPermutation-filter_both}
 use Rattle.std.proofs.lemmas.List.Elements.{filter_passes, All-weaker}
@@ -11,6 +11,7 @@ use Rattle.med_value.specs.Datum.{Tuple, Whole}
 use Rattle.fdw_api.specs.Scan.{Spec, RestrictionForm, TableRow, GivenRow, IsComing, meets, meets_all, meets_exact, given_row}
 use Rattle.fdw_api.specs.declared.scan.Agree.{Agree}
 use Rattle.fdw_api.specs.declared.scan.Agree.TheVariants.{Ignored, Hint, Exact}
+use Rattle.fdw_api.proofs.Unpromised.{any_order, all_first}
 use Rattle.sqlite_cells.specs.Layouts.{Layout}
 use Rattle.sqlite_cells.specs.Cells.{row_in, rows_in, least, greatest}
 use Rattle.sqlite_wrapper.specs.Boxes.{given_of}
@@ -46,7 +47,7 @@ pub span_is : (r : KeyRange) (k : ℤ) (o : Bool) → o ≡ (r.open && int_le r.
 span_is r k true e = grind (arith, ints)
 span_is r k false e = grind (arith, ints)
 
-module _ (l : Layout) (spec : Spec) (params : Tuple) (low high : ℤ) (from : least ≤ℤ low) (to : high ≤ℤ greatest)
+module _ (l : Layout) (spec : Spec) (unordered : spec.order ≡ []) (unlimited : spec.limit ≡ None) (params : Tuple) (low high : ℤ) (from : least ≤ℤ low) (to : high ≤ℤ greatest)
     (keys : (k : ℤ) (rest : Tuple) → FitsSigned w64 k → between low high k ≡ meets_exact spec.offered spec.answers params (Whole k ∷ rest)) where
   abbrev passes : TableRow → Bool
   passes r = meets_exact spec.offered spec.answers params r.cells
@@ -84,5 +85,6 @@ module _ (l : Layout) (spec : Spec) (params : Tuple) (low high : ℤ) (from : le
     parts = IsPermutation-filter_both passes (λ r. not (passes r)) (λ r. refl) (rows_in l entries);
     failing = All-weaker _ _ (λ r e. exact_fails spec.offered spec.answers params r.cells e) _ (filter_passes (λ r. not (passes r)) (rows_in l entries));
     exact = filter_passes passes (rows_in l entries);
-    is = shows (range_of low high entries) ∙ ap (map (given_row spec)) (sym (same entries));
+    sorted = any_order spec.order unordered (filter passes (rows_in l entries));
+    is = shows (range_of low high entries) ∙ ap (map (given_row spec)) (sym (same entries) ∙ sym (all_first spec.limit unlimited (filter passes (rows_in l entries))));
   }

@@ -5,6 +5,7 @@ use Rattle.fdw_api.specs.State.{Staging}
 use Rattle.sqlite_cells.specs.Layouts.{layout_count}
 use Rattle.sqlite_writes.specs.Writable.{AreApart, IsWritable}
 use Rattle.sqlite_wrapper.specs.Changes.{names_rows}
+use Rattle.sqlite_wrapper.specs.Counts.{AreCounts}
 
 -- a place among as many marks as there are layouts is the number of one
 pub within_count : (t : ℕ) (marks : List Bool) → length marks ≡ layout_count → t < length marks → nat_lt t layout_count ≡ true
@@ -24,3 +25,8 @@ apart_after honest db after same apart h = subst (λ (d : Database). AreApart d.
 pub there_after : (honest : Bool) (db after : Database) (staged : Option Staging) → (honest ≡ true → after ≡ db) → (honest ≡ true → names_rows db staged ≡ true)
     → honest ≡ true → names_rows after staged ≡ true
 there_after honest db after staged same there h = subst (λ (d : Database). names_rows d staged ≡ true) (sym (same h)) (there h)
+
+-- the numbers of rows that are held are as good where the database is as before
+pub counts_after : (honest : Bool) (db after : Database) (counts : List (Option ℕ)) → (honest ≡ true → after ≡ db) → (honest ≡ true → AreCounts db counts)
+    → honest ≡ true → AreCounts after counts
+counts_after honest db after counts same are h = subst (λ (d : Database). AreCounts d counts) (sym (same h)) (are h)

@@ -11,3 +11,4 @@ pub mod NewSources
 pub mod Kept
 pub mod Rewriting
 pub mod Closing
+pub mod Counted

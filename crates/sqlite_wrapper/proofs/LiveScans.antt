@@ -218,7 +218,7 @@ module _ (honest : Bool) (bound : List Bool) (staged : Option StagedWrite) where
         let k : (k : ℤ) (rest : Tuple) → FitsSigned w64 k → between (lowest s) s.high k ≡ meets_exact spec.offered spec.answers params (Whole k ∷ rest) =
         λ k rest fits. between_same (lowest s) _ s.high r.high k low_is new.high ∙ span_is r k s.open new.open_is ∙ begun.keys k rest fits in
         subst (IsComing (rows_of db (layout_at t)) spec params) (sym gives)
-        (comes (layout_at t) spec params (lowest s) s.high (subst (λ (z : ℤ). least ≤ℤ z) (sym low_is) (above s.open)) (subst (λ (z : ℤ). z ≤ℤ greatest) (sym new.high) high_is) k (entries_of db (layout_at t)))
+        (comes (layout_at t) spec (ap (λ (x : Spec). x.order) (sym new.spec_is)) (ap (λ (x : Spec). x.limit) (sym new.spec_is)) params (lowest s) s.high (subst (λ (z : ℤ). least ≤ℤ z) (sym low_is) (above s.open)) (subst (λ (z : ℤ). z ≤ℤ greatest) (sym new.high) high_is) k (entries_of db (layout_at t)))
 
     few_left : from_to (lowest s) s.high ≤ 2 ^ 64
     few_left = few_keys (lowest s) s.high (subst (λ (z : ℤ). least ≤ℤ z) (sym low_is) (above s.open)) (subst (λ (z : ℤ). z ≤ℤ greatest) (sym new.high) high_is)

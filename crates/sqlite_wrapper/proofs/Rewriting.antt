@@ -1,6 +1,8 @@
 -- A write as a rewrite of a table's entries.
-use Rattle.std.proofs.Common.{◌≡◌, ◌≢◌, ◌∙◌, ℕ, ◌+◌, ◌<◌, ◌≤◌, ℤ, Bool, true, false, List, [], None, map, length, nat_eq, nat_lt, Contains, Result, Ok, Err, OnOk, refl, sym, ap, subst, arith}
+use Rattle.std.proofs.Common.{◌≡◌, ◌≢◌, ◌∙◌, ℕ, ◌+◌, ◌-◌, ◌<◌, ◌≤◌, ℤ, Bool, true, false, List, [], None, map, length, nat_eq, nat_lt, Contains, Result, Ok, Err, OnOk, refl, sym, ap, subst, arith}
 use Rattle.std.specs.List.{IsDistinct, list_any}
+use Rattle.std.proofs.lemmas.List.{length-map}
+use Rattle.std.proofs.lemmas.List.Sorted.{length_permutation}
 use Rattle.sqlite.specs.Effect.{Database}
 use Rattle.med_value.specs.Datum.{Tuple}
 use Rattle.med_value.specs.declared.cause.Cause.{Cause}
@@ -11,8 +13,8 @@ use Rattle.fdw_api.specs.Writes.{rows_after}
 use Rattle.sqlite.specs.Order.{Row as SqlRow}
 use Rattle.sqlite_cells.specs.Layouts.{layout_at}
 use Rattle.sqlite_cells.specs.Cells.{rows_in}
-use Rattle.sqlite_cells.specs.Tables.{rows_of, entries_in, tree_of}
-use Rattle.sqlite_changes.specs.Kinds.{in_key_order, key_cell, lacks_key, no_line, repeats, with_cause, write_causes}
+use Rattle.sqlite_cells.specs.Tables.{rows_of, entries_in, tree_found}
+use Rattle.sqlite_changes.specs.Kinds.{in_key_order, order_permutes, key_cell, lacks_key, no_line, repeats, with_cause, write_causes}
 use Rattle.fdw_api.specs.declared.interface.Fault.{Fault}
 use Rattle.fdw_api.specs.declared.interface.Fault.TheVariants.{NoMemory, Source, Refused}
 use Rattle.sqlite_cells.specs.Refusing.{OnlyBy}
@@ -65,7 +67,7 @@ module _ (old : Database) (t : ℕ) (changes : List Change) where
   repeated law e = rw (sym law ∙ e) (second_cause (list_any lacks_key changes) (nat_lt 1000000 (length after)))
 
   -- exactly the changes are made
-  pub rewrites : (new : Database) (count fresh gone : ℕ) → new.schema ≡ old.schema → tree_of old.schema (layout_at t) ≢ None
+  pub rewrites : (new : Database) (count fresh gone : ℕ) → new.schema ≡ old.schema → tree_found old.schema (layout_at t) ≢ None
       → entries_in new t ≡ rewritten (keys_gone changes) (rows_come changes) entries → KeepsTables old new t
       → list_any lacks_key changes ≡ false → repeats_key (keys_gone changes) (rows_come changes) entries ≡ false
       → count ≡ length rows → fresh ≡ length (rows_come changes) → gone ≡ length (keys_gone changes) → count + fresh ≤ 1000000 + gone
@@ -85,6 +87,15 @@ module _ (old : Database) (t : ℕ) (changes : List Change) where
     where
       few : nat_lt 1000000 (length after) ≡ false
       few = grind (arith, count_is, fresh_is, gone_is, count_law, le)
+
+  -- so many rows stand in a table after its changes are made
+  pub rows_left : (new : Database) (count fresh gone left : ℕ) → Rewrites old new t changes
+      → count ≡ length rows → fresh ≡ length (rows_come changes) → gone ≡ length (keys_gone changes) → left ≡ count + fresh - gone
+      → length after + length (keys_gone changes) ≡ length rows + length (rows_come changes) → left ≡ length (rows_of new (layout_at t))
+  rows_left new count fresh gone left made count_is fresh_is gone_is left_is law =
+      let all : length (rows_of new (layout_at t)) ≡ length after =
+      sym (length-map (rows_of new (layout_at t)) held) ∙ ap length made.rows ∙ length_permutation after (in_key_order after) (order_permutes after) in
+      grind (arith, all, count_is, fresh_is, gone_is, left_is, law)
 
 -- ---- by what a call came to
 

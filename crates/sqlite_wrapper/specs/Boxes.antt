@@ -120,7 +120,7 @@ sqlite_content db scans = record {
 -- a refused call uses no ticket number up
 abbrev pub sqlite_state : Bool → Database → List Bool → BTreeMap ℕ KeyScan → Option StagedWrite → ℕ → ℕ → ℕ → BoxState
 sqlite_state honest db bound scans staged next pulled faults = record {
-  nature = record { kind = sqlite_kind; honest = honest; skips = false };
+  nature = record { kind = sqlite_kind; honest = honest; skips = false; promises = false };
   ledger = sqlite_ledger bound scans staged next pulled faults;
   content = sqlite_content db scans;
 }

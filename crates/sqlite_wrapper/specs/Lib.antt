@@ -4,3 +4,4 @@ pub mod Boxes
 pub mod Pages
 pub mod SqliteBoxes
 pub mod Rewrites
+pub mod Counts

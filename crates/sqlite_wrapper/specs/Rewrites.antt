@@ -5,7 +5,7 @@ use Rattle.sqlite.specs.Effect.{Database}
 use Rattle.fdw_api.specs.Kinds.{Change, held}
 use Rattle.fdw_api.specs.Writes.{rows_after}
 use Rattle.sqlite_cells.specs.Layouts.{layout_at}
-use Rattle.sqlite_cells.specs.Tables.{rows_of, tree_of}
+use Rattle.sqlite_cells.specs.Tables.{rows_of, tree_found}
 use Rattle.sqlite_changes.specs.Kinds.{in_key_order, no_line, write_causes}
 use Rattle.sqlite_writes.specs.Writable.{KeepsTables}
 
@@ -13,7 +13,7 @@ use Rattle.sqlite_writes.specs.Writable.{KeepsTables}
 -- id of its own, and the other table has the rows that it had
 pub record Rewrites (old new : Database) (t : ℕ) (changes : List Change) : Type 0 where
   pub schema : new.schema ≡ old.schema
-  pub there : tree_of old.schema (layout_at t) ≢ None
+  pub there : tree_found old.schema (layout_at t) ≢ None
   pub no_cause : write_causes (rows_of old (layout_at t)) changes ≡ []
   pub rows : map held (rows_of new (layout_at t)) ≡ in_key_order (rows_after no_line (rows_of old (layout_at t)) changes)
   pub once : IsDistinct nat_eq (map (λ r. r.id) (rows_of new (layout_at t)))

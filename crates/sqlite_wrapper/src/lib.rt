@@ -1,6 +1,7 @@
 //! SQLite databases as sources of foreign tables.
 #![tactic(auto)]
 
+mod counts;
 mod rows;
 mod scans;
 pub mod wrapper;

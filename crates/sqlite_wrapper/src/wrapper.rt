@@ -10,13 +10,16 @@ ghost use Rattle.sqlite_cells.specs.Layouts.{layout_count};
 ghost use Rattle.staged_changes.specs.Staged.{write_is};
 ghost use Rattle.sqlite_wrapper.specs.Changes.{NamesOnce, named_is_prop, names_rows, write_fits};
 ghost use Rattle.sqlite_writes.specs.Writable.{AreApart, IsWritable};
+ghost use Rattle.sqlite_wrapper.specs.Counts.{AreCounts, AreFew};
 ghost use Rattle.sqlite_wrapper.specs.Boxes.{is_allowed, scan_is, sqlite_state};
 
+use crate::counts::{count_of, forget_count, put_count};
 use crate::rows::{GivenNext, faults_after, next_of, read_page};
 use crate::scans::{KeyScan, begun_again, new_scan, pass_row, put_scan, spoil};
 use crate::writing::write_rows;
 use fdw_api::interface::{Counts, Fault, RowId, SourceRow, TableOption, Ticket, Wrapper};
 use fdw_api::scan::{Agreement, Restriction, ScanSpec, copy_values};
+use fdw_api::wishes::{Agreement2, ScanSpec2, Wish, Wrapper2};
 use key_ranges::answers_for;
 use med_value::{Cause, ColumnDef, NoMemory, Row, TableNo, Value};
 use sqlite::Connection;
@@ -37,6 +40,8 @@ use std::collections::BTreeMap;
 pub struct SqliteWrapper<S: SourceStore + Drop> {
     conn: Connection<S>,
     bound: Vec<bool>,
+    /// The number of rows of each table, where it is known.
+    row_counts: Vec<Option<usize>>,
     scans: BTreeMap<u64, KeyScan>,
     staged: Option<StagedWrite>,
     next: u64,
@@ -49,6 +54,8 @@ pub struct SqliteWrapper<S: SourceStore + Drop> {
     ghost named: { NamesOnce (option_map write_is staged) } by { named_is_prop (option_map write_is staged) },
     ghost there: { S.honest ≡ true → names_rows (state S.Store conn).now (option_map write_is staged) ≡ true },
     ghost typed_write: { IsTrue (write_fits (option_map write_is staged)) },
+    ghost counts: { S.honest ≡ true → AreCounts (state S.Store conn).now row_counts.items },
+    ghost few: { AreFew row_counts.items },
     ghost allowed: { (k : ℕ) (s : KeyScan) → tree.get nat_cmp scans k ≡ Some s → is_allowed (scan_is s) ≡ true },
     ghost fresh: { (k : ℕ) → next ≤ k → tree.get nat_cmp scans k ≡ None },
 }
@@ -65,13 +72,16 @@ impl<S: SourceStore + Drop> SqliteWrapper<S> {
         requires idle { conn.in_transaction ≡ false }
         requires writable { (table : ℕ) → S.honest ≡ true → ∥ IsWritable conn.schema table ∥₁ }
         requires apart { S.honest ≡ true → AreApart conn.schema }
-        ensures { IfOk result (λ w. IsNewSqlite S.honest (state S.Store conn).now
+        ensures conn { IfOk result (λ w. w.conn ≡ conn) }
+        ensures new { IfOk result (λ w. IsNewSqlite S.honest (state S.Store conn).now
             (sqlite_state S.honest (state S.Store w.conn).now w.bound.items w.scans w.staged w.next w.pulled w.faults)) }
     {
         let bound = vec![in alloc; false; layout_count() as usize]?;
+        let row_counts = vec![in alloc; None; layout_count() as usize]?;
         Ok(SqliteWrapper {
             conn,
             bound,
+            row_counts,
             scans: BTreeMap::new(alloc),
             staged: None,
             next: 0,
@@ -98,10 +108,14 @@ impl<S: SourceStore + Drop> Wrapper for SqliteWrapper<S> {
         let Some(number) = place_of(remote) else {
             return Err(Fault::Refused(Cause::TableNotFound));
         };
-        if let Err(fault) = open_table(alloc, &mut self.conn, number, columns) {
-            self.faults = faults_after(self.faults, fault);
-            return Err(fault);
-        }
+        let count = match open_table(alloc, &mut self.conn, number, columns) {
+            Ok(count) => count,
+            Err(fault) => {
+                self.faults = faults_after(self.faults, fault);
+                return Err(fault);
+            }
+        };
+        put_count(&mut self.row_counts, number, Some(count));
         self.bound[number as usize] = true;
         Ok(TableNo { number })
     }
@@ -227,9 +241,15 @@ impl<S: SourceStore + Drop> Wrapper for SqliteWrapper<S> {
         if !keep {
             return Ok(());
         }
-        match write_rows(alloc, &mut self.conn, write.table, write.changes) {
-            Ok(()) => Ok(()),
+        let table = write.table;
+        let held = count_of(&self.row_counts, table);
+        match write_rows(alloc, &mut self.conn, table, held, write.changes) {
+            Ok(count) => {
+                put_count(&mut self.row_counts, table, Some(count));
+                Ok(())
+            }
             Err(fault) => {
+                forget_count(&mut self.row_counts, table, &fault);
                 self.faults = faults_after(self.faults, fault);
                 Err(fault)
             }
@@ -243,5 +263,34 @@ impl<S: SourceStore + Drop> Wrapper for SqliteWrapper<S> {
             pulled: self.pulled,
             faults: self.faults,
         }
+    }
+}
+
+impl<S: SourceStore + Drop> Wrapper2 for SqliteWrapper<S> {
+    /// Promises no order and no limit.
+    fn plan2(
+        &self,
+        alloc: Global,
+        t: TableNo,
+        wanted: &[usize],
+        offered: &[Restriction],
+        _wish: &Wish,
+    ) -> Result<Agreement2, Fault> {
+        let base = self.plan(alloc, t, wanted, offered)?;
+        Ok(Agreement2 {
+            base,
+            ordered: false,
+            limited: false,
+        })
+    }
+
+    fn begin2(
+        &mut self,
+        alloc: Global,
+        t: TableNo,
+        spec: &ScanSpec2,
+        params: &[Value],
+    ) -> Result<Ticket, Fault> {
+        self.begin(alloc, t, &spec.base, params)
     }
 }

@@ -6,6 +6,7 @@ pub mod Tallies
 pub mod Counted
 pub mod Steady
 pub mod Reaching
+pub mod Searching
 pub mod Texts
 pub mod Forms
 pub mod Safe

@@ -16,6 +16,7 @@ use Rattle.fdw_api.specs.Calls.{Begins, IsOpen, Iterates, Breaks, Ends, CanResca
 use Rattle.fdw_api.specs.Writes.{CanModify, Opens, CanChange, has_id}
 use Rattle.fdw_api.specs.declared.interface.Fault.{Fault}
 use Rattle.fdw_api.specs.declared.interface.SourceRow.{SourceRow}
+use Rattle.fdw_api.proofs.Unpromised.{all_first}
 use Rattle.probe_wrapper.proofs.CallLemmas.{open_is_live}
 use Rattle.wrapper_tests.proofs.CallLemmas.{given_is_open, given_keeps, given_tables, begun_keeps, broken_is_live}
 
@@ -30,9 +31,9 @@ or_first : (b c : Bool) → b ≡ true → (b || c) ≡ true
 or_first true c e = refl
 or_first false c e = absurd cc
 
--- the first row to come is in the table
-coming_is_there : (rows : List TableRow) (spec : Spec) (params : Tuple) (row : GivenRow) (rest : List GivenRow) → IsComing rows spec params (row ∷ rest) → has_id rows row.id ≡ true
-coming_is_there rows spec params row rest c = list_any-IsPermutation (λ r. nat_eq row.id r.id) rows (c.taken ++ c.left_out) c.parts ∙ go c.taken c.is
+-- the first row to come is in the table, where no limit is promised
+coming_is_there : (rows : List TableRow) (spec : Spec) (params : Tuple) (row : GivenRow) (rest : List GivenRow) → IsComing rows spec params (row ∷ rest) → spec.limit ≡ None → has_id rows row.id ≡ true
+coming_is_there rows spec params row rest c all = list_any-IsPermutation (λ r. nat_eq row.id r.id) rows (c.taken ++ c.left_out) c.parts ∙ go c.taken (c.is ∙ ap (map (given_row spec)) (all_first spec.limit all c.taken))
   where
     go : (taken : List TableRow) → row ∷ rest ≡ map (given_row spec) taken → list_any (λ r. nat_eq row.id r.id) (taken ++ c.left_out) ≡ true
     go [] e = absurd cc
@@ -68,8 +69,8 @@ can_modify_still old begun given ended t spec params n row can b g e = record {
         (sym (begun_keeps old begun t spec params n q b w.1) ∙ sym (given_keeps begun given n q row g w.1) ∙ sym (ap (λ z. finmap.get z.live q) e.ledger ∙ taken_other given.ledger.live n q w.1) ∙ is)
 
 -- and the row that was given may be deleted
-pub can_delete_given : (old begun given ended opened : BoxState) (t : ℕ) (spec : Spec) (params : Tuple) (n : ℕ) (row : SourceRow) → CanModify ended t → Begins old t spec params n begun → Iterates begun n (Some row) given → Ends given n ended → Opens ended t opened → CanChange opened (Deletes row.id.number)
-can_delete_given old begun given ended opened t spec params n row can b g e o = at_table (table_of ended t) refl can.is_bound
+pub can_delete_given : (old begun given ended opened : BoxState) (t : ℕ) (spec : Spec) (params : Tuple) (n : ℕ) (row : SourceRow) → CanModify ended t → Begins old t spec params n begun → Iterates begun n (Some row) given → Ends given n ended → Opens ended t opened → spec.limit ≡ None → CanChange opened (Deletes row.id.number)
+can_delete_given old begun given ended opened t spec params n row can b g e o all = at_table (table_of ended t) refl can.is_bound
   where
     back : (s u : BoxState) → u.nature ≡ s.nature → is_honest u → is_honest s
     back s u same h = ap (λ (x : Nature). x.honest) (sym same) ∙ h
@@ -82,7 +83,7 @@ can_delete_given old begun given ended opened t spec params n row can b g e o = 
         let h_old = back old begun b.nature h_begun in
         let same : rows_of opened t ≡ rows_of old t = (o.leaves h_ended).rows t (λ x. x) ∙ (e.leaves h_given).rows t (λ x. x) ∙ (g.leaves h_begun).rows t (λ x. x) ∙ (b.leaves h_old).rows t (λ x. x) in
         ap (λ (l : List TableRow). has_id l row.id.number) same
-        ∙ coming_is_there (rows_of old t) spec params _ _ (subst (λ (l : List GivenRow). IsComing (rows_of old t) spec params l) (g.coming h_begun) (b.coming h_old))
+        ∙ coming_is_there (rows_of old t) spec params _ _ (subst (λ (l : List GivenRow). IsComing (rows_of old t) spec params l) (g.coming h_begun) (b.coming h_old)) all
 
     at_table : (x : Option BoxTable) → table_of ended t ≡ x → IsSome x → CanChange opened (Deletes row.id.number)
     at_table None is some = absurd cc

@@ -2,8 +2,11 @@
 ghost use Rattle.std.specs.Prelude.{◌≡◌, [], List, IsSome};
 ghost use Rattle.fdw_api.specs.Kinds.{Column};
 ghost use Rattle.fdw_api.specs.State.{IsIdle, table_of};
+ghost use Rattle.fdw_api.specs.Lifting.{lifted};
+ghost use Rattle.either_source.specs.Either.{box_of_either};
 ghost use Rattle.probe_wrapper.specs.Counting.{counted};
 ghost use Rattle.probe_wrapper.specs.Shy.{shied, asked_of};
+ghost use Rattle.probe_wrapper.specs.Vague.{vague};
 ghost use Rattle.probe_wrapper.specs.Failing.{failed};
 ghost use Rattle.probe_wrapper.specs.Shuffled.{reordered, turns_of};
 
@@ -12,9 +15,11 @@ use crate::parameters::read_by_part;
 use crate::reads::{
     begin_two, read, read_above_one, read_again, read_in_turn, read_two, write_counts,
 };
+use either_source::EitherSource;
 use fdw_api::interface::Wrapper;
+use fdw_api::lift::Lift;
 use med_value::TableNo;
-use probe_wrapper::{Counting, Failing, Shuffled, Shy};
+use probe_wrapper::{Counting, Failing, Shuffled, Shy, Vague};
 use std::alloc::Global;
 use std::test::Fail;
 
@@ -52,6 +57,42 @@ pub fn in_shuffled<W: Wrapper>(alloc: Global, inner: W) -> Shuffled<W>
     ensures free { (columns : List Column) → (reordered (W.meaning result.inner) (turns_of result.scans) result.pulled).nature.kind.objections columns [] ≡ [] }
 {
     Shuffled::new(alloc, inner)
+}
+
+pub fn in_vague<W: Wrapper>(alloc: Global, inner: W) -> Vague<W>
+    requires idle { IsIdle (W.meaning inner) }
+    requires free { (columns : List Column) → (W.meaning inner).nature.kind.objections columns [] ≡ [] }
+    ensures idle { IsIdle (vague (W.meaning result.inner) (asked_of result.scans)) }
+    ensures free { (columns : List Column) → (vague (W.meaning result.inner) (asked_of result.scans)).nature.kind.objections columns [] ≡ [] }
+{
+    Vague::new(alloc, inner)
+}
+
+pub fn in_lift<W: Wrapper>(inner: W) -> Lift<W>
+    requires idle { IsIdle (W.meaning inner) }
+    requires free { (columns : List Column) → (W.meaning inner).nature.kind.objections columns [] ≡ [] }
+    ensures idle { IsIdle (lifted (W.meaning result.inner)) }
+    ensures free { (columns : List Column) → (lifted (W.meaning result.inner)).nature.kind.objections columns [] ≡ [] }
+{
+    Lift::new(inner)
+}
+
+pub fn in_first<W: Wrapper>(inner: W) -> EitherSource<W, W>
+    requires idle { IsIdle (W.meaning inner) }
+    requires free { (columns : List Column) → (W.meaning inner).nature.kind.objections columns [] ≡ [] }
+    ensures idle { IsIdle (box_of_either W.meaning W.meaning result) }
+    ensures free { (columns : List Column) → (box_of_either W.meaning W.meaning result).nature.kind.objections columns [] ≡ [] }
+{
+    EitherSource::First(inner)
+}
+
+pub fn in_second<W: Wrapper>(inner: W) -> EitherSource<W, W>
+    requires idle { IsIdle (W.meaning inner) }
+    requires free { (columns : List Column) → (W.meaning inner).nature.kind.objections columns [] ≡ [] }
+    ensures idle { IsIdle (box_of_either W.meaning W.meaning result) }
+    ensures free { (columns : List Column) → (box_of_either W.meaning W.meaning result).nature.kind.objections columns [] ≡ [] }
+{
+    EitherSource::Second(inner)
 }
 
 /// The calls of a row: how the orders are bound, and how they are read then.
@@ -128,6 +169,7 @@ fn answered_in<W: Wrapper>(
         "" => answered(inner, alloc, calls),
         "counting" => answered(in_counting(inner), alloc, calls),
         "shy" => answered(in_shy(alloc, inner), alloc, calls),
+        "vague" => answered(in_vague(alloc, inner), alloc, calls),
         "shuffled" => answered(in_shuffled(alloc, inner), alloc, calls),
         passes => answered(in_failing(inner, passes.parse::<u64>()?), alloc, calls),
     }
@@ -145,6 +187,7 @@ pub fn answered_round_list(
         "" => answered_in(list, alloc, outer, calls),
         "counting" => answered_in(in_counting(list), alloc, outer, calls),
         "shy" => answered_in(in_shy(alloc, list), alloc, outer, calls),
+        "vague" => answered_in(in_vague(alloc, list), alloc, outer, calls),
         "shuffled" => answered_in(in_shuffled(alloc, list), alloc, outer, calls),
         passes => answered_in(
             in_failing(list, passes.parse::<u64>()?),

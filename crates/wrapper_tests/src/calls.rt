@@ -13,7 +13,7 @@ use std::str::from_utf8;
 use std::test::Fail;
 
 /// Nothing where calls answered what a row wants, and else what came.
-fn checked(alloc: Global, row: &str, found: &[u8], want: &str) -> Result<(), Fail> {
+pub fn checked(alloc: Global, row: &str, found: &[u8], want: &str) -> Result<(), Fail> {
     if found == want.as_bytes() {
         return Ok(());
     }
@@ -62,11 +62,12 @@ fn two_scans_of_a_boxed_list_give_its_rows_in_turn(rt: HostRuntime) -> Result<()
 }
 
 #[test]
-fn list_takes_over_what_shy_leaves(rt: HostRuntime) -> Result<(), Fail> {
+fn list_takes_over_what_shy_and_vague_leave(rt: HostRuntime) -> Result<(), Fail> {
     check_rows(
         rt.alloc(),
         "||bind|above|10 11 end end 1/0/2/0
-shy||bind|above|10\t1\t4 11\t1\t6 12\t9\t1 end 1/0/3/0",
+shy||bind|above|10\t1\t4 11\t1\t6 12\t9\t1 end 1/0/3/0
+vague||bind|above|10\t1\t4 11\t1\t6 12\t9\t1 end 1/0/3/0",
     )
 }
 
@@ -77,6 +78,7 @@ fn each_wrapper_reads_as_the_list_and_begins_again(rt: HostRuntime) -> Result<()
         "||bind|again|10\t1\t4 11\t1\t6 12\t9\t1 end 10\t1\t4 1/0/4/0
 counting||bind|again|10\t1\t4 11\t1\t6 12\t9\t1 end 10\t1\t4 1/0/4/0
 shy||bind|again|10\t1\t4 11\t1\t6 12\t9\t1 end 10\t1\t4 1/0/4/0
+vague||bind|again|10\t1\t4 11\t1\t6 12\t9\t1 end 10\t1\t4 1/0/4/0
 9||bind|again|10\t1\t4 11\t1\t6 12\t9\t1 end 10\t1\t4 1/0/4/0
 counting|counting|bind|again|10\t1\t4 11\t1\t6 12\t9\t1 end 10\t1\t4 1/0/4/0
 shy|counting|bind|again|10\t1\t4 11\t1\t6 12\t9\t1 end 10\t1\t4 1/0/4/0
@@ -104,7 +106,8 @@ fn scan_by_a_parameter_gives_the_rows_that_equal_it(rt: HostRuntime) -> Result<(
         rt.alloc(),
         "||bind|part|12\t9 end end 1/0/1/0
 counting||bind|part|12\t9 end end 1/0/1/0
-shy||bind|part|10\t1\t4 11\t1\t6 10\t1\t4 1/0/3/0",
+shy||bind|part|10\t1\t4 11\t1\t6 10\t1\t4 1/0/3/0
+vague||bind|part|10\t1\t4 11\t1\t6 10\t1\t4 1/0/3/0",
     )
 }
 
@@ -114,6 +117,8 @@ fn kept_write_is_read(rt: HostRuntime) -> Result<(), Fail> {
         rt.alloc(),
         "||delete|read|11\t1\t6 12\t9\t1 end end 2/0/3/0
 shy||delete|read|11\t1\t6 12\t9\t1 end end 2/0/3/0
+vague||delete|read|11\t1\t6 12\t9\t1 end end 2/0/3/0
+vague||insert|read|10\t1\t4 11\t1\t6 12\t9\t1 13\t9\t2 1/0/4/0
 shuffled||insert|read|11\t1\t6 12\t9\t1 13\t9\t2 10\t1\t4 1/0/4/0",
     )
 }

@@ -14,3 +14,5 @@ mod parameters;
 mod reads;
 #[cfg(test)]
 mod refusals;
+#[cfg(test)]
+mod wishes;

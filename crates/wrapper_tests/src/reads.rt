@@ -52,7 +52,7 @@ pub fn take_row<W: Wrapper>(
 }
 
 /// Takes four rows of a scan.
-fn take_four<W: Wrapper>(
+pub fn take_four<W: Wrapper>(
     source: &mut W,
     alloc: Global,
     ticket: &Ticket,

@@ -1,5 +1,5 @@
 -- Ids of which no two are the same.
-use Rattle.std.proofs.Common.{◌≡◌, ◌↔◌, ◌<◌, ◌&&◌, ℕ, Bool, true, false, nat_eq, nat_lt, arith, List, [], ◌∷◌, ◌++◌, cond, map, filter, length, IsTrue, sym, refl, ap, ◌∙◌, subst}
+use Rattle.std.proofs.Common.{◌≡◌, ◌↔◌, ◌<◌, ◌&&◌, ℕ, Bool, true, false, nat_eq, nat_lt, arith, List, [], ◌∷◌, ◌++◌, None, cond, map, filter, length, IsTrue, sym, refl, ap, ◌∙◌, subst}
 use Rattle.std.specs.BTreeSet.{BTreeSet, IsFromIterResult, btree_set_len}
 use Rattle.std.specs.Cmp.{nat_cmp_total, unsigned_tied}
 use Rattle.std.specs.List.{IsDistinct, AllByRecursion}
@@ -12,6 +12,7 @@ use Rattle.std.proofs.lemmas.Map.Keys.{IsDistinct-head, IsDistinct-tail, IsDisti
 use Rattle.std.proofs.lemmas.Map.Made.{IsDistinct-from_count, distinct_count-from_IsDistinct}
 use Rattle.std.proofs.lemmas.Map.Views.{btree_set_len-from_list}
 use Rattle.fdw_api.specs.Scan.{TableRow, GivenRow, Spec, IsComing, plain_spec, given_row}
+use Rattle.fdw_api.proofs.Unpromised.{all_first}
 use Rattle.med_write.specs.Form.{WriteForm, insert_form, update_form, delete_form}
 use Rattle.write_exec.specs.Rising.{rise_from, are_rising}
 use Rattle.write_exec.specs.Writing.{AreRead}
@@ -92,18 +93,18 @@ first_distinct [] ys d = none_at_all
 first_distinct (x ∷ xs) ys d =
     IsDistinct-cons nat_eq x xs (apart_first x xs ys (IsDistinct-head nat_eq x (xs ++ ys) d)) (first_distinct xs ys (IsDistinct-tail nat_eq x (xs ++ ys) d))
 
-pub coming_once : (rows : List TableRow) (spec : Spec) (read : List GivenRow) → IsComing rows spec [] read → IsDistinct nat_eq (map (λ r. r.id) rows) → IsDistinct nat_eq (map (λ r. r.id) read)
-coming_once rows spec read c d =
+pub coming_once : (rows : List TableRow) (spec : Spec) (read : List GivenRow) → spec.limit ≡ None → IsComing rows spec [] read → IsDistinct nat_eq (map (λ r. r.id) rows) → IsDistinct nat_eq (map (λ r. r.id) read)
+coming_once rows spec read all_come c d =
     let id : TableRow → ℕ = λ r. r.id in
     let all : IsDistinct nat_eq (map id (c.taken ++ c.left_out)) = IsDistinct-IsPermutation nat_eq nat_eq_equiv.symm (map id rows) (map id (c.taken ++ c.left_out)) (IsPermutation-map id rows (c.taken ++ c.left_out) c.parts) d in
     let taken : IsDistinct nat_eq (map id c.taken) = first_distinct (map id c.taken) (map id c.left_out) (subst (IsDistinct nat_eq) (map-append id c.taken c.left_out) all) in
-    subst (IsDistinct nat_eq) (map_seen (λ (r : GivenRow). r.id) (given_row spec) c.taken ∙ ap (map (λ (r : GivenRow). r.id)) (sym c.is)) taken
+    subst (IsDistinct nat_eq) (map_seen (λ (r : GivenRow). r.id) (given_row spec) c.taken ∙ ap (map (λ (r : GivenRow). r.id)) (ap (map (given_row spec)) (sym (all_first spec.limit all_come c.taken)) ∙ sym c.is)) taken
 
 -- no two rows are read under one id, where no two rows of the table have one
 pub read_once : (w : WriteForm) (rows : List TableRow) (read : List GivenRow) → AreRead w rows read → IsDistinct nat_eq (map (λ r. r.id) rows) → IsDistinct nat_eq (map (λ r. r.id) read)
 read_once (insert_form places given) rows read a d = subst (λ (rs : List GivenRow). IsDistinct nat_eq (map (λ r. r.id) rs)) (sym a) none_at_all
-read_once (update_form conditions cells) rows read a d = coming_once rows (plain_spec [] []) read a d
-read_once (delete_form conditions) rows read a d = coming_once rows (plain_spec [] []) read a d
+read_once (update_form conditions cells) rows read a d = coming_once rows (plain_spec [] []) read refl a d
+read_once (delete_form conditions) rows read a d = coming_once rows (plain_spec [] []) read refl a d
 
 -- ---- of rows that are chosen
 

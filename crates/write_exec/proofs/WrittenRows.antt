@@ -109,7 +109,7 @@ changed line change effect m p rows read d c =
     flat_same (λ r. row_after line r.id (map change (filter p read)) (held r ∷ [])) (λ r. if p (as_given r) then effect (as_given r) else held r ∷ []) rows
     (all_rows (λ r. row_after line r.id (map change (filter p read)) (held r ∷ []) ≡ (if p (as_given r) then effect (as_given r) else held r ∷ [])) rows read c
     (all_of (λ r. row_after line r.id (map change (filter p read)) (held r ∷ []) ≡ (if p (as_given r) then effect (as_given r) else held r ∷ [])) c.taken
-    (λ r i. found line change effect m p read (as_given r) (held r ∷ []) (coming_once rows (plain_spec [] []) read c d) (subst (λ (rs : List GivenRow). IsIn rs (as_given r)) (sym c.is) (in_map as_given c.taken r i)))))
+    (λ r i. found line change effect m p read (as_given r) (held r ∷ []) (coming_once rows (plain_spec [] []) read refl c d) (subst (λ (rs : List GivenRow). IsIn rs (as_given r)) (sym c.is) (in_map as_given c.taken r i)))))
 
 -- ---- the three writes
 

@@ -8,13 +8,18 @@ ghost use Rattle.med_exec.specs.Scanning.{FailsScan};
 ghost use Rattle.write_exec.specs.Reading.{ReadsWhole, GivesRows, ReadsTable};
 ghost use Rattle.fdw_api.specs.State.{table_of};
 
-use fdw_api::interface::{Fault, SourceRow, Ticket, Wrapper};
+use fdw_api::interface::{Fault, SourceRow, Ticket};
 use fdw_api::scan::ScanSpec;
+use fdw_api::wishes::Wrapper2;
 use med_value::TableNo;
 use std::alloc::Global;
 
 // Reads a scan of whole rows to its end. The scan stays live.
-fn read_rows<W: Wrapper>(b: &mut W, alloc: Global, ticket: &Ticket) -> Result<Vec<SourceRow>, Fault>
+fn read_rows<W: Wrapper2>(
+    b: &mut W,
+    alloc: Global,
+    ticket: &Ticket,
+) -> Result<Vec<SourceRow>, Fault>
     requires { IsOpen (W.meaning b.old) ticket.now.number }
     ensures ok { IfOk result (λ rows. (kinds : List Kind) → ReadsWhole (W.meaning b.old) ticket.now.number kinds
         → GivesRows ticket.now.number kinds (W.meaning b.old) (map row_of rows.items) (W.meaning b.new)) }
@@ -35,7 +40,7 @@ fn read_rows<W: Wrapper>(b: &mut W, alloc: Global, ticket: &Ticket) -> Result<Ve
 /// alone, where the box's ticket numbers are used up.
 ///
 /// PostgreSQL: Writing a Foreign Data Wrapper, `BeginForeignScan`, `IterateForeignScan`, `EndForeignScan`.
-pub(crate) fn table_rows<W: Wrapper>(
+pub(crate) fn table_rows<W: Wrapper2>(
     b: &mut W,
     alloc: Global,
     table: TableNo,

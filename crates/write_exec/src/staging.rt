@@ -4,13 +4,14 @@ ghost use Rattle.fdw_api.specs.Writes.{CanModify, CanChange, Stages, RefusesChan
 ghost use Rattle.med_write.specs.Form.{change_of};
 ghost use Rattle.write_exec.specs.Staging.{AreStageable, IsStaged, BreaksStaging, MakesChanges, MakesNone};
 
-use fdw_api::interface::{Fault, Wrapper};
+use fdw_api::interface::Fault;
+use fdw_api::wishes::Wrapper2;
 use med_value::TableNo;
 use med_write::RowChange;
 use std::alloc::Global;
 
 // Stages one change of a write that is under way.
-fn stage_change<W: Wrapper>(b: &mut W, alloc: Global, change: RowChange) -> Result<(), Fault>
+fn stage_change<W: Wrapper2>(b: &mut W, alloc: Global, change: RowChange) -> Result<(), Fault>
     requires { CanChange (W.meaning b.old) (change_of change) }
     ensures ok { IfOk result (λ _. Stages (W.meaning b.old) (change_of change) (W.meaning b.new)) }
     ensures err { IfErr result (λ fault. RefusesChange (W.meaning b.old) (change_of change) fault (W.meaning b.new)) }
@@ -23,7 +24,7 @@ fn stage_change<W: Wrapper>(b: &mut W, alloc: Global, change: RowChange) -> Resu
 }
 
 // Stages all changes of a write that was just begun. The first that is refused breaks it.
-fn stage_all<W: Wrapper>(
+fn stage_all<W: Wrapper2>(
     b: &mut W,
     alloc: Global,
     table: TableNo,
@@ -45,7 +46,7 @@ fn stage_all<W: Wrapper>(
 }
 
 /// Makes these changes of a table, all of them or none.
-pub(crate) fn make_changes<W: Wrapper>(
+pub(crate) fn make_changes<W: Wrapper2>(
     b: &mut W,
     alloc: Global,
     table: TableNo,

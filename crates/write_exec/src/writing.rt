@@ -14,7 +14,8 @@ ghost use Rattle.write_exec.specs.Writing.{CanWrite, ReadsFor, FailsRead, write_
 
 use crate::reading::table_rows;
 use crate::staging::make_changes;
-use fdw_api::interface::{Fault, SourceRow, Wrapper};
+use fdw_api::interface::{Fault, SourceRow};
+use fdw_api::wishes::Wrapper2;
 use med_value::{Cause, Row, TableNo};
 use med_write::{BoundWrite, RowWrite, WriteFault, changes};
 use std::alloc::{AllocError, Global};
@@ -72,7 +73,7 @@ fn are_distinct(alloc: Global, rows: &[SourceRow]) -> Result<bool, Fault>
 }
 
 // The rows from which a write is made: all of its table, none for an INSERT.
-fn rows_for<W: Wrapper>(
+fn rows_for<W: Wrapper2>(
     b: &mut W,
     alloc: Global,
     table: TableNo,
@@ -91,7 +92,7 @@ fn rows_for<W: Wrapper>(
 }
 
 // Does a write to a table of a box, and answers how many rows it is told of.
-fn write_box<W: Wrapper>(
+fn write_box<W: Wrapper2>(
     b: &mut W,
     alloc: Global,
     table: TableNo,
@@ -134,7 +135,7 @@ fn write_box<W: Wrapper>(
 ///
 /// PostgreSQL: Writing a Foreign Data Wrapper, `BeginForeignModify`, `ExecForeignInsert`, `ExecForeignUpdate`, `ExecForeignDelete`,
 /// `EndForeignModify`.
-pub fn write<W: Wrapper>(
+pub fn write<W: Wrapper2>(
     slots: &mut Vec<Option<W>>,
     alloc: Global,
     slot: usize,

@@ -1,5 +1,6 @@
 -- What stands against the tokens of a statement that writes rows, as far as its tree says it.
 use Rattle.std.specs.Prelude.{◌<◌, ◌⊎◌, Bool, ◌&&◌, List, count_by}
+use Rattle.med_value.specs.Limits.{height_limit}
 use Rattle.med_lexer.specs.Lexemes.{Shape}
 use Rattle.med_syntax.specs.ExprTree.{ExprTree}
 use Rattle.expr_grammar.specs.Shapes.{deepens}
@@ -42,4 +43,5 @@ abbrev pub Refuses : List Shape → ReadFault → Type 0
 Refuses ss faults.NoMemory = Unit {0}
 Refuses ss (faults.Refused Syntax) = (w : WriteTree) → IsWrite ss w → ⊥
 Refuses ss (faults.Refused TooHigh) =
-    ((w : WriteTree) × IsWrite ss w × (64 < write_height w)) ⊎ (((w : WriteTree) → IsWrite ss w → ⊥) × (64 < count_by deepens ss))
+    ((w : WriteTree) × IsWrite ss w × (height_limit < write_height w))
+    ⊎ (((w : WriteTree) → IsWrite ss w → ⊥) × (height_limit < count_by deepens ss))

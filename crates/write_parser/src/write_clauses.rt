@@ -14,8 +14,9 @@ use crate::write_lists::{columns, row_list, set_list};
 use crate::write_words::{behind_two, behind_word, entry, expr, name};
 use expr_grammar::refusal::{ReadFault, Refusal};
 use expr_grammar::symbols::Symbol;
-use expr_grammar::weighing::{MAX_HEIGHT, ROOM, weight};
+use expr_grammar::weighing::{ROOM, weight};
 use med_syntax::Expr;
+use med_value::limits::HEIGHT_LIMIT;
 use std::alloc::Global;
 use write_syntax::{Delete, Given, Insert, SetClause, Update, WriteStatement};
 
@@ -218,9 +219,9 @@ fn wide_fault(alloc: Global, symbols: &[Symbol]) -> ReadFault
 pub fn bounded(alloc: Global, symbols: &[Symbol]) -> Result<WriteStatement, ReadFault>
     ensures { ReadsAs write_tree result (reading.bounded_plain (terminals_of symbols.now)) }
 {
-    match line(alloc, MAX_HEIGHT, symbols) {
+    match line(alloc, HEIGHT_LIMIT, symbols) {
         Err(ReadFault::Refused(Refusal::TooHigh)) => {
-            if weight(symbols) > 64 {
+            if weight(symbols) > HEIGHT_LIMIT as usize {
                 Err(ReadFault::Refused(Refusal::TooHigh))
             } else {
                 Err(wide_fault(alloc, symbols))

@@ -3,6 +3,7 @@
 ghost use Rattle.expr_grammar.specs.ExprTerminals.{AreReadable};
 ghost use Rattle.expr_grammar.specs.View.{shapes_of};
 ghost use Rattle.std.specs.Prelude.{◌≤◌, IfOk, IfErr};
+ghost use Rattle.med_value.specs.Limits.{height_limit};
 ghost use Rattle.write_parser.specs.WriteCauses.{Refuses};
 ghost use Rattle.write_parser.specs.WriteGrammar.{IsWrite};
 ghost use Rattle.write_syntax.specs.WriteTree.{write_height};
@@ -23,7 +24,7 @@ pub fn write_of(alloc: Global, tokens: &[Token]) -> Result<WriteStatement, ReadF
     // What is answered is the tokens' tree.
     ensures found { IfOk result (λ w. IsWrite (shapes_of tokens.now) (write_tree w)) }
     // No expression of it is higher than 64.
-    ensures low { IfOk result (λ w. write_height (write_tree w) ≤ 64) }
+    ensures low { IfOk result (λ w. write_height (write_tree w) ≤ height_limit) }
     // A refusal says what stands against the tokens.
     ensures refused { IfErr result (Refuses (shapes_of tokens.now)) }
 {

@@ -1,5 +1,5 @@
 -- The query that has some expressions and a WHERE: its causes are theirs.
-use Rattle.std.proofs.Common.{◌≡◌, ◌⊎◌, inl, inr, Bool, true, false, not, List, [], ◌∷◌, ◌++◌, map, flat_map, Option, Some, None, Contains, if◌then◌else◌, refl, sym, ap, ◌∙◌, subst, append-nil}
+use Rattle.std.proofs.Common.{◌≡◌, ◌⊎◌, inl, inr, Bool, true, false, not, List, [], ◌∷◌, ◌++◌, length, map, flat_map, Option, Some, None, Contains, if◌then◌else◌, refl, sym, ap, ◌∙◌, subst, append-nil}
 use Rattle.std.specs.List.{list_any}
 use Rattle.std.proofs.lemmas.List.Elements.{Contains-append_left, Contains-append_right}
 use Rattle.med_value.specs.declared.cause.Cause.{Cause}
@@ -14,9 +14,11 @@ use Rattle.bind_names.specs.Naming.{name_causes, condition_name_causes, item_nam
 use Rattle.bind_names.specs.Meaning.{Output, resolved, conditions_of, outputs_of, item_outputs, meant_in}
 use Rattle.bind_names.specs.Meaning.{group_meant, shown_name}
 use Rattle.bind_names.specs.Telling.{TellsCause}
-use Rattle.bind_types.specs.Typing.{type_causes, item_type_causes, condition_type_causes, no_aggregate, grouping_causes, unless, select_type_causes}
+use Rattle.bind_types.specs.Typing.{type_causes, item_type_causes, condition_type_causes, no_aggregate, grouping_causes, unless, written_type_causes, select_type_causes}
 use Rattle.tri_expr.specs.Tree.{tree}
-use Rattle.med_query.specs.Form.{GroupForm, Form}
+use Rattle.std.proofs.lemmas.List.{length-map}
+use Rattle.med_query.specs.declared.select.SelectCore.{SelectCore}
+use Rattle.med_query.specs.Form.{GroupForm, CoreForm, Form, core_form}
 use Rattle.med_binder.specs.Binding.{IsMeant}
 use Rattle.med_binder.specs.declared.bound.BoundQuery.{BoundQuery}
 use Rattle.med_binder.specs.Turns.{TellsInTurn}
@@ -24,7 +26,7 @@ use Rattle.med_catalog.specs.Objects.{Objects}
 use Rattle.bind_catalog.specs.Barred.{query_right_causes}
 use Rattle.bind_catalog.specs.Tables.{shapes}
 use Rattle.bind_catalog.specs.Queries as queries
-use Rattle.write_parts.specs.Typing.{asked_types}
+use Rattle.write_parts.specs.Typing.{asked_types, first_items}
 use Rattle.write_parts.specs.declared.asking.AskedValues.{AskedValues}
 use Rattle.write_parts.specs.Asking.{scope_for, known_for, rights_for, asked_names, item_for, query_for, IsAsked}
 use Rattle.write_parts.proofs.Lists.{left_empty, right_empty, empty_by, none_in, of_two, flat_over, map_flat_ones, types_in_turn}
@@ -81,11 +83,15 @@ pub scope_same : (tables : List TableShape) (entry : Option EntryTree) (es : Lis
 scope_same tables None es condition = refl
 scope_same tables (Some e) es condition = refl
 
-pub values_meant : (tables : List TableShape) (entry : Option EntryTree) (es : List ExprTree) (condition : Option ExprTree) → (meant_in tables (query_for entry es condition)).form.items ≡ map (resolved (scope_for tables entry)) es
+abbrev pub first_conditions : List CoreForm → List Tree
+first_conditions [] = []
+first_conditions (c ∷ cs) = c.conditions
+
+pub values_meant : (tables : List TableShape) (entry : Option EntryTree) (es : List ExprTree) (condition : Option ExprTree) → first_items (meant_in tables (query_for entry es condition)).form.cores ≡ map (resolved (scope_for tables entry)) es
 values_meant tables None es condition = items_meant [] es
 values_meant tables (Some e) es condition = items_meant (scope_for tables (Some e)) es
 
-pub conditions_meant : (tables : List TableShape) (entry : Option EntryTree) (es : List ExprTree) (condition : Option ExprTree) → (meant_in tables (query_for entry es condition)).form.conditions ≡ conditions_of (scope_for tables entry) condition
+pub conditions_meant : (tables : List TableShape) (entry : Option EntryTree) (es : List ExprTree) (condition : Option ExprTree) → first_conditions (meant_in tables (query_for entry es condition)).form.cores ≡ conditions_of (scope_for tables entry) condition
 conditions_meant tables None es condition = refl
 conditions_meant tables (Some e) es condition = refl
 
@@ -114,8 +120,13 @@ query_types s entry es condition =
 
 pub types_listed : (tables : List TableShape) (entry : Option EntryTree) (es : List ExprTree) (condition : Option ExprTree)
     → select_type_causes tables (query_for entry es condition) ≡ query_types (scope_for tables entry) entry es condition
-types_listed tables None es condition = refl
-types_listed tables (Some e) es condition = refl
+types_listed tables None es condition =
+    ap (λ (l : List Cause). written_type_causes tables (query_for None es condition) ++ l)
+    (append-nil (no_aggregate (conditions_of [] condition) ++ grouping_causes (group_meant [] (query_for None es condition) (shown_items [] es)) (shown_items [] es)))
+types_listed tables (Some e) es condition =
+    let s = scope_for tables (Some e) in
+    ap (λ (l : List Cause). written_type_causes tables (query_for (Some e) es condition) ++ l)
+    (append-nil (no_aggregate (conditions_of s condition) ++ grouping_causes (group_meant s (query_for (Some e) es condition) (shown_items s es)) (shown_items s es)))
 
 grouped : (s : Scope) (entry : Option EntryTree) (es : List ExprTree) (condition : Option ExprTree) (c : Cause)
     → Contains (grouping_causes (group_meant s (query_for entry es condition) (shown_items s es)) (shown_items s es)) c → Contains (no_aggregate (map (resolved s) es)) c
@@ -188,14 +199,19 @@ aggregate_told o user entry es condition c ts is e t =
     (Contains-append_right (no_aggregate (conditions_of s condition)) (no_aggregate (map (resolved s) es)) d h)))
     (subst (λ xs. TellsCause (no_aggregate xs) c) e t)
 
-pub asked_is : (o : Objects) (user : Name) (entry : Option EntryTree) (es : List ExprTree) (condition : Option ExprTree) (b : BoundQuery) (a : AskedValues)
-    → queries.IsBindable o user (query_for entry es condition) → IsMeant (queries.meant_by o (query_for entry es condition)) b
-    → no_aggregate (map tree b.select.items.items) ≡ [] → a.values ≡ b.select.items → a.conditions ≡ b.select.conditions → IsAsked o user entry es condition a
-asked_is o user entry es condition b a is meant none values conditions =
-    let items : map tree b.select.items.items ≡ map (resolved (scope_for (shapes o) entry)) es = ap (λ (f : Form). f.items) meant.form ∙ values_meant (shapes o) entry es condition in
+-- a query of this form has one core
+pub one_core : (tables : List TableShape) (entry : Option EntryTree) (es : List ExprTree) (condition : Option ExprTree) (b : BoundQuery) → IsMeant (meant_in tables (query_for entry es condition)) b → length b.select.cores.items ≡ 1
+one_core tables entry es condition b meant = sym (length-map b.select.cores.items core_form) ∙ ap (λ (f : Form). length f.cores) meant.form
+
+pub asked_is : (o : Objects) (user : Name) (entry : Option EntryTree) (es : List ExprTree) (condition : Option ExprTree) (b : BoundQuery) (core : SelectCore) (a : AskedValues)
+    → queries.IsBindable o user (query_for entry es condition) → IsMeant (queries.meant_by o (query_for entry es condition)) b → b.select.cores.items ≡ core ∷ []
+    → no_aggregate (map tree core.items.items) ≡ [] → a.values ≡ core.items → a.conditions ≡ core.conditions → IsAsked o user entry es condition a
+asked_is o user entry es condition b core a is meant one none values conditions =
+    let form : map core_form (core ∷ []) ≡ (meant_in (shapes o) (query_for entry es condition)).form.cores = ap (map core_form) (sym one) ∙ ap (λ (f : Form). f.cores) meant.form in
+    let items : map tree core.items.items ≡ map (resolved (scope_for (shapes o) entry)) es = ap first_items form ∙ values_meant (shapes o) entry es condition in
     record {
       values = ap (λ v. map tree v.items) values ∙ items;
-      conditions = ap (λ v. map tree v.items) conditions ∙ (ap (λ (f : Form). f.conditions) meant.form ∙ conditions_meant (shapes o) entry es condition);
+      conditions = ap (λ v. map tree v.items) conditions ∙ (ap first_conditions form ∙ conditions_meant (shapes o) entry es condition);
       names = no_names o user entry es condition is.names;
       types = no_types o entry es condition is.types (sym (ap no_aggregate items) ∙ none);
     }

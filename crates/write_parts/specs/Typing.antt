@@ -11,6 +11,7 @@ use Rattle.med_syntax.specs.ExprTree.{ExprTree}
 use Rattle.med_syntax.specs.QueryTree.{SelectTree}
 use Rattle.write_syntax.specs.WriteTree.{GivenTree, values, rows_of, InsertTree, UpdateTree, DeleteTree, WriteTree, insert, update, delete}
 use Rattle.tri_expr.specs.Tree.{Tree}
+use Rattle.med_query.specs.Form.{CoreForm}
 use Rattle.bind_names.specs.Scope.{TableShape, Scope, columns_of, from_scope}
 use Rattle.bind_names.specs.Meaning.{resolved, conditions_of, meant_in}
 use Rattle.bind_types.specs.Typing.{takes, unless, type_causes, condition_type_causes, no_aggregate, select_type_causes}
@@ -80,8 +81,13 @@ length_causes (r ∷ rs) = unless (list_all (λ s. nat_eq (length s) (length r))
 abbrev pub row_types : List Tree → List (Option ColType)
 row_types ts = map (tree_type []) ts
 
+-- the items of the first core, whose types are those of the query
+abbrev pub first_items : List CoreForm → List Tree
+first_items [] = []
+first_items (c ∷ cs) = c.items
+
 abbrev pub answer_types : List TableShape → SelectTree → List (Option ColType)
-answer_types tables q = map (tree_type (column_kinds (columns_of (from_scope tables q.from)))) (meant_in tables q).form.items
+answer_types tables q = map (tree_type (column_kinds (columns_of (from_scope tables q.from)))) (first_items (meant_in tables q).form.cores)
 
 abbrev pub row_type_causes : List ExprTree → List Cause
 row_type_causes es = asked_types [] es None

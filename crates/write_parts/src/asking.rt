@@ -1,7 +1,7 @@
 //! Expressions that see the columns of one entry, or none: they are bound as the query that has them as its items, and its WHERE.
 #![tactic(auto, using(bind_names::proofs::Causes::tells_memory, bind_names::proofs::Causes::tells_one))]
 
-ghost use Rattle.std.specs.Prelude.{◌≡◌, [], map, length, option_map, IfOk};
+ghost use Rattle.std.specs.Prelude.{◌≡◌, [], ◌∷◌, map, length, option_map, IfOk};
 ghost use Rattle.med_syntax.specs.ExprView.{expr_tree};
 ghost use Rattle.med_syntax.specs.QueryTree.{select};
 ghost use Rattle.med_syntax.specs.QueryView.{entry_tree, item_tree, chain_tree, statement_tree};
@@ -16,6 +16,7 @@ use bind_catalog::{BoundTable, bind};
 use bind_names::any_has_aggregate;
 use med_binder::BoundQuery;
 use med_catalog::Catalog;
+use med_query::SelectCore;
 use med_syntax::{Chain, Entry, Expr as Written, Item, Select, Statement};
 use med_value::Cause;
 use std::alloc::Global;
@@ -89,6 +90,18 @@ fn check_no_aggregate(values: &[Expr]) -> Result<(), Cause>
     }
 }
 
+// The core of a query that has one.
+fn only_core(cores: Vec<SelectCore>) -> SelectCore
+    requires { length cores.items ≡ 1 }
+    ensures { cores.items ≡ result ∷ [] }
+{
+    let mut cores = cores;
+    match cores.pop() {
+        Some(core) => core,
+        None => unreachable!(),
+    }
+}
+
 /// Expressions that see the columns of an entry, or none, and WHERE, with their names resolved (SQL:2016, 14.11 <insert statement>,
 /// 14.14 <update statement: searched>).
 ///
@@ -112,10 +125,11 @@ pub fn ask(
 {
     let query = query_for(alloc, entry, values, condition)?;
     let found = bind(alloc, &query, catalog, bound, user)?;
-    check_no_aggregate(found.select.items.as_slice())?;
     let BoundQuery { select, .. } = found;
+    let core = only_core(select.cores);
+    check_no_aggregate(core.items.as_slice())?;
     Ok(AskedValues {
-        values: select.items,
-        conditions: select.conditions,
+        values: core.items,
+        conditions: core.conditions,
     })
 }

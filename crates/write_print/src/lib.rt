@@ -1,4 +1,5 @@
-//! Writes the statements that write rows out, so that what is written is read as the same tree, and says whether their numbers are in range.
+//! Writes the statements that write rows out, so that what is written is read as the same tree, and says whether their numbers are in
+//! range.
 //!
 //! What a tree is written by stands in `specs/WritePrinting.antt`: of a word that is optional in the text, it has the printed spelling.
 #![tactic(auto)]

@@ -7,7 +7,7 @@ ghost use Rattle.med_session.specs.Shows.{shown};
 ghost use Rattle.probe_wrapper.specs.Failing.{failed};
 ghost use Rattle.std.specs.Prelude.{IfOk};
 
-use fdw_api::interface::Wrapper;
+use fdw_api::wishes::Wrapper2;
 use fed_setup::demo::demo_tables;
 use fed_setup::program::add_demo;
 use fed_setup::told::RunFault;
@@ -29,7 +29,7 @@ pub fn new_list(alloc: Global) -> Result<ListWrapper, NoMemory>
 }
 
 /// A box round another, that fails once, after so many calls.
-pub fn in_failing<W: Wrapper>(inner: W, passes: u64) -> Failing<W>
+pub fn in_failing<W: Wrapper2>(inner: W, passes: u64) -> Failing<W>
     requires { IsNewList (W.meaning inner) demo_list }
     ensures { IsNewList (failed (W.meaning result.inner) result.failure) demo_list }
 {
@@ -37,7 +37,7 @@ pub fn in_failing<W: Wrapper>(inner: W, passes: u64) -> Failing<W>
 }
 
 // Asks in session 1: the reply alone stands in `out` then.
-fn request<W: Wrapper>(
+fn request<W: Wrapper2>(
     engine: &mut Engine<W>,
     request: Request<'_>,
     out: &mut Vec<u8>,
@@ -53,7 +53,7 @@ fn request<W: Wrapper>(
 }
 
 /// Asks for a statement in session 1: the reply alone stands in `out` then.
-pub fn ask<W: Wrapper>(engine: &mut Engine<W>, sql: &str, out: &mut Vec<u8>) -> Result<(), Fail>
+pub fn ask<W: Wrapper2>(engine: &mut Engine<W>, sql: &str, out: &mut Vec<u8>) -> Result<(), Fail>
     requires { IsSound (shown W.meaning engine.old) }
     ensures { IsSound (shown W.meaning engine.new) }
 {
@@ -62,7 +62,7 @@ pub fn ask<W: Wrapper>(engine: &mut Engine<W>, sql: &str, out: &mut Vec<u8>) -> 
 }
 
 /// An engine over the demo list in this box, whose owner has opened session 1.
-pub fn engine_over<W: Wrapper>(
+pub fn engine_over<W: Wrapper2>(
     alloc: Global,
     list: W,
     out: &mut Vec<u8>,

@@ -4,7 +4,7 @@ ghost use Rattle.med_session.specs.Shows.{shown};
 
 use crate::expect::same_text;
 use crate::served::{ask, engine_over, in_failing, new_list};
-use fdw_api::interface::Wrapper;
+use fdw_api::wishes::Wrapper2;
 use med_session::Engine;
 use std::alloc::Global;
 use std::test::Fail;
@@ -24,7 +24,7 @@ const SOURCE: &[u8] = b"1 E HV000 fdw_error\n";
 const MEMORY: &[u8] = b"1 E 53200 out_of_memory\n";
 
 // Reads the parts, once more where the first reading is refused so: what fails does so once.
-fn read_parts<W: Wrapper>(
+fn read_parts<W: Wrapper2>(
     engine: &mut Engine<W>,
     refusal: &[u8],
     out: &mut Vec<u8>,
@@ -40,7 +40,7 @@ fn read_parts<W: Wrapper>(
 }
 
 // Fails where the UPDATE is neither done whole nor refused so with all as it was, or where a scan is live after it. Tells whether it was done.
-fn is_whole<W: Wrapper>(
+fn is_whole<W: Wrapper2>(
     case: &str,
     engine: &mut Engine<W>,
     refusal: &[u8],

@@ -13,7 +13,7 @@ use Rattle.tri_expr.specs.Outcome.{over, value_of}
 use Rattle.tri_expr.specs.Tree.{column}
 use Rattle.med_query.specs.Form.{query_by}
 use Rattle.med_query.specs.Lists.{distinct, tuple_eq}
-use Rattle.med_query.specs.Query.{Query, Tables, Grouping, Output, key_of, has_key, keeps, kept, joined, classes_by, classes_of, classes, has_class, kept_classes, output, outputs_all, output_eq, outputs, limited, IsAnswer}
+use Rattle.med_query.specs.Query.{Core, Tables, Grouping, Output, key_of, has_key, keeps, kept, joined, classes_by, classes_of, classes, has_class, kept_classes, output, outputs_all, output_eq, core_outputs, outputs, limited, IsAnswer}
 use Rattle.fdw_api.specs.Scan.{row_fits}
 use Rattle.med_write.specs.Writing.{outcomes_of}
 use Rattle.bind_names.specs.Scope.{TableShape, Scope, is_meant, columns_of, entries_of, from_scope}
@@ -100,7 +100,7 @@ shown_of_types kinds (o ∷ os) c h k =
 abbrev Shows : List (Option ColType) → Output → Type 0
 Shows types o = AreOfTypes types (outcomes_of o.1)
 
-all_shown : (kinds : List ColType) (types : List (Option ColType)) (q : Query) → ((c : List Tuple) → AllRows kinds c → Shows types (output q c)) → (cs : List (List Tuple)) → AreClasses kinds cs
+all_shown : (kinds : List ColType) (types : List (Option ColType)) (q : Core) → ((c : List Tuple) → AllRows kinds c → Shows types (output q c)) → (cs : List (List Tuple)) → AreClasses kinds cs
     → All (Shows types) (map (output q) cs)
 all_shown kinds types q f [] h = All-nil (Shows types)
 all_shown kinds types q f (c ∷ cs) h =
@@ -115,6 +115,22 @@ distinct_shown types (o ∷ os) h =
 unique_shown : (types : List (Option ColType)) (b : Bool) (os : List Output) → All (Shows types) os → All (Shows types) (if b then distinct output_eq os else os)
 unique_shown types true os h = distinct_shown types os h
 unique_shown types false os h = h
+
+-- the joined rows of a core are of these types, and what it shows of such rows is of those
+abbrev IsTypedCore : List ColType → List (Option ColType) → Tables → Core → Type 0
+IsTypedCore kinds types db q = AllRows kinds (joined q db) × ((c : List Tuple) → AllRows kinds c → Shows types (output q c))
+
+core_fits : (kinds : List ColType) (types : List (Option ColType)) (db : Tables) (q : Core) → IsTypedCore kinds types db q → All (Shows types) (core_outputs q db)
+core_fits kinds types db q h =
+    let some : AllRows kinds (kept q db) = All-filter (keeps q.where_) (λ r. row_fits kinds r ≡ true) (joined q db) h.0 in
+    let groups : AreClasses kinds (kept_classes q db) = All-filter (has_class q.group) (AllRows kinds) (classes q db) (classes_fit kinds q.group (kept q db) some) in
+    unique_shown types q.distinct (outputs_all q db) (all_shown kinds types q h.1 (kept_classes q db) groups)
+
+cores_fit : (kinds : List ColType) (types : List (Option ColType)) (db : Tables) (qs : List Core) → All (IsTypedCore kinds types db) qs → All (Shows types) (flat_map (λ q. core_outputs q db) qs)
+cores_fit kinds types db [] h = All-nil (Shows types)
+cores_fit kinds types db (q ∷ qs) h =
+    All-append (Shows types) (core_outputs q db) (flat_map (λ c. core_outputs c db) qs)
+    (core_fits kinds types db q (All-head (IsTypedCore kinds types db) q qs h)) (cores_fit kinds types db qs (All-tail (IsTypedCore kinds types db) q qs h))
 
 -- ---- the answer
 
@@ -132,12 +148,10 @@ answer_of_types tables q db answer typed clean is =
     let s = from_scope tables q.from in
     let kinds = column_kinds (columns_of s) in
     let types = answer_types tables q in
-    let rows : AllRows kinds (joined query db) = joined_fit tables db q.from typed in
-    let some : AllRows kinds (kept query db) = All-filter (keeps query.where_) (λ r. row_fits kinds r ≡ true) (joined query db) rows in
-    let groups : AreClasses kinds (kept_classes query db) = All-filter (has_class query.group) (AllRows kinds) (classes query db) (classes_fit kinds query.group (kept query db) some) in
-    let shown : All (Shows types) (outputs_all query db) = all_shown kinds types query (λ c h. shown_of_types kinds (outputs_of s q.items) c (outputs_clean s q.items clean) h) (kept_classes query db) groups in
-    let all_outputs : All (Shows types) (outputs query db) = unique_shown types query.distinct (outputs_all query db) shown in
-    let sorted : All (Shows types) is.ordered = All-permutation (Shows types) (outputs query db) is.ordered is.same all_outputs in
+    let cores : All (IsTypedCore kinds types db) query.cores =
+    All-cons (IsTypedCore kinds types db) _ []
+    (joined_fit tables db q.from typed, λ c h. shown_of_types kinds (outputs_of s q.items) c (outputs_clean s q.items clean) h) (All-nil (IsTypedCore kinds types db)) in
+    let sorted : All (Shows types) is.ordered = All-permutation (Shows types) (outputs query db) is.ordered is.same (cores_fit kinds types db query.cores cores) in
     let listed : All (IsOfTypes types) (map (λ (o : Output). o.1) is.ordered) = All-map (IsOfTypes types) (λ (o : Output). o.1) is.ordered sorted in
     let paged = limited_fits types query.limit (drop query.offset (map (λ (o : Output). o.1) is.ordered)) (All-drop (IsOfTypes types) query.offset (map (λ (o : Output). o.1) is.ordered) listed) in
     subst (All (IsOfTypes types)) (sym is.shown) paged

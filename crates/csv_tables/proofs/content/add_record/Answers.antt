@@ -23,8 +23,8 @@ returns-then-not-is_readable-clause-err c = λ bytes more is.
     let bad : is_readable shape.null shape.kinds (fields_of c.args.row.now) ≡ false = search rules in
     tells_text shape bytes d.header (rows_so_far shape d) (fields_of c.args.row.now) more is flag c.requires.no_header whole bad
 
-pub returns-then-draft-eq1000000-clause-err : goal.returns-then-draft-eq1000000-clause-err
-returns-then-draft-eq1000000-clause-err c = λ bytes more is.
+pub returns-then-draft-eq-ROW_LIMIT-clause-err : goal.returns-then-draft-eq-ROW_LIMIT-clause-err
+returns-then-draft-eq-ROW_LIMIT-clause-err c = λ bytes more is.
     let shape = shape_is c.args.layout.now in
     let d = c.args.draft.now in
     let flag : (shape.header && not (is_some d.header)) ≡ false = search rules in

@@ -3,7 +3,7 @@ use Rattle.std.proofs.lemmas.Option.{slice_get_read}
 use Rattle.std.specs.String.{string_bytes}
 use Rattle.csv.specs.Records.{fields_of}
 use Rattle.csv_tables.specs.Cells.{cell_of}
-use Rattle.csv_tables.proofs.FieldSteps.{field_less, cell_next, cell_fails, fields_end}
+use Rattle.csv_tables.proofs.FieldSteps.{field_less, text_there, cell_next, cell_fails, fields_end}
 use Rattle.csv_tables.proofs.content.is_readable.Goals as goal
 
 pub loop-field-smaller : goal.loop-field-smaller
@@ -31,3 +31,6 @@ pub returns : goal.returns
 returns c =
     let s = c.args.layout.now in
     sym (c.loop-field.invariant ∙ fields_end (string_bytes s.null) s.kinds.items (fields_of c.args.row.now) c.loop-field.at (sym c.in_default.ensures.value))
+
+pub is_cell-requires : goal.is_cell-requires
+is_cell-requires c = text_there (fields_of c.args.row.now) c.loop-field.at c.in-Some.field.now c.requires (sym c.in-Some.ensures.value)

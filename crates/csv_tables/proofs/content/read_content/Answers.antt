@@ -4,7 +4,7 @@ use Rattle.csv_tables.specs.CsvRecords.{csv_records}
 use Rattle.csv_tables.specs.Content.{rows_so_far}
 use Rattle.csv_tables.specs.Flat.{cut_into, header_in}
 use Rattle.csv_tables.specs.Tables.{shape_is}
-use Rattle.csv_tables.proofs.Flat.{cut_length}
+use Rattle.csv_tables.proofs.Flat.{cut_length, texts_cut, texts_behind}
 use Rattle.csv_tables.proofs.Drafts.{no_causes, heading_first}
 use Rattle.csv_tables.proofs.content.read_content.Goals as goal
 
@@ -26,3 +26,10 @@ returns-clause-ok c =
       header_is = heading_first shape.header shape.names d.header (rows_so_far shape d) (csv_records c.args.bytes.now) was.no_header first all ∙ sym c.in_ok-header.ensures;
       rows_are = w.1 ∙ ap (λ (k : ℕ). cut_into d.count k (fields_of d.fields)) e;
     }
+
+pub invariant_of-result-clause-texts : goal.invariant_of-result-clause-texts
+invariant_of-result-clause-texts c =
+    let shape = shape_is c.args.layout.now in
+    let d = c.in_ok-draft.draft in
+    let was = c.in_ok-draft.ensures.draft in
+    texts_cut d.count (length shape.kinds) (fields_of d.fields) was.full (texts_behind (header_in d.header) (rows_so_far shape d) (length shape.kinds) was.whole)

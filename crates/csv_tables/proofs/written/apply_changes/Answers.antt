@@ -3,12 +3,12 @@ use Rattle.std.specs.List.{list_all, list_any}
 use Rattle.std.specs.String.{string_bytes}
 use Rattle.std.proofs.lemmas.Result.{err_from_is_err_and}
 use Rattle.csv.specs.Records.{fields_of}
-use Rattle.csv_tables.specs.CsvRecords.{Record, csv_records, csv_text, heading}
+use Rattle.csv_tables.specs.CsvRecords.{Record, csv_records, csv_text, heading, is_whole}
 use Rattle.csv_tables.specs.Shapes.{hides_value}
 use Rattle.staged_changes.specs.Staged.{change_is}
 use Rattle.csv_tables.specs.Flat.{header_in}
 use Rattle.csv_tables.specs.Tables.{shape_is, records_of}
-use Rattle.csv_tables.specs.Rewriting.{has_width, left_by, rows_in}
+use Rattle.csv_tables.specs.Rewriting.{left_by, rows_in}
 use Rattle.csv_tables.proofs.Applying.{rows_made, gathered_size, all_size, tells_hidden, tells_many, tells_long, rewrites, not_many, many}
 use Rattle.csv_tables.proofs.written.apply_changes.Goals as goal
 
@@ -36,21 +36,21 @@ invariant_of-rows c =
     let t = c.args.table.now in
     let s = c.in_ok-fates.field-0 in
     let left = left_by s.fates.items (records_of t.rows) in
-    let wide = ap (λ (w : ℕ). list_all (has_width w) (map fields_of s.fresh.items)) t.sized ∙ c.in_ok-fates.ensures.fresh_wide in
+    let wide = ap (λ (w : ℕ). list_all (is_whole w) (map fields_of s.fresh.items)) t.sized ∙ c.in_ok-fates.ensures.fresh_wide in
     let g = c.in_ok-fields.ensures t.rows.width left c.in_ok-kept.ensures wide in
     let size = all_size t.rows.width left c.in_ok-kept.kept s.fresh.items c.in_ok-kept.ensures in
     let count = gathered_size t.rows.width (left ++ map fields_of s.fresh.items) c.in_ok-fields.field-0 g in
     let few : c.in_ok-kept.kept.count + length s.fresh.items ≤ 1000000 = not_many _ (search rules) in
-    record { whole = g.full; small = omega arith }
+    record { whole = g.full; small = omega arith; texts = g.texts }
 
-pub returns-then-len-gt67108864-clause-err : goal.returns-then-len-gt67108864-clause-err
-returns-then-len-gt67108864-clause-err c =
+pub returns-then-len-gt-BYTE_LIMIT-clause-err : goal.returns-then-len-gt-BYTE_LIMIT-clause-err
+returns-then-len-gt-BYTE_LIMIT-clause-err c =
     let t = c.args.table.now in
     let s = c.in_ok-fates.field-0 in
     let changes = map change_is c.args.changes.items in
     let left = left_by s.fates.items (records_of t.rows) in
     let rs = left ++ map fields_of s.fresh.items in
-    let wide = ap (λ (w : ℕ). list_all (has_width w) (map fields_of s.fresh.items)) t.sized ∙ c.in_ok-fates.ensures.fresh_wide in
+    let wide = ap (λ (w : ℕ). list_all (is_whole w) (map fields_of s.fresh.items)) t.sized ∙ c.in_ok-fates.ensures.fresh_wide in
     let g = c.in_ok-fields.ensures t.rows.width left c.in_ok-kept.ensures wide in
     let made = rows_made t s.fates.items s.fresh.items changes c.in_ok-fates.ensures.fates c.in_ok-fates.ensures.fresh in
     let text = c.in_ok-image.ensures ∙ ap (λ (l : List Record). csv_text (header_in t.header ++ l)) g.rows_are in
@@ -65,7 +65,7 @@ returns-clause-ok c =
     let changes = map change_is c.args.changes.items in
     let left = left_by s.fates.items (records_of t.rows) in
     let rs = left ++ map fields_of s.fresh.items in
-    let wide = ap (λ (w : ℕ). list_all (has_width w) (map fields_of s.fresh.items)) t.sized ∙ c.in_ok-fates.ensures.fresh_wide in
+    let wide = ap (λ (w : ℕ). list_all (is_whole w) (map fields_of s.fresh.items)) t.sized ∙ c.in_ok-fates.ensures.fresh_wide in
     let g = c.in_ok-fields.ensures t.rows.width left c.in_ok-kept.ensures wide in
     let made = rows_made t s.fates.items s.fresh.items changes c.in_ok-fates.ensures.fates c.in_ok-fates.ensures.fresh in
     let size = all_size t.rows.width left c.in_ok-kept.kept s.fresh.items c.in_ok-kept.ensures in

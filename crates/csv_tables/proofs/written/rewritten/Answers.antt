@@ -2,9 +2,9 @@ use Rattle.std.proofs.Common.{◌≡◌, ◌<◌, ◌≤◌, ◌∷◌, ◌++◌
 use Rattle.std.proofs.lemmas.List.{drop_all, nil_from_length}
 use Rattle.csv.specs.Records.{fields_of}
 use Rattle.staged_changes.specs.declared.fates.Fate.TheVariants.{Keep, Change as ChangeTo, Gone}
-use Rattle.csv_tables.specs.CsvRecords.{Record}
+use Rattle.csv_tables.specs.CsvRecords.{Record, is_whole}
 use Rattle.csv_tables.specs.Tables.{records_of}
-use Rattle.csv_tables.specs.Rewriting.{has_width, left_by}
+use Rattle.csv_tables.specs.Rewriting.{left_by}
 use Rattle.csv_tables.proofs.Flat.{cut_drop, cut_length}
 use Rattle.csv_tables.proofs.Gathering.{wide_first, gathers_as, record_width}
 use Rattle.staged_changes.proofs.Weaves.{fate_on, fate_gone, fate_past, fates_end}
@@ -33,7 +33,7 @@ loop-fate-preserved-then-at-rows c =
             within = omega arith;
             done = (
               i.done.0 ++ fields_of w.record_at.new.row ∷ [],
-              g.rows s.width i.done.0 i.done.1 (ap (has_width s.width) row ∙ record_width s at lt),
+              g.rows s.width i.done.0 i.done.1 (ap (is_whole s.width) row ∙ record_width s at lt),
               fate_on fields_of i.done.0 _ _ _ _ (fields_of w.record_at.new.row) Keep fs gs i.done.2 e next (ap (λ (r : Record). r ∷ []) (sym row)),
             );
           })

@@ -70,7 +70,7 @@ loop-change-preserved-in-Insert c =
       fates = λ rows. left_on write read fields_of rows c.loop-change.fates.items c.loop-change.fates.items (Inserts x) cs ds _ (i.fates rows) ce (left_insert write read fields_of 0 rows c.loop-change.fates.items x ds);
       fresh = fresh_on shape c.loop-change.fresh.items c.push.new.self.items line x cs ds _ i.fresh ce (search rules) (written_row shape line x did.line (did.back l.kinds.items fit.0));
       wide = i.wide;
-      fresh_wide = fresh_wide_on (length l.kinds.items) c.loop-change.fresh.items c.push.new.self.items line (search rules) i.fresh_wide (wide_line shape line x did.line fit.0);
+      fresh_wide = fresh_wide_on (length l.kinds.items) c.loop-change.fresh.items c.push.new.self.items line (search rules) i.fresh_wide (wide_line shape line x did.line did.texts fit.0);
       clear = clear_on (string_bytes l.null) _ (Inserts x) cs ds i.clear ce did.clear;
     }
 
@@ -94,7 +94,7 @@ loop-change-preserved-in-Update c =
       fates = λ rows. left_on write read fields_of rows c.loop-change.fates.items c.set_fate.new.fates.items (Updates id x) cs ds _ (i.fates rows) ce
           (left_update write read fields_of id rows c.loop-change.fates.items line x ds (written_row shape line x did.line (did.back l.kinds.items fit.0)) ∙ ap (λ fs. rows_left shape rows fs ds) (sym c.set_fate.ensures));
       fresh = same_on shape _ (Updates id x) cs ds _ i.fresh ce refl;
-      wide = ap (list_all _) c.set_fate.ensures ∙ wide_set (length l.kinds.items) c.loop-change.fates.items id (ChangeTo line) i.wide (wide_line shape line x did.line fit.0);
+      wide = ap (list_all _) c.set_fate.ensures ∙ wide_set (length l.kinds.items) c.loop-change.fates.items id (ChangeTo line) i.wide (wide_line shape line x did.line did.texts fit.0);
       fresh_wide = i.fresh_wide;
       clear = clear_on (string_bytes l.null) _ (Updates id x) cs ds i.clear ce did.clear;
     }

@@ -4,11 +4,11 @@ use Rattle.std.specs.String.{string_bytes}
 use Rattle.csv.specs.Records.{fields_of}
 use Rattle.fdw_api.specs.Writes.{inserted, row_of_change_fits}
 use Rattle.csv_tables.specs.Cells.{line_of}
-use Rattle.csv_tables.specs.CsvRecords.{Record}
+use Rattle.csv_tables.specs.CsvRecords.{Record, is_whole}
 use Rattle.csv_tables.specs.Shapes.{read_row, hides_value}
 use Rattle.staged_changes.specs.Staged.{change_is}
 use Rattle.csv_tables.specs.Tables.{shape_is}
-use Rattle.csv_tables.specs.Rewriting.{has_width, is_wide, rows_left}
+use Rattle.csv_tables.specs.Rewriting.{is_wide, rows_left}
 use Rattle.csv_tables.proofs.written.sort_changes.Given as goal
 
 abbrev pub invariant-loop-change : goal.invariant-loop-change
@@ -19,7 +19,7 @@ invariant-loop-change l = record {
   fresh : map (read_row (shape_is l.layout)) (map fields_of l.fresh.items) ++ flat_map (inserted (line_of (string_bytes l.layout.null))) (map change_is l.change-iterator.rest.items)
       ≡ flat_map (inserted (line_of (string_bytes l.layout.null))) (map change_is l.initial.change-iterator.rest.items);
   wide : list_all (is_wide (length l.layout.kinds.items)) l.fates.items ≡ true;
-  fresh_wide : list_all (has_width (length l.layout.kinds.items)) (map fields_of l.fresh.items) ≡ true;
+  fresh_wide : list_all (is_whole (length l.layout.kinds.items)) (map fields_of l.fresh.items) ≡ true;
   clear : list_any (hides_value (string_bytes l.layout.null)) (map change_is l.initial.change-iterator.rest.items)
       ≡ list_any (hides_value (string_bytes l.layout.null)) (map change_is l.change-iterator.rest.items);
 }

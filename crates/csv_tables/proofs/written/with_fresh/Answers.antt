@@ -1,7 +1,7 @@
 use Rattle.std.proofs.Common.{◌≡◌, ◌∷◌, ◌++◌, [], ◌∙◌, ap, length, map, arith, rules}
 use Rattle.std.specs.List.{list_all}
 use Rattle.csv.specs.Records.{fields_of}
-use Rattle.csv_tables.specs.Rewriting.{has_width}
+use Rattle.csv_tables.specs.CsvRecords.{is_whole}
 use Rattle.csv_tables.proofs.Gathering.{lines_first, lines_on, lines_end, no_lines, gathers_as}
 use Rattle.csv_tables.proofs.written.with_fresh.Goals as goal
 
@@ -31,5 +31,5 @@ returns c =
     let none = no_lines xs (search rules) in
     let start : c.into_iter-line-iterator.result.rest.items ≡ c.args.fresh.items = search rules in
     λ width rows was wide.
-    (let d = c.loop-line.invariant.done width rows was (ap (λ l. list_all (has_width width) (map fields_of l)) start ∙ wide) in
+    (let d = c.loop-line.invariant.done width rows was (ap (λ l. list_all (is_whole width) (map fields_of l)) start ∙ wide) in
     gathers_as width d.0 _ c.loop-line.gathered d.1 (lines_end d.0 _ xs d.3 none ∙ ap (λ l. rows ++ map fields_of l) start))

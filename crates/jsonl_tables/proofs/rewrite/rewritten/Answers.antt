@@ -8,7 +8,7 @@ use Rattle.jsonl_tables.specs.Tables.{readers_in, rows_in, lines_in}
 use Rattle.staged_changes.specs.Staged.{change_is}
 use Rattle.jsonl_tables.specs.Changes.{left_by, rows_left}
 use Rattle.jsonl_tables.proofs.RewriteLaws.{image_text, image_rows, image_size, no_write_cause, large_cause, many_rows, many_bytes, few_enough}
-use Rattle.jsonl_tables.proofs.rewrite.rewritten.Goals.{then-len-gt1000000-via-then-len-gt1000000, then-len-gt1000000-via-else-len-gt1000000+then-len-gt67108864}
+use Rattle.jsonl_tables.proofs.rewrite.rewritten.Goals.{then-len-gt-ROW_LIMIT-via-then-len-gt-ROW_LIMIT, then-len-gt-ROW_LIMIT-via-else-len-gt-ROW_LIMIT+then-len-gt-BYTE_LIMIT}
 use Rattle.jsonl_tables.proofs.rewrite.rewritten.Goals as goal
 
 pub returns-clause-text : goal.returns-clause-text
@@ -40,8 +40,8 @@ returns-clause-no_cause c =
     no_write_cause readers (rows_in t) changes (rows_at readers (lines_at made.content.items made.lines.items)) (returns-clause-rows c) narrow
     (image_size readers made.content.items made.lines.items (returns-clause-text c) ∙ few_enough (length made.lines.items) (length made.content.items) few small)
 
-pub returns-then-len-gt1000000-clause-err : goal.returns-then-len-gt1000000-clause-err
-returns-then-len-gt1000000-clause-err c =
+pub returns-then-len-gt-ROW_LIMIT-clause-err : goal.returns-then-len-gt-ROW_LIMIT-clause-err
+returns-then-len-gt-ROW_LIMIT-clause-err c =
     let t = c.args.table.now in
     let readers = readers_in t in
     let changes = map change_is c.args.changes.items in
@@ -55,7 +55,7 @@ returns-then-len-gt1000000-clause-err c =
     let rows = image_rows readers t.content.items t.lines.items made.content.items made.lines.items left c.in_ok-fates-2.field-0.fresh.items c.in_ok-fates.fates.items changes (c.in_ok-image.ensures left k) same all new in
     let size = image_size readers made.content.items made.lines.items (image_text made.content.items made.lines.items _ (c.in_ok-image.ensures _ k)) in
     large_cause readers (rows_in t) changes (rows_at readers (lines_at made.content.items made.lines.items)) rows narrow
-    (size ∙ elim c.then-len-gt1000000.branch [
-      | then-len-gt1000000-via-then-len-gt1000000 w ↦ many_rows (length made.lines.items) (length made.content.items) (omega arith)
-      | then-len-gt1000000-via-else-len-gt1000000+then-len-gt67108864 w ↦ many_bytes (length made.lines.items) (length made.content.items) (omega arith)
+    (size ∙ elim c.then-len-gt-ROW_LIMIT.branch [
+      | then-len-gt-ROW_LIMIT-via-then-len-gt-ROW_LIMIT w ↦ many_rows (length made.lines.items) (length made.content.items) (omega arith)
+      | then-len-gt-ROW_LIMIT-via-else-len-gt-ROW_LIMIT+then-len-gt-BYTE_LIMIT w ↦ many_bytes (length made.lines.items) (length made.content.items) (omega arith)
     ])

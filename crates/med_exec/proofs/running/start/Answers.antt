@@ -20,17 +20,17 @@ returns-in-Ok-answer-clause-ok g c = λ q entries is.
     let lists = map tuples_in c.in-Ok.tables.items in
     let old = states g.W.Wrapper.meaning c.args.slots.now.items in
     let new = states g.W.Wrapper.meaning c.read_scans.new.slots.items in
-    let answer : IsAnswer (query_of select) (in_order lists) (map tuple c.in-Ok-answer.rows.items) = rw c.as_slice-2.ensures.value at c.in-Ok-answer.ensures.answer in
+    let answer : IsAnswer (query_of select) (in_order lists) (map tuple c.in-Ok-answer.rows.items) = c.in-Ok-answer.ensures.answer in
     begins q entries c.args.plan lists old (map tuple c.from.result.items) (Rests record { rest = c.from.result } new) refl (λ rows e. e) is
     (rw c.as_slice.ensures.value at c.in-Ok.ensures.ok).may
     (subst (λ (l : List Row). IsAnswer (query_of select) (in_order lists) (map tuple l)) (sym c.from.ensures.0) answer)
-    (rw c.as_slice-2.ensures.value at c.in-Ok-answer.ensures.small)
+    c.in-Ok-answer.ensures.small
 
 pub returns-clause-err : goal.returns-clause-err
 returns-clause-err g c = λ q entries is.
     rw c.told.ensures (shown_stops q entries c.args.plan c.in-Err-answer.bad (map tuples_in c.in-Ok.tables.items) _ _ is
     (rw c.as_slice.ensures.value at c.in-Ok.ensures.ok).may
-    (rw c.as_slice-2.ensures.value at c.in-Err-answer.ensures.told))
+    c.in-Err-answer.ensures.told)
 
 pub returns-in-Err-clause-some : goal.returns-in-Err-clause-some
 returns-in-Err-clause-some g c = rw c.as_slice.ensures.value at c.in-Err.ensures.some

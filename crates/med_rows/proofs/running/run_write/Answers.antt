@@ -26,7 +26,7 @@ returns-then-is_leased-clause-err g c = in_use c.in-Ok.ensures.bindable c.if-is_
 pub write_rows-requires : goal.write_rows-requires
 write_rows-requires g c =
     can_alone c.written_rows_are_typed.ensures (objects c.args.catalog.now) c.args.user.now (map attached c.args.bound.now) (states g.W.Wrapper.meaning c.args.slots.now.items)
-    (write_tree c.args.statement) c.in-Ok.write c.requires.ready c.in-Ok.ensures.bindable c.requires.clean c.in-Ok.ensures.meant c.in_default.is
+    (write_tree c.args.statement) c.in-Ok.write c.requires.ready c.in-Ok.ensures.bindable c.requires.clean c.in-Ok.ensures.meant (sym c.take.ensures.value ∙ c.in_default.is)
 
 pub returns-in_default-clause-ok : goal.returns-in_default-clause-ok
 returns-in_default-clause-ok g c =
@@ -34,8 +34,8 @@ returns-in_default-clause-ok g c =
     let bound = map attached c.args.bound.now in
     let t = write_tree c.args.statement in
     let old = states g.W.Wrapper.meaning c.args.slots.now.items in
-    let none : IsQueryOf o bound t None = subst (IsQueryOf o bound t) c.in_default.is c.in-Ok.ensures.meant.query in
-    let can = can_alone c.written_rows_are_typed.ensures o c.args.user.now bound old t c.in-Ok.write c.requires.ready c.in-Ok.ensures.bindable c.requires.clean c.in-Ok.ensures.meant c.in_default.is in
+    let none : IsQueryOf o bound t None = subst (IsQueryOf o bound t) (sym c.take.ensures.value ∙ c.in_default.is) c.in-Ok.ensures.meant.query in
+    let can = can_alone c.written_rows_are_typed.ensures o c.args.user.now bound old t c.in-Ok.write c.requires.ready c.in-Ok.ensures.bindable c.requires.clean c.in-Ok.ensures.meant (sym c.take.ensures.value ∙ c.in_default.is) in
     ends_ok o c.args.user.now bound t c.in-Ok.write old old (states g.W.Wrapper.meaning c.write_rows.new.slots.items) [] c.write_rows.result c.args.is_leased c.if-is_leased.false c.in-Ok.ensures.bindable c.in-Ok.ensures.meant
     (none_asked o bound t old none) can c.write_rows.ensures.ok
 
@@ -45,7 +45,7 @@ returns-in_default-clause-err g c =
     let bound = map attached c.args.bound.now in
     let t = write_tree c.args.statement in
     let old = states g.W.Wrapper.meaning c.args.slots.now.items in
-    let none : IsQueryOf o bound t None = subst (IsQueryOf o bound t) c.in_default.is c.in-Ok.ensures.meant.query in
+    let none : IsQueryOf o bound t None = subst (IsQueryOf o bound t) (sym c.take.ensures.value ∙ c.in_default.is) c.in-Ok.ensures.meant.query in
     ends_err o c.args.user.now bound t c.in-Ok.write old old (states g.W.Wrapper.meaning c.write_rows.new.slots.items) [] c.write_rows.result c.args.is_leased c.if-is_leased.false c.in-Ok.ensures.bindable c.in-Ok.ensures.meant
     (none_asked o bound t old none) c.write_rows.ensures.err
 
@@ -53,28 +53,28 @@ returns-in_default-clause-err g c =
 query_there : (o : Objects) (bound : List Attached) (t : WriteTree) (q : Option BoundQuery) (b : BoundQuery) → q ≡ Some b → IsQueryOf o bound t q → HasQuery o bound t b
 query_there o bound t q b is h = has_query o bound t b (subst (IsQueryOf o bound t) is h)
 
-pub returns-then-len-gt-ENTRIES-clause-err : goal.returns-then-len-gt-ENTRIES-clause-err
-returns-then-len-gt-ENTRIES-clause-err g c =
+pub returns-then-len-gt-ENTRY_LIMIT-clause-err : goal.returns-then-len-gt-ENTRY_LIMIT-clause-err
+returns-then-len-gt-ENTRY_LIMIT-clause-err g c =
     let o = objects c.args.catalog.now in
     let bound = map attached c.args.bound.now in
     let t = write_tree c.args.statement in
     let b = c.in-Some.query in
     let counted : c.len.result ≡ length b.entries.items = c.len.ensures ∙ b.entries.ok.0 in
-    let least : 8 < c.len.result = c.if-len-gt-ENTRIES.true in
+    let least : 8 < c.len.result = c.if-len-gt-ENTRY_LIMIT.true in
     let many : 8 < length b.entries.items = omega (arith, counted, least) in
     crowded o c.args.user.now bound t b (states g.W.Wrapper.meaning c.args.slots.now.items) c.args.is_leased c.in-Ok.ensures.bindable
-    (query_there o bound t c.in-Ok.write.query b c.in-Some.is c.in-Ok.ensures.meant.query) many
+    (query_there o bound t c.in-Ok.write.query b (sym c.take.ensures.value ∙ c.in-Some.is) c.in-Ok.ensures.meant.query) many
 
 pub run_query-requires-clause-bound : goal.run_query-requires-clause-bound
 run_query-requires-clause-bound g c =
     let o = objects c.args.catalog.now in
     let bound = map attached c.args.bound.now in
-    let h = query_there o bound (write_tree c.args.statement) c.in-Ok.write.query c.in-Some.query c.in-Some.is c.in-Ok.ensures.meant.query in
+    let h = query_there o bound (write_tree c.args.statement) c.in-Ok.write.query c.in-Some.query (sym c.take.ensures.value ∙ c.in-Some.is) c.in-Ok.ensures.meant.query in
     entries_bound (states g.W.Wrapper.meaning c.args.slots.now.items) bound _ c.in-Some.query.entries.items c.requires.tables h.places
 
 pub run_query-requires-clause-safe : goal.run_query-requires-clause-safe
 run_query-requires-clause-safe g c =
-    (query_there (objects c.args.catalog.now) (map attached c.args.bound.now) (write_tree c.args.statement) c.in-Ok.write.query c.in-Some.query c.in-Some.is c.in-Ok.ensures.meant.query).safe
+    (query_there (objects c.args.catalog.now) (map attached c.args.bound.now) (write_tree c.args.statement) c.in-Ok.write.query c.in-Some.query (sym c.take.ensures.value ∙ c.in-Some.is) c.in-Ok.ensures.meant.query).safe
 
 pub returns-in-Err-run_query-clause-err : goal.returns-in-Err-run_query-clause-err
 returns-in-Err-run_query-clause-err g c =
@@ -83,10 +83,10 @@ returns-in-Err-run_query-clause-err g c =
     let t = write_tree c.args.statement in
     let b = c.in-Some.query in
     let counted : c.len.result ≡ length b.entries.items = c.len.ensures ∙ b.entries.ok.0 in
-    let least : c.len.result ≤ 8 = c.if-len-gt-ENTRIES.false in
+    let least : c.len.result ≤ 8 = c.if-len-gt-ENTRY_LIMIT.false in
     let few : length b.entries.items ≤ 8 = omega (arith, counted, least) in
     not_answered o c.args.user.now bound t c.in-Ok.write b (states g.W.Wrapper.meaning c.args.slots.now.items) (states g.W.Wrapper.meaning c.run_query.new.slots.items) c.in-Err-run_query.cause
-    c.args.is_leased c.if-is_leased.false c.in-Ok.ensures.bindable c.in-Ok.ensures.meant (query_there o bound t c.in-Ok.write.query b c.in-Some.is c.in-Ok.ensures.meant.query) few c.run_query.ensures.served c.in-Err-run_query.ensures.err
+    c.args.is_leased c.if-is_leased.false c.in-Ok.ensures.bindable c.in-Ok.ensures.meant (query_there o bound t c.in-Ok.write.query b (sym c.take.ensures.value ∙ c.in-Some.is) c.in-Ok.ensures.meant.query) few c.run_query.ensures.served c.in-Err-run_query.ensures.err
 
 pub returns-then-not-fits-clause-err : goal.returns-then-not-fits-clause-err
 returns-then-not-fits-clause-err g c =
@@ -96,7 +96,7 @@ returns-then-not-fits-clause-err g c =
     let b = c.in-Some.query in
     untyped c.written_rows_are_typed.ensures o c.args.user.now bound t c.in-Ok.write b (states g.W.Wrapper.meaning c.args.slots.now.items) (states g.W.Wrapper.meaning c.run_query.new.slots.items)
     (map tuple c.in-Ok-run_query.rows.items) c.args.is_leased c.if-is_leased.false c.requires.ready c.in-Ok.ensures.bindable c.requires.clean c.in-Ok.ensures.meant
-    (query_there o bound t c.in-Ok.write.query b c.in-Some.is c.in-Ok.ensures.meant.query) c.in-Ok-run_query.ensures.ok c.run_query.ensures.served
+    (query_there o bound t c.in-Ok.write.query b (sym c.take.ensures.value ∙ c.in-Some.is) c.in-Ok.ensures.meant.query) c.in-Ok-run_query.ensures.ok c.run_query.ensures.served
     (λ places form. sym c.if-not-fits.true ∙ rw c.as_slice.ensures.value at c.fits.ensures places form)
 
 pub write_rows-requires-2 : goal.write_rows-requires-2
@@ -107,7 +107,7 @@ write_rows-requires-2 g c =
     let b = c.in-Some.query in
     rw c.as_slice-2.ensures.value (can_answered o bound (states g.W.Wrapper.meaning c.args.slots.now.items) (states g.W.Wrapper.meaning c.run_query.new.slots.items) t c.in-Ok.write b
     (map tuple c.in-Ok-run_query.rows.items) c.requires.ready c.run_query.ensures.served c.in-Ok.ensures.meant
-    (query_there o bound t c.in-Ok.write.query b c.in-Some.is c.in-Ok.ensures.meant.query)
+    (query_there o bound t c.in-Ok.write.query b (sym c.take.ensures.value ∙ c.in-Some.is) c.in-Ok.ensures.meant.query)
     (λ places form. sym c.if-not-fits.false ∙ rw c.as_slice.ensures.value at c.fits.ensures places form))
 
 pub returns-clause-ok : goal.returns-clause-ok
@@ -120,9 +120,9 @@ returns-clause-ok g c =
     let now = states g.W.Wrapper.meaning c.run_query.new.slots.items in
     let answer = map tuple c.in-Ok-run_query.rows.items in
     let counted : c.len.result ≡ length b.entries.items = c.len.ensures ∙ b.entries.ok.0 in
-    let least : c.len.result ≤ 8 = c.if-len-gt-ENTRIES.false in
+    let least : c.len.result ≤ 8 = c.if-len-gt-ENTRY_LIMIT.false in
     let few : length b.entries.items ≤ 8 = omega (arith, counted, least) in
-    let h = query_there o bound t c.in-Ok.write.query b c.in-Some.is c.in-Ok.ensures.meant.query in
+    let h = query_there o bound t c.in-Ok.write.query b (sym c.take.ensures.value ∙ c.in-Some.is) c.in-Ok.ensures.meant.query in
     let can = can_answered o bound old now t c.in-Ok.write b answer c.requires.ready c.run_query.ensures.served c.in-Ok.ensures.meant h
     (λ places form. sym c.if-not-fits.false ∙ rw c.as_slice.ensures.value at c.fits.ensures places form) in
     ends_ok o c.args.user.now bound t c.in-Ok.write old now (states g.W.Wrapper.meaning c.write_rows-2.new.slots.items) answer c.write_rows-2.result c.args.is_leased c.if-is_leased.false c.in-Ok.ensures.bindable c.in-Ok.ensures.meant
@@ -138,8 +138,8 @@ returns-clause-err g c =
     let now = states g.W.Wrapper.meaning c.run_query.new.slots.items in
     let answer = map tuple c.in-Ok-run_query.rows.items in
     let counted : c.len.result ≡ length b.entries.items = c.len.ensures ∙ b.entries.ok.0 in
-    let least : c.len.result ≤ 8 = c.if-len-gt-ENTRIES.false in
+    let least : c.len.result ≤ 8 = c.if-len-gt-ENTRY_LIMIT.false in
     let few : length b.entries.items ≤ 8 = omega (arith, counted, least) in
-    let h = query_there o bound t c.in-Ok.write.query b c.in-Some.is c.in-Ok.ensures.meant.query in
+    let h = query_there o bound t c.in-Ok.write.query b (sym c.take.ensures.value ∙ c.in-Some.is) c.in-Ok.ensures.meant.query in
     ends_err o c.args.user.now bound t c.in-Ok.write old now (states g.W.Wrapper.meaning c.write_rows-2.new.slots.items) answer c.write_rows-2.result c.args.is_leased c.if-is_leased.false c.in-Ok.ensures.bindable c.in-Ok.ensures.meant
     (asked o bound t b old now answer h few c.run_query.ensures.served c.in-Ok-run_query.ensures.once c.in-Ok-run_query.ensures.ok) (rw c.as_slice-2.ensures.value at c.write_rows-2.ensures.err)

@@ -28,7 +28,7 @@ returns-clause-err g c =
     let start = states m c.begun.new.slots.items in
     let read = states m c.fetch-rows.new.slots.items in
     let new = states m c.close.new.slots.items in
-    let bound = c.args.bound.now in
+    let bound = c.args.bound in
     err_follows _ _ c.fetch-rows.result (λ fault h. stops_by (query_of bound.select) (map entry_place bound.entries.items) fault old new
     (c.services_join.ensures.broken none_held (held c.in-Ok.run') (held c.fetch-rows.new.run) none_held old start read new fault c.in-Ok.ensures.boxes h c.close.ensures.boxes)) c.fetch-rows.ensures.breaks
 
@@ -39,7 +39,7 @@ returns-clause-once g c =
     let start = states m c.begun.new.slots.items in
     let read = states m c.fetch-rows.new.slots.items in
     let new = states m c.close.new.slots.items in
-    let places = map entry_place c.args.bound.now.entries.items in
+    let places = map entry_place c.args.bound.entries.items in
     let first = held c.in-Ok.run' in
     let last = held c.fetch-rows.new.run in
     let served = c.services_join.ensures.joined none_held first last old start read c.in-Ok.ensures.boxes c.fetch-rows.ensures.boxes in

@@ -12,7 +12,7 @@ use Rattle.med_select.proofs.selecting.run_query.Goals as goal
 
 pub returns-in-Ok-clause-ok : goal.returns-in-Ok-clause-ok
 returns-in-Ok-clause-ok g c m is =
-    let b = c.args.query.now in
+    let b = c.args.query in
     let places = map entry_place b.entries.items in
     let old = states g.W.Wrapper.meaning c.args.slots.now.items in
     let rows = map tuple c.in-Ok.rows.items in
@@ -21,7 +21,7 @@ returns-in-Ok-clause-ok g c m is =
 
 pub returns-in-Err-clause-err : goal.returns-in-Err-clause-err
 returns-in-Err-clause-err g c m is =
-    let b = c.args.query.now in
+    let b = c.args.query in
     let places = map entry_place b.entries.items in
     let old = states g.W.Wrapper.meaning c.args.slots.now.items in
     let new = states g.W.Wrapper.meaning c.run_bound.new.slots.items in

@@ -26,7 +26,7 @@ returns-in-Err-clause-err g c =
     let q = query_in (statement_tree c.args.statement.now) in
     let is : IsBoundBy o c.args.user.now (map attached c.args.bound.now) q c.in_ok-query.query = record { bindable = c.in_ok-query.ensures.bindable; meant = c.in_ok-query.ensures.meant; places = c.in_ok-query.ensures.places } in
     let counted : c.len.result ≡ length c.in_ok-query.query.entries.items = c.len.ensures ∙ c.in_ok-query.query.entries.ok.0 in
-    let least : c.len.result ≤ 8 = c.if-len-gt-ENTRIES.false in
+    let least : c.len.result ≤ 8 = c.if-len-gt-ENTRY_LIMIT.false in
     let few : length c.in_ok-query.query.entries.items ≤ 8 = omega (arith, counted, least) in
     rw c.cause_of.ensures (unanswered c.expressions_ignore_order.ensures c.causes_ignore_order.ensures o c.args.user.now (map attached c.args.bound.now) q c.in_ok-query.query c.in-Err.fault
     (states m c.args.slots.now.items) (states m c.run_bound.new.slots.items) is few c.run_bound.ensures.served c.in-Err.ensures.err)
@@ -38,17 +38,17 @@ returns-clause-ok g c =
     let q = query_in (statement_tree c.args.statement.now) in
     let is : IsBoundBy o c.args.user.now (map attached c.args.bound.now) q c.in_ok-query.query = record { bindable = c.in_ok-query.ensures.bindable; meant = c.in_ok-query.ensures.meant; places = c.in_ok-query.ensures.places } in
     let counted : c.len.result ≡ length c.in_ok-query.query.entries.items = c.len.ensures ∙ c.in_ok-query.query.entries.ok.0 in
-    let least : c.len.result ≤ 8 = c.if-len-gt-ENTRIES.false in
+    let least : c.len.result ≤ 8 = c.if-len-gt-ENTRY_LIMIT.false in
     let few : length c.in_ok-query.query.entries.items ≤ 8 = omega (arith, counted, least) in
-    selected c.expressions_ignore_order.ensures c.answers_ignore_order.ensures c.causes_ignore_order.ensures o c.args.user.now (map attached c.args.bound.now) q c.in_ok-query.query (map tuple c.in-Ok.rows.items)
-    (states m c.args.slots.now.items) (states m c.run_bound.new.slots.items) is few c.run_bound.ensures.served c.in-Ok.ensures.once c.in-Ok.ensures.ok
+    rw c.replace-names.ensures.value (selected c.expressions_ignore_order.ensures c.answers_ignore_order.ensures c.causes_ignore_order.ensures o c.args.user.now (map attached c.args.bound.now) q c.in_ok-query.query (map tuple c.in-Ok.rows.items)
+    (states m c.args.slots.now.items) (states m c.run_bound.new.slots.items) is few c.run_bound.ensures.served c.in-Ok.ensures.once c.in-Ok.ensures.ok)
 
-pub returns-then-len-gt-ENTRIES-clause-err : goal.returns-then-len-gt-ENTRIES-clause-err
-returns-then-len-gt-ENTRIES-clause-err g c =
+pub returns-then-len-gt-ENTRY_LIMIT-clause-err : goal.returns-then-len-gt-ENTRY_LIMIT-clause-err
+returns-then-len-gt-ENTRY_LIMIT-clause-err g c =
     let o = objects c.args.catalog.now in
     let q = query_in (statement_tree c.args.statement.now) in
     let is : IsBoundBy o c.args.user.now (map attached c.args.bound.now) q c.in_ok-query.query = record { bindable = c.in_ok-query.ensures.bindable; meant = c.in_ok-query.ensures.meant; places = c.in_ok-query.ensures.places } in
     let counted : c.len.result ≡ length c.in_ok-query.query.entries.items = c.len.ensures ∙ c.in_ok-query.query.entries.ok.0 in
-    let least : 8 < c.len.result = c.if-len-gt-ENTRIES.true in
+    let least : 8 < c.len.result = c.if-len-gt-ENTRY_LIMIT.true in
     let many : 8 < length c.in_ok-query.query.entries.items = omega (arith, counted, least) in
     crowded o c.args.user.now (map attached c.args.bound.now) q c.in_ok-query.query (states g.W.Wrapper.meaning c.args.slots.now.items) is many

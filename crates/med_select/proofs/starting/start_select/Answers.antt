@@ -26,7 +26,7 @@ returns-in-Err-begun-clause-err g c =
     let q = query_in (statement_tree c.args.statement.now) in
     let is : IsBoundBy o c.args.user.now (map attached c.args.bound.now) q c.in_ok-query.query = record { bindable = c.in_ok-query.ensures.bindable; meant = c.in_ok-query.ensures.meant; places = c.in_ok-query.ensures.places } in
     let counted : c.len.result ≡ length c.in_ok-query.query.entries.items = c.len.ensures ∙ c.in_ok-query.query.entries.ok.0 in
-    let least : c.len.result ≤ 8 = c.if-len-gt-ENTRIES.false in
+    let least : c.len.result ≤ 8 = c.if-len-gt-ENTRY_LIMIT.false in
     let few : length c.in_ok-query.query.entries.items ≤ 8 = omega (arith, counted, least) in
     let may : MayBegin c.args.is_full c.in_ok-query.query = record { safe = sym c.is_risky_query.ensures ∙ c.if-is_risky_query.false; room = c.if-is_full.false; few = few } in
     rw c.cause_of.ensures (not_begun c.expressions_ignore_order.ensures c.causes_ignore_order.ensures o c.args.user.now (map attached c.args.bound.now) q c.args.is_full c.in_ok-query.query c.in-Err-begun.fault
@@ -39,8 +39,8 @@ returns-clause-ok g c =
     let q = query_in (statement_tree c.args.statement.now) in
     let is : IsBoundBy o c.args.user.now (map attached c.args.bound.now) q c.in_ok-query.query = record { bindable = c.in_ok-query.ensures.bindable; meant = c.in_ok-query.ensures.meant; places = c.in_ok-query.ensures.places } in
     let counted : c.len.result ≡ length c.in_ok-query.query.entries.items = c.len.ensures ∙ c.in_ok-query.query.entries.ok.0 in
-    let least : c.len.result ≤ 8 = c.if-len-gt-ENTRIES.false in
+    let least : c.len.result ≤ 8 = c.if-len-gt-ENTRY_LIMIT.false in
     let few : length c.in_ok-query.query.entries.items ≤ 8 = omega (arith, counted, least) in
     let may : MayBegin c.args.is_full c.in_ok-query.query = record { safe = sym c.is_risky_query.ensures ∙ c.if-is_risky_query.false; room = c.if-is_full.false; few = few } in
-    starts c.expressions_ignore_order.ensures c.answers_ignore_order.ensures c.causes_ignore_order.ensures o c.args.user.now (map attached c.args.bound.now) q c.args.is_full c.in_ok-query.query c.in-Ok-begun.run'
-    (states m c.args.slots.now.items) (states m c.begun.new.slots.items) is may c.in-Ok-begun.ensures.boxes c.in-Ok-begun.ensures.running c.in-Ok-begun.ensures.once c.in-Ok-begun.ensures.ok
+    rw c.replace-names.ensures.value (starts c.expressions_ignore_order.ensures c.answers_ignore_order.ensures c.causes_ignore_order.ensures o c.args.user.now (map attached c.args.bound.now) q c.args.is_full c.in_ok-query.query c.in-Ok-begun.run'
+    (states m c.args.slots.now.items) (states m c.begun.new.slots.items) is may c.in-Ok-begun.ensures.boxes c.in-Ok-begun.ensures.running c.in-Ok-begun.ensures.once c.in-Ok-begun.ensures.ok)

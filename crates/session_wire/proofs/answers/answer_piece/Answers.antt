@@ -1,5 +1,6 @@
 use Rattle.std.proofs.Common.{◌≡◌, ◌-◌, ◌≤◌, [], ◌++◌, Bool, false, true, not, ◌<◌, length, Some, refl, sym, ap, ◌∙◌, append-nil, arith, Result, Ok, Err, OnErr}
 use Rattle.std.proofs.lemmas.Bool.{leb-true}
+use Rattle.med_value.specs.Limits.{line_limit}
 use Rattle.session_wire.specs.Lines.{IsFrontOfLine, unread_after}
 use Rattle.session_wire.proofs.FrontOfLine.{front-append, front_is_rest, no_front}
 use Rattle.session_wire.proofs.Runs.{front_stops}
@@ -21,8 +22,8 @@ returns-then-is_front-clause-ok g c =
           let none : w.contains.result ≡ false = negated _ (sym w.is_front-is ∙ c.if-is_front.true) in
           front-append _ _ c.requires.front (sym w.contains.ensures.value ∙ none) (omega arith)
       | else-piece-len w ↦
-          let long : 65536 - c.len.result < length c.args.piece.now = w.if-piece-len.false in
-          let short : length c.args.piece.now ≤ 65536 - c.len.result = leb-true _ _ (sym w.is_front-is ∙ c.if-is_front.true) in
+          let long : line_limit - c.len.result < length c.args.piece.now = w.if-piece-len.false in
+          let short : length c.args.piece.now ≤ line_limit - c.len.result = leb-true _ _ (sym w.is_front-is ∙ c.if-is_front.true) in
           absurd (omega arith)
     ] in
     let lines = front_is_rest _ front in
@@ -44,8 +45,8 @@ returns-clause-room g c =
           let no : true ≡ false = ap not (sym none) ∙ sym w.is_front-is ∙ c.if-is_front.false in
           cc
       | else-piece-len w ↦
-          let long : 65536 - c.len.result < length c.args.piece.now = w.if-piece-len.false in
-          let short : length c.args.piece.now ≤ 65536 - length c.args.unread.now.items = both.1 in
+          let long : line_limit - c.len.result < length c.args.piece.now = w.if-piece-len.false in
+          let short : length c.args.piece.now ≤ line_limit - length c.args.unread.now.items = both.1 in
           let size : c.len.result ≡ length c.args.unread.now.items = c.len.ensures.value in
           omega arith
     ] in

@@ -1,7 +1,7 @@
 use Rattle.std.proofs.Common.{◌≡◌, sym, ◌∙◌}
 use Rattle.std.specs.IoError.{error_kind}
 use Rattle.std.specs.declared.io.ErrorKind.TheVariants.{InvalidData}
-use Rattle.session_wire.specs.Lines.{line_limit}
+use Rattle.med_value.specs.Limits.{line_limit}
 use Rattle.session_wire.proofs.Codec.{ready_text, ready_none, ready_bad, ready_long}
 use Rattle.session_wire.proofs.lines.next_line.Goals as goal
 

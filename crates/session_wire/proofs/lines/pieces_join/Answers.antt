@@ -1,4 +1,4 @@
-use Rattle.session_wire.specs.Lines.{line_limit}
+use Rattle.med_value.specs.Limits.{line_limit}
 use Rattle.session_wire.proofs.Pieces.{lines-append}
 use Rattle.session_wire.proofs.lines.pieces_join.Goals as goal
 

@@ -8,4 +8,4 @@ returns-then-eq-clause-takes g c = IfOk-weaker c.of_memory.result _ _ (λ s new.
 
 -- a database in a file
 pub returns-else-eq-clause-takes : goal.returns-else-eq-clause-takes
-returns-else-eq-clause-takes g c = IfOk-weaker c.of_file.result _ _ (λ s new. new_takes c.sqlite_takes_its_tables.ensures new.1) c.of_file.ensures
+returns-else-eq-clause-takes g c = IfOk-weaker c.of_file.result _ _ (λ s new. new_takes c.sqlite_takes_its_tables.ensures new.1) c.of_file.ensures.new

@@ -1,12 +1,18 @@
-use Rattle.std.proofs.Common.{◌≡◌, ap, sym}
+use Rattle.std.proofs.Common.{◌≡◌, true, rules}
 use Rattle.sqlite.specs.Held.{state}
 use Rattle.sqlite_cells.specs.Layouts.{layout_at}
+use Rattle.sqlite_cells.specs.Fitting.{is_of_shape}
 use Rattle.sqlite_cells.proofs.Settled.{settled, was_read, was_refused, was_once}
 use Rattle.sqlite_cells.proofs.Refused.{only_more}
+use Rattle.sqlite_cells.proofs.Found.{fit_is_found, unread_is_none}
 use Rattle.sqlite_cells.proofs.tables.find_table.Goals as goal
 
 pub returns-in-Ok-clause-once : goal.returns-in-Ok-clause-once
 returns-in-Ok-clause-once g c h =
+    was_once (state g.S.Store c.args.conn.now).now (layout_at c.args.table) c.page_text.result.now c.page_text.ensures (c.requires.known h) (c.page_of.ensures.ordered h)
+
+pub returns-in-Ok-2-clause-once : goal.returns-in-Ok-2-clause-once
+returns-in-Ok-2-clause-once g c h =
     was_once (state g.S.Store c.args.conn.now).now (layout_at c.args.table) c.page_text.result.now c.page_text.ensures (c.requires.known h) (c.page_of.ensures.ordered h)
 
 pub returns-in-Err-clause-once : goal.returns-in-Err-clause-once
@@ -15,7 +21,9 @@ returns-in-Err-clause-once g c h =
 
 pub returns-in-Ok-clause-found : goal.returns-in-Ok-clause-found
 returns-in-Ok-clause-found g c h =
-    was_read (state g.S.Store c.args.conn.now).now (layout_at c.args.table) c.page_text.result.now c.page_text.ensures (c.requires.known h) (λ fault bad. (c.in-Ok.ensures.unread h fault bad).1)
+    let fits : is_of_shape c.args.conn.now.schema (layout_at c.args.table) ≡ true = search rules in
+    fit_is_found c.args.conn.now.schema (layout_at c.args.table) fits
+    (was_read (state g.S.Store c.args.conn.now).now (layout_at c.args.table) c.page_text.result.now c.page_text.ensures (c.requires.known h) (λ fault bad. (c.in-Ok.ensures.unread h fault bad).1))
 
 pub returns-in-Err-clause-refused : goal.returns-in-Err-clause-refused
 returns-in-Err-clause-refused g c =
@@ -23,13 +31,19 @@ returns-in-Err-clause-refused g c =
     (λ cause by. (
       by.0,
       λ h.
-          was_refused (state g.S.Store c.args.conn.now).now (layout_at c.args.table) c.page_text.result.now c.page_text.ensures (c.requires.known h)
-          (λ tree is. c.in-Err.ensures.understood h tree is by.1.0 by.1.1),
+          unread_is_none c.args.conn.now.schema (layout_at c.args.table)
+          (was_refused (state g.S.Store c.args.conn.now).now (layout_at c.args.table) c.page_text.result.now c.page_text.ensures (c.requires.known h)
+          (λ tree is. c.in-Err.ensures.understood h tree is by.1.0 by.1.1)),
     ))
     c.fault_of_text.ensures.refused
 
 pub returns-in-Ok-clause-same : goal.returns-in-Ok-clause-same
 returns-in-Ok-clause-same g c h =
+    settled (state g.S.Store c.args.conn.now).now (state g.S.Store c.page_of.new.conn).now (layout_at c.args.table) c.page_text.result.now c.page_text.ensures (c.requires.known h)
+    (c.page_of.ensures.same h) (c.page_of.ensures.unread h)
+
+pub returns-in-Ok-2-clause-same : goal.returns-in-Ok-2-clause-same
+returns-in-Ok-2-clause-same g c h =
     settled (state g.S.Store c.args.conn.now).now (state g.S.Store c.page_of.new.conn).now (layout_at c.args.table) c.page_text.result.now c.page_text.ensures (c.requires.known h)
     (c.page_of.ensures.same h) (c.page_of.ensures.unread h)
 

@@ -1,4 +1,4 @@
-use Rattle.std.proofs.Common.{◌≡◌, ◌∙◌, map, sym, subst, ap, refl, true, List, [], Contains}
+use Rattle.std.proofs.Common.{◌≡◌, ◌∙◌, IfOk, length, map, sym, subst, ap, refl, true, List, [], Contains}
 use Rattle.sqlite.specs.Held.{state}
 use Rattle.med_value.specs.Causes.{phase_of}
 use Rattle.med_value.specs.declared.cause.Cause.{Cause}
@@ -7,7 +7,7 @@ use Rattle.fdw_api.specs.Kinds.{column_of, kinds_of, is_late}
 use Rattle.sqlite_cells.specs.Layouts.{layout_at}
 use Rattle.sqlite_cells.proofs.Settled.{known_after}
 use Rattle.sqlite.specs.Effect.{Database}
-use Rattle.sqlite_cells.specs.Tables.{entries_of, entry_of}
+use Rattle.sqlite_cells.specs.Tables.{entries_of, entry_of, rows_of}
 use Rattle.sqlite_surveys.specs.Surveys.{causes_in}
 use Rattle.sqlite_cells.proofs.Refused.{only_more, refused_more, done_more}
 use Rattle.sqlite_surveys.proofs.Opened.{not_found, mismatched, opened, run_is_late, least_told}
@@ -22,8 +22,8 @@ returns-in-Err-clause-refused g c =
     (λ cause by. (subst (λ (d : Cause). is_late (phase_of d) ≡ true) (sym by.0) refl, λ h. least_told declared (entry_of db l) cause (not_found db l declared cause (by.1 h) by.0)))
     c.in-Err.ensures.refused
 
-pub survey-requires-clause-known : goal.survey-requires-clause-known
-survey-requires-clause-known g c h =
+pub read_whole-requires-clause-known : goal.read_whole-requires-clause-known
+read_whole-requires-clause-known g c h =
     known_after (state g.S.Store c.args.conn.now).now (state g.S.Store c.find_table.new.conn).now (layout_at c.args.table) (c.find_table.ensures.same h) (c.requires.known h)
 
 pub returns-then-not-types_match-clause-refused : goal.returns-then-not-types_match-clause-refused
@@ -41,8 +41,13 @@ returns-clause-ok g c h =
     let e = sym c.types_match.ensures ∙ c.if-not-types_match.false in
     let same = c.find_table.ensures.same h in
     let is = opened db l (kinds_of (map column_of c.args.columns.now)) (c.in-Ok.ensures.found h) e in
-    done_more c.survey.result _ _ (λ (none : causes_in l (entries_of (state g.S.Store c.find_table.new.conn).now l) ≡ []).
-    is ∙ sym (ap (λ (d : Database). causes_in l (entries_of d l)) same) ∙ none) (c.survey.ensures.ok h)
+    done_more c.read_whole.result _ _ (λ (none : causes_in l (entries_of (state g.S.Store c.find_table.new.conn).now l) ≡ []).
+    is ∙ sym (ap (λ (d : Database). causes_in l (entries_of d l)) same) ∙ none) (c.read_whole.ensures.ok h)
+
+pub returns-clause-count : goal.returns-clause-count
+returns-clause-count g c h =
+    let l = layout_at c.args.table in
+    subst (λ (d : Database). IfOk c.read_whole.result (λ n. n ≡ length (rows_of d l))) (c.find_table.ensures.same h) (c.read_whole.ensures.count h)
 
 pub returns-clause-refused : goal.returns-clause-refused
 returns-clause-refused g c =
@@ -50,7 +55,7 @@ returns-clause-refused g c =
     let l = layout_at c.args.table in
     let db = (state g.S.Store c.args.conn.now).now in
     let e = sym c.types_match.ensures ∙ c.if-not-types_match.false in
-    refused_more c.survey.result _ _
+    refused_more c.read_whole.result _ _
     (λ cause by. (
       run_is_late (phase_of cause) by.0,
       λ h.
@@ -58,4 +63,4 @@ returns-clause-refused g c =
           let is = opened db l declared (c.in-Ok.ensures.found h) e in
           least_told declared (entry_of db l) cause (subst (λ (cs : List Cause). Contains cs cause) (ap (λ (d : Database). causes_in l (entries_of d l)) same ∙ sym is) (by.1 h)),
     ))
-    c.survey.ensures.refused
+    c.read_whole.ensures.refused

@@ -1,4 +1,4 @@
-use Rattle.std.proofs.Common.{◌≡◌, ◌∙◌, sym, subst, ap, refl, rules, arith, true, FitsSigned, w64}
+use Rattle.std.proofs.Common.{◌≡◌, ◌∙◌, sym, subst, refl, rules, arith, true, FitsSigned, w64}
 use Rattle.std.proofs.lemmas.Int.{to_z-of_z}
 use Rattle.sqlite.specs.Held.{state}
 use Rattle.med_value.specs.Causes.{phase_of}
@@ -28,8 +28,8 @@ returns-in-Err-clause-refused g c =
     ))
     c.in-Err.ensures.refused
 
-pub returns-then-count-gt-MOST_ROWS-clause-refused : goal.returns-then-count-gt-MOST_ROWS-clause-refused
-returns-then-count-gt-MOST_ROWS-clause-refused g c =
+pub returns-then-count-gt-ROW_LIMIT-clause-refused : goal.returns-then-count-gt-ROW_LIMIT-clause-refused
+returns-then-count-gt-ROW_LIMIT-clause-refused g c =
     let fits : FitsSigned w64 c.in-Some.low = search rules in
     let e = to_z-of_z w64 c.in-Some.low fits in (
       refl,
@@ -39,7 +39,7 @@ returns-then-count-gt-MOST_ROWS-clause-refused g c =
           let page = rw e at (c.in-Ok.ensures.seen h) in
           many_stand l (entries_of db l) c.in-Ok.page.next _
           (seen_further l db (state g.S.Store c.loop-next.conn).now c.loop-next.next c.in-Ok.page.next c.in-Some.low c.loop-next.count c.in-Ok.page.count (c.loop-next.invariant.same h)
-          c.in-Some.is (c.loop-next.invariant.seen h) page) c.if-count-gt-MOST_ROWS.true,
+          c.in-Some.is (c.loop-next.invariant.seen h) page) c.if-count-gt-ROW_LIMIT.true,
     )
 
 pub loop-next-preserved : goal.loop-next-preserved

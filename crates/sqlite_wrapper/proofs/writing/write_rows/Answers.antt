@@ -1,4 +1,4 @@
-use Rattle.std.proofs.Common.{◌≡◌, ◌∙◌, map, length, true, refl, sym, ap, subst, rules}
+use Rattle.std.proofs.Common.{◌≡◌, ◌∙◌, map, length, true, refl, sym, ap, subst, rules, arith}
 use Rattle.std.proofs.lemmas.List.{length-map}
 use Rattle.sqlite.specs.Held.{state}
 use Rattle.sqlite.specs.Effect.{Database}
@@ -9,11 +9,11 @@ use Rattle.fdw_api.specs.Kinds.{is_of_run}
 use Rattle.staged_changes.specs.Staged.{change_is}
 use Rattle.sqlite_cells.specs.Layouts.{layout_at}
 use Rattle.sqlite_cells.specs.Tables.{rows_of, entries_in}
-use Rattle.sqlite_cells.proofs.Refused.{refused_more}
+use Rattle.sqlite_cells.proofs.Refused.{only_more}
 use Rattle.sqlite_changes.specs.Splitting.{AreChanges}
 use Rattle.sqlite_writes.specs.Rewriting.{rewritten, repeats_key}
 use Rattle.sqlite_writes.specs.Writable.{IsWritable, KeepsTables}
-use Rattle.sqlite_wrapper.proofs.Rewriting.{keyless, too_many, repeated, rewrites, all_done, by_keyless, three}
+use Rattle.sqlite_wrapper.proofs.Rewriting.{keyless, too_many, repeated, rewrites, rows_left, by_keyless, three}
 use Rattle.sqlite_wrapper.proofs.writing.write_rows.Goals as goal
 
 pub returns-in-Err-clause-refused : goal.returns-in-Err-clause-refused
@@ -26,8 +26,8 @@ pub rewrite-requires-clause-writable : goal.rewrite-requires-clause-writable
 rewrite-requires-clause-writable g c h =
     subst (λ (d : Database). ∥ IsWritable d.schema c.args.table ∥₁) (sym (c.rows_there.ensures.same h)) (c.requires.writable h)
 
-pub returns-then-count-len-clause-refused : goal.returns-then-count-len-clause-refused
-returns-then-count-len-clause-refused g c = (
+pub returns-then-count-fresh-clause-refused : goal.returns-then-count-fresh-clause-refused
+returns-then-count-fresh-clause-refused g c = (
   refl,
   λ h.
       let t = c.args.table in
@@ -40,18 +40,17 @@ returns-then-count-len-clause-refused g c = (
         placed = c.in-Ok.ensures.each_placed;
         holdable = c.in-Ok.ensures.holdable;
       } in
-      too_many db t changes c.in-Ok-rows_there.count c.len.result c.len-2.result (c.in-Ok-rows_there.ensures.count h)
-      (c.len.ensures ∙ (search rules) ∙ sym (length-map c.in-Ok.split.fresh.items tuple) ∙ ap length c.in-Ok.ensures.fresh) (c.len-2.ensures ∙ (search rules) ∙ ap length c.in-Ok.ensures.gone)
-      (c.changes_are_a_rewrite.ensures.count t (entries_in db t) changes are) c.if-count-len.true,
+      too_many db t changes c.in-Ok-rows_there.count c.len-fresh.result c.len-gone.result (c.in-Ok-rows_there.ensures.count h)
+      (c.len-fresh.ensures ∙ (search rules) ∙ sym (length-map c.in-Ok.split.fresh.items tuple) ∙ ap length c.in-Ok.ensures.fresh) (c.len-gone.ensures ∙ (search rules) ∙ ap length c.in-Ok.ensures.gone)
+      (c.changes_are_a_rewrite.ensures.count t (entries_in db t) changes are) c.if-count-fresh.true,
 )
 
 pub returns-clause-refused : goal.returns-clause-refused
 returns-clause-refused g c =
     let t = c.args.table in
     let db = (state g.S.Store c.args.conn.now).now in
-    let mid = (state g.S.Store c.rows_there.new.conn).now in
     let changes = map change_is c.args.changes.items in
-    refused_more c.rewrite.result _ _
+    only_more _ _ c.in-Err-rewrite.fault
     (λ cause by. (
       subst (λ (d : Cause). is_of_run (phase_of d) ≡ true) (sym by.0) refl,
       λ h.
@@ -66,10 +65,10 @@ returns-clause-refused g c =
           (sym (three repeats_key _ _ _ _ _ _ (c.deref.ensures.value ∙ c.in-Ok.ensures.gone) (ap (map tuple) c.deref-2.ensures.value ∙ c.in-Ok.ensures.fresh)
           (ap (λ (d : Database). entries_in d t) (c.rows_there.ensures.same h))) ∙ by.1 h)),
     ))
-    c.rewrite.ensures.refused
+    c.in-Err-rewrite.ensures.refused
 
-pub returns-clause-made : goal.returns-clause-made
-returns-clause-made g c h =
+made : goal.returns-in-Ok-rewrite-clause-made
+made g c h =
     let t = c.args.table in
     let db = (state g.S.Store c.args.conn.now).now in
     let mid = (state g.S.Store c.rows_there.new.conn).now in
@@ -88,11 +87,30 @@ returns-clause-made g c h =
     let fresh = ap (map tuple) c.deref-2.ensures.value ∙ c.in-Ok.ensures.fresh in
     let es = ap (λ (d : Database). entries_in d t) same in
     let schema : new.schema ≡ db.schema = c.rewrite.ensures.schema h ∙ ap (λ (d : Database). d.schema) same in
-    all_done c.rewrite.result (c.rewrite.ensures.rows h) (c.rewrite.ensures.free h) (c.rewrite.ensures.others h) (λ rows free others.
     let repeats_law = law.repeats t (entries_in db t) changes are in
-    let is_free = sym (three repeats_key _ _ _ _ _ _ gone fresh es) ∙ free in
-    rewrites db t changes new c.in-Ok-rows_there.count c.len.result c.len-2.result schema (c.in-Ok-rows_there.ensures.there h)
-    (rows ∙ three rewritten _ _ _ _ _ _ gone fresh es) (subst (λ (d : Database). KeepsTables d new t) same others) c.in-Ok.ensures.keyed is_free
+    let is_free = sym (three repeats_key _ _ _ _ _ _ gone fresh es) ∙ c.in-Ok-rewrite.ensures.free h in
+    rewrites db t changes new c.in-Ok-rows_there.count c.len-fresh.result c.len-gone.result schema (c.in-Ok-rows_there.ensures.there h)
+    (c.in-Ok-rewrite.ensures.rows h ∙ three rewritten _ _ _ _ _ _ gone fresh es) (subst (λ (d : Database). KeepsTables d new t) same (c.in-Ok-rewrite.ensures.others h)) c.in-Ok.ensures.keyed is_free
     (c.in-Ok-rows_there.ensures.count h)
-    (c.len.ensures ∙ (search rules) ∙ sym (length-map c.in-Ok.split.fresh.items tuple) ∙ ap length c.in-Ok.ensures.fresh) (c.len-2.ensures ∙ (search rules) ∙ ap length c.in-Ok.ensures.gone)
-    c.if-count-len.false (law.count t (entries_in db t) changes are) repeats_law (law.rows t (entries_in db t) changes are is_free) (law.once t (entries_in db t) changes are))
+    (c.len-fresh.ensures ∙ (search rules) ∙ sym (length-map c.in-Ok.split.fresh.items tuple) ∙ ap length c.in-Ok.ensures.fresh) (c.len-gone.ensures ∙ (search rules) ∙ ap length c.in-Ok.ensures.gone)
+    c.if-count-fresh.false (law.count t (entries_in db t) changes are) repeats_law (law.rows t (entries_in db t) changes are is_free) (law.once t (entries_in db t) changes are)
+
+pub returns-in-Ok-rewrite-clause-made : goal.returns-in-Ok-rewrite-clause-made
+returns-in-Ok-rewrite-clause-made g c h = made g c h
+
+pub returns-in-Ok-rewrite-clause-count : goal.returns-in-Ok-rewrite-clause-count
+returns-in-Ok-rewrite-clause-count g c h =
+    let t = c.args.table in
+    let db = (state g.S.Store c.args.conn.now).now in
+    let changes = map change_is c.args.changes.items in
+    let are : AreChanges t (entries_in db t) changes = record {
+      ordered = c.entries_rise.ensures h;
+      once = c.requires.once;
+      there = c.requires.there h;
+      placed = c.in-Ok.ensures.each_placed;
+      holdable = c.in-Ok.ensures.holdable;
+    } in
+    rows_left db t changes (state g.S.Store c.rewrite.new.conn).now c.in-Ok-rows_there.count c.len-fresh.result c.len-gone.result _ (made g c h)
+    (c.in-Ok-rows_there.ensures.count h)
+    (c.len-fresh.ensures ∙ (search rules) ∙ sym (length-map c.in-Ok.split.fresh.items tuple) ∙ ap length c.in-Ok.ensures.fresh) (c.len-gone.ensures ∙ (search rules) ∙ ap length c.in-Ok.ensures.gone)
+    (omega arith) (c.changes_are_a_rewrite.ensures.count t (entries_in db t) changes are)

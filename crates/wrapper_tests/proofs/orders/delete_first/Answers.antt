@@ -1,4 +1,4 @@
-use Rattle.std.proofs.Common.{Some}
+use Rattle.std.proofs.Common.{Some, refl}
 use Rattle.fdw_api.specs.Kinds.{Deletes}
 use Rattle.fdw_api.specs.Writes.{CanModify}
 use Rattle.probe_wrapper.proofs.CallLemmas.{begun_is_open}
@@ -26,7 +26,7 @@ delete-requires g c =
     let can : CanModify (g.W.Wrapper.meaning c.end.new.self) c.args.table.number =
     can_modify_still (g.W.Wrapper.meaning c.args.source.now) (g.W.Wrapper.meaning c.begin.new.self) (g.W.Wrapper.meaning c.iterate-first.new.self) (g.W.Wrapper.meaning c.end.new.self) c.args.table.number _ _ c.in_ok-ticket.ticket.number (Some c.in-Some.row) c.requires c.in_ok-ticket.ensures.ok (rw c.in-Some.is at c.in_ok-first.ensures.ok) c.end.ensures in
     can_delete_given (g.W.Wrapper.meaning c.args.source.now) (g.W.Wrapper.meaning c.begin.new.self) (g.W.Wrapper.meaning c.iterate-first.new.self) (g.W.Wrapper.meaning c.end.new.self) (g.W.Wrapper.meaning c.begin_modify.new.self) c.args.table.number _ _ c.in_ok-ticket.ticket.number c.in-Some.row can
-    c.in_ok-ticket.ensures.ok (rw c.in-Some.is at c.in_ok-first.ensures.ok) c.end.ensures c.in_ok-begin_modify-in-Some.ensures.ok
+    c.in_ok-ticket.ensures.ok (rw c.in-Some.is at c.in_ok-first.ensures.ok) c.end.ensures c.in_ok-begin_modify-in-Some.ensures.ok refl
 
 pub end_modify-requires : goal.end_modify-requires
 end_modify-requires g c =

@@ -10,7 +10,10 @@ use Rattle.med_catalog.specs.View.{objects}
 use Rattle.bind_catalog.specs.Looked.{query_in}
 use Rattle.bind_catalog.specs.Queries.{NotBound, IsBindable, meant_by}
 use Rattle.write_parts.specs.Asking.{query_for}
-use Rattle.write_parts.proofs.AskedFor.{ask_told, aggregate_told, asked_is, values_meant}
+use Rattle.med_query.specs.Form.{core_form}
+use Rattle.bind_catalog.specs.Tables.{shapes}
+use Rattle.write_parts.specs.Typing.{first_items}
+use Rattle.write_parts.proofs.AskedFor.{ask_told, aggregate_told, asked_is, one_core, values_meant}
 use Rattle.write_parts.proofs.asking.ask.Goals as goal
 
 pub returns-in_err-found : goal.returns-in_err-found
@@ -33,7 +36,16 @@ returns-in_err-check_no_aggregate c =
     let is = subst (λ (x : SelectTree). IsBindable o c.args.user.now x) q c.in_ok-found.ensures.bindable in
     let meant = subst (λ (x : SelectTree). IsMeant (meant_by o x) c.in_ok-found.found) q c.in_ok-found.ensures.meant in
     let p = err_from_is_err_and c.from_residual-in_err-check_no_aggregate.result c.from_residual-in_err-check_no_aggregate.ensures.1 in
-    rw (p.1, p.2) (aggregate_told o c.args.user.now e es w _ _ is (ap (map tree) c.as_slice.ensures.value ∙ (ap (λ f. f.items) meant.form ∙ values_meant _ e es w)) c.in_err-check_no_aggregate.ensures)
+    rw (p.1, p.2) (aggregate_told o c.args.user.now e es w _ _ is (ap (map tree) c.as_slice.ensures.value ∙ (ap first_items (ap (map core_form) (sym c.only_core-core.ensures) ∙ ap (λ f. f.cores) meant.form) ∙ values_meant _ e es w)) c.in_err-check_no_aggregate.ensures)
+
+pub only_core-core-requires : goal.only_core-core-requires
+only_core-core-requires c =
+    let o = objects c.args.catalog.now in
+    let e = option_map entry_tree c.args.entry in
+    let es = map expr_tree c.args.values.items in
+    let w = option_map expr_tree c.args.condition in
+    let q : query_in (statement_tree c.in_ok-query.query) ≡ query_for e es w = ap query_in c.in_ok-query.ensures.0 in
+    one_core (shapes o) e es w c.in_ok-found.found (subst (λ (x : SelectTree). IsMeant (meant_by o x) c.in_ok-found.found) q c.in_ok-found.ensures.meant)
 
 pub returns : goal.returns
 returns c =
@@ -44,4 +56,4 @@ returns c =
     let q : query_in (statement_tree c.in_ok-query.query) ≡ query_for e es w = ap query_in c.in_ok-query.ensures.0 in
     let is = subst (λ (x : SelectTree). IsBindable o c.args.user.now x) q c.in_ok-found.ensures.bindable in
     let meant = subst (λ (x : SelectTree). IsMeant (meant_by o x) c.in_ok-found.found) q c.in_ok-found.ensures.meant in
-    asked_is o c.args.user.now e es w c.in_ok-found.found _ is meant (sym (ap (λ xs. no_aggregate (map tree xs)) c.as_slice.ensures.value) ∙ c.in_ok-check_no_aggregate.ensures) refl refl
+    asked_is o c.args.user.now e es w c.in_ok-found.found _ _ is meant c.only_core-core.ensures (sym (ap (λ xs. no_aggregate (map tree xs)) c.as_slice.ensures.value) ∙ c.in_ok-check_no_aggregate.ensures) refl refl

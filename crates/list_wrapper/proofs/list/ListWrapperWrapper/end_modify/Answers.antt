@@ -2,7 +2,7 @@ use Rattle.std.proofs.Common.{◌≡◌, ◌∙◌, sym, ap, refl, Some, None, t
 use Rattle.std.proofs.lemmas.Option.{slice_get_within, slice_get_read}
 use Rattle.list_wrapper.specs.declared.list.ListTable.{ListTable}
 use Rattle.list_wrapper.proofs.Tables.{some_inj}
-use Rattle.list_wrapper.proofs.Closing.{kept_closes, list_refuses, names_stay, staged_there, staged_scans, written_fits}
+use Rattle.list_wrapper.proofs.Closing.{kept_closes, stay_fitting, list_refuses, names_stay, staged_there, staged_scans, written_fits}
 use Rattle.list_wrapper.proofs.list.ListWrapperWrapper.end_modify.Goals as goal
 
 pub returns-clause-ok : goal.returns-clause-ok
@@ -38,12 +38,13 @@ invariant_of-self-2 c =
       marked = search rules;
       distinct = names_stay s.tables.items st.table z _ dz refl ∙ s.distinct;
       typed = written_fits s.tables.items st s.staged x record { name = z.name; kinds = z.kinds; rows = c.in_ok-rows.rows } c.writes_are_typed.ensures es dx (ap (λ (t : ListTable). t.kinds) same) s.typed s.typed_write c.in_ok-rows.ensures;
+      fitting = stay_fitting s.tables.items st.table _ s.bound.items s.scans (Some st) s.next s.pulled (staged_scans s.tables.items s.bound.items s.scans st s.staged c.args.keep s.next s.pulled es (search rules) c.requires) s.fitting;
       typed_write = search rules;
       fresh = s.fresh;
     }
 
-pub returns-then-len-gt1000000-clause-err : goal.returns-then-len-gt1000000-clause-err
-returns-then-len-gt1000000-clause-err c =
+pub returns-then-len-gt-ROW_LIMIT-clause-err : goal.returns-then-len-gt-ROW_LIMIT-clause-err
+returns-then-len-gt-ROW_LIMIT-clause-err c =
     let s = c.args.self.now in
     let st = c.in-Some.staged in
     let es : s.staged ≡ Some st = search rules in

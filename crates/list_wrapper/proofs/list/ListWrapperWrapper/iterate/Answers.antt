@@ -1,63 +1,87 @@
-use Rattle.std.proofs.Common.{arith}
-use Rattle.list_wrapper.proofs.Scans.{open_there, at_some, if_some, keeps_fresh, list_gives, list_gives_none, list_breaks}
+use Rattle.list_wrapper.specs.Scans.{rows_at, ScanFits}
+use Rattle.list_wrapper.proofs.Calls.{open_there, at_some, if_some, some_if, keeps_fresh, keeps_fitting, list_gives, list_gives_none, list_breaks}
 use Rattle.list_wrapper.proofs.list.ListWrapperWrapper.iterate.Goals as goal
 
-pub row_of_scan-requires : goal.row_of_scan-requires
-row_of_scan-requires c =
+pub row_of_scan-requires-clause-live : goal.row_of_scan-requires-clause-live
+row_of_scan-requires-clause-live c =
     let s = c.args.self.now in
-    open_there s.tables.items s.bound.items s.scans s.staged s.next s.pulled c.args.ticket.now.number _ c.requires.1
+    let number = c.args.ticket.now.number in
+    let is = open_there s.tables.items s.bound.items s.scans s.staged s.next s.pulled number _ c.requires.1 in
+    is
 
 pub spoil-requires : goal.spoil-requires
 spoil-requires c =
     let s = c.args.self.now in
-    open_there s.tables.items s.bound.items s.scans s.staged s.next s.pulled c.args.ticket.now.number _ c.requires.1
+    let number = c.args.ticket.now.number in
+    let is = open_there s.tables.items s.bound.items s.scans s.staged s.next s.pulled number _ c.requires.1 in
+    is
 
 pub advance-requires : goal.advance-requires
 advance-requires c =
     let s = c.args.self.now in
-    open_there s.tables.items s.bound.items s.scans s.staged s.next s.pulled c.args.ticket.now.number _ c.requires.1
+    let number = c.args.ticket.now.number in
+    let is = open_there s.tables.items s.bound.items s.scans s.staged s.next s.pulled number _ c.requires.1 in
+    is
 
-pub invariant_of-self-clause-fresh : goal.invariant_of-self-clause-fresh
-invariant_of-self-clause-fresh c =
+pub row_of_scan-requires-clause-fits : goal.row_of_scan-requires-clause-fits
+row_of_scan-requires-clause-fits c =
     let s = c.args.self.now in
-    let is = open_there s.tables.items s.bound.items s.scans s.staged s.next s.pulled c.args.ticket.now.number _ c.requires.1 in
+    let number = c.args.ticket.now.number in
+    let is = open_there s.tables.items s.bound.items s.scans s.staged s.next s.pulled number _ c.requires.1 in
     let w = at_some _ is in
-    keeps_fresh s.scans c.spoil.new.scans c.args.ticket.now.number s.next _ s.fresh is (if_some _ _ w.0 w.1 c.spoil.ensures)
+    some_if _ (λ z. ScanFits (rows_at s.tables.items z.table) z) w.0 w.1 (s.fitting number w.0 w.1)
 
-pub invariant_of-self-in-Ok-Some-clause-fresh : goal.invariant_of-self-in-Ok-Some-clause-fresh
-invariant_of-self-in-Ok-Some-clause-fresh c =
+pub invariant_of-self : goal.invariant_of-self
+invariant_of-self c =
     let s = c.args.self.now in
-    let is = open_there s.tables.items s.bound.items s.scans s.staged s.next s.pulled c.args.ticket.now.number _ c.requires.1 in
+    let number = c.args.ticket.now.number in
+    let is = open_there s.tables.items s.bound.items s.scans s.staged s.next s.pulled number _ c.requires.1 in
     let w = at_some _ is in
-    keeps_fresh s.scans c.advance.new.scans c.args.ticket.now.number s.next _ s.fresh is (if_some _ _ w.0 w.1 c.advance.ensures)
+    record {
+      marked = s.marked;
+      distinct = s.distinct;
+      typed = s.typed;
+      fitting = keeps_fitting s.tables.items s.scans c.spoil.new.scans number _ s.fitting (s.fitting number w.0 w.1) (if_some _ _ w.0 w.1 c.spoil.ensures);
+      typed_write = s.typed_write;
+      fresh = keeps_fresh s.scans c.spoil.new.scans number s.next _ s.fresh is (if_some _ _ w.0 w.1 c.spoil.ensures);
+    }
 
-pub overflow_add-row : goal.overflow_add-row
-overflow_add-row c =
+pub invariant_of-self-in-Ok-Some : goal.invariant_of-self-in-Ok-Some
+invariant_of-self-in-Ok-Some c =
     let s = c.args.self.now in
-    let is = open_there s.tables.items s.bound.items s.scans s.staged s.next s.pulled c.args.ticket.now.number _ c.requires.1 in
+    let number = c.args.ticket.now.number in
+    let is = open_there s.tables.items s.bound.items s.scans s.staged s.next s.pulled number _ c.requires.1 in
     let w = at_some _ is in
-    let n = if_some _ _ w.0 w.1 (rw c.in-Ok-Some.field-0-is at c.in-Ok-Some.ensures) in
-    let b = n.1 in
-    omega arith
+    record {
+      marked = s.marked;
+      distinct = s.distinct;
+      typed = s.typed;
+      fitting = keeps_fitting s.tables.items s.scans c.advance.new.scans number _ s.fitting ((s.fitting number w.0 w.1).0, if_some _ _ w.0 w.1 (rw c.in-Ok-Some.field-0-is at c.in-Ok-Some.ensures.on)) (if_some _ _ w.0 w.1 c.advance.ensures);
+      typed_write = s.typed_write;
+      fresh = keeps_fresh s.scans c.advance.new.scans number s.next _ s.fresh is (if_some _ _ w.0 w.1 c.advance.ensures);
+    }
 
 pub returns-in-Err-clause-err : goal.returns-in-Err-clause-err
 returns-in-Err-clause-err c =
     let s = c.args.self.now in
-    let is = open_there s.tables.items s.bound.items s.scans s.staged s.next s.pulled c.args.ticket.now.number _ c.requires.1 in
+    let number = c.args.ticket.now.number in
+    let is = open_there s.tables.items s.bound.items s.scans s.staged s.next s.pulled number _ c.requires.1 in
     let w = at_some _ is in
-    list_breaks s.tables.items s.bound.items s.scans c.spoil.new.scans s.staged s.next s.pulled c.args.ticket.now.number w.0 w.1 (if_some _ _ w.0 w.1 c.spoil.ensures)
+    list_breaks s.tables.items s.bound.items s.scans c.spoil.new.scans s.staged s.next s.pulled number w.0 w.1 (if_some _ _ w.0 w.1 c.spoil.ensures)
 
 pub returns-in-Ok-Some-clause-ok : goal.returns-in-Ok-Some-clause-ok
 returns-in-Ok-Some-clause-ok c =
     let s = c.args.self.now in
-    let is = open_there s.tables.items s.bound.items s.scans s.staged s.next s.pulled c.args.ticket.now.number _ c.requires.1 in
+    let number = c.args.ticket.now.number in
+    let is = open_there s.tables.items s.bound.items s.scans s.staged s.next s.pulled number _ c.requires.1 in
     let w = at_some _ is in
     rw c.saturating_add-self.ensures
-    (list_gives s.tables.items s.bound.items s.scans c.advance.new.scans s.staged s.next s.pulled c.args.ticket.now.number w.0 c.in-Ok-Some.row c.rows_are_typed.ensures.shown s.typed w.1 (if_some _ _ w.0 w.1 (rw c.in-Ok-Some.field-0-is at c.in-Ok-Some.ensures)) (if_some _ _ w.0 w.1 c.advance.ensures))
+    (list_gives s.tables.items s.bound.items s.scans c.advance.new.scans s.staged s.next s.pulled number w.0 c.in-Ok-Some.step c.rows_are_typed.ensures.shown s.typed w.1 (if_some _ _ w.0 w.1 (rw c.in-Ok-Some.field-0-is at c.in-Ok-Some.ensures.next)) (if_some _ _ w.0 w.1 c.advance.ensures))
 
 pub returns-in-Ok-None-clause-ok : goal.returns-in-Ok-None-clause-ok
 returns-in-Ok-None-clause-ok c =
     let s = c.args.self.now in
-    let is = open_there s.tables.items s.bound.items s.scans s.staged s.next s.pulled c.args.ticket.now.number _ c.requires.1 in
+    let number = c.args.ticket.now.number in
+    let is = open_there s.tables.items s.bound.items s.scans s.staged s.next s.pulled number _ c.requires.1 in
     let w = at_some _ is in
-    list_gives_none s.tables.items s.bound.items s.scans s.staged s.next s.pulled c.args.ticket.now.number w.0 w.1 (if_some _ _ w.0 w.1 (rw c.in-Ok-None.field-0-is at c.in-Ok-None.ensures))
+    list_gives_none s.tables.items s.bound.items s.scans s.staged s.next s.pulled number w.0 w.1 (if_some _ _ w.0 w.1 (rw c.in-Ok-None.field-0-is at c.in-Ok-None.ensures.next))

@@ -1,3 +1,4 @@
+use Rattle.std.proofs.Common.{refl}
 use Rattle.std.proofs.lemmas.Result.{err_from_is_err_and}
 use Rattle.probe_wrapper.specs.Shuffled.{turns_of}
 use Rattle.probe_wrapper.proofs.CallLemmas.{begun_is_open, open_is_live}
@@ -12,7 +13,7 @@ returns-in_err-ticket-clause-err g c =
 
 pub returns-in-Ok-clause-ok : goal.returns-in-Ok-clause-ok
 returns-in-Ok-clause-ok g c =
-    begins (turns_of c.args.self.now.scans) (turns_of c.insert.new.self) c.args.self.now.pulled (g.W.Wrapper.meaning c.args.self.now.inner) (g.W.Wrapper.meaning c.begin.new.self) _ _ _ _ c.saturating_add-places.result c.in_ok-ticket.ensures.ok
+    begins (turns_of c.args.self.now.scans) (turns_of c.insert.new.self) c.args.self.now.pulled (g.W.Wrapper.meaning c.args.self.now.inner) (g.W.Wrapper.meaning c.begin.new.self) _ _ _ _ c.saturating_add-places.result refl c.in_ok-ticket.ensures.ok
     (becomes_of c.args.self.now.scans c.insert.new.self _ _ c.in-Ok.ensures.updates)
 
 pub end-requires : goal.end-requires

@@ -1,9 +1,10 @@
+use Rattle.std.proofs.Common.{false}
 use Rattle.probe_wrapper.specs.Shy.{asked_of}
 use Rattle.probe_wrapper.proofs.ShyCalls.{can_unbind, unbinds}
 use Rattle.probe_wrapper.proofs.shy.ShyWrapper.unbind.Goals as goal
 
 pub unbind-requires : goal.unbind-requires
-unbind-requires g c = can_unbind (asked_of c.args.self.now.scans) (g.W.Wrapper.meaning c.args.self.now.inner) _ c.requires
+unbind-requires g c = can_unbind false (asked_of c.args.self.now.scans) (g.W.Wrapper.meaning c.args.self.now.inner) _ c.requires
 
 pub returns : goal.returns
-returns g c = unbinds (asked_of c.args.self.now.scans) (g.W.Wrapper.meaning c.args.self.now.inner) (g.W.Wrapper.meaning c.unbind.new.self) _ c.unbind.ensures
+returns g c = unbinds false (asked_of c.args.self.now.scans) (g.W.Wrapper.meaning c.args.self.now.inner) (g.W.Wrapper.meaning c.unbind.new.self) _ c.unbind.ensures

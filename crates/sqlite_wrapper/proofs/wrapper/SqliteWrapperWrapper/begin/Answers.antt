@@ -57,6 +57,8 @@ invariant_of-self-2 g c =
       named = s.named;
       there = s.there;
       typed_write = s.typed_write;
+      counts = s.counts;
+      few = s.few;
       allowed = keeps_allowed s.scans c.insert.new.self s.next (Some scan) s.allowed (λ z e. subst (λ (y : KeyScan). is_allowed (scan_is y) ≡ true) (some_inj _ _ e) ok) u;
       fresh = begun_fresh s.scans c.insert.new.self s.next (Some scan) s.fresh u;
     }

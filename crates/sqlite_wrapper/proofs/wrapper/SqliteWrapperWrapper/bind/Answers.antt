@@ -1,8 +1,14 @@
-use Rattle.std.proofs.Common.{◌∙◌, sym, rules}
+use Rattle.std.proofs.Common.{◌∙◌, sym, ap, subst, length, rules}
 use Rattle.std.proofs.Common.{option_map}
 use Rattle.sqlite.specs.Held.{state}
 use Rattle.staged_changes.specs.Staged.{write_is}
-use Rattle.sqlite_wrapper.proofs.Kept.{within_count, writable_after, apart_after, there_after}
+use Rattle.sqlite.specs.Effect.{Database}
+use Rattle.sqlite_cells.specs.Layouts.{layout_at}
+use Rattle.sqlite_cells.specs.Tables.{rows_of}
+use Rattle.sqlite_wrapper.specs.Boxes.{rows_at}
+use Rattle.sqlite_wrapper.specs.Counts.{AreCounts, AreFew}
+use Rattle.sqlite_wrapper.proofs.Counted.{put_counts, put_few}
+use Rattle.sqlite_wrapper.proofs.Kept.{within_count, writable_after, apart_after, there_after, counts_after}
 use Rattle.sqlite_wrapper.proofs.Binding.{place_within, sqlite_binds, sqlite_refuses, sqlite_lacks}
 use Rattle.sqlite_wrapper.proofs.Giving.{known_at}
 use Rattle.sqlite_wrapper.proofs.wrapper.SqliteWrapperWrapper.bind.Goals as goal
@@ -30,6 +36,8 @@ invariant_of-self g c =
       apart = apart_after g.S.SourceStore.honest db after c.open_table.ensures.same s.apart;
       named = s.named;
       there = there_after g.S.SourceStore.honest db after (option_map write_is s.staged) c.open_table.ensures.same s.there;
+      counts = counts_after g.S.SourceStore.honest db after s.row_counts.items c.open_table.ensures.same s.counts;
+      few = s.few;
       allowed = s.allowed;
       fresh = s.fresh;
     }
@@ -54,6 +62,9 @@ invariant_of-self-2 g c =
     let s = c.args.self.now in
     let db = (state g.S.Store s.conn).now in
     let after = (state g.S.Store c.open_table.new.conn).now in
+    let place = sym c.place_of.ensures ∙ c.in-Some.is in
+    let lt = place_within s.bound.items c.args.remote.now c.in-Some.number s.counted place in
+    let within = within_count c.in-Some.number s.bound.items s.counted lt in
     record {
       counted = search rules;
       idle = c.open_table.ensures.idle;
@@ -62,6 +73,11 @@ invariant_of-self-2 g c =
       apart = apart_after g.S.SourceStore.honest db after c.open_table.ensures.same s.apart;
       named = s.named;
       there = there_after g.S.SourceStore.honest db after (option_map write_is s.staged) c.open_table.ensures.same s.there;
+      counts = λ h. subst (AreCounts after) (sym c.put_count.ensures)
+          (put_counts db after s.row_counts.items c.in-Some.number c.in-Ok.count (s.counts h) within
+          (c.in-Ok.ensures.count h ∙ ap (λ (d : Database). length (rows_of d (layout_at c.in-Some.number))) (sym (c.open_table.ensures.same h)))
+          (λ q ne. ap (λ (d : Database). rows_at d q) (c.open_table.ensures.same h)));
+      few = subst AreFew (sym c.put_count.ensures) (put_few s.row_counts.items c.in-Some.number c.in-Ok.count s.few c.in-Ok.ensures.few);
       allowed = s.allowed;
       fresh = s.fresh;
     }
@@ -74,4 +90,4 @@ returns-clause-ok g c =
     let place = sym c.place_of.ensures ∙ c.in-Some.is in
     let lt = place_within s.bound.items c.args.remote.now c.in-Some.number s.counted place in
     sqlite_binds g.S.SourceStore.honest db after s.bound.items s.scans s.staged s.next s.pulled s.faults _ _ _ c.open_table.ensures.same c.in-Some.number lt (within_count c.in-Some.number s.bound.items s.counted lt) c.requires place
-    c.in_default-open_table.ensures.types c.in_default-open_table.ensures.ok c.open_table.ensures.once
+    c.in-Ok.ensures.types c.in-Ok.ensures.ok c.open_table.ensures.once

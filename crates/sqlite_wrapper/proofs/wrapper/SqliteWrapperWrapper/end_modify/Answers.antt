@@ -9,7 +9,10 @@ use Rattle.sqlite_changes.proofs.Named.{none_named}
 use Rattle.sqlite_writes.specs.Writable.{AreApart, IsWritable}
 use Rattle.sqlite_wrapper.specs.Changes.{NamesOnce, names_rows, write_fits}
 use Rattle.sqlite_wrapper.specs.Boxes.{sqlite_state}
-use Rattle.sqlite_wrapper.proofs.Closing.{sqlite_closes, sqlite_keeps}
+use Rattle.sqlite_wrapper.specs.Counts.{AreCounts, AreFew, held_for}
+use Rattle.sqlite_wrapper.proofs.Closing.{same_rows, sqlite_closes, sqlite_keeps, within}
+use Rattle.sqlite_wrapper.proofs.Counted.{forget_counts, forget_few, held_few, held_is, put_counts, put_few}
+use Rattle.sqlite_wrapper.proofs.Kept.{counts_after}
 use Rattle.sqlite_wrapper.proofs.Giving.{known_at}
 use Rattle.sqlite_wrapper.proofs.wrapper.SqliteWrapperWrapper.end_modify.Goals as goal
 
@@ -24,6 +27,8 @@ invariant_of-self g c =
       named = subst NamesOnce (sym (ap (option_map write_is) c.take.ensures.after)) none_named;
       there = λ h. subst (λ (o : Option StagedWrite). names_rows (state g.S.Store s.conn).now (option_map write_is o) ≡ true) (sym c.take.ensures.after) refl;
       typed_write = subst (λ (o : Option StagedWrite). IsTrue (write_fits (option_map write_is o))) (sym c.take.ensures.after) refl;
+      counts = s.counts;
+      few = s.few;
       allowed = s.allowed;
       fresh = s.fresh;
     }
@@ -33,9 +38,29 @@ write_rows-requires-clause-known g c h =
     let s = c.args.self.now in
     known_at g.S.SourceStore.honest s.conn.schema c.in-Some.write.table s.writable h
 
+pub write_rows-requires-clause-held : goal.write_rows-requires-clause-held
+write_rows-requires-clause-held g c h =
+    let s = c.args.self.now in
+    let honest = g.S.SourceStore.honest in
+    let db = (state g.S.Store s.conn).now in
+    let can = subst (CanClose (sqlite_state honest db s.bound.items s.scans s.staged s.next s.pulled s.faults)) c.if-not-keep.false c.requires in
+    let is : s.staged ≡ Some c.in-Some.write = sym c.take.ensures.value ∙ c.in-Some.is in
+    held_is db s.row_counts.items c.in-Some.write.table c.count_of-held.result (s.counts h) (within honest db db s.bound.items s.scans s.staged s.next s.pulled s.faults c.in-Some.write s.counted is can)
+    (c.count_of-held.ensures ∙ ap (λ cs. held_for cs c.in-Some.write.table) c.deref.ensures.value)
+
+pub write_rows-requires-clause-few : goal.write_rows-requires-clause-few
+write_rows-requires-clause-few g c =
+    held_few c.args.self.now.row_counts.items c.in-Some.write.table c.count_of-held.result c.args.self.now.few
+    (c.count_of-held.ensures ∙ ap (λ cs. held_for cs c.in-Some.write.table) c.deref.ensures.value)
+
 pub invariant_of-self-in-Ok : goal.invariant_of-self-in-Ok
 invariant_of-self-in-Ok g c =
     let s = c.args.self.now in
+    let honest = g.S.SourceStore.honest in
+    let db = (state g.S.Store s.conn).now in
+    let after = (state g.S.Store c.write_rows.new.conn).now in
+    let can = subst (CanClose (sqlite_state honest db s.bound.items s.scans s.staged s.next s.pulled s.faults)) c.if-not-keep.false c.requires in
+    let is : s.staged ≡ Some c.in-Some.write = sym c.take.ensures.value ∙ c.in-Some.is in
     record {
       counted = s.counted;
       idle = c.write_rows.ensures.idle;
@@ -44,6 +69,12 @@ invariant_of-self-in-Ok g c =
       named = subst NamesOnce (sym (ap (option_map write_is) c.take.ensures.after)) none_named;
       there = λ h. subst (λ (o : Option StagedWrite). names_rows (state g.S.Store c.write_rows.new.conn).now (option_map write_is o) ≡ true) (sym c.take.ensures.after) refl;
       typed_write = subst (λ (o : Option StagedWrite). IsTrue (write_fits (option_map write_is o))) (sym c.take.ensures.after) refl;
+      counts = λ h. subst (AreCounts after) (sym c.put_count.ensures)
+          (put_counts db after s.row_counts.items c.in-Some.write.table c.in-Ok.count (s.counts h) (within honest db after s.bound.items s.scans s.staged s.next s.pulled s.faults c.in-Some.write s.counted is can)
+          (c.in-Ok.ensures.count h)
+          (λ q ne. same_rows honest db after s.bound.items s.scans s.staged s.next s.pulled s.faults c.in-Some.write s.counted is can (c.in-Ok.ensures.made h) (s.apart h)
+          (λ u. known_at honest s.conn.schema u s.writable h) s.allowed q ne));
+      few = subst AreFew (sym c.put_count.ensures) (put_few s.row_counts.items c.in-Some.write.table c.in-Ok.count s.few c.in-Ok.ensures.few);
       allowed = s.allowed;
       fresh = s.fresh;
     }
@@ -51,6 +82,9 @@ invariant_of-self-in-Ok g c =
 pub invariant_of-self-in-Err : goal.invariant_of-self-in-Err
 invariant_of-self-in-Err g c =
     let s = c.args.self.now in
+    let honest = g.S.SourceStore.honest in
+    let db = (state g.S.Store s.conn).now in
+    let after = (state g.S.Store c.write_rows.new.conn).now in
     record {
       counted = s.counted;
       idle = c.write_rows.ensures.idle;
@@ -59,6 +93,9 @@ invariant_of-self-in-Err g c =
       named = subst NamesOnce (sym (ap (option_map write_is) c.take.ensures.after)) none_named;
       there = λ h. subst (λ (o : Option StagedWrite). names_rows (state g.S.Store c.write_rows.new.conn).now (option_map write_is o) ≡ true) (sym c.take.ensures.after) refl;
       typed_write = subst (λ (o : Option StagedWrite). IsTrue (write_fits (option_map write_is o))) (sym c.take.ensures.after) refl;
+      counts = λ h. counts_after honest db after c.forget_count.new.counts.items c.in-Err.ensures.same
+          (λ same. forget_counts db s.row_counts.items c.forget_count.new.counts.items c.forget_count.ensures (s.counts same)) h;
+      few = forget_few s.row_counts.items c.forget_count.new.counts.items c.forget_count.ensures s.few;
       allowed = s.allowed;
       fresh = s.fresh;
     }

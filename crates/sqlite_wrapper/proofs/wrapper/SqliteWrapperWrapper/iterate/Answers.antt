@@ -3,7 +3,7 @@ use Rattle.std.proofs.lemmas.Int.{to_z-of_z}
 use Rattle.std.proofs.Common.{option_map}
 use Rattle.sqlite.specs.Held.{state}
 use Rattle.staged_changes.specs.Staged.{write_is}
-use Rattle.sqlite_wrapper.proofs.Kept.{writable_after, apart_after, there_after}
+use Rattle.sqlite_wrapper.proofs.Kept.{writable_after, apart_after, there_after, counts_after}
 use Rattle.fdw_api.specs.State.{Scan}
 use Rattle.sqlite_wrapper.specs.Pages.{IsNext, passed}
 use Rattle.sqlite_wrapper.proofs.Maps.{sets, sets_on}
@@ -56,6 +56,8 @@ invariant_of-self g c =
       apart = apart_after g.S.SourceStore.honest db after c.read_page.ensures.same s.apart;
       named = s.named;
       there = there_after g.S.SourceStore.honest db after (option_map write_is s.staged) c.read_page.ensures.same s.there;
+      counts = counts_after g.S.SourceStore.honest db after s.row_counts.items c.read_page.ensures.same s.counts;
+      few = s.few;
       allowed = keeps_allowed s.scans c.spoil.new.scans number _ s.allowed (allows_same (record w.0 { broken = true }) (record w.0 { broken = true }) refl (s.allowed number w.0 w.1)) u;
       fresh = keeps_fresh s.scans c.spoil.new.scans number s.next _ s.fresh is u;
     }
@@ -116,6 +118,8 @@ invariant_of-self-in-Err-next_of g c =
       apart = apart_after g.S.SourceStore.honest db after c.read_page.ensures.same s.apart;
       named = s.named;
       there = there_after g.S.SourceStore.honest db after (option_map write_is s.staged) c.read_page.ensures.same s.there;
+      counts = counts_after g.S.SourceStore.honest db after s.row_counts.items c.read_page.ensures.same s.counts;
+      few = s.few;
       allowed = keeps_allowed s.scans c.spoil-in-Err-next_of.new.scans number _ s.allowed (allows_same (record t.0 { broken = true }) (record w.0 { broken = true }) (ap (λ (z : Scan). record z { broken = true }) t.2.shows) (s.allowed number w.0 w.1)) u;
       fresh = keeps_fresh s.scans c.spoil-in-Err-next_of.new.scans number s.next _ s.fresh is u;
     }
@@ -152,6 +156,8 @@ invariant_of-self-in-Ok-None g c =
       apart = apart_after g.S.SourceStore.honest db after c.read_page.ensures.same s.apart;
       named = s.named;
       there = there_after g.S.SourceStore.honest db after (option_map write_is s.staged) c.read_page.ensures.same s.there;
+      counts = counts_after g.S.SourceStore.honest db after s.row_counts.items c.read_page.ensures.same s.counts;
+      few = s.few;
       allowed = keeps_allowed s.scans c.read_page.new.scans number _ s.allowed (allows_same t.0 w.0 t.2.shows (s.allowed number w.0 w.1)) t.1;
       fresh = keeps_fresh s.scans c.read_page.new.scans number s.next _ s.fresh is t.1;
     }
@@ -201,6 +207,8 @@ invariant_of-self-in-Ok-Some g c =
       apart = apart_after g.S.SourceStore.honest db after c.read_page.ensures.same s.apart;
       named = s.named;
       there = there_after g.S.SourceStore.honest db after (option_map write_is s.staged) c.read_page.ensures.same s.there;
+      counts = counts_after g.S.SourceStore.honest db after s.row_counts.items c.read_page.ensures.same s.counts;
+      few = s.few;
       allowed = keeps_allowed s.scans c.pass_row.new.scans number _ s.allowed (passed_allows t.0 w.0 c.in-Ok-Some.next.key t.2.shows (s.allowed number w.0 w.1)) u;
       fresh = keeps_fresh s.scans c.pass_row.new.scans number s.next _ s.fresh is u;
     }

@@ -60,6 +60,8 @@ invariant_of-self g c =
       apart = s.apart;
       named = s.named;
       there = s.there;
+      counts = s.counts;
+      few = s.few;
       allowed = keeps_allowed s.scans c.spoil.new.scans c.args.ticket.now.number _ s.allowed (λ z e. subst (λ (y : KeyScan). is_allowed (scan_is y) ≡ true) (some_inj _ _ e) (s.allowed c.args.ticket.now.number w.0 w.1)) u;
       fresh = keeps_fresh s.scans c.spoil.new.scans c.args.ticket.now.number s.next _ s.fresh is u;
     }
@@ -81,6 +83,8 @@ invariant_of-self-in-Ok g c =
       apart = s.apart;
       named = s.named;
       there = s.there;
+      counts = s.counts;
+      few = s.few;
       allowed = keeps_allowed s.scans c.put_scan.new.scans c.args.ticket.now.number _ s.allowed (λ z e. subst (λ (y : KeyScan). is_allowed (scan_is y) ≡ true) (some_inj _ _ e) same) (sets s.scans c.put_scan.new.scans c.args.ticket.now.number (Some c.in-Ok.scan) c.put_scan.ensures);
       fresh = keeps_fresh s.scans c.put_scan.new.scans c.args.ticket.now.number s.next _ s.fresh is (sets s.scans c.put_scan.new.scans c.args.ticket.now.number (Some c.in-Ok.scan) c.put_scan.ensures);
     }

@@ -1,0 +1,60 @@
+"""The scripts that try a program and need no prover: the streams, the examples, and what else `SCRIPTS` names. A script has `run(program)`, which gives how
+many tests passed, how many failed, and a line for each that failed.
+
+usage: .ci/scripts.py SCRIPT PROGRAM   runs one, and prints that as JSON
+"""
+import json, os, runpy, subprocess, sys
+from concurrent.futures import ThreadPoolExecutor
+
+# The longest first.
+TESTS = """run launcher limits exchanged folders shell schemas setup install pages random_objects random_files connections random_writes leaving random_cursors
+    tried"""
+SCRIPTS = [*(f"tests/{it}" for it in TESTS.split()), "examples/run"]
+SECONDS = 3600  # after which a script has failed
+
+def ended(script, program):
+    """How a script ends over the program, in a process of its own: passed, failed, and what is to be read of it. One that breaks off or tries nothing has
+    failed."""
+    words = [sys.executable, "-B", os.path.realpath(__file__), script, program]
+    try:
+        ran = subprocess.run(words, stdin=subprocess.DEVNULL, stdout=subprocess.PIPE, stderr=subprocess.STDOUT, errors="replace", timeout=SECONDS)
+        passed, failed, lines = json.loads(ran.stdout.rstrip().rpartition("\n")[2])
+        if ran.returncode or passed + failed == 0:
+            raise ValueError(ran.returncode)
+    except subprocess.TimeoutExpired:
+        passed, failed, lines = 0, 1, [f"it had not ended after {SECONDS} seconds"]
+    except (ValueError, TypeError):
+        passed, failed, lines = 0, 1, [f"it ended with status {ran.returncode} and no count of tests: {ran.stdout[-2000:]}"]
+    return passed, failed, "\n".join([f"{script}: {passed} passed, {failed} failed", *lines])
+
+def over(program):
+    """Runs all scripts over a program, as many at a time as there are processors, and gives of each, in their order, what `ended` does."""
+    with ThreadPoolExecutor(len(os.sched_getaffinity(0))) as pool:
+        yield from pool.map(lambda it: ended(it, os.path.abspath(program)), SCRIPTS)
+
+def sources_of_dist():
+    """The sum of the sources that the program in dist/ was made of, the kit that made it, and the sum of those that stand here."""
+    with open("dist/sources", encoding="utf-8") as it:
+        sources, kit = it.read().split("\n", 1)
+    return sources, kit, subprocess.check_output("dist/digest", text=True).strip()
+
+def told(found, counts=(0, 0)):
+    """Prints how each ended, as it ends, and adds up the counts."""
+    for passed, failed, text in found:
+        counts = counts[0] + passed, counts[1] + failed
+        print(text, flush=True)
+    return counts
+
+def quick(program="dist/fedq"):
+    """Runs all that needs no prover over the program in dist/, where that is of the sources that stand here."""
+    sources, _, here = sources_of_dist()
+    first = (1, 0, f"{program} is of these sources") if sources == here else (0, 1, f"{program} is of other sources: dist/rebuild makes it anew")
+    passed, failed = told(over(program), told([first]))
+    print(f"nothing was proved\n{passed} passed, {failed} failed", flush=True)
+    return 1 if failed else 0
+
+if __name__ == "__main__":
+    if len(sys.argv) != 3:
+        sys.exit(__doc__)
+    sys.path[:0] = [os.path.dirname(os.path.abspath(sys.argv[1]))]
+    print("\n" + json.dumps([*runpy.run_path(sys.argv[1])["run"](sys.argv[2])]))

@@ -1,0 +1,32 @@
+# Completion of bash for fedq, fedq-shell and fedq-setup: their words, and files behind NAME=, --init, --out and --check.
+
+_fedq() {
+    local current=${COMP_WORDS[COMP_CWORD]} before=${COMP_WORDS[COMP_CWORD - 1]} words
+    COMPREPLY=()
+    # (`=` is a word of its own, unless COMP_WORDBREAKS was changed)
+    if [[ $current == = ]]; then
+        current= before='='
+    elif [[ $current == *=* && $current != -* ]]; then
+        mapfile -t COMPREPLY < <(compgen -f -- "${current#*=}" | sed "s|^|${current%%=*}=|")
+        return
+    fi
+    case $before in
+        = | --init | --out | --file | -f | --output | -o) mapfile -t COMPREPLY < <(compgen -f -- "$current"); return ;;
+        --check) mapfile -t COMPREPLY < <(compgen -W 'csv jsonl sqlite' -- "$current"); return ;;
+        --format) mapfile -t COMPREPLY < <(compgen -W 'aligned csv json' -- "$current"); return ;;
+        --csv | --jsonl | --sqlite | --list | --owner | --port | --count | --columns | --null | --members) return ;;
+    esac
+    case ${COMP_WORDS[0]##*/} in
+        fedq-setup) words='--csv --jsonl --sqlite --out --write --check --columns --header --null --members --help' ;;
+        fedq-shell) words='--csv --jsonl --sqlite --list --init --owner --command --file --stop --user --connect --format --expanded --null --output --version --help' ;;
+        *)
+            case ${COMP_WORDS[1]} in
+                run) words='--csv --jsonl --sqlite --list --init --owner --help' ;;
+                serve) words='--port --count --csv --jsonl --sqlite --list --init --owner --help' ;;
+                *) words='run serve help --help --version' ;;
+            esac ;;
+    esac
+    mapfile -t COMPREPLY < <(compgen -W "$words" -- "$current")
+}
+
+complete -o filenames -F _fedq fedq fedq-shell fedq-setup

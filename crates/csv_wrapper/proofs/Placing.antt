@@ -1,0 +1,219 @@
+-- What is read of a blob, and what a write leaves, as tables by place.
+use Rattle.std.proofs.Common.{◌≡◌, ◌≢◌, ℕ, ◌+◌, ◌<◌, ◌⊎◌, inl, inr, eqb, Bool, true, false, not, ◌&&◌, nat_le, nat_lt, zero, suc, List, [], ◌∷◌, ◌++◌, length, map, slice_get, Option, Some, None, Contains, String, Global, string_bytes, refl, ap, sym, ◌∙◌, subst, arith}
+use Rattle.std.specs.List.{list_all, list_any, AllByRecursion}
+use Rattle.std.proofs.lemmas.Bool.Decides.{eqb_tells}
+use Rattle.std.proofs.lemmas.List.Elements.{All-contains, All-from_recursion}
+use Rattle.med_value.specs.Causes.{phase_of}
+use Rattle.med_value.specs.Datum.{Tuple}
+use Rattle.med_value.specs.declared.value.ColType.{ColType}
+use Rattle.fdw_api.specs.Scan.{Spec, TableRow}
+use Rattle.med_value.specs.declared.cause.Cause.{Cause}
+use Rattle.med_value.specs.declared.cause.Cause.TheVariants.{InvalidFormat, InvalidText, NotInState, TooLarge}
+use Rattle.fdw_api.specs.Kinds.{Column, OptionForm, Entry, Bytes, Held, held, Change, is_late, is_of_run}
+use Rattle.fdw_api.specs.Calls.{IsLeast}
+use Rattle.fdw_api.specs.Writes.{rows_after}
+use Rattle.fdw_api.specs.declared.interface.Fault.{Fault}
+use Rattle.fdw_api.specs.declared.interface.Fault.TheVariants.{NoMemory, Source, Refused}
+use Rattle.csv_tables.specs.declared.table.CsvTable.{CsvTable}
+use Rattle.csv_tables.specs.declared.layout.Layout.{Layout}
+use Rattle.csv_tables.specs.declared.written.Written.{Written}
+use Rattle.csv_tables.specs.Cells.{line_of}
+use Rattle.csv_tables.specs.CsvRecords.{Record, csv_records, csv_text, heading, body, has_field, is_header}
+use Rattle.csv_tables.specs.Shapes.{Shape, shape_of, read_row, unless, content_causes, csv_image, records_in, all_whole, all_readable, causes_behind, hides_value, rows_text}
+use Rattle.csv_tables.specs.Content.{IsContent, TellsCause}
+use Rattle.csv_tables.specs.Flat.{header_in}
+use Rattle.csv_tables.specs.Tables.{shape_is, records_of, numbered}
+use Rattle.csv_tables.specs.Rewriting.{Rewrites as Remade, rows_in}
+use Rattle.csv_tables.specs.Tables.{cells_at, fields_at}
+use Rattle.csv_tables.specs.Scans.{comes}
+use Rattle.csv_tables.proofs.Applying.{origins}
+use Rattle.csv_tables.proofs.Placing.{row_at, row_there, rows_count}
+use Rattle.csv_tables.proofs.Headers.{heading_is_header}
+use Rattle.place_wrapper.specs.Forms.{ReadsAs, RefusesContent, Rewrites, RefusesChanges}
+use Rattle.csv_wrapper.specs.CsvKind.{csv_refusals, unless_of_run, three_of_run}
+use Rattle.csv_wrapper.specs.Bound.{bound_by}
+use Rattle.csv_wrapper.specs.Places.{csv_form, takes}
+use Rattle.place_index.specs.Scans.{SoughtForm, sought, has_sought}
+use Rattle.csv_wrapper.specs.declared.places.CsvPlaces.{CsvPlaces}
+
+both : (a b : Bool) → (a && b) ≡ true → (a ≡ true) × (b ≡ true)
+both true b e = (refl, e)
+both false b e = absurd cc
+
+abbrev IsOfRun : Cause → Type 0
+IsOfRun c = is_of_run (phase_of c) ≡ true
+
+all_run : (cs : List Cause) → list_all (λ c. is_of_run (phase_of c)) cs ≡ true → AllByRecursion IsOfRun cs
+all_run [] e = tt
+all_run (c ∷ cs) e = let w = both (is_of_run (phase_of c)) (list_all (λ c. is_of_run (phase_of c)) cs) e in (w.0, all_run cs w.1)
+
+one_run : (cs : List Cause) (c : Cause) → list_all (λ c. is_of_run (phase_of c)) cs ≡ true → Contains cs c → is_of_run (phase_of c) ≡ true
+one_run cs c all is = All-contains IsOfRun cs c (All-from_recursion IsOfRun cs (all_run cs all)) is
+
+run_phase : (o : Option ℕ) → is_of_run o ≡ true → o ≡ Some 6
+run_phase None e = absurd cc
+run_phase (Some p) e = split (eqb_tells 6 p)
+  where
+    split : ((eqb 6 p ≡ true) × (6 ≡ p)) ⊎ ((eqb 6 p ≡ false) × (6 ≢ p)) → Some p ≡ Some 6
+    split (inl w) = ap (λ (n : ℕ). Some n) (sym w.1)
+    split (inr w) = absurd (let f = w.0 in cc)
+
+some_same : (p q : ℕ) → Some p ≡ Some q → p ≡ q
+some_same p q e = cc
+
+-- causes of one phase are all the least
+least_of : (cs : List Cause) (c : Cause) → list_all (λ c. is_of_run (phase_of c)) cs ≡ true → Contains cs c → (is_late (phase_of c) ≡ true) × IsLeast cs c
+least_of cs c all is = (
+  ap is_late (six c is),
+  record {
+    stands = is;
+    phase = 6;
+    has = six c is;
+    least = λ d q in_it d_has. (let e = some_same 6 q (sym (six d in_it) ∙ d_has) in omega arith);
+  },
+)
+  where
+    six : (d : Cause) → Contains cs d → phase_of d ≡ Some 6
+    six d in_it = run_phase (phase_of d) (one_run cs d all in_it)
+
+four_of_run : (a b c d : Bool) → list_all (λ c. is_of_run (phase_of c)) (unless a TooLarge (unless b InvalidFormat (unless c InvalidText (unless d TooLarge [])))) ≡ true
+four_of_run a b c d =
+    unless_of_run a TooLarge (unless b InvalidFormat (unless c InvalidText (unless d TooLarge []))) refl
+    (unless_of_run b InvalidFormat (unless c InvalidText (unless d TooLarge [])) refl
+    (unless_of_run c InvalidText (unless d TooLarge []) refl (unless_of_run d TooLarge [] refl refl)))
+
+content_run : (shape : Shape) (bytes : List ℕ) → list_all (λ c. is_of_run (phase_of c)) (content_causes shape bytes) ≡ true
+content_run shape bytes =
+    four_of_run (nat_le (length bytes) 67108864) (all_whole shape bytes) (all_readable shape bytes) (nat_le (length (body shape.header (csv_records bytes))) 1000000)
+
+-- a content that is refused
+pub content_refused : (columns : List Column) (settings : List OptionForm) (shape : Shape) (bytes : List ℕ) (fault : Fault) → shape ≡ shape_of columns settings
+    → TellsCause fault (content_causes shape bytes) → RefusesContent csv_form columns settings bytes fault
+content_refused columns settings shape bytes NoMemory es told = tt
+content_refused columns settings shape bytes Source es told = told
+content_refused columns settings shape bytes (Refused c) es told =
+    least_of (content_causes (shape_of columns settings) bytes) c (content_run (shape_of columns settings) bytes) (subst (λ (s : Shape). Contains (content_causes s bytes) c) es told)
+
+held_numbered : (shape : Shape) (n : ℕ) (rs : List Record) → map held (numbered shape n rs) ≡ map (read_row shape) rs
+held_numbered shape n [] = refl
+held_numbered shape n (r ∷ rs) = ap (λ (l : List Held). read_row shape r ∷ l) (held_numbered shape (n + 1) rs)
+
+-- a content that is read
+pub reads_as : (remote : List ℕ) (columns : List Column) (settings : List OptionForm) (bytes : List ℕ) (t : CsvPlaces) → string_bytes t.table.remote ≡ remote
+    → shape_is t.table.layout ≡ shape_of columns settings → IsContent (shape_is t.table.layout) bytes (header_in t.table.header) (records_of t.table.rows)
+    → ReadsAs csv_form remote columns settings bytes t
+reads_as remote columns settings bytes t er es content = record {
+  remote_is = er;
+  kinds_are = ap (λ (s : Shape). s.kinds) es;
+  line_is = ap (λ (s : Shape). line_of s.null) es;
+  image_is = ap csv_image es;
+  arrangement_is = refl;
+  refuses_is = ap csv_refusals es;
+  no_cause = ap (λ (s : Shape). content_causes s bytes) (sym es) ∙ content.no_cause;
+  rows = held_numbered (shape_is t.table.layout) 0 (records_of t.table.rows) ∙ ap (map (read_row (shape_is t.table.layout))) (sym content.rows_are)
+      ∙ ap (λ (s : Shape). map (read_row s) (body s.header (csv_records bytes))) es;
+  fits = content.header_is;
+}
+
+-- a table of columns has a header of a field at least
+names_field : (names : List (String Global)) → 0 < length names → has_field (map string_bytes names) ≡ true
+names_field [] lt = absurd (omega arith)
+names_field (n ∷ ns) lt = refl
+
+pub heads : (l : Layout) (bytes : List ℕ) (header : List Record) → 0 < length l.names.items → heading l.header (map string_bytes l.names.items) (csv_records bytes) ≡ header
+    → is_header l.header header ≡ true
+heads l bytes header some e =
+    ap (is_header l.header) (sym e) ∙ heading_is_header l.header (map string_bytes l.names.items) bytes (names_field l.names.items some)
+
+-- changes that are refused
+pub changes_refused : (t : CsvPlaces) (changes : List Change) (fault : Fault) → TellsCause fault (causes_behind (shape_is t.table.layout) (header_in t.table.header) (rows_in t.table) changes)
+    → RefusesChanges csv_form t changes fault
+changes_refused t changes NoMemory told = tt
+changes_refused t changes Source told = told
+changes_refused t changes (Refused c) told =
+    let shape = shape_is t.table.layout in
+    let header = header_in t.table.header in
+    let after = rows_after (line_of shape.null) (rows_in t.table) changes in (
+      one_run (causes_behind shape header (rows_in t.table) changes) c
+          (three_of_run (not (list_any (hides_value shape.null) changes)) (nat_le (length after) 1000000) (nat_le (length (rows_text header after)) 67108864)) told,
+      λ entry fits. subst (λ (l : List Record). Contains (causes_behind shape l (rows_in t.table) changes) c) (sym fits) told,
+    )
+
+-- changes that are made
+pub rewrites : (t u : CsvPlaces) (changes : List Change) (w : Written) → string_bytes u.table.remote ≡ string_bytes t.table.remote → shape_is u.table.layout ≡ shape_is t.table.layout
+    → u.table.header ≡ w.header → u.table.rows ≡ w.rows → Remade t.table changes w → Rewrites csv_form t changes u w.image.items
+rewrites t u changes w er es eh ew did =
+    let shape = shape_is t.table.layout in
+    let records = ap records_of ew in
+    let rows : map held (rows_in u.table) ≡ map (read_row shape) (records_of w.rows) =
+    held_numbered (shape_is u.table.layout) 0 (records_of u.table.rows) ∙ ap (λ (s : Shape). map (read_row s) (records_of u.table.rows)) es ∙ ap (map (read_row shape)) records in
+    record {
+      bound = ap (λ (n : List ℕ). bound_by n (shape_is u.table.layout)) er ∙ ap (bound_by (string_bytes t.table.remote)) es;
+      rows = rows ∙ did.rows;
+      no_cause = λ entry fits. ap (λ (l : List Record). causes_behind shape l (rows_in t.table) changes) fits ∙ did.no_cause;
+      image_is = λ entry fits. ap (λ (b : List ℕ). Some (Bytes b))
+          (ap (λ (l : List Record). csv_text (heading shape.header shape.names (records_in entry) ++ l)) (ap (map (λ (r : Held). r.origin)) rows ∙ origins shape (records_of w.rows))
+          ∙ ap (λ (l : List Record). csv_text (l ++ records_of w.rows)) fits ∙ sym did.image);
+      fits = ap (λ (s : Shape). heading s.header s.names (csv_records w.image.items)) es ∙ did.header ∙ ap header_in (sym eh);
+    }
+
+-- a content without causes is of a table with columns
+second_clear : (a b : Bool) (more : List Cause) → unless a TooLarge (unless b InvalidFormat more) ≡ [] → b ≡ true
+second_clear true true more e = refl
+second_clear true false more e = absurd cc
+second_clear false b more e = absurd cc
+
+some_of : (n : ℕ) → nat_lt 0 n ≡ true → 0 < n
+some_of zero e = absurd cc
+some_of (suc n) e = omega arith
+
+pub columns_there : (shape : Shape) (bytes : List ℕ) → content_causes shape bytes ≡ [] → 0 < length shape.kinds
+columns_there shape bytes none =
+    some_of (length shape.kinds) (both (nat_lt 0 (length shape.kinds)) _ (second_clear (nat_le (length bytes) 67108864) (all_whole shape bytes) _ none)).0
+
+some_names : (names : List (String Global)) (kinds : List ColType) (cs : List Column) → map string_bytes names ≡ map (λ c. c.name) cs → kinds ≡ map (λ c. c.kind) cs
+    → 0 < length kinds → 0 < length names
+some_names [] kinds [] e k lt = absurd (let l = ap length k in omega arith)
+some_names [] kinds (c ∷ cs) e k lt = absurd cc
+some_names (n ∷ names) kinds cs e k lt = omega arith
+
+pub names_there : (l : Layout) (columns : List Column) (settings : List OptionForm) → shape_is l ≡ shape_of columns settings → 0 < length l.kinds.items → 0 < length l.names.items
+names_there l columns settings e lt = some_names l.names.items l.kinds.items columns (ap (λ (s : Shape). s.names) e) (ap (λ (s : Shape). s.kinds) e) lt
+
+copied_names : (new old : List (String Global)) → map string_bytes new ≡ map string_bytes old → 0 < length old → 0 < length new
+copied_names [] [] e lt = absurd (omega arith)
+copied_names [] (n ∷ old) e lt = absurd cc
+copied_names (m ∷ new) old e lt = omega arith
+
+pub names_copied : (new old : Layout) → shape_is new ≡ shape_is old → 0 < length old.names.items → 0 < length new.names.items
+names_copied new old e lt = copied_names new.names.items old.names.items (ap (λ (s : Shape). s.names) e) lt
+
+-- the row at a place, by what its record has
+pub within_count : (t : CsvTable) (at : ℕ) → at < length (rows_in t) → at < t.rows.count
+within_count t at lt = subst (λ (n : ℕ). at < n) (rows_count t) lt
+
+second_fails : (a b : Bool) → b ≡ false → (a && b) ≡ false
+second_fails true b e = e
+second_fails false b e = refl
+
+pub lacks_row : (t : CsvTable) (at : ℕ) (spec : Spec) (params : Tuple) (o : Option SoughtForm) (r : TableRow) → at < length (rows_in t) → o ≡ sought spec.offered → slice_get (rows_in t) at ≡ Some r
+    → has_sought o params (cells_at t at) ≡ false → takes spec params r ≡ false
+lacks_row t at spec params o r lt eo is e =
+    subst (λ (x : TableRow). takes spec params x ≡ false) (row_there t at r (within_count t at lt) is)
+    (ap (λ (q : Option SoughtForm). has_sought q params (cells_at t at) && comes spec.offered spec.answers params (cells_at t at) (fields_at t at)) (sym eo)
+    ∙ ap (λ (b : Bool). b && comes spec.offered spec.answers params (cells_at t at) (fields_at t at)) e)
+
+pub fails_row : (t : CsvTable) (at : ℕ) (spec : Spec) (params : Tuple) (r : TableRow) → at < length (rows_in t) → slice_get (rows_in t) at ≡ Some r
+    → comes spec.offered spec.answers params (cells_at t at) (fields_at t at) ≡ false → takes spec params r ≡ false
+fails_row t at spec params r lt is e =
+    subst (λ (x : TableRow). takes spec params x ≡ false) (row_there t at r (within_count t at lt) is) (second_fails (has_sought (sought spec.offered) params (cells_at t at)) _ e)
+
+pub takes_row : (t : CsvTable) (at : ℕ) (spec : Spec) (params : Tuple) (o : Option SoughtForm) (r : TableRow) → at < length (rows_in t) → o ≡ sought spec.offered → slice_get (rows_in t) at ≡ Some r
+    → has_sought o params (cells_at t at) ≡ true → comes spec.offered spec.answers params (cells_at t at) (fields_at t at) ≡ true → takes spec params r ≡ true
+takes_row t at spec params o r lt eo is h e =
+    subst (λ (x : TableRow). takes spec params x ≡ true) (row_there t at r (within_count t at lt) is)
+    (ap (λ (q : Option SoughtForm). has_sought q params (cells_at t at) && comes spec.offered spec.answers params (cells_at t at) (fields_at t at)) (sym eo)
+    ∙ ap (λ (b : Bool). b && comes spec.offered spec.answers params (cells_at t at) (fields_at t at)) h ∙ e)
+
+pub cells_there : (t : CsvTable) (at : ℕ) (r : TableRow) → at < length (rows_in t) → slice_get (rows_in t) at ≡ Some r → cells_at t at ≡ r.cells
+cells_there t at r lt is = ap (λ (x : TableRow). x.cells) (row_there t at r (within_count t at lt) is)

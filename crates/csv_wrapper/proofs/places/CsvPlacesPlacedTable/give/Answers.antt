@@ -1,0 +1,40 @@
+use Rattle.std.proofs.Common.{◌≡◌, ◌∙◌, true, false, map, ap, option_map, rules}
+use Rattle.med_value.specs.Datum.{datum, Tuple}
+use Rattle.fdw_api.specs.Scan.{spec_of, shown_cells}
+use Rattle.csv_tables.specs.Tables.{cells_at, fields_at}
+use Rattle.csv_tables.specs.Scans.{comes}
+use Rattle.place_index.specs.Scans.{form_of, has_sought}
+use Rattle.csv_wrapper.proofs.Placing.{within_count, lacks_row, fails_row, takes_row, cells_there}
+use Rattle.csv_wrapper.proofs.places.CsvPlacesPlacedTable.give.Goals as goal
+
+pub has_sought-requires : goal.has_sought-requires
+has_sought-requires c = within_count c.args.self.now.table c.args.at c.requires.within
+
+pub comes-requires : goal.comes-requires
+comes-requires c = within_count c.args.self.now.table c.args.at c.requires.within
+
+pub show-requires : goal.show-requires
+show-requires c = within_count c.args.self.now.table c.args.at c.requires.within
+
+pub returns-then-not-branch : goal.returns-then-not-branch
+returns-then-not-branch c r is =
+    let t = c.args.self.now.table in
+    let lacks : has_sought (option_map form_of c.args.found) (map datum c.args.params.now) (cells_at t c.args.at) ≡ false = search rules in
+    lacks_row t c.args.at (spec_of c.args.spec.now) (map datum c.args.params.now) _ r c.requires.within c.requires.found is lacks
+
+pub returns-then-not-branch-2 : goal.returns-then-not-branch-2
+returns-then-not-branch-2 c r is =
+    let t = c.args.self.now.table in
+    let spec = spec_of c.args.spec.now in
+    let stays : comes spec.offered spec.answers (map datum c.args.params.now) (cells_at t c.args.at) (fields_at t c.args.at) ≡ false = search rules in
+    fails_row t c.args.at spec (map datum c.args.params.now) r c.requires.within is stays
+
+pub returns : goal.returns
+returns c r is =
+    let t = c.args.self.now.table in
+    let spec = spec_of c.args.spec.now in
+    let has : has_sought (option_map form_of c.args.found) (map datum c.args.params.now) (cells_at t c.args.at) ≡ true = search rules in
+    let passes : comes spec.offered spec.answers (map datum c.args.params.now) (cells_at t c.args.at) (fields_at t c.args.at) ≡ true = search rules in (
+      takes_row t c.args.at spec (map datum c.args.params.now) _ r c.requires.within c.requires.found is has passes,
+      c.in_ok-row.ensures ∙ ap (λ (cells : Tuple). shown_cells spec cells) (cells_there t c.args.at r c.requires.within is),
+    )

@@ -1,0 +1,169 @@
+//! CSV tables as tables of rows at places.
+ghost use Rattle.std.specs.Prelude.{◌≡◌, ◌<◌, map, option_map, IfOk};
+ghost use Rattle.med_value.specs.Datum.{datum, cell};
+ghost use Rattle.csv_tables.specs.Tables.{cells_at};
+ghost use Rattle.place_index.specs.Places.{equals};
+ghost use Rattle.place_index.specs.Scans.{form_of, has_sought};
+
+use csv_tables::content::{Content, read_content};
+use csv_tables::layout::Layout;
+use csv_tables::scan::{answer_to, comes, may_equal, show};
+use csv_tables::table::CsvTable;
+use csv_tables::written::{Written, apply_changes};
+use fdw_api::interface::{Fault, TableOption};
+use fdw_api::scan::{Agree, Restriction, ScanSpec};
+use med_value::{ColumnDef, Comparison, NoMemory, Row, Value};
+use place_index::{Sought, value_at};
+use place_wrapper::PlacedTable;
+use staged_changes::RowChange;
+use std::alloc::Global;
+
+/// A CSV table.
+#[derive(Drop)]
+pub struct CsvPlaces {
+    table: CsvTable,
+}
+
+/// A CSV table after changes, and the image that is read again as it.
+#[derive(Drop)]
+pub struct CsvDraft {
+    after: CsvPlaces,
+    image: Vec<u8>,
+}
+
+// Whether the record at a place has what a scan looks for. It is decoded only where its field may be equal to the parameter.
+fn has(
+    alloc: Global,
+    table: &CsvTable,
+    at: usize,
+    found: Sought,
+    params: &[Value],
+) -> Result<bool, NoMemory>
+    requires { at < table.now.rows.count }
+    ensures { IfOk result (λ b. b ≡ equals (cell (map datum params.now) found.parameter) (cell (cells_at table.now at) found.column)) }
+{
+    let missing = Value::Null;
+    let sought = value_at(params, found.parameter, &missing);
+    if !may_equal(table.field_size(at, found.column), sought) {
+        return Ok(false);
+    }
+    let value = table.value(alloc, at, found.column)?;
+    Ok(Comparison::Equal.is_true(&value, sought))
+}
+
+// Whether the record at a place has what a scan looks for, if it looks for something.
+fn has_sought(
+    alloc: Global,
+    table: &CsvTable,
+    at: usize,
+    found: Option<Sought>,
+    params: &[Value],
+) -> Result<bool, NoMemory>
+    requires { at < table.now.rows.count }
+    ensures { IfOk result (λ b. b ≡ has_sought (option_map form_of found) (map datum params.now) (cells_at table.now at)) }
+{
+    match found {
+        Some(found) => has(alloc, table, at, found, params),
+        None => Ok(true),
+    }
+}
+
+impl PlacedTable for CsvPlaces {
+    type Draft = CsvDraft;
+
+    ghost use Rattle.csv_wrapper.specs.Places.{csv_form};
+
+    ghost form = { csv_form };
+
+    ghost drafted = { λ draft. draft.after };
+
+    ghost image_of = { λ draft. draft.image.items };
+
+    fn read(
+        alloc: Global,
+        remote: &str,
+        columns: &[ColumnDef],
+        options: &[TableOption],
+        content: Vec<u8>,
+    ) -> Result<CsvPlaces, Fault> {
+        let layout = Layout::new(alloc, columns, options)?;
+        let remote = remote.to_string(alloc)?;
+        let Content { header, rows } = match read_content(alloc, &layout, &content) {
+            Ok(content) => content,
+            Err(fault) => return Err(fault),
+        };
+        let table = CsvTable {
+            remote,
+            layout,
+            header,
+            rows,
+        };
+        Ok(CsvPlaces { table })
+    }
+
+    fn remote(&self) -> &str {
+        self.table.remote.as_str()
+    }
+
+    fn count(&self) -> usize {
+        self.table.rows.count
+    }
+
+    fn answer(&self, restriction: &Restriction) -> Agree {
+        answer_to(&self.table.layout.kinds, restriction)
+    }
+
+    fn give(
+        &self,
+        alloc: Global,
+        at: usize,
+        spec: &ScanSpec,
+        found: Option<Sought>,
+        params: &[Value],
+    ) -> Result<Option<Row>, NoMemory> {
+        if !has_sought(alloc, &self.table, at, found, params)? {
+            return Ok(None);
+        }
+        if !comes(alloc, &self.table, at, spec, params)? {
+            return Ok(None);
+        }
+        let row = show(alloc, &self.table, at, spec)?;
+        Ok(Some(row))
+    }
+
+    fn cell(&self, alloc: Global, at: usize, column: usize) -> Result<Value, NoMemory> {
+        self.table.value(alloc, at, column)
+    }
+
+    fn rewritten(&self, alloc: Global, changes: Vec<RowChange>) -> Result<CsvDraft, Fault> {
+        let remote = self.table.remote.as_str().to_string(alloc)?;
+        let layout = self.table.layout.copy(alloc)?;
+        let written = match apply_changes(alloc, &self.table, changes) {
+            Ok(written) => written,
+            Err(fault) => return Err(fault),
+        };
+        let Written {
+            header,
+            rows,
+            image,
+        } = written;
+        let table = CsvTable {
+            remote,
+            layout,
+            header,
+            rows,
+        };
+        Ok(CsvDraft {
+            after: CsvPlaces { table },
+            image,
+        })
+    }
+
+    fn image(draft: &CsvDraft) -> &[u8] {
+        &draft.image
+    }
+
+    fn into_table(draft: CsvDraft) -> CsvPlaces {
+        draft.after
+    }
+}

@@ -1,0 +1,5 @@
+use Rattle.fdw_api.proofs.LiftLemmas.{if_err, refuses_change}
+use Rattle.fdw_api.proofs.lift.LiftWrapper.delete.Goals as goal
+
+pub returns-clause-err : goal.returns-clause-err
+returns-clause-err g c = if_err _ _ c.delete.result (λ f r. refuses_change (g.W.Wrapper.meaning c.args.self.now.inner) (g.W.Wrapper.meaning c.delete.new.self) _ f r) c.delete.ensures.err

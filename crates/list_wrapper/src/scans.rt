@@ -1,0 +1,317 @@
+//! Live scans of lists, and the rows that they give.
+ghost use Rattle.std.specs.Prelude.{◌≡◌, true, None, map, length, option_map, IfOk, IfSome, IsSome, Some};
+ghost use Rattle.std.specs.Ordering.{nat_cmp};
+ghost use Rattle.std.specs.BTreeMap as tree;
+ghost use Rattle.med_value.specs.Datum.{datum, tuple, cell};
+ghost use Rattle.fdw_api.specs.Scan.{restriction_form, spec_of};
+ghost use Rattle.fdw_api.specs.Wishes.{key_form};
+ghost use Rattle.place_index.specs.Scans.{Serves, Stands, sought, form_of, column_cells};
+ghost use Rattle.place_index.specs.Indexes.{IsIndexFrom};
+ghost use Rattle.list_wrapper.specs.Scans.{NextIs, NextOf, left_in_turn, left_by_keys, Arranges, is_spent, StandsAfter, Moves, ScanFits, spec_is, params_of, index_of, newer, index_in, one_less, numbered, rows_at};
+
+use crate::list::ListTable;
+use crate::sorting::sorted_places;
+use fdw_api::interface::{RowId, SourceRow};
+use fdw_api::scan::ScanSpec;
+use fdw_api::wishes::OrderKey;
+use med_value::{NoMemory, Row, Value};
+use place_index::{PlaceIndex, Sought, sought_in, takes, value_at};
+use std::alloc::Global;
+use std::collections::BTreeMap;
+
+/// How a scan goes over the rows of its table.
+#[derive(Drop)]
+pub(crate) enum Walk {
+    /// In list order.
+    InTurn,
+    /// In list order, from place to place of the value that it looks for.
+    ByIndex(PlaceIndex),
+    /// From place to place in the order that is promised: those of the rows that it takes.
+    ByKeys(Vec<usize>),
+}
+
+/// A live scan: what it was asked for, and the place from which it goes on.
+#[derive(Drop)]
+pub(crate) struct ListScan {
+    pub(crate) table: usize,
+    pub(crate) spec: ScanSpec,
+    /// The keys of the order that is promised, none where no order is.
+    pub(crate) order: Vec<OrderKey>,
+    /// How many rows are promised to be all that come.
+    pub(crate) limit: Option<u64>,
+    pub(crate) params: Vec<Value>,
+    pub(crate) walk: Walk,
+    pub(crate) at: usize,
+    /// How many rows may still come, where a limit is promised.
+    pub(crate) more: Option<u64>,
+    pub(crate) broken: bool,
+}
+
+/// A row of a scan, and the place from which the scan goes on after it.
+#[derive(Drop)]
+pub(crate) struct Step {
+    pub(crate) row: SourceRow,
+    pub(crate) after: usize,
+}
+
+/// Whether no more rows may come.
+fn is_spent(more: Option<u64>) -> bool
+    ensures { result ≡ is_spent more }
+{
+    match more {
+        None => false,
+        Some(count) => count == 0,
+    }
+}
+
+/// One row fewer may come.
+fn one_less(more: Option<u64>) -> Option<u64>
+    ensures { result ≡ one_less more }
+{
+    match more {
+        None => None,
+        Some(count) => Some(count.saturating_sub(1)),
+    }
+}
+
+/// Moves a scan on to a place, behind a row that it gave.
+pub(crate) fn advance(scans: &mut BTreeMap<u64, ListScan>, number: u64, at: usize)
+    requires { IsSome (tree.get nat_cmp scans.old number) }
+    ensures { IfSome (tree.get nat_cmp scans.old number)
+        (λ s. tree.Updates nat_cmp scans.old scans.new number (Some (record s { at = at; more = one_less s.more }))) }
+{
+    match scans.get_mut(&number) {
+        Some(scan) => {
+            scan.at = at;
+            scan.more = one_less(scan.more);
+        }
+        None => unreachable!(),
+    }
+}
+
+/// Marks a scan as good for `end` alone.
+pub(crate) fn spoil(scans: &mut BTreeMap<u64, ListScan>, number: u64)
+    requires { IsSome (tree.get nat_cmp scans.old number) }
+    ensures { IfSome (tree.get nat_cmp scans.old number)
+        (λ s. tree.Updates nat_cmp scans.old scans.new number (Some (record s { broken = true }))) }
+{
+    match scans.get_mut(&number) {
+        Some(scan) => scan.broken = true,
+        None => unreachable!(),
+    }
+}
+
+/// Begins a scan again by these parameters, on a new walk if there is one.
+pub(crate) fn restart(
+    scans: &mut BTreeMap<u64, ListScan>,
+    number: u64,
+    params: Vec<Value>,
+    walk: Option<Walk>,
+)
+    requires { IsSome (tree.get nat_cmp scans.old number) }
+    ensures { IfSome (tree.get nat_cmp scans.old number) (λ s. tree.Updates nat_cmp scans.old scans.new number
+        (Some (record s { params = params; walk = newer walk s.walk; at = 0; more = s.limit }))) }
+{
+    match scans.get_mut(&number) {
+        Some(scan) => {
+            scan.params = params;
+            if let Some(walk) = walk {
+                scan.walk = walk;
+            }
+            scan.at = 0;
+            scan.more = scan.limit;
+        }
+        None => unreachable!(),
+    }
+}
+
+/// A copy of a row's cell, NULL where there is no such column.
+fn cell_of(alloc: Global, row: &Row, column: usize) -> Result<Value, NoMemory>
+    ensures { IfOk result (λ v. datum v ≡ cell (tuple row.now) column) }
+{
+    let missing = Value::Null;
+    value_at(&row.cells, column, &missing).copy(alloc)
+}
+
+/// An index of a column of a list.
+fn index_of_column(alloc: Global, rows: &[Row], column: usize) -> Result<PlaceIndex, NoMemory>
+    ensures { IfOk result (λ x. IsIndexFrom 0 (column_cells column (numbered 0 rows.now)) x) }
+{
+    let mut index = PlaceIndex::new(alloc, rows.len())?;
+    let mut at = rows.len();
+    while at > 0 {
+        at -= 1;
+        index.add(at, cell_of(alloc, &rows[at], column)?)?;
+    }
+    Ok(index)
+}
+
+/// The first place from a place on at which there may be a row that a scan takes.
+fn place_from(_rows: &[Row], scan: &ListScan, found: Option<Sought>, at: usize) -> usize
+    requires found { option_map form_of found ≡ sought (map restriction_form scan.now.spec.offered.items) }
+    requires serves { Serves (spec_is scan.now) (numbered 0 _rows.now) (index_of scan.now.walk) }
+    requires stands { Stands (spec_is scan.now) (params_of scan.now) (numbered 0 _rows.now) at (index_of scan.now.walk) }
+    ensures { Moves (spec_is scan.now) (params_of scan.now) (numbered 0 _rows.now) (index_of scan.now.walk) at result }
+{
+    match (&scan.walk, found) {
+        (Walk::ByIndex(index), Some(found)) => {
+            let missing = Value::Null;
+            index.next_place(value_at(&scan.params, found.parameter, &missing), at)
+        }
+        _ => at,
+    }
+}
+
+/// The next row of a scan that goes over a list in its order.
+fn next_in_turn(alloc: Global, rows: &[Row], scan: &ListScan) -> Result<Option<Step>, NoMemory>
+    requires { ScanFits rows.now scan.now }
+    ensures next { IfOk result (NextOf (spec_is scan.now) (left_in_turn (spec_is scan.now) (params_of scan.now) (numbered 0 rows.now))
+        scan.now.at None) }
+    ensures on { IfOk result (StandsAfter rows.now scan.now) }
+{
+    let found = sought_in(&scan.spec.offered);
+    let mut at = place_from(rows, scan, found, scan.at);
+    while at < rows.len() {
+        if takes(&scan.spec, found, &scan.params, &rows[at]) {
+            let cells = scan.spec.show(alloc, &rows[at])?;
+            let row = SourceRow {
+                id: RowId { number: at as u64 },
+                cells,
+            };
+            return Ok(Some(Step { row, after: at + 1 }));
+        }
+        at = place_from(rows, scan, found, at + 1);
+    }
+    Ok(None)
+}
+
+/// The next row of a scan that goes over these places.
+fn next_by_keys(
+    alloc: Global,
+    rows: &[Row],
+    scan: &ListScan,
+    places: &[usize],
+) -> Result<Option<Step>, NoMemory>
+    ensures { IfOk result (NextOf (spec_is scan.now) (left_by_keys places.now (numbered 0 rows.now)) scan.now.at None) }
+{
+    let mut at = scan.at;
+    while at < places.len() {
+        let place = places[at];
+        if place < rows.len() {
+            let cells = scan.spec.show(alloc, &rows[place])?;
+            let row = SourceRow {
+                id: RowId {
+                    number: place as u64,
+                },
+                cells,
+            };
+            return Ok(Some(Step { row, after: at + 1 }));
+        }
+        at += 1;
+    }
+    Ok(None)
+}
+
+/// The next row of a scan, from its place on.
+fn next_row(alloc: Global, rows: &[Row], scan: &ListScan) -> Result<Option<Step>, NoMemory>
+    requires { ScanFits rows.now scan.now }
+    ensures next { IfOk result (NextIs (spec_is scan.now) (params_of scan.now) (numbered 0 rows.now) scan.now.walk
+        scan.now.at scan.now.more) }
+    ensures on { IfOk result (StandsAfter rows.now scan.now) }
+{
+    if is_spent(scan.more) {
+        return Ok(None);
+    }
+    match &scan.walk {
+        Walk::InTurn => next_in_turn(alloc, rows, scan),
+        Walk::ByIndex(_) => next_in_turn(alloc, rows, scan),
+        Walk::ByKeys(places) => next_by_keys(alloc, rows, scan, places),
+    }
+}
+
+/// The live scan of a number.
+fn live_scan(scans: &BTreeMap<u64, ListScan>, number: u64) -> &ListScan
+    requires { IsSome (tree.get nat_cmp scans.now number) }
+    ensures { tree.get nat_cmp scans.now number ≡ Some result.now }
+{
+    match scans.get(&number) {
+        Some(scan) => scan,
+        None => unreachable!(),
+    }
+}
+
+/// The rows of the table at a place, none where there is no table.
+pub(crate) fn rows_of(tables: &Vec<ListTable>, at: usize) -> &[Row]
+    ensures { result.now ≡ rows_at tables.now.items at }
+{
+    match tables.get(at) {
+        Some(table) => &table.rows,
+        None => &[],
+    }
+}
+
+/// The next row of a live scan.
+pub(crate) fn row_of_scan(
+    alloc: Global,
+    tables: &Vec<ListTable>,
+    scans: &BTreeMap<u64, ListScan>,
+    number: u64,
+) -> Result<Option<Step>, NoMemory>
+    requires live { IsSome (tree.get nat_cmp scans.now number) }
+    requires fits { IfSome (tree.get nat_cmp scans.now number) (λ s. ScanFits (rows_at tables.now.items s.table) s) }
+    ensures next { IfOk result (λ next. IfSome (tree.get nat_cmp scans.now number)
+        (λ s. NextIs (spec_is s) (params_of s) (numbered 0 (rows_at tables.now.items s.table)) s.walk s.at s.more next)) }
+    ensures on { IfOk result (λ next. IfSome (tree.get nat_cmp scans.now number)
+        (λ s. StandsAfter (rows_at tables.now.items s.table) s next)) }
+{
+    let scan = live_scan(scans, number);
+    next_row(alloc, rows_of(tables, scan.table), scan)
+}
+
+/// How a scan that begins goes over a list.
+pub(crate) fn first_walk(
+    alloc: Global,
+    rows: &[Row],
+    spec: &ScanSpec,
+    order: &[OrderKey],
+    params: &[Value],
+) -> Result<Walk, NoMemory>
+    ensures arranges { IfOk result (Arranges (record (spec_of spec.now) { order = map key_form order.now }) (map datum params.now)
+        (numbered 0 rows.now)) }
+    ensures no_index { IfOk result (λ walk. index_of walk ≡ None) }
+{
+    if order.is_empty() {
+        return Ok(Walk::InTurn);
+    }
+    Ok(Walk::ByKeys(sorted_places(alloc, rows, spec, order, params)?))
+}
+
+/// How a live scan goes over its table once it is begun again by these parameters, where it is not to go on as before.
+pub(crate) fn new_walk(
+    alloc: Global,
+    tables: &Vec<ListTable>,
+    scans: &BTreeMap<u64, ListScan>,
+    number: u64,
+    params: &[Value],
+) -> Result<Option<Walk>, NoMemory>
+    requires { IsSome (tree.get nat_cmp scans.now number) }
+    ensures serves { IfOk result (λ walk. IfSome (tree.get nat_cmp scans.now number)
+        (λ s. Serves (spec_is s) (numbered 0 (rows_at tables.now.items s.table)) (index_in walk))) }
+    ensures arranges { IfOk result (λ walk. IfSome (tree.get nat_cmp scans.now number)
+        (λ s. Arranges (spec_is s) (map datum params.now) (numbered 0 (rows_at tables.now.items s.table)) (newer walk s.walk))) }
+{
+    let scan = live_scan(scans, number);
+    let rows = rows_of(tables, scan.table);
+    if !scan.order.is_empty() {
+        let walk = first_walk(alloc, rows, &scan.spec, &scan.order, params)?;
+        return Ok(Some(walk));
+    }
+    if matches!(scan.walk, Walk::ByIndex(_)) {
+        return Ok(None);
+    }
+    let Some(found) = sought_in(&scan.spec.offered) else {
+        return Ok(Some(Walk::InTurn));
+    };
+    let index = index_of_column(alloc, rows, found.column)?;
+    Ok(Some(Walk::ByIndex(index)))
+}

@@ -1,0 +1,5 @@
+mod Chains
+mod Splits
+mod Streams
+mod Started
+mod Lasting

@@ -1,0 +1,5 @@
+pub mod Conjuncts
+pub mod Entries
+pub mod Gathered
+pub mod Streamed
+pub mod Planned

@@ -1,0 +1,6 @@
+mod Reading
+mod Pairs
+mod Pulling
+mod Planning
+mod Splits
+mod Safe

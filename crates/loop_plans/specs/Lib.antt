@@ -1,0 +1,4 @@
+pub mod Places
+pub mod Flat
+pub mod Offered
+pub mod Plans

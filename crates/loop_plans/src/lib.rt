@@ -1,0 +1,13 @@
+//! Plans of nested loops: what each core of a bound query is to the runs that answer it.
+#![tactic(auto)]
+
+pub mod accepting;
+pub mod flat;
+pub mod law;
+pub mod offering;
+pub mod places;
+
+pub use accepting::accept_core;
+pub use flat::{FlatEntry, FlatFrom, flat_from};
+pub use offering::{LoopOffer, offer_core};
+pub use places::{columns, shifted, shifted_all};

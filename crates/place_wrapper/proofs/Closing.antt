@@ -1,0 +1,181 @@
+-- What a bind that reads a table and the end of a write do to a wrapper over tables by place.
+use Rattle.std.proofs.Common.{◌≡◌, ◌≢◌, ℕ, Bool, true, false, if◌then◌else◌, List, [], Option, Some, None, IsSome, map, option_map, Contains, refl, ap, sym, ◌∙◌, subst}
+use Rattle.std.specs.List.{IsDistinct}
+use Rattle.std.proofs.Common.{nat_eq}
+use Rattle.std.specs.BTreeMap.{BTreeMap}
+use Rattle.med_value.specs.Causes.{phase_of}
+use Rattle.fdw_api.specs.Kinds.{Column, OptionForm, Entry, Bytes, Held, held, Holding, Known, Unknown, is_of_run}
+use Rattle.fdw_api.specs.Scan.{TableRow}
+use Rattle.fdw_api.specs.State.{BoxTable, Staging}
+use Rattle.fdw_api.specs.Calls.{Binds, NoScan, Picks, faults_after, not_refused}
+use Rattle.fdw_api.specs.Writes.{CanClose, Closes, RefusesClose, CloseCause, HoldsImage}
+use Rattle.fdw_api.specs.declared.interface.Fault.{Fault}
+use Rattle.fdw_api.specs.declared.interface.Fault.TheVariants.{NoMemory, Source, Refused}
+use Rattle.blob_store.specs.Names.{is_blob_name}
+use Rattle.blob_store.specs.Shelves.{Shelf, Standing, Known as KnownBlob, Unknown as UnknownBlob, Finds, Replaces, after_writing}
+use Rattle.staged_changes.specs.declared.changes.StagedWrite.{StagedWrite}
+use Rattle.staged_changes.specs.Staged.{change_is, write_is}
+use Rattle.place_wrapper.specs.Holdings.{holding_of, held_under}
+use Rattle.place_wrapper.specs.declared.scans.LiveScan.{LiveScan}
+use Rattle.place_wrapper.specs.Forms.{Form, IsNumbered, ReadsAs, Rewrites, RefusesChanges}
+use Rattle.place_wrapper.specs.Boxes.{table_at, rows_held, ScansFit}
+use Rattle.place_wrapper.specs.States.{place_ledger, place_state}
+use Rattle.place_wrapper.proofs.Options.{some_inj}
+use Rattle.place_wrapper.proofs.Rows.{numbered_once}
+use Rattle.place_wrapper.proofs.Binding.{Others, Kept, Apart, unscanned_free, unscanned_by, ledger_set, ledger_kept, coming_same, picks_under, known_is}
+
+-- what is known under a name after a blob was put there
+written_known : (before after : Standing) (image : List ℕ) (e : Option Entry) → after ≡ after_writing before image → holding_of after ≡ Known e → Some (Bytes image) ≡ e
+written_known (KnownBlob found) after image e is known = inside (sym (ap holding_of is) ∙ known)
+  where
+    inside : Known (Some (Bytes image)) ≡ Known e → Some (Bytes image) ≡ e
+    inside q = cc
+written_known UnknownBlob after image e is known = absurd (other (sym (ap holding_of is) ∙ known))
+  where
+    other : Unknown ≡ Known e → ⊥
+    other q = cc
+
+module _ {T : Type 0} (F : Form T) where
+  held_once : (o : Option T) → IsDistinct nat_eq (map (λ r. r.id) (rows_held F o))
+  held_once None = numbered_once 0 [] tt
+  held_once (Some t) = numbered_once 0 (F.rows t) (F.numbered t)
+
+  pub place_binds : (shelf after : Shelf) (old new : List (Option T)) (m : BTreeMap ℕ LiveScan) (staged : Option StagedWrite) (next pulled : ℕ) (at : ℕ) (remote : List ℕ) (columns : List Column) (settings : List OptionForm) (content : List ℕ) (x : T)
+      → after ≡ shelf → is_blob_name remote ≡ true → Finds (shelf.under remote) (Some content) → table_at old at ≡ None → table_at new at ≡ Some x → Others old new at → ScansFit F old m
+      → ReadsAs F remote columns settings content x
+      → Binds (place_state F shelf old m staged next pulled) remote columns settings at (place_state F after new m staged next pulled)
+  place_binds shelf after old new m staged next pulled at remote columns settings content x same_shelf named finds free there same fit r =
+      let unscanned = unscanned_free F old m at fit free in
+      rw same_shelf record {
+        nature = refl;
+        fresh = ap (option_map F.bound) free;
+        bound = F.bound x;
+        remote_is = r.remote_is;
+        kinds_are = r.kinds_are;
+        line_is = r.line_is;
+        image_is = r.image_is;
+        arrangement_is = r.arrangement_is;
+        refuses_is = r.refuses_is;
+        ledger = ledger_set F shelf old new m staged next pulled at (Some x) there same unscanned;
+        entry = Some (Bytes content);
+        picked = λ honest. picks_under shelf remote (Some content) named finds;
+        no_cause = λ honest. r.no_cause;
+        rows = λ honest. ap (λ (o : Option T). map held (rows_held F o)) there ∙ r.rows;
+        once = λ honest. held_once (table_at new at);
+        leaves = λ honest. record { coming = λ q l o. coming_same F old new m at q same unscanned; rows = λ u o. ap (rows_held F) (same u o); holdings = λ r o. refl };
+      }
+
+  -- what a table that was just read keeps is what stands there
+  pub read_kept : (shelf after : Shelf) (remote : List ℕ) (columns : List Column) (settings : List OptionForm) (content : List ℕ) (x y : T) (e : Option Entry) → after ≡ shelf → is_blob_name remote ≡ true → Finds (shelf.under remote) (Some content)
+      → ReadsAs F remote columns settings content x → Some x ≡ Some y → held_under after (F.bound y).remote ≡ Known e → F.fits y e
+  read_kept shelf after remote columns settings content x y e same named finds r is known =
+      let one : x ≡ y = some_inj x y is in
+      let there : held_under shelf remote ≡ Known e = ap (held_under shelf) (sym r.remote_is) ∙ ap (λ (z : T). held_under shelf (F.bound z).remote) one ∙ ap (λ (z : Shelf). held_under z (F.bound y).remote) (sym same) ∙ known in
+      subst (λ (z : Option Entry). F.fits y z) (known_is (held_under shelf remote) (Some (Bytes content)) e (picks_under shelf remote (Some content) named finds) there)
+      (subst (λ (z : T). F.fits z (Some (Bytes content))) one r.fits)
+
+  -- an entry that may stand there, and that the table is in
+  pub entry_of : (x : T) (h : Holding) → ((e : Option Entry) → h ≡ Known e → F.fits x e) → (entry : Option Entry) × Picks h entry × F.fits x entry
+  entry_of x (Known e) kept = (e, refl, kept e refl)
+  entry_of x Unknown kept = let w = F.somewhere x in (w.0, tt, w.1)
+
+  -- the write under way
+  pub staged_scans : (shelf : Shelf) (tables : List (Option T)) (m : BTreeMap ℕ LiveScan) (w : StagedWrite) (staged : Option StagedWrite) (keep : Bool) (next pulled : ℕ) → staged ≡ Some w → keep ≡ true → CanClose (place_state F shelf tables m staged next pulled) keep → NoScan (place_state F shelf tables m staged next pulled) w.table
+  staged_scans shelf tables m w staged keep next pulled es k can =
+      let same : can.staging ≡ write_is w = some_inj can.staging (write_is w) (sym can.is_staged ∙ ap (option_map write_is) es) in
+      subst (λ (z : Staging). NoScan (place_state F shelf tables m staged next pulled) z.table) same (can.no_scan k)
+
+  holds : (before after : Standing) (image : List ℕ) (rows : List Held) (b : BoxTable) → after ≡ after_writing before image
+      → ((e : Option Entry) → holding_of before ≡ Known e → b.image e rows ≡ Some (Bytes image)) → HoldsImage b rows (holding_of before) (holding_of after)
+  holds (KnownBlob found) after image rows b e is = ap holding_of e ∙ ap Known (sym (is (option_map Bytes found) refl))
+  holds UnknownBlob after image rows b e is = ap holding_of e
+
+  holds_under : (shelf after : Shelf) (remote image : List ℕ) (rows : List Held) (b : BoxTable) → is_blob_name remote ≡ true → after.under remote ≡ after_writing (shelf.under remote) image
+      → ((e : Option Entry) → held_under shelf remote ≡ Known e → b.image e rows ≡ Some (Bytes image)) → HoldsImage b rows (held_under shelf remote) (held_under after remote)
+  holds_under shelf after remote image rows b named e is = rw named (holds (shelf.under remote) (after.under remote) image rows b e (λ d known. is d (rw named known)))
+
+  place_closes : (shelf after : Shelf) (old new : List (Option T)) (m : BTreeMap ℕ LiveScan) (w : StagedWrite) (next pulled : ℕ) (x y : T) (image : List ℕ)
+      → table_at old w.table ≡ Some x → table_at new w.table ≡ Some y → Others old new w.table → NoScan (place_state F shelf old m (Some w) next pulled) w.table
+      → Replaces shelf (F.bound x).remote image after → is_blob_name (F.bound x).remote ≡ true → Kept F shelf old
+      → Rewrites F x (map change_is w.changes.items) y image
+      → Closes (place_state F shelf old m (Some w) next pulled) true (place_state F after new m None next pulled)
+  place_closes shelf after old new m w next pulled x y image was there others scans replaced named kept made =
+      let unscanned = unscanned_by F shelf old m (Some w) next pulled w.table scans in
+      let fits : (e : Option Entry) → held_under shelf (F.bound x).remote ≡ Known e → F.fits x e = λ e known. kept w.table x e was known in
+      let pick = entry_of x (held_under shelf (F.bound x).remote) fits in
+      let rows_new : rows_held F (table_at new w.table) ≡ F.rows y = ap (rows_held F) there in
+      let rows_old : rows_held F (table_at old w.table) ≡ F.rows x = ap (rows_held F) was in
+      record {
+        nature = refl;
+        staging = write_is w;
+        is_staged = refl;
+        ledger = ap (λ (n : ℕ). record (place_ledger F after new m None next pulled) { faults = n }) replaced.failures
+            ∙ ledger_kept F shelf old new m None next pulled w.table x y was there made.bound others unscanned;
+        content = λ honest. record {
+          bound = F.bound x;
+          is = ap (option_map F.bound) was;
+          entry = pick.0;
+          picked = pick.1;
+          no_cause = ap (λ (rs : List TableRow). (F.bound x).refuses.causes pick.0 rs (map change_is w.changes.items)) rows_old ∙ made.no_cause pick.0 pick.2;
+          rows = ap (map held) rows_new ∙ made.rows ∙ ap (λ (rs : List TableRow). (F.bound x).arrangement.arranged (Rattle.fdw_api.specs.Writes.rows_after (F.bound x).line rs (map change_is w.changes.items))) (sym rows_old);
+          once = held_once (table_at new w.table);
+          holdings = holds_under shelf after (F.bound x).remote image (map held (rows_held F (table_at new w.table))) (F.bound x) named replaced.there
+              (λ e known. ap (λ (rs : List TableRow). (F.bound x).image e (map held rs)) rows_new ∙ made.image_is e (fits e known));
+          leaves = record {
+            coming = λ q live o. coming_same F old new m w.table q others unscanned;
+            rows = λ u o. ap (rows_held F) (others u o);
+            holdings = λ r o. ap (λ (s : Standing). if is_blob_name r then holding_of s else Known None) (replaced.others r o);
+          };
+        };
+      }
+
+  pub kept_closes : (shelf after : Shelf) (old new : List (Option T)) (m : BTreeMap ℕ LiveScan) (w : StagedWrite) (staged left : Option StagedWrite) (keep : Bool) (next pulled : ℕ) (x y : T) (image : List ℕ)
+      → staged ≡ Some w → left ≡ None → keep ≡ true → CanClose (place_state F shelf old m staged next pulled) keep
+      → table_at old w.table ≡ Some x → table_at new w.table ≡ Some y → Others old new w.table
+      → Replaces shelf (F.bound x).remote image after → is_blob_name (F.bound x).remote ≡ true → Kept F shelf old
+      → Rewrites F x (map change_is w.changes.items) y image
+      → Closes (place_state F shelf old m staged next pulled) keep (place_state F after new m left next pulled)
+  kept_closes shelf after old new m w staged left keep next pulled x y image es el k can was there others replaced named kept made =
+      let scans = staged_scans shelf old m w staged keep next pulled es k can in
+      rw (es, el, k) (place_closes shelf after old new m w next pulled x y image was there others scans replaced named kept made)
+
+  -- the end of a write is refused before the blob is touched
+  refuses : (shelf : Shelf) (tables : List (Option T)) (m : BTreeMap ℕ LiveScan) (w : StagedWrite) (next pulled : ℕ) (x : T) (fault : Fault) → table_at tables w.table ≡ Some x → Kept F shelf tables
+      → RefusesChanges F x (map change_is w.changes.items) fault → RefusesClose (place_state F shelf tables m (Some w) next pulled) true fault (place_state F shelf tables m None next pulled)
+  refuses shelf tables m w next pulled x NoMemory was kept why = record { kept = refl; nature = refl; staging = write_is w; is_staged = refl; ledger = refl; cause = tt; leaves = λ honest. record { coming = λ q l o. refl; rows = λ t o. refl; holdings = λ r o. refl } }
+  refuses shelf tables m w next pulled x Source was kept why = absurd why
+  refuses shelf tables m w next pulled x (Refused c) was kept why = record {
+    kept = refl;
+    nature = refl;
+    staging = write_is w;
+    is_staged = refl;
+    ledger = refl;
+    cause = (why.0, λ honest b at. at_bound b (some_inj (F.bound x) b (sym (ap (option_map F.bound) was) ∙ at)));
+    leaves = λ honest. record { coming = λ q l o. refl; rows = λ t o. refl; holdings = λ r o. refl };
+  }
+    where
+      at_bound : (b : BoxTable) → F.bound x ≡ b → (entry : Option Entry) × Picks (held_under shelf b.remote) entry × Contains (b.refuses.causes entry (rows_held F (table_at tables w.table)) (map change_is w.changes.items)) c
+      at_bound b same =
+          let pick = entry_of x (held_under shelf (F.bound x).remote) (λ e known. kept w.table x e was known) in
+          subst (λ (z : BoxTable). (entry : Option Entry) × Picks (held_under shelf z.remote) entry × Contains (z.refuses.causes entry (rows_held F (table_at tables w.table)) (map change_is w.changes.items)) c) same
+          (pick.0, pick.1, subst (λ (o : Option T). Contains ((F.bound x).refuses.causes pick.0 (rows_held F o) (map change_is w.changes.items)) c) (sym was) (why.1 pick.0 pick.2))
+
+  pub unmade_refuses : (shelf : Shelf) (tables : List (Option T)) (m : BTreeMap ℕ LiveScan) (w : StagedWrite) (staged left : Option StagedWrite) (keep : Bool) (next pulled : ℕ) (x : T) (fault : Fault)
+      → staged ≡ Some w → left ≡ None → keep ≡ true → table_at tables w.table ≡ Some x → Kept F shelf tables → RefusesChanges F x (map change_is w.changes.items) fault
+      → RefusesClose (place_state F shelf tables m staged next pulled) keep fault (place_state F shelf tables m left next pulled)
+  unmade_refuses shelf tables m w staged left keep next pulled x fault es el k was kept why = rw (es, el, k) (refuses shelf tables m w next pulled x fault was kept why)
+
+  -- what a table that was just written keeps is what stands there
+  pub written_kept : (shelf after : Shelf) (x y z : T) (image : List ℕ) (changes : List Rattle.fdw_api.specs.Kinds.Change) (e : Option Entry) → is_blob_name (F.bound x).remote ≡ true → Replaces shelf (F.bound x).remote image after
+      → Rewrites F x changes y image → Some y ≡ Some z → held_under after (F.bound z).remote ≡ Known e → F.fits z e
+  written_kept shelf after x y z image changes e named replaced made is known =
+      let one : y ≡ z = some_inj y z is in
+      let here : held_under after (F.bound x).remote ≡ Known e = ap (λ (b : BoxTable). held_under after b.remote) (sym made.bound) ∙ ap (λ (v : T). held_under after (F.bound v).remote) one ∙ known in
+      let stands : holding_of (after.under (F.bound x).remote) ≡ Known e = rw named at here in
+      subst (λ (d : Option Entry). F.fits z d) (written_known (shelf.under (F.bound x).remote) (after.under (F.bound x).remote) image e replaced.there stands)
+      (subst (λ (v : T). F.fits v (Some (Bytes image))) one made.fits)
+
+  pub written_others : (shelf after : Shelf) (tables : List (Option T)) (at t : ℕ) (x y : T) (image : List ℕ) → Apart F tables → table_at tables at ≡ Some x → t ≢ at → table_at tables t ≡ Some y → Replaces shelf (F.bound x).remote image after
+      → held_under after (F.bound y).remote ≡ held_under shelf (F.bound y).remote
+  written_others shelf after tables at t x y image apart was ne is replaced =
+      ap (λ (s : Standing). if is_blob_name (F.bound y).remote then holding_of s else Known None) (replaced.others (F.bound y).remote (λ e. ne (apart t at y x is was e)))

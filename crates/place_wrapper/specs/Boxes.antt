@@ -1,0 +1,87 @@
+-- Tables by place, and what live scans have still to give.
+use Rattle.std.specs.Prelude.{◌≡◌, ◌<◌, ◌≤◌, ◌+◌, ◌-◌, ◌^◌, ◌&&◌, is_some, IsSome, ℕ, Bool, true, List, [], ◌∷◌, length, map, filter}
+use Rattle.std.specs.Prelude.{drop, Option, Some, None, slice_get}
+use Rattle.std.specs.Ordering.{nat_cmp}
+use Rattle.std.specs.BTreeMap as tree
+use Rattle.std.specs.BTreeMap.{BTreeMap}
+use Rattle.std.specs.List.{list_all}
+use Rattle.std.specs.Option.{option_flatten}
+use Rattle.med_value.specs.Datum.{Tuple, datum}
+use Rattle.med_value.specs.declared.value.ColType.{ColType}
+use Rattle.fdw_api.specs.Scan.{Spec, spec_of, TableRow, GivenRow, given_row}
+use Rattle.fdw_api.specs.State.{Scan, Staging}
+use Rattle.fdw_api.specs.Calls.{row_of}
+use Rattle.fdw_api.specs.Writes.{row_of_change_fits}
+use Rattle.fdw_api.specs.declared.interface.SourceRow.{SourceRow}
+use Rattle.place_index.specs.declared.index.PlaceIndex.{PlaceIndex}
+use Rattle.place_index.specs.Scans.{Serves, Stands}
+use Rattle.place_wrapper.specs.declared.scans.LiveScan.{LiveScan}
+use Rattle.place_wrapper.specs.Forms.{Form}
+
+-- the table of a number, None where none is bound
+abbrev pub table_at : {T : Type 0} → List (Option T) → ℕ → Option T
+table_at tables t = option_flatten (slice_get tables t)
+
+abbrev pub kinds_held : {T : Type 0} → Form T → Option T → List ColType
+kinds_held F None = []
+kinds_held F (Some t) = (F.bound t).kinds
+
+-- the rows of a table, none where none is bound
+abbrev pub rows_held : {T : Type 0} → Form T → Option T → List TableRow
+rows_held F None = []
+rows_held F (Some t) = F.rows t
+
+-- what a scan that stands at a place has still to give: of the table's rows from there on, in their order, those that it takes, each as it
+-- shows them
+abbrev pub rows_to_come : {T : Type 0} → Form T → Option T → Spec → Tuple → ℕ → List GivenRow
+rows_to_come F None spec params at = []
+rows_to_come F (Some t) spec params at = map (given_row spec) (filter (F.takes t spec params) (drop at (F.rows t)))
+
+-- the next row of a scan that stands at a place: the first of the rows to come, and the scan goes on after it; None where none is left
+abbrev pub NextIs : {T : Type 0} → Form T → Option T → Spec → Tuple → ℕ → Option SourceRow → Type 0
+NextIs F o spec params at None = rows_to_come F o spec params at ≡ []
+NextIs F o spec params at (Some row) =
+    (at ≤ row.id.number) × (row.id.number < 2 ^ 64 - 1)
+    × (rows_to_come F o spec params at ≡ row_of row ∷ rows_to_come F o spec params (row.id.number + 1))
+
+-- a scan goes from a place to another: it takes no row between them, and can go on behind the other
+pub record Moves {T : Type 0} (F : Form T) (t : T) (spec : Spec) (params : Tuple) (index : Option PlaceIndex) (at to : ℕ) : Type 0 where
+  pub past : at ≤ to
+  pub same : filter (F.takes t spec params) (drop at (F.rows t)) ≡ filter (F.takes t spec params) (drop to (F.rows t))
+  pub on : to < length (F.rows t) → Stands spec params (F.rows t) (to + 1) index
+
+-- the index of a scan that is begun again
+abbrev pub newer : Option PlaceIndex → Option PlaceIndex → Option PlaceIndex
+newer (Some x) old = Some x
+newer None old = old
+
+-- a live scan is of a bound table, its index is of that table's rows, and it stands where its index goes on
+abbrev pub ScanFits : {T : Type 0} → Form T → Option T → LiveScan → Type 0
+ScanFits F o s =
+    IsSome o × Serves (spec_of s.spec) (rows_held F o) s.index
+    × Stands (spec_of s.spec) (map datum s.params.items) (rows_held F o) s.at s.index
+
+abbrev pub ScansFit : {T : Type 0} → Form T → List (Option T) → BTreeMap ℕ LiveScan → Type 0
+ScansFit F tables scans = (q : ℕ) (s : LiveScan) → tree.get nat_cmp scans q ≡ Some s → ScanFits F (table_at tables s.table) s
+
+-- a write under way is to a bound table, and its new rows are of the table's types
+abbrev pub write_fits : {T : Type 0} → Form T → List (Option T) → Option Staging → Bool
+write_fits F tables None = true
+write_fits F tables (Some s) =
+    is_some (table_at tables s.table) && list_all (row_of_change_fits (kinds_held F (table_at tables s.table))) s.changes
+
+-- a scan, without its rows to come
+abbrev pub scan_is : {T : Type 0} → Form T → List (Option T) → LiveScan → Scan
+scan_is F tables s = record {
+  table = s.table;
+  kinds = kinds_held F (table_at tables s.table);
+  spec = spec_of s.spec;
+  params = map datum s.params.items;
+  left = 2 ^ 64 - s.at;
+  broken = s.broken;
+}
+
+-- the rows that a scan has still to give
+abbrev pub scan_rows : {T : Type 0} → Form T → List (Option T) → Option LiveScan → List GivenRow
+scan_rows F tables None = []
+scan_rows F tables (Some s) = rows_to_come F (table_at tables s.table) (spec_of s.spec) (map datum s.params.items) s.at

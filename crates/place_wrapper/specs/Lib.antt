@@ -1,0 +1,5 @@
+pub mod Holdings
+pub mod Mapped
+pub mod Forms
+pub mod Boxes
+pub mod States

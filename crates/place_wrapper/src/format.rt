@@ -1,0 +1,95 @@
+//! Formats: what a blob is read as, and the rows that a table gives.
+ghost use Rattle.std.specs.Prelude.{◌≡◌, ◌<◌, ℕ, List, map, length, option_map, IfOk, IfErr, [], true};
+ghost use Rattle.std.specs.String.{string_bytes};
+ghost use Rattle.std.specs.List.{list_all};
+ghost use Rattle.med_value.specs.Datum.{datum};
+ghost use Rattle.fdw_api.specs.Scan.{restriction_form, spec_of};
+ghost use Rattle.fdw_api.specs.Kinds.{column_of, option_form};
+ghost use Rattle.fdw_api.specs.Writes.{row_of_change_fits};
+ghost use Rattle.blob_store.specs.Names.{is_blob_name};
+ghost use Rattle.staged_changes.specs.Staged.{change_is};
+ghost use Rattle.place_index.specs.Scans.{sought, form_of};
+
+use fdw_api::interface::{Fault, TableOption};
+use fdw_api::scan::{Agree, Restriction, ScanSpec};
+use med_value::{ColumnDef, NoMemory, Row, Value};
+use place_index::Sought;
+use staged_changes::RowChange;
+use std::alloc::Global;
+
+/// A table that a blob was read as: it has rows at places, the first at 0. A kind of file is an implementation of it.
+///
+/// `form` says what such a table is as a bound table of its kind, and what its rows are, and has the laws of both. A draft is a table after
+/// changes of which the image is not written yet: `drafted` is that table, and `image_of` that image.
+pub trait PlacedTable: Drop {
+    type Draft: Drop;
+
+    ghost use Rattle.place_wrapper.specs.Forms.{Form, GivesAt, CellAt, ReadsAs, RefusesContent, Rewrites, RefusesChanges};
+
+    ghost form: { Form Self };
+
+    ghost drafted: { Self.Draft → Self };
+
+    ghost image_of: { Self.Draft → List ℕ };
+
+    /// Reads the content of a blob as a table of these columns. It is refused by a cause of least phase that stands against the content, or
+    /// for want of memory.
+    fn read(
+        alloc: Global,
+        remote: &str,
+        columns: &[ColumnDef],
+        options: &[TableOption],
+        content: Vec<u8>,
+    ) -> Result<Self, Fault>
+        requires named { is_blob_name remote.now ≡ true }
+        requires no_objection { form.kind.objections (map column_of columns.now) (map option_form options.now) ≡ [] }
+        ensures ok { IfOk result (λ t. ReadsAs form remote.now (map column_of columns.now) (map option_form options.now) content.items t) }
+        ensures err { IfErr result (λ fault. RefusesContent form (map column_of columns.now) (map option_form options.now)
+            content.items fault) };
+
+    /// The remote name of the table.
+    fn remote(&self) -> &str
+        ensures { result.now ≡ (form.bound self.now).remote };
+
+    /// How many rows there are.
+    fn count(&self) -> usize
+        ensures { result ≡ length (form.rows self.now) };
+
+    /// What is done about a restriction.
+    fn answer(&self, restriction: &Restriction) -> Agree
+        ensures { result ≡ form.answer self.now (restriction_form restriction.now) };
+
+    /// The row at a place as a scan shows it, None where the scan does not take it; `found` is what the scan looks for. It fails for want
+    /// of memory alone.
+    fn give(
+        &self,
+        alloc: Global,
+        at: usize,
+        spec: &ScanSpec,
+        found: Option<Sought>,
+        params: &[Value],
+    ) -> Result<Option<Row>, NoMemory>
+        requires within { at < length (form.rows self.now) }
+        requires found { option_map form_of found ≡ sought (map restriction_form spec.now.offered.items) }
+        ensures { IfOk result (λ given. GivesAt form self.now (spec_of spec.now) (map datum params.now) at given) };
+
+    /// The cell of a column of the row at a place. It fails for want of memory alone.
+    fn cell(&self, alloc: Global, at: usize, column: usize) -> Result<Value, NoMemory>
+        requires { at < length (form.rows self.now) }
+        ensures { IfOk result (λ v. CellAt form self.now at column (datum v)) };
+
+    /// The table after staged changes, with an image that is read again as it. It is refused by a cause of the run that stands for all of
+    /// the changes together, or for want of memory.
+    fn rewritten(&self, alloc: Global, changes: Vec<RowChange>) -> Result<Self::Draft, Fault>
+        requires { list_all (row_of_change_fits (form.bound self.now).kinds) (map change_is changes.items) ≡ true }
+        ensures ok { IfOk result (λ draft. Rewrites form self.now (map change_is changes.items) (drafted draft) (image_of draft)) }
+        ensures err { IfErr result (λ fault. RefusesChanges form self.now (map change_is changes.items) fault) };
+
+    /// The image of a draft.
+    fn image(draft: &Self::Draft) -> &[u8]
+        ensures { result.now ≡ image_of draft.now };
+
+    /// The table of a draft.
+    fn into_table(draft: Self::Draft) -> Self
+        ensures { result ≡ drafted draft };
+}

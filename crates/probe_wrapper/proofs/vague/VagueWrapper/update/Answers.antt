@@ -1,0 +1,14 @@
+use Rattle.std.proofs.Common.{true}
+use Rattle.probe_wrapper.specs.Shy.{asked_of}
+use Rattle.probe_wrapper.proofs.CountingLemmas.{if_ok, if_err}
+use Rattle.probe_wrapper.proofs.ShyCalls.{can_change, stages, refuses_change}
+use Rattle.probe_wrapper.proofs.vague.VagueWrapper.update.Goals as goal
+
+pub update-requires : goal.update-requires
+update-requires g c = can_change true (asked_of c.args.self.now.scans) (g.W.Wrapper.meaning c.args.self.now.inner) _ c.requires
+
+pub returns-clause-ok : goal.returns-clause-ok
+returns-clause-ok g c = if_ok _ _ c.update.result (λ _ r. stages true (asked_of c.args.self.now.scans) (g.W.Wrapper.meaning c.args.self.now.inner) (g.W.Wrapper.meaning c.update.new.self) _ r) c.update.ensures.ok
+
+pub returns-clause-err : goal.returns-clause-err
+returns-clause-err g c = if_err _ _ c.update.result (λ f r. refuses_change true (asked_of c.args.self.now.scans) (g.W.Wrapper.meaning c.args.self.now.inner) (g.W.Wrapper.meaning c.update.new.self) _ f r) c.update.ensures.err

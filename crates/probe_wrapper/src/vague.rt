@@ -1,0 +1,200 @@
+//! A wrapper round a wrapper, that answers Hint and leaves out no row.
+ghost use Rattle.std.specs.Prelude.{◌≡◌, IfOk, IfErr, IsSome, None, map, length, replicate};
+ghost use Rattle.med_value.specs.Datum.{datum};
+ghost use Rattle.fdw_api.specs.Scan.{spec_of, spec_by, restriction_form};
+ghost use Rattle.fdw_api.specs.declared.scan.Agree.TheVariants.{Hint};
+ghost use Rattle.fdw_api.specs.declared.interface.Fault.TheVariants.{NoMemory};
+ghost use Rattle.fdw_api.specs.State.{IsIdle};
+ghost use Rattle.probe_wrapper.specs.Shy.{asked_of};
+ghost use Rattle.probe_wrapper.specs.Vague.{vague};
+
+use crate::shy::{AskedScan, ask_again, bare, note, spoil};
+use fdw_api::interface::{Counts, Fault, RowId, SourceRow, TableOption, Ticket, Wrapper};
+use fdw_api::scan::{Agree, Agreement, Restriction, ScanSpec, copy_values};
+use fdw_api::wishes::{Agreement2, ScanSpec2, Wish, Wrapper2};
+use med_value::{ColumnDef, Row, TableNo, Value};
+use std::alloc::Global;
+use std::collections::BTreeMap;
+
+/// Answers Hint to every restriction, and gives every row whole. Its inner wrapper is offered nothing: neither restrictions nor parameters.
+#[derive(Drop)]
+pub struct Vague<W> {
+    inner: W,
+    scans: BTreeMap<u64, AskedScan>,
+}
+
+impl<W: Wrapper> Vague<W> {
+    /// A wrapper round this one, that has begun no scan yet. It takes no memory.
+    pub fn new(alloc: Global, inner: W) -> Self
+        ensures shows { vague (W.meaning result.inner) (asked_of result.scans) ≡ vague (W.meaning inner) (λ q. None) }
+        ensures idle { IsIdle (W.meaning inner) → IsIdle (vague (W.meaning result.inner) (asked_of result.scans)) }
+    {
+        Vague {
+            inner,
+            scans: BTreeMap::new(alloc),
+        }
+    }
+}
+
+impl<W: Wrapper> Wrapper for Vague<W> {
+    ghost use Rattle.std.specs.Prelude.{OnErr};
+    ghost use Rattle.fdw_api.specs.State.{table_of, scan_of};
+    ghost use Rattle.fdw_api.specs.Calls.{Allows, CanBegin, Begins, RefusesBegin, CanRescan, Rescans, Breaks, Ends};
+    ghost use Rattle.probe_wrapper.specs.Entries.{Stays, Forgets};
+    ghost use Rattle.probe_wrapper.specs.Shy.{OffersNothing, Wants};
+    ghost use Rattle.probe_wrapper.specs.Vague.{box_of};
+
+    ghost meaning = { λ b. vague (W.meaning b.inner) (asked_of b.scans) };
+
+    fn bind(
+        &mut self,
+        alloc: Global,
+        remote: &str,
+        columns: &[ColumnDef],
+        options: &[TableOption],
+    ) -> Result<TableNo, Fault> {
+        self.inner.bind(alloc, remote, columns, options)
+    }
+
+    fn unbind(&mut self, t: TableNo) {
+        self.inner.unbind(t)
+    }
+
+    fn plan(
+        &self,
+        alloc: Global,
+        _t: TableNo,
+        _wanted: &[usize],
+        offered: &[Restriction],
+    ) -> Result<Agreement, Fault>
+        requires { IsSome (table_of (box_of W.meaning self.now) _t.number) }
+        ensures ok { IfOk result (λ a. Allows (box_of W.meaning self.now) _t.number
+            (spec_by _wanted.now (map restriction_form offered.now) a)) }
+        ensures each { IfOk result (λ a. length a.answers.items ≡ length offered.now) }
+        ensures err { IfErr result (λ fault. fault ≡ NoMemory) }
+        ensures hints { IfOk result (λ a. a.answers.items ≡ replicate (length offered.now) Hint) }
+    {
+        let answers = vec![in alloc; Agree::Hint; offered.len()]?;
+        Ok(Agreement {
+            answers,
+            narrow: false,
+        })
+    }
+
+    /// Begins a scan, for which the inner wrapper is offered nothing.
+    fn begin(
+        &mut self,
+        alloc: Global,
+        t: TableNo,
+        spec: &ScanSpec,
+        params: &[Value],
+    ) -> Result<Ticket, Fault>
+        requires { CanBegin (box_of W.meaning self.old) t.number spec.now (map datum params.now) }
+        ensures ok { IfOk result (λ ticket. Begins (box_of W.meaning self.old) t.number (spec_of spec.now) (map datum params.now)
+            ticket.number (box_of W.meaning self.new)) }
+        ensures err { IfErr result (λ fault. RefusesBegin fault (box_of W.meaning self.old) (box_of W.meaning self.new)) }
+        ensures bare { IfOk result (λ ticket. OffersNothing (W.meaning self.new.inner) ticket.number) }
+        ensures columns { IfOk result (λ ticket. Wants (W.meaning self.new.inner) ticket.number spec.now.wanted.items) }
+        ensures kept { OnErr result (Stays (asked_of self.old.scans) (asked_of self.new.scans)) }
+    {
+        let scan = note(alloc, spec, params)?;
+        let bare = bare(alloc, spec)?;
+        let ticket = self.inner.begin(alloc, t, &bare, &[])?;
+        match self.scans.insert(ticket.number, scan) {
+            Ok(_) => Ok(ticket),
+            Err(_) => {
+                self.inner.end(ticket);
+                Err(Fault::NoMemory)
+            }
+        }
+    }
+
+    fn iterate(&mut self, alloc: Global, ticket: &Ticket) -> Result<Option<SourceRow>, Fault> {
+        self.inner.iterate(alloc, ticket)
+    }
+
+    /// Begins a scan again, for which the inner wrapper is given no parameter.
+    fn rescan(&mut self, alloc: Global, ticket: &Ticket, params: &[Value]) -> Result<(), Fault>
+        requires { CanRescan (box_of W.meaning self.old) ticket.now.number (map datum params.now) }
+        ensures ok { IfOk result (λ _. Rescans (box_of W.meaning self.old) ticket.now.number (map datum params.now)
+            (box_of W.meaning self.new)) }
+        ensures err { IfErr result (λ fault. Breaks (box_of W.meaning self.old) ticket.now.number fault (box_of W.meaning self.new)) }
+        ensures bare { IfOk result (λ _. OffersNothing (W.meaning self.new.inner) ticket.now.number) }
+    {
+        match copy_values(alloc, params) {
+            Err(_) => {
+                spoil(&mut self.scans, ticket.number);
+                Err(Fault::NoMemory)
+            }
+            Ok(params) => match self.inner.rescan(alloc, ticket, &[]) {
+                Err(fault) => Err(fault),
+                Ok(()) => {
+                    ask_again(&mut self.scans, ticket.number, params);
+                    Ok(())
+                }
+            },
+        }
+    }
+
+    fn end(&mut self, ticket: Ticket)
+        requires { IsSome (scan_of (box_of W.meaning self.old) ticket.number) }
+        ensures ended { Ends (box_of W.meaning self.old) ticket.number (box_of W.meaning self.new) }
+        ensures forgotten { Forgets (asked_of self.old.scans) ticket.number (asked_of self.new.scans) }
+    {
+        let _ = self.scans.remove(&ticket.number);
+        self.inner.end(ticket)
+    }
+
+    fn begin_modify(&mut self, alloc: Global, t: TableNo) -> Result<(), Fault> {
+        self.inner.begin_modify(alloc, t)
+    }
+
+    fn insert(&mut self, alloc: Global, row: Row) -> Result<(), Fault> {
+        self.inner.insert(alloc, row)
+    }
+
+    fn update(&mut self, alloc: Global, id: RowId, row: Row) -> Result<(), Fault> {
+        self.inner.update(alloc, id, row)
+    }
+
+    fn delete(&mut self, alloc: Global, id: RowId) -> Result<(), Fault> {
+        self.inner.delete(alloc, id)
+    }
+
+    fn end_modify(&mut self, alloc: Global, keep: bool) -> Result<(), Fault> {
+        self.inner.end_modify(alloc, keep)
+    }
+
+    fn ledger(&self) -> Counts {
+        self.inner.ledger()
+    }
+}
+
+impl<W: Wrapper> Wrapper2 for Vague<W> {
+    /// Promises no order and no limit.
+    fn plan2(
+        &self,
+        alloc: Global,
+        t: TableNo,
+        wanted: &[usize],
+        offered: &[Restriction],
+        _wish: &Wish,
+    ) -> Result<Agreement2, Fault> {
+        let base = self.plan(alloc, t, wanted, offered)?;
+        Ok(Agreement2 {
+            base,
+            ordered: false,
+            limited: false,
+        })
+    }
+
+    fn begin2(
+        &mut self,
+        alloc: Global,
+        t: TableNo,
+        spec: &ScanSpec2,
+        params: &[Value],
+    ) -> Result<Ticket, Fault> {
+        self.begin(alloc, t, &spec.base, params)
+    }
+}

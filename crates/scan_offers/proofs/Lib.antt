@@ -1,0 +1,4 @@
+mod Deciding
+mod Splitting
+mod Growing
+mod Found

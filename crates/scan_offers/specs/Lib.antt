@@ -1,0 +1,4 @@
+pub mod Tests
+pub mod Offers
+pub mod Laws
+pub mod Index

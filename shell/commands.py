@@ -1,0 +1,157 @@
+"""The commands that begin with a backslash, and the words help, quit and exit."""
+import os
+
+from description import everything, one
+from statements import Reader
+from words import FORMATS
+
+MOST_NESTED = 16  # files that read one another
+
+
+class Leave(Exception):
+    """The person wants to leave."""
+
+
+class Failed(Exception):
+    """A command could not be done; the text says why."""
+
+
+def told_of(fault):
+    """A fault's text; of one of the system the file and why."""
+    return f"{fault.filename}: {fault.strerror}" if isinstance(fault, OSError) and fault.filename else str(fault)
+
+
+def path_of(argument):
+    """A path as it was typed, in quotes or without."""
+    return os.path.expanduser(argument.strip("'\""))
+
+
+class Commands:
+    """Does what command lines say."""
+
+    def __init__(self, session):
+        self.session, self.depth = session, 0
+        self.known = {
+            "\\d": ("[NAME]", "the tables, servers, mappings and sources; or one of them", self.describe),
+            "\\i": ("FILE", "runs the statements of a file", self.include),
+            "\\o": ("[FILE]", "writes rows to a file; without one, here again", self.redirect),
+            "\\x": ("", "one line for each field of a row, or tables again", self.expand),
+            "\\format": ("[FORMAT]", "rows as aligned, csv or json (one object a line)", self.set_format),
+            "\\null": ("[TEXT]", "what stands for NULL in tables", self.set_null),
+            "\\pager": ("", "whether long tables go through PAGER, or less", self.switch_pager),
+            "\\?": ("", "this text; also help", self.help),
+            "\\q": ("", "leaves; also quit, exit and Ctrl-D", self.leave),
+        }
+
+    def is_command(self, line, is_inside, is_typed):
+        """Whether a line is a command. Within a statement the words are so only where a person types them: a file may have a column help."""
+        word = line.strip().rstrip(";").strip()
+        is_word = word.lower() in ("help", "quit", "exit")
+        return word.startswith("\\") or is_word and (is_typed or not is_inside)
+
+    def obey(self, line):
+        """Does what a command line says; whether it could be done. Raises Leave."""
+        name, _, argument = line.strip().rstrip(";").strip().partition(" ")
+        name = {"help": "\\?", "quit": "\\q", "exit": "\\q", "\\dt": "\\d"}.get(name.lower(), name)
+        try:
+            if name not in self.known:
+                raise Failed(f"no such command: {name}; \\? helps")
+            return self.known[name][2](argument.strip()) is not False
+        except BrokenPipeError:
+            raise
+        except (Failed, OSError) as fault:
+            self.session.has_refused = True
+            self.session.tell(f"ERROR: {told_of(fault)}")
+            return False
+
+    def acknowledge(self, text):
+        """Tells a person what is set; a script has only rows on its standard output."""
+        if self.session.is_person:
+            self.session.show_here(text)
+
+    # Each takes its argument.
+
+    def help(self, _argument):
+        forms = [f"  {f'{name} {argument}':<18}{what}" for name, (argument, what, _) in self.known.items()]
+        lines = ["SQL ends with ; and may go over several lines; -- begins a comment. Ctrl-C stops a statement, or drops the line.", *forms,
+                 f"NULL is shown as {self.session.settings.null}; in csv it is an empty field, and the empty text \"\"; in json it is null.",
+                 "In tables \\\\, \\t, \\n and \\r stand for a backslash, TAB and line ends.",
+                 "docs/LANGUAGE.md has the SQL, docs/SOURCES.md the options, docs/ERRORS.md what each code means.\n"]
+        self.session.show_here("\n".join(lines))
+
+    def leave(self, _argument):
+        raise Leave
+
+    def expand(self, _argument):
+        settings = self.session.settings
+        settings.is_expanded = not settings.is_expanded
+        self.acknowledge(f"rows are shown {'field by field' if settings.is_expanded else 'as tables'}\n")
+
+    def set_format(self, argument):
+        settings = self.session.settings
+        if argument and argument not in FORMATS:
+            raise Failed(f"a format is {', '.join(FORMATS)}: {argument}")
+        settings.format = argument or settings.format
+        self.acknowledge(f"the format is {settings.format}\n")
+
+    def set_null(self, argument):
+        self.session.settings.null = argument.strip("'") if argument else "\u2205"
+        self.acknowledge(f"NULL is shown as '{self.session.settings.null}'\n")
+
+    def switch_pager(self, _argument):
+        settings = self.session.settings
+        settings.is_paged = not settings.is_paged
+        self.acknowledge(f"the pager is {'on' if settings.is_paged else 'off'}\n")
+
+    def redirect(self, argument):
+        self.session.open_output(path_of(argument))
+
+    def include(self, argument):
+        if not argument:
+            raise Failed("\\i needs a file")
+        if self.depth == MOST_NESTED:
+            raise Failed(f"{argument}: more than {MOST_NESTED} files are inside one another")
+        with open(path_of(argument), "rb") as file:
+            lines = file.read().decode(errors="surrogateescape").split("\n")
+        self.depth += 1
+        try:
+            return self.run_lines(lines, argument)
+        except Leave:
+            return True
+        finally:
+            self.depth -= 1
+
+    def run_lines(self, lines, name):
+        """Runs statements and commands of a file or of a word; whether all were done."""
+        reader, is_good = Reader(), True
+        for number, line in enumerate(lines, 1):
+            is_good = self.take(reader, line.rstrip("\r"), number, name) and is_good
+            if not is_good and self.session.words.stops:
+                return False
+        return all([self.session.run(it, name) for it in reader.rest()]) and is_good
+
+    def take(self, reader, line, number, name):
+        """Runs what ends in a line; whether all was done."""
+        if self.is_command(line, reader.is_inside, self.session.is_person and not name):
+            return self.obey(line)
+        is_good = True
+        for statement in reader.take(line, number):
+            is_good = self.session.run(statement, name) and is_good
+            if not is_good and self.session.words.stops:
+                break
+        return is_good
+
+    def describe(self, argument):
+        catalogue = self.session.catalogue
+        name = argument[1:-1].replace('""', '"') if argument.startswith('"') else argument.lower()
+        lines = list(one(catalogue, name) if name else everything(catalogue))
+        if not name and self.session.words.port:
+            lines.append("(of a served engine the shell knows what was made through it alone; \\d NAME asks for a table's columns)")
+        self.session.show_here("".join(f"{it}\n" for it in lines or [self.asked(name)]))
+
+    def asked(self, name):
+        """The columns of a table that the shell has not seen made, by the engine's answer."""
+        names = self.session.names_of_columns(name)
+        if names is None:
+            raise Failed(f"no table or server {name} is known")
+        return f"foreign table {name}: {', '.join(names)}"

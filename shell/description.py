@@ -1,0 +1,49 @@
+"""What \\d shows of the objects that the shell knows, a line each."""
+
+
+def everything(catalogue):
+    """Tables, servers, mappings, and sources without a server."""
+    tables = catalogue.of_kind("table")
+    yield from map(str, tables)
+    yield f"({len(tables)} table{'s' * (len(tables) != 1)})"
+    for it in catalogue.of_kind("server"):
+        yield f"server {it.name}: {source_of(catalogue, it.name)}"
+    for it in catalogue.of_kind("mapping"):
+        yield mapping(it)
+    taken = {it.options.get("source") for it in catalogue.of_kind("server")}
+    for source in catalogue.sources:
+        if source[1] not in taken:
+            yield f"{written_source(*source)}: no server has it"
+
+
+def one(catalogue, name):
+    """The table or server of this name; nothing where there is none."""
+    table, server = catalogue.get("table", name), catalogue.get("server", name)
+    if table:
+        yield from of_table(catalogue, table)
+    elif server:
+        yield f"server {name}: {source_of(catalogue, name)}"
+        yield from (f"  {it}" for it in catalogue.of_kind("table") if it.of == name)
+        yield from (f"  {mapping(it)}" for it in catalogue.of_kind("mapping") if it.of == name)
+
+
+def of_table(catalogue, table):
+    longest = max([len(it.name) for it in table.columns] + [0])
+    yield f"foreign table {table.name}"
+    for it in table.columns:
+        member = f"  member {it.options['member']}" if "member" in it.options else ""
+        yield f"  {it.name:<{longest}}  {it.type}{' NOT NULL' * it.is_not_null}{member}"
+    yield f"  of server {table.of}, {source_of(catalogue, table.of)}"
+    yield from (f"  {option} '{text}'" for option, text in table.options.items())
+
+
+def mapping(it):
+    return f"mapping {it.name}: {it.options.get('mode', 'read')}"
+
+
+def source_of(catalogue, server):
+    return written_source(*catalogue.source_of(server))
+
+
+def written_source(kind, name, path):
+    return f"source {name} ({kind}{' ' * bool(path)}{path})"

@@ -1,0 +1,178 @@
+"""More about a refusal than its code: the sentence of docs/ERRORS.md, the nearest names, the valid options, and what stands where in a file."""
+import os, re, shutil, subprocess
+
+from catalogue import TYPES, Parser, nearest
+from engine import APART
+from queries import entries, is_name
+from statements import RESERVED, tokens, written
+
+MOST_FAULTS, MOST_NAMES = 10, 12  # that are shown
+FILE_NAME = re.compile(r"[A-Za-z0-9_-][A-Za-z0-9_.-]{0,254}")
+# Keywords that are no reserved words.
+KEYWORDS = RESERVED | set("nulls first last row rows unknown cursor insensitive no scroll hold next close count sum min max".split())
+OPTIONS = {"server": "source (required)", "mapping": "mode 'read' or 'write'", "list": "table (required)", "sqlite": "table (required): 'orders' or 'people'",
+           "csv": "filename (required), header 'true' or 'false', null 'TEXT'", "jsonl": "filename (required); of a column: member 'NAME'"}
+NO_TYPES = "a decimal or a date may be declared as text, and a type has no length"
+SHAPES = (
+    "of a database two tables can be read: orders, made by CREATE TABLE orders (id INTEGER PRIMARY KEY, part INTEGER, n INTEGER),",
+    "and people, made by CREATE TABLE people (id INTEGER PRIMARY KEY, name TEXT, active INTEGER)",
+    "of others export the rows: sqlite3 -csv -header FILE 'SELECT ..' > FOLDER/NAME.csv",
+)
+
+
+class Hints:
+    """Hints on the statements of one session."""
+
+    def __init__(self, home, catalogue, user):
+        self.home, self.catalogue, self.user = home, catalogue, user
+        self.by_code = {"42P01": self.unknown_tables, "42703": self.unknown_columns, "42704": self.unknown_objects, "HV00D": self.valid_options,
+                        "HV00J": self.valid_options, "HV00N": self.free_sources, "42601": self.length_of_a_type}
+
+    def sentence(self, code):
+        """What docs/ERRORS.md says of a code in short, or nothing."""
+        for folder in (os.path.join(self.home, "docs"), os.path.join(self.home, "../share/doc/fedq"), os.path.join(self.home, "../share/fedq/docs")):
+            try:
+                with open(os.path.join(folder, "ERRORS.md"), encoding="utf-8") as file:
+                    found = re.search(rf"^\| \[{code}\]\([^|]*\|[^|]*\| (.*) \|$", file.read(), re.M)
+                    return found[1] if found else ""
+            except OSError:
+                continue
+        return ""
+
+    def lines(self, code, text):
+        """The hints on a statement that was refused by this code."""
+        if code in self.by_code:
+            return list(self.by_code[code](text))
+        made = Parser(text).object()
+        if made and made.kind == "table" and not made.is_drop and made.options and code in ("22P02", "HV00A", "HV00R", "54000", "HV004", "HV000"):
+            return list(self.remote_table(made))
+        return ["mode is 'read' or 'write'"] if made and made.kind == "mapping" and code == "22P02" else []
+
+    def unknown_tables(self, text):
+        found, tables = tokens(text), self.catalogue.tables
+        called = dict(entries(found))
+        unknown = [it for it in called.values() if it not in tables]
+        for name in unknown:
+            yield from said_of("foreign table", name, tables)
+        if unknown and not tables and self.setup_words():
+            yield f"no table was made yet: fedq-setup {self.setup_words()} > setup.sql writes what makes some, and --init setup.sql runs it"
+        for at, it in enumerate(found[:-1]):
+            if not unknown and is_name(it) and found[at + 1] == ("mark", ".") and it.value not in called:
+                yield from said_of("entry of FROM", it.value, called)
+
+    def setup_words(self):
+        """The words with which fedq-setup looks at the sources; nothing where there are none, or no fedq-setup."""
+        words = " ".join(f"--{kind} {name}={path}" for kind, name, path in self.catalogue.sources if kind != "list")
+        return words if setup_program(self.home) else ""
+
+    def unknown_columns(self, text):
+        found, tables = tokens(text), self.catalogue.tables
+        pairs = entries(found)
+        columns = {column.name for _, table in pairs if table in tables for column in tables[table].columns}
+        passed = {*columns, *(name for pair in pairs for name in pair)}
+        labels = {found[at + 1].value for at, it in enumerate(found[:-1]) if it == ("word", "as")}
+        for at, it in enumerate(found):
+            is_function = found[at + 1:at + 2] == [("mark", "(")] and it.kind == "word"
+            if not is_name(it) or it.value in passed or it.kind == "word" and it.value in KEYWORDS or is_function:
+                continue
+            passed.add(it.value)
+            if it.value in labels:
+                yield f"only ORDER BY sees {written(it.value)}, which AS names"
+                continue
+            if it.kind == "quoted" and not nearest(it.value, columns):
+                yield f"double quotes make a name; a text stands in single ones: '{it.value}'"
+            yield from said_of("column", it.value, columns)
+
+    def unknown_objects(self, text):
+        made = Parser(text).object()
+        if made is None:
+            yield from self.lacking_mappings(text)
+        elif made.kind == "server" and not made.is_drop:
+            yield from said_of("wrapper", made.of, [it.name for it in self.catalogue.of_kind("wrapper")])
+        elif made.kind in ("table", "mapping") and not made.is_drop and not self.catalogue.get("server", made.of):
+            yield from said_of("server", made.of, [it.name for it in self.catalogue.of_kind("server")])
+        elif made.is_drop:
+            yield from said_of(made.kind, made.name, [it.name for it in self.catalogue.of_kind(made.kind)])
+        unknown = sorted({it.type for it in made.columns if it.type not in TYPES}) if made else []
+        if unknown:
+            yield f"no type {', '.join(unknown)}; the types are {', '.join(TYPES)}; {NO_TYPES}"
+
+    def lacking_mappings(self, text):
+        tables = self.catalogue.tables
+        for server in sorted({tables[name].of for _, name in entries(tokens(text)) if name in tables}):
+            if not any(self.catalogue.get("mapping", f"{user} on {server}") for user in (self.user, "public")):
+                yield f"{self.user} has no mapping on {server}: the owner writes CREATE USER MAPPING FOR {self.user} SERVER {written(server)}"
+
+    def length_of_a_type(self, text):
+        if re.match(r"\s*create\s+foreign\s+table\b", text, re.I):
+            yield f"the types are {', '.join(TYPES)}; {NO_TYPES}"
+
+    def valid_options(self, text):
+        made = Parser(text).object()
+        if made is None:
+            return
+        kind = made.kind if made.kind != "table" else self.catalogue.source_of(made.of)[0]
+        if kind in OPTIONS:
+            yield f"the options of {'a table of ' if made.kind == 'table' else 'a '}{kind}: {OPTIONS[kind]}"
+
+    def free_sources(self, text):
+        made, taken = Parser(text).object(), {it.options.get("source"): it.name for it in self.catalogue.of_kind("server")}
+        wrapper = made and self.catalogue.get("wrapper", made.of)
+        for kind, name, _ in self.catalogue.sources:
+            fault = f"server {taken[name]} has it" if name in taken else "" if not wrapper or kind == wrapper.of else f"not of {wrapper.of}"
+            yield f"source {name} is of {kind}{': ' + fault if fault else ''}"
+        if not self.catalogue.sources:
+            yield "there is no source: --list, --csv, --jsonl and --sqlite name some"
+
+    def remote_table(self, made):
+        """What is wrong with the file or table that a foreign table was to stand for."""
+        kind, _, path = self.catalogue.source_of(made.of)
+        name = made.options.get("table" if kind == "sqlite" else "filename", "")
+        if kind == "sqlite":
+            yield from self.faults_of(kind, path, name, made) or SHAPES
+        if kind not in ("csv", "jsonl"):
+            return
+        if not FILE_NAME.fullmatch(name):
+            yield f"a filename is 1 to 255 of A-Z a-z 0-9 _ . - and begins with no dot: rename {name!r}, or make a link to it"
+        elif made.options.get("header", "true") not in ("true", "false"):
+            yield "header is 'true' or 'false', in lower case"
+        elif not os.path.isdir(path):
+            yield f"there is no folder {path}"
+        elif not os.path.exists(os.path.join(path, name)):
+            yield from said_of("file", name, os.listdir(path), f" in {path}")
+        else:
+            yield from self.faults_of(kind, path, name, made)
+
+    def faults_of(self, kind, path, name, made):
+        """What `fedq-setup --check` says of a file or table, a line a fault; nothing where the script is not there."""
+        setup = setup_program(self.home)
+        if not setup or path == ":memory:":
+            return []
+        command = [setup, "--check", kind, path, name, "--columns", ", ".join(f"{written(it.name)} {it.type}" for it in made.columns)]
+        if any(it.options for it in made.columns):
+            command += ["--members", ", ".join(it.options.get("member", "") for it in made.columns)]
+        for option in ("header", "null"):
+            command += [f"--{option}", made.options[option]] if option in made.options else []
+        try:
+            done = subprocess.run(command, stdin=subprocess.DEVNULL, capture_output=True, timeout=60, **APART)
+        except (OSError, subprocess.TimeoutExpired):
+            return []
+        return done.stdout.decode(errors="replace").splitlines()[:MOST_FAULTS] if done.returncode == 1 else []
+
+
+def setup_program(home):
+    """The path of fedq-setup, or nothing."""
+    beside = os.path.join(home, "fedq-setup")
+    return beside if os.access(beside, os.X_OK) else shutil.which("fedq-setup") or ""
+
+
+def said_of(what, name, names, where=""):
+    """That this name is not among `names`, and which of them are near; all of a few where none is."""
+    near = nearest(name, names)
+    shown = ", ".join(map(written_if_name, near or sorted(names)))
+    few = f"; there are {shown}" if 0 < len(names) <= MOST_NAMES else ""
+    yield f"no {what} {name}{where}{f'; nearest: {shown}' if near else few}"
+
+
+def written_if_name(name):
+    return name if re.fullmatch(r"[\w.-]+", name) else written(name)

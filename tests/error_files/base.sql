@@ -1,0 +1,3 @@
+CREATE TABLE people (id INTEGER PRIMARY KEY, name TEXT, active INTEGER);
+INSERT INTO people VALUES (1, 'Ada', 1), (2, 'Bo', NULL);
+CREATE TABLE customers (id INTEGER PRIMARY KEY, name TEXT);
