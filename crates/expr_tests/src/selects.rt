@@ -1,6 +1,7 @@
-//! Copies of a SELECT, and the laws on SELECTs.
+//! Which conjuncts of ON may fault, and the laws on SELECTs.
 use crate::build::build;
-use med_query::{Grouping, Join, JoinChain, Select, SelectCore, SortDirection, is_safe_from};
+use crate::rows::{Answer, assert_rows};
+use med_query::{Join, JoinChain, is_safe_from};
 use std::alloc::Global;
 use std::test::Fail;
 use tri_expr::Expr;
@@ -9,82 +10,48 @@ fn list(alloc: Global, steps: &str) -> Result<Vec<Expr>, Fail> {
     Ok(vec![in alloc; build(alloc, steps)?]?)
 }
 
-/// Two chains: of a table with a join of each kind, and of one table.
-fn chains(alloc: Global) -> Result<Vec<JoinChain>, Fail> {
-    let inner = Join::Inner {
-        table: 2,
-        on: list(alloc, "id qty =")?,
-    };
-    let left = Join::Left {
-        table: 3,
-        width: 4,
-        on: list(alloc, "name 'x' <>")?,
-    };
-    let joins = vec![in alloc; Join::Cross { table: 1 }, inner, left]?;
-    let last = JoinChain {
-        first: 5,
-        joins: Vec::new(alloc),
-    };
-    Ok(vec![in alloc; JoinChain { first: 0, joins }, last]?)
+fn join(alloc: Global, text: &str) -> Result<Join, Fail> {
+    let (kind, steps) = text.split_once(" ON ").ok_or(text)?;
+    let on = list(alloc, steps)?;
+    match kind {
+        "INNER" => Ok(Join::Inner { table: 2, on }),
+        _ => Ok(Join::Left {
+            table: 3,
+            width: 4,
+            on,
+        }),
+    }
 }
 
-fn grouping(alloc: Global) -> Result<Grouping, Fail> {
-    Ok(Grouping {
-        keys: vec![in alloc; 3, 1]?,
-        arguments: list(alloc, "qty")?,
-        having: list(alloc, "qty sum 3 >")?,
-    })
+/// FROM with one table, and with a chain of a CROSS JOIN and the join of a text.
+struct Safe;
+
+impl Answer for Safe {
+    fn answer(alloc: Global, text: &str) -> Result<String, Fail> {
+        let first = JoinChain {
+            first: 5,
+            joins: Vec::new(alloc),
+        };
+        let last = JoinChain {
+            first: 0,
+            joins: vec![in alloc; Join::Cross { table: 1 }, join(alloc, text)?]?,
+        };
+        let from = vec![in alloc; first, last]?;
+        Ok(format!(in alloc; "{}", is_safe_from(&from))?)
+    }
 }
 
-fn whole_core(alloc: Global) -> Result<SelectCore, Fail> {
-    Ok(SelectCore {
-        from: chains(alloc)?,
-        conditions: list(alloc, "live")?,
-        grouping: Some(grouping(alloc)?),
-        items: list(alloc, "name")?,
-        distinct: true,
-        keys: list(alloc, "name ()")?,
-    })
-}
-
-/// SELECT 'x', with this key.
-fn bare_core(alloc: Global) -> Result<SelectCore, Fail> {
-    Ok(SelectCore {
-        from: Vec::new(alloc),
-        conditions: Vec::new(alloc),
-        grouping: None,
-        items: list(alloc, "'x'")?,
-        distinct: false,
-        keys: list(alloc, "'y'")?,
-    })
-}
-
-fn selected(alloc: Global) -> Result<Select, Fail> {
-    let direction = SortDirection {
-        descending: true,
-        nulls_first: false,
-    };
-    Ok(Select {
-        cores: vec![in alloc; whole_core(alloc)?, bare_core(alloc)?]?,
-        directions: vec![in alloc; direction]?,
-        offset: 6,
-        limit: Some(7),
-    })
-}
+const CONJUNCTS: &str = "\
+INNER ON id qty = => true
+INNER ON id qty 1 + = => false
+INNER ON qty negate id = => false
+LEFT ON name 'x' <> => true
+LEFT ON id qty / 2 = => false
+LEFT ON name () like:x% => true";
 
 #[test]
-fn copy_of_a_select_has_each_part(rt: HostRuntime) -> Result<(), Fail> {
-    let alloc = rt.alloc();
-    let select = selected(alloc)?;
-    let copy = select.copy(alloc)?;
-    assert_eq!(rt;
-        format!(in alloc; "{copy:?}")?,
-        format!(in alloc; "{select:?}")?
-    );
-    for core in &copy.cores {
-        assert!(rt; is_safe_from(&core.from));
-    }
-    Ok(())
+fn conjunct_of_on_with_arithmetic_may_fault(rt: HostRuntime) -> Result<(), Fail> {
+    assert_rows::<Safe>(rt.alloc(), &rt, CONJUNCTS)
 }
 
 #[test]
