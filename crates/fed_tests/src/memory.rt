@@ -7,14 +7,17 @@ ghost use Rattle.session_wire.specs.Servers.{handler_of};
 
 use crate::expect::{same, same_text};
 use crate::served::{ANSWER, STORED, counts_after, counts_at_end, demo_engine, demo_server};
+use blob_store::Disks;
 use fdw_api::interface::Counts;
 use fed_cli::program::run_asked;
 use fed_cli::{StreamFault, serve_stream};
+use fed_setup::inputs::ReadsInputs;
 use fed_setup::told::RunFault;
 use fed_words::words::{AskedRun, Service};
 use list_wrapper::ListWrapper;
 use med_session::{Engine, NoRoom, Request, Sid};
 use session_wire::{FeedFault, Handler, Server};
+use sqlite_databases::Databases;
 use std::alloc::Global;
 use std::str::from_utf8;
 use std::test::Fail;
@@ -141,9 +144,10 @@ fn answers_to_piece(came: Result<(), RunFault<'_>>) -> &'static [&'static [u8]] 
     }
 }
 
-// Holds whichever allocation is refused, the writer's among them.
-#[test]
-fn refused_allocation_leaves_whole_replies(rt: HostRuntime) -> Result<(), Fail> {
+// Answers the stored stream between an input and an output in memory: whole replies alone, whichever allocation is refused.
+fn leaves_whole_replies<V: AllocGlobal + Databases + Disks + ReadsInputs>(
+    rt: &V,
+) -> Result<(), Fail> {
     let mut out = Vec::new(rt.alloc());
     let mut input = STORED;
     let asked = AskedRun {
@@ -153,8 +157,14 @@ fn refused_allocation_leaves_whole_replies(rt: HostRuntime) -> Result<(), Fail> 
         init: None,
         service: Service::StandardInput,
     };
-    let ran = run_asked(&rt, asked, &mut input, &mut out);
+    let ran = run_asked(rt, asked, &mut input, &mut out);
     is_one_of(&out, answers_to_piece(ran.came))
+}
+
+// Holds whichever allocation is refused, the writer's among them.
+#[test]
+fn refused_allocation_leaves_whole_replies(rt: HostRuntime) -> Result<(), Fail> {
+    leaves_whole_replies(&rt)
 }
 
 // What two feeds answer, and what the demo list then counts.

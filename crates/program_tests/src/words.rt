@@ -125,16 +125,21 @@ impl Write for Shut {
     }
 }
 
-#[test]
-fn write_fault_is_told_once(rt: HostRuntime) -> Result<(), Fail> {
+// Fails where an output that takes nothing is not told of once, or is told of to errors that take nothing.
+fn tells_once<V: AllocGlobal + Databases + Disks + ReadsInputs + Net>(rt: &V) -> Result<(), Fail> {
     let alloc = rt.alloc();
     let words = words_of(alloc, "fedq run --list demo")?;
     let mut input = STORED;
     let mut told = Vec::new(alloc);
-    let exit = run_words(&rt, &words, &mut input, &mut Shut, &mut told);
+    let exit = run_words(rt, &words, &mut input, &mut Shut, &mut told);
     same("the exit", &(exit.status, exit.is_told), &(1, true))?;
     same_text("the line", &told, b"fedq: write fault\n")?;
     let mut input = STORED;
-    let exit = run_words(&rt, &words, &mut input, &mut Shut, &mut Shut);
+    let exit = run_words(rt, &words, &mut input, &mut Shut, &mut Shut);
     same("nothing told", &(exit.status, exit.is_told), &(1, false))
+}
+
+#[test]
+fn write_fault_is_told_once(rt: HostRuntime) -> Result<(), Fail> {
+    tells_once(&rt)
 }
