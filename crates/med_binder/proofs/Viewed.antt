@@ -1,5 +1,5 @@
 -- The entries of a bound query have the columns of their tables, and what holds of the form that a statement means holds of its own.
-use Rattle.std.proofs.Common.{◌≡◌, ℕ, List, [], ◌∷◌, Option, Some, None, All, flat_map, map, length, option_map, unwrap_or, slice_get, Result, Ok, Err, IfOk, Contains, refl, sym, ap, subst, ◌∙◌, if◌then◌else◌, inl, inr, arith}
+use Rattle.std.proofs.Common.{◌≡◌, ℕ, List, [], ◌∷◌, Option, Some, None, All, flat_map, map, length, option_map, unwrap_or, slice_get, Result, Ok, Err, IfOk, Contains, refl, sym, ap, subst, ◌∙◌, if◌then◌else◌}
 use Rattle.std.specs.Option.{is_some, option_and_then}
 use Rattle.std.proofs.lemmas.List.{length-map}
 use Rattle.std.proofs.lemmas.List.Elements.{All-head, All-tail}
@@ -7,11 +7,10 @@ use Rattle.std.proofs.lemmas.Option.{slice_get-map}
 use Rattle.med_value.specs.Column.{column_of}
 use Rattle.med_value.specs.declared.cause.Cause.{Cause}
 use Rattle.med_value.specs.declared.cause.Cause.TheVariants.{UndefinedTable}
-use Rattle.med_value.specs.declared.value.ColType.{ColType}
 use Rattle.med_syntax.specs.QueryTree.{EntryTree, StatementTree, select}
 use Rattle.med_query.specs.Form.{Form, form_of}
 use Rattle.bind_names.specs.Scope.{TableShape, table_shape, entries_of, entry_place, place_named, exposed_name}
-use Rattle.bind_names.specs.Naming.{entry_causes, alias_causes, from_causes, asked_causes, statement_name_causes, NameCauses}
+use Rattle.bind_names.specs.Naming.{entry_causes, alias_causes, from_causes, asked_causes, statement_name_causes}
 use Rattle.bind_names.specs.Meaning.{meant}
 use Rattle.bind_names.specs.declared.table.AttachedTable.{AttachedTable}
 use Rattle.bind_types.specs.Typing.{statement_type_causes}
