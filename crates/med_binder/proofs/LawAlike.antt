@@ -23,7 +23,7 @@ use Rattle.bind_names.specs.Naming.{counted_causes, column_causes, name_causes, 
 use Rattle.bind_names.specs.Meaning.{one_place, function_named, aggregate_of, resolved, resolved_all, outputs_of, conditions_of, join_meant, with_join, joins_meant, chain_meant, chains_meant, meant}
 use Rattle.bind_types.specs.Typing.{type_of, comparing, as_condition, type_causes, condition_causes, condition_type_causes, item_type_causes, key_type_causes, on_type_causes, joins_type_causes, chain_type_causes, written_type_causes, form_causes, select_type_causes, TypeCauses}
 use Rattle.bind_names.specs.Meaning.{meant_in}
-use Rattle.med_binder.specs.Alike.{kinds_among, kinds, kinds_of, all_kinds, kinds_between, AreAlike, ComparesAlike, JoinAlike, ChainAlike, CoreAlike, FormAlike}
+use Rattle.med_binder.specs.Alike.{kinds_among, kinds, from_kinds, all_kinds, kinds_between, AreAlike, ComparesAlike, JoinAlike, ChainAlike, CoreAlike, FormAlike}
 use Rattle.med_binder.proofs.LawEntries.{left_empty, right_empty, none_stands, no_asked}
 use Rattle.med_binder.proofs.LawViews.{column_below, take_past, one_on}
 
@@ -127,7 +127,7 @@ right_is op op' a b c d h = cc
 both_alike : (s : Scope) (x y : ExprTree) (a b : ℕ) → comparing (type_of s x ∷ type_of s y ∷ []) ≡ [] → IsColumn s x a → IsColumn s y b → AreAlike (kinds_in s) a b
 both_alike s x y a b h k m =
     let types : comparing (Some k.kind ∷ Some m.kind ∷ []) ≡ [] =
-        ap (λ (t : Option ColType). comparing (t ∷ Some m.kind ∷ [])) (sym k.typed) ∙ ap (λ (t : Option ColType). comparing (type_of s x ∷ t ∷ [])) (sym m.typed) ∙ h in
+    ap (λ (t : Option ColType). comparing (t ∷ Some m.kind ∷ [])) (sym k.typed) ∙ ap (λ (t : Option ColType). comparing (type_of s x ∷ t ∷ [])) (sym m.typed) ∙ h in
     record { kind = k.kind; left = k.there; right = m.there ∙ ap (λ (t : ColType). Some t) (sym (one_kind k.kind m.kind types)) }
 
 compared : (s : Scope) (x y : ExprTree) (op : Comparison) → name_causes s x ≡ [] → name_causes s y ≡ [] → comparing (type_of s x ∷ type_of s y ∷ []) ≡ [] → ComparesAlike (kinds_in s) (compare op (resolved s x) (resolved s y))
@@ -282,7 +282,7 @@ chains_alike tables kss number (c ∷ cs) d h t =
 -- ---- statements
 
 pub form_alike : (tables : List TableShape) (statement : StatementTree) → ((c : Cause) → NameCauses tables statement c → ⊥) → ((c : Cause) → TypeCauses tables statement c → ⊥)
-    → FormAlike (kinds_of tables statement) (meant tables statement).form
+    → FormAlike (from_kinds tables statement) (meant tables statement).form
 form_alike tables (select q) n m =
     let s = from_scope tables q.from in
     let outs = outputs_of s q.items in

@@ -18,7 +18,7 @@ use Rattle.med_binder.specs.Binding.{IsMeant, IsEntryOf}
 use Rattle.med_binder.specs.Turns.{Binds}
 use Rattle.med_binder.specs.Within.{widths_of, FormWithin}
 use Rattle.med_binder.specs.Counted.{bound_widths, FormCounts}
-use Rattle.med_binder.specs.Alike.{kinds_of, FormAlike}
+use Rattle.med_binder.specs.Alike.{from_kinds, FormAlike}
 use Rattle.med_binder.specs.declared.bound.BoundEntry.{BoundEntry}
 use Rattle.med_binder.specs.declared.bound.BoundQuery.{BoundQuery}
 use Rattle.med_binder.proofs.Binds.{no_element}
@@ -37,7 +37,7 @@ placed_width : (tables : List AttachedTable) (o : Option ℕ) (b : BoundEntry) �
 placed_width tables None b h e k = absurd cc
 placed_width tables (Some p) b h e k =
     let there : slice_get (map table_shape tables) p ≡ Some (table_shape h.table) =
-        slice_get-map table_shape tables p ∙ ap (option_map table_shape) (ap (slice_get tables) (sym e) ∙ h.there) in
+    slice_get-map table_shape tables p ∙ ap (option_map table_shape) (ap (slice_get tables) (sym e) ∙ h.there) in
     h.width ∙ sym (length-map h.table.columns.items column_of) ∙ ap shape_columns (sym there)
 
 entry_is_wide : (tables : List AttachedTable) (e : EntryTree) (b : BoundEntry) → IsEntryOf tables b → b.place ≡ entry_place (map table_shape tables) e → entry_causes (map table_shape tables) e ≡ []
@@ -105,9 +105,9 @@ binds_within tables statement (Err c) h e = tt
 
 pub binds_alike : (tables : List AttachedTable) (statement : StatementTree) (r : Result BoundQuery Cause)
     → Binds (statement_name_causes (map table_shape tables) statement) (statement_type_causes (map table_shape tables) statement) (meant (map table_shape tables) statement) r
-    → IfOk r (λ b. FormAlike (kinds_of (map table_shape tables) statement) (form_of b.select))
+    → IfOk r (λ b. FormAlike (from_kinds (map table_shape tables) statement) (form_of b.select))
 binds_alike tables statement (Ok b) h =
     let shapes = map table_shape tables in
-    subst (λ (f : Form). FormAlike (kinds_of shapes statement) f) (sym h.0.form)
+    subst (λ (f : Form). FormAlike (from_kinds shapes statement) f) (sym h.0.form)
     (form_alike shapes statement (none_in (statement_name_causes shapes statement) h.1) (none_in (statement_type_causes shapes statement) h.2))
 binds_alike tables statement (Err c) h = tt

@@ -4,7 +4,7 @@ ghost use Rattle.bind_names.specs.Meaning.{meant_in, meant};
 ghost use Rattle.bind_names.specs.Naming.{select_name_causes, statement_name_causes};
 ghost use Rattle.bind_names.specs.Scope.{table_shape};
 ghost use Rattle.bind_types.specs.Typing.{select_type_causes, statement_type_causes};
-ghost use Rattle.med_binder.specs.Alike.{kinds_of, FormAlike};
+ghost use Rattle.med_binder.specs.Alike.{from_kinds, FormAlike};
 ghost use Rattle.med_binder.specs.Binding.{IsBound, IsEntryOf, BindCauses, BindTells};
 ghost use Rattle.med_binder.specs.Counted.{bound_widths, FormCounts};
 ghost use Rattle.med_binder.specs.Turns.{Binds};
@@ -93,7 +93,7 @@ pub fn bind(
     // Each column is one of those in view.
     ensures view { IfOk result (λ b. FormWithin (bound_widths b) (form_of b.select)) }
     // Its conjuncts compare columns of one type.
-    ensures alike { IfOk result (λ b. FormAlike (kinds_of (map table_shape tables.now) (statement_tree statement.now)) (form_of b.select)) }
+    ensures alike { IfOk result (λ b. FormAlike (from_kinds (map table_shape tables.now) (statement_tree statement.now)) (form_of b.select)) }
     // No ON of it may fault.
     ensures safe { IfOk result (λ b. are_safe_cores b.select.cores.items ≡ true) }
     // A statement for which a cause of names or types stands is not answered.

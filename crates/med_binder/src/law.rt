@@ -10,7 +10,7 @@ ghost use Rattle.bind_names.specs.Scope.{TableShape};
 ghost use Rattle.bind_names.specs.Naming.{NameCauses};
 ghost use Rattle.bind_types.specs.Typing.{TypeCauses};
 ghost use Rattle.bind_names.specs.Meaning.{meant};
-ghost use Rattle.med_binder.specs.Alike.{FormAlike, kinds_of};
+ghost use Rattle.med_binder.specs.Alike.{FormAlike, from_kinds};
 ghost use Rattle.med_binder.specs.Counted.{AreNarrow, FormCounts};
 ghost use Rattle.med_binder.specs.Within.{ArePlacesOf, FormWithin, widths_of};
 
@@ -51,5 +51,5 @@ pub fn widths_are_limited()
 /// Where no cause of names or types stands, a conjunct of WHERE or ON that compares two columns compares two of one type.
 pub fn compared_columns_are_alike()
     ensures { (tables : List TableShape) (statement : StatementTree) → ((c : AnyCause) → NameCauses tables statement c → ⊥)
-        → ((c : AnyCause) → TypeCauses tables statement c → ⊥) → FormAlike (kinds_of tables statement) (meant tables statement).form }
+        → ((c : AnyCause) → TypeCauses tables statement c → ⊥) → FormAlike (from_kinds tables statement) (meant tables statement).form }
 {}
