@@ -40,7 +40,7 @@ told_stands : (tables : List TableShape) (statement : StatementTree) (c : Cause)
 told_stands tables statement c (inl h) = inl h
 told_stands tables statement c (inr h) = inr h.0
 
-no_element : (xs : List Cause) (c : Cause) → xs ≡ [] → Contains xs c → ⊥
+pub no_element : (xs : List Cause) (c : Cause) → xs ≡ [] → Contains xs c → ⊥
 no_element [] c e h = let lt = h.1 in omega (arith, lt)
 no_element (x ∷ xs) c e h = absurd cc
 

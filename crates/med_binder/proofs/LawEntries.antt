@@ -21,7 +21,7 @@ pub right_empty : (xs ys : List Cause) → xs ++ ys ≡ [] → ys ≡ []
 right_empty [] ys h = h
 right_empty (x ∷ xs) ys h = absurd cc
 
-known_empty : (xs ys : List Cause) → once_known xs ys ≡ [] → xs ≡ []
+pub known_empty : (xs ys : List Cause) → once_known xs ys ≡ [] → xs ≡ []
 known_empty [] ys h = refl
 known_empty (x ∷ xs) ys h = absurd cc
 
@@ -29,7 +29,7 @@ asked_empty : (xs ys : List Cause) → once_known xs ys ≡ [] → ys ≡ []
 asked_empty [] ys h = h
 asked_empty (x ∷ xs) ys h = absurd cc
 
-none_stands : (xs : List Cause) → ((c : Cause) → Contains xs c → ⊥) → xs ≡ []
+pub none_stands : (xs : List Cause) → ((c : Cause) → Contains xs c → ⊥) → xs ≡ []
 none_stands [] n = refl
 none_stands (x ∷ xs) n = absurd (n x (0, omega arith, refl))
 

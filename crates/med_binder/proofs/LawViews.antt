@@ -67,7 +67,7 @@ found_below : (b : Bool) (w : ℕ) (ps : List ℕ) (d : Cause) → (if b then co
 found_below true w ps d h a = first_below w ps h a
 found_below false w ps d h a = absurd cc
 
-column_below : (s : Scope) (q : Option Name) (n : Name) → column_causes s q n ≡ [] → one_place (candidates s q n) < length (columns_of s)
+pub column_below : (s : Scope) (q : Option Name) (n : Name) → column_causes s q n ≡ [] → one_place (candidates s q n) < length (columns_of s)
 column_below s q n h = found_below (has_entry s q) (length (columns_of s)) (candidates s q n) UndefinedTable h (below_more (0 + length (columns_of s)) (length (columns_of s)) (candidates s q n) (omega arith) (candidates_below 0 s q n))
 
 -- ---- expressions
@@ -263,25 +263,25 @@ widths_both : (s : Scope) (e : TableShape) → widths (s ++ (e ∷ [])) ≡ widt
 widths_both [] e = refl
 widths_both (d ∷ ds) e = ap (λ l. length d.columns ∷ l) (widths_both ds e)
 
-as_many_widths : (s : Scope) → length (widths s) ≡ length s
+pub as_many_widths : (s : Scope) → length (widths s) ≡ length s
 as_many_widths [] = refl
 as_many_widths (e ∷ es) = ap suc (as_many_widths es)
 
-abbrev entry_width : List TableShape → EntryTree → ℕ
+abbrev pub entry_width : List TableShape → EntryTree → ℕ
 entry_width tables e = length (entry_columns tables e)
 
-abbrev entry_widths : List TableShape → List EntryTree → List ℕ
+abbrev pub entry_widths : List TableShape → List EntryTree → List ℕ
 entry_widths tables = map (entry_width tables)
 
-shape_widths : (tables : List TableShape) (es : List EntryTree) → widths (map (entry_shape tables) es) ≡ entry_widths tables es
+pub shape_widths : (tables : List TableShape) (es : List EntryTree) → widths (map (entry_shape tables) es) ≡ entry_widths tables es
 shape_widths tables [] = refl
 shape_widths tables (e ∷ es) = ap (λ l. entry_width tables e ∷ l) (shape_widths tables es)
 
-widths_of_two : (tables : List TableShape) (es fs : List EntryTree) → entry_widths tables (es ++ fs) ≡ entry_widths tables es ++ entry_widths tables fs
+pub widths_of_two : (tables : List TableShape) (es fs : List EntryTree) → entry_widths tables (es ++ fs) ≡ entry_widths tables es ++ entry_widths tables fs
 widths_of_two tables [] fs = refl
 widths_of_two tables (e ∷ es) fs = ap (λ l. entry_width tables e ∷ l) (widths_of_two tables es fs)
 
-take_past : (xs : List ℕ) (y : ℕ) (ys : List ℕ) → take (suc (length xs)) (xs ++ (y ∷ ys)) ≡ xs ++ (y ∷ [])
+pub take_past : {X : Type 0} (xs : List X) (y : X) (ys : List X) → take (suc (length xs)) (xs ++ (y ∷ ys)) ≡ xs ++ (y ∷ [])
 take_past [] y ys = refl
 take_past (x ∷ xs) y ys = ap (λ l. x ∷ l) (take_past xs y ys)
 
@@ -289,7 +289,7 @@ drop_past : (tables : List TableShape) (es : List EntryTree) (ys : List ℕ) →
 drop_past tables [] ys = refl
 drop_past tables (e ∷ es) ys = drop_past tables es ys
 
-one_on : (xs : List ℕ) (y : ℕ) (ys : List ℕ) → xs ++ (y ∷ ys) ≡ (xs ++ (y ∷ [])) ++ ys
+pub one_on : {X : Type 0} (xs : List X) (y : X) (ys : List X) → xs ++ (y ∷ ys) ≡ (xs ++ (y ∷ [])) ++ ys
 one_on [] y ys = refl
 one_on (x ∷ xs) y ys = ap (λ l. x ∷ l) (one_on xs y ys)
 

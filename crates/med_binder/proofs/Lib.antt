@@ -1,6 +1,9 @@
 pub mod Binds
 pub mod EntrySteps
+pub mod LawAlike
+pub mod LawCounted
 pub mod LawEntries
 pub mod LawPhases
 pub mod LawViews
 pub mod LookSteps
+pub mod Viewed

@@ -4,8 +4,12 @@ ghost use Rattle.bind_names.specs.Meaning.{meant_in, meant};
 ghost use Rattle.bind_names.specs.Naming.{select_name_causes, statement_name_causes};
 ghost use Rattle.bind_names.specs.Scope.{table_shape};
 ghost use Rattle.bind_types.specs.Typing.{select_type_causes, statement_type_causes};
+ghost use Rattle.med_binder.specs.Alike.{from_kinds, FormAlike};
 ghost use Rattle.med_binder.specs.Binding.{IsBound, IsEntryOf, BindCauses, BindTells};
+ghost use Rattle.med_binder.specs.Counted.{bound_widths, FormCounts};
 ghost use Rattle.med_binder.specs.Turns.{Binds};
+ghost use Rattle.med_binder.specs.Within.{widths_of, FormWithin};
+ghost use Rattle.med_query.specs.Form.{form_of};
 ghost use Rattle.med_query.specs.Select.{are_safe_cores};
 ghost use Rattle.med_syntax.specs.QueryTree.{select};
 ghost use Rattle.med_syntax.specs.QueryView.{select_tree, statement_tree};
@@ -82,6 +86,14 @@ pub fn bind(
     ensures bound { IfOk result (λ b. IsBound (map table_shape tables.now) (statement_tree statement.now) b) }
     // Its entries are the tables that they stand for.
     ensures entries { IfOk result (λ b. All (IsEntryOf tables.now) b.entries.items) }
+    // They have the columns of their tables.
+    ensures widths { IfOk result (λ b. bound_widths b ≡ widths_of (map table_shape tables.now) (statement_tree statement.now)) }
+    // It counts them from 0 through its chains, and a LEFT JOIN says how many columns its entry has.
+    ensures counts { IfOk result (λ b. FormCounts (bound_widths b) (form_of b.select)) }
+    // Each column is one of those in view.
+    ensures view { IfOk result (λ b. FormWithin (bound_widths b) (form_of b.select)) }
+    // Its conjuncts compare columns of one type.
+    ensures alike { IfOk result (λ b. FormAlike (from_kinds (map table_shape tables.now) (statement_tree statement.now)) (form_of b.select)) }
     // No ON of it may fault.
     ensures safe { IfOk result (λ b. are_safe_cores b.select.cores.items ≡ true) }
     // A statement for which a cause of names or types stands is not answered.

@@ -2,7 +2,7 @@
 //!
 //! What is in view, what a name and a statement mean, and which causes of names stand is said in the crate `bind_names`; which causes of
 //! types stand in `bind_types`, which checks them; the parts of a query are resolved in `bind_query`. Here `specs/Binding.antt` says what
-//! `bind` answers, and `specs/Within.antt` what the laws in `law` speak of.
+//! `bind` answers; `specs/Within.antt`, `specs/Counted.antt` and `specs/Alike.antt` say what the laws in `law` speak of.
 //!
 //! `bind` looks all names up (`src/look_up.rt`), then has the types of what is written checked, then where aggregates and columns stand. A
 //! form of expression is a line in `name_causes`, `type_of`, `type_causes` and `resolved`, and an arm in `src/resolve.rt` of `bind_query`
