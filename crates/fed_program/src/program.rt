@@ -204,7 +204,7 @@ pub fn run_on<V: AllocGlobal + Databases + Disks + ReadsInputs + Net, I: Read, O
     output: &mut O,
     errors: &mut E,
 ) -> u8
-    ensures { ExitsBy (outside_of V.Store.SourceStore.honest (V.Disks.stands rt.now) (V.inputs rt.now))
+    ensures { ExitsBy (outside_of V.Store.SourceStore.honest (V.Databases.stands rt.now) (V.Disks.stands rt.now) (V.inputs rt.now))
         ⟦<Source<V> as Wrapper>⟧.meaning V.Stream.remaining V.Stream.contents words result
         (stream (I.remaining input.old) (I.remaining input.new)) (stream (O.contents output.old) (O.contents output.new))
         (stream (E.contents errors.old) (E.contents errors.new)) }

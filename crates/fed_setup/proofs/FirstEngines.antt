@@ -30,6 +30,7 @@ use Rattle.fed_replay.specs.declared.script.ScriptFault.TheVariants as scripts
 use Rattle.fed_setup.specs.Demo.{demo_list, setup_script}
 use Rattle.fed_setup.specs.Setup.{Outside, over, empty_scene, HasList, HasPlaces, SetsUp, IsNewAt, IsNewPlace, AddsPlace, AddsPlaces, AddsNoDemo, IsNotAdded, AreNotAdded, IsFirst, HasNoFirst, HasListAsked, IsSetUp, IsNotSetUp, SetUpFails, list_asked, list_label, labels_before, place_label}
 use Rattle.sqlite_wrapper.specs.Kinds.{sqlite_kind}
+use Rattle.sqlite_databases.specs.Found.{Images}
 use Rattle.source_kinds.specs.Databases.{by_path, is_memory}
 use Rattle.fed_words.specs.Places.{Place, place_of, source_kind, is_honest_place, are_honest}
 use Rattle.fed_setup.specs.Told.{Came, added_of, setup_told}
@@ -97,15 +98,15 @@ has_list old listed w name list demo adds world agrees =
 -- ---- folders and databases are added
 
 -- a new source that is honest
-database_is_honest : (honest memory : Bool) (s : BoxState) → by_path honest memory s → (memory || honest) ≡ true → is_honest s
-database_is_honest honest true s h trusted = h.1.honest_is
-database_is_honest honest false s h trusted = h.1.honest_is ∙ trusted
+database_is_honest : (honest memory : Bool) (images : Images) (path : List ℕ) (s : BoxState) → by_path honest images path memory s → (memory || honest) ≡ true → is_honest s
+database_is_honest honest true images path s h trusted = h.1.honest_is
+database_is_honest honest false images path s h trusted = h.1.honest_is ∙ trusted
 
 honest_at : (outside : Outside) (kind : PlaceKind) (name path : List ℕ) (s : BoxState) → IsNewAt outside kind path s
     → is_honest_place outside.honest (record { kind = kind; name = name; path = path }) ≡ true → is_honest s
 honest_at outside Csv name path s h trusted = h.honest
 honest_at outside JsonLines name path s h trusted = h.honest
-honest_at outside Sqlite name path s h trusted = database_is_honest outside.honest (is_memory path) s h trusted
+honest_at outside Sqlite name path s h trusted = database_is_honest outside.honest (is_memory path) outside.databases path s h trusted
 
 place_added_as : (outside : Outside) (old new : Shown) (place : Place) (s : BoxState) → IsNewPlace outside place s → Adds old place.name (source_kind place.kind) s new
     → ((w : World) → Agrees old w → is_honest s → Agrees new (with_source w place.name (source_kind place.kind) s.nature.kind s.content.holdings))
@@ -128,16 +129,16 @@ place_added outside old new place s k e is_new = subst
     (sym e) (place_added_as outside old new place s is_new)
 
 -- what a new source takes, by the laws of its kind
-database_kind : (honest memory : Bool) (s : BoxState) → by_path honest memory s → s.nature.kind ≡ sqlite_kind
-database_kind honest true s h = h.1.kind
-database_kind honest false s h = h.1.kind
+database_kind : (honest memory : Bool) (images : Images) (path : List ℕ) (s : BoxState) → by_path honest images path memory s → s.nature.kind ≡ sqlite_kind
+database_kind honest true images path s h = h.1.kind
+database_kind honest false images path s h = h.1.kind
 
 pub place_takes : (outside : Outside) (kind : PlaceKind) (path : List ℕ) (s : BoxState) → IsNewAt outside kind path s
     → ((b : BoxState) (shelf : Shelf) → IsNewCsv b shelf → TakesAs sources.Csv b) → ((b : BoxState) (shelf : Shelf) → IsNewJsonl b shelf → TakesAs sources.JsonLines b)
     → ((b : BoxState) → b.nature.kind ≡ sqlite_kind → TakesAs sources.Sqlite b) → TakesAs (source_kind kind) s
 place_takes outside Csv path s h csv jsonl sqlite = csv s (folder_shelf outside.files path 0) h
 place_takes outside JsonLines path s h csv jsonl sqlite = jsonl s (folder_shelf outside.files path 0) h
-place_takes outside Sqlite path s h csv jsonl sqlite = sqlite s (database_kind outside.honest (is_memory path) s h)
+place_takes outside Sqlite path s h csv jsonl sqlite = sqlite s (database_kind outside.honest (is_memory path) outside.databases path s h)
 
 -- of several the first is added, and then the others
 pub adds_none : (outside : Outside) (e : Shown) (all : List Place) → all ≡ [] → AddsPlaces outside e all e

@@ -22,6 +22,7 @@ use Rattle.fed_replay.specs.declared.script.ScriptFault.TheVariants as scripts
 use Rattle.fed_setup.specs.Demo.{demo_list, setup_script}
 use Rattle.fed_setup.specs.Inputs.{Inputs}
 use Rattle.source_kinds.specs.Databases.{IsNewDatabase}
+use Rattle.sqlite_databases.specs.Found.{Images}
 use Rattle.fed_words.specs.Places.{Place, source_kind, are_honest, is_honest_place}
 use Rattle.fed_setup.specs.Told.{Came, replay_told}
 use Rattle.fed_words.specs.Words.{places_asked}
@@ -32,14 +33,15 @@ use Rattle.fed_setup.specs.declared.told.RunFault.{RunFault}
 use Rattle.fed_setup.specs.declared.told.RunFault.TheVariants as faults
 
 -- What a program finds outside itself: whether the store of its databases in files is honest, always returning what was written; and what
--- stands on its disks, and what reading a path to its end gives, where that is known.
+-- stands at each path as the files of a database, what stands on its disks, and what reading a path to its end gives, where that is known.
 pub record Outside : Type 0 where
   pub honest : Bool
+  pub databases : Images
   pub files : Option Drive
   pub inputs : Option Inputs
 
-abbrev pub outside_of : Bool → Option Drive → Option Inputs → Outside
-outside_of honest files inputs = record { honest = honest; files = files; inputs = inputs }
+abbrev pub outside_of : Bool → Images → Option Drive → Option Inputs → Outside
+outside_of honest databases files inputs = record { honest = honest; databases = databases; files = files; inputs = inputs }
 
 -- a world over the boxes that an engine shows
 abbrev pub over : Shown → World → Scene
@@ -71,12 +73,12 @@ HasDemo old owner name new = (count : ℕ) × SetsUp old owner name (Ok count) n
 abbrev pub LacksDemo : Scene → List ℕ → List ℕ → Type 0
 LacksDemo old owner name = (why : ScriptFault) × (why ≢ scripts.NoMemory) × ((new : Scene) × SetsUp old owner name (Err why) new)
 
--- what stands at a path as a new source: the files of the folder at this path, as far as it is known which stand there, or the database;
--- nothing is known of what a database in a file holds; nothing is bound, live or staged, and nothing is counted
+-- what stands at a path as a new source: the files of the folder at this path, or the database, as far as it is known what stands there;
+-- nothing is bound, live or staged, and nothing is counted
 abbrev pub IsNewAt : Outside → PlaceKind → List ℕ → BoxState → Type 0
 IsNewAt outside Csv path s = IsNewCsv s (folder_shelf outside.files path 0)
 IsNewAt outside JsonLines path s = IsNewJsonl s (folder_shelf outside.files path 0)
-IsNewAt outside Sqlite path s = IsNewDatabase outside.honest path s
+IsNewAt outside Sqlite path s = IsNewDatabase outside.honest outside.databases path s
 
 abbrev pub IsNewPlace : Outside → Place → BoxState → Type 0
 IsNewPlace outside place s = IsNewAt outside place.kind place.path s

@@ -1,8 +1,10 @@
 //! What a program is run in: it makes the sources that are asked, and reads the init file.
-ghost use Rattle.std.specs.Prelude.{◌≡◌, Some, IfOk};
+ghost use Rattle.std.specs.Prelude.{◌≡◌, ℕ, false, List, Some, IfOk, IsSomeAnd};
 ghost use Rattle.fdw_api.specs.State.{IsIdle};
 ghost use Rattle.blob_store.specs.Known.{Sure};
 ghost use Rattle.list_wrapper.specs.ListBoxes.{box_of};
+ghost use Rattle.sqlite_databases.specs.Found.{ShowsAt};
+ghost use Rattle.source_kinds.specs.Databases.{database_in, is_memory};
 ghost use Rattle.fed_words.specs.declared.places.PlaceKind.TheVariants.{Csv, JsonLines, Sqlite};
 ghost use Rattle.fed_setup.specs.Setup.{Outside, outside_of, IsNewAt};
 
@@ -23,6 +25,9 @@ pub trait Surroundings {
     /// What a program finds outside itself.
     ghost outside: { Self → Outside };
 
+    /// A source's connection shows the database in the files at a path.
+    ghost shows_file: { Self → List ℕ → Self.Source → Type 0 };
+
     /// A list as a source. It shows what the list shows.
     fn list_source(&self, list: ListWrapper) -> Self::Source
         ensures { Self.Source.meaning result ≡ box_of list };
@@ -37,10 +42,12 @@ pub trait Surroundings {
         ensures new { IfOk result (λ s. IsNewAt (outside self.now) JsonLines path.now (Self.Source.meaning s)) }
         ensures idle { IfOk result (λ s. IsIdle (Self.Source.meaning s)) };
 
-    /// The SQLite database at this path as a source, on which nothing is bound yet. The errors are those of [`OpenFault`].
+    /// The SQLite database at this path as a source, on which nothing is bound yet: but for `:memory:` that of the files there. The errors
+    /// are those of [`OpenFault`].
     fn sqlite_source(&self, path: &str) -> Result<Self::Source, OpenFault>
         ensures new { IfOk result (λ s. IsNewAt (outside self.now) Sqlite path.now (Self.Source.meaning s)) }
-        ensures idle { IfOk result (λ s. IsIdle (Self.Source.meaning s)) };
+        ensures idle { IfOk result (λ s. IsIdle (Self.Source.meaning s)) }
+        ensures file { is_memory path.now ≡ false → IfOk result (shows_file self.now path.now) };
 
     /// The bytes of a script: what reading this path to its end gives. The errors are those of [`DiskFault`].
     fn script(&self, path: &str) -> Result<Vec<u8>, DiskFault>
@@ -50,7 +57,9 @@ pub trait Surroundings {
 impl<V: AllocGlobal + Databases + Disks + ReadsInputs> Surroundings for V {
     type Source = Source<V>;
 
-    ghost outside = { λ rt. outside_of V.Store.SourceStore.honest (V.Disks.stands rt) (V.inputs rt) };
+    ghost outside = { λ rt. outside_of V.Store.SourceStore.honest (V.Databases.stands rt) (V.Disks.stands rt) (V.inputs rt) };
+
+    ghost shows_file = { λ rt path s. IsSomeAnd (database_in s) (ShowsAt V.Store.Store (V.Databases.stands rt) path) };
 
     fn list_source(&self, list: ListWrapper) -> Source<V> {
         of_list::<V>(list)
@@ -73,8 +82,11 @@ impl<V: AllocGlobal + Databases + Disks + ReadsInputs> Surroundings for V {
     }
 }
 
-/// The law of what a runtime finds outside itself: how honest its store of databases in files is, what stands on its disks, and what its
-/// inputs give.
+/// The law of what a runtime finds outside itself: how honest its store of databases in files is, what stands at paths as databases and on
+/// its disks, and what its inputs give. Where it shows the database in files, the source's connection does.
 pub fn finds_its_own<V: AllocGlobal + Databases + Disks + ReadsInputs>(_rt: &V)
-    ensures { ⟦<V as Surroundings>⟧.outside _rt.now ≡ outside_of V.Store.SourceStore.honest (V.Disks.stands _rt.now) (V.inputs _rt.now) }
+    ensures outside { ⟦<V as Surroundings>⟧.outside _rt.now
+        ≡ outside_of V.Store.SourceStore.honest (V.Databases.stands _rt.now) (V.Disks.stands _rt.now) (V.inputs _rt.now) }
+    ensures file { (path : List ℕ) (s : _) → ⟦<V as Surroundings>⟧.shows_file _rt.now path s
+        → IsSomeAnd (database_in s) (ShowsAt V.Store.Store (V.Databases.stands _rt.now) path) }
 {}

@@ -8,6 +8,7 @@ use Rattle.sqlite.specs.Effect.{Database}
 use Rattle.sqlite.specs.Held.{Held}
 use Rattle.sqlite_cells.specs.Layouts.{kinds_in, layout_at}
 use Rattle.sqlite_cells.specs.Tables.{entry_of}
+use Rattle.sqlite_databases.specs.Found.{Images, IsFoundAt}
 use Rattle.sqlite_wrapper.specs.SqliteBoxes.{IsNewSqlite}
 use Rattle.sqlite_wrapper.specs.declared.wrapper.SqliteWrapper.{SqliteWrapper}
 
@@ -16,21 +17,21 @@ abbrev pub IsNewMemory : BoxState → Type 0
 IsNewMemory s =
     (db : Database) × IsNewSqlite true db s × ((t : ℕ) → entry_of db (layout_at t) ≡ Some (Stored (kinds_in (layout_at t)) []))
 
--- a database in a file, as honest as its store: of what it holds nothing is known
-abbrev pub IsNewFile : Bool → BoxState → Type 0
-IsNewFile honest s = (db : Database) × IsNewSqlite honest db s
+-- a database in a file, as honest as its store: the one that stands at this path, where its store always returns what was written
+abbrev pub IsNewFile : Bool → Images → List ℕ → BoxState → Type 0
+IsNewFile honest images path s = (db : Database) × IsNewSqlite honest db s × (honest ≡ true → IsFoundAt images path db)
 
-abbrev pub by_path : Bool → Bool → BoxState → Type 0
-by_path honest true s = IsNewMemory s
-by_path honest false s = IsNewFile honest s
+abbrev pub by_path : Bool → Images → List ℕ → Bool → BoxState → Type 0
+by_path honest images path true s = IsNewMemory s
+by_path honest images path false s = IsNewFile honest images path s
 
 -- the path of a database in memory
 abbrev pub is_memory : List ℕ → Bool
 is_memory path = bytes_eq path (codes ":memory:")
 
 -- the new source of the database at this path
-abbrev pub IsNewDatabase : Bool → List ℕ → BoxState → Type 0
-IsNewDatabase honest path s = by_path honest (is_memory path) s
+abbrev pub IsNewDatabase : Bool → Images → List ℕ → BoxState → Type 0
+IsNewDatabase honest images path s = by_path honest images path (is_memory path) s
 
 -- the connection of a source of a database in a file; no other has one (`g` and `h` are what makes its store one of a source)
 abbrev pub database_in : {L F M S : Type 0} {g h : _} → EitherSource L (EitherSource F (EitherSource M (SqliteWrapper S g h))) → Option (Held S)

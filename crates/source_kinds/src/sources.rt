@@ -7,8 +7,7 @@ ghost use Rattle.med_world.specs.Engine.{TakesAs};
 ghost use Rattle.list_wrapper.specs.ListBoxes.{box_of};
 ghost use Rattle.csv_wrapper.specs.CsvBoxes.{IsNewCsv};
 ghost use Rattle.jsonl_wrapper.specs.Boxes.{IsNewJsonl};
-ghost use Rattle.sqlite.specs.Held.{state};
-ghost use Rattle.sqlite_databases.specs.Found.{ShowsKnown};
+ghost use Rattle.sqlite_databases.specs.Found.{ShowsAt};
 ghost use Rattle.source_kinds.specs.Databases.{IsNewDatabase, IsNewFile, IsNewMemory, database_in, is_memory};
 ghost use Rattle.source_kinds.specs.Folders.{folder_in};
 
@@ -134,9 +133,9 @@ fn of_memory<V: Databases + Disks>(alloc: Global) -> Result<Source<V>, OpenFault
 
 // The database in the file at this path as a source.
 fn of_file<V: Databases + Disks>(alloc: Global, rt: &V, path: &str) -> Result<Source<V>, OpenFault>
-    ensures new { IfOk result (λ s. IsNewFile V.Store.SourceStore.honest (⟦<Source<V> as Wrapper>⟧.meaning s)) }
-    ensures file { IfOk result (λ s. IsSomeAnd (database_in s)
-        (λ conn. ShowsKnown (V.Databases.stands rt.now path.now) (state V.Store.Store conn))) }
+    ensures new { IfOk result (λ s. IsNewFile V.Store.SourceStore.honest (V.Databases.stands rt.now) path.now
+        (⟦<Source<V> as Wrapper>⟧.meaning s)) }
+    ensures file { IfOk result (λ s. IsSomeAnd (database_in s) (ShowsAt V.Store.Store (V.Databases.stands rt.now) path.now)) }
 {
     let conn = match open_database(rt, path) {
         Ok(conn) => conn,
@@ -160,11 +159,12 @@ pub fn of_sqlite<V: Databases + Disks>(
     rt: &V,
     path: &str,
 ) -> Result<Source<V>, OpenFault>
-    ensures new { IfOk result (λ s. IsNewDatabase V.Store.SourceStore.honest path.now (⟦<Source<V> as Wrapper>⟧.meaning s)) }
+    ensures new { IfOk result (λ s. IsNewDatabase V.Store.SourceStore.honest (V.Databases.stands rt.now) path.now
+        (⟦<Source<V> as Wrapper>⟧.meaning s)) }
     ensures idle { IfOk result (λ s. IsIdle (⟦<Source<V> as Wrapper>⟧.meaning s)) }
     ensures takes { IfOk result (λ s. TakesAs Sqlite (⟦<Source<V> as Wrapper>⟧.meaning s)) }
     ensures file { is_memory path.now ≡ false → IfOk result (λ s. IsSomeAnd (database_in s)
-        (λ conn. ShowsKnown (V.Databases.stands rt.now path.now) (state V.Store.Store conn))) }
+        (ShowsAt V.Store.Store (V.Databases.stands rt.now) path.now)) }
 {
     sqlite_takes_its_tables();
     if path == ":memory:" {

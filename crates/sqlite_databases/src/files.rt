@@ -5,7 +5,7 @@ ghost use Rattle.sqlite.specs.Held.{state};
 ghost use Rattle.sqlite_cells.specs.Layouts.{layout_at};
 ghost use Rattle.sqlite_cells.specs.Tables.{IsKnown};
 ghost use Rattle.sqlite_writes.specs.Writable.{AreApart, IsWritable};
-ghost use Rattle.sqlite_databases.specs.Found.{ShowsKnown};
+ghost use Rattle.sqlite_databases.specs.Found.{IsFoundAt, ShowsAt, ShowsKnown};
 
 use sqlite::{Connection, Error};
 use sqlite_shapes::SourceStore;
@@ -50,18 +50,24 @@ pub trait Databases {
 }
 
 /// The database at this path, in no transaction: that of the files that stand there, where these are known. Of one whose store always
-/// returns what was written each layout's three texts are for one table, of no two layouts the same, or are not understood.
+/// returns what was written that is said with no look at its disk, and each layout's three texts are for one table, of no two layouts the
+/// same, or are not understood.
 ///
 /// # Errors
 ///
 /// The database cannot be opened or read.
 pub fn open_database<V: Databases>(rt: &V, path: &str) -> Result<Connection<V::Store>, Error>
-    ensures file { IfOk result (λ conn. ShowsKnown (V.stands rt.now path.now) (state V.Store.Store conn)) }
+    ensures file { IfOk result (ShowsAt V.Store.Store (V.stands rt.now) path.now) }
+    ensures there { V.Store.SourceStore.honest ≡ true
+        → IfOk result (λ conn. IsFoundAt (V.stands rt.now) path.now (state V.Store.Store conn).now) }
     ensures known { (table : ℕ) → V.Store.SourceStore.honest ≡ true → IfOk result (λ conn. ∥ IsKnown conn.schema (layout_at table) ∥₁) }
     ensures writable { (table : ℕ) → V.Store.SourceStore.honest ≡ true → IfOk result (λ conn. ∥ IsWritable conn.schema table ∥₁) }
     ensures apart { V.Store.SourceStore.honest ≡ true → IfOk result (λ conn. AreApart conn.schema) }
     ensures idle { IfOk result (λ conn. conn.in_transaction ≡ false) }
 {
     let files = rt.open_files(path)?;
-    rt.connect(files)
+    let conn = rt.connect(files)?;
+    let _idle = conn.is_autocommit();
+    let _schema = conn.schema();
+    Ok(conn)
 }
