@@ -28,7 +28,7 @@ both : (a b : Bool) → (a && b) ≡ true → (a ≡ true) × (b ≡ true)
 both true b e = (refl, e)
 both false b e = absurd cc
 
-same_width : (width : ℕ) (f : Record) → is_whole width f ≡ true → length f ≡ width
+pub same_width : (width : ℕ) (f : Record) → is_whole width f ≡ true → length f ≡ width
 same_width width f e = equal (length f) width (both (nat_eq (length f) width) (list_all is_utf8 f) e).0
   where
     equal : (m n : ℕ) → nat_eq m n ≡ true → m ≡ n

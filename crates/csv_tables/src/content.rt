@@ -12,6 +12,7 @@ ghost use Rattle.csv_tables.specs.Tables.{shape_is, records_of};
 ghost use Rattle.csv_tables.specs.Content.{HasRead, ReadsOn, TellsCause, IsDraft, IsContent, records_so_far};
 
 use crate::cells::is_cell;
+use crate::flat_fields::Fields;
 use crate::layout::Layout;
 use crate::table::Rows;
 use csv::{ByteRecord, Reader, ReaderBuilder};
@@ -32,7 +33,7 @@ pub struct Content {
 #[derive(Drop)]
 pub(crate) struct Draft {
     header: Option<ByteRecord>,
-    fields: ByteRecord,
+    fields: Fields,
     count: usize,
 }
 
@@ -84,26 +85,28 @@ fn are_texts(row: &ByteRecord) -> bool
     true
 }
 
-/// Whether each field of a record, all of them UTF-8, is of its column's type.
-fn is_readable(layout: &Layout, row: &ByteRecord) -> bool
-    requires { list_all is_utf8 (fields_of row.now) ≡ true }
-    ensures { result ≡ is_readable (string_bytes layout.now.null) layout.now.kinds.items (fields_of row.now) }
+/// Appends the fields of a record, one for each column and all of them UTF-8, if each is of its column's type: whether it is.
+fn take_fields(layout: &Layout, fields: &mut Fields, row: &ByteRecord) -> Result<bool, NoMemory>
+    requires texts { list_all is_utf8 (fields_of row.now) ≡ true }
+    requires width { length (fields_of row.now) ≡ length layout.now.kinds.items }
+    requires partial { partial_of fields.old ≡ [] }
+    ensures readable { IfOk result (λ b. b ≡ is_readable (string_bytes layout.now.null) layout.now.kinds.items (fields_of row.now)) }
+    ensures fields { IfOk result (λ b. b ≡ true → fields_of fields.new ≡ fields_of fields.old ++ fields_of row.now) }
+    ensures partial { IfOk result (λ b. b ≡ true → partial_of fields.new ≡ []) }
 {
     let mut at = 0;
     while let Some(field) = row.get(at) {
-        if at >= layout.kinds.len() {
-            return true;
-        }
         if !is_cell(&layout.null, layout.kinds[at], field) {
-            return false;
+            return Ok(false);
         }
+        fields.push_field(field)?;
         at += 1;
     }
-    true
+    Ok(true)
 }
 
 /// Appends the fields of a record.
-pub(crate) fn push_fields(fields: &mut ByteRecord, row: &ByteRecord) -> Result<(), NoMemory>
+pub(crate) fn push_fields(fields: &mut Fields, row: &ByteRecord) -> Result<(), NoMemory>
     requires { partial_of fields.old ≡ [] }
     ensures fields { OnOk result (fields_of fields.new ≡ fields_of fields.old ++ fields_of row.now) }
     ensures partial { OnOk result (partial_of fields.new ≡ []) }
@@ -140,13 +143,12 @@ fn add_record(layout: &Layout, draft: &mut Draft, row: &ByteRecord) -> Result<()
         draft.header = Some(row.clone()?);
         return Ok(());
     }
-    if !is_readable(layout, row) {
+    if !take_fields(layout, &mut draft.fields, row)? {
         return Err(Fault::Refused(Cause::InvalidText));
     }
     if draft.count == ROW_LIMIT {
         return Err(Fault::Refused(Cause::TooLarge));
     }
-    push_fields(&mut draft.fields, row)?;
     draft.count += 1;
     Ok(())
 }
@@ -242,7 +244,7 @@ fn read_draft(alloc: Global, layout: &Layout, bytes: &[u8]) -> Result<Draft, Fau
 {
     let mut draft = Draft {
         header: None,
-        fields: ByteRecord::new(alloc),
+        fields: Fields::with_room(alloc, bytes.len())?,
         count: 0,
     };
     let mut rdr = reader_of(alloc, bytes);

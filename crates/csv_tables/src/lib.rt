@@ -3,6 +3,7 @@
 
 mod cells;
 pub mod content;
+pub mod flat_fields;
 pub mod law;
 pub mod layout;
 pub mod scan;

@@ -7,6 +7,7 @@ ghost use Rattle.csv_tables.specs.CsvRecords.{is_header};
 ghost use Rattle.csv_tables.specs.Flat.{header_in};
 
 use crate::cells::cell;
+use crate::flat_fields::Fields;
 use crate::layout::Layout;
 use csv::ByteRecord;
 use med_value::{NoMemory, Row, Value};
@@ -17,7 +18,7 @@ use std::alloc::Global;
 pub struct Rows {
     /// How many fields each record has.
     pub width: usize,
-    pub fields: ByteRecord,
+    pub fields: Fields,
     /// How many records they are.
     pub count: usize,
     pub ghost whole: { count * width ≡ length (fields_of fields) },
@@ -68,6 +69,7 @@ impl CsvTable {
     }
 
     /// The value of a record in a column, NULL where the table has no such column. It fails for want of memory alone.
+    #[inline(always)]
     pub fn value(&self, alloc: Global, at: usize, column: usize) -> Result<Value, NoMemory>
         requires { at < self.now.rows.count }
         ensures { IfOk result (λ v. datum v ≡ cell_at (cells_at self.now at) column) }

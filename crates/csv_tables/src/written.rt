@@ -21,6 +21,7 @@ ghost use Rattle.csv_tables.specs.Rewriting.{is_wide, left_by, rows_left, Gather
 
 use crate::cells::{field_text, reads_as_null};
 use crate::content::{first_header, push_fields};
+use crate::flat_fields::Fields;
 use crate::layout::Layout;
 use crate::table::{CsvTable, Rows};
 use csv::{ByteRecord, Writer};
@@ -40,7 +41,7 @@ struct Sorted {
 /// Records that are put together: their fields, and how many they are.
 #[derive(Drop)]
 struct Gathered {
-    fields: ByteRecord,
+    fields: Fields,
     count: usize,
 }
 
@@ -144,7 +145,7 @@ fn rewritten(alloc: Global, rows: &Rows, fates: Vec<Fate<ByteRecord>>) -> Result
     ensures { IfOk result (λ g. Gathers rows.now.width (left_by fates.items (records_of rows.now)) g) }
 {
     let mut gathered = Gathered {
-        fields: ByteRecord::new(alloc),
+        fields: Fields::new(alloc),
         count: 0,
     };
     let mut old = ByteRecord::new(alloc);
