@@ -1,5 +1,5 @@
 -- A query over the tables that its entries name is the query over all tables of the catalogue.
-use Rattle.std.proofs.Common.{◌≡◌, ◌⊎◌, inl, inr, ℕ, true, List, [], ◌∷◌, Contains, map, flat_map, string_bytes, Result, Ok, Err, IfErr, refl, sym, ap, ◌∙◌, subst, arith}
+use Rattle.std.proofs.Common.{◌≡◌, ◌⊎◌, inl, inr, ℕ, true, List, [], ◌∷◌, Contains, length, map, flat_map, string_bytes, Result, Ok, Err, IfErr, refl, sym, ap, ◌∙◌, subst, arith}
 use Rattle.std.proofs.lemmas.List.Elements.{Contains-append_left}
 use Rattle.med_value.specs.declared.cause.Cause.{Cause}
 use Rattle.med_value.specs.declared.cause.Cause.TheVariants.{OutOfMemory}
@@ -8,12 +8,14 @@ use Rattle.med_syntax.specs.QueryTree.{EntryTree, SelectTree, select}
 use Rattle.med_query.specs.Form.{form_of}
 use Rattle.med_query.specs.Select.{are_safe_cores}
 use Rattle.med_query.specs.declared.select.Select.{Select}
-use Rattle.bind_names.specs.Scope.{TableShape, entries_of, entry_place}
+use Rattle.bind_names.specs.Scope.{TableShape, entries_of, entry_place, entry_columns, entry_shape}
 use Rattle.bind_names.specs.Naming.{entry_causes, alias_causes, from_causes, asked_causes, once_known, select_name_causes, NameCauses}
 use Rattle.bind_names.specs.Scope.{exposed_name}
 use Rattle.bind_names.specs.Telling.{TellsCause}
 use Rattle.bind_types.specs.Typing.{select_type_causes}
 use Rattle.med_binder.specs.Binding.{IsBound, BindCauses, BindTells}
+use Rattle.med_binder.specs.Within.{widths}
+use Rattle.med_binder.specs.declared.bound.BoundEntry.{BoundEntry}
 use Rattle.med_binder.specs.declared.bound.BoundQuery.{BoundQuery}
 use Rattle.pushdown.specs.Offered as offered
 use Rattle.med_catalog.specs.Objects.{Objects, table_named}
@@ -87,6 +89,11 @@ empty_by : (xs : List Cause) → ((c : Cause) → Contains xs c → ⊥) → xs 
 empty_by [] h = refl
 empty_by (x ∷ xs) h = absurd (h x (0, omega arith, refl))
 
+-- how many columns the entries bring into view
+widths_seen : (tables : List TableShape) (es : List EntryTree) → map (λ (e : EntryTree). length (entry_columns tables e)) es ≡ widths (map (entry_shape tables) es)
+widths_seen tables [] = refl
+widths_seen tables (e ∷ es) = ap (λ (ns : List ℕ). length (entry_columns tables e) ∷ ns) (widths_seen tables es)
+
 pub bound_over : (o : Objects) (bound : List Attached) (user : Name) (q : SelectTree) (es : List EntryTree) (small : List TableShape) (b n : BoundQuery) → AreGathered o user q es small
     → IsBound small (select q) b → are_safe_cores b.select.cores.items ≡ true → ((c : Cause) → BindCauses small (select q) c → ⊥) → AreEntriesAt o bound es n.entries.items → n.names ≡ b.names → n.select ≡ b.select → IsBoundOver o bound user q n
 bound_over o bound user q es small b n g is safe clear entries names selects = record {
@@ -96,6 +103,7 @@ bound_over o bound user q es small b n g is safe clear entries names selects = r
     form = ap form_of selects ∙ is.form ∙ form_same small (shapes o) q seen;
   };
   there = subst (λ (ks : List ℕ). ArePlaces bound ks (map offered.entry_place n.entries.items)) (entries.places ∙ ap (map (entry_place (shapes o))) g.are) entries.there;
+  widths = entries.widths ∙ ap (map (λ (e : EntryTree). length (entry_columns (shapes o) e))) g.are ∙ widths_seen (shapes o) (entries_of q.from);
   safe = ap (λ (s : Select). are_safe_cores s.cores.items) selects ∙ safe;
   names = empty_by (select_name_causes (shapes o) q) (λ c h. clear c (inl (subst (λ (xs : List Cause). Contains xs c) (sym (name_causes_same small (shapes o) q seen)) h)));
   rights = rights_none o user q es small g;

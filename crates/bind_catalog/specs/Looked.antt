@@ -1,15 +1,17 @@
 -- What looking up the tables of FROM in a catalogue answers.
-use Rattle.std.specs.Prelude.{◌≡◌, ◌⊎◌, List, [], map, flat_map, Contains, true, Result, Ok, Err, Vec}
+use Rattle.std.specs.Prelude.{◌≡◌, ◌⊎◌, List, [], map, flat_map, length, Contains, true, Result, Ok, Err, Vec}
 use Rattle.med_value.specs.declared.cause.Cause.{Cause}
 use Rattle.med_value.specs.declared.cause.Cause.TheVariants.{OutOfMemory}
 use Rattle.med_syntax.specs.Tree.{Name}
 use Rattle.med_syntax.specs.QueryTree.{EntryTree, SelectTree, StatementTree, select}
 use Rattle.med_query.specs.Select.{are_safe_cores}
-use Rattle.bind_names.specs.Scope.{TableShape, entry_place, entry_columns}
+use Rattle.bind_names.specs.Scope.{TableShape, entry_place, entry_columns, from_scope}
 use Rattle.bind_names.specs.Naming.{entry_causes, select_name_causes}
 use Rattle.bind_names.specs.Telling.{TellsCause}
 use Rattle.bind_types.specs.Typing.{select_type_causes}
 use Rattle.med_binder.specs.Binding.{IsMeant}
+use Rattle.med_binder.specs.Counted.{bound_widths}
+use Rattle.med_binder.specs.Within.{widths}
 use Rattle.med_binder.specs.declared.bound.BoundEntry.{BoundEntry}
 use Rattle.med_binder.specs.declared.bound.BoundQuery.{BoundQuery}
 use Rattle.pushdown.specs.Offered as offered
@@ -27,9 +29,10 @@ query_in (select q) = q
 abbrev pub gathered_shape : List TableShape → EntryTree → TableShape
 gathered_shape full e = record { name = e.table; columns = entry_columns full e }
 
--- the entry's table in the catalogue, and where its rows are
+-- the entry's table in the catalogue, with as many columns, and where its rows are
 pub record IsEntryAt (o : Objects) (bound : List Attached) (e : EntryTree) (b : BoundEntry) : Type 0 where
   pub place : b.place ≡ entry_place (shapes o) e
+  pub width : b.width ≡ length (entry_columns (shapes o) e)
   pub there : IsPlaceOf bound b.place (offered.entry_place b)
 
 abbrev pub PlacesEntry : Objects → List Attached → EntryTree → Result BoundEntry Cause → Type 0
@@ -39,16 +42,18 @@ PlacesEntry o bound e (Err c) = TellsCause (entry_causes (shapes o) e) c
 -- of each entry
 pub record AreEntriesAt (o : Objects) (bound : List Attached) (es : List EntryTree) (bs : List BoundEntry) : Type 0 where
   pub places : map (λ (b : BoundEntry). b.place) bs ≡ map (entry_place (shapes o)) es
+  pub widths : map (λ (b : BoundEntry). b.width) bs ≡ map (λ (e : EntryTree). length (entry_columns (shapes o) e)) es
   pub there : ArePlaces bound (map (λ (b : BoundEntry). b.place) bs) (map offered.entry_place bs)
 
 abbrev pub PlacesEntries : {A : Type 0} → Objects → List Attached → List EntryTree → Result (Vec BoundEntry A) Cause → Type 0
 PlacesEntries o bound es (Ok v) = AreEntriesAt o bound es v.items × (flat_map (entry_causes (shapes o)) es ≡ [])
 PlacesEntries o bound es (Err c) = TellsCause (flat_map (entry_causes (shapes o)) es) c
 
--- the query, and no cause stands
+-- the query, over entries with the columns of their tables, and no cause stands
 pub record IsBoundOver (o : Objects) (bound : List Attached) (user : Name) (q : SelectTree) (b : BoundQuery) : Type 0 where
   pub meant : IsMeant (meant_by o q) b
   pub there : ArePlaces bound (meant_by o q).entries (map offered.entry_place b.entries.items)
+  pub widths : bound_widths b ≡ widths (from_scope (shapes o) q.from)
   pub safe : are_safe_cores b.select.cores.items ≡ true
   pub names : select_name_causes (shapes o) q ≡ []
   pub rights : query_right_causes o user q ≡ []

@@ -5,10 +5,13 @@ ghost use Rattle.med_value.specs.declared.cause.Cause.{Cause as AnyCause};
 ghost use Rattle.med_syntax.specs.QueryTree.{select};
 ghost use Rattle.med_syntax.specs.QueryView.{select_tree, statement_tree};
 ghost use Rattle.med_query.specs.Select.{are_safe_cores};
+ghost use Rattle.bind_names.specs.Scope.{from_scope};
 ghost use Rattle.med_binder.specs.Binding.{IsMeant};
+ghost use Rattle.med_binder.specs.Counted.{bound_widths};
+ghost use Rattle.med_binder.specs.Within.{widths};
 ghost use Rattle.pushdown.specs.Offered.{entry_place};
 ghost use Rattle.med_catalog.specs.View.{objects};
-ghost use Rattle.bind_catalog.specs.Tables.{AreNamedOnce};
+ghost use Rattle.bind_catalog.specs.Tables.{shapes, AreNamedOnce};
 ghost use Rattle.bind_catalog.specs.Places.{attached, ArePlaces};
 ghost use Rattle.bind_catalog.specs.Queries.{meant_by, QueryNames, QueryTypes, IsBindable, NotBound};
 ghost use Rattle.bind_catalog.specs.Looked.{query_in, BindsOver};
@@ -80,6 +83,9 @@ pub fn bind(
     // Its entries are read where their tables are bound.
     ensures places { IfOk result (λ b. ArePlaces (map attached bound.now)
         (meant_by (objects catalog.now) (query_in (statement_tree statement.now))).entries (map entry_place b.entries.items)) }
+    // They have the columns of their tables.
+    ensures widths { IfOk result (λ b. bound_widths b
+        ≡ widths (from_scope (shapes (objects catalog.now)) (query_in (statement_tree statement.now)).from)) }
     // No ON of it may fault.
     ensures safe { IfOk result (λ b. are_safe_cores b.select.cores.items ≡ true) }
     // A refusal tells a cause that stands, one of names or rights before one of types, or that memory was refused.

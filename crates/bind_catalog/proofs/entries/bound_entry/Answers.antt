@@ -9,7 +9,9 @@ use Rattle.med_catalog.specs.Objects.{table_named}
 use Rattle.med_catalog.specs.View.{objects, table_of}
 use Rattle.bind_catalog.specs.Tables.{shapes}
 use Rattle.bind_catalog.specs.Places.{attached}
-use Rattle.bind_catalog.proofs.Rows.{causes_missing, place_found, within_by}
+use Rattle.bind_catalog.proofs.Rows.{causes_missing, columns_there, place_found, within_by}
+use Rattle.med_value.specs.Column.{column_of}
+use Rattle.std.proofs.lemmas.List.{length-map}
 use Rattle.bind_catalog.proofs.entries.bound_entry.Goals as goal
 
 pub returns-in-None : goal.returns-in-None
@@ -29,6 +31,8 @@ returns-in-Some c =
     let within : place < length c.args.bound.now = subst (λ n. place < n) (sym c.requires.many) (within_by o.tables place t there) in (
       record {
         place = entry_placed (shapes o) e place found;
+        width = ap (λ xs. length xs) c.as_slice.ensures.value ∙ sym (ap (λ xs. length xs) (columns_there o e t (sym (ap (table_named o) c.as_str.ensures.value) ∙ c.in-Some.ensures.named))
+            ∙ length-map c.in-Some.table.now.columns.items column_of);
         there = record { at = attached (slice_index_or c.args.bound.now place _); there = slice_get-map attached c.args.bound.now place ∙ ap (option_map attached) (slice_get-get_or c.args.bound.now place _ within); source = refl; number = refl };
       },
       entry_known (shapes o) e place found,
