@@ -48,7 +48,7 @@ first_spent (Some (suc n)) xs e = absurd (grind arith)
 -- where one more may come the first does, and behind it one less may
 pub first_more : {X : Type 0} (room : Option ℕ) (x : X) (xs : List X) → is_spent room ≡ false → first_of room (x ∷ xs) ≡ x ∷ first_of (option_map (λ n. n - 1) room) xs
 first_more None x xs e = refl
-first_more (Some zero) x xs e = absurd (grind arith)
+first_more (Some zero) x xs e = absurd cc
 first_more {X} (Some (suc n)) x xs e = let less : suc n - 1 ≡ n = omega arith in ap (λ (k : ℕ). x ∷ take k xs) (sym less)
 
 -- ---- the order of keys
@@ -79,7 +79,8 @@ behind : (l : Layout) (order : List KeyForm) → is_by_key order ≡ true → (a
 behind l [] by a b less = refl
 behind l (k ∷ []) by a b less =
     let w = both (nat_eq k.column 0) (not k.descending) by in
-    or_equal _ (at k.column k.descending (is_first k.column w.0) (is_ascending k.descending w.1))
+    or_equal (key_cmp k.descending k.nulls_first (cell (cells_of l (paged b)) k.column) (cell (cells_of l (paged a)) k.column))
+    (at k.column k.descending (is_first k.column w.0) (is_ascending k.descending w.1))
   where
     at : (n : ℕ) (d : Bool) → n ≡ 0 → d ≡ false → is_lt (key_cmp d k.nulls_first (cell (cells_of l (paged b)) n) (cell (cells_of l (paged a)) n)) ≡ false
     at n d en ed = rw (en, ed) (greater_than (key_of a) (key_of b) less)

@@ -55,7 +55,10 @@ pub(crate) fn spoil(scans: &mut BTreeMap<u64, KeyScan>, number: u64)
 pub(crate) fn is_spent(room: Option<u64>) -> bool
     ensures { result ≡ is_spent room }
 {
-    room == Some(0)
+    match room {
+        None => false,
+        Some(left) => left == 0,
+    }
 }
 
 /// How many rows may come behind a row that came.
