@@ -1,5 +1,5 @@
 -- Which page a scan asks for, and how it stands behind a row.
-use Rattle.std.specs.Prelude.{◌≡◌, ◌⊎◌, ◌-◌, ◌<◌, ◌≤ℤ◌, List, [], ◌∷◌, drop, ℤ, pos, ◌+ℤ◌, ◌+◌, Bool, true, false, not, ◌||◌, length, Option, Some, None, option_map, nat_eq, if◌then◌else◌, nat_lt, int_lt, int_le, ◌&&◌}
+use Rattle.std.specs.Prelude.{◌≡◌, ◌⊎◌, ◌-◌, ◌<◌, ◌≤ℤ◌, ℕ, List, [], ◌∷◌, drop, ℤ, pos, ◌+ℤ◌, ◌+◌, Bool, true, false, not, ◌||◌, length, Option, Some, None, option_map, nat_eq, if◌then◌else◌, nat_lt, int_lt, int_le, ◌&&◌}
 use Rattle.sqlite.specs.Order.{Row as SqlRow}
 use Rattle.med_value.specs.Datum.{tuple}
 use Rattle.fdw_api.specs.Scan.{spec_of, shown_fits, row_fits}

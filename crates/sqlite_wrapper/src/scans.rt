@@ -1,5 +1,5 @@
 //! Live scans of remote tables: ranges of keys, read page by page.
-ghost use Rattle.std.specs.Prelude.{◌≡◌, ◌<◌, ◌≤ℤ◌, ◌&&◌, true, Some, map, length, nat_eq, int_le, IfOk, IfSome, IsSome};
+ghost use Rattle.std.specs.Prelude.{◌≡◌, ◌-◌, ◌<◌, ◌≤ℤ◌, ◌&&◌, true, Some, map, option_map, length, nat_eq, int_le, IfOk, IfSome, IsSome};
 ghost use Rattle.std.specs.Ordering.{nat_cmp};
 ghost use Rattle.std.specs.BTreeMap as tree;
 ghost use Rattle.med_value.specs.Datum.{datum};
