@@ -37,7 +37,7 @@ returns-clause-ok g c =
     let honest = g.S.SourceStore.honest in
     if_ok _ _ c.start.result
     (λ ticket b. subst
-        (λ (z : Spec). Begins (sqlite_state honest (state g.S.Store s.conn).now s.bound.items s.scans s.staged s.next s.pulled s.faults) c.args.t.number z (map datum c.args.params.now) ticket.number
-        (sqlite_state honest (state g.S.Store n.conn).now n.bound.items n.scans n.staged n.next n.pulled n.faults))
-        (promised_is spec c.in_ok-order.order.items c.promised_limit-limit.result c.in_ok-order.ensures c.promised_limit-limit.ensures) b)
+    (λ (z : Spec). Begins (sqlite_state honest (state g.S.Store s.conn).now s.bound.items s.scans s.staged s.next s.pulled s.faults) c.args.t.number z (map datum c.args.params.now) ticket.number
+    (sqlite_state honest (state g.S.Store n.conn).now n.bound.items n.scans n.staged n.next n.pulled n.faults))
+    (promised_is spec c.in_ok-order.order.items c.promised_limit-limit.result c.in_ok-order.ensures c.promised_limit-limit.ensures) b)
     c.start.ensures.ok
