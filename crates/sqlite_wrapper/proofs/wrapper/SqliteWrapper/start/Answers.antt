@@ -1,4 +1,4 @@
-use Rattle.std.proofs.Common.{Some, ◌≡◌, ◌&&◌, ℕ, true, false, nat_lt, map, sym, subst, slice_index_or, arith}
+use Rattle.std.proofs.Common.{Some, ◌≡◌, ◌&&◌, ℕ, true, false, nat_lt, map, refl, sym, subst, slice_index_or, arith}
 use Rattle.med_value.specs.Datum.{Tuple, datum}
 use Rattle.fdw_api.specs.Scan.{Spec, spec_of}
 use Rattle.key_ranges.specs.Ranges.{only_keys}
@@ -13,7 +13,7 @@ use Rattle.sqlite_wrapper.proofs.LiveScans.{asks, begun_fresh, keeps_allowed, ma
 use Rattle.sqlite_wrapper.proofs.wrapper.SqliteWrapper.start.Goals as goal
 
 pub entries_rise-requires : goal.entries_rise-requires
-entries_rise-requires g c = c.args.self.now.writable c.args.t.number
+entries_rise-requires g c = record { writable = c.args.self.now.writable c.args.t.number }
 
 pub new_scan-scan-requires : goal.new_scan-scan-requires
 new_scan-scan-requires g c =
@@ -32,6 +32,12 @@ returns-clause-ok g c =
     sqlite_begins g.S.SourceStore.honest s.bound.items s.staged (state g.S.Store s.conn).now scan t (promised (spec_of c.args.spec.now) c.args.order.items c.args.limit) (map datum c.args.params.now) begun c.requires.allowed
     s.scans c.insert.new.self s.next s.pulled s.faults (bound_of t) c.entries_rise.ensures (within_count t s.bound.items s.counted (bound_within s.bound.items t c.requires.bound))
     (marked_bound_is (slice_index_or s.bound.items t false) t c.requires.bound) (s.fresh s.next (omega arith)) (omega arith) (sets s.scans c.insert.new.self s.next (Some scan) c.in_ok-insert.ensures.updates)
+
+pub returns-in_err-params-clause-err : goal.returns-in_err-params-clause-err
+returns-in_err-params-clause-err g c =
+    let s = c.args.self.now in
+    refused_by c.from_residual-in_err-params.result _ c.from_residual-in_err-params.ensures.1
+    (sqlite_refuses g.S.SourceStore.honest s.bound.items s.staged (state g.S.Store s.conn).now s.scans s.scans s.next s.pulled s.faults refl)
 
 pub returns-in_err-insert-clause-err : goal.returns-in_err-insert-clause-err
 returns-in_err-insert-clause-err g c =

@@ -17,7 +17,7 @@ pub start-requires-clause-allowed : goal.start-requires-clause-allowed
 start-requires-clause-allowed g c =
     let s = c.args.self.now in
     let t = c.args.t.number in
-    subst (λ (ks : List OrderKey). allows (promised (spec_of c.args.spec.now) ks None) ≡ true) (sym c.new.ensures)
+    subst (λ (ks : List OrderKey). allows (promised (spec_of c.args.spec.now) ks None) ≡ true) (sym c.new.ensures.items)
     (bound_allows (slice_index_or s.bound.items t false) t c.requires.bound (spec_of c.args.spec.now) c.requires.is c.requires.allowed)
 
 pub start-requires-clause-typed : goal.start-requires-clause-typed

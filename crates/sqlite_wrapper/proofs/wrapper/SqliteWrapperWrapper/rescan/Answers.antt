@@ -30,7 +30,7 @@ spoil-requires g c =
     open_there g.S.SourceStore.honest s.bound.items s.staged (state g.S.Store s.conn).now s.scans s.next s.pulled s.faults c.args.ticket.now.number _ c.requires.at
 
 pub entries_rise-requires : goal.entries_rise-requires
-entries_rise-requires g c = c.args.self.now.writable c.in-Ok.scan.table
+entries_rise-requires g c = record { writable = c.args.self.now.writable c.in-Ok.scan.table }
 
 pub put_scan-requires : goal.put_scan-requires
 put_scan-requires g c =
