@@ -1,5 +1,5 @@
 -- What the calls of a scan do to a SQLite source.
-use Rattle.std.proofs.Common.{◌≡◌, ◌≢◌, ℕ, ℤ, pos, ◌+ℤ◌, ◌+◌, ◌-◌, ◌^◌, ◌<◌, ◌≤◌, ◌≤ℤ◌, ◌⊎◌, Bool, true, false, not, ◌&&◌, ◌||◌, is_some, if◌then◌else◌, List, [], ◌∷◌, Option, Some, None, Result, Ok, Err, IfErr, IsErrAnd, IsSome, IfSome, map, option_map, slice_get, slice_index_or, nat_eq, zero, suc, FitsSigned, w64, refl, ap, sym, ◌∙◌, subst, arith, eqb, inl, inr, nat_lt}
+use Rattle.std.proofs.Common.{◌≡◌, ◌≢◌, ℕ, ℤ, pos, ◌+ℤ◌, ◌+◌, ◌-◌, ◌^◌, ◌<◌, ◌≤◌, ◌≤ℤ◌, ◌⊎◌, Bool, true, false, not, ◌&&◌, if◌then◌else◌, List, [], ◌∷◌, Option, Some, None, Result, Ok, Err, IfErr, IsErrAnd, IsSome, IfSome, map, option_map, slice_get, slice_index_or, nat_eq, zero, suc, FitsSigned, w64, refl, ap, sym, ◌∙◌, subst, arith, eqb, inl, inr, nat_lt}
 use Rattle.std.proofs.lemmas.Int.{ints}
 use Rattle.std.specs.Ordering.{nat_cmp}
 use Rattle.std.specs.BTreeMap as tree
@@ -20,7 +20,7 @@ use Rattle.med_value.specs.declared.value.ColType.TheVariants.{Int}
 use Rattle.fdw_api.specs.Scan.{KeyForm, Spec, spec_of, first_of, RestrictionForm, TestForm, Compares, Missing, Present, Given, Slot, has_kind, kind_is, test_fits, params_fit, IsComing, meets_exact}
 use Rattle.fdw_api.specs.declared.scan.Agree.{Agree}
 use Rattle.fdw_api.specs.declared.scan.Agree.TheVariants.{Ignored, Hint, Exact}
-use Rattle.fdw_api.specs.Wishes.{AllowsPromise, WishForm, all_exact, has_no_order, is_fair, key_form, spec2_of, with_promise}
+use Rattle.fdw_api.specs.Wishes.{AllowsPromise, WishForm, key_form, spec2_of, with_promise}
 use Rattle.fdw_api.specs.declared.wishes.OrderKey.{OrderKey}
 use Rattle.fdw_api.specs.declared.wishes.ScanSpec2.{ScanSpec2}
 use Rattle.fdw_api.specs.declared.interface.Fault.{Fault}
@@ -122,17 +122,6 @@ kept_order false order e = refl
 pub promised_is : (s : ScanSpec2) (order : List OrderKey) (limit : Option ℕ) → map key_form order ≡ (spec2_of s).order → limit ≡ (spec2_of s).limit → promised (spec_of s.base) order limit ≡ spec2_of s
 promised_is s order limit e f =
     ap (λ (ks : List KeyForm). record (spec_of s.base) { order = ks; limit = limit }) e ∙ ap (λ (o : Option ℕ). record (spec2_of s) { limit = o }) f
-
--- a limit that is promised where one is wished, every answer is Exact and the order is promised is fair
-pub fair_by : (w : WishForm) (answers : List Agree) (ordered limited : Bool) → limited ≡ (is_some w.limit && (all_exact answers && ordered)) → is_fair w answers ordered limited ≡ true
-fair_by w answers ordered limited e = go (is_some w.limit) (all_exact answers) ordered limited (has_no_order w) e
-  where
-    go : (a b o l n : Bool) → l ≡ (a && (b && o)) → (not l || (a && (b && (o || n)))) ≡ true
-    go a b o false n e = refl
-    go false b o true n e = absurd cc
-    go true false o true n e = absurd cc
-    go true true false true n e = absurd cc
-    go true true true true n e = refl
 
 -- what a start asks of the keys
 pub asks : (t : ℕ) (spec : Spec) (params : Tuple) → allows spec ≡ true → params_fit (kinds_in (layout_at t)) spec.offered params ≡ true → only_keys params spec.offered spec.answers ≡ true

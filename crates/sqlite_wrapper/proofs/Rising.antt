@@ -1,5 +1,5 @@
 -- The rows of a table stand in the order of their keys, and the first so many of them come.
-use Rattle.std.proofs.Common.{◌≡◌, ℕ, ℤ, ◌+◌, ◌-◌, ◌<ℤ◌, Bool, true, false, not, ◌&&◌, nat_eq, List, [], ◌∷◌, map, filter, take, Option, Some, None, option_map, zero, suc, IsTrue, IsSorted, refl, ap, sym, ◌∙◌, subst, arith}
+use Rattle.std.proofs.Common.{◌≡◌, ℕ, ℤ, ◌+◌, ◌-◌, ◌<ℤ◌, Bool, true, false, not, ◌&&◌, nat_eq, List, [], ◌∷◌, map, filter, take, Option, Some, None, option_map, zero, suc, IsTrue, IsSorted, refl, ap, sym, arith}
 use Rattle.std.proofs.lemmas.Int.{ints}
 use Rattle.std.specs.declared.cmp.Ordering.{Ordering}
 use Rattle.std.specs.declared.cmp.Ordering.TheVariants.{Less, Equal, Greater}
@@ -12,7 +12,7 @@ use Rattle.sqlite_trees.specs.declared.store.Shape.TheVariants as shape
 use Rattle.sqlite_trees.specs.Tree.{IsAscending}
 use Rattle.sqlite_trees.proofs.ListLemmas.{all-filter, ascending-filter, ascending-get_or}
 use Rattle.sqlite_shapes.specs.Shapes.{in_range, key_of, range_of, paged}
-use Rattle.med_value.specs.Datum.{Datum, Whole, Tuple, cell}
+use Rattle.med_value.specs.Datum.{cell}
 use Rattle.med_value.specs.Order.{key_cmp}
 use Rattle.fdw_api.specs.Scan.{KeyForm, TableRow, first_of, row_cmp}
 use Rattle.sqlite_cells.specs.Layouts.{Layout}

@@ -1,10 +1,8 @@
-use Rattle.std.proofs.Common.{◌≡◌, List, [], ap, ◌∙◌, false, map, map, true, None, sym, subst, slice_index_or}
+use Rattle.std.proofs.Common.{◌≡◌, List, false, map, map, true, None, sym, subst, slice_index_or}
 use Rattle.med_value.specs.Datum.{datum}
 use Rattle.med_value.specs.declared.value.ColType.{ColType}
-use Rattle.fdw_api.specs.Scan.{Spec, params_fit, spec_of}
-use Rattle.fdw_api.specs.Wishes.{key_form}
+use Rattle.fdw_api.specs.Scan.{params_fit, spec_of}
 use Rattle.fdw_api.specs.declared.wishes.OrderKey.{OrderKey}
-use Rattle.sqlite.specs.Held.{state}
 use Rattle.sqlite_wrapper.specs.Boxes.{allows, promised}
 use Rattle.sqlite_wrapper.proofs.Kept.{some_there}
 use Rattle.sqlite_wrapper.proofs.LiveScans.{bound_allows, bound_kinds}

@@ -1,12 +1,12 @@
-use Rattle.std.proofs.Common.{◌≡◌, ◌∙◌, ℕ, List, Option, true, false, map, sym, ap, subst, slice_index_or}
+use Rattle.std.proofs.Common.{◌≡◌, List, true, false, map, sym, subst, slice_index_or}
 use Rattle.med_value.specs.Datum.{datum}
 use Rattle.med_value.specs.declared.value.ColType.{ColType}
-use Rattle.fdw_api.specs.Scan.{KeyForm, Spec, params_fit, spec_of}
+use Rattle.fdw_api.specs.Scan.{Spec, params_fit, spec_of}
 use Rattle.fdw_api.specs.Calls.{Begins}
-use Rattle.fdw_api.specs.Wishes.{key_form, spec2_of}
+use Rattle.fdw_api.specs.Wishes.{spec2_of}
 use Rattle.fdw_api.proofs.LiftLemmas.{if_ok}
 use Rattle.sqlite.specs.Held.{state}
-use Rattle.sqlite_wrapper.specs.Boxes.{allows, promised, sqlite_state}
+use Rattle.sqlite_wrapper.specs.Boxes.{allows, sqlite_state}
 use Rattle.sqlite_wrapper.proofs.Kept.{some_there}
 use Rattle.sqlite_wrapper.proofs.LiveScans.{bound_allows, bound_kinds, promised_is}
 use Rattle.sqlite_wrapper.proofs.wrapper.SqliteWrapperWrapper2.begin2.Goals as goal
