@@ -24,7 +24,9 @@ wanted_by s =
 
 -- behind a row of this key; nothing may come behind the greatest
 abbrev pub passed : KeyScan → ℤ → KeyScan
-passed s key = if int_lt key s.high then record s { at = s.at + 1; room = option_map (λ n. n - 1) s.room; low = key +ℤ pos 1 } else record s { at = s.at + 1; room = option_map (λ n. n - 1) s.room; «open» = false }
+passed s key =
+    if int_lt key s.high then record s { at = s.at + 1; room = option_map (λ n. n - 1) s.room; low = key +ℤ pos 1 }
+    else record s { at = s.at + 1; room = option_map (λ n. n - 1) s.room; «open» = false }
 
 -- no page is wanted any more; the rows that a scan has still to give are the same, and so is all that it shows but them
 pub record Turns (honest : Bool) (entries : List SqlRow) (old new : KeyScan) : Type 0 where
@@ -40,7 +42,7 @@ may_be_next s r =
     is_row r && row_fits (kinds_in (layout_at s.table)) (cells_of (layout_at s.table) r)
     && s.«open» && int_le s.low (key_in r) && int_le (key_in r) s.high
 
--- the next row of the page, of a key that may come, as the scan gives it; none where the page has no more
+-- the next row of the page, of a key that may come, as the scan gives it; none where no row may come any more, or the page has none
 abbrev pub IsNext : KeyScan → Option GivenNext → Type 0
 IsNext s None = (is_spent s.room ≡ true) ⊎ (unread s ≡ [])
 IsNext s (Some g) =
