@@ -12,6 +12,8 @@ use Rattle.fdw_api.specs.Kinds.{Column, OptionForm}
 use Rattle.fdw_api.specs.State.{BoxTable, Scan, BoxState, IsIdle, table_of, scan_of, set_at}
 use Rattle.fdw_api.specs.Calls.{CanBind, Binds, CanUnbind, Begins, IsOpen, Iterates, Breaks, CanRescan, Rescans}
 use Rattle.fdw_api.specs.Writes.{CanModify}
+use Rattle.fdw_api.specs.Wishes.{AllowsPromise, CanBegin2, wish_form, spec2_of, is_fair}
+use Rattle.fdw_api.specs.declared.wishes.ScanSpec2.{ScanSpec2}
 use Rattle.fdw_api.specs.declared.interface.Fault.{Fault}
 use Rattle.fdw_api.specs.declared.interface.SourceRow.{SourceRow}
 
@@ -108,6 +110,24 @@ can_is_open s n params c = (c.scan, c.at, c.whole)
 
 pub can_is_live : (s : BoxState) (n : ℕ) (params : Tuple) → CanRescan s n params → IsSome (scan_of s n)
 can_is_live s n params c = some_is _ _ c.at
+
+-- a scan that gave a row, or none, is open still
+pub given_is_open : (old new : BoxState) (n : ℕ) (row : Option SourceRow) → Iterates old n row new → IsOpen old n → IsOpen new n
+given_is_open old new n None g is_open = (is_open.0, ap (λ z. finmap.get z.live n) g.ledger ∙ is_open.1, is_open.2)
+given_is_open old new n (Some row) g is_open =
+    (record g.scan { left = g.left }, ap (λ z. finmap.get z.live n) g.ledger ∙ put_same old.ledger.live n _, ap (λ (z : Scan). z.broken) (some_inj g.scan is_open.0 (sym g.at ∙ is_open.1)) ∙ is_open.2)
+
+-- a scan with a wish may begin by the wrapper's own answer, where its restrictions name no parameter
+pub wished_begins : (s : BoxState) (t : ℕ) (spec : ScanSpec2) → ((kinds : List ColType) → params_fit kinds (map restriction_form spec.base.offered.items) [] ≡ true) → AllowsPromise s t (spec2_of spec)
+    → is_fair (wish_form spec.wish) spec.base.agreement.answers.items spec.ordered spec.limited ≡ true → CanBegin2 s t spec []
+wished_begins s t spec fits a fair = record {
+  bound = a.allows.bound;
+  is = a.allows.is;
+  allowed = a.allows.allowed;
+  may = a.may;
+  fair = fair;
+  typed = fits a.allows.bound.kinds;
+}
 
 -- begun again, it may begin again by the same parameters
 pub again_can_rescan : (old new : BoxState) (n : ℕ) (params : Tuple) → Rescans old n params new → CanRescan old n params → CanRescan new n params

@@ -17,4 +17,6 @@ mod orders;
 #[cfg(test)]
 mod scans;
 #[cfg(test)]
+mod wishes;
+#[cfg(test)]
 mod writes;

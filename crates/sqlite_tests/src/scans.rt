@@ -14,7 +14,7 @@ use std::alloc::Global;
 use std::test::Fail;
 
 /// Appends a row and a space, and nothing where there is none.
-fn write_row(row: Option<SourceRow>, out: &mut Vec<u8>) -> Result<(), Fault> {
+pub fn write_row(row: Option<SourceRow>, out: &mut Vec<u8>) -> Result<(), Fault> {
     if let Some(row) = row {
         row_text(&row.cells, out)?;
         out.push(b' ')?;

@@ -9,7 +9,7 @@ use Rattle.sqlite.specs.Order.{Row as SqlRow}
 use Rattle.med_value.specs.Causes.{phase_of}
 use Rattle.fdw_api.specs.Calls.{none_of, faults_after, Leaves}
 use Rattle.fdw_api.specs.Kinds.{Change, Entry, Stored, Held, Holding, Known, held, is_of_run}
-use Rattle.fdw_api.specs.Scan.{TableRow, spec_of}
+use Rattle.fdw_api.specs.Scan.{TableRow, first_of}
 use Rattle.fdw_api.specs.State.{BoxTable, BoxState, Staging, scan_of}
 use Rattle.fdw_api.specs.Writes.{CanClose, Closes, CloseCause, RefusesClose, Written}
 use Rattle.fdw_api.specs.declared.interface.Fault.{Fault}
@@ -23,7 +23,7 @@ use Rattle.sqlite_cells.specs.Refusing.{OnlyBy}
 use Rattle.sqlite_cells.specs.Tables.{IsKnown, entries_at, entries_in, entries_of, entry_of, rows_of, tree_found, tree_of}
 use Rattle.sqlite_changes.specs.Kinds.{write_causes}
 use Rattle.sqlite_writes.specs.Writable.{AreApart}
-use Rattle.sqlite_wrapper.specs.Boxes.{allows, bound_of, entry_at, given_of, held_in, marked_bound, rows_at, scan_is, scan_rows, sqlite_state, to_come}
+use Rattle.sqlite_wrapper.specs.Boxes.{allows, asked_of, bound_of, entry_at, given_of, held_in, marked_bound, rows_at, scan_is, scan_rows, sqlite_state, to_come}
 use Rattle.sqlite_wrapper.specs.Rewrites.{Rewrites}
 use Rattle.sqlite_wrapper.specs.declared.scans.KeyScan.{KeyScan}
 use Rattle.sqlite_cells.proofs.Found.{found_is_read}
@@ -130,8 +130,8 @@ module _ (honest : Bool) (db after : Database) (bound : List Bool) (scans : BTre
         go : (o : Option KeyScan) → tree.get nat_cmp scans q ≡ o → scan_rows after o ≡ scan_rows db o
         go None f = refl
         go (Some s) f =
-            ap (λ (es : List SqlRow). map (given_of (spec_of s.spec) (layout_at s.table)) (to_come es s))
-            (others s.table (both (nat_lt s.table layout_count) (allows (spec_of s.spec)) (allowed q s f)).0 (no_scan q s f))
+            ap (λ (es : List SqlRow). first_of s.room (map (given_of (asked_of s) (layout_at s.table)) (to_come es s)))
+            (others s.table (both (nat_lt s.table layout_count) (allows (asked_of s)) (allowed q s f)).0 (no_scan q s f))
 
     same_held : (r : List ℕ) → (r ≡ (layout_at t).name → ⊥) → held_in after r ≡ held_in db r
     same_held r ne = go (place_of r) refl

@@ -1,21 +1,23 @@
 -- The rows of a key range are rows that a scan may give.
-use Rattle.std.proofs.Common.{◌≡◌, ℤ, pos, ◌+ℤ◌, ◌≤ℤ◌, Bool, true, false, cond, not, ◌&&◌, if◌then◌else◌, int_le, List, [], ◌∷◌, map, filter, FitsSigned, w64, None, refl, ap, sym, ◌∙◌, arith}
+use Rattle.std.proofs.Common.{◌≡◌, ℤ, pos, ◌+ℤ◌, ◌≤ℤ◌, Bool, true, false, cond, not, ◌&&◌, if◌then◌else◌, int_le, List, [], ◌∷◌, map, filter, FitsSigned, w64, IsSorted, refl, ap, sym, ◌∙◌, subst, arith}
 use Rattle.std.proofs.lemmas.Int.{ints}
 use Rattle.std.proofs.lemmas.List.Sorted.{IsPermutation-filter_both}
 use Rattle.std.proofs.lemmas.List.Elements.{filter_passes, All-weaker}
 use Rattle.sqlite.specs.Order.{Row as SqlRow}
+use Rattle.sqlite.specs.View.{IsShaped}
+use Rattle.sqlite_trees.specs.declared.store.Shape.TheVariants as shape
 use Rattle.sqlite_shapes.specs.Shapes.{in_range, key_of, range_of, paged}
 use Rattle.key_ranges.specs.declared.ranges.KeyRange.{KeyRange}
 use Rattle.key_ranges.specs.Ranges.{has_key}
 use Rattle.med_value.specs.Datum.{Tuple, Whole}
-use Rattle.fdw_api.specs.Scan.{Spec, RestrictionForm, TableRow, GivenRow, IsComing, meets, meets_all, meets_exact, given_row}
+use Rattle.fdw_api.specs.Scan.{Spec, RestrictionForm, TableRow, GivenRow, IsComing, first_of, meets, meets_all, meets_exact, given_row, row_cmp}
 use Rattle.fdw_api.specs.declared.scan.Agree.{Agree}
 use Rattle.fdw_api.specs.declared.scan.Agree.TheVariants.{Ignored, Hint, Exact}
-use Rattle.fdw_api.proofs.Unpromised.{any_order, all_first}
 use Rattle.sqlite_cells.specs.Layouts.{Layout}
 use Rattle.sqlite_cells.specs.Cells.{row_in, rows_in, least, greatest}
-use Rattle.sqlite_wrapper.specs.Boxes.{given_of}
+use Rattle.sqlite_wrapper.specs.Boxes.{given_of, is_by_key}
 use Rattle.sqlite_cells.proofs.PagesJoin.{between}
+use Rattle.sqlite_wrapper.proofs.Rising.{first_map, rows_rise}
 
 both_fail : (b x y : Bool) → (not x ≡ true → y ≡ false) → not (b && x) ≡ true → (b && y) ≡ false
 both_fail true x y f e = f e
@@ -47,7 +49,7 @@ pub span_is : (r : KeyRange) (k : ℤ) (o : Bool) → o ≡ (r.open && int_le r.
 span_is r k true e = grind (arith, ints)
 span_is r k false e = grind (arith, ints)
 
-module _ (l : Layout) (spec : Spec) (unordered : spec.order ≡ []) (unlimited : spec.limit ≡ None) (params : Tuple) (low high : ℤ) (from : least ≤ℤ low) (to : high ≤ℤ greatest)
+module _ (l : Layout) (spec : Spec) (by_key : is_by_key spec.order ≡ true) (params : Tuple) (low high : ℤ) (from : least ≤ℤ low) (to : high ≤ℤ greatest)
     (keys : (k : ℤ) (rest : Tuple) → FitsSigned w64 k → between low high k ≡ meets_exact spec.offered spec.answers params (Whole k ∷ rest)) where
   abbrev passes : TableRow → Bool
   passes r = meets_exact spec.offered spec.answers params r.cells
@@ -78,13 +80,15 @@ module _ (l : Layout) (spec : Spec) (unordered : spec.order ≡ []) (unlimited :
   shows [] = refl
   shows (x ∷ xs) = ap (λ (gs : List GivenRow). given_of spec l x ∷ gs) (shows xs)
 
-  pub comes : (entries : List SqlRow) → IsComing (rows_in l entries) spec params (map (given_of spec l) (range_of low high entries))
-  comes entries = record {
+  pub comes : (entries : List SqlRow) → IsShaped shape.Table entries → IsComing (rows_in l entries) spec params (first_of spec.limit (map (given_of spec l) (range_of low high entries)))
+  comes entries shaped = record {
     taken = filter passes (rows_in l entries);
     left_out = filter (λ r. not (passes r)) (rows_in l entries);
     parts = IsPermutation-filter_both passes (λ r. not (passes r)) (λ r. refl) (rows_in l entries);
     failing = All-weaker _ _ (λ r e. exact_fails spec.offered spec.answers params r.cells e) _ (filter_passes (λ r. not (passes r)) (rows_in l entries));
     exact = filter_passes passes (rows_in l entries);
-    sorted = any_order spec.order unordered (filter passes (rows_in l entries));
-    is = shows (range_of low high entries) ∙ ap (map (given_row spec)) (sym (same entries) ∙ sym (all_first spec.limit unlimited (filter passes (rows_in l entries))));
+    sorted = subst (IsSorted (row_cmp spec.order)) (sym (same entries)) (rows_rise l spec.order by_key low high entries shaped);
+    is =
+        ap (first_of spec.limit) (shows (range_of low high entries)) ∙ first_map (given_row spec) spec.limit (map (row_in l) (range_of low high entries))
+        ∙ ap (λ (rs : List TableRow). map (given_row spec) (first_of spec.limit rs)) (sym (same entries));
   }

@@ -1,5 +1,5 @@
 -- The numbers of rows that are held for the tables of a database, after one is put in.
-use Rattle.std.proofs.Common.{◌≡◌, ◌≢◌, ◌∙◌, ◌⊎◌, ℕ, ◌≤◌, Bool, true, List, [], ◌∷◌, Option, Some, None, length, slice_index_or, slice_set, IfSome, zero, suc, inl, inr, refl, sym, ap, subst, arith, nat_lt}
+use Rattle.std.proofs.Common.{◌≡◌, ◌≢◌, ◌∙◌, ◌⊎◌, ℕ, ◌≤◌, true, List, [], ◌∷◌, Option, Some, None, length, slice_set, IfSome, zero, suc, inl, inr, refl, sym, ap, subst, arith, nat_lt}
 use Rattle.sqlite.specs.Effect.{Database}
 use Rattle.med_value.specs.Limits.{row_limit}
 use Rattle.sqlite_cells.specs.Layouts.{layout_at, layout_count}

@@ -1,5 +1,5 @@
 -- What `iterate` does to a SQLite source.
-use Rattle.std.proofs.Common.{◌≡◌, inl, inr, ℕ, ℤ, pos, ◌+ℤ◌, ◌+◌, ◌<◌, ◌≤ℤ◌, Bool, true, false, not, ◌||◌, if◌then◌else◌, int_lt, nat_lt, List, [], ◌∷◌, ◌++◌, Option, Some, None, IsSome, map, drop, length, option_map, zero, suc, refl, ap, sym, ◌∙◌, subst, arith}
+use Rattle.std.proofs.Common.{◌≡◌, inl, inr, ℕ, ℤ, pos, ◌+ℤ◌, ◌+◌, ◌-◌, ◌<◌, ◌≤ℤ◌, Bool, true, false, not, ◌||◌, if◌then◌else◌, int_lt, nat_lt, List, [], ◌∷◌, ◌++◌, Option, Some, None, IsSome, map, drop, length, option_map, zero, suc, refl, ap, sym, ◌∙◌, subst, arith}
 use Rattle.std.proofs.Math.Logic.{∥∥₁_map}
 use Rattle.std.proofs.lemmas.Int.{ints}
 use Rattle.std.specs.Ordering.{nat_cmp}
@@ -11,7 +11,7 @@ use Rattle.sqlite.specs.Effect.{Database}
 use Rattle.sqlite.specs.Order.{Row as SqlRow}
 use Rattle.sqlite.specs.Schema.{Schema}
 use Rattle.sqlite_shapes.specs.Shapes.{range_of, key_of}
-use Rattle.fdw_api.specs.Scan.{Spec, GivenRow, spec_of, shown_fits}
+use Rattle.fdw_api.specs.Scan.{Spec, GivenRow, first_of, shown_fits}
 use Rattle.fdw_api.specs.State.{Scan, BoxState}
 use Rattle.fdw_api.specs.Calls.{LeavesOthers, Breaks, GivesRow, GivesNone, bumped, faults_after, not_refused}
 use Rattle.fdw_api.specs.declared.interface.Fault.{Fault}
@@ -25,10 +25,11 @@ use Rattle.sqlite_cells.specs.Layouts.{layout_at}
 use Rattle.sqlite_cells.specs.Cells.{key_in}
 use Rattle.sqlite_cells.specs.Tables.{IsKnown, behind, entries_of}
 use Rattle.sqlite_writes.specs.Writable.{IsWritable}
-use Rattle.sqlite_wrapper.specs.Boxes.{is_allowed, lowest, from_to, scan_is, unread, to_come, given_of, scan_rows, mapped, Sets, sqlite_state}
-use Rattle.sqlite_wrapper.specs.Pages.{wanted_by, passed, Turns, IsNext}
+use Rattle.sqlite_wrapper.specs.Boxes.{asked_of, is_allowed, lowest, from_to, scan_is, unread, to_come, given_of, scan_rows, mapped, Sets, sqlite_state}
+use Rattle.sqlite_wrapper.specs.Pages.{is_spent, wanted_by, passed, Turns, IsNext}
 use Rattle.sqlite_wrapper.proofs.Maps.{mapped_get, mapped_insert, mapped_same, sets_on}
 use Rattle.sqlite_wrapper.proofs.LiveScans.{some_inj}
+use Rattle.sqlite_wrapper.proofs.Rising.{first_none, first_spent, first_more}
 use Rattle.sqlite_cells.proofs.PagesJoin.{between}
 
 -- a table that is read and written by its texts, where it is there, is read by its page text
@@ -42,7 +43,9 @@ known_at honest schema t writable h = ∥∥₁_map (writable t h) (known_by sch
 
 -- `passed`, by whether a greater key may come
 abbrev passing : KeyScan → ℤ → Bool → KeyScan
-passing n key b = if b then record n { at = n.at + 1; low = key +ℤ pos 1 } else record n { at = n.at + 1; «open» = false }
+passing n key b =
+    if b then record n { at = n.at + 1; room = option_map (λ m. m - 1) n.room; low = key +ℤ pos 1 }
+    else record n { at = n.at + 1; room = option_map (λ m. m - 1) n.room; «open» = false }
 
 pub same_get : (m n : BTreeMap ℕ KeyScan) → n.entries ≡ m.entries → (k : ℕ) → tree.get nat_cmp n k ≡ tree.get nat_cmp m k
 same_get m n e k = ap (λ (es : List (ℕ × KeyScan)). lookup (is_at (nat_cmp k)) es) e
@@ -74,6 +77,13 @@ passed_shows n key = go (int_lt key n.high)
     go true = refl
     go false = refl
 
+passed_room : (n : KeyScan) (key : ℤ) → (passed n key).room ≡ option_map (λ m. m - 1) n.room
+passed_room n key = go (int_lt key n.high)
+  where
+    go : (b : Bool) → (passing n key b).room ≡ option_map (λ m. m - 1) n.room
+    go true = refl
+    go false = refl
+
 fewer_keys : (low high key : ℤ) → low ≤ℤ key → key ≤ℤ high → from_to (key +ℤ pos 1) high < from_to low high
 fewer_keys low high key p q = omega (arith, ints)
 
@@ -101,8 +111,8 @@ drop_none (x ∷ xs) zero e = absurd cc
 drop_none (x ∷ xs) (suc at) e = let h = drop_none xs at e in grind arith
 
 -- where no page is wanted and its page has no more, a scan is at its end
-at_end : (es : List SqlRow) (n : KeyScan) → wanted_by n ≡ None → unread n ≡ [] → to_come es n ≡ []
-at_end es n read none = rw none (go n.full n.«open» (record { table = n.table; low = n.low; high = n.high }) (rw (drop_none n.page.items n.at none) at read))
+at_end : (es : List SqlRow) (n : KeyScan) → is_spent n.room ≡ false → wanted_by n ≡ None → unread n ≡ [] → to_come es n ≡ []
+at_end es n more read none = rw none (go n.full n.«open» (record { table = n.table; low = n.low; high = n.high }) (rw (more, drop_none n.page.items n.at none) at read))
   where
     go : (f o : Bool) (p : PageWanted) → (if false || (not f || not o) then None else Some p) ≡ None
         → (if f then range_of (if o then n.low else n.high +ℤ pos 1) n.high es else []) ≡ []
@@ -115,13 +125,18 @@ passed_allows n s key e ok z q =
     subst (λ (y : KeyScan). is_allowed (scan_is y) ≡ true) (some_inj _ z q)
     (subst (λ (y : Scan). is_allowed y ≡ true) (sym (passed_shows n key)) (subst (λ (y : Scan). is_allowed y ≡ true) (sym e) ok))
 
--- what a scan gives, by its table, what it was asked for and the rows that come
-abbrev given_by : ℕ → Spec → List SqlRow → List GivenRow
-given_by t spec rs = map (given_of spec (layout_at t)) rs
+-- what a scan gives, by how many rows may come, its table, what it was asked for and the rows that come
+abbrev given_by : Option ℕ → ℕ → Spec → List SqlRow → List GivenRow
+given_by room t spec rs = first_of room (map (given_of spec (layout_at t)) rs)
 
--- scans that are shown alike are of one table and were asked for the same
-same_given : (a b : KeyScan) (rs : List SqlRow) → scan_is a ≡ scan_is b → given_by a.table (spec_of a.spec) rs ≡ given_by b.table (spec_of b.spec) rs
-same_given a b rs e = ap (λ (z : Scan). given_by z.table z.spec rs) e
+-- where no page is wanted, and no row may come or its page has no more, a scan gives no row
+gives_no_more : (es : List SqlRow) (n : KeyScan) (t : ℕ) (spec : Spec) → wanted_by n ≡ None → IsNext n None → given_by n.room t spec (to_come es n) ≡ []
+gives_no_more es n t spec read (inl spent) = first_spent n.room _ spent
+gives_no_more es n t spec read (inr none) = go (is_spent n.room) refl
+  where
+    go : (b : Bool) → is_spent n.room ≡ b → given_by n.room t spec (to_come es n) ≡ []
+    go true e = first_spent n.room _ e
+    go false e = ap (given_by n.room t spec) (at_end es n e read none) ∙ first_none n.room
 
 module _ (honest : Bool) (bound : List Bool) (staged : Option StagedWrite) (db : Database) (old : BTreeMap ℕ KeyScan) (next : ℕ) (number : ℕ) (s : KeyScan) (is : tree.get nat_cmp old number ≡ Some s) where
   abbrev box : Database → BTreeMap ℕ KeyScan → ℕ → ℕ → BoxState
@@ -163,28 +178,31 @@ module _ (honest : Bool) (bound : List Bool) (staged : Option StagedWrite) (db :
     breaks_late new pulled faults fault no_cause v =
         breaks_by after new pulled faults fault (record n { broken = true }) no_cause (ap (λ (z : Scan). record z { broken = true }) turns.shows) same (sets_on old m new number _ _ u v)
 
-    coming_was : (pulled faults : ℕ) → (box db old pulled faults).content.coming number ≡ given_by s.table (spec_of s.spec) (to_come entries s)
+    coming_was : (pulled faults : ℕ) → (box db old pulled faults).content.coming number ≡ given_by s.room s.table (asked_of s) (to_come entries s)
     coming_was pulled faults = ap (scan_rows db) is
 
     -- the rows that another scan in its place has to give
-    coming_is : (new : BTreeMap ℕ KeyScan) (pulled faults : ℕ) (p : KeyScan) → honest ≡ true → tree.get nat_cmp new number ≡ Some p → p.table ≡ s.table → spec_of p.spec ≡ spec_of s.spec
-        → (box after new pulled faults).content.coming number ≡ given_by s.table (spec_of s.spec) (to_come entries p)
+    coming_is : (new : BTreeMap ℕ KeyScan) (pulled faults : ℕ) (p : KeyScan) → honest ≡ true → tree.get nat_cmp new number ≡ Some p → p.table ≡ s.table → asked_of p ≡ asked_of s
+        → (box after new pulled faults).content.coming number ≡ given_by p.room s.table (asked_of s) (to_come entries p)
     coming_is new pulled faults p h there et es =
         ap (λ (d : Database). scan_rows d (tree.get nat_cmp new number)) (same h) ∙ ap (scan_rows db) there
-        ∙ ap (λ (z : ℕ). given_by z (spec_of p.spec) (to_come (entries_of db (layout_at z)) p)) et ∙ ap (λ (z : Spec). given_by s.table z (to_come entries p)) es
+        ∙ ap (λ (z : ℕ). given_by p.room z (asked_of p) (to_come (entries_of db (layout_at z)) p)) et ∙ ap (λ (z : Spec). given_by p.room s.table z (to_come entries p)) es
 
     table_is : n.table ≡ s.table
     table_is = ap (λ (z : Scan). z.table) turns.shows
 
-    spec_is : spec_of n.spec ≡ spec_of s.spec
+    spec_is : asked_of n ≡ asked_of s
     spec_is = ap (λ (z : Scan). z.spec) turns.shows
 
-    pub gives_none : (pulled faults : ℕ) → unread n ≡ [] → GivesNone (box db old pulled faults) number (box after m pulled faults)
+    turned : honest ≡ true → given_by s.room s.table (asked_of s) (to_come entries s) ≡ given_by n.room s.table (asked_of s) (to_come entries n)
+    turned h = ap (λ (o : Option ℕ). given_by o s.table (asked_of s) (to_come entries s)) (sym turns.room) ∙ ap (given_by n.room s.table (asked_of s)) (sym (turns.rows h))
+
+    pub gives_none : (pulled faults : ℕ) → IsNext n None → GivesNone (box db old pulled faults) number (box after m pulled faults)
     gives_none pulled faults none = record {
       nature = refl;
       ledger = ap (λ (l : finmap.FinMap nat_cmp Scan). record (box db old pulled faults).ledger { live = l }) (mapped_same scan_is old m number s n u is turns.shows);
-      coming = λ h. coming_was pulled faults ∙ ap (given_by s.table (spec_of s.spec)) (sym (turns.rows h) ∙ at_end entries n turns.read none);
-      still = λ h. coming_is m pulled faults n h u.0 table_is spec_is ∙ ap (given_by s.table (spec_of s.spec)) (at_end entries n turns.read none);
+      coming = λ h. coming_was pulled faults ∙ turned h ∙ gives_no_more entries n s.table (asked_of s) turns.read none;
+      still = λ h. coming_is m pulled faults n h u.0 table_is spec_is ∙ gives_no_more entries n s.table (asked_of s) turns.read none;
       leaves = λ h. others after m pulled pulled faults faults (Some n) (same h) u;
     }
 
@@ -193,7 +211,7 @@ module _ (honest : Bool) (bound : List Bool) (staged : Option StagedWrite) (db :
     gives_row new pulled faults g given v =
         let p = passed n g.key in
         let whole = sets_on old m new number _ _ u v in
-        let low = lowest_passed n g.key given.1 given.3 in
+        let low = lowest_passed n g.key given.2 given.4 in
         let shows : scan_is p ≡ record (scan_is s) { left = from_to (lowest p) n.high } = passed_shows n g.key ∙ ap (λ (z : Scan). record z { left = from_to (lowest p) n.high }) turns.shows in
         record {
           nature = refl;
@@ -201,14 +219,17 @@ module _ (honest : Bool) (bound : List Bool) (staged : Option StagedWrite) (db :
           at = at pulled faults;
           left = from_to (lowest p) n.high;
           fewer =
-              subst (λ (z : ℕ). from_to (lowest p) n.high < z) (ap (λ (z : ℤ). from_to z n.high) (sym (lowest_open n given.1)) ∙ ap (λ (z : Scan). z.left) turns.shows)
-              (subst (λ (z : ℤ). from_to z n.high < from_to n.low n.high) (sym low) (fewer_keys n.low n.high g.key given.2 given.3));
-          typed = subst (λ (z : Scan). shown_fits z.kinds z.spec (tuple g.row.cells) ≡ true) turns.shows given.5;
+              subst (λ (z : ℕ). from_to (lowest p) n.high < z) (ap (λ (z : ℤ). from_to z n.high) (sym (lowest_open n given.2)) ∙ ap (λ (z : Scan). z.left) turns.shows)
+              (subst (λ (z : ℤ). from_to z n.high < from_to n.low n.high) (sym low) (fewer_keys n.low n.high g.key given.3 given.4));
+          typed = subst (λ (z : Scan). shown_fits z.kinds z.spec (tuple g.row.cells) ≡ true) turns.shows given.6;
           ledger =
               ap (λ (l : finmap.FinMap nat_cmp Scan). record (box db old (bumped pulled) faults).ledger { live = l })
               (mapped_insert scan_is old new number p whole ∙ ap (finmap.insert (mapped scan_is old.entries) number) shows);
-          coming = λ h. coming_was pulled faults ∙ ap (given_by s.table (spec_of s.spec)) (sym (turns.rows h) ∙ rest_of entries n g.key given.4.0 given.1 given.3 given.4.1 given.4.2)
-              ∙ ap (λ (x : GivenRow). x ∷ given_by s.table (spec_of s.spec) (to_come entries p)) (sym (given.4.3 ∙ ap (λ (z : Scan). given_of z.spec (layout_at z.table) given.4.0) turns.shows))
+          coming = λ h. coming_was pulled faults ∙ turned h
+              ∙ ap (given_by n.room s.table (asked_of s)) (rest_of entries n g.key given.5.0 given.2 given.4 given.5.1 given.5.2)
+              ∙ first_more n.room (given_of (asked_of s) (layout_at s.table) given.5.0) (map (given_of (asked_of s) (layout_at s.table)) (to_come entries p)) given.0
+              ∙ ap (λ (o : Option ℕ). given_of (asked_of s) (layout_at s.table) given.5.0 ∷ given_by o s.table (asked_of s) (to_come entries p)) (sym (passed_room n g.key))
+              ∙ ap (λ (x : GivenRow). x ∷ given_by p.room s.table (asked_of s) (to_come entries p)) (sym (given.5.3 ∙ ap (λ (z : Scan). given_of z.spec (layout_at z.table) given.5.0) turns.shows))
               ∙ ap (λ (rest : List GivenRow). row_of g.row ∷ rest) (sym (coming_is new (bumped pulled) faults p h whole.0 (ap (λ (z : Scan). z.table) shows) (ap (λ (z : Scan). z.spec) shows)));
           leaves = λ h. others after new pulled (bumped pulled) faults faults (Some p) (same h) whole;
         }

@@ -1,4 +1,5 @@
 pub mod Maps
+pub mod Rising
 pub mod Coming
 pub mod LiveScans
 pub mod Bound

@@ -8,15 +8,21 @@ use Rattle.std.specs.Map.{lookup}
 use Rattle.std.specs.FinMap as finmap
 use Rattle.std.proofs.lemmas.Bool.Decides.{eqb_tells}
 use Rattle.sqlite.specs.Effect.{Database}
+use Rattle.sqlite.specs.Order.{Row as SqlRow}
+use Rattle.sqlite.specs.View.{IsShaped}
+use Rattle.sqlite_trees.specs.declared.store.Shape.TheVariants as shape
 use Rattle.sqlite_shapes.specs.Shapes.{range_of}
 use Rattle.key_ranges.specs.declared.ranges.KeyRange.{KeyRange}
 use Rattle.key_ranges.specs.Ranges.{is_key_value, is_apart, is_range_check, is_key_test, is_typed_check, asks_key, only_key_tests, only_keys}
 use Rattle.med_value.specs.Datum.{Datum, NoValue, Whole, Chars, Logic, Tuple, cell}
 use Rattle.med_value.specs.declared.value.ColType.{ColType}
 use Rattle.med_value.specs.declared.value.ColType.TheVariants.{Int}
-use Rattle.fdw_api.specs.Scan.{Spec, spec_of, RestrictionForm, TestForm, Compares, Missing, Present, Given, Slot, has_kind, kind_is, test_fits, params_fit, IsComing, meets_exact}
+use Rattle.fdw_api.specs.Scan.{KeyForm, Spec, spec_of, first_of, RestrictionForm, TestForm, Compares, Missing, Present, Given, Slot, has_kind, kind_is, test_fits, params_fit, IsComing, meets_exact}
 use Rattle.fdw_api.specs.declared.scan.Agree.{Agree}
 use Rattle.fdw_api.specs.declared.scan.Agree.TheVariants.{Ignored, Hint, Exact}
+use Rattle.fdw_api.specs.Wishes.{AllowsPromise, WishForm, key_form, spec2_of, with_promise}
+use Rattle.fdw_api.specs.declared.wishes.OrderKey.{OrderKey}
+use Rattle.fdw_api.specs.declared.wishes.ScanSpec2.{ScanSpec2}
 use Rattle.fdw_api.specs.declared.interface.Fault.{Fault}
 use Rattle.fdw_api.specs.declared.interface.Fault.TheVariants.{NoMemory}
 use Rattle.fdw_api.specs.State.{BoxTable, Scan, BoxState, scan_of, table_of}
@@ -25,7 +31,7 @@ use Rattle.sqlite_wrapper.specs.declared.scans.KeyScan.{KeyScan}
 use Rattle.staged_changes.specs.declared.changes.StagedWrite.{StagedWrite}
 use Rattle.sqlite_cells.specs.Layouts.{layout_at, layout_count, kinds_in}
 use Rattle.sqlite_cells.specs.Cells.{least, greatest}
-use Rattle.sqlite_wrapper.specs.Boxes.{allows, is_allowed, bound_of, marked_bound, lowest, from_to, scan_is, given_of, scan_rows, mapped, Sets, sqlite_state, IsNewScan, IsBegun}
+use Rattle.sqlite_wrapper.specs.Boxes.{allows, asked_of, is_allowed, is_by_key, bound_of, marked_bound, lowest, from_to, scan_is, given_of, scan_rows, to_come, mapped, Sets, promised, sqlite_state, IsNewScan, IsBegun}
 use Rattle.sqlite_cells.specs.Tables.{entries_of, rows_of}
 use Rattle.sqlite_wrapper.proofs.Maps.{mapped_get, mapped_insert, mapped_remove}
 use Rattle.sqlite_cells.proofs.PagesJoin.{between}
@@ -96,11 +102,35 @@ bound_kinds f t b e = ap (λ (z : BoxTable). z.kinds) (marked_is f t b e)
 pub bound_allows : (f : Bool) (t : ℕ) (b : BoxTable) (spec : Spec) → marked_bound f t ≡ Some b → b.allows spec ≡ true → allows spec ≡ true
 bound_allows f t b spec e a = subst (λ (z : BoxTable). z.allows spec ≡ true) (marked_is f t b e) a
 
--- what begin asks of the keys
-pub asks : (f : Bool) (t : ℕ) (b : BoxTable) (spec : Spec) (params : Tuple) → marked_bound f t ≡ Some b → b.allows spec ≡ true → params_fit b.kinds spec.offered params ≡ true → only_keys params spec.offered spec.answers ≡ true
-asks f t b spec params e a p =
-    let w = both (not spec.narrow) (only_key_tests spec.offered spec.answers) (bound_allows f t b spec e a) in
-    keys_fit ((layout_at t).second ∷ (layout_at t).third ∷ []) params spec.offered spec.answers w.1 (subst (λ (k : List ColType). params_fit k spec.offered params ≡ true) (bound_kinds f t b e) p)
+-- what is allowed tests the key alone, and no other order than that of the key is promised of it
+pub allowed_tests : (spec : Spec) → allows spec ≡ true → only_key_tests spec.offered spec.answers ≡ true
+allowed_tests spec a = (both (is_by_key spec.order) _ (both (not spec.narrow) _ a).1).1
+
+pub allowed_order : (spec : Spec) → allows spec ≡ true → is_by_key spec.order ≡ true
+allowed_order spec a = (both (is_by_key spec.order) _ (both (not spec.narrow) _ a).1).0
+
+-- with such an order, and with any limit, it is allowed too
+pub allows_order : (spec : Spec) (order : List KeyForm) (limit : Option ℕ) → allows spec ≡ true → is_by_key order ≡ true → allows (record spec { order = order; limit = limit }) ≡ true
+allows_order spec order limit a by = pair (not spec.narrow) _ (both (not spec.narrow) _ a).0 (pair (is_by_key order) _ by (allowed_tests spec a))
+
+-- an order that is promised where it is that of the key is
+pub kept_order : (b : Bool) (order : List KeyForm) → b ≡ is_by_key order → is_by_key (if b then order else []) ≡ true
+kept_order true order e = sym e
+kept_order false order e = refl
+
+-- what is promised by an order and a limit, and what is wished of them
+pub promised_is : (s : ScanSpec2) (order : List OrderKey) (limit : Option ℕ) → map key_form order ≡ (spec2_of s).order → limit ≡ (spec2_of s).limit → promised (spec_of s.base) order limit ≡ spec2_of s
+promised_is s order limit e f =
+    ap (λ (ks : List KeyForm). record (spec_of s.base) { order = ks; limit = limit }) e ∙ ap (λ (o : Option ℕ). record (spec2_of s) { limit = o }) f
+
+-- what a start asks of the keys
+pub asks : (t : ℕ) (spec : Spec) (params : Tuple) → allows spec ≡ true → params_fit (kinds_in (layout_at t)) spec.offered params ≡ true → only_keys params spec.offered spec.answers ≡ true
+asks t spec params a fits = keys_fit ((layout_at t).second ∷ (layout_at t).third ∷ []) params spec.offered spec.answers (allowed_tests spec a) fits
+
+-- a table that is marked is bound
+pub marked_bound_is : (f : Bool) (t : ℕ) → IsSome (marked_bound f t) → marked_bound f t ≡ Some (bound_of t)
+marked_bound_is true t e = refl
+marked_bound_is false t e = absurd cc
 
 marked_there : (spec : Spec) (f : Bool) (t : ℕ) → IsSome (marked_bound f t) → allows spec ≡ true → (b : BoxTable) × (marked_bound f t ≡ Some b) × (b.allows spec ≡ true)
 marked_there spec false t e a = absurd cc
@@ -165,6 +195,19 @@ module _ (honest : Bool) (bound : List Bool) (staged : Option StagedWrite) where
       let w = marked_there spec (slice_index_or bound t false) t e a in
       record { bound = w.0; is = w.1; allowed = w.2 }
 
+  -- what is promised beside an allowed scan, where the order is that of the key
+  pub sqlite_promises : (db : Database) (m : BTreeMap ℕ KeyScan) (next pulled faults t : ℕ) (spec : Spec) (w : WishForm) (ordered limited : Bool) → Allows (box db m next pulled faults) t spec
+      → ordered ≡ is_by_key w.order → AllowsPromise (box db m next pulled faults) t (with_promise spec w ordered limited)
+  sqlite_promises db m next pulled faults t spec w ordered limited a e = record {
+    allows = record {
+      bound = a.bound;
+      is = a.is;
+      allowed = subst (λ (b : BoxTable). b.allows (with_promise spec w ordered limited) ≡ true) (sym (marked_is (slice_index_or bound t false) t a.bound a.is))
+          (allows_order spec (if ordered then w.order else []) (if limited then w.limit else None) (bound_allows (slice_index_or bound t false) t a.bound spec a.is a.allowed) (kept_order ordered w.order e));
+    };
+    may = λ not_so. absurd cc;
+  }
+
   -- only this ticket changes
   others : (db : Database) (m n : BTreeMap ℕ KeyScan) (number next next' pulled pulled' faults faults' : ℕ) (w : Option KeyScan) → Sets m n number w
       → LeavesOthers number (box db m next pulled faults) (box db n next' pulled' faults')
@@ -193,15 +236,22 @@ module _ (honest : Bool) (bound : List Bool) (staged : Option StagedWrite) where
     leaves = λ h. others db m n number next next pulled pulled faults (faults_after fault faults) _ u;
   }
 
-  module _ (db : Database) (s : KeyScan) (t : ℕ) (spec : Spec) (params : Tuple) (begun : IsBegun s t spec params) where
+  module _ (db : Database) (s : KeyScan) (t : ℕ) (spec : Spec) (params : Tuple) (begun : IsBegun s t spec params) (allowed : allows spec ≡ true) where
     abbrev new : IsNewScan s t spec params begun.range
     new = begun.new
 
     abbrev r : KeyRange
     r = begun.range
 
-    gives : scan_rows db (Some s) ≡ map (given_of spec (layout_at t)) (range_of (lowest s) s.high (entries_of db (layout_at t)))
-    gives = rw (new.spec_is, new.table, new.no_page, new.at_start, new.full) refl
+    came : to_come (entries_of db (layout_at s.table)) s ≡ range_of (lowest s) s.high (entries_of db (layout_at s.table))
+    came = rw (new.no_page, new.at_start, new.full) refl
+
+    gives : scan_rows db (Some s) ≡ first_of spec.limit (map (given_of spec (layout_at t)) (range_of (lowest s) s.high (entries_of db (layout_at t))))
+    gives =
+        ap (λ (rs : List SqlRow). first_of s.room (map (given_of (asked_of s) (layout_at s.table)) rs)) came
+        ∙ ap (λ (o : Option ℕ). first_of o (map (given_of (asked_of s) (layout_at s.table)) (range_of (lowest s) s.high (entries_of db (layout_at s.table))))) (new.room ∙ ap (λ (x : Spec). x.limit) new.spec_is)
+        ∙ ap (λ (x : Spec). first_of spec.limit (map (given_of x (layout_at s.table)) (range_of (lowest s) s.high (entries_of db (layout_at s.table))))) new.spec_is
+        ∙ ap (λ (q : ℕ). first_of spec.limit (map (given_of spec (layout_at q)) (range_of (lowest s) s.high (entries_of db (layout_at q))))) new.table
 
     low_is : lowest s ≡ (if s.open then r.low else r.high +ℤ pos 1)
     low_is = pick s.open s.low r.low s.high r.high new.low new.high
@@ -213,12 +263,12 @@ module _ (honest : Bool) (bound : List Bool) (staged : Option StagedWrite) where
     high_is : r.high ≤ℤ greatest
     high_is = let f = begun.high_fits in omega (arith, ints)
 
-    begun_coming : IsComing (rows_of db (layout_at t)) spec params (scan_rows db (Some s))
-    begun_coming =
+    begun_coming : IsShaped shape.Table (entries_of db (layout_at t)) → IsComing (rows_of db (layout_at t)) spec params (scan_rows db (Some s))
+    begun_coming shaped =
         let k : (k : ℤ) (rest : Tuple) → FitsSigned w64 k → between (lowest s) s.high k ≡ meets_exact spec.offered spec.answers params (Whole k ∷ rest) =
         λ k rest fits. between_same (lowest s) _ s.high r.high k low_is new.high ∙ span_is r k s.open new.open_is ∙ begun.keys k rest fits in
         subst (IsComing (rows_of db (layout_at t)) spec params) (sym gives)
-        (comes (layout_at t) spec (ap (λ (x : Spec). x.order) (sym new.spec_is)) (ap (λ (x : Spec). x.limit) (sym new.spec_is)) params (lowest s) s.high (subst (λ (z : ℤ). least ≤ℤ z) (sym low_is) (above s.open)) (subst (λ (z : ℤ). z ≤ℤ greatest) (sym new.high) high_is) k (entries_of db (layout_at t)))
+        (comes (layout_at t) spec (allowed_order spec allowed) params (lowest s) s.high (subst (λ (z : ℤ). least ≤ℤ z) (sym low_is) (above s.open)) (subst (λ (z : ℤ). z ≤ℤ greatest) (sym new.high) high_is) k (entries_of db (layout_at t)) shaped)
 
     few_left : from_to (lowest s) s.high ≤ 2 ^ 64
     few_left = few_keys (lowest s) s.high (subst (λ (z : ℤ). least ≤ℤ z) (sym low_is) (above s.open)) (subst (λ (z : ℤ). z ≤ℤ greatest) (sym new.high) high_is)
@@ -226,9 +276,9 @@ module _ (honest : Bool) (bound : List Bool) (staged : Option StagedWrite) where
     shows_new : scan_is s ≡ new_scan t (kinds_in (layout_at t)) spec params (from_to (lowest s) s.high)
     shows_new = rw (new.table, new.spec_is, new.params_are, new.whole) refl
 
-    pub sqlite_begins : (m n : BTreeMap ℕ KeyScan) (next pulled faults : ℕ) (b : BoxTable) → nat_lt t layout_count ≡ true → marked_bound (slice_index_or bound t false) t ≡ Some b → tree.get nat_cmp m next ≡ None
+    pub sqlite_begins : (m n : BTreeMap ℕ KeyScan) (next pulled faults : ℕ) (b : BoxTable) → (honest ≡ true → IsShaped shape.Table (entries_of db (layout_at t))) → nat_lt t layout_count ≡ true → marked_bound (slice_index_or bound t false) t ≡ Some b → tree.get nat_cmp m next ≡ None
         → next < 2 ^ 64 - 1 → Sets m n next (Some s) → Begins (box db m next pulled faults) t spec params next (box db n (next + 1) pulled faults)
-    sqlite_begins m n next pulled faults b within is_bound fresh room u = record {
+    sqlite_begins m n next pulled faults b shaped within is_bound fresh room u = record {
       nature = refl;
       is_next = refl;
       room = room;
@@ -241,13 +291,13 @@ module _ (honest : Bool) (bound : List Bool) (staged : Option StagedWrite) where
           ap (λ (l : finmap.FinMap nat_cmp Scan). record (box db n (next + 1) pulled faults).ledger { live = l })
           (mapped_insert scan_is m n next s u ∙ ap (finmap.insert (mapped scan_is m.entries) next) shows_new
           ∙ ap (λ (k : List ColType). finmap.insert (mapped scan_is m.entries) next (new_scan t k spec params (from_to (lowest s) s.high))) (sym (bound_kinds (slice_index_or bound t false) t b is_bound)));
-      coming = λ h. rw within (subst (IsComing (rows_of db (layout_at t)) spec params) (sym (ap (scan_rows db) u.0)) begun_coming);
+      coming = λ h. rw within (subst (IsComing (rows_of db (layout_at t)) spec params) (sym (ap (scan_rows db) u.0)) (begun_coming (shaped h)));
       leaves = λ h. others db m n next next (next + 1) pulled pulled faults faults (Some s) u;
     }
 
-    pub sqlite_rescans : (m n : BTreeMap ℕ KeyScan) (next pulled faults number : ℕ) (old : KeyScan) → tree.get nat_cmp m number ≡ Some old → nat_lt old.table layout_count ≡ true → old.table ≡ t → spec_of old.spec ≡ spec
+    pub sqlite_rescans : (m n : BTreeMap ℕ KeyScan) (next pulled faults number : ℕ) (old : KeyScan) → (honest ≡ true → IsShaped shape.Table (entries_of db (layout_at t))) → tree.get nat_cmp m number ≡ Some old → nat_lt old.table layout_count ≡ true → old.table ≡ t → asked_of old ≡ spec
         → Sets m n number (Some s) → Rescans (box db m next pulled faults) number params (box db n next pulled faults)
-    sqlite_rescans m n next pulled faults number old is within et es u = record {
+    sqlite_rescans m n next pulled faults number old shaped is within et es u = record {
       nature = refl;
       scan = scan_is old;
       at = mapped_get scan_is m number ∙ ap (option_map scan_is) is;
@@ -256,8 +306,12 @@ module _ (honest : Bool) (bound : List Bool) (staged : Option StagedWrite) where
       ledger =
           ap (λ (l : finmap.FinMap nat_cmp Scan). record (box db m next pulled faults).ledger { live = l })
           (mapped_insert scan_is m n number s u ∙ ap (finmap.insert (mapped scan_is m.entries) number)
-          (shows_new ∙ rw (sym et, sym es) refl));
-      coming = λ h. rw within (subst (IsComing (rows_of db (layout_at old.table)) (spec_of old.spec) params) (sym (ap (scan_rows db) u.0)) (rw (et, es) begun_coming));
+          (shows_new ∙ ap (λ (q : ℕ). new_scan q (kinds_in (layout_at q)) spec params (from_to (lowest s) s.high)) (sym et)
+          ∙ ap (λ (x : Spec). new_scan old.table (kinds_in (layout_at old.table)) x params (from_to (lowest s) s.high)) (sym es)));
+      coming = λ h. rw within
+          (subst (λ (q : ℕ). IsComing (rows_of db (layout_at q)) (asked_of old) params (scan_rows db (tree.get nat_cmp n number))) (sym et)
+          (subst (λ (x : Spec). IsComing (rows_of db (layout_at t)) x params (scan_rows db (tree.get nat_cmp n number))) (sym es)
+          (subst (IsComing (rows_of db (layout_at t)) spec params) (sym (ap (scan_rows db) u.0)) (begun_coming (shaped h)))));
       leaves = λ h. others db m n number next next pulled pulled faults faults (Some s) u;
     }
 
@@ -283,6 +337,6 @@ module _ (honest : Bool) (bound : List Bool) (staged : Option StagedWrite) where
       let at : marked_bound (slice_index_or bound s.table false) s.table ≡ Some can.bound =
       subst (λ (z : Scan). marked_bound (slice_index_or bound z.table false) z.table ≡ Some can.bound) (sym same) can.is in
       let typed = subst (λ (z : Scan). params_fit can.bound.kinds z.spec.offered params ≡ true) (sym same) can.typed in
-      let w = both (not (spec_of s.spec).narrow) (only_key_tests (spec_of s.spec).offered (spec_of s.spec).answers) (both (nat_lt s.table layout_count) (allows (spec_of s.spec)) (all n s is)).1 in
-      keys_fit ((layout_at s.table).second ∷ (layout_at s.table).third ∷ []) params (spec_of s.spec).offered (spec_of s.spec).answers w.1
+      let tests = allowed_tests (asked_of s) (both (nat_lt s.table layout_count) (allows (asked_of s)) (all n s is)).1 in
+      keys_fit ((layout_at s.table).second ∷ (layout_at s.table).third ∷ []) params (spec_of s.spec).offered (spec_of s.spec).answers tests
       (subst (λ (k : List ColType). params_fit k (spec_of s.spec).offered params ≡ true) (bound_kinds (slice_index_or bound s.table false) s.table can.bound at) typed)

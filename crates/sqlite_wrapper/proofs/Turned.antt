@@ -8,20 +8,21 @@ use Rattle.sqlite_cells.specs.Layouts.{layout_at}
 use Rattle.sqlite_shapes.specs.Shapes.{range_of}
 use Rattle.sqlite_cells.specs.Tables.{behind, entries_of, entries_in, rest_of}
 use Rattle.sqlite_wrapper.specs.Boxes.{to_come}
-use Rattle.sqlite_wrapper.specs.Pages.{wanted_by, Turns}
+use Rattle.sqlite_wrapper.specs.Pages.{is_spent, wanted_by, Turns}
 use Rattle.sqlite_wrapper.proofs.LiveScans.{some_inj}
 
 pub wants : (s : KeyScan) (p : PageWanted) → wanted_by s ≡ Some p
     → (p.table ≡ s.table) × (p.low ≡ s.low) × (p.high ≡ s.high) × (length s.page.items ≤ s.at) × (s.full ≡ true) × (s.«open» ≡ true)
-wants s p e = go (nat_lt s.at (length s.page.items)) s.full s.«open» refl refl refl e
+wants s p e = go (is_spent s.room) (nat_lt s.at (length s.page.items)) s.full s.«open» refl refl refl e
   where
-    go : (a f o : Bool) → nat_lt s.at (length s.page.items) ≡ a → s.full ≡ f → s.«open» ≡ o
-        → (if a || (not f || not o) then None else Some (record { table = s.table; low = s.low; high = s.high })) ≡ Some p
+    go : (spent a f o : Bool) → nat_lt s.at (length s.page.items) ≡ a → s.full ≡ f → s.«open» ≡ o
+        → (if spent || (a || (not f || not o)) then None else Some (record { table = s.table; low = s.low; high = s.high })) ≡ Some p
         → (p.table ≡ s.table) × (p.low ≡ s.low) × (p.high ≡ s.high) × (length s.page.items ≤ s.at) × (s.full ≡ true) × (s.«open» ≡ true)
-    go true f o ea ef eo e = absurd cc
-    go false false o ea ef eo e = absurd cc
-    go false true false ea ef eo e = absurd cc
-    go false true true ea ef eo e =
+    go true a f o ea ef eo e = absurd cc
+    go false true f o ea ef eo e = absurd cc
+    go false false false o ea ef eo e = absurd cc
+    go false false true false ea ef eo e = absurd cc
+    go false false true true ea ef eo e =
         let q = some_inj _ p e in
         (sym (ap (λ (z : PageWanted). z.table) q), sym (ap (λ (z : PageWanted). z.low) q), sym (ap (λ (z : PageWanted). z.high) q), grind arith, ef, eo)
 
@@ -61,15 +62,16 @@ turned_rows db t low high s n items turned et el eh past full opened joins =
 
 -- a page that was turned leaves none wanted: it has rows, or it was the last
 pub turned_read : (n : KeyScan) (items : List SqlRow) → n.page.items ≡ items → n.at ≡ 0 → n.full ≡ nat_eq (length items) 64 → wanted_by n ≡ None
-turned_read n items page at full = rw (page, at, full) (go (length items) refl n.«open» (record { table = n.table; low = n.low; high = n.high }))
+turned_read n items page at full = rw (page, at, full) (go (is_spent n.room) (length items) n.«open» (record { table = n.table; low = n.low; high = n.high }))
   where
-    go : (k : ℕ) → k ≡ k → (o : Bool) (p : PageWanted) → (if nat_lt 0 k || (not (nat_eq k 64) || not o) then None else Some p) ≡ None
-    go zero e o p = refl
-    go (suc k) e o p = let more : nat_lt 0 (suc k) ≡ true = grind arith in rw more refl
+    go : (spent : Bool) (k : ℕ) (o : Bool) (p : PageWanted) → (if spent || (nat_lt 0 k || (not (nat_eq k 64) || not o)) then None else Some p) ≡ None
+    go true k o p = refl
+    go false zero o p = refl
+    go false (suc k) o p = let more : nat_lt 0 (suc k) ≡ true = grind arith in rw more refl
 
 -- a scan of which no page is wanted stays as it is
 pub stays : (honest : Bool) (entries : List SqlRow) (s : KeyScan) → wanted_by s ≡ None → Turns honest entries s s
-stays honest entries s e = record { shows = refl; keys = (refl, refl, refl); rows = λ h. refl; read = e }
+stays honest entries s e = record { shows = refl; room = refl; keys = (refl, refl, refl); rows = λ h. refl; read = e }
 
 pub some_if : {X : Type 0} (o : Option X) (P : X → Type 0) (x : X) → o ≡ Some x → P x → IfSome o P
 some_if o P x e p = rw e p

@@ -1,5 +1,5 @@
 -- What a SQLite source shows: its bound tables, its scans, and the rows that stand in its database.
-use Rattle.std.specs.Prelude.{◌≡◌, ◌≢◌, ℕ, ℤ, pos, ◌+ℤ◌, ◌-ℤ◌, ◌-◌, Bool, true, false, not, ◌&&◌, List, [], ◌∷◌, ◌++◌, map, drop, Option, Some, None, option_map, slice_index_or, nat_lt, int_le, FitsSigned, if◌then◌else◌}
+use Rattle.std.specs.Prelude.{◌≡◌, ◌≢◌, ℕ, ℤ, pos, ◌+ℤ◌, ◌-ℤ◌, ◌-◌, Bool, true, false, not, ◌&&◌, List, [], ◌∷◌, ◌++◌, map, drop, Option, Some, None, option_map, slice_index_or, nat_eq, nat_lt, int_le, FitsSigned, if◌then◌else◌}
 use Rattle.std.specs.Ordering.{nat_cmp}
 use Rattle.std.specs.FinMap as finmap
 use Rattle.std.specs.BTreeMap as tree
@@ -13,9 +13,11 @@ use Rattle.sqlite_cells.specs.Tables.{entries_of, rows_of, entry_of, behind}
 use Rattle.key_ranges.specs.Ranges.{has_key, only_key_tests, plain_is_allowed}
 use Rattle.key_ranges.specs.declared.ranges.KeyRange.{KeyRange}
 use Rattle.med_value.specs.Datum.{Whole, Tuple, datum}
-use Rattle.fdw_api.specs.Scan.{Spec, spec_of, TableRow, GivenRow, given_row, meets_exact}
+use Rattle.fdw_api.specs.Scan.{KeyForm, Spec, first_of, spec_of, TableRow, GivenRow, given_row, meets_exact}
 use Rattle.fdw_api.specs.Kinds.{Entry, Holding, Known}
 use Rattle.fdw_api.specs.State.{BoxTable, Scan, Ledger, Content, BoxState}
+use Rattle.fdw_api.specs.Wishes.{key_form}
+use Rattle.fdw_api.specs.declared.wishes.OrderKey.{OrderKey}
 use Rattle.sqlite_wrapper.specs.declared.scans.KeyScan.{KeyScan}
 use Rattle.staged_changes.specs.declared.changes.StagedWrite.{StagedWrite}
 use Rattle.sqlite_cells.specs.Layouts.{Layout, kinds_in, layout_at, layout_count, place_of}
@@ -28,9 +30,15 @@ abbrev pub entry_at : Database → Option ℕ → Option Entry
 entry_at db None = None
 entry_at db (Some t) = entry_of db (layout_at t)
 
--- a scan of a bound table takes over tests of the key alone, and gives whole rows
+-- the order that is empty, or the key ascending: rows come so anyway, and no key is NULL
+abbrev pub is_by_key : List KeyForm → Bool
+is_by_key [] = true
+is_by_key (k ∷ []) = nat_eq k.column 0 && not k.descending
+is_by_key (k ∷ l ∷ ks) = false
+
+-- a scan of a bound table takes over tests of the key alone, gives whole rows, and promises no other order than that of the key
 abbrev pub allows : Spec → Bool
-allows spec = not spec.narrow && only_key_tests spec.offered spec.answers
+allows spec = not spec.narrow && (is_by_key spec.order && only_key_tests spec.offered spec.answers)
 
 -- such a scan of a table of one of the layouts
 abbrev pub is_allowed : Scan → Bool
@@ -60,11 +68,18 @@ lowest s = if s.open then s.low else s.high +ℤ pos 1
 abbrev pub from_to : ℤ → ℤ → ℕ
 from_to low high = up (high +ℤ pos 1 -ℤ low) - down (high +ℤ pos 1 -ℤ low)
 
+-- a scan with what is promised of its rows
+abbrev pub promised : Spec → List OrderKey → Option ℕ → Spec
+promised spec order limit = record spec { order = map key_form order; limit = limit }
+
+abbrev pub asked_of : KeyScan → Spec
+asked_of s = promised (spec_of s.spec) s.order.items s.limit
+
 abbrev pub scan_is : KeyScan → Scan
 scan_is s = record {
   table = s.table;
   kinds = kinds_in (layout_at s.table);
-  spec = spec_of s.spec;
+  spec = asked_of s;
   params = map datum s.params.items;
   left = from_to (lowest s) s.high;
   broken = s.broken;
@@ -83,7 +98,8 @@ given_of spec l r = given_row spec (row_in l r)
 
 abbrev pub scan_rows : Database → Option KeyScan → List GivenRow
 scan_rows db None = []
-scan_rows db (Some s) = map (given_of (spec_of s.spec) (layout_at s.table)) (to_come (entries_of db (layout_at s.table)) s)
+-- no more than there is room for, where a limit is promised
+scan_rows db (Some s) = first_of s.room (map (given_of (asked_of s) (layout_at s.table)) (to_come (entries_of db (layout_at s.table)) s))
 
 abbrev pub mapped : {X Y : Type 0} → (X → Y) → List (ℕ × X) → finmap.FinMap nat_cmp Y
 mapped f es = finmap.from_entries (map (λ e. (e.0, f e.1)) es)
@@ -120,7 +136,7 @@ sqlite_content db scans = record {
 -- a refused call uses no ticket number up
 abbrev pub sqlite_state : Bool → Database → List Bool → BTreeMap ℕ KeyScan → Option StagedWrite → ℕ → ℕ → ℕ → BoxState
 sqlite_state honest db bound scans staged next pulled faults = record {
-  nature = record { kind = sqlite_kind; honest = honest; skips = false; promises = false };
+  nature = record { kind = sqlite_kind; honest = honest; skips = false; promises = true };
   ledger = sqlite_ledger bound scans staged next pulled faults;
   content = sqlite_content db scans;
 }
@@ -128,7 +144,8 @@ sqlite_state honest db bound scans staged next pulled faults = record {
 -- a scan that has just begun over a range of keys
 pub record IsNewScan (s : KeyScan) (t : ℕ) (spec : Spec) (params : Tuple) (r : KeyRange) : Type 0 where
   pub table : s.table ≡ t
-  pub spec_is : spec_of s.spec ≡ spec
+  pub spec_is : asked_of s ≡ spec
+  pub room : s.room ≡ s.limit
   pub params_are : map datum s.params.items ≡ params
   pub low : s.low ≡ r.low
   pub high : s.high ≡ r.high

@@ -2,6 +2,7 @@
 #![tactic(auto)]
 
 mod counts;
+mod promises;
 mod rows;
 mod scans;
 pub mod wrapper;

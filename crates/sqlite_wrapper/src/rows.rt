@@ -10,7 +10,7 @@ ghost use Rattle.sqlite_cells.specs.Tables.{IsKnown, entries_of};
 ghost use Rattle.sqlite_wrapper.specs.Boxes.{Sets};
 ghost use Rattle.sqlite_wrapper.specs.Pages.{IsNext, Turns, may_be_next};
 
-use crate::scans::{KeyScan, page_wanted, turn_page};
+use crate::scans::{KeyScan, is_spent, page_wanted, turn_page};
 use fdw_api::interface::{Fault, RowId, SourceRow};
 use fdw_api::law::rows_are_typed;
 use sqlite::Connection;
@@ -53,6 +53,9 @@ fn given_next(alloc: Global, scan: &KeyScan) -> Result<Option<GivenNext>, Fault>
     ensures source { IfErr result (λ f. f ≡ Fault.Source → (r : _) → slice_get scan.now.page.items scan.now.at ≡ Some r
         → may_be_next scan.now r ≡ false) }
 {
+    if is_spent(scan.room) {
+        return Ok(None);
+    }
     if scan.page.len() <= scan.at {
         return Ok(None);
     }

@@ -1,14 +1,15 @@
 //! Live scans of remote tables: ranges of keys, read page by page.
-ghost use Rattle.std.specs.Prelude.{◌≡◌, ◌<◌, ◌≤ℤ◌, ◌&&◌, true, Some, map, length, nat_eq, int_le, IfOk, IfSome, IsSome};
+ghost use Rattle.std.specs.Prelude.{◌≡◌, ◌-◌, ◌<◌, ◌≤ℤ◌, ◌&&◌, true, Some, map, option_map, length, nat_eq, int_le, IfOk, IfSome, IsSome};
 ghost use Rattle.std.specs.Ordering.{nat_cmp};
 ghost use Rattle.std.specs.BTreeMap as tree;
 ghost use Rattle.med_value.specs.Datum.{datum};
 ghost use Rattle.fdw_api.specs.Scan.{spec_of};
 ghost use Rattle.key_ranges.specs.Ranges.{only_keys};
-ghost use Rattle.sqlite_wrapper.specs.Boxes.{IsBegun};
-ghost use Rattle.sqlite_wrapper.specs.Pages.{wanted_by, passed};
+ghost use Rattle.sqlite_wrapper.specs.Boxes.{IsBegun, asked_of, promised};
+ghost use Rattle.sqlite_wrapper.specs.Pages.{is_spent, wanted_by, passed};
 
 use fdw_api::scan::{ScanSpec, copy_values};
+use fdw_api::wishes::OrderKey;
 use key_ranges::{KeyRange, range_of};
 use med_value::{NoMemory, Value};
 use sqlite::Row;
@@ -21,6 +22,11 @@ pub(crate) struct KeyScan {
     pub(crate) table: u64,
     pub(crate) spec: ScanSpec,
     pub(crate) params: Vec<Value>,
+    /// What of a wish is promised: the order of the rows, none where it is empty, and how many come at most.
+    pub(crate) order: Vec<OrderKey>,
+    pub(crate) limit: Option<u64>,
+    /// How many rows may come yet, where a limit is promised.
+    pub(crate) room: Option<u64>,
     /// The keys from `low` to `high` may come yet, if it is open.
     pub(crate) low: i64,
     pub(crate) high: i64,
@@ -45,6 +51,26 @@ pub(crate) fn spoil(scans: &mut BTreeMap<u64, KeyScan>, number: u64)
     }
 }
 
+/// Whether no row may come any more, as all came that a limit lets come.
+pub(crate) fn is_spent(room: Option<u64>) -> bool
+    ensures { result ≡ is_spent room }
+{
+    match room {
+        None => false,
+        Some(left) => left == 0,
+    }
+}
+
+/// How many rows may come behind a row that came.
+fn room_behind(room: Option<u64>) -> Option<u64>
+    ensures { result ≡ option_map (λ n. n - 1) room }
+{
+    match room {
+        None => None,
+        Some(left) => Some(left.saturating_sub(1)),
+    }
+}
+
 fn has_keys(range: &KeyRange) -> bool
     ensures { result ≡ (range.now.open && int_le range.now.low range.now.high) }
 {
@@ -52,9 +78,16 @@ fn has_keys(range: &KeyRange) -> bool
 }
 
 /// A scan that has just begun.
-pub(crate) fn new_scan(alloc: Global, table: u64, spec: ScanSpec, params: Vec<Value>) -> KeyScan
+pub(crate) fn new_scan(
+    alloc: Global,
+    table: u64,
+    spec: ScanSpec,
+    order: Vec<OrderKey>,
+    limit: Option<u64>,
+    params: Vec<Value>,
+) -> KeyScan
     requires { only_keys (map datum params.items) (spec_of spec).offered (spec_of spec).answers ≡ true }
-    ensures { IsBegun result table (spec_of spec) (map datum params.items) }
+    ensures { IsBegun result table (promised (spec_of spec) order.items limit) (map datum params.items) }
 {
     let range = range_of(&spec.offered, &spec.agreement.answers, &params);
     let open = has_keys(&range);
@@ -62,6 +95,9 @@ pub(crate) fn new_scan(alloc: Global, table: u64, spec: ScanSpec, params: Vec<Va
         table,
         spec,
         params,
+        order,
+        limit,
+        room: limit,
         low: range.low,
         high: range.high,
         open,
@@ -83,14 +119,15 @@ pub(crate) fn begun_again(
     requires keys { IfSome (tree.get nat_cmp scans.now number)
         (λ s. only_keys (map datum params.now) (spec_of s.spec).offered (spec_of s.spec).answers ≡ true) }
     ensures { IfOk result (λ n. IfSome (tree.get nat_cmp scans.now number)
-        (λ s. IsBegun n s.table (spec_of s.spec) (map datum params.now))) }
+        (λ s. IsBegun n s.table (asked_of s) (map datum params.now))) }
 {
     match scans.get(&number) {
         None => unreachable!(),
         Some(scan) => {
             let spec = scan.spec.copy(alloc)?;
             let params = copy_values(alloc, params)?;
-            Ok(new_scan(alloc, scan.table, spec, params))
+            let order = scan.order.clone()?;
+            Ok(new_scan(alloc, scan.table, spec, order, scan.limit, params))
         }
     }
 }
@@ -122,7 +159,7 @@ pub(crate) fn page_wanted(scans: &BTreeMap<u64, KeyScan>, number: u64) -> Option
     match scans.get(&number) {
         None => unreachable!(),
         Some(scan) => {
-            if scan.at < scan.page.len() || !scan.full || !scan.open {
+            if is_spent(scan.room) || scan.at < scan.page.len() || !scan.full || !scan.open {
                 return None;
             }
             Some(PageWanted {
@@ -163,6 +200,7 @@ pub(crate) fn pass_row(scans: &mut BTreeMap<u64, KeyScan>, number: u64, key: i64
     match scans.get_mut(&number) {
         Some(scan) => {
             scan.at += 1;
+            scan.room = room_behind(scan.room);
             if key < scan.high {
                 scan.low = key + 1;
             } else {

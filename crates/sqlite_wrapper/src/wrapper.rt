@@ -1,25 +1,27 @@
 //! A SQLite database as a source of foreign tables.
-ghost use Rattle.std.specs.Prelude.{◌≡◌, ◌≤◌, ℕ, true, false, length, map, None, Some, IsTrue, IsSome, IfOk, IfErr, option_map};
+ghost use Rattle.std.specs.Prelude.{◌≡◌, ◌≤◌, ◌&&◌, ℕ, true, false, length, map, None, Some, IsTrue, IsSome, IfOk, IfErr, is_some, option_map};
 ghost use Rattle.std.specs.Ordering.{nat_cmp};
 ghost use Rattle.std.specs.BTreeMap as tree;
 ghost use Rattle.sqlite.specs.Held.{state};
-ghost use Rattle.fdw_api.specs.Scan.{restriction_form, spec_of};
+ghost use Rattle.med_value.specs.Datum.{datum};
+ghost use Rattle.fdw_api.specs.Scan.{params_fit, restriction_form, spec_of};
 ghost use Rattle.key_ranges.specs.Ranges.{answer_of};
 ghost use Rattle.sqlite_wrapper.specs.declared.scans.KeyScan.{KeyScan};
-ghost use Rattle.sqlite_cells.specs.Layouts.{layout_count};
+ghost use Rattle.sqlite_cells.specs.Layouts.{kinds_in, layout_at, layout_count};
 ghost use Rattle.staged_changes.specs.Staged.{write_is};
 ghost use Rattle.sqlite_wrapper.specs.Changes.{NamesOnce, named_is_prop, names_rows, write_fits};
 ghost use Rattle.sqlite_writes.specs.Writable.{AreApart, IsWritable};
 ghost use Rattle.sqlite_wrapper.specs.Counts.{AreCounts, AreFew};
-ghost use Rattle.sqlite_wrapper.specs.Boxes.{is_allowed, scan_is, sqlite_state};
+ghost use Rattle.sqlite_wrapper.specs.Boxes.{allows, is_allowed, is_by_key, promised, scan_is, sqlite_state};
 
 use crate::counts::{count_of, forget_count, put_count};
+use crate::promises::{all_exact, is_by_key, promised_limit, promised_order};
 use crate::rows::{GivenNext, faults_after, next_of, read_page};
 use crate::scans::{KeyScan, begun_again, new_scan, pass_row, put_scan, spoil};
 use crate::writing::write_rows;
 use fdw_api::interface::{Counts, Fault, RowId, SourceRow, TableOption, Ticket, Wrapper};
 use fdw_api::scan::{Agreement, Restriction, ScanSpec, copy_values};
-use fdw_api::wishes::{Agreement2, ScanSpec2, Wish, Wrapper2};
+use fdw_api::wishes::{Agreement2, OrderKey, ScanSpec2, Wish, Wrapper2};
 use key_ranges::answers_for;
 use med_value::{Cause, ColumnDef, NoMemory, Row, TableNo, Value};
 use sqlite::Connection;
@@ -27,6 +29,7 @@ use sqlite_cells::{layout_count, place_of};
 use sqlite_changes::law::first_changes_name_once;
 use sqlite_shapes::SourceStore;
 use sqlite_surveys::open_table;
+use sqlite_writes::entries_rise;
 use staged_changes::{RowChange, StagedWrite, add_change};
 use std::alloc::Global;
 use std::collections::BTreeMap;
@@ -35,7 +38,8 @@ use std::collections::BTreeMap;
 ///
 /// Its kind is `sqlite_kind`. Its remote tables are those of the layouts, by their numbers: orders is table 0, and people table 1. The id
 /// of a row is the 64 bits of its key. A scan takes over tests of the key alone, gives whole rows in the order of their keys, and reads
-/// them by pages of 64. It is honest where its store always returns what was written.
+/// them by pages of 64. It promises the order that is empty, or that of the key, ascending, and a limit wherever one may be promised: once
+/// so many rows came it reads no page. It is honest where its store always returns what was written.
 #[derive(Drop)]
 pub struct SqliteWrapper<S: SourceStore + Drop> {
     conn: Connection<S>,
@@ -61,6 +65,8 @@ pub struct SqliteWrapper<S: SourceStore + Drop> {
 }
 
 impl<S: SourceStore + Drop> SqliteWrapper<S> {
+    ghost use Rattle.fdw_api.specs.State.{table_of};
+    ghost use Rattle.fdw_api.specs.Calls.{Begins, RefusesBegin};
     ghost use Rattle.sqlite_wrapper.specs.SqliteBoxes.{IsNewSqlite};
 
     /// A source of this database, on which nothing is bound yet. It is as honest as its store.
@@ -88,6 +94,43 @@ impl<S: SourceStore + Drop> SqliteWrapper<S> {
             pulled: 0,
             faults: 0,
         })
+    }
+
+    // Begins a scan of which this order and this limit are promised.
+    fn start(
+        &mut self,
+        alloc: Global,
+        t: TableNo,
+        spec: &ScanSpec,
+        order: Vec<OrderKey>,
+        limit: Option<u64>,
+        params: &[Value],
+    ) -> Result<Ticket, Fault>
+        requires bound { IsSome (table_of (sqlite_state S.honest (state S.Store self.old.conn).now
+            self.old.bound.items self.old.scans self.old.staged self.old.next self.old.pulled self.old.faults) t.number) }
+        requires allowed { allows (promised (spec_of spec.now) order.items limit) ≡ true }
+        requires typed { params_fit (kinds_in (layout_at t.number)) (spec_of spec.now).offered (map datum params.now) ≡ true }
+        ensures ok { IfOk result (λ ticket. Begins (sqlite_state S.honest (state S.Store self.old.conn).now
+            self.old.bound.items self.old.scans self.old.staged self.old.next self.old.pulled self.old.faults) t.number
+            (promised (spec_of spec.now) order.items limit) (map datum params.now) ticket.number
+            (sqlite_state S.honest (state S.Store self.new.conn).now
+            self.new.bound.items self.new.scans self.new.staged self.new.next self.new.pulled self.new.faults)) }
+        ensures err { IfErr result (λ fault. RefusesBegin fault (sqlite_state S.honest (state S.Store self.old.conn).now
+            self.old.bound.items self.old.scans self.old.staged self.old.next self.old.pulled self.old.faults)
+            (sqlite_state S.honest (state S.Store self.new.conn).now
+            self.new.bound.items self.new.scans self.new.staged self.new.next self.new.pulled self.new.faults)) }
+    {
+        if self.next == u64::MAX {
+            return Err(Fault::Refused(Cause::LimitExceeded));
+        }
+        let spec = spec.copy(alloc)?;
+        let params = copy_values(alloc, params)?;
+        entries_rise(&self.conn, t.number);
+        let scan = new_scan(alloc, t.number, spec, order, limit, params);
+        let number = self.next;
+        self.scans.insert(number, scan)?;
+        self.next += 1;
+        Ok(Ticket { number })
     }
 }
 
@@ -156,16 +199,7 @@ impl<S: SourceStore + Drop> Wrapper for SqliteWrapper<S> {
         spec: &ScanSpec,
         params: &[Value],
     ) -> Result<Ticket, Fault> {
-        if self.next == u64::MAX {
-            return Err(Fault::Refused(Cause::LimitExceeded));
-        }
-        let spec = spec.copy(alloc)?;
-        let params = copy_values(alloc, params)?;
-        let scan = new_scan(alloc, t.number, spec, params);
-        let number = self.next;
-        self.scans.insert(number, scan)?;
-        self.next += 1;
-        Ok(Ticket { number })
+        self.start(alloc, t, spec, Vec::new(alloc), None, params)
     }
 
     fn iterate(&mut self, alloc: Global, ticket: &Ticket) -> Result<Option<SourceRow>, Fault> {
@@ -198,6 +232,7 @@ impl<S: SourceStore + Drop> Wrapper for SqliteWrapper<S> {
                 Err(Fault::NoMemory)
             }
             Ok(scan) => {
+                entries_rise(&self.conn, scan.table);
                 put_scan(&mut self.scans, ticket.number, scan);
                 Ok(())
             }
@@ -267,20 +302,38 @@ impl<S: SourceStore + Drop> Wrapper for SqliteWrapper<S> {
 }
 
 impl<S: SourceStore + Drop> Wrapper2 for SqliteWrapper<S> {
-    /// Promises no order and no limit.
+    ghost use Rattle.fdw_api.specs.State.{table_of};
+    ghost use Rattle.fdw_api.specs.Wishes.{all_exact, key_form, wish_form, spec2_by, is_fair, AllowsPromise};
+
+    /// Answers as `plan` does, and promises the order that is empty or that of the key, and a limit wherever one may be promised.
     fn plan2(
         &self,
         alloc: Global,
         t: TableNo,
         wanted: &[usize],
         offered: &[Restriction],
-        _wish: &Wish,
-    ) -> Result<Agreement2, Fault> {
+        wish: &Wish,
+    ) -> Result<Agreement2, Fault>
+        requires { IsSome (table_of (sqlite_state S.honest (state S.Store self.now.conn).now
+            self.now.bound.items self.now.scans self.now.staged self.now.next self.now.pulled self.now.faults) t.number) }
+        ensures ok { IfOk result (λ a. AllowsPromise (sqlite_state S.honest (state S.Store self.now.conn).now
+            self.now.bound.items self.now.scans self.now.staged self.now.next self.now.pulled self.now.faults) t.number
+            (spec2_by wanted.now (map restriction_form offered.now) wish.now a)) }
+        ensures each { IfOk result (λ a. length a.base.answers.items ≡ length offered.now) }
+        ensures fair { IfOk result (λ a. is_fair (wish_form wish.now) a.base.answers.items a.ordered a.limited ≡ true) }
+        ensures err { IfErr result (λ fault. fault ≡ Fault.NoMemory) }
+        ensures takes { IfOk result (λ a. a.base.answers.items ≡ map answer_of (map restriction_form offered.now)) }
+        ensures narrow { IfOk result (λ a. a.base.narrow ≡ false) }
+        ensures ordered { IfOk result (λ a. a.ordered ≡ is_by_key (map key_form wish.now.order.items)) }
+        ensures limited { IfOk result (λ a. a.limited ≡ (is_some wish.now.limit && (all_exact a.base.answers.items && a.ordered))) }
+    {
         let base = self.plan(alloc, t, wanted, offered)?;
+        let ordered = is_by_key(&wish.order);
+        let limited = wish.limit.is_some() && all_exact(&base.answers) && ordered;
         Ok(Agreement2 {
             base,
-            ordered: false,
-            limited: false,
+            ordered,
+            limited,
         })
     }
 
@@ -291,6 +344,8 @@ impl<S: SourceStore + Drop> Wrapper2 for SqliteWrapper<S> {
         spec: &ScanSpec2,
         params: &[Value],
     ) -> Result<Ticket, Fault> {
-        self.begin(alloc, t, &spec.base, params)
+        let order = promised_order(alloc, spec)?;
+        let limit = promised_limit(spec);
+        self.start(alloc, t, &spec.base, order, limit, params)
     }
 }

@@ -34,6 +34,7 @@ returns-in-Ok-clause-turned g c =
       sets c.args.scans.now c.turn_page.new.scans c.args.number (Some n) (if_some _ _ w.0 w.1 c.turn_page.ensures),
       record {
         shows = refl;
+        room = refl;
         keys = (refl, refl, refl);
         rows = λ h.
             turned_rows (state g.S.Store c.args.conn.now).now c.in-Some.wanted.table c.in-Some.wanted.low c.in-Some.wanted.high w.0 n c.in-Ok.page.items

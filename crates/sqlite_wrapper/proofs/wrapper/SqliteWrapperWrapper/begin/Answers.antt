@@ -1,64 +1,26 @@
-use Rattle.std.proofs.Common.{Some, ◌≡◌, ◌&&◌, ℕ, true, false, nat_lt, refl, map, sym, subst, slice_index_or, arith}
-use Rattle.med_value.specs.Datum.{Tuple, datum}
-use Rattle.fdw_api.specs.Scan.{Spec, spec_of}
-use Rattle.key_ranges.specs.Ranges.{only_keys}
-use Rattle.sqlite.specs.Held.{state}
-use Rattle.sqlite_cells.specs.Layouts.{layout_count}
-use Rattle.sqlite_wrapper.proofs.Bound.{bound_within}
-use Rattle.sqlite_wrapper.proofs.Kept.{within_count, some_there}
-use Rattle.sqlite_wrapper.specs.Boxes.{IsBegun, allows, is_allowed, scan_is}
-use Rattle.sqlite_wrapper.specs.declared.scans.KeyScan.{KeyScan}
-use Rattle.sqlite_wrapper.proofs.Maps.{sets}
-use Rattle.sqlite_wrapper.proofs.LiveScans.{asks, begun_fresh, bound_allows, keeps_allowed, some_inj, refused_by, sqlite_begins, sqlite_refuses}
+use Rattle.std.proofs.Common.{◌≡◌, List, false, map, map, true, None, sym, subst, slice_index_or}
+use Rattle.med_value.specs.Datum.{datum}
+use Rattle.med_value.specs.declared.value.ColType.{ColType}
+use Rattle.fdw_api.specs.Scan.{params_fit, spec_of}
+use Rattle.fdw_api.specs.declared.wishes.OrderKey.{OrderKey}
+use Rattle.sqlite_wrapper.specs.Boxes.{allows, promised}
+use Rattle.sqlite_wrapper.proofs.Kept.{some_there}
+use Rattle.sqlite_wrapper.proofs.LiveScans.{bound_allows, bound_kinds}
 use Rattle.sqlite_wrapper.proofs.wrapper.SqliteWrapperWrapper.begin.Goals as goal
 
-pub new_scan-scan-requires : goal.new_scan-scan-requires
-new_scan-scan-requires g c =
-    let s = c.args.self.now in
-    let spec = spec_of c.args.spec.now in
-    let a = asks (slice_index_or s.bound.items c.args.t.number false) c.args.t.number c.requires.bound spec (map datum c.args.params.now) c.requires.is c.requires.allowed c.requires.typed in
-    let b = subst (λ (p : Tuple). only_keys p spec.offered spec.answers ≡ true) (sym c.in_ok-params.ensures) a in
-    subst (λ (z : Spec). only_keys (map datum c.in_ok-params.params.items) z.offered z.answers ≡ true) (sym c.in_ok-spec.ensures) b
+pub start-requires-clause-bound : goal.start-requires-clause-bound
+start-requires-clause-bound g c = some_there _ _ c.requires.is
 
-pub returns-clause-ok : goal.returns-clause-ok
-returns-clause-ok g c =
+pub start-requires-clause-allowed : goal.start-requires-clause-allowed
+start-requires-clause-allowed g c =
     let s = c.args.self.now in
     let t = c.args.t.number in
-    let scan = c.new_scan-scan.result in
-    let one = subst (λ (z : Spec). IsBegun scan t z (map datum c.in_ok-params.params.items)) c.in_ok-spec.ensures c.new_scan-scan.ensures in
-    let begun = subst (λ (p : Tuple). IsBegun scan t (spec_of c.args.spec.now) p) c.in_ok-params.ensures one in
-    sqlite_begins g.S.SourceStore.honest s.bound.items s.staged (state g.S.Store s.conn).now scan t (spec_of c.args.spec.now) (map datum c.args.params.now) begun
-    s.scans c.insert.new.self s.next s.pulled s.faults c.requires.bound (within_count t s.bound.items s.counted (bound_within s.bound.items t (some_there _ _ c.requires.is))) c.requires.is (s.fresh s.next (omega arith)) (omega arith) (sets s.scans c.insert.new.self s.next (Some scan) c.in_ok-insert.ensures.updates)
+    subst (λ (ks : List OrderKey). allows (promised (spec_of c.args.spec.now) ks None) ≡ true) (sym c.new.ensures.items)
+    (bound_allows (slice_index_or s.bound.items t false) t c.requires.bound (spec_of c.args.spec.now) c.requires.is c.requires.allowed)
 
-pub returns-in_err-insert-clause-err : goal.returns-in_err-insert-clause-err
-returns-in_err-insert-clause-err g c =
-    let s = c.args.self.now in
-    refused_by c.from_residual-in_err-insert.result _ c.from_residual-in_err-insert.ensures.1
-    (sqlite_refuses g.S.SourceStore.honest s.bound.items s.staged (state g.S.Store s.conn).now s.scans c.insert.new.self s.next s.pulled s.faults c.in_err-insert.ensures.err)
-
-pub invariant_of-self-2 : goal.invariant_of-self-2
-invariant_of-self-2 g c =
+pub start-requires-clause-typed : goal.start-requires-clause-typed
+start-requires-clause-typed g c =
     let s = c.args.self.now in
     let t = c.args.t.number in
-    let scan = c.new_scan-scan.result in
-    let one = subst (λ (z : Spec). IsBegun scan t z (map datum c.in_ok-params.params.items)) c.in_ok-spec.ensures c.new_scan-scan.ensures in
-    let begun = subst (λ (p : Tuple). IsBegun scan t (spec_of c.args.spec.now) p) c.in_ok-params.ensures one in
-    let within = within_count t s.bound.items s.counted (bound_within s.bound.items t (some_there _ _ c.requires.is)) in
-    let may = bound_allows (slice_index_or s.bound.items t false) t c.requires.bound (spec_of c.args.spec.now) c.requires.is c.requires.allowed in
-    let ok : is_allowed (scan_is scan) ≡ true =
-    subst (λ (q : ℕ). (nat_lt q layout_count && allows (spec_of scan.spec)) ≡ true) (sym begun.new.table)
-    (subst (λ (z : Spec). (nat_lt t layout_count && allows z) ≡ true) (sym begun.new.spec_is) (rw (within, may) refl)) in
-    let u = sets s.scans c.insert.new.self s.next (Some scan) c.in_ok-insert.ensures.updates in
-    record {
-      counted = s.counted;
-      idle = s.idle;
-      writable = s.writable;
-      apart = s.apart;
-      named = s.named;
-      there = s.there;
-      typed_write = s.typed_write;
-      counts = s.counts;
-      few = s.few;
-      allowed = keeps_allowed s.scans c.insert.new.self s.next (Some scan) s.allowed (λ z e. subst (λ (y : KeyScan). is_allowed (scan_is y) ≡ true) (some_inj _ _ e) ok) u;
-      fresh = begun_fresh s.scans c.insert.new.self s.next (Some scan) s.fresh u;
-    }
+    subst (λ (k : List ColType). params_fit k (spec_of c.args.spec.now).offered (map datum c.args.params.now) ≡ true)
+    (bound_kinds (slice_index_or s.bound.items t false) t c.requires.bound c.requires.is) c.requires.typed

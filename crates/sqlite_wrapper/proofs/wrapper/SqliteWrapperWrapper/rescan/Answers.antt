@@ -1,10 +1,13 @@
 use Rattle.std.proofs.Common.{nat_lt, ℕ, ◌&&◌, Some, ◌≡◌, true, map, sym, subst, refl}
 use Rattle.med_value.specs.Datum.{datum}
-use Rattle.fdw_api.specs.Scan.{Spec, spec_of}
+use Rattle.fdw_api.specs.Scan.{Spec}
 use Rattle.sqlite.specs.Held.{state}
-use Rattle.sqlite_cells.specs.Layouts.{layout_count}
+use Rattle.sqlite.specs.View.{IsShaped}
+use Rattle.sqlite_trees.specs.declared.store.Shape.TheVariants as shape
+use Rattle.sqlite_cells.specs.Layouts.{layout_at, layout_count}
+use Rattle.sqlite_cells.specs.Tables.{entries_of}
 use Rattle.sqlite_wrapper.specs.declared.scans.KeyScan.{KeyScan}
-use Rattle.sqlite_wrapper.specs.Boxes.{allows, is_allowed, scan_is}
+use Rattle.sqlite_wrapper.specs.Boxes.{allows, asked_of, is_allowed, scan_is}
 use Rattle.sqlite_wrapper.proofs.Maps.{sets}
 use Rattle.sqlite_wrapper.proofs.LiveScans.{some_inj, both, at_some, if_some, open_there, keeps_fresh, keeps_allowed, rescan_asks, sqlite_rescans, sqlite_breaks}
 use Rattle.sqlite_wrapper.proofs.wrapper.SqliteWrapperWrapper.rescan.Goals as goal
@@ -26,6 +29,9 @@ spoil-requires g c =
     let s = c.args.self.now in
     open_there g.S.SourceStore.honest s.bound.items s.staged (state g.S.Store s.conn).now s.scans s.next s.pulled s.faults c.args.ticket.now.number _ c.requires.at
 
+pub entries_rise-requires : goal.entries_rise-requires
+entries_rise-requires g c = record { writable = c.args.self.now.writable c.in-Ok.scan.table }
+
 pub put_scan-requires : goal.put_scan-requires
 put_scan-requires g c =
     let s = c.args.self.now in
@@ -43,8 +49,12 @@ returns-in-Ok-clause-ok g c =
     let s = c.args.self.now in
     let is = open_there g.S.SourceStore.honest s.bound.items s.staged (state g.S.Store s.conn).now s.scans s.next s.pulled s.faults c.args.ticket.now.number _ c.requires.at in
     let w = at_some _ is in
-    sqlite_rescans g.S.SourceStore.honest s.bound.items s.staged (state g.S.Store s.conn).now c.in-Ok.scan w.0.table (spec_of w.0.spec) (map datum c.args.params.now) (if_some _ _ w.0 w.1 c.in-Ok.ensures)
-    s.scans c.put_scan.new.scans s.next s.pulled s.faults c.args.ticket.now.number w.0 w.1 (both (nat_lt w.0.table layout_count) (allows (spec_of w.0.spec)) (s.allowed c.args.ticket.now.number w.0 w.1)).0 refl refl (sets s.scans c.put_scan.new.scans c.args.ticket.now.number (Some c.in-Ok.scan) c.put_scan.ensures)
+    let begun = if_some _ _ w.0 w.1 c.in-Ok.ensures in
+    let may = both (nat_lt w.0.table layout_count) (allows (asked_of w.0)) (s.allowed c.args.ticket.now.number w.0 w.1) in
+    let db = (state g.S.Store s.conn).now in
+    sqlite_rescans g.S.SourceStore.honest s.bound.items s.staged db c.in-Ok.scan w.0.table (asked_of w.0) (map datum c.args.params.now) begun may.1
+    s.scans c.put_scan.new.scans s.next s.pulled s.faults c.args.ticket.now.number w.0 (λ h. subst (λ (t : ℕ). IsShaped shape.Table (entries_of db (layout_at t))) begun.new.table (c.entries_rise.ensures h))
+    w.1 may.0 refl refl (sets s.scans c.put_scan.new.scans c.args.ticket.now.number (Some c.in-Ok.scan) c.put_scan.ensures)
 
 pub invariant_of-self : goal.invariant_of-self
 invariant_of-self g c =
@@ -73,7 +83,7 @@ invariant_of-self-in-Ok g c =
     let w = at_some _ is in
     let begun = if_some _ _ w.0 w.1 c.in-Ok.ensures in
     let same : is_allowed (scan_is c.in-Ok.scan) ≡ true =
-    subst (λ (q : ℕ). (nat_lt q layout_count && allows (spec_of c.in-Ok.scan.spec)) ≡ true) (sym begun.new.table)
+    subst (λ (q : ℕ). (nat_lt q layout_count && allows (asked_of c.in-Ok.scan)) ≡ true) (sym begun.new.table)
     (subst (λ (z : Spec). (nat_lt w.0.table layout_count && allows z) ≡ true) (sym begun.new.spec_is) (s.allowed c.args.ticket.now.number w.0 w.1)) in
     record {
       counted = s.counted;

@@ -1,19 +1,43 @@
-use Rattle.std.proofs.Common.{refl}
-use Rattle.sqlite.specs.Held.{state}
+use Rattle.std.proofs.Common.{◌≡◌, List, true, false, map, sym, subst, slice_index_or}
+use Rattle.med_value.specs.Datum.{datum}
+use Rattle.med_value.specs.declared.value.ColType.{ColType}
+use Rattle.fdw_api.specs.Scan.{Spec, params_fit, spec_of}
+use Rattle.fdw_api.specs.Calls.{Begins}
+use Rattle.fdw_api.specs.Wishes.{spec2_of}
 use Rattle.fdw_api.proofs.LiftLemmas.{if_ok}
-use Rattle.fdw_api.proofs.Unpromised.{can_begin, begins}
-use Rattle.sqlite_wrapper.specs.Boxes.{sqlite_state}
+use Rattle.sqlite.specs.Held.{state}
+use Rattle.sqlite_wrapper.specs.Boxes.{allows, sqlite_state}
+use Rattle.sqlite_wrapper.proofs.Kept.{some_there}
+use Rattle.sqlite_wrapper.proofs.LiveScans.{bound_allows, bound_kinds, promised_is}
 use Rattle.sqlite_wrapper.proofs.wrapper.SqliteWrapperWrapper2.begin2.Goals as goal
 
-pub begin-requires : goal.begin-requires
-begin-requires g c =
+pub start-requires-clause-bound : goal.start-requires-clause-bound
+start-requires-clause-bound g c = some_there _ _ c.requires.is
+
+pub start-requires-clause-allowed : goal.start-requires-clause-allowed
+start-requires-clause-allowed g c =
     let s = c.args.self.now in
-    can_begin (sqlite_state g.S.SourceStore.honest (state g.S.Store s.conn).now s.bound.items s.scans s.staged s.next s.pulled s.faults) _ _ _ refl c.requires
+    let t = c.args.t.number in
+    let spec = c.args.spec.now in
+    subst (λ (z : Spec). allows z ≡ true) (sym (promised_is spec c.in_ok-order.order.items c.promised_limit-limit.result c.in_ok-order.ensures c.promised_limit-limit.ensures))
+    (bound_allows (slice_index_or s.bound.items t false) t c.requires.bound (spec2_of spec) c.requires.is c.requires.allowed)
+
+pub start-requires-clause-typed : goal.start-requires-clause-typed
+start-requires-clause-typed g c =
+    let s = c.args.self.now in
+    let t = c.args.t.number in
+    subst (λ (k : List ColType). params_fit k (spec_of c.args.spec.now.base).offered (map datum c.args.params.now) ≡ true)
+    (bound_kinds (slice_index_or s.bound.items t false) t c.requires.bound c.requires.is) c.requires.typed
 
 pub returns-clause-ok : goal.returns-clause-ok
 returns-clause-ok g c =
     let s = c.args.self.now in
-    let t = c.begin.new.self in
-    if_ok _ _ c.begin.result
-    (λ ticket b. begins (sqlite_state g.S.SourceStore.honest (state g.S.Store s.conn).now s.bound.items s.scans s.staged s.next s.pulled s.faults) (sqlite_state g.S.SourceStore.honest (state g.S.Store t.conn).now t.bound.items t.scans t.staged t.next t.pulled t.faults) _ _ _ _ refl c.requires b)
-    c.begin.ensures.ok
+    let n = c.start.new.self in
+    let spec = c.args.spec.now in
+    let honest = g.S.SourceStore.honest in
+    if_ok _ _ c.start.result
+    (λ ticket b. subst
+    (λ (z : Spec). Begins (sqlite_state honest (state g.S.Store s.conn).now s.bound.items s.scans s.staged s.next s.pulled s.faults) c.args.t.number z (map datum c.args.params.now) ticket.number
+    (sqlite_state honest (state g.S.Store n.conn).now n.bound.items n.scans n.staged n.next n.pulled n.faults))
+    (promised_is spec c.in_ok-order.order.items c.promised_limit-limit.result c.in_ok-order.ensures c.promised_limit-limit.ensures) b)
+    c.start.ensures.ok
