@@ -1,0 +1,5 @@
+mod Conjuncts
+mod Left
+mod Rounds
+mod Cores
+mod Answering
