@@ -1,5 +1,5 @@
-mod Conjuncts
 mod Left
 mod Rounds
+mod Closing
 mod Cores
 mod Answering

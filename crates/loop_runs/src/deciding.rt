@@ -1,5 +1,5 @@
 //! Which queries are shown row by row, and what a core without FROM joins.
-ghost use Rattle.std.specs.Prelude.{◌≡◌, ◌↔◌, ◌∷◌, [], IsTrue, IfOk, filter, map};
+ghost use Rattle.std.specs.Prelude.{◌≡◌, ◌↔◌, ◌∷◌, [], false, IsTrue, IfOk, filter, map};
 ghost use Rattle.med_value.specs.Datum.{tuple};
 ghost use Rattle.med_query.specs.Query.{keeps, senses};
 ghost use Rattle.tri_expr.specs.TreeParts.{is_risky};
