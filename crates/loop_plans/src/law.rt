@@ -2,6 +2,7 @@
 
 ghost use Rattle.loop_plans.specs.Places.{ColumnsDecide, ShiftedReadsBehind, TreesReadTheirColumns};
 ghost use Rattle.loop_plans.specs.Plans.{PlansAreLoopPlans, PlansAreSafe};
+ghost use Rattle.loop_plans.specs.Premises.{CountedIsInView, CountedIsWide, PlansArePlain, PlansAreTyped, PlansCanStart, WholeIsAllowed};
 
 use loop_answers::law::from_is_joined;
 use scan_offers::law::{marks_tell, offers_split};
@@ -26,3 +27,30 @@ pub fn plans_are_loop_plans()
     marks_tell();
     from_is_joined();
 }
+
+/// A core that counts its entries, and reads columns of those that are in view, has them in view of its plan.
+pub fn bound_cores_are_in_view()
+    ensures { CountedIsInView }
+{}
+
+/// Where each row of an entry's table has a cell for each of its columns, the rows of FROM's entries are as wide as these.
+pub fn bound_rows_are_wide()
+    ensures { CountedIsWide }
+{}
+
+/// Where a core compares columns of one type, and its entries' tables are bound, the scans of its levels are given parameters of their
+/// columns' types, whatever the boxes answered.
+pub fn bound_levels_are_typed()
+    ensures { PlansAreTyped }
+{}
+
+/// The levels of a core read whole rows of their tables' widths, and what they check may not fault, if no ON of the core may.
+pub fn bound_levels_are_plain()
+    ensures { PlansArePlain }
+{}
+
+/// Where each box allows what the scan of its level is asked for, as it does what it promised of whole rows, a run of the levels may start.
+pub fn bound_levels_can_start()
+    ensures whole { WholeIsAllowed }
+    ensures start { PlansCanStart }
+{}

@@ -3,3 +3,5 @@ pub mod Entries
 pub mod Looking
 pub mod Turns
 pub mod Within
+pub mod Counted
+pub mod Alike
