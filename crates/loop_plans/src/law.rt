@@ -1,8 +1,9 @@
-//! Laws of plans. A call does nothing: its contract is the law, proved for all expressions and rows.
+//! Laws of plans. A call does nothing: its contract is the law, proved for all expressions and rows. `specs/Premises.antt` says what a bound
+//! query owes its plans.
 
 ghost use Rattle.loop_plans.specs.Places.{ColumnsDecide, ShiftedReadsBehind, TreesReadTheirColumns};
 ghost use Rattle.loop_plans.specs.Plans.{PlansAreLoopPlans, PlansAreSafe};
-ghost use Rattle.loop_plans.specs.Premises.{CountedIsInView, CountedIsWide, PlansArePlain, PlansAreTyped, PlansCanStart, WholeIsAllowed};
+ghost use Rattle.loop_plans.specs.Premises.{CountedIsInView, CountedIsWide, PlansArePlain, PlansAreTyped, PlansCanStart, PromisedIsAllowed};
 
 use loop_answers::law::from_is_joined;
 use scan_offers::law::{marks_tell, offers_split};
@@ -49,8 +50,9 @@ pub fn bound_levels_are_plain()
     ensures { PlansArePlain }
 {}
 
-/// Where each box allows what the scan of its level is asked for, as it does what it promised of whole rows, a run of the levels may start.
+/// Where each box allows what the scan of its level is asked for, a run of the levels of a core may start. That is allowed which a box
+/// promised, no order and no limit being wished: unless it promised the wanted columns alone, and does not allow whole rows.
 pub fn bound_levels_can_start()
-    ensures whole { WholeIsAllowed }
     ensures start { PlansCanStart }
+    ensures promised { PromisedIsAllowed }
 {}

@@ -18,8 +18,8 @@ kinds_among = map (λ (c : Column). c.kind)
 abbrev pub kinds : Scope → List (List ColType)
 kinds = map (λ (e : TableShape). kinds_among e.columns)
 
-abbrev pub kinds_of : List TableShape → StatementTree → List (List ColType)
-kinds_of tables (select q) = kinds (from_scope tables q.from)
+abbrev pub from_kinds : List TableShape → StatementTree → List (List ColType)
+from_kinds tables (select q) = kinds (from_scope tables q.from)
 
 -- of those that all of these entries bring, one entry after another
 abbrev pub all_kinds : List (List ColType) → List ColType
