@@ -1,16 +1,14 @@
 -- The parameters of the scans of a bound core are of their columns' types.
-use Rattle.std.proofs.Common.{◌≡◌, ℕ, zero, suc, ◌+◌, ◌-◌, ◌<◌, ◌≤◌, Bool, true, false, not, ◌&&◌, nat_lt, nat_le, cond, List, [], ◌∷◌, ◌++◌, map, length, get_or, slice_index_or, take, drop, All, sum, flat_map, Option, Some, None, slice_get, refl, sym, ap, ◌∙◌, subst, arith, append_assoc, length-append, leb-true}
+use Rattle.std.proofs.Common.{◌≡◌, ℕ, zero, suc, ◌+◌, ◌-◌, ◌<◌, ◌≤◌, Bool, true, false, nat_lt, nat_le, cond, List, [], ◌∷◌, ◌++◌, length, get_or, Option, Some, None, slice_get, refl, sym, ap, ◌∙◌, arith, leb-true}
 use Rattle.std.proofs.lemmas.List.{length-map, get_or-map}
-use Rattle.std.proofs.lemmas.List.Elements.{All-head, All-tail}
-use Rattle.std.proofs.lemmas.Option.{slice_get-get_or, slice_get_within}
-use Rattle.med_value.specs.Datum.{Datum, NoValue, Tuple, cell}
+use Rattle.med_value.specs.Datum.{NoValue, Tuple, cell}
 use Rattle.med_value.specs.declared.value.ColType.{ColType}
 use Rattle.med_value.specs.declared.order.Comparison.{Comparison}
 use Rattle.med_value.specs.declared.operators.Status.TheVariants as statuses
 use Rattle.tri_expr.specs.Tree.{Tree, Trees, column, parameter, literal, compare, compute, negate, all_of, some_of, opposite, asks, between, within, matches, parenthesised, count_rows, aggregate, none, part}
 use Rattle.tri_expr.specs.TreeParts.{bare, bare_all}
 use Rattle.tri_expr.proofs.Forms.{two, three}
-use Rattle.fdw_api.specs.Scan.{RestrictionForm, Compares, Missing, Present, pick, has_kind, kind_is, test_fits, params_fit}
+use Rattle.fdw_api.specs.Scan.{pick, has_kind, kind_is, test_fits, params_fit}
 use Rattle.nested_loops.specs.Joins.{Each}
 use Rattle.scan_offers.specs.Tests.{TestOf, with_literal, with_earlier, asks_null, mirrored, in_entry, either, where_in, with_other, offered_test}
 use Rattle.scan_offers.specs.Offers.{form_by, place_by, next_by, tests_of, forms_from, places_of}
@@ -72,10 +70,11 @@ module _ (kinds own rest : List ColType) (base width : ℕ) (long : length kinds
       fits_if (in_entry base width a) (Some (with_earlier (a - base) op b)) (λ mine.
       let lo = low a mine in
       let hi = high a mine in
-      let lt = below b base earlier in
-      (alike.kind,
-       sym (at_front own rest (a - base) (omega (arith, lo, hi, wide))) ∙ sym (at_back kinds (own ++ rest) base a long lo) ∙ alike.left,
-       sym (at_front kinds (own ++ rest) b (omega (arith, lt, long))) ∙ alike.right)))
+      let lt = below b base earlier in (
+        alike.kind,
+        sym (at_front own rest (a - base) (omega (arith, lo, hi, wide))) ∙ sym (at_back kinds (own ++ rest) base a long lo) ∙ alike.left,
+        sym (at_front kinds (own ++ rest) b (omega (arith, lt, long))) ∙ alike.right,
+      )))
 
   swapped : (a b : ℕ) → AreAlike all_kinds a b → AreAlike all_kinds b a
   swapped a b alike = record { kind = alike.kind; left = alike.right; right = alike.left }

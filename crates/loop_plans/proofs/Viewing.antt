@@ -1,6 +1,6 @@
 -- The columns that a bound core reads are in view of its plan.
-use Rattle.std.proofs.Common.{◌≡◌, ℕ, suc, ◌+◌, ◌<◌, ◌≤◌, Bool, true, false, not, nat_lt, cond, List, [], ◌∷◌, ◌++◌, map, length, All, sum, refl, sym, ap, ◌∙◌, subst, arith, min}
-use Rattle.std.specs.List.{filter, list_all}
+use Rattle.std.proofs.Common.{◌≡◌, ℕ, suc, ◌+◌, ◌<◌, ◌≤◌, Bool, true, false, not, nat_lt, cond, List, [], ◌∷◌, ◌++◌, map, All, sum, refl, sym, ap, ◌∙◌, subst, arith, min}
+use Rattle.std.specs.List.{list_all}
 use Rattle.std.proofs.lemmas.List.{map-append}
 use Rattle.std.proofs.lemmas.List.Elements.{All-head, All-tail}
 use Rattle.tri_expr.specs.Tree.{Tree, Trees, column, parameter, literal, compare, compute, negate, all_of, some_of, opposite, asks, between, within, matches, parenthesised, count_rows, aggregate, none, part}
@@ -126,9 +126,10 @@ module _ (es : List BoundEntry) (places : HasPlaces es) where
   joins_view base first k at [] ps le b e counted h = tt
   joins_view base first k at (j ∷ js) ps le b e counted h =
       let p = join_part es base j in
-      let end : further p.width at ≡ up_to ws (suc k) = ap (further p.width) e ∙ entry_end ws places k p.width counted.2 counted.1 in
-      (one_view base first k (further p.width at) j le b end counted.0 (All-head (JoinWithin ws first) j js h),
-       joins_view base first (suc k) (further p.width at) js ps (omega (arith, le)) b end counted.3 (All-tail (JoinWithin ws first) j js h))
+      let end : further p.width at ≡ up_to ws (suc k) = ap (further p.width) e ∙ entry_end ws places k p.width counted.2 counted.1 in (
+        one_view base first k (further p.width at) j le b end counted.0 (All-head (JoinWithin ws first) j js h),
+        joins_view base first (suc k) (further p.width at) js ps (omega (arith, le)) b end counted.3 (All-tail (JoinWithin ws first) j js h),
+      )
 
   chains_view : (base k : ℕ) (cs : List ChainForm) → base ≡ up_to ws k → AreCounted ws k (from_parts es base cs) → All (ChainWithin ws) cs → FromInView es base cs
   chains_view base k [] b counted h = tt
@@ -136,9 +137,10 @@ module _ (es : List BoundEntry) (places : HasPlaces es) where
       let end = end_after base (chain_parts es base c) in
       let rest = skip ws places k (chain_parts es base c) (from_parts es end cs) counted in
       let at : further (width_of es c.first) base ≡ up_to ws (suc k) = ap (further (width_of es c.first)) b ∙ entry_end ws places k (width_of es c.first) counted.2 counted.1 in
-      let first : base ≡ up_to ws c.first = b ∙ ap (up_to ws) (sym counted.0) in
-      (joins_view base c.first (suc k) (further (width_of es c.first) base) c.joins (from_parts es end cs) (let n = counted.0 in omega (arith, n)) first at counted.3 (All-head (ChainWithin ws) c cs h),
-       chains_view end rest.0 cs (ap (λ (n : ℕ). end_after n (chain_parts es base c)) b ∙ rest.1) rest.2 (All-tail (ChainWithin ws) c cs h))
+      let first : base ≡ up_to ws c.first = b ∙ ap (up_to ws) (sym counted.0) in (
+        joins_view base c.first (suc k) (further (width_of es c.first) base) c.joins (from_parts es end cs) (let n = counted.0 in omega (arith, n)) first at counted.3 (All-head (ChainWithin ws) c cs h),
+        chains_view end rest.0 cs (ap (λ (n : ℕ). end_after n (chain_parts es base c)) b ∙ rest.1) rest.2 (All-tail (ChainWithin ws) c cs h),
+      )
 
 pub in_view : CountedIsInView
 in_view es f counts seen_by places some = record {

@@ -1,9 +1,8 @@
 -- The rows of the entries of a bound core are as wide as their entries.
-use Rattle.std.proofs.Common.{◌≡◌, ℕ, suc, ◌+◌, ◌<◌, List, [], ◌∷◌, ◌++◌, map, length, get_or, sym, ap, ◌∙◌, subst, arith}
+use Rattle.std.proofs.Common.{◌≡◌, ℕ, suc, ◌+◌, ◌<◌, List, [], ◌∷◌, ◌++◌, map, length, get_or, sym, subst, arith}
 use Rattle.std.proofs.lemmas.List.{length-map}
-use Rattle.med_value.specs.Datum.{Tuple}
 use Rattle.med_query.specs.Query.{Tables}
-use Rattle.med_query.specs.Form.{JoinForm, cross_form, inner_form, left_form, ChainForm, chain_form, core_form}
+use Rattle.med_query.specs.Form.{JoinForm, cross_form, inner_form, left_form, ChainForm, chain_form}
 use Rattle.med_binder.specs.declared.bound.BoundEntry.{BoundEntry}
 use Rattle.nested_loops.specs.Joins.{Each, Entry, AllWide}
 use Rattle.loop_answers.specs.Entries.{join_entry, chain_entries, total_width, from_entries}
@@ -40,9 +39,10 @@ module _ (es : List BoundEntry) (db : Tables) (rows : RowsAreWide es db) where
   chains_wide at base k (c ∷ cs) h =
       let end = end_after at (chain_parts es at c) in
       let next = base + total_width (chain_entries db (width_of es) base c) in
-      let rest = behind ws k (chain_parts es at c) (from_parts es end cs) h in
-      (filled c.first (width_of es c.first) k h.0 h.1 h.2,
-       each_both IsWide (map (join_entry db (width_of es) base) c.joins) (from_entries db (width_of es) next cs) (joins_wide at base (suc k) c.joins (from_parts es end cs) h.3) (chains_wide end next rest.0 cs rest.1))
+      let rest = behind ws k (chain_parts es at c) (from_parts es end cs) h in (
+        filled c.first (width_of es c.first) k h.0 h.1 h.2,
+        each_both IsWide (map (join_entry db (width_of es) base) c.joins) (from_entries db (width_of es) next cs) (joins_wide at base (suc k) c.joins (from_parts es end cs) h.3) (chains_wide end next rest.0 cs rest.1),
+      )
 
 pub wide : CountedIsWide
 wide s es rows counts are = chains_wide es (tables_by es rows) are 0 0 0 (map chain_form s.from.items) (from_counted es 0 (map chain_form s.from.items) counts.numbers counts.widths)
