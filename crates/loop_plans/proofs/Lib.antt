@@ -10,3 +10,4 @@ mod Widening
 mod Typing
 mod Matching
 mod Beginning
+mod Sounds

@@ -3,7 +3,8 @@
 
 ghost use Rattle.loop_plans.specs.Places.{ColumnsDecide, ShiftedReadsBehind, TreesReadTheirColumns};
 ghost use Rattle.loop_plans.specs.Plans.{PlansAreLoopPlans, PlansAreSafe};
-ghost use Rattle.loop_plans.specs.Premises.{CountedIsInView, CountedIsWide, PlansArePlain, PlansAreTyped, PlansCanStart, PromisedIsAllowed};
+ghost use Rattle.loop_plans.specs.Premises.{CountedIsInView, CountedIsWide, SoundIsWide, PlansAreTyped, PlansArePlain};
+ghost use Rattle.loop_plans.specs.Premises.{PlansCanStart, PromisedIsAllowed};
 
 use loop_answers::law::from_is_joined;
 use scan_offers::law::{marks_tell, offers_split};
@@ -34,9 +35,11 @@ pub fn bound_cores_are_in_view()
     ensures { CountedIsInView }
 {}
 
-/// Where each row of an entry's table has a cell for each of its columns, the rows of FROM's entries are as wide as these.
+/// Where each row of an entry's table has a cell for each of its columns, the rows of FROM's entries are as wide as these. So are the rows
+/// of honest boxes that have in their tables rows of their columns' types.
 pub fn bound_rows_are_wide()
-    ensures { CountedIsWide }
+    ensures counted { CountedIsWide }
+    ensures sound { SoundIsWide }
 {}
 
 /// Where a core compares columns of one type, and its entries' tables are bound, the scans of its levels are given parameters of their
