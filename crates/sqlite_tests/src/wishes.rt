@@ -1,6 +1,7 @@
 //! A scan of the orders of a SQLite database by version 2 of the interface, with a wish.
-ghost use Rattle.std.specs.Prelude.{IsSome, OnOk};
-ghost use Rattle.fdw_api.specs.State.{scan_of, table_of};
+ghost use Rattle.std.specs.Prelude.{◌≡◌, [], List, IsSome, OnOk};
+ghost use Rattle.fdw_api.specs.Kinds.{Column};
+ghost use Rattle.fdw_api.specs.State.{IsIdle, scan_of, table_of};
 ghost use Rattle.fdw_api.specs.Calls.{IsOpen};
 
 use crate::orders::{bind_orders, new_source, write_keys};
@@ -97,15 +98,24 @@ fn read_wished<W: Wrapper2>(
     taken
 }
 
-/// What a scan of the orders 10, 11 and 12 gives under a wish, and the counts behind it.
-fn told(alloc: Global, wish: Wish) -> Result<Vec<u8>, Fail> {
-    let mut source = new_source(alloc, None)?;
+/// What a scan of the orders 10, 11 and 12 gives on a new source under a wish, and what the source counts then.
+fn answered<W: Wrapper2>(source: W, alloc: Global, wish: Wish) -> Result<Vec<u8>, Fail>
+    requires idle { IsIdle (W.meaning source) }
+    requires free { (columns : List Column) → (W.meaning source).nature.kind.objections columns [] ≡ [] }
+{
+    let mut source = source;
     let table = bind_orders(&mut source, alloc)?;
     write_keys(&mut source, alloc, table, &[12, 10, 11])?;
     let mut out = Vec::new(alloc);
     read_wished(&mut source, alloc, table, wish, &mut out)?;
     write_counts(alloc, source.ledger(), &mut out)?;
     Ok(out)
+}
+
+/// What they give in a database.
+fn told(alloc: Global, wish: Wish) -> Result<Vec<u8>, Fail> {
+    let source = new_source(alloc, None)?;
+    answered(source, alloc, wish)
 }
 
 // The descending order of the keys is not promised, and so no limit is: all rows come, by their keys.

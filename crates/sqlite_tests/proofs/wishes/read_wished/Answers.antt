@@ -12,9 +12,9 @@ begin2-requires g c =
     let t = c.args.table.number in
     let a = c.in_ok-agreement.agreement in
     let w : c.deref.result.now ≡ c.in_ok-wanted.wanted.items = c.deref.ensures.value in
-    let o : c.deref-2.result.now ≡ c.in_ok-offered.offered.items = c.deref-2.ensures.value in
+    let o : c.deref-2.result.now ≡ c.new-offered.result.items = c.deref-2.ensures.value in
     wished_begins s t record { base = record { wanted = c.in_ok-wanted.wanted; offered = c.new-offered.result; agreement = a.base }; wish = c.args.wish; ordered = a.ordered; limited = a.limited }
-    (λ kinds. ap (λ (l : List Restriction). params_fit kinds (map restriction_form l) []) c.new-offered.ensures)
+    (λ kinds. ap (λ (l : List Restriction). params_fit kinds (map restriction_form l) []) c.new-offered.ensures.items)
     (subst (λ (x : List ℕ). AllowsPromise s t (spec2_by x (map restriction_form c.new-offered.result.items) c.args.wish a)) w (subst (λ (x : List Restriction). AllowsPromise s t (spec2_by c.deref.result.now (map restriction_form x) c.args.wish a)) o c.in_ok-agreement.ensures.ok))
     c.in_ok-agreement.ensures.fair
 
