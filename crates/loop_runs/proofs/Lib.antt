@@ -1,0 +1,5 @@
+mod Left
+mod Rounds
+mod Closing
+mod Cores
+mod Answering

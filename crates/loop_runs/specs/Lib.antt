@@ -1,0 +1,4 @@
+pub mod Causes
+pub mod Leaving
+pub mod Gathering
+pub mod Running
