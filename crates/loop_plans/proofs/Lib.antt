@@ -4,3 +4,10 @@ mod Pulling
 mod Planning
 mod Splits
 mod Safe
+mod Counting
+mod Viewing
+mod Widening
+mod Typing
+mod Matching
+mod Beginning
+mod Sounds

@@ -1,7 +1,10 @@
-//! Laws of plans. A call does nothing: its contract is the law, proved for all expressions and rows.
+//! Laws of plans. A call does nothing: its contract is the law, proved for all expressions and rows. `specs/Premises.antt` says what a bound
+//! query owes its plans.
 
 ghost use Rattle.loop_plans.specs.Places.{ColumnsDecide, ShiftedReadsBehind, TreesReadTheirColumns};
 ghost use Rattle.loop_plans.specs.Plans.{PlansAreLoopPlans, PlansAreSafe};
+ghost use Rattle.loop_plans.specs.Premises.{CountedIsInView, CountedIsWide, SoundIsWide, PlansAreTyped, PlansArePlain};
+ghost use Rattle.loop_plans.specs.Premises.{PlansCanStart, PromisedIsAllowed};
 
 use loop_answers::law::from_is_joined;
 use scan_offers::law::{marks_tell, offers_split};
@@ -26,3 +29,33 @@ pub fn plans_are_loop_plans()
     marks_tell();
     from_is_joined();
 }
+
+/// A core that counts its entries, and reads columns of those that are in view, has them in view of its plan.
+pub fn bound_cores_are_in_view()
+    ensures { CountedIsInView }
+{}
+
+/// Where each row of an entry's table has a cell for each of its columns, the rows of FROM's entries are as wide as these. So are the rows
+/// of honest boxes that have in their tables rows of their columns' types.
+pub fn bound_rows_are_wide()
+    ensures counted { CountedIsWide }
+    ensures sound { SoundIsWide }
+{}
+
+/// Where a core compares columns of one type, and its entries' tables are bound, the scans of its levels are given parameters of their
+/// columns' types, whatever the boxes answered.
+pub fn bound_levels_are_typed()
+    ensures { PlansAreTyped }
+{}
+
+/// The levels of a core read whole rows of their tables' widths, and what they check may not fault, if no ON of the core may.
+pub fn bound_levels_are_plain()
+    ensures { PlansArePlain }
+{}
+
+/// Where each box allows what the scan of its level is asked for, a run of the levels of a core may start. That is allowed which a box
+/// promised, no order and no limit being wished: unless it promised the wanted columns alone, and does not allow whole rows.
+pub fn bound_levels_can_start()
+    ensures start { PlansCanStart }
+    ensures promised { PromisedIsAllowed }
+{}
