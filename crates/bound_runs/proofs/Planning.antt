@@ -40,7 +40,7 @@ use Rattle.loop_runs.specs.Running.{CanRun, IsPlanned, ArePlanned, IsPlanOver}
 use Rattle.loop_runs.specs.declared.running.LoopPlan.{LoopPlan}
 use Rattle.bound_runs.specs.Offers.{cores_offers, query_offers, IsOffered, AllAllowed, AllLevels}
 use Rattle.bound_runs.specs.Running.{IsReady, IsPlanFor}
-use Rattle.bound_runs.proofs.Reading.{numbers_below, joined_over}
+use Rattle.bound_runs.proofs.Reading.{each_on, numbers_below, joined_over}
 
 -- ---- offers are put to boxes that have their tables
 
@@ -89,10 +89,6 @@ module _ (boxes : List (Option BoxState)) (es : List BoundEntry) where
   parts_offered : (read : List ℕ) (base : ℕ) (conditions : List Tree) (ps : List Part) → Each IsOfEntry ps → Each (IsOffered boxes) (offers_from es read base conditions ps)
   parts_offered read base conditions [] h = tt
   parts_offered read base conditions (p ∷ ps) h = (h.0, parts_offered read (further p.width base) (undecided (further p.width base) conditions) ps h.1)
-
-each_on : {X : Type 0} (P Q : X → Type 0) (xs : List X) → ((x : X) → P x → Q x) → Each P xs → Each Q xs
-each_on P Q [] f h = tt
-each_on P Q (x ∷ xs) f h = (f x h.0, each_on P Q xs f h.1)
 
 core_offered : (boxes : List (Option BoxState)) (es : List BoundEntry) (kss : List (List ColType)) (f : CoreForm) → AreOfKinds (bound_at boxes) es kss → CoreCounts (widths_in es) f → Each (IsOffered boxes) (core_offers es f)
 core_offered boxes es kss f are counts =

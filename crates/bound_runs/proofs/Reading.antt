@@ -68,7 +68,7 @@ module _ (db eb : Tables) where
       let one = chain_same c (flat_map chain_numbers (d ∷ cs)) h in
       ap (λ (xs : List Tuple). pairs xs (joined_chains db (map chain_by (d ∷ cs)))) one.0 ∙ ap (pairs (joined_chain eb (chain_by c))) (chains_same (d ∷ cs) one.1)
 
-each_on : {X : Type 0} (P Q : X → Type 0) (xs : List X) → ((x : X) → P x → Q x) → Each P xs → Each Q xs
+pub each_on : {X : Type 0} (P Q : X → Type 0) (xs : List X) → ((x : X) → P x → Q x) → Each P xs → Each Q xs
 each_on P Q [] f h = tt
 each_on P Q (x ∷ xs) f h = (f x h.0, each_on P Q xs f h.1)
 
