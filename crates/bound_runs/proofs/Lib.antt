@@ -1,0 +1,4 @@
+mod Agreements
+mod Reading
+mod Planning
+mod Words

@@ -1,0 +1,224 @@
+-- The loops of a bound query are a plan of it.
+use Rattle.std.proofs.Common.{◌≡◌, ℕ, suc, ◌<◌, Bool, true, false, ◌&&◌, List, [], ◌∷◌, ◌++◌, map, length, flat_map, get_or, All, slice_get, Option, Some, None, IsSome, refl, ap, sym, ◌∙◌, subst, arith}
+use Rattle.std.specs.List.{filter}
+use Rattle.std.proofs.lemmas.List.{length-map}
+use Rattle.std.proofs.lemmas.List.Elements.{All-head, All-tail}
+use Rattle.std.proofs.lemmas.Option.{slice_get-get_or}
+use Rattle.med_value.specs.declared.value.ColType.{ColType}
+use Rattle.tri_expr.specs.Tree.{Tree}
+use Rattle.med_query.specs.Query.{Tables, joined, keeps, senses}
+use Rattle.med_query.specs.Form.{JoinForm, cross_form, inner_form, left_form, ChainForm, CoreForm, chain_form, core_form}
+use Rattle.med_query.specs.Select.{core_of, is_safe_from, are_safe_cores}
+use Rattle.med_query.specs.declared.select.JoinChain.{JoinChain}
+use Rattle.med_query.specs.declared.select.SelectCore.{SelectCore}
+use Rattle.med_binder.specs.Alike.{CoreAlike}
+use Rattle.med_binder.specs.Counted.{joined_number, chain_numbers, CoreCounts}
+use Rattle.med_binder.specs.Within.{CoreWithin}
+use Rattle.med_binder.specs.declared.bound.BoundEntry.{BoundEntry}
+use Rattle.med_binder.specs.declared.bound.BoundQuery.{BoundQuery}
+use Rattle.fdw_api.specs.State.{BoxTable, BoxState, table_of}
+use Rattle.fdw_api.specs.declared.wishes.Agreement2.{Agreement2}
+use Rattle.pushdown.specs.Offered.{entry_place}
+use Rattle.med_planner.specs.Planned.{entry_rows}
+use Rattle.nested_loops.specs.Joins.{Each}
+use Rattle.nested_loops.specs.Loops.{Level}
+use Rattle.scan_loops.specs.Levels.{levels_of}
+use Rattle.scan_loops.specs.Scans.{or_none, bound_in, bound_at, rows_at}
+use Rattle.scan_loops.specs.Serving.{AllHonest}
+use Rattle.scan_loops.specs.Slots.{HasTable}
+use Rattle.scan_loops.specs.Starting.{CanStart}
+use Rattle.scan_loops.specs.declared.levels.LoopLevel.{LoopLevel}
+use Rattle.loop_answers.specs.Conjuncts.{safe_of}
+use Rattle.loop_answers.specs.Planned.{IsLoopPlan}
+use Rattle.loop_plans.specs.Flat.{Part, join_part, end_after, chain_parts, from_parts}
+use Rattle.loop_plans.specs.Places.{further}
+use Rattle.loop_plans.specs.Offered.{OfferForm, undecided, source_of, number_of, offers_from, core_conditions, core_reads, core_offers, AreLevels}
+use Rattle.loop_plans.specs.Plans.{tables_by, PlansAreLoopPlans}
+use Rattle.loop_plans.specs.Premises.{widths_in, HasPlaces, RowsAreWide, CountedIsInView, CountedIsWide, AreOfKinds, PlansCanStart}
+use Rattle.loop_runs.specs.Gathering.{levels_in}
+use Rattle.loop_runs.specs.Running.{CanRun, IsPlanned, ArePlanned, IsPlanOver}
+use Rattle.loop_runs.specs.declared.running.LoopPlan.{LoopPlan}
+use Rattle.bound_runs.specs.Offers.{cores_offers, query_offers, IsOffered, AllAllowed, AllLevels}
+use Rattle.bound_runs.specs.Running.{IsReady, IsPlanFor}
+use Rattle.bound_runs.proofs.Reading.{each_on, numbers_below, joined_over}
+
+-- ---- offers are put to boxes that have their tables
+
+in_box : (o : Option (Option BoxState)) (t : ℕ) (b : BoxTable) → bound_in (or_none o) t ≡ Some b → (s : BoxState) × (o ≡ Some (Some s)) × (table_of s t ≡ Some b)
+in_box None t b e = absurd cc
+in_box (Some None) t b e = absurd cc
+in_box (Some (Some s)) t b e = (s, refl, e)
+
+has_table : (boxes : List (Option BoxState)) (slot t : ℕ) (b : BoxTable) → bound_at boxes slot t ≡ Some b → HasTable boxes slot t
+has_table boxes slot t b e =
+    let w = in_box (slice_get boxes slot) t b e in
+    record { box = w.0; there = w.1; holds = subst (λ (o : Option BoxTable). IsSome o) (sym w.2) refl }
+
+-- the table of each entry is bound
+entry_bound : (boxes : List (Option BoxState)) (es : List BoundEntry) (kss : List (List ColType)) → AreOfKinds (bound_at boxes) es kss → (k : ℕ) → k < length es → HasTable boxes (source_of es k) (number_of es k)
+entry_bound boxes es kss are k lt =
+    let long = length-map es (λ (e : BoundEntry). e.width) in
+    let wide = length-map kss (λ (ks : List ColType). length ks) in
+    let same = ap (λ (ns : List ℕ). length ns) are.widths in
+    let there : k < length kss = omega (arith, lt, long, wide, same) in
+    let i = are.each k (get_or kss k []) (slice_get-get_or kss k [] there) in
+    has_table boxes (source_of es k) (number_of es k) i.table i.is
+
+module _ (boxes : List (Option BoxState)) (es : List BoundEntry) where
+  abbrev IsEntry : ℕ → Type 0
+  IsEntry k = HasTable boxes (source_of es k) (number_of es k)
+
+  abbrev IsOfEntry : Part → Type 0
+  IsOfEntry p = IsEntry p.table
+
+  one_part : (base : ℕ) (j : JoinForm) → IsEntry (joined_number j) → IsOfEntry (join_part es base j)
+  one_part base (cross_form t) h = h
+  one_part base (inner_form t on) h = h
+  one_part base (left_form t width on) h = h
+
+  joins_parts : (base : ℕ) (js : List JoinForm) (numbers : List ℕ) (ps : List Part) → (Each IsEntry numbers → Each IsOfEntry ps) → Each IsEntry (map joined_number js ++ numbers) → Each IsOfEntry (map (join_part es base) js ++ ps)
+  joins_parts base [] numbers ps rest h = rest h
+  joins_parts base (j ∷ js) numbers ps rest h = (one_part base j h.0, joins_parts base js numbers ps rest h.1)
+
+  chains_parts : (base : ℕ) (cs : List ChainForm) → Each IsEntry (flat_map chain_numbers cs) → Each IsOfEntry (from_parts es base cs)
+  chains_parts base [] h = tt
+  chains_parts base (c ∷ cs) h =
+      let end = end_after base (chain_parts es base c) in
+      (h.0, joins_parts base c.joins (flat_map chain_numbers cs) (from_parts es end cs) (chains_parts end cs) h.1)
+
+  parts_offered : (read : List ℕ) (base : ℕ) (conditions : List Tree) (ps : List Part) → Each IsOfEntry ps → Each (IsOffered boxes) (offers_from es read base conditions ps)
+  parts_offered read base conditions [] h = tt
+  parts_offered read base conditions (p ∷ ps) h = (h.0, parts_offered read (further p.width base) (undecided (further p.width base) conditions) ps h.1)
+
+core_offered : (boxes : List (Option BoxState)) (es : List BoundEntry) (kss : List (List ColType)) (f : CoreForm) → AreOfKinds (bound_at boxes) es kss → CoreCounts (widths_in es) f → Each (IsOffered boxes) (core_offers es f)
+core_offered boxes es kss f are counts =
+    parts_offered boxes es (core_reads es f) 0 (core_conditions es f) (from_parts es 0 f.from)
+    (chains_parts boxes es 0 f.from (each_on (λ (k : ℕ). k < length es) (IsEntry boxes es) (flat_map chain_numbers f.from) (entry_bound boxes es kss are) (numbers_below es f counts)))
+
+pub cores_offered : (boxes : List (Option BoxState)) (es : List BoundEntry) (kss : List (List ColType)) (ss : List SelectCore) → AreOfKinds (bound_at boxes) es kss → All (CoreCounts (widths_in es)) (map core_form ss) → Each (Each (IsOffered boxes)) (cores_offers es ss)
+cores_offered boxes es kss [] are counts = tt
+cores_offered boxes es kss (s ∷ ss) are counts =
+    (core_offered boxes es kss (core_form s) are (All-head (CoreCounts (widths_in es)) (core_form s) (map core_form ss) counts), cores_offered boxes es kss ss are (All-tail (CoreCounts (widths_in es)) (core_form s) (map core_form ss) counts))
+
+-- ---- the loops of a core
+
+-- over tables of the same joined rows, what is a plan of a core is one
+plan_over : (s : SelectCore) (db eb : Tables) (ls : List Level) → joined (core_of s) db ≡ joined (core_of s) eb → IsLoopPlan s db ls → IsLoopPlan s eb ls
+plan_over s db eb ls e p = record {
+  steps = p.steps;
+  are = p.are;
+  split = p.split;
+  wide = p.wide;
+  condition = p.condition;
+  parted = p.parted;
+  rows = p.rows ∙ ap (filter (keeps (senses [] (safe_of s.conditions.items)))) e;
+}
+
+not_made : (answers : List Agreement2) (l : LoopLevel) (ls : List LoopLevel) → AreLevels [] answers (l ∷ ls) → ⊥
+not_made [] l ls h = h
+not_made (a ∷ answers) l ls h = h
+
+none_offered : (os : List OfferForm) (answers : List Agreement2) → AreLevels os answers [] → os ≡ []
+none_offered [] answers h = refl
+none_offered (o ∷ os) [] h = absurd h
+none_offered (o ∷ os) (a ∷ answers) h = absurd h
+
+abbrev offers_over : List BoundEntry → List ℕ → List Tree → List JoinChain → List OfferForm
+offers_over es read conditions from = offers_from es read 0 conditions (from_parts es 0 (map chain_form from))
+
+-- only a core without FROM has no levels
+none_read : (es : List BoundEntry) (read : List ℕ) (conditions : List Tree) (from : List JoinChain) → offers_over es read conditions from ≡ [] → from ≡ []
+none_read es read conditions [] e = refl
+none_read es read conditions (c ∷ from) e = absurd cc
+
+some_read : (es : List BoundEntry) (read : List ℕ) (conditions : List Tree) (from : List JoinChain) (answers : List Agreement2) (l : LoopLevel) (ls : List LoopLevel) → AreLevels (offers_over es read conditions from) answers (l ∷ ls) → 0 < length (map chain_form from)
+some_read es read conditions [] answers l ls h = absurd (not_made answers l ls h)
+some_read es read conditions (c ∷ from) answers l ls h = omega arith
+
+-- what is known of a bound query's entries
+pub record Known (boxes : List (Option BoxState)) (es : List BoundEntry) (kss : List (List ColType)) : Type 0 where
+  pub in_view : CountedIsInView
+  pub counted_wide : CountedIsWide
+  pub can_start : PlansCanStart
+  pub are_plans : PlansAreLoopPlans
+  pub typed : AreOfKinds (bound_at boxes) es kss
+  pub places : HasPlaces es
+  pub wide : AllHonest boxes → RowsAreWide es (tables_by es (rows_at boxes))
+
+module _ (boxes : List (Option BoxState)) (es : List BoundEntry) (kss : List (List ColType)) (k : Known boxes es kss) where
+  core_planned : (s : SelectCore) (answers : List Agreement2) (ls : List LoopLevel) → CoreCounts (widths_in es) (core_form s) → CoreWithin (widths_in es) (core_form s) → AllHonest boxes
+      → AreLevels (core_offers es (core_form s)) answers ls → IsPlanned (rows_at boxes) (entry_rows boxes (map entry_place es)) s ls
+  core_planned s answers [] counts within honest h =
+      none_read es (core_reads es (core_form s)) (core_conditions es (core_form s)) s.from.items (none_offered (core_offers es (core_form s)) answers h)
+  core_planned s answers (l ∷ ls) counts within honest h =
+      let some = some_read es (core_reads es (core_form s)) (core_conditions es (core_form s)) s.from.items answers l ls h in
+      plan_over s (tables_by es (rows_at boxes)) (entry_rows boxes (map entry_place es)) (levels_of (rows_at boxes) (l ∷ ls)) (joined_over boxes es s counts)
+      (k.are_plans s es answers (l ∷ ls) (rows_at boxes) (k.in_view es (core_form s) counts within k.places some) (k.counted_wide s es (rows_at boxes) counts (k.wide honest)) h)
+
+  pub all_planned : (ss : List SelectCore) (answers : List (List Agreement2)) (loops : List (List LoopLevel)) → All (CoreCounts (widths_in es)) (map core_form ss) → All (CoreWithin (widths_in es)) (map core_form ss) → AllHonest boxes
+      → AllLevels (cores_offers es ss) answers loops → ArePlanned (rows_at boxes) (entry_rows boxes (map entry_place es)) ss loops
+  all_planned [] [] [] counts within honest h = tt
+  all_planned [] [] (ls ∷ loops) counts within honest h = absurd h
+  all_planned [] (given ∷ answers) loops counts within honest h = absurd h
+  all_planned (s ∷ ss) [] loops counts within honest h = absurd h
+  all_planned (s ∷ ss) (given ∷ answers) [] counts within honest h = absurd h
+  all_planned (s ∷ ss) (given ∷ answers) (ls ∷ loops) counts within honest h = (
+    core_planned s given ls (All-head (CoreCounts (widths_in es)) (core_form s) (map core_form ss) counts) (All-head (CoreWithin (widths_in es)) (core_form s) (map core_form ss) within) honest h.0,
+    all_planned ss answers loops (All-tail (CoreCounts (widths_in es)) (core_form s) (map core_form ss) counts) (All-tail (CoreWithin (widths_in es)) (core_form s) (map core_form ss) within) honest h.1,
+  )
+
+  safe_first : (a b : Bool) → (a && b) ≡ true → a ≡ true
+  safe_first true b e = refl
+  safe_first false b e = e
+
+  safe_rest : (a b : Bool) → (a && b) ≡ true → b ≡ true
+  safe_rest true b e = e
+  safe_rest false b e = absurd cc
+
+  pub all_start : (ss : List SelectCore) (answers : List (List Agreement2)) (loops : List (List LoopLevel)) → All (CoreCounts (widths_in es)) (map core_form ss) → All (CoreAlike kss) (map core_form ss) → are_safe_cores ss ≡ true
+      → AllAllowed boxes (cores_offers es ss) answers → AllLevels (cores_offers es ss) answers loops → Each (CanStart boxes) loops
+  all_start [] [] [] counts alike safe allowed h = tt
+  all_start [] [] (ls ∷ loops) counts alike safe allowed h = absurd h
+  all_start [] (given ∷ answers) loops counts alike safe allowed h = absurd h
+  all_start (s ∷ ss) [] loops counts alike safe allowed h = absurd h
+  all_start (s ∷ ss) (given ∷ answers) [] counts alike safe allowed h = absurd h
+  all_start (s ∷ ss) (given ∷ answers) (ls ∷ loops) counts alike safe allowed h = (
+    k.can_start s es kss boxes given ls (All-head (CoreCounts (widths_in es)) (core_form s) (map core_form ss) counts) (All-head (CoreAlike kss) (core_form s) (map core_form ss) alike) k.places k.typed
+        (safe_first (is_safe_from s.from.items) (are_safe_cores ss) safe) allowed.0 h.0,
+    all_start ss answers loops (All-tail (CoreCounts (widths_in es)) (core_form s) (map core_form ss) counts) (All-tail (CoreAlike kss) (core_form s) (map core_form ss) alike)
+        (safe_rest (is_safe_from s.from.items) (are_safe_cores ss) safe) allowed.1 h.1,
+  )
+
+as_many : (es : List BoundEntry) (ss : List SelectCore) (answers : List (List Agreement2)) (loops : List (List LoopLevel)) → AllLevels (cores_offers es ss) answers loops → length loops ≡ length ss
+as_many es [] [] [] h = refl
+as_many es [] [] (ls ∷ loops) h = absurd h
+as_many es [] (given ∷ answers) loops h = absurd h
+as_many es (s ∷ ss) [] loops h = absurd h
+as_many es (s ∷ ss) (given ∷ answers) [] h = absurd h
+as_many es (s ∷ ss) (given ∷ answers) (ls ∷ loops) h = ap suc (as_many es ss answers loops h.1)
+
+-- ---- the whole
+
+pub plan_for : (boxes : List (Option BoxState)) (bound : BoundQuery) (plan : LoopPlan) (answers : List (List Agreement2)) → CountedIsInView → CountedIsWide → PlansCanStart → PlansAreLoopPlans → IsReady boxes bound → HasPlaces bound.entries.items
+    → plan.select ≡ bound.select → AllAllowed boxes (query_offers bound) answers → AllLevels (query_offers bound) answers (levels_in plan.loops.items) → IsPlanFor boxes bound plan
+plan_for boxes bound plan answers in_view counted_wide can_start are_plans ready places same allowed levels = record { query = same; run = run; over = over }
+  where
+    known : Known boxes bound.entries.items ready.kinds
+    known = record { in_view = in_view; counted_wide = counted_wide; can_start = can_start; are_plans = are_plans; typed = ready.typed; places = places; wide = ready.wide }
+
+    cores : plan.select.cores.items ≡ bound.select.cores.items
+    cores = ap (λ (s : _). s.cores.items) same
+
+    run : CanRun boxes plan
+    run = record {
+      many = (let a = as_many bound.entries.items bound.select.cores.items answers (levels_in plan.loops.items) levels in let b = length-map plan.loops.items (λ (ls : _). ls.items) in let c = ap (λ (ss : List SelectCore). length ss) cores in omega (arith, a, b, c));
+      starts = all_start boxes bound.entries.items ready.kinds known bound.select.cores.items answers (levels_in plan.loops.items) ready.counts ready.alike ready.safe allowed levels;
+      safe = ap are_safe_cores cores ∙ ready.safe;
+    }
+
+    over : AllHonest boxes → IsPlanOver (entry_rows boxes (map entry_place bound.entries.items)) plan boxes
+    over honest = record {
+      honest = honest;
+      planned = subst (λ (ss : List SelectCore). ArePlanned (rows_at boxes) (entry_rows boxes (map entry_place bound.entries.items)) ss (levels_in plan.loops.items)) (sym cores)
+          (all_planned boxes bound.entries.items ready.kinds known bound.select.cores.items answers (levels_in plan.loops.items) ready.counts ready.view honest levels);
+    }

@@ -1,0 +1,93 @@
+-- What the runs of loops say, in the words of med_exec and med_planner.
+use Rattle.std.proofs.Common.{◌≡◌, inl, inr, List, [], ◌∷◌, map, Option, Some, None, Result, Ok, Err, IfOk, IfErr, ap, sym, subst}
+use Rattle.med_value.specs.Datum.{Tuple}
+use Rattle.med_value.specs.declared.cause.Cause.{Cause}
+use Rattle.tri_expr.specs.declared.expr.Fault.TheVariants.{Range, Zero}
+use Rattle.med_query.specs.Query.{Query, Tables, IsAnswer}
+use Rattle.med_query.specs.Select.{query_of}
+use Rattle.med_binder.specs.declared.bound.BoundQuery.{BoundQuery}
+use Rattle.fdw_api.specs.State.{BoxState}
+use Rattle.fdw_api.specs.declared.interface.Fault.{Fault}
+use Rattle.pushdown.specs.Offered.{entry_place}
+use Rattle.med_planner.specs.Planned.{entry_rows, IsShownCause as IsTold}
+use Rattle.med_exec.specs.Running.{Served as IsServed, AllServed as BoxesServed, SlotShows as Shows, Stops as RunStops, lacks_memory, source_fails, numbers_end, query_shows as query_tells}
+use Rattle.scan_loops.specs.Serving.{Served, AllServed, SlotShows, wants_memory, box_breaks}
+use Rattle.scan_loops.specs.Starting.{box_stops, numbers_end as numbers_out}
+use Rattle.loop_runs.specs.Causes.{IsShownCause}
+use Rattle.loop_runs.specs.Running.{IsPlanOver, Answers, Stops, loops_stop, query_shows}
+use Rattle.loop_runs.specs.declared.running.LoopPlan.{LoopPlan}
+use Rattle.bound_runs.specs.Running.{IsPlanFor, RunAnswers}
+
+-- ---- boxes
+
+one_served : (old new : BoxState) → Served [] [] old new → IsServed [] [] old new
+one_served old new s = record {
+  nature = s.nature;
+  tables = s.tables;
+  staged = s.staged;
+  others = s.others;
+  next = s.next;
+  end = s.end;
+  pulled = s.pulled;
+  faults = s.faults;
+  coming = s.coming;
+  rows = s.rows;
+  holdings = s.holdings;
+}
+
+pub boxes_served : (old new : List (Option BoxState)) → AllServed old new → BoxesServed old new
+boxes_served [] [] h = tt
+boxes_served [] (b ∷ new) h = absurd h
+boxes_served (None ∷ old) [] h = absurd h
+boxes_served (Some a ∷ old) [] h = absurd h
+boxes_served (None ∷ old) (None ∷ new) h = boxes_served old new h
+boxes_served (None ∷ old) (Some b ∷ new) h = absurd h
+boxes_served (Some a ∷ old) (None ∷ new) h = absurd h
+boxes_served (Some a ∷ old) (Some b ∷ new) h = (one_served a b h.0, boxes_served old new h.1)
+
+slot_shows : (old new : List (Option BoxState)) (P : BoxState → BoxState → Type 0) → SlotShows old new P → Shows old new P
+slot_shows old new P s = record { slot = s.slot; before = s.before; after = s.after; was = s.was; is = s.is; shows = s.shows }
+
+-- ---- causes
+
+told : (q : Query) (db : Tables) (c : Cause) → IsShownCause q db c → IsTold q db c
+told q db c (inl (Range, h, e)) = inl (Range, h, e)
+told q db c (inl (Zero, h, e)) = inl (Zero, h, e)
+told q db c (inr w) = inr w
+
+shown : (q : Query) (db : Tables) (c : Cause) → IsTold q db c → IsShownCause q db c
+shown q db c (inl (Range, h, e)) = inl (Range, h, e)
+shown q db c (inl (Zero, h, e)) = inl (Zero, h, e)
+shown q db c (inr w) = inr w
+
+-- ---- the run
+
+module _ (old : List (Option BoxState)) (bound : BoundQuery) (plan : LoopPlan) (p : IsPlanFor old bound plan) where
+  abbrev db : Tables
+  db = entry_rows old (map entry_place bound.entries.items)
+
+  same : query_of plan.select ≡ query_of bound.select
+  same = ap query_of p.query
+
+  pub run_answers : (rows : List Tuple) → ((eb : Tables) → IsPlanOver eb plan old → Answers eb plan rows) → RunAnswers (query_of bound.select) (map entry_place bound.entries.items) old rows
+  run_answers rows h = record {
+    answers = λ honest. subst (λ (q : Query). IsAnswer q db rows) same (h db (p.over honest)).answer;
+    clear = λ honest c tells. (h db (p.over honest)).clear c (shown (query_of plan.select) db c (subst (λ (q : Query). IsTold q db c) (sym same) tells));
+  }
+
+  stops : (fault : Fault) (new : List (Option BoxState)) → Stops db plan fault old new → RunStops (query_of bound.select) (map entry_place bound.entries.items) fault old new
+  stops fault new (loops_stop (box_stops (wants_memory e))) = lacks_memory e
+  stops fault new (loops_stop (box_stops (box_breaks e failed))) = source_fails e (slot_shows old new _ failed)
+  stops fault new (loops_stop (numbers_out e used)) = numbers_end e (slot_shows old new _ used)
+  stops fault new (query_shows c e tells) = query_tells c e (λ honest. subst (λ (q : Query). IsTold q db c) same (told (query_of plan.select) db c (tells (p.over honest))))
+
+  pub run_stops : (fault : Fault) (new : List (Option BoxState)) → ((eb : Tables) → Stops eb plan fault old new) → RunStops (query_of bound.select) (map entry_place bound.entries.items) fault old new
+  run_stops fault new h = stops fault new (h db)
+
+pub ok_on : {T E : Type 0} (r : Result T E) (P Q : T → Type 0) → ((t : T) → P t → Q t) → IfOk r P → IfOk r Q
+ok_on (Ok t) P Q f h = f t h
+ok_on (Err e) P Q f h = h
+
+pub err_on : {T E : Type 0} (r : Result T E) (P Q : E → Type 0) → ((e : E) → P e → Q e) → IfErr r P → IfErr r Q
+err_on (Ok t) P Q f h = h
+err_on (Err e) P Q f h = f e h

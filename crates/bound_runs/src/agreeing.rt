@@ -1,0 +1,124 @@
+//! What the boxes agree to.
+ghost use Rattle.std.specs.Prelude.{◌≡◌, map, replicate, IfOk, IfErr};
+ghost use Rattle.fdw_api.specs.declared.interface.Fault.TheVariants.{NoMemory as WantOfMemory};
+ghost use Rattle.fdw_api.specs.declared.scan.Agree.TheVariants.{Ignored};
+ghost use Rattle.nested_loops.specs.Joins.{Each};
+ghost use Rattle.scan_loops.specs.Slots.{states};
+ghost use Rattle.loop_plans.specs.Offered.{offer_form};
+ghost use Rattle.loop_plans.specs.Premises.{AreAllowed};
+ghost use Rattle.bound_runs.specs.Offers.{offers_in, answers_in, IsOffered, IsAgreed, AllAllowed};
+
+use fdw_api::interface::Fault;
+use fdw_api::scan::{Agree, Agreement};
+use fdw_api::wishes::{Agreement2, Wish, Wrapper2};
+use loop_plans::LoopOffer;
+use loop_plans::law::bound_levels_can_start;
+use med_value::NoMemory;
+use scan_loops::plan2_at;
+use std::alloc::Global;
+
+// An agreement by which none of so many restrictions is taken over, and rows come whole.
+fn nothing_taken(alloc: Global, many: usize) -> Result<Agreement2, NoMemory>
+    ensures { IfOk result (λ a. a.base.answers.items ≡ replicate many Ignored) }
+{
+    let answers = vec![in alloc; Agree::Ignored; many]?;
+    let base = Agreement {
+        answers,
+        narrow: false,
+    };
+    Ok(Agreement2 {
+        base,
+        ordered: false,
+        limited: false,
+    })
+}
+
+// What the box of an offer agrees to of a scan of whole rows, no order and no limit being wished. Of one that gives the wanted columns
+// alone it is not known what of the restrictions it takes over in a scan of whole rows: there it is asked to take over none.
+fn agree<W: Wrapper2>(
+    slots: &Vec<Option<W>>,
+    alloc: Global,
+    offer: &LoopOffer,
+) -> Result<Agreement2, Fault>
+    requires { IsOffered (states W.meaning slots.now.items) (offer_form offer.now) }
+    ensures ok { IfOk result (λ a. IsAgreed (states W.meaning slots.now.items) (offer_form offer.now) a) }
+    ensures err { IfErr result (λ fault. fault ≡ WantOfMemory) }
+{
+    bound_levels_can_start();
+    let wish = Wish {
+        order: Vec::new(alloc),
+        limit: None,
+    };
+    let wanted = offer.wanted.as_slice();
+    let offered = offer.entry.restrictions.as_slice();
+    let agreement = match plan2_at(
+        slots,
+        alloc,
+        offer.source,
+        offer.table,
+        wanted,
+        offered,
+        &wish,
+    ) {
+        Ok(agreement) => agreement,
+        Err(fault) => return Err(fault),
+    };
+    if !agreement.base.narrow {
+        return Ok(agreement);
+    }
+    match nothing_taken(alloc, offered.len()) {
+        Ok(agreement) => Ok(agreement),
+        Err(_) => Err(Fault::NoMemory),
+    }
+}
+
+// What the boxes agree to of the scans of one core.
+fn agree_core<W: Wrapper2>(
+    slots: &Vec<Option<W>>,
+    alloc: Global,
+    offers: &[LoopOffer],
+) -> Result<Vec<Agreement2>, Fault>
+    requires { Each (IsOffered (states W.meaning slots.now.items)) (map offer_form offers.now) }
+    ensures ok { IfOk result (λ all. AreAllowed (states W.meaning slots.now.items) (map offer_form offers.now) all.items) }
+    ensures err { IfErr result (λ fault. fault ≡ WantOfMemory) }
+{
+    let mut all = Vec::new(alloc);
+    for offer in offers {
+        let agreement = match agree(slots, alloc, offer) {
+            Ok(agreement) => agreement,
+            Err(fault) => return Err(fault),
+        };
+        if all.push(agreement).is_err() {
+            return Err(Fault::NoMemory);
+        }
+    }
+    Ok(all)
+}
+
+/// What the boxes agree to of the scans of a query, which were offered so: each offer is put to the box of its own source, and no order
+/// and no limit is wished. A run by these agreements is allowed as long as the tables are bound.
+///
+/// Refused only for want of memory.
+///
+/// PostgreSQL: Writing a Foreign Data Wrapper, `GetForeignPlan`.
+pub fn agree_query<W: Wrapper2>(
+    slots: &Vec<Option<W>>,
+    alloc: Global,
+    offers: &[Vec<LoopOffer>],
+) -> Result<Vec<Vec<Agreement2>>, Fault>
+    requires { Each (Each (IsOffered (states W.meaning slots.now.items))) (offers_in offers.now) }
+    ensures ok { IfOk result (λ all. AllAllowed (states W.meaning slots.now.items) (offers_in offers.now) (answers_in all.items)) }
+    ensures err { IfErr result (λ fault. fault ≡ WantOfMemory) }
+{
+    let mut all = Vec::new(alloc);
+    for core in offers {
+        let agreed = match agree_core(slots, alloc, core.as_slice()) {
+            Ok(agreed) => agreed,
+            Err(fault) => return Err(fault),
+        };
+        if all.push(agreed).is_err() {
+            return Err(Fault::NoMemory);
+        }
+    }
+    Ok(all)
+}

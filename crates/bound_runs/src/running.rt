@@ -1,0 +1,83 @@
+//! Runs of bound queries.
+ghost use Rattle.std.specs.Prelude.{◌≡◌, map, IfOk, IfErr};
+ghost use Rattle.med_value.specs.Datum.{tuple};
+ghost use Rattle.med_query.specs.Select.{query_of};
+ghost use Rattle.fdw_api.specs.declared.interface.Fault.TheVariants.{NoMemory as WantOfMemory};
+ghost use Rattle.pushdown.specs.Offered.{entry_place};
+ghost use Rattle.med_exec.specs.Running.{AllServed, Stops};
+ghost use Rattle.scan_loops.specs.Slots.{states};
+ghost use Rattle.loop_plans.specs.Premises.{HasPlaces};
+ghost use Rattle.bound_runs.specs.Running.{IsReady, IsPlanFor, RunAnswers};
+
+use crate::accepting::accept_query;
+use crate::agreeing::agree_query;
+use crate::offering::offer_query;
+use crate::places::has_places;
+use fdw_api::interface::Fault;
+use fdw_api::wishes::Wrapper2;
+use loop_plans::law::{
+    bound_cores_are_in_view, bound_levels_can_start, bound_rows_are_wide, plans_are_loop_plans,
+};
+use loop_runs::{LoopPlan, run_plan};
+use med_binder::BoundQuery;
+use med_value::Row;
+use std::alloc::Global;
+
+// The plan of a bound query, once the boxes said how they scan.
+fn planned<W: Wrapper2>(
+    slots: &Vec<Option<W>>,
+    alloc: Global,
+    bound: BoundQuery,
+) -> Result<LoopPlan, Fault>
+    requires ready { IsReady (states W.meaning slots.now.items) bound }
+    requires places { HasPlaces bound.entries.items }
+    ensures ok { IfOk result (λ plan. IsPlanFor (states W.meaning slots.now.items) bound plan) }
+    ensures err { IfErr result (λ fault. fault ≡ WantOfMemory) }
+{
+    bound_cores_are_in_view();
+    bound_rows_are_wide();
+    bound_levels_can_start();
+    plans_are_loop_plans();
+    let Ok(offers) = offer_query(alloc, &bound) else {
+        return Err(Fault::NoMemory);
+    };
+    let answers = match agree_query(slots, alloc, offers.as_slice()) {
+        Ok(answers) => answers,
+        Err(fault) => return Err(fault),
+    };
+    let Ok(loops) = accept_query(alloc, offers, answers) else {
+        return Err(Fault::NoMemory);
+    };
+    let BoundQuery { select, .. } = bound;
+    Ok(LoopPlan { loops, select })
+}
+
+/// Answers a bound query from the boxes of its entries, by loops over their scans, whatever these take over of its conditions. No scan of
+/// the run is live afterwards.
+///
+/// # Errors
+///
+/// [`Fault::NoMemory`] where memory was asked for and refused, or where a joined row would have no place for all its columns;
+/// [`Fault::Source`] where a source failed; and [`Fault::Refused`] by 54000 where a box's ticket numbers are used up or the query groups
+/// over more than 2^62 kept rows, and by 22003 and 22012 where the query has such a fault.
+pub fn run_bound<W: Wrapper2>(
+    slots: &mut Vec<Option<W>>,
+    alloc: Global,
+    bound: BoundQuery,
+) -> Result<Vec<Row>, Fault>
+    requires ready { IsReady (states W.meaning slots.old.items) bound }
+    ensures served { AllServed (states W.meaning slots.old.items) (states W.meaning slots.new.items) }
+    ensures ok { IfOk result (λ rows. RunAnswers (query_of bound.select) (map entry_place bound.entries.items)
+        (states W.meaning slots.old.items) (map tuple rows.items)) }
+    ensures err { IfErr result (λ fault. Stops (query_of bound.select) (map entry_place bound.entries.items) fault
+        (states W.meaning slots.old.items) (states W.meaning slots.new.items)) }
+{
+    if !has_places(bound.entries.as_slice()) {
+        return Err(Fault::NoMemory);
+    }
+    let plan = match planned(slots, alloc, bound) {
+        Ok(plan) => plan,
+        Err(fault) => return Err(fault),
+    };
+    run_plan(alloc, plan, slots)
+}
