@@ -1,5 +1,5 @@
 -- How a scan goes on through its calls.
-use Rattle.std.proofs.Common.{◌≡◌, ℕ, Bool, true, List, [], map, Option, Some, None, IsSome, refl, ap, sym, ◌∙◌}
+use Rattle.std.proofs.Common.{◌≡◌, ℕ, true, List, Option, Some, None, IsSome, Result, Ok, Err, IfOk, IfErr, OnOk, refl, ap, sym, ◌∙◌}
 use Rattle.std.specs.FinMap as finmap
 use Rattle.med_value.specs.Datum.{Tuple}
 use Rattle.fdw_api.specs.Scan.{RestrictionForm, Spec, params_fit}
@@ -22,8 +22,8 @@ begun_goes_on old new t spec params n p b = record {
   whole = refl;
   asked = refl;
   bound = p.0;
-  is = ap (λ z. z.tables t) b.ledger ∙ p.1.0;
-  typed = p.1.1;
+  is = ap (λ z. z.tables t) b.ledger ∙ p.1;
+  typed = p.2;
 }
 
 -- it goes on as it gives a row, or none
@@ -79,3 +79,16 @@ going_can_rescan s n offered params g fit = record {
   is = g.is;
   typed = ap (λ k. params_fit k g.scan.spec.offered params) g.typed ∙ ap (λ o. params_fit part_kinds o params) g.asked ∙ fit;
 }
+
+-- what follows of what a call ensures
+pub ok_gives : {T E : Type 0} (r : Result T E) (P Q : T → Type 0) → ((x : T) → P x → Q x) → IfOk r P → IfOk r Q
+ok_gives (Ok x) P Q f p = f x p
+ok_gives (Err e) P Q f p = tt
+
+pub on_ok_gives : {T E : Type 0} (r : Result T E) (P : T → Type 0) (Q : Type 0) → ((x : T) → P x → Q) → IfOk r P → OnOk r Q
+on_ok_gives (Ok x) P Q f p = f x p
+on_ok_gives (Err e) P Q f p = tt
+
+pub either_gives : {T E : Type 0} (r : Result T E) (P : T → Type 0) (B : E → Type 0) (Q : Type 0) → ((x : T) → P x → Q) → ((e : E) → B e → Q) → IfOk r P → IfErr r B → Q
+either_gives (Ok x) P B Q f g p b = f x p
+either_gives (Err e) P B Q f g p b = g e b

@@ -28,7 +28,7 @@ use std::str::from_utf8;
 use std::test::Fail;
 
 // How many tables there are, each with a scan of its own.
-const SEEDS: u64 = 1_000;
+const SEEDS: u64 = 500;
 
 // How two values that are there stand in order: texts by their bytes, false before true.
 fn order_of(left: &Value, right: &Value) -> Option<Ordering> {

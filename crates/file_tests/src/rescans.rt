@@ -16,13 +16,13 @@ use std::alloc::Global;
 use std::test::Fail;
 
 // How many rows the table has.
-const ROWS: u64 = 10_000;
+const ROWS: u32 = 10_000;
 
 // How many values its column `id` has: the first ones stand in two rows.
-const IDS: u64 = 9_000;
+const IDS: u32 = 9_000;
 
 // Appends the record at a place.
-fn push_record(alloc: Global, place: u64, out: &mut Vec<u8>) -> Result<(), Fail> {
+fn push_record(alloc: Global, place: u32, out: &mut Vec<u8>) -> Result<(), Fail> {
     let id = place % IDS;
     let name = place % 1_000;
     let record = format!(in alloc; "{id},n{name},{place},t\n")?;
@@ -52,8 +52,10 @@ fn by_id(alloc: Global) -> Result<Vec<Restriction>, NoMemory> {
 }
 
 // Whether this is the row at a place, with this `id` first.
-fn is_row(row: &SourceRow, place: u64, id: u64) -> bool {
-    row.id.number == place && matches!(row.cells.cells.first(), Some(Value::Int(n)) if *n == id as i64)
+fn is_row(row: &SourceRow, place: u32, id: u32) -> bool {
+    let found = row.cells.cells.first();
+    row.id.number == u64::from(place)
+        && matches!(found, Some(Value::Int(number)) if *number == i64::from(id))
 }
 
 // Fails where the next row is another than the one at this place, or than none where there is no such row.
@@ -62,8 +64,8 @@ fn check_next<W: Wrapper>(
     alloc: Global,
     ticket: &Ticket,
     offered: &[Restriction],
-    place: u64,
-    id: u64,
+    place: u32,
+    id: u32,
 ) -> Result<(), Fault>
     requires { IsGoing (W.meaning source.old) ticket.now.number (map restriction_form offered.now) }
     ensures going { OnOk result (IsGoing (W.meaning source.new) ticket.now.number (map restriction_form offered.now)) }
@@ -82,13 +84,13 @@ fn check_rescan<W: Wrapper>(
     alloc: Global,
     ticket: &Ticket,
     offered: &[Restriction],
-    id: u64,
+    id: u32,
 ) -> Result<(), Fault>
     requires { IsGoing (W.meaning source.old) ticket.now.number (map restriction_form offered.now) }
     ensures going { OnOk result (IsGoing (W.meaning source.new) ticket.now.number (map restriction_form offered.now)) }
     ensures live { IsSome (scan_of (W.meaning source.new) ticket.now.number) }
 {
-    begin_again(source, alloc, ticket, offered, &[Value::Int(id as i64)])?;
+    begin_again(source, alloc, ticket, offered, &[Value::Int(i64::from(id))])?;
     if id >= IDS {
         return check_next(source, alloc, ticket, offered, ROWS, id);
     }
@@ -105,7 +107,7 @@ fn check_rescans<W: Wrapper>(
     alloc: Global,
     ticket: &Ticket,
     offered: &[Restriction],
-    count: u64,
+    count: u32,
 ) -> Result<(), Fault>
     requires { IsGoing (W.meaning source.old) ticket.now.number (map restriction_form offered.now) }
     ensures { IsSome (scan_of (W.meaning source.new) ticket.now.number) }
@@ -122,7 +124,7 @@ fn check_table<W: Wrapper>(
     source: &mut W,
     alloc: Global,
     table: TableNo,
-    count: u64,
+    count: u32,
 ) -> Result<(), Fault>
     requires { IsPartTable (W.meaning source.old) table.number }
 {
@@ -135,7 +137,7 @@ fn check_table<W: Wrapper>(
     checked
 }
 
-fn check(alloc: Global, count: u64) -> Result<(), Fail> {
+fn check(alloc: Global, count: u32) -> Result<(), Fail> {
     let mut source = new_csv(alloc)?;
     let columns = columns(alloc)?;
     let table = bind_parts(&mut source, alloc, &columns)?;
