@@ -42,19 +42,11 @@ fn operand(
     Ok(Operand::Constant(cell(alloc, draws, kind)?))
 }
 
-fn test(
-    alloc: Global,
-    draws: &mut Draws,
-    kind: ColType,
-    number: usize,
-) -> Result<Test, NoMemory> {
+fn test(alloc: Global, draws: &mut Draws, kind: ColType, number: usize) -> Result<Test, NoMemory> {
     match draws.below(9) {
         0 => Ok(Test::IsNull),
         1 => Ok(Test::IsNotNull),
-        _ => Ok(Test::Compare(
-            comparison(draws),
-            operand(alloc, draws, kind, number)?,
-        )),
+        _ => Ok(Test::Compare(comparison(draws), operand(alloc, draws, kind, number)?)),
     }
 }
 

@@ -16,18 +16,7 @@ pub const KINDS: [ColType; 4] = [ColType::Int, ColType::Text, ColType::Int, ColT
 pub const NAMES: [&str; 4] = ["id", "name", "qty", "live"];
 
 // The integers: few, so that some are equal.
-const NUMBERS: [i64; 10] = [
-    0,
-    1,
-    2,
-    3,
-    -1,
-    -2,
-    10,
-    -1_000,
-    i64::MAX,
-    i64::MIN,
-];
+const NUMBERS: [i64; 10] = [0, 1, 2, 3, -1, -2, 10, -1_000, i64::MAX, i64::MIN];
 
 // The texts: few, some of one length, and each character that a format writes in a way of its own.
 const TEXTS: [&str; 20] = [

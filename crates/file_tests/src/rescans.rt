@@ -45,10 +45,12 @@ fn new_csv(alloc: Global) -> Result<CsvWrapper<MemoryBlobs>, Fail>
 
 // `id = $1`.
 fn by_id(alloc: Global) -> Result<Vec<Restriction>, NoMemory> {
-    Ok(vec![in alloc; Restriction {
-        column: 0,
-        test: Test::Compare(Comparison::Equal, Operand::Parameter(0)),
-    }]?)
+    Ok(vec![in alloc;
+        Restriction {
+            column: 0,
+            test: Test::Compare(Comparison::Equal, Operand::Parameter(0)),
+        },
+    ]?)
 }
 
 // Whether this is the row at a place, with this `id` first.
@@ -130,8 +132,14 @@ fn check_table<W: Wrapper>(
 {
     let wanted = vec![in alloc; 0, 1, 2]?;
     let offered = by_id(alloc)?;
-    let OpenScan { ticket, spec } =
-        begin_scan(source, alloc, table, wanted, offered, &[Value::Null])?;
+    let OpenScan { ticket, spec } = begin_scan(
+        source,
+        alloc,
+        table,
+        wanted,
+        offered,
+        &[Value::Null],
+    )?;
     let checked = check_rescans(source, alloc, &ticket, &spec.offered, count);
     source.end(ticket);
     checked
