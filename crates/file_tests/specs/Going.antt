@@ -1,0 +1,25 @@
+-- Scans of the table of random rows that go on through several rounds of parameters.
+use Rattle.std.specs.Prelude.{◌≡◌, ℕ, false, List, [], ◌∷◌, Some}
+use Rattle.med_value.specs.declared.value.ColType.{ColType}
+use Rattle.med_value.specs.declared.value.ColType.TheVariants as types
+use Rattle.fdw_api.specs.Scan.{RestrictionForm}
+use Rattle.fdw_api.specs.State.{BoxState, BoxTable, Scan, table_of, scan_of}
+
+-- the types of `id`, `name`, `qty` and `live`
+abbrev pub part_kinds : List ColType
+part_kinds = types.Int ∷ types.Text ∷ types.Int ∷ types.Bool ∷ []
+
+-- a live scan that is not broken, which was offered these restrictions, of a bound table of these columns: it may begin again by any
+-- parameters that fit
+pub record IsGoing (s : BoxState) (number : ℕ) (offered : List RestrictionForm) : Type 0 where
+  pub scan : Scan
+  pub at : scan_of s number ≡ Some scan
+  pub whole : scan.broken ≡ false
+  pub asked : scan.spec.offered ≡ offered
+  pub bound : BoxTable
+  pub is : table_of s scan.table ≡ Some bound
+  pub typed : bound.kinds ≡ part_kinds
+
+-- a bound table of these columns
+abbrev pub IsPartTable : BoxState → ℕ → Type 0
+IsPartTable s t = (bound : BoxTable) × (table_of s t ≡ Some bound) × (bound.kinds ≡ part_kinds)
