@@ -1,4 +1,5 @@
 mod Agreements
 mod Reading
+mod Counts
 mod Planning
 mod Words

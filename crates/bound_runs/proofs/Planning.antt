@@ -40,6 +40,7 @@ use Rattle.loop_runs.specs.Running.{CanRun, IsPlanned, ArePlanned, IsPlanOver}
 use Rattle.loop_runs.specs.declared.running.LoopPlan.{LoopPlan}
 use Rattle.bound_runs.specs.Offers.{cores_offers, query_offers, IsOffered, AllAllowed, AllLevels}
 use Rattle.bound_runs.specs.Running.{IsReady, IsPlanFor}
+use Rattle.bound_runs.proofs.Counts.{all_scans}
 use Rattle.bound_runs.proofs.Reading.{each_on, numbers_below, joined_over}
 
 -- ---- offers are put to boxes that have their tables
@@ -201,7 +202,7 @@ as_many es (s ∷ ss) (given ∷ answers) (ls ∷ loops) h = ap suc (as_many es 
 
 pub plan_for : (boxes : List (Option BoxState)) (bound : BoundQuery) (plan : LoopPlan) (answers : List (List Agreement2)) → CountedIsInView → CountedIsWide → PlansCanStart → PlansAreLoopPlans → IsReady boxes bound → HasPlaces bound.entries.items
     → plan.select ≡ bound.select → AllAllowed boxes (query_offers bound) answers → AllLevels (query_offers bound) answers (levels_in plan.loops.items) → IsPlanFor boxes bound plan
-plan_for boxes bound plan answers in_view counted_wide can_start are_plans ready places same allowed levels = record { query = same; run = run; over = over }
+plan_for boxes bound plan answers in_view counted_wide can_start are_plans ready places same allowed levels = record { query = same; run = run; scans = λ slot. all_scans slot bound.entries.items bound.select.cores.items answers (levels_in plan.loops.items) ready.counts levels; over = over }
   where
     known : Known boxes bound.entries.items ready.kinds
     known = record { in_view = in_view; counted_wide = counted_wide; can_start = can_start; are_plans = are_plans; typed = ready.typed; places = places; wide = ready.wide }

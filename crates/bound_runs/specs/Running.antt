@@ -1,5 +1,5 @@
 -- The run of a bound query by loops: what it asks of the boxes, and what its rows are.
-use Rattle.std.specs.Prelude.{◌≡◌, true, List, map, Option}
+use Rattle.std.specs.Prelude.{◌≡◌, ℕ, true, List, map, Option}
 use Rattle.med_value.specs.Datum.{Tuple}
 use Rattle.med_value.specs.declared.cause.Cause.{Cause}
 use Rattle.med_value.specs.declared.value.ColType.{ColType}
@@ -15,10 +15,12 @@ use Rattle.pushdown.specs.Offered.{Place, entry_place}
 use Rattle.med_planner.specs.Planned.{entry_rows, IsShownCause}
 use Rattle.scan_loops.specs.Serving.{AllHonest}
 use Rattle.scan_loops.specs.Scans.{bound_at, rows_at}
+use Rattle.scan_loops.specs.Counting.{scans_in}
 use Rattle.loop_plans.specs.Plans.{tables_by}
 use Rattle.loop_plans.specs.Premises.{AreOfKinds, RowsAreWide}
-use Rattle.loop_runs.specs.Running.{CanRun, IsPlanOver}
+use Rattle.loop_runs.specs.Running.{plan_levels, CanRun, IsPlanOver}
 use Rattle.loop_runs.specs.declared.running.LoopPlan.{LoopPlan}
+use Rattle.bound_runs.specs.Counting.{scans_of}
 
 -- The table of each entry is bound in its box, with columns of the types by which the query was bound; the query counts its entries, reads
 -- columns that are in view, compares columns of one type, and has no ON that may fault. Rows of honest boxes are as wide as their tables,
@@ -32,10 +34,12 @@ pub record IsReady (boxes : List (Option BoxState)) (bound : BoundQuery) : Type 
   pub wide : AllHonest boxes → RowsAreWide bound.entries.items (tables_by bound.entries.items (rows_at boxes))
   pub safe : are_safe_cores bound.select.cores.items ≡ true
 
--- a plan of a bound query: it may be run, and where all boxes tell the truth, it is one over the rows of the entries' tables
+-- a plan of a bound query: it may be run, it has one level for each entry of each core, and where all boxes tell the truth, it is a plan over
+-- the rows of the entries' tables
 pub record IsPlanFor (boxes : List (Option BoxState)) (bound : BoundQuery) (plan : LoopPlan) : Type 0 where
   pub query : plan.select ≡ bound.select
   pub run : CanRun boxes plan
+  pub scans : (slot : ℕ) → scans_in (plan_levels plan) slot ≡ scans_of bound slot
   pub over : AllHonest boxes → IsPlanOver (entry_rows boxes (map entry_place bound.entries.items)) plan boxes
 
 -- over these rows of its entries, where all boxes tell the truth, the query is answered so, and no cause of the run stands

@@ -4,9 +4,11 @@ ghost use Rattle.med_value.specs.Datum.{tuple};
 ghost use Rattle.med_query.specs.Select.{query_of};
 ghost use Rattle.fdw_api.specs.declared.interface.Fault.TheVariants.{NoMemory as WantOfMemory};
 ghost use Rattle.pushdown.specs.Offered.{entry_place};
+ghost use Rattle.med_exec.specs.Counting.{BeginsScans};
 ghost use Rattle.med_exec.specs.Running.{AllServed, Stops};
 ghost use Rattle.scan_loops.specs.Slots.{states};
 ghost use Rattle.loop_plans.specs.Premises.{HasPlaces};
+ghost use Rattle.bound_runs.specs.Counting.{scans_of, BeginsAtMost};
 ghost use Rattle.bound_runs.specs.Running.{IsReady, IsPlanFor, RunAnswers};
 
 use crate::accepting::accept_query;
@@ -52,8 +54,8 @@ fn planned<W: Wrapper2>(
     Ok(LoopPlan { loops, select })
 }
 
-/// Answers a bound query from the boxes of its entries, by loops over their scans, whatever these take over of its conditions. No scan of
-/// the run is live afterwards.
+/// Answers a bound query from the boxes of its entries, by loops over their scans, whatever these take over of its conditions. For each
+/// entry of each core one scan is begun, and no other; where the run stops, no more than these. None is live afterwards.
 ///
 /// # Errors
 ///
@@ -71,6 +73,10 @@ pub fn run_bound<W: Wrapper2>(
         (states W.meaning slots.old.items) (map tuple rows.items)) }
     ensures err { IfErr result (λ fault. Stops (query_of bound.select) (map entry_place bound.entries.items) fault
         (states W.meaning slots.old.items) (states W.meaning slots.new.items)) }
+    ensures begins { IfOk result (λ _. BeginsScans (scans_of bound) (states W.meaning slots.old.items)
+        (states W.meaning slots.new.items)) }
+    ensures at_most { IfErr result (λ _. BeginsAtMost (scans_of bound) (states W.meaning slots.old.items)
+        (states W.meaning slots.new.items)) }
 {
     if !has_places(bound.entries.as_slice()) {
         return Err(Fault::NoMemory);

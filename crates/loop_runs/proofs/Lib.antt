@@ -2,4 +2,5 @@ mod Left
 mod Rounds
 mod Closing
 mod Cores
+pub mod Counts
 mod Answering
