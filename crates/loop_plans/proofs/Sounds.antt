@@ -13,7 +13,7 @@ use Rattle.scan_loops.specs.Scans.{or_none, bound_in, bound_at, rows_in, rows_at
 use Rattle.scan_loops.specs.Serving.{AllHonest}
 use Rattle.loop_plans.specs.Flat.{width_of}
 use Rattle.loop_plans.specs.Offered.{source_of, number_of}
-use Rattle.loop_plans.specs.Premises.{widths_in, AllSound, SoundIsWide}
+use Rattle.loop_plans.specs.Premises.{AllSound, SoundIsWide}
 use Rattle.loop_plans.proofs.Pulling.{and_left, and_right}
 use Rattle.loop_plans.proofs.Matching.{as_many, wide_as}
 

@@ -1,5 +1,5 @@
-//! Laws of plans. A call does nothing: its contract is the law, proved for all expressions and rows. `specs/Premises.antt` says what a bound
-//! query owes its plans.
+//! Laws of plans. A call does nothing: its contract is the law, proved for all expressions and rows. `specs/Premises.antt` says what a
+//! bound query owes its plans.
 
 ghost use Rattle.loop_plans.specs.Places.{ColumnsDecide, ShiftedReadsBehind, TreesReadTheirColumns};
 ghost use Rattle.loop_plans.specs.Plans.{PlansAreLoopPlans, PlansAreSafe};
@@ -53,8 +53,8 @@ pub fn bound_levels_are_plain()
     ensures { PlansArePlain }
 {}
 
-/// Where each box allows what the scan of its level is asked for, a run of the levels of a core may start. That is allowed which a box
-/// promised, no order and no limit being wished: unless it promised the wanted columns alone, and does not allow whole rows.
+/// Where each box allows what the scan of its level is asked for, a run of the levels of a core may start. A box allows it of what it
+/// promised, no order and no limit being wished: where it promised the wanted columns alone, if its table then allows whole rows too.
 pub fn bound_levels_can_start()
     ensures start { PlansCanStart }
     ensures promised { PromisedIsAllowed }
