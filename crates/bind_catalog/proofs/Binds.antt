@@ -17,7 +17,7 @@ use Rattle.med_binder.specs.Binding.{IsBound, BindCauses, BindTells}
 use Rattle.med_binder.specs.Within.{widths}
 use Rattle.med_binder.specs.declared.bound.BoundEntry.{BoundEntry}
 use Rattle.med_binder.specs.declared.bound.BoundQuery.{BoundQuery}
-use Rattle.pushdown.specs.Offered as offered
+use Rattle.med_planner.specs.Planned as offered
 use Rattle.med_catalog.specs.Objects.{Objects, table_named}
 use Rattle.bind_catalog.specs.Tables.{shapes}
 use Rattle.bind_catalog.specs.Barred.{reading_causes, table_causes, query_right_causes}

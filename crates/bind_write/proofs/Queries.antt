@@ -25,9 +25,11 @@ use Rattle.bind_names.specs.Scope.{TableShape, place_named, columns_of, entry_co
 use Rattle.bind_names.specs.Telling.{TellsCause}
 use Rattle.bind_types.specs.Typing.{select_type_causes}
 use Rattle.med_binder.specs.Binding.{IsMeant}
+use Rattle.med_binder.specs.Counted.{bound_widths}
+use Rattle.med_binder.specs.Within.{widths}
 use Rattle.med_binder.specs.Turns.{TellsInTurn}
 use Rattle.med_binder.specs.declared.bound.BoundQuery.{BoundQuery}
-use Rattle.pushdown.specs.Offered.{entry_place}
+use Rattle.med_planner.specs.Planned.{entry_place}
 use Rattle.med_catalog.specs.DdlCauses.{phase}
 use Rattle.med_catalog.specs.Objects.{Objects, table_named}
 use Rattle.bind_catalog.proofs.Phases as of_query
@@ -68,13 +70,14 @@ names_clear : (f l a r : List Cause) → f ≡ [] → l ≡ [] → a ≡ [] → 
 names_clear f l a r e k h i = rw (e, k, h, i) refl
 
 pub query_fine : (o : Objects) (bound : List Attached) (user : Name) (columns : List Column) (names : Option (List Name)) (q : SelectTree) (b : BoundQuery)
-    → queries.IsBindable o user q → IsMeant (meant_by o q) b → ArePlaces bound (meant_by o q).entries (map entry_place b.entries.items) → are_safe_cores b.select.cores.items ≡ true
-    → named_causes columns names ≡ [] → IsAskedQuery o bound user columns names q b
-query_fine o bound user columns names q b is meant there safe listed =
+    → queries.IsBindable o user q → IsMeant (meant_by o q) b → ArePlaces bound (meant_by o q).entries (map entry_place b.entries.items)
+    → bound_widths b ≡ widths (from_scope (shapes o) q.from) → are_safe_cores b.select.cores.items ≡ true → named_causes columns names ≡ [] → IsAskedQuery o bound user columns names q b
+query_fine o bound user columns names q b is meant there wide safe listed =
     let parts = parts_clear o user q is.names in
     record {
       meant = meant;
       there = there;
+      widths = wide;
       safe = safe;
       names = names_clear (from_causes (shapes o) q.from) (named_causes columns names) (asked_causes (shapes o) q) (query_right_causes o user q) parts.0 listed parts.1 parts.2;
       types = empty_by (select_type_causes (shapes o) q) is.types;

@@ -7,10 +7,12 @@ use Rattle.med_syntax.specs.ExprTree.{ExprTree}
 use Rattle.med_syntax.specs.QueryTree.{SelectTree}
 use Rattle.write_syntax.specs.WriteTree.{GivenTree, values, rows_of, WriteTree, insert, update, delete}
 use Rattle.med_query.specs.Select.{are_safe_cores}
-use Rattle.bind_names.specs.Scope.{place_named}
+use Rattle.bind_names.specs.Scope.{place_named, from_scope}
 use Rattle.med_binder.specs.Binding.{IsMeant}
+use Rattle.med_binder.specs.Counted.{bound_widths}
+use Rattle.med_binder.specs.Within.{widths}
 use Rattle.med_binder.specs.declared.bound.BoundQuery.{BoundQuery}
-use Rattle.pushdown.specs.Offered as offered
+use Rattle.med_planner.specs.Planned as offered
 use Rattle.med_catalog.specs.DdlCauses.{phase}
 use Rattle.med_catalog.specs.Objects.{Objects}
 use Rattle.bind_catalog.specs.Tables.{shapes}
@@ -36,14 +38,14 @@ pub record IsLeast (o : Objects) (user : Name) (t : WriteTree) (c : Cause) : Typ
   pub stands : WriteNames o user t c ⊎ WriteTypes o t c
   pub least : (d : Cause) → WriteNames o user t d ⊎ WriteTypes o t d → phase c ≤ phase d
 
--- the query of an INSERT that has one
+-- the query of an INSERT that has one: its entries have the columns of their tables and are read where these are bound, and no ON may fault
 abbrev pub IsGiven : Objects → List Attached → GivenTree → Option BoundQuery → Type 0
 IsGiven o bound (values rows) None = Unit {0}
 IsGiven o bound (values rows) (Some b) = ⊥
 IsGiven o bound (rows_of q) None = ⊥
 IsGiven o bound (rows_of q) (Some b) =
     IsMeant (meant_by o q) b × ArePlaces bound (meant_by o q).entries (map offered.entry_place b.entries.items)
-    × (are_safe_cores b.select.cores.items ≡ true)
+    × (bound_widths b ≡ widths (from_scope (shapes o) q.from)) × (are_safe_cores b.select.cores.items ≡ true)
 
 abbrev pub IsQueryOf : Objects → List Attached → WriteTree → Option BoundQuery → Type 0
 IsQueryOf o bound (insert i) q = IsGiven o bound i.given q

@@ -13,13 +13,16 @@ use Rattle.tri_expr.specs.Tree.{Tree}
 use Rattle.med_write.specs.Form.{trees_of}
 use Rattle.med_query.specs.Select.{are_safe_cores}
 use Rattle.bind_names.specs.Naming.{from_causes, asked_causes, once_known}
+use Rattle.bind_names.specs.Scope.{from_scope}
 use Rattle.bind_names.specs.Telling.{TellsCause}
 use Rattle.bind_types.specs.Typing.{select_type_causes}
 use Rattle.med_binder.specs.Binding.{IsMeant}
+use Rattle.med_binder.specs.Counted.{bound_widths}
+use Rattle.med_binder.specs.Within.{widths}
 use Rattle.med_binder.specs.declared.bound.BoundQuery.{BoundQuery}
 use Rattle.med_binder.specs.Turns.{TellsInTurn}
 use Rattle.med_catalog.specs.Objects.{Objects}
-use Rattle.pushdown.specs.Offered.{entry_place}
+use Rattle.med_planner.specs.Planned.{entry_place}
 use Rattle.bind_catalog.specs.Barred.{query_right_causes}
 use Rattle.bind_catalog.specs.Places.{Attached, ArePlaces}
 use Rattle.bind_catalog.specs.Queries.{meant_by}
@@ -83,6 +86,7 @@ pub record IsAskedQuery (o : Objects) (bound : List Attached) (user : Name) (col
     (q : SelectTree) (b : BoundQuery) : Type 0 where
   pub meant : IsMeant (meant_by o q) b
   pub there : ArePlaces bound (meant_by o q).entries (map entry_place b.entries.items)
+  pub widths : bound_widths b ≡ widths (from_scope (shapes o) q.from)
   pub safe : are_safe_cores b.select.cores.items ≡ true
   pub names : query_names o user columns list q ≡ []
   pub types : select_type_causes (shapes o) q ≡ []

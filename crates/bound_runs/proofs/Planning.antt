@@ -1,12 +1,11 @@
 -- The loops of a bound query are a plan of it.
 use Rattle.std.proofs.Common.{◌≡◌, ℕ, suc, ◌<◌, Bool, true, false, ◌&&◌, List, [], ◌∷◌, ◌++◌, map, length, flat_map, get_or, All, slice_get, Option, Some, None, IsSome, refl, ap, sym, ◌∙◌, subst, arith}
-use Rattle.std.specs.List.{filter}
 use Rattle.std.proofs.lemmas.List.{length-map}
 use Rattle.std.proofs.lemmas.List.Elements.{All-head, All-tail}
 use Rattle.std.proofs.lemmas.Option.{slice_get-get_or}
 use Rattle.med_value.specs.declared.value.ColType.{ColType}
 use Rattle.tri_expr.specs.Tree.{Tree}
-use Rattle.med_query.specs.Query.{Tables, joined, keeps, senses}
+use Rattle.med_query.specs.Query.{Tables, joined}
 use Rattle.med_query.specs.Form.{JoinForm, cross_form, inner_form, left_form, ChainForm, CoreForm, chain_form, core_form}
 use Rattle.med_query.specs.Select.{core_of, is_safe_from, are_safe_cores}
 use Rattle.med_query.specs.declared.select.JoinChain.{JoinChain}
@@ -18,8 +17,7 @@ use Rattle.med_binder.specs.declared.bound.BoundEntry.{BoundEntry}
 use Rattle.med_binder.specs.declared.bound.BoundQuery.{BoundQuery}
 use Rattle.fdw_api.specs.State.{BoxTable, BoxState, table_of}
 use Rattle.fdw_api.specs.declared.wishes.Agreement2.{Agreement2}
-use Rattle.pushdown.specs.Offered.{entry_place}
-use Rattle.med_planner.specs.Planned.{entry_rows}
+use Rattle.med_planner.specs.Planned.{entry_place, entry_rows}
 use Rattle.nested_loops.specs.Joins.{Each}
 use Rattle.nested_loops.specs.Loops.{Level}
 use Rattle.scan_loops.specs.Levels.{levels_of}
@@ -28,8 +26,8 @@ use Rattle.scan_loops.specs.Serving.{AllHonest}
 use Rattle.scan_loops.specs.Slots.{HasTable}
 use Rattle.scan_loops.specs.Starting.{CanStart}
 use Rattle.scan_loops.specs.declared.levels.LoopLevel.{LoopLevel}
-use Rattle.loop_answers.specs.Conjuncts.{safe_of}
 use Rattle.loop_answers.specs.Planned.{IsLoopPlan}
+use Rattle.loop_answers.proofs.Seen.{agree_over}
 use Rattle.loop_plans.specs.Flat.{Part, join_part, end_after, chain_parts, from_parts}
 use Rattle.loop_plans.specs.Places.{further}
 use Rattle.loop_plans.specs.Offered.{OfferForm, undecided, source_of, number_of, offers_from, core_conditions, core_reads, core_offers, AreLevels}
@@ -112,7 +110,7 @@ plan_over s db eb ls e p = record {
   wide = p.wide;
   condition = p.condition;
   parted = p.parted;
-  rows = p.rows ∙ ap (filter (keeps (senses [] (safe_of s.conditions.items)))) e;
+  rows = agree_over s db eb _ e p.rows;
 }
 
 not_made : (answers : List Agreement2) (l : LoopLevel) (ls : List LoopLevel) → AreLevels [] answers (l ∷ ls) → ⊥

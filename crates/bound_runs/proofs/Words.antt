@@ -8,8 +8,7 @@ use Rattle.med_query.specs.Select.{query_of}
 use Rattle.med_binder.specs.declared.bound.BoundQuery.{BoundQuery}
 use Rattle.fdw_api.specs.State.{BoxState}
 use Rattle.fdw_api.specs.declared.interface.Fault.{Fault}
-use Rattle.pushdown.specs.Offered.{entry_place}
-use Rattle.med_planner.specs.Planned.{entry_rows, IsShownCause as IsTold}
+use Rattle.med_planner.specs.Planned.{entry_place, entry_rows, IsShownCause as IsTold}
 use Rattle.med_exec.specs.Running.{Served as IsServed, AllServed as BoxesServed, SlotShows as Shows, Stops as RunStops, lacks_memory, source_fails, numbers_end, query_shows as query_tells}
 use Rattle.scan_loops.specs.Serving.{Served, AllServed, SlotShows, wants_memory, box_breaks}
 use Rattle.scan_loops.specs.Starting.{box_stops, numbers_end as numbers_out}

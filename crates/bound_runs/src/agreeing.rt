@@ -1,7 +1,6 @@
 //! What the boxes agree to.
-ghost use Rattle.std.specs.Prelude.{◌≡◌, map, replicate, IfOk, IfErr};
+ghost use Rattle.std.specs.Prelude.{◌≡◌, map, IfOk, IfErr};
 ghost use Rattle.fdw_api.specs.declared.interface.Fault.TheVariants.{NoMemory as WantOfMemory};
-ghost use Rattle.fdw_api.specs.declared.scan.Agree.TheVariants.{Ignored};
 ghost use Rattle.nested_loops.specs.Joins.{Each};
 ghost use Rattle.scan_loops.specs.Slots.{states};
 ghost use Rattle.loop_plans.specs.Offered.{offer_form};
@@ -9,32 +8,13 @@ ghost use Rattle.loop_plans.specs.Premises.{AreAllowed};
 ghost use Rattle.bound_runs.specs.Offers.{offers_in, answers_in, IsOffered, IsAgreed, AllAllowed};
 
 use fdw_api::interface::Fault;
-use fdw_api::scan::{Agree, Agreement};
 use fdw_api::wishes::{Agreement2, Wish, Wrapper2};
 use loop_plans::LoopOffer;
 use loop_plans::law::bound_levels_can_start;
-use med_value::NoMemory;
 use scan_loops::plan2_at;
 use std::alloc::Global;
 
-// An agreement by which none of so many restrictions is taken over, and rows come whole.
-fn nothing_taken(alloc: Global, many: usize) -> Result<Agreement2, NoMemory>
-    ensures { IfOk result (λ a. a.base.answers.items ≡ replicate many Ignored) }
-{
-    let answers = vec![in alloc; Agree::Ignored; many]?;
-    let base = Agreement {
-        answers,
-        narrow: false,
-    };
-    Ok(Agreement2 {
-        base,
-        ordered: false,
-        limited: false,
-    })
-}
-
-// What the box of an offer agrees to of a scan of whole rows, no order and no limit being wished. Of one that gives the wanted columns
-// alone it is not known what of the restrictions it takes over in a scan of whole rows: there it is asked to take over none.
+// What the box of an offer agrees to, no order and no limit being wished.
 fn agree<W: Wrapper2>(
     slots: &Vec<Option<W>>,
     alloc: Global,
@@ -63,13 +43,7 @@ fn agree<W: Wrapper2>(
         Ok(agreement) => agreement,
         Err(fault) => return Err(fault),
     };
-    if !agreement.base.narrow {
-        return Ok(agreement);
-    }
-    match nothing_taken(alloc, offered.len()) {
-        Ok(agreement) => Ok(agreement),
-        Err(_) => Err(Fault::NoMemory),
-    }
+    Ok(agreement)
 }
 
 // What the boxes agree to of the scans of one core.

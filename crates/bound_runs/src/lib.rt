@@ -2,7 +2,6 @@
 //!
 //! The scans of a query's entries are offered the conditions that they may take over ([`offer_query`]), each to the box of its own source
 //! ([`agree_query`]); what the boxes answered makes the loops of each core ([`accept_query`]). [`run_bound`] plans a query so, and runs it.
-//! No crate of the program uses it yet.
 #![tactic(auto)]
 
 mod accepting;

@@ -3,7 +3,7 @@ ghost use Rattle.std.specs.Prelude.{◌≡◌, map, IfOk, IfErr};
 ghost use Rattle.med_value.specs.Datum.{tuple};
 ghost use Rattle.med_query.specs.Select.{query_of};
 ghost use Rattle.fdw_api.specs.declared.interface.Fault.TheVariants.{NoMemory as WantOfMemory};
-ghost use Rattle.pushdown.specs.Offered.{entry_place};
+ghost use Rattle.med_planner.specs.Planned.{entry_place};
 ghost use Rattle.med_exec.specs.Counting.{BeginsScans};
 ghost use Rattle.med_exec.specs.Running.{AllServed, Stops};
 ghost use Rattle.scan_loops.specs.Slots.{states};

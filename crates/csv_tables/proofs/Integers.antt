@@ -1,5 +1,7 @@
 -- The number that digits write, read byte by byte.
-use Rattle.std.proofs.Common.{◌≡◌, ◌≢◌, ℕ, pos, neg_ℤ, ◌+◌, ◌-◌, ◌*◌, ◌^◌, ◌<◌, ◌≤◌, ◌⊎◌, inl, inr, Bool, true, false, ◌&&◌, if◌then◌else◌, nat_lt, nat_le, List, [], ◌∷◌, length, Some, None, option_map, refl, ap, sym, ◌∙◌, arith, eqb}
+use Rattle.std.proofs.Common.{◌≡◌, ◌≢◌, ℕ, pos, neg_ℤ, ◌+◌, ◌-◌, ◌*◌, ◌^◌, ◌<◌, ◌≤◌, ◌⊎◌, inl, inr, Bool, true, false, ◌&&◌, if◌then◌else◌, nat_lt, nat_le, List, [], ◌∷◌, length, Some, None, option_map, refl, ap, sym, subst, ◌∙◌, arith, eqb}
+use Rattle.std.proofs.Math.Nat.{one-le-pow, pow-le-pow_right, mul-le-mul_left, mul-le-mul_right}
+use Rattle.std.proofs.lemmas.Grind.{pow_more}
 use Rattle.std.specs.Char.{is_ascii_digit, digit_value}
 use Rattle.std.specs.Str.{all_ascii_digits}
 use Rattle.std.specs.Str.Parse.{digits_value, digits_value_after}
@@ -71,6 +73,38 @@ goes_on n c cs text on e low high = record {
   where
     worth : (c : ℕ) → 48 ≤ c → c ≤ 57 → digit_value c ≡ c - 48
     worth c l h = grind (arith, nat_tests)
+
+-- a number that stays below 10^18 with this many digits more
+abbrev pub HasRoom : ℕ → ℕ → Type 0
+HasRoom n more = (n + 1) * 10 ^ more ≤ 10 ^ 18
+
+pub first_room : (l : ℕ) → l ≤ 18 → HasRoom 0 l
+first_room l le = let p : 10 ^ l ≤ 10 ^ 18 = pow-le-pow_right ten le in omega arith
+  where
+    ten : 0 < 10
+    ten = omega arith
+
+pub less_room : (n d l : ℕ) → d ≤ 9 → HasRoom n (l + 1) → HasRoom (n * 10 + d) l
+less_room n d l le h =
+    let p : 10 ^ (l + 1) ≡ 10 ^ l * 10 = pow_more 10 l in
+    let m : (n * 10 + d + 1) * 10 ^ l ≤ ((n + 1) * 10) * 10 ^ l = mul-le-mul_right (10 ^ l) (omega arith) in
+    let e : ((n + 1) * 10) * 10 ^ l ≡ (n + 1) * (10 ^ l * 10) = grind arith in
+    let g : (n + 1) * (10 ^ l * 10) ≤ 10 ^ 18 = subst (λ k. (n + 1) * k ≤ 10 ^ 18) p h in
+    omega arith
+
+pub has_room : (n l : ℕ) → HasRoom n l → n < 10 ^ 18
+has_room n l h =
+    let o : 1 ≤ 10 ^ l = one-le-pow l 10 (omega arith) in
+    let m : (n + 1) * 1 ≤ (n + 1) * 10 ^ l = mul-le-mul_left (n + 1) o in
+    omega arith
+
+pub one_digit_more : (n c d : ℕ) (cs l text : List ℕ) → l ≡ c ∷ cs → d ≡ c - 48 → is_ascii_digit c ≡ true → 48 ≤ c → c ≤ 57 → GoesOn n l text × HasRoom n (length l)
+    → GoesOn (n * 10 + d) cs text × HasRoom (n * 10 + d) (length cs)
+one_digit_more n c d cs l text e same is low high (on, room) =
+    let long : length l ≡ length cs + 1 = ap length e ∙ omega arith in (
+      subst (λ (k : ℕ). GoesOn (n * 10 + k) cs text) (sym same) (goes_on n c cs text (subst (λ (k : List ℕ). GoesOn n k text) e on) is low high),
+      less_room n d (length cs) (omega arith) (subst (λ (k : ℕ). HasRoom n k) long room),
+    )
 
 mapped : {X Y : Type 0} (f : X → Y) (b : Bool) (x : X) → option_map f (if b then Some x else None) ≡ (if b then Some (f x) else None)
 mapped f true x = refl

@@ -1,5 +1,5 @@
 //! The fields of a record as values, and values as fields.
-ghost use Rattle.std.specs.Prelude.{◌≡◌, ◌≤◌, ◌-◌, ◌^◌, true, IfOk, option_map, is_some, pos, neg_ℤ, IsUtf8};
+ghost use Rattle.std.specs.Prelude.{◌≡◌, ◌≤◌, ◌-◌, ◌^◌, ℕ, true, length, IfOk, option_map, is_some, pos, neg_ℤ, IsUtf8};
 ghost use Rattle.std.specs.String.{string_bytes};
 ghost use Rattle.med_value.specs.Datum.{datum};
 ghost use Rattle.csv_tables.specs.Rewriting.{is_storable};
@@ -35,8 +35,28 @@ fn without_spaces(text: &[u8]) -> &[u8]
     text
 }
 
+// The number that a text of at most 18 digits writes, which no test of a greater number is needed for.
+fn short_number(text: &[u8]) -> Option<u64>
+    requires { length text.now ≤ 18 }
+    ensures { (most : ℕ) → 10 ^ 18 ≤ most → result ≡ number_up_to most text.now }
+{
+    if text.is_empty() {
+        return None;
+    }
+    let mut text = text;
+    let mut value = 0;
+    while let Some((first, others)) = text.split_first() {
+        if !first.is_ascii_digit() {
+            return None;
+        }
+        value = value * 10 + u64::from(*first - b'0');
+        text = others;
+    }
+    Some(value)
+}
+
 // The number that a text of digits writes, where it is at most this one.
-fn number(text: &[u8], most: u64) -> Option<u64>
+fn long_number(text: &[u8], most: u64) -> Option<u64>
     requires { most ≤ 2 ^ 63 }
     ensures { result ≡ number_up_to most text.now }
 {
@@ -56,6 +76,19 @@ fn number(text: &[u8], most: u64) -> Option<u64>
         text = others;
     }
     if number > most { None } else { Some(number) }
+}
+
+// The same, where numbers of 18 digits are at most this one.
+fn number(text: &[u8], most: u64) -> Option<u64>
+    requires above { 10 ^ 18 ≤ most }
+    requires within { most ≤ 2 ^ 63 }
+    ensures { result ≡ number_up_to most text.now }
+{
+    if text.len() <= 18 {
+        short_number(text)
+    } else {
+        long_number(text, most)
+    }
 }
 
 // The number that a text of digits writes.

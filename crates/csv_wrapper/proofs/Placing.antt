@@ -1,12 +1,15 @@
 -- What is read of a blob, and what a write leaves, as tables by place.
-use Rattle.std.proofs.Common.{◌≡◌, ◌≢◌, ℕ, ◌+◌, ◌<◌, ◌⊎◌, inl, inr, eqb, Bool, true, false, not, ◌&&◌, nat_le, nat_lt, zero, suc, List, [], ◌∷◌, ◌++◌, length, map, slice_get, Option, Some, None, Contains, String, Global, string_bytes, refl, ap, sym, ◌∙◌, subst, arith}
+use Rattle.std.proofs.Common.{◌≡◌, ◌≢◌, ℕ, ◌+◌, ◌<◌, ◌⊎◌, inl, inr, eqb, Bool, true, false, not, ◌&&◌, nat_eq, nat_le, nat_lt, zero, suc, List, [], ◌∷◌, ◌++◌, length, map, slice_get, Option, Some, None, Contains, String, Global, string_bytes, refl, ap, sym, ◌∙◌, subst, arith}
 use Rattle.std.specs.List.{list_all, list_any, AllByRecursion}
 use Rattle.std.proofs.lemmas.Bool.Decides.{eqb_tells}
 use Rattle.std.proofs.lemmas.List.Elements.{All-contains, All-from_recursion}
 use Rattle.med_value.specs.Causes.{phase_of}
-use Rattle.med_value.specs.Datum.{Tuple}
+use Rattle.med_value.specs.Datum.{Tuple, cell}
+use Rattle.med_value.specs.declared.order.Comparison.TheVariants as comparisons
 use Rattle.med_value.specs.declared.value.ColType.{ColType}
-use Rattle.fdw_api.specs.Scan.{Spec, TableRow}
+use Rattle.fdw_api.specs.Scan.{Spec, RestrictionForm, TestForm, Compares, Missing, Present, Given, Slot, TableRow, checks}
+use Rattle.fdw_api.specs.declared.scan.Agree.{Agree}
+use Rattle.fdw_api.specs.declared.scan.Agree.TheVariants.{Exact}
 use Rattle.med_value.specs.declared.cause.Cause.{Cause}
 use Rattle.med_value.specs.declared.cause.Cause.TheVariants.{InvalidFormat, InvalidText, NotInState, TooLarge}
 use Rattle.fdw_api.specs.Kinds.{Column, OptionForm, Entry, Bytes, Held, held, Change, is_late, is_of_run}
@@ -29,11 +32,13 @@ use Rattle.csv_tables.specs.Scans.{comes}
 use Rattle.csv_tables.proofs.Applying.{origins}
 use Rattle.csv_tables.proofs.Placing.{row_at, row_there, rows_count}
 use Rattle.csv_tables.proofs.Headers.{heading_is_header}
-use Rattle.place_wrapper.specs.Forms.{ReadsAs, RefusesContent, Rewrites, RefusesChanges}
+use Rattle.place_wrapper.proofs.Rows.{here}
+use Rattle.place_wrapper.specs.Forms.{HasAt, ReadsAs, RefusesContent, Rewrites, RefusesChanges}
 use Rattle.csv_wrapper.specs.CsvKind.{csv_refusals, unless_of_run, three_of_run}
 use Rattle.csv_wrapper.specs.Bound.{bound_by}
 use Rattle.csv_wrapper.specs.Places.{csv_form, takes}
-use Rattle.place_index.specs.Scans.{SoughtForm, sought, has_sought}
+use Rattle.place_index.specs.Places.{equals}
+use Rattle.place_index.specs.Scans.{SoughtForm, sought, sought_of, or_else, has_sought}
 use Rattle.csv_wrapper.specs.declared.places.CsvPlaces.{CsvPlaces}
 
 both : (a b : Bool) → (a && b) ≡ true → (a ≡ true) × (b ≡ true)
@@ -217,3 +222,43 @@ takes_row t at spec params o r lt eo is h e =
 
 pub cells_there : (t : CsvTable) (at : ℕ) (r : TableRow) → at < length (rows_in t) → slice_get (rows_in t) at ≡ Some r → cells_at t at ≡ r.cells
 cells_there t at r lt is = ap (λ (x : TableRow). x.cells) (row_there t at r (within_count t at lt) is)
+
+-- the row at a place has what is looked for: so have the cells of its record
+pub found_there : (t : CsvPlaces) (at : ℕ) (s : SoughtForm) (params : Tuple) → at < length (rows_in t.table) → HasAt csv_form t s params at
+    → equals (cell params s.parameter) (cell (cells_at t.table at) s.column) ≡ true
+found_there t at s params lt has =
+    let w = here (rows_in t.table) at lt in
+    ap (λ (cells : Tuple). equals (cell params s.parameter) (cell cells s.column)) (cells_there t.table at w.0 lt w.1) ∙ has w.0 w.1
+
+-- the one restriction that was offered is true of a row that has what it looks for
+tested : (column : ℕ) (check : TestForm) (s : SoughtForm) (params cells : Tuple) → or_else (sought_of column check) None ≡ Some s → equals (cell params s.parameter) (cell cells s.column) ≡ true
+    → checks params check (cell cells column) ≡ true
+tested column (Compares comparisons.Equal (Slot at)) s params cells e h =
+    subst (λ (z : SoughtForm). equals (cell params z.parameter) (cell cells z.column) ≡ true) (sym (one (record { column = column; parameter = at }) s e)) h
+  where
+    one : (a b : SoughtForm) → Some a ≡ Some b → a ≡ b
+    one a b q = cc
+tested column (Compares comparisons.Equal (Given v)) s params cells e h = absurd cc
+tested column (Compares comparisons.Apart o) s params cells e h = absurd cc
+tested column (Compares comparisons.Below o) s params cells e h = absurd cc
+tested column (Compares comparisons.AtMost o) s params cells e h = absurd cc
+tested column (Compares comparisons.Above o) s params cells e h = absurd cc
+tested column (Compares comparisons.AtLeast o) s params cells e h = absurd cc
+tested column Missing s params cells e h = absurd cc
+tested column Present s params cells e h = absurd cc
+
+pub decided : (fs : List RestrictionForm) (answers : List Agree) (params cells : Tuple) (fields : Record) (s : SoughtForm) → length fs ≡ 1 → slice_get answers 0 ≡ Some Exact → sought fs ≡ Some s
+    → equals (cell params s.parameter) (cell cells s.column) ≡ true → comes fs answers params cells fields ≡ true
+decided [] answers params cells fields s one e is h = absurd (omega arith)
+decided (f ∷ []) [] params cells fields s one e is h = absurd cc
+decided (f ∷ []) (a ∷ more) params cells fields s one e is h =
+    let exact : a ≡ Exact = cc in
+    ap (λ (b : Agree). comes (f ∷ []) (b ∷ more) params cells fields) exact ∙ ap (λ b. b && true) (tested f.column f.test s params cells is h)
+decided (f ∷ g ∷ fs) answers params cells fields s one e is h = absurd (omega arith)
+
+pub sole : (n : ℕ) → nat_eq n 1 ≡ true → n ≡ 1
+sole n e = split (eqb_tells n 1)
+  where
+    split : ((eqb n 1 ≡ true) × (n ≡ 1)) ⊎ ((eqb n 1 ≡ false) × (n ≢ 1)) → n ≡ 1
+    split (inl w) = w.1
+    split (inr w) = absurd (let f = w.0 in cc)

@@ -16,6 +16,7 @@ bound_by remote shape = record {
   kinds = shape.kinds;
   allows = λ spec. true;
   allows_plain = λ wanted offered. mathlib.Core.Path.refl;
+  allows_whole = λ spec allowed. mathlib.Core.Path.refl;
   line = line_of shape.null;
   image = csv_image shape;
   arrangement = as_they_come;

@@ -1,9 +1,12 @@
 //! CSV tables as tables of rows at places.
-ghost use Rattle.std.specs.Prelude.{◌≡◌, ◌<◌, map, option_map, IfOk};
-ghost use Rattle.med_value.specs.Datum.{datum, cell};
-ghost use Rattle.csv_tables.specs.Tables.{cells_at};
+ghost use Rattle.std.specs.Prelude.{◌≡◌, ◌<◌, true, map, option_map, Some, IfOk};
+ghost use Rattle.med_value.specs.Datum.{Tuple, datum, cell};
+ghost use Rattle.fdw_api.specs.Scan.{restriction_form, spec_of};
+ghost use Rattle.csv_tables.specs.CsvRecords.{Record};
+ghost use Rattle.csv_tables.specs.Scans.{comes};
+ghost use Rattle.csv_tables.specs.Tables.{cells_at, fields_at};
 ghost use Rattle.place_index.specs.Places.{equals};
-ghost use Rattle.place_index.specs.Scans.{form_of, has_sought};
+ghost use Rattle.place_index.specs.Scans.{SoughtForm, form_of, sought, has_sought};
 
 use csv_tables::content::{Content, read_content};
 use csv_tables::layout::Layout;
@@ -68,6 +71,39 @@ fn has_sought(
     }
 }
 
+// Whether a scan takes each row that has what it looks for: nothing else was offered, and the answer to that was Exact.
+fn is_decided(spec: &ScanSpec) -> bool
+    ensures { result ≡ true → (params cells : Tuple) (fields : Record) (s : SoughtForm) → sought (spec_of spec.now).offered ≡ Some s
+        → equals (cell params s.parameter) (cell cells s.column) ≡ true
+        → comes (spec_of spec.now).offered (spec_of spec.now).answers params cells fields ≡ true }
+{
+    match spec.agreement.answers.first() {
+        Some(Agree::Exact) => spec.offered.len() == 1,
+        _ => false,
+    }
+}
+
+// Whether a record that has what a scan looks for comes.
+fn found_comes(
+    alloc: Global,
+    table: &CsvTable,
+    at: usize,
+    spec: &ScanSpec,
+    _found: Sought,
+    params: &[Value],
+) -> Result<bool, NoMemory>
+    requires within { at < table.now.rows.count }
+    requires found { sought (map restriction_form spec.now.offered.items) ≡ Some (form_of _found) }
+    requires has { equals (cell (map datum params.now) _found.parameter) (cell (cells_at table.now at) _found.column) ≡ true }
+    ensures { IfOk result (λ b. b
+        ≡ comes (spec_of spec.now).offered (spec_of spec.now).answers (map datum params.now) (cells_at table.now at) (fields_at table.now at)) }
+{
+    if is_decided(spec) {
+        return Ok(true);
+    }
+    comes(alloc, table, at, spec, params)
+}
+
 impl PlacedTable for CsvPlaces {
     type Draft = CsvDraft;
 
@@ -129,6 +165,21 @@ impl PlacedTable for CsvPlaces {
         }
         let row = show(alloc, &self.table, at, spec)?;
         Ok(Some(row))
+    }
+
+    fn give_found(
+        &self,
+        alloc: Global,
+        at: usize,
+        spec: &ScanSpec,
+        found: Sought,
+        params: &[Value],
+    ) -> Result<Option<Row>, NoMemory> {
+        if !found_comes(alloc, &self.table, at, spec, found, params)? {
+            return Ok(None);
+        }
+        let shown = show(alloc, &self.table, at, spec)?;
+        Ok(Some(shown))
     }
 
     fn cell(&self, alloc: Global, at: usize, column: usize) -> Result<Value, NoMemory> {

@@ -20,3 +20,8 @@ pub fn same_text(case: &str, came: &[u8], wanted: &[u8]) -> Result<(), Fail> {
     let wanted = from_utf8(wanted).unwrap_or("no text");
     Err(Fail::new(format_args!("{case}: wanted {wanted}, came {came}")))
 }
+
+/// What is wanted of a row `wanted | query`, and the query.
+pub fn cut(row: &str) -> Result<(&str, &str), Fail> {
+    Ok(row.split_once(" | ").ok_or(row)?)
+}

@@ -12,6 +12,8 @@ mod memory;
 #[cfg(test)]
 mod names;
 #[cfg(test)]
+mod pulls;
+#[cfg(test)]
 mod reader;
 #[cfg(test)]
 mod refusals;

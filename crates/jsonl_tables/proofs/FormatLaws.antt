@@ -1,12 +1,14 @@
 -- Tables of JSON lines as tables by place: their rows, and the causes against contents and changes.
-use Rattle.std.proofs.Common.{◌≡◌, ℕ, ◌+◌, ◌<◌, ◌≤◌, Bool, true, false, not, ◌&&◌, ◌++◌, List, [], ◌∷◌, Option, Some, None, length, map, get_or, slice_get, Contains, zero, suc, refl, ap, sym, ◌∙◌, subst, arith, rules, string_bytes}
+use Rattle.std.proofs.Common.{◌≡◌, ℕ, ◌+◌, ◌<◌, ◌≤◌, Bool, true, false, ◌&&◌, ◌++◌, List, [], ◌∷◌, Option, Some, None, length, map, get_or, slice_get, Contains, zero, suc, refl, ap, sym, ◌∙◌, arith, rules, string_bytes}
 use Rattle.std.specs.List.{list_all}
 use Rattle.med_value.specs.Causes.{phase_of}
 use Rattle.med_value.specs.declared.cause.Cause.{Cause}
 use Rattle.med_value.specs.declared.cause.Cause.TheVariants.{NotInState, TooLarge, InvalidFormat, InvalidText}
-use Rattle.med_value.specs.Datum.{Datum, NoValue, Tuple, cell}
-use Rattle.fdw_api.specs.Scan.{TableRow}
-use Rattle.fdw_api.specs.Kinds.{Column, OptionForm, Entry, Bytes, Held, held, Change, as_they_come, is_of_run, is_late}
+use Rattle.med_value.specs.Datum.{Tuple, tuple}
+use Rattle.fdw_api.specs.Scan.{Spec, shown_cells}
+use Rattle.place_index.specs.Scans.{takes}
+use Rattle.med_value.specs.declared.value.Row.{Row}
+use Rattle.fdw_api.specs.Kinds.{Column, OptionForm, Bytes, Held, held, Change, as_they_come, is_of_run, is_late}
 use Rattle.fdw_api.specs.State.{BoxTable}
 use Rattle.fdw_api.specs.Writes.{rows_after}
 use Rattle.fdw_api.specs.Calls.{IsLeast}
@@ -14,16 +16,16 @@ use Rattle.fdw_api.specs.declared.interface.Fault.{Fault}
 use Rattle.fdw_api.specs.declared.interface.Fault.TheVariants.{NoMemory, Source, Refused}
 use Rattle.jsonl_tables.specs.declared.table.JsonTable.{JsonTable}
 use Rattle.jsonl_tables.specs.declared.lines.Span.{Span}
-use Rattle.jsonl_tables.specs.Lines.{line_at, lines_at, lines_of, text_of}
-use Rattle.serde_json.specs.Data.{Data}
+use Rattle.jsonl_tables.specs.Lines.{lines_at, lines_of, text_of}
 use Rattle.jsonl_tables.specs.declared.fields.Field.{Field}
 use Rattle.jsonl_tables.specs.Fields.{Reader, reader_of, readers_of}
-use Rattle.jsonl_tables.specs.Objects.{json_of, is_object, is_typed, read_cell, cells_at}
+use Rattle.jsonl_tables.specs.Objects.{is_object, is_typed}
 use Rattle.jsonl_tables.specs.Contents.{where_true, is_too_large, content_causes, ContentRefused, WriteRefused, json_line, row_at, rows_at, lines_held, write_causes}
-use Rattle.jsonl_tables.specs.Tables.{numbered, readers_in, lines_in, kinds_in, rows_in}
+use Rattle.jsonl_tables.specs.Tables.{numbered, readers_in, lines_in, rows_in, row_cells}
+use Rattle.jsonl_tables.proofs.WholeLaws.{cells_are}
 use Rattle.jsonl_tables.proofs.RewriteLaws.{lines_back}
 use Rattle.jsonl_tables.specs.Jsonl.{json_image, kinds_are, json_refusals}
-use Rattle.place_wrapper.specs.Forms.{CellAt, ReadsAs, RefusesContent, Rewrites, RefusesChanges}
+use Rattle.place_wrapper.specs.Forms.{GivesAt, ReadsAs, RefusesContent, Rewrites, RefusesChanges}
 use Rattle.jsonl_tables.specs.Formats.{json_form}
 
 some_inj : {A : Type 0} (a b : A) → Some a ≡ Some b → a ≡ b
@@ -32,12 +34,6 @@ some_inj a b q = cc
 pub rows_length : (readers : List Reader) (n : ℕ) (content : List ℕ) (spans : List Span) → length (numbered readers n (lines_at content spans)) ≡ length spans
 rows_length readers n content [] = refl
 rows_length readers n content (s ∷ spans) = ap (λ (k : ℕ). suc k) (rows_length readers (n + 1) content spans)
-
-pub line_row : (readers : List Reader) (n at : ℕ) (content : List ℕ) (spans : List Span) (span : Span) (r : TableRow) → at < length spans → span ≡ get_or spans at span → slice_get (numbered readers n (lines_at content spans)) at ≡ Some r → cells_at readers (line_at content span) ≡ r.cells
-line_row readers n at content [] span r lt e is = absurd (omega arith)
-line_row readers n zero content (s ∷ spans) span r lt e is =
-    ap (λ (z : Span). cells_at readers (line_at content z)) e ∙ ap (λ (z : TableRow). z.cells) (some_inj _ r is)
-line_row readers n (suc at) content (s ∷ spans) span r lt e is = line_row readers (n + 1) at content spans span r (omega arith) e is
 
 both : (a b : Bool) → (a && b) ≡ true → (a ≡ true) × (b ≡ true)
 both true b e = (refl, e)
@@ -70,35 +66,15 @@ kind_none [] i le = refl
 kind_none (x ∷ fs) zero le = absurd (omega arith)
 kind_none (x ∷ fs) (suc i) le = kind_none fs i (omega arith)
 
--- the cell of a column is what its field reads in the line, and NULL where there is no such column
-read_there : (value : Option Data) (fs : List Field) (i : ℕ) (f : Field) → i < length fs → f ≡ get_or fs i f
-    → read_cell value (reader_of f) ≡ cell (map (read_cell value) (map reader_of fs)) i
-read_there value [] i f lt e = absurd (omega arith)
-read_there value (x ∷ fs) zero f lt e = ap (λ (z : Field). read_cell value (reader_of z)) e
-read_there value (x ∷ fs) (suc i) f lt e = read_there value fs i f (omega arith) e
+-- what the cells of a row tell of it
+pub given_there : (t : JsonTable) (spec : Spec) (params : Tuple) (at : ℕ) (row : Row) → true ≡ takes spec params (row_cells t at)
+    → tuple row ≡ shown_cells spec (row_cells t at) → GivesAt json_form t spec params at (Some row)
+given_there t spec params at row e shows r is =
+    (ap (takes spec params) (sym (cells_are t at r is)) ∙ sym e, shows ∙ ap (shown_cells spec) (cells_are t at r is))
 
-pub cell_there : (t : JsonTable) (at column : ℕ) (span : Span) (f : Field) (v : Datum) → at < length t.lines.items → span ≡ get_or t.lines.items at span
-    → column < length t.fields.items → f ≡ get_or t.fields.items column f → v ≡ read_cell (json_of (line_at t.content.items span)) (reader_of f)
-    → CellAt json_form t at column v
-cell_there t at column span f v lt es less ef ev r is =
-    ev ∙ read_there (json_of (line_at t.content.items span)) t.fields.items column f less ef
-    ∙ ap (λ (cells : Tuple). cell cells column) (line_row (readers_in t) 0 at t.content.items t.lines.items span r lt es is)
-
-no_cell : (value : Option Data) (fs : List Field) (i : ℕ) → length fs ≤ i → NoValue ≡ cell (map (read_cell value) (map reader_of fs)) i
-no_cell value [] i le = refl
-no_cell value (x ∷ fs) zero le = absurd (omega arith)
-no_cell value (x ∷ fs) (suc i) le = no_cell value fs i (omega arith)
-
-row_there : (readers : List Reader) (n at : ℕ) (lines : List (List ℕ)) (r : TableRow) → slice_get (numbered readers n lines) at ≡ Some r
-    → (line : List ℕ) × (r.cells ≡ cells_at readers line)
-row_there readers n at [] r is = absurd cc
-row_there readers n zero (l ∷ ls) r is = (l, sym (ap (λ (z : TableRow). z.cells) (some_inj _ r is)))
-row_there readers n (suc at) (l ∷ ls) r is = row_there readers (n + 1) at ls r is
-
-pub cell_none : (t : JsonTable) (at column : ℕ) → length t.fields.items ≤ column → CellAt json_form t at column NoValue
-cell_none t at column le r is =
-    let w = row_there (readers_in t) 0 at (lines_in t) r is in
-    no_cell (json_of w.0) t.fields.items column le ∙ ap (λ (cells : Tuple). cell cells column) (sym w.1)
+pub left_there : (t : JsonTable) (spec : Spec) (params : Tuple) (at : ℕ) → false ≡ takes spec params (row_cells t at)
+    → GivesAt json_form t spec params at None
+left_there t spec params at e r is = ap (takes spec params) (sym (cells_are t at r is)) ∙ sym e
 
 all_of_run : (large object typed : Bool) → list_all (λ c. is_of_run (phase_of c)) (where_true large TooLarge ++ (where_true object InvalidFormat ++ where_true typed InvalidText)) ≡ true
 all_of_run true true true = refl
@@ -170,6 +146,7 @@ bound_by remote readers = record {
   kinds = map (λ f. f.kind) readers;
   allows = λ spec. true;
   allows_plain = λ wanted offered. refl;
+  allows_whole = λ spec allowed. refl;
   line = json_line readers;
   image = json_image;
   arrangement = as_they_come;

@@ -1,6 +1,7 @@
 pub mod LineLaws
 pub mod ObjectLaws
 pub mod WrittenLaws
+pub mod WholeLaws
 pub mod ReadLaws
 pub mod RewriteLaws
 pub mod ImageLaws

@@ -3,7 +3,6 @@ use Rattle.std.specs.Prelude.{◌≡◌, ◌+◌, ℕ, true, List, [], ◌∷◌
 use Rattle.std.specs.String.{string_bytes}
 use mathlib.Core.Path.{refl}
 use Rattle.std.specs.List.{list_all}
-use Rattle.med_value.specs.Datum.{Tuple}
 use Rattle.med_value.specs.declared.cause.Cause.TheVariants.{TableNotFound}
 use Rattle.med_value.specs.declared.value.ColType.{ColType}
 use Rattle.med_value.specs.declared.value.ColType.TheVariants as types
@@ -31,6 +30,7 @@ bound_of t = record {
   kinds = kinds_in t;
   allows = λ spec. true;
   allows_plain = λ wanted offered. refl;
+  allows_whole = λ spec allowed. refl;
   line = json_line (readers_in t);
   image = json_image;
   arrangement = as_they_come;
@@ -48,10 +48,6 @@ answer_on None (Compares op other) = Ignored
 
 abbrev pub answer_to : List ColType → RestrictionForm → Agree
 answer_to kinds f = answer_on (slice_get kinds f.column) f.test
-
--- the cells of the row at a place
-abbrev pub RowAt : JsonTable → ℕ → Tuple → Type 0
-RowAt t at cells = (r : TableRow) → slice_get (rows_in t) at ≡ Some r → cells ≡ r.cells
 
 pub lines_numbered : (readers : List Reader) (n : ℕ) (lines : List (List ℕ)) → IsNumbered n (numbered readers n lines)
 lines_numbered readers n [] = tt

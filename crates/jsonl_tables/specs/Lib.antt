@@ -1,6 +1,7 @@
 pub mod Lines
 pub mod Fields
 pub mod Objects
+pub mod Wholes
 pub mod Written
 pub mod Contents
 pub mod Tables

@@ -1,5 +1,6 @@
 -- What a table is: what its columns read, its lines and its rows.
-use Rattle.std.specs.Prelude.{◌+◌, ℕ, List, [], ◌∷◌, map}
+use Rattle.std.specs.Prelude.{◌+◌, ℕ, List, [], ◌∷◌, map, slice_get, unwrap_or}
+use Rattle.med_value.specs.Datum.{Tuple}
 use Rattle.med_value.specs.declared.value.ColType.{ColType}
 use Rattle.fdw_api.specs.Scan.{TableRow}
 use Rattle.jsonl_tables.specs.declared.table.JsonTable.{JsonTable}
@@ -25,3 +26,10 @@ kinds_in t = map (λ f. f.kind) (readers_in t)
 -- its rows
 abbrev pub rows_in : JsonTable → List TableRow
 rows_in t = numbered (readers_in t) 0 (lines_in t)
+
+-- the line at a place, and the cells of its row
+abbrev pub line_in : JsonTable → ℕ → List ℕ
+line_in t at = unwrap_or (slice_get (lines_in t) at) []
+
+abbrev pub row_cells : JsonTable → ℕ → Tuple
+row_cells t at = cells_at (readers_in t) (line_in t at)

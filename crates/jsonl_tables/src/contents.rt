@@ -1,23 +1,38 @@
 //! Contents: their lines, which are checked when a table is bound, and the rows that these are.
-ghost use Rattle.std.specs.Prelude.{◌≡◌, true, false, length, map, IfOk, IfErr, OnOk};
+ghost use Rattle.std.specs.Prelude.{◌≡◌, true, false, Some, length, map, IfOk, IfErr};
 ghost use Rattle.std.specs.List.{list_all};
 ghost use Rattle.med_value.specs.Datum.{datum, tuple};
+ghost use Rattle.serde_json.specs.View.{view};
 ghost use Rattle.jsonl_tables.specs.Lines.{lines_of, lines_at};
 ghost use Rattle.jsonl_tables.specs.Fields.{reader_of};
 ghost use Rattle.jsonl_tables.specs.Objects.{is_object, is_typed, cells_at, json_of, read_cell};
+ghost use Rattle.jsonl_tables.specs.Wholes.{whole_is, wholes_of};
 ghost use Rattle.jsonl_tables.specs.Contents.{is_too_large, LineRefused, ContentRefused};
 
 use crate::fields::Field;
 use crate::lines::{Span, is_blank, line_at, line_from};
 use crate::objects::{LineFault, has_types, parse_line, read_cell, read_row};
+use crate::wholes::push_wholes;
 use fdw_api::interface::Fault;
 use med_value::limits::{BYTE_LIMIT, ROW_LIMIT};
 use med_value::{Cause, NoMemory, Row, Value};
+use serde_json::Value as Object;
 use std::alloc::Global;
 
-/// Checks that a line is an object, with members of the columns' types.
-fn check_line(alloc: Global, line: &[u8], fields: &[Field]) -> Result<(), Fault>
-    ensures ok { OnOk result ((is_object line.now ≡ true) × (is_typed (map reader_of fields.now) line.now ≡ true)) }
+/// The lines of a content that was read.
+#[derive(Drop)]
+pub struct LinesRead {
+    /// Where they stand.
+    pub spans: Vec<Span>,
+    /// What the integer columns read in them, line by line; None is NULL.
+    pub wholes: Vec<Option<i64>>,
+}
+
+/// The object that a line is, with members of the columns' types.
+fn check_line(alloc: Global, line: &[u8], fields: &[Field]) -> Result<Object, Fault>
+    ensures is { IfOk result (λ v. json_of line.now ≡ Some (view v)) }
+    ensures object { IfOk result (λ v. is_object line.now ≡ true) }
+    ensures typed { IfOk result (λ v. is_typed (map reader_of fields.now) line.now ≡ true) }
     ensures err { IfErr result (λ fault. LineRefused (map reader_of fields.now) line.now fault) }
 {
     match parse_line(alloc, line) {
@@ -25,7 +40,7 @@ fn check_line(alloc: Global, line: &[u8], fields: &[Field]) -> Result<(), Fault>
         Err(LineFault::NotObject) => Err(Fault::Refused(Cause::InvalidFormat)),
         Ok(value) => {
             if has_types(&value, fields) {
-                Ok(())
+                Ok(value)
             } else {
                 Err(Fault::Refused(Cause::InvalidText))
             }
@@ -33,33 +48,36 @@ fn check_line(alloc: Global, line: &[u8], fields: &[Field]) -> Result<(), Fault>
     }
 }
 
-/// Where the lines of a content stand, each of which is checked: refused by `TooLarge` (54000), `InvalidFormat` (HV00A) or `InvalidText`
-/// (22P02), each where the content shows it, or for want of memory.
-pub fn read_lines(alloc: Global, content: &[u8], fields: &[Field]) -> Result<Vec<Span>, Fault>
-    ensures lines { IfOk result (λ spans. lines_at content.now spans.items ≡ lines_of content.now) }
-    ensures objects { IfOk result (λ spans. list_all is_object (lines_of content.now) ≡ true) }
-    ensures typed { IfOk result (λ spans. list_all (is_typed (map reader_of fields.now)) (lines_of content.now) ≡ true) }
-    ensures few { IfOk result (λ spans. is_too_large (length (lines_of content.now)) (length content.now) ≡ false) }
+/// The lines of a content, each of which is checked: refused by `TooLarge` (54000), `InvalidFormat` (HV00A) or `InvalidText` (22P02), each
+/// where the content shows it, or for want of memory.
+pub fn read_lines(alloc: Global, content: &[u8], fields: &[Field]) -> Result<LinesRead, Fault>
+    ensures lines { IfOk result (λ read. lines_at content.now read.spans.items ≡ lines_of content.now) }
+    ensures wholes { IfOk result (λ read. map whole_is read.wholes.items ≡ wholes_of (map reader_of fields.now) (lines_of content.now)) }
+    ensures objects { IfOk result (λ read. list_all is_object (lines_of content.now) ≡ true) }
+    ensures typed { IfOk result (λ read. list_all (is_typed (map reader_of fields.now)) (lines_of content.now) ≡ true) }
+    ensures few { IfOk result (λ read. is_too_large (length (lines_of content.now)) (length content.now) ≡ false) }
     ensures err { IfErr result (λ fault. ContentRefused (map reader_of fields.now) content.now fault) }
 {
     if content.len() > BYTE_LIMIT {
         return Err(Fault::Refused(Cause::TooLarge));
     }
     let mut spans = Vec::new(alloc);
+    let mut wholes = Vec::new(alloc);
     let mut start = 0;
     while start <= content.len() {
         let span = line_from(content, start);
         let line = line_at(content, span);
         if !is_blank(line) {
-            check_line(alloc, line, fields)?;
+            let value = check_line(alloc, line, fields)?;
             if spans.len() == ROW_LIMIT {
                 return Err(Fault::Refused(Cause::TooLarge));
             }
+            push_wholes(&mut wholes, &value, fields)?;
             spans.push(span)?;
         }
         start = span.end + 1;
     }
-    Ok(spans)
+    Ok(LinesRead { spans, wholes })
 }
 
 /// The row that a line is: in each column the value of its member, NULL where that is absent or of another type. A line that is no object

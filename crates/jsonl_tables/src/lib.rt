@@ -3,16 +3,18 @@
 
 pub mod contents;
 pub mod fields;
+mod known;
 pub mod law;
 pub mod lines;
 mod objects;
 pub mod placed;
 pub mod rewrite;
 pub mod table;
+mod wholes;
 mod written;
 
-pub use contents::{cell_of_line, read_lines, row_of_line};
+pub use contents::{LinesRead, cell_of_line, read_lines, row_of_line};
 pub use fields::{Field, fields_of};
 pub use lines::{Image, Span, line_at};
-pub use rewrite::rewritten;
+pub use rewrite::{LinesWritten, rewritten};
 pub use table::JsonTable;

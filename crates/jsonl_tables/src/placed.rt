@@ -1,14 +1,17 @@
 //! Tables of JSON lines as tables of rows at places.
 ghost use Rattle.std.specs.Prelude.{◌≡◌, ◌<◌, slice_get, length, IfOk};
-ghost use Rattle.med_value.specs.Datum.{tuple};
-ghost use Rattle.fdw_api.specs.Scan.{test_form};
-ghost use Rattle.jsonl_tables.specs.Tables.{kinds_in};
-ghost use Rattle.jsonl_tables.specs.Formats.{answer_on, RowAt};
+ghost use Rattle.std.specs.List.{list_any};
+ghost use Rattle.med_value.specs.Datum.{datum, tuple, cell};
+ghost use Rattle.fdw_api.specs.Scan.{test_form, pick, shown_cells, spec_of};
+ghost use Rattle.jsonl_tables.specs.Wholes.{is_other};
+ghost use Rattle.jsonl_tables.specs.Tables.{kinds_in, row_cells};
+ghost use Rattle.jsonl_tables.specs.Formats.{answer_on};
 
-use crate::contents::{cell_of_line, read_lines, row_of_line};
+use crate::contents::{LinesRead, cell_of_line, read_lines, row_of_line};
 use crate::fields::{copy_fields, fields_of};
+use crate::known::{known_cell, takes_known};
 use crate::lines::line_at;
-use crate::rewrite::rewritten;
+use crate::rewrite::{LinesWritten, rewritten};
 use crate::table::JsonTable;
 use fdw_api::interface::{Fault, TableOption};
 use fdw_api::scan::{Agree, Restriction, ScanSpec, Test};
@@ -21,7 +24,7 @@ use std::alloc::Global;
 /// The row of the line at a place.
 fn row_at(alloc: Global, table: &JsonTable, at: usize) -> Result<Row, NoMemory>
     requires { at < length table.now.lines.items }
-    ensures { IfOk result (λ row. RowAt table.now at (tuple row)) }
+    ensures { IfOk result (λ row. tuple row ≡ row_cells table.now at) }
 {
     row_of_line(
         alloc,
@@ -39,6 +42,72 @@ fn kind_at(table: &JsonTable, column: usize) -> Option<ColType>
     } else {
         None
     }
+}
+
+/// The cell of a row in a column, NULL where there is no such column. The line is read where that is no column of integers.
+fn cell_at(alloc: Global, table: &JsonTable, at: usize, column: usize) -> Result<Value, NoMemory>
+    requires { at < length table.now.lines.items }
+    ensures { IfOk result (λ v. datum v ≡ cell (row_cells table.now at) column) }
+{
+    if column >= table.fields.len() {
+        return Ok(Value::Null);
+    }
+    if let Some(value) = known_cell(table, at, column) {
+        return Ok(value);
+    }
+    cell_of_line(
+        alloc,
+        line_at(&table.content, table.lines[at]),
+        &table.fields[column],
+    )
+}
+
+/// Whether there is such a column, and it has another type than integer.
+fn is_other(kind: Option<ColType>) -> bool
+    ensures { result ≡ is_other kind }
+{
+    match kind {
+        Some(ColType::Int) => false,
+        Some(ColType::Text) => true,
+        Some(ColType::Bool) => true,
+        None => false,
+    }
+}
+
+/// Whether some of these columns has another type than integer.
+fn has_other(table: &JsonTable, wanted: &[usize]) -> bool
+    ensures { result ≡ list_any (λ column. is_other (slice_get (kinds_in table.now) column)) wanted.now }
+{
+    for column in wanted {
+        if is_other(kind_at(table, *column)) {
+            return true;
+        }
+    }
+    false
+}
+
+/// The cells of a row in these columns.
+fn picked(alloc: Global, table: &JsonTable, at: usize, wanted: &[usize]) -> Result<Row, NoMemory>
+    requires { at < length table.now.lines.items }
+    ensures { IfOk result (λ row. tuple row ≡ pick wanted.now (row_cells table.now at)) }
+{
+    let mut cells = Vec::with_capacity(alloc, wanted.len())?;
+    for column in wanted {
+        cells.push(cell_at(alloc, table, at, *column)?)?;
+    }
+    Ok(Row { cells })
+}
+
+/// A row as a scan shows it: where that is cells of integer columns alone, its line is not read.
+fn shown(alloc: Global, table: &JsonTable, at: usize, spec: &ScanSpec) -> Result<Row, NoMemory>
+    requires { at < length table.now.lines.items }
+    ensures { IfOk result (λ row. tuple row ≡ shown_cells (spec_of spec.now) (row_cells table.now at)) }
+{
+    if spec.agreement.narrow && !has_other(table, &spec.wanted) {
+        return picked(alloc, table, at, &spec.wanted);
+    }
+    let row = row_at(alloc, table, at)?;
+    spec.show(alloc, &row)
 }
 
 /// What is done about a test of a column of this type.
@@ -76,8 +145,8 @@ impl PlacedTable for JsonTable {
         content: Vec<u8>,
     ) -> Result<JsonTable, Fault> {
         let fields = fields_of(alloc, columns, options)?;
-        let lines = match read_lines(alloc, &content, &fields) {
-            Ok(lines) => lines,
+        let LinesRead { spans, wholes } = match read_lines(alloc, &content, &fields) {
+            Ok(read) => read,
             Err(fault) => return Err(fault),
         };
         let remote = remote.to_string(alloc)?;
@@ -85,7 +154,8 @@ impl PlacedTable for JsonTable {
             remote,
             fields,
             content,
-            lines,
+            lines: spans,
+            wholes,
         })
     }
 
@@ -109,30 +179,29 @@ impl PlacedTable for JsonTable {
         found: Option<Sought>,
         params: &[Value],
     ) -> Result<Option<Row>, NoMemory> {
-        let row = row_at(alloc, self, at)?;
-        if takes(spec, found, params, &row) {
-            Ok(Some(spec.show(alloc, &row)?))
-        } else {
-            Ok(None)
+        match takes_known(self, at, spec, found, params) {
+            Some(true) => Ok(Some(shown(alloc, self, at, spec)?)),
+            Some(false) => Ok(None),
+            None => {
+                let row = row_at(alloc, self, at)?;
+                if takes(spec, found, params, &row) {
+                    Ok(Some(spec.show(alloc, &row)?))
+                } else {
+                    Ok(None)
+                }
+            }
         }
     }
 
     fn cell(&self, alloc: Global, at: usize, column: usize) -> Result<Value, NoMemory> {
-        if column >= self.fields.len() {
-            return Ok(Value::Null);
-        }
-        cell_of_line(
-            alloc,
-            line_at(&self.content, self.lines[at]),
-            &self.fields[column],
-        )
+        cell_at(alloc, self, at, column)
     }
 
     fn rewritten(&self, alloc: Global, changes: Vec<RowChange>) -> Result<JsonTable, Fault> {
         let remote = self.remote.as_str().to_string(alloc)?;
         let fields = copy_fields(alloc, &self.fields)?;
-        let image = match rewritten(alloc, self, changes) {
-            Ok(image) => image,
+        let LinesWritten { image, wholes } = match rewritten(alloc, self, changes) {
+            Ok(made) => made,
             Err(fault) => return Err(fault),
         };
         Ok(JsonTable {
@@ -140,6 +209,7 @@ impl PlacedTable for JsonTable {
             fields,
             content: image.content,
             lines: image.lines,
+            wholes,
         })
     }
 

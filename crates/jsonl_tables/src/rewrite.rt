@@ -5,18 +5,29 @@ ghost use Rattle.fdw_api.specs.Writes.{inserted, rows_after, row_of_change_fits}
 ghost use Rattle.jsonl_tables.specs.Lines.{lines_at, text_of, IsImage};
 ghost use Rattle.jsonl_tables.specs.Contents.{rows_at, json_line, widens, updates_wider, write_causes, WriteRefused};
 ghost use Rattle.jsonl_tables.specs.Tables.{readers_in, kinds_in, lines_in, rows_in};
+ghost use Rattle.jsonl_tables.specs.Wholes.{whole_is, wholes_of};
 ghost use Rattle.staged_changes.specs.Staged.{change_is};
 ghost use Rattle.jsonl_tables.specs.Changes.{left_by, rows_left};
 
+use crate::known::kept_wholes;
 use crate::lines::{Image, line_at};
 use crate::objects::{LineFault, is_wider, parse_line};
 use crate::table::JsonTable;
+use crate::wholes::{push_line, push_lines};
 use crate::written::line_of;
 use fdw_api::interface::Fault;
 use med_value::limits::{BYTE_LIMIT, ROW_LIMIT};
 use med_value::{Cause, NoMemory};
 use staged_changes::{Fate, RowChange, keep_all, set_fate};
 use std::alloc::Global;
+
+/// The lines after a write, and what the integer columns read in them.
+#[derive(Drop)]
+pub struct LinesWritten {
+    pub image: Image,
+    /// Line by line; None is NULL.
+    pub wholes: Vec<Option<i64>>,
+}
 
 /// A sorted write: what it makes of each old line, and its new lines.
 #[derive(Drop)]
@@ -93,6 +104,35 @@ fn kept_lines(alloc: Global, table: &JsonTable, fates: Vec<Fate<String>>) -> Res
     Ok(image)
 }
 
+/// What the integer columns read in the old lines that are left, as their fates say: a kept line is not read again.
+fn left_wholes(
+    alloc: Global,
+    table: &JsonTable,
+    fates: &[Fate<String>],
+) -> Result<Vec<Option<i64>>, NoMemory>
+    ensures { IfOk result (λ wholes. map whole_is wholes.items
+        ≡ wholes_of (readers_in table.now) (left_by fates.now (lines_in table.now))) }
+{
+    let mut wholes = Vec::new(alloc);
+    let mut at = 0;
+    for fate in fates {
+        if at < table.lines.len() {
+            match fate {
+                Fate::Keep => wholes.extend_from_slice(kept_wholes(table, at))?,
+                Fate::Change(line) => push_line(
+                    alloc,
+                    &mut wholes,
+                    line.as_bytes(),
+                    &table.fields,
+                )?,
+                Fate::Gone => {}
+            }
+            at += 1;
+        }
+    }
+    Ok(wholes)
+}
+
 /// Appends lines.
 fn with_lines(image: Image, fresh: Vec<String>) -> Result<Image, NoMemory>
     ensures { (lines : List (List ℕ)) → IsImage image.content.items image.lines.items lines
@@ -108,19 +148,27 @@ fn with_lines(image: Image, fresh: Vec<String>) -> Result<Image, NoMemory>
 /// The lines after staged changes: the old ones that are left, in their order, and then the new ones. Refused by `NotInState` (55000) where
 /// a line with a member that no column reads is updated, by `TooLarge` (54000) where too many lines or bytes would be left, or for want of
 /// memory.
-pub fn rewritten(alloc: Global, table: &JsonTable, changes: Vec<RowChange>) -> Result<Image, Fault>
+pub fn rewritten(
+    alloc: Global,
+    table: &JsonTable,
+    changes: Vec<RowChange>,
+) -> Result<LinesWritten, Fault>
     requires { list_all (row_of_change_fits (kinds_in table.now)) (map change_is changes.items) ≡ true }
-    ensures text { IfOk result (λ image. image.content.items ≡ text_of (lines_at image.content.items image.lines.items)) }
-    ensures rows { IfOk result (λ image. rows_at (readers_in table.now) (lines_at image.content.items image.lines.items)
+    ensures text { IfOk result (λ made. made.image.content.items ≡ text_of (lines_at made.image.content.items made.image.lines.items)) }
+    ensures rows { IfOk result (λ made. rows_at (readers_in table.now) (lines_at made.image.content.items made.image.lines.items)
         ≡ rows_after (json_line (readers_in table.now)) (rows_in table.now) (map change_is changes.items)) }
-    ensures no_cause { IfOk result (λ image. write_causes (readers_in table.now) (rows_in table.now) (map change_is changes.items) ≡ []) }
+    ensures wholes { IfOk result (λ made. map whole_is made.wholes.items
+        ≡ wholes_of (readers_in table.now) (lines_at made.image.content.items made.image.lines.items)) }
+    ensures no_cause { IfOk result (λ made. write_causes (readers_in table.now) (rows_in table.now) (map change_is changes.items) ≡ []) }
     ensures err { IfErr result (λ fault. WriteRefused (readers_in table.now) (rows_in table.now) (map change_is changes.items) fault) }
 {
     let fates = keep_all(alloc, table.lines.len())?;
     let Sorted { fates, fresh } = sort_changes(alloc, table, fates, changes)?;
+    let mut wholes = left_wholes(alloc, table, &fates)?;
+    push_lines(alloc, &mut wholes, &fresh, &table.fields)?;
     let image = with_lines(kept_lines(alloc, table, fates)?, fresh)?;
     if image.lines.len() > ROW_LIMIT || image.content.len() > BYTE_LIMIT {
         return Err(Fault::Refused(Cause::TooLarge));
     }
-    Ok(image)
+    Ok(LinesWritten { image, wholes })
 }

@@ -164,6 +164,7 @@ bound_of t = record {
   kinds = t.kinds.items;
   allows = λ spec. true;
   allows_plain = λ wanted offered. mathlib.Core.Path.refl;
+  allows_whole = λ spec allowed. mathlib.Core.Path.refl;
   line = no_line;
   image = list_image t.kinds.items;
   arrangement = as_they_come;

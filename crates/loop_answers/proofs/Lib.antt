@@ -1,4 +1,5 @@
 mod Chains
+pub mod Seen
 mod Splits
 mod Streams
 mod Started

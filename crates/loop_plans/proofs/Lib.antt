@@ -2,6 +2,8 @@ mod Reading
 mod Pairs
 mod Pulling
 mod Planning
+mod Seen
+mod SeenJoins
 mod Splits
 mod Safe
 mod Counting

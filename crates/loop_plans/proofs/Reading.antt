@@ -1,5 +1,5 @@
 -- A tree reads the cells of its columns alone.
-use Rattle.std.proofs.Common.{◌≡◌, ℕ, zero, suc, ◌+◌, ◌-◌, ◌^◌, ◌<◌, true, false, List, [], ◌∷◌, ◌++◌, map, drop, length, pos, refl, sym, ap, ◌∙◌, arith, min}
+use Rattle.std.proofs.Common.{◌≡◌, ℕ, zero, suc, ◌+◌, ◌-◌, ◌^◌, ◌<◌, true, false, List, [], ◌∷◌, ◌++◌, map, drop, length, pos, refl, ap, ◌∙◌, arith, min}
 use Rattle.std.specs.List.{list_all}
 use Rattle.med_value.specs.Datum.{Datum, NoValue, Whole, Tuple, cell}
 use Rattle.med_value.specs.declared.order.Comparison.TheVariants.{Equal as Same, AtMost, AtLeast}
@@ -9,11 +9,9 @@ use Rattle.tri_expr.specs.Meaning.{OnClass, argument, liked, has_cell, shared, t
 use Rattle.tri_expr.specs.Tree.{Tree, column, parameter, literal, compare, compute, negate, all_of, some_of, opposite, asks, between, within, matches, parenthesised, count_rows, aggregate, Trees, none, part, trees}
 use Rattle.tri_expr.proofs.Forms.{two, three}
 use Rattle.nested_loops.specs.Joins.{Each}
-use Rattle.loop_plans.specs.Places.{columns_in, columns_in_all, moved, all_moved, further, shifted, AgreeAt}
-
-pub each_parts : {X : Type 0} (P : X → Type 0) (xs ys : List X) → Each P (xs ++ ys) → Each P xs × Each P ys
-each_parts P [] ys h = (tt, h)
-each_parts P (x ∷ xs) ys h = let i = each_parts P xs ys h.1 in ((h.0, i.0), i.1)
+use Rattle.read_columns.specs.Columns.{columns_in, columns_in_all, AgreeOn}
+use Rattle.read_columns.proofs.Reading.{each_parts, reads as reads_alike}
+use Rattle.loop_plans.specs.Places.{moved, all_moved, further, shifted, AgreeAt}
 
 pub agree_parts : (f : ℕ → ℕ) (a b : List ℕ) (xs ys : List Tuple) → AgreeAt f (a ++ b) xs ys → AgreeAt f a xs ys × AgreeAt f b xs ys
 agree_parts f a b [] [] h = (tt, tt)
@@ -79,31 +77,14 @@ mutual
 
 -- ---- nothing moved
 
-mutual
-  unmoved : (t : Tree) → moved (λ at. at) t ≡ t
-  unmoved (column at) = refl
-  unmoved (parameter at) = refl
-  unmoved (literal v) = refl
-  unmoved (compare op a b) = two (compare op) (unmoved a) (unmoved b)
-  unmoved (compute op a b) = two (compute op) (unmoved a) (unmoved b)
-  unmoved (negate a) = ap negate (unmoved a)
-  unmoved (all_of ts) = ap all_of (all_unmoved ts)
-  unmoved (some_of ts) = ap some_of (all_unmoved ts)
-  unmoved (opposite a) = ap opposite (unmoved a)
-  unmoved (asks t negative a) = ap (asks t negative) (unmoved a)
-  unmoved (between negative x a b) = three (between negative) (unmoved x) (unmoved a) (unmoved b)
-  unmoved (within negative x ts) = two (within negative) (unmoved x) (all_unmoved ts)
-  unmoved (matches negative x pattern) = ap (λ (s : Tree). matches negative s pattern) (unmoved x)
-  unmoved (parenthesised a) = ap parenthesised (unmoved a)
-  unmoved count_rows = refl
-  unmoved (aggregate function a) = ap (aggregate function) (unmoved a)
-
-  all_unmoved : (ts : Trees) → all_moved (λ at. at) ts ≡ ts
-  all_unmoved none = refl
-  all_unmoved (part t ts) = two part (unmoved t) (all_unmoved ts)
+agree_unmoved : (a : List ℕ) (xs ys : List Tuple) → AgreeAt (λ at. at) a xs ys → AgreeOn a ys xs
+agree_unmoved a [] [] h = tt
+agree_unmoved a [] (y ∷ ys) h = absurd h
+agree_unmoved a (x ∷ xs) [] h = absurd h
+agree_unmoved a (x ∷ xs) (y ∷ ys) h = (h.0, agree_unmoved a xs ys h.1)
 
 pub alone : (ps : Tuple) (t : Tree) (xs ys : List Tuple) → AgreeAt (λ at. at) (columns_in t) xs ys → tree_meaning ps t ys ≡ tree_meaning ps t xs
-alone ps t xs ys h = ap (λ (s : Tree). tree_meaning ps s ys) (sym (unmoved t)) ∙ reads (λ at. at) ps t xs ys h
+alone ps t xs ys h = reads_alike ps t ys xs (agree_unmoved (columns_in t) xs ys h)
 
 -- ---- shifted
 

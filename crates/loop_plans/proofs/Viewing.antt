@@ -10,7 +10,8 @@ use Rattle.med_query.specs.Form.{JoinForm, cross_form, inner_form, left_form, Ch
 use Rattle.med_binder.specs.declared.bound.BoundEntry.{BoundEntry}
 use Rattle.med_binder.specs.Within.{IsWithin, AreWithin, width_between, JoinWithin, ChainWithin}
 use Rattle.nested_loops.specs.Joins.{Each}
-use Rattle.loop_plans.specs.Places.{columns_in, columns_in_all, further, moved, all_moved, shifted}
+use Rattle.read_columns.specs.Columns.{columns_in, columns_in_all}
+use Rattle.loop_plans.specs.Places.{further, moved, all_moved, shifted}
 use Rattle.loop_plans.specs.Flat.{Part, width_of, join_part, inner_ons, end_after, chain_parts, from_parts, safe_trees}
 use Rattle.loop_plans.specs.Offered.{is_within}
 use Rattle.loop_plans.specs.Plans.{AllWithin, JoinsInView, FromInView}

@@ -19,8 +19,8 @@ pub fn trees_read_their_columns()
 {}
 
 /// The levels that a core's offers and the boxes' answers make are a plan of its loops, whatever the boxes answered: with their boxes they
-/// decide the conditions, and the joined rows that pass these are those that the loops are to give. What they check may not fault, if no ON
-/// of the core may.
+/// decide the conditions, and the joined rows that pass these are, in the columns that the core reads, those that the loops are to give.
+/// What they check may not fault, if no ON of the core may.
 pub fn plans_are_loop_plans()
     ensures plans { PlansAreLoopPlans }
     ensures safe { PlansAreSafe }
@@ -48,13 +48,13 @@ pub fn bound_levels_are_typed()
     ensures { PlansAreTyped }
 {}
 
-/// The levels of a core read whole rows of their tables' widths, and what they check may not fault, if no ON of the core may.
+/// The levels of a core are as wide as their tables and want columns of these, and what they check may not fault, if no ON of the core may.
 pub fn bound_levels_are_plain()
     ensures { PlansArePlain }
 {}
 
 /// Where each box allows what the scan of its level is asked for, a run of the levels of a core may start. A box allows it of what it
-/// promised, no order and no limit being wished: where it promised the wanted columns alone, if its table then allows whole rows too.
+/// promised, no order and no limit being wished.
 pub fn bound_levels_can_start()
     ensures start { PlansCanStart }
     ensures promised { PromisedIsAllowed }

@@ -10,7 +10,7 @@ use Rattle.med_syntax.specs.Tree.{Name}
 use Rattle.write_syntax.specs.WriteTree.{GivenTree, values, rows_of, WriteTree, insert, update, delete}
 use Rattle.fdw_api.specs.State.{BoxState}
 use Rattle.fdw_api.specs.declared.interface.Fault.{Fault}
-use Rattle.pushdown.specs.Offered.{entry_place}
+use Rattle.med_planner.specs.Planned.{entry_place}
 use Rattle.med_exec.specs.Slots.{BoxAt, ChangesAt}
 use Rattle.med_exec.specs.Running.{AllServed, AllHonest}
 use Rattle.med_exec.proofs.Served.{box_inj}

@@ -18,30 +18,33 @@ use Rattle.fdw_api.specs.Kinds.{kinds_of}
 use Rattle.fdw_api.specs.Scan.{TableRow, row_fits}
 use Rattle.fdw_api.specs.State.{BoxState, rows_of as rows_in_box}
 use Rattle.fdw_api.specs.Sound.{IsTableOf}
-use Rattle.pushdown.specs.Offered.{Place, entry_place as place_of}
-use Rattle.med_planner.specs.Planned.{rows_shown, entry_rows}
+use Rattle.med_planner.specs.Planned.{Place, entry_place as place_of, rows_shown, entry_rows}
 use Rattle.med_exec.specs.Running.{AllHonest}
 use Rattle.med_exec.specs.Slots.{BoxAt}
 use Rattle.med_catalog.specs.Objects.{TableObject, Objects, table_named}
-use Rattle.bind_names.specs.Scope.{place_named, entry_place, entry_columns, entries_of}
-use Rattle.bind_names.specs.Naming.{entry_causes, from_causes, once_known}
+use Rattle.bind_names.specs.Scope.{place_named, entry_place, entry_columns, entries_of, from_scope}
+use Rattle.bind_names.specs.Naming.{entry_causes, from_causes, asked_causes, select_name_causes, once_known}
+use Rattle.bind_types.specs.Typing.{select_type_causes}
 use Rattle.bind_catalog.specs.Places.{Attached, IsPlaceOf, ArePlaces}
 use Rattle.bind_catalog.specs.Queries.{meant_by}
 use Rattle.bind_catalog.specs.Tables.{shapes}
 use Rattle.bind_catalog.proofs.Rows.{columns_there}
 use Rattle.med_binder.specs.Binding.{IsMeant}
+use Rattle.med_binder.specs.Counted.{bound_widths}
+use Rattle.med_binder.specs.Within.{widths}
 use Rattle.med_binder.specs.declared.bound.BoundQuery.{BoundQuery}
 use Rattle.write_exec.specs.Writing.{IsTypedWrite}
 use Rattle.write_parts.specs.Meaning.{target_of, columns_in, write_meant}
-use Rattle.write_parts.specs.Naming.{target_causes, names_of}
-use Rattle.write_parts.specs.Typing.{WriteTypes, column_kinds}
-use Rattle.write_parts.proofs.Lists.{empty_by}
+use Rattle.write_parts.specs.Naming.{target_causes, named_causes, names_of}
+use Rattle.write_parts.specs.Typing.{WriteTypes, column_kinds, types_of}
+use Rattle.write_parts.proofs.Lists.{empty_by, none_in}
 use Rattle.bind_write.specs.Binding.{IsBindable, IsQueryOf, IsGiven as IsBoundGiven}
 use Rattle.write_types.specs.Typed.{IsClean, AreTyped, IsAnswered, IsGiven}
 use Rattle.med_world.specs.Causes.{query_of, OfGiven, OfQuery}
 use Rattle.med_world.specs.Engine.{IsFirst}
 use Rattle.med_world.specs.Selecting.{AnswersOver}
 use Rattle.med_world.proofs.TargetRows.{first_from, first_table}
+use Rattle.med_select.specs.Ready.{IsBoundAs}
 use Rattle.med_rows.specs.Ready.{IsReady}
 
 -- the law of typed writes
@@ -68,6 +71,14 @@ typed_alone law o user bound t answer is clean none = law o t (λ k. []) answer 
 
 -- ---- a query
 
+left_none : {X : Type 0} (xs ys : List X) → xs ++ ys ≡ [] → xs ≡ []
+left_none [] ys h = refl
+left_none (x ∷ xs) ys h = absurd cc
+
+right_none : {X : Type 0} (xs ys : List X) → xs ++ ys ≡ [] → ys ≡ []
+right_none [] ys h = h
+right_none (x ∷ xs) ys h = absurd cc
+
 -- the write is an INSERT of the rows of this query
 pub record HasQuery (o : Objects) (bound : List Attached) (t : WriteTree) (b : BoundQuery) : Type 0 where
   pub inserts : InsertTree
@@ -76,6 +87,7 @@ pub record HasQuery (o : Objects) (bound : List Attached) (t : WriteTree) (b : B
   pub given : rows_of query ≡ inserts.given
   pub meant : IsMeant (meant_by o query) b
   pub places : ArePlaces bound (meant_by o query).entries (map place_of b.entries.items)
+  pub widths : bound_widths b ≡ widths (from_scope (shapes o) query.from)
   pub safe : are_safe_cores b.select.cores.items ≡ true
 
 pub has_query : (o : Objects) (bound : List Attached) (t : WriteTree) (b : BoundQuery) → IsQueryOf o bound t (Some b) → HasQuery o bound t b
@@ -83,12 +95,47 @@ has_query o bound (insert i) b h = of_given i.given refl h
   where
     of_given : (g : GivenTree) → g ≡ i.given → IsBoundGiven o bound g (Some b) → HasQuery o bound (insert i) b
     of_given (values rows) same x = absurd x
-    of_given (rows_of q) same x = record { inserts = i; is = refl; query = q; given = same; meant = x.0; places = x.1; safe = x.2 }
+    of_given (rows_of q) same x = record { inserts = i; is = refl; query = q; given = same; meant = x.0; places = x.1; widths = x.2; safe = x.3 }
 has_query o bound (update u) b h = absurd cc
 has_query o bound (delete d) b h = absurd cc
 
 pub of_its_query : (P : SelectTree → Type 0) (o : Objects) (bound : List Attached) (t : WriteTree) (b : BoundQuery) → (h : HasQuery o bound t b) → P h.query → OfQuery P t
 of_its_query P o bound t b h p = subst (λ (x : WriteTree). OfQuery P x) h.is (subst (λ (g : GivenTree). OfGiven P g) h.given p)
+
+-- no cause of its names stands, nor one of its types
+once_asked : (known from named asked : List Cause) → once_known (known ++ from) (named ++ asked) ≡ [] → once_known from asked ≡ []
+once_asked [] [] named asked h = right_none named asked h
+once_asked [] (c ∷ from) named asked h = absurd cc
+once_asked (c ∷ known) from named asked h = absurd cc
+
+names_clear : (o : Objects) (user : Name) (i : InsertTree) (g : GivenTree) (q : SelectTree) → rows_of q ≡ g → names_of o user (insert (record { table = i.table; columns = i.columns; given = g })) ≡ [] → select_name_causes (shapes o) q ≡ []
+names_clear o user i (values rows) q same h = absurd cc
+names_clear o user i (rows_of r) q same h =
+    let one : q ≡ r = cc in
+    subst (λ (x : SelectTree). select_name_causes (shapes o) x ≡ []) (sym one)
+    (once_asked (target_causes (shapes o) i.table) (from_causes (shapes o) r.from) (named_causes (columns_in (shapes o) i.table) i.columns) (asked_causes (shapes o) r) (left_none _ _ h))
+
+types_clear : (o : Objects) (i : InsertTree) (g : GivenTree) (q : SelectTree) → rows_of q ≡ g → types_of o (insert (record { table = i.table; columns = i.columns; given = g })) ≡ [] → select_type_causes (shapes o) q ≡ []
+types_clear o i (values rows) q same h = absurd cc
+types_clear o i (rows_of r) q same h =
+    let one : q ≡ r = cc in
+    subst (λ (x : SelectTree). select_type_causes (shapes o) x ≡ []) (sym one) (left_none (select_type_causes (shapes o) r) _ h)
+
+pub bound_as : (o : Objects) (user : Name) (bound : List Attached) (t : WriteTree) (b : BoundQuery) → IsBindable o user t → (h : HasQuery o bound t b) → IsBoundAs o bound h.query b
+bound_as o user bound t b is h = record {
+  names = λ c stands. none_in (select_name_causes (shapes o) h.query) c named stands;
+  types = λ c stands. none_in (select_type_causes (shapes o) h.query) c typed stands;
+  meant = h.meant;
+  places = h.places;
+  widths = h.widths;
+  safe = h.safe;
+}
+  where
+    named : select_name_causes (shapes o) h.query ≡ []
+    named = names_clear o user h.inserts h.inserts.given h.query h.given (subst (λ (x : WriteTree). names_of o user x ≡ []) (sym h.is) (empty_by (names_of o user t) is.names))
+
+    typed : select_type_causes (shapes o) h.query ≡ []
+    typed = types_clear o h.inserts h.inserts.given h.query h.given (subst (λ (x : WriteTree). types_of o x ≡ []) (sym h.is) (empty_by (types_of o t) is.types))
 
 -- ---- the rows of its entries
 
@@ -132,14 +179,6 @@ entry_typed o bound boxes e p ready honest known at = by (place_named (shapes o)
     by : (r : Option ℕ) → place_named (shapes o) e.table ≡ r → AllFit (column_kinds (entry_columns (shapes o) e)) (rows_shown (slice_get boxes p.source) p.table)
     by None is = absurd (unknown_named o e is known)
     by (Some k) is = entry_at o bound boxes e p k ready honest is at
-
-left_none : {X : Type 0} (xs ys : List X) → xs ++ ys ≡ [] → xs ≡ []
-left_none [] ys h = refl
-left_none (x ∷ xs) ys h = absurd cc
-
-right_none : {X : Type 0} (xs ys : List X) → xs ++ ys ≡ [] → ys ≡ []
-right_none [] ys h = h
-right_none (x ∷ xs) ys h = absurd cc
 
 entries_typed : (o : Objects) (bound : List Attached) (boxes : List (Option BoxState)) → IsReady o bound boxes → AllHonest boxes → (es : List EntryTree) (ps : List Place) → flat_map (entry_causes (shapes o)) es ≡ [] → ArePlaces bound (map (entry_place (shapes o)) es) ps
     → AreTyped (shapes o) es (entry_rows boxes ps)

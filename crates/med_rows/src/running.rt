@@ -1,9 +1,9 @@
 //! Statements that write rows: bound, and done to the box of their table.
-ghost use Rattle.std.specs.Prelude.{◌≡◌, length, map, All, IfOk, IfErr};
+ghost use Rattle.std.specs.Prelude.{◌≡◌, length, map, IfOk, IfErr};
 ghost use Rattle.bind_catalog.specs.Places.{attached};
 ghost use Rattle.bind_catalog.specs.Tables.{AreNamedOnce};
 ghost use Rattle.med_catalog.specs.View.{objects};
-ghost use Rattle.med_exec.specs.Slots.{states, HasTable};
+ghost use Rattle.med_exec.specs.Slots.{states};
 ghost use Rattle.med_world.specs.Writing.{WritesRows, WriteFails};
 ghost use Rattle.write_syntax.specs.WriteView.{write_tree};
 ghost use Rattle.write_types.specs.Typed.{IsClean};
@@ -14,6 +14,7 @@ use bind_catalog::BoundTable;
 use bind_write::bind_write;
 use fdw_api::wishes::Wrapper2;
 use med_catalog::Catalog;
+use med_select::law::bound_queries_are_ready;
 use med_select::run_query;
 use med_value::Cause;
 use med_value::limits::ENTRY_LIMIT;
@@ -45,7 +46,6 @@ pub fn run_write<W: Wrapper2>(
 ) -> Result<u64, Cause>
     requires many { length bound.now ≡ length (objects catalog.now).tables }
     requires once { AreNamedOnce (objects catalog.now) }
-    requires tables { All (λ a. HasTable (states W.meaning slots.old.items) a.source a.number) (map attached bound.now) }
     requires ready { IsReady (objects catalog.now) (map attached bound.now) (states W.meaning slots.old.items) }
     requires clean { IsClean (write_tree statement) }
     ensures ok { IfOk result (λ count. WritesRows (objects catalog.now) user.now (map attached bound.now) (write_tree statement) is_leased
@@ -54,6 +54,7 @@ pub fn run_write<W: Wrapper2>(
         (states W.meaning slots.old.items) c (states W.meaning slots.new.items)) }
 {
     written_rows_are_typed();
+    bound_queries_are_ready();
     let mut write = match bind_write(alloc, statement, catalog, bound, user) {
         Ok(write) => write,
         Err(cause) => return Err(cause),

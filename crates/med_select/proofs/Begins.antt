@@ -5,12 +5,11 @@ use Rattle.med_syntax.specs.Tree.{Name}
 use Rattle.med_syntax.specs.QueryTree.{SelectTree}
 use Rattle.med_query.specs.Form.{form_of}
 use Rattle.med_query.specs.Laws.{IsSteady}
-use Rattle.med_query.specs.Query.{Query}
+use Rattle.med_query.specs.Query.{Query, IsAnswer}
 use Rattle.med_query.specs.Select.{query_of as written_query}
 use Rattle.fdw_api.specs.State.{BoxState}
 use Rattle.fdw_api.specs.declared.interface.Fault.{Fault}
-use Rattle.pushdown.specs.Offered.{Place, entry_place}
-use Rattle.med_planner.specs.Planned.{entry_rows, IsShownCause}
+use Rattle.med_planner.specs.Planned.{Place, entry_place, entry_rows, IsShownCause}
 use Rattle.med_exec.specs.Running.{AllServed, ServesRun, Stops, lacks_memory, source_fails, numbers_end, query_shows, Begun, none_held}
 use Rattle.med_exec.specs.Rests.{Rests, held, IsRunning}
 use Rattle.med_exec.specs.declared.running.Run.{Run}
@@ -20,9 +19,18 @@ use Rattle.med_catalog.specs.Objects.{Objects}
 use Rattle.bind_catalog.specs.Queries.{meant_by}
 use Rattle.bind_catalog.specs.Places.{Attached}
 use Rattle.med_world.specs.Altering.{cause_of}
+use Rattle.bound_runs.specs.Running.{RunAnswers}
 use Rattle.open_cursors.specs.Counted.{ReadsTables}
 use Rattle.open_cursors.specs.Starting.{is_risky_form, RestsOver, Starts, RunFails, no_memory, box_fails, numbers_out, shows_cause, StartFails, run_fails}
 use Rattle.med_select.proofs.Selections.{ExpressionsIgnoreOrder, AnswersInAnyOrder, CausesInAnyOrder, IsBoundBy, steady, same_back, query_bound, entries_counted}
+
+-- a run that holds an answer
+pub held_answer : (q : Query) (places : List Place) (boxes : List (Option BoxState)) (out : List Tuple) (rests : List Tuple → Type 0) → rests out → ((rows : List Tuple) → rests rows → rows ≡ out) → RunAnswers q places boxes out → Begun q places rests boxes
+held_answer q places boxes out rests some only h = record {
+  some = λ honest. (out, some);
+  answers = λ rows r honest. subst (λ (l : List Tuple). IsAnswer q (entry_rows boxes places) l) (sym (only rows r)) (h.answers honest);
+  clear = h.clear;
+}
 
 -- what the run may give are answers in whatever order the rows of the entries come
 rests_over : AnswersInAnyOrder → CausesInAnyOrder → (q : Query) → IsSteady q → (places : List Place) (boxes : List (Option BoxState)) (rests : List Tuple → Type 0) → Begun q places rests boxes → RestsOver q places boxes rests

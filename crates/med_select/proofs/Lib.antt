@@ -1,4 +1,3 @@
-pub mod Runs
 pub mod Selections
-pub mod TablesRead
+pub mod Ready
 pub mod Begins

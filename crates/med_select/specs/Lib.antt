@@ -1,1 +1,1 @@
-pub mod Agreeing
+pub mod Ready

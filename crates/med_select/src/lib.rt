@@ -1,7 +1,8 @@
-//! Queries answered from the boxes of their sources: bound over the tables of a catalogue, planned, and run; and begun, for cursors.
+//! Queries answered from the boxes of their sources: bound over the tables of a catalogue, and run by loops; and begun, for cursors.
 #![tactic(auto)]
 
 mod fault;
+pub mod law;
 mod leasing;
 mod risk;
 mod selecting;

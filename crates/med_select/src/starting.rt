@@ -1,14 +1,16 @@
-//! Queries of cursors: bound, planned, and begun without a row being read from their runs.
+//! Queries of cursors: bound, and begun without a row being read from their runs.
 ghost use Rattle.bind_catalog.specs.Looked.{query_in};
 ghost use Rattle.bind_catalog.specs.Places.{attached};
 ghost use Rattle.bind_catalog.specs.Tables.{AreNamedOnce};
 ghost use Rattle.med_catalog.specs.View.{objects};
-ghost use Rattle.med_exec.specs.Slots.{states, HasTable};
+ghost use Rattle.med_exec.specs.Slots.{states};
+ghost use Rattle.med_select.specs.Ready.{AreReady};
 ghost use Rattle.med_syntax.specs.QueryView.{statement_tree};
 ghost use Rattle.open_cursors.specs.Starting.{leases_of, Starts, StartFails};
-ghost use Rattle.std.specs.Prelude.{◌≡◌, length, map, All, IfOk, IfErr, string_bytes};
+ghost use Rattle.std.specs.Prelude.{◌≡◌, length, map, IfOk, IfErr, string_bytes};
 
 use crate::fault::cause_of;
+use crate::law::bound_queries_are_ready;
 use crate::leasing::leased_tables;
 use crate::risk::is_risky_query;
 use crate::selecting::begun;
@@ -36,7 +38,7 @@ pub struct Started {
 }
 
 /// Begins a query over the tables of a catalogue, each of which is bound in the box of its source, for a cursor of a session that
-/// `is_full` or not: its names, rights and types, its plan with what the boxes agree to, and the start of its run. No row of it is given.
+/// `is_full` or not: its names, rights and types, its loops with what the boxes agree to, and the start of its run. No row of it is given.
 ///
 /// # Errors
 ///
@@ -56,7 +58,7 @@ pub fn start_select<W: Wrapper2>(
 ) -> Result<Started, Cause>
     requires many { length bound.now ≡ length (objects catalog.now).tables }
     requires once { AreNamedOnce (objects catalog.now) }
-    requires tables { All (λ a. HasTable (states W.meaning slots.old.items) a.source a.number) (map attached bound.now) }
+    requires ready { AreReady (objects catalog.now) (map attached bound.now) (states W.meaning slots.old.items) }
     ensures ok { IfOk result (λ s. Starts (objects catalog.now) user.now (map attached bound.now)
         (query_in (statement_tree statement.now)) is_full (states W.meaning slots.old.items) (map string_bytes s.names.items)
         s.run (states W.meaning slots.new.items)) }
@@ -68,6 +70,7 @@ pub fn start_select<W: Wrapper2>(
     answers_ignore_order();
     causes_ignore_order();
     services_join();
+    bound_queries_are_ready();
     let mut query = bind(alloc, statement, catalog, bound, user)?;
     if is_risky_query(&query.select) {
         return Err(Cause::FeatureNotSupported);

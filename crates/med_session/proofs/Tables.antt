@@ -1,5 +1,5 @@
 -- Tables and servers of an engine by their places.
-use Rattle.std.proofs.Common.{◌≡◌, ◌⊎◌, inl, inr, ◌<◌, ◌+◌, All, is_none, if◌then◌else◌, ℕ, Bool, true, false, List, [], ◌∷◌, ◌++◌, Option, Some, None, Result, Ok, Err, OnOk, OnErr, IfErr, IfNone, IsSome, is_some, option_map, cond, slice_get, slice_set, get_or, length, map, remove, zero, suc, refl, ap, sym, ◌∙◌, subst, arith, bytes_eq}
+use Rattle.std.proofs.Common.{◌≡◌, ◌⊎◌, inl, inr, ◌<◌, ◌+◌, is_none, if◌then◌else◌, ℕ, Bool, true, false, List, [], ◌∷◌, ◌++◌, Option, Some, None, Result, Ok, Err, OnOk, OnErr, IfErr, IfNone, IsSome, is_some, option_map, cond, slice_get, slice_set, get_or, length, map, remove, zero, suc, refl, ap, sym, ◌∙◌, subst, arith, bytes_eq}
 use Rattle.std.specs.List.{IsDistinct, AllByRecursion}
 use Rattle.std.proofs.lemmas.Bool.{false≢true}
 use Rattle.med_syntax.specs.Tree.{Name}
@@ -9,16 +9,16 @@ use Rattle.med_exec.specs.Slots.{counts_at, counts_in}
 use Rattle.med_catalog.specs.Objects.{ServerObject, TableObject, Objects, server_named, table_named}
 use Rattle.med_catalog.specs.Changes.{ObjectChange, new_server, new_table, no_table, no_server, changed, is_skipped, Asks, skips, makes}
 use Rattle.std.proofs.lemmas.List.{length-map, length_push}
-use Rattle.std.proofs.lemmas.Option.{slice_get-map, slice_get-get_or}
+use Rattle.std.proofs.lemmas.Option.{slice_get-map}
 use Rattle.bind_catalog.specs.declared.bound.BoundTable.{BoundTable}
 use Rattle.bind_catalog.specs.Places.{Attached, attached}
 use Rattle.med_world.specs.World.{is_taken, beside_without}
 use Rattle.med_world.specs.Engine.{Label, Shown, leased, IsNamedAt, IsStandingAt, IsServerAt, IsFirst, IsAtRest, IsSound, with_change, Alters}
 use Rattle.med_value.specs.declared.cause.Cause.{Cause}
 use Rattle.fdw_api.specs.Kinds.{Column, OptionForm}
-use Rattle.fdw_api.specs.State.{BoxTable, scan_of}
+use Rattle.fdw_api.specs.State.{scan_of}
 use Rattle.fdw_api.specs.Calls.{Binds, CanUnbind, Unbinds}
-use Rattle.med_exec.specs.Slots.{BoxAt, ChangesAt, HasTable}
+use Rattle.med_exec.specs.Slots.{BoxAt, ChangesAt}
 use Rattle.med_value.specs.declared.cause.Cause.TheVariants.{OutOfMemory, UndefinedObject, UndefinedTable}
 use Rattle.ddl_syntax.specs.DdlTree.{DdlTree, create_wrapper, create_server, create_mapping, create_table, drop_wrapper, drop_server, drop_table, drop_mapping}
 use Rattle.med_catalog.specs.DdlCauses.{CauseRow, Stands, NoneStands, DdlCauses, IsTold, object_rows, ddl_rows, nothing_leased}
@@ -31,6 +31,7 @@ use Rattle.med_world.specs.Adding.{HasSource}
 use Rattle.med_world.proofs.Named.{map_place, found_place, at_place, place_of}
 use Rattle.med_session.specs.declared.sources.NamedSource.{NamedSource}
 use Rattle.med_session.specs.Shows.{label}
+use Rattle.med_select.specs.Ready.{AreReady}
 use Rattle.med_rows.specs.Ready.{IsReady}
 use Rattle.med_session.proofs.Seats.{set_twice}
 
@@ -304,20 +305,7 @@ dropped_table o user (drop_table b n) name clear (makes s m) =
     (some_by (table_named o n) (row_false (object_rows o nothing_leased user (drop_table b n)) 0 (is_none (table_named o n)) UndefinedTable (clear_rows o user (drop_table b n) clear s) refl))
 dropped_table o user (drop_mapping b w n) name clear (makes s m) = absurd (cc)
 
--- ---- the tables of the catalogue are bound
-
-has_table : (ts : List TableObject) (xs : List Attached) (k : ℕ) (a : Attached) → length xs ≡ length ts → slice_get xs k ≡ Some a → (t : TableObject) × (slice_get ts k ≡ Some t)
-has_table ts xs k a many at =
-    let w : k < length xs = within_by xs k a at in
-    get_within ts k (omega arith)
-
-pub all_bound : (e : Shown) → IsSound e → All (λ a. HasTable e.boxes a.source a.number) e.bound
-all_bound e h k d lt =
-    let x = get_within e.bound k lt in
-    let t = has_table e.catalog.tables e.bound k x.0 h.many x.1 in
-    let b = h.tables_bound k t.0 x.0 t.1 x.1 in
-    let same : x.0 ≡ get_or e.bound k d = some_same x.0 (get_or e.bound k d) (sym x.1 ∙ slice_get-get_or e.bound k d lt) in
-    subst (λ (a : Attached). HasTable e.boxes a.source a.number) same (record { box = b.box; there = b.there; holds = subst (λ (o : Option BoxTable). IsSome o) (sym b.is) refl })
+-- ---- the engine after a change, and what may be asked of it
 
 -- the engine is as it was, but for its boxes
 pub undone_by : (e : Shown) (o : Objects) (boxes : List (Option BoxState)) (bound : List Attached) → o ≡ e.catalog → bound ≡ e.bound → record { catalog = o; labels = e.labels; boxes = boxes; bound = bound; seats = e.seats } ≡ record e { boxes = boxes }
@@ -327,10 +315,16 @@ undone_by e o boxes bound p q = λ i. record { catalog = p i; labels = e.labels;
 pub left_as_it_was : (old new : List Attached) (a : Attached) (k : ℕ) → new ≡ old ++ a ∷ [] → k ≡ length old → remove new k ≡ old
 left_as_it_was old new a k is at = ap (λ (xs : List Attached). remove xs k) is ∙ ap (remove (old ++ a ∷ [])) at ∙ last_removed old a
 
--- a write may be asked of the boxes of a sound engine
+-- queries and writes may be asked of the boxes of a sound engine
+pub queries_ready : (e : Shown) → IsSound e → AreReady e.catalog e.bound e.boxes
+queries_ready e h = record {
+  sound = h.sound_boxes;
+  tables = λ k t a at_t at_a. let x = h.tables_bound k t a at_t at_a in record { box = x.box; there = x.there; holds = (x.bound, x.is, x.kinds) };
+}
+
 pub ready_of : (e : Shown) → IsSound e → IsReady e.catalog e.bound e.boxes
 ready_of e h = record {
   at_rest = h.at_rest;
-  sound = h.sound_boxes;
-  tables = λ k t a at_t at_a. let x = h.tables_bound k t a at_t at_a in record { box = x.box; there = x.there; holds = (x.bound, x.is, x.kinds) };
+  sound = (queries_ready e h).sound;
+  tables = (queries_ready e h).tables;
 }

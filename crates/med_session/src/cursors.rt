@@ -1,5 +1,5 @@
 //! The cursors of a session: DECLARE, FETCH and CLOSE (SQL:2016, part 2, 14 "Data manipulation").
-ghost use Rattle.std.specs.Prelude.{◌≡◌, length, map, All, IfOk, OnOk, IfErr, OnErr, string_bytes};
+ghost use Rattle.std.specs.Prelude.{◌≡◌, length, map, IfOk, OnOk, IfErr, OnErr, string_bytes};
 ghost use Rattle.med_value.specs.Datum.{tuple};
 ghost use Rattle.med_syntax.specs.QueryView.{statement_tree};
 ghost use Rattle.cursor_syntax.specs.CursorView.{count_tree};
@@ -7,7 +7,8 @@ ghost use Rattle.bind_catalog.specs.Looked.{query_in};
 ghost use Rattle.bind_catalog.specs.Places.{attached};
 ghost use Rattle.bind_catalog.specs.Tables.{AreNamedOnce};
 ghost use Rattle.med_catalog.specs.View.{objects};
-ghost use Rattle.med_exec.specs.Slots.{states, HasTable};
+ghost use Rattle.med_exec.specs.Slots.{states};
+ghost use Rattle.med_select.specs.Ready.{AreReady};
 ghost use Rattle.open_cursors.specs.Open.{seated};
 ghost use Rattle.med_world.specs.Seats.{IsSoundSeat};
 ghost use Rattle.med_session.specs.Cursors.{Opens, OpensNone, Fetched, NotFetched, Ended, NotEnded};
@@ -44,7 +45,7 @@ pub(crate) fn open_cursor<W: Wrapper2>(
 ) -> Result<(), Cause>
     requires many { length bound.now ≡ length (objects catalog.now).tables }
     requires once { AreNamedOnce (objects catalog.now) }
-    requires tables { All (λ a. HasTable (states W.meaning slots.old.items) a.source a.number) (map attached bound.now) }
+    requires ready { AreReady (objects catalog.now) (map attached bound.now) (states W.meaning slots.old.items) }
     ensures ok { OnOk result (Opens (objects catalog.now) (map attached bound.now) (string_bytes declare.now.name)
         (query_in (statement_tree declare.now.query)) (seated seat.old) (states W.meaning slots.old.items) (seated seat.new)
         (states W.meaning slots.new.items)) }

@@ -9,7 +9,7 @@ use Rattle.med_syntax.specs.QueryTree.{SelectTree, select}
 use Rattle.med_parser.specs.CommandTree.{on_data, on_rows, on_cursors, on_objects}
 use Rattle.med_parser.specs.CommandCauses.{SyntaxCauses}
 use Rattle.fdw_api.specs.State.{BoxState}
-use Rattle.pushdown.specs.Offered.{Place}
+use Rattle.med_planner.specs.Planned.{Place}
 use Rattle.med_exec.specs.Running.{AllServed, SlotShows, IsUsedUp}
 use Rattle.bind_names.specs.Meaning.{Meant}
 use Rattle.bind_catalog.specs.Queries.{meant_by, IsBindable}

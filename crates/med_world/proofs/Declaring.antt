@@ -7,7 +7,7 @@ use Rattle.med_syntax.specs.Tree.{Name}
 use Rattle.med_syntax.specs.QueryTree.{SelectTree, select}
 use Rattle.med_query.specs.Query.{Tables, IsAnswer}
 use Rattle.fdw_api.specs.State.{BoxState}
-use Rattle.pushdown.specs.Offered.{Place}
+use Rattle.med_planner.specs.Planned.{Place}
 use Rattle.med_exec.specs.declared.running.Run.{Run}
 use Rattle.med_exec.specs.Running.{AllServed}
 use Rattle.med_parser.specs.CommandTree.{CommandTree, on_cursors}

@@ -12,8 +12,7 @@ use Rattle.med_query.specs.Query.{Tables, SameRows, IsAnswer}
 use Rattle.fdw_api.specs.Kinds.{Held, held}
 use Rattle.fdw_api.specs.Scan.{TableRow}
 use Rattle.fdw_api.specs.State.{BoxState, rows_of}
-use Rattle.pushdown.specs.Offered.{Place}
-use Rattle.med_planner.specs.Planned.{tuples_of, rows_shown, entry_rows, IsShownCause}
+use Rattle.med_planner.specs.Planned.{Place, tuples_of, rows_shown, entry_rows, IsShownCause}
 use Rattle.med_exec.specs.Slots.{BoxAt}
 use Rattle.med_exec.specs.Running.{SlotShows, HasFailed, AllHonest}
 use Rattle.bind_names.specs.Meaning.{Meant}

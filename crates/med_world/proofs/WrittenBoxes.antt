@@ -17,8 +17,7 @@ use Rattle.fdw_api.specs.declared.interface.Fault.TheVariants.{Source}
 use Rattle.fdw_api.proofs.SoundBoxes.{closes}
 use Rattle.med_exec.specs.Reading.{pulled_after}
 use Rattle.med_exec.specs.Running.{HasFailed}
-use Rattle.med_exec.proofs.Served.{ServedAlone}
-use Rattle.med_exec.proofs.ScanLemmas.{honest_on}
+use Rattle.med_exec.proofs.Served.{honest_on, ServedAlone}
 use Rattle.med_write.specs.declared.write.WrittenColumn.{WrittenColumn}
 use Rattle.med_write.specs.Form.{WriteForm, insert_form, update_form, delete_form}
 use Rattle.write_exec.specs.Reading.{are_typed}

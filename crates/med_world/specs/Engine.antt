@@ -8,7 +8,7 @@ use Rattle.fdw_api.specs.Kinds.{Column, Kind, Held, held, kinds_of}
 use Rattle.fdw_api.specs.State.{BoxState, BoxTable, IsIdle, is_honest, table_of, scan_of, rows_of}
 use Rattle.fdw_api.specs.Calls.{Binds, Unbinds}
 use Rattle.fdw_api.specs.Sound.{IsSoundBox}
-use Rattle.pushdown.specs.Offered.{Place}
+use Rattle.med_planner.specs.Planned.{Place}
 use Rattle.med_exec.specs.Slots.{BoxAt, ChangesAt}
 use Rattle.med_exec.specs.Running.{SlotShows, HasFailed, IsUsedUp}
 use Rattle.bind_catalog.specs.Places.{Attached, ArePlaces}
@@ -213,7 +213,7 @@ HasRun (on_data (select q)) (answered tag names rows) ran = q ≡ ran
 HasRun (on_cursors (declare name (select q))) (done tag) ran = q ≡ ran
 HasRun tree reply ran = ⊥
 
--- the table of each entry of its FROM was read once
+-- for the table of each entry of its FROM one scan was begun, and no other
 pub record ReadsOnce (e : Shown) (q : SelectTree) (new : List (Option BoxState)) : Type 0 where
   pub places : List Place
   pub are : ArePlaces e.bound (meant_by e.catalog q).entries places

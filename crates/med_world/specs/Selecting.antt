@@ -7,8 +7,7 @@ use Rattle.med_syntax.specs.Tree.{Name}
 use Rattle.med_syntax.specs.QueryTree.{SelectTree}
 use Rattle.med_query.specs.Query.{Query, Tables, SameRows, IsAnswer}
 use Rattle.fdw_api.specs.State.{BoxState}
-use Rattle.pushdown.specs.Offered.{Place}
-use Rattle.med_planner.specs.Planned.{entry_rows, IsShownCause}
+use Rattle.med_planner.specs.Planned.{Place, entry_rows, IsShownCause}
 use Rattle.med_exec.specs.Running.{AllServed, AllHonest}
 use Rattle.open_cursors.specs.Counted.{ReadsTables}
 use Rattle.open_cursors.specs.Starting.{RunFails}

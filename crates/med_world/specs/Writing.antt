@@ -8,7 +8,7 @@ use Rattle.med_syntax.specs.QueryTree.{SelectTree}
 use Rattle.write_syntax.specs.WriteTree.{GivenTree, values, rows_of, WriteTree, insert, update, delete}
 use Rattle.fdw_api.specs.State.{BoxState}
 use Rattle.fdw_api.specs.declared.interface.Fault.{Fault}
-use Rattle.pushdown.specs.Offered.{Place}
+use Rattle.med_planner.specs.Planned.{Place}
 use Rattle.med_exec.specs.Slots.{ChangesAt}
 use Rattle.med_exec.specs.Running.{AllServed, AllHonest}
 use Rattle.med_catalog.specs.Objects.{Objects}

@@ -14,8 +14,7 @@ use Rattle.bind_names.specs.Scope.{entries_of}
 use Rattle.med_query.specs.Query.{Query, Tables, SameRows, IsAnswer}
 use Rattle.med_query.specs.Form.{CoreForm, Form, GroupForm, query_by}
 use Rattle.fdw_api.specs.State.{BoxState}
-use Rattle.pushdown.specs.Offered.{Place}
-use Rattle.med_planner.specs.Planned.{entry_rows, IsShownCause}
+use Rattle.med_planner.specs.Planned.{Place, entry_rows, IsShownCause}
 use Rattle.med_exec.specs.declared.running.Run.{Run}
 use Rattle.med_exec.specs.Running.{AllHonest, AllServed, ServesRun, SlotShows, HasFailed, IsUsedUp, none_held}
 use Rattle.med_exec.specs.Rests.{Rests, held, IsRunning}

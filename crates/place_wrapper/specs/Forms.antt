@@ -58,6 +58,10 @@ GivesAt F t spec params at None = (r : TableRow) → slice_get (F.rows t) at ≡
 GivesAt F t spec params at (Some row) = (r : TableRow) → slice_get (F.rows t) at ≡ Some r
     → (F.takes t spec params r ≡ true) × (tuple row ≡ shown_cells spec r.cells)
 
+-- the row at a place has what is looked for
+abbrev pub HasAt : {T : Type 0} → Form T → T → SoughtForm → Tuple → ℕ → Type 0
+HasAt F t s params at = (r : TableRow) → slice_get (F.rows t) at ≡ Some r → equals (cell params s.parameter) (cell r.cells s.column) ≡ true
+
 -- the cell of a column of the row at a place
 abbrev pub CellAt : {T : Type 0} → Form T → T → ℕ → ℕ → Datum → Type 0
 CellAt F t at column v = (r : TableRow) → slice_get (F.rows t) at ≡ Some r → v ≡ cell r.cells column

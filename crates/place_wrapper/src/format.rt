@@ -1,5 +1,5 @@
 //! Formats: what a blob is read as, and the rows that a table gives.
-ghost use Rattle.std.specs.Prelude.{◌≡◌, ◌<◌, ℕ, List, map, length, option_map, IfOk, IfErr, [], true};
+ghost use Rattle.std.specs.Prelude.{◌≡◌, ◌<◌, ℕ, List, map, length, option_map, IfOk, IfErr, Some, [], true};
 ghost use Rattle.std.specs.String.{string_bytes};
 ghost use Rattle.std.specs.List.{list_all};
 ghost use Rattle.med_value.specs.Datum.{datum};
@@ -24,7 +24,7 @@ use std::alloc::Global;
 pub trait PlacedTable: Drop {
     type Draft: Drop;
 
-    ghost use Rattle.place_wrapper.specs.Forms.{Form, GivesAt, CellAt, ReadsAs, RefusesContent, Rewrites, RefusesChanges};
+    ghost use Rattle.place_wrapper.specs.Forms.{Form, GivesAt, HasAt, CellAt, ReadsAs, RefusesContent, Rewrites, RefusesChanges};
 
     ghost form: { Form Self };
 
@@ -72,6 +72,23 @@ pub trait PlacedTable: Drop {
         requires within { at < length (form.rows self.now) }
         requires found { option_map form_of found ≡ sought (map restriction_form spec.now.offered.items) }
         ensures { IfOk result (λ given. GivesAt form self.now (spec_of spec.now) (map datum params.now) at given) };
+
+    /// The same of a row that has what the scan looks for, as it has at each place to which an index of that column leads.
+    fn give_found(
+        &self,
+        alloc: Global,
+        at: usize,
+        spec: &ScanSpec,
+        found: Sought,
+        params: &[Value],
+    ) -> Result<Option<Row>, NoMemory>
+        requires within { at < length (form.rows self.now) }
+        requires found { sought (map restriction_form spec.now.offered.items) ≡ Some (form_of found) }
+        requires has { HasAt form self.now (form_of found) (map datum params.now) at }
+        ensures { IfOk result (λ given. GivesAt form self.now (spec_of spec.now) (map datum params.now) at given) }
+    {
+        self.give(alloc, at, spec, Some(found), params)
+    }
 
     /// The cell of a column of the row at a place. It fails for want of memory alone.
     fn cell(&self, alloc: Global, at: usize, column: usize) -> Result<Value, NoMemory>

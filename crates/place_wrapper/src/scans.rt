@@ -1,18 +1,19 @@
 //! Live scans, and the rows that they give.
-ghost use Rattle.std.specs.Prelude.{◌≡◌, ◌+◌, true, map, length, option_map, IfOk, IfSome, IsSome, Some};
+ghost use Rattle.std.specs.Prelude.{◌≡◌, ◌+◌, ◌<◌, true, map, length, option_map, IfOk, IfSome, IsSome, Some};
 ghost use Rattle.std.specs.Ordering.{nat_cmp};
 ghost use Rattle.std.specs.BTreeMap as tree;
 ghost use Rattle.med_value.specs.Datum.{datum};
 ghost use Rattle.fdw_api.specs.Scan.{spec_of, restriction_form};
 ghost use Rattle.place_index.specs.Scans.{Serves, Stands, sought, form_of, column_cells};
 ghost use Rattle.place_index.specs.Indexes.{IsIndexFrom};
+ghost use Rattle.place_wrapper.specs.Forms.{GivesAt};
 ghost use Rattle.place_wrapper.specs.Boxes.{NextIs, Moves, ScanFits, table_at, rows_held, newer};
 
 use crate::format::PlacedTable;
 use crate::tables::table_at;
 use fdw_api::interface::{RowId, SourceRow};
 use fdw_api::scan::ScanSpec;
-use med_value::{NoMemory, Value};
+use med_value::{NoMemory, Row, Value};
 use place_index::{PlaceIndex, Sought, sought_in, value_at};
 use std::alloc::Global;
 use std::collections::BTreeMap;
@@ -114,6 +115,25 @@ fn place_from<T: PlacedTable>(
     }
 }
 
+/// The row at a place as a scan shows it, None where the scan does not take it. What an index has found is not looked for once more.
+fn row_at<T: PlacedTable>(
+    alloc: Global,
+    table: &T,
+    scan: &LiveScan,
+    found: Option<Sought>,
+    at: usize,
+) -> Result<Option<Row>, NoMemory>
+    requires within { at < length (T.form.rows table.now) }
+    requires found { option_map form_of found ≡ sought (map restriction_form scan.now.spec.offered.items) }
+    requires stands { Stands (spec_of scan.now.spec) (map datum scan.now.params.items) (T.form.rows table.now) (at + 1) scan.now.index }
+    ensures { IfOk result (λ given. GivesAt T.form table.now (spec_of scan.now.spec) (map datum scan.now.params.items) at given) }
+{
+    match (&scan.index, found) {
+        (Some(_index), Some(found)) => table.give_found(alloc, at, &scan.spec, found, &scan.params),
+        _ => table.give(alloc, at, &scan.spec, found, &scan.params),
+    }
+}
+
 /// The next row of a scan of a table, from its place on.
 fn next_row<T: PlacedTable>(
     alloc: Global,
@@ -129,7 +149,7 @@ fn next_row<T: PlacedTable>(
     let found = sought_in(&scan.spec.offered);
     let mut at = place_from(table, scan, found, scan.at);
     while at < table.count() {
-        if let Some(cells) = table.give(alloc, at, &scan.spec, found, &scan.params)? {
+        if let Some(cells) = row_at(alloc, table, scan, found, at)? {
             return Ok(Some(SourceRow {
                 id: RowId { number: at as u64 },
                 cells,

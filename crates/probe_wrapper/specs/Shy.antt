@@ -8,7 +8,7 @@ use Rattle.med_value.specs.Datum.{Tuple, datum}
 use Rattle.fdw_api.specs.Scan.{Spec, RestrictionForm, spec_of}
 use Rattle.fdw_api.specs.declared.scan.Agree.{Agree}
 use Rattle.fdw_api.specs.declared.scan.Agree.TheVariants.{Ignored, Hint, Exact}
-use Rattle.fdw_api.specs.State.{BoxTable, Scan, Ledger, BoxState, scan_of}
+use Rattle.fdw_api.specs.State.{BoxTable, Scan, Ledger, BoxState, scan_of, whole_asks_rest}
 use Rattle.fdw_api.specs.Wishes.{is_unpromised}
 use Rattle.probe_wrapper.specs.LiveScans.{round, each_seen}
 use Rattle.probe_wrapper.specs.declared.shy.Shy.{Shy}
@@ -69,7 +69,11 @@ asked_scan hints (Some a) s = record s { spec = a.spec; params = a.params; broke
 
 -- a bound table, and all that is shown
 abbrev pub hidden_bound : (hints : Bool) → BoxTable → BoxTable
-hidden_bound hints b = record b { allows = is_plain hints; allows_plain = λ wanted offered. plain_is_left hints offered }
+hidden_bound hints b = record b {
+  allows = is_plain hints;
+  allows_plain = λ wanted offered. plain_is_left hints offered;
+  allows_whole = λ spec allowed. whole_asks_rest spec.narrow (is_unpromised spec && all_left hints spec.offered spec.answers) allowed;
+}
 
 abbrev pub hidden_ledger : (hints : Bool) → (ℕ → Option AskedForm) → Ledger → Ledger
 hidden_ledger hints asked l = record l {

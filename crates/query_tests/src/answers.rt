@@ -87,12 +87,7 @@ pub(crate) fn alone(alloc: Global, core: SelectCore) -> Result<Select, Fail> {
 pub(crate) fn are_safe(cores: &[SelectCore]) -> bool
     ensures { result ≡ are_safe_cores cores.now }
 {
-    for core in cores {
-        if !is_safe_from(core.from.as_slice()) {
-            return false;
-        }
-    }
-    true
+    cores.iter().all(|core| is_safe_from(core.from.as_slice()))
 }
 
 // The query of these cores, its rows sorted by one key.

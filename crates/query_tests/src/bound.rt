@@ -1,5 +1,6 @@
 //! Texts bound over the tables parts, orders and "Odd", and what is told of them.
 use crate::expect::{cut, same_text};
+use loop_plans::{LoopOffer, offer_core};
 use med_binder::{AttachedTable, BoundQuery, bind};
 use med_parser::{Command, parse};
 use med_query::SelectCore;
@@ -106,6 +107,8 @@ pub enum Told {
     Column,
     /// How many keys it groups by, and how many arguments its aggregates have.
     Groups,
+    /// Of each entry the columns that are read, and what its scan is offered.
+    Offers,
 }
 
 fn tell(alloc: Global, told: Told, bound: &BoundQuery) -> Result<String, Fail> {
@@ -118,6 +121,7 @@ fn tell(alloc: Global, told: Told, bound: &BoundQuery) -> Result<String, Fail> {
         Told::Entries => entries(alloc, bound),
         Told::Column => first_column(alloc, bound),
         Told::Groups => groups(alloc, bound),
+        Told::Offers => offers(alloc, bound),
     }
 }
 
@@ -220,4 +224,24 @@ fn groups(alloc: Global, bound: &BoundQuery) -> Result<String, Fail> {
             Ok(format!(in alloc; "{keys} {arguments}")?)
         }
     }
+}
+
+fn offer_text(alloc: Global, offer: &LoopOffer) -> Result<String, Fail> {
+    let mut line = format!(in alloc; "{:?}", offer.wanted)?;
+    for restriction in &offer.entry.restrictions {
+        let text = format!(in alloc; " {} {:?}", restriction.column, restriction.test)?;
+        line.push_str(text.as_str())?;
+    }
+    Ok(line)
+}
+
+fn offers(alloc: Global, bound: &BoundQuery) -> Result<String, Fail> {
+    let mut line = "".to_string(alloc)?;
+    for offer in &offer_core(alloc, only_core(bound)?, bound.entries.as_slice())? {
+        if !line.is_empty() {
+            line.push_str(" / ")?;
+        }
+        line.push_str(offer_text(alloc, offer)?.as_str())?;
+    }
+    Ok(line)
 }

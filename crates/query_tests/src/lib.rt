@@ -19,6 +19,4 @@ mod offers;
 #[cfg(test)]
 mod plain_answers;
 #[cfg(test)]
-mod runs;
-#[cfg(test)]
 mod slots;

@@ -68,6 +68,10 @@ SELECT x.a, y.b, c FROM t x JOIN t y ON x.a = y.b LEFT JOIN u ON c = y.a
 SELECT x.a, y.b, c FROM t x LEFT JOIN t y ON x.a = y.b JOIN u ON c = y.a OR y.a IS NULL
 SELECT x.a, y.b, c FROM t x LEFT JOIN t y ON x.a = y.b LEFT JOIN u ON c = y.a AND d = x.b
 SELECT x.a, y.a, d FROM t x, t y LEFT JOIN u ON y.a = c WHERE x.b = d OR d IS NULL
+SELECT a, c, d FROM t JOIN u ON 1 > a AND c = a WHERE d = 1 AND b IS NOT NULL
+SELECT a, c FROM t LEFT JOIN u ON c = a AND a < 1 AND d IS NULL WHERE 0 <= b
+SELECT a, c FROM t, u WHERE c = a AND a = c AND d <> b
+SELECT x.a, y.a, z.a FROM t x JOIN t y ON y.a = x.b JOIN t z ON z.b = y.a AND x.a IS NOT NULL
 SELECT a, b FROM t WHERE NOT (a < b OR b = 0)
 SELECT a, b FROM t WHERE a NOT IN (0, b)
 SELECT a FROM t WHERE a BETWEEN b AND 1 OR (a = b) IS NULL

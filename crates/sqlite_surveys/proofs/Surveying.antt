@@ -34,7 +34,7 @@ second_not false b e = refl
 first_not : (a b : Bool) → a ≡ false → (a && b) ≡ false
 first_not a b e = rw e refl
 
-last_is : (xs : List SqlRow) (r : SqlRow) → last_key (xs ++ r ∷ []) ≡ Some (key_in r)
+pub last_is : (xs : List SqlRow) (r : SqlRow) → last_key (xs ++ r ∷ []) ≡ Some (key_in r)
 last_is [] r = refl
 last_is (x ∷ []) r = refl
 last_is (x ∷ y ∷ xs) r = last_is (y ∷ xs) r
@@ -68,7 +68,7 @@ past : (k : ℤ) → int_lt k greatest ≡ false → int_lt greatest (k +ℤ pos
 past k e = grind (arith, ints)
 
 -- the rows behind a page begin where the next page does
-rest_is : (low : ℤ) (es page : List SqlRow) (last : Option ℤ) → last ≡ last_key page
+pub rest_is : (low : ℤ) (es page : List SqlRow) (last : Option ℤ) → last ≡ last_key page
     → rest_of low greatest es page ≡ rows_from (next_after (length page) last) es
 rest_is low es [] last is = rw is refl
 rest_is low es (r ∷ rs) None is = absurd (some_last r rs (sym is))

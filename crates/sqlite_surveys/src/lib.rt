@@ -2,7 +2,8 @@
 #![tactic(auto)]
 
 pub mod openings;
+pub mod rows;
 pub mod surveys;
 
 pub use openings::open_table;
-pub use surveys::count_rows;
+pub use surveys::{count_rows, next_after};

@@ -18,7 +18,6 @@ use med_value::{Cause, ColumnDef};
 use sqlite::Connection;
 use sqlite_cells::{find_table, types_match};
 use sqlite_shapes::SourceStore;
-use std::alloc::Global;
 
 /// Looks at a remote table whole, which is to be bound with these columns, and answers how many rows it has.
 ///
@@ -26,7 +25,6 @@ use std::alloc::Global;
 /// (HV004), where a cell is not of its column's type or a text has U+0000 (22P02), or where there are more than 1,000,000 rows (54000), by
 /// one of the least phase. No two rows have one id. It changes nothing, also where it fails.
 pub fn open_table<S: SourceStore>(
-    alloc: Global,
     conn: &mut Connection<S>,
     table: u64,
     columns: &[ColumnDef],
@@ -52,5 +50,5 @@ pub fn open_table<S: SourceStore>(
     if !types_match(table, columns) {
         return Err(Fault::Refused(Cause::InvalidDataType));
     }
-    read_whole(alloc, conn, table)
+    read_whole(conn, table)
 }

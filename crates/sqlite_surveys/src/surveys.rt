@@ -14,32 +14,32 @@ ghost use Rattle.sqlite_cells.specs.Tables.{IsKnown, entries_in, rows_of};
 ghost use Rattle.sqlite_cells.specs.Refusing.{OnlyBy};
 ghost use Rattle.sqlite_surveys.specs.Surveys.{fits_in, last_key, next_after, IsSeen, causes_in};
 
+use crate::rows::check_row;
 use fdw_api::interface::Fault;
 use med_value::Cause;
 use med_value::limits::ROW_LIMIT;
 use sqlite::{Connection, Row};
-use sqlite_cells::{Misread, key_and_cells, page_between};
+use sqlite_cells::{Misread, page_between};
 use sqlite_shapes::SourceStore;
-use std::alloc::Global;
 
 // Reads the rows of a page, and answers the key of the last one.
-fn check_rows(alloc: Global, table: u64, page: &[Row]) -> Result<Option<i64>, Misread>
+fn check_rows(table: u64, page: &[Row]) -> Result<Option<i64>, Misread>
     ensures fit { IfOk result (λ _. list_all (fits_in (layout_at table)) page.now ≡ true) }
     ensures last { IfOk result (λ last. last ≡ last_key page.now) }
     ensures stray { IfErr result (λ m. m ≡ Misread.Stray → list_all (fits_in (layout_at table)) page.now ≡ false) }
 {
     let mut last = None;
     for row in page {
-        match key_and_cells(alloc, table, row) {
+        match check_row(table, row) {
             Err(misread) => return Err(misread),
-            Ok(read) => last = Some(read.key),
+            Ok(key) => last = Some(key),
         }
     }
     Ok(last)
 }
 
-// Where the next page begins, behind a page of so many rows with this last key.
-fn next_after(count: usize, last: Option<i64>) -> Option<i64>
+/// Where the next page begins, behind a page of so many rows with this last key. Behind a page of fewer than 64 rows there is none.
+pub fn next_after(count: usize, last: Option<i64>) -> Option<i64>
     ensures { result ≡ next_after count last }
 {
     match last {
@@ -75,7 +75,6 @@ fn fault_of_content(misread: Misread) -> Fault
 
 // Reads the page of a table that begins at a key.
 fn survey_page<S: SourceStore>(
-    alloc: Global,
     conn: &mut Connection<S>,
     table: u64,
     low: i64,
@@ -96,7 +95,7 @@ fn survey_page<S: SourceStore>(
         Ok(page) => page,
     };
     let count = page.len();
-    match check_rows(alloc, table, &page) {
+    match check_rows(table, &page) {
         Err(misread) => Err(fault_of_content(misread)),
         Ok(last) => Ok(Surveyed {
             count,
@@ -108,7 +107,6 @@ fn survey_page<S: SourceStore>(
 /// Reads a table whole, and answers how many rows it has. It is refused where a cell is not of its column's type (22P02), or where there
 /// are more than 1,000,000 rows (54000).
 pub(crate) fn read_whole<S: SourceStore>(
-    alloc: Global,
     conn: &mut Connection<S>,
     table: u64,
 ) -> Result<usize, Fault>
@@ -125,7 +123,7 @@ pub(crate) fn read_whole<S: SourceStore>(
     let mut next = Some(i64::MIN);
     let mut count: usize = 0;
     while let Some(low) = next {
-        match survey_page(alloc, conn, table, low) {
+        match survey_page(conn, table, low) {
             Err(fault) => return Err(fault),
             Ok(page) => {
                 count += page.count;
@@ -142,11 +140,7 @@ pub(crate) fn read_whole<S: SourceStore>(
 /// The number of rows of a table whose rows are of its types, and at most 1,000,000. It changes nothing, also where it fails.
 ///
 /// A table of which that is not so is told as a failure of the source.
-pub fn count_rows<S: SourceStore>(
-    alloc: Global,
-    conn: &mut Connection<S>,
-    table: u64,
-) -> Result<usize, Fault>
+pub fn count_rows<S: SourceStore>(conn: &mut Connection<S>, table: u64) -> Result<usize, Fault>
     requires idle { conn.old.in_transaction ≡ false }
     requires known { S.honest ≡ true → ∥ IsKnown conn.old.schema (layout_at table) ∥₁ }
     ensures count { S.honest ≡ true → IfOk result (λ n. n ≡ length (rows_of (state S.Store conn.old).now (layout_at table))) }
@@ -155,7 +149,7 @@ pub fn count_rows<S: SourceStore>(
     ensures same { S.honest ≡ true → (state S.Store conn.new).now ≡ (state S.Store conn.old).now }
     ensures idle { conn.new.in_transaction ≡ false }
 {
-    match read_whole(alloc, conn, table) {
+    match read_whole(conn, table) {
         Ok(count) => Ok(count),
         Err(Fault::NoMemory) => Err(Fault::NoMemory),
         Err(_) => Err(Fault::Source),

@@ -1,3 +1,4 @@
 mod CallLemmas
+mod GoingLemmas
 mod Known
 mod Writing

@@ -1,2 +1,3 @@
-pub mod Writing
 pub mod Blank
+pub mod Going
+pub mod Writing

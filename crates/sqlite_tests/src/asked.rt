@@ -57,3 +57,18 @@ pub fn null_and_then(alloc: Global, number: i64) -> Result<Asked, NoMemory> {
         again: vec![in alloc; Value::Int(number)]?,
     })
 }
+
+/// A scan of the column n that is its parameter: a number, and then another.
+pub fn n_is(alloc: Global, first: i64, then: i64) -> Result<Asked, NoMemory> {
+    Ok(Asked {
+        wanted: vec![in alloc; 0]?,
+        offered: vec![in alloc;
+            Restriction {
+                column: 2,
+                test: Test::Compare(Comparison::Equal, Operand::Parameter(0)),
+            },
+        ]?,
+        params: vec![in alloc; Value::Int(first)]?,
+        again: vec![in alloc; Value::Int(then)]?,
+    })
+}

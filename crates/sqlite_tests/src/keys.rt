@@ -4,7 +4,7 @@ ghost use Rattle.std.specs.Prelude.{◌≡◌, [], List};
 ghost use Rattle.fdw_api.specs.Kinds.{Column};
 ghost use Rattle.fdw_api.specs.State.{IsIdle};
 
-use crate::asked::{Asked, between, compared, null_and_then};
+use crate::asked::{Asked, between, compared, n_is, null_and_then};
 use crate::boxes::{in_counting, in_shuffled};
 use crate::orders::{bind_orders, new_source};
 use crate::scans::write_counts;
@@ -110,4 +110,18 @@ fn shuffled_rows_come_in_another_order(rt: HostRuntime) -> Result<(), Fail> {
         &found,
         "e whole: 11\t1\t1 12\t1\t1 10\t1\t1 again 12\t1\t1 10\t1\t1 11\t1\t1 1/0/6/0",
     )
+}
+
+// A scan that is begun again gives no row without the value that it looks for, and each row that has it where they are at most 64.
+#[test]
+fn rows_of_a_value_are_found_again(rt: HostRuntime) -> Result<(), Fail> {
+    let alloc = rt.alloc();
+    let other = counted(alloc, n_is(alloc, 1, 2)?)?;
+    expect(alloc, &other, " 12\t1\t1 again 1/0/3/0")?;
+    let same = counted(alloc, n_is(alloc, 2, 1)?)?;
+    expect(alloc, &same, " again 10\t1\t1 11\t1\t1 12\t1\t1 1/0/6/0")?;
+    let many = up_to(alloc, 65, n_is(alloc, 1, 1)?)?;
+    expect(alloc, &many, " 64\t1\t1 65\t1\t1 1/0/130/0")?;
+    let few = up_to(alloc, 64, n_is(alloc, 1, 1)?)?;
+    expect(alloc, &few, " 63\t1\t1 64\t1\t1 1/0/128/0")
 }

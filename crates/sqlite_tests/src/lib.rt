@@ -13,10 +13,24 @@ mod keys;
 #[cfg(test)]
 mod limits;
 #[cfg(test)]
+mod open_scans;
+#[cfg(test)]
+mod order_filter;
+#[cfg(test)]
 mod orders;
+#[cfg(test)]
+mod random_asked;
+#[cfg(test)]
+mod random_orders;
+#[cfg(test)]
+mod random_scans;
+#[cfg(test)]
+mod round_judge;
 #[cfg(test)]
 mod scans;
 #[cfg(test)]
 mod wishes;
 #[cfg(test)]
 mod writes;
+#[cfg(test)]
+mod written_orders;

@@ -80,7 +80,7 @@ fn fits_one(kinds: &[ColType], restriction: &Restriction, params: &[Value]) -> b
 }
 
 /// Whether all parameters that restrictions name are there, with values of their columns' types.
-fn fits(kinds: &[ColType], offered: &[Restriction], params: &[Value]) -> bool
+pub fn fits(kinds: &[ColType], offered: &[Restriction], params: &[Value]) -> bool
     ensures { result ≡ params_fit kinds.now (map restriction_form offered.now) (map datum params.now) }
 {
     let mut offered = offered;

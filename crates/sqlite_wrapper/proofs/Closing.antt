@@ -24,6 +24,8 @@ use Rattle.sqlite_cells.specs.Tables.{IsKnown, entries_at, entries_in, entries_o
 use Rattle.sqlite_changes.specs.Kinds.{write_causes}
 use Rattle.sqlite_writes.specs.Writable.{AreApart}
 use Rattle.sqlite_wrapper.specs.Boxes.{allows, asked_of, bound_of, entry_at, given_of, held_in, marked_bound, rows_at, scan_is, scan_rows, sqlite_state, to_come}
+use Rattle.sqlite_lookups.specs.Lookups.{IsLookup}
+use Rattle.sqlite_wrapper.specs.Looks.{AllLook}
 use Rattle.sqlite_wrapper.specs.Rewrites.{Rewrites}
 use Rattle.sqlite_wrapper.specs.declared.scans.KeyScan.{KeyScan}
 use Rattle.sqlite_cells.proofs.Found.{found_is_read}
@@ -116,6 +118,12 @@ module _ (honest : Bool) (db after : Database) (bound : List Bool) (scans : BTre
   module _ (made : Rewrites db after t changes) (apart : AreApart db.schema) (known : (u : ℕ) → ∥ IsKnown db.schema (layout_at u) ∥₁) (allowed : Allowed scans) where
     others : (u : ℕ) → nat_lt u layout_count ≡ true → u ≢ t → entries_in after u ≡ entries_in db u
     others u p ne = made.others u (known u) (differ db.schema t u apart made.there within p ne)
+
+    -- the lookups of live scans are of tables that did not change
+    pub looks_closed : AllLook db scans → AllLook after scans
+    looks_closed looks q s e x is =
+        let p = (both (nat_lt s.table layout_count) (allows (asked_of s)) (allowed q s e)).0 in
+        subst (λ (es : List SqlRow). IsLookup (layout_at s.table) es x) (sym (others s.table p (no_scan q s e))) (looks q s e x is)
 
     pub same_rows : (u : ℕ) → u ≢ t → rows_at after u ≡ rows_at db u
     same_rows u ne = go (nat_lt u layout_count) refl

@@ -51,7 +51,7 @@ span_is r k false e = grind (arith, ints)
 
 module _ (l : Layout) (spec : Spec) (by_key : is_by_key spec.order ≡ true) (params : Tuple) (low high : ℤ) (from : least ≤ℤ low) (to : high ≤ℤ greatest)
     (keys : (k : ℤ) (rest : Tuple) → FitsSigned w64 k → between low high k ≡ meets_exact spec.offered spec.answers params (Whole k ∷ rest)) where
-  abbrev passes : TableRow → Bool
+  abbrev pub passes : TableRow → Bool
   passes r = meets_exact spec.offered spec.answers params r.cells
 
   abbrev kept : List SqlRow → List TableRow
@@ -72,11 +72,11 @@ module _ (l : Layout) (spec : Spec) (by_key : is_by_key spec.order ≡ true) (pa
       ∙ sym (into (in_range low high r) r zs)
   more r rs zs ih false e = rw (not_outside low high (key_of r) from to e) ih
 
-  same : (entries : List SqlRow) → filter passes (rows_in l entries) ≡ kept entries
+  pub same : (entries : List SqlRow) → filter passes (rows_in l entries) ≡ kept entries
   same [] = refl
   same (r ∷ rs) = more r (filter (in_range least greatest) rs) (filter (in_range low high) rs) (same rs) (in_range least greatest r) refl
 
-  shows : (xs : List SqlRow) → map (given_of spec l) xs ≡ map (given_row spec) (map (row_in l) xs)
+  pub shows : (xs : List SqlRow) → map (given_of spec l) xs ≡ map (given_row spec) (map (row_in l) xs)
   shows [] = refl
   shows (x ∷ xs) = ap (λ (gs : List GivenRow). given_of spec l x ∷ gs) (shows xs)
 

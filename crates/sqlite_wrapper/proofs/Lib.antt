@@ -13,3 +13,4 @@ pub mod Kept
 pub mod Rewriting
 pub mod Closing
 pub mod Counted
+pub mod Looking

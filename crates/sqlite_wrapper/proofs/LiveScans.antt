@@ -263,12 +263,14 @@ module _ (honest : Bool) (bound : List Bool) (staged : Option StagedWrite) where
     high_is : r.high ≤ℤ greatest
     high_is = let f = begun.high_fits in omega (arith, ints)
 
-    begun_coming : IsShaped shape.Table (entries_of db (layout_at t)) → IsComing (rows_of db (layout_at t)) spec params (scan_rows db (Some s))
+    -- the keys that come are those of which all restrictions answered Exact are true
+    pub begun_keys : (k : ℤ) (rest : Tuple) → FitsSigned w64 k → between (lowest s) s.high k ≡ meets_exact spec.offered spec.answers params (Whole k ∷ rest)
+    begun_keys k rest fits = between_same (lowest s) _ s.high r.high k low_is new.high ∙ span_is r k s.open new.open_is ∙ begun.keys k rest fits
+
+    pub begun_coming : IsShaped shape.Table (entries_of db (layout_at t)) → IsComing (rows_of db (layout_at t)) spec params (scan_rows db (Some s))
     begun_coming shaped =
-        let k : (k : ℤ) (rest : Tuple) → FitsSigned w64 k → between (lowest s) s.high k ≡ meets_exact spec.offered spec.answers params (Whole k ∷ rest) =
-        λ k rest fits. between_same (lowest s) _ s.high r.high k low_is new.high ∙ span_is r k s.open new.open_is ∙ begun.keys k rest fits in
         subst (IsComing (rows_of db (layout_at t)) spec params) (sym gives)
-        (comes (layout_at t) spec (allowed_order spec allowed) params (lowest s) s.high (subst (λ (z : ℤ). least ≤ℤ z) (sym low_is) (above s.open)) (subst (λ (z : ℤ). z ≤ℤ greatest) (sym new.high) high_is) k (entries_of db (layout_at t)) shaped)
+        (comes (layout_at t) spec (allowed_order spec allowed) params (lowest s) s.high (subst (λ (z : ℤ). least ≤ℤ z) (sym low_is) (above s.open)) (subst (λ (z : ℤ). z ≤ℤ greatest) (sym new.high) high_is) begun_keys (entries_of db (layout_at t)) shaped)
 
     few_left : from_to (lowest s) s.high ≤ 2 ^ 64
     few_left = few_keys (lowest s) s.high (subst (λ (z : ℤ). least ≤ℤ z) (sym low_is) (above s.open)) (subst (λ (z : ℤ). z ≤ℤ greatest) (sym new.high) high_is)
@@ -295,9 +297,10 @@ module _ (honest : Bool) (bound : List Bool) (staged : Option StagedWrite) where
       leaves = λ h. others db m n next next (next + 1) pulled pulled faults faults (Some s) u;
     }
 
-    pub sqlite_rescans : (m n : BTreeMap ℕ KeyScan) (next pulled faults number : ℕ) (old : KeyScan) → (honest ≡ true → IsShaped shape.Table (entries_of db (layout_at t))) → tree.get nat_cmp m number ≡ Some old → nat_lt old.table layout_count ≡ true → old.table ≡ t → asked_of old ≡ spec
-        → Sets m n number (Some s) → Rescans (box db m next pulled faults) number params (box db n next pulled faults)
-    sqlite_rescans m n next pulled faults number old shaped is within et es u = record {
+    pub sqlite_rescans : (after : Database) (m n : BTreeMap ℕ KeyScan) (next pulled faults number : ℕ) (old x : KeyScan) → (honest ≡ true → after ≡ db) → scan_is x ≡ scan_is s
+        → (honest ≡ true → IsComing (rows_of db (layout_at t)) spec params (scan_rows db (Some x))) → tree.get nat_cmp m number ≡ Some old → nat_lt old.table layout_count ≡ true → old.table ≡ t → asked_of old ≡ spec
+        → Sets m n number (Some x) → Rescans (box db m next pulled faults) number params (box after n next pulled faults)
+    sqlite_rescans after m n next pulled faults number old x same shows coming is within et es u = record {
       nature = refl;
       scan = scan_is old;
       at = mapped_get scan_is m number ∙ ap (option_map scan_is) is;
@@ -305,14 +308,15 @@ module _ (honest : Bool) (bound : List Bool) (staged : Option StagedWrite) where
       few = few_left;
       ledger =
           ap (λ (l : finmap.FinMap nat_cmp Scan). record (box db m next pulled faults).ledger { live = l })
-          (mapped_insert scan_is m n number s u ∙ ap (finmap.insert (mapped scan_is m.entries) number)
-          (shows_new ∙ ap (λ (q : ℕ). new_scan q (kinds_in (layout_at q)) spec params (from_to (lowest s) s.high)) (sym et)
-          ∙ ap (λ (x : Spec). new_scan old.table (kinds_in (layout_at old.table)) x params (from_to (lowest s) s.high)) (sym es)));
+          (mapped_insert scan_is m n number x u ∙ ap (finmap.insert (mapped scan_is m.entries) number)
+          (shows ∙ shows_new ∙ ap (λ (q : ℕ). new_scan q (kinds_in (layout_at q)) spec params (from_to (lowest s) s.high)) (sym et)
+          ∙ ap (λ (z : Spec). new_scan old.table (kinds_in (layout_at old.table)) z params (from_to (lowest s) s.high)) (sym es)));
       coming = λ h. rw within
-          (subst (λ (q : ℕ). IsComing (rows_of db (layout_at q)) (asked_of old) params (scan_rows db (tree.get nat_cmp n number))) (sym et)
-          (subst (λ (x : Spec). IsComing (rows_of db (layout_at t)) x params (scan_rows db (tree.get nat_cmp n number))) (sym es)
-          (subst (IsComing (rows_of db (layout_at t)) spec params) (sym (ap (scan_rows db) u.0)) (begun_coming (shaped h)))));
-      leaves = λ h. others db m n number next next pulled pulled faults faults (Some s) u;
+          (subst (λ (q : ℕ). IsComing (rows_of db (layout_at q)) (asked_of old) params (scan_rows after (tree.get nat_cmp n number))) (sym et)
+          (subst (λ (z : Spec). IsComing (rows_of db (layout_at t)) z params (scan_rows after (tree.get nat_cmp n number))) (sym es)
+          (subst (IsComing (rows_of db (layout_at t)) spec params) (sym (ap (scan_rows after) u.0 ∙ ap (λ (d : Database). scan_rows d (Some x)) (same h))) (coming h))));
+      leaves = λ h. subst (λ (d : Database). LeavesOthers number (box db m next pulled faults) (box d n next pulled faults)) (sym (same h))
+          (others db m n number next next pulled pulled faults faults (Some x) u);
     }
 
   -- a begin that is refused for want of memory leaves the box as it was

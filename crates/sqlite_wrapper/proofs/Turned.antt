@@ -71,7 +71,7 @@ turned_read n items page at full = rw (page, at, full) (go (is_spent n.room) (le
 
 -- a scan of which no page is wanted stays as it is
 pub stays : (honest : Bool) (entries : List SqlRow) (s : KeyScan) → wanted_by s ≡ None → Turns honest entries s s
-stays honest entries s e = record { shows = refl; room = refl; keys = (refl, refl, refl); rows = λ h. refl; read = e }
+stays honest entries s e = record { shows = refl; room = refl; keys = (refl, refl, refl); lookup = refl; rows = λ h. refl; read = e }
 
 pub some_if : {X : Type 0} (o : Option X) (P : X → Type 0) (x : X) → o ≡ Some x → P x → IfSome o P
 some_if o P x e p = rw e p

@@ -15,7 +15,7 @@ use Rattle.key_ranges.specs.declared.ranges.KeyRange.{KeyRange}
 use Rattle.med_value.specs.Datum.{Whole, Tuple, datum}
 use Rattle.fdw_api.specs.Scan.{KeyForm, Spec, first_of, spec_of, TableRow, GivenRow, given_row, meets_exact}
 use Rattle.fdw_api.specs.Kinds.{Entry, Holding, Known}
-use Rattle.fdw_api.specs.State.{BoxTable, Scan, Ledger, Content, BoxState}
+use Rattle.fdw_api.specs.State.{BoxTable, Scan, Ledger, Content, BoxState, whole_asks_rest}
 use Rattle.fdw_api.specs.Wishes.{key_form}
 use Rattle.fdw_api.specs.declared.wishes.OrderKey.{OrderKey}
 use Rattle.sqlite_wrapper.specs.declared.scans.KeyScan.{KeyScan}
@@ -50,6 +50,7 @@ bound_of t = record {
   kinds = kinds_in (layout_at t);
   allows = allows;
   allows_plain = λ wanted offered. plain_is_allowed offered;
+  allows_whole = λ spec allowed. whole_asks_rest spec.narrow (is_by_key spec.order && only_key_tests spec.offered spec.answers) allowed;
   line = no_line;
   image = sqlite_image (kinds_in (layout_at t));
   arrangement = by_key;
@@ -153,6 +154,7 @@ pub record IsNewScan (s : KeyScan) (t : ℕ) (spec : Spec) (params : Tuple) (r :
   pub no_page : s.page.items ≡ []
   pub at_start : s.at ≡ 0
   pub full : s.full ≡ true
+  pub no_lookup : s.lookup ≡ None
   pub whole : s.broken ≡ false
 
 -- a scan that has just begun: its range has just the keys of which all restrictions answered Exact are true

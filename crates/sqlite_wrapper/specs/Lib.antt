@@ -5,3 +5,4 @@ pub mod Pages
 pub mod SqliteBoxes
 pub mod Rewrites
 pub mod Counts
+pub mod Looks

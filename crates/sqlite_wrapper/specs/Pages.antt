@@ -33,6 +33,7 @@ pub record Turns (honest : Bool) (entries : List SqlRow) (old new : KeyScan) : T
   pub shows : scan_is new ≡ scan_is old
   pub room : new.room ≡ old.room
   pub keys : (new.low ≡ old.low) × (new.high ≡ old.high) × (new.«open» ≡ old.«open»)
+  pub lookup : new.lookup ≡ old.lookup
   pub rows : honest ≡ true → to_come entries new ≡ to_come entries old
   pub read : wanted_by new ≡ None
 

@@ -2,6 +2,7 @@
 #![tactic(auto)]
 
 mod counts;
+mod lookups;
 mod promises;
 mod rows;
 mod scans;

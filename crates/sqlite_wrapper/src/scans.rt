@@ -13,6 +13,7 @@ use fdw_api::wishes::OrderKey;
 use key_ranges::{KeyRange, range_of};
 use med_value::{NoMemory, Value};
 use sqlite::Row;
+use sqlite_lookups::Lookup;
 use std::alloc::Global;
 use std::collections::BTreeMap;
 
@@ -36,6 +37,8 @@ pub(crate) struct KeyScan {
     pub(crate) at: usize,
     /// Whether a page may follow.
     pub(crate) full: bool,
+    /// The rows of its table by the values of the column in which it looks for a parameter, once it was begun again.
+    pub(crate) lookup: Option<Lookup>,
     pub(crate) broken: bool,
 }
 
@@ -104,6 +107,7 @@ pub(crate) fn new_scan(
         page: Vec::new(alloc),
         at: 0,
         full: true,
+        lookup: None,
         broken: false,
     }
 }

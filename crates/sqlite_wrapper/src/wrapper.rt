@@ -12,9 +12,11 @@ ghost use Rattle.staged_changes.specs.Staged.{write_is};
 ghost use Rattle.sqlite_wrapper.specs.Changes.{NamesOnce, named_is_prop, names_rows, write_fits};
 ghost use Rattle.sqlite_writes.specs.Writable.{AreApart, IsWritable};
 ghost use Rattle.sqlite_wrapper.specs.Counts.{AreCounts, AreFew};
+ghost use Rattle.sqlite_wrapper.specs.Looks.{AllLook};
 ghost use Rattle.sqlite_wrapper.specs.Boxes.{allows, is_allowed, is_by_key, promised, scan_is, sqlite_state};
 
 use crate::counts::{count_of, forget_count, put_count};
+use crate::lookups::{look_up, take_lookup};
 use crate::promises::{all_exact, is_by_key, promised_limit, promised_order};
 use crate::rows::{GivenNext, faults_after, next_of, read_page};
 use crate::scans::{KeyScan, begun_again, new_scan, pass_row, put_scan, spoil};
@@ -39,7 +41,9 @@ use std::collections::BTreeMap;
 /// Its kind is `sqlite_kind`. Its remote tables are those of the layouts, by their numbers: orders is table 0, and people table 1. The id
 /// of a row is the 64 bits of its key. A scan takes over tests of the key alone, gives whole rows in the order of their keys, and reads
 /// them by pages of 64. It promises the order that is empty, or that of the key, ascending, and a limit wherever one may be promised: once
-/// so many rows came it reads no page. It is honest where its store always returns what was written.
+/// so many rows came it reads no page. A scan of all keys, of which neither is promised and which looks for a parameter, reads its table
+/// once when it is begun again, and finds from then on the rows that have the parameter's value, where they are at most 64. It is honest
+/// where its store always returns what was written.
 #[derive(Drop)]
 pub struct SqliteWrapper<S: SourceStore + Drop> {
     conn: Connection<S>,
@@ -62,6 +66,7 @@ pub struct SqliteWrapper<S: SourceStore + Drop> {
     ghost few: { AreFew row_counts.items },
     ghost allowed: { (k : ℕ) (s : KeyScan) → tree.get nat_cmp scans k ≡ Some s → is_allowed (scan_is s) ≡ true },
     ghost fresh: { (k : ℕ) → next ≤ k → tree.get nat_cmp scans k ≡ None },
+    ghost looked: { S.honest ≡ true → AllLook (state S.Store conn).now scans },
 }
 
 impl<S: SourceStore + Drop> SqliteWrapper<S> {
@@ -143,7 +148,7 @@ impl<S: SourceStore + Drop> Wrapper for SqliteWrapper<S> {
 
     fn bind(
         &mut self,
-        alloc: Global,
+        _alloc: Global,
         remote: &str,
         columns: &[ColumnDef],
         _options: &[TableOption],
@@ -151,7 +156,7 @@ impl<S: SourceStore + Drop> Wrapper for SqliteWrapper<S> {
         let Some(number) = place_of(remote) else {
             return Err(Fault::Refused(Cause::TableNotFound));
         };
-        let count = match open_table(alloc, &mut self.conn, number, columns) {
+        let count = match open_table(&mut self.conn, number, columns) {
             Ok(count) => count,
             Err(fault) => {
                 self.faults = faults_after(self.faults, fault);
@@ -233,8 +238,18 @@ impl<S: SourceStore + Drop> Wrapper for SqliteWrapper<S> {
             }
             Ok(scan) => {
                 entries_rise(&self.conn, scan.table);
-                put_scan(&mut self.scans, ticket.number, scan);
-                Ok(())
+                let had = take_lookup(&mut self.scans, ticket.number);
+                match look_up(alloc, &mut self.conn, scan, had) {
+                    Err(fault) => {
+                        spoil(&mut self.scans, ticket.number);
+                        self.faults = faults_after(self.faults, fault);
+                        Err(fault)
+                    }
+                    Ok(scan) => {
+                        put_scan(&mut self.scans, ticket.number, scan);
+                        Ok(())
+                    }
+                }
             }
         }
     }

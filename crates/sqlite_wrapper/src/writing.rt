@@ -33,7 +33,6 @@ use std::alloc::Global;
 // The number of rows of a table that is there, of its shape: what is held for it, and where nothing is they are counted. Any refusal is a
 // failure of the source, but for want of memory.
 fn rows_there<S: SourceStore>(
-    alloc: Global,
     conn: &mut Connection<S>,
     table: u64,
     held: Option<usize>,
@@ -56,7 +55,7 @@ fn rows_there<S: SourceStore>(
     }
     match held {
         Some(count) => Ok(count),
-        None => count_rows(alloc, conn, table),
+        None => count_rows(conn, table),
     }
 }
 
@@ -100,7 +99,7 @@ pub(crate) fn write_rows<S: SourceStore>(
     let fresh = split.fresh.len();
     let gone = split.gone.len();
     let held = with_room(held, fresh, gone);
-    let count = match rows_there(alloc, conn, table, held) {
+    let count = match rows_there(conn, table, held) {
         Ok(count) => count,
         Err(fault) => return Err(fault),
     };

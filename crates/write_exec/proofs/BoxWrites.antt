@@ -13,7 +13,7 @@ use Rattle.fdw_api.specs.declared.interface.Fault.{Fault}
 use Rattle.fdw_api.specs.declared.interface.Fault.TheVariants.{NoMemory, Source, Refused}
 use Rattle.med_exec.specs.Reading.{pulled_after}
 use Rattle.med_exec.specs.Scanning.{FailsScan}
-use Rattle.med_exec.proofs.ScanLemmas.{honest_on}
+use Rattle.med_exec.proofs.Served.{honest_on}
 use Rattle.med_write.specs.declared.write.WrittenColumn.{WrittenColumn}
 use Rattle.med_write.specs.declared.write.WriteFault.{WriteFault}
 use Rattle.med_write.specs.Form.{WriteForm, insert_form, update_form, delete_form}

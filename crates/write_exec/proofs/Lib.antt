@@ -1,3 +1,4 @@
+pub mod ScanLemmas
 pub mod RowScans
 pub mod StagedChanges
 pub mod MadeChanges

@@ -7,7 +7,7 @@ use Rattle.fdw_api.specs.Calls.{LeavesAll, NoScan, faults_after, not_refused}
 use Rattle.fdw_api.specs.Writes.{CanModify, Opens, RefusesModify, CanClose, Closes, RefusesClose, CloseCause, Written}
 use Rattle.fdw_api.specs.declared.interface.Fault.{Fault}
 use Rattle.fdw_api.specs.declared.interface.Fault.TheVariants.{NoMemory, Source, Refused}
-use Rattle.med_exec.proofs.ScanLemmas.{honest_on}
+use Rattle.med_exec.proofs.Served.{honest_on}
 use Rattle.write_exec.specs.Staging.{AreStageable, IsStaged, BreaksStaging, ChangesCause, MakesChanges, MakesNone}
 use Rattle.write_exec.proofs.StagedChanges.{staging_of, leaves_twice}
 

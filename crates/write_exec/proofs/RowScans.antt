@@ -12,7 +12,8 @@ use Rattle.fdw_api.specs.State.{BoxTable, Scan, BoxState, is_honest, scan_of, ro
 use Rattle.fdw_api.specs.Calls.{IsOpen, GivesRow, GivesNone, Begins, Ends, new_scan}
 use Rattle.fdw_api.specs.declared.interface.Fault.{Fault}
 use Rattle.med_exec.specs.Reading.{cells_of, StopsBy}
-use Rattle.med_exec.proofs.ScanLemmas.{HasGiven, honest_on, start, more, done, reads}
+use Rattle.med_exec.proofs.Served.{honest_on}
+use Rattle.write_exec.proofs.ScanLemmas.{HasGiven, start, more, done, reads}
 use Rattle.write_exec.specs.Reading.{are_typed, ReadsWhole, GivesRows, ReadsTable}
 
 -- the scan has given these rows, and is good for more

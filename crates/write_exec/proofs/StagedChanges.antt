@@ -9,7 +9,7 @@ use Rattle.fdw_api.specs.Calls.{LeavesAll, faults_after}
 use Rattle.fdw_api.specs.Writes.{CanChange, Stages, ChangeCause, RefusesChange, row_of_change_fits, id_is_there, is_first}
 use Rattle.fdw_api.specs.declared.interface.Fault.{Fault}
 use Rattle.fdw_api.specs.declared.interface.Fault.TheVariants.{NoMemory, Source, Refused}
-use Rattle.med_exec.proofs.ScanLemmas.{honest_on}
+use Rattle.med_exec.proofs.Served.{honest_on}
 use Rattle.write_exec.specs.Staging.{all_first, AreStageable, IsStaged, BreaksStaging, ChangesCause}
 
 some_inj : {A : Type 0} (a b : A) → Some a ≡ Some b → a ≡ b

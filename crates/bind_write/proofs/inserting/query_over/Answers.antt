@@ -53,6 +53,6 @@ returns c =
     let asked = c.in_ok-found.ensures in
     write_is o b c.args.user.now (query_write n names q) c.in_ok-target.target _ is refl refl refl
     (c.in_ok-written_columns.ensures ∙ ap (map written_column) is.columns)
-    (answer_formed (columns_in (shapes o) n) _ names _ c.in_ok-places_for.ensures is.columns) (asked.meant, asked.there, asked.safe)
+    (answer_formed (columns_in (shapes o) n) _ names _ c.in_ok-places_for.ensures is.columns) (asked.meant, asked.there, asked.widths, asked.safe)
     (query_clear o b c.args.user.now n names q c.in_ok-target.target c.in_ok-found.found is asked)
     (query_typed o b c.args.user.now n names q c.in_ok-target.target c.in_ok-found.found _ is asked (c.first_items.ensures ∙ ap (λ cs. first_items (map core_form cs)) c.as_slice.ensures.value) c.in_ok-check_answer.ensures)

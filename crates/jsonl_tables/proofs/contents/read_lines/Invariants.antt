@@ -3,12 +3,14 @@ use Rattle.std.specs.List.{filter, list_all}
 use Rattle.jsonl_tables.specs.Lines.{lines_of, lines_at, is_blank, pieces_from}
 use Rattle.jsonl_tables.specs.Fields.{reader_of}
 use Rattle.jsonl_tables.specs.Objects.{is_object, is_typed}
+use Rattle.jsonl_tables.specs.Wholes.{whole_is, wholes_of}
 use Rattle.jsonl_tables.proofs.contents.read_lines.Given as goal
 
 abbrev pub invariant-loop-start : goal.invariant-loop-start
 invariant-loop-start l = record {
   within : l.start ≤ length l.content + 1;
   found : lines_at l.content l.spans.items ++ filter (λ line. not (is_blank line)) (pieces_from l.content l.start) ≡ lines_of l.content;
+  wholes : map whole_is l.wholes.items ≡ wholes_of (map reader_of l.fields) (lines_at l.content l.spans.items);
   objects : list_all is_object (lines_at l.content l.spans.items) ≡ true;
   typed : list_all (is_typed (map reader_of l.fields)) (lines_at l.content l.spans.items) ≡ true;
   few : length l.spans.items ≤ 1000000;

@@ -1,4 +1,4 @@
-use Rattle.std.proofs.Common.{◌≡◌, ◌≤◌, ◌∙◌, false, map, flat_map, replicate, length, string_bytes, arith, rules}
+use Rattle.std.proofs.Common.{◌≡◌, ◌≤◌, ◌∙◌, ◌++◌, false, map, flat_map, replicate, length, string_bytes, arith, rules}
 use Rattle.std.specs.List.{list_any}
 use Rattle.fdw_api.specs.Writes.{inserted}
 use Rattle.staged_changes.specs.declared.fates.Fate.TheVariants.{Keep}
@@ -7,7 +7,9 @@ use Rattle.jsonl_tables.specs.Contents.{rows_at, json_line, updates_wider}
 use Rattle.jsonl_tables.specs.Tables.{readers_in, rows_in, lines_in}
 use Rattle.staged_changes.specs.Staged.{change_is}
 use Rattle.jsonl_tables.specs.Changes.{left_by, rows_left}
-use Rattle.jsonl_tables.proofs.RewriteLaws.{image_text, image_rows, image_size, no_write_cause, large_cause, many_rows, many_bytes, few_enough}
+use Rattle.jsonl_tables.specs.Wholes.{whole_is, wholes_of}
+use Rattle.jsonl_tables.proofs.WholeLaws.{wholes_follow}
+use Rattle.jsonl_tables.proofs.RewriteLaws.{image_lines, image_text, image_rows, image_size, no_write_cause, large_cause, many_rows, many_bytes, few_enough}
 use Rattle.jsonl_tables.proofs.rewrite.rewritten.Goals.{then-len-gt-ROW_LIMIT-via-then-len-gt-ROW_LIMIT, then-len-gt-ROW_LIMIT-via-else-len-gt-ROW_LIMIT+then-len-gt-BYTE_LIMIT}
 use Rattle.jsonl_tables.proofs.rewrite.rewritten.Goals as goal
 
@@ -59,3 +61,16 @@ returns-then-len-gt-ROW_LIMIT-clause-err c =
       | then-len-gt-ROW_LIMIT-via-then-len-gt-ROW_LIMIT w ↦ many_rows (length made.lines.items) (length made.content.items) (omega arith)
       | then-len-gt-ROW_LIMIT-via-else-len-gt-ROW_LIMIT+then-len-gt-BYTE_LIMIT w ↦ many_bytes (length made.lines.items) (length made.content.items) (omega arith)
     ])
+
+pub returns-clause-wholes : goal.returns-clause-wholes
+returns-clause-wholes c =
+    let t = c.args.table.now in
+    let readers = readers_in t in
+    let k = c.in_ok-kept_lines.ensures in
+    let left = left_by c.in_ok-fates-2.field-0.fates.items (lines_in t) in
+    let fresh = map string_bytes c.in_ok-fates-2.field-0.fresh.items in
+    let old = map whole_is c.in_ok-wholes.wholes.items in
+    let kept : old ≡ wholes_of readers left = search rules in
+    let more : map whole_is c.push_lines.new.wholes.items ≡ old ++ wholes_of readers fresh = search rules in
+    wholes_follow readers left fresh _ c.in_ok-wholes.wholes.items c.push_lines.new.wholes.items kept more
+    (image_lines c.in_ok-image.image.content.items c.in_ok-image.image.lines.items _ (c.in_ok-image.ensures left k))

@@ -1,6 +1,6 @@
 use Rattle.std.proofs.Common.{◌≡◌, ◌++◌, map, drop}
 use Rattle.tri_expr.specs.Tree.{tree, trees}
-use Rattle.loop_plans.specs.Places.{columns_in_all}
+use Rattle.read_columns.specs.Columns.{columns_in_all}
 use Rattle.loop_plans.proofs.places.+columns.Given as goal
 
 abbrev pub invariant-push_all-loop-part : goal.invariant-push_all-loop-part

@@ -8,9 +8,10 @@ use Rattle.med_catalog.specs.Objects.{Objects}
 use Rattle.med_catalog.specs.View.{objects}
 use Rattle.bind_catalog.specs.Places.{Attached, attached}
 use Rattle.bind_write.specs.Binding.{IsQueryOf}
-use Rattle.med_select.proofs.Selections.{entries_bound}
+use Rattle.bound_runs.specs.Running.{IsReady as IsBoundReady}
+use Rattle.med_select.specs.Ready.{AreReady}
 use Rattle.med_world.specs.Writing.{not_bound, in_use}
-use Rattle.med_rows.proofs.Typed.{HasQuery, has_query}
+use Rattle.med_rows.proofs.Typed.{HasQuery, has_query, bound_as}
 use Rattle.med_rows.proofs.Runs.{none_asked, asked, not_answered, crowded, untyped, can_alone, can_answered, ends_ok, ends_err}
 use Rattle.med_rows.proofs.running.run_write.Goals as goal
 
@@ -65,16 +66,17 @@ returns-then-len-gt-ENTRY_LIMIT-clause-err g c =
     crowded o c.args.user.now bound t b (states g.W.Wrapper.meaning c.args.slots.now.items) c.args.is_leased c.in-Ok.ensures.bindable
     (query_there o bound t c.in-Ok.write.query b (sym c.take.ensures.value ∙ c.in-Some.is) c.in-Ok.ensures.meant.query) many
 
-pub run_query-requires-clause-bound : goal.run_query-requires-clause-bound
-run_query-requires-clause-bound g c =
+pub run_query-requires : goal.run_query-requires
+run_query-requires g c =
     let o = objects c.args.catalog.now in
     let bound = map attached c.args.bound.now in
-    let h = query_there o bound (write_tree c.args.statement) c.in-Ok.write.query c.in-Some.query (sym c.take.ensures.value ∙ c.in-Some.is) c.in-Ok.ensures.meant.query in
-    entries_bound (states g.W.Wrapper.meaning c.args.slots.now.items) bound _ c.in-Some.query.entries.items c.requires.tables h.places
-
-pub run_query-requires-clause-safe : goal.run_query-requires-clause-safe
-run_query-requires-clause-safe g c =
-    (query_there (objects c.args.catalog.now) (map attached c.args.bound.now) (write_tree c.args.statement) c.in-Ok.write.query c.in-Some.query (sym c.take.ensures.value ∙ c.in-Some.is) c.in-Ok.ensures.meant.query).safe
+    let t = write_tree c.args.statement in
+    let b = c.in-Some.query in
+    let boxes = states g.W.Wrapper.meaning c.args.slots.now.items in
+    let h : HasQuery o bound t b = query_there o bound t c.in-Ok.write.query b (sym c.take.ensures.value ∙ c.in-Some.is) c.in-Ok.ensures.meant.query in
+    let can : AreReady o bound boxes = record { sound = c.requires.ready.sound; tables = c.requires.ready.tables } in
+    let r : IsBoundReady boxes b = c.bound_queries_are_ready.ensures.ready o bound h.query b boxes can (bound_as o c.args.user.now bound t b c.in-Ok.ensures.bindable h) in
+    record { kinds = r.kinds; typed = r.typed; counts = r.counts; view = r.view; alike = r.alike; wide = r.wide; safe = r.safe }
 
 pub returns-in-Err-run_query-clause-err : goal.returns-in-Err-run_query-clause-err
 returns-in-Err-run_query-clause-err g c =
@@ -126,7 +128,7 @@ returns-clause-ok g c =
     let can = can_answered o bound old now t c.in-Ok.write b answer c.requires.ready c.run_query.ensures.served c.in-Ok.ensures.meant h
     (λ places form. sym c.if-not-fits.false ∙ rw c.as_slice.ensures.value at c.fits.ensures places form) in
     ends_ok o c.args.user.now bound t c.in-Ok.write old now (states g.W.Wrapper.meaning c.write_rows-2.new.slots.items) answer c.write_rows-2.result c.args.is_leased c.if-is_leased.false c.in-Ok.ensures.bindable c.in-Ok.ensures.meant
-    (asked o bound t b old now answer h few c.run_query.ensures.served c.in-Ok-run_query.ensures.once c.in-Ok-run_query.ensures.ok) can (rw c.as_slice-2.ensures.value at c.write_rows-2.ensures.ok)
+    (asked o bound t b old now answer h few c.run_query.ensures.served (c.bound_queries_are_ready.ensures.once o h.query b old now h.meant c.in-Ok-run_query.ensures.once) c.in-Ok-run_query.ensures.ok) can (rw c.as_slice-2.ensures.value at c.write_rows-2.ensures.ok)
 
 pub returns-clause-err : goal.returns-clause-err
 returns-clause-err g c =
@@ -142,4 +144,4 @@ returns-clause-err g c =
     let few : length b.entries.items ≤ 8 = omega (arith, counted, least) in
     let h = query_there o bound t c.in-Ok.write.query b (sym c.take.ensures.value ∙ c.in-Some.is) c.in-Ok.ensures.meant.query in
     ends_err o c.args.user.now bound t c.in-Ok.write old now (states g.W.Wrapper.meaning c.write_rows-2.new.slots.items) answer c.write_rows-2.result c.args.is_leased c.if-is_leased.false c.in-Ok.ensures.bindable c.in-Ok.ensures.meant
-    (asked o bound t b old now answer h few c.run_query.ensures.served c.in-Ok-run_query.ensures.once c.in-Ok-run_query.ensures.ok) (rw c.as_slice-2.ensures.value at c.write_rows-2.ensures.err)
+    (asked o bound t b old now answer h few c.run_query.ensures.served (c.bound_queries_are_ready.ensures.once o h.query b old now h.meant c.in-Ok-run_query.ensures.once) c.in-Ok-run_query.ensures.ok) (rw c.as_slice-2.ensures.value at c.write_rows-2.ensures.err)

@@ -1,21 +1,16 @@
-use Rattle.std.proofs.Common.{map}
+use Rattle.std.proofs.Common.{map, refl}
+use Rattle.med_value.specs.Datum.{tuple}
 use Rattle.med_query.specs.Select.{query_of}
-use Rattle.pushdown.specs.Offered.{entry_place}
+use Rattle.med_planner.specs.Planned.{entry_place}
 use Rattle.med_exec.specs.Slots.{states}
-use Rattle.med_select.proofs.Selections.{still_safe, ok_follows, err_follows}
-use Rattle.med_select.proofs.TablesRead.{read_once}
+use Rattle.med_exec.specs.Rests.{Rests}
+use Rattle.med_select.proofs.Begins.{held_answer}
 use Rattle.med_select.proofs.selecting.begun.Goals as goal
 
-pub start-requires : goal.start-requires
-start-requires g c =
-    record { begins = c.in-Ok.ensures.begins; safe = still_safe c.in-Ok.plan.select c.args.bound.select c.in-Ok.ensures.query c.requires.safe }
-
-pub returns-clause-err : goal.returns-clause-err
-returns-clause-err g c =
-    let bound = c.args.bound in
-    err_follows _ _ c.start.result (λ fault h. h (query_of bound.select) (map entry_place bound.entries.items) c.in-Ok.ensures.plans) c.start.ensures.err
-
-pub returns-clause-once : goal.returns-clause-once
-returns-clause-once g c =
+pub returns-in-Ok-clause-ok : goal.returns-in-Ok-clause-ok
+returns-in-Ok-clause-ok g c =
     let m = g.W.Wrapper.meaning in
-    ok_follows _ _ c.start.result (λ run h. read_once (states m c.args.slots.now.items) (states m c.start.new.slots.items) c.args.bound.entries.items c.in-Ok.plan.scans.items h.0 c.in-Ok.ensures.scans h.1) c.start.ensures.once
+    let new = states m c.run_bound.new.slots.items in
+    let out = map tuple c.in-Ok.rows.items in
+    held_answer (query_of c.args.bound.select) (map entry_place c.args.bound.entries.items) (states m c.args.slots.now.items) out (Rests c.held.result new)
+    ((c.held.ensures.rests new out).1 refl) (λ rows e. (c.held.ensures.rests new rows).0 e) c.in-Ok.ensures.ok

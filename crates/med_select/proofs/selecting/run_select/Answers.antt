@@ -7,7 +7,10 @@ use Rattle.med_catalog.specs.View.{objects}
 use Rattle.bind_catalog.specs.Looked.{query_in}
 use Rattle.bind_catalog.specs.Places.{attached}
 use Rattle.med_world.specs.Selecting.{not_bound}
-use Rattle.med_select.proofs.Selections.{IsBoundBy, entries_bound, selected, unanswered, crowded}
+use Rattle.bound_runs.specs.Running.{IsReady}
+use Rattle.med_select.specs.Ready.{IsBoundAs}
+use Rattle.med_select.proofs.Ready.{bound_as}
+use Rattle.med_select.proofs.Selections.{IsBoundBy, selected, unanswered, crowded}
 use Rattle.med_select.proofs.selecting.run_select.Goals as goal
 
 pub returns-in_err-query-clause-err : goal.returns-in_err-query-clause-err
@@ -15,9 +18,16 @@ returns-in_err-query-clause-err g c =
     let p = err_from_is_err_and c.from_residual.result c.from_residual.ensures.1 in
     rw (p.1, p.2) (not_bound c.in_err-query.ensures.refused refl)
 
-pub run_bound-requires-clause-bound : goal.run_bound-requires-clause-bound
-run_bound-requires-clause-bound g c =
-    entries_bound (states g.W.Wrapper.meaning c.args.slots.now.items) (map attached c.args.bound.now) _ c.in_ok-query.query.entries.items c.requires.tables c.in_ok-query.ensures.places
+pub run_bound-requires : goal.run_bound-requires
+run_bound-requires g c =
+    let o = objects c.args.catalog.now in
+    let q = query_in (statement_tree c.args.statement.now) in
+    let b = c.in_ok-query.query in
+    let is : IsBoundAs o (map attached c.args.bound.now) q b =
+    bound_as o c.args.user.now (map attached c.args.bound.now) q b c.in_ok-query.ensures.bindable c.in_ok-query.ensures.meant c.in_ok-query.ensures.places c.in_ok-query.ensures.widths c.in_ok-query.ensures.safe in
+    let boxes = states g.W.Wrapper.meaning c.args.slots.now.items in
+    let r : IsReady boxes b = c.bound_queries_are_ready.ensures.ready o (map attached c.args.bound.now) q b boxes c.requires.ready is in
+    record { ready = record { kinds = r.kinds; typed = r.typed; counts = r.counts; view = r.view; alike = r.alike; wide = r.wide; safe = r.safe } }
 
 pub returns-in-Err-clause-err : goal.returns-in-Err-clause-err
 returns-in-Err-clause-err g c =
@@ -41,7 +51,7 @@ returns-clause-ok g c =
     let least : c.len.result ≤ 8 = c.if-len-gt-ENTRY_LIMIT.false in
     let few : length c.in_ok-query.query.entries.items ≤ 8 = omega (arith, counted, least) in
     rw c.replace-names.ensures.value (selected c.expressions_ignore_order.ensures c.answers_ignore_order.ensures c.causes_ignore_order.ensures o c.args.user.now (map attached c.args.bound.now) q c.in_ok-query.query (map tuple c.in-Ok.rows.items)
-    (states m c.args.slots.now.items) (states m c.run_bound.new.slots.items) is few c.run_bound.ensures.served c.in-Ok.ensures.once c.in-Ok.ensures.ok)
+    (states m c.args.slots.now.items) (states m c.run_bound.new.slots.items) is few c.run_bound.ensures.served (c.bound_queries_are_ready.ensures.once o q c.in_ok-query.query (states m c.args.slots.now.items) (states m c.run_bound.new.slots.items) c.in_ok-query.ensures.meant c.in-Ok.ensures.begins) c.in-Ok.ensures.ok)
 
 pub returns-then-len-gt-ENTRY_LIMIT-clause-err : goal.returns-then-len-gt-ENTRY_LIMIT-clause-err
 returns-then-len-gt-ENTRY_LIMIT-clause-err g c =

@@ -6,7 +6,10 @@ use Rattle.med_catalog.specs.View.{objects}
 use Rattle.bind_catalog.specs.Looked.{query_in}
 use Rattle.bind_catalog.specs.Places.{attached}
 use Rattle.open_cursors.specs.Starting.{not_bound}
-use Rattle.med_select.proofs.Selections.{IsBoundBy, entries_bound}
+use Rattle.bound_runs.specs.Running.{IsReady}
+use Rattle.med_select.specs.Ready.{IsBoundAs}
+use Rattle.med_select.proofs.Ready.{bound_as}
+use Rattle.med_select.proofs.Selections.{IsBoundBy}
 use Rattle.med_select.proofs.Begins.{MayBegin, starts, not_begun}
 use Rattle.med_select.proofs.starting.start_select.Goals as goal
 
@@ -15,9 +18,16 @@ returns-in_err-query-clause-err g c =
     let p = err_from_is_err_and c.from_residual.result c.from_residual.ensures.1 in
     rw (p.1, p.2) (not_bound c.in_err-query.ensures.refused refl)
 
-pub begun-requires-clause-bound : goal.begun-requires-clause-bound
-begun-requires-clause-bound g c =
-    entries_bound (states g.W.Wrapper.meaning c.args.slots.now.items) (map attached c.args.bound.now) _ c.in_ok-query.query.entries.items c.requires.tables c.in_ok-query.ensures.places
+pub begun-requires : goal.begun-requires
+begun-requires g c =
+    let o = objects c.args.catalog.now in
+    let q = query_in (statement_tree c.args.statement.now) in
+    let b = c.in_ok-query.query in
+    let is : IsBoundAs o (map attached c.args.bound.now) q b =
+    bound_as o c.args.user.now (map attached c.args.bound.now) q b c.in_ok-query.ensures.bindable c.in_ok-query.ensures.meant c.in_ok-query.ensures.places c.in_ok-query.ensures.widths c.in_ok-query.ensures.safe in
+    let boxes = states g.W.Wrapper.meaning c.args.slots.now.items in
+    let r : IsReady boxes b = c.bound_queries_are_ready.ensures.ready o (map attached c.args.bound.now) q b boxes c.requires.ready is in
+    record { kinds = r.kinds; typed = r.typed; counts = r.counts; view = r.view; alike = r.alike; wide = r.wide; safe = r.safe }
 
 pub returns-in-Err-begun-clause-err : goal.returns-in-Err-begun-clause-err
 returns-in-Err-begun-clause-err g c =
@@ -43,4 +53,4 @@ returns-clause-ok g c =
     let few : length c.in_ok-query.query.entries.items ≤ 8 = omega (arith, counted, least) in
     let may : MayBegin c.args.is_full c.in_ok-query.query = record { safe = sym c.is_risky_query.ensures ∙ c.if-is_risky_query.false; room = c.if-is_full.false; few = few } in
     rw c.replace-names.ensures.value (starts c.expressions_ignore_order.ensures c.answers_ignore_order.ensures c.causes_ignore_order.ensures o c.args.user.now (map attached c.args.bound.now) q c.args.is_full c.in_ok-query.query c.in-Ok-begun.run'
-    (states m c.args.slots.now.items) (states m c.begun.new.slots.items) is may c.in-Ok-begun.ensures.boxes c.in-Ok-begun.ensures.running c.in-Ok-begun.ensures.once c.in-Ok-begun.ensures.ok)
+    (states m c.args.slots.now.items) (states m c.begun.new.slots.items) is may c.in-Ok-begun.ensures.boxes c.in-Ok-begun.ensures.running (c.bound_queries_are_ready.ensures.once o q c.in_ok-query.query (states m c.args.slots.now.items) (states m c.begun.new.slots.items) c.in_ok-query.ensures.meant c.in-Ok-begun.ensures.once) c.in-Ok-begun.ensures.ok)

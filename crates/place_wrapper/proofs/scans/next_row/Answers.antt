@@ -41,3 +41,6 @@ returns-in-Some-clause-on g c = c.loop-at.invariant.on (let a = c.loop-at-test.t
 
 pub place_from-at-requires-in-loop-at-clause-stands : goal.place_from-at-requires-in-loop-at-clause-stands
 place_from-at-requires-in-loop-at-clause-stands g c = c.loop-at.invariant.on (let a = c.loop-at-test.true in let b = c.count.ensures in omega arith)
+
+pub row_at-requires-clause-stands : goal.row_at-requires-clause-stands
+row_at-requires-clause-stands g c = c.loop-at.invariant.on (let a = c.loop-at-test.true in let b = c.count.ensures in omega arith)

@@ -36,6 +36,7 @@ returns-in-Ok-clause-turned g c =
         shows = refl;
         room = refl;
         keys = (refl, refl, refl);
+        lookup = refl;
         rows = λ h.
             turned_rows (state g.S.Store c.args.conn.now).now c.in-Some.wanted.table c.in-Some.wanted.low c.in-Some.wanted.high w.0 n c.in-Ok.page.items
             (record { page = refl; at_start = refl; full = refl; low = refl; high = refl; open_is = refl }) v.0 v.1 v.2 v.3 v.4 v.5 (rw (a, b) at (c.in-Ok.ensures.joins h));

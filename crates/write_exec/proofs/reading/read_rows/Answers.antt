@@ -2,7 +2,7 @@ use Rattle.std.proofs.Common.{◌≡◌, ◌∷◌, ◌++◌, [], map, arith}
 use Rattle.std.proofs.lemmas.Grind.{common_steps}
 use Rattle.std.proofs.lemmas.Result.{err_from_is_err_and}
 use Rattle.fdw_api.specs.Calls.{row_of}
-use Rattle.med_exec.proofs.ScanLemmas.{fewer, stops, breaks, open_now}
+use Rattle.write_exec.proofs.ScanLemmas.{fewer, stops, breaks, open_now}
 use Rattle.write_exec.proofs.RowScans.{start_rows, more_rows, done_rows}
 use Rattle.write_exec.proofs.reading.read_rows.Goals as goal
 

@@ -1,7 +1,7 @@
 use Rattle.std.proofs.Common.{map}
 use Rattle.fdw_api.specs.State.{scan_of}
 use Rattle.fdw_api.specs.Calls.{row_of}
-use Rattle.med_exec.proofs.ScanLemmas.{left_of}
+use Rattle.write_exec.proofs.ScanLemmas.{left_of}
 use Rattle.write_exec.proofs.RowScans.{HasRows}
 use Rattle.write_exec.proofs.reading.read_rows.Given as goal
 

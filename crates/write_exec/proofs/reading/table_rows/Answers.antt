@@ -1,7 +1,7 @@
 use Rattle.std.proofs.Common.{map}
 use Rattle.std.proofs.lemmas.Result.{err_from_is_err_and}
 use Rattle.fdw_api.specs.Calls.{row_of}
-use Rattle.med_exec.proofs.ScanLemmas.{open_begun, begin_fails, err_fails}
+use Rattle.write_exec.proofs.ScanLemmas.{open_begun, begin_fails, err_fails}
 use Rattle.write_exec.proofs.RowScans.{ok_table, live_still}
 use Rattle.write_exec.proofs.reading.table_rows.Goals as goal
 

@@ -1,4 +1,4 @@
-use Rattle.std.proofs.Common.{◌≡◌, ◌∙◌, [], sym, true, false, map, length, string_bytes, rules}
+use Rattle.std.proofs.Common.{◌≡◌, [], true, false, map, length, string_bytes, rules}
 use Rattle.std.specs.List.{list_all}
 use Rattle.fdw_api.specs.Kinds.{column_of, option_form}
 use Rattle.jsonl_tables.specs.Lines.{lines_of, lines_at}
@@ -20,7 +20,7 @@ returns-clause-ok c =
     let columns = map column_of c.args.columns.now in
     let settings = map option_form c.args.options.now in
     let content = c.args.content.items in
-    let lines : lines_at content c.in-Ok.lines.items ≡ lines_of content = search rules in
+    let lines : lines_at content c.in-Ok.read.spans.items ≡ lines_of content = search rules in
     let few : is_too_large (length (lines_of content)) (length content) ≡ false = search rules in
     let objects : list_all is_object (lines_of content) ≡ true = search rules in
     let typed : list_all (is_typed (map reader_of c.in_ok-fields.fields.items)) (lines_of content) ≡ true = search rules in

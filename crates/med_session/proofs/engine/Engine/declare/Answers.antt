@@ -9,11 +9,11 @@ use Rattle.med_world.specs.Seats.{seat_of}
 use Rattle.med_session.specs.Cursors.{is_taken, no_memory, not_started}
 use Rattle.med_session.specs.Shows.{shown}
 use Rattle.med_session.proofs.Seats.{put_other, put_back, read_declare, left_long}
-use Rattle.med_session.proofs.Tables.{all_bound}
+use Rattle.med_session.proofs.Tables.{queries_ready}
 use Rattle.med_session.proofs.engine.Engine.declare.Goals as goal
 
-pub open_cursor-opened-requires-clause-tables : goal.open_cursor-opened-requires-clause-tables
-open_cursor-opened-requires-clause-tables g c = rw c.deref.ensures.value (all_bound (shown g.W.Wrapper.meaning c.args.self.now) c.requires.sound)
+pub open_cursor-opened-requires-clause-ready : goal.open_cursor-opened-requires-clause-ready
+open_cursor-opened-requires-clause-ready g c = rw c.deref.ensures.value (queries_ready (shown g.W.Wrapper.meaning c.args.self.now) c.requires.sound)
 
 pub put_seat-requires : goal.put_seat-requires
 put_seat-requires g c =

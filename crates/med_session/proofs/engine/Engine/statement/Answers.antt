@@ -14,7 +14,7 @@ use Rattle.med_world.specs.Engine.{Shown, Leads}
 use Rattle.med_world.specs.Requests.{sql}
 use Rattle.med_session.specs.Shows.{shown}
 use Rattle.med_session.proofs.Leading.{read_query}
-use Rattle.med_session.proofs.Tables.{all_bound, ready_of}
+use Rattle.med_session.proofs.Tables.{queries_ready, ready_of}
 use Rattle.med_session.proofs.engine.Engine.statement.Goals as goal
 
 same_some : {X Y : Type 0} (f : X → Y) (o : Option X) → is_some (option_map f o) ≡ is_some o
@@ -33,8 +33,8 @@ returns-in-Err-clause-leads g c =
     let is_open : is_some (user_of e.seats c.args.sid.number) ≡ true = ap is_some (sym c.in-Some.ensures) in
     c.statements_are_refused.ensures.not_read e c.args.sid.number c.args.text.now c.in-Err.cause c.args.sid.in_range is_open c.in-Err.ensures.refused
 
-pub run_select-requires-clause-tables : goal.run_select-requires-clause-tables
-run_select-requires-clause-tables g c = rw c.deref.ensures.value (all_bound (shown g.W.Wrapper.meaning c.args.self.now) c.requires)
+pub run_select-requires-clause-ready : goal.run_select-requires-clause-ready
+run_select-requires-clause-ready g c = rw c.deref.ensures.value (queries_ready (shown g.W.Wrapper.meaning c.args.self.now) c.requires)
 
 pub returns-in-Ok-run_select-clause-sound : goal.returns-in-Ok-run_select-clause-sound
 returns-in-Ok-run_select-clause-sound g c =
@@ -106,9 +106,6 @@ returns-clause-leads g c =
 
 tag_told : (e after : Shown) (sid : ℕ) (text : List ℕ) (tag told : List ℕ) → tag ≡ told → Leads e sid (sql text) (done tag) after → Leads e sid (sql text) (done told) after
 tag_told e after sid text tag told same h = subst (λ (x : List ℕ). Leads e sid (sql text) (done x) after) same h
-
-pub run_write-requires-clause-tables : goal.run_write-requires-clause-tables
-run_write-requires-clause-tables g c = rw c.deref-in-Rows-2.ensures.value (all_bound (shown g.W.Wrapper.meaning c.args.self.now) c.requires)
 
 pub run_write-requires-clause-ready : goal.run_write-requires-clause-ready
 run_write-requires-clause-ready g c = rw c.deref-in-Rows-2.ensures.value (ready_of (shown g.W.Wrapper.meaning c.args.self.now) c.requires)

@@ -23,4 +23,5 @@ invariant_of-result g c = record {
   few = none_few c.in_ok-row_counts.row_counts.items (λ q. search rules);
   allowed = λ k s e. absurd (none_is _ (search rules) (some_there _ _ e));
   fresh = λ k le. search rules;
+  looked = λ h k s e. absurd (none_is _ (search rules) (some_there _ _ e));
 }

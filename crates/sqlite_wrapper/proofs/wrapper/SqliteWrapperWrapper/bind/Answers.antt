@@ -11,6 +11,7 @@ use Rattle.sqlite_wrapper.proofs.Counted.{put_counts, put_few}
 use Rattle.sqlite_wrapper.proofs.Kept.{within_count, writable_after, apart_after, there_after, counts_after}
 use Rattle.sqlite_wrapper.proofs.Binding.{place_within, sqlite_binds, sqlite_refuses, sqlite_lacks}
 use Rattle.sqlite_wrapper.proofs.Giving.{known_at}
+use Rattle.sqlite_wrapper.proofs.Looking.{looks_after}
 use Rattle.sqlite_wrapper.proofs.wrapper.SqliteWrapperWrapper.bind.Goals as goal
 
 pub returns-in_default-clause-err : goal.returns-in_default-clause-err
@@ -40,6 +41,7 @@ invariant_of-self g c =
       few = s.few;
       allowed = s.allowed;
       fresh = s.fresh;
+      looked = looks_after g.S.SourceStore.honest db after s.scans c.open_table.ensures.same s.looked;
     }
 
 pub returns-in-Err-clause-err : goal.returns-in-Err-clause-err
@@ -80,6 +82,7 @@ invariant_of-self-2 g c =
       few = subst AreFew (sym c.put_count.ensures) (put_few s.row_counts.items c.in-Some.number c.in-Ok.count s.few c.in-Ok.ensures.few);
       allowed = s.allowed;
       fresh = s.fresh;
+      looked = looks_after g.S.SourceStore.honest db after s.scans c.open_table.ensures.same s.looked;
     }
 
 pub returns-clause-ok : goal.returns-clause-ok

@@ -10,7 +10,8 @@ use Rattle.sqlite_writes.specs.Writable.{AreApart, IsWritable}
 use Rattle.sqlite_wrapper.specs.Changes.{NamesOnce, names_rows, write_fits}
 use Rattle.sqlite_wrapper.specs.Boxes.{sqlite_state}
 use Rattle.sqlite_wrapper.specs.Counts.{AreCounts, AreFew, held_for}
-use Rattle.sqlite_wrapper.proofs.Closing.{same_rows, sqlite_closes, sqlite_keeps, within}
+use Rattle.sqlite_wrapper.proofs.Looking.{looks_after}
+use Rattle.sqlite_wrapper.proofs.Closing.{same_rows, looks_closed, sqlite_closes, sqlite_keeps, within}
 use Rattle.sqlite_wrapper.proofs.Counted.{forget_counts, forget_few, held_few, held_is, put_counts, put_few}
 use Rattle.sqlite_wrapper.proofs.Kept.{counts_after}
 use Rattle.sqlite_wrapper.proofs.Giving.{known_at}
@@ -31,6 +32,7 @@ invariant_of-self g c =
       few = s.few;
       allowed = s.allowed;
       fresh = s.fresh;
+      looked = s.looked;
     }
 
 pub write_rows-requires-clause-known : goal.write_rows-requires-clause-known
@@ -77,6 +79,8 @@ invariant_of-self-in-Ok g c =
       few = subst AreFew (sym c.put_count.ensures) (put_few s.row_counts.items c.in-Some.write.table c.in-Ok.count s.few c.in-Ok.ensures.few);
       allowed = s.allowed;
       fresh = s.fresh;
+      looked = λ h. looks_closed honest db after s.bound.items s.scans s.staged s.next s.pulled s.faults c.in-Some.write s.counted is can (c.in-Ok.ensures.made h) (s.apart h)
+          (λ u. known_at honest s.conn.schema u s.writable h) s.allowed (s.looked h);
     }
 
 pub invariant_of-self-in-Err : goal.invariant_of-self-in-Err
@@ -98,6 +102,7 @@ invariant_of-self-in-Err g c =
       few = forget_few s.row_counts.items c.forget_count.new.counts.items c.forget_count.ensures s.few;
       allowed = s.allowed;
       fresh = s.fresh;
+      looked = looks_after honest db after s.scans c.in-Err.ensures.same s.looked;
     }
 
 pub returns-in-Ok-clause-ok : goal.returns-in-Ok-clause-ok

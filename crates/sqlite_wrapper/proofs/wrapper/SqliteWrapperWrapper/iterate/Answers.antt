@@ -10,6 +10,7 @@ use Rattle.sqlite_wrapper.proofs.Maps.{sets, sets_on}
 use Rattle.sqlite_wrapper.proofs.LiveScans.{at_some, if_some, open_there, keeps_fresh, keeps_allowed}
 use Rattle.sqlite_wrapper.proofs.Giving.{known_at, same_get, sets_copy, there_is, allows_same, passed_allows, breaks_by, breaks_late, gives_none, gives_row}
 use Rattle.sqlite_wrapper.proofs.Turned.{some_if}
+use Rattle.sqlite_wrapper.proofs.Looking.{looks_after, keeps_looks, looks_kept, passed_keeps}
 use Rattle.sqlite_wrapper.proofs.wrapper.SqliteWrapperWrapper.iterate.Goals as goal
 
 pub read_page-requires-clause-there : goal.read_page-requires-clause-there
@@ -60,6 +61,8 @@ invariant_of-self g c =
       few = s.few;
       allowed = keeps_allowed s.scans c.spoil.new.scans number _ s.allowed (allows_same (record w.0 { broken = true }) (record w.0 { broken = true }) refl (s.allowed number w.0 w.1)) u;
       fresh = keeps_fresh s.scans c.spoil.new.scans number s.next _ s.fresh is u;
+      looked = looks_after honest db after c.spoil.new.scans c.read_page.ensures.same
+          (λ h. keeps_looks db s.scans c.spoil.new.scans number _ (s.looked h) (looks_kept db w.0 (record w.0 { broken = true }) refl refl (s.looked h number w.0 w.1)) u);
     }
 
 pub returns-in-Err-clause-err : goal.returns-in-Err-clause-err
@@ -122,6 +125,8 @@ invariant_of-self-in-Err-next_of g c =
       few = s.few;
       allowed = keeps_allowed s.scans c.spoil-in-Err-next_of.new.scans number _ s.allowed (allows_same (record t.0 { broken = true }) (record w.0 { broken = true }) (ap (λ (z : Scan). record z { broken = true }) t.2.shows) (s.allowed number w.0 w.1)) u;
       fresh = keeps_fresh s.scans c.spoil-in-Err-next_of.new.scans number s.next _ s.fresh is u;
+      looked = looks_after honest db after c.spoil-in-Err-next_of.new.scans c.read_page.ensures.same
+          (λ h. keeps_looks db s.scans c.spoil-in-Err-next_of.new.scans number _ (s.looked h) (looks_kept db w.0 (record t.0 { broken = true }) (ap (λ (z : Scan). z.table) t.2.shows) t.2.lookup (s.looked h number w.0 w.1)) u);
     }
 
 pub returns-in-Err-next_of-clause-err : goal.returns-in-Err-next_of-clause-err
@@ -160,6 +165,8 @@ invariant_of-self-in-Ok-None g c =
       few = s.few;
       allowed = keeps_allowed s.scans c.read_page.new.scans number _ s.allowed (allows_same t.0 w.0 t.2.shows (s.allowed number w.0 w.1)) t.1;
       fresh = keeps_fresh s.scans c.read_page.new.scans number s.next _ s.fresh is t.1;
+      looked = looks_after honest db after c.read_page.new.scans c.read_page.ensures.same
+          (λ h. keeps_looks db s.scans c.read_page.new.scans number _ (s.looked h) (looks_kept db w.0 (t.0) (ap (λ (z : Scan). z.table) t.2.shows) t.2.lookup (s.looked h number w.0 w.1)) t.1);
     }
 
 pub returns-in-Ok-None-clause-ok : goal.returns-in-Ok-None-clause-ok
@@ -211,6 +218,8 @@ invariant_of-self-in-Ok-Some g c =
       few = s.few;
       allowed = keeps_allowed s.scans c.pass_row.new.scans number _ s.allowed (passed_allows t.0 w.0 c.in-Ok-Some.next.key t.2.shows (s.allowed number w.0 w.1)) u;
       fresh = keeps_fresh s.scans c.pass_row.new.scans number s.next _ s.fresh is u;
+      looked = looks_after honest db after c.pass_row.new.scans c.read_page.ensures.same
+          (λ h. keeps_looks db s.scans c.pass_row.new.scans number _ (s.looked h) (looks_kept db w.0 (passed t.0 c.in-Ok-Some.next.key) ((passed_keeps t.0 c.in-Ok-Some.next.key).0 ∙ ap (λ (z : Scan). z.table) t.2.shows) ((passed_keeps t.0 c.in-Ok-Some.next.key).1 ∙ t.2.lookup) (s.looked h number w.0 w.1)) u);
     }
 
 pub returns-in-Ok-Some-clause-ok : goal.returns-in-Ok-Some-clause-ok

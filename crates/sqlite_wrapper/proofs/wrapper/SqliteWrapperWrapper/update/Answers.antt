@@ -19,4 +19,5 @@ invariant_of-self g c =
       few = s.few;
       allowed = s.allowed;
       fresh = s.fresh;
+      looked = s.looked;
     }

@@ -1,0 +1,47 @@
+use Rattle.std.proofs.Common.{◌≡◌, ◌≢◌, ◌++◌, ◌+◌, ◌<◌, ◌∙◌, [], ◌∷◌, length, get_or, FitsSigned, w64, refl, rules, arith}
+use Rattle.std.proofs.lemmas.Int.{to_z-of_z}
+use Rattle.sqlite.specs.Held.{state}
+use Rattle.med_value.specs.Datum.{datum}
+use Rattle.sqlite_cells.specs.Layouts.{layout_at}
+use Rattle.sqlite_cells.specs.Tables.{entries_of}
+use Rattle.sqlite_cells.proofs.Settled.{known_after}
+use Rattle.sqlite_lookups.proofs.Singles.{found_first, found_further}
+use Rattle.sqlite_lookups.proofs.finding.rows_with.Goals as goal
+
+pub loop-at-init : goal.loop-at-init
+loop-at-init g c =
+    let none : c.new-rows.result.items ≡ [] = search rules in
+    record {
+      idle = c.requires.idle;
+      same = λ h. refl;
+      few = rw none (omega arith);
+      found = λ h.
+          let l = layout_at c.args.table in
+          found_first l (entries_of (state g.S.Store c.args.conn.now).now l) c.args.lookup.now (datum c.args.value.now) c.next_place-at.result c.new-rows.result.items (c.requires.is h) c.next_place-at.ensures none;
+    }
+
+pub row_of_key-requires-clause-known : goal.row_of_key-requires-clause-known
+row_of_key-requires-clause-known g c h =
+    known_after (state g.S.Store c.args.conn.now).now (state g.S.Store c.loop-at.conn).now (layout_at c.args.table) (c.loop-at.invariant.same h) (c.requires.known h)
+
+pub loop-at-preserved : goal.loop-at-preserved
+loop-at-preserved g c =
+    let key = c.index.result.now in
+    let fits : FitsSigned w64 key = search rules in
+    let e = to_z-of_z w64 key fits in
+    let keys = c.args.lookup.now.keys.items in
+    let key_is : key ≡ get_or keys c.loop-at.at key = c.index.ensures in
+    let lt : c.loop-at.at < length keys = search rules in
+    let pushed : c.push.new.self.items ≡ c.loop-at.rows.items ++ c.in-Ok.row ∷ [] = search rules in
+    let more : length c.push.new.self.items ≡ length c.loop-at.rows.items + 1 = search rules in
+    let not_full : length c.loop-at.rows.items ≢ 64 = search rules in
+    record {
+      idle = c.row_of_key.ensures.idle;
+      same = λ h. c.row_of_key.ensures.same h ∙ c.loop-at.invariant.same h;
+      few = let few = c.loop-at.invariant.few in omega (arith, few, more, not_full);
+      found = λ h.
+          let l = layout_at c.args.table in
+          let read = rw e at (c.in-Ok.ensures.last h) in
+          found_further l (state g.S.Store c.args.conn.now).now (state g.S.Store c.loop-at.conn).now c.args.lookup.now (datum c.args.value.now) c.loop-at.at c.next_place-at-in-loop-at.result key read.0
+          c.loop-at.rows.items c.push.new.self.items c.in-Ok.row (c.loop-at.invariant.same h) (c.requires.shaped h) (c.requires.is h) lt key_is read.1 c.next_place-at-in-loop-at.ensures pushed (c.loop-at.invariant.found h);
+    }

@@ -1,0 +1,42 @@
+use Rattle.std.proofs.Common.{◌≡◌, ◌∙◌, IfSome, List, map, ap, sym, subst, refl, rules}
+use Rattle.sqlite.specs.Held.{state}
+use Rattle.sqlite.specs.Effect.{Database}
+use Rattle.sqlite.specs.View.{IsShaped}
+use Rattle.sqlite_trees.specs.declared.store.Shape.TheVariants as shape
+use Rattle.med_value.specs.Datum.{datum, cell}
+use Rattle.place_index.specs.Scans.{form_of}
+use Rattle.sqlite_cells.specs.Cells.{row_in}
+use Rattle.sqlite_cells.specs.Layouts.{layout_at}
+use Rattle.sqlite_cells.specs.Tables.{entries_of}
+use Rattle.sqlite_cells.proofs.Settled.{known_after}
+use Rattle.sqlite_lookups.specs.Lookups.{IsLookup, rows_with}
+use Rattle.sqlite_wrapper.proofs.Looking.{unanswered, looked_up}
+use Rattle.sqlite_wrapper.proofs.lookups.look_up.Goals as goal
+
+pub returns-in_default-clause-answered : goal.returns-in_default-clause-answered
+returns-in_default-clause-answered g c =
+    unanswered g.S.SourceStore.honest (entries_of (state g.S.Store c.args.conn.now).now (layout_at c.args.scan.table)) c.args.scan _ c.args.had refl c.requires.had
+
+pub rows_with-requires-clause-known : goal.rows_with-requires-clause-known
+rows_with-requires-clause-known g c h =
+    known_after (state g.S.Store c.args.conn.now).now (state g.S.Store c.lookup_of.new.conn).now (layout_at c.args.scan.table) (c.lookup_of.ensures.same h) (c.requires.known h)
+
+pub rows_with-requires-clause-shaped : goal.rows_with-requires-clause-shaped
+rows_with-requires-clause-shaped g c h =
+    subst (λ (d : Database). IsShaped shape.Table (entries_of d (layout_at c.args.scan.table))) (sym (c.lookup_of.ensures.same h)) (c.requires.shaped h)
+
+pub rows_with-requires-clause-is : goal.rows_with-requires-clause-is
+rows_with-requires-clause-is g c h =
+    subst (λ (d : Database). IsLookup (layout_at c.args.scan.table) (entries_of d (layout_at c.args.scan.table)) c.in-Ok.lookup) (sym (c.lookup_of.ensures.same h)) (c.in-Ok.ensures.is h)
+
+pub returns-in-Ok-rows_with-clause-answered : goal.returns-in-Ok-rows_with-clause-answered
+returns-in-Ok-rows_with-clause-answered g c =
+    let l = layout_at c.args.scan.table in
+    let db = (state g.S.Store c.args.conn.now).now in
+    let form = form_of c.in-Some.found in
+    let v = datum c.value_at-value.result.now in
+    let v_is : v ≡ cell (map datum c.args.scan.params.items) form.parameter = search rules in
+    looked_up c.in-Ok-rows_with.rows (λ p. p.items) g.S.SourceStore.honest (entries_of db l) c.args.scan c.with_rows.result c.in-Ok.lookup form v c.in-Some.ensures
+    c.with_rows.ensures.shows c.with_rows.ensures.lookup c.in-Ok.ensures.is c.in-Ok.ensures.column v_is c.with_rows.ensures.none c.with_rows.ensures.filled
+    (λ h. subst (λ (d : Database). IfSome c.in-Ok-rows_with.rows (λ p. map (row_in l) p.items ≡ rows_with l c.in-Ok.lookup.column v (entries_of d l))) (c.lookup_of.ensures.same h)
+    (c.in-Ok-rows_with.ensures.rows h))

@@ -1,0 +1,51 @@
+-- Scans that are begun again and look for a parameter.
+use Rattle.std.specs.Prelude.{◌≡◌, ◌⊎◌, ℕ, Bool, true, false, List, [], map, Some, None}
+use Rattle.std.specs.Ordering.{nat_cmp}
+use Rattle.std.specs.BTreeMap as tree
+use Rattle.std.specs.BTreeMap.{BTreeMap}
+use Rattle.sqlite.specs.Effect.{Database}
+use Rattle.sqlite.specs.Order.{Row as SqlRow}
+use Rattle.med_value.specs.Datum.{datum, cell}
+use Rattle.fdw_api.specs.Scan.{spec_of}
+use Rattle.place_index.specs.Scans.{SoughtForm, sought}
+use Rattle.sqlite_cells.specs.Layouts.{layout_at}
+use Rattle.sqlite_cells.specs.Cells.{row_in, least, greatest}
+use Rattle.sqlite_cells.specs.Tables.{entries_of}
+use Rattle.sqlite_lookups.specs.declared.reading.Lookup.{Lookup}
+use Rattle.sqlite_lookups.specs.Lookups.{IsLookup, rows_with}
+use Rattle.sqlite_wrapper.specs.declared.scans.KeyScan.{KeyScan}
+use Rattle.sqlite_wrapper.specs.Boxes.{scan_is}
+
+-- a scan's lookup, if it has one, is of its table
+abbrev pub Looks : Database → KeyScan → Type 0
+Looks db s = (x : Lookup) → s.lookup ≡ Some x → IsLookup (layout_at s.table) (entries_of db (layout_at s.table)) x
+
+abbrev pub AllLook : Database → BTreeMap ℕ KeyScan → Type 0
+AllLook db scans = (k : ℕ) (s : KeyScan) → tree.get nat_cmp scans k ≡ Some s → Looks db s
+
+-- a scan is asked for all keys, and no order and no limit is promised of its rows
+pub record IsFree (s : KeyScan) : Type 0 where
+  pub opened : s.«open» ≡ true
+  pub from : s.low ≡ least
+  pub to : s.high ≡ greatest
+  pub no_order : s.order.items ≡ []
+  pub no_limit : s.limit ≡ None
+
+-- such a scan looks for this
+pub record LooksFor (s : KeyScan) (form : SoughtForm) : Type 0 where
+  pub is : sought (spec_of s.spec).offered ≡ Some form
+  pub free : IsFree s
+
+-- a scan that has just begun is given the rows that have what it looks for as its only page
+pub record IsFilled (entries : List SqlRow) (old new : KeyScan) : Type 0 where
+  pub form : SoughtForm
+  pub looks : LooksFor old form
+  pub is : new ≡ record old { page = new.page; full = false; lookup = new.lookup }
+  pub page_is : map (row_in (layout_at old.table)) new.page.items
+      ≡ rows_with (layout_at old.table) form.column (cell (map datum old.params.items) form.parameter) entries
+
+-- a scan that has just begun, with a lookup of its table's rows: it is so filled, or else as it was
+pub record IsAnswered (honest : Bool) (entries : List SqlRow) (old new : KeyScan) : Type 0 where
+  pub shows : scan_is new ≡ scan_is old
+  pub looks : honest ≡ true → (x : Lookup) → new.lookup ≡ Some x → IsLookup (layout_at old.table) entries x
+  pub rows : honest ≡ true → (new ≡ record old { lookup = new.lookup }) ⊎ IsFilled entries old new

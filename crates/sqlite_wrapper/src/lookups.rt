@@ -1,0 +1,137 @@
+//! Scans that are begun again and look for a parameter: the rows that have its value are found, and no page is turned.
+ghost use Rattle.std.specs.Prelude.{◌≡◌, true, false, Some, None, IfOk, IfErr, IfSome, IfNone, IsSome};
+ghost use Rattle.std.specs.Ordering.{nat_cmp};
+ghost use Rattle.std.specs.BTreeMap as tree;
+ghost use Rattle.sqlite.specs.Held.{state};
+ghost use Rattle.sqlite.specs.View.{IsShaped};
+ghost use Rattle.sqlite_trees.specs.declared.store.Shape.TheVariants as shape;
+ghost use Rattle.fdw_api.specs.Calls.{not_refused};
+ghost use Rattle.place_index.specs.Scans.{form_of};
+ghost use Rattle.sqlite_cells.specs.Layouts.{layout_at};
+ghost use Rattle.sqlite_cells.specs.Tables.{IsKnown, entries_in};
+ghost use Rattle.sqlite_lookups.specs.Lookups.{IsLookup};
+ghost use Rattle.sqlite_wrapper.specs.Boxes.{scan_is};
+ghost use Rattle.sqlite_wrapper.specs.Looks.{IsFree, LooksFor, IsAnswered};
+
+use crate::scans::KeyScan;
+use fdw_api::interface::Fault;
+use med_value::Value;
+use place_index::{Sought, sought_in, value_at};
+use sqlite::{Connection, Row};
+use sqlite_lookups::{Lookup, read_lookup, rows_with};
+use sqlite_shapes::SourceStore;
+use std::alloc::Global;
+use std::collections::BTreeMap;
+
+/// Takes the lookup of a live scan away from it.
+pub(crate) fn take_lookup(scans: &mut BTreeMap<u64, KeyScan>, number: u64) -> Option<Lookup>
+    requires { IsSome (tree.get nat_cmp scans.old number) }
+    ensures lookup { IfSome (tree.get nat_cmp scans.old number) (λ s. result ≡ s.lookup) }
+    ensures scans { IfSome (tree.get nat_cmp scans.old number)
+        (λ s. tree.Updates nat_cmp scans.old scans.new number (Some (record s { lookup = None }))) }
+{
+    match scans.get_mut(&number) {
+        Some(scan) => scan.lookup.take(),
+        None => unreachable!(),
+    }
+}
+
+// Whether a scan is asked for all keys, and no order and no limit is promised of its rows.
+fn is_free(scan: &KeyScan) -> bool
+    ensures { result ≡ true → IsFree scan.now }
+{
+    scan.open
+        && scan.low == i64::MIN
+        && scan.high == i64::MAX
+        && scan.order.is_empty()
+        && scan.limit.is_none()
+}
+
+// What a scan looks for, where it may give just the rows that have it.
+fn looks_for(scan: &KeyScan) -> Option<Sought>
+    ensures { IfSome result (λ found. LooksFor scan.now (form_of found)) }
+{
+    if is_free(scan) {
+        sought_in(&scan.spec.offered)
+    } else {
+        None
+    }
+}
+
+// The lookup of a scan for this column: the one that it had, if it is of this column, and else one that is read.
+fn lookup_of<S: SourceStore>(
+    alloc: Global,
+    conn: &mut Connection<S>,
+    table: u64,
+    column: usize,
+    had: Option<Lookup>,
+) -> Result<Lookup, Fault>
+    requires idle { conn.old.in_transaction ≡ false }
+    requires known { S.honest ≡ true → ∥ IsKnown conn.old.schema (layout_at table) ∥₁ }
+    requires had { S.honest ≡ true → IfSome had (IsLookup (layout_at table) (entries_in (state S.Store conn.old).now table)) }
+    ensures is { S.honest ≡ true → IfOk result (IsLookup (layout_at table) (entries_in (state S.Store conn.old).now table)) }
+    ensures column { IfOk result (λ x. x.column ≡ column) }
+    ensures refused { IfErr result not_refused }
+    ensures same { S.honest ≡ true → (state S.Store conn.new).now ≡ (state S.Store conn.old).now }
+    ensures idle { conn.new.in_transaction ≡ false }
+{
+    if let Some(lookup) = had
+        && lookup.column() == column
+    {
+        return Ok(lookup);
+    }
+    read_lookup(alloc, conn, table, column)
+}
+
+// A scan that has just begun, with a lookup and with the rows that were found by it, if they are few.
+fn with_rows(scan: KeyScan, lookup: Lookup, found: Option<Vec<Row>>) -> KeyScan
+    ensures shows { scan_is result ≡ scan_is scan }
+    ensures lookup { result.lookup ≡ Some lookup }
+    ensures none { IfNone found (result ≡ record scan { lookup = result.lookup }) }
+    ensures filled { IfSome found (λ page. (result ≡ record scan { page = result.page; full = false; lookup = result.lookup })
+        × (result.page.items ≡ page.items)) }
+{
+    let mut scan = scan;
+    scan.lookup = Some(lookup);
+    if let Some(page) = found {
+        scan.page = page;
+        scan.full = false;
+    }
+    scan
+}
+
+/// A scan that has just begun, where it looks for a parameter: with the rows that have its value as its only page, if they are at most 64.
+/// Where they are more, or it looks for none, its pages are turned as ever. The lookup is the one that the scan had before it was begun
+/// again.
+pub(crate) fn look_up<S: SourceStore>(
+    alloc: Global,
+    conn: &mut Connection<S>,
+    scan: KeyScan,
+    had: Option<Lookup>,
+) -> Result<KeyScan, Fault>
+    requires idle { conn.old.in_transaction ≡ false }
+    requires known { S.honest ≡ true → ∥ IsKnown conn.old.schema (layout_at scan.table) ∥₁ }
+    requires shaped { S.honest ≡ true → IsShaped shape.Table (entries_in (state S.Store conn.old).now scan.table) }
+    requires had { S.honest ≡ true
+        → IfSome had (IsLookup (layout_at scan.table) (entries_in (state S.Store conn.old).now scan.table)) }
+    ensures answered { IfOk result (IsAnswered S.honest (entries_in (state S.Store conn.old).now scan.table) scan) }
+    ensures refused { IfErr result not_refused }
+    ensures same { S.honest ≡ true → (state S.Store conn.new).now ≡ (state S.Store conn.old).now }
+    ensures idle { conn.new.in_transaction ≡ false }
+{
+    let Some(found) = looks_for(&scan) else {
+        let mut scan = scan;
+        scan.lookup = had;
+        return Ok(scan);
+    };
+    let lookup = match lookup_of(alloc, conn, scan.table, found.column, had) {
+        Err(fault) => return Err(fault),
+        Ok(lookup) => lookup,
+    };
+    let missing = Value::Null;
+    let value = value_at(&scan.params, found.parameter, &missing);
+    match rows_with(alloc, conn, scan.table, &lookup, value) {
+        Err(fault) => Err(fault),
+        Ok(rows) => Ok(with_rows(scan, lookup, rows)),
+    }
+}
