@@ -1,4 +1,5 @@
 pub mod Integers
+pub mod ShortNumbers
 pub mod Fields
 pub mod Flat
 pub mod RowCells

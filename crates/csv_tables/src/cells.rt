@@ -1,5 +1,6 @@
 //! The fields of a record as values, and values as fields.
-ghost use Rattle.std.specs.Prelude.{◌≡◌, ◌≤◌, ◌-◌, ◌^◌, ℕ, true, length, IfOk, option_map, is_some, pos, neg_ℤ, IsUtf8};
+ghost use Rattle.std.specs.Prelude.{◌≡◌, ◌≤◌, ◌-◌, ◌^◌, ◌&&◌, ℕ, true, length, nat_lt, nat_le, IfOk, option_map, is_some, pos, neg_ℤ, IsUtf8};
+ghost use Rattle.std.specs.Str.{all_ascii_digits};
 ghost use Rattle.std.specs.String.{string_bytes};
 ghost use Rattle.med_value.specs.Datum.{datum};
 ghost use Rattle.csv_tables.specs.Rewriting.{is_storable};
@@ -125,6 +126,30 @@ fn integer(text: &[u8]) -> Option<i64>
     }
 }
 
+// Whether a text writes an integer that at most 18 digits and nothing else write.
+fn is_short_number(text: &[u8]) -> bool
+    ensures { result ≡ (nat_lt 0 (length text.now) && nat_le (length text.now) 18 && all_ascii_digits text.now) }
+{
+    if text.is_empty() || text.len() > 18 {
+        return false;
+    }
+    let mut text = text;
+    while let Some((first, others)) = text.split_first() {
+        if !first.is_ascii_digit() {
+            return false;
+        }
+        text = others;
+    }
+    true
+}
+
+// Whether a text writes an integer, which may have spaces around it. Of most texts it takes a look at the digits alone.
+fn is_integer(text: &[u8]) -> bool
+    ensures { result ≡ is_some (integer_of (without_spaces text.now)) }
+{
+    is_short_number(text) || integer(without_spaces(text)).is_some()
+}
+
 fn is_true_word(text: &[u8]) -> bool
     ensures { result ≡ is_among true_words text.now }
 {
@@ -147,7 +172,8 @@ fn is_false_word(text: &[u8]) -> bool
         || text.eq_ignore_ascii_case(b"0")
 }
 
-fn truth(text: &[u8]) -> Option<bool>
+// The truth value that a word writes.
+fn worded_truth(text: &[u8]) -> Option<bool>
     ensures { result ≡ truth_of text.now }
 {
     if is_true_word(text) {
@@ -156,6 +182,17 @@ fn truth(text: &[u8]) -> Option<bool>
         Some(false)
     } else {
         None
+    }
+}
+
+// The same, where the two letters as which truth values are written cost the least.
+fn truth(text: &[u8]) -> Option<bool>
+    ensures { result ≡ truth_of text.now }
+{
+    match text {
+        b"t" => Some(true),
+        b"f" => Some(false),
+        _ => worded_truth(text),
     }
 }
 
@@ -212,7 +249,7 @@ pub(crate) fn is_cell(null: &str, kind: ColType, field: &[u8]) -> bool
     }
     match kind {
         ColType::Text => !field.contains(&0),
-        ColType::Int => field.is_empty() || integer(without_spaces(field)).is_some(),
+        ColType::Int => field.is_empty() || is_integer(field),
         ColType::Bool => field.is_empty() || truth(field).is_some(),
     }
 }

@@ -28,7 +28,7 @@ pub returns-else-is_empty : goal.returns-else-is_empty
 returns-else-is_empty c =
     let e : bytes_eq c.known_text-text.result.now c.args.null.now ≡ false = search rules in
     let z : 0 < length c.args.field.now = grind (arith, nat_tests) in
-    c.is_some.ensures ∙ ap is_some (c.integer.ensures ∙ ap integer_of c.without_spaces.ensures)
+    c.is_integer.ensures
     ∙ sym (ap is_some (int_cell c.args.null.now c.args.kind c.args.field.now c.in-Int.is c.requires (rw c.known_text-text.ensures at e) z) ∙ some_mapped Whole (integer_of (without_spaces c.args.field.now)))
 
 pub returns-then-is_empty-2 : goal.returns-then-is_empty-2
@@ -41,5 +41,5 @@ pub returns-else-is_empty-2 : goal.returns-else-is_empty-2
 returns-else-is_empty-2 c =
     let e : bytes_eq c.known_text-text.result.now c.args.null.now ≡ false = search rules in
     let z : 0 < length c.args.field.now = grind (arith, nat_tests) in
-    c.is_some-else-is_empty-2.ensures ∙ ap is_some c.truth.ensures
+    c.is_some.ensures ∙ ap is_some c.truth.ensures
     ∙ sym (ap is_some (bool_cell c.args.null.now c.args.kind c.args.field.now c.in-Bool.is c.requires (rw c.known_text-text.ensures at e) z) ∙ some_mapped Logic (truth_of c.args.field.now))
