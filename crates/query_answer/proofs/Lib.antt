@@ -1,11 +1,8 @@
 pub mod KeyNumbers
 pub mod Slices
-pub mod Refused
-pub mod Found
 pub mod Groups
 pub mod Pages
 pub mod KeyOrder
-pub mod SafeJoins
 pub mod Joining
 pub mod ToldParts
 pub mod Ungrouped
