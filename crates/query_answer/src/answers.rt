@@ -33,11 +33,11 @@ fn joined_outputs(before: Vec<Staged>, more: Vec<Staged>) -> Result<Vec<Staged>,
 
 // The outputs of all cores, one after another.
 fn all_outputs(alloc: Global, gathered: Vec<Gathering<'_>>) -> Result<Vec<Staged>, AnswerFault>
-    ensures gives { IfOk result (λ out. (db : Tables) (cores : List SelectCore) → AreGathered db cores gathered.items
+    ensures gives { IfOk result (λ out. (db : Tables) (cores : List SelectCore) → AreGathered db cores gathered.entry.items
         → AllGive (map core_of cores) db (map output_of out.items)) }
-    ensures small { IfOk result (λ _. (db : Tables) (cores : List SelectCore) → AreGathered db cores gathered.items
+    ensures small { IfOk result (λ _. (db : Tables) (cores : List SelectCore) → AreGathered db cores gathered.entry.items
         → AreSmall (map core_of cores) db) }
-    ensures told { (db : Tables) (cores : List SelectCore) → AreGathered db cores gathered.items
+    ensures told { (db : Tables) (cores : List SelectCore) → AreGathered db cores gathered.entry.items
         → AllShow result (map core_of cores) db }
 {
     let mut all = Vec::new(alloc);
@@ -87,11 +87,11 @@ pub fn answer(
     select: &Select,
     gathered: Vec<Gathering<'_>>,
 ) -> Result<Vec<Row>, AnswerFault>
-    ensures answer { IfOk result (λ out. (db : Tables) → AreGathered db select.now.cores.items gathered.items
+    ensures answer { IfOk result (λ out. (db : Tables) → AreGathered db select.now.cores.items gathered.entry.items
         → IsAnswer (query_of select.now) db (map tuple out.items)) }
-    ensures small { IfOk result (λ _. (db : Tables) → AreGathered db select.now.cores.items gathered.items
+    ensures small { IfOk result (λ _. (db : Tables) → AreGathered db select.now.cores.items gathered.entry.items
         → AreSmall (query_of select.now).cores db) }
-    ensures told { (db : Tables) → AreGathered db select.now.cores.items gathered.items → Shows result (query_of select.now) db }
+    ensures told { (db : Tables) → AreGathered db select.now.cores.items gathered.entry.items → Shows result (query_of select.now) db }
 {
     let staged = match all_outputs(alloc, gathered) {
         Ok(staged) => staged,
