@@ -1,6 +1,6 @@
 -- Expressions over the values of leaves mean the same over more leaves, and each form is lifted where its parts are.
-use Rattle.std.proofs.Common.{◌≡◌, ◌<◌, ◌+◌, ℕ, Bool, true, false, List, [], ◌∷◌, ◌++◌, map, take, length, get_or, sym, refl, ap, ◌∙◌, append_assoc}
-use Rattle.std.proofs.lemmas.List.{map_more, map-append}
+use Rattle.std.proofs.Common.{◌≡◌, ◌<◌, ◌≤◌, ◌+◌, ℕ, Bool, true, false, List, [], ◌∷◌, ◌++◌, map, take, length, get_or, sym, refl, ap, ◌∙◌, append_assoc}
+use Rattle.std.proofs.lemmas.List.{map_more, map-append, take_all}
 use Rattle.std.specs.declared.alloc.Global.{Global}
 use Rattle.std.specs.declared.string.String.{String}
 use Rattle.std.specs.String.{string_bytes}
@@ -20,13 +20,6 @@ use Rattle.query_answer.specs.declared.leaves.Leaf.{Leaf}
 use Rattle.query_answer.specs.Leaves.{argument_values, leaf_values, AllLift, AreMore, Lifts}
 
 -- further leaves
-pub none_more : (ls : List Leaf) → AreMore ls ls
-none_more ls = ([], sym (append-none ls))
-  where
-    append-none : (ls : List Leaf) → ls ++ [] ≡ ls
-    append-none [] = refl
-    append-none (l ∷ ls) = ap (λ (ms : List Leaf). l ∷ ms) (append-none ls)
-
 pub more_again : (a b d : List Leaf) → AreMore a b → AreMore b d → AreMore a d
 more_again a b d g h = (g.0 ++ h.0, h.1 ∙ ap (λ (ls : List Leaf). ls ++ h.0) g.1 ∙ append_assoc a g.0 h.0)
 
@@ -50,6 +43,9 @@ outcomes_more parts k i d lt e = ap (λ (ts : List Tree). over (tree_means [] ts
 pub one_more_lifts : (old new : List Leaf) (parts all grown : List Expr) (i : ℕ) (d lifted : Expr) → i < length parts → d ≡ get_or parts i d → AreMore old new → grown ≡ all ++ lifted ∷ [] → Lifts new d lifted → AllLift old (take i parts) all → AllLift new (take (i + 1) parts) grown
 one_more_lifts old new parts all grown i d lifted lt e g is one h more c =
     ap (λ (es : List Expr). over (senses (leaf_values (new ++ more) c) es) []) is ∙ outcomes_append (leaf_values (new ++ more) c) all lifted [] ∙ two (λ (os : List Outcome) (o : Outcome). os ++ o ∷ []) (all_lift_still old new (take i parts) all g h more c) (one more c) ∙ sym (outcomes_more parts c i d lt e)
+
+pub all_of_them_lift : (ls : List Leaf) (parts all : List Expr) (i : ℕ) → length parts ≤ i → AllLift ls (take i parts) all → AllLift ls parts all
+all_of_them_lift ls parts all i le h more c = h more c ∙ ap (λ (es : List Expr). over (senses [] es) c) (take_all i parts le)
 
 -- the parts of a form, one by one
 parts_are_senses : (ps : Tuple) (es : List Expr) → parts_mean ps es ≡ senses ps es
@@ -80,5 +76,6 @@ pub lifts_like : (ls : List Leaf) (negative : Bool) (x y : Part) (lifted pattern
 lifts_like ls negative x y lifted pattern e is hx h more c =
     means (leaf_values (ls ++ more) c) (form.Like negative x lifted) (layer.Like negative x lifted) [] (sym (form.rolls-Like negative x lifted)) ∙ two (λ (o : Outcome) (bytes : List ℕ). turned negative (strict (liked bytes) o)) (hx more c) h ∙ sym (means [] e (layer.Like negative y pattern) c (is ∙ sym (form.rolls-Like negative y pattern)))
 
-pub lifts_aggregate : (ls : List Leaf) (function : SetFunction) (a : Part) (e lifted : Expr) → e ≡ form.Aggregate function a → ((more : List Leaf) (c : List Tuple) → meaning (leaf_values (ls ++ more) c) lifted [] ≡ aggregated function (argument_values a.value c)) → Lifts ls e lifted
-lifts_aggregate ls function a e lifted is h more c = h more c ∙ sym (means [] e (layer.Aggregate function a) c (is ∙ sym (form.rolls-Aggregate function a)))
+pub lifts_aggregate : (ls : List Leaf) (function : SetFunction) (a : Part) (d e lifted : Expr) → e ≡ form.Aggregate function a → d ≡ a.value → ((more : List Leaf) (c : List Tuple) → meaning (leaf_values (ls ++ more) c) lifted [] ≡ aggregated function (argument_values d c)) → Lifts ls e lifted
+lifts_aggregate ls function a d e lifted is seen h more c =
+    h more c ∙ ap (λ (x : Expr). aggregated function (argument_values x c)) seen ∙ sym (means [] e (layer.Aggregate function a) c (is ∙ sym (form.rolls-Aggregate function a)))
