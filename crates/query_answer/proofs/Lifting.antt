@@ -5,13 +5,15 @@ use Rattle.std.specs.declared.alloc.Global.{Global}
 use Rattle.std.specs.declared.string.String.{String}
 use Rattle.std.specs.String.{string_bytes}
 use Rattle.med_value.specs.Datum.{Tuple}
+use Rattle.med_value.specs.declared.order.Comparison.{Comparison}
+use Rattle.med_value.specs.declared.operators.Operation.{Operation}
 use Rattle.med_value.specs.declared.order.Comparison.TheVariants.{Equal, AtMost, AtLeast}
 use Rattle.tri_expr.specs.declared.expr.Expr.{Expr}
 use Rattle.tri_expr.specs.declared.expr.Expr.TheOpen as layer
 use Rattle.tri_expr.specs.declared.expr.Expr.TheVariants as form
 use Rattle.tri_expr.specs.declared.expr.SetFunction.{SetFunction}
 use Rattle.tri_expr.specs.Aggregate.{aggregated}
-use Rattle.tri_expr.specs.Outcome.{Outcome, Is, compared, turned, settled, strict, over}
+use Rattle.tri_expr.specs.Outcome.{Outcome, Is, compared, computed, turned, settled, strict, over}
 use Rattle.tri_expr.specs.Meaning.{OnClass, liked, meaning, means as tree_means, parts_mean, tree_meaning}
 use Rattle.tri_expr.specs.Tree.{Tree, tree}
 use Rattle.tri_expr.proofs.Forms.{Part, Parts, means, two, three}
@@ -63,6 +65,14 @@ lifts_and ls lifted parts e is h more c =
 pub lifts_or : (ls : List Leaf) (lifted parts : Parts) (e : Expr) → e ≡ form.Or parts → AllLift ls parts.items lifted.items → Lifts ls e (form.Or lifted)
 lifts_or ls lifted parts e is h more c =
     means (leaf_values (ls ++ more) c) (form.Or lifted) (layer.Or lifted) [] (sym (form.rolls-Or lifted)) ∙ ap (settled true) (all_parts ls parts.items lifted.items h more c) ∙ sym (means [] e (layer.Or parts) c (is ∙ sym (form.rolls-Or parts)))
+
+pub lifts_compare : (ls : List Leaf) (op : Comparison) (a b v w : Part) (e : Expr) → e ≡ form.Compare op v w → Lifts ls v.value a.value → Lifts ls w.value b.value → Lifts ls e (form.Compare op a b)
+lifts_compare ls op a b v w e is ha hb more c =
+    means (leaf_values (ls ++ more) c) (form.Compare op a b) (layer.Compare op a b) [] (sym (form.rolls-Compare op a b)) ∙ two (compared op) (ha more c) (hb more c) ∙ sym (means [] e (layer.Compare op v w) c (is ∙ sym (form.rolls-Compare op v w)))
+
+pub lifts_compute : (ls : List Leaf) (op : Operation) (a b v w : Part) (e : Expr) → e ≡ form.Compute op v w → Lifts ls v.value a.value → Lifts ls w.value b.value → Lifts ls e (form.Compute op a b)
+lifts_compute ls op a b v w e is ha hb more c =
+    means (leaf_values (ls ++ more) c) (form.Compute op a b) (layer.Compute op a b) [] (sym (form.rolls-Compute op a b)) ∙ two (computed op) (ha more c) (hb more c) ∙ sym (means [] e (layer.Compute op v w) c (is ∙ sym (form.rolls-Compute op v w)))
 
 pub lifts_between : (ls : List Leaf) (negative : Bool) (x a b y v w : Part) (e : Expr) → e ≡ form.Between negative y v w → Lifts ls y.value x.value → Lifts ls v.value a.value → Lifts ls w.value b.value → Lifts ls e (form.Between negative x a b)
 lifts_between ls negative x a b y v w e is hx ha hb more c =

@@ -1,6 +1,6 @@
-use Rattle.std.proofs.Common.{arith, sym, ◌∙◌}
+use Rattle.std.proofs.Common.{arith, ◌∙◌}
 use Rattle.med_query.proofs.Telling.{if_ok_then}
-use Rattle.query_answer.proofs.Lifting.{more_again, one_more_lifts, all_of_them_lift, lifts_still, lifts_and, lifts_or, lifts_between, lifts_in, lifts_like, lifts_aggregate}
+use Rattle.query_answer.proofs.Lifting.{more_again, one_more_lifts, all_of_them_lift, lifts_still, lifts_and, lifts_or, lifts_compare, lifts_compute, lifts_between, lifts_in, lifts_like, lifts_aggregate}
 use Rattle.query_answer.proofs.leaves.+lift.Goals as goal
 
 pub all_lifted-loop-part-preserved : goal.all_lifted-loop-part-preserved
@@ -22,6 +22,26 @@ lifted-returns-in_ok-all_lifted-in-And-clause-lifts t c =
 pub lifted-returns-in_ok-all_lifted-in-Or-clause-lifts : goal.lifted-returns-in_ok-all_lifted-in-Or-clause-lifts
 lifted-returns-in_ok-all_lifted-in-Or-clause-lifts t c =
     lifts_or c.all_lifted-in-Or.new.leaves.items c.in_ok-all_lifted-in-Or.field-0 c.in-Or.parts c.args.e.now c.in-Or.is (rw (← c.deref-in-Or.ensures.value) c.in_ok-all_lifted-in-Or.ensures.lift)
+
+pub lifted-returns-in_ok-b-in-Compare-clause-lifts : goal.lifted-returns-in_ok-b-in-Compare-clause-lifts
+lifted-returns-in_ok-b-in-Compare-clause-lifts t c =
+    let a = c.in_ok-a-in-Compare in
+    let b = c.in_ok-b-in-Compare in
+    let first = c.boxed.new.leaves.items in
+    let second = c.boxed-in-Compare.new.leaves.items in
+    lifts_compare second c.in-Compare.op a.a b.b c.in-Compare.a c.in-Compare.b c.args.e.now c.in-Compare.is
+    (rw (← c.deref.ensures) (lifts_still first second c.deref.result.now a.a.value b.ensures.more a.ensures.lifts))
+    (rw (← c.deref-in-Compare.ensures) b.ensures.lifts)
+
+pub lifted-returns-in_ok-b-in-Compute-clause-lifts : goal.lifted-returns-in_ok-b-in-Compute-clause-lifts
+lifted-returns-in_ok-b-in-Compute-clause-lifts t c =
+    let a = c.in_ok-a-in-Compute in
+    let b = c.in_ok-b-in-Compute in
+    let first = c.boxed-in-Compute.new.leaves.items in
+    let second = c.boxed-in-Compute-2.new.leaves.items in
+    lifts_compute second c.in-Compute.op a.a b.b c.in-Compute.a c.in-Compute.b c.args.e.now c.in-Compute.is
+    (rw (← c.deref-in-Compute.ensures) (lifts_still first second c.deref-in-Compute.result.now a.a.value b.ensures.more a.ensures.lifts))
+    (rw (← c.deref-in-Compute-2.ensures) b.ensures.lifts)
 
 pub lifted-returns-in_ok-high-in-Between-clause-lifts : goal.lifted-returns-in_ok-high-in-Between-clause-lifts
 lifted-returns-in_ok-high-in-Between-clause-lifts t c =
