@@ -9,3 +9,4 @@ pub mod Ungrouped
 pub mod Grouped
 pub mod Leading
 pub mod Finished
+pub mod Lifting
