@@ -9,3 +9,5 @@ pub mod Ungrouped
 pub mod Grouped
 pub mod Leading
 pub mod Finished
+pub mod Evaluated
+pub mod Runnings
