@@ -1,8 +1,9 @@
 -- What is kept of leaves, with one more row.
-use Rattle.std.proofs.Common.{◌≡◌, ℕ, zero, suc, ◌+◌, ◌*◌, ◌^◌, ◌<◌, ◌≤◌, ℤ, pos, negsuc, ◌+ℤ◌, Bool, true, false, cond, List, [], ◌∷◌, ◌++◌, All, map, length, filter, take, drop, get_or, set, refl, sym, ap, ◌∙◌, arith, subst, append-nil}
+use Rattle.std.proofs.Common.{◌≡◌, ℕ, zero, suc, ◌+◌, ◌*◌, ◌^◌, ◌<◌, ◌≤◌, ℤ, pos, negsuc, ◌+ℤ◌, Bool, true, false, cond, List, [], ◌∷◌, ◌++◌, All, map, length, filter, take, drop, get_or, set, refl, sym, ap, ◌∙◌, arith, subst}
 use Rattle.std.proofs.Math.IntN.{+ℤ_comm, +ℤ_idr}
-use Rattle.std.proofs.lemmas.List.{map-append, take_more, take_more_set, get_or-drop, drop-set, drop_more, length-set}
+use Rattle.std.proofs.lemmas.List.{map-append, take_more, take_more_set, get_or-drop, drop-set-lt, drop_more}
 use Rattle.std.proofs.lemmas.List.Elements.{All-get_or}
+use Rattle.std.proofs.lemmas.Int.{ints}
 use Rattle.med_value.specs.Datum.{Datum, NoValue, Whole, Chars, Logic, Tuple, tuple, datum}
 use Rattle.med_value.specs.Order.{is_missing}
 use Rattle.med_value.specs.declared.value.Value.{Value}
@@ -67,11 +68,11 @@ count_one (Logic b) n vs e = omega (arith, e)
 
 added : (k : SetFunction) (vs : List Datum) (v : Datum) (old new : Tally) → new.count ≡ old.count + cond (is_missing v) 0 1 → new.total ≡ old.total +ℤ whole_of v → datum new.best ≡ better_of k (datum old.best) v → magnitude new.total ≤ new.count * 2 ^ 63
     → TalliesSoFar k vs old → TalliesSoFar k (vs ++ v ∷ []) new
-added k vs v old new count total best small t = record {
-  count = count ∙ count_one v old.count vs t.count ∙ sym (as_long (filtered is_present (to_front vs v)));
-  total = total ∙ ap (λ z. z +ℤ whole_of v) t.total ∙ +ℤ_comm (total vs) (whole_of v) ∙ sym (total_shuffled (to_front vs v));
-  best = best ∙ ap (λ b. better_of k b v) t.best ∙ best_more k vs v;
-  small = small;
+added k vs v old new more sum better low t = record {
+  count = more ∙ count_one v old.count vs t.count ∙ sym (as_long (filtered is_present (to_front vs v)));
+  total = sum ∙ ap (λ z. z +ℤ whole_of v) t.total ∙ +ℤ_comm (total vs) (whole_of v) ∙ sym (total_shuffled (to_front vs v));
+  best = better ∙ ap (λ b. better_of k b v) t.best ∙ best_more k vs v;
+  small = low;
 }
 
 pub with_missing : (k : SetFunction) (vs : List Datum) (v : Datum) (t : Tally) → is_missing v ≡ true → TalliesSoFar k vs t → TalliesSoFar k (vs ++ v ∷ []) t
@@ -81,12 +82,15 @@ with_missing k vs (Chars s) t e h = absurd cc
 with_missing k vs (Logic b) t e h = absurd cc
 
 sum_small : (a b : ℤ) (n : ℕ) → magnitude a ≤ n * 2 ^ 63 → magnitude b ≤ 2 ^ 63 → magnitude (a +ℤ b) ≤ (n + 1) * 2 ^ 63
-sum_small a b n p q = ?
+sum_small (pos a) (pos b) n p q = grind (arith, ints)
+sum_small (pos a) (negsuc b) n p q = grind (arith, ints)
+sum_small (negsuc a) (pos b) n p q = grind (arith, ints)
+sum_small (negsuc a) (negsuc b) n p q = grind (arith, ints)
 
 pub with_value : (k : SetFunction) (vs : List Datum) (v : Datum) (old new : Tally) → is_missing v ≡ false → new.count ≡ old.count + 1 → new.total ≡ old.total +ℤ whole_of v → datum new.best ≡ better_of k (datum old.best) v → magnitude (whole_of v) ≤ 2 ^ 63
     → TalliesSoFar k vs old → TalliesSoFar k (vs ++ v ∷ []) new
-with_value k vs v old new e count total best low t =
-    added k vs v old new (rw e count) total best (rw (count, total) (sum_small old.total (whole_of v) old.count t.small low)) t
+with_value k vs v old new e more sum better low t =
+    added k vs v old new (rw e more) sum better (rw (more, sum) (sum_small old.total (whole_of v) old.count t.small low)) t
 
 -- one more row of a leaf
 argument_more : (f : OnClass) (c : List Tuple) (r : Tuple) → argument f (c ++ r ∷ []) ≡ argument f c ++ value_of (f (r ∷ [])) ∷ []
@@ -155,21 +159,27 @@ run_more ls c rs new r i l lt e grown h all =
     subst (λ xs. AllRun xs c new) (sym (take_more ls i l lt ∙ ap (λ (x : Leaf). take i ls ++ x ∷ []) (sym e)))
     (subst (λ xs. AllRun (take i ls ++ l ∷ []) c xs) (sym grown) (run_beside (take i ls) c rs l r all h))
 
--- an element that stands where it stood
-pub stands : {X : Type 0} (old now : List X) (i : ℕ) (d : X) → drop i now ≡ drop i old → get_or now i d ≡ get_or old i d
-stands old now i d e = rw (← e) at (get_or-drop i old 0 d)
+-- elements that stand where they stood
+at_front : {X : Type 0} (xs : List X) (i : ℕ) (d : X) → get_or (drop i xs) 0 d ≡ get_or xs i d
+at_front xs i d = get_or-drop i xs 0 d ∙ ap (λ n. get_or xs n d) (omega arith)
 
-pub rest_stands : {X : Type 0} (old now new : List X) (i : ℕ) (x : X) → length now ≡ length old → i < length old → new ≡ set now i x → drop i now ≡ drop i old → drop (i + 1) new ≡ drop (i + 1) old
-rest_stands old now new i x long lt is e = ?
+stands : {X : Type 0} (old now : List X) (i : ℕ) (d : X) → drop i now ≡ drop i old → get_or now i d ≡ get_or old i d
+stands old now i d e = sym (at_front now i d) ∙ ap (λ xs. get_or xs 0 d) e ∙ at_front old i d
 
-pub row_more : (ls : List Leaf) (row : Tuple) (old now new : List Running) (i : ℕ) (l : Leaf) (r s : Running) → i < length ls → i < length now → l ≡ get_or ls i l → r ≡ get_or now i r → drop i now ≡ drop i old → new ≡ set now i s
+pub rest_stands : {X : Type 0} (old now : List X) (i : ℕ) (x : X) → length now ≡ length old → i < length old → drop i now ≡ drop i old → drop (i + 1) (set now i x) ≡ drop (i + 1) old
+rest_stands old now i x long lt e = drop-set-lt (i + 1) now i x (omega arith) ∙ sym (ap (drop 1) (drop_more now i x (omega (arith, long)))) ∙ ap (drop 1) e ∙ ap (drop 1) (drop_more old i x lt)
+
+pub holds_here : {X : Type 0} (P : X → Type 0) (old now : List X) (i : ℕ) (d : X) → All P old → i < length old → drop i now ≡ drop i old → d ≡ get_or now i d → P d
+holds_here P old now i d all lt rest e = subst P (sym (e ∙ stands old now i d rest)) (All-get_or P old i d lt all)
+
+pub row_more : (ls : List Leaf) (row : Tuple) (old now : List Running) (i : ℕ) (l : Leaf) (r s : Running) → i < length ls → i < length now → l ≡ get_or ls i l → r ≡ get_or now i r → drop i now ≡ drop i old
     → ((c : List Tuple) → Runs l c r → Runs l (c ++ row ∷ []) s)
     → ((c : List Tuple) → AllRun ls c old → AllRun (take i ls) (c ++ row ∷ []) (take i now))
-    → (c : List Tuple) → AllRun ls c old → AllRun (take (i + 1) ls) (c ++ row ∷ []) (take (i + 1) new)
-row_more ls row old now new i l r s lt low e f rest is more inv c all =
+    → (c : List Tuple) → AllRun ls c old → AllRun (take (i + 1) ls) (c ++ row ∷ []) (take (i + 1) (set now i s))
+row_more ls row old now i l r s lt low e f rest more inv c all =
     let one : Runs (get_or ls i l) c (get_or old i r) = run_at ls c old i l r all lt in
     let here : Runs l c r = subst (λ x. Runs x c r) (sym e) (subst (λ x. Runs (get_or ls i l) c x) (sym (f ∙ stands old now i r rest)) one) in
-    run_more ls (c ++ row ∷ []) (take i now) (take (i + 1) new) s i l lt e (ap (take (i + 1)) is ∙ take_more_set now i s low) (more c here) (inv c all)
+    run_more ls (c ++ row ∷ []) (take i now) (take (i + 1) (set now i s)) s i l lt e (take_more_set now i s low) (more c here) (inv c all)
 
 -- one value more
 pub value_more : (ls : List Leaf) (rs : List Running) (old new : List Value) (v : Value) (i : ℕ) (l : Leaf) (r : Running) → i < length ls → l ≡ get_or ls i l → r ≡ get_or rs i r → new ≡ old ++ v ∷ []
