@@ -1,4 +1,3 @@
-use Rattle.std.proofs.Common.{[], ◌∷◌}
 use Rattle.query_answer.proofs.Evaluated.{answer_tells}
 use Rattle.query_answer.proofs.filtering.check_argument.Goals.{in-Ok, in-Err}
 use Rattle.query_answer.proofs.filtering.check_argument.Goals as goal

@@ -1,4 +1,4 @@
-use Rattle.std.proofs.Common.{rules, arith}
+use Rattle.std.proofs.Common.{rules}
 use Rattle.med_value.specs.Datum.{datum}
 use Rattle.query_answer.proofs.Runnings.{with_missing, with_value}
 use Rattle.query_answer.proofs.running.add_value.Goals as goal

@@ -1,4 +1,4 @@
-use Rattle.std.proofs.Common.{[], arith, rules}
+use Rattle.std.proofs.Common.{[], arith}
 use Rattle.query_answer.proofs.Runnings.{run_more}
 use Rattle.query_answer.proofs.running.all_fresh.Goals as goal
 
