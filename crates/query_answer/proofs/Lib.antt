@@ -10,3 +10,5 @@ pub mod Grouped
 pub mod Leading
 pub mod Finished
 pub mod Lifting
+pub mod Evaluated
+pub mod Runnings

@@ -1,9 +1,8 @@
 -- What is kept of a leaf while rows of a class come, one after another.
-use Rattle.std.specs.Prelude.{◌≡◌, ◌≤◌, ◌*◌, ◌^◌, ℕ, suc, ℤ, Bool, true, false, List, [], ◌∷◌, map, filter, length, Option, Some, None, Vec}
+use Rattle.std.specs.Prelude.{◌≡◌, ◌≤◌, ◌*◌, ◌^◌, ℕ, suc, Bool, true, List, [], ◌∷◌, map, filter, length, Option, Some, None, Vec}
 use Rattle.std.specs.List.{list_all}
-use Rattle.med_value.specs.Datum.{Datum, NoValue, Tuple, cell, datum}
+use Rattle.med_value.specs.Datum.{Datum, Tuple, cell, datum}
 use Rattle.med_value.specs.declared.value.Value.{Value}
-use Rattle.tri_expr.specs.declared.expr.Expr.{Expr}
 use Rattle.tri_expr.specs.declared.expr.SetFunction.{SetFunction}
 use Rattle.tri_expr.specs.declared.expr.SetFunction.TheVariants.{Sum}
 use Rattle.tri_expr.specs.Aggregate.{is_present, total}

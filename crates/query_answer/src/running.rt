@@ -1,5 +1,6 @@
 //! What is kept of the leaves of a class while its rows come and go.
-ghost use Rattle.std.specs.Prelude.{◌≡◌, ◌++◌, ◌∷◌, ◌≤◌, ◌*◌, ◌^◌, ◌==◌, ℕ, suc, if◌then◌else◌, [], IfOk, List, map, length, All};
+ghost use Rattle.std.specs.Prelude.{◌≡◌, ◌≤◌, ◌*◌, ◌^◌, ◌==◌, ℕ, suc, if◌then◌else◌};
+ghost use Rattle.std.specs.Prelude.{◌++◌, ◌∷◌, [], IfOk, List, map, length, All};
 ghost use Rattle.med_value.specs.Datum.{datum, tuple, Datum, NoValue, Whole, Tuple};
 ghost use Rattle.tri_expr.specs.Aggregate.{whole_of};
 ghost use Rattle.tri_expr.specs.Meaning.{meaning, shared};
@@ -159,7 +160,8 @@ fn tally_row(
 fn add(alloc: Global, leaf: &Leaf, row: &Row, running: &mut Running) -> Result<(), NoMemory>
     requires room { HasRoom running.old }
     requires small { IsSmall running.old }
-    ensures { IfOk result (λ _. (c : List Tuple) → Runs leaf.now c running.old → Runs leaf.now (c ++ tuple row.now ∷ []) running.new) }
+    ensures { IfOk result (λ _. (c : List Tuple) → Runs leaf.now c running.old
+        → Runs leaf.now (c ++ tuple row.now ∷ []) running.new) }
 {
     match leaf {
         Leaf::Column(at) => {
