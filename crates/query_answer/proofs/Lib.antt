@@ -8,4 +8,6 @@ pub mod ToldParts
 pub mod Ungrouped
 pub mod Grouped
 pub mod Leading
+pub mod Folded
 pub mod Finished
+pub mod Gathered

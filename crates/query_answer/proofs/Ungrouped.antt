@@ -83,7 +83,7 @@ row_faults : (from : List Chain) (fs keys items : List OnClass) (db : Tables) (r
 row_faults from fs keys items db rows j =
     ungrouped_faults from fs items false keys db ∙ rw j (ap (λ (gs : List Fault). flat_map (where_told fs) rows ++ gs) (told_alone (output_faults keys items) (filter (keeps fs) rows)))
 
-row_stages : (from : List Chain) (fs keys items : List OnClass) (db : Tables) (rows : List Tuple) (outs : List Output) → joined_chains db from ≡ rows → flat_map (row_told_all fs keys items) rows ≡ [] → outs ≡ flat_map (row_staged fs keys items) rows → Stages (staged_core from fs None keys items) db outs
+pub row_stages : (from : List Chain) (fs keys items : List OnClass) (db : Tables) (rows : List Tuple) (outs : List Output) → joined_chains db from ≡ rows → flat_map (row_told_all fs keys items) rows ≡ [] → outs ≡ flat_map (row_staged fs keys items) rows → Stages (staged_core from fs None keys items) db outs
 row_stages from fs keys items db rows outs j quiet is =
     let q = staged_core from fs None keys items in
     let made : outputs_all q db ≡ outs = ungrouped_outputs from fs items false keys db ∙ rw j (map_alone (output q) (filter (keeps fs) rows)) ∙ sym (kept_mapped (keeps fs) (λ r. output q (alone r)) rows) ∙ sym is in
