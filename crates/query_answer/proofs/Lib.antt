@@ -11,3 +11,4 @@ pub mod Leading
 pub mod Folded
 pub mod Finished
 pub mod Gathered
+pub mod Unions
