@@ -8,7 +8,10 @@ pub mod ToldParts
 pub mod Ungrouped
 pub mod Grouped
 pub mod Leading
+pub mod Folded
 pub mod Finished
 pub mod Lifting
 pub mod Evaluated
 pub mod Runnings
+pub mod Gathered
+pub mod Unions
