@@ -8,4 +8,5 @@ pub mod ToldParts
 pub mod Ungrouped
 pub mod Grouped
 pub mod Leading
+pub mod Folded
 pub mod Finished
