@@ -9,4 +9,6 @@ pub mod Ungrouped
 pub mod Grouped
 pub mod Leading
 pub mod Folded
+pub mod KeptGroups
+pub mod StagedGroups
 pub mod Finished
