@@ -1,10 +1,11 @@
 -- What is kept of groups while their rows come.
-use Rattle.std.proofs.Common.{◌≡◌, ◌<◌, ◌≤◌, ◌+◌, ◌^◌, ℕ, zero, suc, Bool, true, false, if◌then◌else◌, List, [], ◌∷◌, ◌++◌, All, map, filter, length, set, get_or, refl, sym, ap, ◌∙◌, subst, arith}
+use Rattle.std.proofs.Common.{◌≡◌, ◌<◌, ◌≤◌, ◌+◌, ◌^◌, ◌==◌, nat_lt, Option, Some, None, ℕ, zero, suc, Bool, true, false, if◌then◌else◌, List, [], ◌∷◌, ◌++◌, All, map, filter, length, set, get_or, refl, sym, ap, ◌∙◌, subst, arith}
 use Rattle.std.proofs.Math.Bridge.{le_prop}
 use Rattle.std.proofs.Math.Logic.{∥∥₁_elim, ∥∥₁_map}
 use Rattle.std.proofs.Math.Nat.{ℕ_set}
 use Rattle.std.specs.Coded.{Unit-prop}
-use Rattle.std.specs.List.{list_any}
+use Rattle.std.specs.List.{list_any, position, position_or_len}
+use borrow.Author.Tests.{ltb-true}
 use Rattle.std.proofs.lemmas.List.{length-append}
 use Rattle.std.proofs.lemmas.List.Sums.{length-filter, count_by-le-length}
 use Rattle.indexmap.specs.IndexSet.{insert_key}
@@ -213,3 +214,15 @@ module _ (columns : List ℕ) (ls : List Leaf) (keys : List Tuple) (gs : List (L
         let few = w.2 in
         let t = (all_short ls g.class (get_or gs k d) g.runs i e at).0 in
         omega arith
+
+-- there is a column
+pub some_column : (n : ℕ) → false ≡ (n == 0) → 0 < n
+some_column zero e = absurd cc
+some_column (suc n) e = omega arith
+
+-- where a key is found among those that are known
+pub position_known : {X : Type 0} (p : X → Bool) (xs : List X) (i : ℕ) → Some i ≡ position p xs → (i ≡ position_or_len p xs) × (i < length xs)
+position_known p xs i e = by_test (nat_lt (position_or_len p xs) (length xs)) refl e where
+  by_test : (b : Bool) → nat_lt (position_or_len p xs) (length xs) ≡ b → Some i ≡ (if b then Some (position_or_len p xs) else None) → (i ≡ position_or_len p xs) × (i < length xs)
+  by_test true t h = (cc, let same : i ≡ position_or_len p xs = cc in let below = ltb-true (position_or_len p xs) (length xs) t in omega arith)
+  by_test false t h = absurd cc

@@ -84,7 +84,10 @@ fn put_row<'a>(
     }
     let key = RowKey { columns, row };
     match seen.get_index_of(&key) {
-        Some(number) => add_to(alloc, leaves, number, &key.row, groups),
+        Some(number) => {
+            let RowKey { columns: _, row } = key;
+            add_to(alloc, leaves, number, &row, groups)
+        }
         None => {
             add_group(alloc, leaves, &key.row, groups)?;
             seen.insert(key)?;
