@@ -58,3 +58,11 @@ pub told_at : {X : Type 0} (f : X → List Fault) (xs : List X) (i : ℕ) (d : X
 told_at f [] i d c lt h = absurd (omega arith)
 told_at f (x ∷ xs) zero d c lt h = Contains-append_left (f x) (flat_map f xs) c h
 told_at f (x ∷ xs) (suc i) d c lt h = Contains-append_right (f x) (flat_map f xs) c (told_at f xs i d c (omega arith) h)
+
+-- what a group shows is what its class shows
+module _ (ls : List Leaf) (having keys items hs ks is : List Expr) (class : List Tuple) (ps : Tuple) (h : AllLift ls having hs) (k : AllLift ls keys ks) (i : AllLift ls items is) (e : ps ≡ leaf_values ls class) where
+  pub group_staged : class_staged (senses ps hs) (senses ps ks) (senses ps is) [] ≡ class_staged (senses [] having) (senses [] keys) (senses [] items) class
+  group_staged = same_staged (senses ps hs) (senses ps ks) (senses ps is) (senses [] having) (senses [] keys) (senses [] items) [] class (lift_here ls having hs ps class h e) (lift_here ls keys ks ps class k e) (lift_here ls items is ps class i e)
+
+  pub group_told : class_told (senses ps hs) (senses ps ks) (senses ps is) [] ≡ class_told (senses [] having) (senses [] keys) (senses [] items) class
+  group_told = same_told (senses ps hs) (senses ps ks) (senses ps is) (senses [] having) (senses [] keys) (senses [] items) [] class (lift_here ls having hs ps class h e) (lift_here ls keys ks ps class k e) (lift_here ls items is ps class i e)
