@@ -7,6 +7,7 @@ ghost use Rattle.query_answer.specs.Keys.{key_in, put_at};
 ghost use Rattle.query_answer.specs.Running.{ClassesRun, runnings_in};
 
 use crate::leaves::Leaf;
+pub(crate) use crate::new_folds::new_fold;
 use crate::row_keys::RowKey;
 use crate::running::{Running, add_row, all_fresh, values};
 use crate::staging::{Staged, push_staged, staged_class};
@@ -14,8 +15,6 @@ use indexmap::IndexSet;
 use med_value::{NoMemory, Row};
 use std::alloc::Global;
 use tri_expr::{EvalFault, Expr};
-
-pub(crate) use crate::new_folds::new_fold;
 
 /// Groups by the values in some columns, and what is kept of each while their rows come. All rows are one group where there is no column.
 #[derive(Drop)]
@@ -127,11 +126,7 @@ impl<'a> GroupFold<'a> {
     }
 
     // What a group is sorted by and what it shows, where HAVING keeps it.
-    fn staged_group(
-        &self,
-        alloc: Global,
-        group: &Vec<Running>,
-    ) -> Result<Option<Staged>, EvalFault>
+    fn staged_group(&self, alloc: Global, group: &Vec<Running>) -> Result<Option<Staged>, EvalFault>
         requires many { length self.now.leaves.items ≡ length group.now.items }
         requires few { All (λ r. counted r ≤ 2 ^ 62) group.now.items }
         ensures outputs { IfOk result (λ s. (class : List Tuple) → AllRun self.now.leaves.items class group.now.items
