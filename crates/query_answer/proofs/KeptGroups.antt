@@ -1,5 +1,5 @@
 -- What is kept of groups while their rows come.
-use Rattle.std.proofs.Common.{◌≡◌, ◌<◌, ◌≤◌, ◌+◌, ◌^◌, ◌==◌, nat_lt, Option, Some, None, ℕ, zero, suc, Bool, true, false, if◌then◌else◌, List, [], ◌∷◌, ◌++◌, All, map, filter, length, set, get_or, refl, sym, ap, ◌∙◌, subst, arith}
+use Rattle.std.proofs.Common.{◌≡◌, ◌<◌, ◌≤◌, ◌+◌, ◌^◌, ◌==◌, nat_lt, Some, None, ℕ, zero, suc, Bool, true, false, if◌then◌else◌, List, [], ◌∷◌, ◌++◌, All, length, set, get_or, refl, sym, ap, ◌∙◌, subst, arith}
 use Rattle.std.proofs.Math.Bridge.{le_prop}
 use Rattle.std.proofs.Math.Logic.{∥∥₁_elim, ∥∥₁_map}
 use Rattle.std.proofs.Math.Nat.{ℕ_set}
@@ -9,7 +9,7 @@ use borrow.Author.Tests.{ltb-true}
 use Rattle.std.proofs.lemmas.List.{length-append}
 use Rattle.std.proofs.lemmas.List.Sums.{length-filter, count_by-le-length}
 use Rattle.indexmap.specs.IndexSet.{insert_key}
-use Rattle.med_value.specs.Datum.{Datum, Tuple}
+use Rattle.med_value.specs.Datum.{Tuple}
 use Rattle.med_value.specs.Limits.{group_limit}
 use Rattle.tri_expr.specs.Aggregate.{is_present}
 use Rattle.tri_expr.specs.Meaning.{OnClass, argument, meaning}

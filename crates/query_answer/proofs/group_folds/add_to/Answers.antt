@@ -1,8 +1,7 @@
-use Rattle.std.proofs.Common.{◌≡◌, ◌<◌, [], List, map, get_or, set, length, sym, ap, ◌∙◌, subst, arith}
+use Rattle.std.proofs.Common.{◌≡◌, [], get_or, sym, ap, ◌∙◌, subst, arith}
 use Rattle.std.proofs.lemmas.List.{length-map, get_or-map, map-set}
 use Rattle.med_value.specs.Datum.{tuple}
 use Rattle.med_query.proofs.Telling.{if_ok_then}
-use Rattle.query_answer.specs.declared.running.Running.{Running}
 use Rattle.query_answer.specs.Classes.{IsReady}
 use Rattle.query_answer.specs.Running.{AllRun, ClassesRun, runnings_in}
 use Rattle.query_answer.specs.Keys.{put_at}

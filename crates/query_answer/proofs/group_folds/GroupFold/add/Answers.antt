@@ -1,6 +1,6 @@
 use Rattle.std.proofs.Common.{map, sym, subst}
 use Rattle.med_value.specs.Datum.{tuple}
-use Rattle.query_answer.specs.Classes.{KeepsFew, KeepsGroups}
+use Rattle.query_answer.specs.Classes.{KeepsFew}
 use Rattle.query_answer.specs.Keys.{key_in}
 use Rattle.query_answer.specs.Running.{runnings_in}
 use Rattle.query_answer.proofs.KeptGroups.{few_kept, some_more}

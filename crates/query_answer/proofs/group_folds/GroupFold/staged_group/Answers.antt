@@ -1,8 +1,8 @@
-use Rattle.std.proofs.Common.{◌≡◌, [], List, map, sym, ap, subst, ◌∙◌}
+use Rattle.std.proofs.Common.{List, map, sym, ap, subst, ◌∙◌}
 use Rattle.med_value.specs.Datum.{datum}
 use Rattle.tri_expr.specs.declared.expr.Fault.{Fault}
 use Rattle.med_query.specs.Query.{TellsFault}
-use Rattle.query_answer.specs.Leaves.{AllLift, leaf_values}
+use Rattle.query_answer.specs.Leaves.{AllLift}
 use Rattle.query_answer.proofs.StagedGroups.{group_staged, group_told}
 use Rattle.med_query.proofs.Telling.{if_ok_then}
 use Rattle.query_answer.proofs.group_folds.GroupFold.staged_group.Goals as goal

@@ -1,7 +1,5 @@
-use Rattle.std.proofs.Common.{◌≡◌, ◌<◌, ◌≤◌, ◌^◌, ◌++◌, [], List, All, flat_map, map, take, get_or, length, sym, ap, ◌∙◌, subst, arith}
+use Rattle.std.proofs.Common.{◌≡◌, ◌<◌, ◌≤◌, ◌^◌, ◌++◌, [], All, flat_map, map, take, get_or, length, sym, ap, ◌∙◌, subst, arith}
 use Rattle.std.proofs.lemmas.List.{get_or-map, length-map, take_all}
-use Rattle.med_value.specs.Datum.{Tuple}
-use Rattle.tri_expr.specs.declared.expr.Fault.{Fault}
 use Rattle.med_query.specs.Query.{senses}
 use Rattle.med_query.proofs.Telling.{tells_more}
 use Rattle.query_answer.specs.Classes.{classes_so_far}
