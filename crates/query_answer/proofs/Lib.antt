@@ -9,6 +9,8 @@ pub mod Ungrouped
 pub mod Grouped
 pub mod Leading
 pub mod Folded
+pub mod KeptGroups
+pub mod StagedGroups
 pub mod Finished
 pub mod Lifting
 pub mod Evaluated

@@ -1,23 +1,13 @@
 -- The groups of a core while its kept rows come, one after another.
-use Rattle.std.specs.Prelude.{◌≡◌, ◌≤◌, ◌<◌, ℕ, List, [], ◌∷◌, map, length}
+pub use Rattle.query_answer.specs.Classes.{classes_so_far, keys_so_far}
+use Rattle.std.specs.Prelude.{◌≡◌, ◌≤◌, ◌<◌, List, map, length}
 use Rattle.med_value.specs.Datum.{Tuple}
 use Rattle.med_value.specs.Limits.{group_limit}
 use Rattle.tri_expr.specs.declared.expr.Expr.{Expr}
-use Rattle.med_query.specs.Lists.{tuple_eq}
-use Rattle.med_query.specs.Query.{key_of}
-use Rattle.query_answer.specs.Keys.{gathered, key_in, keys_after, numbers_after}
+use Rattle.query_answer.specs.Keys.{key_in}
 use Rattle.query_answer.specs.Leaves.{AllLift}
 use Rattle.query_answer.specs.Running.{ClassesRun, runnings_in}
 use Rattle.query_answer.specs.declared.group_folds.GroupFold.{GroupFold}
-
--- the groups of rows, in the order of their first rows; without keys all rows are one group
-abbrev pub classes_so_far : List ℕ → List Tuple → List (List Tuple)
-classes_so_far [] rows = rows ∷ []
-classes_so_far (at ∷ ats) rows = gathered [] (numbers_after tuple_eq [] (map (key_of (at ∷ ats)) rows)) rows
-
--- the keys that these rows have, each once
-abbrev pub keys_so_far : List ℕ → List Tuple → List Tuple
-keys_so_far columns rows = keys_after tuple_eq [] (map (key_of columns) rows)
 
 -- what is kept of the groups of these rows, none of the rows itself
 pub record Folds (rows : List Tuple) (f : GroupFold) : Type 0 where

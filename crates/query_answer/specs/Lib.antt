@@ -7,5 +7,6 @@ pub mod Answering
 pub mod Equal
 pub mod Leaves
 pub mod Running
+pub mod Classes
 pub mod Folding
 pub mod Gathering

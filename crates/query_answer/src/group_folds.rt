@@ -1,13 +1,13 @@
 //! The groups of a core, of which only what its expressions ask of them is kept while rows come and go.
-ghost use Rattle.std.specs.Prelude.{◌≡◌, ◌++◌, ◌∷◌, ◌<◌, [], IfOk, List, flat_map, map};
+ghost use Rattle.std.specs.Prelude.{◌≡◌, ◌++◌, ◌∷◌, ◌<◌, ◌≤◌, ◌^◌, ℕ, true, [], All, IfOk, List, flat_map, length, map};
 ghost use Rattle.med_value.specs.Datum.{tuple, Tuple};
 ghost use Rattle.med_value.specs.Limits.{group_limit};
-ghost use Rattle.med_query.specs.Query.{TellsFault, senses};
-ghost use Rattle.query_answer.specs.Folding.{classes_so_far, Folds, IsLifted, SameFold};
+ghost use Rattle.query_answer.specs.Classes.{AreReady, KeepsFew, KeepsGroups, KeepsSome};
+ghost use Rattle.query_answer.specs.Keys.{key_in, put_at};
 ghost use Rattle.query_answer.specs.Running.{ClassesRun, runnings_in};
-ghost use Rattle.query_answer.specs.Staging.{class_staged, class_told, output_of};
 
-use crate::leaves::{Leaf, all_lifted};
+use crate::leaves::Leaf;
+pub(crate) use crate::new_folds::new_fold;
 use crate::row_keys::RowKey;
 use crate::running::{Running, add_row, all_fresh, values};
 use crate::staging::{Staged, push_staged, staged_class};
@@ -27,61 +27,80 @@ pub(crate) struct GroupFold<'a> {
     pub count: usize,
     pub seen: IndexSet<RowKey<'a>>,
     pub groups: Vec<Vec<Running>>,
+    /// Whether no row was taken in half, for want of memory.
+    pub is_whole: bool,
+    ghost kept: { is_whole ≡ true → KeepsSome columns.now leaves.items count (map key_in seen.keys) (runnings_in groups.items) },
 }
 
-// The groups of no rows: one where there is no column, else none.
-fn no_rows(alloc: Global, columns: &[usize], leaves: &[Leaf]) -> Result<Vec<Vec<Running>>, NoMemory>
-    ensures { IfOk result (λ groups. ClassesRun leaves.now (classes_so_far columns.now []) (runnings_in groups.items)) }
+// One more row of a group that is there.
+fn add_to(
+    alloc: Global,
+    leaves: &[Leaf],
+    number: usize,
+    row: &Row,
+    groups: &mut Vec<Vec<Running>>,
+) -> Result<(), NoMemory>
+    requires there { number < length groups.old.items }
+    requires ready { AreReady leaves.now (runnings_in groups.old.items) }
+    ensures { IfOk result (λ _. (classes : List (List Tuple)) → ClassesRun leaves.now classes (runnings_in groups.old.items)
+        → ClassesRun leaves.now (put_at classes number (tuple row.now)) (runnings_in groups.new.items)) }
 {
-    let mut groups = Vec::new(alloc);
-    if columns.is_empty() {
-        groups.push(all_fresh(alloc, leaves)?)?;
-    }
-    Ok(groups)
+    add_row(alloc, leaves, row, &mut groups[number])
 }
 
-/// The groups of no rows, of which these expressions ask. Refused only for want of memory.
-pub(crate) fn new_fold<'a>(
+// The first row of a group.
+fn add_group(
+    alloc: Global,
+    leaves: &[Leaf],
+    row: &Row,
+    groups: &mut Vec<Vec<Running>>,
+) -> Result<(), NoMemory>
+    ensures { IfOk result (λ _. (classes : List (List Tuple)) → ClassesRun leaves.now classes (runnings_in groups.old.items)
+        → ClassesRun leaves.now (classes ++ (tuple row.now ∷ []) ∷ []) (runnings_in groups.new.items)) }
+{
+    let mut group = all_fresh(alloc, leaves)?;
+    add_row(alloc, leaves, row, &mut group)?;
+    groups.push(group)?;
+    Ok(())
+}
+
+// A row goes to the group of its key, or is the first of a new one.
+fn put_row<'a>(
     alloc: Global,
     columns: &'a [usize],
-    having: &[Expr],
-    keys: &[Expr],
-    items: &[Expr],
-) -> Result<GroupFold<'a>, NoMemory>
-    ensures columns { IfOk result (λ f. f.columns.now ≡ columns.now) }
-    ensures folds { IfOk result (λ f. Folds [] f) }
-    ensures lifted { IfOk result (λ f. IsLifted having.now keys.now items.now f) }
+    leaves: &[Leaf],
+    row: Row,
+    seen: &mut IndexSet<RowKey<'a>>,
+    groups: &mut Vec<Vec<Running>>,
+) -> Result<(), NoMemory>
+    requires kept { KeepsFew columns.now leaves.now (map key_in seen.old.keys) (runnings_in groups.old.items) }
+    ensures { IfOk result (λ _. (rows : List Tuple)
+        → KeepsGroups columns.now leaves.now (map key_in seen.old.keys) (runnings_in groups.old.items) rows
+        → KeepsGroups columns.now leaves.now (map key_in seen.new.keys) (runnings_in groups.new.items) (rows ++ tuple row ∷ [])) }
 {
-    let mut leaves = Vec::new(alloc);
-    let having = all_lifted(alloc, having, &mut leaves)?;
-    let keys = all_lifted(alloc, keys, &mut leaves)?;
-    let items = all_lifted(alloc, items, &mut leaves)?;
-    let groups = no_rows(alloc, columns, leaves.as_slice())?;
-    Ok(GroupFold {
-        columns,
-        leaves,
-        having,
-        keys,
-        items,
-        count: 0,
-        seen: IndexSet::new(alloc),
-        groups,
-    })
+    if columns.is_empty() {
+        return add_to(alloc, leaves, 0, &row, groups);
+    }
+    let key = RowKey { columns, row };
+    match seen.get_index_of(&key) {
+        Some(number) => {
+            let RowKey { columns: _, row } = key;
+            add_to(alloc, leaves, number, &row, groups)
+        }
+        None => {
+            add_group(alloc, leaves, &key.row, groups)?;
+            seen.insert(key)?;
+            Ok(())
+        }
+    }
 }
 
 impl<'a> GroupFold<'a> {
-    // One more row of a group that is there.
-    fn add_to(&mut self, alloc: Global, number: usize, row: &Row) -> Result<(), NoMemory> {
-        add_row(alloc, self.leaves.as_slice(), row, &mut self.groups[number])
-    }
-
-    // The first row of a group.
-    fn add_group(&mut self, alloc: Global, row: &Row) -> Result<(), NoMemory> {
-        let mut group = all_fresh(alloc, self.leaves.as_slice())?;
-        add_row(alloc, self.leaves.as_slice(), row, &mut group)?;
-        self.groups.push(group)?;
-        Ok(())
-    }
+    ghost use Rattle.std.specs.Prelude.{IfOk};
+    ghost use Rattle.med_query.specs.Query.{TellsFault, senses};
+    ghost use Rattle.query_answer.specs.Folding.{classes_so_far, Folds, IsLifted, SameFold};
+    ghost use Rattle.query_answer.specs.Running.{AllRun, counted};
+    ghost use Rattle.query_answer.specs.Staging.{class_staged, class_told, output_of, outputs_in};
 
     /// One more row, which goes to the group of its key. Refused only for want of memory.
     pub fn add(&mut self, alloc: Global, row: Row) -> Result<(), NoMemory>
@@ -89,30 +108,37 @@ impl<'a> GroupFold<'a> {
         ensures folds { IfOk result (λ _. (rows : List Tuple) → Folds rows self.old → Folds (rows ++ tuple row ∷ []) self.new) }
         ensures same { SameFold self.old self.new }
     {
-        self.count += 1;
-        if self.columns.is_empty() {
-            return self.add_to(alloc, 0, &row);
+        if !self.is_whole {
+            return Err(NoMemory);
         }
-        let key = RowKey {
-            columns: self.columns,
+        self.is_whole = false;
+        put_row(
+            alloc,
+            self.columns,
+            self.leaves.as_slice(),
             row,
-        };
-        match self.seen.get_index_of(&key) {
-            Some(number) => self.add_to(alloc, number, &key.row),
-            None => {
-                self.add_group(alloc, &key.row)?;
-                self.seen.insert(key)?;
-                Ok(())
-            }
-        }
+            &mut self.seen,
+            &mut self.groups,
+        )?;
+        self.count += 1;
+        self.is_whole = true;
+        Ok(())
     }
 
     // What a group is sorted by and what it shows, where HAVING keeps it.
-    fn staged_group(
-        &self,
-        alloc: Global,
-        group: &Vec<Running>,
-    ) -> Result<Option<Staged>, EvalFault> {
+    fn staged_group(&self, alloc: Global, group: &Vec<Running>) -> Result<Option<Staged>, EvalFault>
+        requires many { length self.now.leaves.items ≡ length group.now.items }
+        requires few { All (λ r. counted r ≤ 2 ^ 62) group.now.items }
+        ensures outputs { IfOk result (λ s. (class : List Tuple) → AllRun self.now.leaves.items class group.now.items
+            → (having keys items : List Expr) → IsLifted having keys items self.now
+            → outputs_in s ≡ class_staged (senses [] having) (senses [] keys) (senses [] items) class) }
+        ensures no_fault { IfOk result (λ _. (class : List Tuple) → AllRun self.now.leaves.items class group.now.items
+            → (having keys items : List Expr) → IsLifted having keys items self.now
+            → class_told (senses [] having) (senses [] keys) (senses [] items) class ≡ []) }
+        ensures told { (class : List Tuple) → AllRun self.now.leaves.items class group.now.items
+            → (having keys items : List Expr) → IsLifted having keys items self.now
+            → TellsFault result (class_told (senses [] having) (senses [] keys) (senses [] items) class) }
+    {
         let Ok(params) = values(alloc, self.leaves.as_slice(), group.as_slice()) else {
             return Err(EvalFault::NoMemory);
         };
@@ -140,6 +166,9 @@ impl<'a> GroupFold<'a> {
             → TellsFault result (flat_map (class_told (senses [] having) (senses [] keys) (senses [] items))
             (classes_so_far self.entry.columns.now rows)) }
     {
+        if !self.is_whole {
+            return Err(EvalFault::NoMemory);
+        }
         let mut out = Vec::new(alloc);
         for group in &self.groups {
             match self.staged_group(alloc, group) {

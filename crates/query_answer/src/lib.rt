@@ -8,6 +8,7 @@ pub mod gathering;
 mod group_folds;
 mod grouping;
 mod leaves;
+mod new_folds;
 mod ordering;
 pub mod outputs;
 mod row_keys;
