@@ -27,7 +27,7 @@ pub(crate) struct GroupFold<'a> {
     pub count: usize,
     pub seen: IndexSet<RowKey<'a>>,
     pub groups: Vec<Vec<Running>>,
-    /// Whether no row was taken in half, for want of memory.
+    /// Whether each row that came was taken in whole: memory may be refused in the middle of one, and then no further row is taken.
     pub is_whole: bool,
     ghost kept: { is_whole ≡ true → KeepsSome columns.now leaves.items count (map key_in seen.keys) (runnings_in groups.items) },
 }
