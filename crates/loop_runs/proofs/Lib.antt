@@ -1,6 +1,9 @@
 mod Left
 mod Rounds
 mod Closing
+mod Adding
 mod Cores
+mod Coming
+mod Decided
 pub mod Counts
 mod Answering

@@ -1,14 +1,16 @@
 //! Which queries are shown row by row, and what a core without FROM joins.
-ghost use Rattle.std.specs.Prelude.{◌≡◌, ◌↔◌, ◌∷◌, [], false, IsTrue, IfOk, filter, map};
+ghost use Rattle.std.specs.Prelude.{◌≡◌, ◌↔◌, ◌∷◌, [], false, IsTrue, IfOk, length};
 ghost use Rattle.med_value.specs.Datum.{tuple};
 ghost use Rattle.med_query.specs.Query.{keeps, senses};
 ghost use Rattle.tri_expr.specs.TreeParts.{is_risky};
 ghost use Rattle.nested_loops.specs.Joins.{Each};
 ghost use Rattle.loop_answers.specs.Conjuncts.{safe_of};
 ghost use Rattle.loop_answers.specs.Streamed.{all_safe, IsStreamedCore, IsStreamed};
+ghost use Rattle.loop_runs.specs.Gathering.{levels_in, AreDecided};
 
 use med_query::{Select, SelectCore};
 use med_value::{NoMemory, Row};
+use scan_loops::LoopLevel;
 use std::alloc::Global;
 use std::slice;
 use tri_expr::law::safe_expression_has_value;
@@ -81,18 +83,28 @@ fn safe_ones_hold(conjuncts: &[Expr], row: &Row) -> bool
     true
 }
 
-/// What a core without FROM gathers: the one row of no columns, where the conjuncts of WHERE that may not fault are true of it.
+/// Of each core without loops, whether the conjuncts of WHERE that may not fault are true of the row of no columns.
 ///
 /// Refused only for want of memory.
-pub(crate) fn empty_row(alloc: Global, conditions: &[Expr]) -> Result<Vec<Row>, NoMemory>
-    ensures { IfOk result (λ rows. map tuple rows.items ≡ filter (keeps (senses [] (safe_of conditions.now))) ([] ∷ [])) }
+pub(crate) fn decide_each(
+    alloc: Global,
+    cores: &[SelectCore],
+    loops: &[Vec<LoopLevel>],
+) -> Result<Vec<bool>, NoMemory>
+    requires { length loops.now ≡ length cores.now }
+    ensures { IfOk result (λ held. AreDecided cores.now (levels_in loops.now) held.items) }
 {
     let row = Row {
         cells: Vec::new(alloc),
     };
-    let mut rows = Vec::new(alloc);
-    if safe_ones_hold(conditions, &row) {
-        rows.push(row)?;
+    let mut held = Vec::new(alloc);
+    let mut coming = loops;
+    for core in cores {
+        let Some((levels, more)) = coming.split_first() else {
+            unreachable!()
+        };
+        held.push(!levels.is_empty() || safe_ones_hold(core.conditions.as_slice(), &row))?;
+        coming = more;
     }
-    Ok(rows)
+    Ok(held)
 }

@@ -1,5 +1,5 @@
 -- A core that does not group: its classes are its rows, one by one.
-use Rattle.std.proofs.Common.{IsPermutation, subst, ◌≡◌, ℕ, Bool, true, false, cond, List, [], ◌∷◌, ◌++◌, map, filter, flat_map, refl, sym, ap, ◌∙◌, Option, None, Result, Ok, Err, IfOk}
+use Rattle.std.proofs.Common.{IsPermutation, subst, ◌≡◌, Bool, true, false, cond, List, [], ◌∷◌, ◌++◌, map, filter, flat_map, refl, sym, ap, ◌∙◌, None, Result, Ok, Err}
 use Rattle.std.proofs.lemmas.List.Sorted.{IsPermutation-refl}
 use Rattle.med_value.specs.Datum.{Tuple}
 use Rattle.tri_expr.specs.declared.expr.Fault.{Fault}
@@ -83,7 +83,7 @@ row_faults : (from : List Chain) (fs keys items : List OnClass) (db : Tables) (r
 row_faults from fs keys items db rows j =
     ungrouped_faults from fs items false keys db ∙ rw j (ap (λ (gs : List Fault). flat_map (where_told fs) rows ++ gs) (told_alone (output_faults keys items) (filter (keeps fs) rows)))
 
-row_stages : (from : List Chain) (fs keys items : List OnClass) (db : Tables) (rows : List Tuple) (outs : List Output) → joined_chains db from ≡ rows → flat_map (row_told_all fs keys items) rows ≡ [] → outs ≡ flat_map (row_staged fs keys items) rows → Stages (staged_core from fs None keys items) db outs
+pub row_stages : (from : List Chain) (fs keys items : List OnClass) (db : Tables) (rows : List Tuple) (outs : List Output) → joined_chains db from ≡ rows → flat_map (row_told_all fs keys items) rows ≡ [] → outs ≡ flat_map (row_staged fs keys items) rows → Stages (staged_core from fs None keys items) db outs
 row_stages from fs keys items db rows outs j quiet is =
     let q = staged_core from fs None keys items in
     let made : outputs_all q db ≡ outs = ungrouped_outputs from fs items false keys db ∙ rw j (map_alone (output q) (filter (keeps fs) rows)) ∙ sym (kept_mapped (keeps fs) (λ r. output q (alone r)) rows) ∙ sym is in
@@ -91,10 +91,6 @@ row_stages from fs keys items db rows outs j quiet is =
       no_fault = row_faults from fs keys items db rows j ∙ quiet_parts (where_told fs) (λ r. output_faults keys items (alone r)) (keeps fs) rows quiet;
       same = subst (λ l. IsPermutation (outputs_all q db) l) made (IsPermutation-refl (outputs_all q db));
     }
-
-pub rows_stage : {T : Type 0} (view : T → List Output) (r : Result T EvalFault) (fs keys items : List OnClass) (rows : List Tuple) → IfOk r (λ out. view out ≡ flat_map (row_staged fs keys items) rows) → IfOk r (λ _. flat_map (row_told_all fs keys items) rows ≡ []) → IfOk r (λ out. (from : List Chain) (db : Tables) → joined_chains db from ≡ rows → Stages (staged_core from fs None keys items) db (view out))
-rows_stage view (Ok out) fs keys items rows h quiet = λ from db j. row_stages from fs keys items db rows (view out) j quiet h
-rows_stage view (Err f) fs keys items rows h quiet = tt
 
 pub rows_tell : {T : Type 0} (r : Result T EvalFault) (from : List Chain) (fs keys items : List OnClass) (db : Tables) (rows : List Tuple) → joined_chains db from ≡ rows → TellsFault r (flat_map (row_told_all fs keys items) rows) → TellsFault r (core_faults (staged_core from fs None keys items) db)
 rows_tell (Ok x) from fs keys items db rows j h = tt

@@ -11,7 +11,7 @@ use Rattle.query_answer.specs.Staging.{output_of}
 
 -- the values of the row in the columns
 abbrev pub key_in : RowKey → Tuple
-key_in k = key_of k.columns.now (tuple k.row.now)
+key_in k = key_of k.columns.now (tuple k.row)
 
 abbrev pub output_in : OutputKey → Output
 output_in k = output_of k.output.now

@@ -1,6 +1,3 @@
-pub mod Chains
-pub mod Joined
-pub mod Lookups
 pub mod Staging
 pub mod Ordering
 pub mod Grouping
@@ -8,3 +5,8 @@ pub mod Keys
 pub mod Finishing
 pub mod Answering
 pub mod Equal
+pub mod Leaves
+pub mod Running
+pub mod Classes
+pub mod Folding
+pub mod Gathering

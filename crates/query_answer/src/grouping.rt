@@ -1,88 +1,16 @@
-//! GROUP BY and DISTINCT: the keys of rows, and outputs, are looked up in a map.
+//! DISTINCT: outputs are looked up in a map.
 ghost use Rattle.std.specs.Prelude.{◌≡◌, IfOk, IsPermutation, map, ◌++◌, [], ◌∷◌, if◌then◌else◌};
-ghost use Rattle.med_value.specs.Datum.{tuple};
-ghost use Rattle.med_query.specs.Query.{output_eq, key_of};
-ghost use Rattle.query_answer.specs.Staging.{output_of, tuples_in};
-ghost use Rattle.query_answer.specs.Grouping.{AreGroups};
-ghost use Rattle.query_answer.specs.Keys.{numbers_after, news_after, put_at, gathered as spec_gathered, marked as spec_marked};
-ghost use Rattle.med_query.specs.Lists.{distinct, tuple_eq};
+ghost use Rattle.med_query.specs.Query.{output_eq};
+ghost use Rattle.query_answer.specs.Staging.{output_of};
+ghost use Rattle.query_answer.specs.Finishing.{made_unique};
+ghost use Rattle.query_answer.specs.Keys.{news_after, marked as spec_marked};
+ghost use Rattle.med_query.specs.Lists.{distinct};
 
-use crate::row_keys::{OutputKey, RowKey};
+use crate::row_keys::OutputKey;
 use crate::staging::Staged;
 use indexmap::IndexSet;
-use med_value::{NoMemory, Row};
+use med_value::NoMemory;
 use std::alloc::Global;
-
-// The number of each row's key, in the order of their first rows.
-fn numbers_of(alloc: Global, columns: &[usize], rows: &[Row]) -> Result<Vec<usize>, NoMemory>
-    ensures { IfOk result (λ out. out.items ≡ numbers_after tuple_eq [] (map (key_of columns.now) (map tuple rows.now))) }
-{
-    let mut seen = IndexSet::new(alloc);
-    let mut out = Vec::new(alloc);
-    for row in rows {
-        let (number, _) = seen.insert_full(RowKey { columns, row })?;
-        out.push(number)?;
-    }
-    Ok(out)
-}
-
-// The row goes to those of its number, or is the first of a new group.
-fn put_row(
-    alloc: Global,
-    number: usize,
-    row: Row,
-    groups: &mut Vec<Vec<Row>>,
-) -> Result<(), NoMemory>
-    ensures { IfOk result (λ _. map tuples_in groups.new.items ≡ put_at (map tuples_in groups.old.items) number (tuple row)) }
-{
-    if number < groups.len() {
-        groups[number].push(row)?;
-        return Ok(());
-    }
-    let mut group = Vec::new(alloc);
-    group.push(row)?;
-    groups.push(group)?;
-    Ok(())
-}
-
-// Rows gathered by their numbers.
-fn gathered(alloc: Global, numbers: &[usize], rows: Vec<Row>) -> Result<Vec<Vec<Row>>, NoMemory>
-    ensures { IfOk result (λ out. map tuples_in out.items ≡ spec_gathered [] numbers.now (map tuple rows.items)) }
-{
-    let mut groups = Vec::new(alloc);
-    let mut left = numbers;
-    for row in rows {
-        if let Some((number, later)) = left.split_first() {
-            put_row(alloc, *number, row, &mut groups)?;
-            left = later;
-        }
-    }
-    Ok(groups)
-}
-
-// All rows as one group.
-fn one_group(alloc: Global, rows: Vec<Row>) -> Result<Vec<Vec<Row>>, NoMemory>
-    ensures { IfOk result (λ out. map tuples_in out.items ≡ map tuple rows.items ∷ []) }
-{
-    let mut one = Vec::new(alloc);
-    one.push(rows)?;
-    Ok(one)
-}
-
-/// The groups of rows: those of the same rows in some order. Without keys all rows are one group.
-pub(crate) fn groups(
-    alloc: Global,
-    keys: &[usize],
-    rows: Vec<Row>,
-) -> Result<Vec<Vec<Row>>, NoMemory>
-    ensures { IfOk result (λ out. AreGroups keys.now (map tuple rows.items) (map tuples_in out.items)) }
-{
-    if keys.is_empty() {
-        return one_group(alloc, rows);
-    }
-    let numbers = numbers_of(alloc, keys, rows.as_slice())?;
-    gathered(alloc, numbers.as_slice(), rows)
-}
 
 // Which outputs are equal to none before them.
 fn news_of(alloc: Global, staged: &[Staged]) -> Result<Vec<bool>, NoMemory>
@@ -122,10 +50,25 @@ fn marked(alloc: Global, marks: &[bool], staged: Vec<Staged>) -> Result<Vec<Stag
     Ok(out)
 }
 
-/// One of each of the outputs that are equal, in some order.
-pub(crate) fn distinct_outputs(alloc: Global, staged: Vec<Staged>) -> Result<Vec<Staged>, NoMemory>
+// One of each of the outputs that are equal, in some order.
+fn distinct_outputs(alloc: Global, staged: Vec<Staged>) -> Result<Vec<Staged>, NoMemory>
     ensures { IfOk result (λ out. IsPermutation (distinct output_eq (map output_of staged.items)) (map output_of out.items)) }
 {
     let news = news_of(alloc, staged.as_slice())?;
     marked(alloc, news.as_slice(), staged)
+}
+
+/// DISTINCT where it is asked.
+pub(crate) fn unique_outputs(
+    alloc: Global,
+    staged: Vec<Staged>,
+    distinct: bool,
+) -> Result<Vec<Staged>, NoMemory>
+    ensures { IfOk result (λ out. IsPermutation (made_unique distinct (map output_of staged.items)) (map output_of out.items)) }
+{
+    if distinct {
+        distinct_outputs(alloc, staged)
+    } else {
+        Ok(staged)
+    }
 }

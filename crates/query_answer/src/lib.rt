@@ -1,17 +1,21 @@
-//! The answer of a SELECT whose names were resolved, over tables that are lists of rows: joins, WHERE, groups, DISTINCT, order and limits.
+//! The answer of a SELECT whose names were resolved, over the joined rows of its cores, which come one after another and are not kept: WHERE,
+//! groups, DISTINCT, order and limits.
 #![tactic(auto)]
 
 pub mod answers;
 mod filtering;
+pub mod gathering;
+mod group_folds;
 mod grouping;
-mod joins;
-mod lookups;
+mod leaves;
+mod new_folds;
 mod ordering;
 pub mod outputs;
-mod refusals;
 mod row_keys;
+mod running;
 mod staging;
 mod values;
 
 pub use answers::answer;
+pub use gathering::Gathering;
 pub use outputs::AnswerFault;

@@ -1,6 +1,6 @@
 //! The values of expressions over a class of rows.
 ghost use Rattle.std.specs.Prelude.{◌≡◌, ◌∷◌, ◌++◌, [], IfOk, map};
-ghost use Rattle.med_value.specs.Datum.{tuple};
+ghost use Rattle.med_value.specs.Datum.{datum, tuple};
 ghost use Rattle.tri_expr.specs.Outcome.{over, value_of};
 ghost use Rattle.tri_expr.specs.Verdict.{fault_list};
 ghost use Rattle.med_query.specs.Query.{TellsFault, senses};
@@ -9,17 +9,22 @@ use med_value::{Row, Value};
 use std::alloc::Global;
 use tri_expr::{EvalFault, Expr, eval_class};
 
-/// The values of expressions over a class of rows, in their order; the first fault is told.
-pub(crate) fn values_over(alloc: Global, parts: &[Expr], class: &[Row]) -> Result<Row, EvalFault>
-    ensures values { IfOk result (λ r. tuple r ≡ map value_of (over (senses [] parts.now) (map tuple class.now))) }
-    ensures no_fault { IfOk result (λ _. fault_list (over (senses [] parts.now) (map tuple class.now)) ≡ []) }
-    ensures told { TellsFault result (fault_list (over (senses [] parts.now) (map tuple class.now))) }
+/// The values of expressions over a class of rows with these parameters, in their order; the first fault is told.
+pub(crate) fn values_over(
+    alloc: Global,
+    parts: &[Expr],
+    class: &[Row],
+    params: &[Value],
+) -> Result<Row, EvalFault>
+    ensures values { IfOk result (λ r. tuple r ≡ map value_of (over (senses (map datum params.now) parts.now) (map tuple class.now))) }
+    ensures no_fault { IfOk result (λ _. fault_list (over (senses (map datum params.now) parts.now) (map tuple class.now)) ≡ []) }
+    ensures told { TellsFault result (fault_list (over (senses (map datum params.now) parts.now) (map tuple class.now))) }
 {
     let Ok(mut cells) = Vec::with_capacity(alloc, parts.len()) else {
         return Err(EvalFault::NoMemory);
     };
     for part in parts {
-        let v = match eval_class(alloc, part, class, &[]) {
+        let v = match eval_class(alloc, part, class, params) {
             Ok(v) => v,
             Err(fault) => return Err(fault),
         };

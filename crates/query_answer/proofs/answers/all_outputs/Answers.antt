@@ -1,15 +1,27 @@
-use Rattle.med_query.specs.Select.{tables_of}
-use Rattle.query_answer.proofs.Finished.{last_gives, last_small, last_told}
+use Rattle.std.proofs.Common.{◌≡◌, ◌∷◌, arith, length, map, subst}
+use Rattle.query_answer.specs.Staging.{output_of}
+use Rattle.query_answer.proofs.Groups.{nothing_more}
+use Rattle.query_answer.proofs.Unions.{Taken, one_taken, one_shown, all_give, all_are_small}
 use Rattle.query_answer.proofs.answers.all_outputs.Goals as goal
 
-pub returns-in-Err-last_outputs-clause-told : goal.returns-in-Err-last_outputs-clause-told
-returns-in-Err-last_outputs-clause-told c = last_told c.in-Err-last_outputs.fault c.args.cores.now c.in-Some.others.now c.in-Some.last.now (tables_of c.args.tables.items) c.in-Some.ensures.cases.0 c.in-Err-last_outputs.ensures.told
+pub returns-in-Err-clause-told : goal.returns-in-Err-clause-told
+returns-in-Err-clause-told c = λ db cores are.
+    let rest : c.loop-one.coming.rest.items ≡ c.in-Some.one ∷ c.next.new.self.rest.items = c.in-Some.ensures.items in
+    one_shown db cores c.in-Some.one c.next.new.self.rest.items (map output_of c.loop-one.all.items) c.in-Err.fault
+    (subst (λ l. Taken db cores l (map output_of c.loop-one.all.items)) rest (c.loop-one.invariant db cores are)) (c.in-Err.ensures.told db)
 
-pub returns-in-Ok-joined_outputs-clause-gives : goal.returns-in-Ok-joined_outputs-clause-gives
-returns-in-Ok-joined_outputs-clause-gives c =
-    last_gives c.args.cores.now c.in-Some.others.now c.in-Some.last.now (tables_of c.args.tables.items) c.in-Ok.before.items c.in-Ok-joined_outputs.all.items c.in-Ok-last_outputs.more.items c.in-Some.ensures.cases.0 c.in-Ok-joined_outputs.ensures
-    (rw (← c.as_slice.ensures.value) c.in-Ok.ensures.gives) c.in-Ok-last_outputs.ensures.gives
+pub loop-one-preserved : goal.loop-one-preserved
+loop-one-preserved c = λ db cores are.
+    let rest : c.loop-one.coming.rest.items ≡ c.in-Some.one ∷ c.next.new.self.rest.items = c.in-Some.ensures.items in
+    one_taken db cores c.in-Some.one c.next.new.self.rest.items c.loop-one.all.items c.in-Ok-joined_outputs.joined.items c.in-Ok.more.items c.in-Ok-joined_outputs.ensures
+    (subst (λ l. Taken db cores l (map output_of c.loop-one.all.items)) rest (c.loop-one.invariant db cores are)) (c.in-Ok.ensures.gives db) (c.in-Ok.ensures.small db)
 
-pub returns-in-Ok-joined_outputs-clause-small : goal.returns-in-Ok-joined_outputs-clause-small
-returns-in-Ok-joined_outputs-clause-small c =
-    last_small c.args.cores.now c.in-Some.others.now c.in-Some.last.now (tables_of c.args.tables.items) c.in-Some.ensures.cases.0 (rw (← c.as_slice.ensures.value) c.in-Ok.ensures.small) c.in-Ok-last_outputs.ensures.small
+pub returns-clause-gives : goal.returns-clause-gives
+returns-clause-gives c = λ db cores are.
+    let none : length c.loop-one.coming.rest.items ≡ 0 = omega (arith, c.in_default.ensures.cases.0) in
+    all_give db cores c.loop-one.coming.rest.items (map output_of c.loop-one.all.items) (nothing_more c.loop-one.coming.rest.items none) (c.loop-one.invariant db cores are)
+
+pub returns-clause-small : goal.returns-clause-small
+returns-clause-small c = λ db cores are.
+    let none : length c.loop-one.coming.rest.items ≡ 0 = omega (arith, c.in_default.ensures.cases.0) in
+    all_are_small db cores c.loop-one.coming.rest.items (map output_of c.loop-one.all.items) (nothing_more c.loop-one.coming.rest.items none) (c.loop-one.invariant db cores are)

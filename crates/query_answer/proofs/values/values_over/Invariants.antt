@@ -8,6 +8,6 @@ use Rattle.query_answer.proofs.values.values_over.Given as goal
 abbrev pub invariant-loop-part : goal.invariant-loop-part
 invariant-loop-part l =
     record {
-      values : map datum l.cells.items ≡ map value_of (over (senses [] (take l.part-index l.parts)) (map tuple l.class));
-      no_fault : fault_list (over (senses [] (take l.part-index l.parts)) (map tuple l.class)) ≡ [];
+      values : map datum l.cells.items ≡ map value_of (over (senses (map datum l.params) (take l.part-index l.parts)) (map tuple l.class));
+      no_fault : fault_list (over (senses (map datum l.params) (take l.part-index l.parts)) (map tuple l.class)) ≡ [];
     }
