@@ -1,10 +1,12 @@
 //! The fields of a record as values, and values as fields.
-ghost use Rattle.std.specs.Prelude.{◌≡◌, ◌≤◌, ◌-◌, ◌^◌, ◌&&◌, ℕ, true, length, nat_lt, nat_le, IfOk, option_map, is_some, pos, neg_ℤ, IsUtf8};
+ghost use Rattle.std.specs.Prelude.{◌≡◌, ◌≤◌, ◌-◌, ◌^◌, ◌&&◌, ℕ, true, length, nat_lt, nat_le};
+ghost use Rattle.std.specs.Prelude.{IfOk, option_map, is_some, pos, neg_ℤ, IsUtf8};
 ghost use Rattle.std.specs.Str.{all_ascii_digits};
 ghost use Rattle.std.specs.String.{string_bytes};
 ghost use Rattle.med_value.specs.Datum.{datum};
 ghost use Rattle.csv_tables.specs.Rewriting.{is_storable};
-ghost use Rattle.csv_tables.specs.Cells.{skip_spaces, without_spaces, number_up_to, integer_of, is_among, true_words, false_words, truth_of, cell_of, field_of, reads_as_null};
+ghost use Rattle.csv_tables.specs.Cells.{skip_spaces, without_spaces, number_up_to, integer_of, is_among, true_words};
+ghost use Rattle.csv_tables.specs.Cells.{false_words, truth_of, cell_of, field_of, reads_as_null};
 
 use med_value::{ColType, NoMemory, Value};
 use std::alloc::Global;

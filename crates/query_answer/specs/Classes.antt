@@ -19,7 +19,8 @@ abbrev pub keys_so_far : List ℕ → List Tuple → List Tuple
 keys_so_far columns rows = keys_after tuple_eq [] (map (key_of columns) rows)
 
 -- these keys, and what is kept of each group, are those of these rows
-pub record KeepsGroups (columns : List ℕ) (leaves : List Leaf) (keys : List Tuple) (groups : List (List Running)) (rows : List Tuple) : Type 0 where
+pub record KeepsGroups (columns : List ℕ) (leaves : List Leaf) (keys : List Tuple) (groups : List (List Running))
+    (rows : List Tuple) : Type 0 where
   pub seen : (0 < length columns) → keys ≡ keys_so_far columns rows
   pub runs : ClassesRun leaves (classes_so_far columns rows) groups
 

@@ -1,5 +1,5 @@
--- The leaves of an expression over a class of rows, which are all that it looks at in the rows: columns, count(*) and aggregates. An expression
--- over their values, which are its parameters, means what the expression means over the class.
+-- The leaves of an expression over a class of rows, which are all that it looks at in the rows: columns, count(*) and aggregates. An
+-- expression over their values, which are its parameters, means what the expression means over the class.
 use Rattle.std.specs.Prelude.{◌≡◌, ℤ, pos, negsuc, ◌==◌, ◌^◌, ◌-◌, nat_lt, if◌then◌else◌, List, [], ◌++◌, map, length}
 use Rattle.med_value.specs.Datum.{Datum, NoValue, Whole, Tuple}
 use Rattle.tri_expr.specs.declared.expr.Expr.{Expr}

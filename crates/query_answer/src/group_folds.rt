@@ -160,7 +160,8 @@ impl<'a> GroupFold<'a> {
             (classes_so_far self.entry.columns.now rows)) }
         ensures no_fault { IfOk result (λ _. (rows : List Tuple) → Folds rows self.entry
             → (having keys items : List Expr) → IsLifted having keys items self.entry
-            → flat_map (class_told (senses [] having) (senses [] keys) (senses [] items)) (classes_so_far self.entry.columns.now rows) ≡ []) }
+            → flat_map (class_told (senses [] having) (senses [] keys) (senses [] items))
+            (classes_so_far self.entry.columns.now rows) ≡ []) }
         ensures told { (rows : List Tuple) → Folds rows self.entry
             → (having keys items : List Expr) → IsLifted having keys items self.entry
             → TellsFault result (flat_map (class_told (senses [] having) (senses [] keys) (senses [] items))

@@ -1,5 +1,5 @@
-//! The answer of a SELECT whose names were resolved, over the joined rows of its cores, which come one after another and are not kept: WHERE,
-//! groups, DISTINCT, order and limits.
+//! The answer of a SELECT whose names were resolved, over the joined rows of its cores, which come one after another and are not kept:
+//! WHERE, groups, DISTINCT, order and limits.
 #![tactic(auto)]
 
 pub mod answers;

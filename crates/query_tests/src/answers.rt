@@ -1,12 +1,10 @@
 //! Queries over tables with NULL keys, and the rows that they give: by the engine, and as they are defined.
-ghost use Rattle.med_query.specs.Select.{are_safe_cores};
-ghost use Rattle.std.specs.Prelude.{◌≡◌};
 
 use crate::expect::same_text;
-use med_query::{Grouping, JoinChain, Select, SelectCore, SortDirection, is_safe_from};
+use med_query::{Grouping, JoinChain, Select, SelectCore, SortDirection};
 use med_value::{Comparison, Operation, Row, Value, row_text};
 use plain_select::plain_answer;
-use query_answer::{AnswerFault, answer};
+use query_answer::{AnswerFault, Gathering, answer};
 use std::alloc::Global;
 use std::test::Fail;
 use tri_expr::{EvalFault, Expr, SetFunction};
@@ -83,13 +81,6 @@ pub(crate) fn alone(alloc: Global, core: SelectCore) -> Result<Select, Fail> {
     })
 }
 
-/// Whether no ON of a core may fault.
-pub(crate) fn are_safe(cores: &[SelectCore]) -> bool
-    ensures { result ≡ are_safe_cores cores.now }
-{
-    cores.iter().all(|core| is_safe_from(core.from.as_slice()))
-}
-
 // The query of these cores, its rows sorted by one key.
 fn in_order(alloc: Global, cores: Vec<SelectCore>, descending: bool) -> Result<Select, Fail> {
     let direction = SortDirection {
@@ -113,15 +104,31 @@ fn lines(alloc: Global, rows: &[Row]) -> Result<Vec<u8>, Fail> {
     Ok(text)
 }
 
+// The orders, as the rows of a core over them.
+fn gathered(alloc: Global, core: &SelectCore) -> Result<Gathering<'_>, Fail> {
+    let mut gathering = Gathering::new(alloc, core)?;
+    for row in orders(alloc)? {
+        gathering.add(alloc, row);
+    }
+    Ok(gathering)
+}
+
+// The same of each core.
+fn all_gathered(alloc: Global, cores: &[SelectCore]) -> Result<Vec<Gathering<'_>>, Fail> {
+    let mut all = Vec::new(alloc);
+    for core in cores {
+        all.push(gathered(alloc, core)?)?;
+    }
+    Ok(all)
+}
+
 // Fails where the query over the orders gives other rows, or has others as it is defined.
 fn gives(alloc: Global, select: &Select, wanted: &str) -> Result<(), Fail> {
     let tables = vec![in alloc; orders(alloc)?]?;
     let plain = plain_answer(alloc, select, &tables)?;
     same_text("the rows by definition", &lines(alloc, &plain)?, wanted)?;
-    if !are_safe(select.cores.as_slice()) {
-        return Err("a risky ON".into());
-    }
-    let rows = answer(alloc, select, tables)?;
+    let gathered = all_gathered(alloc, select.cores.as_slice())?;
+    let rows = answer(alloc, select, gathered)?;
     same_text("the rows", &lines(alloc, &rows)?, wanted)
 }
 
@@ -205,10 +212,8 @@ fn limit_hides_no_fault_of_a_later_core(rt: HostRuntime) -> Result<(), Fail> {
     if !matches!(plain, Err(EvalFault::ZeroDivisor)) {
         return Err("no fault by definition".into());
     }
-    if !are_safe(query.cores.as_slice()) {
-        return Err("a risky ON".into());
-    }
-    match answer(alloc, &query, tables) {
+    let gathered = all_gathered(alloc, query.cores.as_slice())?;
+    match answer(alloc, &query, gathered) {
         Err(AnswerFault::Evaluation(EvalFault::ZeroDivisor)) => Ok(()),
         _ => Err("no fault".into()),
     }
