@@ -1,5 +1,5 @@
 -- Which faults a core and a query show over tables, that of their size among them.
-use Rattle.std.specs.Prelude.{◌<◌, ◌≤◌, ◌^◌, List, length, flat_map, All, IsSome, Result, Ok, Err}
+use Rattle.std.specs.Prelude.{◌<◌, ◌≤◌, List, length, flat_map, All, IsSome, Result, Ok, Err}
 use Rattle.std.specs.List.{Any}
 use Rattle.med_value.specs.Limits.{group_limit}
 use Rattle.med_query.specs.Query.{Core, Query, Tables, IsTold, core_faults, kept}

@@ -4,14 +4,14 @@ use Rattle.std.specs.List.{list_any}
 use Rattle.std.specs.Hash as fed
 use Rattle.indexmap.specs.IndexSet.{insert_key}
 use Rattle.med_value.specs.Datum.{Datum, NoValue, Whole, Chars, Logic, Tuple, tuple}
-use Rattle.med_query.specs.Query.{Output, key_of}
+use Rattle.med_query.specs.Query.{Output}
 use Rattle.query_answer.specs.declared.row_keys.RowKey.{RowKey}
 use Rattle.query_answer.specs.declared.row_keys.OutputKey.{OutputKey}
 use Rattle.query_answer.specs.Staging.{output_of}
 
--- the values of the row in the columns
+-- the values of a row in the columns that group
 abbrev pub key_in : RowKey → Tuple
-key_in k = key_of k.columns.now (tuple k.row)
+key_in k = tuple k.values
 
 abbrev pub output_in : OutputKey → Output
 output_in k = output_of k.output.now

@@ -8,7 +8,7 @@ ghost use Rattle.query_answer.specs.Running.{ClassesRun, runnings_in};
 
 use crate::leaves::Leaf;
 pub(crate) use crate::new_folds::new_fold;
-use crate::row_keys::RowKey;
+use crate::row_keys::{RowKey, key_row};
 use crate::running::{Running, add_row, all_fresh, values};
 use crate::staging::{Staged, push_staged, staged_class};
 use indexmap::IndexSet;
@@ -25,7 +25,7 @@ pub(crate) struct GroupFold<'a> {
     pub keys: Vec<Expr>,
     pub items: Vec<Expr>,
     pub count: usize,
-    pub seen: IndexSet<RowKey<'a>>,
+    pub seen: IndexSet<RowKey>,
     pub groups: Vec<Vec<Running>>,
     /// Whether each row that came was taken in whole: memory may be refused in the middle of one, and then no further row is taken.
     pub is_whole: bool,
@@ -65,30 +65,28 @@ fn add_group(
 }
 
 // A row goes to the group of its key, or is the first of a new one.
-fn put_row<'a>(
+fn put_row(
     alloc: Global,
-    columns: &'a [usize],
+    columns: &[usize],
     leaves: &[Leaf],
-    row: Row,
-    seen: &mut IndexSet<RowKey<'a>>,
+    row: &Row,
+    seen: &mut IndexSet<RowKey>,
     groups: &mut Vec<Vec<Running>>,
 ) -> Result<(), NoMemory>
     requires kept { KeepsFew columns.now leaves.now (map key_in seen.old.keys) (runnings_in groups.old.items) }
     ensures { IfOk result (λ _. (rows : List Tuple)
         → KeepsGroups columns.now leaves.now (map key_in seen.old.keys) (runnings_in groups.old.items) rows
-        → KeepsGroups columns.now leaves.now (map key_in seen.new.keys) (runnings_in groups.new.items) (rows ++ tuple row ∷ [])) }
+        → KeepsGroups columns.now leaves.now (map key_in seen.new.keys) (runnings_in groups.new.items) (rows ++ tuple row.now ∷ [])) }
 {
     if columns.is_empty() {
-        return add_to(alloc, leaves, 0, &row, groups);
+        return add_to(alloc, leaves, 0, row, groups);
     }
-    let key = RowKey { columns, row };
+    let values = key_row(alloc, columns, row)?;
+    let key = RowKey { values };
     match seen.get_index_of(&key) {
-        Some(number) => {
-            let RowKey { columns: _, row } = key;
-            add_to(alloc, leaves, number, &row, groups)
-        }
+        Some(number) => add_to(alloc, leaves, number, row, groups),
         None => {
-            add_group(alloc, leaves, &key.row, groups)?;
+            add_group(alloc, leaves, row, groups)?;
             seen.insert(key)?;
             Ok(())
         }
@@ -103,9 +101,9 @@ impl<'a> GroupFold<'a> {
     ghost use Rattle.query_answer.specs.Staging.{class_staged, class_told, output_of, outputs_in};
 
     /// One more row, which goes to the group of its key. Refused only for want of memory.
-    pub fn add(&mut self, alloc: Global, row: Row) -> Result<(), NoMemory>
+    pub fn add(&mut self, alloc: Global, row: &Row) -> Result<(), NoMemory>
         requires few { self.old.count < group_limit }
-        ensures folds { IfOk result (λ _. (rows : List Tuple) → Folds rows self.old → Folds (rows ++ tuple row ∷ []) self.new) }
+        ensures folds { IfOk result (λ _. (rows : List Tuple) → Folds rows self.old → Folds (rows ++ tuple row.now ∷ []) self.new) }
         ensures same { SameFold self.old self.new }
     {
         if !self.is_whole {

@@ -108,7 +108,7 @@ fn lines(alloc: Global, rows: &[Row]) -> Result<Vec<u8>, Fail> {
 fn gathered(alloc: Global, core: &SelectCore) -> Result<Gathering<'_>, Fail> {
     let mut gathering = Gathering::new(alloc, core)?;
     for row in orders(alloc)? {
-        gathering.add(alloc, row);
+        gathering.add(alloc, &row);
     }
     Ok(gathering)
 }

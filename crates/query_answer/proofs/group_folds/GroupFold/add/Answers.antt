@@ -18,4 +18,4 @@ invariant_of-self-2 c =
     let f = c.args.self.now in
     let keys = map key_in f.seen.keys in
     let gs = runnings_in f.groups.items in
-    record { kept = λ e. some_more f.columns.now f.leaves.items keys gs f.count (tuple c.args.row) (map key_in c.put_row.new.seen.keys) (runnings_in c.put_row.new.groups.items) c.requires.few (rw c.as_slice.ensures.value at c.in_ok-put_row.ensures) (f.kept c.if-not-self.false) }
+    record { kept = λ e. some_more f.columns.now f.leaves.items keys gs f.count (tuple c.args.row.now) (map key_in c.put_row.new.seen.keys) (runnings_in c.put_row.new.groups.items) c.requires.few (rw c.as_slice.ensures.value at c.in_ok-put_row.ensures) (f.kept c.if-not-self.false) }
