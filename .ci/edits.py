@@ -36,6 +36,8 @@ def type_around(text, head):
     if not around or re.search(r"^\}", text[around[-1].end() : head.start()], re.M):
         return None
     words = re.sub(r"\s+", " ", around[-1][0].partition(" where")[0].rstrip("{ \n"))
+    # (of `Box<dyn Wrapper>` the name is `BoxDynWrapper`)
+    words = re.sub(r"\bBox<dyn (\w+)>", r"BoxDyn\1", words)
     of = re.search(r"(?<=<)[^<>]*(?:<[^<>]*>)?[^<>]*(?=> for )", words)
     while (bare := re.sub(r"<[^<>]*>", "", words)) != words:
         words = bare
