@@ -42,8 +42,9 @@ def type_around(text, head):
     while (bare := re.sub(r"<[^<>]*>", "", words)) != words:
         words = bare
     named = re.fullmatch(r"(?:.*\btrait (\w+)(?::.*)?|impl (?:(?:\w+::)*(\w+) for )?&?(?:mut )?(?:\w+::)*(\w+))", words)
-    # (of `From<AllocError>` the name is `FromAllocError`, and of `impl<T> Source for T` it is `AnySource`)
-    given = re.sub(r"<.*>|\w+::|\W", "", of[0]) if of else ""
+    # (of `From<AllocError>` the name is `FromAllocError`, of `From<low::Fault>` `FromLowFault`, and of `impl<T> Source for T` it is `AnySource`)
+    path = re.sub(r"(\w)(\w*)::", lambda it: it[1].upper() + it[2], re.sub(r"<.*>", "", of[0])) if of else ""
+    given = re.sub(r"\W", "", path)
     is_any = named and named[2] and re.match(rf"(?:unsafe )?impl<[^>]*\b{named[3]}\b", around[-1][0])
     return named and (named[1] or ("Any" if is_any else named[3]) + (named[2] or "") + given)
 
