@@ -149,5 +149,8 @@ def extend(rt, lib):
         finally:
             for it in rt.SEEDS:
                 shutil.rmtree(it, ignore_errors=True)
+    # (a crate's stamp is asked of all that stands below it, along every way down, of which there are very many)
+    stamps, stamp = {}, rt.Crate.stamp
+    rt.Crate.stamp = lambda crate: stamps.get(crate.folder) or stamps.setdefault(crate.folder, stamp(crate))
     rt.must_fail, rt.Crate.ci, rt.crates_of, rt.in_lanes, rt.ci = must_fail, crate_ci, crates_of, in_lanes, ci
     rt.where_disk_lasts = lambda call, *given: call(*given)
