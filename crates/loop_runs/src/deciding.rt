@@ -17,7 +17,7 @@ use tri_expr::law::safe_expression_has_value;
 use tri_expr::{Expr, is_risky, verdict};
 
 // Whether none of the expressions may fault.
-fn are_safe(es: &[Expr]) -> bool
+pub(crate) fn are_safe(es: &[Expr]) -> bool
     ensures { result ≡ all_safe es.now }
 {
     for e in es {
