@@ -1,6 +1,6 @@
 -- Orders of a scan against those that ORDER BY asks for.
-use Rattle.std.proofs.Common.{◌≡◌, ℕ, zero, suc, ◌+◌, ◌<◌, ◌≤◌, Bool, true, false, List, [], ◌∷◌, map, length, drop, get_or, slice_index_or, Option, None, Some, All, Contains, IsTrue, refl, sym, ap, ◌∙◌, subst, arith, add-one}
-use Rattle.std.proofs.lemmas.List.{get_or_default, length-map, length-drop}
+use Rattle.std.proofs.Common.{◌≡◌, ℕ, zero, suc, ◌+◌, ◌<◌, ◌≤◌, List, [], ◌∷◌, map, length, drop, get_or, Option, None, Some, refl, sym, ap, ◌∙◌, subst, arith, add-one}
+use Rattle.std.proofs.lemmas.List.{length-map}
 use Rattle.std.proofs.Math.Seq.{drop-cons}
 use Rattle.tri_expr.specs.declared.expr.Expr.{Expr}
 use Rattle.tri_expr.specs.Tree.{Tree, tree}
@@ -11,7 +11,7 @@ use Rattle.fdw_api.specs.Scan.{KeyForm}
 use Rattle.fdw_api.specs.Wishes.{key_form}
 use Rattle.fdw_api.specs.declared.wishes.OrderKey.{OrderKey}
 use Rattle.loop_answers.specs.Ordered.{key_column, with_key, order_of}
-use Rattle.loop_answers.proofs.InOrder.{HasKey, has_key}
+use Rattle.loop_answers.proofs.InOrder.{has_key}
 
 -- ---- one key after another
 

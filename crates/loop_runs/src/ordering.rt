@@ -3,10 +3,10 @@ ghost use Rattle.std.specs.Prelude.{◌≡◌, ◌↔◌, ◌∷◌, [], true, A
 ghost use Rattle.med_query.specs.Form.{direction_of};
 ghost use Rattle.fdw_api.specs.Wishes.{key_form, spec2_of};
 ghost use Rattle.tri_expr.specs.Tree.{tree};
-ghost use Rattle.loop_answers.specs.Ordered.{key_column as spec_key_column, order_of, IsBare, IsEnough, IsShownCore, ComesInOrder};
+ghost use Rattle.loop_answers.specs.Ordered.{key_column as spec_key_column, order_of, IsBare, IsEnough, ComesInOrder};
 ghost use Rattle.loop_runs.specs.Ordering.{PlanInOrder};
 
-use crate::deciding::are_safe;
+use crate::deciding::is_shown_core;
 use crate::running::LoopPlan;
 use fdw_api::wishes::{OrderKey, ScanSpec2};
 use med_query::{Select, SelectCore, SortDirection};
@@ -89,7 +89,10 @@ fn are_shown(level: &LoopLevel) -> bool
         → All (λ k. Contains level.now.spec.base.wanted.items k.column) (spec2_of level.now.spec).order) }
 {
     if level.spec.base.agreement.narrow && level.spec.ordered {
-        are_wanted(level.spec.wish.order.as_slice(), level.spec.base.wanted.as_slice())
+        are_wanted(
+            level.spec.wish.order.as_slice(),
+            level.spec.base.wanted.as_slice(),
+        )
     } else {
         true
     }
@@ -126,16 +129,6 @@ fn has_all(select: &Select, level: &LoopLevel) -> bool
     is_bare(level) && is_enough(select, level.spec.wish.limit)
 }
 
-// Whether a core's rows can be shown as they come.
-fn is_shown_core(core: &SelectCore) -> bool
-    ensures { IsTrue result ↔ IsShownCore core.now }
-{
-    are_safe(core.conditions.as_slice())
-        && core.grouping.is_none()
-        && are_safe(core.items.as_slice())
-        && !core.distinct
-}
-
 // Whether the rows of the one core over this level come in the order that the query asks for.
 fn stand_in_order(select: &Select, core: &SelectCore, level: &LoopLevel) -> bool
     requires { select.now.cores.items ≡ core.now ∷ [] }
@@ -143,7 +136,11 @@ fn stand_in_order(select: &Select, core: &SelectCore, level: &LoopLevel) -> bool
 {
     is_shown_core(core)
         && !level.outer
-        && is_promised(select.directions.as_slice(), core.keys.as_slice(), &level.spec)
+        && is_promised(
+            select.directions.as_slice(),
+            core.keys.as_slice(),
+            &level.spec,
+        )
         && are_shown(level)
         && has_all(select, level)
 }

@@ -1,8 +1,8 @@
-use Rattle.std.proofs.Common.{◌≡◌, ◌≤◌, inl, inr, false, true, IsTrue, length, slice_index_or, refl, sym, subst, arith}
+use Rattle.std.proofs.Common.{◌≤◌, inl, inr, false, IsTrue, length, slice_index_or, refl, sym, subst, arith}
 use Rattle.std.proofs.lemmas.List.{get_or_default}
 use Rattle.med_query.specs.declared.select.SortDirection.{SortDirection}
 use Rattle.fdw_api.specs.declared.wishes.OrderKey.{OrderKey}
-use Rattle.loop_runs.proofs.Orders.{IsOrder, IsKey, FromHere, all_from_here, as_long, key_agrees, from_next, all_agree}
+use Rattle.loop_runs.proofs.Orders.{IsKey, all_from_here, as_long, key_agrees, from_next, all_agree}
 use Rattle.loop_runs.proofs.ordering.is_order.Goals as goal
 
 pub loop-at-init : goal.loop-at-init
