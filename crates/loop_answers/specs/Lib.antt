@@ -3,3 +3,4 @@ pub mod Entries
 pub mod Gathered
 pub mod Streamed
 pub mod Planned
+pub mod Ordered
