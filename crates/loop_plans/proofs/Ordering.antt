@@ -1,10 +1,8 @@
 -- Where a limit is promised, the rows of a query's only level come in the order that ORDER BY asks for.
-use Rattle.std.proofs.Common.{◌≡◌, ◌≢◌, ℕ, zero, suc, ◌+◌, ◌-◌, ◌^◌, ◌<◌, ◌≤◌, ◌⊎◌, inl, inr, Bool, true, false, not, ◌&&◌, ◌||◌, cond, eqb, nat_eq, nat_lt, min, List, [], ◌∷◌, ◌++◌, map, length, All, Contains, sum, Option, Some, None, is_some, refl, sym, ap, ◌∙◌, subst, arith}
+use Rattle.std.proofs.Common.{◌≡◌, ◌≢◌, ℕ, zero, suc, ◌+◌, ◌^◌, ◌<◌, ◌≤◌, ◌⊎◌, inl, inr, Bool, true, false, not, ◌&&◌, ◌||◌, cond, eqb, nat_eq, nat_lt, min, List, [], ◌∷◌, map, length, All, Contains, sum, Option, Some, None, is_some, refl, sym, ap, ◌∙◌, subst, arith}
 use Rattle.std.specs.List.{filter, list_all, list_any, range_with_len}
 use Rattle.std.specs.Option.{is_some as some_there}
 use Rattle.std.proofs.lemmas.Bool.Decides.{eqb_tells}
-use Rattle.std.proofs.lemmas.List.Elements.{All-head, All-tail}
-use Rattle.tri_expr.specs.declared.expr.Expr.{Expr}
 use Rattle.tri_expr.specs.Tree.{Tree, column, parenthesised, tree}
 use Rattle.med_query.specs.Query.{Direction}
 use Rattle.med_query.specs.Form.{ChainForm, CoreForm, direction_of, core_form}
@@ -12,25 +10,25 @@ use Rattle.med_query.specs.declared.select.SelectCore.{SelectCore}
 use Rattle.med_query.specs.declared.select.Grouping.{Grouping}
 use Rattle.med_query.specs.declared.select.Select.{Select}
 use Rattle.med_binder.specs.declared.bound.BoundEntry.{BoundEntry}
-use Rattle.med_binder.specs.Within.{IsWithin, CoreWithin}
-use Rattle.fdw_api.specs.Scan.{KeyForm, RestrictionForm}
+use Rattle.med_binder.specs.Within.{IsWithin}
+use Rattle.fdw_api.specs.Scan.{KeyForm}
 use Rattle.fdw_api.specs.Wishes.{WishForm, wish_form, spec2_of, all_exact, has_no_order, is_fair}
 use Rattle.fdw_api.specs.State.{BoxState}
 use Rattle.fdw_api.specs.declared.scan.Agree.{Agree}
 use Rattle.fdw_api.specs.declared.scan.Agree.TheVariants.{Ignored, Hint, Exact}
 use Rattle.fdw_api.specs.declared.wishes.Agreement2.{Agreement2}
 use Rattle.nested_loops.specs.Joins.{Each}
-use Rattle.read_columns.specs.Columns.{columns_in, columns_in_all}
+use Rattle.read_columns.specs.Columns.{columns_in}
 use Rattle.scan_offers.specs.Tests.{TestOf}
 use Rattle.scan_offers.specs.Offers.{next_by, tests_of, forms_from, again_by}
 use Rattle.scan_loops.specs.declared.levels.LoopLevel.{LoopLevel}
-use Rattle.loop_answers.specs.Ordered.{key_column, with_key, order_of, IsShownCore, IsEnough, IsBare, ComesInOrder}
+use Rattle.loop_answers.specs.Ordered.{key_column, with_key, order_of, IsShownCore, IsEnough, ComesInOrder}
 use Rattle.loop_answers.specs.Streamed.{all_safe}
 use Rattle.loop_plans.specs.Places.{further}
 use Rattle.loop_plans.specs.Flat.{Part, end_after, from_parts}
-use Rattle.loop_plans.specs.Offered.{OfferForm, decided, undecided, wanted_of, offer_of, offers_from, columns_of, core_conditions, core_reads, core_offers, IsLevelOf, AreLevels}
+use Rattle.loop_plans.specs.Offered.{OfferForm, decided, wanted_of, offer_of, offers_from, core_conditions, core_reads, IsLevelOf, AreLevels}
 use Rattle.loop_plans.specs.Wished.{no_wish, is_shown_core, rows_enough, all_offered, wish_by, core_wish, wish_for, wish_of, IsUnlimited, ComesAlone}
-use Rattle.loop_plans.specs.Premises.{widths_in, HasPlaces, IsAllowed, AreAllowed, WishedComeInOrder, UnwishedAreUnlimited}
+use Rattle.loop_plans.specs.Premises.{widths_in, IsAllowed, AreAllowed, WishedComeInOrder, UnwishedAreUnlimited}
 use Rattle.loop_plans.proofs.Counting.{most, from_end}
 use Rattle.loop_plans.proofs.Matching.{all_each}
 use Rattle.loop_plans.proofs.Pulling.{and_left, and_right}

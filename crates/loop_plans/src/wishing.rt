@@ -151,11 +151,7 @@ fn core_wish(
 /// Refused only for want of memory.
 ///
 /// PostgreSQL: Writing a Foreign Data Wrapper, `GetForeignPaths`.
-pub fn wish_of(
-    alloc: Global,
-    select: &Select,
-    offers: &[Vec<LoopOffer>],
-) -> Result<Wish, NoMemory>
+pub fn wish_of(alloc: Global, select: &Select, offers: &[Vec<LoopOffer>]) -> Result<Wish, NoMemory>
     ensures { IfOk result (λ w. wish_form w ≡ spec_wish_of select.now (map (λ os. map offer_form os.items) offers.now)) }
 {
     match (select.cores.as_slice(), offers) {
