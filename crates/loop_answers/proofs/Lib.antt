@@ -4,4 +4,4 @@ mod Splits
 mod Streams
 mod Started
 mod Lasting
-mod InOrder
+pub mod InOrder

@@ -3,6 +3,7 @@ mod Rounds
 mod Closing
 mod Adding
 mod Cores
+mod Orders
 mod Coming
 mod Decided
 pub mod Counts

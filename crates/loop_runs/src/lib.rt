@@ -8,6 +8,7 @@
 mod deciding;
 mod gathering;
 mod leaving;
+mod ordering;
 pub mod running;
 
 pub use running::{LoopPlan, run_plan};
