@@ -19,7 +19,9 @@ use fdw_api::interface::Fault;
 use fdw_api::wishes::Wrapper2;
 use loop_plans::law::{
     bound_cores_are_in_view, bound_levels_can_start, bound_rows_are_wide, plans_are_loop_plans,
+    wished_rows_come_in_order,
 };
+use loop_plans::wish_of;
 use loop_runs::{LoopPlan, run_plan};
 use med_binder::BoundQuery;
 use med_value::Row;
@@ -40,14 +42,18 @@ fn planned<W: Wrapper2>(
     bound_rows_are_wide();
     bound_levels_can_start();
     plans_are_loop_plans();
+    wished_rows_come_in_order();
     let Ok(offers) = offer_query(alloc, &bound) else {
         return Err(Fault::NoMemory);
     };
-    let answers = match agree_query(slots, alloc, offers.as_slice()) {
+    let Ok(wish) = wish_of(alloc, &bound.select, offers.as_slice()) else {
+        return Err(Fault::NoMemory);
+    };
+    let answers = match agree_query(slots, alloc, &wish, offers.as_slice()) {
         Ok(answers) => answers,
         Err(fault) => return Err(fault),
     };
-    let Ok(loops) = accept_query(alloc, offers, answers) else {
+    let Ok(loops) = accept_query(alloc, &wish, offers, answers) else {
         return Err(Fault::NoMemory);
     };
     let BoundQuery { select, .. } = bound;
