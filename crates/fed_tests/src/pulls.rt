@@ -73,10 +73,27 @@ const LIMITED: &str = "\
 1 1 | SELECT id FROM parts LIMIT 1
 1 2 | SELECT id FROM parts LIMIT 1 OFFSET 1
 1 0 | SELECT id FROM parts LIMIT 0
-1 3 | SELECT id FROM parts ORDER BY id LIMIT 1
+1 3 | SELECT id FROM parts ORDER BY qty + 1 LIMIT 1
+1 3 | SELECT DISTINCT id FROM parts ORDER BY id LIMIT 1
+1 3 | SELECT qty FROM parts GROUP BY qty ORDER BY qty LIMIT 1
 ";
 
 #[test]
 fn limit_ends_a_scan_whose_rows_are_not_sorted(rt: HostRuntime) -> Result<(), Fail> {
     each_pulls(rt.alloc(), LIMITED)
+}
+
+// A list gives its rows in the order that is wished.
+const ORDERED: &str = "\
+1 1 | SELECT id FROM parts ORDER BY id LIMIT 1
+1 3 | SELECT id FROM parts ORDER BY qty DESC, id LIMIT 1 OFFSET 2
+1 0 | SELECT id FROM parts ORDER BY id LIMIT 0
+1 3 | SELECT id FROM parts ORDER BY id DESC
+1 1 | SELECT id FROM parts WHERE qty IS NOT NULL ORDER BY (name) NULLS FIRST LIMIT 1
+1 2 | SELECT id FROM parts WHERE id = 2 OR id = 3 ORDER BY id LIMIT 1
+";
+
+#[test]
+fn limit_ends_a_scan_that_is_sorted(rt: HostRuntime) -> Result<(), Fail> {
+    each_pulls(rt.alloc(), ORDERED)
 }

@@ -1,6 +1,7 @@
 //! Texts bound over the tables parts, orders and "Odd", and what is told of them.
 use crate::expect::{cut, same_text};
-use loop_plans::{LoopOffer, offer_core};
+use fdw_api::wishes::OrderKey;
+use loop_plans::{LoopOffer, offer_core, wish_of};
 use med_binder::{AttachedTable, BoundQuery, bind};
 use med_parser::{Command, parse};
 use med_query::SelectCore;
@@ -109,6 +110,8 @@ pub enum Told {
     Groups,
     /// Of each entry the columns that are read, and what its scan is offered.
     Offers,
+    /// The order that is wished of its scan's rows, and how many of them are enough.
+    Wish,
 }
 
 fn tell(alloc: Global, told: Told, bound: &BoundQuery) -> Result<String, Fail> {
@@ -122,6 +125,7 @@ fn tell(alloc: Global, told: Told, bound: &BoundQuery) -> Result<String, Fail> {
         Told::Column => first_column(alloc, bound),
         Told::Groups => groups(alloc, bound),
         Told::Offers => offers(alloc, bound),
+        Told::Wish => wish(alloc, bound),
     }
 }
 
@@ -243,5 +247,24 @@ fn offers(alloc: Global, bound: &BoundQuery) -> Result<String, Fail> {
         }
         line.push_str(offer_text(alloc, offer)?.as_str())?;
     }
+    Ok(line)
+}
+
+// A key as ORDER BY writes it, by its column's place.
+fn key_text(alloc: Global, key: &OrderKey) -> Result<String, Fail> {
+    let direction = if key.desc { "DESC" } else { "ASC" };
+    let nulls = if key.nulls_first { "FIRST" } else { "LAST" };
+    Ok(format!(in alloc; "{} {direction} NULLS {nulls}, ", key.column)?)
+}
+
+fn wish(alloc: Global, bound: &BoundQuery) -> Result<String, Fail> {
+    let offers = offer_core(alloc, only_core(bound)?, bound.entries.as_slice())?;
+    let wish = wish_of(alloc, &bound.select, (vec![in alloc; offers]?).as_slice())?;
+    let mut line = "".to_string(alloc)?;
+    for key in &wish.order {
+        line.push_str(key_text(alloc, key)?.as_str())?;
+    }
+    let limit = format!(in alloc; "{:?}", wish.limit)?;
+    line.push_str(limit.as_str())?;
     Ok(line)
 }
