@@ -42,6 +42,7 @@ use Rattle.loop_runs.specs.Ordering.{IsUnlimited, PlanInOrder}
 use Rattle.loop_runs.specs.Running.{CanRun, IsPlanned, ArePlanned, IsPlanOver}
 use Rattle.loop_runs.specs.declared.running.LoopPlan.{LoopPlan}
 use Rattle.bound_runs.specs.Offers.{cores_offers, query_offers, query_wish, IsOffered, AllAllowed, AllLevels}
+use Rattle.bound_runs.specs.Pulling.{AreAgreed}
 use Rattle.bound_runs.specs.Running.{IsReady, IsPlanFor}
 use Rattle.bound_runs.proofs.Counts.{all_scans}
 use Rattle.bound_runs.proofs.Reading.{each_on, numbers_below, joined_over}
@@ -246,10 +247,17 @@ in_order plan s same (inr (c, l, levels, comes)) = inr (record { core = c; level
 
 pub plan_for : (boxes : List (Option BoxState)) (bound : BoundQuery) (plan : LoopPlan) (w : WishForm) (answers : List (List Agreement2)) → CountedIsInView → CountedIsWide → PlansCanStart → PlansAreLoopPlans → WishedComeInOrder → UnwishedAreUnlimited → IsReady boxes bound → HasPlaces bound.entries.items
     → plan.select ≡ bound.select → w ≡ query_wish bound → AllAllowed boxes w (query_offers bound) answers → AllLevels w (query_offers bound) answers (levels_in plan.loops.items) → IsPlanFor boxes bound plan
-plan_for boxes bound plan w answers in_view counted_wide can_start are_plans wished unwished ready places same is_wish allowed levels = record { query = same; run = run; scans = λ slot. all_scans slot bound.entries.items bound.select.cores.items w answers (levels_in plan.loops.items) ready.counts levels; over = over }
+plan_for boxes bound plan w answers in_view counted_wide can_start are_plans wished unwished ready places same is_wish allowed levels = record { query = same; run = run; scans = λ slot. all_scans slot bound.entries.items bound.select.cores.items w answers (levels_in plan.loops.items) ready.counts levels; agreed = agreed; over = over }
   where
     known : Known boxes bound.entries.items ready.kinds
     known = record { in_view = in_view; counted_wide = counted_wide; can_start = can_start; are_plans = are_plans; wished = wished; unwished = unwished; typed = ready.typed; places = places; wide = ready.wide }
+
+    agreed : AreAgreed boxes bound (levels_in plan.loops.items)
+    agreed = record {
+      answers = answers;
+      allowed = subst (λ (v : WishForm). AllAllowed boxes v (query_offers bound) answers) is_wish allowed;
+      levels = subst (λ (v : WishForm). AllLevels v (query_offers bound) answers (levels_in plan.loops.items)) is_wish levels;
+    }
 
     cores : plan.select.cores.items ≡ bound.select.cores.items
     cores = ap (λ (s : _). s.cores.items) same

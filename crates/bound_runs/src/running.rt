@@ -9,6 +9,7 @@ ghost use Rattle.med_exec.specs.Running.{AllServed, Stops};
 ghost use Rattle.scan_loops.specs.Slots.{states};
 ghost use Rattle.loop_plans.specs.Premises.{HasPlaces};
 ghost use Rattle.bound_runs.specs.Counting.{scans_of, BeginsAtMost};
+ghost use Rattle.bound_runs.specs.Pulling.{PullsRows};
 ghost use Rattle.bound_runs.specs.Running.{IsReady, IsPlanFor, RunAnswers};
 
 use crate::accepting::accept_query;
@@ -60,8 +61,10 @@ fn planned<W: Wrapper2>(
     Ok(LoopPlan { loops, select })
 }
 
-/// Answers a bound query from the boxes of its entries, by loops over their scans, whatever these take over of its conditions. For each
-/// entry of each core one scan is begun, and no other; where the run stops, no more than these. None is live afterwards.
+/// Answers a bound query from the boxes of its entries, by loops over their scans, whatever these take over of its conditions, and of the
+/// order and the limit that are wished of them. For each entry of each core one scan is begun, and no other; where the run stops, no more
+/// than these. None is live afterwards. Where the boxes agreed to a scan whose rows are shown as they come, LIMIT bounds how many are asked
+/// for, also where the run stops.
 ///
 /// # Errors
 ///
@@ -83,6 +86,7 @@ pub fn run_bound<W: Wrapper2>(
         (states W.meaning slots.new.items)) }
     ensures at_most { IfErr result (λ _. BeginsAtMost (scans_of bound) (states W.meaning slots.old.items)
         (states W.meaning slots.new.items)) }
+    ensures pulls { PullsRows bound (states W.meaning slots.old.items) (states W.meaning slots.new.items) }
 {
     if !has_places(bound.entries.as_slice()) {
         return Err(Fault::NoMemory);
