@@ -8,3 +8,4 @@ mod Coming
 mod Decided
 pub mod Counts
 mod Answering
+mod Pulls
