@@ -6,7 +6,7 @@ ghost use Rattle.query_answer.specs.Ordering.{HaveSamePage, StandsIn};
 ghost use Rattle.query_answer.specs.Staging.{faults_by, output_of, outputs_by};
 
 use crate::ordering::{FEW, first_in_order, rows_wanted};
-use crate::staging::{Staged, add_output};
+use crate::staging::{Staged, push_staged, staged_row};
 use med_query::{Select, SelectCore};
 use med_value::law::key_order_is_total;
 use med_value::{NoMemory, Row};
@@ -56,8 +56,8 @@ impl<'a> Waiting<'a> {
         ensures no_fault { IfOk result (λ _. faults_by core.now (tuple row.now) ≡ []) }
         ensures told { TellsFault result (faults_by core.now (tuple row.now)) }
     {
-        match add_output(alloc, core, row, &mut self.held) {
-            Ok(()) => {}
+        match staged_row(alloc, core, row) {
+            Ok(staged) => push_staged(staged, &mut self.held)?,
             Err(fault) => return Err(fault),
         }
         if self.held.len() < MANY {
