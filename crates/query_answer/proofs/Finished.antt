@@ -4,7 +4,7 @@ use Rattle.std.specs.List.{Any}
 use Rattle.std.proofs.lemmas.List.{drop-map, take-map, map-append}
 use Rattle.std.proofs.lemmas.List.Elements.{All-append, All-cons}
 use Rattle.std.proofs.lemmas.Grind.{flat_map-append}
-use Rattle.std.proofs.lemmas.List.Sorted.{IsPermutation-trans, IsPermutation-map, IsPermutation-append}
+use Rattle.std.proofs.lemmas.List.Sorted.{IsPermutation-trans, IsPermutation-map}
 use Rattle.std.specs.Ordering.{on}
 use Rattle.med_value.specs.Datum.{Tuple, tuple}
 use Rattle.med_query.specs.Lists.{distinct}
@@ -19,11 +19,14 @@ use Rattle.med_query.specs.declared.select.SelectCore.{SelectCore}
 use Rattle.med_query.specs.declared.select.Select.{Select}
 use Rattle.med_query.specs.Form.{core_form, core_by, direction_of}
 use Rattle.med_query.specs.Select.{core_of, query_of}
-use Rattle.query_answer.specs.Staging.{output_of, Gives, AllGive}
-use Rattle.query_answer.specs.Ordering.{staged_cmp, LeadsIn}
+use Rattle.query_answer.specs.Giving.{Gives, AllGive}
+use Rattle.query_answer.specs.Staging.{output_of}
+use Rattle.query_answer.specs.Ordering.{staged_cmp, output_cmp, LeadsIn, StandsIn}
 use Rattle.query_answer.specs.Finishing.{Finishes, made_unique}
 use Rattle.med_query.proofs.Telling.{tells_more, contains_seen}
 use Rattle.query_answer.proofs.Groups.{sorted_map}
+use Rattle.query_answer.proofs.Leading.{leads_all}
+use Rattle.query_answer.proofs.Standing.{stands_same, stands_both}
 
 shown_of : (xs : List Staged) → map (λ (o : Output). o.1) (map output_of xs) ≡ map (λ (s : Staged). tuple s.shown) xs
 shown_of [] = refl
@@ -47,16 +50,16 @@ unique_same : ((os us : List Output) → IsPermutation os us → IsPermutation (
 unique_same law true os us p = law os us p
 unique_same law false os us p = p
 
-pub gives : ((os us : List Output) → IsPermutation os us → IsPermutation (distinct output_eq os) (distinct output_eq us)) → (c : Core) (db : Tables) (staged outs : List Output) → core_faults c db ≡ [] → IsPermutation (outputs_all c db) staged → IsPermutation (made_unique c.distinct staged) outs → Gives c db outs
-gives law c db staged outs quiet same unique = record {
+pub gives : (select : Select) → ((os us : List Output) → IsPermutation os us → IsPermutation (distinct output_eq os) (distinct output_eq us)) → (c : Core) (db : Tables) (staged outs : List Output) → core_faults c db ≡ [] → IsPermutation (outputs_all c db) staged → IsPermutation (made_unique c.distinct staged) outs → Gives select c db outs
+gives select law c db staged outs quiet same unique = record {
   no_fault = quiet;
-  same = IsPermutation-trans (made_unique c.distinct (outputs_all c db)) (made_unique c.distinct staged) outs (unique_same law c.distinct (outputs_all c db) staged same) unique;
+  stands = stands_same (output_cmp select.directions.items) select.offset select.limit (core_outputs c db) outs (IsPermutation-trans (made_unique c.distinct (outputs_all c db)) (made_unique c.distinct staged) outs (unique_same law c.distinct (outputs_all c db) staged same) unique);
 }
 
 -- one core more
-pub joined_gives : (all cs : List Core) (c : Core) (db : Tables) (before after more : List Staged) → all ≡ cs ++ c ∷ [] → after ≡ before ++ more
-    → AllGive cs db (map output_of before) → Gives c db (map output_of more) → AllGive all db (map output_of after)
-joined_gives all cs c db before after more next joined given one =
+pub joined_gives : (select : Select) (all cs : List Core) (c : Core) (db : Tables) (before after more : List Staged) → all ≡ cs ++ c ∷ [] → after ≡ before ++ more
+    → AllGive select cs db (map output_of before) → Gives select c db (map output_of more) → AllGive select all db (map output_of after)
+joined_gives select all cs c db before after more next joined given one =
     let outs : map output_of after ≡ map output_of before ++ map output_of more = ap (map output_of) joined ∙ map-append output_of before more in
     let shown : flat_map (λ (c : Core). core_outputs c db) (cs ++ c ∷ []) ≡ flat_map (λ (c : Core). core_outputs c db) cs ++ core_outputs c db =
     flat_map-append (λ (c : Core). core_outputs c db) cs (c ∷ []) ∙ ap (λ (l : List Output). flat_map (λ (c : Core). core_outputs c db) cs ++ l) (append-nil (core_outputs c db)) in
@@ -64,10 +67,10 @@ joined_gives all cs c db before after more next joined given one =
     flat_map-append (λ (c : Core). core_faults c db) cs (c ∷ []) ∙ ap (λ (l : List Fault). flat_map (λ (c : Core). core_faults c db) cs ++ l) (append-nil (core_faults c db)) in
     record {
       no_fault = ap (flat_map (λ (c : Core). core_faults c db)) next ∙ told ∙ ap (λ (l : List Fault). l ++ core_faults c db) given.no_fault ∙ one.no_fault;
-      same = subst (λ (l : List Core). IsPermutation (flat_map (λ c. core_outputs c db) l) (map output_of after)) (sym next)
-          (subst (λ (l : List Output). IsPermutation l (map output_of after)) (sym shown)
-          (subst (λ (l : List Output). IsPermutation (flat_map (λ (c : Core). core_outputs c db) cs ++ core_outputs c db) l) (sym outs)
-          (IsPermutation-append (flat_map (λ (c : Core). core_outputs c db) cs) (map output_of before) (core_outputs c db) (map output_of more) given.same one.same)));
+      stands = subst (λ (l : List Core). StandsIn select (flat_map (λ c. core_outputs c db) l) (map output_of after)) (sym next)
+          (subst (λ (l : List Output). StandsIn select l (map output_of after)) (sym shown)
+          (subst (λ (l : List Output). StandsIn select (flat_map (λ (c : Core). core_outputs c db) cs ++ core_outputs c db) l) (sym outs)
+          (stands_both (output_cmp select.directions.items) select.offset select.limit (flat_map (λ (c : Core). core_outputs c db) cs) (core_outputs c db) (map output_of before) (map output_of more) given.stands one.stands)));
     }
 
 pub joined_small : (all cs : List Core) (c : Core) (db : Tables) → all ≡ cs ++ c ∷ [] → AreSmall cs db → IsSmall c db → AreSmall all db
@@ -92,17 +95,35 @@ cores_are : (cores : List SelectCore) → map core_of cores ≡ map core_by (map
 cores_are [] = refl
 cores_are (c ∷ cs) = ap (λ (l : List Core). core_of c ∷ l) (cores_are cs)
 
+-- what OFFSET and LIMIT leave of the outputs that stand for all
+all_finished : (select : Select) (all outs : List Output) (rows : List Tuple) → StandsIn select all outs → Finishes (map direction_of select.directions.items) select.offset select.limit outs rows → Finishes (map direction_of select.directions.items) select.offset select.limit all rows
+all_finished select all outs rows s f =
+    let cmp = output_cmp select.directions.items in
+    let offset = select.offset in
+    let limit = select.limit in
+    let show : Output → Tuple = λ o. o.1 in
+    let held : LeadsIn cmp offset limit (outs ++ []) f.ordered = leads_all cmp offset limit (outs ++ []) f.ordered (rw append-nil f.same) f.sorted in
+    let found : LeadsIn cmp offset limit all f.ordered = subst (λ l. LeadsIn cmp offset limit l f.ordered) (append-nil all) (s [] f.ordered held) in
+    let page : (os : List Output) → limited limit (drop offset (map show os)) ≡ map show (limited limit (drop offset os)) = λ os. ap (limited limit) (drop-map show offset os) ∙ limited-map show limit (drop offset os) in
+    record {
+      ordered = found.ordered;
+      same = found.same;
+      sorted = found.sorted;
+      shown = f.shown ∙ page f.ordered ∙ ap (map show) found.shown ∙ sym (page found.ordered);
+    }
+
 pub answered : (select : Select) (db : Tables) (ds : List SortDirection) (outs : List Output) (rows : List Tuple) → ds ≡ select.directions.items
-    → AllGive (map core_of select.cores.items) db outs → Finishes (map direction_of ds) select.offset select.limit outs rows → IsAnswer (query_of select) db rows
+    → AllGive select (map core_of select.cores.items) db outs → Finishes (map direction_of ds) select.offset select.limit outs rows → IsAnswer (query_of select) db rows
 answered select db ds outs rows b g f =
-    let all : AllGive (query_of select).cores db outs = subst (λ (l : List Core). AllGive l db outs) (cores_are select.cores.items) g in
+    let all : AllGive select (query_of select).cores db outs = subst (λ (l : List Core). AllGive select l db outs) (cores_are select.cores.items) g in
     let done : Finishes (map direction_of select.directions.items) select.offset select.limit outs rows = subst (λ (l : List SortDirection). Finishes (map direction_of l) select.offset select.limit outs rows) b f in
+    let whole : Finishes (map direction_of select.directions.items) select.offset select.limit (outputs (query_of select) db) rows = all_finished select (outputs (query_of select) db) outs rows all.stands done in
     record {
       no_fault = all.no_fault;
-      ordered = done.ordered;
-      same = IsPermutation-trans (outputs (query_of select) db) outs done.ordered all.same done.same;
-      sorted = done.sorted;
-      shown = done.shown;
+      ordered = whole.ordered;
+      same = whole.same;
+      sorted = whole.sorted;
+      shown = whole.shown;
     }
 
 pub all_small : (select : Select) (db : Tables) → AreSmall (map core_of select.cores.items) db → AreSmall (query_of select).cores db

@@ -1,9 +1,9 @@
 -- Groups and distinct outputs, from the numbers of their keys.
-use Rattle.std.proofs.Common.{◌≡◌, ◌<◌, ◌≤◌, ◌+◌, ◌==◌, ℕ, zero, suc, Bool, true, false, not, if◌then◌else◌, List, [], ◌∷◌, ◌++◌, map, set, get_or, drop, length, refl, sym, ap, ◌∙◌, subst, arith, append_assoc, append-nil, IsPermutation, IsSorted}
+use Rattle.std.proofs.Common.{◌≡◌, ◌<◌, ◌≤◌, ◌+◌, ◌==◌, ℕ, zero, suc, Bool, true, false, List, [], ◌∷◌, ◌++◌, map, set, get_or, drop, length, refl, sym, ap, ◌∙◌, arith, append_assoc, IsSorted}
 use Rattle.std.proofs.lemmas.List.{length-map, get_or-map, map-set, map-append, drop_more}
 use Rattle.std.proofs.lemmas.List.Sorted.{IsPermutation-refl}
 use borrow.Author.Tests.{eqb-true}
-use Rattle.std.specs.List.{list_any, position_or_len}
+use Rattle.std.specs.List.{position_or_len}
 use Rattle.std.specs.declared.cmp.Ordering.{Ordering}
 use Rattle.indexmap.specs.IndexSet.{insert_key}
 use Rattle.med_value.specs.Datum.{Tuple}
@@ -11,8 +11,8 @@ use Rattle.med_query.specs.Lists.{distinct, tuple_eq}
 use Rattle.med_query.specs.Query.{Output, output_eq, key_of}
 use Rattle.med_query.proofs.AnyOrder.{tuple_eq_only, tuple_eq_self, output_eq_only, output_eq_self}
 use Rattle.query_answer.specs.Grouping.{AreGroups}
-use Rattle.query_answer.specs.Keys.{number_in, numbers_after, news_after, put_at, gathered, marked}
-use Rattle.query_answer.proofs.KeyNumbers.{inserted_seen, number_seen, any_seen, all_news, all_gathered}
+use Rattle.query_answer.specs.Keys.{keys_after, number_in, numbers_after, put_at, gathered}
+use Rattle.query_answer.proofs.KeyNumbers.{inserted_seen, number_seen, all_keys, all_gathered}
 
 pub nothing_more : {X : Type 0} (l : List X) → length l ≡ 0 → l ≡ []
 nothing_more [] h = refl
@@ -40,9 +40,9 @@ map_groups (at ∷ ats) rows numbers gs e n h = record {
   are = h ∙ ap (λ l. gathered [] l rows) n ∙ all_gathered tuple_eq tuple_eq_only tuple_eq_self (key_of (at ∷ ats)) rows;
 }
 
--- one of each of the outputs
-pub made_distinct : (outs out : List Output) (news : List Bool) → news ≡ news_after output_eq [] outs → out ≡ marked news outs → IsPermutation (distinct output_eq outs) out
-made_distinct outs out news n h = subst (λ l. IsPermutation l out) (h ∙ ap (λ l. marked l outs) n ∙ all_news output_eq output_eq_only output_eq_self outs) (IsPermutation-refl out)
+-- outputs each once
+pub outputs_once : (outs : List Output) → keys_after output_eq [] outs ≡ distinct output_eq outs
+outputs_once outs = all_keys output_eq output_eq_only output_eq_self outs
 
 -- a row goes to those of its number, or is the first of a new group
 pub put_in : {X : Type 0} (gs : List (List X)) (i : ℕ) (x : X) → i < length gs → put_at gs i x ≡ set gs i (get_or gs i [] ++ x ∷ [])
@@ -69,31 +69,6 @@ put_behind view gs grown i new x le e g =
 pub gathered_all : {X : Type 0} (gs : List (List X)) (numbers : List ℕ) → gathered gs numbers [] ≡ gs
 gathered_all gs [] = refl
 gathered_all gs (i ∷ is) = refl
-
--- one output more, which is marked or not
-pub marked_more : {X : Type 0} (out grown whole : List X) (mark : Bool) (later : List Bool) (x : X) (xs : List X) → grown ≡ out ++ (if mark then x ∷ [] else []) → out ++ marked (mark ∷ later) (x ∷ xs) ≡ whole → grown ++ marked later xs ≡ whole
-marked_more out grown whole true later x xs g h = ap (λ l. l ++ marked later xs) g ∙ append_assoc out (x ∷ []) (marked later xs) ∙ h
-marked_more out grown whole false later x xs g h = ap (λ l. l ++ marked later xs) (g ∙ append-nil out) ∙ h
-
-pub marked_all : {X : Type 0} (marks : List Bool) → marked {X = X} marks [] ≡ []
-marked_all [] = refl
-marked_all (b ∷ bs) = refl
-
--- one output more, which is new or not
-module _ {R K X : Type 0} (view : R → K) (f : X → K) (eq : K → K → Bool) where
-  news_step : (keys new : List X) (x : X) (k : K) (b : Bool) (rest : List K) → f x ≡ k → b ≡ not (list_any (λ y. eq (f x) (f y)) keys) → new ≡ insert_key (λ a b. eq (f a) (f b)) keys x → b ∷ news_after eq (map f new) rest ≡ news_after eq (map f keys) (k ∷ rest)
-  news_step keys new x k b rest e p is =
-      ap (λ m. m ∷ news_after eq (map f new) rest) (p ∙ ap not (any_seen f (eq (f x)) keys))
-      ∙ ap (λ l. not (list_any (eq (f x)) (map f keys)) ∷ news_after eq l rest) (ap (map f) is ∙ inserted_seen f eq keys x)
-      ∙ ap (λ w. news_after eq (map f keys) (w ∷ rest)) e
-
-  pub news_more : (rows : List R) (i : ℕ) (row : R) (keys new : List X) (x : X) (out grown whole : List Bool) (b : Bool) → i < length rows → row ≡ get_or rows i row → f x ≡ view row → b ≡ not (list_any (λ y. eq (f x) (f y)) keys) → new ≡ insert_key (λ a b. eq (f a) (f b)) keys x → grown ≡ out ++ b ∷ []
-      → out ++ news_after eq (map f keys) (map view (drop i rows)) ≡ whole → grown ++ news_after eq (map f new) (map view (drop (i + 1) rows)) ≡ whole
-  news_more rows i row keys new x out grown whole b lt e is p k g inv =
-      let rest = map view (drop (i + 1) rows) in
-      let here : map view (drop i rows) ≡ view row ∷ rest = ap (map view) (drop_more rows i row lt ∙ ap (λ r. r ∷ drop (i + 1) rows) (sym e)) in
-      ap (λ l. l ++ news_after eq (map f new) rest) g ∙ append_assoc out (b ∷ []) (news_after eq (map f new) rest)
-      ∙ ap (λ l. out ++ l) (news_step keys new x (view row) b rest is p k ∙ ap (news_after eq (map f keys)) (sym here)) ∙ inv
 
 -- one key more
 module _ {R V K X : Type 0} (view : R → V) (key : V → K) (f : X → K) (eq : K → K → Bool) where

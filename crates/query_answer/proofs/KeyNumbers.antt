@@ -6,7 +6,7 @@ use Rattle.std.proofs.lemmas.List.Folds.{list_any-append}
 use Rattle.std.specs.List.{list_any, position_or_len}
 use Rattle.indexmap.specs.IndexSet.{insert_key}
 use Rattle.med_query.specs.Lists.{distinct}
-use Rattle.query_answer.specs.Keys.{number_in, keys_after, numbers_after, news_after, put_at, gathered, marked}
+use Rattle.query_answer.specs.Keys.{number_in, keys_after, numbers_after, put_at, gathered}
 
 -- tests
 no_either : (p q : Bool) → (p || q) ≡ false → (p ≡ false) × (q ≡ false)
@@ -57,6 +57,11 @@ join_tests false false = refl
 abbrev fresh : {K : Type 0} → (K → K → Bool) → List K → K → Bool
 fresh eq known z = not (list_any (eq z) known)
 
+-- the keys after some, and after some more
+pub keys_after-append : {K : Type 0} (eq : K → K → Bool) (known xs ys : List K) → keys_after eq (keys_after eq known xs) ys ≡ keys_after eq known (xs ++ ys)
+keys_after-append eq known [] ys = refl
+keys_after-append eq known (x ∷ xs) ys = keys_after-append eq (insert_key eq known x) xs ys
+
 module _ {K : Type 0} (eq : K → K → Bool) (only : (x y : K) → eq x y ≡ true → x ≡ y) (self : (x : K) → eq x x ≡ true) where
   turned_by : (x y : K) (b c : Bool) → eq x y ≡ b → eq y x ≡ c → b ≡ c
   turned_by x y true true e f = refl
@@ -87,18 +92,6 @@ module _ {K : Type 0} (eq : K → K → Bool) (only : (x y : K) → eq x y ≡ t
   -- the keys of a list, each once, are its distinct elements
   pub all_keys : (ks : List K) → keys_after eq [] ks ≡ distinct eq ks
   all_keys ks = after ks [] ∙ all_kept (fresh eq []) (λ z. refl) (distinct eq ks)
-
-  marked_by : (known ks : List K) (k : K) (b : Bool) → known ++ (if not b then k ∷ marked (news_after eq (if b then known else known ++ k ∷ []) ks) ks else marked (news_after eq (if b then known else known ++ k ∷ []) ks) ks) ≡ (if b then known else known ++ k ∷ []) ++ marked (news_after eq (if b then known else known ++ k ∷ []) ks) ks
-  marked_by known ks k true = refl
-  marked_by known ks k false = sym (append_assoc known (k ∷ []) (marked (news_after eq (known ++ k ∷ []) ks) ks))
-
-  news : (ks known : List K) → known ++ marked (news_after eq known ks) ks ≡ keys_after eq known ks
-  news [] known = append-nil known
-  news (k ∷ ks) known = marked_by known ks k (list_any (eq k) known) ∙ news ks (insert_key eq known k)
-
-  -- the elements that are new as they come are the distinct ones
-  pub all_news : (ks : List K) → marked (news_after eq [] ks) ks ≡ distinct eq ks
-  all_news ks = news ks [] ∙ all_keys ks
 
   -- keys of which no two are equal
   abbrev Apart : List K → Type 0

@@ -8,6 +8,7 @@ pub mod ToldParts
 pub mod Ungrouped
 pub mod Grouped
 pub mod Leading
+pub mod Standing
 pub mod Folded
 pub mod KeptGroups
 pub mod StagedGroups

@@ -4,22 +4,24 @@ use Rattle.std.proofs.Math.Seq.{get_or-append_seam}
 use Rattle.std.proofs.lemmas.List.{length-append, map-append}
 use Rattle.med_query.specs.Query.{Output, Tables, joined_chains}
 use Rattle.med_query.specs.Select.{chains_of, core_of}
+use Rattle.med_query.specs.declared.select.Select.{Select}
 use Rattle.med_query.specs.declared.select.SelectCore.{SelectCore}
 use Rattle.query_answer.specs.declared.gathering.Gathering.{Gathering}
 use Rattle.query_answer.specs.declared.outputs.AnswerFault.{AnswerFault}
 use Rattle.query_answer.specs.declared.staging.Staged.{Staged}
 use Rattle.query_answer.specs.Answering.{AreSmall, IsCoreFault, IsShownIn, IsSmall}
 use Rattle.query_answer.specs.Gathering.{AreGathered, Gathers}
-use Rattle.query_answer.specs.Staging.{AllGive, Gives, output_of}
+use Rattle.query_answer.specs.Giving.{AllGive, Gives}
+use Rattle.query_answer.specs.Staging.{output_of}
 use Rattle.query_answer.proofs.Finished.{joined_gives, joined_small, one_told}
 
 -- some cores gave these outputs, and the others come
-pub record Taken (db : Tables) (cores : List SelectCore) (coming : List Gathering) (outs : List Output) : Type 0 where
+pub record Taken (select : Select) (db : Tables) (cores : List SelectCore) (coming : List Gathering) (outs : List Output) : Type 0 where
   pub before : List SelectCore
   pub left : List SelectCore
   pub are : cores ≡ before ++ left
   pub gathered : AreGathered db left coming
-  pub gives : AllGive (map core_of before) db outs
+  pub gives : AllGive select (map core_of before) db outs
   pub small : AreSmall (map core_of before) db
 
 -- the next of them
@@ -38,10 +40,10 @@ next_of db (s ∷ ss) one coming h = record {
   gathered = h.2;
 }
 
-pub one_taken : (db : Tables) (cores : List SelectCore) (one : Gathering) (coming : List Gathering) (before after more : List Staged) → after ≡ before ++ more → Taken db cores (one ∷ coming) (map output_of before)
-    → (Gathers (joined_chains db (chains_of one.core.now.from.items)) one → Gives (core_of one.core.now) db (map output_of more)) → (Gathers (joined_chains db (chains_of one.core.now.from.items)) one → IsSmall (core_of one.core.now) db)
-    → Taken db cores coming (map output_of after)
-one_taken db cores one coming before after more joined t given small =
+pub one_taken : (select : Select) (db : Tables) (cores : List SelectCore) (one : Gathering) (coming : List Gathering) (before after more : List Staged) → after ≡ before ++ more → Taken select db cores (one ∷ coming) (map output_of before)
+    → (Gathers (joined_chains db (chains_of one.core.now.from.items)) one → Gives select (core_of one.core.now) db (map output_of more)) → (Gathers (joined_chains db (chains_of one.core.now.from.items)) one → IsSmall (core_of one.core.now) db)
+    → Taken select db cores coming (map output_of after)
+one_taken select db cores one coming before after more joined t given small =
     let n : Next db t.left one coming = next_of db t.left one coming t.gathered in
     let all : map core_of (t.before ++ one.core.now ∷ []) ≡ map core_of t.before ++ core_of one.core.now ∷ [] = map-append core_of t.before (one.core.now ∷ []) in
     record {
@@ -49,13 +51,13 @@ one_taken db cores one coming before after more joined t given small =
       left = n.later;
       are = t.are ∙ ap (λ l. t.before ++ l) n.are ∙ sym (append_assoc t.before (one.core.now ∷ []) n.later);
       gathered = n.gathered;
-      gives = joined_gives (map core_of (t.before ++ one.core.now ∷ [])) (map core_of t.before) (core_of one.core.now) db before after more all joined t.gives (given n.gathers);
+      gives = joined_gives select (map core_of (t.before ++ one.core.now ∷ [])) (map core_of t.before) (core_of one.core.now) db before after more all joined t.gives (given n.gathers);
       small = joined_small (map core_of (t.before ++ one.core.now ∷ [])) (map core_of t.before) (core_of one.core.now) db all t.small (small n.gathers);
     }
 
-pub one_shown : (db : Tables) (cores : List SelectCore) (one : Gathering) (coming : List Gathering) (outs : List Output) (f : AnswerFault) → Taken db cores (one ∷ coming) outs
+pub one_shown : (select : Select) (db : Tables) (cores : List SelectCore) (one : Gathering) (coming : List Gathering) (outs : List Output) (f : AnswerFault) → Taken select db cores (one ∷ coming) outs
     → (Gathers (joined_chains db (chains_of one.core.now.from.items)) one → IsCoreFault f (core_of one.core.now) db) → IsShownIn f (map core_of cores) db
-one_shown db cores one coming outs f t told =
+one_shown select db cores one coming outs f t told =
     let n : Next db t.left one coming = next_of db t.left one coming t.gathered in
     let is : cores ≡ t.before ++ one.core.now ∷ n.later = t.are ∙ ap (λ l. t.before ++ l) n.are in
     let here : one.core.now ≡ get_or cores (length t.before) one.core.now = rw is (sym (get_or-append_seam t.before one.core.now n.later one.core.now)) in
@@ -66,11 +68,11 @@ no_more : (db : Tables) (left : List SelectCore) → AreGathered db left [] → 
 no_more db [] h = refl
 no_more db (s ∷ ss) h = absurd h
 
-whole : (db : Tables) (cores : List SelectCore) (coming : List Gathering) (outs : List Output) → coming ≡ [] → (t : Taken db cores coming outs) → cores ≡ t.before
-whole db cores coming outs e t = t.are ∙ ap (λ l. t.before ++ l) (no_more db t.left (subst (λ l. AreGathered db t.left l) e t.gathered)) ∙ append-nil t.before
+whole : (select : Select) (db : Tables) (cores : List SelectCore) (coming : List Gathering) (outs : List Output) → coming ≡ [] → (t : Taken select db cores coming outs) → cores ≡ t.before
+whole select db cores coming outs e t = t.are ∙ ap (λ l. t.before ++ l) (no_more db t.left (subst (λ l. AreGathered db t.left l) e t.gathered)) ∙ append-nil t.before
 
-pub all_give : (db : Tables) (cores : List SelectCore) (coming : List Gathering) (outs : List Output) → coming ≡ [] → Taken db cores coming outs → AllGive (map core_of cores) db outs
-all_give db cores coming outs e t = subst (λ (l : List SelectCore). AllGive (map core_of l) db outs) (sym (whole db cores coming outs e t)) t.gives
+pub all_give : (select : Select) (db : Tables) (cores : List SelectCore) (coming : List Gathering) (outs : List Output) → coming ≡ [] → Taken select db cores coming outs → AllGive select (map core_of cores) db outs
+all_give select db cores coming outs e t = subst (λ (l : List SelectCore). AllGive select (map core_of l) db outs) (sym (whole select db cores coming outs e t)) t.gives
 
-pub all_are_small : (db : Tables) (cores : List SelectCore) (coming : List Gathering) (outs : List Output) → coming ≡ [] → Taken db cores coming outs → AreSmall (map core_of cores) db
-all_are_small db cores coming outs e t = subst (λ (l : List SelectCore). AreSmall (map core_of l) db) (sym (whole db cores coming outs e t)) t.small
+pub all_are_small : (select : Select) (db : Tables) (cores : List SelectCore) (coming : List Gathering) (outs : List Output) → coming ≡ [] → Taken select db cores coming outs → AreSmall (map core_of cores) db
+all_are_small select db cores coming outs e t = subst (λ (l : List SelectCore). AreSmall (map core_of l) db) (sym (whole select db cores coming outs e t)) t.small

@@ -1,6 +1,5 @@
 -- Keys by number, and elements gathered by the number of their key.
-use Rattle.std.specs.Prelude.{ℕ, zero, suc, Bool, not, if◌then◌else◌, List, [], ◌∷◌, ◌++◌, flat_map}
-use Rattle.std.specs.List.{list_any}
+use Rattle.std.specs.Prelude.{ℕ, zero, suc, Bool, if◌then◌else◌, List, [], ◌∷◌, ◌++◌, flat_map}
 use Rattle.std.specs.Hash as fed
 use Rattle.indexmap.specs.IndexSet.{insert_key}
 use Rattle.med_value.specs.Datum.{Datum, NoValue, Whole, Chars, Logic, Tuple, tuple}
@@ -14,7 +13,7 @@ abbrev pub key_in : RowKey → Tuple
 key_in k = tuple k.values
 
 abbrev pub output_in : OutputKey → Output
-output_in k = output_of k.output.now
+output_in k = output_of k.output
 
 -- what is fed to a hash of a value, and of values
 abbrev pub fed_datum : Datum → List (List ℕ)
@@ -44,11 +43,6 @@ abbrev pub numbers_after : {K : Type 0} → (K → K → Bool) → List K → Li
 numbers_after eq known [] = []
 numbers_after eq known (k ∷ ks) = number_in eq known k ∷ numbers_after eq (insert_key eq known k) ks
 
--- which of some more keys are new
-abbrev pub news_after : {K : Type 0} → (K → K → Bool) → List K → List K → List Bool
-news_after eq known [] = []
-news_after eq known (k ∷ ks) = not (list_any (eq k) known) ∷ news_after eq (insert_key eq known k) ks
-
 -- an element behind those of its number, or alone behind all
 abbrev pub put_at : {X : Type 0} → List (List X) → ℕ → X → List (List X)
 put_at [] i x = (x ∷ []) ∷ []
@@ -60,9 +54,3 @@ abbrev pub gathered : {X : Type 0} → List (List X) → List ℕ → List X →
 gathered groups [] xs = groups
 gathered groups (i ∷ is) [] = groups
 gathered groups (i ∷ is) (x ∷ xs) = gathered (put_at groups i x) is xs
-
--- the elements that are marked
-abbrev pub marked : {X : Type 0} → List Bool → List X → List X
-marked [] xs = []
-marked (b ∷ bs) [] = []
-marked (b ∷ bs) (x ∷ xs) = if b then x ∷ marked bs xs else marked bs xs

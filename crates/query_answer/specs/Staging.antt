@@ -1,5 +1,5 @@
 -- What a class is sorted by and what it shows, where conditions keep it.
-use Rattle.std.specs.Prelude.{◌≡◌, IsPermutation, ℕ, false, if◌then◌else◌, List, [], ◌∷◌, ◌++◌, map, flat_map, Option, Some, None, Vec}
+use Rattle.std.specs.Prelude.{◌≡◌, IsPermutation, ℕ, false, if◌then◌else◌, List, [], ◌∷◌, ◌++◌, map, Option, Some, None, Vec}
 use Rattle.med_value.specs.Datum.{Tuple, tuple}
 use Rattle.med_value.specs.declared.value.Row.{Row}
 use Rattle.query_answer.specs.declared.staging.Staged.{Staged}
@@ -8,7 +8,8 @@ use Rattle.tri_expr.specs.Outcome.{over, value_of}
 use Rattle.tri_expr.specs.Meaning.{OnClass}
 use Rattle.tri_expr.specs.Verdict.{is_in, faults_told, fault_list}
 use Rattle.tri_expr.specs.declared.expr.Expr.{Expr}
-use Rattle.med_query.specs.Query.{Output, Core, Chain, Tables, Grouping as Groups, core_faults, core_outputs, outputs_all, keeps, on_row, senses, output_faults}
+use Rattle.med_query.specs.declared.select.SelectCore.{SelectCore}
+use Rattle.med_query.specs.Query.{Output, Core, Chain, Tables, Grouping as Groups, core_faults, outputs_all, keeps, on_row, senses, output_faults}
 
 abbrev pub output_of : Staged → Output
 output_of s = (tuple s.keys, tuple s.shown)
@@ -41,6 +42,13 @@ row_staged conditions keys items r = class_staged conditions keys items (r ∷ [
 abbrev pub row_told_all : List OnClass → List OnClass → List OnClass → Tuple → List Fault
 row_told_all conditions keys items r = class_told conditions keys items (r ∷ [])
 
+-- the same by the conditions, keys and items of a core
+abbrev pub outputs_by : SelectCore → Tuple → List Output
+outputs_by s r = row_staged (senses [] s.conditions.items) (senses [] s.keys.items) (senses [] s.items.items) r
+
+abbrev pub faults_by : SelectCore → Tuple → List Fault
+faults_by s r = row_told_all (senses [] s.conditions.items) (senses [] s.keys.items) (senses [] s.items.items) r
+
 abbrev pub groups_by : List ℕ → List OnClass → List OnClass → Option Groups
 groups_by columns arguments having = Some (record { keys = columns; arguments = arguments; having = having })
 
@@ -64,15 +72,6 @@ grouped_core from conditions columns arguments having keys items =
 pub record Stages (c : Core) (db : Tables) (outs : List Output) : Type 0 where
   pub no_fault : core_faults c db ≡ []
   pub same : IsPermutation (outputs_all c db) outs
-
--- the outputs of a core in some order, and those of several, where no fault may be told
-pub record Gives (c : Core) (db : Tables) (outs : List Output) : Type 0 where
-  pub no_fault : core_faults c db ≡ []
-  pub same : IsPermutation (core_outputs c db) outs
-
-pub record AllGive (cs : List Core) (db : Tables) (outs : List Output) : Type 0 where
-  pub no_fault : flat_map (λ c. core_faults c db) cs ≡ []
-  pub same : IsPermutation (flat_map (λ c. core_outputs c db) cs) outs
 
 -- a row that WHERE keeps, and the faults of WHERE on it
 abbrev pub row_kept : List OnClass → Tuple → List Tuple

@@ -5,7 +5,8 @@ ghost use Rattle.med_query.specs.Query.{IsAnswer, Tables};
 ghost use Rattle.med_query.specs.Form.{direction_of};
 ghost use Rattle.med_query.specs.Select.{core_of, query_of};
 ghost use Rattle.query_answer.specs.Gathering.{AreGathered};
-ghost use Rattle.query_answer.specs.Staging.{output_of, AllGive};
+ghost use Rattle.query_answer.specs.Staging.{output_of};
+ghost use Rattle.query_answer.specs.Giving.{AllGive};
 ghost use Rattle.query_answer.specs.Finishing.{Finishes};
 ghost use Rattle.query_answer.specs.Answering.{AreSmall, AllShow, Shows};
 
@@ -31,10 +32,14 @@ fn joined_outputs(before: Vec<Staged>, more: Vec<Staged>) -> Result<Vec<Staged>,
     Ok(out)
 }
 
-// The outputs of all cores, one after another.
-fn all_outputs(alloc: Global, gathered: Vec<Gathering<'_>>) -> Result<Vec<Staged>, AnswerFault>
+// Outputs that stand for those of all cores, one after another.
+fn all_outputs(
+    alloc: Global,
+    gathered: Vec<Gathering<'_>>,
+    select: &Select,
+) -> Result<Vec<Staged>, AnswerFault>
     ensures gives { IfOk result (λ out. (db : Tables) (cores : List SelectCore) → AreGathered db cores gathered.entry.items
-        → AllGive (map core_of cores) db (map output_of out.items)) }
+        → AllGive select.now (map core_of cores) db (map output_of out.items)) }
     ensures small { IfOk result (λ _. (db : Tables) (cores : List SelectCore) → AreGathered db cores gathered.entry.items
         → AreSmall (map core_of cores) db) }
     ensures told { (db : Tables) (cores : List SelectCore) → AreGathered db cores gathered.entry.items
@@ -43,7 +48,7 @@ fn all_outputs(alloc: Global, gathered: Vec<Gathering<'_>>) -> Result<Vec<Staged
     let mut all = Vec::new(alloc);
     let mut coming = gathered.into_iter();
     while let Some(one) = coming.next() {
-        let more = match one.outputs(alloc) {
+        let more = match one.outputs(alloc, select) {
             Ok(more) => more,
             Err(fault) => return Err(fault),
         };
@@ -80,8 +85,9 @@ fn finished(
 /// # Errors
 ///
 /// A fault that may be told, whatever LIMIT says: of WHERE on a joined row, of an aggregate's argument on a kept row, of HAVING on a
-/// group, or of an order key or an item of a kept row or kept group. [`EvalFault::NoMemory`] where memory was asked for and refused.
-/// [`AnswerFault::TooManyRows`] where a core groups over more than 2^62 kept rows, and only there.
+/// group, or of an order key or an item of a kept row or kept group. [`EvalFault::NoMemory`] where memory was asked for and refused, or
+/// rows were gathered for a query of another ORDER BY, OFFSET or LIMIT. [`AnswerFault::TooManyRows`] where a core groups over more than
+/// 2^62 kept rows, and only there.
 pub fn answer(
     alloc: Global,
     select: &Select,
@@ -93,7 +99,7 @@ pub fn answer(
         → AreSmall (query_of select.now).cores db) }
     ensures told { (db : Tables) → AreGathered db select.now.cores.items gathered.entry.items → Shows result (query_of select.now) db }
 {
-    let staged = match all_outputs(alloc, gathered) {
+    let staged = match all_outputs(alloc, gathered, select) {
         Ok(staged) => staged,
         Err(fault) => return Err(fault),
     };

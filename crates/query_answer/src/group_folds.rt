@@ -8,12 +8,13 @@ ghost use Rattle.query_answer.specs.Running.{ClassesRun, runnings_in};
 
 use crate::leaves::Leaf;
 pub(crate) use crate::new_folds::new_fold;
-use crate::row_keys::{RowKey, key_row};
+use crate::row_keys::{RowKey, empty_key, put_key};
 use crate::running::{Running, add_row, all_fresh, values};
 use crate::staging::{Staged, push_staged, staged_class};
 use indexmap::IndexSet;
 use med_value::{NoMemory, Row};
 use std::alloc::Global;
+use std::mem;
 use tri_expr::{EvalFault, Expr};
 
 /// Groups by the values in some columns, and what is kept of each while their rows come. All rows are one group where there is no column.
@@ -27,6 +28,8 @@ pub(crate) struct GroupFold<'a> {
     pub count: usize,
     pub seen: IndexSet<RowKey>,
     pub groups: Vec<Vec<Running>>,
+    /// The key of the last row, unless it is kept: the next one's takes its room.
+    pub last: RowKey,
     /// Whether each row that came was taken in whole: memory may be refused in the middle of one, and then no further row is taken.
     pub is_whole: bool,
     ghost kept: { is_whole ≡ true → KeepsSome columns.now leaves.items count (map key_in seen.keys) (runnings_in groups.items) },
@@ -72,6 +75,7 @@ fn put_row(
     row: &Row,
     seen: &mut IndexSet<RowKey>,
     groups: &mut Vec<Vec<Running>>,
+    key: &mut RowKey,
 ) -> Result<(), NoMemory>
     requires kept { KeepsFew columns.now leaves.now (map key_in seen.old.keys) (runnings_in groups.old.items) }
     ensures { IfOk result (λ _. (rows : List Tuple)
@@ -81,13 +85,12 @@ fn put_row(
     if columns.is_empty() {
         return add_to(alloc, leaves, 0, row, groups);
     }
-    let values = key_row(alloc, columns, row)?;
-    let key = RowKey { values };
-    match seen.get_index_of(&key) {
+    put_key(alloc, columns, row, key)?;
+    match seen.get_index_of(&*key) {
         Some(number) => add_to(alloc, leaves, number, row, groups),
         None => {
             add_group(alloc, leaves, row, groups)?;
-            seen.insert(key)?;
+            seen.insert(mem::replace(key, empty_key(alloc)))?;
             Ok(())
         }
     }
@@ -117,6 +120,7 @@ impl<'a> GroupFold<'a> {
             row,
             &mut self.seen,
             &mut self.groups,
+            &mut self.last,
         )?;
         self.count += 1;
         self.is_whole = true;

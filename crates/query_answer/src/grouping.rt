@@ -1,10 +1,11 @@
-//! DISTINCT: outputs are looked up in a map.
-ghost use Rattle.std.specs.Prelude.{◌≡◌, IfOk, IsPermutation, map, ◌++◌, [], ◌∷◌, if◌then◌else◌};
-ghost use Rattle.med_query.specs.Query.{output_eq};
-ghost use Rattle.query_answer.specs.Staging.{output_of};
-ghost use Rattle.query_answer.specs.Finishing.{made_unique};
-ghost use Rattle.query_answer.specs.Keys.{news_after, marked as spec_marked};
+//! DISTINCT: of outputs that are equal the first is kept.
+ghost use Rattle.std.specs.Prelude.{◌≡◌, IfOk, IsPermutation, map};
+ghost use Rattle.indexmap.specs.IndexSet.{insert_key};
 ghost use Rattle.med_query.specs.Lists.{distinct};
+ghost use Rattle.med_query.specs.Query.{output_eq};
+ghost use Rattle.query_answer.specs.Finishing.{made_unique};
+ghost use Rattle.query_answer.specs.Keys.{output_in};
+ghost use Rattle.query_answer.specs.Staging.{output_of};
 
 use crate::row_keys::OutputKey;
 use crate::staging::Staged;
@@ -12,50 +13,38 @@ use indexmap::IndexSet;
 use med_value::NoMemory;
 use std::alloc::Global;
 
-// Which outputs are equal to none before them.
-fn news_of(alloc: Global, staged: &[Staged]) -> Result<Vec<bool>, NoMemory>
-    ensures { IfOk result (λ out. out.items ≡ news_after output_eq [] (map output_of staged.now)) }
+/// One more output, which is kept where none that is kept is equal to it. Refused only for want of memory.
+pub(crate) fn add_distinct(output: Staged, seen: &mut IndexSet<OutputKey>) -> Result<(), NoMemory>
+    ensures { IfOk result (λ _. map output_in seen.new.keys
+        ≡ insert_key output_eq (map output_in seen.old.keys) (output_of output)) }
 {
-    let mut seen = IndexSet::new(alloc);
-    let mut out = Vec::new(alloc);
-    for output in staged {
-        let (_, is_new) = seen.insert_full(OutputKey { output })?;
-        out.push(is_new)?;
-    }
-    Ok(out)
-}
-
-// Appends the output, if it is marked.
-fn push_marked(mark: bool, one: Staged, out: &mut Vec<Staged>) -> Result<(), NoMemory>
-    ensures { IfOk result (λ _. map output_of out.new.items ≡ map output_of out.old.items ++ (if mark then output_of one ∷ [] else [])) }
-{
-    if mark {
-        out.push(one)?;
-    }
+    seen.insert(OutputKey { output })?;
     Ok(())
 }
 
-// The outputs that are marked.
-fn marked(alloc: Global, marks: &[bool], staged: Vec<Staged>) -> Result<Vec<Staged>, NoMemory>
-    ensures { IfOk result (λ out. map output_of out.items ≡ spec_marked marks.now (map output_of staged.items)) }
+/// The outputs that are kept. Refused only for want of memory.
+pub(crate) fn kept_outputs(
+    alloc: Global,
+    seen: IndexSet<OutputKey>,
+) -> Result<Vec<Staged>, NoMemory>
+    ensures { IfOk result (λ out. map output_of out.items ≡ map output_in seen.keys) }
 {
-    let mut out = Vec::new(alloc);
-    let mut left = marks;
-    for one in staged {
-        if let Some((mark, later)) = left.split_first() {
-            push_marked(*mark, one, &mut out)?;
-            left = later;
-        }
+    let mut out = Vec::with_capacity(alloc, seen.len())?;
+    for key in seen {
+        out.push(key.output)?;
     }
     Ok(out)
 }
 
-// One of each of the outputs that are equal, in some order.
+// One of each of the outputs that are equal.
 fn distinct_outputs(alloc: Global, staged: Vec<Staged>) -> Result<Vec<Staged>, NoMemory>
-    ensures { IfOk result (λ out. IsPermutation (distinct output_eq (map output_of staged.items)) (map output_of out.items)) }
+    ensures { IfOk result (λ out. map output_of out.items ≡ distinct output_eq (map output_of staged.items)) }
 {
-    let news = news_of(alloc, staged.as_slice())?;
-    marked(alloc, news.as_slice(), staged)
+    let mut seen = IndexSet::new(alloc);
+    for one in staged {
+        add_distinct(one, &mut seen)?;
+    }
+    kept_outputs(alloc, seen)
 }
 
 /// DISTINCT where it is asked.

@@ -15,6 +15,7 @@ mod row_keys;
 mod running;
 mod staging;
 mod values;
+mod waiting;
 
 pub use answers::answer;
 pub use gathering::Gathering;

@@ -5,6 +5,7 @@ ghost use Rattle.query_answer.specs.Running.{ClassesRun, runnings_in};
 
 use crate::group_folds::GroupFold;
 use crate::leaves::{Leaf, all_lifted};
+use crate::row_keys::empty_key;
 use crate::running::{Running, all_fresh};
 use indexmap::IndexSet;
 use med_value::NoMemory;
@@ -48,6 +49,7 @@ pub(crate) fn new_fold<'a>(
         count: 0,
         seen: IndexSet::new(alloc),
         groups,
+        last: empty_key(alloc),
         is_whole: true,
     })
 }

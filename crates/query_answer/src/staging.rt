@@ -3,9 +3,10 @@ ghost use Rattle.std.specs.Prelude.{◌≡◌, ◌∷◌, ◌++◌, [], IfOk, ma
 ghost use Rattle.med_value.specs.Datum.{datum, tuple};
 ghost use Rattle.med_query.specs.Query.{TellsFault, senses, output_faults};
 ghost use Rattle.query_answer.specs.Staging.{output_of, outputs_in, class_output};
-ghost use Rattle.query_answer.specs.Staging.{class_staged, class_told, row_staged, row_told_all};
+ghost use Rattle.query_answer.specs.Staging.{class_staged, class_told, faults_by, outputs_by};
 
 use crate::values::values_over;
+use med_query::SelectCore;
 use med_value::{Row, Value};
 use std::alloc::Global;
 use std::slice;
@@ -71,20 +72,19 @@ pub(crate) fn staged_class(
     }
 }
 
-/// What a row is sorted by and what it shows, where WHERE keeps it.
+/// What a row of a core that does not group is sorted by and shows, where WHERE keeps it.
 pub(crate) fn staged_row(
     alloc: Global,
-    conditions: &[Expr],
-    keys: &[Expr],
-    items: &[Expr],
+    core: &SelectCore,
     row: &Row,
 ) -> Result<Option<Staged>, EvalFault>
-    ensures outputs { IfOk result (λ s. outputs_in s
-        ≡ row_staged (senses [] conditions.now) (senses [] keys.now) (senses [] items.now) (tuple row.now)) }
-    ensures no_fault { IfOk result (λ _. row_told_all (senses [] conditions.now) (senses [] keys.now) (senses [] items.now)
-        (tuple row.now) ≡ []) }
-    ensures told { TellsFault result (row_told_all (senses [] conditions.now) (senses [] keys.now) (senses [] items.now) (tuple row.now)) }
+    ensures outputs { IfOk result (λ s. outputs_in s ≡ outputs_by core.now (tuple row.now)) }
+    ensures no_fault { IfOk result (λ _. faults_by core.now (tuple row.now) ≡ []) }
+    ensures told { TellsFault result (faults_by core.now (tuple row.now)) }
 {
+    let conditions = core.conditions.as_slice();
+    let keys = core.keys.as_slice();
+    let items = core.items.as_slice();
     staged_class(alloc, conditions, keys, items, slice::from_ref(row), &[])
 }
 

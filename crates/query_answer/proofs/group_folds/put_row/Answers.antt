@@ -32,7 +32,7 @@ add_to-requires-in-Some c =
     let gs = runnings_in c.args.groups.now.items in
     let n = length-map c.args.groups.now.items (λ g. g.items) in
     let m = length-map known key_in in
-    let at = position_known (λ s. tuple_eq (tuple c.in_ok-values.values) (key_in s)) known c.in-Some.number c.in-Some.ensures.index in
+    let at = position_known (λ s. tuple_eq (key_in c.put_key.new.key) (key_in s)) known c.in-Some.number c.in-Some.ensures.index in
     let below = at.1 in
     let lt : c.in-Some.number < length gs = key_there columns ls keys gs c.in-Some.number (some_column (length columns) c.if-is_empty.ensures) (omega arith) c.requires.kept in
     record { there = omega arith; ready = are_ready columns ls keys gs c.requires.kept }
@@ -48,8 +48,8 @@ returns-in-Some c =
     let columns = c.args.columns.now in
     let known = c.args.seen.now.keys in
     let keys = map key_in known in
-    let k = tuple c.in_ok-values.values in
-    let e = c.in_ok-values.ensures in
+    let k = key_in c.put_key.new.key in
+    let e = c.in_ok-put_key.ensures in
     let at = position_known (λ s. tuple_eq k (key_in s)) known c.in-Some.number c.in-Some.ensures.index in
     let number = at.0 ∙ number_seen key_in tuple_eq known k ∙ ap (number_in tuple_eq keys) e in
     let there : list_any (tuple_eq (key_of columns (tuple c.args.row.now))) keys ≡ true = ap (λ t. list_any (tuple_eq t) keys) (sym e) ∙ sym (any_seen key_in (tuple_eq k) known) ∙ sym c.in-Some.ensures.found in
@@ -60,8 +60,8 @@ returns-in_ok-insert-in-None c rows h =
     let columns = c.args.columns.now in
     let known = c.args.seen.now.keys in
     let keys = map key_in known in
-    let k = tuple c.in_ok-values.values in
-    let e = c.in_ok-values.ensures in
+    let k = key_in c.put_key.new.key in
+    let e = c.in_ok-put_key.ensures in
     let gone : list_any (tuple_eq (key_of columns (tuple c.args.row.now))) keys ≡ false = ap (λ t. list_any (tuple_eq t) keys) (sym e) ∙ sym (any_seen key_in (tuple_eq k) known) ∙ sym c.in-None.ensures.found in
     kept_new columns c.args.leaves.now keys (runnings_in c.args.groups.now.items) rows (tuple c.args.row.now) (map key_in c.insert.new.self.keys) (runnings_in c.add_group.new.groups.items) (some_column (length columns) c.if-is_empty.ensures) gone
-    (ap (map key_in) c.in_ok-insert-in-None.ensures.keys ∙ inserted_seen key_in tuple_eq known (record { values = c.in_ok-values.values }) ∙ ap (insert_key tuple_eq keys) e) c.in_ok-add_group-in-None.ensures h
+    (ap (map key_in) c.in_ok-insert-in-None.ensures.keys ∙ inserted_seen key_in tuple_eq known c.replace.result ∙ ap (λ x. insert_key tuple_eq keys (key_in x)) c.replace.ensures.value ∙ ap (insert_key tuple_eq keys) e) c.in_ok-add_group-in-None.ensures h
