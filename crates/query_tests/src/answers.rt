@@ -104,9 +104,13 @@ fn lines(alloc: Global, rows: &[Row]) -> Result<Vec<u8>, Fail> {
     Ok(text)
 }
 
-// The orders, as the rows of a core over them.
-fn gathered(alloc: Global, core: &SelectCore) -> Result<Gathering<'_>, Fail> {
-    let mut gathering = Gathering::new(alloc, core)?;
+// The orders, as the rows of a query's core over them.
+fn gathered<'a>(
+    alloc: Global,
+    select: &'a Select,
+    core: &'a SelectCore,
+) -> Result<Gathering<'a>, Fail> {
+    let mut gathering = Gathering::new(alloc, core, select)?;
     for row in orders(alloc)? {
         gathering.add(alloc, &row);
     }
@@ -114,10 +118,10 @@ fn gathered(alloc: Global, core: &SelectCore) -> Result<Gathering<'_>, Fail> {
 }
 
 // The same of each core.
-fn all_gathered(alloc: Global, cores: &[SelectCore]) -> Result<Vec<Gathering<'_>>, Fail> {
+fn all_gathered(alloc: Global, select: &Select) -> Result<Vec<Gathering<'_>>, Fail> {
     let mut all = Vec::new(alloc);
-    for core in cores {
-        all.push(gathered(alloc, core)?)?;
+    for core in &select.cores {
+        all.push(gathered(alloc, select, core)?)?;
     }
     Ok(all)
 }
@@ -127,7 +131,7 @@ fn gives(alloc: Global, select: &Select, wanted: &str) -> Result<(), Fail> {
     let tables = vec![in alloc; orders(alloc)?]?;
     let plain = plain_answer(alloc, select, &tables)?;
     same_text("the rows by definition", &lines(alloc, &plain)?, wanted)?;
-    let gathered = all_gathered(alloc, select.cores.as_slice())?;
+    let gathered = all_gathered(alloc, select)?;
     let rows = answer(alloc, select, gathered)?;
     same_text("the rows", &lines(alloc, &rows)?, wanted)
 }
@@ -212,7 +216,7 @@ fn limit_hides_no_fault_of_a_later_core(rt: HostRuntime) -> Result<(), Fail> {
     if !matches!(plain, Err(EvalFault::ZeroDivisor)) {
         return Err("no fault by definition".into());
     }
-    let gathered = all_gathered(alloc, query.cores.as_slice())?;
+    let gathered = all_gathered(alloc, &query)?;
     match answer(alloc, &query, gathered) {
         Err(AnswerFault::Evaluation(EvalFault::ZeroDivisor)) => Ok(()),
         _ => Err("no fault".into()),
