@@ -132,6 +132,7 @@ served_leaves run first last old new h not_first not_last slot number own = leav
 
 -- and is good for its close
 pub served_held : (run : Run) (first last : Held) (old new : List (Option BoxState)) → IsHeld run old → AreApart (held run) first → AreApart (held run) last → ServesRun first last old new → IsHeld run new
+unfolding IsHeld
 served_held run first last old new good not_first not_last h slot number own =
     let at = good slot number own in
     let live = is_some_of (scan_of at.box number) at.holds in
@@ -211,3 +212,35 @@ serves_beside more first last (None ∷ xs) (Some y ∷ ys) h = absurd h
 serves_beside more first last (Some x ∷ xs) [] h = absurd h
 serves_beside more first last (Some x ∷ xs) (None ∷ ys) h = absurd h
 serves_beside more first last (Some x ∷ xs) (Some y ∷ ys) h = (served_beside (more 0) (first 0) (last 0) x y h.0, serves_beside (further more) (further first) (further last) xs ys h.1)
+
+-- the same, where the others stand behind
+served_before : (more before after : List ℕ) (old new : BoxState) → Served before after old new → Served (before ++ more) (after ++ more) old new
+served_before more before after old new h = record {
+  nature = h.nature;
+  tables = h.tables;
+  staged = h.staged;
+  others = without_on after more new.ledger.live ∙ ap (without more) h.others ∙ sym (without_on before more old.ledger.live);
+  next = h.next;
+  end = h.end;
+  pulled = h.pulled;
+  faults = h.faults;
+  coming = λ honest q live. h.coming honest q (still q live (finmap.get (others_of before old) q) refl);
+  rows = h.rows;
+  holdings = h.holdings;
+}
+  where
+    still : (q : ℕ) → IsSome (finmap.get (others_of (before ++ more) old) q) → (o : Option Scan) → finmap.get (others_of before old) q ≡ o → IsSome (finmap.get (others_of before old) q)
+    still q live None e =
+        let r = is_some_of (finmap.get (others_of (before ++ more) old) q) live in
+        absurd (none_some r.0 (finmap.get (others_of (before ++ more) old) q) (ap (λ (m : finmap.FinMap nat_cmp Scan). finmap.get m q) (without_on before more old.ledger.live) ∙ without_none more (others_of before old) q e) r.1)
+    still q live (Some x) e = some_is (finmap.get (others_of before old) q) x e
+
+pub serves_before : (more first last : Held) (old new : List (Option BoxState)) → ServesRun first last old new → ServesRun (with_held first more) (with_held last more) old new
+serves_before more first last [] [] h = tt
+serves_before more first last [] (y ∷ ys) h = absurd h
+serves_before more first last (None ∷ xs) [] h = absurd h
+serves_before more first last (None ∷ xs) (None ∷ ys) h = serves_before (further more) (further first) (further last) xs ys h
+serves_before more first last (None ∷ xs) (Some y ∷ ys) h = absurd h
+serves_before more first last (Some x ∷ xs) [] h = absurd h
+serves_before more first last (Some x ∷ xs) (None ∷ ys) h = absurd h
+serves_before more first last (Some x ∷ xs) (Some y ∷ ys) h = (served_before (more 0) (first 0) (last 0) x y h.0, serves_before (further more) (further first) (further last) xs ys h.1)

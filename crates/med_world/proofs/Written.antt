@@ -140,7 +140,7 @@ done_keeps e t answer at count new h =
     (λ a b k. written_keeps (columns_for e.catalog t) (form_for e.catalog t) answer a at.number count b k.writes) h
 
 -- the table that is written is not leased, so that no scan of it is live
-no_scan_there : (e : Shown) (t : WriteTree) (at : Attached) (b : BoxState) → IsSound e → leased e (target_of t) ≡ false → IsTargetAt e.catalog e.bound t at → slice_get e.boxes at.source ≡ Some (Some b) → NoScan b at.number
+pub no_scan_there : (e : Shown) (t : WriteTree) (at : Attached) (b : BoxState) → IsSound e → leased e (target_of t) ≡ false → IsTargetAt e.catalog e.bound t at → slice_get e.boxes at.source ≡ Some (Some b) → NoScan b at.number
 no_scan_there e t at b sound free target there = unleased_scan e f.0 u.0 at b sound.bound_once sound.scans u.1 at_place (ap (leased e) (first_named (target_of t) e.catalog.tables f.0 u.0 f.2 u.1) ∙ free) there
   where
     f : (k : ℕ) × (target.place ≡ 0 + k) × IsFirst (target_of t) e.catalog.tables k

@@ -18,7 +18,7 @@ ghost use Rattle.cursor_syntax.specs.CursorTree.{CountTree, CursorTree, declare,
 ghost use Rattle.med_parser.specs.CommandTree.{CommandTree, on_data, on_rows, on_cursors, on_objects};
 ghost use Rattle.med_parser.specs.CommandCauses.{SyntaxCauses};
 ghost use Rattle.fdw_api.specs.State.{BoxState, IsIdle, is_honest};
-ghost use Rattle.fdw_api.specs.Calls.{CanBind, CanUnbind};
+ghost use Rattle.fdw_api.specs.Calls.{CanBind, CanUnbind, NoScan};
 ghost use Rattle.med_exec.specs.Slots.{BoxAt};
 ghost use Rattle.med_exec.specs.Running.{ServesRun, none_held};
 ghost use Rattle.med_exec.specs.declared.running.Run.{Run};
@@ -44,7 +44,7 @@ ghost use Rattle.med_world.specs.Engine.{Shown, leased, EachBox, IsAtRest, IsSou
 ghost use Rattle.med_world.specs.Turning.{new_opened, with_cursors, IsOfOpen, Ends};
 ghost use Rattle.med_world.specs.Altering.{IsAllowed, IsAltered, NotAltered};
 ghost use Rattle.med_world.specs.Selecting.{Selects, SelectFails};
-ghost use Rattle.med_world.specs.Writing.{WritesRows, WriteFails};
+ghost use Rattle.med_world.specs.Writing.{IsTargetAt, WritesRows, WriteFails};
 ghost use Rattle.med_world.specs.Adding.{Adds};
 ghost use Rattle.med_world.specs.Laws.{IsRead, with_seats, with_boxes, empty_shown};
 
@@ -261,7 +261,7 @@ pub fn changes_lead()
 }
 
 /// What the calls of boxes ask holds, where the catalogue shows no cause: the source of a server has its box; a table may be bound there; a
-/// bound table that is not leased may be unbound; and the box of a server that is dropped is idle.
+/// bound table that is not leased may be unbound, and has no live scan where it is written; and the box of a server that is dropped is idle.
 pub fn boxes_are_ready()
     ensures there { (e : Shown) (server : Name) (place : ℕ) → IsSound e → IsServerAt e server place
         → (s : BoxState) × (slice_get e.boxes place ≡ Some (Some s)) }
@@ -270,6 +270,8 @@ pub fn boxes_are_ready()
         → CanBind s t.remote t.columns t.settings }
     ensures unbinds { (e : Shown) (t : TableObject) (k : ℕ) (a : Attached) → IsSound e → slice_get e.catalog.tables k ≡ Some t
         → slice_get e.bound k ≡ Some a → leased e t.name ≡ false → BoxAt e.boxes a.source (λ s. CanUnbind s a.number) }
+    ensures unread { (e : Shown) (t : WriteTree) (a : Attached) (s : BoxState) → IsSound e → leased e (target_of t) ≡ false
+        → IsTargetAt e.catalog e.bound t a → slice_get e.boxes a.source ≡ Some (Some s) → NoScan s a.number }
     ensures idle { (e : Shown) (user : Name) (d : DdlTree) (name : Name) (place : ℕ) (s : BoxState) → IsSound e
         → IsAllowed e user d (no_server name) → IsServerAt e name place → slice_get e.boxes place ≡ Some (Some s) → IsIdle s }
 {}
