@@ -6,3 +6,4 @@ pub mod Refusing
 pub mod Running
 pub mod Counting
 pub mod Rests
+pub mod Leaving
