@@ -4,3 +4,4 @@ mod Splits
 mod Streams
 mod Started
 mod Lasting
+pub mod InOrder

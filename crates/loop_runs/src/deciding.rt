@@ -5,6 +5,7 @@ ghost use Rattle.med_query.specs.Query.{keeps, senses};
 ghost use Rattle.tri_expr.specs.TreeParts.{is_risky};
 ghost use Rattle.nested_loops.specs.Joins.{Each};
 ghost use Rattle.loop_answers.specs.Conjuncts.{safe_of};
+ghost use Rattle.loop_answers.specs.Ordered.{IsShownCore};
 ghost use Rattle.loop_answers.specs.Streamed.{all_safe, IsStreamedCore, IsStreamed};
 ghost use Rattle.loop_runs.specs.Gathering.{levels_in, AreDecided};
 
@@ -28,15 +29,21 @@ fn are_safe(es: &[Expr]) -> bool
     true
 }
 
-// Whether a core's rows can be shown as they are joined.
-fn is_streamed_core(core: &SelectCore) -> bool
-    ensures { IsTrue result ↔ IsStreamedCore core.now }
+/// Whether a core's rows can be shown as they are joined, where they come in the order of its keys.
+pub(crate) fn is_shown_core(core: &SelectCore) -> bool
+    ensures { IsTrue result ↔ IsShownCore core.now }
 {
     are_safe(core.conditions.as_slice())
         && core.grouping.is_none()
         && are_safe(core.items.as_slice())
         && !core.distinct
-        && core.keys.is_empty()
+}
+
+// Whether they can be shown in any order.
+fn is_streamed_core(core: &SelectCore) -> bool
+    ensures { IsTrue result ↔ IsStreamedCore core.now }
+{
+    is_shown_core(core) && core.keys.is_empty()
 }
 
 // The same of each core.
