@@ -1,5 +1,5 @@
 -- What is counted where no scan is begun.
-use Rattle.std.proofs.Common.{◌≡◌, ℕ, List, Option, Some, slice_get, ap, sym, ◌∙◌, add-zero}
+use Rattle.std.proofs.Common.{ℕ, List, Option, ap, sym, ◌∙◌, add-zero}
 use Rattle.fdw_api.specs.State.{BoxState}
 use Rattle.scan_loops.specs.Counting.{next_in, BeginsNone}
 use Rattle.scan_loops.specs.Scans.{or_none}

@@ -1,5 +1,5 @@
 -- Scans that a run holds, while boxes serve another one. Nothing here looks into a run.
-use Rattle.std.proofs.Common.{◌≡◌, ◌≢◌, ℕ, zero, suc, ◌⊎◌, inl, inr, eqb, true, false, cond, List, [], ◌∷◌, ◌++◌, Option, Some, None, IsSome, slice_get, Contains, refl, ap, sym, ◌∙◌, subst, arith, rules}
+use Rattle.std.proofs.Common.{◌≡◌, ◌≢◌, ℕ, zero, suc, ◌⊎◌, inl, inr, eqb, true, false, List, [], ◌∷◌, ◌++◌, Option, Some, None, IsSome, slice_get, Contains, refl, ap, sym, ◌∙◌, subst, arith, rules}
 use Rattle.std.specs.Ordering.{nat_cmp}
 use Rattle.std.specs.FinMap as finmap
 use Rattle.std.specs.FinMap.{gets, nat_cmp-IsAntisymmetric}
@@ -15,7 +15,7 @@ use Rattle.med_exec.specs.Rests.{held, IsHeld}
 use Rattle.med_exec.specs.Leaving.{AreApart, KeepsScan, LeavesScan, LeavesRun}
 use Rattle.scan_loops.specs.Others.{HeldAreOfLevels}
 use Rattle.med_exec.proofs.Left.{still_held}
-use Rattle.med_exec.proofs.Served.{box_inj, ServedAt, after_service, before_service}
+use Rattle.med_exec.proofs.Served.{box_inj, after_service, before_service}
 
 gone : {X : Type 0} (m : finmap.FinMap nat_cmp X) (k : ℕ) → finmap.get (finmap.remove m k) k ≡ None
 gone m k = grind (gets, rules)
@@ -209,3 +209,35 @@ serves_beside more first last (None ∷ xs) (Some y ∷ ys) h = absurd h
 serves_beside more first last (Some x ∷ xs) [] h = absurd h
 serves_beside more first last (Some x ∷ xs) (None ∷ ys) h = absurd h
 serves_beside more first last (Some x ∷ xs) (Some y ∷ ys) h = (served_beside (more 0) (first 0) (last 0) x y h.0, serves_beside (further more) (further first) (further last) xs ys h.1)
+
+-- the same, where the others stand behind
+served_before : (more before after : List ℕ) (old new : BoxState) → Served before after old new → Served (before ++ more) (after ++ more) old new
+served_before more before after old new h = record {
+  nature = h.nature;
+  tables = h.tables;
+  staged = h.staged;
+  others = without_on after more new.ledger.live ∙ ap (without more) h.others ∙ sym (without_on before more old.ledger.live);
+  next = h.next;
+  end = h.end;
+  pulled = h.pulled;
+  faults = h.faults;
+  coming = λ honest q live. h.coming honest q (still q live (finmap.get (others_of before old) q) refl);
+  rows = h.rows;
+  holdings = h.holdings;
+}
+  where
+    still : (q : ℕ) → IsSome (finmap.get (others_of (before ++ more) old) q) → (o : Option Scan) → finmap.get (others_of before old) q ≡ o → IsSome (finmap.get (others_of before old) q)
+    still q live None e =
+        let r = is_some_of (finmap.get (others_of (before ++ more) old) q) live in
+        absurd (none_some r.0 (finmap.get (others_of (before ++ more) old) q) (ap (λ (m : finmap.FinMap nat_cmp Scan). finmap.get m q) (without_on before more old.ledger.live) ∙ without_none more (others_of before old) q e) r.1)
+    still q live (Some x) e = some_is (finmap.get (others_of before old) q) x e
+
+pub serves_before : (more first last : Held) (old new : List (Option BoxState)) → ServesRun first last old new → ServesRun (with_held first more) (with_held last more) old new
+serves_before more first last [] [] h = tt
+serves_before more first last [] (y ∷ ys) h = absurd h
+serves_before more first last (None ∷ xs) [] h = absurd h
+serves_before more first last (None ∷ xs) (None ∷ ys) h = serves_before (further more) (further first) (further last) xs ys h
+serves_before more first last (None ∷ xs) (Some y ∷ ys) h = absurd h
+serves_before more first last (Some x ∷ xs) [] h = absurd h
+serves_before more first last (Some x ∷ xs) (None ∷ ys) h = absurd h
+serves_before more first last (Some x ∷ xs) (Some y ∷ ys) h = (served_before (more 0) (first 0) (last 0) x y h.0, serves_before (further more) (further first) (further last) xs ys h.1)

@@ -33,8 +33,8 @@ pub record GoesOn (run : Run) (old new : List (Option BoxState)) : Type 0 where
   pub running : IsRunning run new
   pub rests : AllHonest old → (rows : List Tuple) → Rests run old rows ↔ Rests run new rows
 
--- each of these scans that is live before and after is of the table that it was of
+-- each of these scans that is live before and after is of the table that it was of, with its columns' types
 abbrev pub KeepTables : Held → List (Option BoxState) → List (Option BoxState) → Type 0
 KeepTables own old new =
     (slot number : ℕ) → Contains (own slot) number → (s t : BoxState) → slice_get old slot ≡ Some (Some s) → slice_get new slot ≡ Some (Some t)
-    → (was now : Scan) → scan_of s number ≡ Some was → scan_of t number ≡ Some now → now.table ≡ was.table
+    → (was now : Scan) → scan_of s number ≡ Some was → scan_of t number ≡ Some now → (now.table ≡ was.table) × (now.kinds ≡ was.kinds)

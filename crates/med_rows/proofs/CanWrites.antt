@@ -4,7 +4,8 @@ use Rattle.med_value.specs.Datum.{Tuple}
 use Rattle.med_value.specs.declared.value.ColType.{ColType}
 use Rattle.write_syntax.specs.WriteTree.{WriteTree}
 use Rattle.fdw_api.specs.Kinds.{kinds_of}
-use Rattle.fdw_api.specs.State.{BoxTable, Scan, BoxState, table_of, scan_of}
+use Rattle.fdw_api.specs.State.{BoxTable, BoxState, table_of}
+use Rattle.fdw_api.specs.Calls.{NoScan}
 use Rattle.fdw_api.specs.Sound.{IsTableOf, IsSoundBox}
 use Rattle.med_exec.specs.Slots.{BoxAt}
 use Rattle.med_catalog.specs.Objects.{TableObject, Objects, table_named}
@@ -17,35 +18,32 @@ use Rattle.write_parts.specs.Typing.{column_kinds}
 use Rattle.write_parts.proofs.Targets.{target_columns}
 use Rattle.bind_write.specs.declared.bound.TableWrite.{TableWrite}
 use Rattle.bind_write.specs.Binding.{IsMeantWrite}
-use Rattle.med_world.specs.Engine.{IsAtRest, IsFirst}
+use Rattle.med_world.specs.Engine.{IsUnstaged, IsFirst}
 use Rattle.med_world.proofs.TargetRows.{first_from, first_table}
-use Rattle.med_rows.specs.Ready.{IsReady}
-
-none_live : (scan : Scan) (o : Option Scan) → o ≡ None → o ≡ Some scan → ⊥
-none_live scan o a b = absurd cc
+use Rattle.med_rows.specs.Ready.{IsReady, IsUnread}
 
 one_bound : (a b : BoxTable) (o : Option BoxTable) → o ≡ Some a → o ≡ Some b → a ≡ b
 one_bound a b o p q = cc
 
--- a table of a box at rest may be written
-box_can : (s : BoxState) (number : ℕ) (kinds : List ColType) (form : WriteForm) (answer : List Tuple) → IsAtRest s → IsSoundBox s → IsTableOf s number kinds → IsTypedWrite kinds form answer → CanWrite s number form answer
-box_can s number kinds form answer rest sound is typed = record {
+-- a table that has no live scan may be written, where nothing is staged
+box_can : (s : BoxState) (number : ℕ) (kinds : List ColType) (form : WriteForm) (answer : List Tuple) → NoScan s number → IsUnstaged s → IsSoundBox s → IsTableOf s number kinds → IsTypedWrite kinds form answer → CanWrite s number form answer
+box_can s number kinds form answer none unstaged sound is typed = record {
   can = record {
     is_bound = ap is_some is.1;
-    no_scan = λ q scan live. absurd (none_live scan (scan_of s q) (rest.no_scan q) live);
-    not_staged = rest.no_staging;
+    no_scan = none;
+    not_staged = unstaged;
   };
   typed = λ b at. subst (λ (ks : List ColType). IsTypedWrite ks form answer) (sym is.2 ∙ ap (λ (x : BoxTable). x.kinds) (one_bound is.0 b (table_of s number) is.1 at)) typed;
   once = λ honest. sound.once honest number is.0 is.1;
 }
 
-pub can_write : (o : Objects) (bound : List Attached) (boxes : List (Option BoxState)) (t : WriteTree) (w : TableWrite) (answer : List Tuple) → IsReady o bound boxes → IsMeantWrite o bound t w
+pub can_write : (o : Objects) (bound : List Attached) (boxes : List (Option BoxState)) (t : WriteTree) (w : TableWrite) (answer : List Tuple) → IsReady o bound boxes → IsUnread o bound t boxes → IsMeantWrite o bound t w
     → IsTypedWrite (column_kinds (columns_in (shapes o) (target_of t))) (write_meant (shapes o) t) answer → BoxAt boxes w.source (λ s. CanWrite s w.table.number (form_of w.write.rows) answer)
-can_write o bound boxes t w answer ready is typed = subst (λ (n : ℕ). BoxAt boxes n (λ s. CanWrite s w.table.number (form_of w.write.rows) answer)) (sym is.there.source) (record {
+can_write o bound boxes t w answer ready unread is typed = subst (λ (n : ℕ). BoxAt boxes n (λ s. CanWrite s w.table.number (form_of w.write.rows) answer)) (sym is.there.source) (record {
   box = x.box;
   there = x.there;
   holds = subst (λ (n : ℕ). CanWrite x.box n (form_of w.write.rows) answer) (sym is.there.number)
-      (box_can x.box is.there.at.number (kinds_of u.0.columns) (form_of w.write.rows) answer (ready.at_rest is.there.at.source x.box x.there) (ready.sound is.there.at.source x.box x.there) x.holds
+      (box_can x.box is.there.at.number (kinds_of u.0.columns) (form_of w.write.rows) answer (unread is.there.at x.box (record { place = w.place; named = is.place; there = is.there.there }) x.there) (ready.unstaged is.there.at.source x.box x.there) (ready.sound is.there.at.source x.box x.there) x.holds
       (subst (λ (f : WriteForm). IsTypedWrite (kinds_of u.0.columns) f answer) (sym is.form) (subst (λ (ks : List ColType). IsTypedWrite ks (write_meant (shapes o) t) answer) (ap column_kinds (target_columns o (target_of t) u.0 u.2)) typed)));
 })
   where

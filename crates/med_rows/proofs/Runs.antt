@@ -37,9 +37,9 @@ use Rattle.med_world.specs.Selecting.{AnswersOver}
 use Rattle.med_world.specs.Writing.{GivesAnswer, FailsQuery, GivesRows, IsGiven, IsTargetAt, columns_for, form_for, DoesWrite, WritesRows, WriteFails, too_many, query_fails, box_refuses, rows_untyped}
 use Rattle.write_types.specs.Typed.{IsClean}
 use Rattle.write_fits.specs.Fitting.{kinds_written, answer_fits}
-use Rattle.med_rows.specs.Ready.{IsReady}
+use Rattle.med_rows.specs.Ready.{IsReady, IsUnread}
 use Rattle.med_rows.proofs.CanWrites.{can_write}
-use Rattle.med_rows.proofs.Served.{ready_served}
+use Rattle.med_rows.proofs.Served.{ready_served, unread_served}
 use Rattle.write_fits.proofs.Fitted.{fits_typed, typed_fits}
 use Rattle.med_rows.proofs.Typed.{WritesAreTyped, IsTypedFor, typed_alone, HasQuery, of_its_query, typed_answer}
 
@@ -189,16 +189,16 @@ untyped law o user bound t w b old new answer leased free ready bindable clean i
 
 -- ---- the calls
 
-can_be : (o : Objects) (bound : List Attached) (boxes : List (Option BoxState)) (t : WriteTree) (w : TableWrite) (answer : List Tuple) → IsReady o bound boxes → IsMeantWrite o bound t w → IsTypedFor o t answer → CanAt w answer boxes
-can_be o bound boxes t w answer ready is typed = can_write o bound boxes t w answer ready is typed
+can_be : (o : Objects) (bound : List Attached) (boxes : List (Option BoxState)) (t : WriteTree) (w : TableWrite) (answer : List Tuple) → IsReady o bound boxes → IsUnread o bound t boxes → IsMeantWrite o bound t w → IsTypedFor o t answer → CanAt w answer boxes
+can_be o bound boxes t w answer ready unread is typed = can_write o bound boxes t w answer ready unread is typed
 
-pub can_alone : WritesAreTyped → (o : Objects) (user : Name) (bound : List Attached) (boxes : List (Option BoxState)) (t : WriteTree) (w : TableWrite) → IsReady o bound boxes → IsBindable o user t → IsClean t → IsMeantWrite o bound t w → w.query ≡ None → CanAt w [] boxes
-can_alone law o user bound boxes t w ready bindable clean is none =
-    can_be o bound boxes t w [] ready is (typed_alone law o user bound t [] bindable clean (subst (IsQueryOf o bound t) none is.query))
+pub can_alone : WritesAreTyped → (o : Objects) (user : Name) (bound : List Attached) (boxes : List (Option BoxState)) (t : WriteTree) (w : TableWrite) → IsReady o bound boxes → IsUnread o bound t boxes → IsBindable o user t → IsClean t → IsMeantWrite o bound t w → w.query ≡ None → CanAt w [] boxes
+can_alone law o user bound boxes t w ready unread bindable clean is none =
+    can_be o bound boxes t w [] ready unread is (typed_alone law o user bound t [] bindable clean (subst (IsQueryOf o bound t) none is.query))
 
-pub can_answered : (o : Objects) (bound : List Attached) (old now : List (Option BoxState)) (t : WriteTree) (w : TableWrite) (b : BoundQuery) (answer : List Tuple) → IsReady o bound old → AllServed old now → IsMeantWrite o bound t w → HasQuery o bound t b → IsTest w answer true → CanAt w answer now
-can_answered o bound old now t w b answer ready served is h test =
-    can_be o bound now t w answer (ready_served o bound old now served ready) is (typed_by o bound t w b answer is h test)
+pub can_answered : (o : Objects) (bound : List Attached) (old now : List (Option BoxState)) (t : WriteTree) (w : TableWrite) (b : BoundQuery) (answer : List Tuple) → IsReady o bound old → IsUnread o bound t old → AllServed old now → IsMeantWrite o bound t w → HasQuery o bound t b → IsTest w answer true → CanAt w answer now
+can_answered o bound old now t w b answer ready unread served is h test =
+    can_be o bound now t w answer (ready_served o bound old now served ready) (unread_served o bound t old now served unread) is (typed_by o bound t w b answer is h test)
 
 pub ends_ok : (o : Objects) (user : Name) (bound : List Attached) (t : WriteTree) (w : TableWrite) (old now new : List (Option BoxState)) (answer : List Tuple) (r : Result ℕ Cause) (leased : Bool) → leased ≡ false → IsBindable o user t → IsMeantWrite o bound t w → IsGiven o bound t old answer now → CanAt w answer now
     → IfOk r (λ count. DoesAt w answer now count new) → IfOk r (λ count. WritesRows o user bound t leased old count new)

@@ -5,14 +5,14 @@ use Rattle.std.specs.FinMap as finmap
 use Rattle.med_value.specs.declared.value.ColType.{ColType}
 use Rattle.fdw_api.specs.Kinds.{kinds_of}
 use Rattle.fdw_api.specs.Scan.{TableRow, row_fits}
-use Rattle.fdw_api.specs.State.{BoxState, BoxTable, is_honest, table_of, scan_of}
+use Rattle.fdw_api.specs.State.{BoxState, BoxTable, is_honest, table_of}
 use Rattle.fdw_api.specs.Sound.{IsTableOf, IsSoundBox}
 use Rattle.med_exec.specs.Running.{AllServed, none_held}
 use Rattle.med_exec.proofs.Served.{ServedAlone, after_service, before_service, box_inj}
+use Rattle.write_syntax.specs.WriteTree.{WriteTree}
 use Rattle.med_catalog.specs.Objects.{Objects}
 use Rattle.bind_catalog.specs.Places.{Attached}
-use Rattle.med_world.specs.Engine.{IsAtRest}
-use Rattle.med_rows.specs.Ready.{IsReady}
+use Rattle.med_rows.specs.Ready.{IsReady, IsUnread}
 
 was_there : (old new : List (Option BoxState)) → AllServed old new → (i : ℕ) (c : BoxState) → slice_get new i ≡ Some (Some c) → (b : BoxState) × (slice_get old i ≡ Some (Some b)) × ServedAlone b c
 was_there old new h i c at =
@@ -23,12 +23,6 @@ is_there : (old new : List (Option BoxState)) → AllServed old new → (i : ℕ
 is_there old new h i b at =
     let x = after_service none_held none_held old new i b h at in
     (x.after, x.is, subst (λ (z : BoxState). ServedAlone z x.after) (box_inj x.before b (sym x.was ∙ at)) x.served)
-
-rest_served : (b c : BoxState) → ServedAlone b c → IsAtRest b → IsAtRest c
-rest_served b c k h = record {
-  no_scan = λ q. ap (λ m. scan_of (record b { ledger = record b.ledger { live = m } }) q) k.others ∙ h.no_scan q;
-  no_staging = k.staged ∙ h.no_staging;
-}
 
 honest_before : (b c : BoxState) → ServedAlone b c → is_honest c → is_honest b
 honest_before b c k h = ap (λ n. n.honest) (sym k.nature) ∙ h
@@ -49,7 +43,12 @@ sound_served b c k h = record {
 
 pub ready_served : (o : Objects) (bound : List Attached) (old new : List (Option BoxState)) → AllServed old new → IsReady o bound old → IsReady o bound new
 ready_served o bound old new h ready = record {
-  at_rest = λ i c at. let b = was_there old new h i c at in rest_served b.0 c b.2 (ready.at_rest i b.0 b.1);
+  unstaged = λ i c at. let b = was_there old new h i c at in b.2.staged ∙ ready.unstaged i b.0 b.1;
   sound = λ i c at. let b = was_there old new h i c at in sound_served b.0 c b.2 (ready.sound i b.0 b.1);
   tables = λ k t a at_t at_a. let x = ready.tables k t a at_t at_a in let n = is_there old new h a.source x.box x.there in record { box = n.0; there = n.1; holds = still_table x.box n.0 a.number (kinds_of t.columns) n.2 x.holds };
 }
+
+pub unread_served : (o : Objects) (bound : List Attached) (t : WriteTree) (old new : List (Option BoxState)) → AllServed old new → IsUnread o bound t old → IsUnread o bound t new
+unread_served o bound t old new h none at c target there q scan live =
+    let b = was_there old new h at.source c there in
+    none at b.0 target b.1 q scan (sym (ap (λ m. finmap.get m q) b.2.others) ∙ live)

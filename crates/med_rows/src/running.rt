@@ -1,5 +1,5 @@
 //! Statements that write rows: bound, and done to the box of their table.
-ghost use Rattle.std.specs.Prelude.{◌≡◌, length, map, IfOk, IfErr};
+ghost use Rattle.std.specs.Prelude.{◌≡◌, false, length, map, IfOk, IfErr};
 ghost use Rattle.bind_catalog.specs.Places.{attached};
 ghost use Rattle.bind_catalog.specs.Tables.{AreNamedOnce};
 ghost use Rattle.med_catalog.specs.View.{objects};
@@ -7,7 +7,7 @@ ghost use Rattle.med_exec.specs.Slots.{states};
 ghost use Rattle.med_world.specs.Writing.{WritesRows, WriteFails};
 ghost use Rattle.write_syntax.specs.WriteView.{write_tree};
 ghost use Rattle.write_types.specs.Typed.{IsClean};
-ghost use Rattle.med_rows.specs.Ready.{IsReady};
+ghost use Rattle.med_rows.specs.Ready.{IsReady, IsUnread};
 
 use crate::writing::write_rows;
 use bind_catalog::BoundTable;
@@ -27,7 +27,7 @@ use write_types::law::written_rows_are_typed;
 /// rows it is told of (SQL standard, <insert statement>, <update statement: searched>, <delete statement: searched>).
 ///
 /// The query of an INSERT is answered before the first row is written, and so sees the tables as they were. All changes are made, or none.
-/// `is_leased` says whether an open cursor reads the table that is written.
+/// `is_leased` says whether an open cursor reads the table that is written; where none does, no scan of it may be live.
 ///
 /// # Errors
 ///
@@ -47,6 +47,8 @@ pub fn run_write<W: Wrapper2>(
     requires many { length bound.now ≡ length (objects catalog.now).tables }
     requires once { AreNamedOnce (objects catalog.now) }
     requires ready { IsReady (objects catalog.now) (map attached bound.now) (states W.meaning slots.old.items) }
+    requires unread { is_leased ≡ false → IsUnread (objects catalog.now) (map attached bound.now) (write_tree statement)
+        (states W.meaning slots.old.items) }
     requires clean { IsClean (write_tree statement) }
     ensures ok { IfOk result (λ count. WritesRows (objects catalog.now) user.now (map attached bound.now) (write_tree statement) is_leased
         (states W.meaning slots.old.items) count (states W.meaning slots.new.items)) }

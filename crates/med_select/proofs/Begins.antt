@@ -1,5 +1,5 @@
 -- The run of a bound query: begun, or why not.
-use Rattle.std.proofs.Common.{◌≡◌, ◌∙◌, ℕ, ◌≤◌, Bool, false, List, Option, map, length, sym, ap, subst, string_bytes}
+use Rattle.std.proofs.Common.{◌≡◌, ◌∙◌, ℕ, ◌≤◌, Bool, false, List, [], Contains, arith, Option, map, length, sym, ap, subst, string_bytes}
 use Rattle.med_value.specs.Datum.{Tuple}
 use Rattle.med_syntax.specs.Tree.{Name}
 use Rattle.med_syntax.specs.QueryTree.{SelectTree}
@@ -10,7 +10,7 @@ use Rattle.med_query.specs.Select.{query_of as written_query}
 use Rattle.fdw_api.specs.State.{BoxState}
 use Rattle.fdw_api.specs.declared.interface.Fault.{Fault}
 use Rattle.med_planner.specs.Planned.{Place, entry_place, entry_rows, IsShownCause}
-use Rattle.med_exec.specs.Running.{AllServed, ServesRun, Stops, lacks_memory, source_fails, numbers_end, query_shows, Begun, none_held}
+use Rattle.med_exec.specs.Running.{AllServed, ServesRun, Stops, lacks_memory, source_fails, numbers_end, query_shows, Begun, Held, none_held}
 use Rattle.med_exec.specs.Rests.{Rests, held, IsRunning}
 use Rattle.med_exec.specs.declared.running.Run.{Run}
 use Rattle.med_binder.specs.declared.bound.BoundQuery.{BoundQuery}
@@ -21,7 +21,7 @@ use Rattle.bind_catalog.specs.Places.{Attached}
 use Rattle.med_world.specs.Altering.{cause_of}
 use Rattle.bound_runs.specs.Running.{RunAnswers}
 use Rattle.open_cursors.specs.Counted.{ReadsTables}
-use Rattle.open_cursors.specs.Starting.{is_risky_form, RestsOver, Starts, RunFails, no_memory, box_fails, numbers_out, shows_cause, StartFails, run_fails}
+use Rattle.open_cursors.specs.Starting.{is_risky_form, HoldsOf, RestsOver, Starts, RunFails, no_memory, box_fails, numbers_out, shows_cause, StartFails, run_fails}
 use Rattle.med_select.proofs.Selections.{ExpressionsIgnoreOrder, AnswersInAnyOrder, CausesInAnyOrder, IsBoundBy, steady, same_back, query_bound, entries_counted}
 
 -- a run that holds an answer
@@ -31,6 +31,13 @@ held_answer q places boxes out rests some only h = record {
   answers = λ rows r honest. subst (λ (l : List Tuple). IsAnswer q (entry_rows boxes places) l) (sym (only rows r)) (h.answers honest);
   clear = h.clear;
 }
+
+-- it holds no scan
+pub holds_none : (places : List Place) (run : Run) (boxes : List (Option BoxState)) → held run ≡ none_held → HoldsOf places run boxes
+holds_none places run boxes none slot number own = absurd (out (subst (λ (h : Held). Contains (h slot) number) none own))
+  where
+    out : Contains [] number → ⊥
+    out has = let n = has.1 in omega arith
 
 -- what the run may give are answers in whatever order the rows of the entries come
 rests_over : AnswersInAnyOrder → CausesInAnyOrder → (q : Query) → IsSteady q → (places : List Place) (boxes : List (Option BoxState)) (rests : List Tuple → Type 0) → Begun q places rests boxes → RestsOver q places boxes rests
@@ -60,9 +67,9 @@ safe_meant : (o : Objects) (user : Name) (bound : List Attached) (q : SelectTree
 safe_meant o user bound q b is safe = sym (ap is_risky_form is.meant.form) ∙ safe
 
 pub starts : ExpressionsIgnoreOrder → AnswersInAnyOrder → CausesInAnyOrder → (o : Objects) (user : Name) (bound : List Attached) (q : SelectTree) (full : Bool) (b : BoundQuery) (run : Run) (old new : List (Option BoxState))
-    → IsBoundBy o user bound q b → MayBegin full b → ServesRun none_held (held run) old new → IsRunning run new → ReadsTables (map entry_place b.entries.items) old new → Begun (written_query b.select) (map entry_place b.entries.items) (Rests run new) old
+    → IsBoundBy o user bound q b → MayBegin full b → ServesRun none_held (held run) old new → IsRunning run new → HoldsOf (map entry_place b.entries.items) run new → ReadsTables (map entry_place b.entries.items) old new → Begun (written_query b.select) (map entry_place b.entries.items) (Rests run new) old
     → Starts o user bound q full old (map string_bytes b.names.items) run new
-starts order any causes o user bound q full b run old new is may served running once begun =
+starts order any causes o user bound q full b run old new is may served running holds once begun =
     let m = meant_by o q in
     let places = map entry_place b.entries.items in
     record {
@@ -75,6 +82,7 @@ starts order any causes o user bound q full b run old new is may served running 
       running = running;
       places = places;
       are = is.places;
+      holds = holds;
       reads = once;
       rests = subst (λ (x : Query). RestsOver x places old (Rests run new)) (query_bound m b is.meant) (rests_over any causes (written_query b.select) (steady order b.select) places old (Rests run new) begun);
     }

@@ -4,3 +4,4 @@ mod Tables
 mod Seats
 mod CursorLists
 mod Turns
+mod ClosingSeats

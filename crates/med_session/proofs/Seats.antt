@@ -1,11 +1,12 @@
 -- Seats by the numbers of their sessions: taken out, put in, and put back.
-use Rattle.std.proofs.Common.{◌≡◌, ℕ, ◌-◌, zero, suc, List, [], ◌∷◌, Option, Some, None, IsSome, is_some, option_map, false, length, slice_get, slice_set, refl, ap, sym, ◌∙◌, subst}
+use Rattle.std.proofs.Common.{◌≡◌, ℕ, ◌-◌, zero, suc, List, [], ◌∷◌, Option, Some, None, IsSome, Contains, is_some, option_map, false, length, slice_get, slice_set, refl, ap, sym, ◌∙◌, subst}
 use Rattle.std.proofs.lemmas.List.{length-map, length-set}
 use Rattle.cursor_syntax.specs.CursorTree.{declare}
 use Rattle.med_syntax.specs.QueryTree.{StatementTree, select}
 use Rattle.bind_catalog.specs.Looked.{query_in}
 use Rattle.open_cursors.specs.declared.cursors.Seat.{Seat}
 use Rattle.fdw_api.specs.State.{BoxState}
+use Rattle.med_exec.specs.Rests.{IsRunning}
 use Rattle.open_cursors.specs.Open.{Opened, Seated, seated, seats_shown}
 use Rattle.med_parser.specs.CommandTree.{CommandTree, on_cursors}
 use Rattle.med_syntax.specs.Tree.{Name}
@@ -108,8 +109,11 @@ left_shut e sid left none l = ap (λ (x : List (Option Seated)). with_seats e x)
 
 -- ---- what the calls ask
 
-pub seat_sound : (e : Shown) (sid : ℕ) (seat : Seated) → IsSound e → seat_of e.seats sid ≡ Some seat → IsSoundSeat e.boxes seat
+pub seat_sound : (e : Shown) (sid : ℕ) (seat : Seated) → IsSound e → seat_of e.seats sid ≡ Some seat → IsSoundSeat seat
 seat_sound e sid seat h is_open = h.seated (sid - 1) seat (place_there (slice_get e.seats (sid - 1)) seat is_open)
+
+pub seat_running : (e : Shown) (sid : ℕ) (seat : Seated) → IsSound e → seat_of e.seats sid ≡ Some seat → (c : Opened) → Contains seat.cursors c → IsRunning c.run e.boxes
+seat_running e sid seat h is_open c has = h.scans.running (sid - 1) c (record { seat = seat; there = place_there (slice_get e.seats (sid - 1)) seat is_open; has = has })
 
 pub left_long : (now : List (Option Seat)) (was : List (Option Seated)) (k : ℕ) (x : Option Seated) → seats_shown now ≡ slice_set was k x → length was ≡ session_count → length now ≡ session_count
 left_long now was k x e long = sym (length-map now (option_map seated)) ∙ ap length e ∙ length-set was k x ∙ long

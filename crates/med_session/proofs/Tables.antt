@@ -3,7 +3,8 @@ use Rattle.std.proofs.Common.{◌≡◌, ◌⊎◌, inl, inr, ◌<◌, ◌+◌, 
 use Rattle.std.specs.List.{IsDistinct, AllByRecursion}
 use Rattle.std.proofs.lemmas.Bool.{false≢true}
 use Rattle.med_syntax.specs.Tree.{Name}
-use Rattle.fdw_api.specs.State.{BoxState}
+use Rattle.fdw_api.specs.State.{BoxState, Scan}
+use Rattle.fdw_api.specs.Sound.{IsSoundBox}
 use Rattle.fdw_api.specs.declared.interface.Counts.{Counts}
 use Rattle.med_exec.specs.Slots.{counts_at, counts_in}
 use Rattle.med_catalog.specs.Objects.{ServerObject, TableObject, Objects, server_named, table_named}
@@ -13,7 +14,7 @@ use Rattle.std.proofs.lemmas.Option.{slice_get-map}
 use Rattle.bind_catalog.specs.declared.bound.BoundTable.{BoundTable}
 use Rattle.bind_catalog.specs.Places.{Attached, attached}
 use Rattle.med_world.specs.World.{is_taken, beside_without}
-use Rattle.med_world.specs.Engine.{Label, Shown, leased, IsNamedAt, IsStandingAt, IsServerAt, IsFirst, IsAtRest, IsSound, with_change, Alters}
+use Rattle.med_world.specs.Engine.{Label, Shown, leased, IsNamedAt, IsStandingAt, IsServerAt, IsFirst, IsUnstaged, IsSound, with_change, Alters}
 use Rattle.med_value.specs.declared.cause.Cause.{Cause}
 use Rattle.fdw_api.specs.Kinds.{Column, OptionForm}
 use Rattle.fdw_api.specs.State.{scan_of}
@@ -26,6 +27,7 @@ use Rattle.med_world.specs.Altering.{IsFreeAt, IsAllowed, SourcesAllow, IsAltere
 use Rattle.med_session.specs.Binding.{BindFails, before_bind, by_fault}
 use Rattle.med_session.specs.Tables.{TableFails, no_memory, fails_by, undone, TakesSource, ServerFails, source_taken, memory_refused}
 use Rattle.med_world.proofs.Faring.{set_this, same_box}
+use Rattle.med_world.proofs.ScansChanged.{fresh_scan}
 use Rattle.med_world.proofs.Lists.{some_same, none_some, push_last, one_place, same_bytes, other_bytes}
 use Rattle.med_world.specs.Adding.{HasSource}
 use Rattle.med_world.proofs.Named.{map_place, found_place, at_place, place_of}
@@ -175,16 +177,16 @@ err_kept (Err e) h k f = f e h k
 
 -- ---- a table that was just bound
 
--- what was just bound may be unbound, where the box was at rest
-mid_ready : (b mid : BoxState) (remote : List ℕ) (columns : List Column) (settings : List OptionForm) (t : ℕ) → IsAtRest b → Binds b remote columns settings t mid → CanUnbind mid t
-mid_ready b mid remote columns settings t rest binds = record {
+-- what was just bound may be unbound, where nothing was staged
+mid_ready : (b mid : BoxState) (remote : List ℕ) (columns : List Column) (settings : List OptionForm) (t : ℕ) → IsSoundBox b → IsUnstaged b → Binds b remote columns settings t mid → CanUnbind mid t
+mid_ready b mid remote columns settings t sound unstaged binds = record {
   is_bound = ap is_some (ap (λ l. l.tables t) binds.ledger ∙ set_this b.ledger.tables t (Some binds.bound) t refl);
-  no_scan = λ q scan is. absurd (none_some scan (scan_of mid q) (none q) is);
-  not_staged = ap (λ l. l.staged) binds.ledger ∙ rest.no_staging;
+  no_scan = λ q scan live. fresh_scan b t sound binds.fresh q scan (was q scan live);
+  not_staged = ap (λ l. l.staged) binds.ledger ∙ unstaged;
 }
   where
-    none : (q : ℕ) → scan_of mid q ≡ None
-    none q = ap (λ m. scan_of (record b { ledger = record b.ledger { live = m } }) q) (ap (λ l. l.live) binds.ledger) ∙ rest.no_scan q
+    was : (q : ℕ) (scan : Scan) → scan_of mid q ≡ Some scan → scan_of b q ≡ Some scan
+    was q scan live = ap (λ m. scan_of (record b { ledger = record b.ledger { live = m } }) q) (sym (ap (λ l. l.live) binds.ledger)) ∙ live
 
 -- the last of the bound tables is the one that was bound last
 pub last_bound : (old new : List BoundTable) (place number : ℕ) (t : BoundTable) → map attached new ≡ map attached old ++ record { source = place; number = number } ∷ [] → slice_get new (length old) ≡ Some t
@@ -203,7 +205,7 @@ pub can_let_go : (e : Shown) (boxes : List (Option BoxState)) (place number : �
 can_let_go e boxes place number remote columns settings t h binds is = record {
   box = binds.after;
   there = ap (λ (a : Attached). slice_get boxes a.source) is ∙ binds.now;
-  holds = subst (λ (n : ℕ). CanUnbind binds.after n) (sym (ap (λ (a : Attached). a.number) is)) (mid_ready binds.before binds.after remote columns settings number (h.at_rest place binds.before binds.there) binds.change);
+  holds = subst (λ (n : ℕ). CanUnbind binds.after n) (sym (ap (λ (a : Attached). a.number) is)) (mid_ready binds.before binds.after remote columns settings number (h.sound_boxes place binds.before binds.there) (h.scans.unstaged place binds.before binds.there) binds.change);
 }
 
 pub in_vain : (e : Shown) (t : TableObject) (mid new : List (Option BoxState)) (place number : ℕ) → ChangesAt e.boxes place (λ a b. Binds a t.remote t.columns t.settings number b) mid → ChangesAt mid place (λ a b. Unbinds a number b) new
@@ -324,7 +326,7 @@ queries_ready e h = record {
 
 pub ready_of : (e : Shown) → IsSound e → IsReady e.catalog e.bound e.boxes
 ready_of e h = record {
-  at_rest = h.at_rest;
+  unstaged = h.scans.unstaged;
   sound = (queries_ready e h).sound;
   tables = (queries_ready e h).tables;
 }

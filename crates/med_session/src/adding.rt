@@ -13,7 +13,7 @@ use fdw_api::wishes::Wrapper2;
 use med_catalog::SourceKind;
 use med_exec::slots::ledger_at;
 use med_value::limits::SOURCE_LIMIT;
-use med_world::law::sources_are_added;
+use med_world::law::{sessions_end, sources_are_added};
 use thiserror::Error;
 
 /// Why a source was not added.
@@ -117,6 +117,7 @@ impl<W: Wrapper2> Engine<W> {
         ensures closed { (last : Shown) × ClosesAll (shown W.meaning self) last × (states W.meaning result.slots.items ≡ last.boxes) }
         ensures at_rest { EachBox IsAtRest (states W.meaning result.slots.items) }
     {
+        sessions_end();
         self.close_sessions();
         let Engine { slots, .. } = self;
         Sources { slots }

@@ -39,7 +39,7 @@ impl<W: Wrapper2> Engine<W> {
     ghost use Rattle.med_session.specs.Shows.{shown};
     ghost use Rattle.med_session.specs.Tables.{TableFails, TakesSource, ServerFails};
     ghost use Rattle.med_world.specs.Altering.{IsFreeAt, IsAltered, NotAltered};
-    ghost use Rattle.med_world.specs.Engine.{IsSound, IsServerAt, with_change, BindsTable, UnbindsTable, DropsBox};
+    ghost use Rattle.med_world.specs.Engine.{IsSound, IsServerAt, leased, with_change, BindsTable, UnbindsTable, DropsBox};
 
     // The place of the source of this server.
     fn server_place(&self, server: &str) -> Option<usize>
@@ -130,6 +130,7 @@ impl<W: Wrapper2> Engine<W> {
     fn remove_table(&mut self, name: String) -> Result<(), Cause>
         requires sound { IsSound (shown W.meaning self.old) }
         requires there { IsSome (table_named (shown W.meaning self.old).catalog (string_bytes name)) }
+        requires free { leased (shown W.meaning self.old) (string_bytes name) ≡ false }
         ensures ok { OnOk result (UnbindsTable (shown W.meaning self.old) (string_bytes name) (shown W.meaning self.new)) }
         ensures err { IfErr result (λ c. c ≡ OutOfMemory) }
         ensures kept { OnErr result (shown W.meaning self.new ≡ shown W.meaning self.old) }

@@ -1,5 +1,5 @@
 //! The cursors of a session: DECLARE, FETCH and CLOSE (SQL:2016, part 2, 14 "Data manipulation").
-ghost use Rattle.std.specs.Prelude.{◌≡◌, length, map, IfOk, OnOk, IfErr, OnErr, string_bytes};
+ghost use Rattle.std.specs.Prelude.{◌≡◌, Contains, length, map, IfOk, OnOk, IfErr, OnErr, string_bytes};
 ghost use Rattle.med_value.specs.Datum.{tuple};
 ghost use Rattle.med_syntax.specs.QueryView.{statement_tree};
 ghost use Rattle.cursor_syntax.specs.CursorView.{count_tree};
@@ -9,7 +9,8 @@ ghost use Rattle.bind_catalog.specs.Tables.{AreNamedOnce};
 ghost use Rattle.med_catalog.specs.View.{objects};
 ghost use Rattle.med_exec.specs.Slots.{states};
 ghost use Rattle.med_select.specs.Ready.{AreReady};
-ghost use Rattle.open_cursors.specs.Open.{seated};
+ghost use Rattle.med_exec.specs.Rests.{IsRunning};
+ghost use Rattle.open_cursors.specs.Open.{Opened, seated};
 ghost use Rattle.med_world.specs.Seats.{IsSoundSeat};
 ghost use Rattle.med_session.specs.Cursors.{Opens, OpensNone, Fetched, NotFetched, Ended, NotEnded};
 
@@ -97,7 +98,8 @@ pub(crate) fn fetch_rows<W: Wrapper2>(
     name: &str,
     asked: FetchCount,
 ) -> Result<RowSet, Cause>
-    requires { IsSoundSeat (states W.meaning slots.old.items) (seated seat.old) }
+    requires sound { IsSoundSeat (seated seat.old) }
+    requires running { (c : Opened) → Contains (seated seat.old).cursors c → IsRunning c.run (states W.meaning slots.old.items) }
     ensures ok { IfOk result (λ set. Fetched name.now (count_tree asked) (seated seat.old) (states W.meaning slots.old.items)
         (map string_bytes set.names.items) (map tuple set.rows.items) (seated seat.new) (states W.meaning slots.new.items)) }
     ensures err { IfErr result (λ c. NotFetched name.now (seated seat.old) (states W.meaning slots.old.items) c (seated seat.new)
@@ -126,7 +128,8 @@ pub(crate) fn end_cursor<W: Wrapper2>(
     slots: &mut Vec<Option<W>>,
     name: &str,
 ) -> Result<(), Cause>
-    requires { IsSoundSeat (states W.meaning slots.old.items) (seated seat.old) }
+    requires sound { IsSoundSeat (seated seat.old) }
+    requires running { (c : Opened) → Contains (seated seat.old).cursors c → IsRunning c.run (states W.meaning slots.old.items) }
     ensures ok { OnOk result (Ended name.now (seated seat.old) (states W.meaning slots.old.items) (seated seat.new)
         (states W.meaning slots.new.items)) }
     ensures err { IfErr result (λ c. NotEnded name.now (seated seat.old) (states W.meaning slots.old.items) c (seated seat.new)

@@ -1,5 +1,5 @@
 //! The engine.
-ghost use Rattle.std.specs.Prelude.{◌≡◌, ◌<◌, ◌+◌, ◌++◌, ℕ, List, IfOk, IfErr, OnOk, OnErr, IsErrOf, vec_len, vec_capacity};
+ghost use Rattle.std.specs.Prelude.{◌≡◌, None, replicate, ◌<◌, ◌+◌, ◌++◌, ℕ, List, IfOk, IfErr, OnOk, OnErr, IsErrOf, vec_len, vec_capacity};
 
 use crate::places::{close_seats, closed_sessions, is_open, put_seat, take_seat, user_in};
 use crate::session::{NoRoom, Request, Sid};
@@ -13,8 +13,8 @@ use med_rows::run_write;
 use med_select::run_select;
 use med_value::Cause;
 use med_world::law::{
-    changes_lead, engines_begin, queries_lead, sessions_end, sessions_lead, statements_are_refused,
-    writes_lead,
+    boxes_are_ready, changes_lead, cursors_may_close, engines_begin, queries_lead, sessions_end,
+    sessions_lead, statements_are_refused, writes_lead,
 };
 use open_cursors::{Seat, close_all, is_leased};
 use session_replies::{Outcome, table_of, word_of, write_reply};
@@ -130,6 +130,7 @@ impl<W: Wrapper2> Engine<W> {
         ensures closes { Closes (shown W.meaning self.old) sid.number (shown W.meaning self.new) }
     {
         sessions_end();
+        cursors_may_close();
         match take_seat(&mut self.seats, sid) {
             Some(seat) => close_all(seat.cursors, &mut self.slots),
             None => {}
@@ -141,8 +142,10 @@ impl<W: Wrapper2> Engine<W> {
         requires { IsSound (shown W.meaning self.old) }
         ensures sound { IsSound (shown W.meaning self.new) }
         ensures closes { ClosesAll (shown W.meaning self.old) (shown W.meaning self.new) }
+        ensures closed { (shown W.meaning self.new).seats ≡ replicate session_count None }
     {
         sessions_end();
+        cursors_may_close();
         close_seats(&mut self.seats, &mut self.slots);
     }
 
@@ -191,6 +194,7 @@ impl<W: Wrapper2> Engine<W> {
         ensures told { IfFetched result (λ name. ⊥) }
     {
         sessions_lead();
+        cursors_may_close();
         match take_seat(&mut self.seats, sid) {
             Some(seat) => {
                 close_all(seat.cursors, &mut self.slots);
@@ -220,6 +224,7 @@ impl<W: Wrapper2> Engine<W> {
         };
         queries_lead();
         writes_lead();
+        boxes_are_ready();
         texts_are_clean();
         changes_lead();
         sessions_lead();

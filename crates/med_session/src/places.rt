@@ -1,17 +1,16 @@
 //! The places of the sessions: that of session n is n - 1, and holds its seat where it is open.
 ghost use Rattle.std.specs.Prelude.{◌≡◌, ◌-◌, ◌≤◌, None, Some, is_some, map, option_map, replicate, slice_set, vec_len, IfOk};
-ghost use Rattle.med_exec.specs.Running.{AllServed};
+ghost use Rattle.med_exec.specs.Running.{ServesRun, none_held};
 ghost use Rattle.med_exec.specs.Slots.{states};
 ghost use Rattle.med_value.specs.Limits.{session_count};
 ghost use Rattle.med_world.specs.Seats.{seat_of, user_of};
-ghost use Rattle.open_cursors.specs.Open.{seated, seats_shown};
+ghost use Rattle.open_cursors.specs.Open.{seated, seats_shown, held_by, AreHeld, AreOwn, all_cursors};
 
 use crate::session::Sid;
 use fdw_api::wishes::Wrapper2;
-use med_exec::law::services_join;
+use med_exec::law::{other_runs_are_left, services_join};
 use med_value::NoMemory;
 use med_value::limits::SESSION_COUNT;
-use med_world::law::cursors_hold_no_scan;
 use open_cursors::{Seat, close_all};
 use std::alloc::Global;
 
@@ -64,12 +63,15 @@ pub(crate) fn put_seat(seats: &mut Vec<Option<Seat>>, sid: Sid, seat: Seat)
 
 // Closes every session, and its cursors with it.
 pub(crate) fn close_seats<W: Wrapper2>(seats: &mut Vec<Option<Seat>>, slots: &mut Vec<Option<W>>)
-    requires { vec_len seats.old ≡ session_count }
+    requires long { vec_len seats.old ≡ session_count }
+    requires held { AreHeld (all_cursors (seats_shown seats.old.items)) (states W.meaning slots.old.items) }
+    requires own { AreOwn (all_cursors (seats_shown seats.old.items)) }
     ensures closed { seats_shown seats.new.items ≡ replicate session_count None }
-    ensures served { AllServed (states W.meaning slots.old.items) (states W.meaning slots.new.items) }
+    ensures served { ServesRun (held_by (all_cursors (seats_shown seats.old.items))) none_held
+        (states W.meaning slots.old.items) (states W.meaning slots.new.items) }
 {
     services_join();
-    cursors_hold_no_scan();
+    other_runs_are_left();
     for place in 0..SESSION_COUNT {
         match seats[place].take() {
             Some(seat) => close_all(seat.cursors, slots),

@@ -15,8 +15,7 @@ use Rattle.med_world.specs.Altering.{IsAllowed, SourcesAllow, IsAltered, NotAlte
 use Rattle.med_world.proofs.Lists.{some_same, bytes_same, other_bytes, push_cases, one_place}
 use Rattle.med_world.proofs.Named.{place_of, at_place, map_place, found_place, found_passes, find_first, back_first, find_fewer, back_fewer, none_left, still_found}
 use Rattle.med_world.proofs.Faring.{changes_by}
-use Rattle.med_world.proofs.Seats.{seats_sound}
-use Rattle.med_world.proofs.Kept.{IsClear, IsUntaken, stays_sound, unused, unbound, table_rows}
+use Rattle.med_world.proofs.Kept.{IsClear, IsUntaken, free_to_drop, stays_sound, unused, unbound, table_rows}
 use Rattle.med_world.proofs.Ready.{SourcesOnce, bind_ready}
 use Rattle.med_world.proofs.Sounds.{StaySound, ServersStay, none_gone, catalog_sound, unbound_sound, bound_sound, dropped_sound, idle_at, refused_sound, vain_sound}
 
@@ -112,9 +111,9 @@ server_sound e s place h objects stands = record {
   places = h.places;
   sources = h.sources;
   sessions = h.sessions;
-  seated = seats_sound e.boxes _ e.seats h.seated;
+  seated = h.seated;
   source_names = h.source_names;
-  at_rest = h.at_rest;
+  scans = catalog_scans e (new_server s) refl h.scans;
   sound_boxes = h.sound_boxes;
   takes = h.takes;
   servers_stand = λ r c. let p = place_of (e.catalog.servers ++ s ∷ []) r c in either r p.0 (push_cases e.catalog.servers s p.0 r p.1);
@@ -176,7 +175,7 @@ changed_sound law unbinds e n user d (no_server name) h allowed objects sources 
 changed_sound law unbinds e n user d (no_mapping server whose) h allowed objects sources is = subst IsSound (sym is)
     (catalog_sound e (no_mapping server whose) h objects
     (stay_changed e.catalog (λ (s : ServerObject). bytes_eq server s.name) (λ s. without (λ (m : MappingObject). bytes_eq whose m.user) s.mappings)) refl)
-changed_sound law unbinds e n user d (no_table name) h allowed objects sources is = unbound_sound e n name unbinds h objects is
+changed_sound law unbinds e n user d (no_table name) h allowed objects sources is = unbound_sound e n name unbinds h (free_to_drop e.catalog (leased e) user d name allowed.clear allowed.asks) objects is
 
 pub altered_sound : StaySound → UnbindsSoundly → (e n : Shown) (user : Name) (d : DdlTree) → IsSound e → IsAltered e user d n → IsSound n
 altered_sound law unbinds e n user d h is =

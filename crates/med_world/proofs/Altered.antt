@@ -9,7 +9,7 @@ use Rattle.med_syntax.specs.Tree.{Name}
 use Rattle.fdw_api.specs.Kinds.{Kind, Holding, Held, held, Reading}
 use Rattle.fdw_api.specs.Scan.{TableRow}
 use Rattle.fdw_api.specs.State.{BoxState, is_honest, table_of, rows_of}
-use Rattle.fdw_api.specs.Calls.{Binds, Unbinds, Refuses, Picks}
+use Rattle.fdw_api.specs.Calls.{NoScan, Binds, Unbinds, Refuses, Picks}
 use Rattle.fdw_api.specs.declared.interface.Fault.{Fault}
 use Rattle.med_exec.specs.Slots.{ChangesAt}
 use Rattle.med_catalog.specs.Objects.{ServerObject, TableObject, Objects, server_named}
@@ -22,8 +22,10 @@ use Rattle.med_world.specs.Steps.{with_catalog, Changes}
 use Rattle.med_world.specs.Engine.{Label, Shown, leased, EachBox, IsSound, IsNamedAt, IsServerAt, IsBoundAs, state_of, sources_of, AreRowsOf, RowsAgree, Agrees, with_change, BindsTable, UnbindsTable, DropsBox}
 use Rattle.med_world.specs.Altering.{BindsInVain}
 use Rattle.med_world.proofs.Seats.{sessions_stay, sessions_still, leases_same, named_apart, pushed_stands, dropped_stands, many_rows}
+use Rattle.med_world.proofs.Scans.{all_stay, unleased_scan}
+use Rattle.med_world.proofs.ScansChanged.{left_itself, quiet_left, catalog_scans, bind_quiet, bind_scans, unbind_quiet, unbind_scans, refused_quiet, refused_scans, vain_quiet, vain_scans, drop_left, drop_scans, first_named}
 use Rattle.med_world.proofs.Lists.{some_same, none_some, same_bytes, other_bytes, one_place, zero≢suc, left_was}
-use Rattle.med_world.proofs.Faring.{rest_spared, Spares, that_is, vain_spares, refuses_spares, spares_itself, changes_by, binds_spares, unbinds_spares, was_there, set_other, same_box, left_box}
+use Rattle.med_world.proofs.Faring.{Spares, that_is, vain_spares, refuses_spares, spares_itself, changes_by, binds_spares, unbinds_spares, was_there, set_other, same_box, left_box}
 
 -- ---- sources
 
@@ -165,7 +167,7 @@ rows_gone boxes name (t ∷ ts) (b ∷ bs) (x ∷ xs) h = split (bytes_eq name t
 
 -- one of the catalogue alone
 pub catalog_agrees : (e : Shown) (change : ObjectChange) (w : World) → (changed change w.catalog).tables ≡ w.catalog.tables → Agrees e w → Agrees (with_change e change) (with_catalog w change)
-catalog_agrees e change w tables h = record { honest = h.honest; catalog = ap (changed change) h.catalog; sources = h.sources; rows = h.rows; sessions = sessions_still e e.boxes w (with_catalog w change) refl tables refl h; at_rest = h.at_rest }
+catalog_agrees e change w tables h = record { honest = h.honest; catalog = ap (changed change) h.catalog; sources = h.sources; rows = h.rows; sessions = sessions_still e e.boxes w (with_catalog w change) refl tables refl (all_stay e e.boxes h.scans h.honest (left_itself e)) h; scans = catalog_scans e change (sym (ap (λ (o : Objects). (changed change o).tables) h.catalog) ∙ tables ∙ ap (λ (o : Objects). o.tables) h.catalog) h.scans }
 
 -- a table that is bound has another number than a fresh one
 pub fresh_other : (e : Shown) (place number : ℕ) (b : BoxState) → IsSound e → length e.bound ≡ length e.catalog.tables → slice_get e.boxes place ≡ Some (Some b) → table_of b number ≡ None
@@ -240,11 +242,11 @@ bind_agrees e n t w sound h agrees = (p, picked, (after, (reading, reads, no_cau
     agrees_after : Agrees grown after
     agrees_after = record {
       honest = λ i c at. let x = was_there (Spares (that_is h.number)) e.boxes new h.place i c (spares_itself (that_is h.number)) spares at in honest_spared (that_is h.number) x.0 c x.2 (agrees.honest i x.0 x.1);
-      at_rest = λ i c at. let x = was_there (Spares (that_is h.number)) e.boxes new h.place i c (spares_itself (that_is h.number)) spares at in rest_spared (that_is h.number) x.0 c x.2 (agrees.at_rest i x.0 x.1);
+      scans = bind_scans e n t sound h;
       catalog = ap (changed (new_table t)) agrees.catalog;
       sources = agrees.sources ∙ sym (sources_spared e new h.place (that_is h.number) agrees.honest spares);
       rows = rows_push new e.bound w.rows (record { source = h.place; number = h.number }) reading.rows others last;
-      sessions = sessions_stay e new w after refl (λ l taken x. pushed_stands w t reading.rows l many x) agrees;
+      sessions = sessions_stay e new w after refl (λ l taken x. pushed_stands w t reading.rows l many x) (all_stay e new sound.scans agrees.honest (quiet_left e new h.place (bind_quiet e n t sound h))) agrees;
     }
 
 -- a table is unbound
@@ -259,6 +261,11 @@ unbind_agrees e n name w p sound free h agrees = (after, refl, subst (λ (x : Sh
 
     spares : ChangesAt e.boxes h.at.source (Spares (that_is h.at.number)) new
     spares = changes_by (λ x y. Unbinds x h.at.number y) (Spares (that_is h.at.number)) e.boxes new h.at.source (λ x y k. unbinds_spares x y h.at.number k) h.unbinds
+
+    none : (s : BoxState) → slice_get e.boxes h.at.source ≡ Some (Some s) → NoScan s h.at.number
+    none s there =
+        let t = has_table e.catalog.tables e.bound h.place h.at sound.many h.bound in
+        unleased_scan e h.place t.0 h.at s sound.bound_once sound.scans t.1 h.bound (ap (leased e) (first_named name e.catalog.tables h.place t.0 h.first t.1) ∙ free) there
 
     left : List Attached
     left = beside_without name e.catalog.tables e.bound
@@ -278,11 +285,11 @@ unbind_agrees e n name w p sound free h agrees = (after, refl, subst (λ (x : Sh
     agrees_after : Agrees shrunk after
     agrees_after = record {
       honest = λ i c at. let x = was_there (Spares (that_is h.at.number)) e.boxes new h.at.source i c (spares_itself (that_is h.at.number)) spares at in honest_spared (that_is h.at.number) x.0 c x.2 (agrees.honest i x.0 x.1);
-      at_rest = λ i c at. let x = was_there (Spares (that_is h.at.number)) e.boxes new h.at.source i c (spares_itself (that_is h.at.number)) spares at in rest_spared (that_is h.at.number) x.0 c x.2 (agrees.at_rest i x.0 x.1);
+      scans = unbind_scans e n name sound free h none;
       catalog = ap (changed (no_table name)) agrees.catalog;
       sources = agrees.sources ∙ sym (sources_spared e new h.at.source (that_is h.at.number) agrees.honest spares);
       rows = subst (λ (o : Objects). RowsAgree new left (beside_without name o.tables w.rows)) (sym agrees.catalog) kept;
-      sessions = sessions_stay e new w after refl (λ l taken x. dropped_stands w name l (named_apart w l.table name taken (ap (λ f. f name) (leases_same e w sound agrees) ∙ free)) x) agrees;
+      sessions = sessions_stay e new w after refl (λ l taken x. dropped_stands w name l (named_apart w l.table name taken (ap (λ f. f name) (leases_same e w sound agrees) ∙ free)) x) (all_stay e new sound.scans agrees.honest (quiet_left e new h.at.source (unbind_quiet e n name sound free h none))) agrees;
     }
 
 -- a box is dropped
@@ -300,11 +307,11 @@ rows_elsewhere boxes place (a ∷ more) (x ∷ xs) other h = (
 pub refused_agrees : (e : Shown) (new : List (Option BoxState)) (place : ℕ) (fault : Fault) → ChangesAt e.boxes place (Refuses fault) new → (w : World) → Agrees e w → Agrees (record e { boxes = new }) w
 refused_agrees e new place fault h w agrees = record {
   honest = λ i c at. let x = was_there (Spares nothing_at) e.boxes new place i c (spares_itself nothing_at) spares at in honest_spared nothing_at x.0 c x.2 (agrees.honest i x.0 x.1);
-  at_rest = λ i c at. let x = was_there (Spares nothing_at) e.boxes new place i c (spares_itself nothing_at) spares at in rest_spared nothing_at x.0 c x.2 (agrees.at_rest i x.0 x.1);
+  scans = refused_scans e new place fault h agrees.scans;
   catalog = agrees.catalog;
   sources = agrees.sources ∙ sym (sources_spared e new place nothing_at agrees.honest spares);
   rows = rows_spared e.boxes new place nothing_at agrees.honest spares e.bound w.rows (λ k a at here only. only) agrees.rows;
-  sessions = sessions_still e new w w refl refl refl agrees;
+  sessions = sessions_still e new w w refl refl refl (all_stay e new agrees.scans agrees.honest (quiet_left e new place (refused_quiet e new place fault h))) agrees;
 }
   where
     nothing_at : ℕ → Type 0
@@ -317,12 +324,12 @@ refused_agrees e new place fault h w agrees = record {
 pub vain_agrees : (e : Shown) (new : List (Option BoxState)) (t : TableObject) (place : ℕ) → IsSound e → ChangesAt e.boxes place (BindsInVain t) new → (w : World) → Agrees e w → Agrees (record e { boxes = new }) w
 vain_agrees e new t place sound h w agrees = record {
   honest = λ i c at. let x = was_there (Spares only) e.boxes new place i c (spares_itself only) spares at in honest_spared only x.0 c x.2 (agrees.honest i x.0 x.1);
-  at_rest = λ i c at. let x = was_there (Spares only) e.boxes new place i c (spares_itself only) spares at in rest_spared only x.0 c x.2 (agrees.at_rest i x.0 x.1);
+  scans = vain_scans e new t place sound h;
   catalog = agrees.catalog;
   sources = agrees.sources ∙ sym (sources_spared e new place only agrees.honest spares);
   rows = rows_spared e.boxes new place only agrees.honest spares e.bound w.rows
       (λ k a at. let u = has_table e.catalog.tables e.bound k a sound.many at in fresh_other e place h.change.number h.before sound sound.many h.there h.change.binds.fresh k a u.0 u.1 at) agrees.rows;
-  sessions = sessions_still e new w w refl refl refl agrees;
+  sessions = sessions_still e new w w refl refl refl (all_stay e new agrees.scans agrees.honest (quiet_left e new place (vain_quiet e new t place sound h))) agrees;
 }
   where
     only : ℕ → Type 0
@@ -356,9 +363,9 @@ drop_agrees e n name w p sound h agrees = (after, is, subst (λ (x : Shown). Agr
     agrees_after : Agrees shrunk after
     agrees_after = record {
       honest = λ i c at. agrees.honest i c (left_box e.boxes h.place i h.box c h.there at);
-      at_rest = λ i c at. agrees.at_rest i c (left_box e.boxes h.place i h.box c h.there at);
+      scans = drop_scans e h.place h.box h.there h.idle name sound.scans;
       catalog = ap (changed (no_server name)) agrees.catalog;
       sources = ap (drop_source h.server.at.source) agrees.sources ∙ sym (sources_dropped e.labels e.boxes h.place h.server.at.source (Some h.box) sound.source_names h.server.source h.there);
       rows = rows_elsewhere e.boxes h.place e.bound w.rows apart agrees.rows;
-      sessions = sessions_still e new w after refl refl refl agrees;
+      sessions = sessions_still e new w after refl refl refl (all_stay e new sound.scans agrees.honest (drop_left e h.place h.box h.there h.idle)) agrees;
     }

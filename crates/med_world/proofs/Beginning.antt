@@ -8,9 +8,9 @@ use Rattle.med_value.specs.Limits.{session_count}
 use Rattle.med_world.specs.Requests.{IsUser}
 use Rattle.open_cursors.specs.Open.{Seated}
 use Rattle.med_world.specs.World.{empty_world}
-use Rattle.med_world.specs.Engine.{AreSound, IsSound, Agrees}
+use Rattle.med_world.specs.Engine.{AreSound, KeepsScans, IsSound, Agrees}
 use Rattle.med_world.specs.Laws.{empty_shown}
-use Rattle.med_world.proofs.Sessions.{all_shut, shut_seats, shut_many}
+use Rattle.med_world.proofs.Sessions.{all_shut, shut_seats, shut_many, none_open}
 
 no_box : (slot : ℕ) (s : BoxState) → slice_get {X = Option BoxState} [] slot ≡ Some (Some s) → ⊥
 no_box slot s e = cc
@@ -28,6 +28,15 @@ empty_objects owner is_user = record {
   served = λ t c. absurd (let within = c.1 in omega arith);
 }
 
+-- no box has a scan, and no session is open
+empty_scans : (owner : Name) (seats : List (Option Seated)) → seats ≡ replicate session_count None → KeepsScans (empty_shown owner seats)
+empty_scans owner seats closed = record {
+  unstaged = λ slot s at. absurd (no_box slot s at);
+  running = λ place c is_open. absurd (none_open seats closed place c is_open);
+  owned = λ slot number s scan at live. absurd (no_box slot s at);
+  once = λ j k c d slot number x. absurd (none_open seats closed j c x);
+}
+
 pub empty_sound : (owner : Name) (seats : List (Option Seated)) → IsUser owner → seats ≡ replicate session_count None → IsSound (empty_shown owner seats)
 unfolding IsDistinct
 empty_sound owner seats is_user closed = record {
@@ -35,9 +44,9 @@ empty_sound owner seats is_user closed = record {
   places = refl;
   sources = lit≤ tt;
   sessions = shut_many seats closed;
-  seated = shut_seats [] seats closed;
+  seated = shut_seats seats closed;
   source_names = tt;
-  at_rest = λ slot s at. absurd (no_box slot s at);
+  scans = empty_scans owner seats closed;
   sound_boxes = λ slot s at. absurd (no_box slot s at);
   takes = λ place l s at_l at_s. absurd (no_box place s at_s);
   servers_stand = λ s c. absurd (let within = c.1 in omega arith);
@@ -54,5 +63,5 @@ empty_agrees owner seats closed = record {
   sources = refl;
   rows = tt;
   sessions = λ sid is. all_shut [] (empty_world owner) seats sid closed;
-  at_rest = λ slot s at. absurd (no_box slot s at);
+  scans = empty_scans owner seats closed;
 }

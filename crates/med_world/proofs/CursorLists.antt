@@ -1,6 +1,7 @@
 -- Cursors of an engine beside those of a world: the cursor of a name, one more, one fewer, and one that runs on.
-use Rattle.std.proofs.Common.{◌≡◌, ℕ, ◌≤◌, ◌||◌, Bool, true, false, not, cond, List, [], ◌∷◌, ◌++◌, Option, Some, None, is_some, find, filter, slice_get, length, map, refl, ap, sym, ◌∙◌, subst, zero, suc, arith, bytes_eq}
+use Rattle.std.proofs.Common.{◌≡◌, ℕ, ◌≤◌, ◌||◌, Bool, true, false, not, cond, List, [], ◌∷◌, ◌++◌, Option, Some, None, is_some, Contains, find, filter, slice_get, length, map, refl, ap, sym, ◌∙◌, subst, zero, suc, arith, bytes_eq}
 use Rattle.std.specs.List.{IsDistinct, AllByRecursion, list_any}
+use Rattle.std.proofs.lemmas.Bool.{false≢true}
 use Rattle.std.proofs.lemmas.List.{map-append}
 use Rattle.med_value.specs.Datum.{Tuple}
 use Rattle.med_syntax.specs.Tree.{Name}
@@ -10,9 +11,9 @@ use Rattle.open_cursors.specs.Open.{Opened, AreNamedApart, has_name, opened_name
 use Rattle.med_world.specs.World.{World, Cursor, reads_table}
 use Rattle.med_world.specs.Cursors.{is_cursor, hand_out}
 use Rattle.med_world.specs.Seats.{CursorAgrees, CursorsAgree}
-use Rattle.med_world.proofs.Lists.{some_same, bytes_same, other_bytes, bytes_other}
-use Rattle.med_world.proofs.Named.{none_later, distinct_push}
-use Rattle.med_world.proofs.Seats.{StandsOn, cursor_stays, or_true}
+use Rattle.med_world.proofs.Lists.{some_same, bytes_same, other_bytes, bytes_other, each_at}
+use Rattle.med_world.proofs.Named.{place_of, at_place, map_place, none_later, distinct_push}
+use Rattle.med_world.proofs.Seats.{StandsOn, RestsStay, here_first, here_later, cursor_stays, or_true}
 
 -- ---- the cursor of a name
 
@@ -61,6 +62,21 @@ as_many boxes w [] [] h = refl
 as_many boxes w [] (c ∷ cs) h = absurd h
 as_many boxes w (o ∷ os) [] h = absurd h
 as_many boxes w (o ∷ os) (c ∷ cs) h = ap suc (as_many boxes w os cs h.1)
+
+-- two cursors of one name are one, and it is the one that is found
+pub named_one : (name : Name) (os : List Opened) (o c : Opened) → AreNamedApart os → find (has_name name) os ≡ Some o → Contains os c → has_name name c ≡ true → c ≡ o
+unfolding IsDistinct
+named_one name [] o c apart at has is = absurd cc
+named_one name (x ∷ os) o c apart at has is = split (has_name name x) refl at (place_of (x ∷ os) c has)
+  where
+    split : (b : Bool) → has_name name x ≡ b → cond b (Some x) (find (has_name name) os) ≡ Some o → (k : ℕ) × (slice_get (x ∷ os) k ≡ Some c) → c ≡ o
+    split b e f (zero, p) = first b (e) f (some_same x c p)
+      where
+        first : (b : Bool) → has_name name x ≡ b → cond b (Some x) (find (has_name name) os) ≡ Some o → x ≡ c → c ≡ o
+        first true e f same = sym same ∙ some_same x o f
+        first false e f same = absurd (false≢true (sym e ∙ ap (has_name name) same ∙ is))
+    split true e f (suc k, p) = absurd (bytes_other x.name c.name (each_at (λ n. bytes_eq x.name n ≡ false) (map (λ (y : Opened). y.name) os) k c.name apart.0 (map_place (λ (y : Opened). y.name) os k c p)) (bytes_same x.name name e ∙ sym (bytes_same c.name name is)))
+    split false e f (suc k, p) = named_one name os o c apart.1 f (at_place os k c p) is
 
 -- ---- one more
 
@@ -160,15 +176,19 @@ pair_turns old new w v name run rows o c is was h =
     subst (λ b. CursorAgrees new v (runs_on name run o) (cond b (record c { handed = c.handed ++ rows }) c)) (sym (same_named old w name o c was ∙ is))
     (subst (λ b. CursorAgrees new v (cond b (record o { run = run }) o) (record c { handed = c.handed ++ rows })) (sym is) h)
 
+-- the runs of cursors of other names
+abbrev pub OthersStay : List (Option BoxState) → List (Option BoxState) → Name → List Opened → Type 0
+OthersStay old new name os = (o : Opened) → Contains os o → has_name name o ≡ false → RestsStay old new o
+
 -- those of other names
 others_stay : (old new : List (Option BoxState)) (w v : World) (name : Name) (run : Run) (rows : List Tuple) (os : List Opened) (cs : List Cursor) → StandsOn w v cs
-    → AllByRecursion (λ n. bytes_eq n name ≡ false) (map (λ (o : Opened). o.name) os) → CursorsAgree old w os cs → CursorsAgree new v (with_run name run os) (map (hand_out name rows) cs)
-others_stay old new w v name run rows [] [] on apart h = tt
-others_stay old new w v name run rows [] (c ∷ cs) on apart h = absurd h
-others_stay old new w v name run rows (o ∷ os) [] on apart h = absurd h
-others_stay old new w v name run rows (o ∷ os) (c ∷ cs) on apart h = (
-  pair_stays old new w v name run rows o c apart.0 h.0 (cursor_stays old new w v o c (λ l e. on l (ap (λ b. b || list_any (reads_table l.table) cs) e)) h.0),
-  others_stay old new w v name run rows os cs (λ l e. on l (or_true (reads_table l.table c) (list_any (reads_table l.table) cs) e)) apart.1 h.1,
+    → OthersStay old new name os → AllByRecursion (λ n. bytes_eq n name ≡ false) (map (λ (o : Opened). o.name) os) → CursorsAgree old w os cs → CursorsAgree new v (with_run name run os) (map (hand_out name rows) cs)
+others_stay old new w v name run rows [] [] on stay apart h = tt
+others_stay old new w v name run rows [] (c ∷ cs) on stay apart h = absurd h
+others_stay old new w v name run rows (o ∷ os) [] on stay apart h = absurd h
+others_stay old new w v name run rows (o ∷ os) (c ∷ cs) on stay apart h = (
+  pair_stays old new w v name run rows o c apart.0 h.0 (cursor_stays old new w v o c (λ l e. on l (ap (λ b. b || list_any (reads_table l.table) cs) e)) (stay o (here_first o os) apart.0) h.0),
+  others_stay old new w v name run rows os cs (λ l e. on l (or_true (reads_table l.table c) (list_any (reads_table l.table) cs) e)) (λ x has. stay x (here_later o x os has)) apart.1 h.1,
 )
 
 -- names that differ from one differ from an equal one
@@ -177,17 +197,20 @@ all_turned a name [] same h = tt
 all_turned a name (n ∷ ns) same h = (other_bytes n name (λ e. bytes_other a n h.0 (same ∙ sym e)), all_turned a name ns same h.1)
 
 -- The cursor of a name runs on, and has handed out rows; its step is given.
-pub one_turns : (old new : List (Option BoxState)) (w v : World) (name : Name) (run : Run) (rows : List Tuple) (os : List Opened) (cs : List Cursor) (o : Opened) → StandsOn w v cs → AreNamedApart os → find (has_name name) os ≡ Some o
+pub one_turns : (old new : List (Option BoxState)) (w v : World) (name : Name) (run : Run) (rows : List Tuple) (os : List Opened) (cs : List Cursor) (o : Opened) → StandsOn w v cs → OthersStay old new name os → AreNamedApart os → find (has_name name) os ≡ Some o
     → ((c : Cursor) → CursorAgrees old w o c → CursorAgrees new v (record o { run = run }) (record c { handed = c.handed ++ rows })) → CursorsAgree old w os cs → CursorsAgree new v (with_run name run os) (map (hand_out name rows) cs)
 unfolding IsDistinct
-one_turns old new w v name run rows [] [] o on apart at step h = tt
-one_turns old new w v name run rows [] (c ∷ cs) o on apart at step h = absurd h
-one_turns old new w v name run rows (x ∷ os) [] o on apart at step h = absurd h
-one_turns old new w v name run rows (x ∷ os) (c ∷ cs) o on apart at step h =
-    split (has_name name x) refl at (λ rest. one_turns old new w v name run rows os cs o on_rest apart.1 rest step h.1)
+one_turns old new w v name run rows [] [] o on stay apart at step h = tt
+one_turns old new w v name run rows [] (c ∷ cs) o on stay apart at step h = absurd h
+one_turns old new w v name run rows (x ∷ os) [] o on stay apart at step h = absurd h
+one_turns old new w v name run rows (x ∷ os) (c ∷ cs) o on stay apart at step h =
+    split (has_name name x) refl at (λ rest. one_turns old new w v name run rows os cs o on_rest stay_rest apart.1 rest step h.1)
   where
     on_rest : StandsOn w v cs
     on_rest = λ l e. on l (or_true (reads_table l.table c) (list_any (reads_table l.table) cs) e)
+
+    stay_rest : OthersStay old new name os
+    stay_rest y has = stay y (here_later x y os has)
 
     split : (b : Bool) → has_name name x ≡ b → cond b (Some x) (find (has_name name) os) ≡ Some o → (find (has_name name) os ≡ Some o → CursorsAgree new v (with_run name run os) (map (hand_out name rows) cs))
         → Pair new v name run rows x c × CursorsAgree new v (with_run name run os) (map (hand_out name rows) cs)
@@ -195,6 +218,6 @@ one_turns old new w v name run rows (x ∷ os) (c ∷ cs) o on apart at step h =
         let same : x ≡ o = some_same x o e in (
           pair_turns old new w v name run rows x c is h.0
               (subst (λ (y : Opened). CursorAgrees new v (record y { run = run }) (record c { handed = c.handed ++ rows })) (sym same) (step c (subst (λ (y : Opened). CursorAgrees old w y c) same h.0))),
-          others_stay old new w v name run rows os cs on_rest (all_turned x.name name (map (λ (o : Opened). o.name) os) (bytes_same x.name name is) apart.0) h.1,
+          others_stay old new w v name run rows os cs on_rest stay_rest (all_turned x.name name (map (λ (o : Opened). o.name) os) (bytes_same x.name name is) apart.0) h.1,
         )
-    split false is e rest = (pair_stays old new w v name run rows x c is h.0 (cursor_stays old new w v x c (λ l e. on l (ap (λ b. b || list_any (reads_table l.table) cs) e)) h.0), rest e)
+    split false is e rest = (pair_stays old new w v name run rows x c is h.0 (cursor_stays old new w v x c (λ l e. on l (ap (λ b. b || list_any (reads_table l.table) cs) e)) (stay x (here_first x os) is) h.0), rest e)

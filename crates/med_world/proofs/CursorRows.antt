@@ -1,5 +1,6 @@
 -- The tables that the query of a cursor reads: they are there, and the rows that its cursor keeps are those of its entries.
-use Rattle.std.proofs.Common.{◌≡◌, ℕ, ◌+◌, Bool, true, false, cond, if◌then◌else◌, List, [], ◌∷◌, ◌++◌, Option, Some, is_some, Contains, slice_get, map, flat_map, unwrap_or, inl, refl, ap, sym, ◌∙◌, subst, zero, suc, arith}
+use Rattle.std.proofs.Common.{◌≡◌, ℕ, ◌+◌, Bool, true, false, cond, if◌then◌else◌, List, [], ◌∷◌, ◌++◌, Option, Some, is_some, Contains, slice_get, map, flat_map, unwrap_or, inl, refl, ap, sym, ◌∙◌, subst, zero, suc, arith, bytes_eq}
+use Rattle.std.specs.List.{list_any}
 use Rattle.med_value.specs.declared.cause.Cause.{Cause}
 use Rattle.med_value.specs.declared.cause.Cause.TheVariants.{UndefinedTable}
 use Rattle.med_syntax.specs.Tree.{Name}
@@ -8,7 +9,12 @@ use Rattle.fdw_api.specs.Kinds.{Held}
 use Rattle.bind_names.specs.Scope.{TableShape, place_named, entries_of, is_known, entry_place, exposed_name}
 use Rattle.bind_names.specs.Naming.{entry_causes, alias_causes, from_causes, asked_causes, once_known}
 use Rattle.bind_catalog.specs.Tables.{shapes}
-use Rattle.bind_catalog.specs.Queries.{IsBindable}
+use Rattle.bind_catalog.specs.Queries.{meant_by, IsBindable}
+use Rattle.bind_catalog.specs.Places.{Attached, IsPlaceOf, ArePlaces}
+use Rattle.med_planner.specs.Planned.{Place}
+use Rattle.med_exec.specs.declared.running.Run.{Run}
+use Rattle.open_cursors.specs.Open.{Opened, leases_table}
+use Rattle.med_world.specs.Turning.{new_opened}
 use Rattle.med_catalog.specs.Objects.{TableObject, Objects}
 use Rattle.open_cursors.specs.Starting.{leases_of}
 use Rattle.med_world.specs.World.{World, Leased, cells_of, rows_in, rows_named}
@@ -16,9 +22,11 @@ use Rattle.med_world.specs.Cursors.{rows_leased}
 use Rattle.med_world.specs.Causes.{entry_tables, entries_in}
 use Rattle.med_world.specs.Steps.{leased_now}
 use Rattle.med_world.specs.Seats.{StillStands}
-use Rattle.med_world.specs.Engine.{IsFirst}
-use Rattle.med_world.proofs.Lists.{some_same}
-use Rattle.med_world.proofs.Named.{place_of, at_place, some_of}
+use Rattle.med_world.specs.Engine.{IsFirst, LeasesNumber}
+use Rattle.med_world.proofs.Lists.{some_same, same_bytes}
+use Rattle.med_world.proofs.Named.{place_of, at_place, map_place, some_of}
+use Rattle.med_world.proofs.Seats.{any_at}
+use Rattle.med_world.proofs.ScansChanged.{first_named}
 use Rattle.med_world.proofs.TargetRows.{first_from, first_table}
 
 -- ---- where no cause of names stands, each table is known
@@ -117,3 +125,46 @@ entry_stands w (e ∷ es) known (suc k) l at = entry_stands w es known.1 k l at
 
 pub tables_stand : (w : World) (user : Name) (q : SelectTree) → IsBindable w.catalog user q → (l : Leased) → Contains (leased_now w q) l → StillStands w l
 tables_stand w user q b l has = let p = place_of (leased_now w q) l has in entry_stands w (entries_of q.from) (all_known w.catalog user q b) p.0 l p.1
+
+-- ---- a table that is read is leased
+
+-- the place of an entry is one of the places of the entries
+pub leased_entry : (tables : List TableObject) (bound : List Attached) (c : Opened) (slot number : ℕ) (e : EntryTree) (k : ℕ) (p : Place) → IsFirst e.table tables k → IsPlaceOf bound k p → p.source ≡ slot → p.table ≡ number → leases_table e.table c ≡ true
+    → LeasesNumber tables bound c slot number
+leased_entry tables bound c slot number e k p first is source table leases =
+    let t = first_table tables e.table k first in
+    record {
+      place = k;
+      table = t.0;
+      at = is.at;
+      there = t.1;
+      is_bound = is.there;
+      source_is = sym is.source ∙ source;
+      number_is = sym is.number ∙ table;
+      leases = ap (λ (name : Name). leases_table name c) (first_named e.table tables k t.0 first t.1) ∙ leases;
+    }
+
+-- the entries from some place on: each of their tables is leased
+entries_leased : (o : Objects) (bound : List Attached) (c : Opened) (slot number : ℕ) (es : List EntryTree) (places : List Place) (p : Place) → AllKnown (shapes o) es → ArePlaces bound (map (entry_place (shapes o)) es) places
+    → ((k : ℕ) (e : EntryTree) → slice_get es k ≡ Some e → leases_table e.table c ≡ true) → (k : ℕ) → slice_get places k ≡ Some p → p.source ≡ slot → p.table ≡ number → LeasesNumber o.tables bound c slot number
+entries_leased o bound c slot number [] [] p known are leases k at source table = absurd (let e = at in cc)
+entries_leased o bound c slot number [] (x ∷ xs) p known are leases k at source table = absurd are
+entries_leased o bound c slot number (e ∷ es) [] p known are leases k at source table = absurd are
+entries_leased o bound c slot number (e ∷ es) (x ∷ xs) p known are leases zero at source table =
+    let a = at_known o e known.0 in
+    let same : x ≡ p = some_same x p at in
+    leased_entry o.tables bound c slot number e a.place p a.first (subst (λ (y : Place). IsPlaceOf bound a.place y) same (subst (λ (j : ℕ). IsPlaceOf bound j x) a.is are.0)) source table (leases zero e refl)
+entries_leased o bound c slot number (e ∷ es) (x ∷ xs) p known are leases (suc k) at source table =
+    entries_leased o bound c slot number es xs p known.1 are.1 (λ j. leases (suc j)) k at source table
+
+all_leased : (c : Opened) (es : List EntryTree) → c.leases ≡ map (λ (e : EntryTree). e.table) es → (k : ℕ) (e : EntryTree) → slice_get es k ≡ Some e → leases_table e.table c ≡ true
+all_leased c es same k e at =
+    ap (λ (names : List Name). list_any (bytes_eq e.table) names) same
+    ∙ any_at (bytes_eq e.table) (map (λ (x : EntryTree). x.table) es) k e.table (map_place (λ (x : EntryTree). x.table) es k e at) (same_bytes e.table e.table refl)
+
+pub place_leased : (o : Objects) (user : Name) (bound : List Attached) (q : SelectTree) (names : List Name) (name : Name) (run : Run) (places : List Place) (slot number : ℕ) (p : Place) → IsBindable o user q → ArePlaces bound (meant_by o q).entries places
+    → Contains places p → p.source ≡ slot → p.table ≡ number → LeasesNumber o.tables bound (new_opened name names q run) slot number
+place_leased o user bound q names name run places slot number p b are has source table =
+    let c = new_opened name names q run in
+    let k = place_of places p has in
+    entries_leased o bound c slot number (entries_of q.from) places p (all_known o user q b) are (all_leased c (entries_of q.from) refl) k.0 k.1 source table

@@ -1,36 +1,47 @@
 -- The session of a statement on cursors, in the engine and in a world that agrees; and engines that stay sound as its cursors change.
-use Rattle.std.proofs.Common.{◌≡◌, ℕ, ◌+◌, ◌-◌, ◌<◌, ◌≤◌, true, false, not, List, [], ◌∷◌, ◌++◌, Option, Some, None, IsSome, is_some, length, slice_get, refl, ap, sym, ◌∙◌, subst, arith}
+use Rattle.std.proofs.Common.{◌≡◌, ◌≢◌, ℕ, zero, suc, ◌+◌, ◌-◌, ◌<◌, ◌≤◌, ◌⊎◌, inl, inr, Bool, true, false, not, cond, Contains, List, [], ◌∷◌, ◌++◌, Option, Some, None, IsSome, is_some, length, slice_get, refl, ap, sym, ◌∙◌, subst, arith}
 use Rattle.std.proofs.lemmas.Bool.{false≢true, leb-true, leb-false}
 use Rattle.std.proofs.lemmas.List.{length_push}
+use Rattle.std.proofs.lemmas.List.Elements.{Contains-append_left, Contains-append_right, Contains-append_cases}
 use Rattle.med_value.specs.Datum.{Tuple}
 use Rattle.med_value.specs.declared.cause.Cause.{Cause}
 use Rattle.med_syntax.specs.Tree.{Name}
 use Rattle.med_syntax.specs.QueryTree.{SelectTree}
-use Rattle.fdw_api.specs.State.{BoxState}
+use Rattle.fdw_api.specs.State.{Scan, BoxState, scan_of}
+use Rattle.fdw_api.specs.Sound.{IsTableOf}
+use Rattle.med_exec.specs.Slots.{BoxAt}
 use Rattle.med_exec.specs.declared.running.Run.{Run}
-use Rattle.med_exec.specs.Running.{AllServed}
-use Rattle.med_exec.proofs.Served.{all_on}
+use Rattle.med_exec.specs.Running.{Held as Scans, Served, ServesRun, AllHonest, none_held}
+use Rattle.med_exec.specs.Rests.{held}
+use Rattle.med_exec.specs.Leaving.{AreApart, LeavesRun}
+use Rattle.med_exec.proofs.Served.{serves_on}
+use Rattle.med_exec.proofs.Leaving.{is_some_of, served_leaves, served_fresh}
+use Rattle.med_exec.proofs.Left.{run_goes_on, run_is_held, held_is_live}
 use Rattle.cursor_syntax.specs.CursorTree.{CountTree, CursorTree}
 use Rattle.med_parser.specs.CommandTree.{on_cursors}
-use Rattle.open_cursors.specs.Open.{Opened, Seated, is_full, has_name, opened_named, without_named, with_run}
-use Rattle.open_cursors.specs.Starting.{Starts, StartFails, not_bound, is_risky, no_room, too_many, run_fails}
+use Rattle.open_cursors.specs.Open.{Opened, Seated, is_full, has_name, opened_named, without_named, runs_on, with_run}
+use Rattle.open_cursors.specs.Starting.{ScansOne, Starts, StartFails, not_bound, is_risky, no_room, too_many, run_fails}
 use Rattle.open_cursors.specs.Fetching.{GivesRows}
 use Rattle.med_world.specs.Requests.{sql, IsSid}
 use Rattle.med_world.specs.Picks.{no_pick}
 use Rattle.med_world.specs.World.{World, Session}
 use Rattle.med_world.specs.Cursors.{cursor_named}
 use Rattle.med_world.specs.Causes.{IsPickOf}
-use Rattle.med_world.specs.Seats.{seat_in, seat_of, IsSoundSeat, CursorsAgree, SeatAgrees}
-use Rattle.med_world.specs.Engine.{Shown, IsSound, Agrees}
+use Rattle.med_world.specs.Seats.{seat_in, seat_of, IsSoundSeat, IsOpenAt, CursorsAgree, SeatAgrees}
+use Rattle.med_world.specs.Engine.{Shown, LeasesNumber, IsOwned, IsSound, Agrees}
 use Rattle.med_world.specs.Turning.{new_opened, with_cursors, Ends, at_once, later}
 use Rattle.med_world.specs.Laws.{IsRead, with_boxes}
-use Rattle.med_world.proofs.Lists.{some_same}
-use Rattle.med_world.proofs.Seats.{runs_on}
+use Rattle.med_world.proofs.Lists.{some_same, none_some, same_bytes, bytes_same, bytes_other}
+use Rattle.med_world.proofs.Named.{place_of, at_place, map_place, found_place, found_passes}
+use Rattle.med_world.proofs.Faring.{same_box}
+use Rattle.med_world.proofs.Seats.{RestsStay, IsIn, place_there, here_first, here_later}
+use Rattle.med_world.proofs.Scans.{apart_none, IsSpared, TurnsOn, Turned}
+use Rattle.med_world.proofs.CursorRows.{place_leased}
 use Rattle.med_world.proofs.Told.{pick_tree}
 use Rattle.med_world.proofs.Leading.{cursors_in, session_in, known}
-use Rattle.med_world.proofs.Serving.{serving_sound}
+use Rattle.med_world.proofs.Serving.{served_onward, serving_sound}
 use Rattle.med_world.proofs.Sessions.{turned_sound}
-use Rattle.med_world.proofs.CursorLists.{IsFound, found, as_found, as_many, more_apart, fewer_apart, fewer_most, run_apart, run_most}
+use Rattle.med_world.proofs.CursorLists.{IsFound, found, as_found, as_many, named_one, more_apart, fewer_apart, fewer_most, run_apart, run_most}
 
 -- ---- its cursors
 
@@ -78,23 +89,314 @@ full_there e w sid seat is at a full =
     let many : 16 ≤ length seat.cursors = leb-true 16 (length seat.cursors) full in
     omega (arith, same, many)
 
+-- ---- cursors that go, come or run on
+
+pub here_of : (e : Shown) (sid : ℕ) (seat : Seated) → seat_of e.seats sid ≡ Some seat → slice_get e.seats (sid - 1) ≡ Some (Some seat)
+here_of e sid seat at = place_there (slice_get e.seats (sid - 1)) seat at
+
+pub old_seat : (e : Shown) (sid : ℕ) (seat : Seated) → IsSound e → seat_of e.seats sid ≡ Some seat → IsSoundSeat seat
+old_seat e sid seat sound at = sound.seated (sid - 1) seat (here_of e sid seat at)
+
+some_seat : (a b : Seated) → Some (Some a) ≡ Some (Some b) → a ≡ b
+some_seat a b e = cc
+
+same_cursors : (a b : Seated) (c : Opened) → a ≡ b → Contains a.cursors c → Contains b.cursors c
+same_cursors a b c e h = subst (λ (s : Seated). Contains s.cursors c) e h
+
+module _ (e : Shown) (sid : ℕ) (seat : Seated) (sound : IsSound e) (at : seat_of e.seats sid ≡ Some seat) where
+  open_here : (c : Opened) → Contains seat.cursors c → IsOpenAt e.seats (sid - 1) c
+  open_here c has = record { seat = seat; there = here_of e sid seat at; has = has }
+
+  is_here : (c : Opened) → IsOpenAt e.seats (sid - 1) c → Contains seat.cursors c
+  is_here c h = same_cursors h.seat seat c (some_seat h.seat seat (sym h.there ∙ here_of e sid seat at)) h.has
+
+  -- the scans of a cursor that is here are no other's
+  module _ (o : Opened) (has_o : Contains seat.cursors o) where
+    apart_there : (j : ℕ) (c : Opened) → IsOpenAt e.seats j c → j ≢ sid - 1 → AreApart (held c.run) (held o.run)
+    apart_there j c is_open ne slot number a b = ne (sound.scans.once j (sid - 1) c o slot number is_open (open_here o has_o) a b).0
+
+    apart_here : (c : Opened) → Contains seat.cursors c → (c.name ≡ o.name → ⊥) → AreApart (held c.run) (held o.run)
+    apart_here c has ne slot number a b = ne (sound.scans.once (sid - 1) (sid - 1) c o slot number (open_here c has) (open_here o has_o) a b).1
+
+-- ---- one goes
+
+name_of : (name : Name) (cursors : List Opened) (o : Opened) → opened_named name cursors ≡ Some o → o.name ≡ name
+name_of name cursors o here = bytes_same o.name name (found_passes (has_name name) cursors o here)
+
+has_of : (name : Name) (cursors : List Opened) (o : Opened) → opened_named name cursors ≡ Some o → Contains cursors o
+has_of name cursors o here = let p = found_place (has_name name) cursors o here in at_place cursors p.0 o p.1
+
+other_name : (name : Name) (cursors : List Opened) (o c : Opened) → opened_named name cursors ≡ Some o → has_name name c ≡ false → c.name ≡ o.name → ⊥
+other_name name cursors o c here ne same = bytes_other c.name name ne (same ∙ name_of name cursors o here)
+
+-- what is left out by a test, and what is not
+left_in : (name : Name) (cursors : List Opened) (c : Opened) → Contains (without_named name cursors) c → Contains cursors c × (has_name name c ≡ false)
+left_in name [] c h = absurd (let n = h.1 in omega arith)
+left_in name (x ∷ xs) c h = split (has_name name x) refl h
+  where
+    later : Contains (without_named name xs) c → Contains (x ∷ xs) c × (has_name name c ≡ false)
+    later k = let r = left_in name xs c k in (here_later x c xs r.0, r.1)
+
+    at : (b : Bool) → has_name name x ≡ b → b ≡ false → (k : ℕ) × (slice_get (x ∷ without_named name xs) k ≡ Some c) → Contains (x ∷ xs) c × (has_name name c ≡ false)
+    at b is no (zero, p) = let same : x ≡ c = some_same x c p in (subst (λ (y : Opened). Contains (x ∷ xs) y) same (here_first x xs), ap (has_name name) (sym same) ∙ is ∙ no)
+    at b is no (suc k, p) = later (at_place (without_named name xs) k c p)
+
+    split : (b : Bool) → has_name name x ≡ b → Contains (cond (not b) (x ∷ without_named name xs) (without_named name xs)) c → Contains (x ∷ xs) c × (has_name name c ≡ false)
+    split true is k = later k
+    split false is k = at false is refl (place_of (x ∷ without_named name xs) c k)
+
+still_in : (name : Name) (cursors : List Opened) (c : Opened) → Contains cursors c → has_name name c ≡ false → Contains (without_named name cursors) c
+still_in name [] c h ne = h
+still_in name (x ∷ xs) c h ne = split (has_name name x) refl (place_of (x ∷ xs) c h)
+  where
+    split : (b : Bool) → has_name name x ≡ b → (k : ℕ) × (slice_get (x ∷ xs) k ≡ Some c) → Contains (cond (not b) (x ∷ without_named name xs) (without_named name xs)) c
+    split true is (zero, p) = absurd (false≢true (sym ne ∙ ap (has_name name) (sym (some_same x c p)) ∙ is))
+    split true is (suc k, p) = still_in name xs c (at_place xs k c p) ne
+    split false is (zero, p) = subst (λ (y : Opened). Contains (x ∷ without_named name xs) y) (some_same x c p) (here_first x (without_named name xs))
+    split false is (suc k, p) = here_later x c (without_named name xs) (still_in name xs c (at_place xs k c p) ne)
+
+-- a run that was closed, whatever was asked of it before
+pub ends_serve : (run : Run) (old new : List (Option BoxState)) → Ends run old new → ServesRun (held run) none_held old new
+ends_serve run old new (at_once h) = h
+ends_serve run old new (later after mid h k) = serves_on (held run) (held after) none_held old mid new h k
+
+by_name : {P : Type 0} (name : Name) (c : Opened) → (has_name name c ≡ true → P) → (has_name name c ≡ false → P) → P
+by_name {P} name c yes no = split (has_name name c) refl
+  where
+    split : (b : Bool) → has_name name c ≡ b → P
+    split true is = yes is
+    split false is = no is
+
+pub ended_turn : (e : Shown) (new : List (Option BoxState)) (sid : ℕ) (seat : Seated) (name : Name) (o : Opened) → IsSound e → seat_of e.seats sid ≡ Some seat → opened_named name seat.cursors ≡ Some o → Ends o.run e.boxes new
+    → Turned e (sid - 1) (Some (record seat { cursors = without_named name seat.cursors })) new
+ended_turn e new sid seat name o sound at here ends = record {
+  first = held o.run;
+  last = none_held;
+  serves = ends_serve o.run e.boxes new ends;
+  name = name;
+  others = λ j c is_open ne. (apart_there e sid seat sound at o has_o j c is_open ne, apart_none (held c.run));
+  stay = λ c is_in. let r = left_in name seat.cursors c (same_cursors is_in.0 after c (some_seat is_in.0 after (ap Some (sym is_in.1))) is_in.2) in
+      inl (open_here e sid seat sound at c r.0, (apart_here e sid seat sound at o has_o c r.0 (other_name name seat.cursors o c here r.1), apart_none (held c.run)));
+  ends = λ c is_open. let has = is_here e sid seat sound at c is_open in by_name name c
+      (λ is. inr (λ slot number own. subst (λ (x : Opened). Contains (held x.run slot) number) (named_one name seat.cursors o c (old_seat e sid seat sound at).apart here has is) own))
+      (λ ne. inl (after, refl, still_in name seat.cursors c has ne));
+  owns = λ slot number t scan has b live. absurd (let n = has.1 in omega arith);
+}
+  where
+    after : Seated
+    after = record seat { cursors = without_named name seat.cursors }
+
+    has_o : Contains seat.cursors o
+    has_o = has_of name seat.cursors o here
+
+-- ---- one runs on
+
+-- the cursors of a session one of which runs on
+ran_on : (name : Name) (run : Run) (cursors : List Opened) (c : Opened) → Contains (with_run name run cursors) c → (d : Opened) × Contains cursors d × (runs_on name run d ≡ c)
+ran_on name run [] c h = absurd (let n = h.1 in omega arith)
+ran_on name run (x ∷ xs) c h = split (place_of (with_run name run (x ∷ xs)) c h)
+  where
+    split : (k : ℕ) × (slice_get (runs_on name run x ∷ with_run name run xs) k ≡ Some c) → (d : Opened) × Contains (x ∷ xs) d × (runs_on name run d ≡ c)
+    split (zero, p) = (x, here_first x xs, some_same (runs_on name run x) c p)
+    split (suc k, p) = let r = ran_on name run xs c (at_place (with_run name run xs) k c p) in (r.0, here_later x r.0 xs r.1, r.2)
+
+runs_in : (name : Name) (run : Run) (cursors : List Opened) (d : Opened) → Contains cursors d → Contains (with_run name run cursors) (runs_on name run d)
+runs_in name run cursors d h = let p = place_of cursors d h in at_place (with_run name run cursors) p.0 (runs_on name run d) (map_place (runs_on name run) cursors p.0 d p.1)
+
+it_runs : (name : Name) (run : Run) (d : Opened) → has_name name d ≡ true → runs_on name run d ≡ record d { run = run }
+it_runs name run d is = ap (λ b. cond b (record d { run = run }) d) is
+
+it_stays : (name : Name) (run : Run) (d : Opened) → has_name name d ≡ false → runs_on name run d ≡ d
+it_stays name run d ne = ap (λ b. cond b (record d { run = run }) d) ne
+
+module _ (e : Shown) (new : List (Option BoxState)) (sid : ℕ) (seat : Seated) (name : Name) (asked : CountTree) (o : Opened) (rows : List Tuple) (run : Run) (sound : IsSound e) (at : seat_of e.seats sid ≡ Some seat)
+    (here : opened_named name seat.cursors ≡ Some o) (g : GivesRows o.run asked e.boxes rows run new) where
+  after : Seated
+  after = record seat { cursors = with_run name run seat.cursors }
+
+  has_o : Contains seat.cursors o
+  has_o = has_of name seat.cursors o here
+
+  now : Opened
+  now = record o { run = run }
+
+  is_o : (c : Opened) → Contains seat.cursors c → has_name name c ≡ true → c ≡ o
+  is_o c has is = named_one name seat.cursors o c (old_seat e sid seat sound at).apart here has is
+
+  goes : (slot number : ℕ) → Contains (held run slot) number → Contains (held o.run slot) number
+  goes slot number own = subst (λ (h : Scans). Contains (h slot) number) g.same own
+
+  apart_both : (c : Opened) → AreApart (held c.run) (held o.run) → IsSpared (held o.run) (held run) c
+  apart_both c h = (h, (λ slot number a b. h slot number a (goes slot number b)))
+
+  -- the cursor, once it has run on
+  now_in : Contains after.cursors now
+  now_in = subst (λ (x : Opened). Contains after.cursors x) (it_runs name run o (found_passes (has_name name) seat.cursors o here)) (runs_in name run seat.cursors o has_o)
+
+  stays : (c : Opened) → Contains after.cursors c → (IsOpenAt e.seats (sid - 1) c × IsSpared (held o.run) (held run) c) ⊎ TurnsOn o.name (held run) new c
+  stays c h = let d = ran_on name run seat.cursors c h in by_name name d.0
+      (λ is. inr (subst (TurnsOn o.name (held run) new) (ap (λ (x : Opened). record x { run = run }) (sym (is_o d.0 d.1 is)) ∙ sym (it_runs name run d.0 is) ∙ d.2) (record { named = refl; running = g.running; within = λ slot number own. own })))
+      (λ ne. inl (subst (λ (x : Opened). IsOpenAt e.seats (sid - 1) x × IsSpared (held o.run) (held run) x) (sym (it_stays name run d.0 ne) ∙ d.2)
+      (open_here e sid seat sound at d.0 d.1, apart_both d.0 (apart_here e sid seat sound at o has_o d.0 d.1 (other_name name seat.cursors o d.0 here ne)))))
+
+  -- what it holds is of the table that it was of
+  owns : (slot number : ℕ) (t : BoxState) (scan : Scan) → Contains (held run slot) number → slice_get new slot ≡ Some (Some t) → scan_of t number ≡ Some scan
+      → (c : Opened) × IsIn (Some after) c × Contains (held c.run slot) number × LeasesNumber e.catalog.tables e.bound c slot scan.table × IsTableOf t scan.table scan.kinds
+  owns slot number t scan own at_t live = (now, (after, refl, now_in), own, leases, bound)
+    where
+      was_own : Contains (held o.run slot) number
+      was_own = goes slot number own
+
+      was : BoxAt e.boxes slot (λ s. IsSome (scan_of s number))
+      was = held_is_live o.run e.boxes slot number (run_is_held o.run e.boxes (sound.scans.running (sid - 1) o (open_here e sid seat sound at o has_o))) was_own
+
+      before : (x : Scan) × (scan_of was.box number ≡ Some x)
+      before = is_some_of (scan_of was.box number) was.holds
+
+      same : (scan.table ≡ before.0.table) × (scan.kinds ≡ before.0.kinds)
+      same = g.tables slot number was_own was.box t was.there at_t before.0 scan before.1 live
+
+      owned : IsOwned e slot number before.0.table
+      owned = sound.scans.owned slot number was.box before.0 was.there before.1
+
+      once : (owned.place ≡ sid - 1) × (owned.cursor.name ≡ o.name)
+      once = sound.scans.once owned.place (sid - 1) owned.cursor o slot number owned.is_open (open_here e sid seat sound at o has_o) owned.holds was_own
+
+      its : owned.cursor ≡ o
+      its = is_o owned.cursor (is_here e sid seat sound at owned.cursor (subst (λ (k : ℕ). IsOpenAt e.seats k owned.cursor) once.0 owned.is_open))
+          (same_bytes owned.cursor.name name (once.1 ∙ name_of name seat.cursors o here))
+
+      old_leases : LeasesNumber e.catalog.tables e.bound o slot scan.table
+      old_leases = subst (λ (x : Opened). LeasesNumber e.catalog.tables e.bound x slot scan.table) its (subst (LeasesNumber e.catalog.tables e.bound owned.cursor slot) (sym same.0) owned.leased)
+
+      leases : LeasesNumber e.catalog.tables e.bound now slot scan.table
+      leases = record {
+        place = old_leases.place;
+        table = old_leases.table;
+        at = old_leases.at;
+        there = old_leases.there;
+        is_bound = old_leases.is_bound;
+        source_is = old_leases.source_is;
+        number_is = old_leases.number_is;
+        leases = old_leases.leases;
+      }
+
+      table : IsTableOf was.box before.0.table before.0.kinds
+      table = (sound.sound_boxes slot was.box was.there).scans number before.0 before.1
+
+      p : (c : BoxState) × (slice_get new slot ≡ Some (Some c)) × Served (held o.run slot) (held run slot) was.box c
+      p = served_onward (held o.run) (held run) e.boxes new g.served slot was.box was.there
+
+      bound : IsTableOf t scan.table scan.kinds
+      bound = subst (λ (n : ℕ). IsTableOf t n scan.kinds) (sym same.0) (subst (IsTableOf t before.0.table) (sym same.1)
+          (subst (λ (b : BoxState). IsTableOf b before.0.table before.0.kinds) (same_box p.0 t (sym p.1 ∙ at_t)) (table.0, ap (λ f. f before.0.table) p.2.tables ∙ table.1, table.2)))
+
+  pub fetched_turn : Turned e (sid - 1) (Some after) new
+  fetched_turn = record {
+    first = held o.run;
+    last = held run;
+    serves = g.served;
+    name = o.name;
+    others = λ j c is_open ne. apart_both c (apart_there e sid seat sound at o has_o j c is_open ne);
+    stay = λ c is_in. stays c (same_cursors is_in.0 after c (some_seat is_in.0 after (ap Some (sym is_in.1))) is_in.2);
+    ends = λ c is_open. let has = is_here e sid seat sound at c is_open in by_name name c
+        (λ is. inr (λ slot number own. subst (λ (x : Opened). Contains (held x.run slot) number) (is_o c has is) own))
+        (λ ne. inl (after, refl, subst (λ (x : Opened). Contains after.cursors x) (it_stays name run c ne) (runs_in name run seat.cursors c has)));
+    owns = owns;
+  }
+
+  -- the other cursors of the session are left
+  pub fetched_left : (c : Opened) → Contains seat.cursors c → has_name name c ≡ false → LeavesRun c.run e.boxes new
+  fetched_left c has ne = let s = apart_both c (apart_here e sid seat sound at o has_o c has (other_name name seat.cursors o c here ne)) in served_leaves c.run (held o.run) (held run) e.boxes new g.served s.0 s.1
+
+-- ---- one comes
+
+module _ (e : Shown) (new : List (Option BoxState)) (sid : ℕ) (seat : Seated) (name : Name) (q : SelectTree) (names : List Name) (run : Run) (sound : IsSound e) (at : seat_of e.seats sid ≡ Some seat)
+    (h : Starts e.catalog seat.user e.bound q (is_full seat.cursors) e.boxes names run new) where
+  opened_now : Opened
+  opened_now = new_opened name names q run
+
+  seat_now : Seated
+  seat_now = record seat { cursors = seat.cursors ++ opened_now ∷ [] }
+
+  -- what it holds was not live, and what the others hold was
+  fresh : (j : ℕ) (c : Opened) → IsOpenAt e.seats j c → AreApart (held c.run) (held run)
+  fresh j c is_open slot number a b =
+      let was = held_is_live c.run e.boxes slot number (run_is_held c.run e.boxes (sound.scans.running j c is_open)) a in
+      let live = is_some_of (scan_of was.box number) was.holds in
+      none_some live.0 (scan_of was.box number) (served_fresh (held run) e.boxes new slot number was.box h.served b was.there) live.1
+
+  spared : (j : ℕ) (c : Opened) → IsOpenAt e.seats j c → IsSpared none_held (held run) c
+  spared j c is_open = (apart_none (held c.run), fresh j c is_open)
+
+  now_is : (c : Opened) → Contains (opened_now ∷ []) c → opened_now ≡ c
+  now_is c has = one_place (place_of (opened_now ∷ []) c has)
+    where
+      one_place : (k : ℕ) × (slice_get (opened_now ∷ []) k ≡ Some c) → opened_now ≡ c
+      one_place (zero, p) = some_same opened_now c p
+      one_place (suc k, p) = absurd (no_more k p)
+        where
+          no_more : (k : ℕ) → slice_get {X = Opened} [] k ≡ Some c → ⊥
+          no_more k e = cc
+
+  new_owns : (slot number : ℕ) (t : BoxState) (scan : Scan) → Contains (held run slot) number → slice_get new slot ≡ Some (Some t) → scan_of t number ≡ Some scan
+      → (c : Opened) × IsIn (Some seat_now) c × Contains (held c.run slot) number × LeasesNumber e.catalog.tables e.bound c slot scan.table × IsTableOf t scan.table scan.kinds
+  new_owns slot number t scan own at_t live = (opened_now, (seat_now, refl, Contains-append_right seat.cursors (opened_now ∷ []) opened_now (here_first opened_now [])), own, leases, bound)
+    where
+      x : BoxAt new slot (ScansOne h.places slot number)
+      x = h.holds slot number own
+
+      box : x.box ≡ t
+      box = same_box x.box t (sym x.there ∙ at_t)
+
+      one : x.holds.scan ≡ scan
+      one = some_same x.holds.scan scan (sym x.holds.live ∙ ap (λ (b : BoxState). scan_of b number) box ∙ live)
+
+      leases : LeasesNumber e.catalog.tables e.bound opened_now slot scan.table
+      leases = place_leased e.catalog seat.user e.bound q names name run h.places slot scan.table x.holds.place h.bindable h.are x.holds.is_one x.holds.source (x.holds.table ∙ ap (λ (s : Scan). s.table) one)
+
+      bound : IsTableOf t scan.table scan.kinds
+      bound = subst (λ (s : Scan). IsTableOf t s.table s.kinds) one (subst (λ (b : BoxState). IsTableOf b x.holds.scan.table x.holds.scan.kinds) box x.holds.bound)
+
+  pub declared_turn : Turned e (sid - 1) (Some seat_now) new
+  declared_turn = record {
+    first = none_held;
+    last = held run;
+    serves = h.served;
+    name = name;
+    others = λ j c is_open ne. spared j c is_open;
+    stay = λ c is_in. split c (Contains-append_cases seat.cursors (opened_now ∷ []) c (same_cursors is_in.0 seat_now c (some_seat is_in.0 seat_now (ap Some (sym is_in.1))) is_in.2));
+    ends = λ c is_open. inl (seat_now, refl, Contains-append_left seat.cursors (opened_now ∷ []) c (is_here e sid seat sound at c is_open));
+    owns = new_owns;
+  }
+    where
+      split : (c : Opened) → Contains seat.cursors c ⊎ Contains (opened_now ∷ []) c → (IsOpenAt e.seats (sid - 1) c × IsSpared none_held (held run) c) ⊎ TurnsOn name (held run) new c
+      split c (inl was) = let o = open_here e sid seat sound at c was in inl (o, spared (sid - 1) c o)
+      split c (inr is) = inr (subst (TurnsOn name (held run) new) (now_is c is) (record { named = refl; running = h.running; within = λ slot number own. own }))
+
+  pub declared_left : (c : Opened) → Contains seat.cursors c → LeavesRun c.run e.boxes new
+  declared_left c has = let s = spared (sid - 1) c (open_here e sid seat sound at c has) in served_leaves c.run none_held (held run) e.boxes new h.served s.0 s.1
+
+-- the cursors that stay where one goes are left
+pub ended_left : (e : Shown) (new : List (Option BoxState)) (sid : ℕ) (seat : Seated) (name : Name) (o : Opened) → IsSound e → seat_of e.seats sid ≡ Some seat → opened_named name seat.cursors ≡ Some o → Ends o.run e.boxes new
+    → (c : Opened) → Contains (without_named name seat.cursors) c → LeavesRun c.run e.boxes new
+ended_left e new sid seat name o sound at here ends c has =
+    let r = left_in name seat.cursors c has in
+    served_leaves c.run (held o.run) none_held e.boxes new (ends_serve o.run e.boxes new ends)
+    (apart_here e sid seat sound at o (has_of name seat.cursors o here) c r.0 (other_name name seat.cursors o c here r.1)) (apart_none (held c.run))
+
+-- a run of this session that is left may give what it could
+pub here_stays : (e : Shown) (new : List (Option BoxState)) (sid : ℕ) (seat : Seated) (c : Opened) → IsSound e → seat_of e.seats sid ≡ Some seat → AllHonest e.boxes → Contains seat.cursors c → LeavesRun c.run e.boxes new → RestsStay e.boxes new c
+here_stays e new sid seat c sound at honest has left = (run_goes_on c.run e.boxes new (sound.scans.running (sid - 1) c (record { seat = seat; there = here_of e sid seat at; has = has })) left).rests honest
+
+pub left_here : (name : Name) (cursors : List Opened) (c : Opened) → Contains (without_named name cursors) c → Contains cursors c
+left_here name cursors c has = (left_in name cursors c has).0
+
 -- ---- engines that stay sound
 
-seat_here : (o : Option (Option Seated)) (seat : Seated) → seat_in o ≡ Some seat → o ≡ Some (Some seat)
-seat_here None seat e = absurd cc
-seat_here (Some x) seat e = ap Some e
-
-pub old_seat : (e : Shown) (sid : ℕ) (seat : Seated) → IsSound e → seat_of e.seats sid ≡ Some seat → IsSoundSeat e.boxes seat
-old_seat e sid seat sound at = sound.seated (sid - 1) seat (seat_here (slice_get e.seats (sid - 1)) seat at)
-
-pub cursors_sound : (e : Shown) (new : List (Option BoxState)) (sid : ℕ) (seat : Seated) (cursors : List Opened) → IsSid sid → AllServed e.boxes new → IsSound e → IsSoundSeat new (record seat { cursors = cursors }) → IsSound (with_cursors e sid seat cursors new)
-cursors_sound e new sid seat cursors is served sound here =
-    turned_sound e new sid (Some (record seat { cursors = cursors })) is served sound (λ s same. subst (IsSoundSeat new) (some_same (record seat { cursors = cursors }) s same) here)
-
--- the runs of cursors have served boxes
-pub ended_served : (run : Run) (old new : List (Option BoxState)) → Ends run old new → AllServed old new
-ended_served run old new (at_once h) = h
-ended_served run old new (later after mid h k) = all_on old mid new h k
+turned_here : (e : Shown) (new : List (Option BoxState)) (sid : ℕ) (seat : Seated) (cursors : List Opened) → IsSid sid → Turned e (sid - 1) (Some (record seat { cursors = cursors })) new → IsSound e → IsSoundSeat (record seat { cursors = cursors }) → IsSound (with_cursors e sid seat cursors new)
+turned_here e new sid seat cursors is t sound here =
+    turned_sound e new sid (Some (record seat { cursors = cursors })) is t sound (λ s same. subst IsSoundSeat (some_same (record seat { cursors = cursors }) s same) here)
 
 pub declared_sound : (e : Shown) (new : List (Option BoxState)) (sid : ℕ) (seat : Seated) (name : Name) (q : SelectTree) (names : List Name) (run : Run) → IsSid sid → IsSound e → seat_of e.seats sid ≡ Some seat → opened_named name seat.cursors ≡ None
     → Starts e.catalog seat.user e.bound q (is_full seat.cursors) e.boxes names run new → IsSound (with_cursors e sid seat (seat.cursors ++ new_opened name names q run ∷ []) new)
@@ -102,11 +404,8 @@ declared_sound e new sid seat name q names run is sound at none h =
     let old = old_seat e sid seat sound at in
     let few : length seat.cursors < 16 = leb-false 16 (length seat.cursors) h.room in
     let one_more : length (seat.cursors ++ new_opened name names q run ∷ []) ≡ length seat.cursors + 1 = length_push seat.cursors (new_opened name names q run) in
-    cursors_sound e new sid seat (seat.cursors ++ new_opened name names q run ∷ []) is h.served sound (record {
-      running = λ c has. runs_on c.run new;
-      apart = more_apart seat.cursors (new_opened name names q run) none old.apart;
-      few = omega (arith, few, one_more);
-    })
+    turned_here e new sid seat (seat.cursors ++ new_opened name names q run ∷ []) is (declared_turn e new sid seat name q names run sound at h) sound
+    (record { apart = more_apart seat.cursors (new_opened name names q run) none old.apart; few = omega (arith, few, one_more) })
 
 pub not_declared_sound : (e : Shown) (new : List (Option BoxState)) (seat : Seated) (q : SelectTree) (c : Cause) → IsSound e → StartFails e.catalog seat.user e.bound q (is_full seat.cursors) e.boxes c new → IsSound (with_boxes e new)
 not_declared_sound e new seat q c sound (not_bound why same) = subst (λ (x : List (Option BoxState)). IsSound (with_boxes e x)) (sym same) sound
@@ -116,25 +415,19 @@ not_declared_sound e new seat q c sound (too_many b safe many is same) = subst (
 not_declared_sound e new seat q c sound (run_fails b safe room few served places are why) = serving_sound e new served sound
 
 pub fetched_sound : (e : Shown) (new : List (Option BoxState)) (sid : ℕ) (seat : Seated) (name : Name) (asked : CountTree) (o : Opened) (rows : List Tuple) (after : Run) → IsSid sid → IsSound e → seat_of e.seats sid ≡ Some seat
-    → GivesRows o.run asked e.boxes rows after new → IsSound (with_cursors e sid seat (with_run name after seat.cursors) new)
-fetched_sound e new sid seat name asked o rows after is sound at g =
+    → opened_named name seat.cursors ≡ Some o → GivesRows o.run asked e.boxes rows after new → IsSound (with_cursors e sid seat (with_run name after seat.cursors) new)
+fetched_sound e new sid seat name asked o rows after is sound at here g =
     let old = old_seat e sid seat sound at in
     let most : length seat.cursors ≤ 16 = old.few in
     let same : length (with_run name after seat.cursors) ≡ length seat.cursors = run_most name after seat.cursors in
-    cursors_sound e new sid seat (with_run name after seat.cursors) is g.served sound (record {
-      running = λ c has. runs_on c.run new;
-      apart = run_apart name after seat.cursors old.apart;
-      few = omega (arith, most, same);
-    })
+    turned_here e new sid seat (with_run name after seat.cursors) is (fetched_turn e new sid seat name asked o rows after sound at here g) sound
+    (record { apart = run_apart name after seat.cursors old.apart; few = omega (arith, most, same) })
 
-pub ended_sound : (e : Shown) (new : List (Option BoxState)) (sid : ℕ) (seat : Seated) (name : Name) (o : Opened) → IsSid sid → IsSound e → seat_of e.seats sid ≡ Some seat → Ends o.run e.boxes new
+pub ended_sound : (e : Shown) (new : List (Option BoxState)) (sid : ℕ) (seat : Seated) (name : Name) (o : Opened) → IsSid sid → IsSound e → seat_of e.seats sid ≡ Some seat → opened_named name seat.cursors ≡ Some o → Ends o.run e.boxes new
     → IsSound (with_cursors e sid seat (without_named name seat.cursors) new)
-ended_sound e new sid seat name o is sound at ends =
+ended_sound e new sid seat name o is sound at here ends =
     let old = old_seat e sid seat sound at in
     let most : length seat.cursors ≤ 16 = old.few in
     let fewer : length (without_named name seat.cursors) ≤ length seat.cursors = fewer_most (λ c. not (has_name name c)) seat.cursors in
-    cursors_sound e new sid seat (without_named name seat.cursors) is (ended_served o.run e.boxes new ends) sound (record {
-      running = λ c has. runs_on c.run new;
-      apart = fewer_apart (λ c. not (has_name name c)) seat.cursors old.apart;
-      few = omega (arith, most, fewer);
-    })
+    turned_here e new sid seat (without_named name seat.cursors) is (ended_turn e new sid seat name o sound at here ends) sound
+    (record { apart = fewer_apart (λ c. not (has_name name c)) seat.cursors old.apart; few = omega (arith, most, fewer) })

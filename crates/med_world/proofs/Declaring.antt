@@ -9,7 +9,8 @@ use Rattle.med_query.specs.Query.{Tables, IsAnswer}
 use Rattle.fdw_api.specs.State.{BoxState}
 use Rattle.med_planner.specs.Planned.{Place}
 use Rattle.med_exec.specs.declared.running.Run.{Run}
-use Rattle.med_exec.specs.Running.{AllServed}
+use Rattle.med_exec.specs.Running.{AllServed, none_held}
+use Rattle.med_exec.specs.Rests.{held}
 use Rattle.med_parser.specs.CommandTree.{CommandTree, on_cursors}
 use Rattle.cursor_syntax.specs.CursorTree.{declare}
 use Rattle.bind_names.specs.Meaning.{Meant}
@@ -35,12 +36,12 @@ use Rattle.med_world.proofs.OneRun.{once_refused, once_read}
 use Rattle.med_world.proofs.Told.{IsKnownAs, told_tree, none_tree, before_tree}
 use Rattle.med_world.proofs.Leading.{cursors_in, session_in, calm, calm_befell, known, leads_refused, leads_memory}
 use Rattle.med_world.proofs.Querying.{ArePhased, ShowsIn, from_types, from_state, from_run, run_phase, none_select, bindable_in, same_meant, same_entries, none_many}
-use Rattle.med_world.proofs.Serving.{serving_rises, serving_agrees}
+use Rattle.med_world.proofs.Serving.{run_rises, serving_rises, serving_agrees}
 use Rattle.med_world.proofs.Sessions.{turned_agrees}
 use Rattle.med_world.proofs.CursorCausing.{cursor_phase, least_declare, none_declare}
 use Rattle.med_world.proofs.CursorRows.{rows_kept, tables_kept, tables_stand}
 use Rattle.med_world.proofs.CursorLists.{one_more}
-use Rattle.med_world.proofs.CursorSeats.{cursors_at, picks_none, not_named, is_named, not_full, full_there}
+use Rattle.med_world.proofs.CursorSeats.{cursors_at, picks_none, not_named, is_named, not_full, full_there, declared_turn, declared_left, here_stays}
 
 -- the statement, and the session that it is of
 abbrev Tree : Name → SelectTree → CommandTree
@@ -61,7 +62,7 @@ pub declared : (e : Shown) (new : List (Option BoxState)) (sid : ℕ) (text : Li
 declared e new sid text seat name q names run read at sound free h = record {
   trouble = calm;
   befell = calm_befell e.boxes new;
-  rises = serving_rises e.boxes new h.served;
+  rises = run_rises none_held (held run) e.boxes new h.served;
   once = once_read e sid text seat.user (Tree name q) (done (codes "DECLARE CURSOR")) new read
       (λ ran is. subst (λ (x : SelectTree). ReadsOnce e x new) is (record { places = h.places; are = h.are; reads = h.reads }));
   step = λ w a. (
@@ -70,7 +71,7 @@ declared e new sid text seat name q names run read at sound free h = record {
         (none_tree w sid no_pick text (session_in w sid seat.user) (Tree name q) (known_declare e w sid text seat name q a read) (none w a))
         (session_in w sid seat.user, Tree name q, (known_declare e w sid text seat name q a read).is, (refl, refl)),
     turned_agrees e w new sid (Some (record seat { cursors = seat.cursors ++ new_opened name names q run ∷ [] })) (Some (with_cursor (session_in w sid seat.user) (new_cursor w name q)))
-        read.is_sid sound.sessions h.served (refl, all w a) a,
+        read.is_sid sound.sessions (declared_turn e new sid seat name q names run sound at h) (refl, all w a) a,
   );
 }
   where
@@ -101,7 +102,8 @@ declared e new sid text seat name q names run read at sound free h = record {
 
     all : (w : World) → Agrees e w → CursorsAgree new (after w) (seat.cursors ++ new_opened name names q run ∷ []) (cursors_in (w.sessions sid) ++ new_cursor w name q ∷ [])
     all w a = one_more new (after w) seat.cursors (cursors_in (w.sessions sid)) (new_opened name names q run) (new_cursor w name q)
-        (cursors_stay e.boxes new w (after w) seat.cursors (cursors_in (w.sessions sid)) (λ l taken x. stands_still w (after w) l refl refl x) (cursors_at e w sid seat read.is_sid at a)) (last w a)
+        (cursors_stay e.boxes new w (after w) seat.cursors (cursors_in (w.sessions sid)) (λ l taken x. stands_still w (after w) l refl refl x)
+        (λ c has. here_stays e new sid seat c sound at a.honest has (declared_left e new sid seat name q names run sound at h c has)) (cursors_at e w sid seat read.is_sid at a)) (last w a)
 
 -- ---- refused
 

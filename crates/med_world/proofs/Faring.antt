@@ -1,5 +1,5 @@
 -- A box in one slot changes, and all others stay.
-use Rattle.std.proofs.Common.{◌≡◌, ◌≢◌, ℕ, ◌-◌, ◌^◌, ◌≤◌, min, ◌⊎◌, true, false, cond, List, [], ◌∷◌, Option, Some, None, slice_get, slice_set, refl, ap, sym, ◌∙◌, subst, arith, zero, suc, eqb, inl, inr}
+use Rattle.std.proofs.Common.{◌≡◌, ◌≢◌, ℕ, ◌-◌, ◌^◌, ◌≤◌, min, ◌⊎◌, true, false, cond, List, [], ◌∷◌, Option, Some, None, IsSome, slice_get, slice_set, refl, ap, sym, ◌∙◌, subst, arith, zero, suc, eqb, inl, inr}
 use Rattle.std.proofs.lemmas.Bool.Decides.{eqb_tells}
 use Rattle.fdw_api.specs.Kinds.{Column, OptionForm}
 use Rattle.fdw_api.specs.State.{scan_of, BoxState, IsIdle, is_honest, table_of, rows_of, set_at}
@@ -9,7 +9,7 @@ use Rattle.fdw_api.specs.declared.interface.Fault.TheVariants.{NoMemory, Source,
 use Rattle.med_exec.specs.Slots.{ChangesAt}
 use Rattle.med_catalog.specs.Objects.{TableObject}
 use Rattle.med_world.specs.Altering.{BindsInVain}
-use Rattle.med_world.specs.Engine.{IsAtRest, EachBox, Rises, Fares, EachRises}
+use Rattle.med_world.specs.Engine.{EachBox, Rises, Fares, EachRises}
 
 pub set_same : {A : Type 0} (xs : List A) (i : ℕ) (x y : A) → slice_get xs i ≡ Some x → slice_get (slice_set xs i y) i ≡ Some y
 set_same [] i x y h = absurd cc
@@ -44,6 +44,7 @@ pub record Spares (only : ℕ → Type 0) (b c : BoxState) : Type 0 where
   pub tables : (t : ℕ) → (only t → ⊥) → table_of c t ≡ table_of b t
   pub rows : is_honest b → (t : ℕ) → (only t → ⊥) → rows_of c t ≡ rows_of b t
   pub holdings : is_honest b → c.content.holdings ≡ b.content.holdings
+  pub coming : is_honest b → (q : ℕ) → IsSome (scan_of b q) → c.content.coming q ≡ b.content.coming q
 
 -- one table
 abbrev pub that_is : ℕ → ℕ → Type 0
@@ -71,6 +72,7 @@ binds_spares b c remote columns settings t h = record {
   tables = λ q ne. ap (λ l. l.tables q) h.ledger ∙ set_that b.ledger.tables t (Some h.bound) q ne;
   rows = λ honest q ne. (h.leaves honest).rows q ne;
   holdings = λ honest. λ i r. (h.leaves honest).holdings r (λ z. z) i;
+  coming = λ honest q live. (h.leaves honest).coming q live (λ z. z);
 }
 
 pub unbinds_spares : (b c : BoxState) (t : ℕ) → Unbinds b t c → Spares (that_is t) b c
@@ -81,6 +83,7 @@ unbinds_spares b c t h = record {
   tables = λ q ne. ap (λ l. l.tables q) h.ledger ∙ set_that b.ledger.tables t None q ne;
   rows = λ honest q ne. (h.leaves honest).rows q ne;
   holdings = λ honest. λ i r. (h.leaves honest).holdings r (λ z. z) i;
+  coming = λ honest q live. (h.leaves honest).coming q live (λ z. z);
 }
 
 pub refuses_spares : (fault : Fault) (only : ℕ → Type 0) (b c : BoxState) → Refuses fault b c → Spares only b c
@@ -91,6 +94,7 @@ refuses_spares fault only b c h = record {
   tables = λ q ne. ap (λ l. l.tables q) h.ledger;
   rows = λ honest q ne. (h.leaves honest).rows q (λ z. z);
   holdings = λ honest. λ i r. (h.leaves honest).holdings r (λ z. z) i;
+  coming = λ honest q live. (h.leaves honest).coming q live (λ z. z);
 }
 
 pub binds_rises : (b c : BoxState) (remote : List ℕ) (columns : List Column) (settings : List OptionForm) (t : ℕ) → Binds b remote columns settings t c → Rises b c
@@ -146,6 +150,7 @@ spares_twice only a b c x y = record {
   tables = λ t ne. y.tables t ne ∙ x.tables t ne;
   rows = λ honest t ne. y.rows (ap (λ n. n.honest) x.nature ∙ honest) t ne ∙ x.rows honest t ne;
   holdings = λ honest. y.holdings (ap (λ n. n.honest) x.nature ∙ honest) ∙ x.holdings honest;
+  coming = λ honest q live. y.coming (ap (λ n. n.honest) x.nature ∙ honest) q (subst (λ m. IsSome (scan_of (record a { ledger = record a.ledger { live = m } }) q)) (sym x.live) live) ∙ x.coming honest q live;
 }
 
 pub vain_spares : (t : TableObject) (b c : BoxState) (h : BindsInVain t b c) → Spares (that_is h.number) b c
@@ -173,14 +178,8 @@ is_there P old new slot i b same h at = split (eqb_tells i slot)
         (h.after, ap (slice_get new) s.1 ∙ h.now, subst (λ z. P z h.after) e h.change)
     split (inr s) = (b, h.others i s.1 ∙ at, same b)
 
-pub rest_spared : (only : ℕ → Type 0) (b c : BoxState) → Spares only b c → IsAtRest b → IsAtRest c
-rest_spared only b c k h = record {
-  no_scan = λ q. ap (λ m. scan_of (record b { ledger = record b.ledger { live = m } }) q) k.live ∙ h.no_scan q;
-  no_staging = k.staged ∙ h.no_staging;
-}
-
 pub spares_itself : (only : ℕ → Type 0) (b : BoxState) → Spares only b b
-spares_itself only b = record { nature = refl; live = refl; staged = refl; tables = λ t ne. refl; rows = λ o t ne. refl; holdings = λ o. refl }
+spares_itself only b = record { nature = refl; live = refl; staged = refl; tables = λ t ne. refl; rows = λ o t ne. refl; holdings = λ o. refl; coming = λ o q live. refl }
 
 pub each_kept : (P Q : BoxState → BoxState → Type 0) (R : BoxState → Type 0) (old new : List (Option BoxState)) (slot : ℕ) → ((b : BoxState) → P b b) → ((b c : BoxState) → P b c → R b → R c) → ChangesAt old slot P new → EachBox R old → EachBox R new
 each_kept P Q R old new slot same kept h each i c at = let w = was_there P old new slot i c same h at in kept w.0 c w.2 (each i w.0 w.1)

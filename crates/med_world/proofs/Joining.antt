@@ -9,19 +9,18 @@ use Rattle.med_catalog.specs.declared.kind.SourceKind.{SourceKind}
 use Rattle.bind_catalog.specs.Places.{Attached}
 use Rattle.med_value.specs.Limits.{source_limit}
 use Rattle.med_world.specs.World.{World, Source, standing, with_source}
-use Rattle.med_world.specs.Engine.{Label, Shown, IsAtRest, EachBox, EachTakes, TakesAs, IsNamedAt, IsAmong, IsSound, state_of, sources_of, RowsAgree, Agrees}
+use Rattle.med_world.specs.Engine.{Label, Shown, EachBox, EachTakes, TakesAs, IsNamedAt, IsAmong, IsSound, state_of, sources_of, RowsAgree, Agrees}
 use Rattle.med_world.specs.Adding.{HasSource, with_box, Adds}
 use Rattle.med_world.proofs.Lists.{some_same, none_some, push_before, push_cases, past}
 use Rattle.med_world.proofs.Named.{distinct_push}
-use Rattle.med_world.proofs.Seats.{seats_sound, sessions_still}
+use Rattle.med_world.proofs.Seats.{sessions_still}
+use Rattle.med_world.proofs.Scans.{all_stay}
+use Rattle.med_world.proofs.ScansChanged.{add_left, add_scans}
 
 each_push : (P : BoxState → Type 0) (boxes : List (Option BoxState)) (b : BoxState) → EachBox P boxes → P b → EachBox P (boxes ++ Some b ∷ [])
 each_push P boxes b h p slot s at =
     let r = push_cases boxes (Some b) slot (Some s) at in
     elim r as (λ _. P s) [ inl old ↦ h slot s old | inr new ↦ (let e : b ≡ s = cc in subst P e p) ]
-
-idle_rest : (b : BoxState) → IsIdle b → IsAtRest b
-idle_rest b h = record { no_scan = h.no_scan; no_staging = h.no_staging }
 
 labelled : (labels : List Label) (name : List ℕ) (i : ℕ) → slice_get (map (λ (l : Label). l.name) labels) i ≡ Some name → IsNamedAt labels i name
 labelled [] name i h = absurd cc
@@ -51,10 +50,10 @@ added_sound law e name kind b h none room idle takes = record {
   places = length_push e.boxes (Some b) ∙ ap (λ n. n + 1) h.places ∙ sym (length_push e.labels l);
   sources = subst (λ n. n ≤ source_limit) (sym (length_push e.labels l)) (omega arith);
   sessions = h.sessions;
-  seated = seats_sound e.boxes _ e.seats h.seated;
+  seated = h.seated;
   source_names = subst (λ names. IsDistinct bytes_eq names) (sym (map-append (λ (x : Label). x.name) e.labels (l ∷ [])))
       (distinct_push (map (λ (x : Label). x.name) e.labels) name (λ i at. none (i, labelled e.labels name i at)) h.source_names);
-  at_rest = each_push IsAtRest e.boxes b h.at_rest (idle_rest b idle);
+  scans = add_scans e (with_box e name kind b) b refl idle refl refl refl h.scans;
   sound_boxes = each_push IsSoundBox e.boxes b h.sound_boxes (law b idle);
   takes = takes_push e.labels e.boxes l b h.places h.takes takes;
   servers_stand = λ s c. let x = h.servers_stand s c in (
@@ -117,8 +116,8 @@ added_agrees e name kind b sound idle w h honest =
       catalog = h.catalog;
       sources = ap (λ (ss : List Source). ss ++ record { name = name; kind = kind; state = standing b.nature.kind b.content.holdings } ∷ []) h.sources ∙ sym (sources_push e.labels e.boxes l b sound.places);
       rows = rows_push e.boxes b e.bound w.rows h.rows;
-      sessions = sessions_still e (e.boxes ++ Some b ∷ []) w (with_source w name kind b.nature.kind b.content.holdings) refl refl refl h;
-      at_rest = each_push IsAtRest e.boxes b h.at_rest (idle_rest b idle);
+      sessions = sessions_still e (e.boxes ++ Some b ∷ []) w (with_source w name kind b.nature.kind b.content.holdings) refl refl refl (all_stay e (e.boxes ++ Some b ∷ []) h.scans h.honest (add_left e (with_box e name kind b) b refl idle)) h;
+      scans = add_scans e (with_box e name kind b) b refl idle refl refl refl h.scans;
     }
 
 pub sound_of : IdleIsSound → (e n : Shown) (name : List ℕ) (kind : SourceKind) (b : BoxState) → Adds e name kind b n → IsSound e → IsIdle b → TakesAs kind b → IsSound n

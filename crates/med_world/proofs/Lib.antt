@@ -38,3 +38,5 @@ mod RowPicks
 mod RowLeads
 mod RowEnds
 mod RowReplies
+pub mod Scans
+pub mod ScansChanged

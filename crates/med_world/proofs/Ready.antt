@@ -1,14 +1,15 @@
 -- What the calls of boxes ask holds in an engine that is sound.
-use Rattle.std.proofs.Common.{◌≡◌, ◌≢◌, ℕ, [], Option, Some, IsSome, slice_get, refl, ap, sym, ◌∙◌, subst}
+use Rattle.std.proofs.Common.{◌≡◌, ◌≢◌, ℕ, false, [], Option, Some, IsSome, slice_get, refl, ap, sym, ◌∙◌, subst}
 use Rattle.med_syntax.specs.Tree.{Name}
-use Rattle.fdw_api.specs.State.{BoxState, BoxTable, table_of, scan_of}
+use Rattle.fdw_api.specs.State.{BoxState, BoxTable, table_of}
 use Rattle.fdw_api.specs.Calls.{CanBind, CanUnbind}
 use Rattle.med_exec.specs.Slots.{BoxAt}
 use Rattle.med_catalog.specs.Objects.{ServerObject, TableObject, Objects, server_named}
 use Rattle.bind_catalog.specs.Places.{Attached}
-use Rattle.med_world.specs.Engine.{Label, Shown, IsServerAt, IsBoundAs, IsAmong, IsSound}
-use Rattle.med_world.proofs.Lists.{some_same, none_some}
+use Rattle.med_world.specs.Engine.{Label, Shown, leased, IsServerAt, IsBoundAs, IsAmong, IsSound}
+use Rattle.med_world.proofs.Lists.{some_same}
 use Rattle.med_world.proofs.Faring.{same_box}
+use Rattle.med_world.proofs.Scans.{unleased_scan}
 use Rattle.med_world.proofs.Altered.{has_table}
 
 -- ---- what the calls of boxes ask
@@ -40,17 +41,16 @@ bind_ready e t place box sound once server there unbound takes = record { free =
             let bounds : x.bound ≡ b = some_same x.bound b (sym x.is ∙ ap (λ (y : BoxState). table_of y among.at.number) boxes ∙ ap (table_of box) among.number_is ∙ is) in
             unbound u.0 among.place u.1 servers (sym x.remote ∙ ap (λ (y : BoxTable). y.remote) bounds ∙ same)
 
--- a bound table may be unbound, since no scan is live
-pub unbind_ready : (e : Shown) (t : TableObject) (k : ℕ) (a : Attached) → IsSound e → slice_get e.catalog.tables k ≡ Some t → slice_get e.bound k ≡ Some a → BoxAt e.boxes a.source (λ s. CanUnbind s a.number)
-unbind_ready e t k a sound at_t at_a =
+-- a bound table that is not leased may be unbound, since no scan of it is live
+pub unbind_ready : (e : Shown) (t : TableObject) (k : ℕ) (a : Attached) → IsSound e → slice_get e.catalog.tables k ≡ Some t → slice_get e.bound k ≡ Some a → leased e t.name ≡ false → BoxAt e.boxes a.source (λ s. CanUnbind s a.number)
+unbind_ready e t k a sound at_t at_a free =
     let x = sound.tables_bound k t a at_t at_a in
-    let rest = sound.at_rest a.source x.box x.there in
     record {
       box = x.box;
       there = x.there;
       holds = record {
         is_bound = subst (λ (o : Option BoxTable). IsSome o) (sym x.is) refl;
-        no_scan = λ q scan is. absurd (none_some scan (scan_of x.box q) (rest.no_scan q) is);
-        not_staged = rest.no_staging;
+        no_scan = unleased_scan e k t a x.box sound.bound_once sound.scans at_t at_a free x.there;
+        not_staged = sound.scans.unstaged a.source x.box x.there;
       };
     }

@@ -122,7 +122,7 @@ rows_done e user t n new sound h = record { rises = rise_twice e.boxes h.now new
 
 pub rows_done_sound : (e : Shown) (user : Name) (t : WriteTree) (n : ℕ) (new : List (Option BoxState)) → IsSound e → WritesRows e.catalog user e.bound t (leased e (target_of t)) e.boxes n new → IsSound (with_boxes e new)
 rows_done_sound e user t n new sound h =
-    done_sound (with_boxes e h.now) t h.answer h.at n new (serving_sound e h.now (given_served e.catalog e.bound t e.boxes h.answer h.now h.given) sound) h.writes
+    done_sound (with_boxes e h.now) t h.answer h.at n new (serving_sound e h.now (given_served e.catalog e.bound t e.boxes h.answer h.now h.given) sound) h.free h.target h.writes
 
 -- ---- the query of an INSERT
 

@@ -1,5 +1,5 @@
 -- Sessions of an engine and of a world: what changes of boxes and of tables leave of their cursors, and which tables are leased.
-use Rattle.std.proofs.Common.{◌≡◌, ℕ, ◌-◌, ◌<◌, ◌≤◌, ◌||◌, ◌⊎◌, ◌≢◌, inl, inr, eqb, Bool, true, false, cond, List, [], ◌∷◌, ◌++◌, Option, Some, None, IsSome, is_some, Contains, find, slice_get, length, map, flat_map, refl, ap, sym, ◌∙◌, subst, zero, suc, arith, bytes_eq}
+use Rattle.std.proofs.Common.{◌≡◌, ◌↔◌, ℕ, ◌-◌, ◌<◌, ◌≤◌, ◌||◌, ◌⊎◌, ◌≢◌, inl, inr, eqb, Bool, true, false, cond, List, [], ◌∷◌, ◌++◌, Option, Some, None, IsSome, is_some, Contains, find, slice_get, length, map, refl, ap, sym, ◌∙◌, subst, zero, suc, arith, bytes_eq}
 use Rattle.std.specs.List.{list_any}
 use Rattle.std.proofs.lemmas.Bool.{false≢true}
 use Rattle.std.proofs.lemmas.Bool.Decides.{eqb_tells}
@@ -7,47 +7,42 @@ use Rattle.med_value.specs.Datum.{Tuple}
 use Rattle.med_syntax.specs.Tree.{Name}
 use Rattle.fdw_api.specs.Kinds.{Held}
 use Rattle.fdw_api.specs.State.{BoxState}
-use Rattle.med_exec.specs.declared.running.Run.{Run}
-use Rattle.med_exec.specs.Running.{none_held}
-use Rattle.med_exec.specs.Rests.{Rests, held, IsRunning}
+use Rattle.med_exec.specs.Rests.{Rests}
 use Rattle.bind_catalog.specs.Places.{Attached}
 use Rattle.med_catalog.specs.Objects.{TableObject, Objects, table_named}
 use Rattle.med_catalog.specs.Changes.{new_table, no_table, without}
-use Rattle.open_cursors.specs.Open.{Opened, Seated, leases_table, seat_leases, any_leases, held_by}
+use Rattle.open_cursors.specs.Open.{Opened, Seated, leases_table, seat_leases, any_leases}
 use Rattle.med_value.specs.Limits.{session_count}
 use Rattle.med_world.specs.Requests.{IsSid}
 use Rattle.med_world.specs.World.{World, Leased, Cursor, Session, cells_of, rows_named, rows_with, beside_without, reads_table, leases, any_session, is_leased}
 use Rattle.med_world.specs.Steps.{with_catalog}
-use Rattle.med_world.specs.Seats.{seat_in, seat_of, IsSoundSeat, AreSoundSeats, StillStands, CursorAgrees, CursorsAgree, SeatAgrees}
+use Rattle.med_world.specs.Seats.{seat_in, seat_of, IsOpenAt, StillStands, CursorAgrees, CursorsAgree, SeatAgrees}
 use Rattle.med_world.specs.Engine.{Shown, leased, IsSound, RowsAgree, Agrees}
 use Rattle.med_world.proofs.Lists.{some_same, same_bytes, bytes_same, other_bytes}
-use Rattle.med_world.proofs.Named.{place_of, find_fewer, still_found, some_of}
+use Rattle.med_world.proofs.Named.{place_of, at_place, find_fewer, still_found, some_of}
 
 -- ---- runs over other boxes
 
--- what a run may still give stays so over the boxes after, and it runs on: it holds its answer
-pub rests_stay : (run : Run) (old new : List (Option BoxState)) (rows : List Tuple) → Rests run old rows → Rests run new rows
-rests_stay run old new rows h = h
+-- what a cursor's run may give over the boxes before, it may give over those after, and the other way round
+abbrev pub RestsStay : List (Option BoxState) → List (Option BoxState) → Opened → Type 0
+RestsStay old new o = (rows : List Tuple) → Rests o.run old rows ↔ Rests o.run new rows
 
-pub runs_on : (run : Run) (boxes : List (Option BoxState)) → IsRunning run boxes
-runs_on run boxes slot number c = absurd (none c)
-  where
-    none : Contains (held run slot) number → ⊥
-    none c = let within = c.1 in omega arith
+-- an open cursor of this session
+abbrev pub IsIn : Option Seated → Opened → Type 0
+IsIn seat c = (s : Seated) × (seat ≡ Some s) × Contains s.cursors c
 
--- cursors hold no scan
-pub held_none : (cursors : List Opened) → held_by cursors ≡ none_held
-held_none cursors = λ i slot. each slot cursors i
-  where
-    each : (slot : ℕ) (cs : List Opened) → flat_map (λ (c : Opened). held c.run slot) cs ≡ []
-    each slot [] = refl
-    each slot (c ∷ cs) = each slot cs
+pub place_there : (o : Option (Option Seated)) (seat : Seated) → seat_in o ≡ Some seat → o ≡ Some (Some seat)
+place_there None seat e = absurd cc
+place_there (Some x) seat e = ap Some e
 
-pub seat_sound : (old new : List (Option BoxState)) (s : Seated) → IsSoundSeat old s → IsSoundSeat new s
-seat_sound old new s h = record { running = λ c has. runs_on c.run new; apart = h.apart; few = h.few }
+pub open_in : (seats : List (Option Seated)) (sid : ℕ) (c : Opened) → IsIn (seat_of seats sid) c → IsOpenAt seats (sid - 1) c
+open_in seats sid c h = record { seat = h.0; there = place_there (slice_get seats (sid - 1)) h.0 h.1; has = h.2 }
 
-pub seats_sound : (old new : List (Option BoxState)) (seats : List (Option Seated)) → AreSoundSeats old seats → AreSoundSeats new seats
-seats_sound old new seats h place s at = seat_sound old new s (h place s at)
+pub here_first : (o : Opened) (os : List Opened) → Contains (o ∷ os) o
+here_first o os = at_place (o ∷ os) 0 o refl
+
+pub here_later : (o x : Opened) (os : List Opened) → Contains os x → Contains (o ∷ os) x
+here_later o x os has = let p = place_of os x has in at_place (o ∷ os) (suc p.0) x p.1
 
 -- ---- which tables are leased
 
@@ -142,30 +137,31 @@ unleased w name sid e is = none_session (λ k. leases name (w.sessions k)) sessi
 abbrev pub StandsOn : World → World → List Cursor → Type 0
 StandsOn w v cs = (l : Leased) → list_any (reads_table l.table) cs ≡ true → StillStands w l → StillStands v l
 
-pub cursor_stays : (old new : List (Option BoxState)) (w v : World) (o : Opened) (c : Cursor) → ((l : Leased) → reads_table l.table c ≡ true → StillStands w l → StillStands v l) → CursorAgrees old w o c → CursorAgrees new v o c
-cursor_stays old new w v o c on h = record {
+pub cursor_stays : (old new : List (Option BoxState)) (w v : World) (o : Opened) (c : Cursor) → ((l : Leased) → reads_table l.table c ≡ true → StillStands w l → StillStands v l) → RestsStay old new o → CursorAgrees old w o c → CursorAgrees new v o c
+cursor_stays old new w v o c on stay h = record {
   name = h.name;
   names = h.names;
   leases = h.leases;
   stand = λ l has. on l (reads_its c l has) (h.stand l has);
-  some = (h.some.0, rests_stay o.run old new h.some.0 h.some.1);
-  answers = λ rows r. h.answers rows (rests_stay o.run new old rows r);
+  some = (h.some.0, (stay h.some.0).0 h.some.1);
+  answers = λ rows r. h.answers rows ((stay rows).1 r);
 }
 
-pub cursors_stay : (old new : List (Option BoxState)) (w v : World) (os : List Opened) (cs : List Cursor) → StandsOn w v cs → CursorsAgree old w os cs → CursorsAgree new v os cs
-cursors_stay old new w v [] [] on h = tt
-cursors_stay old new w v [] (c ∷ cs) on h = absurd h
-cursors_stay old new w v (o ∷ os) [] on h = absurd h
-cursors_stay old new w v (o ∷ os) (c ∷ cs) on h = (
-  cursor_stays old new w v o c (λ l e. on l (ap (λ b. b || list_any (reads_table l.table) cs) e)) h.0,
-  cursors_stay old new w v os cs (λ l e. on l (or_true (reads_table l.table c) (list_any (reads_table l.table) cs) e)) h.1,
+pub cursors_stay : (old new : List (Option BoxState)) (w v : World) (os : List Opened) (cs : List Cursor) → StandsOn w v cs → ((o : Opened) → Contains os o → RestsStay old new o) → CursorsAgree old w os cs → CursorsAgree new v os cs
+cursors_stay old new w v [] [] on stay h = tt
+cursors_stay old new w v [] (c ∷ cs) on stay h = absurd h
+cursors_stay old new w v (o ∷ os) [] on stay h = absurd h
+cursors_stay old new w v (o ∷ os) (c ∷ cs) on stay h = (
+  cursor_stays old new w v o c (λ l e. on l (ap (λ b. b || list_any (reads_table l.table) cs) e)) (stay o (here_first o os)) h.0,
+  cursors_stay old new w v os cs (λ l e. on l (or_true (reads_table l.table c) (list_any (reads_table l.table) cs) e)) (λ x has. stay x (here_later o x os has)) h.1,
 )
 
-pub seat_stays : (old new : List (Option BoxState)) (w v : World) (seat : Option Seated) (s : Option Session) → ((l : Leased) → leases l.table s ≡ true → StillStands w l → StillStands v l) → SeatAgrees old w seat s → SeatAgrees new v seat s
-seat_stays old new w v None None on h = tt
-seat_stays old new w v None (Some s) on h = absurd h
-seat_stays old new w v (Some seat) None on h = absurd h
-seat_stays old new w v (Some seat) (Some s) on h = (h.0, cursors_stay old new w v seat.cursors s.cursors on h.1)
+pub seat_stays : (old new : List (Option BoxState)) (w v : World) (seat : Option Seated) (s : Option Session) → ((l : Leased) → leases l.table s ≡ true → StillStands w l → StillStands v l) → ((o : Opened) → IsIn seat o → RestsStay old new o)
+    → SeatAgrees old w seat s → SeatAgrees new v seat s
+seat_stays old new w v None None on stay h = tt
+seat_stays old new w v None (Some s) on stay h = absurd h
+seat_stays old new w v (Some seat) None on stay h = absurd h
+seat_stays old new w v (Some seat) (Some s) on stay h = (h.0, cursors_stay old new w v seat.cursors s.cursors on (λ o has. stay o (seat, refl, has)) h.1)
 
 -- where tables and their rows are as they were
 pub stands_still : (w v : World) (l : Leased) → v.catalog.tables ≡ w.catalog.tables → v.rows ≡ w.rows → StillStands w l → StillStands v l
@@ -174,12 +170,16 @@ stands_still w v l tables rows h = record {
   rows = h.rows ∙ (λ i. cells_of (rows_named l.table (sym tables i) (sym rows i)));
 }
 
+-- so for each open cursor
+abbrev pub AllStay : Shown → List (Option BoxState) → Type 0
+AllStay e new = (j : ℕ) (o : Opened) → IsOpenAt e.seats j o → RestsStay e.boxes new o
+
 -- the sessions of a world in which nothing but these changes
-pub sessions_stay : (e : Shown) (new : List (Option BoxState)) (w v : World) → v.sessions ≡ w.sessions → ((l : Leased) → is_leased w l.table ≡ true → StillStands w l → StillStands v l) → Agrees e w
+pub sessions_stay : (e : Shown) (new : List (Option BoxState)) (w v : World) → v.sessions ≡ w.sessions → ((l : Leased) → is_leased w l.table ≡ true → StillStands w l → StillStands v l) → AllStay e new → Agrees e w
     → (sid : ℕ) → IsSid sid → SeatAgrees new v (seat_of e.seats sid) (v.sessions sid)
-sessions_stay e new w v same on a sid is =
+sessions_stay e new w v same on stay a sid is =
     subst (λ (f : ℕ → Option Session). SeatAgrees new v (seat_of e.seats sid) (f sid)) (sym same)
-    (seat_stays e.boxes new w v (seat_of e.seats sid) (w.sessions sid) (λ l e h. on l (leased_by l.table e) h) (a.sessions sid is))
+    (seat_stays e.boxes new w v (seat_of e.seats sid) (w.sessions sid) (λ l e h. on l (leased_by l.table e) h) (λ o has. stay (sid - 1) o (open_in e.seats sid o has)) (a.sessions sid is))
   where
     leased_by : (name : Name) → leases name (w.sessions sid) ≡ true → is_leased w name ≡ true
     leased_by name e = pick (is_leased w name) refl
@@ -189,7 +189,7 @@ sessions_stay e new w v same on a sid is =
         pick false h = absurd (false≢true (sym (unleased w name sid h is) ∙ e))
 
 -- where no table changes, nor its rows
-pub sessions_still : (e : Shown) (new : List (Option BoxState)) (w v : World) → v.sessions ≡ w.sessions → v.catalog.tables ≡ w.catalog.tables → v.rows ≡ w.rows → Agrees e w
+pub sessions_still : (e : Shown) (new : List (Option BoxState)) (w v : World) → v.sessions ≡ w.sessions → v.catalog.tables ≡ w.catalog.tables → v.rows ≡ w.rows → AllStay e new → Agrees e w
     → (sid : ℕ) → IsSid sid → SeatAgrees new v (seat_of e.seats sid) (v.sessions sid)
 sessions_still e new w v same tables rows = sessions_stay e new w v same (λ l e h. stands_still w v l tables rows h)
 

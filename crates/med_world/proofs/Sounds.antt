@@ -4,8 +4,8 @@ use Rattle.std.proofs.lemmas.Bool.Decides.{eqb_tells}
 use Rattle.std.proofs.lemmas.List.{length-set, length_push}
 use Rattle.med_syntax.specs.Tree.{Name}
 use Rattle.fdw_api.specs.Kinds.{Column, OptionForm}
-use Rattle.fdw_api.specs.State.{Nature, BoxState, BoxTable, IsIdle, table_of, scan_of, set_at}
-use Rattle.fdw_api.specs.Calls.{Binds, CanUnbind, Unbinds, Refuses}
+use Rattle.fdw_api.specs.State.{Nature, BoxState, BoxTable, Scan, IsIdle, table_of, scan_of, set_at}
+use Rattle.fdw_api.specs.Calls.{NoScan, Binds, CanUnbind, Unbinds, Refuses}
 use Rattle.fdw_api.specs.declared.interface.Fault.{Fault}
 use Rattle.fdw_api.specs.Sound.{IsSoundBox}
 use Rattle.med_exec.specs.Slots.{ChangesAt}
@@ -14,14 +14,15 @@ use Rattle.med_catalog.specs.Changes.{ObjectChange, new_table, no_table, no_serv
 use Rattle.med_catalog.specs.Options.{table_settings, column_settings}
 use Rattle.bind_catalog.specs.Places.{Attached}
 use Rattle.med_world.specs.World.{beside_without}
-use Rattle.med_world.specs.Engine.{Label, Shown, EachTakes, EachBox, IsAtRest, AreSound, IsServerAt, IsStandingAt, IsWrittenAs, IsBoundAs, IsAmong, IsSound, with_change, BindsTable, UnbindsTable, DropsBox}
+use Rattle.med_world.specs.Engine.{Label, Shown, leased, EachTakes, EachBox, IsUnstaged, AreSound, IsServerAt, IsStandingAt, IsWrittenAs, IsBoundAs, IsAmong, IsSound, with_change, BindsTable, UnbindsTable, DropsBox}
 use Rattle.med_world.specs.Altering.{BindsInVain}
 use Rattle.med_world.proofs.Lists.{some_same, none_some, push_before, push_last, push_cases, past}
 use Rattle.med_world.proofs.Indexes.{was_index, was_once, was_other, was_some, left_at, tables_left, as_many_left}
-use Rattle.med_world.proofs.Faring.{rest_spared, Spares, that_is, vain_spares, spares_itself, changes_by, binds_spares, unbinds_spares, refuses_spares, was_there, is_there, set_other, set_this, set_that, same_box, left_box}
+use Rattle.med_world.proofs.Faring.{Spares, that_is, vain_spares, spares_itself, changes_by, binds_spares, unbinds_spares, refuses_spares, was_there, is_there, set_other, set_this, set_that, same_box, left_box}
 use Rattle.med_world.proofs.Altered.{has_table, fresh_other}
 use Rattle.med_world.proofs.Ready.{unbind_ready}
-use Rattle.med_world.proofs.Seats.{seats_sound}
+use Rattle.med_world.proofs.Scans.{unleased_scan}
+use Rattle.med_world.proofs.ScansChanged.{catalog_scans, bind_scans, unbind_scans, refused_scans, vain_scans, drop_scans, first_named, fresh_scan}
 
 -- ---- laws of the crates below
 
@@ -89,9 +90,9 @@ catalog_sound e change h objects stay tables = record {
   places = h.places;
   sources = h.sources;
   sessions = h.sessions;
-  seated = seats_sound e.boxes _ e.seats h.seated;
+  seated = h.seated;
   source_names = h.source_names;
-  at_rest = h.at_rest;
+  scans = catalog_scans e change tables h.scans;
   sound_boxes = h.sound_boxes;
   takes = h.takes;
   servers_stand = λ s in_p. let was = stay.back s in_p in let p = h.servers_stand was.0 was.1 in (p.0, standing_still e (with_change e change) s was.0 p.0 refl was.2 was.3 (λ i b at. (b, at)) p.1);
@@ -110,15 +111,15 @@ same_server_named e n same = record {
   back = λ s in_p. (s, subst (λ (ss : List ServerObject). Contains ss s) same in_p, refl, refl);
 }
 
-pub unbound_sound : (e n : Shown) (name : Name) → ((old new : BoxState) (t : ℕ) → IsSoundBox old → CanUnbind old t → Unbinds old t new → IsSoundBox new) → IsSound e → AreSound (changed (no_table name) e.catalog) → (h : UnbindsTable e name n) → IsSound n
-unbound_sound e n name law sound objects h = subst IsSound (sym h.is) (record {
+pub unbound_sound : (e n : Shown) (name : Name) → ((old new : BoxState) (t : ℕ) → IsSoundBox old → CanUnbind old t → Unbinds old t new → IsSoundBox new) → IsSound e → leased e name ≡ false → AreSound (changed (no_table name) e.catalog) → (h : UnbindsTable e name n) → IsSound n
+unbound_sound e n name law sound free objects h = subst IsSound (sym h.is) (record {
   objects = objects;
   places = as_many Q e.boxes n.boxes h.at.source ready ∙ sound.places;
   sources = sound.sources;
   sessions = sound.sessions;
-  seated = seats_sound e.boxes _ e.seats sound.seated;
+  seated = sound.seated;
   source_names = sound.source_names;
-  at_rest = λ i c at. let x = was_there (Spares only) e.boxes n.boxes h.at.source i c (spares_itself only) spares at in rest_spared only x.0 c x.2 (sound.at_rest i x.0 x.1);
+  scans = unbind_scans e n name sound free h none;
   sound_boxes = sound_changed Q e.boxes n.boxes h.at.source (λ b c s q. law b c h.at.number s q.0 q.1) ready sound.sound_boxes;
   takes = takes_spared e.labels only e.boxes n.boxes h.at.source spares sound.takes;
   servers_stand = λ s in_p. let p = sound.servers_stand s in_p in (p.0, standing_still e shrunk s s p.0 refl refl refl stay p.1);
@@ -132,10 +133,15 @@ unbound_sound e n name law sound objects h = subst IsSound (sym h.is) (record {
     Q : BoxState → BoxState → Type 0
     Q b c = CanUnbind b h.at.number × Unbinds b h.at.number c
 
+    none : (s : BoxState) → slice_get e.boxes h.at.source ≡ Some (Some s) → NoScan s h.at.number
+    none s there =
+        let t = has_table e.catalog.tables e.bound h.place h.at sound.many h.bound in
+        unleased_scan e h.place t.0 h.at s sound.bound_once sound.scans t.1 h.bound (ap (leased e) (first_named name e.catalog.tables h.place t.0 h.first t.1) ∙ free) there
+
     ready : ChangesAt e.boxes h.at.source Q n.boxes
     ready =
         let t = has_table e.catalog.tables e.bound h.place h.at sound.many h.bound in
-        let can = unbind_ready e t.0 h.place h.at sound t.1 h.bound in
+        let can = unbind_ready e t.0 h.place h.at sound t.1 h.bound (ap (leased e) (first_named name e.catalog.tables h.place t.0 h.first t.1) ∙ free) in
         let same : can.box ≡ h.unbinds.before = same_box can.box h.unbinds.before (sym can.there ∙ h.unbinds.there) in
         record {
           before = h.unbinds.before;
@@ -216,9 +222,9 @@ bound_sound law e n t sound objects h = subst IsSound (sym h.is) (record {
   places = as_many Q e.boxes n.boxes h.place h.binds ∙ sound.places;
   sources = sound.sources;
   sessions = sound.sessions;
-  seated = seats_sound e.boxes _ e.seats sound.seated;
+  seated = sound.seated;
   source_names = sound.source_names;
-  at_rest = λ i c at. let x = was_there (Spares only) e.boxes n.boxes h.place i c (spares_itself only) spares at in rest_spared only x.0 c x.2 (sound.at_rest i x.0 x.1);
+  scans = bind_scans e n t sound h;
   sound_boxes = sound_changed Q e.boxes n.boxes h.place (λ b c s q. law.binds b c t.remote t.columns t.settings h.number s q) h.binds sound.sound_boxes;
   takes = takes_spared e.labels only e.boxes n.boxes h.place spares sound.takes;
   servers_stand = λ s in_p. let p = sound.servers_stand s in_p in (p.0, standing_still e grown s s p.0 refl refl refl stay p.1);
@@ -332,9 +338,9 @@ dropped_sound e n name sound objects stay h alone unused = subst IsSound (sym h.
   places = length-set e.boxes h.place None ∙ sound.places;
   sources = sound.sources;
   sessions = sound.sessions;
-  seated = seats_sound e.boxes _ e.seats sound.seated;
+  seated = sound.seated;
   source_names = sound.source_names;
-  at_rest = λ i c at. sound.at_rest i c (left_box e.boxes h.place i h.box c h.there at);
+  scans = drop_scans e h.place h.box h.there h.idle name sound.scans;
   sound_boxes = λ i c at. sound.sound_boxes i c (left_box e.boxes h.place i h.box c h.there at);
   takes = takes_by e.labels e.boxes (slice_set e.boxes h.place None) (λ i c at. (c, left_box e.boxes h.place i h.box c h.there at, refl)) sound.takes;
   servers_stand = stand;
@@ -386,13 +392,13 @@ pub idle_at : (e : Shown) (name : Name) (place : ℕ) (box : BoxState) → IsSou
     → ((t : TableObject) (k : ℕ) → slice_get e.catalog.tables k ≡ Some t → t.server ≢ name) → ((s r : ServerObject) (a b : Name) → server_named e.catalog a ≡ Some s → server_named e.catalog b ≡ Some r → s.source ≡ r.source → a ≡ b) → IsIdle box
 idle_at e name place box sound server there unused once = record {
   no_table = λ q. none_at (table_of box q) (λ b is. bound_there q b is);
-  no_scan = (sound.at_rest place box there).no_scan;
-  no_staging = (sound.at_rest place box there).no_staging;
+  no_scan = λ q. none_at (scan_of box q) (λ scan live. let bound = (sound.sound_boxes place box there).scans q scan live in bound_there scan.table bound.0 bound.1);
+  no_staging = sound.scans.unstaged place box there;
 }
   where
-    none_at : (o : Option BoxTable) → ((b : BoxTable) → o ≡ Some b → ⊥) → o ≡ None
+    none_at : {X : Type 0} (o : Option X) → ((x : X) → o ≡ Some x → ⊥) → o ≡ None
     none_at None f = refl
-    none_at (Some b) f = absurd (f b refl)
+    none_at (Some x) f = absurd (f x refl)
 
     bound_there : (q : ℕ) (b : BoxTable) → table_of box q ≡ Some b → ⊥
     bound_there q b is = of_server (sound.tables_bound among.place u.0 among.at u.1 among.there)
@@ -417,9 +423,9 @@ refused_sound law e new place fault sound h = record {
   places = as_many (Refuses fault) e.boxes new place h ∙ sound.places;
   sources = sound.sources;
   sessions = sound.sessions;
-  seated = seats_sound e.boxes _ e.seats sound.seated;
+  seated = sound.seated;
   source_names = sound.source_names;
-  at_rest = λ i c at. let x = was_there (Spares only) e.boxes new place i c (spares_itself only) spared at in rest_spared only x.0 c x.2 (sound.at_rest i x.0 x.1);
+  scans = refused_scans e new place fault h sound.scans;
   sound_boxes = sound_changed (Refuses fault) e.boxes new place (λ b c s q. law.refuses b c fault s q) h sound.sound_boxes;
   takes = takes_spared e.labels only e.boxes new place spared sound.takes;
   servers_stand = λ s in_p. let p = sound.servers_stand s in_p in (p.0, standing_still e after s s p.0 refl refl refl (λ i b at. let x = is_there (Spares only) e.boxes new place i b (spares_itself only) spared at in (x.0, x.1)) p.1);
@@ -441,16 +447,16 @@ refused_sound law e new place fault sound h = record {
 
 -- ---- nor does a bind that was undone unsettle it
 
--- what was just bound may be unbound, where the box was at rest
-mid_ready : (b mid : BoxState) (remote : List ℕ) (columns : List Column) (settings : List OptionForm) (t : ℕ) → IsAtRest b → Binds b remote columns settings t mid → CanUnbind mid t
-mid_ready b mid remote columns settings t rest binds = record {
+-- what was just bound may be unbound, where nothing was staged
+mid_ready : (b mid : BoxState) (remote : List ℕ) (columns : List Column) (settings : List OptionForm) (t : ℕ) → IsSoundBox b → IsUnstaged b → Binds b remote columns settings t mid → CanUnbind mid t
+mid_ready b mid remote columns settings t sound unstaged binds = record {
   is_bound = ap is_some (ap (λ l. l.tables t) binds.ledger ∙ set_this b.ledger.tables t (Some binds.bound) t refl);
-  no_scan = λ q scan is. absurd (none_some scan (scan_of mid q) (none q) is);
-  not_staged = ap (λ l. l.staged) binds.ledger ∙ rest.no_staging;
+  no_scan = λ q scan live. fresh_scan b t sound binds.fresh q scan (was q scan live);
+  not_staged = ap (λ l. l.staged) binds.ledger ∙ unstaged;
 }
   where
-    none : (q : ℕ) → scan_of mid q ≡ None
-    none q = ap (λ m. scan_of (record b { ledger = record b.ledger { live = m } }) q) (ap (λ l. l.live) binds.ledger) ∙ rest.no_scan q
+    was : (q : ℕ) (scan : Scan) → scan_of mid q ≡ Some scan → scan_of b q ≡ Some scan
+    was q scan live = ap (λ m. scan_of (record b { ledger = record b.ledger { live = m } }) q) (sym (ap (λ l. l.live) binds.ledger)) ∙ live
 
 pub vain_sound : StaySound → ((old new : BoxState) (t : ℕ) → IsSoundBox old → CanUnbind old t → Unbinds old t new → IsSoundBox new) → (e : Shown) (new : List (Option BoxState)) (t : TableObject) (place : ℕ) → IsSound e → (h : ChangesAt e.boxes place (BindsInVain t) new) → IsSound (record e { boxes = new })
 vain_sound law unbinds e new t place sound h = record {
@@ -458,12 +464,12 @@ vain_sound law unbinds e new t place sound h = record {
   places = as_many (BindsInVain t) e.boxes new place h ∙ sound.places;
   sources = sound.sources;
   sessions = sound.sessions;
-  seated = seats_sound e.boxes _ e.seats sound.seated;
+  seated = sound.seated;
   source_names = sound.source_names;
-  at_rest = λ i c at. let x = was_there (Spares only) e.boxes new place i c (spares_itself only) spared at in rest_spared only x.0 c x.2 (sound.at_rest i x.0 x.1);
-  sound_boxes = sound_changed AtRest e.boxes new place
-      (λ b c s q. unbinds q.1.mid c q.1.number (law.binds b q.1.mid t.remote t.columns t.settings q.1.number s q.1.binds) (mid_ready b q.1.mid t.remote t.columns t.settings q.1.number q.0 q.1.binds) q.1.unbinds)
-      resting sound.sound_boxes;
+  scans = vain_scans e new t place sound h;
+  sound_boxes = sound_changed Unstaged e.boxes new place
+      (λ b c s q. unbinds q.1.mid c q.1.number (law.binds b q.1.mid t.remote t.columns t.settings q.1.number s q.1.binds) (mid_ready b q.1.mid t.remote t.columns t.settings q.1.number s q.0 q.1.binds) q.1.unbinds)
+      unstaged sound.sound_boxes;
   takes = takes_spared e.labels only e.boxes new place spared sound.takes;
   servers_stand = λ s in_p. let p = sound.servers_stand s in_p in (p.0, standing_still e after s s p.0 refl refl refl (λ i b at. let x = is_there (Spares only) e.boxes new place i b (spares_itself only) spared at in (x.0, x.1)) p.1);
   many = sound.many;
@@ -482,11 +488,11 @@ vain_sound law unbinds e new t place sound h = record {
     spared : ChangesAt e.boxes place (Spares only) new
     spared = record { before = h.before; after = h.after; there = h.there; now = h.now; others = h.others; slots = h.slots; change = vain_spares t h.before h.after h.change }
 
-    AtRest : BoxState → BoxState → Type 0
-    AtRest b c = IsAtRest b × BindsInVain t b c
+    Unstaged : BoxState → BoxState → Type 0
+    Unstaged b c = IsUnstaged b × BindsInVain t b c
 
-    resting : ChangesAt e.boxes place AtRest new
-    resting = record { before = h.before; after = h.after; there = h.there; now = h.now; others = h.others; slots = h.slots; change = (sound.at_rest place h.before h.there, h.change) }
+    unstaged : ChangesAt e.boxes place Unstaged new
+    unstaged = record { before = h.before; after = h.after; there = h.there; now = h.now; others = h.others; slots = h.slots; change = (sound.scans.unstaged place h.before h.there, h.change) }
 
     SameTables : BoxState → BoxState → Type 0
     SameTables b c = ((q : ℕ) → table_of c q ≡ table_of b q) × (c.nature ≡ b.nature)

@@ -1,5 +1,5 @@
 -- FETCH and CLOSE lead to their replies.
-use Rattle.std.proofs.Common.{◌≡◌, ℕ, ◌<◌, ◌≤◌, ◌⊎◌, true, false, List, [], ◌++◌, Option, Some, None, find, length, map, codes, refl, ap, sym, ◌∙◌, subst, arith, inl, inr}
+use Rattle.std.proofs.Common.{◌≡◌, ℕ, ◌<◌, ◌≤◌, ◌⊎◌, true, false, List, [], ◌++◌, Option, Some, None, not, filter, find, length, map, codes, refl, ap, sym, ◌∙◌, subst, arith, inl, inr}
 use Rattle.std.proofs.lemmas.Bool.{false≢true}
 use Rattle.std.proofs.lemmas.List.{append_assoc, append-nil}
 use Rattle.med_value.specs.Datum.{Tuple}
@@ -9,8 +9,8 @@ use Rattle.med_syntax.specs.Tree.{Name}
 use Rattle.med_query.specs.Query.{IsAnswer}
 use Rattle.fdw_api.specs.State.{BoxState}
 use Rattle.med_exec.specs.declared.running.Run.{Run}
-use Rattle.med_exec.specs.Running.{AllServed, AllHonest}
-use Rattle.med_exec.specs.Rests.{Rests}
+use Rattle.med_exec.specs.Running.{AllHonest, none_held}
+use Rattle.med_exec.specs.Rests.{Rests, held}
 use Rattle.med_parser.specs.CommandTree.{on_cursors}
 use Rattle.cursor_syntax.specs.CursorTree.{CountTree, some_rows, all_rows, CursorTree, declare, fetch, close}
 use Rattle.open_cursors.specs.Open.{Opened, Seated, opened_named, without_named, with_run}
@@ -32,10 +32,10 @@ use Rattle.med_world.proofs.Faring.{none_rises}
 use Rattle.med_world.proofs.OneRun.{once_refused, once_read}
 use Rattle.med_world.proofs.Told.{told_tree, none_tree, before_tree}
 use Rattle.med_world.proofs.Leading.{cursors_in, session_in, calm, calm_befell, known, leads_refused}
-use Rattle.med_world.proofs.Serving.{serving_rises}
+use Rattle.med_world.proofs.Serving.{run_rises}
 use Rattle.med_world.proofs.Sessions.{turned_agrees}
 use Rattle.med_world.proofs.CursorLists.{one_fewer, one_turns}
-use Rattle.med_world.proofs.CursorSeats.{cursors_at, picks_none, has_none, found_at, old_seat, ended_served}
+use Rattle.med_world.proofs.CursorSeats.{cursors_at, picks_none, has_none, found_at, old_seat, ends_serve, fetched_turn, fetched_left, ended_turn, ended_left, here_stays, left_here}
 
 -- ---- no cursor of the name
 
@@ -107,14 +107,14 @@ pub fetched : (e : Shown) (new : List (Option BoxState)) (sid : ℕ) (text : Lis
 fetched e new sid text seat name asked o rows after read at sound here g = record {
   trouble = calm;
   befell = calm_befell e.boxes new;
-  rises = serving_rises e.boxes new g.served;
+  rises = run_rises (held o.run) (held after) e.boxes new g.served;
   once = once_read e sid text seat.user (on_cursors (fetch asked name)) (answered (codes "FETCH") o.names rows) new read (λ q ran. absurd ran);
   step = λ w a. (
     now w,
     is_done no_pick (picks_none e w sid text seat (fetch asked name) a read)
         (none_tree w sid no_pick text (session_in w sid seat.user) (on_cursors (fetch asked name)) (known e w sid text seat.user (on_cursors (fetch asked name)) a read) (none_fetched e w sid text seat name asked o a read at here))
         (session_in w sid seat.user, on_cursors (fetch asked name), (known e w sid text seat.user (on_cursors (fetch asked name)) a read).is, turns w a),
-    turned_agrees e w new sid (Some (record seat { cursors = with_run name after seat.cursors })) (Some (with_handed (session_in w sid seat.user) name rows)) read.is_sid sound.sessions g.served (refl, all w a) a,
+    turned_agrees e w new sid (Some (record seat { cursors = with_run name after seat.cursors })) (Some (with_handed (session_in w sid seat.user) name rows)) read.is_sid sound.sessions (fetched_turn e new sid seat name asked o rows after sound at here g) (refl, all w a) a,
   );
 }
   where
@@ -127,18 +127,20 @@ fetched e new sid text seat name asked o rows after read at sound here g = recor
         (f.cursor, f.is, (rows, fetches e.boxes w asked o f.cursor rows after new a.honest g f.agrees, ap (λ (ns : List Name). answered (codes "FETCH") ns rows) (sym f.agrees.names), refl))
 
     all : (w : World) → Agrees e w → CursorsAgree new (now w) (with_run name after seat.cursors) (map (hand_out name rows) (cursors_in (w.sessions sid)))
-    all w a = one_turns e.boxes new w (now w) name after rows seat.cursors (cursors_in (w.sessions sid)) o (λ l taken x. stands_still w (now w) l refl refl x) (old_seat e sid seat sound at).apart here
+    all w a = one_turns e.boxes new w (now w) name after rows seat.cursors (cursors_in (w.sessions sid)) o (λ l taken x. stands_still w (now w) l refl refl x)
+        (λ c has ne. here_stays e new sid seat c sound at a.honest has (fetched_left e new sid seat name asked o rows after sound at here g c has ne)) (old_seat e sid seat sound at).apart here
         (λ c h. goes_on e.boxes new w (now w) asked o c rows after refl refl a.honest g h) (cursors_at e w sid seat read.is_sid at a)
 
 -- ---- a cursor that is gone
 
-gone_agrees : (e : Shown) (w : World) (new : List (Option BoxState)) (sid : ℕ) (seat : Seated) (name : Name) → IsSid sid → seat_of e.seats sid ≡ Some seat → IsSound e → AllServed e.boxes new → Agrees e w
+gone_agrees : (e : Shown) (w : World) (new : List (Option BoxState)) (sid : ℕ) (seat : Seated) (name : Name) (o : Opened) → IsSid sid → seat_of e.seats sid ≡ Some seat → IsSound e → opened_named name seat.cursors ≡ Some o → Ends o.run e.boxes new → Agrees e w
     → Agrees (with_cursors e sid seat (without_named name seat.cursors) new) (with_session w sid (Some (without_cursor (session_in w sid seat.user) name)))
-gone_agrees e w new sid seat name is at sound served a =
-    turned_agrees e w new sid (Some (record seat { cursors = without_named name seat.cursors })) (Some (without_cursor (session_in w sid seat.user) name)) is sound.sessions served (
+gone_agrees e w new sid seat name o is at sound here ends a =
+    turned_agrees e w new sid (Some (record seat { cursors = without_named name seat.cursors })) (Some (without_cursor (session_in w sid seat.user) name)) is sound.sessions (ended_turn e new sid seat name o sound at here ends) (
       refl,
-      one_fewer new now name seat.cursors (cursors_in (w.sessions sid))
-          (cursors_stay e.boxes new w now seat.cursors (cursors_in (w.sessions sid)) (λ l taken x. stands_still w now l refl refl x) (cursors_at e w sid seat is at a)),
+      cursors_stay e.boxes new w now (without_named name seat.cursors) (filter (λ c. not (is_cursor name c)) (cursors_in (w.sessions sid))) (λ l taken x. stands_still w now l refl refl x)
+          (λ c has. here_stays e new sid seat c sound at a.honest (left_here name seat.cursors c has) (ended_left e new sid seat name o sound at here ends c has))
+          (one_fewer e.boxes w name seat.cursors (cursors_in (w.sessions sid)) (cursors_at e w sid seat is at a)),
     ) a
   where
     now : World
@@ -151,12 +153,12 @@ not_fetched e new sid text seat name asked o c read at sound here (no_memory is)
     subst (λ (d : Cause). Leads e sid (sql text) (refused d) (with_cursors e sid seat (without_named name seat.cursors) new)) (sym is) (record {
       trouble = record { memory = true; asked = true; source = false; numbers = false };
       befell = record { source = λ x. absurd (false≢true x); numbers = λ x. absurd (false≢true x) };
-      rises = serving_rises e.boxes new (ended_served o.run e.boxes new ends);
+      rises = run_rises (held o.run) none_held e.boxes new (ends_serve o.run e.boxes new ends);
       once = once_refused e (sql text) OutOfMemory new;
       step = λ w a. (
         with_session w sid (Some (without_cursor (session_in w sid seat.user) name)),
         fetch_lacks_memory refl refl (session_in w sid seat.user) asked name (known e w sid text seat.user (on_cursors (fetch asked name)) a read).is refl refl,
-        gone_agrees e w new sid seat name read.is_sid at sound (ended_served o.run e.boxes new ends) a,
+        gone_agrees e w new sid seat name o read.is_sid at sound here ends a,
       );
     })
 not_fetched e new sid text seat name asked o c read at sound here (box_fails is h) ends =
@@ -166,12 +168,12 @@ not_fetched e new sid text seat name asked o c read at sound here (box_fails is 
         source = λ x. h;
         numbers = λ x. absurd (false≢true x);
       };
-      rises = serving_rises e.boxes new (ended_served o.run e.boxes new ends);
+      rises = run_rises (held o.run) none_held e.boxes new (ends_serve o.run e.boxes new ends);
       once = once_refused e (sql text) SourceFault new;
       step = λ w a. (
         with_session w sid (Some (without_cursor (session_in w sid seat.user) name)),
         source_fails refl (session_in w sid seat.user) (on_cursors (fetch asked name)) (known e w sid text seat.user (on_cursors (fetch asked name)) a read).is (late w a) refl refl,
-        gone_agrees e w new sid seat name read.is_sid at sound (ended_served o.run e.boxes new ends) a,
+        gone_agrees e w new sid seat name o read.is_sid at sound here ends a,
       );
     })
   where
@@ -184,14 +186,14 @@ pub closed : (e : Shown) (new : List (Option BoxState)) (sid : ℕ) (text : List
 closed e new sid text seat name o read at sound here ends = record {
   trouble = calm;
   befell = calm_befell e.boxes new;
-  rises = serving_rises e.boxes new (ended_served o.run e.boxes new ends);
+  rises = run_rises (held o.run) none_held e.boxes new (ends_serve o.run e.boxes new ends);
   once = once_read e sid text seat.user (on_cursors (close name)) (done (codes "CLOSE CURSOR")) new read (λ q ran. absurd ran);
   step = λ w a. (
     with_session w sid (Some (without_cursor (session_in w sid seat.user) name)),
     is_done no_pick (picks_none e w sid text seat (close name) a read)
         (none_tree w sid no_pick text (session_in w sid seat.user) (on_cursors (close name)) (known e w sid text seat.user (on_cursors (close name)) a read) (none w a))
         (session_in w sid seat.user, on_cursors (close name), (known e w sid text seat.user (on_cursors (close name)) a read).is, (refl, refl)),
-    gone_agrees e w new sid seat name read.is_sid at sound (ended_served o.run e.boxes new ends) a,
+    gone_agrees e w new sid seat name o read.is_sid at sound here ends a,
   );
 }
   where

@@ -1,5 +1,5 @@
 -- A write that is done leads each world that agrees to one that agrees, and leaves an engine sound.
-use Rattle.std.proofs.Common.{◌≡◌, ◌≢◌, ℕ, ◌+◌, ◌⊎◌, true, false, List, Option, Some, map, slice_get, refl, ap, sym, ◌∙◌, subst, inl, inr, eqb, arith, bytes_eq, IsPermutation, if◌then◌else◌, Bool}
+use Rattle.std.proofs.Common.{◌≡◌, ◌≢◌, ℕ, ◌+◌, ◌⊎◌, true, false, List, Option, Some, is_some, map, slice_get, refl, ap, sym, ◌∙◌, subst, inl, inr, eqb, arith, bytes_eq, IsPermutation, if◌then◌else◌, Bool}
 use Rattle.std.proofs.lemmas.Bool.Decides.{eqb_tells}
 use Rattle.std.proofs.lemmas.List.Sorted.{IsPermutation-trans}
 use Rattle.med_value.specs.Datum.{Tuple}
@@ -9,6 +9,7 @@ use Rattle.tri_expr.proofs.Shuffled.{Shuffled, back, to_swaps, from_swaps, same 
 use Rattle.fdw_api.specs.Kinds.{Kind, Entry, Holding, Known, Unknown, Held, held}
 use Rattle.fdw_api.specs.Scan.{TableRow}
 use Rattle.fdw_api.specs.State.{BoxTable, BoxState, is_honest, table_of, scan_of, rows_of}
+use Rattle.fdw_api.specs.Calls.{NoScan}
 use Rattle.fdw_api.specs.Writes.{HoldsImage, Written}
 use Rattle.med_exec.specs.Slots.{ChangesAt}
 use Rattle.med_write.specs.Writing.{rows_after}
@@ -19,10 +20,12 @@ use Rattle.bind_catalog.specs.Places.{Attached}
 use Rattle.med_world.specs.World.{World, standing, rows_with, rows_named, holding_at, holds_at, with_state}
 use Rattle.med_world.specs.Causes.{rows_held, IsTarget}
 use Rattle.med_world.specs.Steps.{holding_after}
-use Rattle.med_world.specs.Engine.{Shown, IsAtRest, IsServerAt, IsWrittenAs, IsBoundAs, IsSound, IsFirst, state_of, sources_of, AreRowsOf, RowsAgree, Agrees, Rises, EachRises, leased}
+use Rattle.med_world.specs.Engine.{Shown, IsServerAt, IsWrittenAs, IsBoundAs, IsSound, IsFirst, state_of, sources_of, AreRowsOf, RowsAgree, Agrees, Rises, EachRises, leased}
 use Rattle.med_world.specs.Writing.{columns_for, form_for, IsTargetAt, DoesWrite}
 use Rattle.med_world.specs.Laws.{with_boxes}
-use Rattle.med_world.proofs.Seats.{seats_sound, sessions_stay, leases_same, named_apart, written_stands}
+use Rattle.med_world.proofs.Seats.{sessions_stay, leases_same, named_apart, written_stands}
+use Rattle.med_world.proofs.Scans.{leases_itself, all_stay, unleased_scan}
+use Rattle.med_world.proofs.ScansChanged.{IsQuiet, quiet_left, quiet_scans, first_named}
 use Rattle.med_world.proofs.Lists.{some_same, bytes_same, bytes_other}
 use Rattle.med_world.proofs.Faring.{same_box, changes_by, changes_rise, rises_itself, was_there, is_there}
 use Rattle.med_world.proofs.Altered.{serves_at}
@@ -136,10 +139,45 @@ done_keeps e t answer at count new h =
     changes_by (λ a b. DoesWrite e.catalog t answer at.number count a b) KeepsBox e.boxes new at.source
     (λ a b k. written_keeps (columns_for e.catalog t) (form_for e.catalog t) answer a at.number count b k.writes) h
 
-rest_kept : (b c : BoxState) → KeepsBox b c → IsAtRest b → IsAtRest c
-rest_kept b c k h = record {
-  no_scan = λ q. ap (λ m. scan_of (record b { ledger = record b.ledger { live = m } }) q) k.live ∙ h.no_scan q;
-  no_staging = k.staged ∙ h.no_staging;
+-- the table that is written is not leased, so that no scan of it is live
+pub no_scan_there : (e : Shown) (t : WriteTree) (at : Attached) (b : BoxState) → IsSound e → leased e (target_of t) ≡ false → IsTargetAt e.catalog e.bound t at → slice_get e.boxes at.source ≡ Some (Some b) → NoScan b at.number
+no_scan_there e t at b sound free target there = unleased_scan e f.0 u.0 at b sound.bound_once sound.scans u.1 at_place (ap (leased e) (first_named (target_of t) e.catalog.tables f.0 u.0 f.2 u.1) ∙ free) there
+  where
+    f : (k : ℕ) × (target.place ≡ 0 + k) × IsFirst (target_of t) e.catalog.tables k
+    f = first_from e.catalog.tables (target_of t) 0 target.place target.named
+
+    at_place : slice_get e.bound f.0 ≡ Some at
+    at_place = let same : target.place ≡ f.0 = (let z : target.place ≡ 0 + f.0 = f.1 in omega (arith, z)) in ap (slice_get e.bound) (sym same) ∙ target.there
+
+    u : (u : TableObject) × (slice_get e.catalog.tables f.0 ≡ Some u) × (table_named e.catalog (target_of t) ≡ Some u)
+    u = first_table e.catalog.tables (target_of t) f.0 f.2
+
+-- a write leaves the scans of other tables
+written_quiet : (e : Shown) (t : WriteTree) (answer : List Tuple) (number count : ℕ) (b c : BoxState) → NoScan b number → DoesWrite e.catalog t answer number count b c → IsQuiet b c
+written_quiet e t answer number count b c none h = record {
+  live = keeps.live;
+  staged = keeps.staged;
+  keeps = λ q scan live. record {
+    nature = keeps.nature;
+    live = ap (λ m. scan_of (record b { ledger = record b.ledger { live = m } }) q) keeps.live ∙ live;
+    table = ap (λ f. f scan.table) keeps.tables;
+    coming = λ honest. (h.writes.content honest).leaves.coming q (ap is_some live) (λ x. x);
+    rows = λ honest. (h.writes.content honest).leaves.rows scan.table (none q scan live);
+  };
+}
+  where
+    keeps : KeepsBox b c
+    keeps = written_keeps (columns_for e.catalog t) (form_for e.catalog t) answer b number count c h.writes
+
+done_quiet : (e : Shown) (t : WriteTree) (answer : List Tuple) (at : Attached) (count : ℕ) (new : List (Option BoxState)) → IsSound e → leased e (target_of t) ≡ false → IsTargetAt e.catalog e.bound t at → Done e t answer at count new → ChangesAt e.boxes at.source IsQuiet new
+done_quiet e t answer at count new sound free target h = record {
+  before = h.before;
+  after = h.after;
+  there = h.there;
+  now = h.now;
+  others = h.others;
+  slots = h.slots;
+  change = written_quiet e t answer at.number count h.before h.after (no_scan_there e t at h.before sound free target h.there) h.change;
 }
 
 pub done_rises : (e : Shown) (t : WriteTree) (answer : List Tuple) (at : Attached) (count : ℕ) (new : List (Option BoxState)) → Done e t answer at count new → EachRises e.boxes new
@@ -155,15 +193,15 @@ done_rises e t answer at count new h = changes_rise Or e.boxes new at.source (λ
     rises b c (inl same) = subst (Rises b) (sym same) (rises_itself b)
     rises b c (inr k) = written_rises (columns_for e.catalog t) (form_for e.catalog t) answer b at.number count c k.writes
 
-pub done_sound : (e : Shown) (t : WriteTree) (answer : List Tuple) (at : Attached) (count : ℕ) (new : List (Option BoxState)) → IsSound e → Done e t answer at count new → IsSound (with_boxes e new)
-done_sound e t answer at count new sound h = record {
+pub done_sound : (e : Shown) (t : WriteTree) (answer : List Tuple) (at : Attached) (count : ℕ) (new : List (Option BoxState)) → IsSound e → leased e (target_of t) ≡ false → IsTargetAt e.catalog e.bound t at → Done e t answer at count new → IsSound (with_boxes e new)
+done_sound e t answer at count new sound free target h = record {
   objects = sound.objects;
   places = as_many P e.boxes new at.source h ∙ sound.places;
   sources = sound.sources;
   sessions = sound.sessions;
-  seated = seats_sound e.boxes _ e.seats sound.seated;
+  seated = sound.seated;
   source_names = sound.source_names;
-  at_rest = λ i c at_c. let x = was_there KeepsBox e.boxes new at.source i c keeps_itself keeps at_c in rest_kept x.0 c x.2 (sound.at_rest i x.0 x.1);
+  scans = quiet_scans e (with_boxes e new) at.source refl sound.scans (done_quiet e t answer at count new sound free target h) (leases_itself e);
   sound_boxes = sound_changed P e.boxes new at.source (λ b c s k. written_box_sound (columns_for e.catalog t) (form_for e.catalog t) answer b at.number count c s k.can k.writes) h sound.sound_boxes;
   takes = takes_by e.labels e.boxes new (λ i c at_c. let x = was_there KeepsBox e.boxes new at.source i c keeps_itself keeps at_c in (x.0, x.1, x.2.nature)) sound.takes;
   servers_stand = λ s in_p. let p = sound.servers_stand s in_p in
@@ -320,9 +358,9 @@ done_agrees e w t answer at count new sound free target_at h a = record {
     agrees : Agrees (with_boxes e new) after
     agrees = record {
       honest = λ i d at_d. let y = was_there KeepsBox e.boxes new at.source i d keeps_itself keeps at_d in honest_kept y.0 d y.2 (a.honest i y.0 y.1);
-      at_rest = λ i d at_d. let y = was_there KeepsBox e.boxes new at.source i d keeps_itself keeps at_d in rest_kept y.0 d y.2 (a.at_rest i y.0 y.1);
+      scans = quiet_scans e (with_boxes e new) at.source refl sound.scans (done_quiet e t answer at count new sound free target_at h) (leases_itself e);
       catalog = a.catalog;
       sources = sources;
       rows = subst (λ (o : Objects). RowsAgree new e.bound (rows_with (target_of t) rows o.tables w.rows)) (sym a.catalog) table_rows;
-      sessions = sessions_stay e new w after refl (λ l taken y. written_stands w after (target_of t) rows l refl refl (named_apart w l.table (target_of t) taken (ap (λ f. f (target_of t)) (leases_same e w sound a) ∙ free)) y) a;
+      sessions = sessions_stay e new w after refl (λ l taken y. written_stands w after (target_of t) rows l refl refl (named_apart w l.table (target_of t) taken (ap (λ f. f (target_of t)) (leases_same e w sound a) ∙ free)) y) (all_stay e new sound.scans a.honest (quiet_left e new at.source (done_quiet e t answer at count new sound free target_at h))) a;
     }

@@ -5,12 +5,13 @@ use Rattle.med_value.specs.declared.cause.Cause.{Cause}
 use Rattle.med_syntax.specs.Tree.{Name}
 use Rattle.med_syntax.specs.QueryTree.{SelectTree, select}
 use Rattle.fdw_api.specs.Kinds.{Column, Kind, Held, held, kinds_of}
-use Rattle.fdw_api.specs.State.{BoxState, BoxTable, IsIdle, is_honest, table_of, scan_of, rows_of}
+use Rattle.fdw_api.specs.State.{Scan, BoxState, BoxTable, IsIdle, is_honest, table_of, scan_of, rows_of}
 use Rattle.fdw_api.specs.Calls.{Binds, Unbinds}
 use Rattle.fdw_api.specs.Sound.{IsSoundBox}
 use Rattle.med_planner.specs.Planned.{Place}
 use Rattle.med_exec.specs.Slots.{BoxAt, ChangesAt}
 use Rattle.med_exec.specs.Running.{SlotShows, HasFailed, IsUsedUp}
+use Rattle.med_exec.specs.Rests.{held as scans_held, IsRunning}
 use Rattle.bind_catalog.specs.Places.{Attached, ArePlaces}
 use Rattle.bind_catalog.specs.Queries.{meant_by}
 use Rattle.med_value.specs.Limits.{session_count, source_limit}
@@ -25,9 +26,9 @@ use Rattle.med_catalog.specs.Options.{table_settings, column_settings}
 use Rattle.med_catalog.specs.DdlCauses.{Stands, create_table_rows}
 use Rattle.med_catalog.specs.Changes.{AreDeclared, ObjectChange, new_table, no_server, no_table, changed}
 use Rattle.open_cursors.specs.Counted.{ReadsTables}
-use Rattle.open_cursors.specs.Open.{Seated, any_leases}
+use Rattle.open_cursors.specs.Open.{Opened, Seated, leases_table, any_leases}
 use Rattle.med_world.specs.World.{World, Source, SourceState, standing, dropped, with_session, without_sessions, beside_without}
-use Rattle.med_world.specs.Seats.{seat_of, AreSoundSeats, SeatAgrees}
+use Rattle.med_world.specs.Seats.{seat_of, IsOpenAt, AreSoundSeats, SeatAgrees}
 use Rattle.med_world.specs.Steps.{Trouble, Step}
 use Rattle.med_world.specs.Replies.{Reply, done, answered, reply_text}
 
@@ -127,15 +128,55 @@ abbrev pub EachTakes : List Label → List (Option BoxState) → Type 0
 EachTakes labels boxes =
     (place : ℕ) (l : Label) (s : BoxState) → slice_get labels place ≡ Some l → slice_get boxes place ≡ Some (Some s) → TakesAs l.kind s
 
+-- ---- scans that open cursors hold
+
+-- the cursor leases the table of this number of the slot's box
+pub record LeasesNumber (tables : List TableObject) (bound : List Attached) (c : Opened) (slot number : ℕ) : Type 0 where
+  pub place : ℕ
+  pub table : TableObject
+  pub at : Attached
+  pub there : slice_get tables place ≡ Some table
+  pub is_bound : slice_get bound place ≡ Some at
+  pub source_is : at.source ≡ slot
+  pub number_is : at.number ≡ number
+  pub leases : leases_table table.name c ≡ true
+
+-- an open cursor holds the scan of this number of the slot's box, and leases the table that it is of
+pub record IsOwned (e : Shown) (slot number table : ℕ) : Type 0 where
+  pub place : ℕ
+  pub cursor : Opened
+  pub is_open : IsOpenAt e.seats place cursor
+  pub holds : Contains (scans_held cursor.run slot) number
+  pub leased : LeasesNumber e.catalog.tables e.bound cursor slot table
+
+-- two open cursors that hold one scan are one: of one session, and of one name
+abbrev pub AreHeldOnce : List (Option Seated) → Type 0
+AreHeldOnce seats =
+    (j k : ℕ) (c d : Opened) (slot number : ℕ) → IsOpenAt seats j c → IsOpenAt seats k d
+    → Contains (scans_held c.run slot) number → Contains (scans_held d.run slot) number → (j ≡ k) × (c.name ≡ d.name)
+
+-- nothing is staged
+abbrev pub IsUnstaged : BoxState → Type 0
+IsUnstaged s = s.ledger.staged ≡ None
+
+-- Between requests the scans that are live in the boxes are those that open cursors hold, each held once, and each of a table that its
+-- cursor leases. Each cursor's run is good for its next row, and nothing is staged.
+pub record KeepsScans (e : Shown) : Type 0 where
+  pub unstaged : EachBox IsUnstaged e.boxes
+  pub running : (place : ℕ) (c : Opened) → IsOpenAt e.seats place c → IsRunning c.run e.boxes
+  pub owned : (slot number : ℕ) (s : BoxState) (scan : Scan) → slice_get e.boxes slot ≡ Some (Some s) → scan_of s number ≡ Some scan
+      → IsOwned e slot number scan.table
+  pub once : AreHeldOnce e.seats
+
 -- What each call of an engine asks, and keeps.
 pub record IsSound (e : Shown) : Type 0 where
   pub objects : AreSound e.catalog
   pub places : length e.boxes ≡ length e.labels
   pub sources : length e.labels ≤ source_limit
   pub sessions : length e.seats ≡ session_count
-  pub seated : AreSoundSeats e.boxes e.seats
+  pub seated : AreSoundSeats e.seats
   pub source_names : IsDistinct bytes_eq (map (λ (l : Label). l.name) e.labels)
-  pub at_rest : EachBox IsAtRest e.boxes
+  pub scans : KeepsScans e
   pub sound_boxes : EachBox IsSoundBox e.boxes
   pub takes : EachTakes e.labels e.boxes
   pub servers_stand : (s : ServerObject) → Contains e.catalog.servers s → (place : ℕ) × IsStandingAt e s place
@@ -169,14 +210,14 @@ RowsAgree boxes (a ∷ more) (r ∷ rs) = AreRowsOf boxes a r × RowsAgree boxes
 RowsAgree boxes [] (r ∷ rs) = ⊥
 RowsAgree boxes (a ∷ more) [] = ⊥
 
--- An engine stands for a world. Its boxes are honest, since of no other box the rows are known. No scan is live and nothing is staged.
+-- An engine stands for a world. Its boxes are honest, since of no other box the rows are known.
 pub record Agrees (e : Shown) (w : World) : Type 0 where
   pub honest : EachBox is_honest e.boxes
   pub catalog : w.catalog ≡ e.catalog
   pub sources : w.sources ≡ sources_of e.labels e.boxes
   pub rows : RowsAgree e.boxes e.bound w.rows
   pub sessions : (sid : ℕ) → IsSid sid → SeatAgrees e.boxes w (seat_of e.seats sid) (w.sessions sid)
-  pub at_rest : EachBox IsAtRest e.boxes
+  pub scans : KeepsScans e
 
 -- ---- from state to state
 

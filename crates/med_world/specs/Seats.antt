@@ -4,7 +4,7 @@ use Rattle.med_value.specs.Datum.{Tuple}
 use Rattle.med_syntax.specs.Tree.{Name}
 use Rattle.med_query.specs.Query.{IsAnswer}
 use Rattle.fdw_api.specs.State.{BoxState}
-use Rattle.med_exec.specs.Rests.{Rests, IsRunning}
+use Rattle.med_exec.specs.Rests.{Rests}
 use Rattle.med_catalog.specs.Objects.{table_named}
 use Rattle.open_cursors.specs.Open.{Opened, Seated, AreNamedApart}
 use Rattle.med_value.specs.Limits.{cursor_limit}
@@ -31,15 +31,20 @@ new_seat user = record { user = user; cursors = [] }
 
 -- ---- what an engine keeps of them
 
--- the runs of the session's cursors run on, no two cursors have one name, and they are not too many
-pub record IsSoundSeat (boxes : List (Option BoxState)) (s : Seated) : Type 0 where
-  pub running : (c : Opened) → Contains s.cursors c → IsRunning c.run boxes
+-- no two cursors of the session have one name, and they are not too many
+pub record IsSoundSeat (s : Seated) : Type 0 where
   pub apart : AreNamedApart s.cursors
   pub few : length s.cursors ≤ cursor_limit
 
 -- so is each session that is open
-abbrev pub AreSoundSeats : List (Option BoxState) → List (Option Seated) → Type 0
-AreSoundSeats boxes seats = (place : ℕ) (s : Seated) → slice_get seats place ≡ Some (Some s) → IsSoundSeat boxes s
+abbrev pub AreSoundSeats : List (Option Seated) → Type 0
+AreSoundSeats seats = (place : ℕ) (s : Seated) → slice_get seats place ≡ Some (Some s) → IsSoundSeat s
+
+-- an open cursor of the session in this place
+pub record IsOpenAt (seats : List (Option Seated)) (place : ℕ) (c : Opened) : Type 0 where
+  pub seat : Seated
+  pub there : slice_get seats place ≡ Some (Some seat)
+  pub has : Contains seat.cursors c
 
 -- ---- a world that agrees
 

@@ -18,11 +18,12 @@ ghost use Rattle.cursor_syntax.specs.CursorTree.{CountTree, CursorTree, declare,
 ghost use Rattle.med_parser.specs.CommandTree.{CommandTree, on_data, on_rows, on_cursors, on_objects};
 ghost use Rattle.med_parser.specs.CommandCauses.{SyntaxCauses};
 ghost use Rattle.fdw_api.specs.State.{BoxState, IsIdle, is_honest};
-ghost use Rattle.fdw_api.specs.Calls.{CanBind, CanUnbind};
+ghost use Rattle.fdw_api.specs.Calls.{CanBind, CanUnbind, NoScan};
 ghost use Rattle.med_exec.specs.Slots.{BoxAt};
-ghost use Rattle.med_exec.specs.Running.{ServesRun, AllServed, none_held};
+ghost use Rattle.med_exec.specs.Running.{ServesRun, none_held};
 ghost use Rattle.med_exec.specs.declared.running.Run.{Run};
-ghost use Rattle.open_cursors.specs.Open.{Opened, Seated, is_full, opened_named, without_named, with_run, held_by};
+ghost use Rattle.open_cursors.specs.Open.{Opened, Seated, is_full, opened_named, without_named, with_run};
+ghost use Rattle.open_cursors.specs.Open.{held_by, AreHeld, AreOwn, all_cursors};
 ghost use Rattle.open_cursors.specs.Starting.{Starts, StartFails};
 ghost use Rattle.open_cursors.specs.Fetching.{GivesRows, GivesNone};
 ghost use Rattle.med_catalog.specs.Objects.{TableObject, Objects};
@@ -39,11 +40,11 @@ ghost use Rattle.med_world.specs.Cursors.{rows_leased, Fetched, AreFetched, IsLa
 ghost use Rattle.med_world.specs.Replies.{done, answered, refused};
 ghost use Rattle.med_world.specs.Steps.{TakesMemory, write_tag, ddl_tag};
 ghost use Rattle.med_world.specs.Seats.{seat_of, user_of, new_seat};
-ghost use Rattle.med_world.specs.Engine.{Shown, leased, IsSound, IsServerAt, TakesAs, Agrees, Leads, Closes, ClosesAll};
+ghost use Rattle.med_world.specs.Engine.{Shown, leased, EachBox, IsAtRest, IsSound, IsServerAt, TakesAs, Agrees, Leads, Closes, ClosesAll};
 ghost use Rattle.med_world.specs.Turning.{new_opened, with_cursors, IsOfOpen, Ends};
 ghost use Rattle.med_world.specs.Altering.{IsAllowed, IsAltered, NotAltered};
 ghost use Rattle.med_world.specs.Selecting.{Selects, SelectFails};
-ghost use Rattle.med_world.specs.Writing.{WritesRows, WriteFails};
+ghost use Rattle.med_world.specs.Writing.{IsTargetAt, WritesRows, WriteFails};
 ghost use Rattle.med_world.specs.Adding.{Adds};
 ghost use Rattle.med_world.specs.Laws.{IsRead, with_seats, with_boxes, empty_shown};
 
@@ -81,34 +82,38 @@ pub fn sessions_lead()
     ensures not_closed { (e : Shown) (sid : ℕ) → IsSid sid → is_some (user_of e.seats sid) ≡ false
         → Leads e sid bye (refused NoConnection) e }
     ensures no_memory { (e : Shown) (sid : ℕ) (request : AskedLine) → TakesMemory request → Leads e sid request (refused OutOfMemory) e }
-    ensures opened_sound { (e : Shown) (sid : ℕ) (user : Name) → IsSid sid → IsSound e
+    ensures opened_sound { (e : Shown) (sid : ℕ) (user : Name) → IsSid sid → IsSound e → is_some (user_of e.seats sid) ≡ false
         → IsSound (with_seats e (slice_set e.seats (sid - 1) (Some (new_seat user)))) }
     ensures closed_sound { (e : Shown) (new : List (Option BoxState)) (sid : ℕ) (seat : Seated) → IsSid sid → IsSound e
-        → ServesRun (held_by seat.cursors) none_held e.boxes new
+        → seat_of e.seats sid ≡ Some seat → ServesRun (held_by seat.cursors) none_held e.boxes new
         → IsSound (with_boxes (with_seats e (slice_set e.seats (sid - 1) None)) new) }
 {}
 
 /// Sessions that are closed without a request: one that is open, one that is not, and all. The runs of their cursors are ended.
 pub fn sessions_end()
     ensures one { (e : Shown) (new : List (Option BoxState)) (sid : ℕ) (seat : Seated) → IsSid sid → length e.seats ≡ session_count
-        → ServesRun (held_by seat.cursors) none_held e.boxes new
+        → seat_of e.seats sid ≡ Some seat → ServesRun (held_by seat.cursors) none_held e.boxes new
         → Closes e sid (with_boxes (with_seats e (slice_set e.seats (sid - 1) None)) new) }
     ensures none { (e : Shown) (sid : ℕ) → IsSid sid → length e.seats ≡ session_count
         → seat_of e.seats sid ≡ None → Closes e sid (with_seats e (slice_set e.seats (sid - 1) None)) }
     ensures all { (e : Shown) (new : List (Option BoxState)) (seats : List (Option Seated)) → seats ≡ replicate session_count None
-        → AllServed e.boxes new → ClosesAll e (with_boxes (with_seats e seats) new) }
+        → ServesRun (held_by (all_cursors e.seats)) none_held e.boxes new → ClosesAll e (with_boxes (with_seats e seats) new) }
     ensures one_sound { (e : Shown) (new : List (Option BoxState)) (sid : ℕ) (seat : Seated) → IsSid sid → IsSound e
-        → ServesRun (held_by seat.cursors) none_held e.boxes new
+        → seat_of e.seats sid ≡ Some seat → ServesRun (held_by seat.cursors) none_held e.boxes new
         → IsSound (with_boxes (with_seats e (slice_set e.seats (sid - 1) None)) new) }
-    ensures none_sound { (e : Shown) (sid : ℕ) → IsSid sid → IsSound e → IsSound (with_seats e (slice_set e.seats (sid - 1) None)) }
+    ensures none_sound { (e : Shown) (sid : ℕ) → IsSid sid → IsSound e → seat_of e.seats sid ≡ None
+        → IsSound (with_seats e (slice_set e.seats (sid - 1) None)) }
     ensures all_sound { (e : Shown) (new : List (Option BoxState)) (seats : List (Option Seated)) → IsSound e
-        → seats ≡ replicate session_count None → AllServed e.boxes new → IsSound (with_boxes (with_seats e seats) new) }
+        → seats ≡ replicate session_count None → ServesRun (held_by (all_cursors e.seats)) none_held e.boxes new
+        → IsSound (with_boxes (with_seats e seats) new) }
+    ensures at_rest { (e : Shown) → IsSound e → e.seats ≡ replicate session_count None → EachBox IsAtRest e.boxes }
 {}
 
-/// A run that is there holds its answer, and no scan: so boxes that served the close of cursors have served, and no scan is live in them
-/// that was not.
-pub fn cursors_hold_no_scan()
-    ensures { (cursors : List Opened) → held_by cursors ≡ none_held }
+/// The cursors of an open session, and those of all, may be closed one after the other: each scan that they hold is live, and is held once.
+pub fn cursors_may_close()
+    ensures one { (e : Shown) (sid : ℕ) (seat : Seated) → IsSound e → seat_of e.seats sid ≡ Some seat
+        → AreHeld seat.cursors e.boxes × AreOwn seat.cursors }
+    ensures all { (e : Shown) → IsSound e → AreHeld (all_cursors e.seats) e.boxes × AreOwn (all_cursors e.seats) }
 {}
 
 /// A statement of a session that is not open, and a text that is not read.
@@ -210,9 +215,9 @@ pub fn cursors_lead()
         → StartFails e.catalog seat.user e.bound q (is_full seat.cursors) e.boxes c new → IsSound (with_boxes e new) }
     ensures fetched_sound { (e : Shown) (new : List (Option BoxState)) (sid : ℕ) (seat : Seated) (name : Name) (asked : CountTree)
         (o : Opened) (rows : List Tuple) (after : Run) → IsSid sid → IsSound e → seat_of e.seats sid ≡ Some seat
-        → GivesRows o.run asked e.boxes rows after new → IsSound (with_cursors e sid seat (with_run name after seat.cursors) new) }
+        → opened_named name seat.cursors ≡ Some o → GivesRows o.run asked e.boxes rows after new → IsSound (with_cursors e sid seat (with_run name after seat.cursors) new) }
     ensures ended_sound { (e : Shown) (new : List (Option BoxState)) (sid : ℕ) (seat : Seated) (name : Name) (o : Opened) → IsSid sid
-        → IsSound e → seat_of e.seats sid ≡ Some seat → Ends o.run e.boxes new
+        → IsSound e → seat_of e.seats sid ≡ Some seat → opened_named name seat.cursors ≡ Some o → Ends o.run e.boxes new
         → IsSound (with_cursors e sid seat (without_named name seat.cursors) new) }
 {
     med_binder::law::causes_have_their_phase();
@@ -256,7 +261,7 @@ pub fn changes_lead()
 }
 
 /// What the calls of boxes ask holds, where the catalogue shows no cause: the source of a server has its box; a table may be bound there; a
-/// bound table may be unbound; and the box of a server that is dropped is idle.
+/// bound table that is not leased may be unbound, and has no live scan where it is written; and the box of a server that is dropped is idle.
 pub fn boxes_are_ready()
     ensures there { (e : Shown) (server : Name) (place : ℕ) → IsSound e → IsServerAt e server place
         → (s : BoxState) × (slice_get e.boxes place ≡ Some (Some s)) }
@@ -264,7 +269,9 @@ pub fn boxes_are_ready()
         → IsAllowed e user d (new_table t) → IsServerAt e t.server place → slice_get e.boxes place ≡ Some (Some s)
         → CanBind s t.remote t.columns t.settings }
     ensures unbinds { (e : Shown) (t : TableObject) (k : ℕ) (a : Attached) → IsSound e → slice_get e.catalog.tables k ≡ Some t
-        → slice_get e.bound k ≡ Some a → BoxAt e.boxes a.source (λ s. CanUnbind s a.number) }
+        → slice_get e.bound k ≡ Some a → leased e t.name ≡ false → BoxAt e.boxes a.source (λ s. CanUnbind s a.number) }
+    ensures unread { (e : Shown) (t : WriteTree) (a : Attached) (s : BoxState) → IsSound e → leased e (target_of t) ≡ false
+        → IsTargetAt e.catalog e.bound t a → slice_get e.boxes a.source ≡ Some (Some s) → NoScan s a.number }
     ensures idle { (e : Shown) (user : Name) (d : DdlTree) (name : Name) (place : ℕ) (s : BoxState) → IsSound e
         → IsAllowed e user d (no_server name) → IsServerAt e name place → slice_get e.boxes place ≡ Some (Some s) → IsIdle s }
 {}

@@ -2,3 +2,4 @@ pub mod Rows
 pub mod Closing
 pub mod Names
 pub mod Counts
+pub mod Kept

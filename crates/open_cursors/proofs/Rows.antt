@@ -9,6 +9,7 @@ use Rattle.cursor_syntax.specs.CursorTree.{CountTree, some_rows, all_rows}
 use Rattle.med_exec.specs.Running.{GivesNext, Breaks, wants_memory, box_breaks}
 use Rattle.med_exec.specs.Rests.{Rests, rows_left, LessLeft}
 use Rattle.med_exec.specs.declared.running.Run.{Run}
+use Rattle.med_exec.proofs.Left.{rests_none}
 use Rattle.fdw_api.specs.declared.interface.Fault.{Fault}
 use Rattle.open_cursors.specs.Fetching.{AreEnough, has_enough, GivesNone, no_memory, box_fails, cause_of}
 
@@ -36,19 +37,10 @@ one_more first before after old now next rows new row e given gives rest h =
 pub all_given : (first before after : Run) (old now next : List (Option BoxState)) (rows : List Row) → HasGiven first old rows before now → GivesNext (Rests before now) None (Rests after next) → Rests first old (map tuple rows)
 all_given first before after old now next rows given gives = subst (λ (xs : List Tuple). Rests first old xs) (append-nil (map tuple rows)) (given [] gives)
 
-none_counted : (rows : List Tuple) → length rows ≡ 0 → rows ≡ []
-none_counted [] none = refl
-none_counted (r ∷ rows) none = absurd cc
-
--- behind the end nothing is left
-none_left : (before after : Run) (now next : List (Option BoxState)) → Rests before now [] → LessLeft None (rows_left before now) (rows_left after next) → (left : List Tuple) → Rests after next left → left ≡ []
-none_left before after now next none fewer left h =
-    none_counted left (ap (λ (xs : List Tuple). length xs) h ∙ length-map after.rest.items tuple ∙ fewer ∙ sym (length-map before.rest.items tuple) ∙ sym (ap (λ (xs : List Tuple). length xs) none))
-
 pub all_then : (first before after : Run) (old now next : List (Option BoxState)) (rows : List Row) → HasGiven first old rows before now → GivesNext (Rests before now) None (Rests after next) → LessLeft None (rows_left before now) (rows_left after next)
     → (left : List Tuple) → Rests after next left → Rests first old (map tuple rows ++ left)
 all_then first before after old now next rows given gives fewer left h =
-    subst (λ (xs : List Tuple). Rests first old (map tuple rows ++ xs)) (sym (none_left before after now next gives fewer left h)) (given [] gives)
+    subst (λ (xs : List Tuple). Rests first old (map tuple rows ++ xs)) (sym (rests_none before after now next gives fewer left h)) (given [] gives)
 
 -- ---- so many
 
@@ -71,10 +63,6 @@ all_there all_rows rows rests more all = all
 all_there (some_rows n) rows rests more all = inr (omega (arith, length-map rows tuple, leb-false n (length rows) more), all)
 
 -- ---- what FETCH says
-
--- a run has some rows left, be they none
-pub some_left : (run : Run) (boxes : List (Option BoxState)) → (left : List Tuple) × Rests run boxes left
-some_left run boxes = (map tuple run.rest.items, refl)
 
 pub gives_none : (fault : Fault) (old new : List (Option BoxState)) → Breaks fault old new → GivesNone (cause_of fault) old new
 gives_none fault old new (wants_memory e) = no_memory (ap cause_of e)

@@ -11,6 +11,7 @@ use Rattle.cursor_syntax.specs.CursorTree.{CountTree, some_rows, all_rows}
 use Rattle.med_exec.specs.declared.running.Run.{Run}
 use Rattle.med_exec.specs.Running.{AllHonest, ServesRun, SlotShows, HasFailed}
 use Rattle.med_exec.specs.Rests.{Rests, held, IsRunning}
+use Rattle.med_exec.specs.Leaving.{KeepTables}
 
 -- so many are as many as were asked for
 abbrev pub has_enough : CountTree → ℕ → Bool
@@ -22,10 +23,12 @@ abbrev pub AreEnough : CountTree → List Tuple → (List Tuple → Type 0) → 
 AreEnough (some_rows n) rows rests = (length rows ≡ n) ⊎ ((length rows < n) × rests rows)
 AreEnough all_rows rows rests = rests rows
 
--- A run gave rows: followed by what it may give then, they are what it could give before.
+-- A run gave rows: followed by what it may give then, they are what it could give before. It holds the scans that it held, of the same tables.
 pub record GivesRows (run : Run) (asked : CountTree) (old : List (Option BoxState)) (rows : List Tuple) (after : Run)
     (new : List (Option BoxState)) : Type 0 where
   pub served : ServesRun (held run) (held after) old new
+  pub same : held after ≡ held run
+  pub tables : KeepTables (held run) old new
   pub running : IsRunning after new
   pub some : AllHonest old → (left : List Tuple) × Rests after new left
   pub gives : AllHonest old → (left : List Tuple) → Rests after new left → Rests run old (rows ++ left)

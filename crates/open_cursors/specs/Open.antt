@@ -1,5 +1,5 @@
 -- Cursors that are open, as an engine holds them (SQL:2016, <declare cursor>; ISO/IEC 9075-2, 14 "Data manipulation").
-use Rattle.std.specs.Prelude.{Bool, false, List, length, map, filter, find, not, cond, flat_map, nat_le, Option, Some, None, option_map, bytes_eq, string_bytes}
+use Rattle.std.specs.Prelude.{Bool, false, List, [], ◌∷◌, length, map, filter, find, not, cond, flat_map, nat_le, Option, Some, None, option_map, bytes_eq, string_bytes}
 use Rattle.std.specs.List.{All, IsDistinct, list_any}
 use Rattle.med_value.specs.Limits.{cursor_limit}
 use Rattle.med_syntax.specs.Tree.{Name}
@@ -7,6 +7,7 @@ use Rattle.fdw_api.specs.State.{BoxState}
 use Rattle.med_exec.specs.declared.running.Run.{Run}
 use Rattle.med_exec.specs.Running.{Held}
 use Rattle.med_exec.specs.Rests.{held, IsHeld}
+use Rattle.med_exec.specs.Leaving.{AreApart}
 use Rattle.open_cursors.specs.declared.cursors.OpenCursor.{OpenCursor}
 use Rattle.open_cursors.specs.declared.cursors.Seat.{Seat}
 
@@ -36,6 +37,14 @@ seated s = record { user = string_bytes s.user; cursors = map opened s.cursors.i
 -- the sessions by their places: one that is closed has left its place empty
 abbrev pub seats_shown : List (Option Seat) → List (Option Seated)
 seats_shown seats = map (option_map seated) seats
+
+-- the cursors of a session, if it is open, and those of all sessions
+abbrev pub seat_cursors : Option Seated → List Opened
+seat_cursors None = []
+seat_cursors (Some s) = s.cursors
+
+abbrev pub all_cursors : List (Option Seated) → List Opened
+all_cursors seats = flat_map seat_cursors seats
 
 -- a session has as many cursors as it may have, which `cursor_limit` says
 abbrev pub is_full : List Opened → Bool
@@ -87,3 +96,8 @@ held_by cursors = λ slot. flat_map (λ (c : Opened). held c.run slot) cursors
 -- the run of each is good for its close
 abbrev pub AreHeld : List Opened → List (Option BoxState) → Type 0
 AreHeld cursors boxes = All (λ (c : Opened). IsHeld c.run boxes) cursors
+
+-- no scan is held by two of these
+abbrev pub AreOwn : List Opened → Type 0
+AreOwn [] = Unit {0}
+AreOwn (c ∷ cursors) = AreApart (held c.run) (held_by cursors) × AreOwn cursors

@@ -1,6 +1,6 @@
 -- What DECLARE does to the boxes, and why it is refused (SQL:2016, <declare cursor>; PostgreSQL: Writing a Foreign Data Wrapper,
 -- BeginForeignScan).
-use Rattle.std.specs.Prelude.{◌≡◌, ◌<◌, ◌≤◌, Bool, true, false, List, [], ◌++◌, length, map, Option, Some, None}
+use Rattle.std.specs.Prelude.{◌≡◌, ◌<◌, ◌≤◌, Bool, true, false, List, [], ◌++◌, length, map, Option, Some, None, ℕ, Contains}
 use Rattle.std.specs.List.{list_any}
 use Rattle.tri_expr.specs.Tree.{Tree}
 use Rattle.tri_expr.specs.TreeParts.{is_risky_tree}
@@ -13,9 +13,11 @@ use Rattle.med_syntax.specs.QueryTree.{EntryTree, SelectTree}
 use Rattle.bind_names.specs.Scope.{entries_of}
 use Rattle.med_query.specs.Query.{Query, Tables, SameRows, IsAnswer}
 use Rattle.med_query.specs.Form.{CoreForm, Form, GroupForm, query_by}
-use Rattle.fdw_api.specs.State.{BoxState}
+use Rattle.fdw_api.specs.State.{Scan, BoxState, scan_of}
+use Rattle.fdw_api.specs.Sound.{IsTableOf}
 use Rattle.med_planner.specs.Planned.{Place, entry_rows, IsShownCause}
 use Rattle.med_exec.specs.declared.running.Run.{Run}
+use Rattle.med_exec.specs.Slots.{BoxAt}
 use Rattle.med_exec.specs.Running.{AllHonest, AllServed, ServesRun, SlotShows, HasFailed, IsUsedUp, none_held}
 use Rattle.med_exec.specs.Rests.{Rests, held, IsRunning}
 use Rattle.med_catalog.specs.Objects.{Objects}
@@ -51,6 +53,20 @@ pub record RestsOver (q : Query) (places : List Place) (boxes : List (Option Box
       → IsAnswer q db rows
   pub clear : AllHonest boxes → (db : Tables) → SameRows (entry_rows boxes places) db → (c : Cause) → IsShownCause q db c → ⊥
 
+-- a live scan of the box in this slot is of one of these tables, which is bound, with its columns' types
+pub record ScansOne (places : List Place) (slot number : ℕ) (s : BoxState) : Type 0 where
+  pub scan : Scan
+  pub live : scan_of s number ≡ Some scan
+  pub place : Place
+  pub is_one : Contains places place
+  pub source : place.source ≡ slot
+  pub table : place.table ≡ scan.table
+  pub bound : IsTableOf s scan.table scan.kinds
+
+-- each scan that a run holds is live, and of one of these tables
+abbrev pub HoldsOf : List Place → Run → List (Option BoxState) → Type 0
+HoldsOf places run boxes = (slot number : ℕ) → Contains (held run slot) number → BoxAt boxes slot (ScansOne places slot number)
+
 -- The query of a cursor was begun over the boxes, which read each of its tables once, and runs.
 pub record Starts (o : Objects) (user : Name) (bound : List Attached) (q : SelectTree) (full : Bool) (old : List (Option BoxState))
     (names : List Name) (run : Run) (new : List (Option BoxState)) : Type 0 where
@@ -63,6 +79,7 @@ pub record Starts (o : Objects) (user : Name) (bound : List Attached) (q : Selec
   pub running : IsRunning run new
   pub places : List Place
   pub are : ArePlaces bound (meant_by o q).entries places
+  pub holds : HoldsOf places run new
   pub rests : RestsOver (query_by (meant_by o q).form) places old (Rests run new)
   pub reads : ReadsTables places old new
 

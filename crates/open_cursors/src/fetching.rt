@@ -6,7 +6,7 @@ ghost use Rattle.med_exec.specs.Slots.{states};
 ghost use Rattle.med_exec.specs.Counting.{none_in, BeginsScans, PullsRows};
 ghost use Rattle.med_exec.specs.Running.{ServesRun, Breaks, none_held};
 ghost use Rattle.med_exec.specs.Rests.{held, IsRunning, IsHeld};
-ghost use Rattle.open_cursors.specs.Open.{opened, held_by, AreHeld};
+ghost use Rattle.open_cursors.specs.Open.{opened, held_by, AreHeld, AreOwn};
 ghost use Rattle.open_cursors.specs.Fetching.{has_enough, GivesRows, GivesNone, cause_of};
 
 use crate::cursors::OpenCursor;
@@ -14,7 +14,7 @@ use cursor_syntax::FetchCount;
 use fdw_api::interface::Fault;
 use fdw_api::wishes::Wrapper2;
 use med_exec::Run;
-use med_exec::law::{running_is_held, services_join};
+use med_exec::law::{other_runs_are_left, running_is_held, services_join};
 use med_value::Row;
 use std::alloc::Global;
 
@@ -46,6 +46,7 @@ pub fn fetch<W: Wrapper2>(
 ) -> Result<Vec<Row>, Fault>
     requires { IsRunning run.old (states W.meaning slots.old.items) }
     ensures boxes { ServesRun (held run.old) (held run.new) (states W.meaning slots.old.items) (states W.meaning slots.new.items) }
+    ensures same { held run.new ≡ held run.old }
     ensures held { IsHeld run.new (states W.meaning slots.new.items) }
     ensures begins { BeginsScans none_in (states W.meaning slots.old.items) (states W.meaning slots.new.items) }
     ensures pulls { PullsRows none_in (states W.meaning slots.old.items) (states W.meaning slots.new.items) }
@@ -85,13 +86,15 @@ pub fn close_cursor<W: Wrapper2>(cursor: OpenCursor, slots: &mut Vec<Option<W>>)
     run.close(slots);
 }
 
-/// Closes each of these cursors.
+/// Closes each of these cursors. No two of them hold one scan, so that the close of one leaves those of the others live.
 pub fn close_all<W: Wrapper2>(mut cursors: Vec<OpenCursor>, slots: &mut Vec<Option<W>>)
-    requires { AreHeld (map opened cursors.items) (states W.meaning slots.old.items) }
+    requires held { AreHeld (map opened cursors.items) (states W.meaning slots.old.items) }
+    requires own { AreOwn (map opened cursors.items) }
     ensures { ServesRun (held_by (map opened cursors.items)) none_held
         (states W.meaning slots.old.items) (states W.meaning slots.new.items) }
 {
     services_join();
+    other_runs_are_left();
     while let Some(cursor) = cursors.pop() {
         close_cursor(cursor, slots);
     }

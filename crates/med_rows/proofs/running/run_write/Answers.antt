@@ -27,7 +27,7 @@ returns-then-is_leased-clause-err g c = in_use c.in-Ok.ensures.bindable c.if-is_
 pub write_rows-requires : goal.write_rows-requires
 write_rows-requires g c =
     can_alone c.written_rows_are_typed.ensures (objects c.args.catalog.now) c.args.user.now (map attached c.args.bound.now) (states g.W.Wrapper.meaning c.args.slots.now.items)
-    (write_tree c.args.statement) c.in-Ok.write c.requires.ready c.in-Ok.ensures.bindable c.requires.clean c.in-Ok.ensures.meant (sym c.take.ensures.value ∙ c.in_default.is)
+    (write_tree c.args.statement) c.in-Ok.write c.requires.ready (c.requires.unread c.if-is_leased.false) c.in-Ok.ensures.bindable c.requires.clean c.in-Ok.ensures.meant (sym c.take.ensures.value ∙ c.in_default.is)
 
 pub returns-in_default-clause-ok : goal.returns-in_default-clause-ok
 returns-in_default-clause-ok g c =
@@ -36,7 +36,7 @@ returns-in_default-clause-ok g c =
     let t = write_tree c.args.statement in
     let old = states g.W.Wrapper.meaning c.args.slots.now.items in
     let none : IsQueryOf o bound t None = subst (IsQueryOf o bound t) (sym c.take.ensures.value ∙ c.in_default.is) c.in-Ok.ensures.meant.query in
-    let can = can_alone c.written_rows_are_typed.ensures o c.args.user.now bound old t c.in-Ok.write c.requires.ready c.in-Ok.ensures.bindable c.requires.clean c.in-Ok.ensures.meant (sym c.take.ensures.value ∙ c.in_default.is) in
+    let can = can_alone c.written_rows_are_typed.ensures o c.args.user.now bound old t c.in-Ok.write c.requires.ready (c.requires.unread c.if-is_leased.false) c.in-Ok.ensures.bindable c.requires.clean c.in-Ok.ensures.meant (sym c.take.ensures.value ∙ c.in_default.is) in
     ends_ok o c.args.user.now bound t c.in-Ok.write old old (states g.W.Wrapper.meaning c.write_rows.new.slots.items) [] c.write_rows.result c.args.is_leased c.if-is_leased.false c.in-Ok.ensures.bindable c.in-Ok.ensures.meant
     (none_asked o bound t old none) can c.write_rows.ensures.ok
 
@@ -108,7 +108,7 @@ write_rows-requires-2 g c =
     let t = write_tree c.args.statement in
     let b = c.in-Some.query in
     rw c.as_slice-2.ensures.value (can_answered o bound (states g.W.Wrapper.meaning c.args.slots.now.items) (states g.W.Wrapper.meaning c.run_query.new.slots.items) t c.in-Ok.write b
-    (map tuple c.in-Ok-run_query.rows.items) c.requires.ready c.run_query.ensures.served c.in-Ok.ensures.meant
+    (map tuple c.in-Ok-run_query.rows.items) c.requires.ready (c.requires.unread c.if-is_leased.false) c.run_query.ensures.served c.in-Ok.ensures.meant
     (query_there o bound t c.in-Ok.write.query b (sym c.take.ensures.value ∙ c.in-Some.is) c.in-Ok.ensures.meant.query)
     (λ places form. sym c.if-not-fits.false ∙ rw c.as_slice.ensures.value at c.fits.ensures places form))
 
@@ -125,7 +125,7 @@ returns-clause-ok g c =
     let least : c.len.result ≤ 8 = c.if-len-gt-ENTRY_LIMIT.false in
     let few : length b.entries.items ≤ 8 = omega (arith, counted, least) in
     let h = query_there o bound t c.in-Ok.write.query b (sym c.take.ensures.value ∙ c.in-Some.is) c.in-Ok.ensures.meant.query in
-    let can = can_answered o bound old now t c.in-Ok.write b answer c.requires.ready c.run_query.ensures.served c.in-Ok.ensures.meant h
+    let can = can_answered o bound old now t c.in-Ok.write b answer c.requires.ready (c.requires.unread c.if-is_leased.false) c.run_query.ensures.served c.in-Ok.ensures.meant h
     (λ places form. sym c.if-not-fits.false ∙ rw c.as_slice.ensures.value at c.fits.ensures places form) in
     ends_ok o c.args.user.now bound t c.in-Ok.write old now (states g.W.Wrapper.meaning c.write_rows-2.new.slots.items) answer c.write_rows-2.result c.args.is_leased c.if-is_leased.false c.in-Ok.ensures.bindable c.in-Ok.ensures.meant
     (asked o bound t b old now answer h few c.run_query.ensures.served (c.bound_queries_are_ready.ensures.once o h.query b old now h.meant c.in-Ok-run_query.ensures.once) c.in-Ok-run_query.ensures.ok) can (rw c.as_slice-2.ensures.value at c.write_rows-2.ensures.ok)

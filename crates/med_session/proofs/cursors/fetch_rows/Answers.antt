@@ -24,7 +24,7 @@ returns-in-Ok-fetch-clause-ok g c =
       named = c.in-Ok.ensures ∙ ap (λ (xs : List _). map string_bytes xs) c.deref-2.ensures.value ∙ ap (λ (o : OpenCursor). map string_bytes o.names.items) (same_at cursors c.in-Some.place c.index.result.now at lt c.index.ensures c.index_mut.ensures.value);
       run = c.fetch.new.run;
       gives = c.in-Ok-fetch.ensures.ok;
-      is = ap (λ (cs : List Opened). having (seated c.args.seat.now) cs) (runs_there c.args.name.now cursors c.in-Some.place at c.fetch.new.run c.requires.apart lt c.index_mut.ensures.value there);
+      is = ap (λ (cs : List Opened). having (seated c.args.seat.now) cs) (runs_there c.args.name.now cursors c.in-Some.place at c.fetch.new.run c.requires.sound.apart lt c.index_mut.ensures.value there);
     }
 
 breaks_none : (fault : Fault) (c : Cause) (old new : List _) → c ≡ cause_of fault → Breaks fault old new → GivesNone c old new
@@ -43,4 +43,4 @@ returns-in-Err-clause-err g c =
     fails (opened at) (named_there c.args.name.now cursors c.in-Some.place at lt c.index_mut.ensures.value there)
     (breaks_none c.in-Err.fault c.cause_of.result old new c.cause_of.ensures (c.services_join.ensures.broken none_held none_held none_held none_held old old mid new c.in-Err.fault (c.services_join.ensures.same none_held old) c.in-Err.ensures.breaks c.close_cursor.ensures))
     (later c.fetch.new.run mid c.fetch.ensures.boxes c.close_cursor.ensures)
-    (ap (λ (cs : List Opened). having (seated c.args.seat.now) cs) (ap (map opened) c.remove.ensures.items ∙ gone_there c.args.name.now cursors c.in-Some.place at _ c.requires.apart lt c.index_mut.ensures.value there))
+    (ap (λ (cs : List Opened). having (seated c.args.seat.now) cs) (ap (map opened) c.remove.ensures.items ∙ gone_there c.args.name.now cursors c.in-Some.place at _ c.requires.sound.apart lt c.index_mut.ensures.value there))

@@ -1,4 +1,5 @@
 use Rattle.med_world.proofs.Ready.{unbind_ready}
+use Rattle.med_world.proofs.Written.{no_scan_there}
 use Rattle.med_world.proofs.Alterations.{box_of_server, bind_allowed, idle_allowed}
 use Rattle.med_world.proofs.law.boxes_are_ready.Goals as goal
 
@@ -13,3 +14,6 @@ returns-clause-unbinds c = unbind_ready
 
 pub returns-clause-idle : goal.returns-clause-idle
 returns-clause-idle c = idle_allowed
+
+pub returns-clause-unread : goal.returns-clause-unread
+returns-clause-unread c = no_scan_there

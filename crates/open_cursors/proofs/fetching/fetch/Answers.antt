@@ -1,4 +1,4 @@
-use Rattle.std.proofs.Common.{◌≡◌, ◌∙◌, ◌+◌, List, length-append, false, [], ◌∷◌, ◌++◌, Some, None, length, ap, sym, subst, arith}
+use Rattle.std.proofs.Common.{◌≡◌, ◌∙◌, ◌+◌, List, length-append, true, false, [], refl, ◌∷◌, ◌++◌, Some, None, length, ap, sym, subst, arith}
 use Rattle.std.proofs.lemmas.Grind.{common_steps}
 use Rattle.med_value.specs.Datum.{tuple}
 use Rattle.med_value.specs.declared.value.Row.{Row}
@@ -8,8 +8,11 @@ use Rattle.med_exec.specs.Counting.{none_in}
 use Rattle.med_exec.specs.Running.{AllHonest, GivesNext}
 use Rattle.med_exec.specs.Rests.{Rests, rows_left, LessLeft, held}
 use Rattle.open_cursors.specs.Fetching.{has_enough}
+use Rattle.med_exec.proofs.Counted.{begins_none, pulls_none}
+use Rattle.med_exec.proofs.Left.{rests_some}
+use Rattle.open_cursors.proofs.Kept.{tables_itself, tables_on}
 use Rattle.open_cursors.proofs.Counts.{begins_on, pulls_on}
-use Rattle.open_cursors.proofs.Rows.{IsWithin, one_more, all_given, all_then, within_more, all_there, some_left, gives_none}
+use Rattle.open_cursors.proofs.Rows.{IsWithin, one_more, all_given, all_then, within_more, none_given, within_none, enough_given, all_there, gives_none}
 use Rattle.open_cursors.proofs.fetching.fetch.Goals as goal
 
 pub returns-in-Err-clause-breaks : goal.returns-in-Err-clause-breaks
@@ -34,8 +37,10 @@ returns-in-Ok-None-clause-ok g c =
     let more : has_enough (count_tree c.args.asked) (length c.loop-asked.rows.items) ≡ false = ap (has_enough (count_tree c.args.asked)) (sym counted) ∙ sym c.is_enough.ensures ∙ c.loop-asked-test.true in
     record {
       served = c.services_join.ensures.joined (held c.args.run.now) (held c.loop-asked.run) (held c.next.new.self) old now next c.loop-asked.invariant.boxes c.next.ensures.boxes;
+      same = c.next.ensures.same ∙ c.loop-asked.invariant.same;
+      tables = tables_on c.loop-asked.run (held c.args.run.now) old now next c.loop-asked.invariant.same c.loop-asked.invariant.running c.loop-asked.invariant.tables c.in-Ok-None.ensures.tables;
       running = c.in-Ok-None.ensures.running;
-      some = λ honest. some_left c.next.new.self next;
+      some = λ honest. rests_some c.next.new.self next c.in-Ok-None.ensures.running (c.services_join.ensures.honest (held c.loop-asked.run) (held c.next.new.self) now next c.next.ensures.boxes (c.services_join.ensures.honest (held c.args.run.now) (held c.loop-asked.run) old now c.loop-asked.invariant.boxes honest));
       gives = λ honest. all_then c.args.run.now c.loop-asked.run c.next.new.self old now next c.loop-asked.rows.items (c.loop-asked.invariant.given honest)
           (gives (c.services_join.ensures.honest (held c.args.run.now) (held c.loop-asked.run) old now c.loop-asked.invariant.boxes honest)) fewer;
       enough = λ honest. all_there (count_tree c.args.asked) c.loop-asked.rows.items (Rests c.args.run.now old) more
@@ -58,6 +63,8 @@ loop-asked-preserved g c =
       boxes = c.services_join.ensures.joined (held c.args.run.now) (held c.loop-asked.run) (held c.next.new.self) (states m c.args.slots.now.items) (states m c.loop-asked.slots.items) (states m c.next.new.slots.items) c.loop-asked.invariant.boxes c.next.ensures.boxes;
       begins = begins_on (held c.args.run.now) (held c.loop-asked.run) none_in old now next c.loop-asked.invariant.boxes c.loop-asked.invariant.begins c.next.ensures.begins;
       pulls = pulls_on (held c.args.run.now) (held c.loop-asked.run) none_in old now next c.loop-asked.invariant.boxes c.loop-asked.invariant.pulls c.next.ensures.pulls;
+      same = c.next.ensures.same ∙ c.loop-asked.invariant.same;
+      tables = tables_on c.loop-asked.run (held c.args.run.now) old now next c.loop-asked.invariant.same c.loop-asked.invariant.running c.loop-asked.invariant.tables c.in-Ok-Some.ensures.tables;
       running = c.in-Ok-Some.ensures.running;
       given = λ honest.
           one_more c.args.run.now c.loop-asked.run c.next.new.self old now next c.loop-asked.rows.items c.push.new.self.items c.in-Ok-Some.row pushed (c.loop-asked.invariant.given honest)
@@ -94,3 +101,36 @@ pub returns-then-is_err-clause-pulls : goal.returns-then-is_err-clause-pulls
 returns-then-is_err-clause-pulls g c =
     let m = g.W.Wrapper.meaning in
     pulls_on (held c.args.run.now) (held c.loop-asked.run) none_in (states m c.args.slots.now.items) (states m c.loop-asked.slots.items) (states m c.next.new.slots.items) c.loop-asked.invariant.boxes c.loop-asked.invariant.pulls c.next.ensures.pulls
+
+pub loop-asked-init : goal.loop-asked-init
+loop-asked-init g c =
+    let m = g.W.Wrapper.meaning in
+    let old = states m c.args.slots.now.items in
+    record {
+      boxes = c.services_join.ensures.same (held c.args.run.now) old;
+      begins = begins_none old;
+      pulls = pulls_none old;
+      same = refl;
+      tables = tables_itself (held c.args.run.now) old;
+      running = c.requires;
+      given = λ honest. none_given c.args.run.now old c.new-rows.result.items c.new-rows.ensures.items;
+      most = within_none (count_tree c.args.asked) c.new-rows.result.items c.new-rows.ensures.items;
+    }
+
+pub returns-clause-ok : goal.returns-clause-ok
+returns-clause-ok g c =
+    let m = g.W.Wrapper.meaning in
+    let old = states m c.args.slots.now.items in
+    let now = states m c.loop-asked.slots.items in
+    let v = c.loop-asked.invariant in
+    let counted : c.len.result ≡ length c.loop-asked.rows.items = c.len.ensures ∙ c.loop-asked.rows.ok.0 in
+    let all : has_enough (count_tree c.args.asked) (length c.loop-asked.rows.items) ≡ true = ap (has_enough (count_tree c.args.asked)) (sym counted) ∙ sym c.is_enough.ensures ∙ c.loop-asked-test.false in
+    record {
+      served = v.boxes;
+      same = v.same;
+      tables = v.tables;
+      running = v.running;
+      some = λ honest. rests_some c.loop-asked.run now v.running (c.services_join.ensures.honest (held c.args.run.now) (held c.loop-asked.run) old now v.boxes honest);
+      gives = λ honest left r. v.given honest left r;
+      enough = λ honest. enough_given (count_tree c.args.asked) c.loop-asked.rows.items (Rests c.args.run.now old) v.most all;
+    }

@@ -1,9 +1,10 @@
-use Rattle.std.proofs.Common.{length}
+use Rattle.std.proofs.Common.{◌≡◌, length}
 use Rattle.cursor_syntax.specs.CursorView.{count_tree}
 use Rattle.med_exec.specs.Slots.{states}
 use Rattle.med_exec.specs.Counting.{none_in, BeginsScans, PullsRows}
 use Rattle.med_exec.specs.Running.{AllHonest, ServesRun}
 use Rattle.med_exec.specs.Rests.{rows_left, held, IsRunning}
+use Rattle.med_exec.specs.Leaving.{KeepTables}
 use Rattle.open_cursors.proofs.Rows.{HasGiven, IsWithin}
 use Rattle.open_cursors.proofs.fetching.fetch.Given as goal
 
@@ -13,6 +14,8 @@ invariant-loop-asked g l =
       boxes : ServesRun (held l.fn.run) (held l.run) (states g.W.Wrapper.meaning l.fn.slots.items) (states g.W.Wrapper.meaning l.slots.items);
       begins : BeginsScans none_in (states g.W.Wrapper.meaning l.fn.slots.items) (states g.W.Wrapper.meaning l.slots.items);
       pulls : PullsRows none_in (states g.W.Wrapper.meaning l.fn.slots.items) (states g.W.Wrapper.meaning l.slots.items);
+      same : held l.run ≡ held l.fn.run;
+      tables : KeepTables (held l.fn.run) (states g.W.Wrapper.meaning l.fn.slots.items) (states g.W.Wrapper.meaning l.slots.items);
       running : IsRunning l.run (states g.W.Wrapper.meaning l.slots.items);
       given : AllHonest (states g.W.Wrapper.meaning l.fn.slots.items) → HasGiven l.fn.run (states g.W.Wrapper.meaning l.fn.slots.items) l.rows.items l.run (states g.W.Wrapper.meaning l.slots.items);
       most : IsWithin (count_tree l.asked) (length l.rows.items);

@@ -38,6 +38,9 @@ remove_server-requires-clause-idle g c = λ place s server there.
 pub remove_table-requires-clause-there : goal.remove_table-requires-clause-there
 remove_table-requires-clause-there g c = dropped_table (objects c.args.self.now.catalog) c.args.user.now (ddl_tree c.args.ddl.now) (string_bytes c.in-NoTable.name) c.in_ok-check.ensures.clear (subst (λ (x : Change). Asks (objects c.args.self.now.catalog) c.args.user.now (ddl_tree c.args.ddl.now) (change_of x)) c.in-NoTable.is c.in_ok-check.ensures.asks)
 
+pub remove_table-requires-clause-free : goal.remove_table-requires-clause-free
+remove_table-requires-clause-free g c = sym (rw (c.deref.ensures.value, c.as_str.ensures.value) at c.is_leased.ensures) ∙ c.if-is_leased.false
+
 -- ---- done
 
 pub returns-in-Nothing-clause-ok : goal.returns-in-Nothing-clause-ok

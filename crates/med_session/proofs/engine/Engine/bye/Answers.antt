@@ -14,7 +14,7 @@ returns-in-Some-clause-sound g c =
     let e = shown g.W.Wrapper.meaning c.args.self.now in
     let boxes = states g.W.Wrapper.meaning c.close_all.new.slots.items in
     subst (λ (n : Shown). IsSound n) (sym (vacated e c.args.sid.number _ boxes c.take_seat.ensures.left))
-    (c.sessions_lead.ensures.closed_sound e boxes c.args.sid.number (seated c.in-Some.seat) c.args.sid.in_range c.requires c.close_all.ensures)
+    (c.sessions_lead.ensures.closed_sound e boxes c.args.sid.number (seated c.in-Some.seat) c.args.sid.in_range c.requires (sym c.in-Some.ensures.taken) c.close_all.ensures)
 
 pub returns-in-Some-clause-leads : goal.returns-in-Some-clause-leads
 returns-in-Some-clause-leads g c =
@@ -33,3 +33,9 @@ returns-in-None-clause-leads g c =
     let e = shown g.W.Wrapper.meaning c.args.self.now in
     subst (λ (n : Shown). Leads e c.args.sid.number bye (refused NoConnection) n) (sym (left_shut e c.args.sid.number _ (sym c.in-None.ensures.taken) c.take_seat.ensures.left))
     (c.sessions_lead.ensures.not_closed e c.args.sid.number c.args.sid.in_range (no_user e.seats c.args.sid.number (sym c.in-None.ensures.taken)))
+
+pub close_all-requires-clause-held : goal.close_all-requires-clause-held
+close_all-requires-clause-held g c = (c.cursors_may_close.ensures.one (shown g.W.Wrapper.meaning c.args.self.now) c.args.sid.number (seated c.in-Some.seat) c.requires (sym c.in-Some.ensures.taken)).0
+
+pub close_all-requires-clause-own : goal.close_all-requires-clause-own
+close_all-requires-clause-own g c = (c.cursors_may_close.ensures.one (shown g.W.Wrapper.meaning c.args.self.now) c.args.sid.number (seated c.in-Some.seat) c.requires (sym c.in-Some.ensures.taken)).1

@@ -7,11 +7,14 @@ use Rattle.med_world.specs.Requests.{sql}
 use Rattle.med_world.specs.Seats.{seat_of}
 use Rattle.med_world.specs.Turning.{at_once}
 use Rattle.med_session.specs.Shows.{shown}
-use Rattle.med_session.proofs.Seats.{put_other, put_back, read_seat, seat_sound, left_long}
+use Rattle.med_session.proofs.Seats.{put_other, put_back, read_seat, seat_sound, seat_running, left_long}
 use Rattle.med_session.proofs.engine.Engine.close.Goals as goal
 
-pub end_cursor-ended-requires : goal.end_cursor-ended-requires
-end_cursor-ended-requires g c = seat_sound (shown g.W.Wrapper.meaning c.args.self.now) c.args.sid.number (seated c.in-Some.seat) c.requires.sound (sym c.in-Some.ensures.taken)
+pub end_cursor-ended-requires-clause-sound : goal.end_cursor-ended-requires-clause-sound
+end_cursor-ended-requires-clause-sound g c = seat_sound (shown g.W.Wrapper.meaning c.args.self.now) c.args.sid.number (seated c.in-Some.seat) c.requires.sound (sym c.in-Some.ensures.taken)
+
+pub end_cursor-ended-requires-clause-running : goal.end_cursor-ended-requires-clause-running
+end_cursor-ended-requires-clause-running g c = seat_running (shown g.W.Wrapper.meaning c.args.self.now) c.args.sid.number (seated c.in-Some.seat) c.requires.sound (sym c.in-Some.ensures.taken)
 
 pub put_seat-requires : goal.put_seat-requires
 put_seat-requires g c =
@@ -26,7 +29,7 @@ returns-in-Ok-clause-sound g c =
     let boxes = states g.W.Wrapper.meaning c.end_cursor-ended.new.slots.items in
     let f = c.in-Ok.ensures.ok in
     subst (λ (n : Shown). IsSound n) (sym (put_other e sid seat _ _ _ _ boxes c.take_seat.ensures.left c.put_seat.ensures f.is))
-    (c.cursors_lead.ensures.ended_sound e boxes sid seat _ f.at c.args.sid.in_range c.requires.sound (sym c.in-Some.ensures.taken) (at_once f.closes))
+    (c.cursors_lead.ensures.ended_sound e boxes sid seat _ f.at c.args.sid.in_range c.requires.sound (sym c.in-Some.ensures.taken) f.there (at_once f.closes))
 
 pub returns-in-Ok-clause-leads : goal.returns-in-Ok-clause-leads
 returns-in-Ok-clause-leads g c = λ text user read.

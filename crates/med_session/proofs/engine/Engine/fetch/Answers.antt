@@ -8,12 +8,15 @@ use Rattle.med_world.specs.Requests.{sql}
 use Rattle.med_world.specs.Seats.{seat_of}
 use Rattle.med_session.specs.Cursors.{is_unknown, no_memory, fails}
 use Rattle.med_session.specs.Shows.{shown}
-use Rattle.med_session.proofs.Seats.{put_other, put_back, read_seat, seat_sound, left_long}
+use Rattle.med_session.proofs.Seats.{put_other, put_back, read_seat, seat_sound, seat_running, left_long}
 use Rattle.med_session.proofs.Turns.{may_be_untold}
 use Rattle.med_session.proofs.engine.Engine.fetch.Goals as goal
 
-pub fetch_rows-given-requires : goal.fetch_rows-given-requires
-fetch_rows-given-requires g c = seat_sound (shown g.W.Wrapper.meaning c.args.self.now) c.args.sid.number (seated c.in-Some.seat) c.requires.sound (sym c.in-Some.ensures.taken)
+pub fetch_rows-given-requires-clause-sound : goal.fetch_rows-given-requires-clause-sound
+fetch_rows-given-requires-clause-sound g c = seat_sound (shown g.W.Wrapper.meaning c.args.self.now) c.args.sid.number (seated c.in-Some.seat) c.requires.sound (sym c.in-Some.ensures.taken)
+
+pub fetch_rows-given-requires-clause-running : goal.fetch_rows-given-requires-clause-running
+fetch_rows-given-requires-clause-running g c = seat_running (shown g.W.Wrapper.meaning c.args.self.now) c.args.sid.number (seated c.in-Some.seat) c.requires.sound (sym c.in-Some.ensures.taken)
 
 pub put_seat-requires : goal.put_seat-requires
 put_seat-requires g c =
@@ -28,7 +31,7 @@ returns-in-Ok-clause-sound g c =
     let boxes = states g.W.Wrapper.meaning c.fetch_rows-given.new.slots.items in
     let f = rw c.as_str.ensures.value at c.in-Ok.ensures.ok in
     subst (λ (n : Shown). IsSound n) (sym (put_other e sid seat _ _ _ _ boxes c.take_seat.ensures.left c.put_seat.ensures f.is))
-    (c.cursors_lead.ensures.fetched_sound e boxes sid seat _ _ f.at _ f.run c.args.sid.in_range c.requires.sound (sym c.in-Some.ensures.taken) f.gives)
+    (c.cursors_lead.ensures.fetched_sound e boxes sid seat _ _ f.at _ f.run c.args.sid.in_range c.requires.sound (sym c.in-Some.ensures.taken) f.there f.gives)
 
 pub returns-in-Ok-clause-leads : goal.returns-in-Ok-clause-leads
 returns-in-Ok-clause-leads g c = λ text user read.
@@ -64,7 +67,7 @@ returns-in-Err-clause-sound g c =
       | is_unknown told unknown same kept ↦ subst (λ (n : Shown). IsSound n) (sym (put_back e sid seat _ _ _ boxes is_open c.take_seat.ensures.left c.put_seat.ensures same)) (rw kept c.requires.sound)
       | no_memory told same kept ↦ subst (λ (n : Shown). IsSound n) (sym (put_back e sid seat _ _ _ boxes is_open c.take_seat.ensures.left c.put_seat.ensures same)) (rw kept c.requires.sound)
       | fails at there gives ends is ↦ subst (λ (n : Shown). IsSound n) (sym (put_other e sid seat _ _ _ _ boxes c.take_seat.ensures.left c.put_seat.ensures is))
-          (c.cursors_lead.ensures.ended_sound e boxes sid seat _ at c.args.sid.in_range c.requires.sound is_open ends)
+          (c.cursors_lead.ensures.ended_sound e boxes sid seat _ at c.args.sid.in_range c.requires.sound is_open there ends)
     ]
 
 pub returns-in-Err-clause-leads : goal.returns-in-Err-clause-leads

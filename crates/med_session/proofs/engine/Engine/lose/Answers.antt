@@ -4,11 +4,14 @@ use Rattle.open_cursors.specs.Open.{seated}
 use Rattle.med_world.specs.Engine.{Shown, IsSound}
 use Rattle.med_world.specs.Turning.{at_once}
 use Rattle.med_session.specs.Shows.{shown}
-use Rattle.med_session.proofs.Seats.{put_other, seat_sound, left_long}
+use Rattle.med_session.proofs.Seats.{put_other, seat_sound, seat_running, left_long}
 use Rattle.med_session.proofs.engine.Engine.lose.Goals as goal
 
-pub end_cursor-requires : goal.end_cursor-requires
-end_cursor-requires g c = seat_sound (shown g.W.Wrapper.meaning c.args.self.now) c.args.sid.number (seated c.in-Some.seat) c.requires.sound (sym c.in-Some.ensures.taken)
+pub end_cursor-requires-clause-sound : goal.end_cursor-requires-clause-sound
+end_cursor-requires-clause-sound g c = seat_sound (shown g.W.Wrapper.meaning c.args.self.now) c.args.sid.number (seated c.in-Some.seat) c.requires.sound (sym c.in-Some.ensures.taken)
+
+pub end_cursor-requires-clause-running : goal.end_cursor-requires-clause-running
+end_cursor-requires-clause-running g c = seat_running (shown g.W.Wrapper.meaning c.args.self.now) c.args.sid.number (seated c.in-Some.seat) c.requires.sound (sym c.in-Some.ensures.taken)
 
 pub put_seat-requires : goal.put_seat-requires
 put_seat-requires g c =
@@ -23,7 +26,7 @@ returns-clause-sound g c =
     let boxes = states g.W.Wrapper.meaning c.end_cursor.new.slots.items in
     let f = c.in-Ok.ensures.ok in
     subst (λ (n : Shown). IsSound n) (sym (put_other e sid seat _ _ _ _ boxes c.take_seat.ensures.left c.put_seat.ensures f.is))
-    (c.cursors_lead.ensures.ended_sound e boxes sid seat _ f.at c.args.sid.in_range c.requires.sound (sym c.in-Some.ensures.taken) (at_once f.closes))
+    (c.cursors_lead.ensures.ended_sound e boxes sid seat _ f.at c.args.sid.in_range c.requires.sound (sym c.in-Some.ensures.taken) f.there (at_once f.closes))
 
 pub returns-clause-lost : goal.returns-clause-lost
 returns-clause-lost g c =

@@ -18,8 +18,9 @@ returns-then-is_open-clause-leads g c =
 
 pub returns-in-Ok-clause-sound : goal.returns-in-Ok-clause-sound
 returns-in-Ok-clause-sound g c =
+    let shut : c.is_open.result ≡ false = search rules in
     let name : string_bytes c.in-Ok.user ≡ c.args.user.now = c.in-Ok.ensures.ok in
-    rw (c.put_seat.ensures, name, c.new-cursors.ensures.items) (c.sessions_lead.ensures.opened_sound (shown g.W.Wrapper.meaning c.args.self.now) c.args.sid.number c.args.user.now c.args.sid.in_range c.requires)
+    rw (c.put_seat.ensures, name, c.new-cursors.ensures.items) (c.sessions_lead.ensures.opened_sound (shown g.W.Wrapper.meaning c.args.self.now) c.args.sid.number c.args.user.now c.args.sid.in_range c.requires (sym c.is_open.ensures ∙ shut))
 
 pub returns-in-Ok-clause-leads : goal.returns-in-Ok-clause-leads
 returns-in-Ok-clause-leads g c =

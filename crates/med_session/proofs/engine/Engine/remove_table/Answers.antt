@@ -2,7 +2,7 @@ use Rattle.std.proofs.Common.{◌<◌, ◌∙◌, map, length, string_bytes, ap}
 use Rattle.med_exec.specs.Slots.{states}
 use Rattle.med_catalog.specs.View.{objects}
 use Rattle.bind_catalog.specs.Places.{attached}
-use Rattle.med_world.specs.Engine.{IsFirst}
+use Rattle.med_world.specs.Engine.{leased, IsFirst}
 use Rattle.med_session.specs.Shows.{shown}
 use Rattle.med_session.proofs.Tables.{first_at, removed_first, attached_at, removed_attached, get_within, bound_within, unbinds_by}
 use Rattle.med_session.proofs.engine.Engine.remove_table.Goals as goal
@@ -16,6 +16,7 @@ pub unbind_table-requires-clause-unbinds : goal.unbind_table-requires-clause-unb
 unbind_table-requires-clause-unbinds g c t at =
     let e = shown g.W.Wrapper.meaning c.args.self.now in
     c.boxes_are_ready.ensures.unbinds e _ c.in-Some.place (attached t) c.requires.sound c.in-Some.ensures.there (attached_at c.args.self.now.bound.items c.in-Some.place t at)
+    (ap (leased e) c.as_str.ensures.value ∙ c.requires.free)
 
 pub returns-in-Ok-clause-ok : goal.returns-in-Ok-clause-ok
 returns-in-Ok-clause-ok g c =

@@ -110,6 +110,12 @@ tag_told e after sid text tag told same h = subst (λ (x : List ℕ). Leads e si
 pub run_write-requires-clause-ready : goal.run_write-requires-clause-ready
 run_write-requires-clause-ready g c = rw c.deref-in-Rows-2.ensures.value (ready_of (shown g.W.Wrapper.meaning c.args.self.now) c.requires)
 
+pub run_write-requires-clause-unread : goal.run_write-requires-clause-unread
+run_write-requires-clause-unread g c =
+    let e = shown g.W.Wrapper.meaning c.args.self.now in
+    rw (c.deref-in-Rows-2.ensures.value, c.is_leased-leased.ensures, c.deref-in-Rows.ensures.value, c.table_of.ensures)
+    (λ free at s target there. c.boxes_are_ready.ensures.unread e (write_tree c.in-Rows.write) at s c.requires free target there)
+
 pub run_write-requires-clause-clean : goal.run_write-requires-clause-clean
 run_write-requires-clause-clean g c =
     c.texts_are_clean.ensures c.args.text.now (write_tree c.in-Rows.write) (subst (λ (x : Command). HasCommand c.args.text.now (command_tree x)) c.in-Rows.is c.in-Ok.ensures.found)
