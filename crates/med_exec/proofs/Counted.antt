@@ -1,12 +1,12 @@
--- What is counted where nothing was asked.
-use Rattle.std.proofs.Common.{◌≡◌, List, Option, ap, sym, ◌∙◌, add-zero}
+-- What is counted where no scan is begun.
+use Rattle.std.proofs.Common.{ℕ, List, Option, ap, sym, ◌∙◌, add-zero}
 use Rattle.fdw_api.specs.State.{BoxState}
-use Rattle.med_exec.specs.Counting.{none_in, BeginsScans, PullsRows}
-use Rattle.med_exec.proofs.Served.{box_inj}
+use Rattle.scan_loops.specs.Counting.{next_in, BeginsNone}
+use Rattle.scan_loops.specs.Scans.{or_none}
+use Rattle.med_exec.specs.Counting.{none_in, BeginsScans}
 
--- nothing was asked
-pub begins_none : (boxes : List (Option BoxState)) → BeginsScans none_in boxes boxes
-begins_none boxes slot s t was is = let e : s ≡ t = box_inj s t (sym was ∙ is) in ap (λ (x : BoxState). x.ledger.next) (sym e) ∙ sym (add-zero s.ledger.next)
-
-pub pulls_none : (boxes : List (Option BoxState)) → PullsRows none_in boxes boxes
-pulls_none boxes slot s t was is = ap (λ (x : BoxState). x.ledger.pulled) (sym (box_inj s t (sym was ∙ is)))
+-- the loops count the next numbers of all slots
+pub begins_none : (old new : List (Option BoxState)) → BeginsNone old new → BeginsScans none_in old new
+begins_none old new h slot s t was is =
+    ap (λ (o : Option (Option BoxState)). next_in (or_none o)) (sym is) ∙ ap (λ (f : ℕ → ℕ). f slot) h
+    ∙ ap (λ (o : Option (Option BoxState)). next_in (or_none o)) was ∙ sym (add-zero s.ledger.next)

@@ -1,5 +1,5 @@
 -- Scans that a run holds, while boxes serve another one. Nothing here looks into a run.
-use Rattle.std.proofs.Common.{◌≡◌, ◌≢◌, ℕ, zero, suc, ◌⊎◌, inl, inr, eqb, true, false, cond, List, [], ◌∷◌, ◌++◌, Option, Some, None, IsSome, slice_get, Contains, refl, ap, sym, ◌∙◌, subst, arith, rules}
+use Rattle.std.proofs.Common.{◌≡◌, ◌≢◌, ℕ, zero, suc, ◌⊎◌, inl, inr, eqb, true, false, List, [], ◌∷◌, ◌++◌, Option, Some, None, IsSome, slice_get, Contains, refl, ap, sym, ◌∙◌, subst, arith, rules}
 use Rattle.std.specs.Ordering.{nat_cmp}
 use Rattle.std.specs.FinMap as finmap
 use Rattle.std.specs.FinMap.{gets, nat_cmp-IsAntisymmetric}
@@ -13,7 +13,9 @@ use Rattle.med_exec.specs.Slots.{BoxAt}
 use Rattle.med_exec.specs.Running.{without, others_of, Served, Held, none_held, further, ServesRun}
 use Rattle.med_exec.specs.Rests.{held, IsHeld}
 use Rattle.med_exec.specs.Leaving.{AreApart, KeepsScan, LeavesScan, LeavesRun}
-use Rattle.med_exec.proofs.Served.{box_inj, ServedAt, after_service, before_service}
+use Rattle.scan_loops.specs.Others.{HeldAreOfLevels}
+use Rattle.med_exec.proofs.Left.{still_held}
+use Rattle.med_exec.proofs.Served.{box_inj, after_service, before_service}
 
 gone : {X : Type 0} (m : finmap.FinMap nat_cmp X) (k : ℕ) → finmap.get (finmap.remove m k) k ≡ None
 gone m k = grind (gets, rules)
@@ -131,13 +133,8 @@ pub served_leaves : (run : Run) (first last : Held) (old new : List (Option BoxS
 served_leaves run first last old new h not_first not_last slot number own = leaves_scan first last old new slot number h (not_first slot number own) (not_last slot number own)
 
 -- and is good for its close
-pub served_held : (run : Run) (first last : Held) (old new : List (Option BoxState)) → IsHeld run old → AreApart (held run) first → AreApart (held run) last → ServesRun first last old new → IsHeld run new
-unfolding IsHeld
-served_held run first last old new good not_first not_last h slot number own =
-    let at = good slot number own in
-    let live = is_some_of (scan_of at.box number) at.holds in
-    let now = leaves_scan first last old new slot number h (not_first slot number own) (not_last slot number own) at.box live.0 at.there live.1 in
-    record { box = now.box; there = now.there; holds = some_is (scan_of now.box number) live.0 now.holds.live }
+pub served_held : HeldAreOfLevels → (run : Run) (first last : Held) (old new : List (Option BoxState)) → IsHeld run old → AreApart (held run) first → AreApart (held run) last → ServesRun first last old new → IsHeld run new
+served_held law run first last old new good not_first not_last h = still_held law run old new good (served_leaves run first last old new h not_first not_last)
 
 -- what a new run holds was not live
 pub served_fresh : (own : Held) (old new : List (Option BoxState)) (slot number : ℕ) (s : BoxState) → ServesRun none_held own old new → Contains (own slot) number → slice_get old slot ≡ Some (Some s) → scan_of s number ≡ None

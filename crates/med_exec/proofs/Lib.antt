@@ -4,3 +4,4 @@ pub mod Served
 pub mod Counted
 pub mod Leaving
 pub mod Left
+pub mod Going

@@ -5,5 +5,6 @@ pub mod Restricted
 pub mod Refusing
 pub mod Running
 pub mod Counting
+pub mod Pulling
 pub mod Rests
 pub mod Leaving
