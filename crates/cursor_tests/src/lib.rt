@@ -5,4 +5,6 @@
 #[cfg(test)]
 mod fetched;
 #[cfg(test)]
+mod live;
+#[cfg(test)]
 mod served;
