@@ -13,7 +13,6 @@ use Rattle.med_exec.specs.Slots.{BoxAt}
 use Rattle.med_exec.specs.Running.{without, others_of, Served, Held, none_held, further, ServesRun}
 use Rattle.med_exec.specs.Rests.{held, IsHeld}
 use Rattle.med_exec.specs.Leaving.{AreApart, KeepsScan, LeavesScan, LeavesRun}
-use Rattle.scan_loops.specs.Others.{HeldAreOfLevels}
 use Rattle.med_exec.proofs.Left.{still_held}
 use Rattle.med_exec.proofs.Served.{box_inj, after_service, before_service}
 
@@ -133,8 +132,8 @@ pub served_leaves : (run : Run) (first last : Held) (old new : List (Option BoxS
 served_leaves run first last old new h not_first not_last slot number own = leaves_scan first last old new slot number h (not_first slot number own) (not_last slot number own)
 
 -- and is good for its close
-pub served_held : HeldAreOfLevels → (run : Run) (first last : Held) (old new : List (Option BoxState)) → IsHeld run old → AreApart (held run) first → AreApart (held run) last → ServesRun first last old new → IsHeld run new
-served_held law run first last old new good not_first not_last h = still_held law run old new good (served_leaves run first last old new h not_first not_last)
+pub served_held : (run : Run) (first last : Held) (old new : List (Option BoxState)) → IsHeld run old → AreApart (held run) first → AreApart (held run) last → ServesRun first last old new → IsHeld run new
+served_held run first last old new good not_first not_last h = still_held run old new good (served_leaves run first last old new h not_first not_last)
 
 -- what a new run holds was not live
 pub served_fresh : (own : Held) (old new : List (Option BoxState)) (slot number : ℕ) (s : BoxState) → ServesRun none_held own old new → Contains (own slot) number → slice_get old slot ≡ Some (Some s) → scan_of s number ≡ None

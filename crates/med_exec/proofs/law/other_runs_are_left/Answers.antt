@@ -2,4 +2,4 @@ use Rattle.med_exec.proofs.Leaving.{served_leaves, served_held, served_fresh, se
 use Rattle.med_exec.proofs.law.other_runs_are_left.Goals as goal
 
 pub returns : goal.returns
-returns c = record { left = served_leaves; held = served_held c.runs_hold_their_scans.ensures.levels; fresh = served_fresh; had = served_had }
+returns c = record { left = served_leaves; held = served_held; fresh = served_fresh; had = served_had }

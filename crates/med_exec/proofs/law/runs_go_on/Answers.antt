@@ -2,4 +2,4 @@ use Rattle.med_exec.proofs.Left.{run_goes_on}
 use Rattle.med_exec.proofs.law.runs_go_on.Goals as goal
 
 pub returns : goal.returns
-returns c = run_goes_on c.runs_read_their_own.ensures c.runs_hold_their_scans.ensures.levels
+returns c = run_goes_on
