@@ -15,6 +15,7 @@ use Rattle.med_world.specs.Altering.{IsAllowed, SourcesAllow, IsAltered, NotAlte
 use Rattle.med_world.proofs.Lists.{some_same, bytes_same, other_bytes, push_cases, one_place}
 use Rattle.med_world.proofs.Named.{place_of, at_place, map_place, found_place, found_passes, find_first, back_first, find_fewer, back_fewer, none_left, still_found}
 use Rattle.med_world.proofs.Faring.{changes_by}
+use Rattle.med_world.proofs.ScansChanged.{catalog_scans}
 use Rattle.med_world.proofs.Kept.{IsClear, IsUntaken, free_to_drop, stays_sound, unused, unbound, table_rows}
 use Rattle.med_world.proofs.Ready.{SourcesOnce, bind_ready}
 use Rattle.med_world.proofs.Sounds.{StaySound, ServersStay, none_gone, catalog_sound, unbound_sound, bound_sound, dropped_sound, idle_at, refused_sound, vain_sound}

@@ -67,16 +67,16 @@ as_many boxes w (o ∷ os) (c ∷ cs) h = ap suc (as_many boxes w os cs h.1)
 pub named_one : (name : Name) (os : List Opened) (o c : Opened) → AreNamedApart os → find (has_name name) os ≡ Some o → Contains os c → has_name name c ≡ true → c ≡ o
 unfolding IsDistinct
 named_one name [] o c apart at has is = absurd cc
-named_one name (x ∷ os) o c apart at has is = split (has_name name x) refl at (place_of (x ∷ os) c has)
+named_one name (x ∷ os) o c apart at has is = split (λ f later. named_one name os o c apart.1 f later is) (has_name name x) refl at (place_of (x ∷ os) c has)
   where
-    split : (b : Bool) → has_name name x ≡ b → cond b (Some x) (find (has_name name) os) ≡ Some o → (k : ℕ) × (slice_get (x ∷ os) k ≡ Some c) → c ≡ o
-    split b e f (zero, p) = first b (e) f (some_same x c p)
+    split : (find (has_name name) os ≡ Some o → Contains os c → c ≡ o) → (b : Bool) → has_name name x ≡ b → cond b (Some x) (find (has_name name) os) ≡ Some o → (k : ℕ) × (slice_get (x ∷ os) k ≡ Some c) → c ≡ o
+    split rest b e f (zero, p) = first b e f (some_same x c p)
       where
         first : (b : Bool) → has_name name x ≡ b → cond b (Some x) (find (has_name name) os) ≡ Some o → x ≡ c → c ≡ o
         first true e f same = sym same ∙ some_same x o f
         first false e f same = absurd (false≢true (sym e ∙ ap (has_name name) same ∙ is))
-    split true e f (suc k, p) = absurd (bytes_other x.name c.name (each_at (λ n. bytes_eq x.name n ≡ false) (map (λ (y : Opened). y.name) os) k c.name apart.0 (map_place (λ (y : Opened). y.name) os k c p)) (bytes_same x.name name e ∙ sym (bytes_same c.name name is)))
-    split false e f (suc k, p) = named_one name os o c apart.1 f (at_place os k c p) is
+    split rest true e f (suc k, p) = absurd (bytes_other x.name c.name (each_at (λ n. bytes_eq x.name n ≡ false) (map (λ (y : Opened). y.name) os) k c.name apart.0 (map_place (λ (y : Opened). y.name) os k c p)) (bytes_same x.name name e ∙ sym (bytes_same c.name name is)))
+    split rest false e f (suc k, p) = rest f (at_place os k c p)
 
 -- ---- one more
 

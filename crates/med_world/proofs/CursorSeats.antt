@@ -132,28 +132,25 @@ other_name name cursors o c here ne same = bytes_other c.name name ne (same ∙ 
 -- what is left out by a test, and what is not
 left_in : (name : Name) (cursors : List Opened) (c : Opened) → Contains (without_named name cursors) c → Contains cursors c × (has_name name c ≡ false)
 left_in name [] c h = absurd (let n = h.1 in omega arith)
-left_in name (x ∷ xs) c h = split (has_name name x) refl h
+left_in name (x ∷ xs) c h = split (λ k. let r = left_in name xs c k in (here_later x c xs r.0, r.1)) (has_name name x) refl h
   where
-    later : Contains (without_named name xs) c → Contains (x ∷ xs) c × (has_name name c ≡ false)
-    later k = let r = left_in name xs c k in (here_later x c xs r.0, r.1)
+    at : (Contains (without_named name xs) c → Contains (x ∷ xs) c × (has_name name c ≡ false)) → (b : Bool) → has_name name x ≡ b → b ≡ false → (k : ℕ) × (slice_get (x ∷ without_named name xs) k ≡ Some c) → Contains (x ∷ xs) c × (has_name name c ≡ false)
+    at rest b is none (zero, p) = let same : x ≡ c = some_same x c p in (subst (λ (y : Opened). Contains (x ∷ xs) y) same (here_first x xs), ap (has_name name) (sym same) ∙ is ∙ none)
+    at rest b is none (suc k, p) = rest (at_place (without_named name xs) k c p)
 
-    at : (b : Bool) → has_name name x ≡ b → b ≡ false → (k : ℕ) × (slice_get (x ∷ without_named name xs) k ≡ Some c) → Contains (x ∷ xs) c × (has_name name c ≡ false)
-    at b is no (zero, p) = let same : x ≡ c = some_same x c p in (subst (λ (y : Opened). Contains (x ∷ xs) y) same (here_first x xs), ap (has_name name) (sym same) ∙ is ∙ no)
-    at b is no (suc k, p) = later (at_place (without_named name xs) k c p)
-
-    split : (b : Bool) → has_name name x ≡ b → Contains (cond (not b) (x ∷ without_named name xs) (without_named name xs)) c → Contains (x ∷ xs) c × (has_name name c ≡ false)
-    split true is k = later k
-    split false is k = at false is refl (place_of (x ∷ without_named name xs) c k)
+    split : (Contains (without_named name xs) c → Contains (x ∷ xs) c × (has_name name c ≡ false)) → (b : Bool) → has_name name x ≡ b → Contains (cond (not b) (x ∷ without_named name xs) (without_named name xs)) c → Contains (x ∷ xs) c × (has_name name c ≡ false)
+    split rest true is k = rest k
+    split rest false is k = at rest false is refl (place_of (x ∷ without_named name xs) c k)
 
 still_in : (name : Name) (cursors : List Opened) (c : Opened) → Contains cursors c → has_name name c ≡ false → Contains (without_named name cursors) c
 still_in name [] c h ne = h
-still_in name (x ∷ xs) c h ne = split (has_name name x) refl (place_of (x ∷ xs) c h)
+still_in name (x ∷ xs) c h ne = split (λ later. still_in name xs c later ne) (has_name name x) refl (place_of (x ∷ xs) c h)
   where
-    split : (b : Bool) → has_name name x ≡ b → (k : ℕ) × (slice_get (x ∷ xs) k ≡ Some c) → Contains (cond (not b) (x ∷ without_named name xs) (without_named name xs)) c
-    split true is (zero, p) = absurd (false≢true (sym ne ∙ ap (has_name name) (sym (some_same x c p)) ∙ is))
-    split true is (suc k, p) = still_in name xs c (at_place xs k c p) ne
-    split false is (zero, p) = subst (λ (y : Opened). Contains (x ∷ without_named name xs) y) (some_same x c p) (here_first x (without_named name xs))
-    split false is (suc k, p) = here_later x c (without_named name xs) (still_in name xs c (at_place xs k c p) ne)
+    split : (Contains xs c → Contains (without_named name xs) c) → (b : Bool) → has_name name x ≡ b → (k : ℕ) × (slice_get (x ∷ xs) k ≡ Some c) → Contains (cond (not b) (x ∷ without_named name xs) (without_named name xs)) c
+    split rest true is (zero, p) = absurd (false≢true (sym ne ∙ ap (has_name name) (sym (some_same x c p)) ∙ is))
+    split rest true is (suc k, p) = rest (at_place xs k c p)
+    split rest false is (zero, p) = subst (λ (y : Opened). Contains (x ∷ without_named name xs) y) (some_same x c p) (here_first x (without_named name xs))
+    split rest false is (suc k, p) = here_later x c (without_named name xs) (rest (at_place xs k c p))
 
 -- a run that was closed, whatever was asked of it before
 pub ends_serve : (run : Run) (old new : List (Option BoxState)) → Ends run old new → ServesRun (held run) none_held old new
@@ -161,11 +158,11 @@ ends_serve run old new (at_once h) = h
 ends_serve run old new (later after mid h k) = serves_on (held run) (held after) none_held old mid new h k
 
 by_name : {P : Type 0} (name : Name) (c : Opened) → (has_name name c ≡ true → P) → (has_name name c ≡ false → P) → P
-by_name {P} name c yes no = split (has_name name c) refl
+by_name {P} name c has lacks = split (has_name name c) refl
   where
     split : (b : Bool) → has_name name c ≡ b → P
-    split true is = yes is
-    split false is = no is
+    split true is = has is
+    split false is = lacks is
 
 pub ended_turn : (e : Shown) (new : List (Option BoxState)) (sid : ℕ) (seat : Seated) (name : Name) (o : Opened) → IsSound e → seat_of e.seats sid ≡ Some seat → opened_named name seat.cursors ≡ Some o → Ends o.run e.boxes new
     → Turned e (sid - 1) (Some (record seat { cursors = without_named name seat.cursors })) new
@@ -194,11 +191,11 @@ ended_turn e new sid seat name o sound at here ends = record {
 -- the cursors of a session one of which runs on
 ran_on : (name : Name) (run : Run) (cursors : List Opened) (c : Opened) → Contains (with_run name run cursors) c → (d : Opened) × Contains cursors d × (runs_on name run d ≡ c)
 ran_on name run [] c h = absurd (let n = h.1 in omega arith)
-ran_on name run (x ∷ xs) c h = split (place_of (with_run name run (x ∷ xs)) c h)
+ran_on name run (x ∷ xs) c h = split (λ later. ran_on name run xs c later) (place_of (with_run name run (x ∷ xs)) c h)
   where
-    split : (k : ℕ) × (slice_get (runs_on name run x ∷ with_run name run xs) k ≡ Some c) → (d : Opened) × Contains (x ∷ xs) d × (runs_on name run d ≡ c)
-    split (zero, p) = (x, here_first x xs, some_same (runs_on name run x) c p)
-    split (suc k, p) = let r = ran_on name run xs c (at_place (with_run name run xs) k c p) in (r.0, here_later x r.0 xs r.1, r.2)
+    split : (Contains (with_run name run xs) c → (d : Opened) × Contains xs d × (runs_on name run d ≡ c)) → (k : ℕ) × (slice_get (runs_on name run x ∷ with_run name run xs) k ≡ Some c) → (d : Opened) × Contains (x ∷ xs) d × (runs_on name run d ≡ c)
+    split rest (zero, p) = (x, here_first x xs, some_same (runs_on name run x) c p)
+    split rest (suc k, p) = let r = rest (at_place (with_run name run xs) k c p) in (r.0, here_later x r.0 xs r.1, r.2)
 
 runs_in : (name : Name) (run : Run) (cursors : List Opened) (d : Opened) → Contains cursors d → Contains (with_run name run cursors) (runs_on name run d)
 runs_in name run cursors d h = let p = place_of cursors d h in at_place (with_run name run cursors) p.0 (runs_on name run d) (map_place (runs_on name run) cursors p.0 d p.1)
@@ -211,13 +208,13 @@ it_stays name run d ne = ap (λ b. cond b (record d { run = run }) d) ne
 
 module _ (e : Shown) (new : List (Option BoxState)) (sid : ℕ) (seat : Seated) (name : Name) (asked : CountTree) (o : Opened) (rows : List Tuple) (run : Run) (sound : IsSound e) (at : seat_of e.seats sid ≡ Some seat)
     (here : opened_named name seat.cursors ≡ Some o) (g : GivesRows o.run asked e.boxes rows run new) where
-  after : Seated
+  abbrev pub after : Seated
   after = record seat { cursors = with_run name run seat.cursors }
 
   has_o : Contains seat.cursors o
   has_o = has_of name seat.cursors o here
 
-  now : Opened
+  abbrev now : Opened
   now = record o { run = run }
 
   is_o : (c : Opened) → Contains seat.cursors c → has_name name c ≡ true → c ≡ o
@@ -313,10 +310,10 @@ module _ (e : Shown) (new : List (Option BoxState)) (sid : ℕ) (seat : Seated) 
 
 module _ (e : Shown) (new : List (Option BoxState)) (sid : ℕ) (seat : Seated) (name : Name) (q : SelectTree) (names : List Name) (run : Run) (sound : IsSound e) (at : seat_of e.seats sid ≡ Some seat)
     (h : Starts e.catalog seat.user e.bound q (is_full seat.cursors) e.boxes names run new) where
-  opened_now : Opened
+  abbrev opened_now : Opened
   opened_now = new_opened name names q run
 
-  seat_now : Seated
+  abbrev pub seat_now : Seated
   seat_now = record seat { cursors = seat.cursors ++ opened_now ∷ [] }
 
   -- what it holds was not live, and what the others hold was

@@ -162,7 +162,7 @@ module _ (e : Shown) (place : ℕ) (seat : Option Seated) (new : List (Option Bo
   pub spared_on : (j : ℕ) (c : Opened) → IsOpenAt e.seats j c → IsSpared t.first t.last c → GoesOn c.run e.boxes new
   spared_on j c is_open spared = run_goes_on c.run e.boxes new (keeps.running j c is_open) (served_leaves c.run t.first t.last e.boxes new t.serves spared.0 spared.1)
 
-  Cases : ℕ → Opened → Type 0
+  abbrev Cases : ℕ → Opened → Type 0
   Cases j c = (IsOpenAt e.seats j c × IsSpared t.first t.last c) ⊎ ((j ≡ place) × TurnsOn t.name t.last new c)
 
   here : (j : ℕ) (c : Opened) → j ≡ place → (IsOpenAt e.seats place c × IsSpared t.first t.last c) ⊎ TurnsOn t.name t.last new c → Cases j c
@@ -234,11 +234,11 @@ quiet_turn e place seat served was is = record {
 
 pub one_of : (cursors : List Opened) (slot number : ℕ) → Contains (held_by cursors slot) number → (c : Opened) × Contains cursors c × Contains (held c.run slot) number
 one_of [] slot number h = absurd (none_in number h)
-one_of (c ∷ cursors) slot number h = split (Contains-append_cases (held c.run slot) (held_by cursors slot) number h)
+one_of (c ∷ cursors) slot number h = split (λ b. one_of cursors slot number b) (Contains-append_cases (held c.run slot) (held_by cursors slot) number h)
   where
-    split : Contains (held c.run slot) number ⊎ Contains (held_by cursors slot) number → (d : Opened) × Contains (c ∷ cursors) d × Contains (held d.run slot) number
-    split (inl a) = (c, here_first c cursors, a)
-    split (inr b) = let r = one_of cursors slot number b in (r.0, here_later c r.0 cursors r.1, r.2)
+    split : (Contains (held_by cursors slot) number → (d : Opened) × Contains cursors d × Contains (held d.run slot) number) → Contains (held c.run slot) number ⊎ Contains (held_by cursors slot) number → (d : Opened) × Contains (c ∷ cursors) d × Contains (held d.run slot) number
+    split rest (inl a) = (c, here_first c cursors, a)
+    split rest (inr b) = let r = rest b in (r.0, here_later c r.0 cursors r.1, r.2)
 
 held_at : (cursors : List Opened) (k : ℕ) (c : Opened) (slot number : ℕ) → slice_get cursors k ≡ Some c → Contains (held c.run slot) number → Contains (held_by cursors slot) number
 held_at [] k c slot number at own = absurd cc
@@ -263,25 +263,26 @@ pub seat_own : (seats : List (Option Seated)) (place : ℕ) (s : Seated) → Are
 seat_own seats place s once sound there = own_names s.cursors (sound place s there).apart
     (λ c d slot number hc hd a b. (once place place c d slot number (record { seat = s; there = there; has = hc }) (record { seat = s; there = there; has = hd }) a b).1)
 
-own_both : (xs ys : List Opened) → AreOwn xs → AreOwn ys → AreApart (held_by xs) (held_by ys) → AreOwn (xs ++ ys)
+held_joined : (zs ys : List Opened) (slot number : ℕ) → Contains (held_by (zs ++ ys) slot) number → Contains (held_by zs slot) number ⊎ Contains (held_by ys slot) number
+held_joined [] ys slot number b = inr b
+held_joined (z ∷ zs) ys slot number b = first (λ p. held_joined zs ys slot number p) (Contains-append_cases (held z.run slot) (held_by (zs ++ ys) slot) number b)
+  where
+    later : Contains (held_by zs slot) number ⊎ Contains (held_by ys slot) number → Contains (held_by (z ∷ zs) slot) number ⊎ Contains (held_by ys slot) number
+    later (inl p) = inl (Contains-append_right (held z.run slot) (held_by zs slot) number p)
+    later (inr q) = inr q
+
+    first : (Contains (held_by (zs ++ ys) slot) number → Contains (held_by zs slot) number ⊎ Contains (held_by ys slot) number) → Contains (held z.run slot) number ⊎ Contains (held_by (zs ++ ys) slot) number
+        → Contains (held_by (z ∷ zs) slot) number ⊎ Contains (held_by ys slot) number
+    first rest (inl p) = inl (Contains-append_left (held z.run slot) (held_by zs slot) number p)
+    first rest (inr q) = later (rest q)
+
+pub own_both : (xs ys : List Opened) → AreOwn xs → AreOwn ys → AreApart (held_by xs) (held_by ys) → AreOwn (xs ++ ys)
 own_both [] ys own_x own_y apart = own_y
 own_both (x ∷ xs) ys own_x own_y apart = (
-  (λ slot number a b. split slot number a (joined xs slot number b)),
+  (λ slot number a b. split slot number a (held_joined xs ys slot number b)),
   own_both xs ys own_x.1 own_y (λ slot number a b. apart slot number (Contains-append_right (held x.run slot) (held_by xs slot) number a) b),
 )
   where
-    joined : (zs : List Opened) (slot number : ℕ) → Contains (held_by (zs ++ ys) slot) number → Contains (held_by zs slot) number ⊎ Contains (held_by ys slot) number
-    joined [] slot number b = inr b
-    joined (z ∷ zs) slot number b = first (Contains-append_cases (held z.run slot) (held_by (zs ++ ys) slot) number b)
-      where
-        later : Contains (held_by zs slot) number ⊎ Contains (held_by ys slot) number → Contains (held_by (z ∷ zs) slot) number ⊎ Contains (held_by ys slot) number
-        later (inl p) = inl (Contains-append_right (held z.run slot) (held_by zs slot) number p)
-        later (inr q) = inr q
-
-        first : Contains (held z.run slot) number ⊎ Contains (held_by (zs ++ ys) slot) number → Contains (held_by (z ∷ zs) slot) number ⊎ Contains (held_by ys slot) number
-        first (inl p) = inl (Contains-append_left (held z.run slot) (held_by zs slot) number p)
-        first (inr q) = later (joined zs slot number q)
-
     split : (slot number : ℕ) → Contains (held x.run slot) number → Contains (held_by xs slot) number ⊎ Contains (held_by ys slot) number → ⊥
     split slot number a (inl p) = own_x.0 slot number a p
     split slot number a (inr q) = apart slot number (Contains-append_left (held x.run slot) (held_by xs slot) number a) q
@@ -289,12 +290,12 @@ own_both (x ∷ xs) ys own_x own_y apart = (
 -- those of all sessions
 pub open_among : (seats : List (Option Seated)) (c : Opened) → Contains (all_cursors seats) c → (place : ℕ) × IsOpenAt seats place c
 open_among [] c h = absurd (let n = h.1 in omega arith)
-open_among (x ∷ seats) c h = split x (Contains-append_cases (seat_cursors x) (all_cursors seats) c h)
+open_among (x ∷ seats) c h = split (λ b. open_among seats c b) x (Contains-append_cases (seat_cursors x) (all_cursors seats) c h)
   where
-    split : (y : Option Seated) → Contains (seat_cursors y) c ⊎ Contains (all_cursors seats) c → (place : ℕ) × IsOpenAt (y ∷ seats) place c
-    split None (inl a) = absurd (let n = a.1 in omega arith)
-    split (Some s) (inl a) = (zero, record { seat = s; there = refl; has = a })
-    split y (inr b) = let r = open_among seats c b in (suc r.0, record { seat = r.1.seat; there = r.1.there; has = r.1.has })
+    split : (Contains (all_cursors seats) c → (place : ℕ) × IsOpenAt seats place c) → (y : Option Seated) → Contains (seat_cursors y) c ⊎ Contains (all_cursors seats) c → (place : ℕ) × IsOpenAt (y ∷ seats) place c
+    split rest None (inl a) = absurd (let n = a.1 in omega arith)
+    split rest (Some s) (inl a) = (zero, record { seat = s; there = refl; has = a })
+    split rest y (inr b) = let r = rest b in (suc r.0, record { seat = r.1.seat; there = r.1.there; has = r.1.has })
 
 pub is_among : (seats : List (Option Seated)) (place : ℕ) (c : Opened) → IsOpenAt seats place c → Contains (all_cursors seats) c
 is_among [] place c h = absurd (let at = h.there in cc)
@@ -309,15 +310,13 @@ suc_same i k e = omega arith
 
 pub all_own : (seats : List (Option Seated)) → AreHeldOnce seats → AreSoundSeats seats → AreOwn (all_cursors seats)
 all_own [] once sound = tt
-all_own (x ∷ seats) once sound = own_both (seat_cursors x) (all_cursors seats) (first x refl) rest (λ slot number a b. apart slot number a b x refl)
+all_own (x ∷ seats) once sound = own_both (seat_cursors x) (all_cursors seats) (first x refl) (all_own seats later_once (λ place s at. sound (suc place) s at)) (λ slot number a b. apart slot number a b x refl)
   where
     later : (j : ℕ) (c : Opened) → IsOpenAt seats j c → IsOpenAt (x ∷ seats) (suc j) c
     later j c h = record { seat = h.seat; there = h.there; has = h.has }
 
-    rest : AreOwn (all_cursors seats)
-    rest = all_own seats
-        (λ j k c d slot number p q a b. let r = once (suc j) (suc k) c d slot number (later j c p) (later k d q) a b in (suc_same j k r.0, r.1))
-        (λ place s at. sound (suc place) s at)
+    later_once : AreHeldOnce seats
+    later_once j k c d slot number p q a b = let r = once (suc j) (suc k) c d slot number (later j c p) (later k d q) a b in (suc_same j k r.0, r.1)
 
     first : (y : Option Seated) → x ≡ y → AreOwn (seat_cursors y)
     first None same = tt

@@ -101,7 +101,15 @@ catalog_scans e change tables k =
 module _ (e n : Shown) (t : TableObject) (sound : IsSound e) (h : BindsTable e t n) where
   pub bind_quiet : ChangesAt e.boxes h.place IsQuiet n.boxes
   bind_quiet = quiet_at (that_is h.number) e.boxes n.boxes h.place
-      (changes_by (λ b c. Binds b t.remote t.columns t.settings h.number c) (Spares (that_is h.number)) e.boxes n.boxes h.place (λ b c k. binds_spares b c t.remote t.columns t.settings h.number k) h.binds)
+      (record {
+        before = h.binds.before;
+        after = h.binds.after;
+        there = h.binds.there;
+        now = h.binds.now;
+        others = h.binds.others;
+        slots = h.binds.slots;
+        change = binds_spares h.binds.before h.binds.after t.remote t.columns t.settings h.number h.binds.change;
+      })
       (fresh_scan h.binds.before h.number (sound.sound_boxes h.place h.binds.before h.binds.there) h.binds.change.fresh)
 
   pub bind_scans : KeepsScans (record (with_change e (new_table t)) { boxes = n.boxes; bound = e.bound ++ record { source = h.place; number = h.number } ∷ [] })
@@ -126,7 +134,15 @@ first_named name (x ∷ xs) (suc k) t first at = first_named name xs k t first.1
 module _ (e n : Shown) (name : Name) (sound : IsSound e) (free : leased e name ≡ false) (h : UnbindsTable e name n) (none : (s : BoxState) → slice_get e.boxes h.at.source ≡ Some (Some s) → NoScan s h.at.number) where
   pub unbind_quiet : ChangesAt e.boxes h.at.source IsQuiet n.boxes
   unbind_quiet = quiet_at (that_is h.at.number) e.boxes n.boxes h.at.source
-      (changes_by (λ b c. Unbinds b h.at.number c) (Spares (that_is h.at.number)) e.boxes n.boxes h.at.source (λ b c k. unbinds_spares b c h.at.number k) h.unbinds)
+      (record {
+        before = h.unbinds.before;
+        after = h.unbinds.after;
+        there = h.unbinds.there;
+        now = h.unbinds.now;
+        others = h.unbinds.others;
+        slots = h.unbinds.slots;
+        change = unbinds_spares h.unbinds.before h.unbinds.after h.at.number h.unbinds.change;
+      })
       (none h.unbinds.before h.unbinds.there)
 
   -- a table that is leased is another one

@@ -50,7 +50,7 @@ pub or_true : (a b : Bool) → b ≡ true → (a || b) ≡ true
 or_true true b e = refl
 or_true false b e = e
 
-any_at : {X : Type 0} (p : X → Bool) (xs : List X) (k : ℕ) (x : X) → slice_get xs k ≡ Some x → p x ≡ true → list_any p xs ≡ true
+pub any_at : {X : Type 0} (p : X → Bool) (xs : List X) (k : ℕ) (x : X) → slice_get xs k ≡ Some x → p x ≡ true → list_any p xs ≡ true
 any_at p [] k x at e = absurd cc
 any_at p (y ∷ ys) zero x at e = ap (λ b. b || list_any p ys) (ap p (some_same y x at) ∙ e)
 any_at p (y ∷ ys) (suc k) x at e = or_true (p y) (list_any p ys) (any_at p ys k x at e)
