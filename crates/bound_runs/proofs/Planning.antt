@@ -1,5 +1,5 @@
 -- The loops of a bound query are a plan of it.
-use Rattle.std.proofs.Common.{◌≡◌, ℕ, suc, ◌<◌, Bool, true, false, ◌&&◌, List, [], ◌∷◌, ◌++◌, map, length, flat_map, get_or, All, slice_get, Option, Some, None, IsSome, refl, ap, sym, ◌∙◌, subst, arith}
+use Rattle.std.proofs.Common.{◌≡◌, ℕ, suc, ◌<◌, ◌⊎◌, inl, inr, Bool, true, false, ◌&&◌, List, [], ◌∷◌, ◌++◌, map, length, flat_map, get_or, All, slice_get, Option, Some, None, IsSome, refl, ap, sym, ◌∙◌, subst, arith}
 use Rattle.std.proofs.lemmas.List.{length-map}
 use Rattle.std.proofs.lemmas.List.Elements.{All-head, All-tail}
 use Rattle.std.proofs.lemmas.Option.{slice_get-get_or}
@@ -9,6 +9,7 @@ use Rattle.med_query.specs.Query.{Tables, joined}
 use Rattle.med_query.specs.Form.{JoinForm, cross_form, inner_form, left_form, ChainForm, CoreForm, chain_form, core_form}
 use Rattle.med_query.specs.Select.{core_of, is_safe_from, are_safe_cores}
 use Rattle.med_query.specs.declared.select.JoinChain.{JoinChain}
+use Rattle.med_query.specs.declared.select.Select.{Select}
 use Rattle.med_query.specs.declared.select.SelectCore.{SelectCore}
 use Rattle.med_binder.specs.Alike.{CoreAlike}
 use Rattle.med_binder.specs.Counted.{joined_number, chain_numbers, CoreCounts}
@@ -16,6 +17,7 @@ use Rattle.med_binder.specs.Within.{CoreWithin}
 use Rattle.med_binder.specs.declared.bound.BoundEntry.{BoundEntry}
 use Rattle.med_binder.specs.declared.bound.BoundQuery.{BoundQuery}
 use Rattle.fdw_api.specs.State.{BoxTable, BoxState, table_of}
+use Rattle.fdw_api.specs.Wishes.{WishForm}
 use Rattle.fdw_api.specs.declared.wishes.Agreement2.{Agreement2}
 use Rattle.med_planner.specs.Planned.{entry_place, entry_rows}
 use Rattle.nested_loops.specs.Joins.{Each}
@@ -26,17 +28,21 @@ use Rattle.scan_loops.specs.Serving.{AllHonest}
 use Rattle.scan_loops.specs.Slots.{HasTable}
 use Rattle.scan_loops.specs.Starting.{CanStart}
 use Rattle.scan_loops.specs.declared.levels.LoopLevel.{LoopLevel}
-use Rattle.loop_answers.specs.Planned.{IsLoopPlan}
+use Rattle.loop_answers.specs.Ordered.{ComesInOrder}
+use Rattle.loop_answers.specs.Planned.{IsLoopPlan, whole}
 use Rattle.loop_answers.proofs.Seen.{agree_over}
 use Rattle.loop_plans.specs.Flat.{Part, join_part, end_after, chain_parts, from_parts}
 use Rattle.loop_plans.specs.Places.{further}
 use Rattle.loop_plans.specs.Offered.{OfferForm, undecided, source_of, number_of, offers_from, core_conditions, core_reads, core_offers, AreLevels}
 use Rattle.loop_plans.specs.Plans.{tables_by, PlansAreLoopPlans}
-use Rattle.loop_plans.specs.Premises.{widths_in, HasPlaces, RowsAreWide, CountedIsInView, CountedIsWide, AreOfKinds, PlansCanStart}
+use Rattle.loop_plans.specs.Premises.{widths_in, HasPlaces, RowsAreWide, CountedIsInView, CountedIsWide, AreOfKinds, PlansCanStart, WishedComeInOrder, UnwishedAreUnlimited}
+use Rattle.loop_plans.specs.Wished.{no_wish, wish_for, wish_of, ComesAlone}
 use Rattle.loop_runs.specs.Gathering.{levels_in}
+use Rattle.loop_runs.specs.Ordering.{IsUnlimited, PlanInOrder}
 use Rattle.loop_runs.specs.Running.{CanRun, IsPlanned, ArePlanned, IsPlanOver}
 use Rattle.loop_runs.specs.declared.running.LoopPlan.{LoopPlan}
-use Rattle.bound_runs.specs.Offers.{cores_offers, query_offers, IsOffered, AllAllowed, AllLevels}
+use Rattle.bound_runs.specs.Offers.{cores_offers, query_offers, query_wish, IsOffered, AllAllowed, AllLevels}
+use Rattle.bound_runs.specs.Pulling.{AreAgreed}
 use Rattle.bound_runs.specs.Running.{IsReady, IsPlanFor}
 use Rattle.bound_runs.proofs.Counts.{all_scans}
 use Rattle.bound_runs.proofs.Reading.{each_on, numbers_below, joined_over}
@@ -113,14 +119,14 @@ plan_over s db eb ls e p = record {
   rows = agree_over s db eb _ e p.rows;
 }
 
-not_made : (answers : List Agreement2) (l : LoopLevel) (ls : List LoopLevel) → AreLevels [] answers (l ∷ ls) → ⊥
-not_made [] l ls h = h
-not_made (a ∷ answers) l ls h = h
+not_made : (w : WishForm) (answers : List Agreement2) (l : LoopLevel) (ls : List LoopLevel) → AreLevels w [] answers (l ∷ ls) → ⊥
+not_made w [] l ls h = h
+not_made w (a ∷ answers) l ls h = h
 
-none_offered : (os : List OfferForm) (answers : List Agreement2) → AreLevels os answers [] → os ≡ []
-none_offered [] answers h = refl
-none_offered (o ∷ os) [] h = absurd h
-none_offered (o ∷ os) (a ∷ answers) h = absurd h
+none_offered : (w : WishForm) (os : List OfferForm) (answers : List Agreement2) → AreLevels w os answers [] → os ≡ []
+none_offered w [] answers h = refl
+none_offered w (o ∷ os) [] h = absurd h
+none_offered w (o ∷ os) (a ∷ answers) h = absurd h
 
 abbrev offers_over : List BoundEntry → List ℕ → List Tree → List JoinChain → List OfferForm
 offers_over es read conditions from = offers_from es read 0 conditions (from_parts es 0 (map chain_form from))
@@ -130,9 +136,9 @@ none_read : (es : List BoundEntry) (read : List ℕ) (conditions : List Tree) (f
 none_read es read conditions [] e = refl
 none_read es read conditions (c ∷ from) e = absurd cc
 
-some_read : (es : List BoundEntry) (read : List ℕ) (conditions : List Tree) (from : List JoinChain) (answers : List Agreement2) (l : LoopLevel) (ls : List LoopLevel) → AreLevels (offers_over es read conditions from) answers (l ∷ ls) → 0 < length (map chain_form from)
-some_read es read conditions [] answers l ls h = absurd (not_made answers l ls h)
-some_read es read conditions (c ∷ from) answers l ls h = omega arith
+some_read : (w : WishForm) (es : List BoundEntry) (read : List ℕ) (conditions : List Tree) (from : List JoinChain) (answers : List Agreement2) (l : LoopLevel) (ls : List LoopLevel) → AreLevels w (offers_over es read conditions from) answers (l ∷ ls) → 0 < length (map chain_form from)
+some_read w es read conditions [] answers l ls h = absurd (not_made w answers l ls h)
+some_read w es read conditions (c ∷ from) answers l ls h = omega arith
 
 -- what is known of a bound query's entries
 pub record Known (boxes : List (Option BoxState)) (es : List BoundEntry) (kss : List (List ColType)) : Type 0 where
@@ -140,30 +146,32 @@ pub record Known (boxes : List (Option BoxState)) (es : List BoundEntry) (kss : 
   pub counted_wide : CountedIsWide
   pub can_start : PlansCanStart
   pub are_plans : PlansAreLoopPlans
+  pub wished : WishedComeInOrder
+  pub unwished : UnwishedAreUnlimited
   pub typed : AreOfKinds (bound_at boxes) es kss
   pub places : HasPlaces es
   pub wide : AllHonest boxes → RowsAreWide es (tables_by es (rows_at boxes))
 
 module _ (boxes : List (Option BoxState)) (es : List BoundEntry) (kss : List (List ColType)) (k : Known boxes es kss) where
-  core_planned : (s : SelectCore) (answers : List Agreement2) (ls : List LoopLevel) → CoreCounts (widths_in es) (core_form s) → CoreWithin (widths_in es) (core_form s) → AllHonest boxes
-      → AreLevels (core_offers es (core_form s)) answers ls → IsPlanned (rows_at boxes) (entry_rows boxes (map entry_place es)) s ls
-  core_planned s answers [] counts within honest h =
-      none_read es (core_reads es (core_form s)) (core_conditions es (core_form s)) s.from.items (none_offered (core_offers es (core_form s)) answers h)
-  core_planned s answers (l ∷ ls) counts within honest h =
-      let some = some_read es (core_reads es (core_form s)) (core_conditions es (core_form s)) s.from.items answers l ls h in
-      plan_over s (tables_by es (rows_at boxes)) (entry_rows boxes (map entry_place es)) (levels_of (rows_at boxes) (l ∷ ls)) (joined_over boxes es s counts)
-      (k.are_plans s es answers (l ∷ ls) (rows_at boxes) (k.in_view es (core_form s) counts within k.places some) (k.counted_wide s es (rows_at boxes) counts (k.wide honest)) h)
+  core_planned : (s : SelectCore) (w : WishForm) (answers : List Agreement2) (ls : List LoopLevel) → CoreCounts (widths_in es) (core_form s) → CoreWithin (widths_in es) (core_form s) → AllHonest boxes
+      → AreLevels w (core_offers es (core_form s)) answers ls → IsPlanned (rows_at boxes) (entry_rows boxes (map entry_place es)) s ls
+  core_planned s w answers [] counts within honest h =
+      none_read es (core_reads es (core_form s)) (core_conditions es (core_form s)) s.from.items (none_offered w (core_offers es (core_form s)) answers h)
+  core_planned s w answers (l ∷ ls) counts within honest h =
+      let some = some_read w es (core_reads es (core_form s)) (core_conditions es (core_form s)) s.from.items answers l ls h in
+      plan_over s (tables_by es (rows_at boxes)) (entry_rows boxes (map entry_place es)) (map whole (levels_of (rows_at boxes) (l ∷ ls))) (joined_over boxes es s counts)
+      (k.are_plans s es w answers (l ∷ ls) (rows_at boxes) (k.in_view es (core_form s) counts within k.places some) (k.counted_wide s es (rows_at boxes) counts (k.wide honest)) h)
 
-  pub all_planned : (ss : List SelectCore) (answers : List (List Agreement2)) (loops : List (List LoopLevel)) → All (CoreCounts (widths_in es)) (map core_form ss) → All (CoreWithin (widths_in es)) (map core_form ss) → AllHonest boxes
-      → AllLevels (cores_offers es ss) answers loops → ArePlanned (rows_at boxes) (entry_rows boxes (map entry_place es)) ss loops
-  all_planned [] [] [] counts within honest h = tt
-  all_planned [] [] (ls ∷ loops) counts within honest h = absurd h
-  all_planned [] (given ∷ answers) loops counts within honest h = absurd h
-  all_planned (s ∷ ss) [] loops counts within honest h = absurd h
-  all_planned (s ∷ ss) (given ∷ answers) [] counts within honest h = absurd h
-  all_planned (s ∷ ss) (given ∷ answers) (ls ∷ loops) counts within honest h = (
-    core_planned s given ls (All-head (CoreCounts (widths_in es)) (core_form s) (map core_form ss) counts) (All-head (CoreWithin (widths_in es)) (core_form s) (map core_form ss) within) honest h.0,
-    all_planned ss answers loops (All-tail (CoreCounts (widths_in es)) (core_form s) (map core_form ss) counts) (All-tail (CoreWithin (widths_in es)) (core_form s) (map core_form ss) within) honest h.1,
+  pub all_planned : (ss : List SelectCore) (w : WishForm) (answers : List (List Agreement2)) (loops : List (List LoopLevel)) → All (CoreCounts (widths_in es)) (map core_form ss) → All (CoreWithin (widths_in es)) (map core_form ss) → AllHonest boxes
+      → AllLevels w (cores_offers es ss) answers loops → ArePlanned (rows_at boxes) (entry_rows boxes (map entry_place es)) ss loops
+  all_planned [] w [] [] counts within honest h = tt
+  all_planned [] w [] (ls ∷ loops) counts within honest h = absurd h
+  all_planned [] w (given ∷ answers) loops counts within honest h = absurd h
+  all_planned (s ∷ ss) w [] loops counts within honest h = absurd h
+  all_planned (s ∷ ss) w (given ∷ answers) [] counts within honest h = absurd h
+  all_planned (s ∷ ss) w (given ∷ answers) (ls ∷ loops) counts within honest h = (
+    core_planned s w given ls (All-head (CoreCounts (widths_in es)) (core_form s) (map core_form ss) counts) (All-head (CoreWithin (widths_in es)) (core_form s) (map core_form ss) within) honest h.0,
+    all_planned ss w answers loops (All-tail (CoreCounts (widths_in es)) (core_form s) (map core_form ss) counts) (All-tail (CoreWithin (widths_in es)) (core_form s) (map core_form ss) within) honest h.1,
   )
 
   safe_first : (a b : Bool) → (a && b) ≡ true → a ≡ true
@@ -174,50 +182,97 @@ module _ (boxes : List (Option BoxState)) (es : List BoundEntry) (kss : List (Li
   safe_rest true b e = e
   safe_rest false b e = absurd cc
 
-  pub all_start : (ss : List SelectCore) (answers : List (List Agreement2)) (loops : List (List LoopLevel)) → All (CoreCounts (widths_in es)) (map core_form ss) → All (CoreAlike kss) (map core_form ss) → are_safe_cores ss ≡ true
-      → AllAllowed boxes (cores_offers es ss) answers → AllLevels (cores_offers es ss) answers loops → Each (CanStart boxes) loops
-  all_start [] [] [] counts alike safe allowed h = tt
-  all_start [] [] (ls ∷ loops) counts alike safe allowed h = absurd h
-  all_start [] (given ∷ answers) loops counts alike safe allowed h = absurd h
-  all_start (s ∷ ss) [] loops counts alike safe allowed h = absurd h
-  all_start (s ∷ ss) (given ∷ answers) [] counts alike safe allowed h = absurd h
-  all_start (s ∷ ss) (given ∷ answers) (ls ∷ loops) counts alike safe allowed h = (
-    k.can_start s es kss boxes given ls (All-head (CoreCounts (widths_in es)) (core_form s) (map core_form ss) counts) (All-head (CoreAlike kss) (core_form s) (map core_form ss) alike) k.places k.typed
+  pub all_start : (ss : List SelectCore) (w : WishForm) (answers : List (List Agreement2)) (loops : List (List LoopLevel)) → All (CoreCounts (widths_in es)) (map core_form ss) → All (CoreAlike kss) (map core_form ss) → are_safe_cores ss ≡ true
+      → AllAllowed boxes w (cores_offers es ss) answers → AllLevels w (cores_offers es ss) answers loops → Each (CanStart boxes) loops
+  all_start [] w [] [] counts alike safe allowed h = tt
+  all_start [] w [] (ls ∷ loops) counts alike safe allowed h = absurd h
+  all_start [] w (given ∷ answers) loops counts alike safe allowed h = absurd h
+  all_start (s ∷ ss) w [] loops counts alike safe allowed h = absurd h
+  all_start (s ∷ ss) w (given ∷ answers) [] counts alike safe allowed h = absurd h
+  all_start (s ∷ ss) w (given ∷ answers) (ls ∷ loops) counts alike safe allowed h = (
+    k.can_start s es kss boxes w given ls (All-head (CoreCounts (widths_in es)) (core_form s) (map core_form ss) counts) (All-head (CoreAlike kss) (core_form s) (map core_form ss) alike) k.places k.typed
         (safe_first (is_safe_from s.from.items) (are_safe_cores ss) safe) allowed.0 h.0,
-    all_start ss answers loops (All-tail (CoreCounts (widths_in es)) (core_form s) (map core_form ss) counts) (All-tail (CoreAlike kss) (core_form s) (map core_form ss) alike)
+    all_start ss w answers loops (All-tail (CoreCounts (widths_in es)) (core_form s) (map core_form ss) counts) (All-tail (CoreAlike kss) (core_form s) (map core_form ss) alike)
         (safe_rest (is_safe_from s.from.items) (are_safe_cores ss) safe) allowed.1 h.1,
   )
 
-as_many : (es : List BoundEntry) (ss : List SelectCore) (answers : List (List Agreement2)) (loops : List (List LoopLevel)) → AllLevels (cores_offers es ss) answers loops → length loops ≡ length ss
-as_many es [] [] [] h = refl
-as_many es [] [] (ls ∷ loops) h = absurd h
-as_many es [] (given ∷ answers) loops h = absurd h
-as_many es (s ∷ ss) [] loops h = absurd h
-as_many es (s ∷ ss) (given ∷ answers) [] h = absurd h
-as_many es (s ∷ ss) (given ∷ answers) (ls ∷ loops) h = ap suc (as_many es ss answers loops h.1)
+as_many : (es : List BoundEntry) (ss : List SelectCore) (w : WishForm) (answers : List (List Agreement2)) (loops : List (List LoopLevel)) → AllLevels w (cores_offers es ss) answers loops → length loops ≡ length ss
+as_many es [] w [] [] h = refl
+as_many es [] w [] (ls ∷ loops) h = absurd h
+as_many es [] w (given ∷ answers) loops h = absurd h
+as_many es (s ∷ ss) w [] loops h = absurd h
+as_many es (s ∷ ss) w (given ∷ answers) [] h = absurd h
+as_many es (s ∷ ss) w (given ∷ answers) (ls ∷ loops) h = ap suc (as_many es ss w answers loops h.1)
+
+-- ---- limits
+
+module _ (boxes : List (Option BoxState)) (es : List BoundEntry) (kss : List (List ColType)) (k : Known boxes es kss) (s : Select) (w : WishForm) where
+  all_unlimited : (offers : List (List OfferForm)) (answers : List (List Agreement2)) (loops : List (List LoopLevel)) → w.limit ≡ None → AllLevels w offers answers loops → Each (Each IsUnlimited) loops
+  all_unlimited [] [] [] none h = tt
+  all_unlimited [] [] (ls ∷ loops) none h = absurd h
+  all_unlimited [] (given ∷ answers) loops none h = absurd h
+  all_unlimited (os ∷ offers) [] loops none h = absurd h
+  all_unlimited (os ∷ offers) (given ∷ answers) [] none h = absurd h
+  all_unlimited (os ∷ offers) (given ∷ answers) (ls ∷ loops) none h = (k.unwished w os given ls none h.0, all_unlimited offers answers loops none h.1)
+
+  -- a limit is promised of a query of one core alone, and then its rows come in order
+  limits : (ss : List SelectCore) (answers : List (List Agreement2)) (loops : List (List LoopLevel)) → s.cores.items ≡ ss → w ≡ wish_of s (cores_offers es ss) → All (CoreCounts (widths_in es)) (map core_form ss)
+      → All (CoreWithin (widths_in es)) (map core_form ss) → AllAllowed boxes w (cores_offers es ss) answers → AllLevels w (cores_offers es ss) answers loops
+      → Each (Each IsUnlimited) loops ⊎ ((c : SelectCore) × (l : LoopLevel) × (loops ≡ (l ∷ []) ∷ []) × ComesInOrder s c l)
+  limits [] answers loops e is counts within allowed h =
+      let none : w ≡ no_wish = is ∙ ap (λ (ss : List SelectCore). wish_for s ss []) e in
+      inl (all_unlimited [] answers loops (ap (λ (v : WishForm). v.limit) none) h)
+  limits (c ∷ d ∷ ss) answers loops e is counts within allowed h =
+      let offers = cores_offers es (c ∷ d ∷ ss) in
+      let none : w ≡ no_wish = is ∙ ap (λ (cs : List SelectCore). wish_for s cs offers) e in
+      inl (all_unlimited offers answers loops (ap (λ (v : WishForm). v.limit) none) h)
+  limits (c ∷ []) [] loops e is counts within allowed h = absurd h
+  limits (c ∷ []) (given ∷ answers) [] e is counts within allowed h = absurd h
+  limits (c ∷ []) (given ∷ []) (ls ∷ m ∷ loops) e is counts within allowed h = absurd h.1
+  limits (c ∷ []) (given ∷ a ∷ answers) (ls ∷ loops) e is counts within allowed h = absurd h.1
+  limits (c ∷ []) (given ∷ []) (ls ∷ []) e is counts within allowed h =
+      split (k.wished s c es boxes w given ls e is (All-head (CoreCounts (widths_in es)) (core_form c) [] counts) (All-head (CoreWithin (widths_in es)) (core_form c) [] within) k.places allowed.0 h.0)
+    where
+      split : Each IsUnlimited ls ⊎ ComesAlone s c ls → Each (Each IsUnlimited) (ls ∷ []) ⊎ ((c : SelectCore) × (l : LoopLevel) × (ls ∷ [] ≡ (l ∷ []) ∷ []) × ComesInOrder s c l)
+      split (inl none) = inl (none, tt)
+      split (inr alone) = inr (c, alone.level, ap (λ (m : List LoopLevel). m ∷ []) alone.only, alone.comes)
+
+in_order : (plan : LoopPlan) (s : Select) → plan.select ≡ s
+    → Each (Each IsUnlimited) (levels_in plan.loops.items) ⊎ ((c : SelectCore) × (l : LoopLevel) × (levels_in plan.loops.items ≡ (l ∷ []) ∷ []) × ComesInOrder s c l)
+    → Each (Each IsUnlimited) (levels_in plan.loops.items) ⊎ PlanInOrder plan
+in_order plan s same (inl none) = inl none
+in_order plan s same (inr (c, l, levels, comes)) = inr (record { core = c; level = l; levels = levels; comes = subst (λ (q : Select). ComesInOrder q c l) (sym same) comes })
 
 -- ---- the whole
 
-pub plan_for : (boxes : List (Option BoxState)) (bound : BoundQuery) (plan : LoopPlan) (answers : List (List Agreement2)) → CountedIsInView → CountedIsWide → PlansCanStart → PlansAreLoopPlans → IsReady boxes bound → HasPlaces bound.entries.items
-    → plan.select ≡ bound.select → AllAllowed boxes (query_offers bound) answers → AllLevels (query_offers bound) answers (levels_in plan.loops.items) → IsPlanFor boxes bound plan
-plan_for boxes bound plan answers in_view counted_wide can_start are_plans ready places same allowed levels = record { query = same; run = run; scans = λ slot. all_scans slot bound.entries.items bound.select.cores.items answers (levels_in plan.loops.items) ready.counts levels; over = over }
+pub plan_for : (boxes : List (Option BoxState)) (bound : BoundQuery) (plan : LoopPlan) (w : WishForm) (answers : List (List Agreement2)) → CountedIsInView → CountedIsWide → PlansCanStart → PlansAreLoopPlans → WishedComeInOrder → UnwishedAreUnlimited → IsReady boxes bound → HasPlaces bound.entries.items
+    → plan.select ≡ bound.select → w ≡ query_wish bound → AllAllowed boxes w (query_offers bound) answers → AllLevels w (query_offers bound) answers (levels_in plan.loops.items) → IsPlanFor boxes bound plan
+plan_for boxes bound plan w answers in_view counted_wide can_start are_plans wished unwished ready places same is_wish allowed levels = record { query = same; run = run; scans = λ slot. all_scans slot bound.entries.items bound.select.cores.items w answers (levels_in plan.loops.items) ready.counts levels; agreed = agreed; over = over }
   where
     known : Known boxes bound.entries.items ready.kinds
-    known = record { in_view = in_view; counted_wide = counted_wide; can_start = can_start; are_plans = are_plans; typed = ready.typed; places = places; wide = ready.wide }
+    known = record { in_view = in_view; counted_wide = counted_wide; can_start = can_start; are_plans = are_plans; wished = wished; unwished = unwished; typed = ready.typed; places = places; wide = ready.wide }
+
+    agreed : AreAgreed boxes bound (levels_in plan.loops.items)
+    agreed = record {
+      answers = answers;
+      allowed = subst (λ (v : WishForm). AllAllowed boxes v (query_offers bound) answers) is_wish allowed;
+      levels = subst (λ (v : WishForm). AllLevels v (query_offers bound) answers (levels_in plan.loops.items)) is_wish levels;
+    }
 
     cores : plan.select.cores.items ≡ bound.select.cores.items
     cores = ap (λ (s : _). s.cores.items) same
 
     run : CanRun boxes plan
     run = record {
-      many = (let a = as_many bound.entries.items bound.select.cores.items answers (levels_in plan.loops.items) levels in let b = length-map plan.loops.items (λ (ls : _). ls.items) in let c = ap (λ (ss : List SelectCore). length ss) cores in omega (arith, a, b, c));
-      starts = all_start boxes bound.entries.items ready.kinds known bound.select.cores.items answers (levels_in plan.loops.items) ready.counts ready.alike ready.safe allowed levels;
+      many = (let a = as_many bound.entries.items bound.select.cores.items w answers (levels_in plan.loops.items) levels in let b = length-map plan.loops.items (λ (ls : _). ls.items) in let c = ap (λ (ss : List SelectCore). length ss) cores in omega (arith, a, b, c));
+      starts = all_start boxes bound.entries.items ready.kinds known bound.select.cores.items w answers (levels_in plan.loops.items) ready.counts ready.alike ready.safe allowed levels;
       safe = ap are_safe_cores cores ∙ ready.safe;
+      limits = in_order plan bound.select same (limits boxes bound.entries.items ready.kinds known bound.select w bound.select.cores.items answers (levels_in plan.loops.items) refl is_wish ready.counts ready.view allowed levels);
     }
 
     over : AllHonest boxes → IsPlanOver (entry_rows boxes (map entry_place bound.entries.items)) plan boxes
     over honest = record {
       honest = honest;
       planned = subst (λ (ss : List SelectCore). ArePlanned (rows_at boxes) (entry_rows boxes (map entry_place bound.entries.items)) ss (levels_in plan.loops.items)) (sym cores)
-          (all_planned boxes bound.entries.items ready.kinds known bound.select.cores.items answers (levels_in plan.loops.items) ready.counts ready.view honest levels);
+          (all_planned boxes bound.entries.items ready.kinds known bound.select.cores.items w answers (levels_in plan.loops.items) ready.counts ready.view honest levels);
     }

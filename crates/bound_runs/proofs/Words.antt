@@ -1,20 +1,26 @@
 -- What the runs of loops say, in the words of med_exec and med_planner.
-use Rattle.std.proofs.Common.{◌≡◌, inl, inr, List, [], ◌∷◌, map, Option, Some, None, Result, Ok, Err, IfOk, IfErr, ap, sym, subst}
+use Rattle.std.proofs.Common.{◌≡◌, ◌∙◌, ◌+◌, ℕ, inl, inr, List, [], ◌∷◌, map, Option, Some, None, Result, Ok, Err, IfOk, IfErr, ap, sym, subst}
 use Rattle.med_value.specs.Datum.{Tuple}
 use Rattle.med_value.specs.declared.cause.Cause.{Cause}
 use Rattle.tri_expr.specs.declared.expr.Fault.TheVariants.{Range, Zero}
 use Rattle.med_query.specs.Query.{Query, Tables, IsAnswer}
 use Rattle.med_query.specs.Select.{query_of}
+use Rattle.med_query.specs.declared.select.Select.{Select}
 use Rattle.med_binder.specs.declared.bound.BoundQuery.{BoundQuery}
 use Rattle.fdw_api.specs.State.{BoxState}
 use Rattle.fdw_api.specs.declared.interface.Fault.{Fault}
 use Rattle.med_planner.specs.Planned.{entry_place, entry_rows, IsShownCause as IsTold}
 use Rattle.med_exec.specs.Running.{Served as IsServed, AllServed as BoxesServed, SlotShows as Shows, Stops as RunStops, lacks_memory, source_fails, numbers_end, query_shows as query_tells}
+use Rattle.scan_loops.specs.Pulling.{PullsAtMost, many_in}
 use Rattle.scan_loops.specs.Serving.{Served, AllServed, SlotShows, wants_memory, box_breaks}
 use Rattle.scan_loops.specs.Starting.{box_stops, numbers_end as numbers_out}
+use Rattle.loop_answers.specs.Ordered.{ComesInOrder}
 use Rattle.loop_runs.specs.Causes.{IsShownCause}
+use Rattle.loop_runs.specs.Gathering.{levels_in}
+use Rattle.loop_runs.specs.Ordering.{PullsAsAsked}
 use Rattle.loop_runs.specs.Running.{IsPlanOver, Answers, Stops, loops_stop, query_shows}
 use Rattle.loop_runs.specs.declared.running.LoopPlan.{LoopPlan}
+use Rattle.bound_runs.specs.Pulling.{PullsRows}
 use Rattle.bound_runs.specs.Running.{IsPlanFor, RunAnswers}
 
 -- ---- boxes
@@ -79,6 +85,14 @@ module _ (old : List (Option BoxState)) (bound : BoundQuery) (plan : LoopPlan) (
   stops fault new (loops_stop (box_stops (box_breaks e failed))) = source_fails e (slot_shows old new _ failed)
   stops fault new (loops_stop (numbers_out e used)) = numbers_end e (slot_shows old new _ used)
   stops fault new (query_shows c e tells) = query_tells c e (λ honest. subst (λ (q : Query). IsTold q db c) same (told (query_of plan.select) db c (tells (p.over honest))))
+
+  pub run_pulls : (new : List (Option BoxState)) → PullsAsAsked plan old new → PullsRows bound old new
+  run_pulls new h = inr (record {
+    loops = levels_in plan.loops.items;
+    agreed = p.agreed;
+    pulls = λ c l only comes bare most limit. subst (λ (n : ℕ). PullsAtMost (many_in l.source n) old new) (ap (λ (s : Select). s.offset + most) p.query)
+        (h (record { core = c; level = l; levels = only; comes = subst (λ (s : Select). ComesInOrder s c l) (sym p.query) comes }) bare most (ap (λ (s : Select). s.limit) p.query ∙ limit));
+  })
 
   pub run_stops : (fault : Fault) (new : List (Option BoxState)) → ((eb : Tables) → Stops eb plan fault old new) → RunStops (query_of bound.select) (map entry_place bound.entries.items) fault old new
   run_stops fault new h = stops fault new (h db)

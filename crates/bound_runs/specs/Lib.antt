@@ -1,3 +1,4 @@
 pub mod Offers
 pub mod Counting
+pub mod Pulling
 pub mod Running

@@ -17,9 +17,11 @@ use Rattle.scan_loops.specs.Scans.{bound_at, rows_at}
 use Rattle.scan_loops.specs.Counting.{scans_in}
 use Rattle.loop_plans.specs.Plans.{tables_by}
 use Rattle.loop_plans.specs.Premises.{AreOfKinds, RowsAreWide}
+use Rattle.loop_runs.specs.Gathering.{levels_in}
 use Rattle.loop_runs.specs.Running.{plan_levels, CanRun, IsPlanOver}
 use Rattle.loop_runs.specs.declared.running.LoopPlan.{LoopPlan}
 use Rattle.bound_runs.specs.Counting.{scans_of}
+use Rattle.bound_runs.specs.Pulling.{AreAgreed}
 
 -- The table of each entry is bound in its box, with columns of the types by which the query was bound; the query counts its entries, reads
 -- columns that are in view, compares columns of one type, and has no ON that may fault. Rows of honest boxes are as wide as their tables,
@@ -33,12 +35,13 @@ pub record IsReady (boxes : List (Option BoxState)) (bound : BoundQuery) : Type 
   pub wide : AllHonest boxes → RowsAreWide bound.entries.items (tables_by bound.entries.items (rows_at boxes))
   pub safe : are_safe_cores bound.select.cores.items ≡ true
 
--- a plan of a bound query: it may be run, it has one level for each entry of each core, and where all boxes tell the truth, it is a plan over
--- the rows of the entries' tables
+-- a plan of a bound query: it may be run, it has one level for each entry of each core, by what the boxes agreed to, and where all boxes
+-- tell the truth, it is a plan over the rows of the entries' tables
 pub record IsPlanFor (boxes : List (Option BoxState)) (bound : BoundQuery) (plan : LoopPlan) : Type 0 where
   pub query : plan.select ≡ bound.select
   pub run : CanRun boxes plan
   pub scans : (slot : ℕ) → scans_in (plan_levels plan) slot ≡ scans_of bound slot
+  pub agreed : AreAgreed boxes bound (levels_in plan.loops.items)
   pub over : AllHonest boxes → IsPlanOver (entry_rows boxes (map entry_place bound.entries.items)) plan boxes
 
 -- over these rows of its entries, where all boxes tell the truth, the query is answered so, and no cause of the run stands

@@ -1,34 +1,30 @@
 //! What the boxes agree to.
 ghost use Rattle.std.specs.Prelude.{◌≡◌, map, IfOk, IfErr};
 ghost use Rattle.fdw_api.specs.declared.interface.Fault.TheVariants.{NoMemory as WantOfMemory};
+ghost use Rattle.fdw_api.specs.Wishes.{wish_form};
 ghost use Rattle.nested_loops.specs.Joins.{Each};
 ghost use Rattle.scan_loops.specs.Slots.{states};
 ghost use Rattle.loop_plans.specs.Offered.{offer_form};
-ghost use Rattle.loop_plans.specs.Premises.{AreAllowed};
-ghost use Rattle.bound_runs.specs.Offers.{offers_in, answers_in, IsOffered, IsAgreed, AllAllowed};
+ghost use Rattle.loop_plans.specs.Premises.{IsAllowed, AreAllowed};
+ghost use Rattle.bound_runs.specs.Offers.{offers_in, answers_in, IsOffered, AllAllowed};
 
 use fdw_api::interface::Fault;
 use fdw_api::wishes::{Agreement2, Wish, Wrapper2};
 use loop_plans::LoopOffer;
-use loop_plans::law::bound_levels_can_start;
 use scan_loops::plan2_at;
 use std::alloc::Global;
 
-// What the box of an offer agrees to, no order and no limit being wished.
+// What the box of an offer agrees to under a wish.
 fn agree<W: Wrapper2>(
     slots: &Vec<Option<W>>,
     alloc: Global,
+    wish: &Wish,
     offer: &LoopOffer,
 ) -> Result<Agreement2, Fault>
     requires { IsOffered (states W.meaning slots.now.items) (offer_form offer.now) }
-    ensures ok { IfOk result (λ a. IsAgreed (states W.meaning slots.now.items) (offer_form offer.now) a) }
+    ensures ok { IfOk result (λ a. IsAllowed (states W.meaning slots.now.items) (wish_form wish.now) (offer_form offer.now) a) }
     ensures err { IfErr result (λ fault. fault ≡ WantOfMemory) }
 {
-    bound_levels_can_start();
-    let wish = Wish {
-        order: Vec::new(alloc),
-        limit: None,
-    };
     let wanted = offer.wanted.as_slice();
     let offered = offer.entry.restrictions.as_slice();
     let agreement = match plan2_at(
@@ -38,7 +34,7 @@ fn agree<W: Wrapper2>(
         offer.table,
         wanted,
         offered,
-        &wish,
+        wish,
     ) {
         Ok(agreement) => agreement,
         Err(fault) => return Err(fault),
@@ -50,15 +46,16 @@ fn agree<W: Wrapper2>(
 fn agree_core<W: Wrapper2>(
     slots: &Vec<Option<W>>,
     alloc: Global,
+    wish: &Wish,
     offers: &[LoopOffer],
 ) -> Result<Vec<Agreement2>, Fault>
     requires { Each (IsOffered (states W.meaning slots.now.items)) (map offer_form offers.now) }
-    ensures ok { IfOk result (λ all. AreAllowed (states W.meaning slots.now.items) (map offer_form offers.now) all.items) }
+    ensures ok { IfOk result (λ all. AreAllowed (states W.meaning slots.now.items) (wish_form wish.now) (map offer_form offers.now) all.items) }
     ensures err { IfErr result (λ fault. fault ≡ WantOfMemory) }
 {
     let mut all = Vec::new(alloc);
     for offer in offers {
-        let agreement = match agree(slots, alloc, offer) {
+        let agreement = match agree(slots, alloc, wish, offer) {
             Ok(agreement) => agreement,
             Err(fault) => return Err(fault),
         };
@@ -69,8 +66,8 @@ fn agree_core<W: Wrapper2>(
     Ok(all)
 }
 
-/// What the boxes agree to of the scans of a query, which were offered so: each offer is put to the box of its own source, and no order
-/// and no limit is wished. A run by these agreements is allowed as long as the tables are bound.
+/// What the boxes agree to of the scans of a query, which were offered so: each offer is put to the box of its own source, with the wish. A
+/// run by these agreements is allowed as long as the tables are bound.
 ///
 /// Refused only for want of memory.
 ///
@@ -78,15 +75,17 @@ fn agree_core<W: Wrapper2>(
 pub fn agree_query<W: Wrapper2>(
     slots: &Vec<Option<W>>,
     alloc: Global,
+    wish: &Wish,
     offers: &[Vec<LoopOffer>],
 ) -> Result<Vec<Vec<Agreement2>>, Fault>
     requires { Each (Each (IsOffered (states W.meaning slots.now.items))) (offers_in offers.now) }
-    ensures ok { IfOk result (λ all. AllAllowed (states W.meaning slots.now.items) (offers_in offers.now) (answers_in all.items)) }
+    ensures ok { IfOk result (λ all. AllAllowed (states W.meaning slots.now.items) (wish_form wish.now) (offers_in offers.now)
+        (answers_in all.items)) }
     ensures err { IfErr result (λ fault. fault ≡ WantOfMemory) }
 {
     let mut all = Vec::new(alloc);
     for core in offers {
-        let agreed = match agree_core(slots, alloc, core.as_slice()) {
+        let agreed = match agree_core(slots, alloc, wish, core.as_slice()) {
             Ok(agreed) => agreed,
             Err(fault) => return Err(fault),
         };

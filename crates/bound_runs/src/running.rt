@@ -9,6 +9,7 @@ ghost use Rattle.med_exec.specs.Running.{AllServed, Stops};
 ghost use Rattle.scan_loops.specs.Slots.{states};
 ghost use Rattle.loop_plans.specs.Premises.{HasPlaces};
 ghost use Rattle.bound_runs.specs.Counting.{scans_of, BeginsAtMost};
+ghost use Rattle.bound_runs.specs.Pulling.{PullsRows};
 ghost use Rattle.bound_runs.specs.Running.{IsReady, IsPlanFor, RunAnswers};
 
 use crate::accepting::accept_query;
@@ -19,7 +20,9 @@ use fdw_api::interface::Fault;
 use fdw_api::wishes::Wrapper2;
 use loop_plans::law::{
     bound_cores_are_in_view, bound_levels_can_start, bound_rows_are_wide, plans_are_loop_plans,
+    wished_rows_come_in_order,
 };
+use loop_plans::wish_of;
 use loop_runs::{LoopPlan, run_plan};
 use med_binder::BoundQuery;
 use med_value::Row;
@@ -40,22 +43,28 @@ fn planned<W: Wrapper2>(
     bound_rows_are_wide();
     bound_levels_can_start();
     plans_are_loop_plans();
+    wished_rows_come_in_order();
     let Ok(offers) = offer_query(alloc, &bound) else {
         return Err(Fault::NoMemory);
     };
-    let answers = match agree_query(slots, alloc, offers.as_slice()) {
+    let Ok(wish) = wish_of(alloc, &bound.select, offers.as_slice()) else {
+        return Err(Fault::NoMemory);
+    };
+    let answers = match agree_query(slots, alloc, &wish, offers.as_slice()) {
         Ok(answers) => answers,
         Err(fault) => return Err(fault),
     };
-    let Ok(loops) = accept_query(alloc, offers, answers) else {
+    let Ok(loops) = accept_query(alloc, &wish, offers, answers) else {
         return Err(Fault::NoMemory);
     };
     let BoundQuery { select, .. } = bound;
     Ok(LoopPlan { loops, select })
 }
 
-/// Answers a bound query from the boxes of its entries, by loops over their scans, whatever these take over of its conditions. For each
-/// entry of each core one scan is begun, and no other; where the run stops, no more than these. None is live afterwards.
+/// Answers a bound query from the boxes of its entries, by loops over their scans, whatever these take over of its conditions, and of the
+/// order and the limit that are wished of them. For each entry of each core one scan is begun, and no other; where the run stops, no more
+/// than these. None is live afterwards. Where the boxes agreed to a scan whose rows are shown as they come, LIMIT bounds how many are asked
+/// for, also where the run stops.
 ///
 /// # Errors
 ///
@@ -77,6 +86,7 @@ pub fn run_bound<W: Wrapper2>(
         (states W.meaning slots.new.items)) }
     ensures at_most { IfErr result (λ _. BeginsAtMost (scans_of bound) (states W.meaning slots.old.items)
         (states W.meaning slots.new.items)) }
+    ensures pulls { PullsRows bound (states W.meaning slots.old.items) (states W.meaning slots.new.items) }
 {
     if !has_places(bound.entries.as_slice()) {
         return Err(Fault::NoMemory);

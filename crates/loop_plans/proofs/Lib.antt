@@ -13,3 +13,5 @@ mod Typing
 mod Matching
 mod Beginning
 mod Sounds
+mod Orders
+mod Ordering

@@ -7,6 +7,7 @@ use Rattle.tri_expr.proofs.Forms.{two, three}
 use Rattle.med_query.specs.Form.{JoinForm, cross_form, inner_form, left_form, ChainForm, core_form, all_safe_trees, is_safe_join_form, are_safe_chains}
 use Rattle.med_binder.specs.declared.bound.BoundEntry.{BoundEntry}
 use Rattle.fdw_api.specs.declared.scan.Agree.{Agree}
+use Rattle.fdw_api.specs.Wishes.{WishForm}
 use Rattle.fdw_api.specs.declared.wishes.Agreement2.{Agreement2}
 use Rattle.nested_loops.specs.Joins.{Each}
 use Rattle.scan_offers.specs.Offers.{stays_by, later_by, marks_behind, again_by}
@@ -129,25 +130,25 @@ module _ (es : List BoundEntry) where
 
   -- ---- levels
 
-  one_safe : (read : List ℕ) (base : ℕ) (p : Part) (now : List Tree) (a : Agreement2) (l : LoopLevel) → HasSafeOn p → AllSafe now → IsLevelOf (offer_of es read base p now) a l → ChecksSafe l
-  one_safe read base p now a l on safe is =
+  one_safe : (w : WishForm) (read : List ℕ) (base : ℕ) (p : Part) (now : List Tree) (a : Agreement2) (l : LoopLevel) → HasSafeOn p → AllSafe now → IsLevelOf w (offer_of es read base p now) a l → ChecksSafe l
+  one_safe w read base p now a l on safe is =
       let o = offer_of es read base p now in
       record {
         on = ap all_safe_trees is.on ∙ chosen_safe p.outer (again_by o.offered a.base.answers.items p.on) [] (again_safe o.offered a.base.answers.items p.on on) refl;
         conditions = ap all_safe_trees is.conditions ∙ chosen_safe p.outer now (again_by o.offered a.base.answers.items now) safe (again_safe o.offered a.base.answers.items now safe);
       }
 
-  levels_safe : (read : List ℕ) (base : ℕ) (cs : List Tree) (ps : List Part) (answers : List Agreement2) (ls : List LoopLevel) → Each HasSafeOn ps → AllSafe cs → AreLevels (offers_from es read base cs ps) answers ls → Each ChecksSafe ls
-  levels_safe read base cs [] [] [] on safe h = tt
-  levels_safe read base cs [] [] (l ∷ ls) on safe h = absurd h
-  levels_safe read base cs [] (a ∷ answers) ls on safe h = absurd h
-  levels_safe read base cs (p ∷ ps) [] ls on safe h = absurd h
-  levels_safe read base cs (p ∷ ps) (a ∷ answers) [] on safe h = absurd h
-  levels_safe read base cs (p ∷ ps) (a ∷ answers) (l ∷ ls) on safe h =
+  levels_safe : (w : WishForm) (read : List ℕ) (base : ℕ) (cs : List Tree) (ps : List Part) (answers : List Agreement2) (ls : List LoopLevel) → Each HasSafeOn ps → AllSafe cs → AreLevels w (offers_from es read base cs ps) answers ls → Each ChecksSafe ls
+  levels_safe w read base cs [] [] [] on safe h = tt
+  levels_safe w read base cs [] [] (l ∷ ls) on safe h = absurd h
+  levels_safe w read base cs [] (a ∷ answers) ls on safe h = absurd h
+  levels_safe w read base cs (p ∷ ps) [] ls on safe h = absurd h
+  levels_safe w read base cs (p ∷ ps) (a ∷ answers) [] on safe h = absurd h
+  levels_safe w read base cs (p ∷ ps) (a ∷ answers) (l ∷ ls) on safe h =
       let end = further p.width base in
-      (one_safe read base p (decided end cs) a l on.0 (filtered_safe _ cs safe) h.0, levels_safe read end (undecided end cs) ps answers ls on.1 (filtered_safe _ cs safe) h.1)
+      (one_safe w read base p (decided end cs) a l on.0 (filtered_safe _ cs safe) h.0, levels_safe w read end (undecided end cs) ps answers ls on.1 (filtered_safe _ cs safe) h.1)
 
 pub safe_plans : PlansAreSafe
-safe_plans s es answers ls h levels =
-    levels_safe es (core_reads es (core_form s)) 0 (from_ons es 0 (core_form s).from ++ safe_trees (core_form s).conditions) (from_parts es 0 (core_form s).from) answers ls
+safe_plans s es w answers ls h levels =
+    levels_safe es w (core_reads es (core_form s)) 0 (from_ons es 0 (core_form s).from ++ safe_trees (core_form s).conditions) (from_parts es 0 (core_form s).from) answers ls
     (from_on es 0 (core_form s).from h) (both_safe (from_ons es 0 (core_form s).from) (safe_trees (core_form s).conditions) (ons_safe es 0 (core_form s).from h) (safe_are_safe (core_form s).conditions)) levels

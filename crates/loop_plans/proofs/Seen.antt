@@ -68,7 +68,7 @@ at_stands P (c ∷ read) at e h = split (at_stands P read at e.1) (eqb_tells at 
 
 -- ---- a row that is spread
 
-grows : (k c : ℕ) → k ≤ c → (k ≢ c) → k + 1 ≤ c
+pub grows : (k c : ℕ) → k ≤ c → (k ≢ c) → k + 1 ≤ c
 grows zero zero le ne = absurd (ne refl)
 grows zero (suc c) le ne = omega arith
 grows (suc k) zero le ne = absurd (omega (arith, le))

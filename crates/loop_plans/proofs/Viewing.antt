@@ -22,14 +22,14 @@ use Rattle.loop_plans.proofs.Counting.{most, up_to, none_first, seen, AreCounted
 
 -- ---- one expression
 
-abbrev Below : ℕ → List ℕ → Type 0
+abbrev pub Below : ℕ → List ℕ → Type 0
 Below w columns = Each (λ at. at < w) columns
 
 both_below : (w : ℕ) (a b : List ℕ) → Below w a → Below w b → Below w (a ++ b)
 both_below w a b h i = each_both (λ at. at < w) a b h i
 
 mutual
-  columns_below : (w : ℕ) (t : Tree) → IsWithin w t → Below w (columns_in t)
+  pub columns_below : (w : ℕ) (t : Tree) → IsWithin w t → Below w (columns_in t)
   columns_below w (column at) h = (h, tt)
   columns_below w (parameter at) h = tt
   columns_below w (literal v) h = tt

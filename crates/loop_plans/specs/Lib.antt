@@ -1,5 +1,6 @@
 pub mod Places
 pub mod Flat
 pub mod Offered
+pub mod Wished
 pub mod Plans
 pub mod Premises

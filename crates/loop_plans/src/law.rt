@@ -4,7 +4,7 @@
 ghost use Rattle.loop_plans.specs.Places.{ColumnsDecide, ShiftedReadsBehind, TreesReadTheirColumns};
 ghost use Rattle.loop_plans.specs.Plans.{PlansAreLoopPlans, PlansAreSafe};
 ghost use Rattle.loop_plans.specs.Premises.{CountedIsInView, CountedIsWide, SoundIsWide, PlansAreTyped, PlansArePlain};
-ghost use Rattle.loop_plans.specs.Premises.{PlansCanStart, PromisedIsAllowed};
+ghost use Rattle.loop_plans.specs.Premises.{PlansCanStart, WishedComeInOrder, UnwishedAreUnlimited};
 
 use loop_answers::law::from_is_joined;
 use scan_offers::law::{marks_tell, offers_split};
@@ -18,9 +18,9 @@ pub fn trees_read_their_columns()
     ensures shifted { ShiftedReadsBehind }
 {}
 
-/// The levels that a core's offers and the boxes' answers make are a plan of its loops, whatever the boxes answered: with their boxes they
-/// decide the conditions, and the joined rows that pass these are, in the columns that the core reads, those that the loops are to give.
-/// What they check may not fault, if no ON of the core may.
+/// The levels that a core's offers and the boxes' answers make are a plan of its loops, whatever the boxes answered, as if no limit were
+/// promised: with their boxes they decide the conditions, and the joined rows that pass these are, in the columns that the core reads, those
+/// that the loops are to give. What they check may not fault, if no ON of the core may.
 pub fn plans_are_loop_plans()
     ensures plans { PlansAreLoopPlans }
     ensures safe { PlansAreSafe }
@@ -53,9 +53,15 @@ pub fn bound_levels_are_plain()
     ensures { PlansArePlain }
 {}
 
-/// Where each box allows what the scan of its level is asked for, a run of the levels of a core may start. A box allows it of what it
-/// promised, no order and no limit being wished.
+/// Where each box allows what the scan of its level is asked for, a run of the levels of a core may start.
 pub fn bound_levels_can_start()
-    ensures start { PlansCanStart }
-    ensures promised { PromisedIsAllowed }
+    ensures { PlansCanStart }
+{}
+
+/// Where a limit is promised of the scans of a query of one core, by boxes that promise a limit only where they may, the query has one
+/// level, whose rows come in the order that ORDER BY asks for, none is checked again, and none is missed by the limit. Where no limit is
+/// wished, none is promised.
+pub fn wished_rows_come_in_order()
+    ensures wished { WishedComeInOrder }
+    ensures unwished { UnwishedAreUnlimited }
 {}

@@ -6,8 +6,10 @@ pub mod flat;
 pub mod law;
 pub mod offering;
 pub mod places;
+pub mod wishing;
 
 pub use accepting::accept_core;
 pub use flat::{FlatEntry, FlatFrom, flat_from};
 pub use offering::{LoopOffer, offer_core};
 pub use places::{columns, shifted, shifted_all};
+pub use wishing::wish_of;

@@ -6,4 +6,4 @@ use Rattle.bound_runs.proofs.accepting.accept_query.Goals as goal
 pub returns : goal.returns
 returns c =
     let none : length c.loop-offered.left.rest.items ≡ 0 = search rules in
-    levels_end _ _ _ _ _ (length-map c.loop-offered.left.rest.items _ ∙ none) c.loop-offered.invariant
+    levels_end _ _ _ _ _ _ (length-map c.loop-offered.left.rest.items _ ∙ none) c.loop-offered.invariant

@@ -1,4 +1,5 @@
 use Rattle.std.proofs.Common.{map, ap}
+use Rattle.fdw_api.specs.Wishes.{wish_form}
 use Rattle.scan_loops.specs.Slots.{states}
 use Rattle.loop_plans.specs.Offered.{offer_form}
 use Rattle.bound_runs.specs.Offers.{IsOffered}
@@ -11,5 +12,5 @@ agree-requires g c =
 
 pub returns-clause-ok : goal.returns-clause-ok
 returns-clause-ok g c =
-    goes_end (states g.W.Wrapper.meaning c.args.slots.now.items) (map offer_form c.args.offers.now) _ c.loop-offer.all.items
+    goes_end (states g.W.Wrapper.meaning c.args.slots.now.items) (wish_form c.args.wish.now) (map offer_form c.args.offers.now) _ c.loop-offer.all.items
     (ap (map offer_form) (none_left c.args.offers.now c.loop-offer.offer-index c.loop-offer-test.false)) c.loop-offer.invariant

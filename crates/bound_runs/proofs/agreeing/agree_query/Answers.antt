@@ -1,4 +1,5 @@
 use Rattle.std.proofs.Common.{map, ap, sym, subst, List}
+use Rattle.fdw_api.specs.Wishes.{wish_form}
 use Rattle.nested_loops.specs.Joins.{Each}
 use Rattle.scan_loops.specs.Slots.{states}
 use Rattle.loop_plans.specs.Offered.{offer_form}
@@ -15,5 +16,5 @@ agree_core-requires g c =
 
 pub returns-clause-ok : goal.returns-clause-ok
 returns-clause-ok g c =
-    all_go_end (states g.W.Wrapper.meaning c.args.slots.now.items) (offers_in c.args.offers.now) _ (answers_in c.loop-core.all.items)
+    all_go_end (states g.W.Wrapper.meaning c.args.slots.now.items) (wish_form c.args.wish.now) (offers_in c.args.offers.now) _ (answers_in c.loop-core.all.items)
     (ap offers_in (none_left c.args.offers.now c.loop-core.core-index c.loop-core-test.false)) c.loop-core.invariant

@@ -1,8 +1,8 @@
-use Rattle.std.proofs.Common.{map, refl}
+use Rattle.std.proofs.Common.{map, inl, refl}
 use Rattle.med_value.specs.Datum.{tuple}
 use Rattle.med_exec.proofs.Served.{all_served}
 use Rattle.scan_loops.specs.Slots.{states}
-use Rattle.bound_runs.proofs.Words.{boxes_served, run_answers, run_stops, ok_on, err_on}
+use Rattle.bound_runs.proofs.Words.{boxes_served, run_answers, run_pulls, run_stops, ok_on, err_on}
 use Rattle.scan_loops.specs.Counting.{scans_in}
 use Rattle.scan_loops.proofs.CountLemmas.{none_at_most}
 use Rattle.loop_runs.specs.Running.{plan_levels}
@@ -46,3 +46,12 @@ pub returns-clause-at_most : goal.returns-clause-at_most
 returns-clause-at_most g c =
     err_on c.run_plan.result _ _
     (λ fault h. at_most_told (scans_in (plan_levels c.in-Ok.plan)) (scans_of c.args.bound) c.in-Ok.ensures.ok.scans (states g.W.Wrapper.meaning c.args.slots.now.items) (states g.W.Wrapper.meaning c.run_plan.new.slots.items) h) c.run_plan.ensures.at_most
+
+pub returns-then-not-has_places-clause-pulls : goal.returns-then-not-has_places-clause-pulls
+returns-then-not-has_places-clause-pulls g c = inl refl
+
+pub returns-in-Err-clause-pulls : goal.returns-in-Err-clause-pulls
+returns-in-Err-clause-pulls g c = inl refl
+
+pub returns-clause-pulls : goal.returns-clause-pulls
+returns-clause-pulls g c = run_pulls (states g.W.Wrapper.meaning c.args.slots.now.items) c.args.bound c.in-Ok.plan c.in-Ok.ensures.ok (states g.W.Wrapper.meaning c.run_plan.new.slots.items) c.run_plan.ensures.pulls
