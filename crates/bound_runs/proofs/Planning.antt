@@ -69,9 +69,10 @@ entry_bound boxes es kss are k lt =
     let i = are.each k (get_or kss k []) (slice_get-get_or kss k [] there) in
     has_table boxes (source_of es k) (number_of es k) i.table i.is
 
-module _ (boxes : List (Option BoxState)) (es : List BoundEntry) where
+-- what is so of the table of each entry is so of each offer
+module _ (P : ℕ → ℕ → Type 0) (es : List BoundEntry) where
   abbrev IsEntry : ℕ → Type 0
-  IsEntry k = HasTable boxes (source_of es k) (number_of es k)
+  IsEntry k = P (source_of es k) (number_of es k)
 
   abbrev IsOfEntry : Part → Type 0
   IsOfEntry p = IsEntry p.table
@@ -91,19 +92,41 @@ module _ (boxes : List (Option BoxState)) (es : List BoundEntry) where
       let end = end_after base (chain_parts es base c) in
       (h.0, joins_parts base c.joins (flat_map chain_numbers cs) (from_parts es end cs) (chains_parts end cs) h.1)
 
-  parts_offered : (read : List ℕ) (base : ℕ) (conditions : List Tree) (ps : List Part) → Each IsOfEntry ps → Each (IsOffered boxes) (offers_from es read base conditions ps)
+  parts_offered : (read : List ℕ) (base : ℕ) (conditions : List Tree) (ps : List Part) → Each IsOfEntry ps → Each (λ (o : OfferForm). P o.source o.table) (offers_from es read base conditions ps)
   parts_offered read base conditions [] h = tt
   parts_offered read base conditions (p ∷ ps) h = (h.0, parts_offered read (further p.width base) (undecided (further p.width base) conditions) ps h.1)
 
-core_offered : (boxes : List (Option BoxState)) (es : List BoundEntry) (kss : List (List ColType)) (f : CoreForm) → AreOfKinds (bound_at boxes) es kss → CoreCounts (widths_in es) f → Each (IsOffered boxes) (core_offers es f)
-core_offered boxes es kss f are counts =
-    parts_offered boxes es (core_reads es f) 0 (core_conditions es f) (from_parts es 0 f.from)
-    (chains_parts boxes es 0 f.from (each_on (λ (k : ℕ). k < length es) (IsEntry boxes es) (flat_map chain_numbers f.from) (entry_bound boxes es kss are) (numbers_below es f counts)))
+core_offered : (P : ℕ → ℕ → Type 0) (es : List BoundEntry) (f : CoreForm) → ((k : ℕ) → k < length es → P (source_of es k) (number_of es k)) → CoreCounts (widths_in es) f → Each (λ (o : OfferForm). P o.source o.table) (core_offers es f)
+core_offered P es f so counts =
+    parts_offered P es (core_reads es f) 0 (core_conditions es f) (from_parts es 0 f.from)
+    (chains_parts P es 0 f.from (each_on (λ (k : ℕ). k < length es) (IsEntry P es) (flat_map chain_numbers f.from) so (numbers_below es f counts)))
 
 pub cores_offered : (boxes : List (Option BoxState)) (es : List BoundEntry) (kss : List (List ColType)) (ss : List SelectCore) → AreOfKinds (bound_at boxes) es kss → All (CoreCounts (widths_in es)) (map core_form ss) → Each (Each (IsOffered boxes)) (cores_offers es ss)
 cores_offered boxes es kss [] are counts = tt
 cores_offered boxes es kss (s ∷ ss) are counts =
-    (core_offered boxes es kss (core_form s) are (All-head (CoreCounts (widths_in es)) (core_form s) (map core_form ss) counts), cores_offered boxes es kss ss are (All-tail (CoreCounts (widths_in es)) (core_form s) (map core_form ss) counts))
+    (core_offered (HasTable boxes) es (core_form s) (entry_bound boxes es kss are) (All-head (CoreCounts (widths_in es)) (core_form s) (map core_form ss) counts), cores_offered boxes es kss ss are (All-tail (CoreCounts (widths_in es)) (core_form s) (map core_form ss) counts))
+
+-- and of each level that is made of it
+each_level : (P : ℕ → ℕ → Type 0) (w : WishForm) (os : List OfferForm) (given : List Agreement2) (ls : List LoopLevel) → Each (λ (o : OfferForm). P o.source o.table) os → AreLevels w os given ls → Each (λ (l : LoopLevel). P l.source l.table.number) ls
+each_level P w [] [] [] so h = tt
+each_level P w [] [] (l ∷ ls) so h = absurd h
+each_level P w [] (a ∷ given) ls so h = absurd h
+each_level P w (o ∷ os) [] ls so h = absurd h
+each_level P w (o ∷ os) (a ∷ given) [] so h = absurd h
+each_level P w (o ∷ os) (a ∷ given) (l ∷ ls) so h =
+    (subst (λ (s : ℕ). P s l.table.number) (sym h.0.source) (subst (λ (t : ℕ). P o.source t) (sym h.0.table) so.0), each_level P w os given ls so.1 h.1)
+
+pub all_levels_so : (P : ℕ → ℕ → Type 0) (es : List BoundEntry) (ss : List SelectCore) (w : WishForm) (answers : List (List Agreement2)) (loops : List (List LoopLevel)) → ((k : ℕ) → k < length es → P (source_of es k) (number_of es k)) → All (CoreCounts (widths_in es)) (map core_form ss)
+    → AllLevels w (cores_offers es ss) answers loops → Each (Each (λ (l : LoopLevel). P l.source l.table.number)) loops
+all_levels_so P es [] w [] [] so counts h = tt
+all_levels_so P es [] w [] (ls ∷ loops) so counts h = absurd h
+all_levels_so P es [] w (given ∷ answers) loops so counts h = absurd h
+all_levels_so P es (s ∷ ss) w [] loops so counts h = absurd h
+all_levels_so P es (s ∷ ss) w (given ∷ answers) [] so counts h = absurd h
+all_levels_so P es (s ∷ ss) w (given ∷ answers) (ls ∷ loops) so counts h = (
+  each_level P w (core_offers es (core_form s)) given ls (core_offered P es (core_form s) so (All-head (CoreCounts (widths_in es)) (core_form s) (map core_form ss) counts)) h.0,
+  all_levels_so P es ss w answers loops so (All-tail (CoreCounts (widths_in es)) (core_form s) (map core_form ss) counts) h.1,
+)
 
 -- ---- the loops of a core
 

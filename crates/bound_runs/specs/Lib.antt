@@ -2,3 +2,4 @@ pub mod Offers
 pub mod Counting
 pub mod Pulling
 pub mod Running
+pub mod Starting

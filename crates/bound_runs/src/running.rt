@@ -5,12 +5,15 @@ ghost use Rattle.med_query.specs.Select.{query_of};
 ghost use Rattle.fdw_api.specs.declared.interface.Fault.TheVariants.{NoMemory as WantOfMemory};
 ghost use Rattle.med_planner.specs.Planned.{entry_place};
 ghost use Rattle.med_exec.specs.Counting.{BeginsScans};
-ghost use Rattle.med_exec.specs.Running.{AllServed, Stops};
+ghost use Rattle.med_exec.specs.Holding.{HoldsOf};
+ghost use Rattle.med_exec.specs.Rests.{Rests, held, IsRunning};
+ghost use Rattle.med_exec.specs.Running.{ServesRun, AllServed, Stops, Begun, none_held};
 ghost use Rattle.scan_loops.specs.Slots.{states};
 ghost use Rattle.loop_plans.specs.Premises.{HasPlaces};
 ghost use Rattle.bound_runs.specs.Counting.{scans_of, BeginsAtMost};
 ghost use Rattle.bound_runs.specs.Pulling.{PullsRows};
 ghost use Rattle.bound_runs.specs.Running.{IsReady, IsPlanFor, RunAnswers};
+ghost use Rattle.bound_runs.specs.Starting.{HoldsFor};
 
 use crate::accepting::accept_query;
 use crate::agreeing::agree_query;
@@ -23,8 +26,10 @@ use loop_plans::law::{
     wished_rows_come_in_order,
 };
 use loop_plans::wish_of;
-use loop_runs::{LoopPlan, run_plan};
+use loop_runs::{LoopPlan, is_shown, run_plan, start_plan};
 use med_binder::BoundQuery;
+use med_exec::Run;
+use med_exec::law::runs_have_rests;
 use med_value::Row;
 use std::alloc::Global;
 
@@ -96,4 +101,55 @@ pub fn run_bound<W: Wrapper2>(
         Err(fault) => return Err(fault),
     };
     run_plan(alloc, plan, slots)
+}
+
+/// Begins the run of a bound query over the boxes of its entries. For each entry of each core one scan is begun, and no other; where it is
+/// refused, no more than these, and none is then live. Where the rows of the plan are shown as they come, the run holds these scans, each
+/// of its entry's table, and no row is asked for. Any other plan is run to its end, and the run holds its answer.
+///
+/// # Errors
+///
+/// As of [`run_bound`].
+///
+/// PostgreSQL: Writing a Foreign Data Wrapper, `BeginForeignScan`.
+pub fn start_bound<W: Wrapper2>(
+    slots: &mut Vec<Option<W>>,
+    alloc: Global,
+    bound: BoundQuery,
+) -> Result<Run, Fault>
+    requires ready { IsReady (states W.meaning slots.old.items) bound }
+    ensures boxes { IfOk result (λ run. ServesRun none_held (held run) (states W.meaning slots.old.items)
+        (states W.meaning slots.new.items)) }
+    ensures running { IfOk result (λ run. IsRunning run (states W.meaning slots.new.items)) }
+    ensures holds { IfOk result (λ run. HoldsOf (map entry_place bound.entries.items) run (states W.meaning slots.new.items)) }
+    ensures ok { IfOk result (λ run. Begun (query_of bound.select) (map entry_place bound.entries.items)
+        (Rests run (states W.meaning slots.new.items)) (states W.meaning slots.old.items)) }
+    ensures begins { IfOk result (λ _. BeginsScans (scans_of bound) (states W.meaning slots.old.items)
+        (states W.meaning slots.new.items)) }
+    ensures scans { IfOk result (λ run. HoldsFor bound (states W.meaning slots.old.items) run (states W.meaning slots.new.items)) }
+    ensures ended { IfErr result (λ _. AllServed (states W.meaning slots.old.items) (states W.meaning slots.new.items)) }
+    ensures err { IfErr result (λ fault. Stops (query_of bound.select) (map entry_place bound.entries.items) fault
+        (states W.meaning slots.old.items) (states W.meaning slots.new.items)) }
+    ensures at_most { IfErr result (λ _. BeginsAtMost (scans_of bound) (states W.meaning slots.old.items)
+        (states W.meaning slots.new.items)) }
+    ensures pulls { IfErr result (λ _. PullsRows bound (states W.meaning slots.old.items) (states W.meaning slots.new.items)) }
+{
+    runs_have_rests();
+    if !has_places(bound.entries.as_slice()) {
+        return Err(Fault::NoMemory);
+    }
+    let plan = match planned(slots, alloc, bound) {
+        Ok(plan) => plan,
+        Err(fault) => return Err(fault),
+    };
+    if is_shown(&plan) {
+        return match start_plan(alloc, plan, slots) {
+            Ok(run) => Ok(Run::streamed(run)),
+            Err(fault) => Err(fault),
+        };
+    }
+    match run_plan(alloc, plan, slots) {
+        Ok(rows) => Ok(Run::held(rows)),
+        Err(fault) => Err(fault),
+    }
 }

@@ -9,3 +9,4 @@ mod Decided
 pub mod Counts
 mod Answering
 mod Pulls
+mod Begun

@@ -8,3 +8,4 @@ pub mod Counting
 pub mod Pulling
 pub mod Rests
 pub mod Leaving
+pub mod Holding

@@ -1,5 +1,5 @@
 -- The tables of a run's scans, from call to call.
-use Rattle.std.proofs.Common.{◌≡◌, ℕ, List, Option, Some, slice_get, Contains, refl, ap, sym, ◌∙◌, subst}
+use Rattle.std.proofs.Common.{◌≡◌, List, Option, Some, Contains, ap, sym, ◌∙◌, subst}
 use Rattle.fdw_api.specs.State.{Scan, BoxState, scan_of}
 use Rattle.med_exec.specs.declared.running.Run.{Run}
 use Rattle.med_exec.specs.Running.{Held}

@@ -1,26 +1,20 @@
 -- The rows that a run gave, one after the other.
-use Rattle.std.proofs.Common.{◌≡◌, ℕ, ◌+◌, ◌≤◌, true, false, List, [], ◌∷◌, ◌++◌, length, Option, Some, None, map, refl, ap, sym, subst, ◌∙◌, inl, inr, arith}
+use Rattle.std.proofs.Common.{◌≡◌, ℕ, ◌+◌, true, false, List, [], ◌∷◌, ◌++◌, length, Option, Some, None, map, refl, ap, sym, subst, inl, inr, arith}
 use Rattle.std.proofs.lemmas.Bool.{leb-true, leb-false}
 use Rattle.std.proofs.lemmas.List.{append-nil, length-map}
 use Rattle.med_value.specs.Datum.{Tuple, tuple}
 use Rattle.med_value.specs.declared.value.Row.{Row}
 use Rattle.fdw_api.specs.State.{BoxState}
 use Rattle.cursor_syntax.specs.CursorTree.{CountTree, some_rows, all_rows}
-use Rattle.med_exec.specs.Running.{GivesNext, Breaks, wants_memory, box_breaks}
-use Rattle.med_exec.specs.Rests.{Rests, rows_left, LessLeft}
+use Rattle.med_exec.specs.Running.{GivesNext, EndsAt, Breaks, wants_memory, box_breaks}
+use Rattle.med_exec.specs.Rests.{Rests}
 use Rattle.med_exec.specs.declared.running.Run.{Run}
-use Rattle.med_exec.proofs.Left.{rests_none}
 use Rattle.fdw_api.specs.declared.interface.Fault.{Fault}
-use Rattle.open_cursors.specs.Fetching.{AreEnough, has_enough, GivesNone, no_memory, box_fails, cause_of}
+use Rattle.open_cursors.specs.Fetching.{IsWithin, AreEnough, has_enough, GivesNone, no_memory, box_fails, cause_of}
 
 -- these rows were given: followed by what the run may give now, they are what it could give first
 abbrev pub HasGiven : Run → List (Option BoxState) → List Row → Run → List (Option BoxState) → Type 0
 HasGiven first old rows run now = (rest : List Tuple) → Rests run now rest → Rests first old (map tuple rows ++ rest)
-
--- so many are no more than were asked for
-abbrev pub IsWithin : CountTree → ℕ → Type 0
-IsWithin (some_rows n) given = given ≤ n
-IsWithin all_rows given = Unit {0}
 
 pub none_given : (first : Run) (old : List (Option BoxState)) (rows : List Row) → rows ≡ [] → HasGiven first old rows first old
 none_given first old rows e rest h = subst (λ (rs : List Row). Rests first old (map tuple rs ++ rest)) (sym e) h
@@ -37,10 +31,11 @@ one_more first before after old now next rows new row e given gives rest h =
 pub all_given : (first before after : Run) (old now next : List (Option BoxState)) (rows : List Row) → HasGiven first old rows before now → GivesNext (Rests before now) None (Rests after next) → Rests first old (map tuple rows)
 all_given first before after old now next rows given gives = subst (λ (xs : List Tuple). Rests first old xs) (append-nil (map tuple rows)) (given [] gives)
 
-pub all_then : (first before after : Run) (old now next : List (Option BoxState)) (rows : List Row) → HasGiven first old rows before now → GivesNext (Rests before now) None (Rests after next) → LessLeft None (rows_left before now) (rows_left after next)
+-- behind the end nothing is left
+pub all_then : (first before after : Run) (old now next : List (Option BoxState)) (rows : List Row) → HasGiven first old rows before now → GivesNext (Rests before now) None (Rests after next) → EndsAt None (Rests after next)
     → (left : List Tuple) → Rests after next left → Rests first old (map tuple rows ++ left)
-all_then first before after old now next rows given gives fewer left h =
-    subst (λ (xs : List Tuple). Rests first old (map tuple rows ++ xs)) (sym (rests_none before after now next gives fewer left h)) (given [] gives)
+all_then first before after old now next rows given gives over left h =
+    subst (λ (xs : List Tuple). Rests first old (map tuple rows ++ xs)) (sym (over left h)) (given [] gives)
 
 -- ---- so many
 

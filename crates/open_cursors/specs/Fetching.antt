@@ -1,6 +1,6 @@
 -- What FETCH and CLOSE do to the boxes, and why FETCH fails (SQL:2016, <fetch statement>, <close statement>; PostgreSQL: Writing a
 -- Foreign Data Wrapper, IterateForeignScan, EndForeignScan).
-use Rattle.std.specs.Prelude.{◌≡◌, ◌<◌, ◌⊎◌, ℕ, Bool, false, nat_le, List, ◌++◌, length, Option}
+use Rattle.std.specs.Prelude.{◌≡◌, ◌<◌, ◌≤◌, ◌+◌, ◌⊎◌, ℕ, Bool, false, nat_le, List, [], ◌++◌, length, Option, Some}
 use Rattle.med_value.specs.Datum.{Tuple}
 use Rattle.med_value.specs.declared.cause.Cause.{Cause}
 use Rattle.med_value.specs.declared.cause.Cause.TheVariants.{OutOfMemory, SourceFault}
@@ -12,11 +12,17 @@ use Rattle.med_exec.specs.declared.running.Run.{Run}
 use Rattle.med_exec.specs.Running.{AllHonest, ServesRun, SlotShows, HasFailed}
 use Rattle.med_exec.specs.Rests.{Rests, held, IsRunning}
 use Rattle.med_exec.specs.Leaving.{KeepTables}
+use Rattle.med_exec.specs.Pulling.{levels_in, slot_in, skip_in, limit_in, pulled_at, PullsAtMost, PullsNone, many_in, IsBareRun, pulls_left}
 
 -- so many are as many as were asked for
 abbrev pub has_enough : CountTree → ℕ → Bool
 has_enough (some_rows n) given = nat_le n given
 has_enough all_rows given = false
+
+-- so many are no more than were asked for
+abbrev pub IsWithin : CountTree → ℕ → Type 0
+IsWithin (some_rows n) given = given ≤ n
+IsWithin all_rows given = Unit {0}
 
 -- so many rows are as many as were asked for, or fewer, which are all that were left
 abbrev pub AreEnough : CountTree → List Tuple → (List Tuple → Type 0) → Type 0
@@ -33,6 +39,21 @@ pub record GivesRows (run : Run) (asked : CountTree) (old : List (Option BoxStat
   pub some : AllHonest old → (left : List Tuple) × Rests after new left
   pub gives : AllHonest old → (left : List Tuple) → Rests after new left → Rests run old (rows ++ left)
   pub enough : AllHonest old → AreEnough asked rows (Rests run old)
+
+-- A run was asked for a row so many times. One that holds its answer asks the boxes for no row. Of one over one table of whose rows nothing
+-- is checked again, that table's box gives no more than OFFSET passes and one each time, and no other box gives any; what it gives is taken
+-- off what OFFSET passes, and off what LIMIT leaves, before the next FETCH.
+pub record PullsFor (times : ℕ) (run : Run) (old : List (Option BoxState)) (after : Run) (new : List (Option BoxState)) : Type 0 where
+  pub same : levels_in after ≡ levels_in run
+  pub none : levels_in run ≡ [] → PullsNone old new
+  pub most : IsBareRun (levels_in run) → PullsAtMost (many_in (slot_in run) (skip_in run + times)) old new
+  pub offset : IsBareRun (levels_in run) → pulled_at new (slot_in run) + skip_in after ≤ pulled_at old (slot_in run) + (skip_in run + times)
+  pub limit : IsBareRun (levels_in run) → (n : ℕ) → limit_in run ≡ Some n
+      → (m : ℕ) × (limit_in after ≡ Some m) × (pulled_at new (slot_in run) + pulls_left (skip_in after) m ≤ pulled_at old (slot_in run) + pulls_left (skip_in run) n)
+
+-- FETCH asks for a row no more often than for so many rows.
+abbrev pub PullsFetched : CountTree → Run → List (Option BoxState) → Run → List (Option BoxState) → Type 0
+PullsFetched asked run old after new = (times : ℕ) × IsWithin asked times × PullsFor times run old after new
 
 -- the cause that a fault of a box is told by
 abbrev pub cause_of : Fault → Cause

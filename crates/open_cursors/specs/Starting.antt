@@ -53,19 +53,8 @@ pub record RestsOver (q : Query) (places : List Place) (boxes : List (Option Box
       → IsAnswer q db rows
   pub clear : AllHonest boxes → (db : Tables) → SameRows (entry_rows boxes places) db → (c : Cause) → IsShownCause q db c → ⊥
 
--- a live scan of the box in this slot is of one of these tables, which is bound, with its columns' types
-pub record ScansOne (places : List Place) (slot number : ℕ) (s : BoxState) : Type 0 where
-  pub scan : Scan
-  pub live : scan_of s number ≡ Some scan
-  pub place : Place
-  pub is_one : Contains places place
-  pub source : place.source ≡ slot
-  pub table : place.table ≡ scan.table
-  pub bound : IsTableOf s scan.table scan.kinds
-
--- each scan that a run holds is live, and of one of these tables
-abbrev pub HoldsOf : List Place → Run → List (Option BoxState) → Type 0
-HoldsOf places run boxes = (slot number : ℕ) → Contains (held run slot) number → BoxAt boxes slot (ScansOne places slot number)
+-- of which tables the scans are that a run holds
+pub use Rattle.med_exec.specs.Holding.{ScansOne, HoldsOf}
 
 -- The query of a cursor was begun over the boxes, which read each of its tables once, and runs.
 pub record Starts (o : Objects) (user : Name) (bound : List Attached) (q : SelectTree) (full : Bool) (old : List (Option BoxState))

@@ -3,18 +3,18 @@ ghost use Rattle.std.specs.Prelude.{◌≡◌, map, IfOk, IfErr};
 ghost use Rattle.med_value.specs.Datum.{tuple};
 ghost use Rattle.cursor_syntax.specs.CursorView.{count_tree};
 ghost use Rattle.med_exec.specs.Slots.{states};
-ghost use Rattle.med_exec.specs.Counting.{none_in, BeginsScans, PullsRows};
+ghost use Rattle.med_exec.specs.Counting.{none_in, BeginsScans};
 ghost use Rattle.med_exec.specs.Running.{ServesRun, Breaks, none_held};
 ghost use Rattle.med_exec.specs.Rests.{held, IsRunning, IsHeld};
 ghost use Rattle.open_cursors.specs.Open.{opened, held_by, AreHeld, AreOwn};
-ghost use Rattle.open_cursors.specs.Fetching.{has_enough, GivesRows, GivesNone, cause_of};
+ghost use Rattle.open_cursors.specs.Fetching.{has_enough, GivesRows, GivesNone, PullsFetched, cause_of};
 
 use crate::cursors::OpenCursor;
 use cursor_syntax::FetchCount;
 use fdw_api::interface::Fault;
 use fdw_api::wishes::Wrapper2;
 use med_exec::Run;
-use med_exec::law::{other_runs_are_left, running_is_held, services_join};
+use med_exec::law::{other_runs_are_left, running_is_held, runs_have_rests, services_join};
 use med_value::Row;
 use std::alloc::Global;
 
@@ -29,7 +29,8 @@ fn is_enough(asked: FetchCount, given: usize) -> bool
 }
 
 /// Gives as many rows of a run as are asked for, or all that are left where they are fewer, in their order. It asks the run for no row
-/// beyond them, and the next FETCH goes on behind them. No scan is begun, and no box gives a row: the run holds its answer.
+/// beyond them, and the next FETCH goes on behind them. No scan is begun. No box gives a row where the run holds its answer; where it holds
+/// the scan of one table of whose rows nothing is checked again, its box gives no more rows than are asked for, after those that OFFSET passes.
 ///
 /// After a fault the run is good for its close alone.
 ///
@@ -49,18 +50,19 @@ pub fn fetch<W: Wrapper2>(
     ensures same { held run.new ≡ held run.old }
     ensures held { IsHeld run.new (states W.meaning slots.new.items) }
     ensures begins { BeginsScans none_in (states W.meaning slots.old.items) (states W.meaning slots.new.items) }
-    ensures pulls { PullsRows none_in (states W.meaning slots.old.items) (states W.meaning slots.new.items) }
+    ensures pulls { PullsFetched (count_tree asked) run.old (states W.meaning slots.old.items) run.new (states W.meaning slots.new.items) }
     ensures ok { IfOk result (λ rows. GivesRows run.old (count_tree asked) (states W.meaning slots.old.items) (map tuple rows.items)
         run.new (states W.meaning slots.new.items)) }
     ensures err { IfErr result (λ fault. GivesNone (cause_of fault)
         (states W.meaning slots.old.items) (states W.meaning slots.new.items)) }
     ensures breaks { IfErr result (λ fault. Breaks fault (states W.meaning slots.old.items) (states W.meaning slots.new.items)) }
 {
+    runs_have_rests();
     services_join();
     running_is_held();
     let mut rows = Vec::new(alloc);
     while !is_enough(asked, rows.len()) {
-        let row = match run.next(slots) {
+        let row = match run.next(alloc, slots) {
             Ok(Some(row)) => row,
             Ok(None) => return Ok(rows),
             Err(fault) => return Err(fault),

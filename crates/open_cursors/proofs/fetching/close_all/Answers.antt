@@ -1,6 +1,5 @@
 use Rattle.std.proofs.Common.{map}
 use Rattle.med_exec.specs.Slots.{states}
-use Rattle.med_exec.specs.Running.{none_held}
 use Rattle.open_cursors.specs.Open.{opened, held_by}
 use Rattle.open_cursors.proofs.Closing.{last_held, front_own, front_held, front_served}
 use Rattle.open_cursors.proofs.fetching.close_all.Goals as goal

@@ -1,18 +1,17 @@
-use Rattle.std.proofs.Common.{◌≡◌, ◌∙◌, ◌+◌, List, length-append, true, false, [], refl, ◌∷◌, ◌++◌, Some, None, length, ap, sym, subst, arith}
+use Rattle.std.proofs.Common.{◌≡◌, ◌∙◌, ◌+◌, ℕ, List, length-append, true, false, [], refl, ◌∷◌, ◌++◌, Some, None, length, ap, sym, subst, arith}
 use Rattle.std.proofs.lemmas.Grind.{common_steps}
 use Rattle.med_value.specs.Datum.{tuple}
 use Rattle.med_value.specs.declared.value.Row.{Row}
 use Rattle.cursor_syntax.specs.CursorView.{count_tree}
 use Rattle.med_exec.specs.Slots.{states}
 use Rattle.med_exec.specs.Counting.{none_in}
-use Rattle.med_exec.specs.Running.{AllHonest, GivesNext}
-use Rattle.med_exec.specs.Rests.{Rests, rows_left, LessLeft, held}
-use Rattle.open_cursors.specs.Fetching.{has_enough}
-use Rattle.med_exec.proofs.Counted.{begins_none, pulls_none}
-use Rattle.med_exec.proofs.Left.{rests_some}
+use Rattle.med_exec.specs.Running.{AllHonest, GivesNext, EndsAt}
+use Rattle.med_exec.specs.Rests.{Rests, held}
+use Rattle.open_cursors.specs.Fetching.{has_enough, IsWithin, PullsFor}
+use Rattle.med_exec.proofs.Counted.{begins_none}
 use Rattle.open_cursors.proofs.Kept.{tables_itself, tables_on}
-use Rattle.open_cursors.proofs.Counts.{begins_on, pulls_on}
-use Rattle.open_cursors.proofs.Rows.{IsWithin, one_more, all_given, all_then, within_more, none_given, within_none, enough_given, all_there, gives_none}
+use Rattle.open_cursors.proofs.Counts.{begins_on, none_called, one_called}
+use Rattle.open_cursors.proofs.Rows.{one_more, all_given, all_then, within_more, none_given, within_none, enough_given, all_there, gives_none}
 use Rattle.open_cursors.proofs.fetching.fetch.Goals as goal
 
 pub returns-in-Err-clause-breaks : goal.returns-in-Err-clause-breaks
@@ -20,7 +19,7 @@ returns-in-Err-clause-breaks g c =
     let m = g.W.Wrapper.meaning in
     let own = held c.next.new.self in
     let new = states m c.next.new.slots.items in
-    c.services_join.ensures.broken (held c.args.run.now) (held c.loop-asked.run) own own (states m c.args.slots.now.items) (states m c.loop-asked.slots.items) new new c.in-Err.fault c.loop-asked.invariant.boxes c.in-Err.ensures.err (c.services_join.ensures.same own new)
+    c.services_join.ensures.broken (held c.args.run.now) (held c.loop-alloc.run) own own (states m c.args.slots.now.items) (states m c.loop-alloc.slots.items) new new c.in-Err.fault c.loop-alloc.invariant.boxes c.in-Err.ensures.err (c.services_join.ensures.same own new)
 
 pub returns-in-Err-clause-err : goal.returns-in-Err-clause-err
 returns-in-Err-clause-err g c = gives_none _ _ _ (returns-in-Err-clause-breaks g c)
@@ -29,87 +28,74 @@ pub returns-in-Ok-None-clause-ok : goal.returns-in-Ok-None-clause-ok
 returns-in-Ok-None-clause-ok g c =
     let m = g.W.Wrapper.meaning in
     let old = states m c.args.slots.now.items in
-    let now = states m c.loop-asked.slots.items in
+    let now = states m c.loop-alloc.slots.items in
     let next = states m c.next.new.slots.items in
-    let gives : AllHonest now → GivesNext (Rests c.loop-asked.run now) None (Rests c.next.new.self next) = rw c.in-Ok-None.field-0-is at c.in-Ok-None.ensures.gives in
-    let fewer : LessLeft None (rows_left c.loop-asked.run now) (rows_left c.next.new.self next) = rw c.in-Ok-None.field-0-is at c.in-Ok-None.ensures.fewer in
-    let counted : c.len.result ≡ length c.loop-asked.rows.items = c.len.ensures ∙ c.loop-asked.rows.ok.0 in
-    let more : has_enough (count_tree c.args.asked) (length c.loop-asked.rows.items) ≡ false = ap (has_enough (count_tree c.args.asked)) (sym counted) ∙ sym c.is_enough.ensures ∙ c.loop-asked-test.true in
+    let gives : AllHonest now → GivesNext (Rests c.loop-alloc.run now) None (Rests c.next.new.self next) = rw c.in-Ok-None.field-0-is at c.in-Ok-None.ensures.gives in
+    let over : AllHonest now → EndsAt None (Rests c.next.new.self next) = rw c.in-Ok-None.field-0-is at c.in-Ok-None.ensures.over in
+    let counted : c.len.result ≡ length c.loop-alloc.rows.items = c.len.ensures ∙ c.loop-alloc.rows.ok.0 in
+    let more : has_enough (count_tree c.args.asked) (length c.loop-alloc.rows.items) ≡ false = ap (has_enough (count_tree c.args.asked)) (sym counted) ∙ sym c.is_enough.ensures ∙ c.loop-alloc-test.true in
     record {
-      served = c.services_join.ensures.joined (held c.args.run.now) (held c.loop-asked.run) (held c.next.new.self) old now next c.loop-asked.invariant.boxes c.next.ensures.boxes;
-      same = c.next.ensures.same ∙ c.loop-asked.invariant.same;
-      tables = tables_on c.loop-asked.run (held c.args.run.now) old now next c.loop-asked.invariant.same c.loop-asked.invariant.running c.loop-asked.invariant.tables c.in-Ok-None.ensures.tables;
+      served = c.services_join.ensures.joined (held c.args.run.now) (held c.loop-alloc.run) (held c.next.new.self) old now next c.loop-alloc.invariant.boxes c.next.ensures.boxes;
+      same = c.next.ensures.same ∙ c.loop-alloc.invariant.same;
+      tables = tables_on c.loop-alloc.run (held c.args.run.now) old now next c.loop-alloc.invariant.same c.loop-alloc.invariant.running c.loop-alloc.invariant.tables c.in-Ok-None.ensures.tables;
       running = c.in-Ok-None.ensures.running;
-      some = λ honest. rests_some c.next.new.self next c.in-Ok-None.ensures.running (c.services_join.ensures.honest (held c.loop-asked.run) (held c.next.new.self) now next c.next.ensures.boxes (c.services_join.ensures.honest (held c.args.run.now) (held c.loop-asked.run) old now c.loop-asked.invariant.boxes honest));
-      gives = λ honest. all_then c.args.run.now c.loop-asked.run c.next.new.self old now next c.loop-asked.rows.items (c.loop-asked.invariant.given honest)
-          (gives (c.services_join.ensures.honest (held c.args.run.now) (held c.loop-asked.run) old now c.loop-asked.invariant.boxes honest)) fewer;
-      enough = λ honest. all_there (count_tree c.args.asked) c.loop-asked.rows.items (Rests c.args.run.now old) more
-          (all_given c.args.run.now c.loop-asked.run c.next.new.self old now next c.loop-asked.rows.items (c.loop-asked.invariant.given honest)
-          (gives (c.services_join.ensures.honest (held c.args.run.now) (held c.loop-asked.run) old now c.loop-asked.invariant.boxes honest)));
+      some = λ honest. c.runs_have_rests.ensures c.next.new.self next;
+      gives = λ honest. all_then c.args.run.now c.loop-alloc.run c.next.new.self old now next c.loop-alloc.rows.items (c.loop-alloc.invariant.given honest)
+          (gives (c.services_join.ensures.honest (held c.args.run.now) (held c.loop-alloc.run) old now c.loop-alloc.invariant.boxes honest))
+          (over (c.services_join.ensures.honest (held c.args.run.now) (held c.loop-alloc.run) old now c.loop-alloc.invariant.boxes honest));
+      enough = λ honest. all_there (count_tree c.args.asked) c.loop-alloc.rows.items (Rests c.args.run.now old) more
+          (all_given c.args.run.now c.loop-alloc.run c.next.new.self old now next c.loop-alloc.rows.items (c.loop-alloc.invariant.given honest)
+          (gives (c.services_join.ensures.honest (held c.args.run.now) (held c.loop-alloc.run) old now c.loop-alloc.invariant.boxes honest)));
     }
 
-pub loop-asked-preserved : goal.loop-asked-preserved
-loop-asked-preserved g c =
+pub loop-alloc-preserved : goal.loop-alloc-preserved
+loop-alloc-preserved g c =
     let m = g.W.Wrapper.meaning in
     let old = states m c.args.slots.now.items in
-    let now = states m c.loop-asked.slots.items in
+    let now = states m c.loop-alloc.slots.items in
     let next = states m c.next.new.slots.items in
-    let pushed : c.push.new.self.items ≡ c.loop-asked.rows.items ++ (c.in-Ok-Some.row ∷ []) = grind (arith, common_steps) in
-    let gives : AllHonest now → GivesNext (Rests c.loop-asked.run now) (Some (tuple c.in-Ok-Some.row)) (Rests c.next.new.self next) = rw c.in-Ok-Some.field-0-is at c.in-Ok-Some.ensures.gives in
-    let before : c.len.result ≡ length c.loop-asked.rows.items = c.len.ensures ∙ c.loop-asked.rows.ok.0 in
-    let more : has_enough (count_tree c.args.asked) (length c.loop-asked.rows.items) ≡ false = ap (has_enough (count_tree c.args.asked)) (sym before) ∙ sym c.is_enough.ensures ∙ c.loop-asked-test.true in
-    let counted : length c.loop-asked.rows.items + 1 ≡ length c.push.new.self.items = omega (arith, sym (ap (λ (rs : List Row). length rs) pushed ∙ length-append c.loop-asked.rows.items (c.in-Ok-Some.row ∷ []))) in
+    let pushed : c.push.new.self.items ≡ c.loop-alloc.rows.items ++ (c.in-Ok-Some.row ∷ []) = grind (arith, common_steps) in
+    let gives : AllHonest now → GivesNext (Rests c.loop-alloc.run now) (Some (tuple c.in-Ok-Some.row)) (Rests c.next.new.self next) = rw c.in-Ok-Some.field-0-is at c.in-Ok-Some.ensures.gives in
+    let before : c.len.result ≡ length c.loop-alloc.rows.items = c.len.ensures ∙ c.loop-alloc.rows.ok.0 in
+    let more : has_enough (count_tree c.args.asked) (length c.loop-alloc.rows.items) ≡ false = ap (has_enough (count_tree c.args.asked)) (sym before) ∙ sym c.is_enough.ensures ∙ c.loop-alloc-test.true in
+    let counted : length c.loop-alloc.rows.items + 1 ≡ length c.push.new.self.items = omega (arith, sym (ap (λ (rs : List Row). length rs) pushed ∙ length-append c.loop-alloc.rows.items (c.in-Ok-Some.row ∷ []))) in
     record {
-      boxes = c.services_join.ensures.joined (held c.args.run.now) (held c.loop-asked.run) (held c.next.new.self) (states m c.args.slots.now.items) (states m c.loop-asked.slots.items) (states m c.next.new.slots.items) c.loop-asked.invariant.boxes c.next.ensures.boxes;
-      begins = begins_on (held c.args.run.now) (held c.loop-asked.run) none_in old now next c.loop-asked.invariant.boxes c.loop-asked.invariant.begins c.next.ensures.begins;
-      pulls = pulls_on (held c.args.run.now) (held c.loop-asked.run) none_in old now next c.loop-asked.invariant.boxes c.loop-asked.invariant.pulls c.next.ensures.pulls;
-      same = c.next.ensures.same ∙ c.loop-asked.invariant.same;
-      tables = tables_on c.loop-asked.run (held c.args.run.now) old now next c.loop-asked.invariant.same c.loop-asked.invariant.running c.loop-asked.invariant.tables c.in-Ok-Some.ensures.tables;
+      boxes = c.services_join.ensures.joined (held c.args.run.now) (held c.loop-alloc.run) (held c.next.new.self) (states m c.args.slots.now.items) (states m c.loop-alloc.slots.items) (states m c.next.new.slots.items) c.loop-alloc.invariant.boxes c.next.ensures.boxes;
+      begins = begins_on (held c.args.run.now) (held c.loop-alloc.run) none_in old now next c.loop-alloc.invariant.boxes c.loop-alloc.invariant.begins c.next.ensures.begins;
+      pulls = subst (λ (n : ℕ). PullsFor n c.args.run.now old c.next.new.self next) counted
+          (one_called c.args.run.now c.loop-alloc.run c.next.new.self old now next (length c.loop-alloc.rows.items) c.loop-alloc.invariant.pulls c.next.ensures.pulls);
+      same = c.next.ensures.same ∙ c.loop-alloc.invariant.same;
+      tables = tables_on c.loop-alloc.run (held c.args.run.now) old now next c.loop-alloc.invariant.same c.loop-alloc.invariant.running c.loop-alloc.invariant.tables c.in-Ok-Some.ensures.tables;
       running = c.in-Ok-Some.ensures.running;
       given = λ honest.
-          one_more c.args.run.now c.loop-asked.run c.next.new.self old now next c.loop-asked.rows.items c.push.new.self.items c.in-Ok-Some.row pushed (c.loop-asked.invariant.given honest)
-          (gives (c.services_join.ensures.honest (held c.args.run.now) (held c.loop-asked.run) old now c.loop-asked.invariant.boxes honest));
-      most = subst (IsWithin (count_tree c.args.asked)) counted (within_more (count_tree c.args.asked) (length c.loop-asked.rows.items) more);
+          one_more c.args.run.now c.loop-alloc.run c.next.new.self old now next c.loop-alloc.rows.items c.push.new.self.items c.in-Ok-Some.row pushed (c.loop-alloc.invariant.given honest)
+          (gives (c.services_join.ensures.honest (held c.args.run.now) (held c.loop-alloc.run) old now c.loop-alloc.invariant.boxes honest));
+      most = subst (IsWithin (count_tree c.args.asked)) counted (within_more (count_tree c.args.asked) (length c.loop-alloc.rows.items) more);
     }
 
 pub returns-in-Err-clause-begins : goal.returns-in-Err-clause-begins
 returns-in-Err-clause-begins g c =
     let m = g.W.Wrapper.meaning in
-    begins_on (held c.args.run.now) (held c.loop-asked.run) none_in (states m c.args.slots.now.items) (states m c.loop-asked.slots.items) (states m c.next.new.slots.items) c.loop-asked.invariant.boxes c.loop-asked.invariant.begins c.next.ensures.begins
-
-pub returns-in-Err-clause-pulls : goal.returns-in-Err-clause-pulls
-returns-in-Err-clause-pulls g c =
-    let m = g.W.Wrapper.meaning in
-    pulls_on (held c.args.run.now) (held c.loop-asked.run) none_in (states m c.args.slots.now.items) (states m c.loop-asked.slots.items) (states m c.next.new.slots.items) c.loop-asked.invariant.boxes c.loop-asked.invariant.pulls c.next.ensures.pulls
+    begins_on (held c.args.run.now) (held c.loop-alloc.run) none_in (states m c.args.slots.now.items) (states m c.loop-alloc.slots.items) (states m c.next.new.slots.items) c.loop-alloc.invariant.boxes c.loop-alloc.invariant.begins c.next.ensures.begins
 
 pub returns-in-Ok-None-clause-begins : goal.returns-in-Ok-None-clause-begins
 returns-in-Ok-None-clause-begins g c =
     let m = g.W.Wrapper.meaning in
-    begins_on (held c.args.run.now) (held c.loop-asked.run) none_in (states m c.args.slots.now.items) (states m c.loop-asked.slots.items) (states m c.next.new.slots.items) c.loop-asked.invariant.boxes c.loop-asked.invariant.begins c.next.ensures.begins
-
-pub returns-in-Ok-None-clause-pulls : goal.returns-in-Ok-None-clause-pulls
-returns-in-Ok-None-clause-pulls g c =
-    let m = g.W.Wrapper.meaning in
-    pulls_on (held c.args.run.now) (held c.loop-asked.run) none_in (states m c.args.slots.now.items) (states m c.loop-asked.slots.items) (states m c.next.new.slots.items) c.loop-asked.invariant.boxes c.loop-asked.invariant.pulls c.next.ensures.pulls
+    begins_on (held c.args.run.now) (held c.loop-alloc.run) none_in (states m c.args.slots.now.items) (states m c.loop-alloc.slots.items) (states m c.next.new.slots.items) c.loop-alloc.invariant.boxes c.loop-alloc.invariant.begins c.next.ensures.begins
 
 pub returns-then-is_err-clause-begins : goal.returns-then-is_err-clause-begins
 returns-then-is_err-clause-begins g c =
     let m = g.W.Wrapper.meaning in
-    begins_on (held c.args.run.now) (held c.loop-asked.run) none_in (states m c.args.slots.now.items) (states m c.loop-asked.slots.items) (states m c.next.new.slots.items) c.loop-asked.invariant.boxes c.loop-asked.invariant.begins c.next.ensures.begins
+    begins_on (held c.args.run.now) (held c.loop-alloc.run) none_in (states m c.args.slots.now.items) (states m c.loop-alloc.slots.items) (states m c.next.new.slots.items) c.loop-alloc.invariant.boxes c.loop-alloc.invariant.begins c.next.ensures.begins
 
-pub returns-then-is_err-clause-pulls : goal.returns-then-is_err-clause-pulls
-returns-then-is_err-clause-pulls g c =
-    let m = g.W.Wrapper.meaning in
-    pulls_on (held c.args.run.now) (held c.loop-asked.run) none_in (states m c.args.slots.now.items) (states m c.loop-asked.slots.items) (states m c.next.new.slots.items) c.loop-asked.invariant.boxes c.loop-asked.invariant.pulls c.next.ensures.pulls
-
-pub loop-asked-init : goal.loop-asked-init
-loop-asked-init g c =
+pub loop-alloc-init : goal.loop-alloc-init
+loop-alloc-init g c =
     let m = g.W.Wrapper.meaning in
     let old = states m c.args.slots.now.items in
     record {
       boxes = c.services_join.ensures.same (held c.args.run.now) old;
-      begins = begins_none old;
-      pulls = pulls_none old;
+      begins = begins_none old old refl;
+      pulls = subst (λ (rs : List Row). PullsFor (length rs) c.args.run.now old c.args.run.now old) (sym c.new-rows.ensures.items) (none_called c.args.run.now old);
       same = refl;
       tables = tables_itself (held c.args.run.now) old;
       running = c.requires;
@@ -121,16 +107,49 @@ pub returns-clause-ok : goal.returns-clause-ok
 returns-clause-ok g c =
     let m = g.W.Wrapper.meaning in
     let old = states m c.args.slots.now.items in
-    let now = states m c.loop-asked.slots.items in
-    let v = c.loop-asked.invariant in
-    let counted : c.len.result ≡ length c.loop-asked.rows.items = c.len.ensures ∙ c.loop-asked.rows.ok.0 in
-    let all : has_enough (count_tree c.args.asked) (length c.loop-asked.rows.items) ≡ true = ap (has_enough (count_tree c.args.asked)) (sym counted) ∙ sym c.is_enough.ensures ∙ c.loop-asked-test.false in
+    let now = states m c.loop-alloc.slots.items in
+    let v = c.loop-alloc.invariant in
+    let counted : c.len.result ≡ length c.loop-alloc.rows.items = c.len.ensures ∙ c.loop-alloc.rows.ok.0 in
+    let all : has_enough (count_tree c.args.asked) (length c.loop-alloc.rows.items) ≡ true = ap (has_enough (count_tree c.args.asked)) (sym counted) ∙ sym c.is_enough.ensures ∙ c.loop-alloc-test.false in
     record {
       served = v.boxes;
       same = v.same;
       tables = v.tables;
       running = v.running;
-      some = λ honest. rests_some c.loop-asked.run now v.running (c.services_join.ensures.honest (held c.args.run.now) (held c.loop-asked.run) old now v.boxes honest);
+      some = λ honest. c.runs_have_rests.ensures c.loop-alloc.run now;
       gives = λ honest left r. v.given honest left r;
-      enough = λ honest. enough_given (count_tree c.args.asked) c.loop-asked.rows.items (Rests c.args.run.now old) v.most all;
+      enough = λ honest. enough_given (count_tree c.args.asked) c.loop-alloc.rows.items (Rests c.args.run.now old) v.most all;
     }
+
+pub returns-in-Err-clause-pulls : goal.returns-in-Err-clause-pulls
+returns-in-Err-clause-pulls g c =
+    let m = g.W.Wrapper.meaning in
+    let counted : c.len.result ≡ length c.loop-alloc.rows.items = c.len.ensures ∙ c.loop-alloc.rows.ok.0 in
+    let more : has_enough (count_tree c.args.asked) (length c.loop-alloc.rows.items) ≡ false = ap (has_enough (count_tree c.args.asked)) (sym counted) ∙ sym c.is_enough.ensures ∙ c.loop-alloc-test.true in (
+      length c.loop-alloc.rows.items + 1,
+      within_more (count_tree c.args.asked) (length c.loop-alloc.rows.items) more,
+      one_called c.args.run.now c.loop-alloc.run c.next.new.self (states m c.args.slots.now.items) (states m c.loop-alloc.slots.items) (states m c.next.new.slots.items) (length c.loop-alloc.rows.items) c.loop-alloc.invariant.pulls c.next.ensures.pulls,
+    )
+
+pub returns-in-Ok-None-clause-pulls : goal.returns-in-Ok-None-clause-pulls
+returns-in-Ok-None-clause-pulls g c =
+    let m = g.W.Wrapper.meaning in
+    let counted : c.len.result ≡ length c.loop-alloc.rows.items = c.len.ensures ∙ c.loop-alloc.rows.ok.0 in
+    let more : has_enough (count_tree c.args.asked) (length c.loop-alloc.rows.items) ≡ false = ap (has_enough (count_tree c.args.asked)) (sym counted) ∙ sym c.is_enough.ensures ∙ c.loop-alloc-test.true in (
+      length c.loop-alloc.rows.items + 1,
+      within_more (count_tree c.args.asked) (length c.loop-alloc.rows.items) more,
+      one_called c.args.run.now c.loop-alloc.run c.next.new.self (states m c.args.slots.now.items) (states m c.loop-alloc.slots.items) (states m c.next.new.slots.items) (length c.loop-alloc.rows.items) c.loop-alloc.invariant.pulls c.next.ensures.pulls,
+    )
+
+pub returns-then-is_err-clause-pulls : goal.returns-then-is_err-clause-pulls
+returns-then-is_err-clause-pulls g c =
+    let m = g.W.Wrapper.meaning in
+    let counted : c.len.result ≡ length c.loop-alloc.rows.items = c.len.ensures ∙ c.loop-alloc.rows.ok.0 in
+    let more : has_enough (count_tree c.args.asked) (length c.loop-alloc.rows.items) ≡ false = ap (has_enough (count_tree c.args.asked)) (sym counted) ∙ sym c.is_enough.ensures ∙ c.loop-alloc-test.true in (
+      length c.loop-alloc.rows.items + 1,
+      within_more (count_tree c.args.asked) (length c.loop-alloc.rows.items) more,
+      one_called c.args.run.now c.loop-alloc.run c.next.new.self (states m c.args.slots.now.items) (states m c.loop-alloc.slots.items) (states m c.next.new.slots.items) (length c.loop-alloc.rows.items) c.loop-alloc.invariant.pulls c.next.ensures.pulls,
+    )
+
+pub returns-clause-pulls : goal.returns-clause-pulls
+returns-clause-pulls g c = (length c.loop-alloc.rows.items, c.loop-alloc.invariant.most, c.loop-alloc.invariant.pulls)

@@ -1,19 +1,20 @@
 use Rattle.std.proofs.Common.{◌≡◌, length}
 use Rattle.cursor_syntax.specs.CursorView.{count_tree}
 use Rattle.med_exec.specs.Slots.{states}
-use Rattle.med_exec.specs.Counting.{none_in, BeginsScans, PullsRows}
+use Rattle.med_exec.specs.Counting.{none_in, BeginsScans}
 use Rattle.med_exec.specs.Running.{AllHonest, ServesRun}
 use Rattle.med_exec.specs.Rests.{rows_left, held, IsRunning}
 use Rattle.med_exec.specs.Leaving.{KeepTables}
-use Rattle.open_cursors.proofs.Rows.{HasGiven, IsWithin}
+use Rattle.open_cursors.specs.Fetching.{IsWithin, PullsFor}
+use Rattle.open_cursors.proofs.Rows.{HasGiven}
 use Rattle.open_cursors.proofs.fetching.fetch.Given as goal
 
-abbrev pub invariant-loop-asked : goal.invariant-loop-asked
-invariant-loop-asked g l =
+abbrev pub invariant-loop-alloc : goal.invariant-loop-alloc
+invariant-loop-alloc g l =
     record {
       boxes : ServesRun (held l.fn.run) (held l.run) (states g.W.Wrapper.meaning l.fn.slots.items) (states g.W.Wrapper.meaning l.slots.items);
       begins : BeginsScans none_in (states g.W.Wrapper.meaning l.fn.slots.items) (states g.W.Wrapper.meaning l.slots.items);
-      pulls : PullsRows none_in (states g.W.Wrapper.meaning l.fn.slots.items) (states g.W.Wrapper.meaning l.slots.items);
+      pulls : PullsFor (length l.rows.items) l.fn.run (states g.W.Wrapper.meaning l.fn.slots.items) l.run (states g.W.Wrapper.meaning l.slots.items);
       same : held l.run ≡ held l.fn.run;
       tables : KeepTables (held l.fn.run) (states g.W.Wrapper.meaning l.fn.slots.items) (states g.W.Wrapper.meaning l.slots.items);
       running : IsRunning l.run (states g.W.Wrapper.meaning l.slots.items);
@@ -21,5 +22,5 @@ invariant-loop-asked g l =
       most : IsWithin (count_tree l.asked) (length l.rows.items);
     }
 
-abbrev pub decreases-loop-asked : goal.decreases-loop-asked
-decreases-loop-asked g l = rows_left l.run (states g.W.Wrapper.meaning l.slots.items)
+abbrev pub decreases-loop-alloc : goal.decreases-loop-alloc
+decreases-loop-alloc g l = rows_left l.run (states g.W.Wrapper.meaning l.slots.items)
