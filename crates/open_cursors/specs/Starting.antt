@@ -20,6 +20,7 @@ use Rattle.med_exec.specs.declared.running.Run.{Run}
 use Rattle.med_exec.specs.Slots.{BoxAt}
 use Rattle.med_exec.specs.Running.{AllHonest, AllServed, ServesRun, SlotShows, HasFailed, IsUsedUp, none_held}
 use Rattle.med_exec.specs.Rests.{Rests, held, IsRunning}
+pub use Rattle.med_exec.specs.Holding.{ScansOne, HoldsOf}
 use Rattle.med_catalog.specs.Objects.{Objects}
 use Rattle.bind_catalog.specs.Queries.{meant_by, IsBindable, NotBound}
 use Rattle.bind_catalog.specs.Places.{Attached, ArePlaces}
@@ -52,9 +53,6 @@ pub record RestsOver (q : Query) (places : List Place) (boxes : List (Option Box
   pub answers : AllHonest boxes → (db : Tables) → SameRows (entry_rows boxes places) db → (rows : List Tuple) → rests rows
       → IsAnswer q db rows
   pub clear : AllHonest boxes → (db : Tables) → SameRows (entry_rows boxes places) db → (c : Cause) → IsShownCause q db c → ⊥
-
--- of which tables the scans are that a run holds
-pub use Rattle.med_exec.specs.Holding.{ScansOne, HoldsOf}
 
 -- The query of a cursor was begun over the boxes, which read each of its tables once, and runs.
 pub record Starts (o : Objects) (user : Name) (bound : List Attached) (q : SelectTree) (full : Bool) (old : List (Option BoxState))
