@@ -3,3 +3,4 @@ mod Reading
 mod Counts
 mod Planning
 mod Words
+mod Beginning

@@ -1,5 +1,5 @@
 -- What the runs of loops say, in the words of med_exec and med_planner.
-use Rattle.std.proofs.Common.{◌≡◌, ◌∙◌, ◌+◌, ℕ, inl, inr, List, [], ◌∷◌, map, Option, Some, None, Result, Ok, Err, IfOk, IfErr, ap, sym, subst}
+use Rattle.std.proofs.Common.{◌≡◌, ◌∙◌, ◌+◌, ℕ, inl, inr, List, map, Option, Result, Ok, Err, IfOk, IfErr, ap, sym, subst}
 use Rattle.med_value.specs.Datum.{Tuple}
 use Rattle.med_value.specs.declared.cause.Cause.{Cause}
 use Rattle.tri_expr.specs.declared.expr.Fault.TheVariants.{Range, Zero}
@@ -10,9 +10,9 @@ use Rattle.med_binder.specs.declared.bound.BoundQuery.{BoundQuery}
 use Rattle.fdw_api.specs.State.{BoxState}
 use Rattle.fdw_api.specs.declared.interface.Fault.{Fault}
 use Rattle.med_planner.specs.Planned.{entry_place, entry_rows, IsShownCause as IsTold}
-use Rattle.med_exec.specs.Running.{Served as IsServed, AllServed as BoxesServed, SlotShows as Shows, Stops as RunStops, lacks_memory, source_fails, numbers_end, query_shows as query_tells}
+use Rattle.med_exec.specs.Running.{Stops as RunStops, lacks_memory, source_fails, numbers_end, query_shows as query_tells}
 use Rattle.scan_loops.specs.Pulling.{PullsAtMost, many_in}
-use Rattle.scan_loops.specs.Serving.{Served, AllServed, SlotShows, wants_memory, box_breaks}
+use Rattle.scan_loops.specs.Serving.{wants_memory, box_breaks}
 use Rattle.scan_loops.specs.Starting.{box_stops, numbers_end as numbers_out}
 use Rattle.loop_answers.specs.Ordered.{ComesInOrder}
 use Rattle.loop_runs.specs.Causes.{IsShownCause}
@@ -22,36 +22,6 @@ use Rattle.loop_runs.specs.Running.{IsPlanOver, Answers, Stops, loops_stop, quer
 use Rattle.loop_runs.specs.declared.running.LoopPlan.{LoopPlan}
 use Rattle.bound_runs.specs.Pulling.{PullsRows}
 use Rattle.bound_runs.specs.Running.{IsPlanFor, RunAnswers}
-
--- ---- boxes
-
-one_served : (old new : BoxState) → Served [] [] old new → IsServed [] [] old new
-one_served old new s = record {
-  nature = s.nature;
-  tables = s.tables;
-  staged = s.staged;
-  others = s.others;
-  next = s.next;
-  end = s.end;
-  pulled = s.pulled;
-  faults = s.faults;
-  coming = s.coming;
-  rows = s.rows;
-  holdings = s.holdings;
-}
-
-pub boxes_served : (old new : List (Option BoxState)) → AllServed old new → BoxesServed old new
-boxes_served [] [] h = tt
-boxes_served [] (b ∷ new) h = absurd h
-boxes_served (None ∷ old) [] h = absurd h
-boxes_served (Some a ∷ old) [] h = absurd h
-boxes_served (None ∷ old) (None ∷ new) h = boxes_served old new h
-boxes_served (None ∷ old) (Some b ∷ new) h = absurd h
-boxes_served (Some a ∷ old) (None ∷ new) h = absurd h
-boxes_served (Some a ∷ old) (Some b ∷ new) h = (one_served a b h.0, boxes_served old new h.1)
-
-slot_shows : (old new : List (Option BoxState)) (P : BoxState → BoxState → Type 0) → SlotShows old new P → Shows old new P
-slot_shows old new P s = record { slot = s.slot; before = s.before; after = s.after; was = s.was; is = s.is; shows = s.shows }
 
 -- ---- causes
 
@@ -82,8 +52,8 @@ module _ (old : List (Option BoxState)) (bound : BoundQuery) (plan : LoopPlan) (
 
   stops : (fault : Fault) (new : List (Option BoxState)) → Stops db plan fault old new → RunStops (query_of bound.select) (map entry_place bound.entries.items) fault old new
   stops fault new (loops_stop (box_stops (wants_memory e))) = lacks_memory e
-  stops fault new (loops_stop (box_stops (box_breaks e failed))) = source_fails e (slot_shows old new _ failed)
-  stops fault new (loops_stop (numbers_out e used)) = numbers_end e (slot_shows old new _ used)
+  stops fault new (loops_stop (box_stops (box_breaks e failed))) = source_fails e failed
+  stops fault new (loops_stop (numbers_out e used)) = numbers_end e used
   stops fault new (query_shows c e tells) = query_tells c e (λ honest. subst (λ (q : Query). IsTold q db c) same (told (query_of plan.select) db c (tells (p.over honest))))
 
   pub run_pulls : (new : List (Option BoxState)) → PullsAsAsked plan old new → PullsRows bound old new

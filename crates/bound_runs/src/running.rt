@@ -66,6 +66,22 @@ fn planned<W: Wrapper2>(
     Ok(LoopPlan { loops, select })
 }
 
+// The same, where a joined row has places for all its columns.
+fn plan_of<W: Wrapper2>(
+    slots: &Vec<Option<W>>,
+    alloc: Global,
+    bound: BoundQuery,
+) -> Result<LoopPlan, Fault>
+    requires ready { IsReady (states W.meaning slots.now.items) bound }
+    ensures ok { IfOk result (λ plan. IsPlanFor (states W.meaning slots.now.items) bound plan) }
+    ensures err { IfErr result (λ fault. fault ≡ WantOfMemory) }
+{
+    if !has_places(bound.entries.as_slice()) {
+        return Err(Fault::NoMemory);
+    }
+    planned(slots, alloc, bound)
+}
+
 /// Answers a bound query from the boxes of its entries, by loops over their scans, whatever these take over of its conditions, and of the
 /// order and the limit that are wished of them. For each entry of each core one scan is begun, and no other; where the run stops, no more
 /// than these. None is live afterwards. Where the boxes agreed to a scan whose rows are shown as they come, LIMIT bounds how many are asked
@@ -93,10 +109,7 @@ pub fn run_bound<W: Wrapper2>(
         (states W.meaning slots.new.items)) }
     ensures pulls { PullsRows bound (states W.meaning slots.old.items) (states W.meaning slots.new.items) }
 {
-    if !has_places(bound.entries.as_slice()) {
-        return Err(Fault::NoMemory);
-    }
-    let plan = match planned(slots, alloc, bound) {
+    let plan = match plan_of(slots, alloc, bound) {
         Ok(plan) => plan,
         Err(fault) => return Err(fault),
     };
@@ -135,10 +148,7 @@ pub fn start_bound<W: Wrapper2>(
     ensures pulls { IfErr result (λ _. PullsRows bound (states W.meaning slots.old.items) (states W.meaning slots.new.items)) }
 {
     runs_have_rests();
-    if !has_places(bound.entries.as_slice()) {
-        return Err(Fault::NoMemory);
-    }
-    let plan = match planned(slots, alloc, bound) {
+    let plan = match plan_of(slots, alloc, bound) {
         Ok(plan) => plan,
         Err(fault) => return Err(fault),
     };

@@ -24,21 +24,6 @@ use Rattle.open_cursors.specs.Counted.{ReadsTables}
 use Rattle.open_cursors.specs.Starting.{is_risky_form, HoldsOf, RestsOver, Starts, RunFails, no_memory, box_fails, numbers_out, shows_cause, StartFails, run_fails}
 use Rattle.med_select.proofs.Selections.{ExpressionsIgnoreOrder, AnswersInAnyOrder, CausesInAnyOrder, IsBoundBy, steady, same_back, query_bound, entries_counted}
 
--- a run that holds an answer
-pub held_answer : (q : Query) (places : List Place) (boxes : List (Option BoxState)) (out : List Tuple) (rests : List Tuple → Type 0) → rests out → ((rows : List Tuple) → rests rows → rows ≡ out) → RunAnswers q places boxes out → Begun q places rests boxes
-held_answer q places boxes out rests some only h = record {
-  some = λ honest. (out, some);
-  answers = λ rows r honest. subst (λ (l : List Tuple). IsAnswer q (entry_rows boxes places) l) (sym (only rows r)) (h.answers honest);
-  clear = h.clear;
-}
-
--- it holds no scan
-pub holds_none : (places : List Place) (run : Run) (boxes : List (Option BoxState)) → held run ≡ none_held → HoldsOf places run boxes
-holds_none places run boxes none slot number own = absurd (out (subst (λ (h : Held). Contains (h slot) number) none own))
-  where
-    out : Contains [] number → ⊥
-    out has = let n = has.1 in omega arith
-
 -- what the run may give are answers in whatever order the rows of the entries come
 rests_over : AnswersInAnyOrder → CausesInAnyOrder → (q : Query) → IsSteady q → (places : List Place) (boxes : List (Option BoxState)) (rests : List Tuple → Type 0) → Begun q places rests boxes → RestsOver q places boxes rests
 rests_over law causes q is places boxes rests h = record {

@@ -13,8 +13,8 @@ use crate::fault::cause_of;
 use crate::law::bound_queries_are_ready;
 use crate::leasing::leased_tables;
 use crate::risk::is_risky_query;
-use crate::selecting::begun;
 use bind_catalog::{BoundTable, bind};
+use bound_runs::start_bound;
 use fdw_api::wishes::Wrapper2;
 use med_catalog::Catalog;
 use med_exec::law::services_join;
@@ -83,7 +83,7 @@ pub fn start_select<W: Wrapper2>(
         Err(cause) => return Err(cause),
     };
     let names = mem::replace(&mut query.names, Vec::new(alloc));
-    let run = match begun(slots, alloc, query) {
+    let run = match start_bound(slots, alloc, query) {
         Ok(run) => run,
         Err(fault) => return Err(cause_of(fault)),
     };

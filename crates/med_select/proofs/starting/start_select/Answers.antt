@@ -18,8 +18,8 @@ returns-in_err-query-clause-err g c =
     let p = err_from_is_err_and c.from_residual.result c.from_residual.ensures.1 in
     rw (p.1, p.2) (not_bound c.in_err-query.ensures.refused refl)
 
-pub begun-requires : goal.begun-requires
-begun-requires g c =
+pub start_bound-requires : goal.start_bound-requires
+start_bound-requires g c =
     let o = objects c.args.catalog.now in
     let q = query_in (statement_tree c.args.statement.now) in
     let b = c.in_ok-query.query in
@@ -27,10 +27,10 @@ begun-requires g c =
     bound_as o c.args.user.now (map attached c.args.bound.now) q b c.in_ok-query.ensures.bindable c.in_ok-query.ensures.meant c.in_ok-query.ensures.places c.in_ok-query.ensures.widths c.in_ok-query.ensures.safe in
     let boxes = states g.W.Wrapper.meaning c.args.slots.now.items in
     let r : IsReady boxes b = c.bound_queries_are_ready.ensures.ready o (map attached c.args.bound.now) q b boxes c.requires.ready is in
-    record { kinds = r.kinds; typed = r.typed; counts = r.counts; view = r.view; alike = r.alike; wide = r.wide; safe = r.safe }
+    record { ready = record { kinds = r.kinds; typed = r.typed; counts = r.counts; view = r.view; alike = r.alike; wide = r.wide; safe = r.safe } }
 
-pub returns-in-Err-begun-clause-err : goal.returns-in-Err-begun-clause-err
-returns-in-Err-begun-clause-err g c =
+pub returns-in-Err-start_bound-clause-err : goal.returns-in-Err-start_bound-clause-err
+returns-in-Err-start_bound-clause-err g c =
     let m = g.W.Wrapper.meaning in
     let o = objects c.args.catalog.now in
     let q = query_in (statement_tree c.args.statement.now) in
@@ -39,8 +39,8 @@ returns-in-Err-begun-clause-err g c =
     let least : c.len.result ≤ 8 = c.if-len-gt-ENTRY_LIMIT.false in
     let few : length c.in_ok-query.query.entries.items ≤ 8 = omega (arith, counted, least) in
     let may : MayBegin c.args.is_full c.in_ok-query.query = record { safe = sym c.is_risky_query.ensures ∙ c.if-is_risky_query.false; room = c.if-is_full.false; few = few } in
-    rw c.cause_of.ensures (not_begun c.expressions_ignore_order.ensures c.causes_ignore_order.ensures o c.args.user.now (map attached c.args.bound.now) q c.args.is_full c.in_ok-query.query c.in-Err-begun.fault
-    (states m c.args.slots.now.items) (states m c.begun.new.slots.items) is may c.in-Err-begun.ensures.ended c.in-Err-begun.ensures.err)
+    rw c.cause_of.ensures (not_begun c.expressions_ignore_order.ensures c.causes_ignore_order.ensures o c.args.user.now (map attached c.args.bound.now) q c.args.is_full c.in_ok-query.query c.in-Err-start_bound.fault
+    (states m c.args.slots.now.items) (states m c.start_bound.new.slots.items) is may c.in-Err-start_bound.ensures.ended c.in-Err-start_bound.ensures.err)
 
 pub returns-clause-ok : goal.returns-clause-ok
 returns-clause-ok g c =
@@ -52,5 +52,5 @@ returns-clause-ok g c =
     let least : c.len.result ≤ 8 = c.if-len-gt-ENTRY_LIMIT.false in
     let few : length c.in_ok-query.query.entries.items ≤ 8 = omega (arith, counted, least) in
     let may : MayBegin c.args.is_full c.in_ok-query.query = record { safe = sym c.is_risky_query.ensures ∙ c.if-is_risky_query.false; room = c.if-is_full.false; few = few } in
-    rw c.replace-names.ensures.value (starts c.expressions_ignore_order.ensures c.answers_ignore_order.ensures c.causes_ignore_order.ensures o c.args.user.now (map attached c.args.bound.now) q c.args.is_full c.in_ok-query.query c.in-Ok-begun.run'
-    (states m c.args.slots.now.items) (states m c.begun.new.slots.items) is may c.in-Ok-begun.ensures.boxes c.in-Ok-begun.ensures.running c.in-Ok-begun.ensures.holds (c.bound_queries_are_ready.ensures.once o q c.in_ok-query.query (states m c.args.slots.now.items) (states m c.begun.new.slots.items) c.in_ok-query.ensures.meant c.in-Ok-begun.ensures.once) c.in-Ok-begun.ensures.ok)
+    rw c.replace-names.ensures.value (starts c.expressions_ignore_order.ensures c.answers_ignore_order.ensures c.causes_ignore_order.ensures o c.args.user.now (map attached c.args.bound.now) q c.args.is_full c.in_ok-query.query c.in-Ok-start_bound.run'
+    (states m c.args.slots.now.items) (states m c.start_bound.new.slots.items) is may c.in-Ok-start_bound.ensures.boxes c.in-Ok-start_bound.ensures.running c.in-Ok-start_bound.ensures.holds (c.bound_queries_are_ready.ensures.once o q c.in_ok-query.query (states m c.args.slots.now.items) (states m c.start_bound.new.slots.items) c.in_ok-query.ensures.meant c.in-Ok-start_bound.ensures.begins) c.in-Ok-start_bound.ensures.ok)
