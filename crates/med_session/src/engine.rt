@@ -51,6 +51,7 @@ impl<W: Wrapper2> Engine<W> {
     ghost use Rattle.med_session.specs.Cursors.{IfFetched, MayBeUntold};
     ghost use Rattle.session_replies.specs.Outcomes.{reply_of};
     ghost use Rattle.med_session.specs.Shows.{shown};
+    ghost use Rattle.med_value.specs.Limits.{session_count};
     ghost use Rattle.med_world.specs.Engine.{IsSound, Agrees, Leads, IsAnswered, Closes, ClosesAll};
     ghost use Rattle.med_world.specs.Requests.{IsUser, opening, sql, bye};
     ghost use Rattle.med_world.specs.World.{empty_world};
