@@ -1,6 +1,6 @@
 -- What DECLARE does to the boxes, and why it is refused (SQL:2016, <declare cursor>; PostgreSQL: Writing a Foreign Data Wrapper,
 -- BeginForeignScan).
-use Rattle.std.specs.Prelude.{◌≡◌, ◌<◌, ◌≤◌, Bool, true, false, List, [], ◌++◌, length, map, Option, Some, None, ℕ, Contains}
+use Rattle.std.specs.Prelude.{◌≡◌, ◌<◌, ◌≤◌, Bool, true, false, List, [], ◌++◌, length, map, Option, Some, None}
 use Rattle.std.specs.List.{list_any}
 use Rattle.tri_expr.specs.Tree.{Tree}
 use Rattle.tri_expr.specs.TreeParts.{is_risky_tree}
@@ -13,11 +13,9 @@ use Rattle.med_syntax.specs.QueryTree.{EntryTree, SelectTree}
 use Rattle.bind_names.specs.Scope.{entries_of}
 use Rattle.med_query.specs.Query.{Query, Tables, SameRows, IsAnswer}
 use Rattle.med_query.specs.Form.{CoreForm, Form, GroupForm, query_by}
-use Rattle.fdw_api.specs.State.{Scan, BoxState, scan_of}
-use Rattle.fdw_api.specs.Sound.{IsTableOf}
+use Rattle.fdw_api.specs.State.{BoxState}
 use Rattle.med_planner.specs.Planned.{Place, entry_rows, IsShownCause}
 use Rattle.med_exec.specs.declared.running.Run.{Run}
-use Rattle.med_exec.specs.Slots.{BoxAt}
 use Rattle.med_exec.specs.Running.{AllHonest, AllServed, ServesRun, SlotShows, HasFailed, IsUsedUp, none_held}
 use Rattle.med_exec.specs.Rests.{Rests, held, IsRunning}
 pub use Rattle.med_exec.specs.Holding.{ScansOne, HoldsOf}
@@ -25,6 +23,8 @@ use Rattle.med_catalog.specs.Objects.{Objects}
 use Rattle.bind_catalog.specs.Queries.{meant_by, IsBindable, NotBound}
 use Rattle.bind_catalog.specs.Places.{Attached, ArePlaces}
 use Rattle.open_cursors.specs.Counted.{ReadsTables}
+-- of which tables the scans are that a run holds
+pub use Rattle.med_exec.specs.Holding.{ScansOne, HoldsOf}
 
 -- ---- a query that may fault, which no cursor has: 0A000
 
