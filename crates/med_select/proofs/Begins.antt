@@ -1,16 +1,16 @@
 -- The run of a bound query: begun, or why not.
-use Rattle.std.proofs.Common.{◌≡◌, ◌∙◌, ℕ, ◌≤◌, Bool, false, List, [], Contains, arith, Option, map, length, sym, ap, subst, string_bytes}
+use Rattle.std.proofs.Common.{◌≡◌, ◌∙◌, ℕ, ◌≤◌, Bool, false, List, Option, map, length, sym, ap, subst, string_bytes}
 use Rattle.med_value.specs.Datum.{Tuple}
 use Rattle.med_syntax.specs.Tree.{Name}
 use Rattle.med_syntax.specs.QueryTree.{SelectTree}
 use Rattle.med_query.specs.Form.{form_of}
 use Rattle.med_query.specs.Laws.{IsSteady}
-use Rattle.med_query.specs.Query.{Query, IsAnswer}
+use Rattle.med_query.specs.Query.{Query}
 use Rattle.med_query.specs.Select.{query_of as written_query}
 use Rattle.fdw_api.specs.State.{BoxState}
 use Rattle.fdw_api.specs.declared.interface.Fault.{Fault}
 use Rattle.med_planner.specs.Planned.{Place, entry_place, entry_rows, IsShownCause}
-use Rattle.med_exec.specs.Running.{AllServed, ServesRun, Stops, lacks_memory, source_fails, numbers_end, query_shows, Begun, Held, none_held}
+use Rattle.med_exec.specs.Running.{AllServed, ServesRun, Stops, lacks_memory, source_fails, numbers_end, query_shows, Begun, none_held}
 use Rattle.med_exec.specs.Rests.{Rests, held, IsRunning}
 use Rattle.med_exec.specs.declared.running.Run.{Run}
 use Rattle.med_binder.specs.declared.bound.BoundQuery.{BoundQuery}
@@ -19,7 +19,6 @@ use Rattle.med_catalog.specs.Objects.{Objects}
 use Rattle.bind_catalog.specs.Queries.{meant_by}
 use Rattle.bind_catalog.specs.Places.{Attached}
 use Rattle.med_world.specs.Altering.{cause_of}
-use Rattle.bound_runs.specs.Running.{RunAnswers}
 use Rattle.open_cursors.specs.Counted.{ReadsTables}
 use Rattle.open_cursors.specs.Starting.{is_risky_form, HoldsOf, RestsOver, Starts, RunFails, no_memory, box_fails, numbers_out, shows_cause, StartFails, run_fails}
 use Rattle.med_select.proofs.Selections.{ExpressionsIgnoreOrder, AnswersInAnyOrder, CausesInAnyOrder, IsBoundBy, steady, same_back, query_bound, entries_counted}
