@@ -1,5 +1,6 @@
 //! The engine.
-ghost use Rattle.std.specs.Prelude.{◌≡◌, None, replicate, ◌<◌, ◌+◌, ◌++◌, ℕ, List, IfOk, IfErr, OnOk, OnErr, IsErrOf, vec_len, vec_capacity};
+ghost use Rattle.std.specs.Prelude.{◌≡◌, ◌<◌, ◌+◌, ◌++◌, ℕ, List, None, replicate, vec_len, vec_capacity};
+ghost use Rattle.std.specs.Prelude.{IfOk, IfErr, OnOk, OnErr, IsErrOf};
 
 use crate::places::{close_seats, closed_sessions, is_open, put_seat, take_seat, user_in};
 use crate::session::{NoRoom, Request, Sid};
