@@ -22,7 +22,8 @@ pub record KeepsScan (number : ℕ) (scan : Scan) (old new : BoxState) : Type 0 
 -- where the slot's box had this live scan, the box is there still, and keeps it
 abbrev pub LeavesScan : ℕ → ℕ → List (Option BoxState) → List (Option BoxState) → Type 0
 LeavesScan slot number old new =
-    (s : BoxState) (scan : Scan) → slice_get old slot ≡ Some (Some s) → scan_of s number ≡ Some scan → BoxAt new slot (KeepsScan number scan s)
+    (s : BoxState) (scan : Scan) → slice_get old slot ≡ Some (Some s) → scan_of s number ≡ Some scan
+    → BoxAt new slot (KeepsScan number scan s)
 
 -- so for each scan that the run holds
 abbrev pub LeavesRun : Run → List (Option BoxState) → List (Option BoxState) → Type 0
@@ -36,5 +37,5 @@ pub record GoesOn (run : Run) (old new : List (Option BoxState)) : Type 0 where
 -- each of these scans that is live before and after is of the table that it was of, with its columns' types
 abbrev pub KeepTables : Held → List (Option BoxState) → List (Option BoxState) → Type 0
 KeepTables own old new =
-    (slot number : ℕ) → Contains (own slot) number → (s t : BoxState) → slice_get old slot ≡ Some (Some s) → slice_get new slot ≡ Some (Some t)
-    → (was now : Scan) → scan_of s number ≡ Some was → scan_of t number ≡ Some now → (now.table ≡ was.table) × (now.kinds ≡ was.kinds)
+    (slot number : ℕ) → Contains (own slot) number → (s t : BoxState) → slice_get old slot ≡ Some (Some s)
+    → slice_get new slot ≡ Some (Some t) → (was now : Scan) → scan_of s number ≡ Some was → scan_of t number ≡ Some now → (now.table ≡ was.table) × (now.kinds ≡ was.kinds)

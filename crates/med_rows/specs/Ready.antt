@@ -20,4 +20,5 @@ pub record IsReady (o : Objects) (bound : List Attached) (boxes : List (Option B
 
 -- no scan of the table that is written is live
 abbrev pub IsUnread : Objects → List Attached → WriteTree → List (Option BoxState) → Type 0
-IsUnread o bound t boxes = (at : Attached) (s : BoxState) → IsTargetAt o bound t at → slice_get boxes at.source ≡ Some (Some s) → NoScan s at.number
+IsUnread o bound t boxes =
+    (at : Attached) (s : BoxState) → IsTargetAt o bound t at → slice_get boxes at.source ≡ Some (Some s) → NoScan s at.number

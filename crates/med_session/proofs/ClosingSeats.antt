@@ -1,14 +1,16 @@
 -- Sessions that are closed one after the other: what is left to be closed.
-use Rattle.std.proofs.Common.{◌≡◌, ℕ, zero, suc, List, [], ◌∷◌, ◌++◌, Option, Some, None, Contains, slice_get, slice_set, slice_index_or, map, flat_map, replicate, inl, inr, ◌⊎◌, refl, ap, sym, ◌∙◌, subst, append_assoc, arith}
+use Rattle.std.proofs.Common.{◌≡◌, ℕ, zero, suc, List, [], ◌∷◌, ◌++◌, Option, Some, None, Contains, slice_get, slice_set, slice_index_or, map, flat_map, option_map, length, ◌<◌, replicate, inl, inr, ◌⊎◌, refl, ap, sym, ◌∙◌, subst, append_assoc, arith}
 use Rattle.std.proofs.lemmas.List.Elements.{All-append, Contains-append_left, Contains-append_right, Contains-append_cases}
-use Rattle.std.proofs.lemmas.Option.{slice_get-get_or}
+use Rattle.std.proofs.lemmas.Option.{slice_get-map, slice_get-get_or}
+use Rattle.std.proofs.lemmas.List.{map-set}
+use Rattle.open_cursors.specs.declared.cursors.Seat.{Seat}
 use Rattle.fdw_api.specs.State.{BoxState}
 use Rattle.med_exec.specs.Running.{Held, ServesRun, none_held}
 use Rattle.med_exec.specs.Rests.{held, IsHeld}
 use Rattle.med_exec.specs.Leaving.{AreApart}
 use Rattle.med_exec.specs.declared.running.Run.{Run}
 use Rattle.med_exec.proofs.Leaving.{with_held, serves_beside, serves_before}
-use Rattle.open_cursors.specs.Open.{Opened, Seated, held_by, AreHeld, AreOwn, seat_cursors, all_cursors}
+use Rattle.open_cursors.specs.Open.{Opened, Seated, seated, seats_shown, held_by, AreHeld, AreOwn, seat_cursors, all_cursors}
 use Rattle.open_cursors.proofs.Closing.{StaysHeld, apart_none}
 use Rattle.med_world.proofs.Lists.{some_same}
 use Rattle.med_world.proofs.Named.{at_place}
@@ -41,11 +43,11 @@ own_second (x ∷ xs) ys h = own_second xs ys h.1
 
 own_apart : (xs ys : List Opened) → AreOwn (xs ++ ys) → AreApart (held_by xs) (held_by ys)
 own_apart [] ys h slot number a b = let n = a.1 in absurd (omega arith)
-own_apart (x ∷ xs) ys h slot number a b = split (Contains-append_cases (held x.run slot) (held_by xs slot) number a)
+own_apart (x ∷ xs) ys h slot number a b = split (λ p. own_apart xs ys h.1 slot number p b) (Contains-append_cases (held x.run slot) (held_by xs slot) number a)
   where
-    split : Contains (held x.run slot) number ⊎ Contains (held_by xs slot) number → ⊥
-    split (inl p) = h.0 slot number p (in_second xs ys slot number b)
-    split (inr p) = own_apart xs ys h.1 slot number p b
+    split : (Contains (held_by xs slot) number → ⊥) → Contains (held x.run slot) number ⊎ Contains (held_by xs slot) number → ⊥
+    split rest (inl p) = h.0 slot number p (in_second xs ys slot number b)
+    split rest (inr p) = rest p
 
 held_first : (xs ys : List Opened) (boxes : List (Option BoxState)) → AreHeld (xs ++ ys) boxes → (c : Opened) → Contains xs c → IsHeld c.run boxes
 held_first xs ys boxes h c has = at (Contains-append_left xs ys c has)
@@ -69,7 +71,7 @@ still_held law cursors own old new good apart h c has = law c.run own none_held 
 -- ---- the session in one place is closed
 
 -- it was open, and has these cursors
-abbrev shut_at : List (Option Seated) → ℕ → List (Option Seated)
+abbrev pub shut_at : List (Option Seated) → ℕ → List (Option Seated)
 shut_at seats place = slice_set seats place None
 
 seat_within : (seats : List (Option Seated)) (place : ℕ) (s : Seated) (slot number : ℕ) → slice_get seats place ≡ Some (Some s) → Contains (held_by s.cursors slot) number → Contains (held_by (all_cursors seats) slot) number
@@ -80,11 +82,11 @@ seat_within (x ∷ seats) (suc place) s slot number at h = in_second (seat_curso
 shut_within : (seats : List (Option Seated)) (place slot number : ℕ) → Contains (held_by (all_cursors (shut_at seats place)) slot) number → Contains (held_by (all_cursors seats) slot) number
 shut_within [] place slot number h = h
 shut_within (x ∷ seats) zero slot number h = in_second (seat_cursors x) (all_cursors seats) slot number h
-shut_within (x ∷ seats) (suc place) slot number h = split (in_either (seat_cursors x) (all_cursors (shut_at seats place)) slot number h)
+shut_within (x ∷ seats) (suc place) slot number h = split (λ p. shut_within seats place slot number p) (in_either (seat_cursors x) (all_cursors (shut_at seats place)) slot number h)
   where
-    split : Contains (held_by (seat_cursors x) slot) number ⊎ Contains (held_by (all_cursors (shut_at seats place)) slot) number → Contains (held_by (all_cursors (x ∷ seats)) slot) number
-    split (inl p) = in_first (seat_cursors x) (all_cursors seats) slot number p
-    split (inr p) = in_second (seat_cursors x) (all_cursors seats) slot number (shut_within seats place slot number p)
+    split : (Contains (held_by (all_cursors (shut_at seats place)) slot) number → Contains (held_by (all_cursors seats) slot) number) → Contains (held_by (seat_cursors x) slot) number ⊎ Contains (held_by (all_cursors (shut_at seats place)) slot) number → Contains (held_by (all_cursors (x ∷ seats)) slot) number
+    split rest (inl p) = in_first (seat_cursors x) (all_cursors seats) slot number p
+    split rest (inr p) = in_second (seat_cursors x) (all_cursors seats) slot number (rest p)
 
 pub shut_own : (seats : List (Option Seated)) (place : ℕ) → AreOwn (all_cursors seats) → AreOwn (all_cursors (shut_at seats place))
 shut_own [] place h = h
@@ -147,3 +149,14 @@ none_shut (suc n) = none_shut n
 
 pub all_shut : (seats : List (Option Seated)) (n : ℕ) → seats ≡ replicate n None → held_by (all_cursors seats) ≡ none_held
 all_shut seats n closed = ap (λ (s : List (Option Seated)). held_by (all_cursors s)) closed ∙ ap held_by (none_shut n)
+
+-- ---- the places as they are held
+
+pub shown_at : (seats : List (Option Seat)) (place : ℕ) (now : Option Seat) (seat : Seat) → place < length seats → now ≡ slice_index_or seats place now → now ≡ Some seat → slice_get (seats_shown seats) place ≡ Some (Some (seated seat))
+shown_at seats place now seat lt value is = slice_get-map (option_map seated) seats place ∙ ap (option_map (option_map seated)) (slice_get-get_or seats place now lt ∙ ap Some (sym value ∙ is))
+
+pub shown_none : (seats : List (Option Seat)) (place : ℕ) (now : Option Seat) → place < length seats → now ≡ slice_index_or seats place now → now ≡ None → slice_get (seats_shown seats) place ≡ Some None
+shown_none seats place now lt value is = slice_get-map (option_map seated) seats place ∙ ap (option_map (option_map seated)) (slice_get-get_or seats place now lt ∙ ap Some (sym value ∙ is))
+
+pub shown_set : (seats : List (Option Seat)) (place : ℕ) (o : Option Seat) → o ≡ None → seats_shown (slice_set seats place o) ≡ shut_at (seats_shown seats) place
+shown_set seats place o e = map-set (option_map seated) seats place o ∙ ap (λ (x : Option Seat). slice_set (seats_shown seats) place (option_map seated x)) e

@@ -1,5 +1,6 @@
 //! The engine.
-ghost use Rattle.std.specs.Prelude.{◌≡◌, None, replicate, ◌<◌, ◌+◌, ◌++◌, ℕ, List, IfOk, IfErr, OnOk, OnErr, IsErrOf, vec_len, vec_capacity};
+ghost use Rattle.std.specs.Prelude.{◌≡◌, ◌<◌, ◌+◌, ◌++◌, ℕ, List, None, replicate, vec_len, vec_capacity};
+ghost use Rattle.std.specs.Prelude.{IfOk, IfErr, OnOk, OnErr, IsErrOf};
 
 use crate::places::{close_seats, closed_sessions, is_open, put_seat, take_seat, user_in};
 use crate::session::{NoRoom, Request, Sid};
@@ -51,6 +52,7 @@ impl<W: Wrapper2> Engine<W> {
     ghost use Rattle.med_session.specs.Cursors.{IfFetched, MayBeUntold};
     ghost use Rattle.session_replies.specs.Outcomes.{reply_of};
     ghost use Rattle.med_session.specs.Shows.{shown};
+    ghost use Rattle.med_value.specs.Limits.{session_count};
     ghost use Rattle.med_world.specs.Engine.{IsSound, Agrees, Leads, IsAnswered, Closes, ClosesAll};
     ghost use Rattle.med_world.specs.Requests.{IsUser, opening, sql, bye};
     ghost use Rattle.med_world.specs.World.{empty_world};

@@ -192,7 +192,7 @@ module _ (e : Shown) (place : ℕ) (box : BoxState) (there : slice_get e.boxes p
   pub drop_left : AllLeft e (slice_set e.boxes place None)
   drop_left j c is_open slot number own s scan at live = same_or_not slot place
       (λ same. let is : box ≡ s = same_box box s (sym there ∙ ap (slice_get e.boxes) (sym same) ∙ at) in
-          absurd (none_some scan (scan_of box number) (idle.no_scan number) (ap (λ (b : BoxState). scan_of b number) is ∙ live)))
+      absurd (none_some scan (scan_of box number) (idle.no_scan number) (ap (λ (b : BoxState). scan_of b number) is ∙ live)))
       (λ ne. record { box = s; there = set_other e.boxes place slot None ne ∙ at; holds = keeps_itself number scan s live })
 
   pub drop_scans : (name : Name) → KeepsScans e → KeepsScans (record (with_change e (no_server name)) { boxes = slice_set e.boxes place None })

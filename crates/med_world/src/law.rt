@@ -215,7 +215,8 @@ pub fn cursors_lead()
         → StartFails e.catalog seat.user e.bound q (is_full seat.cursors) e.boxes c new → IsSound (with_boxes e new) }
     ensures fetched_sound { (e : Shown) (new : List (Option BoxState)) (sid : ℕ) (seat : Seated) (name : Name) (asked : CountTree)
         (o : Opened) (rows : List Tuple) (after : Run) → IsSid sid → IsSound e → seat_of e.seats sid ≡ Some seat
-        → opened_named name seat.cursors ≡ Some o → GivesRows o.run asked e.boxes rows after new → IsSound (with_cursors e sid seat (with_run name after seat.cursors) new) }
+        → opened_named name seat.cursors ≡ Some o → GivesRows o.run asked e.boxes rows after new
+        → IsSound (with_cursors e sid seat (with_run name after seat.cursors) new) }
     ensures ended_sound { (e : Shown) (new : List (Option BoxState)) (sid : ℕ) (seat : Seated) (name : Name) (o : Opened) → IsSid sid
         → IsSound e → seat_of e.seats sid ≡ Some seat → opened_named name seat.cursors ≡ Some o → Ends o.run e.boxes new
         → IsSound (with_cursors e sid seat (without_named name seat.cursors) new) }
@@ -261,7 +262,7 @@ pub fn changes_lead()
 }
 
 /// What the calls of boxes ask holds, where the catalogue shows no cause: the source of a server has its box; a table may be bound there; a
-/// bound table that is not leased may be unbound, and has no live scan where it is written; and the box of a server that is dropped is idle.
+/// bound table that is not leased may be unbound, and has no live scan as it is written; and the box of a server that is dropped is idle.
 pub fn boxes_are_ready()
     ensures there { (e : Shown) (server : Name) (place : ℕ) → IsSound e → IsServerAt e server place
         → (s : BoxState) × (slice_get e.boxes place ≡ Some (Some s)) }

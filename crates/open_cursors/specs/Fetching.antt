@@ -29,7 +29,8 @@ abbrev pub AreEnough : CountTree → List Tuple → (List Tuple → Type 0) → 
 AreEnough (some_rows n) rows rests = (length rows ≡ n) ⊎ ((length rows < n) × rests rows)
 AreEnough all_rows rows rests = rests rows
 
--- A run gave rows: followed by what it may give then, they are what it could give before. It holds the scans that it held, of the same tables.
+-- A run gave rows: followed by what it may give then, they are what it could give before. It holds the scans that it held, of the tables
+-- that they were of.
 pub record GivesRows (run : Run) (asked : CountTree) (old : List (Option BoxState)) (rows : List Tuple) (after : Run)
     (new : List (Option BoxState)) : Type 0 where
   pub served : ServesRun (held run) (held after) old new

@@ -1,7 +1,10 @@
-use Rattle.std.proofs.Common.{◌≡◌, ◌<◌, length, slice_get, List, map, string_bytes, ap, ◌∙◌}
+use Rattle.std.proofs.Common.{◌≡◌, ◌<◌, length, slice_get, List, map, string_bytes, ap, subst, arith, ◌∙◌}
 use Rattle.med_value.specs.declared.cause.Cause.{Cause}
 use Rattle.fdw_api.specs.declared.interface.Fault.{Fault}
-use Rattle.med_exec.specs.Running.{Breaks, wants_memory, box_breaks, none_held}
+use Rattle.med_exec.specs.Running.{ServesRun, Breaks, wants_memory, box_breaks, none_held}
+use Rattle.med_exec.specs.Rests.{held}
+use Rattle.med_exec.specs.declared.running.Run.{Run}
+use Rattle.std.proofs.lemmas.Grind.{common_steps}
 use Rattle.med_exec.specs.Slots.{states}
 use Rattle.med_world.specs.Altering.{cause_of}
 use Rattle.med_world.specs.Turning.{later}
@@ -40,7 +43,8 @@ returns-in-Err-clause-err g c =
     let new = states g.W.Wrapper.meaning c.close_cursor.new.slots.items in
     let lt : c.in-Some.place < length cursors = place_within c.args.name.now cursors c.in-Some.place (rw c.deref.ensures.value at c.in-Some.ensures.place) in
     let there : slice_get (map opened cursors) c.in-Some.place ≡ opened_named c.args.name.now (map opened cursors) = rw c.deref.ensures.value at c.in-Some.ensures.there in
+    let same : c.remove.result.run ≡ c.fetch.new.run = grind (arith, common_steps) in
     fails (opened at) (named_there c.args.name.now cursors c.in-Some.place at lt c.index_mut.ensures.value there)
-    (breaks_none c.in-Err.fault c.cause_of.result old new c.cause_of.ensures (c.services_join.ensures.broken none_held none_held none_held none_held old old mid new c.in-Err.fault (c.services_join.ensures.same none_held old) c.in-Err.ensures.breaks c.close_cursor.ensures))
-    (later c.fetch.new.run mid c.fetch.ensures.boxes c.close_cursor.ensures)
+    (breaks_none c.in-Err.fault c.cause_of.result old new c.cause_of.ensures (c.services_join.ensures.broken none_held none_held (held c.remove.result.run) none_held old old mid new c.in-Err.fault (c.services_join.ensures.same none_held old) c.in-Err.ensures.breaks c.close_cursor.ensures))
+    (later c.fetch.new.run mid c.fetch.ensures.boxes (subst (λ (r : Run). ServesRun (held r) none_held mid new) same c.close_cursor.ensures))
     (ap (λ (cs : List Opened). having (seated c.args.seat.now) cs) (ap (map opened) c.remove.ensures.items ∙ gone_there c.args.name.now cursors c.in-Some.place at _ c.requires.sound.apart lt c.index_mut.ensures.value there))
