@@ -50,7 +50,8 @@ fn agree_core<W: Wrapper2>(
     offers: &[LoopOffer],
 ) -> Result<Vec<Agreement2>, Fault>
     requires { Each (IsOffered (states W.meaning slots.now.items)) (map offer_form offers.now) }
-    ensures ok { IfOk result (λ all. AreAllowed (states W.meaning slots.now.items) (wish_form wish.now) (map offer_form offers.now) all.items) }
+    ensures ok { IfOk result (λ all. AreAllowed (states W.meaning slots.now.items) (wish_form wish.now) (map offer_form offers.now)
+        all.items) }
     ensures err { IfErr result (λ fault. fault ≡ WantOfMemory) }
 {
     let mut all = Vec::new(alloc);

@@ -310,11 +310,11 @@ each_two : {X : Type 0} (P Q : X → Type 0) (xs : List X) → Each P xs → Eac
 each_two P Q [] h i = tt
 each_two P Q (x ∷ xs) h i = ((h.0, i.0), each_two P Q xs h.1 i.1)
 
-keys_are : (read : List ℕ) (sum width : ℕ) → sum ≡ width → (ts : List Tree) → Each (λ t. Each (Stands read) (columns_in t)) ts → Each (IsWithin sum) ts
-    → Each (λ t. Each (λ at. (at < width) × Stands read at) (columns_in t)) ts
-keys_are read sum width e [] h i = tt
-keys_are read sum width e (t ∷ ts) h i =
-    (each_two (λ at. at < width) (Stands read) (columns_in t) (subst (λ (n : ℕ). Each (λ at. at < n) (columns_in t)) e (columns_below sum t i.0)) h.0, keys_are read sum width e ts h.1 i.1)
+keys_are : (here : List ℕ) (sum width : ℕ) → sum ≡ width → (ts : List Tree) → Each (λ t. Each (Stands here) (columns_in t)) ts → Each (IsWithin sum) ts
+    → Each (λ t. Each (λ at. (at < width) × Stands here at) (columns_in t)) ts
+keys_are here sum width e [] h i = tt
+keys_are here sum width e (t ∷ ts) h i =
+    (each_two (λ at. at < width) (Stands here) (columns_in t) (subst (λ (n : ℕ). Each (λ at. at < n) (columns_in t)) e (columns_below sum t i.0)) h.0, keys_are here sum width e ts h.1 i.1)
 
 least_width : (w s m : ℕ) → min (0 + w) m ≡ s → s < m → s ≡ w
 least_width w s m e h = omega (arith, e, h)

@@ -19,8 +19,8 @@ pub fn trees_read_their_columns()
 {}
 
 /// The levels that a core's offers and the boxes' answers make are a plan of its loops, whatever the boxes answered, as if no limit were
-/// promised: with their boxes they decide the conditions, and the joined rows that pass these are, in the columns that the core reads, those
-/// that the loops are to give. What they check may not fault, if no ON of the core may.
+/// promised: with their boxes they decide the conditions, and the joined rows that pass these are, in the columns that the core reads,
+/// those that the loops are to give. What they check may not fault, if no ON of the core may.
 pub fn plans_are_loop_plans()
     ensures plans { PlansAreLoopPlans }
     ensures safe { PlansAreSafe }
