@@ -14,7 +14,8 @@ returns c =
     let one : length plan.select.cores.items ≡ 1 = omega arith in
     let two : length plan.loops.items ≡ 1 = omega arith in
     let cores : plan.select.cores.items ≡ core ∷ [] = alone plan.select.cores.items core one c.index-2.ensures in
-    let inner : c.index.result.now.items ≡ level ∷ [] = sym c.as_slice-levels.ensures.value ∙ alone c.as_slice-levels.result.now level c.if-levels-ne1.false c.index-levels-0.is in
+    let many : length c.as_slice-levels.result.now ≡ 1 = omega arith in
+    let inner : c.index.result.now.items ≡ level ∷ [] = sym c.as_slice-levels.ensures.value ∙ alone c.as_slice-levels.result.now level many c.index-levels-0.is in
     let outer : levels_in plan.loops.items ≡ c.index.result.now.items ∷ [] = ap levels_in (alone plan.loops.items c.index.result.now two c.index.ensures) in
     let levels : levels_in plan.loops.items ≡ (level ∷ []) ∷ [] = outer ∙ ap (λ (ls : List LoopLevel). ls ∷ []) inner in (
       λ e. record { core = core; level = level; levels = levels; comes = c.stand_in_order.ensures.0 e },
