@@ -38,4 +38,5 @@ pub record GoesOn (run : Run) (old new : List (Option BoxState)) : Type 0 where
 abbrev pub KeepTables : Held → List (Option BoxState) → List (Option BoxState) → Type 0
 KeepTables own old new =
     (slot number : ℕ) → Contains (own slot) number → (s t : BoxState) → slice_get old slot ≡ Some (Some s)
-    → slice_get new slot ≡ Some (Some t) → (was now : Scan) → scan_of s number ≡ Some was → scan_of t number ≡ Some now → (now.table ≡ was.table) × (now.kinds ≡ was.kinds)
+    → slice_get new slot ≡ Some (Some t) → (was now : Scan) → scan_of s number ≡ Some was → scan_of t number ≡ Some now
+    → (now.table ≡ was.table) × (now.kinds ≡ was.kinds)

@@ -50,7 +50,8 @@ pub record PullsFor (times : ℕ) (run : Run) (old : List (Option BoxState)) (af
   pub most : IsBareRun (levels_in run) → PullsAtMost (many_in (slot_in run) (skip_in run + times)) old new
   pub offset : IsBareRun (levels_in run) → pulled_at new (slot_in run) + skip_in after ≤ pulled_at old (slot_in run) + (skip_in run + times)
   pub limit : IsBareRun (levels_in run) → (n : ℕ) → limit_in run ≡ Some n
-      → (m : ℕ) × (limit_in after ≡ Some m) × (pulled_at new (slot_in run) + pulls_left (skip_in after) m ≤ pulled_at old (slot_in run) + pulls_left (skip_in run) n)
+      → (m : ℕ) × (limit_in after ≡ Some m)
+      × (pulled_at new (slot_in run) + pulls_left (skip_in after) m ≤ pulled_at old (slot_in run) + pulls_left (skip_in run) n)
 
 -- FETCH asks for a row no more often than for so many rows.
 abbrev pub PullsFetched : CountTree → Run → List (Option BoxState) → Run → List (Option BoxState) → Type 0

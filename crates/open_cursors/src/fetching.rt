@@ -29,8 +29,9 @@ fn is_enough(asked: FetchCount, given: usize) -> bool
 }
 
 /// Gives as many rows of a run as are asked for, or all that are left where they are fewer, in their order. It asks the run for no row
-/// beyond them, and the next FETCH goes on behind them. No scan is begun. No box gives a row where the run holds its answer; where it holds
-/// the scan of one table of whose rows nothing is checked again, its box gives no more rows than are asked for, after those that OFFSET passes.
+/// beyond them, and the next FETCH goes on behind them. No scan is begun. No box gives a row where the run holds its answer; where it
+/// holds the scan of one table of whose rows nothing is checked again, its box gives no more rows than are asked for, after those that
+/// OFFSET passes.
 ///
 /// After a fault the run is good for its close alone.
 ///
