@@ -11,6 +11,8 @@ use std::test::Fail;
 // A session's number and what it asks, how many scans are live then, and how many rows the list has given since the beginning. parts has
 // three rows, and so has orders, of which part is 1, 1 and 9. The list gives its rows in the order that is wished.
 const ROWS: &str = "\
+1 OPEN => 0 0
+2 OPEN => 0 0
 1 DECLARE a CURSOR FOR SELECT id FROM parts => 1 0
 1 FETCH 1 FROM a => 1 1
 2 SELECT no FROM orders WHERE no = 11 => 1 2
@@ -34,7 +36,9 @@ const ROWS: &str = "\
 
 // What a row asks.
 fn request_of(text: &str) -> Request<'_> {
-    if text == "BYE" {
+    if text == "OPEN" {
+        Request::Open("bob")
+    } else if text == "BYE" {
         Request::Bye
     } else {
         Request::Sql(text)
@@ -65,16 +69,25 @@ fn leaves<W: Wrapper2>(
     Err(Fail::new(format_args!("{row}: {came} came")))
 }
 
+// The same of all rows, one after another.
+fn leaves_each<W: Wrapper2>(
+    alloc: Global,
+    engine: &mut Engine<W>,
+    out: &mut Vec<u8>,
+) -> Result<(), Fail>
+    requires { IsSound (shown W.meaning engine.old) }
+    ensures { IsSound (shown W.meaning engine.new) }
+{
+    for row in ROWS.lines() {
+        leaves(alloc, engine, row, out)?;
+    }
+    Ok(())
+}
+
 #[test]
 fn live_scans_are_those_of_open_cursors(rt: HostRuntime) -> Result<(), Fail> {
     let alloc = rt.alloc();
     let mut out = Vec::new(alloc);
     let mut engine = engine_over(alloc, new_list(alloc)?)?;
-    for session in [1, 2] {
-        ask(&mut engine, session, Request::Open("bob"), &mut out)?;
-    }
-    for row in ROWS.lines() {
-        leaves(alloc, &mut engine, row, &mut out)?;
-    }
-    Ok(())
+    leaves_each(alloc, &mut engine, &mut out)
 }
