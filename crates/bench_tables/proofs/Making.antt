@@ -1,7 +1,7 @@
 -- Lines that are answered one after the other.
 use Rattle.std.proofs.Common.{List, [], ◌∷◌, refl}
 use Rattle.med_world.specs.Engine.{Shown, Agrees}
-use Rattle.med_world.specs.World.{World}
+use Rattle.sql_meaning.specs.World.{World}
 use Rattle.bench_tables.specs.Setup.{Exchange, Answers, AnswersAll}
 
 -- from a world of the first engine the lines lead to one of the second

@@ -8,16 +8,15 @@ use Rattle.med_syntax.specs.QueryTree.{EntryTree, SelectTree, select}
 use Rattle.med_query.specs.Form.{form_of}
 use Rattle.med_query.specs.Select.{are_safe_cores}
 use Rattle.med_query.specs.declared.select.Select.{Select}
-use Rattle.bind_names.specs.Scope.{TableShape, entries_of, entry_place, entry_columns, entry_shape}
+use Rattle.bind_names.specs.Scope.{TableShape, entries_of, entry_place, entry_columns, entry_shape, exposed_name}
 use Rattle.bind_names.specs.Naming.{entry_causes, alias_causes, from_causes, asked_causes, once_known, select_name_causes, NameCauses}
-use Rattle.bind_names.specs.Scope.{exposed_name}
 use Rattle.bind_names.specs.Telling.{TellsCause}
 use Rattle.bind_types.specs.Typing.{select_type_causes}
 use Rattle.med_binder.specs.Binding.{IsBound, BindCauses, BindTells}
 use Rattle.med_binder.specs.Within.{widths}
 use Rattle.med_binder.specs.declared.bound.BoundEntry.{BoundEntry}
 use Rattle.med_binder.specs.declared.bound.BoundQuery.{BoundQuery}
-use Rattle.med_planner.specs.Planned as offered
+use Rattle.med_binder.specs.Place as offered
 use Rattle.med_catalog.specs.Objects.{Objects, table_named}
 use Rattle.bind_catalog.specs.Tables.{shapes}
 use Rattle.bind_catalog.specs.Barred.{reading_causes, table_causes, query_right_causes}

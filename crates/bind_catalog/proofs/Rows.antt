@@ -11,7 +11,7 @@ use Rattle.bind_names.specs.Scope.{TableShape, place_from, entry_columns}
 use Rattle.bind_names.specs.Naming.{entry_causes}
 use Rattle.med_catalog.specs.Objects.{TableObject, Objects, table_named}
 use Rattle.bind_catalog.specs.Tables.{shape_of, shapes}
-use Rattle.med_planner.specs.Planned.{Place}
+use Rattle.med_binder.specs.Place.{Place}
 use Rattle.bind_catalog.specs.Places.{Attached, IsPlaceOf, ArePlaces}
 use Rattle.bind_catalog.proofs.Found.{named_found, known_found, is_called, place_up}
 

@@ -1,6 +1,6 @@
 -- Where the tables of a catalogue are bound: one place for each table, in the order of the tables.
 use Rattle.std.specs.Prelude.{◌≡◌, ℕ, List, [], ◌∷◌, Some, slice_get}
-use Rattle.med_planner.specs.Planned.{Place}
+use Rattle.med_binder.specs.Place.{Place}
 use Rattle.bind_catalog.specs.declared.bound.BoundTable.{BoundTable}
 
 -- the place of the table's source, and the table's number in the source's box

@@ -9,7 +9,7 @@ ghost use Rattle.bind_names.specs.Scope.{from_scope};
 ghost use Rattle.med_binder.specs.Binding.{IsMeant};
 ghost use Rattle.med_binder.specs.Counted.{bound_widths};
 ghost use Rattle.med_binder.specs.Within.{widths};
-ghost use Rattle.med_planner.specs.Planned.{entry_place};
+ghost use Rattle.med_binder.specs.Place.{entry_place};
 ghost use Rattle.med_catalog.specs.View.{objects};
 ghost use Rattle.bind_catalog.specs.Tables.{shapes, AreNamedOnce};
 ghost use Rattle.bind_catalog.specs.Places.{attached, ArePlaces};

@@ -29,7 +29,7 @@ use Rattle.med_binder.specs.Counted.{bound_widths}
 use Rattle.med_binder.specs.Within.{widths}
 use Rattle.med_binder.specs.Turns.{TellsInTurn}
 use Rattle.med_binder.specs.declared.bound.BoundQuery.{BoundQuery}
-use Rattle.med_planner.specs.Planned.{entry_place}
+use Rattle.med_binder.specs.Place.{entry_place}
 use Rattle.med_catalog.specs.DdlCauses.{phase}
 use Rattle.med_catalog.specs.Objects.{Objects, table_named}
 use Rattle.bind_catalog.proofs.Phases as of_query

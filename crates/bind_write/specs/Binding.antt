@@ -12,7 +12,7 @@ use Rattle.med_binder.specs.Binding.{IsMeant}
 use Rattle.med_binder.specs.Counted.{bound_widths}
 use Rattle.med_binder.specs.Within.{widths}
 use Rattle.med_binder.specs.declared.bound.BoundQuery.{BoundQuery}
-use Rattle.med_planner.specs.Planned as offered
+use Rattle.med_binder.specs.Place as offered
 use Rattle.med_catalog.specs.DdlCauses.{phase}
 use Rattle.med_catalog.specs.Objects.{Objects}
 use Rattle.bind_catalog.specs.Tables.{shapes}

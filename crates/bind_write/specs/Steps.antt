@@ -22,7 +22,7 @@ use Rattle.med_binder.specs.Within.{widths}
 use Rattle.med_binder.specs.declared.bound.BoundQuery.{BoundQuery}
 use Rattle.med_binder.specs.Turns.{TellsInTurn}
 use Rattle.med_catalog.specs.Objects.{Objects}
-use Rattle.med_planner.specs.Planned.{entry_place}
+use Rattle.med_binder.specs.Place.{entry_place}
 use Rattle.bind_catalog.specs.Barred.{query_right_causes}
 use Rattle.bind_catalog.specs.Places.{Attached, ArePlaces}
 use Rattle.bind_catalog.specs.Queries.{meant_by}

@@ -19,7 +19,8 @@ use Rattle.med_binder.specs.declared.bound.BoundQuery.{BoundQuery}
 use Rattle.fdw_api.specs.State.{BoxTable, BoxState, table_of}
 use Rattle.fdw_api.specs.Wishes.{WishForm}
 use Rattle.fdw_api.specs.declared.wishes.Agreement2.{Agreement2}
-use Rattle.med_planner.specs.Planned.{entry_place, entry_rows}
+use Rattle.med_binder.specs.Place.{entry_place}
+use Rattle.med_planner.specs.Planned.{entry_rows}
 use Rattle.nested_loops.specs.Joins.{Each}
 use Rattle.nested_loops.specs.Loops.{Level}
 use Rattle.scan_loops.specs.Levels.{levels_of}

@@ -11,7 +11,8 @@ use Rattle.med_query.specs.declared.select.SelectCore.{SelectCore}
 use Rattle.med_binder.specs.Counted.{joined_number, chain_numbers, CoreCounts}
 use Rattle.med_binder.specs.declared.bound.BoundEntry.{BoundEntry}
 use Rattle.fdw_api.specs.State.{BoxState}
-use Rattle.med_planner.specs.Planned.{entry_place, rows_shown, entry_rows}
+use Rattle.med_binder.specs.Place.{entry_place}
+use Rattle.med_planner.specs.Planned.{rows_shown, entry_rows}
 use Rattle.nested_loops.specs.Joins.{Each}
 use Rattle.scan_loops.specs.Scans.{or_none, rows_in, rows_at}
 use Rattle.loop_plans.specs.Plans.{tables_by}

@@ -2,38 +2,26 @@
 use Rattle.std.proofs.Common.{◌≡◌, ◌∙◌, ◌+◌, ℕ, inl, inr, List, map, Option, Result, Ok, Err, IfOk, IfErr, ap, sym, subst}
 use Rattle.med_value.specs.Datum.{Tuple}
 use Rattle.med_value.specs.declared.cause.Cause.{Cause}
-use Rattle.tri_expr.specs.declared.expr.Fault.TheVariants.{Range, Zero}
 use Rattle.med_query.specs.Query.{Query, Tables, IsAnswer}
 use Rattle.med_query.specs.Select.{query_of}
 use Rattle.med_query.specs.declared.select.Select.{Select}
 use Rattle.med_binder.specs.declared.bound.BoundQuery.{BoundQuery}
 use Rattle.fdw_api.specs.State.{BoxState}
 use Rattle.fdw_api.specs.declared.interface.Fault.{Fault}
-use Rattle.med_planner.specs.Planned.{entry_place, entry_rows, IsShownCause as IsTold}
+use Rattle.med_binder.specs.Place.{entry_place}
+use Rattle.med_query.specs.Causes.{IsShownCause}
+use Rattle.med_planner.specs.Planned.{entry_rows}
 use Rattle.med_exec.specs.Running.{Stops as RunStops, lacks_memory, source_fails, numbers_end, query_shows as query_tells}
 use Rattle.scan_loops.specs.Pulling.{PullsAtMost, many_in}
 use Rattle.scan_loops.specs.Serving.{wants_memory, box_breaks}
 use Rattle.scan_loops.specs.Starting.{box_stops, numbers_end as numbers_out}
 use Rattle.loop_answers.specs.Ordered.{ComesInOrder}
-use Rattle.loop_runs.specs.Causes.{IsShownCause}
 use Rattle.loop_runs.specs.Gathering.{levels_in}
 use Rattle.loop_runs.specs.Ordering.{PullsAsAsked}
 use Rattle.loop_runs.specs.Running.{IsPlanOver, Answers, Stops, loops_stop, query_shows}
 use Rattle.loop_runs.specs.declared.running.LoopPlan.{LoopPlan}
 use Rattle.bound_runs.specs.Pulling.{PullsRows}
 use Rattle.bound_runs.specs.Running.{IsPlanFor, RunAnswers}
-
--- ---- causes
-
-told : (q : Query) (db : Tables) (c : Cause) → IsShownCause q db c → IsTold q db c
-told q db c (inl (Range, h, e)) = inl (Range, h, e)
-told q db c (inl (Zero, h, e)) = inl (Zero, h, e)
-told q db c (inr w) = inr w
-
-shown : (q : Query) (db : Tables) (c : Cause) → IsTold q db c → IsShownCause q db c
-shown q db c (inl (Range, h, e)) = inl (Range, h, e)
-shown q db c (inl (Zero, h, e)) = inl (Zero, h, e)
-shown q db c (inr w) = inr w
 
 -- ---- the run
 
@@ -47,14 +35,14 @@ module _ (old : List (Option BoxState)) (bound : BoundQuery) (plan : LoopPlan) (
   pub run_answers : (rows : List Tuple) → ((eb : Tables) → IsPlanOver eb plan old → Answers eb plan rows) → RunAnswers (query_of bound.select) (map entry_place bound.entries.items) old rows
   run_answers rows h = record {
     answers = λ honest. subst (λ (q : Query). IsAnswer q db rows) same (h db (p.over honest)).answer;
-    clear = λ honest c tells. (h db (p.over honest)).clear c (shown (query_of plan.select) db c (subst (λ (q : Query). IsTold q db c) (sym same) tells));
+    clear = λ honest c tells. (h db (p.over honest)).clear c (subst (λ (q : Query). IsShownCause q db c) (sym same) tells);
   }
 
   stops : (fault : Fault) (new : List (Option BoxState)) → Stops db plan fault old new → RunStops (query_of bound.select) (map entry_place bound.entries.items) fault old new
   stops fault new (loops_stop (box_stops (wants_memory e))) = lacks_memory e
   stops fault new (loops_stop (box_stops (box_breaks e failed))) = source_fails e failed
   stops fault new (loops_stop (numbers_out e used)) = numbers_end e used
-  stops fault new (query_shows c e tells) = query_tells c e (λ honest. subst (λ (q : Query). IsTold q db c) same (told (query_of plan.select) db c (tells (p.over honest))))
+  stops fault new (query_shows c e tells) = query_tells c e (λ honest. subst (λ (q : Query). IsShownCause q db c) same (tells (p.over honest)))
 
   pub run_pulls : (new : List (Option BoxState)) → PullsAsAsked plan old new → PullsRows bound old new
   run_pulls new h = inr (record {

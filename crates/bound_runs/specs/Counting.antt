@@ -2,7 +2,7 @@
 use Rattle.std.specs.Prelude.{◌≡◌, ◌≤◌, ◌+◌, ◌*◌, ℕ, false, nat_eq, if◌then◌else◌, List, [], ◌∷◌, length, map, Option, Some, slice_get}
 use Rattle.fdw_api.specs.State.{BoxState}
 use Rattle.med_binder.specs.declared.bound.BoundQuery.{BoundQuery}
-use Rattle.med_planner.specs.Planned.{Place, entry_place}
+use Rattle.med_binder.specs.Place.{Place, entry_place}
 
 -- how many of these tables are of the box in this slot, each as often as it stands there
 abbrev pub tables_in : ℕ → List Place → ℕ

@@ -11,7 +11,9 @@ use Rattle.med_binder.specs.Counted.{bound_widths, FormCounts}
 use Rattle.med_binder.specs.Within.{FormWithin}
 use Rattle.med_binder.specs.declared.bound.BoundQuery.{BoundQuery}
 use Rattle.fdw_api.specs.State.{BoxState}
-use Rattle.med_planner.specs.Planned.{Place, entry_place, entry_rows, IsShownCause}
+use Rattle.med_binder.specs.Place.{Place, entry_place}
+use Rattle.med_query.specs.Causes.{IsShownCause}
+use Rattle.med_planner.specs.Planned.{entry_rows}
 use Rattle.scan_loops.specs.Serving.{AllHonest}
 use Rattle.scan_loops.specs.Scans.{bound_at, rows_at}
 use Rattle.scan_loops.specs.Counting.{scans_in}

@@ -3,7 +3,7 @@ ghost use Rattle.std.specs.Prelude.{◌≡◌, map, IfOk, IfErr};
 ghost use Rattle.med_value.specs.Datum.{tuple};
 ghost use Rattle.med_query.specs.Select.{query_of};
 ghost use Rattle.fdw_api.specs.declared.interface.Fault.TheVariants.{NoMemory as WantOfMemory};
-ghost use Rattle.med_planner.specs.Planned.{entry_place};
+ghost use Rattle.med_binder.specs.Place.{entry_place};
 ghost use Rattle.med_exec.specs.Counting.{BeginsScans};
 ghost use Rattle.med_exec.specs.Holding.{HoldsOf};
 ghost use Rattle.med_exec.specs.Rests.{Rests, held, IsRunning};

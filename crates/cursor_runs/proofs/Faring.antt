@@ -8,13 +8,13 @@ use Rattle.cursor_syntax.specs.CursorTree.{CursorTree, declare, fetch, close}
 use Rattle.med_catalog.specs.Changes.{ObjectChange, nothing, new_wrapper, new_server, new_mapping, new_table, no_wrapper, no_server, no_mapping, no_table}
 use Rattle.med_parser.specs.CommandTree.{CommandTree, on_data, on_rows, on_cursors, on_objects}
 use Rattle.med_parser.specs.CommandGrammar.{HasCommand}
-use Rattle.med_world.specs.Requests.{AskedLine, opening, sql, bye}
-use Rattle.med_world.specs.World.{World, Cursor, Session, with_session}
-use Rattle.med_world.specs.Cursors.{cursor_named, with_cursor, without_cursor, with_handed, handing, Fetches, Fetched}
-use Rattle.med_world.specs.Picks.{Pick}
-use Rattle.med_world.specs.Replies.{Reply, done, reply_text}
-use Rattle.med_world.specs.Causes.{NoneStands, IsStatementOf}
-use Rattle.med_world.specs.Steps.{Trouble, new_cursor, Turns, Changes, TreeDoes, Does, Loses, Step, is_refused, is_done, lacks_memory, fetch_lacks_memory, source_fails, numbers_end}
+use Rattle.sql_meaning.specs.Requests.{AskedLine, opening, sql, bye}
+use Rattle.sql_meaning.specs.World.{World, Cursor, Session, with_session}
+use Rattle.sql_meaning.specs.Cursors.{cursor_named, with_cursor, without_cursor, with_handed, handing, Fetches, Fetched}
+use Rattle.sql_meaning.specs.Picks.{Pick}
+use Rattle.sql_meaning.specs.Replies.{Reply, done, reply_text}
+use Rattle.sql_meaning.specs.Causes.{NoneStands, IsStatementOf}
+use Rattle.sql_meaning.specs.Steps.{Trouble, new_cursor, Turns, Changes, TreeDoes, Does, Loses, Step, is_refused, is_done, lacks_memory, fetch_lacks_memory, source_fails, numbers_end}
 use Rattle.med_world.proofs.Lists.{some_same, bytes_same, bytes_other, other_bytes}
 use Rattle.session_wire.specs.Frames.{IsFrame}
 use Rattle.session_wire.proofs.UniqueFrames.{one_frame}

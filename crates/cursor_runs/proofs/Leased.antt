@@ -16,13 +16,13 @@ use Rattle.med_catalog.specs.Changes.{ObjectChange, nothing, new_wrapper, new_se
 use Rattle.med_parser.specs.CommandTree.{CommandTree, on_data, on_rows, on_cursors, on_objects}
 use Rattle.med_parser.specs.CommandGrammar.{HasCommand}
 use Rattle.bind_names.specs.Scope.{entries_of}
-use Rattle.med_world.specs.Requests.{AskedLine, opening, sql, bye, IsSid}
-use Rattle.med_world.specs.World.{World, Leased, Cursor, Session, cells_of, rows_named, reads_table, leases, is_leased, beside_without, rows_with}
-use Rattle.med_world.specs.Cursors.{cursor_named, is_cursor, handing}
-use Rattle.med_world.specs.Picks.{Pick}
-use Rattle.med_world.specs.Replies.{Reply}
-use Rattle.med_world.specs.Causes.{NoneStands, TreeCauses}
-use Rattle.med_world.specs.Steps.{Trouble, new_cursor, Turns, Changes, TreeDoes, Does, Loses, Step, is_refused, is_done, lacks_memory, fetch_lacks_memory, source_fails, numbers_end}
+use Rattle.sql_meaning.specs.Requests.{AskedLine, opening, sql, bye, IsSid}
+use Rattle.sql_meaning.specs.World.{World, Leased, Cursor, Session, cells_of, rows_named, reads_table, leases, is_leased, beside_without, rows_with}
+use Rattle.sql_meaning.specs.Cursors.{cursor_named, is_cursor, handing}
+use Rattle.sql_meaning.specs.Picks.{Pick}
+use Rattle.sql_meaning.specs.Replies.{Reply}
+use Rattle.sql_meaning.specs.Causes.{NoneStands, TreeCauses}
+use Rattle.sql_meaning.specs.Steps.{Trouble, new_cursor, Turns, Changes, TreeDoes, Does, Loses, Step, is_refused, is_done, lacks_memory, fetch_lacks_memory, source_fails, numbers_end}
 use Rattle.med_world.proofs.Lists.{some_same, same_bytes, bytes_same, none_some}
 use Rattle.med_world.proofs.Named.{found_place, place_of, at_place}
 use Rattle.med_world.proofs.Seats.{unleased}

@@ -2,8 +2,8 @@
 use Rattle.std.proofs.Common.{◌≡◌, ◌≢◌, Bool, true, false, not, cond, List, [], ◌∷◌, ◌++◌, Option, Some, None, find, filter, map, refl, ap, sym, ◌∙◌}
 use Rattle.med_value.specs.Datum.{Tuple}
 use Rattle.med_syntax.specs.Tree.{Name}
-use Rattle.med_world.specs.World.{Cursor}
-use Rattle.med_world.specs.Cursors.{is_cursor, handing, hand_out}
+use Rattle.sql_meaning.specs.World.{Cursor}
+use Rattle.sql_meaning.specs.Cursors.{is_cursor, handing, hand_out}
 use Rattle.med_world.proofs.Lists.{some_same, bytes_same, other_bytes}
 use Rattle.med_world.proofs.Named.{none_later}
 

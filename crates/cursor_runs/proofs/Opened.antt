@@ -6,12 +6,12 @@ use Rattle.med_syntax.specs.QueryTree.{SelectTree, select}
 use Rattle.cursor_syntax.specs.CursorTree.{declare}
 use Rattle.med_parser.specs.CommandTree.{CommandTree, on_cursors}
 use Rattle.med_parser.specs.CommandGrammar.{HasCommand}
-use Rattle.med_world.specs.Requests.{AskedLine, sql}
-use Rattle.med_world.specs.World.{World, Cursor}
-use Rattle.med_world.specs.Cursors.{cursor_named, with_cursor}
-use Rattle.med_world.specs.Replies.{Reply, done, reply_text}
-use Rattle.med_world.specs.Causes.{NoneStands, exists}
-use Rattle.med_world.specs.Steps.{Trouble, new_cursor, Turns, TreeDoes, Does, Step, is_refused, is_done, lacks_memory, fetch_lacks_memory, source_fails, numbers_end}
+use Rattle.sql_meaning.specs.Requests.{AskedLine, sql}
+use Rattle.sql_meaning.specs.World.{World, Cursor}
+use Rattle.sql_meaning.specs.Cursors.{cursor_named, with_cursor}
+use Rattle.sql_meaning.specs.Replies.{Reply, done, reply_text}
+use Rattle.sql_meaning.specs.Causes.{NoneStands, exists}
+use Rattle.sql_meaning.specs.Steps.{Trouble, new_cursor, Turns, TreeDoes, Does, Step, is_refused, is_done, lacks_memory, fetch_lacks_memory, source_fails, numbers_end}
 use Rattle.med_world.proofs.Lists.{same_bytes}
 use Rattle.session_wire.specs.Run.{IsAnswered}
 use Rattle.session_wire.specs.Worlds.{Scene, SceneSteps}

@@ -7,8 +7,8 @@ use Rattle.med_syntax.specs.QueryTree.{select}
 use Rattle.cursor_syntax.specs.CursorTree.{declare, fetch, close}
 use Rattle.med_parser.specs.CommandTree.{CommandTree, on_cursors}
 use Rattle.med_parser.specs.CommandGrammar.{HasCommand}
-use Rattle.med_world.specs.Requests.{AskedLine, sql, bye}
-use Rattle.med_world.specs.Replies.{done, refused, line, refusal, tag_line, reply_text}
+use Rattle.sql_meaning.specs.Requests.{AskedLine, sql, bye}
+use Rattle.sql_meaning.specs.Replies.{done, refused, line, refusal, tag_line, reply_text}
 use Rattle.session_wire.specs.Frames.{IsFrame}
 use Rattle.session_wire.proofs.UniqueFrames.{one_frame}
 use Rattle.cursor_runs.specs.Exchanges.{Exchange}

@@ -8,10 +8,10 @@ use Rattle.med_query.specs.Query.{IsAnswer}
 use Rattle.cursor_syntax.specs.CursorTree.{CountTree, declare, fetch, close}
 use Rattle.med_parser.specs.CommandTree.{CommandTree, on_cursors}
 use Rattle.med_parser.specs.CommandGrammar.{HasCommand}
-use Rattle.med_world.specs.Requests.{sql, bye}
-use Rattle.med_world.specs.World.{Cursor}
-use Rattle.med_world.specs.Cursors.{rows_leased, Fetched, IsLast, rows_fetched}
-use Rattle.med_world.specs.Replies.{done, answered, refused, reply_text}
+use Rattle.sql_meaning.specs.Requests.{sql, bye}
+use Rattle.sql_meaning.specs.World.{Cursor}
+use Rattle.sql_meaning.specs.Cursors.{rows_leased, Fetched, IsLast, rows_fetched}
+use Rattle.sql_meaning.specs.Replies.{done, answered, refused, reply_text}
 use Rattle.session_wire.specs.Frames.{IsFrame}
 use Rattle.cursor_runs.specs.Exchanges.{Exchange}
 

@@ -3,8 +3,8 @@ use Rattle.std.specs.Prelude.{◌≡◌, ◌⊎◌, ℕ, true, false, List, [], 
 use Rattle.med_syntax.specs.Tree.{Name}
 use Rattle.fdw_api.specs.Kinds.{Held}
 use Rattle.med_catalog.specs.Objects.{TableObject}
-use Rattle.med_world.specs.World.{World, Leased, Cursor, Session, cells_of, reads_table}
-use Rattle.med_world.specs.Cursors.{cursor_named}
+use Rattle.sql_meaning.specs.World.{World, Leased, Cursor, Session, cells_of, reads_table}
+use Rattle.sql_meaning.specs.Cursors.{cursor_named}
 use Rattle.session_wire.specs.Worlds.{Scene}
 use Rattle.cursor_runs.specs.Exchanges.{Exchange}
 use Rattle.cursor_runs.specs.Fetching.{EndsCursor}

@@ -2,7 +2,7 @@
 use Rattle.std.specs.Prelude.{◌≡◌, ℕ, List, ◌∷◌, ◌++◌}
 use Rattle.med_syntax.specs.Tree.{Name}
 use Rattle.med_syntax.specs.QueryTree.{SelectTree}
-use Rattle.med_world.specs.Steps.{new_cursor}
+use Rattle.sql_meaning.specs.Steps.{new_cursor}
 use Rattle.session_wire.specs.Worlds.{Scene, SceneSteps}
 use Rattle.cursor_runs.specs.Exchanges.{Exchange, Exchanged}
 use Rattle.cursor_runs.specs.Fetching.{Declares, GivesOneAnswer}

@@ -3,10 +3,10 @@
 ghost use Rattle.std.specs.Prelude.{◌≡◌, ℕ, List, [], ◌∷◌, ◌++◌, Some};
 ghost use Rattle.med_syntax.specs.Tree.{Name};
 ghost use Rattle.med_syntax.specs.QueryTree.{SelectTree};
-ghost use Rattle.med_world.specs.Requests.{IsSid};
-ghost use Rattle.med_world.specs.World.{Session, Cursor};
-ghost use Rattle.med_world.specs.Cursors.{cursor_named};
-ghost use Rattle.med_world.specs.Steps.{new_cursor};
+ghost use Rattle.sql_meaning.specs.Requests.{IsSid};
+ghost use Rattle.sql_meaning.specs.World.{Session, Cursor};
+ghost use Rattle.sql_meaning.specs.Cursors.{cursor_named};
+ghost use Rattle.sql_meaning.specs.Steps.{new_cursor};
 ghost use Rattle.session_wire.specs.Lines.{Lines};
 ghost use Rattle.session_wire.specs.Run.{Run, RunFront};
 ghost use Rattle.session_wire.specs.Worlds.{Scene, SceneSteps, SceneEnds};

@@ -13,7 +13,7 @@ use Rattle.med_catalog.specs.declared.kind.SourceKind.TheVariants.{List as Lists
 use Rattle.med_catalog.specs.declared.kind.SourceKind.TheVariants as sources
 use Rattle.med_world.specs.Adding.{HasSource, Adds}
 use Rattle.med_world.specs.Engine.{Shown, Label, IsSound, Agrees, TakesAs, sources_of}
-use Rattle.med_world.specs.World.{World, empty_world, with_source}
+use Rattle.sql_meaning.specs.World.{World, empty_world, with_source}
 use Rattle.med_session.specs.Adding.{AddCause}
 use Rattle.med_session.specs.declared.adding.AddFault.{AddFault}
 use Rattle.med_session.specs.declared.adding.AddFault.TheVariants as adding

@@ -1,13 +1,12 @@
 -- What a program begins with: the demo list, folders and databases as sources, the set-up of the list by a script, and the replay of its
 -- init file.
-use Rattle.std.specs.Prelude.{◌≡◌, ◌≢◌, ◌<◌, ◌⊎◌, ℕ, Bool, true, List, [], ◌∷◌, ◌++◌, length}
-use Rattle.std.specs.Prelude.{Option, Some, None, option_map, Result, Ok, Err}
+use Rattle.std.specs.Prelude.{◌≡◌, ◌≢◌, ◌<◌, ◌⊎◌, ℕ, Bool, true, List, [], ◌∷◌, ◌++◌, length, Option, Some, None, option_map, Result, Ok, Err}
 use Rattle.std.specs.Borrow.{Bor}
 use Rattle.fdw_api.specs.State.{BoxState}
 use Rattle.med_catalog.specs.declared.kind.SourceKind.TheVariants as kinds
 use Rattle.med_world.specs.Adding.{HasSource}
 use Rattle.med_world.specs.Engine.{Label, Shown, Agrees}
-use Rattle.med_world.specs.World.{World, empty_world, with_source}
+use Rattle.sql_meaning.specs.World.{World, empty_world, with_source}
 use Rattle.blob_store.specs.Drives.{Drive}
 use Rattle.blob_store.specs.Files.{folder_shelf}
 use Rattle.blob_store.specs.Known.{Sure}

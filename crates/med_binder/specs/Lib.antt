@@ -1,3 +1,4 @@
+pub mod Place
 pub mod Binding
 pub mod Entries
 pub mod Looking

@@ -2,7 +2,7 @@
 use Rattle.std.specs.Prelude.{◌≡◌, ℕ, List, Option, Some, Contains}
 use Rattle.fdw_api.specs.State.{Scan, BoxState, scan_of}
 use Rattle.fdw_api.specs.Sound.{IsTableOf}
-use Rattle.med_planner.specs.Planned.{Place}
+use Rattle.med_binder.specs.Place.{Place}
 use Rattle.med_exec.specs.declared.running.Run.{Run}
 use Rattle.med_exec.specs.Slots.{BoxAt}
 use Rattle.med_exec.specs.Rests.{held}

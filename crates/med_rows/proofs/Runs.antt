@@ -10,7 +10,7 @@ use Rattle.med_syntax.specs.Tree.{Name}
 use Rattle.write_syntax.specs.WriteTree.{GivenTree, values, rows_of, WriteTree, insert, update, delete}
 use Rattle.fdw_api.specs.State.{BoxState}
 use Rattle.fdw_api.specs.declared.interface.Fault.{Fault}
-use Rattle.med_planner.specs.Planned.{entry_place}
+use Rattle.med_binder.specs.Place.{entry_place}
 use Rattle.med_exec.specs.Slots.{BoxAt, ChangesAt}
 use Rattle.med_exec.specs.Running.{AllServed, AllHonest}
 use Rattle.med_exec.proofs.Served.{box_inj}
@@ -30,7 +30,7 @@ use Rattle.bind_write.specs.declared.bound.TableWrite.{TableWrite}
 use Rattle.bind_write.specs.Binding.{IsBindable, IsQueryOf, IsGiven as IsBoundGiven, IsMeantWrite}
 use Rattle.med_select.proofs.Selections.{entries_counted}
 use Rattle.med_world.specs.Altering.{cause_of}
-use Rattle.med_world.specs.Causes.{query_of}
+use Rattle.sql_meaning.specs.Causes.{query_of}
 use Rattle.open_cursors.specs.Counted.{ReadsTables}
 use Rattle.open_cursors.specs.Starting.{RunFails}
 use Rattle.med_world.specs.Selecting.{AnswersOver}

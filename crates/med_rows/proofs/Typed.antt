@@ -18,7 +18,8 @@ use Rattle.fdw_api.specs.Kinds.{kinds_of}
 use Rattle.fdw_api.specs.Scan.{TableRow, row_fits}
 use Rattle.fdw_api.specs.State.{BoxState, rows_of as rows_in_box}
 use Rattle.fdw_api.specs.Sound.{IsTableOf}
-use Rattle.med_planner.specs.Planned.{Place, entry_place as place_of, rows_shown, entry_rows}
+use Rattle.med_binder.specs.Place.{Place, entry_place as place_of}
+use Rattle.med_planner.specs.Planned.{rows_shown, entry_rows}
 use Rattle.med_exec.specs.Running.{AllHonest}
 use Rattle.med_exec.specs.Slots.{BoxAt}
 use Rattle.med_catalog.specs.Objects.{TableObject, Objects, table_named}
@@ -40,7 +41,7 @@ use Rattle.write_parts.specs.Typing.{WriteTypes, column_kinds, types_of}
 use Rattle.write_parts.proofs.Lists.{empty_by, none_in}
 use Rattle.bind_write.specs.Binding.{IsBindable, IsQueryOf, IsGiven as IsBoundGiven}
 use Rattle.write_types.specs.Typed.{IsClean, AreTyped, IsAnswered, IsGiven}
-use Rattle.med_world.specs.Causes.{query_of, OfGiven, OfQuery}
+use Rattle.sql_meaning.specs.Causes.{query_of, OfGiven, OfQuery}
 use Rattle.med_world.specs.Engine.{IsFirst}
 use Rattle.med_world.specs.Selecting.{AnswersOver}
 use Rattle.med_world.proofs.TargetRows.{first_from, first_table}

@@ -3,13 +3,15 @@ use Rattle.std.proofs.Common.{◌≡◌, ◌∙◌, ℕ, ◌≤◌, Bool, false,
 use Rattle.med_value.specs.Datum.{Tuple}
 use Rattle.med_syntax.specs.Tree.{Name}
 use Rattle.med_syntax.specs.QueryTree.{SelectTree}
-use Rattle.med_query.specs.Form.{form_of}
+use Rattle.med_query.specs.Form.{form_of, is_risky_form}
 use Rattle.med_query.specs.Laws.{IsSteady}
 use Rattle.med_query.specs.Query.{Query}
 use Rattle.med_query.specs.Select.{query_of as written_query}
 use Rattle.fdw_api.specs.State.{BoxState}
 use Rattle.fdw_api.specs.declared.interface.Fault.{Fault}
-use Rattle.med_planner.specs.Planned.{Place, entry_place, entry_rows, IsShownCause}
+use Rattle.med_binder.specs.Place.{Place, entry_place}
+use Rattle.med_query.specs.Causes.{IsShownCause}
+use Rattle.med_planner.specs.Planned.{entry_rows}
 use Rattle.med_exec.specs.Running.{AllServed, ServesRun, Stops, lacks_memory, source_fails, numbers_end, query_shows, Begun, none_held}
 use Rattle.med_exec.specs.Rests.{Rests, held, IsRunning}
 use Rattle.med_exec.specs.declared.running.Run.{Run}
@@ -20,7 +22,7 @@ use Rattle.bind_catalog.specs.Queries.{meant_by}
 use Rattle.bind_catalog.specs.Places.{Attached}
 use Rattle.med_world.specs.Altering.{cause_of}
 use Rattle.open_cursors.specs.Counted.{ReadsTables}
-use Rattle.open_cursors.specs.Starting.{is_risky_form, HoldsOf, RestsOver, Starts, RunFails, no_memory, box_fails, numbers_out, shows_cause, StartFails, run_fails}
+use Rattle.open_cursors.specs.Starting.{HoldsOf, RestsOver, Starts, RunFails, no_memory, box_fails, numbers_out, shows_cause, StartFails, run_fails}
 use Rattle.med_select.proofs.Selections.{ExpressionsIgnoreOrder, AnswersInAnyOrder, CausesInAnyOrder, IsBoundBy, steady, same_back, query_bound, entries_counted}
 
 -- what the run may give are answers in whatever order the rows of the entries come

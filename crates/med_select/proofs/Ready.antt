@@ -12,7 +12,7 @@ use Rattle.med_query.specs.Form.{Form, core_form, form_of}
 use Rattle.fdw_api.specs.Kinds.{kinds_of}
 use Rattle.fdw_api.specs.State.{BoxState}
 use Rattle.fdw_api.specs.Sound.{IsTableOf}
-use Rattle.med_planner.specs.Planned.{Place, entry_place as place_of}
+use Rattle.med_binder.specs.Place.{Place, entry_place as place_of}
 use Rattle.bind_names.specs.Meaning.{meant}
 use Rattle.bind_names.specs.Naming.{NameCauses, entry_causes, from_causes, asked_causes, select_name_causes, once_known}
 use Rattle.bind_names.specs.Scope.{TableShape, Scope, place_named, entry_place, entry_columns, entry_shape, entries_of, from_scope}

@@ -15,14 +15,16 @@ use Rattle.med_query.specs.Laws.{AllIgnoreOrder, IsSteadyCore, AreSteady, IsStea
 use Rattle.med_query.specs.Query.{Query, Tables, SameRows, senses, having_of}
 use Rattle.fdw_api.specs.State.{BoxState}
 use Rattle.fdw_api.specs.declared.interface.Fault.{Fault}
-use Rattle.med_planner.specs.Planned.{Place, entry_place, entry_rows, IsShownCause}
+use Rattle.med_binder.specs.Place.{Place, entry_place}
+use Rattle.med_query.specs.Causes.{IsShownCause}
+use Rattle.med_planner.specs.Planned.{entry_rows}
 use Rattle.med_exec.specs.Running.{AllServed, Stops, lacks_memory, source_fails, numbers_end, query_shows}
 use Rattle.med_syntax.specs.QueryTree.{SelectTree}
 use Rattle.bind_names.specs.Meaning.{Meant}
 use Rattle.med_binder.specs.Binding.{IsMeant}
 use Rattle.med_binder.specs.declared.bound.BoundQuery.{BoundQuery}
 use Rattle.med_binder.specs.declared.bound.BoundEntry.{BoundEntry}
-use Rattle.med_world.specs.Causes.{query_of}
+use Rattle.sql_meaning.specs.Causes.{query_of}
 use Rattle.med_syntax.specs.Tree.{Name}
 use Rattle.med_catalog.specs.Objects.{Objects}
 use Rattle.bind_catalog.specs.Queries.{meant_by, IsBindable}

@@ -6,7 +6,7 @@ use Rattle.med_query.specs.Select.{are_safe_cores}
 use Rattle.fdw_api.specs.Kinds.{kinds_of}
 use Rattle.fdw_api.specs.State.{BoxState}
 use Rattle.fdw_api.specs.Sound.{IsTableOf, IsSoundBox}
-use Rattle.med_planner.specs.Planned.{entry_place}
+use Rattle.med_binder.specs.Place.{entry_place}
 use Rattle.bind_names.specs.Naming.{NameCauses}
 use Rattle.bind_names.specs.Scope.{from_scope}
 use Rattle.bind_types.specs.Typing.{TypeCauses}

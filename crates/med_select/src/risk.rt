@@ -4,7 +4,7 @@ ghost use Rattle.std.specs.List.{list_any};
 ghost use Rattle.tri_expr.specs.Tree.{tree};
 ghost use Rattle.tri_expr.specs.TreeParts.{is_risky_tree};
 ghost use Rattle.med_query.specs.Form.{core_form, form_of, group_form};
-ghost use Rattle.open_cursors.specs.Starting.{is_risky_core as spec_is_risky_core, is_risky_form, group_trees};
+ghost use Rattle.med_query.specs.Form.{is_risky_core as spec_is_risky_core, is_risky_form, group_trees};
 
 use med_query::{Grouping, Select, SelectCore};
 use tri_expr::{Expr, is_risky};

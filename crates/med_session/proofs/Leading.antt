@@ -7,11 +7,11 @@ use Rattle.med_syntax.specs.QueryTree.{StatementTree, select}
 use Rattle.med_parser.specs.CommandTree.{CommandTree, on_data, on_rows, on_cursors, on_objects}
 use Rattle.cursor_syntax.specs.CursorTree.{declare, fetch, close}
 use Rattle.bind_catalog.specs.Looked.{query_in}
-use Rattle.med_world.specs.Requests.{AskedLine, opening, sql, bye}
-use Rattle.med_world.specs.World.{World, Session}
-use Rattle.med_world.specs.Picks.{Pick}
-use Rattle.med_world.specs.Replies.{Reply, answered, refused, reply_text}
-use Rattle.med_world.specs.Steps.{Trouble, TakesMemory, TreeDoes, Does, Step, is_refused, is_done, lacks_memory, fetch_lacks_memory, source_fails, numbers_end}
+use Rattle.sql_meaning.specs.Requests.{AskedLine, opening, sql, bye}
+use Rattle.sql_meaning.specs.World.{World, Session}
+use Rattle.sql_meaning.specs.Picks.{Pick}
+use Rattle.sql_meaning.specs.Replies.{Reply, answered, refused, reply_text}
+use Rattle.sql_meaning.specs.Steps.{Trouble, TakesMemory, TreeDoes, Does, Step, is_refused, is_done, lacks_memory, fetch_lacks_memory, source_fails, numbers_end}
 use Rattle.med_world.specs.Engine.{Shown, Agrees, Leads, IsAnswered}
 use Rattle.med_world.specs.Laws.{IsRead}
 use Rattle.med_world.proofs.OneRun.{once_refused}

@@ -3,23 +3,21 @@ use Rattle.std.proofs.Common.{◌≡◌, ◌⊎◌, inl, inr, ◌<◌, ◌+◌, 
 use Rattle.std.specs.List.{IsDistinct, AllByRecursion}
 use Rattle.std.proofs.lemmas.Bool.{false≢true}
 use Rattle.med_syntax.specs.Tree.{Name}
-use Rattle.fdw_api.specs.State.{BoxState, Scan}
+use Rattle.fdw_api.specs.State.{BoxState, Scan, scan_of}
 use Rattle.fdw_api.specs.Sound.{IsSoundBox}
 use Rattle.fdw_api.specs.declared.interface.Counts.{Counts}
-use Rattle.med_exec.specs.Slots.{counts_at, counts_in}
+use Rattle.med_exec.specs.Slots.{counts_at, counts_in, BoxAt, ChangesAt}
 use Rattle.med_catalog.specs.Objects.{ServerObject, TableObject, Objects, server_named, table_named}
 use Rattle.med_catalog.specs.Changes.{ObjectChange, new_server, new_table, no_table, no_server, changed, is_skipped, Asks, skips, makes}
 use Rattle.std.proofs.lemmas.List.{length-map, length_push}
 use Rattle.std.proofs.lemmas.Option.{slice_get-map}
 use Rattle.bind_catalog.specs.declared.bound.BoundTable.{BoundTable}
 use Rattle.bind_catalog.specs.Places.{Attached, attached}
-use Rattle.med_world.specs.World.{is_taken, beside_without}
+use Rattle.sql_meaning.specs.World.{is_taken, beside_without}
 use Rattle.med_world.specs.Engine.{Label, Shown, leased, IsNamedAt, IsStandingAt, IsServerAt, IsFirst, IsUnstaged, IsSound, with_change, Alters}
 use Rattle.med_value.specs.declared.cause.Cause.{Cause}
 use Rattle.fdw_api.specs.Kinds.{Column, OptionForm}
-use Rattle.fdw_api.specs.State.{scan_of}
 use Rattle.fdw_api.specs.Calls.{Binds, CanUnbind, Unbinds}
-use Rattle.med_exec.specs.Slots.{BoxAt, ChangesAt}
 use Rattle.med_value.specs.declared.cause.Cause.TheVariants.{OutOfMemory, UndefinedObject, UndefinedTable}
 use Rattle.ddl_syntax.specs.DdlTree.{DdlTree, create_wrapper, create_server, create_mapping, create_table, drop_wrapper, drop_server, drop_table, drop_mapping}
 use Rattle.med_catalog.specs.DdlCauses.{CauseRow, Stands, NoneStands, DdlCauses, IsTold, object_rows, ddl_rows, nothing_leased}

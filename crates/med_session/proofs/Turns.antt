@@ -13,8 +13,8 @@ use Rattle.med_parser.specs.CommandTree.{on_cursors}
 use Rattle.open_cursors.specs.Open.{Opened, Seated, opened_named, without_named, with_run}
 use Rattle.open_cursors.specs.Fetching.{GivesNone, no_memory}
 use Rattle.med_world.proofs.Lists.{some_same}
-use Rattle.med_world.specs.Requests.{sql}
-use Rattle.med_world.specs.Replies.{refused}
+use Rattle.sql_meaning.specs.Requests.{sql}
+use Rattle.sql_meaning.specs.Replies.{refused}
 use Rattle.med_world.specs.Seats.{seat_of}
 use Rattle.med_world.specs.Engine.{Shown, IsSound, Leads}
 use Rattle.med_world.specs.Laws.{IsRead}

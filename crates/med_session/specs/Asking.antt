@@ -1,5 +1,5 @@
 -- What a request asks, as text.
-use Rattle.med_world.specs.Requests.{AskedLine, opening, sql, bye}
+use Rattle.sql_meaning.specs.Requests.{AskedLine, opening, sql, bye}
 use Rattle.med_session.specs.declared.session.Request.{Request}
 use Rattle.med_session.specs.declared.session.Request.TheVariants as request
 

@@ -16,8 +16,8 @@ use Rattle.bind_catalog.specs.Places.{Attached}
 use Rattle.open_cursors.specs.Open.{Opened, Seated, is_full, opened_named, without_named, with_run}
 use Rattle.open_cursors.specs.Starting.{Starts, StartFails}
 use Rattle.open_cursors.specs.Fetching.{GivesRows, GivesNone}
-use Rattle.med_world.specs.Requests.{AskedLine}
-use Rattle.med_world.specs.Replies.{refused}
+use Rattle.sql_meaning.specs.Requests.{AskedLine}
+use Rattle.sql_meaning.specs.Replies.{refused}
 use Rattle.med_world.specs.Seats.{seat_of}
 use Rattle.med_world.specs.Turning.{new_opened, with_cursors, Ends}
 use Rattle.med_world.specs.Engine.{Shown, Leads}

@@ -1,8 +1,8 @@
-pub use Rattle.med_world.specs.Requests
-pub use Rattle.med_world.specs.World
-pub use Rattle.med_world.specs.Causes
-pub use Rattle.med_world.specs.Replies
-pub use Rattle.med_world.specs.Steps
+pub use Rattle.sql_meaning.specs.Requests
+pub use Rattle.sql_meaning.specs.World
+pub use Rattle.sql_meaning.specs.Causes
+pub use Rattle.sql_meaning.specs.Replies
+pub use Rattle.sql_meaning.specs.Steps
 pub use Rattle.med_world.specs.Engine
 pub mod Asking
 pub mod Shows

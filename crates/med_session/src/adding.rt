@@ -51,7 +51,7 @@ impl<W: Wrapper2> Engine<W> {
     ghost use Rattle.med_session.specs.Shows.{shown};
     ghost use Rattle.med_world.specs.Adding.{Adds};
     ghost use Rattle.med_world.specs.Engine.{Shown, IsSound, Agrees, TakesAs, EachBox, IsAtRest, ClosesAll};
-    ghost use Rattle.med_world.specs.World.{World, with_source};
+    ghost use Rattle.sql_meaning.specs.World.{World, with_source};
 
     /// Adds a source under a name, any text, that HANDLER names by this kind. Its wrapper is to be idle: nothing bound, live or staged;
     /// and it takes each table that the catalogue lets pass for this kind.

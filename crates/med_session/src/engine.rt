@@ -1,6 +1,5 @@
 //! The engine.
-ghost use Rattle.std.specs.Prelude.{◌≡◌, ◌<◌, ◌+◌, ◌++◌, ℕ, List, None, replicate, vec_len, vec_capacity};
-ghost use Rattle.std.specs.Prelude.{IfOk, IfErr, OnOk, OnErr, IsErrOf};
+ghost use Rattle.std.specs.Prelude.{◌≡◌, ◌<◌, ◌+◌, ◌++◌, ℕ, List, None, replicate, vec_len, vec_capacity, IfOk, IfErr, OnOk, OnErr, IsErrOf};
 
 use crate::places::{close_seats, closed_sessions, is_open, put_seat, take_seat, user_in};
 use crate::session::{NoRoom, Request, Sid};
@@ -54,8 +53,8 @@ impl<W: Wrapper2> Engine<W> {
     ghost use Rattle.med_session.specs.Shows.{shown};
     ghost use Rattle.med_value.specs.Limits.{session_count};
     ghost use Rattle.med_world.specs.Engine.{IsSound, Agrees, Leads, IsAnswered, Closes, ClosesAll};
-    ghost use Rattle.med_world.specs.Requests.{IsUser, opening, sql, bye};
-    ghost use Rattle.med_world.specs.World.{empty_world};
+    ghost use Rattle.sql_meaning.specs.Requests.{IsUser, opening, sql, bye};
+    ghost use Rattle.sql_meaning.specs.World.{empty_world};
 
     /// An engine with no object and no source, and every session closed.
     ///

@@ -28,7 +28,7 @@ pub struct NoRoom;
 
 impl Sid {
     ghost use Rattle.std.specs.Prelude.{◌↔◌, IsSome, IfSome};
-    ghost use Rattle.med_world.specs.Requests.{IsSid};
+    ghost use Rattle.sql_meaning.specs.Requests.{IsSid};
 
     /// The session of this number, where there is one.
     pub fn new(number: u16) -> Option<Sid>

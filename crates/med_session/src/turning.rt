@@ -7,7 +7,7 @@ ghost use Rattle.med_parser.specs.CommandTree.{on_cursors};
 ghost use Rattle.med_syntax.specs.QueryView.{statement_tree};
 ghost use Rattle.med_syntax.specs.Tree.{Name};
 ghost use Rattle.med_world.specs.Laws.{IsRead};
-ghost use Rattle.med_world.specs.Requests.{sql};
+ghost use Rattle.sql_meaning.specs.Requests.{sql};
 ghost use Rattle.med_world.specs.Seats.{seat_of};
 
 use crate::cursors::{end_cursor, fetch_rows, open_cursor};

@@ -1,7 +1,7 @@
 //! Names of users.
 ghost use Rattle.std.specs.Prelude.{◌≡◌, ◌↔◌, IsTrue};
 ghost use Rattle.std.specs.List.{list_all};
-ghost use Rattle.med_world.specs.Requests.{IsUser, starts_user, in_user};
+ghost use Rattle.sql_meaning.specs.Requests.{IsUser, starts_user, in_user};
 
 use med_value::limits::NAME_LIMIT;
 

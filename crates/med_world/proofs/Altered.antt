@@ -15,10 +15,10 @@ use Rattle.med_exec.specs.Slots.{ChangesAt}
 use Rattle.med_catalog.specs.Objects.{ServerObject, TableObject, Objects, server_named}
 use Rattle.med_catalog.specs.Changes.{ObjectChange, new_table, no_server, no_table, changed}
 use Rattle.bind_catalog.specs.Places.{Attached}
-use Rattle.med_world.specs.World.{World, Source, SourceState, standing, dropped, source_named, drop_source, drop_source_of, IsStanding, Serves, beside_without}
-use Rattle.med_world.specs.Picks.{Pick, no_pick}
-use Rattle.med_world.specs.Causes.{Reads, PicksEntry}
-use Rattle.med_world.specs.Steps.{with_catalog, Changes}
+use Rattle.sql_meaning.specs.World.{World, Source, SourceState, standing, dropped, source_named, drop_source, drop_source_of, IsStanding, Serves, beside_without}
+use Rattle.sql_meaning.specs.Picks.{Pick, no_pick}
+use Rattle.sql_meaning.specs.Causes.{Reads, PicksEntry}
+use Rattle.sql_meaning.specs.Steps.{with_catalog, Changes}
 use Rattle.med_world.specs.Engine.{Label, Shown, leased, EachBox, IsSound, IsNamedAt, IsServerAt, IsBoundAs, state_of, sources_of, AreRowsOf, RowsAgree, Agrees, with_change, BindsTable, UnbindsTable, DropsBox}
 use Rattle.med_world.specs.Altering.{BindsInVain}
 use Rattle.med_world.proofs.Seats.{sessions_stay, sessions_still, leases_same, named_apart, pushed_stands, dropped_stands, many_rows}

@@ -9,17 +9,17 @@ use Rattle.med_syntax.specs.QueryTree.{SelectTree, select}
 use Rattle.med_parser.specs.CommandTree.{on_data, on_rows, on_cursors, on_objects}
 use Rattle.med_parser.specs.CommandCauses.{SyntaxCauses}
 use Rattle.fdw_api.specs.State.{BoxState}
-use Rattle.med_planner.specs.Planned.{Place}
+use Rattle.med_binder.specs.Place.{Place}
 use Rattle.med_exec.specs.Running.{AllServed, SlotShows, IsUsedUp}
 use Rattle.bind_names.specs.Meaning.{Meant}
 use Rattle.bind_catalog.specs.Queries.{meant_by, IsBindable}
 use Rattle.bind_catalog.specs.Places.{ArePlaces}
-use Rattle.med_world.specs.Requests.{sql, IsSid}
-use Rattle.med_world.specs.Picks.{no_pick}
-use Rattle.med_world.specs.World.{World}
-use Rattle.med_world.specs.Causes.{query_of, phase}
-use Rattle.med_world.specs.Replies.{Reply, answered, refused}
-use Rattle.med_world.specs.Steps.{numbers_end}
+use Rattle.sql_meaning.specs.Requests.{sql, IsSid}
+use Rattle.sql_meaning.specs.Picks.{no_pick}
+use Rattle.sql_meaning.specs.World.{World}
+use Rattle.sql_meaning.specs.Causes.{query_of, phase}
+use Rattle.sql_meaning.specs.Replies.{Reply, answered, refused}
+use Rattle.sql_meaning.specs.Steps.{numbers_end}
 use Rattle.med_world.specs.Engine.{Shown, IsSound, Agrees, Leads}
 use Rattle.med_world.specs.Selecting.{Selects, SelectFails, not_bound, too_many, run_fails}
 use Rattle.open_cursors.specs.Starting.{RunFails, no_memory, box_fails, numbers_out, shows_cause}

@@ -5,9 +5,9 @@ use Rattle.med_syntax.specs.Tree.{Name}
 use Rattle.fdw_api.specs.State.{BoxState}
 use Rattle.med_catalog.specs.Objects.{no_objects}
 use Rattle.med_value.specs.Limits.{session_count}
-use Rattle.med_world.specs.Requests.{IsUser}
+use Rattle.sql_meaning.specs.Requests.{IsUser}
 use Rattle.open_cursors.specs.Open.{Seated}
-use Rattle.med_world.specs.World.{empty_world}
+use Rattle.sql_meaning.specs.World.{empty_world}
 use Rattle.med_world.specs.Engine.{AreSound, KeepsScans, IsSound, Agrees}
 use Rattle.med_world.specs.Laws.{empty_shown}
 use Rattle.med_world.proofs.Sessions.{all_shut, shut_seats, shut_many, none_open}

@@ -4,10 +4,10 @@ use Rattle.med_value.specs.declared.cause.Cause.{Cause}
 use Rattle.med_syntax.specs.Tree.{Name}
 use Rattle.med_syntax.specs.QueryTree.{SelectTree, select}
 use Rattle.cursor_syntax.specs.CursorTree.{CursorTree, declare, fetch, close}
-use Rattle.open_cursors.specs.Starting.{is_risky_form}
-use Rattle.med_world.specs.World.{World, Session}
-use Rattle.med_world.specs.Cursors.{cursor_named}
-use Rattle.med_world.specs.Causes.{meant_over, SelectCauses, DeclareCauses, exists, of_query, is_risky, too_many, CursorCauses, phase}
+use Rattle.med_query.specs.Form.{is_risky_form}
+use Rattle.sql_meaning.specs.World.{World, Session}
+use Rattle.sql_meaning.specs.Cursors.{cursor_named}
+use Rattle.sql_meaning.specs.Causes.{meant_over, SelectCauses, DeclareCauses, exists, of_query, is_risky, too_many, CursorCauses, phase}
 use Rattle.med_world.proofs.Querying.{ArePhased, select_phase}
 
 pub cursor_phase : ArePhased → (w : World) (s : Session) (t : CursorTree) (c : Cause) → CursorCauses w s t c → 3 ≤ phase c

@@ -8,8 +8,8 @@ use Rattle.med_syntax.specs.Tree.{Name}
 use Rattle.fdw_api.specs.State.{BoxState}
 use Rattle.med_exec.specs.declared.running.Run.{Run}
 use Rattle.open_cursors.specs.Open.{Opened, AreNamedApart, has_name, opened_named, without_named, runs_on, with_run}
-use Rattle.med_world.specs.World.{World, Cursor, reads_table}
-use Rattle.med_world.specs.Cursors.{is_cursor, hand_out}
+use Rattle.sql_meaning.specs.World.{World, Cursor, reads_table}
+use Rattle.sql_meaning.specs.Cursors.{is_cursor, hand_out}
 use Rattle.med_world.specs.Seats.{CursorAgrees, CursorsAgree}
 use Rattle.med_world.proofs.Lists.{some_same, bytes_same, other_bytes, bytes_other, each_at}
 use Rattle.med_world.proofs.Named.{place_of, at_place, map_place, none_later, distinct_push}

@@ -11,16 +11,16 @@ use Rattle.bind_names.specs.Naming.{entry_causes, alias_causes, from_causes, ask
 use Rattle.bind_catalog.specs.Tables.{shapes}
 use Rattle.bind_catalog.specs.Queries.{meant_by, IsBindable}
 use Rattle.bind_catalog.specs.Places.{Attached, IsPlaceOf, ArePlaces}
-use Rattle.med_planner.specs.Planned.{Place}
+use Rattle.med_binder.specs.Place.{Place}
 use Rattle.med_exec.specs.declared.running.Run.{Run}
 use Rattle.open_cursors.specs.Open.{Opened, leases_table}
 use Rattle.med_world.specs.Turning.{new_opened}
 use Rattle.med_catalog.specs.Objects.{TableObject, Objects}
 use Rattle.open_cursors.specs.Starting.{leases_of}
-use Rattle.med_world.specs.World.{World, Leased, cells_of, rows_in, rows_named}
-use Rattle.med_world.specs.Cursors.{rows_leased}
-use Rattle.med_world.specs.Causes.{entry_tables, entries_in}
-use Rattle.med_world.specs.Steps.{leased_now}
+use Rattle.sql_meaning.specs.World.{World, Leased, cells_of, rows_in, rows_named}
+use Rattle.sql_meaning.specs.Cursors.{rows_leased}
+use Rattle.sql_meaning.specs.Causes.{entry_tables, entries_in}
+use Rattle.sql_meaning.specs.Steps.{leased_now}
 use Rattle.med_world.specs.Seats.{StillStands}
 use Rattle.med_world.specs.Engine.{IsFirst, LeasesNumber}
 use Rattle.med_world.proofs.Lists.{some_same, same_bytes}

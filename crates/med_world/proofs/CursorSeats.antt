@@ -22,11 +22,11 @@ use Rattle.med_parser.specs.CommandTree.{on_cursors}
 use Rattle.open_cursors.specs.Open.{Opened, Seated, is_full, has_name, opened_named, without_named, runs_on, with_run}
 use Rattle.open_cursors.specs.Starting.{ScansOne, Starts, StartFails, not_bound, is_risky, no_room, too_many, run_fails}
 use Rattle.open_cursors.specs.Fetching.{GivesRows}
-use Rattle.med_world.specs.Requests.{sql, IsSid}
-use Rattle.med_world.specs.Picks.{no_pick}
-use Rattle.med_world.specs.World.{World, Session}
-use Rattle.med_world.specs.Cursors.{cursor_named}
-use Rattle.med_world.specs.Causes.{IsPickOf}
+use Rattle.sql_meaning.specs.Requests.{sql, IsSid}
+use Rattle.sql_meaning.specs.Picks.{no_pick}
+use Rattle.sql_meaning.specs.World.{World, Session}
+use Rattle.sql_meaning.specs.Cursors.{cursor_named}
+use Rattle.sql_meaning.specs.Causes.{IsPickOf}
 use Rattle.med_world.specs.Seats.{seat_in, seat_of, IsSoundSeat, IsOpenAt, CursorsAgree, SeatAgrees}
 use Rattle.med_world.specs.Engine.{Shown, LeasesNumber, IsOwned, IsSound, Agrees}
 use Rattle.med_world.specs.Turning.{new_opened, with_cursors, Ends, at_once, later}

@@ -7,7 +7,7 @@ use Rattle.med_syntax.specs.Tree.{Name}
 use Rattle.med_syntax.specs.QueryTree.{SelectTree, select}
 use Rattle.med_query.specs.Query.{Tables, IsAnswer}
 use Rattle.fdw_api.specs.State.{BoxState}
-use Rattle.med_planner.specs.Planned.{Place}
+use Rattle.med_binder.specs.Place.{Place}
 use Rattle.med_exec.specs.declared.running.Run.{Run}
 use Rattle.med_exec.specs.Running.{AllServed, none_held}
 use Rattle.med_exec.specs.Rests.{held}
@@ -18,14 +18,15 @@ use Rattle.bind_catalog.specs.Queries.{QueryNames, QueryTypes, meant_by, IsBinda
 use Rattle.bind_catalog.specs.Places.{ArePlaces}
 use Rattle.med_catalog.specs.Objects.{Objects}
 use Rattle.open_cursors.specs.Open.{Seated, is_full, opened_named}
-use Rattle.open_cursors.specs.Starting.{is_risky_form, Starts, StartFails, not_bound, is_risky, no_room, too_many, run_fails, RunFails, no_memory, box_fails, numbers_out, shows_cause}
-use Rattle.med_world.specs.Requests.{sql, IsSid}
-use Rattle.med_world.specs.Picks.{no_pick}
-use Rattle.med_world.specs.World.{World, rows_in, with_session}
-use Rattle.med_world.specs.Cursors.{with_cursor}
-use Rattle.med_world.specs.Causes.{query_of, entry_tables, meant_over, QueryRun, DeclareCauses, exists, of_query, is_risky as may_fault, too_many as is_full_already, phase, NoneBeforeState}
-use Rattle.med_world.specs.Replies.{Reply, done, refused}
-use Rattle.med_world.specs.Steps.{new_cursor, is_done, source_fails, numbers_end}
+use Rattle.med_query.specs.Form.{is_risky_form}
+use Rattle.open_cursors.specs.Starting.{Starts, StartFails, not_bound, is_risky, no_room, too_many, run_fails, RunFails, no_memory, box_fails, numbers_out, shows_cause}
+use Rattle.sql_meaning.specs.Requests.{sql, IsSid}
+use Rattle.sql_meaning.specs.Picks.{no_pick}
+use Rattle.sql_meaning.specs.World.{World, rows_in, with_session}
+use Rattle.sql_meaning.specs.Cursors.{with_cursor}
+use Rattle.sql_meaning.specs.Causes.{query_of, entry_tables, meant_over, QueryRun, DeclareCauses, exists, of_query, is_risky as may_fault, too_many as is_full_already, phase, NoneBeforeState}
+use Rattle.sql_meaning.specs.Replies.{Reply, done, refused}
+use Rattle.sql_meaning.specs.Steps.{new_cursor, is_done, source_fails, numbers_end}
 use Rattle.med_world.specs.Seats.{seat_of, CursorAgrees, CursorsAgree}
 use Rattle.med_world.specs.Engine.{Shown, IsSound, Agrees, ReadsOnce, Leads}
 use Rattle.med_world.specs.Turning.{new_opened, with_cursors}

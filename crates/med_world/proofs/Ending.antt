@@ -10,12 +10,12 @@ use Rattle.med_exec.specs.Slots.{ChangesAt}
 use Rattle.ddl_syntax.specs.DdlTree.{DdlTree}
 use Rattle.med_catalog.specs.Objects.{TableObject}
 use Rattle.med_catalog.specs.Changes.{new_table}
-use Rattle.med_world.specs.Requests.{sql}
+use Rattle.sql_meaning.specs.Requests.{sql}
 use Rattle.med_parser.specs.CommandTree.{on_objects}
-use Rattle.med_world.specs.Picks.{Pick}
-use Rattle.med_world.specs.World.{World}
-use Rattle.med_world.specs.Causes.{IsPickOf}
-use Rattle.med_world.specs.Replies.{refused}
+use Rattle.sql_meaning.specs.Picks.{Pick}
+use Rattle.sql_meaning.specs.World.{World}
+use Rattle.sql_meaning.specs.Causes.{IsPickOf}
+use Rattle.sql_meaning.specs.Replies.{refused}
 use Rattle.med_world.specs.Engine.{Shown, IsSound, IsServerAt, Agrees, Rises, EachRises, Leads}
 use Rattle.med_world.specs.Altering.{cause_of, IsAllowed, BindsInVain, NotAltered, catalog_shows, not_free, no_memory, bind_fails, bind_undone}
 use Rattle.med_world.specs.Laws.{IsRead}

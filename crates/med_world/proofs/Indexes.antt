@@ -2,7 +2,7 @@
 use Rattle.std.proofs.Common.{◌≡◌, ◌≢◌, ℕ, Bool, true, false, cond, List, [], ◌∷◌, slice_get, length, refl, ap, ◌∙◌, zero, suc, arith, bytes_eq}
 use Rattle.med_catalog.specs.Objects.{TableObject}
 use Rattle.med_catalog.specs.Changes.{without}
-use Rattle.med_world.specs.World.{beside_without}
+use Rattle.sql_meaning.specs.World.{beside_without}
 use Rattle.med_world.specs.Engine.{IsFirst}
 
 -- where the element in place j stood, before the one in place k went

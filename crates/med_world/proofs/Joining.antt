@@ -8,7 +8,7 @@ use Rattle.fdw_api.specs.Sound.{IsSoundBox}
 use Rattle.med_catalog.specs.declared.kind.SourceKind.{SourceKind}
 use Rattle.bind_catalog.specs.Places.{Attached}
 use Rattle.med_value.specs.Limits.{source_limit}
-use Rattle.med_world.specs.World.{World, Source, standing, with_source}
+use Rattle.sql_meaning.specs.World.{World, Source, standing, with_source}
 use Rattle.med_world.specs.Engine.{Label, Shown, EachBox, EachTakes, TakesAs, IsNamedAt, IsAmong, IsSound, state_of, sources_of, RowsAgree, Agrees}
 use Rattle.med_world.specs.Adding.{HasSource, with_box, Adds}
 use Rattle.med_world.proofs.Lists.{some_same, none_some, push_before, push_cases, past}

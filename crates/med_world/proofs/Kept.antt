@@ -14,7 +14,7 @@ use Rattle.med_catalog.specs.Options.{text_of, remote_label, table_settings, col
 use Rattle.med_catalog.specs.Changes.{ObjectChange, nothing, new_wrapper, new_server, new_mapping, new_table, no_wrapper, no_server, no_mapping, no_table, without, with_first, changed, is_skipped, IsDeclared, AreDeclared, IsNewServer, IsNewMapping, IsNewTable, Makes, Asks, skips, makes}
 use Rattle.med_catalog.specs.DdlCauses.{CauseRow, DdlCauses, Stands, create_table_rows, create_table_rows_at, is_bound, has_dependents, has_mappings, lease_rows, object_rows, ddl_rows}
 use Rattle.med_catalog.specs.declared.kind.SourceKind.{SourceKind}
-use Rattle.med_world.specs.World.{is_taken}
+use Rattle.sql_meaning.specs.World.{is_taken}
 use Rattle.med_world.specs.Engine.{AreSound}
 use Rattle.med_world.proofs.Lists.{some_same, bytes_same, same_bytes, other_bytes, bytes_other, push_cases}
 use Rattle.med_world.proofs.Named.{place_of, at_place, distinct_more, distinct_fewer, same_first, find_first, find_fewer, back_fewer, still_found, some_of, none_of}

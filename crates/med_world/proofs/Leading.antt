@@ -14,16 +14,15 @@ use Rattle.ddl_syntax.specs.DdlTree.{DdlTree}
 use Rattle.med_catalog.specs.Objects.{ServerObject, TableObject, Objects}
 use Rattle.med_catalog.specs.Changes.{changed, ObjectChange, nothing, new_wrapper, new_server, new_mapping, new_table, no_wrapper, no_server, no_mapping, no_table, Asks}
 use Rattle.med_catalog.specs.DdlCauses.{DdlCauses}
-use Rattle.med_world.specs.Requests.{AskedLine, sql}
+use Rattle.sql_meaning.specs.Requests.{AskedLine, sql}
 use Rattle.med_parser.specs.CommandTree.{CommandTree, on_objects}
-use Rattle.med_world.specs.Steps.{ddl_tag}
-use Rattle.med_world.specs.Picks.{Pick, no_pick}
+use Rattle.sql_meaning.specs.Steps.{ddl_tag, Trouble, TakesMemory, with_catalog, Changes, Step, is_refused, is_done, lacks_memory, source_fails}
+use Rattle.sql_meaning.specs.Picks.{Pick, no_pick}
 use Rattle.open_cursors.specs.Open.{Seated}
 use Rattle.med_world.specs.Seats.{seat_of, SeatAgrees}
-use Rattle.med_world.specs.World.{World, Cursor, Session, source_named, is_taken, IsFree, Serves}
-use Rattle.med_world.specs.Causes.{Reads, SourceCauses, ObjectCauses, PicksEntry, IsPickOf, IsTold, NoneStands, NoneBeforeState, phase}
-use Rattle.med_world.specs.Replies.{done, refused}
-use Rattle.med_world.specs.Steps.{Trouble, TakesMemory, with_catalog, Changes, Step, is_refused, is_done, lacks_memory, source_fails}
+use Rattle.sql_meaning.specs.World.{World, Cursor, Session, source_named, is_taken, IsFree, Serves}
+use Rattle.sql_meaning.specs.Causes.{Reads, SourceCauses, ObjectCauses, PicksEntry, IsPickOf, IsTold, NoneStands, NoneBeforeState, phase}
+use Rattle.sql_meaning.specs.Replies.{done, refused}
 use Rattle.med_world.specs.Engine.{Rises, Shown, leased, IsSound, IsNamedAt, IsServerAt, Agrees, Befell, EachRises, Leads, with_change, Alters}
 use Rattle.med_world.specs.Laws.{IsRead}
 use Rattle.med_world.specs.Altering.{IsFreeAt, IsAllowed, SourcesAllow, IsAltered}

@@ -4,7 +4,7 @@ use Rattle.std.specs.List.{IsDistinct, AllByRecursion}
 use Rattle.std.proofs.lemmas.Slice.Eq.{bytes_eq-Decides}
 use Rattle.std.proofs.lemmas.Bool.{false≢true}
 use Rattle.med_catalog.specs.Objects.{TableObject}
-use Rattle.med_world.specs.World.{beside_without}
+use Rattle.sql_meaning.specs.World.{beside_without}
 use Rattle.med_world.specs.Engine.{IsFirst}
 
 pub same_bytes : (a b : List ℕ) → a ≡ b → bytes_eq a b ≡ true

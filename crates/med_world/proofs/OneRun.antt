@@ -7,8 +7,8 @@ use Rattle.cursor_syntax.specs.CursorTree.{declare, fetch, close}
 use Rattle.med_parser.specs.CommandTree.{CommandTree, on_data, on_rows, on_cursors, on_objects}
 use Rattle.med_parser.specs.CommandGrammar.{HasCommand}
 use Rattle.fdw_api.specs.State.{BoxState}
-use Rattle.med_world.specs.Requests.{AskedLine, sql}
-use Rattle.med_world.specs.Replies.{Reply, refused}
+use Rattle.sql_meaning.specs.Requests.{AskedLine, sql}
+use Rattle.sql_meaning.specs.Replies.{Reply, refused}
 use Rattle.med_world.specs.Engine.{Shown, HasRun, ReadsOnce, RunsOnce}
 use Rattle.med_world.specs.Laws.{IsRead}
 

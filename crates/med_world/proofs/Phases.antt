@@ -21,7 +21,7 @@ use Rattle.med_catalog.specs.DdlCauses.{DdlCauses}
 use Rattle.bind_catalog.specs.Tables.{shapes}
 use Rattle.bind_catalog.specs.Barred.{reading_causes, table_causes, query_right_causes}
 use Rattle.bind_catalog.specs.Queries.{QueryNames}
-use Rattle.med_world.specs.Causes.{phase}
+use Rattle.sql_meaning.specs.Causes.{phase}
 use Rattle.med_world.proofs.Kept.{asks_once}
 use Rattle.med_world.proofs.Objecting.{AreObjects}
 use Rattle.med_world.proofs.Querying.{ArePhased}

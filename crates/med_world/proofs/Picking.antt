@@ -8,9 +8,9 @@ use Rattle.ddl_syntax.specs.DdlTree.{TableTree, DdlTree, create_wrapper, create_
 use Rattle.med_catalog.specs.Objects.{ServerObject, TableObject, Objects, server_named}
 use Rattle.med_catalog.specs.Options.{text_of, remote_label}
 use Rattle.med_catalog.specs.Changes.{new_table, Makes, Asks, skips, makes}
-use Rattle.med_world.specs.Picks.{Pick, no_pick}
-use Rattle.med_world.specs.World.{World, Source, SourceState, standing, dropped, source_named, is_taken, IsFree, Serves}
-use Rattle.med_world.specs.Causes.{PicksEntry}
+use Rattle.sql_meaning.specs.Picks.{Pick, no_pick}
+use Rattle.sql_meaning.specs.World.{World, Source, SourceState, standing, dropped, source_named, is_taken, IsFree, Serves}
+use Rattle.sql_meaning.specs.Causes.{PicksEntry}
 use Rattle.med_world.specs.Engine.{Label, Shown, state_of, sources_of, Agrees}
 use Rattle.med_world.specs.Altering.{IsFreeAt}
 use Rattle.med_world.proofs.Lists.{bytes_same}

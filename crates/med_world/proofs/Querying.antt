@@ -12,20 +12,22 @@ use Rattle.med_query.specs.Query.{Tables, SameRows, IsAnswer}
 use Rattle.fdw_api.specs.Kinds.{Held, held}
 use Rattle.fdw_api.specs.Scan.{TableRow}
 use Rattle.fdw_api.specs.State.{BoxState, rows_of}
-use Rattle.med_planner.specs.Planned.{Place, tuples_of, rows_shown, entry_rows, IsShownCause}
+use Rattle.med_binder.specs.Place.{Place}
+use Rattle.med_query.specs.Causes.{IsShownCause}
+use Rattle.med_planner.specs.Planned.{tuples_of, rows_shown, entry_rows}
 use Rattle.med_exec.specs.Slots.{BoxAt}
 use Rattle.med_exec.specs.Running.{SlotShows, HasFailed, AllHonest}
 use Rattle.bind_names.specs.Meaning.{Meant}
 use Rattle.med_catalog.specs.Objects.{Objects}
 use Rattle.bind_catalog.specs.Queries.{QueryNames, QueryTypes, meant_by, IsBindable, NotBound}
 use Rattle.bind_catalog.specs.Places.{Attached, IsPlaceOf, ArePlaces}
-use Rattle.med_world.specs.Requests.{sql}
+use Rattle.sql_meaning.specs.Requests.{sql}
 use Rattle.med_parser.specs.CommandTree.{on_data}
-use Rattle.med_world.specs.Picks.{no_pick}
-use Rattle.med_world.specs.World.{World, cells_of, rows_in}
-use Rattle.med_world.specs.Causes.{query_of, entry_tables, meant_over, entries_in, QueryState, QueryRun, SelectCauses, IsPickOf, phase}
-use Rattle.med_world.specs.Replies.{answered, refused}
-use Rattle.med_world.specs.Steps.{is_done, source_fails}
+use Rattle.sql_meaning.specs.Picks.{no_pick}
+use Rattle.sql_meaning.specs.World.{World, cells_of, rows_in}
+use Rattle.sql_meaning.specs.Causes.{query_of, entry_tables, meant_over, entries_in, QueryState, QueryRun, SelectCauses, IsPickOf, phase}
+use Rattle.sql_meaning.specs.Replies.{answered, refused}
+use Rattle.sql_meaning.specs.Steps.{is_done, source_fails}
 use Rattle.med_world.specs.Engine.{Shown, AreRowsOf, RowsAgree, Agrees, EachRises, ReadsOnce, Leads}
 use Rattle.med_world.specs.Selecting.{Selects}
 use Rattle.med_world.specs.Laws.{IsRead}

@@ -16,9 +16,9 @@ use Rattle.write_parts.specs.Meaning.{target_of}
 use Rattle.write_parts.specs.Naming.{WriteNames}
 use Rattle.write_parts.specs.Typing.{WriteTypes}
 use Rattle.bind_write.specs.Binding.{IsBindable}
-use Rattle.med_world.specs.Picks.{Pick}
-use Rattle.med_world.specs.World.{World}
-use Rattle.med_world.specs.Causes.{phase, OfGiven, OfQuery, QueryState, WriteState, WriteRun, has_fault, lacks_value, is_refused, query_shows, RowCauses, IsRefused}
+use Rattle.sql_meaning.specs.Picks.{Pick}
+use Rattle.sql_meaning.specs.World.{World}
+use Rattle.sql_meaning.specs.Causes.{phase, OfGiven, OfQuery, QueryState, WriteState, WriteRun, has_fault, lacks_value, is_refused, query_shows, RowCauses, IsRefused}
 use Rattle.med_world.specs.Engine.{Shown, Agrees, leased, IsSound}
 use Rattle.med_world.proofs.Seats.{leases_same}
 use Rattle.med_world.proofs.Querying.{state_phase, run_phase}

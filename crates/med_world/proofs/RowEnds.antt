@@ -5,10 +5,10 @@ use Rattle.med_value.specs.declared.cause.Cause.TheVariants.{LimitExceeded, OutO
 use Rattle.med_syntax.specs.Tree.{Name}
 use Rattle.write_syntax.specs.WriteTree.{WriteTree}
 use Rattle.med_exec.specs.Running.{SlotShows, HasFailed, IsUsedUp}
-use Rattle.med_world.specs.Picks.{Pick}
-use Rattle.med_world.specs.World.{World}
-use Rattle.med_world.specs.Causes.{RowCauses, IsRowPick, phase}
-use Rattle.med_world.specs.Steps.{Writes}
+use Rattle.sql_meaning.specs.Picks.{Pick}
+use Rattle.sql_meaning.specs.World.{World}
+use Rattle.sql_meaning.specs.Causes.{RowCauses, IsRowPick, phase}
+use Rattle.sql_meaning.specs.Steps.{Writes}
 use Rattle.med_world.specs.Engine.{Shown, Agrees, EachRises}
 
 -- In a world the write of n rows is done: under a pick no cause stands, and the world after it agrees with the engine after it.

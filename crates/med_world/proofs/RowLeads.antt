@@ -14,7 +14,8 @@ use Rattle.fdw_api.specs.State.{BoxState, Ledger, is_honest, rows_of as rows_in_
 use Rattle.fdw_api.specs.declared.interface.Fault.TheVariants.{Source}
 use Rattle.med_exec.specs.Running.{AllServed, SlotShows, HasFailed, IsUsedUp, AllHonest, Breaks, wants_memory, box_breaks, none_held}
 use Rattle.med_exec.proofs.Served.{all_served, all_on, change_served, before_service, breaks_between}
-use Rattle.med_planner.specs.Planned.{entry_rows, IsShownCause}
+use Rattle.med_query.specs.Causes.{IsShownCause}
+use Rattle.med_planner.specs.Planned.{entry_rows}
 use Rattle.med_catalog.specs.Objects.{Objects}
 use Rattle.bind_names.specs.Meaning.{Meant}
 use Rattle.bind_catalog.specs.Places.{Attached}
@@ -30,10 +31,10 @@ use Rattle.write_parts.specs.Naming.{WriteNames}
 use Rattle.write_parts.specs.Typing.{WriteTypes}
 use Rattle.bind_write.specs.Binding.{IsBindable, NotBound}
 use Rattle.med_world.specs.Altering.{cause_of}
-use Rattle.med_world.specs.Picks.{Pick, no_pick, PicksAnswer, has_none}
-use Rattle.med_world.specs.World.{World, cells_of, rows_in}
-use Rattle.med_world.specs.Causes.{query_of, entry_tables, meant_over, entries_in, QueryState, QueryRun, OfGiven, OfQuery, write_over, rows_held, WriteState, query_shows, IsRowPick, PicksWrite, phase}
-use Rattle.med_world.specs.Steps.{Writes}
+use Rattle.sql_meaning.specs.Picks.{Pick, no_pick, PicksAnswer, has_none}
+use Rattle.sql_meaning.specs.World.{World, cells_of, rows_in}
+use Rattle.sql_meaning.specs.Causes.{query_of, entry_tables, meant_over, entries_in, QueryState, QueryRun, OfGiven, OfQuery, write_over, rows_held, WriteState, query_shows, IsRowPick, PicksWrite, phase}
+use Rattle.sql_meaning.specs.Steps.{Writes}
 use Rattle.med_world.specs.Engine.{Shown, leased, IsSound, Agrees}
 use Rattle.open_cursors.specs.Starting.{RunFails, no_memory, box_fails, numbers_out, shows_cause}
 use Rattle.med_world.specs.Writing.{FailsQuery, columns_for, form_for, IsTargetAt, WritesRows, RefusesRows, WriteFails, not_bound, in_use, too_many, query_fails, box_refuses, rows_untyped}

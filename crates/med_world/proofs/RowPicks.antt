@@ -20,7 +20,7 @@ use Rattle.fdw_api.specs.Calls.{Picks}
 use Rattle.fdw_api.specs.Writes.{Written}
 use Rattle.med_exec.specs.Running.{AllServed}
 use Rattle.med_exec.proofs.Served.{all_served}
-use Rattle.med_planner.specs.Planned.{IsShownCause, wrong_cause}
+use Rattle.med_query.specs.Causes.{IsShownCause, wrong_cause}
 use Rattle.med_catalog.specs.Objects.{TableObject, Objects}
 use Rattle.bind_names.specs.Meaning.{Meant}
 use Rattle.bind_catalog.specs.Places.{Attached}
@@ -32,9 +32,9 @@ use Rattle.med_write.specs.Writing.{chosen_by, choice_faults, rows_written, writ
 use Rattle.med_write.specs.Making.{cells_of as cells_given}
 use Rattle.write_exec.specs.Writing.{AreRead, KindRefuses}
 use Rattle.write_parts.specs.Meaning.{target_of, columns_in, written_column, write_meant}
-use Rattle.med_world.specs.Picks.{Pick, PicksAnswer, answers, as_given}
-use Rattle.med_world.specs.World.{World, Serves, cells_of, rows_in}
-use Rattle.med_world.specs.Causes.{query_of, entry_tables, meant_over, entries_in, QueryState, QueryRun, OfGiven, OfQuery, write_over, columns_over, rows_held, IsTarget, IsRefused, WriteRun, has_fault, lacks_value, is_refused, query_shows, PicksEntry, PicksWrite}
+use Rattle.sql_meaning.specs.Picks.{Pick, PicksAnswer, answers, as_given}
+use Rattle.sql_meaning.specs.World.{World, Serves, cells_of, rows_in}
+use Rattle.sql_meaning.specs.Causes.{query_of, entry_tables, meant_over, entries_in, QueryState, QueryRun, OfGiven, OfQuery, write_over, columns_over, rows_held, IsTarget, IsRefused, WriteRun, has_fault, lacks_value, is_refused, query_shows, PicksEntry, PicksWrite}
 use Rattle.med_world.specs.Engine.{Shown, IsSound, Agrees}
 use Rattle.med_world.specs.Writing.{GivesAnswer, GivesRows, IsGiven, columns_for, form_for, IsTargetAt}
 use Rattle.med_world.proofs.Lists.{some_same}

@@ -9,10 +9,10 @@ use Rattle.write_parts.specs.Meaning.{target_of}
 use Rattle.med_parser.specs.CommandTree.{on_rows}
 use Rattle.fdw_api.specs.State.{BoxState}
 use Rattle.med_exec.specs.Running.{SlotShows, HasFailed, IsUsedUp}
-use Rattle.med_world.specs.Requests.{sql}
-use Rattle.med_world.specs.World.{World}
-use Rattle.med_world.specs.Replies.{done, refused}
-use Rattle.med_world.specs.Steps.{is_done, source_fails as source_fails_step, numbers_end as numbers_end_step, write_tag}
+use Rattle.sql_meaning.specs.Requests.{sql}
+use Rattle.sql_meaning.specs.World.{World}
+use Rattle.sql_meaning.specs.Replies.{done, refused}
+use Rattle.sql_meaning.specs.Steps.{is_done, source_fails as source_fails_step, numbers_end as numbers_end_step, write_tag}
 use Rattle.med_world.specs.Engine.{Shown, leased, IsSound, Agrees, EachRises, Leads}
 use Rattle.med_world.specs.Writing.{WritesRows, WriteFails}
 use Rattle.med_world.specs.Laws.{IsRead, with_boxes}

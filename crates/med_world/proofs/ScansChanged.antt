@@ -16,7 +16,7 @@ use Rattle.med_catalog.specs.Objects.{TableObject}
 use Rattle.med_catalog.specs.Changes.{ObjectChange, new_table, no_table, no_server, changed, without}
 use Rattle.bind_catalog.specs.Places.{Attached}
 use Rattle.open_cursors.specs.Open.{Opened}
-use Rattle.med_world.specs.World.{beside_without}
+use Rattle.sql_meaning.specs.World.{beside_without}
 use Rattle.med_world.specs.Seats.{IsOpenAt}
 use Rattle.med_world.specs.Engine.{Shown, leased, EachBox, LeasesNumber, IsOwned, IsUnstaged, KeepsScans, IsSound, IsFirst, with_change, BindsTable, UnbindsTable, DropsBox}
 use Rattle.med_world.specs.Altering.{BindsInVain}

@@ -13,12 +13,12 @@ use Rattle.med_exec.specs.Rests.{held}
 use Rattle.med_exec.proofs.Served.{all_served}
 use Rattle.open_cursors.specs.Open.{Opened, Seated, held_by, AreHeld, AreOwn, all_cursors}
 use Rattle.med_value.specs.Limits.{session_count}
-use Rattle.med_world.specs.Requests.{opening, bye, IsSid, IsUser}
-use Rattle.med_world.specs.Picks.{no_pick}
-use Rattle.med_world.specs.World.{World, Session, new_session, IsOpen, with_session, without_sessions}
-use Rattle.med_world.specs.Causes.{NoneStands}
-use Rattle.med_world.specs.Replies.{done, refused}
-use Rattle.med_world.specs.Steps.{is_done}
+use Rattle.sql_meaning.specs.Requests.{opening, bye, IsSid, IsUser}
+use Rattle.sql_meaning.specs.Picks.{no_pick}
+use Rattle.sql_meaning.specs.World.{World, Session, new_session, IsOpen, with_session, without_sessions}
+use Rattle.sql_meaning.specs.Causes.{NoneStands}
+use Rattle.sql_meaning.specs.Replies.{done, refused}
+use Rattle.sql_meaning.specs.Steps.{is_done}
 use Rattle.med_world.specs.Seats.{seat_in, seat_of, user_of, new_seat, IsSoundSeat, AreSoundSeats, IsOpenAt, SeatAgrees}
 use Rattle.med_world.specs.Engine.{Shown, EachBox, IsAtRest, AreHeldOnce, IsSound, Agrees, Leads, Closes, ClosesAll}
 use Rattle.med_world.specs.Laws.{with_seats, with_boxes}

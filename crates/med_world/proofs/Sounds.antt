@@ -13,7 +13,7 @@ use Rattle.med_catalog.specs.Objects.{ServerObject, TableObject, Objects, server
 use Rattle.med_catalog.specs.Changes.{ObjectChange, new_table, no_table, no_server, changed}
 use Rattle.med_catalog.specs.Options.{table_settings, column_settings}
 use Rattle.bind_catalog.specs.Places.{Attached}
-use Rattle.med_world.specs.World.{beside_without}
+use Rattle.sql_meaning.specs.World.{beside_without}
 use Rattle.med_world.specs.Engine.{Label, Shown, leased, EachTakes, EachBox, IsUnstaged, AreSound, IsServerAt, IsStandingAt, IsWrittenAs, IsBoundAs, IsAmong, IsSound, with_change, BindsTable, UnbindsTable, DropsBox}
 use Rattle.med_world.specs.Altering.{BindsInVain}
 use Rattle.med_world.proofs.Lists.{some_same, none_some, push_before, push_last, push_cases, past}

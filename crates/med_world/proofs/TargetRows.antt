@@ -9,7 +9,7 @@ use Rattle.bind_names.specs.Scope.{place_from}
 use Rattle.bind_catalog.specs.Tables.{shape_of}
 use Rattle.bind_catalog.specs.Places.{Attached}
 use Rattle.med_catalog.specs.Objects.{TableObject}
-use Rattle.med_world.specs.World.{Source, SourceState, rows_named, rows_with, with_state}
+use Rattle.sql_meaning.specs.World.{Source, SourceState, rows_named, rows_with, with_state}
 use Rattle.med_world.specs.Engine.{Label, IsNamedAt, IsFirst, state_of, sources_of, AreRowsOf, RowsAgree}
 use Rattle.med_world.proofs.Lists.{some_same, same_bytes, bytes_same, other_bytes, bytes_other, one_place, zero≢suc}
 use Rattle.med_world.proofs.Altered.{named_in}

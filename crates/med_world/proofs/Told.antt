@@ -3,12 +3,12 @@ use Rattle.std.proofs.Common.{◌≡◌, ℕ, ◌<◌, ◌≤◌, ◌⊎◌, Lis
 use Rattle.med_value.specs.declared.cause.Cause.{Cause}
 use Rattle.med_value.specs.declared.cause.Cause.TheVariants.{Protocol, NoConnection, Syntax, LiteralOutOfRange, NameTooLong, TooDeep, FetchZero}
 use Rattle.med_parser.specs.CommandCauses.{SyntaxCauses}
-use Rattle.med_world.specs.Requests.{opening, sql, bye, IsUser}
+use Rattle.sql_meaning.specs.Requests.{opening, sql, bye, IsUser}
 use Rattle.med_parser.specs.CommandTree.{CommandTree}
 use Rattle.med_parser.specs.CommandGrammar.{HasCommand}
-use Rattle.med_world.specs.Picks.{Pick}
-use Rattle.med_world.specs.World.{World, Session, IsOpen}
-use Rattle.med_world.specs.Causes.{TreeCauses, IsStatementOf, Stands, phase, IsPick, IsPickOf, IsTold, NoneStands, NoneBeforeState}
+use Rattle.sql_meaning.specs.Picks.{Pick}
+use Rattle.sql_meaning.specs.World.{World, Session, IsOpen}
+use Rattle.sql_meaning.specs.Causes.{TreeCauses, IsStatementOf, Stands, phase, IsPick, IsPickOf, IsTold, NoneStands, NoneBeforeState}
 use Rattle.med_world.proofs.Lists.{some_same}
 
 -- a cause of the phase of syntax is of phase 2

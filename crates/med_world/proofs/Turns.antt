@@ -15,13 +15,13 @@ use Rattle.med_parser.specs.CommandTree.{on_cursors}
 use Rattle.cursor_syntax.specs.CursorTree.{CountTree, some_rows, all_rows, CursorTree, declare, fetch, close}
 use Rattle.open_cursors.specs.Open.{Opened, Seated, opened_named, without_named, with_run}
 use Rattle.open_cursors.specs.Fetching.{GivesRows, GivesNone, no_memory, box_fails}
-use Rattle.med_world.specs.Requests.{sql, IsSid}
-use Rattle.med_world.specs.Picks.{no_pick}
-use Rattle.med_world.specs.World.{World, Cursor, with_session}
-use Rattle.med_world.specs.Cursors.{is_cursor, rows_leased, cursor_named, without_cursor, hand_out, with_handed, Fetches}
-use Rattle.med_world.specs.Causes.{CursorCauses, phase, NoneBeforeState}
-use Rattle.med_world.specs.Replies.{done, answered, refused}
-use Rattle.med_world.specs.Steps.{Turns, is_done, source_fails, fetch_lacks_memory}
+use Rattle.sql_meaning.specs.Requests.{sql, IsSid}
+use Rattle.sql_meaning.specs.Picks.{no_pick}
+use Rattle.sql_meaning.specs.World.{World, Cursor, with_session}
+use Rattle.sql_meaning.specs.Cursors.{is_cursor, rows_leased, cursor_named, without_cursor, hand_out, with_handed, Fetches}
+use Rattle.sql_meaning.specs.Causes.{CursorCauses, phase, NoneBeforeState}
+use Rattle.sql_meaning.specs.Replies.{done, answered, refused}
+use Rattle.sql_meaning.specs.Steps.{Turns, is_done, source_fails, fetch_lacks_memory}
 use Rattle.med_world.specs.Seats.{seat_of, CursorAgrees, CursorsAgree}
 use Rattle.med_world.specs.Engine.{Shown, IsSound, Agrees, Leads}
 use Rattle.med_world.specs.Turning.{with_cursors, IsOfOpen, Ends}

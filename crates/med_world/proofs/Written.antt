@@ -17,9 +17,9 @@ use Rattle.write_exec.proofs.WrittenRows.{rows_written}
 use Rattle.write_parts.specs.Meaning.{target_of}
 use Rattle.med_catalog.specs.Objects.{ServerObject, TableObject, Objects, server_named, table_named}
 use Rattle.bind_catalog.specs.Places.{Attached}
-use Rattle.med_world.specs.World.{World, standing, rows_with, rows_named, holding_at, holds_at, with_state}
-use Rattle.med_world.specs.Causes.{rows_held, IsTarget}
-use Rattle.med_world.specs.Steps.{holding_after}
+use Rattle.sql_meaning.specs.World.{World, standing, rows_with, rows_named, holding_at, holds_at, with_state}
+use Rattle.sql_meaning.specs.Causes.{rows_held, IsTarget}
+use Rattle.sql_meaning.specs.Steps.{holding_after}
 use Rattle.med_world.specs.Engine.{Shown, IsServerAt, IsWrittenAs, IsBoundAs, IsSound, IsFirst, state_of, sources_of, AreRowsOf, RowsAgree, Agrees, Rises, EachRises, leased}
 use Rattle.med_world.specs.Writing.{columns_for, form_for, IsTargetAt, DoesWrite}
 use Rattle.med_world.specs.Laws.{with_boxes}

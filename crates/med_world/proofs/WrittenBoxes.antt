@@ -23,7 +23,7 @@ use Rattle.med_write.specs.Form.{WriteForm, insert_form, update_form, delete_for
 use Rattle.write_exec.specs.Reading.{are_typed}
 use Rattle.write_exec.specs.Writing.{CanWrite, scans_of, AreRead, Writes, Bars, lacks_memory, source_fails, gives_twice, numbers_end, write_shows, kind_refuses, RefusesWrite}
 use Rattle.write_exec.proofs.ChangesFit.{changes_fit}
-use Rattle.med_world.specs.Picks.{as_given}
+use Rattle.sql_meaning.specs.Picks.{as_given}
 use Rattle.med_world.specs.Engine.{Rises}
 use Rattle.med_world.proofs.AnyRows.{all_come}
 

@@ -12,8 +12,8 @@ use Rattle.ddl_syntax.specs.DdlTree.{DdlTree}
 use Rattle.med_catalog.specs.Objects.{ServerObject, TableObject}
 use Rattle.med_catalog.specs.Changes.{ObjectChange, new_server, new_table, Asks}
 use Rattle.med_catalog.specs.DdlCauses.{DdlCauses}
-use Rattle.med_world.specs.World.{is_taken}
-use Rattle.med_world.specs.Causes.{phase}
+use Rattle.sql_meaning.specs.World.{is_taken}
+use Rattle.sql_meaning.specs.Causes.{phase}
 use Rattle.med_world.specs.Engine.{Shown, leased, IsServerAt, IsStandingAt, Alters}
 
 abbrev pub cause_of : Fault → Cause

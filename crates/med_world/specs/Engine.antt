@@ -8,14 +8,14 @@ use Rattle.fdw_api.specs.Kinds.{Column, Kind, Held, held, kinds_of}
 use Rattle.fdw_api.specs.State.{Scan, BoxState, BoxTable, IsIdle, is_honest, table_of, scan_of, rows_of}
 use Rattle.fdw_api.specs.Calls.{Binds, Unbinds}
 use Rattle.fdw_api.specs.Sound.{IsSoundBox}
-use Rattle.med_planner.specs.Planned.{Place}
+use Rattle.med_binder.specs.Place.{Place}
 use Rattle.med_exec.specs.Slots.{BoxAt, ChangesAt}
 use Rattle.med_exec.specs.Running.{SlotShows, HasFailed, IsUsedUp}
 use Rattle.med_exec.specs.Rests.{held as scans_held, IsRunning}
 use Rattle.bind_catalog.specs.Places.{Attached, ArePlaces}
 use Rattle.bind_catalog.specs.Queries.{meant_by}
 use Rattle.med_value.specs.Limits.{session_count, source_limit}
-use Rattle.med_world.specs.Requests.{AskedLine, sql, IsSid, IsUser}
+use Rattle.sql_meaning.specs.Requests.{AskedLine, sql, IsSid, IsUser}
 use Rattle.med_catalog.specs.declared.kind.SourceKind.{SourceKind}
 use Rattle.med_catalog.specs.Objects.{ServerObject, TableObject, Objects, server_named}
 use Rattle.ddl_syntax.specs.DdlTree.{TableTree}
@@ -27,10 +27,10 @@ use Rattle.med_catalog.specs.DdlCauses.{Stands, create_table_rows}
 use Rattle.med_catalog.specs.Changes.{AreDeclared, ObjectChange, new_table, no_server, no_table, changed}
 use Rattle.open_cursors.specs.Counted.{ReadsTables}
 use Rattle.open_cursors.specs.Open.{Opened, Seated, leases_table, any_leases}
-use Rattle.med_world.specs.World.{World, Source, SourceState, standing, dropped, with_session, without_sessions, beside_without}
+use Rattle.sql_meaning.specs.World.{World, Source, SourceState, standing, dropped, with_session, without_sessions, beside_without}
 use Rattle.med_world.specs.Seats.{seat_of, IsOpenAt, AreSoundSeats, SeatAgrees}
-use Rattle.med_world.specs.Steps.{Trouble, Step}
-use Rattle.med_world.specs.Replies.{Reply, done, answered, reply_text}
+use Rattle.sql_meaning.specs.Steps.{Trouble, Step}
+use Rattle.sql_meaning.specs.Replies.{Reply, done, answered, reply_text}
 
 -- a source as it was added: its name, and its kind
 pub record Label : Type 0 where

@@ -1,10 +1,3 @@
-pub mod Requests
-pub mod World
-pub mod Cursors
-pub mod Picks
-pub mod Causes
-pub mod Replies
-pub mod Steps
 pub mod Seats
 pub mod Engine
 pub mod Altering

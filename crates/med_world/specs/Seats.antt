@@ -8,8 +8,8 @@ use Rattle.med_exec.specs.Rests.{Rests}
 use Rattle.med_catalog.specs.Objects.{table_named}
 use Rattle.open_cursors.specs.Open.{Opened, Seated, AreNamedApart}
 use Rattle.med_value.specs.Limits.{cursor_limit}
-use Rattle.med_world.specs.World.{World, Leased, Cursor, Session, cells_of, rows_named}
-use Rattle.med_world.specs.Cursors.{rows_leased}
+use Rattle.sql_meaning.specs.World.{World, Leased, Cursor, Session, cells_of, rows_named}
+use Rattle.sql_meaning.specs.Cursors.{rows_leased}
 
 -- ---- by the number of the session
 

@@ -7,7 +7,9 @@ use Rattle.med_syntax.specs.Tree.{Name}
 use Rattle.med_syntax.specs.QueryTree.{SelectTree}
 use Rattle.med_query.specs.Query.{Query, Tables, SameRows, IsAnswer}
 use Rattle.fdw_api.specs.State.{BoxState}
-use Rattle.med_planner.specs.Planned.{Place, entry_rows, IsShownCause}
+use Rattle.med_binder.specs.Place.{Place}
+use Rattle.med_query.specs.Causes.{IsShownCause}
+use Rattle.med_planner.specs.Planned.{entry_rows}
 use Rattle.med_exec.specs.Running.{AllServed, AllHonest}
 use Rattle.open_cursors.specs.Counted.{ReadsTables}
 use Rattle.open_cursors.specs.Starting.{RunFails}
@@ -15,7 +17,7 @@ use Rattle.bind_catalog.specs.Queries.{meant_by, IsBindable, NotBound}
 use Rattle.bind_catalog.specs.Places.{Attached, ArePlaces}
 use Rattle.med_catalog.specs.Objects.{Objects}
 use Rattle.med_value.specs.Limits.{entry_limit}
-use Rattle.med_world.specs.Causes.{query_of}
+use Rattle.sql_meaning.specs.Causes.{query_of}
 
 -- the same in whatever order the rows come
 pub record AnswersOver (q : Query) (places : List Place) (boxes : List (Option BoxState)) (rows : List Tuple) : Type 0 where

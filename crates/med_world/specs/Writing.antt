@@ -8,7 +8,7 @@ use Rattle.med_syntax.specs.QueryTree.{SelectTree}
 use Rattle.write_syntax.specs.WriteTree.{GivenTree, values, rows_of, WriteTree, insert, update, delete}
 use Rattle.fdw_api.specs.State.{BoxState}
 use Rattle.fdw_api.specs.declared.interface.Fault.{Fault}
-use Rattle.med_planner.specs.Planned.{Place}
+use Rattle.med_binder.specs.Place.{Place}
 use Rattle.med_exec.specs.Slots.{ChangesAt}
 use Rattle.med_exec.specs.Running.{AllServed, AllHonest}
 use Rattle.med_catalog.specs.Objects.{Objects}
@@ -21,7 +21,7 @@ use Rattle.med_write.specs.Form.{WriteForm}
 use Rattle.write_exec.specs.Writing.{CanWrite, Writes, RefusesWrite}
 use Rattle.write_parts.specs.Meaning.{target_of, columns_in, written_column, write_meant}
 use Rattle.bind_write.specs.Binding.{IsBindable, NotBound}
-use Rattle.med_world.specs.Causes.{query_of, OfQuery}
+use Rattle.sql_meaning.specs.Causes.{query_of, OfQuery}
 use Rattle.med_world.specs.Altering.{cause_of}
 use Rattle.open_cursors.specs.Counted.{ReadsTables}
 use Rattle.open_cursors.specs.Starting.{RunFails}

@@ -2,12 +2,10 @@
 //! it shows after it, for every world that agrees.
 #![tactic(auto)]
 
-ghost use Rattle.std.specs.Prelude.{◌≡◌, ◌≢◌, ◌<◌, ◌-◌, ◌⊎◌, ℕ, Bool, true, false, List, [], ◌∷◌, ◌++◌, Contains};
-ghost use Rattle.std.specs.Prelude.{Option, Some, None, is_some, length, slice_get, slice_set, replicate, codes};
+ghost use Rattle.std.specs.Prelude.{◌≡◌, ◌≢◌, ◌<◌, ◌-◌, ◌⊎◌, ℕ, Bool, true, false, List, [], ◌∷◌, ◌++◌, Contains, Option, Some, None, is_some, length, slice_get, slice_set, replicate, codes};
 ghost use Rattle.med_value.specs.Datum.{Tuple};
 ghost use Rattle.med_value.specs.declared.cause.Cause.{Cause as AnyCause};
-ghost use Rattle.med_value.specs.declared.cause.Cause.TheVariants.{OutOfMemory, Protocol, NoConnection};
-ghost use Rattle.med_value.specs.declared.cause.Cause.TheVariants.{InUse, DuplicateCursor, InvalidCursorName};
+ghost use Rattle.med_value.specs.declared.cause.Cause.TheVariants.{OutOfMemory, Protocol, NoConnection, InUse, DuplicateCursor, InvalidCursorName};
 ghost use Rattle.med_syntax.specs.Tree.{Name};
 ghost use Rattle.med_query.specs.Query.{IsAnswer};
 ghost use Rattle.med_syntax.specs.QueryTree.{SelectTree, select};
@@ -22,8 +20,7 @@ ghost use Rattle.fdw_api.specs.Calls.{CanBind, CanUnbind, NoScan};
 ghost use Rattle.med_exec.specs.Slots.{BoxAt};
 ghost use Rattle.med_exec.specs.Running.{ServesRun, none_held};
 ghost use Rattle.med_exec.specs.declared.running.Run.{Run};
-ghost use Rattle.open_cursors.specs.Open.{Opened, Seated, is_full, opened_named, without_named, with_run};
-ghost use Rattle.open_cursors.specs.Open.{held_by, AreHeld, AreOwn, all_cursors};
+ghost use Rattle.open_cursors.specs.Open.{Opened, Seated, is_full, opened_named, without_named, with_run, held_by, AreHeld, AreOwn, all_cursors};
 ghost use Rattle.open_cursors.specs.Starting.{Starts, StartFails};
 ghost use Rattle.open_cursors.specs.Fetching.{GivesRows, GivesNone};
 ghost use Rattle.med_catalog.specs.Objects.{TableObject, Objects};
@@ -31,14 +28,14 @@ ghost use Rattle.med_catalog.specs.Changes.{ObjectChange, new_table, no_table, n
 ghost use Rattle.med_catalog.specs.DdlCauses.{IsTold as IsToldBy, NoneStands, nothing_leased, ddl_rows};
 ghost use Rattle.med_catalog.specs.declared.kind.SourceKind.{SourceKind as AnyKind};
 ghost use Rattle.bind_catalog.specs.Places.{Attached};
-ghost use Rattle.med_world.specs.Causes.{IsTold};
-ghost use Rattle.med_world.specs.Picks.{Pick};
+ghost use Rattle.sql_meaning.specs.Causes.{IsTold};
+ghost use Rattle.sql_meaning.specs.Picks.{Pick};
 ghost use Rattle.med_value.specs.Limits.{session_count};
-ghost use Rattle.med_world.specs.Requests.{AskedLine, opening, sql, bye, IsSid, IsUser};
-ghost use Rattle.med_world.specs.World.{World, Cursor, with_source, empty_world};
-ghost use Rattle.med_world.specs.Cursors.{rows_leased, Fetched, AreFetched, IsLast, rows_fetched};
-ghost use Rattle.med_world.specs.Replies.{done, answered, refused};
-ghost use Rattle.med_world.specs.Steps.{TakesMemory, write_tag, ddl_tag};
+ghost use Rattle.sql_meaning.specs.Requests.{AskedLine, opening, sql, bye, IsSid, IsUser};
+ghost use Rattle.sql_meaning.specs.World.{World, Cursor, with_source, empty_world};
+ghost use Rattle.sql_meaning.specs.Cursors.{rows_leased, Fetched, AreFetched, IsLast, rows_fetched};
+ghost use Rattle.sql_meaning.specs.Replies.{done, answered, refused};
+ghost use Rattle.sql_meaning.specs.Steps.{TakesMemory, write_tag, ddl_tag};
 ghost use Rattle.med_world.specs.Seats.{seat_of, user_of, new_seat};
 ghost use Rattle.med_world.specs.Engine.{Shown, leased, EachBox, IsAtRest, IsSound, IsServerAt, TakesAs, Agrees, Leads, Closes, ClosesAll};
 ghost use Rattle.med_world.specs.Turning.{new_opened, with_cursors, IsOfOpen, Ends};

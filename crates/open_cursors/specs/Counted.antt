@@ -1,7 +1,7 @@
 -- What the run of a query counts in the boxes: one scan for each entry of its FROM.
 use Rattle.std.specs.Prelude.{◌+◌, ℕ, List, [], ◌∷◌, Option, nat_eq, if◌then◌else◌}
 use Rattle.fdw_api.specs.State.{BoxState}
-use Rattle.med_planner.specs.Planned.{Place}
+use Rattle.med_binder.specs.Place.{Place}
 use Rattle.med_exec.specs.Counting.{BeginsScans}
 
 -- how many of these tables are of the box in this slot, each as often as it stands there

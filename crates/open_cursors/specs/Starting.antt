@@ -1,9 +1,6 @@
 -- What DECLARE does to the boxes, and why it is refused (SQL:2016, <declare cursor>; PostgreSQL: Writing a Foreign Data Wrapper,
 -- BeginForeignScan).
-use Rattle.std.specs.Prelude.{◌≡◌, ◌<◌, ◌≤◌, Bool, true, false, List, [], ◌++◌, length, map, Option, Some, None}
-use Rattle.std.specs.List.{list_any}
-use Rattle.tri_expr.specs.Tree.{Tree}
-use Rattle.tri_expr.specs.TreeParts.{is_risky_tree}
+use Rattle.std.specs.Prelude.{◌≡◌, ◌<◌, ◌≤◌, Bool, true, false, List, length, map, Option}
 use Rattle.med_value.specs.Datum.{Tuple}
 use Rattle.med_value.specs.declared.cause.Cause.{Cause}
 use Rattle.med_value.specs.declared.cause.Cause.TheVariants.{FeatureNotSupported, LimitExceeded, OutOfMemory, SourceFault}
@@ -12,9 +9,11 @@ use Rattle.med_syntax.specs.Tree.{Name}
 use Rattle.med_syntax.specs.QueryTree.{EntryTree, SelectTree}
 use Rattle.bind_names.specs.Scope.{entries_of}
 use Rattle.med_query.specs.Query.{Query, Tables, SameRows, IsAnswer}
-use Rattle.med_query.specs.Form.{CoreForm, Form, GroupForm, query_by}
+use Rattle.med_query.specs.Form.{query_by, is_risky_form}
 use Rattle.fdw_api.specs.State.{BoxState}
-use Rattle.med_planner.specs.Planned.{Place, entry_rows, IsShownCause}
+use Rattle.med_binder.specs.Place.{Place}
+use Rattle.med_query.specs.Causes.{IsShownCause}
+use Rattle.med_planner.specs.Planned.{entry_rows}
 use Rattle.med_exec.specs.declared.running.Run.{Run}
 use Rattle.med_exec.specs.Running.{AllHonest, AllServed, ServesRun, SlotShows, HasFailed, IsUsedUp, none_held}
 use Rattle.med_exec.specs.Rests.{Rests, held, IsRunning}
@@ -24,19 +23,6 @@ use Rattle.bind_catalog.specs.Places.{Attached, ArePlaces}
 use Rattle.open_cursors.specs.Counted.{ReadsTables}
 -- of which tables the scans are that a run holds
 pub use Rattle.med_exec.specs.Holding.{ScansOne, HoldsOf}
-
--- ---- a query that may fault, which no cursor has: 0A000
-
-abbrev pub group_trees : Option GroupForm → List Tree
-group_trees None = []
-group_trees (Some g) = g.arguments ++ g.having
-
--- An expression of a core, or of a query, is risky; those of ON never are in a query that is bound.
-abbrev pub is_risky_core : CoreForm → Bool
-is_risky_core f = list_any is_risky_tree (f.conditions ++ (group_trees f.group ++ (f.items ++ f.keys)))
-
-abbrev pub is_risky_form : Form → Bool
-is_risky_form f = list_any is_risky_core f.cores
 
 -- ---- the tables that a cursor leases
 

@@ -14,7 +14,8 @@ use Rattle.med_query.specs.declared.select.SortDirection.{SortDirection}
 use Rattle.query_answer.specs.declared.staging.Staged.{Staged}
 use Rattle.query_answer.specs.declared.outputs.AnswerFault.{AnswerFault}
 use Rattle.query_answer.specs.declared.outputs.AnswerFault.TheVariants.{Evaluation, TooManyRows}
-use Rattle.query_answer.specs.Answering.{IsCoreFault, IsShownIn, IsShownFault, IsTooLarge, IsSmall, AreSmall}
+use Rattle.med_query.specs.Causes.{IsTooLarge}
+use Rattle.query_answer.specs.Answering.{IsCoreFault, IsShownIn, IsShownFault, IsSmall, AreSmall}
 use Rattle.med_query.specs.declared.select.SelectCore.{SelectCore}
 use Rattle.med_query.specs.declared.select.Select.{Select}
 use Rattle.med_query.specs.Form.{core_form, core_by, direction_of}

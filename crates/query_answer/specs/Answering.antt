@@ -1,16 +1,13 @@
 -- Which faults a core and a query show over tables, that of their size among them.
-use Rattle.std.specs.Prelude.{◌<◌, ◌≤◌, List, length, flat_map, All, IsSome, Result, Ok, Err}
+use Rattle.std.specs.Prelude.{◌≤◌, List, length, flat_map, All, IsSome, Result, Ok, Err}
 use Rattle.std.specs.List.{Any}
 use Rattle.med_value.specs.Limits.{group_limit}
 use Rattle.med_query.specs.Query.{Core, Query, Tables, IsTold, core_faults, kept}
+use Rattle.med_query.specs.Causes.{IsTooLarge}
 use Rattle.query_answer.specs.declared.outputs.AnswerFault.{AnswerFault}
 use Rattle.query_answer.specs.declared.outputs.AnswerFault.TheVariants.{Evaluation, TooManyRows}
 
--- the core groups over more than 2^62 kept rows
-abbrev pub IsTooLarge : Core → Tables → Type 0
-IsTooLarge c db = IsSome c.group × (group_limit < length (kept c db))
-
--- it groups over no more
+-- the core groups over no more than 2^62 kept rows
 abbrev pub IsSmall : Core → Tables → Type 0
 IsSmall c db = IsSome c.group → length (kept c db) ≤ group_limit
 

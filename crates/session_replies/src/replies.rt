@@ -1,12 +1,11 @@
 //! Replies to requests, and their text.
-ghost use Rattle.std.specs.Prelude.{◌≡◌, ◌+◌, ◌≤◌, ◌++◌, ◌∷◌, [], ℕ, flat_map, length, map, IfOk};
-ghost use Rattle.std.specs.Prelude.{OnOk, string_bytes, vec_len, vec_capacity, codes, decimal};
+ghost use Rattle.std.specs.Prelude.{◌≡◌, ◌+◌, ◌≤◌, ◌++◌, ◌∷◌, [], ℕ, flat_map, length, map, IfOk, OnOk, string_bytes, vec_len, vec_capacity, codes, decimal};
 ghost use Rattle.med_value.specs.Datum.{tuple};
 ghost use Rattle.med_value.specs.Text.{escaped_text};
-ghost use Rattle.med_world.specs.Replies.{reply_text, done, answered, refused, header, line, row_line, tag_line, rows_tag};
+ghost use Rattle.sql_meaning.specs.Replies.{reply_text, done, answered, refused, header, line, row_line, tag_line, rows_tag};
 ghost use Rattle.ddl_syntax.specs.DdlView.{ddl_tree};
 ghost use Rattle.session_replies.specs.Outcomes.{HasRows, TellsReply, reply_of, word_text};
-ghost use Rattle.med_world.specs.Steps.{ddl_tag, write_tag};
+ghost use Rattle.sql_meaning.specs.Steps.{ddl_tag, write_tag};
 ghost use Rattle.write_parts.specs.Meaning.{target_of};
 ghost use Rattle.write_syntax.specs.WriteView.{write_tree};
 

@@ -1,6 +1,6 @@
 use Rattle.std.proofs.Common.{subst, List, codes}
 use Rattle.med_catalog.specs.declared.kind.SourceKind.TheVariants as kinds
-use Rattle.med_world.specs.World.{empty_world, with_source}
+use Rattle.sql_meaning.specs.World.{empty_world, with_source}
 use Rattle.list_wrapper.specs.ListBoxes.{box_of}
 use Rattle.list_wrapper.specs.Lists.{Listed, IsNewList}
 use Rattle.bench_tables.proofs.setup.bench_engine.Goals as goal

@@ -9,7 +9,7 @@ use Rattle.med_binder.specs.declared.bound.BoundEntry.{BoundEntry}
 use Rattle.bind_names.proofs.Causes.{tells_first, next_causes}
 use Rattle.bind_names.proofs.Added.{added_after}
 use Rattle.bind_names.proofs.Parts.{drop_read}
-use Rattle.med_planner.specs.Planned as offered
+use Rattle.med_binder.specs.Place as offered
 use Rattle.med_catalog.specs.View.{objects}
 use Rattle.bind_catalog.specs.Tables.{shapes}
 use Rattle.bind_catalog.specs.Places.{attached, ArePlaces}

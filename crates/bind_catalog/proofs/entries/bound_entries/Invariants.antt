@@ -4,7 +4,7 @@ use Rattle.bind_names.specs.Scope.{entry_place, entry_columns}
 use Rattle.bind_names.specs.Naming.{entry_causes}
 use Rattle.bind_names.specs.Seen.{seen_entry}
 use Rattle.med_binder.specs.declared.bound.BoundEntry.{BoundEntry}
-use Rattle.med_planner.specs.Planned as offered
+use Rattle.med_binder.specs.Place as offered
 use Rattle.med_catalog.specs.View.{objects}
 use Rattle.bind_catalog.specs.Tables.{shapes}
 use Rattle.bind_catalog.specs.Places.{attached, ArePlaces}

@@ -2,7 +2,7 @@ use Rattle.std.proofs.Common.{List, [], ◌∷◌, map, inl, inr, refl, ap, sym,
 use Rattle.med_value.specs.Datum.{Tuple, tuple}
 use Rattle.med_query.specs.Select.{query_of}
 use Rattle.med_query.specs.declared.select.Select.{Select}
-use Rattle.med_planner.specs.Planned.{entry_place}
+use Rattle.med_binder.specs.Place.{entry_place}
 use Rattle.med_exec.specs.Rests.{Rests}
 use Rattle.med_exec.specs.Running.{Held, ServesRun, none_held}
 use Rattle.med_exec.proofs.Served.{all_served}

@@ -1,6 +1,6 @@
 use Rattle.std.proofs.Common.{◌∙◌, ℕ, Result, refl, subst}
 use Rattle.med_catalog.specs.declared.kind.SourceKind.TheVariants.{List as Lists}
-use Rattle.med_world.specs.World.{with_source}
+use Rattle.sql_meaning.specs.World.{with_source}
 use Rattle.session_wire.specs.Worlds.{scene_of}
 use Rattle.fed_replay.specs.declared.script.ScriptFault.{ScriptFault}
 use Rattle.fed_setup.specs.Setup.{SetsUp}

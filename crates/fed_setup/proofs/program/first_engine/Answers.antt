@@ -1,5 +1,5 @@
 use Rattle.std.proofs.Common.{ap, map}
-use Rattle.med_world.specs.World.{empty_world}
+use Rattle.sql_meaning.specs.World.{empty_world}
 use Rattle.fed_words.specs.Places.{place_of}
 use Rattle.fed_setup.specs.Setup.{list_asked}
 use Rattle.fed_words.specs.Words.{places_asked}

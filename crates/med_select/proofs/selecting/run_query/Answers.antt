@@ -2,7 +2,7 @@ use Rattle.std.proofs.Common.{map, subst}
 use Rattle.med_value.specs.Datum.{tuple}
 use Rattle.med_query.specs.Query.{Query}
 use Rattle.med_exec.specs.Slots.{states}
-use Rattle.med_planner.specs.Planned.{entry_place}
+use Rattle.med_binder.specs.Place.{entry_place}
 use Rattle.med_world.specs.Selecting.{AnswersOver}
 use Rattle.open_cursors.specs.Starting.{RunFails}
 use Rattle.med_world.specs.Altering.{cause_of}

@@ -1,6 +1,6 @@
 use Rattle.std.proofs.Common.{◌≡◌, ◌++◌, map, take, flat_map}
 use Rattle.med_value.specs.Datum.{tuple}
-use Rattle.med_world.specs.Replies.{line, row_line}
+use Rattle.sql_meaning.specs.Replies.{line, row_line}
 use Rattle.session_replies.proofs.replies.append_rows.Given as goal
 
 abbrev pub invariant-loop-row : goal.invariant-loop-row

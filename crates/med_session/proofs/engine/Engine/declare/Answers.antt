@@ -3,8 +3,8 @@ use Rattle.med_exec.specs.Slots.{states}
 use Rattle.open_cursors.specs.Open.{seated}
 use Rattle.med_world.specs.Engine.{Shown, IsSound, Leads}
 use Rattle.med_world.specs.Laws.{with_boxes}
-use Rattle.med_world.specs.Replies.{done, refused}
-use Rattle.med_world.specs.Requests.{sql}
+use Rattle.sql_meaning.specs.Replies.{done, refused}
+use Rattle.sql_meaning.specs.Requests.{sql}
 use Rattle.med_world.specs.Seats.{seat_of}
 use Rattle.med_session.specs.Cursors.{is_taken, no_memory, not_started}
 use Rattle.med_session.specs.Shows.{shown}

@@ -3,8 +3,8 @@ use Rattle.med_value.specs.Datum.{tuple}
 use Rattle.med_exec.specs.Slots.{states}
 use Rattle.open_cursors.specs.Open.{seated}
 use Rattle.med_world.specs.Engine.{Shown, IsSound, Leads}
-use Rattle.med_world.specs.Replies.{answered, refused}
-use Rattle.med_world.specs.Requests.{sql}
+use Rattle.sql_meaning.specs.Replies.{answered, refused}
+use Rattle.sql_meaning.specs.Requests.{sql}
 use Rattle.med_world.specs.Seats.{seat_of}
 use Rattle.med_session.specs.Cursors.{is_unknown, no_memory, fails}
 use Rattle.med_session.specs.Shows.{shown}

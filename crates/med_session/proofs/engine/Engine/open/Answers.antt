@@ -1,6 +1,6 @@
 use Rattle.std.proofs.Common.{◌≡◌, ◌⊎◌, true, false, is_some, sym, ◌∙◌, rules, inl, inr, string_bytes}
 use Rattle.std.proofs.lemmas.Bool.{false≢true}
-use Rattle.med_world.specs.Requests.{opening, IsUser}
+use Rattle.sql_meaning.specs.Requests.{opening, IsUser}
 use Rattle.med_session.specs.Shows.{shown}
 use Rattle.med_world.specs.Seats.{user_of}
 use Rattle.med_session.proofs.engine.Engine.open.Goals as goal

@@ -1,5 +1,5 @@
 use Rattle.med_value.specs.declared.cause.Cause.TheVariants.{OutOfMemory}
-use Rattle.med_world.specs.Replies.{refused}
+use Rattle.sql_meaning.specs.Replies.{refused}
 use Rattle.med_session.specs.Asking.{asked}
 use Rattle.session_replies.specs.Outcomes.{reply_of}
 use Rattle.med_session.specs.Shows.{shown}

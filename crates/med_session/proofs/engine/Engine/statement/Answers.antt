@@ -9,9 +9,9 @@ use Rattle.med_syntax.specs.QueryView.{statement_tree}
 use Rattle.bind_catalog.specs.Looked.{query_in}
 use Rattle.med_world.specs.Seats.{user_of}
 use Rattle.med_world.specs.Laws.{IsRead}
-use Rattle.med_world.specs.Replies.{done}
+use Rattle.sql_meaning.specs.Replies.{done}
 use Rattle.med_world.specs.Engine.{Shown, Leads}
-use Rattle.med_world.specs.Requests.{sql}
+use Rattle.sql_meaning.specs.Requests.{sql}
 use Rattle.med_session.specs.Shows.{shown}
 use Rattle.med_session.proofs.Leading.{read_query}
 use Rattle.med_session.proofs.Tables.{queries_ready, ready_of}

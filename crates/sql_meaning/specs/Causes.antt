@@ -8,15 +8,14 @@ use Rattle.med_syntax.specs.QueryTree.{SelectTree, select}
 use Rattle.tri_expr.specs.declared.expr.Fault.{Fault as Wrong}
 use Rattle.tri_expr.specs.Verdict.{fault_list}
 use Rattle.med_query.specs.Query.{Query, Tables}
-use Rattle.med_query.specs.Form.{query_by}
+use Rattle.med_query.specs.Form.{query_by, is_risky_form}
 use Rattle.fdw_api.specs.Kinds.{Kind, Entry, Holding, Held, Reading}
 use Rattle.fdw_api.specs.Calls.{Picks}
 use Rattle.med_parser.specs.CommandCauses.{SyntaxCauses}
 use Rattle.bind_names.specs.Meaning.{Meant}
-use Rattle.med_planner.specs.Planned.{IsShownCause, wrong_cause}
+use Rattle.med_query.specs.Causes.{IsShownCause, wrong_cause}
 use Rattle.ddl_syntax.specs.DdlTree.{DdlTree}
 use Rattle.cursor_syntax.specs.CursorTree.{CursorTree, declare, fetch, close}
-use Rattle.open_cursors.specs.Starting.{is_risky_form}
 use Rattle.write_syntax.specs.WriteTree.{GivenTree, values, rows_of, WriteTree, insert, update, delete}
 use Rattle.med_write.specs.declared.write.WrittenColumn.{WrittenColumn}
 use Rattle.med_write.specs.Form.{WriteForm}
@@ -32,10 +31,10 @@ use Rattle.bind_catalog.specs.Queries.{meant_by, QueryNames, QueryTypes}
 use Rattle.med_parser.specs.CommandTree.{CommandTree, on_data, on_rows, on_cursors, on_objects}
 use Rattle.med_parser.specs.CommandGrammar.{HasCommand}
 use Rattle.med_value.specs.Limits.{entry_limit, cursor_limit}
-use Rattle.med_world.specs.Picks.{Pick, PicksAnswer, IsNumbering, as_given}
-use Rattle.med_world.specs.Requests.{AskedLine, opening, sql, bye, IsUser}
-use Rattle.med_world.specs.World.{World, Session, IsOpen, cells_of, rows_in, rows_named, IsFree, Serves, is_leased}
-use Rattle.med_world.specs.Cursors.{cursor_named}
+use Rattle.sql_meaning.specs.Picks.{Pick, PicksAnswer, IsNumbering, as_given}
+use Rattle.sql_meaning.specs.Requests.{AskedLine, opening, sql, bye, IsUser}
+use Rattle.sql_meaning.specs.World.{World, Session, IsOpen, cells_of, rows_in, rows_named, IsFree, Serves, is_leased}
+use Rattle.sql_meaning.specs.Cursors.{cursor_named}
 
 -- Phase 1, the frame. 08P01: OPEN of a session that is open, or with a user who is none by the protocol.
 -- 08003: a statement or BYE of a session that is not open.

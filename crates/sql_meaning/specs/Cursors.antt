@@ -4,7 +4,7 @@ use Rattle.med_value.specs.Datum.{Tuple}
 use Rattle.med_syntax.specs.Tree.{Name}
 use Rattle.med_query.specs.Query.{Tables, IsAnswer}
 use Rattle.cursor_syntax.specs.CursorTree.{CountTree, some_rows, all_rows}
-use Rattle.med_world.specs.World.{Leased, Cursor, Session}
+use Rattle.sql_meaning.specs.World.{Leased, Cursor, Session}
 
 -- the rows of each entry of the cursor's query, as they stood at DECLARE
 abbrev pub rows_leased : List Leased → Tables

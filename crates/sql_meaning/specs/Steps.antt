@@ -16,12 +16,12 @@ use Rattle.med_syntax.specs.Tree.{Name}
 use Rattle.med_catalog.specs.Objects.{TableObject, server_named}
 use Rattle.med_catalog.specs.Changes.{ObjectChange, new_table, no_server, no_table, changed, Asks}
 use Rattle.med_parser.specs.CommandTree.{CommandTree, on_data, on_rows, on_cursors, on_objects}
-use Rattle.med_world.specs.Cursors.{cursor_named, with_cursor, without_cursor, with_handed, Fetches}
-use Rattle.med_world.specs.Picks.{Pick}
-use Rattle.med_world.specs.Requests.{AskedLine, opening, sql, bye}
-use Rattle.med_world.specs.World.{World, Leased, Cursor, Session, cells_of, rows_named, beside_without, rows_with, drop_source_of, with_state, holds_at, with_session, new_session}
-use Rattle.med_world.specs.Causes.{query_of, meant_over, entries_in, Reads, write_over, rows_held, IsTarget, IsStatementOf, IsPickOf, IsTold, NoneStands, NoneBeforeState}
-use Rattle.med_world.specs.Replies.{Reply, done, answered, refused, rows_tag}
+use Rattle.sql_meaning.specs.Cursors.{cursor_named, with_cursor, without_cursor, with_handed, Fetches}
+use Rattle.sql_meaning.specs.Picks.{Pick}
+use Rattle.sql_meaning.specs.Requests.{AskedLine, opening, sql, bye}
+use Rattle.sql_meaning.specs.World.{World, Leased, Cursor, Session, cells_of, rows_named, beside_without, rows_with, drop_source_of, with_state, holds_at, with_session, new_session}
+use Rattle.sql_meaning.specs.Causes.{query_of, meant_over, entries_in, Reads, write_over, rows_held, IsTarget, IsStatementOf, IsPickOf, IsTold, NoneStands, NoneBeforeState}
+use Rattle.sql_meaning.specs.Replies.{Reply, done, answered, refused, rows_tag}
 
 -- What befell one request: a growth was refused; it is a FETCH and had asked its cursor for a row; a source failed; a box has given all its
 -- ticket numbers.

@@ -5,7 +5,7 @@ use Rattle.std.specs.List.{IsDistinct}
 use Rattle.med_value.specs.Datum.{Tuple}
 use Rattle.med_value.specs.declared.cause.Cause.{Cause}
 use Rattle.med_query.specs.Query.{Query, Tables, IsAnswer}
-use Rattle.med_planner.specs.Planned.{IsShownCause}
+use Rattle.med_query.specs.Causes.{IsShownCause}
 use Rattle.fdw_api.specs.Kinds.{Entry, Held, held}
 use Rattle.fdw_api.specs.Scan.{TableRow, GivenRow, plain_spec, given_row}
 

@@ -1,0 +1,7 @@
+pub mod Requests
+pub mod World
+pub mod Cursors
+pub mod Picks
+pub mod Causes
+pub mod Replies
+pub mod Steps
