@@ -1,3 +1,4 @@
 pub mod Selections
 pub mod Ready
+pub mod Plain
 pub mod Begins

@@ -14,7 +14,7 @@ use Rattle.sql_meaning.specs.Replies.{Reply, answered, refused, reply_text}
 use Rattle.sql_meaning.specs.Steps.{Trouble, TakesMemory, TreeDoes, Does, Step, is_refused, is_done, lacks_memory, fetch_lacks_memory, source_fails, numbers_end}
 use Rattle.med_world.specs.Engine.{Shown, Agrees, Leads, IsAnswered}
 use Rattle.med_world.specs.Laws.{IsRead}
-use Rattle.med_world.proofs.OneRun.{once_refused}
+use Rattle.med_world.proofs.Asks.{asks_refused}
 use Rattle.med_select.specs.declared.selecting.RowSet.{RowSet}
 use Rattle.session_replies.specs.Outcomes.{HasRows, TellsReply, reply_of}
 use Rattle.med_session.specs.Cursors.{IfFetched}
@@ -59,7 +59,7 @@ memory_told e new sid request names rows h = record {
   trouble = with_memory h.trouble;
   befell = record { source = h.befell.source; numbers = h.befell.numbers };
   rises = h.rises;
-  once = once_refused e request OutOfMemory new.boxes;
+  asks = asks_refused e sid request OutOfMemory new.boxes;
   step = λ w a. let s = h.step w a in rows_refused w sid request h.trouble names rows s.0 new s.1 s.2;
 }
 

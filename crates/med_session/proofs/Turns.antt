@@ -1,28 +1,31 @@
 -- A FETCH that gave rows, which may not be told.
-use Rattle.std.proofs.Common.{◌≡◌, ℕ, ◌-◌, List, Option, Some, is_some, slice_set, refl, ap, sym, ◌∙◌, subst}
+use Rattle.std.proofs.Common.{◌≡◌, ℕ, ◌-◌, List, Option, Some, None, is_some, slice_set, refl, ap, sym, ◌∙◌, subst}
 use Rattle.med_value.specs.Datum.{Tuple}
 use Rattle.med_value.specs.declared.cause.Cause.{Cause}
-use Rattle.med_value.specs.declared.cause.Cause.TheVariants.{OutOfMemory}
+use Rattle.med_value.specs.declared.cause.Cause.TheVariants.{OutOfMemory, InvalidCursorName}
 use Rattle.med_syntax.specs.Tree.{Name}
-use Rattle.cursor_syntax.specs.CursorTree.{CountTree, fetch}
+use Rattle.cursor_syntax.specs.CursorTree.{CountTree, CursorTree, fetch}
 use Rattle.fdw_api.specs.State.{BoxState}
 use Rattle.med_exec.specs.declared.running.Run.{Run}
 use Rattle.med_exec.specs.Running.{ServesRun, none_held}
 use Rattle.med_exec.specs.Rests.{held}
 use Rattle.med_parser.specs.CommandTree.{on_cursors}
 use Rattle.open_cursors.specs.Open.{Opened, Seated, opened_named, without_named, with_run}
-use Rattle.open_cursors.specs.Fetching.{GivesNone, no_memory}
+use Rattle.open_cursors.specs.Fetching.{GivesNone, no_memory, cause_of}
 use Rattle.med_world.proofs.Lists.{some_same}
-use Rattle.sql_meaning.specs.Requests.{sql}
+use Rattle.sql_meaning.specs.Requests.{AskedLine, sql, IsSid}
+use Rattle.sql_meaning.specs.Steps.{TakesMemory}
 use Rattle.sql_meaning.specs.Replies.{refused}
 use Rattle.med_world.specs.Seats.{seat_of}
 use Rattle.med_world.specs.Engine.{Shown, IsSound, Leads}
 use Rattle.med_world.specs.Laws.{IsRead}
-use Rattle.med_world.specs.Turning.{with_cursors, Ends, later}
-use Rattle.med_session.specs.Cursors.{having, Fetched, LosesCursor, MayBeUntold, IfFetched}
+use Rattle.med_world.specs.Turning.{with_cursors, IsOfOpen, Ends, later}
+use Rattle.med_session.specs.Cursors.{having, Fetched, NoneAsked, is_unknown, lacks_memory, KeepsCursors, GivesUp, NotFetched, cause_in, LosesCursor, MayBeUntold, IfFetched}
+use Rattle.med_session.specs.declared.cursors.FetchFault.{FetchFault}
+use Rattle.med_session.specs.declared.cursors.FetchFault.TheVariants as fault
 use Rattle.session_replies.specs.declared.replies.Outcome.{Outcome}
 use Rattle.session_replies.specs.declared.replies.Outcome.TheVariants as outcome
-use Rattle.med_session.proofs.Seats.{set_twice, seat_put}
+use Rattle.med_session.proofs.Seats.{set_twice, seat_put, put_other, put_back}
 use Rattle.med_session.proofs.CursorLists.{named_runs, without_runs}
 
 -- what the law of a FETCH that fails says
@@ -69,6 +72,42 @@ may_be_untold law e sid text seat name asked names rows after mid now read is_op
   };
   lost = lost law e sid text seat name asked names rows after mid read is_open sound f;
 })
+
+-- ---- a FETCH that gave none
+
+-- what the laws say of a cursor that is gone, of an unknown one, and of memory
+abbrev pub EndedLaw : Type 0
+EndedLaw = (e : Shown) (new : List (Option BoxState)) (sid : ℕ) (seat : Seated) (name : Name) (o : Opened) → IsSid sid → IsSound e → seat_of e.seats sid ≡ Some seat → opened_named name seat.cursors ≡ Some o → Ends o.run e.boxes new
+    → IsSound (with_cursors e sid seat (without_named name seat.cursors) new)
+
+abbrev pub UnknownLaw : Type 0
+UnknownLaw = (e : Shown) (sid : ℕ) (text : List ℕ) (seat : Seated) (name : Name) (t : CursorTree) → IsOfOpen name t → IsRead e sid text seat.user (on_cursors t) → seat_of e.seats sid ≡ Some seat → opened_named name seat.cursors ≡ None → Leads e sid (sql text) (refused InvalidCursorName) e
+
+abbrev pub MemoryLaw : Type 0
+MemoryLaw = (e : Shown) (sid : ℕ) (request : AskedLine) → TakesMemory request → Leads e sid request (refused OutOfMemory) e
+
+module _ (e : Shown) (sid : ℕ) (seat after : Seated) (left seats : List (Option Seated)) (boxes : List (Option BoxState)) (name : Name) (sound : IsSound e) (is_open : seat_of e.seats sid ≡ Some seat) (l : left ≡ slice_set e.seats (sid - 1) None) (s : seats ≡ slice_set left (sid - 1) (Some after)) where
+  abbrev failed : Shown
+  failed = record e { seats = seats; boxes = boxes }
+
+  kept : (c : Cause) → KeepsCursors name seat e.boxes c after boxes → failed ≡ e
+  kept c k = put_back e sid seat after left seats boxes is_open l s k.seat_kept ∙ ap (λ (b : List (Option BoxState)). record e { boxes = b }) k.boxes_kept
+
+  given_up : (c : Cause) → (k : GivesUp name seat e.boxes c after boxes) → failed ≡ with_cursors e sid seat (without_named name seat.cursors) boxes
+  given_up c k = put_other e sid seat after (without_named name seat.cursors) left seats boxes l s k.is
+
+  pub failed_sound : EndedLaw → IsSid sid → (f : FetchFault) → NotFetched name seat e.boxes f after boxes → IsSound failed
+  failed_sound law is (fault.Unasked c) k = subst (λ (n : Shown). IsSound n) (sym (kept c k)) sound
+  failed_sound law is (fault.Failed u) k = subst (λ (n : Shown). IsSound n) (sym (given_up (cause_of u.fault) k)) (law e boxes sid seat name k.at is sound is_open k.there k.ends)
+
+  unasked_leads : UnknownLaw → MemoryLaw → (text : List ℕ) (asked : CountTree) (c : Cause) → IsRead e sid text seat.user (on_cursors (fetch asked name)) → NoneAsked name seat c → Leads e sid (sql text) (refused c) e
+  unasked_leads unknown memory text asked c read (is_unknown told none) = subst (λ (d : Cause). Leads e sid (sql text) (refused d) e) (sym told) (unknown e sid text seat name (fetch asked name) refl read is_open none)
+  unasked_leads unknown memory text asked c read (lacks_memory told) = subst (λ (d : Cause). Leads e sid (sql text) (refused d) e) (sym told) (memory e sid (sql text) tt)
+
+  pub failed_leads : FailsLaw → UnknownLaw → MemoryLaw → (text : List ℕ) (asked : CountTree) (f : FetchFault) → IsRead e sid text seat.user (on_cursors (fetch asked name)) → NotFetched name seat e.boxes f after boxes → Leads e sid (sql text) (refused (cause_in f)) failed
+  failed_leads law unknown memory text asked (fault.Unasked c) read k = subst (λ (n : Shown). Leads e sid (sql text) (refused c) n) (sym (kept c k)) (unasked_leads unknown memory text asked c read k.why)
+  failed_leads law unknown memory text asked (fault.Failed u) read k =
+      subst (λ (n : Shown). Leads e sid (sql text) (refused (cause_of u.fault)) n) (sym (given_up (cause_of u.fault) k)) (law e boxes sid text seat name asked k.at (cause_of u.fault) read is_open sound k.there k.gives k.ends)
 
 -- where no FETCH gave rows, nothing is owed of one
 pub never : (o : Outcome) (P : Name → Type 0) → IfFetched o (λ name. ⊥) → IfFetched o P

@@ -15,7 +15,7 @@ use Rattle.med_catalog.specs.Objects.{Objects}
 use Rattle.bind_catalog.specs.Places.{Attached}
 use Rattle.open_cursors.specs.Open.{Opened, Seated, is_full, opened_named, without_named, with_run}
 use Rattle.open_cursors.specs.Starting.{Starts, StartFails}
-use Rattle.open_cursors.specs.Fetching.{GivesRows, GivesNone}
+use Rattle.open_cursors.specs.Fetching.{GivesRows, GivesNone, PullsFetched, cause_of}
 use Rattle.sql_meaning.specs.Requests.{AskedLine}
 use Rattle.sql_meaning.specs.Replies.{refused}
 use Rattle.med_world.specs.Seats.{seat_of}
@@ -23,6 +23,8 @@ use Rattle.med_world.specs.Turning.{new_opened, with_cursors, Ends}
 use Rattle.med_world.specs.Engine.{Shown, Leads}
 use Rattle.session_replies.specs.declared.replies.Outcome.{Outcome}
 use Rattle.session_replies.specs.declared.replies.Outcome.TheVariants as outcome
+use Rattle.med_session.specs.declared.cursors.FetchFault.{FetchFault}
+use Rattle.med_session.specs.declared.cursors.FetchFault.TheVariants as fault
 
 -- ---- in a session
 
@@ -55,17 +57,39 @@ pub record Fetched (name : Name) (asked : CountTree) (seat : Seated) (old : List
   pub named : names ≡ at.names
   pub run : Run
   pub gives : GivesRows at.run asked old rows run new
+  pub pulls : PullsFetched asked at.run old run new
   pub is : after ≡ having seat (with_run name run seat.cursors)
 
--- Why they were not. There is no such cursor, or memory was refused before it was asked for a row: then all is as it was. Or it failed, and
--- is closed and gone.
-pub data NotFetched (name : Name) (seat : Seated) (old : List (Option BoxState)) (c : Cause) (after : Seated)
+-- no cursor was asked for a row: there is none of this name, or memory was refused before
+pub data NoneAsked (name : Name) (seat : Seated) (c : Cause) : Type 0 where
+  is_unknown : c ≡ InvalidCursorName → opened_named name seat.cursors ≡ None → NoneAsked name seat c
+  lacks_memory : c ≡ OutOfMemory → NoneAsked name seat c
+
+-- then all is as it was
+pub record KeepsCursors (name : Name) (seat : Seated) (old : List (Option BoxState)) (c : Cause) (after : Seated)
     (new : List (Option BoxState)) : Type 0 where
-  is_unknown : c ≡ InvalidCursorName → opened_named name seat.cursors ≡ None → after ≡ seat → new ≡ old
-      → NotFetched name seat old c after new
-  no_memory : c ≡ OutOfMemory → after ≡ seat → new ≡ old → NotFetched name seat old c after new
-  fails : (at : Opened) → opened_named name seat.cursors ≡ Some at → GivesNone c old new → Ends at.run old new
-      → after ≡ having seat (without_named name seat.cursors) → NotFetched name seat old c after new
+  pub why : NoneAsked name seat c
+  pub seat_kept : after ≡ seat
+  pub boxes_kept : new ≡ old
+
+-- the cursor of this name was asked for a row, failed, and is closed and gone
+pub record GivesUp (name : Name) (seat : Seated) (old : List (Option BoxState)) (c : Cause) (after : Seated)
+    (new : List (Option BoxState)) : Type 0 where
+  pub at : Opened
+  pub there : opened_named name seat.cursors ≡ Some at
+  pub gives : GivesNone c old new
+  pub ends : Ends at.run old new
+  pub is : after ≡ having seat (without_named name seat.cursors)
+
+-- Why no rows were given. A fault that says that nothing was asked has kept all; a cursor is given up by what a run that was asked tells alone.
+abbrev pub NotFetched : Name → Seated → List (Option BoxState) → FetchFault → Seated → List (Option BoxState) → Type 0
+NotFetched name seat old (fault.Unasked c) after new = KeepsCursors name seat old c after new
+NotFetched name seat old (fault.Failed u) after new = GivesUp name seat old (cause_of u.fault) after new
+
+-- the cause that a fault of FETCH is told by
+abbrev pub cause_in : FetchFault → Cause
+cause_in (fault.Unasked c) = c
+cause_in (fault.Failed u) = cause_of u.fault
 
 -- The cursor of this name was closed, and is gone.
 pub record Ended (name : Name) (seat : Seated) (old : List (Option BoxState)) (after : Seated) (new : List (Option BoxState)) : Type 0 where

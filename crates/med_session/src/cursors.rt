@@ -12,7 +12,7 @@ ghost use Rattle.med_select.specs.Ready.{AreReady};
 ghost use Rattle.med_exec.specs.Rests.{IsRunning};
 ghost use Rattle.open_cursors.specs.Open.{Opened, seated};
 ghost use Rattle.med_world.specs.Seats.{IsSoundSeat};
-ghost use Rattle.med_session.specs.Cursors.{Opens, OpensNone, Fetched, NotFetched, Ended, NotEnded};
+ghost use Rattle.med_session.specs.Cursors.{Opens, OpensNone, Fetched, NotFetched, Ended, NotEnded, cause_in};
 
 use bind_catalog::BoundTable;
 use cursor_syntax::{Declare, FetchCount};
@@ -21,7 +21,7 @@ use med_catalog::Catalog;
 use med_exec::law::{running_is_held, services_join};
 use med_select::{RowSet, Started, cause_of, start_select};
 use med_value::{Cause, NoMemory};
-use open_cursors::{OpenCursor, Seat, close_cursor, fetch, is_full, position, take};
+use open_cursors::{OpenCursor, Seat, Unfetched, close_cursor, fetch, is_full, position, take};
 use std::alloc::Global;
 
 // The names of columns, once more.
@@ -90,6 +90,26 @@ pub(crate) fn open_cursor<W: Wrapper2>(
     Ok(())
 }
 
+// Why a FETCH gave no rows.
+pub(crate) enum FetchFault {
+    // No cursor was asked for a row, and all is as it was.
+    Unasked(Cause),
+    // The cursor was asked, and is gone. Nothing but `fetch` makes what it holds.
+    Failed(Unfetched),
+}
+
+impl FetchFault {
+    // The cause that it is told by.
+    pub(crate) fn cause(self) -> Cause
+        ensures { result ≡ cause_in self }
+    {
+        match self {
+            FetchFault::Unasked(cause) => cause,
+            FetchFault::Failed(unfetched) => cause_of(unfetched.fault()),
+        }
+    }
+}
+
 // Gives rows of a cursor. One that fails, once it was asked for a row, is closed and gone.
 pub(crate) fn fetch_rows<W: Wrapper2>(
     seat: &mut Seat,
@@ -97,27 +117,27 @@ pub(crate) fn fetch_rows<W: Wrapper2>(
     alloc: Global,
     name: &str,
     asked: FetchCount,
-) -> Result<RowSet, Cause>
+) -> Result<RowSet, FetchFault>
     requires sound { IsSoundSeat (seated seat.old) }
     requires running { (c : Opened) → Contains (seated seat.old).cursors c → IsRunning c.run (states W.meaning slots.old.items) }
     ensures ok { IfOk result (λ set. Fetched name.now (count_tree asked) (seated seat.old) (states W.meaning slots.old.items)
         (map string_bytes set.names.items) (map tuple set.rows.items) (seated seat.new) (states W.meaning slots.new.items)) }
-    ensures err { IfErr result (λ c. NotFetched name.now (seated seat.old) (states W.meaning slots.old.items) c (seated seat.new)
+    ensures err { IfErr result (λ f. NotFetched name.now (seated seat.old) (states W.meaning slots.old.items) f (seated seat.new)
         (states W.meaning slots.new.items)) }
 {
     running_is_held();
     services_join();
     let Some(place) = position(&seat.cursors, name) else {
-        return Err(Cause::InvalidCursorName);
+        return Err(FetchFault::Unasked(Cause::InvalidCursorName));
     };
     let Ok(names) = copy_names(alloc, &seat.cursors[place].names) else {
-        return Err(Cause::OutOfMemory);
+        return Err(FetchFault::Unasked(Cause::OutOfMemory));
     };
     match fetch(&mut seat.cursors[place].run, slots, alloc, asked) {
         Ok(rows) => Ok(RowSet { names, rows }),
-        Err(fault) => {
+        Err(unfetched) => {
             close_cursor(seat.cursors.remove(place), slots);
-            Err(cause_of(fault))
+            Err(FetchFault::Failed(unfetched))
         }
     }
 }

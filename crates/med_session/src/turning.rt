@@ -73,7 +73,7 @@ impl<W: Wrapper2> Engine<W> {
         put_seat(&mut self.seats, sid, seat);
         match given {
             Ok(set) => Outcome::Fetched(name, set),
-            Err(cause) => Outcome::Refused(cause),
+            Err(fault) => Outcome::Refused(fault.cause()),
         }
     }
 

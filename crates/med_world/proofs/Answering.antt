@@ -26,7 +26,7 @@ use Rattle.open_cursors.specs.Starting.{RunFails, no_memory, box_fails, numbers_
 use Rattle.med_world.specs.Seats.{user_of}
 use Rattle.med_world.specs.Laws.{IsRead, with_boxes}
 use Rattle.med_world.proofs.Faring.{none_rises}
-use Rattle.med_world.proofs.OneRun.{once_refused}
+use Rattle.med_world.proofs.Asks.{asks_refused}
 use Rattle.med_world.proofs.Told.{AreLater, told_tree, before_tree, told_syntax, told_closed}
 use Rattle.med_world.proofs.Objecting.{AreObjects, object_phase}
 use Rattle.med_world.proofs.Leading.{session_in, known, leads_refused, leads_memory}
@@ -79,7 +79,7 @@ ends_leads e new sid text user q read b served h kept = record {
     numbers = λ x. h;
   };
   rises = serving_rises e.boxes new.boxes served;
-  once = once_refused e (sql text) LimitExceeded new.boxes;
+  asks = asks_refused e sid (sql text) LimitExceeded new.boxes;
   step = λ w a. (
     w,
     numbers_end refl (session_in w sid user) (on_data (select q)) (known e w sid text user (on_data (select q)) a read).is

@@ -28,12 +28,12 @@ use Rattle.sql_meaning.specs.Causes.{query_of, entry_tables, meant_over, QueryRu
 use Rattle.sql_meaning.specs.Replies.{Reply, done, refused}
 use Rattle.sql_meaning.specs.Steps.{new_cursor, is_done, source_fails, numbers_end}
 use Rattle.med_world.specs.Seats.{seat_of, CursorAgrees, CursorsAgree}
-use Rattle.med_world.specs.Engine.{Shown, IsSound, Agrees, ReadsOnce, Leads}
+use Rattle.med_world.specs.Engine.{Shown, IsSound, Agrees, Leads}
 use Rattle.med_world.specs.Turning.{new_opened, with_cursors}
 use Rattle.med_world.specs.Laws.{IsRead, with_boxes}
 use Rattle.med_world.proofs.Seats.{stands_still, cursors_stay}
 use Rattle.med_world.proofs.Faring.{none_rises}
-use Rattle.med_world.proofs.OneRun.{once_refused, once_read}
+use Rattle.med_world.proofs.Asks.{asks_refused, asks_read}
 use Rattle.med_world.proofs.Told.{IsKnownAs, told_tree, none_tree, before_tree}
 use Rattle.med_world.proofs.Leading.{cursors_in, session_in, calm, calm_befell, known, leads_refused, leads_memory}
 use Rattle.med_world.proofs.Querying.{ArePhased, ShowsIn, from_types, from_state, from_run, run_phase, none_select, bindable_in, same_meant, same_entries, none_many}
@@ -64,8 +64,8 @@ declared e new sid text seat name q names run read at sound free h = record {
   trouble = calm;
   befell = calm_befell e.boxes new;
   rises = run_rises none_held (held run) e.boxes new h.served;
-  once = once_read e sid text seat.user (Tree name q) (done (codes "DECLARE CURSOR")) new read
-      (λ ran is. subst (λ (x : SelectTree). ReadsOnce e x new) is (record { places = h.places; are = h.are; reads = h.reads }));
+  asks = asks_read e sid text seat.user (Tree name q) (done (codes "DECLARE CURSOR")) new read
+      (record { once = record { places = h.places; are = h.are; reads = h.reads }; plain = h.plain });
   step = λ w a. (
     after w,
     is_done no_pick (picks_none e w sid text seat (declare name (select q)) a read)
@@ -157,7 +157,7 @@ run_leads e new sid text seat name q c places read at free b safe room few serve
         numbers = λ x. absurd (false≢true x);
       };
       rises = serving_rises e.boxes new served;
-      once = once_refused e (sql text) SourceFault new;
+      asks = asks_refused e sid (sql text) SourceFault new;
       step = λ w a. (
         w,
         source_fails refl (session_in w sid seat.user) (Tree name q) (known_declare e w sid text seat name q a read).is (late e w sid text seat name q read at free b safe a) refl refl,
@@ -172,7 +172,7 @@ run_leads e new sid text seat name q c places read at free b safe room few serve
         numbers = λ x. h;
       };
       rises = serving_rises e.boxes new served;
-      once = once_refused e (sql text) LimitExceeded new;
+      asks = asks_refused e sid (sql text) LimitExceeded new;
       step = λ w a. (
         w,
         numbers_end refl (session_in w sid seat.user) (Tree name q) (known_declare e w sid text seat name q a read).is (late e w sid text seat name q read at free b safe a) tt refl refl,

@@ -29,7 +29,7 @@ use Rattle.med_world.specs.Altering.{IsFreeAt, IsAllowed, SourcesAllow, IsAltere
 use Rattle.med_world.proofs.Faring.{changes_by, changes_rise, rises_itself, none_rises, drop_rises, binds_rises, unbinds_rises}
 use Rattle.med_world.proofs.Altered.{catalog_agrees, bind_agrees, unbind_agrees, drop_agrees, serves_at, one_store, find_source}
 use Rattle.med_world.proofs.Lists.{some_same}
-use Rattle.med_world.proofs.OneRun.{once_refused, once_read}
+use Rattle.med_world.proofs.Asks.{asks_refused, asks_read}
 use Rattle.med_world.proofs.Kept.{free_to_drop}
 use Rattle.med_world.proofs.Told.{IsKnownAs, told_tree, none_tree, before_tree, pick_tree}
 use Rattle.med_world.proofs.Objecting.{AreObjects, asks_same, causes_same, of_source, told_objects, told_bind, none_bind, source_phase}
@@ -60,7 +60,7 @@ leads_refused e new sid request c rises kept told = record {
   trouble = calm;
   befell = calm_befell e.boxes new.boxes;
   rises = rises;
-  once = once_refused e request c new.boxes;
+  asks = asks_refused e sid request c new.boxes;
   step = λ w a. let t = told w a in (w, is_refused t.0 c t.1 t.2 refl refl, kept w a);
 }
 
@@ -71,7 +71,7 @@ leads_memory e new sid request takes rises kept = record {
   trouble = refused_memory;
   befell = memory_befell e.boxes new.boxes;
   rises = rises;
-  once = once_refused e request OutOfMemory new.boxes;
+  asks = asks_refused e sid request OutOfMemory new.boxes;
   step = λ w a. (w, lacks_memory refl refl takes refl refl, kept w a);
 }
 
@@ -205,7 +205,7 @@ altered_leads law e n sid text user d read sound h = record {
   trouble = calm;
   befell = calm_befell e.boxes n.boxes;
   rises = altered_rises e n h.change h.alters;
-  once = once_read e sid text user (on_objects d) (done (ddl_tag d)) n.boxes read (λ q ran. absurd ran);
+  asks = asks_read e sid text user (on_objects d) (done (ddl_tag d)) n.boxes read tt;
   step = step;
 }
   where
@@ -345,7 +345,7 @@ failed_leads law e n sid text user d t place read sound allowed h rises kept = r
     numbers = λ q. absurd (false≢true q);
   };
   rises = rises;
-  once = once_refused e (sql text) SourceFault n.boxes;
+  asks = asks_refused e sid (sql text) SourceFault n.boxes;
   step = λ w a. (
     w,
     source_fails refl (session_in w sid user) (on_objects d) (known e w sid text user (on_objects d) a read).is (not_early law e w sid text user d (new_table t) read sound a allowed) refl refl,

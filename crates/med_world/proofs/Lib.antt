@@ -6,7 +6,7 @@ pub mod Faring
 mod Told
 mod Altered
 mod Objecting
-pub mod OneRun
+pub mod Asks
 mod Leading
 mod Picking
 mod Ending

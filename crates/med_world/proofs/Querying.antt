@@ -28,12 +28,12 @@ use Rattle.sql_meaning.specs.World.{World, cells_of, rows_in}
 use Rattle.sql_meaning.specs.Causes.{query_of, entry_tables, meant_over, entries_in, QueryState, QueryRun, SelectCauses, IsPickOf, phase}
 use Rattle.sql_meaning.specs.Replies.{answered, refused}
 use Rattle.sql_meaning.specs.Steps.{is_done, source_fails}
-use Rattle.med_world.specs.Engine.{Shown, AreRowsOf, RowsAgree, Agrees, EachRises, ReadsOnce, Leads}
+use Rattle.med_world.specs.Engine.{Shown, AreRowsOf, RowsAgree, Agrees, EachRises, Leads}
 use Rattle.med_world.specs.Selecting.{Selects}
 use Rattle.med_world.specs.Laws.{IsRead}
 use Rattle.med_world.proofs.Lists.{some_same}
 use Rattle.med_world.proofs.Faring.{none_rises}
-use Rattle.med_world.proofs.OneRun.{once_refused, once_read}
+use Rattle.med_world.proofs.Asks.{asks_refused, asks_read}
 use Rattle.med_world.proofs.Told.{told_tree, none_tree, before_tree, pick_tree}
 use Rattle.med_world.proofs.Leading.{calm, calm_befell, session_in, known, leads_refused, leads_memory}
 
@@ -153,8 +153,8 @@ selects_leads e new sid text user q names given read h rises kept = record {
   trouble = calm;
   befell = calm_befell e.boxes new.boxes;
   rises = rises;
-  once = once_read e sid text user (on_data (select q)) (answered (codes "SELECT") names given) new.boxes read
-      (λ ran is. subst (λ (x : SelectTree). ReadsOnce e x new.boxes) is (record { places = h.places; are = h.are; reads = h.reads }));
+  asks = asks_read e sid text user (on_data (select q)) (answered (codes "SELECT") names given) new.boxes read
+      (record { places = h.places; are = h.are; reads = h.reads });
   step = λ w a. (
     w,
     is_done no_pick (picks_none e w sid text user q a read)
@@ -208,7 +208,7 @@ fails_leads e new sid text user q read b h rises kept = record {
     numbers = λ x. absurd (false≢true x);
   };
   rises = rises;
-  once = once_refused e (sql text) SourceFault new.boxes;
+  asks = asks_refused e sid (sql text) SourceFault new.boxes;
   step = λ w a. (
     w,
     source_fails refl (session_in w sid user) (on_data (select q)) (known e w sid text user (on_data (select q)) a read).is

@@ -16,7 +16,7 @@ use Rattle.sql_meaning.specs.Steps.{is_done, source_fails as source_fails_step, 
 use Rattle.med_world.specs.Engine.{Shown, leased, IsSound, Agrees, EachRises, Leads}
 use Rattle.med_world.specs.Writing.{WritesRows, WriteFails}
 use Rattle.med_world.specs.Laws.{IsRead, with_boxes}
-use Rattle.med_world.proofs.OneRun.{once_refused, once_read}
+use Rattle.med_world.proofs.Asks.{asks_refused, asks_read}
 use Rattle.med_world.proofs.Told.{told_tree, none_tree, before_tree, pick_tree}
 use Rattle.med_world.proofs.Leading.{calm, calm_befell, session_in, known, leads_refused, leads_memory}
 use Rattle.med_world.proofs.RowCausing.{WritesPhased}
@@ -29,7 +29,7 @@ writes_done e new sid text user t n read sound h = record {
   trouble = calm;
   befell = calm_befell e.boxes new;
   rises = d.rises;
-  once = once_read e sid text user (on_rows t) (done (write_tag t n)) new read (λ q ran. absurd ran);
+  asks = asks_read e sid text user (on_rows t) (done (write_tag t n)) new read tt;
   step = λ w a.
       let x = d.each w a in
       let k = known e w sid text user (on_rows t) a read in (
@@ -53,7 +53,7 @@ source_leads e new sid text user t read h none rises kept = record {
     numbers = λ x. absurd (false≢true x);
   };
   rises = rises;
-  once = once_refused e (sql text) SourceFault new.boxes;
+  asks = asks_refused e sid (sql text) SourceFault new.boxes;
   step = λ w a. let k = known e w sid text user (on_rows t) a read in (
     w,
     source_fails_step refl (session_in w sid user) (on_rows t) k.is (before_tree w sid text (session_in w sid user) (on_rows t) k (none w a)) refl refl,
@@ -71,7 +71,7 @@ numbers_leads e new sid text user t read h none rises kept = record {
     numbers = λ x. h;
   };
   rises = rises;
-  once = once_refused e (sql text) LimitExceeded new.boxes;
+  asks = asks_refused e sid (sql text) LimitExceeded new.boxes;
   step = λ w a. let k = known e w sid text user (on_rows t) a read in (
     w,
     numbers_end_step refl (session_in w sid user) (on_rows t) k.is (before_tree w sid text (session_in w sid user) (on_rows t) k (none w a)) tt refl refl,

@@ -27,7 +27,7 @@ use Rattle.med_world.proofs.Scans.{apart_none, Turned, turned_scans, others_stay
 use Rattle.med_world.proofs.Lists.{some_same}
 use Rattle.med_world.proofs.Faring.{set_same, set_other, none_rises}
 use Rattle.med_world.proofs.Serving.{run_rises, served_honest, sources_served, rows_served, none_typed, run_sound}
-use Rattle.med_world.proofs.OneRun.{once_unasked}
+use Rattle.med_world.proofs.Asks.{asks_unread}
 use Rattle.med_world.proofs.Told.{told_protocol, told_bye}
 use Rattle.med_world.proofs.Leading.{calm, calm_befell, leads_refused}
 
@@ -142,7 +142,7 @@ opened e sid user is is_user long closed = record {
   trouble = calm;
   befell = calm_befell e.boxes e.boxes;
   rises = none_rises e.boxes;
-  once = once_unasked e (opening user) (done (codes "OPEN")) e.boxes (λ text is. absurd (cc));
+  asks = asks_unread e sid (opening user) (done (codes "OPEN")) e.boxes (λ text is. absurd (cc));
   step = λ w a. (
     with_session w sid (Some (new_session user)),
     is_done no_pick (λ s t x formed. absurd x) (none w a) (refl, refl),
@@ -202,7 +202,7 @@ closed e new sid seat is long there ends = record {
   trouble = calm;
   befell = calm_befell e.boxes new;
   rises = run_rises (held_by seat.cursors) none_held e.boxes new ends;
-  once = once_unasked e bye (done (codes "BYE")) new (λ text is. absurd (cc));
+  asks = asks_unread e sid bye (done (codes "BYE")) new (λ text is. absurd (cc));
   step = λ w a. (with_session w sid None, is_done no_pick (λ s t x formed. absurd x) (none w a) (refl, refl), shut_agrees e w new sid is long (shut_turn e new sid seat there a.scans.once ends) a);
 }
   where

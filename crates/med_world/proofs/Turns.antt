@@ -14,7 +14,7 @@ use Rattle.med_exec.specs.Rests.{Rests, held}
 use Rattle.med_parser.specs.CommandTree.{on_cursors}
 use Rattle.cursor_syntax.specs.CursorTree.{CountTree, some_rows, all_rows, CursorTree, declare, fetch, close}
 use Rattle.open_cursors.specs.Open.{Opened, Seated, opened_named, without_named, with_run}
-use Rattle.open_cursors.specs.Fetching.{GivesRows, GivesNone, no_memory, box_fails}
+use Rattle.open_cursors.specs.Fetching.{GivesRows, GivesNone, no_memory, box_fails, PullsFetched}
 use Rattle.sql_meaning.specs.Requests.{sql, IsSid}
 use Rattle.sql_meaning.specs.Picks.{no_pick}
 use Rattle.sql_meaning.specs.World.{World, Cursor, with_session}
@@ -23,13 +23,13 @@ use Rattle.sql_meaning.specs.Causes.{CursorCauses, phase, NoneBeforeState}
 use Rattle.sql_meaning.specs.Replies.{done, answered, refused}
 use Rattle.sql_meaning.specs.Steps.{Turns, is_done, source_fails, fetch_lacks_memory}
 use Rattle.med_world.specs.Seats.{seat_of, CursorAgrees, CursorsAgree}
-use Rattle.med_world.specs.Engine.{Shown, IsSound, Agrees, Leads}
+use Rattle.med_world.specs.Engine.{Shown, IsSound, Agrees, AsksCursor, Leads}
 use Rattle.med_world.specs.Turning.{with_cursors, IsOfOpen, Ends}
 use Rattle.med_world.specs.Laws.{IsRead}
-use Rattle.med_world.proofs.Lists.{none_some}
+use Rattle.med_world.proofs.Lists.{none_some, some_same}
 use Rattle.med_world.proofs.Seats.{stands_still, cursors_stay}
 use Rattle.med_world.proofs.Faring.{none_rises}
-use Rattle.med_world.proofs.OneRun.{once_refused, once_read}
+use Rattle.med_world.proofs.Asks.{asks_refused, asks_read}
 use Rattle.med_world.proofs.Told.{told_tree, none_tree, before_tree}
 use Rattle.med_world.proofs.Leading.{cursors_in, session_in, calm, calm_befell, known, leads_refused}
 use Rattle.med_world.proofs.Serving.{run_rises}
@@ -101,14 +101,21 @@ none_fetched e w sid text seat name asked o a read at here d x =
     let f = found_at e w sid seat name o read.is_sid at a here in
     none_some f.cursor (find (is_cursor name) (cursors_in (w.sessions sid))) x.1 f.is
 
+asks_cursor : (e : Shown) (new : List (Option BoxState)) (sid : ℕ) (seat : Seated) (name : Name) (asked : CountTree) (o : Opened) (after : Run) → seat_of e.seats sid ≡ Some seat → opened_named name seat.cursors ≡ Some o → PullsFetched asked o.run e.boxes after new
+    → AsksCursor e sid asked name new
+asks_cursor e new sid seat name asked o after at here pulls other p at_other here_other =
+    let same_seat : other ≡ seat = some_same other seat (sym at_other ∙ at) in
+    let same : p ≡ o = some_same p o (sym here_other ∙ ap (λ (s : Seated). opened_named name s.cursors) same_seat ∙ here) in
+    (after, subst (λ (x : Opened). PullsFetched asked x.run e.boxes after new) (sym same) pulls)
+
 pub fetched : (e : Shown) (new : List (Option BoxState)) (sid : ℕ) (text : List ℕ) (seat : Seated) (name : Name) (asked : CountTree) (o : Opened) (rows : List Tuple) (after : Run) → IsRead e sid text seat.user (on_cursors (fetch asked name))
     → seat_of e.seats sid ≡ Some seat → IsSound e → opened_named name seat.cursors ≡ Some o → GivesRows o.run asked e.boxes rows after new
-    → Leads e sid (sql text) (answered (codes "FETCH") o.names rows) (with_cursors e sid seat (with_run name after seat.cursors) new)
-fetched e new sid text seat name asked o rows after read at sound here g = record {
+    → PullsFetched asked o.run e.boxes after new → Leads e sid (sql text) (answered (codes "FETCH") o.names rows) (with_cursors e sid seat (with_run name after seat.cursors) new)
+fetched e new sid text seat name asked o rows after read at sound here g pulls = record {
   trouble = calm;
   befell = calm_befell e.boxes new;
   rises = run_rises (held o.run) (held after) e.boxes new g.served;
-  once = once_read e sid text seat.user (on_cursors (fetch asked name)) (answered (codes "FETCH") o.names rows) new read (λ q ran. absurd ran);
+  asks = asks_read e sid text seat.user (on_cursors (fetch asked name)) (answered (codes "FETCH") o.names rows) new read (asks_cursor e new sid seat name asked o after at here pulls);
   step = λ w a. (
     now w,
     is_done no_pick (picks_none e w sid text seat (fetch asked name) a read)
@@ -154,7 +161,7 @@ not_fetched e new sid text seat name asked o c read at sound here (no_memory is)
       trouble = record { memory = true; asked = true; source = false; numbers = false };
       befell = record { source = λ x. absurd (false≢true x); numbers = λ x. absurd (false≢true x) };
       rises = run_rises (held o.run) none_held e.boxes new (ends_serve o.run e.boxes new ends);
-      once = once_refused e (sql text) OutOfMemory new;
+      asks = asks_refused e sid (sql text) OutOfMemory new;
       step = λ w a. (
         with_session w sid (Some (without_cursor (session_in w sid seat.user) name)),
         fetch_lacks_memory refl refl (session_in w sid seat.user) asked name (known e w sid text seat.user (on_cursors (fetch asked name)) a read).is refl refl,
@@ -169,7 +176,7 @@ not_fetched e new sid text seat name asked o c read at sound here (box_fails is 
         numbers = λ x. absurd (false≢true x);
       };
       rises = run_rises (held o.run) none_held e.boxes new (ends_serve o.run e.boxes new ends);
-      once = once_refused e (sql text) SourceFault new;
+      asks = asks_refused e sid (sql text) SourceFault new;
       step = λ w a. (
         with_session w sid (Some (without_cursor (session_in w sid seat.user) name)),
         source_fails refl (session_in w sid seat.user) (on_cursors (fetch asked name)) (known e w sid text seat.user (on_cursors (fetch asked name)) a read).is (late w a) refl refl,
@@ -187,7 +194,7 @@ closed e new sid text seat name o read at sound here ends = record {
   trouble = calm;
   befell = calm_befell e.boxes new;
   rises = run_rises (held o.run) none_held e.boxes new (ends_serve o.run e.boxes new ends);
-  once = once_read e sid text seat.user (on_cursors (close name)) (done (codes "CLOSE CURSOR")) new read (λ q ran. absurd ran);
+  asks = asks_read e sid text seat.user (on_cursors (close name)) (done (codes "CLOSE CURSOR")) new read tt;
   step = λ w a. (
     with_session w sid (Some (without_cursor (session_in w sid seat.user) name)),
     is_done no_pick (picks_none e w sid text seat (close name) a read)

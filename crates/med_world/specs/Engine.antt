@@ -1,5 +1,5 @@
 -- What an engine shows, when its calls may be made, and when a world agrees with it.
-use Rattle.std.specs.Prelude.{◌≡◌, ◌≤◌, ◌-◌, ◌^◌, ℕ, zero, suc, Bool, true, false, List, [], ◌∷◌, ◌++◌, map, length, Option, Some, None, min, slice_get, slice_set, Contains, IsPermutation, bytes_eq, IsSome}
+use Rattle.std.specs.Prelude.{◌≡◌, ◌<◌, ◌≤◌, ◌-◌, ◌^◌, ℕ, zero, suc, Bool, true, false, List, [], ◌∷◌, ◌++◌, map, length, Option, Some, None, min, slice_get, slice_set, Contains, IsPermutation, bytes_eq, IsSome}
 use Rattle.std.specs.List.{IsDistinct}
 use Rattle.med_value.specs.declared.cause.Cause.{Cause}
 use Rattle.med_syntax.specs.Tree.{Name}
@@ -12,6 +12,9 @@ use Rattle.med_binder.specs.Place.{Place}
 use Rattle.med_exec.specs.Slots.{BoxAt, ChangesAt}
 use Rattle.med_exec.specs.Running.{SlotShows, HasFailed, IsUsedUp}
 use Rattle.med_exec.specs.Rests.{held as scans_held, IsRunning}
+use Rattle.med_exec.specs.Pulling.{PullsNone}
+use Rattle.med_exec.specs.declared.running.Run.{Run}
+use Rattle.med_query.specs.Form.{IsPlainForm}
 use Rattle.bind_catalog.specs.Places.{Attached, ArePlaces}
 use Rattle.bind_catalog.specs.Queries.{meant_by}
 use Rattle.med_value.specs.Limits.{session_count, source_limit}
@@ -19,14 +22,15 @@ use Rattle.sql_meaning.specs.Requests.{AskedLine, sql, IsSid, IsUser}
 use Rattle.med_catalog.specs.declared.kind.SourceKind.{SourceKind}
 use Rattle.med_catalog.specs.Objects.{ServerObject, TableObject, Objects, server_named}
 use Rattle.ddl_syntax.specs.DdlTree.{TableTree}
-use Rattle.cursor_syntax.specs.CursorTree.{declare}
+use Rattle.cursor_syntax.specs.CursorTree.{CountTree, declare, fetch}
 use Rattle.med_parser.specs.CommandTree.{CommandTree, on_data, on_cursors}
 use Rattle.med_parser.specs.CommandGrammar.{HasCommand}
 use Rattle.med_catalog.specs.Options.{table_settings, column_settings}
 use Rattle.med_catalog.specs.DdlCauses.{Stands, create_table_rows}
 use Rattle.med_catalog.specs.Changes.{AreDeclared, ObjectChange, new_table, no_server, no_table, changed}
 use Rattle.open_cursors.specs.Counted.{ReadsTables}
-use Rattle.open_cursors.specs.Open.{Opened, Seated, leases_table, any_leases}
+use Rattle.open_cursors.specs.Fetching.{PullsFetched}
+use Rattle.open_cursors.specs.Open.{Opened, Seated, leases_table, any_leases, opened_named}
 use Rattle.sql_meaning.specs.World.{World, Source, SourceState, standing, dropped, with_session, without_sessions, beside_without}
 use Rattle.med_world.specs.Seats.{seat_of, IsOpenAt, AreSoundSeats, SeatAgrees}
 use Rattle.sql_meaning.specs.Steps.{Trouble, Step}
@@ -248,30 +252,42 @@ pub record EachRises (old new : List (Option BoxState)) : Type 0 where
       → (s : BoxState) × (slice_get old slot ≡ Some (Some s)) × Rises s t
   pub gone : (slot : ℕ) → slice_get old slot ≡ Some None → slice_get new slot ≡ Some None
 
--- A statement with this tree that is answered so ran this query: a SELECT was answered by rows, or DECLARE opened its cursor.
-abbrev pub HasRun : CommandTree → Reply → SelectTree → Type 0
-HasRun (on_data (select q)) (answered tag names rows) ran = q ≡ ran
-HasRun (on_cursors (declare name (select q))) (done tag) ran = q ≡ ran
-HasRun tree reply ran = ⊥
-
 -- for the table of each entry of its FROM one scan was begun, and no other
 pub record ReadsOnce (e : Shown) (q : SelectTree) (new : List (Option BoxState)) : Type 0 where
   pub places : List Place
   pub are : ArePlaces e.bound (meant_by e.catalog q).entries places
   pub reads : ReadsTables places e.boxes new
 
--- a query that the request ran was run once
-abbrev pub RunsOnce : Shown → AskedLine → Reply → List (Option BoxState) → Type 0
-RunsOnce old request reply new =
-    (text : List ℕ) (tree : CommandTree) (q : SelectTree) → request ≡ sql text → HasCommand text tree → HasRun tree reply q
-    → ReadsOnce old q new
+-- For DECLARE a query was begun once; one with FROM whose rows can be shown as they are joined, and no row was asked for.
+pub record BeginsOnce (e : Shown) (q : SelectTree) (new : List (Option BoxState)) : Type 0 where
+  pub once : ReadsOnce e q new
+  pub plain : IsPlainForm (meant_by e.catalog q).form → 0 < length (meant_by e.catalog q).entries → PullsNone e.boxes new
+
+-- A FETCH asked the session's cursor of this name for a row no more often than for so many rows, and no other.
+abbrev pub AsksCursor : Shown → ℕ → CountTree → Name → List (Option BoxState) → Type 0
+AsksCursor e sid asked name new =
+    (seat : Seated) (o : Opened) → seat_of e.seats sid ≡ Some seat → opened_named name seat.cursors ≡ Some o
+    → (after : Run) × PullsFetched asked o.run e.boxes after new
+
+-- What a statement with this tree that is answered so asked the boxes for: a SELECT that was answered by rows, a DECLARE that opened its
+-- cursor, and a FETCH that gave rows.
+abbrev pub TreeAsks : Shown → ℕ → CommandTree → Reply → List (Option BoxState) → Type 0
+TreeAsks e sid (on_data (select q)) (answered tag names rows) new = ReadsOnce e q new
+TreeAsks e sid (on_cursors (declare name (select q))) (done tag) new = BeginsOnce e q new
+TreeAsks e sid (on_cursors (fetch asked name)) (answered tag names rows) new = AsksCursor e sid asked name new
+TreeAsks e sid tree reply new = Unit {0}
+
+-- what a request that is answered so asked the boxes for
+abbrev pub AsksBoxes : Shown → ℕ → AskedLine → Reply → List (Option BoxState) → Type 0
+AsksBoxes old sid request reply new =
+    (text : List ℕ) (tree : CommandTree) → request ≡ sql text → HasCommand text tree → TreeAsks old sid tree reply new
 
 -- The request is answered by this reply: from each world that agrees before, a step leads to it and to a world that agrees after.
 pub record Leads (old : Shown) (sid : ℕ) (request : AskedLine) (reply : Reply) (new : Shown) : Type 0 where
   pub trouble : Trouble
   pub befell : Befell old.boxes new.boxes trouble
   pub rises : EachRises old.boxes new.boxes
-  pub once : RunsOnce old request reply new.boxes
+  pub asks : AsksBoxes old sid request reply new.boxes
   pub step : (w : World) → Agrees old w → (after : World) × Step w sid request trouble reply after × Agrees new after
 
 -- The request is answered by the bytes of a reply.

@@ -22,7 +22,7 @@ ghost use Rattle.med_exec.specs.Running.{ServesRun, none_held};
 ghost use Rattle.med_exec.specs.declared.running.Run.{Run};
 ghost use Rattle.open_cursors.specs.Open.{Opened, Seated, is_full, opened_named, without_named, with_run, held_by, AreHeld, AreOwn, all_cursors};
 ghost use Rattle.open_cursors.specs.Starting.{Starts, StartFails};
-ghost use Rattle.open_cursors.specs.Fetching.{GivesRows, GivesNone};
+ghost use Rattle.open_cursors.specs.Fetching.{GivesRows, GivesNone, PullsFetched};
 ghost use Rattle.med_catalog.specs.Objects.{TableObject, Objects};
 ghost use Rattle.med_catalog.specs.Changes.{ObjectChange, new_table, no_table, no_server, Asks};
 ghost use Rattle.med_catalog.specs.DdlCauses.{IsTold as IsToldBy, NoneStands, nothing_leased, ddl_rows};
@@ -190,7 +190,7 @@ pub fn cursors_lead()
         (asked : CountTree) (o : Opened) (rows : List Tuple) (after : Run)
         → IsRead e sid text seat.user (on_cursors (fetch asked name)) → seat_of e.seats sid ≡ Some seat → IsSound e
         → opened_named name seat.cursors ≡ Some o → GivesRows o.run asked e.boxes rows after new
-        → Leads e sid (sql text) (answered (codes "FETCH") o.names rows)
+        → PullsFetched asked o.run e.boxes after new → Leads e sid (sql text) (answered (codes "FETCH") o.names rows)
         (with_cursors e sid seat (with_run name after seat.cursors) new) }
     ensures not_fetched { (e : Shown) (new : List (Option BoxState)) (sid : ℕ) (text : List ℕ) (seat : Seated) (name : Name)
         (asked : CountTree) (o : Opened) (c : AnyCause)

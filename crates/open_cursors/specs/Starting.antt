@@ -9,7 +9,7 @@ use Rattle.med_syntax.specs.Tree.{Name}
 use Rattle.med_syntax.specs.QueryTree.{EntryTree, SelectTree}
 use Rattle.bind_names.specs.Scope.{entries_of}
 use Rattle.med_query.specs.Query.{Query, Tables, SameRows, IsAnswer}
-use Rattle.med_query.specs.Form.{query_by, is_risky_form}
+use Rattle.med_query.specs.Form.{query_by, is_risky_form, IsPlainForm}
 use Rattle.fdw_api.specs.State.{BoxState}
 use Rattle.med_binder.specs.Place.{Place}
 use Rattle.med_query.specs.Causes.{IsShownCause}
@@ -17,6 +17,7 @@ use Rattle.med_planner.specs.Planned.{entry_rows}
 use Rattle.med_exec.specs.declared.running.Run.{Run}
 use Rattle.med_exec.specs.Running.{AllHonest, AllServed, ServesRun, SlotShows, HasFailed, IsUsedUp, none_held}
 use Rattle.med_exec.specs.Rests.{Rests, held, IsRunning}
+use Rattle.med_exec.specs.Pulling.{PullsNone}
 use Rattle.med_catalog.specs.Objects.{Objects}
 use Rattle.bind_catalog.specs.Queries.{meant_by, IsBindable, NotBound}
 use Rattle.bind_catalog.specs.Places.{Attached, ArePlaces}
@@ -39,7 +40,8 @@ pub record RestsOver (q : Query) (places : List Place) (boxes : List (Option Box
       → IsAnswer q db rows
   pub clear : AllHonest boxes → (db : Tables) → SameRows (entry_rows boxes places) db → (c : Cause) → IsShownCause q db c → ⊥
 
--- The query of a cursor was begun over the boxes, which read each of its tables once, and runs.
+-- The query of a cursor was begun over the boxes, which read each of its tables once, and runs. Where the query has FROM and its rows can
+-- be shown as they are joined, its run asks for none of them before FETCH.
 pub record Starts (o : Objects) (user : Name) (bound : List Attached) (q : SelectTree) (full : Bool) (old : List (Option BoxState))
     (names : List Name) (run : Run) (new : List (Option BoxState)) : Type 0 where
   pub bindable : IsBindable o user q
@@ -54,6 +56,7 @@ pub record Starts (o : Objects) (user : Name) (bound : List Attached) (q : Selec
   pub holds : HoldsOf places run new
   pub rests : RestsOver (query_by (meant_by o q).form) places old (Rests run new)
   pub reads : ReadsTables places old new
+  pub plain : IsPlainForm (meant_by o q).form → 0 < length (meant_by o q).entries → PullsNone old new
 
 -- why the run of a query was not begun
 pub data RunFails (q : Query) (places : List Place) (c : Cause) (old new : List (Option BoxState)) : Type 0 where

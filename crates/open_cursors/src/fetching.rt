@@ -28,12 +28,28 @@ fn is_enough(asked: FetchCount, given: usize) -> bool
     }
 }
 
+/// Why a run that was asked for rows did not give them. Nothing but [`fetch`] makes one, once it has asked the run: so who gives a cursor up
+/// by it has asked the cursor for a row.
+#[derive(Clone, Copy, Debug, PartialEq, Eq)]
+pub struct Unfetched {
+    fault: Fault,
+}
+
+impl Unfetched {
+    /// The fault: [`Fault::NoMemory`] or [`Fault::Source`].
+    pub fn fault(self) -> Fault
+        ensures { result ≡ self.fault }
+    {
+        self.fault
+    }
+}
+
 /// Gives as many rows of a run as are asked for, or all that are left where they are fewer, in their order. It asks the run for no row
 /// beyond them, and the next FETCH goes on behind them. No scan is begun. No box gives a row where the run holds its answer; where it
 /// holds the scan of one table of whose rows nothing is checked again, its box gives no more rows than are asked for, after those that
 /// OFFSET passes.
 ///
-/// After a fault the run is good for its close alone.
+/// After a fault the run is good for its close alone. Until the run is asked nothing can fail.
 ///
 /// # Errors
 ///
@@ -45,7 +61,7 @@ pub fn fetch<W: Wrapper2>(
     slots: &mut Vec<Option<W>>,
     alloc: Global,
     asked: FetchCount,
-) -> Result<Vec<Row>, Fault>
+) -> Result<Vec<Row>, Unfetched>
     requires { IsRunning run.old (states W.meaning slots.old.items) }
     ensures boxes { ServesRun (held run.old) (held run.new) (states W.meaning slots.old.items) (states W.meaning slots.new.items) }
     ensures same { held run.new ≡ held run.old }
@@ -54,9 +70,9 @@ pub fn fetch<W: Wrapper2>(
     ensures pulls { PullsFetched (count_tree asked) run.old (states W.meaning slots.old.items) run.new (states W.meaning slots.new.items) }
     ensures ok { IfOk result (λ rows. GivesRows run.old (count_tree asked) (states W.meaning slots.old.items) (map tuple rows.items)
         run.new (states W.meaning slots.new.items)) }
-    ensures err { IfErr result (λ fault. GivesNone (cause_of fault)
+    ensures err { IfErr result (λ u. GivesNone (cause_of u.fault)
         (states W.meaning slots.old.items) (states W.meaning slots.new.items)) }
-    ensures breaks { IfErr result (λ fault. Breaks fault (states W.meaning slots.old.items) (states W.meaning slots.new.items)) }
+    ensures breaks { IfErr result (λ u. Breaks u.fault (states W.meaning slots.old.items) (states W.meaning slots.new.items)) }
 {
     runs_have_rests();
     services_join();
@@ -66,10 +82,12 @@ pub fn fetch<W: Wrapper2>(
         let row = match run.next(alloc, slots) {
             Ok(Some(row)) => row,
             Ok(None) => return Ok(rows),
-            Err(fault) => return Err(fault),
+            Err(fault) => return Err(Unfetched { fault }),
         };
         if rows.push(row).is_err() {
-            return Err(Fault::NoMemory);
+            return Err(Unfetched {
+                fault: Fault::NoMemory,
+            });
         }
     }
     Ok(rows)

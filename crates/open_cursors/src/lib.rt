@@ -9,6 +9,6 @@ mod leases;
 mod named;
 
 pub use cursors::{OpenCursor, Seat, is_full};
-pub use fetching::{close_all, close_cursor, fetch};
+pub use fetching::{Unfetched, close_all, close_cursor, fetch};
 pub use leases::is_leased;
 pub use named::{position, take};

@@ -1,17 +1,15 @@
 use Rattle.std.proofs.Common.{◌≡◌, ◌<◌, length, slice_get, List, map, string_bytes, ap, subst, arith, ◌∙◌}
-use Rattle.med_value.specs.declared.cause.Cause.{Cause}
 use Rattle.fdw_api.specs.declared.interface.Fault.{Fault}
 use Rattle.med_exec.specs.Running.{ServesRun, Breaks, wants_memory, box_breaks, none_held}
 use Rattle.med_exec.specs.Rests.{held}
 use Rattle.med_exec.specs.declared.running.Run.{Run}
 use Rattle.std.proofs.lemmas.Grind.{common_steps}
 use Rattle.med_exec.specs.Slots.{states}
-use Rattle.med_world.specs.Altering.{cause_of}
 use Rattle.med_world.specs.Turning.{later}
-use Rattle.open_cursors.specs.Fetching.{GivesNone, no_memory, box_fails}
+use Rattle.open_cursors.specs.Fetching.{GivesNone, no_memory, box_fails, cause_of}
 use Rattle.open_cursors.specs.declared.cursors.OpenCursor.{OpenCursor}
 use Rattle.open_cursors.specs.Open.{Opened, opened, opened_named, seated}
-use Rattle.med_session.specs.Cursors.{having, fails}
+use Rattle.med_session.specs.Cursors.{having}
 use Rattle.med_session.proofs.CursorLists.{same_at, place_within, named_there, runs_there, gone_there}
 use Rattle.med_session.proofs.cursors.fetch_rows.Goals as goal
 
@@ -27,12 +25,13 @@ returns-in-Ok-fetch-clause-ok g c =
       named = c.in-Ok.ensures ∙ ap (λ (xs : List _). map string_bytes xs) c.deref-2.ensures.value ∙ ap (λ (o : OpenCursor). map string_bytes o.names.items) (same_at cursors c.in-Some.place c.index.result.now at lt c.index.ensures c.index_mut.ensures.value);
       run = c.fetch.new.run;
       gives = c.in-Ok-fetch.ensures.ok;
+      pulls = c.fetch.ensures.pulls;
       is = ap (λ (cs : List Opened). having (seated c.args.seat.now) cs) (runs_there c.args.name.now cursors c.in-Some.place at c.fetch.new.run c.requires.sound.apart lt c.index_mut.ensures.value there);
     }
 
-breaks_none : (fault : Fault) (c : Cause) (old new : List _) → c ≡ cause_of fault → Breaks fault old new → GivesNone c old new
-breaks_none fault c old new is (wants_memory w) = no_memory (is ∙ ap cause_of w)
-breaks_none fault c old new is (box_breaks w shows) = box_fails (is ∙ ap cause_of w) shows
+breaks_none : (fault : Fault) (old new : List _) → Breaks fault old new → GivesNone (cause_of fault) old new
+breaks_none fault old new (wants_memory w) = no_memory (ap cause_of w)
+breaks_none fault old new (box_breaks w shows) = box_fails (ap cause_of w) shows
 
 pub returns-in-Err-clause-err : goal.returns-in-Err-clause-err
 returns-in-Err-clause-err g c =
@@ -44,7 +43,10 @@ returns-in-Err-clause-err g c =
     let lt : c.in-Some.place < length cursors = place_within c.args.name.now cursors c.in-Some.place (rw c.deref.ensures.value at c.in-Some.ensures.place) in
     let there : slice_get (map opened cursors) c.in-Some.place ≡ opened_named c.args.name.now (map opened cursors) = rw c.deref.ensures.value at c.in-Some.ensures.there in
     let same : c.remove.result.run ≡ c.fetch.new.run = grind (arith, common_steps) in
-    fails (opened at) (named_there c.args.name.now cursors c.in-Some.place at lt c.index_mut.ensures.value there)
-    (breaks_none c.in-Err.fault c.cause_of.result old new c.cause_of.ensures (c.services_join.ensures.broken none_held none_held (held c.remove.result.run) none_held old old mid new c.in-Err.fault (c.services_join.ensures.same none_held old) c.in-Err.ensures.breaks c.close_cursor.ensures))
-    (later c.fetch.new.run mid c.fetch.ensures.boxes (subst (λ (r : Run). ServesRun (held r) none_held mid new) same c.close_cursor.ensures))
-    (ap (λ (cs : List Opened). having (seated c.args.seat.now) cs) (ap (map opened) c.remove.ensures.items ∙ gone_there c.args.name.now cursors c.in-Some.place at _ c.requires.sound.apart lt c.index_mut.ensures.value there))
+    record {
+      at = opened at;
+      there = named_there c.args.name.now cursors c.in-Some.place at lt c.index_mut.ensures.value there;
+      gives = breaks_none c.in-Err.unfetched.fault old new (c.services_join.ensures.broken none_held none_held (held c.remove.result.run) none_held old old mid new c.in-Err.unfetched.fault (c.services_join.ensures.same none_held old) c.in-Err.ensures.breaks c.close_cursor.ensures);
+      ends = later c.fetch.new.run mid c.fetch.ensures.boxes (subst (λ (r : Run). ServesRun (held r) none_held mid new) same c.close_cursor.ensures);
+      is = ap (λ (cs : List Opened). having (seated c.args.seat.now) cs) (ap (map opened) c.remove.ensures.items ∙ gone_there c.args.name.now cursors c.in-Some.place at _ c.requires.sound.apart lt c.index_mut.ensures.value there);
+    }

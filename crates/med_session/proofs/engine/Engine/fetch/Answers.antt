@@ -1,4 +1,5 @@
-use Rattle.std.proofs.Common.{◌≡◌, ◌∙◌, map, Some, None, string_bytes, codes, refl, sym, subst}
+use Rattle.std.proofs.Common.{◌≡◌, ◌∙◌, map, Some, None, string_bytes, codes, sym, subst}
+use Rattle.med_value.specs.declared.cause.Cause.{Cause}
 use Rattle.med_value.specs.Datum.{tuple}
 use Rattle.med_exec.specs.Slots.{states}
 use Rattle.open_cursors.specs.Open.{seated}
@@ -6,10 +7,9 @@ use Rattle.med_world.specs.Engine.{Shown, IsSound, Leads}
 use Rattle.sql_meaning.specs.Replies.{answered, refused}
 use Rattle.sql_meaning.specs.Requests.{sql}
 use Rattle.med_world.specs.Seats.{seat_of}
-use Rattle.med_session.specs.Cursors.{is_unknown, no_memory, fails}
 use Rattle.med_session.specs.Shows.{shown}
-use Rattle.med_session.proofs.Seats.{put_other, put_back, read_seat, seat_sound, seat_running, left_long}
-use Rattle.med_session.proofs.Turns.{may_be_untold}
+use Rattle.med_session.proofs.Seats.{put_other, read_seat, seat_sound, seat_running, left_long}
+use Rattle.med_session.proofs.Turns.{may_be_untold, failed_sound, failed_leads}
 use Rattle.med_session.proofs.engine.Engine.fetch.Goals as goal
 
 pub fetch_rows-given-requires-clause-sound : goal.fetch_rows-given-requires-clause-sound
@@ -43,7 +43,7 @@ returns-in-Ok-clause-leads g c = λ text user read.
     let is_open : seat_of e.seats sid ≡ Some seat = sym c.in-Some.ensures.taken in
     let rows = map tuple c.in-Ok.set.rows.items in
     subst (λ (n : Shown). Leads e sid (sql text) (answered (codes "FETCH") (map string_bytes c.in-Ok.set.names.items) rows) n) (sym (put_other e sid seat _ _ _ _ boxes c.take_seat.ensures.left c.put_seat.ensures f.is))
-    (rw f.named (c.cursors_lead.ensures.fetched e boxes sid text seat _ _ f.at rows f.run (read_seat e sid text user _ seat read is_open) is_open c.requires.sound f.there f.gives))
+    (rw f.named (c.cursors_lead.ensures.fetched e boxes sid text seat _ _ f.at rows f.run (read_seat e sid text user _ seat read is_open) is_open c.requires.sound f.there f.gives f.pulls))
 
 pub returns-in-Ok-clause-untold : goal.returns-in-Ok-clause-untold
 returns-in-Ok-clause-untold g c = λ text user read.
@@ -59,16 +59,9 @@ returns-in-Ok-clause-untold g c = λ text user read.
 pub returns-in-Err-clause-sound : goal.returns-in-Err-clause-sound
 returns-in-Err-clause-sound g c =
     let e = shown g.W.Wrapper.meaning c.args.self.now in
-    let sid = c.args.sid.number in
     let seat = seated c.in-Some.seat in
     let boxes = states g.W.Wrapper.meaning c.fetch_rows-given.new.slots.items in
-    let is_open : seat_of e.seats sid ≡ Some seat = sym c.in-Some.ensures.taken in
-    elim (rw c.as_str.ensures.value at c.in-Err.ensures.err) [
-      | is_unknown told unknown same kept ↦ subst (λ (n : Shown). IsSound n) (sym (put_back e sid seat _ _ _ boxes is_open c.take_seat.ensures.left c.put_seat.ensures same)) (rw kept c.requires.sound)
-      | no_memory told same kept ↦ subst (λ (n : Shown). IsSound n) (sym (put_back e sid seat _ _ _ boxes is_open c.take_seat.ensures.left c.put_seat.ensures same)) (rw kept c.requires.sound)
-      | fails at there gives ends is ↦ subst (λ (n : Shown). IsSound n) (sym (put_other e sid seat _ _ _ _ boxes c.take_seat.ensures.left c.put_seat.ensures is))
-          (c.cursors_lead.ensures.ended_sound e boxes sid seat _ at c.args.sid.in_range c.requires.sound is_open there ends)
-    ]
+    failed_sound e c.args.sid.number seat _ _ _ boxes _ c.requires.sound (sym c.in-Some.ensures.taken) c.take_seat.ensures.left c.put_seat.ensures c.cursors_lead.ensures.ended_sound c.args.sid.in_range c.in-Err.fault (rw c.as_str.ensures.value at c.in-Err.ensures.err)
 
 pub returns-in-Err-clause-leads : goal.returns-in-Err-clause-leads
 returns-in-Err-clause-leads g c = λ text user read.
@@ -77,12 +70,6 @@ returns-in-Err-clause-leads g c = λ text user read.
     let seat = seated c.in-Some.seat in
     let boxes = states g.W.Wrapper.meaning c.fetch_rows-given.new.slots.items in
     let is_open : seat_of e.seats sid ≡ Some seat = sym c.in-Some.ensures.taken in
-    let asked = read_seat e sid text user _ seat read is_open in
-    elim (rw c.as_str.ensures.value at c.in-Err.ensures.err) [
-      | is_unknown told unknown same kept ↦ subst (λ (n : Shown). Leads e sid (sql text) (refused c.in-Err.cause) n) (sym (put_back e sid seat _ _ _ boxes is_open c.take_seat.ensures.left c.put_seat.ensures same))
-          (rw (told, kept) (c.cursors_lead.ensures.unknown e sid text seat _ _ refl asked is_open unknown))
-      | no_memory told same kept ↦ subst (λ (n : Shown). Leads e sid (sql text) (refused c.in-Err.cause) n) (sym (put_back e sid seat _ _ _ boxes is_open c.take_seat.ensures.left c.put_seat.ensures same))
-          (rw (told, kept) (c.sessions_lead.ensures.no_memory e sid (sql text) tt))
-      | fails at there gives ends is ↦ subst (λ (n : Shown). Leads e sid (sql text) (refused c.in-Err.cause) n) (sym (put_other e sid seat _ _ _ _ boxes c.take_seat.ensures.left c.put_seat.ensures is))
-          (c.cursors_lead.ensures.not_fetched e boxes sid text seat _ _ at c.in-Err.cause asked is_open c.requires.sound there gives ends)
-    ]
+    subst (λ (d : Cause). Leads e sid (sql text) (refused d) _) (sym c.cause.ensures)
+    (failed_leads e sid seat _ _ _ boxes _ c.requires.sound is_open c.take_seat.ensures.left c.put_seat.ensures c.cursors_lead.ensures.not_fetched c.cursors_lead.ensures.unknown c.sessions_lead.ensures.no_memory text _ c.in-Err.fault
+    (read_seat e sid text user _ seat read is_open) (rw c.as_str.ensures.value at c.in-Err.ensures.err))
