@@ -4,3 +4,4 @@ mod Counts
 mod Planning
 mod Words
 mod Beginning
+mod Plain

@@ -1,5 +1,6 @@
 -- The start of a bound query's run.
-use Rattle.std.specs.Prelude.{◌≡◌, ◌⊎◌, List, [], ◌∷◌, Option}
+use Rattle.std.specs.Prelude.{◌≡◌, ◌<◌, ◌⊎◌, false, List, [], ◌∷◌, length, Option}
+use Rattle.med_query.specs.Form.{form_of, is_risky_form, IsPlainForm}
 use Rattle.med_binder.specs.declared.bound.BoundQuery.{BoundQuery}
 use Rattle.fdw_api.specs.State.{BoxState}
 use Rattle.med_exec.specs.declared.running.Run.{Run}
@@ -31,3 +32,8 @@ pub record HoldsAnswer (bound : BoundQuery) (old : List (Option BoxState)) (run 
 -- what the run of a bound query holds once it is begun
 abbrev pub HoldsFor : BoundQuery → List (Option BoxState) → Run → List (Option BoxState) → Type 0
 HoldsFor bound old run new = HoldsScans bound old run new ⊎ HoldsAnswer bound old run new
+
+-- Of a query with FROM whose rows can be shown as they are joined, and of which no part may fault, no row was asked for.
+abbrev pub AsksNone : BoundQuery → (old new : List (Option BoxState)) → Type 0
+AsksNone bound old new =
+    IsPlainForm (form_of bound.select) → is_risky_form (form_of bound.select) ≡ false → 0 < length bound.entries.items → PullsNone old new

@@ -23,8 +23,7 @@ use Rattle.bind_catalog.specs.Places.{Attached}
 use Rattle.med_world.specs.Altering.{cause_of}
 use Rattle.open_cursors.specs.Counted.{ReadsTables}
 use Rattle.open_cursors.specs.Starting.{HoldsOf, RestsOver, Starts, RunFails, no_memory, box_fails, numbers_out, shows_cause, StartFails, run_fails}
-use Rattle.bound_runs.specs.Starting.{HoldsFor}
-use Rattle.med_select.proofs.Plain.{plain_asks_none}
+use Rattle.bound_runs.specs.Starting.{AsksNone}
 use Rattle.med_select.proofs.Selections.{ExpressionsIgnoreOrder, AnswersInAnyOrder, CausesInAnyOrder, IsBoundBy, steady, same_back, query_bound, entries_counted}
 
 -- what the run may give are answers in whatever order the rows of the entries come
@@ -55,9 +54,9 @@ safe_meant : (o : Objects) (user : Name) (bound : List Attached) (q : SelectTree
 safe_meant o user bound q b is safe = sym (ap is_risky_form is.meant.form) ∙ safe
 
 pub starts : ExpressionsIgnoreOrder → AnswersInAnyOrder → CausesInAnyOrder → (o : Objects) (user : Name) (bound : List Attached) (q : SelectTree) (full : Bool) (b : BoundQuery) (run : Run) (old new : List (Option BoxState))
-    → IsBoundBy o user bound q b → MayBegin full b → ServesRun none_held (held run) old new → IsRunning run new → HoldsOf (map entry_place b.entries.items) run new → ReadsTables (map entry_place b.entries.items) old new → HoldsFor b old run new → Begun (written_query b.select) (map entry_place b.entries.items) (Rests run new) old
+    → IsBoundBy o user bound q b → MayBegin full b → ServesRun none_held (held run) old new → IsRunning run new → HoldsOf (map entry_place b.entries.items) run new → ReadsTables (map entry_place b.entries.items) old new → AsksNone b old new → Begun (written_query b.select) (map entry_place b.entries.items) (Rests run new) old
     → Starts o user bound q full old (map string_bytes b.names.items) run new
-starts order any causes o user bound q full b run old new is may served running holds once scans begun =
+starts order any causes o user bound q full b run old new is may served running holds once asks begun =
     let m = meant_by o q in
     let places = map entry_place b.entries.items in
     record {
@@ -72,7 +71,7 @@ starts order any causes o user bound q full b run old new is may served running 
       are = is.places;
       holds = holds;
       reads = once;
-      plain = λ plain some. plain_asks_none b old run new scans (subst (λ (f : Form). IsPlainForm f) (sym is.meant.form) plain) may.safe (subst (λ (n : ℕ). 0 < n) (entries_counted m b is.meant) some);
+      plain = λ plain some. asks (subst (λ (f : Form). IsPlainForm f) (sym is.meant.form) plain) may.safe (subst (λ (n : ℕ). 0 < n) (entries_counted m b is.meant) some);
       rests = subst (λ (x : Query). RestsOver x places old (Rests run new)) (query_bound m b is.meant) (rests_over any causes (written_query b.select) (steady order b.select) places old (Rests run new) begun);
     }
 

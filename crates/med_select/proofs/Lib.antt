@@ -1,4 +1,3 @@
 pub mod Selections
 pub mod Ready
-pub mod Plain
 pub mod Begins

@@ -15,6 +15,7 @@ use Rattle.bound_runs.specs.Counting.{scans_of}
 use Rattle.bound_runs.proofs.Beginning.{begun, held_begun, stream_holds, levels_placed, answer_holds, not_shown}
 use Rattle.bound_runs.proofs.Counts.{begins_told, at_most_told}
 use Rattle.bound_runs.proofs.Words.{run_answers, run_pulls, run_stops}
+use Rattle.bound_runs.proofs.Plain.{unordered}
 use Rattle.bound_runs.proofs.running.start_bound.Goals as goal
 
 pub returns-in-Err-clause-ended : goal.returns-in-Err-clause-ended
@@ -70,6 +71,9 @@ returns-in-Ok-start_plan-clause-scans g c =
       pulls = c.in-Ok-start_plan.ensures.pulls;
     })
 
+pub returns-in-Ok-start_plan-clause-plain : goal.returns-in-Ok-start_plan-clause-plain
+returns-in-Ok-start_plan-clause-plain g c = λ plain safe some. c.in-Ok-start_plan.ensures.pulls
+
 pub returns-in-Err-start_plan-clause-ended : goal.returns-in-Err-start_plan-clause-ended
 returns-in-Err-start_plan-clause-ended g c = c.in-Err-start_plan.ensures.err.served
 
@@ -117,6 +121,12 @@ returns-in-Ok-run_plan-clause-scans g c =
       none = c.held.ensures.none.1;
       pulls = run_pulls (states g.W.Wrapper.meaning c.args.slots.now.items) c.args.bound c.in-Ok.plan c.in-Ok.ensures.ok (states g.W.Wrapper.meaning c.run_plan.new.slots.items) c.in-Ok-run_plan.ensures.pulls;
     })
+
+pub returns-in-Ok-run_plan-clause-plain : goal.returns-in-Ok-run_plan-clause-plain
+returns-in-Ok-run_plan-clause-plain g c = λ plain safe some.
+    let made = c.in-Ok.ensures.ok in
+    let shown = unordered (states g.W.Wrapper.meaning c.args.slots.now.items) c.args.bound c.in-Ok.plan made plain safe some in
+    absurd (not_shown c.is_shown.result c.if-is_shown.false (c.is_shown.ensures.1 (inl shown)))
 
 pub returns-in-Err-run_plan-clause-ended : goal.returns-in-Err-run_plan-clause-ended
 returns-in-Err-run_plan-clause-ended g c = c.in-Err-run_plan.ensures.served

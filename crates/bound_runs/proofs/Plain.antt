@@ -1,5 +1,5 @@
--- A query whose rows can be shown as they are joined is begun without a row being asked for.
-use Rattle.std.proofs.Common.{◌≡◌, ◌∙◌, ◌<◌, ◌+◌, ◌*◌, ℕ, zero, suc, Bool, true, false, not, ◌||◌, ◌&&◌, List, [], ◌∷◌, ◌++◌, Option, Some, None, option_map, map, length, slice_index_or, nat_eq, if◌then◌else◌, inl, inr, refl, sym, ap, subst, arith}
+-- The plan of a query whose rows can be shown as they are joined is one whose rows are shown so.
+use Rattle.std.proofs.Common.{◌≡◌, ◌∙◌, ◌<◌, ◌+◌, ◌*◌, ℕ, zero, suc, Bool, true, false, not, ◌||◌, ◌&&◌, List, [], ◌∷◌, ◌++◌, Option, Some, None, option_map, map, length, slice_index_or, nat_eq, if◌then◌else◌, refl, sym, ap, subst, arith}
 use Rattle.std.specs.List.{list_any}
 use Rattle.std.proofs.lemmas.List.{length-map}
 use Rattle.tri_expr.specs.declared.expr.Expr.{Expr}
@@ -20,11 +20,8 @@ use Rattle.loop_runs.specs.declared.running.LoopPlan.{LoopPlan}
 use Rattle.med_binder.specs.Place.{Place, entry_place}
 use Rattle.med_binder.specs.declared.bound.BoundEntry.{BoundEntry}
 use Rattle.med_binder.specs.declared.bound.BoundQuery.{BoundQuery}
-use Rattle.med_exec.specs.declared.running.Run.{Run}
-use Rattle.med_exec.specs.Pulling.{PullsNone}
 use Rattle.bound_runs.specs.Counting.{tables_in, scans_of}
 use Rattle.bound_runs.specs.Running.{IsPlanFor}
-use Rattle.bound_runs.specs.Starting.{HoldsFor}
 
 -- ---- none of a list
 
@@ -93,7 +90,7 @@ no_directions : {A B : Type 0} (f : A → B) (xs : List A) → map f xs ≡ [] �
 no_directions f [] e = refl
 no_directions f (x ∷ xs) e = absurd cc
 
-pub streamed : (s : Select) → IsPlainForm (form_of s) → is_risky_form (form_of s) ≡ false → IsStreamed s
+streamed : (s : Select) → IsPlainForm (form_of s) → is_risky_form (form_of s) ≡ false → IsStreamed s
 streamed s plain safe = record {
   cores = streamed_cores s.cores.items plain.core plain.alone safe plain.ungrouped plain.all_rows plain.keys;
   directions = no_directions _ s.directions.items plain.unordered;
@@ -123,7 +120,7 @@ some_level ([] ∷ []) (e ∷ es) one some counts =
 some_level ((l ∷ ls) ∷ more) (e ∷ es) one some counts = omega arith
 some_level ([] ∷ ls ∷ more) (e ∷ es) one some counts = absurd cc
 
-unordered : (boxes : List (Option BoxState)) (b : BoundQuery) (plan : LoopPlan) → IsPlanFor boxes b plan → IsPlainForm (form_of b.select) → is_risky_form (form_of b.select) ≡ false → 0 < length b.entries.items → IsUnordered plan
+pub unordered : (boxes : List (Option BoxState)) (b : BoundQuery) (plan : LoopPlan) → IsPlanFor boxes b plan → IsPlainForm (form_of b.select) → is_risky_form (form_of b.select) ≡ false → 0 < length b.entries.items → IsUnordered plan
 unordered boxes b plan made plain safe some =
     let bound_one : length b.select.cores.items ≡ 1 = one_core b.select.cores.items plain.core plain.alone in
     let one : length plan.select.cores.items ≡ 1 = ap (λ (s : Select). length s.cores.items) made.query ∙ bound_one in
@@ -135,8 +132,3 @@ unordered boxes b plan made plain safe some =
       some = some_level (levels_in plan.loops.items) b.entries.items (length-map plan.loops.items (λ ls. ls.items) ∙ loops) some counts;
       streamed = subst (λ (s : Select). IsStreamed s) (sym made.query) (streamed b.select plain safe);
     }
-
--- no row was asked for
-pub plain_asks_none : (b : BoundQuery) (old : List (Option BoxState)) (run : Run) (new : List (Option BoxState)) → HoldsFor b old run new → IsPlainForm (form_of b.select) → is_risky_form (form_of b.select) ≡ false → 0 < length b.entries.items → PullsNone old new
-plain_asks_none b old run new (inl h) plain safe some = h.pulls
-plain_asks_none b old run new (inr h) plain safe some = absurd (h.waits (inl (unordered old b h.plan h.made plain safe some)))
