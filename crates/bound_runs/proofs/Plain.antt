@@ -5,7 +5,8 @@ use Rattle.std.proofs.lemmas.List.{length-map}
 use Rattle.tri_expr.specs.declared.expr.Expr.{Expr}
 use Rattle.tri_expr.specs.Tree.{Tree, tree}
 use Rattle.tri_expr.specs.TreeParts.{is_risky, is_risky_tree}
-use Rattle.med_query.specs.Form.{CoreForm, GroupForm, core_form, form_of, group_form, group_trees, is_risky_core, is_risky_form, IsPlainForm}
+use Rattle.med_query.specs.Form.{CoreForm, GroupForm, core_form, form_of, group_form, group_trees, is_risky_core, is_risky_form}
+use Rattle.med_planner.specs.Plain.{IsPlainForm}
 use Rattle.med_query.specs.declared.select.Grouping.{Grouping}
 use Rattle.med_query.specs.declared.select.SelectCore.{SelectCore}
 use Rattle.med_query.specs.declared.select.Select.{Select}

@@ -1,6 +1,7 @@
 -- The start of a bound query's run.
 use Rattle.std.specs.Prelude.{◌≡◌, ◌<◌, ◌⊎◌, false, List, [], ◌∷◌, length, Option}
-use Rattle.med_query.specs.Form.{form_of, is_risky_form, IsPlainForm}
+use Rattle.med_query.specs.Form.{form_of, is_risky_form}
+use Rattle.med_planner.specs.Plain.{IsPlainForm}
 use Rattle.med_binder.specs.declared.bound.BoundQuery.{BoundQuery}
 use Rattle.fdw_api.specs.State.{BoxState}
 use Rattle.med_exec.specs.declared.running.Run.{Run}

@@ -3,7 +3,8 @@ use Rattle.std.proofs.Common.{◌≡◌, ◌∙◌, ℕ, ◌<◌, ◌≤◌, Boo
 use Rattle.med_value.specs.Datum.{Tuple}
 use Rattle.med_syntax.specs.Tree.{Name}
 use Rattle.med_syntax.specs.QueryTree.{SelectTree}
-use Rattle.med_query.specs.Form.{Form, form_of, is_risky_form, IsPlainForm}
+use Rattle.med_query.specs.Form.{Form, form_of, is_risky_form}
+use Rattle.med_planner.specs.Plain.{IsPlainForm}
 use Rattle.med_query.specs.Laws.{IsSteady}
 use Rattle.med_query.specs.Query.{Query}
 use Rattle.med_query.specs.Select.{query_of as written_query}

@@ -14,7 +14,7 @@ use Rattle.med_exec.specs.Running.{SlotShows, HasFailed, IsUsedUp}
 use Rattle.med_exec.specs.Rests.{held as scans_held, IsRunning}
 use Rattle.med_exec.specs.Pulling.{PullsNone}
 use Rattle.med_exec.specs.declared.running.Run.{Run}
-use Rattle.med_query.specs.Form.{IsPlainForm}
+use Rattle.med_planner.specs.Plain.{IsPlainForm}
 use Rattle.bind_catalog.specs.Places.{Attached, ArePlaces}
 use Rattle.bind_catalog.specs.Queries.{meant_by}
 use Rattle.med_value.specs.Limits.{session_count, source_limit}

@@ -9,7 +9,8 @@ use Rattle.med_syntax.specs.Tree.{Name}
 use Rattle.med_syntax.specs.QueryTree.{EntryTree, SelectTree}
 use Rattle.bind_names.specs.Scope.{entries_of}
 use Rattle.med_query.specs.Query.{Query, Tables, SameRows, IsAnswer}
-use Rattle.med_query.specs.Form.{query_by, is_risky_form, IsPlainForm}
+use Rattle.med_query.specs.Form.{query_by, is_risky_form}
+use Rattle.med_planner.specs.Plain.{IsPlainForm}
 use Rattle.fdw_api.specs.State.{BoxState}
 use Rattle.med_binder.specs.Place.{Place}
 use Rattle.med_query.specs.Causes.{IsShownCause}
