@@ -35,21 +35,27 @@ ran_in_worlds : {W : Type 0} (meaning : W → BoxState) → Laws meaning → (ol
     → Ran (EngineSteps meaning) (EngineEnds meaning) old before new left input output → (w : World) → Agrees (shown meaning old) w
     → (after : World) × Ran SceneSteps SceneEnds (scene_of meaning old w) before (scene_of meaning new after) left input output × Agrees (shown meaning new) after
 ran_in_worlds meaning law old before new left input output h w agrees =
-    let one = law.fed old new (before ++ h.bytes) h.text left h.fed w agrees in (
-      one.0,
+    let s = h.served in
+    let one = law.fed old h.mid (before ++ s.bytes) s.text (Some h.after) s.fed w agrees in
+    let two = law.fed h.mid new (h.after ++ h.last) (h.front ++ h.others) left h.fed one.0 one.2 in (
+      two.0,
       record {
-        bytes = h.bytes;
+        between = h.between;
+        shown = h.shown;
+        mid = scene_of meaning h.mid one.0;
+        after = h.after;
+        served = record { bytes = s.bytes; text = s.text; read = s.read; written = s.written; fed = one.1 };
+        last = h.last;
         dropped = h.dropped;
-        text = h.text;
+        read = h.read;
+        one = h.one;
+        in_piece = h.in_piece;
         front = h.front;
         others = h.others;
-        read = h.read;
-        in_piece = h.in_piece;
-        parts = h.parts;
         written = h.written;
-        fed = one.1;
+        fed = two.1;
       },
-      one.2,
+      two.2,
     )
 
 stopped_in_worlds : {W : Type 0} (meaning : W → BoxState) → Laws meaning → (old : Engine W) (before : List ℕ) (new : Engine W) (input output : Stream)

@@ -8,7 +8,7 @@ use Rattle.session_wire.specs.declared.server.Server.{Server}
 use Rattle.fed_output.specs.Outlets.{Outlet, FrontWritten}
 use Rattle.fed_output.specs.declared.source.GivenUp.{GivenUp}
 use Rattle.fed_stream.specs.Streams.{Stream, stream}
-use Rattle.fed_stream.specs.Served.{Served, Serves, Fails}
+use Rattle.fed_stream.specs.Served.{IsOneLine, Served, Serves, Fails}
 use Rattle.fed_stream.specs.declared.stream.StreamFault.{StreamFault}
 use Rattle.fed_stream.specs.declared.stream.StreamFault.TheVariants as faults
 
@@ -85,21 +85,27 @@ Breaks {W} step ends = (old mid new : W) (bytes piece more text others after : L
 pub part_failed : {W : Type 0} (step : Steps W) (ends : W → W → Type 0) (old : W) (before front text : List ℕ) (mid : W) (after : List ℕ) (held holds : Option (List ℕ)) (part later : List ℕ) (new : W) (left writes : Option (List ℕ)) (fault : StreamFault)
     → Joins step ends → Breaks step ends → Fed step ends mid after [] mid (Some after) → Fed step ends old (before ++ front) text mid (Some after) → Appends held holds text
     → Fails step ends mid (after ++ part) new left (stream holds writes) fault
-    → length later ≤ 8192 → (had has : Option (List ℕ)) → Consumes had has (front ++ (part ++ later))
+    → length later ≤ 8192 → IsOneLine part → (had has : Option (List ℕ)) → Consumes had has (front ++ (part ++ later))
     → Serves step ends old before new left (stream had has) (stream held writes) (Err fault)
-part_failed step ends old before front text mid after held holds part later new left writes faults.Write j b n h a f few had has c = record {
-  bytes = front ++ part;
-  dropped = later;
-  text = text ++ (f.0 ++ f.1);
-  read = subst (λ l. Consumes had has l) (sym (append_assoc front part later)) c;
-  in_piece = few;
-  front = text ++ f.0;
-  others = f.1;
-  parts = sym (append_assoc text f.0 f.1);
-  written = Appends-trans held holds writes text f.0 a f.2;
-  fed = joined step ends old before front part (text ++ (f.0 ++ f.1)) new left (j old mid new (before ++ front) part text (f.0 ++ f.1) after left h f.3);
-}
-part_failed step ends old before front text mid after held holds part later new left writes faults.NoRoom j b n h a f few had has c =
+part_failed step ends old before front text mid after held holds part later new left writes faults.Write j b n h a f few one had has c =
+    let cut = cut_read had has front (part ++ later) c in
+    record {
+      between = cut.0;
+      shown = holds;
+      mid = mid;
+      after = after;
+      served = record { bytes = front; text = text; read = cut.1; written = a; fed = h };
+      last = part;
+      dropped = later;
+      read = cut.2;
+      one = one;
+      in_piece = few;
+      front = f.0;
+      others = f.1;
+      written = f.2;
+      fed = f.3;
+    }
+part_failed step ends old before front text mid after held holds part later new left writes faults.NoRoom j b n h a f few one had has c =
     let cut = cut_read had has front (part ++ later) c in (
       record {
         between = cut.0;
@@ -113,26 +119,32 @@ part_failed step ends old before front text mid after held holds part later new 
       },
       f.3,
     )
-part_failed step ends old before front text mid after held holds part later new left writes faults.Read j b n h a f few had has c = absurd f
-part_failed step ends old before front text mid after held holds part later new left writes faults.TooLong j b n h a f few had has c = absurd f
+part_failed step ends old before front text mid after held holds part later new left writes faults.Read j b n h a f few one had has c = absurd f
+part_failed step ends old before front text mid after held holds part later new left writes faults.TooLong j b n h a f few one had has c = absurd f
 
 -- what was served, and then a fault at the bytes behind it
 pub failed : {W : Type 0} (step : Steps W) (ends : W → W → Type 0) (old : W) (before : List ℕ) (mid : W) (after : List ℕ) (had has held holds : Option (List ℕ)) (new : W) (left now writes : Option (List ℕ)) (fault : StreamFault)
     → Joins step ends → Served step ends old before mid (Some after) (stream had has) (stream held holds)
     → Serves step ends mid after new left (stream has now) (stream holds writes) (Err fault)
     → Serves step ends old before new left (stream had now) (stream held writes) (Err fault)
-failed step ends old before mid after had has held holds new left now writes faults.Write j h f = record {
-  bytes = h.bytes ++ f.bytes;
-  dropped = f.dropped;
-  text = h.text ++ f.text;
-  read = subst (λ l. Consumes had now l) (sym (append_assoc h.bytes f.bytes f.dropped)) (Consumes-trans had has now h.bytes (f.bytes ++ f.dropped) h.read f.read);
-  in_piece = f.in_piece;
-  front = h.text ++ f.front;
-  others = f.others;
-  parts = ap (λ l. h.text ++ l) f.parts ∙ sym (append_assoc h.text f.front f.others);
-  written = Appends-trans held holds writes h.text f.front h.written f.written;
-  fed = joined step ends old before h.bytes f.bytes (h.text ++ f.text) new left (j old mid new (before ++ h.bytes) f.bytes h.text f.text after left h.fed f.fed);
-}
+failed step ends old before mid after had has held holds new left now writes faults.Write j h f =
+    let t = f.served in
+    record {
+      between = f.between;
+      shown = f.shown;
+      mid = f.mid;
+      after = f.after;
+      served = served_more step ends old before mid after had has held holds t.bytes t.text f.mid (Some f.after) f.between f.shown j h t.read t.written t.fed;
+      last = f.last;
+      dropped = f.dropped;
+      read = f.read;
+      one = f.one;
+      in_piece = f.in_piece;
+      front = f.front;
+      others = f.others;
+      written = f.written;
+      fed = f.fed;
+    }
 failed step ends old before mid after had has held holds new left now writes faults.NoRoom j h f =
     let s = f.0 in
     let t = s.served in (
@@ -210,12 +222,12 @@ parts_all step ends old before piece rest mid after held holds left h e o =
     (h.text, h.written, subst (λ l. Fed step ends old (before ++ piece) h.text mid l) (sym o) (subst (λ bs. Fed step ends old (before ++ bs) h.text mid (Some after)) (sym whole) h.fed))
 
 pub parts_failed : {W : Type 0} (step : Steps W) (ends : W → W → Type 0) (old : W) (before piece rest : List ℕ) (mid : W) (after : List ℕ) (held holds : Option (List ℕ)) (part later : List ℕ) (new : W) (left writes : Option (List ℕ)) (fault : StreamFault)
-    → Joins step ends → Breaks step ends → Fed step ends mid after [] mid (Some after) → PartsServed step ends old before piece rest mid after held holds → rest ≡ part ++ later → length later ≤ 8192
+    → Joins step ends → Breaks step ends → Fed step ends mid after [] mid (Some after) → PartsServed step ends old before piece rest mid after held holds → rest ≡ part ++ later → length later ≤ 8192 → IsOneLine part
     → Fails step ends mid (after ++ part) new left (stream holds writes) fault
     → (had has : Option (List ℕ)) → Consumes had has piece
     → Serves step ends old before new left (stream had has) (stream held writes) (Err fault)
-parts_failed step ends old before piece rest mid after held holds part later new left writes fault j b n h e few f had has c =
-    part_failed step ends old before h.front h.text mid after held holds part later new left writes fault j b n h.fed h.written f few had has
+parts_failed step ends old before piece rest mid after held holds part later new left writes fault j b n h e few one f had has c =
+    part_failed step ends old before h.front h.text mid after held holds part later new left writes fault j b n h.fed h.written f few one had has
     (subst (λ bs. Consumes had has bs) (h.parts ∙ ap (λ l. h.front ++ l) e) c)
 
 -- ---- one part

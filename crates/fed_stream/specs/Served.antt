@@ -1,5 +1,5 @@
 -- What was read and written when a stream ends.
-use Rattle.std.specs.Prelude.{◌≡◌, ◌≤◌, ℕ, Option, Some, None, IsSome, List, ◌++◌, length, Result, Ok, Err}
+use Rattle.std.specs.Prelude.{◌≡◌, ◌≤◌, ℕ, suc, Option, Some, None, IsSome, List, ◌++◌, length, slice_get, Result, Ok, Err}
 use Rattle.std.specs.Io.KnownBytes.{Consumes, Appends, IsAtEnd}
 use Rattle.session_wire.specs.Run.{Steps, Fed, BrokenOff}
 use Rattle.fed_stream.specs.Streams.{Stream, stream, IsUntouched}
@@ -17,20 +17,28 @@ pub record Served {W : Type 0} (step : Steps W) (ends : W → W → Type 0) (old
   pub written : Appends output.before output.after text
   pub fed : Fed step ends old (before ++ bytes) text new left
 
--- These bytes were read and are a run, up to the line whose reply could not be written. What stood behind that line in the last piece
--- read, of at most 8,192 bytes, is dropped. A front of the text of the run was written.
+-- at most one line: LF stands at its end alone
+abbrev pub IsOneLine : List ℕ → Type 0
+IsOneLine bytes = (k : ℕ) → slice_get bytes k ≡ Some 10 → length bytes ≡ suc k
+
+-- These bytes were read and served, and then a last line, or what there was of it: of its reply a front was written, and the run ends with
+-- it. What stood behind that line in the last piece read, of at most 8,192 bytes, is dropped.
 pub record Ran {W : Type 0} (step : Steps W) (ends : W → W → Type 0) (old : W) (before : List ℕ) (new : W)
     (left : Option (List ℕ)) (input output : Stream) : Type 0 where
-  pub bytes : List ℕ
+  pub between : Option (List ℕ)
+  pub shown : Option (List ℕ)
+  pub mid : W
+  pub after : List ℕ
+  pub served : Served step ends old before mid (Some after) (stream input.before between) (stream output.before shown)
+  pub last : List ℕ
   pub dropped : List ℕ
-  pub text : List ℕ
+  pub read : Consumes between input.after (last ++ dropped)
+  pub one : IsOneLine last
+  pub in_piece : length dropped ≤ 8192
   pub front : List ℕ
   pub others : List ℕ
-  pub read : Consumes input.before input.after (bytes ++ dropped)
-  pub in_piece : length dropped ≤ 8192
-  pub parts : text ≡ front ++ others
-  pub written : Appends output.before output.after front
-  pub fed : Fed step ends old (before ++ bytes) text new left
+  pub written : Appends shown output.after front
+  pub fed : Fed step ends mid (after ++ last) (front ++ others) new left
 
 -- These bytes were read and served, and then a last piece, of which some lines were answered. Their text
 -- was not written.

@@ -2,6 +2,7 @@ use Rattle.std.proofs.Common.{sym, ◌∙◌, arith, eqb-true}
 use Rattle.std.proofs.lemmas.List.{nil_from_length}
 use Rattle.fed_stream.proofs.Streams.{unread_of-open, unread_of-closed, parts_none, parts_more, parts_closed, parts_all, parts_failed}
 use Rattle.fed_stream.proofs.Calls.{known_unwritten, known_more, known_done, known_fault}
+use Rattle.fed_stream.proofs.OneLine.{one_line}
 use Rattle.fed_stream.proofs.stream.answer_parts.Goals as goal
 
 pub loop-rest-init : goal.loop-rest-init
@@ -17,7 +18,8 @@ pub returns-in-Err-clause-fault : goal.returns-in-Err-clause-fault
 returns-in-Err-clause-fault g c =
     let kept = c.loop-rest.invariant in
     parts_failed _ _ _ _ _ _ _ _ _ _ _ _ _ _ _ c.in-Err.fault c.runs_join.ensures.joined c.runs_join.ensures.broken
-    (c.runs_join.ensures.none _ _ (c.loop-rest.server.between kept.opened)) kept.parts c.split_at.ensures.by_index.0 (omega (arith, c.split_at.ensures.back_len, kept.few)) c.in-Err.ensures.fault
+    (c.runs_join.ensures.none _ _ (c.loop-rest.server.between kept.opened)) kept.parts c.split_at.ensures.by_index.0 (omega (arith, c.split_at.ensures.back_len, kept.few))
+    (one_line _ _ _ _ c.split_at.ensures.by_index.0 c.split_at.ensures.front_len c.first_line.ensures.line) c.in-Err.ensures.fault
 
 pub returns-in-Err-clause-writes : goal.returns-in-Err-clause-writes
 returns-in-Err-clause-writes g c = known_fault _ _ c.in-Err.fault _ _ _ c.loop-rest.invariant.writes c.in-Err.ensures.writes
