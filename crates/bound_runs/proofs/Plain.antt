@@ -105,18 +105,21 @@ one_core (c ∷ d ∷ cs) core is = absurd cc
 -- ---- its plan has a level
 
 same_slot : (n : ℕ) → nat_eq n n ≡ true
-same_slot zero = refl
-same_slot (suc n) = same_slot n
+same_slot n = grind arith
 
-one_here : (n : ℕ) → (if nat_eq n n then 1 else 0) ≡ 1
-one_here n = ap (λ (b : Bool). if b then 1 else 0) (same_slot n)
+-- as many as one
+abbrev one_if : Bool → ℕ
+one_if b = if b then 1 else 0
+
+one_here : (n : ℕ) → one_if (nat_eq n n) ≡ suc zero
+one_here n = ap one_if (same_slot n)
 
 some_level : (lists : List (List LoopLevel)) (es : List BoundEntry) → length lists ≡ 1 → 0 < length es → ((slot : ℕ) → scans_in (all_levels lists) slot ≡ 1 * tables_in slot (map entry_place es)) → 0 < length (slice_index_or lists 0 [])
 some_level [] es one some counts = absurd cc
 some_level (ls ∷ more) [] one some counts = absurd (omega arith)
 some_level ([] ∷ []) (e ∷ es) one some counts =
-    let here : 0 ≡ 1 * ((if nat_eq e.source e.source then 1 else 0) + tables_in e.source (map entry_place es)) = counts e.source in
-    let there : (if nat_eq e.source e.source then 1 else 0) ≡ 1 = one_here e.source in
+    let here : zero ≡ 1 * (one_if (nat_eq e.source e.source) + tables_in e.source (map entry_place es)) = counts e.source in
+    let there : one_if (nat_eq e.source e.source) ≡ suc zero = one_here e.source in
     absurd (omega (arith, here, there))
 some_level ((l ∷ ls) ∷ more) (e ∷ es) one some counts = omega arith
 some_level ([] ∷ ls ∷ more) (e ∷ es) one some counts = absurd cc
