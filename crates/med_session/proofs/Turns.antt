@@ -104,10 +104,13 @@ module _ (e : Shown) (sid : ℕ) (seat after : Seated) (left seats : List (Optio
   unasked_leads unknown memory text asked c read (is_unknown told none) = subst (λ (d : Cause). Leads e sid (sql text) (refused d) e) (sym told) (unknown e sid text seat name (fetch asked name) refl read is_open none)
   unasked_leads unknown memory text asked c read (lacks_memory told) = subst (λ (d : Cause). Leads e sid (sql text) (refused d) e) (sym told) (memory e sid (sql text) tt)
 
-  pub failed_leads : FailsLaw → UnknownLaw → MemoryLaw → (text : List ℕ) (asked : CountTree) (f : FetchFault) → IsRead e sid text seat.user (on_cursors (fetch asked name)) → NotFetched name seat e.boxes f after boxes → Leads e sid (sql text) (refused (cause_in f)) failed
-  failed_leads law unknown memory text asked (fault.Unasked c) read k = subst (λ (n : Shown). Leads e sid (sql text) (refused c) n) (sym (kept c k)) (unasked_leads unknown memory text asked c read k.why)
-  failed_leads law unknown memory text asked (fault.Failed u) read k =
+  leads_as : FailsLaw → UnknownLaw → MemoryLaw → (text : List ℕ) (asked : CountTree) (f : FetchFault) → IsRead e sid text seat.user (on_cursors (fetch asked name)) → NotFetched name seat e.boxes f after boxes → Leads e sid (sql text) (refused (cause_in f)) failed
+  leads_as law unknown memory text asked (fault.Unasked c) read k = subst (λ (n : Shown). Leads e sid (sql text) (refused c) n) (sym (kept c k)) (unasked_leads unknown memory text asked c read k.why)
+  leads_as law unknown memory text asked (fault.Failed u) read k =
       subst (λ (n : Shown). Leads e sid (sql text) (refused (cause_of u.fault)) n) (sym (given_up (cause_of u.fault) k)) (law e boxes sid text seat name asked k.at (cause_of u.fault) read is_open sound k.there k.gives k.ends)
+
+  pub failed_leads : FailsLaw → UnknownLaw → MemoryLaw → (text : List ℕ) (asked : CountTree) (f : FetchFault) (d : Cause) → d ≡ cause_in f → IsRead e sid text seat.user (on_cursors (fetch asked name)) → NotFetched name seat e.boxes f after boxes → Leads e sid (sql text) (refused d) failed
+  failed_leads law unknown memory text asked f d told read k = subst (λ (x : Cause). Leads e sid (sql text) (refused x) failed) (sym told) (leads_as law unknown memory text asked f read k)
 
 -- where no FETCH gave rows, nothing is owed of one
 pub never : (o : Outcome) (P : Name → Type 0) → IfFetched o (λ name. ⊥) → IfFetched o P

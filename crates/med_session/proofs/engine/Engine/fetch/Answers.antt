@@ -1,5 +1,4 @@
 use Rattle.std.proofs.Common.{◌≡◌, ◌∙◌, map, Some, None, string_bytes, codes, sym, subst}
-use Rattle.med_value.specs.declared.cause.Cause.{Cause}
 use Rattle.med_value.specs.Datum.{tuple}
 use Rattle.med_exec.specs.Slots.{states}
 use Rattle.open_cursors.specs.Open.{seated}
@@ -70,6 +69,5 @@ returns-in-Err-clause-leads g c = λ text user read.
     let seat = seated c.in-Some.seat in
     let boxes = states g.W.Wrapper.meaning c.fetch_rows-given.new.slots.items in
     let is_open : seat_of e.seats sid ≡ Some seat = sym c.in-Some.ensures.taken in
-    subst (λ (d : Cause). Leads e sid (sql text) (refused d) _) (sym c.cause.ensures)
-    (failed_leads e sid seat _ _ _ boxes _ c.requires.sound is_open c.take_seat.ensures.left c.put_seat.ensures c.cursors_lead.ensures.not_fetched c.cursors_lead.ensures.unknown c.sessions_lead.ensures.no_memory text _ c.in-Err.fault
-    (read_seat e sid text user _ seat read is_open) (rw c.as_str.ensures.value at c.in-Err.ensures.err))
+    failed_leads e sid seat _ _ _ boxes _ c.requires.sound is_open c.take_seat.ensures.left c.put_seat.ensures c.cursors_lead.ensures.not_fetched c.cursors_lead.ensures.unknown c.sessions_lead.ensures.no_memory text _ c.in-Err.fault _ c.cause.ensures
+    (read_seat e sid text user _ seat read is_open) (rw c.as_str.ensures.value at c.in-Err.ensures.err)
