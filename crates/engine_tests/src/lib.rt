@@ -5,6 +5,8 @@
 #[cfg(test)]
 mod bench;
 #[cfg(test)]
+mod blobs;
+#[cfg(test)]
 mod frames;
 #[cfg(test)]
 mod lines;
