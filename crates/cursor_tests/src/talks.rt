@@ -86,9 +86,10 @@ const TALKS: &str = "\
 
 1 OPEN => 1 T OPEN;
 2 OPEN => 2 T OPEN;
-1 DECLARE c CURSOR FOR SELECT part, sum(n) FROM orders GROUP BY part ORDER BY part => 1 T DECLARE CURSOR;
+1 DECLARE c CURSOR FOR SELECT part, sum(n) FROM orders GROUP BY part => 1 E 0A000 feature_not_supported;
+1 DECLARE c CURSOR FOR SELECT part, max(n), count(*) FROM orders GROUP BY part ORDER BY part => 1 T DECLARE CURSOR;
 2 SELECT no FROM orders WHERE no = 12 => 2 H\tno;2 R\t12;2 T SELECT 1;
-1 FETCH ALL FROM c => 1 H\tpart\tsum;1 R\t1\t10;1 R\t9\t1;1 T FETCH 2; => 1 E 34000 invalid_cursor_name;
+1 FETCH ALL FROM c => 1 H\tpart\tmax\tcount;1 R\t1\t6\t2;1 R\t9\t1\t1;1 T FETCH 2; => 1 E 34000 invalid_cursor_name;
 1 CLOSE c => 1 T CLOSE CURSOR; => 1 E 34000 invalid_cursor_name;
 1 DECLARE c CURSOR FOR SELECT no FROM orders ORDER BY no LIMIT 2 => 1 T DECLARE CURSOR;
 1 CLOSE c => 1 T CLOSE CURSOR;

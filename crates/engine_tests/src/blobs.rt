@@ -6,6 +6,7 @@ ghost use Rattle.med_session.specs.Engine.{IsSound, TakesAs};
 ghost use Rattle.med_session.specs.Shows.{shown};
 ghost use Rattle.std.specs.Prelude.{IfOk};
 
+use crate::served::ask;
 use blob_store::{FaultyBlobs, MemoryBlobs};
 use csv_wrapper::CsvWrapper;
 use fdw_api::Lift;
@@ -13,7 +14,7 @@ use fdw_api::interface::{Counts, Wrapper};
 use fdw_api::wishes::Wrapper2;
 use jsonl_wrapper::JsonlWrapper;
 use med_exec::ledger_at;
-use med_session::{Engine, Request, Sid, SourceKind};
+use med_session::{Engine, Request, SourceKind};
 use source_kinds::law::{csv_takes_its_tables, jsonl_takes_its_tables};
 use std::alloc::Global;
 use std::str::from_utf8;
@@ -183,33 +184,6 @@ fn statement_of(asked: &str) -> &str {
         "READ" => READ,
         _ => asked,
     }
-}
-
-// The lines of a reply in one line, each ended by a semicolon.
-fn join_lines(out: &mut [u8]) {
-    for byte in out {
-        if *byte == b'\n' {
-            *byte = b';';
-        }
-    }
-}
-
-// Asks in session 1: the reply alone stands in `out` then, in one line.
-fn ask<W: Wrapper2>(
-    engine: &mut Engine<W>,
-    request: Request<'_>,
-    out: &mut Vec<u8>,
-) -> Result<(), Fail>
-    requires { IsSound (shown W.meaning engine.old) }
-    ensures { IsSound (shown W.meaning engine.new) }
-{
-    let Some(sid) = Sid::new(1) else {
-        return Err("no session 1".into());
-    };
-    out.clear();
-    engine.request(sid, request, out)?;
-    join_lines(out);
-    Ok(())
 }
 
 // Fails where the reply to a row is another.
