@@ -130,18 +130,27 @@ fn up_to(alloc: Global, steps: u64, last: i64) -> Result<(&'static str, &'static
     Ok(told(&came, NONE, &text_of(alloc, &keys)?))
 }
 
+/// Fails where of the orders up to a last key some are read and some are not, or other than the write says.
+fn check_whole(alloc: Global, steps: u64) -> Result<(), Fail> {
+    let last = (1 + steps % 70) as i64;
+    match up_to(alloc, steps, last)? {
+        ("written", "after" | "failed") | ("failed", "before" | "failed") => Ok(()),
+        (written, read) => Err(format!(in alloc; "{steps}: {written}, {read}")?)?,
+    }
+}
+
 // A scan reads pages of 64 rows: the rows are fewer, as many and more. What is told to be written is read whole or not at all, and of what
-// is not nothing is.
+// is not nothing is. Each limit is tried up to one under which a page is read, and some up to 2,000.
 #[test]
 fn limits_on_steps_from_1_to_2000_make_whole_or_nothing(rt: HostRuntime) -> Result<(), Fail> {
     let alloc = rt.alloc();
-    for steps in 1..=2_000u64 {
-        let last = (1 + steps % 70) as i64;
-        match up_to(alloc, steps, last)? {
-            ("written", "after" | "failed") | ("failed", "before" | "failed") => {}
-            (written, read) => return Err(format!(in alloc; "{steps}: {written}, {read}")?)?,
-        }
+    for steps in 1..=220 {
+        check_whole(alloc, steps)?;
     }
+    for part in 3..=20 {
+        check_whole(alloc, part * 100 - 1)?;
+    }
+    assert!(rt; up_to(alloc, 220, 64)? == ("written", "after"));
     assert!(rt; up_to(alloc, 2_000, 130)? == ("written", "after"));
     Ok(())
 }
