@@ -231,12 +231,14 @@ fn statements_under_a_limit_on_steps_are_done_or_refused(rt: HostRuntime) -> Res
     let alloc = rt.alloc();
     assert_eq!(rt; under(alloc, 0)?, (0, 1));
     let mut written = 0;
-    for steps in 1..=300 {
+    for steps in 1..=24 {
         written = does_no_less(alloc, steps, written)?;
     }
-    for hundreds in 4..=20 {
-        written = does_no_less(alloc, hundreds * 100, written)?;
+    for tens in 3..=30 {
+        written = does_no_less(alloc, tens * 10, written)?;
     }
+    written = does_no_less(alloc, 1_000, written)?;
+    assert_eq!(rt; written, 9);
     assert_eq!(rt; under(alloc, 2_000)?, (9, 0));
     Ok(())
 }
