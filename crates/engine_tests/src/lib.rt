@@ -1,5 +1,5 @@
-//! Tests of the engine, also over files on a device that fails and a database under limits on steps, of its request lines, and of the tables
-//! of `bench_tables`, by public functions alone. They stand apart, so that no crate is proved a second time for its tests.
+//! Tests of the engine, also over files on a device that fails, of its request lines, and of the tables of `bench_tables`, by public
+//! functions alone. They stand apart, so that no crate is proved a second time for its tests.
 #![tactic(auto)]
 
 #[cfg(test)]
@@ -16,5 +16,3 @@ mod served;
 mod sessions;
 #[cfg(test)]
 mod sources;
-#[cfg(test)]
-mod steps;

@@ -20,14 +20,14 @@ const NONE: &[u8] = b"e whole: again ";
 const NINE: &[u8] =
     b"e whole: 1\t1\t1 2\t1\t1 3\t1\t1 4\t1\t1 5\t1\t1 6\t1\t1 7\t1\t1 8\t1\t1 9\t1\t1 again 1\t1\t1 2\t1\t1 3\t1\t1 4\t1\t1 5\t1\t1 6\t1\t1 7\t1\t1 8\t1\t1 9\t1\t1 ";
 
-/// Writes the orders of these keys to a new source, and reads by a scan, also where the write failed.
-fn write_new<W: Wrapper>(source: W, alloc: Global, keys: &[i64], asked: Asked) -> Came
+/// Writes the orders of the keys from 1 to 9 to a new source, and reads by a scan, also where the write failed.
+fn write_nine<W: Wrapper>(source: W, alloc: Global, asked: Asked) -> Came
     requires idle { IsIdle (W.meaning source) }
     requires free { (columns : List Column) → (W.meaning source).nature.kind.objections columns [] ≡ [] }
 {
     let mut source = source;
     match bind_orders(&mut source, alloc) {
-        Ok(table) => write_and_read(&mut source, alloc, table, keys, asked),
+        Ok(table) => write_and_read(&mut source, alloc, table, &KEYS, asked),
         Err(fault) => Came {
             written: Err(fault),
             read: Err(fault),
@@ -57,7 +57,7 @@ fn told(came: &Came, before: &[u8], after: &[u8]) -> (&'static str, &'static str
 /// What comes of nine orders under a limit on steps: of the write, and of the rows that a restriction keeps.
 fn under(alloc: Global, steps: u64, asked: Asked) -> Result<(&'static str, &'static str), Fail> {
     let source = new_source(alloc, Some(steps))?;
-    let came = write_new(source, alloc, &KEYS, asked);
+    let came = write_nine(source, alloc, asked);
     Ok(told(&came, NONE, NINE))
 }
 
@@ -102,68 +102,10 @@ fn write_under_a_limit_on_steps_is_made_whole_or_not_at_all(rt: HostRuntime) -> 
     Ok(())
 }
 
-/// The keys from 1 to a last one.
-fn keys_to(alloc: Global, last: i64) -> Result<Vec<i64>, Fail> {
-    let mut keys = Vec::new(alloc);
-    for key in 1..=last {
-        keys.push(key)?;
-    }
-    Ok(keys)
-}
-
-/// What reads of the orders of these keys give, twice.
-fn text_of(alloc: Global, keys: &[i64]) -> Result<Vec<u8>, Fail> {
-    let mut rows = String::new(alloc);
-    for key in keys {
-        rows.push_str(&format!(in alloc; "{key}\t1\t1 ")?)?;
-    }
-    let text = format!(in alloc; "e whole: {rows}again {rows}")?;
-    Ok(Vec::from_slice(alloc, text.as_bytes())?)
-}
-
-/// What comes of the orders up to a last key under a limit on steps: of the write, and of the rows.
-fn up_to(alloc: Global, steps: u64, last: i64) -> Result<(&'static str, &'static str), Fail> {
-    let keys = keys_to(alloc, last)?;
-    let source = new_source(alloc, Some(steps))?;
-    let asked = compared(alloc, Comparison::AtLeast, 0)?;
-    let came = write_new(source, alloc, &keys, asked);
-    Ok(told(&came, NONE, &text_of(alloc, &keys)?))
-}
-
-/// Fails where of the orders up to a last key some are read and some are not, or other than the write says.
-fn check_whole(alloc: Global, steps: u64) -> Result<(), Fail> {
-    let last = (1 + steps % 70) as i64;
-    match up_to(alloc, steps, last)? {
-        ("written", "after" | "failed") | ("failed", "before" | "failed") => Ok(()),
-        (written, read) => Err(format!(in alloc; "{steps}: {written}, {read}")?)?,
-    }
-}
-
-// A scan reads pages of 64 rows: the rows are fewer, as many and more. What is told to be written is read whole or not at all, and of what
-// is not nothing is. Each limit is tried up to one under which a page is read, and some up to 2,000.
-#[test]
-fn limits_on_steps_from_1_to_2000_make_whole_or_nothing(rt: HostRuntime) -> Result<(), Fail> {
-    let alloc = rt.alloc();
-    for steps in 1..=220 {
-        check_whole(alloc, steps)?;
-    }
-    for part in 3..=20 {
-        check_whole(alloc, part * 100 - 1)?;
-    }
-    assert!(rt; up_to(alloc, 220, 64)? == ("written", "after"));
-    assert!(rt; up_to(alloc, 2_000, 130)? == ("written", "after"));
-    Ok(())
-}
-
 /// What comes of nine orders in a box that fails behind so many calls.
 fn failing_after(alloc: Global, passes: u64) -> Result<(&'static str, &'static str), Fail> {
     let source = in_failing(new_source(alloc, None)?, passes);
-    let came = write_new(
-        source,
-        alloc,
-        &KEYS,
-        compared(alloc, Comparison::AtLeast, 0)?,
-    );
+    let came = write_nine(source, alloc, compared(alloc, Comparison::AtLeast, 0)?);
     Ok(told(&came, NONE, NINE))
 }
 
