@@ -8,3 +8,5 @@ mod fetched;
 mod live;
 #[cfg(test)]
 mod served;
+#[cfg(test)]
+mod talks;
