@@ -95,6 +95,7 @@ impl Change {
     }
 }
 
+/// A statement that writes rows.
 #[derive(Clone, Copy)]
 pub enum Write {
     /// A row, of which the second value is NULL.
@@ -139,7 +140,7 @@ impl Write {
         })
     }
 
-    // Rows are inserted from another table, and taken away more often than not.
+    // The next one.
     fn drawn(draws: &mut Draws) -> Write {
         let table = Table::drawn(draws);
         let read = Table::drawn(draws);
@@ -254,9 +255,17 @@ fn drawn_fetch(draws: &mut Draws, number: u64) -> Asked {
     Asked::Fetch(number, count)
 }
 
+// The number of a cursor.
+fn drawn_number(draws: &mut Draws, is_crowd: bool) -> u64 {
+    if is_crowd {
+        return draws.below(60);
+    }
+    draws.below(3)
+}
+
 /// What an open session asks. In a crowd it declares many cursors and closes none.
 pub fn drawn_request(draws: &mut Draws, is_crowd: bool) -> Asked {
-    let number = draws.below(if is_crowd { 60 } else { 3 });
+    let number = drawn_number(draws, is_crowd);
     if is_crowd && draws.below(8) != 0 {
         return Asked::Declare(number, Query::drawn(draws));
     }
