@@ -1,7 +1,7 @@
 //! CSV tables as tables of rows at places.
 ghost use Rattle.std.specs.Prelude.{◌≡◌, ◌<◌, true, map, option_map, Some, IfOk};
-ghost use Rattle.med_value.specs.Datum.{Tuple, datum, cell};
-ghost use Rattle.fdw_api.specs.Scan.{restriction_form, spec_of};
+ghost use Rattle.med_value.specs.Datum.{Tuple, datum, tuple, cell};
+ghost use Rattle.fdw_api.specs.Scan.{restriction_form, spec_of, shown_cells};
 ghost use Rattle.csv_tables.specs.CsvRecords.{Record};
 ghost use Rattle.csv_tables.specs.Scans.{comes};
 ghost use Rattle.csv_tables.specs.Tables.{cells_at, fields_at};
@@ -83,6 +83,39 @@ fn is_decided(spec: &ScanSpec) -> bool
     }
 }
 
+// Whether a record comes. Where nothing was offered each one does, without a look at it.
+#[inline(always)]
+fn comes_by(
+    alloc: Global,
+    table: &CsvTable,
+    at: usize,
+    spec: &ScanSpec,
+    params: &[Value],
+) -> Result<bool, NoMemory>
+    requires { at < table.now.rows.count }
+    ensures { IfOk result (λ b. b
+        ≡ comes (spec_of spec.now).offered (spec_of spec.now).answers (map datum params.now) (cells_at table.now at) (fields_at table.now at)) }
+{
+    if spec.offered.is_empty() {
+        return Ok(true);
+    }
+    comes(alloc, table, at, spec, params)
+}
+
+// A record as a scan shows it. Where no column is wanted that is an empty row, without a look at the record.
+#[inline(always)]
+fn shown_by(alloc: Global, table: &CsvTable, at: usize, spec: &ScanSpec) -> Result<Row, NoMemory>
+    requires { at < table.now.rows.count }
+    ensures { IfOk result (λ r. tuple r ≡ shown_cells (spec_of spec.now) (cells_at table.now at)) }
+{
+    if spec.agreement.narrow && spec.wanted.is_empty() {
+        return Ok(Row {
+            cells: Vec::new(alloc),
+        });
+    }
+    show(alloc, table, at, spec)
+}
+
 // Whether a record that has what a scan looks for comes.
 fn found_comes(
     alloc: Global,
@@ -160,10 +193,10 @@ impl PlacedTable for CsvPlaces {
         if !has_sought(alloc, &self.table, at, found, params)? {
             return Ok(None);
         }
-        if !comes(alloc, &self.table, at, spec, params)? {
+        if !comes_by(alloc, &self.table, at, spec, params)? {
             return Ok(None);
         }
-        let row = show(alloc, &self.table, at, spec)?;
+        let row = shown_by(alloc, &self.table, at, spec)?;
         Ok(Some(row))
     }
 

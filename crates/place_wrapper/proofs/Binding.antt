@@ -1,5 +1,5 @@
 -- What binding, unbinding and planning do to a wrapper over tables by place.
-use Rattle.std.proofs.Common.{◌≡◌, ◌≢◌, ℕ, ◌+◌, ◌<◌, ◌≤◌, ◌⊎◌, Bool, true, false, not, ◌&&◌, if◌then◌else◌, List, [], ◌∷◌, Option, Some, None, IsSome, length, map, option_map, slice_get, slice_set, refl, ap, sym, ◌∙◌, subst, arith, rules, eqb, inl, inr, zero, suc, is_some}
+use Rattle.std.proofs.Common.{◌≡◌, ◌≢◌, ℕ, ◌<◌, ◌⊎◌, Bool, true, false, ◌&&◌, List, [], ◌∷◌, Option, Some, None, IsSome, length, map, option_map, slice_get, slice_set, refl, ap, sym, ◌∙◌, subst, arith, eqb, inl, inr, zero, suc, is_some}
 use Rattle.std.specs.List.{list_all}
 use Rattle.std.specs.Option.{option_flatten}
 use Rattle.std.specs.Ordering.{nat_cmp}
@@ -25,7 +25,6 @@ use Rattle.place_wrapper.specs.declared.scans.LiveScan.{LiveScan}
 use Rattle.place_wrapper.specs.Forms.{Form}
 use Rattle.place_wrapper.specs.Boxes.{rows_to_come, table_at, kinds_held, rows_held, scan_is, scan_rows, write_fits, ScanFits, ScansFit}
 use Rattle.place_wrapper.specs.States.{place_ledger, place_state}
-use Rattle.place_wrapper.proofs.Options.{some_inj}
 
 both : (a b : Bool) → (a && b) ≡ true → (a ≡ true) × (b ≡ true)
 both true b e = (refl, e)

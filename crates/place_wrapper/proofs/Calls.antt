@@ -1,5 +1,5 @@
 -- What the calls of a scan do to a wrapper over tables by place.
-use Rattle.std.proofs.Common.{◌≡◌, ◌≢◌, ℕ, ◌+◌, ◌-◌, ◌^◌, ◌<◌, ◌≤◌, ◌⊎◌, Bool, true, false, cond, not, ◌&&◌, List, [], ◌∷◌, Option, Some, None, IsSome, map, length, drop, filter, option_map, zero, suc, refl, ap, sym, ◌∙◌, subst, arith, eqb, inl, inr}
+use Rattle.std.proofs.Common.{◌≡◌, ◌≢◌, ℕ, ◌+◌, ◌-◌, ◌^◌, ◌<◌, ◌≤◌, ◌⊎◌, Bool, true, false, cond, not, ◌&&◌, List, [], ◌∷◌, Option, Some, None, Result, Ok, Err, Vec, Global, IsSome, map, drop, filter, option_map, zero, suc, refl, ap, sym, ◌∙◌, subst, arith, eqb, inl, inr}
 use Rattle.std.specs.Ordering.{nat_cmp}
 use Rattle.std.specs.List.{list_all}
 use Rattle.std.specs.BTreeMap as tree
@@ -11,21 +11,22 @@ use Rattle.std.proofs.lemmas.List.Sorted.{IsPermutation-filter_both}
 use Rattle.std.proofs.lemmas.List.Elements.{All-filter, filter_passes, All-weaker}
 use Rattle.med_value.specs.Datum.{Tuple, datum}
 use Rattle.med_value.specs.declared.value.ColType.{ColType}
+use Rattle.med_value.specs.declared.value.Value.{Value}
 use Rattle.fdw_api.specs.Scan.{Spec, spec_of, GivenRow, TableRow, IsComing, meets_all, meets_exact, given_row, shown_cells, shown_fits, row_fits}
 use Rattle.fdw_api.proofs.Unpromised.{any_order, all_first}
 use Rattle.fdw_api.specs.State.{BoxTable, Scan, scan_of}
-use Rattle.fdw_api.specs.Calls.{LeavesOthers, new_scan, Begins, GivesRow, GivesNone, Breaks, Rescans, Ends, Refuses, RefusesBegin, row_of, bumped}
+use Rattle.fdw_api.specs.Calls.{LeavesOthers, new_scan, Begins, GivesRow, GivesNone, Breaks, Rescans, Ends, RefusesBegin, row_of, bumped}
 use Rattle.fdw_api.specs.declared.interface.Fault.TheVariants.{NoMemory}
 use Rattle.fdw_api.specs.declared.interface.SourceRow.{SourceRow}
 use Rattle.blob_store.specs.Shelves.{Shelf}
 use Rattle.staged_changes.specs.declared.changes.StagedWrite.{StagedWrite}
 use Rattle.place_wrapper.specs.Mapped.{mapped}
-use Rattle.place_wrapper.proofs.Maps.{mapped_get, mapped_insert, mapped_remove, apart}
+use Rattle.place_wrapper.proofs.Maps.{mapped_get, mapped_insert, mapped_put_back, mapped_remove, apart}
 use Rattle.place_index.specs.declared.index.PlaceIndex.{PlaceIndex}
 use Rattle.place_index.specs.Scans.{Serves, Stands}
 use Rattle.place_wrapper.specs.declared.scans.LiveScan.{LiveScan}
 use Rattle.place_wrapper.specs.Forms.{Form}
-use Rattle.place_wrapper.specs.Boxes.{rows_to_come, NextIs, table_at, kinds_held, rows_held, scan_is, scan_rows, ScanFits, ScansFit, newer}
+use Rattle.place_wrapper.specs.Boxes.{rows_to_come, NextIs, table_at, kinds_held, rows_held, scan_is, scan_rows, ScanFits, ScansFit, Pulls, Restarts, newer}
 use Rattle.place_wrapper.specs.States.{place_state}
 use Rattle.place_wrapper.proofs.Options.{some_inj, mapped_there}
 
@@ -203,14 +204,14 @@ module _ {T : Type 0} (F : Form T) where
         leaves = λ honest. others shelf tables m n staged number next pulled next (bumped pulled) _ u;
       }
 
-  pub place_gives_none : (shelf : Shelf) (tables : List (Option T)) (m : BTreeMap ℕ LiveScan) (staged : Option StagedWrite) (next pulled : ℕ) (number : ℕ) (s : LiveScan) → tree.get nat_cmp m number ≡ Some s
-      → NextIs F (table_at tables s.table) (spec_of s.spec) (map datum s.params.items) s.at None → GivesNone (place_state F shelf tables m staged next pulled) number (place_state F shelf tables m staged next pulled)
-  place_gives_none shelf tables m staged next pulled number s is next_is = record {
+  pub place_gives_none : (shelf : Shelf) (tables : List (Option T)) (m n : BTreeMap ℕ LiveScan) (staged : Option StagedWrite) (next pulled : ℕ) (number : ℕ) (s : LiveScan) → tree.get nat_cmp m number ≡ Some s
+      → NextIs F (table_at tables s.table) (spec_of s.spec) (map datum s.params.items) s.at None → tree.Updates nat_cmp m n number (Some s) → GivesNone (place_state F shelf tables m staged next pulled) number (place_state F shelf tables n staged next pulled)
+  place_gives_none shelf tables m n staged next pulled number s is next_is u = record {
     nature = refl;
-    ledger = refl;
+    ledger = ap (λ (l : finmap.FinMap nat_cmp Scan). record (place_state F shelf tables m staged next pulled).ledger { live = l }) (mapped_put_back (scan_is F tables) m n number s is u);
     coming = λ honest. ap (scan_rows F tables) is ∙ next_is;
-    still = λ honest. ap (scan_rows F tables) is ∙ next_is;
-    leaves = λ honest. record { coming = λ q l o. refl; rows = λ t o. refl; holdings = λ r o. refl };
+    still = λ honest. ap (scan_rows F tables) u.1 ∙ next_is;
+    leaves = λ honest. others shelf tables m n staged number next pulled next pulled (Some s) u;
   }
 
   pub place_breaks : (shelf : Shelf) (tables : List (Option T)) (m n : BTreeMap ℕ LiveScan) (staged : Option StagedWrite) (next pulled : ℕ) (number : ℕ) (s : LiveScan) → tree.get nat_cmp m number ≡ Some s → tree.Updates nat_cmp m n number (Some (record s { broken = true })) → Breaks (place_state F shelf tables m staged next pulled) number NoMemory (place_state F shelf tables n staged next pulled)
@@ -253,6 +254,17 @@ module _ {T : Type 0} (F : Form T) where
   pub is_whole : (shelf : Shelf) (tables : List (Option T)) (m : BTreeMap ℕ LiveScan) (staged : Option StagedWrite) (next pulled : ℕ) (n : ℕ) (s : LiveScan) (scan : Scan) → tree.get nat_cmp m n ≡ Some s → scan_of (place_state F shelf tables m staged next pulled) n ≡ Some scan → scan.broken ≡ false → s.broken ≡ false
   is_whole shelf tables m staged next pulled n s scan is at whole =
       ap (λ (z : Scan). z.broken) (some_inj (scan_is F tables s) scan (sym (mapped_get (scan_is F tables) m n ∙ ap (option_map (scan_is F tables)) is) ∙ at)) ∙ whole
+
+  -- a scan that gave its next row fits still
+  pub pulls_fit : {E : Type 0} (tables : List (Option T)) (s t : LiveScan) (r : Result (Option SourceRow) E) → ScanFits F (table_at tables s.table) s → Pulls F (table_at tables s.table) s r t → ScanFits F (table_at tables t.table) t
+  pulls_fit tables s t (Ok (Some row)) f p = subst (λ (z : LiveScan). ScanFits F (table_at tables z.table) z) (sym p.2) (f.0, f.1, p.1)
+  pulls_fit tables s t (Ok None) f p = subst (λ (z : LiveScan). ScanFits F (table_at tables z.table) z) (sym p.1) f
+  pulls_fit tables s t (Err e) f p = subst (λ (z : LiveScan). ScanFits F (table_at tables z.table) z) (sym p) f
+
+  -- and so does one that is begun again
+  pub restarts_fit : {E : Type 0} (tables : List (Option T)) (params : Vec Value Global) (s t : LiveScan) (r : Result Unit E) → ScanFits F (table_at tables s.table) s → Restarts F (table_at tables s.table) params s r t → ScanFits F (table_at tables t.table) t
+  restarts_fit tables params s t (Ok u) f p = subst (λ (z : LiveScan). ScanFits F (table_at tables z.table) z) (sym p.2) (starts_fitting tables s (map datum params.items) p.0 f p.1)
+  restarts_fit tables params s t (Err e) f p = subst (λ (z : LiveScan). ScanFits F (table_at tables z.table) z) (sym p) f
 
   -- scans whose entries are the same
   pub same_fitting : (tables : List (Option T)) (m n : BTreeMap ℕ LiveScan) → n.entries ≡ m.entries → ScansFit F tables m → ScansFit F tables n

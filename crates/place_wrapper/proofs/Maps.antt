@@ -46,6 +46,14 @@ mapped_insert {X} {Y} f m n k v u = finmap.same_map nat_cmp_total nat_cmp-IsAnti
     split q (inl s) = rw s.1 (mapped_get f n k ∙ ap (option_map f) u.1 ∙ sym (insert_same (mapped f m.entries) k (f v)))
     split q (inr s) = mapped_get f n q ∙ ap (option_map f) (u.2 q (apart k q s.1)) ∙ sym (mapped_get f m q) ∙ sym (insert_other (mapped f m.entries) k q (f v) s.1)
 
+-- what is put back changes nothing
+pub mapped_put_back : {X Y : Type 0} (f : X → Y) (m n : BTreeMap ℕ X) (k : ℕ) (v : X) → tree.get nat_cmp m k ≡ Some v → tree.Updates nat_cmp m n k (Some v) → mapped f n.entries ≡ mapped f m.entries
+mapped_put_back {X} {Y} f m n k v is u = finmap.same_map nat_cmp_total nat_cmp-IsAntisymmetric _ _ (λ q. mapped_get f n q ∙ ap (option_map f) (split q (eqb_tells q k)) ∙ sym (mapped_get f m q))
+  where
+    split : (q : ℕ) → ((eqb q k ≡ true) × (q ≡ k)) ⊎ ((eqb q k ≡ false) × (q ≢ k)) → tree.get nat_cmp n q ≡ tree.get nat_cmp m q
+    split q (inl s) = rw s.1 (u.1 ∙ sym is)
+    split q (inr s) = u.2 q (apart k q s.1)
+
 pub mapped_remove : {X Y : Type 0} (f : X → Y) (m n : BTreeMap ℕ X) (k : ℕ) → tree.UpdatesBy nat_cmp (nat_cmp k) m n None → mapped f n.entries ≡ finmap.remove (mapped f m.entries) k
 mapped_remove {X} {Y} f m n k u = finmap.same_map nat_cmp_total nat_cmp-IsAntisymmetric _ _ (λ q. split q (eqb_tells q k))
   where

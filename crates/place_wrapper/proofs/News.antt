@@ -1,16 +1,14 @@
 -- A new source of tables by place.
-use Rattle.std.proofs.Common.{◌≡◌, ℕ, ◌≤◌, List, [], Option, Some, None, option_map, true, refl, ap, sym, ◌∙◌}
+use Rattle.std.proofs.Common.{◌≡◌, ℕ, List, [], Option, Some, None, option_map, refl, ap, ◌∙◌}
 use Rattle.std.specs.Ordering.{nat_cmp}
 use Rattle.std.specs.BTreeMap as tree
 use Rattle.std.specs.BTreeMap.{BTreeMap}
 use Rattle.blob_store.specs.Shelves.{Shelf}
-use Rattle.blob_store.specs.Names.{is_blob_name}
 use Rattle.place_wrapper.proofs.Maps.{mapped_get}
 use Rattle.place_wrapper.specs.declared.scans.LiveScan.{LiveScan}
 use Rattle.place_wrapper.specs.Forms.{Form}
 use Rattle.place_wrapper.specs.Boxes.{table_at, scan_is, ScansFit}
 use Rattle.place_wrapper.specs.States.{place_state, IsNewPlaces}
-use Rattle.place_wrapper.proofs.Binding.{Named, Apart, Kept}
 
 none_some : {A : Type 0} (o : Option A) (x : A) → o ≡ None → o ≡ Some x → ⊥
 none_some None x a b = cc

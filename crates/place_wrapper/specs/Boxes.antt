@@ -1,6 +1,7 @@
 -- Tables by place, and what live scans have still to give.
 use Rattle.std.specs.Prelude.{◌≡◌, ◌<◌, ◌≤◌, ◌+◌, ◌-◌, ◌^◌, ◌&&◌, is_some, IsSome, ℕ, Bool, true, List, [], ◌∷◌, length, map, filter}
-use Rattle.std.specs.Prelude.{drop, Option, Some, None, slice_get}
+use Rattle.std.specs.Prelude.{drop, Option, Some, None, slice_get, Result, Ok, Err, Vec}
+use Rattle.std.specs.Global.{Global}
 use Rattle.std.specs.Ordering.{nat_cmp}
 use Rattle.std.specs.BTreeMap as tree
 use Rattle.std.specs.BTreeMap.{BTreeMap}
@@ -8,6 +9,7 @@ use Rattle.std.specs.List.{list_all}
 use Rattle.std.specs.Option.{option_flatten}
 use Rattle.med_value.specs.Datum.{Tuple, datum}
 use Rattle.med_value.specs.declared.value.ColType.{ColType}
+use Rattle.med_value.specs.declared.value.Value.{Value}
 use Rattle.fdw_api.specs.Scan.{Spec, spec_of, TableRow, GivenRow, given_row}
 use Rattle.fdw_api.specs.State.{Scan, Staging}
 use Rattle.fdw_api.specs.Calls.{row_of}
@@ -54,6 +56,22 @@ pub record Moves {T : Type 0} (F : Form T) (t : T) (spec : Spec) (params : Tuple
 abbrev pub newer : Option PlaceIndex → Option PlaceIndex → Option PlaceIndex
 newer (Some x) old = Some x
 newer None old = old
+
+-- the next row of a scan is given, or none, and the scan stands behind it; where memory is wanting the scan is good for its end alone
+abbrev pub Pulls : {T E : Type 0} → Form T → Option T → LiveScan → Result (Option SourceRow) E → LiveScan → Type 0
+Pulls F o s (Ok (Some row)) t =
+    NextIs F o (spec_of s.spec) (map datum s.params.items) s.at (Some row)
+    × Stands (spec_of s.spec) (map datum s.params.items) (rows_held F o) (row.id.number + 1) s.index
+    × (t ≡ record s { at = row.id.number + 1 })
+Pulls F o s (Ok None) t = NextIs F o (spec_of s.spec) (map datum s.params.items) s.at None × (t ≡ s)
+Pulls F o s (Err e) t = t ≡ record s { broken = true }
+
+-- a scan is begun again by these parameters, with an index of its own table; where memory is wanting it is good for its end alone
+abbrev pub Restarts : {T E : Type 0} → Form T → Option T → Vec Value Global → LiveScan → Result Unit E → LiveScan → Type 0
+Restarts F o params s (Ok u) t =
+    (index : Option PlaceIndex) × Serves (spec_of s.spec) (rows_held F o) index
+    × (t ≡ record s { params = params; at = 0; index = newer index s.index })
+Restarts F o params s (Err e) t = t ≡ record s { broken = true }
 
 -- a live scan is of a bound table, its index is of that table's rows, and it stands where its index goes on
 abbrev pub ScanFits : {T : Type 0} → Form T → Option T → LiveScan → Type 0

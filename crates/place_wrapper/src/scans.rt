@@ -1,5 +1,5 @@
 //! Live scans, and the rows that they give.
-ghost use Rattle.std.specs.Prelude.{◌≡◌, ◌+◌, ◌<◌, true, map, length, option_map, IfOk, IfSome, IsSome, Some};
+ghost use Rattle.std.specs.Prelude.{◌≡◌, ◌+◌, ◌<◌, true, map, length, option_map, IfOk, IfErr, IfSome, IsSome, Option, Some};
 ghost use Rattle.std.specs.Ordering.{nat_cmp};
 ghost use Rattle.std.specs.BTreeMap as tree;
 ghost use Rattle.med_value.specs.Datum.{datum};
@@ -7,7 +7,9 @@ ghost use Rattle.fdw_api.specs.Scan.{spec_of, restriction_form};
 ghost use Rattle.place_index.specs.Scans.{Serves, Stands, sought, form_of, column_cells};
 ghost use Rattle.place_index.specs.Indexes.{IsIndexFrom};
 ghost use Rattle.place_wrapper.specs.Forms.{GivesAt};
-ghost use Rattle.place_wrapper.specs.Boxes.{NextIs, Moves, ScanFits, table_at, rows_held, newer};
+ghost use Rattle.place_index.specs.declared.index.PlaceIndex.{PlaceIndex};
+ghost use Rattle.place_wrapper.specs.declared.scans.LiveScan.{LiveScan};
+ghost use Rattle.place_wrapper.specs.Boxes.{NextIs, Moves, ScanFits, Pulls, Restarts, table_at, rows_held, newer};
 
 use crate::format::PlacedTable;
 use crate::tables::table_at;
@@ -30,18 +32,6 @@ pub struct LiveScan {
     pub broken: bool,
 }
 
-/// Moves a scan on to a place.
-pub(crate) fn advance(scans: &mut BTreeMap<u64, LiveScan>, number: u64, at: usize)
-    requires { IsSome (tree.get nat_cmp scans.old number) }
-    ensures { IfSome (tree.get nat_cmp scans.old number)
-        (λ s. tree.Updates nat_cmp scans.old scans.new number (Some (record s { at = at }))) }
-{
-    match scans.get_mut(&number) {
-        Some(scan) => scan.at = at,
-        None => unreachable!(),
-    }
-}
-
 /// Marks a scan as good for `end` alone.
 pub(crate) fn spoil(scans: &mut BTreeMap<u64, LiveScan>, number: u64)
     requires { IsSome (tree.get nat_cmp scans.old number) }
@@ -50,29 +40,6 @@ pub(crate) fn spoil(scans: &mut BTreeMap<u64, LiveScan>, number: u64)
 {
     match scans.get_mut(&number) {
         Some(scan) => scan.broken = true,
-        None => unreachable!(),
-    }
-}
-
-/// Begins a scan again by these parameters, with a new index if there is one.
-pub(crate) fn restart(
-    scans: &mut BTreeMap<u64, LiveScan>,
-    number: u64,
-    params: Vec<Value>,
-    index: Option<PlaceIndex>,
-)
-    requires { IsSome (tree.get nat_cmp scans.old number) }
-    ensures { IfSome (tree.get nat_cmp scans.old number) (λ s. tree.Updates nat_cmp scans.old scans.new number
-        (Some (record s { params = params; at = 0; index = newer index s.index }))) }
-{
-    match scans.get_mut(&number) {
-        Some(scan) => {
-            scan.params = params;
-            scan.at = 0;
-            if index.is_some() {
-                scan.index = index;
-            }
-        }
         None => unreachable!(),
     }
 }
@@ -160,59 +127,116 @@ fn next_row<T: PlacedTable>(
     Ok(None)
 }
 
-/// The live scan of a number.
-fn live_scan(scans: &BTreeMap<u64, LiveScan>, number: u64) -> &LiveScan
-    requires { IsSome (tree.get nat_cmp scans.now number) }
-    ensures { tree.get nat_cmp scans.now number ≡ Some result.now }
-{
-    match scans.get(&number) {
-        Some(scan) => scan,
-        None => unreachable!(),
-    }
-}
-
-/// The next row of a live scan.
-pub(crate) fn row_of_scan<T: PlacedTable>(
+/// The next row of a scan of one of these tables, from its place on.
+fn row_of_scan<T: PlacedTable>(
     alloc: Global,
     tables: &Vec<Option<T>>,
-    scans: &BTreeMap<u64, LiveScan>,
-    number: u64,
+    scan: &LiveScan,
 ) -> Result<Option<SourceRow>, NoMemory>
-    requires live { IsSome (tree.get nat_cmp scans.now number) }
-    requires fits { IfSome (tree.get nat_cmp scans.now number) (λ s. ScanFits T.form (table_at tables.now.items s.table) s) }
-    ensures next { IfOk result (λ next. IfSome (tree.get nat_cmp scans.now number)
-        (λ s. NextIs T.form (table_at tables.now.items s.table) (spec_of s.spec) (map datum s.params.items) s.at next)) }
-    ensures on { IfOk result (λ next. IfSome (tree.get nat_cmp scans.now number) (λ s. IfSome next
-        (λ row. Stands (spec_of s.spec) (map datum s.params.items) (rows_held T.form (table_at tables.now.items s.table))
-        (row.id.number + 1) s.index))) }
+    requires { ScanFits T.form (table_at tables.now.items scan.now.table) scan.now }
+    ensures next { IfOk result (λ next. NextIs T.form (table_at tables.now.items scan.now.table) (spec_of scan.now.spec)
+        (map datum scan.now.params.items) scan.now.at next) }
+    ensures on { IfOk result (λ next. IfSome next (λ row. Stands (spec_of scan.now.spec) (map datum scan.now.params.items)
+        (rows_held T.form (table_at tables.now.items scan.now.table)) (row.id.number + 1) scan.now.index)) }
 {
-    let scan = live_scan(scans, number);
     match table_at(tables, scan.table) {
         Some(table) => next_row(alloc, table, scan),
         None => Ok(None),
     }
 }
 
-/// A new index for a live scan that is begun again, where it looks for a parameter and has none yet.
-pub(crate) fn new_index<T: PlacedTable>(
+/// The next row of a scan, which stands behind that row then. Where memory is wanting the scan is broken.
+fn pull_row<T: PlacedTable>(
     alloc: Global,
     tables: &Vec<Option<T>>,
-    scans: &BTreeMap<u64, LiveScan>,
-    number: u64,
-) -> Result<Option<PlaceIndex>, NoMemory>
-    requires { IsSome (tree.get nat_cmp scans.now number) }
-    ensures { IfOk result (λ index. IfSome (tree.get nat_cmp scans.now number)
-        (λ s. Serves (spec_of s.spec) (rows_held T.form (table_at tables.now.items s.table)) index)) }
+    scan: &mut LiveScan,
+) -> Result<Option<SourceRow>, NoMemory>
+    requires { ScanFits T.form (table_at tables.now.items scan.old.table) scan.old }
+    ensures { Pulls T.form (table_at tables.now.items scan.old.table) scan.old result scan.new }
 {
-    let scan = live_scan(scans, number);
+    let next = row_of_scan(alloc, tables, scan);
+    match &next {
+        Ok(Some(row)) => scan.at = row.id.number as usize + 1,
+        Ok(None) => {}
+        Err(_) => scan.broken = true,
+    }
+    next
+}
+
+/// The next row of the live scan of a number, which stands behind that row then. Where memory is wanting the scan is broken.
+pub(crate) fn pull<T: PlacedTable>(
+    alloc: Global,
+    tables: &Vec<Option<T>>,
+    scans: &mut BTreeMap<u64, LiveScan>,
+    number: u64,
+) -> Result<Option<SourceRow>, NoMemory>
+    requires live { IsSome (tree.get nat_cmp scans.old number) }
+    requires fits { IfSome (tree.get nat_cmp scans.old number) (λ s. ScanFits T.form (table_at tables.now.items s.table) s) }
+    ensures { IfSome (tree.get nat_cmp scans.old number) (λ s. (after : LiveScan) × Pulls T.form (table_at tables.now.items s.table)
+        s result after × tree.Updates nat_cmp scans.old scans.new number (Some after)) }
+{
+    match scans.get_mut(&number) {
+        Some(scan) => pull_row(alloc, tables, scan),
+        None => unreachable!(),
+    }
+}
+
+/// Makes an index for a scan that looks for a parameter and has none yet.
+fn add_index<T: PlacedTable>(
+    alloc: Global,
+    tables: &Vec<Option<T>>,
+    scan: &mut LiveScan,
+) -> Result<(), NoMemory>
+    ensures ok { IfOk result (λ _. (index : Option PlaceIndex) × Serves (spec_of scan.old.spec)
+        (rows_held T.form (table_at tables.now.items scan.old.table)) index
+        × (scan.new ≡ record scan.old { index = newer index scan.old.index })) }
+    ensures err { IfErr result (λ _. scan.new ≡ scan.old) }
+{
     if scan.index.is_some() {
-        return Ok(None);
+        return Ok(());
     }
     let Some(found) = sought_in(&scan.spec.offered) else {
-        return Ok(None);
+        return Ok(());
     };
-    match table_at(tables, scan.table) {
-        Some(table) => Ok(Some(index_of_column(alloc, table, found.column)?)),
-        None => Ok(None),
+    if let Some(table) = table_at(tables, scan.table) {
+        scan.index = Some(index_of_column(alloc, table, found.column)?);
+    }
+    Ok(())
+}
+
+/// Begins a scan again by these parameters. It makes an index where it looks for a parameter and has none yet. Where memory is wanting the
+/// scan is broken.
+fn restart<T: PlacedTable>(
+    alloc: Global,
+    tables: &Vec<Option<T>>,
+    scan: &mut LiveScan,
+    params: Vec<Value>,
+) -> Result<(), NoMemory>
+    ensures { Restarts T.form (table_at tables.now.items scan.old.table) params scan.old result scan.new }
+{
+    if add_index(alloc, tables, scan).is_err() {
+        scan.broken = true;
+        return Err(NoMemory);
+    }
+    scan.params = params;
+    scan.at = 0;
+    Ok(())
+}
+
+/// Begins the live scan of a number again by these parameters. Where memory is wanting the scan is broken.
+pub(crate) fn begin_again<T: PlacedTable>(
+    alloc: Global,
+    tables: &Vec<Option<T>>,
+    scans: &mut BTreeMap<u64, LiveScan>,
+    number: u64,
+    params: Vec<Value>,
+) -> Result<(), NoMemory>
+    requires { IsSome (tree.get nat_cmp scans.old number) }
+    ensures { IfSome (tree.get nat_cmp scans.old number) (λ s. (after : LiveScan) × Restarts T.form (table_at tables.now.items s.table)
+        params s result after × tree.Updates nat_cmp scans.old scans.new number (Some after)) }
+{
+    match scans.get_mut(&number) {
+        Some(scan) => restart(alloc, tables, scan, params),
+        None => unreachable!(),
     }
 }

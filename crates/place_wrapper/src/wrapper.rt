@@ -12,7 +12,7 @@ ghost use Rattle.place_wrapper.specs.Boxes.{table_at, write_fits, ScansFit};
 
 use crate::faults::fault_of;
 use crate::format::PlacedTable;
-use crate::scans::{LiveScan, advance, new_index, restart, row_of_scan, spoil};
+use crate::scans::{LiveScan, begin_again, pull, spoil};
 use crate::tables::{make_place, table_at};
 use blob_store::{Blobs, is_blob_name};
 use fdw_api::interface::{Counts, Fault, RowId, SourceRow, TableOption, Ticket, Wrapper};
@@ -181,16 +181,11 @@ impl<B: Blobs, T: PlacedTable> Wrapper for PlaceWrapper<B, T> {
     }
 
     fn iterate(&mut self, alloc: Global, ticket: &Ticket) -> Result<Option<SourceRow>, Fault> {
-        let number = ticket.number;
-        match row_of_scan(alloc, &self.tables, &self.scans, number) {
-            Err(_) => {
-                spoil(&mut self.scans, number);
-                Err(Fault::NoMemory)
-            }
+        match pull(alloc, &self.tables, &mut self.scans, ticket.number) {
+            Err(_) => Err(Fault::NoMemory),
             Ok(None) => Ok(None),
             Ok(Some(row)) => {
                 rows_are_typed();
-                advance(&mut self.scans, number, row.id.number as usize + 1);
                 self.pulled = self.pulled.saturating_add(1);
                 Ok(Some(row))
             }
@@ -202,15 +197,9 @@ impl<B: Blobs, T: PlacedTable> Wrapper for PlaceWrapper<B, T> {
             spoil(&mut self.scans, ticket.number);
             return Err(Fault::NoMemory);
         };
-        match new_index(alloc, &self.tables, &self.scans, ticket.number) {
-            Err(_) => {
-                spoil(&mut self.scans, ticket.number);
-                Err(Fault::NoMemory)
-            }
-            Ok(index) => {
-                restart(&mut self.scans, ticket.number, params, index);
-                Ok(())
-            }
+        match begin_again(alloc, &self.tables, &mut self.scans, ticket.number, params) {
+            Ok(()) => Ok(()),
+            Err(_) => Err(Fault::NoMemory),
         }
     }
 

@@ -1,4 +1,4 @@
-use Rattle.std.proofs.Common.{◌≡◌, ◌≤◌, ◌<◌, ◌-◌, ◌+◌, ◌^◌, ◌∙◌, Some, None, Option, subst, map, arith, length, rules}
+use Rattle.std.proofs.Common.{◌<◌, ◌∙◌, Option, subst, map, arith, length, rules}
 use Rattle.med_value.specs.Datum.{datum}
 use Rattle.med_value.specs.declared.value.Row.{Row}
 use Rattle.fdw_api.specs.Scan.{spec_of}

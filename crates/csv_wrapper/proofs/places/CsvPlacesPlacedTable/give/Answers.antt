@@ -10,11 +10,11 @@ use Rattle.csv_wrapper.proofs.places.CsvPlacesPlacedTable.give.Goals as goal
 pub has_sought-requires : goal.has_sought-requires
 has_sought-requires c = within_count c.args.self.now.table c.args.at c.requires.within
 
-pub comes-requires : goal.comes-requires
-comes-requires c = within_count c.args.self.now.table c.args.at c.requires.within
+pub comes_by-requires : goal.comes_by-requires
+comes_by-requires c = within_count c.args.self.now.table c.args.at c.requires.within
 
-pub show-requires : goal.show-requires
-show-requires c = within_count c.args.self.now.table c.args.at c.requires.within
+pub shown_by-requires : goal.shown_by-requires
+shown_by-requires c = within_count c.args.self.now.table c.args.at c.requires.within
 
 pub returns-then-not-branch : goal.returns-then-not-branch
 returns-then-not-branch c r is =

@@ -1,4 +1,4 @@
-use Rattle.std.proofs.Common.{◌≡◌, ◌<◌, ◌∙◌, List, Some, None, map, option_map, length, slice_set, ap, sym, subst, true, rules}
+use Rattle.std.proofs.Common.{◌≡◌, ◌<◌, ◌∙◌, Some, None, map, option_map, length, slice_set, ap, sym, subst, true, rules}
 use Rattle.std.specs.Option.{option_flatten}
 use Rattle.std.proofs.lemmas.Option.{slice_get_within}
 use Rattle.blob_store.specs.Names.{is_blob_name}
