@@ -82,11 +82,20 @@ starts_with bytes rows rdr h =
     reads_some default_config st.StartRecord rdr.state (strip_bom bytes) h.rest rows (length (strip_bom bytes) + 1) h.reached (few default_config st.StartRecord rdr.state (strip_bom bytes) h.rest rows h.reached)
 
 -- a read gives the next record, or tells that there is none
-pub reads_on : (bytes : List ℕ) (rows : List Record) (a b : SliceReader) (found : Bool) (f : Record) → HasRead bytes rows a → ReadRecord known_bytes a b found f → b.first ≡ true → ReadsOn bytes rows found f b
-reads_on bytes rows a b true f h r first =
+pub reads_on : (bytes : List ℕ) (rows : List Record) (a b : SliceReader) (found : Bool) (f : Record) → HasRead bytes rows a → ReadRecord known_bytes a b found f → b.first ≡ true → b.flexible ≡ a.flexible → b.failed ≡ a.failed → ReadsOn bytes rows found f b
+reads_on bytes rows a b true f h r first flexible failed =
     let m = rows-more known_bytes a b f default_config st.StartRecord (strip_bom bytes) h.rest rows h.config h.source h.reached r in
-    record { trim = r.3 ∙ h.trim; ready = inl first; config = r.2 ∙ h.config; rest = m.0; source = m.1; reached = m.2 }
-reads_on bytes rows a b false f h r first =
+    record {
+      trim = r.3 ∙ h.trim;
+      ready = inl first;
+      flexible = flexible ∙ h.flexible;
+      intact = failed ∙ h.intact;
+      config = r.2 ∙ h.config;
+      rest = m.0;
+      source = m.1;
+      reached = m.2;
+    }
+reads_on bytes rows a b false f h r first flexible failed =
     sym (are_the_records (strip_bom bytes) rows (a.state, h.rest, h.reached, rows-end known_bytes a b f default_config h.rest h.config h.source r))
 
 -- the record that was read last, and those behind it

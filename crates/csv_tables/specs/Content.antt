@@ -2,7 +2,7 @@
 use Rattle.std.specs.Prelude.{◌≡◌, ◌++◌, ◌*◌, ◌<◌, ◌≤◌, ℕ, Bool, true, false, not, ◌||◌, List, [], ◌∷◌, length, Option, Some, Contains}
 use Rattle.std.specs.List.{list_all}
 use denote.Ref.{Bor}
-use Rattle.csv.specs.Reading.{Reached, Ready, default_config, source_of, strip_bom}
+use Rattle.csv.specs.Reading.{Reached, Ready, default_config, has_failed, is_flexible, source_of, strip_bom}
 use Rattle.csv.specs.Records.{fields_of, partial_of}
 use Rattle.csv.specs.declared.reader.Reader.{Reader}
 use Rattle.csv.specs.declared.parser.State.TheVariants as st
@@ -27,6 +27,10 @@ known_bytes s = Some s.now
 pub record HasRead (bytes : List ℕ) (rows : List Record) (rdr : SliceReader) : Type 0 where
   pub trim : rdr.trim ≡ trim.None
   pub ready : Ready rdr
+  -- records may differ in length, so that none is an error of the reader's
+  pub flexible : is_flexible rdr ≡ true
+  -- no read of it has failed
+  pub intact : has_failed rdr ≡ false
   pub config : rdr.config ≡ default_config
   pub rest : List ℕ
   pub source : source_of known_bytes rdr ≡ Some rest

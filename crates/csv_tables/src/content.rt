@@ -1,8 +1,9 @@
 //! The records of a blob, checked as they are read.
-ghost use Rattle.std.specs.Prelude.{◌≡◌, ◌++◌, ◌∷◌, [], ◌≤◌, ◌<◌, ℕ, List, map, length, true, false, not, ◌&&◌, is_some, IfOk, IfErr, OnOk};
+ghost use Rattle.std.specs.Prelude.{◌≡◌, ◌++◌, ◌∷◌, [], ◌≤◌, ◌<◌, ℕ, List, map, length, true, false, not, ◌&&◌, is_some, IfOk, IfErr, OnOk, OnErr};
 ghost use Rattle.std.specs.List.{list_all};
 ghost use Rattle.std.specs.Str.{is_utf8};
 ghost use Rattle.std.specs.String.{string_bytes};
+ghost use Rattle.csv.specs.Reading.{has_failed};
 ghost use Rattle.csv.specs.Records.{fields_of, partial_of};
 ghost use Rattle.csv_tables.specs.Cells.{is_readable};
 ghost use Rattle.csv_tables.specs.CsvRecords.{Record, csv_records, is_whole, heading};
@@ -47,10 +48,12 @@ fn reader_of(alloc: Global, bytes: &[u8]) -> Reader<&[u8]>
         .from_reader(alloc, bytes)
 }
 
-/// Reads the next record, if there is one. Over memory, a reader of records of any length fails for want of memory alone.
+/// Reads the next record, if there is one. It is refused only where the reader itself has failed, which the length of a record is no cause
+/// of: over memory, a reader of records of any length fails for want of memory alone.
 fn next_record(rdr: &mut Reader<&[u8]>, row: &mut ByteRecord) -> Result<bool, NoMemory>
-    ensures { IfOk result (λ found. (bytes : List ℕ) (rows : List Record) → HasRead bytes rows rdr.old → ReadsOn bytes rows found
+    ensures found { IfOk result (λ found. (bytes : List ℕ) (rows : List Record) → HasRead bytes rows rdr.old → ReadsOn bytes rows found
         (fields_of row.new) rdr.new) }
+    ensures err { OnErr result ((bytes : List ℕ) (rows : List Record) → HasRead bytes rows rdr.old → has_failed rdr.new ≡ true) }
 {
     let Ok(found) = rdr.read_byte_record(row) else {
         return Err(NoMemory);

@@ -1,10 +1,13 @@
 -- A line as an object, in the words of `serde_json`, and the cells that columns read in it.
-use Rattle.std.specs.Prelude.{ℕ, Bool, false, not, ◌||◌, nat_eq, List, map, Option, Some, None, is_some, option_map, option_and_then, unwrap_or, if◌then◌else◌}
+use Rattle.std.specs.Prelude.{ℕ, Bool, false, not, ◌||◌, nat_eq, List, map, Option, Some, None, is_some, option_map, option_and_then, unwrap_or, if◌then◌else◌, Result, Err}
 use Rattle.std.specs.List.{list_all, list_any}
 use Rattle.std.specs.Str.{is_utf8}
 use Rattle.med_value.specs.Datum.{Datum, NoValue, Whole, Chars, Logic, Tuple}
 use Rattle.med_value.specs.declared.value.ColType.{ColType}
 use Rattle.med_value.specs.declared.value.ColType.TheVariants as types
+use Rattle.serde_json.specs.Errors.{IsMemory}
+use Rattle.serde_json.specs.declared.error.Error.{Error}
+use Rattle.serde_json.specs.declared.value.Value.{Value}
 use Rattle.serde_json.specs.Data.{Data, Members, no_members, member}
 use Rattle.serde_json.specs.Find.{as_null, as_bool, as_number, as_i64, as_str, as_object, get}
 use Rattle.serde_json.specs.Read.{read}
@@ -17,6 +20,14 @@ json_of line = if is_utf8 line then read line else None
 -- the line is one object
 abbrev pub is_object : List ℕ → Bool
 is_object line = is_some (option_and_then as_object (json_of line))
+
+-- what a reader of JSON tells of a text: the value that it is, or why it was not read
+abbrev pub Told : Type 0
+Told = Result Value Error
+
+-- among what may be told of a text is an error of memory
+abbrev pub ToldMemory : (Told → Type 0) → Type 0
+ToldMemory tells = (error : Error) × IsMemory error × tells (Err error)
 
 -- a text without U+0000
 abbrev pub is_clean : List ℕ → Bool

@@ -5,13 +5,15 @@ ghost use Rattle.med_value.specs.Datum.{datum, tuple};
 ghost use Rattle.serde_json.specs.View.{view};
 ghost use Rattle.jsonl_tables.specs.Lines.{lines_of, lines_at};
 ghost use Rattle.jsonl_tables.specs.Fields.{reader_of};
-ghost use Rattle.jsonl_tables.specs.Objects.{is_object, is_typed, cells_at, json_of, read_cell};
+ghost use Rattle.jsonl_tables.specs.Objects.{ToldMemory, is_object, is_typed, cells_at, json_of, read_cell};
 ghost use Rattle.jsonl_tables.specs.Wholes.{whole_is, wholes_of};
 ghost use Rattle.jsonl_tables.specs.Contents.{is_too_large, LineRefused, ContentRefused};
 
 use crate::fields::Field;
 use crate::lines::{Span, is_blank, line_at, line_from};
-use crate::objects::{LineFault, has_types, parse_line, read_cell, read_row};
+use crate::objects::{
+    JsonReader, LineFault, ReadsJson, has_types, parse_line, read_cell, read_row,
+};
 use crate::wholes::push_wholes;
 use fdw_api::interface::Fault;
 use med_value::limits::{BYTE_LIMIT, ROW_LIMIT};
@@ -28,14 +30,20 @@ pub struct LinesRead {
     pub wholes: Vec<Option<i64>>,
 }
 
-/// The object that a line is, with members of the columns' types.
-fn check_line(alloc: Global, line: &[u8], fields: &[Field]) -> Result<Object, Fault>
+/// The object that a line is, with members of the columns' types. Want of memory is told only where the reader told it of this line.
+fn check_line<R: ReadsJson>(
+    reader: &R,
+    alloc: Global,
+    line: &[u8],
+    fields: &[Field],
+) -> Result<Object, Fault>
     ensures is { IfOk result (λ v. json_of line.now ≡ Some (view v)) }
     ensures object { IfOk result (λ v. is_object line.now ≡ true) }
     ensures typed { IfOk result (λ v. is_typed (map reader_of fields.now) line.now ≡ true) }
     ensures err { IfErr result (λ fault. LineRefused (map reader_of fields.now) line.now fault) }
+    ensures memory { IfErr result (λ fault. fault ≡ Fault.NoMemory → ToldMemory (R.tells reader.now line.now)) }
 {
-    match parse_line(alloc, line) {
+    match parse_line(reader, alloc, line) {
         Err(LineFault::NoMemory) => Err(Fault::NoMemory),
         Err(LineFault::NotObject) => Err(Fault::Refused(Cause::InvalidFormat)),
         Ok(value) => {
@@ -68,7 +76,7 @@ pub fn read_lines(alloc: Global, content: &[u8], fields: &[Field]) -> Result<Lin
         let span = line_from(content, start);
         let line = line_at(content, span);
         if !is_blank(line) {
-            let value = check_line(alloc, line, fields)?;
+            let value = check_line(&JsonReader, alloc, line, fields)?;
             if spans.len() == ROW_LIMIT {
                 return Err(Fault::Refused(Cause::TooLarge));
             }
@@ -85,7 +93,7 @@ pub fn read_lines(alloc: Global, content: &[u8], fields: &[Field]) -> Result<Lin
 pub fn row_of_line(alloc: Global, line: &[u8], fields: &[Field]) -> Result<Row, NoMemory>
     ensures { IfOk result (λ row. tuple row ≡ cells_at (map reader_of fields.now) line.now) }
 {
-    match parse_line(alloc, line) {
+    match parse_line(&JsonReader, alloc, line) {
         Ok(value) => read_row(alloc, &value, fields),
         Err(_) => Err(NoMemory),
     }
@@ -96,7 +104,7 @@ pub fn row_of_line(alloc: Global, line: &[u8], fields: &[Field]) -> Result<Row, 
 pub fn cell_of_line(alloc: Global, line: &[u8], field: &Field) -> Result<Value, NoMemory>
     ensures { IfOk result (λ cell. datum cell ≡ read_cell (json_of line.now) (reader_of field.now)) }
 {
-    match parse_line(alloc, line) {
+    match parse_line(&JsonReader, alloc, line) {
         Ok(value) => read_cell(alloc, field, &value),
         Err(_) => Err(NoMemory),
     }

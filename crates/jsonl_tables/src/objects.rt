@@ -1,15 +1,16 @@
 //! Lines as objects, and the cells that columns read in them.
-ghost use Rattle.std.specs.Prelude.{◌≡◌, false, true, not, map, Some, is_some, option_map, unwrap_or, IfOk, IfErr};
+ghost use Rattle.std.specs.Prelude.{◌≡◌, ℕ, List, false, true, not, map, Some, None, is_some, option_map, unwrap_or, IfOk, IfErr};
 ghost use Rattle.std.specs.List.{list_all};
 ghost use Rattle.med_value.specs.Datum.{datum, tuple, NoValue};
+ghost use Rattle.serde_json.specs.Errors.{IsMemory};
 ghost use Rattle.serde_json.specs.View.{view, members_view};
 ghost use Rattle.serde_json.specs.Find.{as_object};
 ghost use Rattle.jsonl_tables.specs.Fields.{reader_of, reads_member};
-ghost use Rattle.jsonl_tables.specs.Objects.{json_of, is_object, is_clean, value_of, cell_of, is_read, read_cell, has_other, other_members};
+ghost use Rattle.jsonl_tables.specs.Objects.{Told, ToldMemory, json_of, is_object, is_clean, value_of, cell_of, is_read, read_cell, has_other, other_members};
 
 use crate::fields::Field;
 use med_value::{ColType, NoMemory, Row, Value as Cell};
-use serde_json::{Category, Map, Value};
+use serde_json::{Category, Error, Map, Value};
 use std::alloc::Global;
 
 /// Why a line is no object.
@@ -21,13 +22,41 @@ pub(crate) enum LineFault {
     NotObject,
 }
 
-/// The object that a line is.
-pub(crate) fn parse_line(alloc: Global, line: &[u8]) -> Result<Value, LineFault>
+/// What reads texts as JSON, and tells of each that it did not read why.
+pub(crate) trait ReadsJson {
+    /// What may be told of a text: the value that was read, or the error.
+    ghost tells: { Self → List ℕ → Told → Type 0 };
+
+    /// The value that a text is. An error that is no want of memory comes only of what is no JSON in UTF-8.
+    fn read(&self, alloc: Global, text: &[u8]) -> Result<Value, Error>
+        ensures told { tells self.now text.now result }
+        ensures ok { IfOk result (λ v. json_of text.now ≡ Some (view v)) }
+        ensures err { IfErr result (λ e. (IsMemory e → ⊥) → json_of text.now ≡ None) };
+}
+
+/// The reader of JSON of `serde_json`, of which nothing is known but what each call answers.
+pub(crate) struct JsonReader;
+
+impl ReadsJson for JsonReader {
+    ghost tells = { λ _ _ _. Unit {0} };
+
+    fn read(&self, alloc: Global, text: &[u8]) -> Result<Value, Error> {
+        Value::from_slice(alloc, text)
+    }
+}
+
+/// The object that a line is. Want of memory is told only where the reader told it of this line.
+pub(crate) fn parse_line<R: ReadsJson>(
+    reader: &R,
+    alloc: Global,
+    line: &[u8],
+) -> Result<Value, LineFault>
     ensures ok { IfOk result (λ v. json_of line.now ≡ Some (view v)) }
     ensures object { IfOk result (λ v. is_object line.now ≡ true) }
     ensures err { IfErr result (λ e. e ≡ LineFault.NotObject → is_object line.now ≡ false) }
+    ensures memory { IfErr result (λ e. e ≡ LineFault.NoMemory → ToldMemory (R.tells reader.now line.now)) }
 {
-    match Value::from_slice(alloc, line) {
+    match reader.read(alloc, line) {
         Ok(value) => {
             if value.is_object() {
                 Ok(value)

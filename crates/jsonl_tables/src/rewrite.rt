@@ -11,7 +11,7 @@ ghost use Rattle.jsonl_tables.specs.Changes.{left_by, rows_left};
 
 use crate::known::kept_wholes;
 use crate::lines::{Image, line_at};
-use crate::objects::{LineFault, is_wider, parse_line};
+use crate::objects::{JsonReader, LineFault, is_wider, parse_line};
 use crate::table::JsonTable;
 use crate::wholes::{push_line, push_lines};
 use crate::written::line_of;
@@ -44,7 +44,7 @@ fn widens(alloc: Global, table: &JsonTable, id: u64) -> Result<bool, NoMemory>
     if at >= table.lines.len() {
         return Ok(false);
     }
-    match parse_line(alloc, line_at(&table.content, table.lines[at])) {
+    match parse_line(&JsonReader, alloc, line_at(&table.content, table.lines[at])) {
         Ok(value) => Ok(is_wider(&value, &table.fields)),
         Err(LineFault::NotObject) => Ok(false),
         Err(LineFault::NoMemory) => Err(NoMemory),

@@ -6,7 +6,7 @@ ghost use Rattle.jsonl_tables.specs.Objects.{read_cell};
 ghost use Rattle.jsonl_tables.specs.Wholes.{whole_is, whole_reader, whole_readers, wholes_at, wholes_of};
 
 use crate::fields::Field;
-use crate::objects::parse_line;
+use crate::objects::{JsonReader, parse_line};
 use med_value::{ColType, NoMemory};
 use serde_json::Value;
 use std::alloc::Global;
@@ -69,7 +69,7 @@ pub(crate) fn push_line(
 ) -> Result<(), NoMemory>
     ensures { OnOk result (map whole_is wholes.new.items ≡ map whole_is wholes.old.items ++ wholes_at (map reader_of fields.now) line.now) }
 {
-    match parse_line(alloc, line) {
+    match parse_line(&JsonReader, alloc, line) {
         Ok(value) => push_wholes(wholes, &value, fields),
         Err(_) => Err(NoMemory),
     }

@@ -12,7 +12,7 @@ use Rattle.tokio_util.specs.declared.codec.lines_codec.LinesCodecError.TheVarian
 use Rattle.tokio_util.specs.Codec.Next.{Next, decoded, partial, Decodes, Resumes}
 use Rattle.tokio_util.specs.Codec.Lines.{Scan, line as found, too_long, unfinished, newline_from, read_line, skip_line, scan, at_line_start, discarding, gives_lines, Answers, IsSettled, IsUnfinished}
 use Rattle.session_wire.specs.Lines.{line, rest, closed, lines_within}
-use Rattle.session_wire.specs.Finds.{IsReady}
+use Rattle.session_wire.specs.Finds.{HasLine, IsReady}
 use Rattle.std.specs.List.{position_or_len}
 use Rattle.std.proofs.lemmas.List.{length-drop}
 use lib.Seq.{take-append_seam}
@@ -48,6 +48,15 @@ bad_at limit xs error t ys (found bytes after) k e (inr a) = let no : InvalidDat
 bad_at limit xs error t ys (too_long after) k e a = e
 bad_at limit xs error t ys (unfinished is_dropped kept) k e a = absurd a
 
+-- no memory for the text of a line
+memory_at : (limit : ℕ) (xs : List ℕ) (error : Error) (t : LinesCodec) (ys : List ℕ) (s : Scan) → (error_kind error ≡ InvalidData → ⊥) → lines_within limit xs ≡ from_scan limit s → Answers limit s (Err (Io error)) t ys → HasLine (lines_within limit xs)
+memory_at limit xs error t ys (found bytes after) k e (inl a) = absurd (k a.0.0)
+memory_at limit xs error t ys (found bytes after) k e (inr a) =
+    let test : is_utf8 bytes ≡ true = is_utf8-from_IsUtf8 bytes a.1 in
+    (bytes, lines_within limit after, rw test at e)
+memory_at limit xs error t ys (too_long after) k e a = absurd (let no = a.0 in cc)
+memory_at limit xs error t ys (unfinished is_dropped kept) k e a = absurd a
+
 -- a line that is too long
 long_at : (limit : ℕ) (xs : List ℕ) (t : LinesCodec) (ys : List ℕ) (s : Scan) → lines_within limit xs ≡ from_scan limit s → Answers limit s (Err MaxLineLengthExceeded) t ys → lines_within limit xs ≡ closed
 long_at limit xs t ys (found bytes after) e (inl a) = absurd a.0
@@ -63,6 +72,10 @@ ready_text limit c xs text t ys h d =
 pub ready_bad : (limit : ℕ) (c : LinesCodec) (xs : List ℕ) (error : Error) (t : LinesCodec) (ys : List ℕ) → IsReady limit c xs → error_kind error ≡ InvalidData → Decodes gives_lines c xs (Err (Io error)) t ys → lines_within limit xs ≡ closed
 ready_bad limit c xs error t ys h k d =
     bad_at limit xs error t ys (read_line limit 0 xs) k (by_scan limit xs _ refl) (ready_front limit c xs (decoded (Err (Io error)) t ys) h d)
+
+pub ready_memory : (limit : ℕ) (c : LinesCodec) (xs : List ℕ) (error : Error) (t : LinesCodec) (ys : List ℕ) → IsReady limit c xs → (error_kind error ≡ InvalidData → ⊥) → Decodes gives_lines c xs (Err (Io error)) t ys → HasLine (lines_within limit xs)
+ready_memory limit c xs error t ys h k d =
+    memory_at limit xs error t ys (read_line limit 0 xs) k (by_scan limit xs _ refl) (ready_front limit c xs (decoded (Err (Io error)) t ys) h d)
 
 pub ready_long : (limit : ℕ) (c : LinesCodec) (xs : List ℕ) (t : LinesCodec) (ys : List ℕ) → IsReady limit c xs → Decodes gives_lines c xs (Err MaxLineLengthExceeded) t ys → lines_within limit xs ≡ closed
 ready_long limit c xs t ys h d =

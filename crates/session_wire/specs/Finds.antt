@@ -6,7 +6,7 @@ use Rattle.tokio_util.specs.Codec.Next.{Resumes}
 use Rattle.session_wire.specs.declared.lines.FoundLine.{FoundLine}
 use Rattle.session_wire.specs.declared.lines.FoundLine.TheVariants as found
 use Rattle.med_value.specs.Limits.{line_limit}
-use Rattle.session_wire.specs.Lines.{line, rest, closed, lines_of}
+use Rattle.session_wire.specs.Lines.{Lines, line, rest, closed, lines_of}
 
 -- the codec finds what a new one would find, whatever bytes follow
 abbrev pub IsReady : ℕ → LinesCodec → List ℕ → Type 0
@@ -18,3 +18,7 @@ Finds (found.Line text) old codec new =
     (lines_of old ≡ line (string_bytes text) (lines_of new)) × IsReady line_limit codec new
 Finds found.Nothing old codec new = (lines_of old ≡ rest old) × (new ≡ old) × IsReady line_limit codec new
 Finds found.Closing old codec new = lines_of old ≡ closed
+
+-- a whole line stands at the front, short enough and UTF-8
+abbrev pub HasLine : Lines → Type 0
+HasLine lines = (text : List ℕ) × (more : Lines) × (lines ≡ line text more)

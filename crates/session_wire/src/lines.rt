@@ -3,10 +3,10 @@
 //! A line ends in LF, and one CR before it is dropped. It has at most 1,048,576 bytes before its LF, the
 //! CR counted, and is UTF-8. A line that is longer, as soon as that is seen, or that is no UTF-8 closes
 //! the stream. `LinesCodec` of `tokio_util` cuts the lines.
-ghost use Rattle.std.specs.Prelude.{◌≡◌, ◌++◌, List, ℕ, IfOk};
+ghost use Rattle.std.specs.Prelude.{◌≡◌, ◌++◌, List, ℕ, IfOk, OnErr};
 ghost use Rattle.med_value.specs.Limits.{line_limit};
 ghost use Rattle.session_wire.specs.Lines.{lines_of, go_on};
-ghost use Rattle.session_wire.specs.Finds.{Finds, IsReady};
+ghost use Rattle.session_wire.specs.Finds.{Finds, HasLine, IsReady};
 
 use bytes::BytesMut;
 use med_value::NoMemory;
@@ -34,10 +34,12 @@ pub fn new_codec() -> LinesCodec
 
 /// Takes the next line from the front of some bytes, and leaves the bytes where there is none yet.
 ///
-/// Refused only for want of memory: nothing of the bytes is promised then.
+/// Refused only for want of memory, and only where a whole line that does not close the stream stands at the front: the codec takes memory
+/// for the text of such a line alone. Nothing of the bytes that are left is promised then.
 pub fn next_line(codec: &mut LinesCodec, unread: &mut BytesMut) -> Result<FoundLine, NoMemory>
     requires { IsReady line_limit codec.old unread.old.items }
-    ensures { IfOk result (λ found. Finds found unread.old.items codec.new unread.new.items) }
+    ensures found { IfOk result (λ found. Finds found unread.old.items codec.new unread.new.items) }
+    ensures memory { OnErr result (HasLine (lines_of unread.old.items)) }
 {
     match codec.decode(unread) {
         Ok(Some(text)) => Ok(FoundLine::Line(text)),

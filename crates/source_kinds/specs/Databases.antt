@@ -8,7 +8,13 @@ use Rattle.sqlite.specs.Effect.{Database}
 use Rattle.sqlite.specs.Held.{Held}
 use Rattle.sqlite_cells.specs.Layouts.{kinds_in, layout_at}
 use Rattle.sqlite_cells.specs.Tables.{entry_of}
-use Rattle.sqlite_databases.specs.Found.{Images, IsFoundAt}
+use Rattle.sqlite.specs.declared.error.Error.{Error}
+use Rattle.sqlite.specs.declared.error.Error.TheVariants.{SqliteFailure}
+use Rattle.sqlite.specs.declared.error.ErrorCode.{ErrorCode}
+use Rattle.sqlite.specs.declared.error.ErrorCode.TheVariants as error_codes
+use Rattle.sqlite_databases.specs.Found.{Errors, Images, IsFoundAt}
+use Rattle.source_kinds.specs.declared.sources.OpenFault.{OpenFault}
+use Rattle.source_kinds.specs.declared.sources.OpenFault.TheVariants as faults
 use Rattle.sqlite_wrapper.specs.SqliteBoxes.{IsNewSqlite}
 use Rattle.sqlite_wrapper.specs.declared.wrapper.SqliteWrapper.{SqliteWrapper}
 
@@ -39,3 +45,16 @@ database_in (First list) = None
 database_in (Second (First folder)) = None
 database_in (Second (Second (First memory))) = None
 database_in (Second (Second (Second file))) = Some file.conn
+
+-- what an error of opening a database is told as: want of memory as such, and any other as not opened
+abbrev pub code_fault : ErrorCode → OpenFault
+code_fault error_codes.OutOfMemory = faults.NoMemory
+code_fault _ = faults.CannotOpen
+
+abbrev pub open_fault : Error → OpenFault
+open_fault (SqliteFailure code) = code_fault code
+open_fault _ = faults.CannotOpen
+
+-- among the errors that may be told is one that is told as not opened
+abbrev pub ToldNotOpened : Errors → Type 0
+ToldNotOpened refuses = (error : Error) × refuses error × (open_fault error ≡ faults.CannotOpen)

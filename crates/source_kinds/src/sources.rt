@@ -1,5 +1,5 @@
 //! A source of any kind that a program serves, and how one of each is made.
-ghost use Rattle.std.specs.Prelude.{◌≡◌, false, Some, IfOk, IsSomeAnd, option_map, string_bytes};
+ghost use Rattle.std.specs.Prelude.{◌≡◌, true, false, Some, IfOk, IfErr, IsSomeAnd, option_map, string_bytes};
 ghost use Rattle.fdw_api.specs.State.{IsIdle};
 ghost use Rattle.blob_store.specs.Files.{folder_shelf};
 ghost use Rattle.med_catalog.specs.declared.kind.SourceKind.TheVariants.{Csv, JsonLines, Sqlite, List as Lists};
@@ -8,7 +8,7 @@ ghost use Rattle.list_wrapper.specs.ListBoxes.{box_of};
 ghost use Rattle.csv_wrapper.specs.CsvBoxes.{IsNewCsv};
 ghost use Rattle.jsonl_wrapper.specs.Boxes.{IsNewJsonl};
 ghost use Rattle.sqlite_databases.specs.Found.{ShowsAt};
-ghost use Rattle.source_kinds.specs.Databases.{IsNewDatabase, IsNewFile, IsNewMemory, database_in, is_memory};
+ghost use Rattle.source_kinds.specs.Databases.{IsNewDatabase, IsNewFile, IsNewMemory, ToldNotOpened, database_in, is_memory, open_fault};
 ghost use Rattle.source_kinds.specs.Folders.{folder_in};
 
 use crate::law::{
@@ -108,8 +108,7 @@ pub fn of_jsonl<V: Databases + Disks>(
 
 // Why the database of an error is not opened.
 fn open_fault(error: DatabaseError) -> OpenFault
-    ensures memory { error ≡ DatabaseError.SqliteFailure ErrorCode.OutOfMemory → result ≡ OpenFault.NoMemory }
-    ensures other { (error ≡ DatabaseError.SqliteFailure ErrorCode.OutOfMemory → ⊥) → result ≡ OpenFault.CannotOpen }
+    ensures { result ≡ open_fault error }
 {
     match error {
         DatabaseError::SqliteFailure(ErrorCode::OutOfMemory) => OpenFault::NoMemory,
@@ -117,13 +116,14 @@ fn open_fault(error: DatabaseError) -> OpenFault
     }
 }
 
-// A new database in memory as a source.
+// A new database in memory as a source. Nothing is opened for it, and the two texts that make its tables are good: whatever it is refused
+// for is told as want of memory.
 fn of_memory<V: Databases + Disks>(alloc: Global) -> Result<Source<V>, OpenFault>
-    ensures { IfOk result (λ s. IsNewMemory (⟦<Source<V> as Wrapper>⟧.meaning s)) }
+    ensures new { IfOk result (λ s. IsNewMemory (⟦<Source<V> as Wrapper>⟧.meaning s)) }
+    ensures err { IfErr result (λ fault. fault ≡ OpenFault.NoMemory) }
 {
-    let conn = match memory_database(alloc) {
-        Ok(conn) => conn,
-        Err(error) => return Err(open_fault(error)),
+    let Ok(conn) = memory_database(alloc) else {
+        return Err(OpenFault::NoMemory);
     };
     match SqliteWrapper::new(alloc, conn) {
         Ok(memory) => Ok(EitherSource::Second(EitherSource::Second(EitherSource::First(memory)))),
@@ -131,11 +131,12 @@ fn of_memory<V: Databases + Disks>(alloc: Global) -> Result<Source<V>, OpenFault
     }
 }
 
-// The database in the file at this path as a source.
+// The database in the file at this path as a source. Of an error that opening it tells `open_fault` is told.
 fn of_file<V: Databases + Disks>(alloc: Global, rt: &V, path: &str) -> Result<Source<V>, OpenFault>
     ensures new { IfOk result (λ s. IsNewFile V.Store.SourceStore.honest (V.Databases.stands rt.now) path.now
         (⟦<Source<V> as Wrapper>⟧.meaning s)) }
     ensures file { IfOk result (λ s. IsSomeAnd (database_in s) (ShowsAt V.Store.Store (V.Databases.stands rt.now) path.now)) }
+    ensures err { IfErr result (λ fault. fault ≡ OpenFault.CannotOpen → ToldNotOpened (V.Databases.refuses rt.now path.now)) }
 {
     let conn = match open_database(rt, path) {
         Ok(conn) => conn,
@@ -153,7 +154,8 @@ fn of_file<V: Databases + Disks>(alloc: Global, rt: &V, path: &str) -> Result<So
 ///
 /// # Errors
 ///
-/// [`OpenFault::CannotOpen`] where the database cannot be opened, and [`OpenFault::NoMemory`] where memory was refused.
+/// [`OpenFault::CannotOpen`] where opening the database of a file told an error that is no want of memory, and of `:memory:` never;
+/// [`OpenFault::NoMemory`] where memory was refused.
 pub fn of_sqlite<V: Databases + Disks>(
     alloc: Global,
     rt: &V,
@@ -165,6 +167,8 @@ pub fn of_sqlite<V: Databases + Disks>(
     ensures takes { IfOk result (λ s. TakesAs Sqlite (⟦<Source<V> as Wrapper>⟧.meaning s)) }
     ensures file { is_memory path.now ≡ false → IfOk result (λ s. IsSomeAnd (database_in s)
         (ShowsAt V.Store.Store (V.Databases.stands rt.now) path.now)) }
+    ensures memory { is_memory path.now ≡ true → IfErr result (λ fault. fault ≡ OpenFault.NoMemory) }
+    ensures err { IfErr result (λ fault. fault ≡ OpenFault.CannotOpen → ToldNotOpened (V.Databases.refuses rt.now path.now)) }
 {
     sqlite_takes_its_tables();
     if path == ":memory:" {

@@ -7,6 +7,7 @@ use Rattle.sqlite.specs.Effect.{Database, IsDatabase}
 use Rattle.sqlite.specs.Files.{HoldsDatabase, AreFoundIn}
 use Rattle.sqlite.specs.Held.{Held, state}
 use Rattle.sqlite.specs.Start.{FindsIn}
+use Rattle.sqlite.specs.declared.error.Error.{Error}
 use Rattle.sqlite.specs.State.{State, HasCleanDisk}
 
 -- The database is that of a log and a database file of these bytes: what SQLite's recovery makes of the two, or an empty one where there
@@ -36,3 +37,11 @@ pub record IsFoundIn (image : Image) (db : Database) : Type 0 where
 -- the same of what stands at a path, where that is known
 abbrev pub IsFoundAt : Images → List ℕ → Database → Type 0
 IsFoundAt images path db = IfSome (images path) (λ image. IsFoundIn image db)
+
+-- errors that may be told in place of a database
+abbrev pub Errors : Type 1
+Errors = Error → Type 0
+
+-- each of these errors is one of those
+abbrev pub Follows : Errors → Errors → Type 0
+Follows these those = (e : Error) → these e → those e

@@ -32,6 +32,8 @@ pub struct SystemFiles {
 
 impl DatabaseFiles for SystemFiles {
     ghost image = { λ f. Some (image_of ⟦<File as Disk>⟧ f.pair) };
+
+    ghost refuses = { λ _ _. Unit {0} };
 }
 
 // Why files are not opened.
@@ -58,6 +60,8 @@ impl Databases for HostRuntime {
     type Store = FileStore<File>;
 
     ghost stands = { λ _ _. None };
+
+    ghost refuses = { λ _ _ _. Unit {0} };
 
     fn open_files(&self, path: &str) -> Result<SystemFiles, Error> {
         // (neither is the path of a file, as for SQLite)

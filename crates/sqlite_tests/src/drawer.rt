@@ -32,6 +32,8 @@ pub struct DrawerFiles {
 
 impl DatabaseFiles for DrawerFiles {
     ghost image = { λ f. Some (image_of ⟦<Memory as Disk>⟧ f.pair) };
+
+    ghost refuses = { λ _ _. Unit {0} };
 }
 
 impl Databases for Drawer {
@@ -40,6 +42,8 @@ impl Databases for Drawer {
     type Store = FileStore<Memory>;
 
     ghost stands = { λ _ _. Some no_bytes };
+
+    ghost refuses = { λ _ _ _. Unit {0} };
 
     fn open_files(&self, _path: &str) -> Result<DrawerFiles, Error> {
         let pair = Files {

@@ -11,6 +11,8 @@ returns c =
     record {
       trim = rw (f, e) at fr.trim ∙ c.new.ensures.trim;
       ready = inr (inr (rw (f, e) at fr.has_headers, fr.headers));
+      flexible = rw f at fr.flexible;
+      intact = fr.fresh;
       config = rw (f, e) at fr.config ∙ c.new.ensures.config;
       rest = strip_bom c.args.bytes.now;
       source = fr.source;

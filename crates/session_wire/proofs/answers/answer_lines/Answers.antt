@@ -30,13 +30,13 @@ returns-in_err-answer_line-in-Line-clause-err g c =
 
 pub loop-found-smaller : goal.loop-found-smaller
 loop-found-smaller g c =
-    let found = rw c.in-Line.is at c.in-Ok.ensures in
+    let found = rw c.in-Line.is at c.in-Ok.ensures.found in
     let one : line_count (lines_of c.loop-found.unread.items) ≡ suc (line_count (lines_of c.next_line.new.unread.items)) = ap line_count found.0 in
     omega arith
 
 pub loop-found-preserved : goal.loop-found-preserved
 loop-found-preserved g c =
-    let found = rw c.in-Line.is at c.in-Ok.ensures in
+    let found = rw c.in-Line.is at c.in-Ok.ensures.found in
     let kept = c.loop-found.invariant in
     let answered = c.in_ok-answer_line-in-Line.ensures.ok in
     record {
@@ -51,7 +51,7 @@ loop-found-preserved g c =
 
 pub returns-in-Nothing-clause-ok : goal.returns-in-Nothing-clause-ok
 returns-in-Nothing-clause-ok g c =
-    let found = rw c.in-Nothing.is at c.in-Ok.ensures in
+    let found = rw c.in-Nothing.is at c.in-Ok.ensures.found in
     let kept = c.loop-found.invariant in
     (kept.replies, kept.written, so_far_rest _ _ _ _ _ _ _ _ found.0 kept.so_far, kept.so_far.unread ∙ ap unread_after found.0 ∙ ap Some (sym found.1))
 
@@ -62,7 +62,7 @@ returns-in_err-write_closing-in-Closing-clause-err g c =
 
 pub returns-in-Closing-clause-ok : goal.returns-in-Closing-clause-ok
 returns-in-Closing-clause-ok g c =
-    let found = rw c.in-Closing.is at c.in-Ok.ensures in
+    let found = rw c.in-Closing.is at c.in-Ok.ensures.found in
     let kept = c.loop-found.invariant in (
       kept.replies ++ closing_replies,
       c.in_ok-write_closing-in-Closing.ensures.ok ∙ ap (λ l. l ++ closing_replies) kept.written ∙ append_assoc _ kept.replies closing_replies,

@@ -4,7 +4,7 @@ use Rattle.source_kinds.proofs.sources.of_sqlite.Goals as goal
 
 -- a database in memory
 pub returns-then-eq-clause-takes : goal.returns-then-eq-clause-takes
-returns-then-eq-clause-takes g c = IfOk-weaker c.of_memory.result _ _ (λ s new. new_takes c.sqlite_takes_its_tables.ensures new.1) c.of_memory.ensures
+returns-then-eq-clause-takes g c = IfOk-weaker c.of_memory.result _ _ (λ s new. new_takes c.sqlite_takes_its_tables.ensures new.1) c.of_memory.ensures.new
 
 -- a database in a file
 pub returns-else-eq-clause-takes : goal.returns-else-eq-clause-takes
