@@ -49,6 +49,10 @@ outputs_by s r = row_staged (senses [] s.conditions.items) (senses [] s.keys.ite
 abbrev pub faults_by : SelectCore → Tuple → List Fault
 faults_by s r = row_told_all (senses [] s.conditions.items) (senses [] s.keys.items) (senses [] s.items.items) r
 
+-- no order key and no item of a core has a fault, over whatever class
+abbrev pub HasNoFault : SelectCore → Type 0
+HasNoFault s = (class : List Tuple) → output_faults (senses [] s.keys.items) (senses [] s.items.items) class ≡ []
+
 abbrev pub groups_by : List ℕ → List OnClass → List OnClass → Option Groups
 groups_by columns arguments having = Some (record { keys = columns; arguments = arguments; having = having })
 

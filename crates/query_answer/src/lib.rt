@@ -3,6 +3,7 @@
 #![tactic(auto)]
 
 pub mod answers;
+mod behind;
 mod filtering;
 pub mod gathering;
 mod group_folds;
