@@ -1,10 +1,12 @@
 //! Whether a row stands behind an output, by its order keys alone.
-ghost use Rattle.std.specs.Prelude.{◌≡◌, ◌∷◌, [], IfSome, List, false, map, true};
+ghost use Rattle.std.specs.Prelude.{◌≡◌, ◌∷◌, [], IfSome, List, false, map, not, true};
+ghost use Rattle.std.specs.List.{list_all};
 ghost use Rattle.std.specs.Ordering.{is_lt};
 ghost use Rattle.med_value.specs.Datum.{datum, tuple, Tuple};
 ghost use Rattle.med_value.specs.Order.{key_cmp};
 ghost use Rattle.tri_expr.specs.Meaning.{meaning};
 ghost use Rattle.tri_expr.specs.Outcome.{over, value_of};
+ghost use Rattle.tri_expr.specs.TreeParts.{is_risky as spec_is_risky};
 ghost use Rattle.tri_expr.specs.Verdict.{fault_list};
 ghost use Rattle.med_query.specs.Form.{direction_of};
 ghost use Rattle.med_query.specs.Query.{keys_cmp, on_row, senses};
@@ -18,15 +20,22 @@ use std::cmp::Ordering;
 use tri_expr::law::safe_expression_has_value;
 use tri_expr::{Expr, eval, is_risky};
 
+// Whether none of these expressions is risky.
+fn is_none_risky(parts: &[Expr]) -> bool
+    ensures { result ≡ list_all (λ e. not (spec_is_risky e)) parts.now }
+{
+    match parts.split_first() {
+        None => true,
+        Some((part, later)) => !is_risky(part) && is_none_risky(later),
+    }
+}
+
 // Whether none of these expressions may have a fault.
 fn are_safe(parts: &[Expr]) -> bool
     ensures { (result ≡ true) → (class : List Tuple) → fault_list (over (senses [] parts.now) class) ≡ [] }
 {
     safe_expression_has_value();
-    match parts.split_first() {
-        None => true,
-        Some((part, later)) => !is_risky(part) && are_safe(later),
-    }
+    is_none_risky(parts)
 }
 
 /// Whether no order key and no item of a core may have a fault.

@@ -14,6 +14,7 @@ mod ordering;
 pub mod outputs;
 mod row_keys;
 mod running;
+mod staged;
 mod staging;
 mod values;
 mod waiting;

@@ -96,7 +96,7 @@ impl<'a> Waiting<'a> {
                 self.select.directions.as_slice(),
                 self.core.keys.as_slice(),
                 row,
-                self.held[self.front - 1].keys.cells.as_slice(),
+                self.held[self.front - 1].keys(),
             )),
             Ok(false) => Ok(true),
             Err(fault) => Err(fault),
