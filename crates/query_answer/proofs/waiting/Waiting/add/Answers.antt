@@ -1,4 +1,4 @@
-use Rattle.std.proofs.Common.{map, rules, subst, sym, ap}
+use Rattle.std.proofs.Common.{map, subst}
 use Rattle.med_value.specs.Datum.{tuple}
 use Rattle.query_answer.specs.Ordering.{StandsIn}
 use Rattle.query_answer.specs.Staging.{output_of, outputs_by}

@@ -1,4 +1,4 @@
-use Rattle.std.proofs.Common.{map, rules, arith, ◌∙◌}
+use Rattle.std.proofs.Common.{map, rules, ◌∙◌}
 use Rattle.std.proofs.lemmas.List.{length-map}
 use Rattle.query_answer.specs.Staging.{output_of}
 use Rattle.query_answer.proofs.Passing.{begins_all}
