@@ -1,5 +1,5 @@
 -- The values and the faults of expressions with parameters, one more at a time.
-use Rattle.std.proofs.Common.{◌≡◌, ◌<◌, ◌+◌, ℕ, zero, suc, List, [], ◌∷◌, ◌++◌, map, take, length, get_or, sym, refl, ap, ◌∙◌, arith, subst, Contains, Err}
+use Rattle.std.proofs.Common.{◌≡◌, ◌<◌, ◌+◌, ℕ, zero, suc, List, [], ◌∷◌, ◌++◌, map, take, length, get_or, sym, refl, ap, ◌∙◌, arith, subst, Contains, Err, append_assoc}
 use Rattle.std.proofs.lemmas.List.{map-append, map_more}
 use Rattle.std.proofs.lemmas.List.Elements.{Contains-append_left, Contains-append_right}
 use Rattle.med_value.specs.Datum.{Datum, Tuple, datum}
@@ -51,5 +51,8 @@ pub part_quiet : (ps : Tuple) (parts : List Expr) (class : List Tuple) (i : ℕ)
 part_quiet ps parts class i d lt e here inv =
     ap fault_list (outcomes_more ps parts class i d lt e) ∙ fault_list-append (over (senses ps (take i parts)) class) (meaning ps d class ∷ []) ∙ ap (λ (fs : List Fault). fs ++ fault_list (meaning ps d class ∷ [])) inv ∙ here
 
-pub part_value : (ps : Tuple) (parts : List Expr) (class : List Tuple) (old new : List Value) (v : Value) (i : ℕ) (d : Expr) → i < length parts → d ≡ get_or parts i d → meaning ps d class ≡ Is (datum v) → new ≡ old ++ v ∷ [] → map datum old ≡ map value_of (over (senses ps (take i parts)) class) → map datum new ≡ map value_of (over (senses ps (take (i + 1) parts)) class)
-part_value ps parts class old new v i d lt e is grown inv = rw (grown, outcomes_more ps parts class i d lt e, is) (map-append datum old (v ∷ []) ∙ ap (λ (vs : List Datum). vs ++ datum v ∷ []) inv ∙ sym (map-append value_of (over (senses ps (take i parts)) class) (Is (datum v) ∷ [])))
+pub part_value : (ps : Tuple) (parts : List Expr) (class : List Tuple) (front : List Datum) (old new : List Value) (v : Value) (i : ℕ) (d : Expr) → i < length parts → d ≡ get_or parts i d → meaning ps d class ≡ Is (datum v) → new ≡ old ++ v ∷ [] → map datum old ≡ front ++ map value_of (over (senses ps (take i parts)) class) → map datum new ≡ front ++ map value_of (over (senses ps (take (i + 1) parts)) class)
+part_value ps parts class front old new v i d lt e is grown inv =
+    let before = map value_of (over (senses ps (take i parts)) class) in
+    rw (grown, outcomes_more ps parts class i d lt e, is) (map-append datum old (v ∷ []) ∙ ap (λ (vs : List Datum). vs ++ datum v ∷ []) inv ∙ append_assoc front before (datum v ∷ [])
+    ∙ ap (λ (vs : List Datum). front ++ vs) (sym (map-append value_of (over (senses ps (take i parts)) class) (Is (datum v) ∷ []))))

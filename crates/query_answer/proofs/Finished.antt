@@ -6,12 +6,12 @@ use Rattle.std.proofs.lemmas.List.Elements.{All-append, All-cons}
 use Rattle.std.proofs.lemmas.Grind.{flat_map-append}
 use Rattle.std.proofs.lemmas.List.Sorted.{IsPermutation-trans, IsPermutation-map}
 use Rattle.std.specs.Ordering.{on}
-use Rattle.med_value.specs.Datum.{Tuple, tuple}
+use Rattle.med_value.specs.Datum.{Tuple}
 use Rattle.med_query.specs.Lists.{distinct}
 use Rattle.tri_expr.specs.declared.expr.Fault.{Fault}
 use Rattle.med_query.specs.Query.{Core, Tables, Output, output_eq, keys_cmp, limited, core_faults, core_outputs, outputs, outputs_all, IsAnswer}
 use Rattle.med_query.specs.declared.select.SortDirection.{SortDirection}
-use Rattle.query_answer.specs.declared.staging.Staged.{Staged}
+use Rattle.query_answer.specs.declared.staged.Staged.{Staged}
 use Rattle.query_answer.specs.declared.outputs.AnswerFault.{AnswerFault}
 use Rattle.query_answer.specs.declared.outputs.AnswerFault.TheVariants.{Evaluation, TooManyRows}
 use Rattle.med_query.specs.Causes.{IsTooLarge}
@@ -21,7 +21,7 @@ use Rattle.med_query.specs.declared.select.Select.{Select}
 use Rattle.med_query.specs.Form.{core_form, core_by, direction_of}
 use Rattle.med_query.specs.Select.{core_of, query_of}
 use Rattle.query_answer.specs.Giving.{Gives, AllGive}
-use Rattle.query_answer.specs.Staging.{output_of}
+use Rattle.query_answer.specs.Staging.{output_of, shown_by}
 use Rattle.query_answer.specs.Ordering.{staged_cmp, output_cmp, LeadsIn, StandsIn}
 use Rattle.query_answer.specs.Finishing.{Finishes, made_unique}
 use Rattle.med_query.proofs.Telling.{tells_more, contains_seen}
@@ -29,22 +29,22 @@ use Rattle.query_answer.proofs.Groups.{sorted_map}
 use Rattle.query_answer.proofs.Leading.{leads_all}
 use Rattle.query_answer.proofs.Standing.{stands_same, stands_both}
 
-shown_of : (xs : List Staged) → map (λ (o : Output). o.1) (map output_of xs) ≡ map (λ (s : Staged). tuple s.shown) xs
+shown_of : (xs : List Staged) → map (λ (o : Output). o.1) (map output_of xs) ≡ map shown_by xs
 shown_of [] = refl
-shown_of (x ∷ xs) = ap (λ (rs : List Tuple). tuple x.shown ∷ rs) (shown_of xs)
+shown_of (x ∷ xs) = ap (λ (rs : List Tuple). shown_by x ∷ rs) (shown_of xs)
 
 limited-map : {X Y : Type 0} (f : X → Y) (limit : Option ℕ) (xs : List X) → limited limit (map f xs) ≡ map f (limited limit xs)
 limited-map f None xs = refl
 limited-map f (Some n) xs = take-map f n xs
 
 pub finishes : (directions : List SortDirection) (offset : ℕ) (limit : Option ℕ) (before first : List Staged) (rows : List Tuple)
-    → LeadsIn (staged_cmp directions) offset limit before first → rows ≡ map (λ s. tuple s.shown) (limited limit (drop offset first))
+    → LeadsIn (staged_cmp directions) offset limit before first → rows ≡ map shown_by (limited limit (drop offset first))
     → Finishes (map direction_of directions) offset limit (map output_of before) rows
 finishes directions offset limit before first rows l r = record {
   ordered = map output_of l.ordered;
   same = IsPermutation-map output_of before l.ordered l.same;
   sorted = sorted_map output_of (on (λ o. o.0) (keys_cmp (map direction_of directions))) l.ordered l.sorted;
-  shown = r ∙ ap (map (λ s. tuple s.shown)) l.shown ∙ sym (limited-map (λ (x : Staged). tuple x.shown) limit (drop offset l.ordered)) ∙ ap (limited limit) (sym (drop-map (λ (x : Staged). tuple x.shown) offset l.ordered) ∙ ap (drop offset) (sym (shown_of l.ordered)));
+  shown = r ∙ ap (map shown_by) l.shown ∙ sym (limited-map shown_by limit (drop offset l.ordered)) ∙ ap (limited limit) (sym (drop-map shown_by offset l.ordered) ∙ ap (drop offset) (sym (shown_of l.ordered)));
 }
 
 unique_same : ((os us : List Output) → IsPermutation os us → IsPermutation (distinct output_eq os) (distinct output_eq us)) → (unique : Bool) (os us : List Output) → IsPermutation os us → IsPermutation (made_unique unique os) (made_unique unique us)

@@ -9,6 +9,8 @@ pub mod Ungrouped
 pub mod Grouped
 pub mod Leading
 pub mod Standing
+pub mod Passing
+pub mod Cells
 pub mod Folded
 pub mod KeptGroups
 pub mod StagedGroups

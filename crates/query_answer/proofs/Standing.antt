@@ -1,14 +1,14 @@
 -- Outputs that stand for more: the least of them, whatever comes behind.
-use Rattle.std.proofs.Common.{◌≡◌, ◌<◌, ◌≤◌, ◌+◌, ℕ, zero, suc, Bool, true, false, List, [], ◌∷◌, ◌++◌, map, take, drop, length, get_or, All, refl, sym, ap, ◌∙◌, arith, Option, Some, subst, IsPermutation, append_assoc, drop_of_length-le}
+use Rattle.std.proofs.Common.{◌≡◌, ◌<◌, ◌≤◌, ◌+◌, ◌-◌, ℕ, zero, suc, Bool, true, false, List, [], ◌∷◌, ◌++◌, map, take, drop, length, get_or, All, refl, sym, ap, ◌∙◌, arith, Option, Some, subst, IsPermutation, append_assoc, drop_of_length-le}
 use Rattle.std.specs.List.{sum_by}
 use Rattle.std.specs.List.Sorted.{IsSortedBy}
 use Rattle.std.specs.Cmp.{IsStrictWeakOrder}
 use Rattle.std.specs.Ordering.{is_lt}
 use Rattle.std.specs.declared.cmp.Ordering.{Ordering}
 use Rattle.std.proofs.lemmas.List.{length-append, length-take, append-nil, length-map, map-append, take_all, take-append-drop, get_or_append_left, get_or-append-add, get_or_default}
-use Rattle.std.proofs.lemmas.List.Elements.{All-head, All-tail, All-nil, All-weaker, All-map, All-append}
+use Rattle.std.proofs.lemmas.List.Elements.{All-head, All-tail, All-nil, All-weaker, All-map, All-append, All-cons}
 use Rattle.std.proofs.lemmas.List.Sums.{sum_by-cons, sum_by-append}
-use Rattle.std.proofs.lemmas.List.Sorted.{IsPermutation-sym, IsPermutation-trans, IsPermutation-append_left, IsPermutation-append_comm, IsPermutation-map, length_permutation, sum_by-IsPermutation, sorted_far}
+use Rattle.std.proofs.lemmas.List.Sorted.{IsPermutation-refl, IsPermutation-sym, IsPermutation-trans, IsPermutation-append_left, IsPermutation-append_right, IsPermutation-append_comm, IsPermutation-map, length_permutation, sum_by-IsPermutation, sorted_far}
 use Rattle.itertools.specs.Extremes.{IsKLeast}
 use Rattle.query_answer.specs.Ordering.{LeadsIn, StandsFor}
 use Rattle.query_answer.proofs.Groups.{sorted_map}
@@ -202,6 +202,49 @@ pub stands_least : {X : Type 0} (cmp : X → X → Ordering) → IsStrictWeakOrd
     → (most : ℕ) × (limit ≡ Some most) × (wanted ≡ offset + most) → IsKLeast (λ a b. is_lt (cmp a b)) wanted xs ys → StandsFor cmp offset limit xs ys
 stands_least cmp o offset limit wanted xs ys (most, is, w) least = subst (λ l. StandsFor cmp offset l xs ys) (sym is)
     (λ more first l. stands_least_in cmp o offset most wanted xs ys more first w least l)
+
+-- ---- what stands behind the first elements
+
+module _ {X : Type 0} (cmp : X → X → Ordering) (o : IsStrictWeakOrder (λ a b. is_lt (cmp a b))) where
+  abbrev lt : X → X → Bool
+  lt a b = is_lt (cmp a b)
+
+  behind_at : (x : X) (first : List X) (i : ℕ) (d : X) → IsSortedBy lt first → lt x (get_or first (length first - 1) d) ≡ false → i < length first → lt x (get_or first i d) ≡ false
+  behind_at x first i d up last low =
+      o.chain x (get_or first (length first - 1) d) (get_or first i d) last (sorted_far lt o first up i (length first - 1) d (omega arith) (omega arith))
+
+  -- an element that does not come before the last of them
+  behind_first : (x d : X) (first : List X) → IsSortedBy lt first → lt x (get_or first (length first - 1) d) ≡ false → All (λ r. lt x r ≡ false) first
+  behind_first x d first up last i e low =
+      behind_at x first i e up (subst (λ y. lt x y ≡ false) (get_or_default first (length first - 1) d e (omega arith)) last) low
+
+  to_end : (first rest : List X) (x : X) → IsPermutation ((first ++ rest) ++ x ∷ []) ((first ++ x ∷ []) ++ rest)
+  to_end first rest x =
+      subst (λ z. IsPermutation z ((first ++ x ∷ []) ++ rest)) (sym (append_assoc first rest (x ∷ [])))
+      (subst (λ z. IsPermutation (first ++ (rest ++ x ∷ [])) z) (sym (append_assoc first (x ∷ []) rest))
+      (IsPermutation-append_right first (rest ++ x ∷ []) (x ∷ [] ++ rest) (IsPermutation-append_comm rest (x ∷ []))))
+
+  stands_over : (offset : ℕ) (limit : Option ℕ) (wanted : ℕ) (first rest : List X) (x : X) → (most : ℕ) × (limit ≡ Some most) × (wanted ≡ offset + most) → length first ≡ wanted → IsSortedBy lt first
+      → All (λ r. lt x r ≡ false) first → StandsFor cmp offset limit ((first ++ rest) ++ x ∷ []) (first ++ rest)
+  stands_over offset limit wanted first rest x w full up behind =
+      let least : IsKLeast lt wanted (first ++ x ∷ []) first =
+      (up, omega (arith, full), x ∷ [], IsPermutation-refl (first ++ x ∷ []), (λ h. absurd (omega (arith, h, full))), All-cons (λ z. All (λ r. lt z r ≡ false) first) x [] behind (All-nil (λ z. All (λ r. lt z r ≡ false) first))) in
+      stands_then cmp offset limit ((first ++ rest) ++ x ∷ []) ((first ++ x ∷ []) ++ rest) (first ++ rest)
+      (stands_same cmp offset limit ((first ++ rest) ++ x ∷ []) ((first ++ x ∷ []) ++ rest) (to_end first rest x))
+      (stands_more cmp offset limit (first ++ x ∷ []) first rest (stands_least cmp o offset limit wanted (first ++ x ∷ []) first w least))
+
+  -- an element behind as many as are wanted of those that are held can be passed over
+  pub stands_without : (offset : ℕ) (limit : Option ℕ) (front : ℕ) (held : List X) (x d : X) → (most : ℕ) × (limit ≡ Some most) × (front ≡ offset + most) → 0 < front → front ≤ length held
+      → IsSortedBy lt (take front held) → lt x (get_or held (front - 1) d) ≡ false → StandsFor cmp offset limit (held ++ x ∷ []) held
+  stands_without offset limit front held x d w some many up last =
+      let first = take front held in
+      let full : length first ≡ front = length-take front held ∙ omega (arith, many) in
+      let whole : first ++ drop front held ≡ held = take-append-drop front held in
+      let long : front - 1 < length first = omega (arith, full, some) in
+      let same : get_or held (front - 1) d ≡ get_or first (length first - 1) d =
+      ap (λ l. get_or l (front - 1) d) (sym whole) ∙ get_or_append_left first (drop front held) d (front - 1) long ∙ ap (λ n. get_or first n d) (omega (arith, full)) in
+      let behind = behind_first x d first up (subst (λ y. lt x y ≡ false) same last) in
+      subst (λ l. StandsFor cmp offset limit (l ++ x ∷ []) l) whole (stands_over offset limit front first (drop front held) x w full up behind)
 
 -- ---- by what elements show
 

@@ -8,7 +8,7 @@ use Rattle.med_query.specs.declared.select.Select.{Select}
 use Rattle.med_query.specs.declared.select.SelectCore.{SelectCore}
 use Rattle.query_answer.specs.declared.gathering.Gathering.{Gathering}
 use Rattle.query_answer.specs.declared.outputs.AnswerFault.{AnswerFault}
-use Rattle.query_answer.specs.declared.staging.Staged.{Staged}
+use Rattle.query_answer.specs.declared.staged.Staged.{Staged}
 use Rattle.query_answer.specs.Answering.{AreSmall, IsCoreFault, IsShownIn, IsSmall}
 use Rattle.query_answer.specs.Gathering.{AreGathered, Gathers}
 use Rattle.query_answer.specs.Giving.{AllGive, Gives}

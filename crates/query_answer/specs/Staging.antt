@@ -1,8 +1,8 @@
 -- What a class is sorted by and what it shows, where conditions keep it.
-use Rattle.std.specs.Prelude.{◌≡◌, IsPermutation, ℕ, false, if◌then◌else◌, List, [], ◌∷◌, ◌++◌, map, Option, Some, None, Vec}
-use Rattle.med_value.specs.Datum.{Tuple, tuple}
+use Rattle.std.specs.Prelude.{◌≡◌, IsPermutation, ℕ, false, if◌then◌else◌, List, [], ◌∷◌, ◌++◌, map, take, drop, Option, Some, None, Vec}
+use Rattle.med_value.specs.Datum.{Tuple, datum, tuple}
 use Rattle.med_value.specs.declared.value.Row.{Row}
-use Rattle.query_answer.specs.declared.staging.Staged.{Staged}
+use Rattle.query_answer.specs.declared.staged.Staged.{Staged}
 use Rattle.tri_expr.specs.declared.expr.Fault.{Fault}
 use Rattle.tri_expr.specs.Outcome.{over, value_of}
 use Rattle.tri_expr.specs.Meaning.{OnClass}
@@ -11,8 +11,15 @@ use Rattle.tri_expr.specs.declared.expr.Expr.{Expr}
 use Rattle.med_query.specs.declared.select.SelectCore.{SelectCore}
 use Rattle.med_query.specs.Query.{Output, Core, Chain, Tables, Grouping as Groups, core_faults, outputs_all, keeps, on_row, senses, output_faults}
 
+-- what an output shows, and what it is sorted by
+abbrev pub shown_by : Staged → Tuple
+shown_by s = take s.width (map datum s.cells.items)
+
+abbrev pub sorted_by : Staged → Tuple
+sorted_by s = drop s.width (map datum s.cells.items)
+
 abbrev pub output_of : Staged → Output
-output_of s = (tuple s.keys, tuple s.shown)
+output_of s = (sorted_by s, shown_by s)
 
 -- an output or none, as a list of outputs
 abbrev pub outputs_in : Option Staged → List Output
@@ -48,6 +55,10 @@ outputs_by s r = row_staged (senses [] s.conditions.items) (senses [] s.keys.ite
 
 abbrev pub faults_by : SelectCore → Tuple → List Fault
 faults_by s r = row_told_all (senses [] s.conditions.items) (senses [] s.keys.items) (senses [] s.items.items) r
+
+-- no order key and no item of a core has a fault, over whatever class
+abbrev pub HasNoFault : SelectCore → Type 0
+HasNoFault s = (class : List Tuple) → output_faults (senses [] s.keys.items) (senses [] s.items.items) class ≡ []
 
 abbrev pub groups_by : List ℕ → List OnClass → List OnClass → Option Groups
 groups_by columns arguments having = Some (record { keys = columns; arguments = arguments; having = having })

@@ -3,6 +3,7 @@
 #![tactic(auto)]
 
 pub mod answers;
+mod behind;
 mod filtering;
 pub mod gathering;
 mod group_folds;
@@ -13,6 +14,7 @@ mod ordering;
 pub mod outputs;
 mod row_keys;
 mod running;
+mod staged;
 mod staging;
 mod values;
 mod waiting;

@@ -1,7 +1,7 @@
 //! What is kept of the leaves of a class while its rows come and go.
 ghost use Rattle.std.specs.Prelude.{◌≡◌, ◌≤◌, ◌*◌, ◌^◌, ◌==◌, ℕ, suc, if◌then◌else◌};
 ghost use Rattle.std.specs.Prelude.{◌++◌, ◌∷◌, [], IfOk, List, map, length, All};
-ghost use Rattle.med_value.specs.Datum.{datum, tuple, Datum, NoValue, Whole, Tuple};
+ghost use Rattle.med_value.specs.Datum.{cell, datum, tuple, Datum, NoValue, Whole, Tuple};
 ghost use Rattle.tri_expr.specs.Aggregate.{whole_of};
 ghost use Rattle.tri_expr.specs.Meaning.{meaning, shared};
 ghost use Rattle.tri_expr.specs.Outcome.{value_of};
@@ -53,7 +53,7 @@ fn fresh(leaf: &Leaf) -> Running
 pub(crate) fn all_fresh(alloc: Global, leaves: &[Leaf]) -> Result<Vec<Running>, NoMemory>
     ensures { IfOk result (λ all. AllRun leaves.now [] all.items) }
 {
-    let mut all = Vec::new(alloc);
+    let mut all = Vec::with_capacity(alloc, leaves.len())?;
     for leaf in leaves {
         all.push(fresh(leaf))?;
     }
@@ -109,19 +109,45 @@ fn whole(value: &Value) -> i128
     }
 }
 
-// One more value of an aggregate; NULL is skipped.
-fn add_value(function: SetFunction, value: Value, tally: &mut Tally)
+// One more value of an aggregate; NULL is skipped. Refused only for want of memory.
+fn add_value(
+    alloc: Global,
+    function: SetFunction,
+    value: &Value,
+    tally: &mut Tally,
+) -> Result<(), NoMemory>
     requires few { suc tally.old.count ≤ 2 ^ 62 }
     requires small { magnitude tally.old.total ≤ tally.old.count * 2 ^ 63 }
-    ensures { (vs : List Datum) → TalliesSoFar function vs tally.old → TalliesSoFar function (vs ++ datum value ∷ []) tally.new }
+    ensures { IfOk result (λ _. (vs : List Datum) → TalliesSoFar function vs tally.old
+        → TalliesSoFar function (vs ++ datum value.now ∷ []) tally.new) }
 {
-    if is_missing(&value) {
-        return;
+    if is_missing(value) {
+        return Ok(());
     }
     tally.count += 1;
-    tally.total += whole(&value);
-    if is_better(function, &value, &tally.best) {
-        tally.best = value;
+    tally.total += whole(value);
+    if is_better(function, value, &tally.best) {
+        tally.best = value.copy(alloc)?;
+    }
+    Ok(())
+}
+
+// One more row of an aggregate of a column, which is read where it stands; NULL past the end.
+fn tally_cell(
+    alloc: Global,
+    function: SetFunction,
+    at: usize,
+    row: &Row,
+    tally: &mut Tally,
+) -> Result<(), NoMemory>
+    requires few { suc tally.old.count ≤ 2 ^ 62 }
+    requires small { magnitude tally.old.total ≤ tally.old.count * 2 ^ 63 }
+    ensures { IfOk result (λ _. (vs : List Datum) → TalliesSoFar function vs tally.old
+        → TalliesSoFar function (vs ++ cell (tuple row.now) at ∷ []) tally.new) }
+{
+    match row.cells.get(at) {
+        Some(value) => add_value(alloc, function, value, tally),
+        None => add_value(alloc, function, &Value::Null, tally),
     }
 }
 
@@ -149,9 +175,12 @@ fn tally_row(
     ensures { IfOk result (λ _. (vs : List Datum) → TalliesIn function vs running.old
         → TalliesIn function (vs ++ value_of (meaning [] argument.now (tuple row.now ∷ [])) ∷ []) running.new) }
 {
-    let value = argument_value(alloc, argument, row)?;
     if let Running::Tallied(so_far) = running {
-        add_value(function, value, so_far);
+        if let Expr::Column(at) = argument {
+            return tally_cell(alloc, function, *at, row, so_far);
+        }
+        let value = argument_value(alloc, argument, row)?;
+        return add_value(alloc, function, &value, so_far);
     }
     Ok(())
 }

@@ -5,19 +5,13 @@ ghost use Rattle.med_query.specs.Query.{TellsFault, senses, output_faults};
 ghost use Rattle.query_answer.specs.Staging.{output_of, outputs_in, class_output};
 ghost use Rattle.query_answer.specs.Staging.{class_staged, class_told, faults_by, outputs_by};
 
-use crate::values::values_over;
+pub(crate) use crate::staged::Staged;
+use crate::values::push_values;
 use med_query::SelectCore;
 use med_value::{Row, Value};
 use std::alloc::Global;
 use std::slice;
 use tri_expr::{EvalFault, Expr, verdict_class};
-
-/// A row that waits for its place: what it is sorted by, and what it shows.
-#[derive(Debug, Drop)]
-pub(crate) struct Staged {
-    pub keys: Row,
-    pub shown: Row,
-}
 
 // What a class is sorted by, and what it shows, with these parameters.
 fn staged_output(
@@ -34,15 +28,19 @@ fn staged_output(
     ensures told { TellsFault result (output_faults (senses (map datum params.now) keys.now)
         (senses (map datum params.now) items.now) (map tuple class.now)) }
 {
-    let keys = match values_over(alloc, keys, class, params) {
-        Ok(keys) => keys,
+    let Ok(mut cells) = Vec::with_capacity(alloc, items.len() + keys.len()) else {
+        return Err(EvalFault::NoMemory);
+    };
+    match push_values(alloc, items, class, params, &mut cells) {
+        Ok(()) => {}
         Err(fault) => return Err(fault),
-    };
-    let shown = match values_over(alloc, items, class, params) {
-        Ok(shown) => shown,
+    }
+    let width = cells.len();
+    match push_values(alloc, keys, class, params, &mut cells) {
+        Ok(()) => {}
         Err(bad) => return Err(bad),
-    };
-    Ok(Staged { keys, shown })
+    }
+    Ok(Staged::new(cells, width))
 }
 
 /// What a class is sorted by and what it shows, where the conditions keep it, with these parameters.

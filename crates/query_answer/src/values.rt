@@ -1,36 +1,74 @@
 //! The values of expressions over a class of rows.
 ghost use Rattle.std.specs.Prelude.{◌≡◌, ◌∷◌, ◌++◌, [], IfOk, map};
 ghost use Rattle.med_value.specs.Datum.{datum, tuple};
-ghost use Rattle.tri_expr.specs.Outcome.{over, value_of};
+ghost use Rattle.tri_expr.specs.Meaning.{meaning};
+ghost use Rattle.tri_expr.specs.Outcome.{Is, over, value_of};
 ghost use Rattle.tri_expr.specs.Verdict.{fault_list};
 ghost use Rattle.med_query.specs.Query.{TellsFault, senses};
 
+use crate::row_keys::cell_copy;
 use med_value::{Row, Value};
 use std::alloc::Global;
 use tri_expr::{EvalFault, Expr, eval_class};
 
-/// The values of expressions over a class of rows with these parameters, in their order; the first fault is told.
-pub(crate) fn values_over(
+// The value of an expression over a class of rows with these parameters.
+fn class_value(
+    alloc: Global,
+    part: &Expr,
+    class: &[Row],
+    params: &[Value],
+) -> Result<Value, EvalFault>
+    ensures value { IfOk result (λ v. meaning (map datum params.now) part.now (map tuple class.now) ≡ Is (datum v)) }
+    ensures told { TellsFault result (fault_list (meaning (map datum params.now) part.now (map tuple class.now) ∷ [])) }
+{
+    match eval_class(alloc, part, class, params) {
+        Ok(value) => Ok(value),
+        Err(fault) => Err(fault),
+    }
+}
+
+// The same. A column of one row is read where it stands.
+fn value_over(
+    alloc: Global,
+    part: &Expr,
+    class: &[Row],
+    params: &[Value],
+) -> Result<Value, EvalFault>
+    ensures value { IfOk result (λ v. meaning (map datum params.now) part.now (map tuple class.now) ≡ Is (datum v)) }
+    ensures told { TellsFault result (fault_list (meaning (map datum params.now) part.now (map tuple class.now) ∷ [])) }
+{
+    match (part, class.split_first()) {
+        (Expr::Column(at), Some((row, rest))) if rest.is_empty() => {
+            match cell_copy(alloc, *at, row) {
+                Ok(value) => Ok(value),
+                Err(_) => Err(EvalFault::NoMemory),
+            }
+        }
+        _ => class_value(alloc, part, class, params),
+    }
+}
+
+/// Appends the values of expressions over a class of rows with these parameters, in their order; the first fault is told.
+pub(crate) fn push_values(
     alloc: Global,
     parts: &[Expr],
     class: &[Row],
     params: &[Value],
-) -> Result<Row, EvalFault>
-    ensures values { IfOk result (λ r. tuple r ≡ map value_of (over (senses (map datum params.now) parts.now) (map tuple class.now))) }
+    cells: &mut Vec<Value>,
+) -> Result<(), EvalFault>
+    ensures values { IfOk result (λ _. map datum cells.new.items ≡ map datum cells.old.items
+        ++ map value_of (over (senses (map datum params.now) parts.now) (map tuple class.now))) }
     ensures no_fault { IfOk result (λ _. fault_list (over (senses (map datum params.now) parts.now) (map tuple class.now)) ≡ []) }
     ensures told { TellsFault result (fault_list (over (senses (map datum params.now) parts.now) (map tuple class.now))) }
 {
-    let Ok(mut cells) = Vec::with_capacity(alloc, parts.len()) else {
-        return Err(EvalFault::NoMemory);
-    };
     for part in parts {
-        let v = match eval_class(alloc, part, class, params) {
+        let v = match value_over(alloc, part, class, params) {
             Ok(v) => v,
             Err(fault) => return Err(fault),
         };
-        push_value(v, &mut cells)?;
+        push_value(v, cells)?;
     }
-    Ok(Row { cells })
+    Ok(())
 }
 
 // Appends a value. Refused only for want of memory.

@@ -5,7 +5,7 @@ use Rattle.std.proofs.lemmas.Iterator.Adapters.{YieldsList-from_vec}
 use Rattle.indexmap.specs.IndexSet.{insert_key}
 use Rattle.med_query.specs.Query.{output_eq}
 use Rattle.med_query.proofs.Telling.{if_ok_then}
-use Rattle.query_answer.specs.declared.staging.Staged.{Staged}
+use Rattle.query_answer.specs.declared.staged.Staged.{Staged}
 use Rattle.query_answer.specs.Keys.{keys_after}
 use Rattle.query_answer.specs.Staging.{output_of}
 use Rattle.query_answer.proofs.Groups.{outputs_once}
