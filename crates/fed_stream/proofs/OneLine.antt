@@ -35,7 +35,9 @@ get_within (z ∷ zs) (suc k) x is = let h : k < length zs = get_within zs k x i
 
 ends_it : (b : Bool) (m len n k : ℕ) → nat_lt m len ≡ b → MatchOption (cond b (Some m) None) (n ≡ len) (λ place. n ≡ place + 1) → m ≤ k → k < n → n ≡ suc k
 ends_it true m len n k e h le lt = omega (arith, h, le, lt)
-ends_it false m len n k e h le lt = absurd (omega (arith, e, h, le, lt))
+ends_it false m len n k e h le lt =
+    let past : len ≤ m = grind (arith, e) in
+    absurd (omega (arith, past, h, le, lt))
 
 pub one_line : (rest part others : List ℕ) (n : ℕ) → rest ≡ part ++ others → length part ≡ n → MatchOption (position feeds rest) (n ≡ length rest) (λ place. n ≡ place + 1) → IsOneLine part
 one_line rest part others n parts long h k is =
