@@ -54,7 +54,7 @@ impl Tally {
 
     // Whether much of each came.
     fn is_full(self) -> bool {
-        self.leased > 150 && self.fetched > 250 && self.live > 5_000
+        self.leased > 150 && self.fetched > 100 && self.live > 5_000
     }
 }
 
