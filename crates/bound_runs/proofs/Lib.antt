@@ -5,3 +5,4 @@ mod Planning
 mod Words
 mod Beginning
 mod Plain
+mod Bare

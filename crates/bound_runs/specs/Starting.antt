@@ -1,11 +1,11 @@
 -- The start of a bound query's run.
 use Rattle.std.specs.Prelude.{◌≡◌, ◌<◌, ◌⊎◌, false, List, [], ◌∷◌, length, Option}
 use Rattle.med_query.specs.Form.{form_of, is_risky_form}
-use Rattle.med_planner.specs.Plain.{IsPlainForm}
+use Rattle.med_planner.specs.Plain.{IsPlainForm, IsBareForm}
 use Rattle.med_binder.specs.declared.bound.BoundQuery.{BoundQuery}
 use Rattle.fdw_api.specs.State.{BoxState}
 use Rattle.med_exec.specs.declared.running.Run.{Run}
-use Rattle.med_exec.specs.Pulling.{levels_in, skip_in, limit_in, PullsNone}
+use Rattle.med_exec.specs.Pulling.{levels_in, skip_in, limit_in, PullsNone, GivesAsTheyCome}
 use Rattle.loop_runs.specs.Gathering.{levels_in as plan_levels}
 use Rattle.loop_runs.specs.Running.{IsShown}
 use Rattle.loop_runs.specs.declared.running.LoopPlan.{LoopPlan}
@@ -38,3 +38,7 @@ HoldsFor bound old run new = HoldsScans bound old run new ⊎ HoldsAnswer bound 
 abbrev pub AsksNone : BoundQuery → (old new : List (Option BoxState)) → Type 0
 AsksNone bound old new =
     IsPlainForm (form_of bound.select) → is_risky_form (form_of bound.select) ≡ false → 0 < length bound.entries.items → PullsNone old new
+
+-- A query of all rows of one table, of which no part may fault, shows each row as it comes.
+abbrev pub ShowsAll : BoundQuery → Run → Type 0
+ShowsAll bound run = IsBareForm (form_of bound.select) → is_risky_form (form_of bound.select) ≡ false → GivesAsTheyCome run

@@ -36,6 +36,10 @@ limit_in run = limit_left run.rest
 abbrev pub slot_in : Run → ℕ
 slot_in run = source_at (levels_in run) 0
 
+-- it shows each row of one table as it comes, from the first on
+abbrev pub GivesAsTheyCome : Run → Type 0
+GivesAsTheyCome run = IsBareRun (levels_in run) × (skip_in run ≡ 0)
+
 -- A run gave a row, or none: the levels are the same. One that holds its answer asks the boxes for no row. One over one table of whose rows
 -- nothing is checked again asks for no more than OFFSET passes and one, and for none where LIMIT leaves none.
 pub record PullsNext (run : Run) (old : List (Option BoxState)) (after : Run) (new : List (Option BoxState)) : Type 0 where

@@ -4,7 +4,7 @@ use Rattle.med_value.specs.Datum.{Tuple}
 use Rattle.med_syntax.specs.Tree.{Name}
 use Rattle.med_syntax.specs.QueryTree.{SelectTree}
 use Rattle.med_query.specs.Form.{Form, form_of, is_risky_form}
-use Rattle.med_planner.specs.Plain.{IsPlainForm}
+use Rattle.med_planner.specs.Plain.{IsPlainForm, IsBareForm}
 use Rattle.med_query.specs.Laws.{IsSteady}
 use Rattle.med_query.specs.Query.{Query}
 use Rattle.med_query.specs.Select.{query_of as written_query}
@@ -24,7 +24,7 @@ use Rattle.bind_catalog.specs.Places.{Attached}
 use Rattle.med_world.specs.Altering.{cause_of}
 use Rattle.open_cursors.specs.Counted.{ReadsTables}
 use Rattle.open_cursors.specs.Starting.{HoldsOf, RestsOver, Starts, RunFails, no_memory, box_fails, numbers_out, shows_cause, StartFails, run_fails}
-use Rattle.bound_runs.specs.Starting.{AsksNone}
+use Rattle.bound_runs.specs.Starting.{AsksNone, ShowsAll}
 use Rattle.med_select.proofs.Selections.{ExpressionsIgnoreOrder, AnswersInAnyOrder, CausesInAnyOrder, IsBoundBy, steady, same_back, query_bound, entries_counted}
 
 -- what the run may give are answers in whatever order the rows of the entries come
@@ -55,9 +55,9 @@ safe_meant : (o : Objects) (user : Name) (bound : List Attached) (q : SelectTree
 safe_meant o user bound q b is safe = sym (ap is_risky_form is.meant.form) ∙ safe
 
 pub starts : ExpressionsIgnoreOrder → AnswersInAnyOrder → CausesInAnyOrder → (o : Objects) (user : Name) (bound : List Attached) (q : SelectTree) (full : Bool) (b : BoundQuery) (run : Run) (old new : List (Option BoxState))
-    → IsBoundBy o user bound q b → MayBegin full b → ServesRun none_held (held run) old new → IsRunning run new → HoldsOf (map entry_place b.entries.items) run new → ReadsTables (map entry_place b.entries.items) old new → AsksNone b old new → Begun (written_query b.select) (map entry_place b.entries.items) (Rests run new) old
+    → IsBoundBy o user bound q b → MayBegin full b → ServesRun none_held (held run) old new → IsRunning run new → HoldsOf (map entry_place b.entries.items) run new → ReadsTables (map entry_place b.entries.items) old new → AsksNone b old new → ShowsAll b run → Begun (written_query b.select) (map entry_place b.entries.items) (Rests run new) old
     → Starts o user bound q full old (map string_bytes b.names.items) run new
-starts order any causes o user bound q full b run old new is may served running holds once asks begun =
+starts order any causes o user bound q full b run old new is may served running holds once asks shows begun =
     let m = meant_by o q in
     let places = map entry_place b.entries.items in
     record {
@@ -73,6 +73,7 @@ starts order any causes o user bound q full b run old new is may served running 
       holds = holds;
       reads = once;
       plain = λ plain some. asks (subst (λ (f : Form). IsPlainForm f) (sym is.meant.form) plain) may.safe (subst (λ (n : ℕ). 0 < n) (entries_counted m b is.meant) some);
+      bare = λ bare. shows (subst (λ (f : Form). IsBareForm f) (sym is.meant.form) bare) may.safe;
       rests = subst (λ (x : Query). RestsOver x places old (Rests run new)) (query_bound m b is.meant) (rests_over any causes (written_query b.select) (steady order b.select) places old (Rests run new) begun);
     }
 

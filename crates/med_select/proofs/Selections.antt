@@ -33,6 +33,7 @@ use Rattle.med_world.specs.Altering.{cause_of}
 use Rattle.med_world.specs.Selecting.{AnswersOver, Selects, SelectFails, run_fails, too_many}
 use Rattle.open_cursors.specs.Counted.{ReadsTables}
 use Rattle.open_cursors.specs.Starting.{RunFails, no_memory, box_fails, numbers_out, shows_cause}
+use Rattle.bound_runs.specs.Pulling.{PullsRows}
 use Rattle.bound_runs.specs.Running.{RunAnswers}
 
 -- ---- what was bound
@@ -96,8 +97,8 @@ pub record IsBoundBy (o : Objects) (user : Name) (bound : List Attached) (q : Se
   pub places : ArePlaces bound (meant_by o q).entries (map entry_place b.entries.items)
 
 pub selected : ExpressionsIgnoreOrder → AnswersInAnyOrder → CausesInAnyOrder → (o : Objects) (user : Name) (bound : List Attached) (q : SelectTree) (b : BoundQuery) (rows : List Tuple) (old new : List (Option BoxState))
-    → IsBoundBy o user bound q b → length b.entries.items ≤ 8 → AllServed old new → ReadsTables (map entry_place b.entries.items) old new → RunAnswers (written_query b.select) (map entry_place b.entries.items) old rows → Selects o user bound q old (map string_bytes b.names.items) rows new
-selected order any causes o user bound q b rows old new is few served once run =
+    → IsBoundBy o user bound q b → length b.entries.items ≤ 8 → AllServed old new → ReadsTables (map entry_place b.entries.items) old new → PullsRows b old new → RunAnswers (written_query b.select) (map entry_place b.entries.items) old rows → Selects o user bound q old (map string_bytes b.names.items) rows new
+selected order any causes o user bound q b rows old new is few served once pulls run =
     let m = meant_by o q in
     let places = map entry_place b.entries.items in
     record {
@@ -108,6 +109,7 @@ selected order any causes o user bound q b rows old new is few served once run =
       places = places;
       are = is.places;
       reads = once;
+      pulls = record { bound = b; form = is.meant.form; at = refl; rows = pulls };
       answers = subst (λ (x : Query). AnswersOver x places old rows) (query_bound m b is.meant) (answers_over any causes (written_query b.select) (steady order b.select) places old rows run);
     }
 

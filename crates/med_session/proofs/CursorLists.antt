@@ -174,17 +174,6 @@ gone_there name cursors k at now apart lt is there =
 
 -- ---- among cursors of which one goes on with another run
 
-pub named_runs : (name : Name) (r : Run) (cs : List Opened) (at : Opened) → opened_named name cs ≡ Some at → opened_named name (with_run name r cs) ≡ Some (record at { run = r })
-named_runs name r [] at e = absurd cc
-named_runs name r (c ∷ cs) at e = go (named_runs name r cs at) (has_name name c) refl e
-  where
-    go : (opened_named name cs ≡ Some at → opened_named name (with_run name r cs) ≡ Some (record at { run = r })) → (b : Bool) → has_name name c ≡ b → cond b (Some c) (opened_named name cs) ≡ Some at
-        → opened_named name (cond b (record c { run = r }) c ∷ with_run name r cs) ≡ Some (record at { run = r })
-    go rest true has is =
-        let same : c ≡ at = cc in
-        ap (λ b. cond b (Some (record c { run = r })) (opened_named name (with_run name r cs))) has ∙ ap (λ (x : Opened). Some (record x { run = r })) same
-    go rest false has is = ap (λ b. cond b (Some c) (opened_named name (with_run name r cs))) has ∙ rest is
-
 pub without_runs : (name : Name) (r : Run) (cs : List Opened) → without_named name (with_run name r cs) ≡ without_named name cs
 without_runs name r [] = refl
 without_runs name r (c ∷ cs) = go (without_runs name r cs) (has_name name c) refl

@@ -15,11 +15,11 @@ use Rattle.med_catalog.specs.Objects.{Objects}
 use Rattle.bind_catalog.specs.Places.{Attached}
 use Rattle.open_cursors.specs.Open.{Opened, Seated, is_full, opened_named, without_named, with_run}
 use Rattle.open_cursors.specs.Starting.{Starts, StartFails}
-use Rattle.open_cursors.specs.Fetching.{GivesRows, GivesNone, PullsFetched, cause_of}
+use Rattle.open_cursors.specs.Fetching.{GivesRows, GivesNone, HasRisen, PullsFetched, cause_of}
 use Rattle.sql_meaning.specs.Requests.{AskedLine}
 use Rattle.sql_meaning.specs.Replies.{refused}
 use Rattle.med_world.specs.Seats.{seat_of}
-use Rattle.med_world.specs.Turning.{new_opened, with_cursors, Ends}
+use Rattle.med_world.specs.Turning.{new_opened, with_cursors, having_asked, Ends}
 use Rattle.med_world.specs.Engine.{Shown, Leads}
 use Rattle.session_replies.specs.declared.replies.Outcome.{Outcome}
 use Rattle.session_replies.specs.declared.replies.Outcome.TheVariants as outcome
@@ -49,16 +49,17 @@ pub data OpensNone (o : Objects) (bound : List Attached) (name : Name) (q : Sele
   not_started : opened_named name seat.cursors ≡ None → StartFails o seat.user bound q (is_full seat.cursors) old c new
       → OpensNone o bound name q seat old c new
 
--- Rows of the cursor of this name were given, under its output names, and its run goes on behind them.
+-- Rows of the cursor of this name were given, under its output names, and its run goes on behind them. How often it was asked is counted.
 pub record Fetched (name : Name) (asked : CountTree) (seat : Seated) (old : List (Option BoxState)) (names : List Name)
     (rows : List Tuple) (after : Seated) (new : List (Option BoxState)) : Type 0 where
   pub at : Opened
   pub there : opened_named name seat.cursors ≡ Some at
   pub named : names ≡ at.names
   pub run : Run
+  pub count : ℕ
   pub gives : GivesRows at.run asked old rows run new
-  pub pulls : PullsFetched asked at.run old run new
-  pub is : after ≡ having seat (with_run name run seat.cursors)
+  pub pulls : PullsFetched asked at.run old seat.asked run new count
+  pub is : after ≡ having (having_asked seat count) (with_run name run seat.cursors)
 
 -- no cursor was asked for a row: there is none of this name, or memory was refused before
 pub data NoneAsked (name : Name) (seat : Seated) (c : Cause) : Type 0 where
@@ -72,14 +73,16 @@ pub record KeepsCursors (name : Name) (seat : Seated) (old : List (Option BoxSta
   pub seat_kept : after ≡ seat
   pub boxes_kept : new ≡ old
 
--- the cursor of this name was asked for a row, failed, and is closed and gone
+-- the cursor of this name was asked for a row, which was counted, failed, and is closed and gone
 pub record GivesUp (name : Name) (seat : Seated) (old : List (Option BoxState)) (c : Cause) (after : Seated)
     (new : List (Option BoxState)) : Type 0 where
   pub at : Opened
   pub there : opened_named name seat.cursors ≡ Some at
+  pub count : ℕ
+  pub risen : HasRisen seat.asked count
   pub gives : GivesNone c old new
   pub ends : Ends at.run old new
-  pub is : after ≡ having seat (without_named name seat.cursors)
+  pub is : after ≡ having (having_asked seat count) (without_named name seat.cursors)
 
 -- Why no rows were given. A fault that says that nothing was asked has kept all; a cursor is given up by what a run that was asked tells alone.
 abbrev pub NotFetched : Name → Seated → List (Option BoxState) → FetchFault → Seated → List (Option BoxState) → Type 0

@@ -133,7 +133,8 @@ pub(crate) fn fetch_rows<W: Wrapper2>(
     let Ok(names) = copy_names(alloc, &seat.cursors[place].names) else {
         return Err(FetchFault::Unasked(Cause::OutOfMemory));
     };
-    match fetch(&mut seat.cursors[place].run, slots, alloc, asked) {
+    let count = &mut seat.asked;
+    match fetch(&mut seat.cursors[place].run, slots, alloc, asked, count) {
         Ok(rows) => Ok(RowSet { names, rows }),
         Err(unfetched) => {
             close_cursor(seat.cursors.remove(place), slots);

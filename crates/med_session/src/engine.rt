@@ -16,7 +16,7 @@ use med_world::law::{
     boxes_are_ready, changes_lead, cursors_may_close, engines_begin, queries_lead, sessions_end,
     sessions_lead, statements_are_refused, writes_lead,
 };
-use open_cursors::{Seat, close_all, is_leased};
+use open_cursors::{Asked, Seat, close_all, is_leased};
 use session_replies::{Outcome, table_of, word_of, write_reply};
 use std::alloc::Global;
 use thiserror::Error;
@@ -180,7 +180,16 @@ impl<W: Wrapper2> Engine<W> {
         match String::from_str(alloc, user) {
             Ok(user) => {
                 let cursors = Vec::new(alloc);
-                put_seat(&mut self.seats, sid, Seat { user, cursors });
+                let asked = Asked::never();
+                put_seat(
+                    &mut self.seats,
+                    sid,
+                    Seat {
+                        user,
+                        cursors,
+                        asked,
+                    },
+                );
                 Outcome::Opened
             }
             Err(_) => Outcome::Refused(Cause::OutOfMemory),

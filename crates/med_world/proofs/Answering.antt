@@ -78,8 +78,9 @@ ends_leads e new sid text user q read b served h kept = record {
     source = λ x. absurd (false≢true x);
     numbers = λ x. h;
   };
+  asked = λ x. absurd (false≢true x);
   rises = serving_rises e.boxes new.boxes served;
-  asks = asks_refused e sid (sql text) LimitExceeded new.boxes;
+  asks = asks_refused e sid (sql text) LimitExceeded new;
   step = λ w a. (
     w,
     numbers_end refl (session_in w sid user) (on_data (select q)) (known e w sid text user (on_data (select q)) a read).is

@@ -221,3 +221,16 @@ one_turns old new w v name run rows (x ∷ os) (c ∷ cs) o on stay apart at ste
           others_stay old new w v name run rows os cs on_rest stay_rest (all_turned x.name name (map (λ (o : Opened). o.name) os) (bytes_same x.name name is) apart.0) h.1,
         )
     split false is e rest = (pair_stays old new w v name run rows x c is h.0 (cursor_stays old new w v x c (λ l e. on l (ap (λ b. b || list_any (reads_table l.table) cs) e)) (stay x (here_first x os) is) h.0), rest e)
+
+-- ---- among cursors of which one goes on with another run
+
+pub named_runs : (name : Name) (r : Run) (cs : List Opened) (at : Opened) → opened_named name cs ≡ Some at → opened_named name (with_run name r cs) ≡ Some (record at { run = r })
+named_runs name r [] at e = absurd cc
+named_runs name r (c ∷ cs) at e = go (named_runs name r cs at) (has_name name c) refl e
+  where
+    go : (opened_named name cs ≡ Some at → opened_named name (with_run name r cs) ≡ Some (record at { run = r })) → (b : Bool) → has_name name c ≡ b → cond b (Some c) (opened_named name cs) ≡ Some at
+        → opened_named name (cond b (record c { run = r }) c ∷ with_run name r cs) ≡ Some (record at { run = r })
+    go rest true has is =
+        let same : c ≡ at = cc in
+        ap (λ b. cond b (Some (record c { run = r })) (opened_named name (with_run name r cs))) has ∙ ap (λ (x : Opened). Some (record x { run = r })) same
+    go rest false has is = ap (λ b. cond b (Some c) (opened_named name (with_run name r cs))) has ∙ rest is

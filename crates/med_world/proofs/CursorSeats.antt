@@ -29,7 +29,7 @@ use Rattle.sql_meaning.specs.Cursors.{cursor_named}
 use Rattle.sql_meaning.specs.Causes.{IsPickOf}
 use Rattle.med_world.specs.Seats.{seat_in, seat_of, IsSoundSeat, IsOpenAt, CursorsAgree, SeatAgrees}
 use Rattle.med_world.specs.Engine.{Shown, LeasesNumber, IsOwned, IsSound, Agrees}
-use Rattle.med_world.specs.Turning.{new_opened, with_cursors, Ends, at_once, later}
+use Rattle.med_world.specs.Turning.{new_opened, with_cursors, having_asked, Ends, at_once, later}
 use Rattle.med_world.specs.Laws.{IsRead, with_boxes}
 use Rattle.med_world.proofs.Lists.{some_same, none_some, same_bytes, bytes_same, bytes_other}
 use Rattle.med_world.proofs.Named.{place_of, at_place, map_place, found_place, found_passes}
@@ -164,9 +164,9 @@ by_name {P} name c has lacks = split (has_name name c) refl
     split true is = has is
     split false is = lacks is
 
-pub ended_turn : (e : Shown) (new : List (Option BoxState)) (sid : ℕ) (seat : Seated) (name : Name) (o : Opened) → IsSound e → seat_of e.seats sid ≡ Some seat → opened_named name seat.cursors ≡ Some o → Ends o.run e.boxes new
-    → Turned e (sid - 1) (Some (record seat { cursors = without_named name seat.cursors })) new
-ended_turn e new sid seat name o sound at here ends = record {
+pub ended_turn : (e : Shown) (new : List (Option BoxState)) (sid : ℕ) (seat : Seated) (name : Name) (o : Opened) (asked : ℕ) → IsSound e → seat_of e.seats sid ≡ Some seat → opened_named name seat.cursors ≡ Some o → Ends o.run e.boxes new
+    → Turned e (sid - 1) (Some (record seat { cursors = without_named name seat.cursors; asked = asked })) new
+ended_turn e new sid seat name o asked sound at here ends = record {
   first = held o.run;
   last = none_held;
   serves = ends_serve o.run e.boxes new ends;
@@ -181,7 +181,7 @@ ended_turn e new sid seat name o sound at here ends = record {
 }
   where
     after : Seated
-    after = record seat { cursors = without_named name seat.cursors }
+    after = record seat { cursors = without_named name seat.cursors; asked = asked }
 
     has_o : Contains seat.cursors o
     has_o = has_of name seat.cursors o here
@@ -206,10 +206,10 @@ it_runs name run d is = ap (λ b. cond b (record d { run = run }) d) is
 it_stays : (name : Name) (run : Run) (d : Opened) → has_name name d ≡ false → runs_on name run d ≡ d
 it_stays name run d ne = ap (λ b. cond b (record d { run = run }) d) ne
 
-module _ (e : Shown) (new : List (Option BoxState)) (sid : ℕ) (seat : Seated) (name : Name) (asked : CountTree) (o : Opened) (rows : List Tuple) (run : Run) (sound : IsSound e) (at : seat_of e.seats sid ≡ Some seat)
+module _ (e : Shown) (new : List (Option BoxState)) (sid : ℕ) (seat : Seated) (name : Name) (asked : CountTree) (o : Opened) (rows : List Tuple) (run : Run) (count : ℕ) (sound : IsSound e) (at : seat_of e.seats sid ≡ Some seat)
     (here : opened_named name seat.cursors ≡ Some o) (g : GivesRows o.run asked e.boxes rows run new) where
   abbrev pub after : Seated
-  after = record seat { cursors = with_run name run seat.cursors }
+  after = record seat { cursors = with_run name run seat.cursors; asked = count }
 
   has_o : Contains seat.cursors o
   has_o = has_of name seat.cursors o here
@@ -411,20 +411,20 @@ not_declared_sound e new seat q c sound (no_room b safe full is same) = subst (�
 not_declared_sound e new seat q c sound (too_many b safe many is same) = subst (λ (x : List (Option BoxState)). IsSound (with_boxes e x)) (sym same) sound
 not_declared_sound e new seat q c sound (run_fails b safe room few served places are why) = serving_sound e new served sound
 
-pub fetched_sound : (e : Shown) (new : List (Option BoxState)) (sid : ℕ) (seat : Seated) (name : Name) (asked : CountTree) (o : Opened) (rows : List Tuple) (after : Run) → IsSid sid → IsSound e → seat_of e.seats sid ≡ Some seat
-    → opened_named name seat.cursors ≡ Some o → GivesRows o.run asked e.boxes rows after new → IsSound (with_cursors e sid seat (with_run name after seat.cursors) new)
-fetched_sound e new sid seat name asked o rows after is sound at here g =
+pub fetched_sound : (e : Shown) (new : List (Option BoxState)) (sid : ℕ) (seat : Seated) (name : Name) (asked : CountTree) (o : Opened) (rows : List Tuple) (after : Run) (count : ℕ) → IsSid sid → IsSound e → seat_of e.seats sid ≡ Some seat
+    → opened_named name seat.cursors ≡ Some o → GivesRows o.run asked e.boxes rows after new → IsSound (with_cursors e sid (having_asked seat count) (with_run name after seat.cursors) new)
+fetched_sound e new sid seat name asked o rows after count is sound at here g =
     let old = old_seat e sid seat sound at in
     let most : length seat.cursors ≤ 16 = old.few in
     let same : length (with_run name after seat.cursors) ≡ length seat.cursors = run_most name after seat.cursors in
-    turned_here e new sid seat (with_run name after seat.cursors) is (fetched_turn e new sid seat name asked o rows after sound at here g) sound
+    turned_here e new sid (having_asked seat count) (with_run name after seat.cursors) is (fetched_turn e new sid seat name asked o rows after count sound at here g) sound
     (record { apart = run_apart name after seat.cursors old.apart; few = omega (arith, most, same) })
 
-pub ended_sound : (e : Shown) (new : List (Option BoxState)) (sid : ℕ) (seat : Seated) (name : Name) (o : Opened) → IsSid sid → IsSound e → seat_of e.seats sid ≡ Some seat → opened_named name seat.cursors ≡ Some o → Ends o.run e.boxes new
-    → IsSound (with_cursors e sid seat (without_named name seat.cursors) new)
-ended_sound e new sid seat name o is sound at here ends =
+pub ended_sound : (e : Shown) (new : List (Option BoxState)) (sid : ℕ) (seat : Seated) (name : Name) (o : Opened) (asked : ℕ) → IsSid sid → IsSound e → seat_of e.seats sid ≡ Some seat → opened_named name seat.cursors ≡ Some o → Ends o.run e.boxes new
+    → IsSound (with_cursors e sid (having_asked seat asked) (without_named name seat.cursors) new)
+ended_sound e new sid seat name o asked is sound at here ends =
     let old = old_seat e sid seat sound at in
     let most : length seat.cursors ≤ 16 = old.few in
     let fewer : length (without_named name seat.cursors) ≤ length seat.cursors = fewer_most (λ c. not (has_name name c)) seat.cursors in
-    turned_here e new sid seat (without_named name seat.cursors) is (ended_turn e new sid seat name o sound at here ends) sound
+    turned_here e new sid (having_asked seat asked) (without_named name seat.cursors) is (ended_turn e new sid seat name o asked sound at here ends) sound
     (record { apart = fewer_apart (λ c. not (has_name name c)) seat.cursors old.apart; few = omega (arith, most, fewer) })

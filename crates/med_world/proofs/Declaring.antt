@@ -35,8 +35,10 @@ use Rattle.med_world.proofs.Seats.{stands_still, cursors_stay}
 use Rattle.med_world.proofs.Faring.{none_rises}
 use Rattle.med_world.proofs.Asks.{asks_refused, asks_read}
 use Rattle.med_world.proofs.Told.{IsKnownAs, told_tree, none_tree, before_tree}
-use Rattle.med_world.proofs.Leading.{cursors_in, session_in, calm, calm_befell, known, leads_refused, leads_memory}
+use Rattle.med_world.proofs.Leading.{calm_unasked, cursors_in, session_in, calm, calm_befell, known, leads_refused, leads_memory}
 use Rattle.med_world.proofs.Querying.{ArePhased, ShowsIn, from_types, from_state, from_run, run_phase, none_select, bindable_in, same_meant, same_entries, none_many}
+use Rattle.med_planner.specs.Plain.{IsBareForm}
+use Rattle.med_world.proofs.Plainest.{bare_form}
 use Rattle.med_world.proofs.Serving.{run_rises, serving_rises, serving_agrees}
 use Rattle.med_world.proofs.Sessions.{turned_agrees}
 use Rattle.med_world.proofs.CursorCausing.{cursor_phase, least_declare, none_declare}
@@ -63,8 +65,9 @@ pub declared : (e : Shown) (new : List (Option BoxState)) (sid : ℕ) (text : Li
 declared e new sid text seat name q names run read at sound free h = record {
   trouble = calm;
   befell = calm_befell e.boxes new;
+  asked = λ x. absurd (calm_unasked x);
   rises = run_rises none_held (held run) e.boxes new h.served;
-  asks = asks_read e sid text seat.user (Tree name q) (done (codes "DECLARE CURSOR")) new read
+  asks = asks_read e sid text seat.user (Tree name q) (done (codes "DECLARE CURSOR")) (with_cursors e sid seat (seat.cursors ++ new_opened name names q run ∷ []) new) read
       (record { once = record { places = h.places; are = h.are; reads = h.reads }; plain = h.plain });
   step = λ w a. (
     after w,
@@ -99,6 +102,7 @@ declared e new sid text seat name q names run read at sound free h = record {
       answers = λ rows r. subst (λ (db : Tables). IsAnswer (query_of (meant_over w q)) db rows) (sym (rows_kept w seat.user q (bindable w a)))
           (subst (λ (m : Meant). IsAnswer (query_of m) (entry_tables m.entries (rows_in w.rows)) rows) (same_meant e w q a)
           (h.rests.answers a.honest (entry_tables (meant_by e.catalog q).entries (rows_in w.rows)) (same_entries e w q h.places a h.are) rows r));
+      bare = λ b. h.bare (subst (λ (m : Meant). IsBareForm m.form) (sym (same_meant e w q a)) (bare_form (meant_over w q).form b));
     }
 
     all : (w : World) → Agrees e w → CursorsAgree new (after w) (seat.cursors ++ new_opened name names q run ∷ []) (cursors_in (w.sessions sid) ++ new_cursor w name q ∷ [])
@@ -156,8 +160,9 @@ run_leads e new sid text seat name q c places read at free b safe room few serve
         source = λ x. h;
         numbers = λ x. absurd (false≢true x);
       };
+      asked = λ x. absurd (false≢true x);
       rises = serving_rises e.boxes new served;
-      asks = asks_refused e sid (sql text) SourceFault new;
+      asks = asks_refused e sid (sql text) SourceFault (with_boxes e new);
       step = λ w a. (
         w,
         source_fails refl (session_in w sid seat.user) (Tree name q) (known_declare e w sid text seat name q a read).is (late e w sid text seat name q read at free b safe a) refl refl,
@@ -171,8 +176,9 @@ run_leads e new sid text seat name q c places read at free b safe room few serve
         source = λ x. absurd (false≢true x);
         numbers = λ x. h;
       };
+      asked = λ x. absurd (false≢true x);
       rises = serving_rises e.boxes new served;
-      asks = asks_refused e sid (sql text) LimitExceeded new;
+      asks = asks_refused e sid (sql text) LimitExceeded (with_boxes e new);
       step = λ w a. (
         w,
         numbers_end refl (session_in w sid seat.user) (Tree name q) (known_declare e w sid text seat name q a read).is (late e w sid text seat name q read at free b safe a) tt refl refl,

@@ -49,6 +49,11 @@ pub calm_befell : (old new : List (Option BoxState)) → Befell old new calm
 unfolding calm
 calm_befell old new = record { source = λ e. absurd (false≢true e); numbers = λ e. absurd (false≢true e) }
 
+-- no cursor was asked for a row
+pub calm_unasked : calm.asked ≡ true → ⊥
+unfolding calm
+calm_unasked e = false≢true e
+
 memory_befell : (old new : List (Option BoxState)) → Befell old new refused_memory
 unfolding refused_memory
 memory_befell old new = record { source = λ e. absurd (false≢true e); numbers = λ e. absurd (false≢true e) }
@@ -59,8 +64,9 @@ pub leads_refused : (e new : Shown) (sid : ℕ) (request : AskedLine) (c : Cause
 leads_refused e new sid request c rises kept told = record {
   trouble = calm;
   befell = calm_befell e.boxes new.boxes;
+  asked = λ x. absurd (calm_unasked x);
   rises = rises;
-  asks = asks_refused e sid request c new.boxes;
+  asks = asks_refused e sid request c new;
   step = λ w a. let t = told w a in (w, is_refused t.0 c t.1 t.2 refl refl, kept w a);
 }
 
@@ -70,8 +76,9 @@ unfolding refused_memory
 leads_memory e new sid request takes rises kept = record {
   trouble = refused_memory;
   befell = memory_befell e.boxes new.boxes;
+  asked = λ q. absurd (false≢true q);
   rises = rises;
-  asks = asks_refused e sid request OutOfMemory new.boxes;
+  asks = asks_refused e sid request OutOfMemory new;
   step = λ w a. (w, lacks_memory refl refl takes refl refl, kept w a);
 }
 
@@ -204,8 +211,9 @@ pub altered_leads : AreObjects → (e n : Shown) (sid : ℕ) (text : List ℕ) (
 altered_leads law e n sid text user d read sound h = record {
   trouble = calm;
   befell = calm_befell e.boxes n.boxes;
+  asked = λ x. absurd (calm_unasked x);
   rises = altered_rises e n h.change h.alters;
-  asks = asks_read e sid text user (on_objects d) (done (ddl_tag d)) n.boxes read tt;
+  asks = asks_read e sid text user (on_objects d) (done (ddl_tag d)) n read tt;
   step = step;
 }
   where
@@ -344,8 +352,9 @@ failed_leads law e n sid text user d t place read sound allowed h rises kept = r
     source = λ q. record { slot = place; before = h.before; after = h.after; was = h.there; is = h.now; shows = has_failed h.before h.after h.change };
     numbers = λ q. absurd (false≢true q);
   };
+  asked = λ q. absurd (false≢true q);
   rises = rises;
-  asks = asks_refused e sid (sql text) SourceFault n.boxes;
+  asks = asks_refused e sid (sql text) SourceFault n;
   step = λ w a. (
     w,
     source_fails refl (session_in w sid user) (on_objects d) (known e w sid text user (on_objects d) a read).is (not_early law e w sid text user d (new_table t) read sound a allowed) refl refl,

@@ -22,8 +22,9 @@ mod Querying
 mod CursorCausing
 mod Leases
 mod CursorRows
-mod CursorLists
+pub mod CursorLists
 mod CursorSeats
+mod Plainest
 mod Declaring
 mod Turns
 mod Fetches

@@ -35,7 +35,7 @@ use Rattle.med_world.proofs.Lists.{some_same}
 use Rattle.med_world.proofs.Faring.{none_rises}
 use Rattle.med_world.proofs.Asks.{asks_refused, asks_read}
 use Rattle.med_world.proofs.Told.{told_tree, none_tree, before_tree, pick_tree}
-use Rattle.med_world.proofs.Leading.{calm, calm_befell, session_in, known, leads_refused, leads_memory}
+use Rattle.med_world.proofs.Leading.{calm, calm_befell, calm_unasked, session_in, known, leads_refused, leads_memory}
 
 -- a cause of names or rights is of phase 3, and one of types of phase 4: laws of the binder
 pub record ArePhased : Type 0 where
@@ -152,9 +152,10 @@ pub selects_leads : (e new : Shown) (sid : ℕ) (text : List ℕ) (user : Name) 
 selects_leads e new sid text user q names given read h rises kept = record {
   trouble = calm;
   befell = calm_befell e.boxes new.boxes;
+  asked = λ x. absurd (calm_unasked x);
   rises = rises;
-  asks = asks_read e sid text user (on_data (select q)) (answered (codes "SELECT") names given) new.boxes read
-      (record { places = h.places; are = h.are; reads = h.reads });
+  asks = asks_read e sid text user (on_data (select q)) (answered (codes "SELECT") names given) new read
+      (record { once = record { places = h.places; are = h.are; reads = h.reads }; pulls = h.pulls });
   step = λ w a. (
     w,
     is_done no_pick (picks_none e w sid text user q a read)
@@ -207,8 +208,9 @@ fails_leads e new sid text user q read b h rises kept = record {
     source = λ x. h;
     numbers = λ x. absurd (false≢true x);
   };
+  asked = λ x. absurd (false≢true x);
   rises = rises;
-  asks = asks_refused e sid (sql text) SourceFault new.boxes;
+  asks = asks_refused e sid (sql text) SourceFault new;
   step = λ w a. (
     w,
     source_fails refl (session_in w sid user) (on_data (select q)) (known e w sid text user (on_data (select q)) a read).is

@@ -18,7 +18,7 @@ use Rattle.med_world.specs.Writing.{WritesRows, WriteFails}
 use Rattle.med_world.specs.Laws.{IsRead, with_boxes}
 use Rattle.med_world.proofs.Asks.{asks_refused, asks_read}
 use Rattle.med_world.proofs.Told.{told_tree, none_tree, before_tree, pick_tree}
-use Rattle.med_world.proofs.Leading.{calm, calm_befell, session_in, known, leads_refused, leads_memory}
+use Rattle.med_world.proofs.Leading.{calm, calm_befell, calm_unasked, session_in, known, leads_refused, leads_memory}
 use Rattle.med_world.proofs.RowCausing.{WritesPhased}
 use Rattle.med_world.proofs.RowEnds.{RowsDone, NoneBeforeRows, WhyNotDone, is_told, lacks_memory, source_fails, numbers_end}
 use Rattle.med_world.proofs.RowLeads.{rows_done, rows_not_done}
@@ -28,8 +28,9 @@ pub writes_done : (e : Shown) (new : List (Option BoxState)) (sid : ℕ) (text :
 writes_done e new sid text user t n read sound h = record {
   trouble = calm;
   befell = calm_befell e.boxes new;
+  asked = λ x. absurd (calm_unasked x);
   rises = d.rises;
-  asks = asks_read e sid text user (on_rows t) (done (write_tag t n)) new read tt;
+  asks = asks_read e sid text user (on_rows t) (done (write_tag t n)) (with_boxes e new) read tt;
   step = λ w a.
       let x = d.each w a in
       let k = known e w sid text user (on_rows t) a read in (
@@ -52,8 +53,9 @@ source_leads e new sid text user t read h none rises kept = record {
     source = λ x. h;
     numbers = λ x. absurd (false≢true x);
   };
+  asked = λ x. absurd (false≢true x);
   rises = rises;
-  asks = asks_refused e sid (sql text) SourceFault new.boxes;
+  asks = asks_refused e sid (sql text) SourceFault new;
   step = λ w a. let k = known e w sid text user (on_rows t) a read in (
     w,
     source_fails_step refl (session_in w sid user) (on_rows t) k.is (before_tree w sid text (session_in w sid user) (on_rows t) k (none w a)) refl refl,
@@ -70,8 +72,9 @@ numbers_leads e new sid text user t read h none rises kept = record {
     source = λ x. absurd (false≢true x);
     numbers = λ x. h;
   };
+  asked = λ x. absurd (false≢true x);
   rises = rises;
-  asks = asks_refused e sid (sql text) LimitExceeded new.boxes;
+  asks = asks_refused e sid (sql text) LimitExceeded new;
   step = λ w a. let k = known e w sid text user (on_rows t) a read in (
     w,
     numbers_end_step refl (session_in w sid user) (on_rows t) k.is (before_tree w sid text (session_in w sid user) (on_rows t) k (none w a)) tt refl refl,

@@ -145,6 +145,7 @@ cursor_stays old new w v o c on stay h = record {
   stand = λ l has. on l (reads_its c l has) (h.stand l has);
   some = (h.some.0, (stay h.some.0).0 h.some.1);
   answers = λ rows r. h.answers rows ((stay rows).1 r);
+  bare = h.bare;
 }
 
 pub cursors_stay : (old new : List (Option BoxState)) (w v : World) (os : List Opened) (cs : List Cursor) → StandsOn w v cs → ((o : Opened) → Contains os o → RestsStay old new o) → CursorsAgree old w os cs → CursorsAgree new v os cs

@@ -29,7 +29,7 @@ use Rattle.med_world.proofs.Faring.{set_same, set_other, none_rises}
 use Rattle.med_world.proofs.Serving.{run_rises, served_honest, sources_served, rows_served, none_typed, run_sound}
 use Rattle.med_world.proofs.Asks.{asks_unread}
 use Rattle.med_world.proofs.Told.{told_protocol, told_bye}
-use Rattle.med_world.proofs.Leading.{calm, calm_befell, leads_refused}
+use Rattle.med_world.proofs.Leading.{calm, calm_befell, calm_unasked, leads_refused}
 
 -- ---- open, or not
 
@@ -141,8 +141,9 @@ pub opened : (e : Shown) (sid : ℕ) (user : Name) → IsSid sid → IsUser user
 opened e sid user is is_user long closed = record {
   trouble = calm;
   befell = calm_befell e.boxes e.boxes;
+  asked = λ x. absurd (calm_unasked x);
   rises = none_rises e.boxes;
-  asks = asks_unread e sid (opening user) (done (codes "OPEN")) e.boxes (λ text is. absurd (cc));
+  asks = asks_unread e sid (opening user) (done (codes "OPEN")) (with_seats e (slice_set e.seats (sid - 1) (Some (new_seat user)))) (λ text is. absurd (cc));
   step = λ w a. (
     with_session w sid (Some (new_session user)),
     is_done no_pick (λ s t x formed. absurd x) (none w a) (refl, refl),
@@ -201,8 +202,9 @@ pub closed : (e : Shown) (new : List (Option BoxState)) (sid : ℕ) (seat : Seat
 closed e new sid seat is long there ends = record {
   trouble = calm;
   befell = calm_befell e.boxes new;
+  asked = λ x. absurd (calm_unasked x);
   rises = run_rises (held_by seat.cursors) none_held e.boxes new ends;
-  asks = asks_unread e sid bye (done (codes "BYE")) new (λ text is. absurd (cc));
+  asks = asks_unread e sid bye (done (codes "BYE")) (with_boxes (with_seats e (slice_set e.seats (sid - 1) None)) new) (λ text is. absurd (cc));
   step = λ w a. (with_session w sid None, is_done no_pick (λ s t x formed. absurd x) (none w a) (refl, refl), shut_agrees e w new sid is long (shut_turn e new sid seat there a.scans.once ends) a);
 }
   where
@@ -258,6 +260,7 @@ shut_many seats closed = ap length closed ∙ length-replicate {A = Option Seate
 pub closes_all : (e : Shown) (new : List (Option BoxState)) (seats : List (Option Seated)) → seats ≡ replicate session_count None → ServesRun (held_by (all_cursors e.seats)) none_held e.boxes new → ClosesAll e (with_boxes (with_seats e seats) new)
 closes_all e new seats closed ends = record {
   others = refl;
+  asked = λ x. absurd (calm_unasked x);
   rises = run_rises (held_by (all_cursors e.seats)) none_held e.boxes new ends;
   world = λ w a. record {
     honest = served_honest (held_by (all_cursors e.seats)) none_held e.boxes new ends a.honest;

@@ -1,5 +1,5 @@
 -- FETCH and CLOSE lead to their replies.
-use Rattle.std.proofs.Common.{◌≡◌, ℕ, ◌<◌, ◌≤◌, ◌⊎◌, true, false, List, [], ◌++◌, Option, Some, None, not, filter, find, length, map, codes, refl, ap, sym, ◌∙◌, subst, arith, inl, inr}
+use Rattle.std.proofs.Common.{◌≡◌, ℕ, ◌-◌, slice_set, ◌<◌, ◌≤◌, ◌⊎◌, true, false, List, [], ◌++◌, Option, Some, None, not, filter, find, length, map, codes, refl, ap, sym, ◌∙◌, subst, arith, inl, inr}
 use Rattle.std.proofs.lemmas.Bool.{false≢true}
 use Rattle.std.proofs.lemmas.List.{append_assoc, append-nil}
 use Rattle.med_value.specs.Datum.{Tuple}
@@ -14,28 +14,29 @@ use Rattle.med_exec.specs.Rests.{Rests, held}
 use Rattle.med_parser.specs.CommandTree.{on_cursors}
 use Rattle.cursor_syntax.specs.CursorTree.{CountTree, some_rows, all_rows, CursorTree, declare, fetch, close}
 use Rattle.open_cursors.specs.Open.{Opened, Seated, opened_named, without_named, with_run}
-use Rattle.open_cursors.specs.Fetching.{GivesRows, GivesNone, no_memory, box_fails, PullsFetched}
+use Rattle.open_cursors.specs.Fetching.{GivesRows, GivesNone, no_memory, box_fails, HasRisen, PullsFetched}
 use Rattle.sql_meaning.specs.Requests.{sql, IsSid}
 use Rattle.sql_meaning.specs.Picks.{no_pick}
-use Rattle.sql_meaning.specs.World.{World, Cursor, with_session}
-use Rattle.sql_meaning.specs.Cursors.{is_cursor, rows_leased, cursor_named, without_cursor, hand_out, with_handed, Fetches}
+use Rattle.sql_meaning.specs.World.{World, Cursor, Session, with_session}
+use Rattle.sql_meaning.specs.Cursors.{IsBareQuery, is_cursor, rows_leased, cursor_named, without_cursor, hand_out, with_handed, Fetches}
 use Rattle.sql_meaning.specs.Causes.{CursorCauses, phase, NoneBeforeState}
 use Rattle.sql_meaning.specs.Replies.{done, answered, refused}
 use Rattle.sql_meaning.specs.Steps.{Turns, is_done, source_fails, fetch_lacks_memory}
-use Rattle.med_world.specs.Seats.{seat_of, CursorAgrees, CursorsAgree}
-use Rattle.med_world.specs.Engine.{Shown, IsSound, Agrees, AsksCursor, Leads}
-use Rattle.med_world.specs.Turning.{with_cursors, IsOfOpen, Ends}
+use Rattle.med_world.specs.Seats.{seat_in, seat_of, asked_in, asked_of, opened_in, CursorAgrees, CursorsAgree}
+use Rattle.med_world.specs.Engine.{Shown, IsSound, Agrees, GivesWithin, IsBareCursor, AsksCursor, Leads}
+use Rattle.med_world.specs.Turning.{with_cursors, having_asked, IsOfOpen, Ends}
 use Rattle.med_world.specs.Laws.{IsRead}
 use Rattle.med_world.proofs.Lists.{none_some, some_same}
 use Rattle.med_world.proofs.Seats.{stands_still, cursors_stay}
-use Rattle.med_world.proofs.Faring.{none_rises}
+use Rattle.med_world.proofs.Faring.{none_rises, set_same}
 use Rattle.med_world.proofs.Asks.{asks_refused, asks_read}
 use Rattle.med_world.proofs.Told.{told_tree, none_tree, before_tree}
-use Rattle.med_world.proofs.Leading.{cursors_in, session_in, calm, calm_befell, known, leads_refused}
+use Rattle.med_world.proofs.Leading.{calm_unasked, cursors_in, session_in, calm, calm_befell, known, leads_refused}
 use Rattle.med_world.proofs.Serving.{run_rises}
 use Rattle.med_world.proofs.Sessions.{turned_agrees}
-use Rattle.med_world.proofs.CursorLists.{one_fewer, one_turns}
-use Rattle.med_world.proofs.CursorSeats.{cursors_at, picks_none, has_none, found_at, old_seat, ends_serve, fetched_turn, fetched_left, ended_turn, ended_left, here_stays, left_here}
+use Rattle.med_world.proofs.CursorLists.{one_fewer, one_turns, named_runs}
+use Rattle.med_world.proofs.Plainest.{gives_within, still_bare}
+use Rattle.med_world.proofs.CursorSeats.{here_of, cursors_at, picks_none, has_none, found_at, old_seat, ends_serve, fetched_turn, fetched_left, ended_turn, ended_left, here_stays, left_here}
 
 -- ---- no cursor of the name
 
@@ -84,15 +85,16 @@ fetches old w all_rows o c rows after new honest g a = record {
 }
 
 -- the cursor of the world goes on with the engine's
-goes_on : (old new : List (Option BoxState)) (w v : World) (asked : CountTree) (o : Opened) (c : Cursor) (rows : List Tuple) (after : Run) → v.catalog.tables ≡ w.catalog.tables → v.rows ≡ w.rows → AllHonest old → GivesRows o.run asked old rows after new
-    → CursorAgrees old w o c → CursorAgrees new v (record o { run = after }) (record c { handed = c.handed ++ rows })
-goes_on old new w v asked o c rows after tables same honest g a = record {
+goes_on : (old new : List (Option BoxState)) (w v : World) (asked : CountTree) (o : Opened) (c : Cursor) (rows : List Tuple) (after : Run) (before count : ℕ) → v.catalog.tables ≡ w.catalog.tables → v.rows ≡ w.rows → AllHonest old → GivesRows o.run asked old rows after new
+    → PullsFetched asked o.run old before after new count → CursorAgrees old w o c → CursorAgrees new v (record o { run = after }) (record c { handed = c.handed ++ rows })
+goes_on old new w v asked o c rows after before count tables same honest g p a = record {
   name = a.name;
   names = a.names;
   leases = a.leases;
   stand = λ l has. stands_still w v l tables same (a.stand l has);
   some = g.some honest;
   answers = λ left r. subst (IsAnswer c.query (rows_leased c.reads)) (sym (append_assoc c.handed rows left)) (a.answers (rows ++ left) (g.gives honest left r));
+  bare = λ b. still_bare asked o.run after old new before count p (a.bare b);
 }
 
 none_fetched : (e : Shown) (w : World) (sid : ℕ) (text : List ℕ) (seat : Seated) (name : Name) (asked : CountTree) (o : Opened) → Agrees e w → IsRead e sid text seat.user (on_cursors (fetch asked name)) → seat_of e.seats sid ≡ Some seat → opened_named name seat.cursors ≡ Some o
@@ -101,27 +103,54 @@ none_fetched e w sid text seat name asked o a read at here d x =
     let f = found_at e w sid seat name o read.is_sid at a here in
     none_some f.cursor (find (is_cursor name) (cursors_in (w.sessions sid))) x.1 f.is
 
-asks_cursor : (e : Shown) (new : List (Option BoxState)) (sid : ℕ) (seat : Seated) (name : Name) (asked : CountTree) (o : Opened) (after : Run) → seat_of e.seats sid ≡ Some seat → opened_named name seat.cursors ≡ Some o → PullsFetched asked o.run e.boxes after new
-    → AsksCursor e sid asked name new
-asks_cursor e new sid seat name asked o after at here pulls other p at_other here_other =
-    let same_seat : other ≡ seat = some_same other seat (sym at_other ∙ at) in
-    let same : p ≡ o = some_same p o (sym here_other ∙ ap (λ (s : Seated). opened_named name s.cursors) same_seat ∙ here) in
-    (after, subst (λ (x : Opened). PullsFetched asked x.run e.boxes after new) (sym same) pulls)
+-- the session whose seat was put in has it
+seat_put : (e : Shown) (sid : ℕ) (seat after : Seated) → seat_of e.seats sid ≡ Some seat → seat_of (slice_set e.seats (sid - 1) (Some after)) sid ≡ Some after
+seat_put e sid seat after at = ap seat_in (set_same e.seats (sid - 1) (Some seat) (Some after) (here_of e sid seat at))
 
-pub fetched : (e : Shown) (new : List (Option BoxState)) (sid : ℕ) (text : List ℕ) (seat : Seated) (name : Name) (asked : CountTree) (o : Opened) (rows : List Tuple) (after : Run) → IsRead e sid text seat.user (on_cursors (fetch asked name))
+-- of a cursor over all rows of one table, few rows are given
+few_given : (e : Shown) (new : List (Option BoxState)) (sid : ℕ) (seat : Seated) (name : Name) (asked : CountTree) (o : Opened) (after : Run) (count : ℕ) → IsSid sid → seat_of e.seats sid ≡ Some seat → opened_named name seat.cursors ≡ Some o
+    → PullsFetched asked o.run e.boxes seat.asked after new count → IsBareCursor e sid name → GivesWithin asked e.boxes new
+few_given e new sid seat name asked o after count is at here pulls (w, s, c, a, session, named, bare) =
+    let f = found_at e w sid seat name o is at a here in
+    let same : f.cursor ≡ c = some_same f.cursor c (sym f.is ∙ ap (λ (x : Option Session). find (is_cursor name) (cursors_in x)) session ∙ named) in
+    gives_within asked o.run after e.boxes new seat.asked count pulls (f.agrees.bare (subst (λ (x : Cursor). IsBareQuery x.query) (sym same) bare))
+
+asks_cursor : (e : Shown) (new : List (Option BoxState)) (sid : ℕ) (seat : Seated) (name : Name) (asked : CountTree) (o : Opened) (after : Run) (count : ℕ) → IsSid sid → seat_of e.seats sid ≡ Some seat → opened_named name seat.cursors ≡ Some o
+    → PullsFetched asked o.run e.boxes seat.asked after new count → AsksCursor e sid asked name (with_cursors e sid (having_asked seat count) (with_run name after seat.cursors) new)
+asks_cursor e new sid seat name asked o after count is at here pulls = record {
+  at = o;
+  there = ap (opened_in name) at ∙ here;
+  run = after;
+  goes_on = ap (opened_in name) now ∙ named_runs name after seat.cursors o here;
+  pulls = subst (λ (n : ℕ). PullsFetched asked o.run e.boxes n after new (asked_of now_seats sid)) (sym (ap asked_in at))
+      (subst (λ (n : ℕ). PullsFetched asked o.run e.boxes seat.asked after new n) (sym (ap asked_in now)) pulls);
+  few = few_given e new sid seat name asked o after count is at here pulls;
+}
+  where
+    left : Seated
+    left = record seat { cursors = with_run name after seat.cursors; asked = count }
+
+    now_seats : List (Option Seated)
+    now_seats = slice_set e.seats (sid - 1) (Some left)
+
+    now : seat_of now_seats sid ≡ Some left
+    now = seat_put e sid seat left at
+
+pub fetched : (e : Shown) (new : List (Option BoxState)) (sid : ℕ) (text : List ℕ) (seat : Seated) (name : Name) (asked : CountTree) (o : Opened) (rows : List Tuple) (after : Run) (count : ℕ) → IsRead e sid text seat.user (on_cursors (fetch asked name))
     → seat_of e.seats sid ≡ Some seat → IsSound e → opened_named name seat.cursors ≡ Some o → GivesRows o.run asked e.boxes rows after new
-    → PullsFetched asked o.run e.boxes after new → Leads e sid (sql text) (answered (codes "FETCH") o.names rows) (with_cursors e sid seat (with_run name after seat.cursors) new)
-fetched e new sid text seat name asked o rows after read at sound here g pulls = record {
+    → PullsFetched asked o.run e.boxes seat.asked after new count → Leads e sid (sql text) (answered (codes "FETCH") o.names rows) (with_cursors e sid (having_asked seat count) (with_run name after seat.cursors) new)
+fetched e new sid text seat name asked o rows after count read at sound here g pulls = record {
   trouble = calm;
   befell = calm_befell e.boxes new;
+  asked = λ x. absurd (calm_unasked x);
   rises = run_rises (held o.run) (held after) e.boxes new g.served;
-  asks = asks_read e sid text seat.user (on_cursors (fetch asked name)) (answered (codes "FETCH") o.names rows) new read (asks_cursor e new sid seat name asked o after at here pulls);
+  asks = asks_read e sid text seat.user (on_cursors (fetch asked name)) (answered (codes "FETCH") o.names rows) (with_cursors e sid (having_asked seat count) (with_run name after seat.cursors) new) read (asks_cursor e new sid seat name asked o after count read.is_sid at here pulls);
   step = λ w a. (
     now w,
     is_done no_pick (picks_none e w sid text seat (fetch asked name) a read)
         (none_tree w sid no_pick text (session_in w sid seat.user) (on_cursors (fetch asked name)) (known e w sid text seat.user (on_cursors (fetch asked name)) a read) (none_fetched e w sid text seat name asked o a read at here))
         (session_in w sid seat.user, on_cursors (fetch asked name), (known e w sid text seat.user (on_cursors (fetch asked name)) a read).is, turns w a),
-    turned_agrees e w new sid (Some (record seat { cursors = with_run name after seat.cursors })) (Some (with_handed (session_in w sid seat.user) name rows)) read.is_sid sound.sessions (fetched_turn e new sid seat name asked o rows after sound at here g) (refl, all w a) a,
+    turned_agrees e w new sid (Some (record seat { cursors = with_run name after seat.cursors; asked = count })) (Some (with_handed (session_in w sid seat.user) name rows)) read.is_sid sound.sessions (fetched_turn e new sid seat name asked o rows after count sound at here g) (refl, all w a) a,
   );
 }
   where
@@ -135,15 +164,15 @@ fetched e new sid text seat name asked o rows after read at sound here g pulls =
 
     all : (w : World) → Agrees e w → CursorsAgree new (now w) (with_run name after seat.cursors) (map (hand_out name rows) (cursors_in (w.sessions sid)))
     all w a = one_turns e.boxes new w (now w) name after rows seat.cursors (cursors_in (w.sessions sid)) o (λ l taken x. stands_still w (now w) l refl refl x)
-        (λ c has ne. here_stays e new sid seat c sound at a.honest has (fetched_left e new sid seat name asked o rows after sound at here g c has ne)) (old_seat e sid seat sound at).apart here
-        (λ c h. goes_on e.boxes new w (now w) asked o c rows after refl refl a.honest g h) (cursors_at e w sid seat read.is_sid at a)
+        (λ c has ne. here_stays e new sid seat c sound at a.honest has (fetched_left e new sid seat name asked o rows after count sound at here g c has ne)) (old_seat e sid seat sound at).apart here
+        (λ c h. goes_on e.boxes new w (now w) asked o c rows after seat.asked count refl refl a.honest g pulls h) (cursors_at e w sid seat read.is_sid at a)
 
 -- ---- a cursor that is gone
 
-gone_agrees : (e : Shown) (w : World) (new : List (Option BoxState)) (sid : ℕ) (seat : Seated) (name : Name) (o : Opened) → IsSid sid → seat_of e.seats sid ≡ Some seat → IsSound e → opened_named name seat.cursors ≡ Some o → Ends o.run e.boxes new → Agrees e w
-    → Agrees (with_cursors e sid seat (without_named name seat.cursors) new) (with_session w sid (Some (without_cursor (session_in w sid seat.user) name)))
-gone_agrees e w new sid seat name o is at sound here ends a =
-    turned_agrees e w new sid (Some (record seat { cursors = without_named name seat.cursors })) (Some (without_cursor (session_in w sid seat.user) name)) is sound.sessions (ended_turn e new sid seat name o sound at here ends) (
+gone_agrees : (e : Shown) (w : World) (new : List (Option BoxState)) (sid : ℕ) (seat : Seated) (name : Name) (o : Opened) (count : ℕ) → IsSid sid → seat_of e.seats sid ≡ Some seat → IsSound e → opened_named name seat.cursors ≡ Some o → Ends o.run e.boxes new → Agrees e w
+    → Agrees (with_cursors e sid (having_asked seat count) (without_named name seat.cursors) new) (with_session w sid (Some (without_cursor (session_in w sid seat.user) name)))
+gone_agrees e w new sid seat name o count is at sound here ends a =
+    turned_agrees e w new sid (Some (record seat { cursors = without_named name seat.cursors; asked = count })) (Some (without_cursor (session_in w sid seat.user) name)) is sound.sessions (ended_turn e new sid seat name o count sound at here ends) (
       refl,
       cursors_stay e.boxes new w now (without_named name seat.cursors) (filter (λ c. not (is_cursor name c)) (cursors_in (w.sessions sid))) (λ l taken x. stands_still w now l refl refl x)
           (λ c has. here_stays e new sid seat c sound at a.honest (left_here name seat.cursors c has) (ended_left e new sid seat name o sound at here ends c has))
@@ -153,34 +182,43 @@ gone_agrees e w new sid seat name o is at sound here ends a =
     now : World
     now = with_session w sid (Some (without_cursor (session_in w sid seat.user) name))
 
-pub not_fetched : (e : Shown) (new : List (Option BoxState)) (sid : ℕ) (text : List ℕ) (seat : Seated) (name : Name) (asked : CountTree) (o : Opened) (c : Cause) → IsRead e sid text seat.user (on_cursors (fetch asked name))
-    → seat_of e.seats sid ≡ Some seat → IsSound e → opened_named name seat.cursors ≡ Some o → GivesNone c e.boxes new → Ends o.run e.boxes new
-    → Leads e sid (sql text) (refused c) (with_cursors e sid seat (without_named name seat.cursors) new)
-not_fetched e new sid text seat name asked o c read at sound here (no_memory is) ends =
-    subst (λ (d : Cause). Leads e sid (sql text) (refused d) (with_cursors e sid seat (without_named name seat.cursors) new)) (sym is) (record {
+pub not_fetched : (e : Shown) (new : List (Option BoxState)) (sid : ℕ) (text : List ℕ) (seat : Seated) (name : Name) (asked : CountTree) (o : Opened) (c : Cause) (count : ℕ) → IsRead e sid text seat.user (on_cursors (fetch asked name))
+    → seat_of e.seats sid ≡ Some seat → IsSound e → opened_named name seat.cursors ≡ Some o → GivesNone c e.boxes new → Ends o.run e.boxes new → HasRisen seat.asked count
+    → Leads e sid (sql text) (refused c) (with_cursors e sid (having_asked seat count) (without_named name seat.cursors) new)
+not_fetched e new sid text seat name asked o c count read at sound here (no_memory is) ends risen =
+    subst (λ (d : Cause). Leads e sid (sql text) (refused d) (with_cursors e sid (having_asked seat count) (without_named name seat.cursors) new)) (sym is) (record {
       trouble = record { memory = true; asked = true; source = false; numbers = false };
       befell = record { source = λ x. absurd (false≢true x); numbers = λ x. absurd (false≢true x) };
+      asked = λ x. subst (λ (n : ℕ). HasRisen n (asked_of now_seats sid)) (sym (ap asked_in at)) (subst (λ (n : ℕ). HasRisen seat.asked n) (sym (ap asked_in (seat_put e sid seat left at))) risen);
       rises = run_rises (held o.run) none_held e.boxes new (ends_serve o.run e.boxes new ends);
-      asks = asks_refused e sid (sql text) OutOfMemory new;
+      asks = asks_refused e sid (sql text) OutOfMemory (with_cursors e sid (having_asked seat count) (without_named name seat.cursors) new);
       step = λ w a. (
         with_session w sid (Some (without_cursor (session_in w sid seat.user) name)),
         fetch_lacks_memory refl refl (session_in w sid seat.user) asked name (known e w sid text seat.user (on_cursors (fetch asked name)) a read).is refl refl,
-        gone_agrees e w new sid seat name o read.is_sid at sound here ends a,
+        gone_agrees e w new sid seat name o count read.is_sid at sound here ends a,
       );
     })
-not_fetched e new sid text seat name asked o c read at sound here (box_fails is h) ends =
-    subst (λ (d : Cause). Leads e sid (sql text) (refused d) (with_cursors e sid seat (without_named name seat.cursors) new)) (sym is) (record {
+  where
+    left : Seated
+    left = record seat { cursors = without_named name seat.cursors; asked = count }
+
+    now_seats : List (Option Seated)
+    now_seats = slice_set e.seats (sid - 1) (Some left)
+
+not_fetched e new sid text seat name asked o c count read at sound here (box_fails is h) ends risen =
+    subst (λ (d : Cause). Leads e sid (sql text) (refused d) (with_cursors e sid (having_asked seat count) (without_named name seat.cursors) new)) (sym is) (record {
       trouble = record { memory = false; asked = false; source = true; numbers = false };
       befell = record {
         source = λ x. h;
         numbers = λ x. absurd (false≢true x);
       };
+      asked = λ x. absurd (false≢true x);
       rises = run_rises (held o.run) none_held e.boxes new (ends_serve o.run e.boxes new ends);
-      asks = asks_refused e sid (sql text) SourceFault new;
+      asks = asks_refused e sid (sql text) SourceFault (with_cursors e sid (having_asked seat count) (without_named name seat.cursors) new);
       step = λ w a. (
         with_session w sid (Some (without_cursor (session_in w sid seat.user) name)),
         source_fails refl (session_in w sid seat.user) (on_cursors (fetch asked name)) (known e w sid text seat.user (on_cursors (fetch asked name)) a read).is (late w a) refl refl,
-        gone_agrees e w new sid seat name o read.is_sid at sound here ends a,
+        gone_agrees e w new sid seat name o count read.is_sid at sound here ends a,
       );
     })
   where
@@ -193,14 +231,15 @@ pub closed : (e : Shown) (new : List (Option BoxState)) (sid : ℕ) (text : List
 closed e new sid text seat name o read at sound here ends = record {
   trouble = calm;
   befell = calm_befell e.boxes new;
+  asked = λ x. absurd (calm_unasked x);
   rises = run_rises (held o.run) none_held e.boxes new (ends_serve o.run e.boxes new ends);
-  asks = asks_read e sid text seat.user (on_cursors (close name)) (done (codes "CLOSE CURSOR")) new read tt;
+  asks = asks_read e sid text seat.user (on_cursors (close name)) (done (codes "CLOSE CURSOR")) (with_cursors e sid seat (without_named name seat.cursors) new) read tt;
   step = λ w a. (
     with_session w sid (Some (without_cursor (session_in w sid seat.user) name)),
     is_done no_pick (picks_none e w sid text seat (close name) a read)
         (none_tree w sid no_pick text (session_in w sid seat.user) (on_cursors (close name)) (known e w sid text seat.user (on_cursors (close name)) a read) (none w a))
         (session_in w sid seat.user, on_cursors (close name), (known e w sid text seat.user (on_cursors (close name)) a read).is, (refl, refl)),
-    gone_agrees e w new sid seat name o read.is_sid at sound here ends a,
+    gone_agrees e w new sid seat name o seat.asked read.is_sid at sound here ends a,
   );
 }
   where

@@ -12,7 +12,7 @@ use Rattle.med_binder.specs.Place.{Place}
 use Rattle.med_exec.specs.Slots.{BoxAt, ChangesAt}
 use Rattle.med_exec.specs.Running.{SlotShows, HasFailed, IsUsedUp}
 use Rattle.med_exec.specs.Rests.{held as scans_held, IsRunning}
-use Rattle.med_exec.specs.Pulling.{PullsNone}
+use Rattle.med_exec.specs.Pulling.{PullsAtMost, PullsNone, many_in}
 use Rattle.med_exec.specs.declared.running.Run.{Run}
 use Rattle.med_planner.specs.Plain.{IsPlainForm}
 use Rattle.bind_catalog.specs.Places.{Attached, ArePlaces}
@@ -22,17 +22,19 @@ use Rattle.sql_meaning.specs.Requests.{AskedLine, sql, IsSid, IsUser}
 use Rattle.med_catalog.specs.declared.kind.SourceKind.{SourceKind}
 use Rattle.med_catalog.specs.Objects.{ServerObject, TableObject, Objects, server_named}
 use Rattle.ddl_syntax.specs.DdlTree.{TableTree}
-use Rattle.cursor_syntax.specs.CursorTree.{CountTree, declare, fetch}
+use Rattle.cursor_syntax.specs.CursorTree.{CountTree, some_rows, all_rows, declare, fetch}
 use Rattle.med_parser.specs.CommandTree.{CommandTree, on_data, on_cursors}
 use Rattle.med_parser.specs.CommandGrammar.{HasCommand}
 use Rattle.med_catalog.specs.Options.{table_settings, column_settings}
 use Rattle.med_catalog.specs.DdlCauses.{Stands, create_table_rows}
 use Rattle.med_catalog.specs.Changes.{AreDeclared, ObjectChange, new_table, no_server, no_table, changed}
 use Rattle.open_cursors.specs.Counted.{ReadsTables}
-use Rattle.open_cursors.specs.Fetching.{PullsFetched}
-use Rattle.open_cursors.specs.Open.{Opened, Seated, leases_table, any_leases, opened_named}
-use Rattle.sql_meaning.specs.World.{World, Source, SourceState, standing, dropped, with_session, without_sessions, beside_without}
-use Rattle.med_world.specs.Seats.{seat_of, IsOpenAt, AreSoundSeats, SeatAgrees}
+use Rattle.open_cursors.specs.Fetching.{HasRisen, PullsFetched}
+use Rattle.open_cursors.specs.Open.{Opened, Seated, leases_table, any_leases}
+use Rattle.sql_meaning.specs.World.{World, Cursor, Session, Source, SourceState, standing, dropped, with_session, without_sessions, beside_without}
+use Rattle.sql_meaning.specs.Cursors.{cursor_named, IsBareQuery}
+use Rattle.med_world.specs.Selecting.{PullsAgreed}
+use Rattle.med_world.specs.Seats.{seat_of, asked_of, opened_at, IsOpenAt, AreSoundSeats, SeatAgrees}
 use Rattle.sql_meaning.specs.Steps.{Trouble, Step}
 use Rattle.sql_meaning.specs.Replies.{Reply, done, answered, reply_text}
 
@@ -258,36 +260,57 @@ pub record ReadsOnce (e : Shown) (q : SelectTree) (new : List (Option BoxState))
   pub are : ArePlaces e.bound (meant_by e.catalog q).entries places
   pub reads : ReadsTables places e.boxes new
 
+-- For SELECT besides no more rows were given than is asked for by what the boxes agreed to.
+pub record AnswersOnce (e : Shown) (q : SelectTree) (new : List (Option BoxState)) : Type 0 where
+  pub once : ReadsOnce e q new
+  pub pulls : PullsAgreed (meant_by e.catalog q).form once.places e.boxes new
+
 -- For DECLARE a query was begun once; one with FROM whose rows can be shown as they are joined, and no row was asked for.
 pub record BeginsOnce (e : Shown) (q : SelectTree) (new : List (Option BoxState)) : Type 0 where
   pub once : ReadsOnce e q new
   pub plain : IsPlainForm (meant_by e.catalog q).form → 0 < length (meant_by e.catalog q).entries → PullsNone e.boxes new
 
--- A FETCH asked the session's cursor of this name for a row no more often than for so many rows, and no other.
-abbrev pub AsksCursor : Shown → ℕ → CountTree → Name → List (Option BoxState) → Type 0
-AsksCursor e sid asked name new =
-    (seat : Seated) (o : Opened) → seat_of e.seats sid ≡ Some seat → opened_named name seat.cursors ≡ Some o
-    → (after : Run) × PullsFetched asked o.run e.boxes after new
+-- no more than so many rows were given, all by one box; where all were asked for, any number by any box
+abbrev pub GivesWithin : CountTree → List (Option BoxState) → List (Option BoxState) → Type 0
+GivesWithin (some_rows n) old new = (slot : ℕ) × PullsAtMost (many_in slot n) old new
+GivesWithin all_rows old new = Unit {0}
+
+-- in each world where the session's cursor of this name is over all rows of one table
+abbrev pub IsBareCursor : Shown → ℕ → Name → Type 0
+IsBareCursor e sid name =
+    (w : World) × (s : Session) × (c : Cursor) × Agrees e w × (w.sessions sid ≡ Some s) × (cursor_named name s ≡ Some c) × IsBareQuery c.query
+
+-- A FETCH asked the session's cursor of this name for a row no more often than for so many rows, each time counted, and no other cursor; its
+-- run goes on behind them. Of a cursor over all rows of one table, no more than so many rows were given.
+pub record AsksCursor (e : Shown) (sid : ℕ) (asked : CountTree) (name : Name) (new : Shown) : Type 0 where
+  pub at : Opened
+  pub there : opened_at e.seats sid name ≡ Some at
+  pub run : Run
+  pub goes_on : opened_at new.seats sid name ≡ Some (record at { run = run })
+  pub pulls : PullsFetched asked at.run e.boxes (asked_of e.seats sid) run new.boxes (asked_of new.seats sid)
+  pub few : IsBareCursor e sid name → GivesWithin asked e.boxes new.boxes
 
 -- What a statement with this tree that is answered so asked the boxes for: a SELECT that was answered by rows, a DECLARE that opened its
 -- cursor, and a FETCH that gave rows.
-abbrev pub TreeAsks : Shown → ℕ → CommandTree → Reply → List (Option BoxState) → Type 0
-TreeAsks e sid (on_data (select q)) (answered tag names rows) new = ReadsOnce e q new
-TreeAsks e sid (on_cursors (declare name (select q))) (done tag) new = BeginsOnce e q new
+abbrev pub TreeAsks : Shown → ℕ → CommandTree → Reply → Shown → Type 0
+TreeAsks e sid (on_data (select q)) (answered tag names rows) new = AnswersOnce e q new.boxes
+TreeAsks e sid (on_cursors (declare name (select q))) (done tag) new = BeginsOnce e q new.boxes
 TreeAsks e sid (on_cursors (fetch asked name)) (answered tag names rows) new = AsksCursor e sid asked name new
 TreeAsks e sid tree reply new = Unit {0}
 
 -- what a request that is answered so asked the boxes for
-abbrev pub AsksBoxes : Shown → ℕ → AskedLine → Reply → List (Option BoxState) → Type 0
+abbrev pub AsksBoxes : Shown → ℕ → AskedLine → Reply → Shown → Type 0
 AsksBoxes old sid request reply new =
     (text : List ℕ) (tree : CommandTree) → request ≡ sql text → HasCommand text tree → TreeAsks old sid tree reply new
 
--- The request is answered by this reply: from each world that agrees before, a step leads to it and to a world that agrees after.
+-- The request is answered by this reply: from each world that agrees before, a step leads to it and to a world that agrees after. That a
+-- cursor had been asked for a row may be told only where the session's count of that has risen.
 pub record Leads (old : Shown) (sid : ℕ) (request : AskedLine) (reply : Reply) (new : Shown) : Type 0 where
   pub trouble : Trouble
   pub befell : Befell old.boxes new.boxes trouble
+  pub asked : trouble.asked ≡ true → HasRisen (asked_of old.seats sid) (asked_of new.seats sid)
   pub rises : EachRises old.boxes new.boxes
-  pub asks : AsksBoxes old sid request reply new.boxes
+  pub asks : AsksBoxes old sid request reply new
   pub step : (w : World) → Agrees old w → (after : World) × Step w sid request trouble reply after × Agrees new after
 
 -- The request is answered by the bytes of a reply.

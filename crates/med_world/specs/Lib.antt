@@ -1,7 +1,7 @@
 pub mod Seats
+pub mod Selecting
 pub mod Engine
 pub mod Altering
-pub mod Selecting
 pub mod Writing
 pub mod Turning
 pub mod Laws

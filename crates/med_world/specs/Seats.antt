@@ -4,12 +4,13 @@ use Rattle.med_value.specs.Datum.{Tuple}
 use Rattle.med_syntax.specs.Tree.{Name}
 use Rattle.med_query.specs.Query.{IsAnswer}
 use Rattle.fdw_api.specs.State.{BoxState}
+use Rattle.med_exec.specs.Pulling.{GivesAsTheyCome}
 use Rattle.med_exec.specs.Rests.{Rests}
 use Rattle.med_catalog.specs.Objects.{table_named}
-use Rattle.open_cursors.specs.Open.{Opened, Seated, AreNamedApart}
+use Rattle.open_cursors.specs.Open.{Opened, Seated, AreNamedApart, opened_named}
 use Rattle.med_value.specs.Limits.{cursor_limit}
 use Rattle.sql_meaning.specs.World.{World, Leased, Cursor, Session, cells_of, rows_named}
-use Rattle.sql_meaning.specs.Cursors.{rows_leased}
+use Rattle.sql_meaning.specs.Cursors.{rows_leased, IsBareQuery}
 
 -- ---- by the number of the session
 
@@ -21,13 +22,29 @@ seat_in (Some seat) = seat
 abbrev pub seat_of : List (Option Seated) → ℕ → Option Seated
 seat_of seats sid = seat_in (slice_get seats (sid - 1))
 
+abbrev pub asked_in : Option Seated → ℕ
+asked_in None = 0
+asked_in (Some s) = s.asked
+
+-- its cursor of this name
+abbrev pub opened_in : Name → Option Seated → Option Opened
+opened_in name None = None
+opened_in name (Some s) = opened_named name s.cursors
+
+abbrev pub opened_at : List (Option Seated) → ℕ → Name → Option Opened
+opened_at seats sid name = opened_in name (seat_of seats sid)
+
 -- its user
 abbrev pub user_of : List (Option Seated) → ℕ → Option Name
 user_of seats sid = option_map (λ (s : Seated). s.user) (seat_of seats sid)
 
+-- how often the cursors of the session were asked for a row; 0 where it is closed
+abbrev pub asked_of : List (Option Seated) → ℕ → ℕ
+asked_of seats sid = asked_in (seat_of seats sid)
+
 -- a session that was just opened
 abbrev pub new_seat : Name → Seated
-new_seat user = record { user = user; cursors = [] }
+new_seat user = record { user = user; cursors = []; asked = 0 }
 
 -- ---- what an engine keeps of them
 
@@ -54,7 +71,8 @@ pub record StillStands (w : World) (l : Leased) : Type 0 where
   pub rows : l.rows ≡ cells_of (rows_named l.table w.catalog.tables w.rows)
 
 -- The cursor of a world is the engine's: its names and tables are, which stand as they stood at DECLARE; and what it has handed out,
--- followed by any rows that its run may still give, is an answer over them.
+-- followed by any rows that its run may still give, is an answer over them. The run of one over all rows of one table shows them as they
+-- come.
 pub record CursorAgrees (boxes : List (Option BoxState)) (w : World) (o : Opened) (c : Cursor) : Type 0 where
   pub name : c.name ≡ o.name
   pub names : c.names ≡ o.names
@@ -62,6 +80,7 @@ pub record CursorAgrees (boxes : List (Option BoxState)) (w : World) (o : Opened
   pub stand : (l : Leased) → Contains c.reads l → StillStands w l
   pub some : (rows : List Tuple) × Rests o.run boxes rows
   pub answers : (rows : List Tuple) → Rests o.run boxes rows → IsAnswer c.query (rows_leased c.reads) (c.handed ++ rows)
+  pub bare : IsBareQuery c.query → GivesAsTheyCome o.run
 
 -- one cursor for each, in their order
 abbrev pub CursorsAgree : List (Option BoxState) → World → List Opened → List Cursor → Type 0

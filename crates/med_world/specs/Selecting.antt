@@ -1,5 +1,5 @@
 -- What a query does to the boxes, and why it is refused.
-use Rattle.std.specs.Prelude.{◌≡◌, ◌<◌, ◌≤◌, List, length, Option}
+use Rattle.std.specs.Prelude.{◌≡◌, ◌<◌, ◌≤◌, List, length, map, Option}
 use Rattle.med_value.specs.Datum.{Tuple}
 use Rattle.med_value.specs.declared.cause.Cause.{Cause}
 use Rattle.med_value.specs.declared.cause.Cause.TheVariants.{LimitExceeded}
@@ -7,7 +7,10 @@ use Rattle.med_syntax.specs.Tree.{Name}
 use Rattle.med_syntax.specs.QueryTree.{SelectTree}
 use Rattle.med_query.specs.Query.{Query, Tables, SameRows, IsAnswer}
 use Rattle.fdw_api.specs.State.{BoxState}
-use Rattle.med_binder.specs.Place.{Place}
+use Rattle.med_query.specs.Form.{Form, form_of}
+use Rattle.med_binder.specs.Place.{Place, entry_place}
+use Rattle.med_binder.specs.declared.bound.BoundQuery.{BoundQuery}
+use Rattle.bound_runs.specs.Pulling.{PullsRows}
 use Rattle.med_query.specs.Causes.{IsShownCause}
 use Rattle.med_planner.specs.Planned.{entry_rows}
 use Rattle.med_exec.specs.Running.{AllServed, AllHonest}
@@ -24,6 +27,15 @@ pub record AnswersOver (q : Query) (places : List Place) (boxes : List (Option B
   pub answers : AllHonest boxes → (db : Tables) → SameRows (entry_rows boxes places) db → IsAnswer q db rows
   pub clear : AllHonest boxes → (db : Tables) → SameRows (entry_rows boxes places) db → (c : Cause) → IsShownCause q db c → ⊥
 
+-- How many rows the boxes gave for a query of this form over tables in these places: the run asked for none, or went by what the boxes
+-- agreed to. Of one table whose box agreed to give the rows in the order of ORDER BY, or where there is none, and answered Exact to each
+-- conjunct, with LIMIT no more than OFFSET and LIMIT ask for.
+pub record PullsAgreed (f : Form) (places : List Place) (old new : List (Option BoxState)) : Type 0 where
+  pub bound : BoundQuery
+  pub form : form_of bound.select ≡ f
+  pub at : map entry_place bound.entries.items ≡ places
+  pub rows : PullsRows bound old new
+
 -- The query was answered from the boxes, which read each of its tables once.
 pub record Selects (o : Objects) (user : Name) (bound : List Attached) (q : SelectTree) (old : List (Option BoxState))
     (names : List Name) (given : List Tuple) (new : List (Option BoxState)) : Type 0 where
@@ -35,6 +47,7 @@ pub record Selects (o : Objects) (user : Name) (bound : List Attached) (q : Sele
   pub are : ArePlaces bound (meant_by o q).entries places
   pub answers : AnswersOver (query_of (meant_by o q)) places old given
   pub reads : ReadsTables places old new
+  pub pulls : PullsAgreed (meant_by o q).form places old new
 
 -- why it is not answered
 pub data SelectFails (o : Objects) (user : Name) (bound : List Attached) (q : SelectTree) (old : List (Option BoxState)) (c : Cause)

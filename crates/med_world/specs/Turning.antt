@@ -20,6 +20,10 @@ abbrev pub with_cursors : Shown → ℕ → Seated → List Opened → List (Opt
 with_cursors e sid seat cursors boxes =
     record e { seats = slice_set e.seats (sid - 1) (Some (record seat { cursors = cursors })); boxes = boxes }
 
+-- the session, its cursors asked for a row so often
+abbrev pub having_asked : Seated → ℕ → Seated
+having_asked seat asked = record seat { asked = asked }
+
 -- a FETCH or a CLOSE of this cursor
 abbrev pub IsOfOpen : Name → CursorTree → Type 0
 IsOfOpen name (declare other q) = ⊥

@@ -22,7 +22,7 @@ ghost use Rattle.med_exec.specs.Running.{ServesRun, none_held};
 ghost use Rattle.med_exec.specs.declared.running.Run.{Run};
 ghost use Rattle.open_cursors.specs.Open.{Opened, Seated, is_full, opened_named, without_named, with_run, held_by, AreHeld, AreOwn, all_cursors};
 ghost use Rattle.open_cursors.specs.Starting.{Starts, StartFails};
-ghost use Rattle.open_cursors.specs.Fetching.{GivesRows, GivesNone, PullsFetched};
+ghost use Rattle.open_cursors.specs.Fetching.{GivesRows, GivesNone, HasRisen, PullsFetched};
 ghost use Rattle.med_catalog.specs.Objects.{TableObject, Objects};
 ghost use Rattle.med_catalog.specs.Changes.{ObjectChange, new_table, no_table, no_server, Asks};
 ghost use Rattle.med_catalog.specs.DdlCauses.{IsTold as IsToldBy, NoneStands, nothing_leased, ddl_rows};
@@ -38,7 +38,7 @@ ghost use Rattle.sql_meaning.specs.Replies.{done, answered, refused};
 ghost use Rattle.sql_meaning.specs.Steps.{TakesMemory, write_tag, ddl_tag};
 ghost use Rattle.med_world.specs.Seats.{seat_of, user_of, new_seat};
 ghost use Rattle.med_world.specs.Engine.{Shown, leased, EachBox, IsAtRest, IsSound, IsServerAt, TakesAs, Agrees, Leads, Closes, ClosesAll};
-ghost use Rattle.med_world.specs.Turning.{new_opened, with_cursors, IsOfOpen, Ends};
+ghost use Rattle.med_world.specs.Turning.{new_opened, with_cursors, having_asked, IsOfOpen, Ends};
 ghost use Rattle.med_world.specs.Altering.{IsAllowed, IsAltered, NotAltered};
 ghost use Rattle.med_world.specs.Selecting.{Selects, SelectFails};
 ghost use Rattle.med_world.specs.Writing.{IsTargetAt, WritesRows, WriteFails};
@@ -187,16 +187,16 @@ pub fn cursors_lead()
         → seat_of e.seats sid ≡ Some seat → is_some (opened_named name seat.cursors) ≡ true
         → Leads e sid (sql text) (refused DuplicateCursor) e }
     ensures fetched { (e : Shown) (new : List (Option BoxState)) (sid : ℕ) (text : List ℕ) (seat : Seated) (name : Name)
-        (asked : CountTree) (o : Opened) (rows : List Tuple) (after : Run)
+        (asked : CountTree) (o : Opened) (rows : List Tuple) (after : Run) (count : ℕ)
         → IsRead e sid text seat.user (on_cursors (fetch asked name)) → seat_of e.seats sid ≡ Some seat → IsSound e
         → opened_named name seat.cursors ≡ Some o → GivesRows o.run asked e.boxes rows after new
-        → PullsFetched asked o.run e.boxes after new → Leads e sid (sql text) (answered (codes "FETCH") o.names rows)
-        (with_cursors e sid seat (with_run name after seat.cursors) new) }
+        → PullsFetched asked o.run e.boxes seat.asked after new count → Leads e sid (sql text) (answered (codes "FETCH") o.names rows)
+        (with_cursors e sid (having_asked seat count) (with_run name after seat.cursors) new) }
     ensures not_fetched { (e : Shown) (new : List (Option BoxState)) (sid : ℕ) (text : List ℕ) (seat : Seated) (name : Name)
-        (asked : CountTree) (o : Opened) (c : AnyCause)
+        (asked : CountTree) (o : Opened) (c : AnyCause) (count : ℕ)
         → IsRead e sid text seat.user (on_cursors (fetch asked name)) → seat_of e.seats sid ≡ Some seat → IsSound e
-        → opened_named name seat.cursors ≡ Some o → GivesNone c e.boxes new → Ends o.run e.boxes new
-        → Leads e sid (sql text) (refused c) (with_cursors e sid seat (without_named name seat.cursors) new) }
+        → opened_named name seat.cursors ≡ Some o → GivesNone c e.boxes new → Ends o.run e.boxes new → HasRisen seat.asked count
+        → Leads e sid (sql text) (refused c) (with_cursors e sid (having_asked seat count) (without_named name seat.cursors) new) }
     ensures closed { (e : Shown) (new : List (Option BoxState)) (sid : ℕ) (text : List ℕ) (seat : Seated) (name : Name) (o : Opened)
         → IsRead e sid text seat.user (on_cursors (close name)) → seat_of e.seats sid ≡ Some seat → IsSound e
         → opened_named name seat.cursors ≡ Some o → Ends o.run e.boxes new
@@ -211,12 +211,12 @@ pub fn cursors_lead()
     ensures not_declared_sound { (e : Shown) (new : List (Option BoxState)) (seat : Seated) (q : SelectTree) (c : AnyCause) → IsSound e
         → StartFails e.catalog seat.user e.bound q (is_full seat.cursors) e.boxes c new → IsSound (with_boxes e new) }
     ensures fetched_sound { (e : Shown) (new : List (Option BoxState)) (sid : ℕ) (seat : Seated) (name : Name) (asked : CountTree)
-        (o : Opened) (rows : List Tuple) (after : Run) → IsSid sid → IsSound e → seat_of e.seats sid ≡ Some seat
+        (o : Opened) (rows : List Tuple) (after : Run) (count : ℕ) → IsSid sid → IsSound e → seat_of e.seats sid ≡ Some seat
         → opened_named name seat.cursors ≡ Some o → GivesRows o.run asked e.boxes rows after new
-        → IsSound (with_cursors e sid seat (with_run name after seat.cursors) new) }
-    ensures ended_sound { (e : Shown) (new : List (Option BoxState)) (sid : ℕ) (seat : Seated) (name : Name) (o : Opened) → IsSid sid
-        → IsSound e → seat_of e.seats sid ≡ Some seat → opened_named name seat.cursors ≡ Some o → Ends o.run e.boxes new
-        → IsSound (with_cursors e sid seat (without_named name seat.cursors) new) }
+        → IsSound (with_cursors e sid (having_asked seat count) (with_run name after seat.cursors) new) }
+    ensures ended_sound { (e : Shown) (new : List (Option BoxState)) (sid : ℕ) (seat : Seated) (name : Name) (o : Opened) (asked : ℕ)
+        → IsSid sid → IsSound e → seat_of e.seats sid ≡ Some seat → opened_named name seat.cursors ≡ Some o → Ends o.run e.boxes new
+        → IsSound (with_cursors e sid (having_asked seat asked) (without_named name seat.cursors) new) }
 {
     med_binder::law::causes_have_their_phase();
 }

@@ -24,6 +24,7 @@ none_called run boxes = record {
   same = refl;
   none = λ e. refl;
   most = λ bare slot. omega arith;
+  passed = λ bare. omega arith;
   offset = λ bare. omega arith;
   limit = λ bare n e. (n, e, omega arith);
 }
@@ -50,6 +51,10 @@ one_called first run last old now new n so_far next = record {
   same = next.same ∙ so_far.same;
   none = λ e. next.none (so_far.same ∙ e) ∙ so_far.none e;
   most = λ bare. most_on (slot_in first) (skip_in first) (skip_in run) n old now new (so_far.most bare) (so_far.offset bare) (asked bare).most;
+  passed = λ bare.
+      let x = so_far.passed bare in
+      let y = (asked bare).passed in
+      omega (arith, x, y);
   offset = λ bare.
       let x = so_far.offset bare in
       let y = (asked bare).offset in

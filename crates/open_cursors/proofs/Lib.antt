@@ -1,3 +1,4 @@
+mod Asking
 pub mod Rows
 pub mod Closing
 pub mod Names

@@ -1,6 +1,6 @@
 -- What FETCH and CLOSE do to the boxes, and why FETCH fails (SQL:2016, <fetch statement>, <close statement>; PostgreSQL: Writing a
 -- Foreign Data Wrapper, IterateForeignScan, EndForeignScan).
-use Rattle.std.specs.Prelude.{◌≡◌, ◌<◌, ◌≤◌, ◌+◌, ◌⊎◌, ℕ, Bool, false, nat_le, List, [], ◌++◌, length, Option, Some}
+use Rattle.std.specs.Prelude.{◌≡◌, ◌<◌, ◌≤◌, ◌+◌, ◌-◌, ◌^◌, ◌⊎◌, ℕ, min, Bool, false, nat_le, List, [], ◌++◌, length, Option, Some}
 use Rattle.med_value.specs.Datum.{Tuple}
 use Rattle.med_value.specs.declared.cause.Cause.{Cause}
 use Rattle.med_value.specs.declared.cause.Cause.TheVariants.{OutOfMemory, SourceFault}
@@ -48,14 +48,28 @@ pub record PullsFor (times : ℕ) (run : Run) (old : List (Option BoxState)) (af
   pub same : levels_in after ≡ levels_in run
   pub none : levels_in run ≡ [] → PullsNone old new
   pub most : IsBareRun (levels_in run) → PullsAtMost (many_in (slot_in run) (skip_in run + times)) old new
+  pub passed : IsBareRun (levels_in run) → skip_in after ≤ skip_in run
   pub offset : IsBareRun (levels_in run) → pulled_at new (slot_in run) + skip_in after ≤ pulled_at old (slot_in run) + (skip_in run + times)
   pub limit : IsBareRun (levels_in run) → (n : ℕ) → limit_in run ≡ Some n
       → (m : ℕ) × (limit_in after ≡ Some m)
       × (pulled_at new (slot_in run) + pulls_left (skip_in after) m ≤ pulled_at old (slot_in run) + pulls_left (skip_in run) n)
 
--- FETCH asks for a row no more often than for so many rows.
-abbrev pub PullsFetched : CountTree → Run → List (Option BoxState) → Run → List (Option BoxState) → Type 0
-PullsFetched asked run old after new = (times : ℕ) × IsWithin asked times × PullsFor times run old after new
+-- a count, so many times more, as far as it goes: to 2^64 - 1
+abbrev pub counted : ℕ → ℕ → ℕ
+counted before times = min (before + times) (2 ^ 64 - 1)
+
+-- a count has risen, or stands at its end
+abbrev pub HasRisen : ℕ → ℕ → Type 0
+HasRisen before after = (before < after) ⊎ (after ≡ 2 ^ 64 - 1)
+
+-- FETCH asks for a row no more often than for so many rows, at least once where it asks for any, and each time is counted.
+pub record PullsFetched (asked : CountTree) (run : Run) (old : List (Option BoxState)) (before : ℕ) (after : Run)
+    (new : List (Option BoxState)) (later : ℕ) : Type 0 where
+  pub times : ℕ
+  pub within : IsWithin asked times
+  pub some : has_enough asked 0 ≡ false → 0 < times
+  pub pulls : PullsFor times run old after new
+  pub counts : later ≡ counted before times
 
 -- the cause that a fault of a box is told by
 abbrev pub cause_of : Fault → Cause

@@ -1,5 +1,5 @@
 -- Cursors that are open, as an engine holds them (SQL:2016, <declare cursor>; ISO/IEC 9075-2, 14 "Data manipulation").
-use Rattle.std.specs.Prelude.{Bool, false, List, [], ◌∷◌, length, map, filter, find, not, cond, flat_map, nat_le, Option, Some, None, option_map, bytes_eq, string_bytes}
+use Rattle.std.specs.Prelude.{ℕ, Bool, false, List, [], ◌∷◌, length, map, filter, find, not, cond, flat_map, nat_le, Option, Some, None, option_map, bytes_eq, string_bytes}
 use Rattle.std.specs.List.{All, IsDistinct, list_any}
 use Rattle.med_value.specs.Limits.{cursor_limit}
 use Rattle.med_syntax.specs.Tree.{Name}
@@ -18,10 +18,11 @@ pub record Opened : Type 0 where
   pub leases : List Name
   pub run : Run
 
--- an open session: its user, and its cursors in the order in which they were declared
+-- an open session: its user, its cursors in the order in which they were declared, and how often its cursors were asked for a row
 pub record Seated : Type 0 where
   pub user : Name
   pub cursors : List Opened
+  pub asked : ℕ
 
 abbrev pub opened : OpenCursor → Opened
 opened c = record {
@@ -32,7 +33,7 @@ opened c = record {
 }
 
 abbrev pub seated : Seat → Seated
-seated s = record { user = string_bytes s.user; cursors = map opened s.cursors.items }
+seated s = record { user = string_bytes s.user; cursors = map opened s.cursors.items; asked = s.asked.times }
 
 -- the sessions by their places: one that is closed has left its place empty
 abbrev pub seats_shown : List (Option Seat) → List (Option Seated)

@@ -10,7 +10,7 @@ use Rattle.med_syntax.specs.QueryTree.{EntryTree, SelectTree}
 use Rattle.bind_names.specs.Scope.{entries_of}
 use Rattle.med_query.specs.Query.{Query, Tables, SameRows, IsAnswer}
 use Rattle.med_query.specs.Form.{query_by, is_risky_form}
-use Rattle.med_planner.specs.Plain.{IsPlainForm}
+use Rattle.med_planner.specs.Plain.{IsPlainForm, IsBareForm}
 use Rattle.fdw_api.specs.State.{BoxState}
 use Rattle.med_binder.specs.Place.{Place}
 use Rattle.med_query.specs.Causes.{IsShownCause}
@@ -18,7 +18,7 @@ use Rattle.med_planner.specs.Planned.{entry_rows}
 use Rattle.med_exec.specs.declared.running.Run.{Run}
 use Rattle.med_exec.specs.Running.{AllHonest, AllServed, ServesRun, SlotShows, HasFailed, IsUsedUp, none_held}
 use Rattle.med_exec.specs.Rests.{Rests, held, IsRunning}
-use Rattle.med_exec.specs.Pulling.{PullsNone}
+use Rattle.med_exec.specs.Pulling.{PullsNone, GivesAsTheyCome}
 use Rattle.med_catalog.specs.Objects.{Objects}
 use Rattle.bind_catalog.specs.Queries.{meant_by, IsBindable, NotBound}
 use Rattle.bind_catalog.specs.Places.{Attached, ArePlaces}
@@ -58,6 +58,7 @@ pub record Starts (o : Objects) (user : Name) (bound : List Attached) (q : Selec
   pub rests : RestsOver (query_by (meant_by o q).form) places old (Rests run new)
   pub reads : ReadsTables places old new
   pub plain : IsPlainForm (meant_by o q).form → 0 < length (meant_by o q).entries → PullsNone old new
+  pub bare : IsBareForm (meant_by o q).form → GivesAsTheyCome run
 
 -- why the run of a query was not begun
 pub data RunFails (q : Query) (places : List Place) (c : Cause) (old new : List (Option BoxState)) : Type 0 where

@@ -1,5 +1,6 @@
 //! Open cursors and the sessions that have them.
 ghost use Rattle.std.specs.Prelude.{◌≡◌, map};
+ghost use Rattle.open_cursors.specs.Fetching.{counted};
 ghost use Rattle.open_cursors.specs.Open.{opened, is_full as holds_most};
 
 use med_exec::Run;
@@ -17,11 +18,42 @@ pub struct OpenCursor {
     pub run: Run,
 }
 
-/// An open session: its user and its cursors, in the order in which they were declared.
+/// A count of the times that cursors were asked for a row, to 2^64 - 1. Nothing but [`crate::fetch`] counts it up, each time that it asks.
+#[derive(Debug, Drop)]
+pub struct Asked {
+    times: u64,
+}
+
+impl Asked {
+    /// They were never asked.
+    pub fn never() -> Asked
+        ensures { result.times ≡ 0 }
+    {
+        Asked { times: 0 }
+    }
+
+    /// So often they were asked.
+    pub fn times(&self) -> u64
+        ensures { result ≡ self.now.times }
+    {
+        self.times
+    }
+
+    // Once more.
+    pub(crate) fn count(&mut self)
+        ensures { self.new.times ≡ counted self.old.times 1 }
+    {
+        self.times = self.times.saturating_add(1);
+    }
+}
+
+/// An open session: its user, its cursors in the order in which they were declared, and how often these were asked for a row.
 #[derive(Drop)]
 pub struct Seat {
     pub user: String,
     pub cursors: Vec<OpenCursor>,
+    /// How often its cursors were asked for a row.
+    pub asked: Asked,
 }
 
 /// Whether a session with these cursors may open no further one.

@@ -7,9 +7,9 @@ ghost use Rattle.med_exec.specs.Counting.{none_in, BeginsScans};
 ghost use Rattle.med_exec.specs.Running.{ServesRun, Breaks, none_held};
 ghost use Rattle.med_exec.specs.Rests.{held, IsRunning, IsHeld};
 ghost use Rattle.open_cursors.specs.Open.{opened, held_by, AreHeld, AreOwn};
-ghost use Rattle.open_cursors.specs.Fetching.{has_enough, GivesRows, GivesNone, PullsFetched, cause_of};
+ghost use Rattle.open_cursors.specs.Fetching.{has_enough, GivesRows, GivesNone, HasRisen, PullsFetched, cause_of};
 
-use crate::cursors::OpenCursor;
+use crate::cursors::{Asked, OpenCursor};
 use cursor_syntax::FetchCount;
 use fdw_api::interface::Fault;
 use fdw_api::wishes::Wrapper2;
@@ -45,7 +45,7 @@ impl Unfetched {
 }
 
 /// Gives as many rows of a run as are asked for, or all that are left where they are fewer, in their order. It asks the run for no row
-/// beyond them, and the next FETCH goes on behind them. No scan is begun. No box gives a row where the run holds its answer; where it
+/// beyond them, counts each time that it asks, and the next FETCH goes on behind them. No scan is begun. No box gives a row where the run holds its answer; where it
 /// holds the scan of one table of whose rows nothing is checked again, its box gives no more rows than are asked for, after those that
 /// OFFSET passes.
 ///
@@ -61,13 +61,16 @@ pub fn fetch<W: Wrapper2>(
     slots: &mut Vec<Option<W>>,
     alloc: Global,
     asked: FetchCount,
+    count: &mut Asked,
 ) -> Result<Vec<Row>, Unfetched>
     requires { IsRunning run.old (states W.meaning slots.old.items) }
     ensures boxes { ServesRun (held run.old) (held run.new) (states W.meaning slots.old.items) (states W.meaning slots.new.items) }
     ensures same { held run.new ≡ held run.old }
     ensures held { IsHeld run.new (states W.meaning slots.new.items) }
     ensures begins { BeginsScans none_in (states W.meaning slots.old.items) (states W.meaning slots.new.items) }
-    ensures pulls { PullsFetched (count_tree asked) run.old (states W.meaning slots.old.items) run.new (states W.meaning slots.new.items) }
+    ensures pulls { PullsFetched (count_tree asked) run.old (states W.meaning slots.old.items) count.old.times
+        run.new (states W.meaning slots.new.items) count.new.times }
+    ensures asked { IfErr result (λ _. HasRisen count.old.times count.new.times) }
     ensures ok { IfOk result (λ rows. GivesRows run.old (count_tree asked) (states W.meaning slots.old.items) (map tuple rows.items)
         run.new (states W.meaning slots.new.items)) }
     ensures err { IfErr result (λ u. GivesNone (cause_of u.fault)
@@ -79,6 +82,7 @@ pub fn fetch<W: Wrapper2>(
     running_is_held();
     let mut rows = Vec::new(alloc);
     while !is_enough(asked, rows.len()) {
+        count.count();
         let row = match run.next(alloc, slots) {
             Ok(Some(row)) => row,
             Ok(None) => return Ok(rows),

@@ -8,7 +8,7 @@ mod fetching;
 mod leases;
 mod named;
 
-pub use cursors::{OpenCursor, Seat, is_full};
+pub use cursors::{Asked, OpenCursor, Seat, is_full};
 pub use fetching::{Unfetched, close_all, close_cursor, fetch};
 pub use leases::is_leased;
 pub use named::{position, take};

@@ -1,8 +1,8 @@
 -- Cursors of a world: by name, and what a FETCH gives (SQL:2016, <declare cursor>, <fetch statement>, <close statement>).
-use Rattle.std.specs.Prelude.{◌≡◌, ◌<◌, ◌⊎◌, zero, suc, Bool, not, List, [], ◌∷◌, ◌++◌, length, map, flat_map, find, filter, cond, Option, bytes_eq}
+use Rattle.std.specs.Prelude.{◌≡◌, ◌<◌, ◌⊎◌, ℕ, zero, suc, Bool, false, not, List, [], ◌∷◌, ◌++◌, length, map, flat_map, find, filter, cond, Option, None, bytes_eq}
 use Rattle.med_value.specs.Datum.{Tuple}
 use Rattle.med_syntax.specs.Tree.{Name}
-use Rattle.med_query.specs.Query.{Tables, IsAnswer}
+use Rattle.med_query.specs.Query.{Table, Core, Query, Tables, IsAnswer}
 use Rattle.cursor_syntax.specs.CursorTree.{CountTree, some_rows, all_rows}
 use Rattle.sql_meaning.specs.World.{Leased, Cursor, Session}
 
@@ -73,3 +73,18 @@ IsLast all_rows rows = Unit {0}
 -- the rows that they gave, joined
 abbrev pub rows_fetched : List Fetched → List Tuple
 rows_fetched fs = flat_map (λ (f : Fetched). f.rows) fs
+
+-- ---- the plainest queries
+
+-- SELECT items FROM one table, and no more: every row is shown, from the first on. LIMIT it may have.
+pub record IsBareQuery (q : Query) : Type 0 where
+  pub core : Core
+  pub alone : q.cores ≡ core ∷ []
+  pub table : ℕ
+  pub from : core.from ≡ Table table ∷ []
+  pub all_kept : core.where_ ≡ []
+  pub ungrouped : core.group ≡ None
+  pub all_rows : core.distinct ≡ false
+  pub keys : core.keys ≡ []
+  pub unordered : q.directions ≡ []
+  pub at_first : q.offset ≡ 0

@@ -15,6 +15,9 @@ use Rattle.bound_runs.specs.Counting.{scans_of}
 use Rattle.bound_runs.proofs.Beginning.{begun, held_begun, stream_holds, levels_placed, answer_holds, not_shown}
 use Rattle.bound_runs.proofs.Counts.{begins_told, at_most_told}
 use Rattle.bound_runs.proofs.Words.{run_answers, run_pulls, run_stops}
+use Rattle.loop_runs.specs.Gathering.{levels_in}
+use Rattle.scan_loops.specs.Pulling.{IsBareRun}
+use Rattle.bound_runs.proofs.Bare.{shows_all, has_entry}
 use Rattle.bound_runs.proofs.Plain.{unordered}
 use Rattle.bound_runs.proofs.running.start_bound.Goals as goal
 
@@ -74,6 +77,15 @@ returns-in-Ok-start_plan-clause-scans g c =
 pub returns-in-Ok-start_plan-clause-plain : goal.returns-in-Ok-start_plan-clause-plain
 returns-in-Ok-start_plan-clause-plain g c = λ plain safe some. c.in-Ok-start_plan.ensures.pulls
 
+pub returns-in-Ok-start_plan-clause-bare : goal.returns-in-Ok-start_plan-clause-bare
+returns-in-Ok-start_plan-clause-bare g c = λ bare safe.
+    let started = c.in-Ok-start_plan.ensures.ok in
+    let made = c.in-Ok.ensures.ok in
+    let asks = c.streamed.ensures.asks in (
+      subst IsBareRun (sym asks.0) (shows_all c.args.bound made.agreed.answers (levels_in c.in-Ok.plan.loops.items) c.in-Ok-start_plan.run'.levels.items bare made.agreed.levels started.levels),
+      asks.1 ∙ started.skip ∙ ap (λ (s : Select). s.offset) made.query ∙ bare.at_first,
+    )
+
 pub returns-in-Err-start_plan-clause-ended : goal.returns-in-Err-start_plan-clause-ended
 returns-in-Err-start_plan-clause-ended g c = c.in-Err-start_plan.ensures.err.served
 
@@ -126,6 +138,12 @@ pub returns-in-Ok-run_plan-clause-plain : goal.returns-in-Ok-run_plan-clause-pla
 returns-in-Ok-run_plan-clause-plain g c = λ plain safe some.
     let made = c.in-Ok.ensures.ok in
     let shown = unordered (states g.W.Wrapper.meaning c.args.slots.now.items) c.args.bound c.in-Ok.plan made plain safe some in
+    absurd (not_shown c.is_shown.result c.if-is_shown.false (c.is_shown.ensures.1 (inl shown)))
+
+pub returns-in-Ok-run_plan-clause-bare : goal.returns-in-Ok-run_plan-clause-bare
+returns-in-Ok-run_plan-clause-bare g c = λ bare safe.
+    let made = c.in-Ok.ensures.ok in
+    let shown = unordered (states g.W.Wrapper.meaning c.args.slots.now.items) c.args.bound c.in-Ok.plan made bare.plain safe (has_entry c.args.bound bare c.requires.ready.counts) in
     absurd (not_shown c.is_shown.result c.if-is_shown.false (c.is_shown.ensures.1 (inl shown)))
 
 pub returns-in-Err-run_plan-clause-ended : goal.returns-in-Err-run_plan-clause-ended

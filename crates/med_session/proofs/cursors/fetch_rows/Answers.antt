@@ -5,7 +5,7 @@ use Rattle.med_exec.specs.Rests.{held}
 use Rattle.med_exec.specs.declared.running.Run.{Run}
 use Rattle.std.proofs.lemmas.Grind.{common_steps}
 use Rattle.med_exec.specs.Slots.{states}
-use Rattle.med_world.specs.Turning.{later}
+use Rattle.med_world.specs.Turning.{later, having_asked}
 use Rattle.open_cursors.specs.Fetching.{GivesNone, no_memory, box_fails, cause_of}
 use Rattle.open_cursors.specs.declared.cursors.OpenCursor.{OpenCursor}
 use Rattle.open_cursors.specs.Open.{Opened, opened, opened_named, seated}
@@ -24,9 +24,10 @@ returns-in-Ok-fetch-clause-ok g c =
       there = named_there c.args.name.now cursors c.in-Some.place at lt c.index_mut.ensures.value there;
       named = c.in-Ok.ensures ∙ ap (λ (xs : List _). map string_bytes xs) c.deref-2.ensures.value ∙ ap (λ (o : OpenCursor). map string_bytes o.names.items) (same_at cursors c.in-Some.place c.index.result.now at lt c.index.ensures c.index_mut.ensures.value);
       run = c.fetch.new.run;
+      count = c.fetch.new.count.times;
       gives = c.in-Ok-fetch.ensures.ok;
       pulls = c.fetch.ensures.pulls;
-      is = ap (λ (cs : List Opened). having (seated c.args.seat.now) cs) (runs_there c.args.name.now cursors c.in-Some.place at c.fetch.new.run c.requires.sound.apart lt c.index_mut.ensures.value there);
+      is = ap (λ (cs : List Opened). having (having_asked (seated c.args.seat.now) c.fetch.new.count.times) cs) (runs_there c.args.name.now cursors c.in-Some.place at c.fetch.new.run c.requires.sound.apart lt c.index_mut.ensures.value there);
     }
 
 breaks_none : (fault : Fault) (old new : List _) → Breaks fault old new → GivesNone (cause_of fault) old new
@@ -46,7 +47,9 @@ returns-in-Err-clause-err g c =
     record {
       at = opened at;
       there = named_there c.args.name.now cursors c.in-Some.place at lt c.index_mut.ensures.value there;
+      count = c.fetch.new.count.times;
+      risen = c.in-Err.ensures.asked;
       gives = breaks_none c.in-Err.unfetched.fault old new (c.services_join.ensures.broken none_held none_held (held c.remove.result.run) none_held old old mid new c.in-Err.unfetched.fault (c.services_join.ensures.same none_held old) c.in-Err.ensures.breaks c.close_cursor.ensures);
       ends = later c.fetch.new.run mid c.fetch.ensures.boxes (subst (λ (r : Run). ServesRun (held r) none_held mid new) same c.close_cursor.ensures);
-      is = ap (λ (cs : List Opened). having (seated c.args.seat.now) cs) (ap (map opened) c.remove.ensures.items ∙ gone_there c.args.name.now cursors c.in-Some.place at _ c.requires.sound.apart lt c.index_mut.ensures.value there);
+      is = ap (λ (cs : List Opened). having (having_asked (seated c.args.seat.now) c.fetch.new.count.times) cs) (ap (map opened) c.remove.ensures.items ∙ gone_there c.args.name.now cursors c.in-Some.place at _ c.requires.sound.apart lt c.index_mut.ensures.value there);
     }

@@ -7,10 +7,11 @@ use Rattle.med_exec.specs.Slots.{states}
 use Rattle.med_exec.specs.Counting.{none_in}
 use Rattle.med_exec.specs.Running.{AllHonest, GivesNext, EndsAt}
 use Rattle.med_exec.specs.Rests.{Rests, held}
-use Rattle.open_cursors.specs.Fetching.{has_enough, IsWithin, PullsFor}
+use Rattle.open_cursors.specs.Fetching.{has_enough, IsWithin, PullsFor, counted as counted_to}
 use Rattle.med_exec.proofs.Counted.{begins_none}
 use Rattle.open_cursors.proofs.Kept.{tables_itself, tables_on}
 use Rattle.open_cursors.proofs.Counts.{begins_on, none_called, one_called}
+use Rattle.open_cursors.proofs.Asking.{counts_none, counts_on, risen_on, some_given}
 use Rattle.open_cursors.proofs.Rows.{one_more, all_given, all_then, within_more, none_given, within_none, enough_given, all_there, gives_none}
 use Rattle.open_cursors.proofs.fetching.fetch.Goals as goal
 
@@ -71,6 +72,8 @@ loop-alloc-preserved g c =
           one_more c.args.run.now c.loop-alloc.run c.next.new.self old now next c.loop-alloc.rows.items c.push.new.self.items c.in-Ok-Some.row pushed (c.loop-alloc.invariant.given honest)
           (gives (c.services_join.ensures.honest (held c.args.run.now) (held c.loop-alloc.run) old now c.loop-alloc.invariant.boxes honest));
       most = subst (IsWithin (count_tree c.args.asked)) counted (within_more (count_tree c.args.asked) (length c.loop-alloc.rows.items) more);
+      counts = subst (λ (n : ℕ). c.count.new.self.times ≡ counted_to c.args.count.now.times n) counted
+          (counts_on c.args.count.now.times (length c.loop-alloc.rows.items) c.loop-alloc.count.times c.count.new.self.times c.loop-alloc.invariant.counts c.count.ensures);
     }
 
 pub returns-in-Err-clause-begins : goal.returns-in-Err-clause-begins
@@ -101,6 +104,7 @@ loop-alloc-init g c =
       running = c.requires;
       given = λ honest. none_given c.args.run.now old c.new-rows.result.items c.new-rows.ensures.items;
       most = within_none (count_tree c.args.asked) c.new-rows.result.items c.new-rows.ensures.items;
+      counts = subst (λ (rs : List Row). c.args.count.now.times ≡ counted_to c.args.count.now.times (length rs)) (sym c.new-rows.ensures.items) (counts_none c.args.count.now.times _);
     }
 
 pub returns-clause-ok : goal.returns-clause-ok
@@ -125,31 +129,55 @@ pub returns-in-Err-clause-pulls : goal.returns-in-Err-clause-pulls
 returns-in-Err-clause-pulls g c =
     let m = g.W.Wrapper.meaning in
     let counted : c.len.result ≡ length c.loop-alloc.rows.items = c.len.ensures ∙ c.loop-alloc.rows.ok.0 in
-    let more : has_enough (count_tree c.args.asked) (length c.loop-alloc.rows.items) ≡ false = ap (has_enough (count_tree c.args.asked)) (sym counted) ∙ sym c.is_enough.ensures ∙ c.loop-alloc-test.true in (
-      length c.loop-alloc.rows.items + 1,
-      within_more (count_tree c.args.asked) (length c.loop-alloc.rows.items) more,
-      one_called c.args.run.now c.loop-alloc.run c.next.new.self (states m c.args.slots.now.items) (states m c.loop-alloc.slots.items) (states m c.next.new.slots.items) (length c.loop-alloc.rows.items) c.loop-alloc.invariant.pulls c.next.ensures.pulls,
-    )
+    let more : has_enough (count_tree c.args.asked) (length c.loop-alloc.rows.items) ≡ false = ap (has_enough (count_tree c.args.asked)) (sym counted) ∙ sym c.is_enough.ensures ∙ c.loop-alloc-test.true in
+      record {
+      times = length c.loop-alloc.rows.items + 1;
+      within = within_more (count_tree c.args.asked) (length c.loop-alloc.rows.items) more;
+      some = λ _. omega arith;
+      pulls = one_called c.args.run.now c.loop-alloc.run c.next.new.self (states m c.args.slots.now.items) (states m c.loop-alloc.slots.items) (states m c.next.new.slots.items) (length c.loop-alloc.rows.items) c.loop-alloc.invariant.pulls c.next.ensures.pulls;
+      counts = counts_on c.args.count.now.times (length c.loop-alloc.rows.items) c.loop-alloc.count.times c.count.new.self.times c.loop-alloc.invariant.counts c.count.ensures;
+    }
 
 pub returns-in-Ok-None-clause-pulls : goal.returns-in-Ok-None-clause-pulls
 returns-in-Ok-None-clause-pulls g c =
     let m = g.W.Wrapper.meaning in
     let counted : c.len.result ≡ length c.loop-alloc.rows.items = c.len.ensures ∙ c.loop-alloc.rows.ok.0 in
-    let more : has_enough (count_tree c.args.asked) (length c.loop-alloc.rows.items) ≡ false = ap (has_enough (count_tree c.args.asked)) (sym counted) ∙ sym c.is_enough.ensures ∙ c.loop-alloc-test.true in (
-      length c.loop-alloc.rows.items + 1,
-      within_more (count_tree c.args.asked) (length c.loop-alloc.rows.items) more,
-      one_called c.args.run.now c.loop-alloc.run c.next.new.self (states m c.args.slots.now.items) (states m c.loop-alloc.slots.items) (states m c.next.new.slots.items) (length c.loop-alloc.rows.items) c.loop-alloc.invariant.pulls c.next.ensures.pulls,
-    )
+    let more : has_enough (count_tree c.args.asked) (length c.loop-alloc.rows.items) ≡ false = ap (has_enough (count_tree c.args.asked)) (sym counted) ∙ sym c.is_enough.ensures ∙ c.loop-alloc-test.true in
+      record {
+      times = length c.loop-alloc.rows.items + 1;
+      within = within_more (count_tree c.args.asked) (length c.loop-alloc.rows.items) more;
+      some = λ _. omega arith;
+      pulls = one_called c.args.run.now c.loop-alloc.run c.next.new.self (states m c.args.slots.now.items) (states m c.loop-alloc.slots.items) (states m c.next.new.slots.items) (length c.loop-alloc.rows.items) c.loop-alloc.invariant.pulls c.next.ensures.pulls;
+      counts = counts_on c.args.count.now.times (length c.loop-alloc.rows.items) c.loop-alloc.count.times c.count.new.self.times c.loop-alloc.invariant.counts c.count.ensures;
+    }
 
 pub returns-then-is_err-clause-pulls : goal.returns-then-is_err-clause-pulls
 returns-then-is_err-clause-pulls g c =
     let m = g.W.Wrapper.meaning in
     let counted : c.len.result ≡ length c.loop-alloc.rows.items = c.len.ensures ∙ c.loop-alloc.rows.ok.0 in
-    let more : has_enough (count_tree c.args.asked) (length c.loop-alloc.rows.items) ≡ false = ap (has_enough (count_tree c.args.asked)) (sym counted) ∙ sym c.is_enough.ensures ∙ c.loop-alloc-test.true in (
-      length c.loop-alloc.rows.items + 1,
-      within_more (count_tree c.args.asked) (length c.loop-alloc.rows.items) more,
-      one_called c.args.run.now c.loop-alloc.run c.next.new.self (states m c.args.slots.now.items) (states m c.loop-alloc.slots.items) (states m c.next.new.slots.items) (length c.loop-alloc.rows.items) c.loop-alloc.invariant.pulls c.next.ensures.pulls,
-    )
+    let more : has_enough (count_tree c.args.asked) (length c.loop-alloc.rows.items) ≡ false = ap (has_enough (count_tree c.args.asked)) (sym counted) ∙ sym c.is_enough.ensures ∙ c.loop-alloc-test.true in
+      record {
+      times = length c.loop-alloc.rows.items + 1;
+      within = within_more (count_tree c.args.asked) (length c.loop-alloc.rows.items) more;
+      some = λ _. omega arith;
+      pulls = one_called c.args.run.now c.loop-alloc.run c.next.new.self (states m c.args.slots.now.items) (states m c.loop-alloc.slots.items) (states m c.next.new.slots.items) (length c.loop-alloc.rows.items) c.loop-alloc.invariant.pulls c.next.ensures.pulls;
+      counts = counts_on c.args.count.now.times (length c.loop-alloc.rows.items) c.loop-alloc.count.times c.count.new.self.times c.loop-alloc.invariant.counts c.count.ensures;
+    }
 
 pub returns-clause-pulls : goal.returns-clause-pulls
-returns-clause-pulls g c = (length c.loop-alloc.rows.items, c.loop-alloc.invariant.most, c.loop-alloc.invariant.pulls)
+returns-clause-pulls g c =
+    let counted : c.len.result ≡ length c.loop-alloc.rows.items = c.len.ensures ∙ c.loop-alloc.rows.ok.0 in
+    let all : has_enough (count_tree c.args.asked) (length c.loop-alloc.rows.items) ≡ true = ap (has_enough (count_tree c.args.asked)) (sym counted) ∙ sym c.is_enough.ensures ∙ c.loop-alloc-test.false in
+    record {
+      times = length c.loop-alloc.rows.items;
+      within = c.loop-alloc.invariant.most;
+      some = λ more. some_given (count_tree c.args.asked) (length c.loop-alloc.rows.items) more all;
+      pulls = c.loop-alloc.invariant.pulls;
+      counts = c.loop-alloc.invariant.counts;
+    }
+
+pub returns-in-Err-clause-asked : goal.returns-in-Err-clause-asked
+returns-in-Err-clause-asked g c = risen_on c.args.count.now.times (length c.loop-alloc.rows.items) c.loop-alloc.count.times c.count.new.self.times c.loop-alloc.invariant.counts c.count.ensures
+
+pub returns-then-is_err-clause-asked : goal.returns-then-is_err-clause-asked
+returns-then-is_err-clause-asked g c = risen_on c.args.count.now.times (length c.loop-alloc.rows.items) c.loop-alloc.count.times c.count.new.self.times c.loop-alloc.invariant.counts c.count.ensures

@@ -5,7 +5,7 @@ use Rattle.med_exec.specs.Counting.{none_in, BeginsScans}
 use Rattle.med_exec.specs.Running.{AllHonest, ServesRun}
 use Rattle.med_exec.specs.Rests.{rows_left, held, IsRunning}
 use Rattle.med_exec.specs.Leaving.{KeepTables}
-use Rattle.open_cursors.specs.Fetching.{IsWithin, PullsFor}
+use Rattle.open_cursors.specs.Fetching.{IsWithin, PullsFor, counted}
 use Rattle.open_cursors.proofs.Rows.{HasGiven}
 use Rattle.open_cursors.proofs.fetching.fetch.Given as goal
 
@@ -20,6 +20,7 @@ invariant-loop-alloc g l =
       running : IsRunning l.run (states g.W.Wrapper.meaning l.slots.items);
       given : AllHonest (states g.W.Wrapper.meaning l.fn.slots.items) → HasGiven l.fn.run (states g.W.Wrapper.meaning l.fn.slots.items) l.rows.items l.run (states g.W.Wrapper.meaning l.slots.items);
       most : IsWithin (count_tree l.asked) (length l.rows.items);
+      counts : l.count.times ≡ counted l.fn.count.times (length l.rows.items);
     }
 
 abbrev pub decreases-loop-alloc : goal.decreases-loop-alloc

@@ -6,6 +6,7 @@ use Rattle.med_world.specs.Engine.{Shown, IsSound, Leads}
 use Rattle.sql_meaning.specs.Replies.{answered, refused}
 use Rattle.sql_meaning.specs.Requests.{sql}
 use Rattle.med_world.specs.Seats.{seat_of}
+use Rattle.med_world.specs.Turning.{having_asked}
 use Rattle.med_session.specs.Shows.{shown}
 use Rattle.med_session.proofs.Seats.{put_other, read_seat, seat_sound, seat_running, left_long}
 use Rattle.med_session.proofs.Turns.{may_be_untold, failed_sound, failed_leads}
@@ -29,8 +30,8 @@ returns-in-Ok-clause-sound g c =
     let seat = seated c.in-Some.seat in
     let boxes = states g.W.Wrapper.meaning c.fetch_rows-given.new.slots.items in
     let f = rw c.as_str.ensures.value at c.in-Ok.ensures.ok in
-    subst (λ (n : Shown). IsSound n) (sym (put_other e sid seat _ _ _ _ boxes c.take_seat.ensures.left c.put_seat.ensures f.is))
-    (c.cursors_lead.ensures.fetched_sound e boxes sid seat _ _ f.at _ f.run c.args.sid.in_range c.requires.sound (sym c.in-Some.ensures.taken) f.there f.gives)
+    subst (λ (n : Shown). IsSound n) (sym (put_other e sid (having_asked seat f.count) _ _ _ _ boxes c.take_seat.ensures.left c.put_seat.ensures f.is))
+    (c.cursors_lead.ensures.fetched_sound e boxes sid seat _ _ f.at _ f.run f.count c.args.sid.in_range c.requires.sound (sym c.in-Some.ensures.taken) f.there f.gives)
 
 pub returns-in-Ok-clause-leads : goal.returns-in-Ok-clause-leads
 returns-in-Ok-clause-leads g c = λ text user read.
@@ -41,8 +42,8 @@ returns-in-Ok-clause-leads g c = λ text user read.
     let f = rw c.as_str.ensures.value at c.in-Ok.ensures.ok in
     let is_open : seat_of e.seats sid ≡ Some seat = sym c.in-Some.ensures.taken in
     let rows = map tuple c.in-Ok.set.rows.items in
-    subst (λ (n : Shown). Leads e sid (sql text) (answered (codes "FETCH") (map string_bytes c.in-Ok.set.names.items) rows) n) (sym (put_other e sid seat _ _ _ _ boxes c.take_seat.ensures.left c.put_seat.ensures f.is))
-    (rw f.named (c.cursors_lead.ensures.fetched e boxes sid text seat _ _ f.at rows f.run (read_seat e sid text user _ seat read is_open) is_open c.requires.sound f.there f.gives f.pulls))
+    subst (λ (n : Shown). Leads e sid (sql text) (answered (codes "FETCH") (map string_bytes c.in-Ok.set.names.items) rows) n) (sym (put_other e sid (having_asked seat f.count) _ _ _ _ boxes c.take_seat.ensures.left c.put_seat.ensures f.is))
+    (rw f.named (c.cursors_lead.ensures.fetched e boxes sid text seat _ _ f.at rows f.run f.count (read_seat e sid text user _ seat read is_open) is_open c.requires.sound f.there f.gives f.pulls))
 
 pub returns-in-Ok-clause-untold : goal.returns-in-Ok-clause-untold
 returns-in-Ok-clause-untold g c = λ text user read.
@@ -53,7 +54,7 @@ returns-in-Ok-clause-untold g c = λ text user read.
     let f = rw c.as_str.ensures.value at c.in-Ok.ensures.ok in
     let is_open : seat_of e.seats sid ≡ Some seat = sym c.in-Some.ensures.taken in
     may_be_untold c.cursors_lead.ensures.not_fetched e sid text seat _ _ _ _ _ boxes _ (read_seat e sid text user _ seat read is_open) is_open c.requires.sound f
-    (put_other e sid seat _ _ _ _ boxes c.take_seat.ensures.left c.put_seat.ensures f.is)
+    (put_other e sid (having_asked seat f.count) _ _ _ _ boxes c.take_seat.ensures.left c.put_seat.ensures f.is)
 
 pub returns-in-Err-clause-sound : goal.returns-in-Err-clause-sound
 returns-in-Err-clause-sound g c =

@@ -26,7 +26,7 @@ returns-clause-sound g c =
     let boxes = states g.W.Wrapper.meaning c.end_cursor.new.slots.items in
     let f = c.in-Ok.ensures.ok in
     subst (λ (n : Shown). IsSound n) (sym (put_other e sid seat _ _ _ _ boxes c.take_seat.ensures.left c.put_seat.ensures f.is))
-    (c.cursors_lead.ensures.ended_sound e boxes sid seat _ f.at c.args.sid.in_range c.requires.sound (sym c.in-Some.ensures.taken) f.there (at_once f.closes))
+    (c.cursors_lead.ensures.ended_sound e boxes sid seat _ f.at seat.asked c.args.sid.in_range c.requires.sound (sym c.in-Some.ensures.taken) f.there (at_once f.closes))
 
 pub returns-clause-lost : goal.returns-clause-lost
 returns-clause-lost g c =
