@@ -98,6 +98,10 @@ impl<W: Wrapper2> Engine<W> {
     /// `NoRoom` where room for 128 bytes is refused before the request is begun. Then nothing was done, and the output had not the
     /// room for 128 bytes more: a caller that leaves that room never meets it. Where a later growth is refused, the reply is 53200,
     /// for which that room is enough.
+    ///
+    /// What a query or a FETCH that gives rows asked the boxes for is part of the answer (`AsksBoxes`): no more rows of the one table of
+    /// `ORDER BY key LIMIT n OFFSET m` than n + m, where its box took over the order and all conditions; and no more than n for FETCH n of
+    /// a cursor over all rows of one table.
     pub fn request(
         &mut self,
         sid: Sid,

@@ -36,7 +36,8 @@ impl Asked {
     pub fn times(&self) -> u64
         ensures { result ≡ self.now.times }
     {
-        self.times
+        let Asked { times } = self;
+        *times
     }
 
     // Once more.
