@@ -1,6 +1,6 @@
 -- What FETCH and CLOSE do to the boxes, and why FETCH fails (SQL:2016, <fetch statement>, <close statement>; PostgreSQL: Writing a
 -- Foreign Data Wrapper, IterateForeignScan, EndForeignScan).
-use Rattle.std.specs.Prelude.{◌≡◌, ◌<◌, ◌≤◌, ◌+◌, ◌-◌, ◌^◌, ◌⊎◌, ℕ, min, Bool, false, nat_le, List, [], ◌++◌, length, Option, Some}
+use Rattle.std.specs.Prelude.{◌≡◌, ◌<◌, ◌≤◌, ◌+◌, ◌-◌, ◌^◌, ◌⊎◌, ℕ, zero, suc, min, Bool, false, nat_le, List, [], ◌++◌, length, Option, Some}
 use Rattle.med_value.specs.Datum.{Tuple}
 use Rattle.med_value.specs.declared.cause.Cause.{Cause}
 use Rattle.med_value.specs.declared.cause.Cause.TheVariants.{OutOfMemory, SourceFault}
@@ -56,7 +56,8 @@ pub record PullsFor (times : ℕ) (run : Run) (old : List (Option BoxState)) (af
 
 -- a count, so many times more, as far as it goes: to 2^64 - 1
 abbrev pub counted : ℕ → ℕ → ℕ
-counted before times = min (before + times) (2 ^ 64 - 1)
+counted before zero = before
+counted before (suc times) = min (before + suc times) (2 ^ 64 - 1)
 
 -- a count has risen, or stands at its end
 abbrev pub HasRisen : ℕ → ℕ → Type 0

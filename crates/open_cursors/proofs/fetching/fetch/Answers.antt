@@ -11,7 +11,7 @@ use Rattle.open_cursors.specs.Fetching.{has_enough, IsWithin, PullsFor, counted 
 use Rattle.med_exec.proofs.Counted.{begins_none}
 use Rattle.open_cursors.proofs.Kept.{tables_itself, tables_on}
 use Rattle.open_cursors.proofs.Counts.{begins_on, none_called, one_called}
-use Rattle.open_cursors.proofs.Asking.{counts_none, counts_on, risen_on, some_given}
+use Rattle.open_cursors.proofs.Asking.{counts_on, risen_on, some_given}
 use Rattle.open_cursors.proofs.Rows.{one_more, all_given, all_then, within_more, none_given, within_none, enough_given, all_there, gives_none}
 use Rattle.open_cursors.proofs.fetching.fetch.Goals as goal
 
@@ -104,7 +104,7 @@ loop-alloc-init g c =
       running = c.requires;
       given = λ honest. none_given c.args.run.now old c.new-rows.result.items c.new-rows.ensures.items;
       most = within_none (count_tree c.args.asked) c.new-rows.result.items c.new-rows.ensures.items;
-      counts = subst (λ (rs : List Row). c.args.count.now.times ≡ counted_to c.args.count.now.times (length rs)) (sym c.new-rows.ensures.items) (counts_none c.args.count.now.times _);
+      counts = subst (λ (rs : List Row). c.args.count.now.times ≡ counted_to c.args.count.now.times (length rs)) (sym c.new-rows.ensures.items) refl;
     }
 
 pub returns-clause-ok : goal.returns-clause-ok
@@ -130,7 +130,7 @@ returns-in-Err-clause-pulls g c =
     let m = g.W.Wrapper.meaning in
     let counted : c.len.result ≡ length c.loop-alloc.rows.items = c.len.ensures ∙ c.loop-alloc.rows.ok.0 in
     let more : has_enough (count_tree c.args.asked) (length c.loop-alloc.rows.items) ≡ false = ap (has_enough (count_tree c.args.asked)) (sym counted) ∙ sym c.is_enough.ensures ∙ c.loop-alloc-test.true in
-      record {
+    record {
       times = length c.loop-alloc.rows.items + 1;
       within = within_more (count_tree c.args.asked) (length c.loop-alloc.rows.items) more;
       some = λ _. omega arith;
@@ -143,7 +143,7 @@ returns-in-Ok-None-clause-pulls g c =
     let m = g.W.Wrapper.meaning in
     let counted : c.len.result ≡ length c.loop-alloc.rows.items = c.len.ensures ∙ c.loop-alloc.rows.ok.0 in
     let more : has_enough (count_tree c.args.asked) (length c.loop-alloc.rows.items) ≡ false = ap (has_enough (count_tree c.args.asked)) (sym counted) ∙ sym c.is_enough.ensures ∙ c.loop-alloc-test.true in
-      record {
+    record {
       times = length c.loop-alloc.rows.items + 1;
       within = within_more (count_tree c.args.asked) (length c.loop-alloc.rows.items) more;
       some = λ _. omega arith;
@@ -156,7 +156,7 @@ returns-then-is_err-clause-pulls g c =
     let m = g.W.Wrapper.meaning in
     let counted : c.len.result ≡ length c.loop-alloc.rows.items = c.len.ensures ∙ c.loop-alloc.rows.ok.0 in
     let more : has_enough (count_tree c.args.asked) (length c.loop-alloc.rows.items) ≡ false = ap (has_enough (count_tree c.args.asked)) (sym counted) ∙ sym c.is_enough.ensures ∙ c.loop-alloc-test.true in
-      record {
+    record {
       times = length c.loop-alloc.rows.items + 1;
       within = within_more (count_tree c.args.asked) (length c.loop-alloc.rows.items) more;
       some = λ _. omega arith;
