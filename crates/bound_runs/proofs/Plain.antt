@@ -61,7 +61,7 @@ no_group : (g : Option Grouping) (f : Option GroupForm) → f ≡ None → f ≡
 no_group None f e is = refl
 no_group (Some g) f e is = absurd cc
 
-no_keys : (es : List Expr) → map tree es ≡ [] → es ≡ []
+pub no_keys : (es : List Expr) → map tree es ≡ [] → es ≡ []
 no_keys [] e = refl
 no_keys (x ∷ es) e = absurd cc
 
