@@ -9,7 +9,7 @@ use Rattle.tri_expr.specs.declared.expr.Expr.{Expr}
 use Rattle.med_query.specs.declared.select.Grouping.{Grouping}
 use Rattle.med_query.specs.declared.select.SelectCore.{SelectCore}
 use Rattle.med_query.specs.declared.select.Select.{Select}
-use Rattle.med_query.specs.Form.{core_form, core_by, query_by}
+use Rattle.med_query.specs.Form.{core_form, core_by, query_by, form_of}
 use Rattle.med_query.specs.Select.{query_of as written_query, core_of, groups_of}
 use Rattle.med_query.specs.Laws.{AllIgnoreOrder, IsSteadyCore, AreSteady, IsSteady, AnswersIgnoreOrder}
 use Rattle.med_query.specs.Query.{Query, Tables, SameRows, senses, having_of}
@@ -97,8 +97,8 @@ pub record IsBoundBy (o : Objects) (user : Name) (bound : List Attached) (q : Se
   pub places : ArePlaces bound (meant_by o q).entries (map entry_place b.entries.items)
 
 pub selected : ExpressionsIgnoreOrder → AnswersInAnyOrder → CausesInAnyOrder → (o : Objects) (user : Name) (bound : List Attached) (q : SelectTree) (b : BoundQuery) (rows : List Tuple) (old new : List (Option BoxState))
-    → IsBoundBy o user bound q b → length b.entries.items ≤ 8 → AllServed old new → ReadsTables (map entry_place b.entries.items) old new → PullsRows b old new → RunAnswers (written_query b.select) (map entry_place b.entries.items) old rows → Selects o user bound q old (map string_bytes b.names.items) rows new
-selected order any causes o user bound q b rows old new is few served once pulls run =
+    → IsBoundBy o user bound q b → length b.entries.items ≤ 8 → AllServed old new → ReadsTables (map entry_place b.entries.items) old new → (asked : BoundQuery) → form_of asked.select ≡ form_of b.select → map entry_place asked.entries.items ≡ map entry_place b.entries.items → PullsRows asked old new → RunAnswers (written_query b.select) (map entry_place b.entries.items) old rows → Selects o user bound q old (map string_bytes b.names.items) rows new
+selected order any causes o user bound q b rows old new is few served once asked form at pulls run =
     let m = meant_by o q in
     let places = map entry_place b.entries.items in
     record {
@@ -109,7 +109,7 @@ selected order any causes o user bound q b rows old new is few served once pulls
       places = places;
       are = is.places;
       reads = once;
-      pulls = record { bound = b; form = is.meant.form; at = refl; rows = pulls };
+      pulls = record { bound = asked; form = form ∙ is.meant.form; at = at; rows = pulls };
       answers = subst (λ (x : Query). AnswersOver x places old rows) (query_bound m b is.meant) (answers_over any causes (written_query b.select) (steady order b.select) places old rows run);
     }
 

@@ -260,7 +260,6 @@ shut_many seats closed = ap length closed ∙ length-replicate {A = Option Seate
 pub closes_all : (e : Shown) (new : List (Option BoxState)) (seats : List (Option Seated)) → seats ≡ replicate session_count None → ServesRun (held_by (all_cursors e.seats)) none_held e.boxes new → ClosesAll e (with_boxes (with_seats e seats) new)
 closes_all e new seats closed ends = record {
   others = refl;
-  asked = λ x. absurd (calm_unasked x);
   rises = run_rises (held_by (all_cursors e.seats)) none_held e.boxes new ends;
   world = λ w a. record {
     honest = served_honest (held_by (all_cursors e.seats)) none_held e.boxes new ends a.honest;

@@ -204,7 +204,6 @@ not_fetched e new sid text seat name asked o c count read at sound here (no_memo
 
     now_seats : List (Option Seated)
     now_seats = slice_set e.seats (sid - 1) (Some left)
-
 not_fetched e new sid text seat name asked o c count read at sound here (box_fails is h) ends risen =
     subst (λ (d : Cause). Leads e sid (sql text) (refused d) (with_cursors e sid (having_asked seat count) (without_named name seat.cursors) new)) (sym is) (record {
       trouble = record { memory = false; asked = false; source = true; numbers = false };

@@ -51,7 +51,7 @@ returns-clause-ok g c =
     let least : c.len.result ≤ 8 = c.if-len-gt-ENTRY_LIMIT.false in
     let few : length c.in_ok-query.query.entries.items ≤ 8 = omega (arith, counted, least) in
     rw c.replace-names.ensures.value (selected c.expressions_ignore_order.ensures c.answers_ignore_order.ensures c.causes_ignore_order.ensures o c.args.user.now (map attached c.args.bound.now) q c.in_ok-query.query (map tuple c.in-Ok.rows.items)
-    (states m c.args.slots.now.items) (states m c.run_bound.new.slots.items) is few c.run_bound.ensures.served (c.bound_queries_are_ready.ensures.once o q c.in_ok-query.query (states m c.args.slots.now.items) (states m c.run_bound.new.slots.items) c.in_ok-query.ensures.meant c.in-Ok.ensures.begins) c.run_bound.ensures.pulls c.in-Ok.ensures.ok)
+    (states m c.args.slots.now.items) (states m c.run_bound.new.slots.items) is few c.run_bound.ensures.served (c.bound_queries_are_ready.ensures.once o q c.in_ok-query.query (states m c.args.slots.now.items) (states m c.run_bound.new.slots.items) c.in_ok-query.ensures.meant c.in-Ok.ensures.begins) _ refl refl c.run_bound.ensures.pulls c.in-Ok.ensures.ok)
 
 pub returns-then-len-gt-ENTRY_LIMIT-clause-err : goal.returns-then-len-gt-ENTRY_LIMIT-clause-err
 returns-then-len-gt-ENTRY_LIMIT-clause-err g c =
