@@ -1,5 +1,5 @@
 -- What the calls of a scan do to a wrapper over tables by place.
-use Rattle.std.proofs.Common.{◌≡◌, ◌≢◌, ℕ, ◌+◌, ◌-◌, ◌^◌, ◌<◌, ◌≤◌, ◌⊎◌, Bool, true, false, cond, not, ◌&&◌, List, [], ◌∷◌, Option, Some, None, Result, Ok, Err, Vec, Global, IsSome, map, drop, filter, option_map, zero, suc, refl, ap, sym, ◌∙◌, subst, arith, eqb, inl, inr}
+use Rattle.std.proofs.Common.{◌≡◌, ◌≢◌, ℕ, ◌+◌, ◌-◌, ◌^◌, ◌<◌, ◌≤◌, ◌⊎◌, Bool, true, false, cond, not, ◌&&◌, List, [], ◌∷◌, Option, Some, None, Result, Ok, Err, Vec, Global, IsSome, IfOk, IfErr, map, drop, filter, option_map, zero, suc, refl, ap, sym, ◌∙◌, subst, arith, eqb, inl, inr}
 use Rattle.std.specs.Ordering.{nat_cmp}
 use Rattle.std.specs.List.{list_all}
 use Rattle.std.specs.BTreeMap as tree
@@ -15,7 +15,8 @@ use Rattle.med_value.specs.declared.value.Value.{Value}
 use Rattle.fdw_api.specs.Scan.{Spec, spec_of, GivenRow, TableRow, IsComing, meets_all, meets_exact, given_row, shown_cells, shown_fits, row_fits}
 use Rattle.fdw_api.proofs.Unpromised.{any_order, all_first}
 use Rattle.fdw_api.specs.State.{BoxTable, Scan, scan_of}
-use Rattle.fdw_api.specs.Calls.{LeavesOthers, new_scan, Begins, GivesRow, GivesNone, Breaks, Rescans, Ends, RefusesBegin, row_of, bumped}
+use Rattle.fdw_api.specs.Calls.{LeavesOthers, new_scan, Begins, GivesRow, GivesNone, Iterates, Breaks, Rescans, Ends, RefusesBegin, row_of, bumped}
+use Rattle.fdw_api.specs.declared.interface.Fault.{Fault}
 use Rattle.fdw_api.specs.declared.interface.Fault.TheVariants.{NoMemory}
 use Rattle.fdw_api.specs.declared.interface.SourceRow.{SourceRow}
 use Rattle.blob_store.specs.Shelves.{Shelf}
@@ -26,9 +27,9 @@ use Rattle.place_index.specs.declared.index.PlaceIndex.{PlaceIndex}
 use Rattle.place_index.specs.Scans.{Serves, Stands}
 use Rattle.place_wrapper.specs.declared.scans.LiveScan.{LiveScan}
 use Rattle.place_wrapper.specs.Forms.{Form}
-use Rattle.place_wrapper.specs.Boxes.{rows_to_come, NextIs, table_at, kinds_held, rows_held, scan_is, scan_rows, ScanFits, ScansFit, Pulls, Restarts, newer}
+use Rattle.place_wrapper.specs.Boxes.{rows_to_come, NextIs, table_at, kinds_held, rows_held, scan_is, scan_rows, ScanFits, ScansFit, Pulls, pulled_after, Restarts, newer}
 use Rattle.place_wrapper.specs.States.{place_state}
-use Rattle.place_wrapper.proofs.Options.{some_inj, mapped_there}
+use Rattle.place_wrapper.proofs.Options.{some_inj, none_is, mapped_there}
 
 both : (a b : Bool) → (a && b) ≡ true → (a ≡ true) × (b ≡ true)
 both true b e = (refl, e)
@@ -60,10 +61,6 @@ rest_fit kinds (suc at) (r ∷ rows) e = rest_fit kinds at rows (both (row_fits 
 -- no ticket from this number on is live
 abbrev pub Fresh : BTreeMap ℕ LiveScan → ℕ → Type 0
 Fresh m next = (k : ℕ) → next ≤ k → tree.get nat_cmp m k ≡ None
-
-none_is : {A : Type 0} (o : Option A) → o ≡ None → IsSome o → ⊥
-none_is None e s = absurd cc
-none_is (Some x) e s = absurd cc
 
 -- a change of a live scan makes no new number
 pub keeps_fresh : (m n : BTreeMap ℕ LiveScan) (number next : ℕ) (w : Option LiveScan) → Fresh m next → IsSome (tree.get nat_cmp m number) → tree.UpdatesBy nat_cmp (nat_cmp number) m n w → Fresh n next
@@ -223,6 +220,28 @@ module _ {T : Type 0} (F : Form T) where
     ledger = ap (λ (l : finmap.FinMap nat_cmp Scan). record (place_state F shelf tables m staged next pulled).ledger { live = l }) (mapped_insert (scan_is F tables) m n number _ u);
     leaves = λ honest. others shelf tables m n staged number next pulled next pulled _ u;
   }
+
+  -- the next row of a scan is given or none, and counted
+  pub place_iterates : (shelf : Shelf) (tables : List (Option T)) (m n : BTreeMap ℕ LiveScan) (staged : Option StagedWrite) (next pulled after number : ℕ) (s t : LiveScan) (r : Result (Option SourceRow) Fault) → ShowsTyped → tree.get nat_cmp m number ≡ Some s
+      → Pulls F (table_at tables s.table) s r t → tree.Updates nat_cmp m n number (Some t) → after ≡ pulled_after r pulled
+      → IfOk r (λ row. Iterates (place_state F shelf tables m staged next pulled) number row (place_state F shelf tables n staged next after))
+  place_iterates shelf tables m n staged next pulled after number s t (Ok (Some row)) shows is p u e =
+      subst (λ (k : ℕ). GivesRow (place_state F shelf tables m staged next pulled) number (row_of row) (place_state F shelf tables n staged next k)) (sym e)
+      (place_gives shelf tables m n staged next pulled number s row shows is p.0 (subst (λ (z : LiveScan). tree.Updates nat_cmp m n number (Some z)) p.2 u))
+  place_iterates shelf tables m n staged next pulled after number s t (Ok None) shows is p u e =
+      subst (λ (k : ℕ). GivesNone (place_state F shelf tables m staged next pulled) number (place_state F shelf tables n staged next k)) (sym e)
+      (place_gives_none shelf tables m n staged next pulled number s is p.0 (subst (λ (z : LiveScan). tree.Updates nat_cmp m n number (Some z)) p.1 u))
+  place_iterates shelf tables m n staged next pulled after number s t (Err fault) shows is p u e = tt
+
+  -- or memory is wanting, and the scan is broken
+  pub place_fails : (shelf : Shelf) (tables : List (Option T)) (m n : BTreeMap ℕ LiveScan) (staged : Option StagedWrite) (next pulled after number : ℕ) (s t : LiveScan) (r : Result (Option SourceRow) Fault) → tree.get nat_cmp m number ≡ Some s
+      → Pulls F (table_at tables s.table) s r t → tree.Updates nat_cmp m n number (Some t) → after ≡ pulled_after r pulled → IfErr r (λ fault. fault ≡ NoMemory)
+      → IfErr r (λ fault. Breaks (place_state F shelf tables m staged next pulled) number fault (place_state F shelf tables n staged next after))
+  place_fails shelf tables m n staged next pulled after number s t (Ok row) is p u e wanting = tt
+  place_fails shelf tables m n staged next pulled after number s t (Err fault) is p u e wanting =
+      subst (λ (k : ℕ). Breaks (place_state F shelf tables m staged next pulled) number fault (place_state F shelf tables n staged next k)) (sym e)
+      (subst (λ (f : Fault). Breaks (place_state F shelf tables m staged next pulled) number f (place_state F shelf tables n staged next pulled)) (sym wanting)
+      (place_breaks shelf tables m n staged next pulled number s is (subst (λ (z : LiveScan). tree.Updates nat_cmp m n number (Some z)) p u)))
 
   pub place_rescans : (shelf : Shelf) (tables : List (Option T)) (m n : BTreeMap ℕ LiveScan) (staged : Option StagedWrite) (next pulled : ℕ) (number : ℕ) (params : Tuple) (s t : LiveScan) → tree.get nat_cmp m number ≡ Some s → s.broken ≡ false → tree.Updates nat_cmp m n number (Some t) → t.table ≡ s.table → spec_of t.spec ≡ spec_of s.spec → map datum t.params.items ≡ params → t.at ≡ 0 → t.broken ≡ s.broken → Rescans (place_state F shelf tables m staged next pulled) number params (place_state F shelf tables n staged next pulled)
   place_rescans shelf tables m n staged next pulled number params s t is whole u et es ep ea eb =

@@ -12,7 +12,7 @@ use Rattle.med_value.specs.declared.value.ColType.{ColType}
 use Rattle.med_value.specs.declared.value.Value.{Value}
 use Rattle.fdw_api.specs.Scan.{Spec, spec_of, TableRow, GivenRow, given_row}
 use Rattle.fdw_api.specs.State.{Scan, Staging}
-use Rattle.fdw_api.specs.Calls.{row_of}
+use Rattle.fdw_api.specs.Calls.{row_of, bumped}
 use Rattle.fdw_api.specs.Writes.{row_of_change_fits}
 use Rattle.fdw_api.specs.declared.interface.SourceRow.{SourceRow}
 use Rattle.place_index.specs.declared.index.PlaceIndex.{PlaceIndex}
@@ -65,6 +65,12 @@ Pulls F o s (Ok (Some row)) t =
     × (t ≡ record s { at = row.id.number + 1 })
 Pulls F o s (Ok None) t = NextIs F o (spec_of s.spec) (map datum s.params.items) s.at None × (t ≡ s)
 Pulls F o s (Err e) t = t ≡ record s { broken = true }
+
+-- how many rows were given, with this answer
+abbrev pub pulled_after : {E : Type 0} → Result (Option SourceRow) E → ℕ → ℕ
+pulled_after (Ok (Some row)) pulled = bumped pulled
+pulled_after (Ok None) pulled = pulled
+pulled_after (Err e) pulled = pulled
 
 -- a scan is begun again by these parameters, with an index of its own table; where memory is wanting it is good for its end alone
 abbrev pub Restarts : {T E : Type 0} → Form T → Option T → Vec Value Global → LiveScan → Result Unit E → LiveScan → Type 0

@@ -4,7 +4,7 @@ use Rattle.std.specs.Ordering.{nat_cmp}
 use Rattle.std.specs.BTreeMap as tree
 use Rattle.std.specs.BTreeMap.{BTreeMap}
 use Rattle.fdw_api.specs.Kinds.{Kind}
-use Rattle.fdw_api.specs.State.{Nature, Ledger, Content, BoxState, IsIdle, is_honest}
+use Rattle.fdw_api.specs.State.{Ledger, BoxState, IsIdle, is_honest}
 use Rattle.blob_store.specs.Shelves.{Shelf}
 use Rattle.place_wrapper.specs.Holdings.{held_under}
 use Rattle.place_wrapper.specs.Mapped.{mapped}

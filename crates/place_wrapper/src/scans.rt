@@ -4,6 +4,7 @@ ghost use Rattle.std.specs.Ordering.{nat_cmp};
 ghost use Rattle.std.specs.BTreeMap as tree;
 ghost use Rattle.med_value.specs.Datum.{datum};
 ghost use Rattle.fdw_api.specs.Scan.{spec_of, restriction_form};
+ghost use Rattle.fdw_api.specs.declared.interface.Fault.TheVariants.{NoMemory as OutOfMemory};
 ghost use Rattle.place_index.specs.Scans.{Serves, Stands, sought, form_of, column_cells};
 ghost use Rattle.place_index.specs.Indexes.{IsIndexFrom};
 ghost use Rattle.place_wrapper.specs.Forms.{GivesAt};
@@ -13,7 +14,7 @@ ghost use Rattle.place_wrapper.specs.Boxes.{NextIs, Moves, ScanFits, Pulls, Rest
 
 use crate::format::PlacedTable;
 use crate::tables::table_at;
-use fdw_api::interface::{RowId, SourceRow};
+use fdw_api::interface::{Fault, RowId, SourceRow};
 use fdw_api::scan::ScanSpec;
 use med_value::{NoMemory, Row, Value};
 use place_index::{PlaceIndex, Sought, sought_in, value_at};
@@ -106,12 +107,13 @@ fn next_row<T: PlacedTable>(
     alloc: Global,
     table: &T,
     scan: &LiveScan,
-) -> Result<Option<SourceRow>, NoMemory>
+) -> Result<Option<SourceRow>, Fault>
     requires { ScanFits T.form (Some table.now) scan.now }
     ensures next { IfOk result (λ next. NextIs T.form (Some table.now) (spec_of scan.now.spec) (map datum scan.now.params.items)
         scan.now.at next) }
     ensures on { IfOk result (λ next. IfSome next (λ row. Stands (spec_of scan.now.spec) (map datum scan.now.params.items)
         (T.form.rows table.now) (row.id.number + 1) scan.now.index)) }
+    ensures err { IfErr result (λ fault. fault ≡ OutOfMemory) }
 {
     let found = sought_in(&scan.spec.offered);
     let mut at = place_from(table, scan, found, scan.at);
@@ -132,16 +134,17 @@ fn row_of_scan<T: PlacedTable>(
     alloc: Global,
     tables: &Vec<Option<T>>,
     scan: &LiveScan,
-) -> Result<Option<SourceRow>, NoMemory>
+) -> Result<Option<SourceRow>, Fault>
     requires { ScanFits T.form (table_at tables.now.items scan.now.table) scan.now }
     ensures next { IfOk result (λ next. NextIs T.form (table_at tables.now.items scan.now.table) (spec_of scan.now.spec)
         (map datum scan.now.params.items) scan.now.at next) }
     ensures on { IfOk result (λ next. IfSome next (λ row. Stands (spec_of scan.now.spec) (map datum scan.now.params.items)
         (rows_held T.form (table_at tables.now.items scan.now.table)) (row.id.number + 1) scan.now.index)) }
+    ensures err { IfErr result (λ fault. fault ≡ OutOfMemory) }
 {
     match table_at(tables, scan.table) {
         Some(table) => next_row(alloc, table, scan),
-        None => Ok(None),
+        None => unreachable!(),
     }
 }
 
@@ -150,9 +153,10 @@ fn pull_row<T: PlacedTable>(
     alloc: Global,
     tables: &Vec<Option<T>>,
     scan: &mut LiveScan,
-) -> Result<Option<SourceRow>, NoMemory>
+) -> Result<Option<SourceRow>, Fault>
     requires { ScanFits T.form (table_at tables.now.items scan.old.table) scan.old }
-    ensures { Pulls T.form (table_at tables.now.items scan.old.table) scan.old result scan.new }
+    ensures pulls { Pulls T.form (table_at tables.now.items scan.old.table) scan.old result scan.new }
+    ensures err { IfErr result (λ fault. fault ≡ OutOfMemory) }
 {
     let next = row_of_scan(alloc, tables, scan);
     match &next {
@@ -169,11 +173,12 @@ pub(crate) fn pull<T: PlacedTable>(
     tables: &Vec<Option<T>>,
     scans: &mut BTreeMap<u64, LiveScan>,
     number: u64,
-) -> Result<Option<SourceRow>, NoMemory>
+) -> Result<Option<SourceRow>, Fault>
     requires live { IsSome (tree.get nat_cmp scans.old number) }
     requires fits { IfSome (tree.get nat_cmp scans.old number) (λ s. ScanFits T.form (table_at tables.now.items s.table) s) }
-    ensures { IfSome (tree.get nat_cmp scans.old number) (λ s. (after : LiveScan) × Pulls T.form (table_at tables.now.items s.table)
+    ensures pulls { IfSome (tree.get nat_cmp scans.old number) (λ s. (after : LiveScan) × Pulls T.form (table_at tables.now.items s.table)
         s result after × tree.Updates nat_cmp scans.old scans.new number (Some after)) }
+    ensures err { IfErr result (λ fault. fault ≡ OutOfMemory) }
 {
     match scans.get_mut(&number) {
         Some(scan) => pull_row(alloc, tables, scan),

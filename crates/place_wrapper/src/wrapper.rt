@@ -8,7 +8,7 @@ ghost use Rattle.fdw_api.specs.declared.interface.Fault.TheVariants.{NoMemory as
 ghost use Rattle.blob_store.specs.Names.{is_blob_name};
 ghost use Rattle.place_wrapper.specs.Holdings.{held_under};
 ghost use Rattle.staged_changes.specs.Staged.{write_is};
-ghost use Rattle.place_wrapper.specs.Boxes.{table_at, write_fits, ScansFit};
+ghost use Rattle.place_wrapper.specs.Boxes.{table_at, write_fits, ScansFit, pulled_after};
 
 use crate::faults::fault_of;
 use crate::format::PlacedTable;
@@ -80,6 +80,16 @@ fn answers_to<T: PlacedTable>(
         answers.push(table.answer(restriction))?;
     }
     Ok(answers)
+}
+
+// How many rows were given, with this answer.
+fn pulled_after(next: &Result<Option<SourceRow>, Fault>, pulled: u64) -> u64
+    ensures { result ≡ pulled_after next.now pulled }
+{
+    match next {
+        Ok(Some(_)) => pulled.saturating_add(1),
+        Ok(None) | Err(_) => pulled,
+    }
 }
 
 impl<B: Blobs, T: PlacedTable> Wrapper for PlaceWrapper<B, T> {
@@ -181,15 +191,10 @@ impl<B: Blobs, T: PlacedTable> Wrapper for PlaceWrapper<B, T> {
     }
 
     fn iterate(&mut self, alloc: Global, ticket: &Ticket) -> Result<Option<SourceRow>, Fault> {
-        match pull(alloc, &self.tables, &mut self.scans, ticket.number) {
-            Err(_) => Err(Fault::NoMemory),
-            Ok(None) => Ok(None),
-            Ok(Some(row)) => {
-                rows_are_typed();
-                self.pulled = self.pulled.saturating_add(1);
-                Ok(Some(row))
-            }
-        }
+        rows_are_typed();
+        let next = pull(alloc, &self.tables, &mut self.scans, ticket.number);
+        self.pulled = pulled_after(&next, self.pulled);
+        next
     }
 
     fn rescan(&mut self, alloc: Global, ticket: &Ticket, params: &[Value]) -> Result<(), Fault> {

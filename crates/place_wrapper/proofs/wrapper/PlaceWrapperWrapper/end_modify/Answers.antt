@@ -1,4 +1,4 @@
-use Rattle.std.proofs.Common.{◌≡◌, ◌<◌, ◌∙◌, Some, None, map, option_map, length, slice_set, ap, sym, subst, true, rules}
+use Rattle.std.proofs.Common.{◌≡◌, ◌∙◌, Some, map, option_map, slice_set, ap, sym, subst, true, rules}
 use Rattle.blob_store.specs.Names.{is_blob_name}
 use Rattle.blob_store.specs.Shelves.{Replaces}
 use Rattle.fdw_api.specs.State.{BoxTable}
