@@ -368,19 +368,21 @@ fn put_values(
     Ok(())
 }
 
-/// What the leaves of a class give over the rows that came. Refused only for want of memory.
+/// Puts what the leaves of a class give over the rows that came in the place of other values, whose room it takes. Refused only for want
+/// of memory.
 pub(crate) fn values(
     alloc: Global,
     leaves: &[Leaf],
     all: &[Running],
-) -> Result<Vec<Value>, NoMemory>
+    out: &mut Vec<Value>,
+) -> Result<(), NoMemory>
     requires many { length leaves.now ≡ length all.now }
     requires few { All (λ r. counted r ≤ 2 ^ 62) all.now }
-    ensures { IfOk result (λ vs. (c : List Tuple) → AllRun leaves.now c all.now → map datum vs.items ≡ leaf_values leaves.now c) }
+    ensures { IfOk result (λ _. (c : List Tuple) → AllRun leaves.now c all.now → map datum out.new.items ≡ leaf_values leaves.now c) }
 {
-    let mut out = Vec::with_capacity(alloc, 2 * leaves.len())?;
+    out.clear();
     for at in 0..leaves.len() {
-        put_values(alloc, &leaves[at], &all[at], &mut out)?;
+        put_values(alloc, &leaves[at], &all[at], out)?;
     }
-    Ok(out)
+    Ok(())
 }
