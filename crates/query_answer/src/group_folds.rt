@@ -177,7 +177,9 @@ impl<'a> GroupFold<'a> {
         if !self.is_whole {
             return Err(EvalFault::NoMemory);
         }
-        let mut out = Vec::new(alloc);
+        let Ok(mut out) = Vec::with_capacity(alloc, self.groups.len()) else {
+            return Err(EvalFault::NoMemory);
+        };
         let mut params = Vec::new(alloc);
         for group in &self.groups {
             match self.staged_group(alloc, group, &mut params) {
