@@ -19,7 +19,7 @@ use Rattle.tri_expr.specs.declared.expr.SetFunction.TheVariants.{Sum}
 use Rattle.med_query.specs.Lists.{tuple_eq}
 use Rattle.med_query.specs.Query.{key_of}
 use Rattle.query_answer.specs.declared.leaves.Leaf.{Leaf}
-use Rattle.query_answer.specs.declared.leaves.Leaf.TheVariants.{Column, Rows, Aggregate, Total, Excess}
+use Rattle.query_answer.specs.declared.leaves.Leaf.TheVariants.{Column, Rows, Aggregate, Total}
 use Rattle.query_answer.specs.declared.running.Tally.{Tally}
 use Rattle.query_answer.specs.declared.running.Running.{Running}
 use Rattle.query_answer.specs.declared.running.Running.TheVariants.{Shared, Counted, Tallied}
@@ -57,9 +57,6 @@ short_in (Aggregate function a) c (Tallied t) h = tally_short function a c t h
 short_in (Total a) c (Shared first same) h = absurd h
 short_in (Total a) c (Counted n) h = absurd h
 short_in (Total a) c (Tallied t) h = tally_short Sum a c t h
-short_in (Excess a) c (Shared first same) h = absurd h
-short_in (Excess a) c (Counted n) h = absurd h
-short_in (Excess a) c (Tallied t) h = tally_short Sum a c t h
 
 pub all_long : (ls : List Leaf) (c : List Tuple) (rs : List Running) → AllRun ls c rs → length ls ≡ length rs
 all_long [] c [] h = refl

@@ -1,10 +1,10 @@
 -- Expressions over the values of leaves mean the same over more leaves, and each form is lifted where its parts are.
-use Rattle.std.proofs.Common.{◌≡◌, ◌<◌, ◌≤◌, ◌+◌, ℕ, Bool, true, false, List, [], ◌∷◌, ◌++◌, map, take, length, get_or, sym, refl, ap, ◌∙◌, append_assoc}
-use Rattle.std.proofs.lemmas.List.{map_more, map-append, take_all}
+use Rattle.std.proofs.Common.{◌≡◌, ◌<◌, ◌≤◌, ◌+◌, ◌*◌, ℕ, Bool, true, false, List, [], ◌∷◌, ◌++◌, map, take, length, get_or, sym, refl, ap, ◌∙◌, append_assoc, arith}
+use Rattle.std.proofs.lemmas.List.{map_more, map-append, take_all, get_or-append-add}
 use Rattle.std.specs.declared.alloc.Global.{Global}
 use Rattle.std.specs.declared.string.String.{String}
 use Rattle.std.specs.String.{string_bytes}
-use Rattle.med_value.specs.Datum.{Tuple}
+use Rattle.med_value.specs.Datum.{NoValue, Tuple, cell}
 use Rattle.med_value.specs.declared.order.Comparison.{Comparison}
 use Rattle.med_value.specs.declared.operators.Operation.{Operation}
 use Rattle.med_value.specs.declared.order.Comparison.TheVariants.{Equal, AtMost, AtLeast}
@@ -19,7 +19,8 @@ use Rattle.tri_expr.specs.Tree.{Tree, tree}
 use Rattle.tri_expr.proofs.Forms.{Part, Parts, means, two, three}
 use Rattle.med_query.specs.Query.{senses}
 use Rattle.query_answer.specs.declared.leaves.Leaf.{Leaf}
-use Rattle.query_answer.specs.Leaves.{argument_values, leaf_values, AllLift, AreMore, Lifts}
+use Rattle.query_answer.specs.Leaves.{argument_values, leaf_beyond, leaf_value, leaf_values, AllLift, AreMore, Lifts}
+use Rattle.query_answer.proofs.Runnings.{values_append}
 
 -- further leaves
 pub more_again : (a b d : List Leaf) → AreMore a b → AreMore b d → AreMore a d
@@ -33,6 +34,21 @@ lifts_still old new e lifted g h more c = ap (λ (ls : List Leaf). meaning (leaf
 
 pub all_lift_still : (old new : List Leaf) (es lifted : List Expr) → AreMore old new → AllLift old es lifted → AllLift new es lifted
 all_lift_still old new es lifted g h more c = ap (λ (ls : List Leaf). over (senses (leaf_values ls c) lifted) []) (still old new more g) ∙ h (g.0 ++ more) c
+
+-- where what one more leaf gives stands
+values_long : (ls : List Leaf) (c : List Tuple) → length (leaf_values ls c) ≡ 2 * length ls
+values_long [] c = refl
+values_long (l ∷ ls) c = let e = values_long ls c in omega (arith, e)
+
+pub given_at : (old new more : List Leaf) (l : Leaf) (c : List Tuple) (i : ℕ) → new ≡ old ++ l ∷ []
+    → cell (leaf_values (new ++ more) c) (2 * length old + i) ≡ cell (leaf_value l c ∷ leaf_beyond l c ∷ leaf_values more c) i
+given_at old new more l c i is =
+    let behind = leaf_value l c ∷ leaf_beyond l c ∷ leaf_values more c in
+    ap (λ (ls : List Leaf). cell (leaf_values (ls ++ more) c) (2 * length old + i)) is
+    ∙ ap (λ (ls : List Leaf). cell (leaf_values ls c) (2 * length old + i)) (append_assoc old (l ∷ []) more)
+    ∙ ap (λ (vs : Tuple). cell vs (2 * length old + i)) (values_append old (l ∷ more) c)
+    ∙ ap (λ (n : ℕ). cell (leaf_values old c ++ behind) (n + i)) (sym (values_long old c))
+    ∙ get_or-append-add (leaf_values old c) behind i NoValue
 
 -- one expression more
 outcomes_append : (ps : Tuple) (es : List Expr) (e : Expr) (k : List Tuple) → over (senses ps (es ++ e ∷ [])) k ≡ over (senses ps es) k ++ meaning ps e k ∷ []

@@ -1,12 +1,11 @@
 -- What is kept of leaves, with one more row.
-use Rattle.std.proofs.Common.{◌≡◌, ℕ, zero, suc, ◌+◌, ◌*◌, ◌^◌, ◌<◌, ◌≤◌, ℤ, pos, negsuc, ◌+ℤ◌, true, false, cond, List, [], ◌∷◌, ◌++◌, All, map, length, filter, take, drop, get_or, set, refl, sym, ap, ◌∙◌, arith, subst}
+use Rattle.std.proofs.Common.{◌≡◌, ℕ, zero, suc, ◌+◌, ◌*◌, ◌^◌, ◌<◌, ◌≤◌, ℤ, pos, negsuc, ◌+ℤ◌, true, false, cond, List, [], ◌∷◌, ◌++◌, All, length, filter, take, drop, get_or, set, refl, sym, ap, ◌∙◌, arith, subst}
 use Rattle.std.proofs.Math.IntN.{+ℤ_comm, +ℤ_idr}
-use Rattle.std.proofs.lemmas.List.{map-append, take_more, take_more_set, get_or-drop, drop-set-lt, drop_more}
+use Rattle.std.proofs.lemmas.List.{take_more, take_more_set, get_or-drop, drop-set-lt, drop_more}
 use Rattle.std.proofs.lemmas.List.Elements.{All-get_or}
 use Rattle.std.proofs.lemmas.Int.{ints}
 use Rattle.med_value.specs.Datum.{Datum, NoValue, Whole, Chars, Logic, Tuple, datum}
 use Rattle.med_value.specs.Order.{is_missing}
-use Rattle.med_value.specs.declared.value.Value.{Value}
 use Rattle.tri_expr.specs.declared.expr.Expr.{Expr}
 use Rattle.tri_expr.specs.declared.expr.SetFunction.{SetFunction}
 use Rattle.tri_expr.specs.declared.expr.SetFunction.TheVariants.{Count, Sum, Min, Max}
@@ -17,10 +16,10 @@ use Rattle.tri_expr.specs.Outcome.{value_of}
 use Rattle.tri_expr.specs.Tally.{best_of, better_of, magnitude}
 use Rattle.tri_expr.proofs.Shuffled.{Shuffled, skip, turn, both, same, filtered, as_long}
 use Rattle.tri_expr.proofs.Tallies.{total_shuffled, least_shuffled, greatest_shuffled}
-use Rattle.query_answer.specs.Leaves.{argument_values, leaf_value, leaf_values}
+use Rattle.query_answer.specs.Leaves.{argument_values, leaf_beyond, leaf_value, leaf_values}
 use Rattle.query_answer.specs.Running.{AllRun, Runs, TalliesIn, TalliesSoFar}
 use Rattle.query_answer.specs.declared.leaves.Leaf.{Leaf}
-use Rattle.query_answer.specs.declared.leaves.Leaf.TheVariants.{Aggregate, Total, Excess}
+use Rattle.query_answer.specs.declared.leaves.Leaf.TheVariants.{Aggregate, Total}
 use Rattle.query_answer.specs.declared.running.Tally.{Tally}
 use Rattle.query_answer.specs.declared.running.Running.{Running}
 use Rattle.query_answer.specs.declared.running.Running.TheVariants.{Shared, Counted, Tallied}
@@ -128,19 +127,6 @@ of_total a c (Tallied t) h = h
 pub total_more : (a : Expr) (row : Tuple) (old new : Running) → TalliesMore Sum a row old new → (c : List Tuple) → Runs (Total a) c old → Runs (Total a) (c ++ row ∷ []) new
 total_more a row old new more c h = of_total a (c ++ row ∷ []) new (aggregate_more Sum a row old new more c (as_total a c old h))
 
-as_excess : (a : Expr) (c : List Tuple) (r : Running) → Runs (Excess a) c r → Runs (Total a) c r
-as_excess a c (Shared first same) h = h
-as_excess a c (Counted rows) h = h
-as_excess a c (Tallied t) h = h
-
-of_excess : (a : Expr) (c : List Tuple) (r : Running) → Runs (Total a) c r → Runs (Excess a) c r
-of_excess a c (Shared first same) h = h
-of_excess a c (Counted rows) h = h
-of_excess a c (Tallied t) h = h
-
-pub excess_more : (a : Expr) (row : Tuple) (old new : Running) → TalliesMore Sum a row old new → (c : List Tuple) → Runs (Excess a) c old → Runs (Excess a) (c ++ row ∷ []) new
-excess_more a row old new more c h = of_excess a (c ++ row ∷ []) new (total_more a row old new more c (as_excess a c old h))
-
 -- one leaf more
 run_beside : (ls : List Leaf) (c : List Tuple) (rs : List Running) (l : Leaf) (r : Running) → AllRun ls c rs → Runs l c r → AllRun (ls ++ l ∷ []) c (rs ++ r ∷ [])
 run_beside [] c [] l r all h = (h, tt)
@@ -181,13 +167,17 @@ row_more ls row old now i l r s lt low e f rest more inv c all =
     let here : Runs l c r = subst (λ x. Runs x c r) (sym e) (subst (λ x. Runs (get_or ls i l) c x) (sym (f ∙ stands old now i r rest)) one) in
     run_more ls (c ++ row ∷ []) (take i now) (take (i + 1) (set now i s)) s i l lt e (take_more_set now i s low) (more c here) (inv c all)
 
--- one value more
-pub value_more : (ls : List Leaf) (rs : List Running) (old new : List Value) (v : Value) (i : ℕ) (l : Leaf) (r : Running) → i < length ls → l ≡ get_or ls i l → r ≡ get_or rs i r → new ≡ old ++ v ∷ []
-    → ((c : List Tuple) → Runs l c r → datum v ≡ leaf_value l c)
-    → ((c : List Tuple) → AllRun ls c rs → map datum old ≡ leaf_values (take i ls) c)
-    → (c : List Tuple) → AllRun ls c rs → map datum new ≡ leaf_values (take (i + 1) ls) c
-value_more ls rs old new v i l r lt e f grown is inv c all =
+-- what one leaf more gives
+pub values_append : (ls more : List Leaf) (c : List Tuple) → leaf_values (ls ++ more) c ≡ leaf_values ls c ++ leaf_values more c
+values_append [] more c = refl
+values_append (l ∷ ls) more c = ap (λ (vs : List Datum). leaf_value l c ∷ leaf_beyond l c ∷ vs) (values_append ls more c)
+
+pub values_more : (ls : List Leaf) (rs : List Running) (old new : List Datum) (i : ℕ) (l : Leaf) (r : Running) → i < length ls → l ≡ get_or ls i l → r ≡ get_or rs i r
+    → ((c : List Tuple) → Runs l c r → new ≡ old ++ leaf_value l c ∷ leaf_beyond l c ∷ [])
+    → ((c : List Tuple) → AllRun ls c rs → old ≡ leaf_values (take i ls) c)
+    → (c : List Tuple) → AllRun ls c rs → new ≡ leaf_values (take (i + 1) ls) c
+values_more ls rs old new i l r lt e f is inv c all =
     let one : Runs (get_or ls i l) c (get_or rs i r) = run_at ls c rs i l r all lt in
     let here : Runs l c r = subst (λ x. Runs x c r) (sym e) (subst (λ x. Runs (get_or ls i l) c x) (sym f) one) in
-    ap (map datum) grown ∙ map-append datum old (v ∷ []) ∙ ap (λ (vs : List Datum). vs ++ datum v ∷ []) (inv c all) ∙ ap (λ (d : Datum). leaf_values (take i ls) c ++ d ∷ []) (is c here)
-    ∙ sym (ap (λ (xs : List Leaf). leaf_values xs c) (take_more ls i l lt ∙ ap (λ (x : Leaf). take i ls ++ x ∷ []) (sym e)) ∙ map-append (λ (x : Leaf). leaf_value x c) (take i ls) (l ∷ []))
+    is c here ∙ ap (λ (vs : List Datum). vs ++ leaf_value l c ∷ leaf_beyond l c ∷ []) (inv c all)
+    ∙ sym (ap (λ (xs : List Leaf). leaf_values xs c) (take_more ls i l lt ∙ ap (λ (x : Leaf). take i ls ++ x ∷ []) (sym e)) ∙ values_append (take i ls) (l ∷ []) c)

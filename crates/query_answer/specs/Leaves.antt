@@ -1,6 +1,6 @@
 -- The leaves of an expression over a class of rows, which are all that it looks at in the rows: columns, count(*) and aggregates. An
--- expression over their values, which are its parameters, means what the expression means over the class.
-use Rattle.std.specs.Prelude.{◌≡◌, ℤ, pos, negsuc, ◌==◌, ◌^◌, ◌-◌, nat_lt, if◌then◌else◌, List, [], ◌++◌, map, length}
+-- expression over what they give, which are its parameters, means what the expression means over the class.
+use Rattle.std.specs.Prelude.{◌≡◌, ℤ, pos, negsuc, ◌==◌, ◌^◌, ◌-◌, nat_lt, if◌then◌else◌, List, [], ◌∷◌, ◌++◌, flat_map, length}
 use Rattle.med_value.specs.Datum.{Datum, NoValue, Whole, Tuple}
 use Rattle.tri_expr.specs.declared.expr.Expr.{Expr}
 use Rattle.tri_expr.specs.Outcome.{over, size_of, value_of}
@@ -8,7 +8,7 @@ use Rattle.tri_expr.specs.Aggregate.{aggregated, number, total}
 use Rattle.tri_expr.specs.Meaning.{argument, meaning, shared}
 use Rattle.med_query.specs.Query.{senses}
 use Rattle.query_answer.specs.declared.leaves.Leaf.{Leaf}
-use Rattle.query_answer.specs.declared.leaves.Leaf.TheVariants.{Column, Rows, Aggregate, Total, Excess}
+use Rattle.query_answer.specs.declared.leaves.Leaf.TheVariants.{Column, Rows, Aggregate, Total}
 
 -- the values of an aggregate's argument, row by row
 abbrev pub argument_values : Expr → List Tuple → List Datum
@@ -39,10 +39,15 @@ leaf_value (Column at) c = shared at c
 leaf_value Rows c = Whole (pos (length c))
 leaf_value (Aggregate function a) c = value_of (aggregated function (argument_values a c))
 leaf_value (Total a) c = total_within (argument_values a c)
-leaf_value (Excess a) c = Whole (number_beyond (total (argument_values a c)))
 
+-- what a leaf has beyond its value: of a total by how much it is out of range, of any other leaf nothing
+abbrev pub leaf_beyond : Leaf → List Tuple → Datum
+leaf_beyond (Total a) c = Whole (number_beyond (total (argument_values a c)))
+leaf_beyond l c = NoValue
+
+-- what leaves give, in two places each
 abbrev pub leaf_values : List Leaf → List Tuple → Tuple
-leaf_values ls c = map (λ l. leaf_value l c) ls
+leaf_values ls c = flat_map (λ l. leaf_value l c ∷ leaf_beyond l c ∷ []) ls
 
 -- An expression over the values of these leaves, and of any further ones, means what this expression means over the class.
 abbrev pub Lifts : List Leaf → Expr → Expr → Type 0

@@ -10,7 +10,7 @@ use Rattle.tri_expr.specs.Meaning.{has_cell}
 use Rattle.tri_expr.specs.Tally.{best_of, magnitude}
 use Rattle.query_answer.specs.Leaves.{argument_values}
 use Rattle.query_answer.specs.declared.leaves.Leaf.{Leaf}
-use Rattle.query_answer.specs.declared.leaves.Leaf.TheVariants.{Column, Rows, Aggregate, Total, Excess}
+use Rattle.query_answer.specs.declared.leaves.Leaf.TheVariants.{Column, Rows, Aggregate, Total}
 use Rattle.query_answer.specs.declared.running.Tally.{Tally}
 use Rattle.query_answer.specs.declared.running.Running.{Running}
 use Rattle.query_answer.specs.declared.running.Running.TheVariants.{Shared, Counted, Tallied}
@@ -35,7 +35,6 @@ Runs (Column at) c (Shared first same) = SharesSoFar at c first same
 Runs Rows c (Counted rows) = rows ≡ length c
 Runs (Aggregate function a) c (Tallied t) = TalliesSoFar function (argument_values a c) t
 Runs (Total a) c (Tallied t) = TalliesSoFar Sum (argument_values a c) t
-Runs (Excess a) c (Tallied t) = TalliesSoFar Sum (argument_values a c) t
 Runs l c r = ⊥
 
 -- the same of each leaf, and of the leaves of each class

@@ -18,13 +18,13 @@ pub(crate) fn is_kept(conditions: &[Expr], row: &Row) -> Result<bool, EvalFault>
     verdict(conditions, row, &[])
 }
 
-// Whether an argument of an aggregate has a fault on the row. One that may not fault is not evaluated.
+// Whether an argument of an aggregate has a fault on the row. One that may not fault, as a column, is not evaluated.
 fn check_argument(alloc: Global, argument: &Expr, row: &Row) -> Result<(), EvalFault>
     ensures no_fault { IfOk result (λ _. arguments_told (senses [] (argument.now ∷ [])) (tuple row.now) ≡ []) }
     ensures told { TellsFault result (arguments_told (senses [] (argument.now ∷ [])) (tuple row.now)) }
 {
     safe_expression_has_value();
-    if !is_risky(argument) {
+    if matches!(argument, Expr::Column(_)) || !is_risky(argument) {
         return Ok(());
     }
     match eval(alloc, argument, row, &[]) {

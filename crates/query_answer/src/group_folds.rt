@@ -12,7 +12,7 @@ use crate::row_keys::{RowKey, empty_key, put_key};
 use crate::running::{Running, add_row, all_fresh, values};
 use crate::staging::{Staged, push_staged, staged_class};
 use indexmap::IndexSet;
-use med_value::{NoMemory, Row};
+use med_value::{NoMemory, Row, Value};
 use std::alloc::Global;
 use std::mem;
 use tri_expr::{EvalFault, Expr};
@@ -127,8 +127,13 @@ impl<'a> GroupFold<'a> {
         Ok(())
     }
 
-    // What a group is sorted by and what it shows, where HAVING keeps it.
-    fn staged_group(&self, alloc: Global, group: &Vec<Running>) -> Result<Option<Staged>, EvalFault>
+    // What a group is sorted by and what it shows, where HAVING keeps it. What its leaves give takes the room of other values.
+    fn staged_group(
+        &self,
+        alloc: Global,
+        group: &Vec<Running>,
+        params: &mut Vec<Value>,
+    ) -> Result<Option<Staged>, EvalFault>
         requires many { length self.now.leaves.items ≡ length group.now.items }
         requires few { All (λ r. counted r ≤ 2 ^ 62) group.now.items }
         ensures outputs { IfOk result (λ s. (class : List Tuple) → AllRun self.now.leaves.items class group.now.items
@@ -141,7 +146,7 @@ impl<'a> GroupFold<'a> {
             → (having keys items : List Expr) → IsLifted having keys items self.now
             → TellsFault result (class_told (senses [] having) (senses [] keys) (senses [] items) class) }
     {
-        let Ok(params) = values(alloc, self.leaves.as_slice(), group.as_slice()) else {
+        let Ok(()) = values(alloc, self.leaves.as_slice(), group.as_slice(), params) else {
             return Err(EvalFault::NoMemory);
         };
         staged_class(
@@ -172,9 +177,12 @@ impl<'a> GroupFold<'a> {
         if !self.is_whole {
             return Err(EvalFault::NoMemory);
         }
-        let mut out = Vec::new(alloc);
+        let Ok(mut out) = Vec::with_capacity(alloc, self.groups.len()) else {
+            return Err(EvalFault::NoMemory);
+        };
+        let mut params = Vec::new(alloc);
         for group in &self.groups {
-            match self.staged_group(alloc, group) {
+            match self.staged_group(alloc, group, &mut params) {
                 Ok(staged) => push_staged(staged, &mut out)?,
                 Err(fault) => return Err(fault),
             }

@@ -1,12 +1,12 @@
 //! The leaves of an expression over a class of rows: what it looks at in the rows, which can be kept while rows come and go.
-ghost use Rattle.std.specs.Prelude.{◌≡◌, ◌++◌, ◌∷◌, [], IfOk, List};
-ghost use Rattle.med_value.specs.Datum.{Tuple};
+ghost use Rattle.std.specs.Prelude.{◌≡◌, ◌<◌, ◌+◌, ◌^◌, ◌++◌, ◌∷◌, [], IfOk, List};
+ghost use Rattle.med_value.specs.Datum.{Tuple, cell};
 ghost use Rattle.tri_expr.specs.Aggregate.{aggregated};
 ghost use Rattle.tri_expr.specs.Outcome.{Is};
 ghost use Rattle.tri_expr.specs.Meaning.{meaning};
 ghost use Rattle.tri_expr.specs.declared.expr.SetFunction.TheVariants.{Sum};
 ghost use Rattle.query_answer.specs.declared.leaves.Leaf.{Leaf};
-ghost use Rattle.query_answer.specs.Leaves.{argument_values, leaf_value, leaf_values, AllLift, AreMore, Lifts};
+ghost use Rattle.query_answer.specs.Leaves.{argument_values, leaf_beyond, leaf_value, leaf_values, AllLift, AreMore, Lifts};
 
 use med_value::{NoMemory, Operation, Value};
 use std::alloc::Global;
@@ -21,10 +21,23 @@ pub(crate) enum Leaf {
     Rows,
     /// `count`, `min` or `max` of an argument.
     Aggregate(SetFunction, Expr),
-    /// `sum` of an argument; where that is out of range, the last number that is in range.
+    /// `sum` of an argument, in two numbers: the last one that is in range where it is out of range; and 0, or where it is out of range 1
+    /// or -1, which added to the first is out of range too.
     Total(Expr),
-    /// 0, or where `sum` of an argument is out of range 1 or -1: added to its total, that is out of range.
-    Excess(Expr),
+}
+
+// One more leaf: at which place its value stands among what all give.
+fn put_leaf(leaf: Leaf, leaves: &mut Vec<Leaf>) -> Result<usize, NoMemory>
+    ensures more { IfOk result (λ _. leaves.new.items ≡ leaves.old.items ++ leaf ∷ []) }
+    ensures value { IfOk result (λ at. (more : List Leaf) (c : List Tuple)
+        → cell (leaf_values (leaves.new.items ++ more) c) at ≡ leaf_value leaf c) }
+    ensures beyond { IfOk result (λ at. (more : List Leaf) (c : List Tuple)
+        → cell (leaf_values (leaves.new.items ++ more) c) (at + 1) ≡ leaf_beyond leaf c) }
+    ensures small { IfOk result (λ at. at + 1 < 2 ^ 64) }
+{
+    let at = 2 * leaves.len();
+    leaves.push(leaf)?;
+    Ok(at)
 }
 
 // The value of one more leaf, as a parameter.
@@ -33,8 +46,7 @@ fn one_leaf(leaf: Leaf, leaves: &mut Vec<Leaf>) -> Result<Expr, NoMemory>
     ensures value { IfOk result (λ e. (more : List Leaf) (c : List Tuple)
         → meaning (leaf_values (leaves.new.items ++ more) c) e [] ≡ Is (leaf_value leaf c)) }
 {
-    let at = leaves.len();
-    leaves.push(leaf)?;
+    let at = put_leaf(leaf, leaves)?;
     Ok(Expr::Parameter(at))
 }
 
@@ -44,10 +56,9 @@ fn lifted_sum(alloc: Global, argument: &Expr, leaves: &mut Vec<Leaf>) -> Result<
     ensures lifts { IfOk result (λ e. (more : List Leaf) (c : List Tuple)
         → meaning (leaf_values (leaves.new.items ++ more) c) e [] ≡ aggregated Sum (argument_values argument.now c)) }
 {
-    let total = one_leaf(Leaf::Total(argument.copy(alloc)?), leaves)?;
-    let excess = one_leaf(Leaf::Excess(argument.copy(alloc)?), leaves)?;
-    let total = Box::new(alloc, total)?;
-    let excess = Box::new(alloc, excess)?;
+    let at = put_leaf(Leaf::Total(argument.copy(alloc)?), leaves)?;
+    let total = Box::new(alloc, Expr::Parameter(at))?;
+    let excess = Box::new(alloc, Expr::Parameter(at + 1))?;
     Ok(Expr::Compute(Operation::Add, total, excess))
 }
 

@@ -2,14 +2,16 @@
 ghost use Rattle.std.specs.Prelude.{◌≡◌, ◌≤◌, ◌*◌, ◌^◌, ◌==◌, ℕ, suc, if◌then◌else◌};
 ghost use Rattle.std.specs.Prelude.{◌++◌, ◌∷◌, [], IfOk, List, map, length, All};
 ghost use Rattle.med_value.specs.Datum.{cell, datum, tuple, Datum, NoValue, Whole, Tuple};
+ghost use Rattle.tri_expr.specs.declared.expr.SetFunction.TheVariants.{Sum};
 ghost use Rattle.tri_expr.specs.Aggregate.{whole_of};
 ghost use Rattle.tri_expr.specs.Meaning.{meaning, shared};
 ghost use Rattle.tri_expr.specs.Outcome.{value_of};
 ghost use Rattle.tri_expr.specs.Tally.{better_of, finished, magnitude};
-ghost use Rattle.query_answer.specs.Leaves.{leaf_value, leaf_values, number_beyond, number_within};
+ghost use Rattle.query_answer.specs.Leaves.{leaf_beyond, leaf_value, leaf_values, number_beyond, number_within};
 ghost use Rattle.query_answer.specs.Running.{AllRun, HasRoom, IsSmall, Runs, SharesSoFar, TalliesIn, TalliesSoFar, counted};
 
 use crate::leaves::Leaf;
+use crate::row_keys::is_same;
 use med_value::order::{compare_values, is_missing};
 use med_value::{NoMemory, Row, Value};
 use std::alloc::Global;
@@ -78,7 +80,7 @@ fn share(
     };
     match first {
         None => *first = Some(value.copy(alloc)?),
-        Some(kept) => *same = *same && compare_values(value, kept).is_eq(),
+        Some(kept) => *same = *same && is_same(value, kept),
     }
     Ok(())
 }
@@ -185,6 +187,53 @@ fn tally_row(
     Ok(())
 }
 
+// One more value of SUM; NULL is skipped.
+fn add_number(value: &Value, tally: &mut Tally)
+    requires few { suc tally.old.count ≤ 2 ^ 62 }
+    requires small { magnitude tally.old.total ≤ tally.old.count * 2 ^ 63 }
+    ensures { (vs : List Datum) → TalliesSoFar Sum vs tally.old → TalliesSoFar Sum (vs ++ datum value.now ∷ []) tally.new }
+{
+    if is_missing(value) {
+        return;
+    }
+    let number = whole(value);
+    tally.count += 1;
+    tally.total += number;
+}
+
+// One more row of SUM of a column, which is read where it stands; NULL past the end.
+fn total_cell(at: usize, row: &Row, tally: &mut Tally)
+    requires few { suc tally.old.count ≤ 2 ^ 62 }
+    requires small { magnitude tally.old.total ≤ tally.old.count * 2 ^ 63 }
+    ensures { (vs : List Datum) → TalliesSoFar Sum vs tally.old → TalliesSoFar Sum (vs ++ cell (tuple row.now) at ∷ []) tally.new }
+{
+    match row.cells.get(at) {
+        Some(value) => add_number(value, tally),
+        None => add_number(&Value::Null, tally),
+    }
+}
+
+// One more row of SUM.
+fn total_row(
+    alloc: Global,
+    argument: &Expr,
+    row: &Row,
+    running: &mut Running,
+) -> Result<(), NoMemory>
+    requires room { HasRoom running.old }
+    requires small { IsSmall running.old }
+    ensures { IfOk result (λ _. (vs : List Datum) → TalliesIn Sum vs running.old
+        → TalliesIn Sum (vs ++ value_of (meaning [] argument.now (tuple row.now ∷ [])) ∷ []) running.new) }
+{
+    if let Running::Tallied(so_far) = running {
+        match argument {
+            Expr::Column(at) => total_cell(*at, row, so_far),
+            _ => add_number(&argument_value(alloc, argument, row)?, so_far),
+        }
+    }
+    Ok(())
+}
+
 // One more row of a leaf.
 fn add(alloc: Global, leaf: &Leaf, row: &Row, running: &mut Running) -> Result<(), NoMemory>
     requires room { HasRoom running.old }
@@ -204,8 +253,7 @@ fn add(alloc: Global, leaf: &Leaf, row: &Row, running: &mut Running) -> Result<(
             }
         }
         Leaf::Aggregate(function, argument) => tally_row(alloc, *function, argument, row, running)?,
-        Leaf::Total(argument) => tally_row(alloc, SetFunction::Sum, argument, row, running)?,
-        Leaf::Excess(argument) => tally_row(alloc, SetFunction::Sum, argument, row, running)?,
+        Leaf::Total(argument) => total_row(alloc, argument, row, running)?,
     }
     Ok(())
 }
@@ -290,24 +338,51 @@ fn value(alloc: Global, leaf: &Leaf, running: &Running) -> Result<Value, NoMemor
             aggregate_value(alloc, *function, tally)
         }
         (Leaf::Total(_), Running::Tallied(tally)) => Ok(total_in_range(tally)),
-        (Leaf::Excess(_), Running::Tallied(tally)) => Ok(excess(tally.total)),
         _ => Ok(Value::Null),
     }
 }
 
-/// The values of the leaves of a class over the rows that came. Refused only for want of memory.
+// What a leaf has beyond its value, over the rows that came.
+fn beyond(leaf: &Leaf, running: &Running) -> Value
+    ensures { (c : List Tuple) → Runs leaf.now c running.now → datum result ≡ leaf_beyond leaf.now c }
+{
+    match (leaf, running) {
+        (Leaf::Total(_), Running::Tallied(tally)) => excess(tally.total),
+        _ => Value::Null,
+    }
+}
+
+// Appends what a leaf gives over the rows that came. Refused only for want of memory.
+fn put_values(
+    alloc: Global,
+    leaf: &Leaf,
+    running: &Running,
+    out: &mut Vec<Value>,
+) -> Result<(), NoMemory>
+    requires { counted running.now ≤ 2 ^ 62 }
+    ensures { IfOk result (λ _. (c : List Tuple) → Runs leaf.now c running.now
+        → map datum out.new.items ≡ map datum out.old.items ++ leaf_value leaf.now c ∷ leaf_beyond leaf.now c ∷ []) }
+{
+    out.push(value(alloc, leaf, running)?)?;
+    out.push(beyond(leaf, running))?;
+    Ok(())
+}
+
+/// Puts what the leaves of a class give over the rows that came in the place of other values, whose room it takes. Refused only for want
+/// of memory.
 pub(crate) fn values(
     alloc: Global,
     leaves: &[Leaf],
     all: &[Running],
-) -> Result<Vec<Value>, NoMemory>
+    out: &mut Vec<Value>,
+) -> Result<(), NoMemory>
     requires many { length leaves.now ≡ length all.now }
     requires few { All (λ r. counted r ≤ 2 ^ 62) all.now }
-    ensures { IfOk result (λ vs. (c : List Tuple) → AllRun leaves.now c all.now → map datum vs.items ≡ leaf_values leaves.now c) }
+    ensures { IfOk result (λ _. (c : List Tuple) → AllRun leaves.now c all.now → map datum out.new.items ≡ leaf_values leaves.now c) }
 {
-    let mut out = Vec::with_capacity(alloc, leaves.len())?;
+    out.clear();
     for at in 0..leaves.len() {
-        out.push(value(alloc, &leaves[at], &all[at])?)?;
+        put_values(alloc, &leaves[at], &all[at], out)?;
     }
-    Ok(out)
+    Ok(())
 }

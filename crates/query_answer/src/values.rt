@@ -1,6 +1,6 @@
 //! The values of expressions over a class of rows.
 ghost use Rattle.std.specs.Prelude.{◌≡◌, ◌∷◌, ◌++◌, [], IfOk, map};
-ghost use Rattle.med_value.specs.Datum.{datum, tuple};
+ghost use Rattle.med_value.specs.Datum.{cell as spec_cell, datum, tuple};
 ghost use Rattle.tri_expr.specs.Meaning.{meaning};
 ghost use Rattle.tri_expr.specs.Outcome.{Is, over, value_of};
 ghost use Rattle.tri_expr.specs.Verdict.{fault_list};
@@ -27,7 +27,21 @@ fn class_value(
     }
 }
 
-// The same. A column of one row is read where it stands.
+// A parameter; NULL past the end. Refused only for want of memory.
+fn parameter_copy(alloc: Global, at: usize, params: &[Value]) -> Result<Value, EvalFault>
+    ensures value { IfOk result (λ v. datum v ≡ spec_cell (map datum params.now) at) }
+    ensures told { TellsFault result [] }
+{
+    match params.get(at) {
+        Some(value) => match value.copy(alloc) {
+            Ok(copied) => Ok(copied),
+            Err(_) => Err(EvalFault::NoMemory),
+        },
+        None => Ok(Value::Null),
+    }
+}
+
+// The same as `class_value`. A column of one row, and a parameter, are read where they stand.
 fn value_over(
     alloc: Global,
     part: &Expr,
@@ -44,6 +58,7 @@ fn value_over(
                 Err(_) => Err(EvalFault::NoMemory),
             }
         }
+        (Expr::Parameter(at), _) => parameter_copy(alloc, *at, params),
         _ => class_value(alloc, part, class, params),
     }
 }

@@ -48,13 +48,13 @@ loop-group-preserved c =
           let run = subst (AllRun f.leaves.items (get_or cs k [])) here (runs_at f.leaves.items cs gs k [] lt folds.runs) in
           let show = class_staged (senses [] having) (senses [] keys) (senses [] items) in
           let old = map output_of c.loop-group.out.items in
-          shown_more show cs k [] old _ (omega arith) (c.in_ok-push_staged-in-Ok.ensures.ok ∙ ap (λ outs. old ++ outs) (c.in-Ok.ensures.outputs (get_or cs k []) run having keys items lifted)) (c.loop-group.invariant.outputs rows folds having keys items lifted);
+          shown_more show cs k [] old _ (omega arith) (c.in_ok-push_staged-in-Ok-staged_group.ensures.ok ∙ ap (λ outs. old ++ outs) (c.in-Ok-staged_group.ensures.outputs (get_or cs k []) run having keys items lifted)) (c.loop-group.invariant.outputs rows folds having keys items lifted);
       no_fault = λ rows folds having keys items lifted.
           let cs = classes_so_far f.columns.now rows in
           let long = runs_long f.leaves.items cs gs folds.runs in
           let run = subst (AllRun f.leaves.items (get_or cs k [])) here (runs_at f.leaves.items cs gs k [] lt folds.runs) in
           let told = class_told (senses [] having) (senses [] keys) (senses [] items) in
-          none_more told cs k [] (omega arith) (c.in-Ok.ensures.no_fault (get_or cs k []) run having keys items lifted) (c.loop-group.invariant.no_fault rows folds having keys items lifted);
+          none_more told cs k [] (omega arith) (c.in-Ok-staged_group.ensures.no_fault (get_or cs k []) run having keys items lifted) (c.loop-group.invariant.no_fault rows folds having keys items lifted);
     }
 
 pub returns-in-Err-clause-told : goal.returns-in-Err-clause-told
