@@ -102,6 +102,17 @@ fn write_under_a_limit_on_steps_is_made_whole_or_not_at_all(rt: HostRuntime) -> 
     Ok(())
 }
 
+// From a limit of 30 on all is done, up to 2,000.
+#[test]
+fn write_under_a_greater_limit_on_steps_is_made_whole(rt: HostRuntime) -> Result<(), Fail> {
+    let alloc = rt.alloc();
+    for tens in 3..201 {
+        let came = under(alloc, 10 * tens, compared(alloc, Comparison::AtLeast, 0)?)?;
+        assert!(rt; came == ("written", "after"));
+    }
+    Ok(())
+}
+
 /// What comes of nine orders in a box that fails behind so many calls.
 fn failing_after(alloc: Global, passes: u64) -> Result<(&'static str, &'static str), Fail> {
     let source = in_failing(new_source(alloc, None)?, passes);
