@@ -58,8 +58,9 @@ unfolding with_memory
 memory_told e new sid request names rows h = record {
   trouble = with_memory h.trouble;
   befell = record { source = h.befell.source; numbers = h.befell.numbers };
+  asked = h.asked;
   rises = h.rises;
-  asks = asks_refused e sid request OutOfMemory new.boxes;
+  asks = asks_refused e sid request OutOfMemory new;
   step = λ w a. let s = h.step w a in rows_refused w sid request h.trouble names rows s.0 new s.1 s.2;
 }
 

@@ -43,7 +43,7 @@ behind e sid seat name run count mid = with_cursors e sid (having_asked seat cou
 -- a FETCH that was read asks for some row: of FETCH 0 a cause of syntax stands
 some_asked : (c : CountTree) (name : Name) → (is_fetch_zero_command (on_cursors (fetch c name)) ≡ true → ⊥) → has_enough c 0 ≡ false
 some_asked (some_rows zero) name none = absurd (none refl)
-some_asked (some_rows (suc n)) name none = refl
+some_asked (some_rows (suc n)) name none = grind arith
 some_asked all_rows name none = refl
 
 read_some : (e : Shown) (sid : ℕ) (text : List ℕ) (user name : Name) (asked : CountTree) → IsRead e sid text user (on_cursors (fetch asked name)) → has_enough asked 0 ≡ false

@@ -20,7 +20,7 @@ pub returns-in-Ok-clause-sound : goal.returns-in-Ok-clause-sound
 returns-in-Ok-clause-sound g c =
     let shut : c.is_open.result ≡ false = search rules in
     let name : string_bytes c.in-Ok.user ≡ c.args.user.now = c.in-Ok.ensures.ok in
-    rw (c.put_seat.ensures, name, c.new-cursors.ensures.items) (c.sessions_lead.ensures.opened_sound (shown g.W.Wrapper.meaning c.args.self.now) c.args.sid.number c.args.user.now c.args.sid.in_range c.requires (sym c.is_open.ensures ∙ shut))
+    rw (c.put_seat.ensures, name, c.new-cursors.ensures.items, c.never-asked.ensures) (c.sessions_lead.ensures.opened_sound (shown g.W.Wrapper.meaning c.args.self.now) c.args.sid.number c.args.user.now c.args.sid.in_range c.requires (sym c.is_open.ensures ∙ shut))
 
 pub returns-in-Ok-clause-leads : goal.returns-in-Ok-clause-leads
 returns-in-Ok-clause-leads g c =
@@ -29,7 +29,7 @@ returns-in-Ok-clause-leads g c =
     let yes : c.is_user.result ≡ true = search rules in
     let user : IsUser c.args.user.now = c.is_user.ensures.0 yes in
     let name : string_bytes c.in-Ok.user ≡ c.args.user.now = c.in-Ok.ensures.ok in
-    rw (c.put_seat.ensures, name, c.new-cursors.ensures.items) (c.sessions_lead.ensures.opened e c.args.sid.number c.args.user.now c.args.sid.in_range user c.requires.sessions (sym c.is_open.ensures ∙ shut))
+    rw (c.put_seat.ensures, name, c.new-cursors.ensures.items, c.never-asked.ensures) (c.sessions_lead.ensures.opened e c.args.sid.number c.args.user.now c.args.sid.in_range user c.requires.sessions (sym c.is_open.ensures ∙ shut))
 
 pub returns-in-Err-clause-leads : goal.returns-in-Err-clause-leads
 returns-in-Err-clause-leads g c =
