@@ -1,4 +1,5 @@
 -- What the requests of an engine share: rows are replaced by want of memory.
+use Rattle.std.proofs.lemmas.Bool.{false≢true}
 use Rattle.std.proofs.Common.{◌≡◌, ℕ, Bool, true, false, String, Global, string_bytes, List, ◌++◌, codes, refl, subst}
 use Rattle.med_value.specs.Datum.{Tuple}
 use Rattle.med_value.specs.declared.cause.Cause.TheVariants.{OutOfMemory}
@@ -58,7 +59,7 @@ unfolding with_memory
 memory_told e new sid request names rows h = record {
   trouble = with_memory h.trouble;
   befell = record { source = h.befell.source; numbers = h.befell.numbers };
-  asked = h.asked;
+  asked = λ x. absurd (false≢true x);
   rises = h.rises;
   asks = asks_refused e sid request OutOfMemory new;
   step = λ w a. let s = h.step w a in rows_refused w sid request h.trouble names rows s.0 new s.1 s.2;

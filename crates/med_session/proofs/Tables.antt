@@ -26,7 +26,7 @@ use Rattle.med_session.specs.Binding.{BindFails, before_bind, by_fault}
 use Rattle.med_session.specs.Tables.{TableFails, no_memory, fails_by, undone, TakesSource, ServerFails, source_taken, memory_refused}
 use Rattle.med_world.proofs.Faring.{set_this, same_box}
 use Rattle.med_world.proofs.ScansChanged.{fresh_scan}
-use Rattle.med_world.proofs.Lists.{some_same, none_some, push_last, one_place, same_bytes, other_bytes}
+use Rattle.med_world.proofs.Lists.{some_same, push_last, one_place, same_bytes, other_bytes}
 use Rattle.med_world.specs.Adding.{HasSource}
 use Rattle.med_world.proofs.Named.{map_place, found_place, at_place, place_of}
 use Rattle.med_session.specs.declared.sources.NamedSource.{NamedSource}

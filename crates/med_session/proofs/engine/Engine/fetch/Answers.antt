@@ -3,7 +3,7 @@ use Rattle.med_value.specs.Datum.{tuple}
 use Rattle.med_exec.specs.Slots.{states}
 use Rattle.open_cursors.specs.Open.{seated}
 use Rattle.med_world.specs.Engine.{Shown, IsSound, Leads}
-use Rattle.sql_meaning.specs.Replies.{answered, refused}
+use Rattle.sql_meaning.specs.Replies.{answered}
 use Rattle.sql_meaning.specs.Requests.{sql}
 use Rattle.med_world.specs.Seats.{seat_of}
 use Rattle.med_world.specs.Turning.{having_asked}
