@@ -2,9 +2,9 @@
 ghost use Rattle.med_session.specs.Engine.{IsSound};
 ghost use Rattle.med_session.specs.Shows.{shown};
 
-use crate::served::{ask, engine_over, new_list};
+use crate::served::{ask, engine_over, new_list, request_of};
 use fdw_api::wishes::Wrapper2;
-use med_session::{Engine, Request};
+use med_session::Engine;
 use std::alloc::Global;
 use std::test::Fail;
 
@@ -33,17 +33,6 @@ const ROWS: &str = "\
 1 BYE => 2 11
 2 BYE => 0 11
 ";
-
-// What a row asks.
-fn request_of(text: &str) -> Request<'_> {
-    if text == "OPEN" {
-        Request::Open("bob")
-    } else if text == "BYE" {
-        Request::Bye
-    } else {
-        Request::Sql(text)
-    }
-}
 
 // Fails where the list counts otherwise than a row says, once that is asked.
 fn leaves<W: Wrapper2>(
