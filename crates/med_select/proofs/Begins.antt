@@ -1,5 +1,5 @@
 -- The run of a bound query: begun, or why not.
-use Rattle.std.proofs.Common.{◌≡◌, ◌∙◌, ℕ, ◌<◌, ◌≤◌, Bool, false, List, Option, map, length, sym, ap, subst, string_bytes}
+use Rattle.std.proofs.Common.{◌≡◌, ◌∙◌, ℕ, ◌<◌, ◌≤◌, Bool, false, List, Option, map, length, refl, sym, ap, subst, string_bytes}
 use Rattle.med_value.specs.Datum.{Tuple}
 use Rattle.med_syntax.specs.Tree.{Name}
 use Rattle.med_syntax.specs.QueryTree.{SelectTree}
@@ -24,7 +24,11 @@ use Rattle.bind_catalog.specs.Places.{Attached}
 use Rattle.med_world.specs.Altering.{cause_of}
 use Rattle.open_cursors.specs.Counted.{ReadsTables}
 use Rattle.open_cursors.specs.Starting.{HoldsOf, RestsOver, Starts, RunFails, no_memory, box_fails, numbers_out, shows_cause, StartFails, run_fails}
-use Rattle.bound_runs.specs.Starting.{AsksNone, ShowsAll}
+use Rattle.bound_runs.specs.Starting.{AsksNone, ShowsAll, OpensScans}
+use Rattle.med_binder.specs.Counted.{bound_widths}
+use Rattle.med_binder.specs.Within.{widths}
+use Rattle.bind_names.specs.Scope.{from_scope}
+use Rattle.bind_catalog.specs.Tables.{shapes}
 use Rattle.med_select.proofs.Selections.{ExpressionsIgnoreOrder, AnswersInAnyOrder, CausesInAnyOrder, IsBoundBy, steady, same_back, query_bound, entries_counted}
 
 -- what the run may give are answers in whatever order the rows of the entries come
@@ -55,9 +59,9 @@ safe_meant : (o : Objects) (user : Name) (bound : List Attached) (q : SelectTree
 safe_meant o user bound q b is safe = sym (ap is_risky_form is.meant.form) ∙ safe
 
 pub starts : ExpressionsIgnoreOrder → AnswersInAnyOrder → CausesInAnyOrder → (o : Objects) (user : Name) (bound : List Attached) (q : SelectTree) (full : Bool) (b : BoundQuery) (run : Run) (old new : List (Option BoxState))
-    → IsBoundBy o user bound q b → MayBegin full b → ServesRun none_held (held run) old new → IsRunning run new → HoldsOf (map entry_place b.entries.items) run new → ReadsTables (map entry_place b.entries.items) old new → AsksNone b old new → ShowsAll b run → Begun (written_query b.select) (map entry_place b.entries.items) (Rests run new) old
+    → IsBoundBy o user bound q b → bound_widths b ≡ widths (from_scope (shapes o) q.from) → MayBegin full b → ServesRun none_held (held run) old new → IsRunning run new → HoldsOf (map entry_place b.entries.items) run new → ReadsTables (map entry_place b.entries.items) old new → AsksNone b old new → ShowsAll b run → OpensScans b run new → Begun (written_query b.select) (map entry_place b.entries.items) (Rests run new) old
     → Starts o user bound q full old (map string_bytes b.names.items) run new
-starts order any causes o user bound q full b run old new is may served running holds once asks shows begun =
+starts order any causes o user bound q full b run old new is wide may served running holds once asks shows opens begun =
     let m = meant_by o q in
     let places = map entry_place b.entries.items in
     record {
@@ -74,6 +78,7 @@ starts order any causes o user bound q full b run old new is may served running 
       reads = once;
       plain = λ plain some. asks (subst (λ (f : Form). IsPlainForm f) (sym is.meant.form) plain) may.safe (subst (λ (n : ℕ). 0 < n) (entries_counted m b is.meant) some);
       bare = λ bare. shows (subst (λ (f : Form). IsBareForm f) (sym is.meant.form) bare) may.safe;
+      opens = record { bound = b; form = is.meant.form; at = refl; wide = wide; opens = λ plain some. opens plain may.safe some };
       rests = subst (λ (x : Query). RestsOver x places old (Rests run new)) (query_bound m b is.meant) (rests_over any causes (written_query b.select) (steady order b.select) places old (Rests run new) begun);
     }
 

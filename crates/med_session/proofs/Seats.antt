@@ -29,19 +29,10 @@ set_back (z ∷ zs) zero x at =
     ap (λ y. y ∷ zs) (sym e)
 set_back (z ∷ zs) (suc k) x at = ap (λ l. z ∷ l) (set_back zs k x at)
 
-pub set_there : {A : Type 0} (xs : List A) (k : ℕ) (x y : A) → slice_get xs k ≡ Some x → slice_get (slice_set xs k y) k ≡ Some y
-set_there [] k x y at = absurd cc
-set_there (z ∷ zs) zero x y at = refl
-set_there (z ∷ zs) (suc k) x y at = set_there zs k x y at
-
 pub place_there : (o : Option (Option Seated)) (s : Seated) → seat_in o ≡ Some s → o ≡ Some (Some s)
 place_there None s e = absurd cc
 place_there (Some None) s e = absurd cc
 place_there (Some (Some t)) s e = ap Some e
-
--- the session whose seat was put in has it
-pub seat_put : (seats : List (Option Seated)) (sid : ℕ) (s t : Seated) → seat_of seats sid ≡ Some s → seat_of (slice_set seats (sid - 1) (Some t)) sid ≡ Some t
-seat_put seats sid s t is = ap seat_in (set_there seats (sid - 1) (Some s) (Some t) (place_there (slice_get seats (sid - 1)) s is))
 
 -- a seat that was taken out and put in with other cursors
 pub put_other : (e : Shown) (sid : ℕ) (seat after : Seated) (cursors : List Opened) (left seats : List (Option Seated)) (boxes : List (Option BoxState)) → left ≡ slice_set e.seats (sid - 1) None → seats ≡ slice_set left (sid - 1) (Some after) → after ≡ having seat cursors

@@ -13,7 +13,9 @@ use Rattle.std.proofs.lemmas.Bool.{cases_lt}
 use Rattle.med_parser.specs.CommandCauses.{is_fetch_zero_command}
 use Rattle.med_parser.specs.CommandTree.{on_cursors}
 use Rattle.open_cursors.specs.Open.{Opened, Seated, opened_named, without_named, with_run}
-use Rattle.open_cursors.specs.Fetching.{GivesNone, no_memory, cause_of, counted, has_enough, HasRisen}
+use Rattle.open_cursors.specs.Fetching.{GivesNone, no_memory, cause_of, has_enough, HasRisen, PullsEnded}
+use Rattle.open_cursors.proofs.Asking.{risen_by}
+use Rattle.open_cursors.proofs.Pulled.{pulls_ended}
 use Rattle.med_world.proofs.Lists.{some_same}
 use Rattle.sql_meaning.specs.Requests.{AskedLine, sql, IsSid}
 use Rattle.sql_meaning.specs.Steps.{TakesMemory}
@@ -27,14 +29,15 @@ use Rattle.med_session.specs.declared.cursors.FetchFault.{FetchFault}
 use Rattle.med_session.specs.declared.cursors.FetchFault.TheVariants as fault
 use Rattle.session_replies.specs.declared.replies.Outcome.{Outcome}
 use Rattle.session_replies.specs.declared.replies.Outcome.TheVariants as outcome
-use Rattle.med_session.proofs.Seats.{set_twice, seat_put, put_other, put_back}
+use Rattle.med_world.proofs.CursorSeats.{seat_put}
+use Rattle.med_session.proofs.Seats.{set_twice, put_other, put_back}
 use Rattle.med_world.proofs.CursorLists.{named_runs}
 use Rattle.med_session.proofs.CursorLists.{without_runs}
 
 -- what the law of a FETCH that fails says
 abbrev pub FailsLaw : Type 0
 FailsLaw = (e : Shown) (new : List (Option BoxState)) (sid : ℕ) (text : List ℕ) (seat : Seated) (name : Name) (asked : CountTree) (o : Opened) (c : Cause) (count : ℕ) → IsRead e sid text seat.user (on_cursors (fetch asked name)) → seat_of e.seats sid ≡ Some seat → IsSound e
-    → opened_named name seat.cursors ≡ Some o → GivesNone c e.boxes new → Ends o.run e.boxes new → HasRisen seat.asked count → Leads e sid (sql text) (refused c) (with_cursors e sid (having_asked seat count) (without_named name seat.cursors) new)
+    → opened_named name seat.cursors ≡ Some o → GivesNone c e.boxes new → Ends o.run e.boxes new → PullsEnded asked o.run e.boxes new → HasRisen seat.asked count → Leads e sid (sql text) (refused c) (with_cursors e sid (having_asked seat count) (without_named name seat.cursors) new)
 
 -- the engine behind such a FETCH
 abbrev behind : Shown → ℕ → Seated → Name → Run → ℕ → List (Option BoxState) → Shown
@@ -49,19 +52,11 @@ some_asked all_rows name none = refl
 read_some : (e : Shown) (sid : ℕ) (text : List ℕ) (user name : Name) (asked : CountTree) → IsRead e sid text user (on_cursors (fetch asked name)) → has_enough asked 0 ≡ false
 read_some e sid text user name asked read = some_asked asked name (λ none. read.clear FetchZero (read.has.0, read.has.1, (on_cursors (fetch asked name), read.has.2, none)))
 
--- so its asking is counted
-risen_by : (before times after : ℕ) → 0 < times → after ≡ counted before times → HasRisen before after
-risen_by before times after some e = split (cases_lt (before + times) (2 ^ 64 - 1))
-  where
-    split : (before + times < 2 ^ 64 - 1) ⊎ (2 ^ 64 - 1 ≤ before + times) → HasRisen before after
-    split (inl few) = inl (grind (arith, e, few, some))
-    split (inr many) = inr (grind (arith, e, many))
-
 lost : FailsLaw → (e : Shown) (sid : ℕ) (text : List ℕ) (seat : Seated) (name : Name) (asked : CountTree) (names : List Name) (rows : List Tuple) (after : Seated) (mid : List (Option BoxState)) → IsRead e sid text seat.user (on_cursors (fetch asked name))
     → seat_of e.seats sid ≡ Some seat → IsSound e → (f : Fetched name asked seat e.boxes names rows after mid) → (new : Shown) → LosesCursor (behind e sid seat name f.run f.count mid) sid name new → Leads e sid (sql text) (refused OutOfMemory) new
 lost law e sid text seat name asked names rows after mid read is_open sound f new l =
     subst (λ (n : Shown). Leads e sid (sql text) (refused OutOfMemory) n) (sym is) (law e new.boxes sid text seat name asked f.at OutOfMemory f.count read is_open sound f.there (no_memory refl) (later f.run mid f.gives.served closes)
-    (risen_by seat.asked f.pulls.times f.count (f.pulls.some (read_some e sid text seat.user name asked read)) f.pulls.counts))
+    (pulls_ended asked f.at.run f.run e.boxes mid new.boxes seat.asked f.count f.pulls l.pulls) (risen_by seat.asked f.pulls.times f.count (f.pulls.some (read_some e sid text seat.user name asked read)) f.pulls.counts))
   where
     seat_now : Seated
     seat_now = having (having_asked seat f.count) (with_run name f.run seat.cursors)
@@ -114,23 +109,23 @@ module _ (e : Shown) (sid : ℕ) (seat after : Seated) (left seats : List (Optio
   kept : (c : Cause) → KeepsCursors name seat e.boxes c after boxes → failed ≡ e
   kept c k = put_back e sid seat after left seats boxes is_open l s k.seat_kept ∙ ap (λ (b : List (Option BoxState)). record e { boxes = b }) k.boxes_kept
 
-  given_up : (c : Cause) → (k : GivesUp name seat e.boxes c after boxes) → failed ≡ with_cursors e sid (having_asked seat k.count) (without_named name seat.cursors) boxes
-  given_up c k = put_other e sid (having_asked seat k.count) after (without_named name seat.cursors) left seats boxes l s k.is
+  given_up : (asked : CountTree) (c : Cause) → (k : GivesUp name asked seat e.boxes c after boxes) → failed ≡ with_cursors e sid (having_asked seat k.count) (without_named name seat.cursors) boxes
+  given_up asked c k = put_other e sid (having_asked seat k.count) after (without_named name seat.cursors) left seats boxes l s k.is
 
-  pub failed_sound : EndedLaw → IsSid sid → (f : FetchFault) → NotFetched name seat e.boxes f after boxes → IsSound failed
-  failed_sound law is (fault.Unasked c) k = subst (λ (n : Shown). IsSound n) (sym (kept c k)) sound
-  failed_sound law is (fault.Failed u) k = subst (λ (n : Shown). IsSound n) (sym (given_up (cause_of u.fault) k)) (law e boxes sid seat name k.at k.count is sound is_open k.there k.ends)
+  pub failed_sound : EndedLaw → IsSid sid → (asked : CountTree) (f : FetchFault) → NotFetched name asked seat e.boxes f after boxes → IsSound failed
+  failed_sound law is asked (fault.Unasked c) k = subst (λ (n : Shown). IsSound n) (sym (kept c k)) sound
+  failed_sound law is asked (fault.Failed u) k = subst (λ (n : Shown). IsSound n) (sym (given_up asked (cause_of u.fault) k)) (law e boxes sid seat name k.at k.count is sound is_open k.there k.ends)
 
   unasked_leads : UnknownLaw → MemoryLaw → (text : List ℕ) (asked : CountTree) (c : Cause) → IsRead e sid text seat.user (on_cursors (fetch asked name)) → NoneAsked name seat c → Leads e sid (sql text) (refused c) e
   unasked_leads unknown memory text asked c read (is_unknown told none) = subst (λ (d : Cause). Leads e sid (sql text) (refused d) e) (sym told) (unknown e sid text seat name (fetch asked name) refl read is_open none)
   unasked_leads unknown memory text asked c read (lacks_memory told) = subst (λ (d : Cause). Leads e sid (sql text) (refused d) e) (sym told) (memory e sid (sql text) tt)
 
-  leads_as : FailsLaw → UnknownLaw → MemoryLaw → (text : List ℕ) (asked : CountTree) (f : FetchFault) → IsRead e sid text seat.user (on_cursors (fetch asked name)) → NotFetched name seat e.boxes f after boxes → Leads e sid (sql text) (refused (cause_in f)) failed
+  leads_as : FailsLaw → UnknownLaw → MemoryLaw → (text : List ℕ) (asked : CountTree) (f : FetchFault) → IsRead e sid text seat.user (on_cursors (fetch asked name)) → NotFetched name asked seat e.boxes f after boxes → Leads e sid (sql text) (refused (cause_in f)) failed
   leads_as law unknown memory text asked (fault.Unasked c) read k = subst (λ (n : Shown). Leads e sid (sql text) (refused c) n) (sym (kept c k)) (unasked_leads unknown memory text asked c read k.why)
   leads_as law unknown memory text asked (fault.Failed u) read k =
-      subst (λ (n : Shown). Leads e sid (sql text) (refused (cause_of u.fault)) n) (sym (given_up (cause_of u.fault) k)) (law e boxes sid text seat name asked k.at (cause_of u.fault) k.count read is_open sound k.there k.gives k.ends k.risen)
+      subst (λ (n : Shown). Leads e sid (sql text) (refused (cause_of u.fault)) n) (sym (given_up asked (cause_of u.fault) k)) (law e boxes sid text seat name asked k.at (cause_of u.fault) k.count read is_open sound k.there k.gives k.ends k.pulls k.risen)
 
-  pub failed_leads : FailsLaw → UnknownLaw → MemoryLaw → (text : List ℕ) (asked : CountTree) (f : FetchFault) (d : Cause) → d ≡ cause_in f → IsRead e sid text seat.user (on_cursors (fetch asked name)) → NotFetched name seat e.boxes f after boxes → Leads e sid (sql text) (refused d) failed
+  pub failed_leads : FailsLaw → UnknownLaw → MemoryLaw → (text : List ℕ) (asked : CountTree) (f : FetchFault) (d : Cause) → d ≡ cause_in f → IsRead e sid text seat.user (on_cursors (fetch asked name)) → NotFetched name asked seat e.boxes f after boxes → Leads e sid (sql text) (refused d) failed
   failed_leads law unknown memory text asked f d told read k = subst (λ (x : Cause). Leads e sid (sql text) (refused x) failed) (sym told) (leads_as law unknown memory text asked f read k)
 
 -- where no FETCH gave rows, nothing is owed of one

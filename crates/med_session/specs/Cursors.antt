@@ -9,13 +9,14 @@ use Rattle.med_syntax.specs.QueryTree.{SelectTree}
 use Rattle.cursor_syntax.specs.CursorTree.{CountTree}
 use Rattle.fdw_api.specs.State.{BoxState}
 use Rattle.med_exec.specs.declared.running.Run.{Run}
+use Rattle.med_exec.specs.Pulling.{PullsNone}
 use Rattle.med_exec.specs.Running.{ServesRun, none_held}
 use Rattle.med_exec.specs.Rests.{held}
 use Rattle.med_catalog.specs.Objects.{Objects}
 use Rattle.bind_catalog.specs.Places.{Attached}
 use Rattle.open_cursors.specs.Open.{Opened, Seated, is_full, opened_named, without_named, with_run}
 use Rattle.open_cursors.specs.Starting.{Starts, StartFails}
-use Rattle.open_cursors.specs.Fetching.{GivesRows, GivesNone, HasRisen, PullsFetched, cause_of}
+use Rattle.open_cursors.specs.Fetching.{GivesRows, GivesNone, HasRisen, PullsFetched, PullsEnded, cause_of}
 use Rattle.sql_meaning.specs.Requests.{AskedLine}
 use Rattle.sql_meaning.specs.Replies.{refused}
 use Rattle.med_world.specs.Seats.{seat_of}
@@ -73,8 +74,8 @@ pub record KeepsCursors (name : Name) (seat : Seated) (old : List (Option BoxSta
   pub seat_kept : after ≡ seat
   pub boxes_kept : new ≡ old
 
--- the cursor of this name was asked for a row, which was counted, failed, and is closed and gone
-pub record GivesUp (name : Name) (seat : Seated) (old : List (Option BoxState)) (c : Cause) (after : Seated)
+-- The cursor of this name was asked for rows, which was counted, failed, and is closed and gone. It was asked for no more than so many.
+pub record GivesUp (name : Name) (asked : CountTree) (seat : Seated) (old : List (Option BoxState)) (c : Cause) (after : Seated)
     (new : List (Option BoxState)) : Type 0 where
   pub at : Opened
   pub there : opened_named name seat.cursors ≡ Some at
@@ -82,23 +83,25 @@ pub record GivesUp (name : Name) (seat : Seated) (old : List (Option BoxState)) 
   pub risen : HasRisen seat.asked count
   pub gives : GivesNone c old new
   pub ends : Ends at.run old new
+  pub pulls : PullsEnded asked at.run old new
   pub is : after ≡ having (having_asked seat count) (without_named name seat.cursors)
 
 -- Why no rows were given. A fault that says that nothing was asked has kept all; a cursor is given up by what a run that was asked tells alone.
-abbrev pub NotFetched : Name → Seated → List (Option BoxState) → FetchFault → Seated → List (Option BoxState) → Type 0
-NotFetched name seat old (fault.Unasked c) after new = KeepsCursors name seat old c after new
-NotFetched name seat old (fault.Failed u) after new = GivesUp name seat old (cause_of u.fault) after new
+abbrev pub NotFetched : Name → CountTree → Seated → List (Option BoxState) → FetchFault → Seated → List (Option BoxState) → Type 0
+NotFetched name asked seat old (fault.Unasked c) after new = KeepsCursors name seat old c after new
+NotFetched name asked seat old (fault.Failed u) after new = GivesUp name asked seat old (cause_of u.fault) after new
 
 -- the cause that a fault of FETCH is told by
 abbrev pub cause_in : FetchFault → Cause
 cause_in (fault.Unasked c) = c
 cause_in (fault.Failed u) = cause_of u.fault
 
--- The cursor of this name was closed, and is gone.
+-- The cursor of this name was closed, and is gone. No row was given.
 pub record Ended (name : Name) (seat : Seated) (old : List (Option BoxState)) (after : Seated) (new : List (Option BoxState)) : Type 0 where
   pub at : Opened
   pub there : opened_named name seat.cursors ≡ Some at
   pub closes : ServesRun (held at.run) none_held old new
+  pub pulls : PullsNone old new
   pub is : after ≡ having seat (without_named name seat.cursors)
 
 -- there is none of this name
@@ -117,13 +120,14 @@ pub record HasCursor (e : Shown) (sid : ℕ) (name : Name) : Type 0 where
   pub is_open : seat_of e.seats sid ≡ Some seat
   pub there : is_some (opened_named name seat.cursors) ≡ true
 
--- the session's cursor of this name was closed, and is gone
+-- the session's cursor of this name was closed, and is gone, and no row was given
 pub record LosesCursor (old : Shown) (sid : ℕ) (name : Name) (new : Shown) : Type 0 where
   pub seat : Seated
   pub is_open : seat_of old.seats sid ≡ Some seat
   pub at : Opened
   pub there : opened_named name seat.cursors ≡ Some at
   pub closes : ServesRun (held at.run) none_held old.boxes new.boxes
+  pub pulls : PullsNone old.boxes new.boxes
   pub is : new ≡ with_cursors old sid seat (without_named name seat.cursors) new.boxes
 
 -- The rows of a FETCH need not be told: its cursor is there, and once that is closed too, the request is answered by want of memory.

@@ -122,8 +122,8 @@ pub(crate) fn fetch_rows<W: Wrapper2>(
     requires running { (c : Opened) → Contains (seated seat.old).cursors c → IsRunning c.run (states W.meaning slots.old.items) }
     ensures ok { IfOk result (λ set. Fetched name.now (count_tree asked) (seated seat.old) (states W.meaning slots.old.items)
         (map string_bytes set.names.items) (map tuple set.rows.items) (seated seat.new) (states W.meaning slots.new.items)) }
-    ensures err { IfErr result (λ f. NotFetched name.now (seated seat.old) (states W.meaning slots.old.items) f (seated seat.new)
-        (states W.meaning slots.new.items)) }
+    ensures err { IfErr result (λ f. NotFetched name.now (count_tree asked) (seated seat.old) (states W.meaning slots.old.items) f
+        (seated seat.new) (states W.meaning slots.new.items)) }
 {
     running_is_held();
     services_join();

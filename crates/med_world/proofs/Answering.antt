@@ -26,7 +26,7 @@ use Rattle.open_cursors.specs.Starting.{RunFails, no_memory, box_fails, numbers_
 use Rattle.med_world.specs.Seats.{user_of}
 use Rattle.med_world.specs.Laws.{IsRead, with_boxes}
 use Rattle.med_world.proofs.Faring.{none_rises}
-use Rattle.med_world.proofs.Asks.{asks_refused}
+use Rattle.med_world.proofs.Asks.{asks_refused, asks_read}
 use Rattle.med_world.proofs.Told.{AreLater, told_tree, before_tree, told_syntax, told_closed}
 use Rattle.med_world.proofs.Objecting.{AreObjects, object_phase}
 use Rattle.med_world.proofs.Leading.{session_in, known, leads_refused, leads_memory}
@@ -46,7 +46,7 @@ tree_later objects queries writes w s p (on_cursors t) c h = cursor_phase querie
 tree_later objects queries writes w s p (on_objects d) c h = object_phase objects w s.user p d c h
 
 lacks : (e : Shown) (sid : ℕ) (text : List ℕ) (c : Cause) → c ≡ OutOfMemory → Leads e sid (sql text) (refused c) e
-lacks e sid text c is = subst (λ (d : Cause). Leads e sid (sql text) (refused d) e) (sym is) (leads_memory e e sid (sql text) tt (none_rises e.boxes) (λ w a. a))
+lacks e sid text c is = subst (λ (d : Cause). Leads e sid (sql text) (refused d) e) (sym is) (leads_memory e e sid (sql text) (asks_refused e sid (sql text) OutOfMemory e refl) tt (none_rises e.boxes) (λ w a. a))
 
 -- ---- a query
 
@@ -61,7 +61,7 @@ back_to e new sid text r same h = subst (λ (x : List (Option BoxState)). Leads 
 -- one with too many entries
 many_leads : ArePhased → (e : Shown) (sid : ℕ) (text : List ℕ) (user : Name) (q : SelectTree) → IsRead e sid text user (on_data (select q)) → IsBindable e.catalog user q → 8 < length (meant_by e.catalog q).entries
     → Leads e sid (sql text) (refused LimitExceeded) e
-many_leads law e sid text user q read b many = leads_refused e e sid (sql text) LimitExceeded (none_rises e.boxes) (λ w a. a) (λ w a. (
+many_leads law e sid text user q read b many = leads_refused e e sid (sql text) LimitExceeded (asks_refused e sid (sql text) LimitExceeded e refl) (none_rises e.boxes) (λ w a. a) (λ w a. (
   no_pick,
   picks_none e w sid text user q a read,
   told_tree w sid no_pick text (session_in w sid user) (on_data (select q)) LimitExceeded (known e w sid text user (on_data (select q)) a read)
@@ -80,7 +80,7 @@ ends_leads e new sid text user q read b served h kept = record {
   };
   asked = λ x. absurd (false≢true x);
   rises = serving_rises e.boxes new.boxes served;
-  asks = asks_refused e sid (sql text) LimitExceeded new;
+  asks = asks_read e sid text user (on_data (select q)) (refused LimitExceeded) new read tt;
   step = λ w a. (
     w,
     numbers_end refl (session_in w sid user) (on_data (select q)) (known e w sid text user (on_data (select q)) a read).is
@@ -93,7 +93,7 @@ run_leads : ArePhased → (e : Shown) (new : List (Option BoxState)) (sid : ℕ)
     → length (meant_by e.catalog q).entries ≤ 8 → AllServed e.boxes new → ArePlaces e.bound (meant_by e.catalog q).entries places → RunFails (query_of (meant_by e.catalog q)) places c e.boxes new
     → Leads e sid (sql text) (refused c) (with_boxes e new)
 run_leads law e new sid text user q places c read b few served are (no_memory is) =
-    subst (λ (d : Cause). Leads e sid (sql text) (refused d) (with_boxes e new)) (sym is) (leads_memory e (with_boxes e new) sid (sql text) tt (serving_rises e.boxes new served) (serving_agrees e new served))
+    subst (λ (d : Cause). Leads e sid (sql text) (refused d) (with_boxes e new)) (sym is) (leads_memory e (with_boxes e new) sid (sql text) (asks_read e sid text user (on_data (select q)) (refused OutOfMemory) (with_boxes e new) read tt) tt (serving_rises e.boxes new served) (serving_agrees e new served))
 run_leads law e new sid text user q places c read b few served are (box_fails is h) =
     subst (λ (d : Cause). Leads e sid (sql text) (refused d) (with_boxes e new)) (sym is) (fails_leads e (with_boxes e new) sid text user q read b h (serving_rises e.boxes new served) (serving_agrees e new served))
 run_leads law e new sid text user q places c read b few served are (numbers_out is h) =
@@ -121,14 +121,14 @@ fails_sound e new user q c sound (run_fails b few served places are h) = serving
 
 pub not_read : AreLater → (e : Shown) (sid : ℕ) (text : List ℕ) (c : Cause) → IsSid sid → is_some (user_of e.seats sid) ≡ true → (c ≡ OutOfMemory) ⊎ SyntaxCauses text c → Leads e sid (sql text) (refused c) e
 not_read law e sid text c is_sid is_open (inl is) = lacks e sid text c is
-not_read law e sid text c is_sid is_open (inr h) = leads_refused e e sid (sql text) c (none_rises e.boxes) (λ w a. a) (λ w a. (
+not_read law e sid text c is_sid is_open (inr h) = leads_refused e e sid (sql text) c (asks_refused e sid (sql text) c e refl) (none_rises e.boxes) (λ w a. a) (λ w a. (
   no_pick,
   (λ s t x formed. absurd (formed c h)),
   told_syntax law w sid no_pick text c (is_open_by e w sid a is_sid is_open) h,
 ))
 
 pub not_open : AreLater → (e : Shown) (sid : ℕ) (text : List ℕ) → IsSid sid → is_some (user_of e.seats sid) ≡ false → Leads e sid (sql text) (refused NoConnection) e
-not_open law e sid text is_sid shut = leads_refused e e sid (sql text) NoConnection (none_rises e.boxes) (λ w a. a) (λ w a. (
+not_open law e sid text is_sid shut = leads_refused e e sid (sql text) NoConnection (asks_refused e sid (sql text) NoConnection e refl) (none_rises e.boxes) (λ w a. a) (λ w a. (
   no_pick,
   (λ s t x formed. absurd (is_closed_by e w sid a is_sid shut (ap is_some x.0))),
   told_closed law w sid no_pick text (is_closed_by e w sid a is_sid shut),

@@ -1,27 +1,38 @@
 -- What a request asked the boxes for: most ask them for nothing that is told.
-use Rattle.std.proofs.Common.{◌≡◌, ℕ, List, sym, subst}
+use Rattle.std.proofs.Common.{◌≡◌, ◌+◌, ◌<◌, ◌≤◌, ℕ, List, Option, ap, sym, subst, arith}
 use Rattle.med_value.specs.declared.cause.Cause.{Cause}
 use Rattle.med_syntax.specs.Tree.{Name}
 use Rattle.med_syntax.specs.QueryTree.{SelectTree, select}
-use Rattle.cursor_syntax.specs.CursorTree.{declare, fetch, close}
+use Rattle.fdw_api.specs.State.{BoxState}
+use Rattle.med_exec.specs.Pulling.{pulled_at, PullsNone, many_in}
+use Rattle.cursor_syntax.specs.CursorTree.{CountTree, some_rows, all_rows, declare, fetch, close}
 use Rattle.med_parser.specs.CommandTree.{CommandTree, on_data, on_rows, on_cursors, on_objects}
 use Rattle.med_parser.specs.CommandGrammar.{HasCommand}
 use Rattle.sql_meaning.specs.Requests.{AskedLine, sql}
 use Rattle.sql_meaning.specs.Replies.{Reply, refused}
-use Rattle.med_world.specs.Engine.{Shown, TreeAsks, AsksBoxes}
+use Rattle.med_world.specs.Engine.{Shown, GivesWithin, TreeAsks, AsksBoxes}
 use Rattle.med_world.specs.Laws.{IsRead}
 
--- one that is refused
-asks_none : (old : Shown) (sid : ℕ) (tree : CommandTree) (c : Cause) (new : Shown) → TreeAsks old sid tree (refused c) new
-asks_none old sid (on_data (select s)) c new = tt
-asks_none old sid (on_rows t) c new = tt
-asks_none old sid (on_cursors (declare name (select s))) c new = tt
-asks_none old sid (on_cursors (fetch asked name)) c new = tt
-asks_none old sid (on_cursors (close name)) c new = tt
-asks_none old sid (on_objects d) c new = tt
+-- where no box gave a row, few were given
+gave_none : (old : Shown) (sid : ℕ) (name : Name) (asked : CountTree) (new : List (Option BoxState)) → PullsNone old.boxes new → GivesWithin old sid name asked new
+gave_none old sid name (some_rows n) new none = record {
+  slot = 0;
+  few = λ slot. let same : pulled_at new slot ≡ pulled_at old.boxes slot = ap (λ (f : ℕ → ℕ). f slot) none in omega (arith, same);
+  own = λ more. absurd (let same : pulled_at new 0 ≡ pulled_at old.boxes 0 = ap (λ (f : ℕ → ℕ). f 0) none in omega (arith, same, more));
+}
+gave_none old sid name all_rows new none = tt
 
-pub asks_refused : (old : Shown) (sid : ℕ) (request : AskedLine) (c : Cause) (new : Shown) → AsksBoxes old sid request (refused c) new
-asks_refused old sid request c new text tree is has = asks_none old sid tree c new
+-- a statement that is refused, and for which no box gave a row
+asks_none : (old : Shown) (sid : ℕ) (tree : CommandTree) (c : Cause) (new : Shown) → PullsNone old.boxes new.boxes → TreeAsks old sid tree (refused c) new
+asks_none old sid (on_data (select s)) c new none = tt
+asks_none old sid (on_rows t) c new none = tt
+asks_none old sid (on_cursors (declare name (select s))) c new none = tt
+asks_none old sid (on_cursors (fetch asked name)) c new none = λ bare. gave_none old sid name asked new.boxes none
+asks_none old sid (on_cursors (close name)) c new none = tt
+asks_none old sid (on_objects d) c new none = tt
+
+pub asks_refused : (old : Shown) (sid : ℕ) (request : AskedLine) (c : Cause) (new : Shown) → PullsNone old.boxes new.boxes → AsksBoxes old sid request (refused c) new
+asks_refused old sid request c new none text tree is has = asks_none old sid tree c new none
 
 -- one that is no statement
 pub asks_unread : (old : Shown) (sid : ℕ) (request : AskedLine) (reply : Reply) (new : Shown) → ((text : List ℕ) → request ≡ sql text → ⊥) → AsksBoxes old sid request reply new

@@ -11,7 +11,7 @@ use Rattle.open_cursors.specs.Open.{Opened, AreNamedApart, has_name, opened_name
 use Rattle.sql_meaning.specs.World.{World, Cursor, reads_table}
 use Rattle.sql_meaning.specs.Cursors.{is_cursor, hand_out}
 use Rattle.med_world.specs.Seats.{CursorAgrees, CursorsAgree}
-use Rattle.med_world.proofs.Lists.{some_same, bytes_same, other_bytes, bytes_other, each_at}
+use Rattle.med_world.proofs.Lists.{some_same, same_bytes, bytes_same, other_bytes, bytes_other, each_at}
 use Rattle.med_world.proofs.Named.{place_of, at_place, map_place, none_later, distinct_push}
 use Rattle.med_world.proofs.Seats.{StandsOn, RestsStay, here_first, here_later, cursor_stays, or_true}
 
@@ -85,6 +85,13 @@ one_more boxes w [] [] o c h last = (last, tt)
 one_more boxes w [] (y ∷ ys) o c h last = absurd h
 one_more boxes w (x ∷ xs) [] o c h last = absurd h
 one_more boxes w (x ∷ xs) (y ∷ ys) o c h last = (h.0, one_more boxes w xs ys o c h.1 last)
+
+-- it is the one of its name
+pub named_last : (name : Name) (os : List Opened) (o : Opened) → o.name ≡ name → opened_named name os ≡ None → opened_named name (os ++ o ∷ []) ≡ Some o
+named_last name [] o is none = ap (λ b. cond b (Some o) None) (same_bytes o.name name is)
+named_last name (x ∷ os) o is none =
+    let n = none_later (has_name name) x os none in
+    ap (λ b. cond b (Some x) (find (has_name name) (os ++ o ∷ []))) n.0 ∙ named_last name os o is n.1
 
 nowhere : (name : Name) (os : List Opened) → find (has_name name) os ≡ None → (k : ℕ) → slice_get (map (λ (o : Opened). o.name) os) k ≡ Some name → ⊥
 nowhere name [] none k at = cc

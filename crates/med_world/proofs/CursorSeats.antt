@@ -33,7 +33,7 @@ use Rattle.med_world.specs.Turning.{new_opened, with_cursors, having_asked, Ends
 use Rattle.med_world.specs.Laws.{IsRead, with_boxes}
 use Rattle.med_world.proofs.Lists.{some_same, none_some, same_bytes, bytes_same, bytes_other}
 use Rattle.med_world.proofs.Named.{place_of, at_place, map_place, found_place, found_passes}
-use Rattle.med_world.proofs.Faring.{same_box}
+use Rattle.med_world.proofs.Faring.{same_box, set_same}
 use Rattle.med_world.proofs.Seats.{RestsStay, IsIn, place_there, here_first, here_later}
 use Rattle.med_world.proofs.Scans.{apart_none, IsSpared, TurnsOn, Turned}
 use Rattle.med_world.proofs.CursorRows.{place_leased}
@@ -94,6 +94,10 @@ full_there e w sid seat is at a full =
 pub here_of : (e : Shown) (sid : ℕ) (seat : Seated) → seat_of e.seats sid ≡ Some seat → slice_get e.seats (sid - 1) ≡ Some (Some seat)
 here_of e sid seat at = place_there (slice_get e.seats (sid - 1)) seat at
 
+-- the session whose seat was put in has it
+pub seat_put : (seats : List (Option Seated)) (sid : ℕ) (seat after : Seated) → seat_of seats sid ≡ Some seat → seat_of (slice_set seats (sid - 1) (Some after)) sid ≡ Some after
+seat_put seats sid seat after at = ap seat_in (set_same seats (sid - 1) (Some seat) (Some after) (place_there (slice_get seats (sid - 1)) seat at))
+
 pub old_seat : (e : Shown) (sid : ℕ) (seat : Seated) → IsSound e → seat_of e.seats sid ≡ Some seat → IsSoundSeat seat
 old_seat e sid seat sound at = sound.seated (sid - 1) seat (here_of e sid seat at)
 
@@ -104,10 +108,10 @@ same_cursors : (a b : Seated) (c : Opened) → a ≡ b → Contains a.cursors c 
 same_cursors a b c e h = subst (λ (s : Seated). Contains s.cursors c) e h
 
 module _ (e : Shown) (sid : ℕ) (seat : Seated) (sound : IsSound e) (at : seat_of e.seats sid ≡ Some seat) where
-  open_here : (c : Opened) → Contains seat.cursors c → IsOpenAt e.seats (sid - 1) c
+  pub open_here : (c : Opened) → Contains seat.cursors c → IsOpenAt e.seats (sid - 1) c
   open_here c has = record { seat = seat; there = here_of e sid seat at; has = has }
 
-  is_here : (c : Opened) → IsOpenAt e.seats (sid - 1) c → Contains seat.cursors c
+  pub is_here : (c : Opened) → IsOpenAt e.seats (sid - 1) c → Contains seat.cursors c
   is_here c h = same_cursors h.seat seat c (some_seat h.seat seat (sym h.there ∙ here_of e sid seat at)) h.has
 
   -- the scans of a cursor that is here are no other's
@@ -120,10 +124,10 @@ module _ (e : Shown) (sid : ℕ) (seat : Seated) (sound : IsSound e) (at : seat_
 
 -- ---- one goes
 
-name_of : (name : Name) (cursors : List Opened) (o : Opened) → opened_named name cursors ≡ Some o → o.name ≡ name
+pub name_of : (name : Name) (cursors : List Opened) (o : Opened) → opened_named name cursors ≡ Some o → o.name ≡ name
 name_of name cursors o here = bytes_same o.name name (found_passes (has_name name) cursors o here)
 
-has_of : (name : Name) (cursors : List Opened) (o : Opened) → opened_named name cursors ≡ Some o → Contains cursors o
+pub has_of : (name : Name) (cursors : List Opened) (o : Opened) → opened_named name cursors ≡ Some o → Contains cursors o
 has_of name cursors o here = let p = found_place (has_name name) cursors o here in at_place cursors p.0 o p.1
 
 other_name : (name : Name) (cursors : List Opened) (o c : Opened) → opened_named name cursors ≡ Some o → has_name name c ≡ false → c.name ≡ o.name → ⊥

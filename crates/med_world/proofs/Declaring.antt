@@ -2,7 +2,7 @@
 use Rattle.std.proofs.Common.{◌≡◌, ℕ, ◌<◌, ◌≤◌, true, false, List, [], ◌∷◌, ◌++◌, Option, Some, None, is_some, length, codes, refl, ap, sym, ◌∙◌, subst, arith, inl, inr, lit≤}
 use Rattle.std.proofs.lemmas.Bool.{false≢true}
 use Rattle.med_value.specs.declared.cause.Cause.{Cause}
-use Rattle.med_value.specs.declared.cause.Cause.TheVariants.{LimitExceeded, FeatureNotSupported, DuplicateCursor, SourceFault}
+use Rattle.med_value.specs.declared.cause.Cause.TheVariants.{LimitExceeded, FeatureNotSupported, DuplicateCursor, SourceFault, OutOfMemory}
 use Rattle.med_syntax.specs.Tree.{Name}
 use Rattle.med_syntax.specs.QueryTree.{SelectTree, select}
 use Rattle.med_query.specs.Query.{Tables, IsAnswer}
@@ -27,7 +27,7 @@ use Rattle.sql_meaning.specs.Cursors.{with_cursor}
 use Rattle.sql_meaning.specs.Causes.{query_of, entry_tables, meant_over, QueryRun, DeclareCauses, exists, of_query, is_risky as may_fault, too_many as is_full_already, phase, NoneBeforeState}
 use Rattle.sql_meaning.specs.Replies.{Reply, done, refused}
 use Rattle.sql_meaning.specs.Steps.{new_cursor, is_done, source_fails, numbers_end}
-use Rattle.med_world.specs.Seats.{seat_of, CursorAgrees, CursorsAgree}
+use Rattle.med_world.specs.Seats.{seat_of, opened_in, CursorAgrees, CursorsAgree}
 use Rattle.med_world.specs.Engine.{Shown, IsSound, Agrees, Leads}
 use Rattle.med_world.specs.Turning.{new_opened, with_cursors}
 use Rattle.med_world.specs.Laws.{IsRead, with_boxes}
@@ -43,8 +43,8 @@ use Rattle.med_world.proofs.Serving.{run_rises, serving_rises, serving_agrees}
 use Rattle.med_world.proofs.Sessions.{turned_agrees}
 use Rattle.med_world.proofs.CursorCausing.{cursor_phase, least_declare, none_declare}
 use Rattle.med_world.proofs.CursorRows.{rows_kept, tables_kept, tables_stand}
-use Rattle.med_world.proofs.CursorLists.{one_more}
-use Rattle.med_world.proofs.CursorSeats.{cursors_at, picks_none, not_named, is_named, not_full, full_there, declared_turn, declared_left, here_stays}
+use Rattle.med_world.proofs.CursorLists.{one_more, named_last}
+use Rattle.med_world.proofs.CursorSeats.{seat_put, cursors_at, picks_none, not_named, is_named, not_full, full_there, declared_turn, declared_left, here_stays}
 
 -- the statement, and the session that it is of
 abbrev Tree : Name → SelectTree → CommandTree
@@ -68,7 +68,14 @@ declared e new sid text seat name q names run read at sound free h = record {
   asked = λ x. absurd (calm_unasked x);
   rises = run_rises none_held (held run) e.boxes new h.served;
   asks = asks_read e sid text seat.user (Tree name q) (done (codes "DECLARE CURSOR")) (with_cursors e sid seat (seat.cursors ++ new_opened name names q run ∷ []) new) read
-      (record { once = record { places = h.places; are = h.are; reads = h.reads }; plain = h.plain });
+      (record {
+        once = record { places = h.places; are = h.are; reads = h.reads };
+        plain = h.plain;
+        at = new_opened name names q run;
+        there = ap (opened_in name) (seat_put e.seats sid seat (record seat { cursors = seat.cursors ++ new_opened name names q run ∷ [] }) at)
+            ∙ named_last name seat.cursors (new_opened name names q run) refl free;
+        opens = h.opens;
+      });
   step = λ w a. (
     after w,
     is_done no_pick (picks_none e w sid text seat (declare name (select q)) a read)
@@ -115,7 +122,7 @@ declared e new sid text seat name q names run read at sound free h = record {
 -- by a cause that stands in each world, and is of the least phase there
 told_leads : (e new : Shown) (sid : ℕ) (text : List ℕ) (seat : Seated) (name : Name) (q : SelectTree) (c : Cause) → IsRead e sid text seat.user (on_cursors (declare name (select q))) → AllServed e.boxes new.boxes → ((w : World) → Agrees e w → Agrees new w)
     → ((w : World) → Agrees e w → DeclareCauses w (session_in w sid seat.user) name q c) → ((w : World) → Agrees e w → (d : Cause) → DeclareCauses w (session_in w sid seat.user) name q d → phase c ≤ phase d) → Leads e sid (sql text) (refused c) new
-told_leads e new sid text seat name q c read served kept stands least = leads_refused e new sid (sql text) c (serving_rises e.boxes new.boxes served) kept (λ w a. (
+told_leads e new sid text seat name q c read served kept stands least = leads_refused e new sid (sql text) c (asks_read e sid text seat.user (Tree name q) (refused c) new read tt) (serving_rises e.boxes new.boxes served) kept (λ w a. (
   no_pick,
   picks_none e w sid text seat (declare name (select q)) a read,
   told_tree w sid no_pick text (session_in w sid seat.user) (Tree name q) c (known_declare e w sid text seat name q a read) (stands w a) (least w a),
@@ -124,7 +131,7 @@ told_leads e new sid text seat name q c read served kept stands least = leads_re
 -- where nothing was asked of a box
 quiet_leads : (e : Shown) (sid : ℕ) (text : List ℕ) (seat : Seated) (name : Name) (q : SelectTree) (c : Cause) → IsRead e sid text seat.user (on_cursors (declare name (select q)))
     → ((w : World) → Agrees e w → DeclareCauses w (session_in w sid seat.user) name q c) → ((w : World) → Agrees e w → (d : Cause) → DeclareCauses w (session_in w sid seat.user) name q d → phase c ≤ phase d) → Leads e sid (sql text) (refused c) e
-quiet_leads e sid text seat name q c read stands least = leads_refused e e sid (sql text) c (none_rises e.boxes) (λ w a. a) (λ w a. (
+quiet_leads e sid text seat name q c read stands least = leads_refused e e sid (sql text) c (asks_refused e sid (sql text) c e refl) (none_rises e.boxes) (λ w a. a) (λ w a. (
   no_pick,
   picks_none e w sid text seat (declare name (select q)) a read,
   told_tree w sid no_pick text (session_in w sid seat.user) (Tree name q) c (known_declare e w sid text seat name q a read) (stands w a) (least w a),
@@ -152,7 +159,7 @@ run_leads : (e : Shown) (new : List (Option BoxState)) (sid : ℕ) (text : List 
     → seat_of e.seats sid ≡ Some seat → opened_named name seat.cursors ≡ None → IsBindable e.catalog seat.user q → is_risky_form (meant_by e.catalog q).form ≡ false → is_full seat.cursors ≡ false → length (meant_by e.catalog q).entries ≤ 8
     → AllServed e.boxes new → ArePlaces e.bound (meant_by e.catalog q).entries places → RunFails (query_of (meant_by e.catalog q)) places c e.boxes new → Leads e sid (sql text) (refused c) (with_boxes e new)
 run_leads e new sid text seat name q c places read at free b safe room few served are (no_memory is) =
-    subst (λ (d : Cause). Leads e sid (sql text) (refused d) (with_boxes e new)) (sym is) (leads_memory e (with_boxes e new) sid (sql text) tt (serving_rises e.boxes new served) (serving_agrees e new served))
+    subst (λ (d : Cause). Leads e sid (sql text) (refused d) (with_boxes e new)) (sym is) (leads_memory e (with_boxes e new) sid (sql text) (asks_read e sid text seat.user (Tree name q) (refused OutOfMemory) (with_boxes e new) read tt) tt (serving_rises e.boxes new served) (serving_agrees e new served))
 run_leads e new sid text seat name q c places read at free b safe room few served are (box_fails is h) =
     subst (λ (d : Cause). Leads e sid (sql text) (refused d) (with_boxes e new)) (sym is) (record {
       trouble = record { memory = false; asked = false; source = true; numbers = false };
@@ -162,7 +169,7 @@ run_leads e new sid text seat name q c places read at free b safe room few serve
       };
       asked = λ x. absurd (false≢true x);
       rises = serving_rises e.boxes new served;
-      asks = asks_refused e sid (sql text) SourceFault (with_boxes e new);
+      asks = asks_read e sid text seat.user (Tree name q) (refused SourceFault) (with_boxes e new) read tt;
       step = λ w a. (
         w,
         source_fails refl (session_in w sid seat.user) (Tree name q) (known_declare e w sid text seat name q a read).is (late e w sid text seat name q read at free b safe a) refl refl,
@@ -178,7 +185,7 @@ run_leads e new sid text seat name q c places read at free b safe room few serve
       };
       asked = λ x. absurd (false≢true x);
       rises = serving_rises e.boxes new served;
-      asks = asks_refused e sid (sql text) LimitExceeded (with_boxes e new);
+      asks = asks_read e sid text seat.user (Tree name q) (refused LimitExceeded) (with_boxes e new) read tt;
       step = λ w a. (
         w,
         numbers_end refl (session_in w sid seat.user) (Tree name q) (known_declare e w sid text seat name q a read).is (late e w sid text seat name q read at free b safe a) tt refl refl,
@@ -206,7 +213,7 @@ back_to e new sid text r same h = subst (λ (x : List (Option BoxState)). Leads 
 unbound_leads : ArePhased → (e : Shown) (sid : ℕ) (text : List ℕ) (seat : Seated) (name : Name) (q : SelectTree) (c : Cause) → IsRead e sid text seat.user (on_cursors (declare name (select q))) → seat_of e.seats sid ≡ Some seat
     → opened_named name seat.cursors ≡ None → NotBound e.catalog seat.user q c → Leads e sid (sql text) (refused c) e
 unbound_leads law e sid text seat name q c read at free (inl is) =
-    subst (λ (d : Cause). Leads e sid (sql text) (refused d) e) (sym is) (leads_memory e e sid (sql text) tt (none_rises e.boxes) (λ w a. a))
+    subst (λ (d : Cause). Leads e sid (sql text) (refused d) e) (sym is) (leads_memory e e sid (sql text) (asks_refused e sid (sql text) OutOfMemory e refl) tt (none_rises e.boxes) (λ w a. a))
 unbound_leads law e sid text seat name q c read at free (inr (inl h)) = quiet_leads e sid text seat name q c read
     (λ w a. of_query (inl (subst (λ (o : Objects). QueryNames o seat.user q c) (sym a.catalog) h)))
     (λ w a d x. let p : phase c ≡ 3 = law.names e.catalog seat.user q c h in let r : 3 ≤ phase d = cursor_phase law w (session_in w sid seat.user) (declare name (select q)) d x in omega arith)

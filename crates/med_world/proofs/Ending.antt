@@ -5,6 +5,7 @@ use Rattle.med_syntax.specs.Tree.{Name}
 use Rattle.fdw_api.specs.State.{BoxState}
 use Rattle.fdw_api.specs.Calls.{Refuses, RefusesBind}
 use Rattle.fdw_api.specs.declared.interface.Fault.{Fault}
+use Rattle.med_value.specs.declared.cause.Cause.TheVariants.{OutOfMemory}
 use Rattle.fdw_api.specs.declared.interface.Fault.TheVariants.{NoMemory, Source as SourceFailed, Refused}
 use Rattle.med_exec.specs.Slots.{ChangesAt}
 use Rattle.ddl_syntax.specs.DdlTree.{DdlTree}
@@ -24,6 +25,7 @@ use Rattle.med_world.proofs.Altered.{refused_agrees, vain_agrees}
 use Rattle.med_world.proofs.Told.{pick_tree}
 use Rattle.med_world.proofs.Objecting.{AreObjects}
 use Rattle.med_world.proofs.Picking.{some_pick, free_back}
+use Rattle.med_world.proofs.Asks.{asks_refused, asks_read}
 use Rattle.med_world.proofs.Leading.{session_in, known, leads_memory, shows_leads, taken_leads, refused_leads, failed_leads}
 
 changed_rise : (P : BoxState → BoxState → Type 0) (old new : List (Option BoxState)) (slot : ℕ) → ((b c : BoxState) → P b c → Rises b c) → ChangesAt old slot P new → EachRises old new
@@ -39,7 +41,7 @@ changed_rise P old new slot rises h = changes_rise Or old new slot (λ b. inl re
 -- why a bind fails
 by_fault : AreObjects → (e n : Shown) (sid : ℕ) (text : List ℕ) (user : Name) (d : DdlTree) (t : TableObject) (place : ℕ) (fault : Fault) → IsRead e sid text user (on_objects d) → IsSound e → IsAllowed e user d (new_table t) → IsServerAt e t.server place
     → ChangesAt e.boxes place (λ a b. RefusesBind a t.remote t.columns t.settings fault b) n.boxes → EachRises e.boxes n.boxes → ((w : World) → Agrees e w → Agrees n w) → Leads e sid (sql text) (refused (cause_of fault)) n
-by_fault law e n sid text user d t place NoMemory read sound allowed server h rises kept = leads_memory e n sid (sql text) tt rises kept
+by_fault law e n sid text user d t place NoMemory read sound allowed server h rises kept = leads_memory e n sid (sql text) (asks_read e sid text user (on_objects d) (refused OutOfMemory) n read tt) tt rises kept
 by_fault law e n sid text user d t place SourceFailed read sound allowed server h rises kept =
     failed_leads law e n sid text user d t place read sound allowed
     (changes_by (λ a b. RefusesBind a t.remote t.columns t.settings SourceFailed b) (Refuses SourceFailed) e.boxes n.boxes place (λ a b k. k.refuses) h) rises kept
@@ -56,7 +58,7 @@ not_altered_leads law e n sid text user d c read sound (not_free s allowed none 
     (taken_leads law e sid text user d s read sound allowed (λ w a. free_back e w s a none)))
 not_altered_leads law e n sid text user d c read sound (no_memory told is) =
     subst (λ (x : Shown). Leads e sid (sql text) (refused c) x) (sym is) (subst (λ (k : Cause). Leads e sid (sql text) (refused k) e) (sym told)
-    (leads_memory e e sid (sql text) tt (none_rises e.boxes) (λ w a. a)))
+    (leads_memory e e sid (sql text) (asks_refused e sid (sql text) OutOfMemory e refl) tt (none_rises e.boxes) (λ w a. a)))
 not_altered_leads law e n sid text user d c read sound (bind_fails t allowed place server fault told h is) =
     subst (λ (k : Cause). Leads e sid (sql text) (refused k) n) (sym told) (by_fault law e n sid text user d t place fault read sound allowed server h rises kept)
   where
@@ -69,7 +71,7 @@ not_altered_leads law e n sid text user d c read sound (bind_fails t allowed pla
     kept : (w : World) → Agrees e w → Agrees n w
     kept w a = subst (λ (x : Shown). Agrees x w) (sym is) (refused_agrees e n.boxes place fault refuses w a)
 not_altered_leads law e n sid text user d c read sound (bind_undone t place told h is) =
-    subst (λ (k : Cause). Leads e sid (sql text) (refused k) n) (sym told) (leads_memory e n sid (sql text) tt rises kept)
+    subst (λ (k : Cause). Leads e sid (sql text) (refused k) n) (sym told) (leads_memory e n sid (sql text) (asks_read e sid text user (on_objects d) (refused OutOfMemory) n read tt) tt rises kept)
   where
     rises : EachRises e.boxes n.boxes
     rises = changed_rise (BindsInVain t) e.boxes n.boxes place (λ a b k. vain_rises t a b k) h

@@ -23,7 +23,7 @@ use Rattle.med_world.specs.Seats.{seat_of, SeatAgrees}
 use Rattle.sql_meaning.specs.World.{World, Cursor, Session, source_named, is_taken, IsFree, Serves}
 use Rattle.sql_meaning.specs.Causes.{Reads, SourceCauses, ObjectCauses, PicksEntry, IsPickOf, IsTold, NoneStands, NoneBeforeState, phase}
 use Rattle.sql_meaning.specs.Replies.{done, refused}
-use Rattle.med_world.specs.Engine.{Rises, Shown, leased, IsSound, IsNamedAt, IsServerAt, Agrees, Befell, EachRises, Leads, with_change, Alters}
+use Rattle.med_world.specs.Engine.{Rises, Shown, leased, IsSound, IsNamedAt, IsServerAt, Agrees, Befell, EachRises, AsksBoxes, Leads, with_change, Alters}
 use Rattle.med_world.specs.Laws.{IsRead}
 use Rattle.med_world.specs.Altering.{IsFreeAt, IsAllowed, SourcesAllow, IsAltered}
 use Rattle.med_world.proofs.Faring.{changes_by, changes_rise, rises_itself, none_rises, drop_rises, binds_rises, unbinds_rises}
@@ -59,26 +59,26 @@ unfolding refused_memory
 memory_befell old new = record { source = λ e. absurd (false≢true e); numbers = λ e. absurd (false≢true e) }
 
 -- a request that is refused by a cause, with the worlds as they were
-pub leads_refused : (e new : Shown) (sid : ℕ) (request : AskedLine) (c : Cause) → EachRises e.boxes new.boxes → ((w : World) → Agrees e w → Agrees new w)
+pub leads_refused : (e new : Shown) (sid : ℕ) (request : AskedLine) (c : Cause) → AsksBoxes e sid request (refused c) new → EachRises e.boxes new.boxes → ((w : World) → Agrees e w → Agrees new w)
     → ((w : World) → Agrees e w → (p : Pick) × IsPickOf w sid request p × IsTold w sid p request c) → Leads e sid request (refused c) new
-leads_refused e new sid request c rises kept told = record {
+leads_refused e new sid request c asks rises kept told = record {
   trouble = calm;
   befell = calm_befell e.boxes new.boxes;
   asked = λ x. absurd (calm_unasked x);
   rises = rises;
-  asks = asks_refused e sid request c new;
+  asks = asks;
   step = λ w a. let t = told w a in (w, is_refused t.0 c t.1 t.2 refl refl, kept w a);
 }
 
 -- one for which memory was refused
-pub leads_memory : (e new : Shown) (sid : ℕ) (request : AskedLine) → TakesMemory request → EachRises e.boxes new.boxes → ((w : World) → Agrees e w → Agrees new w) → Leads e sid request (refused OutOfMemory) new
+pub leads_memory : (e new : Shown) (sid : ℕ) (request : AskedLine) → AsksBoxes e sid request (refused OutOfMemory) new → TakesMemory request → EachRises e.boxes new.boxes → ((w : World) → Agrees e w → Agrees new w) → Leads e sid request (refused OutOfMemory) new
 unfolding refused_memory
-leads_memory e new sid request takes rises kept = record {
+leads_memory e new sid request asks takes rises kept = record {
   trouble = refused_memory;
   befell = memory_befell e.boxes new.boxes;
   asked = λ q. absurd (false≢true q);
   rises = rises;
-  asks = asks_refused e sid request OutOfMemory new;
+  asks = asks;
   step = λ w a. (w, lacks_memory refl refl takes refl refl, kept w a);
 }
 
@@ -257,7 +257,7 @@ picks_table w t change p h is u other = (let same : new_table t ≡ new_table u 
 -- the catalogue shows a cause
 pub shows_leads : AreObjects → (e : Shown) (sid : ℕ) (text : List ℕ) (user : Name) (d : DdlTree) (c : Cause) → IsRead e sid text user (on_objects d) → IsSound e → DdlCauses e.catalog (leased e) user d c
     → ((x : Cause) → DdlCauses e.catalog (leased e) user d x → phase c ≤ phase x) → ((w : World) → Agrees e w → (p : Pick) × IsPickOf w sid (sql text) p) → Leads e sid (sql text) (refused c) e
-shows_leads law e sid text user d c read sound stands least pick = leads_refused e e sid (sql text) c (none_rises e.boxes) (λ w a. a) told
+shows_leads law e sid text user d c read sound stands least pick = leads_refused e e sid (sql text) c (asks_refused e sid (sql text) c e refl) (none_rises e.boxes) (λ w a. a) told
   where
     told : (w : World) → Agrees e w → (p : Pick) × IsPickOf w sid (sql text) p × IsTold w sid p (sql text) c
     told w a =
@@ -268,7 +268,7 @@ shows_leads law e sid text user d c read sound stands least pick = leads_refused
 -- the source of a new server is not free
 pub taken_leads : AreObjects → (e : Shown) (sid : ℕ) (text : List ℕ) (user : Name) (d : DdlTree) (s : ServerObject) → IsRead e sid text user (on_objects d) → IsSound e → IsAllowed e user d (new_server s)
     → ((w : World) → Agrees e w → IsFree w s.source s.kind → ⊥) → Leads e sid (sql text) (refused UnableToConnect) e
-taken_leads law e sid text user d s read sound allowed taken = leads_refused e e sid (sql text) UnableToConnect (none_rises e.boxes) (λ w a. a) told
+taken_leads law e sid text user d s read sound allowed taken = leads_refused e e sid (sql text) UnableToConnect (asks_refused e sid (sql text) UnableToConnect e refl) (none_rises e.boxes) (λ w a. a) told
   where
     told : (w : World) → Agrees e w → (p : Pick) × IsPickOf w sid (sql text) p × IsTold w sid p (sql text) UnableToConnect
     told w a = (no_pick, picks, told_tree w sid no_pick text (session_in w sid user) (on_objects d) UnableToConnect k (inr (new_server s, asks, (refl, taken w a))) least)
@@ -288,7 +288,7 @@ taken_leads law e sid text user d s read sound allowed taken = leads_refused e e
 -- the box refuses the bind
 pub refused_leads : AreObjects → (e n : Shown) (sid : ℕ) (text : List ℕ) (user : Name) (d : DdlTree) (t : TableObject) (place : ℕ) (c : Cause) → IsRead e sid text user (on_objects d) → IsSound e → IsAllowed e user d (new_table t) → IsServerAt e t.server place
     → (h : ChangesAt e.boxes place (λ a b. RefusesBind a t.remote t.columns t.settings (Refused c) b) n.boxes) → EachRises e.boxes n.boxes → ((w : World) → Agrees e w → Agrees n w) → Leads e sid (sql text) (refused c) n
-refused_leads law e n sid text user d t place c read sound allowed server h rises kept = leads_refused e n sid (sql text) c rises kept told
+refused_leads law e n sid text user d t place c read sound allowed server h rises kept = leads_refused e n sid (sql text) c (asks_read e sid text user (on_objects d) (refused c) n read tt) rises kept told
   where
     told : (w : World) → Agrees e w → (p : Pick) × IsPickOf w sid (sql text) p × IsTold w sid p (sql text) c
     told w a = (p, picks, told_tree w sid p text (session_in w sid user) (on_objects d) c k (inr (new_table t, asks, (reading, reads, because.2.stands))) least)
@@ -354,7 +354,7 @@ failed_leads law e n sid text user d t place read sound allowed h rises kept = r
   };
   asked = λ q. absurd (false≢true q);
   rises = rises;
-  asks = asks_refused e sid (sql text) SourceFault n;
+  asks = asks_read e sid text user (on_objects d) (refused SourceFault) n read tt;
   step = λ w a. (
     w,
     source_fails refl (session_in w sid user) (on_objects d) (known e w sid text user (on_objects d) a read).is (not_early law e w sid text user d (new_table t) read sound a allowed) refl refl,

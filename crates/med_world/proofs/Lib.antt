@@ -23,8 +23,9 @@ mod CursorCausing
 mod Leases
 mod CursorRows
 pub mod CursorLists
-mod CursorSeats
+pub mod CursorSeats
 mod Plainest
+mod OwnBoxes
 mod Declaring
 mod Turns
 mod Fetches

@@ -7,11 +7,10 @@ use Rattle.med_query.specs.Form.{JoinForm, cross_form, inner_form, left_form, Ch
 use Rattle.med_planner.specs.Plain.{IsPlainForm, IsBareForm}
 use Rattle.fdw_api.specs.State.{BoxState}
 use Rattle.med_exec.specs.declared.running.Run.{Run}
-use Rattle.med_exec.specs.Pulling.{levels_in, slot_in, skip_in, pulled_at, PullsAtMost, many_in, IsBareRun, GivesAsTheyCome}
-use Rattle.cursor_syntax.specs.CursorTree.{CountTree, some_rows, all_rows}
+use Rattle.med_exec.specs.Pulling.{skip_in, pulled_at, PullsAtMost, many_in, IsBareRun, GivesAsTheyCome}
+use Rattle.cursor_syntax.specs.CursorTree.{CountTree}
 use Rattle.open_cursors.specs.Fetching.{PullsFetched}
 use Rattle.sql_meaning.specs.Cursors.{IsBareQuery}
-use Rattle.med_world.specs.Engine.{GivesWithin}
 
 -- ---- from the query to its form
 
@@ -76,7 +75,7 @@ bare_form f b =
 
 -- ---- rows that are given to a FETCH
 
-fewer : (slot few many skip : ℕ) (old new : List (Option BoxState)) → few ≤ many → skip ≡ 0 → PullsAtMost (many_in slot (skip + few)) old new → PullsAtMost (many_in slot many) old new
+pub fewer : (slot few many skip : ℕ) (old new : List (Option BoxState)) → few ≤ many → skip ≡ 0 → PullsAtMost (many_in slot (skip + few)) old new → PullsAtMost (many_in slot many) old new
 fewer slot few many skip old new le none h other = split (nat_eq slot other) refl
   where
     split : (b : Bool) → nat_eq slot other ≡ b → pulled_at new other ≤ pulled_at old other + many_in slot many other
@@ -89,10 +88,6 @@ fewer slot few many skip old new le none h other = split (nat_eq slot other) ref
         let x : pulled_at new other ≤ pulled_at old other + many_in slot (skip + few) other = h other in
         let u : many_in slot (skip + few) other ≡ 0 = ap (λ (b : Bool). cond b (skip + few) 0) is in
         omega (arith, x, u)
-
-pub gives_within : (asked : CountTree) (run after : Run) (old new : List (Option BoxState)) (before later : ℕ) → PullsFetched asked run old before after new later → GivesAsTheyCome run → GivesWithin asked old new
-gives_within (some_rows n) run after old new before later p bare = (slot_in run, fewer (slot_in run) p.times n (skip_in run) old new p.within bare.1 (p.pulls.most bare.0))
-gives_within all_rows run after old new before later p bare = tt
 
 -- the run that goes on shows its rows as they come too
 pub still_bare : (asked : CountTree) (run after : Run) (old new : List (Option BoxState)) (before later : ℕ) → PullsFetched asked run old before after new later → GivesAsTheyCome run → GivesAsTheyCome after

@@ -4,7 +4,7 @@ use Rattle.std.proofs.lemmas.Bool.{false≢true}
 use Rattle.std.proofs.lemmas.List.Sorted.{IsPermutation-refl, IsPermutation-map}
 use Rattle.med_value.specs.Datum.{Tuple}
 use Rattle.med_value.specs.declared.cause.Cause.{Cause}
-use Rattle.med_value.specs.declared.cause.Cause.TheVariants.{SourceFault}
+use Rattle.med_value.specs.declared.cause.Cause.TheVariants.{SourceFault, OutOfMemory}
 use Rattle.med_syntax.specs.Tree.{Name}
 use Rattle.med_syntax.specs.QueryTree.{SelectTree, select}
 use Rattle.tri_expr.specs.declared.expr.Fault.TheVariants.{Range, Zero}
@@ -172,14 +172,14 @@ selects_leads e new sid text user q names given read h rises kept = record {
 
 -- one that is not bound
 pub not_bound_leads : ArePhased → (e : Shown) (sid : ℕ) (text : List ℕ) (user : Name) (q : SelectTree) (c : Cause) → IsRead e sid text user (on_data (select q)) → NotBound e.catalog user q c → Leads e sid (sql text) (refused c) e
-not_bound_leads law e sid text user q c read (inl is) = subst (λ (d : Cause). Leads e sid (sql text) (refused d) e) (sym is) (leads_memory e e sid (sql text) tt (none_rises e.boxes) (λ w a. a))
-not_bound_leads law e sid text user q c read (inr (inl h)) = leads_refused e e sid (sql text) c (none_rises e.boxes) (λ w a. a) (λ w a. (
+not_bound_leads law e sid text user q c read (inl is) = subst (λ (d : Cause). Leads e sid (sql text) (refused d) e) (sym is) (leads_memory e e sid (sql text) (asks_refused e sid (sql text) OutOfMemory e refl) tt (none_rises e.boxes) (λ w a. a))
+not_bound_leads law e sid text user q c read (inr (inl h)) = leads_refused e e sid (sql text) c (asks_refused e sid (sql text) c e refl) (none_rises e.boxes) (λ w a. a) (λ w a. (
   no_pick,
   picks_none e w sid text user q a read,
   told_tree w sid no_pick text (session_in w sid user) (on_data (select q)) c (known e w sid text user (on_data (select q)) a read) (inl (subst (λ (o : Objects). QueryNames o user q c) (sym a.catalog) h))
       (λ d x. let p : phase c ≡ 3 = law.names e.catalog user q c h in let r : 3 ≤ phase d = select_phase law w user q d x in omega arith),
 ))
-not_bound_leads law e sid text user q c read (inr (inr (h, none))) = leads_refused e e sid (sql text) c (none_rises e.boxes) (λ w a. a) (λ w a. (
+not_bound_leads law e sid text user q c read (inr (inr (h, none))) = leads_refused e e sid (sql text) c (asks_refused e sid (sql text) c e refl) (none_rises e.boxes) (λ w a. a) (λ w a. (
   no_pick,
   picks_none e w sid text user q a read,
   told_tree w sid no_pick text (session_in w sid user) (on_data (select q)) c (known e w sid text user (on_data (select q)) a read) (inr (inl (subst (λ (o : Objects). QueryTypes o q c) (sym a.catalog) h)))
@@ -191,7 +191,7 @@ not_bound_leads law e sid text user q c read (inr (inr (h, none))) = leads_refus
 pub shows_run_leads : (e new : Shown) (sid : ℕ) (text : List ℕ) (user : Name) (q : SelectTree) (places : List Place) (c : Cause) → IsRead e sid text user (on_data (select q)) → IsBindable e.catalog user q → length (meant_by e.catalog q).entries ≤ 8
     → ArePlaces e.bound (meant_by e.catalog q).entries places → (AllHonest e.boxes → (db : Tables) → SameRows (entry_rows e.boxes places) db → IsShownCause (query_of (meant_by e.catalog q)) db c)
     → EachRises e.boxes new.boxes → ((w : World) → Agrees e w → Agrees new w) → Leads e sid (sql text) (refused c) new
-shows_run_leads e new sid text user q places c read b few are h rises kept = leads_refused e new sid (sql text) c rises kept (λ w a. (
+shows_run_leads e new sid text user q places c read b few are h rises kept = leads_refused e new sid (sql text) c (asks_read e sid text user (on_data (select q)) (refused c) new read tt) rises kept (λ w a. (
   no_pick,
   picks_none e w sid text user q a read,
   let run : QueryRun w q c = subst (λ (m : Meant). ShowsIn w m c) (same_meant e w q a) (h a.honest (entry_tables (meant_by e.catalog q).entries (rows_in w.rows)) (same_entries e w q places a are)) in
@@ -210,7 +210,7 @@ fails_leads e new sid text user q read b h rises kept = record {
   };
   asked = λ x. absurd (false≢true x);
   rises = rises;
-  asks = asks_refused e sid (sql text) SourceFault new;
+  asks = asks_read e sid text user (on_data (select q)) (refused SourceFault) new read tt;
   step = λ w a. (
     w,
     source_fails refl (session_in w sid user) (on_data (select q)) (known e w sid text user (on_data (select q)) a read).is

@@ -2,7 +2,7 @@
 use Rattle.std.proofs.Common.{ℕ, true, false, List, Option, refl, sym, subst}
 use Rattle.std.proofs.lemmas.Bool.{false≢true}
 use Rattle.med_value.specs.declared.cause.Cause.{Cause}
-use Rattle.med_value.specs.declared.cause.Cause.TheVariants.{LimitExceeded, SourceFault}
+use Rattle.med_value.specs.declared.cause.Cause.TheVariants.{LimitExceeded, SourceFault, OutOfMemory}
 use Rattle.med_syntax.specs.Tree.{Name}
 use Rattle.write_syntax.specs.WriteTree.{WriteTree}
 use Rattle.write_parts.specs.Meaning.{target_of}
@@ -16,7 +16,7 @@ use Rattle.sql_meaning.specs.Steps.{is_done, source_fails as source_fails_step, 
 use Rattle.med_world.specs.Engine.{Shown, leased, IsSound, Agrees, EachRises, Leads}
 use Rattle.med_world.specs.Writing.{WritesRows, WriteFails}
 use Rattle.med_world.specs.Laws.{IsRead, with_boxes}
-use Rattle.med_world.proofs.Asks.{asks_refused, asks_read}
+use Rattle.med_world.proofs.Asks.{asks_read}
 use Rattle.med_world.proofs.Told.{told_tree, none_tree, before_tree, pick_tree}
 use Rattle.med_world.proofs.Leading.{calm, calm_befell, calm_unasked, session_in, known, leads_refused, leads_memory}
 use Rattle.med_world.proofs.RowCausing.{WritesPhased}
@@ -55,7 +55,7 @@ source_leads e new sid text user t read h none rises kept = record {
   };
   asked = λ x. absurd (false≢true x);
   rises = rises;
-  asks = asks_refused e sid (sql text) SourceFault new;
+  asks = asks_read e sid text user (on_rows t) (refused SourceFault) new read tt;
   step = λ w a. let k = known e w sid text user (on_rows t) a read in (
     w,
     source_fails_step refl (session_in w sid user) (on_rows t) k.is (before_tree w sid text (session_in w sid user) (on_rows t) k (none w a)) refl refl,
@@ -74,7 +74,7 @@ numbers_leads e new sid text user t read h none rises kept = record {
   };
   asked = λ x. absurd (false≢true x);
   rises = rises;
-  asks = asks_refused e sid (sql text) LimitExceeded new;
+  asks = asks_read e sid text user (on_rows t) (refused LimitExceeded) new read tt;
   step = λ w a. let k = known e w sid text user (on_rows t) a read in (
     w,
     numbers_end_step refl (session_in w sid user) (on_rows t) k.is (before_tree w sid text (session_in w sid user) (on_rows t) k (none w a)) tt refl refl,
@@ -83,12 +83,12 @@ numbers_leads e new sid text user t read h none rises kept = record {
 }
 
 why_leads : (e new : Shown) (sid : ℕ) (text : List ℕ) (user : Name) (t : WriteTree) (c : Cause) → IsRead e sid text user (on_rows t) → EachRises e.boxes new.boxes → ((w : World) → Agrees e w → Agrees new w) → WhyNotDone e user t c new → Leads e sid (sql text) (refused c) new
-why_leads e new sid text user t c read rises kept (is_told told) = leads_refused e new sid (sql text) c rises kept (λ w a.
+why_leads e new sid text user t c read rises kept (is_told told) = leads_refused e new sid (sql text) c (asks_read e sid text user (on_rows t) (refused c) new read tt) rises kept (λ w a.
     let x = told w a in
     let k = known e w sid text user (on_rows t) a read in
     (x.pick, pick_tree w sid x.pick text (session_in w sid user) (on_rows t) k x.picks, told_tree w sid x.pick text (session_in w sid user) (on_rows t) c k x.stands x.least))
 why_leads e new sid text user t c read rises kept (lacks_memory is) =
-    subst (λ (d : Cause). Leads e sid (sql text) (refused d) new) (sym is) (leads_memory e new sid (sql text) tt rises kept)
+    subst (λ (d : Cause). Leads e sid (sql text) (refused d) new) (sym is) (leads_memory e new sid (sql text) (asks_read e sid text user (on_rows t) (refused OutOfMemory) new read tt) tt rises kept)
 why_leads e new sid text user t c read rises kept (source_fails is h none) =
     subst (λ (d : Cause). Leads e sid (sql text) (refused d) new) (sym is) (source_leads e new sid text user t read h none rises kept)
 why_leads e new sid text user t c read rises kept (numbers_end is h none) =

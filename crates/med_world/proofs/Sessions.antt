@@ -27,7 +27,7 @@ use Rattle.med_world.proofs.Scans.{apart_none, Turned, turned_scans, others_stay
 use Rattle.med_world.proofs.Lists.{some_same}
 use Rattle.med_world.proofs.Faring.{set_same, set_other, none_rises}
 use Rattle.med_world.proofs.Serving.{run_rises, served_honest, sources_served, rows_served, none_typed, run_sound}
-use Rattle.med_world.proofs.Asks.{asks_unread}
+use Rattle.med_world.proofs.Asks.{asks_refused, asks_unread}
 use Rattle.med_world.proofs.Told.{told_protocol, told_bye}
 use Rattle.med_world.proofs.Leading.{calm, calm_befell, calm_unasked, leads_refused}
 
@@ -157,7 +157,7 @@ opened e sid user is is_user long closed = record {
     none w a c (inr s) = s
 
 pub opened_twice : (e : Shown) (sid : ℕ) (user : Name) → IsSid sid → (is_some (user_of e.seats sid) ≡ true) ⊎ (IsUser user → ⊥) → Leads e sid (opening user) (refused Protocol) e
-opened_twice e sid user is h = leads_refused e e sid (opening user) Protocol (none_rises e.boxes) (λ w a. a) (λ w a. (no_pick, (λ s t x formed. absurd x), told_protocol w sid no_pick user (why w a h)))
+opened_twice e sid user is h = leads_refused e e sid (opening user) Protocol (asks_refused e sid (opening user) Protocol e refl) (none_rises e.boxes) (λ w a. a) (λ w a. (no_pick, (λ s t x formed. absurd x), told_protocol w sid no_pick user (why w a h)))
   where
     why : (w : World) → Agrees e w → (is_some (user_of e.seats sid) ≡ true) ⊎ (IsUser user → ⊥) → IsOpen w sid ⊎ (IsUser user → ⊥)
     why w a (inl o) = inl (is_open_by e w sid a is o)
@@ -213,7 +213,7 @@ closed e new sid seat is long there ends = record {
     none w a c (inr s) = s
 
 pub closed_twice : (e : Shown) (sid : ℕ) → IsSid sid → is_some (user_of e.seats sid) ≡ false → Leads e sid bye (refused NoConnection) e
-closed_twice e sid is h = leads_refused e e sid bye NoConnection (none_rises e.boxes) (λ w a. a) (λ w a. (no_pick, (λ s t x formed. absurd x), told_bye w sid no_pick (is_closed_by e w sid a is h)))
+closed_twice e sid is h = leads_refused e e sid bye NoConnection (asks_refused e sid bye NoConnection e refl) (none_rises e.boxes) (λ w a. a) (λ w a. (no_pick, (λ s t x formed. absurd x), told_bye w sid no_pick (is_closed_by e w sid a is h)))
 
 shut_sound : (e : Shown) (new : List (Option BoxState)) (sid : ℕ) → IsSid sid → Turned e (sid - 1) None new → IsSound e → IsSound (with_boxes (with_seats e (slice_set e.seats (sid - 1) None)) new)
 shut_sound e new sid is t sound = turned_sound e new sid None is t sound (λ s same. absurd (none_some_seat s same))

@@ -10,11 +10,12 @@ use Rattle.med_query.specs.Query.{IsAnswer}
 use Rattle.fdw_api.specs.State.{BoxState}
 use Rattle.med_exec.specs.declared.running.Run.{Run}
 use Rattle.med_exec.specs.Running.{AllHonest, none_held}
+use Rattle.med_exec.specs.Pulling.{GivesAsTheyCome}
 use Rattle.med_exec.specs.Rests.{Rests, held}
 use Rattle.med_parser.specs.CommandTree.{on_cursors}
 use Rattle.cursor_syntax.specs.CursorTree.{CountTree, some_rows, all_rows, CursorTree, declare, fetch, close}
 use Rattle.open_cursors.specs.Open.{Opened, Seated, opened_named, without_named, with_run}
-use Rattle.open_cursors.specs.Fetching.{GivesRows, GivesNone, no_memory, box_fails, HasRisen, PullsFetched}
+use Rattle.open_cursors.specs.Fetching.{GivesRows, GivesNone, no_memory, box_fails, HasRisen, PullsFetched, PullsEnded}
 use Rattle.sql_meaning.specs.Requests.{sql, IsSid}
 use Rattle.sql_meaning.specs.Picks.{no_pick}
 use Rattle.sql_meaning.specs.World.{World, Cursor, Session, with_session}
@@ -22,27 +23,28 @@ use Rattle.sql_meaning.specs.Cursors.{IsBareQuery, is_cursor, rows_leased, curso
 use Rattle.sql_meaning.specs.Causes.{CursorCauses, phase, NoneBeforeState}
 use Rattle.sql_meaning.specs.Replies.{done, answered, refused}
 use Rattle.sql_meaning.specs.Steps.{Turns, is_done, source_fails, fetch_lacks_memory}
-use Rattle.med_world.specs.Seats.{seat_in, seat_of, asked_in, asked_of, opened_in, CursorAgrees, CursorsAgree}
+use Rattle.med_world.specs.Seats.{seat_of, asked_in, asked_of, opened_in, CursorAgrees, CursorsAgree}
 use Rattle.med_world.specs.Engine.{Shown, IsSound, Agrees, GivesWithin, IsBareCursor, AsksCursor, Leads}
 use Rattle.med_world.specs.Turning.{with_cursors, having_asked, IsOfOpen, Ends}
 use Rattle.med_world.specs.Laws.{IsRead}
 use Rattle.med_world.proofs.Lists.{none_some, some_same}
 use Rattle.med_world.proofs.Seats.{stands_still, cursors_stay}
-use Rattle.med_world.proofs.Faring.{none_rises, set_same}
+use Rattle.med_world.proofs.Faring.{none_rises}
 use Rattle.med_world.proofs.Asks.{asks_refused, asks_read}
 use Rattle.med_world.proofs.Told.{told_tree, none_tree, before_tree}
 use Rattle.med_world.proofs.Leading.{calm_unasked, cursors_in, session_in, calm, calm_befell, known, leads_refused}
 use Rattle.med_world.proofs.Serving.{run_rises}
 use Rattle.med_world.proofs.Sessions.{turned_agrees}
 use Rattle.med_world.proofs.CursorLists.{one_fewer, one_turns, named_runs}
-use Rattle.med_world.proofs.Plainest.{gives_within, still_bare}
-use Rattle.med_world.proofs.CursorSeats.{here_of, cursors_at, picks_none, has_none, found_at, old_seat, ends_serve, fetched_turn, fetched_left, ended_turn, ended_left, here_stays, left_here}
+use Rattle.med_world.proofs.Plainest.{still_bare}
+use Rattle.med_world.proofs.OwnBoxes.{gives_within}
+use Rattle.med_world.proofs.CursorSeats.{seat_put, cursors_at, picks_none, has_none, found_at, old_seat, ends_serve, fetched_turn, fetched_left, ended_turn, ended_left, here_stays, left_here}
 
 -- ---- no cursor of the name
 
 pub unknown : (e : Shown) (sid : ℕ) (text : List ℕ) (seat : Seated) (name : Name) (t : CursorTree) → IsOfOpen name t → IsRead e sid text seat.user (on_cursors t) → seat_of e.seats sid ≡ Some seat → opened_named name seat.cursors ≡ None
     → Leads e sid (sql text) (refused InvalidCursorName) e
-unknown e sid text seat name t of_open read at none = leads_refused e e sid (sql text) InvalidCursorName (none_rises e.boxes) (λ w a. a) (λ w a. (
+unknown e sid text seat name t of_open read at none = leads_refused e e sid (sql text) InvalidCursorName (asks_refused e sid (sql text) InvalidCursorName e refl) (none_rises e.boxes) (λ w a. a) (λ w a. (
   no_pick,
   picks_none e w sid text seat t a read,
   told_tree w sid no_pick text (session_in w sid seat.user) (on_cursors t) InvalidCursorName (known e w sid text seat.user (on_cursors t) a read)
@@ -103,28 +105,36 @@ none_fetched e w sid text seat name asked o a read at here d x =
     let f = found_at e w sid seat name o read.is_sid at a here in
     none_some f.cursor (find (is_cursor name) (cursors_in (w.sessions sid))) x.1 f.is
 
--- the session whose seat was put in has it
-seat_put : (e : Shown) (sid : ℕ) (seat after : Seated) → seat_of e.seats sid ≡ Some seat → seat_of (slice_set e.seats (sid - 1) (Some after)) sid ≡ Some after
-seat_put e sid seat after at = ap seat_in (set_same e.seats (sid - 1) (Some seat) (Some after) (here_of e sid seat at))
-
--- of a cursor over all rows of one table, few rows are given
-few_given : (e : Shown) (new : List (Option BoxState)) (sid : ℕ) (seat : Seated) (name : Name) (asked : CountTree) (o : Opened) (after : Run) (count : ℕ) → IsSid sid → seat_of e.seats sid ≡ Some seat → opened_named name seat.cursors ≡ Some o
-    → PullsFetched asked o.run e.boxes seat.asked after new count → IsBareCursor e sid name → GivesWithin asked e.boxes new
-few_given e new sid seat name asked o after count is at here pulls (w, s, c, a, session, named, bare) =
+-- the run of a cursor over all rows of one table shows them as they come
+bare_run : (e : Shown) (sid : ℕ) (seat : Seated) (name : Name) (o : Opened) → IsSid sid → seat_of e.seats sid ≡ Some seat → opened_named name seat.cursors ≡ Some o → IsBareCursor e sid name → GivesAsTheyCome o.run
+bare_run e sid seat name o is at here (w, s, c, a, session, named, bare) =
     let f = found_at e w sid seat name o is at a here in
     let same : f.cursor ≡ c = some_same f.cursor c (sym f.is ∙ ap (λ (x : Option Session). find (is_cursor name) (cursors_in x)) session ∙ named) in
-    gives_within asked o.run after e.boxes new seat.asked count pulls (f.agrees.bare (subst (λ (x : Cursor). IsBareQuery x.query) (sym same) bare))
+    f.agrees.bare (subst (λ (x : Cursor). IsBareQuery x.query) (sym same) bare)
 
-asks_cursor : (e : Shown) (new : List (Option BoxState)) (sid : ℕ) (seat : Seated) (name : Name) (asked : CountTree) (o : Opened) (after : Run) (count : ℕ) → IsSid sid → seat_of e.seats sid ≡ Some seat → opened_named name seat.cursors ≡ Some o
+-- so that few rows are given: to a FETCH that gives them, and to one that is refused
+few_given : (e : Shown) (new : List (Option BoxState)) (sid : ℕ) (seat : Seated) (name : Name) (asked : CountTree) (o : Opened) (after : Run) (count : ℕ) → IsSid sid → IsSound e → seat_of e.seats sid ≡ Some seat → opened_named name seat.cursors ≡ Some o
+    → PullsFetched asked o.run e.boxes seat.asked after new count → IsBareCursor e sid name → GivesWithin e sid name asked new
+few_given e new sid seat name asked o after count is sound at here p bare =
+    let shows = bare_run e sid seat name o is at here bare in
+    gives_within e sid seat sound at name o here asked p.times new shows p.within (p.pulls.most shows.0)
+
+few_refused : (e : Shown) (new : List (Option BoxState)) (sid : ℕ) (seat : Seated) (name : Name) (asked : CountTree) (o : Opened) → IsSid sid → IsSound e → seat_of e.seats sid ≡ Some seat → opened_named name seat.cursors ≡ Some o
+    → PullsEnded asked o.run e.boxes new → IsBareCursor e sid name → GivesWithin e sid name asked new
+few_refused e new sid seat name asked o is sound at here p bare =
+    let shows = bare_run e sid seat name o is at here bare in
+    gives_within e sid seat sound at name o here asked p.times new shows p.within (p.most shows.0)
+
+asks_cursor : (e : Shown) (new : List (Option BoxState)) (sid : ℕ) (seat : Seated) (name : Name) (asked : CountTree) (o : Opened) (after : Run) (count : ℕ) → IsSid sid → IsSound e → seat_of e.seats sid ≡ Some seat → opened_named name seat.cursors ≡ Some o
     → PullsFetched asked o.run e.boxes seat.asked after new count → AsksCursor e sid asked name (with_cursors e sid (having_asked seat count) (with_run name after seat.cursors) new)
-asks_cursor e new sid seat name asked o after count is at here pulls = record {
+asks_cursor e new sid seat name asked o after count is sound at here pulls = record {
   at = o;
   there = ap (opened_in name) at ∙ here;
   run = after;
   goes_on = ap (opened_in name) now ∙ named_runs name after seat.cursors o here;
   pulls = subst (λ (n : ℕ). PullsFetched asked o.run e.boxes n after new (asked_of now_seats sid)) (sym (ap asked_in at))
       (subst (λ (n : ℕ). PullsFetched asked o.run e.boxes seat.asked after new n) (sym (ap asked_in now)) pulls);
-  few = few_given e new sid seat name asked o after count is at here pulls;
+  few = few_given e new sid seat name asked o after count is sound at here pulls;
 }
   where
     left : Seated
@@ -134,7 +144,7 @@ asks_cursor e new sid seat name asked o after count is at here pulls = record {
     now_seats = slice_set e.seats (sid - 1) (Some left)
 
     now : seat_of now_seats sid ≡ Some left
-    now = seat_put e sid seat left at
+    now = seat_put e.seats sid seat left at
 
 pub fetched : (e : Shown) (new : List (Option BoxState)) (sid : ℕ) (text : List ℕ) (seat : Seated) (name : Name) (asked : CountTree) (o : Opened) (rows : List Tuple) (after : Run) (count : ℕ) → IsRead e sid text seat.user (on_cursors (fetch asked name))
     → seat_of e.seats sid ≡ Some seat → IsSound e → opened_named name seat.cursors ≡ Some o → GivesRows o.run asked e.boxes rows after new
@@ -144,7 +154,7 @@ fetched e new sid text seat name asked o rows after count read at sound here g p
   befell = calm_befell e.boxes new;
   asked = λ x. absurd (calm_unasked x);
   rises = run_rises (held o.run) (held after) e.boxes new g.served;
-  asks = asks_read e sid text seat.user (on_cursors (fetch asked name)) (answered (codes "FETCH") o.names rows) (with_cursors e sid (having_asked seat count) (with_run name after seat.cursors) new) read (asks_cursor e new sid seat name asked o after count read.is_sid at here pulls);
+  asks = asks_read e sid text seat.user (on_cursors (fetch asked name)) (answered (codes "FETCH") o.names rows) (with_cursors e sid (having_asked seat count) (with_run name after seat.cursors) new) read (asks_cursor e new sid seat name asked o after count read.is_sid sound at here pulls);
   step = λ w a. (
     now w,
     is_done no_pick (picks_none e w sid text seat (fetch asked name) a read)
@@ -183,15 +193,15 @@ gone_agrees e w new sid seat name o count is at sound here ends a =
     now = with_session w sid (Some (without_cursor (session_in w sid seat.user) name))
 
 pub not_fetched : (e : Shown) (new : List (Option BoxState)) (sid : ℕ) (text : List ℕ) (seat : Seated) (name : Name) (asked : CountTree) (o : Opened) (c : Cause) (count : ℕ) → IsRead e sid text seat.user (on_cursors (fetch asked name))
-    → seat_of e.seats sid ≡ Some seat → IsSound e → opened_named name seat.cursors ≡ Some o → GivesNone c e.boxes new → Ends o.run e.boxes new → HasRisen seat.asked count
+    → seat_of e.seats sid ≡ Some seat → IsSound e → opened_named name seat.cursors ≡ Some o → GivesNone c e.boxes new → Ends o.run e.boxes new → PullsEnded asked o.run e.boxes new → HasRisen seat.asked count
     → Leads e sid (sql text) (refused c) (with_cursors e sid (having_asked seat count) (without_named name seat.cursors) new)
-not_fetched e new sid text seat name asked o c count read at sound here (no_memory is) ends risen =
+not_fetched e new sid text seat name asked o c count read at sound here (no_memory is) ends pulls risen =
     subst (λ (d : Cause). Leads e sid (sql text) (refused d) (with_cursors e sid (having_asked seat count) (without_named name seat.cursors) new)) (sym is) (record {
       trouble = record { memory = true; asked = true; source = false; numbers = false };
       befell = record { source = λ x. absurd (false≢true x); numbers = λ x. absurd (false≢true x) };
-      asked = λ x. subst (λ (n : ℕ). HasRisen n (asked_of now_seats sid)) (sym (ap asked_in at)) (subst (λ (n : ℕ). HasRisen seat.asked n) (sym (ap asked_in (seat_put e sid seat left at))) risen);
+      asked = λ x. subst (λ (n : ℕ). HasRisen n (asked_of now_seats sid)) (sym (ap asked_in at)) (subst (λ (n : ℕ). HasRisen seat.asked n) (sym (ap asked_in (seat_put e.seats sid seat left at))) risen);
       rises = run_rises (held o.run) none_held e.boxes new (ends_serve o.run e.boxes new ends);
-      asks = asks_refused e sid (sql text) OutOfMemory (with_cursors e sid (having_asked seat count) (without_named name seat.cursors) new);
+      asks = asks_read e sid text seat.user (on_cursors (fetch asked name)) (refused OutOfMemory) (with_cursors e sid (having_asked seat count) (without_named name seat.cursors) new) read (few_refused e new sid seat name asked o read.is_sid sound at here pulls);
       step = λ w a. (
         with_session w sid (Some (without_cursor (session_in w sid seat.user) name)),
         fetch_lacks_memory refl refl (session_in w sid seat.user) asked name (known e w sid text seat.user (on_cursors (fetch asked name)) a read).is refl refl,
@@ -204,7 +214,7 @@ not_fetched e new sid text seat name asked o c count read at sound here (no_memo
 
     now_seats : List (Option Seated)
     now_seats = slice_set e.seats (sid - 1) (Some left)
-not_fetched e new sid text seat name asked o c count read at sound here (box_fails is h) ends risen =
+not_fetched e new sid text seat name asked o c count read at sound here (box_fails is h) ends pulls risen =
     subst (λ (d : Cause). Leads e sid (sql text) (refused d) (with_cursors e sid (having_asked seat count) (without_named name seat.cursors) new)) (sym is) (record {
       trouble = record { memory = false; asked = false; source = true; numbers = false };
       befell = record {
@@ -213,7 +223,7 @@ not_fetched e new sid text seat name asked o c count read at sound here (box_fai
       };
       asked = λ x. absurd (false≢true x);
       rises = run_rises (held o.run) none_held e.boxes new (ends_serve o.run e.boxes new ends);
-      asks = asks_refused e sid (sql text) SourceFault (with_cursors e sid (having_asked seat count) (without_named name seat.cursors) new);
+      asks = asks_read e sid text seat.user (on_cursors (fetch asked name)) (refused SourceFault) (with_cursors e sid (having_asked seat count) (without_named name seat.cursors) new) read (few_refused e new sid seat name asked o read.is_sid sound at here pulls);
       step = λ w a. (
         with_session w sid (Some (without_cursor (session_in w sid seat.user) name)),
         source_fails refl (session_in w sid seat.user) (on_cursors (fetch asked name)) (known e w sid text seat.user (on_cursors (fetch asked name)) a read).is (late w a) refl refl,

@@ -12,7 +12,7 @@ use Rattle.med_binder.specs.Place.{Place}
 use Rattle.med_exec.specs.Slots.{BoxAt, ChangesAt}
 use Rattle.med_exec.specs.Running.{SlotShows, HasFailed, IsUsedUp}
 use Rattle.med_exec.specs.Rests.{held as scans_held, IsRunning}
-use Rattle.med_exec.specs.Pulling.{PullsAtMost, PullsNone, many_in}
+use Rattle.med_exec.specs.Pulling.{pulled_at, PullsAtMost, PullsNone, many_in}
 use Rattle.med_exec.specs.declared.running.Run.{Run}
 use Rattle.med_planner.specs.Plain.{IsPlainForm}
 use Rattle.bind_catalog.specs.Places.{Attached, ArePlaces}
@@ -34,9 +34,10 @@ use Rattle.open_cursors.specs.Open.{Opened, Seated, leases_table, any_leases}
 use Rattle.sql_meaning.specs.World.{World, Cursor, Session, Source, SourceState, standing, dropped, with_session, without_sessions, beside_without}
 use Rattle.sql_meaning.specs.Cursors.{cursor_named, IsBareQuery}
 use Rattle.med_world.specs.Selecting.{PullsAgreed}
+use Rattle.open_cursors.specs.Starting.{OpensEach}
 use Rattle.med_world.specs.Seats.{seat_of, asked_of, opened_at, IsOpenAt, AreSoundSeats, SeatAgrees}
 use Rattle.sql_meaning.specs.Steps.{Trouble, Step}
-use Rattle.sql_meaning.specs.Replies.{Reply, done, answered, reply_text}
+use Rattle.sql_meaning.specs.Replies.{Reply, done, answered, refused, reply_text}
 
 -- a source as it was added: its name, and its kind
 pub record Label : Type 0 where
@@ -265,37 +266,49 @@ pub record AnswersOnce (e : Shown) (q : SelectTree) (new : List (Option BoxState
   pub once : ReadsOnce e q new
   pub pulls : PullsAgreed (meant_by e.catalog q).form once.places e.boxes new
 
--- For DECLARE a query was begun once; one with FROM whose rows can be shown as they are joined, and no row was asked for.
-pub record BeginsOnce (e : Shown) (q : SelectTree) (new : List (Option BoxState)) : Type 0 where
-  pub once : ReadsOnce e q new
-  pub plain : IsPlainForm (meant_by e.catalog q).form → 0 < length (meant_by e.catalog q).entries → PullsNone e.boxes new
+-- For DECLARE a query was begun once, and is that of the session's cursor of this name. Of one with FROM whose rows can be shown as they are
+-- joined no row was asked for, and the scans that the cursor holds are one for each entry, under just the restrictions that are offered of it.
+pub record BeginsOnce (e : Shown) (sid : ℕ) (name : Name) (q : SelectTree) (new : Shown) : Type 0 where
+  pub once : ReadsOnce e q new.boxes
+  pub plain : IsPlainForm (meant_by e.catalog q).form → 0 < length (meant_by e.catalog q).entries → PullsNone e.boxes new.boxes
+  pub at : Opened
+  pub there : opened_at new.seats sid name ≡ Some at
+  pub opens : OpensEach e.catalog q once.places at.run new.boxes
 
--- no more than so many rows were given, all by one box; where all were asked for, any number by any box
-abbrev pub GivesWithin : CountTree → List (Option BoxState) → List (Option BoxState) → Type 0
-GivesWithin (some_rows n) old new = (slot : ℕ) × PullsAtMost (many_in slot n) old new
-GivesWithin all_rows old new = Unit {0}
+-- no box but one gave a row, and that no more than so many: the box of a table that the session's cursor of this name leases
+pub record GivesFew (e : Shown) (sid : ℕ) (name : Name) (most : ℕ) (new : List (Option BoxState)) : Type 0 where
+  pub slot : ℕ
+  pub few : PullsAtMost (many_in slot most) e.boxes new
+  pub own : pulled_at e.boxes slot < pulled_at new slot → (at : Opened) → opened_at e.seats sid name ≡ Some at
+      → (number : ℕ) × LeasesNumber e.catalog.tables e.bound at slot number
+
+-- no more than so many rows were given, all of a table of the cursor; where all were asked for, any number by any box
+abbrev pub GivesWithin : Shown → ℕ → Name → CountTree → List (Option BoxState) → Type 0
+GivesWithin e sid name (some_rows n) new = GivesFew e sid name n new
+GivesWithin e sid name all_rows new = Unit {0}
 
 -- in each world where the session's cursor of this name is over all rows of one table
 abbrev pub IsBareCursor : Shown → ℕ → Name → Type 0
 IsBareCursor e sid name =
     (w : World) × (s : Session) × (c : Cursor) × Agrees e w × (w.sessions sid ≡ Some s) × (cursor_named name s ≡ Some c) × IsBareQuery c.query
 
--- A FETCH asked the session's cursor of this name for a row no more often than for so many rows, each time counted, and no other cursor; its
--- run goes on behind them. Of a cursor over all rows of one table, no more than so many rows were given.
+-- A FETCH asked the session's cursor of this name for a row no more often than for so many rows, each time counted, and no other cursor;
+-- its run goes on behind them. Of a cursor over all rows of one table, no more than so many rows of it were given.
 pub record AsksCursor (e : Shown) (sid : ℕ) (asked : CountTree) (name : Name) (new : Shown) : Type 0 where
   pub at : Opened
   pub there : opened_at e.seats sid name ≡ Some at
   pub run : Run
   pub goes_on : opened_at new.seats sid name ≡ Some (record at { run = run })
   pub pulls : PullsFetched asked at.run e.boxes (asked_of e.seats sid) run new.boxes (asked_of new.seats sid)
-  pub few : IsBareCursor e sid name → GivesWithin asked e.boxes new.boxes
+  pub few : IsBareCursor e sid name → GivesWithin e sid name asked new.boxes
 
 -- What a statement with this tree that is answered so asked the boxes for: a SELECT that was answered by rows, a DECLARE that opened its
--- cursor, and a FETCH that gave rows.
+-- cursor, and a FETCH that gave rows. One that was refused, before its cursor was asked or after, had no more rows given.
 abbrev pub TreeAsks : Shown → ℕ → CommandTree → Reply → Shown → Type 0
 TreeAsks e sid (on_data (select q)) (answered tag names rows) new = AnswersOnce e q new.boxes
-TreeAsks e sid (on_cursors (declare name (select q))) (done tag) new = BeginsOnce e q new.boxes
+TreeAsks e sid (on_cursors (declare name (select q))) (done tag) new = BeginsOnce e sid name q new
 TreeAsks e sid (on_cursors (fetch asked name)) (answered tag names rows) new = AsksCursor e sid asked name new
+TreeAsks e sid (on_cursors (fetch asked name)) (refused c) new = IsBareCursor e sid name → GivesWithin e sid name asked new.boxes
 TreeAsks e sid tree reply new = Unit {0}
 
 -- what a request that is answered so asked the boxes for

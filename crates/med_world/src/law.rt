@@ -22,7 +22,7 @@ ghost use Rattle.med_exec.specs.Running.{ServesRun, none_held};
 ghost use Rattle.med_exec.specs.declared.running.Run.{Run};
 ghost use Rattle.open_cursors.specs.Open.{Opened, Seated, is_full, opened_named, without_named, with_run, held_by, AreHeld, AreOwn, all_cursors};
 ghost use Rattle.open_cursors.specs.Starting.{Starts, StartFails};
-ghost use Rattle.open_cursors.specs.Fetching.{GivesRows, GivesNone, HasRisen, PullsFetched};
+ghost use Rattle.open_cursors.specs.Fetching.{GivesRows, GivesNone, HasRisen, PullsFetched, PullsEnded};
 ghost use Rattle.med_catalog.specs.Objects.{TableObject, Objects};
 ghost use Rattle.med_catalog.specs.Changes.{ObjectChange, new_table, no_table, no_server, Asks};
 ghost use Rattle.med_catalog.specs.DdlCauses.{IsTold as IsToldBy, NoneStands, nothing_leased, ddl_rows};
@@ -195,8 +195,8 @@ pub fn cursors_lead()
     ensures not_fetched { (e : Shown) (new : List (Option BoxState)) (sid : ℕ) (text : List ℕ) (seat : Seated) (name : Name)
         (asked : CountTree) (o : Opened) (c : AnyCause) (count : ℕ)
         → IsRead e sid text seat.user (on_cursors (fetch asked name)) → seat_of e.seats sid ≡ Some seat → IsSound e
-        → opened_named name seat.cursors ≡ Some o → GivesNone c e.boxes new → Ends o.run e.boxes new → HasRisen seat.asked count
-        → Leads e sid (sql text) (refused c) (with_cursors e sid (having_asked seat count) (without_named name seat.cursors) new) }
+        → opened_named name seat.cursors ≡ Some o → GivesNone c e.boxes new → Ends o.run e.boxes new → PullsEnded asked o.run e.boxes new
+        → HasRisen seat.asked count → Leads e sid (sql text) (refused c) (with_cursors e sid (having_asked seat count) (without_named name seat.cursors) new) }
     ensures closed { (e : Shown) (new : List (Option BoxState)) (sid : ℕ) (text : List ℕ) (seat : Seated) (name : Name) (o : Opened)
         → IsRead e sid text seat.user (on_cursors (close name)) → seat_of e.seats sid ≡ Some seat → IsSound e
         → opened_named name seat.cursors ≡ Some o → Ends o.run e.boxes new

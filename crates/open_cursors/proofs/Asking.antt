@@ -9,16 +9,16 @@ pub counts_on : (first times now after : ℕ) → now ≡ counted first times �
 counts_on first zero now after e f = f ∙ ap (λ (n : ℕ). min (n + 1) (2 ^ 64 - 1)) e
 counts_on first (suc n) now after e f = grind (arith, e, f)
 
--- then it has risen
-pub risen_on : (first times now after : ℕ) → now ≡ counted first times → after ≡ counted now 1 → HasRisen first after
-risen_on first times now after e f = split (cases_lt (first + (times + 1)) (2 ^ 64 - 1))
+-- then it has risen, and so has it after each of some times
+pub risen_by : (before times after : ℕ) → 0 < times → after ≡ counted before times → HasRisen before after
+risen_by before times after some e = split (cases_lt (before + times) (2 ^ 64 - 1))
   where
-    all : after ≡ counted first (times + 1)
-    all = counts_on first times now after e f
+    split : (before + times < 2 ^ 64 - 1) ⊎ (2 ^ 64 - 1 ≤ before + times) → HasRisen before after
+    split (inl few) = inl (grind (arith, e, few, some))
+    split (inr many) = inr (grind (arith, e, many))
 
-    split : (first + (times + 1) < 2 ^ 64 - 1) ⊎ (2 ^ 64 - 1 ≤ first + (times + 1)) → HasRisen first after
-    split (inl few) = inl (grind (arith, all, few))
-    split (inr many) = inr (grind (arith, all, many))
+pub risen_on : (first times now after : ℕ) → now ≡ counted first times → after ≡ counted now 1 → HasRisen first after
+risen_on first times now after e f = risen_by first (times + 1) after (omega arith) (counts_on first times now after e f)
 
 -- as many as were asked for are some
 pub some_given : (asked : CountTree) (given : ℕ) → has_enough asked 0 ≡ false → has_enough asked given ≡ true → 0 < given

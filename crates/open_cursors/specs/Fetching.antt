@@ -72,6 +72,13 @@ pub record PullsFetched (asked : CountTree) (run : Run) (old : List (Option BoxS
   pub pulls : PullsFor times run old after new
   pub counts : later ≡ counted before times
 
+-- A run was asked for no more rows than these, and closed. Of one over one table of whose rows nothing is checked again, that table's box
+-- gave no more than OFFSET passes and one each time, and no other box gave any.
+pub record PullsEnded (asked : CountTree) (run : Run) (old new : List (Option BoxState)) : Type 0 where
+  pub times : ℕ
+  pub within : IsWithin asked times
+  pub most : IsBareRun (levels_in run) → PullsAtMost (many_in (slot_in run) (skip_in run + times)) old new
+
 -- the cause that a fault of a box is told by
 abbrev pub cause_of : Fault → Cause
 cause_of NoMemory = OutOfMemory

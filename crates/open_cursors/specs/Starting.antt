@@ -7,12 +7,17 @@ use Rattle.med_value.specs.declared.cause.Cause.TheVariants.{FeatureNotSupported
 use Rattle.med_value.specs.Limits.{entry_limit}
 use Rattle.med_syntax.specs.Tree.{Name}
 use Rattle.med_syntax.specs.QueryTree.{EntryTree, SelectTree}
-use Rattle.bind_names.specs.Scope.{entries_of}
+use Rattle.bind_names.specs.Scope.{entries_of, from_scope}
 use Rattle.med_query.specs.Query.{Query, Tables, SameRows, IsAnswer}
-use Rattle.med_query.specs.Form.{query_by, is_risky_form}
+use Rattle.med_query.specs.Form.{form_of, query_by, is_risky_form}
 use Rattle.med_planner.specs.Plain.{IsPlainForm, IsBareForm}
 use Rattle.fdw_api.specs.State.{BoxState}
-use Rattle.med_binder.specs.Place.{Place}
+use Rattle.med_binder.specs.Place.{Place, entry_place}
+use Rattle.med_binder.specs.Counted.{bound_widths}
+use Rattle.med_binder.specs.Within.{widths}
+use Rattle.med_binder.specs.declared.bound.BoundQuery.{BoundQuery}
+use Rattle.loop_plans.specs.Offered.{core_offers}
+use Rattle.bound_runs.specs.Starting.{HoldsOpen}
 use Rattle.med_query.specs.Causes.{IsShownCause}
 use Rattle.med_planner.specs.Planned.{entry_rows}
 use Rattle.med_exec.specs.declared.running.Run.{Run}
@@ -22,6 +27,7 @@ use Rattle.med_exec.specs.Pulling.{PullsNone, GivesAsTheyCome}
 use Rattle.med_catalog.specs.Objects.{Objects}
 use Rattle.bind_catalog.specs.Queries.{meant_by, IsBindable, NotBound}
 use Rattle.bind_catalog.specs.Places.{Attached, ArePlaces}
+use Rattle.bind_catalog.specs.Tables.{shapes}
 use Rattle.open_cursors.specs.Counted.{ReadsTables}
 -- of which tables the scans are that a run holds
 pub use Rattle.med_exec.specs.Holding.{ScansOne, HoldsOf}
@@ -41,8 +47,19 @@ pub record RestsOver (q : Query) (places : List Place) (boxes : List (Option Box
       → IsAnswer q db rows
   pub clear : AllHonest boxes → (db : Tables) → SameRows (entry_rows boxes places) db → (c : Cause) → IsShownCause q db c → ⊥
 
+-- The run is of a query bound to tables in these places, as wide as those of the catalogue. Where it has FROM and its rows can be shown as
+-- they are joined, the run holds one open scan for each entry, and no other: of the entry's table, under just the restrictions that the
+-- entry is offered (`core_offers`).
+pub record OpensEach (o : Objects) (q : SelectTree) (places : List Place) (run : Run) (boxes : List (Option BoxState)) : Type 0 where
+  pub bound : BoundQuery
+  pub form : form_of bound.select ≡ (meant_by o q).form
+  pub at : map entry_place bound.entries.items ≡ places
+  pub wide : bound_widths bound ≡ widths (from_scope (shapes o) q.from)
+  pub opens : (plain : IsPlainForm (form_of bound.select)) → 0 < length bound.entries.items
+      → HoldsOpen (core_offers bound.entries.items plain.core) run boxes
+
 -- The query of a cursor was begun over the boxes, which read each of its tables once, and runs. Where the query has FROM and its rows can
--- be shown as they are joined, its run asks for none of them before FETCH.
+-- be shown as they are joined, its run asks for none of them before FETCH, and holds one scan for each entry.
 pub record Starts (o : Objects) (user : Name) (bound : List Attached) (q : SelectTree) (full : Bool) (old : List (Option BoxState))
     (names : List Name) (run : Run) (new : List (Option BoxState)) : Type 0 where
   pub bindable : IsBindable o user q
@@ -59,6 +76,7 @@ pub record Starts (o : Objects) (user : Name) (bound : List Attached) (q : Selec
   pub reads : ReadsTables places old new
   pub plain : IsPlainForm (meant_by o q).form → 0 < length (meant_by o q).entries → PullsNone old new
   pub bare : IsBareForm (meant_by o q).form → GivesAsTheyCome run
+  pub opens : OpensEach o q places run new
 
 -- why the run of a query was not begun
 pub data RunFails (q : Query) (places : List Place) (c : Cause) (old new : List (Option BoxState)) : Type 0 where

@@ -32,14 +32,6 @@ impl Asked {
         Asked { times: 0 }
     }
 
-    /// So often they were asked.
-    pub fn times(&self) -> u64
-        ensures { result ≡ self.now.times }
-    {
-        let Asked { times } = self;
-        *times
-    }
-
     // Once more.
     pub(crate) fn count(&mut self)
         ensures { self.new.times ≡ counted self.old.times 1 }

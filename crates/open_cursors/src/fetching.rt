@@ -4,6 +4,7 @@ ghost use Rattle.med_value.specs.Datum.{tuple};
 ghost use Rattle.cursor_syntax.specs.CursorView.{count_tree};
 ghost use Rattle.med_exec.specs.Slots.{states};
 ghost use Rattle.med_exec.specs.Counting.{none_in, BeginsScans};
+ghost use Rattle.med_exec.specs.Pulling.{PullsNone};
 ghost use Rattle.med_exec.specs.Running.{ServesRun, Breaks, none_held};
 ghost use Rattle.med_exec.specs.Rests.{held, IsRunning, IsHeld};
 ghost use Rattle.open_cursors.specs.Open.{opened, held_by, AreHeld, AreOwn};
@@ -45,9 +46,9 @@ impl Unfetched {
 }
 
 /// Gives as many rows of a run as are asked for, or all that are left where they are fewer, in their order. It asks the run for no row
-/// beyond them, counts each time that it asks, and the next FETCH goes on behind them. No scan is begun. No box gives a row where the run holds its answer; where it
-/// holds the scan of one table of whose rows nothing is checked again, its box gives no more rows than are asked for, after those that
-/// OFFSET passes.
+/// beyond them, counts each time that it asks, and the next FETCH goes on behind them. No scan is begun. No box gives a row where the run
+/// holds its answer; where it holds the scan of one table of whose rows nothing is checked again, its box gives no more rows than are
+/// asked for, after those that OFFSET passes.
 ///
 /// After a fault the run is good for its close alone. Until the run is asked nothing can fail.
 ///
@@ -97,10 +98,12 @@ pub fn fetch<W: Wrapper2>(
     Ok(rows)
 }
 
-/// Closes a cursor: each scan that its run holds is ended, and the boxes hold what they held besides (SQL:2016, 14.6 <close statement>).
+/// Closes a cursor: each scan that its run holds is ended, and the boxes hold what they held besides. No box gives a row (SQL:2016, 14.6
+/// <close statement>).
 pub fn close_cursor<W: Wrapper2>(cursor: OpenCursor, slots: &mut Vec<Option<W>>)
     requires { IsHeld cursor.run (states W.meaning slots.old.items) }
-    ensures { ServesRun (held cursor.run) none_held (states W.meaning slots.old.items) (states W.meaning slots.new.items) }
+    ensures boxes { ServesRun (held cursor.run) none_held (states W.meaning slots.old.items) (states W.meaning slots.new.items) }
+    ensures pulls { PullsNone (states W.meaning slots.old.items) (states W.meaning slots.new.items) }
 {
     let OpenCursor {
         name: _,

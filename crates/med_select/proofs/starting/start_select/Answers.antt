@@ -53,4 +53,4 @@ returns-clause-ok g c =
     let few : length c.in_ok-query.query.entries.items ≤ 8 = omega (arith, counted, least) in
     let may : MayBegin c.args.is_full c.in_ok-query.query = record { safe = sym c.is_risky_query.ensures ∙ c.if-is_risky_query.false; room = c.if-is_full.false; few = few } in
     rw c.replace-names.ensures.value (starts c.expressions_ignore_order.ensures c.answers_ignore_order.ensures c.causes_ignore_order.ensures o c.args.user.now (map attached c.args.bound.now) q c.args.is_full c.in_ok-query.query c.in-Ok-start_bound.run'
-    (states m c.args.slots.now.items) (states m c.start_bound.new.slots.items) is may c.in-Ok-start_bound.ensures.boxes c.in-Ok-start_bound.ensures.running c.in-Ok-start_bound.ensures.holds (c.bound_queries_are_ready.ensures.once o q c.in_ok-query.query (states m c.args.slots.now.items) (states m c.start_bound.new.slots.items) c.in_ok-query.ensures.meant c.in-Ok-start_bound.ensures.begins) c.in-Ok-start_bound.ensures.plain c.in-Ok-start_bound.ensures.bare c.in-Ok-start_bound.ensures.ok)
+    (states m c.args.slots.now.items) (states m c.start_bound.new.slots.items) is c.in_ok-query.ensures.widths may c.in-Ok-start_bound.ensures.boxes c.in-Ok-start_bound.ensures.running c.in-Ok-start_bound.ensures.holds (c.bound_queries_are_ready.ensures.once o q c.in_ok-query.query (states m c.args.slots.now.items) (states m c.start_bound.new.slots.items) c.in_ok-query.ensures.meant c.in-Ok-start_bound.ensures.begins) c.in-Ok-start_bound.ensures.plain c.in-Ok-start_bound.ensures.bare c.in-Ok-start_bound.ensures.opens c.in-Ok-start_bound.ensures.ok)

@@ -10,7 +10,8 @@ pub returns-in-Some-clause-ok : goal.returns-in-Some-clause-ok
 returns-in-Some-clause-ok g c = record {
   at = opened c.in-Some.cursor;
   there = sym c.in-Some.ensures.taken;
-  closes = c.close_cursor.ensures;
+  closes = c.close_cursor.ensures.boxes;
+  pulls = c.close_cursor.ensures.pulls;
   is = ap (λ (cs : List Opened). having (seated c.args.seat.now) cs) c.take.ensures.left;
 }
 

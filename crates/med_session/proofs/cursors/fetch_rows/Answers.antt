@@ -7,6 +7,8 @@ use Rattle.std.proofs.lemmas.Grind.{common_steps}
 use Rattle.med_exec.specs.Slots.{states}
 use Rattle.med_world.specs.Turning.{later, having_asked}
 use Rattle.open_cursors.specs.Fetching.{GivesNone, no_memory, box_fails, cause_of}
+use Rattle.open_cursors.proofs.Pulled.{pulls_ended}
+use Rattle.cursor_syntax.specs.CursorView.{count_tree}
 use Rattle.open_cursors.specs.declared.cursors.OpenCursor.{OpenCursor}
 use Rattle.open_cursors.specs.Open.{Opened, opened, opened_named, seated}
 use Rattle.med_session.specs.Cursors.{having}
@@ -49,7 +51,8 @@ returns-in-Err-clause-err g c =
       there = named_there c.args.name.now cursors c.in-Some.place at lt c.index_mut.ensures.value there;
       count = c.fetch.new.count.times;
       risen = c.in-Err.ensures.asked;
-      gives = breaks_none c.in-Err.unfetched.fault old new (c.services_join.ensures.broken none_held none_held (held c.remove.result.run) none_held old old mid new c.in-Err.unfetched.fault (c.services_join.ensures.same none_held old) c.in-Err.ensures.breaks c.close_cursor.ensures);
-      ends = later c.fetch.new.run mid c.fetch.ensures.boxes (subst (λ (r : Run). ServesRun (held r) none_held mid new) same c.close_cursor.ensures);
+      gives = breaks_none c.in-Err.unfetched.fault old new (c.services_join.ensures.broken none_held none_held (held c.remove.result.run) none_held old old mid new c.in-Err.unfetched.fault (c.services_join.ensures.same none_held old) c.in-Err.ensures.breaks c.close_cursor.ensures.boxes);
+      ends = later c.fetch.new.run mid c.fetch.ensures.boxes (subst (λ (r : Run). ServesRun (held r) none_held mid new) same c.close_cursor.ensures.boxes);
+      pulls = pulls_ended (count_tree c.args.asked) at.run c.fetch.new.run old mid new c.args.seat.now.asked.times c.fetch.new.count.times c.fetch.ensures.pulls c.close_cursor.ensures.pulls;
       is = ap (λ (cs : List Opened). having (having_asked (seated c.args.seat.now) c.fetch.new.count.times) cs) (ap (map opened) c.remove.ensures.items ∙ gone_there c.args.name.now cursors c.in-Some.place at _ c.requires.sound.apart lt c.index_mut.ensures.value there);
     }

@@ -18,7 +18,7 @@ loop-cursor-preserved g c =
     let new = states m c.close_cursor.new.slots.items in
     record {
       boxes = c.services_join.ensures.joined (held_by (map opened c.args.cursors.items)) (held_by (map opened before)) (held_by (map opened after)) (states m c.args.slots.now.items) now new
-          c.loop-cursor.invariant.boxes (front_served before after c.in-Some.cursor popped now new c.close_cursor.ensures);
+          c.loop-cursor.invariant.boxes (front_served before after c.in-Some.cursor popped now new c.close_cursor.ensures.boxes);
       own = front_own before after c.in-Some.cursor popped c.loop-cursor.invariant.own;
-      good = front_held before after c.in-Some.cursor popped c.other_runs_are_left.ensures.held now new c.loop-cursor.invariant.own c.loop-cursor.invariant.good c.close_cursor.ensures;
+      good = front_held before after c.in-Some.cursor popped c.other_runs_are_left.ensures.held now new c.loop-cursor.invariant.own c.loop-cursor.invariant.good c.close_cursor.ensures.boxes;
     }

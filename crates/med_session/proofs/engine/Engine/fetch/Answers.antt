@@ -61,7 +61,7 @@ returns-in-Err-clause-sound g c =
     let e = shown g.W.Wrapper.meaning c.args.self.now in
     let seat = seated c.in-Some.seat in
     let boxes = states g.W.Wrapper.meaning c.fetch_rows-given.new.slots.items in
-    failed_sound e c.args.sid.number seat _ _ _ boxes _ c.requires.sound (sym c.in-Some.ensures.taken) c.take_seat.ensures.left c.put_seat.ensures c.cursors_lead.ensures.ended_sound c.args.sid.in_range c.in-Err.fault (rw c.as_str.ensures.value at c.in-Err.ensures.err)
+    failed_sound e c.args.sid.number seat _ _ _ boxes _ c.requires.sound (sym c.in-Some.ensures.taken) c.take_seat.ensures.left c.put_seat.ensures c.cursors_lead.ensures.ended_sound c.args.sid.in_range _ c.in-Err.fault (rw c.as_str.ensures.value at c.in-Err.ensures.err)
 
 pub returns-in-Err-clause-leads : goal.returns-in-Err-clause-leads
 returns-in-Err-clause-leads g c = λ text user read.

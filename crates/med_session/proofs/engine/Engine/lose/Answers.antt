@@ -41,5 +41,6 @@ returns-clause-lost g c =
       at = f.at;
       there = f.there;
       closes = f.closes;
+      pulls = f.pulls;
       is = put_other e sid seat _ _ _ _ boxes c.take_seat.ensures.left c.put_seat.ensures f.is;
     }
