@@ -4,8 +4,6 @@ use Rattle.std.specs.List.{list_all}
 use Rattle.std.specs.Option.{option_flatten}
 use Rattle.std.specs.Ordering.{nat_cmp}
 use Rattle.std.specs.Cmp.{nat_cmp_total}
-use Rattle.std.specs.BTreeMap as tree
-use Rattle.std.specs.BTreeMap.{BTreeMap}
 use Rattle.std.specs.FinMap as finmap
 use Rattle.std.specs.FinMap.{nat_cmp-IsAntisymmetric}
 use Rattle.std.proofs.lemmas.Bool.Decides.{eqb_tells}
@@ -19,7 +17,7 @@ use Rattle.blob_store.specs.Names.{is_blob_name}
 use Rattle.blob_store.specs.Shelves.{Shelf, Standing, Known as KnownBlob, Unknown as UnknownBlob, Finds}
 use Rattle.staged_changes.specs.declared.changes.StagedWrite.{StagedWrite}
 use Rattle.place_wrapper.specs.Holdings.{holding_of, held_under}
-use Rattle.place_wrapper.specs.Mapped.{mapped}
+use Rattle.place_wrapper.specs.Mapped.{mapped, live_at}
 use Rattle.place_wrapper.proofs.Maps.{mapped_get}
 use Rattle.place_wrapper.specs.declared.scans.LiveScan.{LiveScan}
 use Rattle.place_wrapper.specs.Forms.{Form}
@@ -47,8 +45,8 @@ abbrev pub SameTables : {T : Type 0} → List (Option T) → List (Option T) →
 SameTables old new = (t : ℕ) → table_at new t ≡ table_at old t
 
 -- no live scan is of this table
-abbrev pub Unscanned : BTreeMap ℕ LiveScan → ℕ → Type 0
-Unscanned m at = (q : ℕ) (s : LiveScan) → tree.get nat_cmp m q ≡ Some s → s.table ≢ at
+abbrev pub Unscanned : List (ℕ × LiveScan) → ℕ → Type 0
+Unscanned m at = (q : ℕ) (s : LiveScan) → live_at m q ≡ Some s → s.table ≢ at
 
 set_other : {T : Type 0} (ts : List (Option T)) (t q : ℕ) (y : Option T) → q ≢ t → slice_get (slice_set ts t y) q ≡ slice_get ts q
 set_other [] t q y ne = refl
@@ -88,31 +86,31 @@ known_is Unknown picked e p k = absurd cc
 
 module _ {T : Type 0} (F : Form T) where
   -- what is known of scans stays where their tables do
-  live_same : (old new : List (Option T)) (m : BTreeMap ℕ LiveScan) (at : ℕ) → Others old new at → Unscanned m at → mapped (scan_is F new) m.entries ≡ mapped (scan_is F old) m.entries
-  live_same old new m at same none = finmap.same_map nat_cmp_total nat_cmp-IsAntisymmetric _ _ (λ q. mapped_get (scan_is F new) m q ∙ go q (tree.get nat_cmp m q) refl ∙ sym (mapped_get (scan_is F old) m q))
+  live_same : (old new : List (Option T)) (m : List (ℕ × LiveScan)) (at : ℕ) → Others old new at → Unscanned m at → mapped (scan_is F new) m ≡ mapped (scan_is F old) m
+  live_same old new m at same none = finmap.same_map nat_cmp_total nat_cmp-IsAntisymmetric _ _ (λ q. mapped_get (scan_is F new) m q ∙ go q (live_at m q) refl ∙ sym (mapped_get (scan_is F old) m q))
     where
-      go : (q : ℕ) (o : Option LiveScan) → tree.get nat_cmp m q ≡ o → option_map (scan_is F new) o ≡ option_map (scan_is F old) o
+      go : (q : ℕ) (o : Option LiveScan) → live_at m q ≡ o → option_map (scan_is F new) o ≡ option_map (scan_is F old) o
       go q None e = refl
       go q (Some s) e = ap (λ (k : Option T). Some (record (scan_is F old s) { kinds = kinds_held F k })) (same s.table (none q s e))
 
-  pub coming_same : (old new : List (Option T)) (m : BTreeMap ℕ LiveScan) (at q : ℕ) → Others old new at → Unscanned m at → scan_rows F new (tree.get nat_cmp m q) ≡ scan_rows F old (tree.get nat_cmp m q)
-  coming_same old new m at q same none = go (tree.get nat_cmp m q) refl
+  pub coming_same : (old new : List (Option T)) (m : List (ℕ × LiveScan)) (at q : ℕ) → Others old new at → Unscanned m at → scan_rows F new (live_at m q) ≡ scan_rows F old (live_at m q)
+  coming_same old new m at q same none = go (live_at m q) refl
     where
-      go : (o : Option LiveScan) → tree.get nat_cmp m q ≡ o → scan_rows F new o ≡ scan_rows F old o
+      go : (o : Option LiveScan) → live_at m q ≡ o → scan_rows F new o ≡ scan_rows F old o
       go None e = refl
       go (Some s) e = ap (λ (k : Option T). rows_to_come F k (spec_of s.spec) (map datum s.params.items) s.at) (same s.table (none q s e))
 
   -- a scan of a bound table is not of a free one
-  pub unscanned_free : (tables : List (Option T)) (m : BTreeMap ℕ LiveScan) (at : ℕ) → ScansFit F tables m → table_at tables at ≡ None → Unscanned m at
+  pub unscanned_free : (tables : List (Option T)) (m : List (ℕ × LiveScan)) (at : ℕ) → ScansFit F tables m → table_at tables at ≡ None → Unscanned m at
   unscanned_free tables m at fit free q s e same = none_is (table_at tables at) free (subst (λ (t : ℕ). IsSome (table_at tables t)) same (fit q s e).0)
 
-  pub unscanned_by : (shelf : Shelf) (tables : List (Option T)) (m : BTreeMap ℕ LiveScan) (staged : Option StagedWrite) (next pulled : ℕ) (at : ℕ) → NoScan (place_state F shelf tables m staged next pulled) at → Unscanned m at
+  pub unscanned_by : (shelf : Shelf) (tables : List (Option T)) (m : List (ℕ × LiveScan)) (staged : Option StagedWrite) (next pulled : ℕ) (at : ℕ) → NoScan (place_state F shelf tables m staged next pulled) at → Unscanned m at
   unscanned_by shelf tables m staged next pulled at none q s e = none q (scan_is F tables s) (mapped_get (scan_is F tables) m q ∙ ap (option_map (scan_is F tables)) e)
 
-  pub stay_fitting : (old new : List (Option T)) (m : BTreeMap ℕ LiveScan) (at : ℕ) → Others old new at → Unscanned m at → ScansFit F old m → ScansFit F new m
+  pub stay_fitting : (old new : List (Option T)) (m : List (ℕ × LiveScan)) (at : ℕ) → Others old new at → Unscanned m at → ScansFit F old m → ScansFit F new m
   stay_fitting old new m at same none fit q s e = subst (λ (o : Option T). ScanFits F o s) (sym (same s.table (none q s e))) (fit q s e)
 
-  pub same_tables_fitting : (old new : List (Option T)) (m : BTreeMap ℕ LiveScan) → SameTables old new → ScansFit F old m → ScansFit F new m
+  pub same_tables_fitting : (old new : List (Option T)) (m : List (ℕ × LiveScan)) → SameTables old new → ScansFit F old m → ScansFit F new m
   same_tables_fitting old new m same fit q s e = subst (λ (o : Option T). ScanFits F o s) (sym (same s.table)) (fit q s e)
 
   -- the write under way, where its table stays
@@ -141,14 +139,14 @@ module _ {T : Type 0} (F : Form T) where
       split (inr s) = rw (s.0, same q s.1) refl
 
   -- the ledger after one place changes
-  pub ledger_set : (shelf : Shelf) (old new : List (Option T)) (m : BTreeMap ℕ LiveScan) (staged : Option StagedWrite) (next pulled : ℕ) (at : ℕ) (x : Option T) → table_at new at ≡ x → Others old new at → Unscanned m at
+  pub ledger_set : (shelf : Shelf) (old new : List (Option T)) (m : List (ℕ × LiveScan)) (staged : Option StagedWrite) (next pulled : ℕ) (at : ℕ) (x : Option T) → table_at new at ≡ x → Others old new at → Unscanned m at
       → place_ledger F shelf new m staged next pulled ≡ record (place_ledger F shelf old m staged next pulled) { tables = set_at (place_ledger F shelf old m staged next pulled).tables at (option_map F.bound x) }
   ledger_set shelf old new m staged next pulled at x there same none =
       ap (λ (f : ℕ → Option BoxTable). record (place_ledger F shelf new m staged next pulled) { tables = f }) (λ i q. bounds old new at x there same q i)
       ∙ ap (λ (l : finmap.FinMap nat_cmp Scan). record (place_ledger F shelf old m staged next pulled) { tables = set_at (place_ledger F shelf old m staged next pulled).tables at (option_map F.bound x); live = l }) (live_same old new m at same none)
 
   -- the ledger, where a table gets other rows
-  pub ledger_kept : (shelf : Shelf) (old new : List (Option T)) (m : BTreeMap ℕ LiveScan) (staged : Option StagedWrite) (next pulled : ℕ) (at : ℕ) (x y : T) → table_at old at ≡ Some x → table_at new at ≡ Some y → F.bound y ≡ F.bound x → Others old new at → Unscanned m at → place_ledger F shelf new m staged next pulled ≡ place_ledger F shelf old m staged next pulled
+  pub ledger_kept : (shelf : Shelf) (old new : List (Option T)) (m : List (ℕ × LiveScan)) (staged : Option StagedWrite) (next pulled : ℕ) (at : ℕ) (x y : T) → table_at old at ≡ Some x → table_at new at ≡ Some y → F.bound y ≡ F.bound x → Others old new at → Unscanned m at → place_ledger F shelf new m staged next pulled ≡ place_ledger F shelf old m staged next pulled
   ledger_kept shelf old new m staged next pulled at x y was there equal same none =
       ap (λ (f : ℕ → Option BoxTable). record (place_ledger F shelf new m staged next pulled) { tables = f }) (λ i q. split q (eqb_tells q at) i)
       ∙ ap (λ (l : finmap.FinMap nat_cmp Scan). record (place_ledger F shelf old m staged next pulled) { live = l }) (live_same old new m at same none)
@@ -157,22 +155,22 @@ module _ {T : Type 0} (F : Form T) where
       split q (inl s) = rw (s.1, there, was) (ap Some equal)
       split q (inr s) = ap (option_map F.bound) (same q s.1)
 
-  pub ledger_same : (shelf : Shelf) (old new : List (Option T)) (m : BTreeMap ℕ LiveScan) (staged : Option StagedWrite) (next pulled : ℕ) → SameTables old new → place_ledger F shelf new m staged next pulled ≡ place_ledger F shelf old m staged next pulled
+  pub ledger_same : (shelf : Shelf) (old new : List (Option T)) (m : List (ℕ × LiveScan)) (staged : Option StagedWrite) (next pulled : ℕ) → SameTables old new → place_ledger F shelf new m staged next pulled ≡ place_ledger F shelf old m staged next pulled
   ledger_same shelf old new m staged next pulled same =
       ap (λ (f : ℕ → Option BoxTable). record (place_ledger F shelf new m staged next pulled) { tables = f }) (λ i q. ap (option_map F.bound) (same q) i)
-      ∙ ap (λ (f : LiveScan → Scan). record (place_ledger F shelf old m staged next pulled) { live = mapped f m.entries }) (λ i s. ap (λ (k : Option T). record (scan_is F old s) { kinds = kinds_held F k }) (same s.table) i)
+      ∙ ap (λ (f : LiveScan → Scan). record (place_ledger F shelf old m staged next pulled) { live = mapped f m }) (λ i s. ap (λ (k : Option T). record (scan_is F old s) { kinds = kinds_held F k }) (same s.table) i)
 
   pub bound_there : (o : Option T) → IsSome (option_map F.bound o) → (x : T) × (o ≡ Some x)
   bound_there None e = absurd cc
   bound_there (Some x) e = (x, refl)
 
   -- a bound table allows every scan
-  pub place_allows : (shelf : Shelf) (tables : List (Option T)) (m : BTreeMap ℕ LiveScan) (staged : Option StagedWrite) (next pulled : ℕ) (t : ℕ) (spec : Spec) → IsSome (table_of (place_state F shelf tables m staged next pulled) t) → Allows (place_state F shelf tables m staged next pulled) t spec
+  pub place_allows : (shelf : Shelf) (tables : List (Option T)) (m : List (ℕ × LiveScan)) (staged : Option StagedWrite) (next pulled : ℕ) (t : ℕ) (spec : Spec) → IsSome (table_of (place_state F shelf tables m staged next pulled) t) → Allows (place_state F shelf tables m staged next pulled) t spec
   place_allows shelf tables m staged next pulled t spec e =
       let w = bound_there (table_at tables t) e in
       record { bound = F.bound w.0; is = ap (option_map F.bound) w.1; allowed = F.allows w.0 spec }
 
-  pub place_unbinds : (shelf : Shelf) (old new : List (Option T)) (m : BTreeMap ℕ LiveScan) (staged : Option StagedWrite) (next pulled : ℕ) (t : ℕ) → table_at new t ≡ None → Others old new t → CanUnbind (place_state F shelf old m staged next pulled) t → Unbinds (place_state F shelf old m staged next pulled) t (place_state F shelf new m staged next pulled)
+  pub place_unbinds : (shelf : Shelf) (old new : List (Option T)) (m : List (ℕ × LiveScan)) (staged : Option StagedWrite) (next pulled : ℕ) (t : ℕ) → table_at new t ≡ None → Others old new t → CanUnbind (place_state F shelf old m staged next pulled) t → Unbinds (place_state F shelf old m staged next pulled) t (place_state F shelf new m staged next pulled)
   place_unbinds shelf old new m staged next pulled t gone same can =
       let unscanned = unscanned_by shelf old m staged next pulled t can.no_scan in
       record {

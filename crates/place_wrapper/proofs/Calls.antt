@@ -2,8 +2,7 @@
 use Rattle.std.proofs.Common.{◌≡◌, ◌≢◌, ℕ, ◌+◌, ◌-◌, ◌^◌, ◌<◌, ◌≤◌, ◌⊎◌, Bool, true, false, cond, not, ◌&&◌, List, [], ◌∷◌, Option, Some, None, Result, Ok, Err, Vec, Global, IsSome, IfOk, IfErr, map, drop, filter, option_map, zero, suc, refl, ap, sym, ◌∙◌, subst, arith, eqb, inl, inr}
 use Rattle.std.specs.Ordering.{nat_cmp}
 use Rattle.std.specs.List.{list_all}
-use Rattle.std.specs.BTreeMap as tree
-use Rattle.std.specs.BTreeMap.{BTreeMap, is_at}
+use Rattle.std.specs.BTreeMap.{is_at}
 use Rattle.std.specs.Map.{lookup}
 use Rattle.std.specs.FinMap as finmap
 use Rattle.std.proofs.lemmas.Bool.Decides.{eqb_tells}
@@ -21,7 +20,7 @@ use Rattle.fdw_api.specs.declared.interface.Fault.TheVariants.{NoMemory}
 use Rattle.fdw_api.specs.declared.interface.SourceRow.{SourceRow}
 use Rattle.blob_store.specs.Shelves.{Shelf}
 use Rattle.staged_changes.specs.declared.changes.StagedWrite.{StagedWrite}
-use Rattle.place_wrapper.specs.Mapped.{mapped}
+use Rattle.place_wrapper.specs.Mapped.{mapped, live_at, Updates}
 use Rattle.place_wrapper.proofs.Maps.{mapped_get, mapped_insert, mapped_put_back, mapped_remove, apart}
 use Rattle.place_index.specs.declared.index.PlaceIndex.{PlaceIndex}
 use Rattle.place_index.specs.Scans.{Serves, Stands}
@@ -59,26 +58,26 @@ rest_fit kinds (suc at) [] e = refl
 rest_fit kinds (suc at) (r ∷ rows) e = rest_fit kinds at rows (both (row_fits kinds r.cells) _ e).1
 
 -- no ticket from this number on is live
-abbrev pub Fresh : BTreeMap ℕ LiveScan → ℕ → Type 0
-Fresh m next = (k : ℕ) → next ≤ k → tree.get nat_cmp m k ≡ None
+abbrev pub Fresh : List (ℕ × LiveScan) → ℕ → Type 0
+Fresh m next = (k : ℕ) → next ≤ k → live_at m k ≡ None
 
 -- a change of a live scan makes no new number
-pub keeps_fresh : (m n : BTreeMap ℕ LiveScan) (number next : ℕ) (w : Option LiveScan) → Fresh m next → IsSome (tree.get nat_cmp m number) → tree.UpdatesBy nat_cmp (nat_cmp number) m n w → Fresh n next
+pub keeps_fresh : (m n : List (ℕ × LiveScan)) (number next : ℕ) (w : Option LiveScan) → Fresh m next → IsSome (live_at m number) → Updates m n number w → Fresh n next
 keeps_fresh m n number next w fresh is u k le = split (eqb_tells k number)
   where
-    split : ((eqb k number ≡ true) × (k ≡ number)) ⊎ ((eqb k number ≡ false) × (k ≢ number)) → tree.get nat_cmp n k ≡ None
-    split (inl s) = absurd (none_is _ (fresh k le) (subst (λ (q : ℕ). IsSome (tree.get nat_cmp m q)) (sym s.1) is))
-    split (inr s) = u.2 k (apart number k s.1) ∙ fresh k le
+    split : ((eqb k number ≡ true) × (k ≡ number)) ⊎ ((eqb k number ≡ false) × (k ≢ number)) → live_at n k ≡ None
+    split (inl s) = absurd (none_is _ (fresh k le) (subst (λ (q : ℕ). IsSome (live_at m q)) (sym s.1) is))
+    split (inr s) = u.others k (apart number k s.1) ∙ fresh k le
 
-pub drops_fresh : (m n : BTreeMap ℕ LiveScan) (number next : ℕ) → Fresh m next → tree.UpdatesBy nat_cmp (nat_cmp number) m n None → Fresh n next
+pub drops_fresh : (m n : List (ℕ × LiveScan)) (number next : ℕ) → Fresh m next → Updates m n number None → Fresh n next
 drops_fresh m n number next fresh u k le = split (eqb_tells k number)
   where
-    split : ((eqb k number ≡ true) × (k ≡ number)) ⊎ ((eqb k number ≡ false) × (k ≢ number)) → tree.get nat_cmp n k ≡ None
-    split (inl w) = rw w.1 u.1
-    split (inr w) = u.2 k (apart number k w.1) ∙ fresh k le
+    split : ((eqb k number ≡ true) × (k ≡ number)) ⊎ ((eqb k number ≡ false) × (k ≢ number)) → live_at n k ≡ None
+    split (inl w) = rw w.1 u.there
+    split (inr w) = u.others k (apart number k w.1) ∙ fresh k le
 
-pub begins_fresh : (m n : BTreeMap ℕ LiveScan) (next : ℕ) (t : LiveScan) → Fresh m next → tree.Updates nat_cmp m n next (Some t) → Fresh n (next + 1)
-begins_fresh m n next t fresh u k le = u.2 k (apart next k (λ e. absurd (omega arith))) ∙ fresh k (omega arith)
+pub begins_fresh : (m n : List (ℕ × LiveScan)) (next : ℕ) (t : LiveScan) → Fresh m next → Updates m n next (Some t) → Fresh n (next + 1)
+begins_fresh m n next t fresh u k le = u.others k (apart next k (λ e. absurd (omega arith))) ∙ fresh k (omega arith)
 
 module _ {T : Type 0} (F : Form T) where
   -- what a scan that begins has still to give it may give, where no order and no limit is promised
@@ -104,18 +103,18 @@ module _ {T : Type 0} (F : Form T) where
     is = ap (map (given_row spec)) (sym (all_first spec.limit unlimited (filter (F.takes t spec params) (F.rows t))));
   }
 
-  pub open_there : (shelf : Shelf) (tables : List (Option T)) (m : BTreeMap ℕ LiveScan) (staged : Option StagedWrite) (next pulled : ℕ) (n : ℕ) (scan : Scan) → scan_of (place_state F shelf tables m staged next pulled) n ≡ Some scan → IsSome (tree.get nat_cmp m n)
+  pub open_there : (shelf : Shelf) (tables : List (Option T)) (m : List (ℕ × LiveScan)) (staged : Option StagedWrite) (next pulled : ℕ) (n : ℕ) (scan : Scan) → scan_of (place_state F shelf tables m staged next pulled) n ≡ Some scan → IsSome (live_at m n)
   open_there shelf tables m staged next pulled n scan e = mapped_there (scan_is F tables) _ _ (sym (mapped_get (scan_is F tables) m n) ∙ e)
 
   -- a change of a scan leaves all scans fitting
-  pub keeps_fitting : (tables : List (Option T)) (m n : BTreeMap ℕ LiveScan) (number : ℕ) (w : LiveScan) → ScansFit F tables m → ScanFits F (table_at tables w.table) w → tree.UpdatesBy nat_cmp (nat_cmp number) m n (Some w) → ScansFit F tables n
+  pub keeps_fitting : (tables : List (Option T)) (m n : List (ℕ × LiveScan)) (number : ℕ) (w : LiveScan) → ScansFit F tables m → ScanFits F (table_at tables w.table) w → Updates m n number (Some w) → ScansFit F tables n
   keeps_fitting tables m n number w old is u q s e = split (eqb_tells q number)
     where
       split : ((eqb q number ≡ true) × (q ≡ number)) ⊎ ((eqb q number ≡ false) × (q ≢ number)) → ScanFits F (table_at tables s.table) s
-      split (inl p) = subst (λ (z : LiveScan). ScanFits F (table_at tables z.table) z) (some_inj w s (sym u.1 ∙ ap (tree.get nat_cmp n) (sym p.1) ∙ e)) is
-      split (inr p) = old q s (sym (u.2 q (apart number q p.1)) ∙ e)
+      split (inl p) = subst (λ (z : LiveScan). ScanFits F (table_at tables z.table) z) (some_inj w s (sym u.there ∙ ap (live_at n) (sym p.1) ∙ e)) is
+      split (inr p) = old q s (sym (u.others q (apart number q p.1)) ∙ e)
 
-  pub ends_fitting : (tables : List (Option T)) (m n : BTreeMap ℕ LiveScan) (number : ℕ) → ScansFit F tables m → tree.UpdatesBy nat_cmp (nat_cmp number) m n None → ScansFit F tables n
+  pub ends_fitting : (tables : List (Option T)) (m n : List (ℕ × LiveScan)) (number : ℕ) → ScansFit F tables m → Updates m n number None → ScansFit F tables n
   ends_fitting tables m n number old u q s e = split (eqb_tells q number)
     where
       neither : (o : Option LiveScan) → o ≡ None → o ≡ Some s → ⊥
@@ -123,8 +122,8 @@ module _ {T : Type 0} (F : Form T) where
       neither (Some x) a b = cc
 
       split : ((eqb q number ≡ true) × (q ≡ number)) ⊎ ((eqb q number ≡ false) × (q ≢ number)) → ScanFits F (table_at tables s.table) s
-      split (inl p) = absurd (neither (tree.get nat_cmp n number) u.1 (ap (tree.get nat_cmp n) (sym p.1) ∙ e))
-      split (inr p) = old q s (sym (u.2 q (apart number q p.1)) ∙ e)
+      split (inl p) = absurd (neither (live_at n number) u.there (ap (live_at n) (sym p.1) ∙ e))
+      split (inr p) = old q s (sym (u.others q (apart number q p.1)) ∙ e)
 
   -- a scan that is begun again stands at the beginning, with its own index or a new one
   pub starts_fitting : (tables : List (Option T)) (s : LiveScan) (params : Tuple) (index : Option PlaceIndex) → ScanFits F (table_at tables s.table) s
@@ -138,9 +137,9 @@ module _ {T : Type 0} (F : Form T) where
       serves (Some x) new = new
 
   -- only this ticket changes
-  others : (shelf : Shelf) (tables : List (Option T)) (m n : BTreeMap ℕ LiveScan) (staged : Option StagedWrite) (number next pulled next_after pulled_after : ℕ) (w : Option LiveScan) → tree.UpdatesBy nat_cmp (nat_cmp number) m n w → LeavesOthers number (place_state F shelf tables m staged next pulled) (place_state F shelf tables n staged next_after pulled_after)
+  others : (shelf : Shelf) (tables : List (Option T)) (m n : List (ℕ × LiveScan)) (staged : Option StagedWrite) (number next pulled next_after pulled_after : ℕ) (w : Option LiveScan) → Updates m n number w → LeavesOthers number (place_state F shelf tables m staged next pulled) (place_state F shelf tables n staged next_after pulled_after)
   others shelf tables m n staged number next pulled next_after pulled_after w u = record {
-    coming = λ q live other. ap (scan_rows F tables) (u.2 q (apart number q other));
+    coming = λ q live other. ap (scan_rows F tables) (u.others q (apart number q other));
     rows = λ t other. refl;
     holdings = λ r other. refl;
   }
@@ -149,10 +148,10 @@ module _ {T : Type 0} (F : Form T) where
   kinds_bound None b e = absurd cc
   kinds_bound (Some x) b e = ap (λ (z : BoxTable). z.kinds) (some_inj (F.bound x) b e)
 
-  pub place_begins : (shelf : Shelf) (tables : List (Option T)) (m n : BTreeMap ℕ LiveScan) (staged : Option StagedWrite) (t next pulled : ℕ) (spec : Spec) (params : Tuple) (s : LiveScan) (b : BoxTable) → option_map F.bound (table_at tables t) ≡ Some b → tree.get nat_cmp m next ≡ None → next < 2 ^ 64 - 1 → tree.Updates nat_cmp m n next (Some s) → s.table ≡ t → spec_of s.spec ≡ spec → map datum s.params.items ≡ params → s.at ≡ 0 → s.broken ≡ false
+  pub place_begins : (shelf : Shelf) (tables : List (Option T)) (m n : List (ℕ × LiveScan)) (staged : Option StagedWrite) (t next pulled : ℕ) (spec : Spec) (params : Tuple) (s : LiveScan) (b : BoxTable) → option_map F.bound (table_at tables t) ≡ Some b → live_at m next ≡ None → next < 2 ^ 64 - 1 → Updates m n next (Some s) → s.table ≡ t → spec_of s.spec ≡ spec → map datum s.params.items ≡ params → s.at ≡ 0 → s.broken ≡ false
       → Begins (place_state F shelf tables m staged next pulled) t spec params next (place_state F shelf tables n staged (next + 1) pulled)
   place_begins shelf tables m n staged t next pulled spec params s b is_bound fresh room u et es ep ea eb =
-      let coming : scan_rows F tables (tree.get nat_cmp n next) ≡ rows_to_come F (table_at tables t) spec params 0 = ap (scan_rows F tables) u.1 ∙ rw (es, ep, ea, et) refl in
+      let coming : scan_rows F tables (live_at n next) ≡ rows_to_come F (table_at tables t) spec params 0 = ap (scan_rows F tables) u.there ∙ rw (es, ep, ea, et) refl in
       record {
         nature = refl;
         is_next = refl;
@@ -164,8 +163,8 @@ module _ {T : Type 0} (F : Form T) where
         few = omega arith;
         ledger =
             ap (λ (l : finmap.FinMap nat_cmp Scan). record (place_state F shelf tables n staged (next + 1) pulled).ledger { live = l })
-            (mapped_insert (scan_is F tables) m n next s u ∙ ap (finmap.insert (mapped (scan_is F tables) m.entries) next) (scan_same s t spec params et es ep eb)
-            ∙ ap (λ (k : List ColType). finmap.insert (mapped (scan_is F tables) m.entries) next (new_scan t k spec params (2 ^ 64 - s.at))) (kinds_bound (table_at tables t) b is_bound));
+            (mapped_insert (scan_is F tables) m n next s u ∙ ap (finmap.insert (mapped (scan_is F tables) m) next) (scan_same s t spec params et es ep eb)
+            ∙ ap (λ (k : List ColType). finmap.insert (mapped (scan_is F tables) m) next (new_scan t k spec params (2 ^ 64 - s.at))) (kinds_bound (table_at tables t) b is_bound));
         coming = λ honest. subst (λ (l : List GivenRow). IsComing (rows_held F (table_at tables t)) spec params l) (sym coming) (taken_comes (table_at tables t) spec params (sym (ap (λ (z : Spec). z.order) es)) (sym (ap (λ (z : Spec). z.limit) es)));
         leaves = λ honest. others shelf tables m n staged next next pulled (next + 1) pulled (Some s) u;
       }
@@ -183,8 +182,8 @@ module _ {T : Type 0} (F : Form T) where
       (both (shown_fits (F.bound t).kinds spec row.cells) _ (subst (λ (l : List GivenRow). list_all (λ r. shown_fits (F.bound t).kinds spec r.cells) l ≡ true) e
       (shown_typed (F.bound t).kinds spec (F.takes t spec params) (drop at (F.rows t)) shows (rest_fit (F.bound t).kinds at (F.rows t) (F.typed t))))).0
 
-  pub place_gives : (shelf : Shelf) (tables : List (Option T)) (m n : BTreeMap ℕ LiveScan) (staged : Option StagedWrite) (next pulled number : ℕ) (s : LiveScan) (row : SourceRow) → ShowsTyped → tree.get nat_cmp m number ≡ Some s
-      → NextIs F (table_at tables s.table) (spec_of s.spec) (map datum s.params.items) s.at (Some row) → tree.Updates nat_cmp m n number (Some (record s { at = row.id.number + 1 }))
+  pub place_gives : (shelf : Shelf) (tables : List (Option T)) (m n : List (ℕ × LiveScan)) (staged : Option StagedWrite) (next pulled number : ℕ) (s : LiveScan) (row : SourceRow) → ShowsTyped → live_at m number ≡ Some s
+      → NextIs F (table_at tables s.table) (spec_of s.spec) (map datum s.params.items) s.at (Some row) → Updates m n number (Some (record s { at = row.id.number + 1 }))
       → GivesRow (place_state F shelf tables m staged next pulled) number (row_of row) (place_state F shelf tables n staged next (bumped pulled))
   place_gives shelf tables m n staged next pulled number s row shows is next_is u =
       record {
@@ -197,21 +196,21 @@ module _ {T : Type 0} (F : Form T) where
         ledger =
             ap (λ (l : finmap.FinMap nat_cmp Scan). record (place_state F shelf tables m staged next (bumped pulled)).ledger { live = l })
             (mapped_insert (scan_is F tables) m n number _ u);
-        coming = λ honest. ap (scan_rows F tables) is ∙ next_is.2 ∙ ap (λ (l : List GivenRow). row_of row ∷ l) (sym (ap (scan_rows F tables) u.1));
+        coming = λ honest. ap (scan_rows F tables) is ∙ next_is.2 ∙ ap (λ (l : List GivenRow). row_of row ∷ l) (sym (ap (scan_rows F tables) u.there));
         leaves = λ honest. others shelf tables m n staged number next pulled next (bumped pulled) _ u;
       }
 
-  pub place_gives_none : (shelf : Shelf) (tables : List (Option T)) (m n : BTreeMap ℕ LiveScan) (staged : Option StagedWrite) (next pulled : ℕ) (number : ℕ) (s : LiveScan) → tree.get nat_cmp m number ≡ Some s
-      → NextIs F (table_at tables s.table) (spec_of s.spec) (map datum s.params.items) s.at None → tree.Updates nat_cmp m n number (Some s) → GivesNone (place_state F shelf tables m staged next pulled) number (place_state F shelf tables n staged next pulled)
+  pub place_gives_none : (shelf : Shelf) (tables : List (Option T)) (m n : List (ℕ × LiveScan)) (staged : Option StagedWrite) (next pulled : ℕ) (number : ℕ) (s : LiveScan) → live_at m number ≡ Some s
+      → NextIs F (table_at tables s.table) (spec_of s.spec) (map datum s.params.items) s.at None → Updates m n number (Some s) → GivesNone (place_state F shelf tables m staged next pulled) number (place_state F shelf tables n staged next pulled)
   place_gives_none shelf tables m n staged next pulled number s is next_is u = record {
     nature = refl;
     ledger = ap (λ (l : finmap.FinMap nat_cmp Scan). record (place_state F shelf tables m staged next pulled).ledger { live = l }) (mapped_put_back (scan_is F tables) m n number s is u);
     coming = λ honest. ap (scan_rows F tables) is ∙ next_is;
-    still = λ honest. ap (scan_rows F tables) u.1 ∙ next_is;
+    still = λ honest. ap (scan_rows F tables) u.there ∙ next_is;
     leaves = λ honest. others shelf tables m n staged number next pulled next pulled (Some s) u;
   }
 
-  pub place_breaks : (shelf : Shelf) (tables : List (Option T)) (m n : BTreeMap ℕ LiveScan) (staged : Option StagedWrite) (next pulled : ℕ) (number : ℕ) (s : LiveScan) → tree.get nat_cmp m number ≡ Some s → tree.Updates nat_cmp m n number (Some (record s { broken = true })) → Breaks (place_state F shelf tables m staged next pulled) number NoMemory (place_state F shelf tables n staged next pulled)
+  pub place_breaks : (shelf : Shelf) (tables : List (Option T)) (m n : List (ℕ × LiveScan)) (staged : Option StagedWrite) (next pulled : ℕ) (number : ℕ) (s : LiveScan) → live_at m number ≡ Some s → Updates m n number (Some (record s { broken = true })) → Breaks (place_state F shelf tables m staged next pulled) number NoMemory (place_state F shelf tables n staged next pulled)
   place_breaks shelf tables m n staged next pulled number s is u = record {
     nature = refl;
     no_cause = tt;
@@ -222,30 +221,30 @@ module _ {T : Type 0} (F : Form T) where
   }
 
   -- the next row of a scan is given or none, and counted
-  pub place_iterates : (shelf : Shelf) (tables : List (Option T)) (m n : BTreeMap ℕ LiveScan) (staged : Option StagedWrite) (next pulled after number : ℕ) (s t : LiveScan) (r : Result (Option SourceRow) Fault) → ShowsTyped → tree.get nat_cmp m number ≡ Some s
-      → Pulls F (table_at tables s.table) s r t → tree.Updates nat_cmp m n number (Some t) → after ≡ pulled_after r pulled
+  pub place_iterates : (shelf : Shelf) (tables : List (Option T)) (m n : List (ℕ × LiveScan)) (staged : Option StagedWrite) (next pulled after number : ℕ) (s t : LiveScan) (r : Result (Option SourceRow) Fault) → ShowsTyped → live_at m number ≡ Some s
+      → Pulls F (table_at tables s.table) s r t → Updates m n number (Some t) → after ≡ pulled_after r pulled
       → IfOk r (λ row. Iterates (place_state F shelf tables m staged next pulled) number row (place_state F shelf tables n staged next after))
   place_iterates shelf tables m n staged next pulled after number s t (Ok (Some row)) shows is p u e =
       subst (λ (k : ℕ). GivesRow (place_state F shelf tables m staged next pulled) number (row_of row) (place_state F shelf tables n staged next k)) (sym e)
-      (place_gives shelf tables m n staged next pulled number s row shows is p.0 (subst (λ (z : LiveScan). tree.Updates nat_cmp m n number (Some z)) p.2 u))
+      (place_gives shelf tables m n staged next pulled number s row shows is p.0 (subst (λ (z : LiveScan). Updates m n number (Some z)) p.2 u))
   place_iterates shelf tables m n staged next pulled after number s t (Ok None) shows is p u e =
       subst (λ (k : ℕ). GivesNone (place_state F shelf tables m staged next pulled) number (place_state F shelf tables n staged next k)) (sym e)
-      (place_gives_none shelf tables m n staged next pulled number s is p.0 (subst (λ (z : LiveScan). tree.Updates nat_cmp m n number (Some z)) p.1 u))
+      (place_gives_none shelf tables m n staged next pulled number s is p.0 (subst (λ (z : LiveScan). Updates m n number (Some z)) p.1 u))
   place_iterates shelf tables m n staged next pulled after number s t (Err fault) shows is p u e = tt
 
   -- or memory is wanting, and the scan is broken
-  pub place_fails : (shelf : Shelf) (tables : List (Option T)) (m n : BTreeMap ℕ LiveScan) (staged : Option StagedWrite) (next pulled after number : ℕ) (s t : LiveScan) (r : Result (Option SourceRow) Fault) → tree.get nat_cmp m number ≡ Some s
-      → Pulls F (table_at tables s.table) s r t → tree.Updates nat_cmp m n number (Some t) → after ≡ pulled_after r pulled → IfErr r (λ fault. fault ≡ NoMemory)
+  pub place_fails : (shelf : Shelf) (tables : List (Option T)) (m n : List (ℕ × LiveScan)) (staged : Option StagedWrite) (next pulled after number : ℕ) (s t : LiveScan) (r : Result (Option SourceRow) Fault) → live_at m number ≡ Some s
+      → Pulls F (table_at tables s.table) s r t → Updates m n number (Some t) → after ≡ pulled_after r pulled → IfErr r (λ fault. fault ≡ NoMemory)
       → IfErr r (λ fault. Breaks (place_state F shelf tables m staged next pulled) number fault (place_state F shelf tables n staged next after))
   place_fails shelf tables m n staged next pulled after number s t (Ok row) is p u e wanting = tt
   place_fails shelf tables m n staged next pulled after number s t (Err fault) is p u e wanting =
       subst (λ (k : ℕ). Breaks (place_state F shelf tables m staged next pulled) number fault (place_state F shelf tables n staged next k)) (sym e)
       (subst (λ (f : Fault). Breaks (place_state F shelf tables m staged next pulled) number f (place_state F shelf tables n staged next pulled)) (sym wanting)
-      (place_breaks shelf tables m n staged next pulled number s is (subst (λ (z : LiveScan). tree.Updates nat_cmp m n number (Some z)) p u)))
+      (place_breaks shelf tables m n staged next pulled number s is (subst (λ (z : LiveScan). Updates m n number (Some z)) p u)))
 
-  pub place_rescans : (shelf : Shelf) (tables : List (Option T)) (m n : BTreeMap ℕ LiveScan) (staged : Option StagedWrite) (next pulled : ℕ) (number : ℕ) (params : Tuple) (s t : LiveScan) → tree.get nat_cmp m number ≡ Some s → s.broken ≡ false → tree.Updates nat_cmp m n number (Some t) → t.table ≡ s.table → spec_of t.spec ≡ spec_of s.spec → map datum t.params.items ≡ params → t.at ≡ 0 → t.broken ≡ s.broken → Rescans (place_state F shelf tables m staged next pulled) number params (place_state F shelf tables n staged next pulled)
+  pub place_rescans : (shelf : Shelf) (tables : List (Option T)) (m n : List (ℕ × LiveScan)) (staged : Option StagedWrite) (next pulled : ℕ) (number : ℕ) (params : Tuple) (s t : LiveScan) → live_at m number ≡ Some s → s.broken ≡ false → Updates m n number (Some t) → t.table ≡ s.table → spec_of t.spec ≡ spec_of s.spec → map datum t.params.items ≡ params → t.at ≡ 0 → t.broken ≡ s.broken → Rescans (place_state F shelf tables m staged next pulled) number params (place_state F shelf tables n staged next pulled)
   place_rescans shelf tables m n staged next pulled number params s t is whole u et es ep ea eb =
-      let coming : scan_rows F tables (tree.get nat_cmp n number) ≡ rows_to_come F (table_at tables s.table) (spec_of s.spec) params 0 = ap (scan_rows F tables) u.1 ∙ rw (es, ep, ea, et) refl in
+      let coming : scan_rows F tables (live_at n number) ≡ rows_to_come F (table_at tables s.table) (spec_of s.spec) params 0 = ap (scan_rows F tables) u.there ∙ rw (es, ep, ea, et) refl in
       record {
         nature = refl;
         scan = scan_is F tables s;
@@ -254,7 +253,7 @@ module _ {T : Type 0} (F : Form T) where
         few = omega arith;
         ledger =
             ap (λ (l : finmap.FinMap nat_cmp Scan). record (place_state F shelf tables m staged next pulled).ledger { live = l })
-            (mapped_insert (scan_is F tables) m n number t u ∙ ap (finmap.insert (mapped (scan_is F tables) m.entries) number) (same s t et es ep (eb ∙ whole)));
+            (mapped_insert (scan_is F tables) m n number t u ∙ ap (finmap.insert (mapped (scan_is F tables) m) number) (same s t et es ep (eb ∙ whole)));
         coming = λ honest. subst (λ (l : List GivenRow). IsComing (rows_held F (table_at tables s.table)) (spec_of s.spec) params l) (sym coming) (taken_comes (table_at tables s.table) (spec_of s.spec) params refl refl);
         leaves = λ honest. others shelf tables m n staged number next pulled next pulled (Some t) u;
       }
@@ -262,7 +261,7 @@ module _ {T : Type 0} (F : Form T) where
       same : (s t : LiveScan) → t.table ≡ s.table → spec_of t.spec ≡ spec_of s.spec → map datum t.params.items ≡ params → t.broken ≡ false → scan_is F tables t ≡ new_scan s.table (kinds_held F (table_at tables s.table)) (spec_of s.spec) params (2 ^ 64 - t.at)
       same s t et es ep eb = rw (es, ep, et, eb) refl
 
-  pub place_ends : (shelf : Shelf) (tables : List (Option T)) (m n : BTreeMap ℕ LiveScan) (staged : Option StagedWrite) (next pulled : ℕ) (number : ℕ) → tree.UpdatesBy nat_cmp (nat_cmp number) m n None → Ends (place_state F shelf tables m staged next pulled) number (place_state F shelf tables n staged next pulled)
+  pub place_ends : (shelf : Shelf) (tables : List (Option T)) (m n : List (ℕ × LiveScan)) (staged : Option StagedWrite) (next pulled : ℕ) (number : ℕ) → Updates m n number None → Ends (place_state F shelf tables m staged next pulled) number (place_state F shelf tables n staged next pulled)
   place_ends shelf tables m n staged next pulled number u = record {
     nature = refl;
     ledger = ap (λ (l : finmap.FinMap nat_cmp Scan). record (place_state F shelf tables m staged next pulled).ledger { live = l }) (mapped_remove (scan_is F tables) m n number u);
@@ -270,7 +269,7 @@ module _ {T : Type 0} (F : Form T) where
   }
 
   -- a scan that is open is whole
-  pub is_whole : (shelf : Shelf) (tables : List (Option T)) (m : BTreeMap ℕ LiveScan) (staged : Option StagedWrite) (next pulled : ℕ) (n : ℕ) (s : LiveScan) (scan : Scan) → tree.get nat_cmp m n ≡ Some s → scan_of (place_state F shelf tables m staged next pulled) n ≡ Some scan → scan.broken ≡ false → s.broken ≡ false
+  pub is_whole : (shelf : Shelf) (tables : List (Option T)) (m : List (ℕ × LiveScan)) (staged : Option StagedWrite) (next pulled : ℕ) (n : ℕ) (s : LiveScan) (scan : Scan) → live_at m n ≡ Some s → scan_of (place_state F shelf tables m staged next pulled) n ≡ Some scan → scan.broken ≡ false → s.broken ≡ false
   is_whole shelf tables m staged next pulled n s scan is at whole =
       ap (λ (z : Scan). z.broken) (some_inj (scan_is F tables s) scan (sym (mapped_get (scan_is F tables) m n ∙ ap (option_map (scan_is F tables)) is) ∙ at)) ∙ whole
 
@@ -286,10 +285,10 @@ module _ {T : Type 0} (F : Form T) where
   restarts_fit tables params s t (Err e) f p = subst (λ (z : LiveScan). ScanFits F (table_at tables z.table) z) (sym p) f
 
   -- scans whose entries are the same
-  pub same_fitting : (tables : List (Option T)) (m n : BTreeMap ℕ LiveScan) → n.entries ≡ m.entries → ScansFit F tables m → ScansFit F tables n
+  pub same_fitting : (tables : List (Option T)) (m n : List (ℕ × LiveScan)) → n ≡ m → ScansFit F tables m → ScansFit F tables n
   same_fitting tables m n same old q s e = old q s (sym (ap (λ es. lookup (is_at (nat_cmp q)) es) same) ∙ e)
 
-  pub refused_begin : (shelf : Shelf) (tables : List (Option T)) (m n : BTreeMap ℕ LiveScan) (staged : Option StagedWrite) (next pulled : ℕ) → n.entries ≡ m.entries → RefusesBegin NoMemory (place_state F shelf tables m staged next pulled) (place_state F shelf tables n staged next pulled)
+  pub refused_begin : (shelf : Shelf) (tables : List (Option T)) (m n : List (ℕ × LiveScan)) (staged : Option StagedWrite) (next pulled : ℕ) → n ≡ m → RefusesBegin NoMemory (place_state F shelf tables m staged next pulled) (place_state F shelf tables n staged next pulled)
   refused_begin shelf tables m n staged next pulled same = record {
     refuses = record {
       nature = refl;
@@ -307,5 +306,5 @@ module _ {T : Type 0} (F : Form T) where
     cause = tt;
   }
 
-pub same_fresh : (m n : BTreeMap ℕ LiveScan) (next : ℕ) → n.entries ≡ m.entries → Fresh m next → Fresh n next
+pub same_fresh : (m n : List (ℕ × LiveScan)) (next : ℕ) → n ≡ m → Fresh m next → Fresh n next
 same_fresh m n next same fresh k le = ap (λ es. lookup (is_at (nat_cmp k)) es) same ∙ fresh k le

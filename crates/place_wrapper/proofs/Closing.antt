@@ -2,7 +2,6 @@
 use Rattle.std.proofs.Common.{◌≡◌, ◌≢◌, ℕ, Bool, true, if◌then◌else◌, List, [], Option, Some, None, map, option_map, Contains, refl, ap, sym, ◌∙◌, subst}
 use Rattle.std.specs.List.{IsDistinct}
 use Rattle.std.proofs.Common.{nat_eq}
-use Rattle.std.specs.BTreeMap.{BTreeMap}
 use Rattle.fdw_api.specs.Kinds.{Column, OptionForm, Entry, Bytes, Held, held, Holding, Known, Unknown, is_of_run}
 use Rattle.fdw_api.specs.Scan.{TableRow}
 use Rattle.fdw_api.specs.State.{BoxTable, Staging}
@@ -39,7 +38,7 @@ module _ {T : Type 0} (F : Form T) where
   held_once None = numbered_once 0 [] tt
   held_once (Some t) = numbered_once 0 (F.rows t) (F.numbered t)
 
-  pub place_binds : (shelf after : Shelf) (old new : List (Option T)) (m : BTreeMap ℕ LiveScan) (staged : Option StagedWrite) (next pulled : ℕ) (at : ℕ) (remote : List ℕ) (columns : List Column) (settings : List OptionForm) (content : List ℕ) (x : T)
+  pub place_binds : (shelf after : Shelf) (old new : List (Option T)) (m : List (ℕ × LiveScan)) (staged : Option StagedWrite) (next pulled : ℕ) (at : ℕ) (remote : List ℕ) (columns : List Column) (settings : List OptionForm) (content : List ℕ) (x : T)
       → after ≡ shelf → is_blob_name remote ≡ true → Finds (shelf.under remote) (Some content) → table_at old at ≡ None → table_at new at ≡ Some x → Others old new at → ScansFit F old m
       → ReadsAs F remote columns settings content x
       → Binds (place_state F shelf old m staged next pulled) remote columns settings at (place_state F after new m staged next pulled)
@@ -79,7 +78,7 @@ module _ {T : Type 0} (F : Form T) where
   entry_of x Unknown kept = let w = F.somewhere x in (w.0, tt, w.1)
 
   -- the write under way
-  pub staged_scans : (shelf : Shelf) (tables : List (Option T)) (m : BTreeMap ℕ LiveScan) (w : StagedWrite) (staged : Option StagedWrite) (keep : Bool) (next pulled : ℕ) → staged ≡ Some w → keep ≡ true → CanClose (place_state F shelf tables m staged next pulled) keep → NoScan (place_state F shelf tables m staged next pulled) w.table
+  pub staged_scans : (shelf : Shelf) (tables : List (Option T)) (m : List (ℕ × LiveScan)) (w : StagedWrite) (staged : Option StagedWrite) (keep : Bool) (next pulled : ℕ) → staged ≡ Some w → keep ≡ true → CanClose (place_state F shelf tables m staged next pulled) keep → NoScan (place_state F shelf tables m staged next pulled) w.table
   staged_scans shelf tables m w staged keep next pulled es k can =
       let same : can.staging ≡ write_is w = some_inj can.staging (write_is w) (sym can.is_staged ∙ ap (option_map write_is) es) in
       subst (λ (z : Staging). NoScan (place_state F shelf tables m staged next pulled) z.table) same (can.no_scan k)
@@ -93,7 +92,7 @@ module _ {T : Type 0} (F : Form T) where
       → ((e : Option Entry) → held_under shelf remote ≡ Known e → b.image e rows ≡ Some (Bytes image)) → HoldsImage b rows (held_under shelf remote) (held_under after remote)
   holds_under shelf after remote image rows b named e is = rw named (holds (shelf.under remote) (after.under remote) image rows b e (λ d known. is d (rw named known)))
 
-  place_closes : (shelf after : Shelf) (old new : List (Option T)) (m : BTreeMap ℕ LiveScan) (w : StagedWrite) (next pulled : ℕ) (x y : T) (image : List ℕ)
+  place_closes : (shelf after : Shelf) (old new : List (Option T)) (m : List (ℕ × LiveScan)) (w : StagedWrite) (next pulled : ℕ) (x y : T) (image : List ℕ)
       → table_at old w.table ≡ Some x → table_at new w.table ≡ Some y → Others old new w.table → NoScan (place_state F shelf old m (Some w) next pulled) w.table
       → Replaces shelf (F.bound x).remote image after → is_blob_name (F.bound x).remote ≡ true → Kept F shelf old
       → Rewrites F x (map change_is w.changes.items) y image
@@ -128,7 +127,7 @@ module _ {T : Type 0} (F : Form T) where
         };
       }
 
-  pub kept_closes : (shelf after : Shelf) (old new : List (Option T)) (m : BTreeMap ℕ LiveScan) (w : StagedWrite) (staged left : Option StagedWrite) (keep : Bool) (next pulled : ℕ) (x y : T) (image : List ℕ)
+  pub kept_closes : (shelf after : Shelf) (old new : List (Option T)) (m : List (ℕ × LiveScan)) (w : StagedWrite) (staged left : Option StagedWrite) (keep : Bool) (next pulled : ℕ) (x y : T) (image : List ℕ)
       → staged ≡ Some w → left ≡ None → keep ≡ true → CanClose (place_state F shelf old m staged next pulled) keep
       → table_at old w.table ≡ Some x → table_at new w.table ≡ Some y → Others old new w.table
       → Replaces shelf (F.bound x).remote image after → is_blob_name (F.bound x).remote ≡ true → Kept F shelf old
@@ -139,7 +138,7 @@ module _ {T : Type 0} (F : Form T) where
       rw (es, el, k) (place_closes shelf after old new m w next pulled x y image was there others scans replaced named kept made)
 
   -- the end of a write is refused before the blob is touched
-  refuses : (shelf : Shelf) (tables : List (Option T)) (m : BTreeMap ℕ LiveScan) (w : StagedWrite) (next pulled : ℕ) (x : T) (fault : Fault) → table_at tables w.table ≡ Some x → Kept F shelf tables
+  refuses : (shelf : Shelf) (tables : List (Option T)) (m : List (ℕ × LiveScan)) (w : StagedWrite) (next pulled : ℕ) (x : T) (fault : Fault) → table_at tables w.table ≡ Some x → Kept F shelf tables
       → RefusesChanges F x (map change_is w.changes.items) fault → RefusesClose (place_state F shelf tables m (Some w) next pulled) true fault (place_state F shelf tables m None next pulled)
   refuses shelf tables m w next pulled x NoMemory was kept why = record { kept = refl; nature = refl; staging = write_is w; is_staged = refl; ledger = refl; cause = tt; leaves = λ honest. record { coming = λ q l o. refl; rows = λ t o. refl; holdings = λ r o. refl } }
   refuses shelf tables m w next pulled x Source was kept why = absurd why
@@ -159,7 +158,7 @@ module _ {T : Type 0} (F : Form T) where
           subst (λ (z : BoxTable). (entry : Option Entry) × Picks (held_under shelf z.remote) entry × Contains (z.refuses.causes entry (rows_held F (table_at tables w.table)) (map change_is w.changes.items)) c) same
           (pick.0, pick.1, subst (λ (o : Option T). Contains ((F.bound x).refuses.causes pick.0 (rows_held F o) (map change_is w.changes.items)) c) (sym was) (why.1 pick.0 pick.2))
 
-  pub unmade_refuses : (shelf : Shelf) (tables : List (Option T)) (m : BTreeMap ℕ LiveScan) (w : StagedWrite) (staged left : Option StagedWrite) (keep : Bool) (next pulled : ℕ) (x : T) (fault : Fault)
+  pub unmade_refuses : (shelf : Shelf) (tables : List (Option T)) (m : List (ℕ × LiveScan)) (w : StagedWrite) (staged left : Option StagedWrite) (keep : Bool) (next pulled : ℕ) (x : T) (fault : Fault)
       → staged ≡ Some w → left ≡ None → keep ≡ true → table_at tables w.table ≡ Some x → Kept F shelf tables → RefusesChanges F x (map change_is w.changes.items) fault
       → RefusesClose (place_state F shelf tables m staged next pulled) keep fault (place_state F shelf tables m left next pulled)
   unmade_refuses shelf tables m w staged left keep next pulled x fault es el k was kept why = rw (es, el, k) (refuses shelf tables m w next pulled x fault was kept why)

@@ -1,4 +1,5 @@
 pub mod Maps
+pub mod Entries
 pub mod Options
 pub mod Rows
 pub mod Calls

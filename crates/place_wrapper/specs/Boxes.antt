@@ -2,9 +2,6 @@
 use Rattle.std.specs.Prelude.{◌≡◌, ◌<◌, ◌≤◌, ◌+◌, ◌-◌, ◌^◌, ◌&&◌, is_some, IsSome, ℕ, Bool, true, List, [], ◌∷◌, length, map, filter}
 use Rattle.std.specs.Prelude.{drop, Option, Some, None, slice_get, Result, Ok, Err, Vec}
 use Rattle.std.specs.Global.{Global}
-use Rattle.std.specs.Ordering.{nat_cmp}
-use Rattle.std.specs.BTreeMap as tree
-use Rattle.std.specs.BTreeMap.{BTreeMap}
 use Rattle.std.specs.List.{list_all}
 use Rattle.std.specs.Option.{option_flatten}
 use Rattle.med_value.specs.Datum.{Tuple, datum}
@@ -19,6 +16,7 @@ use Rattle.place_index.specs.declared.index.PlaceIndex.{PlaceIndex}
 use Rattle.place_index.specs.Scans.{Serves, Stands}
 use Rattle.place_wrapper.specs.declared.scans.LiveScan.{LiveScan}
 use Rattle.place_wrapper.specs.Forms.{Form}
+use Rattle.place_wrapper.specs.Mapped.{live_at}
 
 -- the table of a number, None where none is bound
 abbrev pub table_at : {T : Type 0} → List (Option T) → ℕ → Option T
@@ -85,8 +83,8 @@ ScanFits F o s =
     IsSome o × Serves (spec_of s.spec) (rows_held F o) s.index
     × Stands (spec_of s.spec) (map datum s.params.items) (rows_held F o) s.at s.index
 
-abbrev pub ScansFit : {T : Type 0} → Form T → List (Option T) → BTreeMap ℕ LiveScan → Type 0
-ScansFit F tables scans = (q : ℕ) (s : LiveScan) → tree.get nat_cmp scans q ≡ Some s → ScanFits F (table_at tables s.table) s
+abbrev pub ScansFit : {T : Type 0} → Form T → List (Option T) → List (ℕ × LiveScan) → Type 0
+ScansFit F tables scans = (q : ℕ) (s : LiveScan) → live_at scans q ≡ Some s → ScanFits F (table_at tables s.table) s
 
 -- a write under way is to a bound table, and its new rows are of the table's types
 abbrev pub write_fits : {T : Type 0} → Form T → List (Option T) → Option Staging → Bool

@@ -1,7 +1,6 @@
 //! Live scans, and the rows that they give.
-ghost use Rattle.std.specs.Prelude.{◌≡◌, ◌+◌, ◌<◌, true, map, length, option_map, IfOk, IfErr, IfSome, IsSome, Option, Some};
-ghost use Rattle.std.specs.Ordering.{nat_cmp};
-ghost use Rattle.std.specs.BTreeMap as tree;
+ghost use Rattle.std.specs.Prelude.{◌≡◌, ◌+◌, ◌<◌, ℕ, true, map, length, slice_get};
+ghost use Rattle.std.specs.Prelude.{option_map, IfOk, IfErr, IfSome, IsSome, Option, Some, []};
 ghost use Rattle.med_value.specs.Datum.{datum};
 ghost use Rattle.fdw_api.specs.Scan.{spec_of, restriction_form};
 ghost use Rattle.fdw_api.specs.declared.interface.Fault.TheVariants.{NoMemory as OutOfMemory};
@@ -10,6 +9,7 @@ ghost use Rattle.place_index.specs.Indexes.{IsIndexFrom};
 ghost use Rattle.place_wrapper.specs.Forms.{GivesAt};
 ghost use Rattle.place_index.specs.declared.index.PlaceIndex.{PlaceIndex};
 ghost use Rattle.place_wrapper.specs.declared.scans.LiveScan.{LiveScan};
+ghost use Rattle.place_wrapper.specs.Mapped.{live_at, Updates, numbers, Rise};
 ghost use Rattle.place_wrapper.specs.Boxes.{NextIs, Moves, ScanFits, Pulls, Restarts, table_at, rows_held, newer};
 
 use crate::format::PlacedTable;
@@ -19,7 +19,6 @@ use fdw_api::scan::ScanSpec;
 use med_value::{NoMemory, Row, Value};
 use place_index::{PlaceIndex, Sought, sought_in, value_at};
 use std::alloc::Global;
-use std::collections::BTreeMap;
 
 /// A live scan: what it was asked for, and the place from which it goes on. Once it is begun again it has an index of the column in which
 /// it looks for a parameter, if there is one. A broken one is good for `end` alone.
@@ -33,16 +32,41 @@ pub struct LiveScan {
     pub broken: bool,
 }
 
-/// Marks a scan as good for `end` alone.
-pub(crate) fn spoil(scans: &mut BTreeMap<u64, LiveScan>, number: u64)
-    requires { IsSome (tree.get nat_cmp scans.old number) }
-    ensures { IfSome (tree.get nat_cmp scans.old number)
-        (λ s. tree.Updates nat_cmp scans.old scans.new number (Some (record s { broken = true }))) }
+/// The place of the live scan of a number. A query mostly goes on with the one that was begun last, so that it is looked at first; any
+/// other is looked for by halves, as the numbers rise.
+pub(crate) fn place_of(scans: &Vec<(u64, LiveScan)>, number: u64) -> usize
+    requires live { IsSome (live_at scans.now.items number) }
+    requires rising { (next : ℕ) × Rise 0 next (numbers scans.now.items) }
+    ensures { (s : LiveScan) × (slice_get scans.now.items result ≡ Some (number, s)) }
 {
-    match scans.get_mut(&number) {
-        Some(scan) => scan.broken = true,
-        None => unreachable!(),
+    let last = scans.len() - 1;
+    if scans[last].0 == number {
+        return last;
     }
+    let mut first = 0;
+    let mut end = last;
+    while first < end {
+        let middle = first + (end - first) / 2;
+        if scans[middle].0 < number {
+            first = middle + 1;
+        } else {
+            end = middle;
+        }
+    }
+    first
+}
+
+/// Marks a scan as good for `end` alone.
+pub(crate) fn spoil(scans: &mut Vec<(u64, LiveScan)>, number: u64)
+    requires live { IsSome (live_at scans.old.items number) }
+    requires rising { (next : ℕ) × Rise 0 next (numbers scans.old.items) }
+    ensures breaks { IfSome (live_at scans.old.items number)
+        (λ s. Updates scans.old.items scans.new.items number (Some (record s { broken = true }))) }
+    ensures same { numbers scans.new.items ≡ numbers scans.old.items }
+{
+    let at = place_of(scans, number);
+    let scan = &mut scans[at].1;
+    scan.broken = true;
 }
 
 /// An index of a column of a table.
@@ -129,6 +153,34 @@ fn next_row<T: PlacedTable>(
     Ok(None)
 }
 
+/// The next row of a scan to which nothing is offered, from its place on.
+fn plain_row<T: PlacedTable>(
+    alloc: Global,
+    table: &T,
+    scan: &LiveScan,
+) -> Result<Option<SourceRow>, Fault>
+    requires { scan.now.spec.offered.items ≡ [] }
+    ensures next { IfOk result (λ next. NextIs T.form (Some table.now) (spec_of scan.now.spec) (map datum scan.now.params.items)
+        scan.now.at next) }
+    ensures on { IfOk result (λ next. IfSome next (λ row. Stands (spec_of scan.now.spec) (map datum scan.now.params.items)
+        (T.form.rows table.now) (row.id.number + 1) scan.now.index)) }
+    ensures err { IfErr result (λ fault. fault ≡ OutOfMemory) }
+{
+    let mut place = scan.at;
+    while place < table.count() {
+        if let Some(cells) = table.give(alloc, place, &scan.spec, None, &scan.params)? {
+            return Ok(Some(SourceRow {
+                id: RowId {
+                    number: place as u64,
+                },
+                cells,
+            }));
+        }
+        place += 1;
+    }
+    Ok(None)
+}
+
 /// The next row of a scan of one of these tables, from its place on.
 fn row_of_scan<T: PlacedTable>(
     alloc: Global,
@@ -143,6 +195,7 @@ fn row_of_scan<T: PlacedTable>(
     ensures err { IfErr result (λ fault. fault ≡ OutOfMemory) }
 {
     match table_at(tables, scan.table) {
+        Some(table) if scan.spec.offered.is_empty() => plain_row(alloc, table, scan),
         Some(table) => next_row(alloc, table, scan),
         None => unreachable!(),
     }
@@ -171,19 +224,19 @@ fn pull_row<T: PlacedTable>(
 pub(crate) fn pull<T: PlacedTable>(
     alloc: Global,
     tables: &Vec<Option<T>>,
-    scans: &mut BTreeMap<u64, LiveScan>,
+    scans: &mut Vec<(u64, LiveScan)>,
     number: u64,
 ) -> Result<Option<SourceRow>, Fault>
-    requires live { IsSome (tree.get nat_cmp scans.old number) }
-    requires fits { IfSome (tree.get nat_cmp scans.old number) (λ s. ScanFits T.form (table_at tables.now.items s.table) s) }
-    ensures pulls { IfSome (tree.get nat_cmp scans.old number) (λ s. (after : LiveScan) × Pulls T.form (table_at tables.now.items s.table)
-        s result after × tree.Updates nat_cmp scans.old scans.new number (Some after)) }
+    requires live { IsSome (live_at scans.old.items number) }
+    requires rising { (next : ℕ) × Rise 0 next (numbers scans.old.items) }
+    requires fits { IfSome (live_at scans.old.items number) (λ s. ScanFits T.form (table_at tables.now.items s.table) s) }
+    ensures pulls { IfSome (live_at scans.old.items number) (λ s. (after : LiveScan) × Pulls T.form (table_at tables.now.items s.table)
+        s result after × Updates scans.old.items scans.new.items number (Some after)) }
+    ensures same { numbers scans.new.items ≡ numbers scans.old.items }
     ensures err { IfErr result (λ fault. fault ≡ OutOfMemory) }
 {
-    match scans.get_mut(&number) {
-        Some(scan) => pull_row(alloc, tables, scan),
-        None => unreachable!(),
-    }
+    let at = place_of(scans, number);
+    pull_row(alloc, tables, &mut scans[at].1)
 }
 
 /// Makes an index for a scan that looks for a parameter and has none yet.
@@ -232,16 +285,16 @@ fn restart<T: PlacedTable>(
 pub(crate) fn begin_again<T: PlacedTable>(
     alloc: Global,
     tables: &Vec<Option<T>>,
-    scans: &mut BTreeMap<u64, LiveScan>,
+    scans: &mut Vec<(u64, LiveScan)>,
     number: u64,
     params: Vec<Value>,
 ) -> Result<(), NoMemory>
-    requires { IsSome (tree.get nat_cmp scans.old number) }
-    ensures { IfSome (tree.get nat_cmp scans.old number) (λ s. (after : LiveScan) × Restarts T.form (table_at tables.now.items s.table)
-        params s result after × tree.Updates nat_cmp scans.old scans.new number (Some after)) }
+    requires live { IsSome (live_at scans.old.items number) }
+    requires rising { (next : ℕ) × Rise 0 next (numbers scans.old.items) }
+    ensures begins { IfSome (live_at scans.old.items number) (λ s. (after : LiveScan) × Restarts T.form (table_at tables.now.items s.table)
+        params s result after × Updates scans.old.items scans.new.items number (Some after)) }
+    ensures same { numbers scans.new.items ≡ numbers scans.old.items }
 {
-    match scans.get_mut(&number) {
-        Some(scan) => restart(alloc, tables, scan, params),
-        None => unreachable!(),
-    }
+    let at = place_of(scans, number);
+    restart(alloc, tables, &mut scans[at].1, params)
 }

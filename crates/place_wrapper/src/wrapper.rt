@@ -1,18 +1,17 @@
 //! The wrapper over blobs that are read as tables of rows at places.
 ghost use Rattle.std.specs.Prelude.{◌≡◌, ◌≤◌, ℕ, map, length, IfOk, IfErr, IfSome, IsSome, IsTrue, None, Some, Option, option_map, true};
-ghost use Rattle.std.specs.Ordering.{nat_cmp};
-ghost use Rattle.std.specs.BTreeMap as tree;
 ghost use Rattle.fdw_api.specs.Scan.{restriction_form};
 ghost use Rattle.fdw_api.specs.Kinds.{Entry, Known};
 ghost use Rattle.fdw_api.specs.declared.interface.Fault.TheVariants.{NoMemory as OutOfMemory};
 ghost use Rattle.blob_store.specs.Names.{is_blob_name};
 ghost use Rattle.place_wrapper.specs.Holdings.{held_under};
 ghost use Rattle.staged_changes.specs.Staged.{write_is};
+ghost use Rattle.place_wrapper.specs.Mapped.{live_at, numbers, Rise, rise_once};
 ghost use Rattle.place_wrapper.specs.Boxes.{table_at, write_fits, ScansFit, pulled_after};
 
 use crate::faults::fault_of;
 use crate::format::PlacedTable;
-use crate::scans::{LiveScan, begin_again, pull, spoil};
+use crate::scans::{LiveScan, begin_again, place_of, pull, spoil};
 use crate::tables::{make_place, table_at};
 use blob_store::{Blobs, is_blob_name};
 use fdw_api::interface::{Counts, Fault, RowId, SourceRow, TableOption, Ticket, Wrapper};
@@ -21,7 +20,6 @@ use fdw_api::scan::{Agree, Agreement, Restriction, ScanSpec, copy_values};
 use med_value::{Cause, ColumnDef, NoMemory, Row, TableNo, Value};
 use staged_changes::{RowChange, StagedWrite, add_change};
 use std::alloc::Global;
-use std::collections::BTreeMap;
 
 /// Blobs that are read as tables of a format, as a source of foreign tables.
 ///
@@ -33,13 +31,14 @@ use std::collections::BTreeMap;
 pub struct PlaceWrapper<B: Blobs, T: PlacedTable> {
     blobs: B,
     tables: Vec<Option<T>>,
-    scans: BTreeMap<u64, LiveScan>,
+    scans: Vec<(u64, LiveScan)>,
     staged: Option<StagedWrite>,
     next: u64,
     pulled: u64,
-    ghost fitting: { ScansFit T.form tables.items scans },
+    ghost fitting: { ScansFit T.form tables.items scans.items },
     ghost typed_write: { IsTrue (write_fits T.form tables.items (option_map write_is staged)) },
-    ghost fresh: { (k : ℕ) → next ≤ k → tree.get nat_cmp scans k ≡ None },
+    ghost rising: { Rise 0 next (numbers scans.items) } by { rise_once 0 next (numbers scans.items) },
+    ghost fresh: { (k : ℕ) → next ≤ k → live_at scans.items k ≡ None },
     ghost named: { (t : ℕ) (x : T) → table_at tables.items t ≡ Some x → is_blob_name (T.form.bound x).remote ≡ true },
     ghost apart: { (t u : ℕ) (x y : T) → table_at tables.items t ≡ Some x → table_at tables.items u ≡ Some y
         → (T.form.bound x).remote ≡ (T.form.bound y).remote → t ≡ u },
@@ -53,13 +52,13 @@ impl<B: Blobs, T: PlacedTable> PlaceWrapper<B, T> {
     /// A source of these blobs, on which nothing is bound yet. It takes no memory.
     pub fn new(alloc: Global, blobs: B) -> Self
         ensures new { IsNewPlaces T.form.kind (place_state T.form
-            (B.meaning result.blobs) result.tables.items result.scans result.staged result.next result.pulled) (B.meaning blobs) }
+            (B.meaning result.blobs) result.tables.items result.scans.items result.staged result.next result.pulled) (B.meaning blobs) }
         ensures blobs { result.blobs ≡ blobs }
     {
         PlaceWrapper {
             blobs,
             tables: Vec::new(alloc),
-            scans: BTreeMap::new(alloc),
+            scans: Vec::new(alloc),
             staged: None,
             next: 0,
             pulled: 0,
@@ -98,7 +97,7 @@ impl<B: Blobs, T: PlacedTable> Wrapper for PlaceWrapper<B, T> {
     ghost use Rattle.fdw_api.specs.Calls.{Allows};
     ghost use Rattle.place_wrapper.specs.States.{place_state};
 
-    ghost meaning = { λ w. place_state T.form (B.meaning w.blobs) w.tables.items w.scans w.staged w.next w.pulled };
+    ghost meaning = { λ w. place_state T.form (B.meaning w.blobs) w.tables.items w.scans.items w.staged w.next w.pulled };
 
     fn bind(
         &mut self,
@@ -142,9 +141,9 @@ impl<B: Blobs, T: PlacedTable> Wrapper for PlaceWrapper<B, T> {
         offered: &[Restriction],
     ) -> Result<Agreement, Fault>
         requires { IsSome (table_in (place_state T.form (B.meaning self.now.blobs)
-            self.now.tables.items self.now.scans self.now.staged self.now.next self.now.pulled) t.number) }
+            self.now.tables.items self.now.scans.items self.now.staged self.now.next self.now.pulled) t.number) }
         ensures ok { IfOk result (λ a. Allows (place_state T.form (B.meaning self.now.blobs)
-            self.now.tables.items self.now.scans self.now.staged self.now.next self.now.pulled) t.number
+            self.now.tables.items self.now.scans.items self.now.staged self.now.next self.now.pulled) t.number
             (spec_by _wanted.now (map restriction_form offered.now) a)) }
         ensures each { IfOk result (λ a. length a.answers.items ≡ length offered.now) }
         ensures err { IfErr result (λ fault. fault ≡ OutOfMemory) }
@@ -183,7 +182,7 @@ impl<B: Blobs, T: PlacedTable> Wrapper for PlaceWrapper<B, T> {
             broken: false,
         };
         let number = self.next;
-        let Ok(_) = self.scans.insert(number, scan) else {
+        let Ok(()) = self.scans.push((number, scan)) else {
             return Err(Fault::NoMemory);
         };
         self.next += 1;
@@ -210,7 +209,8 @@ impl<B: Blobs, T: PlacedTable> Wrapper for PlaceWrapper<B, T> {
 
     fn end(&mut self, ticket: Ticket) {
         let Ticket { number } = ticket;
-        let _ = self.scans.remove(&number);
+        let at = place_of(&self.scans, number);
+        let _ = self.scans.remove(at);
     }
 
     fn begin_modify(&mut self, alloc: Global, t: TableNo) -> Result<(), Fault> {

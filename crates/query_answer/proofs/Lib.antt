@@ -20,3 +20,4 @@ pub mod Evaluated
 pub mod Runnings
 pub mod Gathered
 pub mod Unions
+pub mod Counting

@@ -9,5 +9,6 @@ pub mod Equal
 pub mod Leaves
 pub mod Running
 pub mod Classes
+pub mod Counting
 pub mod Folding
 pub mod Gathering

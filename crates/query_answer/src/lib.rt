@@ -12,6 +12,7 @@ mod leaves;
 mod new_folds;
 mod ordering;
 pub mod outputs;
+mod row_counts;
 mod row_keys;
 mod running;
 mod staged;

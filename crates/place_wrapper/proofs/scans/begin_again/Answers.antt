@@ -1,13 +1,12 @@
-use Rattle.std.proofs.Common.{◌≡◌, Some, rules}
-use Rattle.std.specs.Ordering.{nat_cmp}
-use Rattle.std.specs.BTreeMap as tree
-use Rattle.place_wrapper.specs.declared.scans.LiveScan.{LiveScan}
-use Rattle.place_wrapper.specs.Boxes.{Restarts, table_at}
+use Rattle.place_wrapper.proofs.Entries.{lends}
 use Rattle.place_wrapper.proofs.Options.{some_if}
 use Rattle.place_wrapper.proofs.scans.begin_again.Goals as goal
 
-pub returns : goal.returns
-returns g c =
-    let is : tree.get nat_cmp c.args.scans.now c.args.number ≡ Some c.in-Some.scan.now = search rules in
-    let up : tree.Updates nat_cmp c.args.scans.now (c.get_mut.follows.lender c.restart.new.scan) c.args.number (Some c.restart.new.scan) = search rules in
-    some_if _ (λ (z : LiveScan). (x : LiveScan) × Restarts g.T.PlacedTable.form (table_at c.args.tables.now.items z.table) c.args.params z c.restart.result x × tree.Updates nat_cmp c.args.scans.now (c.get_mut.follows.lender c.restart.new.scan) c.args.number (Some x)) c.in-Some.scan.now is (c.restart.new.scan, c.restart.ensures, up)
+pub returns-clause-begins : goal.returns-clause-begins
+returns-clause-begins g c =
+    let lent = lends c.args.scans.now.items c.place_of-at.result c.args.number c.index_mut.result.now _ c.place_of-at.ensures c.requires.rising c.index_mut.ensures.value in
+    some_if _ _ c.index_mut.result.now.1 lent.live (c.restart.new.scan, c.restart.ensures, lent.updates c.restart.new.scan)
+
+pub returns-clause-same : goal.returns-clause-same
+returns-clause-same g c =
+    (lends c.args.scans.now.items c.place_of-at.result c.args.number c.index_mut.result.now _ c.place_of-at.ensures c.requires.rising c.index_mut.ensures.value).same c.restart.new.scan

@@ -23,8 +23,9 @@ invariant_of-self-in_default g c =
     let same = c.make_place.ensures.same in
     let r = rw (c.in-Ok-Some.field-0-is, c.in-Ok-Some.content-is) at c.in-Ok-Some.ensures.ok in
     record {
-      fitting = same_tables_fitting F old made s.scans same s.fitting;
+      fitting = same_tables_fitting F old made s.scans.items same s.fitting;
       typed_write = write_same F old made (option_map write_is s.staged) same s.typed_write;
+      rising = s.rising;
       fresh = s.fresh;
       named = λ t x e. s.named t x (sym (same t) ∙ e);
       apart = λ t u x y a b e. s.apart t u x y (sym (same t) ∙ a) (sym (same u) ∙ b) e;
@@ -56,8 +57,9 @@ invariant_of-self-2 g c =
     let content = c.in-Ok-Some.content.items in
     let reads = c.in-Ok.ensures.ok in
     record {
-      fitting = stay_fitting F old new s.scans at (λ q ne. put_others made at (Some x) q ne ∙ same q) (unscanned_free F old s.scans at s.fitting free) s.fitting;
+      fitting = stay_fitting F old new s.scans.items at (λ q ne. put_others made at (Some x) q ne ∙ same q) (unscanned_free F old s.scans.items at s.fitting free) s.fitting;
       typed_write = write_stays F old new at (option_map write_is s.staged) (λ q ne. put_others made at (Some x) q ne ∙ same q) free s.typed_write;
+      rising = s.rising;
       fresh = s.fresh;
       named = set_named F old new at (Some x) there (λ q ne. put_others made at (Some x) q ne ∙ same q)
           (λ y e. subst (λ (z : g.row.T.Denot). is_blob_name (F.bound z).remote ≡ true) (some_inj x y e) (ap is_blob_name reads.remote_is ∙ named)) s.named;
@@ -89,4 +91,4 @@ returns-clause-ok g c =
     let settings = map option_form c.args.options.now in
     let content = c.in-Ok-Some.content.items in
     let reads = c.in-Ok.ensures.ok in
-    place_binds F shelf after old new s.scans s.staged s.next s.pulled at c.args.remote.now columns settings content x r.same named r.finds free there (λ q ne. put_others made at (Some x) q ne ∙ same q) s.fitting reads
+    place_binds F shelf after old new s.scans.items s.staged s.next s.pulled at c.args.remote.now columns settings content x r.same named r.finds free there (λ q ne. put_others made at (Some x) q ne ∙ same q) s.fitting reads

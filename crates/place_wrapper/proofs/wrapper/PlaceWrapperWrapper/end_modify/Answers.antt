@@ -20,7 +20,7 @@ returns-in-Err-clause-err g c =
     let es : s.staged ≡ Some w = search rules in
     let k : c.args.keep ≡ true = search rules in
     let was : table_at s.tables.items w.table ≡ Some x = sym c.in-Some-table_at.ensures in
-    unmade_refuses F shelf s.tables.items s.scans w s.staged c.take.new.self c.args.keep s.next s.pulled x c.in-Err.fault es c.take.ensures.after k was s.kept c.in-Err.ensures.err
+    unmade_refuses F shelf s.tables.items s.scans.items w s.staged c.take.new.self c.args.keep s.next s.pulled x c.in-Err.fault es c.take.ensures.after k was s.kept c.in-Err.ensures.err
 
 pub index_mut-requires : goal.index_mut-requires
 index_mut-requires g c =
@@ -57,9 +57,10 @@ invariant_of-self-in-Ok-replace g c =
     subst (λ (v : g.row.T.Denot). Rewrites F x (map change_is w.changes.items) v image) (sym c.into_table.ensures) c.in-Ok.ensures.ok in
     let replaced : Replaces shelf (F.bound x).remote image after = rw (c.remote.ensures, c.image.ensures) at c.in-Ok-replace.ensures.ok in
     record {
-      fitting = stay_fitting F s.tables.items new s.scans w.table others
-          (unscanned_by F shelf s.tables.items s.scans s.staged s.next s.pulled w.table (staged_scans F shelf s.tables.items s.scans w s.staged c.args.keep s.next s.pulled es k c.requires)) s.fitting;
+      fitting = stay_fitting F s.tables.items new s.scans.items w.table others
+          (unscanned_by F shelf s.tables.items s.scans.items s.staged s.next s.pulled w.table (staged_scans F shelf s.tables.items s.scans.items w s.staged c.args.keep s.next s.pulled es k c.requires)) s.fitting;
       typed_write = write_none F _ _ (ap (option_map write_is) c.take.ensures.after);
+      rising = s.rising;
       fresh = s.fresh;
       named = set_named F s.tables.items new w.table (Some y) there others
           (λ z e. ap (λ (v : g.row.T.Denot). is_blob_name (F.bound v).remote) (sym (some_inj y z e)) ∙ ap (λ (b : BoxTable). is_blob_name b.remote) made.bound ∙ named) s.named;
@@ -91,5 +92,5 @@ returns-in-Ok-replace-clause-ok g c =
     let made : Rewrites F x (map change_is w.changes.items) y image =
     subst (λ (v : g.row.T.Denot). Rewrites F x (map change_is w.changes.items) v image) (sym c.into_table.ensures) c.in-Ok.ensures.ok in
     let replaced : Replaces shelf (F.bound x).remote image after = rw (c.remote.ensures, c.image.ensures) at c.in-Ok-replace.ensures.ok in
-    kept_closes F shelf after s.tables.items new s.scans w s.staged c.take.new.self c.args.keep s.next s.pulled x y image
+    kept_closes F shelf after s.tables.items new s.scans.items w s.staged c.take.new.self c.args.keep s.next s.pulled x y image
     es c.take.ensures.after k c.requires was there others replaced named s.kept made
