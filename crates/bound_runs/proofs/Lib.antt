@@ -6,3 +6,4 @@ mod Words
 mod Beginning
 mod Plain
 mod Bare
+mod Opening

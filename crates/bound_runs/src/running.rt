@@ -13,7 +13,7 @@ ghost use Rattle.loop_plans.specs.Premises.{HasPlaces};
 ghost use Rattle.bound_runs.specs.Counting.{scans_of, BeginsAtMost};
 ghost use Rattle.bound_runs.specs.Pulling.{PullsRows};
 ghost use Rattle.bound_runs.specs.Running.{IsReady, IsPlanFor, RunAnswers};
-ghost use Rattle.bound_runs.specs.Starting.{HoldsFor, AsksNone, ShowsAll};
+ghost use Rattle.bound_runs.specs.Starting.{HoldsFor, AsksNone, ShowsAll, OpensScans};
 
 use crate::accepting::accept_query;
 use crate::agreeing::agree_query;
@@ -119,7 +119,8 @@ pub fn run_bound<W: Wrapper2>(
 /// Begins the run of a bound query over the boxes of its entries. For each entry of each core one scan is begun, and no other; where it is
 /// refused, no more than these, and none is then live. Where the rows of the plan are shown as they come, the run holds these scans, each
 /// of its entry's table, and no row is asked for: so are those of a query with FROM that does not group, order or leave out equal rows, and
-/// has no part that may fault. A query of all rows of one table shows each as it comes.
+/// has no part that may fault. Each scan of such a query is open, for the columns that are wanted of its entry, and was offered just the
+/// restrictions that are its entry's. A query of all rows of one table shows each as it comes.
 /// Any other plan is run to its end, and the run holds its answer.
 ///
 /// # Errors
@@ -144,6 +145,7 @@ pub fn start_bound<W: Wrapper2>(
     ensures scans { IfOk result (λ run. HoldsFor bound (states W.meaning slots.old.items) run (states W.meaning slots.new.items)) }
     ensures plain { IfOk result (λ _. AsksNone bound (states W.meaning slots.old.items) (states W.meaning slots.new.items)) }
     ensures bare { IfOk result (λ run. ShowsAll bound run) }
+    ensures opens { IfOk result (λ run. OpensScans bound run (states W.meaning slots.new.items)) }
     ensures ended { IfErr result (λ _. AllServed (states W.meaning slots.old.items) (states W.meaning slots.new.items)) }
     ensures err { IfErr result (λ fault. Stops (query_of bound.select) (map entry_place bound.entries.items) fault
         (states W.meaning slots.old.items) (states W.meaning slots.new.items)) }

@@ -18,6 +18,7 @@ use Rattle.bound_runs.proofs.Words.{run_answers, run_pulls, run_stops}
 use Rattle.loop_runs.specs.Gathering.{levels_in}
 use Rattle.scan_loops.specs.Pulling.{IsBareRun}
 use Rattle.bound_runs.proofs.Bare.{shows_all, has_entry}
+use Rattle.bound_runs.proofs.Opening.{stream_opens}
 use Rattle.bound_runs.proofs.Plain.{unordered}
 use Rattle.bound_runs.proofs.running.start_bound.Goals as goal
 
@@ -86,6 +87,13 @@ returns-in-Ok-start_plan-clause-bare g c = λ bare safe.
       asks.1 ∙ started.skip ∙ ap (λ (s : Select). s.offset) made.query ∙ bare.at_first,
     )
 
+pub returns-in-Ok-start_plan-clause-opens : goal.returns-in-Ok-start_plan-clause-opens
+returns-in-Ok-start_plan-clause-opens g c = λ plain safe some.
+    let started = c.in-Ok-start_plan.ensures.ok in
+    let agreed = c.in-Ok.ensures.ok.agreed in
+    stream_opens c.args.bound agreed.answers (levels_in c.in-Ok.plan.loops.items) c.in-Ok-start_plan.run' c.streamed.result (states g.W.Wrapper.meaning c.start_plan.new.slots.items) plain agreed.levels started.levels
+    c.streamed.ensures.held started.streams
+
 pub returns-in-Err-start_plan-clause-ended : goal.returns-in-Err-start_plan-clause-ended
 returns-in-Err-start_plan-clause-ended g c = c.in-Err-start_plan.ensures.err.served
 
@@ -144,6 +152,12 @@ pub returns-in-Ok-run_plan-clause-bare : goal.returns-in-Ok-run_plan-clause-bare
 returns-in-Ok-run_plan-clause-bare g c = λ bare safe.
     let made = c.in-Ok.ensures.ok in
     let shown = unordered (states g.W.Wrapper.meaning c.args.slots.now.items) c.args.bound c.in-Ok.plan made bare.plain safe (has_entry c.args.bound bare c.requires.ready.counts) in
+    absurd (not_shown c.is_shown.result c.if-is_shown.false (c.is_shown.ensures.1 (inl shown)))
+
+pub returns-in-Ok-run_plan-clause-opens : goal.returns-in-Ok-run_plan-clause-opens
+returns-in-Ok-run_plan-clause-opens g c = λ plain safe some.
+    let made = c.in-Ok.ensures.ok in
+    let shown = unordered (states g.W.Wrapper.meaning c.args.slots.now.items) c.args.bound c.in-Ok.plan made plain safe some in
     absurd (not_shown c.is_shown.result c.if-is_shown.false (c.is_shown.ensures.1 (inl shown)))
 
 pub returns-in-Err-run_plan-clause-ended : goal.returns-in-Err-run_plan-clause-ended
