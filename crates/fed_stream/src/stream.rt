@@ -80,8 +80,8 @@ pub fn serve_stream<H: Handler, R: Source, W: Sink>(
 ///
 /// After `Eof` the sink has got the text of the run of all bytes that the source had; after `Closed` of
 /// those up to the closing line. After `Read` and `TooLong` what was read is a run, and its text was
-/// written; after `NoRoom` too, but for the last piece. After `Write` what was read before the line whose reply could not be written was served,
-/// and the run ends with that line: a front of its reply was written, and what stood behind it in the last piece is dropped.
+/// written; after `NoRoom` too, but for the last piece. After `Write` what was read before the line whose reply could not be written was
+/// served, and the run ends with that line: a front of its reply was written, and what stood behind it in the last piece is dropped.
 ///
 /// Where the source tells what comes, `Eof` is answered only where nothing comes any more, `Read` only
 /// after the one read that failed, and `TooLong` only after all the reads that are allowed. Where the sink tells its calls,

@@ -8,8 +8,8 @@ use Rattle.med_world.specs.Adding.{HasSource}
 use Rattle.med_session.specs.declared.adding.AddFault.{AddFault}
 use Rattle.med_session.specs.declared.adding.AddFault.TheVariants.{NoMemory, Taken, TooMany}
 
--- Why a source is not added: its name is taken, or else there are as many sources as there may be, dropped ones counted. Want of memory may come where it
--- could be added.
+-- Why a source is not added: its name is taken, or else there are as many sources as there may be, dropped ones counted. Want of memory may
+-- come where it could be added.
 abbrev pub AddCause : List Label → List ℕ → AddFault → Type 0
 AddCause labels name Taken = HasSource labels name
 AddCause labels name TooMany = (HasSource labels name → ⊥) × (length labels ≡ source_limit)

@@ -86,7 +86,8 @@ pub record GivesUp (name : Name) (asked : CountTree) (seat : Seated) (old : List
   pub pulls : PullsEnded asked at.run old new
   pub is : after ≡ having (having_asked seat count) (without_named name seat.cursors)
 
--- Why no rows were given. A fault that says that nothing was asked has kept all; a cursor is given up by what a run that was asked tells alone.
+-- Why no rows were given. A fault that says that nothing was asked has kept all; a cursor is given up by what a run that was asked tells
+-- alone.
 abbrev pub NotFetched : Name → CountTree → Seated → List (Option BoxState) → FetchFault → Seated → List (Option BoxState) → Type 0
 NotFetched name asked seat old (fault.Unasked c) after new = KeepsCursors name seat old c after new
 NotFetched name asked seat old (fault.Failed u) after new = GivesUp name asked seat old (cause_of u.fault) after new

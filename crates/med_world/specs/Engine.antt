@@ -266,8 +266,9 @@ pub record AnswersOnce (e : Shown) (q : SelectTree) (new : List (Option BoxState
   pub once : ReadsOnce e q new
   pub pulls : PullsAgreed (meant_by e.catalog q).form once.places e.boxes new
 
--- For DECLARE a query was begun once, and is that of the session's cursor of this name. Of one with FROM whose rows can be shown as they are
--- joined no row was asked for, and the scans that the cursor holds are one for each entry, under just the restrictions that are offered of it.
+-- For DECLARE a query was begun once, and is that of the session's cursor of this name. Of one with FROM whose rows can be shown as they
+-- are joined no row was asked for, and the scans that the cursor holds are one for each entry, under just the restrictions that it is
+-- offered.
 pub record BeginsOnce (e : Shown) (sid : ℕ) (name : Name) (q : SelectTree) (new : Shown) : Type 0 where
   pub once : ReadsOnce e q new.boxes
   pub plain : IsPlainForm (meant_by e.catalog q).form → 0 < length (meant_by e.catalog q).entries → PullsNone e.boxes new.boxes
@@ -290,7 +291,8 @@ GivesWithin e sid name all_rows new = Unit {0}
 -- in each world where the session's cursor of this name is over all rows of one table
 abbrev pub IsBareCursor : Shown → ℕ → Name → Type 0
 IsBareCursor e sid name =
-    (w : World) × (s : Session) × (c : Cursor) × Agrees e w × (w.sessions sid ≡ Some s) × (cursor_named name s ≡ Some c) × IsBareQuery c.query
+    (w : World) × (s : Session) × (c : Cursor) × Agrees e w × (w.sessions sid ≡ Some s) × (cursor_named name s ≡ Some c)
+    × IsBareQuery c.query
 
 -- A FETCH asked the session's cursor of this name for a row no more often than for so many rows, each time counted, and no other cursor;
 -- its run goes on behind them. Of a cursor over all rows of one table, no more than so many rows of it were given.

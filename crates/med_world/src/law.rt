@@ -196,7 +196,8 @@ pub fn cursors_lead()
         (asked : CountTree) (o : Opened) (c : AnyCause) (count : ℕ)
         → IsRead e sid text seat.user (on_cursors (fetch asked name)) → seat_of e.seats sid ≡ Some seat → IsSound e
         → opened_named name seat.cursors ≡ Some o → GivesNone c e.boxes new → Ends o.run e.boxes new → PullsEnded asked o.run e.boxes new
-        → HasRisen seat.asked count → Leads e sid (sql text) (refused c) (with_cursors e sid (having_asked seat count) (without_named name seat.cursors) new) }
+        → HasRisen seat.asked count → Leads e sid (sql text) (refused c)
+        (with_cursors e sid (having_asked seat count) (without_named name seat.cursors) new) }
     ensures closed { (e : Shown) (new : List (Option BoxState)) (sid : ℕ) (text : List ℕ) (seat : Seated) (name : Name) (o : Opened)
         → IsRead e sid text seat.user (on_cursors (close name)) → seat_of e.seats sid ≡ Some seat → IsSound e
         → opened_named name seat.cursors ≡ Some o → Ends o.run e.boxes new

@@ -29,8 +29,8 @@ fn is_enough(asked: FetchCount, given: usize) -> bool
     }
 }
 
-/// Why a run that was asked for rows did not give them. Nothing but [`fetch`] makes one, once it has asked the run: so who gives a cursor up
-/// by it has asked the cursor for a row.
+/// Why a run that was asked for rows did not give them. Nothing but [`fetch`] makes one, once it has asked the run: so who gives a cursor
+/// up by it has asked the cursor for a row.
 #[derive(Clone, Copy, Debug, PartialEq, Eq)]
 pub struct Unfetched {
     fault: Fault,
