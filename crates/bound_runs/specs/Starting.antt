@@ -1,5 +1,6 @@
 -- The start of a bound query's run.
-use Rattle.std.specs.Prelude.{◌≡◌, ◌<◌, ◌⊎◌, ℕ, false, nat_eq, if◌then◌else◌, List, [], ◌∷◌, length, Option, Some}
+use Rattle.std.specs.Prelude.{◌≡◌, ◌<◌, ◌⊎◌, ℕ, false, nat_eq, if◌then◌else◌}
+use Rattle.std.specs.Prelude.{List, [], ◌∷◌, length, Option, Some}
 use Rattle.std.specs.List.{IsDistinct}
 use Rattle.med_query.specs.Form.{form_of, is_risky_form}
 use Rattle.med_planner.specs.Plain.{IsPlainForm, IsBareForm}
@@ -49,8 +50,8 @@ ShowsAll bound run = IsBareForm (form_of bound.select) → is_risky_form (form_o
 
 -- ---- the scans of offers
 
--- A scan is open for an offer: live and whole, of the offer's table, and asked for the columns that are wanted and the restrictions that are
--- offered (PostgreSQL: Writing a Foreign Data Wrapper, BeginForeignScan).
+-- A scan is open for an offer: live and whole, of the offer's table, asked for its wanted columns, and offered just its restrictions
+-- (PostgreSQL: Writing a Foreign Data Wrapper, BeginForeignScan).
 pub record IsOpenOf (boxes : List (Option BoxState)) (o : OfferForm) (number : ℕ) : Type 0 where
   pub scan : Scan
   pub live : scan_at boxes o.source number ≡ Some scan
