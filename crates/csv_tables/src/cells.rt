@@ -115,6 +115,7 @@ fn minus_integer(text: &[u8]) -> Option<i64>
     }
 }
 
+#[inline(always)]
 fn integer(text: &[u8]) -> Option<i64>
     ensures { result ≡ integer_of text.now }
 {
@@ -207,6 +208,7 @@ fn known_text(field: &[u8]) -> &str
 }
 
 /// What a field that is UTF-8 means in a column of this type; None where it is not of the type.
+#[inline(always)]
 pub(crate) fn cell(
     alloc: Global,
     null: &str,

@@ -259,6 +259,7 @@ fn add(alloc: Global, leaf: &Leaf, row: &Row, running: &mut Running) -> Result<(
 }
 
 /// One more row of a class. Refused only for want of memory.
+#[inline(always)]
 pub(crate) fn add_row(
     alloc: Global,
     leaves: &[Leaf],

@@ -143,6 +143,7 @@ impl<'a> Waiting<'a> {
     }
 
     /// The output of one more row, where WHERE keeps it.
+    #[inline(never)]
     pub fn add(&mut self, alloc: Global, row: &Row) -> Result<(), EvalFault>
         ensures core { self.new.core ≡ self.old.core }
         ensures select { self.new.select ≡ self.old.select }
