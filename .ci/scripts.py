@@ -1,5 +1,5 @@
-"""The scripts that try a program and need no prover: the streams, the examples, and what else `SCRIPTS` names. A script has `run(program)`, which gives how
-many tests passed, how many failed, and a line for each that failed.
+"""The scripts that need no prover: the streams, the examples, and what else `SCRIPTS` names. All but `docs/draw`, which looks at crates.txt and its
+page, try a program. A script has `run(program)`, which gives how many tests passed, how many failed, and a line for each that failed.
 
 usage: .ci/scripts.py SCRIPT PROGRAM   runs one, and prints that as JSON
 """
@@ -9,7 +9,7 @@ from concurrent.futures import ThreadPoolExecutor
 # The longest first.
 TESTS = """run refused_memory launcher limits soak exchanged folders cut_streams shell like_sqlite schemas setup install pages random_objects random_files
     connections random_writes leaving random_cursors tried"""
-SCRIPTS = [*(f"tests/{it}" for it in TESTS.split()), "examples/run"]
+SCRIPTS = [*(f"tests/{it}" for it in TESTS.split()), "examples/run", "docs/draw"]
 SECONDS = 3600  # after which a script has failed
 
 def ended(script, program):
