@@ -1,5 +1,5 @@
-"""The scripts that need no prover: the streams, the examples, and what else `SCRIPTS` names. All but `docs/draw`, which looks at crates.txt and its
-page, try a program. A script has `run(program)`, which gives how many tests passed, how many failed, and a line for each that failed.
+"""The scripts that need no prover: the streams, the examples, and what else `SCRIPTS` names. All but `docs/draw`, which looks at crates.txt
+and its page, try a program. A script has `run(program)`, which gives how many tests passed, how many failed, and a line for each of these.
 
 usage: .ci/scripts.py SCRIPT PROGRAM   runs one, and prints that as JSON
 """
