@@ -1,5 +1,5 @@
 //! Values with parameters and over classes, verdicts, conjuncts, copies, risk, and which expressions are the same. The values of the other
-//! expressions stand in the streams of the program, tests/values_*.
+//! expressions stand in the streams of the program, tests/streams/language/values_*.
 use crate::build::{build, class, parameters, part};
 use crate::rows::{Answer, assert_rows};
 use expr_parts::{arguments, conjuncts, is_same};
