@@ -1,4 +1,5 @@
 use Rattle.med_world.proofs.Faring.{none_rises}
+use Rattle.std.proofs.Common.{refl}
 use Rattle.med_value.specs.declared.cause.Cause.TheVariants.{OutOfMemory}
 use Rattle.med_world.proofs.Asks.{asks_refused}
 use Rattle.med_world.proofs.Leading.{leads_memory}
