@@ -13,9 +13,8 @@ use Rattle.sql_meaning.specs.World.{World, Session}
 use Rattle.sql_meaning.specs.Picks.{Pick}
 use Rattle.sql_meaning.specs.Replies.{Reply, answered, refused, reply_text}
 use Rattle.sql_meaning.specs.Steps.{Trouble, TakesMemory, TreeDoes, Does, Step, is_refused, is_done, lacks_memory, fetch_lacks_memory, source_fails, numbers_end}
-use Rattle.med_world.specs.Engine.{Shown, Agrees, Leads, IsAnswered}
+use Rattle.med_world.specs.Engine.{Shown, Agrees, TreeAsks, Leads, IsAnswered}
 use Rattle.med_world.specs.Laws.{IsRead}
-use Rattle.med_world.proofs.Asks.{asks_refused}
 use Rattle.med_select.specs.declared.selecting.RowSet.{RowSet}
 use Rattle.session_replies.specs.Outcomes.{HasRows, TellsReply, reply_of}
 use Rattle.med_session.specs.Cursors.{IfFetched}
@@ -53,6 +52,15 @@ rows_refused w sid request t names rows after new (fetch_lacks_memory m asked s 
 rows_refused w sid request t names rows after new (source_fails m s tree is before e loses) a = absurd (cc)
 rows_refused w sid request t names rows after new (numbers_end m s tree is before may e same) a = absurd (cc)
 
+-- a statement that gave rows asked the boxes for no more than it may where it is refused
+rows_asked : (e : Shown) (sid : ℕ) (tree : CommandTree) (tag : List ℕ) (names : List Name) (rows : List Tuple) (new : Shown) → TreeAsks e sid tree (answered tag names rows) new → TreeAsks e sid tree (refused OutOfMemory) new
+rows_asked e sid (on_data (select q)) tag names rows new a = tt
+rows_asked e sid (on_rows t) tag names rows new a = tt
+rows_asked e sid (on_cursors (declare name (select q))) tag names rows new a = tt
+rows_asked e sid (on_cursors (fetch asked name)) tag names rows new a = a.few
+rows_asked e sid (on_cursors (close name)) tag names rows new a = tt
+rows_asked e sid (on_objects d) tag names rows new a = tt
+
 -- the rows of a query need not be told: then want of memory is
 pub memory_told : (e new : Shown) (sid : ℕ) (request : AskedLine) (names : List Name) (rows : List Tuple) → Leads e sid request (answered (codes "SELECT") names rows) new → Leads e sid request (refused OutOfMemory) new
 unfolding with_memory
@@ -61,7 +69,7 @@ memory_told e new sid request names rows h = record {
   befell = record { source = h.befell.source; numbers = h.befell.numbers };
   asked = λ x. absurd (false≢true x);
   rises = h.rises;
-  asks = asks_refused e sid request OutOfMemory new;
+  asks = λ text tree is has. rows_asked e sid tree (codes "SELECT") names rows new (h.asks text tree is has);
   step = λ w a. let s = h.step w a in rows_refused w sid request h.trouble names rows s.0 new s.1 s.2;
 }
 
