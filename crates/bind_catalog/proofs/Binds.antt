@@ -4,15 +4,16 @@ use Rattle.std.proofs.lemmas.List.Elements.{Contains-append_left}
 use Rattle.med_value.specs.declared.cause.Cause.{Cause}
 use Rattle.med_value.specs.declared.cause.Cause.TheVariants.{OutOfMemory}
 use Rattle.med_syntax.specs.Tree.{Name}
-use Rattle.med_syntax.specs.QueryTree.{EntryTree, SelectTree, select}
+use Rattle.med_syntax.specs.QueryTree.{EntryTree, SelectTree, cores_of, select}
 use Rattle.med_query.specs.Form.{form_of}
 use Rattle.med_query.specs.Select.{are_safe_cores}
 use Rattle.med_query.specs.declared.select.Select.{Select}
-use Rattle.bind_names.specs.Scope.{TableShape, entries_of, entry_place, entry_columns, entry_shape, exposed_name}
-use Rattle.bind_names.specs.Naming.{entry_causes, alias_causes, from_causes, asked_causes, once_known, select_name_causes, NameCauses}
+use Rattle.bind_names.specs.Scope.{TableShape, query_entries, entry_place, entry_columns, entry_shape}
+use Rattle.bind_names.specs.Naming.{entry_causes, core_alias_causes, entered_causes, asked_causes, once_known, select_name_causes, NameCauses}
 use Rattle.bind_names.specs.Telling.{TellsCause}
-use Rattle.bind_types.specs.Typing.{select_type_causes}
-use Rattle.med_binder.specs.Binding.{IsBound, BindCauses, BindTells}
+use Rattle.bind_types.specs.Kinds.{types_in}
+use Rattle.bind_types.specs.Typing.{answer_types, select_type_causes}
+use Rattle.med_binder.specs.Binding.{IsBound, bound_kinds, BindCauses, BindTells}
 use Rattle.med_binder.specs.Within.{widths}
 use Rattle.med_binder.specs.declared.bound.BoundEntry.{BoundEntry}
 use Rattle.med_binder.specs.declared.bound.BoundQuery.{BoundQuery}
@@ -23,14 +24,14 @@ use Rattle.bind_catalog.specs.Barred.{reading_causes, table_causes, query_right_
 use Rattle.bind_catalog.specs.Queries.{QueryNames, QueryTypes}
 use Rattle.bind_catalog.specs.Places.{Attached, ArePlaces}
 use Rattle.bind_catalog.specs.Looked.{gathered_shape, AreEntriesAt, IsBoundOver, IsToldOver, BindsOver}
-use Rattle.bind_catalog.proofs.Seen.{SeesAll, form_same, names_same, name_causes_same, type_causes_same}
+use Rattle.bind_catalog.proofs.Seen.{SeesAll, form_same, names_same, name_causes_same, answer_same, type_causes_same}
 use Rattle.bind_catalog.proofs.Found.{sees_gathered}
 
 -- the right causes of entries
 abbrev pub rights_of : Objects → Name → List EntryTree → List Cause
 rights_of o user es = flat_map (λ (e : EntryTree). table_causes reading_causes o user (table_named o e.table)) es
 
-pub rights_told : (o : Objects) (user : Name) (q : SelectTree) (es : List EntryTree) (c : Cause) → es ≡ entries_of q.from → TellsCause (rights_of o user es) c → IsToldOver o user q c
+pub rights_told : (o : Objects) (user : Name) (q : SelectTree) (es : List EntryTree) (c : Cause) → es ≡ query_entries q → TellsCause (rights_of o user es) c → IsToldOver o user q c
 rights_told o user q es c is t = record { told = by t.told }
   where
     by : (c ≡ OutOfMemory) ⊎ Contains (rights_of o user es) c → (c ≡ OutOfMemory) ⊎ (QueryNames o user q c ⊎ (Contains (select_type_causes (shapes o) q) c × ((d : Cause) → QueryNames o user q d → ⊥)))
@@ -41,27 +42,27 @@ once_left : (xs ys : List Cause) (c : Cause) → Contains xs c → Contains (onc
 once_left [] ys c h = absurd (let within = h.1 in omega arith)
 once_left (x ∷ xs) ys c h = h
 
-pub entries_told : (o : Objects) (user : Name) (q : SelectTree) (es : List EntryTree) (c : Cause) → es ≡ entries_of q.from → TellsCause (flat_map (entry_causes (shapes o)) es) c → IsToldOver o user q c
+pub entries_told : (o : Objects) (user : Name) (q : SelectTree) (es : List EntryTree) (c : Cause) → es ≡ query_entries q → TellsCause (flat_map (entry_causes (shapes o)) es) c → IsToldOver o user q c
 entries_told o user q es c is t = record { told = by t.told }
   where
     by : (c ≡ OutOfMemory) ⊎ Contains (flat_map (entry_causes (shapes o)) es) c → (c ≡ OutOfMemory) ⊎ (QueryNames o user q c ⊎ (Contains (select_type_causes (shapes o) q) c × ((d : Cause) → QueryNames o user q d → ⊥)))
     by (inl e) = inl e
-    by (inr h) = inr (inl (inl (once_left (from_causes (shapes o) q.from) (asked_causes (shapes o) q) c
-        (Contains-append_left (flat_map (entry_causes (shapes o)) (entries_of q.from)) (alias_causes (map exposed_name (entries_of q.from))) c
+    by (inr h) = inr (inl (inl (once_left (entered_causes (shapes o) q) (asked_causes (shapes o) q) c
+        (Contains-append_left (flat_map (entry_causes (shapes o)) (query_entries q)) (flat_map core_alias_causes (cores_of q)) c
         (subst (λ (xs : List EntryTree). Contains (flat_map (entry_causes (shapes o)) xs) c) is h)))))
 
 none_in : (c : Cause) → Contains {X = Cause} [] c → ⊥
 none_in c h = absurd (let within = h.1 in omega arith)
 
 -- the gathered tables are seen as those of the catalogue
-sees : (o : Objects) (q : SelectTree) (es : List EntryTree) (small : List TableShape) → es ≡ entries_of q.from → small ≡ map (gathered_shape (shapes o)) es → flat_map (entry_causes (shapes o)) es ≡ [] → SeesAll small (shapes o) (entries_of q.from)
+sees : (o : Objects) (q : SelectTree) (es : List EntryTree) (small : List TableShape) → es ≡ query_entries q → small ≡ map (gathered_shape (shapes o)) es → flat_map (entry_causes (shapes o)) es ≡ [] → SeesAll small (shapes o) (query_entries q)
 sees o q es small is gathered none =
-    subst (λ (xs : List TableShape). SeesAll xs (shapes o) (entries_of q.from)) (sym (gathered ∙ ap (map (gathered_shape (shapes o))) is))
-    (sees_gathered (shapes o) (entries_of q.from) (subst (λ (xs : List EntryTree). flat_map (entry_causes (shapes o)) xs ≡ []) is none))
+    subst (λ (xs : List TableShape). SeesAll xs (shapes o) (query_entries q)) (sym (gathered ∙ ap (map (gathered_shape (shapes o))) is))
+    (sees_gathered (shapes o) (query_entries q) (subst (λ (xs : List EntryTree). flat_map (entry_causes (shapes o)) xs ≡ []) is none))
 
 -- what was known before the query was bound: no cause of entries or rights stands, and these tables were gathered
 pub record AreGathered (o : Objects) (user : Name) (q : SelectTree) (es : List EntryTree) (small : List TableShape) : Type 0 where
-  pub are : es ≡ entries_of q.from
+  pub are : es ≡ query_entries q
   pub gathered : small ≡ map (gathered_shape (shapes o)) es
   pub known : flat_map (entry_causes (shapes o)) es ≡ []
   pub rights : rights_of o user es ≡ []
@@ -72,7 +73,7 @@ rights_none o user q es small g = ap (rights_of o user) (sym g.are) ∙ g.rights
 pub bind_told : (o : Objects) (user : Name) (q : SelectTree) (es : List EntryTree) (small : List TableShape) (c : Cause) → AreGathered o user q es small → (c ≡ OutOfMemory) ⊎ BindTells small (select q) c → IsToldOver o user q c
 bind_told o user q es small c g t = record { told = by t }
   where
-    seen : SeesAll small (shapes o) (entries_of q.from)
+    seen : SeesAll small (shapes o) (query_entries q)
     seen = sees o q es small g.are g.gathered g.known
 
     none : ((d : Cause) → NameCauses small (select q) d → ⊥) → (d : Cause) → QueryNames o user q d → ⊥
@@ -94,22 +95,24 @@ widths_seen tables [] = refl
 widths_seen tables (e ∷ es) = ap (λ (ns : List ℕ). length (entry_columns tables e) ∷ ns) (widths_seen tables es)
 
 pub bound_over : (o : Objects) (bound : List Attached) (user : Name) (q : SelectTree) (es : List EntryTree) (small : List TableShape) (b n : BoundQuery) → AreGathered o user q es small
-    → IsBound small (select q) b → are_safe_cores b.select.cores.items ≡ true → ((c : Cause) → BindCauses small (select q) c → ⊥) → AreEntriesAt o bound es n.entries.items → n.names ≡ b.names → n.select ≡ b.select → IsBoundOver o bound user q n
-bound_over o bound user q es small b n g is safe clear entries names selects = record {
+    → IsBound small (select q) b → are_safe_cores b.select.cores.items ≡ true → ((c : Cause) → BindCauses small (select q) c → ⊥) → AreEntriesAt o bound es n.entries.items → n.names ≡ b.names → n.select ≡ b.select
+    → n.kinds ≡ b.kinds → bound_kinds b ≡ answer_types small q → IsBoundOver o bound user q n
+bound_over o bound user q es small b n g is safe clear entries names selects kinds typed = record {
   meant = record {
     names = ap (λ v. map string_bytes v.items) names ∙ is.names ∙ names_same small (shapes o) q seen;
     entries = entries.places ∙ ap (map (entry_place (shapes o))) g.are;
     form = ap form_of selects ∙ is.form ∙ form_same small (shapes o) q seen;
   };
   there = subst (λ (ks : List ℕ). ArePlaces bound ks (map offered.entry_place n.entries.items)) (entries.places ∙ ap (map (entry_place (shapes o))) g.are) entries.there;
-  widths = entries.widths ∙ ap (map (λ (e : EntryTree). length (entry_columns (shapes o) e))) g.are ∙ widths_seen (shapes o) (entries_of q.from);
+  widths = entries.widths ∙ ap (map (λ (e : EntryTree). length (entry_columns (shapes o) e))) g.are ∙ widths_seen (shapes o) (query_entries q);
+  kinds = ap (λ v. map types_in v.items) kinds ∙ typed ∙ answer_same small (shapes o) q seen;
   safe = ap (λ (s : Select). are_safe_cores s.cores.items) selects ∙ safe;
   names = empty_by (select_name_causes (shapes o) q) (λ c h. clear c (inl (subst (λ (xs : List Cause). Contains xs c) (sym (name_causes_same small (shapes o) q seen)) h)));
   rights = rights_none o user q es small g;
   types = empty_by (select_type_causes (shapes o) q) (λ c h. clear c (inr (subst (λ (xs : List Cause). Contains xs c) (sym (type_causes_same small (shapes o) q seen)) h)));
 }
   where
-    seen : SeesAll small (shapes o) (entries_of q.from)
+    seen : SeesAll small (shapes o) (query_entries q)
     seen = sees o q es small g.are g.gathered g.known
 
 -- where no cause stands, only memory is refused

@@ -5,7 +5,7 @@ use Rattle.med_value.specs.declared.cause.Cause.{Cause}
 use Rattle.med_value.specs.declared.cause.Cause.TheVariants.{UndefinedObject}
 use Rattle.med_syntax.specs.Tree.{Name}
 use Rattle.med_syntax.specs.QueryTree.{EntryTree, SelectTree, select}
-use Rattle.bind_names.specs.Scope.{entries_of}
+use Rattle.bind_names.specs.Scope.{query_entries}
 use Rattle.med_catalog.specs.Objects.{TableObject, Objects, table_named}
 use Rattle.med_catalog.specs.Rights.{mode_for}
 use Rattle.med_catalog.specs.DdlCauses.{phase}
@@ -32,7 +32,7 @@ rights o user (e ∷ es) = All-append OfThree (table_causes reading_causes o use
 
 pub names : (o : Objects) (user : Name) (q : SelectTree) (c : Cause) → QueryNames o user q c → phase c ≡ 3
 names o user q c (inl h) = ap (λ p. unwrap_or p 7) (names_are_of_phase (shapes o) (select q) c h)
-names o user q c (inr h) = All-contains OfThree (query_right_causes o user q) c (rights o user (entries_of q.from)) h
+names o user q c (inr h) = All-contains OfThree (query_right_causes o user q) c (rights o user (query_entries q)) h
 
 pub types : (o : Objects) (q : SelectTree) (c : Cause) → QueryTypes o q c → phase c ≡ 4
 types o q c h = ap (λ p. unwrap_or p 7) (types_are_of_phase (shapes o) (select q) c h)

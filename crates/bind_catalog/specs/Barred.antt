@@ -5,7 +5,7 @@ use Rattle.med_value.specs.declared.cause.Cause.{Cause}
 use Rattle.med_value.specs.declared.cause.Cause.TheVariants.{UndefinedObject, NoPrivilege}
 use Rattle.med_syntax.specs.Tree.{Name}
 use Rattle.med_syntax.specs.QueryTree.{EntryTree, SelectTree}
-use Rattle.bind_names.specs.Scope.{entries_of}
+use Rattle.bind_names.specs.Scope.{query_entries}
 use Rattle.med_catalog.specs.declared.kind.Mode.{Mode}
 use Rattle.med_catalog.specs.declared.kind.Mode.TheVariants.{Read, Write}
 use Rattle.med_catalog.specs.Objects.{TableObject, Objects, table_named}
@@ -29,7 +29,7 @@ table_causes causes o user (Some t) = causes (mode_for o user t.server)
 
 -- of the tables of a query
 abbrev pub query_right_causes : Objects → Name → SelectTree → List Cause
-query_right_causes o user q = flat_map (λ (e : EntryTree). table_causes reading_causes o user (table_named o e.table)) (entries_of q.from)
+query_right_causes o user q = flat_map (λ (e : EntryTree). table_causes reading_causes o user (table_named o e.table)) (query_entries q)
 
 -- of the table that is written
 abbrev pub target_right_causes : Objects → Name → Name → List Cause

@@ -5,11 +5,11 @@ use Rattle.med_value.specs.declared.cause.Cause.TheVariants.{OutOfMemory}
 use Rattle.med_syntax.specs.Tree.{Name}
 use Rattle.med_syntax.specs.QueryTree.{EntryTree, SelectTree, StatementTree, select}
 use Rattle.med_query.specs.Select.{are_safe_cores}
-use Rattle.bind_names.specs.Scope.{TableShape, entry_place, entry_columns, from_scope}
+use Rattle.bind_names.specs.Scope.{TableShape, entry_place, entry_columns, query_scope}
 use Rattle.bind_names.specs.Naming.{entry_causes, select_name_causes}
 use Rattle.bind_names.specs.Telling.{TellsCause}
-use Rattle.bind_types.specs.Typing.{select_type_causes}
-use Rattle.med_binder.specs.Binding.{IsMeant}
+use Rattle.bind_types.specs.Typing.{answer_types, select_type_causes}
+use Rattle.med_binder.specs.Binding.{IsMeant, bound_kinds}
 use Rattle.med_binder.specs.Counted.{bound_widths}
 use Rattle.med_binder.specs.Within.{widths}
 use Rattle.med_binder.specs.declared.bound.BoundEntry.{BoundEntry}
@@ -53,7 +53,8 @@ PlacesEntries o bound es (Err c) = TellsCause (flat_map (entry_causes (shapes o)
 pub record IsBoundOver (o : Objects) (bound : List Attached) (user : Name) (q : SelectTree) (b : BoundQuery) : Type 0 where
   pub meant : IsMeant (meant_by o q) b
   pub there : ArePlaces bound (meant_by o q).entries (map offered.entry_place b.entries.items)
-  pub widths : bound_widths b ≡ widths (from_scope (shapes o) q.from)
+  pub widths : bound_widths b ≡ widths (query_scope (shapes o) q)
+  pub kinds : bound_kinds b ≡ answer_types (shapes o) q
   pub safe : are_safe_cores b.select.cores.items ≡ true
   pub names : select_name_causes (shapes o) q ≡ []
   pub rights : query_right_causes o user q ≡ []

@@ -5,8 +5,9 @@ ghost use Rattle.med_value.specs.declared.cause.Cause.{Cause as AnyCause};
 ghost use Rattle.med_syntax.specs.QueryTree.{select};
 ghost use Rattle.med_syntax.specs.QueryView.{select_tree, statement_tree};
 ghost use Rattle.med_query.specs.Select.{are_safe_cores};
-ghost use Rattle.bind_names.specs.Scope.{from_scope};
-ghost use Rattle.med_binder.specs.Binding.{IsMeant};
+ghost use Rattle.bind_names.specs.Scope.{query_scope};
+ghost use Rattle.bind_types.specs.Typing.{answer_types};
+ghost use Rattle.med_binder.specs.Binding.{IsMeant, bound_kinds};
 ghost use Rattle.med_binder.specs.Counted.{bound_widths};
 ghost use Rattle.med_binder.specs.Within.{widths};
 ghost use Rattle.med_binder.specs.Place.{entry_place};
@@ -19,7 +20,7 @@ ghost use Rattle.bind_catalog.specs.Looked.{query_in, BindsOver};
 use crate::bound::BoundTable;
 use crate::entries::{bound_entries, gathered};
 use crate::rights::check_rights;
-use bind_names::entries_of;
+use bind_names::query_entries;
 use med_binder::BoundQuery;
 use med_catalog::Catalog;
 use med_syntax::{Select, Statement};
@@ -47,16 +48,16 @@ fn bind_over(
     requires once { AreNamedOnce (objects catalog.now) }
     ensures { BindsOver (objects catalog.now) (map attached bound.now) user.now (query_in (statement_tree statement.now)) result }
 {
-    let written = entries_of(alloc, query_of(statement).from.as_slice())?;
+    let written = query_entries(alloc, query_of(statement))?;
     check_rights(catalog, written.as_slice(), user)?;
     let entries = bound_entries(alloc, catalog, bound, written.as_slice())?;
     let tables = gathered(alloc, catalog, written.as_slice())?;
     let found = med_binder::bind(alloc, statement, tables.as_slice(), user)?;
-    let BoundQuery { names, select, .. } = found;
     Ok(BoundQuery {
-        names,
+        names: found.names,
         entries,
-        select,
+        select: found.select,
+        kinds: found.kinds,
     })
 }
 
@@ -85,7 +86,10 @@ pub fn bind(
         (meant_by (objects catalog.now) (query_in (statement_tree statement.now))).entries (map entry_place b.entries.items)) }
     // They have the columns of their tables.
     ensures widths { IfOk result (λ b. bound_widths b
-        ≡ widths (from_scope (shapes (objects catalog.now)) (query_in (statement_tree statement.now)).from)) }
+        ≡ widths (query_scope (shapes (objects catalog.now)) (query_in (statement_tree statement.now)))) }
+    // It tells the types of what each core answers.
+    ensures kinds { IfOk result (λ b. bound_kinds b
+        ≡ answer_types (shapes (objects catalog.now)) (query_in (statement_tree statement.now))) }
     // No ON of it may fault.
     ensures safe { IfOk result (λ b. are_safe_cores b.select.cores.items ≡ true) }
     // A refusal tells a cause that stands, one of names or rights before one of types, or that memory was refused.

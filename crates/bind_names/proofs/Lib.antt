@@ -3,3 +3,4 @@ pub mod Causes
 pub mod Parts
 pub mod Places
 pub mod Tables
+pub mod WorkedQueries

@@ -1,5 +1,5 @@
 -- What a statement means over tables, its names being resolved.
-use Rattle.std.specs.Prelude.{ℕ, suc, ◌+◌, ◌-◌, ℤ, pos, neg_ℤ, min, Bool, true, false, not, ◌||◌, List, [], ◌∷◌, ◌++◌, length, map, filter, flat_map, drop, Option, Some, None, unwrap_or, codes, bytes_eq, if◌then◌else◌}
+use Rattle.std.specs.Prelude.{ℕ, suc, ◌+◌, ◌-◌, ℤ, pos, neg_ℤ, min, Bool, true, false, not, ◌||◌, List, [], ◌∷◌, ◌++◌, length, map, filter, flat_map, drop, Option, Some, None, unwrap_or, codes, bytes_eq, if◌then◌else◌, slice_index_or}
 use Rattle.std.specs.Option.{is_some}
 use Rattle.std.specs.List.{list_any}
 use Rattle.med_value.specs.Column.{Column}
@@ -13,11 +13,11 @@ use Rattle.tri_expr.specs.declared.expr.SetFunction.{SetFunction}
 use Rattle.tri_expr.specs.declared.expr.SetFunction.TheVariants.{Count, Sum, Min, Max}
 use Rattle.med_query.specs.Query.{Direction}
 use Rattle.tri_expr.specs.TreeParts.{arguments_in}
-use Rattle.med_query.specs.Form.{JoinForm, cross_form, inner_form, left_form, ChainForm, GroupForm, Form}
+use Rattle.med_query.specs.Form.{JoinForm, cross_form, inner_form, left_form, ChainForm, GroupForm, CoreForm, Form}
 use Rattle.bind_names.specs.Aggregates.{has_aggregate}
 use Rattle.tri_expr.specs.Tree.{Tree, Trees, conjunct_trees, column, literal, compare, compute, negate, all_of, some_of, opposite, asks, between, within, matches, parenthesised, count_rows, aggregate, none, part}
-use Rattle.med_syntax.specs.QueryTree.{ItemTree, all, all_of as all_of_entry, value, JoinTree, inner_join, left_join, cross_join, ChainTree, GroupTree, KeyTree, LimitTree, no_limit, rows, SelectTree, StatementTree, select}
-use Rattle.bind_names.specs.Scope.{TableShape, Scope, is_meant, candidates, joined_entry, chain_entries, entry_columns, entry_shape, from_scope, from_places}
+use Rattle.med_syntax.specs.QueryTree.{ItemTree, all, all_of as all_of_entry, value, JoinTree, inner_join, left_join, cross_join, ChainTree, GroupTree, KeyTree, LimitTree, no_limit, rows, CoreTree, SelectTree, cores_of, StatementTree, select}
+use Rattle.bind_names.specs.Scope.{TableShape, Scope, is_meant, candidates, joined_entry, chain_entries, entries_of, entry_columns, entry_shape, from_scope, query_places}
 
 -- the one place that a name means; where a cause of names stands there is none, and the place says nothing
 abbrev pub one_place : List ℕ → ℕ
@@ -149,6 +149,22 @@ sorted_by s outs (expression e) = resolved s e
 abbrev pub key_meant : Scope → List Output → KeyTree → Tree
 key_meant s outs k = sorted_by s outs (sort_key outs k.key)
 
+-- ---- ORDER BY of a query with UNION ALL
+
+-- the places of the outputs of this name, the first of them standing at this place
+abbrev pub places_named : ℕ → Name → List Output → List ℕ
+places_named at n [] = []
+places_named at n (o ∷ os) = if is_named n o then at ∷ places_named (suc at) n os else places_named (suc at) n os
+
+-- the output that a key means there: by its position or by its name. Another key is refused, and says nothing.
+abbrev pub output_place : List Output → SortKey → ℕ
+output_place outs (position n) = n - 1
+output_place outs (output_name n) = one_place (places_named 0 n outs)
+output_place outs (expression e) = 0
+
+abbrev pub key_place : List Output → KeyTree → ℕ
+key_place outs k = output_place outs (sort_key outs k.key)
+
 abbrev pub key_direction : KeyTree → Direction
 key_direction k = record { descending = k.descending; nulls_first = k.nulls_first }
 
@@ -188,57 +204,95 @@ abbrev pub is_empty : {X : Type 0} → List X → Bool
 is_empty [] = true
 is_empty (x ∷ xs) = false
 
--- With GROUP BY, HAVING or an aggregate the query groups.
-abbrev pub groups_rows : SelectTree → List Tree → Bool
-groups_rows q shown = not (is_empty q.groups) || (is_some q.having || list_any has_aggregate shown)
+-- With GROUP BY, HAVING or an aggregate a core groups.
+abbrev pub groups_rows : CoreTree → List Tree → Bool
+groups_rows c shown = not (is_empty c.groups) || (is_some c.having || list_any has_aggregate shown)
 
--- the groups of a query that groups by these places and shows this
+-- the groups of a core that groups by these places and shows this
 abbrev pub group_of : Bool → List ℕ → List Tree → List Tree → Option GroupForm
 group_of groups keys having shown =
     if groups then Some (record { keys = keys; arguments = flat_map arguments_in (having ++ shown); having = having }) else None
 
--- the groups of a query whose items and order keys are these
-abbrev pub group_meant : Scope → SelectTree → List Tree → Option GroupForm
-group_meant s q shown =
-    group_of (groups_rows q shown) (map (group_place s) q.groups) (conditions_of s q.having) shown
+-- the groups of a core whose items and order keys are these
+abbrev pub group_meant : Scope → CoreTree → List Tree → Option GroupForm
+group_meant s c shown =
+    group_of (groups_rows c shown) (map (group_place s) c.groups) (conditions_of s c.having) shown
 
--- ---- the whole
+-- ---- one core (SQL:2016, <query specification>)
+
+abbrev pub core_outputs : List TableShape → CoreTree → List Output
+core_outputs tables c = outputs_of (from_scope tables c.from) c.items
+
+abbrev pub output_values : List Output → List Tree
+output_values = map (λ (o : Output). o.value)
+
+-- By what the rows of a core are sorted: by these expressions over what it has in view, or by what it shows in these places.
+pub data Sorting : Type 0 where
+  by_keys : List Tree → Sorting
+  by_places : List ℕ → Sorting
+
+-- what a list of items has in a place; past its end nothing is known
+abbrev pub item_at : List Tree → ℕ → Tree
+item_at items place = slice_index_or items place (literal NoValue)
+
+abbrev pub keys_sorting : Sorting → List Tree → List Tree
+keys_sorting (by_keys keys) items = keys
+keys_sorting (by_places places) items = map (item_at items) places
+
+-- a core whose first entry has this number
+abbrev pub core_meant : List TableShape → Sorting → ℕ → CoreTree → CoreForm
+core_meant tables sorting number c =
+    let s = from_scope tables c.from in
+    let items = output_values (core_outputs tables c) in
+    let keys = keys_sorting sorting items in
+    record {
+      from = chains_meant tables number c.from;
+      conditions = conditions_of s c.condition;
+      group = group_meant s c (keys ++ items);
+      items = items;
+      distinct = c.distinct;
+      keys = keys;
+    }
+
+-- ---- the whole (SQL:2016, <query expression>)
 
 abbrev pub rows_left : Option LimitTree → Option ℕ
 rows_left None = None
 rows_left (Some no_limit) = None
 rows_left (Some (rows n)) = Some n
 
--- A query in terms of places: the names of the answer's columns, the place of each entry's table in the list of tables, and what is asked
--- of these entries, which are counted from 0.
+-- ORDER BY of a query of one core sees what that core has in view, and its outputs; of one with UNION ALL the outputs, under the names that
+-- the first core gives them.
+abbrev pub sorting_in : Scope → List Output → SelectTree → Sorting
+sorting_in s outs q = if is_empty q.others then by_keys (map (key_meant s outs) q.keys) else by_places (map (key_place outs) q.keys)
+
+abbrev pub sorting_of : List TableShape → SelectTree → Sorting
+sorting_of tables q = sorting_in (from_scope tables q.core.from) (core_outputs tables q.core) q
+
+-- the cores, the first entry of the first having this number; their entries are counted over all of them
+abbrev pub cores_meant : List TableShape → Sorting → ℕ → List CoreTree → List CoreForm
+cores_meant tables sorting number [] = []
+cores_meant tables sorting number (c ∷ cs) =
+    core_meant tables sorting number c ∷ cores_meant tables sorting (number + length (entries_of c.from)) cs
+
+-- A query in terms of places: the names of the answer's columns, which are those of the first core, the place of each entry's table in the
+-- list of tables, and what is asked of these entries, which are counted from 0.
 pub record Meant : Type 0 where
   pub names : List Name
   pub entries : List ℕ
   pub form : Form
 
 abbrev pub meant_in : List TableShape → SelectTree → Meant
-meant_in tables q =
-    let s = from_scope tables q.from in
-    let outs = outputs_of s q.items in
-    let items = map (λ (o : Output). o.value) outs in
-    let keys = map (key_meant s outs) q.keys in
-    record {
-      names = map (λ (o : Output). o.name) outs;
-      entries = from_places tables q.from;
-      form = record {
-        cores = record {
-          from = chains_meant tables 0 q.from;
-          conditions = conditions_of s q.condition;
-          group = group_meant s q (keys ++ items);
-          items = items;
-          distinct = q.distinct;
-          keys = keys;
-        } ∷ [];
-        directions = map key_direction q.keys;
-        offset = unwrap_or q.offset 0;
-        limit = rows_left q.limit;
-      };
-    }
+meant_in tables q = record {
+  names = map (λ (o : Output). o.name) (core_outputs tables q.core);
+  entries = query_places tables q;
+  form = record {
+    cores = cores_meant tables (sorting_of tables q) 0 (cores_of q);
+    directions = map key_direction q.keys;
+    offset = unwrap_or q.offset 0;
+    limit = rows_left q.limit;
+  };
+}
 
 -- what a statement means, where no cause of names or types stands
 abbrev pub meant : List TableShape → StatementTree → Meant

@@ -5,11 +5,11 @@ use Rattle.med_value.specs.declared.cause.Cause.{Cause}
 use Rattle.med_value.specs.declared.cause.Cause.TheVariants.{UndefinedTable, UndefinedColumn, AmbiguousColumn, DuplicateAlias, InvalidColumnReference, MisplacedName}
 use Rattle.med_syntax.specs.Tree.{Name}
 use Rattle.med_syntax.specs.ExprTree.{ExprTree, ExprTrees, num, negative, text, truth, null, column, call_all, call, paren, minus, binary, between, among, like, compare, tested, negation, chain, none, more}
-use Rattle.med_syntax.specs.QueryTree.{ItemTree, all, all_of, value, EntryTree, JoinTree, inner_join, left_join, cross_join, ChainTree, GroupTree, KeyTree, SelectTree, StatementTree, select}
+use Rattle.med_syntax.specs.QueryTree.{ItemTree, all, all_of, value, EntryTree, JoinTree, inner_join, left_join, cross_join, ChainTree, GroupTree, KeyTree, CoreTree, SelectTree, cores_of, StatementTree, select}
 use Rattle.tri_expr.specs.Tree.{Tree}
 use Rattle.tri_expr.specs.TreeParts.{same_tree}
-use Rattle.bind_names.specs.Scope.{TableShape, Scope, has_entry, candidates, exposed_name, entries_of, is_known, entry_shape, from_scope}
-use Rattle.bind_names.specs.Meaning.{Output, outputs_of, SortKey, position, output_name, expression, is_named, sort_key, resolved, with_join}
+use Rattle.bind_names.specs.Scope.{TableShape, Scope, has_entry, candidates, exposed_name, entries_of, query_entries, is_known, entry_shape, from_scope}
+use Rattle.bind_names.specs.Meaning.{Output, SortKey, position, output_name, expression, is_named, sort_key, places_named, resolved, with_join, is_empty, core_outputs}
 
 -- 42703 where a name means no column, 42702 where it can mean several
 abbrev pub counted_causes : List ℕ → List Cause
@@ -115,24 +115,56 @@ abbrev pub alias_causes : List Name → List Cause
 alias_causes [] = []
 alias_causes (n ∷ ns) = if list_any (bytes_eq n) ns then DuplicateAlias ∷ [] else alias_causes ns
 
-abbrev pub from_causes : List TableShape → List ChainTree → List Cause
-from_causes tables chains = flat_map (entry_causes tables) (entries_of chains) ++ alias_causes (map exposed_name (entries_of chains))
+-- of what a core asks of its entries, which bring this into view
+abbrev pub core_causes_in : List TableShape → Scope → CoreTree → List Cause
+core_causes_in tables s c =
+    flat_map (chain_name_causes tables) c.from ++ (flat_map (item_name_causes s) c.items ++ (condition_name_causes s c.condition
+    ++ (flat_map (group_name_causes s) c.groups ++ condition_name_causes s c.having)))
 
--- of what is asked of the entries
+abbrev pub core_asked_causes : List TableShape → CoreTree → List Cause
+core_asked_causes tables c = core_causes_in tables (from_scope tables c.from) c
+
+-- 42702 for a name that stands twice among the outputs, whatever they show
+abbrev pub twice_causes : List ℕ → List Cause
+twice_causes [] = []
+twice_causes (p ∷ []) = []
+twice_causes (p ∷ r ∷ rs) = AmbiguousColumn ∷ []
+
+-- of a key of ORDER BY of a query with UNION ALL: 42P10 for one that is no output
+abbrev pub output_key_causes : List Output → SortKey → List Cause
+output_key_causes outs (position n) = position_causes outs n
+output_key_causes outs (output_name n) = twice_causes (places_named 0 n outs)
+output_key_causes outs (expression e) = InvalidColumnReference ∷ []
+
+abbrev pub place_name_causes : List Output → KeyTree → List Cause
+place_name_causes outs k = output_key_causes outs (sort_key outs k.key)
+
+-- of ORDER BY, where the first core has this in view and these outputs
+abbrev pub order_causes_in : Scope → List Output → SelectTree → List Cause
+order_causes_in s outs q =
+    if is_empty q.others then flat_map (key_name_causes s q.core.distinct outs) q.keys else flat_map (place_name_causes outs) q.keys
+
+abbrev pub order_name_causes : List TableShape → SelectTree → List Cause
+order_name_causes tables q = order_causes_in (from_scope tables q.core.from) (core_outputs tables q.core) q
+
+-- of the entries of all cores, each of which has a name of its own within its core
+abbrev pub core_alias_causes : CoreTree → List Cause
+core_alias_causes c = alias_causes (map exposed_name (entries_of c.from))
+
+abbrev pub entered_causes : List TableShape → SelectTree → List Cause
+entered_causes tables q = flat_map (entry_causes tables) (query_entries q) ++ flat_map core_alias_causes (cores_of q)
+
+-- of what is asked of them
 abbrev pub asked_causes : List TableShape → SelectTree → List Cause
-asked_causes tables q =
-    let s = from_scope tables q.from in
-    flat_map (chain_name_causes tables) q.from ++ (flat_map (item_name_causes s) q.items ++ (condition_name_causes s q.condition
-    ++ (flat_map (group_name_causes s) q.groups ++ (condition_name_causes s q.having
-    ++ flat_map (key_name_causes s q.distinct (outputs_of s q.items)) q.keys))))
+asked_causes tables q = flat_map (core_asked_causes tables) (cores_of q) ++ order_name_causes tables q
 
--- Columns are looked for once all entries are known, each by a name of its own.
+-- Columns are looked for once all tables of the statement are known.
 abbrev pub once_known : List Cause → List Cause → List Cause
 once_known [] asked = asked
 once_known (c ∷ cs) asked = c ∷ cs
 
 abbrev pub select_name_causes : List TableShape → SelectTree → List Cause
-select_name_causes tables q = once_known (from_causes tables q.from) (asked_causes tables q)
+select_name_causes tables q = once_known (entered_causes tables q) (asked_causes tables q)
 
 abbrev pub statement_name_causes : List TableShape → StatementTree → List Cause
 statement_name_causes tables (select q) = select_name_causes tables q

@@ -5,7 +5,7 @@ use Rattle.std.specs.List.{list_any}
 use Rattle.med_value.specs.Column.{Column, column_of}
 use Rattle.med_value.specs.declared.value.ColType.{ColType}
 use Rattle.med_syntax.specs.Tree.{Name}
-use Rattle.med_syntax.specs.QueryTree.{EntryTree, JoinTree, inner_join, left_join, cross_join, ChainTree}
+use Rattle.med_syntax.specs.QueryTree.{EntryTree, JoinTree, inner_join, left_join, cross_join, ChainTree, CoreTree, SelectTree, cores_of}
 use Rattle.bind_names.specs.declared.table.AttachedTable.{AttachedTable}
 use Rattle.bind_names.specs.declared.scope.Visible.{Visible}
 
@@ -121,9 +121,19 @@ entry_columns tables e = unwrap_or (option_map (λ (t : TableShape). t.columns) 
 abbrev pub entry_shape : List TableShape → EntryTree → TableShape
 entry_shape tables e = record { name = exposed_name e; columns = entry_columns tables e }
 
--- what FROM brings into view, and the places of its tables
+-- what FROM brings into view
 abbrev pub from_scope : List TableShape → List ChainTree → Scope
 from_scope tables chains = map (entry_shape tables) (entries_of chains)
 
-abbrev pub from_places : List TableShape → List ChainTree → List ℕ
-from_places tables chains = map (entry_place tables) (entries_of chains)
+-- ---- the entries of a query
+
+-- those of each core, one core after another
+abbrev pub query_entries : SelectTree → List EntryTree
+query_entries q = flat_map (λ (c : CoreTree). entries_of c.from) (cores_of q)
+
+-- what each of them brings into view of its core, and the places of their tables
+abbrev pub query_scope : List TableShape → SelectTree → Scope
+query_scope tables q = map (entry_shape tables) (query_entries q)
+
+abbrev pub query_places : List TableShape → SelectTree → List ℕ
+query_places tables q = map (entry_place tables) (query_entries q)

@@ -14,7 +14,8 @@ crate::proofs::Tables::columns_missing, crate::proofs::Tables::columns_found, cr
 ghost use Rattle.std.specs.Prelude.{◌≡◌, ◌∷◌, [], map, flat_map, bytes_eq, string_bytes};
 ghost use Rattle.std.specs.List.{list_any};
 ghost use Rattle.med_value.specs.Column.{column_of};
-ghost use Rattle.med_syntax.specs.QueryView.{entry_tree, join_tree, chain_tree};
+ghost use Rattle.med_syntax.specs.QueryView.{entry_tree, join_tree, chain_tree, core_tree, select_tree};
+ghost use Rattle.med_syntax.specs.QueryTree.{CoreTree};
 ghost use Rattle.bind_names.specs.Scope as spec;
 ghost use Rattle.bind_names.specs.Scope.{table_shape, visible, entry_shape, entry_columns, chain_entries, from_scope};
 ghost use Rattle.bind_names.specs.Naming.{alias_causes};
@@ -23,7 +24,7 @@ ghost use Rattle.bind_names.specs.Seen.{seen_entry, AddsEntries, name_of, FindsT
 
 use crate::scope::Visible;
 use crate::table::AttachedTable;
-use med_syntax::{Chain, Entry, Join};
+use med_syntax::{Chain, Core, Entry, Join, Select};
 use med_value::{Cause, ColumnDef};
 use std::alloc::Global;
 
@@ -103,6 +104,27 @@ pub fn entries_of(alloc: Global, chains: &[Chain]) -> Result<Vec<&Entry>, Cause>
 {
     let mut out = Vec::new(alloc);
     push_chains(chains, &mut out)?;
+    Ok(out)
+}
+
+// Appends the entries of each core.
+fn push_cores<'a>(cores: &'a [Core], out: &mut Vec<&'a Entry>) -> Result<(), Cause>
+    ensures { AddsEntries (flat_map (λ (c : CoreTree). spec.entries_of c.from) (map core_tree cores.now))
+        out.old.items out.new.items result }
+{
+    for core in cores {
+        push_chains(core.from.as_slice(), out)?;
+    }
+    Ok(())
+}
+
+/// The entries of a query: those of FROM of each core, one core after another.
+pub fn query_entries(alloc: Global, select: &Select) -> Result<Vec<&Entry>, Cause>
+    ensures { Means (λ v. map seen_entry v.items) [] (spec.query_entries (select_tree select.now)) result }
+{
+    let mut out = Vec::new(alloc);
+    push_chains(select.core.from.as_slice(), &mut out)?;
+    push_cores(select.others.as_slice(), &mut out)?;
     Ok(out)
 }
 

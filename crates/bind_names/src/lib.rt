@@ -15,8 +15,9 @@ mod table;
 
 pub use aggregates::{any_has_aggregate, has_aggregate};
 pub use from::{
-    Located, check_names, entries_of, from_in_view, joined_entry, scope_of, table_named, visible_of,
+    Located, check_names, entries_of, from_in_view, joined_entry, query_entries, scope_of,
+    table_named, visible_of,
 };
 pub use functions::function_named;
-pub use scope::{FoundPlaces, Visible, column_kind, find_column, is_any_named, is_named};
+pub use scope::{FoundPlaces, Visible, column_kind, find_column, is_any_named, is_named, one_more};
 pub use table::AttachedTable;

@@ -29,8 +29,8 @@ pub enum FoundPlaces {
     Several,
 }
 
-// One more was found in this place.
-fn one_more(found: FoundPlaces, place: usize) -> FoundPlaces
+/// One more was found in this place.
+pub fn one_more(found: FoundPlaces, place: usize) -> FoundPlaces
     ensures { result ≡ with_place found place }
 {
     match found {

@@ -3,7 +3,7 @@ use Rattle.std.specs.Prelude.{Bool, ℕ, List, [], ◌∷◌, ◌++◌, map, fil
 use Rattle.med_value.specs.declared.cause.Cause.{Cause}
 use Rattle.med_syntax.specs.Tree.{Name}
 use Rattle.med_syntax.specs.ExprTree.{ExprTree, ExprTrees}
-use Rattle.med_syntax.specs.QueryTree.{ItemTree, EntryTree, JoinTree, ChainTree, GroupTree, KeyTree, SelectTree}
+use Rattle.med_syntax.specs.QueryTree.{ItemTree, EntryTree, JoinTree, ChainTree, GroupTree, KeyTree, CoreTree, SelectTree}
 use Rattle.tri_expr.specs.declared.expr.Expr.{Expr}
 use Rattle.tri_expr.specs.Tree.{Tree, part, tree, trees}
 use Rattle.med_query.specs.declared.select.Join.{Join}
@@ -11,12 +11,14 @@ use Rattle.med_query.specs.declared.select.JoinChain.{JoinChain}
 use Rattle.med_query.specs.declared.select.Grouping.{Grouping}
 use Rattle.med_query.specs.Form.{join_form, chain_form, group_form}
 use Rattle.bind_names.specs.Scope.{TableShape, Scope, entry_shape}
-use Rattle.bind_names.specs.Naming.{name_causes, name_causes_of_all, condition_name_causes, on_name_causes, joins_name_causes, chain_name_causes, item_name_causes, sort_key_causes, key_name_causes, group_name_causes}
-use Rattle.bind_names.specs.Meaning.{resolved, resolved_all, conditions_of, join_meant, joins_meant, chain_meant, chains_meant, Output, outputs_of, item_outputs, is_named, SortKey, position, output_name, expression, sorted_by, key_meant, group_place, groups_rows, group_of}
+use Rattle.bind_names.specs.Naming.{name_causes, name_causes_of_all, condition_name_causes, on_name_causes, joins_name_causes, chain_name_causes, item_name_causes, sort_key_causes, key_name_causes, place_name_causes, order_causes_in, group_name_causes}
+use Rattle.bind_names.specs.Meaning.{resolved, resolved_all, conditions_of, join_meant, joins_meant, chain_meant, chains_meant, Output, outputs_of, item_outputs, is_named, SortKey, position, output_name, expression, sorted_by, key_meant, key_place, Sorting as SortingForm, by_keys, by_places, sorting_in, group_place, groups_rows, group_of}
 use Rattle.bind_names.specs.Telling.{Means, Adds}
 use Rattle.bind_query.specs.declared.outputs.Shown.{Shown}
 use Rattle.bind_query.specs.declared.keys.KeyForm.{KeyForm}
 use Rattle.bind_query.specs.declared.keys.KeyForm.TheVariants.{Position, Named, Expressed}
+use Rattle.bind_query.specs.declared.sorting.Sorting.{Sorting}
+use Rattle.bind_query.specs.declared.sorting.Sorting.TheVariants.{Keys, Places}
 use Rattle.bind_query.specs.Shown.{output_of}
 use Rattle.med_syntax.specs.ExprView.{expr_tree}
 
@@ -56,9 +58,9 @@ ResolvesJoins {A} tables first number js =
 abbrev pub ResolvesChain : List TableShape → ℕ → ChainTree → Result JoinChain Cause → Type 0
 ResolvesChain tables number c = Means chain_form (chain_name_causes tables c) (chain_meant tables number c)
 
-abbrev pub ResolvesChains : {A : Type 0} → List TableShape → List ChainTree → Result (Vec JoinChain A) Cause → Type 0
-ResolvesChains {A} tables cs =
-    Means (λ (v : Vec JoinChain A). map chain_form v.items) (flat_map (chain_name_causes tables) cs) (chains_meant tables 0 cs)
+abbrev pub ResolvesChains : {A : Type 0} → List TableShape → ℕ → List ChainTree → Result (Vec JoinChain A) Cause → Type 0
+ResolvesChains {A} tables number cs =
+    Means (λ (v : Vec JoinChain A). map chain_form v.items) (flat_map (chain_name_causes tables) cs) (chains_meant tables number cs)
 
 -- ---- items
 
@@ -93,15 +95,27 @@ abbrev pub ResolvesKeys : {A : Type 0} → Scope → Bool → List Output → Li
 ResolvesKeys {A} s unique outs ks =
     Means (λ (v : Vec Expr A). map tree v.items) (flat_map (key_name_causes s unique outs) ks) (map (key_meant s outs) ks)
 
+-- the places of the outputs that keys mean in a query with UNION ALL
+abbrev pub PlacesKeys : {A : Type 0} → List Output → List KeyTree → Result (Vec ℕ A) Cause → Type 0
+PlacesKeys {A} outs ks = Means (λ (v : Vec ℕ A). v.items) (flat_map (place_name_causes outs) ks) (map (key_place outs) ks)
+
+abbrev pub sorting_form : Sorting → SortingForm
+sorting_form (Keys keys) = by_keys (map tree keys.items)
+sorting_form (Places places) = by_places places.items
+
+-- by what the rows of a query are sorted, the first core having this in view and these outputs
+abbrev pub SortsRows : Scope → List Output → SelectTree → Result Sorting Cause → Type 0
+SortsRows s outs q = Means sorting_form (order_causes_in s outs q) (sorting_in s outs q)
+
 -- ---- GROUP BY
 
 abbrev pub FindsPlaces : {A : Type 0} → Scope → List GroupTree → Result (Vec ℕ A) Cause → Type 0
 FindsPlaces {A} s gs = Means (λ (v : Vec ℕ A). v.items) (flat_map (group_name_causes s) gs) (map (group_place s) gs)
 
--- what a query shows: its order keys and its items
+-- what a core shows: its order keys and its items
 abbrev pub shown_trees : List Expr → List Expr → List Tree
 shown_trees keys items = map tree keys ++ map tree items
 
--- the groups of a query that shows this, by the columns in these places
-abbrev pub GroupsBy : SelectTree → List ℕ → List Expr → List Tree → Result (Option Grouping) Cause → Type 0
-GroupsBy q places having shown = Means (option_map group_form) [] (group_of (groups_rows q shown) places (map tree having) shown)
+-- the groups of a core that shows this, by the columns in these places
+abbrev pub GroupsBy : CoreTree → List ℕ → List Expr → List Tree → Result (Option Grouping) Cause → Type 0
+GroupsBy c places having shown = Means (option_map group_form) [] (group_of (groups_rows c shown) places (map tree having) shown)

@@ -4,7 +4,7 @@
 ghost use Rattle.bind_names.specs.Meaning.{groups_rows};
 ghost use Rattle.bind_names.specs.Telling.{Means, Adds};
 ghost use Rattle.bind_query.specs.Resolving.{GroupsBy, shown_trees};
-ghost use Rattle.med_syntax.specs.QueryView.{select_tree};
+ghost use Rattle.med_syntax.specs.QueryView.{core_tree};
 ghost use Rattle.std.specs.List.{list_any};
 ghost use Rattle.std.specs.Option.{is_some};
 ghost use Rattle.std.specs.Prelude.{◌≡◌, ◌++◌, [], not, ◌||◌, map, flat_map};
@@ -14,7 +14,7 @@ ghost use Rattle.tri_expr.specs.TreeParts.{arguments_in};
 use bind_names::any_has_aggregate;
 use expr_parts::arguments;
 use med_query::Grouping;
-use med_syntax::Select as WrittenSelect;
+use med_syntax::Core;
 use med_value::Cause;
 use std::alloc::Global;
 use tri_expr::Expr;
@@ -46,28 +46,28 @@ fn all_arguments(
     Ok(out)
 }
 
-// Whether the query groups: it has GROUP BY, HAVING or an aggregate.
-fn groups_rows(select: &WrittenSelect, keys: &[Expr], items: &[Expr]) -> bool
-    ensures { result ≡ groups_rows (select_tree select.now) (shown_trees keys.now items.now) }
+// Whether a core groups: it has GROUP BY, HAVING or an aggregate.
+fn groups_rows(core: &Core, keys: &[Expr], items: &[Expr]) -> bool
+    ensures { result ≡ groups_rows (core_tree core.now) (shown_trees keys.now items.now) }
 {
-    !select.groups.as_slice().is_empty()
-        || select.having.is_some()
+    !core.groups.as_slice().is_empty()
+        || core.having.is_some()
         || any_has_aggregate(keys)
         || any_has_aggregate(items)
 }
 
-/// The groups of a query, if it groups: by the columns in these places, with these conjuncts of HAVING.
+/// The groups of a core, if it groups: by the columns in these places, with these conjuncts of HAVING.
 pub fn grouping(
     alloc: Global,
-    select: &WrittenSelect,
+    core: &Core,
     places: Vec<usize>,
     having: Vec<Expr>,
     keys: &[Expr],
     items: &[Expr],
 ) -> Result<Option<Grouping>, Cause>
-    ensures { GroupsBy (select_tree select.now) places.items having.items (shown_trees keys.now items.now) result }
+    ensures { GroupsBy (core_tree core.now) places.items having.items (shown_trees keys.now items.now) result }
 {
-    if !groups_rows(select, keys, items) {
+    if !groups_rows(core, keys, items) {
         return Ok(None);
     }
     let arguments = all_arguments(alloc, having.as_slice(), keys, items)?;

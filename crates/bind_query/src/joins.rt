@@ -148,16 +148,17 @@ fn after_chain(number: usize, chain: &Chain) -> Result<usize, Cause>
     }
 }
 
-/// The chains of FROM; their entries are counted over all of them, from 0.
+/// The chains of FROM; their entries are counted over all of them, from this number.
 pub fn chains(
     alloc: Global,
     tables: &[AttachedTable],
+    first: usize,
     chains: &[Chain],
 ) -> Result<Vec<JoinChain>, Cause>
-    ensures { ResolvesChains (shapes_of tables.now) (map chain_tree chains.now) result }
+    ensures { ResolvesChains (shapes_of tables.now) first (map chain_tree chains.now) result }
 {
     let mut out = Vec::new(alloc);
-    let mut number: usize = 0;
+    let mut number = first;
     for written in chains {
         let chain = chain(alloc, tables, number, written)?;
         out.push(chain)?;

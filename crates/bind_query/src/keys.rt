@@ -8,24 +8,25 @@ bind_names::proofs::Causes::tells_memory, bind_names::proofs::Causes::tells_one,
 bind_names::proofs::Causes::none_of_two))]
 
 ghost use Rattle.bind_names.specs.Meaning as spec;
-ghost use Rattle.bind_names.specs.Meaning.{Output, first_value, sort_key, expression, key_direction};
-ghost use Rattle.bind_names.specs.Naming.{position_causes, output_name_causes, distinct_causes};
+ghost use Rattle.bind_names.specs.Meaning.{Output, first_value, sort_key, position, output_name, expression, key_direction};
+ghost use Rattle.bind_names.specs.Naming.{position_causes, output_name_causes, output_key_causes, distinct_causes};
 ghost use Rattle.bind_names.specs.Scope.{scope_of};
-ghost use Rattle.bind_names.specs.Telling.{Means, Passes};
-ghost use Rattle.bind_query.specs.Resolving.{key_form, outputs_named, SortsBy, ResolvesKeys, FindsPlaces};
+ghost use Rattle.bind_names.specs.Telling.{Means, Passes, with_places};
+ghost use Rattle.bind_names.specs.declared.scope.FoundPlaces.TheVariants.{Nothing};
+ghost use Rattle.bind_query.specs.Resolving.{key_form, outputs_named, SortsBy, ResolvesKeys, PlacesKeys, FindsPlaces};
 ghost use Rattle.bind_query.specs.Shown.{output_of};
 ghost use Rattle.bind_query.specs.Steps.{IsFirst};
 ghost use Rattle.med_query.specs.Form.{direction_of};
 ghost use Rattle.med_syntax.specs.ExprView.{expr_tree};
 ghost use Rattle.med_syntax.specs.QueryView.{key_tree, group_tree};
 ghost use Rattle.std.specs.List.{list_any, list_all};
-ghost use Rattle.std.specs.Prelude.{◌≡◌, ◌-◌, [], map, drop};
+ghost use Rattle.std.specs.Prelude.{◌≡◌, ◌-◌, ℕ, [], map, drop};
 ghost use Rattle.tri_expr.specs.Tree.{tree};
 ghost use Rattle.tri_expr.specs.TreeParts.{same_tree};
 
 use crate::outputs::Shown;
 use crate::resolve::resolve;
-use bind_names::{Visible, find_column};
+use bind_names::{FoundPlaces, Visible, find_column, one_more};
 use expr_parts::is_same;
 use med_query::SortDirection;
 use med_syntax::{Expr as Written, GroupColumn, OrderKey};
@@ -234,6 +235,77 @@ pub fn keys(
     for written in keys {
         let value = key(alloc, scope, distinct, outputs, &written.key)?;
         out.push(value)?;
+    }
+    Ok(out)
+}
+
+// The places of the outputs of this name.
+fn places_named(outputs: &[Shown], name: &str) -> FoundPlaces
+    ensures { result ≡ with_places Nothing (spec.places_named 0 name.now (map output_of outputs.now)) }
+{
+    let mut found = FoundPlaces::Nothing;
+    for (place, output) in outputs.iter().enumerate() {
+        if output.name.as_str() == name {
+            found = one_more(found, place);
+        }
+    }
+    found
+}
+
+// The place of the output of this name: 42702 where there are several.
+#[tactic(auto, using(bind_names::proofs::Causes::tells_one, crate::proofs::KeySteps::place_none, crate::proofs::KeySteps::place_one, crate::proofs::KeySteps::place_several))]
+fn place_named(outputs: &[Shown], name: &str) -> Result<usize, Cause>
+    ensures { Means (λ (p : ℕ). p) (output_key_causes (map output_of outputs.now) (output_name name.now))
+        (spec.output_place (map output_of outputs.now) (output_name name.now)) result }
+{
+    match places_named(outputs, name) {
+        FoundPlaces::Nothing => Ok(0),
+        FoundPlaces::One(place) => Ok(place),
+        FoundPlaces::Several => Err(Cause::AmbiguousColumn),
+    }
+}
+
+// The place of the output in this position, counted from 1: 42P10 where there is none.
+#[tactic(auto, using(bind_names::proofs::Causes::tells_one, crate::proofs::KeySteps::position_zero, crate::proofs::KeySteps::position_past, crate::proofs::KeySteps::position_there))]
+fn place_at(outputs: &[Shown], number: u64) -> Result<usize, Cause>
+    ensures { Means (λ (p : ℕ). p) (output_key_causes (map output_of outputs.now) (position number))
+        (spec.output_place (map output_of outputs.now) (position number)) result }
+{
+    if number == 0 {
+        return Err(Cause::InvalidColumnReference);
+    }
+    let place = (number - 1) as usize;
+    if place >= outputs.len() {
+        return Err(Cause::InvalidColumnReference);
+    }
+    Ok(place)
+}
+
+// The place of the output that a key means: 42P10 for a key that is no output.
+fn place_of(outputs: &[Shown], e: &Written) -> Result<usize, Cause>
+    ensures { Means (λ (p : ℕ). p) (output_key_causes (map output_of outputs.now) (sort_key (map output_of outputs.now) (expr_tree e.now)))
+        (spec.output_place (map output_of outputs.now) (sort_key (map output_of outputs.now) (expr_tree e.now))) result }
+{
+    match form_of_key(outputs, e) {
+        KeyForm::Position(number) => place_at(outputs, number),
+        KeyForm::Named(name) => place_named(outputs, name),
+        KeyForm::Expressed(_) => Err(Cause::InvalidColumnReference),
+    }
+}
+
+/// The places of the outputs that the keys of ORDER BY mean in a query with UNION ALL: 42P10 for a key that is no output, 42702 for a name
+/// that several outputs have.
+pub fn output_places(
+    alloc: Global,
+    outputs: &[Shown],
+    keys: &[OrderKey],
+) -> Result<Vec<usize>, Cause>
+    ensures { PlacesKeys (map output_of outputs.now) (map key_tree keys.now) result }
+{
+    let mut out = Vec::new(alloc);
+    for written in keys {
+        let found = place_of(outputs, &written.key)?;
+        out.push(found)?;
     }
     Ok(out)
 }

@@ -4,10 +4,10 @@ use Rattle.std.specs.List.{list_any}
 use Rattle.med_syntax.specs.Tree.{Name}
 use Rattle.med_syntax.specs.ExprTree.{ExprTree, num, negative, text, truth, null, column, call_all, call, paren, minus, binary, between, among, like, compare, tested, negation, chain}
 use Rattle.med_value.specs.declared.cause.Cause.{Cause}
-use Rattle.med_syntax.specs.QueryTree.{KeyTree, SelectTree}
+use Rattle.med_syntax.specs.QueryTree.{KeyTree, CoreTree}
 use Rattle.bind_names.specs.Scope.{TableShape, Scope, from_scope}
-use Rattle.bind_names.specs.Meaning.{Output, output_name, expression, is_named, sort_key, outputs_of}
-use Rattle.bind_types.specs.Typing.{type_causes, item_type_causes, condition_type_causes, chain_type_causes, sort_key_type_causes, key_type_causes, written_type_causes}
+use Rattle.bind_names.specs.Meaning.{Output, output_name, expression, is_named, sort_key}
+use Rattle.bind_types.specs.Typing.{type_causes, chain_type_causes, sort_key_type_causes, key_type_causes, core_written_causes}
 use Rattle.bind_types.specs.Kinds.{written_key_causes, asked_type_causes}
 
 name_types : (s : Scope) (n : Name) (b : Bool) → sort_key_type_causes s (if b then output_name n else expression (column None n)) ≡ []
@@ -40,9 +40,5 @@ keys_types s outs [] = refl
 keys_types s outs (k ∷ ks) = rw (key_types s outs k.key, keys_types s outs ks) refl
 
 -- where no ON is refused, what is left are the causes of what is asked of the entries
-pub written_is : (tables : List TableShape) (q : SelectTree) → flat_map (chain_type_causes tables) q.from ≡ [] → asked_type_causes (from_scope tables q.from) q ≡ written_type_causes tables q
-written_is tables q none =
-    let s = from_scope tables q.from in
-    let outs = outputs_of s q.items in
-    let asked = λ (ks : List Cause). flat_map (item_type_causes s) q.items ++ (condition_type_causes s q.condition ++ (condition_type_causes s q.having ++ ks)) in
-    sym (ap (λ (xs : List Cause). xs ++ asked (flat_map (key_type_causes s outs) q.keys)) none ∙ ap asked (keys_types s outs q.keys))
+pub written_is : (tables : List TableShape) (c : CoreTree) → flat_map (chain_type_causes tables) c.from ≡ [] → asked_type_causes (from_scope tables c.from) c ≡ core_written_causes tables c
+written_is tables c none = sym (ap (λ (xs : List Cause). xs ++ asked_type_causes (from_scope tables c.from) c) none)

@@ -1,23 +1,24 @@
 -- Phase 4, types: the type of an expression in a scope, and the causes of refusal that stand for a statement over tables. A list is read
 -- as a set. A cause stands at a part by the types of its operands, whether or not an operand is itself refused.
-use Rattle.std.specs.Prelude.{ℕ, Bool, true, false, not, ◌||◌, ◌==◌, List, [], ◌∷◌, ◌++◌, Option, Some, None, unwrap_or, if◌then◌else◌, Contains, flat_map}
-use Rattle.std.specs.List.{list_all, list_any}
+use Rattle.std.specs.Prelude.{ℕ, nat_eq, Bool, true, false, not, ◌||◌, ◌==◌, List, [], ◌∷◌, ◌++◌, length, map, slice_index_or, Option, Some, None, unwrap_or, if◌then◌else◌, Contains, flat_map}
+use Rattle.std.specs.List.{list_all, list_any, range_with_len}
 use Rattle.med_value.specs.declared.value.ColType.{ColType}
 use Rattle.med_value.specs.declared.value.ColType.TheVariants.{Int, Text, Bool as Truth}
 use Rattle.med_value.specs.declared.cause.Cause.{Cause}
-use Rattle.med_value.specs.declared.cause.Cause.TheVariants.{DatatypeMismatch, UndefinedFunction, Grouping, InvalidEscape, FeatureNotSupported}
+use Rattle.med_value.specs.declared.cause.Cause.TheVariants.{DatatypeMismatch, UndefinedFunction, Grouping, InvalidEscape, FeatureNotSupported, ValuesSyntax}
 use Rattle.med_value.specs.declared.operators.Status.{Status}
 use Rattle.med_value.specs.declared.operators.Status.TheVariants as statuses
 use Rattle.med_syntax.specs.ExprTree.{ExprTree, ExprTrees, num, negative, text, truth, null, column, call_all, call, paren, minus, binary, between, among, like, compare, tested, negation, chain, none, more}
-use Rattle.med_syntax.specs.QueryTree.{ItemTree, all, all_of, value, JoinTree, inner_join, left_join, cross_join, ChainTree, KeyTree, SelectTree, StatementTree, select}
+use Rattle.med_syntax.specs.QueryTree.{ItemTree, all, all_of, value, JoinTree, inner_join, left_join, cross_join, ChainTree, KeyTree, CoreTree, SelectTree, cores_of, StatementTree, select}
 use Rattle.tri_expr.specs.declared.expr.SetFunction.{SetFunction}
 use Rattle.tri_expr.specs.declared.expr.SetFunction.TheVariants.{Count, Sum, Min, Max}
 use Rattle.tri_expr.specs.Tree.{Tree}
 use Rattle.tri_expr.specs.TreeParts.{is_risky_tree}
 use Rattle.med_query.specs.Form.{JoinForm, cross_form, inner_form, left_form, ChainForm, GroupForm, CoreForm, Form}
-use Rattle.bind_names.specs.Scope.{TableShape, Scope, candidates, kind_among, entry_shape, from_scope}
+use Rattle.bind_names.specs.Scope.{TableShape, Scope, candidates, columns_of, kind_among, entry_shape, from_scope}
 use Rattle.bind_names.specs.Aggregates.{has_aggregate, is_ungrouped}
-use Rattle.bind_names.specs.Meaning.{Output, outputs_of, SortKey, position, output_name, expression, sort_key, function_named, with_join, meant_in}
+use Rattle.bind_names.specs.Meaning.{Output, SortKey, position, output_name, expression, sort_key, function_named, with_join, core_outputs, output_values, meant_in}
+use Rattle.bind_types.specs.TreeTypes.{tree_type, column_kinds}
 
 -- count(*) is a whole number; no other function takes *
 abbrev pub all_rows_type : Option SetFunction → Option ColType
@@ -223,15 +224,58 @@ core_causes f = flat_map chain_causes f.from ++ (no_aggregate f.conditions ++ gr
 abbrev pub form_causes : Form → List Cause
 form_causes f = flat_map core_causes f.cores
 
+-- of the types of what is written in a core
+abbrev pub core_written_causes : List TableShape → CoreTree → List Cause
+core_written_causes tables c =
+    let s = from_scope tables c.from in
+    flat_map (chain_type_causes tables) c.from ++ (flat_map (item_type_causes s) c.items ++ (condition_type_causes s c.condition
+    ++ condition_type_causes s c.having))
+
+-- of ORDER BY, which only in a query of one core has a key that is no output
+abbrev pub order_type_causes : List TableShape → SelectTree → List Cause
+order_type_causes tables q = flat_map (key_type_causes (from_scope tables q.core.from) (core_outputs tables q.core)) q.keys
+
 -- of the types of what is written
 abbrev pub written_type_causes : List TableShape → SelectTree → List Cause
-written_type_causes tables q =
-    let s = from_scope tables q.from in
-    flat_map (chain_type_causes tables) q.from ++ (flat_map (item_type_causes s) q.items ++ (condition_type_causes s q.condition
-    ++ (condition_type_causes s q.having ++ flat_map (key_type_causes s (outputs_of s q.items)) q.keys)))
+written_type_causes tables q = flat_map (core_written_causes tables) (cores_of q) ++ order_type_causes tables q
+
+-- ---- the outputs of the cores that UNION ALL joins
+
+-- the types of the outputs of a core; none for a NULL literal
+abbrev pub core_types : List TableShape → CoreTree → List (Option ColType)
+core_types tables c = map (tree_type (column_kinds (columns_of (from_scope tables c.from)))) (output_values (core_outputs tables c))
+
+abbrev pub answer_types : List TableShape → SelectTree → List (List (Option ColType))
+answer_types tables q = map (core_types tables) (cores_of q)
+
+-- The type of an output of the query, by the types that the cores have in its place: that of the first core whose output there is no NULL
+-- literal, else text.
+abbrev pub place_type : List (Option ColType) → ColType
+place_type [] = Text
+place_type (None ∷ ts) = place_type ts
+place_type (Some t ∷ ts) = t
+
+-- 42804 for outputs of different types in one place
+abbrev pub place_causes : List (Option ColType) → List Cause
+place_causes ts = unless (list_all (takes (place_type ts)) ts) DatatypeMismatch
+
+-- what each core has in a place; none where it has too few outputs
+abbrev pub in_place : List (List (Option ColType)) → ℕ → List (Option ColType)
+in_place rows place = map (λ (ts : List (Option ColType)). slice_index_or ts place None) rows
+
+-- of cores whose outputs are of these types, the first having so many: 42601 where another has not as many
+abbrev pub union_causes : ℕ → List (List (Option ColType)) → List Cause
+union_causes width rows =
+    unless (list_all (λ (ts : List (Option ColType)). nat_eq (length ts) width) rows) ValuesSyntax
+    ++ flat_map (λ (place : ℕ). place_causes (in_place rows place)) (range_with_len 0 width)
+
+abbrev pub output_type_causes : List TableShape → SelectTree → List Cause
+output_type_causes tables q = union_causes (length (core_outputs tables q.core)) (answer_types tables q)
+
+-- ---- the whole
 
 abbrev pub select_type_causes : List TableShape → SelectTree → List Cause
-select_type_causes tables q = written_type_causes tables q ++ form_causes (meant_in tables q).form
+select_type_causes tables q = written_type_causes tables q ++ (form_causes (meant_in tables q).form ++ output_type_causes tables q)
 
 abbrev pub statement_type_causes : List TableShape → StatementTree → List Cause
 statement_type_causes tables (select q) = select_type_causes tables q

@@ -3,7 +3,7 @@
 
 ghost use Rattle.std.specs.Prelude.{◌≡◌, ◌++◌, ◌∷◌, [], map, flat_map, option_map};
 ghost use Rattle.med_syntax.specs.ExprView.{expr_tree};
-ghost use Rattle.med_syntax.specs.QueryView.{item_tree, join_tree, chain_tree, key_tree, select_tree};
+ghost use Rattle.med_syntax.specs.QueryView.{item_tree, join_tree, chain_tree, key_tree, core_tree, select_tree};
 ghost use Rattle.bind_names.specs.Scope.{scope_of, table_shape, visible};
 ghost use Rattle.bind_types.specs.Typing as spec;
 ghost use Rattle.bind_names.specs.Telling.{Passes};
@@ -11,7 +11,7 @@ ghost use Rattle.bind_types.specs.Kinds.{written_key_causes, asked_type_causes};
 
 use crate::typing::{operand, type_of};
 use bind_names::{AttachedTable, Visible, from_in_view, joined_entry, visible_of};
-use med_syntax::{Chain, Expr as Written, Item, Join, OrderKey, Select};
+use med_syntax::{Chain, Core, Expr as Written, Item, Join, OrderKey, Select};
 use med_value::{Cause, ColType};
 use std::alloc::Global;
 
@@ -124,14 +124,40 @@ fn check_keys(scope: &[Visible<'_>], keys: &[OrderKey]) -> Result<(), Cause>
     Ok(())
 }
 
-// Refuses what is asked of the entries in view by its types.
-fn check_asked(scope: &[Visible<'_>], select: &Select) -> Result<(), Cause>
-    ensures { Passes (asked_type_causes (scope_of scope.now) (select_tree select.now)) result }
+// Refuses what a core asks of its entries by its types.
+fn check_asked(scope: &[Visible<'_>], core: &Core) -> Result<(), Cause>
+    ensures { Passes (asked_type_causes (scope_of scope.now) (core_tree core.now)) result }
 {
-    check_items(scope, select.items.as_slice())?;
-    check_condition(scope, &select.condition)?;
-    check_condition(scope, &select.having)?;
-    check_keys(scope, select.keys.as_slice())
+    check_items(scope, core.items.as_slice())?;
+    check_condition(scope, &core.condition)?;
+    check_condition(scope, &core.having)
+}
+
+// Refuses a core by the types of what it writes.
+fn check_core(alloc: Global, core: &Core, tables: &[AttachedTable]) -> Result<(), Cause>
+    ensures { Passes (spec.core_written_causes (map table_shape tables.now) (core_tree core.now)) result }
+{
+    check_from(alloc, core.from.as_slice(), tables)?;
+    let seen = from_in_view(alloc, tables, core.from.as_slice())?;
+    check_asked(seen.as_slice(), core)
+}
+
+// The same of each core.
+fn check_cores(alloc: Global, cores: &[Core], tables: &[AttachedTable]) -> Result<(), Cause>
+    ensures { Passes (flat_map (spec.core_written_causes (map table_shape tables.now)) (map core_tree cores.now)) result }
+{
+    for core in cores {
+        check_core(alloc, core, tables)?;
+    }
+    Ok(())
+}
+
+// Refuses ORDER BY by the types of its keys, which see what the first core has in view.
+fn check_order(alloc: Global, select: &Select, tables: &[AttachedTable]) -> Result<(), Cause>
+    ensures { Passes (spec.order_type_causes (map table_shape tables.now) (select_tree select.now)) result }
+{
+    let seen = from_in_view(alloc, tables, select.core.from.as_slice())?;
+    check_keys(seen.as_slice(), select.keys.as_slice())
 }
 
 /// Refuses a query by the types of what it writes: 42804 where a condition is not boolean, 42883 where an operator or a function has no
@@ -140,7 +166,7 @@ fn check_asked(scope: &[Visible<'_>], select: &Select) -> Result<(), Cause>
 pub fn check_written(alloc: Global, select: &Select, tables: &[AttachedTable]) -> Result<(), Cause>
     ensures { Passes (spec.written_type_causes (map table_shape tables.now) (select_tree select.now)) result }
 {
-    check_from(alloc, select.from.as_slice(), tables)?;
-    let seen = from_in_view(alloc, tables, select.from.as_slice())?;
-    check_asked(seen.as_slice(), select)
+    check_core(alloc, &select.core, tables)?;
+    check_cores(alloc, select.others.as_slice(), tables)?;
+    check_order(alloc, select, tables)
 }

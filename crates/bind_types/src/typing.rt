@@ -14,8 +14,8 @@ use med_syntax::Expr as Written;
 use med_value::{Cause, ColType, Status};
 use tri_expr::SetFunction;
 
-// Whether an operand of this type can stand where that one is asked.
-fn takes(asked: ColType, kind: Option<ColType>) -> bool
+/// Whether an operand of this type can stand where that one is asked.
+pub fn takes(asked: ColType, kind: Option<ColType>) -> bool
     ensures { result ≡ spec.takes asked kind }
 {
     match (asked, kind) {

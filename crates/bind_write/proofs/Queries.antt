@@ -1,39 +1,35 @@
 -- The query of an INSERT over the tables of a catalogue.
-use Rattle.std.proofs.Common.{◌≡◌, inl, inr, ℕ, true, List, [], ◌∷◌, ◌++◌, map, Option, Some, None, unwrap_or, Contains, refl, sym, ap, ◌∙◌, subst, append-nil, arith, option_map, slice_get, if◌then◌else◌}
-use Rattle.std.specs.Option.{is_some, option_and_then}
+use Rattle.std.proofs.Common.{◌≡◌, inl, inr, ℕ, true, List, [], ◌∷◌, ◌++◌, map, Option, Some, None, unwrap_or, Contains, flat_map, refl, sym, ap, ◌∙◌, subst, arith}
 use Rattle.std.proofs.lemmas.List.Elements.{Contains-append_left, Contains-append_right}
 use Rattle.med_value.specs.Causes.{phase_of}
 use Rattle.med_value.specs.Column.{Column, column_of}
 use Rattle.med_value.specs.declared.value.ColType.{ColType}
 use Rattle.med_value.specs.declared.cause.Cause.{Cause}
-use Rattle.med_value.specs.declared.cause.Cause.TheVariants.{OutOfMemory, UndefinedTable}
+use Rattle.med_value.specs.declared.cause.Cause.TheVariants.{OutOfMemory}
 use Rattle.med_syntax.specs.Tree.{Name}
-use Rattle.med_syntax.specs.QueryTree.{EntryTree, SelectTree}
+use Rattle.med_syntax.specs.QueryTree.{SelectTree}
 use Rattle.med_syntax.specs.QueryView.{statement_tree}
 use Rattle.med_syntax.specs.declared.statement.Statement.{Statement}
 use Rattle.med_syntax.specs.declared.statement.Statement.TheVariants as s
 use Rattle.write_syntax.specs.WriteTree.{rows_of}
 use Rattle.write_syntax.specs.WriteView.{given_tree}
 use Rattle.write_syntax.specs.declared.write.Given.TheVariants as g
-use Rattle.tri_expr.specs.Tree.{Tree, tree}
-use Rattle.med_query.specs.Form.{Form, core_form}
 use Rattle.med_query.specs.Select.{are_safe_cores}
 use Rattle.med_write.specs.Form.{insert_form, answer_form}
-use Rattle.bind_names.specs.Naming.{from_causes, asked_causes, select_name_causes, once_known}
+use Rattle.bind_names.specs.Naming.{entered_causes, asked_causes, select_name_causes, once_known}
 use Rattle.bind_names.proofs.Causes.{none_of_two}
-use Rattle.bind_names.specs.Scope.{TableShape, place_named, columns_of, entry_columns, from_scope}
+use Rattle.bind_names.specs.Scope.{query_scope}
 use Rattle.bind_names.specs.Telling.{TellsCause}
-use Rattle.bind_types.specs.Typing.{select_type_causes}
-use Rattle.med_binder.specs.Binding.{IsMeant}
+use Rattle.bind_types.specs.Typing.{answer_types, select_type_causes}
+use Rattle.med_binder.specs.Binding.{IsMeant, bound_kinds}
 use Rattle.med_binder.specs.Counted.{bound_widths}
 use Rattle.med_binder.specs.Within.{widths}
 use Rattle.med_binder.specs.Turns.{TellsInTurn}
 use Rattle.med_binder.specs.declared.bound.BoundQuery.{BoundQuery}
 use Rattle.med_binder.specs.Place.{entry_place}
 use Rattle.med_catalog.specs.DdlCauses.{phase}
-use Rattle.med_catalog.specs.Objects.{Objects, table_named}
+use Rattle.med_catalog.specs.Objects.{Objects}
 use Rattle.bind_catalog.proofs.Phases as of_query
-use Rattle.bind_catalog.proofs.Rows.{causes_missing}
 use Rattle.bind_catalog.specs.Barred.{query_right_causes, target_right_causes}
 use Rattle.bind_catalog.specs.Looked.{query_in}
 use Rattle.bind_catalog.specs.Places.{Attached, ArePlaces}
@@ -42,10 +38,9 @@ use Rattle.bind_catalog.specs.Queries.{QueryNames, QueryTypes, meant_by}
 use Rattle.bind_catalog.specs.Tables.{shapes}
 use Rattle.write_parts.proofs.Lists.{empty_by, in_turn_by, types_in_turn}
 use Rattle.write_parts.specs.Asking.{IsTarget}
-use Rattle.write_parts.specs.Kinds.{tree_type}
 use Rattle.write_parts.specs.Meaning.{columns_in, places_meant}
 use Rattle.write_parts.specs.Naming.{target_causes, named_causes, names_of}
-use Rattle.write_parts.specs.Typing.{column_kinds, row_fit_causes, first_items, answer_types, types_of}
+use Rattle.write_parts.specs.Typing.{row_fit_causes, types_of}
 use Rattle.write_parts.specs.declared.target.Target.{Target}
 use Rattle.bind_write.proofs.Updates.{list_told}
 use Rattle.bind_write.specs.Binding.{query_write}
@@ -61,9 +56,9 @@ once_wider (x ∷ xs) ys zs c h = h
 
 -- where no cause of names or rights stands, all tables of FROM are known
 pub parts_clear : (o : Objects) (user : Name) (q : SelectTree) → ((c : Cause) → QueryNames o user q c → ⊥)
-    → (from_causes (shapes o) q.from ≡ []) × (asked_causes (shapes o) q ≡ []) × (query_right_causes o user q ≡ [])
+    → (entered_causes (shapes o) q ≡ []) × (asked_causes (shapes o) q ≡ []) × (query_right_causes o user q ≡ [])
 parts_clear o user q clear =
-    let both = once_empty (from_causes (shapes o) q.from) (asked_causes (shapes o) q) (empty_by (select_name_causes (shapes o) q) (λ c h. clear c (inl h))) in
+    let both = once_empty (entered_causes (shapes o) q) (asked_causes (shapes o) q) (empty_by (select_name_causes (shapes o) q) (λ c h. clear c (inl h))) in
     (both.0, both.1, empty_by (query_right_causes o user q) (λ c h. clear c (inr h)))
 
 names_clear : (f l a r : List Cause) → f ≡ [] → l ≡ [] → a ≡ [] → r ≡ [] → once_known f (l ++ a) ++ r ≡ []
@@ -71,22 +66,23 @@ names_clear f l a r e k h i = rw (e, k, h, i) refl
 
 pub query_fine : (o : Objects) (bound : List Attached) (user : Name) (columns : List Column) (names : Option (List Name)) (q : SelectTree) (b : BoundQuery)
     → queries.IsBindable o user q → IsMeant (meant_by o q) b → ArePlaces bound (meant_by o q).entries (map entry_place b.entries.items)
-    → bound_widths b ≡ widths (from_scope (shapes o) q.from) → are_safe_cores b.select.cores.items ≡ true → named_causes columns names ≡ [] → IsAskedQuery o bound user columns names q b
-query_fine o bound user columns names q b is meant there wide safe listed =
+    → bound_widths b ≡ widths (query_scope (shapes o) q) → bound_kinds b ≡ answer_types (shapes o) q → are_safe_cores b.select.cores.items ≡ true → named_causes columns names ≡ [] → IsAskedQuery o bound user columns names q b
+query_fine o bound user columns names q b is meant there wide typed safe listed =
     let parts = parts_clear o user q is.names in
     record {
       meant = meant;
       there = there;
       widths = wide;
+      kinds = typed;
       safe = safe;
-      names = names_clear (from_causes (shapes o) q.from) (named_causes columns names) (asked_causes (shapes o) q) (query_right_causes o user q) parts.0 listed parts.1 parts.2;
+      names = names_clear (entered_causes (shapes o) q) (named_causes columns names) (asked_causes (shapes o) q) (query_right_causes o user q) parts.0 listed parts.1 parts.2;
       types = empty_by (select_type_causes (shapes o) q) is.types;
     }
 
 pub query_list : (o : Objects) (user : Name) (columns : List Column) (names : Option (List Name)) (q : SelectTree) (c : Cause)
     → ((d : Cause) → QueryNames o user q d → ⊥) → TellsCause (named_causes columns names) c → TellsInTurn (query_names o user columns names q) (select_type_causes (shapes o) q) c
 query_list o user columns names q c clear t =
-    list_told (from_causes (shapes o) q.from) (named_causes columns names) (asked_causes (shapes o) q) (query_right_causes o user q) (select_type_causes (shapes o) q) c (parts_clear o user q clear).0 t
+    list_told (entered_causes (shapes o) q) (named_causes columns names) (asked_causes (shapes o) q) (query_right_causes o user q) (select_type_causes (shapes o) q) c (parts_clear o user q clear).0 t
 
 -- ---- by the phase of what the query's binder tells
 
@@ -107,7 +103,7 @@ pub query_late : (o : Objects) (user : Name) (columns : List Column) (names : Op
 query_late o user columns names q c n h listed =
     let late = late_clear o user q c n h in
     let parts = parts_clear o user q late.1 in
-    record { told = inr (inr (names_clear (from_causes (shapes o) q.from) (named_causes columns names) (asked_causes (shapes o) q) (query_right_causes o user q) parts.0 listed parts.1 parts.2, late.0)) }
+    record { told = inr (inr (names_clear (entered_causes (shapes o) q) (named_causes columns names) (asked_causes (shapes o) q) (query_right_causes o user q) parts.0 listed parts.1 parts.2, late.0)) }
 
 four_of : (p : Option ℕ) → unwrap_or p 7 ≡ 4 → p ≡ Some 4
 four_of None e = absurd cc
@@ -118,11 +114,11 @@ pub query_early : (o : Objects) (user : Name) (columns : List Column) (names : O
 query_early o user columns names q c (inl e) other = record { told = inl e }
 query_early o user columns names q c (inr (inl (inl i))) other =
     record {
-      told = inr (inl (Contains-append_left (once_known (from_causes (shapes o) q.from) (named_causes columns names ++ asked_causes (shapes o) q)) (query_right_causes o user q) c
-          (once_wider (from_causes (shapes o) q.from) (named_causes columns names) (asked_causes (shapes o) q) c i)));
+      told = inr (inl (Contains-append_left (once_known (entered_causes (shapes o) q) (named_causes columns names ++ asked_causes (shapes o) q)) (query_right_causes o user q) c
+          (once_wider (entered_causes (shapes o) q) (named_causes columns names) (asked_causes (shapes o) q) c i)));
     }
 query_early o user columns names q c (inr (inl (inr i))) other =
-    record { told = inr (inl (Contains-append_right (once_known (from_causes (shapes o) q.from) (named_causes columns names ++ asked_causes (shapes o) q)) (query_right_causes o user q) c i)) }
+    record { told = inr (inl (Contains-append_right (once_known (entered_causes (shapes o) q) (named_causes columns names ++ asked_causes (shapes o) q)) (query_right_causes o user q) c i)) }
 query_early o user columns names q c (inr (inr i)) other = absurd (other (four_of (phase_of c) (of_query.types o q c i.0)))
 
 -- ---- the whole INSERT
@@ -143,7 +139,7 @@ asked_same : (o : Objects) (bound : List Attached) (user name : Name) (names : O
     → query_names o user (map column_of t.columns.now) names q ≡ names_of o user (query_write name names q)
 asked_same o bound user name names q t is =
     ap (λ cs. query_names o user cs names q) is.columns
-    ∙ inserted_names (target_causes (shapes o) name) (from_causes (shapes o) q.from) (named_causes (columns_in (shapes o) name) names) (asked_causes (shapes o) q) (target_right_causes o user name)
+    ∙ inserted_names (target_causes (shapes o) name) (entered_causes (shapes o) q) (named_causes (columns_in (shapes o) name) names) (asked_causes (shapes o) q) (target_right_causes o user name)
     (query_right_causes o user q) is.known is.rights
 
 pub asked_told : (o : Objects) (bound : List Attached) (user name : Name) (names : Option (List Name)) (q : SelectTree) (t : Target) (c : Cause) → IsTarget o bound user name t
@@ -152,52 +148,31 @@ pub asked_told : (o : Objects) (bound : List Attached) (user name : Name) (names
 asked_told o bound user name names q t c is h =
     in_turn_by (query_names o user (map column_of t.columns.now) names q) (names_of o user (query_write name names q)) (select_type_causes (shapes o) q) (types_of o (query_write name names q)) c
     (asked_same o bound user name names q t is)
-    (λ i. Contains-append_left (select_type_causes (shapes o) q) (row_fit_causes (columns_in (shapes o) name) names (answer_types (shapes o) q)) c i) h
+    (λ i. Contains-append_left (select_type_causes (shapes o) q) (flat_map (row_fit_causes (columns_in (shapes o) name) names) (answer_types (shapes o) q)) c i) h
 
--- the types of what the query answers, as they are asked
-abbrev pub seen_types : Objects → SelectTree → List Tree → List (Option ColType)
-seen_types o q items = map (tree_type (column_kinds (columns_of (from_scope (shapes o) q.from)))) items
+fits_answer : (o : Objects) (bound : List Attached) (user name : Name) (names : Option (List Name)) (q : SelectTree) (t : Target) (b : BoundQuery) (rows : List (List (Option ColType))) → IsTarget o bound user name t
+    → IsAskedQuery o bound user (map column_of t.columns.now) names q b → rows ≡ bound_kinds b
+    → flat_map (row_fit_causes (map column_of t.columns.now) names) rows ≡ flat_map (row_fit_causes (columns_in (shapes o) name) names) (answer_types (shapes o) q)
+fits_answer o bound user name names q t b rows is asked e =
+    ap (λ cs. flat_map (row_fit_causes cs names) rows) is.columns ∙ ap (flat_map (row_fit_causes (columns_in (shapes o) name) names)) (e ∙ asked.kinds)
 
-fits_answer : (o : Objects) (bound : List Attached) (user name : Name) (names : Option (List Name)) (q : SelectTree) (t : Target) (b : BoundQuery) (items : List Tree) → IsTarget o bound user name t
-    → IsAskedQuery o bound user (map column_of t.columns.now) names q b → items ≡ first_items (map core_form b.select.cores.items)
-    → row_fit_causes (map column_of t.columns.now) names (seen_types o q items) ≡ row_fit_causes (columns_in (shapes o) name) names (answer_types (shapes o) q)
-fits_answer o bound user name names q t b items is asked e =
-    ap (λ cs. row_fit_causes cs names (seen_types o q items)) is.columns
-    ∙ ap (λ ts. row_fit_causes (columns_in (shapes o) name) names (seen_types o q ts)) (e ∙ ap (λ (f : Form). first_items f.cores) asked.meant.form)
-
-pub answer_told : (o : Objects) (bound : List Attached) (user name : Name) (names : Option (List Name)) (q : SelectTree) (t : Target) (b : BoundQuery) (items : List Tree) (c : Cause)
-    → IsTarget o bound user name t → IsAskedQuery o bound user (map column_of t.columns.now) names q b → items ≡ first_items (map core_form b.select.cores.items)
-    → TellsCause (row_fit_causes (map column_of t.columns.now) names (seen_types o q items)) c
+pub answer_told : (o : Objects) (bound : List Attached) (user name : Name) (names : Option (List Name)) (q : SelectTree) (t : Target) (b : BoundQuery) (rows : List (List (Option ColType))) (c : Cause)
+    → IsTarget o bound user name t → IsAskedQuery o bound user (map column_of t.columns.now) names q b → rows ≡ bound_kinds b
+    → TellsCause (flat_map (row_fit_causes (map column_of t.columns.now) names) rows) c
     → TellsInTurn (names_of o user (query_write name names q)) (types_of o (query_write name names q)) c
-answer_told o bound user name names q t b items c is asked e h =
-    types_in_turn (names_of o user (query_write name names q)) (row_fit_causes (columns_in (shapes o) name) names (answer_types (shapes o) q)) (types_of o (query_write name names q)) c
+answer_told o bound user name names q t b rows c is asked e h =
+    types_in_turn (names_of o user (query_write name names q)) (flat_map (row_fit_causes (columns_in (shapes o) name) names) (answer_types (shapes o) q)) (types_of o (query_write name names q)) c
     (sym (asked_same o bound user name names q t is) ∙ asked.names)
-    (λ d i. Contains-append_right (select_type_causes (shapes o) q) (row_fit_causes (columns_in (shapes o) name) names (answer_types (shapes o) q)) d i)
-    (subst (λ xs. TellsCause xs c) (fits_answer o bound user name names q t b items is asked e) h)
+    (λ d i. Contains-append_right (select_type_causes (shapes o) q) (flat_map (row_fit_causes (columns_in (shapes o) name) names) (answer_types (shapes o) q)) d i)
+    (subst (λ xs. TellsCause xs c) (fits_answer o bound user name names q t b rows is asked e) h)
 
 pub query_clear : (o : Objects) (bound : List Attached) (user name : Name) (names : Option (List Name)) (q : SelectTree) (t : Target) (b : BoundQuery) → IsTarget o bound user name t
     → IsAskedQuery o bound user (map column_of t.columns.now) names q b → names_of o user (query_write name names q) ≡ []
 query_clear o bound user name names q t b is asked = sym (asked_same o bound user name names q t is) ∙ asked.names
 
-pub query_typed : (o : Objects) (bound : List Attached) (user name : Name) (names : Option (List Name)) (q : SelectTree) (t : Target) (b : BoundQuery) (items : List Tree) → IsTarget o bound user name t
-    → IsAskedQuery o bound user (map column_of t.columns.now) names q b → items ≡ first_items (map core_form b.select.cores.items)
-    → row_fit_causes (map column_of t.columns.now) names (seen_types o q items) ≡ [] → types_of o (query_write name names q) ≡ []
-query_typed o bound user name names q t b items is asked e none =
-    none_of_two (select_type_causes (shapes o) q) (row_fit_causes (columns_in (shapes o) name) names (answer_types (shapes o) q)) asked.types
-    (sym (fits_answer o bound user name names q t b items is asked e) ∙ none)
-
--- ---- the columns in view
-
-unknown_by : (tables : List TableShape) (p : Option ℕ) → (if is_some p then [] else UndefinedTable ∷ []) ≡ UndefinedTable ∷ []
-    → unwrap_or (option_map (λ (t : TableShape). t.columns) (option_and_then (slice_get tables) p)) [] ≡ []
-unknown_by tables None h = refl
-unknown_by tables (Some k) h = absurd cc
-
-pub columns_missing : (o : Objects) (e : EntryTree) → table_named o e.table ≡ None → entry_columns (shapes o) e ≡ []
-columns_missing o e h = unknown_by (shapes o) (place_named (shapes o) e.table) (causes_missing o e h)
-
-pub pushed : (old new : List ColType) (seen columns : List Column) → new ≡ old ++ column_kinds seen → seen ≡ columns → new ≡ old ++ column_kinds columns
-pushed old new seen columns h e = h ∙ ap (λ cs. old ++ column_kinds cs) e
-
-pub pushed_none : (old : List ColType) (columns : List Column) → columns ≡ [] → old ≡ old ++ column_kinds columns
-pushed_none old columns e = rw e (sym (append-nil old))
+pub query_typed : (o : Objects) (bound : List Attached) (user name : Name) (names : Option (List Name)) (q : SelectTree) (t : Target) (b : BoundQuery) (rows : List (List (Option ColType))) → IsTarget o bound user name t
+    → IsAskedQuery o bound user (map column_of t.columns.now) names q b → rows ≡ bound_kinds b
+    → flat_map (row_fit_causes (map column_of t.columns.now) names) rows ≡ [] → types_of o (query_write name names q) ≡ []
+query_typed o bound user name names q t b rows is asked e none =
+    none_of_two (select_type_causes (shapes o) q) (flat_map (row_fit_causes (columns_in (shapes o) name) names) (answer_types (shapes o) q)) asked.types
+    (sym (fits_answer o bound user name names q t b rows is asked e) ∙ none)

@@ -7,7 +7,7 @@ use Rattle.med_syntax.specs.ExprTree.{ExprTree}
 use Rattle.med_syntax.specs.QueryTree.{SelectTree}
 use Rattle.write_syntax.specs.WriteTree.{GivenTree, values, rows_of, WriteTree, insert, update, delete}
 use Rattle.med_query.specs.Select.{are_safe_cores}
-use Rattle.bind_names.specs.Scope.{place_named, from_scope}
+use Rattle.bind_names.specs.Scope.{place_named, query_scope}
 use Rattle.med_binder.specs.Binding.{IsMeant}
 use Rattle.med_binder.specs.Counted.{bound_widths}
 use Rattle.med_binder.specs.Within.{widths}
@@ -45,7 +45,7 @@ IsGiven o bound (values rows) (Some b) = ⊥
 IsGiven o bound (rows_of q) None = ⊥
 IsGiven o bound (rows_of q) (Some b) =
     IsMeant (meant_by o q) b × ArePlaces bound (meant_by o q).entries (map offered.entry_place b.entries.items)
-    × (bound_widths b ≡ widths (from_scope (shapes o) q.from)) × (are_safe_cores b.select.cores.items ≡ true)
+    × (bound_widths b ≡ widths (query_scope (shapes o) q)) × (are_safe_cores b.select.cores.items ≡ true)
 
 abbrev pub IsQueryOf : Objects → List Attached → WriteTree → Option BoundQuery → Type 0
 IsQueryOf o bound (insert i) q = IsGiven o bound i.given q

@@ -12,11 +12,11 @@ use Rattle.tri_expr.specs.declared.expr.Expr.{Expr}
 use Rattle.tri_expr.specs.Tree.{Tree}
 use Rattle.med_write.specs.Form.{trees_of}
 use Rattle.med_query.specs.Select.{are_safe_cores}
-use Rattle.bind_names.specs.Naming.{from_causes, asked_causes, once_known}
-use Rattle.bind_names.specs.Scope.{from_scope}
+use Rattle.bind_names.specs.Naming.{entered_causes, asked_causes, once_known}
+use Rattle.bind_names.specs.Scope.{query_scope}
 use Rattle.bind_names.specs.Telling.{TellsCause}
-use Rattle.bind_types.specs.Typing.{select_type_causes}
-use Rattle.med_binder.specs.Binding.{IsMeant}
+use Rattle.bind_types.specs.Typing.{answer_types, select_type_causes}
+use Rattle.med_binder.specs.Binding.{IsMeant, bound_kinds}
 use Rattle.med_binder.specs.Counted.{bound_widths}
 use Rattle.med_binder.specs.Within.{widths}
 use Rattle.med_binder.specs.declared.bound.BoundQuery.{BoundQuery}
@@ -79,14 +79,15 @@ AsksRows rows (Err c) = TellsInTurn (flat_map row_name_causes rows) (flat_map ro
 -- its causes of names and rights, and those of the list of columns, which is looked up once the tables of FROM are known
 abbrev pub query_names : Objects → Name → List Column → Option (List Name) → SelectTree → List Cause
 query_names o user columns names q =
-    once_known (from_causes (shapes o) q.from) (named_causes columns names ++ asked_causes (shapes o) q) ++ query_right_causes o user q
+    once_known (entered_causes (shapes o) q) (named_causes columns names ++ asked_causes (shapes o) q) ++ query_right_causes o user q
 
 -- it is bound, and no cause stands
 pub record IsAskedQuery (o : Objects) (bound : List Attached) (user : Name) (columns : List Column) (list : Option (List Name))
     (q : SelectTree) (b : BoundQuery) : Type 0 where
   pub meant : IsMeant (meant_by o q) b
   pub there : ArePlaces bound (meant_by o q).entries (map entry_place b.entries.items)
-  pub widths : bound_widths b ≡ widths (from_scope (shapes o) q.from)
+  pub widths : bound_widths b ≡ widths (query_scope (shapes o) q)
+  pub kinds : bound_kinds b ≡ answer_types (shapes o) q
   pub safe : are_safe_cores b.select.cores.items ≡ true
   pub names : query_names o user columns list q ≡ []
   pub types : select_type_causes (shapes o) q ≡ []

@@ -13,7 +13,7 @@ ghost use Rattle.bind_write.specs.Binding.{values_write, query_write};
 ghost use Rattle.bind_write.specs.Steps.{BindsWrite};
 
 use crate::bound::TableWrite;
-use crate::querying::{ask_query, check_answer, first_items};
+use crate::querying::{ask_query, check_answer};
 use crate::values::{ask_rows, check_rows};
 use bind_catalog::BoundTable;
 use med_catalog::Catalog;
@@ -75,14 +75,7 @@ fn query_over(
 {
     let target = find_target(catalog, bound, user, table)?;
     let found = ask_query(alloc, catalog, bound, user, target.columns, names, query)?;
-    check_answer(
-        alloc,
-        catalog,
-        target.columns,
-        names,
-        query,
-        first_items(found.select.cores.as_slice()),
-    )?;
+    check_answer(alloc, target.columns, names, found.kinds.as_slice())?;
     Ok(TableWrite {
         place: target.place,
         source: target.source,

@@ -15,6 +15,7 @@ ghost use Rattle.bind_write.specs.Steps.{BindsWrite, SplitsSets};
 
 use crate::bound::TableWrite;
 use bind_catalog::BoundTable;
+use bind_types::kinds_of;
 use med_catalog::Catalog;
 use med_syntax::Expr as Written;
 use med_value::{Cause, ColumnDef, NoMemory};
@@ -22,7 +23,7 @@ use med_write::{BoundWrite, RowWrite};
 use std::alloc::Global;
 use tri_expr::Expr;
 use write_parts::{
-    ask, cell_kinds, check_cells, check_list, find_target, kinds_of, name_place, written_columns,
+    ask, cell_kinds, check_cells, check_list, find_target, name_place, written_columns,
 };
 use write_syntax::{SetClause, Update};
 

@@ -13,12 +13,13 @@ ghost use Rattle.write_parts.specs.Typing.{length_causes, row_fit_causes, row_ty
 ghost use Rattle.bind_write.specs.Steps.{AsksRow, GoesOnWith, AsksRows};
 
 use bind_catalog::BoundTable;
+use bind_types::kinds_of_all;
 use med_catalog::Catalog;
 use med_syntax::Expr as Written;
 use med_value::{Cause, ColumnDef};
 use std::alloc::Global;
 use tri_expr::Expr;
-use write_parts::{ask, check_fit, kinds_of_all};
+use write_parts::{ask, check_fit};
 
 // A row of VALUES, which sees no column.
 fn ask_row(

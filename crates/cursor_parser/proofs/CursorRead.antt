@@ -22,7 +22,7 @@ use Rattle.med_syntax.specs.Terminal as t
 use Rattle.med_syntax.specs.QueryTree.{StatementTree, select}
 use Rattle.query_grammar.specs.declared.query_symbols.Place.TheVariants.{Before}
 use Rattle.query_grammar.specs.QueryTerminals.{is_free_keyword, IsWord, AreWords, words_at}
-use Rattle.query_grammar.specs.QueryGrammar.{Spells, IsLine, IsStatement}
+use Rattle.query_grammar.specs.QueryGrammar.{SpellsCore, Spells, IsLine, IsStatement}
 use Rattle.query_grammar.proofs.QueryTerminals.{to_terminals, of_terminals}
 use Rattle.query_reader.specs.QueryReading.{bounded_line}
 use Rattle.query_reader.proofs.QueryComplete as query_line
@@ -269,7 +269,10 @@ unfolding is_reserved
 close_terminal = refl
 
 begins_select : (s : StatementTree) (ts : List Terminal) → Spells s ts → (rest : List Terminal) × (ts ≡ t.Reserved (codes "select") ∷ rest)
-begins_select (select q) ts x = (x.quantifier ++ (x.items ++ (x.from ++ (x.condition ++ (x.groups ++ (x.having ++ (x.keys ++ x.limits)))))), x.is)
+begins_select (select q) ts x =
+    let c : SpellsCore q.core x.core = x.first in
+    let behind : List Terminal = x.others ++ (x.keys ++ x.limits) in
+    ((c.quantifier ++ (c.items ++ (c.from ++ (c.condition ++ (c.groups ++ c.having))))) ++ behind, x.is ∙ ap (λ us. us ++ behind) c.is)
 
 first_select : (ss : List Shape) (s : StatementTree) → IsStatement ss s → (rest : List Terminal) × AreWords ss (t.Reserved (codes "select") ∷ rest)
 first_select ss s x =

@@ -1,14 +1,18 @@
 -- What is told in turn may be told.
-use Rattle.std.proofs.Common.{◌≡◌, ◌⊎◌, List, [], ◌∷◌, Result, Ok, Err, IfErr, Contains, inl, inr, arith}
+use Rattle.std.proofs.Common.{◌≡◌, ◌⊎◌, ℕ, List, [], ◌∷◌, ◌++◌, length, map, Option, string_bytes, Result, Ok, Err, IfErr, Contains, inl, inr, arith, ap, sym, subst, ◌∙◌}
+use Rattle.std.proofs.lemmas.List.{length-map}
 use Rattle.med_value.specs.declared.cause.Cause.{Cause}
 use Rattle.med_value.specs.declared.cause.Cause.TheVariants.{OutOfMemory}
-use Rattle.med_syntax.specs.QueryTree.{StatementTree}
+use Rattle.med_value.specs.declared.value.ColType.{ColType}
+use Rattle.med_syntax.specs.QueryTree.{SelectTree, StatementTree}
+use Rattle.med_query.specs.Form.{Form, form_of}
+use Rattle.bind_names.proofs.Causes.{tells_left, tells_right, none_of_two}
 use Rattle.med_binder.specs.declared.bound.BoundQuery.{BoundQuery}
 use Rattle.bind_names.specs.Scope.{TableShape}
 use Rattle.bind_names.specs.Naming.{statement_name_causes}
-use Rattle.bind_types.specs.Typing.{statement_type_causes}
-use Rattle.bind_names.specs.Meaning.{meant}
-use Rattle.med_binder.specs.Binding.{BindCauses, BindTells}
+use Rattle.bind_types.specs.Typing.{written_type_causes, form_causes, union_causes, answer_types, output_type_causes, select_type_causes, statement_type_causes}
+use Rattle.bind_names.specs.Meaning.{Output, core_outputs, meant_in, meant}
+use Rattle.med_binder.specs.Binding.{IsMeant, bound_kinds, BindCauses, BindTells}
 use Rattle.bind_names.specs.Telling.{TellsCause}
 use Rattle.med_binder.specs.Turns.{TellsInTurn, Binds}
 
@@ -27,6 +31,28 @@ types_told names types c e (inr h) = inr (inr (e, h))
 
 pub types_then : (names types : List Cause) (c : Cause) → names ≡ [] → TellsCause types c → TellsInTurn names types c
 types_then names types c e t = record { told = types_told names types c e t.told }
+
+-- ---- the outputs of the cores
+
+-- as many names as outputs of the first core
+pub widths_same : (tables : List TableShape) (q : SelectTree) (b : BoundQuery) (width : ℕ) (rows : List (List (Option ColType))) → IsMeant (meant_in tables q) b → bound_kinds b ≡ answer_types tables q
+    → width ≡ length b.names.items → rows ≡ bound_kinds b → union_causes width rows ≡ output_type_causes tables q
+widths_same tables q b width rows m k w r =
+    let outs = core_outputs tables q.core in
+    let wide : width ≡ length outs = w ∙ sym (length-map b.names.items string_bytes) ∙ ap length m.names ∙ length-map outs (λ (o : Output). o.name) in
+    ap (λ (n : ℕ). union_causes n rows) wide ∙ ap (union_causes (length outs)) (r ∙ k)
+
+pub outputs_told : (tables : List TableShape) (q : SelectTree) (causes : List Cause) (c : Cause) → causes ≡ output_type_causes tables q → TellsCause causes c → TellsCause (select_type_causes tables q) c
+outputs_told tables q causes c e t =
+    tells_right (written_type_causes tables q) _ c (tells_right (form_causes (meant_in tables q).form) _ c (subst (λ (xs : List Cause). TellsCause xs c) e t))
+
+pub form_told : (tables : List TableShape) (q : SelectTree) (b : BoundQuery) (c : Cause) → IsMeant (meant_in tables q) b → TellsCause (form_causes (form_of b.select)) c → TellsCause (select_type_causes tables q) c
+form_told tables q b c m t =
+    tells_right (written_type_causes tables q) _ c (tells_left _ (output_type_causes tables q) c (subst (λ (f : Form). TellsCause (form_causes f) c) m.form t))
+
+pub types_clear : (tables : List TableShape) (q : SelectTree) (b : BoundQuery) (causes : List Cause) → IsMeant (meant_in tables q) b → written_type_causes tables q ≡ [] → form_causes (form_of b.select) ≡ [] → causes ≡ output_type_causes tables q
+    → causes ≡ [] → select_type_causes tables q ≡ []
+types_clear tables q b causes m w f e o = none_of_two _ _ w (none_of_two _ _ (ap form_causes (sym m.form) ∙ f) (sym e ∙ o))
 
 -- ---- the clauses
 

@@ -1,6 +1,6 @@
 -- Where no cause of names or types stands, conjuncts compare columns of one type.
-use Rattle.std.proofs.Common.{◌≡◌, ℕ, zero, suc, ◌+◌, ◌-◌, ◌<◌, Bool, true, false, List, [], ◌∷◌, ◌++◌, Option, Some, None, All, flat_map, map, take, drop, length, option_map, slice_get, codes, bytes_eq, refl, sym, ap, subst, ◌∙◌, if◌then◌else◌, arith, drop-drop}
-use Rattle.std.proofs.lemmas.List.{length-append, map-append}
+use Rattle.std.proofs.Common.{◌≡◌, ℕ, zero, suc, ◌+◌, ◌-◌, ◌<◌, Bool, true, false, List, [], ◌∷◌, ◌++◌, Option, Some, None, All, flat_map, map, take, drop, length, option_map, slice_get, codes, bytes_eq, refl, sym, ap, subst, ◌∙◌, if◌then◌else◌, arith, drop-drop, append_assoc}
+use Rattle.std.proofs.lemmas.List.{length-append, length-map, map-append}
 use Rattle.std.proofs.lemmas.List.Elements.{All-cons, All-nil, All-append}
 use Rattle.std.proofs.lemmas.Option.{slice_get-map}
 use Rattle.med_value.specs.Column.{Column}
@@ -14,18 +14,19 @@ use Rattle.med_syntax.specs.Tree.{Name}
 use Rattle.med_syntax.specs.declared.expr.Joint.TheVariants.{Or, And}
 use Rattle.med_syntax.specs.ExprTree.{ExprTree, ExprTrees}
 use Rattle.med_syntax.specs.ExprTree as expr
-use Rattle.med_syntax.specs.QueryTree.{EntryTree, JoinTree, inner_join, left_join, cross_join, ChainTree, StatementTree, select}
+use Rattle.med_syntax.specs.QueryTree.{EntryTree, JoinTree, inner_join, left_join, cross_join, ChainTree, CoreTree, cores_of, StatementTree, select}
 use Rattle.tri_expr.specs.declared.expr.SetFunction.{SetFunction}
 use Rattle.tri_expr.specs.Tree.{Tree, Trees, conjunct_trees, conjuncts_of_all, column, literal, compare, count_rows, none, part}
 use Rattle.tri_expr.specs.TreeParts.{bare}
-use Rattle.bind_names.specs.Scope.{TableShape, Scope, has_entry, candidates, columns_of, kind_at, kind_among, joined_entry, chain_entries, entries_of, entry_columns, entry_shape, from_scope}
-use Rattle.bind_names.specs.Naming.{counted_causes, column_causes, name_causes, name_causes_of_all, item_name_causes, condition_name_causes, on_name_causes, joins_name_causes, chain_name_causes, group_name_causes, key_name_causes, NameCauses}
-use Rattle.bind_names.specs.Meaning.{one_place, function_named, aggregate_of, resolved, resolved_all, outputs_of, conditions_of, join_meant, with_join, joins_meant, chain_meant, chains_meant, meant}
-use Rattle.bind_types.specs.Typing.{type_of, comparing, as_condition, type_causes, condition_causes, condition_type_causes, item_type_causes, key_type_causes, on_type_causes, joins_type_causes, chain_type_causes, written_type_causes, form_causes, select_type_causes, TypeCauses}
+use Rattle.bind_names.specs.Scope.{TableShape, Scope, has_entry, candidates, columns_of, kind_at, kind_among, joined_entry, chain_entries, entries_of, query_entries, entry_columns, entry_shape, from_scope}
+use Rattle.bind_names.specs.Naming.{counted_causes, column_causes, name_causes, name_causes_of_all, item_name_causes, condition_name_causes, on_name_causes, joins_name_causes, chain_name_causes, group_name_causes, core_asked_causes, order_name_causes, NameCauses}
+use Rattle.bind_names.specs.Meaning.{one_place, function_named, aggregate_of, resolved, resolved_all, conditions_of, join_meant, with_join, joins_meant, chain_meant, chains_meant, Sorting, sorting_of, core_meant, cores_meant, meant}
+use Rattle.bind_types.specs.Typing.{type_of, comparing, as_condition, type_causes, condition_causes, condition_type_causes, item_type_causes, on_type_causes, joins_type_causes, chain_type_causes, core_written_causes, order_type_causes, written_type_causes, form_causes, output_type_causes, select_type_causes, TypeCauses}
 use Rattle.bind_names.specs.Meaning.{meant_in}
-use Rattle.med_binder.specs.Alike.{kinds_among, kinds, from_kinds, all_kinds, kinds_between, AreAlike, ComparesAlike, JoinAlike, ChainAlike, CoreAlike, FormAlike}
+use Rattle.med_binder.specs.Alike.{kinds_among, kinds, from_kinds, all_kinds, core_kinds, kinds_between, AreAlike, ComparesAlike, JoinAlike, ChainAlike, CoreAlike, FormAlike}
 use Rattle.med_binder.proofs.LawEntries.{left_empty, right_empty, none_stands, no_asked}
-use Rattle.med_binder.proofs.LawViews.{column_below, take_past, one_on}
+use Rattle.med_binder.proofs.LawViews.{column_below, take_past}
+use Rattle.med_binder.proofs.Numbers.{one_on, entries_in, drop_there, read_core, next_all, next_number}
 
 -- ---- columns
 
@@ -267,46 +268,70 @@ chain_alike : (tables : List TableShape) (kss : List (List ColType)) (number : �
     → chain_type_causes tables c ≡ [] → ChainAlike kss (chain_meant tables number c)
 chain_alike tables kss number c post d h t = joins_alike tables kss number (suc number) (entry_shape tables c.first ∷ []) c.joins post d (omega arith) h t
 
-chains_alike : (tables : List TableShape) (kss : List (List ColType)) (number : ℕ) (cs : List ChainTree) → drop number kss ≡ entry_kinds tables (entries_of cs) → flat_map (chain_name_causes tables) cs ≡ []
-    → flat_map (chain_type_causes tables) cs ≡ [] → All (ChainAlike kss) (chains_meant tables number cs)
-chains_alike tables kss number [] d h t = All-nil (ChainAlike kss)
-chains_alike tables kss number (c ∷ cs) d h t =
-    let here = d ∙ kinds_of_two tables (chain_entries c) (entries_of cs) in
-    let behind = sym (drop-drop (length (chain_entries c)) number kss) ∙ ap (drop (length (chain_entries c))) here ∙ drop_kinds tables (chain_entries c) (entry_kinds tables (entries_of cs)) in
+chains_alike : (tables : List TableShape) (kss : List (List ColType)) (number : ℕ) (cs : List ChainTree) (post : List (List ColType)) → drop number kss ≡ entry_kinds tables (entries_of cs) ++ post
+    → flat_map (chain_name_causes tables) cs ≡ [] → flat_map (chain_type_causes tables) cs ≡ [] → All (ChainAlike kss) (chains_meant tables number cs)
+chains_alike tables kss number [] post d h t = All-nil (ChainAlike kss)
+chains_alike tables kss number (c ∷ cs) post d h t =
+    let rest = entry_kinds tables (entries_of cs) ++ post in
+    let here : drop number kss ≡ entry_kinds tables (chain_entries c) ++ rest =
+    d ∙ ap (λ (l : List (List ColType)). l ++ post) (kinds_of_two tables (chain_entries c) (entries_of cs)) ∙ append_assoc (entry_kinds tables (chain_entries c)) (entry_kinds tables (entries_of cs)) post in
+    let behind = sym (drop-drop (length (chain_entries c)) number kss) ∙ ap (drop (length (chain_entries c))) here ∙ drop_kinds tables (chain_entries c) rest in
     All-cons (ChainAlike kss) (chain_meant tables number c) (chains_meant tables (number + length (chain_entries c)) cs)
-    (chain_alike tables kss number c (entry_kinds tables (entries_of cs)) here (left_empty (chain_name_causes tables c) (flat_map (chain_name_causes tables) cs) h)
+    (chain_alike tables kss number c rest here (left_empty (chain_name_causes tables c) (flat_map (chain_name_causes tables) cs) h)
     (left_empty (chain_type_causes tables c) (flat_map (chain_type_causes tables) cs) t))
-    (chains_alike tables kss (number + length (chain_entries c)) cs behind (right_empty (chain_name_causes tables c) (flat_map (chain_name_causes tables) cs) h)
+    (chains_alike tables kss (number + length (chain_entries c)) cs post behind (right_empty (chain_name_causes tables c) (flat_map (chain_name_causes tables) cs) h)
     (right_empty (chain_type_causes tables c) (flat_map (chain_type_causes tables) cs) t))
+
+-- ---- cores
+
+core_alike : (tables : List TableShape) (kss before post : List (List ColType)) (sorting : Sorting) (number : ℕ) (c : CoreTree) → kss ≡ before ++ (entry_kinds tables (entries_of c.from) ++ post) → number ≡ length before
+    → core_asked_causes tables c ≡ [] → core_written_causes tables c ≡ [] → CoreAlike kss (core_meant tables sorting number c)
+core_alike tables kss before post sorting number c e n h t =
+    let s = from_scope tables c.from in
+    let own = entry_kinds tables (entries_of c.from) in
+    let chain_part = flat_map (chain_name_causes tables) c.from in
+    let item_part = flat_map (item_name_causes s) c.items in
+    let where_part = condition_name_causes s c.condition in
+    let later_part = flat_map (group_name_causes s) c.groups ++ condition_name_causes s c.having in
+    let rest1 = right_empty chain_part (item_part ++ (where_part ++ later_part)) h in
+    let rest2 = right_empty item_part (where_part ++ later_part) rest1 in
+    let chain_types = flat_map (chain_type_causes tables) c.from in
+    let item_types = flat_map (item_type_causes s) c.items in
+    let where_types = condition_type_causes s c.condition in
+    let later_types = condition_type_causes s c.having in
+    let types1 = right_empty chain_types (item_types ++ (where_types ++ later_types)) t in
+    let types2 = right_empty item_types (where_types ++ later_types) types1 in
+    let seen : all_kinds (core_kinds kss (core_meant tables sorting number c)) ≡ kinds_in s =
+    ap all_kinds (read_core [] kss before own post tables sorting number c e n (length-map (entries_of c.from) (λ (e : EntryTree). kinds_among (entry_columns tables e))))
+    ∙ ap all_kinds (sym (shape_kinds tables (entries_of c.from))) ∙ every_kind s in
+    record {
+      joins = chains_alike tables kss number c.from post (drop_there kss before (own ++ post) number e n) (left_empty chain_part (item_part ++ (where_part ++ later_part)) h)
+          (left_empty chain_types (item_types ++ (where_types ++ later_types)) t);
+      conditions = subst (λ (ks : List ColType). All (ComparesAlike ks) (conditions_of s c.condition)) (sym seen)
+          (condition_alike s c.condition (left_empty where_part later_part rest2) (left_empty where_types later_types types2));
+    }
+
+cores_alike : (tables : List TableShape) (kss before : List (List ColType)) (sorting : Sorting) (number : ℕ) (cs : List CoreTree) → kss ≡ before ++ entry_kinds tables (entries_in cs) → number ≡ length before
+    → flat_map (core_asked_causes tables) cs ≡ [] → flat_map (core_written_causes tables) cs ≡ [] → All (CoreAlike kss) (cores_meant tables sorting number cs)
+cores_alike tables kss before sorting number [] e n h t = All-nil (CoreAlike kss)
+cores_alike tables kss before sorting number (c ∷ cs) e n h t =
+    let own = entry_kinds tables (entries_of c.from) in
+    let rest = entry_kinds tables (entries_in cs) in
+    let here : kss ≡ before ++ (own ++ rest) = e ∙ ap (λ (l : List (List ColType)). before ++ l) (kinds_of_two tables (entries_of c.from) (entries_in cs)) in
+    All-cons (CoreAlike kss) (core_meant tables sorting number c) (cores_meant tables sorting (number + length (entries_of c.from)) cs)
+    (core_alike tables kss before rest sorting number c here n (left_empty (core_asked_causes tables c) (flat_map (core_asked_causes tables) cs) h)
+    (left_empty (core_written_causes tables c) (flat_map (core_written_causes tables) cs) t))
+    (cores_alike tables kss (before ++ own) sorting (number + length (entries_of c.from)) cs (next_all kss before own rest here)
+    (next_number before own number (length (entries_of c.from)) n (length-map (entries_of c.from) (λ (e : EntryTree). kinds_among (entry_columns tables e))))
+    (right_empty (core_asked_causes tables c) (flat_map (core_asked_causes tables) cs) h) (right_empty (core_written_causes tables c) (flat_map (core_written_causes tables) cs) t))
 
 -- ---- statements
 
 pub form_alike : (tables : List TableShape) (statement : StatementTree) → ((c : Cause) → NameCauses tables statement c → ⊥) → ((c : Cause) → TypeCauses tables statement c → ⊥)
     → FormAlike (from_kinds tables statement) (meant tables statement).form
 form_alike tables (select q) n m =
-    let s = from_scope tables q.from in
-    let outs = outputs_of s q.items in
-    let chain_part = flat_map (chain_name_causes tables) q.from in
-    let item_part = flat_map (item_name_causes s) q.items in
-    let where_part = condition_name_causes s q.condition in
-    let group_part = flat_map (group_name_causes s) q.groups in
-    let having_part = condition_name_causes s q.having in
-    let key_part = flat_map (key_name_causes s q.distinct outs) q.keys in
-    let asked = no_asked tables q n in
-    let rest1 = right_empty chain_part (item_part ++ (where_part ++ (group_part ++ (having_part ++ key_part)))) asked in
-    let rest2 = right_empty item_part (where_part ++ (group_part ++ (having_part ++ key_part))) rest1 in
-    let chain_types = flat_map (chain_type_causes tables) q.from in
-    let item_types = flat_map (item_type_causes s) q.items in
-    let where_types = condition_type_causes s q.condition in
-    let later_types = condition_type_causes s q.having ++ flat_map (key_type_causes s outs) q.keys in
-    let typed = left_empty (written_type_causes tables q) (form_causes (meant_in tables q).form) (none_stands (select_type_causes tables q) m) in
-    let types1 = right_empty chain_types (item_types ++ (where_types ++ later_types)) typed in
-    let types2 = right_empty item_types (where_types ++ later_types) types1 in
-    All-cons (CoreAlike (kinds s)) _ []
-    (record {
-      joins = chains_alike tables (kinds s) 0 q.from (shape_kinds tables (entries_of q.from)) (left_empty chain_part (item_part ++ (where_part ++ (group_part ++ (having_part ++ key_part)))) asked)
-          (left_empty chain_types (item_types ++ (where_types ++ later_types)) typed);
-      conditions = subst (λ (ks : List ColType). All (ComparesAlike ks) (conditions_of s q.condition)) (sym (every_kind s))
-          (condition_alike s q.condition (left_empty where_part (group_part ++ (having_part ++ key_part)) rest2) (left_empty where_types later_types types2));
-    })
-    (All-nil (CoreAlike (kinds s)))
+    let asked = left_empty (flat_map (core_asked_causes tables) (cores_of q)) (order_name_causes tables q) (no_asked tables q n) in
+    let later = form_causes (meant_in tables q).form ++ output_type_causes tables q in
+    let typed = left_empty (written_type_causes tables q) later (none_stands (select_type_causes tables q) m) in
+    cores_alike tables (from_kinds tables (select q)) [] (sorting_of tables q) 0 (cores_of q) (shape_kinds tables (query_entries q)) refl asked
+    (left_empty (flat_map (core_written_causes tables) (cores_of q)) (order_type_causes tables q) typed)

@@ -1,64 +1,19 @@
 -- The form of a query counts the entries of FROM from 0 on, and knows how many columns they bring.
-use Rattle.std.proofs.Common.{◌≡◌, ℕ, zero, suc, ◌+◌, ◌*◌, ◌≤◌, List, [], ◌∷◌, ◌++◌, Option, Some, None, All, flat_map, map, drop, sum, length, option_map, unwrap_or, slice_get, refl, sym, ap, ◌∙◌, arith, drop-drop}
+use Rattle.std.proofs.Common.{◌≡◌, ℕ, zero, suc, ◌+◌, ◌*◌, ◌≤◌, List, [], ◌∷◌, ◌++◌, Option, Some, None, All, flat_map, map, drop, sum, length, option_map, unwrap_or, slice_get, refl, sym, ap, ◌∙◌, arith, drop-drop, append_assoc}
 use Rattle.std.specs.List.{range_with_len}
 use Rattle.std.specs.Option.{option_and_then}
 use Rattle.std.proofs.lemmas.List.{length-map, length-append}
 use Rattle.std.proofs.lemmas.List.Elements.{All-cons, All-nil, All-head, All-tail}
 use Rattle.std.proofs.lemmas.List.Sums.{sum_by-cons}
 use Rattle.med_value.specs.Limits.{entry_limit, column_limit}
-use Rattle.med_syntax.specs.QueryTree.{EntryTree, JoinTree, inner_join, left_join, cross_join, ChainTree, StatementTree, select}
-use Rattle.med_query.specs.Form.{ChainForm}
-use Rattle.bind_names.specs.Scope.{TableShape, Scope, joined_entry, chain_entries, entries_of, entry_columns, entry_shape, entry_place, place_named, from_scope}
-use Rattle.bind_names.specs.Meaning.{join_meant, with_join, joins_meant, chain_meant, chains_meant, meant}
+use Rattle.med_syntax.specs.QueryTree.{EntryTree, JoinTree, inner_join, left_join, cross_join, ChainTree, CoreTree, cores_of, StatementTree, select}
+use Rattle.med_query.specs.Form.{ChainForm, CoreForm}
+use Rattle.bind_names.specs.Scope.{TableShape, Scope, joined_entry, chain_entries, entries_of, query_entries, query_scope, entry_columns, entry_shape, entry_place, place_named}
+use Rattle.bind_names.specs.Meaning.{join_meant, with_join, joins_meant, chain_meant, chains_meant, Sorting, sorting_of, core_meant, cores_meant, meant}
 use Rattle.med_binder.specs.Within.{widths, widths_of}
-use Rattle.med_binder.specs.Counted.{joined_number, chain_numbers, SaysWidth, CoreCounts, FormCounts, AreNarrow}
-use Rattle.med_binder.proofs.LawViews.{entry_width, entry_widths, shape_widths, widths_of_two, as_many_widths}
-
--- ---- numbers
-
-range_from : (m n k : ℕ) → m ≡ n → range_with_len m k ≡ range_with_len n k
-range_from m n k e = ap (λ (a : ℕ). range_with_len a k) e
-
-range_both : (n a b : ℕ) → range_with_len n (a + b) ≡ range_with_len n a ++ range_with_len (n + a) b
-range_both n zero b =
-    let e : zero + b ≡ b = omega arith in
-    let f : n ≡ n + zero = omega arith in
-    ap (range_with_len n) e ∙ range_from n (n + zero) b f
-range_both n (suc a) b =
-    let e : suc a + b ≡ suc (a + b) = omega arith in
-    let f : (n + 1) + a ≡ n + suc a = omega arith in
-    ap (range_with_len n) e
-    ∙ ap (λ (l : List ℕ). n ∷ l) (range_both (n + 1) a b)
-    ∙ ap (λ (l : List ℕ). range_with_len n (suc a) ++ l) (range_from ((n + 1) + a) (n + suc a) b f)
-
-join_number : (s : Scope) (number width : ℕ) (j : JoinTree) → joined_number (join_meant s number width j) ≡ number
-join_number s number width (inner_join e on) = refl
-join_number s number width (left_join e on) = refl
-join_number s number width (cross_join e) = refl
-
-joins_count : (tables : List TableShape) (before : Scope) (number : ℕ) (js : List JoinTree) → map joined_number (joins_meant tables before number js) ≡ range_with_len number (length js)
-joins_count tables before number [] = refl
-joins_count tables before number (j ∷ js) =
-    let s = with_join tables before j in
-    let next : suc number ≡ number + 1 = omega arith in
-    ap (λ (n : ℕ). n ∷ map joined_number (joins_meant tables s (suc number) js)) (join_number s number (length (entry_columns tables (joined_entry j))) j)
-    ∙ ap (λ (l : List ℕ). number ∷ l) (joins_count tables s (suc number) js ∙ range_from (suc number) (number + 1) (length js) next)
-
-chain_count : (tables : List TableShape) (number : ℕ) (c : ChainTree) → chain_numbers (chain_meant tables number c) ≡ range_with_len number (length (chain_entries c))
-chain_count tables number c =
-    let next : suc number ≡ number + 1 = omega arith in
-    ap (λ (l : List ℕ). number ∷ l)
-    (joins_count tables (entry_shape tables c.first ∷ []) (suc number) c.joins ∙ range_from (suc number) (number + 1) (length c.joins) next
-    ∙ ap (range_with_len (number + 1)) (sym (length-map c.joins joined_entry)))
-
-chains_count : (tables : List TableShape) (number : ℕ) (cs : List ChainTree) → flat_map chain_numbers (chains_meant tables number cs) ≡ range_with_len number (length (entries_of cs))
-chains_count tables number [] = refl
-chains_count tables number (c ∷ cs) =
-    let next = number + length (chain_entries c) in
-    ap (λ (l : List ℕ). l ++ flat_map chain_numbers (chains_meant tables next cs)) (chain_count tables number c)
-    ∙ ap (λ (l : List ℕ). range_with_len number (length (chain_entries c)) ++ l) (chains_count tables next cs)
-    ∙ sym (range_both number (length (chain_entries c)) (length (entries_of cs)))
-    ∙ ap (range_with_len number) (sym (length-append (chain_entries c) (entries_of cs)))
+use Rattle.med_binder.specs.Counted.{SaysWidth, core_numbers, core_widths, CoreCounts, FormCounts, AreNarrow}
+use Rattle.med_binder.proofs.LawViews.{as_many_widths}
+use Rattle.med_binder.proofs.Numbers.{chains_count, cores_count, range_long, entries_in, entry_width, entry_widths, shape_widths, widths_of_two, drop_there, core_wide, next_all, next_number}
 
 -- ---- the widths of LEFT JOINs
 
@@ -101,25 +56,55 @@ drop_front : (tables : List TableShape) (es : List EntryTree) (ys : List ℕ) �
 drop_front tables [] ys = refl
 drop_front tables (e ∷ es) ys = drop_front tables es ys
 
-chains_say : (tables : List TableShape) (ws : List ℕ) (number : ℕ) (cs : List ChainTree) → drop number ws ≡ entry_widths tables (entries_of cs) → All (ChainSays ws) (chains_meant tables number cs)
-chains_say tables ws number [] d = All-nil (ChainSays ws)
-chains_say tables ws number (c ∷ cs) d =
-    let here = d ∙ widths_of_two tables (chain_entries c) (entries_of cs) in
-    let behind = sym (drop-drop (length (chain_entries c)) number ws) ∙ ap (drop (length (chain_entries c))) here ∙ drop_front tables (chain_entries c) (entry_widths tables (entries_of cs)) in
+chains_say : (tables : List TableShape) (ws : List ℕ) (number : ℕ) (cs : List ChainTree) (post : List ℕ) → drop number ws ≡ entry_widths tables (entries_of cs) ++ post → All (ChainSays ws) (chains_meant tables number cs)
+chains_say tables ws number [] post d = All-nil (ChainSays ws)
+chains_say tables ws number (c ∷ cs) post d =
+    let rest = entry_widths tables (entries_of cs) ++ post in
+    let here : drop number ws ≡ entry_widths tables (chain_entries c) ++ rest =
+    d ∙ ap (λ (l : List ℕ). l ++ post) (widths_of_two tables (chain_entries c) (entries_of cs)) ∙ append_assoc (entry_widths tables (chain_entries c)) (entry_widths tables (entries_of cs)) post in
+    let behind = sym (drop-drop (length (chain_entries c)) number ws) ∙ ap (drop (length (chain_entries c))) here ∙ drop_front tables (chain_entries c) rest in
     All-cons (ChainSays ws) (chain_meant tables number c) (chains_meant tables (number + length (chain_entries c)) cs)
-    (chain_says tables ws number c (entry_widths tables (entries_of cs)) here)
-    (chains_say tables ws (number + length (chain_entries c)) cs behind)
+    (chain_says tables ws number c rest here)
+    (chains_say tables ws (number + length (chain_entries c)) cs post behind)
+
+-- ---- cores
+
+core_counts : (tables : List TableShape) (ws before post : List ℕ) (sorting : Sorting) (number : ℕ) (c : CoreTree) → ws ≡ before ++ (entry_widths tables (entries_of c.from) ++ post) → number ≡ length before
+    → CoreCounts ws (core_meant tables sorting number c)
+core_counts tables ws before post sorting number c e n =
+    let own = entry_widths tables (entries_of c.from) in
+    let counted = chains_count tables number c.from in
+    let many : length (core_numbers (core_meant tables sorting number c)) ≡ length (entries_of c.from) = ap length counted ∙ range_long number (length (entries_of c.from)) in
+    let all : length ws ≡ length before + length (own ++ post) = ap length e ∙ length-append before (own ++ post) in
+    let both = length-append own post in
+    let wide = length-map (entries_of c.from) (entry_width tables) in
+    record {
+      first = number;
+      numbers = counted ∙ ap (range_with_len number) (sym many);
+      among = omega (arith, n, many, all, both, wide);
+      widths = chains_say tables ws number c.from post (drop_there ws before (own ++ post) number e n);
+    }
+
+cores_counted : (tables : List TableShape) (ws before : List ℕ) (sorting : Sorting) (number : ℕ) (cs : List CoreTree) → ws ≡ before ++ entry_widths tables (entries_in cs) → number ≡ length before
+    → All (CoreCounts ws) (cores_meant tables sorting number cs)
+cores_counted tables ws before sorting number [] e n = All-nil (CoreCounts ws)
+cores_counted tables ws before sorting number (c ∷ cs) e n =
+    let own = entry_widths tables (entries_of c.from) in
+    let rest = entry_widths tables (entries_in cs) in
+    let here : ws ≡ before ++ (own ++ rest) = e ∙ ap (λ (l : List ℕ). before ++ l) (widths_of_two tables (entries_of c.from) (entries_in cs)) in
+    All-cons (CoreCounts ws) (core_meant tables sorting number c) (cores_meant tables sorting (number + length (entries_of c.from)) cs)
+    (core_counts tables ws before rest sorting number c here n)
+    (cores_counted tables ws (before ++ own) sorting (number + length (entries_of c.from)) cs (next_all ws before own rest here)
+    (next_number before own number (length (entries_of c.from)) n (length-map (entries_of c.from) (entry_width tables))))
 
 pub form_counts : (tables : List TableShape) (statement : StatementTree) → FormCounts (widths_of tables statement) (meant tables statement).form
 form_counts tables (select q) =
-    let s = from_scope tables q.from in
-    let many : length (entries_of q.from) ≡ length (widths s) = sym (as_many_widths s ∙ length-map (entries_of q.from) (entry_shape tables)) in
-    All-cons (CoreCounts (widths s)) _ []
-    (record {
-      numbers = chains_count tables 0 q.from ∙ ap (range_with_len 0) many;
-      widths = chains_say tables (widths s) 0 q.from (shape_widths tables (entries_of q.from));
-    })
-    (All-nil (CoreCounts (widths s)))
+    let s = query_scope tables q in
+    let many : length (query_entries q) ≡ length (widths s) = sym (as_many_widths s ∙ length-map (query_entries q) (entry_shape tables)) in
+    record {
+      numbers = cores_count tables (sorting_of tables q) 0 (cores_of q) ∙ ap (range_with_len 0) many;
+      cores = cores_counted tables (widths s) [] (sorting_of tables q) 0 (cores_of q) (shape_widths tables (query_entries q)) refl;
+    }
 
 -- ---- how many columns all entries bring
 
@@ -140,10 +125,37 @@ entries_narrow tables (e ∷ es) h =
     let all = sum_by-cons (λ (x : ℕ). x) (entry_width tables e) (entry_widths tables es) in
     omega (arith, first, rest, all)
 
-pub form_narrow : (tables : List TableShape) (statement : StatementTree) → AreNarrow tables → length (meant tables statement).entries ≤ entry_limit → sum (widths_of tables statement) ≤ entry_limit * column_limit
-form_narrow tables (select q) h few =
-    let es = entries_of q.from in
+pub form_narrow : (tables : List TableShape) (statement : StatementTree) → AreNarrow tables → sum (widths_of tables statement) ≤ length (meant tables statement).entries * column_limit
+form_narrow tables (select q) h =
+    let es = query_entries q in
     let many : length (map (entry_place tables) es) ≡ length es = length-map es (entry_place tables) in
     let all = entries_narrow tables es h in
     let same : sum (widths (map (entry_shape tables) es)) ≡ sum (entry_widths tables es) = ap sum (shape_widths tables es) in
+    omega (arith, many, all, same)
+
+abbrev NarrowCore : List ℕ → CoreForm → Type 0
+NarrowCore ws f = length (core_numbers f) ≤ entry_limit → sum (core_widths ws f) ≤ entry_limit * column_limit
+
+core_narrow : (tables : List TableShape) (ws before post : List ℕ) (sorting : Sorting) (number : ℕ) (c : CoreTree) → AreNarrow tables → ws ≡ before ++ (entry_widths tables (entries_of c.from) ++ post) → number ≡ length before
+    → NarrowCore ws (core_meant tables sorting number c)
+core_narrow tables ws before post sorting number c h e n few =
+    let many : length (core_numbers (core_meant tables sorting number c)) ≡ length (entries_of c.from) = ap length (chains_count tables number c.from) ∙ range_long number (length (entries_of c.from)) in
+    let all = entries_narrow tables (entries_of c.from) h in
+    let same : sum (core_widths ws (core_meant tables sorting number c)) ≡ sum (entry_widths tables (entries_of c.from)) = ap sum (core_wide tables ws before post sorting number c e n) in
     omega (arith, few, many, all, same)
+
+cores_narrow : (tables : List TableShape) (ws before : List ℕ) (sorting : Sorting) (number : ℕ) (cs : List CoreTree) → AreNarrow tables → ws ≡ before ++ entry_widths tables (entries_in cs) → number ≡ length before
+    → All (NarrowCore ws) (cores_meant tables sorting number cs)
+cores_narrow tables ws before sorting number [] h e n = All-nil (NarrowCore ws)
+cores_narrow tables ws before sorting number (c ∷ cs) h e n =
+    let own = entry_widths tables (entries_of c.from) in
+    let rest = entry_widths tables (entries_in cs) in
+    let here : ws ≡ before ++ (own ++ rest) = e ∙ ap (λ (l : List ℕ). before ++ l) (widths_of_two tables (entries_of c.from) (entries_in cs)) in
+    All-cons (NarrowCore ws) (core_meant tables sorting number c) (cores_meant tables sorting (number + length (entries_of c.from)) cs)
+    (core_narrow tables ws before rest sorting number c h here n)
+    (cores_narrow tables ws (before ++ own) sorting (number + length (entries_of c.from)) cs h (next_all ws before own rest here)
+    (next_number before own number (length (entries_of c.from)) n (length-map (entries_of c.from) (entry_width tables))))
+
+pub forms_narrow : (tables : List TableShape) (statement : StatementTree) → AreNarrow tables
+    → All (λ (f : CoreForm). length (core_numbers f) ≤ entry_limit → sum (core_widths (widths_of tables statement) f) ≤ entry_limit * column_limit) (meant tables statement).form.cores
+forms_narrow tables (select q) h = cores_narrow tables (widths_of tables (select q)) [] (sorting_of tables q) 0 (cores_of q) h (shape_widths tables (query_entries q)) refl

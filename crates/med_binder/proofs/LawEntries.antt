@@ -5,9 +5,9 @@ use Rattle.std.proofs.lemmas.List.Elements.{All-cons, All-nil}
 use Rattle.med_value.specs.declared.cause.Cause.{Cause}
 use Rattle.med_value.specs.declared.cause.Cause.TheVariants.{UndefinedTable}
 use Rattle.med_syntax.specs.Tree.{Name}
-use Rattle.med_syntax.specs.QueryTree.{EntryTree, SelectTree, StatementTree, select}
-use Rattle.bind_names.specs.Scope.{TableShape, exposed_name, entries_of, place_from, place_named, entry_place}
-use Rattle.bind_names.specs.Naming.{entry_causes, alias_causes, from_causes, asked_causes, once_known, statement_name_causes, NameCauses}
+use Rattle.med_syntax.specs.QueryTree.{EntryTree, SelectTree, cores_of, StatementTree, select}
+use Rattle.bind_names.specs.Scope.{TableShape, query_entries, place_from, place_named, entry_place}
+use Rattle.bind_names.specs.Naming.{entry_causes, core_alias_causes, entered_causes, asked_causes, once_known, statement_name_causes, NameCauses}
 use Rattle.bind_names.specs.Meaning.{meant}
 use Rattle.med_binder.specs.Within.{ArePlacesOf}
 
@@ -33,11 +33,11 @@ pub none_stands : (xs : List Cause) → ((c : Cause) → Contains xs c → ⊥) 
 none_stands [] n = refl
 none_stands (x ∷ xs) n = absurd (n x (0, omega arith, refl))
 
-pub no_from : (tables : List TableShape) (q : SelectTree) → ((c : Cause) → NameCauses tables (select q) c → ⊥) → from_causes tables q.from ≡ []
-no_from tables q n = known_empty (from_causes tables q.from) (asked_causes tables q) (none_stands (statement_name_causes tables (select q)) n)
+pub no_entered : (tables : List TableShape) (q : SelectTree) → ((c : Cause) → NameCauses tables (select q) c → ⊥) → entered_causes tables q ≡ []
+no_entered tables q n = known_empty (entered_causes tables q) (asked_causes tables q) (none_stands (statement_name_causes tables (select q)) n)
 
 pub no_asked : (tables : List TableShape) (q : SelectTree) → ((c : Cause) → NameCauses tables (select q) c → ⊥) → asked_causes tables q ≡ []
-no_asked tables q n = asked_empty (from_causes tables q.from) (asked_causes tables q) (none_stands (statement_name_causes tables (select q)) n)
+no_asked tables q n = asked_empty (entered_causes tables q) (asked_causes tables q) (none_stands (statement_name_causes tables (select q)) n)
 
 -- ---- places of tables
 
@@ -75,5 +75,4 @@ entries_below tables (e ∷ es) h =
     (entries_below tables es (right_empty (entry_causes tables e) (flat_map (entry_causes tables) es) h))
 
 pub entries_stand : (tables : List TableShape) (statement : StatementTree) → ((c : Cause) → NameCauses tables statement c → ⊥) → ArePlacesOf tables (meant tables statement).entries
-entries_stand tables (select q) n =
-    entries_below tables (entries_of q.from) (left_empty (flat_map (entry_causes tables) (entries_of q.from)) (alias_causes (map exposed_name (entries_of q.from))) (no_from tables q n))
+entries_stand tables (select q) n = entries_below tables (query_entries q) (left_empty (flat_map (entry_causes tables) (query_entries q)) (flat_map core_alias_causes (cores_of q)) (no_entered tables q n))

@@ -1,24 +1,24 @@
 -- The phases of the causes of names and of types.
-use Rattle.std.proofs.Common.{◌≡◌, List, [], ◌∷◌, ◌++◌, map, filter, bytes_eq, Bool, true, false, cond, Option, Some, None, ℕ, flat_map, refl, All, arith}
-use Rattle.std.specs.List.{list_any}
+use Rattle.std.proofs.Common.{◌≡◌, List, [], ◌∷◌, ◌++◌, map, filter, bytes_eq, Bool, true, false, cond, Option, Some, None, ℕ, flat_map, refl, All, arith, length}
+use Rattle.std.specs.List.{list_any, range_with_len}
 use Rattle.std.proofs.lemmas.List.Elements.{All-cons, All-append, All-contains}
 use Rattle.med_value.specs.declared.cause.Cause.{Cause}
-use Rattle.med_value.specs.declared.cause.Cause.TheVariants.{UndefinedTable, UndefinedColumn, AmbiguousColumn, DuplicateAlias, InvalidColumnReference, MisplacedName, DatatypeMismatch, UndefinedFunction, Grouping, InvalidEscape, FeatureNotSupported}
+use Rattle.med_value.specs.declared.cause.Cause.TheVariants.{UndefinedTable, UndefinedColumn, AmbiguousColumn, DuplicateAlias, InvalidColumnReference, MisplacedName, DatatypeMismatch, UndefinedFunction, Grouping, InvalidEscape, FeatureNotSupported, ValuesSyntax}
 use Rattle.med_value.specs.declared.value.ColType.{ColType}
 use Rattle.med_value.specs.declared.value.ColType.TheVariants.{Int, Text}
 use Rattle.med_syntax.specs.Tree.{Name}
 use Rattle.med_value.specs.declared.operators.Status.{Status}
 use Rattle.med_value.specs.declared.operators.Status.TheVariants as statuses
 use Rattle.med_syntax.specs.ExprTree.{ExprTree, ExprTrees, num, negative, text, truth, null, column, call_all, call, paren, minus, binary, between, among, like, compare, tested, negation, chain, none, more}
-use Rattle.med_syntax.specs.QueryTree.{ItemTree, all, all_of, value, EntryTree, JoinTree, inner_join, left_join, cross_join, ChainTree, GroupTree, KeyTree, SelectTree, StatementTree, select}
+use Rattle.med_syntax.specs.QueryTree.{ItemTree, all, all_of, value, EntryTree, JoinTree, inner_join, left_join, cross_join, ChainTree, GroupTree, KeyTree, CoreTree, SelectTree, cores_of, StatementTree, select}
 use Rattle.tri_expr.specs.declared.expr.SetFunction.{SetFunction}
 use Rattle.tri_expr.specs.declared.expr.SetFunction.TheVariants.{Count, Sum, Min, Max}
 use Rattle.tri_expr.specs.Tree.{Tree}
 use Rattle.med_query.specs.Form.{JoinForm, cross_form, inner_form, left_form, ChainForm, GroupForm, CoreForm, Form}
-use Rattle.bind_names.specs.Scope.{TableShape, Scope, has_entry, candidates, exposed_name, entries_of, is_known, entry_shape, from_scope}
-use Rattle.bind_names.specs.Meaning.{Output, outputs_of, SortKey, position, output_name, expression, is_named, sort_key, function_named, resolved, with_join, meant_in}
-use Rattle.bind_names.specs.Naming.{counted_causes, column_causes, name_causes, name_causes_of_all, star_causes, item_name_causes, condition_name_causes, on_name_causes, joins_name_causes, chain_name_causes, group_name_causes, are_same, distinct_causes, sort_key_causes, key_name_causes, entry_causes, alias_causes, from_causes, asked_causes, once_known, statement_name_causes, NameCauses}
-use Rattle.bind_types.specs.Typing.{type_of, types_of, takes, have_one_type, unless, comparing, as_number, as_text, as_ordered, as_call_all, as_call, as_condition, as_tested, ends_in_escape, as_pattern, type_causes, type_causes_of_all, condition_causes, item_type_causes, as_where, condition_type_causes, on_type_causes, joins_type_causes, chain_type_causes, sort_key_type_causes, key_type_causes, no_aggregate, no_risk, join_causes, chain_causes, grouping_causes, core_causes, form_causes, written_type_causes, statement_type_causes, TypeCauses}
+use Rattle.bind_names.specs.Scope.{TableShape, Scope, has_entry, candidates, exposed_name, entries_of, query_entries, is_known, entry_shape, from_scope}
+use Rattle.bind_names.specs.Meaning.{Output, SortKey, position, output_name, expression, is_named, sort_key, places_named, is_empty, core_outputs, function_named, resolved, with_join, meant_in}
+use Rattle.bind_names.specs.Naming.{counted_causes, column_causes, name_causes, name_causes_of_all, star_causes, item_name_causes, condition_name_causes, on_name_causes, joins_name_causes, chain_name_causes, group_name_causes, are_same, distinct_causes, sort_key_causes, key_name_causes, entry_causes, alias_causes, core_asked_causes, twice_causes, output_key_causes, place_name_causes, order_name_causes, core_alias_causes, entered_causes, asked_causes, once_known, statement_name_causes, NameCauses}
+use Rattle.bind_types.specs.Typing.{type_of, types_of, takes, have_one_type, unless, comparing, as_number, as_text, as_ordered, as_call_all, as_call, as_condition, as_tested, ends_in_escape, as_pattern, type_causes, type_causes_of_all, condition_causes, item_type_causes, as_where, condition_type_causes, on_type_causes, joins_type_causes, chain_type_causes, sort_key_type_causes, key_type_causes, no_aggregate, no_risk, join_causes, chain_causes, grouping_causes, core_causes, form_causes, core_written_causes, order_type_causes, written_type_causes, answer_types, place_causes, in_place, output_type_causes, statement_type_causes, TypeCauses}
 use Rattle.med_value.specs.Causes.{phase_of}
 
 abbrev OfNames : List Cause → Type 0
@@ -130,28 +130,48 @@ once_of : (xs ys : List Cause) → OfNames xs → OfNames ys → OfNames (once_k
 once_of [] ys h k = k
 once_of (x ∷ xs) ys h k = h
 
-from_names : (tables : List TableShape) (chains : List ChainTree) → OfNames (from_causes tables chains)
-from_names tables chains =
-    with_names (flat_map (entry_causes tables) (entries_of chains)) (alias_causes (map exposed_name (entries_of chains)))
-    (flat_of named (entry_causes tables) (entries_of chains) (entry_names tables)) (alias_names (map exposed_name (entries_of chains)))
+core_names : (tables : List TableShape) (c : CoreTree) → OfNames (core_asked_causes tables c)
+core_names tables c =
+    let s = from_scope tables c.from in
+    let having = condition_name_causes s c.having in
+    let groups = flat_map (group_name_causes s) c.groups in
+    let conditions = condition_name_causes s c.condition in
+    let items = flat_map (item_name_causes s) c.items in
+    with_names (flat_map (chain_name_causes tables) c.from) (items ++ (conditions ++ (groups ++ having)))
+    (flat_of named (chain_name_causes tables) c.from (λ c. joins_names tables (entry_shape tables c.first ∷ []) c.joins))
+    (with_names items (conditions ++ (groups ++ having)) (flat_of named (item_name_causes s) c.items (item_names s))
+    (with_names conditions (groups ++ having) (condition_names s c.condition)
+    (with_names groups having (flat_of named (group_name_causes s) c.groups (group_names s)) (condition_names s c.having))))
+
+twice_names : (places : List ℕ) → OfNames (twice_causes places)
+twice_names [] = none_of named
+twice_names (p ∷ []) = none_of named
+twice_names (p ∷ r ∷ rs) = one_of named AmbiguousColumn refl
+
+output_names : (outs : List Output) (k : SortKey) → OfNames (output_key_causes outs k)
+output_names outs (position n) = either_of named _ [] (InvalidColumnReference ∷ []) (none_of named) (one_of named InvalidColumnReference refl)
+output_names outs (output_name n) = twice_names (places_named 0 n outs)
+output_names outs (expression e) = one_of named InvalidColumnReference refl
+
+order_names : (tables : List TableShape) (q : SelectTree) → OfNames (order_name_causes tables q)
+order_names tables q =
+    let s = from_scope tables q.core.from in
+    let outs = core_outputs tables q.core in
+    either_of named (is_empty q.others) (flat_map (key_name_causes s q.core.distinct outs) q.keys) (flat_map (place_name_causes outs) q.keys)
+    (flat_of named (key_name_causes s q.core.distinct outs) q.keys (key_names s q.core.distinct outs))
+    (flat_of named (place_name_causes outs) q.keys (λ k. output_names outs (sort_key outs k.key)))
+
+entered_names : (tables : List TableShape) (q : SelectTree) → OfNames (entered_causes tables q)
+entered_names tables q =
+    with_names (flat_map (entry_causes tables) (query_entries q)) (flat_map core_alias_causes (cores_of q))
+    (flat_of named (entry_causes tables) (query_entries q) (entry_names tables)) (flat_of named core_alias_causes (cores_of q) (λ c. alias_names (map exposed_name (entries_of c.from))))
 
 asked_names : (tables : List TableShape) (q : SelectTree) → OfNames (asked_causes tables q)
 asked_names tables q =
-    let s = from_scope tables q.from in
-    let keys = flat_map (key_name_causes s q.distinct (outputs_of s q.items)) q.keys in
-    let having = condition_name_causes s q.having in
-    let groups = flat_map (group_name_causes s) q.groups in
-    let conditions = condition_name_causes s q.condition in
-    let items = flat_map (item_name_causes s) q.items in
-    with_names (flat_map (chain_name_causes tables) q.from) (items ++ (conditions ++ (groups ++ (having ++ keys))))
-    (flat_of named (chain_name_causes tables) q.from (λ c. joins_names tables (entry_shape tables c.first ∷ []) c.joins))
-    (with_names items (conditions ++ (groups ++ (having ++ keys))) (flat_of named (item_name_causes s) q.items (item_names s))
-    (with_names conditions (groups ++ (having ++ keys)) (condition_names s q.condition)
-    (with_names groups (having ++ keys) (flat_of named (group_name_causes s) q.groups (group_names s))
-    (with_names having keys (condition_names s q.having) (flat_of named (key_name_causes s q.distinct (outputs_of s q.items)) q.keys (key_names s q.distinct (outputs_of s q.items)))))))
+    with_names (flat_map (core_asked_causes tables) (cores_of q)) (order_name_causes tables q) (flat_of named (core_asked_causes tables) (cores_of q) (core_names tables)) (order_names tables q)
 
 pub names_are_of_phase : (tables : List TableShape) (tree : StatementTree) (c : Cause) → NameCauses tables tree c → phase_of c ≡ Some 3
-names_are_of_phase tables (select q) c h = All-contains named (statement_name_causes tables (select q)) c (once_of (from_causes tables q.from) (asked_causes tables q) (from_names tables q.from) (asked_names tables q)) h
+names_are_of_phase tables (select q) c h = All-contains named (statement_name_causes tables (select q)) c (once_of (entered_causes tables q) (asked_causes tables q) (entered_names tables q) (asked_names tables q)) h
 
 -- types
 
@@ -305,27 +325,43 @@ grouping_types : (g : Option GroupForm) (shown : List Tree) → OfTypes (groupin
 grouping_types None shown = none_of typed
 grouping_types (Some g) shown = unless_types _ Grouping refl
 
-core_types : (f : CoreForm) → OfTypes (core_causes f)
-core_types f =
+core_form_types : (f : CoreForm) → OfTypes (core_causes f)
+core_form_types f =
     with_types (flat_map chain_causes f.from) (no_aggregate f.conditions ++ grouping_causes f.group (f.keys ++ f.items)) (flat_of typed chain_causes f.from chain_types)
     (with_types (no_aggregate f.conditions) (grouping_causes f.group (f.keys ++ f.items)) (aggregate_types f.conditions) (grouping_types f.group (f.keys ++ f.items)))
 
 form_types : (f : Form) → OfTypes (form_causes f)
-form_types f = flat_of typed core_causes f.cores core_types
+form_types f = flat_of typed core_causes f.cores core_form_types
+
+core_written : (tables : List TableShape) (c : CoreTree) → OfTypes (core_written_causes tables c)
+core_written tables c =
+    let s = from_scope tables c.from in
+    let having = condition_type_causes s c.having in
+    let conditions = condition_type_causes s c.condition in
+    let items = flat_map (item_type_causes s) c.items in
+    with_types (flat_map (chain_type_causes tables) c.from) (items ++ (conditions ++ having))
+    (flat_of typed (chain_type_causes tables) c.from (λ c. joins_types tables (entry_shape tables c.first ∷ []) c.joins))
+    (with_types items (conditions ++ having) (flat_of typed (item_type_causes s) c.items (item_types s)) (with_types conditions having (where_types s c.condition) (where_types s c.having)))
+
+order_types : (tables : List TableShape) (q : SelectTree) → OfTypes (order_type_causes tables q)
+order_types tables q =
+    let s = from_scope tables q.core.from in
+    let outs = core_outputs tables q.core in
+    flat_of typed (key_type_causes s outs) q.keys (key_types s outs)
 
 written_types : (tables : List TableShape) (q : SelectTree) → OfTypes (written_type_causes tables q)
 written_types tables q =
-    let s = from_scope tables q.from in
-    let keys = flat_map (key_type_causes s (outputs_of s q.items)) q.keys in
-    let having = condition_type_causes s q.having in
-    let conditions = condition_type_causes s q.condition in
-    let items = flat_map (item_type_causes s) q.items in
-    with_types (flat_map (chain_type_causes tables) q.from) (items ++ (conditions ++ (having ++ keys)))
-    (flat_of typed (chain_type_causes tables) q.from (λ c. joins_types tables (entry_shape tables c.first ∷ []) c.joins))
-    (with_types items (conditions ++ (having ++ keys)) (flat_of typed (item_type_causes s) q.items (item_types s))
-    (with_types conditions (having ++ keys) (where_types s q.condition)
-    (with_types having keys (where_types s q.having) (flat_of typed (key_type_causes s (outputs_of s q.items)) q.keys (key_types s (outputs_of s q.items))))))
+    with_types (flat_map (core_written_causes tables) (cores_of q)) (order_type_causes tables q) (flat_of typed (core_written_causes tables) (cores_of q) (core_written tables)) (order_types tables q)
+
+output_types : (tables : List TableShape) (q : SelectTree) → OfTypes (output_type_causes tables q)
+output_types tables q =
+    let rows = answer_types tables q in
+    let f = λ (place : ℕ). place_causes (in_place rows place) in
+    with_types (unless _ ValuesSyntax) (flat_map f (range_with_len 0 (length (core_outputs tables q.core)))) (unless_types _ ValuesSyntax refl)
+    (flat_of typed f (range_with_len 0 (length (core_outputs tables q.core))) (λ place. unless_types _ DatatypeMismatch refl))
 
 pub types_are_of_phase : (tables : List TableShape) (tree : StatementTree) (c : Cause) → TypeCauses tables tree c → phase_of c ≡ Some 4
 types_are_of_phase tables (select q) c h =
-    All-contains typed (statement_type_causes tables (select q)) c (with_types (written_type_causes tables q) (form_causes (meant_in tables q).form) (written_types tables q) (form_types (meant_in tables q).form)) h
+    let form = form_causes (meant_in tables q).form in
+    All-contains typed (statement_type_causes tables (select q)) c
+    (with_types (written_type_causes tables q) (form ++ output_type_causes tables q) (written_types tables q) (with_types form (output_type_causes tables q) (form_types (meant_in tables q).form) (output_types tables q))) h

@@ -1,5 +1,5 @@
 -- Where no cause of names stands, each column is one of those in view.
-use Rattle.std.proofs.Common.{◌≡◌, ℕ, suc, ◌+◌, ◌-◌, ◌<◌, ◌≤◌, Bool, true, false, List, [], ◌∷◌, ◌++◌, Option, Some, None, All, flat_map, map, filter, take, drop, sum, length, codes, bytes_eq, refl, sym, ap, subst, ◌∙◌, if◌then◌else◌, arith, length-append, drop-drop}
+use Rattle.std.proofs.Common.{◌≡◌, ℕ, suc, ◌+◌, ◌-◌, ◌<◌, ◌≤◌, Bool, true, false, List, [], ◌∷◌, ◌++◌, Option, Some, None, All, flat_map, map, filter, take, drop, sum, length, codes, bytes_eq, refl, sym, ap, subst, ◌∙◌, if◌then◌else◌, arith, length-append, drop-drop, append_assoc, zero}
 use Rattle.std.proofs.lemmas.List.Elements.{All-cons, All-nil, All-append, All-head, All-tail, All-drop, All-filter, All-map}
 use Rattle.std.proofs.lemmas.List.Sums.{sum_by-cons}
 use Rattle.med_value.specs.Column.{Column}
@@ -10,17 +10,20 @@ use Rattle.med_syntax.specs.declared.expr.Joint.{Joint}
 use Rattle.med_syntax.specs.declared.expr.Joint.TheVariants.{Or, And}
 use Rattle.med_syntax.specs.ExprTree.{ExprTree, ExprTrees}
 use Rattle.med_syntax.specs.ExprTree as expr
-use Rattle.med_syntax.specs.QueryTree.{ItemTree, all, all_of as all_of_entry, value, EntryTree, JoinTree, inner_join, left_join, cross_join, ChainTree, GroupTree, KeyTree, SelectTree, StatementTree, select}
+use Rattle.med_syntax.specs.QueryTree.{ItemTree, all, all_of as all_of_entry, value, EntryTree, JoinTree, inner_join, left_join, cross_join, ChainTree, GroupTree, KeyTree, CoreTree, cores_of, StatementTree, select}
 use Rattle.tri_expr.specs.declared.expr.SetFunction.{SetFunction}
 use Rattle.tri_expr.specs.Tree.{Tree, Trees, conjunct_trees, conjuncts_of_all, column, parameter, literal, compare, compute, negate, all_of, some_of, opposite, asks, between, within, matches, parenthesised, count_rows, aggregate, none, part}
 use Rattle.tri_expr.specs.TreeParts.{arguments_in, arguments_in_all}
 use Rattle.med_query.specs.Form.{GroupForm, CoreForm}
 use Rattle.med_value.specs.Datum.{NoValue}
-use Rattle.bind_names.specs.Scope.{TableShape, Scope, is_meant, has_entry, places_from, candidates_from, candidates, columns_of, joined_entry, chain_entries, entries_of, entry_columns, entry_shape, from_scope}
-use Rattle.bind_names.specs.Naming.{counted_causes, column_causes, name_causes, name_causes_of_all, item_name_causes, condition_name_causes, on_name_causes, joins_name_causes, chain_name_causes, group_name_causes, distinct_causes, sort_key_causes, key_name_causes, NameCauses}
-use Rattle.bind_names.specs.Meaning.{Output, one_place, joined, function_named, aggregate_of, resolved, resolved_all, columns_from, starred, item_outputs, outputs_of, conditions_of, SortKey, position, output_name, expression, is_named, sort_key, first_value, sorted_by, key_meant, join_meant, with_join, joins_meant, chain_meant, chains_meant, group_place, groups_rows, group_meant, meant}
+use Rattle.bind_names.specs.Scope.{TableShape, Scope, is_meant, has_entry, places_from, candidates_from, candidates, columns_of, joined_entry, chain_entries, entries_of, query_entries, entry_columns, entry_shape, from_scope}
+use Rattle.bind_names.specs.Naming.{counted_causes, column_causes, name_causes, name_causes_of_all, item_name_causes, condition_name_causes, on_name_causes, joins_name_causes, chain_name_causes, group_name_causes, distinct_causes, sort_key_causes, key_name_causes, core_asked_causes, place_name_causes, order_name_causes, NameCauses}
+use Rattle.bind_names.specs.Meaning.{Output, one_place, joined, function_named, aggregate_of, resolved, resolved_all, columns_from, starred, item_outputs, outputs_of, conditions_of, SortKey, position, output_name, expression, is_named, sort_key, first_value, sorted_by, key_meant, join_meant, with_join, joins_meant, chain_meant, chains_meant, group_place, is_empty, groups_rows, group_meant, key_place, core_outputs, output_values, Sorting, by_keys, by_places, item_at, keys_sorting, core_meant, cores_meant, meant}
 use Rattle.med_binder.specs.Within.{IsWithin, AreWithin, widths, widths_of, width_between, JoinWithin, ChainWithin, GroupWithin, CoreWithin, FormWithin}
+use Rattle.med_binder.specs.Counted.{core_widths}
 use Rattle.med_binder.proofs.LawEntries.{left_empty, right_empty, no_asked}
+use Rattle.med_binder.proofs.Numbers.{entry_width, entry_widths, shape_widths, widths_of_two, one_on, entries_in, drop_there, core_wide, next_all, next_number}
+use Rattle.std.proofs.lemmas.List.{length-map}
 
 -- ---- places
 
@@ -245,7 +248,7 @@ group_if : (b : Bool) (k : ℕ) (g : GroupForm) → GroupWithin k (Some g) → G
 group_if true k g h = h
 group_if false k g h = tt
 
-group_within : (s : Scope) (q : SelectTree) (shown : List Tree) → flat_map (group_name_causes s) q.groups ≡ [] → condition_name_causes s q.having ≡ [] → All (IsWithin (length (columns_of s))) shown
+group_within : (s : Scope) (q : CoreTree) (shown : List Tree) → flat_map (group_name_causes s) q.groups ≡ [] → condition_name_causes s q.having ≡ [] → All (IsWithin (length (columns_of s))) shown
     → GroupWithin (length (columns_of s)) (group_meant s q shown)
 group_within s q shown gh hh a =
     let having = conditions_of s q.having in
@@ -267,20 +270,6 @@ pub as_many_widths : (s : Scope) → length (widths s) ≡ length s
 as_many_widths [] = refl
 as_many_widths (e ∷ es) = ap suc (as_many_widths es)
 
-abbrev pub entry_width : List TableShape → EntryTree → ℕ
-entry_width tables e = length (entry_columns tables e)
-
-abbrev pub entry_widths : List TableShape → List EntryTree → List ℕ
-entry_widths tables = map (entry_width tables)
-
-pub shape_widths : (tables : List TableShape) (es : List EntryTree) → widths (map (entry_shape tables) es) ≡ entry_widths tables es
-shape_widths tables [] = refl
-shape_widths tables (e ∷ es) = ap (λ l. entry_width tables e ∷ l) (shape_widths tables es)
-
-pub widths_of_two : (tables : List TableShape) (es fs : List EntryTree) → entry_widths tables (es ++ fs) ≡ entry_widths tables es ++ entry_widths tables fs
-widths_of_two tables [] fs = refl
-widths_of_two tables (e ∷ es) fs = ap (λ l. entry_width tables e ∷ l) (widths_of_two tables es fs)
-
 pub take_past : {X : Type 0} (xs : List X) (y : X) (ys : List X) → take (suc (length xs)) (xs ++ (y ∷ ys)) ≡ xs ++ (y ∷ [])
 take_past [] y ys = refl
 take_past (x ∷ xs) y ys = ap (λ l. x ∷ l) (take_past xs y ys)
@@ -288,10 +277,6 @@ take_past (x ∷ xs) y ys = ap (λ l. x ∷ l) (take_past xs y ys)
 drop_past : (tables : List TableShape) (es : List EntryTree) (ys : List ℕ) → drop (length es) (entry_widths tables es ++ ys) ≡ ys
 drop_past tables [] ys = refl
 drop_past tables (e ∷ es) ys = drop_past tables es ys
-
-pub one_on : {X : Type 0} (xs : List X) (y : X) (ys : List X) → xs ++ (y ∷ ys) ≡ (xs ++ (y ∷ [])) ++ ys
-one_on [] y ys = refl
-one_on (x ∷ xs) y ys = ap (λ l. x ∷ l) (one_on xs y ys)
 
 -- ---- joins
 
@@ -331,46 +316,100 @@ chain_within : (tables : List TableShape) (ws : List ℕ) (number : ℕ) (c : Ch
     → ChainWithin ws (chain_meant tables number c)
 chain_within tables ws number c post d h = joins_within tables ws number (suc number) (entry_shape tables c.first ∷ []) c.joins post d (omega arith) h
 
-chains_within : (tables : List TableShape) (ws : List ℕ) (number : ℕ) (cs : List ChainTree) → drop number ws ≡ entry_widths tables (entries_of cs) → flat_map (chain_name_causes tables) cs ≡ []
+chains_within : (tables : List TableShape) (ws : List ℕ) (number : ℕ) (cs : List ChainTree) (post : List ℕ) → drop number ws ≡ entry_widths tables (entries_of cs) ++ post → flat_map (chain_name_causes tables) cs ≡ []
     → All (ChainWithin ws) (chains_meant tables number cs)
-chains_within tables ws number [] d h = All-nil (ChainWithin ws)
-chains_within tables ws number (c ∷ cs) d h =
-    let here = d ∙ widths_of_two tables (chain_entries c) (entries_of cs) in
-    let behind = sym (drop-drop (length (chain_entries c)) number ws) ∙ ap (drop (length (chain_entries c))) here ∙ drop_past tables (chain_entries c) (entry_widths tables (entries_of cs)) in
+chains_within tables ws number [] post d h = All-nil (ChainWithin ws)
+chains_within tables ws number (c ∷ cs) post d h =
+    let rest = entry_widths tables (entries_of cs) ++ post in
+    let here : drop number ws ≡ entry_widths tables (chain_entries c) ++ rest =
+    d ∙ ap (λ (l : List ℕ). l ++ post) (widths_of_two tables (chain_entries c) (entries_of cs)) ∙ append_assoc (entry_widths tables (chain_entries c)) (entry_widths tables (entries_of cs)) post in
+    let behind = sym (drop-drop (length (chain_entries c)) number ws) ∙ ap (drop (length (chain_entries c))) here ∙ drop_past tables (chain_entries c) rest in
     All-cons (ChainWithin ws) (chain_meant tables number c) (chains_meant tables (number + length (chain_entries c)) cs)
-    (chain_within tables ws number c (entry_widths tables (entries_of cs)) here (left_empty (chain_name_causes tables c) (flat_map (chain_name_causes tables) cs) h))
-    (chains_within tables ws (number + length (chain_entries c)) cs behind (right_empty (chain_name_causes tables c) (flat_map (chain_name_causes tables) cs) h))
+    (chain_within tables ws number c rest here (left_empty (chain_name_causes tables c) (flat_map (chain_name_causes tables) cs) h))
+    (chains_within tables ws (number + length (chain_entries c)) cs post behind (right_empty (chain_name_causes tables c) (flat_map (chain_name_causes tables) cs) h))
+
+-- ---- cores
+
+shows_within : (tables : List TableShape) (c : CoreTree) → core_asked_causes tables c ≡ [] → All (ShowsWithin (length (columns_of (from_scope tables c.from)))) (core_outputs tables c)
+shows_within tables c h =
+    let s = from_scope tables c.from in
+    let item_part = flat_map (item_name_causes s) c.items in
+    let later = condition_name_causes s c.condition ++ (flat_map (group_name_causes s) c.groups ++ condition_name_causes s c.having) in
+    outputs_within s c.items (left_empty item_part later (right_empty (flat_map (chain_name_causes tables) c.from) (item_part ++ later) h))
+
+items_within : (tables : List TableShape) (c : CoreTree) → core_asked_causes tables c ≡ [] → All (IsWithin (length (columns_of (from_scope tables c.from)))) (output_values (core_outputs tables c))
+items_within tables c h = All-map (IsWithin (length (columns_of (from_scope tables c.from)))) (λ (o : Output). o.value) (core_outputs tables c) (shows_within tables c h)
+
+item_in : (k : ℕ) (items : List Tree) (place : ℕ) → All (IsWithin k) items → IsWithin k (item_at items place)
+item_in k [] place h = tt
+item_in k (t ∷ ts) zero h = All-head (IsWithin k) t ts h
+item_in k (t ∷ ts) (suc place) h = item_in k ts place (All-tail (IsWithin k) t ts h)
+
+placed_within : (k : ℕ) (items : List Tree) (places : List ℕ) → All (IsWithin k) items → All (IsWithin k) (map (item_at items) places)
+placed_within k items [] h = All-nil (IsWithin k)
+placed_within k items (p ∷ ps) h = All-cons (IsWithin k) (item_at items p) (map (item_at items) ps) (item_in k items p h) (placed_within k items ps h)
+
+core_within : (tables : List TableShape) (ws before post : List ℕ) (sorting : Sorting) (number : ℕ) (c : CoreTree) → ws ≡ before ++ (entry_widths tables (entries_of c.from) ++ post) → number ≡ length before
+    → core_asked_causes tables c ≡ [] → All (IsWithin (length (columns_of (from_scope tables c.from)))) (keys_sorting sorting (output_values (core_outputs tables c))) → CoreWithin ws (core_meant tables sorting number c)
+core_within tables ws before post sorting number c e n h keys_in =
+    let s = from_scope tables c.from in
+    let items = output_values (core_outputs tables c) in
+    let keys = keys_sorting sorting items in
+    let chain_part = flat_map (chain_name_causes tables) c.from in
+    let item_part = flat_map (item_name_causes s) c.items in
+    let where_part = condition_name_causes s c.condition in
+    let group_part = flat_map (group_name_causes s) c.groups in
+    let having_part = condition_name_causes s c.having in
+    let rest1 = right_empty chain_part (item_part ++ (where_part ++ (group_part ++ having_part))) h in
+    let rest2 = right_empty item_part (where_part ++ (group_part ++ having_part)) rest1 in
+    let rest3 = right_empty where_part (group_part ++ having_part) rest2 in
+    let items_in = items_within tables c h in
+    let wide : length (columns_of s) ≡ sum (core_widths ws (core_meant tables sorting number c)) =
+    total s ∙ ap sum (shape_widths tables (entries_of c.from)) ∙ ap sum (sym (core_wide tables ws before post sorting number c e n)) in
+    let shown = two_within (length (columns_of s)) keys items keys_in items_in in
+    record {
+      joins = chains_within tables ws number c.from post (drop_there ws before (entry_widths tables (entries_of c.from) ++ post) number e n) (left_empty chain_part (item_part ++ (where_part ++ (group_part ++ having_part))) h);
+      conditions = subst (λ (k : ℕ). All (IsWithin k) (conditions_of s c.condition)) wide (condition_within s c.condition (left_empty where_part (group_part ++ having_part) rest2));
+      group = subst (λ (k : ℕ). GroupWithin k (group_meant s c (keys ++ items))) wide
+          (group_within s c (keys ++ items) (left_empty group_part having_part rest3) (right_empty group_part having_part rest3) shown);
+      items = subst (λ (k : ℕ). All (IsWithin k) items) wide items_in;
+      keys = subst (λ (k : ℕ). All (IsWithin k) keys) wide keys_in;
+    }
+
+cores_within : (tables : List TableShape) (ws before : List ℕ) (places : List ℕ) (number : ℕ) (cs : List CoreTree) → ws ≡ before ++ entry_widths tables (entries_in cs) → number ≡ length before
+    → flat_map (core_asked_causes tables) cs ≡ [] → All (CoreWithin ws) (cores_meant tables (by_places places) number cs)
+cores_within tables ws before places number [] e n h = All-nil (CoreWithin ws)
+cores_within tables ws before places number (c ∷ cs) e n h =
+    let own = entry_widths tables (entries_of c.from) in
+    let rest = entry_widths tables (entries_in cs) in
+    let here : ws ≡ before ++ (own ++ rest) = e ∙ ap (λ (l : List ℕ). before ++ l) (widths_of_two tables (entries_of c.from) (entries_in cs)) in
+    let clear = left_empty (core_asked_causes tables c) (flat_map (core_asked_causes tables) cs) h in
+    All-cons (CoreWithin ws) (core_meant tables (by_places places) number c) (cores_meant tables (by_places places) (number + length (entries_of c.from)) cs)
+    (core_within tables ws before rest (by_places places) number c here n clear
+    (placed_within (length (columns_of (from_scope tables c.from))) (output_values (core_outputs tables c)) places (items_within tables c clear)))
+    (cores_within tables ws (before ++ own) places (number + length (entries_of c.from)) cs (next_all ws before own rest here)
+    (next_number before own number (length (entries_of c.from)) n (length-map (entries_of c.from) (entry_width tables)))
+    (right_empty (core_asked_causes tables c) (flat_map (core_asked_causes tables) cs) h))
 
 -- ---- statements
 
+-- of a query with these cores and keys
+all_within : (tables : List TableShape) (ws : List ℕ) (c : CoreTree) (others : List CoreTree) (ks : List KeyTree) → ws ≡ entry_widths tables (entries_in (c ∷ others)) → flat_map (core_asked_causes tables) (c ∷ others) ≡ []
+    → (if is_empty others then flat_map (key_name_causes (from_scope tables c.from) c.distinct (core_outputs tables c)) ks else flat_map (place_name_causes (core_outputs tables c)) ks) ≡ []
+    → All (CoreWithin ws) (cores_meant tables (if is_empty others then by_keys (map (key_meant (from_scope tables c.from) (core_outputs tables c)) ks) else by_places (map (key_place (core_outputs tables c)) ks)) 0 (c ∷ others))
+all_within tables ws c [] ks e h k =
+    let s = from_scope tables c.from in
+    let outs = core_outputs tables c in
+    let sorting = by_keys (map (key_meant s outs) ks) in
+    let clear = left_empty (core_asked_causes tables c) [] h in
+    let here = e ∙ widths_of_two tables (entries_of c.from) [] in
+    All-cons (CoreWithin ws) (core_meant tables sorting 0 c) []
+    (core_within tables ws [] [] sorting 0 c here refl clear (keys_within s c.distinct outs ks (shows_within tables c clear) k))
+    (All-nil (CoreWithin ws))
+all_within tables ws c (o ∷ os) ks e h k = cores_within tables ws [] (map (key_place (core_outputs tables c)) ks) 0 (c ∷ o ∷ os) e refl h
+
 pub form_within : (tables : List TableShape) (statement : StatementTree) → ((c : Cause) → NameCauses tables statement c → ⊥) → FormWithin (widths_of tables statement) (meant tables statement).form
 form_within tables (select q) n =
-    let s = from_scope tables q.from in
-    let outs = outputs_of s q.items in
-    let items = map (λ (o : Output). o.value) outs in
-    let keys = map (key_meant s outs) q.keys in
-    let chain_part = flat_map (chain_name_causes tables) q.from in
-    let item_part = flat_map (item_name_causes s) q.items in
-    let where_part = condition_name_causes s q.condition in
-    let group_part = flat_map (group_name_causes s) q.groups in
-    let having_part = condition_name_causes s q.having in
-    let key_part = flat_map (key_name_causes s q.distinct outs) q.keys in
     let asked = no_asked tables q n in
-    let rest1 = right_empty chain_part (item_part ++ (where_part ++ (group_part ++ (having_part ++ key_part)))) asked in
-    let rest2 = right_empty item_part (where_part ++ (group_part ++ (having_part ++ key_part))) rest1 in
-    let rest3 = right_empty where_part (group_part ++ (having_part ++ key_part)) rest2 in
-    let rest4 = right_empty group_part (having_part ++ key_part) rest3 in
-    let shows = outputs_within s q.items (left_empty item_part (where_part ++ (group_part ++ (having_part ++ key_part))) rest1) in
-    let items_in = All-map (IsWithin (length (columns_of s))) (λ (o : Output). o.value) outs shows in
-    let keys_in = keys_within s q.distinct outs q.keys shows (right_empty having_part key_part rest4) in
-    let wide = total s in
-    let core : CoreForm = record { from = chains_meant tables 0 q.from; conditions = conditions_of s q.condition; group = group_meant s q (keys ++ items); items = items; distinct = q.distinct; keys = keys } in
-    let inside : CoreWithin (widths s) core = record {
-      joins = chains_within tables (widths s) 0 q.from (shape_widths tables (entries_of q.from)) (left_empty chain_part (item_part ++ (where_part ++ (group_part ++ (having_part ++ key_part)))) asked);
-      conditions = subst (λ (k : ℕ). All (IsWithin k) (conditions_of s q.condition)) wide (condition_within s q.condition (left_empty where_part (group_part ++ (having_part ++ key_part)) rest2));
-      group = subst (λ (k : ℕ). GroupWithin k (group_meant s q (keys ++ items))) wide
-          (group_within s q (keys ++ items) (left_empty group_part (having_part ++ key_part) rest3) (left_empty having_part key_part rest4) (two_within (length (columns_of s)) keys items keys_in items_in));
-      items = subst (λ (k : ℕ). All (IsWithin k) items) wide items_in;
-      keys = subst (λ (k : ℕ). All (IsWithin k) keys) wide keys_in;
-    } in
-    All-cons (CoreWithin (widths s)) core [] inside (All-nil (CoreWithin (widths s)))
+    let cores_part = flat_map (core_asked_causes tables) (cores_of q) in
+    all_within tables (widths_of tables (select q)) q.core q.others q.keys (shape_widths tables (query_entries q)) (left_empty cores_part (order_name_causes tables q) asked) (right_empty cores_part (order_name_causes tables q) asked)

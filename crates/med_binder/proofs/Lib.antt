@@ -1,4 +1,5 @@
 pub mod Binds
+pub mod CoreSteps
 pub mod EntrySteps
 pub mod LawAlike
 pub mod LawCounted
@@ -6,4 +7,5 @@ pub mod LawEntries
 pub mod LawPhases
 pub mod LawViews
 pub mod LookSteps
+pub mod Numbers
 pub mod Viewed

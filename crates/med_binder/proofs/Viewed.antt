@@ -7,10 +7,10 @@ use Rattle.std.proofs.lemmas.Option.{slice_get-map}
 use Rattle.med_value.specs.Column.{column_of}
 use Rattle.med_value.specs.declared.cause.Cause.{Cause}
 use Rattle.med_value.specs.declared.cause.Cause.TheVariants.{UndefinedTable}
-use Rattle.med_syntax.specs.QueryTree.{EntryTree, StatementTree, select}
+use Rattle.med_syntax.specs.QueryTree.{EntryTree, cores_of, StatementTree, select}
 use Rattle.med_query.specs.Form.{Form, form_of}
-use Rattle.bind_names.specs.Scope.{TableShape, table_shape, entries_of, entry_place, place_named, exposed_name}
-use Rattle.bind_names.specs.Naming.{entry_causes, alias_causes, from_causes, asked_causes, statement_name_causes}
+use Rattle.bind_names.specs.Scope.{TableShape, table_shape, query_entries, entry_place, place_named}
+use Rattle.bind_names.specs.Naming.{entry_causes, core_alias_causes, entered_causes, asked_causes, statement_name_causes}
 use Rattle.bind_names.specs.Meaning.{meant}
 use Rattle.bind_names.specs.declared.table.AttachedTable.{AttachedTable}
 use Rattle.bind_types.specs.Typing.{statement_type_causes}
@@ -23,7 +23,8 @@ use Rattle.med_binder.specs.declared.bound.BoundEntry.{BoundEntry}
 use Rattle.med_binder.specs.declared.bound.BoundQuery.{BoundQuery}
 use Rattle.med_binder.proofs.Binds.{no_element}
 use Rattle.med_binder.proofs.LawEntries.{left_empty, right_empty, known_empty}
-use Rattle.med_binder.proofs.LawViews.{entry_width, entry_widths, shape_widths, form_within}
+use Rattle.med_binder.proofs.LawViews.{form_within}
+use Rattle.med_binder.proofs.Numbers.{entry_width, entry_widths, shape_widths}
 use Rattle.med_binder.proofs.LawCounted.{form_counts}
 use Rattle.med_binder.proofs.LawAlike.{form_alike}
 
@@ -68,9 +69,9 @@ bound_wide : (tables : List AttachedTable) (statement : StatementTree) (b : Boun
     → statement_name_causes (map table_shape tables) statement ≡ [] → bound_widths b ≡ widths_of (map table_shape tables) statement
 bound_wide tables (select q) b m h n =
     let shapes = map table_shape tables in
-    let from = known_empty (from_causes shapes q.from) (asked_causes shapes q) n in
-    let known = left_empty (flat_map (entry_causes shapes) (entries_of q.from)) (alias_causes (map exposed_name (entries_of q.from))) from in
-    entries_are_wide tables (entries_of q.from) b.entries.items h m.entries known ∙ sym (shape_widths shapes (entries_of q.from))
+    let entered = known_empty (entered_causes shapes q) (asked_causes shapes q) n in
+    let known = left_empty (flat_map (entry_causes shapes) (query_entries q)) (flat_map core_alias_causes (cores_of q)) entered in
+    entries_are_wide tables (query_entries q) b.entries.items h m.entries known ∙ sym (shape_widths shapes (query_entries q))
 
 -- ---- the clauses
 

@@ -1,6 +1,6 @@
 -- Columns that are compared have one type (SQL:2016, 8.2 <comparison predicate>): said of the conjuncts of WHERE and ON, which are what a
 -- scan may be offered.
-use Rattle.std.specs.Prelude.{◌≡◌, ℕ, suc, ◌-◌, List, map, flat_map, take, drop, All, Some, slice_get}
+use Rattle.std.specs.Prelude.{◌≡◌, ℕ, suc, ◌-◌, List, [], map, flat_map, take, drop, All, Some, slice_get, slice_index_or}
 use Rattle.med_value.specs.declared.value.ColType.{ColType}
 use Rattle.med_value.specs.declared.order.Comparison.{Comparison}
 use Rattle.med_value.specs.Column.{Column}
@@ -8,7 +8,8 @@ use Rattle.med_syntax.specs.QueryTree.{StatementTree, select}
 use Rattle.tri_expr.specs.Tree.{Tree, column, compare}
 use Rattle.tri_expr.specs.TreeParts.{bare}
 use Rattle.med_query.specs.Form.{JoinForm, cross_form, inner_form, left_form, ChainForm, CoreForm, Form}
-use Rattle.bind_names.specs.Scope.{TableShape, Scope, from_scope}
+use Rattle.bind_names.specs.Scope.{TableShape, Scope, query_scope}
+use Rattle.med_binder.specs.Counted.{core_numbers}
 
 -- the types of columns
 abbrev pub kinds_among : List Column → List ColType
@@ -19,7 +20,7 @@ abbrev pub kinds : Scope → List (List ColType)
 kinds = map (λ (e : TableShape). kinds_among e.columns)
 
 abbrev pub from_kinds : List TableShape → StatementTree → List (List ColType)
-from_kinds tables (select q) = kinds (from_scope tables q.from)
+from_kinds tables (select q) = kinds (query_scope tables q)
 
 -- of those that all of these entries bring, one entry after another
 abbrev pub all_kinds : List (List ColType) → List ColType
@@ -48,10 +49,14 @@ JoinAlike kss first (left_form number width on) = All (ComparesAlike (kinds_betw
 abbrev pub ChainAlike : List (List ColType) → ChainForm → Type 0
 ChainAlike kss c = All (JoinAlike kss c.first) c.joins
 
--- WHERE sees all entries
+-- of those that each entry of a core brings, of all these
+abbrev pub core_kinds : List (List ColType) → CoreForm → List (List ColType)
+core_kinds kss f = map (λ (number : ℕ). slice_index_or kss number []) (core_numbers f)
+
+-- WHERE sees all entries of its core
 pub record CoreAlike (kss : List (List ColType)) (f : CoreForm) : Type 0 where
   pub joins : All (ChainAlike kss) f.from
-  pub conditions : All (ComparesAlike (all_kinds kss)) f.conditions
+  pub conditions : All (ComparesAlike (all_kinds (core_kinds kss f))) f.conditions
 
 -- the same of each core
 abbrev pub FormAlike : List (List ColType) → Form → Type 0

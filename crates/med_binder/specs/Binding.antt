@@ -1,11 +1,13 @@
 -- What binding a statement answers.
-use Rattle.std.specs.Prelude.{◌≡◌, ◌⊎◌, List, map, length, Some, slice_get, string_bytes}
+use Rattle.std.specs.Prelude.{◌≡◌, ◌⊎◌, List, map, length, Option, Some, slice_get, string_bytes}
 use Rattle.med_value.specs.declared.cause.Cause.{Cause}
-use Rattle.med_syntax.specs.QueryTree.{StatementTree}
+use Rattle.med_value.specs.declared.value.ColType.{ColType}
+use Rattle.med_syntax.specs.QueryTree.{StatementTree, select}
 use Rattle.med_query.specs.Form.{form_of}
 use Rattle.bind_names.specs.Scope.{TableShape}
 use Rattle.bind_names.specs.Naming.{NameCauses}
-use Rattle.bind_types.specs.Typing.{TypeCauses}
+use Rattle.bind_types.specs.Kinds.{types_in}
+use Rattle.bind_types.specs.Typing.{answer_types, TypeCauses}
 use Rattle.bind_names.specs.Meaning.{Meant, meant}
 use Rattle.bind_names.specs.declared.table.AttachedTable.{AttachedTable}
 use Rattle.med_binder.specs.declared.bound.BoundEntry.{BoundEntry}
@@ -28,6 +30,13 @@ pub record IsEntryOf (tables : List AttachedTable) (e : BoundEntry) : Type 0 whe
 -- the bound query is the statement over these tables
 abbrev pub IsBound : List TableShape → StatementTree → BoundQuery → Type 0
 IsBound tables statement b = IsMeant (meant tables statement) b
+
+-- the types of what each core answers
+abbrev pub bound_kinds : BoundQuery → List (List (Option ColType))
+bound_kinds b = map types_in b.kinds.items
+
+abbrev pub kinds_of_answer : List TableShape → StatementTree → List (List (Option ColType))
+kinds_of_answer tables (select q) = answer_types tables q
 
 -- a cause of names or types stands
 abbrev pub BindCauses : List TableShape → StatementTree → Cause → Type 0

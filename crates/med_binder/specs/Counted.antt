@@ -1,5 +1,6 @@
--- How the form of a query counts the entries of FROM: from 0 on, through its chains in their order. What it says of their columns.
-use Rattle.std.specs.Prelude.{◌≡◌, ℕ, ◌≤◌, List, ◌∷◌, length, map, flat_map, All, Some, slice_get}
+-- How the form of a query counts the entries of FROM: from 0 on, through the chains of its cores in their order. What it says of their
+-- columns.
+use Rattle.std.specs.Prelude.{◌≡◌, ℕ, ◌+◌, ◌≤◌, List, ◌∷◌, length, map, flat_map, All, Some, slice_get, slice_index_or}
 use Rattle.std.specs.List.{range_with_len}
 use Rattle.med_value.specs.Limits.{column_limit}
 use Rattle.med_query.specs.Form.{JoinForm, cross_form, inner_form, left_form, ChainForm, CoreForm, Form}
@@ -23,14 +24,26 @@ SaysWidth ws (cross_form number) = Unit {0}
 SaysWidth ws (inner_form number on) = Unit {0}
 SaysWidth ws (left_form number width on) = slice_get ws number ≡ Some width
 
--- the entries, which bring so many columns each, are those of FROM one after another, each once (SQL:2016, <from clause>)
+-- the numbers of the entries of a core
+abbrev pub core_numbers : CoreForm → List ℕ
+core_numbers f = flat_map chain_numbers f.from
+
+-- A core counts its entries one after another, each once, from a number on. They are among these, which bring so many columns each
+-- (SQL:2016, <from clause>).
 pub record CoreCounts (ws : List ℕ) (f : CoreForm) : Type 0 where
-  pub numbers : flat_map chain_numbers f.from ≡ range_with_len 0 (length ws)
+  pub first : ℕ
+  pub numbers : core_numbers f ≡ range_with_len first (length (core_numbers f))
+  pub among : first + length (core_numbers f) ≤ length ws
   pub widths : All (λ (c : ChainForm). All (SaysWidth ws) c.joins) f.from
 
--- the same of each core
-abbrev pub FormCounts : List ℕ → Form → Type 0
-FormCounts ws f = All (CoreCounts ws) f.cores
+-- the entries are those of the cores, one core after another, each once
+pub record FormCounts (ws : List ℕ) (f : Form) : Type 0 where
+  pub numbers : flat_map core_numbers f.cores ≡ range_with_len 0 (length ws)
+  pub cores : All (CoreCounts ws) f.cores
+
+-- how many columns each entry of a core brings, of all these
+abbrev pub core_widths : List ℕ → CoreForm → List ℕ
+core_widths ws f = map (λ (number : ℕ). slice_index_or ws number 0) (core_numbers f)
 
 -- how many columns the entries of a bound query have
 abbrev pub bound_widths : BoundQuery → List ℕ

@@ -4,7 +4,8 @@ use Rattle.std.specs.Prelude.{ℕ, suc, ◌-◌, ◌<◌, List, length, map, sum
 use Rattle.med_syntax.specs.QueryTree.{StatementTree, select}
 use Rattle.tri_expr.specs.Tree.{Tree, Trees, column, parameter, literal, compare, compute, negate, all_of, some_of, opposite, asks, between, within, matches, parenthesised, count_rows, aggregate, none, part}
 use Rattle.med_query.specs.Form.{JoinForm, cross_form, inner_form, left_form, ChainForm, GroupForm, CoreForm, Form}
-use Rattle.bind_names.specs.Scope.{TableShape, Scope, from_scope}
+use Rattle.bind_names.specs.Scope.{TableShape, Scope, query_scope}
+use Rattle.med_binder.specs.Counted.{core_widths}
 
 -- each place in a list of tables is that of one of them
 abbrev pub ArePlacesOf : List TableShape → List ℕ → Type 0
@@ -39,7 +40,7 @@ abbrev pub widths : Scope → List ℕ
 widths = map (λ (e : TableShape). length e.columns)
 
 abbrev pub widths_of : List TableShape → StatementTree → List ℕ
-widths_of tables (select q) = widths (from_scope tables q.from)
+widths_of tables (select q) = widths (query_scope tables q)
 
 -- how many columns the entries from one number to another bring, both of them with theirs
 abbrev pub width_between : List ℕ → ℕ → ℕ → ℕ
@@ -59,13 +60,13 @@ abbrev pub GroupWithin : ℕ → Option GroupForm → Type 0
 GroupWithin w None = Unit {0}
 GroupWithin w (Some g) = All (λ (place : ℕ). place < w) g.keys × All (IsWithin w) g.arguments × All (IsWithin w) g.having
 
--- ON sees the entries on its left, all else the columns of all entries
+-- ON sees the entries on its left, all else the columns of all entries of its core
 pub record CoreWithin (ws : List ℕ) (f : CoreForm) : Type 0 where
   pub joins : All (ChainWithin ws) f.from
-  pub conditions : All (IsWithin (sum ws)) f.conditions
-  pub group : GroupWithin (sum ws) f.group
-  pub items : All (IsWithin (sum ws)) f.items
-  pub keys : All (IsWithin (sum ws)) f.keys
+  pub conditions : All (IsWithin (sum (core_widths ws f))) f.conditions
+  pub group : GroupWithin (sum (core_widths ws f)) f.group
+  pub items : All (IsWithin (sum (core_widths ws f))) f.items
+  pub keys : All (IsWithin (sum (core_widths ws f))) f.keys
 
 -- the same of each core
 abbrev pub FormWithin : List ℕ → Form → Type 0

@@ -1,7 +1,7 @@
 //! Queries with their names resolved.
 
 use med_query::Select;
-use med_value::TableNo;
+use med_value::{ColType, TableNo};
 
 /// An entry of FROM: the table that it stands for.
 #[derive(Clone, Copy, Debug, PartialEq, Eq, Drop)]
@@ -21,8 +21,10 @@ pub struct BoundEntry {
 pub struct BoundQuery {
     /// The names of the answer's columns.
     pub names: Vec<String>,
-    /// The entries of FROM in their order, all chains together. The query counts its tables by them, from 0.
+    /// The entries of FROM in their order, all chains and all cores together. The query counts its tables by them, from 0.
     pub entries: Vec<BoundEntry>,
     /// The query.
     pub select: Select,
+    /// The types of what each core answers; none for a NULL literal.
+    pub kinds: Vec<Vec<Option<ColType>>>,
 }

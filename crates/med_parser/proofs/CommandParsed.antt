@@ -21,7 +21,7 @@ use Rattle.query_grammar.specs.declared.query_symbols.Place.TheVariants.{Before}
 use Rattle.query_grammar.specs.QueryTerminals.{words_at}
 use Rattle.expr_grammar.specs.ExprAnswers.{ReadsAs, cause_of_read}
 use Rattle.med_syntax.specs.QueryTree.{StatementTree, select, statement_height}
-use Rattle.query_grammar.specs.QueryGrammar.{Spells, IsStatement, HasStatement}
+use Rattle.query_grammar.specs.QueryGrammar.{SpellsCore, Spells, IsStatement, HasStatement}
 use Rattle.query_grammar.specs.QueryCauses.{statement_in_range}
 use Rattle.query_print.specs.QueryPrinting.{printed_statement}
 use Rattle.ddl_parser.specs.DdlPrinting.{printed_ddl}
@@ -89,7 +89,10 @@ not_begun w ss us ts rest r f n d p a q =
     not_select w us (t.Reserved (codes "select")) r f n d b.0 refl
 
 begins_select : (s : StatementTree) (ts : List Terminal) → Spells s ts → (rest : List Terminal) × (ts ≡ t.Reserved (codes "select") ∷ rest)
-begins_select (select q) ts x = (x.quantifier ++ (x.items ++ (x.from ++ (x.condition ++ (x.groups ++ (x.having ++ (x.keys ++ x.limits)))))), x.is)
+begins_select (select q) ts x =
+    let c : SpellsCore q.core x.core = x.first in
+    let behind : List Terminal = x.others ++ (x.keys ++ x.limits) in
+    ((c.quantifier ++ (c.items ++ (c.from ++ (c.condition ++ (c.groups ++ c.having))))) ++ behind, x.is ∙ ap (λ us. us ++ behind) c.is)
 
 apart : (ss : List Shape) (s : StatementTree) (d : DdlTree) → IsStatement ss s → IsDdl ss d → ⊥
 apart ss s d x y =

@@ -42,18 +42,28 @@ pub data LimitTree : Type 0 where
   no_limit : LimitTree
   rows : ℕ → LimitTree
 
--- SELECT [DISTINCT] items [FROM chains] [WHERE condition] [GROUP BY groups] [HAVING having] [ORDER BY keys] [LIMIT limit] [OFFSET offset]
--- (SQL:2016, <query specification>, <query expression>). A clause that is a list is empty where it is not written.
-pub record SelectTree : Type 0 where
+-- SELECT [DISTINCT] items [FROM chains] [WHERE condition] [GROUP BY groups] [HAVING having] (SQL:2016, <query specification>). A clause that
+-- is a list is empty where it is not written.
+pub record CoreTree : Type 0 where
   pub distinct : Bool
   pub items : List ItemTree
   pub from : List ChainTree
   pub condition : Option ExprTree
   pub groups : List GroupTree
   pub having : Option ExprTree
+
+-- core {UNION ALL core} [ORDER BY keys] [LIMIT limit] [OFFSET offset] (SQL:2016, <query expression>): the order and what is cut are of the
+-- rows of all cores
+pub record SelectTree : Type 0 where
+  pub core : CoreTree
+  pub others : List CoreTree
   pub keys : List KeyTree
   pub limit : Option LimitTree
   pub offset : Option ℕ
+
+-- its cores, in order
+abbrev pub cores_of : SelectTree → List CoreTree
+cores_of q = q.core ∷ q.others
 
 -- A new kind of statement is a constructor.
 pub data StatementTree : Type 0 where
@@ -84,10 +94,12 @@ abbrev pub condition_height : Option ExprTree → ℕ
 condition_height None = 0
 condition_height (Some e) = height e
 
+abbrev pub core_height : CoreTree → ℕ
+core_height c =
+    max (highest_of item_height c.items) (max (highest_of chain_height c.from) (max (condition_height c.condition) (condition_height c.having)))
+
 abbrev pub select_height : SelectTree → ℕ
-select_height q =
-    max (highest_of item_height q.items) (max (highest_of chain_height q.from) (max (condition_height q.condition)
-    (max (condition_height q.having) (highest_of key_height q.keys))))
+select_height q = max (highest_of core_height (cores_of q)) (highest_of key_height q.keys)
 
 abbrev pub statement_height : StatementTree → ℕ
 statement_height (select q) = select_height q

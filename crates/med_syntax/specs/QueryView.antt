@@ -11,11 +11,12 @@ use Rattle.med_syntax.specs.declared.statement.GroupColumn.{GroupColumn}
 use Rattle.med_syntax.specs.declared.statement.OrderKey.{OrderKey}
 use Rattle.med_syntax.specs.declared.statement.Limit.{Limit}
 use Rattle.med_syntax.specs.declared.statement.Limit.TheVariants as l
+use Rattle.med_syntax.specs.declared.statement.Core.{Core}
 use Rattle.med_syntax.specs.declared.statement.Select.{Select}
 use Rattle.med_syntax.specs.declared.statement.Statement.{Statement}
 use Rattle.med_syntax.specs.declared.statement.Statement.TheVariants as s
 use Rattle.med_syntax.specs.ExprView.{expr_tree}
-use Rattle.med_syntax.specs.QueryTree.{ItemTree, all, all_of, value, EntryTree, JoinTree, inner_join, left_join, cross_join, ChainTree, GroupTree, KeyTree, LimitTree, no_limit, rows, SelectTree, StatementTree, select}
+use Rattle.med_syntax.specs.QueryTree.{ItemTree, all, all_of, value, EntryTree, JoinTree, inner_join, left_join, cross_join, ChainTree, GroupTree, KeyTree, LimitTree, no_limit, rows, CoreTree, SelectTree, StatementTree, select}
 
 abbrev pub item_tree : Item → ItemTree
 item_tree i.All = all
@@ -46,14 +47,20 @@ abbrev pub limit_tree : Limit → LimitTree
 limit_tree l.All = no_limit
 limit_tree (l.Rows n) = rows n
 
+abbrev pub core_tree : Core → CoreTree
+core_tree c = record {
+  distinct = c.distinct;
+  items = items_tree c.items.items;
+  from = map chain_tree c.from.items;
+  condition = option_map expr_tree c.condition;
+  groups = map group_tree c.groups.items;
+  having = option_map expr_tree c.having;
+}
+
 abbrev pub select_tree : Select → SelectTree
 select_tree s = record {
-  distinct = s.distinct;
-  items = items_tree s.items.items;
-  from = map chain_tree s.from.items;
-  condition = option_map expr_tree s.condition;
-  groups = map group_tree s.groups.items;
-  having = option_map expr_tree s.having;
+  core = core_tree s.core;
+  others = map core_tree s.others.items;
   keys = map key_tree s.keys.items;
   limit = option_map limit_tree s.limit;
   offset = s.offset;

@@ -9,5 +9,7 @@ mod statement;
 mod words;
 
 pub use expr::{Expr, Joint};
-pub use statement::{Chain, Entry, GroupColumn, Item, Join, Limit, OrderKey, Select, Statement};
+pub use statement::{
+    Chain, Core, Entry, GroupColumn, Item, Join, Limit, OrderKey, Select, Statement,
+};
 pub use words::is_reserved;

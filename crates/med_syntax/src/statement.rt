@@ -8,9 +8,9 @@ pub enum Statement {
     Select(Select),
 }
 
-/// A query (SQL:2016, 7.16 <query specification>, 7.17 <query expression>).
+/// A core of a query: SELECT .. HAVING (SQL:2016, 7.16 <query specification>).
 #[derive(Debug, PartialEq, Eq, Drop)]
-pub struct Select {
+pub struct Core {
     /// Whether DISTINCT is written.
     pub distinct: bool,
     /// What is answered.
@@ -23,6 +23,15 @@ pub struct Select {
     pub groups: Vec<GroupColumn>,
     /// HAVING.
     pub having: Option<Expr>,
+}
+
+/// A query: its cores, which UNION ALL joins, an order and what is cut (SQL:2016, 7.17 <query expression>).
+#[derive(Debug, PartialEq, Eq, Drop)]
+pub struct Select {
+    /// The first core.
+    pub core: Core,
+    /// The cores behind it, each behind a UNION ALL.
+    pub others: Vec<Core>,
     /// ORDER BY; none where it is not written.
     pub keys: Vec<OrderKey>,
     /// LIMIT.

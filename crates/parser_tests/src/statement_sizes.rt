@@ -43,6 +43,8 @@ fn long_texts(rt: HostRuntime) -> Result<(), Fail> {
         &rt,
         "1*SELECT *, t.*, a * 1 b\t1000*, -a * (1) c => read in 12022 bytes\n\
         1*SELECT *\t349522*, * => read in 1048574 bytes\n\
+        1*SELECT 1\t1000* UNION ALL SELECT -1 => read in 20008 bytes\n\
+        1*SELECT 1 UNION ALL SELECT 1\t64*+1\t1* UNION ALL SELECT 1 => TooDeep in 174 bytes\n\
         1*SELECT 1\t524284*+1 => TooDeep in 1048576 bytes\n\
         1*SELECT a WHERE 1\t30000*+1 => TooDeep in 60016 bytes",
     )
@@ -86,6 +88,7 @@ fn refused_allocations(rt: HostRuntime) -> Result<(), Fail> {
         SELECT -(a + 1) * -2 x WHERE a BETWEEN 1 AND b OR c IS NOT UNKNOWN OR t.d => SELECT - ( \"a\" + 1 ) * - 2 AS \"x\" WHERE \"a\" BETWEEN 1 AND \"b\" OR \"c\" IS NOT UNKNOWN OR \"t\" . \"d\"\n\
         SELECT DISTINCT 1 FROM t u JOIN v ON a LEFT JOIN w x ON b CROSS JOIN y, z => SELECT DISTINCT 1 FROM \"t\" AS \"u\" JOIN \"v\" ON \"a\" LEFT JOIN \"w\" AS \"x\" ON \"b\" CROSS JOIN \"y\" , \"z\"\n\
         SELECT a GROUP BY a, t.b HAVING c ORDER BY a, b DESC NULLS LAST OFFSET 2 ROWS LIMIT 1 => SELECT \"a\" GROUP BY \"a\" , \"t\" . \"b\" HAVING \"c\" ORDER BY \"a\" ASC NULLS LAST , \"b\" DESC NULLS LAST LIMIT 1 OFFSET 2\n\
+        SELECT a UNION ALL SELECT b FROM t UNION ALL SELECT 'c' ORDER BY a => SELECT \"a\" UNION ALL SELECT \"b\" FROM \"t\" UNION ALL SELECT 'c' ORDER BY \"a\" ASC NULLS LAST\n\
         CREATE FOREIGN TABLE t (a text OPTIONS (b 'c') NOT NULL, d integer NULL) SERVER s OPTIONS (e 'f') => CREATE FOREIGN TABLE \"t\" ( \"a\" \"text\" OPTIONS ( \"b\" 'c' ) NOT NULL , \"d\" \"integer\" ) SERVER \"s\" OPTIONS ( \"e\" 'f' )\n\
         DROP USER MAPPING IF EXISTS FOR u SERVER s; => DROP USER MAPPING IF EXISTS FOR \"u\" SERVER \"s\"\n\
         INSERT INTO t (a, b) VALUES (1, 'c'), (d + 2, NULL) => INSERT INTO \"t\" ( \"a\" , \"b\" ) VALUES ( 1 , 'c' ) , ( \"d\" + 2 , NULL )\n\

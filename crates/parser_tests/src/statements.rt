@@ -146,6 +146,32 @@ fn limits(rt: HostRuntime) -> Result<(), Fail> {
 }
 
 #[test]
+fn unions(rt: HostRuntime) -> Result<(), Fail> {
+    assert_rows::<Printed>(
+        rt.alloc(),
+        &rt,
+        "SELECT \"id\" FROM \"parts\" UNION ALL SELECT \"part\" FROM \"orders\" ORDER BY \"id\" DESC NULLS FIRST LIMIT 3 => SELECT \"id\" FROM \"parts\" UNION ALL SELECT \"part\" FROM \"orders\" ORDER BY \"id\" DESC NULLS FIRST LIMIT 3\n\
+        select 1 union all select 2 Union All select 3; => SELECT 1 UNION ALL SELECT 2 UNION ALL SELECT 3\n\
+        SELECT DISTINCT a FROM t WHERE b UNION ALL SELECT ALL c FROM u JOIN v ON d GROUP BY c HAVING e UNION ALL SELECT * => SELECT DISTINCT \"a\" FROM \"t\" WHERE \"b\" UNION ALL SELECT \"c\" FROM \"u\" JOIN \"v\" ON \"d\" GROUP BY \"c\" HAVING \"e\" UNION ALL SELECT *\n\
+        SELECT a x FROM t u UNION ALL SELECT b OFFSET 1 ROW LIMIT 2 => SELECT \"a\" AS \"x\" FROM \"t\" AS \"u\" UNION ALL SELECT \"b\" LIMIT 2 OFFSET 1\n\
+        SELECT 1 AS union UNION ALL SELECT 2 AS all => SELECT 1 AS \"union\" UNION ALL SELECT 2 AS \"all\"\n\
+        SELECT 1 UNION SELECT 2 => Syntax\n\
+        SELECT 1 UNION DISTINCT SELECT 2 => Syntax\n\
+        SELECT 1 UNION ALL => Syntax\n\
+        SELECT 1 UNION ALL; => Syntax\n\
+        SELECT 1 UNION ALL SELECT => Syntax\n\
+        SELECT 1 UNION ALL VALUES (2) => Syntax\n\
+        SELECT 1 UNION ALL (SELECT 2) => Syntax\n\
+        SELECT 1 UNION ALL UNION ALL SELECT 2 => Syntax\n\
+        UNION ALL SELECT 1 => Syntax\n\
+        SELECT 1 ORDER BY 1 UNION ALL SELECT 2 => Syntax\n\
+        SELECT 1 LIMIT 1 UNION ALL SELECT 2 => Syntax\n\
+        SELECT 1 UNION ALL SELECT 9223372036854775808 => LiteralOutOfRange\n\
+        SELECT a FROM union => Syntax",
+    )
+}
+
+#[test]
 fn keywords_that_are_names(rt: HostRuntime) -> Result<(), Fail> {
     assert_rows::<Printed>(
         rt.alloc(),
@@ -216,8 +242,9 @@ fn trees(rt: HostRuntime) -> Result<(), Fail> {
     assert_rows::<Tree>(
         rt.alloc(),
         &rt,
-        "SELECT DISTINCT a FROM t JOIN u ON b LEFT JOIN v ON c CROSS JOIN w, x GROUP BY a, t.b HAVING c ORDER BY a, b DESC, c NULLS FIRST LIMIT 5 OFFSET 6 => Select(Select { distinct: true, items: [Expression(Column(None, \"a\"), None)], from: [Chain { first: Entry { table: \"t\", alias: None }, joins: [Inner(Entry { table: \"u\", alias: None }, Column(None, \"b\")), Left(Entry { table: \"v\", alias: None }, Column(None, \"c\")), Cross(Entry { table: \"w\", alias: None })] }, Chain { first: Entry { table: \"x\", alias: None }, joins: [] }], condition: None, groups: [GroupColumn { qualifier: None, name: \"a\" }, GroupColumn { qualifier: Some(\"t\"), name: \"b\" }], having: Some(Column(None, \"c\")), keys: [OrderKey { key: Column(None, \"a\"), descending: false, nulls_first: false }, OrderKey { key: Column(None, \"b\"), descending: true, nulls_first: true }, OrderKey { key: Column(None, \"c\"), descending: false, nulls_first: true }], limit: Some(Rows(5)), offset: Some(6) })\n\
-        SELECT *, t.*, a + 1 x, b FROM t u WHERE c => Select(Select { distinct: false, items: [All, AllOf(\"t\"), Expression(Binary(Add, Column(None, \"a\"), Number(1)), Some(\"x\")), Expression(Column(None, \"b\"), None)], from: [Chain { first: Entry { table: \"t\", alias: Some(\"u\") }, joins: [] }], condition: Some(Column(None, \"c\")), groups: [], having: None, keys: [], limit: None, offset: None })\n\
-        SELECT 1 => Select(Select { distinct: false, items: [Expression(Number(1), None)], from: [], condition: None, groups: [], having: None, keys: [], limit: None, offset: None })",
+        "SELECT DISTINCT a FROM t JOIN u ON b LEFT JOIN v ON c CROSS JOIN w, x GROUP BY a, t.b HAVING c ORDER BY a, b DESC, c NULLS FIRST LIMIT 5 OFFSET 6 => Select(Select { core: Core { distinct: true, items: [Expression(Column(None, \"a\"), None)], from: [Chain { first: Entry { table: \"t\", alias: None }, joins: [Inner(Entry { table: \"u\", alias: None }, Column(None, \"b\")), Left(Entry { table: \"v\", alias: None }, Column(None, \"c\")), Cross(Entry { table: \"w\", alias: None })] }, Chain { first: Entry { table: \"x\", alias: None }, joins: [] }], condition: None, groups: [GroupColumn { qualifier: None, name: \"a\" }, GroupColumn { qualifier: Some(\"t\"), name: \"b\" }], having: Some(Column(None, \"c\")) }, others: [], keys: [OrderKey { key: Column(None, \"a\"), descending: false, nulls_first: false }, OrderKey { key: Column(None, \"b\"), descending: true, nulls_first: true }, OrderKey { key: Column(None, \"c\"), descending: false, nulls_first: true }], limit: Some(Rows(5)), offset: Some(6) })\n\
+        SELECT *, t.*, a + 1 x, b FROM t u WHERE c => Select(Select { core: Core { distinct: false, items: [All, AllOf(\"t\"), Expression(Binary(Add, Column(None, \"a\"), Number(1)), Some(\"x\")), Expression(Column(None, \"b\"), None)], from: [Chain { first: Entry { table: \"t\", alias: Some(\"u\") }, joins: [] }], condition: Some(Column(None, \"c\")), groups: [], having: None }, others: [], keys: [], limit: None, offset: None })\n\
+        SELECT 1 => Select(Select { core: Core { distinct: false, items: [Expression(Number(1), None)], from: [], condition: None, groups: [], having: None }, others: [], keys: [], limit: None, offset: None })\n\
+        SELECT 1 UNION ALL SELECT DISTINCT * FROM t HAVING c LIMIT ALL => Select(Select { core: Core { distinct: false, items: [Expression(Number(1), None)], from: [], condition: None, groups: [], having: None }, others: [Core { distinct: true, items: [All], from: [Chain { first: Entry { table: \"t\", alias: None }, joins: [] }], condition: None, groups: [], having: Some(Column(None, \"c\")) }], keys: [], limit: Some(All), offset: None })",
     )
 }

@@ -30,6 +30,7 @@ fn inserts(rt: HostRuntime) -> Result<(), Fail> {
         INSERT INTO t VALUES (-9223372036854775808, 9223372036854775807) => INSERT INTO \"t\" VALUES ( - 9223372036854775808 , 9223372036854775807 )\n\
         INSERT INTO t SELECT a b FROM u WHERE c LIMIT 1; => INSERT INTO \"t\" SELECT \"a\" AS \"b\" FROM \"u\" WHERE \"c\" LIMIT 1\n\
         INSERT INTO t (a) SELECT DISTINCT 1 ORDER BY a NULLS FIRST => INSERT INTO \"t\" ( \"a\" ) SELECT DISTINCT 1 ORDER BY \"a\" ASC NULLS FIRST\n\
+        INSERT INTO t SELECT \"id\" FROM \"parts\" UNION ALL SELECT \"part\" FROM \"orders\" ORDER BY \"id\" DESC NULLS FIRST LIMIT 3 => INSERT INTO \"t\" SELECT \"id\" FROM \"parts\" UNION ALL SELECT \"part\" FROM \"orders\" ORDER BY \"id\" DESC NULLS FIRST LIMIT 3\n\
         INSERT INTO nulls (first, row) VALUES (1, 2) => INSERT INTO \"nulls\" ( \"first\" , \"row\" ) VALUES ( 1 , 2 )",
     )
 }

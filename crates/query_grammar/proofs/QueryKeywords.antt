@@ -11,7 +11,6 @@ use Rattle.med_syntax.specs.Terminal.{Terminal, IsTerminal}
 use Rattle.med_syntax.specs.Terminal as t
 use Rattle.expr_grammar.specs.ExprTerminals.{follows, terminal_at}
 use Rattle.query_grammar.specs.QueryTerminals.{is_one_of, is_free_keyword, IsWord, AreWords, keywords_at, place_behind, word_at, words_at}
-use Rattle.med_syntax.specs.QueryTree.{rows}
 use Rattle.expr_grammar.proofs.ExprTerminals.{Allowed, Good, same_terminals, terminals_are}
 
 -- ---- keywords that are not reserved

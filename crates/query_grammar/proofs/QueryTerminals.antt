@@ -15,8 +15,8 @@ use Rattle.med_syntax.specs.Terminal as t
 use Rattle.expr_grammar.specs.ExprTerminals.{follows}
 use Rattle.med_syntax.specs.ExprTree.{ExprTree, ExprTrees, num, negative, text, truth, null, column, call_all, call, paren, minus, binary, between, among, like, compare, tested, negation, chain, none, more, perhaps_not, column_spelling, spelling, spellings, parts_spelling, IsExpr}
 use Rattle.query_grammar.specs.QueryTerminals.{is_free_keyword, behind_reserved, words_at}
-use Rattle.med_syntax.specs.QueryTree.{all, all_of, value, EntryTree, JoinTree, inner_join, left_join, cross_join, ChainTree, GroupTree, KeyTree, LimitTree, no_limit, rows, SelectTree, StatementTree, select}
-use Rattle.query_grammar.specs.QueryGrammar.{keywords, SpellsOthers, SpellsList, IsLabel, SpellsLabel, SpellsAlias, SpellsItem, SpellsEntry, SpellsOn, SpellsJoin, SpellsJoins, SpellsChain, SpellsGroup, SpellsFlag, SpellsNulls, SpellsKey, SpellsLimit, SpellsOffset, SpellsLimits, SpellsPerhaps, SpellsListed, SpellsExpr, SpellsSelect, Spells, IsEnd, IsLine, IsStatement}
+use Rattle.med_syntax.specs.QueryTree.{all, all_of, value, EntryTree, JoinTree, inner_join, left_join, cross_join, ChainTree, GroupTree, KeyTree, LimitTree, no_limit, rows, CoreTree, SelectTree, StatementTree, select}
+use Rattle.query_grammar.specs.QueryGrammar.{keywords, SpellsOthers, SpellsList, IsLabel, SpellsLabel, SpellsAlias, SpellsItem, SpellsEntry, SpellsOn, SpellsJoin, SpellsJoins, SpellsChain, SpellsGroup, SpellsFlag, SpellsNulls, SpellsKey, SpellsLimit, SpellsOffset, SpellsLimits, SpellsPerhaps, SpellsListed, SpellsExpr, SpellsCore, SpellsUnions, SpellsSelect, Spells, IsEnd, IsLine, IsStatement}
 use Rattle.expr_grammar.proofs.ExprTerminals.{Allowed, Good, good}
 use Rattle.query_grammar.proofs.QueryKeywords.{reserved_free, words_are, Permits, Fine, same_words}
 
@@ -341,21 +341,37 @@ quantifier_placed true ts rest s f = subst (λ us. Placed (p.Before false) (us +
 quantifier_placed false ts rest (inl s) f = subst (λ us. Placed (p.Before false) (us ++ rest)) (sym s) f
 quantifier_placed false ts rest (inr s) f = subst (λ us. Placed (p.Before false) (us ++ rest)) (sym s) (word_placed (codes "all") rest refl f)
 
-apart : (a b c d e f g h end : List Terminal) → (a ++ (b ++ (c ++ (d ++ (e ++ (f ++ (g ++ h))))))) ++ end ≡ a ++ (b ++ (c ++ (d ++ (e ++ (f ++ (g ++ (h ++ end)))))))
-apart a b c d e f g h end = simp append_assoc
+core_apart : (a b c d e f end : List Terminal) → (a ++ (b ++ (c ++ (d ++ (e ++ f))))) ++ end ≡ a ++ (b ++ (c ++ (d ++ (e ++ (f ++ end)))))
+core_apart a b c d e f end = simp append_assoc
+
+core_placed : (c : CoreTree) (ts rest : List Terminal) → SpellsCore c ts → Ready false rest → Placed (p.Before false) (ts ++ rest)
+core_placed c ts rest s r =
+    let r4 = having_ready c.having s.having rest s.kept r in
+    let r3 = groups_ready c.groups s.groups (s.having ++ rest) s.grouped r4 in
+    let r2 = where_ready c.condition s.condition (s.groups ++ (s.having ++ rest)) s.filtered r3 in
+    let r1 = from_ready c.from s.from (s.condition ++ (s.groups ++ (s.having ++ rest))) s.joined r2 in
+    let f = list_placed false SpellsItem item_placed c.items s.items (s.from ++ (s.condition ++ (s.groups ++ (s.having ++ rest)))) s.answered r1 in
+    let g = quantifier_placed c.distinct s.quantifier (s.items ++ (s.from ++ (s.condition ++ (s.groups ++ (s.having ++ rest))))) s.quantified f in
+    subst (λ us. Placed (p.Before false) (us ++ rest)) (sym s.is)
+    (word_placed (codes "select") _ refl (subst (Placed (p.Before false)) (sym (core_apart s.quantifier s.items s.from s.condition s.groups s.having rest)) g))
+
+unions_ready : (cs : List CoreTree) (ts rest : List Terminal) → SpellsUnions cs ts → Ready false rest → Ready false (ts ++ rest)
+unions_ready [] ts rest s r = subst (λ us. Ready false (us ++ rest)) (sym s) r
+unions_ready (c ∷ cs) ts rest s r =
+    let f : Placed (p.Before false) ((s.0 ++ s.1) ++ rest) = then_placed (p.Before false) s.0 s.1 rest (core_placed c s.0 (s.1 ++ rest) s.3 (unions_ready cs s.1 rest s.4 r)) in
+    subst (λ us. Ready false (us ++ rest)) (sym s.2)
+    (word_ready false (codes "union") (t.Reserved (codes "all") ∷ ((s.0 ++ s.1) ++ rest)) refl (word_placed (codes "all") ((s.0 ++ s.1) ++ rest) refl f))
+
+apart : (a b c d end : List Terminal) → (a ++ (b ++ (c ++ d))) ++ end ≡ a ++ (b ++ (c ++ (d ++ end)))
+apart a b c d end = simp append_assoc
 
 select_placed : (q : SelectTree) (ts rest : List Terminal) → SpellsSelect q ts → Anywhere rest → Placed (p.Before false) (ts ++ rest)
 select_placed q ts rest s a =
-    let r6 = limits_anywhere q.limit q.offset s.limits rest s.cut a in
-    let r5 = keys_ready q.keys s.keys (s.limits ++ rest) s.ordered r6 in
-    let r4 = having_ready q.having s.having (s.keys ++ (s.limits ++ rest)) s.kept r5 in
-    let r3 = groups_ready q.groups s.groups (s.having ++ (s.keys ++ (s.limits ++ rest))) s.grouped r4 in
-    let r2 = where_ready q.condition s.condition (s.groups ++ (s.having ++ (s.keys ++ (s.limits ++ rest)))) s.filtered r3 in
-    let r1 = from_ready q.from s.from (s.condition ++ (s.groups ++ (s.having ++ (s.keys ++ (s.limits ++ rest))))) s.joined r2 in
-    let f = list_placed false SpellsItem item_placed q.items s.items (s.from ++ (s.condition ++ (s.groups ++ (s.having ++ (s.keys ++ (s.limits ++ rest)))))) s.answered r1 in
-    let g = quantifier_placed q.distinct s.quantifier (s.items ++ (s.from ++ (s.condition ++ (s.groups ++ (s.having ++ (s.keys ++ (s.limits ++ rest))))))) s.quantified f in
-    subst (λ us. Placed (p.Before false) (us ++ rest)) (sym s.is)
-    (word_placed (codes "select") _ refl (subst (Placed (p.Before false)) (sym (apart s.quantifier s.items s.from s.condition s.groups s.having s.keys s.limits rest)) g))
+    let r3 = limits_anywhere q.limit q.offset s.limits rest s.cut a in
+    let r2 = keys_ready q.keys s.keys (s.limits ++ rest) s.ordered r3 in
+    let r1 = unions_ready q.others s.others (s.keys ++ (s.limits ++ rest)) s.united r2 in
+    let f = core_placed q.core s.core (s.others ++ (s.keys ++ (s.limits ++ rest))) s.first r1 in
+    subst (λ us. Placed (p.Before false) (us ++ rest)) (sym s.is) (subst (Placed (p.Before false)) (sym (apart s.core s.others s.keys s.limits rest)) f)
 
 statement_placed : (s : StatementTree) (ts rest : List Terminal) → Spells s ts → Anywhere rest → Placed (p.Before false) (ts ++ rest)
 statement_placed (select q) ts rest s a = select_placed q ts rest s a

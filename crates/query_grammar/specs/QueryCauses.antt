@@ -6,7 +6,7 @@ use Rattle.med_value.specs.Limits.{height_limit}
 use Rattle.med_lexer.specs.Lexemes.{Shape, Lexeme, Lexes}
 use Rattle.expr_grammar.specs.Shapes.{shapes, IsLongName, deepens}
 use Rattle.expr_grammar.specs.ExprGrammar.{in_range, IsHuge}
-use Rattle.med_syntax.specs.QueryTree.{ItemTree, value, JoinTree, inner_join, left_join, cross_join, ChainTree, KeyTree, LimitTree, no_limit, rows, SelectTree, StatementTree, select, statement_height}
+use Rattle.med_syntax.specs.QueryTree.{ItemTree, value, JoinTree, inner_join, left_join, cross_join, ChainTree, KeyTree, LimitTree, no_limit, rows, CoreTree, SelectTree, cores_of, StatementTree, select, statement_height}
 use Rattle.query_grammar.specs.QueryGrammar.{IsStatement, HasStatement}
 
 -- ---- each number is at most 2^63 - 1, and directly behind a unary minus at most 2^63
@@ -43,11 +43,15 @@ abbrev pub limit_in_range : LimitTree → Bool
 limit_in_range no_limit = true
 limit_in_range (rows n) = count_in_range n
 
+abbrev pub core_in_range : CoreTree → Bool
+core_in_range c =
+    all_in_range item_in_range c.items && (all_in_range chain_in_range c.from
+    && (perhaps_in_range in_range c.condition && perhaps_in_range in_range c.having))
+
 abbrev pub select_in_range : SelectTree → Bool
 select_in_range q =
-    all_in_range item_in_range q.items && (all_in_range chain_in_range q.from && (perhaps_in_range in_range q.condition
-    && (perhaps_in_range in_range q.having && (all_in_range key_in_range q.keys
-    && (perhaps_in_range limit_in_range q.limit && perhaps_in_range count_in_range q.offset)))))
+    all_in_range core_in_range (cores_of q) && (all_in_range key_in_range q.keys
+    && (perhaps_in_range limit_in_range q.limit && perhaps_in_range count_in_range q.offset))
 
 abbrev pub statement_in_range : StatementTree → Bool
 statement_in_range (select q) = select_in_range q

@@ -1,7 +1,7 @@
 -- The grammar of statements: which terminals spell which tree, and which texts are statements. In SQL's notation,
 --     line   = select [;]
---     select = SELECT [ALL | DISTINCT] item {, item} [FROM chain {, chain}] [WHERE expr] [GROUP BY col {, col}] [HAVING expr]
---              [ORDER BY key {, key}] [limits]
+--     select = core {UNION ALL core} [ORDER BY key {, key}] [limits]
+--     core   = SELECT [ALL | DISTINCT] item {, item} [FROM chain {, chain}] [WHERE expr] [GROUP BY col {, col}] [HAVING expr]
 --     limits = limit [offset] | offset [limit]
 --     limit  = LIMIT (num | ALL)         offset = OFFSET num [ROW | ROWS]
 --     item   = * | name . * | expr [AS label | name]
@@ -18,7 +18,7 @@ use Rattle.med_syntax.specs.Terminal.{Terminal, word_terminal}
 use Rattle.med_syntax.specs.Terminal as t
 use Rattle.med_syntax.specs.ExprTree.{ExprTree, column_spelling, IsExpr}
 use Rattle.query_grammar.specs.QueryTerminals.{AreWords}
-use Rattle.med_syntax.specs.QueryTree.{ItemTree, all, all_of, value, EntryTree, JoinTree, inner_join, left_join, cross_join, ChainTree, GroupTree, KeyTree, LimitTree, no_limit, rows, SelectTree, StatementTree, select}
+use Rattle.med_syntax.specs.QueryTree.{ItemTree, all, all_of, value, EntryTree, JoinTree, inner_join, left_join, cross_join, ChainTree, GroupTree, KeyTree, LimitTree, no_limit, rows, CoreTree, SelectTree, StatementTree, select}
 use Rattle.med_syntax.specs.Words.{is_reserved}
 
 -- these keywords, one after the other
@@ -143,23 +143,38 @@ abbrev pub SpellsExpr : ExprTree → List Terminal → Type 0
 SpellsExpr e ts = IsExpr ts e
 
 -- SELECT [ALL | DISTINCT] item {, item} [FROM chain {, chain}] [WHERE expr] [GROUP BY col {, col}] [HAVING expr]
--- [ORDER BY key {, key}] [limits] (SQL:2016, <query specification>, <query expression>)
-pub record SpellsSelect (q : SelectTree) (ts : List Terminal) : Type 0 where
+-- (SQL:2016, <query specification>)
+pub record SpellsCore (c : CoreTree) (ts : List Terminal) : Type 0 where
   pub quantifier : List Terminal
   pub items : List Terminal
   pub from : List Terminal
   pub condition : List Terminal
   pub groups : List Terminal
   pub having : List Terminal
+  pub is : ts ≡ t.Reserved (codes "select") ∷ (quantifier ++ (items ++ (from ++ (condition ++ (groups ++ having)))))
+  pub quantified : SpellsFlag (codes "distinct") (codes "all") c.distinct quantifier
+  pub answered : SpellsList SpellsItem c.items items
+  pub joined : SpellsListed (codes "from" ∷ []) SpellsChain c.from from
+  pub filtered : SpellsPerhaps (codes "where" ∷ []) SpellsExpr c.condition condition
+  pub grouped : SpellsListed (codes "group" ∷ codes "by" ∷ []) SpellsGroup c.groups groups
+  pub kept : SpellsPerhaps (codes "having" ∷ []) SpellsExpr c.having having
+
+-- {UNION ALL core}
+abbrev pub SpellsUnions : List CoreTree → List Terminal → Type 0
+SpellsUnions [] ts = ts ≡ []
+SpellsUnions (c ∷ cs) ts =
+    (core others : List Terminal) × (ts ≡ keywords (codes "union" ∷ codes "all" ∷ []) ++ (core ++ others))
+    × SpellsCore c core × SpellsUnions cs others
+
+-- core {UNION ALL core} [ORDER BY key {, key}] [limits] (SQL:2016, <query expression>)
+pub record SpellsSelect (q : SelectTree) (ts : List Terminal) : Type 0 where
+  pub core : List Terminal
+  pub others : List Terminal
   pub keys : List Terminal
   pub limits : List Terminal
-  pub is : ts ≡ t.Reserved (codes "select") ∷ (quantifier ++ (items ++ (from ++ (condition ++ (groups ++ (having ++ (keys ++ limits)))))))
-  pub quantified : SpellsFlag (codes "distinct") (codes "all") q.distinct quantifier
-  pub answered : SpellsList SpellsItem q.items items
-  pub joined : SpellsListed (codes "from" ∷ []) SpellsChain q.from from
-  pub filtered : SpellsPerhaps (codes "where" ∷ []) SpellsExpr q.condition condition
-  pub grouped : SpellsListed (codes "group" ∷ codes "by" ∷ []) SpellsGroup q.groups groups
-  pub kept : SpellsPerhaps (codes "having" ∷ []) SpellsExpr q.having having
+  pub is : ts ≡ core ++ (others ++ (keys ++ limits))
+  pub first : SpellsCore q.core core
+  pub united : SpellsUnions q.others others
   pub ordered : SpellsListed (codes "order" ∷ codes "by" ∷ []) SpellsKey q.keys keys
   pub cut : SpellsLimits q.limit q.offset limits
 

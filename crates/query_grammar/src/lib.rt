@@ -1,6 +1,7 @@
 //! The grammar of statements, and the terminals that a statement's tokens are:
-//! `SELECT [DISTINCT] item {, item} [FROM chain {, chain}] [WHERE expr] [GROUP BY col {, col}] [HAVING expr] [ORDER BY key {, key}]`
-//! `[LIMIT ..] [OFFSET ..] [;]`, where a chain is an entry with its joins.
+//! `core {UNION ALL core} [ORDER BY key {, key}] [LIMIT ..] [OFFSET ..] [;]`, where a core is
+//! `SELECT [DISTINCT] item {, item} [FROM chain {, chain}] [WHERE expr] [GROUP BY col {, col}] [HAVING expr]`, and a chain is an entry with
+//! its joins.
 //!
 //! `specs/QueryGrammar.antt` says which terminals spell which statement, and `specs/QueryCauses.antt` which causes stand against a text.
 //! The readers and the writer of statements stand on it.

@@ -1,6 +1,6 @@
 -- What is written of a statement is that statement.
 use Rattle.std.proofs.Common.{◌≡◌, ℕ, inl, inr, Bool, true, false, cond, List, [], ◌∷◌, ◌++◌, refl, sym, ◌∙◌, ap, subst, append-nil, codes}
-use Rattle.std.specs.Prelude.{Option, Some, None, map}
+use Rattle.std.specs.Prelude.{◌&&◌, Option, Some, None, map}
 use Rattle.med_lexer.specs.declared.Mark.{Mark}
 use Rattle.med_lexer.specs.declared.Mark.TheVariants as marks
 use Rattle.med_lexer.specs.Lexemes.{Shape, word, quoted, literal, number, mark, Lexeme, Lexes}
@@ -15,10 +15,10 @@ use Rattle.med_syntax.specs.Terminal as t
 use Rattle.med_syntax.specs.ExprTree.{ExprTree, num, column_spelling, spelling, IsExpr}
 use Rattle.expr_grammar.specs.ExprGrammar.{in_range}
 use Rattle.expr_writer.specs.ExprPrinting.{shape_for, shapes_for}
-use Rattle.med_syntax.specs.QueryTree.{ItemTree, all, all_of, value, EntryTree, inner_join, left_join, cross_join, GroupTree, LimitTree, no_limit, rows, SelectTree, StatementTree, select}
-use Rattle.query_grammar.specs.QueryGrammar.{keywords, SpellsOthers, SpellsList, SpellsLabel, SpellsAlias, SpellsItem, SpellsEntry, SpellsOn, SpellsJoin, SpellsJoins, SpellsChain, SpellsGroup, SpellsKey, SpellsLimit, SpellsOffset, SpellsLimits, SpellsPerhaps, SpellsListed, SpellsExpr, Spells, IsStatement, HasStatement}
-use Rattle.query_grammar.specs.QueryCauses.{all_in_range, perhaps_in_range, item_in_range, join_in_range, chain_in_range, key_in_range, limit_in_range, count_in_range, select_in_range, statement_in_range}
-use Rattle.query_print.specs.QueryPrinting.{alias_written, item_written, others_written, list_written, entry_written, on_written, join_written, joins_written, chain_written, group_written, flag_written, nulls_written, key_written, quantifier_written, limit_written, offset_written, perhaps_written, listed_written, tail_written, clauses_written, statement_written, printed_statement}
+use Rattle.med_syntax.specs.QueryTree.{ItemTree, all, all_of, value, EntryTree, inner_join, left_join, cross_join, GroupTree, LimitTree, no_limit, rows, CoreTree, SelectTree, cores_of, StatementTree, select}
+use Rattle.query_grammar.specs.QueryGrammar.{keywords, SpellsOthers, SpellsList, SpellsLabel, SpellsAlias, SpellsItem, SpellsEntry, SpellsOn, SpellsJoin, SpellsJoins, SpellsChain, SpellsGroup, SpellsKey, SpellsLimit, SpellsOffset, SpellsLimits, SpellsPerhaps, SpellsListed, SpellsExpr, SpellsCore, SpellsUnions, Spells, IsStatement, HasStatement}
+use Rattle.query_grammar.specs.QueryCauses.{all_in_range, perhaps_in_range, item_in_range, join_in_range, chain_in_range, key_in_range, limit_in_range, count_in_range, core_in_range, statement_in_range}
+use Rattle.query_print.specs.QueryPrinting.{alias_written, item_written, others_written, list_written, entry_written, on_written, join_written, joins_written, chain_written, group_written, flag_written, nulls_written, key_written, quantifier_written, limit_written, offset_written, perhaps_written, listed_written, clauses_written, core_written, union_written, unions_written, tail_written, statement_written, printed_statement}
 use Rattle.expr_writer.proofs.ExprPrints.{Writable, AreWritable, both_left, both_right, writable, written_terminal, says, name_shape, written_shape, PrintedAgain}
 use Rattle.query_grammar.proofs.QueryLabels.{word_label, label_is}
 use Rattle.query_grammar.proofs.QueryKeywords.{free_reserved}
@@ -153,6 +153,10 @@ by_printed = record { shape = (codes "by", (refl, (refl, tt), refl)); is = inl (
 having_printed : Printed (t.Reserved (codes "having"))
 unfolding is_reserved
 having_printed = record { shape = (codes "having", (refl, (refl, (refl, (refl, (refl, (refl, tt))))), refl)); is = inl (inl refl) }
+
+union_printed : Printed (t.Reserved (codes "union"))
+unfolding is_reserved
+union_printed = record { shape = (codes "union", (refl, (refl, (refl, (refl, (refl, tt)))), refl)); is = inl (inl refl) }
 
 order_printed : Printed (t.Reserved (codes "order"))
 unfolding is_reserved
@@ -323,57 +327,73 @@ limits_printed limit offset ts s r q g =
     ]
 
 -- each number of each clause
-record InRange (q : SelectTree) : Type 0 where
-  items : all_in_range item_in_range q.items ≡ true
-  from : all_in_range chain_in_range q.from ≡ true
-  condition : perhaps_in_range in_range q.condition ≡ true
-  having : perhaps_in_range in_range q.having ≡ true
-  keys : all_in_range key_in_range q.keys ≡ true
-  limit : perhaps_in_range limit_in_range q.limit ≡ true
-  offset : perhaps_in_range count_in_range q.offset ≡ true
+record CoreInRange (c : CoreTree) : Type 0 where
+  items : all_in_range item_in_range c.items ≡ true
+  from : all_in_range chain_in_range c.from ≡ true
+  condition : perhaps_in_range in_range c.condition ≡ true
+  having : perhaps_in_range in_range c.having ≡ true
 
-clauses_in_range : (q : SelectTree) → select_in_range q ≡ true → InRange q
-clauses_in_range q r =
-    let a = both_right (all_in_range item_in_range q.items) _ r in
-    let b = both_right (all_in_range chain_in_range q.from) _ a in
-    let c = both_right (perhaps_in_range in_range q.condition) _ b in
-    let d = both_right (perhaps_in_range in_range q.having) _ c in
-    let e = both_right (all_in_range key_in_range q.keys) _ d in
+clauses_in_range : (c : CoreTree) → core_in_range c ≡ true → CoreInRange c
+clauses_in_range c r =
+    let a = both_right (all_in_range item_in_range c.items) _ r in
+    let b = both_right (all_in_range chain_in_range c.from) _ a in
     record {
-      items = both_left (all_in_range item_in_range q.items) _ r;
-      from = both_left (all_in_range chain_in_range q.from) _ a;
-      condition = both_left (perhaps_in_range in_range q.condition) _ b;
-      having = both_left (perhaps_in_range in_range q.having) _ c;
-      keys = both_left (all_in_range key_in_range q.keys) _ d;
-      limit = both_left (perhaps_in_range limit_in_range q.limit) (perhaps_in_range count_in_range q.offset) e;
-      offset = both_right (perhaps_in_range limit_in_range q.limit) (perhaps_in_range count_in_range q.offset) e;
+      items = both_left (all_in_range item_in_range c.items) _ r;
+      from = both_left (all_in_range chain_in_range c.from) _ a;
+      condition = both_left (perhaps_in_range in_range c.condition) (perhaps_in_range in_range c.having) b;
+      having = both_right (perhaps_in_range in_range c.condition) (perhaps_in_range in_range c.having) b;
     }
+
+core_printed : PartPrinted SpellsCore core_in_range core_written
+core_printed c ts s r g =
+    let f = clauses_in_range c r in
+    let h = subst AreGenuine s.is g in
+    let h1 = genuine_right s.quantifier (s.items ++ (s.from ++ (s.condition ++ (s.groups ++ s.having)))) h.1 in
+    let h2 = genuine_right s.items (s.from ++ (s.condition ++ (s.groups ++ s.having))) h1 in
+    let h3 = genuine_right s.from (s.condition ++ (s.groups ++ s.having)) h2 in
+    let h4 = genuine_right s.condition (s.groups ++ s.having) h3 in
+    let h5 = genuine_right s.groups s.having h4 in
+    let p4 = condition_printed (codes "having" ∷ []) c.having s.having (having_printed, tt) s.kept f.having h5 in
+    let p3 = printed_both (listed_written (codes "group" ∷ codes "by" ∷ []) group_written c.groups) (perhaps_written (codes "having" ∷ []) spelling c.having)
+    (listed_printed (codes "group" ∷ codes "by" ∷ []) SpellsGroup any_group group_written (group_word_printed, (by_printed, tt)) group_printed c.groups s.groups s.grouped (all_groups c.groups) (genuine_left s.groups s.having h4)) p4 in
+    let p2 = printed_both (perhaps_written (codes "where" ∷ []) spelling c.condition) _
+    (condition_printed (codes "where" ∷ []) c.condition s.condition (where_printed, tt) s.filtered f.condition (genuine_left s.condition (s.groups ++ s.having) h3)) p3 in
+    let p1 = printed_both (listed_written (codes "from" ∷ []) chain_written c.from) _
+    (listed_printed (codes "from" ∷ []) SpellsChain chain_in_range chain_written (from_printed, tt) chain_printed c.from s.from s.joined f.from (genuine_left s.from (s.condition ++ (s.groups ++ s.having)) h2)) p2 in
+    let p0 = printed_both (list_written item_written c.items) (clauses_written c)
+    (list_printed SpellsItem item_in_range item_written item_printed c.items s.items s.answered f.items (genuine_left s.items (s.from ++ (s.condition ++ (s.groups ++ s.having))) h1)) p1 in
+    (select_printed, printed_both (quantifier_written c.distinct) (list_written item_written c.items ++ clauses_written c) (quantifier_printed c.distinct) p0)
+
+unions_printed : PartPrinted SpellsUnions (all_in_range core_in_range) unions_written
+unions_printed [] ts s r g = tt
+unions_printed (c ∷ cs) ts s r g =
+    let h = genuine_right (keywords (codes "union" ∷ codes "all" ∷ [])) (s.0 ++ s.1) (subst AreGenuine s.2 g) in
+    let first = core_printed c s.0 s.3 (both_left (core_in_range c) (all_in_range core_in_range cs) r) (genuine_left s.0 s.1 h) in
+    printed_both (union_written c) (unions_written cs) (union_printed, (all_word_printed, first))
+    (unions_printed cs s.1 s.4 (both_right (core_in_range c) (all_in_range core_in_range cs) r) (genuine_right s.0 s.1 h))
+
+tail_printed : (q : SelectTree) (ts us : List Terminal) → SpellsListed (codes "order" ∷ codes "by" ∷ []) SpellsKey q.keys ts → SpellsLimits q.limit q.offset us →
+    all_in_range key_in_range q.keys && (perhaps_in_range limit_in_range q.limit && perhaps_in_range count_in_range q.offset) ≡ true → AreGenuine (ts ++ us) → ArePrinted (tail_written q)
+tail_printed q ts us s l r g =
+    let a = both_right (all_in_range key_in_range q.keys) (perhaps_in_range limit_in_range q.limit && perhaps_in_range count_in_range q.offset) r in
+    let keys = both_left (all_in_range key_in_range q.keys) (perhaps_in_range limit_in_range q.limit && perhaps_in_range count_in_range q.offset) r in
+    let limit = both_left (perhaps_in_range limit_in_range q.limit) (perhaps_in_range count_in_range q.offset) a in
+    let offset = both_right (perhaps_in_range limit_in_range q.limit) (perhaps_in_range count_in_range q.offset) a in
+    printed_both (listed_written (codes "order" ∷ codes "by" ∷ []) key_written q.keys) (limit_written q.limit ++ offset_written q.offset)
+    (listed_printed (codes "order" ∷ codes "by" ∷ []) SpellsKey key_in_range key_written (order_printed, (by_printed, tt)) key_printed q.keys ts s keys (genuine_left ts us g))
+    (limits_printed q.limit q.offset us l limit offset (genuine_right ts us g))
 
 statement_printed : (s : StatementTree) (ts : List Terminal) → Spells s ts → statement_in_range s ≡ true → AreGenuine ts → ArePrinted (statement_written s)
 statement_printed (select q) ts s r g =
-    let f = clauses_in_range q r in
+    let cores = both_left (all_in_range core_in_range (cores_of q)) _ r in
+    let rest = both_right (all_in_range core_in_range (cores_of q)) _ r in
     let h = subst AreGenuine s.is g in
-    let h1 = genuine_right s.quantifier (s.items ++ (s.from ++ (s.condition ++ (s.groups ++ (s.having ++ (s.keys ++ s.limits)))))) h.1 in
-    let h2 = genuine_right s.items (s.from ++ (s.condition ++ (s.groups ++ (s.having ++ (s.keys ++ s.limits))))) h1 in
-    let h3 = genuine_right s.from (s.condition ++ (s.groups ++ (s.having ++ (s.keys ++ s.limits)))) h2 in
-    let h4 = genuine_right s.condition (s.groups ++ (s.having ++ (s.keys ++ s.limits))) h3 in
-    let h5 = genuine_right s.groups (s.having ++ (s.keys ++ s.limits)) h4 in
-    let h6 = genuine_right s.having (s.keys ++ s.limits) h5 in
-    let h7 = genuine_right s.keys s.limits h6 in
-    let tail = printed_both (listed_written (codes "order" ∷ codes "by" ∷ []) key_written q.keys) (limit_written q.limit ++ offset_written q.offset)
-    (listed_printed (codes "order" ∷ codes "by" ∷ []) SpellsKey key_in_range key_written (order_printed, (by_printed, tt)) key_printed q.keys s.keys s.ordered f.keys (genuine_left s.keys s.limits h6))
-    (limits_printed q.limit q.offset s.limits s.cut f.limit f.offset h7) in
-    let p4 = printed_both (perhaps_written (codes "having" ∷ []) spelling q.having) (tail_written q)
-    (condition_printed (codes "having" ∷ []) q.having s.having (having_printed, tt) s.kept f.having (genuine_left s.having (s.keys ++ s.limits) h5)) tail in
-    let p3 = printed_both (listed_written (codes "group" ∷ codes "by" ∷ []) group_written q.groups) (perhaps_written (codes "having" ∷ []) spelling q.having ++ tail_written q)
-    (listed_printed (codes "group" ∷ codes "by" ∷ []) SpellsGroup any_group group_written (group_word_printed, (by_printed, tt)) group_printed q.groups s.groups s.grouped (all_groups q.groups) (genuine_left s.groups (s.having ++ (s.keys ++ s.limits)) h4)) p4 in
-    let p2 = printed_both (perhaps_written (codes "where" ∷ []) spelling q.condition) _
-    (condition_printed (codes "where" ∷ []) q.condition s.condition (where_printed, tt) s.filtered f.condition (genuine_left s.condition (s.groups ++ (s.having ++ (s.keys ++ s.limits))) h3)) p3 in
-    let p1 = printed_both (listed_written (codes "from" ∷ []) chain_written q.from) _
-    (listed_printed (codes "from" ∷ []) SpellsChain chain_in_range chain_written (from_printed, tt) chain_printed q.from s.from s.joined f.from (genuine_left s.from (s.condition ++ (s.groups ++ (s.having ++ (s.keys ++ s.limits)))) h2)) p2 in
-    let p0 = printed_both (list_written item_written q.items) (clauses_written q)
-    (list_printed SpellsItem item_in_range item_written item_printed q.items s.items s.answered f.items (genuine_left s.items (s.from ++ (s.condition ++ (s.groups ++ (s.having ++ (s.keys ++ s.limits))))) h1)) p1 in
-    (select_printed, printed_both (quantifier_written q.distinct) (list_written item_written q.items ++ clauses_written q) (quantifier_printed q.distinct) p0)
+    let h1 = genuine_right s.core (s.others ++ (s.keys ++ s.limits)) h in
+    let h2 = genuine_right s.others (s.keys ++ s.limits) h1 in
+    let first = core_printed q.core s.core s.first (both_left (core_in_range q.core) (all_in_range core_in_range q.others) cores) (genuine_left s.core (s.others ++ (s.keys ++ s.limits)) h) in
+    let others = unions_printed q.others s.others s.united (both_right (core_in_range q.core) (all_in_range core_in_range q.others) cores) (genuine_left s.others (s.keys ++ s.limits) h1) in
+    printed_both (core_written q.core) (unions_written q.others ++ tail_written q) first
+    (printed_both (unions_written q.others) (tail_written q) others (tail_printed q s.keys s.limits s.ordered s.cut rest h2))
 
 -- ---- the text written
 

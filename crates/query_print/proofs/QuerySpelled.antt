@@ -6,8 +6,8 @@ use Rattle.med_syntax.specs.Terminal.{Terminal}
 use Rattle.med_syntax.specs.Terminal as t
 use Rattle.med_syntax.specs.ExprTree.{ExprTree, spelling}
 use Rattle.med_syntax.specs.QueryTree.{ItemTree, all, all_of, value, EntryTree, inner_join, left_join, cross_join, LimitTree, no_limit, rows, StatementTree, select}
-use Rattle.query_grammar.specs.QueryGrammar.{keywords, SpellsOthers, SpellsList, SpellsLabel, SpellsAlias, SpellsItem, SpellsEntry, SpellsOn, SpellsJoin, SpellsJoins, SpellsChain, SpellsGroup, SpellsFlag, SpellsNulls, SpellsKey, SpellsLimit, SpellsOffset, SpellsPerhaps, SpellsListed, SpellsExpr, Spells}
-use Rattle.query_print.specs.QueryPrinting.{alias_written, item_written, others_written, list_written, entry_written, on_written, join_written, joins_written, chain_written, group_written, flag_written, nulls_written, key_written, quantifier_written, limit_written, offset_written, perhaps_written, listed_written, statement_written}
+use Rattle.query_grammar.specs.QueryGrammar.{keywords, SpellsOthers, SpellsList, SpellsLabel, SpellsAlias, SpellsItem, SpellsEntry, SpellsOn, SpellsJoin, SpellsJoins, SpellsChain, SpellsGroup, SpellsFlag, SpellsNulls, SpellsKey, SpellsLimit, SpellsOffset, SpellsPerhaps, SpellsListed, SpellsExpr, SpellsCore, SpellsUnions, Spells}
+use Rattle.query_print.specs.QueryPrinting.{alias_written, item_written, others_written, list_written, entry_written, on_written, join_written, joins_written, chain_written, group_written, flag_written, nulls_written, key_written, quantifier_written, limit_written, offset_written, perhaps_written, listed_written, core_written, unions_written, statement_written}
 
 -- ---- what is written is spelled so
 
@@ -90,23 +90,36 @@ offset_spelled : (offset : Option ℕ) → SpellsOffset offset (offset_written o
 offset_spelled None = refl
 offset_spelled (Some n) = ([], refl, inl refl)
 
+core_spelled : Spelled SpellsCore core_written
+core_spelled c ts s = record {
+  quantifier = quantifier_written c.distinct;
+  items = list_written item_written c.items;
+  from = listed_written (codes "from" ∷ []) chain_written c.from;
+  condition = perhaps_written (codes "where" ∷ []) spelling c.condition;
+  groups = listed_written (codes "group" ∷ codes "by" ∷ []) group_written c.groups;
+  having = perhaps_written (codes "having" ∷ []) spelling c.having;
+  is = refl;
+  quantified = quantifier_spelled c.distinct;
+  answered = list_spelled SpellsItem item_written item_spelled c.items s.items s.answered;
+  joined = listed_spelled (codes "from" ∷ []) SpellsChain chain_written chain_spelled c.from s.from s.joined;
+  filtered = condition_spelled (codes "where" ∷ []) c.condition s.condition s.filtered;
+  grouped = listed_spelled (codes "group" ∷ codes "by" ∷ []) SpellsGroup group_written group_spelled c.groups s.groups s.grouped;
+  kept = condition_spelled (codes "having" ∷ []) c.having s.having s.kept;
+}
+
+unions_spelled : Spelled SpellsUnions unions_written
+unions_spelled [] ts s = refl
+unions_spelled (c ∷ cs) ts s = (core_written c, unions_written cs, refl, core_spelled c s.0 s.3, unions_spelled cs s.1 s.4)
+
 pub statement_spelled : (s : StatementTree) (ts : List Terminal) → Spells s ts → Spells s (statement_written s)
 statement_spelled (select q) ts s = record {
-  quantifier = quantifier_written q.distinct;
-  items = list_written item_written q.items;
-  from = listed_written (codes "from" ∷ []) chain_written q.from;
-  condition = perhaps_written (codes "where" ∷ []) spelling q.condition;
-  groups = listed_written (codes "group" ∷ codes "by" ∷ []) group_written q.groups;
-  having = perhaps_written (codes "having" ∷ []) spelling q.having;
+  core = core_written q.core;
+  others = unions_written q.others;
   keys = listed_written (codes "order" ∷ codes "by" ∷ []) key_written q.keys;
   limits = limit_written q.limit ++ offset_written q.offset;
   is = refl;
-  quantified = quantifier_spelled q.distinct;
-  answered = list_spelled SpellsItem item_written item_spelled q.items s.items s.answered;
-  joined = listed_spelled (codes "from" ∷ []) SpellsChain chain_written chain_spelled q.from s.from s.joined;
-  filtered = condition_spelled (codes "where" ∷ []) q.condition s.condition s.filtered;
-  grouped = listed_spelled (codes "group" ∷ codes "by" ∷ []) SpellsGroup group_written group_spelled q.groups s.groups s.grouped;
-  kept = condition_spelled (codes "having" ∷ []) q.having s.having s.kept;
+  first = core_spelled q.core s.core s.first;
+  united = unions_spelled q.others s.others s.united;
   ordered = listed_spelled (codes "order" ∷ codes "by" ∷ []) SpellsKey key_written key_spelled q.keys s.keys s.ordered;
   cut = (limit_written q.limit, offset_written q.offset, limit_spelled q.limit, offset_spelled q.offset, inl refl);
 }

@@ -4,8 +4,8 @@ use Rattle.med_lexer.specs.Printing.{behind_spaces}
 use Rattle.med_syntax.specs.Terminal.{Terminal}
 use Rattle.med_syntax.specs.Terminal as t
 use Rattle.expr_writer.specs.ExprPrinting.{shapes_for, Wrote}
-use Rattle.med_syntax.specs.QueryTree.{ItemTree, JoinTree, ChainTree, GroupTree, KeyTree, StatementTree, select}
-use Rattle.query_print.specs.QueryPrinting.{item_written, others_written, join_written, joins_written, chain_written, group_written, key_written, select_written, statement_written, printed_statement}
+use Rattle.med_syntax.specs.QueryTree.{ItemTree, JoinTree, ChainTree, GroupTree, KeyTree, CoreTree, StatementTree, select}
+use Rattle.query_print.specs.QueryPrinting.{item_written, others_written, join_written, joins_written, chain_written, group_written, key_written, union_written, unions_written, select_written, statement_written, printed_statement}
 use Rattle.expr_writer.proofs.ExprPrints.{wrote_more, spaces_append}
 
 -- ---- writing
@@ -40,6 +40,13 @@ pub joins_next : (o a b : List ℕ) (x : JoinTree) (xs whole : List JoinTree) �
 joins_next o a b x xs whole same p =
     ap (λ y. y ++ behind_spaces (shapes_for (joins_written xs))) p.is ∙ append_assoc a (behind_spaces (shapes_for (join_written x))) (behind_spaces (shapes_for (joins_written xs)))
     ∙ ap (λ y. a ++ y) (sym (spaces_append (join_written x) (joins_written xs))) ∙ same
+
+-- each further core
+pub unions_next : (o a b : List ℕ) (x : CoreTree) (xs whole : List CoreTree) → a ++ behind_spaces (shapes_for (unions_written (x ∷ xs))) ≡ o ++ behind_spaces (shapes_for (unions_written whole)) →
+    Wrote a b (union_written x) → b ++ behind_spaces (shapes_for (unions_written xs)) ≡ o ++ behind_spaces (shapes_for (unions_written whole))
+unions_next o a b x xs whole same p =
+    ap (λ y. y ++ behind_spaces (shapes_for (unions_written xs))) p.is ∙ append_assoc a (behind_spaces (shapes_for (union_written x))) (behind_spaces (shapes_for (unions_written xs)))
+    ∙ ap (λ y. a ++ y) (sym (spaces_append (union_written x) (unions_written xs))) ∙ same
 
 pub spaced : (s : StatementTree) (a b : List ℕ) → a ≡ [] → Wrote a b (statement_written s) → b ≡ 32 ∷ printed_statement s
 spaced (select q) a b p w = w.is ∙ ap (λ y. y ++ behind_spaces (shapes_for (select_written q))) p

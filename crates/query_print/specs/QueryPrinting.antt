@@ -10,7 +10,7 @@ use Rattle.med_syntax.specs.Terminal.{Terminal}
 use Rattle.med_syntax.specs.Terminal as t
 use Rattle.med_syntax.specs.ExprTree.{ExprTree, column_spelling, spelling}
 use Rattle.expr_writer.specs.ExprPrinting.{shapes_for}
-use Rattle.med_syntax.specs.QueryTree.{ItemTree, all, all_of, value, EntryTree, JoinTree, inner_join, left_join, cross_join, ChainTree, GroupTree, KeyTree, LimitTree, no_limit, rows, SelectTree, StatementTree, select}
+use Rattle.med_syntax.specs.QueryTree.{ItemTree, all, all_of, value, EntryTree, JoinTree, inner_join, left_join, cross_join, ChainTree, GroupTree, KeyTree, LimitTree, no_limit, rows, CoreTree, SelectTree, StatementTree, select}
 use Rattle.query_grammar.specs.QueryGrammar.{keywords}
 
 abbrev pub keyword_word : Keyword → List ℕ
@@ -26,6 +26,7 @@ keyword_word k.Where = codes "where"
 keyword_word k.Group = codes "group"
 keyword_word k.By = codes "by"
 keyword_word k.Having = codes "having"
+keyword_word k.Union = codes "union"
 keyword_word k.Order = codes "order"
 keyword_word k.Ascending = codes "asc"
 keyword_word k.Descending = codes "desc"
@@ -117,19 +118,30 @@ abbrev pub listed_written : {X : Type 0} → List (List ℕ) → (X → List Ter
 listed_written words written [] = []
 listed_written words written (x ∷ xs) = keywords words ++ list_written written (x ∷ xs)
 
--- behind HAVING
+-- behind the items of a core
+abbrev pub clauses_written : CoreTree → List Terminal
+clauses_written c =
+    listed_written (codes "from" ∷ []) chain_written c.from ++ (perhaps_written (codes "where" ∷ []) spelling c.condition
+    ++ (listed_written (codes "group" ∷ codes "by" ∷ []) group_written c.groups ++ perhaps_written (codes "having" ∷ []) spelling c.having))
+
+abbrev pub core_written : CoreTree → List Terminal
+core_written c = t.Reserved (codes "select") ∷ (quantifier_written c.distinct ++ (list_written item_written c.items ++ clauses_written c))
+
+-- UNION ALL core
+abbrev pub union_written : CoreTree → List Terminal
+union_written c = t.Reserved (codes "union") ∷ t.Reserved (codes "all") ∷ core_written c
+
+-- {UNION ALL core}
+abbrev pub unions_written : List CoreTree → List Terminal
+unions_written [] = []
+unions_written (c ∷ cs) = union_written c ++ unions_written cs
+
+-- behind the cores
 abbrev pub tail_written : SelectTree → List Terminal
 tail_written q = listed_written (codes "order" ∷ codes "by" ∷ []) key_written q.keys ++ (limit_written q.limit ++ offset_written q.offset)
 
--- behind the items
-abbrev pub clauses_written : SelectTree → List Terminal
-clauses_written q =
-    listed_written (codes "from" ∷ []) chain_written q.from ++ (perhaps_written (codes "where" ∷ []) spelling q.condition
-    ++ (listed_written (codes "group" ∷ codes "by" ∷ []) group_written q.groups
-    ++ (perhaps_written (codes "having" ∷ []) spelling q.having ++ tail_written q)))
-
 abbrev pub select_written : SelectTree → List Terminal
-select_written q = t.Reserved (codes "select") ∷ (quantifier_written q.distinct ++ (list_written item_written q.items ++ clauses_written q))
+select_written q = core_written q.core ++ (unions_written q.others ++ tail_written q)
 
 abbrev pub statement_written : StatementTree → List Terminal
 statement_written (select q) = select_written q

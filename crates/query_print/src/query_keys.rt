@@ -158,7 +158,7 @@ fn write_offset(alloc: Global, offset: Option<u64>, out: &mut String) -> Result<
     }
 }
 
-/// Writes what stands behind HAVING.
+/// Writes what stands behind the cores.
 pub(crate) fn write_tail(alloc: Global, select: &Select, out: &mut String) -> Result<(), AllocError>
     ensures { Writes result out.old out.new (tail_written (select_tree select.now)) }
 {

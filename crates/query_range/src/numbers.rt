@@ -2,12 +2,12 @@
 
 ghost use Rattle.expr_grammar.specs.ExprGrammar.{in_range};
 ghost use Rattle.med_syntax.specs.ExprView.{expr_tree};
-ghost use Rattle.med_syntax.specs.QueryView.{item_tree, items_tree, join_tree, chain_tree, key_tree, limit_tree, select_tree, statement_tree};
-ghost use Rattle.query_grammar.specs.QueryCauses.{all_in_range, perhaps_in_range, item_in_range, join_in_range, chain_in_range, key_in_range, limit_in_range, count_in_range, select_in_range, statement_in_range};
+ghost use Rattle.med_syntax.specs.QueryView.{item_tree, items_tree, join_tree, chain_tree, core_tree, key_tree, limit_tree, select_tree, statement_tree};
+ghost use Rattle.query_grammar.specs.QueryCauses.{all_in_range, perhaps_in_range, item_in_range, join_in_range, chain_in_range, key_in_range, limit_in_range, count_in_range, core_in_range, select_in_range, statement_in_range};
 ghost use Rattle.std.specs.Prelude.{◌≡◌, map, option_map};
 
 use expr_grammar::number_range::is_in_range;
-use med_syntax::{Chain, Expr, Item, Join, Limit, OrderKey, Select, Statement};
+use med_syntax::{Chain, Core, Expr, Item, Join, Limit, OrderKey, Select, Statement};
 
 /// The greatest number of LIMIT and OFFSET.
 const MAX_COUNT: u64 = 9223372036854775807;
@@ -91,6 +91,29 @@ pub fn is_condition_in_range(condition: &Option<Expr>) -> bool
     }
 }
 
+/// Whether each number of the core is in range.
+fn is_core_in_range(core: &Core) -> bool
+    ensures { result ≡ core_in_range (core_tree core.now) }
+{
+    are_items_in_range(&core.items)
+        && (are_chains_in_range(&core.from)
+            && (is_condition_in_range(&core.condition) && is_condition_in_range(&core.having)))
+}
+
+/// Whether each number of the cores is in range.
+fn are_cores_in_range(cores: &[Core]) -> bool
+    ensures { result ≡ all_in_range core_in_range (map core_tree cores.now) }
+{
+    let mut left = cores;
+    while let [core, rest @ ..] = left {
+        if !is_core_in_range(core) {
+            return false;
+        }
+        left = rest;
+    }
+    true
+}
+
 /// Whether each number of the keys is in range.
 fn are_keys_in_range(keys: &[OrderKey]) -> bool
     ensures { result ≡ all_in_range key_in_range (map key_tree keys.now) }
@@ -129,13 +152,10 @@ fn is_offset_in_range(offset: Option<u64>) -> bool
 fn is_select_in_range(select: &Select) -> bool
     ensures { result ≡ select_in_range (select_tree select.now) }
 {
-    are_items_in_range(&select.items)
-        && (are_chains_in_range(&select.from)
-            && (is_condition_in_range(&select.condition)
-                && (is_condition_in_range(&select.having)
-                    && (are_keys_in_range(&select.keys)
-                        && (is_limit_in_range(select.limit)
-                            && is_offset_in_range(select.offset))))))
+    is_core_in_range(&select.core)
+        && are_cores_in_range(&select.others)
+        && (are_keys_in_range(&select.keys)
+            && (is_limit_in_range(select.limit) && is_offset_in_range(select.offset)))
 }
 
 /// Whether each number of the statement is in range.

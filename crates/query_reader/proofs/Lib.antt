@@ -1,8 +1,10 @@
 pub mod PartComplete
 pub mod ClauseComplete
+pub mod CoreComplete
 pub mod QueryComplete
 pub mod PartSound
 pub mod ClauseSound
+pub mod CoreSound
 pub mod QuerySound
 pub mod QueryLoop
 pub mod QuerySteps

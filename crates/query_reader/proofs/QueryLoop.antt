@@ -1,5 +1,5 @@
 -- The loop over the items of a list, and over items that are in range.
-use Rattle.std.proofs.Common.{◌≡◌, ℕ, zero, suc, ◌≤◌, ◌<◌, List, [], ◌∷◌, ◌++◌, length, refl, sym, ◌∙◌, ap, subst, arith, append_assoc, append-nil, length-append}
+use Rattle.std.proofs.Common.{◌≡◌, ℕ, zero, suc, ◌≤◌, ◌<◌, List, [], ◌∷◌, ◌++◌, length, refl, sym, ◌∙◌, ap, subst, arith, append_assoc, append-nil, length-append, codes}
 use Rattle.std.specs.Prelude.{Result, Ok, Err, Option, Some, None, map}
 use Rattle.expr_grammar.specs.declared.refusal.ReadFault.{ReadFault}
 use Rattle.expr_grammar.specs.declared.refusal.ReadFault.TheVariants as faults
@@ -11,11 +11,12 @@ use Rattle.expr_grammar.specs.ExprAnswers.{ReadsAs}
 use Rattle.expr_grammar.specs.ExprReading.{◌>>=◌}
 use Rattle.expr_grammar.specs.ExprSteps.{behind_of}
 use Rattle.query_reader.specs.declared.query_source.JoinWay.{JoinWay}
-use Rattle.med_syntax.specs.QueryTree.{JoinTree}
-use Rattle.query_reader.specs.QueryReading.{Parser, others, list_of, join_words, join_of, joins_of, all_joins_of}
+use Rattle.med_syntax.specs.QueryTree.{JoinTree, CoreTree}
+use Rattle.query_reader.specs.QueryReading.{Parser, behind_words, others, list_of, join_words, join_of, joins_of, all_joins_of, core_of, unions_of, all_unions_of}
 use Rattle.query_reader.proofs.ClauseComplete.{join_long}
-use Rattle.query_reader.proofs.PartSound.{Sound, comma_is}
+use Rattle.query_reader.proofs.PartSound.{Sound, comma_is, words_are}
 use Rattle.query_reader.proofs.ClauseSound.{join_found}
+use Rattle.query_reader.proofs.CoreSound.{core_sound}
 
 abbrev pub after_these : {X : Type 0} → List X → Result (List X × List Terminal) Refusal → Result (List X × List Terminal) Refusal
 after_these xs r = r >>= λ y. Ok (xs ++ y.0, y.1)
@@ -168,3 +169,63 @@ pub joins_failed : {Y Z : Type 0} (view : Y → List JoinTree × List Terminal) 
     JoinsLoop room ts xs rest → join_words rest ≡ Some (way, after) → ReadsAs seen (Err e) (join_of way room after) → r ≡ Err e → ReadsAs view r (all_joins_of room ts)
 joins_failed view seen room ts xs rest after way faults.NoMemory r loop p h is = rw is tt
 joins_failed view seen room ts xs rest after way (faults.Refused f) r loop p h is = rw is (joins_stop_at room loop.k ts xs rest after way f loop.enough loop.same p h)
+
+-- ---- UNION ALL
+
+abbrev union_all : List (List ℕ)
+union_all = codes "union" ∷ codes "all" ∷ []
+
+-- The cores xs stand in front of the rest.
+pub record UnionsLoop (room : ℕ) (terminals : List Terminal) (xs : List CoreTree) (rest : List Terminal) : Type 0 where
+  pub k : ℕ
+  pub enough : length rest ≤ k
+  pub same : all_unions_of room terminals ≡ after_these xs (unions_of room k rest)
+
+unions_at_start : (room : ℕ) (ts : List Terminal) → all_unions_of room ts ≡ after_these [] (unions_of room (length ts) ts)
+unfolding all_unions_of
+unions_at_start room ts = after_none (unions_of room (length ts) ts)
+
+pub unions_start : (room : ℕ) (ts : List Terminal) (xs : List CoreTree) → xs ≡ [] → UnionsLoop room ts xs ts
+unions_start room ts xs is = subst (λ ys. UnionsLoop room ts ys ts) (sym is) (record { k = length ts; enough = omega arith; same = unions_at_start room ts })
+
+unions_step : (room k : ℕ) (rest after : List Terminal) (x : CoreTree) (more : List Terminal) → behind_words union_all rest ≡ Some after → core_of room after ≡ Ok (x, more) → unions_of room (suc k) rest ≡ (unions_of room k more >>= λ y. Ok (x ∷ y.0, y.1))
+unfolding unions_of
+unions_step room k rest after x more p h = rw p (rw h refl)
+
+pub unions_shorter : (room : ℕ) (rest after : List Terminal) (x : CoreTree) (more : List Terminal) → behind_words union_all rest ≡ Some after → core_of room after ≡ Ok (x, more) → length more < length rest
+unions_shorter room rest after x more p h =
+    let f = core_sound room after x more h in
+    omega (arith, ap length (words_are union_all rest after p), ap length f.is, length-append f.front more)
+
+unions_next : (room k : ℕ) (ts : List Terminal) (xs : List CoreTree) (rest after : List Terminal) (x : CoreTree) (more : List Terminal) → length rest ≤ k → all_unions_of room ts ≡ after_these xs (unions_of room k rest) →
+    behind_words union_all rest ≡ Some after → core_of room after ≡ Ok (x, more) → length more < length rest → UnionsLoop room ts (xs ++ x ∷ []) more
+unions_next room zero ts xs rest after x more enough same p h short = absurd (omega (arith, enough, short))
+unions_next room (suc k) ts xs rest after x more enough same p h short =
+    record { k = k; enough = omega (arith, enough, short); same = same ∙ ap (after_these xs) (unions_step room k rest after x more p h) ∙ one_more xs x (unions_of room k more) }
+
+pub unions_more : {S : Type 0} (room : ℕ) (view : S → CoreTree) (ts : List Terminal) (old new : List S) (s : S) (rest after more : List Terminal) →
+    UnionsLoop room ts (map view old) rest → behind_words union_all rest ≡ Some after → core_of room after ≡ Ok (view s, more) → new ≡ old ++ s ∷ [] → UnionsLoop room ts (map view new) more
+unions_more room view ts old new s rest after more loop p h is =
+    subst (λ z. UnionsLoop room ts z more) (sym (ap (map view) is ∙ map-push view old s))
+    (unions_next room loop.k ts (map view old) rest after (view s) more loop.enough loop.same p h (unions_shorter room rest after (view s) more p h))
+
+no_more_unions : (room k : ℕ) (rest : List Terminal) → behind_words union_all rest ≡ None → unions_of room k rest ≡ Ok ([], rest)
+unfolding unions_of
+no_more_unions room zero rest h = refl
+no_more_unions room (suc k) rest h = rw h refl
+
+pub unions_end : (room : ℕ) (ts : List Terminal) (xs : List CoreTree) (rest : List Terminal) → UnionsLoop room ts xs rest → behind_words union_all rest ≡ None → all_unions_of room ts ≡ Ok (xs, rest)
+unions_end room ts xs rest loop h = loop.same ∙ ap (after_these xs) (no_more_unions room loop.k rest h) ∙ ap (λ z. Ok (z, rest)) (append-nil xs)
+
+unions_failed_at : (room k : ℕ) (rest after : List Terminal) (f : Refusal) → behind_words union_all rest ≡ Some after → core_of room after ≡ Err f → unions_of room (suc k) rest ≡ Err f
+unfolding unions_of
+unions_failed_at room k rest after f p h = rw p (rw h refl)
+
+unions_stop_at : (room k : ℕ) (ts : List Terminal) (xs : List CoreTree) (rest after : List Terminal) (f : Refusal) → length rest ≤ k → all_unions_of room ts ≡ after_these xs (unions_of room k rest) → behind_words union_all rest ≡ Some after → core_of room after ≡ Err f → all_unions_of room ts ≡ Err f
+unions_stop_at room zero ts xs rest after f enough same p h = absurd (omega (arith, enough, ap length (words_are union_all rest after p)))
+unions_stop_at room (suc k) ts xs rest after f enough same p h = same ∙ ap (after_these xs) (unions_failed_at room k rest after f p h)
+
+pub unions_failed : {Y Z : Type 0} (view : Y → List CoreTree × List Terminal) (seen : Z → CoreTree × List Terminal) (room : ℕ) (ts : List Terminal) (xs : List CoreTree) (rest after : List Terminal) (e : ReadFault) (r : Result Y ReadFault) →
+    UnionsLoop room ts xs rest → behind_words union_all rest ≡ Some after → ReadsAs seen (Err e) (core_of room after) → r ≡ Err e → ReadsAs view r (all_unions_of room ts)
+unions_failed view seen room ts xs rest after faults.NoMemory r loop p h is = rw is tt
+unions_failed view seen room ts xs rest after (faults.Refused f) r loop p h is = rw is (unions_stop_at room loop.k ts xs rest after f loop.enough loop.same p h)

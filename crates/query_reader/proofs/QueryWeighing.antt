@@ -12,8 +12,8 @@ use Rattle.med_syntax.specs.Terminal.{Terminal}
 use Rattle.med_syntax.specs.Terminal as t
 use Rattle.med_syntax.specs.ExprTree.{ExprTree, height, IsExpr}
 use Rattle.expr_grammar.specs.ExprWeight.{is_heavy, weight}
-use Rattle.med_syntax.specs.QueryTree.{ItemTree, all, all_of, value, EntryTree, inner_join, left_join, cross_join, SelectTree, StatementTree, select, item_height, join_height, chain_height, key_height, highest_of, condition_height, select_height, statement_height}
-use Rattle.query_grammar.specs.QueryGrammar.{keywords, SpellsOthers, SpellsList, SpellsItem, SpellsOn, SpellsJoin, SpellsJoins, SpellsChain, SpellsKey, SpellsPerhaps, SpellsListed, SpellsExpr, SpellsSelect, Spells, IsLine}
+use Rattle.med_syntax.specs.QueryTree.{ItemTree, all, all_of, value, EntryTree, inner_join, left_join, cross_join, StatementTree, select, item_height, join_height, chain_height, key_height, highest_of, condition_height, core_height, select_height, statement_height}
+use Rattle.query_grammar.specs.QueryGrammar.{keywords, SpellsOthers, SpellsList, SpellsItem, SpellsOn, SpellsJoin, SpellsJoins, SpellsChain, SpellsKey, SpellsPerhaps, SpellsListed, SpellsExpr, SpellsCore, SpellsUnions, SpellsSelect, Spells, IsLine}
 use Rattle.query_reader.specs.QueryReading.{line_of, bounded_line}
 use Rattle.expr_grammar.proofs.BoundedReading.{ReadsInRoom, tried_sound, tried_out, tried_told}
 use Rattle.expr_grammar.proofs.ExprWeighing.{weight_append, weight_more, weight_step, heavy_at, deep, bound}
@@ -68,33 +68,44 @@ key_bound : Bounded SpellsKey key_height
 key_bound k ts s = omega (arith, expr_bound s.0 k.key s.4, ap weight s.3, weight_append s.0 (s.1 ++ s.2))
 
 -- each part weighs no more than the whole
-behind_bound : (u : Terminal) (a b c d e f g h : List Terminal) →
-    (weight b ≤ weight (u ∷ (a ++ (b ++ (c ++ (d ++ (e ++ (f ++ (g ++ h)))))))))
-    × (weight c ≤ weight (u ∷ (a ++ (b ++ (c ++ (d ++ (e ++ (f ++ (g ++ h)))))))))
-    × (weight d ≤ weight (u ∷ (a ++ (b ++ (c ++ (d ++ (e ++ (f ++ (g ++ h)))))))))
-    × (weight f ≤ weight (u ∷ (a ++ (b ++ (c ++ (d ++ (e ++ (f ++ (g ++ h)))))))))
-    × (weight g ≤ weight (u ∷ (a ++ (b ++ (c ++ (d ++ (e ++ (f ++ (g ++ h)))))))))
-behind_bound u a b c d e f g h =
-    let w1 = weight_more u (a ++ (b ++ (c ++ (d ++ (e ++ (f ++ (g ++ h))))))) in
-    let w2 = weight_append a (b ++ (c ++ (d ++ (e ++ (f ++ (g ++ h)))))) in
-    let w3 = weight_append b (c ++ (d ++ (e ++ (f ++ (g ++ h))))) in
-    let w4 = weight_append c (d ++ (e ++ (f ++ (g ++ h)))) in
-    let w5 = weight_append d (e ++ (f ++ (g ++ h))) in
-    let w6 = weight_append e (f ++ (g ++ h)) in
-    let w7 = weight_append f (g ++ h) in
-    let w8 = weight_append g h in
-    (omega (arith, w1, w2, w3), omega (arith, w1, w2, w3, w4), omega (arith, w1, w2, w3, w4, w5), omega (arith, w1, w2, w3, w4, w5, w6, w7), omega (arith, w1, w2, w3, w4, w5, w6, w7, w8))
+behind_bound : (u : Terminal) (a b c d e f : List Terminal) →
+    (weight b ≤ weight (u ∷ (a ++ (b ++ (c ++ (d ++ (e ++ f)))))))
+    × (weight c ≤ weight (u ∷ (a ++ (b ++ (c ++ (d ++ (e ++ f)))))))
+    × (weight d ≤ weight (u ∷ (a ++ (b ++ (c ++ (d ++ (e ++ f)))))))
+    × (weight f ≤ weight (u ∷ (a ++ (b ++ (c ++ (d ++ (e ++ f)))))))
+behind_bound u a b c d e f =
+    let w1 = weight_more u (a ++ (b ++ (c ++ (d ++ (e ++ f))))) in
+    let w2 = weight_append a (b ++ (c ++ (d ++ (e ++ f)))) in
+    let w3 = weight_append b (c ++ (d ++ (e ++ f))) in
+    let w4 = weight_append c (d ++ (e ++ f)) in
+    let w5 = weight_append d (e ++ f) in
+    let w6 = weight_append e f in
+    (omega (arith, w1, w2, w3), omega (arith, w1, w2, w3, w4), omega (arith, w1, w2, w3, w4, w5), omega (arith, w1, w2, w3, w4, w5, w6))
 
-select_bound : (q : SelectTree) (ts : List Terminal) → SpellsSelect q ts → select_height q ≤ 7 * weight ts + 7
-select_bound q ts s =
-    let w = behind_bound (t.Reserved (codes "select")) s.quantifier s.items s.from s.condition s.groups s.having s.keys s.limits in
+core_bound : Bounded SpellsCore core_height
+core_bound c ts s =
+    let w = behind_bound (t.Reserved (codes "select")) s.quantifier s.items s.from s.condition s.groups s.having in
     let same = ap weight s.is in
-    let items = list_bound SpellsItem item_height item_bound q.items s.items s.answered in
-    let from = listed_bound (codes "from" ∷ []) SpellsChain chain_height chain_bound q.from s.from s.joined in
-    let condition = condition_bound (codes "where" ∷ []) q.condition s.condition s.filtered in
-    let having = condition_bound (codes "having" ∷ []) q.having s.having s.kept in
+    let items = list_bound SpellsItem item_height item_bound c.items s.items s.answered in
+    let from = listed_bound (codes "from" ∷ []) SpellsChain chain_height chain_bound c.from s.from s.joined in
+    let condition = condition_bound (codes "where" ∷ []) c.condition s.condition s.filtered in
+    let having = condition_bound (codes "having" ∷ []) c.having s.having s.kept in
+    omega (arith, w.0, w.1, w.2, w.3, same, items, from, condition, having)
+
+unions_bound : Bounded SpellsUnions (highest_of core_height)
+unions_bound [] ts s = omega arith
+unions_bound (c ∷ cs) ts s =
+    omega (arith, core_bound c s.0 s.3, unions_bound cs s.1 s.4, ap weight s.2, weight_append (keywords (codes "union" ∷ codes "all" ∷ [])) (s.0 ++ s.1), weight_append s.0 s.1)
+
+select_bound : Bounded SpellsSelect select_height
+select_bound q ts s =
+    let w1 = weight_append s.core (s.others ++ (s.keys ++ s.limits)) in
+    let w2 = weight_append s.others (s.keys ++ s.limits) in
+    let w3 = weight_append s.keys s.limits in
+    let core = core_bound q.core s.core s.first in
+    let others = unions_bound q.others s.others s.united in
     let keys = listed_bound (codes "order" ∷ codes "by" ∷ []) SpellsKey key_height key_bound q.keys s.keys s.ordered in
-    omega (arith, w.0, w.1, w.2, w.3, w.4, same, items, from, condition, having, keys)
+    omega (arith, w1, w2, w3, ap weight s.is, core, others, keys)
 
 statement_bound : (s : StatementTree) (ts : List Terminal) → Spells s ts → statement_height s ≤ 7 * weight ts + 7
 statement_bound (select q) ts s = select_bound q ts s

@@ -15,7 +15,7 @@ use Rattle.med_syntax.specs.ExprTree.{ExprTree}
 use Rattle.expr_grammar.specs.ExprReading.{◌>>=◌, choose, below}
 use Rattle.expr_grammar.specs.ExprSteps.{behind_of}
 use Rattle.expr_grammar.specs.ExprWeight.{bounded}
-use Rattle.med_syntax.specs.QueryTree.{ItemTree, all, all_of, value, EntryTree, JoinTree, inner_join, left_join, cross_join, ChainTree, GroupTree, KeyTree, LimitTree, no_limit, rows, SelectTree, StatementTree, select}
+use Rattle.med_syntax.specs.QueryTree.{ItemTree, all, all_of, value, EntryTree, JoinTree, inner_join, left_join, cross_join, ChainTree, GroupTree, KeyTree, LimitTree, no_limit, rows, CoreTree, SelectTree, StatementTree, select}
 
 -- what stands at the front and the terminals behind it, or the refusal
 abbrev pub Parser : Type 0 → Type 0
@@ -181,41 +181,51 @@ limit_after None ts = limit_of ts
 unfoldable pub limits_of : Parser (Option LimitTree × Option ℕ)
 limits_of ts = limit_of ts >>= λ x. offset_of x.1 >>= λ y. limit_after x.0 y.1 >>= λ z. Ok ((z.0, y.0), z.1)
 
--- ---- statements
+-- ---- cores, queries and statements
 
--- behind SELECT [ALL | DISTINCT]
-unfoldable pub select_of : Bool → ℕ → Parser SelectTree
-select_of distinct room =
+-- a core behind SELECT [ALL | DISTINCT]
+unfoldable pub quantified_of : Bool → ℕ → Parser CoreTree
+quantified_of distinct room =
     seq (list_of (item_of room)) (λ items.
     seq (listed_of (codes "from" ∷ []) (source_of room)) (λ from.
     seq (perhaps_of (codes "where" ∷ []) (below room).whole) (λ condition.
     seq (listed_of (codes "group" ∷ codes "by" ∷ []) group_of) (λ groups.
-    seq (perhaps_of (codes "having" ∷ []) (below room).whole) (λ having.
+    seq (perhaps_of (codes "having" ∷ []) (below room).whole) (λ having ts.
+    Ok (
+      record { distinct = distinct; items = items; from = from; condition = condition; groups = groups; having = having },
+      ts,
+    ))))))
+
+-- a core behind SELECT
+unfoldable pub selected_of : ℕ → Parser CoreTree
+selected_of room ts =
+    let quantifier : Bool × List Terminal = flag_of (codes "distinct") (codes "all") ts in
+    quantified_of quantifier.0 room quantifier.1
+
+unfoldable pub core_of : ℕ → Parser CoreTree
+core_of room ts = choose (behind_word (codes "select") ts) (Err Syntax) (selected_of room)
+
+-- {UNION ALL core}, of at most as many as the number
+unfoldable pub unions_of : ℕ → ℕ → Parser (List CoreTree)
+unions_of room zero ts = Ok ([], ts)
+unions_of room (suc k) ts =
+    choose (behind_words (codes "union" ∷ codes "all" ∷ []) ts) (Ok ([], ts))
+    (λ after. core_of room after >>= λ x. unions_of room k x.1 >>= λ y. Ok (x.0 ∷ y.0, y.1))
+
+-- {UNION ALL core}
+unfoldable pub all_unions_of : ℕ → Parser (List CoreTree)
+all_unions_of room ts = unions_of room (length ts) ts
+
+unfoldable pub query_of : ℕ → Parser SelectTree
+query_of room =
+    seq (core_of room) (λ core.
+    seq (all_unions_of room) (λ others.
     seq (listed_of (codes "order" ∷ codes "by" ∷ []) (key_of room)) (λ keys.
     seq limits_of (λ limits ts.
-    Ok (
-      record {
-        distinct = distinct;
-        items = items;
-        from = from;
-        condition = condition;
-        groups = groups;
-        having = having;
-        keys = keys;
-        limit = limits.0;
-        offset = limits.1;
-      },
-      ts,
-    ))))))))
-
--- behind SELECT
-unfoldable pub query_of : ℕ → Parser SelectTree
-query_of room ts =
-    let quantifier : Bool × List Terminal = flag_of (codes "distinct") (codes "all") ts in
-    select_of quantifier.0 room quantifier.1
+    Ok (record { core = core; others = others; keys = keys; limit = limits.0; offset = limits.1 }, ts)))))
 
 unfoldable pub statement_of : ℕ → Parser StatementTree
-statement_of room ts = choose (behind_word (codes "select") ts) (Err Syntax) (λ after. query_of room after >>= λ x. Ok (select x.0, x.1))
+statement_of room ts = query_of room ts >>= λ x. Ok (select x.0, x.1)
 
 abbrev pub is_end : List Terminal → Bool
 is_end [] = true

@@ -4,10 +4,10 @@ ghost use Rattle.expr_grammar.specs.ExprAnswers.{ReadsAs};
 ghost use Rattle.expr_grammar.specs.ExprReading.{below};
 ghost use Rattle.expr_grammar.specs.SymbolView.{terminal_of_symbol, terminals_of};
 ghost use Rattle.med_syntax.specs.ExprView.{expr_tree};
-ghost use Rattle.med_syntax.specs.QueryView.{item_tree, items_tree, select_tree, statement_tree};
+ghost use Rattle.med_syntax.specs.QueryView.{core_tree, item_tree, items_tree, select_tree, statement_tree};
 ghost use Rattle.query_grammar.specs.QueryTerminals.{label_of};
 ghost use Rattle.query_reader.specs.QueryReading as reading;
-ghost use Rattle.std.specs.Prelude.{◌≡◌, ◌<◌, ◌∷◌, [], option_map};
+ghost use Rattle.std.specs.Prelude.{◌≡◌, ◌<◌, ◌∷◌, [], map, option_map};
 ghost use Rattle.std.specs.String.{string_bytes};
 
 use crate::query_keys::{flag, groups, keys, limits};
@@ -15,7 +15,7 @@ use crate::query_source::chains;
 use expr_grammar::refusal::{ReadFault, Refusal};
 use expr_grammar::symbols::{Separator, Symbol, behind};
 use expr_reader::whole;
-use med_syntax::{Expr, Item, Joint, Select, Statement, is_reserved};
+use med_syntax::{Core, Expr, Item, Joint, Select, Statement, is_reserved};
 use med_value::Operation;
 use std::alloc::Global;
 
@@ -188,48 +188,94 @@ fn clause<'a>(
     }
 }
 
-/// The query behind SELECT and its quantifier.
-#[tactic(auto, unfolding(crate::specs::QueryReading::seq, crate::specs::QueryReading::select_of))]
-fn select(
+/// The core behind SELECT and its quantifier.
+#[tactic(auto, unfolding(crate::specs::QueryReading::seq, crate::specs::QueryReading::quantified_of))]
+fn quantified(
     alloc: Global,
     distinct: bool,
     room: u32,
     symbols: &[Symbol],
-) -> Result<(Select, &[Symbol]), ReadFault>
+) -> Result<(Core, &[Symbol]), ReadFault>
     requires { room < 1000 }
-    ensures { ReadsAs (λ x. (select_tree x.0, terminals_of x.1.now)) result (reading.select_of distinct room (terminals_of symbols.now)) }
+    ensures { ReadsAs (λ x. (core_tree x.0, terminals_of x.1.now)) result
+        (reading.quantified_of distinct room (terminals_of symbols.now)) }
 {
     let (items, rest) = items(alloc, room, symbols)?;
     let (from, rest) = chains(alloc, room, rest)?;
     let (condition, rest) = clause(alloc, room, "where", rest)?;
     let (groups, rest) = groups(alloc, rest)?;
     let (having, rest) = clause(alloc, room, "having", rest)?;
-    let (keys, rest) = keys(alloc, room, rest)?;
-    let (limit, offset, rest) = limits(rest)?;
     Ok((
-        Select {
+        Core {
             distinct,
             items,
             from,
             condition,
             groups,
             having,
+        },
+        rest,
+    ))
+}
+
+/// The core behind SELECT.
+#[tactic(auto, unfolding(crate::specs::QueryReading::selected_of))]
+fn selected(alloc: Global, room: u32, symbols: &[Symbol]) -> Result<(Core, &[Symbol]), ReadFault>
+    requires { room < 1000 }
+    ensures { ReadsAs (λ x. (core_tree x.0, terminals_of x.1.now)) result (reading.selected_of room (terminals_of symbols.now)) }
+{
+    let (distinct, rest) = flag("distinct", "all", symbols);
+    quantified(alloc, distinct, room, rest)
+}
+
+/// The core at the front, and the symbols behind it.
+#[tactic(auto, unfolding(crate::specs::QueryReading::core_of))]
+fn core(alloc: Global, room: u32, symbols: &[Symbol]) -> Result<(Core, &[Symbol]), ReadFault>
+    requires { room < 1000 }
+    ensures { ReadsAs (λ x. (core_tree x.0, terminals_of x.1.now)) result (reading.core_of room (terminals_of symbols.now)) }
+{
+    match behind_word("select", symbols) {
+        Some(after) => selected(alloc, room, after),
+        None => Err(ReadFault::Refused(Refusal::Syntax)),
+    }
+}
+
+/// The cores at the front, each behind a UNION ALL, and the symbols behind them.
+fn unions(alloc: Global, room: u32, symbols: &[Symbol]) -> Result<(Vec<Core>, &[Symbol]), ReadFault>
+    requires { room < 1000 }
+    ensures { ReadsAs (λ x. (map core_tree x.0.items, terminals_of x.1.now)) result
+        (reading.all_unions_of room (terminals_of symbols.now)) }
+{
+    let mut others = Vec::new(alloc);
+    let mut rest = symbols;
+    while let Some(after) = behind_two("union", "all", rest) {
+        let (next, more) = core(alloc, room, after)?;
+        others.push(next)?;
+        rest = more;
+    }
+    Ok((others, rest))
+}
+
+/// The query at the front, and the symbols behind it.
+#[tactic(auto, unfolding(crate::specs::QueryReading::seq, crate::specs::QueryReading::query_of))]
+fn query(alloc: Global, room: u32, symbols: &[Symbol]) -> Result<(Select, &[Symbol]), ReadFault>
+    requires { room < 1000 }
+    ensures { ReadsAs (λ x. (select_tree x.0, terminals_of x.1.now)) result (reading.query_of room (terminals_of symbols.now)) }
+{
+    let (core, rest) = core(alloc, room, symbols)?;
+    let (others, rest) = unions(alloc, room, rest)?;
+    let (keys, rest) = keys(alloc, room, rest)?;
+    let (limit, offset, rest) = limits(rest)?;
+    Ok((
+        Select {
+            core,
+            others,
             keys,
             limit,
             offset,
         },
         rest,
     ))
-}
-
-/// The query behind SELECT.
-#[tactic(auto, unfolding(crate::specs::QueryReading::query_of))]
-fn query(alloc: Global, room: u32, symbols: &[Symbol]) -> Result<(Select, &[Symbol]), ReadFault>
-    requires { room < 1000 }
-    ensures { ReadsAs (λ x. (select_tree x.0, terminals_of x.1.now)) result (reading.query_of room (terminals_of symbols.now)) }
-{
-    let (distinct, rest) = flag("distinct", "all", symbols);
-    select(alloc, distinct, room, rest)
 }
 
 /// The statement at the front, and the symbols behind it.
@@ -242,13 +288,8 @@ fn statement(
     requires { room < 1000 }
     ensures { ReadsAs (λ x. (statement_tree x.0, terminals_of x.1.now)) result (reading.statement_of room (terminals_of symbols.now)) }
 {
-    match behind_word("select", symbols) {
-        Some(after) => {
-            let (query, rest) = query(alloc, room, after)?;
-            Ok((Statement::Select(query), rest))
-        }
-        None => Err(ReadFault::Refused(Refusal::Syntax)),
-    }
+    let (query, rest) = query(alloc, room, symbols)?;
+    Ok((Statement::Select(query), rest))
 }
 
 /// Whether nothing is left but perhaps one semicolon.

@@ -14,7 +14,7 @@ use Rattle.med_syntax.specs.Terminal as t
 use Rattle.med_syntax.specs.QueryTree.{SelectTree, select}
 use Rattle.query_grammar.specs.declared.query_symbols.Place.TheVariants as p
 use Rattle.query_grammar.specs.QueryTerminals.{word_at, words_at}
-use Rattle.query_grammar.specs.QueryGrammar.{keywords, SpellsOthers, SpellsList, SpellsAlias, SpellsEntry, SpellsExpr, IsEnd, IsLine, IsStatement}
+use Rattle.query_grammar.specs.QueryGrammar.{keywords, SpellsOthers, SpellsList, SpellsAlias, SpellsEntry, SpellsExpr, SpellsCore, SpellsSelect, IsEnd, IsLine, IsStatement}
 use Rattle.query_grammar.proofs.QueryTerminals.{to_terminals}
 use Rattle.query_reader.specs.QueryReading.{behind_word, behind_words}
 use Rattle.query_reader.proofs.PartSound.{FoundPart, flat, err_ok, word_is, words_are}
@@ -171,7 +171,9 @@ first_word (s ∷ ss) us h =
 select_first : (ss : List Shape) (q : SelectTree) → IsStatement ss (select q) → (vs : List Terminal) × (terminals_at false ss ≡ t.Reserved (codes "select") ∷ vs)
 select_first ss q x =
     let l : IsLine (words_at (p.Before false) false ss) (select q) = to_terminals ss (select q) x in
-    first_word ss _ (l.2 ∙ ap (λ us. us ++ l.1) (l.3).is)
+    let s : SpellsSelect q l.0 = l.3 in
+    let core : SpellsCore q.core s.core = s.first in
+    first_word ss _ (l.2 ∙ ap (λ us. us ++ l.1) (s.is ∙ ap (λ us. us ++ (s.others ++ (s.keys ++ s.limits))) core.is))
 
 query_step : (x : Name × Option (List Name)) (ts vs : List Terminal) → target_of ts ≡ Ok (x, t.Reserved (codes "select") ∷ vs) → query_at (keywords (codes "insert" ∷ codes "into" ∷ []) ++ ts) ≡ Ok (x, t.Reserved (codes "select") ∷ vs)
 unfolding query_at

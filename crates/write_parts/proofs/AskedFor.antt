@@ -14,7 +14,7 @@ use Rattle.bind_names.specs.Naming.{name_causes, condition_name_causes, item_nam
 use Rattle.bind_names.specs.Meaning.{Output, resolved, conditions_of, outputs_of, item_outputs, meant_in}
 use Rattle.bind_names.specs.Meaning.{group_meant, shown_name}
 use Rattle.bind_names.specs.Telling.{TellsCause}
-use Rattle.bind_types.specs.Typing.{type_causes, item_type_causes, condition_type_causes, no_aggregate, grouping_causes, unless, written_type_causes, select_type_causes}
+use Rattle.bind_types.specs.Typing.{type_causes, item_type_causes, condition_type_causes, no_aggregate, grouping_causes, unless, select_type_causes}
 use Rattle.tri_expr.specs.Tree.{tree}
 use Rattle.std.proofs.lemmas.List.{length-map}
 use Rattle.med_query.specs.declared.select.SelectCore.{SelectCore}
@@ -26,9 +26,10 @@ use Rattle.med_catalog.specs.Objects.{Objects}
 use Rattle.bind_catalog.specs.Barred.{query_right_causes}
 use Rattle.bind_catalog.specs.Tables.{shapes}
 use Rattle.bind_catalog.specs.Queries as queries
-use Rattle.write_parts.specs.Typing.{asked_types, first_items}
+use Rattle.bind_types.proofs.OutputPlaces.{alone_fits}
+use Rattle.write_parts.specs.Typing.{asked_types}
 use Rattle.write_parts.specs.declared.asking.AskedValues.{AskedValues}
-use Rattle.write_parts.specs.Asking.{scope_for, known_for, rights_for, asked_names, item_for, query_for, IsAsked}
+use Rattle.write_parts.specs.Asking.{scope_for, known_for, rights_for, asked_names, item_for, core_for, query_for, IsAsked}
 use Rattle.write_parts.proofs.Lists.{left_empty, right_empty, empty_by, none_in, of_two, flat_over, map_flat_ones, types_in_turn}
 
 -- ---- names
@@ -36,16 +37,24 @@ use Rattle.write_parts.proofs.Lists.{left_empty, right_empty, empty_by, none_in,
 items_named : (s : Scope) (es : List ExprTree) → flat_map (item_name_causes s) (map item_for es) ≡ flat_map (name_causes s) es
 items_named s es = flat_over (item_name_causes s) item_for es
 
-asked_same : (s : Scope) (es : List ExprTree) (condition : Option ExprTree) → flat_map (item_name_causes s) (map item_for es) ++ (condition_name_causes s condition ++ []) ≡ flat_map (name_causes s) es ++ condition_name_causes s condition
-asked_same s es condition = ap (λ xs. xs ++ (condition_name_causes s condition ++ [])) (items_named s es) ∙ ap (λ ys. flat_map (name_causes s) es ++ ys) (append-nil (condition_name_causes s condition))
+-- what the query asks, as its causes are listed
+abbrev asked_listed : Scope → List ExprTree → Option ExprTree → List Cause
+asked_listed s es condition = ((flat_map (item_name_causes s) (map item_for es) ++ (condition_name_causes s condition ++ [])) ++ []) ++ []
+
+asked_same : (s : Scope) (es : List ExprTree) (condition : Option ExprTree) → asked_listed s es condition ≡ flat_map (name_causes s) es ++ condition_name_causes s condition
+asked_same s es condition =
+    let asked = flat_map (item_name_causes s) (map item_for es) ++ (condition_name_causes s condition ++ []) in
+    append-nil (asked ++ []) ∙ append-nil asked ∙ ap (λ xs. xs ++ (condition_name_causes s condition ++ [])) (items_named s es)
+    ∙ ap (λ ys. flat_map (name_causes s) es ++ ys) (append-nil (condition_name_causes s condition))
 
 pub names_same : (tables : List TableShape) (entry : Option EntryTree) (es : List ExprTree) (condition : Option ExprTree)
     → select_name_causes tables (query_for entry es condition) ≡ once_known (known_for tables entry) (flat_map (name_causes (scope_for tables entry)) es ++ condition_name_causes (scope_for tables entry) condition)
 names_same tables None es condition = ap (once_known []) (asked_same [] es condition)
 names_same tables (Some e) es condition =
-    ap (λ ks. once_known (ks ++ []) (flat_map (item_name_causes (scope_for tables (Some e))) (map item_for es) ++ (condition_name_causes (scope_for tables (Some e)) condition ++ []))) (append-nil (known_for tables (Some e)))
-    ∙ ap (λ ks. once_known ks (flat_map (item_name_causes (scope_for tables (Some e))) (map item_for es) ++ (condition_name_causes (scope_for tables (Some e)) condition ++ []))) (append-nil (known_for tables (Some e)))
-    ∙ ap (once_known (known_for tables (Some e))) (asked_same (scope_for tables (Some e)) es condition)
+    let s = scope_for tables (Some e) in
+    ap (λ ks. once_known (ks ++ []) (asked_listed s es condition)) (append-nil (known_for tables (Some e)))
+    ∙ ap (λ ks. once_known ks (asked_listed s es condition)) (append-nil (known_for tables (Some e)))
+    ∙ ap (once_known (known_for tables (Some e))) (asked_same s es condition)
 
 pub rights_same : (o : Objects) (user : Name) (entry : Option EntryTree) (es : List ExprTree) (condition : Option ExprTree) → query_right_causes o user (query_for entry es condition) ≡ rights_for o user entry
 rights_same o user None es condition = refl
@@ -79,9 +88,13 @@ items_meant s es =
     ap (map (λ (p : Output). p.value)) (flat_over (item_outputs s) item_for es)
     ∙ map_flat_ones (λ (p : Output). p.value) (λ (e : ExprTree). let p : Output = record { name = shown_name e None; value = resolved s e } in p) es
 
-pub scope_same : (tables : List TableShape) (entry : Option EntryTree) (es : List ExprTree) (condition : Option ExprTree) → from_scope tables (query_for entry es condition).from ≡ scope_for tables entry
+pub scope_same : (tables : List TableShape) (entry : Option EntryTree) (es : List ExprTree) (condition : Option ExprTree) → from_scope tables (core_for entry es condition).from ≡ scope_for tables entry
 scope_same tables None es condition = refl
 scope_same tables (Some e) es condition = refl
+
+abbrev pub first_items : List CoreForm → List Tree
+first_items [] = []
+first_items (c ∷ cs) = c.items
 
 abbrev pub first_conditions : List CoreForm → List Tree
 first_conditions [] = []
@@ -116,25 +129,31 @@ shown_items s es = map (λ (p : Output). p.value) (outputs_of s (map item_for es
 abbrev pub query_types : Scope → Option EntryTree → List ExprTree → Option ExprTree → List Cause
 query_types s entry es condition =
     (flat_map (item_type_causes s) (map item_for es) ++ (condition_type_causes s condition ++ []))
-    ++ (no_aggregate (conditions_of s condition) ++ grouping_causes (group_meant s (query_for entry es condition) (shown_items s es)) (shown_items s es))
+    ++ (no_aggregate (conditions_of s condition) ++ grouping_causes (group_meant s (core_for entry es condition) (shown_items s es)) (shown_items s es))
+
+-- a query of one core has no cause by its outputs
+listed : (written formed more : List Cause) → more ≡ [] → ((written ++ []) ++ []) ++ ((formed ++ []) ++ more) ≡ written ++ formed
+listed written formed more e =
+    ap (λ l. l ++ ((formed ++ []) ++ more)) (append-nil (written ++ []) ∙ append-nil written) ∙ ap (λ l. written ++ ((formed ++ []) ++ l)) e
+    ∙ ap (λ l. written ++ l) (append-nil (formed ++ []) ∙ append-nil formed)
 
 pub types_listed : (tables : List TableShape) (entry : Option EntryTree) (es : List ExprTree) (condition : Option ExprTree)
     → select_type_causes tables (query_for entry es condition) ≡ query_types (scope_for tables entry) entry es condition
 types_listed tables None es condition =
-    ap (λ (l : List Cause). written_type_causes tables (query_for None es condition) ++ l)
-    (append-nil (no_aggregate (conditions_of [] condition) ++ grouping_causes (group_meant [] (query_for None es condition) (shown_items [] es)) (shown_items [] es)))
+    listed (flat_map (item_type_causes []) (map item_for es) ++ (condition_type_causes [] condition ++ []))
+    (no_aggregate (conditions_of [] condition) ++ grouping_causes (group_meant [] (core_for None es condition) (shown_items [] es)) (shown_items [] es)) _ (alone_fits tables (core_for None es condition))
 types_listed tables (Some e) es condition =
     let s = scope_for tables (Some e) in
-    ap (λ (l : List Cause). written_type_causes tables (query_for (Some e) es condition) ++ l)
-    (append-nil (no_aggregate (conditions_of s condition) ++ grouping_causes (group_meant s (query_for (Some e) es condition) (shown_items s es)) (shown_items s es)))
+    listed (flat_map (item_type_causes s) (map item_for es) ++ (condition_type_causes s condition ++ []))
+    (no_aggregate (conditions_of s condition) ++ grouping_causes (group_meant s (core_for (Some e) es condition) (shown_items s es)) (shown_items s es)) _ (alone_fits tables (core_for (Some e) es condition))
 
 grouped : (s : Scope) (entry : Option EntryTree) (es : List ExprTree) (condition : Option ExprTree) (c : Cause)
-    → Contains (grouping_causes (group_meant s (query_for entry es condition) (shown_items s es)) (shown_items s es)) c → Contains (no_aggregate (map (resolved s) es)) c
+    → Contains (grouping_causes (group_meant s (core_for entry es condition) (shown_items s es)) (shown_items s es)) c → Contains (no_aggregate (map (resolved s) es)) c
 grouped s entry es condition c h = subst (λ ts. Contains (no_aggregate ts) c) (items_meant s es) (group_by (list_any has_aggregate (shown_items s es)) _ (shown_items s es) c refl h)
 
 typed_in : (s : Scope) (entry : Option EntryTree) (es : List ExprTree) (condition : Option ExprTree) (c : Cause) → Contains (query_types s entry es condition) c → Contains (asked_types s es condition) c
 typed_in s entry es condition c h = outer (of_two (flat_map (item_type_causes s) (map item_for es) ++ (condition_type_causes s condition ++ []))
-    (no_aggregate (conditions_of s condition) ++ grouping_causes (group_meant s (query_for entry es condition) (shown_items s es)) (shown_items s es)) c h)
+    (no_aggregate (conditions_of s condition) ++ grouping_causes (group_meant s (core_for entry es condition) (shown_items s es)) (shown_items s es)) c h)
   where
     A : List Cause
     A = flat_map (type_causes s) es
@@ -152,13 +171,13 @@ typed_in s entry es condition c h = outer (of_two (flat_map (item_type_causes s)
     written (inl i) = Contains-append_left A (B ++ (C ++ D)) c (subst (λ xs. Contains xs c) (flat_over (item_type_causes s) item_for es) i)
     written (inr i) = Contains-append_right A (B ++ (C ++ D)) c (Contains-append_left B (C ++ D) c (subst (λ xs. Contains xs c) (append-nil B) i))
 
-    formed : Contains C c ⊎ Contains (grouping_causes (group_meant s (query_for entry es condition) (shown_items s es)) (shown_items s es)) c → Contains (A ++ (B ++ (C ++ D))) c
+    formed : Contains C c ⊎ Contains (grouping_causes (group_meant s (core_for entry es condition) (shown_items s es)) (shown_items s es)) c → Contains (A ++ (B ++ (C ++ D))) c
     formed (inl i) = Contains-append_right A (B ++ (C ++ D)) c (Contains-append_right B (C ++ D) c (Contains-append_left C D c i))
     formed (inr i) = Contains-append_right A (B ++ (C ++ D)) c (Contains-append_right B (C ++ D) c (Contains-append_right C D c (grouped s entry es condition c i)))
 
-    outer : Contains (flat_map (item_type_causes s) (map item_for es) ++ (B ++ [])) c ⊎ Contains (C ++ grouping_causes (group_meant s (query_for entry es condition) (shown_items s es)) (shown_items s es)) c → Contains (A ++ (B ++ (C ++ D))) c
+    outer : Contains (flat_map (item_type_causes s) (map item_for es) ++ (B ++ [])) c ⊎ Contains (C ++ grouping_causes (group_meant s (core_for entry es condition) (shown_items s es)) (shown_items s es)) c → Contains (A ++ (B ++ (C ++ D))) c
     outer (inl i) = written (of_two (flat_map (item_type_causes s) (map item_for es)) (B ++ []) c i)
-    outer (inr i) = formed (of_two C (grouping_causes (group_meant s (query_for entry es condition) (shown_items s es)) (shown_items s es)) c i)
+    outer (inr i) = formed (of_two C (grouping_causes (group_meant s (core_for entry es condition) (shown_items s es)) (shown_items s es)) c i)
 
 pub typed_by : (o : Objects) (entry : Option EntryTree) (es : List ExprTree) (condition : Option ExprTree) (c : Cause)
     → queries.QueryTypes o (query_for entry es condition) c → Contains (asked_types (scope_for (shapes o) entry) es condition) c

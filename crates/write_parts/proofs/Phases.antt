@@ -16,8 +16,8 @@ use Rattle.tri_expr.specs.Tree.{Tree}
 use Rattle.bind_names.specs.Aggregates.{has_aggregate}
 use Rattle.bind_names.specs.Scope.{TableShape, Scope, place_named}
 use Rattle.bind_names.specs.Meaning.{resolved, conditions_of}
-use Rattle.bind_names.specs.Naming.{name_causes, condition_name_causes, from_causes, asked_causes, select_name_causes, once_known}
-use Rattle.bind_types.specs.Typing.{takes, unless, no_aggregate, type_causes, item_type_causes, condition_type_causes, select_type_causes}
+use Rattle.bind_names.specs.Naming.{name_causes, condition_name_causes, entered_causes, asked_causes, select_name_causes, once_known}
+use Rattle.bind_types.specs.Typing.{takes, unless, no_aggregate, type_causes, item_type_causes, condition_type_causes, answer_types, select_type_causes}
 use Rattle.med_binder.proofs.LawPhases.{names_are_of_phase, types_are_of_phase}
 use Rattle.med_catalog.specs.DdlCauses.{phase}
 use Rattle.med_catalog.specs.Objects.{TableObject, Objects, table_named}
@@ -30,7 +30,7 @@ use Rattle.bind_catalog.specs.Tables.{shapes}
 use Rattle.bind_catalog.proofs.Phases as of_query
 use Rattle.write_parts.specs.Meaning.{target_of, columns_in, scope_in, cells_meant, places_meant, row_meant}
 use Rattle.write_parts.specs.Naming.{target_causes, is_column, column_unknown, list_causes, named_causes, row_name_causes, insert_name_causes, set_names, set_values, write_name_causes, given_right_causes, read_right_causes, write_right_causes, WriteNames}
-use Rattle.write_parts.specs.Typing.{column_causes, cells_causes, asked_types, set_types, count_causes, type_at, row_fit_causes, length_causes, row_types, answer_types, row_type_causes, rows_fit_causes, given_type_causes, write_type_causes, WriteTypes}
+use Rattle.write_parts.specs.Typing.{column_causes, cells_causes, asked_types, set_types, count_causes, type_at, row_fit_causes, length_causes, row_types, row_type_causes, rows_fit_causes, given_type_causes, write_type_causes, WriteTypes}
 use Rattle.write_parts.specs.Asking.{scope_for, item_for, query_for}
 use Rattle.write_parts.proofs.Lists.{none_in, of_two, flat_over, right_empty}
 use Rattle.write_parts.proofs.AskedFor.{names_same, types_listed, unless_one}
@@ -140,10 +140,10 @@ of_entry tables e es condition known c h =
     names_are_of_phase tables (select (query_for (Some e) es condition)) c (subst (λ xs. Contains xs c)
     (sym (names_same tables (Some e) es condition ∙ ap (λ ks. once_known ks (flat_map (name_causes (scope_in tables e)) es ++ condition_name_causes (scope_in tables e) condition)) known)) h)
 
-query_from : (tables : List TableShape) (q : SelectTree) → Are 3 (from_causes tables q.from)
-query_from tables q = first_part 3 (from_causes tables q.from) (asked_causes tables q) (names_are_of_phase tables (select q))
+query_from : (tables : List TableShape) (q : SelectTree) → Are 3 (entered_causes tables q)
+query_from tables q = first_part 3 (entered_causes tables q) (asked_causes tables q) (names_are_of_phase tables (select q))
 
-query_asked : (tables : List TableShape) (q : SelectTree) → from_causes tables q.from ≡ [] → Are 3 (asked_causes tables q)
+query_asked : (tables : List TableShape) (q : SelectTree) → entered_causes tables q ≡ [] → Are 3 (asked_causes tables q)
 query_asked tables q known c h = names_are_of_phase tables (select q) c (subst (λ xs. Contains xs c) (sym (ap (λ ks. once_known ks (asked_causes tables q)) known)) h)
 
 insert_names : (tables : List TableShape) (i : InsertTree) (g : GivenTree) → Are 3 (insert_name_causes tables i g)
@@ -151,10 +151,10 @@ insert_names tables i (values rows) =
     once_both 3 (target_causes tables i.table) (named_causes (columns_in tables i.table) i.columns ++ flat_map row_name_causes rows) (target_names tables i.table)
     (λ known. two_parts 3 (named_causes (columns_in tables i.table) i.columns) (flat_map row_name_causes rows) (insert_list (columns_in tables i.table) i.columns) (many_parts 3 row_name_causes row_phase rows))
 insert_names tables i (rows_of q) =
-    once_both 3 (target_causes tables i.table ++ from_causes tables q.from) (named_causes (columns_in tables i.table) i.columns ++ asked_causes tables q)
-    (two_parts 3 (target_causes tables i.table) (from_causes tables q.from) (target_names tables i.table) (query_from tables q))
+    once_both 3 (target_causes tables i.table ++ entered_causes tables q) (named_causes (columns_in tables i.table) i.columns ++ asked_causes tables q)
+    (two_parts 3 (target_causes tables i.table) (entered_causes tables q) (target_names tables i.table) (query_from tables q))
     (λ known. two_parts 3 (named_causes (columns_in tables i.table) i.columns) (asked_causes tables q) (insert_list (columns_in tables i.table) i.columns)
-    (query_asked tables q (right_empty (target_causes tables i.table) (from_causes tables q.from) known)))
+    (query_asked tables q (right_empty (target_causes tables i.table) (entered_causes tables q) known)))
 
 all_names : (tables : List TableShape) (t : WriteTree) → Are 3 (write_name_causes tables t)
 all_names tables (insert i) = insert_names tables i i.given
@@ -226,7 +226,8 @@ given_types tables columns names (values rows) =
     (two_parts 4 (length_causes (map row_meant rows)) (flat_map (λ ts. row_fit_causes columns names (row_types ts)) (map row_meant rows)) (length_types (map row_meant rows))
     (many_parts 4 (λ ts. row_fit_causes columns names (row_types ts)) (λ ts. fit_types columns names (row_types ts)) (map row_meant rows)))
 given_types tables columns names (rows_of q) =
-    two_parts 4 (select_type_causes tables q) (row_fit_causes columns names (answer_types tables q)) (types_are_of_phase tables (select q)) (fit_types columns names (answer_types tables q))
+    two_parts 4 (select_type_causes tables q) (flat_map (row_fit_causes columns names) (answer_types tables q)) (types_are_of_phase tables (select q))
+    (many_parts 4 (row_fit_causes columns names) (fit_types columns names) (answer_types tables q))
 
 all_types : (tables : List TableShape) (t : WriteTree) → Are 4 (write_type_causes tables t)
 all_types tables (insert i) = given_types tables (columns_in tables i.table) i.columns i.given

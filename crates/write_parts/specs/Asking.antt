@@ -4,7 +4,7 @@ use Rattle.med_value.specs.Column.{column_of}
 use Rattle.med_value.specs.declared.cause.Cause.{Cause}
 use Rattle.med_syntax.specs.Tree.{Name}
 use Rattle.med_syntax.specs.ExprTree.{ExprTree}
-use Rattle.med_syntax.specs.QueryTree.{ItemTree, value, EntryTree, ChainTree, SelectTree}
+use Rattle.med_syntax.specs.QueryTree.{ItemTree, value, EntryTree, ChainTree, CoreTree, SelectTree}
 use Rattle.tri_expr.specs.Tree.{tree}
 use Rattle.bind_names.specs.Scope.{TableShape, Scope, place_named}
 use Rattle.bind_names.specs.Naming.{name_causes, condition_name_causes, once_known}
@@ -65,18 +65,18 @@ abbrev pub from_for : Option EntryTree → List ChainTree
 from_for None = []
 from_for (Some e) = chain_for e ∷ []
 
-abbrev pub query_for : Option EntryTree → List ExprTree → Option ExprTree → SelectTree
-query_for entry es condition = record {
+abbrev pub core_for : Option EntryTree → List ExprTree → Option ExprTree → CoreTree
+core_for entry es condition = record {
   distinct = false;
   items = map item_for es;
   from = from_for entry;
   condition = condition;
   groups = [];
   having = None;
-  keys = [];
-  limit = None;
-  offset = None;
 }
+
+abbrev pub query_for : Option EntryTree → List ExprTree → Option ExprTree → SelectTree
+query_for entry es condition = record { core = core_for entry es condition; others = []; keys = []; limit = None; offset = None }
 
 -- they are resolved, and no cause stands
 pub record IsAsked (o : Objects) (user : Name) (entry : Option EntryTree) (es : List ExprTree) (condition : Option ExprTree)

@@ -1,4 +1,3 @@
-pub mod Kinds
 pub mod Meaning
 pub mod Naming
 pub mod Typing

@@ -9,7 +9,7 @@ use Rattle.med_syntax.specs.Tree.{Name}
 use Rattle.med_syntax.specs.ExprTree.{ExprTree}
 use Rattle.write_syntax.specs.WriteTree.{GivenTree, values, rows_of, InsertTree, SetTree, UpdateTree, DeleteTree, WriteTree, insert, update, delete}
 use Rattle.bind_names.specs.Scope.{TableShape, place_named}
-use Rattle.bind_names.specs.Naming.{name_causes, condition_name_causes, from_causes, asked_causes, once_known}
+use Rattle.bind_names.specs.Naming.{name_causes, condition_name_causes, entered_causes, asked_causes, once_known}
 use Rattle.med_catalog.specs.Objects.{Objects}
 use Rattle.med_catalog.specs.Options.{repeats}
 use Rattle.bind_catalog.specs.Barred.{query_right_causes, target_right_causes}
@@ -44,7 +44,7 @@ abbrev pub insert_name_causes : List TableShape → InsertTree → GivenTree →
 insert_name_causes tables i (values rows) =
     once_known (target_causes tables i.table) (named_causes (columns_in tables i.table) i.columns ++ flat_map row_name_causes rows)
 insert_name_causes tables i (rows_of q) =
-    once_known (target_causes tables i.table ++ from_causes tables q.from)
+    once_known (target_causes tables i.table ++ entered_causes tables q)
     (named_causes (columns_in tables i.table) i.columns ++ asked_causes tables q)
 
 abbrev pub set_names : List SetTree → List Name

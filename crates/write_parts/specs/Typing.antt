@@ -8,16 +8,14 @@ use Rattle.med_value.specs.declared.cause.Cause.{Cause}
 use Rattle.med_value.specs.declared.cause.Cause.TheVariants.{DatatypeMismatch, ValuesSyntax}
 use Rattle.med_syntax.specs.Tree.{Name}
 use Rattle.med_syntax.specs.ExprTree.{ExprTree}
-use Rattle.med_syntax.specs.QueryTree.{SelectTree}
 use Rattle.write_syntax.specs.WriteTree.{GivenTree, values, rows_of, InsertTree, UpdateTree, DeleteTree, WriteTree, insert, update, delete}
 use Rattle.tri_expr.specs.Tree.{Tree}
-use Rattle.med_query.specs.Form.{CoreForm}
-use Rattle.bind_names.specs.Scope.{TableShape, Scope, columns_of, from_scope}
-use Rattle.bind_names.specs.Meaning.{resolved, conditions_of, meant_in}
-use Rattle.bind_types.specs.Typing.{takes, unless, type_causes, condition_type_causes, no_aggregate, select_type_causes}
+use Rattle.bind_names.specs.Scope.{TableShape, Scope}
+use Rattle.bind_names.specs.Meaning.{resolved, conditions_of}
+use Rattle.bind_types.specs.TreeTypes.{tree_type, column_kinds}
+use Rattle.bind_types.specs.Typing.{takes, unless, type_causes, condition_type_causes, no_aggregate, answer_types, select_type_causes}
 use Rattle.med_catalog.specs.Objects.{Objects}
 use Rattle.bind_catalog.specs.Tables.{shapes}
-use Rattle.write_parts.specs.Kinds.{tree_type}
 use Rattle.write_parts.specs.Meaning.{columns_in, scope_in, cells_meant, places_meant, row_meant}
 use Rattle.write_parts.specs.Naming.{set_values}
 
@@ -32,9 +30,6 @@ abbrev pub cells_causes : List Column → List (Option (Option ColType)) → Lis
 cells_causes [] given = []
 cells_causes (c ∷ cs) [] = []
 cells_causes (c ∷ cs) (g ∷ gs) = column_causes c g ++ cells_causes cs gs
-
-abbrev pub column_kinds : List Column → List ColType
-column_kinds columns = map (λ (c : Column). c.kind) columns
 
 -- Of expressions that see this, and of WHERE: 42803 for an aggregate in VALUES, SET or WHERE.
 abbrev pub asked_types : Scope → List ExprTree → Option ExprTree → List Cause
@@ -77,17 +72,9 @@ abbrev pub length_causes : {X : Type 0} → List (List X) → List Cause
 length_causes [] = []
 length_causes (r ∷ rs) = unless (list_all (λ s. nat_eq (length s) (length r)) rs) ValuesSyntax
 
--- the types of a row of VALUES, which sees no column; and those of what a query answers
+-- the types of a row of VALUES, which sees no column
 abbrev pub row_types : List Tree → List (Option ColType)
 row_types ts = map (tree_type []) ts
-
--- the items of the first core, whose types are those of the query
-abbrev pub first_items : List CoreForm → List Tree
-first_items [] = []
-first_items (c ∷ cs) = c.items
-
-abbrev pub answer_types : List TableShape → SelectTree → List (Option ColType)
-answer_types tables q = map (tree_type (column_kinds (columns_of (from_scope tables q.from)))) (first_items (meant_in tables q).form.cores)
 
 abbrev pub row_type_causes : List ExprTree → List Cause
 row_type_causes es = asked_types [] es None
@@ -96,10 +83,12 @@ row_type_causes es = asked_types [] es None
 abbrev pub rows_fit_causes : List Column → Option (List Name) → List (List Tree) → List Cause
 rows_fit_causes columns names rows = length_causes rows ++ flat_map (λ ts. row_fit_causes columns names (row_types ts)) rows
 
+-- What each core of a query answers is a row too: a NULL literal there takes the type of its column.
 abbrev pub given_type_causes : List TableShape → List Column → Option (List Name) → GivenTree → List Cause
 given_type_causes tables columns names (values rows) =
     flat_map row_type_causes rows ++ rows_fit_causes columns names (map row_meant rows)
-given_type_causes tables columns names (rows_of q) = select_type_causes tables q ++ row_fit_causes columns names (answer_types tables q)
+given_type_causes tables columns names (rows_of q) =
+    select_type_causes tables q ++ flat_map (row_fit_causes columns names) (answer_types tables q)
 
 abbrev pub insert_type_causes : List TableShape → InsertTree → List Cause
 insert_type_causes tables i = given_type_causes tables (columns_in tables i.table) i.columns i.given

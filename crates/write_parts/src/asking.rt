@@ -17,7 +17,7 @@ use bind_names::any_has_aggregate;
 use med_binder::BoundQuery;
 use med_catalog::Catalog;
 use med_query::SelectCore;
-use med_syntax::{Chain, Entry, Expr as Written, Item, Select, Statement};
+use med_syntax::{Chain, Core, Entry, Expr as Written, Item, Select, Statement};
 use med_value::Cause;
 use std::alloc::Global;
 use tri_expr::Expr;
@@ -67,12 +67,15 @@ fn query_for(
     let from = from_for(alloc, entry)?;
     let items = items_for(alloc, values)?;
     Ok(Statement::Select(Select {
-        distinct: false,
-        items,
-        from,
-        condition,
-        groups: Vec::new(alloc),
-        having: None,
+        core: Core {
+            distinct: false,
+            items,
+            from,
+            condition,
+            groups: Vec::new(alloc),
+            having: None,
+        },
+        others: Vec::new(alloc),
         keys: Vec::new(alloc),
         limit: None,
         offset: None,

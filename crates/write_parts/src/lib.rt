@@ -3,8 +3,7 @@
 //! columns, and the types of what is written.
 //!
 //! `specs/Meaning.antt` says what a write means in terms of places, `specs/Naming.antt` which causes of names and rights stand against it,
-//! and `specs/Typing.antt` which of types, by the types of expressions whose names are places (`specs/Kinds.antt`). Expressions are bound
-//! as the query that has them as its items (`src/asking.rt`).
+//! and `specs/Typing.antt` which of types. Expressions are bound as the query that has them as its items (`src/asking.rt`).
 #![tactic(auto)]
 
 mod asking;
@@ -16,6 +15,6 @@ mod target;
 
 pub use asking::{AskedValues, ask};
 pub use columns::{check_list, name_place};
-pub use kinds::{cell_kinds, check_cells, kinds_of};
-pub use places::{check_fit, check_named, kinds_of_all, places_for};
+pub use kinds::{cell_kinds, check_cells};
+pub use places::{check_fit, check_named, places_for};
 pub use target::{Target, find_target, written_columns};

@@ -4,9 +4,7 @@
 ghost use Rattle.std.specs.Prelude.{◌≡◌, map, option_map, string_bytes, length, IfOk};
 ghost use Rattle.med_value.specs.Column.{Column, column_of};
 ghost use Rattle.bind_names.specs.Telling.{Passes};
-ghost use Rattle.tri_expr.specs.Tree.{tree};
 ghost use Rattle.write_syntax.specs.WriteView.{names_tree};
-ghost use Rattle.write_parts.specs.Kinds.{tree_type};
 ghost use Rattle.write_parts.specs.Meaning as meaning;
 ghost use Rattle.write_parts.specs.Meaning.{name_place, places_meant};
 ghost use Rattle.write_parts.specs.Naming.{named_causes};
@@ -14,10 +12,9 @@ ghost use Rattle.write_parts.specs.Typing as typing;
 ghost use Rattle.write_parts.specs.Typing.{count_causes, row_fit_causes};
 
 use crate::columns::{check_list, name_place};
-use crate::kinds::{check_cells, kind_of};
+use crate::kinds::check_cells;
 use med_value::{Cause, ColType, ColumnDef, NoMemory};
 use std::alloc::Global;
-use tri_expr::Expr;
 
 /// Whether the list of columns of an INSERT, if there is one, names columns of the table, each once (SQL:2016, <insert column list>).
 ///
@@ -118,21 +115,6 @@ fn kinds_at(
     let mut out = Vec::new(alloc);
     for place in places {
         out.push(kind_at(kinds, *place))?;
-    }
-    Ok(out)
-}
-
-/// The types of expressions over rows whose cells are of these types.
-pub fn kinds_of_all(
-    alloc: Global,
-    kinds: &[ColType],
-    values: &[Expr],
-) -> Result<Vec<Option<ColType>>, NoMemory>
-    ensures { IfOk result (λ v. v.items ≡ map (tree_type kinds.now) (map tree values.now)) }
-{
-    let mut out = Vec::new(alloc);
-    for value in values {
-        out.push(kind_of(kinds, value))?;
     }
     Ok(out)
 }

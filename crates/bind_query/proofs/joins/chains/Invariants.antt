@@ -9,5 +9,5 @@ use Rattle.bind_query.proofs.joins.chains.Given as goal
 abbrev pub invariant-loop-written : goal.invariant-loop-written
 invariant-loop-written l = record {
   causes : flat_map (chain_name_causes (map table_shape l.tables)) (map chain_tree l.chains) ≡ flat_map (chain_name_causes (map table_shape l.tables)) (map chain_tree (drop l.written-index l.chains));
-  chains : map chain_form l.out.items ++ chains_meant (map table_shape l.tables) l.number (map chain_tree (drop l.written-index l.chains)) ≡ chains_meant (map table_shape l.tables) 0 (map chain_tree l.chains);
+  chains : map chain_form l.out.items ++ chains_meant (map table_shape l.tables) l.number (map chain_tree (drop l.written-index l.chains)) ≡ chains_meant (map table_shape l.tables) l.first (map chain_tree l.chains);
 }

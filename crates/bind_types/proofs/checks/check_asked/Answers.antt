@@ -1,6 +1,6 @@
 use Rattle.std.proofs.Common.{flat_map}
 use Rattle.std.proofs.lemmas.Result.{err_from_is_err_and}
-use Rattle.med_syntax.specs.QueryView.{select_tree}
+use Rattle.med_syntax.specs.QueryView.{core_tree}
 use Rattle.bind_names.specs.Scope.{scope_of}
 use Rattle.bind_types.specs.Typing.{item_type_causes, condition_type_causes}
 use Rattle.bind_names.proofs.Causes.{tells_left, tells_right}
@@ -9,13 +9,6 @@ use Rattle.bind_types.proofs.checks.check_asked.Goals as goal
 pub returns-in_err-check_condition : goal.returns-in_err-check_condition
 returns-in_err-check_condition c =
     let s = scope_of c.args.scope.now in
-    let q = select_tree c.args.select.now in
+    let q = core_tree c.args.core.now in
     let p = err_from_is_err_and c.from_residual-in_err-check_condition.result c.from_residual-in_err-check_condition.ensures.1 in
     rw (p.1, p.2) (tells_right (flat_map (item_type_causes s) q.items) _ _ (tells_left (condition_type_causes s q.condition) _ _ c.in_err-check_condition.ensures))
-
-pub returns-in_err-check_condition-2 : goal.returns-in_err-check_condition-2
-returns-in_err-check_condition-2 c =
-    let s = scope_of c.args.scope.now in
-    let q = select_tree c.args.select.now in
-    let p = err_from_is_err_and c.from_residual-in_err-check_condition-2.result c.from_residual-in_err-check_condition-2.ensures.1 in
-    rw (p.1, p.2) (tells_right (flat_map (item_type_causes s) q.items) _ _ (tells_right (condition_type_causes s q.condition) _ _ (tells_left (condition_type_causes s q.having) _ _ c.in_err-check_condition-2.ensures)))

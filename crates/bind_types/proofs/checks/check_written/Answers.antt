@@ -1,18 +1,23 @@
-use Rattle.std.proofs.Common.{◌≡◌, List, map, ap, subst, ◌∙◌}
-use Rattle.med_value.specs.declared.cause.Cause.{Cause}
-use Rattle.med_syntax.specs.declared.statement.Chain.{Chain}
-use Rattle.med_syntax.specs.QueryView.{chain_tree, select_tree}
-use Rattle.bind_names.specs.Scope.{Scope, scope_of, table_shape, from_scope}
-use Rattle.bind_names.specs.Telling.{Passes}
-use Rattle.bind_types.specs.Kinds.{asked_type_causes}
-use Rattle.bind_types.proofs.KeyTypes.{written_is}
+use Rattle.std.proofs.Common.{◌++◌, map, flat_map, ap}
+use Rattle.std.proofs.lemmas.Result.{err_from_is_err_and}
+use Rattle.med_syntax.specs.QueryView.{core_tree, select_tree}
+use Rattle.bind_names.specs.Scope.{table_shape}
+use Rattle.bind_types.specs.Typing.{core_written_causes, order_type_causes}
+use Rattle.bind_names.proofs.Causes.{tells_left, tells_right, tells_same}
 use Rattle.bind_types.proofs.checks.check_written.Goals as goal
 
-pub returns : goal.returns
-returns c =
+pub returns-in_err-check_core : goal.returns-in_err-check_core
+returns-in_err-check_core c =
     let tables = map table_shape c.args.tables.now in
     let q = select_tree c.args.select.now in
-    let none = rw c.as_slice.ensures.value at c.in_ok-check_from.ensures in
-    let seen : scope_of c.as_slice-3.result.now ≡ from_scope tables q.from =
-    ap scope_of c.as_slice-3.ensures.value ∙ c.in_ok-seen.ensures.0 ∙ ap (λ (chains : List Chain). from_scope tables (map chain_tree chains)) c.as_slice-2.ensures.value in
-    subst (λ (xs : List Cause). Passes xs c.check_asked.result) (ap (λ (s : Scope). asked_type_causes s q) seen ∙ written_is tables q none) c.check_asked.ensures
+    let p = err_from_is_err_and c.from_residual.result c.from_residual.ensures.1 in
+    rw (p.1, p.2) (tells_left _ (order_type_causes tables q) _ (tells_left (core_written_causes tables q.core) (flat_map (core_written_causes tables) q.others) _ c.in_err-check_core.ensures))
+
+pub returns-in_err-check_cores : goal.returns-in_err-check_cores
+returns-in_err-check_cores c =
+    let tables = map table_shape c.args.tables.now in
+    let q = select_tree c.args.select.now in
+    let f = core_written_causes tables in
+    let p = err_from_is_err_and c.from_residual-in_err-check_cores.result c.from_residual-in_err-check_cores.ensures.1 in
+    rw (p.1, p.2) (tells_left _ (order_type_causes tables q) _ (tells_right (f q.core) (flat_map f q.others) _
+    (tells_same _ _ _ (ap (λ xs. flat_map f (map core_tree xs)) c.as_slice.ensures.value) c.in_err-check_cores.ensures)))

@@ -18,7 +18,7 @@ returns-in_err-check_named-in-Ok c =
 pub returns-in_ok-check_named-in-Ok : goal.returns-in_ok-check_named-in-Ok
 returns-in_ok-check_named-in-Ok c =
     query_fine (objects c.args.catalog.now) (map attached c.args.bound.now) c.args.user.now (map column_of c.args.columns.now) (option_map names_tree c.args.names.now) (query_in (statement_tree c.args.query.now))
-    c.in-Ok.found c.in-Ok.ensures.bindable c.in-Ok.ensures.meant c.in-Ok.ensures.places c.in-Ok.ensures.widths c.in-Ok.ensures.safe c.in_ok-check_named-in-Ok.ensures
+    c.in-Ok.found c.in-Ok.ensures.bindable c.in-Ok.ensures.meant c.in-Ok.ensures.places c.in-Ok.ensures.widths c.in-Ok.ensures.kinds c.in-Ok.ensures.safe c.in_ok-check_named-in-Ok.ensures
 
 pub returns-in_err-check_named-in-Err : goal.returns-in_err-check_named-in-Err
 returns-in_err-check_named-in-Err c =

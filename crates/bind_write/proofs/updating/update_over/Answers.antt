@@ -13,7 +13,8 @@ use Rattle.bind_catalog.specs.Tables.{shapes}
 use Rattle.bind_catalog.specs.Places.{attached}
 use Rattle.write_parts.specs.Meaning.{written_column, columns_in, scope_in}
 use Rattle.write_parts.specs.Naming.{target_causes, set_names}
-use Rattle.write_parts.specs.Typing.{types_of, column_kinds}
+use Rattle.bind_types.specs.TreeTypes.{column_kinds}
+use Rattle.write_parts.specs.Typing.{types_of}
 use Rattle.write_parts.specs.Asking.{IsTarget}
 use Rattle.bind_write.proofs.Cells.{cells_are, typed_cells}
 use Rattle.bind_write.proofs.Updates.{list_told, list_same, updated_told, cells_told, update_clear, update_typed, update_formed}

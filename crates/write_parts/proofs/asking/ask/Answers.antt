@@ -12,8 +12,7 @@ use Rattle.bind_catalog.specs.Queries.{NotBound, IsBindable, meant_by}
 use Rattle.write_parts.specs.Asking.{query_for}
 use Rattle.med_query.specs.Form.{core_form}
 use Rattle.bind_catalog.specs.Tables.{shapes}
-use Rattle.write_parts.specs.Typing.{first_items}
-use Rattle.write_parts.proofs.AskedFor.{ask_told, aggregate_told, asked_is, one_core, values_meant}
+use Rattle.write_parts.proofs.AskedFor.{ask_told, aggregate_told, asked_is, one_core, first_items, values_meant}
 use Rattle.write_parts.proofs.asking.ask.Goals as goal
 
 pub returns-in_err-found : goal.returns-in_err-found

@@ -1,6 +1,6 @@
 use Rattle.std.proofs.Common.{◌≡◌, ◌++◌, map, option_map, drop}
 use Rattle.tri_expr.specs.Tree.{tree}
-use Rattle.write_parts.specs.Kinds.{tree_type}
+use Rattle.bind_types.specs.TreeTypes.{tree_type}
 use Rattle.write_parts.proofs.kinds.cell_kinds.Given as goal
 
 abbrev pub invariant-loop-cell : goal.invariant-loop-cell

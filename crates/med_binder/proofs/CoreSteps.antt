@@ -1,0 +1,101 @@
+-- Names of the cores of a query, looked up part by part.
+use Rattle.std.proofs.Common.{◌≡◌, ℕ, ◌+◌, ◌<◌, List, [], ◌∷◌, ◌++◌, map, flat_map, drop, length, get_or, refl, ap, sym, subst, ◌∙◌, append-nil}
+use Rattle.std.proofs.lemmas.List.{map-append}
+use Rattle.med_value.specs.declared.cause.Cause.{Cause}
+use Rattle.med_value.specs.declared.value.ColType.{ColType}
+use Rattle.med_syntax.specs.QueryTree.{ItemTree, GroupTree, CoreTree, SelectTree, cores_of}
+use Rattle.med_syntax.specs.QueryView.{core_tree}
+use Rattle.med_syntax.specs.declared.statement.Core.{Core}
+use Rattle.tri_expr.specs.Tree.{Tree}
+use Rattle.med_query.specs.Form.{CoreForm}
+use Rattle.bind_names.specs.Scope.{TableShape, Scope, columns_of, entries_of, from_scope}
+use Rattle.bind_names.specs.Naming.{chain_name_causes, item_name_causes, condition_name_causes, group_name_causes, core_causes_in, core_asked_causes, order_causes_in, order_name_causes, asked_causes}
+use Rattle.bind_names.specs.Meaning.{Output, outputs_of, output_values, core_outputs, Sorting, sorting_in, core_meant, cores_meant}
+use Rattle.bind_names.specs.Telling.{TellsCause}
+use Rattle.bind_names.proofs.Added.{added_after}
+use Rattle.bind_names.proofs.Causes.{tells_left, tells_right}
+use Rattle.bind_names.proofs.Parts.{drop_read}
+use Rattle.bind_types.specs.TreeTypes.{tree_type, column_kinds}
+use Rattle.bind_types.specs.Typing.{core_types}
+use Rattle.med_binder.specs.Looking.{IsAsked, core_with}
+use Rattle.med_binder.specs.declared.cores.AskedCore.{AskedCore}
+
+-- ---- what the first core says
+
+pub shown_same : (tables : List TableShape) (c : CoreTree) (s : Scope) (items : List ItemTree) (outs : List Output) → s ≡ from_scope tables c.from → items ≡ c.items → outs ≡ outputs_of s items → outs ≡ core_outputs tables c
+shown_same tables c s items outs e i h = h ∙ ap (λ (s : Scope). outputs_of s items) e ∙ ap (outputs_of (from_scope tables c.from)) i
+
+pub head_items : (tables : List TableShape) (q : SelectTree) (s : Scope) (items : List ItemTree) (c : Cause) → s ≡ from_scope tables q.core.from → items ≡ q.core.items → TellsCause (flat_map (item_name_causes s) items) c
+    → TellsCause (asked_causes tables q) c
+head_items tables q s items c e i t =
+    tells_left _ (order_name_causes tables q) c
+    (tells_left (core_asked_causes tables q.core) (flat_map (core_asked_causes tables) q.others) c
+    (tells_right (flat_map (chain_name_causes tables) q.core.from) _ c
+    (tells_left _ _ c (subst (λ (xs : List Cause). TellsCause xs c) (ap (λ (s : Scope). flat_map (item_name_causes s) items) e ∙ ap (flat_map (item_name_causes (from_scope tables q.core.from))) i) t))))
+
+order_same : (tables : List TableShape) (q : SelectTree) (s : Scope) (outs : List Output) → s ≡ from_scope tables q.core.from → outs ≡ core_outputs tables q.core → order_causes_in s outs q ≡ order_name_causes tables q
+order_same tables q s outs e o = ap (λ (s : Scope). order_causes_in s outs q) e ∙ ap (λ (os : List Output). order_causes_in (from_scope tables q.core.from) os q) o
+
+pub head_order : (tables : List TableShape) (q : SelectTree) (s : Scope) (outs : List Output) (c : Cause) → s ≡ from_scope tables q.core.from → outs ≡ core_outputs tables q.core → TellsCause (order_causes_in s outs q) c
+    → TellsCause (asked_causes tables q) c
+head_order tables q s outs c e o t = tells_right (flat_map (core_asked_causes tables) (cores_of q)) _ c (subst (λ (xs : List Cause). TellsCause xs c) (order_same tables q s outs e o) t)
+
+pub order_clear : (tables : List TableShape) (q : SelectTree) (s : Scope) (outs : List Output) → s ≡ from_scope tables q.core.from → outs ≡ core_outputs tables q.core → order_causes_in s outs q ≡ [] → order_name_causes tables q ≡ []
+order_clear tables q s outs e o h = sym (order_same tables q s outs e o) ∙ h
+
+pub sorting_same : (tables : List TableShape) (q : SelectTree) (s : Scope) (outs : List Output) → s ≡ from_scope tables q.core.from → outs ≡ core_outputs tables q.core
+    → sorting_in s outs q ≡ sorting_in (from_scope tables q.core.from) (core_outputs tables q.core) q
+sorting_same tables q s outs e o = ap (λ (s : Scope). sorting_in s outs q) e ∙ ap (λ (os : List Output). sorting_in (from_scope tables q.core.from) os q) o
+
+-- ---- what is asked of the entries of a core, part by part
+
+pub item_told : (tables : List TableShape) (s : Scope) (q : CoreTree) (items : List ItemTree) (c : Cause) → items ≡ q.items → TellsCause (flat_map (item_name_causes s) items) c → TellsCause (core_causes_in tables s q) c
+item_told tables s q items c e t = tells_right (flat_map (chain_name_causes tables) q.from) _ c (tells_left _ _ c (subst (λ xs. TellsCause (flat_map (item_name_causes s) xs) c) e t))
+
+pub condition_told : (tables : List TableShape) (s : Scope) (q : CoreTree) (c : Cause) → TellsCause (condition_name_causes s q.condition) c → TellsCause (core_causes_in tables s q) c
+condition_told tables s q c t = tells_right (flat_map (chain_name_causes tables) q.from) _ c (tells_right (flat_map (item_name_causes s) q.items) _ c (tells_left _ _ c t))
+
+pub group_told : (tables : List TableShape) (s : Scope) (q : CoreTree) (groups : List GroupTree) (c : Cause) → groups ≡ q.groups → TellsCause (flat_map (group_name_causes s) groups) c → TellsCause (core_causes_in tables s q) c
+group_told tables s q groups c e t =
+    tells_right (flat_map (chain_name_causes tables) q.from) _ c
+    (tells_right (flat_map (item_name_causes s) q.items) _ c
+    (tells_right (condition_name_causes s q.condition) _ c (tells_left _ _ c (subst (λ xs. TellsCause (flat_map (group_name_causes s) xs) c) e t))))
+
+pub having_told : (tables : List TableShape) (s : Scope) (q : CoreTree) (c : Cause) → TellsCause (condition_name_causes s q.having) c → TellsCause (core_causes_in tables s q) c
+having_told tables s q c t =
+    tells_right (flat_map (chain_name_causes tables) q.from) _ c
+    (tells_right (flat_map (item_name_causes s) q.items) _ c
+    (tells_right (condition_name_causes s q.condition) _ c (tells_right (flat_map (group_name_causes s) q.groups) _ c t)))
+
+-- ---- a core
+
+pub core_told : (tables : List TableShape) (q : CoreTree) (s : Scope) (c : Cause) → s ≡ from_scope tables q.from → TellsCause (core_causes_in tables s q) c → TellsCause (core_asked_causes tables q) c
+core_told tables q s c e t = subst (λ (s : Scope). TellsCause (core_causes_in tables s q) c) e t
+
+pub core_clear : (tables : List TableShape) (q : CoreTree) (s : Scope) → s ≡ from_scope tables q.from → core_causes_in tables s q ≡ [] → core_asked_causes tables q ≡ []
+core_clear tables q s e h = ap (λ (s : Scope). core_causes_in tables s q) (sym e) ∙ h
+
+formed_in : (tables : List TableShape) (sorting : Sorting) (number : ℕ) (c : CoreTree) (a : AskedCore) → IsAsked tables (from_scope tables c.from) number c a → core_with c sorting a ≡ core_meant tables sorting number c
+formed_in tables sorting number c a h = rw (h.from, h.items, h.conditions, h.places, h.having) refl
+
+pub formed : (tables : List TableShape) (sorting : Sorting) (number : ℕ) (c : CoreTree) (s : Scope) (a : AskedCore) → s ≡ from_scope tables c.from → IsAsked tables s number c a → core_with c sorting a ≡ core_meant tables sorting number c
+formed tables sorting number c s a e h = formed_in tables sorting number c a (subst (λ (s : Scope). IsAsked tables s number c a) e h)
+
+pub types_same : (tables : List TableShape) (c : CoreTree) (s : Scope) (kinds : List ColType) (items : List Tree) → s ≡ from_scope tables c.from → kinds ≡ column_kinds (columns_of s) → items ≡ output_values (outputs_of s c.items)
+    → map (tree_type kinds) items ≡ core_types tables c
+types_same tables c s kinds items e k i =
+    ap (λ (ks : List ColType). map (tree_type ks) items) k ∙ ap (map (tree_type (column_kinds (columns_of s)))) i
+    ∙ ap (λ (s : Scope). map (tree_type (column_kinds (columns_of s))) (output_values (outputs_of s c.items))) e
+
+-- ---- one core after another
+
+pub pushed : {X Y : Type 0} (f : X → Y) (old new : List X) (x : X) (y : Y) → new ≡ old ++ x ∷ [] → f x ≡ y → map f new ≡ map f old ++ y ∷ []
+pushed f old new x y e h = ap (map f) e ∙ map-append f old (x ∷ []) ∙ ap (λ z. map f old ++ z ∷ []) h
+
+pub cores_next : (tables : List TableShape) (sorting : Sorting) (all out new : List CoreForm) (n m : ℕ) (xs : List Core) (i : ℕ) (x : Core) → out ++ cores_meant tables sorting n (map core_tree (drop i xs)) ≡ all → i < length xs → x ≡ get_or xs i x
+    → m ≡ n + length (entries_of (core_tree x).from) → new ≡ out ++ core_meant tables sorting n (core_tree x) ∷ [] → new ++ cores_meant tables sorting m (map core_tree (drop (i + 1) xs)) ≡ all
+cores_next tables sorting all out new n m xs i x e lt read g h =
+    let rest = map core_tree (drop (i + 1) xs) in
+    ap (λ k. new ++ cores_meant tables sorting k rest) g
+    ∙ added_after all out new (core_meant tables sorting n (core_tree x) ∷ []) (cores_meant tables sorting (n + length (entries_of (core_tree x).from)) rest)
+    (ap (λ ys. out ++ cores_meant tables sorting n (map core_tree ys)) (sym (drop_read xs i x lt read)) ∙ e) h

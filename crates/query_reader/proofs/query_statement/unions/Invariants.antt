@@ -1,0 +1,11 @@
+use Rattle.std.proofs.Common.{length, map}
+use Rattle.expr_grammar.specs.SymbolView.{terminals_of}
+use Rattle.med_syntax.specs.QueryView.{core_tree}
+use Rattle.query_reader.proofs.QueryLoop.{UnionsLoop}
+use Rattle.query_reader.proofs.query_statement.unions.Given as goal
+
+abbrev pub invariant-loop-after : goal.invariant-loop-after
+invariant-loop-after l = UnionsLoop l.room (terminals_of l.symbols) (map core_tree l.others.items) (terminals_of l.rest)
+
+abbrev pub decreases-loop-after : goal.decreases-loop-after
+decreases-loop-after l = length (terminals_of l.rest)

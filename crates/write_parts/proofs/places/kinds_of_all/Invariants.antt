@@ -1,7 +1,0 @@
-use Rattle.std.proofs.Common.{◌≡◌, ◌++◌, map, drop}
-use Rattle.tri_expr.specs.Tree.{tree}
-use Rattle.write_parts.specs.Kinds.{tree_type}
-use Rattle.write_parts.proofs.places.kinds_of_all.Given as goal
-
-abbrev pub invariant-loop-value : goal.invariant-loop-value
-invariant-loop-value l = l.out.items ++ map (tree_type l.kinds) (map tree (drop l.value-index l.values)) ≡ map (tree_type l.kinds) (map tree l.values)
