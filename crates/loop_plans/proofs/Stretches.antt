@@ -5,11 +5,11 @@ use Rattle.std.specs.List.{range_with_len}
 abbrev pub stretch : {X : Type 0} → List X → ℕ → ℕ → List X
 stretch xs first n = take n (drop first xs)
 
-none_taken : {X : Type 0} (n : ℕ) → take n ([] {X}) ≡ []
+none_taken : {X : Type 0} (n : ℕ) → take {A = X} n [] ≡ []
 none_taken zero = refl
 none_taken (suc n) = refl
 
-none_dropped : {X : Type 0} (n : ℕ) → drop n ([] {X}) ≡ []
+none_dropped : {X : Type 0} (n : ℕ) → drop {A = X} n [] ≡ []
 none_dropped zero = refl
 none_dropped (suc n) = refl
 
