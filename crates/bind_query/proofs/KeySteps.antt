@@ -1,5 +1,5 @@
 -- Keys of ORDER BY and GROUP BY.
-use Rattle.std.proofs.Common.{◌≡◌, ℕ, ◌-◌, ◌<◌, ◌≤◌, nat_le, Bool, true, false, ◌&&◌, if◌then◌else◌, List, [], ◌∷◌, length, map, filter, drop, get_or, refl, ap, sym, ◌∙◌, subst, arith, zero, suc, Option, Some, None, slice_get, flat_map, Result}
+use Rattle.std.proofs.Common.{◌≡◌, ℕ, ◌-◌, ◌<◌, ◌≤◌, nat_le, Bool, true, false, ◌&&◌, if◌then◌else◌, List, [], ◌∷◌, length, map, filter, drop, get_or, refl, ap, sym, ◌∙◌, subst, arith, zero, suc, Some, None, slice_get, flat_map, Result}
 use Rattle.std.specs.List.{list_all}
 use Rattle.std.proofs.lemmas.Bool.{le-leb, leb-true}
 use Rattle.std.proofs.lemmas.List.{drop-map, length-map}

@@ -253,7 +253,11 @@ fn places_named(outputs: &[Shown], name: &str) -> FoundPlaces
 }
 
 // The place of the output of this name: 42702 where there are several.
-#[tactic(auto, using(bind_names::proofs::Causes::tells_one, crate::proofs::KeySteps::place_none, crate::proofs::KeySteps::place_one, crate::proofs::KeySteps::place_several))]
+#[tactic(auto, using(
+// one cause alone
+bind_names::proofs::Causes::tells_one,
+// outputs by their places
+crate::proofs::KeySteps::place_none, crate::proofs::KeySteps::place_one, crate::proofs::KeySteps::place_several))]
 fn place_named(outputs: &[Shown], name: &str) -> Result<usize, Cause>
     ensures { Means (λ (p : ℕ). p) (output_key_causes (map output_of outputs.now) (output_name name.now))
         (spec.output_place (map output_of outputs.now) (output_name name.now)) result }
@@ -266,7 +270,11 @@ fn place_named(outputs: &[Shown], name: &str) -> Result<usize, Cause>
 }
 
 // The place of the output in this position, counted from 1: 42P10 where there is none.
-#[tactic(auto, using(bind_names::proofs::Causes::tells_one, crate::proofs::KeySteps::position_zero, crate::proofs::KeySteps::position_past, crate::proofs::KeySteps::position_there))]
+#[tactic(auto, using(
+// one cause alone
+bind_names::proofs::Causes::tells_one,
+// positions of outputs
+crate::proofs::KeySteps::position_zero, crate::proofs::KeySteps::position_past, crate::proofs::KeySteps::position_there))]
 fn place_at(outputs: &[Shown], number: u64) -> Result<usize, Cause>
     ensures { Means (λ (p : ℕ). p) (output_key_causes (map output_of outputs.now) (position number))
         (spec.output_place (map output_of outputs.now) (position number)) result }

@@ -1,5 +1,5 @@
 -- The form of a query counts the entries of FROM from 0 on, and knows how many columns they bring.
-use Rattle.std.proofs.Common.{◌≡◌, ℕ, zero, suc, ◌+◌, ◌*◌, ◌≤◌, List, [], ◌∷◌, ◌++◌, Option, Some, None, All, flat_map, map, drop, sum, length, option_map, unwrap_or, slice_get, refl, sym, ap, ◌∙◌, arith, drop-drop, append_assoc}
+use Rattle.std.proofs.Common.{◌≡◌, ℕ, zero, suc, ◌+◌, ◌*◌, ◌≤◌, List, [], ◌∷◌, ◌++◌, Option, Some, None, All, map, drop, sum, length, option_map, unwrap_or, slice_get, refl, sym, ap, ◌∙◌, arith, drop-drop, append_assoc}
 use Rattle.std.specs.List.{range_with_len}
 use Rattle.std.specs.Option.{option_and_then}
 use Rattle.std.proofs.lemmas.List.{length-map, length-append}

@@ -14,7 +14,7 @@ use Rattle.med_syntax.specs.QueryTree.{ItemTree, all, all_of as all_of_entry, va
 use Rattle.tri_expr.specs.declared.expr.SetFunction.{SetFunction}
 use Rattle.tri_expr.specs.Tree.{Tree, Trees, conjunct_trees, conjuncts_of_all, column, parameter, literal, compare, compute, negate, all_of, some_of, opposite, asks, between, within, matches, parenthesised, count_rows, aggregate, none, part}
 use Rattle.tri_expr.specs.TreeParts.{arguments_in, arguments_in_all}
-use Rattle.med_query.specs.Form.{GroupForm, CoreForm}
+use Rattle.med_query.specs.Form.{GroupForm}
 use Rattle.med_value.specs.Datum.{NoValue}
 use Rattle.bind_names.specs.Scope.{TableShape, Scope, is_meant, has_entry, places_from, candidates_from, candidates, columns_of, joined_entry, chain_entries, entries_of, query_entries, entry_columns, entry_shape, from_scope}
 use Rattle.bind_names.specs.Naming.{counted_causes, column_causes, name_causes, name_causes_of_all, item_name_causes, condition_name_causes, on_name_causes, joins_name_causes, chain_name_causes, group_name_causes, distinct_causes, sort_key_causes, key_name_causes, core_asked_causes, place_name_causes, order_name_causes, NameCauses}

@@ -1,5 +1,5 @@
 -- Names of a query, looked up part by part.
-use Rattle.std.proofs.Common.{◌≡◌, inl, inr, List, [], ◌∷◌, ◌++◌, map, flat_map, refl, ap, sym, subst, ◌∙◌, arith}
+use Rattle.std.proofs.Common.{◌≡◌, inl, inr, List, [], ◌∷◌, map, flat_map, refl, ap, sym, subst, ◌∙◌, arith}
 use Rattle.med_value.specs.declared.cause.Cause.{Cause}
 use Rattle.med_syntax.specs.QueryTree.{EntryTree, CoreTree, SelectTree, cores_of}
 use Rattle.bind_names.specs.Scope.{TableShape, visible, exposed_name, entry_shape, entries_of, query_entries, from_scope}

@@ -1,7 +1,7 @@
 -- The numbers by which the cores of a query count their entries, and what stands there.
 use Rattle.std.proofs.Common.{◌≡◌, ℕ, zero, suc, ◌+◌, List, [], ◌∷◌, ◌++◌, flat_map, map, drop, length, slice_index_or, refl, sym, ap, ◌∙◌, arith, append_assoc}
 use Rattle.std.specs.List.{range_with_len}
-use Rattle.std.proofs.lemmas.List.{length-map, length-append, map-append}
+use Rattle.std.proofs.lemmas.List.{length-map, length-append}
 use Rattle.med_syntax.specs.QueryTree.{EntryTree, JoinTree, inner_join, left_join, cross_join, ChainTree, CoreTree}
 use Rattle.bind_names.specs.Scope.{TableShape, Scope, joined_entry, chain_entries, entries_of, entry_columns, entry_shape}
 use Rattle.bind_names.specs.Meaning.{join_meant, with_join, joins_meant, chain_meant, chains_meant, Sorting, core_meant, cores_meant}

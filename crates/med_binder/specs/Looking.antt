@@ -1,8 +1,7 @@
 -- What looking up the names of a query answers.
-use Rattle.std.specs.Prelude.{◌≡◌, ℕ, ◌+◌, List, [], ◌∷◌, ◌++◌, length, map, flat_map, string_bytes, All, Option, Vec, Result, Ok, Err}
+use Rattle.std.specs.Prelude.{◌≡◌, ℕ, ◌+◌, List, [], ◌∷◌, ◌++◌, length, map, flat_map, string_bytes, All, Result, Ok, Err}
 use Rattle.med_value.specs.declared.cause.Cause.{Cause}
 use Rattle.med_value.specs.declared.cause.Cause.TheVariants.{OutOfMemory}
-use Rattle.med_value.specs.declared.value.ColType.{ColType}
 use Rattle.med_syntax.specs.QueryTree.{CoreTree, SelectTree}
 use Rattle.tri_expr.specs.Tree.{tree}
 use Rattle.med_query.specs.Form.{CoreForm, chain_form, core_form}
@@ -15,7 +14,6 @@ use Rattle.bind_names.specs.declared.table.AttachedTable.{AttachedTable}
 use Rattle.bind_types.specs.Kinds.{types_in}
 use Rattle.bind_types.specs.Typing.{core_types, answer_types}
 use Rattle.bind_query.specs.Resolving.{sorting_form}
-use Rattle.bind_query.specs.Shown.{output_of}
 use Rattle.med_binder.specs.Binding.{IsMeant, IsEntryOf, bound_kinds}
 use Rattle.med_binder.specs.declared.bound.BoundQuery.{BoundQuery}
 use Rattle.med_binder.specs.declared.cores.AskedCore.{AskedCore}
@@ -94,7 +92,7 @@ pub record IsAdded (tables : List TableShape) (sorting : Sorting) (number : ℕ)
     : Type 0 where
   pub forms : map core_form new.cores.items ≡ map core_form old.cores.items ++ core_meant tables sorting number c ∷ []
   pub kinds : map types_in new.kinds.items ≡ map types_in old.kinds.items ++ core_types tables c ∷ []
-  pub next : next ≡ number + length (entries_of c.from)
+  pub behind : next ≡ number + length (entries_of c.from)
   pub clear : core_asked_causes tables c ≡ []
 
 abbrev pub AddsCore : List TableShape → Sorting → ℕ → CoreTree → ResolvedCores → ResolvedCores → Result ℕ Cause → Type 0

@@ -5,8 +5,8 @@
 //! `bind` answers; `specs/Within.antt`, `specs/Counted.antt` and `specs/Alike.antt` say what the laws in `law` speak of.
 //!
 //! `bind` looks all names up (`src/look_up.rt`, core by core `src/cores.rt`), then has the types of what is written checked, then where
-//! aggregates and columns stand, and last whether the outputs of the cores fit. A form of expression is a line in `name_causes`, `type_of`, `type_causes` and `resolved`, and an arm in `src/resolve.rt` of `bind_query`
-//! and in `src/typing.rt` of `bind_types`.
+//! aggregates and columns stand, and last whether the outputs of the cores fit. A form of expression is a line in `name_causes`,
+//! `type_of`, `type_causes` and `resolved`, and an arm in `src/resolve.rt` of `bind_query` and in `src/typing.rt` of `bind_types`.
 #![tactic(auto)]
 
 mod binding;

@@ -1,5 +1,5 @@
 //! The names of a query.
-#![tactic(auto, using(bind_names::proofs::Causes::tells_left, bind_names::proofs::Causes::tells_right, bind_names::proofs::Causes::tells_memory, bind_names::proofs::Causes::tells_one, bind_names::proofs::Causes::none_of_two, crate::proofs::LookSteps::table_told))]
+#![tactic(auto, using(bind_names::proofs::Causes::tells_left, bind_names::proofs::Causes::tells_right, bind_names::proofs::Causes::tells_memory, bind_names::proofs::Causes::tells_one, bind_names::proofs::Causes::none_of_two))]
 
 ghost use Rattle.bind_names.specs.Meaning.{rows_left};
 ghost use Rattle.bind_names.specs.Naming.{core_alias_causes};

@@ -16,12 +16,12 @@ returns-then-is_empty c =
     let s = scope_of c.args.scope.now in
     let outs = map output_of c.args.outputs.now in
     let q = select_tree c.args.select.now in
-    sorts_alone s outs c.args.select.now _ (sym (ap length c.as_slice-2.ensures.value) ∙ eqb-true (length c.as_slice-2.result.now) 0 (sym c.if-is_empty.ensures))
-    (subst (λ (ks : List OrderKey). Means sorting_form (flat_map (key_name_causes s q.core.distinct outs) (map key_tree ks)) (by_keys (map (key_meant s outs) (map key_tree ks))) c.by_keys.result) c.as_slice.ensures.value c.by_keys.ensures)
+    sorts_alone s outs c.args.select.now _ (sym (ap length c.as_slice.ensures.value) ∙ eqb-true (length c.as_slice.result.now) 0 (sym c.if-is_empty.ensures))
+    (subst (λ (ks : List OrderKey). Means sorting_form (flat_map (key_name_causes s q.core.distinct outs) (map key_tree ks)) (by_keys (map (key_meant s outs) (map key_tree ks))) c.by_keys.result) c.as_slice-written.ensures.value c.by_keys.ensures)
 
 pub returns-else-is_empty : goal.returns-else-is_empty
 returns-else-is_empty c =
     let s = scope_of c.args.scope.now in
     let outs = map output_of c.args.outputs.now in
-    sorts_several s outs c.args.select.now _ (λ e. eqb-false (length c.as_slice-2.result.now) 0 (sym c.if-is_empty.ensures) (ap length c.as_slice-2.ensures.value ∙ e))
-    (subst (λ (ks : List OrderKey). Means sorting_form (flat_map (place_name_causes outs) (map key_tree ks)) (by_places (map (key_place outs) (map key_tree ks))) c.by_places.result) c.as_slice.ensures.value c.by_places.ensures)
+    sorts_several s outs c.args.select.now _ (λ e. eqb-false (length c.as_slice.result.now) 0 (sym c.if-is_empty.ensures) (ap length c.as_slice.ensures.value ∙ e))
+    (subst (λ (ks : List OrderKey). Means sorting_form (flat_map (place_name_causes outs) (map key_tree ks)) (by_places (map (key_place outs) (map key_tree ks))) c.by_places.result) c.as_slice-written.ensures.value c.by_places.ensures)

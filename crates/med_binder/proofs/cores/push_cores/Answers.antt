@@ -30,7 +30,7 @@ loop-core-preserved c =
     let added = c.in_ok-number.ensures in
     record {
       causes = next_causes _ (f (core_tree c.core-item.result)) _ (c.loop-core.invariant.causes ∙ ap (λ xs. flat_map f (map core_tree xs)) at) added.clear;
-      forms = cores_next tables (sorting_form c.args.sorting.now) _ _ _ c.loop-core.number _ c.args.cores.now c.loop-core.core-index c.core-item.result c.loop-core.invariant.forms lt c.core-item.is added.next added.forms;
+      forms = cores_next tables (sorting_form c.args.sorting.now) _ _ _ c.loop-core.number _ c.args.cores.now c.loop-core.core-index c.core-item.result c.loop-core.invariant.forms lt c.core-item.is added.behind added.forms;
       kinds = added_after _ (map types_in c.loop-core.out.kinds.items) _ (g (core_tree c.core-item.result) ∷ []) _
           (ap (λ xs. map types_in c.loop-core.out.kinds.items ++ map g (map core_tree xs)) (sym at) ∙ c.loop-core.invariant.kinds) added.kinds;
     }

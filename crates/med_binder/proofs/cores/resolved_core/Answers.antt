@@ -1,4 +1,4 @@
-use Rattle.std.proofs.Common.{◌≡◌, List, map, ap, sym, ◌∙◌}
+use Rattle.std.proofs.Common.{List, map, ap, sym, ◌∙◌}
 use Rattle.std.proofs.lemmas.Result.{err_from_is_err_and}
 use Rattle.med_syntax.specs.declared.statement.Chain.{Chain}
 use Rattle.med_syntax.specs.QueryView.{chain_tree, core_tree}

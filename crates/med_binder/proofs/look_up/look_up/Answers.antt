@@ -8,6 +8,11 @@ use Rattle.bind_names.specs.Seen.{seen_entry}
 use Rattle.med_binder.proofs.LookSteps.{table_told, name_told, entered_clear, head_told, cores_told, all_clear}
 use Rattle.med_binder.proofs.look_up.look_up.Goals as goal
 
+pub returns-in_err-entries : goal.returns-in_err-entries
+returns-in_err-entries c =
+    let p = err_from_is_err_and c.from_residual-in_err-entries.result c.from_residual-in_err-entries.ensures.1 in
+    rw (p.1, p.2) (table_told (map table_shape c.args.tables.now) (select_tree c.args.select.now) _ _ (ap (map seen_entry) c.as_slice.ensures.value ∙ c.in_ok-written.ensures.0) c.in_err-entries.ensures)
+
 pub returns-in_err-check_entry_names : goal.returns-in_err-check_entry_names
 returns-in_err-check_entry_names c =
     let p = err_from_is_err_and c.from_residual-in_err-check_entry_names.result c.from_residual-in_err-check_entry_names.ensures.1 in
