@@ -15,7 +15,6 @@ use Rattle.bind_types.specs.Kinds.{types_in}
 use Rattle.bind_types.specs.Typing.{answer_types, select_type_causes}
 use Rattle.med_binder.specs.Binding.{IsBound, bound_kinds, BindCauses, BindTells}
 use Rattle.med_binder.specs.Within.{widths}
-use Rattle.med_binder.specs.declared.bound.BoundEntry.{BoundEntry}
 use Rattle.med_binder.specs.declared.bound.BoundQuery.{BoundQuery}
 use Rattle.med_binder.specs.Place as offered
 use Rattle.med_catalog.specs.Objects.{Objects, table_named}

@@ -1,4 +1,4 @@
-use Rattle.std.proofs.Common.{◌≡◌, ◌⊎◌, ◌∙◌, ap, sym, subst, refl, map}
+use Rattle.std.proofs.Common.{◌≡◌, ◌⊎◌, sym, subst, refl, map}
 use Rattle.std.proofs.lemmas.Result.{err_from_is_err_and}
 use Rattle.med_syntax.specs.QueryTree.{StatementTree, select}
 use Rattle.med_syntax.specs.QueryView.{select_tree}
