@@ -19,6 +19,7 @@ fn cursors(rt: HostRuntime) -> Result<(), Fail> {
         => DECLARE \"C d\" CURSOR FOR SELECT DISTINCT \"no\" FROM \"orders\" ORDER BY \"no\" ASC NULLS LAST LIMIT 2 OFFSET 1\n\
         DECLARE c CURSOR FOR SELECT \"id\" FROM \"parts\" UNION ALL SELECT \"part\" FROM \"orders\" ORDER BY \"id\" DESC NULLS FIRST LIMIT 3 \
         => DECLARE \"c\" CURSOR FOR SELECT \"id\" FROM \"parts\" UNION ALL SELECT \"part\" FROM \"orders\" ORDER BY \"id\" DESC NULLS FIRST LIMIT 3\n\
+        DECLARE c CURSOR FOR SELECT 1 UNION SELECT 2 => Syntax\n\
         DECLARE insensitive INSENSITIVE CURSOR FOR SELECT 1 => DECLARE \"insensitive\" CURSOR FOR SELECT 1\n\
         DECLARE cursor CURSOR FOR SELECT 1 => DECLARE \"cursor\" CURSOR FOR SELECT 1\n\
         FETCH c => FETCH 1 FROM \"c\"\n\

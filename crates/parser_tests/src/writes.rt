@@ -31,6 +31,9 @@ fn inserts(rt: HostRuntime) -> Result<(), Fail> {
         INSERT INTO t SELECT a b FROM u WHERE c LIMIT 1; => INSERT INTO \"t\" SELECT \"a\" AS \"b\" FROM \"u\" WHERE \"c\" LIMIT 1\n\
         INSERT INTO t (a) SELECT DISTINCT 1 ORDER BY a NULLS FIRST => INSERT INTO \"t\" ( \"a\" ) SELECT DISTINCT 1 ORDER BY \"a\" ASC NULLS FIRST\n\
         INSERT INTO t SELECT \"id\" FROM \"parts\" UNION ALL SELECT \"part\" FROM \"orders\" ORDER BY \"id\" DESC NULLS FIRST LIMIT 3 => INSERT INTO \"t\" SELECT \"id\" FROM \"parts\" UNION ALL SELECT \"part\" FROM \"orders\" ORDER BY \"id\" DESC NULLS FIRST LIMIT 3\n\
+        INSERT INTO t (a) SELECT 1 UNION ALL SELECT NULL; => INSERT INTO \"t\" ( \"a\" ) SELECT 1 UNION ALL SELECT NULL\n\
+        INSERT INTO t SELECT 1 UNION SELECT 2 => Syntax\n\
+        INSERT INTO t VALUES (1) UNION ALL SELECT 2 => Syntax\n\
         INSERT INTO nulls (first, row) VALUES (1, 2) => INSERT INTO \"nulls\" ( \"first\" , \"row\" ) VALUES ( 1 , 2 )",
     )
 }
