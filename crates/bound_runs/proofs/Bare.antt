@@ -8,7 +8,7 @@ use Rattle.med_query.specs.declared.select.SelectCore.{SelectCore}
 use Rattle.med_planner.specs.Plain.{IsBareForm}
 use Rattle.fdw_api.specs.Wishes.{WishForm}
 use Rattle.fdw_api.specs.declared.wishes.Agreement2.{Agreement2}
-use Rattle.med_binder.specs.Counted.{chain_numbers, CoreCounts, bound_widths, FormCounts}
+use Rattle.med_binder.specs.Counted.{chain_numbers, core_numbers, CoreCounts, bound_widths, FormCounts}
 use Rattle.med_binder.specs.declared.bound.BoundEntry.{BoundEntry}
 use Rattle.med_binder.specs.declared.bound.BoundQuery.{BoundQuery}
 use Rattle.scan_loops.specs.Pulling.{IsBareRun}
@@ -66,11 +66,12 @@ shows_all b answers loops ls bare h is =
 
 some_entry : (es : List BoundEntry) (f : CoreForm) (table : ℕ) → f.from ≡ only table → CoreCounts (map (λ (e : BoundEntry). e.width) es) f → 0 < length es
 some_entry [] f table from counts =
-    let none : flat_map chain_numbers (only table) ≡ [] = subst (λ (cs : List ChainForm). flat_map chain_numbers cs ≡ []) from counts.numbers in
-    absurd cc
+    let one : length (core_numbers f) ≡ 1 = ap (λ (cs : List ChainForm). length (flat_map chain_numbers cs)) from in
+    let among = counts.among in
+    absurd (omega (arith, one, among))
 some_entry (e ∷ es) f table from counts = omega arith
 
 pub has_entry : (b : BoundQuery) → IsBareForm (form_of b.select) → FormCounts (bound_widths b) (form_of b.select) → 0 < length b.entries.items
 has_entry b bare counts =
     some_entry b.entries.items bare.plain.core bare.table bare.from
-    (All-head (CoreCounts (bound_widths b)) bare.plain.core [] (subst (λ (fs : List CoreForm). All (CoreCounts (bound_widths b)) fs) bare.plain.alone counts))
+    (All-head (CoreCounts (bound_widths b)) bare.plain.core [] (subst (λ (fs : List CoreForm). All (CoreCounts (bound_widths b)) fs) bare.plain.alone counts.cores))

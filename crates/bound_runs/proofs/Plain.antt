@@ -114,11 +114,11 @@ one_if b = if b then 1 else 0
 one_here : (n : ℕ) → one_if (nat_eq n n) ≡ suc zero
 one_here n = ap one_if (same_slot n)
 
-some_level : (lists : List (List LoopLevel)) (es : List BoundEntry) → length lists ≡ 1 → 0 < length es → ((slot : ℕ) → scans_in (all_levels lists) slot ≡ 1 * tables_in slot (map entry_place es)) → 0 < length (slice_index_or lists 0 [])
+some_level : (lists : List (List LoopLevel)) (es : List BoundEntry) → length lists ≡ 1 → 0 < length es → ((slot : ℕ) → scans_in (all_levels lists) slot ≡ tables_in slot (map entry_place es)) → 0 < length (slice_index_or lists 0 [])
 some_level [] es one some counts = absurd cc
 some_level (ls ∷ more) [] one some counts = absurd (omega arith)
 some_level ([] ∷ []) (e ∷ es) one some counts =
-    let here : zero ≡ 1 * (one_if (nat_eq e.source e.source) + tables_in e.source (map entry_place es)) = counts e.source in
+    let here : zero ≡ one_if (nat_eq e.source e.source) + tables_in e.source (map entry_place es) = counts e.source in
     let there : one_if (nat_eq e.source e.source) ≡ suc zero = one_here e.source in
     absurd (omega (arith, here, there))
 some_level ((l ∷ ls) ∷ more) (e ∷ es) one some counts = omega arith
@@ -129,10 +129,9 @@ unordered boxes b plan made plain safe some =
     let bound_one : length b.select.cores.items ≡ 1 = one_core b.select.cores.items plain.core plain.alone in
     let one : length plan.select.cores.items ≡ 1 = ap (λ (s : Select). length s.cores.items) made.query ∙ bound_one in
     let loops : length plan.loops.items ≡ 1 = made.run.many ∙ one in
-    let counts : (slot : ℕ) → scans_in (plan_levels plan) slot ≡ 1 * tables_in slot (map entry_place b.entries.items) = λ slot. made.scans slot ∙ ap (λ (n : ℕ). n * tables_in slot (map entry_place b.entries.items)) bound_one in
     record {
       core = one;
       loops = loops;
-      some = some_level (levels_in plan.loops.items) b.entries.items (length-map plan.loops.items (λ ls. ls.items) ∙ loops) some counts;
+      some = some_level (levels_in plan.loops.items) b.entries.items (length-map plan.loops.items (λ ls. ls.items) ∙ loops) some made.scans;
       streamed = subst (λ (s : Select). IsStreamed s) (sym made.query) (streamed b.select plain safe);
     }

@@ -271,7 +271,7 @@ in_order plan s same (inr (c, l, levels, comes)) = inr (record { core = c; level
 
 pub plan_for : (boxes : List (Option BoxState)) (bound : BoundQuery) (plan : LoopPlan) (w : WishForm) (answers : List (List Agreement2)) → CountedIsInView → CountedIsWide → PlansCanStart → PlansAreLoopPlans → WishedComeInOrder → UnwishedAreUnlimited → IsReady boxes bound → HasPlaces bound.entries.items
     → plan.select ≡ bound.select → w ≡ query_wish bound → AllAllowed boxes w (query_offers bound) answers → AllLevels w (query_offers bound) answers (levels_in plan.loops.items) → IsPlanFor boxes bound plan
-plan_for boxes bound plan w answers in_view counted_wide can_start are_plans wished unwished ready places same is_wish allowed levels = record { query = same; run = run; scans = λ slot. all_scans slot bound.entries.items bound.select.cores.items w answers (levels_in plan.loops.items) ready.counts levels; agreed = agreed; over = over }
+plan_for boxes bound plan w answers in_view counted_wide can_start are_plans wished unwished ready places same is_wish allowed levels = record { query = same; run = run; scans = λ slot. all_scans slot bound.entries.items bound.select.cores.items w answers (levels_in plan.loops.items) ready.counts.numbers levels; agreed = agreed; over = over }
   where
     known : Known boxes bound.entries.items ready.kinds
     known = record { in_view = in_view; counted_wide = counted_wide; can_start = can_start; are_plans = are_plans; wished = wished; unwished = unwished; typed = ready.typed; places = places; wide = ready.wide }
@@ -289,14 +289,14 @@ plan_for boxes bound plan w answers in_view counted_wide can_start are_plans wis
     run : CanRun boxes plan
     run = record {
       many = (let a = as_many bound.entries.items bound.select.cores.items w answers (levels_in plan.loops.items) levels in let b = length-map plan.loops.items (λ (ls : _). ls.items) in let c = ap (λ (ss : List SelectCore). length ss) cores in omega (arith, a, b, c));
-      starts = all_start boxes bound.entries.items ready.kinds known bound.select.cores.items w answers (levels_in plan.loops.items) ready.counts ready.alike ready.safe allowed levels;
+      starts = all_start boxes bound.entries.items ready.kinds known bound.select.cores.items w answers (levels_in plan.loops.items) ready.counts.cores ready.alike ready.safe allowed levels;
       safe = ap are_safe_cores cores ∙ ready.safe;
-      limits = in_order plan bound.select same (limits boxes bound.entries.items ready.kinds known bound.select w bound.select.cores.items answers (levels_in plan.loops.items) refl is_wish ready.counts ready.view allowed levels);
+      limits = in_order plan bound.select same (limits boxes bound.entries.items ready.kinds known bound.select w bound.select.cores.items answers (levels_in plan.loops.items) refl is_wish ready.counts.cores ready.view allowed levels);
     }
 
     over : AllHonest boxes → IsPlanOver (entry_rows boxes (map entry_place bound.entries.items)) plan boxes
     over honest = record {
       honest = honest;
       planned = subst (λ (ss : List SelectCore). ArePlanned (rows_at boxes) (entry_rows boxes (map entry_place bound.entries.items)) ss (levels_in plan.loops.items)) (sym cores)
-          (all_planned boxes bound.entries.items ready.kinds known bound.select.cores.items w answers (levels_in plan.loops.items) ready.counts ready.view honest levels);
+          (all_planned boxes bound.entries.items ready.kinds known bound.select.cores.items w answers (levels_in plan.loops.items) ready.counts.cores ready.view honest levels);
     }

@@ -1,5 +1,5 @@
 -- A core reads the tables of its entries, and no others.
-use Rattle.std.proofs.Common.{◌≡◌, ℕ, zero, suc, ◌+◌, ◌<◌, List, [], ◌∷◌, ◌++◌, map, length, flat_map, slice_get, Option, Some, None, refl, ap, sym, ◌∙◌, subst, arith}
+use Rattle.std.proofs.Common.{◌≡◌, ℕ, zero, suc, ◌+◌, ◌<◌, ◌≤◌, List, [], ◌∷◌, ◌++◌, map, length, flat_map, slice_get, Option, Some, None, refl, ap, sym, ◌∙◌, subst, arith}
 use Rattle.std.specs.List.{range_with_len, filter}
 use Rattle.std.proofs.lemmas.List.{length-map}
 use Rattle.med_value.specs.Datum.{Tuple}
@@ -8,7 +8,7 @@ use Rattle.med_query.specs.Query.{Tables, Chain, Table, joined_chain, joined_cha
 use Rattle.med_query.specs.Form.{JoinForm, cross_form, inner_form, left_form, ChainForm, CoreForm, core_form, join_by, joins_by, chain_by}
 use Rattle.med_query.specs.Select.{core_of}
 use Rattle.med_query.specs.declared.select.SelectCore.{SelectCore}
-use Rattle.med_binder.specs.Counted.{joined_number, chain_numbers, CoreCounts}
+use Rattle.med_binder.specs.Counted.{joined_number, chain_numbers, core_numbers, CoreCounts}
 use Rattle.med_binder.specs.declared.bound.BoundEntry.{BoundEntry}
 use Rattle.fdw_api.specs.State.{BoxState}
 use Rattle.med_binder.specs.Place.{entry_place}
@@ -20,7 +20,7 @@ use Rattle.loop_plans.specs.Premises.{widths_in}
 
 -- ---- the numbers of entries
 
-range_below : (a n end : ℕ) → a + n ≡ end → Each (λ k. k < end) (range_with_len a n)
+range_below : (a n end : ℕ) → a + n ≤ end → Each (λ k. k < end) (range_with_len a n)
 range_below a zero end e = tt
 range_below a (suc n) end e = (omega (arith, e), range_below (a + 1) n end (omega (arith, e)))
 
@@ -28,7 +28,8 @@ range_below a (suc n) end e = (omega (arith, e), range_below (a + 1) n end (omeg
 pub numbers_below : (es : List BoundEntry) (f : CoreForm) → CoreCounts (widths_in es) f → Each (λ k. k < length es) (flat_map chain_numbers f.from)
 numbers_below es f counts =
     let long = length-map es (λ (e : BoundEntry). e.width) in
-    subst (λ (ks : List ℕ). Each (λ k. k < length es) ks) (sym counts.numbers) (range_below 0 (length (widths_in es)) (length es) (omega (arith, long)))
+    let among = counts.among in
+    subst (λ (ks : List ℕ). Each (λ k. k < length es) ks) (sym counts.numbers) (range_below counts.first (length (core_numbers f)) (length es) (omega (arith, long, among)))
 
 -- ---- the rows of an entry
 

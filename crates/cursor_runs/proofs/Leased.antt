@@ -15,7 +15,7 @@ use Rattle.med_catalog.specs.DdlCauses.{DdlCauses, lease_rows, object_rows, ddl_
 use Rattle.med_catalog.specs.Changes.{ObjectChange, nothing, new_wrapper, new_server, new_mapping, new_table, no_wrapper, no_server, no_mapping, no_table, without, is_skipped, Asks, skips, makes}
 use Rattle.med_parser.specs.CommandTree.{CommandTree, on_data, on_rows, on_cursors, on_objects}
 use Rattle.med_parser.specs.CommandGrammar.{HasCommand}
-use Rattle.bind_names.specs.Scope.{entries_of}
+use Rattle.bind_names.specs.Scope.{query_entries}
 use Rattle.sql_meaning.specs.Requests.{AskedLine, opening, sql, bye, IsSid}
 use Rattle.sql_meaning.specs.World.{World, Leased, Cursor, Session, cells_of, rows_named, reads_table, leases, is_leased, beside_without, rows_with}
 use Rattle.sql_meaning.specs.Cursors.{cursor_named, is_cursor, handing}
@@ -265,5 +265,5 @@ stay_declared law old new e es sid name q x d = λ stays l rows has stood.
     let frame = d.asks.1 in
     let p = place_of c.reads l has in (
       stay law x.0 new es sid h.0 c frame.1.0 x.2 h.1 h.2 stays l.table rows (leased_reads c l has) (declared_keeps law old x.0 e sid name q l.table rows x.1 d stood),
-      rows_leased_now old.world (entries_of q.from) p.0 l p.1 ∙ ap cells_of (named_rows l.table rows old.world.catalog.tables old.world.rows stood),
+      rows_leased_now old.world (query_entries q) p.0 l p.1 ∙ ap cells_of (named_rows l.table rows old.world.catalog.tables old.world.rows stood),
     )

@@ -6,11 +6,12 @@ use Rattle.std.proofs.lemmas.List.Elements.{All-head, All-tail}
 use Rattle.std.proofs.lemmas.Option.{get_or_from_slice_get}
 use Rattle.med_query.specs.Form.{JoinForm, cross_form, inner_form, left_form, ChainForm, CoreForm}
 use Rattle.med_binder.specs.declared.bound.BoundEntry.{BoundEntry}
-use Rattle.med_binder.specs.Counted.{joined_number, chain_numbers, SaysWidth, CoreCounts}
+use Rattle.med_binder.specs.Counted.{joined_number, chain_numbers, core_numbers, core_widths, SaysWidth, CoreCounts}
 use Rattle.med_binder.specs.Within.{width_between}
 use Rattle.loop_plans.specs.Places.{further}
 use Rattle.loop_plans.specs.Flat.{Part, width_of, inner_part, join_part, end_after, chain_parts, from_parts}
 use Rattle.loop_plans.specs.Premises.{widths_in, HasPlaces}
+use Rattle.loop_plans.proofs.Stretches.{stretch, picked, length_stretch, at_stretch}
 
 abbrev pub most : ℕ
 most = 2 ^ 64 - 1
@@ -65,16 +66,26 @@ sum_between (w ∷ ws) (suc first) n =
 pub seen : (ws : List ℕ) (first number : ℕ) → first ≤ number → width_between ws first number + up_to ws first ≡ up_to ws (suc number)
 seen ws first number le = let k : first + (suc number - first) ≡ suc number = omega (arith, le) in sum_between ws first (suc number - first) ∙ ap (up_to ws) k
 
+-- no more than all of them
+pub stretch_below : (ws : List ℕ) (first n : ℕ) → sum (stretch ws first n) ≤ sum ws
+stretch_below ws first n = let e = sum_between ws first n in let b = below_sum ws (first + n) in omega (arith, e, b)
+
 -- ---- entries are counted
 
--- the entries have the numbers from this one on, and as many columns as is said of them
-abbrev pub AreCounted : List ℕ → ℕ → List Part → Type 0
-AreCounted ws k [] = k ≡ length ws
-AreCounted ws k (p ∷ ps) = (p.table ≡ k) × (p.width ≡ get_or ws k 0) × (k < length ws) × AreCounted ws (suc k) ps
+-- the entries of a core have the numbers from its first one on, and as many columns as is said of them
+abbrev pub AreCounted : ℕ → List ℕ → ℕ → List Part → Type 0
+AreCounted first ws k [] = k ≡ length ws
+AreCounted first ws k (p ∷ ps) = (p.table ≡ first + k) × (p.width ≡ get_or ws k 0) × (k < length ws) × AreCounted first ws (suc k) ps
 
-module _ (es : List BoundEntry) where
+module _ (es : List BoundEntry) (first n : ℕ) (among : first + n ≤ length (widths_in es)) where
   abbrev ws : List ℕ
   ws = widths_in es
+
+  abbrev mine : List ℕ
+  mine = stretch ws first n
+
+  as_many : length mine ≡ n
+  as_many = length_stretch ws first n among
 
   one_part : (base k : ℕ) (j : JoinForm) → joined_number j ≡ k → SaysWidth ws j → ((join_part es base j).table ≡ k) × ((join_part es base j).width ≡ get_or ws k 0)
   one_part base k (cross_form t) e says = (e, ap (λ (n : ℕ). get_or ws n 0) e)
@@ -83,19 +94,25 @@ module _ (es : List BoundEntry) where
 
   -- what the numbers behind a place say of the entries there
   abbrev Counts : List ℕ → List Part → Type 0
-  Counts numbers ps = (k n : ℕ) → numbers ≡ range_with_len k n → k + n ≡ length ws → AreCounted ws k ps
+  Counts numbers ps = (k m : ℕ) → numbers ≡ range_with_len (first + k) m → k + m ≡ n → AreCounted first mine k ps
 
   none_counted : Counts [] []
-  none_counted k zero e total = omega (arith, total)
-  none_counted k (suc n) e total = absurd cc
+  none_counted k zero e total = let a = as_many in omega (arith, total, a)
+  none_counted k (suc m) e total = absurd cc
 
   one_counted : (p : Part) (ps : List Part) (number : ℕ) (numbers : List ℕ) → ((k : ℕ) → number ≡ k → (p.table ≡ k) × (p.width ≡ get_or ws k 0)) → Counts numbers ps → Counts (number ∷ numbers) (p ∷ ps)
   one_counted p ps number numbers is rest k zero e total = absurd cc
-  one_counted p ps number numbers is rest k (suc n) e total =
-      let first : number ≡ k = cc in
-      let others : numbers ≡ range_with_len (k + 1) n = cc in
-      let one = is k first in
-      (one.0, one.1, omega (arith, total), rest (suc k) n (others ∙ ap (λ (m : ℕ). range_with_len m n) (add-one k)) (omega (arith, total)))
+  one_counted p ps number numbers is rest k (suc m) e total =
+      let here : number ≡ first + k = cc in
+      let others : numbers ≡ range_with_len (first + k + 1) m = cc in
+      let one = is (first + k) here in
+      let a = as_many in
+      let next : first + k + 1 ≡ first + suc k = omega arith in (
+        one.0,
+        one.1 ∙ sym (at_stretch ws 0 first n k (omega (arith, total))),
+        omega (arith, total, a),
+        rest (suc k) m (others ∙ ap (λ (i : ℕ). range_with_len i m) next) (omega (arith, total)),
+      )
 
   joins_counted : (base : ℕ) (js : List JoinForm) (ps : List Part) (later : List ℕ) → All (SaysWidth ws) js → Counts later ps → Counts (map joined_number js ++ later) (map (join_part es base) js ++ ps)
   joins_counted base [] ps later says rest = rest
@@ -113,34 +130,52 @@ module _ (es : List BoundEntry) where
       (λ k e. (e, ap (λ (n : ℕ). get_or ws n 0) e))
       (joins_counted base c.joins (from_parts es end cs) (flat_map chain_numbers cs) (All-head P c cs says) (chains_counted end cs (All-tail P c cs says)))
 
-  pub from_counted : (base : ℕ) (cs : List ChainForm) → flat_map chain_numbers cs ≡ range_with_len 0 (length ws) → All (λ (c : ChainForm). All (SaysWidth ws) c.joins) cs → AreCounted ws 0 (from_parts es base cs)
-  from_counted base cs numbers says = chains_counted base cs says 0 (length ws) numbers (omega arith)
+  pub from_counted : (base : ℕ) (cs : List ChainForm) → flat_map chain_numbers cs ≡ range_with_len first n → All (λ (c : ChainForm). All (SaysWidth ws) c.joins) cs → AreCounted first mine 0 (from_parts es base cs)
+  from_counted base cs numbers says =
+      let at : first ≡ first + 0 = omega arith in
+      chains_counted base cs says 0 n (numbers ∙ ap (λ (i : ℕ). range_with_len i n) at) (omega arith)
 
 -- ---- where they end
 
-module _ (ws : List ℕ) (small : sum ws < most) where
+module _ (first : ℕ) (ws : List ℕ) (small : sum ws < most) where
   -- the place behind an entry
   pub entry_end : (k width : ℕ) → k < length ws → width ≡ get_or ws k 0 → further width (up_to ws k) ≡ up_to ws (suc k)
   entry_end k width h e = let i = one_more ws k h in let b = below_sum ws (suc k) in let s = small in omega (arith, e, i, b, s)
 
-  pub end_counted : (k : ℕ) (ps : List Part) → AreCounted ws k ps → end_after (up_to ws k) ps ≡ sum ws
+  pub end_counted : (k : ℕ) (ps : List Part) → AreCounted first ws k ps → end_after (up_to ws k) ps ≡ sum ws
   end_counted k [] h = ap (up_to ws) h ∙ all_of_them ws
   end_counted k (p ∷ ps) h = ap (λ (n : ℕ). end_after n ps) (entry_end k p.width h.2 h.1) ∙ end_counted (suc k) ps h.3
 
   -- what stands behind the first of them
-  pub skip : (k : ℕ) (ps qs : List Part) → AreCounted ws k (ps ++ qs) → (m : ℕ) × (end_after (up_to ws k) ps ≡ up_to ws m) × AreCounted ws m qs
+  pub skip : (k : ℕ) (ps qs : List Part) → AreCounted first ws k (ps ++ qs) → (m : ℕ) × (end_after (up_to ws k) ps ≡ up_to ws m) × AreCounted first ws m qs
   skip k [] qs h = (k, refl, h)
   skip k (p ∷ ps) qs h = let i = skip (suc k) ps qs h.3 in (i.0, ap (λ (n : ℕ). end_after n ps) (entry_end k p.width h.2 h.1) ∙ i.1, i.2)
 
-pub behind : (widths : List ℕ) (k : ℕ) (ps qs : List Part) → AreCounted widths k (ps ++ qs) → (m : ℕ) × AreCounted widths m qs
-behind widths k [] qs h = (k, h)
-behind widths k (p ∷ ps) qs h = behind widths (suc k) ps qs h.3
+pub behind : (first : ℕ) (widths : List ℕ) (k : ℕ) (ps qs : List Part) → AreCounted first widths k (ps ++ qs) → (m : ℕ) × AreCounted first widths m qs
+behind first widths k [] qs h = (k, h)
+behind first widths k (p ∷ ps) qs h = behind first widths (suc k) ps qs h.3
 
--- the place behind all entries of a bound core
-pub from_end : (es : List BoundEntry) (f : CoreForm) → CoreCounts (widths_in es) f → HasPlaces es → end_after 0 (from_parts es 0 f.from) ≡ sum (widths_in es)
-from_end es f counts places =
-    let parts = from_parts es 0 f.from in
-    ap (λ (n : ℕ). end_after n parts) (sym (none_first (widths_in es))) ∙ end_counted (widths_in es) places 0 parts (from_counted es 0 f.from counts.numbers counts.widths)
+-- ---- the entries of a bound core
 
-pub from_small : (es : List BoundEntry) (f : CoreForm) → CoreCounts (widths_in es) f → HasPlaces es → end_after 0 (from_parts es 0 f.from) < most
-from_small es f counts places = subst (λ (n : ℕ). n < most) (sym (from_end es f counts places)) places
+module _ (es : List BoundEntry) (f : CoreForm) (counts : CoreCounts (widths_in es) f) where
+  -- how many columns each of them has
+  abbrev pub own_widths : List ℕ
+  own_widths = stretch (widths_in es) counts.first (length (core_numbers f))
+
+  pub own_are : core_widths (widths_in es) f ≡ own_widths
+  own_are = ap (map (λ (k : ℕ). get_or (widths_in es) k 0)) counts.numbers ∙ picked (widths_in es) 0 counts.first (length (core_numbers f)) counts.among
+
+  pub own_counted : AreCounted counts.first own_widths 0 (from_parts es 0 f.from)
+  own_counted = from_counted es counts.first (length (core_numbers f)) counts.among 0 f.from counts.numbers counts.widths
+
+  pub own_small : HasPlaces es → sum own_widths < most
+  own_small places = let b = stretch_below (widths_in es) counts.first (length (core_numbers f)) in omega (arith, b, places)
+
+  -- the place behind them all
+  pub from_end : HasPlaces es → end_after 0 (from_parts es 0 f.from) ≡ sum own_widths
+  from_end places =
+      let parts = from_parts es 0 f.from in
+      ap (λ (n : ℕ). end_after n parts) (sym (none_first own_widths)) ∙ end_counted counts.first own_widths (own_small places) 0 parts own_counted
+
+  pub from_small : HasPlaces es → end_after 0 (from_parts es 0 f.from) < most
+  from_small places = subst (λ (n : ℕ). n < most) (sym (from_end places)) (own_small places)

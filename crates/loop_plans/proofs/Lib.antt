@@ -6,6 +6,7 @@ mod Seen
 mod SeenJoins
 mod Splits
 mod Safe
+mod Stretches
 mod Counting
 mod Viewing
 mod Widening

@@ -28,8 +28,8 @@ use Rattle.loop_plans.specs.Places.{further}
 use Rattle.loop_plans.specs.Flat.{Part, end_after, from_parts}
 use Rattle.loop_plans.specs.Offered.{OfferForm, decided, wanted_of, offer_of, offers_from, core_conditions, core_reads, IsLevelOf, AreLevels}
 use Rattle.loop_plans.specs.Wished.{no_wish, is_shown_core, rows_enough, all_offered, wish_by, core_wish, wish_for, wish_of, IsUnlimited, ComesAlone}
-use Rattle.loop_plans.specs.Premises.{widths_in, IsAllowed, AreAllowed, WishedComeInOrder, UnwishedAreUnlimited}
-use Rattle.loop_plans.proofs.Counting.{most, from_end}
+use Rattle.loop_plans.specs.Premises.{IsAllowed, AreAllowed, WishedComeInOrder, UnwishedAreUnlimited}
+use Rattle.loop_plans.proofs.Counting.{most, own_widths, own_are, own_small, from_end}
 use Rattle.loop_plans.proofs.Matching.{all_each}
 use Rattle.loop_plans.proofs.Pulling.{and_left, and_right}
 use Rattle.loop_plans.proofs.Seen.{Stands, grows}
@@ -329,8 +329,13 @@ wished_come s c es boxes w answers ls one is_wish counts within places allowed l
     read : List ℕ
     read = core_reads es f
 
+    mine : List ℕ
+    mine = own_widths es f counts
+
     known : (p : Part) → from_parts es 0 f.from ≡ p ∷ [] → (p.outer ≡ false) × (p.width < most) × Each (λ t. Each (λ at. (at < p.width) × Stands read at) (columns_in t)) f.keys
     known p e =
-        let end : further p.width 0 ≡ sum (widths_in es) = sym (ap (λ (ps : List Part). end_after 0 ps) e) ∙ from_end es f counts places in
-        let same : sum (widths_in es) ≡ p.width = least_width p.width (sum (widths_in es)) most end places in
-        (first_inner es f.from p [] e, subst (λ (n : ℕ). n < most) same places, keys_are read (sum (widths_in es)) p.width same f.keys (reads_all es c).keys (all_each (IsWithin (sum (widths_in es))) f.keys within.keys))
+        let small = own_small es f counts places in
+        let end : further p.width 0 ≡ sum mine = sym (ap (λ (ps : List Part). end_after 0 ps) e) ∙ from_end es f counts places in
+        let same : sum mine ≡ p.width = least_width p.width (sum mine) most end small in
+        let keys : All (IsWithin (sum mine)) f.keys = subst (λ (ws : List ℕ). All (IsWithin (sum ws)) f.keys) (own_are es f counts) within.keys in
+        (first_inner es f.from p [] e, subst (λ (n : ℕ). n < most) same small, keys_are read (sum mine) p.width same f.keys (reads_all es c).keys (all_each (IsWithin (sum mine)) f.keys keys))

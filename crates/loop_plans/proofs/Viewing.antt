@@ -1,5 +1,5 @@
 -- The columns that a bound core reads are in view of its plan.
-use Rattle.std.proofs.Common.{◌≡◌, ℕ, suc, ◌+◌, ◌<◌, ◌≤◌, Bool, true, false, not, nat_lt, cond, List, [], ◌∷◌, ◌++◌, map, All, sum, refl, sym, ap, ◌∙◌, subst, arith, min}
+use Rattle.std.proofs.Common.{◌≡◌, ℕ, suc, ◌+◌, ◌-◌, ◌<◌, ◌≤◌, Bool, true, false, not, nat_lt, cond, List, [], ◌∷◌, ◌++◌, map, length, All, sum, refl, sym, ap, ◌∙◌, subst, arith, min}
 use Rattle.std.specs.List.{list_all}
 use Rattle.std.proofs.lemmas.List.{map-append}
 use Rattle.std.proofs.lemmas.List.Elements.{All-head, All-tail}
@@ -8,6 +8,7 @@ use Rattle.tri_expr.specs.TreeParts.{is_risky_tree}
 use Rattle.tri_expr.proofs.Forms.{two}
 use Rattle.med_query.specs.Form.{JoinForm, cross_form, inner_form, left_form, ChainForm}
 use Rattle.med_binder.specs.declared.bound.BoundEntry.{BoundEntry}
+use Rattle.med_binder.specs.Counted.{core_numbers, core_widths}
 use Rattle.med_binder.specs.Within.{IsWithin, AreWithin, width_between, JoinWithin, ChainWithin}
 use Rattle.nested_loops.specs.Joins.{Each}
 use Rattle.read_columns.specs.Columns.{columns_in, columns_in_all}
@@ -18,7 +19,8 @@ use Rattle.loop_plans.specs.Plans.{AllWithin, JoinsInView, FromInView}
 use Rattle.loop_plans.specs.Premises.{widths_in, HasPlaces, CountedIsInView}
 use Rattle.loop_plans.proofs.Pulling.{and_whole, below_test}
 use Rattle.loop_plans.proofs.Safe.{each_both}
-use Rattle.loop_plans.proofs.Counting.{most, up_to, none_first, seen, AreCounted, from_counted, entry_end, skip, from_end, from_small}
+use Rattle.loop_plans.proofs.Stretches.{stretch, length_stretch, inner_stretch}
+use Rattle.loop_plans.proofs.Counting.{most, up_to, none_first, seen, AreCounted, entry_end, skip, own_widths, own_are, own_counted, own_small, from_end, from_small}
 
 -- ---- one expression
 
@@ -111,42 +113,56 @@ safe_within w (t ∷ ts) h = step (not (is_risky_tree t)) (safe_within w ts (All
 
 -- ---- FROM
 
-module _ (es : List BoundEntry) (places : HasPlaces es) where
+module _ (es : List BoundEntry) (start n : ℕ) where
   abbrev ws : List ℕ
   ws = widths_in es
 
-  one_view : (base first k end : ℕ) (j : JoinForm) → first ≤ k → base ≡ up_to ws first → end ≡ up_to ws (suc k) → (join_part es base j).table ≡ k → JoinWithin ws first j → AllWithin end (inner_ons base j)
-  one_view base first k end (cross_form t) le b e n h = refl
-  one_view base first k end (inner_form t on) le b e n h =
-      let s = seen ws first t (omega (arith, le, n)) in
-      let at = ap (λ (m : ℕ). up_to ws (suc m)) n in
-      all_shifted base (width_between ws first t) end (omega (arith, s, at, b, e)) on h
-  one_view base first k end (left_form t width on) le b e n h = refl
+  -- how many columns each entry of the core has
+  abbrev mine : List ℕ
+  mine = stretch ws start n
 
-  joins_view : (base first k at : ℕ) (js : List JoinForm) (ps : List Part) → first ≤ k → base ≡ up_to ws first → at ≡ up_to ws k → AreCounted ws k (map (join_part es base) js ++ ps) → All (JoinWithin ws first) js → JoinsInView es base at js
-  joins_view base first k at [] ps le b e counted h = tt
-  joins_view base first k at (j ∷ js) ps le b e counted h =
-      let p = join_part es base j in
-      let end : further p.width at ≡ up_to ws (suc k) = ap (further p.width) e ∙ entry_end ws places k p.width counted.2 counted.1 in (
-        one_view base first k (further p.width at) j le b end counted.0 (All-head (JoinWithin ws first) j js h),
-        joins_view base first (suc k) (further p.width at) js ps (omega (arith, le)) b end counted.3 (All-tail (JoinWithin ws first) j js h),
-      )
+  -- an ON sees entries of its own core
+  between_is : (first k t : ℕ) → first ≤ k → k < n → t ≡ start + k → width_between ws (start + first) t ≡ width_between mine first k
+  between_is first k t le lt e =
+      let m : suc t - (start + first) ≡ suc k - first = omega (arith, e, le) in
+      ap (λ (i : ℕ). sum (stretch ws (start + first) i)) m ∙ sym (ap sum (inner_stretch ws start n first (suc k - first) (omega (arith, le, lt))))
 
-  chains_view : (base k : ℕ) (cs : List ChainForm) → base ≡ up_to ws k → AreCounted ws k (from_parts es base cs) → All (ChainWithin ws) cs → FromInView es base cs
-  chains_view base k [] b counted h = tt
-  chains_view base k (c ∷ cs) b counted h =
-      let end = end_after base (chain_parts es base c) in
-      let rest = skip ws places k (chain_parts es base c) (from_parts es end cs) counted in
-      let at : further (width_of es c.first) base ≡ up_to ws (suc k) = ap (further (width_of es c.first)) b ∙ entry_end ws places k (width_of es c.first) counted.2 counted.1 in
-      let first : base ≡ up_to ws c.first = b ∙ ap (up_to ws) (sym counted.0) in (
-        joins_view base c.first (suc k) (further (width_of es c.first) base) c.joins (from_parts es end cs) (let n = counted.0 in omega (arith, n)) first at counted.3 (All-head (ChainWithin ws) c cs h),
-        chains_view end rest.0 cs (ap (λ (n : ℕ). end_after n (chain_parts es base c)) b ∙ rest.1) rest.2 (All-tail (ChainWithin ws) c cs h),
-      )
+  module _ (long : length mine ≡ n) (places : sum mine < most) where
+    one_view : (base first k end : ℕ) (j : JoinForm) → first ≤ k → k < n → base ≡ up_to mine first → end ≡ up_to mine (suc k) → (join_part es base j).table ≡ start + k → JoinWithin ws (start + first) j → AllWithin end (inner_ons base j)
+    one_view base first k end (cross_form t) le lt b e at h = refl
+    one_view base first k end (inner_form t on) le lt b e at h =
+        let s = seen mine first k le in
+        let same = between_is first k t le lt at in
+        all_shifted base (width_between ws (start + first) t) end (omega (arith, s, b, e, same)) on h
+    one_view base first k end (left_form t width on) le lt b e at h = refl
+
+    joins_view : (base first k at : ℕ) (js : List JoinForm) (ps : List Part) → first ≤ k → base ≡ up_to mine first → at ≡ up_to mine k → AreCounted start mine k (map (join_part es base) js ++ ps) → All (JoinWithin ws (start + first)) js → JoinsInView es base at js
+    joins_view base first k at [] ps le b e counted h = tt
+    joins_view base first k at (j ∷ js) ps le b e counted h =
+        let p = join_part es base j in
+        let lt = counted.2 in
+        let end : further p.width at ≡ up_to mine (suc k) = ap (further p.width) e ∙ entry_end start mine places k p.width counted.2 counted.1 in (
+          one_view base first k (further p.width at) j le (omega (arith, lt, long)) b end counted.0 (All-head (JoinWithin ws (start + first)) j js h),
+          joins_view base first (suc k) (further p.width at) js ps (omega (arith, le)) b end counted.3 (All-tail (JoinWithin ws (start + first)) j js h),
+        )
+
+    chains_view : (base k : ℕ) (cs : List ChainForm) → base ≡ up_to mine k → AreCounted start mine k (from_parts es base cs) → All (ChainWithin ws) cs → FromInView es base cs
+    chains_view base k [] b counted h = tt
+    chains_view base k (c ∷ cs) b counted h =
+        let end = end_after base (chain_parts es base c) in
+        let rest = skip start mine places k (chain_parts es base c) (from_parts es end cs) counted in
+        let at : further (width_of es c.first) base ≡ up_to mine (suc k) = ap (further (width_of es c.first)) b ∙ entry_end start mine places k (width_of es c.first) counted.2 counted.1 in
+        let on : All (JoinWithin ws (start + k)) c.joins = subst (λ (i : ℕ). All (JoinWithin ws i) c.joins) counted.0 (All-head (ChainWithin ws) c cs h) in (
+          joins_view base k (suc k) (further (width_of es c.first) base) c.joins (from_parts es end cs) (omega arith) b at counted.3 on,
+          chains_view end rest.0 cs (ap (λ (n : ℕ). end_after n (chain_parts es base c)) b ∙ rest.1) rest.2 (All-tail (ChainWithin ws) c cs h),
+        )
 
 pub in_view : CountedIsInView
-in_view es f counts seen_by places some = record {
-  some = some;
-  small = from_small es f counts places;
-  joins = chains_view es places 0 0 f.from (sym (none_first (widths_in es))) (from_counted es 0 f.from counts.numbers counts.widths) seen_by.joins;
-  conditions = subst (λ (n : ℕ). AllWithin n (safe_trees f.conditions)) (sym (from_end es f counts places)) (safe_within (sum (widths_in es)) f.conditions seen_by.conditions);
-}
+in_view es f counts seen_by places some =
+    let mine = own_widths es f counts in
+    record {
+      some = some;
+      small = from_small es f counts places;
+      joins = chains_view es counts.first (length (core_numbers f)) (length_stretch (widths_in es) counts.first (length (core_numbers f)) counts.among) (own_small es f counts places) 0 0 f.from (sym (none_first mine)) (own_counted es f counts) seen_by.joins;
+      conditions = subst (λ (m : ℕ). AllWithin m (safe_trees f.conditions)) (ap sum (own_are es f counts) ∙ sym (from_end es f counts places)) (safe_within (sum (core_widths (widths_in es) f)) f.conditions seen_by.conditions);
+    }

@@ -14,7 +14,7 @@ use Rattle.bind_catalog.specs.Tables.{shapes}
 use Rattle.med_write.specs.Form.{WriteForm, form_of}
 use Rattle.write_exec.specs.Writing.{IsTypedWrite, CanWrite}
 use Rattle.write_parts.specs.Meaning.{target_of, columns_in, write_meant}
-use Rattle.write_parts.specs.Typing.{column_kinds}
+use Rattle.bind_types.specs.TreeTypes.{column_kinds}
 use Rattle.write_parts.proofs.Targets.{target_columns}
 use Rattle.bind_write.specs.declared.bound.TableWrite.{TableWrite}
 use Rattle.bind_write.specs.Binding.{IsMeantWrite}

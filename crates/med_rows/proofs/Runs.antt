@@ -1,5 +1,5 @@
 -- A bound write that is done, or refused: over all that binding said of it.
-use Rattle.std.proofs.Common.{◌≡◌, ◌∙◌, ◌<◌, ◌≤◌, ℕ, Result, Ok, Err, IfOk, IfErr, Bool, true, false, List, [], ◌∷◌, Option, None, map, length, refl, ap, sym, subst}
+use Rattle.std.proofs.Common.{◌≡◌, ◌∙◌, ℕ, Result, Ok, Err, IfOk, IfErr, Bool, true, false, List, [], ◌∷◌, Option, None, map, refl, ap, sym, subst}
 use Rattle.std.proofs.lemmas.Bool.{false≢true}
 use Rattle.med_value.specs.Column.{Column}
 use Rattle.med_value.specs.Datum.{Tuple}
@@ -22,15 +22,16 @@ use Rattle.bind_catalog.specs.Tables.{shapes}
 use Rattle.med_binder.specs.Binding.{IsMeant}
 use Rattle.med_binder.specs.declared.bound.BoundQuery.{BoundQuery}
 use Rattle.med_write.specs.declared.write.WrittenColumn.{WrittenColumn}
+use Rattle.med_query.specs.Form.{form_of as query_form}
 use Rattle.med_write.specs.Form.{WriteForm, insert_form, answer_form, form_of}
 use Rattle.write_exec.specs.Writing.{IsTypedWrite, CanWrite, Writes, RefusesWrite}
 use Rattle.write_parts.specs.Meaning.{target_of, columns_in, written_column, places_meant, given_meant, write_meant}
-use Rattle.write_parts.specs.Typing.{column_kinds}
+use Rattle.bind_types.specs.TreeTypes.{column_kinds}
 use Rattle.bind_write.specs.declared.bound.TableWrite.{TableWrite}
 use Rattle.bind_write.specs.Binding.{IsBindable, IsQueryOf, IsGiven as IsBoundGiven, IsMeantWrite}
-use Rattle.med_select.proofs.Selections.{entries_counted}
 use Rattle.med_world.specs.Altering.{cause_of}
 use Rattle.sql_meaning.specs.Causes.{query_of}
+use Rattle.sql_meaning.specs.Sizes.{is_large_form}
 use Rattle.open_cursors.specs.Counted.{ReadsTables}
 use Rattle.open_cursors.specs.Starting.{RunFails}
 use Rattle.med_world.specs.Selecting.{AnswersOver}
@@ -124,10 +125,10 @@ none_asked o bound (delete d) boxes h = (refl, refl)
 
 -- ---- a query
 
-few_entries : (o : Objects) (bound : List Attached) (t : WriteTree) (b : BoundQuery) → (h : HasQuery o bound t b) → length b.entries.items ≤ 8 → length (meant_by o h.query).entries ≤ 8
-few_entries o bound t b h few = subst (λ (n : ℕ). n ≤ 8) (sym (entries_counted (meant_by o h.query) b h.meant)) few
+few_entries : (o : Objects) (bound : List Attached) (t : WriteTree) (b : BoundQuery) → (h : HasQuery o bound t b) → is_large_form (query_form b.select) ≡ false → is_large_form (meant_by o h.query).form ≡ false
+few_entries o bound t b h few = sym (ap is_large_form h.meant.form) ∙ few
 
-pub asked : (o : Objects) (bound : List Attached) (t : WriteTree) (b : BoundQuery) (old now : List (Option BoxState)) (answer : List Tuple) → HasQuery o bound t b → length b.entries.items ≤ 8 → AllServed old now → ReadsTables (map entry_place b.entries.items) old now
+pub asked : (o : Objects) (bound : List Attached) (t : WriteTree) (b : BoundQuery) (old now : List (Option BoxState)) (answer : List Tuple) → HasQuery o bound t b → is_large_form (query_form b.select) ≡ false → AllServed old now → ReadsTables (map entry_place b.entries.items) old now
     → ((m : Meant) → IsMeant m b → AnswersOver (query_of m) (map entry_place b.entries.items) old answer) → IsGiven o bound t old answer now
 asked o bound t b old now answer h few served once over =
     subst (λ (x : WriteTree). IsGiven o bound x old answer now) h.is (subst (λ (g : GivenTree). GivesRows o bound g old answer now) h.given gives)
@@ -135,15 +136,15 @@ asked o bound t b old now answer h few served once over =
     gives : GivesAnswer o bound h.query old answer now
     gives = record { few = few_entries o bound t b h few; served = served; places = map entry_place b.entries.items; are = h.places; answers = over (meant_by o h.query) h.meant; reads = once }
 
-pub not_answered : (o : Objects) (user : Name) (bound : List Attached) (t : WriteTree) (w : TableWrite) (b : BoundQuery) (old new : List (Option BoxState)) (c : Cause) (leased : Bool) → leased ≡ false → IsBindable o user t → IsMeantWrite o bound t w → HasQuery o bound t b → length b.entries.items ≤ 8 → AllServed old new
+pub not_answered : (o : Objects) (user : Name) (bound : List Attached) (t : WriteTree) (w : TableWrite) (b : BoundQuery) (old new : List (Option BoxState)) (c : Cause) (leased : Bool) → leased ≡ false → IsBindable o user t → IsMeantWrite o bound t w → HasQuery o bound t b → is_large_form (query_form b.select) ≡ false → AllServed old new
     → ((m : Meant) → IsMeant m b → RunFails (query_of m) (map entry_place b.entries.items) c old new) → WriteFails o user bound t leased old c new
 not_answered o user bound t w b old new c leased free bindable is h few served fails =
     query_fails bindable free is.there.at (target_at o bound t w is) (of_its_query (λ q. FailsQuery o bound q old c new) o bound t b h
     (record { few = few_entries o bound t b h few; served = served; places = map entry_place b.entries.items; are = h.places; fails = fails (meant_by o h.query) h.meant }))
 
-pub crowded : (o : Objects) (user : Name) (bound : List Attached) (t : WriteTree) (b : BoundQuery) (boxes : List (Option BoxState)) (leased : Bool) → IsBindable o user t → HasQuery o bound t b → 8 < length b.entries.items → WriteFails o user bound t leased boxes LimitExceeded boxes
+pub crowded : (o : Objects) (user : Name) (bound : List Attached) (t : WriteTree) (b : BoundQuery) (boxes : List (Option BoxState)) (leased : Bool) → IsBindable o user t → HasQuery o bound t b → is_large_form (query_form b.select) ≡ true → WriteFails o user bound t leased boxes LimitExceeded boxes
 crowded o user bound t b boxes leased bindable h many =
-    too_many bindable (of_its_query (λ q. 8 < length (meant_by o q).entries) o bound t b h (subst (λ (n : ℕ). 8 < n) (sym (entries_counted (meant_by o h.query) b h.meant)) many)) refl refl
+    too_many bindable (of_its_query (λ q. is_large_form (meant_by o q).form ≡ true) o bound t b h (sym (ap is_large_form h.meant.form) ∙ many)) refl refl
 
 -- ---- whether the answer fits
 

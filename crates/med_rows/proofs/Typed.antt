@@ -23,8 +23,8 @@ use Rattle.med_planner.specs.Planned.{rows_shown, entry_rows}
 use Rattle.med_exec.specs.Running.{AllHonest}
 use Rattle.med_exec.specs.Slots.{BoxAt}
 use Rattle.med_catalog.specs.Objects.{TableObject, Objects, table_named}
-use Rattle.bind_names.specs.Scope.{place_named, entry_place, entry_columns, entries_of, from_scope}
-use Rattle.bind_names.specs.Naming.{entry_causes, from_causes, asked_causes, select_name_causes, once_known}
+use Rattle.bind_names.specs.Scope.{place_named, entry_place, entry_columns, query_entries, query_scope}
+use Rattle.bind_names.specs.Naming.{entry_causes, entered_causes, asked_causes, select_name_causes, once_known}
 use Rattle.bind_types.specs.Typing.{select_type_causes}
 use Rattle.bind_catalog.specs.Places.{Attached, IsPlaceOf, ArePlaces}
 use Rattle.bind_catalog.specs.Queries.{meant_by}
@@ -37,7 +37,8 @@ use Rattle.med_binder.specs.declared.bound.BoundQuery.{BoundQuery}
 use Rattle.write_exec.specs.Writing.{IsTypedWrite}
 use Rattle.write_parts.specs.Meaning.{target_of, columns_in, write_meant}
 use Rattle.write_parts.specs.Naming.{target_causes, named_causes, names_of}
-use Rattle.write_parts.specs.Typing.{WriteTypes, column_kinds, types_of}
+use Rattle.bind_types.specs.TreeTypes.{column_kinds}
+use Rattle.write_parts.specs.Typing.{WriteTypes, types_of}
 use Rattle.write_parts.proofs.Lists.{empty_by, none_in}
 use Rattle.bind_write.specs.Binding.{IsBindable, IsQueryOf, IsGiven as IsBoundGiven}
 use Rattle.write_types.specs.Typed.{IsClean, AreTyped, IsAnswered, IsGiven}
@@ -88,7 +89,7 @@ pub record HasQuery (o : Objects) (bound : List Attached) (t : WriteTree) (b : B
   pub given : rows_of query ≡ inserts.given
   pub meant : IsMeant (meant_by o query) b
   pub places : ArePlaces bound (meant_by o query).entries (map place_of b.entries.items)
-  pub widths : bound_widths b ≡ widths (from_scope (shapes o) query.from)
+  pub widths : bound_widths b ≡ widths (query_scope (shapes o) query)
   pub safe : are_safe_cores b.select.cores.items ≡ true
 
 pub has_query : (o : Objects) (bound : List Attached) (t : WriteTree) (b : BoundQuery) → IsQueryOf o bound t (Some b) → HasQuery o bound t b
@@ -114,7 +115,7 @@ names_clear o user i (values rows) q same h = absurd cc
 names_clear o user i (rows_of r) q same h =
     let one : q ≡ r = cc in
     subst (λ (x : SelectTree). select_name_causes (shapes o) x ≡ []) (sym one)
-    (once_asked (target_causes (shapes o) i.table) (from_causes (shapes o) r.from) (named_causes (columns_in (shapes o) i.table) i.columns) (asked_causes (shapes o) r) (left_none _ _ h))
+    (once_asked (target_causes (shapes o) i.table) (entered_causes (shapes o) r) (named_causes (columns_in (shapes o) i.table) i.columns) (asked_causes (shapes o) r) (left_none _ _ h))
 
 types_clear : (o : Objects) (i : InsertTree) (g : GivenTree) (q : SelectTree) → rows_of q ≡ g → types_of o (insert (record { table = i.table; columns = i.columns; given = g })) ≡ [] → select_type_causes (shapes o) q ≡ []
 types_clear o i (values rows) q same h = absurd cc
@@ -196,13 +197,13 @@ known_first [] asked h = refl
 known_first (c ∷ cs) asked h = absurd cc
 
 -- the tables of FROM are known
-from_known : (o : Objects) (user : Name) (i : InsertTree) (g : GivenTree) (q : SelectTree) → rows_of q ≡ g → names_of o user (insert (record { table = i.table; columns = i.columns; given = g })) ≡ [] → flat_map (entry_causes (shapes o)) (entries_of q.from) ≡ []
+from_known : (o : Objects) (user : Name) (i : InsertTree) (g : GivenTree) (q : SelectTree) → rows_of q ≡ g → names_of o user (insert (record { table = i.table; columns = i.columns; given = g })) ≡ [] → flat_map (entry_causes (shapes o)) (query_entries q) ≡ []
 from_known o user i (values rows) q same h = absurd cc
 from_known o user i (rows_of r) q same h =
     let one : q ≡ r = cc in
-    subst (λ (x : SelectTree). flat_map (entry_causes (shapes o)) (entries_of x.from) ≡ []) (sym one)
-    (left_none (flat_map (entry_causes (shapes o)) (entries_of r.from)) _ (right_none (target_causes (shapes o) i.table) (from_causes (shapes o) r.from)
-    (known_first (target_causes (shapes o) i.table ++ from_causes (shapes o) r.from) _ (left_none _ _ h))))
+    subst (λ (x : SelectTree). flat_map (entry_causes (shapes o)) (query_entries x) ≡ []) (sym one)
+    (left_none (flat_map (entry_causes (shapes o)) (query_entries r)) _ (right_none (target_causes (shapes o) i.table) (entered_causes (shapes o) r)
+    (known_first (target_causes (shapes o) i.table ++ entered_causes (shapes o) r) _ (left_none _ _ h))))
 
 pub typed_answer : WritesAreTyped → (o : Objects) (user : Name) (bound : List Attached) (t : WriteTree) (b : BoundQuery) (boxes : List (Option BoxState)) (answer : List Tuple) → IsReady o bound boxes → IsBindable o user t → IsClean t → (h : HasQuery o bound t b)
     → AnswersOver (query_of (meant_by o h.query)) (map place_of b.entries.items) boxes answer → AllHonest boxes → IsTypedFor o t answer
@@ -214,11 +215,11 @@ typed_answer law o user bound t b boxes answer ready is clean h over honest = la
     none : names_of o user t ≡ []
     none = empty_by (names_of o user t) is.names
 
-    known : flat_map (entry_causes (shapes o)) (entries_of h.query.from) ≡ []
+    known : flat_map (entry_causes (shapes o)) (query_entries h.query) ≡ []
     known = from_known o user h.inserts h.inserts.given h.query h.given (subst (λ (x : WriteTree). names_of o user x ≡ []) (sym h.is) none)
 
-    typed : AreTyped (shapes o) (entries_of h.query.from) db
-    typed = entries_typed o bound boxes ready honest (entries_of h.query.from) (map place_of b.entries.items) known h.places
+    typed : AreTyped (shapes o) (query_entries h.query) db
+    typed = entries_typed o bound boxes ready honest (query_entries h.query) (map place_of b.entries.items) known h.places
 
     shows : IsAnswer (query_of (meant_by o h.query)) db answer
     shows = over.answers honest db (λ k. IsPermutation-refl (db k))

@@ -15,9 +15,8 @@ use bind_write::bind_write;
 use fdw_api::wishes::Wrapper2;
 use med_catalog::Catalog;
 use med_select::law::bound_queries_are_ready;
-use med_select::run_query;
+use med_select::{is_large_query, run_query};
 use med_value::Cause;
-use med_value::limits::ENTRY_LIMIT;
 use std::alloc::Global;
 use write_fits::fits;
 use write_syntax::WriteStatement;
@@ -31,10 +30,10 @@ use write_types::law::written_rows_are_typed;
 ///
 /// # Errors
 ///
-/// A cause of names, rights or types; 55006 where the table is leased, and 54000 where FROM of an INSERT's query has more than 8 entries;
-/// what the query shows over the rows of its tables, and the write over the rows of its own; what the kind of the box refuses; and 53200,
-/// HV000 and 54000 where memory was refused, a source failed, and a box has given all its ticket numbers. HV000 too where a source gives
-/// values of other types than its tables have. No table has changed then.
+/// A cause of names, rights or types; 55006 where the table is leased, and 54000 where an INSERT's query has more than 8 cores or FROM of
+/// one more than 8 entries; what the query shows over the rows of its tables, and the write over the rows of its own; what the kind of the
+/// box refuses; and 53200, HV000 and 54000 where memory was refused, a source failed, and a box has given all its ticket numbers. HV000 too
+/// where a source gives values of other types than its tables have. No table has changed then.
 pub fn run_write<W: Wrapper2>(
     slots: &mut Vec<Option<W>>,
     catalog: &Catalog,
@@ -67,7 +66,7 @@ pub fn run_write<W: Wrapper2>(
     let Some(query) = write.query.take() else {
         return write_rows(slots, alloc, &write, &[]);
     };
-    if query.entries.len() > ENTRY_LIMIT {
+    if is_large_query(&query.select) {
         return Err(Cause::LimitExceeded);
     }
     let rows = match run_query(slots, alloc, query) {

@@ -1,5 +1,5 @@
 -- The run of a bound query: begun, or why not.
-use Rattle.std.proofs.Common.{◌≡◌, ◌∙◌, ℕ, ◌<◌, ◌≤◌, Bool, false, List, Option, map, length, refl, sym, ap, subst, string_bytes}
+use Rattle.std.proofs.Common.{◌≡◌, ◌∙◌, ℕ, ◌<◌, Bool, false, List, Option, map, length, refl, sym, ap, subst, string_bytes}
 use Rattle.med_value.specs.Datum.{Tuple}
 use Rattle.med_syntax.specs.Tree.{Name}
 use Rattle.med_syntax.specs.QueryTree.{SelectTree}
@@ -22,12 +22,13 @@ use Rattle.med_catalog.specs.Objects.{Objects}
 use Rattle.bind_catalog.specs.Queries.{meant_by}
 use Rattle.bind_catalog.specs.Places.{Attached}
 use Rattle.med_world.specs.Altering.{cause_of}
+use Rattle.sql_meaning.specs.Sizes.{is_large_form}
 use Rattle.open_cursors.specs.Counted.{ReadsTables}
 use Rattle.open_cursors.specs.Starting.{HoldsOf, RestsOver, Starts, RunFails, no_memory, box_fails, numbers_out, shows_cause, StartFails, run_fails}
 use Rattle.bound_runs.specs.Starting.{AsksNone, ShowsAll, OpensScans}
 use Rattle.med_binder.specs.Counted.{bound_widths}
 use Rattle.med_binder.specs.Within.{widths}
-use Rattle.bind_names.specs.Scope.{from_scope}
+use Rattle.bind_names.specs.Scope.{query_scope}
 use Rattle.bind_catalog.specs.Tables.{shapes}
 use Rattle.med_select.proofs.Selections.{ExpressionsIgnoreOrder, AnswersInAnyOrder, CausesInAnyOrder, IsBoundBy, steady, same_back, query_bound, entries_counted}
 
@@ -50,16 +51,16 @@ stopped_over law q is places fault old new (query_shows c e shows) =
 pub record MayBegin (full : Bool) (b : BoundQuery) : Type 0 where
   pub safe : is_risky_form (form_of b.select) ≡ false
   pub room : full ≡ false
-  pub few : length b.entries.items ≤ 8
+  pub few : is_large_form (form_of b.select) ≡ false
 
-few_meant : (o : Objects) (user : Name) (bound : List Attached) (q : SelectTree) (b : BoundQuery) → IsBoundBy o user bound q b → length b.entries.items ≤ 8 → length (meant_by o q).entries ≤ 8
-few_meant o user bound q b is few = subst (λ (n : ℕ). n ≤ 8) (sym (entries_counted (meant_by o q) b is.meant)) few
+few_meant : (o : Objects) (user : Name) (bound : List Attached) (q : SelectTree) (b : BoundQuery) → IsBoundBy o user bound q b → is_large_form (form_of b.select) ≡ false → is_large_form (meant_by o q).form ≡ false
+few_meant o user bound q b is few = sym (ap is_large_form is.meant.form) ∙ few
 
 safe_meant : (o : Objects) (user : Name) (bound : List Attached) (q : SelectTree) (b : BoundQuery) → IsBoundBy o user bound q b → is_risky_form (form_of b.select) ≡ false → is_risky_form (meant_by o q).form ≡ false
 safe_meant o user bound q b is safe = sym (ap is_risky_form is.meant.form) ∙ safe
 
 pub starts : ExpressionsIgnoreOrder → AnswersInAnyOrder → CausesInAnyOrder → (o : Objects) (user : Name) (bound : List Attached) (q : SelectTree) (full : Bool) (b : BoundQuery) (run : Run) (old new : List (Option BoxState))
-    → IsBoundBy o user bound q b → bound_widths b ≡ widths (from_scope (shapes o) q.from) → MayBegin full b → ServesRun none_held (held run) old new → IsRunning run new → HoldsOf (map entry_place b.entries.items) run new → ReadsTables (map entry_place b.entries.items) old new → AsksNone b old new → ShowsAll b run → OpensScans b run new → Begun (written_query b.select) (map entry_place b.entries.items) (Rests run new) old
+    → IsBoundBy o user bound q b → bound_widths b ≡ widths (query_scope (shapes o) q) → MayBegin full b → ServesRun none_held (held run) old new → IsRunning run new → HoldsOf (map entry_place b.entries.items) run new → ReadsTables (map entry_place b.entries.items) old new → AsksNone b old new → ShowsAll b run → OpensScans b run new → Begun (written_query b.select) (map entry_place b.entries.items) (Rests run new) old
     → Starts o user bound q full old (map string_bytes b.names.items) run new
 starts order any causes o user bound q full b run old new is wide may served running holds once asks shows opens begun =
     let m = meant_by o q in

@@ -1,5 +1,5 @@
 -- A query that was bound over the tables of a catalogue may be asked of the boxes in which these are bound.
-use Rattle.std.proofs.Common.{◌≡◌, ◌∙◌, inl, true, eqb, cond, ℕ, ◌+◌, ◌*◌, zero, suc, List, [], ◌∷◌, ◌++◌, Option, Some, None, map, flat_map, length, slice_get, is_some, unwrap_or, Contains, refl, ap, sym, subst, arith, if◌then◌else◌}
+use Rattle.std.proofs.Common.{◌≡◌, ◌∙◌, inl, true, eqb, cond, ℕ, ◌+◌, zero, suc, List, [], ◌∷◌, ◌++◌, Option, Some, None, map, flat_map, length, slice_get, is_some, unwrap_or, Contains, refl, ap, sym, subst, arith, if◌then◌else◌}
 use Rattle.std.proofs.lemmas.List.{length-map}
 use Rattle.med_value.specs.Column.{Column}
 use Rattle.med_value.specs.declared.cause.Cause.{Cause}
@@ -8,14 +8,14 @@ use Rattle.med_value.specs.declared.value.ColType.{ColType}
 use Rattle.med_syntax.specs.QueryTree.{EntryTree, SelectTree, StatementTree, select}
 use Rattle.med_syntax.specs.Tree.{Name}
 use Rattle.med_query.specs.Select.{are_safe_cores}
-use Rattle.med_query.specs.Form.{Form, core_form, form_of}
+use Rattle.med_query.specs.Form.{Form, form_of}
 use Rattle.fdw_api.specs.Kinds.{kinds_of}
 use Rattle.fdw_api.specs.State.{BoxState}
 use Rattle.fdw_api.specs.Sound.{IsTableOf}
 use Rattle.med_binder.specs.Place.{Place, entry_place as place_of}
 use Rattle.bind_names.specs.Meaning.{meant}
-use Rattle.bind_names.specs.Naming.{NameCauses, entry_causes, from_causes, asked_causes, select_name_causes, once_known}
-use Rattle.bind_names.specs.Scope.{TableShape, Scope, place_named, entry_place, entry_columns, entry_shape, entries_of, from_scope}
+use Rattle.bind_names.specs.Naming.{NameCauses, entry_causes, entered_causes, asked_causes, select_name_causes, once_known}
+use Rattle.bind_names.specs.Scope.{TableShape, Scope, place_named, entry_place, entry_columns, entry_shape, query_entries, query_scope}
 use Rattle.bind_types.specs.Typing.{TypeCauses}
 use Rattle.med_binder.specs.Alike.{FormAlike, kinds_among, kinds, from_kinds}
 use Rattle.med_binder.specs.Binding.{IsMeant}
@@ -68,10 +68,10 @@ right_none : (xs ys : List Cause) → xs ++ ys ≡ [] → ys ≡ []
 right_none [] ys h = h
 right_none (x ∷ xs) ys h = absurd cc
 
-from_known : (o : Objects) (q : SelectTree) → ((c : Cause) → NameCauses (shapes o) (select q) c → ⊥) → flat_map (entry_causes (shapes o)) (entries_of q.from) ≡ []
+from_known : (o : Objects) (q : SelectTree) → ((c : Cause) → NameCauses (shapes o) (select q) c → ⊥) → flat_map (entry_causes (shapes o)) (query_entries q) ≡ []
 from_known o q none =
-    left_none (flat_map (entry_causes (shapes o)) (entries_of q.from)) _
-    (known_first (from_causes (shapes o) q.from) (asked_causes (shapes o) q) (empty_by (select_name_causes (shapes o) q) none))
+    left_none (flat_map (entry_causes (shapes o)) (query_entries q)) _
+    (known_first (entered_causes (shapes o) q) (asked_causes (shapes o) q) (empty_by (select_name_causes (shapes o) q) none))
 
 unknown_named : (o : Objects) (e : EntryTree) → place_named (shapes o) e.table ≡ None → entry_causes (shapes o) e ≡ [] → ⊥
 unknown_named o e none h = let x : UndefinedTable ∷ [] ≡ [] = sym (ap (λ (r : Option ℕ). if is_some r then [] else UndefinedTable ∷ []) none) ∙ h in absurd cc
@@ -148,20 +148,20 @@ bound_ready counts views compares wide o bound q b boxes ready is = record {
 }
   where
     kss : List (List ColType)
-    kss = kinds (from_scope (shapes o) q.from)
+    kss = kinds (query_scope (shapes o) q)
 
     typed : AreOfKinds (bound_at boxes) b.entries.items kss
     typed = record {
-      each = entries_typed o bound boxes ready (entries_of q.from) b.entries.items (from_known o q is.names) is.places;
-      widths = is.widths ∙ widths_typed (from_scope (shapes o) q.from);
+      each = entries_typed o bound boxes ready (query_entries q) b.entries.items (from_known o q is.names) is.places;
+      widths = is.widths ∙ widths_typed (query_scope (shapes o) q);
     }
 
-    over : (P : List ℕ → Form → Type 0) → P (widths (from_scope (shapes o) q.from)) (meant_by o q).form → P (bound_widths b) (form_of b.select)
-    over P h = subst (λ (ws : List ℕ). P ws (form_of b.select)) (sym is.widths) (subst (λ (f : Form). P (widths (from_scope (shapes o) q.from)) f) (sym is.meant.form) h)
+    over : (P : List ℕ → Form → Type 0) → P (widths (query_scope (shapes o) q)) (meant_by o q).form → P (bound_widths b) (form_of b.select)
+    over P h = subst (λ (ws : List ℕ). P ws (form_of b.select)) (sym is.widths) (subst (λ (f : Form). P (widths (query_scope (shapes o) q)) f) (sym is.meant.form) h)
 
 -- by what binding a SELECT says of it
 pub bound_as : (o : Objects) (user : Name) (bound : List Attached) (q : SelectTree) (b : BoundQuery) → IsBindable o user q → IsMeant (meant_by o q) b → ArePlaces bound (meant_by o q).entries (map place_of b.entries.items)
-    → bound_widths b ≡ widths (from_scope (shapes o) q.from) → are_safe_cores b.select.cores.items ≡ true → IsBoundAs o bound q b
+    → bound_widths b ≡ widths (query_scope (shapes o) q) → are_safe_cores b.select.cores.items ≡ true → IsBoundAs o bound q b
 bound_as o user bound q b can is places wide safe = record {
   names = λ c h. can.names c (inl h);
   types = can.types;
@@ -171,20 +171,11 @@ bound_as o user bound q b can is places wide safe = record {
   safe = safe;
 }
 
--- ---- one core
+-- ---- the scans of its entries
 
 same_count : (slot : ℕ) (ps : List Place) → tables_counted slot ps ≡ tables_in slot ps
 same_count slot [] = refl
 same_count slot (p ∷ ps) = ap (λ (n : ℕ). cond (eqb p.source slot) 1 0 + n) (same_count slot ps)
 
-once : (n : ℕ) → 1 * n ≡ n
-once n = omega arith
-
-pub read_once : (o : Objects) (q : SelectTree) (b : BoundQuery) (old new : List (Option BoxState)) → IsMeant (meant_by o q) b → BeginsScans (scans_of b) old new → ReadsTables (map place_of b.entries.items) old new
-read_once o q b old new is h = record { begins = λ slot s t was after. h slot s t was after ∙ ap (λ (n : ℕ). s.ledger.next + n) (one slot) }
-  where
-    cores : length b.select.cores.items ≡ 1
-    cores = sym (length-map b.select.cores.items core_form) ∙ ap (λ (f : Form). length f.cores) is.form
-
-    one : (slot : ℕ) → scans_of b slot ≡ tables_in slot (map place_of b.entries.items)
-    one slot = ap (λ (n : ℕ). n * tables_counted slot (map place_of b.entries.items)) cores ∙ once (tables_counted slot (map place_of b.entries.items)) ∙ same_count slot (map place_of b.entries.items)
+pub read_once : (b : BoundQuery) (old new : List (Option BoxState)) → BeginsScans (scans_of b) old new → ReadsTables (map place_of b.entries.items) old new
+read_once b old new h = record { begins = λ slot s t was after. h slot s t was after ∙ ap (λ (n : ℕ). s.ledger.next + n) (same_count slot (map place_of b.entries.items)) }

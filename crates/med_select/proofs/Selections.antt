@@ -1,5 +1,5 @@
 -- The parts of a query: its entries, its run, and what it means in whatever order rows come.
-use Rattle.std.proofs.Common.{◌≡◌, ℕ, ◌<◌, ◌≤◌, string_bytes, List, [], ◌∷◌, Option, Some, None, map, length, refl, sym, ap, ◌∙◌, subst}
+use Rattle.std.proofs.Common.{◌≡◌, ℕ, true, false, string_bytes, List, [], ◌∷◌, Option, Some, None, map, length, refl, sym, ap, ◌∙◌, subst}
 use Rattle.std.proofs.lemmas.List.{length-map}
 use Rattle.std.proofs.lemmas.List.Sorted.{IsPermutation-sym}
 use Rattle.med_value.specs.Datum.{Tuple}
@@ -25,6 +25,7 @@ use Rattle.med_binder.specs.Binding.{IsMeant}
 use Rattle.med_binder.specs.declared.bound.BoundQuery.{BoundQuery}
 use Rattle.med_binder.specs.declared.bound.BoundEntry.{BoundEntry}
 use Rattle.sql_meaning.specs.Causes.{query_of}
+use Rattle.sql_meaning.specs.Sizes.{is_large_form}
 use Rattle.med_syntax.specs.Tree.{Name}
 use Rattle.med_catalog.specs.Objects.{Objects}
 use Rattle.bind_catalog.specs.Queries.{meant_by, IsBindable}
@@ -97,13 +98,13 @@ pub record IsBoundBy (o : Objects) (user : Name) (bound : List Attached) (q : Se
   pub places : ArePlaces bound (meant_by o q).entries (map entry_place b.entries.items)
 
 pub selected : ExpressionsIgnoreOrder → AnswersInAnyOrder → CausesInAnyOrder → (o : Objects) (user : Name) (bound : List Attached) (q : SelectTree) (b : BoundQuery) (rows : List Tuple) (old new : List (Option BoxState))
-    → IsBoundBy o user bound q b → length b.entries.items ≤ 8 → AllServed old new → ReadsTables (map entry_place b.entries.items) old new → (asked : BoundQuery) → form_of asked.select ≡ form_of b.select → map entry_place asked.entries.items ≡ map entry_place b.entries.items → PullsRows asked old new → RunAnswers (written_query b.select) (map entry_place b.entries.items) old rows → Selects o user bound q old (map string_bytes b.names.items) rows new
+    → IsBoundBy o user bound q b → is_large_form (form_of b.select) ≡ false → AllServed old new → ReadsTables (map entry_place b.entries.items) old new → (asked : BoundQuery) → form_of asked.select ≡ form_of b.select → map entry_place asked.entries.items ≡ map entry_place b.entries.items → PullsRows asked old new → RunAnswers (written_query b.select) (map entry_place b.entries.items) old rows → Selects o user bound q old (map string_bytes b.names.items) rows new
 selected order any causes o user bound q b rows old new is few served once asked form at pulls run =
     let m = meant_by o q in
     let places = map entry_place b.entries.items in
     record {
       bindable = is.bindable;
-      few = subst (λ (n : ℕ). n ≤ 8) (sym (entries_counted m b is.meant)) few;
+      few = sym (ap is_large_form is.meant.form) ∙ few;
       named = is.meant.names;
       served = served;
       places = places;
@@ -114,13 +115,13 @@ selected order any causes o user bound q b rows old new is few served once asked
     }
 
 pub unanswered : ExpressionsIgnoreOrder → CausesInAnyOrder → (o : Objects) (user : Name) (bound : List Attached) (q : SelectTree) (b : BoundQuery) (fault : Fault) (old new : List (Option BoxState))
-    → IsBoundBy o user bound q b → length b.entries.items ≤ 8 → AllServed old new → Stops (written_query b.select) (map entry_place b.entries.items) fault old new → SelectFails o user bound q old (cause_of fault) new
+    → IsBoundBy o user bound q b → is_large_form (form_of b.select) ≡ false → AllServed old new → Stops (written_query b.select) (map entry_place b.entries.items) fault old new → SelectFails o user bound q old (cause_of fault) new
 unanswered order causes o user bound q b fault old new is few served stops =
     let m = meant_by o q in
     let places = map entry_place b.entries.items in
-    run_fails is.bindable (subst (λ (n : ℕ). n ≤ 8) (sym (entries_counted m b is.meant)) few) served places is.places
+    run_fails is.bindable (sym (ap is_large_form is.meant.form) ∙ few) served places is.places
     (subst (λ (x : Query). RunFails x places (cause_of fault) old new) (query_bound m b is.meant) (fails_over causes (written_query b.select) (steady order b.select) places fault old new stops))
 
-pub crowded : (o : Objects) (user : Name) (bound : List Attached) (q : SelectTree) (b : BoundQuery) (old : List (Option BoxState)) → IsBoundBy o user bound q b → 8 < length b.entries.items → SelectFails o user bound q old LimitExceeded old
+pub crowded : (o : Objects) (user : Name) (bound : List Attached) (q : SelectTree) (b : BoundQuery) (old : List (Option BoxState)) → IsBoundBy o user bound q b → is_large_form (form_of b.select) ≡ true → SelectFails o user bound q old LimitExceeded old
 crowded o user bound q b old is many =
-    too_many is.bindable (subst (λ (n : ℕ). 8 < n) (sym (entries_counted (meant_by o q) b is.meant)) many) refl refl
+    too_many is.bindable (sym (ap is_large_form is.meant.form) ∙ many) refl refl

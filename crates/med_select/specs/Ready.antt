@@ -8,7 +8,7 @@ use Rattle.fdw_api.specs.State.{BoxState}
 use Rattle.fdw_api.specs.Sound.{IsTableOf, IsSoundBox}
 use Rattle.med_binder.specs.Place.{entry_place}
 use Rattle.bind_names.specs.Naming.{NameCauses}
-use Rattle.bind_names.specs.Scope.{from_scope}
+use Rattle.bind_names.specs.Scope.{query_scope}
 use Rattle.bind_types.specs.Typing.{TypeCauses}
 use Rattle.med_binder.specs.Binding.{IsMeant}
 use Rattle.med_binder.specs.Counted.{bound_widths}
@@ -38,7 +38,7 @@ pub record IsBoundAs (o : Objects) (bound : List Attached) (q : SelectTree) (b :
   pub types : (c : Cause) → TypeCauses (shapes o) (select q) c → ⊥
   pub meant : IsMeant (meant_by o q) b
   pub places : ArePlaces bound (meant_by o q).entries (map entry_place b.entries.items)
-  pub widths : bound_widths b ≡ widths (from_scope (shapes o) q.from)
+  pub widths : bound_widths b ≡ widths (query_scope (shapes o) q)
   pub safe : are_safe_cores b.select.cores.items ≡ true
 
 -- Boxes that are ready for the tables of a catalogue are ready for each query that is bound over them.
@@ -46,7 +46,7 @@ abbrev pub BoundIsReady : Type 0
 BoundIsReady = (o : Objects) (bound : List Attached) (q : SelectTree) (b : BoundQuery) (boxes : List (Option BoxState))
     → AreReady o bound boxes → IsBoundAs o bound q b → IsReady boxes b
 
--- A query that is written has one core: one scan for each entry of each core is one for each entry.
-abbrev pub WrittenReadsOnce : Type 0
-WrittenReadsOnce = (o : Objects) (q : SelectTree) (b : BoundQuery) (old new : List (Option BoxState))
-    → IsMeant (meant_by o q) b → BeginsScans (scans_of b) old new → ReadsTables (map entry_place b.entries.items) old new
+-- One scan for each entry of a bound query is one for each of the tables that it reads.
+abbrev pub EntriesAreReadOnce : Type 0
+EntriesAreReadOnce = (b : BoundQuery) (old new : List (Option BoxState))
+    → BeginsScans (scans_of b) old new → ReadsTables (map entry_place b.entries.items) old new

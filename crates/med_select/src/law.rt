@@ -1,15 +1,15 @@
 //! Laws of queries over the tables of a catalogue. A call does nothing: its contract is the law.
 
-ghost use Rattle.med_select.specs.Ready.{BoundIsReady, WrittenReadsOnce};
+ghost use Rattle.med_select.specs.Ready.{BoundIsReady, EntriesAreReadOnce};
 
 use loop_plans::law::bound_rows_are_wide;
 use med_binder::law::{columns_are_in_view, compared_columns_are_alike, tables_are_counted};
 
 /// Boxes in which each table of a catalogue is bound with its columns' types are ready for each query that was bound over the catalogue;
-/// and where one scan was begun for each entry of each core of it, one was begun for each entry.
+/// and where one scan was begun for each entry of a bound query, each table that it reads was read once.
 pub fn bound_queries_are_ready()
     ensures ready { BoundIsReady }
-    ensures once { WrittenReadsOnce }
+    ensures once { EntriesAreReadOnce }
 {
     tables_are_counted();
     columns_are_in_view();

@@ -7,7 +7,7 @@ ghost use Rattle.bind_names.specs.Seen.{seen_entry};
 ghost use Rattle.bind_catalog.specs.Looked.{query_in};
 ghost use Rattle.open_cursors.specs.Starting.{leases_of};
 
-use bind_names::entries_of;
+use bind_names::query_entries;
 use med_syntax::{Entry, Statement};
 use med_value::Cause;
 use std::alloc::Global;
@@ -25,12 +25,12 @@ fn tables_of(alloc: Global, entries: &[&Entry]) -> Result<Vec<String>, Cause>
     Ok(names)
 }
 
-/// The names of the tables of the entries of FROM, in their order. Refused only where memory is.
+/// The names of the tables of the entries of FROM of each core, in their order. Refused only where memory is.
 pub fn leased_tables(alloc: Global, statement: &Statement) -> Result<Vec<String>, Cause>
     ensures ok { IfOk result (λ names. map string_bytes names.items ≡ leases_of (query_in (statement_tree statement.now))) }
     ensures err { IfErr result (λ c. c ≡ OutOfMemory) }
 {
     let Statement::Select(query) = statement;
-    let entries = entries_of(alloc, query.from.as_slice())?;
+    let entries = query_entries(alloc, query)?;
     tables_of(alloc, entries.as_slice())
 }

@@ -6,10 +6,12 @@ pub mod law;
 mod leasing;
 mod risk;
 mod selecting;
+mod sizes;
 mod starting;
 
 pub use fault::cause_of;
 pub use leasing::leased_tables;
 pub use risk::is_risky_query;
 pub use selecting::{RowSet, run_query, run_select};
+pub use sizes::is_large_query;
 pub use starting::{Started, start_select};

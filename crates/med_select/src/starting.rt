@@ -13,6 +13,7 @@ use crate::fault::cause_of;
 use crate::law::bound_queries_are_ready;
 use crate::leasing::leased_tables;
 use crate::risk::is_risky_query;
+use crate::sizes::is_large_query;
 use bind_catalog::{BoundTable, bind};
 use bound_runs::start_bound;
 use fdw_api::wishes::Wrapper2;
@@ -23,7 +24,6 @@ use med_planner::law::causes_ignore_order;
 use med_query::law::{answers_ignore_order, expressions_ignore_order};
 use med_syntax::Statement;
 use med_value::Cause;
-use med_value::limits::ENTRY_LIMIT;
 use std::alloc::Global;
 use std::mem;
 
@@ -31,7 +31,7 @@ use std::mem;
 pub struct Started {
     /// The names of the columns of its rows.
     pub names: Vec<String>,
-    /// The tables that it reads, one for each entry of FROM, in their order.
+    /// The tables that it reads, one for each entry of FROM of each core, in their order.
     pub leases: Vec<String>,
     /// The rows that it has to give.
     pub run: Run,
@@ -42,9 +42,9 @@ pub struct Started {
 ///
 /// # Errors
 ///
-/// A cause of names, rights or types; 0A000 where an expression of it may fault; 54000 where the session is full or FROM has more than 8
-/// entries; 53200, HV000 and 54000 where memory was refused, a source failed, and a box has given all its ticket numbers; and what the
-/// query shows over the rows of its tables.
+/// A cause of names, rights or types; 0A000 where an expression of it may fault; 54000 where the session is full, where the query has more
+/// than 8 cores or FROM of one more than 8 entries; 53200, HV000 and 54000 where memory was refused, a source failed, and a box has given
+/// all its ticket numbers; and what the query shows over the rows of its tables.
 ///
 /// SQL:2016, 14.1 <declare cursor>.
 pub fn start_select<W: Wrapper2>(
@@ -75,7 +75,7 @@ pub fn start_select<W: Wrapper2>(
     if is_risky_query(&query.select) {
         return Err(Cause::FeatureNotSupported);
     }
-    if is_full || query.entries.len() > ENTRY_LIMIT {
+    if is_full || is_large_query(&query.select) {
         return Err(Cause::LimitExceeded);
     }
     let leases = match leased_tables(alloc, statement) {

@@ -1,5 +1,5 @@
 -- A statement that is not read, and a query, lead to their replies, and leave an engine sound.
-use Rattle.std.proofs.Common.{◌≡◌, ℕ, ◌<◌, ◌≤◌, ◌⊎◌, true, false, List, Option, is_some, length, codes, refl, ap, sym, subst, arith, inl, inr}
+use Rattle.std.proofs.Common.{◌≡◌, ℕ, ◌≤◌, ◌⊎◌, true, false, List, Option, is_some, codes, refl, ap, sym, subst, arith, inl, inr}
 use Rattle.std.proofs.lemmas.Bool.{false≢true}
 use Rattle.med_value.specs.Datum.{Tuple}
 use Rattle.med_value.specs.declared.cause.Cause.{Cause}
@@ -14,6 +14,7 @@ use Rattle.med_exec.specs.Running.{AllServed, SlotShows, IsUsedUp}
 use Rattle.bind_names.specs.Meaning.{Meant}
 use Rattle.bind_catalog.specs.Queries.{meant_by, IsBindable}
 use Rattle.bind_catalog.specs.Places.{ArePlaces}
+use Rattle.sql_meaning.specs.Sizes.{is_large_form}
 use Rattle.sql_meaning.specs.Requests.{sql, IsSid}
 use Rattle.sql_meaning.specs.Picks.{no_pick}
 use Rattle.sql_meaning.specs.World.{World}
@@ -58,14 +59,14 @@ selects e new sid text user q names given read h =
 back_to : (e : Shown) (new : List (Option BoxState)) (sid : ℕ) (text : List ℕ) (r : Reply) → new ≡ e.boxes → Leads e sid (sql text) r e → Leads e sid (sql text) r (with_boxes e new)
 back_to e new sid text r same h = subst (λ (x : List (Option BoxState)). Leads e sid (sql text) r (with_boxes e x)) (sym same) h
 
--- one with too many entries
-many_leads : ArePhased → (e : Shown) (sid : ℕ) (text : List ℕ) (user : Name) (q : SelectTree) → IsRead e sid text user (on_data (select q)) → IsBindable e.catalog user q → 8 < length (meant_by e.catalog q).entries
+-- one that is larger than it may be
+many_leads : ArePhased → (e : Shown) (sid : ℕ) (text : List ℕ) (user : Name) (q : SelectTree) → IsRead e sid text user (on_data (select q)) → IsBindable e.catalog user q → is_large_form (meant_by e.catalog q).form ≡ true
     → Leads e sid (sql text) (refused LimitExceeded) e
 many_leads law e sid text user q read b many = leads_refused e e sid (sql text) LimitExceeded (asks_refused e sid (sql text) LimitExceeded e refl) (none_rises e.boxes) (λ w a. a) (λ w a. (
   no_pick,
   picks_none e w sid text user q a read,
   told_tree w sid no_pick text (session_in w sid user) (on_data (select q)) LimitExceeded (known e w sid text user (on_data (select q)) a read)
-      (inr (inr (inl (subst (λ (m : Meant). 8 < length m.entries) (same_meant e w q a) many, refl))))
+      (inr (inr (inl (subst (λ (m : Meant). is_large_form m.form ≡ true) (same_meant e w q a) many, refl))))
       (λ d x. from_state w user q (bindable_in e w user q a b) d x),
 ))
 
@@ -90,7 +91,7 @@ ends_leads e new sid text user q read b served h kept = record {
 }
 
 run_leads : ArePhased → (e : Shown) (new : List (Option BoxState)) (sid : ℕ) (text : List ℕ) (user : Name) (q : SelectTree) (places : List Place) (c : Cause) → IsRead e sid text user (on_data (select q)) → IsBindable e.catalog user q
-    → length (meant_by e.catalog q).entries ≤ 8 → AllServed e.boxes new → ArePlaces e.bound (meant_by e.catalog q).entries places → RunFails (query_of (meant_by e.catalog q)) places c e.boxes new
+    → is_large_form (meant_by e.catalog q).form ≡ false → AllServed e.boxes new → ArePlaces e.bound (meant_by e.catalog q).entries places → RunFails (query_of (meant_by e.catalog q)) places c e.boxes new
     → Leads e sid (sql text) (refused c) (with_boxes e new)
 run_leads law e new sid text user q places c read b few served are (no_memory is) =
     subst (λ (d : Cause). Leads e sid (sql text) (refused d) (with_boxes e new)) (sym is) (leads_memory e (with_boxes e new) sid (sql text) (asks_read e sid text user (on_data (select q)) (refused OutOfMemory) (with_boxes e new) read tt) tt (serving_rises e.boxes new served) (serving_agrees e new served))

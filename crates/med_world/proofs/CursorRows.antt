@@ -4,10 +4,10 @@ use Rattle.std.specs.List.{list_any}
 use Rattle.med_value.specs.declared.cause.Cause.{Cause}
 use Rattle.med_value.specs.declared.cause.Cause.TheVariants.{UndefinedTable}
 use Rattle.med_syntax.specs.Tree.{Name}
-use Rattle.med_syntax.specs.QueryTree.{EntryTree, SelectTree}
+use Rattle.med_syntax.specs.QueryTree.{EntryTree, SelectTree, cores_of}
 use Rattle.fdw_api.specs.Kinds.{Held}
-use Rattle.bind_names.specs.Scope.{TableShape, place_named, entries_of, is_known, entry_place, exposed_name}
-use Rattle.bind_names.specs.Naming.{entry_causes, alias_causes, from_causes, asked_causes, once_known}
+use Rattle.bind_names.specs.Scope.{TableShape, place_named, query_entries, is_known, entry_place}
+use Rattle.bind_names.specs.Naming.{entry_causes, core_alias_causes, entered_causes, asked_causes, once_known}
 use Rattle.bind_catalog.specs.Tables.{shapes}
 use Rattle.bind_catalog.specs.Queries.{meant_by, IsBindable}
 use Rattle.bind_catalog.specs.Places.{Attached, IsPlaceOf, ArePlaces}
@@ -65,11 +65,11 @@ known_entries tables (e ∷ es) none = (
   known_entries tables es (second_nil (entry_causes tables e) (flat_map (entry_causes tables) es) none),
 )
 
-all_known : (o : Objects) (user : Name) (q : SelectTree) → IsBindable o user q → AllKnown (shapes o) (entries_of q.from)
+all_known : (o : Objects) (user : Name) (q : SelectTree) → IsBindable o user q → AllKnown (shapes o) (query_entries q)
 all_known o user q b =
-    let none : once_known (from_causes (shapes o) q.from) (asked_causes (shapes o) q) ≡ [] = nil_of (once_known (from_causes (shapes o) q.from) (asked_causes (shapes o) q)) (λ c has. b.names c (inl has)) in
-    known_entries (shapes o) (entries_of q.from)
-    (first_nil (flat_map (entry_causes (shapes o)) (entries_of q.from)) (alias_causes (map exposed_name (entries_of q.from))) (known_nil (from_causes (shapes o) q.from) (asked_causes (shapes o) q) none))
+    let none : once_known (entered_causes (shapes o) q) (asked_causes (shapes o) q) ≡ [] = nil_of (once_known (entered_causes (shapes o) q) (asked_causes (shapes o) q)) (λ c has. b.names c (inl has)) in
+    known_entries (shapes o) (query_entries q)
+    (first_nil (flat_map (entry_causes (shapes o)) (query_entries q)) (flat_map core_alias_causes (cores_of q)) (known_nil (entered_causes (shapes o) q) (asked_causes (shapes o) q) none))
 
 -- ---- the rows of an entry
 
@@ -106,14 +106,14 @@ rows_of_entries w (e ∷ es) known (suc k) = rows_of_entries w es known.1 k
 
 -- the rows that a cursor keeps at DECLARE are those that its query is over
 pub rows_kept : (w : World) (user : Name) (q : SelectTree) → IsBindable w.catalog user q → rows_leased (leased_now w q) ≡ entries_in w q
-rows_kept w user q b = λ i k. rows_of_entries w (entries_of q.from) (all_known w.catalog user q b) k i
+rows_kept w user q b = λ i k. rows_of_entries w (query_entries q) (all_known w.catalog user q b) k i
 
 tables_of : (w : World) (es : List EntryTree) → map (λ (l : Leased). l.table) (map (leased_as w) es) ≡ map (λ (e : EntryTree). e.table) es
 tables_of w [] = refl
 tables_of w (e ∷ es) = ap (λ (ns : List Name). e.table ∷ ns) (tables_of w es)
 
 pub tables_kept : (w : World) (q : SelectTree) → map (λ (l : Leased). l.table) (leased_now w q) ≡ leases_of q
-tables_kept w q = tables_of w (entries_of q.from)
+tables_kept w q = tables_of w (query_entries q)
 
 -- they stand
 entry_stands : (w : World) (es : List EntryTree) → AllKnown (shapes w.catalog) es → (k : ℕ) (l : Leased) → slice_get (map (leased_as w) es) k ≡ Some l → StillStands w l
@@ -124,7 +124,7 @@ entry_stands w (e ∷ es) known zero l at =
 entry_stands w (e ∷ es) known (suc k) l at = entry_stands w es known.1 k l at
 
 pub tables_stand : (w : World) (user : Name) (q : SelectTree) → IsBindable w.catalog user q → (l : Leased) → Contains (leased_now w q) l → StillStands w l
-tables_stand w user q b l has = let p = place_of (leased_now w q) l has in entry_stands w (entries_of q.from) (all_known w.catalog user q b) p.0 l p.1
+tables_stand w user q b l has = let p = place_of (leased_now w q) l has in entry_stands w (query_entries q) (all_known w.catalog user q b) p.0 l p.1
 
 -- ---- a table that is read is leased
 
@@ -167,4 +167,4 @@ pub place_leased : (o : Objects) (user : Name) (bound : List Attached) (q : Sele
 place_leased o user bound q names name run places slot number p b are has source table =
     let c = new_opened name names q run in
     let k = place_of places p has in
-    entries_leased o bound c slot number (entries_of q.from) places p (all_known o user q b) are (all_leased c (entries_of q.from) refl) k.0 k.1 source table
+    entries_leased o bound c slot number (query_entries q) places p (all_known o user q b) are (all_leased c (query_entries q) refl) k.0 k.1 source table

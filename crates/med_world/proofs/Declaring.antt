@@ -1,5 +1,5 @@
 -- DECLARE leads to its reply.
-use Rattle.std.proofs.Common.{◌≡◌, ℕ, ◌<◌, ◌≤◌, true, false, List, [], ◌∷◌, ◌++◌, Option, Some, None, is_some, length, codes, refl, ap, sym, ◌∙◌, subst, arith, inl, inr, lit≤}
+use Rattle.std.proofs.Common.{◌≡◌, ℕ, ◌≤◌, true, false, List, [], ◌∷◌, ◌++◌, Option, Some, None, is_some, codes, refl, ap, sym, ◌∙◌, subst, arith, inl, inr, lit≤}
 use Rattle.std.proofs.lemmas.Bool.{false≢true}
 use Rattle.med_value.specs.declared.cause.Cause.{Cause}
 use Rattle.med_value.specs.declared.cause.Cause.TheVariants.{LimitExceeded, FeatureNotSupported, DuplicateCursor, SourceFault, OutOfMemory}
@@ -20,6 +20,7 @@ use Rattle.med_catalog.specs.Objects.{Objects}
 use Rattle.open_cursors.specs.Open.{Seated, is_full, opened_named}
 use Rattle.med_query.specs.Form.{is_risky_form}
 use Rattle.open_cursors.specs.Starting.{Starts, StartFails, not_bound, is_risky, no_room, too_many, run_fails, RunFails, no_memory, box_fails, numbers_out, shows_cause}
+use Rattle.sql_meaning.specs.Sizes.{is_large_form}
 use Rattle.sql_meaning.specs.Requests.{sql, IsSid}
 use Rattle.sql_meaning.specs.Picks.{no_pick}
 use Rattle.sql_meaning.specs.World.{World, rows_in, with_session}
@@ -156,7 +157,7 @@ late e w sid text seat name q read at free b safe a = before_tree w sid text (se
     (λ p d x. let r : 5 ≤ phase d = before_run e sid seat name q read.is_sid at free b safe w a d x in omega arith)
 
 run_leads : (e : Shown) (new : List (Option BoxState)) (sid : ℕ) (text : List ℕ) (seat : Seated) (name : Name) (q : SelectTree) (c : Cause) (places : List Place) → IsRead e sid text seat.user (on_cursors (declare name (select q)))
-    → seat_of e.seats sid ≡ Some seat → opened_named name seat.cursors ≡ None → IsBindable e.catalog seat.user q → is_risky_form (meant_by e.catalog q).form ≡ false → is_full seat.cursors ≡ false → length (meant_by e.catalog q).entries ≤ 8
+    → seat_of e.seats sid ≡ Some seat → opened_named name seat.cursors ≡ None → IsBindable e.catalog seat.user q → is_risky_form (meant_by e.catalog q).form ≡ false → is_full seat.cursors ≡ false → is_large_form (meant_by e.catalog q).form ≡ false
     → AllServed e.boxes new → ArePlaces e.bound (meant_by e.catalog q).entries places → RunFails (query_of (meant_by e.catalog q)) places c e.boxes new → Leads e sid (sql text) (refused c) (with_boxes e new)
 run_leads e new sid text seat name q c places read at free b safe room few served are (no_memory is) =
     subst (λ (d : Cause). Leads e sid (sql text) (refused d) (with_boxes e new)) (sym is) (leads_memory e (with_boxes e new) sid (sql text) (asks_read e sid text seat.user (Tree name q) (refused OutOfMemory) (with_boxes e new) read tt) tt (serving_rises e.boxes new served) (serving_agrees e new served))
@@ -237,7 +238,7 @@ not_declared law e new sid text seat name q c read at free (no_room b safe full 
     (λ w a d x. before_run e sid seat name q read.is_sid at free b safe w a d x)))
 not_declared law e new sid text seat name q c read at free (too_many b safe many is same) = back_to e new sid text (refused c) same
     (subst (λ (d : Cause). Leads e sid (sql text) (refused d) e) (sym is) (quiet_leads e sid text seat name q LimitExceeded read
-    (λ w a. of_query (inr (inr (inl (subst (λ (m : Meant). 8 < length m.entries) (same_meant e w q a) many, refl)))))
+    (λ w a. of_query (inr (inr (inl (subst (λ (m : Meant). is_large_form m.form ≡ true) (same_meant e w q a) many, refl)))))
     (λ w a d x. before_run e sid seat name q read.is_sid at free b safe w a d x)))
 not_declared law e new sid text seat name q c read at free (run_fails b safe room few served places are why) =
     run_leads e new sid text seat name q c places read at free b safe room few served are why

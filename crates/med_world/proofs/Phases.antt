@@ -10,7 +10,7 @@ use Rattle.med_value.specs.Causes.{phase_of}
 use Rattle.med_value.specs.declared.cause.Cause.{Cause}
 use Rattle.med_syntax.specs.Tree.{Name}
 use Rattle.med_syntax.specs.QueryTree.{EntryTree, SelectTree, StatementTree, select}
-use Rattle.bind_names.specs.Scope.{TableShape, entries_of}
+use Rattle.bind_names.specs.Scope.{TableShape, query_entries}
 use Rattle.bind_names.specs.Naming.{NameCauses}
 use Rattle.bind_types.specs.Typing.{TypeCauses}
 use Rattle.ddl_syntax.specs.DdlTree.{DdlTree}
@@ -54,7 +54,7 @@ third c h = split (eqb_tells (phase c) 3)
 
 rights_phase : (o : Objects) (user : Name) (q : SelectTree) (c : Cause) → Contains (query_right_causes o user q) c → phase c ≡ 3
 rights_phase o user q c h =
-    third c (All-contains (λ x. is_third x ≡ true) (query_right_causes o user q) c (AllPass-from_list_all is_third (query_right_causes o user q) (all_third o user (entries_of q.from))) h)
+    third c (All-contains (λ x. is_third x ≡ true) (query_right_causes o user q) c (AllPass-from_list_all is_third (query_right_causes o user q) (all_third o user (query_entries q))) h)
 
 -- ---- queries
 

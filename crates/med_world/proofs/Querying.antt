@@ -1,5 +1,5 @@
 -- A query leads to its reply.
-use Rattle.std.proofs.Common.{◌≡◌, ℕ, ◌<◌, ◌≤◌, true, false, List, [], ◌∷◌, Option, Some, slice_get, length, map, codes, refl, ap, sym, ◌∙◌, subst, arith, inl, inr, zero, suc, IsPermutation}
+use Rattle.std.proofs.Common.{◌≡◌, ℕ, ◌≤◌, true, false, List, [], ◌∷◌, Option, Some, slice_get, map, codes, refl, ap, sym, ◌∙◌, subst, arith, inl, inr, zero, suc, IsPermutation}
 use Rattle.std.proofs.lemmas.Bool.{false≢true}
 use Rattle.std.proofs.lemmas.List.Sorted.{IsPermutation-refl, IsPermutation-map}
 use Rattle.med_value.specs.Datum.{Tuple}
@@ -21,6 +21,7 @@ use Rattle.bind_names.specs.Meaning.{Meant}
 use Rattle.med_catalog.specs.Objects.{Objects}
 use Rattle.bind_catalog.specs.Queries.{QueryNames, QueryTypes, meant_by, IsBindable, NotBound}
 use Rattle.bind_catalog.specs.Places.{Attached, IsPlaceOf, ArePlaces}
+use Rattle.sql_meaning.specs.Sizes.{is_large_form}
 use Rattle.sql_meaning.specs.Requests.{sql}
 use Rattle.med_parser.specs.CommandTree.{on_data}
 use Rattle.sql_meaning.specs.Picks.{no_pick}
@@ -120,11 +121,8 @@ same_meant e w q a = ap (λ (o : Objects). meant_by o q) (sym a.catalog)
 pub same_entries : (e : Shown) (w : World) (q : SelectTree) (places : List Place) → Agrees e w → ArePlaces e.bound (meant_by e.catalog q).entries places → SameRows (entry_rows e.boxes places) (entry_tables (meant_by e.catalog q).entries (rows_in w.rows))
 same_entries e w q places a are = entries_agree e.boxes e.bound w.rows (meant_by e.catalog q).entries places a.rows are
 
-pub none_many : (e : Shown) (w : World) (q : SelectTree) → Agrees e w → length (meant_by e.catalog q).entries ≤ 8 → (d : Cause) → QueryState w q d → ⊥
-none_many e w q a few d h =
-    let less : length (meant_over w q).entries ≤ 8 = subst (λ (m : Meant). length m.entries ≤ 8) (same_meant e w q a) few in
-    let more : 8 < length (meant_over w q).entries = h.0 in
-    omega arith
+pub none_many : (e : Shown) (w : World) (q : SelectTree) → Agrees e w → is_large_form (meant_by e.catalog q).form ≡ false → (d : Cause) → QueryState w q d → ⊥
+none_many e w q a few d h = false≢true (sym (subst (λ (m : Meant). is_large_form m.form ≡ false) (same_meant e w q a) few) ∙ h.0)
 
 abbrev pub ShowsIn : World → Meant → Cause → Type 0
 ShowsIn w m c = IsShownCause (query_of m) (entry_tables m.entries (rows_in w.rows)) c
@@ -188,7 +186,7 @@ not_bound_leads law e sid text user q c read (inr (inr (h, none))) = leads_refus
 ))
 
 -- one whose run shows a cause
-pub shows_run_leads : (e new : Shown) (sid : ℕ) (text : List ℕ) (user : Name) (q : SelectTree) (places : List Place) (c : Cause) → IsRead e sid text user (on_data (select q)) → IsBindable e.catalog user q → length (meant_by e.catalog q).entries ≤ 8
+pub shows_run_leads : (e new : Shown) (sid : ℕ) (text : List ℕ) (user : Name) (q : SelectTree) (places : List Place) (c : Cause) → IsRead e sid text user (on_data (select q)) → IsBindable e.catalog user q → is_large_form (meant_by e.catalog q).form ≡ false
     → ArePlaces e.bound (meant_by e.catalog q).entries places → (AllHonest e.boxes → (db : Tables) → SameRows (entry_rows e.boxes places) db → IsShownCause (query_of (meant_by e.catalog q)) db c)
     → EachRises e.boxes new.boxes → ((w : World) → Agrees e w → Agrees new w) → Leads e sid (sql text) (refused c) new
 shows_run_leads e new sid text user q places c read b few are h rises kept = leads_refused e new sid (sql text) c (asks_read e sid text user (on_data (select q)) (refused c) new read tt) rises kept (λ w a. (

@@ -1,5 +1,5 @@
 -- A write leads to its tag or its refusal in each world that agrees, and leaves an engine sound.
-use Rattle.std.proofs.Common.{◌≡◌, ℕ, ◌<◌, ◌≤◌, ◌⊎◌, Bool, true, false, List, [], Option, Some, IsPermutation, slice_get, length, ◌+◌, refl, ap, sym, ◌∙◌, subst, arith, inl, inr}
+use Rattle.std.proofs.Common.{◌≡◌, ℕ, ◌≤◌, ◌⊎◌, Bool, true, false, List, [], Option, Some, IsPermutation, slice_get, ◌+◌, refl, ap, sym, ◌∙◌, subst, arith, inl, inr}
 use Rattle.med_value.specs.Datum.{Tuple}
 use Rattle.med_value.specs.declared.cause.Cause.{Cause}
 use Rattle.med_value.specs.declared.cause.Cause.TheVariants.{LimitExceeded, InUse}
@@ -34,6 +34,7 @@ use Rattle.med_world.specs.Altering.{cause_of}
 use Rattle.sql_meaning.specs.Picks.{Pick, no_pick, PicksAnswer, has_none}
 use Rattle.sql_meaning.specs.World.{World, cells_of, rows_in}
 use Rattle.sql_meaning.specs.Causes.{query_of, entry_tables, meant_over, entries_in, QueryState, QueryRun, OfGiven, OfQuery, write_over, rows_held, WriteState, query_shows, IsRowPick, PicksWrite, phase}
+use Rattle.sql_meaning.specs.Sizes.{is_large_form}
 use Rattle.sql_meaning.specs.Steps.{Writes}
 use Rattle.med_world.specs.Engine.{Shown, leased, IsSound, Agrees}
 use Rattle.open_cursors.specs.Starting.{RunFails, no_memory, box_fails, numbers_out, shows_cause}
@@ -203,8 +204,8 @@ not_bound_ends law e user t c (inr (inr (h, none))) = is_told told
               let r : 4 ≤ phase d = row_from_types law w user no_pick t (subst (λ (o : Objects). (y : Cause) → WriteNames o user t y → ⊥) (sym a.catalog) none) d x in omega arith;
         }
 
--- FROM of its query has too many entries
-many_end : (e : Shown) (user : Name) (t : WriteTree) → IsBindable e.catalog user t → OfQuery (λ q. 8 < length (meant_by e.catalog q).entries) t → WhyNotDone e user t LimitExceeded e
+-- its query is larger than it may be
+many_end : (e : Shown) (user : Name) (t : WriteTree) → IsBindable e.catalog user t → OfQuery (λ q. is_large_form (meant_by e.catalog q).form ≡ true) t → WhyNotDone e user t LimitExceeded e
 many_end e user t b many = is_told told
   where
     told : (w : World) → Agrees e w → RowsToldIn w user t LimitExceeded
@@ -216,7 +217,7 @@ many_end e user t b many = is_told told
     }
       where
         stands : WriteState w t LimitExceeded
-        stands = inr (in_query (λ q. 8 < length (meant_by e.catalog q).entries) (λ q. QueryState w q LimitExceeded) t (λ q x. (subst (λ (m : Meant). 8 < length m.entries) (same_meant e w q a) x, refl)) many)
+        stands = inr (in_query (λ q. is_large_form (meant_by e.catalog q).form ≡ true) (λ q. QueryState w q LimitExceeded) t (λ q x. (subst (λ (m : Meant). is_large_form m.form ≡ true) (same_meant e w q a) x, refl)) many)
 
 -- a cursor reads its table
 use_end : (e : Shown) (user : Name) (t : WriteTree) → IsSound e → IsBindable e.catalog user t → leased e (target_of t) ≡ true → WhyNotDone e user t InUse e
@@ -263,7 +264,7 @@ query_told e w t at q c new sound target_at a is h shows = record {
     p : (p : Pick) × PicksWrite w t p × (p.answer ≡ [])
     p = some_write e w t [] at box.0 sound target_at box.1 a none_given
 
-few_for : (e : Shown) (w : World) (t : WriteTree) (q : SelectTree) → Agrees e w → OfQuery (λ r. r ≡ q) t → length (meant_by e.catalog q).entries ≤ 8 → OfQuery (λ r. (d : Cause) × QueryState w r d) t → ⊥
+few_for : (e : Shown) (w : World) (t : WriteTree) (q : SelectTree) → Agrees e w → OfQuery (λ r. r ≡ q) t → is_large_form (meant_by e.catalog q).form ≡ false → OfQuery (λ r. (d : Cause) × QueryState w r d) t → ⊥
 few_for e w t q a is few h = of_query (λ r. ((d : Cause) × QueryState w r d) × OfQuery (λ s. s ≡ r) t) ⊥ t (λ r x. none_many e w q a few x.0.0 (subst (λ (s : SelectTree). QueryState w s x.0.0) (sym (one_query t q r is x.1)) x.0.1))
     (linked (λ r. (d : Cause) × QueryState w r d) t h)
 

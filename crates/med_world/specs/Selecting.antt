@@ -1,5 +1,5 @@
 -- What a query does to the boxes, and why it is refused.
-use Rattle.std.specs.Prelude.{◌≡◌, ◌<◌, ◌≤◌, List, length, map, Option}
+use Rattle.std.specs.Prelude.{◌≡◌, true, false, List, map, Option}
 use Rattle.med_value.specs.Datum.{Tuple}
 use Rattle.med_value.specs.declared.cause.Cause.{Cause}
 use Rattle.med_value.specs.declared.cause.Cause.TheVariants.{LimitExceeded}
@@ -19,8 +19,8 @@ use Rattle.open_cursors.specs.Starting.{RunFails}
 use Rattle.bind_catalog.specs.Queries.{meant_by, IsBindable, NotBound}
 use Rattle.bind_catalog.specs.Places.{Attached, ArePlaces}
 use Rattle.med_catalog.specs.Objects.{Objects}
-use Rattle.med_value.specs.Limits.{entry_limit}
 use Rattle.sql_meaning.specs.Causes.{query_of}
+use Rattle.sql_meaning.specs.Sizes.{is_large_form}
 
 -- the same in whatever order the rows come
 pub record AnswersOver (q : Query) (places : List Place) (boxes : List (Option BoxState)) (rows : List Tuple) : Type 0 where
@@ -40,7 +40,7 @@ pub record PullsAgreed (f : Form) (places : List Place) (old new : List (Option 
 pub record Selects (o : Objects) (user : Name) (bound : List Attached) (q : SelectTree) (old : List (Option BoxState))
     (names : List Name) (given : List Tuple) (new : List (Option BoxState)) : Type 0 where
   pub bindable : IsBindable o user q
-  pub few : length (meant_by o q).entries ≤ entry_limit
+  pub few : is_large_form (meant_by o q).form ≡ false
   pub named : names ≡ (meant_by o q).names
   pub served : AllServed old new
   pub places : List Place
@@ -53,8 +53,8 @@ pub record Selects (o : Objects) (user : Name) (bound : List Attached) (q : Sele
 pub data SelectFails (o : Objects) (user : Name) (bound : List Attached) (q : SelectTree) (old : List (Option BoxState)) (c : Cause)
     (new : List (Option BoxState)) : Type 0 where
   not_bound : NotBound o user q c → new ≡ old → SelectFails o user bound q old c new
-  too_many : IsBindable o user q → entry_limit < length (meant_by o q).entries → c ≡ LimitExceeded → new ≡ old
+  too_many : IsBindable o user q → is_large_form (meant_by o q).form ≡ true → c ≡ LimitExceeded → new ≡ old
       → SelectFails o user bound q old c new
-  run_fails : IsBindable o user q → length (meant_by o q).entries ≤ entry_limit → AllServed old new → (places : List Place)
+  run_fails : IsBindable o user q → is_large_form (meant_by o q).form ≡ false → AllServed old new → (places : List Place)
       → ArePlaces bound (meant_by o q).entries places → RunFails (query_of (meant_by o q)) places c old new
       → SelectFails o user bound q old c new

@@ -1,5 +1,5 @@
 -- What a write does to the boxes, and why it is refused.
-use Rattle.std.specs.Prelude.{◌≡◌, ◌<◌, ◌≤◌, ℕ, Bool, true, false, List, [], map, length, Option, Some, slice_get}
+use Rattle.std.specs.Prelude.{◌≡◌, ℕ, Bool, true, false, List, [], map, Option, Some, slice_get}
 use Rattle.med_value.specs.Datum.{Tuple}
 use Rattle.med_value.specs.declared.cause.Cause.{Cause}
 use Rattle.med_value.specs.declared.cause.Cause.TheVariants.{LimitExceeded, InUse, SourceFault}
@@ -22,10 +22,10 @@ use Rattle.write_exec.specs.Writing.{CanWrite, Writes, RefusesWrite}
 use Rattle.write_parts.specs.Meaning.{target_of, columns_in, written_column, write_meant}
 use Rattle.bind_write.specs.Binding.{IsBindable, NotBound}
 use Rattle.sql_meaning.specs.Causes.{query_of, OfQuery}
+use Rattle.sql_meaning.specs.Sizes.{is_large_form}
 use Rattle.med_world.specs.Altering.{cause_of}
 use Rattle.open_cursors.specs.Counted.{ReadsTables}
 use Rattle.open_cursors.specs.Starting.{RunFails}
-use Rattle.med_value.specs.Limits.{entry_limit}
 use Rattle.med_world.specs.Selecting.{AnswersOver}
 
 -- ---- the query of an INSERT
@@ -33,7 +33,7 @@ use Rattle.med_world.specs.Selecting.{AnswersOver}
 -- it was answered from the boxes, which read each of its tables once
 pub record GivesAnswer (o : Objects) (bound : List Attached) (q : SelectTree) (old : List (Option BoxState)) (answer : List Tuple)
     (new : List (Option BoxState)) : Type 0 where
-  pub few : length (meant_by o q).entries ≤ entry_limit
+  pub few : is_large_form (meant_by o q).form ≡ false
   pub served : AllServed old new
   pub places : List Place
   pub are : ArePlaces bound (meant_by o q).entries places
@@ -43,7 +43,7 @@ pub record GivesAnswer (o : Objects) (bound : List Attached) (q : SelectTree) (o
 -- it was not
 pub record FailsQuery (o : Objects) (bound : List Attached) (q : SelectTree) (old : List (Option BoxState)) (c : Cause)
     (new : List (Option BoxState)) : Type 0 where
-  pub few : length (meant_by o q).entries ≤ entry_limit
+  pub few : is_large_form (meant_by o q).form ≡ false
   pub served : AllServed old new
   pub places : List Place
   pub are : ArePlaces bound (meant_by o q).entries places
@@ -112,7 +112,7 @@ pub data WriteFails (o : Objects) (user : Name) (bound : List Attached) (t : Wri
     (c : Cause) (new : List (Option BoxState)) : Type 0 where
   not_bound : NotBound o user t c → new ≡ old → WriteFails o user bound t leased old c new
   in_use : IsBindable o user t → leased ≡ true → c ≡ InUse → new ≡ old → WriteFails o user bound t leased old c new
-  too_many : IsBindable o user t → OfQuery (λ q. entry_limit < length (meant_by o q).entries) t → c ≡ LimitExceeded → new ≡ old
+  too_many : IsBindable o user t → OfQuery (λ q. is_large_form (meant_by o q).form ≡ true) t → c ≡ LimitExceeded → new ≡ old
       → WriteFails o user bound t leased old c new
   query_fails : IsBindable o user t → leased ≡ false → (at : Attached) → IsTargetAt o bound t at
       → OfQuery (λ q. FailsQuery o bound q old c new) t → WriteFails o user bound t leased old c new

@@ -1,4 +1,4 @@
--- What the run of a query counts in the boxes: one scan for each entry of its FROM.
+-- What the run of a query counts in the boxes: one scan for each entry of FROM of its cores.
 use Rattle.std.specs.Prelude.{◌+◌, ℕ, List, [], ◌∷◌, Option, nat_eq, if◌then◌else◌}
 use Rattle.fdw_api.specs.State.{BoxState}
 use Rattle.med_binder.specs.Place.{Place}

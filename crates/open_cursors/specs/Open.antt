@@ -11,7 +11,7 @@ use Rattle.med_exec.specs.Leaving.{AreApart}
 use Rattle.open_cursors.specs.declared.cursors.OpenCursor.{OpenCursor}
 use Rattle.open_cursors.specs.declared.cursors.Seat.{Seat}
 
--- an open cursor: its name, its output names, the tables that it leases, one for each entry of FROM, and its run
+-- an open cursor: its name, its output names, the tables that it leases, one for each entry of FROM of each core, and its run
 pub record Opened : Type 0 where
   pub name : Name
   pub names : List Name

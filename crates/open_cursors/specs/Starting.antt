@@ -1,13 +1,12 @@
 -- What DECLARE does to the boxes, and why it is refused (SQL:2016, <declare cursor>; PostgreSQL: Writing a Foreign Data Wrapper,
 -- BeginForeignScan).
-use Rattle.std.specs.Prelude.{◌≡◌, ◌<◌, ◌≤◌, Bool, true, false, List, length, map, Option}
+use Rattle.std.specs.Prelude.{◌≡◌, ◌<◌, Bool, true, false, List, length, map, Option}
 use Rattle.med_value.specs.Datum.{Tuple}
 use Rattle.med_value.specs.declared.cause.Cause.{Cause}
 use Rattle.med_value.specs.declared.cause.Cause.TheVariants.{FeatureNotSupported, LimitExceeded, OutOfMemory, SourceFault}
-use Rattle.med_value.specs.Limits.{entry_limit}
 use Rattle.med_syntax.specs.Tree.{Name}
 use Rattle.med_syntax.specs.QueryTree.{EntryTree, SelectTree}
-use Rattle.bind_names.specs.Scope.{entries_of, from_scope}
+use Rattle.bind_names.specs.Scope.{query_entries, query_scope}
 use Rattle.med_query.specs.Query.{Query, Tables, SameRows, IsAnswer}
 use Rattle.med_query.specs.Form.{form_of, query_by, is_risky_form}
 use Rattle.med_planner.specs.Plain.{IsPlainForm, IsBareForm}
@@ -28,15 +27,16 @@ use Rattle.med_catalog.specs.Objects.{Objects}
 use Rattle.bind_catalog.specs.Queries.{meant_by, IsBindable, NotBound}
 use Rattle.bind_catalog.specs.Places.{Attached, ArePlaces}
 use Rattle.bind_catalog.specs.Tables.{shapes}
+use Rattle.sql_meaning.specs.Sizes.{is_large_form}
 use Rattle.open_cursors.specs.Counted.{ReadsTables}
 -- of which tables the scans are that a run holds
 pub use Rattle.med_exec.specs.Holding.{ScansOne, HoldsOf}
 
 -- ---- the tables that a cursor leases
 
--- one for each entry of FROM, in their order
+-- one for each entry of FROM of each core, in their order
 abbrev pub leases_of : SelectTree → List Name
-leases_of q = map (λ (e : EntryTree). e.table) (entries_of q.from)
+leases_of q = map (λ (e : EntryTree). e.table) (query_entries q)
 
 -- ---- a run that is begun
 
@@ -54,7 +54,7 @@ pub record OpensEach (o : Objects) (q : SelectTree) (places : List Place) (run :
   pub bound : BoundQuery
   pub form : form_of bound.select ≡ (meant_by o q).form
   pub at : map entry_place bound.entries.items ≡ places
-  pub wide : bound_widths bound ≡ widths (from_scope (shapes o) q.from)
+  pub wide : bound_widths bound ≡ widths (query_scope (shapes o) q)
   pub opens : (plain : IsPlainForm (form_of bound.select)) → 0 < length bound.entries.items
       → HoldsOpen (core_offers bound.entries.items plain.core) run boxes
 
@@ -65,7 +65,7 @@ pub record Starts (o : Objects) (user : Name) (bound : List Attached) (q : Selec
   pub bindable : IsBindable o user q
   pub safe : is_risky_form (meant_by o q).form ≡ false
   pub room : full ≡ false
-  pub few : length (meant_by o q).entries ≤ entry_limit
+  pub few : is_large_form (meant_by o q).form ≡ false
   pub named : names ≡ (meant_by o q).names
   pub served : ServesRun none_held (held run) old new
   pub running : IsRunning run new
@@ -93,8 +93,8 @@ pub data StartFails (o : Objects) (user : Name) (bound : List Attached) (q : Sel
       → StartFails o user bound q full old c new
   no_room : IsBindable o user q → is_risky_form (meant_by o q).form ≡ false → full ≡ true → c ≡ LimitExceeded → new ≡ old
       → StartFails o user bound q full old c new
-  too_many : IsBindable o user q → is_risky_form (meant_by o q).form ≡ false → entry_limit < length (meant_by o q).entries
+  too_many : IsBindable o user q → is_risky_form (meant_by o q).form ≡ false → is_large_form (meant_by o q).form ≡ true
       → c ≡ LimitExceeded → new ≡ old → StartFails o user bound q full old c new
-  run_fails : IsBindable o user q → is_risky_form (meant_by o q).form ≡ false → full ≡ false → length (meant_by o q).entries ≤ entry_limit
+  run_fails : IsBindable o user q → is_risky_form (meant_by o q).form ≡ false → full ≡ false → is_large_form (meant_by o q).form ≡ false
       → AllServed old new → (places : List Place) → ArePlaces bound (meant_by o q).entries places
       → RunFails (query_by (meant_by o q).form) places c old new → StartFails o user bound q full old c new

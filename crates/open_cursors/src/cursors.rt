@@ -12,7 +12,7 @@ pub struct OpenCursor {
     pub name: String,
     /// The names of the columns of its rows.
     pub names: Vec<String>,
-    /// The tables that it reads, one for each entry of FROM: no statement writes to them or drops them while it is open.
+    /// The tables that it reads, one for each entry of FROM of each core: no statement writes to them or drops them while it is open.
     pub leases: Vec<String>,
     /// The rows that it has still to give.
     pub run: Run,

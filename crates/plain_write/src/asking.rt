@@ -4,7 +4,7 @@ ghost use Rattle.std.specs.Prelude.{◌≡◌, length};
 
 use med_binder::{AttachedTable, BoundQuery, bind};
 use med_query::SelectCore;
-use med_syntax::{Chain, Entry, Expr, Item, Select as Written, Statement};
+use med_syntax::{Chain, Core, Entry, Expr, Item, Select as Written, Statement};
 use med_value::{Cause, ColumnDef, NoMemory};
 use std::alloc::Global;
 use write_syntax::SetClause;
@@ -69,12 +69,15 @@ pub fn asked(
     condition: Option<Expr>,
 ) -> Result<SelectCore, Cause> {
     let query = Statement::Select(Written {
-        distinct: false,
-        items,
-        from,
-        condition,
-        groups: Vec::new(alloc),
-        having: None,
+        core: Core {
+            distinct: false,
+            items,
+            from,
+            condition,
+            groups: Vec::new(alloc),
+            having: None,
+        },
+        others: Vec::new(alloc),
         keys: Vec::new(alloc),
         limit: None,
         offset: None,

@@ -30,11 +30,12 @@ use Rattle.bind_catalog.specs.Tables.{shapes}
 use Rattle.bind_catalog.specs.Queries.{meant_by, QueryNames, QueryTypes}
 use Rattle.med_parser.specs.CommandTree.{CommandTree, on_data, on_rows, on_cursors, on_objects}
 use Rattle.med_parser.specs.CommandGrammar.{HasCommand}
-use Rattle.med_value.specs.Limits.{entry_limit, cursor_limit}
+use Rattle.med_value.specs.Limits.{cursor_limit}
 use Rattle.sql_meaning.specs.Picks.{Pick, PicksAnswer, IsNumbering, as_given}
 use Rattle.sql_meaning.specs.Requests.{AskedLine, opening, sql, bye, IsUser}
 use Rattle.sql_meaning.specs.World.{World, Session, IsOpen, cells_of, rows_in, rows_named, IsFree, Serves, is_leased}
 use Rattle.sql_meaning.specs.Cursors.{cursor_named}
+use Rattle.sql_meaning.specs.Sizes.{is_large_form}
 
 -- Phase 1, the frame. 08P01: OPEN of a session that is open, or with a user who is none by the protocol.
 -- 08003: a statement or BYE of a session that is not open.
@@ -45,7 +46,7 @@ FrameCauses w sid bye c = (c ≡ NoConnection) × (IsOpen w sid → ⊥)
 
 -- ---- a query
 
--- the query, over the entries of FROM, which are counted from 0 (SQL:2016, <query specification>)
+-- the query, over the entries of FROM of its cores, which are counted from 0 (SQL:2016, <query expression>)
 abbrev pub query_of : Meant → Query
 query_of m = query_by m.form
 
@@ -55,16 +56,16 @@ entry_tables [] db k = []
 entry_tables (p ∷ ps) db zero = db p
 entry_tables (p ∷ ps) db (suc k) = entry_tables ps db k
 
--- what it means over the world's tables, and the rows of the entries of its FROM
+-- what it means over the world's tables, and the rows of the entries of its cores
 abbrev pub meant_over : World → SelectTree → Meant
 meant_over w q = meant_by w.catalog q
 
 abbrev pub entries_in : World → SelectTree → Tables
 entries_in w q = entry_tables (meant_over w q).entries (rows_in w.rows)
 
--- Phase 5: 54000 where FROM has more than 8 entries.
+-- Phase 5: 54000 where it has more than 8 cores, or FROM of one of them more than 8 entries.
 abbrev pub QueryState : World → SelectTree → Cause → Type 0
-QueryState w q c = (entry_limit < length (meant_over w q).entries) × (c ≡ LimitExceeded)
+QueryState w q c = (is_large_form (meant_over w q).form ≡ true) × (c ≡ LimitExceeded)
 
 -- Phase 6: the faults that the query shows over the rows of its entries, and 54000 where it groups too many of them.
 abbrev pub QueryRun : World → SelectTree → Cause → Type 0
@@ -106,7 +107,7 @@ OfQuery P (insert i) = OfGiven P i.given
 OfQuery P (update u) = ⊥
 OfQuery P (delete d) = ⊥
 
--- Phase 5: 55006 where the table is leased, and 54000 where FROM of an INSERT's query has more than 8 entries.
+-- Phase 5: 55006 where the table is leased, and 54000 where an INSERT's query is larger than it may be.
 abbrev pub WriteState : World → WriteTree → Cause → Type 0
 WriteState w t c = ((c ≡ InUse) × (is_leased w (target_of t) ≡ true)) ⊎ OfQuery (λ q. QueryState w q c) t
 

@@ -9,7 +9,7 @@ use Rattle.fdw_api.specs.Kinds.{Kind, Entry, Holding, Known, Unknown, Held, Read
 use Rattle.ddl_syntax.specs.DdlTree.{DdlTree, create_wrapper, create_server, create_mapping, create_table, drop_wrapper, drop_server, drop_table, drop_mapping}
 use Rattle.write_syntax.specs.WriteTree.{WriteTree, insert, update, delete}
 use Rattle.cursor_syntax.specs.CursorTree.{CountTree, CursorTree, declare, fetch, close}
-use Rattle.bind_names.specs.Scope.{entries_of}
+use Rattle.bind_names.specs.Scope.{query_entries}
 use Rattle.med_write.specs.Writing.{count_of, rows_after}
 use Rattle.write_parts.specs.Meaning.{target_of}
 use Rattle.med_syntax.specs.Tree.{Name}
@@ -39,7 +39,7 @@ TakesMemory bye = ⊥
 
 -- ---- what statements do
 
--- a query answers its output names, and an answer over the rows of the entries of its FROM
+-- a query answers its output names, and an answer over the rows of the entries of its cores
 abbrev pub Answers : World → SelectTree → Reply → Type 0
 Answers w q reply =
     let m = meant_over w q in
@@ -101,10 +101,10 @@ ddl_tag (drop_server if_exists name) = codes "DROP SERVER"
 ddl_tag (drop_table if_exists name) = codes "DROP FOREIGN TABLE"
 ddl_tag (drop_mapping if_exists user server) = codes "DROP USER MAPPING"
 
--- the tables that a query reads, one for each entry of FROM, as they stand
+-- the tables that a query reads, one for each entry of FROM of each core, as they stand
 abbrev pub leased_now : World → SelectTree → List Leased
 leased_now w q =
-    map (λ (e : EntryTree). record { table = e.table; rows = cells_of (rows_named e.table w.catalog.tables w.rows) }) (entries_of q.from)
+    map (λ (e : EntryTree). record { table = e.table; rows = cells_of (rows_named e.table w.catalog.tables w.rows) }) (query_entries q)
 
 -- the cursor that DECLARE opens
 abbrev pub new_cursor : World → Name → SelectTree → Cursor

@@ -32,7 +32,7 @@ pub record Leased : Type 0 where
   pub rows : List Tuple
 
 -- A cursor (SQL:2016, <declare cursor>) of the session that has it: its name, its output names, its query, the tables that it reads, one
--- for each entry of FROM, and the rows that it has handed out.
+-- for each entry of FROM of each core, and the rows that it has handed out.
 pub record Cursor : Type 0 where
   pub name : Name
   pub names : List Name

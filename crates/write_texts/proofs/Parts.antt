@@ -6,14 +6,14 @@ use Rattle.med_syntax.specs.Tree.{Name}
 use Rattle.med_syntax.specs.Terminal.{Terminal}
 use Rattle.med_syntax.specs.Terminal as t
 use Rattle.med_syntax.specs.ExprTree.{ExprTree, ExprTrees, num, negative, text, truth, null, column, call_all, call, paren, minus, binary, between, among, like, compare, tested, negation, chain, none, more, spelling, parts_spelling, spellings, IsExpr}
-use Rattle.med_syntax.specs.QueryTree.{ItemTree, all, all_of, value, SelectTree, select}
+use Rattle.med_syntax.specs.QueryTree.{ItemTree, all, all_of, value, CoreTree, SelectTree, select}
 use Rattle.expr_grammar.specs.Shapes.{shapes}
-use Rattle.query_grammar.specs.QueryGrammar.{keywords, SpellsOthers, SpellsList, SpellsItem, SpellsExpr, IsStatement}
+use Rattle.query_grammar.specs.QueryGrammar.{keywords, SpellsOthers, SpellsList, SpellsItem, SpellsExpr, SpellsCore, SpellsUnions, IsStatement}
 use Rattle.write_syntax.specs.WriteTree.{GivenTree, values, rows_of, SetTree, UpdateTree, WriteTree, insert, update, delete}
 use Rattle.write_parser.specs.WriteGrammar.{SpellsTuple, SpellsValues, SpellsInsert, SpellsSet, SpellsUpdate, IsInsert, IsLineOf, IsWrite, HasWrite}
 use Rattle.write_parts.specs.Naming.{set_values}
 use Rattle.write_parts.proofs.Lists.{flat_over}
-use Rattle.write_types.specs.Typed.{texts_in, texts_in_all, item_texts, given_texts, IsClean}
+use Rattle.write_types.specs.Typed.{texts_in, texts_in_all, item_texts, core_texts, query_texts, given_texts, IsClean}
 use Rattle.write_texts.proofs.Tokens.{IsCleanText, AreCleanShapes, AreClean, clean_left, clean_right, shapes_right, lexed_clean, terminals_clean, words_clean}
 
 abbrev AllText : List (List ℕ) → Type 0
@@ -101,11 +101,24 @@ update_clean u ts h k =
 line_clean : (Spelled : List Terminal → Type 0) (texts : List (List ℕ)) → ((ts : List Terminal) → Spelled ts → AreClean ts → AllText texts) → (ss : List Shape) → IsLineOf Spelled ss → AreCleanShapes ss → AllText texts
 line_clean Spelled texts f ss (statement, end, are, is, ends) k = f statement is (clean_left statement end (terminals_clean ss (statement ++ end) k are))
 
-query_clean : (q : SelectTree) (ss : List Shape) → IsStatement ss (select q) → AreCleanShapes ss → AllText (flat_map item_texts q.items)
+core_clean : (c : CoreTree) (ts : List Terminal) → SpellsCore c ts → AreClean ts → AllText (core_texts c)
+core_clean c ts spelled k =
+    let parts = (subst AreClean spelled.is k).1 in
+    list_clean SpellsItem item_texts item_clean c.items spelled.items spelled.answered (clean_left spelled.items _ (clean_right spelled.quantifier _ parts))
+
+unions_clean : (cs : List CoreTree) (ts : List Terminal) → SpellsUnions cs ts → AreClean ts → AllText (flat_map core_texts cs)
+unions_clean [] ts h k = All-nil IsCleanText
+unions_clean (c ∷ cs) ts (core, others, is, one, rest) k =
+    let behind : AreClean (core ++ others) = clean_right (keywords (codes "union" ∷ codes "all" ∷ [])) (core ++ others) (subst AreClean is k) in
+    All-append IsCleanText (core_texts c) (flat_map core_texts cs) (core_clean c core one (clean_left core others behind)) (unions_clean cs others rest (clean_right core others behind))
+
+query_clean : (q : SelectTree) (ss : List Shape) → IsStatement ss (select q) → AreCleanShapes ss → AllText (query_texts q)
 query_clean q ss (ts, are, (statement, end, is, spelled, ends)) k =
     let whole : AreClean (statement ++ end) = subst AreClean is (words_clean ss ts k are) in
-    let parts = (subst AreClean spelled.is (clean_left statement end whole)).1 in
-    list_clean SpellsItem item_texts item_clean q.items spelled.items spelled.answered (clean_left spelled.items _ (clean_right spelled.quantifier _ parts))
+    let parts : AreClean (spelled.core ++ (spelled.others ++ (spelled.keys ++ spelled.limits))) = subst AreClean spelled.is (clean_left statement end whole) in
+    let behind = clean_right spelled.core (spelled.others ++ (spelled.keys ++ spelled.limits)) parts in
+    All-append IsCleanText (core_texts q.core) (flat_map core_texts q.others) (core_clean q.core spelled.core spelled.first (clean_left spelled.core _ parts))
+    (unions_clean q.others spelled.others spelled.united (clean_left spelled.others _ behind))
 
 insert_clean : (table : Name) (columns : Option (List Name)) (rows : List (List ExprTree)) (ts : List Terminal) → SpellsInsert table columns rows ts → AreClean ts → AllText (flat_map (flat_map texts_in) rows)
 insert_clean table columns rows ts (target, given, is, at, spelled) k = values_clean rows given spelled (clean_right target given (subst AreClean is k))

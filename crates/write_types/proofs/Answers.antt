@@ -1,4 +1,4 @@
--- The rows of an answer are of the types of the query's items.
+-- The rows of an answer are of the types of the items of their cores.
 use Rattle.std.proofs.Common.{◌≡◌, ◌+◌, ℕ, suc, true, false, Bool, not, if◌then◌else◌, length, List, [], ◌∷◌, map, filter, flat_map, drop, All, Option, Some, None, sym, subst}
 use Rattle.std.proofs.lemmas.List.Elements.{All-cons, All-nil, All-head, All-tail, All-append, All-filter, All-map, All-take, All-drop}
 use Rattle.std.proofs.lemmas.List.Sorted.{All-permutation}
@@ -7,24 +7,24 @@ use Rattle.med_value.specs.Column.{Column}
 use Rattle.med_value.specs.Datum.{Tuple}
 use Rattle.med_value.specs.declared.value.ColType.{ColType}
 use Rattle.med_syntax.specs.Tree.{Name}
-use Rattle.med_syntax.specs.QueryTree.{ItemTree, all, all_of, value, SelectTree}
+use Rattle.med_syntax.specs.QueryTree.{ItemTree, all, all_of, value, CoreTree, SelectTree, cores_of}
 use Rattle.tri_expr.specs.Meaning.{means}
 use Rattle.tri_expr.specs.Outcome.{over, value_of}
 use Rattle.tri_expr.specs.Tree.{column}
-use Rattle.med_query.specs.Form.{query_by}
+use Rattle.med_query.specs.Form.{core_by, query_by}
 use Rattle.med_query.specs.Lists.{distinct, tuple_eq}
 use Rattle.med_query.specs.Query.{Core, Tables, Grouping, Output, key_of, has_key, keeps, kept, joined, classes_by, classes_of, classes, has_class, kept_classes, output, outputs_all, output_eq, core_outputs, outputs, limited, IsAnswer}
 use Rattle.fdw_api.specs.Scan.{row_fits}
 use Rattle.med_write.specs.Writing.{outcomes_of}
-use Rattle.bind_names.specs.Scope.{TableShape, Scope, is_meant, columns_of, entries_of, from_scope}
+use Rattle.bind_names.specs.Scope.{TableShape, Scope, is_meant, columns_of, entries_of, query_entries, from_scope}
 use Rattle.bind_names.specs.Meaning.{resolved, shown_name, columns_from, starred_in, starred, item_outputs, outputs_of, meant_in}
 use Rattle.bind_names.specs.Meaning as names
-use Rattle.write_parts.specs.Kinds.{tree_type}
-use Rattle.write_parts.specs.Typing.{column_kinds, answer_types}
-use Rattle.write_types.specs.Typed.{item_texts, AreTyped}
+use Rattle.bind_types.specs.TreeTypes.{tree_type, column_kinds}
+use Rattle.bind_types.specs.Typing.{core_types}
+use Rattle.write_types.specs.Typed.{item_texts, core_texts, query_texts, AreTyped}
 use Rattle.write_types.proofs.Values.{IsCleanTree, tree_fits}
 use Rattle.write_types.proofs.Rows.{IsCleanText, AreOfTypes, clean_tree, all_left, all_right}
-use Rattle.write_types.proofs.Joined.{AllRows, joined_fit}
+use Rattle.write_types.proofs.Joined.{AllRows, AreTypedFrom, typed_left, typed_right, joined_fit, all_typed}
 
 -- ---- the items
 
@@ -126,32 +126,57 @@ core_fits kinds types db q h =
     let groups : AreClasses kinds (kept_classes q db) = All-filter (has_class q.group) (AllRows kinds) (classes q db) (classes_fit kinds q.group (kept q db) some) in
     unique_shown types q.distinct (outputs_all q db) (all_shown kinds types q h.1 (kept_classes q db) groups)
 
-cores_fit : (kinds : List ColType) (types : List (Option ColType)) (db : Tables) (qs : List Core) → All (IsTypedCore kinds types db) qs → All (Shows types) (flat_map (λ q. core_outputs q db) qs)
-cores_fit kinds types db [] h = All-nil (Shows types)
-cores_fit kinds types db (q ∷ qs) h =
-    All-append (Shows types) (core_outputs q db) (flat_map (λ c. core_outputs c db) qs)
-    (core_fits kinds types db q (All-head (IsTypedCore kinds types db) q qs h)) (cores_fit kinds types db qs (All-tail (IsTypedCore kinds types db) q qs h))
-
 -- ---- the answer
 
 abbrev pub IsOfTypes : List (Option ColType) → Tuple → Type 0
 IsOfTypes types r = AreOfTypes types (outcomes_of r)
 
-limited_fits : (types : List (Option ColType)) (limit : Option ℕ) (rows : List Tuple) → All (IsOfTypes types) rows → All (IsOfTypes types) (limited limit rows)
-limited_fits types None rows h = h
-limited_fits types (Some n) rows h = All-take (IsOfTypes types) n rows h
+-- what a core shows is so, because it is of the core's types
+abbrev pub LetsCore : (Tuple → Type 0) → List TableShape → CoreTree → Type 0
+LetsCore P tables c = (r : Tuple) → IsOfTypes (core_types tables c) r → P r
 
-pub answer_of_types : (tables : List TableShape) (q : SelectTree) (db : Tables) (answer : List Tuple) → AreTyped tables (entries_of q.from) db → All IsCleanText (flat_map item_texts q.items)
-    → IsAnswer (query_by (meant_in tables q).form) db answer → All (IsOfTypes (answer_types tables q)) answer
-answer_of_types tables q db answer typed clean is =
+abbrev pub Lets : (Tuple → Type 0) → List TableShape → List CoreTree → Type 0
+Lets P tables [] = Unit {0}
+Lets P tables (c ∷ cs) = LetsCore P tables c × Lets P tables cs
+
+module _ (P : Tuple → Type 0) (tables : List TableShape) (sorting : names.Sorting) (db : Tables) where
+  abbrev IsShown : Output → Type 0
+  IsShown o = P o.1
+
+  each_shown : (types : List (Option ColType)) → ((r : Tuple) → IsOfTypes types r → P r) → (os : List Output) → All (Shows types) os → All IsShown os
+  each_shown types f [] h = All-nil IsShown
+  each_shown types f (o ∷ os) h = All-cons IsShown o os (f o.1 (All-head (Shows types) o os h)) (each_shown types f os (All-tail (Shows types) o os h))
+
+  one_fits : (number : ℕ) (c : CoreTree) → AreTypedFrom tables number (entries_of c.from) db → All IsCleanText (core_texts c) → LetsCore P tables c
+      → All IsShown (core_outputs (core_by (names.core_meant tables sorting number c)) db)
+  one_fits number c typed clean lets =
+      let s = from_scope tables c.from in
+      let kinds = column_kinds (columns_of s) in
+      let q = core_by (names.core_meant tables sorting number c) in
+      each_shown (core_types tables c) lets (core_outputs q db)
+      (core_fits kinds (core_types tables c) db q (joined_fit tables db number c.from typed, λ rows h. shown_of_types kinds (outputs_of s c.items) rows (outputs_clean s c.items clean) h))
+
+  cores_fit : (number : ℕ) (cs : List CoreTree) → AreTypedFrom tables number (flat_map (λ (c : CoreTree). entries_of c.from) cs) db → All IsCleanText (flat_map core_texts cs) → Lets P tables cs
+      → All IsShown (flat_map (λ q. core_outputs q db) (map core_by (names.cores_meant tables sorting number cs)))
+  cores_fit number [] typed clean lets = All-nil IsShown
+  cores_fit number (c ∷ cs) typed clean lets =
+      let later = flat_map (λ (c : CoreTree). entries_of c.from) cs in
+      All-append IsShown (core_outputs (core_by (names.core_meant tables sorting number c)) db) (flat_map (λ q. core_outputs q db) (map core_by (names.cores_meant tables sorting (number + length (entries_of c.from)) cs)))
+      (one_fits number c (typed_left tables db number (entries_of c.from) later typed) (all_left IsCleanText (core_texts c) (flat_map core_texts cs) clean) lets.0)
+      (cores_fit (number + length (entries_of c.from)) cs (typed_right tables db number (entries_of c.from) later typed) (all_right IsCleanText (core_texts c) (flat_map core_texts cs) clean) lets.1)
+
+limited_fits : (P : Tuple → Type 0) (limit : Option ℕ) (rows : List Tuple) → All P rows → All P (limited limit rows)
+limited_fits P None rows h = h
+limited_fits P (Some n) rows h = All-take P n rows h
+
+-- each row of the answer is so, if what each core shows is
+pub answer_is : (P : Tuple → Type 0) (tables : List TableShape) (q : SelectTree) (db : Tables) (answer : List Tuple) → AreTyped tables (query_entries q) db → All IsCleanText (query_texts q) → Lets P tables (cores_of q)
+    → IsAnswer (query_by (meant_in tables q).form) db answer → All P answer
+answer_is P tables q db answer typed clean lets is =
     let query = query_by (meant_in tables q).form in
-    let s = from_scope tables q.from in
-    let kinds = column_kinds (columns_of s) in
-    let types = answer_types tables q in
-    let cores : All (IsTypedCore kinds types db) query.cores =
-    All-cons (IsTypedCore kinds types db) _ []
-    (joined_fit tables db q.from typed, λ c h. shown_of_types kinds (outputs_of s q.items) c (outputs_clean s q.items clean) h) (All-nil (IsTypedCore kinds types db)) in
-    let sorted : All (Shows types) is.ordered = All-permutation (Shows types) (outputs query db) is.ordered is.same (cores_fit kinds types db query.cores cores) in
-    let listed : All (IsOfTypes types) (map (λ (o : Output). o.1) is.ordered) = All-map (IsOfTypes types) (λ (o : Output). o.1) is.ordered sorted in
-    let paged = limited_fits types query.limit (drop query.offset (map (λ (o : Output). o.1) is.ordered)) (All-drop (IsOfTypes types) query.offset (map (λ (o : Output). o.1) is.ordered) listed) in
-    subst (All (IsOfTypes types)) (sym is.shown) paged
+    let IsShown = λ (o : Output). P o.1 in
+    let shown : All IsShown (outputs query db) = cores_fit P tables (names.sorting_of tables q) db 0 (cores_of q) (all_typed tables db (query_entries q) typed) clean lets in
+    let sorted : All IsShown is.ordered = All-permutation IsShown (outputs query db) is.ordered is.same shown in
+    let listed : All P (map (λ (o : Output). o.1) is.ordered) = All-map P (λ (o : Output). o.1) is.ordered sorted in
+    let paged = limited_fits P query.limit (drop query.offset (map (λ (o : Output). o.1) is.ordered)) (All-drop P query.offset (map (λ (o : Output). o.1) is.ordered) listed) in
+    subst (All P) (sym is.shown) paged

@@ -13,7 +13,7 @@ use Rattle.med_query.specs.Query.{Tables, Chain, Table, beside, pairs, keeps, or
 use Rattle.fdw_api.specs.Scan.{has_kind, is_clean, row_fits}
 use Rattle.bind_names.specs.Scope.{TableShape, Scope, columns_of, joined_entry, chain_entries, entries_of, entry_columns, entry_shape, from_scope}
 use Rattle.bind_names.specs.Meaning as names
-use Rattle.write_parts.specs.Typing.{column_kinds}
+use Rattle.bind_types.specs.TreeTypes.{column_kinds}
 use Rattle.write_types.specs.Typed.{AreTyped}
 use Rattle.write_types.proofs.Values.{null_fits, three, joined}
 
@@ -72,7 +72,7 @@ width_is [] = refl
 width_is (c ∷ cs) = ap (λ n. suc n) (width_is cs)
 
 -- the rows of the entries from this number on
-abbrev AreTypedFrom : List TableShape → ℕ → List EntryTree → Tables → Type 0
+abbrev pub AreTypedFrom : List TableShape → ℕ → List EntryTree → Tables → Type 0
 AreTypedFrom tables number [] db = Unit {0}
 AreTypedFrom tables number (e ∷ es) db = AllRows (kinds_of_entry tables e) (db number) × AreTypedFrom tables (suc number) es db
 
@@ -107,11 +107,11 @@ chain_fits tables db number c h =
 
 -- ---- all of FROM
 
-typed_left : (tables : List TableShape) (db : Tables) (number : ℕ) (es fs : List EntryTree) → AreTypedFrom tables number (es ++ fs) db → AreTypedFrom tables number es db
+pub typed_left : (tables : List TableShape) (db : Tables) (number : ℕ) (es fs : List EntryTree) → AreTypedFrom tables number (es ++ fs) db → AreTypedFrom tables number es db
 typed_left tables db number [] fs h = tt
 typed_left tables db number (e ∷ es) fs h = (h.0, typed_left tables db (suc number) es fs h.1)
 
-typed_right : (tables : List TableShape) (db : Tables) (number : ℕ) (es fs : List EntryTree) → AreTypedFrom tables number (es ++ fs) db → AreTypedFrom tables (number + length es) fs db
+pub typed_right : (tables : List TableShape) (db : Tables) (number : ℕ) (es fs : List EntryTree) → AreTypedFrom tables number (es ++ fs) db → AreTypedFrom tables (number + length es) fs db
 typed_right tables db number [] fs h = subst (λ n. AreTypedFrom tables n fs db) (let e : number ≡ number + 0 = omega arith in e) h
 typed_right tables db number (e ∷ es) fs h =
     subst (λ n. AreTypedFrom tables n fs db) (let e : suc number + length es ≡ number + suc (length es) = omega arith in e) (typed_right tables db (suc number) es fs h.1)
@@ -150,8 +150,11 @@ kinds_in_view tables (e ∷ es) =
     ap (λ ls. kinds_of_entry tables e ++ ls) (kinds_in_view tables es)
     ∙ sym (map-append (λ (c : Column). c.kind) (entry_columns tables e) (columns_of (map (entry_shape tables) es)))
 
-pub joined_fit : (tables : List TableShape) (db : Tables) (cs : List ChainTree) → AreTyped tables (entries_of cs) db
-    → AllRows (column_kinds (columns_of (from_scope tables cs))) (joined_chains db (map chain_by (names.chains_meant tables 0 cs)))
-joined_fit tables db cs h =
-    subst (λ ls. AllRows ls (joined_chains db (map chain_by (names.chains_meant tables 0 cs)))) (kinds_in_view tables (entries_of cs))
-    (chains_fit tables db 0 cs (typed_from tables db 0 (entries_of cs) (λ k e there. subst (λ n. AllRows (kinds_of_entry tables e) (db n)) (let q : k ≡ 0 + k = omega arith in q) (h k e there))))
+pub joined_fit : (tables : List TableShape) (db : Tables) (number : ℕ) (cs : List ChainTree) → AreTypedFrom tables number (entries_of cs) db
+    → AllRows (column_kinds (columns_of (from_scope tables cs))) (joined_chains db (map chain_by (names.chains_meant tables number cs)))
+joined_fit tables db number cs h =
+    subst (λ ls. AllRows ls (joined_chains db (map chain_by (names.chains_meant tables number cs)))) (kinds_in_view tables (entries_of cs)) (chains_fit tables db number cs h)
+
+-- the rows of all entries, entry by entry
+pub all_typed : (tables : List TableShape) (db : Tables) (es : List EntryTree) → AreTyped tables es db → AreTypedFrom tables 0 es db
+all_typed tables db es h = typed_from tables db 0 es (λ k e there. subst (λ n. AllRows (kinds_of_entry tables e) (db n)) (let q : k ≡ 0 + k = omega arith in q) (h k e there))

@@ -21,9 +21,9 @@ use Rattle.bind_names.specs.Scope.{Scope}
 use Rattle.bind_names.specs.Meaning.{resolved, resolved_all, aggregate_of, joined as joint_of, function_named}
 use Rattle.bind_types.specs.Typing.{takes, unless}
 use Rattle.write_parts.proofs.Lists.{left_empty, right_empty}
-use Rattle.write_parts.specs.Kinds.{tree_type}
+use Rattle.bind_types.specs.TreeTypes.{tree_type, column_kinds}
 use Rattle.write_parts.specs.Meaning.{places_in_turn, places_meant, name_place, row_meant}
-use Rattle.write_parts.specs.Typing.{column_causes, cells_causes, column_kinds, type_at, row_types, row_fit_causes, count_causes}
+use Rattle.write_parts.specs.Typing.{column_causes, cells_causes, type_at, row_types, row_fit_causes, count_causes}
 use Rattle.write_types.specs.Typed.{texts_in, texts_in_all}
 use Rattle.write_types.proofs.Values.{Fits, null_fits, joined, cell_typed, IsCleanTree, tree_fits}
 

@@ -21,7 +21,7 @@ use Rattle.tri_expr.specs.Outcome.{Outcome, Is, Fails, value_of, truth, strict, 
 use Rattle.tri_expr.specs.Meaning.{OnClass, has_cell, shared, argument, liked, tree_meaning, tree_meanings}
 use Rattle.tri_expr.specs.Tree.{Tree, column, parameter, literal, compare, compute, negate, all_of, some_of, opposite, asks, between, within, matches, parenthesised, count_rows, aggregate}
 use Rattle.fdw_api.specs.Scan.{has_kind, is_clean, row_fits, cell_fits}
-use Rattle.write_parts.specs.Kinds.{datum_type, set_type, tree_type}
+use Rattle.bind_types.specs.TreeTypes.{datum_type, set_type, tree_type}
 
 -- a value of this type, without U+0000, or NULL
 abbrev pub Fits : Option ColType → Datum → Type 0

@@ -4,10 +4,10 @@ use Rattle.std.specs.List.{list_all}
 use Rattle.std.proofs.lemmas.List.Elements.{All-head, All-tail}
 use Rattle.med_value.specs.Column.{Column}
 use Rattle.med_value.specs.Datum.{Tuple}
-use Rattle.med_value.specs.declared.value.ColType.{ColType}
 use Rattle.med_value.specs.declared.cause.Cause.{Cause}
 use Rattle.med_syntax.specs.Tree.{Name}
 use Rattle.med_syntax.specs.ExprTree.{ExprTree}
+use Rattle.med_syntax.specs.QueryTree.{CoreTree, cores_of}
 use Rattle.tri_expr.specs.Meaning.{means}
 use Rattle.tri_expr.specs.Outcome.{Outcome, value_of}
 use Rattle.tri_expr.specs.Tree.{Tree}
@@ -18,18 +18,19 @@ use Rattle.med_write.specs.Writing.{outcomes_of, outcomes_on, new_cells, rows_gi
 use Rattle.write_syntax.specs.WriteTree.{GivenTree, values, rows_of, InsertTree, SetTree, WriteTree, insert, update, delete}
 use Rattle.bind_names.specs.Scope.{TableShape, Scope}
 use Rattle.bind_names.specs.Meaning.{resolved, conditions_of}
-use Rattle.bind_types.specs.Typing.{select_type_causes}
+use Rattle.bind_types.specs.TreeTypes.{column_kinds}
+use Rattle.bind_types.specs.Typing.{core_types, answer_types, select_type_causes}
 use Rattle.med_catalog.specs.Objects.{Objects}
 use Rattle.bind_catalog.specs.Tables.{shapes}
 use Rattle.write_parts.proofs.Lists.{left_empty, right_empty, empty_by}
 use Rattle.write_parts.specs.Meaning.{target_of, columns_in, scope_in, set_for, cells_meant, places_meant, row_meant, given_meant, write_meant}
 use Rattle.write_parts.specs.Naming.{set_values}
-use Rattle.write_parts.specs.Typing.{WriteTypes, types_of, asked_types, cells_causes, column_kinds, set_types, row_types, row_fit_causes, length_causes, row_type_causes, rows_fit_causes, given_type_causes, answer_types}
+use Rattle.write_parts.specs.Typing.{WriteTypes, types_of, asked_types, cells_causes, set_types, row_types, row_fit_causes, length_causes, row_type_causes, rows_fit_causes, given_type_causes}
 use Rattle.write_exec.specs.Writing.{IsTypedWrite}
 use Rattle.write_types.specs.Typed.{texts_in, given_texts, IsClean, IsAnswered, IsGiven}
 use Rattle.write_types.proofs.Values.{both}
 use Rattle.write_types.proofs.Rows.{IsCleanText, IsCleanCell, clean_tree, inserted_fits, values_of_types, made_fits, all_left, all_right}
-use Rattle.write_types.proofs.Answers.{IsOfTypes, answer_of_types}
+use Rattle.write_types.proofs.Answers.{Lets, answer_is}
 
 abbrev WrittenFit : List Column → List (List Outcome) → Type 0
 WrittenFit columns rows = list_all (λ os. row_fits (column_kinds columns) (map value_of os)) rows ≡ true
@@ -55,14 +56,24 @@ values_fit columns names (es ∷ rows) clean none =
 
 -- ---- a query
 
-answer_fits : (columns : List Column) (names : Option (List Name)) (types : List (Option ColType)) (answer : List Tuple) → All (IsOfTypes types) answer → row_fit_causes columns names types ≡ []
-    → WrittenFit columns (map (new_cells (places_meant names columns)) (map outcomes_of answer))
-answer_fits columns names types [] h none = refl
-answer_fits columns names types (r ∷ rs) h none =
+-- a row of the answer fits the columns
+abbrev RowFits : List Column → Option (List Name) → Tuple → Type 0
+RowFits columns names r = row_fits (column_kinds columns) (map value_of (new_cells (places_meant names columns) (outcomes_of r))) ≡ true
+
+-- those of each core do, whose types fit
+each_core : (tables : List TableShape) (columns : List Column) (names : Option (List Name)) (cs : List CoreTree) → flat_map (row_fit_causes columns names) (map (core_types tables) cs) ≡ [] → Lets (RowFits columns names) tables cs
+each_core tables columns names [] none = tt
+each_core tables columns names (c ∷ cs) none =
+    let first = left_empty (row_fit_causes columns names (core_types tables c)) (flat_map (row_fit_causes columns names) (map (core_types tables) cs)) none in
+    let rest = right_empty (row_fit_causes columns names (core_types tables c)) (flat_map (row_fit_causes columns names) (map (core_types tables) cs)) none in
+    (λ r h. inserted_fits columns names (core_types tables c) (outcomes_of r) h first, each_core tables columns names cs rest)
+
+answer_fits : (columns : List Column) (names : Option (List Name)) (answer : List Tuple) → All (RowFits columns names) answer → WrittenFit columns (map (new_cells (places_meant names columns)) (map outcomes_of answer))
+answer_fits columns names [] h = refl
+answer_fits columns names (r ∷ rs) h =
     one_more (row_fits (column_kinds columns) (map value_of (new_cells (places_meant names columns) (outcomes_of r))))
     (list_all (λ os. row_fits (column_kinds columns) (map value_of os)) (map (new_cells (places_meant names columns)) (map outcomes_of rs)))
-    (inserted_fits columns names types (outcomes_of r) (All-head (IsOfTypes types) r rs h) none)
-    (answer_fits columns names types rs (All-tail (IsOfTypes types) r rs h) none)
+    (All-head (RowFits columns names) r rs h) (answer_fits columns names rs (All-tail (RowFits columns names) r rs h))
 
 -- ---- UPDATE
 
@@ -103,8 +114,9 @@ typed_given tables i (values rows) db answer clean none given =
     (right_empty (length_causes (map row_meant rows)) (flat_map (λ ts. row_fit_causes columns i.columns (row_types ts)) (map row_meant rows))
     (right_empty (flat_map row_type_causes rows) (rows_fit_causes columns i.columns (map row_meant rows)) none))
 typed_given tables i (rows_of q) db answer clean none given =
-    answer_fits (columns_in tables i.table) i.columns (answer_types tables q) answer (answer_of_types tables q db answer given.0 clean given.1)
-    (right_empty (select_type_causes tables q) (row_fit_causes (columns_in tables i.table) i.columns (answer_types tables q)) none)
+    let columns = columns_in tables i.table in
+    let lets = each_core tables columns i.columns (cores_of q) (right_empty (select_type_causes tables q) (flat_map (row_fit_causes columns i.columns) (answer_types tables q)) none) in
+    answer_fits columns i.columns answer (answer_is (RowFits columns i.columns) tables q db answer given.0 clean lets given.1)
 
 typed_write : (o : Objects) (t : WriteTree) (db : Tables) (answer : List Tuple) → types_of o t ≡ [] → IsClean t → IsGiven (shapes o) t db answer
     → IsTypedWrite (column_kinds (columns_in (shapes o) (target_of t))) (write_meant (shapes o) t) answer

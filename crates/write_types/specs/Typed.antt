@@ -2,15 +2,15 @@
 use Rattle.std.specs.Prelude.{◌≡◌, ℕ, true, List, [], ◌∷◌, ◌++◌, flat_map, All, Some, slice_get}
 use Rattle.med_value.specs.Datum.{Chars, Tuple}
 use Rattle.med_syntax.specs.ExprTree.{ExprTree, ExprTrees, text, call, paren, none, more}
-use Rattle.med_syntax.specs.QueryTree.{ItemTree, all, all_of, value, EntryTree}
+use Rattle.med_syntax.specs.QueryTree.{ItemTree, all, all_of, value, EntryTree, CoreTree, SelectTree, cores_of}
 use Rattle.med_query.specs.Form.{query_by}
 use Rattle.med_query.specs.Query.{Tables, IsAnswer}
 use Rattle.fdw_api.specs.Scan.{is_clean, row_fits}
 use Rattle.write_syntax.specs.WriteTree.{GivenTree, values, rows_of, WriteTree, insert, update, delete}
-use Rattle.bind_names.specs.Scope.{TableShape, entries_of, entry_columns}
+use Rattle.bind_names.specs.Scope.{TableShape, query_entries, entry_columns}
 use Rattle.bind_names.specs.Meaning.{meant_in}
 use Rattle.write_parts.specs.Naming.{set_values}
-use Rattle.write_parts.specs.Typing.{column_kinds}
+use Rattle.bind_types.specs.TreeTypes.{column_kinds}
 
 -- the texts that an expression may have as its value: its own, and those of the arguments of a call
 abbrev mutual
@@ -29,10 +29,17 @@ item_texts all = []
 item_texts (all_of q) = []
 item_texts (value e alias) = texts_in e
 
+-- of the items of each core
+abbrev pub core_texts : CoreTree → List (List ℕ)
+core_texts c = flat_map item_texts c.items
+
+abbrev pub query_texts : SelectTree → List (List ℕ)
+query_texts q = flat_map core_texts (cores_of q)
+
 -- the texts that a write may write: of VALUES, of the items of a query, and of SET
 abbrev pub given_texts : GivenTree → List (List ℕ)
 given_texts (values rows) = flat_map (flat_map texts_in) rows
-given_texts (rows_of q) = flat_map item_texts q.items
+given_texts (rows_of q) = query_texts q
 
 abbrev pub write_texts : WriteTree → List (List ℕ)
 write_texts (insert i) = given_texts i.given
@@ -43,7 +50,7 @@ write_texts (delete d) = []
 abbrev pub IsClean : WriteTree → Type 0
 IsClean t = All (λ x. is_clean (Chars x) ≡ true) (write_texts t)
 
--- the rows of each entry of FROM, by its number, are of the types of its table
+-- the rows of each of these entries, by its number, are of the types of its table
 abbrev pub AreTyped : List TableShape → List EntryTree → Tables → Type 0
 AreTyped tables es db =
     (number : ℕ) (e : EntryTree) → slice_get es number ≡ Some e
@@ -52,7 +59,7 @@ AreTyped tables es db =
 -- the rows that an INSERT's query gives are an answer of it over typed tables; VALUES, UPDATE and DELETE are given none
 abbrev pub IsAnswered : List TableShape → GivenTree → Tables → List Tuple → Type 0
 IsAnswered tables (values rows) db answer = Unit {0}
-IsAnswered tables (rows_of q) db answer = AreTyped tables (entries_of q.from) db × IsAnswer (query_by (meant_in tables q).form) db answer
+IsAnswered tables (rows_of q) db answer = AreTyped tables (query_entries q) db × IsAnswer (query_by (meant_in tables q).form) db answer
 
 abbrev pub IsGiven : List TableShape → WriteTree → Tables → List Tuple → Type 0
 IsGiven tables (insert i) db answer = IsAnswered tables i.given db answer

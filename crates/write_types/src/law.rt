@@ -7,7 +7,8 @@ ghost use Rattle.write_syntax.specs.WriteTree.{WriteTree};
 ghost use Rattle.med_catalog.specs.Objects.{Objects};
 ghost use Rattle.bind_catalog.specs.Tables.{shapes};
 ghost use Rattle.write_parts.specs.Meaning.{target_of, columns_in, write_meant};
-ghost use Rattle.write_parts.specs.Typing.{WriteTypes, column_kinds};
+ghost use Rattle.bind_types.specs.TreeTypes.{column_kinds};
+ghost use Rattle.write_parts.specs.Typing.{WriteTypes};
 ghost use Rattle.write_exec.specs.Writing.{IsTypedWrite};
 ghost use Rattle.write_types.specs.Typed.{IsClean, IsGiven};
 

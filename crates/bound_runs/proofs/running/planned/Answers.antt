@@ -16,7 +16,7 @@ agree_query-requires g c =
     let ready = c.requires.ready in
     let bound = c.args.bound in
     subst (λ (l : List (List OfferForm)). Each (Each (IsOffered boxes)) l) (sym (ap offers_in c.as_slice-2.ensures.value ∙ c.in-Ok.ensures))
-    (cores_offered boxes bound.entries.items ready.kinds bound.select.cores.items ready.typed ready.counts)
+    (cores_offered boxes bound.entries.items ready.kinds bound.select.cores.items ready.typed ready.counts.cores)
 
 pub accept_query-requires : goal.accept_query-requires
 accept_query-requires g c =

@@ -1,5 +1,6 @@
-use Rattle.std.proofs.Common.{◌≡◌, ◌∙◌, ◌<◌, ◌≤◌, List, [], Option, Some, None, map, length, refl, sym, subst, arith}
+use Rattle.std.proofs.Common.{◌≡◌, ◌∙◌, true, false, List, [], Option, Some, None, map, refl, sym, subst}
 use Rattle.med_value.specs.Datum.{tuple}
+use Rattle.med_query.specs.Form.{form_of}
 use Rattle.write_syntax.specs.WriteTree.{WriteTree}
 use Rattle.write_syntax.specs.WriteView.{write_tree}
 use Rattle.med_binder.specs.declared.bound.BoundQuery.{BoundQuery}
@@ -9,6 +10,7 @@ use Rattle.med_catalog.specs.View.{objects}
 use Rattle.bind_catalog.specs.Places.{Attached, attached}
 use Rattle.bind_write.specs.Binding.{IsQueryOf}
 use Rattle.bound_runs.specs.Running.{IsReady as IsBoundReady}
+use Rattle.sql_meaning.specs.Sizes.{is_large_form}
 use Rattle.med_select.specs.Ready.{AreReady}
 use Rattle.med_world.specs.Writing.{not_bound, in_use}
 use Rattle.med_rows.proofs.Typed.{HasQuery, has_query, bound_as}
@@ -54,15 +56,13 @@ returns-in_default-clause-err g c =
 query_there : (o : Objects) (bound : List Attached) (t : WriteTree) (q : Option BoundQuery) (b : BoundQuery) → q ≡ Some b → IsQueryOf o bound t q → HasQuery o bound t b
 query_there o bound t q b is h = has_query o bound t b (subst (IsQueryOf o bound t) is h)
 
-pub returns-then-len-gt-ENTRY_LIMIT-clause-err : goal.returns-then-len-gt-ENTRY_LIMIT-clause-err
-returns-then-len-gt-ENTRY_LIMIT-clause-err g c =
+pub returns-then-is_large_query-clause-err : goal.returns-then-is_large_query-clause-err
+returns-then-is_large_query-clause-err g c =
     let o = objects c.args.catalog.now in
     let bound = map attached c.args.bound.now in
     let t = write_tree c.args.statement in
     let b = c.in-Some.query in
-    let counted : c.len.result ≡ length b.entries.items = c.len.ensures ∙ b.entries.ok.0 in
-    let least : 8 < c.len.result = c.if-len-gt-ENTRY_LIMIT.true in
-    let many : 8 < length b.entries.items = omega (arith, counted, least) in
+    let many : is_large_form (form_of b.select) ≡ true = sym c.is_large_query.ensures ∙ c.if-is_large_query.true in
     crowded o c.args.user.now bound t b (states g.W.Wrapper.meaning c.args.slots.now.items) c.args.is_leased c.in-Ok.ensures.bindable
     (query_there o bound t c.in-Ok.write.query b (sym c.take.ensures.value ∙ c.in-Some.is) c.in-Ok.ensures.meant.query) many
 
@@ -84,9 +84,7 @@ returns-in-Err-run_query-clause-err g c =
     let bound = map attached c.args.bound.now in
     let t = write_tree c.args.statement in
     let b = c.in-Some.query in
-    let counted : c.len.result ≡ length b.entries.items = c.len.ensures ∙ b.entries.ok.0 in
-    let least : c.len.result ≤ 8 = c.if-len-gt-ENTRY_LIMIT.false in
-    let few : length b.entries.items ≤ 8 = omega (arith, counted, least) in
+    let few : is_large_form (form_of b.select) ≡ false = sym c.is_large_query.ensures ∙ c.if-is_large_query.false in
     not_answered o c.args.user.now bound t c.in-Ok.write b (states g.W.Wrapper.meaning c.args.slots.now.items) (states g.W.Wrapper.meaning c.run_query.new.slots.items) c.in-Err-run_query.cause
     c.args.is_leased c.if-is_leased.false c.in-Ok.ensures.bindable c.in-Ok.ensures.meant (query_there o bound t c.in-Ok.write.query b (sym c.take.ensures.value ∙ c.in-Some.is) c.in-Ok.ensures.meant.query) few c.run_query.ensures.served c.in-Err-run_query.ensures.err
 
@@ -121,14 +119,12 @@ returns-clause-ok g c =
     let old = states g.W.Wrapper.meaning c.args.slots.now.items in
     let now = states g.W.Wrapper.meaning c.run_query.new.slots.items in
     let answer = map tuple c.in-Ok-run_query.rows.items in
-    let counted : c.len.result ≡ length b.entries.items = c.len.ensures ∙ b.entries.ok.0 in
-    let least : c.len.result ≤ 8 = c.if-len-gt-ENTRY_LIMIT.false in
-    let few : length b.entries.items ≤ 8 = omega (arith, counted, least) in
+    let few : is_large_form (form_of b.select) ≡ false = sym c.is_large_query.ensures ∙ c.if-is_large_query.false in
     let h = query_there o bound t c.in-Ok.write.query b (sym c.take.ensures.value ∙ c.in-Some.is) c.in-Ok.ensures.meant.query in
     let can = can_answered o bound old now t c.in-Ok.write b answer c.requires.ready (c.requires.unread c.if-is_leased.false) c.run_query.ensures.served c.in-Ok.ensures.meant h
     (λ places form. sym c.if-not-fits.false ∙ rw c.as_slice.ensures.value at c.fits.ensures places form) in
     ends_ok o c.args.user.now bound t c.in-Ok.write old now (states g.W.Wrapper.meaning c.write_rows-2.new.slots.items) answer c.write_rows-2.result c.args.is_leased c.if-is_leased.false c.in-Ok.ensures.bindable c.in-Ok.ensures.meant
-    (asked o bound t b old now answer h few c.run_query.ensures.served (c.bound_queries_are_ready.ensures.once o h.query b old now h.meant c.in-Ok-run_query.ensures.once) c.in-Ok-run_query.ensures.ok) can (rw c.as_slice-2.ensures.value at c.write_rows-2.ensures.ok)
+    (asked o bound t b old now answer h few c.run_query.ensures.served (c.bound_queries_are_ready.ensures.once b old now c.in-Ok-run_query.ensures.once) c.in-Ok-run_query.ensures.ok) can (rw c.as_slice-2.ensures.value at c.write_rows-2.ensures.ok)
 
 pub returns-clause-err : goal.returns-clause-err
 returns-clause-err g c =
@@ -139,9 +135,7 @@ returns-clause-err g c =
     let old = states g.W.Wrapper.meaning c.args.slots.now.items in
     let now = states g.W.Wrapper.meaning c.run_query.new.slots.items in
     let answer = map tuple c.in-Ok-run_query.rows.items in
-    let counted : c.len.result ≡ length b.entries.items = c.len.ensures ∙ b.entries.ok.0 in
-    let least : c.len.result ≤ 8 = c.if-len-gt-ENTRY_LIMIT.false in
-    let few : length b.entries.items ≤ 8 = omega (arith, counted, least) in
+    let few : is_large_form (form_of b.select) ≡ false = sym c.is_large_query.ensures ∙ c.if-is_large_query.false in
     let h = query_there o bound t c.in-Ok.write.query b (sym c.take.ensures.value ∙ c.in-Some.is) c.in-Ok.ensures.meant.query in
     ends_err o c.args.user.now bound t c.in-Ok.write old now (states g.W.Wrapper.meaning c.write_rows-2.new.slots.items) answer c.write_rows-2.result c.args.is_leased c.if-is_leased.false c.in-Ok.ensures.bindable c.in-Ok.ensures.meant
-    (asked o bound t b old now answer h few c.run_query.ensures.served (c.bound_queries_are_ready.ensures.once o h.query b old now h.meant c.in-Ok-run_query.ensures.once) c.in-Ok-run_query.ensures.ok) (rw c.as_slice-2.ensures.value at c.write_rows-2.ensures.err)
+    (asked o bound t b old now answer h few c.run_query.ensures.served (c.bound_queries_are_ready.ensures.once b old now c.in-Ok-run_query.ensures.once) c.in-Ok-run_query.ensures.ok) (rw c.as_slice-2.ensures.value at c.write_rows-2.ensures.err)

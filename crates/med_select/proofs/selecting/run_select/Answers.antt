@@ -1,6 +1,7 @@
-use Rattle.std.proofs.Common.{◌≡◌, ◌∙◌, ◌<◌, ◌≤◌, refl, map, length, arith}
+use Rattle.std.proofs.Common.{◌≡◌, ◌∙◌, true, false, refl, sym, map}
 use Rattle.std.proofs.lemmas.Result.{err_from_is_err_and}
 use Rattle.med_value.specs.Datum.{tuple}
+use Rattle.med_query.specs.Form.{form_of}
 use Rattle.med_exec.specs.Slots.{states}
 use Rattle.med_syntax.specs.QueryView.{statement_tree}
 use Rattle.med_catalog.specs.View.{objects}
@@ -8,6 +9,7 @@ use Rattle.bind_catalog.specs.Looked.{query_in}
 use Rattle.bind_catalog.specs.Places.{attached}
 use Rattle.med_world.specs.Selecting.{not_bound}
 use Rattle.bound_runs.specs.Running.{IsReady}
+use Rattle.sql_meaning.specs.Sizes.{is_large_form}
 use Rattle.med_select.specs.Ready.{IsBoundAs}
 use Rattle.med_select.proofs.Ready.{bound_as}
 use Rattle.med_select.proofs.Selections.{IsBoundBy, selected, unanswered, crowded}
@@ -35,9 +37,7 @@ returns-in-Err-clause-err g c =
     let o = objects c.args.catalog.now in
     let q = query_in (statement_tree c.args.statement.now) in
     let is : IsBoundBy o c.args.user.now (map attached c.args.bound.now) q c.in_ok-query.query = record { bindable = c.in_ok-query.ensures.bindable; meant = c.in_ok-query.ensures.meant; places = c.in_ok-query.ensures.places } in
-    let counted : c.len.result ≡ length c.in_ok-query.query.entries.items = c.len.ensures ∙ c.in_ok-query.query.entries.ok.0 in
-    let least : c.len.result ≤ 8 = c.if-len-gt-ENTRY_LIMIT.false in
-    let few : length c.in_ok-query.query.entries.items ≤ 8 = omega (arith, counted, least) in
+    let few : is_large_form (form_of c.in_ok-query.query.select) ≡ false = sym c.is_large_query.ensures ∙ c.if-is_large_query.false in
     rw c.cause_of.ensures (unanswered c.expressions_ignore_order.ensures c.causes_ignore_order.ensures o c.args.user.now (map attached c.args.bound.now) q c.in_ok-query.query c.in-Err.fault
     (states m c.args.slots.now.items) (states m c.run_bound.new.slots.items) is few c.run_bound.ensures.served c.in-Err.ensures.err)
 
@@ -47,18 +47,14 @@ returns-clause-ok g c =
     let o = objects c.args.catalog.now in
     let q = query_in (statement_tree c.args.statement.now) in
     let is : IsBoundBy o c.args.user.now (map attached c.args.bound.now) q c.in_ok-query.query = record { bindable = c.in_ok-query.ensures.bindable; meant = c.in_ok-query.ensures.meant; places = c.in_ok-query.ensures.places } in
-    let counted : c.len.result ≡ length c.in_ok-query.query.entries.items = c.len.ensures ∙ c.in_ok-query.query.entries.ok.0 in
-    let least : c.len.result ≤ 8 = c.if-len-gt-ENTRY_LIMIT.false in
-    let few : length c.in_ok-query.query.entries.items ≤ 8 = omega (arith, counted, least) in
+    let few : is_large_form (form_of c.in_ok-query.query.select) ≡ false = sym c.is_large_query.ensures ∙ c.if-is_large_query.false in
     rw c.replace-names.ensures.value (selected c.expressions_ignore_order.ensures c.answers_ignore_order.ensures c.causes_ignore_order.ensures o c.args.user.now (map attached c.args.bound.now) q c.in_ok-query.query (map tuple c.in-Ok.rows.items)
-    (states m c.args.slots.now.items) (states m c.run_bound.new.slots.items) is few c.run_bound.ensures.served (c.bound_queries_are_ready.ensures.once o q c.in_ok-query.query (states m c.args.slots.now.items) (states m c.run_bound.new.slots.items) c.in_ok-query.ensures.meant c.in-Ok.ensures.begins) _ refl refl c.run_bound.ensures.pulls c.in-Ok.ensures.ok)
+    (states m c.args.slots.now.items) (states m c.run_bound.new.slots.items) is few c.run_bound.ensures.served (c.bound_queries_are_ready.ensures.once c.in_ok-query.query (states m c.args.slots.now.items) (states m c.run_bound.new.slots.items) c.in-Ok.ensures.begins) _ refl refl c.run_bound.ensures.pulls c.in-Ok.ensures.ok)
 
-pub returns-then-len-gt-ENTRY_LIMIT-clause-err : goal.returns-then-len-gt-ENTRY_LIMIT-clause-err
-returns-then-len-gt-ENTRY_LIMIT-clause-err g c =
+pub returns-then-is_large_query-clause-err : goal.returns-then-is_large_query-clause-err
+returns-then-is_large_query-clause-err g c =
     let o = objects c.args.catalog.now in
     let q = query_in (statement_tree c.args.statement.now) in
     let is : IsBoundBy o c.args.user.now (map attached c.args.bound.now) q c.in_ok-query.query = record { bindable = c.in_ok-query.ensures.bindable; meant = c.in_ok-query.ensures.meant; places = c.in_ok-query.ensures.places } in
-    let counted : c.len.result ≡ length c.in_ok-query.query.entries.items = c.len.ensures ∙ c.in_ok-query.query.entries.ok.0 in
-    let least : 8 < c.len.result = c.if-len-gt-ENTRY_LIMIT.true in
-    let many : 8 < length c.in_ok-query.query.entries.items = omega (arith, counted, least) in
+    let many : is_large_form (form_of c.in_ok-query.query.select) ≡ true = sym c.is_large_query.ensures ∙ c.if-is_large_query.true in
     crowded o c.args.user.now (map attached c.args.bound.now) q c.in_ok-query.query (states g.W.Wrapper.meaning c.args.slots.now.items) is many

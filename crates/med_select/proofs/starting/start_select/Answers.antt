@@ -1,12 +1,14 @@
-use Rattle.std.proofs.Common.{◌≡◌, ◌∙◌, ◌≤◌, refl, sym, map, length, arith}
+use Rattle.std.proofs.Common.{◌≡◌, ◌∙◌, false, refl, sym, map}
 use Rattle.std.proofs.lemmas.Result.{err_from_is_err_and}
 use Rattle.med_exec.specs.Slots.{states}
 use Rattle.med_syntax.specs.QueryView.{statement_tree}
+use Rattle.med_query.specs.Form.{form_of}
 use Rattle.med_catalog.specs.View.{objects}
 use Rattle.bind_catalog.specs.Looked.{query_in}
 use Rattle.bind_catalog.specs.Places.{attached}
 use Rattle.open_cursors.specs.Starting.{not_bound}
 use Rattle.bound_runs.specs.Running.{IsReady}
+use Rattle.sql_meaning.specs.Sizes.{is_large_form}
 use Rattle.med_select.specs.Ready.{IsBoundAs}
 use Rattle.med_select.proofs.Ready.{bound_as}
 use Rattle.med_select.proofs.Selections.{IsBoundBy}
@@ -35,9 +37,7 @@ returns-in-Err-start_bound-clause-err g c =
     let o = objects c.args.catalog.now in
     let q = query_in (statement_tree c.args.statement.now) in
     let is : IsBoundBy o c.args.user.now (map attached c.args.bound.now) q c.in_ok-query.query = record { bindable = c.in_ok-query.ensures.bindable; meant = c.in_ok-query.ensures.meant; places = c.in_ok-query.ensures.places } in
-    let counted : c.len.result ≡ length c.in_ok-query.query.entries.items = c.len.ensures ∙ c.in_ok-query.query.entries.ok.0 in
-    let least : c.len.result ≤ 8 = c.if-len-gt-ENTRY_LIMIT.false in
-    let few : length c.in_ok-query.query.entries.items ≤ 8 = omega (arith, counted, least) in
+    let few : is_large_form (form_of c.in_ok-query.query.select) ≡ false = sym c.is_large_query.ensures ∙ c.if-is_large_query.false in
     let may : MayBegin c.args.is_full c.in_ok-query.query = record { safe = sym c.is_risky_query.ensures ∙ c.if-is_risky_query.false; room = c.if-is_full.false; few = few } in
     rw c.cause_of.ensures (not_begun c.expressions_ignore_order.ensures c.causes_ignore_order.ensures o c.args.user.now (map attached c.args.bound.now) q c.args.is_full c.in_ok-query.query c.in-Err-start_bound.fault
     (states m c.args.slots.now.items) (states m c.start_bound.new.slots.items) is may c.in-Err-start_bound.ensures.ended c.in-Err-start_bound.ensures.err)
@@ -48,9 +48,7 @@ returns-clause-ok g c =
     let o = objects c.args.catalog.now in
     let q = query_in (statement_tree c.args.statement.now) in
     let is : IsBoundBy o c.args.user.now (map attached c.args.bound.now) q c.in_ok-query.query = record { bindable = c.in_ok-query.ensures.bindable; meant = c.in_ok-query.ensures.meant; places = c.in_ok-query.ensures.places } in
-    let counted : c.len.result ≡ length c.in_ok-query.query.entries.items = c.len.ensures ∙ c.in_ok-query.query.entries.ok.0 in
-    let least : c.len.result ≤ 8 = c.if-len-gt-ENTRY_LIMIT.false in
-    let few : length c.in_ok-query.query.entries.items ≤ 8 = omega (arith, counted, least) in
+    let few : is_large_form (form_of c.in_ok-query.query.select) ≡ false = sym c.is_large_query.ensures ∙ c.if-is_large_query.false in
     let may : MayBegin c.args.is_full c.in_ok-query.query = record { safe = sym c.is_risky_query.ensures ∙ c.if-is_risky_query.false; room = c.if-is_full.false; few = few } in
     rw c.replace-names.ensures.value (starts c.expressions_ignore_order.ensures c.answers_ignore_order.ensures c.causes_ignore_order.ensures o c.args.user.now (map attached c.args.bound.now) q c.args.is_full c.in_ok-query.query c.in-Ok-start_bound.run'
-    (states m c.args.slots.now.items) (states m c.start_bound.new.slots.items) is c.in_ok-query.ensures.widths may c.in-Ok-start_bound.ensures.boxes c.in-Ok-start_bound.ensures.running c.in-Ok-start_bound.ensures.holds (c.bound_queries_are_ready.ensures.once o q c.in_ok-query.query (states m c.args.slots.now.items) (states m c.start_bound.new.slots.items) c.in_ok-query.ensures.meant c.in-Ok-start_bound.ensures.begins) c.in-Ok-start_bound.ensures.plain c.in-Ok-start_bound.ensures.bare c.in-Ok-start_bound.ensures.opens c.in-Ok-start_bound.ensures.ok)
+    (states m c.args.slots.now.items) (states m c.start_bound.new.slots.items) is c.in_ok-query.ensures.widths may c.in-Ok-start_bound.ensures.boxes c.in-Ok-start_bound.ensures.running c.in-Ok-start_bound.ensures.holds (c.bound_queries_are_ready.ensures.once c.in_ok-query.query (states m c.args.slots.now.items) (states m c.start_bound.new.slots.items) c.in-Ok-start_bound.ensures.begins) c.in-Ok-start_bound.ensures.plain c.in-Ok-start_bound.ensures.bare c.in-Ok-start_bound.ensures.opens c.in-Ok-start_bound.ensures.ok)
