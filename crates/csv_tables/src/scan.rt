@@ -82,6 +82,7 @@ fn passes(
 
 /// Whether a record comes: each restriction answered Exact is true of it, and each answered Hint may be, as far as the length of its field
 /// tells. It fails for want of memory alone.
+#[inline(never)]
 pub fn comes(
     alloc: Global,
     table: &CsvTable,

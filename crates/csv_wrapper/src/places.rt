@@ -35,6 +35,7 @@ pub struct CsvDraft {
 }
 
 // Whether the record at a place has what a scan looks for. It is decoded only where its field may be equal to the parameter.
+#[inline(never)]
 fn has(
     alloc: Global,
     table: &CsvTable,
@@ -55,6 +56,7 @@ fn has(
 }
 
 // Whether the record at a place has what a scan looks for, if it looks for something.
+#[inline(always)]
 fn has_sought(
     alloc: Global,
     table: &CsvTable,
@@ -104,16 +106,24 @@ fn comes_by(
 
 // A record as a scan shows it. Where no column is wanted that is an empty row, without a look at the record.
 #[inline(always)]
-fn shown_by(alloc: Global, table: &CsvTable, at: usize, spec: &ScanSpec) -> Result<Row, NoMemory>
+fn shown_by(
+    alloc: Global,
+    table: &CsvTable,
+    at: usize,
+    spec: &ScanSpec,
+) -> Result<Option<Row>, NoMemory>
     requires { at < table.now.rows.count }
-    ensures { IfOk result (λ r. tuple r ≡ shown_cells (spec_of spec.now) (cells_at table.now at)) }
+    ensures { IfOk result (λ r. option_map tuple r ≡ Some (shown_cells (spec_of spec.now) (cells_at table.now at))) }
 {
     if spec.agreement.narrow && spec.wanted.is_empty() {
-        return Ok(Row {
+        return Ok(Some(Row {
             cells: Vec::new(alloc),
-        });
+        }));
     }
-    show(alloc, table, at, spec)
+    match show(alloc, table, at, spec) {
+        Ok(row) => Ok(Some(row)),
+        Err(_) => Err(NoMemory),
+    }
 }
 
 // Whether a record that has what a scan looks for comes.
@@ -182,6 +192,7 @@ impl PlacedTable for CsvPlaces {
         answer_to(&self.table.layout.kinds, restriction)
     }
 
+    #[inline(always)]
     fn give(
         &self,
         alloc: Global,
@@ -196,8 +207,7 @@ impl PlacedTable for CsvPlaces {
         if !comes_by(alloc, &self.table, at, spec, params)? {
             return Ok(None);
         }
-        let row = shown_by(alloc, &self.table, at, spec)?;
-        Ok(Some(row))
+        shown_by(alloc, &self.table, at, spec)
     }
 
     fn give_found(

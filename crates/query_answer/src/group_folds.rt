@@ -36,6 +36,7 @@ pub(crate) struct GroupFold<'a> {
 }
 
 // One more row of a group that is there.
+#[inline(never)]
 fn add_to(
     alloc: Global,
     leaves: &[Leaf],
@@ -52,6 +53,7 @@ fn add_to(
 }
 
 // The first row of a group.
+#[inline(never)]
 fn add_group(
     alloc: Global,
     leaves: &[Leaf],

@@ -63,6 +63,7 @@ pub(crate) fn all_fresh(alloc: Global, leaves: &[Leaf]) -> Result<Vec<Running>, 
 }
 
 // One more row of a column: the first one's value is kept, and the others are compared with it.
+#[inline(always)]
 fn share(
     alloc: Global,
     at: usize,
@@ -165,6 +166,7 @@ fn argument_value(alloc: Global, argument: &Expr, row: &Row) -> Result<Value, No
 }
 
 // One more row of an aggregate.
+#[inline(never)]
 fn tally_row(
     alloc: Global,
     function: SetFunction,
@@ -188,6 +190,7 @@ fn tally_row(
 }
 
 // One more value of SUM; NULL is skipped.
+#[inline(always)]
 fn add_number(value: &Value, tally: &mut Tally)
     requires few { suc tally.old.count ≤ 2 ^ 62 }
     requires small { magnitude tally.old.total ≤ tally.old.count * 2 ^ 63 }
@@ -202,6 +205,7 @@ fn add_number(value: &Value, tally: &mut Tally)
 }
 
 // One more row of SUM of a column, which is read where it stands; NULL past the end.
+#[inline(always)]
 fn total_cell(at: usize, row: &Row, tally: &mut Tally)
     requires few { suc tally.old.count ≤ 2 ^ 62 }
     requires small { magnitude tally.old.total ≤ tally.old.count * 2 ^ 63 }
@@ -214,6 +218,7 @@ fn total_cell(at: usize, row: &Row, tally: &mut Tally)
 }
 
 // One more row of SUM.
+#[inline(always)]
 fn total_row(
     alloc: Global,
     argument: &Expr,
@@ -235,6 +240,7 @@ fn total_row(
 }
 
 // One more row of a leaf.
+#[inline(always)]
 fn add(alloc: Global, leaf: &Leaf, row: &Row, running: &mut Running) -> Result<(), NoMemory>
     requires room { HasRoom running.old }
     requires small { IsSmall running.old }
