@@ -1,13 +1,14 @@
 -- What is read of a blob, and what a write leaves, as tables by place.
-use Rattle.std.proofs.Common.{◌≡◌, ◌≢◌, ℕ, ◌+◌, ◌<◌, ◌⊎◌, inl, inr, eqb, Bool, true, false, not, ◌&&◌, nat_eq, nat_le, nat_lt, zero, suc, List, [], ◌∷◌, ◌++◌, length, map, slice_get, Option, Some, None, Contains, String, Global, string_bytes, refl, ap, sym, ◌∙◌, subst, arith}
+use Rattle.std.proofs.Common.{◌≡◌, ◌≢◌, ℕ, ◌+◌, ◌<◌, ◌⊎◌, inl, inr, eqb, Bool, true, false, not, ◌&&◌, nat_eq, nat_le, nat_lt, zero, suc, List, [], ◌∷◌, ◌++◌, length, map, slice_get, Option, Some, None, option_map, Contains, String, Global, string_bytes, refl, ap, sym, ◌∙◌, subst, arith}
 use Rattle.std.specs.List.{list_all, list_any, AllByRecursion}
 use Rattle.std.proofs.lemmas.Bool.Decides.{eqb_tells}
 use Rattle.std.proofs.lemmas.List.Elements.{All-contains, All-from_recursion}
 use Rattle.med_value.specs.Causes.{phase_of}
-use Rattle.med_value.specs.Datum.{Tuple, cell}
+use Rattle.med_value.specs.Datum.{Tuple, cell, tuple}
+use Rattle.med_value.specs.declared.value.Row.{Row}
 use Rattle.med_value.specs.declared.order.Comparison.TheVariants as comparisons
 use Rattle.med_value.specs.declared.value.ColType.{ColType}
-use Rattle.fdw_api.specs.Scan.{Spec, RestrictionForm, TestForm, Compares, Missing, Present, Given, Slot, TableRow, checks}
+use Rattle.fdw_api.specs.Scan.{Spec, RestrictionForm, TestForm, Compares, Missing, Present, Given, Slot, TableRow, checks, shown_cells}
 use Rattle.fdw_api.specs.declared.scan.Agree.{Agree}
 use Rattle.fdw_api.specs.declared.scan.Agree.TheVariants.{Exact}
 use Rattle.med_value.specs.declared.cause.Cause.{Cause}
@@ -32,8 +33,9 @@ use Rattle.csv_tables.specs.Scans.{comes}
 use Rattle.csv_tables.proofs.Applying.{origins}
 use Rattle.csv_tables.proofs.Placing.{row_at, row_there, rows_count}
 use Rattle.csv_tables.proofs.Headers.{heading_is_header}
+use Rattle.place_wrapper.proofs.Options.{some_inj}
 use Rattle.place_wrapper.proofs.Rows.{here}
-use Rattle.place_wrapper.specs.Forms.{HasAt, ReadsAs, RefusesContent, Rewrites, RefusesChanges}
+use Rattle.place_wrapper.specs.Forms.{GivesAt, HasAt, ReadsAs, RefusesContent, Rewrites, RefusesChanges}
 use Rattle.csv_wrapper.specs.CsvKind.{csv_refusals, unless_of_run, three_of_run}
 use Rattle.csv_wrapper.specs.Bound.{bound_by}
 use Rattle.csv_wrapper.specs.Places.{csv_form, takes}
@@ -222,6 +224,16 @@ takes_row t at spec params o r lt eo is h e =
 
 pub cells_there : (t : CsvTable) (at : ℕ) (r : TableRow) → at < length (rows_in t) → slice_get (rows_in t) at ≡ Some r → cells_at t at ≡ r.cells
 cells_there t at r lt is = ap (λ (x : TableRow). x.cells) (row_there t at r (within_count t at lt) is)
+
+-- a record that comes is given as it is shown
+pub shows_row : (t : CsvPlaces) (at : ℕ) (spec : Spec) (params : Tuple) (o : Option SoughtForm) (given : Option Row) → at < length (rows_in t.table) → o ≡ sought spec.offered
+    → has_sought o params (cells_at t.table at) ≡ true → comes spec.offered spec.answers params (cells_at t.table at) (fields_at t.table at) ≡ true
+    → option_map tuple given ≡ Some (shown_cells spec (cells_at t.table at)) → GivesAt csv_form t spec params at given
+shows_row t at spec params o None lt eo h e is = absurd cc
+shows_row t at spec params o (Some row) lt eo h e is = λ r there. (
+  takes_row t.table at spec params o r lt eo there h e,
+  some_inj (tuple row) (shown_cells spec (cells_at t.table at)) is ∙ ap (λ (cells : Tuple). shown_cells spec cells) (cells_there t.table at r lt there),
+)
 
 -- the row at a place has what is looked for: so have the cells of its record
 pub found_there : (t : CsvPlaces) (at : ℕ) (s : SoughtForm) (params : Tuple) → at < length (rows_in t.table) → HasAt csv_form t s params at

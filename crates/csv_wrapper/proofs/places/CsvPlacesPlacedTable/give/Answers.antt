@@ -1,10 +1,11 @@
-use Rattle.std.proofs.Common.{◌≡◌, ◌∙◌, true, false, map, ap, option_map, rules}
-use Rattle.med_value.specs.Datum.{datum, Tuple}
-use Rattle.fdw_api.specs.Scan.{spec_of, shown_cells}
+use Rattle.std.proofs.Common.{◌≡◌, true, false, map, option_map, rules}
+use Rattle.std.proofs.lemmas.Result.{IfOk-weaker}
+use Rattle.med_value.specs.Datum.{datum}
+use Rattle.fdw_api.specs.Scan.{spec_of}
 use Rattle.csv_tables.specs.Tables.{cells_at, fields_at}
 use Rattle.csv_tables.specs.Scans.{comes}
 use Rattle.place_index.specs.Scans.{form_of, has_sought}
-use Rattle.csv_wrapper.proofs.Placing.{within_count, lacks_row, fails_row, takes_row, cells_there}
+use Rattle.csv_wrapper.proofs.Placing.{within_count, lacks_row, fails_row, shows_row}
 use Rattle.csv_wrapper.proofs.places.CsvPlacesPlacedTable.give.Goals as goal
 
 pub has_sought-requires : goal.has_sought-requires
@@ -30,11 +31,9 @@ returns-then-not-branch-2 c r is =
     fails_row t c.args.at spec (map datum c.args.params.now) r c.requires.within is stays
 
 pub returns : goal.returns
-returns c r is =
+returns c =
     let t = c.args.self.now.table in
     let spec = spec_of c.args.spec.now in
     let has : has_sought (option_map form_of c.args.found) (map datum c.args.params.now) (cells_at t c.args.at) ≡ true = search rules in
-    let passes : comes spec.offered spec.answers (map datum c.args.params.now) (cells_at t c.args.at) (fields_at t c.args.at) ≡ true = search rules in (
-      takes_row t c.args.at spec (map datum c.args.params.now) _ r c.requires.within c.requires.found is has passes,
-      c.in_ok-row.ensures ∙ ap (λ (cells : Tuple). shown_cells spec cells) (cells_there t c.args.at r c.requires.within is),
-    )
+    let passes : comes spec.offered spec.answers (map datum c.args.params.now) (cells_at t c.args.at) (fields_at t c.args.at) ≡ true = search rules in
+    IfOk-weaker c.shown_by.result _ _ (λ o e. shows_row c.args.self.now c.args.at spec (map datum c.args.params.now) _ o c.requires.within c.requires.found has passes e) c.shown_by.ensures
