@@ -216,6 +216,8 @@ pub fn rewrite<S: SourceStore>(
         ≡ rewritten gone.now (map tuple fresh.now) (entries_in (state S.Store conn.old).now table)) }
     ensures sure_free { IsSureWrite (state S.Store conn.old) (state S.Store conn.new) table
         → OnOk result (repeats_key gone.now (map tuple fresh.now) (entries_in (state S.Store conn.old).now table) ≡ false) }
+    ensures sure_lasts { IsCleanAfter (state S.Store conn.new)
+        → OnOk result ((state S.Store conn.new).committed ≡ (state S.Store conn.new).now) }
     ensures sure_schema { IsSureWrite (state S.Store conn.old) (state S.Store conn.new) table
         → OnOk result (conn.new.schema ≡ conn.old.schema) }
     ensures sure_others { IsSureWrite (state S.Store conn.old) (state S.Store conn.new) table

@@ -7,6 +7,7 @@ use Rattle.sqlite_writes.specs.Rewriting.{rewritten}
 use Rattle.sqlite_writes.proofs.Kept.{clean_before, commit_open, commit_undone}
 use Rattle.sqlite.specs.Effect.{Database}
 use Rattle.sqlite.specs.Held.{state}
+use Rattle.sqlite_shapes.specs.Steady.{IsCleanAfter}
 use Rattle.sqlite_writes.specs.Writable.{IsSureWrite, KeepsTables}
 use Rattle.sqlite_writes.proofs.Changed.{entries_ordered, begun_step}
 use Rattle.sqlite_writes.proofs.rewriting.rewrite.Goals as goal
@@ -53,6 +54,14 @@ returns-in-Ok-clause-sure_free g c h =
     let step = begun_step g.S.Store c.args.conn.now c.transaction-tx.result.conn.now c.change_rows.new.tx.conn.now t c.transaction-tx.ensures.begun mid sure.writable sure.ordered in
     let now = ok.1.now_is in
     rw c.transaction-tx.ensures.begun at (c.in_ok-change_rows.ensures.sure_free step)
+
+pub returns-in-Ok-clause-sure_lasts : goal.returns-in-Ok-clause-sure_lasts
+returns-in-Ok-clause-sure_lasts g c after =
+    let end = c.commit.new.self.0 in
+    let same : end ≡ c.conn-2-1.given.0 = search rules in
+    let there = subst (λ k. IsCleanAfter (state g.S.Store k)) (sym same) after in
+    let shows = (c.in-Ok.ensures.ok there.clean).1 in
+    subst (λ k. (state g.S.Store k).committed ≡ (state g.S.Store k).now) same (shows.committed_is ∙ sym shows.now_is)
 
 pub returns-in-Ok-clause-sure_schema : goal.returns-in-Ok-clause-sure_schema
 returns-in-Ok-clause-sure_schema g c h =
