@@ -6,6 +6,8 @@ use Rattle.sqlite.specs.Effect.{Database}
 use Rattle.sqlite.specs.Schema.{Schema}
 use Rattle.sqlite.specs.View.{IsShaped}
 use Rattle.sqlite.specs.Listing.{understood}
+use Rattle.sqlite.specs.State.{State}
+use Rattle.sqlite_shapes.specs.Steady.{IsCleanAfter}
 use Rattle.sqlite_trees.specs.declared.store.Shape.TheVariants as shape
 use Rattle.sqlite_trees.specs.Props.{Trees-set, rows_set}
 use base.Stored.{Coded-set}
@@ -16,7 +18,7 @@ use Rattle.sqlite_cells.specs.Layouts.{Layout}
 use Rattle.std.specs.List.{IsDistinct}
 use Rattle.std.proofs.lemmas.Map.Keys.{IsDistinct-prop}
 use Rattle.sqlite_cells.specs.Cells.{rows_in}
-use Rattle.sqlite_cells.specs.Tables.{IsKnown, rows_of, entries_of, entries_at, tree_read, tree_of, rest_of}
+use Rattle.sqlite_cells.specs.Tables.{IsKnown, IsSure, ReadsOnly, rows_of, entries_of, entries_at, tree_read, tree_of, rest_of}
 use Rattle.sqlite_cells.proofs.PagesJoin.{pages_join}
 use Rattle.sqlite_cells.proofs.Once.{ids_once, no_rows_once}
 
@@ -66,6 +68,16 @@ module _ (db : Database) (l : Layout) (text : List ℕ) (e : text ≡ l.page) wh
       go (inl h) = absurd (none h.0 (not_text h.0 h.1))
       go (inr h) = rw (entries_are h.0 h.1) (rows h.0 (as_text h.0 h.1))
 
+  pub sure_rows : (low high : ℤ) (items : List SqlRow) → ∥ IsKnown db.schema l ∥₁ → IsShaped shape.Table (entries_of db l)
+      → ((tree : ℕ) → IsPageText db.schema text tree → IsShaped shape.Table (db.trees tree) → items ≡ take 64 (range_of low high (db.trees tree)))
+      → ((fault : CompileError) → understood db.schema text ≡ Err fault → ⊥)
+      → items ≡ take 64 (range_of low high (entries_of db l))
+  sure_rows low high items known ordered rows none = ∥∥₁_elim known (rows_set _ _) go
+    where
+      go : IsKnown db.schema l → items ≡ take 64 (range_of low high (entries_of db l))
+      go (inl h) = absurd (none h.0 (not_text h.0 h.1))
+      go (inr h) = rw (entries_are h.0 h.1) (rows h.0 (as_text h.0 h.1) (subst (λ (es : List SqlRow). IsShaped shape.Table es) (entries_are h.0 h.1) ordered))
+
   pub page_joins : (low high : ℤ) (items : List SqlRow) → ∥ IsKnown db.schema l ∥₁
       → ((tree : ℕ) → IsPageText db.schema text tree → IsShaped shape.Table (db.trees tree))
       → ((tree : ℕ) → IsPageText db.schema text tree → items ≡ take 64 (range_of low high (db.trees tree)))
@@ -114,3 +126,42 @@ was_once db l text e known shaped = ∥∥₁_elim known (IsDistinct-prop nat_eq
 -- what is known of a layout is known where nothing was changed
 pub known_after : (db after : Database) (l : Layout) → after ≡ db → ∥ IsKnown db.schema l ∥₁ → ∥ IsKnown after.schema l ∥₁
 known_after db after l same known = subst (λ (d : Database). ∥ IsKnown d.schema l ∥₁) (sym same) known
+
+-- nothing was called
+pub reads_none : (s : State) (l : Layout) → ReadsOnly s s l
+reads_none s l = record { was_clean = λ after. after; same = λ after known. refl }
+
+-- two calls that read only
+pub reads_then : {a b c : State} {l : Layout} → ReadsOnly a b l → ReadsOnly b c l → ReadsOnly a c l
+reads_then {a} {b} {c} {l} first next = record {
+  was_clean = λ after. first.was_clean (next.was_clean after);
+  same = λ after known.
+      let same = first.same (next.was_clean after) known in
+      next.same after (known_after a.now b.now l same known) ∙ same;
+}
+
+-- of two calls that are sure together each is sure
+pub sure_first : {a b c : State} {l : Layout} → ReadsOnly b c l → IsSure a c l → IsSure a b l
+sure_first next sure = record { after = next.was_clean sure.after; known = sure.known; ordered = sure.ordered }
+
+pub sure_then : {a b c : State} {l : Layout} → ReadsOnly a b l → ReadsOnly b c l → IsSure a c l → IsSure b c l
+sure_then {a} {b} {c} {l} first next sure =
+    let same = first.same (next.was_clean sure.after) sure.known in
+    record {
+      after = sure.after;
+      known = known_after a.now b.now l same sure.known;
+      ordered = subst (λ (d : Database). IsShaped shape.Table (entries_of d l)) (sym same) sure.ordered;
+    }
+
+-- and what the first leaves is what the second finds
+pub sure_same : {a b c : State} {l : Layout} → ReadsOnly a b l → ReadsOnly b c l → IsSure a c l → b.now ≡ a.now
+sure_same first next sure = first.same (next.was_clean sure.after) sure.known
+
+-- a page that is read, or refused, by the text of a layout
+pub page_reads : {X : Type 0} (old new : State) (l : Layout) (text : List ℕ) → text ≡ l.page → (IsCleanAfter new → IsCleanAfter old)
+    → (IsCleanAfter new → (tree : ℕ) → IsPageText old.now.schema text tree → new.now ≡ old.now)
+    → (IsCleanAfter new → (fault : CompileError) → understood old.now.schema text ≡ Err fault → (new.now ≡ old.now) × X) → ReadsOnly old new l
+page_reads old new l text e was_clean same unread = record {
+  was_clean = was_clean;
+  same = λ after known. settled old.now new.now l text e known (same after) (unread after);
+}

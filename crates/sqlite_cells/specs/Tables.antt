@@ -1,6 +1,9 @@
 -- What a database holds for a layout, and the pages of its rows.
 use Rattle.std.specs.Prelude.{◌≡◌, ◌⊎◌, ℕ, ℤ, pos, ◌+ℤ◌, List, [], ◌∷◌, map, length, nat_eq, if◌then◌else◌, Option, Some, None, option_map, Err}
 use Rattle.sqlite.specs.Effect.{Database}
+use Rattle.sqlite.specs.State.{State}
+use Rattle.sqlite.specs.View.{IsShaped}
+use Rattle.sqlite_trees.specs.declared.store.Shape.TheVariants as shape
 use Rattle.sqlite.specs.Schema.{Schema}
 use Rattle.sqlite.specs.Order.{Row as SqlRow}
 use Rattle.sqlite.specs.Command.{Command}
@@ -11,6 +14,7 @@ use Rattle.sqlite.specs.Listing.{understood}
 use Rattle.sqlite_trees.specs.Tree.{Trees}
 use Rattle.sqlite_resolve.specs.declared.error.CompileError.{CompileError}
 use Rattle.sqlite_shapes.specs.Shapes.{IsPageText, command_of, range_of}
+use Rattle.sqlite_shapes.specs.Steady.{IsCleanAfter}
 use Rattle.fdw_api.specs.Scan.{TableRow}
 use Rattle.fdw_api.specs.Kinds.{Entry, Stored}
 use Rattle.sqlite_cells.specs.Layouts.{Layout, kinds_in, layout_at}
@@ -47,6 +51,19 @@ entries_in db t = entries_of db (layout_at t)
 -- each layout's page text either is not understood or reads a page of a table
 abbrev pub IsKnown : Schema → Layout → Type 0
 IsKnown schema l = ((fault : CompileError) × (understood schema l.page ≡ Err fault)) ⊎ ((tree : ℕ) × IsPageText schema l.page tree)
+
+-- a call on the table of a layout that changes nothing, where the disk is clean as it ends and the layout's page text is known; and then
+-- the disk was clean as it began
+pub record ReadsOnly (old new : State) (l : Layout) : Type 0 where
+  pub was_clean : IsCleanAfter new → IsCleanAfter old
+  pub same : IsCleanAfter new → ∥ IsKnown old.now.schema l ∥₁ → new.now ≡ old.now
+
+-- what makes a call on the table of a layout sure: as it ends the disk is clean, and as it begins the layout's page text is known and the
+-- table's rows stand in the order of their keys. So it is of each call over a store that always returns what was written
+pub record IsSure (old new : State) (l : Layout) : Type 0 where
+  pub after : IsCleanAfter new
+  pub known : ∥ IsKnown old.now.schema l ∥₁
+  pub ordered : IsShaped shape.Table (entries_of old.now l)
 
 -- the tree of the table that is found for a layout: none where the stored table is not of the layout's shape
 abbrev pub tree_found : Schema → Layout → Option ℕ

@@ -8,7 +8,7 @@ ghost use Rattle.fdw_api.specs.Calls.{IsLeast};
 ghost use Rattle.fdw_api.specs.Kinds.{column_of, kinds_of, is_late};
 ghost use Rattle.sqlite_cells.specs.Layouts.{layout_at, kinds_in, types_match};
 ghost use Rattle.sqlite_cells.specs.Fitting.{is_of_shape};
-ghost use Rattle.sqlite_cells.specs.Tables.{IsKnown, rows_of};
+ghost use Rattle.sqlite_cells.specs.Tables.{IsKnown, IsSure, ReadsOnly, rows_of};
 ghost use Rattle.sqlite_cells.specs.Refusing.{OnlyBy};
 ghost use Rattle.sqlite_surveys.specs.Surveys.{causes_of};
 
@@ -23,7 +23,8 @@ use sqlite_shapes::SourceStore;
 ///
 /// It is refused where there is no such table, or one of another shape (HV00R), where the number or types of the columns are not its own
 /// (HV004), where a cell is not of its column's type or a text has U+0000 (22P02), or where there are more than 1,000,000 rows (54000), by
-/// one of the least phase. No two rows have one id. It changes nothing, also where it fails.
+/// one of the least phase. No two rows have one id. It changes nothing, also where it fails. It is so over a store that always returns what
+/// was written, and of each call by itself that is sure (`IsSure`).
 pub fn open_table<S: SourceStore>(
     conn: &mut Connection<S>,
     table: u64,
@@ -41,6 +42,15 @@ pub fn open_table<S: SourceStore>(
     ensures refused { IfErr result (OnlyBy (λ c. (is_late (phase_of c) ≡ true) × (S.honest ≡ true
         → IsLeast (causes_of (map column_of columns.now) (state S.Store conn.old).now table) c))) }
     ensures same { S.honest ≡ true → (state S.Store conn.new).now ≡ (state S.Store conn.old).now }
+    ensures sure_ok { IsSure (state S.Store conn.old) (state S.Store conn.new) (layout_at table)
+        → OnOk result (causes_of (map column_of columns.now) (state S.Store conn.old).now table ≡ []) }
+    ensures sure_count { IsSure (state S.Store conn.old) (state S.Store conn.new) (layout_at table)
+        → IfOk result (λ n. n ≡ length (rows_of (state S.Store conn.old).now (layout_at table))) }
+    ensures sure_once { IsSure (state S.Store conn.old) (state S.Store conn.new) (layout_at table)
+        → IsDistinct nat_eq (map (λ r. r.id) (rows_of (state S.Store conn.old).now (layout_at table))) }
+    ensures sure_refused { IfErr result (OnlyBy (λ c. IsSure (state S.Store conn.old) (state S.Store conn.new) (layout_at table)
+        → IsLeast (causes_of (map column_of columns.now) (state S.Store conn.old).now table) c)) }
+    ensures reads { ReadsOnly (state S.Store conn.old) (state S.Store conn.new) (layout_at table) }
     ensures idle { conn.new.in_transaction ≡ false }
 {
     match find_table(conn, table) {

@@ -10,7 +10,7 @@ ghost use Rattle.fdw_api.specs.Kinds.{is_of_run};
 ghost use Rattle.sqlite_shapes.specs.Shapes.{range_of};
 ghost use Rattle.sqlite_cells.specs.Layouts.{layout_at};
 ghost use Rattle.sqlite_cells.specs.Cells.{greatest};
-ghost use Rattle.sqlite_cells.specs.Tables.{IsKnown, entries_in, rows_of};
+ghost use Rattle.sqlite_cells.specs.Tables.{IsKnown, IsSure, ReadsOnly, entries_in, rows_of};
 ghost use Rattle.sqlite_cells.specs.Refusing.{OnlyBy};
 ghost use Rattle.sqlite_surveys.specs.Surveys.{fits_in, last_key, next_after, IsSeen, causes_in};
 
@@ -88,6 +88,11 @@ fn survey_page<S: SourceStore>(
     ensures refused { IfErr result (OnlyBy (λ c. (c ≡ InvalidText) × (S.honest ≡ true
         → list_all (fits_in (layout_at table)) (range_of low greatest (entries_in (state S.Store conn.old).now table)) ≡ false))) }
     ensures same { S.honest ≡ true → (state S.Store conn.new).now ≡ (state S.Store conn.old).now }
+    ensures sure_seen { IsSure (state S.Store conn.old) (state S.Store conn.new) (layout_at table)
+        → IfOk result (λ s. IsSeen (layout_at table) (entries_in (state S.Store conn.old).now table) (Some low) s.next s.count) }
+    ensures sure_refused { IfErr result (OnlyBy (λ _. IsSure (state S.Store conn.old) (state S.Store conn.new) (layout_at table)
+        → list_all (fits_in (layout_at table)) (range_of low greatest (entries_in (state S.Store conn.old).now table)) ≡ false)) }
+    ensures reads { ReadsOnly (state S.Store conn.old) (state S.Store conn.new) (layout_at table) }
     ensures idle { conn.new.in_transaction ≡ false }
 {
     let page = match page_between(conn, table, low, i64::MAX) {
@@ -118,6 +123,13 @@ pub(crate) fn read_whole<S: SourceStore>(
     ensures refused { IfErr result (OnlyBy (λ c. (is_of_run (phase_of c) ≡ true)
         × (S.honest ≡ true → Contains (causes_in (layout_at table) (entries_in (state S.Store conn.old).now table)) c))) }
     ensures same { S.honest ≡ true → (state S.Store conn.new).now ≡ (state S.Store conn.old).now }
+    ensures sure_ok { IsSure (state S.Store conn.old) (state S.Store conn.new) (layout_at table)
+        → OnOk result (causes_in (layout_at table) (entries_in (state S.Store conn.old).now table) ≡ []) }
+    ensures sure_count { IsSure (state S.Store conn.old) (state S.Store conn.new) (layout_at table)
+        → IfOk result (λ n. n ≡ length (rows_of (state S.Store conn.old).now (layout_at table))) }
+    ensures sure_refused { IfErr result (OnlyBy (λ c. IsSure (state S.Store conn.old) (state S.Store conn.new) (layout_at table)
+        → Contains (causes_in (layout_at table) (entries_in (state S.Store conn.old).now table)) c)) }
+    ensures reads { ReadsOnly (state S.Store conn.old) (state S.Store conn.new) (layout_at table) }
     ensures idle { conn.new.in_transaction ≡ false }
 {
     let mut next = Some(i64::MIN);
@@ -139,7 +151,8 @@ pub(crate) fn read_whole<S: SourceStore>(
 
 /// The number of rows of a table whose rows are of its types, and at most 1,000,000. It changes nothing, also where it fails.
 ///
-/// A table of which that is not so is told as a failure of the source.
+/// A table of which that is not so is told as a failure of the source. The number is told over a store that always returns what was
+/// written, and of each call by itself that is sure (`IsSure`).
 pub fn count_rows<S: SourceStore>(conn: &mut Connection<S>, table: u64) -> Result<usize, Fault>
     requires idle { conn.old.in_transaction ≡ false }
     requires known { S.honest ≡ true → ∥ IsKnown conn.old.schema (layout_at table) ∥₁ }
@@ -147,6 +160,9 @@ pub fn count_rows<S: SourceStore>(conn: &mut Connection<S>, table: u64) -> Resul
     ensures few { IfOk result (λ n. n ≤ row_limit) }
     ensures refused { IfErr result not_refused }
     ensures same { S.honest ≡ true → (state S.Store conn.new).now ≡ (state S.Store conn.old).now }
+    ensures sure_count { IsSure (state S.Store conn.old) (state S.Store conn.new) (layout_at table)
+        → IfOk result (λ n. n ≡ length (rows_of (state S.Store conn.old).now (layout_at table))) }
+    ensures reads { ReadsOnly (state S.Store conn.old) (state S.Store conn.new) (layout_at table) }
     ensures idle { conn.new.in_transaction ≡ false }
 {
     match read_whole(conn, table) {

@@ -33,7 +33,7 @@ use Rattle.sqlite_wrapper.proofs.Rising.{first_none, first_spent, first_more}
 use Rattle.sqlite_cells.proofs.PagesJoin.{between}
 
 -- a table that is read and written by its texts, where it is there, is read by its page text
-known_by : (schema : Schema) (t : ℕ) → IsWritable schema t → IsKnown schema (layout_at t)
+pub known_by : (schema : Schema) (t : ℕ) → IsWritable schema t → IsKnown schema (layout_at t)
 known_by schema t (inl absent) = inl absent.page
 known_by schema t (inr w) = inr (w.0, w.1.page)
 

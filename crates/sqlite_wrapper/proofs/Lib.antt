@@ -7,6 +7,7 @@ pub mod Staged
 pub mod Given
 pub mod Turned
 pub mod Giving
+pub mod Sure
 pub mod Binding
 pub mod NewSources
 pub mod Kept

@@ -1,5 +1,5 @@
 -- Scans that are begun again and look for a parameter, and the lookups that live scans have.
-use Rattle.std.proofs.Common.{◌≡◌, ◌≢◌, ℕ, ℤ, ◌⊎◌, Bool, true, false, cond, ◌&&◌, List, [], ◌∷◌, ◌++◌, map, filter, drop, Option, Some, None, IfSome, IfNone, if◌then◌else◌, pos, ◌+ℤ◌, ◌+◌, ◌-◌, option_map, int_lt, append-nil, FitsSigned, w64, refl, ap, sym, ◌∙◌, subst, eqb, inl, inr, arith, ◌≤ℤ◌}
+use Rattle.std.proofs.Common.{◌≡◌, ◌≢◌, ℕ, ℤ, ◌⊎◌, Bool, true, false, ◌&&◌, List, [], ◌∷◌, ◌++◌, map, filter, drop, Option, Some, None, IfSome, IfNone, if◌then◌else◌, pos, ◌+ℤ◌, ◌+◌, ◌-◌, option_map, int_lt, append-nil, FitsSigned, w64, refl, ap, sym, ◌∙◌, subst, eqb, inl, inr, arith, ◌≤ℤ◌}
 use Rattle.std.proofs.lemmas.Int.{ints}
 use Rattle.std.specs.Ordering.{nat_cmp}
 use Rattle.std.specs.BTreeMap as tree
@@ -9,15 +9,14 @@ use Rattle.sqlite.specs.Effect.{Database}
 use Rattle.sqlite.specs.Order.{Row as SqlRow}
 use Rattle.sqlite.specs.View.{IsShaped}
 use Rattle.sqlite_trees.specs.declared.store.Shape.TheVariants as shape
-use Rattle.sqlite_shapes.specs.Shapes.{range_of}
 use Rattle.med_value.specs.Datum.{Datum, Tuple, Whole, datum, cell}
-use Rattle.fdw_api.specs.Scan.{Spec, KeyForm, TableRow, GivenRow, IsComing, first_of, given_row, meets_exact}
+use Rattle.fdw_api.specs.Scan.{Spec, KeyForm, TableRow, IsComing, first_of, given_row, meets_exact}
 use Rattle.fdw_api.specs.Wishes.{is_unpromised, key_form}
 use Rattle.place_index.specs.Scans.{SoughtForm, sought, has_sought, rows_taken}
 use Rattle.place_index.proofs.Taking.{taken_comes}
 use Rattle.sqlite_cells.specs.Layouts.{Layout, layout_at}
 use Rattle.sqlite_cells.specs.Cells.{row_in, rows_in, least, greatest}
-use Rattle.sqlite_cells.specs.Tables.{entries_of, rows_of, behind}
+use Rattle.sqlite_cells.specs.Tables.{entries_of, rows_of}
 use Rattle.sqlite_cells.proofs.PagesJoin.{between}
 use Rattle.sqlite_lookups.specs.declared.reading.Lookup.{Lookup}
 use Rattle.sqlite_lookups.specs.Lookups.{IsLookup, has_value, rows_with}

@@ -1,5 +1,6 @@
 pub mod Kinds
 pub mod Changes
+pub mod Clean
 pub mod Boxes
 pub mod Pages
 pub mod SqliteBoxes

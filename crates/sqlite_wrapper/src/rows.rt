@@ -6,7 +6,7 @@ ghost use Rattle.fdw_api.specs.Calls.{faults_after, not_refused};
 ghost use Rattle.sqlite.specs.Held.{state};
 ghost use Rattle.sqlite_wrapper.specs.declared.scans.KeyScan.{KeyScan};
 ghost use Rattle.sqlite_cells.specs.Layouts.{layout_at};
-ghost use Rattle.sqlite_cells.specs.Tables.{IsKnown, entries_of};
+ghost use Rattle.sqlite_cells.specs.Tables.{IsKnown, IsSure, ReadsOnly, entries_of};
 ghost use Rattle.sqlite_wrapper.specs.Boxes.{Sets};
 ghost use Rattle.sqlite_wrapper.specs.Pages.{IsNext, Turns, may_be_next};
 
@@ -112,6 +112,11 @@ pub(crate) fn read_page<S: SourceStore>(
     ensures refused { IfErr result not_refused }
     ensures same_scans { OnErr result (scans.new.entries ≡ scans.old.entries) }
     ensures same { S.honest ≡ true → (state S.Store conn.new).now ≡ (state S.Store conn.old).now }
+    ensures sure_turned { OnOk result (IfSome (tree.get nat_cmp scans.old number)
+        (λ s. IsSure (state S.Store conn.old) (state S.Store conn.new) (layout_at s.table) → (n : KeyScan)
+        × Sets scans.old scans.new number (Some n) × Turns true (entries_of (state S.Store conn.old).now (layout_at s.table)) s n)) }
+    ensures reads { IfSome (tree.get nat_cmp scans.old number)
+        (λ s. ReadsOnly (state S.Store conn.old) (state S.Store conn.new) (layout_at s.table)) }
     ensures idle { conn.new.in_transaction ≡ false }
 {
     let Some(wanted) = page_wanted(scans, number) else {

@@ -72,6 +72,8 @@ pub struct SqliteWrapper<S: SourceStore + Drop> {
 impl<S: SourceStore + Drop> SqliteWrapper<S> {
     ghost use Rattle.fdw_api.specs.State.{table_of};
     ghost use Rattle.fdw_api.specs.Calls.{Begins, RefusesBegin};
+    ghost use Rattle.sqlite_shapes.specs.Steady.{IsSteady};
+    ghost use Rattle.sqlite_wrapper.specs.Clean.{AreKnown};
     ghost use Rattle.sqlite_wrapper.specs.SqliteBoxes.{IsNewSqlite};
 
     /// A source of this database, on which nothing is bound yet. It is as honest as its store.
@@ -124,6 +126,16 @@ impl<S: SourceStore + Drop> SqliteWrapper<S> {
             self.old.bound.items self.old.scans self.old.staged self.old.next self.old.pulled self.old.faults)
             (sqlite_state S.honest (state S.Store self.new.conn).now
             self.new.bound.items self.new.scans self.new.staged self.new.next self.new.pulled self.new.faults)) }
+        ensures clean_ok { IsSteady (S.Store.view self.new.conn.store) → AreKnown self.old.conn.schema
+            → IfOk result (λ ticket. Begins (sqlite_state true (state S.Store self.old.conn).now
+            self.old.bound.items self.old.scans self.old.staged self.old.next self.old.pulled self.old.faults) t.number
+            (promised (spec_of spec.now) order.items limit) (map datum params.now) ticket.number
+            (sqlite_state true (state S.Store self.new.conn).now
+            self.new.bound.items self.new.scans self.new.staged self.new.next self.new.pulled self.new.faults)) }
+        ensures clean_err { IfErr result (λ fault. RefusesBegin fault (sqlite_state true (state S.Store self.old.conn).now
+            self.old.bound.items self.old.scans self.old.staged self.old.next self.old.pulled self.old.faults)
+            (sqlite_state true (state S.Store self.new.conn).now
+            self.new.bound.items self.new.scans self.new.staged self.new.next self.new.pulled self.new.faults)) }
     {
         if self.next == u64::MAX {
             return Err(Fault::Refused(Cause::LimitExceeded));
@@ -131,6 +143,7 @@ impl<S: SourceStore + Drop> SqliteWrapper<S> {
         let spec = spec.copy(alloc)?;
         let params = copy_values(alloc, params)?;
         entries_rise(&self.conn, t.number);
+        let _schema = self.conn.schema();
         let scan = new_scan(alloc, t.number, spec, order, limit, params);
         let number = self.next;
         self.scans.insert(number, scan)?;
@@ -142,20 +155,53 @@ impl<S: SourceStore + Drop> SqliteWrapper<S> {
 impl<S: SourceStore + Drop> Wrapper for SqliteWrapper<S> {
     ghost use Rattle.fdw_api.specs.Scan.{spec_by};
     ghost use Rattle.fdw_api.specs.State.{BoxState, table_of};
-    ghost use Rattle.fdw_api.specs.Calls.{Allows};
+    ghost use Rattle.fdw_api.specs.Calls.{CanBind, Binds, RefusesBind, Allows, CanBegin, Begins, RefusesBegin, IsOpen, Iterates, Breaks};
+    ghost use Rattle.fdw_api.specs.Kinds.{column_of, option_form};
+    ghost use Rattle.sqlite_shapes.specs.Steady.{IsSteady};
+    ghost use Rattle.fdw_api.specs.Writes.{CanClose, Closes, RefusesClose};
+    ghost use Rattle.sqlite_wrapper.specs.Clean.{AreKnown, MayBeKept};
 
     ghost meaning = { λ w. sqlite_state S.honest (state S.Store w.conn).now w.bound.items w.scans w.staged w.next w.pulled w.faults };
 
+    /// Where its store is steady as it ends and the tables' texts are known, it does what `Wrapper::bind` says of an honest box that
+    /// holds what the database holds: nobody knows what a disk returns, but such a store has returned what was written.
     fn bind(
         &mut self,
         _alloc: Global,
         remote: &str,
         columns: &[ColumnDef],
         _options: &[TableOption],
-    ) -> Result<TableNo, Fault> {
+    ) -> Result<TableNo, Fault>
+        requires { CanBind (sqlite_state S.honest (state S.Store self.old.conn).now
+            self.old.bound.items self.old.scans self.old.staged self.old.next self.old.pulled self.old.faults)
+            remote.now (map column_of columns.now) (map option_form _options.now) }
+        ensures ok { IfOk result (λ t. Binds (sqlite_state S.honest (state S.Store self.old.conn).now
+            self.old.bound.items self.old.scans self.old.staged self.old.next self.old.pulled self.old.faults)
+            remote.now (map column_of columns.now) (map option_form _options.now) t.number
+            (sqlite_state S.honest (state S.Store self.new.conn).now
+            self.new.bound.items self.new.scans self.new.staged self.new.next self.new.pulled self.new.faults)) }
+        ensures err { IfErr result (λ fault. RefusesBind (sqlite_state S.honest (state S.Store self.old.conn).now
+            self.old.bound.items self.old.scans self.old.staged self.old.next self.old.pulled self.old.faults)
+            remote.now (map column_of columns.now) (map option_form _options.now) fault
+            (sqlite_state S.honest (state S.Store self.new.conn).now
+            self.new.bound.items self.new.scans self.new.staged self.new.next self.new.pulled self.new.faults)) }
+        ensures clean_ok { IsSteady (S.Store.view self.new.conn.store) → AreKnown self.old.conn.schema
+            → IfOk result (λ t. Binds (sqlite_state true (state S.Store self.old.conn).now
+            self.old.bound.items self.old.scans self.old.staged self.old.next self.old.pulled self.old.faults)
+            remote.now (map column_of columns.now) (map option_form _options.now) t.number
+            (sqlite_state true (state S.Store self.new.conn).now
+            self.new.bound.items self.new.scans self.new.staged self.new.next self.new.pulled self.new.faults)) }
+        ensures clean_err { IsSteady (S.Store.view self.new.conn.store) → AreKnown self.old.conn.schema
+            → IfErr result (λ fault. RefusesBind (sqlite_state true (state S.Store self.old.conn).now
+            self.old.bound.items self.old.scans self.old.staged self.old.next self.old.pulled self.old.faults)
+            remote.now (map column_of columns.now) (map option_form _options.now) fault
+            (sqlite_state true (state S.Store self.new.conn).now
+            self.new.bound.items self.new.scans self.new.staged self.new.next self.new.pulled self.new.faults)) }
+    {
         let Some(number) = place_of(remote) else {
             return Err(Fault::Refused(Cause::TableNotFound));
         };
+        let _schema = self.conn.schema();
         let count = match open_table(&mut self.conn, number, columns) {
             Ok(count) => count,
             Err(fault) => {
@@ -197,18 +243,68 @@ impl<S: SourceStore + Drop> Wrapper for SqliteWrapper<S> {
         })
     }
 
+    /// Where its store is steady as it ends and the tables' texts are known, it does what `Wrapper::begin` says of an honest box that
+    /// holds what the database holds: nobody knows what a disk returns, but such a store has returned what was written. Refused, it does
+    /// so over any store.
     fn begin(
         &mut self,
         alloc: Global,
         t: TableNo,
         spec: &ScanSpec,
         params: &[Value],
-    ) -> Result<Ticket, Fault> {
+    ) -> Result<Ticket, Fault>
+        requires { CanBegin (sqlite_state S.honest (state S.Store self.old.conn).now
+            self.old.bound.items self.old.scans self.old.staged self.old.next self.old.pulled self.old.faults)
+            t.number spec.now (map datum params.now) }
+        ensures ok { IfOk result (λ ticket. Begins (sqlite_state S.honest (state S.Store self.old.conn).now
+            self.old.bound.items self.old.scans self.old.staged self.old.next self.old.pulled self.old.faults) t.number
+            (spec_of spec.now) (map datum params.now) ticket.number
+            (sqlite_state S.honest (state S.Store self.new.conn).now
+            self.new.bound.items self.new.scans self.new.staged self.new.next self.new.pulled self.new.faults)) }
+        ensures err { IfErr result (λ fault. RefusesBegin fault (sqlite_state S.honest (state S.Store self.old.conn).now
+            self.old.bound.items self.old.scans self.old.staged self.old.next self.old.pulled self.old.faults)
+            (sqlite_state S.honest (state S.Store self.new.conn).now
+            self.new.bound.items self.new.scans self.new.staged self.new.next self.new.pulled self.new.faults)) }
+        ensures clean_ok { IsSteady (S.Store.view self.new.conn.store) → AreKnown self.old.conn.schema
+            → IfOk result (λ ticket. Begins (sqlite_state true (state S.Store self.old.conn).now
+            self.old.bound.items self.old.scans self.old.staged self.old.next self.old.pulled self.old.faults) t.number
+            (spec_of spec.now) (map datum params.now) ticket.number
+            (sqlite_state true (state S.Store self.new.conn).now
+            self.new.bound.items self.new.scans self.new.staged self.new.next self.new.pulled self.new.faults)) }
+        ensures clean_err { IfErr result (λ fault. RefusesBegin fault (sqlite_state true (state S.Store self.old.conn).now
+            self.old.bound.items self.old.scans self.old.staged self.old.next self.old.pulled self.old.faults)
+            (sqlite_state true (state S.Store self.new.conn).now
+            self.new.bound.items self.new.scans self.new.staged self.new.next self.new.pulled self.new.faults)) }
+    {
         self.start(alloc, t, spec, Vec::new(alloc), None, params)
     }
 
-    fn iterate(&mut self, alloc: Global, ticket: &Ticket) -> Result<Option<SourceRow>, Fault> {
+    /// Where its store is steady as it ends and the tables' texts are known, it does what `Wrapper::iterate` says of an honest box that
+    /// holds what the database holds: nobody knows what a disk returns, but such a store has returned what was written.
+    fn iterate(&mut self, alloc: Global, ticket: &Ticket) -> Result<Option<SourceRow>, Fault>
+        requires { IsOpen (sqlite_state S.honest (state S.Store self.old.conn).now
+            self.old.bound.items self.old.scans self.old.staged self.old.next self.old.pulled self.old.faults) ticket.now.number }
+        ensures ok { IfOk result (λ row. Iterates (sqlite_state S.honest (state S.Store self.old.conn).now
+            self.old.bound.items self.old.scans self.old.staged self.old.next self.old.pulled self.old.faults) ticket.now.number row
+            (sqlite_state S.honest (state S.Store self.new.conn).now
+            self.new.bound.items self.new.scans self.new.staged self.new.next self.new.pulled self.new.faults)) }
+        ensures err { IfErr result (λ fault. Breaks (sqlite_state S.honest (state S.Store self.old.conn).now
+            self.old.bound.items self.old.scans self.old.staged self.old.next self.old.pulled self.old.faults) ticket.now.number fault
+            (sqlite_state S.honest (state S.Store self.new.conn).now
+            self.new.bound.items self.new.scans self.new.staged self.new.next self.new.pulled self.new.faults)) }
+        ensures clean_ok { IsSteady (S.Store.view self.new.conn.store) → AreKnown self.old.conn.schema
+            → IfOk result (λ row. Iterates (sqlite_state true (state S.Store self.old.conn).now
+            self.old.bound.items self.old.scans self.old.staged self.old.next self.old.pulled self.old.faults) ticket.now.number row
+            (sqlite_state true (state S.Store self.new.conn).now
+            self.new.bound.items self.new.scans self.new.staged self.new.next self.new.pulled self.new.faults)) }
+        ensures clean_err { IsSteady (S.Store.view self.new.conn.store) → AreKnown self.old.conn.schema
+            → IfErr result (λ fault. Breaks (sqlite_state true (state S.Store self.old.conn).now
+            self.old.bound.items self.old.scans self.old.staged self.old.next self.old.pulled self.old.faults) ticket.now.number fault
+            (sqlite_state true (state S.Store self.new.conn).now
+            self.new.bound.items self.new.scans self.new.staged self.new.next self.new.pulled self.new.faults)) }
+    {
         let number = ticket.number;
+        let _schema = self.conn.schema();
         if let Err(fault) = read_page(&mut self.conn, &mut self.scans, number) {
             spoil(&mut self.scans, number);
             self.faults = faults_after(self.faults, fault);
@@ -284,7 +380,33 @@ impl<S: SourceStore + Drop> Wrapper for SqliteWrapper<S> {
         add_change(&mut self.staged, RowChange::Delete(id.number))
     }
 
-    fn end_modify(&mut self, alloc: Global, keep: bool) -> Result<(), Fault> {
+    /// Where its store is steady as it begins and as it ends, and the write may be kept (`MayBeKept`), it does what `Wrapper::end_modify`
+    /// says of an honest box that holds what the database holds: nobody knows what a disk returns, but such a store has returned what was
+    /// written.
+    fn end_modify(&mut self, alloc: Global, keep: bool) -> Result<(), Fault>
+        requires { CanClose (sqlite_state S.honest (state S.Store self.old.conn).now
+            self.old.bound.items self.old.scans self.old.staged self.old.next self.old.pulled self.old.faults) keep }
+        ensures ok { IfOk result (λ _. Closes (sqlite_state S.honest (state S.Store self.old.conn).now
+            self.old.bound.items self.old.scans self.old.staged self.old.next self.old.pulled self.old.faults) keep
+            (sqlite_state S.honest (state S.Store self.new.conn).now
+            self.new.bound.items self.new.scans self.new.staged self.new.next self.new.pulled self.new.faults)) }
+        ensures err { IfErr result (λ fault. RefusesClose (sqlite_state S.honest (state S.Store self.old.conn).now
+            self.old.bound.items self.old.scans self.old.staged self.old.next self.old.pulled self.old.faults) keep fault
+            (sqlite_state S.honest (state S.Store self.new.conn).now
+            self.new.bound.items self.new.scans self.new.staged self.new.next self.new.pulled self.new.faults)) }
+        ensures clean_ok { IsSteady (S.Store.view self.old.conn.store) → IsSteady (S.Store.view self.new.conn.store)
+            → MayBeKept (state S.Store self.old.conn).now (option_map write_is self.old.staged) self.old.row_counts.items
+            → IfOk result (λ _. Closes (sqlite_state true (state S.Store self.old.conn).now
+            self.old.bound.items self.old.scans self.old.staged self.old.next self.old.pulled self.old.faults) keep
+            (sqlite_state true (state S.Store self.new.conn).now
+            self.new.bound.items self.new.scans self.new.staged self.new.next self.new.pulled self.new.faults)) }
+        ensures clean_err { IsSteady (S.Store.view self.old.conn.store) → IsSteady (S.Store.view self.new.conn.store)
+            → MayBeKept (state S.Store self.old.conn).now (option_map write_is self.old.staged) self.old.row_counts.items
+            → IfErr result (λ fault. RefusesClose (sqlite_state true (state S.Store self.old.conn).now
+            self.old.bound.items self.old.scans self.old.staged self.old.next self.old.pulled self.old.faults) keep fault
+            (sqlite_state true (state S.Store self.new.conn).now
+            self.new.bound.items self.new.scans self.new.staged self.new.next self.new.pulled self.new.faults)) }
+    {
         let Some(write) = self.staged.take() else {
             unreachable!()
         };
@@ -292,6 +414,7 @@ impl<S: SourceStore + Drop> Wrapper for SqliteWrapper<S> {
             return Ok(());
         }
         let table = write.table;
+        let _schema = self.conn.schema();
         let held = count_of(&self.row_counts, table);
         match write_rows(alloc, &mut self.conn, table, held, write.changes) {
             Ok(count) => {
@@ -318,7 +441,10 @@ impl<S: SourceStore + Drop> Wrapper for SqliteWrapper<S> {
 
 impl<S: SourceStore + Drop> Wrapper2 for SqliteWrapper<S> {
     ghost use Rattle.fdw_api.specs.State.{table_of};
-    ghost use Rattle.fdw_api.specs.Wishes.{all_exact, key_form, wish_form, spec2_by, is_fair, AllowsPromise};
+    ghost use Rattle.fdw_api.specs.Calls.{Begins, RefusesBegin};
+    ghost use Rattle.fdw_api.specs.Wishes.{all_exact, key_form, wish_form, spec2_of, spec2_by, is_fair, AllowsPromise, CanBegin2};
+    ghost use Rattle.sqlite_shapes.specs.Steady.{IsSteady};
+    ghost use Rattle.sqlite_wrapper.specs.Clean.{AreKnown};
 
     /// Answers as `plan` does, and promises the order that is empty or that of the key, and a limit wherever one may be promised.
     fn plan2(
@@ -352,13 +478,39 @@ impl<S: SourceStore + Drop> Wrapper2 for SqliteWrapper<S> {
         })
     }
 
+    /// Where its store is steady as it ends and the tables' texts are known, it does what `Wrapper2::begin2` says of an honest box that
+    /// holds what the database holds: nobody knows what a disk returns, but such a store has returned what was written. Refused, it does
+    /// so over any store.
     fn begin2(
         &mut self,
         alloc: Global,
         t: TableNo,
         spec: &ScanSpec2,
         params: &[Value],
-    ) -> Result<Ticket, Fault> {
+    ) -> Result<Ticket, Fault>
+        requires { CanBegin2 (sqlite_state S.honest (state S.Store self.old.conn).now
+            self.old.bound.items self.old.scans self.old.staged self.old.next self.old.pulled self.old.faults)
+            t.number spec.now (map datum params.now) }
+        ensures ok { IfOk result (λ ticket. Begins (sqlite_state S.honest (state S.Store self.old.conn).now
+            self.old.bound.items self.old.scans self.old.staged self.old.next self.old.pulled self.old.faults) t.number
+            (spec2_of spec.now) (map datum params.now) ticket.number
+            (sqlite_state S.honest (state S.Store self.new.conn).now
+            self.new.bound.items self.new.scans self.new.staged self.new.next self.new.pulled self.new.faults)) }
+        ensures err { IfErr result (λ fault. RefusesBegin fault (sqlite_state S.honest (state S.Store self.old.conn).now
+            self.old.bound.items self.old.scans self.old.staged self.old.next self.old.pulled self.old.faults)
+            (sqlite_state S.honest (state S.Store self.new.conn).now
+            self.new.bound.items self.new.scans self.new.staged self.new.next self.new.pulled self.new.faults)) }
+        ensures clean_ok { IsSteady (S.Store.view self.new.conn.store) → AreKnown self.old.conn.schema
+            → IfOk result (λ ticket. Begins (sqlite_state true (state S.Store self.old.conn).now
+            self.old.bound.items self.old.scans self.old.staged self.old.next self.old.pulled self.old.faults) t.number
+            (spec2_of spec.now) (map datum params.now) ticket.number
+            (sqlite_state true (state S.Store self.new.conn).now
+            self.new.bound.items self.new.scans self.new.staged self.new.next self.new.pulled self.new.faults)) }
+        ensures clean_err { IfErr result (λ fault. RefusesBegin fault (sqlite_state true (state S.Store self.old.conn).now
+            self.old.bound.items self.old.scans self.old.staged self.old.next self.old.pulled self.old.faults)
+            (sqlite_state true (state S.Store self.new.conn).now
+            self.new.bound.items self.new.scans self.new.staged self.new.next self.new.pulled self.new.faults)) }
+    {
         let order = promised_order(alloc, spec)?;
         let limit = promised_limit(spec);
         self.start(alloc, t, &spec.base, order, limit, params)

@@ -9,11 +9,13 @@ ghost use Rattle.fdw_api.specs.Kinds.{is_of_run};
 ghost use Rattle.fdw_api.specs.Writes.{row_of_change_fits, id_is_there};
 ghost use Rattle.sqlite_cells.specs.Layouts.{kinds_in, layout_at};
 ghost use Rattle.sqlite_cells.specs.Refusing.{OnlyBy};
-ghost use Rattle.sqlite_cells.specs.Tables.{IsKnown, rows_of, tree_found};
+ghost use Rattle.sqlite_cells.specs.Tables.{IsKnown, IsSure, ReadsOnly, rows_of, tree_found};
 ghost use Rattle.sqlite_changes.specs.Kinds.{write_causes};
 ghost use Rattle.sqlite_changes.specs.Splitting.{IsNamedOnce};
-ghost use Rattle.sqlite_writes.specs.Writable.{IsWritable};
+ghost use Rattle.sqlite_writes.specs.Writable.{IsWritable, IsSureWrite};
 ghost use Rattle.staged_changes.specs.Staged.{change_is};
+ghost use Rattle.sqlite_shapes.specs.Steady.{IsCleanAfter};
+ghost use Rattle.sqlite_wrapper.specs.Clean.{IsSureChange};
 ghost use Rattle.sqlite_wrapper.specs.Rewrites.{Rewrites};
 
 use crate::counts::with_room;
@@ -46,6 +48,12 @@ fn rows_there<S: SourceStore>(
     ensures few { IfOk result (λ n. n ≤ row_limit) }
     ensures refused { IfErr result not_refused }
     ensures same { S.honest ≡ true → (state S.Store conn.new).now ≡ (state S.Store conn.old).now }
+    ensures sure_there { IsSure (state S.Store conn.old) (state S.Store conn.new) (layout_at table)
+        → OnOk result (tree_found (state S.Store conn.old).now.schema (layout_at table) ≢ None) }
+    ensures sure_count { IsSure (state S.Store conn.old) (state S.Store conn.new) (layout_at table)
+        → IfSome held (λ n. n ≡ length (rows_of (state S.Store conn.old).now (layout_at table)))
+        → IfOk result (λ n. n ≡ length (rows_of (state S.Store conn.old).now (layout_at table))) }
+    ensures reads { ReadsOnly (state S.Store conn.old) (state S.Store conn.new) (layout_at table) }
     ensures idle { conn.new.in_transaction ≡ false }
 {
     match find_table(conn, table) {
@@ -88,6 +96,13 @@ pub(crate) fn write_rows<S: SourceStore>(
     ensures refused { IfErr result (OnlyBy (λ c. (is_of_run (phase_of c) ≡ true) × (S.honest ≡ true
         → Contains (write_causes (rows_of (state S.Store conn.old).now (layout_at table)) (map change_is changes.items)) c))) }
     ensures same { S.honest ≡ true → OnErr result ((state S.Store conn.new).now ≡ (state S.Store conn.old).now) }
+    ensures sure_made { IsSureChange (state S.Store conn.old) (state S.Store conn.new) table held (map change_is changes.items)
+        → OnOk result (Rewrites (state S.Store conn.old).now (state S.Store conn.new).now table (map change_is changes.items)) }
+    ensures sure_refused { IfErr result (OnlyBy (λ c.
+        IsSureChange (state S.Store conn.old) (state S.Store conn.new) table held (map change_is changes.items)
+        → Contains (write_causes (rows_of (state S.Store conn.old).now (layout_at table)) (map change_is changes.items)) c)) }
+    ensures sure_same { IsSureWrite (state S.Store conn.old) (state S.Store conn.new) table
+        → OnErr result ((state S.Store conn.new).now ≡ (state S.Store conn.old).now) }
     ensures idle { conn.new.in_transaction ≡ false }
 {
     changes_are_a_rewrite();

@@ -13,9 +13,9 @@ use Rattle.sqlite.specs.Edit.{is_taken}
 use Rattle.sqlite_trees.specs.declared.store.Shape.TheVariants as shape
 use Rattle.sqlite_trees.specs.Props.{rows_set, IsShaped-prop}
 use Rattle.sqlite_trees.specs.declared.store.Store.{Ghosts}
-use Rattle.sqlite.specs.State.{IsLive}
+use Rattle.sqlite.specs.State.{State, IsLive}
 use Rattle.sqlite.specs.Held.{Held, state}
-use Rattle.sqlite_shapes.specs.Steady.{IsSteady}
+use Rattle.sqlite_shapes.specs.Steady.{IsSteady, IsCleanAfter}
 use Rattle.sqlite_shapes.proofs.Tables.{steady_table}
 use Rattle.sqlite_trees.proofs.TreeLemmas.{IsShaped-filter}
 use Rattle.sqlite_shapes.specs.Shapes.{IsPageText}
@@ -24,7 +24,7 @@ use Rattle.sqlite_cells.specs.Tables.{IsKnown, entries_in, entries_at, tree_of}
 use Rattle.sqlite_cells.proofs.Settled.{tree_is}
 use Rattle.sqlite_cells.specs.Texts.{IsDeleteText, IsInsertText, IsUnread}
 use Rattle.sqlite_cells.specs.Shapes.{AreTexts}
-use Rattle.sqlite_writes.specs.Writable.{IsWritable, IsAbsent, KeepsTables}
+use Rattle.sqlite_writes.specs.Writable.{IsWritable, IsAbsent, IsSureStep, KeepsTables, StepsTo}
 use Rattle.sqlite_writes.specs.Changes.{KeepsOthers, TakesOut, PutsIn}
 
 Schema-set : IsSet Schema
@@ -159,3 +159,32 @@ entries_ordered {S} g c t steady live writable = ∥∥₁_elim writable (IsShap
     go : IsWritable c.schema t → IsShaped shape.Table (entries_in (state g c).now t)
     go (inl h) = none _ (ap (entries_at (g.view c.store).trees) (gone h))
     go (inr h) = subst (λ xs. IsShaped shape.Table xs) (sym (here (state g c).now (state g c).now t h.0 h.1.page)) (steady_table g c (layout_at t).page h.0 steady live h.1.page)
+
+-- steps in turn: of two that are sure together each is sure
+pub step_first : {a b c : State} {t : ℕ} → (IsCleanAfter c → IsCleanAfter b) → IsSureStep a c t → IsSureStep a b t
+step_first was_clean h = record { after = was_clean h.after; inside = h.inside; writable = h.writable; ordered = h.ordered }
+
+pub step_then : {a b c : State} {t : ℕ} → StepsTo a b t → IsSureStep a c t → IsSureStep b c t
+step_then {a} {b} {c} {t} steps h = record {
+  after = h.after;
+  inside = steps.inside;
+  writable = subst (λ (s : Schema). ∥ IsWritable s t ∥₁) (sym steps.schema) h.writable;
+  ordered = steps.ordered;
+}
+
+pub steps_none : (s : State) (t : ℕ) → IsSureStep s s t → StepsTo s s t
+steps_none s t h = record { inside = h.inside; schema = refl; ordered = h.ordered; others = λ other known apart. refl }
+
+pub steps_then : {a b c : State} {t : ℕ} → StepsTo a b t → StepsTo b c t → StepsTo a c t
+steps_then {a} {b} {c} {t} one two = record {
+  inside = two.inside;
+  schema = two.schema ∙ one.schema;
+  ordered = two.ordered;
+  others = keeps_more a.now b.now c.now t one.schema one.others two.others;
+}
+
+-- the first step of a write, in the transaction that it begins
+pub begun_step : {S : Type 0} (g : Ghosts S) (old tx mid : Held S) (t : ℕ) → tx ≡ record old { in_transaction = true } → IsCleanAfter (state g mid) → ∥ IsWritable old.schema t ∥₁
+    → IsShaped shape.Table (entries_in (state g old).now t) → IsSureStep (state g tx) (state g mid) t
+begun_step {S} g old tx mid t begun after writable ordered =
+    subst (λ (k : Held S). IsSureStep (state g k) (state g mid) t) (sym begun) (record { after = after; inside = refl; writable = writable; ordered = ordered })

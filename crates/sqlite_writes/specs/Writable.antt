@@ -1,7 +1,11 @@
 -- The tables of a schema that are read and written by the texts of their layouts.
-use Rattle.std.specs.Prelude.{◌≡◌, ◌≢◌, ◌<◌, ◌⊎◌, ℕ, None}
+use Rattle.std.specs.Prelude.{◌≡◌, ◌≢◌, ◌<◌, ◌⊎◌, ℕ, None, IsTrue}
 use Rattle.sqlite.specs.Schema.{Schema}
 use Rattle.sqlite.specs.Effect.{Database}
+use Rattle.sqlite.specs.State.{State}
+use Rattle.sqlite.specs.View.{IsShaped}
+use Rattle.sqlite_trees.specs.declared.store.Shape.TheVariants as shape
+use Rattle.sqlite_shapes.specs.Steady.{IsCleanAfter}
 use Rattle.sqlite_cells.specs.Layouts.{Layout, layout_at, layout_count}
 use Rattle.sqlite_cells.specs.Tables.{IsKnown, entries_in, tree_of}
 use Rattle.sqlite_cells.specs.Texts.{IsUnread}
@@ -28,3 +32,24 @@ abbrev pub KeepsTables : Database → Database → ℕ → Type 0
 KeepsTables old new t =
     (other : ℕ) → ∥ IsKnown old.schema (layout_at other) ∥₁ → tree_of old.schema (layout_at other) ≢ tree_of old.schema (layout_at t)
     → entries_in new other ≡ entries_in old other
+
+-- what makes a write to a table sure: as it ends the disk is clean, and as it begins the table's texts are known and its rows stand in the
+-- order of their keys. So it is of each write over a store that always returns what was written
+pub record IsSureWrite (old new : State) (t : ℕ) : Type 0 where
+  pub after : IsCleanAfter new
+  pub writable : ∥ IsWritable old.now.schema t ∥₁
+  pub ordered : IsShaped shape.Table (entries_in old.now t)
+
+-- the same of a step of one inside its transaction
+pub record IsSureStep (old new : State) (t : ℕ) : Type 0 where
+  pub after : IsCleanAfter new
+  pub inside : IsTrue old.in_transaction
+  pub writable : ∥ IsWritable old.now.schema t ∥₁
+  pub ordered : IsShaped shape.Table (entries_in old.now t)
+
+-- such a step leaves the transaction under way, the schema as it was, the rows of its table in order, and the other tables alone
+pub record StepsTo (old new : State) (t : ℕ) : Type 0 where
+  pub inside : IsTrue new.in_transaction
+  pub schema : new.now.schema ≡ old.now.schema
+  pub ordered : IsShaped shape.Table (entries_in new.now t)
+  pub others : KeepsTables old.now new.now t

@@ -8,9 +8,10 @@ ghost use Rattle.sqlite_trees.specs.declared.store.Shape.TheVariants as shape;
 ghost use Rattle.med_value.specs.Datum.{tuple};
 ghost use Rattle.med_value.specs.declared.cause.Cause.TheVariants.{NotUnique};
 ghost use Rattle.fdw_api.specs.Calls.{not_refused};
+ghost use Rattle.sqlite_shapes.specs.Steady.{IsCleanAfter};
 ghost use Rattle.sqlite_cells.specs.Tables.{entries_in};
 ghost use Rattle.sqlite_cells.specs.Refusing.{OnlyBy};
-ghost use Rattle.sqlite_writes.specs.Writable.{IsWritable, KeepsTables};
+ghost use Rattle.sqlite_writes.specs.Writable.{IsWritable, IsSureStep, IsSureWrite, KeepsTables, StepsTo};
 ghost use Rattle.sqlite_writes.specs.Rewriting.{has_place, stored_cells, rewritten, repeats_key};
 
 use crate::rows::{delete_row, insert_row};
@@ -39,6 +40,14 @@ fn delete_all<S: SourceStore>(
     ensures refused { IfErr result not_refused }
     ensures inside { S.honest ≡ true → OnOk result (IsTrue tx.new.conn.now.in_transaction) }
     ensures kept { S.honest ≡ true → (state S.Store tx.new.conn.now).committed ≡ (state S.Store tx.old.conn.now).committed }
+    ensures sure_rows { IsSureStep (state S.Store tx.old.conn.now) (state S.Store tx.new.conn.now) table
+        → OnOk result (entries_in (state S.Store tx.new.conn.now).now table
+        ≡ without_all (entries_in (state S.Store tx.old.conn.now).now table) gone.now) }
+    ensures sure_steps { IsSureStep (state S.Store tx.old.conn.now) (state S.Store tx.new.conn.now) table
+        → OnOk result (StepsTo (state S.Store tx.old.conn.now) (state S.Store tx.new.conn.now) table) }
+    ensures sure_kept { IsSureStep (state S.Store tx.old.conn.now) (state S.Store tx.new.conn.now) table
+        → (state S.Store tx.new.conn.now).committed ≡ (state S.Store tx.old.conn.now).committed }
+    ensures was_clean { IsCleanAfter (state S.Store tx.new.conn.now) → IsCleanAfter (state S.Store tx.old.conn.now) }
 {
     for key in gone {
         match delete_row(tx, table, *key) {
@@ -72,6 +81,18 @@ fn insert_cells<S: SourceStore>(
         × (S.honest ≡ true → is_taken (entries_in (state S.Store tx.old.conn.now).now table) (stored_cells (tuple row.now)) ≡ true))) }
     ensures inside { S.honest ≡ true → OnOk result (IsTrue tx.new.conn.now.in_transaction) }
     ensures kept { S.honest ≡ true → (state S.Store tx.new.conn.now).committed ≡ (state S.Store tx.old.conn.now).committed }
+    ensures sure_rows { IsSureStep (state S.Store tx.old.conn.now) (state S.Store tx.new.conn.now) table
+        → OnOk result (entries_in (state S.Store tx.new.conn.now).now table
+        ≡ put_row (stored_cells (tuple row.now)) (entries_in (state S.Store tx.old.conn.now).now table)) }
+    ensures sure_free { IsSureStep (state S.Store tx.old.conn.now) (state S.Store tx.new.conn.now) table
+        → OnOk result (is_taken (entries_in (state S.Store tx.old.conn.now).now table) (stored_cells (tuple row.now)) ≡ false) }
+    ensures sure_refused { IfErr result (OnlyBy (λ _. IsSureStep (state S.Store tx.old.conn.now) (state S.Store tx.new.conn.now) table
+        → is_taken (entries_in (state S.Store tx.old.conn.now).now table) (stored_cells (tuple row.now)) ≡ true)) }
+    ensures sure_steps { IsSureStep (state S.Store tx.old.conn.now) (state S.Store tx.new.conn.now) table
+        → OnOk result (StepsTo (state S.Store tx.old.conn.now) (state S.Store tx.new.conn.now) table) }
+    ensures sure_kept { IsSureStep (state S.Store tx.old.conn.now) (state S.Store tx.new.conn.now) table
+        → (state S.Store tx.new.conn.now).committed ≡ (state S.Store tx.old.conn.now).committed }
+    ensures was_clean { IsCleanAfter (state S.Store tx.new.conn.now) → IsCleanAfter (state S.Store tx.old.conn.now) }
 {
     match row.cells.as_slice() {
         [Value::Int(key), second, third] => insert_row(tx, table, *key, second, third),
@@ -102,6 +123,18 @@ fn insert_all<S: SourceStore>(
         (map stored_cells (map tuple fresh.now)) ≡ false))) }
     ensures inside { S.honest ≡ true → OnOk result (IsTrue tx.new.conn.now.in_transaction) }
     ensures kept { S.honest ≡ true → (state S.Store tx.new.conn.now).committed ≡ (state S.Store tx.old.conn.now).committed }
+    ensures sure_rows { IsSureStep (state S.Store tx.old.conn.now) (state S.Store tx.new.conn.now) table
+        → OnOk result (entries_in (state S.Store tx.new.conn.now).now table
+        ≡ put_all (entries_in (state S.Store tx.old.conn.now).now table) (map stored_cells (map tuple fresh.now))) }
+    ensures sure_free { IsSureStep (state S.Store tx.old.conn.now) (state S.Store tx.new.conn.now) table
+        → OnOk result (are_fresh (entries_in (state S.Store tx.old.conn.now).now table) (map stored_cells (map tuple fresh.now)) ≡ true) }
+    ensures sure_refused { IfErr result (OnlyBy (λ _. IsSureStep (state S.Store tx.old.conn.now) (state S.Store tx.new.conn.now) table
+        → are_fresh (entries_in (state S.Store tx.old.conn.now).now table) (map stored_cells (map tuple fresh.now)) ≡ false)) }
+    ensures sure_steps { IsSureStep (state S.Store tx.old.conn.now) (state S.Store tx.new.conn.now) table
+        → OnOk result (StepsTo (state S.Store tx.old.conn.now) (state S.Store tx.new.conn.now) table) }
+    ensures sure_kept { IsSureStep (state S.Store tx.old.conn.now) (state S.Store tx.new.conn.now) table
+        → (state S.Store tx.new.conn.now).committed ≡ (state S.Store tx.old.conn.now).committed }
+    ensures was_clean { IsCleanAfter (state S.Store tx.new.conn.now) → IsCleanAfter (state S.Store tx.old.conn.now) }
 {
     for row in fresh {
         match insert_cells(tx, table, row) {
@@ -135,6 +168,18 @@ fn change_rows<S: SourceStore>(
         × (S.honest ≡ true → repeats_key gone.now (map tuple fresh.now) (entries_in (state S.Store tx.old.conn.now).now table) ≡ true))) }
     ensures inside { S.honest ≡ true → OnOk result (IsTrue tx.new.conn.now.in_transaction) }
     ensures kept { S.honest ≡ true → (state S.Store tx.new.conn.now).committed ≡ (state S.Store tx.old.conn.now).committed }
+    ensures sure_rows { IsSureStep (state S.Store tx.old.conn.now) (state S.Store tx.new.conn.now) table
+        → OnOk result (entries_in (state S.Store tx.new.conn.now).now table
+        ≡ rewritten gone.now (map tuple fresh.now) (entries_in (state S.Store tx.old.conn.now).now table)) }
+    ensures sure_free { IsSureStep (state S.Store tx.old.conn.now) (state S.Store tx.new.conn.now) table
+        → OnOk result (repeats_key gone.now (map tuple fresh.now) (entries_in (state S.Store tx.old.conn.now).now table) ≡ false) }
+    ensures sure_refused { IfErr result (OnlyBy (λ _. IsSureStep (state S.Store tx.old.conn.now) (state S.Store tx.new.conn.now) table
+        → repeats_key gone.now (map tuple fresh.now) (entries_in (state S.Store tx.old.conn.now).now table) ≡ true)) }
+    ensures sure_steps { IsSureStep (state S.Store tx.old.conn.now) (state S.Store tx.new.conn.now) table
+        → OnOk result (StepsTo (state S.Store tx.old.conn.now) (state S.Store tx.new.conn.now) table) }
+    ensures sure_kept { IsSureStep (state S.Store tx.old.conn.now) (state S.Store tx.new.conn.now) table
+        → (state S.Store tx.new.conn.now).committed ≡ (state S.Store tx.old.conn.now).committed }
+    ensures was_clean { IsCleanAfter (state S.Store tx.new.conn.now) → IsCleanAfter (state S.Store tx.old.conn.now) }
 {
     match delete_all(tx, table, gone) {
         Ok(()) => insert_all(tx, table, fresh),
@@ -145,7 +190,8 @@ fn change_rows<S: SourceStore>(
 /// Changes the rows of a table as one transaction: those of some keys are taken out, then these rows are put in, each in its place by key.
 ///
 /// Each new row is of the table's types and has a key. No key is then there twice. Refused, the rows are as they were; by 23505 alone
-/// where a key of a new row stands twice among them or is that of a row that stays. No transaction is under way after it.
+/// where a key of a new row stands twice among them or is that of a row that stays. No transaction is under way after it. It is so over a
+/// store that always returns what was written, and of each call by itself that is sure (`IsSureWrite`).
 pub fn rewrite<S: SourceStore>(
     conn: &mut Connection<S>,
     table: u64,
@@ -165,6 +211,22 @@ pub fn rewrite<S: SourceStore>(
     ensures same { S.honest ≡ true → OnErr result ((state S.Store conn.new).now ≡ (state S.Store conn.old).now) }
     ensures refused { IfErr result (OnlyBy (λ c. (c ≡ NotUnique)
         × (S.honest ≡ true → repeats_key gone.now (map tuple fresh.now) (entries_in (state S.Store conn.old).now table) ≡ true))) }
+    ensures sure_rows { IsSureWrite (state S.Store conn.old) (state S.Store conn.new) table
+        → OnOk result (entries_in (state S.Store conn.new).now table
+        ≡ rewritten gone.now (map tuple fresh.now) (entries_in (state S.Store conn.old).now table)) }
+    ensures sure_free { IsSureWrite (state S.Store conn.old) (state S.Store conn.new) table
+        → OnOk result (repeats_key gone.now (map tuple fresh.now) (entries_in (state S.Store conn.old).now table) ≡ false) }
+    ensures sure_lasts { IsCleanAfter (state S.Store conn.new)
+        → OnOk result ((state S.Store conn.new).committed ≡ (state S.Store conn.new).now) }
+    ensures sure_schema { IsSureWrite (state S.Store conn.old) (state S.Store conn.new) table
+        → OnOk result (conn.new.schema ≡ conn.old.schema) }
+    ensures sure_others { IsSureWrite (state S.Store conn.old) (state S.Store conn.new) table
+        → OnOk result (KeepsTables (state S.Store conn.old).now (state S.Store conn.new).now table) }
+    ensures sure_same { IsSureWrite (state S.Store conn.old) (state S.Store conn.new) table
+        → OnErr result ((state S.Store conn.new).now ≡ (state S.Store conn.old).now) }
+    ensures sure_refused { IfErr result (OnlyBy (λ _. IsSureWrite (state S.Store conn.old) (state S.Store conn.new) table
+        → repeats_key gone.now (map tuple fresh.now) (entries_in (state S.Store conn.old).now table) ≡ true)) }
+    ensures was_clean { IsCleanAfter (state S.Store conn.new) → IsCleanAfter (state S.Store conn.old) }
     ensures idle { conn.new.in_transaction ≡ false }
 {
     let _idle = conn.is_autocommit();

@@ -9,10 +9,11 @@ ghost use Rattle.med_value.specs.Datum.{datum};
 ghost use Rattle.med_value.specs.declared.cause.Cause.TheVariants.{NotUnique};
 ghost use Rattle.fdw_api.specs.Calls.{not_refused};
 ghost use Rattle.fdw_api.specs.Scan.{cell_fits};
+ghost use Rattle.sqlite_shapes.specs.Steady.{IsCleanAfter};
 ghost use Rattle.sqlite_cells.specs.Layouts.{layout_at};
 ghost use Rattle.sqlite_cells.specs.Tables.{entries_in};
 ghost use Rattle.sqlite_cells.specs.Refusing.{OnlyBy};
-ghost use Rattle.sqlite_writes.specs.Writable.{IsWritable, KeepsTables};
+ghost use Rattle.sqlite_writes.specs.Writable.{IsWritable, IsSureStep, KeepsTables, StepsTo};
 ghost use Rattle.sqlite_writes.specs.Stored.{stored_row, taken_key};
 
 use crate::statements::{delete, insert};
@@ -25,7 +26,8 @@ use sqlite_shapes::SourceStore;
 
 /// Takes the row of a key out of a table, inside a transaction: where there is none, nothing changes.
 ///
-/// Refused, no cause is told, and what was committed last stays so.
+/// Refused, no cause is told, and what was committed last stays so. It is so over a store that always returns what was written, and of each
+/// call by itself that is sure (`IsSureStep`).
 pub fn delete_row<S: SourceStore>(
     tx: &mut Transaction<'_, S>,
     table: u64,
@@ -44,6 +46,14 @@ pub fn delete_row<S: SourceStore>(
     ensures refused { IfErr result not_refused }
     ensures inside { S.honest ≡ true → OnOk result (IsTrue tx.new.conn.now.in_transaction) }
     ensures kept { S.honest ≡ true → (state S.Store tx.new.conn.now).committed ≡ (state S.Store tx.old.conn.now).committed }
+    ensures sure_rows { IsSureStep (state S.Store tx.old.conn.now) (state S.Store tx.new.conn.now) table
+        → OnOk result (entries_in (state S.Store tx.new.conn.now).now table
+        ≡ without_rowid key (entries_in (state S.Store tx.old.conn.now).now table)) }
+    ensures sure_steps { IsSureStep (state S.Store tx.old.conn.now) (state S.Store tx.new.conn.now) table
+        → OnOk result (StepsTo (state S.Store tx.old.conn.now) (state S.Store tx.new.conn.now) table) }
+    ensures sure_kept { IsSureStep (state S.Store tx.old.conn.now) (state S.Store tx.new.conn.now) table
+        → (state S.Store tx.new.conn.now).committed ≡ (state S.Store tx.old.conn.now).committed }
+    ensures was_clean { IsCleanAfter (state S.Store tx.new.conn.now) → IsCleanAfter (state S.Store tx.old.conn.now) }
 {
     match delete(tx, delete_text(table), key) {
         Ok(()) => Ok(()),
@@ -66,7 +76,8 @@ fn fault_of_insert(error: Error) -> Fault
 
 /// Puts a row of a key and two further cells into a table, in its place by key, inside a transaction.
 ///
-/// Refused by 23505, the table has a row of this key; no other cause is told. What was committed last stays so.
+/// Refused by 23505, the table has a row of this key; no other cause is told. What was committed last stays so. It is so over a store that
+/// always returns what was written, and of each call by itself that is sure (`IsSureStep`).
 pub fn insert_row<'x, S: SourceStore>(
     tx: &mut Transaction<'_, S>,
     table: u64,
@@ -93,6 +104,19 @@ pub fn insert_row<'x, S: SourceStore>(
         (stored_row key (datum second.now) (datum third.now)) ≡ true))) }
     ensures inside { S.honest ≡ true → OnOk result (IsTrue tx.new.conn.now.in_transaction) }
     ensures kept { S.honest ≡ true → (state S.Store tx.new.conn.now).committed ≡ (state S.Store tx.old.conn.now).committed }
+    ensures sure_rows { IsSureStep (state S.Store tx.old.conn.now) (state S.Store tx.new.conn.now) table
+        → OnOk result (entries_in (state S.Store tx.new.conn.now).now table
+        ≡ put_row (stored_row key (datum second.now) (datum third.now)) (entries_in (state S.Store tx.old.conn.now).now table)) }
+    ensures sure_free { IsSureStep (state S.Store tx.old.conn.now) (state S.Store tx.new.conn.now) table
+        → OnOk result (is_taken (entries_in (state S.Store tx.old.conn.now).now table)
+        (stored_row key (datum second.now) (datum third.now)) ≡ false) }
+    ensures sure_refused { IfErr result (OnlyBy (λ _. IsSureStep (state S.Store tx.old.conn.now) (state S.Store tx.new.conn.now) table
+        → is_taken (entries_in (state S.Store tx.old.conn.now).now table) (stored_row key (datum second.now) (datum third.now)) ≡ true)) }
+    ensures sure_steps { IsSureStep (state S.Store tx.old.conn.now) (state S.Store tx.new.conn.now) table
+        → OnOk result (StepsTo (state S.Store tx.old.conn.now) (state S.Store tx.new.conn.now) table) }
+    ensures sure_kept { IsSureStep (state S.Store tx.old.conn.now) (state S.Store tx.new.conn.now) table
+        → (state S.Store tx.new.conn.now).committed ≡ (state S.Store tx.old.conn.now).committed }
+    ensures was_clean { IsCleanAfter (state S.Store tx.new.conn.now) → IsCleanAfter (state S.Store tx.old.conn.now) }
 {
     match insert(tx, insert_text(table), key, second, third) {
         Ok(()) => Ok(()),

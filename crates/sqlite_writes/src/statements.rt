@@ -9,6 +9,7 @@ ghost use Rattle.med_value.specs.Datum.{datum};
 ghost use Rattle.med_value.specs.declared.value.ColType.{ColType as CellType};
 ghost use Rattle.fdw_api.specs.Scan.{cell_fits};
 ghost use Rattle.std.specs.Prelude.{Some};
+ghost use Rattle.sqlite_shapes.specs.Steady.{IsCleanAfter};
 ghost use Rattle.sqlite_cells.specs.Texts.{IsDeleteText, IsInsertText, IsUnread};
 ghost use Rattle.sqlite_writes.specs.Changes.{TakesOut, PutsIn};
 ghost use Rattle.sqlite_writes.specs.Stored.{stored, stored_row, taken_key};
@@ -32,6 +33,17 @@ pub(crate) fn delete<S: SourceStore>(
     ensures unread { S.honest ≡ true → IsUnread tx.old.conn.now.schema text.now → OnOk result ⊥ }
     ensures inside { S.honest ≡ true → OnOk result (IsTrue tx.new.conn.now.in_transaction) }
     ensures kept { S.honest ≡ true → (state S.Store tx.new.conn.now).committed ≡ (state S.Store tx.old.conn.now).committed }
+    ensures sure_done { IsCleanAfter (state S.Store tx.new.conn.now) → IsTrue tx.old.conn.now.in_transaction
+        → (tree : ℕ) → IsDeleteText tx.old.conn.now.schema text.now tree
+        → IsShaped shape.Table ((state S.Store tx.old.conn.now).now.trees tree)
+        → OnOk result (TakesOut (state S.Store tx.old.conn.now).now (state S.Store tx.new.conn.now).now tree key) }
+    ensures sure_unread { IsCleanAfter (state S.Store tx.new.conn.now) → IsTrue tx.old.conn.now.in_transaction
+        → IsUnread tx.old.conn.now.schema text.now → OnOk result ⊥ }
+    ensures sure_inside { IsCleanAfter (state S.Store tx.new.conn.now) → IsTrue tx.old.conn.now.in_transaction
+        → OnOk result (IsTrue tx.new.conn.now.in_transaction) }
+    ensures sure_kept { IsCleanAfter (state S.Store tx.new.conn.now) → IsTrue tx.old.conn.now.in_transaction
+        → (state S.Store tx.new.conn.now).committed ≡ (state S.Store tx.old.conn.now).committed }
+    ensures was_clean { IsCleanAfter (state S.Store tx.new.conn.now) → IsCleanAfter (state S.Store tx.old.conn.now) }
 {
     match tx.execute(text, params![key]) {
         Ok(_count) => Ok(()),
@@ -75,6 +87,25 @@ pub(crate) fn insert<'x, S: SourceStore>(
         → IfErr result (λ e. e ≡ taken_key → ⊥) }
     ensures inside { S.honest ≡ true → OnOk result (IsTrue tx.new.conn.now.in_transaction) }
     ensures kept { S.honest ≡ true → (state S.Store tx.new.conn.now).committed ≡ (state S.Store tx.old.conn.now).committed }
+    ensures sure_done { IsCleanAfter (state S.Store tx.new.conn.now) → IsTrue tx.old.conn.now.in_transaction
+        → (tree : ℕ) (a b : CellType) → IsInsertText tx.old.conn.now.schema text.now tree a b
+        → cell_fits (Some a) (datum second.now) ≡ true → cell_fits (Some b) (datum third.now) ≡ true
+        → OnOk result (PutsIn (state S.Store tx.old.conn.now).now (state S.Store tx.new.conn.now).now tree
+        (stored_row key (datum second.now) (datum third.now))) }
+    ensures sure_taken { IsCleanAfter (state S.Store tx.new.conn.now) → IsTrue tx.old.conn.now.in_transaction
+        → (tree : ℕ) (a b : CellType) → IsInsertText tx.old.conn.now.schema text.now tree a b
+        → cell_fits (Some a) (datum second.now) ≡ true → cell_fits (Some b) (datum third.now) ≡ true
+        → IfErr result (λ e. e ≡ taken_key
+        → is_taken ((state S.Store tx.old.conn.now).now.trees tree) (stored_row key (datum second.now) (datum third.now)) ≡ true) }
+    ensures sure_absent { IsCleanAfter (state S.Store tx.new.conn.now) → IsTrue tx.old.conn.now.in_transaction
+        → IsUnread tx.old.conn.now.schema text.now → IfErr result (λ e. e ≡ taken_key → ⊥) }
+    ensures sure_unread { IsCleanAfter (state S.Store tx.new.conn.now) → IsTrue tx.old.conn.now.in_transaction
+        → IsUnread tx.old.conn.now.schema text.now → OnOk result ⊥ }
+    ensures sure_inside { IsCleanAfter (state S.Store tx.new.conn.now) → IsTrue tx.old.conn.now.in_transaction
+        → OnOk result (IsTrue tx.new.conn.now.in_transaction) }
+    ensures sure_kept { IsCleanAfter (state S.Store tx.new.conn.now) → IsTrue tx.old.conn.now.in_transaction
+        → (state S.Store tx.new.conn.now).committed ≡ (state S.Store tx.old.conn.now).committed }
+    ensures was_clean { IsCleanAfter (state S.Store tx.new.conn.now) → IsCleanAfter (state S.Store tx.old.conn.now) }
 {
     let second = cell_of(second);
     let third = cell_of(third);

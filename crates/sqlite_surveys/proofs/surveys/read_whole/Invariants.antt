@@ -2,7 +2,7 @@ use Rattle.std.proofs.Common.{◌≡◌, ◌≤◌, true, false, Some}
 use Rattle.sqlite.specs.Held.{state}
 use Rattle.sqlite_cells.specs.Layouts.{layout_at}
 use Rattle.sqlite_cells.specs.Cells.{least}
-use Rattle.sqlite_cells.specs.Tables.{entries_of}
+use Rattle.sqlite_cells.specs.Tables.{IsSure, ReadsOnly, entries_of}
 use Rattle.sqlite_surveys.specs.Surveys.{IsSeen, rows_left}
 use Rattle.sqlite_surveys.proofs.surveys.read_whole.Given as goal
 
@@ -12,6 +12,9 @@ invariant-loop-next g l = record {
   idle : l.conn.in_transaction ≡ false;
   same : g.S.SourceStore.honest ≡ true → (state g.S.Store l.conn).now ≡ (state g.S.Store l.initial.conn).now;
   seen : g.S.SourceStore.honest ≡ true → IsSeen (layout_at l.table) (entries_of (state g.S.Store l.initial.conn).now (layout_at l.table)) (Some least) l.next l.count;
+  reads : ReadsOnly (state g.S.Store l.initial.conn) (state g.S.Store l.conn) (layout_at l.table);
+  sure_seen : IsSure (state g.S.Store l.initial.conn) (state g.S.Store l.conn) (layout_at l.table)
+      → IsSeen (layout_at l.table) (entries_of (state g.S.Store l.initial.conn).now (layout_at l.table)) (Some least) l.next l.count;
 }
 
 abbrev pub decreases-loop-next : goal.decreases-loop-next

@@ -1,4 +1,4 @@
-use Rattle.std.proofs.Common.{◌≡◌, ◌∙◌, IfSome, List, map, ap, sym, subst, refl, rules}
+use Rattle.std.proofs.Common.{◌≡◌, IfSome, map, sym, subst, refl, rules}
 use Rattle.sqlite.specs.Held.{state}
 use Rattle.sqlite.specs.Effect.{Database}
 use Rattle.sqlite.specs.View.{IsShaped}

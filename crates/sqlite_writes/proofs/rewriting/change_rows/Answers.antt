@@ -6,7 +6,7 @@ use Rattle.med_value.specs.Datum.{tuple}
 use Rattle.sqlite_cells.proofs.Refused.{refused_more, done_more}
 use Rattle.sqlite_writes.specs.Writable.{IsWritable}
 use Rattle.sqlite_writes.specs.Rewriting.{stored_cells}
-use Rattle.sqlite_writes.proofs.Changed.{keeps_more}
+use Rattle.sqlite_writes.proofs.Changed.{keeps_more, step_first, step_then, steps_then}
 use Rattle.sqlite_writes.proofs.rewriting.change_rows.Goals as goal
 
 pub insert_all-requires-clause-writable : goal.insert_all-requires-clause-writable
@@ -38,3 +38,44 @@ returns-in-Ok-clause-refused g c =
 
 pub returns-in-Ok-clause-kept : goal.returns-in-Ok-clause-kept
 returns-in-Ok-clause-kept g c h = c.insert_all.ensures.kept h ∙ c.in-Ok.ensures.kept h
+
+pub returns-in-Ok-clause-sure_rows : goal.returns-in-Ok-clause-sure_rows
+returns-in-Ok-clause-sure_rows g c h =
+    let sure = step_first c.insert_all.ensures.was_clean h in
+    let steps = c.in-Ok.ensures.sure_steps sure in
+    let next = step_then steps h in
+    done_more c.insert_all.result _ _ (λ e. e ∙ ap (λ es. put_all es (map stored_cells (map tuple c.args.fresh.now))) (c.in-Ok.ensures.sure_rows sure)) (c.insert_all.ensures.sure_rows next)
+
+pub returns-in-Ok-clause-sure_free : goal.returns-in-Ok-clause-sure_free
+returns-in-Ok-clause-sure_free g c h =
+    let sure = step_first c.insert_all.ensures.was_clean h in
+    let steps = c.in-Ok.ensures.sure_steps sure in
+    let next = step_then steps h in
+    done_more c.insert_all.result _ _
+    (λ e. ap not (ap (λ es. are_fresh es (map stored_cells (map tuple c.args.fresh.now))) (sym (c.in-Ok.ensures.sure_rows sure)) ∙ e)) (c.insert_all.ensures.sure_free next)
+
+pub returns-in-Ok-clause-sure_steps : goal.returns-in-Ok-clause-sure_steps
+returns-in-Ok-clause-sure_steps g c h =
+    let sure = step_first c.insert_all.ensures.was_clean h in
+    let steps = c.in-Ok.ensures.sure_steps sure in
+    let next = step_then steps h in
+    done_more c.insert_all.result _ _ (steps_then steps) (c.insert_all.ensures.sure_steps next)
+
+pub returns-in-Ok-clause-sure_refused : goal.returns-in-Ok-clause-sure_refused
+returns-in-Ok-clause-sure_refused g c =
+    refused_more c.insert_all.result _ _
+    (λ cause by h.
+    let sure = step_first c.insert_all.ensures.was_clean h in
+    let next = step_then (c.in-Ok.ensures.sure_steps sure) h in
+    ap not (ap (λ es. are_fresh es (map stored_cells (map tuple c.args.fresh.now))) (sym (c.in-Ok.ensures.sure_rows sure)) ∙ by next))
+    c.insert_all.ensures.sure_refused
+
+pub returns-in-Ok-clause-sure_kept : goal.returns-in-Ok-clause-sure_kept
+returns-in-Ok-clause-sure_kept g c h =
+    let sure = step_first c.insert_all.ensures.was_clean h in
+    let steps = c.in-Ok.ensures.sure_steps sure in
+    let next = step_then steps h in
+    c.insert_all.ensures.sure_kept next ∙ c.in-Ok.ensures.sure_kept sure
+
+pub returns-in-Ok-clause-was_clean : goal.returns-in-Ok-clause-was_clean
+returns-in-Ok-clause-was_clean g c after = c.in-Ok.ensures.was_clean (c.insert_all.ensures.was_clean after)

@@ -7,7 +7,7 @@ use Rattle.sqlite.specs.Tree.{without_rowid}
 use Rattle.sqlite_cells.specs.Tables.{entries_in}
 use Rattle.sqlite_writes.specs.Writable.{IsWritable}
 use Rattle.sqlite_writes.proofs.Loops.{without_more}
-use Rattle.sqlite_writes.proofs.Changed.{keeps_more}
+use Rattle.sqlite_writes.proofs.Changed.{keeps_more, step_first, step_then, steps_then}
 use Rattle.sqlite_writes.proofs.rewriting.delete_all.Goals as goal
 
 pub delete_row-requires-clause-writable : goal.delete_row-requires-clause-writable
@@ -34,4 +34,25 @@ loop-key-preserved g c =
           let one : entries_in new t ≡ without_rowid key (entries_in mid t) = rw e at (c.in-Ok.ensures.rows h) in
           rw (take_more c.args.gone.now c.loop-key.key-index (pos 0) c.loop-key-test.true)
           (one ∙ ap (without_rowid key) (inv.rows h) ∙ sym (without_more (entries_in old t) (take c.loop-key.key-index c.args.gone.now) key));
+      was_clean = λ after. inv.was_clean (c.in-Ok.ensures.was_clean after);
+      sure_steps = λ h.
+          let first = inv.sure_steps (step_first c.in-Ok.ensures.was_clean h) in
+          steps_then first (c.in-Ok.ensures.sure_steps (step_then first h));
+      sure_kept = λ h.
+          let before = step_first c.in-Ok.ensures.was_clean h in
+          c.in-Ok.ensures.sure_kept (step_then (inv.sure_steps before) h) ∙ inv.sure_kept before;
+      sure_rows = λ h.
+          let before = step_first c.in-Ok.ensures.was_clean h in
+          let one : entries_in new t ≡ without_rowid key (entries_in mid t) = rw e at (c.in-Ok.ensures.sure_rows (step_then (inv.sure_steps before) h)) in
+          rw (take_more c.args.gone.now c.loop-key.key-index (pos 0) c.loop-key-test.true)
+          (one ∙ ap (without_rowid key) (inv.sure_rows before) ∙ sym (without_more (entries_in old t) (take c.loop-key.key-index c.args.gone.now) key));
     }
+
+pub returns-in-Err-clause-sure_kept : goal.returns-in-Err-clause-sure_kept
+returns-in-Err-clause-sure_kept g c h =
+    let inv = c.loop-key.invariant in
+    let before = step_first c.delete_row.ensures.was_clean h in
+    c.delete_row.ensures.sure_kept (step_then (inv.sure_steps before) h) ∙ inv.sure_kept before
+
+pub returns-in-Err-clause-was_clean : goal.returns-in-Err-clause-was_clean
+returns-in-Err-clause-was_clean g c after = c.loop-key.invariant.was_clean (c.delete_row.ensures.was_clean after)

@@ -3,8 +3,9 @@ use Rattle.sqlite.specs.Held.{state}
 use Rattle.sqlite.specs.View.{IsShaped}
 use Rattle.sqlite.specs.Edit.{without_all}
 use Rattle.sqlite_trees.specs.declared.store.Shape.TheVariants as shape
+use Rattle.sqlite_shapes.specs.Steady.{IsCleanAfter}
 use Rattle.sqlite_cells.specs.Tables.{entries_in}
-use Rattle.sqlite_writes.specs.Writable.{KeepsTables}
+use Rattle.sqlite_writes.specs.Writable.{IsSureStep, KeepsTables, StepsTo}
 use Rattle.sqlite_writes.proofs.rewriting.delete_all.Given as goal
 
 abbrev pub invariant-loop-key : goal.invariant-loop-key
@@ -19,4 +20,8 @@ invariant-loop-key g l =
       others : g.S.SourceStore.honest ≡ true → KeepsTables old.now now.now l.table;
       kept : g.S.SourceStore.honest ≡ true → now.committed ≡ old.committed;
       rows : g.S.SourceStore.honest ≡ true → entries_in now.now l.table ≡ without_all (entries_in old.now l.table) (take l.key-index l.gone);
+      was_clean : IsCleanAfter now → IsCleanAfter old;
+      sure_steps : IsSureStep old now l.table → StepsTo old now l.table;
+      sure_kept : IsSureStep old now l.table → now.committed ≡ old.committed;
+      sure_rows : IsSureStep old now l.table → entries_in now.now l.table ≡ without_all (entries_in old.now l.table) (take l.key-index l.gone);
     }

@@ -12,7 +12,7 @@ use Rattle.sqlite.specs.Order.{Row as SqlRow}
 use Rattle.sqlite_writes.specs.Writable.{IsWritable}
 use Rattle.sqlite_writes.specs.Rewriting.{stored_cells}
 use Rattle.sqlite_writes.proofs.Loops.{put_more, fresh_more, repeats}
-use Rattle.sqlite_writes.proofs.Changed.{keeps_more}
+use Rattle.sqlite_writes.proofs.Changed.{keeps_more, step_first, step_then, steps_then}
 use Rattle.sqlite_writes.proofs.rewriting.insert_all.Goals as goal
 
 pub insert_cells-requires-clause-writable : goal.insert_cells-requires-clause-writable
@@ -50,6 +50,29 @@ loop-row-preserved g c =
           let were : are_fresh es (map f (take i xs)) ≡ true = ap (are_fresh es) (sym (map-map stored_cells tuple (take i xs))) ∙ inv.free h in
           ap (are_fresh es) (map-map stored_cells tuple (take (i + 1) xs)) ∙ ap (λ (n : ℕ). are_fresh es (map f (take n xs))) on
           ∙ fresh_more f es xs i row c.loop-row-test.true c.row-item.is were here;
+      was_clean = λ after. inv.was_clean (c.in-Ok.ensures.was_clean after);
+      sure_steps = λ h.
+          let first = inv.sure_steps (step_first c.in-Ok.ensures.was_clean h) in
+          steps_then first (c.in-Ok.ensures.sure_steps (step_then first h));
+      sure_kept = λ h.
+          let sure = step_first c.in-Ok.ensures.was_clean h in
+          c.in-Ok.ensures.sure_kept (step_then (inv.sure_steps sure) h) ∙ inv.sure_kept sure;
+      sure_rows = λ h.
+          let sure = step_first c.in-Ok.ensures.was_clean h in
+          let before : entries_in mid t ≡ put_all (entries_in old t) (map f (take i xs)) = inv.sure_rows sure ∙ ap (put_all (entries_in old t)) (map-map stored_cells tuple (take i xs)) in
+          let after : entries_in new t ≡ put_all (entries_in old t) (map f (take (i + 1) xs)) =
+          c.in-Ok.ensures.sure_rows (step_then (inv.sure_steps sure) h) ∙ ap (put_row (f row)) before ∙ sym (put_more f (entries_in old t) xs i row c.loop-row-test.true c.row-item.is)
+          ∙ ap (λ (n : ℕ). put_all (entries_in old t) (map f (take n xs))) (sym on) in
+          after ∙ ap (put_all (entries_in old t)) (sym (map-map stored_cells tuple (take (i + 1) xs)));
+      sure_free = λ h.
+          let sure = step_first c.in-Ok.ensures.was_clean h in
+          let es = entries_in old t in
+          let before : entries_in mid t ≡ put_all es (map f (take i xs)) = inv.sure_rows sure ∙ ap (put_all es) (map-map stored_cells tuple (take i xs)) in
+          let here : is_taken (put_all es (map f (take i xs))) (f row) ≡ false = ap (λ (rs : List SqlRow). is_taken rs (f row)) (sym before)
+          ∙ c.in-Ok.ensures.sure_free (step_then (inv.sure_steps sure) h) in
+          let were : are_fresh es (map f (take i xs)) ≡ true = ap (are_fresh es) (sym (map-map stored_cells tuple (take i xs))) ∙ inv.sure_free sure in
+          ap (are_fresh es) (map-map stored_cells tuple (take (i + 1) xs)) ∙ ap (λ (n : ℕ). are_fresh es (map f (take n xs))) on
+          ∙ fresh_more f es xs i row c.loop-row-test.true c.row-item.is were here;
     }
 
 pub returns-in-Err-clause-refused : goal.returns-in-Err-clause-refused
@@ -71,3 +94,30 @@ returns-in-Err-clause-refused g c =
           ap (are_fresh (entries_in old t)) (map-map stored_cells tuple xs) ∙ repeats f (entries_in old t) xs i row c.loop-row-test.true c.row-item.is there,
     ))
     c.in-Err.ensures.refused
+
+pub returns-in-Err-clause-sure_refused : goal.returns-in-Err-clause-sure_refused
+returns-in-Err-clause-sure_refused g c =
+    let inv = c.loop-row.invariant in
+    let old = (state g.S.Store c.args.tx.now.conn.now).now in
+    let mid = (state g.S.Store c.loop-row.tx.conn.now).now in
+    let t = c.args.table in
+    let xs = c.args.fresh.now in
+    let i = c.loop-row.row-index in
+    let row = c.row-item.result in
+    let f = λ (r : Row). stored_cells (tuple r) in
+    only_more _ _ c.in-Err.fault
+    (λ cause taken h.
+    let sure = step_first c.insert_cells.ensures.was_clean h in
+    let before : entries_in mid t ≡ put_all (entries_in old t) (map f (take i xs)) = inv.sure_rows sure ∙ ap (put_all (entries_in old t)) (map-map stored_cells tuple (take i xs)) in
+    let there = ap (λ es. is_taken es (f row)) (sym before) ∙ taken (step_then (inv.sure_steps sure) h) in
+    ap (are_fresh (entries_in old t)) (map-map stored_cells tuple xs) ∙ repeats f (entries_in old t) xs i row c.loop-row-test.true c.row-item.is there)
+    c.in-Err.ensures.sure_refused
+
+pub returns-in-Err-clause-sure_kept : goal.returns-in-Err-clause-sure_kept
+returns-in-Err-clause-sure_kept g c h =
+    let inv = c.loop-row.invariant in
+    let before = step_first c.insert_cells.ensures.was_clean h in
+    c.insert_cells.ensures.sure_kept (step_then (inv.sure_steps before) h) ∙ inv.sure_kept before
+
+pub returns-in-Err-clause-was_clean : goal.returns-in-Err-clause-was_clean
+returns-in-Err-clause-was_clean g c after = c.loop-row.invariant.was_clean (c.insert_cells.ensures.was_clean after)

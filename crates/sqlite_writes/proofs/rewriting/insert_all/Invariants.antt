@@ -4,8 +4,9 @@ use Rattle.sqlite.specs.View.{IsShaped}
 use Rattle.sqlite.specs.Edit.{put_all, are_fresh}
 use Rattle.sqlite_trees.specs.declared.store.Shape.TheVariants as shape
 use Rattle.med_value.specs.Datum.{tuple}
+use Rattle.sqlite_shapes.specs.Steady.{IsCleanAfter}
 use Rattle.sqlite_cells.specs.Tables.{entries_in}
-use Rattle.sqlite_writes.specs.Writable.{KeepsTables}
+use Rattle.sqlite_writes.specs.Writable.{IsSureStep, KeepsTables, StepsTo}
 use Rattle.sqlite_writes.specs.Rewriting.{stored_cells}
 use Rattle.sqlite_writes.proofs.rewriting.insert_all.Given as goal
 
@@ -22,4 +23,9 @@ invariant-loop-row g l =
       kept : g.S.SourceStore.honest ≡ true → now.committed ≡ old.committed;
       rows : g.S.SourceStore.honest ≡ true → entries_in now.now l.table ≡ put_all (entries_in old.now l.table) (map stored_cells (map tuple (take l.row-index l.fresh)));
       free : g.S.SourceStore.honest ≡ true → are_fresh (entries_in old.now l.table) (map stored_cells (map tuple (take l.row-index l.fresh))) ≡ true;
+      was_clean : IsCleanAfter now → IsCleanAfter old;
+      sure_steps : IsSureStep old now l.table → StepsTo old now l.table;
+      sure_kept : IsSureStep old now l.table → now.committed ≡ old.committed;
+      sure_rows : IsSureStep old now l.table → entries_in now.now l.table ≡ put_all (entries_in old.now l.table) (map stored_cells (map tuple (take l.row-index l.fresh)));
+      sure_free : IsSureStep old now l.table → are_fresh (entries_in old.now l.table) (map stored_cells (map tuple (take l.row-index l.fresh))) ≡ true;
     }

@@ -1,8 +1,15 @@
-use Rattle.std.proofs.Common.{rules, ◌≡◌, sym, subst}
+use Rattle.std.proofs.Common.{rules, ◌≡◌, ◌∙◌, IsTrue, not, map, ap, sym, subst}
+use Rattle.std.proofs.lemmas.Result.{err_from_is_err_and}
+use Rattle.sqlite_cells.proofs.Refused.{only_more}
+use Rattle.med_value.specs.Datum.{tuple}
+use Rattle.sqlite_cells.specs.Tables.{entries_in}
+use Rattle.sqlite_writes.specs.Rewriting.{rewritten}
+use Rattle.sqlite_writes.proofs.Kept.{clean_before, commit_open, commit_undone}
 use Rattle.sqlite.specs.Effect.{Database}
 use Rattle.sqlite.specs.Held.{state}
-use Rattle.sqlite_writes.specs.Writable.{KeepsTables}
-use Rattle.sqlite_writes.proofs.Changed.{entries_ordered}
+use Rattle.sqlite_shapes.specs.Steady.{IsCleanAfter}
+use Rattle.sqlite_writes.specs.Writable.{IsSureWrite, KeepsTables}
+use Rattle.sqlite_writes.proofs.Changed.{entries_ordered, begun_step}
 use Rattle.sqlite_writes.proofs.rewriting.rewrite.Goals as goal
 
 pub change_rows-requires-clause-writable : goal.change_rows-requires-clause-writable
@@ -20,3 +27,119 @@ returns-in-Ok-clause-others g c h =
     let now = (c.in-Ok.ensures.ok (g.met.S.SourceStore.steady h end.store).clean).1.now_is in
     let kept : KeepsTables old (state g.S.Store c.change_rows.new.tx.conn.now).now c.args.table = rw c.transaction-tx.ensures.begun at (c.in_ok-change_rows.ensures.others h) in
     subst (λ k. KeepsTables old (state g.S.Store k).now c.args.table) same (subst (λ (d : Database). KeepsTables old d c.args.table) (sym now) kept)
+
+pub returns-in-Ok-clause-sure_rows : goal.returns-in-Ok-clause-sure_rows
+returns-in-Ok-clause-sure_rows g c h =
+    let was = state g.S.Store c.args.conn.now in
+    let t = c.args.table in
+    let end = c.commit.new.self.0 in
+    let same : end ≡ c.conn-2-1.given.0 = search rules in
+    let sure = subst (λ k. IsSureWrite was (state g.S.Store k) t) (sym same) h in
+    let ok = c.in-Ok.ensures.ok sure.after.clean in
+    let mid = clean_before (state g.S.Store c.change_rows.new.tx.conn.now) (state g.S.Store end) c.commit.ensures.survives.clean (λ up. ok.1.was_open) sure.after in
+    let step = begun_step g.S.Store c.args.conn.now c.transaction-tx.result.conn.now c.change_rows.new.tx.conn.now t c.transaction-tx.ensures.begun mid sure.writable sure.ordered in
+    let now = ok.1.now_is in
+    let rows = rw c.transaction-tx.ensures.begun at (c.in_ok-change_rows.ensures.sure_rows step) in
+    subst (λ k. entries_in (state g.S.Store k).now t ≡ rewritten c.args.gone.now (map tuple c.args.fresh.now) (entries_in was.now t)) same (ap (λ (d : Database). entries_in d t) now ∙ rows)
+
+pub returns-in-Ok-clause-sure_free : goal.returns-in-Ok-clause-sure_free
+returns-in-Ok-clause-sure_free g c h =
+    let was = state g.S.Store c.args.conn.now in
+    let t = c.args.table in
+    let end = c.commit.new.self.0 in
+    let same : end ≡ c.conn-2-1.given.0 = search rules in
+    let sure = subst (λ k. IsSureWrite was (state g.S.Store k) t) (sym same) h in
+    let ok = c.in-Ok.ensures.ok sure.after.clean in
+    let mid = clean_before (state g.S.Store c.change_rows.new.tx.conn.now) (state g.S.Store end) c.commit.ensures.survives.clean (λ up. ok.1.was_open) sure.after in
+    let step = begun_step g.S.Store c.args.conn.now c.transaction-tx.result.conn.now c.change_rows.new.tx.conn.now t c.transaction-tx.ensures.begun mid sure.writable sure.ordered in
+    let now = ok.1.now_is in
+    rw c.transaction-tx.ensures.begun at (c.in_ok-change_rows.ensures.sure_free step)
+
+pub returns-in-Ok-clause-sure_lasts : goal.returns-in-Ok-clause-sure_lasts
+returns-in-Ok-clause-sure_lasts g c after =
+    let end = c.commit.new.self.0 in
+    let same : end ≡ c.conn-2-1.given.0 = search rules in
+    let there = subst (λ k. IsCleanAfter (state g.S.Store k)) (sym same) after in
+    let shows = (c.in-Ok.ensures.ok there.clean).1 in
+    subst (λ k. (state g.S.Store k).committed ≡ (state g.S.Store k).now) same (shows.committed_is ∙ sym shows.now_is)
+
+pub returns-in-Ok-clause-sure_schema : goal.returns-in-Ok-clause-sure_schema
+returns-in-Ok-clause-sure_schema g c h =
+    let was = state g.S.Store c.args.conn.now in
+    let t = c.args.table in
+    let end = c.commit.new.self.0 in
+    let same : end ≡ c.conn-2-1.given.0 = search rules in
+    let sure = subst (λ k. IsSureWrite was (state g.S.Store k) t) (sym same) h in
+    let ok = c.in-Ok.ensures.ok sure.after.clean in
+    let mid = clean_before (state g.S.Store c.change_rows.new.tx.conn.now) (state g.S.Store end) c.commit.ensures.survives.clean (λ up. ok.1.was_open) sure.after in
+    let step = begun_step g.S.Store c.args.conn.now c.transaction-tx.result.conn.now c.change_rows.new.tx.conn.now t c.transaction-tx.ensures.begun mid sure.writable sure.ordered in
+    let now = ok.1.now_is in
+    let schema = rw c.transaction-tx.ensures.begun at ((c.in_ok-change_rows.ensures.sure_steps step).schema) in
+    subst (λ k. (state g.S.Store k).now.schema ≡ was.now.schema) same (ap (λ (d : Database). d.schema) now ∙ schema)
+
+pub returns-in-Ok-clause-sure_others : goal.returns-in-Ok-clause-sure_others
+returns-in-Ok-clause-sure_others g c h =
+    let was = state g.S.Store c.args.conn.now in
+    let t = c.args.table in
+    let end = c.commit.new.self.0 in
+    let same : end ≡ c.conn-2-1.given.0 = search rules in
+    let sure = subst (λ k. IsSureWrite was (state g.S.Store k) t) (sym same) h in
+    let ok = c.in-Ok.ensures.ok sure.after.clean in
+    let mid = clean_before (state g.S.Store c.change_rows.new.tx.conn.now) (state g.S.Store end) c.commit.ensures.survives.clean (λ up. ok.1.was_open) sure.after in
+    let step = begun_step g.S.Store c.args.conn.now c.transaction-tx.result.conn.now c.change_rows.new.tx.conn.now t c.transaction-tx.ensures.begun mid sure.writable sure.ordered in
+    let now = ok.1.now_is in
+    let kept : KeepsTables was.now (state g.S.Store c.change_rows.new.tx.conn.now).now t = rw c.transaction-tx.ensures.begun at ((c.in_ok-change_rows.ensures.sure_steps step).others) in
+    subst (λ k. KeepsTables was.now (state g.S.Store k).now t) same (subst (λ (d : Database). KeepsTables was.now d t) (sym now) kept)
+
+pub returns-in_err-change_rows-clause-sure_same : goal.returns-in_err-change_rows-clause-sure_same
+returns-in_err-change_rows-clause-sure_same g c h =
+    let was = state g.S.Store c.args.conn.now in
+    let t = c.args.table in
+    let end = c.drop-tx.new.self.0 in
+    let same : end ≡ c.conn-1.given.0 = search rules in
+    let sure = subst (λ k. IsSureWrite was (state g.S.Store k) t) (sym same) h in
+    let undone = c.drop-tx.ensures.undone sure.after.clean in
+    let mid = clean_before (state g.S.Store c.change_rows.new.tx.conn.now) (state g.S.Store end) c.drop-tx.ensures.survives.clean undone.was_open sure.after in
+    let step = begun_step g.S.Store c.args.conn.now c.transaction-tx.result.conn.now c.change_rows.new.tx.conn.now t c.transaction-tx.ensures.begun mid sure.writable sure.ordered in
+    let first = rw c.transaction-tx.ensures.begun at (c.in_err-change_rows.ensures.was_clean mid) in
+    let kept = rw c.transaction-tx.ensures.begun at (c.in_err-change_rows.ensures.sure_kept step) in
+    let idle = c.is_autocommit-idle.ensures in
+    let yes : IsTrue c.is_autocommit-idle.result = idle.value ∙ ap not c.requires.idle in
+    let back = (undone.undone sure.after.is_open).0 ∙ kept ∙ sym (idle.settled yes first.is_open) in
+    let p = err_from_is_err_and c.from_residual.result c.from_residual.ensures.1 in
+    rw p.1 (subst (λ k. (state g.S.Store k).now ≡ was.now) same back)
+
+pub returns-in_err-change_rows-clause-sure_refused : goal.returns-in_err-change_rows-clause-sure_refused
+returns-in_err-change_rows-clause-sure_refused g c =
+    let p = err_from_is_err_and c.from_residual.result c.from_residual.ensures.1 in
+    rw (p.1, p.2)
+    (only_more _ _ c.in_err-change_rows.field-0.0
+    (λ cause repeats h.
+    let was = state g.S.Store c.args.conn.now in
+    let t = c.args.table in
+    let end = c.drop-tx.new.self.0 in
+    let same : end ≡ c.conn-1.given.0 = search rules in
+    let sure = subst (λ k. IsSureWrite was (state g.S.Store k) t) (sym same) h in
+    let undone = c.drop-tx.ensures.undone sure.after.clean in
+    let mid = clean_before (state g.S.Store c.change_rows.new.tx.conn.now) (state g.S.Store end) c.drop-tx.ensures.survives.clean undone.was_open sure.after in
+    let step = begun_step g.S.Store c.args.conn.now c.transaction-tx.result.conn.now c.change_rows.new.tx.conn.now t c.transaction-tx.ensures.begun mid sure.writable sure.ordered in
+    rw c.transaction-tx.ensures.begun at (repeats step))
+    c.in_err-change_rows.ensures.sure_refused)
+
+pub returns-in-Err-clause-sure_same : goal.returns-in-Err-clause-sure_same
+returns-in-Err-clause-sure_same g c h =
+    let was = state g.S.Store c.args.conn.now in
+    let t = c.args.table in
+    let end = c.commit.new.self.0 in
+    let same : end ≡ c.conn-2-1.given.0 = search rules in
+    let sure = subst (λ k. IsSureWrite was (state g.S.Store k) t) (sym same) h in
+    let written = state g.S.Store c.change_rows.new.tx.conn.now in
+    let fails = c.in-Err.ensures.err sure.after.clean in
+    let mid = clean_before written (state g.S.Store end) c.commit.ensures.survives.clean (commit_open written (state g.S.Store end) c.in-Err.error fails) sure.after in
+    let step = begun_step g.S.Store c.args.conn.now c.transaction-tx.result.conn.now c.change_rows.new.tx.conn.now t c.transaction-tx.ensures.begun mid sure.writable sure.ordered in
+    let first = rw c.transaction-tx.ensures.begun at (c.in_ok-change_rows.ensures.was_clean mid) in
+    let kept = rw c.transaction-tx.ensures.begun at (c.in_ok-change_rows.ensures.sure_kept step) in
+    let undone = commit_undone written (state g.S.Store end) c.in-Err.error fails (c.in_ok-change_rows.ensures.sure_steps step).inside sure.after.is_open in
+    let idle = c.is_autocommit-idle.ensures in
+    let yes : IsTrue c.is_autocommit-idle.result = idle.value ∙ ap not c.requires.idle in
+    subst (λ k. (state g.S.Store k).now ≡ was.now) same (undone ∙ kept ∙ sym (idle.settled yes first.is_open))

@@ -3,7 +3,8 @@ use Rattle.med_value.specs.Datum.{Tuple, datum}
 use Rattle.fdw_api.specs.Scan.{Spec, spec_of}
 use Rattle.key_ranges.specs.Ranges.{only_keys}
 use Rattle.sqlite.specs.Held.{state}
-use Rattle.sqlite_cells.specs.Layouts.{layout_count}
+use Rattle.sqlite_cells.specs.Layouts.{layout_at, layout_count}
+use Rattle.sqlite_cells.proofs.Clean.{steady_entries}
 use Rattle.sqlite_wrapper.proofs.Bound.{bound_within}
 use Rattle.sqlite_wrapper.proofs.Kept.{within_count}
 use Rattle.sqlite_wrapper.specs.Boxes.{IsBegun, allows, asked_of, bound_of, is_allowed, promised, scan_is}
@@ -96,3 +97,27 @@ invariant_of-self g c =
       fresh = λ k le. same k ∙ s.fresh k le;
       looked = λ h k z e. s.looked h k z (sym (same k) ∙ e);
     }
+
+pub returns-clause-clean_ok : goal.returns-clause-clean_ok
+returns-clause-clean_ok g c steady known =
+    let s = c.args.self.now in
+    let t = c.args.t.number in
+    let scan = c.new_scan-scan.result in
+    let one = subst (λ (z : Spec). IsBegun scan t (promised z c.args.order.items c.args.limit) (map datum c.in_ok-params.params.items)) c.in_ok-spec.ensures c.new_scan-scan.ensures in
+    let begun = subst (λ (p : Tuple). IsBegun scan t (promised (spec_of c.args.spec.now) c.args.order.items c.args.limit) p) c.in_ok-params.ensures one in
+    sqlite_begins true s.bound.items s.staged (state g.S.Store s.conn).now scan t (promised (spec_of c.args.spec.now) c.args.order.items c.args.limit) (map datum c.args.params.now) begun c.requires.allowed
+    s.scans c.insert.new.self s.next s.pulled s.faults (bound_of t) (λ yes. steady_entries g.S.Store s.conn (layout_at t) steady (c.schema-schema.ensures.live steady.is_open).0 (known t))
+    (within_count t s.bound.items s.counted (bound_within s.bound.items t c.requires.bound))
+    (marked_bound_is (slice_index_or s.bound.items t false) t c.requires.bound) (s.fresh s.next (omega arith)) (omega arith) (sets s.scans c.insert.new.self s.next (Some scan) c.in_ok-insert.ensures.updates)
+
+pub returns-in_err-params-clause-clean_err : goal.returns-in_err-params-clause-clean_err
+returns-in_err-params-clause-clean_err g c =
+    let s = c.args.self.now in
+    refused_by c.from_residual-in_err-params.result _ c.from_residual-in_err-params.ensures.1
+    (sqlite_refuses true s.bound.items s.staged (state g.S.Store s.conn).now s.scans s.scans s.next s.pulled s.faults refl)
+
+pub returns-in_err-insert-clause-clean_err : goal.returns-in_err-insert-clause-clean_err
+returns-in_err-insert-clause-clean_err g c =
+    let s = c.args.self.now in
+    refused_by c.from_residual-in_err-insert.result _ c.from_residual-in_err-insert.ensures.1
+    (sqlite_refuses true s.bound.items s.staged (state g.S.Store s.conn).now s.scans c.insert.new.self s.next s.pulled s.faults c.in_err-insert.ensures.err)

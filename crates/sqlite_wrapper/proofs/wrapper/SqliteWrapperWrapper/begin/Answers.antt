@@ -24,3 +24,6 @@ start-requires-clause-typed g c =
     let t = c.args.t.number in
     subst (λ (k : List ColType). params_fit k (spec_of c.args.spec.now).offered (map datum c.args.params.now) ≡ true)
     (bound_kinds (slice_index_or s.bound.items t false) t c.requires.bound c.requires.is) c.requires.typed
+
+pub returns-clause-clean_ok : goal.returns-clause-clean_ok
+returns-clause-clean_ok g c steady known = rw c.new.ensures.items at (c.start.ensures.clean_ok steady known)

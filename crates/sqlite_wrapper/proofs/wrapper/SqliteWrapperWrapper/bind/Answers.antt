@@ -1,10 +1,12 @@
-use Rattle.std.proofs.Common.{◌∙◌, sym, ap, subst, length, rules}
+use Rattle.std.proofs.Common.{◌∙◌, true, sym, ap, subst, length, rules}
 use Rattle.std.proofs.Common.{option_map}
 use Rattle.sqlite.specs.Held.{state}
 use Rattle.staged_changes.specs.Staged.{write_is}
 use Rattle.sqlite.specs.Effect.{Database}
 use Rattle.sqlite_cells.specs.Layouts.{layout_at}
 use Rattle.sqlite_cells.specs.Tables.{rows_of}
+use Rattle.sqlite_cells.proofs.Clean.{clean_sure}
+use Rattle.sqlite_cells.proofs.Refused.{both_only}
 use Rattle.sqlite_wrapper.specs.Boxes.{rows_at}
 use Rattle.sqlite_wrapper.specs.Counts.{AreCounts, AreFew}
 use Rattle.sqlite_wrapper.proofs.Counted.{put_counts, put_few}
@@ -94,3 +96,33 @@ returns-clause-ok g c =
     let lt = place_within s.bound.items c.args.remote.now c.in-Some.number s.counted place in
     sqlite_binds g.S.SourceStore.honest db after s.bound.items s.scans s.staged s.next s.pulled s.faults _ _ _ c.open_table.ensures.same c.in-Some.number lt (within_count c.in-Some.number s.bound.items s.counted lt) c.requires place
     c.in-Ok.ensures.types c.in-Ok.ensures.ok c.open_table.ensures.once
+
+pub returns-in_default-clause-clean_err : goal.returns-in_default-clause-clean_err
+returns-in_default-clause-clean_err g c steady known =
+    let s = c.args.self.now in
+    sqlite_lacks true (state g.S.Store s.conn).now s.bound.items s.scans s.staged s.next s.pulled s.faults _ _ _ (sym c.place_of.ensures ∙ c.in_default.is)
+
+pub returns-in-Err-clause-clean_err : goal.returns-in-Err-clause-clean_err
+returns-in-Err-clause-clean_err g c steady known =
+    let s = c.args.self.now in
+    let db = (state g.S.Store s.conn).now in
+    let after = (state g.S.Store c.open_table.new.conn).now in
+    let reads = c.open_table.ensures.reads in
+    let sure = clean_sure g.S.Store s.conn c.open_table.new.conn (layout_at c.in-Some.number) steady c.schema-schema.ensures.live reads (known c.in-Some.number) in
+    rw c.faults_after-self.ensures
+    (sqlite_refuses true db after s.bound.items s.scans s.staged s.next s.pulled s.faults _ _ _ (λ yes. reads.same sure.after sure.known) c.in-Some.number c.in-Err.fault
+    (sym c.place_of.ensures ∙ c.in-Some.is)
+    (both_only _ _ _ c.in-Err.fault (λ cause late least. (late.0, λ yes. least sure)) c.in-Err.ensures.refused c.in-Err.ensures.sure_refused))
+
+pub returns-clause-clean_ok : goal.returns-clause-clean_ok
+returns-clause-clean_ok g c steady known =
+    let s = c.args.self.now in
+    let db = (state g.S.Store s.conn).now in
+    let after = (state g.S.Store c.open_table.new.conn).now in
+    let place = sym c.place_of.ensures ∙ c.in-Some.is in
+    let lt = place_within s.bound.items c.args.remote.now c.in-Some.number s.counted place in
+    let reads = c.open_table.ensures.reads in
+    let sure = clean_sure g.S.Store s.conn c.open_table.new.conn (layout_at c.in-Some.number) steady c.schema-schema.ensures.live reads (known c.in-Some.number) in
+    sqlite_binds true db after s.bound.items s.scans s.staged s.next s.pulled s.faults _ _ _ (λ yes. reads.same sure.after sure.known) c.in-Some.number lt
+    (within_count c.in-Some.number s.bound.items s.counted lt) (record { free = c.requires.free; no_objection = c.requires.no_objection }) place
+    c.in-Ok.ensures.types (λ yes. c.in-Ok.ensures.sure_ok sure) (λ yes. c.open_table.ensures.sure_once sure)

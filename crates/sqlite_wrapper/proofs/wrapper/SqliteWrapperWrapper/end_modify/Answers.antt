@@ -1,20 +1,24 @@
-use Rattle.std.proofs.Common.{◌≡◌, ◌∙◌, Bool, true, Option, None, Some, IsTrue, option_map, refl, sym, ap, subst}
+use Rattle.std.proofs.Common.{◌≡◌, ◌∙◌, Bool, true, Option, None, Some, IsTrue, option_map, map, refl, sym, ap, subst}
 use Rattle.sqlite.specs.Held.{state}
 use Rattle.sqlite.specs.Schema.{Schema}
 use Rattle.fdw_api.specs.Calls.{faults_after}
 use Rattle.fdw_api.specs.Writes.{CanClose, Closes, RefusesClose}
-use Rattle.staged_changes.specs.Staged.{write_is}
+use Rattle.std.proofs.Math.Logic.{∥∥₁_map}
+use Rattle.staged_changes.specs.Staged.{change_is, write_is}
+use Rattle.sqlite_cells.proofs.Refused.{both_only}
+use Rattle.sqlite_writes.proofs.Changed.{entries_ordered}
 use Rattle.staged_changes.specs.declared.changes.StagedWrite.{StagedWrite}
 use Rattle.sqlite_changes.proofs.Named.{none_named}
-use Rattle.sqlite_writes.specs.Writable.{AreApart, IsWritable}
+use Rattle.sqlite_writes.specs.Writable.{AreApart, IsSureWrite, IsWritable}
 use Rattle.sqlite_wrapper.specs.Changes.{NamesOnce, names_rows, write_fits}
 use Rattle.sqlite_wrapper.specs.Boxes.{sqlite_state}
+use Rattle.sqlite_wrapper.specs.Clean.{IsSureChange}
 use Rattle.sqlite_wrapper.specs.Counts.{AreCounts, AreFew, held_for}
 use Rattle.sqlite_wrapper.proofs.Looking.{looks_after}
 use Rattle.sqlite_wrapper.proofs.Closing.{same_rows, looks_closed, sqlite_closes, sqlite_keeps, within}
 use Rattle.sqlite_wrapper.proofs.Counted.{forget_counts, forget_few, held_few, held_is, put_counts, put_few}
 use Rattle.sqlite_wrapper.proofs.Kept.{counts_after}
-use Rattle.sqlite_wrapper.proofs.Giving.{known_at}
+use Rattle.sqlite_wrapper.proofs.Giving.{known_at, known_by}
 use Rattle.sqlite_wrapper.proofs.wrapper.SqliteWrapperWrapper.end_modify.Goals as goal
 
 pub invariant_of-self : goal.invariant_of-self
@@ -135,3 +139,73 @@ returns-in-Err-clause-err g c =
     rw c.faults_after-self.ensures
     (subst (λ (o : Option StagedWrite). RefusesClose old c.args.keep fault (sqlite_state honest after s.bound.items s.scans o s.next s.pulled (faults_after fault s.faults))) (sym c.take.ensures.after)
     (subst (λ (k : Bool). RefusesClose old k fault (sqlite_state honest after s.bound.items s.scans None s.next s.pulled (faults_after fault s.faults))) (sym keep) keeps))
+
+pub returns-in-Ok-clause-clean_ok : goal.returns-in-Ok-clause-clean_ok
+returns-in-Ok-clause-clean_ok g c before steady may =
+    let s = c.args.self.now in
+    let honest = g.S.SourceStore.honest in
+    let db = (state g.S.Store s.conn).now in
+    let after = (state g.S.Store c.write_rows.new.conn).now in
+    let write = c.in-Some.write in
+    let keep : c.args.keep ≡ true = c.if-not-keep.false in
+    let old = sqlite_state true db s.bound.items s.scans s.staged s.next s.pulled s.faults in
+    let may_close = subst (λ (k : Bool). CanClose (sqlite_state honest db s.bound.items s.scans s.staged s.next s.pulled s.faults) k) keep c.requires in
+    let can : CanClose old true = record {
+      staging = may_close.staging;
+      is_staged = may_close.is_staged;
+      is_bound = may_close.is_bound;
+      whole = may_close.whole;
+      no_scan = may_close.no_scan;
+    } in
+    let is : s.staged ≡ Some write = sym c.take.ensures.value ∙ c.in-Some.is in
+    let sure : IsSureWrite (state g.S.Store s.conn) (state g.S.Store c.write_rows.new.conn) write.table = record {
+      after = record { clean = steady.clean; is_open = steady.is_open };
+      writable = may.texts write.table;
+      ordered = entries_ordered g.S.Store s.conn write.table before c.schema-schema.ensures.live (may.texts write.table);
+    } in
+    let change : IsSureChange (state g.S.Store s.conn) (state g.S.Store c.write_rows.new.conn) write.table c.count_of-held.result (map change_is write.changes.items) = record {
+      sure = sure;
+      there = subst (λ (o : Option StagedWrite). names_rows db (option_map write_is o) ≡ true) is may.there;
+      count = held_is db s.row_counts.items write.table c.count_of-held.result may.counts_are (within true db db s.bound.items s.scans s.staged s.next s.pulled s.faults write s.counted is can)
+          (c.count_of-held.ensures ∙ ap (λ cs. held_for cs write.table) c.deref.ensures.value);
+    } in
+    let closes = sqlite_closes true db after s.bound.items s.scans s.staged s.next s.pulled s.faults write s.counted is can (λ yes. c.in-Ok.ensures.sure_made change) (λ yes. may.apart)
+    (λ u yes. ∥∥₁_map (may.texts u) (known_by db.schema u)) s.allowed in
+    subst (λ (o : Option StagedWrite). Closes old c.args.keep (sqlite_state true after s.bound.items s.scans o s.next s.pulled s.faults)) (sym c.take.ensures.after)
+    (subst (λ (k : Bool). Closes old k (sqlite_state true after s.bound.items s.scans None s.next s.pulled s.faults)) (sym keep) closes)
+
+pub returns-in-Err-clause-clean_err : goal.returns-in-Err-clause-clean_err
+returns-in-Err-clause-clean_err g c before steady may =
+    let s = c.args.self.now in
+    let honest = g.S.SourceStore.honest in
+    let db = (state g.S.Store s.conn).now in
+    let after = (state g.S.Store c.write_rows.new.conn).now in
+    let write = c.in-Some.write in
+    let keep : c.args.keep ≡ true = c.if-not-keep.false in
+    let old = sqlite_state true db s.bound.items s.scans s.staged s.next s.pulled s.faults in
+    let may_close = subst (λ (k : Bool). CanClose (sqlite_state honest db s.bound.items s.scans s.staged s.next s.pulled s.faults) k) keep c.requires in
+    let can : CanClose old true = record {
+      staging = may_close.staging;
+      is_staged = may_close.is_staged;
+      is_bound = may_close.is_bound;
+      whole = may_close.whole;
+      no_scan = may_close.no_scan;
+    } in
+    let is : s.staged ≡ Some write = sym c.take.ensures.value ∙ c.in-Some.is in
+    let sure : IsSureWrite (state g.S.Store s.conn) (state g.S.Store c.write_rows.new.conn) write.table = record {
+      after = record { clean = steady.clean; is_open = steady.is_open };
+      writable = may.texts write.table;
+      ordered = entries_ordered g.S.Store s.conn write.table before c.schema-schema.ensures.live (may.texts write.table);
+    } in
+    let change : IsSureChange (state g.S.Store s.conn) (state g.S.Store c.write_rows.new.conn) write.table c.count_of-held.result (map change_is write.changes.items) = record {
+      sure = sure;
+      there = subst (λ (o : Option StagedWrite). names_rows db (option_map write_is o) ≡ true) is may.there;
+      count = held_is db s.row_counts.items write.table c.count_of-held.result may.counts_are (within true db db s.bound.items s.scans s.staged s.next s.pulled s.faults write s.counted is can)
+          (c.count_of-held.ensures ∙ ap (λ cs. held_for cs write.table) c.deref.ensures.value);
+    } in
+    let fault = c.in-Err.fault in
+    let keeps = sqlite_keeps true db after s.bound.items s.scans s.staged s.next s.pulled s.faults write s.counted is can fault (λ yes. c.in-Err.ensures.sure_same sure)
+    (both_only _ _ _ fault (λ cause by stands. (by.0, λ yes. stands change)) c.in-Err.ensures.refused c.in-Err.ensures.sure_refused) in
+    rw c.faults_after-self.ensures
+    (subst (λ (o : Option StagedWrite). RefusesClose old c.args.keep fault (sqlite_state true after s.bound.items s.scans o s.next s.pulled (faults_after fault s.faults))) (sym c.take.ensures.after)
+    (subst (λ (k : Bool). RefusesClose old k fault (sqlite_state true after s.bound.items s.scans None s.next s.pulled (faults_after fault s.faults))) (sym keep) keeps))

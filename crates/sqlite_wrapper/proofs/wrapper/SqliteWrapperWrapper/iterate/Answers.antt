@@ -5,6 +5,8 @@ use Rattle.sqlite.specs.Held.{state}
 use Rattle.staged_changes.specs.Staged.{write_is}
 use Rattle.sqlite_wrapper.proofs.Kept.{writable_after, apart_after, there_after, counts_after}
 use Rattle.fdw_api.specs.State.{Scan}
+use Rattle.sqlite_cells.specs.Layouts.{layout_at}
+use Rattle.sqlite_cells.proofs.Clean.{clean_sure}
 use Rattle.sqlite_wrapper.specs.Pages.{IsNext, passed}
 use Rattle.sqlite_wrapper.proofs.Maps.{sets, sets_on}
 use Rattle.sqlite_wrapper.proofs.LiveScans.{at_some, if_some, open_there, keeps_fresh, keeps_allowed}
@@ -236,4 +238,72 @@ returns-in-Ok-Some-clause-ok g c =
     let e = to_z-of_z w64 c.in-Ok-Some.next.key fits in
     let v = sets c.read_page.new.scans c.pass_row.new.scans number (Some (passed t.0 c.in-Ok-Some.next.key)) (rw e at (if_some _ _ t.0 t.1.0 c.pass_row.ensures)) in
     let r = gives_row honest s.bound.items s.staged db s.scans s.next number w.0 w.1 after c.read_page.new.scans t.0 c.read_page.ensures.same t.1 t.2 c.pass_row.new.scans s.pulled s.faults c.in-Ok-Some.next (subst (IsNext t.0) c.in-Ok-Some.field-0-is (if_some _ _ t.0 t.1.0 c.in-Ok-Some.ensures.ok)) v in
+    rw c.saturating_add-self.ensures r
+
+pub returns-in-Err-clause-clean_err : goal.returns-in-Err-clause-clean_err
+returns-in-Err-clause-clean_err g c steady known =
+    let s = c.args.self.now in
+    let number = c.args.ticket.now.number in
+    let honest = g.S.SourceStore.honest in
+    let db = (state g.S.Store s.conn).now in
+    let is = open_there honest s.bound.items s.staged db s.scans s.next s.pulled s.faults number _ c.requires.1 in
+    let w = at_some _ is in
+    let after = (state g.S.Store c.read_page.new.conn).now in
+    let reads = if_some _ _ w.0 w.1 c.read_page.ensures.reads in
+    let sure = clean_sure g.S.Store s.conn c.read_page.new.conn (layout_at w.0.table) steady c.schema-schema.ensures.live reads (known w.0.table) in
+    let fixed = reads.same sure.after sure.known in
+    let u = sets_copy s.scans c.read_page.new.scans c.spoil.new.scans number (Some (record w.0 { broken = true })) c.in-Err.ensures.same_scans
+    (sets c.read_page.new.scans c.spoil.new.scans number (Some (record w.0 { broken = true })) (if_some _ _ w.0 (same_get s.scans c.read_page.new.scans c.in-Err.ensures.same_scans number ∙ w.1) c.spoil.ensures)) in
+    rw c.faults_after-self.ensures
+    (breaks_by true s.bound.items s.staged db s.scans s.next number w.0 w.1 after c.spoil.new.scans s.pulled s.faults c.in-Err.fault (record w.0 { broken = true }) c.in-Err.ensures.refused refl (λ yes. fixed) u)
+
+pub returns-in-Err-next_of-clause-clean_err : goal.returns-in-Err-next_of-clause-clean_err
+returns-in-Err-next_of-clause-clean_err g c steady known =
+    let s = c.args.self.now in
+    let number = c.args.ticket.now.number in
+    let honest = g.S.SourceStore.honest in
+    let db = (state g.S.Store s.conn).now in
+    let is = open_there honest s.bound.items s.staged db s.scans s.next s.pulled s.faults number _ c.requires.1 in
+    let w = at_some _ is in
+    let after = (state g.S.Store c.read_page.new.conn).now in
+    let reads = if_some _ _ w.0 w.1 c.read_page.ensures.reads in
+    let sure = clean_sure g.S.Store s.conn c.read_page.new.conn (layout_at w.0.table) steady c.schema-schema.ensures.live reads (known w.0.table) in
+    let fixed = reads.same sure.after sure.known in
+    let t = if_some _ _ w.0 w.1 c.in_default.ensures.sure_turned sure in
+    let v = sets c.read_page.new.scans c.spoil-in-Err-next_of.new.scans number (Some (record t.0 { broken = true })) (if_some _ _ t.0 t.1.0 c.spoil-in-Err-next_of.ensures) in
+    rw c.faults_after-self-in-Err-next_of.ensures
+    (breaks_late true s.bound.items s.staged db s.scans s.next number w.0 w.1 after c.read_page.new.scans t.0 (λ yes. fixed) t.1 t.2 c.spoil-in-Err-next_of.new.scans s.pulled s.faults c.in-Err-next_of.fault c.in-Err-next_of.ensures.err v)
+
+pub returns-in-Ok-None-clause-clean_ok : goal.returns-in-Ok-None-clause-clean_ok
+returns-in-Ok-None-clause-clean_ok g c steady known =
+    let s = c.args.self.now in
+    let number = c.args.ticket.now.number in
+    let honest = g.S.SourceStore.honest in
+    let db = (state g.S.Store s.conn).now in
+    let is = open_there honest s.bound.items s.staged db s.scans s.next s.pulled s.faults number _ c.requires.1 in
+    let w = at_some _ is in
+    let after = (state g.S.Store c.read_page.new.conn).now in
+    let reads = if_some _ _ w.0 w.1 c.read_page.ensures.reads in
+    let sure = clean_sure g.S.Store s.conn c.read_page.new.conn (layout_at w.0.table) steady c.schema-schema.ensures.live reads (known w.0.table) in
+    let fixed = reads.same sure.after sure.known in
+    let t = if_some _ _ w.0 w.1 c.in_default.ensures.sure_turned sure in
+    gives_none true s.bound.items s.staged db s.scans s.next number w.0 w.1 after c.read_page.new.scans t.0 (λ yes. fixed) t.1 t.2 s.pulled s.faults (subst (IsNext t.0) c.in-Ok-None.field-0-is (if_some _ _ t.0 t.1.0 c.in-Ok-None.ensures.ok))
+
+pub returns-in-Ok-Some-clause-clean_ok : goal.returns-in-Ok-Some-clause-clean_ok
+returns-in-Ok-Some-clause-clean_ok g c steady known =
+    let s = c.args.self.now in
+    let number = c.args.ticket.now.number in
+    let honest = g.S.SourceStore.honest in
+    let db = (state g.S.Store s.conn).now in
+    let is = open_there honest s.bound.items s.staged db s.scans s.next s.pulled s.faults number _ c.requires.1 in
+    let w = at_some _ is in
+    let after = (state g.S.Store c.read_page.new.conn).now in
+    let reads = if_some _ _ w.0 w.1 c.read_page.ensures.reads in
+    let sure = clean_sure g.S.Store s.conn c.read_page.new.conn (layout_at w.0.table) steady c.schema-schema.ensures.live reads (known w.0.table) in
+    let fixed = reads.same sure.after sure.known in
+    let t = if_some _ _ w.0 w.1 c.in_default.ensures.sure_turned sure in
+    let fits : FitsSigned w64 c.in-Ok-Some.next.key = search rules in
+    let e = to_z-of_z w64 c.in-Ok-Some.next.key fits in
+    let v = sets c.read_page.new.scans c.pass_row.new.scans number (Some (passed t.0 c.in-Ok-Some.next.key)) (rw e at (if_some _ _ t.0 t.1.0 c.pass_row.ensures)) in
+    let r = gives_row true s.bound.items s.staged db s.scans s.next number w.0 w.1 after c.read_page.new.scans t.0 (λ yes. fixed) t.1 t.2 c.pass_row.new.scans s.pulled s.faults c.in-Ok-Some.next (subst (IsNext t.0) c.in-Ok-Some.field-0-is (if_some _ _ t.0 t.1.0 c.in-Ok-Some.ensures.ok)) v in
     rw c.saturating_add-self.ensures r

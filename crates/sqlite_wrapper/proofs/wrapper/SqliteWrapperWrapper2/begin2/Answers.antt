@@ -41,3 +41,15 @@ returns-clause-ok g c =
     (sqlite_state honest (state g.S.Store n.conn).now n.bound.items n.scans n.staged n.next n.pulled n.faults))
     (promised_is spec c.in_ok-order.order.items c.promised_limit-limit.result c.in_ok-order.ensures c.promised_limit-limit.ensures) b)
     c.start.ensures.ok
+
+pub returns-clause-clean_ok : goal.returns-clause-clean_ok
+returns-clause-clean_ok g c steady known =
+    let s = c.args.self.now in
+    let n = c.start.new.self in
+    let spec = c.args.spec.now in
+    if_ok _ _ c.start.result
+    (λ ticket b. subst
+    (λ (z : Spec). Begins (sqlite_state true (state g.S.Store s.conn).now s.bound.items s.scans s.staged s.next s.pulled s.faults) c.args.t.number z (map datum c.args.params.now) ticket.number
+    (sqlite_state true (state g.S.Store n.conn).now n.bound.items n.scans n.staged n.next n.pulled n.faults))
+    (promised_is spec c.in_ok-order.order.items c.promised_limit-limit.result c.in_ok-order.ensures c.promised_limit-limit.ensures) b)
+    (c.start.ensures.clean_ok steady known)
