@@ -12,8 +12,8 @@ use Rattle.fdw_api.specs.Scan.{Spec, RestrictionForm, TestForm, Compares, Missin
 use Rattle.fdw_api.specs.declared.scan.Agree.{Agree}
 use Rattle.fdw_api.specs.declared.scan.Agree.TheVariants.{Exact}
 use Rattle.med_value.specs.declared.cause.Cause.{Cause}
-use Rattle.med_value.specs.declared.cause.Cause.TheVariants.{InvalidFormat, InvalidText, NotInState, TooLarge}
-use Rattle.fdw_api.specs.Kinds.{Column, OptionForm, Entry, Bytes, Held, held, Change, is_late, is_of_run}
+use Rattle.med_value.specs.declared.cause.Cause.TheVariants.{InvalidFormat, InvalidText, TooLarge}
+use Rattle.fdw_api.specs.Kinds.{Column, OptionForm, Bytes, Held, held, Change, is_late, is_of_run}
 use Rattle.fdw_api.specs.Calls.{IsLeast}
 use Rattle.fdw_api.specs.Writes.{rows_after}
 use Rattle.fdw_api.specs.declared.interface.Fault.{Fault}
@@ -31,7 +31,7 @@ use Rattle.csv_tables.specs.Rewriting.{Rewrites as Remade, rows_in}
 use Rattle.csv_tables.specs.Tables.{cells_at, fields_at}
 use Rattle.csv_tables.specs.Scans.{comes}
 use Rattle.csv_tables.proofs.Applying.{origins}
-use Rattle.csv_tables.proofs.Placing.{row_at, row_there, rows_count}
+use Rattle.csv_tables.proofs.Placing.{row_there, rows_count}
 use Rattle.csv_tables.proofs.Headers.{heading_is_header}
 use Rattle.place_wrapper.proofs.Options.{some_inj}
 use Rattle.place_wrapper.proofs.Rows.{here}

@@ -1,10 +1,10 @@
 -- A CSV table as a table of rows at places.
-use Rattle.std.specs.Prelude.{◌≡◌, ◌+◌, ◌&&◌, ℕ, Bool, true, false, List, [], ◌∷◌, map, Option, Some, All}
+use Rattle.std.specs.Prelude.{◌≡◌, ◌+◌, ◌&&◌, ℕ, Bool, true, false, List, [], ◌∷◌, map, Option}
 use Rattle.std.specs.List.{list_all}
 use Rattle.std.proofs.Common.{true≢false}
 use Rattle.std.specs.String.{string_bytes}
 use mathlib.Core.Path.{refl, ap, sym, ◌∙◌}
-use Rattle.med_value.specs.Datum.{Tuple, cell}
+use Rattle.med_value.specs.Datum.{Tuple}
 use Rattle.med_value.specs.declared.cause.Cause.TheVariants.{TableNotFound}
 use Rattle.fdw_api.specs.Scan.{TableRow, Spec, row_fits, meets_all, meets_exact}
 use Rattle.fdw_api.specs.Kinds.{Entry}
@@ -17,7 +17,6 @@ use Rattle.csv_tables.specs.Rewriting.{rows_in}
 use Rattle.csv_tables.specs.Scans.{comes, answer_by}
 use Rattle.csv_tables.proofs.ScanLaws.{taken_meets, rows_sound}
 use Rattle.csv_tables.proofs.Headers.{header_once, header_of_entry}
-use Rattle.place_index.specs.Places.{equals}
 use Rattle.place_index.specs.Scans.{SoughtForm, sought, has_sought}
 use Rattle.place_index.proofs.Taking.{takes_sound}
 use Rattle.place_wrapper.specs.Forms.{Form, IsNumbered}
