@@ -9,7 +9,7 @@ ghost use Rattle.fdw_api.specs.Calls.{not_refused};
 ghost use Rattle.sqlite_shapes.specs.Shapes.{range_of};
 ghost use Rattle.sqlite_cells.specs.Layouts.{layout_at};
 ghost use Rattle.sqlite_cells.specs.Cells.{row_in};
-ghost use Rattle.sqlite_cells.specs.Tables.{IsKnown, entries_in};
+ghost use Rattle.sqlite_cells.specs.Tables.{IsKnown, IsSure, ReadsOnly, entries_in};
 ghost use Rattle.sqlite_lookups.specs.Lookups.{IsLookup, rows_with};
 
 use crate::reading::Lookup;
@@ -28,6 +28,10 @@ fn row_of_key<S: SourceStore>(conn: &mut Connection<S>, table: u64, key: i64) ->
         × (take 64 (range_of key key (entries_in (state S.Store conn.old).now table)) ≡ before ++ row ∷ [])) }
     ensures refused { IfErr result not_refused }
     ensures same { S.honest ≡ true → (state S.Store conn.new).now ≡ (state S.Store conn.old).now }
+    ensures sure_last { IsSure (state S.Store conn.old) (state S.Store conn.new) (layout_at table)
+        → IfOk result (λ row. (before : List SqlRow)
+        × (take 64 (range_of key key (entries_in (state S.Store conn.old).now table)) ≡ before ++ row ∷ [])) }
+    ensures reads { ReadsOnly (state S.Store conn.old) (state S.Store conn.new) (layout_at table) }
     ensures idle { conn.new.in_transaction ≡ false }
 {
     let mut page = match page_between(conn, table, key, key) {
@@ -54,7 +58,8 @@ fn is_rare(lookup: &Lookup, value: &Value) -> bool {
 
 /// The rows of a table whose cell of the lookup's column is equal to a value, in the order of their keys; None where they are more than 64.
 ///
-/// Each is read by its key. That one is not there is told as a failure of the source. Nothing changes, also where it fails.
+/// Each is read by its key. That one is not there is told as a failure of the source. Nothing changes, also where it fails. It is so over a
+/// store that always returns what was written, and of each call by itself that is sure (`IsSure`), by a lookup of the table's rows.
 pub fn rows_with<S: SourceStore>(
     alloc: Global,
     conn: &mut Connection<S>,
@@ -71,6 +76,11 @@ pub fn rows_with<S: SourceStore>(
     ensures few { IfOk result (λ found. IfSome found (λ rows. length rows.items ≤ 64)) }
     ensures refused { IfErr result not_refused }
     ensures same { S.honest ≡ true → (state S.Store conn.new).now ≡ (state S.Store conn.old).now }
+    ensures sure_rows { IsSure (state S.Store conn.old) (state S.Store conn.new) (layout_at table)
+        → IsLookup (layout_at table) (entries_in (state S.Store conn.old).now table) lookup.now
+        → IfOk result (λ found. IfSome found (λ rows. map (row_in (layout_at table)) rows.items
+        ≡ rows_with (layout_at table) lookup.now.column (datum value.now) (entries_in (state S.Store conn.old).now table))) }
+    ensures reads { ReadsOnly (state S.Store conn.old) (state S.Store conn.new) (layout_at table) }
     ensures idle { conn.new.in_transaction ≡ false }
 {
     if !is_rare(lookup, value) {

@@ -7,7 +7,7 @@ ghost use Rattle.fdw_api.specs.Calls.{not_refused};
 ghost use Rattle.place_index.specs.Indexes.{IsIndexFrom};
 ghost use Rattle.sqlite_cells.specs.Layouts.{layout_at};
 ghost use Rattle.sqlite_cells.specs.Cells.{key_in};
-ghost use Rattle.sqlite_cells.specs.Tables.{IsKnown, entries_in};
+ghost use Rattle.sqlite_cells.specs.Tables.{IsKnown, IsSure, ReadsOnly, entries_in};
 ghost use Rattle.sqlite_surveys.specs.Surveys.{last_key};
 ghost use Rattle.sqlite_lookups.specs.Lookups.{Adds, Parts, IsRead, IsLookup};
 
@@ -127,6 +127,11 @@ fn read_page<S: SourceStore>(
         × Parts (entries_in (state S.Store conn.old).now table) (Some low) page next × Adds (layout_at table) column page read.old read.new) }
     ensures refused { IfErr result not_refused }
     ensures same { S.honest ≡ true → (state S.Store conn.new).now ≡ (state S.Store conn.old).now }
+    ensures sure_adds { IsSure (state S.Store conn.old) (state S.Store conn.new) (layout_at table)
+        → IfOk result (λ next. (page : List SqlRow)
+        × Parts (entries_in (state S.Store conn.old).now table) (Some low) page next
+        × Adds (layout_at table) column page read.old read.new) }
+    ensures reads { ReadsOnly (state S.Store conn.old) (state S.Store conn.new) (layout_at table) }
     ensures idle { conn.new.in_transaction ≡ false }
 {
     let page = match page_between(conn, table, low, i64::MAX) {
@@ -153,6 +158,9 @@ fn read_column<S: SourceStore>(
         → IfOk result (IsRead (layout_at table) column (entries_in (state S.Store conn.old).now table) None) }
     ensures refused { IfErr result not_refused }
     ensures same { S.honest ≡ true → (state S.Store conn.new).now ≡ (state S.Store conn.old).now }
+    ensures sure_read { IsSure (state S.Store conn.old) (state S.Store conn.new) (layout_at table)
+        → IfOk result (IsRead (layout_at table) column (entries_in (state S.Store conn.old).now table) None) }
+    ensures reads { ReadsOnly (state S.Store conn.old) (state S.Store conn.new) (layout_at table) }
     ensures idle { conn.new.in_transaction ≡ false }
 {
     let mut read = ColumnRead {
@@ -190,7 +198,8 @@ fn index_of(alloc: Global, values: Vec<Value>) -> Result<PlaceIndex, NoMemory>
 /// Reads the keys of a table and the values of one of its columns, so that its rows can be found by that value.
 ///
 /// A table of more than 1,000,000 rows, or with a cell that is not of its column's type, is told as a failure of the source. Nothing
-/// changes, also where it fails.
+/// changes, also where it fails. It is so over a store that always returns what was written, and of each call by itself that is sure
+/// (`IsSure`).
 pub fn read_lookup<S: SourceStore>(
     alloc: Global,
     conn: &mut Connection<S>,
@@ -203,6 +212,9 @@ pub fn read_lookup<S: SourceStore>(
     ensures column { IfOk result (λ x. x.column ≡ column) }
     ensures refused { IfErr result not_refused }
     ensures same { S.honest ≡ true → (state S.Store conn.new).now ≡ (state S.Store conn.old).now }
+    ensures sure_is { IsSure (state S.Store conn.old) (state S.Store conn.new) (layout_at table)
+        → IfOk result (IsLookup (layout_at table) (entries_in (state S.Store conn.old).now table)) }
+    ensures reads { ReadsOnly (state S.Store conn.old) (state S.Store conn.new) (layout_at table) }
     ensures idle { conn.new.in_transaction ≡ false }
 {
     let ColumnRead { keys, values } = match read_column(alloc, conn, table, column) {

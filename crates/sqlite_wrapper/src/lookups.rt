@@ -8,7 +8,7 @@ ghost use Rattle.sqlite_trees.specs.declared.store.Shape.TheVariants as shape;
 ghost use Rattle.fdw_api.specs.Calls.{not_refused};
 ghost use Rattle.place_index.specs.Scans.{form_of};
 ghost use Rattle.sqlite_cells.specs.Layouts.{layout_at};
-ghost use Rattle.sqlite_cells.specs.Tables.{IsKnown, entries_in};
+ghost use Rattle.sqlite_cells.specs.Tables.{IsKnown, IsSure, ReadsOnly, entries_in};
 ghost use Rattle.sqlite_lookups.specs.Lookups.{IsLookup};
 ghost use Rattle.sqlite_wrapper.specs.Boxes.{scan_is};
 ghost use Rattle.sqlite_wrapper.specs.Looks.{IsFree, LooksFor, IsAnswered};
@@ -73,6 +73,10 @@ fn lookup_of<S: SourceStore>(
     ensures column { IfOk result (λ x. x.column ≡ column) }
     ensures refused { IfErr result not_refused }
     ensures same { S.honest ≡ true → (state S.Store conn.new).now ≡ (state S.Store conn.old).now }
+    ensures sure_is { IsSure (state S.Store conn.old) (state S.Store conn.new) (layout_at table)
+        → IfSome had (IsLookup (layout_at table) (entries_in (state S.Store conn.old).now table))
+        → IfOk result (IsLookup (layout_at table) (entries_in (state S.Store conn.old).now table)) }
+    ensures reads { ReadsOnly (state S.Store conn.old) (state S.Store conn.new) (layout_at table) }
     ensures idle { conn.new.in_transaction ≡ false }
 {
     if let Some(lookup) = had
@@ -117,6 +121,10 @@ pub(crate) fn look_up<S: SourceStore>(
     ensures answered { IfOk result (IsAnswered S.honest (entries_in (state S.Store conn.old).now scan.table) scan) }
     ensures refused { IfErr result not_refused }
     ensures same { S.honest ≡ true → (state S.Store conn.new).now ≡ (state S.Store conn.old).now }
+    ensures sure_answered { IsSure (state S.Store conn.old) (state S.Store conn.new) (layout_at scan.table)
+        → IfSome had (IsLookup (layout_at scan.table) (entries_in (state S.Store conn.old).now scan.table))
+        → IfOk result (IsAnswered true (entries_in (state S.Store conn.old).now scan.table) scan) }
+    ensures reads { ReadsOnly (state S.Store conn.old) (state S.Store conn.new) (layout_at scan.table) }
     ensures idle { conn.new.in_transaction ≡ false }
 {
     let Some(found) = looks_for(&scan) else {

@@ -156,6 +156,7 @@ impl<S: SourceStore + Drop> Wrapper for SqliteWrapper<S> {
     ghost use Rattle.fdw_api.specs.Scan.{spec_by};
     ghost use Rattle.fdw_api.specs.State.{BoxState, table_of};
     ghost use Rattle.fdw_api.specs.Calls.{CanBind, Binds, RefusesBind, Allows, CanBegin, Begins, RefusesBegin, IsOpen, Iterates, Breaks};
+    ghost use Rattle.fdw_api.specs.Calls.{CanRescan, Rescans};
     ghost use Rattle.fdw_api.specs.Kinds.{column_of, option_form};
     ghost use Rattle.sqlite_shapes.specs.Steady.{IsSteady};
     ghost use Rattle.fdw_api.specs.Writes.{CanClose, Closes, RefusesClose};
@@ -326,7 +327,36 @@ impl<S: SourceStore + Drop> Wrapper for SqliteWrapper<S> {
         }
     }
 
-    fn rescan(&mut self, alloc: Global, ticket: &Ticket, params: &[Value]) -> Result<(), Fault> {
+    /// Where its store is steady as it ends, the tables' texts are known and the lookups of its live scans are of their tables' rows, it
+    /// does what `Wrapper::rescan` says of an honest box that holds what the database holds: nobody knows what a disk returns, but such a
+    /// store has returned what was written. That it fails it says without the lookups.
+    fn rescan(&mut self, alloc: Global, ticket: &Ticket, params: &[Value]) -> Result<(), Fault>
+        requires { CanRescan (sqlite_state S.honest (state S.Store self.old.conn).now
+            self.old.bound.items self.old.scans self.old.staged self.old.next self.old.pulled self.old.faults)
+            ticket.now.number (map datum params.now) }
+        ensures ok { IfOk result (λ _. Rescans (sqlite_state S.honest (state S.Store self.old.conn).now
+            self.old.bound.items self.old.scans self.old.staged self.old.next self.old.pulled self.old.faults)
+            ticket.now.number (map datum params.now)
+            (sqlite_state S.honest (state S.Store self.new.conn).now
+            self.new.bound.items self.new.scans self.new.staged self.new.next self.new.pulled self.new.faults)) }
+        ensures err { IfErr result (λ fault. Breaks (sqlite_state S.honest (state S.Store self.old.conn).now
+            self.old.bound.items self.old.scans self.old.staged self.old.next self.old.pulled self.old.faults) ticket.now.number fault
+            (sqlite_state S.honest (state S.Store self.new.conn).now
+            self.new.bound.items self.new.scans self.new.staged self.new.next self.new.pulled self.new.faults)) }
+        ensures clean_ok { IsSteady (S.Store.view self.new.conn.store) → AreKnown self.old.conn.schema
+            → AllLook (state S.Store self.old.conn).now self.old.scans
+            → IfOk result (λ _. Rescans (sqlite_state true (state S.Store self.old.conn).now
+            self.old.bound.items self.old.scans self.old.staged self.old.next self.old.pulled self.old.faults)
+            ticket.now.number (map datum params.now)
+            (sqlite_state true (state S.Store self.new.conn).now
+            self.new.bound.items self.new.scans self.new.staged self.new.next self.new.pulled self.new.faults)) }
+        ensures clean_err { IsSteady (S.Store.view self.new.conn.store) → AreKnown self.old.conn.schema
+            → IfErr result (λ fault. Breaks (sqlite_state true (state S.Store self.old.conn).now
+            self.old.bound.items self.old.scans self.old.staged self.old.next self.old.pulled self.old.faults) ticket.now.number fault
+            (sqlite_state true (state S.Store self.new.conn).now
+            self.new.bound.items self.new.scans self.new.staged self.new.next self.new.pulled self.new.faults)) }
+    {
+        let _schema = self.conn.schema();
         match begun_again(alloc, &self.scans, ticket.number, params) {
             Err(_) => {
                 spoil(&mut self.scans, ticket.number);

@@ -1,4 +1,4 @@
-use Rattle.std.proofs.Common.{◌≡◌, IfSome, map, sym, subst, refl, rules}
+use Rattle.std.proofs.Common.{◌≡◌, true, IfSome, map, sym, subst, refl, rules}
 use Rattle.sqlite.specs.Held.{state}
 use Rattle.sqlite.specs.Effect.{Database}
 use Rattle.sqlite.specs.View.{IsShaped}
@@ -8,7 +8,7 @@ use Rattle.place_index.specs.Scans.{form_of}
 use Rattle.sqlite_cells.specs.Cells.{row_in}
 use Rattle.sqlite_cells.specs.Layouts.{layout_at}
 use Rattle.sqlite_cells.specs.Tables.{entries_of}
-use Rattle.sqlite_cells.proofs.Settled.{known_after}
+use Rattle.sqlite_cells.proofs.Settled.{known_after, reads_none, reads_then, sure_first, sure_then, sure_same}
 use Rattle.sqlite_lookups.specs.Lookups.{IsLookup, rows_with}
 use Rattle.sqlite_wrapper.proofs.Looking.{unanswered, looked_up}
 use Rattle.sqlite_wrapper.proofs.lookups.look_up.Goals as goal
@@ -40,3 +40,33 @@ returns-in-Ok-rows_with-clause-answered g c =
     c.with_rows.ensures.shows c.with_rows.ensures.lookup c.in-Ok.ensures.is c.in-Ok.ensures.column v_is c.with_rows.ensures.none c.with_rows.ensures.filled
     (λ h. subst (λ (d : Database). IfSome c.in-Ok-rows_with.rows (λ p. map (row_in l) p.items ≡ rows_with l c.in-Ok.lookup.column v (entries_of d l))) (c.lookup_of.ensures.same h)
     (c.in-Ok-rows_with.ensures.rows h))
+
+pub returns-in_default-clause-sure_answered : goal.returns-in_default-clause-sure_answered
+returns-in_default-clause-sure_answered g c h had =
+    unanswered true (entries_of (state g.S.Store c.args.conn.now).now (layout_at c.args.scan.table)) c.args.scan _ c.args.had refl (λ yes. had)
+
+pub returns-in_default-clause-reads : goal.returns-in_default-clause-reads
+returns-in_default-clause-reads g c = reads_none (state g.S.Store c.args.conn.now) (layout_at c.args.scan.table)
+
+pub returns-in-Err-rows_with-clause-reads : goal.returns-in-Err-rows_with-clause-reads
+returns-in-Err-rows_with-clause-reads g c = reads_then c.lookup_of.ensures.reads c.rows_with.ensures.reads
+
+pub returns-in-Ok-rows_with-clause-reads : goal.returns-in-Ok-rows_with-clause-reads
+returns-in-Ok-rows_with-clause-reads g c = reads_then c.lookup_of.ensures.reads c.rows_with.ensures.reads
+
+pub returns-in-Ok-rows_with-clause-sure_answered : goal.returns-in-Ok-rows_with-clause-sure_answered
+returns-in-Ok-rows_with-clause-sure_answered g c h had =
+    let l = layout_at c.args.scan.table in
+    let db = (state g.S.Store c.args.conn.now).now in
+    let form = form_of c.in-Some.found in
+    let v = datum c.value_at-value.result.now in
+    let v_is : v ≡ cell (map datum c.args.scan.params.items) form.parameter = search rules in
+    let first = c.lookup_of.ensures.reads in
+    let next = c.rows_with.ensures.reads in
+    let fixed = sure_same first next h in
+    let is = c.in-Ok.ensures.sure_is (sure_first next h) had in
+    let there = subst (λ (d : Database). IsLookup l (entries_of d l) c.in-Ok.lookup) (sym fixed) is in
+    looked_up c.in-Ok-rows_with.rows (λ p. p.items) true (entries_of db l) c.args.scan c.with_rows.result c.in-Ok.lookup form v c.in-Some.ensures
+    c.with_rows.ensures.shows c.with_rows.ensures.lookup (λ yes. is) c.in-Ok.ensures.column v_is c.with_rows.ensures.none c.with_rows.ensures.filled
+    (λ yes. subst (λ (d : Database). IfSome c.in-Ok-rows_with.rows (λ p. map (row_in l) p.items ≡ rows_with l c.in-Ok.lookup.column v (entries_of d l))) fixed
+    (c.in-Ok-rows_with.ensures.sure_rows (sure_then first next h) there))

@@ -2,7 +2,8 @@ use Rattle.std.proofs.Common.{nat_lt, ℕ, ◌&&◌, Some, None, ◌≡◌, true
 use Rattle.med_value.specs.Datum.{datum}
 use Rattle.fdw_api.specs.Scan.{Spec}
 use Rattle.sqlite.specs.Held.{state}
-use Rattle.sqlite_cells.specs.Layouts.{layout_count}
+use Rattle.sqlite_cells.specs.Layouts.{layout_at, layout_count}
+use Rattle.sqlite_cells.proofs.Clean.{clean_sure}
 use Rattle.sqlite_wrapper.specs.declared.scans.KeyScan.{KeyScan}
 use Rattle.sqlite_wrapper.specs.Boxes.{allows, asked_of, is_allowed, scan_is}
 use Rattle.staged_changes.specs.Staged.{write_is}
@@ -118,6 +119,54 @@ returns-in-Ok-look_up-clause-ok g c =
     sqlite_rescans honest s.bound.items s.staged db c.in-Ok.scan w.0.table (asked_of w.0) (map datum c.args.params.now) begun may.1
     after s.scans c.put_scan.new.scans s.next s.pulled s.faults number w.0 x c.look_up.ensures.same answered.shows
     (λ h. answered_coming db c.in-Ok.scan x w.0.table (asked_of w.0) (map datum c.args.params.now) begun may.1 (c.entries_rise.ensures h) (answered.rows h)) w.1 may.0 refl refl u
+
+pub returns-in-Err-clause-clean_err : goal.returns-in-Err-clause-clean_err
+returns-in-Err-clause-clean_err g c steady known =
+    let s = c.args.self.now in
+    let is = open_there g.S.SourceStore.honest s.bound.items s.staged (state g.S.Store s.conn).now s.scans s.next s.pulled s.faults c.args.ticket.now.number _ c.requires.at in
+    let w = at_some _ is in
+    sqlite_breaks true s.bound.items s.staged (state g.S.Store s.conn).now s.scans c.spoil.new.scans s.next s.pulled s.faults c.args.ticket.now.number _ w.0 tt w.1 (sets s.scans c.spoil.new.scans c.args.ticket.now.number (Some (record w.0 { broken = true })) (if_some _ _ w.0 w.1 c.spoil.ensures))
+
+pub returns-in-Err-look_up-clause-clean_err : goal.returns-in-Err-look_up-clause-clean_err
+returns-in-Err-look_up-clause-clean_err g c steady known =
+    let s = c.args.self.now in
+    let number = c.args.ticket.now.number in
+    let honest = g.S.SourceStore.honest in
+    let db = (state g.S.Store s.conn).now in
+    let is = open_there honest s.bound.items s.staged db s.scans s.next s.pulled s.faults number _ c.requires.at in
+    let w = at_some _ is in
+    let took = sets s.scans c.take_lookup-had.new.scans number (Some (record w.0 { lookup = None })) (if_some _ _ w.0 w.1 c.take_lookup-had.ensures.scans) in
+    let after = (state g.S.Store c.look_up.new.conn).now in
+    let v = sets c.take_lookup-had.new.scans c.spoil-in-Err-look_up.new.scans number (Some (record w.0 { lookup = None; broken = true })) (if_some _ _ (record w.0 { lookup = None }) took.0 c.spoil-in-Err-look_up.ensures) in
+    let u = sets_on s.scans c.take_lookup-had.new.scans c.spoil-in-Err-look_up.new.scans number _ _ took v in
+    let sure = clean_sure g.S.Store s.conn c.look_up.new.conn (layout_at c.in-Ok.scan.table) steady c.schema-schema.ensures.live c.look_up.ensures.reads (known c.in-Ok.scan.table) in
+    let fixed = c.look_up.ensures.reads.same sure.after sure.known in
+    rw c.faults_after-self.ensures
+    (breaks_by true s.bound.items s.staged db s.scans s.next number w.0 w.1 after c.spoil-in-Err-look_up.new.scans s.pulled s.faults c.in-Err-look_up.fault
+    (record w.0 { lookup = None; broken = true }) c.in-Err-look_up.ensures.refused refl (λ yes. fixed) u)
+
+pub returns-in-Ok-look_up-clause-clean_ok : goal.returns-in-Ok-look_up-clause-clean_ok
+returns-in-Ok-look_up-clause-clean_ok g c steady known looked =
+    let s = c.args.self.now in
+    let number = c.args.ticket.now.number in
+    let honest = g.S.SourceStore.honest in
+    let db = (state g.S.Store s.conn).now in
+    let is = open_there honest s.bound.items s.staged db s.scans s.next s.pulled s.faults number _ c.requires.at in
+    let w = at_some _ is in
+    let took = sets s.scans c.take_lookup-had.new.scans number (Some (record w.0 { lookup = None })) (if_some _ _ w.0 w.1 c.take_lookup-had.ensures.scans) in
+    let begun = if_some _ _ w.0 w.1 c.in-Ok.ensures in
+    let x = c.in-Ok-look_up.scan in
+    let after = (state g.S.Store c.look_up.new.conn).now in
+    let v = sets c.take_lookup-had.new.scans c.put_scan.new.scans number (Some x) c.put_scan.ensures in
+    let u = sets_on s.scans c.take_lookup-had.new.scans c.put_scan.new.scans number _ _ took v in
+    let may = both (nat_lt w.0.table layout_count) (allows (asked_of w.0)) (s.allowed number w.0 w.1) in
+    let sure = clean_sure g.S.Store s.conn c.look_up.new.conn (layout_at c.in-Ok.scan.table) steady c.schema-schema.ensures.live c.look_up.ensures.reads (known c.in-Ok.scan.table) in
+    let fixed = c.look_up.ensures.reads.same sure.after sure.known in
+    let had = had_looks db w.0 c.in-Ok.scan c.take_lookup-had.result (looked number w.0 w.1) (if_some _ _ w.0 w.1 c.take_lookup-had.ensures.lookup) begun.new.table in
+    let answered = c.in-Ok-look_up.ensures.sure_answered sure had in
+    sqlite_rescans true s.bound.items s.staged db c.in-Ok.scan w.0.table (asked_of w.0) (map datum c.args.params.now) begun may.1
+    after s.scans c.put_scan.new.scans s.next s.pulled s.faults number w.0 x (λ yes. fixed) answered.shows
+    (λ yes. answered_coming db c.in-Ok.scan x w.0.table (asked_of w.0) (map datum c.args.params.now) begun may.1 sure.ordered (answered.rows refl)) w.1 may.0 refl refl u
 
 pub invariant_of-self : goal.invariant_of-self
 invariant_of-self g c =
