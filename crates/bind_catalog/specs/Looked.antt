@@ -1,5 +1,5 @@
 -- What looking up the tables of FROM in a catalogue answers.
-use Rattle.std.specs.Prelude.{◌≡◌, ◌⊎◌, List, [], map, flat_map, length, Contains, true, Result, Ok, Err, Vec}
+use Rattle.std.specs.Prelude.{◌≡◌, ◌⊎◌, List, [], map, flat_map, length, Contains, true, Option, slice_get, Result, Ok, Err, Vec}
 use Rattle.med_value.specs.declared.cause.Cause.{Cause}
 use Rattle.med_value.specs.declared.cause.Cause.TheVariants.{OutOfMemory}
 use Rattle.med_syntax.specs.Tree.{Name}
@@ -8,6 +8,7 @@ use Rattle.med_query.specs.Select.{are_safe_cores}
 use Rattle.bind_names.specs.Scope.{TableShape, entry_place, entry_columns, query_scope}
 use Rattle.bind_names.specs.Naming.{entry_causes, select_name_causes}
 use Rattle.bind_names.specs.Telling.{TellsCause}
+use Rattle.bind_names.specs.declared.table.TableView.{TableView}
 use Rattle.bind_types.specs.Typing.{answer_types, select_type_causes}
 use Rattle.med_binder.specs.Binding.{IsMeant, bound_kinds}
 use Rattle.med_binder.specs.Counted.{bound_widths}
@@ -28,6 +29,13 @@ query_in (select q) = q
 -- the table of an entry, under the name by which the entry has it
 abbrev pub gathered_shape : List TableShape → EntryTree → TableShape
 gathered_shape full e = record { name = e.table; columns = entry_columns full e }
+
+-- where it is bound, and where a view says that its rows are
+abbrev pub place_bound : Objects → List Attached → EntryTree → Option Attached
+place_bound o bound e = slice_get bound (entry_place (shapes o) e)
+
+abbrev pub view_place : TableView → Attached
+view_place t = record { source = t.source; number = t.number.number }
 
 -- the entry's table in the catalogue, with as many columns, and where its rows are
 pub record IsEntryAt (o : Objects) (bound : List Attached) (e : EntryTree) (b : BoundEntry) : Type 0 where

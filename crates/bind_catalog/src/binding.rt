@@ -51,7 +51,7 @@ fn bind_over(
     let written = query_entries(alloc, query_of(statement))?;
     check_rights(catalog, written.as_slice(), user)?;
     let entries = bound_entries(alloc, catalog, bound, written.as_slice())?;
-    let tables = gathered(alloc, catalog, written.as_slice())?;
+    let tables = gathered(alloc, catalog, bound, written.as_slice())?;
     let found = med_binder::bind(alloc, statement, tables.as_slice(), user)?;
     Ok(BoundQuery {
         names: found.names,

@@ -1,8 +1,7 @@
 //! The tables that the entries of FROM stand for, each looked up in the catalogue by its name.
 #![tactic(auto, using(bind_names::proofs::Causes::tells_memory, bind_names::proofs::Causes::tells_one))]
 
-ghost use Rattle.std.specs.Prelude.{◌≡◌, length, map, flat_map, IfOk};
-ghost use Rattle.med_value.specs.Column.{column_of};
+ghost use Rattle.std.specs.Prelude.{◌≡◌, length, map, flat_map, Some, IfOk};
 ghost use Rattle.med_syntax.specs.QueryView.{entry_tree};
 ghost use Rattle.bind_names.specs.Scope.{table_shape};
 ghost use Rattle.bind_names.specs.Naming.{entry_causes};
@@ -11,14 +10,14 @@ ghost use Rattle.bind_names.specs.Telling.{Means};
 ghost use Rattle.med_catalog.specs.View.{objects};
 ghost use Rattle.bind_catalog.specs.Tables.{shapes, AreNamedOnce};
 ghost use Rattle.bind_catalog.specs.Places.{attached};
-ghost use Rattle.bind_catalog.specs.Looked.{PlacesEntry, PlacesEntries, gathered_shape};
+ghost use Rattle.bind_catalog.specs.Looked.{PlacesEntry, PlacesEntries, gathered_shape, view_place, place_bound};
 
 use crate::bound::BoundTable;
-use bind_names::AttachedTable;
+use bind_names::TableView;
 use med_binder::BoundEntry;
 use med_catalog::Catalog;
 use med_syntax::Entry;
-use med_value::{Cause, ColumnDef, NoMemory, TableNo};
+use med_value::Cause;
 use std::alloc::Global;
 
 // The table that an entry stands for, and where its rows are.
@@ -57,46 +56,47 @@ pub fn bound_entries(
     Ok(out)
 }
 
-// Equal columns.
-fn copied(alloc: Global, columns: &[ColumnDef]) -> Result<Vec<ColumnDef>, NoMemory>
-    ensures { IfOk result (λ v. map column_of v.items ≡ map column_of columns.now) }
-{
-    let mut out = Vec::new(alloc);
-    for column in columns {
-        out.push(column.copy(alloc)?)?;
-    }
-    Ok(out)
-}
-
-// The table that an entry stands for, by its name and columns. Where its rows are is not asked.
-fn gathered_table(alloc: Global, catalog: &Catalog, entry: &Entry) -> Result<AttachedTable, Cause>
-    ensures { Means table_shape (entry_causes (shapes (objects catalog.now)) (entry_tree entry.now))
+// The table that an entry stands for, under the name by which the entry has it, and where its rows are.
+fn gathered_table<'a>(
+    catalog: &'a Catalog,
+    bound: &[BoundTable],
+    entry: &'a Entry,
+) -> Result<TableView<'a>, Cause>
+    requires many { length bound.now ≡ length (objects catalog.now).tables }
+    requires once { AreNamedOnce (objects catalog.now) }
+    ensures table { Means table_shape (entry_causes (shapes (objects catalog.now)) (entry_tree entry.now))
         (gathered_shape (shapes (objects catalog.now)) (entry_tree entry.now)) result }
+    ensures place { IfOk result (λ t. Some (view_place t) ≡ place_bound (objects catalog.now) (map attached bound.now) (entry_tree entry.now)) }
 {
-    match catalog.table(entry.table.as_str()) {
+    let name = entry.table.as_str();
+    match catalog.table_at(name) {
         None => Err(Cause::UndefinedTable),
-        Some(table) => Ok(AttachedTable {
-            name: entry.table.as_str().to_string(alloc)?,
-            columns: copied(alloc, table.columns.as_slice())?,
-            source: 0,
-            remote: String::new(alloc),
-            number: TableNo { number: 0 },
+        Some((place, table)) => Ok(TableView {
+            name,
+            columns: table.columns.as_slice(),
+            source: bound[place].source,
+            number: bound[place].number,
         }),
     }
 }
 
-/// The tables that the entries stand for, by their names and columns, once for each entry: 42P01 where there is no such table.
-pub fn gathered(
+/// The tables that the entries stand for, once for each entry: 42P01 where there is no such table. Nothing of the catalogue is copied.
+pub fn gathered<'a>(
     alloc: Global,
-    catalog: &Catalog,
-    entries: &[&Entry],
-) -> Result<Vec<AttachedTable>, Cause>
-    ensures { Means (λ v. map table_shape v.items) (flat_map (entry_causes (shapes (objects catalog.now))) (map seen_entry entries.now))
+    catalog: &'a Catalog,
+    bound: &[BoundTable],
+    entries: &[&'a Entry],
+) -> Result<Vec<TableView<'a>>, Cause>
+    requires many { length bound.now ≡ length (objects catalog.now).tables }
+    requires once { AreNamedOnce (objects catalog.now) }
+    ensures tables { Means (λ v. map table_shape v.items) (flat_map (entry_causes (shapes (objects catalog.now))) (map seen_entry entries.now))
         (map (gathered_shape (shapes (objects catalog.now))) (map seen_entry entries.now)) result }
+    ensures places { IfOk result (λ v. map (λ t. Some (view_place t)) v.items
+        ≡ map (place_bound (objects catalog.now) (map attached bound.now)) (map seen_entry entries.now)) }
 {
     let mut out = Vec::new(alloc);
     for entry in entries {
-        let table = gathered_table(alloc, catalog, *entry)?;
+        let table = gathered_table(catalog, bound, *entry)?;
         out.push(table)?;
     }
     Ok(out)

@@ -1,12 +1,12 @@
 -- Which columns an expression sees, and which of them a name means (SQL:2016, 6.7 <column reference> and 5.4 "Names and identifiers").
-use Rattle.std.specs.Prelude.{ℕ, suc, ◌+◌, Bool, true, List, [], ◌∷◌, ◌++◌, length, map, Option, Some, None, option_map, unwrap_or, flat_map, if◌then◌else◌, bytes_eq, slice_get, string_bytes}
+use Rattle.std.specs.Prelude.{ℕ, suc, ◌+◌, Bool, true, List, [], ◌∷◌, ◌++◌, length, map, Option, Some, None, option_map, unwrap_or, flat_map, if◌then◌else◌, bytes_eq, slice_get}
 use Rattle.std.specs.Option.{option_and_then, is_some}
 use Rattle.std.specs.List.{list_any}
 use Rattle.med_value.specs.Column.{Column, column_of}
 use Rattle.med_value.specs.declared.value.ColType.{ColType}
 use Rattle.med_syntax.specs.Tree.{Name}
 use Rattle.med_syntax.specs.QueryTree.{EntryTree, JoinTree, inner_join, left_join, cross_join, ChainTree, CoreTree, SelectTree, cores_of}
-use Rattle.bind_names.specs.declared.table.AttachedTable.{AttachedTable}
+use Rattle.bind_names.specs.declared.table.TableView.{TableView}
 use Rattle.bind_names.specs.declared.scope.Visible.{Visible}
 
 -- a table by its name and its columns
@@ -14,10 +14,10 @@ pub record TableShape : Type 0 where
   pub name : Name
   pub columns : List Column
 
-abbrev pub table_shape : AttachedTable → TableShape
-table_shape t = record { name = string_bytes t.name; columns = map column_of t.columns.items }
+abbrev pub table_shape : TableView → TableShape
+table_shape t = record { name = t.name.now; columns = map column_of t.columns.now }
 
-abbrev pub shapes_of : List AttachedTable → List TableShape
+abbrev pub shapes_of : List TableView → List TableShape
 shapes_of = map table_shape
 
 -- The entries of FROM that are in view, in their order: each under the name by which it is called there, its alias or else its table's

@@ -7,7 +7,7 @@ use Rattle.med_syntax.specs.QueryTree.{EntryTree}
 use Rattle.med_syntax.specs.QueryView.{entry_tree}
 use Rattle.med_syntax.specs.declared.statement.Entry.{Entry}
 use Rattle.bind_names.specs.Scope.{table_shape, place_named}
-use Rattle.bind_names.specs.declared.table.AttachedTable.{AttachedTable}
+use Rattle.bind_names.specs.declared.table.TableView.{TableView}
 use Rattle.bind_names.specs.declared.scope.Visible.{Visible}
 use Rattle.bind_names.specs.declared.from.Located.{Located}
 use Rattle.bind_names.specs.Telling.{Adds}
@@ -24,6 +24,6 @@ abbrev pub name_of : Visible → Name
 name_of v = v.name.now
 
 -- the first table of this name, and where it stands
-abbrev pub FindsTable : List AttachedTable → Name → Option Located → Type 0
+abbrev pub FindsTable : List TableView → Name → Option Located → Type 0
 FindsTable tables name None = place_named (map table_shape tables) name ≡ None
 FindsTable tables name (Some r) = (place_named (map table_shape tables) name ≡ Some r.place) × (slice_get tables r.place ≡ Some r.table.now)

@@ -11,7 +11,7 @@ crate::proofs::Added::added_end, crate::proofs::Tables::get_read,
 // columns of a table
 crate::proofs::Tables::columns_missing, crate::proofs::Tables::columns_found, crate::proofs::Tables::found_at))]
 
-ghost use Rattle.std.specs.Prelude.{◌≡◌, ◌∷◌, [], map, flat_map, bytes_eq, string_bytes};
+ghost use Rattle.std.specs.Prelude.{◌≡◌, ◌∷◌, [], map, flat_map, bytes_eq};
 ghost use Rattle.std.specs.List.{list_any};
 ghost use Rattle.med_value.specs.Column.{column_of};
 ghost use Rattle.med_syntax.specs.QueryView.{entry_tree, join_tree, chain_tree, core_tree, select_tree};
@@ -23,7 +23,7 @@ ghost use Rattle.bind_names.specs.Telling.{Means, Passes};
 ghost use Rattle.bind_names.specs.Seen.{seen_entry, AddsEntries, name_of, FindsTable};
 
 use crate::scope::Visible;
-use crate::table::AttachedTable;
+use crate::table::TableView;
 use med_syntax::{Chain, Core, Entry, Join, Select};
 use med_value::{Cause, ColumnDef};
 use std::alloc::Global;
@@ -34,15 +34,15 @@ pub struct Located<'a> {
     /// The place.
     pub place: usize,
     /// The table.
-    pub table: &'a AttachedTable,
+    pub table: &'a TableView<'a>,
 }
 
 /// The first table of this name.
-pub fn table_named<'a>(tables: &'a [AttachedTable], name: &str) -> Option<Located<'a>>
+pub fn table_named<'a>(tables: &'a [TableView<'a>], name: &str) -> Option<Located<'a>>
     ensures { FindsTable tables.now name.now result }
 {
     for (place, table) in tables.iter().enumerate() {
-        if table.name.as_str() == name {
+        if table.name == name {
             return Some(Located { place, table });
         }
     }
@@ -129,17 +129,17 @@ pub fn query_entries(alloc: Global, select: &Select) -> Result<Vec<&Entry>, Caus
 }
 
 // The columns of an entry's table; none where there is no such table.
-fn columns_of<'a>(tables: &'a [AttachedTable], entry: &Entry) -> &'a [ColumnDef]
+fn columns_of<'a>(tables: &'a [TableView<'a>], entry: &Entry) -> &'a [ColumnDef]
     ensures { map column_of result.now ≡ entry_columns (map table_shape tables.now) (entry_tree entry.now) }
 {
     match table_named(tables, entry.table.as_str()) {
         None => &[],
-        Some(found) => found.table.columns.as_slice(),
+        Some(found) => found.table.columns,
     }
 }
 
 /// What an entry brings into view.
-pub fn visible_of<'a>(tables: &'a [AttachedTable], entry: &'a Entry) -> Visible<'a>
+pub fn visible_of<'a>(tables: &'a [TableView<'a>], entry: &'a Entry) -> Visible<'a>
     ensures { visible result ≡ entry_shape (map table_shape tables.now) (entry_tree entry.now) }
 {
     Visible {
@@ -151,7 +151,7 @@ pub fn visible_of<'a>(tables: &'a [AttachedTable], entry: &'a Entry) -> Visible<
 /// What the entries bring into view.
 pub fn scope_of<'a>(
     alloc: Global,
-    tables: &'a [AttachedTable],
+    tables: &'a [TableView<'a>],
     entries: &[&'a Entry],
 ) -> Result<Vec<Visible<'a>>, Cause>
     ensures { Means (λ v. map visible v.items) [] (map (entry_shape (map table_shape tables.now)) (map seen_entry entries.now)) result }
@@ -166,7 +166,7 @@ pub fn scope_of<'a>(
 /// What FROM brings into view. Refused only where memory is.
 pub fn from_in_view<'a>(
     alloc: Global,
-    tables: &'a [AttachedTable],
+    tables: &'a [TableView<'a>],
     chains: &'a [Chain],
 ) -> Result<Vec<Visible<'a>>, Cause>
     ensures { Means (λ v. map visible v.items) [] (from_scope (map table_shape tables.now) (map chain_tree chains.now)) result }

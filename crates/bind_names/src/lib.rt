@@ -20,4 +20,4 @@ pub use from::{
 };
 pub use functions::function_named;
 pub use scope::{FoundPlaces, Visible, column_kind, find_column, is_any_named, is_named, one_more};
-pub use table::AttachedTable;
+pub use table::TableView;

@@ -2,17 +2,15 @@
 
 use med_value::{ColumnDef, TableNo};
 
-/// A foreign table that was attached: the place of its source, and its number in the source's box.
-#[derive(Drop)]
-pub struct AttachedTable {
+/// A foreign table as binding looks at it: it borrows the name and the columns, and says where the rows are.
+#[derive(Clone, Copy)]
+pub struct TableView<'a> {
     /// The name, folded to lower case where it was not quoted.
-    pub name: String,
+    pub name: &'a str,
     /// The columns, in their order.
-    pub columns: Vec<ColumnDef>,
+    pub columns: &'a [ColumnDef],
     /// The place of its source.
     pub source: usize,
-    /// The name of the remote table.
-    pub remote: String,
     /// Its number in the source's box.
     pub number: TableNo,
 }

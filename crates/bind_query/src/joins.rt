@@ -16,7 +16,7 @@ ghost use Rattle.med_syntax.specs.QueryView.{entry_tree, join_tree, chain_tree};
 ghost use Rattle.std.specs.Prelude.{ℕ, ◌+◌, [], map, length, option_map, Some};
 
 use crate::resolve::resolve;
-use bind_names::{AttachedTable, Visible, joined_entry, visible_of};
+use bind_names::{TableView, Visible, joined_entry, visible_of};
 use expr_parts::conjuncts;
 use med_query::{Join, JoinChain};
 use med_syntax::{Chain, Entry, Expr as Written, Join as WrittenJoin};
@@ -76,7 +76,7 @@ fn join(
 // One join more, behind the entry of a number; what its entry brings stands behind the scope. Answers the number of its entry.
 fn push_join<'a>(
     alloc: Global,
-    tables: &'a [AttachedTable],
+    tables: &'a [TableView<'a>],
     written: &'a WrittenJoin,
     last: usize,
     scope: &mut Vec<Visible<'a>>,
@@ -98,12 +98,12 @@ fn push_join<'a>(
 }
 
 // The joins behind the entry of this number. ON sees what stands on its left in its own chain, and its own entry.
-fn joins(
+fn joins<'a>(
     alloc: Global,
-    tables: &[AttachedTable],
-    first: &Entry,
+    tables: &'a [TableView<'a>],
+    first: &'a Entry,
     number: usize,
-    joins: &[WrittenJoin],
+    joins: &'a [WrittenJoin],
 ) -> Result<Vec<Join>, Cause>
     ensures { ResolvesJoins (shapes_of tables.now) (entry_tree first.now) number (map join_tree joins.now) result }
 {
@@ -120,7 +120,7 @@ fn joins(
 // A chain whose first entry has this number.
 fn chain(
     alloc: Global,
-    tables: &[AttachedTable],
+    tables: &[TableView<'_>],
     number: usize,
     chain: &Chain,
 ) -> Result<JoinChain, Cause>
@@ -151,7 +151,7 @@ fn after_chain(number: usize, chain: &Chain) -> Result<usize, Cause>
 /// The chains of FROM; their entries are counted over all of them, from this number.
 pub fn chains(
     alloc: Global,
-    tables: &[AttachedTable],
+    tables: &[TableView<'_>],
     first: usize,
     chains: &[Chain],
 ) -> Result<Vec<JoinChain>, Cause>

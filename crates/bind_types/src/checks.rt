@@ -10,7 +10,7 @@ ghost use Rattle.bind_names.specs.Telling.{Passes};
 ghost use Rattle.bind_types.specs.Kinds.{written_key_causes, asked_type_causes};
 
 use crate::typing::{operand, type_of};
-use bind_names::{AttachedTable, Visible, from_in_view, joined_entry, visible_of};
+use bind_names::{TableView, Visible, from_in_view, joined_entry, visible_of};
 use med_syntax::{Chain, Core, Expr as Written, Item, Join, OrderKey, Select};
 use med_value::{Cause, ColType};
 use std::alloc::Global;
@@ -38,7 +38,7 @@ fn check_joins<'a>(
     alloc: Global,
     first: Visible<'a>,
     joins: &'a [Join],
-    tables: &'a [AttachedTable],
+    tables: &'a [TableView<'a>],
 ) -> Result<(), Cause>
     ensures { Passes (spec.joins_type_causes (map table_shape tables.now) (visible first.entry ∷ []) (map join_tree joins.now)) result }
 {
@@ -52,7 +52,7 @@ fn check_joins<'a>(
 }
 
 // Refuses a chain by the types of each ON.
-fn check_chain(alloc: Global, chain: &Chain, tables: &[AttachedTable]) -> Result<(), Cause>
+fn check_chain(alloc: Global, chain: &Chain, tables: &[TableView<'_>]) -> Result<(), Cause>
     ensures { Passes (spec.chain_type_causes (map table_shape tables.now) (chain_tree chain.now)) result }
 {
     check_joins(
@@ -64,7 +64,7 @@ fn check_chain(alloc: Global, chain: &Chain, tables: &[AttachedTable]) -> Result
 }
 
 // Refuses FROM by the types of each ON.
-fn check_from(alloc: Global, chains: &[Chain], tables: &[AttachedTable]) -> Result<(), Cause>
+fn check_from(alloc: Global, chains: &[Chain], tables: &[TableView<'_>]) -> Result<(), Cause>
     ensures { Passes (flat_map (spec.chain_type_causes (map table_shape tables.now)) (map chain_tree chains.now)) result }
 {
     for chain in chains {
@@ -134,7 +134,7 @@ fn check_asked(scope: &[Visible<'_>], core: &Core) -> Result<(), Cause>
 }
 
 // Refuses a core by the types of what it writes.
-fn check_core(alloc: Global, core: &Core, tables: &[AttachedTable]) -> Result<(), Cause>
+fn check_core(alloc: Global, core: &Core, tables: &[TableView<'_>]) -> Result<(), Cause>
     ensures { Passes (spec.core_written_causes (map table_shape tables.now) (core_tree core.now)) result }
 {
     check_from(alloc, core.from.as_slice(), tables)?;
@@ -143,7 +143,7 @@ fn check_core(alloc: Global, core: &Core, tables: &[AttachedTable]) -> Result<()
 }
 
 // The same of each core.
-fn check_cores(alloc: Global, cores: &[Core], tables: &[AttachedTable]) -> Result<(), Cause>
+fn check_cores(alloc: Global, cores: &[Core], tables: &[TableView<'_>]) -> Result<(), Cause>
     ensures { Passes (flat_map (spec.core_written_causes (map table_shape tables.now)) (map core_tree cores.now)) result }
 {
     for core in cores {
@@ -153,7 +153,7 @@ fn check_cores(alloc: Global, cores: &[Core], tables: &[AttachedTable]) -> Resul
 }
 
 // Refuses ORDER BY by the types of its keys, which see what the first core has in view.
-fn check_order(alloc: Global, select: &Select, tables: &[AttachedTable]) -> Result<(), Cause>
+fn check_order(alloc: Global, select: &Select, tables: &[TableView<'_>]) -> Result<(), Cause>
     ensures { Passes (spec.order_type_causes (map table_shape tables.now) (select_tree select.now)) result }
 {
     let seen = from_in_view(alloc, tables, select.core.from.as_slice())?;
@@ -163,7 +163,7 @@ fn check_order(alloc: Global, select: &Select, tables: &[AttachedTable]) -> Resu
 /// Refuses a query by the types of what it writes: 42804 where a condition is not boolean, 42883 where an operator or a function has no
 /// such operands, 22025 where a pattern of LIKE ends in a lone backslash; and 53200 where memory was refused, or more columns are in view
 /// than there are places.
-pub fn check_written(alloc: Global, select: &Select, tables: &[AttachedTable]) -> Result<(), Cause>
+pub fn check_written(alloc: Global, select: &Select, tables: &[TableView<'_>]) -> Result<(), Cause>
     ensures { Passes (spec.written_type_causes (map table_shape tables.now) (select_tree select.now)) result }
 {
     check_core(alloc, &select.core, tables)?;

@@ -1,5 +1,5 @@
 -- The loops of a bound query are a plan of it.
-use Rattle.std.proofs.Common.{◌≡◌, ℕ, suc, ◌<◌, ◌⊎◌, inl, inr, Bool, true, false, ◌&&◌, List, [], ◌∷◌, ◌++◌, map, length, flat_map, get_or, All, slice_get, Option, Some, None, IsSome, refl, ap, sym, ◌∙◌, subst, arith}
+use Rattle.std.proofs.Common.{◌≡◌, ℕ, zero, suc, ◌<◌, ◌⊎◌, inl, inr, Bool, true, false, ◌&&◌, List, [], ◌∷◌, ◌++◌, map, length, flat_map, get_or, All, slice_get, Option, Some, None, IsSome, refl, ap, sym, ◌∙◌, subst, arith}
 use Rattle.std.proofs.lemmas.List.{length-map}
 use Rattle.std.proofs.lemmas.List.Elements.{All-head, All-tail}
 use Rattle.std.proofs.lemmas.Option.{slice_get-get_or}
@@ -24,8 +24,10 @@ use Rattle.med_planner.specs.Planned.{entry_rows}
 use Rattle.nested_loops.specs.Joins.{Each}
 use Rattle.nested_loops.specs.Loops.{Level}
 use Rattle.scan_loops.specs.Levels.{levels_of}
+use Rattle.scan_loops.specs.Running.{HonestFor}
 use Rattle.scan_loops.specs.Scans.{or_none, bound_in, bound_at, rows_at}
-use Rattle.scan_loops.specs.Serving.{AllHonest}
+use Rattle.scan_loops.specs.Serving.{HonestAt}
+use Rattle.med_exec.specs.Running.{HonestOver}
 use Rattle.scan_loops.specs.Slots.{HasTable}
 use Rattle.scan_loops.specs.Starting.{CanStart}
 use Rattle.scan_loops.specs.declared.levels.LoopLevel.{LoopLevel}
@@ -37,6 +39,7 @@ use Rattle.loop_plans.specs.Places.{further}
 use Rattle.loop_plans.specs.Offered.{OfferForm, undecided, source_of, number_of, offers_from, core_conditions, core_reads, core_offers, AreLevels}
 use Rattle.loop_plans.specs.Plans.{tables_by, PlansAreLoopPlans}
 use Rattle.loop_plans.specs.Premises.{widths_in, HasPlaces, RowsAreWide, CountedIsInView, CountedIsWide, AreOfKinds, PlansCanStart, WishedComeInOrder, UnwishedAreUnlimited}
+use Rattle.loop_plans.proofs.Sounds.{has_slot}
 use Rattle.loop_plans.specs.Wished.{no_wish, wish_for, wish_of, ComesAlone}
 use Rattle.loop_runs.specs.Gathering.{levels_in}
 use Rattle.loop_runs.specs.Ordering.{IsUnlimited, PlanInOrder}
@@ -129,6 +132,16 @@ all_levels_so P es (s ∷ ss) w (given ∷ answers) (ls ∷ loops) so counts h =
   all_levels_so P es ss w answers loops so (All-tail (CoreCounts (widths_in es)) (core_form s) (map core_form ss) counts) h.1,
 )
 
+-- where the box of each level is honest, those of all their slots are
+honest_for : (boxes : List (Option BoxState)) (ls : List LoopLevel) → Each (λ (l : LoopLevel). HonestAt boxes l.source) ls → HonestFor ls boxes
+honest_for boxes [] h slot (k, lt, e) = absurd (omega (arith, lt))
+honest_for boxes (l ∷ ls) h slot (zero, lt, e) = subst (HonestAt boxes) e h.0
+honest_for boxes (l ∷ ls) h slot (suc k, lt, e) = honest_for boxes ls h.1 slot (k, omega (arith, lt), e)
+
+honest_levels : (boxes : List (Option BoxState)) (loops : List (List LoopLevel)) → Each (Each (λ (l : LoopLevel). HonestAt boxes l.source)) loops → Each (λ (ls : List LoopLevel). HonestFor ls boxes) loops
+honest_levels boxes [] h = tt
+honest_levels boxes (ls ∷ loops) h = (honest_for boxes ls h.0, honest_levels boxes loops h.1)
+
 -- ---- the loops of a core
 
 -- over tables of the same joined rows, what is a plan of a core is one
@@ -174,10 +187,10 @@ pub record Known (boxes : List (Option BoxState)) (es : List BoundEntry) (kss : 
   pub unwished : UnwishedAreUnlimited
   pub typed : AreOfKinds (bound_at boxes) es kss
   pub places : HasPlaces es
-  pub wide : AllHonest boxes → RowsAreWide es (tables_by es (rows_at boxes))
+  pub wide : HonestOver (map entry_place es) boxes → RowsAreWide es (tables_by es (rows_at boxes))
 
 module _ (boxes : List (Option BoxState)) (es : List BoundEntry) (kss : List (List ColType)) (k : Known boxes es kss) where
-  core_planned : (s : SelectCore) (w : WishForm) (answers : List Agreement2) (ls : List LoopLevel) → CoreCounts (widths_in es) (core_form s) → CoreWithin (widths_in es) (core_form s) → AllHonest boxes
+  core_planned : (s : SelectCore) (w : WishForm) (answers : List Agreement2) (ls : List LoopLevel) → CoreCounts (widths_in es) (core_form s) → CoreWithin (widths_in es) (core_form s) → HonestOver (map entry_place es) boxes
       → AreLevels w (core_offers es (core_form s)) answers ls → IsPlanned (rows_at boxes) (entry_rows boxes (map entry_place es)) s ls
   core_planned s w answers [] counts within honest h =
       none_read es (core_reads es (core_form s)) (core_conditions es (core_form s)) s.from.items (none_offered w (core_offers es (core_form s)) answers h)
@@ -186,7 +199,7 @@ module _ (boxes : List (Option BoxState)) (es : List BoundEntry) (kss : List (Li
       plan_over s (tables_by es (rows_at boxes)) (entry_rows boxes (map entry_place es)) (map whole (levels_of (rows_at boxes) (l ∷ ls))) (joined_over boxes es s counts)
       (k.are_plans s es w answers (l ∷ ls) (rows_at boxes) (k.in_view es (core_form s) counts within k.places some) (k.counted_wide s es (rows_at boxes) counts (k.wide honest)) h)
 
-  pub all_planned : (ss : List SelectCore) (w : WishForm) (answers : List (List Agreement2)) (loops : List (List LoopLevel)) → All (CoreCounts (widths_in es)) (map core_form ss) → All (CoreWithin (widths_in es)) (map core_form ss) → AllHonest boxes
+  pub all_planned : (ss : List SelectCore) (w : WishForm) (answers : List (List Agreement2)) (loops : List (List LoopLevel)) → All (CoreCounts (widths_in es)) (map core_form ss) → All (CoreWithin (widths_in es)) (map core_form ss) → HonestOver (map entry_place es) boxes
       → AllLevels w (cores_offers es ss) answers loops → ArePlanned (rows_at boxes) (entry_rows boxes (map entry_place es)) ss loops
   all_planned [] w [] [] counts within honest h = tt
   all_planned [] w [] (ls ∷ loops) counts within honest h = absurd h
@@ -294,9 +307,13 @@ plan_for boxes bound plan w answers in_view counted_wide can_start are_plans wis
       limits = in_order plan bound.select same (limits boxes bound.entries.items ready.kinds known bound.select w bound.select.cores.items answers (levels_in plan.loops.items) refl is_wish ready.counts.cores ready.view allowed levels);
     }
 
-    over : AllHonest boxes → IsPlanOver (entry_rows boxes (map entry_place bound.entries.items)) plan boxes
+    entry_honest : HonestOver (map entry_place bound.entries.items) boxes → (k : ℕ) → k < length bound.entries.items → HonestAt boxes (source_of bound.entries.items k)
+    entry_honest honest k lt = honest (source_of bound.entries.items k) (has_slot bound.entries.items k lt)
+
+    over : HonestOver (map entry_place bound.entries.items) boxes → IsPlanOver (entry_rows boxes (map entry_place bound.entries.items)) plan boxes
     over honest = record {
-      honest = honest;
+      honest = honest_levels boxes (levels_in plan.loops.items)
+          (all_levels_so (λ slot table. HonestAt boxes slot) bound.entries.items bound.select.cores.items w answers (levels_in plan.loops.items) (entry_honest honest) ready.counts.cores levels);
       planned = subst (λ (ss : List SelectCore). ArePlanned (rows_at boxes) (entry_rows boxes (map entry_place bound.entries.items)) ss (levels_in plan.loops.items)) (sym cores)
           (all_planned boxes bound.entries.items ready.kinds known bound.select.cores.items w answers (levels_in plan.loops.items) ready.counts.cores ready.view honest levels);
     }

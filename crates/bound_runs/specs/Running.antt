@@ -14,7 +14,7 @@ use Rattle.fdw_api.specs.State.{BoxState}
 use Rattle.med_binder.specs.Place.{Place, entry_place}
 use Rattle.med_query.specs.Causes.{IsShownCause}
 use Rattle.med_planner.specs.Planned.{entry_rows}
-use Rattle.scan_loops.specs.Serving.{AllHonest}
+use Rattle.med_exec.specs.Running.{HonestOver}
 use Rattle.scan_loops.specs.Scans.{bound_at, rows_at}
 use Rattle.scan_loops.specs.Counting.{scans_in}
 use Rattle.loop_plans.specs.Plans.{tables_by}
@@ -34,19 +34,21 @@ pub record IsReady (boxes : List (Option BoxState)) (bound : BoundQuery) : Type 
   pub counts : FormCounts (bound_widths bound) (form_of bound.select)
   pub view : FormWithin (bound_widths bound) (form_of bound.select)
   pub alike : FormAlike kinds (form_of bound.select)
-  pub wide : AllHonest boxes → RowsAreWide bound.entries.items (tables_by bound.entries.items (rows_at boxes))
+  pub wide : HonestOver (map entry_place bound.entries.items) boxes
+      → RowsAreWide bound.entries.items (tables_by bound.entries.items (rows_at boxes))
   pub safe : are_safe_cores bound.select.cores.items ≡ true
 
--- a plan of a bound query: it may be run, it has one level for each entry of each core, by what the boxes agreed to, and where all boxes
--- tell the truth, it is a plan over the rows of the entries' tables
+-- a plan of a bound query: it may be run, it has one level for each entry of each core, by what the boxes agreed to, and where the boxes
+-- of the entries tell the truth, it is a plan over the rows of the entries' tables
 pub record IsPlanFor (boxes : List (Option BoxState)) (bound : BoundQuery) (plan : LoopPlan) : Type 0 where
   pub query : plan.select ≡ bound.select
   pub run : CanRun boxes plan
   pub scans : (slot : ℕ) → scans_in (plan_levels plan) slot ≡ scans_of bound slot
   pub agreed : AreAgreed boxes bound (levels_in plan.loops.items)
-  pub over : AllHonest boxes → IsPlanOver (entry_rows boxes (map entry_place bound.entries.items)) plan boxes
+  pub over : HonestOver (map entry_place bound.entries.items) boxes
+      → IsPlanOver (entry_rows boxes (map entry_place bound.entries.items)) plan boxes
 
--- over these rows of its entries, where all boxes tell the truth, the query is answered so, and no cause of the run stands
+-- over these rows of its entries, where their boxes tell the truth, the query is answered so, and no cause of the run stands
 pub record RunAnswers (q : Query) (places : List Place) (boxes : List (Option BoxState)) (rows : List Tuple) : Type 0 where
-  pub answers : AllHonest boxes → IsAnswer q (entry_rows boxes places) rows
-  pub clear : AllHonest boxes → (c : Cause) → IsShownCause q (entry_rows boxes places) c → ⊥
+  pub answers : HonestOver places boxes → IsAnswer q (entry_rows boxes places) rows
+  pub clear : HonestOver places boxes → (c : Cause) → IsShownCause q (entry_rows boxes places) c → ⊥

@@ -13,6 +13,6 @@ mod Widening
 mod Typing
 mod Matching
 mod Beginning
-mod Sounds
+pub mod Sounds
 mod Orders
 mod Ordering

@@ -1,16 +1,17 @@
 -- The rows of an honest and sound box are as wide as its tables.
-use Rattle.std.proofs.Common.{◌≡◌, ℕ, ◌<◌, Bool, true, false, ◌&&◌, List, [], ◌∷◌, map, length, get_or, Option, Some, None, slice_get, refl, sym, ap, ◌∙◌, subst, arith}
+use Rattle.std.proofs.Common.{◌≡◌, ℕ, zero, suc, Contains, ◌<◌, Bool, true, false, ◌&&◌, List, [], ◌∷◌, map, length, get_or, Option, Some, None, slice_get, refl, sym, ap, ◌∙◌, subst, arith}
 use Rattle.std.specs.List.{list_all}
 use Rattle.std.proofs.lemmas.List.{length-map}
 use Rattle.std.proofs.lemmas.Option.{slice_get-get_or}
 use Rattle.med_value.specs.Datum.{Tuple}
 use Rattle.med_value.specs.declared.value.ColType.{ColType}
+use Rattle.med_binder.specs.Place.{Place, entry_place}
 use Rattle.med_binder.specs.declared.bound.BoundEntry.{BoundEntry}
 use Rattle.fdw_api.specs.Scan.{TableRow, has_kind, is_clean, row_fits}
 use Rattle.fdw_api.specs.State.{BoxTable, BoxState, rows_of}
 use Rattle.nested_loops.specs.Joins.{Each}
 use Rattle.scan_loops.specs.Scans.{or_none, bound_in, bound_at, rows_in, rows_at}
-use Rattle.scan_loops.specs.Serving.{AllHonest}
+use Rattle.scan_loops.specs.Serving.{HonestAt}
 use Rattle.loop_plans.specs.Flat.{width_of}
 use Rattle.loop_plans.specs.Offered.{source_of, number_of}
 use Rattle.loop_plans.specs.Premises.{AllSound, SoundIsWide}
@@ -39,11 +40,20 @@ all_long kinds [] h = tt
 all_long kinds (r ∷ rows) h =
     (fits_long kinds r.cells (and_left (row_fits kinds r.cells) (list_all (λ r. row_fits kinds r.cells) rows) h), all_long kinds rows (and_right (row_fits kinds r.cells) (list_all (λ r. row_fits kinds r.cells) rows) h))
 
-module _ (boxes : List (Option BoxState)) (honest : AllHonest boxes) (sound : AllSound boxes) where
-  rows_long : (slot t : ℕ) (table : BoxTable) (o : Option (Option BoxState)) → slice_get boxes slot ≡ o → bound_in (or_none o) t ≡ Some table → Each (λ r. length r ≡ length table.kinds) (rows_in (or_none o) t)
-  rows_long slot t table None e is = tt
-  rows_long slot t table (Some None) e is = tt
-  rows_long slot t table (Some (Some s)) e is = all_long table.kinds (rows_of s t) ((sound slot s e).typed (honest slot s e) t table is)
+module _ (boxes : List (Option BoxState)) (sound : AllSound boxes) (slot : ℕ) (honest : HonestAt boxes slot) where
+  rows_long : (t : ℕ) (table : BoxTable) (o : Option (Option BoxState)) → slice_get boxes slot ≡ o → bound_in (or_none o) t ≡ Some table → Each (λ r. length r ≡ length table.kinds) (rows_in (or_none o) t)
+  rows_long t table None e is = tt
+  rows_long t table (Some None) e is = tt
+  rows_long t table (Some (Some s)) e is = all_long table.kinds (rows_of s t) ((sound slot s e).typed (honest s e) t table is)
+
+-- the slot of an entry is among those of all
+pub has_slot : (es : List BoundEntry) (k : ℕ) → k < length es → Contains (map (λ (p : Place). p.source) (map entry_place es)) (source_of es k)
+has_slot [] k lt = absurd (omega (arith, lt))
+has_slot (e ∷ es) zero lt = (zero, omega arith, refl)
+has_slot (e ∷ es) (suc k) lt =
+    let c = has_slot es k (omega (arith, lt)) in
+    let within = c.1 in
+    (suc c.0, omega (arith, within), c.2)
 
 pub sound_is_wide : SoundIsWide
 sound_is_wide es kss boxes are honest sound k h =
@@ -54,4 +64,4 @@ sound_is_wide es kss boxes are honest sound k h =
     let i = are.each k ks (slice_get-get_or kss k [] lt) in
     let slot = source_of es k in
     let same : length i.table.kinds ≡ width_of es k = ap length i.kinds ∙ sym (wide_as es kss (bound_at boxes) are k lt) in
-    subst (λ (n : ℕ). Each (λ r. length r ≡ n) (rows_at boxes slot (number_of es k))) same (rows_long boxes honest sound slot (number_of es k) i.table (slice_get boxes slot) refl i.is)
+    subst (λ (n : ℕ). Each (λ r. length r ≡ n) (rows_at boxes slot (number_of es k))) same (rows_long boxes sound slot (honest slot (has_slot es k h)) (number_of es k) i.table (slice_get boxes slot) refl i.is)

@@ -35,8 +35,8 @@ pub fn bound_cores_are_in_view()
     ensures { CountedIsInView }
 {}
 
-/// Where each row of an entry's table has a cell for each of its columns, the rows of FROM's entries are as wide as these. So are the rows
-/// of honest boxes that have in their tables rows of their columns' types.
+/// Where each row of an entry's table has a cell for each of its columns, the rows of FROM's entries are as wide as these. So are those
+/// of honest boxes that have in their tables rows of their columns' types, whatever boxes stand beside these.
 pub fn bound_rows_are_wide()
     ensures counted { CountedIsWide }
     ensures sound { SoundIsWide }

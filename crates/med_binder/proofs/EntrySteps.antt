@@ -6,7 +6,7 @@ use Rattle.med_value.specs.declared.cause.Cause.TheVariants.{UndefinedTable}
 use Rattle.med_syntax.specs.QueryTree.{EntryTree}
 use Rattle.bind_names.specs.Scope.{TableShape, place_named, entry_place}
 use Rattle.bind_names.specs.Naming.{entry_causes}
-use Rattle.bind_names.specs.declared.table.AttachedTable.{AttachedTable}
+use Rattle.bind_names.specs.declared.table.TableView.{TableView}
 use Rattle.med_binder.specs.Binding.{IsEntryOf}
 use Rattle.med_binder.specs.declared.bound.BoundEntry.{BoundEntry}
 
@@ -19,5 +19,5 @@ entry_known tables e p h = ap (λ (p : Option ℕ). if is_some p then [] else Un
 pub entry_placed : (tables : List TableShape) (e : EntryTree) (p : ℕ) → place_named tables e.table ≡ Some p → p ≡ entry_place tables e
 entry_placed tables e p h = sym (ap (λ p. unwrap_or p 0) h)
 
-pub all_and : (tables : List AttachedTable) (xs : List BoundEntry) (x : BoundEntry) → All (IsEntryOf tables) xs → IsEntryOf tables x → All (IsEntryOf tables) (xs ++ x ∷ [])
+pub all_and : (tables : List TableView) (xs : List BoundEntry) (x : BoundEntry) → All (IsEntryOf tables) xs → IsEntryOf tables x → All (IsEntryOf tables) (xs ++ x ∷ [])
 all_and tables xs x h k = All-append (IsEntryOf tables) xs (x ∷ []) h (All-cons (IsEntryOf tables) x [] k (All-nil (IsEntryOf tables)))

@@ -9,7 +9,7 @@ use Rattle.bind_names.specs.Naming.{NameCauses}
 use Rattle.bind_types.specs.Kinds.{types_in}
 use Rattle.bind_types.specs.Typing.{answer_types, TypeCauses}
 use Rattle.bind_names.specs.Meaning.{Meant, meant}
-use Rattle.bind_names.specs.declared.table.AttachedTable.{AttachedTable}
+use Rattle.bind_names.specs.declared.table.TableView.{TableView}
 use Rattle.med_binder.specs.declared.bound.BoundEntry.{BoundEntry}
 use Rattle.med_binder.specs.declared.bound.BoundQuery.{BoundQuery}
 
@@ -20,12 +20,12 @@ pub record IsMeant (m : Meant) (b : BoundQuery) : Type 0 where
   pub form : form_of b.select ≡ m.form
 
 -- an entry is the table in its place
-pub record IsEntryOf (tables : List AttachedTable) (e : BoundEntry) : Type 0 where
-  pub table : AttachedTable
+pub record IsEntryOf (tables : List TableView) (e : BoundEntry) : Type 0 where
+  pub table : TableView
   pub there : slice_get tables e.place ≡ Some table
   pub source : e.source ≡ table.source
   pub number : e.table ≡ table.number
-  pub width : e.width ≡ length table.columns.items
+  pub width : e.width ≡ length table.columns.now
 
 -- the bound query is the statement over these tables
 abbrev pub IsBound : List TableShape → StatementTree → BoundQuery → Type 0

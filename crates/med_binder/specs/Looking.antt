@@ -10,7 +10,7 @@ use Rattle.bind_names.specs.Scope.{TableShape, Scope, table_shape, entries_of}
 use Rattle.bind_names.specs.Naming.{core_causes_in, core_asked_causes, order_name_causes, asked_causes, select_name_causes}
 use Rattle.bind_names.specs.Meaning.{Output, outputs_of, output_values, core_outputs, conditions_of, chains_meant, group_place, groups_rows, group_of, Sorting, keys_sorting, sorting_of, core_meant, cores_meant, meant_in}
 use Rattle.bind_names.specs.Telling.{TellsCause}
-use Rattle.bind_names.specs.declared.table.AttachedTable.{AttachedTable}
+use Rattle.bind_names.specs.declared.table.TableView.{TableView}
 use Rattle.bind_types.specs.Kinds.{types_in}
 use Rattle.bind_types.specs.Typing.{core_types, answer_types}
 use Rattle.bind_query.specs.Resolving.{sorting_form}
@@ -121,12 +121,12 @@ ResolvesCores tables sorting cs (Err x) = TellsCause (flat_map (core_asked_cause
 -- ---- the whole
 
 -- no cause of names stands, and the query is bound
-pub record IsLookedUp (tables : List AttachedTable) (q : SelectTree) (b : BoundQuery) : Type 0 where
+pub record IsLookedUp (tables : List TableView) (q : SelectTree) (b : BoundQuery) : Type 0 where
   pub meant : IsMeant (meant_in (map table_shape tables) q) b
   pub entries : All (IsEntryOf tables) b.entries.items
   pub kinds : bound_kinds b ≡ answer_types (map table_shape tables) q
   pub clear : select_name_causes (map table_shape tables) q ≡ []
 
-abbrev pub LooksUp : List AttachedTable → SelectTree → Result BoundQuery Cause → Type 0
+abbrev pub LooksUp : List TableView → SelectTree → Result BoundQuery Cause → Type 0
 LooksUp tables q (Ok b) = IsLookedUp tables q b
 LooksUp tables q (Err c) = TellsCause (select_name_causes (map table_shape tables) q) c

@@ -18,7 +18,7 @@ ghost use Rattle.std.specs.Prelude.{◌≡◌, ◌⊎◌, map, true, All, IfOk, 
 
 use crate::bound::BoundQuery;
 use crate::look_up::look_up;
-use bind_names::AttachedTable;
+use bind_names::TableView;
 use bind_types::{check_form, check_outputs, check_written};
 use med_syntax::{Select, Statement};
 use med_value::Cause;
@@ -28,7 +28,7 @@ use std::alloc::Global;
 fn bind_select(
     alloc: Global,
     select: &Select,
-    tables: &[AttachedTable],
+    tables: &[TableView<'_>],
 ) -> Result<BoundQuery, Cause>
     ensures binds { Binds (select_name_causes (map table_shape tables.now) (select_tree select.now))
         (select_type_causes (map table_shape tables.now) (select_tree select.now))
@@ -57,7 +57,7 @@ fn query_of(statement: &Statement) -> &Select
 fn bind_statement(
     alloc: Global,
     statement: &Statement,
-    tables: &[AttachedTable],
+    tables: &[TableView<'_>],
 ) -> Result<BoundQuery, Cause>
     ensures binds { Binds (statement_name_causes (map table_shape tables.now) (statement_tree statement.now))
         (statement_type_causes (map table_shape tables.now) (statement_tree statement.now))
@@ -83,7 +83,7 @@ fn bind_statement(
 pub fn bind(
     alloc: Global,
     statement: &Statement,
-    tables: &[AttachedTable],
+    tables: &[TableView<'_>],
     _user: &str,
 ) -> Result<BoundQuery, Cause>
     // What is answered means the statement.

@@ -10,7 +10,7 @@ ghost use Rattle.med_syntax.specs.QueryTree.{cores_of};
 ghost use Rattle.med_syntax.specs.QueryView.{core_tree, select_tree};
 ghost use Rattle.std.specs.Prelude.{ℕ, ◌+◌, [], length, map};
 
-use bind_names::{AttachedTable, Visible, entries_of, from_in_view};
+use bind_names::{TableView, Visible, entries_of, from_in_view};
 use bind_query::grouping::grouping;
 use bind_query::joins::{chains, conditions};
 use bind_query::keys::places;
@@ -56,7 +56,7 @@ pub(crate) struct QueryHead {
 /// What the first core says of a query, or why one of its items or a key of ORDER BY is refused.
 pub(crate) fn query_head(
     alloc: Global,
-    tables: &[AttachedTable],
+    tables: &[TableView<'_>],
     select: &Select,
 ) -> Result<QueryHead, Cause>
     ensures { Heads (map table_shape tables.now) (select_tree select.now) result }
@@ -89,7 +89,7 @@ struct AskedCore {
 // What a core asks of the entries in view, of which the first has this number, or why a name in it is refused.
 fn ask(
     alloc: Global,
-    tables: &[AttachedTable],
+    tables: &[TableView<'_>],
     scope: &[Visible<'_>],
     number: usize,
     core: &Core,
@@ -156,7 +156,7 @@ struct ResolvedCore {
 // A core whose first entry has this number, its names being resolved, or why one is refused.
 fn resolved_core(
     alloc: Global,
-    tables: &[AttachedTable],
+    tables: &[TableView<'_>],
     sorting: &Sorting,
     number: usize,
     core: &Core,
@@ -194,7 +194,7 @@ pub(crate) struct ResolvedCores {
 // One core more, whose first entry has this number. Answers the number of the first entry behind it.
 fn push_core(
     alloc: Global,
-    tables: &[AttachedTable],
+    tables: &[TableView<'_>],
     sorting: &Sorting,
     number: usize,
     core: &Core,
@@ -212,7 +212,7 @@ fn push_core(
 // The same of one core after another.
 fn push_cores(
     alloc: Global,
-    tables: &[AttachedTable],
+    tables: &[TableView<'_>],
     sorting: &Sorting,
     first: usize,
     cores: &[Core],
@@ -230,7 +230,7 @@ fn push_cores(
 /// The cores of a query, whose entries are counted over all of them from 0, or why a name in one is refused.
 pub(crate) fn resolved_cores(
     alloc: Global,
-    tables: &[AttachedTable],
+    tables: &[TableView<'_>],
     sorting: &Sorting,
     select: &Select,
 ) -> Result<ResolvedCores, Cause>

@@ -7,13 +7,13 @@ ghost use Rattle.bind_names.specs.Seen.{seen_entry};
 ghost use Rattle.med_binder.specs.Entries.{BindsEntry, BindsEntries};
 
 use crate::bound::BoundEntry;
-use bind_names::{AttachedTable, table_named};
+use bind_names::{TableView, table_named};
 use med_syntax::Entry;
 use med_value::Cause;
 use std::alloc::Global;
 
 // The table that an entry stands for.
-fn bound_entry(tables: &[AttachedTable], entry: &Entry) -> Result<BoundEntry, Cause>
+fn bound_entry(tables: &[TableView<'_>], entry: &Entry) -> Result<BoundEntry, Cause>
     ensures { BindsEntry tables.now (entry_tree entry.now) result }
 {
     match table_named(tables, entry.table.as_str()) {
@@ -22,7 +22,7 @@ fn bound_entry(tables: &[AttachedTable], entry: &Entry) -> Result<BoundEntry, Ca
             place: found.place,
             source: found.table.source,
             table: found.table.number,
-            width: found.table.columns.as_slice().len(),
+            width: found.table.columns.len(),
         }),
     }
 }
@@ -30,7 +30,7 @@ fn bound_entry(tables: &[AttachedTable], entry: &Entry) -> Result<BoundEntry, Ca
 /// The tables that the entries stand for: 42P01 where there is no such table.
 pub fn bound_entries(
     alloc: Global,
-    tables: &[AttachedTable],
+    tables: &[TableView<'_>],
     entries: &[&Entry],
 ) -> Result<Vec<BoundEntry>, Cause>
     ensures { BindsEntries tables.now (map seen_entry entries.now) result }

@@ -16,6 +16,6 @@ mod entries;
 pub mod law;
 mod look_up;
 
-pub use bind_names::AttachedTable;
+pub use bind_names::TableView;
 pub use binding::bind;
 pub use bound::{BoundEntry, BoundQuery};

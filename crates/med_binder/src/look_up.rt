@@ -12,7 +12,7 @@ ghost use Rattle.std.specs.Prelude.{◌≡◌, map, flat_map, option_map, unwrap
 use crate::bound::BoundQuery;
 use crate::cores::{query_head, resolved_cores};
 use crate::entries::bound_entries;
-use bind_names::{AttachedTable, check_names, from_in_view, query_entries};
+use bind_names::{TableView, check_names, from_in_view, query_entries};
 use bind_query::keys::directions;
 use med_query::Select as Resolved;
 use med_syntax::{Core, Limit, Select};
@@ -20,7 +20,7 @@ use med_value::Cause;
 use std::alloc::Global;
 
 // 42712 where two entries of a core have one name.
-fn check_core_names(alloc: Global, tables: &[AttachedTable], core: &Core) -> Result<(), Cause>
+fn check_core_names(alloc: Global, tables: &[TableView<'_>], core: &Core) -> Result<(), Cause>
     ensures { Passes (core_alias_causes (core_tree core.now)) result }
 {
     let scope = from_in_view(alloc, tables, core.from.as_slice())?;
@@ -28,7 +28,7 @@ fn check_core_names(alloc: Global, tables: &[AttachedTable], core: &Core) -> Res
 }
 
 // The same of each core.
-fn check_each_names(alloc: Global, tables: &[AttachedTable], cores: &[Core]) -> Result<(), Cause>
+fn check_each_names(alloc: Global, tables: &[TableView<'_>], cores: &[Core]) -> Result<(), Cause>
     ensures { Passes (flat_map core_alias_causes (map core_tree cores.now)) result }
 {
     for core in cores {
@@ -38,7 +38,7 @@ fn check_each_names(alloc: Global, tables: &[AttachedTable], cores: &[Core]) -> 
 }
 
 // The same of the cores of a query.
-fn check_entry_names(alloc: Global, tables: &[AttachedTable], select: &Select) -> Result<(), Cause>
+fn check_entry_names(alloc: Global, tables: &[TableView<'_>], select: &Select) -> Result<(), Cause>
     ensures { Passes (flat_map core_alias_causes (cores_of (select_tree select.now))) result }
 {
     check_core_names(alloc, tables, &select.core)?;
@@ -74,7 +74,7 @@ fn rows_skipped(offset: &Option<u64>) -> usize
 pub fn look_up(
     alloc: Global,
     select: &Select,
-    tables: &[AttachedTable],
+    tables: &[TableView<'_>],
 ) -> Result<BoundQuery, Cause>
     ensures { LooksUp tables.now (select_tree select.now) result }
 {

@@ -1,10 +1,12 @@
 -- What is left of the scans that a run holds, by what is done to the boxes besides.
 use Rattle.std.specs.Prelude.{◌≡◌, ◌↔◌, ℕ, List, Option, Some, slice_get, Contains}
 use Rattle.med_value.specs.Datum.{Tuple}
+use Rattle.scan_loops.specs.Running.{HonestFor}
 use Rattle.fdw_api.specs.State.{Scan, BoxState, is_honest, table_of, scan_of, rows_of}
 use Rattle.med_exec.specs.declared.running.Run.{Run}
 use Rattle.med_exec.specs.Slots.{BoxAt}
-use Rattle.med_exec.specs.Running.{Held, AllHonest}
+use Rattle.med_exec.specs.Running.{Held}
+use Rattle.med_exec.specs.Pulling.{levels_in}
 use Rattle.med_exec.specs.Rests.{Rests, held, IsRunning}
 
 -- no scan is one of both
@@ -32,7 +34,7 @@ LeavesRun run old new = (slot number : ℕ) → Contains (held run slot) number 
 -- a run is good for its next row as it was, and may give just the rows that it could give before
 pub record GoesOn (run : Run) (old new : List (Option BoxState)) : Type 0 where
   pub running : IsRunning run new
-  pub rests : AllHonest old → (rows : List Tuple) → Rests run old rows ↔ Rests run new rows
+  pub rests : HonestFor (levels_in run) old → (rows : List Tuple) → Rests run old rows ↔ Rests run new rows
 
 -- each of these scans that is live before and after is of the table that it was of, with its columns' types
 abbrev pub KeepTables : Held → List (Option BoxState) → List (Option BoxState) → Type 0

@@ -1,43 +1,37 @@
 -- What a text's tokens say of its command and of its causes.
-use Rattle.std.proofs.Common.{◌≡◌, ℕ, ◌≤◌, ◌<◌, ◌⊎◌, inl, inr, arith, true, false, List, [], ◌∷◌, ◌++◌, codes, refl, sym, ◌∙◌, ap, subst}
-use Rattle.std.specs.Prelude.{Any, Result, Ok, Err, IfOk, OnOk, IfErr, Option, String, count_by}
+use Rattle.std.proofs.Common.{◌≡◌, ℕ, ◌≤◌, ◌⊎◌, inl, inr, arith, true, false, List, refl, sym, ◌∙◌, ap, subst}
+use Rattle.std.specs.Prelude.{Any, Result, Ok, Err, IfOk, OnOk, IfErr, String}
 use Rattle.std.specs.String.{string_bytes}
 use Rattle.med_value.specs.declared.cause.Cause.{Cause}
 use Rattle.med_value.specs.declared.cause.Cause.TheVariants as causes
 use Rattle.med_lexer.specs.declared.Token.{Token}
-use Rattle.med_lexer.specs.Lexemes.{Shape, word, Lexeme, Lexes}
+use Rattle.med_lexer.specs.Lexemes.{Shape, Lexeme, Lexes}
 use Rattle.med_lexer.specs.View.{views}
-use Rattle.expr_grammar.specs.Shapes.{shapes, IsLongName, deepens}
+use Rattle.expr_grammar.specs.Shapes.{shapes, IsLongName}
 use Rattle.expr_grammar.specs.View.{shapes_of, LexesOnly, cause_of}
 use Rattle.expr_grammar.specs.declared.fault.ParseFault.{ParseFault}
 use Rattle.expr_grammar.specs.declared.fault.ParseFault.TheVariants as parse_faults
 use Rattle.med_syntax.specs.declared.statement.Statement.{Statement}
 use Rattle.expr_grammar.specs.declared.refusal.ReadFault.{ReadFault}
 use Rattle.expr_grammar.specs.declared.refusal.ReadFault.TheVariants as faults
-use Rattle.expr_grammar.specs.declared.refusal.Refusal.{Refusal}
 use Rattle.expr_grammar.specs.declared.refusal.Refusal.TheVariants.{Syntax, TooHigh}
 use Rattle.expr_grammar.specs.ExprTerminals.{AreReadable}
 use Rattle.query_grammar.specs.declared.query_symbols.Place.TheVariants.{Before}
 use Rattle.query_grammar.specs.QueryTerminals.{words_at}
 use Rattle.expr_grammar.specs.ExprAnswers.{ReadsAs, cause_of_read}
-use Rattle.med_syntax.specs.QueryTree.{StatementTree, select, statement_height}
-use Rattle.query_grammar.specs.QueryGrammar.{SpellsCore, Spells, IsStatement, HasStatement}
+use Rattle.med_syntax.specs.QueryTree.{StatementTree, statement_height}
+use Rattle.query_grammar.specs.QueryGrammar.{IsStatement, HasStatement}
 use Rattle.query_grammar.specs.QueryCauses.{statement_in_range}
 use Rattle.query_print.specs.QueryPrinting.{printed_statement}
 use Rattle.ddl_parser.specs.DdlPrinting.{printed_ddl}
 use Rattle.med_parser.specs.CommandPrinting.{printed_command}
-use Rattle.query_grammar.specs.QueryTerminals.{IsWord, AreWords, is_free_keyword}
-use Rattle.med_syntax.specs.Terminal.{Terminal, word_terminal, terminal_of, IsTerminal, AreTerminals}
-use Rattle.med_syntax.specs.Terminal as t
-use Rattle.med_syntax.specs.Words.{is_reserved}
 use Rattle.ddl_syntax.specs.DdlTree.{DdlTree}
 use Rattle.ddl_syntax.specs.DdlView.{ddl_tree}
 use Rattle.med_parser.specs.CommandTree.{CommandTree, on_data, on_rows, on_cursors, on_objects, command_height, command_tree}
-use Rattle.med_syntax.specs.Tree.{Name}
-use Rattle.write_syntax.specs.WriteTree.{GivenTree, values, rows_of, WriteTree, insert, update, delete}
+use Rattle.write_syntax.specs.WriteTree.{WriteTree}
 use Rattle.write_syntax.specs.WriteView.{write_tree}
 use Rattle.write_syntax.specs.declared.write.WriteStatement.{WriteStatement}
-use Rattle.write_parser.specs.WriteGrammar.{SpellsInsert, SpellsUpdate, SpellsDelete, IsLineOf, IsInsert, IsWrite, HasWrite}
+use Rattle.write_parser.specs.WriteGrammar.{IsWrite, HasWrite}
 use Rattle.write_parser.specs.WriteCauses.{write_in_range, Refuses}
 use Rattle.write_parser.proofs.WriteRead.{one_write}
 use Rattle.write_print.specs.WritePrinting.{printed_write}
@@ -53,8 +47,11 @@ use Rattle.med_parser.specs.declared.command.Command.{Command}
 use Rattle.med_parser.specs.declared.command.Command.TheVariants as commands
 use Rattle.ddl_syntax.specs.declared.ddl.Ddl.{Ddl}
 use Rattle.ddl_parser.specs.DdlGrammar.{IsDdl, HasDdl}
-use Rattle.ddl_parser.proofs.DdlComplete.{begun}
+use Rattle.med_parser.specs.declared.command_kind.CommandKind.{CommandKind}
+use Rattle.med_parser.specs.declared.command_kind.CommandKind.TheVariants as kinds
+use Rattle.med_parser.specs.CommandKinds.{kind_of_tree}
 use Rattle.med_parser.specs.CommandGrammar.{IsCommand, HasCommand}
+use Rattle.med_parser.proofs.CommandBegins.{one_kind}
 use Rattle.med_parser.specs.CommandCauses.{command_in_range, is_fetch_zero_command, TokenCauses, SyntaxCauses}
 use Rattle.query_reader.specs.QueryReading.{bounded_line}
 use Rattle.med_syntax.specs.QueryView.{statement_tree}
@@ -64,200 +61,61 @@ use Rattle.query_reader.proofs.QueryComplete.{one_line}
 use Rattle.ddl_parser.proofs.DdlComplete as ddl
 use Rattle.query_grammar.proofs.QueryTerminals.{to_terminals, of_terminals}
 use Rattle.query_reader.proofs.QueryWeighing.{words_weigh, bounded_sound, bounded_out, bounded_told}
-use Rattle.std.specs.Str.{bytes_eq}
-use Rattle.std.proofs.lemmas.Slice.Eq.{bytes_eq-Decides}
 
 -- ---- no tokens are statements of two kinds
-
--- what begins with CREATE or DROP does not begin with SELECT
-not_select : (w : List ℕ) (ss : List Shape) (u : Terminal) → word_terminal w ≡ t.Reserved w → is_free_keyword w ≡ false → bytes_eq w (codes "unknown") ≡ false → bytes_eq w (codes "select") ≡ false → IsWord (word w) u → u ≡ t.Reserved (codes "select") → ⊥
-not_select w ss u r f n d (inl (inl h)) e = absurd (let same : t.Reserved w ≡ t.Reserved (codes "select") = sym r ∙ sym h ∙ e in let equal : w ≡ codes "select" = cc in let yes : bytes_eq w (codes "select") ≡ true = (bytes_eq-Decides w (codes "select")).1 equal in cc)
-not_select w ss u r f n d (inl (inr h)) e = absurd (let equal : w ≡ codes "unknown" = (let x : ◌≡◌ {A = Shape} (word w) (word (codes "unknown")) = h.0 in cc) in let yes : bytes_eq w (codes "unknown") ≡ true = (bytes_eq-Decides w (codes "unknown")).1 equal in cc)
-not_select w ss u r f n d (inr h) e = absurd (let equal : w ≡ h.0 = (let x : ◌≡◌ {A = Shape} (word w) (word h.0) = h.1 in cc) in let no : is_free_keyword h.0 ≡ false = ap is_free_keyword (sym equal) ∙ f in cc)
-
-create_terminal : word_terminal (codes "create") ≡ t.Reserved (codes "create")
-unfolding is_reserved
-create_terminal = refl
-
-drop_terminal : word_terminal (codes "drop") ≡ t.Reserved (codes "drop")
-unfolding is_reserved
-drop_terminal = refl
-
-not_begun : (w : List ℕ) (ss us : List Shape) (ts : List Terminal) (rest : List Terminal) → word_terminal w ≡ t.Reserved w → is_free_keyword w ≡ false → bytes_eq w (codes "unknown") ≡ false → bytes_eq w (codes "select") ≡ false → ss ≡ word w ∷ us → AreWords ss ts → ts ≡ t.Reserved (codes "select") ∷ rest → ⊥
-not_begun w ss us ts rest r f n d p a q =
-    let b : AreWords (word w ∷ us) (t.Reserved (codes "select") ∷ rest) = subst (λ y. AreWords y (t.Reserved (codes "select") ∷ rest)) p (subst (AreWords ss) q a) in
-    not_select w us (t.Reserved (codes "select")) r f n d b.0 refl
-
-begins_select : (s : StatementTree) (ts : List Terminal) → Spells s ts → (rest : List Terminal) × (ts ≡ t.Reserved (codes "select") ∷ rest)
-begins_select (select q) ts x =
-    let c : SpellsCore q.core x.core = x.first in
-    let behind : List Terminal = x.others ++ (x.keys ++ x.limits) in
-    ((c.quantifier ++ (c.items ++ (c.from ++ (c.condition ++ (c.groups ++ c.having))))) ++ behind, x.is ∙ ap (λ us. us ++ behind) c.is)
-
-apart : (ss : List Shape) (s : StatementTree) (d : DdlTree) → IsStatement ss s → IsDdl ss d → ⊥
-apart ss s d x y =
-    let b = begins_select s x.2.0 x.2.3 in
-    let line : x.0 ≡ t.Reserved (codes "select") ∷ (b.0 ++ x.2.1) = x.2.2 ∙ ap (λ us. us ++ x.2.1) b.1 in
-    elim (begun ss d y) [
-      | inl h ↦ not_begun (codes "create") ss h.0 x.0 (b.0 ++ x.2.1) create_terminal refl refl refl h.1 x.1 line
-      | inr h ↦ not_begun (codes "drop") ss h.0 x.0 (b.0 ++ x.2.1) drop_terminal refl refl refl h.1 x.1 line
-    ]
-
--- the first token is this reserved word
-record FirstWord (ss : List Shape) (w : List ℕ) : Type 0 where
-  first : Shape
-  others : List Shape
-  is : ss ≡ first ∷ others
-  reserved : terminal_of first ≡ t.Reserved w
-
-reserved_token : (s : Shape) (w : List ℕ) → IsTerminal s (t.Reserved w) → terminal_of s ≡ t.Reserved w
-reserved_token s w (inl h) = sym h
-reserved_token s w (inr h) = absurd (let no : t.Reserved w ≡ t.Unknown = h.1 in cc)
-
-first_token : (ss : List Shape) (rest : List Terminal) (w : List ℕ) → AreTerminals ss (t.Reserved w ∷ rest) → FirstWord ss w
-first_token [] rest w a = absurd a
-first_token (s ∷ ss) rest w a = record { first = s; others = ss; is = refl; reserved = reserved_token s w a.0 }
-
-first_word : (ss : List Shape) (ts rest : List Terminal) (w : List ℕ) → AreTerminals ss ts → ts ≡ t.Reserved w ∷ rest → FirstWord ss w
-first_word ss ts rest w a p = first_token ss rest w (subst (AreTerminals ss) p a)
-
-line_word : (Spelling : List Terminal → Type 0) (w : List ℕ) (ss : List Shape) (x : IsLineOf Spelling ss) (rest : List Terminal) → x.0 ≡ t.Reserved w ∷ rest → FirstWord ss w
-line_word Spelling w ss x rest p = first_word ss (x.0 ++ x.1) (rest ++ x.1) w x.2 (ap (λ us. us ++ x.1) p)
-
-insert_word : (n : Name) (c : Option (List Name)) (g : GivenTree) (ss : List Shape) → IsInsert n c g ss → FirstWord ss (codes "insert")
-insert_word n c (values rows) ss x =
-    let s = x.3 in
-    line_word (SpellsInsert n c rows) (codes "insert") ss x ((t.Reserved (codes "into") ∷ t.Name n ∷ (s.3).0) ++ s.1) (s.2 ∙ ap (λ us. us ++ s.1) (s.3).1)
-insert_word n c (rows_of q) ss x =
-    let target = x.3 in
-    let f : FirstWord x.0 (codes "insert") = first_word x.0 target.0 (t.Reserved (codes "into") ∷ t.Name n ∷ (target.2).0) (codes "insert") target.1 (target.2).1 in
-    record { first = f.first; others = f.others ++ x.1; is = x.2 ∙ ap (λ us. us ++ x.1) f.is; reserved = f.reserved }
-
--- how a statement that writes rows begins
-abbrev BeginsRows : List Shape → Type 0
-BeginsRows ss = FirstWord ss (codes "insert") ⊎ FirstWord ss (codes "update") ⊎ FirstWord ss (codes "delete")
-
-begins_rows : (ss : List Shape) (w : WriteTree) → IsWrite ss w → BeginsRows ss
-begins_rows ss (insert i) x = inl (insert_word i.table i.columns i.given ss x)
-begins_rows ss (update u) x =
-    let s = x.3 in inr (inl (line_word (SpellsUpdate u) (codes "update") ss x (s.entry ++ t.Reserved (codes "set") ∷ (s.sets ++ s.condition)) s.is))
-begins_rows ss (delete d) x =
-    let s = x.3 in inr (inr (line_word (SpellsDelete d) (codes "delete") ss x (t.Reserved (codes "from") ∷ (s.entry ++ s.condition)) s.is))
-
-not_reserved : (v w : List ℕ) (s : Shape) → word_terminal v ≡ t.Reserved v → bytes_eq v w ≡ false → word v ≡ s → terminal_of s ≡ t.Reserved w → ⊥
-not_reserved v w s r d p q = absurd (let same : t.Reserved v ≡ t.Reserved w = sym r ∙ ap terminal_of p ∙ q in let equal : v ≡ w = cc in let yes : bytes_eq v w ≡ true = (bytes_eq-Decides v w).1 equal in cc)
-
-first_is : (s r : Shape) (ss rs : List Shape) → s ∷ ss ≡ r ∷ rs → s ≡ r
-first_is s r ss rs h = cc
-
-not_word : (ss us : List Shape) (v w : List ℕ) → word_terminal v ≡ t.Reserved v → bytes_eq v w ≡ false → ss ≡ word v ∷ us → FirstWord ss w → ⊥
-not_word ss us v w r d p f = not_reserved v w f.first r d (first_is (word v) f.first us f.others (sym p ∙ f.is)) f.reserved
-
-not_created : (ss us : List Shape) → ss ≡ word (codes "create") ∷ us → BeginsRows ss → ⊥
-not_created ss us p (inl f) = not_word ss us (codes "create") (codes "insert") create_terminal refl p f
-not_created ss us p (inr (inl f)) = not_word ss us (codes "create") (codes "update") create_terminal refl p f
-not_created ss us p (inr (inr f)) = not_word ss us (codes "create") (codes "delete") create_terminal refl p f
-
-not_dropped : (ss us : List Shape) → ss ≡ word (codes "drop") ∷ us → BeginsRows ss → ⊥
-not_dropped ss us p (inl f) = not_word ss us (codes "drop") (codes "insert") drop_terminal refl p f
-not_dropped ss us p (inr (inl f)) = not_word ss us (codes "drop") (codes "update") drop_terminal refl p f
-not_dropped ss us p (inr (inr f)) = not_word ss us (codes "drop") (codes "delete") drop_terminal refl p f
-
-objects_apart : (ss : List Shape) (w : WriteTree) (d : DdlTree) → IsWrite ss w → IsDdl ss d → ⊥
-objects_apart ss w d x y = elim (begun ss d y) [
-  | inl h ↦ not_created ss h.0 h.1 (begins_rows ss w x)
-  | inr h ↦ not_dropped ss h.0 h.1 (begins_rows ss w x)
-]
-
-not_queried : (s : Shape) (w : List ℕ) → terminal_of s ≡ t.Reserved w → bytes_eq w (codes "select") ≡ false → IsWord s (t.Reserved (codes "select")) → ⊥
-not_queried s w r d (inl (inl h)) = absurd (let same : t.Reserved w ≡ t.Reserved (codes "select") = sym r ∙ sym h in let equal : w ≡ codes "select" = cc in let yes : bytes_eq w (codes "select") ≡ true = (bytes_eq-Decides w (codes "select")).1 equal in cc)
-not_queried s w r d (inl (inr h)) = absurd (let no : t.Reserved (codes "select") ≡ t.Unknown = h.1 in cc)
-not_queried s w r d (inr h) = absurd (let equal : codes "select" ≡ h.0 = (let x : t.Reserved (codes "select") ≡ t.Reserved h.0 = h.3 in cc) in let free : is_free_keyword (codes "select") ≡ true = ap is_free_keyword equal ∙ h.2 in let no : is_free_keyword (codes "select") ≡ false = refl in cc)
-
-not_asked : (ss : List Shape) (rest : List Terminal) (w : List ℕ) → bytes_eq w (codes "select") ≡ false → AreWords ss (t.Reserved (codes "select") ∷ rest) → FirstWord ss w → ⊥
-not_asked ss rest w d a f =
-    let b : AreWords (f.first ∷ f.others) (t.Reserved (codes "select") ∷ rest) = subst (λ us. AreWords us (t.Reserved (codes "select") ∷ rest)) f.is a in
-    not_queried f.first w f.reserved d b.0
-
-not_select_rows : (ss : List Shape) (rest : List Terminal) → AreWords ss (t.Reserved (codes "select") ∷ rest) → BeginsRows ss → ⊥
-not_select_rows ss rest a (inl f) = not_asked ss rest (codes "insert") refl a f
-not_select_rows ss rest a (inr (inl f)) = not_asked ss rest (codes "update") refl a f
-not_select_rows ss rest a (inr (inr f)) = not_asked ss rest (codes "delete") refl a f
-
-rows_apart : (ss : List Shape) (s : StatementTree) (w : WriteTree) → IsStatement ss s → IsWrite ss w → ⊥
-rows_apart ss s w x y =
-    let b = begins_select s x.2.0 x.2.3 in
-    let line : x.0 ≡ t.Reserved (codes "select") ∷ (b.0 ++ x.2.1) = x.2.2 ∙ ap (λ us. us ++ x.2.1) b.1 in
-    not_select_rows ss (b.0 ++ x.2.1) (subst (AreWords ss) line x.1) (begins_rows ss w y)
-
-declare_terminal : word_terminal (codes "declare") ≡ t.Reserved (codes "declare")
-unfolding is_reserved
-declare_terminal = refl
-
-fetch_terminal : word_terminal (codes "fetch") ≡ t.Reserved (codes "fetch")
-unfolding is_reserved
-fetch_terminal = refl
-
-close_terminal : word_terminal (codes "close") ≡ t.Name (codes "close")
-unfolding is_reserved
-close_terminal = refl
-
--- CLOSE is no reserved word
-not_closed : (ss us : List Shape) (w : List ℕ) → ss ≡ word (codes "close") ∷ us → FirstWord ss w → ⊥
-not_closed ss us w p f =
-    absurd (let same : t.Name (codes "close") ≡ t.Reserved w = sym close_terminal ∙ ap terminal_of (first_is (word (codes "close")) f.first us f.others (sym p ∙ f.is)) ∙ f.reserved in cc)
-
-closed_apart : (ss us : List Shape) → ss ≡ word (codes "close") ∷ us → BeginsRows ss → ⊥
-closed_apart ss us p (inl f) = not_closed ss us (codes "insert") p f
-closed_apart ss us p (inr (inl f)) = not_closed ss us (codes "update") p f
-closed_apart ss us p (inr (inr f)) = not_closed ss us (codes "delete") p f
-
-declared_apart : (ss us : List Shape) → ss ≡ word (codes "declare") ∷ us → BeginsRows ss → ⊥
-declared_apart ss us p (inl f) = not_word ss us (codes "declare") (codes "insert") declare_terminal refl p f
-declared_apart ss us p (inr (inl f)) = not_word ss us (codes "declare") (codes "update") declare_terminal refl p f
-declared_apart ss us p (inr (inr f)) = not_word ss us (codes "declare") (codes "delete") declare_terminal refl p f
-
-fetched_apart : (ss us : List Shape) → ss ≡ word (codes "fetch") ∷ us → BeginsRows ss → ⊥
-fetched_apart ss us p (inl f) = not_word ss us (codes "fetch") (codes "insert") fetch_terminal refl p f
-fetched_apart ss us p (inr (inl f)) = not_word ss us (codes "fetch") (codes "update") fetch_terminal refl p f
-fetched_apart ss us p (inr (inr f)) = not_word ss us (codes "fetch") (codes "delete") fetch_terminal refl p f
-
-cursors_apart : (ss : List Shape) (w : WriteTree) (x : CursorTree) → IsWrite ss w → IsCursor ss x → ⊥
-cursors_apart ss w x y z = elim (cursor.begun ss x z) [
-  | inl h ↦ declared_apart ss h.0 h.1 (begins_rows ss w y)
-  | inr (inl h) ↦ fetched_apart ss h.0 h.1 (begins_rows ss w y)
-  | inr (inr h) ↦ closed_apart ss h.0 h.1 (begins_rows ss w y)
-]
 
 one_statement : (ss : List Shape) (r s : StatementTree) → IsStatement ss r → IsStatement ss s → r ≡ s
 one_statement ss r s x y = one_line (words_at (Before false) false ss) r s (to_terminals ss r x) (to_terminals ss s y)
 
 pub one_command : (ss : List Shape) (a b : CommandTree) → IsCommand ss a → IsCommand ss b → a ≡ b
 one_command ss (on_data r) (on_data s) x y = ap on_data (one_statement ss r s x y)
-one_command ss (on_data r) (on_rows w) x y = absurd (rows_apart ss r w x y)
-one_command ss (on_data r) (on_cursors e) x y = absurd (cursor.no_query ss e r y x)
-one_command ss (on_data r) (on_objects d) x y = absurd (apart ss r d x y)
-one_command ss (on_rows v) (on_data s) x y = absurd (rows_apart ss s v y x)
+one_command ss (on_data r) (on_rows w) x y = absurd (let no : kinds.Data ≡ kinds.Rows = one_kind ss (on_data r) (on_rows w) x y in cc)
+one_command ss (on_data r) (on_cursors f) x y = absurd (let no : kinds.Data ≡ kinds.Cursor = one_kind ss (on_data r) (on_cursors f) x y in cc)
+one_command ss (on_data r) (on_objects g) x y = absurd (let no : kinds.Data ≡ kinds.Objects = one_kind ss (on_data r) (on_objects g) x y in cc)
+one_command ss (on_rows v) (on_data s) x y = absurd (let no : kinds.Rows ≡ kinds.Data = one_kind ss (on_rows v) (on_data s) x y in cc)
 one_command ss (on_rows v) (on_rows w) x y = ap on_rows (one_write ss v w x y)
-one_command ss (on_rows v) (on_cursors e) x y = absurd (cursors_apart ss v e x y)
-one_command ss (on_rows v) (on_objects d) x y = absurd (objects_apart ss v d x y)
-one_command ss (on_cursors e) (on_data s) x y = absurd (cursor.no_query ss e s x y)
-one_command ss (on_cursors e) (on_rows w) x y = absurd (cursors_apart ss w e y x)
+one_command ss (on_rows v) (on_cursors f) x y = absurd (let no : kinds.Rows ≡ kinds.Cursor = one_kind ss (on_rows v) (on_cursors f) x y in cc)
+one_command ss (on_rows v) (on_objects g) x y = absurd (let no : kinds.Rows ≡ kinds.Objects = one_kind ss (on_rows v) (on_objects g) x y in cc)
+one_command ss (on_cursors e) (on_data s) x y = absurd (let no : kinds.Cursor ≡ kinds.Data = one_kind ss (on_cursors e) (on_data s) x y in cc)
+one_command ss (on_cursors e) (on_rows w) x y = absurd (let no : kinds.Cursor ≡ kinds.Rows = one_kind ss (on_cursors e) (on_rows w) x y in cc)
 one_command ss (on_cursors e) (on_cursors f) x y = ap on_cursors (cursor.one_cursor ss e f x y)
-one_command ss (on_cursors e) (on_objects d) x y = absurd (cursor.no_ddl ss e d x y)
-one_command ss (on_objects d) (on_data s) x y = absurd (apart ss s d y x)
-one_command ss (on_objects d) (on_rows w) x y = absurd (objects_apart ss w d y x)
-one_command ss (on_objects d) (on_cursors e) x y = absurd (cursor.no_ddl ss e d y x)
-one_command ss (on_objects d) (on_objects e) x y = ap on_objects (ddl.one_line ss d e x y)
+one_command ss (on_cursors e) (on_objects g) x y = absurd (let no : kinds.Cursor ≡ kinds.Objects = one_kind ss (on_cursors e) (on_objects g) x y in cc)
+one_command ss (on_objects d) (on_data s) x y = absurd (let no : kinds.Objects ≡ kinds.Data = one_kind ss (on_objects d) (on_data s) x y in cc)
+one_command ss (on_objects d) (on_rows w) x y = absurd (let no : kinds.Objects ≡ kinds.Rows = one_kind ss (on_objects d) (on_rows w) x y in cc)
+one_command ss (on_objects d) (on_cursors f) x y = absurd (let no : kinds.Objects ≡ kinds.Cursor = one_kind ss (on_objects d) (on_cursors f) x y in cc)
+one_command ss (on_objects d) (on_objects g) x y = ap on_objects (ddl.one_line ss d g x y)
 
 -- ---- causes of tokens
 
--- no statement of any kind
-no_command : (ss : List Shape) → ((d : DdlTree) → IsDdl ss d → ⊥) → ((w : WriteTree) → IsWrite ss w → ⊥) → ((x : CursorTree) → IsCursor ss x → ⊥) → ((s : StatementTree) → IsStatement ss s → ⊥) → (c : CommandTree) → IsCommand ss c → ⊥
-no_command ss objects rows cursors queries (on_data s) x = queries s x
-no_command ss objects rows cursors queries (on_rows w) x = rows w x
-no_command ss objects rows cursors queries (on_cursors e) x = cursors e x
-no_command ss objects rows cursors queries (on_objects d) x = objects d x
+-- each tree of the tokens is of the kind
+abbrev pub OnlyOf : List Shape → CommandKind → Type 0
+OnlyOf ss k = (c : CommandTree) → IsCommand ss c → kind_of_tree c ≡ k
+
+-- tokens that are no command of the one kind that they can be of are none
+
+no_query : (ss : List Shape) → OnlyOf ss kinds.Data → ((s : StatementTree) → IsStatement ss s → ⊥) → (c : CommandTree) → IsCommand ss c → ⊥
+no_query ss only none (on_data s) x = none s x
+no_query ss only none (on_rows w) x = absurd (let no : kinds.Rows ≡ kinds.Data = only (on_rows w) x in cc)
+no_query ss only none (on_cursors e) x = absurd (let no : kinds.Cursor ≡ kinds.Data = only (on_cursors e) x in cc)
+no_query ss only none (on_objects d) x = absurd (let no : kinds.Objects ≡ kinds.Data = only (on_objects d) x in cc)
+
+no_write : (ss : List Shape) → OnlyOf ss kinds.Rows → ((w : WriteTree) → IsWrite ss w → ⊥) → (c : CommandTree) → IsCommand ss c → ⊥
+no_write ss only none (on_data s) x = absurd (let no : kinds.Data ≡ kinds.Rows = only (on_data s) x in cc)
+no_write ss only none (on_rows w) x = none w x
+no_write ss only none (on_cursors e) x = absurd (let no : kinds.Cursor ≡ kinds.Rows = only (on_cursors e) x in cc)
+no_write ss only none (on_objects d) x = absurd (let no : kinds.Objects ≡ kinds.Rows = only (on_objects d) x in cc)
+
+no_cursor : (ss : List Shape) → OnlyOf ss kinds.Cursor → ((e : CursorTree) → IsCursor ss e → ⊥) → (c : CommandTree) → IsCommand ss c → ⊥
+no_cursor ss only none (on_data s) x = absurd (let no : kinds.Data ≡ kinds.Cursor = only (on_data s) x in cc)
+no_cursor ss only none (on_rows w) x = absurd (let no : kinds.Rows ≡ kinds.Cursor = only (on_rows w) x in cc)
+no_cursor ss only none (on_cursors e) x = none e x
+no_cursor ss only none (on_objects d) x = absurd (let no : kinds.Objects ≡ kinds.Cursor = only (on_objects d) x in cc)
+
+no_object : (ss : List Shape) → OnlyOf ss kinds.Objects → ((d : DdlTree) → IsDdl ss d → ⊥) → (c : CommandTree) → IsCommand ss c → ⊥
+no_object ss only none (on_data s) x = absurd (let no : kinds.Data ≡ kinds.Objects = only (on_data s) x in cc)
+no_object ss only none (on_rows w) x = absurd (let no : kinds.Rows ≡ kinds.Objects = only (on_rows w) x in cc)
+no_object ss only none (on_cursors e) x = absurd (let no : kinds.Cursor ≡ kinds.Objects = only (on_cursors e) x in cc)
+no_object ss only none (on_objects d) x = none d x
 
 -- the reader of statements on data refused the tokens so
 abbrev QueryRefused : List Shape → ReadFault → Type 0
@@ -267,65 +125,32 @@ QueryRefused ss f = ReadsAs statement_tree (Err f) (bounded_line (words_at (Befo
 no_data : (ss : List Shape) → QueryRefused ss (faults.Refused Syntax) → (s : StatementTree) → IsStatement ss s → ⊥
 no_data ss h s x = bounded_out (words_at (Before false) false ss) h s (to_terminals ss s x)
 
--- a command with too high an expression
-abbrev Deep : List Shape → Type 0
-Deep ss = (c : CommandTree) × IsCommand ss c × (64 < command_height c)
+-- what a reader's fault tells of the tokens
+abbrev pub Told : List Shape → ReadFault → Type 0
+Told ss f = (f ≡ faults.NoMemory) ⊎ TokenCauses ss (cause_of_read f)
 
--- over 64 tokens that can deepen an expression
-abbrev Heavy : List Shape → Type 0
-Heavy ss = 64 < count_by deepens ss
+pub told_objects : (ss : List Shape) → OnlyOf ss kinds.Objects → ((d : DdlTree) → IsDdl ss d → ⊥) → Told ss (faults.Refused Syntax)
+told_objects ss only none = inr (no_object ss only none)
 
--- What a reader that refused the tokens says: they are a command that is too high, or none of its kind.
-abbrev Says : List Shape → Type 0 → Type 0
-Says ss None = Deep ss ⊎ None
+pub told_rows : (ss : List Shape) (f : ReadFault) → OnlyOf ss kinds.Rows → Refuses ss f → Told ss f
+told_rows ss faults.NoMemory only h = inl refl
+told_rows ss (faults.Refused Syntax) only h = inr (no_write ss only h)
+told_rows ss (faults.Refused TooHigh) only (inl h) = inr (inl (on_rows h.0, h.1, h.2))
+told_rows ss (faults.Refused TooHigh) only (inr h) = inr (inr (no_write ss only h.0, h.1))
 
--- what it says besides where it refused them as too high
-abbrev SaysHeavy : List Shape → Refusal → Type 0
-SaysHeavy ss Syntax = Unit {0}
-SaysHeavy ss TooHigh = Deep ss ⊎ Heavy ss
+pub told_cursor : (ss : List Shape) (f : ReadFault) → OnlyOf ss kinds.Cursor → cursor_causes.Refuses ss f → Told ss f
+told_cursor ss faults.NoMemory only h = inl refl
+told_cursor ss (faults.Refused Syntax) only h = inr (no_cursor ss only h)
+told_cursor ss (faults.Refused TooHigh) only (inl h) = inr (inl (on_cursors h.0, h.1, h.2))
+told_cursor ss (faults.Refused TooHigh) only (inr h) = inr (inr (no_cursor ss only h.0, h.1))
 
-rows_say : (ss : List Shape) (r : Refusal) → Refuses ss (faults.Refused r) → Says ss ((w : WriteTree) → IsWrite ss w → ⊥) × SaysHeavy ss r
-rows_say ss Syntax h = (inr h, tt)
-rows_say ss TooHigh (inl h) = (inl (on_rows h.0, h.1, h.2), inl (on_rows h.0, h.1, h.2))
-rows_say ss TooHigh (inr h) = (inr h.0, inr h.1)
-
-cursors_say : (ss : List Shape) (r : Refusal) → cursor_causes.Refuses ss (faults.Refused r) → Says ss ((x : CursorTree) → IsCursor ss x → ⊥) × SaysHeavy ss r
-cursors_say ss Syntax h = (inr h, tt)
-cursors_say ss TooHigh (inl h) = (inl (on_cursors h.0, h.1, h.2), inl (on_cursors h.0, h.1, h.2))
-cursors_say ss TooHigh (inr h) = (inr h.0, inr h.1)
-
-data_say : (ss : List Shape) (r : Refusal) → QueryRefused ss (faults.Refused r) → Says ss ((s : StatementTree) → IsStatement ss s → ⊥) × SaysHeavy ss r
-data_say ss Syntax h = (inr (no_data ss h), tt)
-data_say ss TooHigh h = elim (bounded_told (words_at (Before false) false ss) h) [
-  | inl x ↦ (inl (on_data x.0, of_terminals ss x.0 x.1, x.2), inl (on_data x.0, of_terminals ss x.0 x.1, x.2))
-  | inr x ↦ (inr (λ s y. x.0 s (to_terminals ss s y)), inr (omega (arith, x.1, words_weigh (Before false) false ss)))
+pub told_data : (ss : List Shape) (f : ReadFault) → OnlyOf ss kinds.Data → ReadsAs statement_tree (Err f) (bounded_line (words_at (Before false) false ss)) → Told ss f
+told_data ss faults.NoMemory only h = inl refl
+told_data ss (faults.Refused Syntax) only h = inr (no_query ss only (no_data ss h))
+told_data ss (faults.Refused TooHigh) only h = elim (bounded_told (words_at (Before false) false ss) h) [
+  | inl x ↦ inr (inl (on_data x.0, of_terminals ss x.0 x.1, x.2))
+  | inr x ↦ inr (inr (no_query ss only (λ s y. x.0 s (to_terminals ss s y)), omega (arith, x.1, words_weigh (Before false) false ss)))
 ]
-
--- what is told where one of them refused the tokens as too high
-deep_cause : (ss : List Shape) → ((d : DdlTree) → IsDdl ss d → ⊥) → Says ss ((w : WriteTree) → IsWrite ss w → ⊥) → Says ss ((x : CursorTree) → IsCursor ss x → ⊥) → Says ss ((s : StatementTree) → IsStatement ss s → ⊥) → Deep ss ⊎ Heavy ss → TokenCauses ss causes.TooDeep
-deep_cause ss none (inl h) x q d = inl h
-deep_cause ss none (inr w) (inl h) q d = inl h
-deep_cause ss none (inr w) (inr x) (inl h) d = inl h
-deep_cause ss none (inr w) (inr x) (inr q) (inl h) = inl h
-deep_cause ss none (inr w) (inr x) (inr q) (inr h) = inr (no_command ss none w x q, h)
-
--- what is told of three refusals, of which the last is that of the reader of statements on data
-abbrev highest : Refusal → Refusal → Refusal → Refusal
-highest r e TooHigh = TooHigh
-highest TooHigh e Syntax = TooHigh
-highest Syntax e Syntax = e
-
-told_cause : (ss : List Shape) (r e q : Refusal) → ((d : DdlTree) → IsDdl ss d → ⊥) → Refuses ss (faults.Refused r) → cursor_causes.Refuses ss (faults.Refused e) → QueryRefused ss (faults.Refused q) → TokenCauses ss (cause_of_read (faults.Refused (highest r e q)))
-told_cause ss r e TooHigh none h k g = deep_cause ss none (rows_say ss r h).0 (cursors_say ss e k).0 (data_say ss TooHigh g).0 (data_say ss TooHigh g).1
-told_cause ss TooHigh e Syntax none h k g = deep_cause ss none (rows_say ss TooHigh h).0 (cursors_say ss e k).0 (data_say ss Syntax g).0 (rows_say ss TooHigh h).1
-told_cause ss Syntax TooHigh Syntax none h k g = deep_cause ss none (rows_say ss Syntax h).0 (cursors_say ss TooHigh k).0 (data_say ss Syntax g).0 (cursors_say ss TooHigh k).1
-told_cause ss Syntax Syntax Syntax none h k g = no_command ss none h k (no_data ss g)
-
-pub refused_as : (ss : List Shape) (r s : Refusal) → r ≡ s → Refuses ss (faults.Refused r) → Refuses ss (faults.Refused s)
-refused_as ss r s p h = subst (λ x. Refuses ss (faults.Refused x)) p h
-
-pub told : (ss : List Shape) (r e q : Refusal) (f g : ReadFault) → f ≡ faults.Refused e → g ≡ faults.Refused q → ((d : DdlTree) → IsDdl ss d → ⊥) → Refuses ss (faults.Refused r) → cursor_causes.Refuses ss f → ReadsAs statement_tree (Err g) (bounded_line (words_at (Before false) false ss)) → TokenCauses ss (cause_of_read (faults.Refused (highest r e q)))
-told ss r e q f g p o none h k x = told_cause ss r e q none h (subst (cursor_causes.Refuses ss) p k) (subst (QueryRefused ss) o x)
 
 pub read_statement : (ss : List Shape) (s : StatementTree) → bounded_line (words_at (Before false) false ss) ≡ Ok s → IsStatement ss s × (statement_height s ≤ 64)
 read_statement ss s h =

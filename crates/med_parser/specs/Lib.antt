@@ -14,3 +14,4 @@ pub mod CommandGrammar
 pub mod CommandCauses
 pub mod CommandPrinting
 pub mod CommandTree
+pub mod CommandKinds

@@ -22,6 +22,7 @@
 #![tactic(auto)]
 
 mod command;
+mod command_kind;
 mod command_laws;
 mod command_print;
 mod command_range;

@@ -1,7 +1,5 @@
 //! Text to commands.
 
-ghost use Rattle.ddl_parser.specs.DdlGrammar.{IsDdl};
-ghost use Rattle.ddl_syntax.specs.DdlTree.{DdlTree};
 ghost use Rattle.expr_grammar.specs.ExprAnswers.{cause_of_read};
 ghost use Rattle.expr_grammar.specs.ExprTerminals.{AreReadable};
 ghost use Rattle.expr_grammar.specs.View.{shapes_of};
@@ -9,13 +7,15 @@ ghost use Rattle.expr_grammar.specs.declared.refusal.ReadFault.TheVariants as fa
 ghost use Rattle.med_lexer.specs.Printing.{AreShapes};
 ghost use Rattle.med_parser.specs.CommandCauses.{SyntaxCauses, TokenCauses};
 ghost use Rattle.med_parser.specs.CommandGrammar.{HasCommand, IsCommand};
-ghost use Rattle.med_parser.specs.CommandTree.{command_height, command_tree};
+ghost use Rattle.med_parser.specs.CommandKinds.{kind_of_tree};
+ghost use Rattle.med_parser.specs.CommandTree.{CommandTree, command_height, command_tree};
+ghost use Rattle.med_parser.specs.declared.command_kind.CommandKind.TheVariants as kinds;
 ghost use Rattle.med_value.specs.declared.cause.Cause.{Cause};
 ghost use Rattle.med_value.specs.Limits.{height_limit};
 ghost use Rattle.std.specs.Prelude.{◌≡◌, ◌≤◌, ◌⊎◌, IfErr, IfOk, OnOk};
-ghost use Rattle.write_parser.specs.WriteCauses.{Refuses};
 
 use crate::command::Command;
+use crate::command_kind::{CommandKind, kind_of};
 use crate::command_range::{is_command_in_range, is_fetch_zero_command};
 use cursor_parser::cursor_of;
 use ddl_parser::ddl_of;
@@ -29,48 +29,9 @@ use query_reader::statement_of;
 use std::alloc::Global;
 use write_parser::write_of;
 
-/// The command that tokens are which are no statement on objects, and of which the reader of statements that write rows said `rows`: a
-/// statement on a cursor, or else one on data.
-fn cursor_or_data(alloc: Global, tokens: &[Token], rows: Refusal) -> Result<Command, ReadFault>
-    requires { AreReadable (shapes_of tokens.now) }
-    ensures found { IfOk result (λ c. IsCommand (shapes_of tokens.now) (command_tree c)) }
-    ensures low { IfOk result (λ c. command_height (command_tree c) ≤ height_limit) }
-    ensures refused { ((d : DdlTree) → IsDdl (shapes_of tokens.now) d → ⊥) → Refuses (shapes_of tokens.now) (faults.Refused rows)
-        → IfErr result (λ f. (f ≡ faults.NoMemory) ⊎ TokenCauses (shapes_of tokens.now) (cause_of_read f)) }
-{
-    match cursor_of(alloc, tokens) {
-        Ok(statement) => Ok(Command::Cursor(statement)),
-        Err(ReadFault::NoMemory) => Err(ReadFault::NoMemory),
-        Err(ReadFault::Refused(cursor)) => match statement_of(alloc, tokens) {
-            Ok(statement) => Ok(Command::Data(statement)),
-            Err(ReadFault::NoMemory) => Err(ReadFault::NoMemory),
-            Err(ReadFault::Refused(Refusal::TooHigh)) => Err(ReadFault::Refused(Refusal::TooHigh)),
-            Err(ReadFault::Refused(Refusal::Syntax)) => match rows {
-                Refusal::TooHigh => Err(ReadFault::Refused(Refusal::TooHigh)),
-                Refusal::Syntax => Err(ReadFault::Refused(cursor)),
-            },
-        },
-    }
-}
-
-/// The command that tokens are which are no statement on objects: a statement that writes rows, or else one on a cursor or on data.
-fn rows_or_other(alloc: Global, tokens: &[Token]) -> Result<Command, ReadFault>
-    requires { AreReadable (shapes_of tokens.now) }
-    ensures found { IfOk result (λ c. IsCommand (shapes_of tokens.now) (command_tree c)) }
-    ensures low { IfOk result (λ c. command_height (command_tree c) ≤ height_limit) }
-    ensures refused { ((d : DdlTree) → IsDdl (shapes_of tokens.now) d → ⊥)
-        → IfErr result (λ f. (f ≡ faults.NoMemory) ⊎ TokenCauses (shapes_of tokens.now) (cause_of_read f)) }
-{
-    match write_of(alloc, tokens) {
-        Ok(statement) => Ok(Command::Rows(statement)),
-        Err(ReadFault::NoMemory) => Err(ReadFault::NoMemory),
-        Err(ReadFault::Refused(rows)) => cursor_or_data(alloc, tokens, rows),
-    }
-}
-
-/// The command that all of the tokens are: a statement on objects, or else one on rows, on a cursor or on data.
-fn command_of(alloc: Global, tokens: &[Token]) -> Result<Command, ReadFault>
-    requires { AreReadable (shapes_of tokens.now) }
+/// The statement on objects that all of the tokens are.
+fn objects_of(alloc: Global, tokens: &[Token]) -> Result<Command, ReadFault>
+    requires { (c : CommandTree) → IsCommand (shapes_of tokens.now) c → kind_of_tree c ≡ kinds.Objects }
     ensures found { IfOk result (λ c. IsCommand (shapes_of tokens.now) (command_tree c)) }
     ensures low { IfOk result (λ c. command_height (command_tree c) ≤ height_limit) }
     ensures refused { IfErr result (λ f. (f ≡ faults.NoMemory) ⊎ TokenCauses (shapes_of tokens.now) (cause_of_read f)) }
@@ -78,7 +39,31 @@ fn command_of(alloc: Global, tokens: &[Token]) -> Result<Command, ReadFault>
     match ddl_of(alloc, tokens) {
         Ok(ddl) => Ok(Command::Ddl(ddl)),
         Err(ParseFault::NoMemory) => Err(ReadFault::NoMemory),
-        Err(ParseFault::Syntax) => rows_or_other(alloc, tokens),
+        Err(ParseFault::Syntax) => Err(ReadFault::Refused(Refusal::Syntax)),
+    }
+}
+
+/// The command that all of the tokens are, read by the reader of the one kind that they can be of: the one door for statements.
+fn command_of(alloc: Global, tokens: &[Token]) -> Result<Command, ReadFault>
+    requires { AreReadable (shapes_of tokens.now) }
+    ensures found { IfOk result (λ c. IsCommand (shapes_of tokens.now) (command_tree c)) }
+    ensures low { IfOk result (λ c. command_height (command_tree c) ≤ height_limit) }
+    ensures refused { IfErr result (λ f. (f ≡ faults.NoMemory) ⊎ TokenCauses (shapes_of tokens.now) (cause_of_read f)) }
+{
+    match kind_of(tokens) {
+        CommandKind::Objects => objects_of(alloc, tokens),
+        CommandKind::Rows => match write_of(alloc, tokens) {
+            Ok(write) => Ok(Command::Rows(write)),
+            Err(fault) => Err(fault),
+        },
+        CommandKind::Cursor => match cursor_of(alloc, tokens) {
+            Ok(cursor) => Ok(Command::Cursor(cursor)),
+            Err(fault) => Err(fault),
+        },
+        CommandKind::Data => match statement_of(alloc, tokens) {
+            Ok(query) => Ok(Command::Data(query)),
+            Err(fault) => Err(fault),
+        },
     }
 }
 

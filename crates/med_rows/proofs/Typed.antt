@@ -222,4 +222,4 @@ typed_answer law o user bound t b boxes answer ready is clean h over honest = la
     typed = entries_typed o bound boxes ready honest (query_entries h.query) (map place_of b.entries.items) known h.places
 
     shows : IsAnswer (query_of (meant_by o h.query)) db answer
-    shows = over.answers honest db (λ k. IsPermutation-refl (db k))
+    shows = over.answers (λ slot has. honest slot) db (λ k. IsPermutation-refl (db k))

@@ -6,10 +6,7 @@ ghost use Rattle.med_query.specs.Form.{chain_form, core_form, form_of};
 ghost use Rattle.sql_meaning.specs.Sizes.{entries_in, is_large_core as spec_is_large_core, is_large_form};
 
 use med_query::{JoinChain, Select, SelectCore};
-use med_value::limits::ENTRY_LIMIT;
-
-// The most cores that UNION ALL may join.
-const CORE_LIMIT: usize = 8;
+use med_value::limits::{CORE_LIMIT, ENTRY_LIMIT};
 
 // Whether FROM has more entries than it may have.
 fn is_large_from(chains: &[JoinChain]) -> bool

@@ -23,6 +23,10 @@ height_limit = 64
 abbrev pub entry_limit : ℕ
 entry_limit = 8
 
+-- the most cores that UNION ALL may join
+abbrev pub core_limit : ℕ
+core_limit = 8
+
 -- the most rows that a query groups
 abbrev pub group_limit : ℕ
 group_limit = 2 ^ 62

@@ -15,6 +15,9 @@ pub const HEIGHT_LIMIT: u32 = 64;
 /// The most entries that FROM may have.
 pub const ENTRY_LIMIT: usize = 8;
 
+/// The most cores that UNION ALL may join.
+pub const CORE_LIMIT: usize = 8;
+
 /// The most rows that a query groups: 2^62, so that no count and no sum of 64-bit numbers passes 128 bits.
 pub const GROUP_LIMIT: usize = 1 << 62;
 

@@ -388,7 +388,7 @@ ended_left e new sid seat name o sound at here ends c has =
 
 -- a run of this session that is left may give what it could
 pub here_stays : (e : Shown) (new : List (Option BoxState)) (sid : ℕ) (seat : Seated) (c : Opened) → IsSound e → seat_of e.seats sid ≡ Some seat → AllHonest e.boxes → Contains seat.cursors c → LeavesRun c.run e.boxes new → RestsStay e.boxes new c
-here_stays e new sid seat c sound at honest has left = (run_goes_on c.run e.boxes new (sound.scans.running (sid - 1) c (record { seat = seat; there = here_of e sid seat at; has = has })) left).rests honest
+here_stays e new sid seat c sound at honest has left = (run_goes_on c.run e.boxes new (sound.scans.running (sid - 1) c (record { seat = seat; there = here_of e sid seat at; has = has })) left).rests (λ slot has. honest slot)
 
 pub left_here : (name : Name) (cursors : List Opened) (c : Opened) → Contains (without_named name cursors) c → Contains cursors c
 left_here name cursors c has = (left_in name cursors c has).0

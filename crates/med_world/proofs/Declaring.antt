@@ -96,7 +96,7 @@ declared e new sid text seat name q names run read at sound free h = record {
     none : (w : World) → Agrees e w → (d : Cause) → DeclareCauses w (session_in w sid seat.user) name q d → ⊥
     none w a = none_declare w (session_in w sid seat.user) name q (not_named e w sid seat name read.is_sid at a free)
         (none_select w seat.user q (bindable w a) (none_many e w q a h.few)
-        (subst (λ (m : Meant). (d : Cause) → ShowsIn w m d → ⊥) (same_meant e w q a) (h.rests.clear a.honest (entry_tables (meant_by e.catalog q).entries (rows_in w.rows)) (same_entries e w q h.places a h.are))))
+        (subst (λ (m : Meant). (d : Cause) → ShowsIn w m d → ⊥) (same_meant e w q a) (h.rests.clear (λ slot has. a.honest slot) (entry_tables (meant_by e.catalog q).entries (rows_in w.rows)) (same_entries e w q h.places a h.are))))
         (λ risk. false≢true (sym h.safe ∙ risk_there e w q a ∙ risk))
         (not_full e w sid seat read.is_sid at a h.room)
 
@@ -106,10 +106,10 @@ declared e new sid text seat name q names run read at sound free h = record {
       names = sym (h.named ∙ ap (λ (m : Meant). m.names) (same_meant e w q a));
       leases = tables_kept w q;
       stand = λ l has. stands_still w (after w) l refl refl (tables_stand w seat.user q (bindable w a) l has);
-      some = h.rests.some a.honest;
+      some = h.rests.some (λ slot has. a.honest slot);
       answers = λ rows r. subst (λ (db : Tables). IsAnswer (query_of (meant_over w q)) db rows) (sym (rows_kept w seat.user q (bindable w a)))
           (subst (λ (m : Meant). IsAnswer (query_of m) (entry_tables m.entries (rows_in w.rows)) rows) (same_meant e w q a)
-          (h.rests.answers a.honest (entry_tables (meant_by e.catalog q).entries (rows_in w.rows)) (same_entries e w q h.places a h.are) rows r));
+          (h.rests.answers (λ slot has. a.honest slot) (entry_tables (meant_by e.catalog q).entries (rows_in w.rows)) (same_entries e w q h.places a h.are) rows r));
       bare = λ b. h.bare (subst (λ (m : Meant). IsBareForm m.form) (sym (same_meant e w q a)) (bare_form (meant_over w q).form b));
     }
 
@@ -197,7 +197,7 @@ run_leads e new sid text seat name q c places read at free b safe room few serve
     told_leads e (with_boxes e new) sid text seat name q c read served (serving_agrees e new served) (λ w a. of_query (inr (inr (inr (run w a))))) least
   where
     run : (w : World) → Agrees e w → QueryRun w q c
-    run w a = subst (λ (m : Meant). ShowsIn w m c) (same_meant e w q a) (h a.honest (entry_tables (meant_by e.catalog q).entries (rows_in w.rows)) (same_entries e w q places a are))
+    run w a = subst (λ (m : Meant). ShowsIn w m c) (same_meant e w q a) (h (λ slot has. a.honest slot) (entry_tables (meant_by e.catalog q).entries (rows_in w.rows)) (same_entries e w q places a are))
 
     least : (w : World) → Agrees e w → (d : Cause) → DeclareCauses w (session_in w sid seat.user) name q d → phase c ≤ phase d
     least w a d x =

@@ -16,7 +16,7 @@ use Rattle.med_binder.specs.Place.{Place}
 use Rattle.med_query.specs.Causes.{IsShownCause}
 use Rattle.med_planner.specs.Planned.{tuples_of, rows_shown, entry_rows}
 use Rattle.med_exec.specs.Slots.{BoxAt}
-use Rattle.med_exec.specs.Running.{SlotShows, HasFailed, AllHonest}
+use Rattle.med_exec.specs.Running.{SlotShows, HasFailed, HonestOver}
 use Rattle.bind_names.specs.Meaning.{Meant}
 use Rattle.med_catalog.specs.Objects.{Objects}
 use Rattle.bind_catalog.specs.Queries.{QueryNames, QueryTypes, meant_by, IsBindable, NotBound}
@@ -129,11 +129,11 @@ ShowsIn w m c = IsShownCause (query_of m) (entry_tables m.entries (rows_in w.row
 
 none_runs : (e new : Shown) (w : World) (user : Name) (q : SelectTree) (names : List Name) (given : List Tuple) → Agrees e w → Selects e.catalog user e.bound q e.boxes names given new.boxes → (d : Cause) → QueryRun w q d → ⊥
 none_runs e new w user q names given a h = subst (λ (m : Meant). (d : Cause) → ShowsIn w m d → ⊥) (same_meant e w q a)
-    (h.answers.clear a.honest (entry_tables (meant_by e.catalog q).entries (rows_in w.rows)) (same_entries e w q h.places a h.are))
+    (h.answers.clear (λ slot has. a.honest slot) (entry_tables (meant_by e.catalog q).entries (rows_in w.rows)) (same_entries e w q h.places a h.are))
 
 answers_in : (e new : Shown) (w : World) (user : Name) (q : SelectTree) (names : List Name) (given : List Tuple) → Agrees e w → Selects e.catalog user e.bound q e.boxes names given new.boxes → IsAnswer (query_of (meant_over w q)) (entries_in w q) given
 answers_in e new w user q names given a h = subst (λ (m : Meant). IsAnswer (query_of m) (entry_tables m.entries (rows_in w.rows)) given) (same_meant e w q a)
-    (h.answers.answers a.honest (entry_tables (meant_by e.catalog q).entries (rows_in w.rows)) (same_entries e w q h.places a h.are))
+    (h.answers.answers (λ slot has. a.honest slot) (entry_tables (meant_by e.catalog q).entries (rows_in w.rows)) (same_entries e w q h.places a h.are))
 
 pub none_select : (w : World) (user : Name) (q : SelectTree) → IsBindable w.catalog user q → ((d : Cause) → QueryState w q d → ⊥) → ((d : Cause) → QueryRun w q d → ⊥) → (d : Cause) → SelectCauses w user q d → ⊥
 none_select w user q b states runs d (inl h) = b.names d h
@@ -187,12 +187,12 @@ not_bound_leads law e sid text user q c read (inr (inr (h, none))) = leads_refus
 
 -- one whose run shows a cause
 pub shows_run_leads : (e new : Shown) (sid : ℕ) (text : List ℕ) (user : Name) (q : SelectTree) (places : List Place) (c : Cause) → IsRead e sid text user (on_data (select q)) → IsBindable e.catalog user q → is_large_form (meant_by e.catalog q).form ≡ false
-    → ArePlaces e.bound (meant_by e.catalog q).entries places → (AllHonest e.boxes → (db : Tables) → SameRows (entry_rows e.boxes places) db → IsShownCause (query_of (meant_by e.catalog q)) db c)
+    → ArePlaces e.bound (meant_by e.catalog q).entries places → (HonestOver places e.boxes → (db : Tables) → SameRows (entry_rows e.boxes places) db → IsShownCause (query_of (meant_by e.catalog q)) db c)
     → EachRises e.boxes new.boxes → ((w : World) → Agrees e w → Agrees new w) → Leads e sid (sql text) (refused c) new
 shows_run_leads e new sid text user q places c read b few are h rises kept = leads_refused e new sid (sql text) c (asks_read e sid text user (on_data (select q)) (refused c) new read tt) rises kept (λ w a. (
   no_pick,
   picks_none e w sid text user q a read,
-  let run : QueryRun w q c = subst (λ (m : Meant). ShowsIn w m c) (same_meant e w q a) (h a.honest (entry_tables (meant_by e.catalog q).entries (rows_in w.rows)) (same_entries e w q places a are)) in
+  let run : QueryRun w q c = subst (λ (m : Meant). ShowsIn w m c) (same_meant e w q a) (h (λ slot has. a.honest slot) (entry_tables (meant_by e.catalog q).entries (rows_in w.rows)) (same_entries e w q places a are)) in
       told_tree w sid no_pick text (session_in w sid user) (on_data (select q)) c (known e w sid text user (on_data (select q)) a read) (inr (inr (inr run)))
       (λ d x. let p : phase c ≡ 6 = run_phase w q c run in let r : 6 ≤ phase d = from_run w user q (bindable_in e w user q a b) (none_many e w q a few) d x in omega arith),
 ))

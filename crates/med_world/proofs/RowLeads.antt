@@ -12,7 +12,7 @@ use Rattle.med_query.specs.Query.{Tables, SameRows}
 use Rattle.fdw_api.specs.Scan.{GivenRow}
 use Rattle.fdw_api.specs.State.{BoxState, Ledger, is_honest, rows_of as rows_in_box}
 use Rattle.fdw_api.specs.declared.interface.Fault.TheVariants.{Source}
-use Rattle.med_exec.specs.Running.{AllServed, SlotShows, HasFailed, IsUsedUp, AllHonest, Breaks, wants_memory, box_breaks, none_held}
+use Rattle.med_exec.specs.Running.{AllServed, SlotShows, HasFailed, IsUsedUp, HonestOver, Breaks, wants_memory, box_breaks, none_held}
 use Rattle.med_exec.proofs.Served.{all_served, all_on, change_served, before_service, breaks_between}
 use Rattle.med_query.specs.Causes.{IsShownCause}
 use Rattle.med_planner.specs.Planned.{entry_rows}
@@ -244,7 +244,7 @@ target_box e t at sound target =
 
 -- its query is not answered
 query_told : (e : Shown) (w : World) (t : WriteTree) (at : Attached) (q : SelectTree) (c : Cause) (new : List (Option BoxState)) → IsSound e → IsTargetAt e.catalog e.bound t at → Agrees e w → OfQuery (λ r. r ≡ q) t
-    → (h : FailsQuery e.catalog e.bound q e.boxes c new) → (AllHonest e.boxes → (db : Tables) → SameRows (entry_rows e.boxes h.places) db → IsShownCause (query_of (meant_by e.catalog q)) db c) → RunShows w t c
+    → (h : FailsQuery e.catalog e.bound q e.boxes c new) → (HonestOver h.places e.boxes → (db : Tables) → SameRows (entry_rows e.boxes h.places) db → IsShownCause (query_of (meant_by e.catalog q)) db c) → RunShows w t c
 query_told e w t at q c new sound target_at a is h shows = record {
   pick = p.0;
   picks = p.1;
@@ -253,7 +253,7 @@ query_told e w t at q c new sound target_at a is h shows = record {
   where
     run : QueryRun w q c
     run = subst (λ (m : Meant). IsShownCause (query_of m) (entry_tables m.entries (rows_in w.rows)) c) (same_meant e w q a)
-        (shows a.honest (entry_tables (meant_by e.catalog q).entries (rows_in w.rows)) (same_entries e w q h.places a h.are))
+        (shows (λ slot has. a.honest slot) (entry_tables (meant_by e.catalog q).entries (rows_in w.rows)) (same_entries e w q h.places a h.are))
 
     none_given : (s : SelectTree) → OfQuery (λ r. r ≡ s) t → PicksAnswer (query_of (meant_over w s)) (entries_in w s) []
     none_given s same = has_none c (subst (λ (r : SelectTree). IsShownCause (query_of (meant_over w r)) (entries_in w r) c) (one_query t q s is same) run) refl

@@ -54,11 +54,11 @@ ShowsIn w m c = IsShownCause (query_of m) (entry_tables m.entries (rows_in w.row
 
 given_answer : (e : Shown) (w : World) (q : SelectTree) (answer : List Tuple) (now : List (Option BoxState)) → Agrees e w → GivesAnswer e.catalog e.bound q e.boxes answer now → IsAnswer (query_of (meant_over w q)) (entries_in w q) answer
 given_answer e w q answer now a h = subst (λ (m : Meant). AnswersIn w m answer) (same_meant e w q a)
-    (h.answers.answers a.honest (entry_tables (meant_by e.catalog q).entries (rows_in w.rows)) (same_entries e w q h.places a h.are))
+    (h.answers.answers (λ slot has. a.honest slot) (entry_tables (meant_by e.catalog q).entries (rows_in w.rows)) (same_entries e w q h.places a h.are))
 
 given_clear : (e : Shown) (w : World) (q : SelectTree) (answer : List Tuple) (now : List (Option BoxState)) → Agrees e w → GivesAnswer e.catalog e.bound q e.boxes answer now → (c : Cause) → QueryRun w q c → ⊥
 given_clear e w q answer now a h = subst (λ (m : Meant). (c : Cause) → ShowsIn w m c → ⊥) (same_meant e w q a)
-    (h.answers.clear a.honest (entry_tables (meant_by e.catalog q).entries (rows_in w.rows)) (same_entries e w q h.places a h.are))
+    (h.answers.clear (λ slot has. a.honest slot) (entry_tables (meant_by e.catalog q).entries (rows_in w.rows)) (same_entries e w q h.places a h.are))
 
 -- the boxes have served its query, if it has one
 none_asked : (old now : List (Option BoxState)) → now ≡ old → AllServed old now

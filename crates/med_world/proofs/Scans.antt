@@ -69,7 +69,7 @@ scans_kept e n same k unstaged left had leases = record {
     back place c h = subst (λ (seats : List (Option Seated)). IsOpenAt seats place c) same h
 
 pub all_stay : (e : Shown) (new : List (Option BoxState)) → KeepsScans e → AllHonest e.boxes → AllLeft e new → AllStay e new
-all_stay e new k honest left j o is_open = (run_goes_on o.run e.boxes new (k.running j o is_open) (left j o is_open)).rests honest
+all_stay e new k honest left j o is_open = (run_goes_on o.run e.boxes new (k.running j o is_open) (left j o is_open)).rests (λ slot has. honest slot)
 
 -- ---- boxes that served runs
 
@@ -215,7 +215,7 @@ module _ (e : Shown) (place : ℕ) (seat : Option Seated) (new : List (Option Bo
 
   -- what the runs of other sessions may still give stays
   pub others_stay : AllHonest e.boxes → (j : ℕ) (c : Opened) → IsOpenAt e.seats j c → j ≢ place → RestsStay e.boxes new c
-  others_stay honest j c is_open ne = (spared_on j c is_open (t.others j c is_open ne)).rests honest
+  others_stay honest j c is_open ne = (spared_on j c is_open (t.others j c is_open ne)).rests (λ slot has. honest slot)
 
 -- nothing is asked, where the session had no cursor and gets none
 pub quiet_turn : (e : Shown) (place : ℕ) (seat : Option Seated) → AllServed e.boxes e.boxes → ((c : Opened) → IsOpenAt e.seats place c → ⊥) → ((c : Opened) → IsIn seat c → ⊥) → Turned e place seat e.boxes

@@ -65,14 +65,14 @@ unknown e sid text seat name t of_open read at none = leads_refused e e sid (sql
 
 -- the rows go on where those that were handed out end
 fetches : (old : List (Option BoxState)) (w : World) (asked : CountTree) (o : Opened) (c : Cursor) (rows : List Tuple) (after : Run) (new : List (Option BoxState)) → AllHonest old → GivesRows o.run asked old rows after new → CursorAgrees old w o c → Fetches c asked rows
-fetches old w (some_rows n) o c rows after new honest g a = split (g.enough honest)
+fetches old w (some_rows n) o c rows after new honest g a = split (g.enough (λ slot has. honest slot))
   where
     split : (length rows ≡ n) ⊎ ((length rows < n) × Rests o.run old rows) → Fetches c (some_rows n) rows
     split (inl many) =
-        let left = g.some honest in
+        let left = g.some (λ slot has. honest slot) in
         record {
           left = left.0;
-          answers = subst (IsAnswer c.query (rows_leased c.reads)) (sym (append_assoc c.handed rows left.0)) (a.answers (rows ++ left.0) (g.gives honest left.0 left.1));
+          answers = subst (IsAnswer c.query (rows_leased c.reads)) (sym (append_assoc c.handed rows left.0)) (a.answers (rows ++ left.0) (g.gives (λ slot has. honest slot) left.0 left.1));
           enough = inl many;
         }
     split (inr all) = record {
@@ -82,7 +82,7 @@ fetches old w (some_rows n) o c rows after new honest g a = split (g.enough hone
     }
 fetches old w all_rows o c rows after new honest g a = record {
   left = [];
-  answers = subst (IsAnswer c.query (rows_leased c.reads)) (sym (append-nil (c.handed ++ rows))) (a.answers rows (g.enough honest));
+  answers = subst (IsAnswer c.query (rows_leased c.reads)) (sym (append-nil (c.handed ++ rows))) (a.answers rows (g.enough (λ slot has. honest slot)));
   enough = refl;
 }
 
@@ -94,8 +94,8 @@ goes_on old new w v asked o c rows after before count tables same honest g p a =
   names = a.names;
   leases = a.leases;
   stand = λ l has. stands_still w v l tables same (a.stand l has);
-  some = g.some honest;
-  answers = λ left r. subst (IsAnswer c.query (rows_leased c.reads)) (sym (append_assoc c.handed rows left)) (a.answers (rows ++ left) (g.gives honest left r));
+  some = g.some (λ slot has. honest slot);
+  answers = λ left r. subst (IsAnswer c.query (rows_leased c.reads)) (sym (append_assoc c.handed rows left)) (a.answers (rows ++ left) (g.gives (λ slot has. honest slot) left r));
   bare = λ b. still_bare asked o.run after old new before count p (a.bare b);
 }
 

@@ -13,7 +13,7 @@ use Rattle.med_binder.specs.declared.bound.BoundQuery.{BoundQuery}
 use Rattle.bound_runs.specs.Pulling.{PullsRows}
 use Rattle.med_query.specs.Causes.{IsShownCause}
 use Rattle.med_planner.specs.Planned.{entry_rows}
-use Rattle.med_exec.specs.Running.{AllServed, AllHonest}
+use Rattle.med_exec.specs.Running.{AllServed, HonestOver}
 use Rattle.open_cursors.specs.Counted.{ReadsTables}
 use Rattle.open_cursors.specs.Starting.{RunFails}
 use Rattle.bind_catalog.specs.Queries.{meant_by, IsBindable, NotBound}
@@ -22,10 +22,10 @@ use Rattle.med_catalog.specs.Objects.{Objects}
 use Rattle.sql_meaning.specs.Causes.{query_of}
 use Rattle.sql_meaning.specs.Sizes.{is_large_form}
 
--- the same in whatever order the rows come
+-- the same in whatever order the rows come, where the boxes of its tables are honest
 pub record AnswersOver (q : Query) (places : List Place) (boxes : List (Option BoxState)) (rows : List Tuple) : Type 0 where
-  pub answers : AllHonest boxes → (db : Tables) → SameRows (entry_rows boxes places) db → IsAnswer q db rows
-  pub clear : AllHonest boxes → (db : Tables) → SameRows (entry_rows boxes places) db → (c : Cause) → IsShownCause q db c → ⊥
+  pub answers : HonestOver places boxes → (db : Tables) → SameRows (entry_rows boxes places) db → IsAnswer q db rows
+  pub clear : HonestOver places boxes → (db : Tables) → SameRows (entry_rows boxes places) db → (c : Cause) → IsShownCause q db c → ⊥
 
 -- How many rows the boxes gave for a query of this form over tables in these places: the run asked for none, or went by what the boxes
 -- agreed to. Of one table whose box agreed to give the rows in the order of ORDER BY, or where there is none, and answered Exact to each

@@ -8,8 +8,9 @@ use Rattle.fdw_api.specs.State.{BoxState}
 use Rattle.fdw_api.specs.declared.interface.Fault.{Fault}
 use Rattle.fdw_api.specs.declared.interface.Fault.TheVariants.{NoMemory, Source, Refused}
 use Rattle.cursor_syntax.specs.CursorTree.{CountTree, some_rows, all_rows}
+use Rattle.scan_loops.specs.Running.{HonestFor}
 use Rattle.med_exec.specs.declared.running.Run.{Run}
-use Rattle.med_exec.specs.Running.{AllHonest, ServesRun, SlotShows, HasFailed}
+use Rattle.med_exec.specs.Running.{ServesRun, SlotShows, HasFailed}
 use Rattle.med_exec.specs.Rests.{Rests, held, IsRunning}
 use Rattle.med_exec.specs.Leaving.{KeepTables}
 use Rattle.med_exec.specs.Pulling.{levels_in, slot_in, skip_in, limit_in, pulled_at, PullsAtMost, PullsNone, many_in, IsBareRun, pulls_left}
@@ -29,17 +30,17 @@ abbrev pub AreEnough : CountTree → List Tuple → (List Tuple → Type 0) → 
 AreEnough (some_rows n) rows rests = (length rows ≡ n) ⊎ ((length rows < n) × rests rows)
 AreEnough all_rows rows rests = rests rows
 
--- A run gave rows: followed by what it may give then, they are what it could give before. It holds the scans that it held, of the tables
--- that they were of.
+-- A run gave rows: followed by what it may give then, they are what it could give before, where the boxes of its scans are honest. It holds
+-- the scans that it held, of the tables that they were of.
 pub record GivesRows (run : Run) (asked : CountTree) (old : List (Option BoxState)) (rows : List Tuple) (after : Run)
     (new : List (Option BoxState)) : Type 0 where
   pub served : ServesRun (held run) (held after) old new
   pub same : held after ≡ held run
   pub tables : KeepTables (held run) old new
   pub running : IsRunning after new
-  pub some : AllHonest old → (left : List Tuple) × Rests after new left
-  pub gives : AllHonest old → (left : List Tuple) → Rests after new left → Rests run old (rows ++ left)
-  pub enough : AllHonest old → AreEnough asked rows (Rests run old)
+  pub some : HonestFor (levels_in run) old → (left : List Tuple) × Rests after new left
+  pub gives : HonestFor (levels_in run) old → (left : List Tuple) → Rests after new left → Rests run old (rows ++ left)
+  pub enough : HonestFor (levels_in run) old → AreEnough asked rows (Rests run old)
 
 -- A run was asked for a row so many times. One that holds its answer asks the boxes for no row. Of one over one table of whose rows nothing
 -- is checked again, that table's box gives no more than OFFSET passes and one each time, and no other box gives any; what it gives is taken

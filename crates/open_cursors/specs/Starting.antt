@@ -20,7 +20,7 @@ use Rattle.bound_runs.specs.Starting.{HoldsOpen}
 use Rattle.med_query.specs.Causes.{IsShownCause}
 use Rattle.med_planner.specs.Planned.{entry_rows}
 use Rattle.med_exec.specs.declared.running.Run.{Run}
-use Rattle.med_exec.specs.Running.{AllHonest, AllServed, ServesRun, SlotShows, HasFailed, IsUsedUp, none_held}
+use Rattle.med_exec.specs.Running.{HonestOver, AllServed, ServesRun, SlotShows, HasFailed, IsUsedUp, none_held}
 use Rattle.med_exec.specs.Rests.{Rests, held, IsRunning}
 use Rattle.med_exec.specs.Pulling.{PullsNone, GivesAsTheyCome}
 use Rattle.med_catalog.specs.Objects.{Objects}
@@ -40,12 +40,13 @@ leases_of q = map (λ (e : EntryTree). e.table) (query_entries q)
 
 -- ---- a run that is begun
 
--- In whatever order the rows of its entries come, what the run may still give are answers over them, and no cause of the query stands.
+-- Where the boxes of its entries are honest: in whatever order the rows of these come, what the run may still give are answers over them,
+-- and no cause of the query stands.
 pub record RestsOver (q : Query) (places : List Place) (boxes : List (Option BoxState)) (rests : List Tuple → Type 0) : Type 0 where
-  pub some : AllHonest boxes → (rows : List Tuple) × rests rows
-  pub answers : AllHonest boxes → (db : Tables) → SameRows (entry_rows boxes places) db → (rows : List Tuple) → rests rows
+  pub some : HonestOver places boxes → (rows : List Tuple) × rests rows
+  pub answers : HonestOver places boxes → (db : Tables) → SameRows (entry_rows boxes places) db → (rows : List Tuple) → rests rows
       → IsAnswer q db rows
-  pub clear : AllHonest boxes → (db : Tables) → SameRows (entry_rows boxes places) db → (c : Cause) → IsShownCause q db c → ⊥
+  pub clear : HonestOver places boxes → (db : Tables) → SameRows (entry_rows boxes places) db → (c : Cause) → IsShownCause q db c → ⊥
 
 -- The run is of a query bound to tables in these places, as wide as those of the catalogue. Where it has FROM and its rows can be shown as
 -- they are joined, the run holds one open scan for each entry, and no other: of the entry's table, under just the restrictions that the
@@ -83,7 +84,8 @@ pub data RunFails (q : Query) (places : List Place) (c : Cause) (old new : List 
   no_memory : c ≡ OutOfMemory → RunFails q places c old new
   box_fails : c ≡ SourceFault → SlotShows old new HasFailed → RunFails q places c old new
   numbers_out : c ≡ LimitExceeded → SlotShows old new IsUsedUp → RunFails q places c old new
-  shows_cause : (AllHonest old → (db : Tables) → SameRows (entry_rows old places) db → IsShownCause q db c) → RunFails q places c old new
+  shows_cause : (HonestOver places old → (db : Tables) → SameRows (entry_rows old places) db → IsShownCause q db c)
+      → RunFails q places c old new
 
 -- Why it was not begun. `full` says that the session has as many cursors as it may have.
 pub data StartFails (o : Objects) (user : Name) (bound : List Attached) (q : SelectTree) (full : Bool) (old : List (Option BoxState))

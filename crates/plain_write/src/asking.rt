@@ -2,7 +2,7 @@
 
 ghost use Rattle.std.specs.Prelude.{◌≡◌, length};
 
-use med_binder::{AttachedTable, BoundQuery, bind};
+use med_binder::{BoundQuery, TableView, bind};
 use med_query::SelectCore;
 use med_syntax::{Chain, Core, Entry, Expr, Item, Select as Written, Statement};
 use med_value::{Cause, ColumnDef, NoMemory};
@@ -63,7 +63,7 @@ fn only_core(cores: Vec<SelectCore>) -> SelectCore
 /// The query of these parts, its names being places: one core, with no order and no limit.
 pub fn asked(
     alloc: Global,
-    tables: &[AttachedTable],
+    tables: &[TableView<'_>],
     items: Vec<Item>,
     from: Vec<Chain>,
     condition: Option<Expr>,

@@ -2,7 +2,7 @@
 
 use crate::after::{After, copied};
 use crate::asking::{asked, items_of};
-use med_binder::{AttachedTable, BoundQuery, bind};
+use med_binder::{BoundQuery, TableView, bind};
 use med_syntax::{Expr, Statement};
 use med_value::{Cause, ColumnDef, NoMemory, Row, Value};
 use plain_select::plain_answer;
@@ -45,7 +45,7 @@ fn placed(
 /// The rows of VALUES.
 pub fn rows_of_values(
     alloc: Global,
-    tables: &[AttachedTable],
+    tables: &[TableView<'_>],
     tuples: Vec<Vec<Expr>>,
     after: &mut After,
 ) -> Result<Vec<Row>, Cause> {
@@ -80,7 +80,7 @@ fn entry_rows(
 /// The rows of a query over the tables as they were; none where it has a fault.
 pub fn rows_of_query(
     alloc: Global,
-    tables: &[AttachedTable],
+    tables: &[TableView<'_>],
     query: &Statement,
     rows: &[Vec<Row>],
     after: &mut After,

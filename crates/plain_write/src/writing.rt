@@ -3,7 +3,7 @@
 use crate::after::{After, copied};
 use crate::asking::{asked, cells_of, from_of};
 use crate::inserting::{add_rows, rows_of_query, rows_of_values};
-use med_binder::AttachedTable;
+use med_binder::TableView;
 use med_query::SelectCore;
 use med_value::{Cause, ColumnDef, NoMemory, Row};
 use std::alloc::Global;
@@ -19,10 +19,10 @@ pub enum Ended {
 }
 
 // The place and the columns of the table of this name.
-fn target<'a>(tables: &'a [AttachedTable], name: &str) -> Result<(usize, &'a [ColumnDef]), Cause> {
+fn target<'a>(tables: &'a [TableView<'a>], name: &str) -> Result<(usize, &'a [ColumnDef]), Cause> {
     for (place, table) in tables.iter().enumerate() {
-        if table.name.as_str() == name {
-            return Ok((place, table.columns.as_slice()));
+        if table.name == name {
+            return Ok((place, table.columns));
         }
     }
     Err(Cause::UndefinedTable)
@@ -39,7 +39,7 @@ fn rows_at(rows: &[Vec<Row>], place: usize) -> &[Row] {
 fn insert(
     alloc: Global,
     insert: Insert,
-    tables: &[AttachedTable],
+    tables: &[TableView<'_>],
     rows: &[Vec<Row>],
 ) -> Result<(usize, After), Cause> {
     let (place, columns) = target(tables, insert.table.as_str())?;
@@ -79,7 +79,7 @@ fn change_rows(
 fn update(
     alloc: Global,
     update: Update,
-    tables: &[AttachedTable],
+    tables: &[TableView<'_>],
     rows: &[Vec<Row>],
 ) -> Result<(usize, After), Cause> {
     let Update {
@@ -115,7 +115,7 @@ fn leave_out(
 fn delete(
     alloc: Global,
     delete: Delete,
-    tables: &[AttachedTable],
+    tables: &[TableView<'_>],
     rows: &[Vec<Row>],
 ) -> Result<(usize, After), Cause> {
     let Delete { entry, condition } = delete;
@@ -136,7 +136,7 @@ fn delete(
 pub fn plain_write(
     alloc: Global,
     write: WriteStatement,
-    tables: &[AttachedTable],
+    tables: &[TableView<'_>],
     rows: &mut Vec<Vec<Row>>,
 ) -> Result<Ended, Cause> {
     let (place, after) = match write {

@@ -2,7 +2,7 @@
 use crate::expect::{cut, same_text};
 use fdw_api::wishes::OrderKey;
 use loop_plans::{LoopOffer, offer_core, wish_of};
-use med_binder::{AttachedTable, BoundQuery, bind};
+use med_binder::{BoundQuery, TableView, bind};
 use med_parser::{Command, parse};
 use med_query::SelectCore;
 use med_value::{Cause, ColType, ColumnDef, Row, TableNo, Value, row_text};
@@ -19,45 +19,41 @@ fn column(alloc: Global, name: &str, kind: ColType) -> Result<ColumnDef, Fail> {
     })
 }
 
-fn table(alloc: Global, name: &str, columns: Vec<ColumnDef>) -> Result<AttachedTable, Fail> {
-    Ok(AttachedTable {
-        name: name.to_string(alloc)?,
+fn table<'a>(name: &'a str, columns: &'a [ColumnDef]) -> TableView<'a> {
+    TableView {
+        name,
         columns,
         source: 0,
-        remote: name.to_string(alloc)?,
         number: TableNo { number: 0 },
-    })
+    }
 }
 
-// parts (id integer, name text, qty integer, live boolean).
-fn parts(alloc: Global) -> Result<AttachedTable, Fail> {
-    let columns = vec![in alloc;
+// Of parts (id integer, name text, qty integer, live boolean).
+fn parts(alloc: Global) -> Result<Vec<ColumnDef>, Fail> {
+    Ok(vec![in alloc;
         column(alloc, "id", ColType::Int)?,
         column(alloc, "name", ColType::Text)?,
         column(alloc, "qty", ColType::Int)?,
         column(alloc, "live", ColType::Bool)?,
-    ]?;
-    table(alloc, "parts", columns)
+    ]?)
 }
 
-// orders (no integer, part integer, n integer).
-fn orders(alloc: Global) -> Result<AttachedTable, Fail> {
-    let columns = vec![in alloc;
+// Of orders (no integer, part integer, n integer).
+fn orders(alloc: Global) -> Result<Vec<ColumnDef>, Fail> {
+    Ok(vec![in alloc;
         column(alloc, "no", ColType::Int)?,
         column(alloc, "part", ColType::Int)?,
         column(alloc, "n", ColType::Int)?,
-    ]?;
-    table(alloc, "orders", columns)
+    ]?)
 }
 
-// "Odd" (a integer, a text, "B" boolean): two columns of one name.
-fn odd(alloc: Global) -> Result<AttachedTable, Fail> {
-    let columns = vec![in alloc;
+// Of "Odd" (a integer, a text, "B" boolean): two columns of one name.
+fn odd(alloc: Global) -> Result<Vec<ColumnDef>, Fail> {
+    Ok(vec![in alloc;
         column(alloc, "a", ColType::Int)?,
         column(alloc, "a", ColType::Text)?,
         column(alloc, "B", ColType::Bool)?,
-    ]?;
-    table(alloc, "Odd", columns)
+    ]?)
 }
 
 fn text(alloc: Global, s: &str) -> Result<Value, Fail> {
@@ -85,7 +81,12 @@ fn bound(alloc: Global, text: &str) -> Result<Result<BoundQuery, Cause>, Fail> {
     let Ok(Command::Data(statement)) = parse(alloc, text) else {
         return Err(text.into());
     };
-    let tables = vec![in alloc; parts(alloc)?, orders(alloc)?, odd(alloc)?]?;
+    let (parts, orders, odd) = (parts(alloc)?, orders(alloc)?, odd(alloc)?);
+    let tables = [
+        table("parts", parts.as_slice()),
+        table("orders", orders.as_slice()),
+        table("Odd", odd.as_slice()),
+    ];
     Ok(bind(alloc, &statement, &tables, "ann"))
 }
 

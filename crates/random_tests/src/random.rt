@@ -16,7 +16,7 @@ use fdw_api::wishes::Wrapper2;
 use fed_cli::Ended;
 use fed_cli::serving::serve_engine;
 use list_wrapper::{ListTable, ListWrapper};
-use med_binder::{AttachedTable, BoundQuery, bind};
+use med_binder::{BoundQuery, TableView, bind};
 use med_parser::{Command, parse};
 use med_session::{Engine, Request, Sid, SourceKind};
 use med_value::text::row_text;
@@ -285,21 +285,23 @@ fn replied(alloc: Global, query: &str, seed: u64) -> Result<Vec<u8>, Fail> {
     replied_over(alloc, in_shuffled(alloc, list(alloc, seed)?), query)
 }
 
-fn attached(alloc: Global, name: &str, names: [&str; 2]) -> Result<AttachedTable, NoMemory> {
-    Ok(AttachedTable {
-        name: name.to_string(alloc)?,
-        columns: columns(alloc, names)?,
+fn attached<'a>(name: &'a str, columns: &'a [ColumnDef]) -> TableView<'a> {
+    TableView {
+        name,
+        columns,
         source: 0,
-        remote: name.to_string(alloc)?,
         number: TableNo { number: 0 },
-    })
+    }
 }
 
 // A query with its names resolved.
 fn bound(alloc: Global, query: &str) -> Result<BoundQuery, Fail> {
-    let left = attached(alloc, "t", LEFT)?;
-    let right = attached(alloc, "u", RIGHT)?;
-    let tables = vec![in alloc; left, right]?;
+    let left = columns(alloc, LEFT)?;
+    let right = columns(alloc, RIGHT)?;
+    let tables = [
+        attached("t", left.as_slice()),
+        attached("u", right.as_slice()),
+    ];
     let Command::Data(statement) = parse(alloc, query)? else {
         return Err(query.into());
     };

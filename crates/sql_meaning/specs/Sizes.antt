@@ -1,12 +1,8 @@
 -- How large a query may be: how many cores it has, and how many entries FROM of each has.
 use Rattle.std.specs.Prelude.{ℕ, suc, Bool, ◌||◌, nat_lt, List, length, sum_by}
 use Rattle.std.specs.List.{list_any}
-use Rattle.med_value.specs.Limits.{entry_limit}
+use Rattle.med_value.specs.Limits.{core_limit, entry_limit}
 use Rattle.med_query.specs.Form.{ChainForm, CoreForm, Form}
-
--- the most cores that UNION ALL may join
-abbrev pub core_limit : ℕ
-core_limit = 8
 
 -- the entries of FROM: the first of each chain, and those that are joined to it
 abbrev pub entries_in : List ChainForm → ℕ

@@ -9,7 +9,7 @@ use crate::served::{ask, engine_over, new_list};
 use crate::statements::{Draws, statement};
 use fed_setup::demo::demo_tables;
 use list_wrapper::ListWrapper;
-use med_binder::AttachedTable;
+use med_binder::TableView;
 use med_parser::{Command, parse};
 use med_session::Engine;
 use med_value::text::row_text;
@@ -65,23 +65,17 @@ fn push_columns(
     Ok(())
 }
 
-fn attached(
-    alloc: Global,
-    name: &str,
-    number: u64,
-    columns: Vec<ColumnDef>,
-) -> Result<AttachedTable, NoMemory> {
-    Ok(AttachedTable {
-        name: name.to_string(alloc)?,
+fn attached<'a>(name: &'a str, number: u64, columns: &'a [ColumnDef]) -> TableView<'a> {
+    TableView {
+        name,
         columns,
         source: 0,
-        remote: name.to_string(alloc)?,
         number: TableNo { number },
-    })
+    }
 }
 
-// The tables of the demo list.
-fn tables(alloc: Global) -> Result<Vec<AttachedTable>, NoMemory> {
+// The columns of the tables of the demo list, parts and orders.
+fn columns(alloc: Global) -> Result<(Vec<ColumnDef>, Vec<ColumnDef>), NoMemory> {
     let mut parts = Vec::new(alloc);
     push_columns(alloc, "id", ColType::Int, true, &mut parts)?;
     push_columns(alloc, "name", ColType::Text, true, &mut parts)?;
@@ -89,9 +83,7 @@ fn tables(alloc: Global) -> Result<Vec<AttachedTable>, NoMemory> {
     push_columns(alloc, "live", ColType::Bool, false, &mut parts)?;
     let mut orders = Vec::new(alloc);
     push_columns(alloc, "no part n", ColType::Int, false, &mut orders)?;
-    let parts = attached(alloc, "parts", 0, parts)?;
-    let orders = attached(alloc, "orders", 1, orders)?;
-    Ok(vec![in alloc; parts, orders]?)
+    Ok((parts, orders))
 }
 
 // Their rows.
@@ -187,7 +179,7 @@ fn writes_as_defined(
     alloc: Global,
     engine: &mut Engine<ListWrapper>,
     sql: &str,
-    tables: &[AttachedTable],
+    tables: &[TableView<'_>],
     rows: &mut Vec<Vec<Row>>,
     out: &mut Vec<u8>,
 ) -> Result<bool, Fail>
@@ -209,7 +201,11 @@ fn writes_as_defined(
 fn run(alloc: Global, seed: u64) -> Result<u64, Fail> {
     let mut out = Vec::new(alloc);
     let mut engine = new_engine(alloc, &mut out)?;
-    let tables = tables(alloc)?;
+    let (parts, orders) = columns(alloc)?;
+    let tables = [
+        attached("parts", 0, parts.as_slice()),
+        attached("orders", 1, orders.as_slice()),
+    ];
     let mut rows = rows(alloc)?;
     let mut draws = Draws { state: seed };
     let mut done: u64 = 0;

@@ -42,8 +42,8 @@ returns-in_err-found c =
     let small = map table_shape c.in_ok-tables.tables.items in
     let g : AreGathered o c.args.user.now q es small = record {
       are = c.in_ok-written.ensures.0;
-      gathered = (rw c.as_slice-3.ensures.value at c.in_ok-tables.ensures).0;
-      known = (rw c.as_slice-3.ensures.value at c.in_ok-tables.ensures).1;
+      gathered = (rw c.as_slice-3.ensures.value at c.in_ok-tables.ensures.tables).0;
+      known = (rw c.as_slice-3.ensures.value at c.in_ok-tables.ensures.tables).1;
       rights = rw c.as_slice.ensures.value at c.in_ok-check_rights.ensures;
     } in
     let p = err_from_is_err_and c.from_residual-in_err-found.result c.from_residual-in_err-found.ensures.1 in
@@ -58,8 +58,8 @@ returns c =
     let small = map table_shape c.in_ok-tables.tables.items in
     let g : AreGathered o c.args.user.now q es small = record {
       are = c.in_ok-written.ensures.0;
-      gathered = (rw c.as_slice-3.ensures.value at c.in_ok-tables.ensures).0;
-      known = (rw c.as_slice-3.ensures.value at c.in_ok-tables.ensures).1;
+      gathered = (rw c.as_slice-3.ensures.value at c.in_ok-tables.ensures.tables).0;
+      known = (rw c.as_slice-3.ensures.value at c.in_ok-tables.ensures.tables).1;
       rights = rw c.as_slice.ensures.value at c.in_ok-check_rights.ensures;
     } in
     let placed : AreEntriesAt o (map attached c.args.bound.now) es c.in_ok-entries.entries.items = (rw c.as_slice-2.ensures.value at c.in_ok-entries.ensures).0 in

@@ -8,10 +8,10 @@ use Rattle.med_catalog.specs.View.{objects}
 use Rattle.bind_catalog.specs.Tables.{shapes}
 use Rattle.bind_catalog.proofs.entries.gathered.Goals as goal
 
-pub returns-in_err-table : goal.returns-in_err-table
-returns-in_err-table c =
+pub returns-in_err-table-clause-tables : goal.returns-in_err-table-clause-tables
+returns-in_err-table-clause-tables c =
     let f = entry_causes (shapes (objects c.args.catalog.now)) in
     let lt : c.loop-entry.entry-index < length c.args.entries.now = omega arith in
     let at = drop_read c.args.entries.now c.loop-entry.entry-index c.entry-item.result lt c.entry-item.is in
     let p = err_from_is_err_and c.from_residual.result c.from_residual.ensures.1 in
-    rw (p.1, p.2) (tells_first _ (f (seen_entry c.entry-item.result)) _ _ (c.loop-entry.invariant.causes ∙ ap (λ xs. flat_map f (map seen_entry xs)) at) c.in_err-table.ensures)
+    rw (p.1, p.2) (tells_first _ (f (seen_entry c.entry-item.result)) _ _ (c.loop-entry.invariant.causes ∙ ap (λ xs. flat_map f (map seen_entry xs)) at) c.in_err-table.ensures.table)

@@ -9,7 +9,7 @@ returns-in-Some c =
     let tables = map table_shape c.args.tables.now in
     let e = entry_tree c.args.entry.now in
     let found = sym (ap (place_named tables) c.as_str.ensures.value) ∙ c.in-Some.ensures.0 in (
-      record { table = c.in-Some.found.table.now; there = c.in-Some.ensures.1; source = refl; number = refl; width = ap (λ xs. length xs) c.as_slice.ensures.value },
+      record { table = c.in-Some.found.table.now; there = c.in-Some.ensures.1; source = refl; number = refl; width = refl },
       entry_placed tables e c.in-Some.found.place found,
       entry_known tables e c.in-Some.found.place found,
     )

@@ -5,7 +5,10 @@ use Rattle.med_value.specs.declared.value.Row.{Row}
 use Rattle.cursor_syntax.specs.CursorView.{count_tree}
 use Rattle.med_exec.specs.Slots.{states}
 use Rattle.med_exec.specs.Counting.{none_in}
-use Rattle.med_exec.specs.Running.{AllHonest, GivesNext, EndsAt}
+use Rattle.med_exec.specs.Running.{GivesNext, EndsAt}
+use Rattle.med_exec.specs.Pulling.{levels_in}
+use Rattle.scan_loops.specs.Running.{HonestFor}
+use Rattle.scan_loops.specs.declared.levels.LoopLevel.{LoopLevel}
 use Rattle.med_exec.specs.Rests.{Rests, held}
 use Rattle.open_cursors.specs.Fetching.{has_enough, IsWithin, PullsFor, counted as counted_to}
 use Rattle.med_exec.proofs.Counted.{begins_none}
@@ -31,8 +34,10 @@ returns-in-Ok-None-clause-ok g c =
     let old = states m c.args.slots.now.items in
     let now = states m c.loop-alloc.slots.items in
     let next = states m c.next.new.slots.items in
-    let gives : AllHonest now → GivesNext (Rests c.loop-alloc.run now) None (Rests c.next.new.self next) = rw c.in-Ok-None.field-0-is at c.in-Ok-None.ensures.gives in
-    let over : AllHonest now → EndsAt None (Rests c.next.new.self next) = rw c.in-Ok-None.field-0-is at c.in-Ok-None.ensures.over in
+    let still : HonestFor (levels_in c.args.run.now) old → HonestFor (levels_in c.loop-alloc.run) now = λ honest. subst (λ (ls : List LoopLevel). HonestFor ls now) (sym c.loop-alloc.invariant.pulls.same)
+    (λ slot has. c.services_join.ensures.honest (held c.args.run.now) (held c.loop-alloc.run) old now c.loop-alloc.invariant.boxes slot (honest slot has)) in
+    let gives : HonestFor (levels_in c.loop-alloc.run) now → GivesNext (Rests c.loop-alloc.run now) None (Rests c.next.new.self next) = rw c.in-Ok-None.field-0-is at c.in-Ok-None.ensures.gives in
+    let over : HonestFor (levels_in c.loop-alloc.run) now → EndsAt None (Rests c.next.new.self next) = rw c.in-Ok-None.field-0-is at c.in-Ok-None.ensures.over in
     let counted : c.len.result ≡ length c.loop-alloc.rows.items = c.len.ensures ∙ c.loop-alloc.rows.ok.0 in
     let more : has_enough (count_tree c.args.asked) (length c.loop-alloc.rows.items) ≡ false = ap (has_enough (count_tree c.args.asked)) (sym counted) ∙ sym c.is_enough.ensures ∙ c.loop-alloc-test.true in
     record {
@@ -42,11 +47,11 @@ returns-in-Ok-None-clause-ok g c =
       running = c.in-Ok-None.ensures.running;
       some = λ honest. c.runs_have_rests.ensures c.next.new.self next;
       gives = λ honest. all_then c.args.run.now c.loop-alloc.run c.next.new.self old now next c.loop-alloc.rows.items (c.loop-alloc.invariant.given honest)
-          (gives (c.services_join.ensures.honest (held c.args.run.now) (held c.loop-alloc.run) old now c.loop-alloc.invariant.boxes honest))
-          (over (c.services_join.ensures.honest (held c.args.run.now) (held c.loop-alloc.run) old now c.loop-alloc.invariant.boxes honest));
+          (gives (still honest))
+          (over (still honest));
       enough = λ honest. all_there (count_tree c.args.asked) c.loop-alloc.rows.items (Rests c.args.run.now old) more
           (all_given c.args.run.now c.loop-alloc.run c.next.new.self old now next c.loop-alloc.rows.items (c.loop-alloc.invariant.given honest)
-          (gives (c.services_join.ensures.honest (held c.args.run.now) (held c.loop-alloc.run) old now c.loop-alloc.invariant.boxes honest)));
+          (gives (still honest)));
     }
 
 pub loop-alloc-preserved : goal.loop-alloc-preserved
@@ -56,7 +61,9 @@ loop-alloc-preserved g c =
     let now = states m c.loop-alloc.slots.items in
     let next = states m c.next.new.slots.items in
     let pushed : c.push.new.self.items ≡ c.loop-alloc.rows.items ++ (c.in-Ok-Some.row ∷ []) = grind (arith, common_steps) in
-    let gives : AllHonest now → GivesNext (Rests c.loop-alloc.run now) (Some (tuple c.in-Ok-Some.row)) (Rests c.next.new.self next) = rw c.in-Ok-Some.field-0-is at c.in-Ok-Some.ensures.gives in
+    let still : HonestFor (levels_in c.args.run.now) old → HonestFor (levels_in c.loop-alloc.run) now = λ honest. subst (λ (ls : List LoopLevel). HonestFor ls now) (sym c.loop-alloc.invariant.pulls.same)
+    (λ slot has. c.services_join.ensures.honest (held c.args.run.now) (held c.loop-alloc.run) old now c.loop-alloc.invariant.boxes slot (honest slot has)) in
+    let gives : HonestFor (levels_in c.loop-alloc.run) now → GivesNext (Rests c.loop-alloc.run now) (Some (tuple c.in-Ok-Some.row)) (Rests c.next.new.self next) = rw c.in-Ok-Some.field-0-is at c.in-Ok-Some.ensures.gives in
     let before : c.len.result ≡ length c.loop-alloc.rows.items = c.len.ensures ∙ c.loop-alloc.rows.ok.0 in
     let more : has_enough (count_tree c.args.asked) (length c.loop-alloc.rows.items) ≡ false = ap (has_enough (count_tree c.args.asked)) (sym before) ∙ sym c.is_enough.ensures ∙ c.loop-alloc-test.true in
     let counted : length c.loop-alloc.rows.items + 1 ≡ length c.push.new.self.items = omega (arith, sym (ap (λ (rs : List Row). length rs) pushed ∙ length-append c.loop-alloc.rows.items (c.in-Ok-Some.row ∷ []))) in
@@ -70,7 +77,7 @@ loop-alloc-preserved g c =
       running = c.in-Ok-Some.ensures.running;
       given = λ honest.
           one_more c.args.run.now c.loop-alloc.run c.next.new.self old now next c.loop-alloc.rows.items c.push.new.self.items c.in-Ok-Some.row pushed (c.loop-alloc.invariant.given honest)
-          (gives (c.services_join.ensures.honest (held c.args.run.now) (held c.loop-alloc.run) old now c.loop-alloc.invariant.boxes honest));
+          (gives (still honest));
       most = subst (IsWithin (count_tree c.args.asked)) counted (within_more (count_tree c.args.asked) (length c.loop-alloc.rows.items) more);
       counts = subst (λ (n : ℕ). c.count.new.self.times ≡ counted_to c.args.count.now.times n) counted
           (counts_on c.args.count.now.times (length c.loop-alloc.rows.items) c.loop-alloc.count.times c.count.new.self.times c.loop-alloc.invariant.counts c.count.ensures);

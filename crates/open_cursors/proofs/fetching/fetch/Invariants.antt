@@ -2,7 +2,9 @@ use Rattle.std.proofs.Common.{◌≡◌, length}
 use Rattle.cursor_syntax.specs.CursorView.{count_tree}
 use Rattle.med_exec.specs.Slots.{states}
 use Rattle.med_exec.specs.Counting.{none_in, BeginsScans}
-use Rattle.med_exec.specs.Running.{AllHonest, ServesRun}
+use Rattle.med_exec.specs.Running.{ServesRun}
+use Rattle.med_exec.specs.Pulling.{levels_in}
+use Rattle.scan_loops.specs.Running.{HonestFor}
 use Rattle.med_exec.specs.Rests.{rows_left, held, IsRunning}
 use Rattle.med_exec.specs.Leaving.{KeepTables}
 use Rattle.open_cursors.specs.Fetching.{IsWithin, PullsFor, counted}
@@ -18,7 +20,7 @@ invariant-loop-alloc g l =
       same : held l.run ≡ held l.fn.run;
       tables : KeepTables (held l.fn.run) (states g.W.Wrapper.meaning l.fn.slots.items) (states g.W.Wrapper.meaning l.slots.items);
       running : IsRunning l.run (states g.W.Wrapper.meaning l.slots.items);
-      given : AllHonest (states g.W.Wrapper.meaning l.fn.slots.items) → HasGiven l.fn.run (states g.W.Wrapper.meaning l.fn.slots.items) l.rows.items l.run (states g.W.Wrapper.meaning l.slots.items);
+      given : HonestFor (levels_in l.fn.run) (states g.W.Wrapper.meaning l.fn.slots.items) → HasGiven l.fn.run (states g.W.Wrapper.meaning l.fn.slots.items) l.rows.items l.run (states g.W.Wrapper.meaning l.slots.items);
       most : IsWithin (count_tree l.asked) (length l.rows.items);
       counts : l.count.times ≡ counted l.fn.count.times (length l.rows.items);
     }
