@@ -2,7 +2,7 @@
 use Rattle.std.proofs.Common.{◌≡◌, ◌<◌, arith, Bool, true, false, List, [], ◌++◌, refl, ap, ◌∙◌}
 use Rattle.fdw_api.specs.Kinds.{Column, OptionForm}
 use Rattle.fdw_api.specs.State.{BoxState}
-use Rattle.ddl_syntax.specs.DdlTree.{TableTree}
+use Rattle.med_syntax.specs.DdlTree.{TableTree}
 use Rattle.med_value.specs.declared.cause.Cause.{Cause}
 use Rattle.med_value.specs.declared.cause.Cause.TheVariants.{InvalidOptionName}
 use Rattle.med_catalog.specs.DdlCauses.{CauseRow, Stands, are_options_unknown, create_table_rows}

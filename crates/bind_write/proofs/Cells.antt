@@ -5,7 +5,7 @@ use Rattle.med_value.specs.Column.{Column}
 use Rattle.med_value.specs.declared.value.ColType.{ColType}
 use Rattle.med_syntax.specs.Tree.{Name}
 use Rattle.med_syntax.specs.ExprTree.{ExprTree}
-use Rattle.write_syntax.specs.WriteTree.{SetTree}
+use Rattle.med_syntax.specs.WriteTree.{SetTree}
 use Rattle.tri_expr.specs.Tree.{Tree}
 use Rattle.bind_names.specs.Scope.{Scope}
 use Rattle.bind_names.specs.Meaning.{resolved}

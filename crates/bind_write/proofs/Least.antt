@@ -3,7 +3,7 @@ use Rattle.std.proofs.Common.{◌≡◌, ◌≤◌, ◌⊎◌, inl, inr, arith}
 use Rattle.med_value.specs.declared.cause.Cause.{Cause}
 use Rattle.med_value.specs.declared.cause.Cause.TheVariants.{OutOfMemory}
 use Rattle.med_syntax.specs.Tree.{Name}
-use Rattle.write_syntax.specs.WriteTree.{WriteTree}
+use Rattle.med_syntax.specs.WriteTree.{WriteTree}
 use Rattle.med_catalog.specs.DdlCauses.{phase}
 use Rattle.med_catalog.specs.Objects.{Objects}
 use Rattle.write_parts.specs.Naming.{WriteNames}

@@ -11,9 +11,9 @@ use Rattle.med_syntax.specs.QueryTree.{SelectTree}
 use Rattle.med_syntax.specs.QueryView.{statement_tree}
 use Rattle.med_syntax.specs.declared.statement.Statement.{Statement}
 use Rattle.med_syntax.specs.declared.statement.Statement.TheVariants as s
-use Rattle.write_syntax.specs.WriteTree.{rows_of}
-use Rattle.write_syntax.specs.WriteView.{given_tree}
-use Rattle.write_syntax.specs.declared.write.Given.TheVariants as g
+use Rattle.med_syntax.specs.WriteTree.{rows_of}
+use Rattle.med_syntax.specs.WriteView.{given_tree}
+use Rattle.med_syntax.specs.declared.write.Given.TheVariants as g
 use Rattle.med_query.specs.Select.{are_safe_cores}
 use Rattle.med_write.specs.Form.{insert_form, answer_form}
 use Rattle.bind_names.specs.Naming.{entered_causes, asked_causes, select_name_causes, once_known}

@@ -6,7 +6,7 @@ use Rattle.med_value.specs.declared.cause.Cause.{Cause}
 use Rattle.med_value.specs.declared.cause.Cause.TheVariants.{MisplacedName}
 use Rattle.med_syntax.specs.Tree.{Name}
 use Rattle.med_syntax.specs.ExprTree.{ExprTree}
-use Rattle.write_syntax.specs.WriteTree.{UpdateTree, update}
+use Rattle.med_syntax.specs.WriteTree.{UpdateTree, update}
 use Rattle.tri_expr.specs.Tree.{Tree}
 use Rattle.med_write.specs.Form.{update_form}
 use Rattle.bind_names.specs.Naming.{once_known}

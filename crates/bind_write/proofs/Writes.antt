@@ -6,7 +6,7 @@ use Rattle.med_value.specs.declared.cause.Cause.TheVariants.{OutOfMemory}
 use Rattle.med_syntax.specs.Tree.{Name}
 use Rattle.med_syntax.specs.ExprTree.{ExprTree}
 use Rattle.med_syntax.specs.QueryTree.{EntryTree}
-use Rattle.write_syntax.specs.WriteTree.{DeleteTree, WriteTree, delete}
+use Rattle.med_syntax.specs.WriteTree.{DeleteTree, WriteTree, delete}
 use Rattle.bind_names.specs.Naming.{once_known, name_causes, condition_name_causes}
 use Rattle.bind_names.specs.Telling.{TellsCause}
 use Rattle.med_binder.specs.Turns.{TellsInTurn}

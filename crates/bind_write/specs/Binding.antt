@@ -5,7 +5,7 @@ use Rattle.med_value.specs.declared.cause.Cause.TheVariants.{OutOfMemory}
 use Rattle.med_syntax.specs.Tree.{Name}
 use Rattle.med_syntax.specs.ExprTree.{ExprTree}
 use Rattle.med_syntax.specs.QueryTree.{SelectTree}
-use Rattle.write_syntax.specs.WriteTree.{GivenTree, values, rows_of, WriteTree, insert, update, delete}
+use Rattle.med_syntax.specs.WriteTree.{GivenTree, values, rows_of, WriteTree, insert, update, delete}
 use Rattle.med_query.specs.Select.{are_safe_cores}
 use Rattle.bind_names.specs.Scope.{place_named, query_scope}
 use Rattle.med_binder.specs.Binding.{IsMeant}

@@ -5,7 +5,7 @@ ghost use Rattle.med_value.specs.declared.cause.Cause.{Cause as AnyCause};
 ghost use Rattle.med_catalog.specs.View.{objects};
 ghost use Rattle.bind_catalog.specs.Tables.{AreNamedOnce};
 ghost use Rattle.bind_catalog.specs.Places.{attached};
-ghost use Rattle.write_syntax.specs.WriteView.{write_tree};
+ghost use Rattle.med_syntax.specs.WriteView.{write_tree};
 ghost use Rattle.write_parts.specs.Naming.{WriteNames};
 ghost use Rattle.write_parts.specs.Typing.{WriteTypes};
 ghost use Rattle.bind_write.specs.Binding.{IsBindable, IsMeantWrite, NotBound};
@@ -17,9 +17,9 @@ use crate::inserting::insert_over;
 use crate::updating::update_over;
 use bind_catalog::BoundTable;
 use med_catalog::Catalog;
+use med_syntax::WriteStatement;
 use med_value::Cause;
 use std::alloc::Global;
-use write_syntax::WriteStatement;
 
 // A write over the tables of the catalogue, or why it is refused.
 fn write_over(

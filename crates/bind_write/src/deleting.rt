@@ -4,18 +4,18 @@ ghost use Rattle.std.specs.Prelude.{◌≡◌, length, map};
 ghost use Rattle.med_catalog.specs.View.{objects};
 ghost use Rattle.bind_catalog.specs.Tables.{AreNamedOnce};
 ghost use Rattle.bind_catalog.specs.Places.{attached};
-ghost use Rattle.write_syntax.specs.WriteTree.{delete};
-ghost use Rattle.write_syntax.specs.WriteView.{delete_tree};
+ghost use Rattle.med_syntax.specs.WriteTree.{delete};
+ghost use Rattle.med_syntax.specs.WriteView.{delete_tree};
 ghost use Rattle.bind_write.specs.Steps.{BindsWrite};
 
 use crate::bound::TableWrite;
 use bind_catalog::BoundTable;
 use med_catalog::Catalog;
+use med_syntax::Delete;
 use med_value::Cause;
 use med_write::{BoundWrite, RowWrite};
 use std::alloc::Global;
 use write_parts::{ask, find_target, written_columns};
-use write_syntax::Delete;
 
 /// A DELETE over the tables of the catalogue, or why it is refused.
 pub(crate) fn delete_over(

@@ -7,8 +7,8 @@ ghost use Rattle.bind_catalog.specs.Tables.{AreNamedOnce};
 ghost use Rattle.bind_catalog.specs.Places.{attached};
 ghost use Rattle.med_syntax.specs.QueryView.{statement_tree};
 ghost use Rattle.bind_catalog.specs.Looked.{query_in};
-ghost use Rattle.write_syntax.specs.WriteTree.{insert};
-ghost use Rattle.write_syntax.specs.WriteView.{insert_tree, names_tree, row_tree};
+ghost use Rattle.med_syntax.specs.WriteTree.{insert};
+ghost use Rattle.med_syntax.specs.WriteView.{insert_tree, names_tree, row_tree};
 ghost use Rattle.bind_write.specs.Binding.{values_write, query_write};
 ghost use Rattle.bind_write.specs.Steps.{BindsWrite};
 
@@ -17,12 +17,11 @@ use crate::querying::{ask_query, check_answer};
 use crate::values::{ask_rows, check_rows};
 use bind_catalog::BoundTable;
 use med_catalog::Catalog;
-use med_syntax::{Expr as Written, Statement};
+use med_syntax::{Expr as Written, Given, Insert, Statement};
 use med_value::Cause;
 use med_write::{BoundWrite, Given as GivenRows, RowWrite};
 use std::alloc::Global;
 use write_parts::{check_named, find_target, places_for, written_columns};
-use write_syntax::{Given, Insert};
 
 // An INSERT of VALUES over the tables of the catalogue, or why it is refused.
 fn values_over(

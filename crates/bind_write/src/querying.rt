@@ -5,7 +5,7 @@ ghost use Rattle.std.specs.Prelude.{◌≡◌, ◌↔◌, Some, IsTrue, length, 
 ghost use Rattle.med_value.specs.Causes.{phase_of};
 ghost use Rattle.med_value.specs.Column.{column_of};
 ghost use Rattle.med_syntax.specs.QueryView.{statement_tree};
-ghost use Rattle.write_syntax.specs.WriteView.{names_tree};
+ghost use Rattle.med_syntax.specs.WriteView.{names_tree};
 ghost use Rattle.bind_names.specs.Telling.{Passes};
 ghost use Rattle.bind_types.specs.Kinds.{types_in};
 ghost use Rattle.med_catalog.specs.View.{objects};

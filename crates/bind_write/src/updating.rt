@@ -8,8 +8,8 @@ ghost use Rattle.med_catalog.specs.View.{objects};
 ghost use Rattle.bind_catalog.specs.Tables.{AreNamedOnce};
 ghost use Rattle.bind_catalog.specs.Places.{attached};
 ghost use Rattle.tri_expr.specs.Tree.{tree};
-ghost use Rattle.write_syntax.specs.WriteTree.{update};
-ghost use Rattle.write_syntax.specs.WriteView.{set_tree, update_tree};
+ghost use Rattle.med_syntax.specs.WriteTree.{update};
+ghost use Rattle.med_syntax.specs.WriteView.{set_tree, update_tree};
 ghost use Rattle.write_parts.specs.Meaning.{name_place};
 ghost use Rattle.bind_write.specs.Steps.{BindsWrite, SplitsSets};
 
@@ -17,7 +17,7 @@ use crate::bound::TableWrite;
 use bind_catalog::BoundTable;
 use bind_types::kinds_of;
 use med_catalog::Catalog;
-use med_syntax::Expr as Written;
+use med_syntax::{Expr as Written, SetClause, Update};
 use med_value::{Cause, ColumnDef, NoMemory};
 use med_write::{BoundWrite, RowWrite};
 use std::alloc::Global;
@@ -25,7 +25,6 @@ use tri_expr::Expr;
 use write_parts::{
     ask, cell_kinds, check_cells, check_list, find_target, name_place, written_columns,
 };
-use write_syntax::{SetClause, Update};
 
 /// The columns of SET, and the expressions for them.
 pub(crate) struct SetList {

@@ -12,7 +12,7 @@ use Rattle.med_syntax.specs.Words.{is_reserved}
 use Rattle.ddl_parser.specs.DdlGrammar.{Form, Both, Words, WordsOrNot, NameIs, IsEnd}
 use Rattle.ddl_parser.specs.DdlReading.{seq, expect, words_if, name_of, is_end}
 use Rattle.ddl_parser.proofs.DdlTakes.{Clear, other_word, seq_takes, seq_ends, first_absent, expect_takes, Absent, if_takes, name_takes}
-use Rattle.cursor_syntax.specs.CursorTree.{CountTree, some_rows, all_rows, CursorTree, declare, fetch, close}
+use Rattle.med_syntax.specs.CursorTree.{CountTree, some_rows, all_rows, CursorTree, declare, fetch, close}
 use Rattle.cursor_parser.specs.CursorGrammar.{Properties, Declaring, CountIs, FromOrIn, Fetching, Closing}
 use Rattle.cursor_parser.specs.CursorReading.{held_of, properties_of, declared_of, next_of, word_count_of, count_of, from_of, fetch_of, close_of, plain_of, ended, plain_line}
 use Rattle.cursor_parser.proofs.CursorSound.{Plain}

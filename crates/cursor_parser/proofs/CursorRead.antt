@@ -26,14 +26,14 @@ use Rattle.query_grammar.specs.QueryGrammar.{SpellsCore, Spells, IsLine, IsState
 use Rattle.query_grammar.proofs.QueryTerminals.{to_terminals, of_terminals}
 use Rattle.query_reader.specs.QueryReading.{bounded_line}
 use Rattle.query_reader.proofs.QueryComplete as query_line
-use Rattle.ddl_syntax.specs.DdlTree.{DdlTree}
+use Rattle.med_syntax.specs.DdlTree.{DdlTree}
 use Rattle.ddl_parser.specs.DdlGrammar.{Both, IsEnd, IsDdl}
 use Rattle.ddl_parser.specs.DdlReading.{seq, behind_word, words_if}
 use Rattle.ddl_parser.proofs.DdlSound.{FoundForm, word_is, err_ok}
 use Rattle.ddl_parser.proofs.DdlComplete as ddl
-use Rattle.cursor_syntax.specs.declared.cursor.CursorStatement.{CursorStatement}
-use Rattle.cursor_syntax.specs.CursorTree.{CursorTree, declare, fetch, close, cursor_height}
-use Rattle.cursor_syntax.specs.CursorView.{cursor_tree}
+use Rattle.med_syntax.specs.declared.cursor.CursorStatement.{CursorStatement}
+use Rattle.med_syntax.specs.CursorTree.{CursorTree, declare, fetch, close, cursor_height}
+use Rattle.med_syntax.specs.CursorView.{cursor_tree}
 use Rattle.cursor_parser.specs.CursorGrammar.{Declaring, QueryIs, IsCursor}
 use Rattle.cursor_parser.specs.CursorReading.{held_of, properties_of, declared_of, plain_of, ended, plain_line, query_of, line_behind, line_of}
 use Rattle.cursor_parser.specs.CursorCauses.{Refuses}

@@ -11,7 +11,7 @@ use Rattle.expr_grammar.proofs.ExprSound.{ok_same}
 use Rattle.ddl_parser.specs.DdlGrammar.{Form, Both, ◌⋯◌, Words, WordsOrNot, IsEnd}
 use Rattle.ddl_parser.specs.DdlReading.{behind_word, expect, words_if, name_of, is_end}
 use Rattle.ddl_parser.proofs.DdlSound.{FoundForm, Sound, word_is, found_both, found_as, err_ok, seq_sound, word_found, nothing_found, expect_sound, if_sound, or_not, name_sound}
-use Rattle.cursor_syntax.specs.CursorTree.{CountTree, some_rows, all_rows, CursorTree, declare, fetch, close}
+use Rattle.med_syntax.specs.CursorTree.{CountTree, some_rows, all_rows, CursorTree, declare, fetch, close}
 use Rattle.cursor_parser.specs.CursorGrammar.{Properties, Declaring, CountIs, FromOrIn, Fetching, Closing, IsCursor}
 use Rattle.cursor_parser.specs.CursorReading.{held_of, properties_of, declared_of, next_of, word_count_of, count_of, from_of, fetch_of, close_of, plain_of, ended, plain_line}
 

@@ -7,7 +7,7 @@ use Rattle.expr_grammar.specs.declared.refusal.ReadFault.{ReadFault}
 use Rattle.expr_grammar.specs.declared.refusal.ReadFault.TheVariants as faults
 use Rattle.expr_grammar.specs.declared.refusal.Refusal.TheVariants.{Syntax, TooHigh}
 use Rattle.query_grammar.specs.QueryCauses.{count_in_range, statement_in_range}
-use Rattle.cursor_syntax.specs.CursorTree.{CountTree, some_rows, all_rows, CursorTree, declare, fetch, close, cursor_height}
+use Rattle.med_syntax.specs.CursorTree.{CountTree, some_rows, all_rows, CursorTree, declare, fetch, close, cursor_height}
 use Rattle.cursor_parser.specs.CursorGrammar.{IsCursor}
 
 -- ---- each number is at most 2^63 - 1, and directly behind a unary minus at most 2^63

@@ -12,7 +12,7 @@ use Rattle.med_syntax.specs.Tree.{Name}
 use Rattle.med_syntax.specs.QueryTree.{StatementTree}
 use Rattle.query_grammar.specs.QueryGrammar.{IsStatement}
 use Rattle.ddl_parser.specs.DdlGrammar.{Form, ◌⋯◌, Nothing, Words, WordsOrNot, NameIs, IsEnd}
-use Rattle.cursor_syntax.specs.CursorTree.{CountTree, some_rows, all_rows, CursorTree, declare, fetch, close}
+use Rattle.med_syntax.specs.CursorTree.{CountTree, some_rows, all_rows, CursorTree, declare, fetch, close}
 
 -- [INSENSITIVE] [NO SCROLL] CURSOR [WITH HOLD] FOR (SQL:2016, <cursor properties>)
 abbrev pub Properties : Form

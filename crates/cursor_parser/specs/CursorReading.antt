@@ -10,7 +10,7 @@ use Rattle.query_grammar.specs.declared.query_symbols.Place.TheVariants.{Before}
 use Rattle.query_grammar.specs.QueryTerminals.{words_at}
 use Rattle.query_reader.specs.QueryReading.{bounded_line}
 use Rattle.ddl_parser.specs.DdlReading.{Parser, seq, behind_word, expect, words_if, name_of, is_end}
-use Rattle.cursor_syntax.specs.CursorTree.{CountTree, some_rows, all_rows, CursorTree, declare, fetch, close}
+use Rattle.med_syntax.specs.CursorTree.{CountTree, some_rows, all_rows, CursorTree, declare, fetch, close}
 
 -- CURSOR [WITH HOLD] FOR
 unfoldable pub held_of : Parser (Unit {0})

@@ -1,9 +1,9 @@
 //! Laws of the statements on cursors. Each is the contract of a function that does nothing.
 
 ghost use Rattle.cursor_parser.specs.CursorGrammar.{IsCursor};
-ghost use Rattle.cursor_syntax.specs.CursorTree.{CursorTree};
+ghost use Rattle.med_syntax.specs.CursorTree.{CursorTree};
 ghost use Rattle.ddl_parser.specs.DdlGrammar.{IsDdl};
-ghost use Rattle.ddl_syntax.specs.DdlTree.{DdlTree};
+ghost use Rattle.med_syntax.specs.DdlTree.{DdlTree};
 ghost use Rattle.med_lexer.specs.Lexemes.{Shape};
 ghost use Rattle.med_syntax.specs.QueryTree.{StatementTree};
 ghost use Rattle.query_grammar.specs.QueryGrammar.{IsStatement};

@@ -5,8 +5,8 @@ ghost use Rattle.cursor_parser.specs.CursorCauses as causes;
 ghost use Rattle.cursor_parser.specs.CursorCauses.{Refuses};
 ghost use Rattle.cursor_parser.specs.CursorGrammar.{IsCursor};
 ghost use Rattle.cursor_parser.specs.CursorReading as reading;
-ghost use Rattle.cursor_syntax.specs.CursorTree.{cursor_height};
-ghost use Rattle.cursor_syntax.specs.CursorView.{count_tree, cursor_tree};
+ghost use Rattle.med_syntax.specs.CursorTree.{cursor_height};
+ghost use Rattle.med_syntax.specs.CursorView.{count_tree, cursor_tree};
 ghost use Rattle.expr_grammar.specs.ExprAnswers.{ReadsAs};
 ghost use Rattle.expr_grammar.specs.ExprTerminals.{AreReadable};
 ghost use Rattle.expr_grammar.specs.View.{shapes_of};
@@ -17,9 +17,9 @@ ghost use Rattle.med_value.specs.Limits.{height_limit};
 use crate::cursor_tokens::{
     behind_from, behind_word, count, expect, is_end, name, two_if, word_if,
 };
-use cursor_syntax::{Close, CursorStatement, Declare, Fetch, FetchCount};
 use expr_grammar::refusal::{ReadFault, Refusal};
 use med_lexer::Token;
+use med_syntax::{Close, CursorStatement, Declare, Fetch, FetchCount};
 use query_reader::statement_of;
 use std::alloc::Global;
 

@@ -1,7 +1,7 @@
 //! Keywords, names and counts at the front of tokens.
 
 ghost use Rattle.cursor_parser.specs.CursorReading as reading;
-ghost use Rattle.cursor_syntax.specs.CursorView.{count_tree};
+ghost use Rattle.med_syntax.specs.CursorView.{count_tree};
 ghost use Rattle.ddl_parser.specs.DdlReading as ddl;
 ghost use Rattle.expr_grammar.specs.ExprAnswers.{ReadsAs};
 ghost use Rattle.expr_grammar.specs.ExprTerminals.{AreReadable};
@@ -9,10 +9,9 @@ ghost use Rattle.expr_grammar.specs.View.{shapes_of};
 ghost use Rattle.std.specs.Prelude.{◌≡◌, ◌∷◌, [], Ok, IfOk, map, option_map};
 ghost use Rattle.std.specs.String.{string_bytes};
 
-use cursor_syntax::FetchCount;
 use expr_grammar::refusal::{ReadFault, Refusal};
 use med_lexer::{Mark, Token, TokenKind, number_value};
-use med_syntax::is_reserved;
+use med_syntax::{FetchCount, is_reserved};
 
 /// The tokens behind the keyword, where it comes first.
 pub fn behind_word<'a>(word: &str, tokens: &'a [Token]) -> Option<&'a [Token]>

@@ -4,7 +4,7 @@ use Rattle.std.proofs.lemmas.Bool.Decides.{eqb_tells}
 use Rattle.med_value.specs.declared.cause.Cause.TheVariants.{Protocol, OutOfMemory, SourceFault, LimitExceeded}
 use Rattle.med_syntax.specs.Tree.{Name}
 use Rattle.med_syntax.specs.QueryTree.{select}
-use Rattle.cursor_syntax.specs.CursorTree.{CursorTree, declare, fetch, close}
+use Rattle.med_syntax.specs.CursorTree.{CursorTree, declare, fetch, close}
 use Rattle.med_catalog.specs.Changes.{ObjectChange, nothing, new_wrapper, new_server, new_mapping, new_table, no_wrapper, no_server, no_mapping, no_table}
 use Rattle.med_parser.specs.CommandTree.{CommandTree, on_data, on_rows, on_cursors, on_objects}
 use Rattle.med_parser.specs.CommandGrammar.{HasCommand}

@@ -8,9 +8,9 @@ use Rattle.med_syntax.specs.Tree.{Name}
 use Rattle.med_syntax.specs.QueryTree.{EntryTree, SelectTree, select}
 use Rattle.fdw_api.specs.Kinds.{Held}
 use Rattle.write_parts.specs.Meaning.{target_of}
-use Rattle.cursor_syntax.specs.CursorTree.{CursorTree, declare, fetch, close}
+use Rattle.med_syntax.specs.CursorTree.{CursorTree, declare, fetch, close}
 use Rattle.med_catalog.specs.Objects.{TableObject, Objects}
-use Rattle.ddl_syntax.specs.DdlTree.{DdlTree, create_wrapper, create_server, create_mapping, create_table, drop_wrapper, drop_server, drop_table, drop_mapping}
+use Rattle.med_syntax.specs.DdlTree.{DdlTree, create_wrapper, create_server, create_mapping, create_table, drop_wrapper, drop_server, drop_table, drop_mapping}
 use Rattle.med_catalog.specs.DdlCauses.{DdlCauses, lease_rows, object_rows, ddl_rows}
 use Rattle.med_catalog.specs.Changes.{ObjectChange, nothing, new_wrapper, new_server, new_mapping, new_table, no_wrapper, no_server, no_mapping, no_table, without, is_skipped, Asks, skips, makes}
 use Rattle.med_parser.specs.CommandTree.{CommandTree, on_data, on_rows, on_cursors, on_objects}

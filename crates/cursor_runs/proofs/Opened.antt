@@ -3,7 +3,7 @@ use Rattle.std.proofs.Common.{◌≡◌, ℕ, List, [], ◌∷◌, ◌++◌, Opt
 use Rattle.med_value.specs.declared.cause.Cause.TheVariants.{OutOfMemory, SourceFault, LimitExceeded, DuplicateCursor}
 use Rattle.med_syntax.specs.Tree.{Name}
 use Rattle.med_syntax.specs.QueryTree.{SelectTree, select}
-use Rattle.cursor_syntax.specs.CursorTree.{declare}
+use Rattle.med_syntax.specs.CursorTree.{declare}
 use Rattle.med_parser.specs.CommandTree.{CommandTree, on_cursors}
 use Rattle.med_parser.specs.CommandGrammar.{HasCommand}
 use Rattle.sql_meaning.specs.Requests.{AskedLine, sql}

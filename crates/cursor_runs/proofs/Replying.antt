@@ -4,7 +4,7 @@ use Rattle.std.proofs.lemmas.List.{append_cancel_left, append_assoc}
 use Rattle.med_value.specs.declared.cause.Cause.{Cause}
 use Rattle.med_syntax.specs.Tree.{Name}
 use Rattle.med_syntax.specs.QueryTree.{select}
-use Rattle.cursor_syntax.specs.CursorTree.{declare, fetch, close}
+use Rattle.med_syntax.specs.CursorTree.{declare, fetch, close}
 use Rattle.med_parser.specs.CommandTree.{CommandTree, on_cursors}
 use Rattle.med_parser.specs.CommandGrammar.{HasCommand}
 use Rattle.sql_meaning.specs.Requests.{AskedLine, sql, bye}

@@ -5,7 +5,7 @@ use Rattle.med_value.specs.declared.cause.Cause.{Cause}
 use Rattle.med_syntax.specs.Tree.{Name}
 use Rattle.med_syntax.specs.QueryTree.{SelectTree, select}
 use Rattle.med_query.specs.Query.{IsAnswer}
-use Rattle.cursor_syntax.specs.CursorTree.{CountTree, declare, fetch, close}
+use Rattle.med_syntax.specs.CursorTree.{CountTree, declare, fetch, close}
 use Rattle.med_parser.specs.CommandTree.{CommandTree, on_cursors}
 use Rattle.med_parser.specs.CommandGrammar.{HasCommand}
 use Rattle.sql_meaning.specs.Requests.{sql, bye}

@@ -5,9 +5,8 @@ ghost use Rattle.fed_cli.specs.Told.{run_line};
 ghost use Rattle.fed_output.specs.Outlets.{FrontWritten};
 ghost use Rattle.fed_words.specs.Told.{words_text};
 
-use fed_output::{GivenUp, Sink, write_front};
+use fed_output::{GivenUp, Sink, write_front, write_line};
 use fed_setup::told::RunFault;
-use fed_tell::write_line;
 use fed_words::words::WordsFault;
 use itoa::Buffer;
 

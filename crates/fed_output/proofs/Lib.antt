@@ -1,3 +1,4 @@
 pub mod Known
 pub mod Counts
 pub mod Bytes
+pub mod Fronts

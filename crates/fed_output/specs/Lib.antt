@@ -2,3 +2,4 @@ pub mod Known
 pub mod Inlets
 pub mod Outlets
 pub mod Memory
+pub mod Parts

@@ -11,8 +11,7 @@ ghost use Rattle.med_session.specs.Shows.{shown};
 
 use crate::turns::{AcceptFault, Connections, Kept, serve_connections};
 use fdw_api::wishes::Wrapper2;
-use fed_output::{GivenUp, Sink, flush};
-use fed_tell::write_line;
+use fed_output::{GivenUp, Sink, flush, write_line};
 use itoa::Buffer;
 use med_session::Engine;
 use std::error::Error;

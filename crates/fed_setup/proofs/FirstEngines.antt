@@ -2,7 +2,7 @@
 use Rattle.std.proofs.Common.{◌≡◌, ◌≢◌, arith, ℕ, Bool, true, false, List, [], ◌∷◌, ◌++◌, ◌||◌, ◌&&◌, length, Option, Some, None, option_map, Result, Ok, Err, OnOk, IfErr, Bor, refl, sym, ap, ◌∙◌, subst, inl, inr}
 use Rattle.fdw_api.specs.Kinds.{Kind}
 use Rattle.fdw_api.specs.State.{BoxState, is_honest}
-use Rattle.ddl_syntax.specs.DdlTree.{TableTree}
+use Rattle.med_syntax.specs.DdlTree.{TableTree}
 use Rattle.med_value.specs.declared.cause.Cause.{Cause}
 use Rattle.med_value.specs.declared.cause.Cause.TheVariants.{InvalidOptionName}
 use Rattle.med_catalog.specs.DdlCauses.{CauseRow, Stands, are_options_unknown, create_table_rows}

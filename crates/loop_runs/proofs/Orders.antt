@@ -10,8 +10,8 @@ use Rattle.med_query.specs.declared.select.SortDirection.{SortDirection}
 use Rattle.fdw_api.specs.Scan.{KeyForm}
 use Rattle.fdw_api.specs.Wishes.{key_form}
 use Rattle.fdw_api.specs.declared.wishes.OrderKey.{OrderKey}
-use Rattle.loop_answers.specs.Ordered.{key_column, with_key, order_of}
-use Rattle.loop_answers.proofs.InOrder.{has_key}
+use Rattle.scan_loops.specs.Ordered.{key_column, with_key, order_of}
+use Rattle.scan_loops.proofs.InOrder.{has_key}
 
 -- ---- one key after another
 

@@ -3,10 +3,10 @@ ghost use Rattle.std.specs.Prelude.{◌≡◌, ◌↔◌, ◌∷◌, [], false, 
 ghost use Rattle.med_value.specs.Datum.{tuple};
 ghost use Rattle.med_query.specs.Query.{keeps, senses};
 ghost use Rattle.tri_expr.specs.TreeParts.{is_risky};
-ghost use Rattle.nested_loops.specs.Joins.{Each};
-ghost use Rattle.loop_answers.specs.Conjuncts.{safe_of};
-ghost use Rattle.loop_answers.specs.Ordered.{IsShownCore};
-ghost use Rattle.loop_answers.specs.Streamed.{all_safe, IsStreamedCore, IsStreamed};
+ghost use Rattle.pushdown.specs.Joins.{Each};
+ghost use Rattle.scan_loops.specs.Conjuncts.{safe_of};
+ghost use Rattle.scan_loops.specs.Ordered.{IsShownCore};
+ghost use Rattle.scan_loops.specs.Streamed.{all_safe, IsStreamedCore, IsStreamed};
 ghost use Rattle.loop_runs.specs.Gathering.{levels_in, AreDecided};
 
 use med_query::{Select, SelectCore};

@@ -1,9 +1,9 @@
 //! What is left of a query over the rows that its loops gave.
 ghost use Rattle.std.specs.Prelude.{◌≡◌, IfOk, map, true};
 ghost use Rattle.med_query.specs.Select.{core_of, query_of, is_safe_from, are_safe_cores};
-ghost use Rattle.loop_answers.specs.Conjuncts.{risky_of};
+ghost use Rattle.scan_loops.specs.Conjuncts.{risky_of};
 ghost use Rattle.loop_runs.specs.Leaving.{IsOneTable};
-ghost use Rattle.loop_answers.specs.Gathered.{left_core as spec_left_core, left_cores as spec_left_cores, left_query};
+ghost use Rattle.scan_loops.specs.Gathered.{left_core as spec_left_core, left_cores as spec_left_cores, left_query};
 
 use med_query::{JoinChain, Select, SelectCore};
 use med_value::NoMemory;

@@ -4,7 +4,7 @@ ghost use Rattle.med_query.specs.Form.{direction_of};
 ghost use Rattle.fdw_api.specs.Wishes.{key_form, spec2_of};
 ghost use Rattle.tri_expr.specs.Tree.{tree};
 ghost use Rattle.scan_loops.specs.Pulling.{IsBare};
-ghost use Rattle.loop_answers.specs.Ordered.{key_column as spec_key_column, order_of, IsEnough, ComesInOrder};
+ghost use Rattle.scan_loops.specs.Ordered.{key_column as spec_key_column, order_of, IsEnough, ComesInOrder};
 ghost use Rattle.loop_runs.specs.Ordering.{PlanInOrder};
 
 use crate::deciding::is_shown_core;

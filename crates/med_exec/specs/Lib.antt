@@ -9,3 +9,8 @@ pub mod Pulling
 pub mod Rests
 pub mod Leaving
 pub mod Holding
+pub mod Offers
+pub mod BoundCounting
+pub mod BoundPulling
+pub mod BoundRunning
+pub mod Starting

@@ -16,7 +16,7 @@ use Rattle.med_syntax.specs.Words.{is_reserved}
 use Rattle.med_syntax.specs.QueryTree.{StatementTree, select}
 use Rattle.query_grammar.specs.QueryTerminals.{IsWord, AreWords, is_free_keyword}
 use Rattle.query_grammar.specs.QueryGrammar.{SpellsCore, Spells, IsStatement}
-use Rattle.write_syntax.specs.WriteTree.{GivenTree, values, rows_of, insert, update, delete}
+use Rattle.med_syntax.specs.WriteTree.{GivenTree, values, rows_of, insert, update, delete}
 use Rattle.write_parser.specs.WriteGrammar.{SpellsInsert, SpellsUpdate, SpellsDelete, IsLineOf, IsInsert}
 use Rattle.cursor_parser.proofs.CursorRead as cursor
 use Rattle.ddl_parser.proofs.DdlComplete as ddl

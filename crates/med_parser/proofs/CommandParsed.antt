@@ -22,30 +22,30 @@ use Rattle.expr_grammar.specs.ExprAnswers.{ReadsAs, cause_of_read}
 use Rattle.med_syntax.specs.QueryTree.{StatementTree, statement_height}
 use Rattle.query_grammar.specs.QueryGrammar.{IsStatement, HasStatement}
 use Rattle.query_grammar.specs.QueryCauses.{statement_in_range}
-use Rattle.query_print.specs.QueryPrinting.{printed_statement}
+use Rattle.sql_print.specs.QueryPrinting.{printed_statement}
 use Rattle.ddl_parser.specs.DdlPrinting.{printed_ddl}
 use Rattle.med_parser.specs.CommandPrinting.{printed_command}
-use Rattle.ddl_syntax.specs.DdlTree.{DdlTree}
-use Rattle.ddl_syntax.specs.DdlView.{ddl_tree}
+use Rattle.med_syntax.specs.DdlTree.{DdlTree}
+use Rattle.med_syntax.specs.DdlView.{ddl_tree}
 use Rattle.med_parser.specs.CommandTree.{CommandTree, on_data, on_rows, on_cursors, on_objects, command_height, command_tree}
-use Rattle.write_syntax.specs.WriteTree.{WriteTree}
-use Rattle.write_syntax.specs.WriteView.{write_tree}
-use Rattle.write_syntax.specs.declared.write.WriteStatement.{WriteStatement}
+use Rattle.med_syntax.specs.WriteTree.{WriteTree}
+use Rattle.med_syntax.specs.WriteView.{write_tree}
+use Rattle.med_syntax.specs.declared.write.WriteStatement.{WriteStatement}
 use Rattle.write_parser.specs.WriteGrammar.{IsWrite, HasWrite}
 use Rattle.write_parser.specs.WriteCauses.{write_in_range, Refuses}
 use Rattle.write_parser.proofs.WriteRead.{one_write}
-use Rattle.write_print.specs.WritePrinting.{printed_write}
-use Rattle.cursor_syntax.specs.CursorTree.{CursorTree}
-use Rattle.cursor_syntax.specs.CursorView.{cursor_tree}
-use Rattle.cursor_syntax.specs.declared.cursor.CursorStatement.{CursorStatement}
+use Rattle.sql_print.specs.WritePrinting.{printed_write}
+use Rattle.med_syntax.specs.CursorTree.{CursorTree}
+use Rattle.med_syntax.specs.CursorView.{cursor_tree}
+use Rattle.med_syntax.specs.declared.cursor.CursorStatement.{CursorStatement}
 use Rattle.cursor_parser.specs.CursorGrammar.{IsCursor, HasCursor}
 use Rattle.cursor_parser.specs.CursorCauses.{cursor_in_range}
 use Rattle.cursor_parser.specs.CursorCauses as cursor_causes
 use Rattle.cursor_parser.proofs.CursorRead as cursor
-use Rattle.cursor_print.specs.CursorPrinting.{printed_cursor}
+use Rattle.sql_print.specs.CursorPrinting.{printed_cursor}
 use Rattle.med_parser.specs.declared.command.Command.{Command}
 use Rattle.med_parser.specs.declared.command.Command.TheVariants as commands
-use Rattle.ddl_syntax.specs.declared.ddl.Ddl.{Ddl}
+use Rattle.med_syntax.specs.declared.ddl.Ddl.{Ddl}
 use Rattle.ddl_parser.specs.DdlGrammar.{IsDdl, HasDdl}
 use Rattle.med_parser.specs.declared.command_kind.CommandKind.{CommandKind}
 use Rattle.med_parser.specs.declared.command_kind.CommandKind.TheVariants as kinds

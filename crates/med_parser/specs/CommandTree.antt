@@ -3,12 +3,12 @@
 use Rattle.std.specs.Prelude.{ℕ}
 use Rattle.med_syntax.specs.QueryTree.{StatementTree, statement_height}
 use Rattle.med_syntax.specs.QueryView.{statement_tree}
-use Rattle.ddl_syntax.specs.DdlTree.{DdlTree}
-use Rattle.ddl_syntax.specs.DdlView.{ddl_tree}
-use Rattle.write_syntax.specs.WriteTree.{WriteTree, write_height}
-use Rattle.write_syntax.specs.WriteView.{write_tree}
-use Rattle.cursor_syntax.specs.CursorTree.{CursorTree, cursor_height}
-use Rattle.cursor_syntax.specs.CursorView.{cursor_tree}
+use Rattle.med_syntax.specs.DdlTree.{DdlTree}
+use Rattle.med_syntax.specs.DdlView.{ddl_tree}
+use Rattle.med_syntax.specs.WriteTree.{WriteTree, write_height}
+use Rattle.med_syntax.specs.WriteView.{write_tree}
+use Rattle.med_syntax.specs.CursorTree.{CursorTree, cursor_height}
+use Rattle.med_syntax.specs.CursorView.{cursor_tree}
 use Rattle.med_parser.specs.declared.command.Command.{Command}
 use Rattle.med_parser.specs.declared.command.Command.TheVariants as c
 

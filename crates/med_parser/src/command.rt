@@ -1,9 +1,6 @@
 //! What a line may ask: a statement on data, one that writes rows, one on a cursor, or one on the objects of the catalogue.
 
-use cursor_syntax::CursorStatement;
-use ddl_syntax::Ddl;
-use med_syntax::Statement;
-use write_syntax::WriteStatement;
+use med_syntax::{CursorStatement, Ddl, Statement, WriteStatement};
 
 /// A statement of any kind.
 #[derive(Debug, PartialEq, Eq, Drop)]

@@ -6,11 +6,9 @@ ghost use Rattle.med_parser.specs.CommandPrinting as printing;
 ghost use Rattle.med_parser.specs.CommandTree.{CommandTree};
 ghost use Rattle.std.specs.Prelude.{◌≡◌, ℕ, true, List};
 
-use cursor_print::printed_cursor;
 use ddl_parser::printed_ddl;
 use med_lexer::one_list;
-use query_print::printed_statement;
-use write_print::printed_write;
+use sql_print::{printed_cursor, printed_statement, printed_write};
 
 /// A text has at most one tree.
 pub fn one_tree()

@@ -22,9 +22,9 @@ pub fn print(alloc: Global, command: &Command) -> Result<String, NoMemory>
         → IfOk result (λ s. HasCommand (string_bytes s) (command_tree command.now)) }
 {
     match command {
-        Command::Data(statement) => query_print::print(alloc, statement),
-        Command::Rows(statement) => write_print::print(alloc, statement),
-        Command::Cursor(statement) => cursor_print::print(alloc, statement),
+        Command::Data(statement) => sql_print::query_writer::print(alloc, statement),
+        Command::Rows(statement) => sql_print::write_writer::print(alloc, statement),
+        Command::Cursor(statement) => sql_print::cursor_writer::print(alloc, statement),
         Command::Ddl(ddl) => print_ddl(alloc, ddl),
     }
 }

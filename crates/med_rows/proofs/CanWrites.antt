@@ -2,7 +2,7 @@
 use Rattle.std.proofs.Common.{◌≡◌, ℕ, ◌+◌, List, Option, Some, None, is_some, slice_get, ap, sym, ◌∙◌, subst, arith}
 use Rattle.med_value.specs.Datum.{Tuple}
 use Rattle.med_value.specs.declared.value.ColType.{ColType}
-use Rattle.write_syntax.specs.WriteTree.{WriteTree}
+use Rattle.med_syntax.specs.WriteTree.{WriteTree}
 use Rattle.fdw_api.specs.Kinds.{kinds_of}
 use Rattle.fdw_api.specs.State.{BoxTable, BoxState, table_of}
 use Rattle.fdw_api.specs.Calls.{NoScan}

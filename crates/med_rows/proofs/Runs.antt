@@ -7,7 +7,7 @@ use Rattle.med_value.specs.declared.cause.Cause.{Cause}
 use Rattle.med_value.specs.declared.cause.Cause.TheVariants.{LimitExceeded, SourceFault}
 use Rattle.med_value.specs.declared.value.ColType.{ColType}
 use Rattle.med_syntax.specs.Tree.{Name}
-use Rattle.write_syntax.specs.WriteTree.{GivenTree, values, rows_of, WriteTree, insert, update, delete}
+use Rattle.med_syntax.specs.WriteTree.{GivenTree, values, rows_of, WriteTree, insert, update, delete}
 use Rattle.fdw_api.specs.State.{BoxState}
 use Rattle.fdw_api.specs.declared.interface.Fault.{Fault}
 use Rattle.med_binder.specs.Place.{entry_place}
@@ -36,12 +36,12 @@ use Rattle.open_cursors.specs.Counted.{ReadsTables}
 use Rattle.open_cursors.specs.Starting.{RunFails}
 use Rattle.med_world.specs.Selecting.{AnswersOver}
 use Rattle.med_world.specs.Writing.{GivesAnswer, FailsQuery, GivesRows, IsGiven, IsTargetAt, columns_for, form_for, DoesWrite, WritesRows, WriteFails, too_many, query_fails, box_refuses, rows_untyped}
-use Rattle.write_types.specs.Typed.{IsClean}
-use Rattle.write_fits.specs.Fitting.{kinds_written, answer_fits}
+use Rattle.write_laws.specs.Typed.{IsClean}
+use Rattle.write_exec.specs.Fitting.{kinds_written, answer_fits}
 use Rattle.med_rows.specs.Ready.{IsReady, IsUnread}
 use Rattle.med_rows.proofs.CanWrites.{can_write}
 use Rattle.med_rows.proofs.Served.{ready_served, unread_served}
-use Rattle.write_fits.proofs.Fitted.{fits_typed, typed_fits}
+use Rattle.write_exec.proofs.Fitted.{fits_typed, typed_fits}
 use Rattle.med_rows.proofs.Typed.{WritesAreTyped, IsTypedFor, typed_alone, HasQuery, of_its_query, typed_answer}
 
 -- ---- the table

@@ -9,7 +9,7 @@ use Rattle.fdw_api.specs.State.{BoxState, BoxTable, is_honest, table_of}
 use Rattle.fdw_api.specs.Sound.{IsTableOf, IsSoundBox}
 use Rattle.med_exec.specs.Running.{AllServed, none_held}
 use Rattle.med_exec.proofs.Served.{ServedAlone, after_service, before_service, box_inj}
-use Rattle.write_syntax.specs.WriteTree.{WriteTree}
+use Rattle.med_syntax.specs.WriteTree.{WriteTree}
 use Rattle.med_catalog.specs.Objects.{Objects}
 use Rattle.bind_catalog.specs.Places.{Attached}
 use Rattle.med_rows.specs.Ready.{IsReady, IsUnread}

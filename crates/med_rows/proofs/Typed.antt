@@ -11,7 +11,7 @@ use Rattle.med_value.specs.declared.cause.Cause.TheVariants.{UndefinedTable}
 use Rattle.med_value.specs.declared.value.ColType.{ColType}
 use Rattle.med_syntax.specs.Tree.{Name}
 use Rattle.med_syntax.specs.QueryTree.{EntryTree, SelectTree}
-use Rattle.write_syntax.specs.WriteTree.{GivenTree, values, rows_of, InsertTree, WriteTree, insert, update, delete}
+use Rattle.med_syntax.specs.WriteTree.{GivenTree, values, rows_of, InsertTree, WriteTree, insert, update, delete}
 use Rattle.med_query.specs.Query.{Tables, IsAnswer}
 use Rattle.med_query.specs.Select.{are_safe_cores}
 use Rattle.fdw_api.specs.Kinds.{kinds_of}
@@ -41,7 +41,7 @@ use Rattle.bind_types.specs.TreeTypes.{column_kinds}
 use Rattle.write_parts.specs.Typing.{WriteTypes, types_of}
 use Rattle.write_parts.proofs.Lists.{empty_by, none_in}
 use Rattle.bind_write.specs.Binding.{IsBindable, IsQueryOf, IsGiven as IsBoundGiven}
-use Rattle.write_types.specs.Typed.{IsClean, AreTyped, IsAnswered, IsGiven}
+use Rattle.write_laws.specs.Typed.{IsClean, AreTyped, IsAnswered, IsGiven}
 use Rattle.sql_meaning.specs.Causes.{query_of, OfGiven, OfQuery}
 use Rattle.med_world.specs.Engine.{IsFirst}
 use Rattle.med_world.specs.Selecting.{AnswersOver}

@@ -5,8 +5,8 @@ ghost use Rattle.bind_catalog.specs.Tables.{AreNamedOnce};
 ghost use Rattle.med_catalog.specs.View.{objects};
 ghost use Rattle.med_exec.specs.Slots.{states};
 ghost use Rattle.med_world.specs.Writing.{WritesRows, WriteFails};
-ghost use Rattle.write_syntax.specs.WriteView.{write_tree};
-ghost use Rattle.write_types.specs.Typed.{IsClean};
+ghost use Rattle.med_syntax.specs.WriteView.{write_tree};
+ghost use Rattle.write_laws.specs.Typed.{IsClean};
 ghost use Rattle.med_rows.specs.Ready.{IsReady, IsUnread};
 
 use crate::writing::write_rows;
@@ -16,11 +16,11 @@ use fdw_api::wishes::Wrapper2;
 use med_catalog::Catalog;
 use med_select::law::bound_queries_are_ready;
 use med_select::{is_large_query, run_query};
+use med_syntax::WriteStatement;
 use med_value::Cause;
 use std::alloc::Global;
-use write_fits::fits;
-use write_syntax::WriteStatement;
-use write_types::law::written_rows_are_typed;
+use write_exec::fits;
+use write_laws::law::written_rows_are_typed;
 
 /// Does an INSERT, UPDATE or DELETE over the tables of a catalogue, each of which is bound in the box of its source, and answers how many
 /// rows it is told of (SQL standard, <insert statement>, <update statement: searched>, <delete statement: searched>).

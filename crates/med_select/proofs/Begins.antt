@@ -25,7 +25,7 @@ use Rattle.med_world.specs.Altering.{cause_of}
 use Rattle.sql_meaning.specs.Sizes.{is_large_form}
 use Rattle.open_cursors.specs.Counted.{ReadsTables}
 use Rattle.open_cursors.specs.Starting.{HoldsOf, RestsOver, Starts, RunFails, no_memory, box_fails, numbers_out, shows_cause, StartFails, run_fails}
-use Rattle.bound_runs.specs.Starting.{AsksNone, ShowsAll, OpensScans}
+use Rattle.med_exec.specs.Starting.{AsksNone, ShowsAll, OpensScans}
 use Rattle.med_binder.specs.Counted.{bound_widths}
 use Rattle.med_binder.specs.Within.{widths}
 use Rattle.bind_names.specs.Scope.{query_scope}

@@ -31,9 +31,9 @@ use Rattle.bind_catalog.specs.Queries.{meant_by, IsBindable}
 use Rattle.bind_catalog.specs.Tables.{shapes}
 use Rattle.bind_catalog.proofs.Rows.{columns_there}
 use Rattle.scan_loops.specs.Scans.{or_none, bound_in, bound_at}
-use Rattle.loop_plans.specs.Premises.{IsOfKinds, AreOfKinds, SoundIsWide}
-use Rattle.bound_runs.specs.Counting.{scans_of, tables_in as tables_counted}
-use Rattle.bound_runs.specs.Running.{IsReady}
+use Rattle.med_planner.specs.Premises.{IsOfKinds, AreOfKinds, SoundIsWide}
+use Rattle.med_exec.specs.BoundCounting.{scans_of, tables_in as tables_counted}
+use Rattle.med_exec.specs.BoundRunning.{IsReady}
 use Rattle.open_cursors.specs.Counted.{tables_in, ReadsTables}
 use Rattle.med_world.specs.Engine.{IsFirst}
 use Rattle.med_world.proofs.TargetRows.{first_from, first_table}

@@ -34,8 +34,8 @@ use Rattle.med_world.specs.Altering.{cause_of}
 use Rattle.med_world.specs.Selecting.{AnswersOver, Selects, SelectFails, run_fails, too_many}
 use Rattle.open_cursors.specs.Counted.{ReadsTables}
 use Rattle.open_cursors.specs.Starting.{RunFails, no_memory, box_fails, numbers_out, shows_cause}
-use Rattle.bound_runs.specs.Pulling.{PullsRows}
-use Rattle.bound_runs.specs.Running.{RunAnswers}
+use Rattle.med_exec.specs.BoundPulling.{PullsRows}
+use Rattle.med_exec.specs.BoundRunning.{RunAnswers}
 
 -- ---- what was bound
 

@@ -20,8 +20,8 @@ use Rattle.med_catalog.specs.Objects.{TableObject, Objects}
 use Rattle.bind_catalog.specs.Places.{Attached, ArePlaces}
 use Rattle.bind_catalog.specs.Queries.{meant_by}
 use Rattle.bind_catalog.specs.Tables.{shapes}
-use Rattle.bound_runs.specs.Counting.{scans_of}
-use Rattle.bound_runs.specs.Running.{IsReady}
+use Rattle.med_exec.specs.BoundCounting.{scans_of}
+use Rattle.med_exec.specs.BoundRunning.{IsReady}
 use Rattle.open_cursors.specs.Counted.{ReadsTables}
 use Rattle.med_world.specs.Engine.{EachBox}
 

@@ -1,7 +1,7 @@
 -- Seats by the numbers of their sessions: taken out, put in, and put back.
 use Rattle.std.proofs.Common.{◌≡◌, ℕ, ◌-◌, zero, suc, List, [], ◌∷◌, Option, Some, None, IsSome, Contains, is_some, option_map, false, length, slice_get, slice_set, refl, ap, sym, ◌∙◌, subst}
 use Rattle.std.proofs.lemmas.List.{length-map, length-set}
-use Rattle.cursor_syntax.specs.CursorTree.{declare}
+use Rattle.med_syntax.specs.CursorTree.{declare}
 use Rattle.med_syntax.specs.QueryTree.{StatementTree, select}
 use Rattle.bind_catalog.specs.Looked.{query_in}
 use Rattle.open_cursors.specs.declared.cursors.Seat.{Seat}

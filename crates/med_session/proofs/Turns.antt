@@ -4,7 +4,7 @@ use Rattle.med_value.specs.Datum.{Tuple}
 use Rattle.med_value.specs.declared.cause.Cause.{Cause}
 use Rattle.med_value.specs.declared.cause.Cause.TheVariants.{OutOfMemory, InvalidCursorName, FetchZero}
 use Rattle.med_syntax.specs.Tree.{Name}
-use Rattle.cursor_syntax.specs.CursorTree.{CountTree, some_rows, all_rows, CursorTree, fetch}
+use Rattle.med_syntax.specs.CursorTree.{CountTree, some_rows, all_rows, CursorTree, fetch}
 use Rattle.fdw_api.specs.State.{BoxState}
 use Rattle.med_exec.specs.declared.running.Run.{Run}
 use Rattle.med_exec.specs.Running.{ServesRun, none_held}

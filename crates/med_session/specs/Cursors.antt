@@ -6,7 +6,7 @@ use Rattle.med_value.specs.declared.cause.Cause.{Cause}
 use Rattle.med_value.specs.declared.cause.Cause.TheVariants.{DuplicateCursor, InvalidCursorName, OutOfMemory}
 use Rattle.med_syntax.specs.Tree.{Name}
 use Rattle.med_syntax.specs.QueryTree.{SelectTree}
-use Rattle.cursor_syntax.specs.CursorTree.{CountTree}
+use Rattle.med_syntax.specs.CursorTree.{CountTree}
 use Rattle.fdw_api.specs.State.{BoxState}
 use Rattle.med_exec.specs.declared.running.Run.{Run}
 use Rattle.med_exec.specs.Pulling.{PullsNone}

@@ -1,6 +1,6 @@
 //! Statements on objects: what the catalogue asks of them, and what the boxes of sources are asked for it.
 ghost use Rattle.bind_catalog.specs.Places.{attached};
-ghost use Rattle.ddl_syntax.specs.DdlView.{ddl_tree};
+ghost use Rattle.med_syntax.specs.DdlView.{ddl_tree};
 ghost use Rattle.fdw_api.specs.Calls.{CanBind};
 ghost use Rattle.fdw_api.specs.State.{BoxState, IsIdle};
 ghost use Rattle.med_catalog.specs.Changes.{CanChange};
@@ -13,10 +13,10 @@ ghost use Rattle.std.specs.Prelude.{◌≡◌, ℕ, true, false, None, Some, IsS
 use crate::adding::place_of_source;
 use crate::binding::{bind_table, drop_at, unbind_table};
 use crate::engine::Engine;
-use ddl_syntax::Ddl;
 use fdw_api::wishes::Wrapper2;
 use med_catalog::{Change, Server, SourceKind, Table};
 use med_exec::slots::ledger_at;
+use med_syntax::Ddl;
 use med_value::Cause;
 use med_world::law::{boxes_are_ready, leases_bar_drops};
 use open_cursors::is_leased;

@@ -2,7 +2,7 @@
 ghost use Rattle.std.specs.Prelude.{◌≡◌, Contains, length, map, IfOk, OnOk, IfErr, OnErr, string_bytes};
 ghost use Rattle.med_value.specs.Datum.{tuple};
 ghost use Rattle.med_syntax.specs.QueryView.{statement_tree};
-ghost use Rattle.cursor_syntax.specs.CursorView.{count_tree};
+ghost use Rattle.med_syntax.specs.CursorView.{count_tree};
 ghost use Rattle.bind_catalog.specs.Looked.{query_in};
 ghost use Rattle.bind_catalog.specs.Places.{attached};
 ghost use Rattle.bind_catalog.specs.Tables.{AreNamedOnce};
@@ -15,11 +15,11 @@ ghost use Rattle.med_world.specs.Seats.{IsSoundSeat};
 ghost use Rattle.med_session.specs.Cursors.{Opens, OpensNone, Fetched, NotFetched, Ended, NotEnded, cause_in};
 
 use bind_catalog::BoundTable;
-use cursor_syntax::{Declare, FetchCount};
 use fdw_api::wishes::Wrapper2;
 use med_catalog::Catalog;
 use med_exec::law::{running_is_held, services_join};
 use med_select::{RowSet, Started, cause_of, start_select};
+use med_syntax::{Declare, FetchCount};
 use med_value::{Cause, NoMemory};
 use open_cursors::{OpenCursor, Seat, Unfetched, close_cursor, fetch, is_full, position, take};
 use std::alloc::Global;

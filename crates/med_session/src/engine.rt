@@ -20,7 +20,7 @@ use open_cursors::{Asked, Seat, close_all, is_leased};
 use session_replies::{Outcome, table_of, word_of, write_reply};
 use std::alloc::Global;
 use thiserror::Error;
-use write_texts::law::texts_are_clean;
+use write_laws::text_laws::texts_are_clean;
 
 /// The room in the output that is taken before a request is begun.
 const ROOM: usize = 128;

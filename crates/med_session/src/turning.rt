@@ -1,8 +1,8 @@
 //! Statements on cursors: DECLARE, FETCH and CLOSE in the session that asks them.
 ghost use Rattle.std.specs.Prelude.{ℕ, List, IsSome, string_bytes};
 ghost use Rattle.bind_catalog.specs.Looked.{query_in};
-ghost use Rattle.cursor_syntax.specs.CursorTree.{declare as declare_tree, fetch as fetch_tree, close as close_tree};
-ghost use Rattle.cursor_syntax.specs.CursorView.{count_tree, cursor_tree};
+ghost use Rattle.med_syntax.specs.CursorTree.{declare as declare_tree, fetch as fetch_tree, close as close_tree};
+ghost use Rattle.med_syntax.specs.CursorView.{count_tree, cursor_tree};
 ghost use Rattle.med_parser.specs.CommandTree.{on_cursors};
 ghost use Rattle.med_syntax.specs.QueryView.{statement_tree};
 ghost use Rattle.med_syntax.specs.Tree.{Name};
@@ -14,8 +14,8 @@ use crate::cursors::{end_cursor, fetch_rows, open_cursor};
 use crate::engine::Engine;
 use crate::places::{put_seat, take_seat};
 use crate::session::Sid;
-use cursor_syntax::{CursorStatement, Declare, Fetch};
 use fdw_api::wishes::Wrapper2;
+use med_syntax::{CursorStatement, Declare, Fetch};
 use med_world::law::{cursors_lead, sessions_lead};
 use session_replies::Outcome;
 

@@ -5,3 +5,9 @@ pub mod ExprTree
 pub mod ExprView
 pub mod QueryTree
 pub mod QueryView
+pub mod DdlTree
+pub mod DdlView
+pub mod WriteTree
+pub mod WriteView
+pub mod CursorTree
+pub mod CursorView

@@ -2,7 +2,7 @@
 use Rattle.std.proofs.Common.{◌≡◌, ◌≢◌, ℕ, ◌⊎◌, Bool, List, [], ◌∷◌, ◌++◌, Some, Contains, slice_get, length, map, find, refl, ap, sym, ◌∙◌, subst, inl, inr, bytes_eq}
 use Rattle.med_value.specs.declared.cause.Cause.{Cause}
 use Rattle.med_syntax.specs.Tree.{Name}
-use Rattle.ddl_syntax.specs.DdlTree.{TableTree, DdlTree, create_wrapper, create_server, create_mapping, create_table, drop_wrapper, drop_server, drop_table, drop_mapping}
+use Rattle.med_syntax.specs.DdlTree.{TableTree, DdlTree, create_wrapper, create_server, create_mapping, create_table, drop_wrapper, drop_server, drop_table, drop_mapping}
 use Rattle.fdw_api.specs.State.{BoxState, IsIdle}
 use Rattle.fdw_api.specs.Calls.{CanBind, CanUnbind, Unbinds, Refuses, RefusesBind}
 use Rattle.fdw_api.specs.Sound.{IsSoundBox}

@@ -5,7 +5,7 @@ use Rattle.med_syntax.specs.Tree.{Name}
 use Rattle.med_syntax.specs.QueryTree.{SelectTree, select}
 use Rattle.fdw_api.specs.State.{BoxState}
 use Rattle.med_exec.specs.Pulling.{pulled_at, PullsNone, many_in}
-use Rattle.cursor_syntax.specs.CursorTree.{CountTree, some_rows, all_rows, declare, fetch, close}
+use Rattle.med_syntax.specs.CursorTree.{CountTree, some_rows, all_rows, declare, fetch, close}
 use Rattle.med_parser.specs.CommandTree.{CommandTree, on_data, on_rows, on_cursors, on_objects}
 use Rattle.med_parser.specs.CommandGrammar.{HasCommand}
 use Rattle.sql_meaning.specs.Requests.{AskedLine, sql}

@@ -17,7 +17,7 @@ use Rattle.med_exec.specs.Leaving.{AreApart, LeavesRun}
 use Rattle.med_exec.proofs.Served.{serves_on}
 use Rattle.med_exec.proofs.Leaving.{is_some_of, served_leaves, served_fresh}
 use Rattle.med_exec.proofs.Left.{run_goes_on, run_is_held, held_is_live}
-use Rattle.cursor_syntax.specs.CursorTree.{CountTree, CursorTree}
+use Rattle.med_syntax.specs.CursorTree.{CountTree, CursorTree}
 use Rattle.med_parser.specs.CommandTree.{on_cursors}
 use Rattle.open_cursors.specs.Open.{Opened, Seated, is_full, has_name, opened_named, without_named, runs_on, with_run}
 use Rattle.open_cursors.specs.Starting.{ScansOne, Starts, StartFails, not_bound, is_risky, no_room, too_many, run_fails}

@@ -12,7 +12,7 @@ use Rattle.med_exec.specs.declared.running.Run.{Run}
 use Rattle.med_exec.specs.Running.{AllServed, none_held}
 use Rattle.med_exec.specs.Rests.{held}
 use Rattle.med_parser.specs.CommandTree.{CommandTree, on_cursors}
-use Rattle.cursor_syntax.specs.CursorTree.{declare}
+use Rattle.med_syntax.specs.CursorTree.{declare}
 use Rattle.bind_names.specs.Meaning.{Meant}
 use Rattle.bind_catalog.specs.Queries.{QueryNames, QueryTypes, meant_by, IsBindable, NotBound}
 use Rattle.bind_catalog.specs.Places.{ArePlaces}

@@ -8,7 +8,7 @@ use Rattle.fdw_api.specs.declared.interface.Fault.{Fault}
 use Rattle.med_value.specs.declared.cause.Cause.TheVariants.{OutOfMemory}
 use Rattle.fdw_api.specs.declared.interface.Fault.TheVariants.{NoMemory, Source as SourceFailed, Refused}
 use Rattle.med_exec.specs.Slots.{ChangesAt}
-use Rattle.ddl_syntax.specs.DdlTree.{DdlTree}
+use Rattle.med_syntax.specs.DdlTree.{DdlTree}
 use Rattle.med_catalog.specs.Objects.{TableObject}
 use Rattle.med_catalog.specs.Changes.{new_table}
 use Rattle.sql_meaning.specs.Requests.{sql}

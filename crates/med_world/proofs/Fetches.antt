@@ -4,7 +4,7 @@ use Rattle.std.proofs.lemmas.List.{append_assoc, append-nil, length-append, leng
 use Rattle.std.proofs.lemmas.List.Sorted.{length_permutation}
 use Rattle.med_value.specs.Datum.{Tuple}
 use Rattle.med_query.specs.Query.{Query, Tables, Output, outputs, limited, page, IsAnswer}
-use Rattle.cursor_syntax.specs.CursorTree.{CountTree, some_rows, all_rows}
+use Rattle.med_syntax.specs.CursorTree.{CountTree, some_rows, all_rows}
 use Rattle.sql_meaning.specs.World.{Cursor}
 use Rattle.sql_meaning.specs.Cursors.{rows_leased, handing, IsEnough, Fetched, AreFetched, IsLast, rows_fetched}
 use Rattle.med_world.proofs.Lists.{some_same}

@@ -6,7 +6,7 @@ use Rattle.med_value.specs.Column.{Column}
 use Rattle.med_value.specs.declared.cause.Cause.{Cause}
 use Rattle.med_value.specs.declared.cause.Cause.TheVariants.{DuplicateTable, DuplicateObject, DependentObjects, InUse}
 use Rattle.med_syntax.specs.Tree.{Name}
-use Rattle.ddl_syntax.specs.DdlTree.{ColumnTree, ServerTree, MappingTree, TableTree, DdlTree, create_wrapper, create_server, create_mapping, create_table, drop_wrapper, drop_server, drop_table, drop_mapping}
+use Rattle.med_syntax.specs.DdlTree.{ColumnTree, ServerTree, MappingTree, TableTree, DdlTree, create_wrapper, create_server, create_mapping, create_table, drop_wrapper, drop_server, drop_table, drop_mapping}
 use Rattle.med_catalog.specs.Objects.{MappingObject, ServerObject, TableObject, Objects, server_named, table_named}
 use Rattle.fdw_api.specs.Kinds.{OptionForm}
 use Rattle.med_catalog.specs.Rights.{user_meant}

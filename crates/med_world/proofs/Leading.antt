@@ -10,7 +10,7 @@ use Rattle.fdw_api.specs.Calls.{Picks, Binds, Unbinds, Refuses, RefusesBind, IsL
 use Rattle.fdw_api.specs.declared.interface.Fault.TheVariants.{Source as SourceFailed, Refused}
 use Rattle.med_exec.specs.Slots.{ChangesAt}
 use Rattle.med_exec.specs.Running.{HasFailed}
-use Rattle.ddl_syntax.specs.DdlTree.{DdlTree}
+use Rattle.med_syntax.specs.DdlTree.{DdlTree}
 use Rattle.med_catalog.specs.Objects.{ServerObject, TableObject, Objects}
 use Rattle.med_catalog.specs.Changes.{changed, ObjectChange, nothing, new_wrapper, new_server, new_mapping, new_table, no_wrapper, no_server, no_mapping, no_table, Asks}
 use Rattle.med_catalog.specs.DdlCauses.{DdlCauses}

@@ -4,7 +4,7 @@ use Rattle.std.proofs.lemmas.Bool.{false≢true}
 use Rattle.med_value.specs.declared.cause.Cause.{Cause}
 use Rattle.med_value.specs.declared.cause.Cause.TheVariants.{InUse}
 use Rattle.med_syntax.specs.Tree.{Name}
-use Rattle.ddl_syntax.specs.DdlTree.{DdlTree, create_wrapper, create_server, create_mapping, create_table, drop_wrapper, drop_server, drop_table, drop_mapping}
+use Rattle.med_syntax.specs.DdlTree.{DdlTree, create_wrapper, create_server, create_mapping, create_table, drop_wrapper, drop_server, drop_table, drop_mapping}
 use Rattle.med_catalog.specs.Objects.{Objects}
 use Rattle.med_catalog.specs.Changes.{ObjectChange, no_table, is_skipped, Asks, skips, makes}
 use Rattle.med_catalog.specs.DdlCauses.{CauseRow, DdlCauses, Stands, lease_rows, nothing_leased, drop_table_rows, ddl_rows, phase, NoneStands, IsTold}

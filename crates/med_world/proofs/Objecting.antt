@@ -9,7 +9,7 @@ use Rattle.med_value.specs.declared.cause.Cause.TheVariants.{Protocol}
 use Rattle.med_syntax.specs.Tree.{Name}
 use Rattle.fdw_api.specs.Kinds.{Kind, Entry, Reading, is_late}
 use Rattle.fdw_api.specs.Calls.{IsLeast}
-use Rattle.ddl_syntax.specs.DdlTree.{DdlTree}
+use Rattle.med_syntax.specs.DdlTree.{DdlTree}
 use Rattle.med_catalog.specs.Objects.{TableObject, Objects}
 use Rattle.med_catalog.specs.Changes.{ObjectChange, nothing, new_wrapper, new_server, new_mapping, new_table, no_wrapper, no_server, no_mapping, no_table, Asks}
 use Rattle.med_catalog.specs.DdlCauses.{DdlCauses}

@@ -11,7 +11,7 @@ use Rattle.med_exec.specs.Pulling.{levels_left, levels_in, slot_in, skip_in, Pul
 use Rattle.med_exec.specs.Rests.{scans_of, IsGood, held, IsRunning}
 use Rattle.med_exec.proofs.Leaving.{is_some_of}
 use Rattle.med_exec.proofs.Left.{run_is_held, held_is_live}
-use Rattle.cursor_syntax.specs.CursorTree.{CountTree, some_rows, all_rows}
+use Rattle.med_syntax.specs.CursorTree.{CountTree, some_rows, all_rows}
 use Rattle.open_cursors.specs.Open.{Opened, Seated, opened_named}
 use Rattle.open_cursors.specs.Fetching.{IsWithin}
 use Rattle.med_world.specs.Seats.{seat_of, opened_in, IsOpenAt}

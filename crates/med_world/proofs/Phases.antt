@@ -13,7 +13,7 @@ use Rattle.med_syntax.specs.QueryTree.{EntryTree, SelectTree, StatementTree, sel
 use Rattle.bind_names.specs.Scope.{TableShape, query_entries}
 use Rattle.bind_names.specs.Naming.{NameCauses}
 use Rattle.bind_types.specs.Typing.{TypeCauses}
-use Rattle.ddl_syntax.specs.DdlTree.{DdlTree}
+use Rattle.med_syntax.specs.DdlTree.{DdlTree}
 use Rattle.med_catalog.specs.Objects.{TableObject, Objects, table_named}
 use Rattle.med_catalog.specs.Rights.{mode_for}
 use Rattle.med_catalog.specs.declared.kind.Mode.{Mode}

@@ -4,7 +4,7 @@ use Rattle.med_syntax.specs.Tree.{Name}
 use Rattle.fdw_api.specs.Kinds.{Kind, Entry, Holding, Known, Unknown}
 use Rattle.fdw_api.specs.State.{BoxState}
 use Rattle.fdw_api.specs.Calls.{Picks}
-use Rattle.ddl_syntax.specs.DdlTree.{TableTree, DdlTree, create_wrapper, create_server, create_mapping, create_table, drop_wrapper, drop_server, drop_table, drop_mapping}
+use Rattle.med_syntax.specs.DdlTree.{TableTree, DdlTree, create_wrapper, create_server, create_mapping, create_table, drop_wrapper, drop_server, drop_table, drop_mapping}
 use Rattle.med_catalog.specs.Objects.{ServerObject, TableObject, Objects, server_named}
 use Rattle.med_catalog.specs.Options.{text_of, remote_label}
 use Rattle.med_catalog.specs.Changes.{new_table, Makes, Asks, skips, makes}

@@ -8,7 +8,7 @@ use Rattle.med_planner.specs.Plain.{IsPlainForm, IsBareForm}
 use Rattle.fdw_api.specs.State.{BoxState}
 use Rattle.med_exec.specs.declared.running.Run.{Run}
 use Rattle.med_exec.specs.Pulling.{skip_in, pulled_at, PullsAtMost, many_in, IsBareRun, GivesAsTheyCome}
-use Rattle.cursor_syntax.specs.CursorTree.{CountTree}
+use Rattle.med_syntax.specs.CursorTree.{CountTree}
 use Rattle.open_cursors.specs.Fetching.{PullsFetched}
 use Rattle.sql_meaning.specs.Cursors.{IsBareQuery}
 

@@ -3,7 +3,7 @@ use Rattle.std.proofs.Common.{◌≡◌, ◌<◌, ◌≤◌, ℕ}
 use Rattle.med_value.specs.declared.cause.Cause.{Cause}
 use Rattle.med_value.specs.declared.cause.Cause.TheVariants.{LimitExceeded, OutOfMemory, SourceFault}
 use Rattle.med_syntax.specs.Tree.{Name}
-use Rattle.write_syntax.specs.WriteTree.{WriteTree}
+use Rattle.med_syntax.specs.WriteTree.{WriteTree}
 use Rattle.med_exec.specs.Running.{SlotShows, HasFailed, IsUsedUp}
 use Rattle.sql_meaning.specs.Picks.{Pick}
 use Rattle.sql_meaning.specs.World.{World}

@@ -5,7 +5,7 @@ use Rattle.med_value.specs.declared.cause.Cause.{Cause}
 use Rattle.med_value.specs.declared.cause.Cause.TheVariants.{LimitExceeded, InUse}
 use Rattle.med_syntax.specs.Tree.{Name}
 use Rattle.med_syntax.specs.QueryTree.{SelectTree}
-use Rattle.write_syntax.specs.WriteTree.{GivenTree, values, rows_of, WriteTree, insert, update, delete}
+use Rattle.med_syntax.specs.WriteTree.{GivenTree, values, rows_of, WriteTree, insert, update, delete}
 use Rattle.tri_expr.specs.declared.expr.Fault.TheVariants.{Range, Zero}
 use Rattle.tri_expr.specs.declared.expr.EvalFault.TheVariants.{OutOfRange, ZeroDivisor, NoMemory as WantsMemory}
 use Rattle.med_query.specs.Query.{Tables, SameRows}

@@ -8,7 +8,7 @@ use Rattle.med_value.specs.declared.cause.Cause.{Cause}
 use Rattle.med_value.specs.declared.cause.Cause.TheVariants.{NotNull as NullGiven}
 use Rattle.med_syntax.specs.Tree.{Name}
 use Rattle.med_syntax.specs.QueryTree.{SelectTree}
-use Rattle.write_syntax.specs.WriteTree.{GivenTree, values, rows_of, WriteTree, insert, update, delete}
+use Rattle.med_syntax.specs.WriteTree.{GivenTree, values, rows_of, WriteTree, insert, update, delete}
 use Rattle.tri_expr.specs.declared.expr.Fault.{Fault as Wrong}
 use Rattle.tri_expr.specs.Verdict.{fault_list}
 use Rattle.tri_expr.proofs.Shuffled.{Shuffled, back, to_swaps, each_mapped, none_left}

@@ -4,7 +4,7 @@ use Rattle.std.proofs.lemmas.Bool.{false≢true}
 use Rattle.med_value.specs.declared.cause.Cause.{Cause}
 use Rattle.med_value.specs.declared.cause.Cause.TheVariants.{LimitExceeded, SourceFault, OutOfMemory}
 use Rattle.med_syntax.specs.Tree.{Name}
-use Rattle.write_syntax.specs.WriteTree.{WriteTree}
+use Rattle.med_syntax.specs.WriteTree.{WriteTree}
 use Rattle.write_parts.specs.Meaning.{target_of}
 use Rattle.med_parser.specs.CommandTree.{on_rows}
 use Rattle.fdw_api.specs.State.{BoxState}

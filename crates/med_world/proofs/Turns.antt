@@ -13,7 +13,7 @@ use Rattle.med_exec.specs.Running.{AllHonest, none_held}
 use Rattle.med_exec.specs.Pulling.{GivesAsTheyCome}
 use Rattle.med_exec.specs.Rests.{Rests, held}
 use Rattle.med_parser.specs.CommandTree.{on_cursors}
-use Rattle.cursor_syntax.specs.CursorTree.{CountTree, some_rows, all_rows, CursorTree, declare, fetch, close}
+use Rattle.med_syntax.specs.CursorTree.{CountTree, some_rows, all_rows, CursorTree, declare, fetch, close}
 use Rattle.open_cursors.specs.Open.{Opened, Seated, opened_named, without_named, with_run}
 use Rattle.open_cursors.specs.Fetching.{GivesRows, GivesNone, no_memory, box_fails, HasRisen, PullsFetched, PullsEnded}
 use Rattle.sql_meaning.specs.Requests.{sql, IsSid}

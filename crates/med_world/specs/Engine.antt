@@ -21,8 +21,8 @@ use Rattle.med_value.specs.Limits.{session_count, source_limit}
 use Rattle.sql_meaning.specs.Requests.{AskedLine, sql, IsSid, IsUser}
 use Rattle.med_catalog.specs.declared.kind.SourceKind.{SourceKind}
 use Rattle.med_catalog.specs.Objects.{ServerObject, TableObject, Objects, server_named}
-use Rattle.ddl_syntax.specs.DdlTree.{TableTree}
-use Rattle.cursor_syntax.specs.CursorTree.{CountTree, some_rows, all_rows, declare, fetch}
+use Rattle.med_syntax.specs.DdlTree.{TableTree}
+use Rattle.med_syntax.specs.CursorTree.{CountTree, some_rows, all_rows, declare, fetch}
 use Rattle.med_parser.specs.CommandTree.{CommandTree, on_data, on_cursors}
 use Rattle.med_parser.specs.CommandGrammar.{HasCommand}
 use Rattle.med_catalog.specs.Options.{table_settings, column_settings}

@@ -10,7 +10,7 @@ use Rattle.fdw_api.specs.State.{BoxState}
 use Rattle.med_query.specs.Form.{Form, form_of}
 use Rattle.med_binder.specs.Place.{Place, entry_place}
 use Rattle.med_binder.specs.declared.bound.BoundQuery.{BoundQuery}
-use Rattle.bound_runs.specs.Pulling.{PullsRows}
+use Rattle.med_exec.specs.BoundPulling.{PullsRows}
 use Rattle.med_query.specs.Causes.{IsShownCause}
 use Rattle.med_planner.specs.Planned.{entry_rows}
 use Rattle.med_exec.specs.Running.{AllServed, HonestOver}

@@ -2,7 +2,7 @@
 use Rattle.std.specs.Prelude.{◌≡◌, ◌-◌, ℕ, List, Option, Some, slice_set}
 use Rattle.med_syntax.specs.Tree.{Name}
 use Rattle.med_syntax.specs.QueryTree.{SelectTree}
-use Rattle.cursor_syntax.specs.CursorTree.{CursorTree, declare, fetch, close}
+use Rattle.med_syntax.specs.CursorTree.{CursorTree, declare, fetch, close}
 use Rattle.fdw_api.specs.State.{BoxState}
 use Rattle.med_exec.specs.declared.running.Run.{Run}
 use Rattle.med_exec.specs.Running.{ServesRun, none_held}

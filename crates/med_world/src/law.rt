@@ -9,10 +9,10 @@ ghost use Rattle.med_value.specs.declared.cause.Cause.TheVariants.{OutOfMemory, 
 ghost use Rattle.med_syntax.specs.Tree.{Name};
 ghost use Rattle.med_query.specs.Query.{IsAnswer};
 ghost use Rattle.med_syntax.specs.QueryTree.{SelectTree, select};
-ghost use Rattle.ddl_syntax.specs.DdlTree.{DdlTree};
-ghost use Rattle.write_syntax.specs.WriteTree.{WriteTree};
+ghost use Rattle.med_syntax.specs.DdlTree.{DdlTree};
+ghost use Rattle.med_syntax.specs.WriteTree.{WriteTree};
 ghost use Rattle.write_parts.specs.Meaning.{target_of};
-ghost use Rattle.cursor_syntax.specs.CursorTree.{CountTree, CursorTree, declare, fetch, close};
+ghost use Rattle.med_syntax.specs.CursorTree.{CountTree, CursorTree, declare, fetch, close};
 ghost use Rattle.med_parser.specs.CommandTree.{CommandTree, on_data, on_rows, on_cursors, on_objects};
 ghost use Rattle.med_parser.specs.CommandCauses.{SyntaxCauses};
 ghost use Rattle.fdw_api.specs.State.{BoxState, IsIdle, is_honest};

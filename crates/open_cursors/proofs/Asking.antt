@@ -1,7 +1,7 @@
 -- How often a run was asked for a row.
 use Rattle.std.proofs.Common.{◌≡◌, ◌∙◌, ℕ, zero, suc, ◌<◌, ◌≤◌, ◌+◌, ◌-◌, ◌^◌, ◌⊎◌, inl, inr, min, true, false, refl, ap, sym, subst, arith}
 use Rattle.std.proofs.lemmas.Bool.{cases_lt, leb-true, leb-false}
-use Rattle.cursor_syntax.specs.CursorTree.{CountTree, some_rows, all_rows}
+use Rattle.med_syntax.specs.CursorTree.{CountTree, some_rows, all_rows}
 use Rattle.open_cursors.specs.Fetching.{counted, has_enough, HasRisen}
 
 -- once more

@@ -3,7 +3,7 @@ use Rattle.std.proofs.Common.{◌≡◌, ◌+◌, ◌≤◌, ℕ, List, Option, 
 use Rattle.fdw_api.specs.State.{BoxState}
 use Rattle.med_exec.specs.declared.running.Run.{Run}
 use Rattle.med_exec.specs.Pulling.{pulled_at, slot_in, skip_in, many_in, PullsNone}
-use Rattle.cursor_syntax.specs.CursorTree.{CountTree}
+use Rattle.med_syntax.specs.CursorTree.{CountTree}
 use Rattle.open_cursors.specs.Fetching.{PullsFetched, PullsEnded}
 
 -- one that was asked for rows, and gave no further one as it was closed

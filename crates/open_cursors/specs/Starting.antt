@@ -15,8 +15,8 @@ use Rattle.med_binder.specs.Place.{Place, entry_place}
 use Rattle.med_binder.specs.Counted.{bound_widths}
 use Rattle.med_binder.specs.Within.{widths}
 use Rattle.med_binder.specs.declared.bound.BoundQuery.{BoundQuery}
-use Rattle.loop_plans.specs.Offered.{core_offers}
-use Rattle.bound_runs.specs.Starting.{HoldsOpen}
+use Rattle.med_planner.specs.Offered.{core_offers}
+use Rattle.med_exec.specs.Starting.{HoldsOpen}
 use Rattle.med_query.specs.Causes.{IsShownCause}
 use Rattle.med_planner.specs.Planned.{entry_rows}
 use Rattle.med_exec.specs.declared.running.Run.{Run}

@@ -1,7 +1,7 @@
 //! FETCH and CLOSE: rows of an open cursor, and its end.
 ghost use Rattle.std.specs.Prelude.{◌≡◌, map, IfOk, IfErr};
 ghost use Rattle.med_value.specs.Datum.{tuple};
-ghost use Rattle.cursor_syntax.specs.CursorView.{count_tree};
+ghost use Rattle.med_syntax.specs.CursorView.{count_tree};
 ghost use Rattle.med_exec.specs.Slots.{states};
 ghost use Rattle.med_exec.specs.Counting.{none_in, BeginsScans};
 ghost use Rattle.med_exec.specs.Pulling.{PullsNone};
@@ -11,11 +11,11 @@ ghost use Rattle.open_cursors.specs.Open.{opened, held_by, AreHeld, AreOwn};
 ghost use Rattle.open_cursors.specs.Fetching.{has_enough, GivesRows, GivesNone, HasRisen, PullsFetched, cause_of};
 
 use crate::cursors::{Asked, OpenCursor};
-use cursor_syntax::FetchCount;
 use fdw_api::interface::Fault;
 use fdw_api::wishes::Wrapper2;
 use med_exec::Run;
 use med_exec::law::{other_runs_are_left, running_is_held, runs_have_rests, services_join};
+use med_syntax::FetchCount;
 use med_value::Row;
 use std::alloc::Global;
 

@@ -4,10 +4,9 @@ ghost use Rattle.std.specs.Prelude.{◌≡◌, length};
 
 use med_binder::{BoundQuery, TableView, bind};
 use med_query::SelectCore;
-use med_syntax::{Chain, Core, Entry, Expr, Item, Select as Written, Statement};
+use med_syntax::{Chain, Core, Entry, Expr, Item, Select as Written, SetClause, Statement};
 use med_value::{Cause, ColumnDef, NoMemory};
 use std::alloc::Global;
-use write_syntax::SetClause;
 
 /// Expressions as items.
 pub fn items_of(alloc: Global, values: Vec<Expr>) -> Result<Vec<Item>, NoMemory> {

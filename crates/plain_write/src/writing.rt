@@ -5,9 +5,9 @@ use crate::asking::{asked, cells_of, from_of};
 use crate::inserting::{add_rows, rows_of_query, rows_of_values};
 use med_binder::TableView;
 use med_query::SelectCore;
+use med_syntax::{Delete, Given, Insert, Update, WriteStatement};
 use med_value::{Cause, ColumnDef, NoMemory, Row};
 use std::alloc::Global;
-use write_syntax::{Delete, Given, Insert, Update, WriteStatement};
 
 /// How a write ends.
 #[derive(Debug, Drop)]

@@ -1,9 +1,9 @@
 //! Texts bound over the tables parts, orders and "Odd", and what is told of them.
 use crate::expect::{cut, same_text};
 use fdw_api::wishes::OrderKey;
-use loop_plans::{LoopOffer, offer_core, wish_of};
 use med_binder::{BoundQuery, TableView, bind};
 use med_parser::{Command, parse};
+use med_planner::{LoopOffer, offer_core, wish_of};
 use med_query::SelectCore;
 use med_value::{Cause, ColType, ColumnDef, Row, TableNo, Value, row_text};
 use std::alloc::Global;

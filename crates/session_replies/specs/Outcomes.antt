@@ -2,7 +2,7 @@
 use Rattle.std.specs.Prelude.{◌≡◌, Bool, true, false, ℕ, List, ◌++◌, map, codes, string_bytes}
 use Rattle.med_value.specs.Datum.{tuple}
 use Rattle.med_value.specs.declared.cause.Cause.TheVariants.{OutOfMemory}
-use Rattle.ddl_syntax.specs.DdlView.{ddl_tree}
+use Rattle.med_syntax.specs.DdlView.{ddl_tree}
 use Rattle.sql_meaning.specs.Replies.{Reply, done, answered, refused, reply_text, rows_tag}
 use Rattle.sql_meaning.specs.Steps.{ddl_tag}
 use Rattle.session_replies.specs.declared.replies.RowsWord.{RowsWord}

@@ -3,19 +3,18 @@ ghost use Rattle.std.specs.Prelude.{◌≡◌, ◌+◌, ◌≤◌, ◌++◌, ◌
 ghost use Rattle.med_value.specs.Datum.{tuple};
 ghost use Rattle.med_value.specs.Text.{escaped_text};
 ghost use Rattle.sql_meaning.specs.Replies.{reply_text, done, answered, refused, header, line, row_line, tag_line, rows_tag};
-ghost use Rattle.ddl_syntax.specs.DdlView.{ddl_tree};
+ghost use Rattle.med_syntax.specs.DdlView.{ddl_tree};
 ghost use Rattle.session_replies.specs.Outcomes.{HasRows, TellsReply, reply_of, word_text};
 ghost use Rattle.sql_meaning.specs.Steps.{ddl_tag, write_tag};
 ghost use Rattle.write_parts.specs.Meaning.{target_of};
-ghost use Rattle.write_syntax.specs.WriteView.{write_tree};
+ghost use Rattle.med_syntax.specs.WriteView.{write_tree};
 
-use ddl_syntax::Ddl;
 use itoa::Buffer;
 use med_select::RowSet;
+use med_syntax::{Ddl, WriteStatement};
 use med_value::text::{escaped_text, row_text};
 use med_value::{Cause, NoMemory, Row};
 use std::alloc::Global;
-use write_syntax::WriteStatement;
 
 /// The statement that wrote rows, as its tag begins.
 #[derive(Clone, Copy, Debug, PartialEq, Eq)]

@@ -5,7 +5,7 @@ use Rattle.med_value.specs.declared.cause.Cause.{Cause}
 use Rattle.med_value.specs.declared.cause.Cause.TheVariants.{InvalidOptionValue}
 use Rattle.fdw_api.specs.Kinds.{Kind, OptionForm}
 use Rattle.fdw_api.specs.State.{BoxState}
-use Rattle.ddl_syntax.specs.DdlTree.{OptionTree, ColumnTree}
+use Rattle.med_syntax.specs.DdlTree.{OptionTree, ColumnTree}
 use Rattle.med_catalog.specs.declared.kind.SourceKind.TheVariants.{Csv}
 use Rattle.med_catalog.specs.declared.options.OptionPlace.TheVariants.{Table, Column}
 use Rattle.med_catalog.specs.Options.{texts_of, is_unknown, has_unknown, is_refused, has_bad_text, table_settings, column_settings, setting_at}

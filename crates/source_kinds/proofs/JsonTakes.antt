@@ -5,7 +5,7 @@ use Rattle.std.proofs.lemmas.Bool.Decides.{nat_tests}
 use Rattle.med_value.specs.Column.{Column as ColumnIs}
 use Rattle.fdw_api.specs.Kinds.{Kind, OptionForm}
 use Rattle.fdw_api.specs.State.{BoxState}
-use Rattle.ddl_syntax.specs.DdlTree.{OptionTree, ColumnTree}
+use Rattle.med_syntax.specs.DdlTree.{OptionTree, ColumnTree}
 use Rattle.med_catalog.specs.declared.kind.SourceKind.TheVariants.{JsonLines}
 use Rattle.med_catalog.specs.declared.options.OptionPlace.TheVariants.{Table, Column}
 use Rattle.med_catalog.specs.declared.options.OptionText.TheVariants.{Any, BlobName}

@@ -2,7 +2,7 @@
 use Rattle.std.proofs.Common.{◌≡◌, false, ◌++◌, [], ap, ◌∙◌}
 use Rattle.fdw_api.specs.Kinds.{Kind}
 use Rattle.fdw_api.specs.State.{BoxState}
-use Rattle.ddl_syntax.specs.DdlTree.{TableTree}
+use Rattle.med_syntax.specs.DdlTree.{TableTree}
 use Rattle.med_catalog.specs.Options.{table_settings, column_settings}
 use Rattle.med_catalog.specs.DdlCauses.{are_options_unknown}
 use Rattle.med_catalog.specs.declared.kind.SourceKind.TheVariants.{List as Lists}

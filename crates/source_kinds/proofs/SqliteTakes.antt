@@ -1,7 +1,7 @@
 -- A SQLite database takes each table that the catalogue lets pass: its one option is `table`, and its columns have none.
 use Rattle.std.proofs.Common.{◌≡◌, ℕ, ◌+◌, Bool, true, false, cond, not, ◌++◌, List, [], ◌∷◌, Some, None, is_none, bytes_eq, codes, filter, map, refl, ap, ◌∙◌, true≢false}
 use Rattle.std.proofs.lemmas.Slice.Eq.{bytes_eq-Decides}
-use Rattle.ddl_syntax.specs.DdlTree.{OptionTree, ColumnTree, TableTree}
+use Rattle.med_syntax.specs.DdlTree.{OptionTree, ColumnTree, TableTree}
 use Rattle.med_catalog.specs.declared.kind.SourceKind.TheVariants.{Sqlite}
 use Rattle.med_catalog.specs.declared.options.OptionPlace.TheVariants.{Table, Column}
 use Rattle.med_catalog.specs.declared.options.OptionText.TheVariants.{Any}

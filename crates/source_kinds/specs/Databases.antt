@@ -6,8 +6,8 @@ use Rattle.fdw_api.specs.Kinds.{Stored}
 use Rattle.fdw_api.specs.State.{BoxState}
 use Rattle.sqlite.specs.Effect.{Database}
 use Rattle.sqlite.specs.Held.{Held}
-use Rattle.sqlite_cells.specs.Layouts.{kinds_in, layout_at}
-use Rattle.sqlite_cells.specs.Tables.{entry_of}
+use Rattle.sqlite_tables.specs.Layouts.{kinds_in, layout_at}
+use Rattle.sqlite_tables.specs.Tables.{entry_of}
 use Rattle.sqlite.specs.declared.error.Error.{Error}
 use Rattle.sqlite.specs.declared.error.Error.TheVariants.{SqliteFailure}
 use Rattle.sqlite.specs.declared.error.ErrorCode.{ErrorCode}

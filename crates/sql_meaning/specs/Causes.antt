@@ -14,9 +14,9 @@ use Rattle.fdw_api.specs.Calls.{Picks}
 use Rattle.med_parser.specs.CommandCauses.{SyntaxCauses}
 use Rattle.bind_names.specs.Meaning.{Meant}
 use Rattle.med_query.specs.Causes.{IsShownCause, wrong_cause}
-use Rattle.ddl_syntax.specs.DdlTree.{DdlTree}
-use Rattle.cursor_syntax.specs.CursorTree.{CursorTree, declare, fetch, close}
-use Rattle.write_syntax.specs.WriteTree.{GivenTree, values, rows_of, WriteTree, insert, update, delete}
+use Rattle.med_syntax.specs.DdlTree.{DdlTree}
+use Rattle.med_syntax.specs.CursorTree.{CursorTree, declare, fetch, close}
+use Rattle.med_syntax.specs.WriteTree.{GivenTree, values, rows_of, WriteTree, insert, update, delete}
 use Rattle.med_write.specs.declared.write.WrittenColumn.{WrittenColumn}
 use Rattle.med_write.specs.Form.{WriteForm}
 use Rattle.med_write.specs.Writing.{rows_written, write_faults, write_lacks, changes_of}

@@ -3,7 +3,7 @@ use Rattle.std.specs.Prelude.{◌≡◌, ◌<◌, ◌⊎◌, ℕ, zero, suc, Boo
 use Rattle.med_value.specs.Datum.{Tuple}
 use Rattle.med_syntax.specs.Tree.{Name}
 use Rattle.med_query.specs.Query.{Table, Core, Query, Tables, IsAnswer}
-use Rattle.cursor_syntax.specs.CursorTree.{CountTree, some_rows, all_rows}
+use Rattle.med_syntax.specs.CursorTree.{CountTree, some_rows, all_rows}
 use Rattle.sql_meaning.specs.World.{Leased, Cursor, Session}
 
 -- the rows of each entry of the cursor's query, as they stood at DECLARE

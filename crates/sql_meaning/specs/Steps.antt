@@ -6,9 +6,9 @@ use Rattle.med_value.specs.declared.cause.Cause.TheVariants.{LimitExceeded, OutO
 use Rattle.med_syntax.specs.QueryTree.{EntryTree, SelectTree, select}
 use Rattle.med_query.specs.Query.{IsAnswer}
 use Rattle.fdw_api.specs.Kinds.{Kind, Entry, Holding, Known, Unknown, Held, Reading}
-use Rattle.ddl_syntax.specs.DdlTree.{DdlTree, create_wrapper, create_server, create_mapping, create_table, drop_wrapper, drop_server, drop_table, drop_mapping}
-use Rattle.write_syntax.specs.WriteTree.{WriteTree, insert, update, delete}
-use Rattle.cursor_syntax.specs.CursorTree.{CountTree, CursorTree, declare, fetch, close}
+use Rattle.med_syntax.specs.DdlTree.{DdlTree, create_wrapper, create_server, create_mapping, create_table, drop_wrapper, drop_server, drop_table, drop_mapping}
+use Rattle.med_syntax.specs.WriteTree.{WriteTree, insert, update, delete}
+use Rattle.med_syntax.specs.CursorTree.{CountTree, CursorTree, declare, fetch, close}
 use Rattle.bind_names.specs.Scope.{query_entries}
 use Rattle.med_write.specs.Writing.{count_of, rows_after}
 use Rattle.write_parts.specs.Meaning.{target_of}

@@ -12,17 +12,17 @@ use Rattle.sqlite.specs.Listing.{understood}
 use Rattle.sqlite.specs.Effect.{Database}
 use Rattle.sqlite.specs.State.{State, Writes, Executes}
 use Rattle.sqlite.proofs.Callers.{IsPlain, command_of, statement_of, runs_as}
-use Rattle.sqlite_shapes.specs.Shapes.{IsPageText}
+use Rattle.sqlite_tables.specs.StoreShapes.{IsPageText}
 use Rattle.fdw_api.specs.Scan.{TableRow}
 use Rattle.fdw_api.specs.Kinds.{Entry, Stored}
-use Rattle.sqlite_cells.specs.Layouts.{Layout, kinds_in, layout_at, layout_count, orders, people}
-use Rattle.sqlite_cells.specs.Cells.{rows_in}
+use Rattle.sqlite_tables.specs.Layouts.{Layout, kinds_in, layout_at, layout_count, orders, people}
+use Rattle.sqlite_tables.specs.Cells.{rows_in}
 use Rattle.sqlite_trees.specs.Tree.{Trees}
-use Rattle.sqlite_cells.specs.Fitting.{is_of_shape}
-use Rattle.sqlite_cells.specs.Tables.{IsKnown, tree_of, tree_found, entry_of}
-use Rattle.sqlite_cells.specs.Texts.{IsTableAt, IsDeleteText, IsInsertText}
-use Rattle.sqlite_cells.specs.Shapes.{AreTexts, orders_table, people_table}
-use Rattle.sqlite_cells.proofs.Settled.{tree_is}
+use Rattle.sqlite_tables.specs.Fitting.{is_of_shape}
+use Rattle.sqlite_tables.specs.Tables.{IsKnown, tree_of, tree_found, entry_of}
+use Rattle.sqlite_tables.specs.Texts.{IsTableAt, IsDeleteText, IsInsertText}
+use Rattle.sqlite_tables.specs.Shapes.{AreTexts, orders_table, people_table}
+use Rattle.sqlite_tables.proofs.Settled.{tree_is}
 use Rattle.sqlite_writes.specs.Writable.{AreApart, IsWritable}
 use Rattle.med_value.specs.declared.value.ColType.TheVariants as types
 use Rattle.sqlite_databases.specs.Made.{orders_text, people_text, no_tables, orders_alone, both_tables}

@@ -7,7 +7,7 @@ use Rattle.sqlite.specs.Effect.{Database, IsDatabase}
 use Rattle.sqlite.specs.Files.{AreFoundIn}
 use Rattle.sqlite.specs.Held.{Held, state}
 use Rattle.sqlite.specs.State.{IsLive}
-use Rattle.sqlite_shapes.specs.Steady.{IsSteady}
+use Rattle.sqlite_tables.specs.Steady.{IsSteady}
 use Rattle.sqlite_databases.specs.Found.{IsFoundIn, ShowsKnown}
 
 module _ {S : Type 0} (g : Ghosts S) (c : Held S) (steady : IsSteady (g.view c.store)) where

@@ -1,7 +1,7 @@
 -- The tables of a new database, as the texts that make them say.
 use Rattle.std.specs.Prelude.{ℕ, List, [], ◌∷◌, codes}
 use Rattle.sqlite.specs.Schema.{Schema}
-use Rattle.sqlite_cells.specs.Shapes.{alone, orders_table, people_table}
+use Rattle.sqlite_tables.specs.Shapes.{alone, orders_table, people_table}
 
 abbrev pub orders_text : List ℕ
 orders_text = codes "CREATE TABLE orders (id INTEGER PRIMARY KEY, part INTEGER, n INTEGER)"

@@ -3,8 +3,8 @@ ghost use Rattle.std.specs.Prelude.{◌≡◌, ℕ, false, [], Some, IfOk, OnOk}
 ghost use Rattle.fdw_api.specs.Kinds.{Stored};
 ghost use Rattle.sqlite.specs.Held.{state};
 ghost use Rattle.sqlite.specs.Steps.{over_memory};
-ghost use Rattle.sqlite_cells.specs.Layouts.{kinds_in, layout_at};
-ghost use Rattle.sqlite_cells.specs.Tables.{IsKnown, entry_of};
+ghost use Rattle.sqlite_tables.specs.Layouts.{kinds_in, layout_at};
+ghost use Rattle.sqlite_tables.specs.Tables.{IsKnown, entry_of};
 ghost use Rattle.sqlite_writes.specs.Writable.{AreApart, IsWritable};
 ghost use Rattle.sqlite_databases.specs.Made.{no_tables, orders_alone, both_tables};
 

@@ -5,16 +5,16 @@
 ghost use Rattle.std.specs.Prelude.{◌≡◌, ℕ, true, false, Some, None, IsTrue, IfOk};
 ghost use Rattle.sqlite_std_file.specs.File.{file_is_usable};
 ghost use Rattle.sqlite.specs.Files.{file_state, image_of};
-ghost use Rattle.sqlite_cells.specs.Layouts.{layout_at};
-ghost use Rattle.sqlite_cells.specs.Tables.{IsKnown};
+ghost use Rattle.sqlite_tables.specs.Layouts.{layout_at};
+ghost use Rattle.sqlite_tables.specs.Tables.{IsKnown};
 ghost use Rattle.sqlite_writes.specs.Writable.{AreApart, IsWritable};
 ghost use Rattle.sqlite_databases.specs.Found.{ShowsImage};
 
 use crate::files::{DatabaseFiles, Databases};
 use sqlite::{Connection, Error, ErrorCode, File, FileStore, Files, Options, Start, Unknown};
 use sqlite_disk::Disk;
-use sqlite_shapes::SourceStore;
 use sqlite_std_file::OpenError;
+use sqlite_tables::SourceStore;
 use std::hash::{BuildHasher, RandomState};
 use std::io::ErrorKind;
 

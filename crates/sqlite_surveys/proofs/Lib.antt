@@ -1,2 +1,4 @@
 pub mod Surveying
 pub mod Opened
+pub mod Columns
+pub mod Singles

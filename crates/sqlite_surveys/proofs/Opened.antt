@@ -11,11 +11,11 @@ use Rattle.med_value.specs.declared.cause.Cause.TheVariants.{TableNotFound, Inva
 use Rattle.fdw_api.specs.Calls.{IsLeast}
 use Rattle.fdw_api.specs.Scan.{row_fits}
 use Rattle.fdw_api.specs.Kinds.{Entry, Bytes, Stored, is_late, is_of_run}
-use Rattle.sqlite_cells.specs.Layouts.{Layout, kinds_in, same_type, types_match}
-use Rattle.sqlite_cells.specs.Cells.{rows_in}
+use Rattle.sqlite_tables.specs.Layouts.{Layout, kinds_in, same_type, types_match}
+use Rattle.sqlite_tables.specs.Cells.{rows_in}
 use Rattle.sqlite_surveys.specs.Readings.{content_causes, read_rows, sqlite_reading}
-use Rattle.sqlite_cells.specs.Tables.{tree_found, entry_of, entries_of, entries_at}
-use Rattle.sqlite_cells.proofs.Found.{found_is_read}
+use Rattle.sqlite_tables.specs.Tables.{tree_found, entry_of, entries_of, entries_at}
+use Rattle.sqlite_tables.proofs.Found.{found_is_read}
 use Rattle.sqlite_surveys.specs.Surveys.{causes_in}
 
 pub run_is_late : (phase : Option ℕ) → is_of_run phase ≡ true → is_late phase ≡ true

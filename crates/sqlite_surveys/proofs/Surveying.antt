@@ -4,17 +4,17 @@ use Rattle.std.proofs.lemmas.Int.{ints}
 use Rattle.std.proofs.lemmas.List.{take_more, length-append, length-map}
 use Rattle.std.specs.List.{list_all}
 use Rattle.sqlite.specs.Order.{Row as SqlRow}
-use Rattle.sqlite_shapes.specs.Shapes.{range_of, key_of}
+use Rattle.sqlite_tables.specs.StoreShapes.{range_of, key_of}
 use Rattle.med_value.specs.declared.cause.Cause.{Cause}
 use Rattle.med_value.specs.declared.cause.Cause.TheVariants.{InvalidText, TooLarge}
 use Rattle.fdw_api.specs.Scan.{row_fits}
-use Rattle.sqlite_cells.specs.Layouts.{Layout, kinds_in}
+use Rattle.sqlite_tables.specs.Layouts.{Layout, kinds_in}
 use Rattle.sqlite_surveys.specs.Readings.{content_causes}
-use Rattle.sqlite_cells.specs.Cells.{key_in, greatest, least, row_in, rows_in}
+use Rattle.sqlite_tables.specs.Cells.{key_in, greatest, least, row_in, rows_in}
 use Rattle.sqlite.specs.Effect.{Database}
-use Rattle.sqlite_cells.specs.Tables.{behind, rest_of, entries_of}
+use Rattle.sqlite_tables.specs.Tables.{behind, rest_of, entries_of}
 use Rattle.sqlite_surveys.specs.Surveys.{fits_in, last_key, next_after, rows_from, IsSeen, causes_in}
-use Rattle.sqlite_cells.proofs.PagesJoin.{between}
+use Rattle.sqlite_tables.proofs.PagesJoin.{between}
 
 all_append : {X : Type 0} (p : X → Bool) (xs ys : List X) → list_all p (xs ++ ys) ≡ (list_all p xs && list_all p ys)
 all_append p [] ys = refl

@@ -10,7 +10,7 @@ use Rattle.med_value.specs.Causes.{phase_of}
 use Rattle.med_value.specs.Limits.{row_limit}
 use Rattle.fdw_api.specs.Scan.{row_fits}
 use Rattle.fdw_api.specs.Kinds.{Entry, Bytes, Stored, Held, Reading, all_fit, is_late}
-use Rattle.sqlite_cells.specs.Layouts.{types_match}
+use Rattle.sqlite_tables.specs.Layouts.{types_match}
 
 abbrev pub plain_rows : List Tuple → List Held
 plain_rows rows = map (λ r. record { cells = r; origin = [] }) rows

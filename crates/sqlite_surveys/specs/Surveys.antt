@@ -2,17 +2,17 @@
 use Rattle.std.specs.Prelude.{◌≡◌, ◌-◌, ℕ, ℤ, pos, ◌+ℤ◌, Bool, true, ◌&&◌, List, [], ◌∷◌, ◌++◌, map, length, Option, Some, None, if◌then◌else◌, nat_eq, nat_lt, int_lt}
 use Rattle.std.specs.List.{list_all}
 use Rattle.sqlite.specs.Order.{Row as SqlRow}
-use Rattle.sqlite_shapes.specs.Shapes.{range_of}
+use Rattle.sqlite_tables.specs.StoreShapes.{range_of}
 use Rattle.med_value.specs.declared.cause.Cause.{Cause}
 use Rattle.fdw_api.specs.Scan.{row_fits}
 use Rattle.med_value.specs.Datum.{Tuple}
 use Rattle.med_value.specs.Limits.{row_limit}
 use Rattle.sqlite.specs.Effect.{Database}
 use Rattle.fdw_api.specs.Kinds.{Column, kinds_of}
-use Rattle.sqlite_cells.specs.Layouts.{Layout, kinds_in, layout_at}
-use Rattle.sqlite_cells.specs.Tables.{entry_of}
+use Rattle.sqlite_tables.specs.Layouts.{Layout, kinds_in, layout_at}
+use Rattle.sqlite_tables.specs.Tables.{entry_of}
 use Rattle.sqlite_surveys.specs.Readings.{content_causes, sqlite_reading}
-use Rattle.sqlite_cells.specs.Cells.{cells_of, key_in, rows_in, greatest}
+use Rattle.sqlite_tables.specs.Cells.{cells_of, key_in, rows_in, greatest}
 
 -- a row is of the columns' types, without U+0000
 abbrev pub fits_in : Layout → SqlRow → Bool

@@ -6,18 +6,17 @@ ghost use Rattle.med_value.specs.Causes.{phase_of};
 ghost use Rattle.med_value.specs.Limits.{row_limit};
 ghost use Rattle.fdw_api.specs.Calls.{IsLeast};
 ghost use Rattle.fdw_api.specs.Kinds.{column_of, kinds_of, is_late};
-ghost use Rattle.sqlite_cells.specs.Layouts.{layout_at, kinds_in, types_match};
-ghost use Rattle.sqlite_cells.specs.Fitting.{is_of_shape};
-ghost use Rattle.sqlite_cells.specs.Tables.{IsKnown, IsSure, ReadsOnly, rows_of};
-ghost use Rattle.sqlite_cells.specs.Refusing.{OnlyBy};
+ghost use Rattle.sqlite_tables.specs.Layouts.{layout_at, kinds_in, types_match};
+ghost use Rattle.sqlite_tables.specs.Fitting.{is_of_shape};
+ghost use Rattle.sqlite_tables.specs.Tables.{IsKnown, IsSure, ReadsOnly, rows_of};
+ghost use Rattle.sqlite_tables.specs.Refusing.{OnlyBy};
 ghost use Rattle.sqlite_surveys.specs.Surveys.{causes_of};
 
 use crate::surveys::read_whole;
 use fdw_api::interface::Fault;
 use med_value::{Cause, ColumnDef};
 use sqlite::Connection;
-use sqlite_cells::{find_table, types_match};
-use sqlite_shapes::SourceStore;
+use sqlite_tables::{SourceStore, find_table, types_match};
 
 /// Looks at a remote table whole, which is to be bound with these columns, and answers how many rows it has.
 ///

@@ -3,14 +3,14 @@ ghost use Rattle.std.specs.Prelude.{◌≡◌, ◌≤◌, true, false, Some, len
 ghost use Rattle.sqlite.specs.Order.{column};
 ghost use Rattle.sqlite.specs.declared.types.Value.TheVariants.{Text};
 ghost use Rattle.fdw_api.specs.Scan.{cell_fits};
-ghost use Rattle.sqlite_cells.specs.Layouts.{layout_at};
-ghost use Rattle.sqlite_cells.specs.Cells.{truth_of, cell_of, key_in, is_row};
+ghost use Rattle.sqlite_tables.specs.Layouts.{layout_at};
+ghost use Rattle.sqlite_tables.specs.Cells.{truth_of, cell_of, key_in, is_row};
 ghost use Rattle.sqlite_surveys.specs.Surveys.{fits_in};
 
 use med_value::ColType;
 use sqlite::Row;
 use sqlite::types::ValueRef;
-use sqlite_cells::{Misread, shape_at};
+use sqlite_tables::{Misread, shape_at};
 
 // Whether a number is a truth value.
 fn is_truth(number: i64) -> bool

@@ -7,11 +7,11 @@ ghost use Rattle.med_value.specs.declared.cause.Cause.TheVariants.{InvalidText};
 ghost use Rattle.med_value.specs.Limits.{row_limit};
 ghost use Rattle.fdw_api.specs.Calls.{not_refused};
 ghost use Rattle.fdw_api.specs.Kinds.{is_of_run};
-ghost use Rattle.sqlite_shapes.specs.Shapes.{range_of};
-ghost use Rattle.sqlite_cells.specs.Layouts.{layout_at};
-ghost use Rattle.sqlite_cells.specs.Cells.{greatest};
-ghost use Rattle.sqlite_cells.specs.Tables.{IsKnown, IsSure, ReadsOnly, entries_in, rows_of};
-ghost use Rattle.sqlite_cells.specs.Refusing.{OnlyBy};
+ghost use Rattle.sqlite_tables.specs.StoreShapes.{range_of};
+ghost use Rattle.sqlite_tables.specs.Layouts.{layout_at};
+ghost use Rattle.sqlite_tables.specs.Cells.{greatest};
+ghost use Rattle.sqlite_tables.specs.Tables.{IsKnown, IsSure, ReadsOnly, entries_in, rows_of};
+ghost use Rattle.sqlite_tables.specs.Refusing.{OnlyBy};
 ghost use Rattle.sqlite_surveys.specs.Surveys.{fits_in, last_key, next_after, IsSeen, causes_in};
 
 use crate::rows::check_row;
@@ -19,8 +19,7 @@ use fdw_api::interface::Fault;
 use med_value::Cause;
 use med_value::limits::ROW_LIMIT;
 use sqlite::{Connection, Row};
-use sqlite_cells::{Misread, page_between};
-use sqlite_shapes::SourceStore;
+use sqlite_tables::{Misread, SourceStore, page_between};
 
 // Reads the rows of a page, and answers the key of the last one.
 fn check_rows(table: u64, page: &[Row]) -> Result<Option<i64>, Misread>

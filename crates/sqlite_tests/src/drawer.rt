@@ -2,8 +2,8 @@
 ghost use Rattle.std.specs.Prelude.{◌≡◌, ℕ, true, false, Some, IsTrue, IfOk};
 ghost use Rattle.sqlite_disk.specs.Memory.{memory_is_usable};
 ghost use Rattle.sqlite.specs.Files.{file_state, image_of};
-ghost use Rattle.sqlite_cells.specs.Layouts.{layout_at};
-ghost use Rattle.sqlite_cells.specs.Tables.{IsKnown};
+ghost use Rattle.sqlite_tables.specs.Layouts.{layout_at};
+ghost use Rattle.sqlite_tables.specs.Tables.{IsKnown};
 ghost use Rattle.sqlite_writes.specs.Writable.{AreApart, IsWritable};
 ghost use Rattle.sqlite_databases.specs.Found.{ShowsImage};
 ghost use Rattle.sqlite_tests.specs.Blank.{no_bytes};
@@ -12,7 +12,7 @@ use sqlite::{Connection, Error, FileStore, Files, Options};
 use sqlite_databases::files::DatabaseFiles;
 use sqlite_databases::{Databases, open_database};
 use sqlite_disk::{Disk, Memory};
-use sqlite_shapes::SourceStore;
+use sqlite_tables::SourceStore;
 use std::alloc::Global;
 use std::test::Fail;
 

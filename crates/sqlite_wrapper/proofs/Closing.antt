@@ -16,20 +16,20 @@ use Rattle.fdw_api.specs.declared.interface.Fault.{Fault}
 use Rattle.fdw_api.specs.declared.interface.Fault.TheVariants.{NoMemory, Source, Refused}
 use Rattle.staged_changes.specs.Staged.{change_is, write_is}
 use Rattle.staged_changes.specs.declared.changes.StagedWrite.{StagedWrite}
-use Rattle.sqlite_cells.specs.Cells.{rows_in}
-use Rattle.sqlite_cells.specs.Layouts.{Layout, kinds_in, layout_at, layout_count, place_of}
-use Rattle.sqlite_cells.specs.Fitting.{is_of_shape}
-use Rattle.sqlite_cells.specs.Refusing.{OnlyBy}
-use Rattle.sqlite_cells.specs.Tables.{IsKnown, entries_at, entries_in, entries_of, entry_of, rows_of, tree_found, tree_of}
-use Rattle.sqlite_changes.specs.Kinds.{write_causes}
+use Rattle.sqlite_tables.specs.Cells.{rows_in}
+use Rattle.sqlite_tables.specs.Layouts.{Layout, kinds_in, layout_at, layout_count, place_of}
+use Rattle.sqlite_tables.specs.Fitting.{is_of_shape}
+use Rattle.sqlite_tables.specs.Refusing.{OnlyBy}
+use Rattle.sqlite_tables.specs.Tables.{IsKnown, entries_at, entries_in, entries_of, entry_of, rows_of, tree_found, tree_of}
+use Rattle.sqlite_writes.specs.Kinds.{write_causes}
 use Rattle.sqlite_writes.specs.Writable.{AreApart}
 use Rattle.sqlite_wrapper.specs.Boxes.{allows, asked_of, bound_of, entry_at, given_of, held_in, marked_bound, rows_at, scan_is, scan_rows, sqlite_state, to_come}
-use Rattle.sqlite_lookups.specs.Lookups.{IsLookup}
+use Rattle.sqlite_surveys.specs.Lookups.{IsLookup}
 use Rattle.sqlite_wrapper.specs.Looks.{AllLook}
 use Rattle.sqlite_wrapper.specs.Rewrites.{Rewrites}
 use Rattle.sqlite_wrapper.specs.declared.scans.KeyScan.{KeyScan}
-use Rattle.sqlite_cells.proofs.Found.{found_is_read}
-use Rattle.sqlite_cells.proofs.Places.{name_place, place_named}
+use Rattle.sqlite_tables.proofs.Found.{found_is_read}
+use Rattle.sqlite_tables.proofs.Places.{name_place, place_named}
 use Rattle.sqlite_wrapper.proofs.Bound.{bound_within}
 use Rattle.sqlite_wrapper.proofs.Kept.{within_count}
 use Rattle.sqlite_wrapper.proofs.LiveScans.{Allowed, both, some_inj}

@@ -2,8 +2,8 @@
 use Rattle.std.proofs.Common.{◌≡◌, ◌≢◌, ◌∙◌, ◌⊎◌, ℕ, ◌≤◌, true, List, [], ◌∷◌, Option, Some, None, length, slice_set, IfSome, zero, suc, inl, inr, refl, sym, ap, subst, arith, nat_lt}
 use Rattle.sqlite.specs.Effect.{Database}
 use Rattle.med_value.specs.Limits.{row_limit}
-use Rattle.sqlite_cells.specs.Layouts.{layout_at, layout_count}
-use Rattle.sqlite_cells.specs.Tables.{rows_of}
+use Rattle.sqlite_tables.specs.Layouts.{layout_at, layout_count}
+use Rattle.sqlite_tables.specs.Tables.{rows_of}
 use Rattle.sqlite_wrapper.specs.Boxes.{rows_at}
 use Rattle.sqlite_wrapper.specs.Counts.{AreCounts, AreFew, Forgets, held_for}
 use Rattle.sqlite_wrapper.proofs.LiveScans.{some_inj}

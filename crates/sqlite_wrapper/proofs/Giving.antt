@@ -10,7 +10,7 @@ use Rattle.std.specs.FinMap as finmap
 use Rattle.sqlite.specs.Effect.{Database}
 use Rattle.sqlite.specs.Order.{Row as SqlRow}
 use Rattle.sqlite.specs.Schema.{Schema}
-use Rattle.sqlite_shapes.specs.Shapes.{range_of, key_of}
+use Rattle.sqlite_tables.specs.StoreShapes.{range_of, key_of}
 use Rattle.fdw_api.specs.Scan.{Spec, GivenRow, first_of, shown_fits}
 use Rattle.fdw_api.specs.State.{Scan, BoxState}
 use Rattle.fdw_api.specs.Calls.{LeavesOthers, Breaks, GivesRow, GivesNone, bumped, faults_after, not_refused}
@@ -21,16 +21,16 @@ use Rattle.sqlite_wrapper.specs.declared.scans.KeyScan.{KeyScan}
 use Rattle.staged_changes.specs.declared.changes.StagedWrite.{StagedWrite}
 use Rattle.sqlite_wrapper.specs.declared.scans.PageWanted.{PageWanted}
 use Rattle.sqlite_wrapper.specs.declared.rows.GivenNext.{GivenNext}
-use Rattle.sqlite_cells.specs.Layouts.{layout_at}
-use Rattle.sqlite_cells.specs.Cells.{key_in}
-use Rattle.sqlite_cells.specs.Tables.{IsKnown, behind, entries_of}
+use Rattle.sqlite_tables.specs.Layouts.{layout_at}
+use Rattle.sqlite_tables.specs.Cells.{key_in}
+use Rattle.sqlite_tables.specs.Tables.{IsKnown, behind, entries_of}
 use Rattle.sqlite_writes.specs.Writable.{IsWritable}
 use Rattle.sqlite_wrapper.specs.Boxes.{asked_of, is_allowed, lowest, from_to, scan_is, unread, to_come, given_of, scan_rows, mapped, Sets, sqlite_state}
 use Rattle.sqlite_wrapper.specs.Pages.{is_spent, wanted_by, passed, Turns, IsNext}
 use Rattle.sqlite_wrapper.proofs.Maps.{mapped_get, mapped_insert, mapped_same, sets_on}
 use Rattle.sqlite_wrapper.proofs.LiveScans.{some_inj}
 use Rattle.sqlite_wrapper.proofs.Rising.{first_none, first_spent, first_more}
-use Rattle.sqlite_cells.proofs.PagesJoin.{between}
+use Rattle.sqlite_tables.proofs.PagesJoin.{between}
 
 -- a table that is read and written by its texts, where it is there, is read by its page text
 pub known_by : (schema : Schema) (t : ℕ) → IsWritable schema t → IsKnown schema (layout_at t)

@@ -2,7 +2,7 @@
 use Rattle.std.proofs.Common.{◌≡◌, ℕ, ◌<◌, Bool, true, List, Option, Some, None, IsSome, length, nat_lt, refl, sym, subst, arith}
 use Rattle.sqlite.specs.Effect.{Database}
 use Rattle.fdw_api.specs.State.{Staging}
-use Rattle.sqlite_cells.specs.Layouts.{layout_count}
+use Rattle.sqlite_tables.specs.Layouts.{layout_count}
 use Rattle.sqlite_writes.specs.Writable.{AreApart, IsWritable}
 use Rattle.sqlite_wrapper.specs.Changes.{names_rows}
 use Rattle.sqlite_wrapper.specs.Counts.{AreCounts}

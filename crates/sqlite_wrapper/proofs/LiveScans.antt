@@ -11,7 +11,7 @@ use Rattle.sqlite.specs.Effect.{Database}
 use Rattle.sqlite.specs.Order.{Row as SqlRow}
 use Rattle.sqlite.specs.View.{IsShaped}
 use Rattle.sqlite_trees.specs.declared.store.Shape.TheVariants as shape
-use Rattle.sqlite_shapes.specs.Shapes.{range_of}
+use Rattle.sqlite_tables.specs.StoreShapes.{range_of}
 use Rattle.key_ranges.specs.declared.ranges.KeyRange.{KeyRange}
 use Rattle.key_ranges.specs.Ranges.{is_key_value, is_apart, is_range_check, is_key_test, is_typed_check, asks_key, only_key_tests, only_keys}
 use Rattle.med_value.specs.Datum.{Datum, NoValue, Whole, Chars, Logic, Tuple, cell}
@@ -29,12 +29,12 @@ use Rattle.fdw_api.specs.State.{BoxTable, Scan, BoxState, scan_of, table_of}
 use Rattle.fdw_api.specs.Calls.{LeavesOthers, new_scan, Begins, Breaks, CanRescan, Rescans, Ends, RefusesBegin, faults_after, not_refused, Allows}
 use Rattle.sqlite_wrapper.specs.declared.scans.KeyScan.{KeyScan}
 use Rattle.staged_changes.specs.declared.changes.StagedWrite.{StagedWrite}
-use Rattle.sqlite_cells.specs.Layouts.{layout_at, layout_count, kinds_in}
-use Rattle.sqlite_cells.specs.Cells.{least, greatest}
+use Rattle.sqlite_tables.specs.Layouts.{layout_at, layout_count, kinds_in}
+use Rattle.sqlite_tables.specs.Cells.{least, greatest}
 use Rattle.sqlite_wrapper.specs.Boxes.{allows, asked_of, is_allowed, is_by_key, bound_of, marked_bound, lowest, from_to, scan_is, given_of, scan_rows, to_come, mapped, Sets, promised, sqlite_state, IsNewScan, IsBegun}
-use Rattle.sqlite_cells.specs.Tables.{entries_of, rows_of}
+use Rattle.sqlite_tables.specs.Tables.{entries_of, rows_of}
 use Rattle.sqlite_wrapper.proofs.Maps.{mapped_get, mapped_insert, mapped_remove}
-use Rattle.sqlite_cells.proofs.PagesJoin.{between}
+use Rattle.sqlite_tables.proofs.PagesJoin.{between}
 use Rattle.sqlite_wrapper.proofs.Coming.{span_is, comes}
 
 pub some_inj : {A : Type 0} (a b : A) → Some a ≡ Some b → a ≡ b

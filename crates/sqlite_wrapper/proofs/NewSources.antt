@@ -4,7 +4,7 @@ use Rattle.std.specs.Ordering.{nat_cmp}
 use Rattle.std.specs.BTreeMap as tree
 use Rattle.std.specs.BTreeMap.{BTreeMap}
 use Rattle.sqlite.specs.Effect.{Database}
-use Rattle.sqlite_cells.specs.Layouts.{layout_count}
+use Rattle.sqlite_tables.specs.Layouts.{layout_count}
 use Rattle.sqlite_wrapper.specs.declared.scans.KeyScan.{KeyScan}
 use Rattle.sqlite_wrapper.specs.Boxes.{scan_is, marked_bound, sqlite_state}
 use Rattle.sqlite_wrapper.specs.SqliteBoxes.{IsNewSqlite}

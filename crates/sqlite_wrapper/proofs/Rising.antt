@@ -11,13 +11,13 @@ use Rattle.sqlite.specs.View.{IsShaped, is_int}
 use Rattle.sqlite_trees.specs.declared.store.Shape.TheVariants as shape
 use Rattle.sqlite_trees.specs.Tree.{IsAscending}
 use Rattle.sqlite_trees.proofs.ListLemmas.{all-filter, ascending-filter, ascending-get_or}
-use Rattle.sqlite_shapes.specs.Shapes.{in_range, key_of, range_of, paged}
+use Rattle.sqlite_tables.specs.StoreShapes.{in_range, key_of, range_of, paged}
 use Rattle.med_value.specs.Datum.{cell}
 use Rattle.med_value.specs.Order.{key_cmp}
 use Rattle.fdw_api.specs.Scan.{KeyForm, TableRow, first_of, row_cmp}
-use Rattle.sqlite_cells.specs.Layouts.{Layout}
-use Rattle.sqlite_cells.specs.Cells.{row_in, cells_of}
-use Rattle.sqlite_cells.proofs.PagesJoin.{Ints, lower}
+use Rattle.sqlite_tables.specs.Layouts.{Layout}
+use Rattle.sqlite_tables.specs.Cells.{row_in, cells_of}
+use Rattle.sqlite_tables.proofs.PagesJoin.{Ints, lower}
 use Rattle.sqlite_wrapper.specs.Boxes.{is_by_key}
 use Rattle.sqlite_wrapper.specs.Pages.{is_spent}
 

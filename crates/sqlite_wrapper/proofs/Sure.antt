@@ -5,9 +5,9 @@ use Rattle.sqlite.specs.Effect.{Database}
 use Rattle.sqlite.specs.State.{State}
 use Rattle.sqlite.specs.View.{IsShaped}
 use Rattle.sqlite_trees.specs.declared.store.Shape.TheVariants as shape
-use Rattle.sqlite_shapes.specs.Steady.{IsCleanAfter}
-use Rattle.sqlite_cells.specs.Layouts.{layout_at}
-use Rattle.sqlite_cells.specs.Tables.{IsSure, entries_in}
+use Rattle.sqlite_tables.specs.Steady.{IsCleanAfter}
+use Rattle.sqlite_tables.specs.Layouts.{layout_at}
+use Rattle.sqlite_tables.specs.Tables.{IsSure, entries_in}
 use Rattle.sqlite_writes.specs.Writable.{IsSureWrite, IsWritable}
 use Rattle.sqlite_wrapper.proofs.Giving.{known_by}
 

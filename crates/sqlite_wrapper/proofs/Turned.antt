@@ -4,9 +4,9 @@ use Rattle.sqlite.specs.Order.{Row as SqlRow}
 use Rattle.sqlite.specs.Effect.{Database}
 use Rattle.sqlite_wrapper.specs.declared.scans.KeyScan.{KeyScan}
 use Rattle.sqlite_wrapper.specs.declared.scans.PageWanted.{PageWanted}
-use Rattle.sqlite_cells.specs.Layouts.{layout_at}
-use Rattle.sqlite_shapes.specs.Shapes.{range_of}
-use Rattle.sqlite_cells.specs.Tables.{behind, entries_of, entries_in, rest_of}
+use Rattle.sqlite_tables.specs.Layouts.{layout_at}
+use Rattle.sqlite_tables.specs.StoreShapes.{range_of}
+use Rattle.sqlite_tables.specs.Tables.{behind, entries_of, entries_in, rest_of}
 use Rattle.sqlite_wrapper.specs.Boxes.{to_come}
 use Rattle.sqlite_wrapper.specs.Pages.{is_spent, wanted_by, Turns}
 use Rattle.sqlite_wrapper.proofs.LiveScans.{some_inj}

@@ -8,8 +8,8 @@ use Rattle.std.specs.Int.{w64}
 use borrow.Author.Differences.{up, down}
 use Rattle.sqlite.specs.Effect.{Database}
 use Rattle.sqlite.specs.Order.{Row as SqlRow}
-use Rattle.sqlite_shapes.specs.Shapes.{range_of}
-use Rattle.sqlite_cells.specs.Tables.{entries_of, rows_of, entry_of, behind}
+use Rattle.sqlite_tables.specs.StoreShapes.{range_of}
+use Rattle.sqlite_tables.specs.Tables.{entries_of, rows_of, entry_of, behind}
 use Rattle.key_ranges.specs.Ranges.{has_key, only_key_tests, plain_is_allowed}
 use Rattle.key_ranges.specs.declared.ranges.KeyRange.{KeyRange}
 use Rattle.med_value.specs.Datum.{Whole, Tuple, datum}
@@ -20,10 +20,10 @@ use Rattle.fdw_api.specs.Wishes.{key_form}
 use Rattle.fdw_api.specs.declared.wishes.OrderKey.{OrderKey}
 use Rattle.sqlite_wrapper.specs.declared.scans.KeyScan.{KeyScan}
 use Rattle.staged_changes.specs.declared.changes.StagedWrite.{StagedWrite}
-use Rattle.sqlite_cells.specs.Layouts.{Layout, kinds_in, layout_at, layout_count, place_of}
-use Rattle.sqlite_changes.specs.Kinds.{no_line, by_key, sqlite_refusals}
+use Rattle.sqlite_tables.specs.Layouts.{Layout, kinds_in, layout_at, layout_count, place_of}
+use Rattle.sqlite_writes.specs.Kinds.{no_line, by_key, sqlite_refusals}
 use Rattle.sqlite_wrapper.specs.Kinds.{sqlite_image, sqlite_kind}
-use Rattle.sqlite_cells.specs.Cells.{row_in}
+use Rattle.sqlite_tables.specs.Cells.{row_in}
 use Rattle.staged_changes.specs.Staged.{write_is}
 
 abbrev pub entry_at : Database → Option ℕ → Option Entry

@@ -5,9 +5,9 @@ use Rattle.std.proofs.lemmas.Map.Keys.{IsDistinct-prop}
 use Rattle.fdw_api.specs.State.{Staging}
 use Rattle.fdw_api.specs.Writes.{row_of_change_fits, id_is_there}
 use Rattle.sqlite.specs.Effect.{Database}
-use Rattle.sqlite_cells.specs.Layouts.{kinds_in, layout_at}
-use Rattle.sqlite_cells.specs.Tables.{rows_of}
-use Rattle.sqlite_changes.specs.Splitting.{ids_named}
+use Rattle.sqlite_tables.specs.Layouts.{kinds_in, layout_at}
+use Rattle.sqlite_tables.specs.Tables.{rows_of}
+use Rattle.sqlite_writes.specs.Splitting.{ids_named}
 
 -- its new rows are of its table's types
 abbrev pub write_fits : Option Staging → Bool

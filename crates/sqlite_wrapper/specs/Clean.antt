@@ -7,8 +7,8 @@ use Rattle.sqlite.specs.State.{State}
 use Rattle.fdw_api.specs.Kinds.{Change}
 use Rattle.fdw_api.specs.State.{Staging}
 use Rattle.fdw_api.specs.Writes.{id_is_there}
-use Rattle.sqlite_cells.specs.Layouts.{layout_at}
-use Rattle.sqlite_cells.specs.Tables.{IsKnown, rows_of}
+use Rattle.sqlite_tables.specs.Layouts.{layout_at}
+use Rattle.sqlite_tables.specs.Tables.{IsKnown, rows_of}
 use Rattle.sqlite_writes.specs.Writable.{AreApart, IsSureWrite, IsWritable}
 use Rattle.sqlite_wrapper.specs.Changes.{names_rows}
 use Rattle.sqlite_wrapper.specs.Counts.{AreCounts}

@@ -4,8 +4,8 @@ use Rattle.sqlite.specs.Order.{Row as SqlRow}
 use Rattle.med_value.specs.Datum.{tuple}
 use Rattle.fdw_api.specs.Scan.{spec_of, shown_fits, row_fits}
 use Rattle.fdw_api.specs.Calls.{row_of}
-use Rattle.sqlite_cells.specs.Layouts.{kinds_in, layout_at}
-use Rattle.sqlite_cells.specs.Cells.{key_in, cells_of, is_row}
+use Rattle.sqlite_tables.specs.Layouts.{kinds_in, layout_at}
+use Rattle.sqlite_tables.specs.Cells.{key_in, cells_of, is_row}
 use Rattle.sqlite_wrapper.specs.Boxes.{scan_is, unread, to_come, given_of}
 use Rattle.sqlite_wrapper.specs.declared.rows.GivenNext.{GivenNext}
 use Rattle.sqlite_wrapper.specs.declared.scans.KeyScan.{KeyScan}

@@ -4,9 +4,9 @@ use Rattle.std.specs.List.{IsDistinct}
 use Rattle.sqlite.specs.Effect.{Database}
 use Rattle.fdw_api.specs.Kinds.{Change, held}
 use Rattle.fdw_api.specs.Writes.{rows_after}
-use Rattle.sqlite_cells.specs.Layouts.{layout_at}
-use Rattle.sqlite_cells.specs.Tables.{rows_of, tree_found}
-use Rattle.sqlite_changes.specs.Kinds.{in_key_order, no_line, write_causes}
+use Rattle.sqlite_tables.specs.Layouts.{layout_at}
+use Rattle.sqlite_tables.specs.Tables.{rows_of, tree_found}
+use Rattle.sqlite_writes.specs.Kinds.{in_key_order, no_line, write_causes}
 use Rattle.sqlite_writes.specs.Writable.{KeepsTables}
 
 -- the table is there and no cause stands for the changes: exactly they are made, the rows stand in the order of their keys, each under an

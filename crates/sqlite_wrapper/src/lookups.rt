@@ -7,9 +7,9 @@ ghost use Rattle.sqlite.specs.View.{IsShaped};
 ghost use Rattle.sqlite_trees.specs.declared.store.Shape.TheVariants as shape;
 ghost use Rattle.fdw_api.specs.Calls.{not_refused};
 ghost use Rattle.place_index.specs.Scans.{form_of};
-ghost use Rattle.sqlite_cells.specs.Layouts.{layout_at};
-ghost use Rattle.sqlite_cells.specs.Tables.{IsKnown, IsSure, ReadsOnly, entries_in};
-ghost use Rattle.sqlite_lookups.specs.Lookups.{IsLookup};
+ghost use Rattle.sqlite_tables.specs.Layouts.{layout_at};
+ghost use Rattle.sqlite_tables.specs.Tables.{IsKnown, IsSure, ReadsOnly, entries_in};
+ghost use Rattle.sqlite_surveys.specs.Lookups.{IsLookup};
 ghost use Rattle.sqlite_wrapper.specs.Boxes.{scan_is};
 ghost use Rattle.sqlite_wrapper.specs.Looks.{IsFree, LooksFor, IsAnswered};
 
@@ -18,8 +18,8 @@ use fdw_api::interface::Fault;
 use med_value::Value;
 use place_index::{Sought, sought_in, value_at};
 use sqlite::{Connection, Row};
-use sqlite_lookups::{Lookup, read_lookup, rows_with};
-use sqlite_shapes::SourceStore;
+use sqlite_surveys::{Lookup, read_lookup, rows_with};
+use sqlite_tables::SourceStore;
 use std::alloc::Global;
 use std::collections::BTreeMap;
 

@@ -5,8 +5,8 @@ ghost use Rattle.std.specs.BTreeMap as tree;
 ghost use Rattle.fdw_api.specs.Calls.{faults_after, not_refused};
 ghost use Rattle.sqlite.specs.Held.{state};
 ghost use Rattle.sqlite_wrapper.specs.declared.scans.KeyScan.{KeyScan};
-ghost use Rattle.sqlite_cells.specs.Layouts.{layout_at};
-ghost use Rattle.sqlite_cells.specs.Tables.{IsKnown, IsSure, ReadsOnly, entries_of};
+ghost use Rattle.sqlite_tables.specs.Layouts.{layout_at};
+ghost use Rattle.sqlite_tables.specs.Tables.{IsKnown, IsSure, ReadsOnly, entries_of};
 ghost use Rattle.sqlite_wrapper.specs.Boxes.{Sets};
 ghost use Rattle.sqlite_wrapper.specs.Pages.{IsNext, Turns, may_be_next};
 
@@ -14,8 +14,7 @@ use crate::scans::{KeyScan, is_spent, page_wanted, turn_page};
 use fdw_api::interface::{Fault, RowId, SourceRow};
 use fdw_api::law::rows_are_typed;
 use sqlite::Connection;
-use sqlite_cells::{Keyed, Misread, key_and_cells, page_between};
-use sqlite_shapes::SourceStore;
+use sqlite_tables::{Keyed, Misread, SourceStore, key_and_cells, page_between};
 use std::alloc::Global;
 use std::collections::BTreeMap;
 

@@ -13,7 +13,7 @@ use fdw_api::wishes::OrderKey;
 use key_ranges::{KeyRange, range_of};
 use med_value::{NoMemory, Value};
 use sqlite::Row;
-use sqlite_lookups::Lookup;
+use sqlite_surveys::Lookup;
 use std::alloc::Global;
 use std::collections::BTreeMap;
 

@@ -7,7 +7,7 @@ ghost use Rattle.med_value.specs.Datum.{datum};
 ghost use Rattle.fdw_api.specs.Scan.{params_fit, restriction_form, spec_of};
 ghost use Rattle.key_ranges.specs.Ranges.{answer_of};
 ghost use Rattle.sqlite_wrapper.specs.declared.scans.KeyScan.{KeyScan};
-ghost use Rattle.sqlite_cells.specs.Layouts.{kinds_in, layout_at, layout_count};
+ghost use Rattle.sqlite_tables.specs.Layouts.{kinds_in, layout_at, layout_count};
 ghost use Rattle.staged_changes.specs.Staged.{write_is};
 ghost use Rattle.sqlite_wrapper.specs.Changes.{NamesOnce, named_is_prop, names_rows, write_fits};
 ghost use Rattle.sqlite_writes.specs.Writable.{AreApart, IsWritable};
@@ -27,11 +27,10 @@ use fdw_api::wishes::{Agreement2, OrderKey, ScanSpec2, Wish, Wrapper2};
 use key_ranges::answers_for;
 use med_value::{Cause, ColumnDef, NoMemory, Row, TableNo, Value};
 use sqlite::Connection;
-use sqlite_cells::{layout_count, place_of};
-use sqlite_changes::law::first_changes_name_once;
-use sqlite_shapes::SourceStore;
 use sqlite_surveys::open_table;
+use sqlite_tables::{SourceStore, layout_count, place_of};
 use sqlite_writes::entries_rise;
+use sqlite_writes::law::first_changes_name_once;
 use staged_changes::{RowChange, StagedWrite, add_change};
 use std::alloc::Global;
 use std::collections::BTreeMap;
@@ -72,7 +71,7 @@ pub struct SqliteWrapper<S: SourceStore + Drop> {
 impl<S: SourceStore + Drop> SqliteWrapper<S> {
     ghost use Rattle.fdw_api.specs.State.{table_of};
     ghost use Rattle.fdw_api.specs.Calls.{Begins, RefusesBegin};
-    ghost use Rattle.sqlite_shapes.specs.Steady.{IsSteady};
+    ghost use Rattle.sqlite_tables.specs.Steady.{IsSteady};
     ghost use Rattle.sqlite_wrapper.specs.Clean.{AreKnown};
     ghost use Rattle.sqlite_wrapper.specs.SqliteBoxes.{IsNewSqlite};
 
@@ -158,7 +157,7 @@ impl<S: SourceStore + Drop> Wrapper for SqliteWrapper<S> {
     ghost use Rattle.fdw_api.specs.Calls.{CanBind, Binds, RefusesBind, Allows, CanBegin, Begins, RefusesBegin, IsOpen, Iterates, Breaks};
     ghost use Rattle.fdw_api.specs.Calls.{CanRescan, Rescans};
     ghost use Rattle.fdw_api.specs.Kinds.{column_of, option_form};
-    ghost use Rattle.sqlite_shapes.specs.Steady.{IsSteady};
+    ghost use Rattle.sqlite_tables.specs.Steady.{IsSteady};
     ghost use Rattle.fdw_api.specs.Writes.{CanClose, Closes, RefusesClose};
     ghost use Rattle.sqlite_wrapper.specs.Clean.{AreKnown, MayBeKept};
 
@@ -473,7 +472,7 @@ impl<S: SourceStore + Drop> Wrapper2 for SqliteWrapper<S> {
     ghost use Rattle.fdw_api.specs.State.{table_of};
     ghost use Rattle.fdw_api.specs.Calls.{Begins, RefusesBegin};
     ghost use Rattle.fdw_api.specs.Wishes.{all_exact, key_form, wish_form, spec2_of, spec2_by, is_fair, AllowsPromise, CanBegin2};
-    ghost use Rattle.sqlite_shapes.specs.Steady.{IsSteady};
+    ghost use Rattle.sqlite_tables.specs.Steady.{IsSteady};
     ghost use Rattle.sqlite_wrapper.specs.Clean.{AreKnown};
 
     /// Answers as `plan` does, and promises the order that is empty or that of the key, and a limit wherever one may be promised.

@@ -38,9 +38,9 @@ use Rattle.sqlite_sql.specs.declared.ops.CompareOp.TheVariants.{Eq}
 use Rattle.sqlite_sql.specs.declared.ops.BinaryOp.TheVariants.{Compare}
 use Rattle.sqlite_value.specs.declared.keys.Collation.TheVariants.{Binary}
 use Rattle.sqlite_value.proofs.OrderLemmas.{value_cmp-Int}
-use Rattle.sqlite_shapes.proofs.Unique.{kept_all}
-use Rattle.sqlite_shapes.proofs.PageLemmas.{compare_is}
-use Rattle.sqlite_cells.specs.Texts.{IsDeleteText, delete_filter, delete_query}
+use Rattle.sqlite_tables.proofs.Unique.{kept_all}
+use Rattle.sqlite_tables.proofs.PageLemmas.{compare_is}
+use Rattle.sqlite_tables.specs.Texts.{IsDeleteText, delete_filter, delete_query}
 use Rattle.sqlite_writes.specs.Changes.{TakesOut}
 use Rattle.sqlite_writes.proofs.Steps.{went, same_value, others_kept}
 

@@ -43,7 +43,7 @@ use Rattle.med_value.specs.Datum.{Datum, NoValue, Whole, Chars, Logic}
 use Rattle.med_value.specs.declared.value.ColType.{ColType}
 use Rattle.med_value.specs.declared.value.ColType.TheVariants as types
 use Rattle.fdw_api.specs.Scan.{cell_fits}
-use Rattle.sqlite_cells.specs.Texts.{IsInsertText, IsUnread, insert_terms, kind_for}
+use Rattle.sqlite_tables.specs.Texts.{IsInsertText, IsUnread, insert_terms, kind_for}
 use Rattle.sqlite_writes.specs.Stored.{stored}
 use Rattle.sqlite_writes.specs.Changes.{PutsIn}
 use Rattle.sqlite_writes.proofs.Steps.{went, same_value, others_kept}

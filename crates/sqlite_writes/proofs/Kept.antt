@@ -1,7 +1,7 @@
 -- A statement inside a transaction leaves the last commit alone.
 use Rattle.std.proofs.Common.{◌≡◌, ◌≤◌, ◌⊎◌, inl, inr, ℕ, Bool, true, false, List, Ok, Err, Result, IsTrue, refl, sym, subst, ◌∙◌, arith}
 use Rattle.sqlite_trees.specs.View.{doubt}
-use Rattle.sqlite_shapes.specs.Steady.{IsCleanAfter}
+use Rattle.sqlite_tables.specs.Steady.{IsCleanAfter}
 use Rattle.sqlite.specs.Order.{Row}
 use Rattle.sqlite.specs.declared.error.Error.{Error}
 use Rattle.sqlite.specs.Steps.{FailsToCommit}

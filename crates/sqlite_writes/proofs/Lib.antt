@@ -5,3 +5,11 @@ pub mod Inserting
 pub mod Changed
 pub mod Loops
 pub mod Shown
+pub mod Sorting
+pub mod Repeats
+pub mod Edits
+pub mod Woven
+pub mod ChangesShown
+pub mod Rewritten
+pub mod Named
+pub mod Splits

@@ -20,9 +20,9 @@ use Rattle.med_value.specs.Datum.{Datum, NoValue, Whole, Chars, Logic}
 use Rattle.med_value.specs.declared.value.ColType.{ColType}
 use Rattle.med_value.specs.declared.value.ColType.TheVariants as types
 use Rattle.fdw_api.specs.Scan.{TableRow, cell_fits}
-use Rattle.sqlite_shapes.specs.Shapes.{in_range, key_of, paged}
-use Rattle.sqlite_cells.specs.Layouts.{Layout}
-use Rattle.sqlite_cells.specs.Cells.{id_of, row_in, rows_in, cell_of, least, greatest}
+use Rattle.sqlite_tables.specs.StoreShapes.{in_range, key_of, paged}
+use Rattle.sqlite_tables.specs.Layouts.{Layout}
+use Rattle.sqlite_tables.specs.Cells.{id_of, row_in, rows_in, cell_of, least, greatest}
 use Rattle.sqlite_writes.specs.Stored.{stored, stored_row}
 use Rattle.sqlite_writes.proofs.Deleting.{key_is}
 

@@ -11,7 +11,7 @@ use Rattle.sqlite_rules.specs.Edit.{Applies}
 use Rattle.sqlite_rules.specs.Lists.{Has}
 use Rattle.sqlite_rules.proofs.ListLemmas.{has_got}
 use Rattle.sqlite_writes.specs.Changes.{KeepsOthers}
-use Rattle.sqlite_cells.specs.Texts.{IsUnread}
+use Rattle.sqlite_tables.specs.Texts.{IsUnread}
 
 pub went : {B E R : Type 0} {b : B} {Stops : E → Type 0} → ((stop : E) × Stops stop × (Ok b ≡ Err stop)) ⊎ R → R
 went (inl stopped) = absurd (let e = stopped.2 in cc)

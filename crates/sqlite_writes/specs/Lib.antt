@@ -2,3 +2,5 @@ pub mod Writable
 pub mod Stored
 pub mod Changes
 pub mod Rewriting
+pub mod Kinds
+pub mod Splitting

@@ -5,7 +5,7 @@ use Rattle.sqlite.specs.Edit.{without_all, put_all, are_fresh}
 use Rattle.med_value.specs.Datum.{Datum, Whole, Tuple, cell}
 use Rattle.med_value.specs.Order.{is_missing}
 use Rattle.fdw_api.specs.Scan.{row_fits}
-use Rattle.sqlite_cells.specs.Layouts.{layout_at, kinds_in}
+use Rattle.sqlite_tables.specs.Layouts.{layout_at, kinds_in}
 use Rattle.sqlite_writes.specs.Stored.{stored_row}
 
 -- a row of a table by its number: of the types of its columns, with a key

@@ -8,9 +8,9 @@ ghost use Rattle.sqlite_trees.specs.declared.store.Shape.TheVariants as shape;
 ghost use Rattle.med_value.specs.Datum.{tuple};
 ghost use Rattle.med_value.specs.declared.cause.Cause.TheVariants.{NotUnique};
 ghost use Rattle.fdw_api.specs.Calls.{not_refused};
-ghost use Rattle.sqlite_shapes.specs.Steady.{IsCleanAfter};
-ghost use Rattle.sqlite_cells.specs.Tables.{entries_in};
-ghost use Rattle.sqlite_cells.specs.Refusing.{OnlyBy};
+ghost use Rattle.sqlite_tables.specs.Steady.{IsCleanAfter};
+ghost use Rattle.sqlite_tables.specs.Tables.{entries_in};
+ghost use Rattle.sqlite_tables.specs.Refusing.{OnlyBy};
 ghost use Rattle.sqlite_writes.specs.Writable.{IsWritable, IsSureStep, IsSureWrite, KeepsTables, StepsTo};
 ghost use Rattle.sqlite_writes.specs.Rewriting.{has_place, stored_cells, rewritten, repeats_key};
 
@@ -18,8 +18,7 @@ use crate::rows::{delete_row, insert_row};
 use fdw_api::interface::Fault;
 use med_value::{Row, Value};
 use sqlite::{Connection, Transaction};
-use sqlite_cells::fault_of;
-use sqlite_shapes::SourceStore;
+use sqlite_tables::{SourceStore, fault_of};
 
 // Takes the rows of some keys out.
 fn delete_all<S: SourceStore>(

@@ -9,10 +9,10 @@ ghost use Rattle.med_value.specs.Datum.{datum};
 ghost use Rattle.med_value.specs.declared.cause.Cause.TheVariants.{NotUnique};
 ghost use Rattle.fdw_api.specs.Calls.{not_refused};
 ghost use Rattle.fdw_api.specs.Scan.{cell_fits};
-ghost use Rattle.sqlite_shapes.specs.Steady.{IsCleanAfter};
-ghost use Rattle.sqlite_cells.specs.Layouts.{layout_at};
-ghost use Rattle.sqlite_cells.specs.Tables.{entries_in};
-ghost use Rattle.sqlite_cells.specs.Refusing.{OnlyBy};
+ghost use Rattle.sqlite_tables.specs.Steady.{IsCleanAfter};
+ghost use Rattle.sqlite_tables.specs.Layouts.{layout_at};
+ghost use Rattle.sqlite_tables.specs.Tables.{entries_in};
+ghost use Rattle.sqlite_tables.specs.Refusing.{OnlyBy};
 ghost use Rattle.sqlite_writes.specs.Writable.{IsWritable, IsSureStep, KeepsTables, StepsTo};
 ghost use Rattle.sqlite_writes.specs.Stored.{stored_row, taken_key};
 
@@ -21,8 +21,7 @@ use crate::texts::{delete_text, insert_text};
 use fdw_api::interface::Fault;
 use med_value::{Cause, Value};
 use sqlite::{Constraint, Error, ErrorCode, Transaction};
-use sqlite_cells::fault_of;
-use sqlite_shapes::SourceStore;
+use sqlite_tables::{SourceStore, fault_of};
 
 /// Takes the row of a key out of a table, inside a transaction: where there is none, nothing changes.
 ///

@@ -1,8 +1,8 @@
 //! The texts that change a row of a table.
 ghost use Rattle.std.specs.Prelude.{◌≡◌};
-ghost use Rattle.sqlite_cells.specs.Layouts.{layout_at};
+ghost use Rattle.sqlite_tables.specs.Layouts.{layout_at};
 
-use sqlite_cells::shape_at;
+use sqlite_tables::shape_at;
 
 // The text that takes the row of a key out of a table.
 pub(crate) fn delete_text(table: u64) -> &'static str

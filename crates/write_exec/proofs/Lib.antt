@@ -6,3 +6,4 @@ pub mod DistinctIds
 pub mod ChangesFit
 pub mod BoxWrites
 pub mod WrittenRows
+pub mod Fitted

@@ -17,7 +17,7 @@ use Rattle.query_reader.proofs.PartSound.{flat}
 use Rattle.query_reader.proofs.PartComplete.{held, held_low, held_high, Takes, then_held, Parted, Stops, parted_reach, list_takes, entry_takes, condition_takes}
 use Rattle.expr_grammar.proofs.ExprChains.{low_or_high, reach}
 use Rattle.expr_grammar.proofs.ExprComplete.{completes}
-use Rattle.write_syntax.specs.WriteTree.{GivenTree, values, rows_of, SetTree, UpdateTree, DeleteTree, WriteTree, insert, update, delete, row_height, set_height, update_height, write_height}
+use Rattle.med_syntax.specs.WriteTree.{GivenTree, values, rows_of, SetTree, UpdateTree, DeleteTree, WriteTree, insert, update, delete, row_height, set_height, update_height, write_height}
 use Rattle.write_parser.specs.WriteGrammar.{SpellsTuple, SpellsName, SpellsColumns, SpellsSet, SpellsWhere}
 use Rattle.write_parser.specs.WriteReading.{behind_left, behind_right, inside, columns_of, target_of, row_of, insert_of, set_of, where_of, sets_of, update_of, delete_of, plain_of, plain_line}
 use Rattle.write_parser.proofs.WriteSound.{SpellsNamed, SpellsGiven, SpellsPlain, IsPlain}

@@ -33,10 +33,10 @@ use Rattle.query_grammar.proofs.QueryTerminals.{to_terminals, of_terminals}
 use Rattle.query_reader.specs.QueryReading.{bounded_line}
 use Rattle.query_reader.proofs.PartSound.{err_ok}
 use Rattle.query_reader.proofs.QueryComplete as query_line
-use Rattle.write_syntax.specs.declared.write.Given.TheVariants as g
-use Rattle.write_syntax.specs.declared.write.WriteStatement.{WriteStatement}
-use Rattle.write_syntax.specs.WriteTree.{rows_of, WriteTree, insert, given_height, write_height}
-use Rattle.write_syntax.specs.WriteView.{given_tree, write_tree}
+use Rattle.med_syntax.specs.declared.write.Given.TheVariants as g
+use Rattle.med_syntax.specs.declared.write.WriteStatement.{WriteStatement}
+use Rattle.med_syntax.specs.WriteTree.{rows_of, WriteTree, insert, given_height, write_height}
+use Rattle.med_syntax.specs.WriteView.{given_tree, write_tree}
 use Rattle.write_parser.specs.WriteGrammar.{IsInsert, IsWrite}
 use Rattle.write_parser.specs.WriteReading.{query_at, bounded_plain}
 use Rattle.write_parser.specs.WriteCauses.{Refuses}

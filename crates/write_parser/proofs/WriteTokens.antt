@@ -18,7 +18,7 @@ use Rattle.query_grammar.specs.QueryGrammar.{keywords, SpellsOthers, SpellsList,
 use Rattle.query_grammar.proofs.QueryTerminals.{to_terminals}
 use Rattle.query_reader.specs.QueryReading.{behind_word, behind_words}
 use Rattle.query_reader.proofs.PartSound.{FoundPart, flat, err_ok, word_is, words_are}
-use Rattle.write_syntax.specs.WriteTree.{GivenTree, values, rows_of, WriteTree, insert, update, delete}
+use Rattle.med_syntax.specs.WriteTree.{GivenTree, values, rows_of, WriteTree, insert, update, delete}
 use Rattle.write_parser.specs.WriteGrammar.{SpellsTuple, SpellsName, SpellsColumns, SpellsTarget, SpellsSet, SpellsWhere, IsLineOf, IsInsert, IsWrite}
 use Rattle.write_parser.specs.WriteReading.{target_of, insert_of, plain_line, query_at}
 use Rattle.write_parser.proofs.WriteSound.{SpellsNamed, SpellsGiven, SpellsPlain, IsPlain, target_sound}

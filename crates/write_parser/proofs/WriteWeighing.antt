@@ -10,7 +10,7 @@ use Rattle.expr_grammar.specs.ExprWeight.{weight}
 use Rattle.query_grammar.specs.QueryGrammar.{keywords, SpellsExpr}
 use Rattle.expr_grammar.proofs.BoundedReading.{ReadsInRoom, tried_sound, tried_out, tried_told}
 use Rattle.expr_grammar.proofs.ExprWeighing.{weight_append, weight_more}
-use Rattle.write_syntax.specs.WriteTree.{GivenTree, values, rows_of, WriteTree, insert, update, delete, row_height, set_height, write_height}
+use Rattle.med_syntax.specs.WriteTree.{GivenTree, values, rows_of, WriteTree, insert, update, delete, row_height, set_height, write_height}
 use Rattle.write_parser.specs.WriteGrammar.{SpellsTuple, SpellsSet}
 use Rattle.write_parser.specs.WriteReading.{plain_line, bounded_plain}
 use Rattle.write_parser.proofs.WriteSound.{SpellsGiven, SpellsPlain, IsPlain, line_sound}

@@ -9,7 +9,7 @@ use Rattle.expr_grammar.specs.declared.refusal.ReadFault.{ReadFault}
 use Rattle.expr_grammar.specs.declared.refusal.ReadFault.TheVariants as faults
 use Rattle.expr_grammar.specs.declared.refusal.Refusal.TheVariants.{Syntax, TooHigh}
 use Rattle.query_grammar.specs.QueryCauses.{all_in_range, perhaps_in_range, select_in_range}
-use Rattle.write_syntax.specs.WriteTree.{GivenTree, values, rows_of, SetTree, UpdateTree, DeleteTree, WriteTree, insert, update, delete, write_height}
+use Rattle.med_syntax.specs.WriteTree.{GivenTree, values, rows_of, SetTree, UpdateTree, DeleteTree, WriteTree, insert, update, delete, write_height}
 use Rattle.write_parser.specs.WriteGrammar.{IsWrite}
 
 -- ---- each number is at most 2^63 - 1, and directly behind a unary minus at most 2^63

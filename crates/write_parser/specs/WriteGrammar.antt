@@ -16,7 +16,7 @@ use Rattle.med_syntax.specs.ExprTree.{ExprTree, IsExpr}
 use Rattle.med_syntax.specs.QueryTree.{select}
 use Rattle.expr_grammar.specs.Shapes.{shapes}
 use Rattle.query_grammar.specs.QueryGrammar.{keywords, SpellsList, SpellsEntry, SpellsPerhaps, SpellsExpr, IsEnd, IsStatement}
-use Rattle.write_syntax.specs.WriteTree.{GivenTree, values, rows_of, SetTree, UpdateTree, DeleteTree, WriteTree, insert, update, delete}
+use Rattle.med_syntax.specs.WriteTree.{GivenTree, values, rows_of, SetTree, UpdateTree, DeleteTree, WriteTree, insert, update, delete}
 
 -- ( x {, x} )
 abbrev pub SpellsTuple : {X : Type 0} → (X → List Terminal → Type 0) → List X → List Terminal → Type 0

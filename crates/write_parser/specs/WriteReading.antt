@@ -10,7 +10,7 @@ use Rattle.med_syntax.specs.Terminal.{Terminal}
 use Rattle.med_syntax.specs.Terminal as t
 use Rattle.med_syntax.specs.ExprTree.{ExprTree}
 use Rattle.query_reader.specs.QueryReading.{Parser, behind_word, behind_words, read_name, list_of, entry_of, perhaps_of, is_end}
-use Rattle.write_syntax.specs.WriteTree.{values, SetTree, WriteTree, insert, update, delete}
+use Rattle.med_syntax.specs.WriteTree.{values, SetTree, WriteTree, insert, update, delete}
 
 abbrev pub behind_left : List Terminal → Option (List Terminal)
 behind_left (t.LeftParen ∷ ts) = Some ts

@@ -8,17 +8,16 @@ ghost use Rattle.query_reader.specs.QueryReading.{is_end};
 ghost use Rattle.std.specs.Prelude.{◌≡◌, ◌<◌, map, option_map, Err};
 ghost use Rattle.std.specs.String.{string_bytes};
 ghost use Rattle.write_parser.specs.WriteReading as reading;
-ghost use Rattle.write_syntax.specs.WriteView.{names_tree, set_tree, write_tree};
+ghost use Rattle.med_syntax.specs.WriteView.{names_tree, set_tree, write_tree};
 
 use crate::write_lists::{columns, row_list, set_list};
 use crate::write_words::{behind_two, behind_word, entry, expr, name};
 use expr_grammar::refusal::{ReadFault, Refusal};
 use expr_grammar::symbols::Symbol;
 use expr_grammar::weighing::{ROOM, weight};
-use med_syntax::Expr;
+use med_syntax::{Delete, Expr, Given, Insert, SetClause, Update, WriteStatement};
 use med_value::limits::HEIGHT_LIMIT;
 use std::alloc::Global;
-use write_syntax::{Delete, Given, Insert, SetClause, Update, WriteStatement};
 
 /// The table and the columns behind INSERT INTO, and the symbols behind them.
 #[tactic(auto, unfolding(crate::specs::WriteReading::target_of))]

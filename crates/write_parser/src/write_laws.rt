@@ -3,7 +3,7 @@
 ghost use Rattle.med_lexer.specs.Lexemes.{Shape};
 ghost use Rattle.std.specs.Prelude.{◌≡◌, List};
 ghost use Rattle.write_parser.specs.WriteGrammar.{IsWrite};
-ghost use Rattle.write_syntax.specs.WriteTree.{WriteTree};
+ghost use Rattle.med_syntax.specs.WriteTree.{WriteTree};
 
 /// Tokens are at most one statement that writes rows.
 pub fn one_write()

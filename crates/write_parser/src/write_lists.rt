@@ -8,14 +8,13 @@ ghost use Rattle.query_reader.specs.QueryReading.{list_of, read_name};
 ghost use Rattle.std.specs.Prelude.{◌≡◌, ◌<◌, map, option_map};
 ghost use Rattle.std.specs.String.{string_bytes};
 ghost use Rattle.write_parser.specs.WriteReading as reading;
-ghost use Rattle.write_syntax.specs.WriteView.{names_tree, row_tree, set_tree};
+ghost use Rattle.med_syntax.specs.WriteView.{names_tree, row_tree, set_tree};
 
 use crate::write_words::{behind_left, behind_right, expr, name, set_at};
 use expr_grammar::refusal::{ReadFault, Refusal};
 use expr_grammar::symbols::{Separator, Symbol, behind};
-use med_syntax::Expr;
+use med_syntax::{Expr, SetClause};
 use std::alloc::Global;
-use write_syntax::SetClause;
 
 /// The names at the front, and the symbols behind them.
 fn name_list(alloc: Global, symbols: &[Symbol]) -> Result<(Vec<String>, &[Symbol]), ReadFault>

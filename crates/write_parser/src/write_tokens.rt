@@ -6,16 +6,16 @@ ghost use Rattle.std.specs.Prelude.{◌≤◌, IfOk, IfErr};
 ghost use Rattle.med_value.specs.Limits.{height_limit};
 ghost use Rattle.write_parser.specs.WriteCauses.{Refuses};
 ghost use Rattle.write_parser.specs.WriteGrammar.{IsWrite};
-ghost use Rattle.write_syntax.specs.WriteTree.{write_height};
-ghost use Rattle.write_syntax.specs.WriteView.{write_tree};
+ghost use Rattle.med_syntax.specs.WriteTree.{write_height};
+ghost use Rattle.med_syntax.specs.WriteView.{write_tree};
 
 use crate::write_clauses::{bounded, query_at};
 use expr_grammar::expr_symbols::symbols_of;
 use expr_grammar::refusal::ReadFault;
 use med_lexer::Token;
+use med_syntax::{Given, Insert, WriteStatement};
 use query_reader::statement_of;
 use std::alloc::Global;
-use write_syntax::{Given, Insert, WriteStatement};
 
 /// The statement that writes rows that all of the tokens are, or why they are refused: they are none, or one of its expressions is too
 /// high, or memory was refused.

@@ -11,7 +11,7 @@ use Rattle.med_value.specs.declared.cause.Cause.TheVariants.{UndefinedTable, Und
 use Rattle.med_syntax.specs.Tree.{Name}
 use Rattle.med_syntax.specs.ExprTree.{ExprTree}
 use Rattle.med_syntax.specs.QueryTree.{EntryTree, SelectTree, select}
-use Rattle.write_syntax.specs.WriteTree.{GivenTree, values, rows_of, InsertTree, WriteTree, insert, update, delete}
+use Rattle.med_syntax.specs.WriteTree.{GivenTree, values, rows_of, InsertTree, WriteTree, insert, update, delete}
 use Rattle.tri_expr.specs.Tree.{Tree}
 use Rattle.bind_names.specs.Aggregates.{has_aggregate}
 use Rattle.bind_names.specs.Scope.{TableShape, Scope, place_named}

@@ -4,7 +4,7 @@ use Rattle.med_value.specs.Column.{Column}
 use Rattle.med_syntax.specs.Tree.{Name}
 use Rattle.med_syntax.specs.ExprTree.{ExprTree}
 use Rattle.med_syntax.specs.QueryTree.{EntryTree}
-use Rattle.write_syntax.specs.WriteTree.{GivenTree, values, rows_of, InsertTree, SetTree, UpdateTree, DeleteTree, WriteTree, insert, update, delete}
+use Rattle.med_syntax.specs.WriteTree.{GivenTree, values, rows_of, InsertTree, SetTree, UpdateTree, DeleteTree, WriteTree, insert, update, delete}
 use Rattle.tri_expr.specs.Tree.{Tree}
 use Rattle.bind_names.specs.Scope.{TableShape, Scope, table_named, entry_shape}
 use Rattle.bind_names.specs.Meaning.{resolved, conditions_of}

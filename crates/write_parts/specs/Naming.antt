@@ -7,7 +7,7 @@ use Rattle.med_value.specs.declared.cause.Cause.{Cause}
 use Rattle.med_value.specs.declared.cause.Cause.TheVariants.{UndefinedTable, UndefinedColumn, DuplicateColumn, MisplacedName}
 use Rattle.med_syntax.specs.Tree.{Name}
 use Rattle.med_syntax.specs.ExprTree.{ExprTree}
-use Rattle.write_syntax.specs.WriteTree.{GivenTree, values, rows_of, InsertTree, SetTree, UpdateTree, DeleteTree, WriteTree, insert, update, delete}
+use Rattle.med_syntax.specs.WriteTree.{GivenTree, values, rows_of, InsertTree, SetTree, UpdateTree, DeleteTree, WriteTree, insert, update, delete}
 use Rattle.bind_names.specs.Scope.{TableShape, place_named}
 use Rattle.bind_names.specs.Naming.{name_causes, condition_name_causes, entered_causes, asked_causes, once_known}
 use Rattle.med_catalog.specs.Objects.{Objects}

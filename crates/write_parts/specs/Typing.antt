@@ -8,7 +8,7 @@ use Rattle.med_value.specs.declared.cause.Cause.{Cause}
 use Rattle.med_value.specs.declared.cause.Cause.TheVariants.{DatatypeMismatch, ValuesSyntax}
 use Rattle.med_syntax.specs.Tree.{Name}
 use Rattle.med_syntax.specs.ExprTree.{ExprTree}
-use Rattle.write_syntax.specs.WriteTree.{GivenTree, values, rows_of, InsertTree, UpdateTree, DeleteTree, WriteTree, insert, update, delete}
+use Rattle.med_syntax.specs.WriteTree.{GivenTree, values, rows_of, InsertTree, UpdateTree, DeleteTree, WriteTree, insert, update, delete}
 use Rattle.tri_expr.specs.Tree.{Tree}
 use Rattle.bind_names.specs.Scope.{TableShape, Scope}
 use Rattle.bind_names.specs.Meaning.{resolved, conditions_of}

@@ -4,7 +4,7 @@
 ghost use Rattle.std.specs.Prelude.{◌≡◌, map, option_map, string_bytes, length, IfOk};
 ghost use Rattle.med_value.specs.Column.{Column, column_of};
 ghost use Rattle.bind_names.specs.Telling.{Passes};
-ghost use Rattle.write_syntax.specs.WriteView.{names_tree};
+ghost use Rattle.med_syntax.specs.WriteView.{names_tree};
 ghost use Rattle.write_parts.specs.Meaning as meaning;
 ghost use Rattle.write_parts.specs.Meaning.{name_place, places_meant};
 ghost use Rattle.write_parts.specs.Naming.{named_causes};

@@ -3,18 +3,17 @@ ghost use Rattle.expr_grammar.specs.View.{shapes_of};
 ghost use Rattle.med_lexer.specs.Printing.{AreShapes};
 
 use cursor_parser::{cursor_of, is_count_in_range, is_fetch_zero};
-use cursor_print::{is_cursor_in_range, print};
-use cursor_syntax::{CursorStatement, FetchCount};
 use expr_grammar::expr_symbols::has_unreadable;
 use expr_grammar::token_list::tokens_of;
 use med_lexer::{Token, tokens_can_be_printed};
-use med_syntax::{Entry, Expr};
+use med_syntax::{CursorStatement, Delete, Entry, Expr, FetchCount, WriteStatement};
 use med_value::Cause;
-use query_range::{is_condition_in_range, is_statement_in_range};
+use sql_print::cursor_writer::print;
+use sql_print::{
+    is_condition_in_range, is_cursor_in_range, is_statement_in_range, is_write_in_range,
+};
 use std::alloc::Global;
 use std::test::Fail;
-use write_print::is_write_in_range;
-use write_syntax::{Delete, WriteStatement};
 
 // A text, and its statement written out; `!` before it where a number is out of range, `0` where it is FETCH 0.
 const ROWS: &str = "\
@@ -111,7 +110,7 @@ fn numbers_of_conditions_and_writes(rt: HostRuntime) -> Result<(), Fail> {
     };
     let delete = WriteStatement::Delete(Delete { entry, condition });
     assert!(rt; !is_write_in_range(&delete));
-    let text = write_print::print(alloc, &delete)?;
+    let text = sql_print::write_writer::print(alloc, &delete)?;
     assert_eq!(rt;
         text.as_str(),
         "DELETE FROM \"t\" AS \"u\" WHERE 9223372036854775808"

@@ -3,7 +3,7 @@ use med_value::{Cause, ColType, ColumnDef, NoMemory, Row, Value};
 use med_write::{BoundWrite, Given, RowWrite};
 use std::alloc::Global;
 use std::test::Fail;
-use write_fits::fits;
+use write_exec::fits;
 use write_parts::{check_fit, check_named, places_for, written_columns};
 
 // The list of columns of an INSERT into parts, if there is one; the types of the values of a row: `i`, `t`, `b`, or `n` for NULL; and the

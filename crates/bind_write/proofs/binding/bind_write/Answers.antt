@@ -1,5 +1,5 @@
 use Rattle.std.proofs.Common.{map}
-use Rattle.write_syntax.specs.WriteView.{write_tree}
+use Rattle.med_syntax.specs.WriteView.{write_tree}
 use Rattle.med_catalog.specs.View.{objects}
 use Rattle.bind_catalog.specs.Places.{attached}
 use Rattle.bind_write.proofs.Writes.{answers_bindable, answers_meant, answers_refused, answers_memory}

@@ -1,7 +1,7 @@
 use Rattle.std.proofs.Common.{ap, sym, refl, map, ◌∙◌, Some, []}
 use Rattle.std.proofs.lemmas.Result.{err_from_is_err_and}
-use Rattle.write_syntax.specs.WriteTree.{delete}
-use Rattle.write_syntax.specs.WriteView.{delete_tree}
+use Rattle.med_syntax.specs.WriteTree.{delete}
+use Rattle.med_syntax.specs.WriteView.{delete_tree}
 use Rattle.med_catalog.specs.View.{objects}
 use Rattle.med_write.specs.Form.{delete_form}
 use Rattle.bind_catalog.specs.Barred.{target_right_causes}

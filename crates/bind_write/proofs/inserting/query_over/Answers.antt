@@ -2,7 +2,7 @@ use Rattle.std.proofs.Common.{ap, refl, map, option_map, ◌∙◌, ◌++◌}
 use Rattle.std.proofs.lemmas.Result.{err_from_is_err_and}
 use Rattle.med_syntax.specs.QueryView.{statement_tree}
 use Rattle.bind_types.specs.Kinds.{types_in}
-use Rattle.write_syntax.specs.WriteView.{names_tree}
+use Rattle.med_syntax.specs.WriteView.{names_tree}
 use Rattle.med_catalog.specs.View.{objects}
 use Rattle.bind_names.specs.Naming.{entered_causes}
 use Rattle.bind_catalog.specs.Barred.{target_right_causes, query_right_causes}

@@ -1,7 +1,7 @@
 use Rattle.std.proofs.Common.{ap, sym, refl, map, flat_map, option_map, ◌∙◌, []}
 use Rattle.std.proofs.lemmas.Result.{err_from_is_err_and}
 use Rattle.std.proofs.lemmas.List.Elements.{Contains-append_left, Contains-append_right}
-use Rattle.write_syntax.specs.WriteView.{names_tree, row_tree}
+use Rattle.med_syntax.specs.WriteView.{names_tree, row_tree}
 use Rattle.med_catalog.specs.View.{objects}
 use Rattle.med_write.specs.Form.{trees_of}
 use Rattle.bind_names.proofs.Causes.{tells_same, none_of_two}

@@ -2,7 +2,7 @@ use Rattle.std.proofs.Common.{◌≡◌, true, false, map, option_map, refl}
 use Rattle.std.proofs.lemmas.Result.{err_from_is_err_and}
 use Rattle.med_value.specs.Column.{column_of}
 use Rattle.med_syntax.specs.QueryView.{statement_tree}
-use Rattle.write_syntax.specs.WriteView.{names_tree}
+use Rattle.med_syntax.specs.WriteView.{names_tree}
 use Rattle.med_catalog.specs.View.{objects}
 use Rattle.bind_catalog.specs.Looked.{query_in}
 use Rattle.bind_catalog.specs.Places.{attached}

@@ -1,7 +1,7 @@
 use Rattle.std.proofs.Common.{◌<◌, length, map, flat_map, option_map, ap, sym, ◌∙◌, arith}
 use Rattle.std.proofs.lemmas.Result.{err_from_is_err_and}
 use Rattle.med_value.specs.Column.{column_of}
-use Rattle.write_syntax.specs.WriteView.{names_tree}
+use Rattle.med_syntax.specs.WriteView.{names_tree}
 use Rattle.bind_names.proofs.Causes.{tells_first, tells_same, next_causes}
 use Rattle.bind_names.proofs.Parts.{drop_read}
 use Rattle.bind_types.specs.Kinds.{types_in}

@@ -2,8 +2,8 @@ use Rattle.std.proofs.Common.{ap, sym, refl, map, option_map, string_bytes, â—Œâ
 use Rattle.std.proofs.lemmas.Result.{err_from_is_err_and}
 use Rattle.med_value.specs.Column.{column_of}
 use Rattle.med_value.specs.declared.cause.Cause.TheVariants.{MisplacedName}
-use Rattle.write_syntax.specs.WriteTree.{update}
-use Rattle.write_syntax.specs.WriteView.{update_tree}
+use Rattle.med_syntax.specs.WriteTree.{update}
+use Rattle.med_syntax.specs.WriteView.{update_tree}
 use Rattle.tri_expr.specs.Tree.{tree}
 use Rattle.med_catalog.specs.View.{objects}
 use Rattle.bind_names.specs.Meaning.{resolved}

@@ -1,6 +1,6 @@
 use Rattle.std.proofs.Common.{map, flat_map, sym}
 use Rattle.std.proofs.lemmas.Result.{err_from_is_err_and}
-use Rattle.write_syntax.specs.WriteView.{row_tree}
+use Rattle.med_syntax.specs.WriteView.{row_tree}
 use Rattle.med_query.proofs.RowByRow.{moved}
 use Rattle.write_parts.specs.Naming.{row_name_causes}
 use Rattle.write_parts.proofs.Lists.{names_in_turn}

@@ -1,6 +1,6 @@
 use Rattle.std.proofs.Common.{◌≡◌, ◌++◌, map, flat_map, []}
 use Rattle.std.specs.Vec.Iter.{into_iter_items}
-use Rattle.write_syntax.specs.WriteView.{row_tree}
+use Rattle.med_syntax.specs.WriteView.{row_tree}
 use Rattle.med_write.specs.Form.{trees_of}
 use Rattle.write_parts.specs.Naming.{row_name_causes}
 use Rattle.bind_write.specs.Steps.{AreSoFar}

@@ -1,7 +1,7 @@
 use Rattle.std.proofs.Common.{List, ◌<◌, length, map, flat_map, option_map, ap, ◌∙◌, arith}
 use Rattle.std.proofs.lemmas.Result.{err_from_is_err_and}
 use Rattle.med_value.specs.Column.{column_of}
-use Rattle.write_syntax.specs.WriteView.{names_tree}
+use Rattle.med_syntax.specs.WriteView.{names_tree}
 use Rattle.tri_expr.specs.Tree.{Tree}
 use Rattle.med_write.specs.Form.{trees_of}
 use Rattle.bind_names.proofs.Causes.{tells_first}

@@ -1,6 +1,6 @@
 use Rattle.std.proofs.Common.{List, ◌≡◌, map, flat_map, option_map, drop}
 use Rattle.med_value.specs.Column.{column_of}
-use Rattle.write_syntax.specs.WriteView.{names_tree}
+use Rattle.med_syntax.specs.WriteView.{names_tree}
 use Rattle.tri_expr.specs.Tree.{Tree}
 use Rattle.med_write.specs.Form.{trees_of}
 use Rattle.write_parts.specs.Typing.{row_fit_causes, row_types}

@@ -1,5 +1,5 @@
 use Rattle.std.proofs.Common.{sym, ap, ◌∙◌, Some}
-use Rattle.write_syntax.specs.WriteView.{row_tree}
+use Rattle.med_syntax.specs.WriteView.{row_tree}
 use Rattle.bind_write.proofs.Rows.{late_cause, early, other_phase, no_phase}
 use Rattle.bind_write.proofs.values.push_row.Goals as goal
 

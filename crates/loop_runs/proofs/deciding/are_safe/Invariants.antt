@@ -1,5 +1,5 @@
 use Rattle.std.proofs.Common.{◌≡◌, drop}
-use Rattle.loop_answers.specs.Streamed.{all_safe}
+use Rattle.scan_loops.specs.Streamed.{all_safe}
 use Rattle.loop_runs.proofs.deciding.are_safe.Given as goal
 
 abbrev pub invariant-loop-e : goal.invariant-loop-e

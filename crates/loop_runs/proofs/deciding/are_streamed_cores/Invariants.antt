@@ -1,6 +1,6 @@
 use Rattle.std.proofs.Common.{drop}
-use Rattle.nested_loops.specs.Joins.{Each}
-use Rattle.loop_answers.specs.Streamed.{IsStreamedCore}
+use Rattle.pushdown.specs.Joins.{Each}
+use Rattle.scan_loops.specs.Streamed.{IsStreamedCore}
 use Rattle.loop_runs.proofs.deciding.are_streamed_cores.Given as goal
 
 abbrev pub invariant-loop-core : goal.invariant-loop-core

@@ -1,7 +1,7 @@
 use Rattle.std.proofs.Common.{◌≡◌, [], drop}
 use Rattle.med_value.specs.Datum.{tuple}
 use Rattle.med_query.specs.Query.{keeps, senses}
-use Rattle.loop_answers.specs.Conjuncts.{safe_of}
+use Rattle.scan_loops.specs.Conjuncts.{safe_of}
 use Rattle.loop_runs.proofs.deciding.safe_ones_hold.Given as goal
 
 abbrev pub invariant-loop-conjunct : goal.invariant-loop-conjunct

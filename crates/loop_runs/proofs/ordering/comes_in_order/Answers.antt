@@ -1,7 +1,7 @@
 use Rattle.std.proofs.Common.{◌≡◌, List, [], ◌∷◌, length, sym, ap, ◌∙◌, subst, arith}
 use Rattle.med_query.specs.declared.select.SelectCore.{SelectCore}
 use Rattle.scan_loops.specs.declared.levels.LoopLevel.{LoopLevel}
-use Rattle.loop_answers.specs.Ordered.{ComesInOrder}
+use Rattle.scan_loops.specs.Ordered.{ComesInOrder}
 use Rattle.loop_runs.specs.Gathering.{levels_in}
 use Rattle.loop_runs.proofs.Orders.{alone, alone_same}
 use Rattle.loop_runs.proofs.ordering.comes_in_order.Goals as goal

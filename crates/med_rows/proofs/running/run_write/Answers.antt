@@ -1,15 +1,15 @@
 use Rattle.std.proofs.Common.{◌≡◌, ◌∙◌, true, false, List, [], Option, Some, None, map, refl, sym, subst}
 use Rattle.med_value.specs.Datum.{tuple}
 use Rattle.med_query.specs.Form.{form_of}
-use Rattle.write_syntax.specs.WriteTree.{WriteTree}
-use Rattle.write_syntax.specs.WriteView.{write_tree}
+use Rattle.med_syntax.specs.WriteTree.{WriteTree}
+use Rattle.med_syntax.specs.WriteView.{write_tree}
 use Rattle.med_binder.specs.declared.bound.BoundQuery.{BoundQuery}
 use Rattle.med_exec.specs.Slots.{states}
 use Rattle.med_catalog.specs.Objects.{Objects}
 use Rattle.med_catalog.specs.View.{objects}
 use Rattle.bind_catalog.specs.Places.{Attached, attached}
 use Rattle.bind_write.specs.Binding.{IsQueryOf}
-use Rattle.bound_runs.specs.Running.{IsReady as IsBoundReady}
+use Rattle.med_exec.specs.BoundRunning.{IsReady as IsBoundReady}
 use Rattle.sql_meaning.specs.Sizes.{is_large_form}
 use Rattle.med_select.specs.Ready.{AreReady}
 use Rattle.med_world.specs.Writing.{not_bound, in_use}

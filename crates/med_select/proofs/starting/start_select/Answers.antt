@@ -7,7 +7,7 @@ use Rattle.med_catalog.specs.View.{objects}
 use Rattle.bind_catalog.specs.Looked.{query_in}
 use Rattle.bind_catalog.specs.Places.{attached}
 use Rattle.open_cursors.specs.Starting.{not_bound}
-use Rattle.bound_runs.specs.Running.{IsReady}
+use Rattle.med_exec.specs.BoundRunning.{IsReady}
 use Rattle.sql_meaning.specs.Sizes.{is_large_form}
 use Rattle.med_select.specs.Ready.{IsBoundAs}
 use Rattle.med_select.proofs.Ready.{bound_as}

@@ -8,7 +8,7 @@ use Rattle.med_exec.specs.Slots.{states}
 use Rattle.med_world.specs.Turning.{later, having_asked}
 use Rattle.open_cursors.specs.Fetching.{GivesNone, no_memory, box_fails, cause_of}
 use Rattle.open_cursors.proofs.Pulled.{pulls_ended}
-use Rattle.cursor_syntax.specs.CursorView.{count_tree}
+use Rattle.med_syntax.specs.CursorView.{count_tree}
 use Rattle.open_cursors.specs.declared.cursors.OpenCursor.{OpenCursor}
 use Rattle.open_cursors.specs.Open.{Opened, opened, opened_named, seated}
 use Rattle.med_session.specs.Cursors.{having}

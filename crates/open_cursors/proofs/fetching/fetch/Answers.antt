@@ -2,7 +2,7 @@ use Rattle.std.proofs.Common.{◌≡◌, ◌∙◌, ◌+◌, ℕ, List, length-a
 use Rattle.std.proofs.lemmas.Grind.{common_steps}
 use Rattle.med_value.specs.Datum.{tuple}
 use Rattle.med_value.specs.declared.value.Row.{Row}
-use Rattle.cursor_syntax.specs.CursorView.{count_tree}
+use Rattle.med_syntax.specs.CursorView.{count_tree}
 use Rattle.med_exec.specs.Slots.{states}
 use Rattle.med_exec.specs.Counting.{none_in}
 use Rattle.med_exec.specs.Running.{GivesNext, EndsAt}

@@ -1,5 +1,5 @@
 use Rattle.std.proofs.Common.{◌≡◌, length}
-use Rattle.cursor_syntax.specs.CursorView.{count_tree}
+use Rattle.med_syntax.specs.CursorView.{count_tree}
 use Rattle.med_exec.specs.Slots.{states}
 use Rattle.med_exec.specs.Counting.{none_in, BeginsScans}
 use Rattle.med_exec.specs.Running.{ServesRun}

@@ -4,12 +4,12 @@ use Rattle.med_value.specs.Causes.{phase_of}
 use Rattle.med_value.specs.declared.cause.Cause.{Cause}
 use Rattle.med_value.specs.declared.cause.Cause.TheVariants.{InvalidDataType}
 use Rattle.fdw_api.specs.Kinds.{column_of, kinds_of, is_late}
-use Rattle.sqlite_cells.specs.Layouts.{layout_at}
-use Rattle.sqlite_cells.proofs.Settled.{known_after, reads_then, sure_first, sure_then, sure_same}
+use Rattle.sqlite_tables.specs.Layouts.{layout_at}
+use Rattle.sqlite_tables.proofs.Settled.{known_after, reads_then, sure_first, sure_then, sure_same}
 use Rattle.sqlite.specs.Effect.{Database}
-use Rattle.sqlite_cells.specs.Tables.{entries_of, entry_of, rows_of}
+use Rattle.sqlite_tables.specs.Tables.{entries_of, entry_of, rows_of}
 use Rattle.sqlite_surveys.specs.Surveys.{causes_in}
-use Rattle.sqlite_cells.proofs.Refused.{only_more, both_only, refused_more, done_more}
+use Rattle.sqlite_tables.proofs.Refused.{only_more, both_only, refused_more, done_more}
 use Rattle.sqlite_surveys.proofs.Opened.{not_found, mismatched, opened, run_is_late, least_told}
 use Rattle.sqlite_surveys.proofs.openings.open_table.Goals as goal
 

@@ -2,7 +2,7 @@ use Rattle.std.proofs.Common.{◌≡◌, ℕ, not, List, [], ◌∷◌, nat_eq, 
 use Rattle.std.specs.List.{list_any}
 use Rattle.std.proofs.lemmas.Str.{is_utf8-from_IsUtf8}
 use Rattle.std.proofs.lemmas.Bool.Decides.{nat_tests}
-use Rattle.sqlite_cells.proofs.Strays.{stray_text}
+use Rattle.sqlite_tables.proofs.Strays.{stray_text}
 use Rattle.sqlite_surveys.proofs.rows.is_text.Goals as goal
 
 same_test : (a b : ℕ) → nat_eq a b ≡ nat_eq b a

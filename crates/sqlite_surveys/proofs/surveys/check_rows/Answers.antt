@@ -1,6 +1,6 @@
 use Rattle.std.proofs.Common.{◌∙◌, Some, FitsSigned, w64, ap, sym, rules, arith}
 use Rattle.std.proofs.lemmas.Int.{to_z-of_z}
-use Rattle.sqlite_cells.specs.Layouts.{layout_at}
+use Rattle.sqlite_tables.specs.Layouts.{layout_at}
 use Rattle.sqlite_surveys.specs.Surveys.{fits_in}
 use Rattle.sqlite_surveys.proofs.Surveying.{row_more}
 use Rattle.sqlite_surveys.proofs.surveys.check_rows.Goals as goal

@@ -1,6 +1,6 @@
 use Rattle.std.proofs.Common.{◌≡◌, true, take}
 use Rattle.std.specs.List.{list_all}
-use Rattle.sqlite_cells.specs.Layouts.{layout_at}
+use Rattle.sqlite_tables.specs.Layouts.{layout_at}
 use Rattle.sqlite_surveys.specs.Surveys.{fits_in, last_key}
 use Rattle.sqlite_surveys.proofs.surveys.check_rows.Given as goal
 

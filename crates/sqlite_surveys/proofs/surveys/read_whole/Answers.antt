@@ -4,11 +4,11 @@ use Rattle.sqlite.specs.Held.{state}
 use Rattle.med_value.specs.Causes.{phase_of}
 use Rattle.med_value.specs.declared.cause.Cause.{Cause}
 use Rattle.fdw_api.specs.Kinds.{is_of_run}
-use Rattle.sqlite_cells.specs.Layouts.{layout_at}
-use Rattle.sqlite_cells.specs.Cells.{least}
-use Rattle.sqlite_cells.specs.Tables.{entries_of}
-use Rattle.sqlite_cells.proofs.Settled.{known_after, reads_none, reads_then, sure_first, sure_then, sure_same}
-use Rattle.sqlite_cells.proofs.Refused.{only_more, both_only}
+use Rattle.sqlite_tables.specs.Layouts.{layout_at}
+use Rattle.sqlite_tables.specs.Cells.{least}
+use Rattle.sqlite_tables.specs.Tables.{entries_of}
+use Rattle.sqlite_tables.proofs.Settled.{known_after, reads_none, reads_then, sure_first, sure_then, sure_same}
+use Rattle.sqlite_tables.proofs.Refused.{only_more, both_only}
 use Rattle.sqlite_surveys.proofs.Surveying.{seen_none, seen_further, stray_further, seen_whole, seen_count, many_stand}
 use Rattle.sqlite_surveys.proofs.surveys.read_whole.Goals as goal
 

@@ -1,8 +1,8 @@
 use Rattle.std.proofs.Common.{◌≡◌, ◌≤◌, true, false, Some}
 use Rattle.sqlite.specs.Held.{state}
-use Rattle.sqlite_cells.specs.Layouts.{layout_at}
-use Rattle.sqlite_cells.specs.Cells.{least}
-use Rattle.sqlite_cells.specs.Tables.{IsSure, ReadsOnly, entries_of}
+use Rattle.sqlite_tables.specs.Layouts.{layout_at}
+use Rattle.sqlite_tables.specs.Cells.{least}
+use Rattle.sqlite_tables.specs.Tables.{IsSure, ReadsOnly, entries_of}
 use Rattle.sqlite_surveys.specs.Surveys.{IsSeen, rows_left}
 use Rattle.sqlite_surveys.proofs.surveys.read_whole.Given as goal
 

@@ -1,9 +1,9 @@
 use Rattle.std.proofs.Common.{◌≡◌, rules, length, w64}
 use Rattle.std.proofs.lemmas.Int.{to_z-of_z}
 use Rattle.sqlite.specs.Held.{state}
-use Rattle.sqlite_cells.specs.Layouts.{layout_at}
-use Rattle.sqlite_cells.specs.Tables.{entries_of}
-use Rattle.sqlite_cells.proofs.Refused.{by_none, only_more}
+use Rattle.sqlite_tables.specs.Layouts.{layout_at}
+use Rattle.sqlite_tables.specs.Tables.{entries_of}
+use Rattle.sqlite_tables.proofs.Refused.{by_none, only_more}
 use Rattle.sqlite_surveys.proofs.Surveying.{page_seen, page_not, full_if}
 use Rattle.sqlite_surveys.proofs.surveys.survey_page.Goals as goal
 

@@ -3,8 +3,8 @@ use Rattle.std.proofs.lemmas.Int.{ints, to_z-of_z}
 use Rattle.std.proofs.lemmas.Option.{slice_get_read}
 use Rattle.med_value.specs.Datum.{Tuple, tuple}
 use Rattle.fdw_api.specs.Scan.{spec_of, shown_fits}
-use Rattle.sqlite_cells.specs.Layouts.{kinds_in, layout_at}
-use Rattle.sqlite_cells.specs.Cells.{key_in}
+use Rattle.sqlite_tables.specs.Layouts.{kinds_in, layout_at}
+use Rattle.sqlite_tables.specs.Cells.{key_in}
 use Rattle.sqlite_wrapper.proofs.Given.{at_drop, row_same, shut, too_low, too_high}
 use Rattle.sqlite_wrapper.proofs.LiveScans.{some_inj}
 use Rattle.sqlite_wrapper.proofs.rows.given_next.Goals as goal

@@ -2,9 +2,9 @@ use Rattle.std.proofs.Common.{◌∙◌, Some, true, length, nat_eq, refl, rules
 use Rattle.std.proofs.lemmas.Int.{to_z-of_z}
 use Rattle.sqlite.specs.Held.{state}
 use Rattle.sqlite_wrapper.specs.declared.scans.KeyScan.{KeyScan}
-use Rattle.sqlite_cells.specs.Layouts.{layout_at}
-use Rattle.sqlite_cells.specs.Tables.{IsKnown, IsSure, ReadsOnly}
-use Rattle.sqlite_cells.proofs.Settled.{reads_none}
+use Rattle.sqlite_tables.specs.Layouts.{layout_at}
+use Rattle.sqlite_tables.specs.Tables.{IsKnown, IsSure, ReadsOnly}
+use Rattle.sqlite_tables.proofs.Settled.{reads_none}
 use Rattle.sqlite_wrapper.proofs.Maps.{sets}
 use Rattle.sqlite_wrapper.proofs.LiveScans.{at_some, if_some}
 use Rattle.sqlite_wrapper.proofs.Turned.{wants, stays, turned_rows, turned_read, some_if}

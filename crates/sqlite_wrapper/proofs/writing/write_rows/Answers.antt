@@ -7,10 +7,10 @@ use Rattle.med_value.specs.Datum.{tuple}
 use Rattle.med_value.specs.declared.cause.Cause.{Cause}
 use Rattle.fdw_api.specs.Kinds.{is_of_run}
 use Rattle.staged_changes.specs.Staged.{change_is}
-use Rattle.sqlite_cells.specs.Layouts.{layout_at}
-use Rattle.sqlite_cells.specs.Tables.{rows_of, entries_in}
-use Rattle.sqlite_cells.proofs.Refused.{only_more, both_only}
-use Rattle.sqlite_changes.specs.Splitting.{AreChanges}
+use Rattle.sqlite_tables.specs.Layouts.{layout_at}
+use Rattle.sqlite_tables.specs.Tables.{rows_of, entries_in}
+use Rattle.sqlite_tables.proofs.Refused.{only_more, both_only}
+use Rattle.sqlite_writes.specs.Splitting.{AreChanges}
 use Rattle.sqlite_writes.specs.Rewriting.{rewritten, repeats_key}
 use Rattle.sqlite_writes.specs.Writable.{IsWritable, KeepsTables}
 use Rattle.sqlite_wrapper.proofs.Sure.{write_first, write_then, write_read}

@@ -3,7 +3,7 @@ use Rattle.sqlite.specs.Held.{state}
 use Rattle.sqlite.specs.Schema.{Schema}
 use Rattle.sqlite.specs.Edit.{put_all, are_fresh}
 use Rattle.med_value.specs.Datum.{tuple}
-use Rattle.sqlite_cells.proofs.Refused.{refused_more, done_more}
+use Rattle.sqlite_tables.proofs.Refused.{refused_more, done_more}
 use Rattle.sqlite_writes.specs.Writable.{IsWritable}
 use Rattle.sqlite_writes.specs.Rewriting.{stored_cells}
 use Rattle.sqlite_writes.proofs.Changed.{keeps_more, step_first, step_then, steps_then}

@@ -4,7 +4,7 @@ use Rattle.std.proofs.lemmas.Int.{to_z-of_z}
 use Rattle.sqlite.specs.Held.{state}
 use Rattle.sqlite.specs.Schema.{Schema}
 use Rattle.sqlite.specs.Tree.{without_rowid}
-use Rattle.sqlite_cells.specs.Tables.{entries_in}
+use Rattle.sqlite_tables.specs.Tables.{entries_in}
 use Rattle.sqlite_writes.specs.Writable.{IsWritable}
 use Rattle.sqlite_writes.proofs.Loops.{without_more}
 use Rattle.sqlite_writes.proofs.Changed.{keeps_more, step_first, step_then, steps_then}

@@ -6,8 +6,8 @@ use Rattle.sqlite.specs.Tree.{put_row}
 use Rattle.sqlite.specs.Edit.{put_all, is_taken, are_fresh}
 use Rattle.med_value.specs.Datum.{tuple}
 use Rattle.med_value.specs.declared.value.Row.{Row}
-use Rattle.sqlite_cells.specs.Tables.{entries_in}
-use Rattle.sqlite_cells.proofs.Refused.{only_more}
+use Rattle.sqlite_tables.specs.Tables.{entries_in}
+use Rattle.sqlite_tables.proofs.Refused.{only_more}
 use Rattle.sqlite.specs.Order.{Row as SqlRow}
 use Rattle.sqlite_writes.specs.Writable.{IsWritable}
 use Rattle.sqlite_writes.specs.Rewriting.{stored_cells}

@@ -6,7 +6,7 @@ use Rattle.sqlite_trees.specs.declared.store.Shape.TheVariants as shape
 use Rattle.sqlite_trees.proofs.TreeLemmas.{IsShaped-put_row}
 use Rattle.med_value.specs.Datum.{datum}
 use Rattle.sqlite_writes.specs.Stored.{stored_row}
-use Rattle.sqlite_cells.proofs.Refused.{only_more}
+use Rattle.sqlite_tables.proofs.Refused.{only_more}
 use Rattle.sqlite_writes.proofs.Changed.{insert_schema, insert_rows, insert_others, insert_free, insert_taken}
 use Rattle.sqlite_writes.proofs.rows.insert_row.Goals as goal
 

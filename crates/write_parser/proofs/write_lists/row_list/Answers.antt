@@ -6,10 +6,10 @@ use Rattle.std.proofs.Common.{Global}
 use Rattle.std.specs.Prelude.{Vec}
 use Rattle.med_syntax.specs.declared.expr.Expr.{Expr}
 use Rattle.write_parser.specs.WriteReading.{row_of}
-use Rattle.write_syntax.specs.WriteView.{row_tree}
+use Rattle.med_syntax.specs.WriteView.{row_tree}
 use Rattle.write_parser.specs.WriteGrammar.{SpellsTuple}
 use Rattle.query_grammar.specs.QueryGrammar.{SpellsExpr}
-use Rattle.write_syntax.specs.WriteTree.{row_height}
+use Rattle.med_syntax.specs.WriteTree.{row_height}
 use Rattle.write_parser.proofs.WriteSound.{row_sound}
 use Rattle.query_reader.proofs.QueryLoop.{list_start, list_end, list_failed, list_unstarted, parts_more, parts_shorter}
 use Rattle.write_parser.proofs.write_lists.row_list.Goals as goal

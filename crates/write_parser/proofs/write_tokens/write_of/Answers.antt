@@ -11,7 +11,7 @@ use Rattle.med_syntax.specs.QueryView.{statement_tree}
 use Rattle.query_grammar.specs.declared.query_symbols.Place.TheVariants.{Before}
 use Rattle.query_grammar.specs.QueryTerminals.{words_at}
 use Rattle.query_reader.specs.QueryReading.{bounded_line}
-use Rattle.write_syntax.specs.WriteView.{names_tree, write_tree}
+use Rattle.med_syntax.specs.WriteView.{names_tree, write_tree}
 use Rattle.write_parser.specs.WriteReading.{query_at, bounded_plain}
 use Rattle.write_parser.proofs.WriteTokens.{Parted, query_parted}
 use Rattle.write_parser.proofs.WriteRead.{plain_found, plain_low, plain_refused, given_found, given_low, query_refused, suffix_within, suffix_is, suffix_readable, refused_at, refused_as}

@@ -1,6 +1,6 @@
 use Rattle.std.proofs.Common.{◌≡◌, true, false, string_bytes, refl, sym, ◌∙◌, subst}
 use Rattle.std.proofs.lemmas.Result.{err_from_is_err_and}
-use Rattle.ddl_syntax.specs.DdlView.{ddl_tree}
+use Rattle.med_syntax.specs.DdlView.{ddl_tree}
 use Rattle.med_value.specs.declared.cause.Cause.TheVariants.{InUse}
 use Rattle.med_catalog.specs.Changes.{Asks, nothing}
 use Rattle.med_catalog.specs.declared.change.Change.{Change}

@@ -1,10 +1,10 @@
 use Rattle.std.proofs.Common.{◌≡◌, ℕ, List, true, false, Option, Some, None, subst, refl, is_some, option_map, sym, ap, ◌∙◌, rules}
 use Rattle.med_parser.specs.CommandTree.{on_data, on_rows, on_cursors, on_objects, command_tree}
-use Rattle.cursor_syntax.specs.CursorView.{cursor_tree}
+use Rattle.med_syntax.specs.CursorView.{cursor_tree}
 use Rattle.med_parser.specs.CommandGrammar.{HasCommand}
 use Rattle.med_parser.specs.declared.command.Command.{Command}
-use Rattle.ddl_syntax.specs.DdlView.{ddl_tree}
-use Rattle.write_syntax.specs.WriteView.{write_tree}
+use Rattle.med_syntax.specs.DdlView.{ddl_tree}
+use Rattle.med_syntax.specs.WriteView.{write_tree}
 use Rattle.med_syntax.specs.QueryView.{statement_tree}
 use Rattle.bind_catalog.specs.Looked.{query_in}
 use Rattle.med_world.specs.Seats.{user_of}

@@ -1,6 +1,6 @@
 use Rattle.std.proofs.Common.{subst}
-use Rattle.cursor_syntax.specs.CursorView.{cursor_tree}
-use Rattle.cursor_syntax.specs.declared.cursor.CursorStatement.{CursorStatement}
+use Rattle.med_syntax.specs.CursorView.{cursor_tree}
+use Rattle.med_syntax.specs.declared.cursor.CursorStatement.{CursorStatement}
 use Rattle.med_parser.specs.CommandTree.{on_cursors}
 use Rattle.med_world.specs.Laws.{IsRead}
 use Rattle.med_session.specs.Shows.{shown}

@@ -1,5 +1,5 @@
 use Rattle.std.proofs.Common.{refl, rules}
-use Rattle.sqlite_changes.proofs.Named.{none_named}
+use Rattle.sqlite_writes.proofs.Named.{none_named}
 use Rattle.sqlite_wrapper.proofs.Counted.{none_counts, none_few}
 use Rattle.sqlite_wrapper.proofs.Kept.{some_there}
 use Rattle.sqlite_wrapper.proofs.LiveScans.{none_is}

@@ -3,8 +3,8 @@ use Rattle.med_value.specs.Datum.{Tuple, datum}
 use Rattle.fdw_api.specs.Scan.{Spec, spec_of}
 use Rattle.key_ranges.specs.Ranges.{only_keys}
 use Rattle.sqlite.specs.Held.{state}
-use Rattle.sqlite_cells.specs.Layouts.{layout_at, layout_count}
-use Rattle.sqlite_cells.proofs.Clean.{steady_entries}
+use Rattle.sqlite_tables.specs.Layouts.{layout_at, layout_count}
+use Rattle.sqlite_tables.proofs.Clean.{steady_entries}
 use Rattle.sqlite_wrapper.proofs.Bound.{bound_within}
 use Rattle.sqlite_wrapper.proofs.Kept.{within_count}
 use Rattle.sqlite_wrapper.specs.Boxes.{IsBegun, allows, asked_of, bound_of, is_allowed, promised, scan_is}

@@ -3,10 +3,10 @@ use Rattle.std.proofs.Common.{option_map}
 use Rattle.sqlite.specs.Held.{state}
 use Rattle.staged_changes.specs.Staged.{write_is}
 use Rattle.sqlite.specs.Effect.{Database}
-use Rattle.sqlite_cells.specs.Layouts.{layout_at}
-use Rattle.sqlite_cells.specs.Tables.{rows_of}
-use Rattle.sqlite_cells.proofs.Clean.{clean_sure}
-use Rattle.sqlite_cells.proofs.Refused.{both_only}
+use Rattle.sqlite_tables.specs.Layouts.{layout_at}
+use Rattle.sqlite_tables.specs.Tables.{rows_of}
+use Rattle.sqlite_tables.proofs.Clean.{clean_sure}
+use Rattle.sqlite_tables.proofs.Refused.{both_only}
 use Rattle.sqlite_wrapper.specs.Boxes.{rows_at}
 use Rattle.sqlite_wrapper.specs.Counts.{AreCounts, AreFew}
 use Rattle.sqlite_wrapper.proofs.Counted.{put_counts, put_few}

@@ -5,8 +5,8 @@ use Rattle.sqlite.specs.Held.{state}
 use Rattle.staged_changes.specs.Staged.{write_is}
 use Rattle.sqlite_wrapper.proofs.Kept.{writable_after, apart_after, there_after, counts_after}
 use Rattle.fdw_api.specs.State.{Scan}
-use Rattle.sqlite_cells.specs.Layouts.{layout_at}
-use Rattle.sqlite_cells.proofs.Clean.{clean_sure}
+use Rattle.sqlite_tables.specs.Layouts.{layout_at}
+use Rattle.sqlite_tables.proofs.Clean.{clean_sure}
 use Rattle.sqlite_wrapper.specs.Pages.{IsNext, passed}
 use Rattle.sqlite_wrapper.proofs.Maps.{sets, sets_on}
 use Rattle.sqlite_wrapper.proofs.LiveScans.{at_some, if_some, open_there, keeps_fresh, keeps_allowed}

@@ -2,8 +2,8 @@ use Rattle.std.proofs.Common.{nat_lt, ℕ, ◌&&◌, Some, None, ◌≡◌, true
 use Rattle.med_value.specs.Datum.{datum}
 use Rattle.fdw_api.specs.Scan.{Spec}
 use Rattle.sqlite.specs.Held.{state}
-use Rattle.sqlite_cells.specs.Layouts.{layout_at, layout_count}
-use Rattle.sqlite_cells.proofs.Clean.{clean_sure}
+use Rattle.sqlite_tables.specs.Layouts.{layout_at, layout_count}
+use Rattle.sqlite_tables.proofs.Clean.{clean_sure}
 use Rattle.sqlite_wrapper.specs.declared.scans.KeyScan.{KeyScan}
 use Rattle.sqlite_wrapper.specs.Boxes.{allows, asked_of, is_allowed, scan_is}
 use Rattle.staged_changes.specs.Staged.{write_is}

@@ -1,9 +1,0 @@
-mod Agreements
-mod Reading
-mod Counts
-mod Planning
-mod Words
-mod Beginning
-mod Plain
-mod Bare
-mod Opening

@@ -1,2 +1,0 @@
-pub mod CursorWriting
-pub mod CursorPrints

@@ -1,2 +1,0 @@
-pub mod CursorTree
-pub mod CursorView

@@ -1,6 +1,0 @@
-pub mod Conjuncts
-pub mod Entries
-pub mod Gathered
-pub mod Streamed
-pub mod Planned
-pub mod Ordered

@@ -1,9 +1,0 @@
-use Rattle.loop_plans.proofs.Safe.{safe_plans}
-use Rattle.loop_plans.proofs.Splits.{plans}
-use Rattle.loop_plans.proofs.law.plans_are_loop_plans.Goals as goal
-
-pub returns : goal.returns
-returns c = record {
-  plans = plans c.offers_split.ensures c.marks_tell.ensures c.from_is_joined.ensures;
-  safe = safe_plans;
-}

@@ -1,0 +1,9 @@
+pub mod Tests
+pub mod Offers
+pub mod Laws
+pub mod Index
+pub mod Joins
+pub mod Loops
+pub mod LoopLaws
+pub mod Columns
+pub mod Cores

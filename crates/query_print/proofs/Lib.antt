@@ -1,4 +1,0 @@
-pub mod Writing
-pub mod WritingParts
-pub mod QuerySpelled
-pub mod QueryPrints

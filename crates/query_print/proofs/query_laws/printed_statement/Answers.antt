@@ -1,5 +1,0 @@
-use Rattle.query_print.proofs.QueryPrints.{printed_has}
-use Rattle.query_print.proofs.query_laws.printed_statement.Goals as goal
-
-pub returns : goal.returns
-returns c = printed_has c.printed_again.ensures c.tokens_can_be_printed.ensures

@@ -1,4 +1,0 @@
-pub mod Pairs
-pub mod Reading
-pub mod Cores
-pub mod Queries

@@ -1,8 +1,0 @@
-use Rattle.read_columns.proofs.Reading.{fewer_agree, as_many}
-use Rattle.read_columns.proofs.law.rows_agree_on_fewer.Goals as goal
-
-pub returns-clause-fewer : goal.returns-clause-fewer
-returns-clause-fewer c = fewer_agree
-
-pub returns-clause-many : goal.returns-clause-many
-returns-clause-many c = as_many

@@ -1,4 +1,0 @@
-mod Deciding
-mod Splitting
-mod Growing
-mod Found

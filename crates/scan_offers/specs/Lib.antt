@@ -1,4 +1,0 @@
-pub mod Tests
-pub mod Offers
-pub mod Laws
-pub mod Index

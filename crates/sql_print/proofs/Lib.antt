@@ -1,0 +1,9 @@
+pub mod Writing
+pub mod WritingParts
+pub mod QuerySpelled
+pub mod QueryPrints
+pub mod WriteParts
+pub mod WriteSpelled
+pub mod WritePrints
+pub mod CursorWriting
+pub mod CursorPrints

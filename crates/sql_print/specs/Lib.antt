@@ -1,0 +1,3 @@
+pub mod QueryPrinting
+pub mod WritePrinting
+pub mod CursorPrinting

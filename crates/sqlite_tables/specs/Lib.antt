@@ -1,0 +1,10 @@
+pub mod Layouts
+pub mod Texts
+pub mod Shapes
+pub mod Cells
+pub mod Fitting
+pub mod Tables
+pub mod Refusing
+pub mod StoreShapes
+pub mod Steady
+pub mod Memory

@@ -1,0 +1,147 @@
+//! Stored cells as values.
+ghost use Rattle.std.specs.Prelude.{◌≡◌, ◌≢◌, ◌≤◌, true, false, [], ◌∷◌, Some, None, length, IfOk, IfErr, IfSome};
+ghost use Rattle.sqlite.specs.Order.{column};
+ghost use Rattle.med_value.specs.Datum.{datum};
+ghost use Rattle.fdw_api.specs.Scan.{cell_fits};
+ghost use Rattle.sqlite.specs.declared.types.Value.TheVariants.{Text};
+ghost use Rattle.med_value.specs.Datum.{tuple};
+ghost use Rattle.fdw_api.specs.Scan.{row_fits};
+ghost use Rattle.sqlite_tables.specs.Layouts.{layout_at, kinds_in};
+ghost use Rattle.sqlite_tables.specs.Cells.{truth_of, cell_of, cells_of, key_in, has_key, is_row};
+
+use crate::layouts::types_of;
+use med_value::{ColType, Row as Tuple, Value};
+use sqlite::Row;
+use sqlite::types::ValueRef;
+use std::alloc::{AllocError, Global};
+
+/// Why a stored cell does not read as a value of its column.
+#[derive(Clone, Copy, Debug, PartialEq, Eq)]
+pub enum Misread {
+    /// Memory was refused.
+    NoMemory,
+    /// A cell is of another storage class, no truth value, no UTF-8, or has U+0000.
+    Stray,
+    /// It has no integer key, or too few cells: it is no row of a page.
+    NoRow,
+}
+
+impl From<AllocError> for Misread {
+    ghost use Rattle.sqlite_tables.specs.declared.cells.Misread.TheVariants.{NoMemory};
+
+    ghost from_gives = { λ _ fault. fault ≡ NoMemory };
+
+    fn from(_: AllocError) -> Misread {
+        Misread::NoMemory
+    }
+}
+
+fn truth(number: i64) -> Result<Value, Misread>
+    ensures value { IfOk result (λ v. datum v ≡ truth_of number) }
+    ensures fits { IfOk result (λ v. cell_fits (Some ColType.Bool) (datum v) ≡ true) }
+    ensures stray { IfErr result (λ m. (m ≡ Misread.Stray) × (cell_fits (Some ColType.Bool) (truth_of number) ≡ false)) }
+{
+    if number == 0 {
+        return Ok(Value::Bool(false));
+    }
+    if number == 1 {
+        return Ok(Value::Bool(true));
+    }
+    Err(Misread::Stray)
+}
+
+fn text(alloc: Global, bytes: &[u8]) -> Result<Value, Misread>
+    ensures value { IfOk result (λ v. datum v ≡ cell_of ColType.Text (Text bytes.now)) }
+    ensures fits { IfOk result (λ v. cell_fits (Some ColType.Text) (datum v) ≡ true) }
+    ensures is_row { IfErr result (λ m. m ≢ Misread.NoRow) }
+    ensures stray { IfErr result (λ m. m ≡ Misread.Stray → cell_fits (Some ColType.Text) (cell_of ColType.Text (Text bytes.now)) ≡ false) }
+{
+    let Ok(text) = std::str::from_utf8(bytes) else {
+        return Err(Misread::Stray);
+    };
+    if bytes.contains(&0) {
+        return Err(Misread::Stray);
+    }
+    Ok(Value::Text(String::from_str(alloc, text)?))
+}
+
+// The cell of a column as a value of its type.
+fn cell(alloc: Global, kind: ColType, row: &Row, at: usize) -> Result<Value, Misread>
+    ensures value { IfOk result (λ v. datum v ≡ cell_of kind (column row.now at)) }
+    ensures fits { IfOk result (λ v. cell_fits (Some kind) (datum v) ≡ true) }
+    ensures stray { IfErr result (λ m. m ≡ Misread.Stray → cell_fits (Some kind) (cell_of kind (column row.now at)) ≡ false) }
+    ensures no_row { IfErr result (λ m. m ≡ Misread.NoRow → length row.now ≤ at) }
+{
+    let Ok(stored) = row.get_ref(at) else {
+        return Err(Misread::NoRow);
+    };
+    match stored {
+        ValueRef::Null => Ok(Value::Null),
+        ValueRef::Int(number) => match kind {
+            ColType::Int => Ok(Value::Int(number)),
+            ColType::Bool => truth(number),
+            ColType::Text => Err(Misread::Stray),
+        },
+        ValueRef::Text(bytes) => match kind {
+            ColType::Text => text(alloc, bytes),
+            _ => Err(Misread::Stray),
+        },
+        ValueRef::Real(_) | ValueRef::Blob(_) => Err(Misread::Stray),
+    }
+}
+
+/// A row of a page as its key and its cells.
+#[derive(Debug, Drop)]
+pub struct Keyed {
+    /// Its key.
+    pub key: i64,
+    /// Its cells, the key first.
+    pub cells: Tuple,
+}
+
+// The key of a row of a page: an integer, in its first place.
+fn key_at(row: &Row) -> Option<i64>
+    ensures key { IfSome result (λ k. k ≡ key_in row.now) }
+    ensures none { result ≡ None → has_key row.now ≡ false }
+{
+    match row.get_ref(0) {
+        Ok(ValueRef::Int(key)) => Some(key),
+        _ => None,
+    }
+}
+
+fn three(alloc: Global, first: Value, second: Value, third: Value) -> Result<Tuple, AllocError>
+    ensures { IfOk result (λ r. tuple r ≡ datum first ∷ datum second ∷ datum third ∷ []) }
+{
+    let mut cells = Vec::new(alloc);
+    cells.push(first)?;
+    cells.push(second)?;
+    cells.push(third)?;
+    Ok(Tuple { cells })
+}
+
+/// A row of a page of a table as its key and its cells, which are values of its columns.
+pub fn key_and_cells(alloc: Global, table: u64, row: &Row) -> Result<Keyed, Misread>
+    ensures key { IfOk result (λ k. k.key ≡ key_in row.now) }
+    ensures cells { IfOk result (λ k. tuple k.cells ≡ cells_of (layout_at table) row.now) }
+    ensures fits { IfOk result (λ k. row_fits (kinds_in (layout_at table)) (tuple k.cells) ≡ true) }
+    ensures stray { IfErr result (λ m. m ≡ Misread.Stray
+        → row_fits (kinds_in (layout_at table)) (cells_of (layout_at table) row.now) ≡ false) }
+    ensures no_row { IfErr result (λ m. m ≡ Misread.NoRow → is_row row.now ≡ false) }
+{
+    let key = match key_at(row) {
+        Some(key) => key,
+        None => return Err(Misread::NoRow),
+    };
+    let types = types_of(table);
+    let second = match cell(alloc, types[1], row, 1) {
+        Ok(value) => value,
+        Err(misread) => return Err(misread),
+    };
+    let third = match cell(alloc, types[2], row, 2) {
+        Ok(value) => value,
+        Err(misread) => return Err(misread),
+    };
+    let cells = three(alloc, Value::Int(key), second, third)?;
+    Ok(Keyed { key, cells })
+}

@@ -1,3 +1,0 @@
-pub mod WritingParts
-pub mod WriteSpelled
-pub mod WritePrints

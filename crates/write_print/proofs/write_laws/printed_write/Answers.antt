@@ -1,5 +1,0 @@
-use Rattle.write_print.proofs.WritePrints.{printed_has}
-use Rattle.write_print.proofs.write_laws.printed_write.Goals as goal
-
-pub returns : goal.returns
-returns c = printed_has c.printed_again.ensures c.tokens_can_be_printed.ensures

@@ -1,2 +1,0 @@
-pub mod WriteTree
-pub mod WriteView
