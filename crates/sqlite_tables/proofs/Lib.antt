@@ -8,4 +8,4 @@ pub mod Refused
 pub mod Found
 pub mod Unique
 pub mod PageLemmas
-pub mod Tables
+pub mod StoreTables

@@ -16,7 +16,7 @@ use Rattle.sqlite_trees.specs.declared.store.Store.{Ghosts}
 use Rattle.sqlite.specs.State.{State, IsLive}
 use Rattle.sqlite.specs.Held.{Held, state}
 use Rattle.sqlite_tables.specs.Steady.{IsSteady, IsCleanAfter}
-use Rattle.sqlite_tables.proofs.Tables.{steady_table}
+use Rattle.sqlite_tables.proofs.StoreTables.{steady_table}
 use Rattle.sqlite_trees.proofs.TreeLemmas.{IsShaped-filter}
 use Rattle.sqlite_tables.specs.StoreShapes.{IsPageText}
 use Rattle.sqlite_tables.specs.Layouts.{layout_at}

@@ -1,5 +1,5 @@
 use Rattle.fed_output.proofs.Fronts.{no_part, parts_then, part_failed}
-use Rattle.fed_output.proofs.+write_parts.Goals as goal
+use Rattle.fed_output.proofs.telling.+write_parts.Goals as goal
 
 -- no part is left
 pub returns-in_default : goal.returns-in_default

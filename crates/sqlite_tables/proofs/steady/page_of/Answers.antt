@@ -1,6 +1,6 @@
 use Rattle.std.proofs.Common.{w64}
 use Rattle.std.proofs.lemmas.Int.{to_z-of_z}
-use Rattle.sqlite_tables.proofs.Tables.{steady_table}
+use Rattle.sqlite_tables.proofs.StoreTables.{steady_table}
 use Rattle.sqlite_tables.proofs.steady.page_of.Goals as goal
 
 pub returns-clause-rows : goal.returns-clause-rows

@@ -1,4 +1,4 @@
-use Rattle.sqlite_tables.proofs.Tables.{sound_is_steady}
+use Rattle.sqlite_tables.proofs.StoreTables.{sound_is_steady}
 use Rattle.sqlite_tables.proofs.steady.sound_stores_are_steady.Goals as goal
 
 pub returns : goal.returns
