@@ -29,13 +29,13 @@ use Rattle.med_binder.specs.declared.bound.BoundQuery.{BoundQuery}
 use Rattle.med_binder.specs.Place.{entry_place}
 use Rattle.med_catalog.specs.DdlCauses.{phase}
 use Rattle.med_catalog.specs.Objects.{Objects}
-use Rattle.bind_catalog.proofs.Phases as of_query
-use Rattle.bind_catalog.specs.Barred.{query_right_causes, target_right_causes}
-use Rattle.bind_catalog.specs.Looked.{query_in}
-use Rattle.bind_catalog.specs.Places.{Attached, ArePlaces}
-use Rattle.bind_catalog.specs.Queries as queries
-use Rattle.bind_catalog.specs.Queries.{QueryNames, QueryTypes, meant_by}
-use Rattle.bind_catalog.specs.Tables.{shapes}
+use Rattle.med_binder.proofs.Phases as of_query
+use Rattle.med_binder.specs.Barred.{query_right_causes, target_right_causes}
+use Rattle.med_binder.specs.Looked.{query_in}
+use Rattle.med_binder.specs.Places.{Attached, ArePlaces}
+use Rattle.med_binder.specs.Queries as queries
+use Rattle.med_binder.specs.Queries.{QueryNames, QueryTypes, meant_by}
+use Rattle.med_binder.specs.Tables.{shapes}
 use Rattle.write_parts.proofs.Lists.{empty_by, in_turn_by, types_in_turn}
 use Rattle.write_parts.specs.Asking.{IsTarget}
 use Rattle.write_parts.specs.Meaning.{columns_in, places_meant}

@@ -13,8 +13,8 @@ use Rattle.bind_names.specs.Naming.{once_known}
 use Rattle.bind_names.specs.Telling.{TellsCause}
 use Rattle.med_binder.specs.Turns.{TellsInTurn}
 use Rattle.med_catalog.specs.Objects.{Objects}
-use Rattle.bind_catalog.specs.Places.{Attached}
-use Rattle.bind_catalog.specs.Tables.{shapes}
+use Rattle.med_binder.specs.Places.{Attached}
+use Rattle.med_binder.specs.Tables.{shapes}
 use Rattle.write_parts.specs.declared.asking.AskedValues.{AskedValues}
 use Rattle.write_parts.specs.declared.target.Target.{Target}
 use Rattle.write_parts.specs.Meaning.{columns_in, scope_in, cells_meant}

@@ -12,9 +12,9 @@ use Rattle.bind_names.specs.Telling.{TellsCause}
 use Rattle.med_binder.specs.Turns.{TellsInTurn}
 use Rattle.med_catalog.specs.Objects.{Objects}
 use Rattle.med_write.specs.Form.{form_of}
-use Rattle.bind_catalog.specs.Barred.{target_right_causes}
-use Rattle.bind_catalog.specs.Places.{Attached}
-use Rattle.bind_catalog.specs.Tables.{shapes}
+use Rattle.med_binder.specs.Barred.{target_right_causes}
+use Rattle.med_binder.specs.Places.{Attached}
+use Rattle.med_binder.specs.Tables.{shapes}
 use Rattle.write_parts.specs.declared.target.Target.{Target}
 use Rattle.bind_write.specs.declared.bound.TableWrite.{TableWrite}
 use Rattle.write_parts.specs.Meaning.{target_of, columns_in, written_column, write_meant, scope_in}

@@ -15,9 +15,9 @@ use Rattle.med_binder.specs.declared.bound.BoundQuery.{BoundQuery}
 use Rattle.med_binder.specs.Place as offered
 use Rattle.med_catalog.specs.DdlCauses.{phase}
 use Rattle.med_catalog.specs.Objects.{Objects}
-use Rattle.bind_catalog.specs.Tables.{shapes}
-use Rattle.bind_catalog.specs.Places.{Attached, IsPlaceOf, ArePlaces}
-use Rattle.bind_catalog.specs.Queries.{meant_by}
+use Rattle.med_binder.specs.Tables.{shapes}
+use Rattle.med_binder.specs.Places.{Attached, IsPlaceOf, ArePlaces}
+use Rattle.med_binder.specs.Queries.{meant_by}
 use Rattle.med_write.specs.Form.{form_of}
 use Rattle.bind_write.specs.declared.bound.TableWrite.{TableWrite}
 use Rattle.write_parts.specs.Meaning.{target_of, columns_in, written_column, write_meant}

@@ -23,10 +23,10 @@ use Rattle.med_binder.specs.declared.bound.BoundQuery.{BoundQuery}
 use Rattle.med_binder.specs.Turns.{TellsInTurn}
 use Rattle.med_catalog.specs.Objects.{Objects}
 use Rattle.med_binder.specs.Place.{entry_place}
-use Rattle.bind_catalog.specs.Barred.{query_right_causes}
-use Rattle.bind_catalog.specs.Places.{Attached, ArePlaces}
-use Rattle.bind_catalog.specs.Queries.{meant_by}
-use Rattle.bind_catalog.specs.Tables.{shapes}
+use Rattle.med_binder.specs.Barred.{query_right_causes}
+use Rattle.med_binder.specs.Places.{Attached, ArePlaces}
+use Rattle.med_binder.specs.Queries.{meant_by}
+use Rattle.med_binder.specs.Tables.{shapes}
 use Rattle.write_parts.specs.Meaning.{row_meant}
 use Rattle.write_parts.specs.Naming.{named_causes, names_of, set_names, set_values, row_name_causes}
 use Rattle.write_parts.specs.Typing.{types_of, row_type_causes}

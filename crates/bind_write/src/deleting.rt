@@ -2,14 +2,14 @@
 
 ghost use Rattle.std.specs.Prelude.{◌≡◌, length, map};
 ghost use Rattle.med_catalog.specs.View.{objects};
-ghost use Rattle.bind_catalog.specs.Tables.{AreNamedOnce};
-ghost use Rattle.bind_catalog.specs.Places.{attached};
+ghost use Rattle.med_binder.specs.Tables.{AreNamedOnce};
+ghost use Rattle.med_binder.specs.Places.{attached};
 ghost use Rattle.med_syntax.specs.WriteTree.{delete};
 ghost use Rattle.med_syntax.specs.WriteView.{delete_tree};
 ghost use Rattle.bind_write.specs.Steps.{BindsWrite};
 
 use crate::bound::TableWrite;
-use bind_catalog::BoundTable;
+use med_binder::BoundTable;
 use med_catalog::Catalog;
 use med_syntax::Delete;
 use med_value::Cause;

@@ -3,10 +3,10 @@
 
 ghost use Rattle.std.specs.Prelude.{◌≡◌, length, map, option_map, string_bytes};
 ghost use Rattle.med_catalog.specs.View.{objects};
-ghost use Rattle.bind_catalog.specs.Tables.{AreNamedOnce};
-ghost use Rattle.bind_catalog.specs.Places.{attached};
+ghost use Rattle.med_binder.specs.Tables.{AreNamedOnce};
+ghost use Rattle.med_binder.specs.Places.{attached};
 ghost use Rattle.med_syntax.specs.QueryView.{statement_tree};
-ghost use Rattle.bind_catalog.specs.Looked.{query_in};
+ghost use Rattle.med_binder.specs.Looked.{query_in};
 ghost use Rattle.med_syntax.specs.WriteTree.{insert};
 ghost use Rattle.med_syntax.specs.WriteView.{insert_tree, names_tree, row_tree};
 ghost use Rattle.bind_write.specs.Binding.{values_write, query_write};
@@ -15,7 +15,7 @@ ghost use Rattle.bind_write.specs.Steps.{BindsWrite};
 use crate::bound::TableWrite;
 use crate::querying::{ask_query, check_answer};
 use crate::values::{ask_rows, check_rows};
-use bind_catalog::BoundTable;
+use med_binder::BoundTable;
 use med_catalog::Catalog;
 use med_syntax::{Expr as Written, Given, Insert, Statement};
 use med_value::Cause;

@@ -9,14 +9,13 @@ ghost use Rattle.med_syntax.specs.WriteView.{names_tree};
 ghost use Rattle.bind_names.specs.Telling.{Passes};
 ghost use Rattle.bind_types.specs.Kinds.{types_in};
 ghost use Rattle.med_catalog.specs.View.{objects};
-ghost use Rattle.bind_catalog.specs.Looked.{query_in};
-ghost use Rattle.bind_catalog.specs.Places.{attached};
-ghost use Rattle.bind_catalog.specs.Tables.{AreNamedOnce};
+ghost use Rattle.med_binder.specs.Looked.{query_in};
+ghost use Rattle.med_binder.specs.Places.{attached};
+ghost use Rattle.med_binder.specs.Tables.{AreNamedOnce};
 ghost use Rattle.write_parts.specs.Typing.{row_fit_causes};
 ghost use Rattle.bind_write.specs.Steps.{AsksQuery};
 
-use bind_catalog::{BoundTable, bind};
-use med_binder::BoundQuery;
+use med_binder::{BoundQuery, BoundTable, bind};
 use med_catalog::Catalog;
 use med_syntax::Statement;
 use med_value::{Cause, ColType, ColumnDef};

@@ -5,8 +5,8 @@ ghost use Rattle.std.specs.Prelude.{◌≡◌, length, map, option_map, slice_ge
 ghost use Rattle.std.specs.Option.{option_and_then};
 ghost use Rattle.med_value.specs.Column.{Column, column_of};
 ghost use Rattle.med_catalog.specs.View.{objects};
-ghost use Rattle.bind_catalog.specs.Tables.{AreNamedOnce};
-ghost use Rattle.bind_catalog.specs.Places.{attached};
+ghost use Rattle.med_binder.specs.Tables.{AreNamedOnce};
+ghost use Rattle.med_binder.specs.Places.{attached};
 ghost use Rattle.tri_expr.specs.Tree.{tree};
 ghost use Rattle.med_syntax.specs.WriteTree.{update};
 ghost use Rattle.med_syntax.specs.WriteView.{set_tree, update_tree};
@@ -14,8 +14,8 @@ ghost use Rattle.write_parts.specs.Meaning.{name_place};
 ghost use Rattle.bind_write.specs.Steps.{BindsWrite, SplitsSets};
 
 use crate::bound::TableWrite;
-use bind_catalog::BoundTable;
 use bind_types::kinds_of;
+use med_binder::BoundTable;
 use med_catalog::Catalog;
 use med_syntax::{Expr as Written, SetClause, Update};
 use med_value::{Cause, ColumnDef, NoMemory};

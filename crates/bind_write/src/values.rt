@@ -6,14 +6,14 @@ ghost use Rattle.std.specs.List.{list_all};
 ghost use Rattle.med_value.specs.Column.{column_of};
 ghost use Rattle.med_catalog.specs.View.{objects};
 ghost use Rattle.bind_names.specs.Telling.{Passes};
-ghost use Rattle.bind_catalog.specs.Tables.{AreNamedOnce};
+ghost use Rattle.med_binder.specs.Tables.{AreNamedOnce};
 ghost use Rattle.med_syntax.specs.WriteView.{row_tree, names_tree};
 ghost use Rattle.med_write.specs.Form.{trees_of};
 ghost use Rattle.write_parts.specs.Typing.{length_causes, row_fit_causes, row_types, rows_fit_causes};
 ghost use Rattle.bind_write.specs.Steps.{AsksRow, GoesOnWith, AsksRows};
 
-use bind_catalog::BoundTable;
 use bind_types::kinds_of_all;
+use med_binder::BoundTable;
 use med_catalog::Catalog;
 use med_syntax::Expr as Written;
 use med_value::{Cause, ColumnDef};

@@ -9,3 +9,8 @@ pub mod LawViews
 pub mod LookSteps
 pub mod Numbers
 pub mod Viewed
+pub mod Seen
+pub mod Found
+pub mod Rows
+pub mod Phases
+pub mod OverCatalog

@@ -6,3 +6,8 @@ pub mod Turns
 pub mod Within
 pub mod Counted
 pub mod Alike
+pub mod Tables
+pub mod Barred
+pub mod Queries
+pub mod Places
+pub mod Looked

@@ -1,48 +1,32 @@
-//! Statements to bound queries.
+//! Statements to bound queries over the tables of a catalogue.
 
-ghost use Rattle.bind_names.specs.Meaning.{meant_in, meant};
-ghost use Rattle.bind_names.specs.Naming.{select_name_causes, statement_name_causes};
-ghost use Rattle.bind_names.specs.Scope.{table_shape};
-ghost use Rattle.bind_types.specs.Typing.{answer_types, select_type_causes, statement_type_causes};
-ghost use Rattle.med_binder.specs.Alike.{from_kinds, FormAlike};
-ghost use Rattle.med_binder.specs.Binding.{IsBound, IsEntryOf, bound_kinds, kinds_of_answer, BindCauses, BindTells};
-ghost use Rattle.med_binder.specs.Counted.{bound_widths, FormCounts};
-ghost use Rattle.med_binder.specs.Turns.{Binds};
-ghost use Rattle.med_binder.specs.Within.{widths_of, FormWithin};
-ghost use Rattle.med_query.specs.Form.{form_of};
-ghost use Rattle.med_query.specs.Select.{are_safe_cores};
+ghost use Rattle.std.specs.Prelude.{◌≡◌, length, map, true, IfOk, OnOk, IfErr};
+ghost use Rattle.med_value.specs.declared.cause.Cause.{Cause as AnyCause};
 ghost use Rattle.med_syntax.specs.QueryTree.{select};
 ghost use Rattle.med_syntax.specs.QueryView.{select_tree, statement_tree};
-ghost use Rattle.med_value.specs.declared.cause.Cause.{Cause};
-ghost use Rattle.std.specs.Prelude.{◌≡◌, ◌⊎◌, map, true, All, IfOk, OnOk, IfErr};
+ghost use Rattle.med_query.specs.Select.{are_safe_cores};
+ghost use Rattle.bind_names.specs.Scope.{query_scope};
+ghost use Rattle.bind_types.specs.Typing.{answer_types};
+ghost use Rattle.med_binder.specs.Binding.{IsMeant, bound_kinds};
+ghost use Rattle.med_binder.specs.Counted.{bound_widths};
+ghost use Rattle.med_binder.specs.Within.{widths};
+ghost use Rattle.med_binder.specs.Place.{entry_place};
+ghost use Rattle.med_catalog.specs.View.{objects};
+ghost use Rattle.med_binder.specs.Tables.{shapes, AreNamedOnce};
+ghost use Rattle.med_binder.specs.Places.{attached, ArePlaces};
+ghost use Rattle.med_binder.specs.Queries.{meant_by, QueryNames, QueryTypes, IsBindable, NotBound};
+ghost use Rattle.med_binder.specs.Looked.{query_in, BindsOver};
 
 use crate::bound::BoundQuery;
-use crate::look_up::look_up;
-use bind_names::TableView;
-use bind_types::{check_form, check_outputs, check_written};
+use crate::bound_table::BoundTable;
+use crate::gathering::{gathered, placed_entries};
+use crate::rights::check_rights;
+use crate::view_binding::bind_views;
+use bind_names::query_entries;
+use med_catalog::Catalog;
 use med_syntax::{Select, Statement};
 use med_value::Cause;
 use std::alloc::Global;
-
-// A query over the tables: its names, then its types, then where its aggregates and columns stand, then the outputs of its cores.
-fn bind_select(
-    alloc: Global,
-    select: &Select,
-    tables: &[TableView<'_>],
-) -> Result<BoundQuery, Cause>
-    ensures binds { Binds (select_name_causes (map table_shape tables.now) (select_tree select.now))
-        (select_type_causes (map table_shape tables.now) (select_tree select.now))
-        (meant_in (map table_shape tables.now) (select_tree select.now)) result }
-    ensures entries { IfOk result (λ b. All (IsEntryOf tables.now) b.entries.items) }
-    ensures kinds { IfOk result (λ b. bound_kinds b ≡ answer_types (map table_shape tables.now) (select_tree select.now)) }
-    ensures safe { IfOk result (λ b. are_safe_cores b.select.cores.items ≡ true) }
-{
-    let bound = look_up(alloc, select, tables)?;
-    check_written(alloc, select, tables)?;
-    check_form(&bound.select)?;
-    check_outputs(bound.kinds.as_slice(), bound.names.len())?;
-    Ok(bound)
-}
 
 // The query that a statement is.
 fn query_of(statement: &Statement) -> &Select
@@ -53,63 +37,68 @@ fn query_of(statement: &Statement) -> &Select
     }
 }
 
-// A statement over the tables.
-fn bind_statement(
+// The query over the tables that its entries name.
+fn bind_over(
     alloc: Global,
     statement: &Statement,
-    tables: &[TableView<'_>],
+    catalog: &Catalog,
+    bound: &[BoundTable],
+    user: &str,
 ) -> Result<BoundQuery, Cause>
-    ensures binds { Binds (statement_name_causes (map table_shape tables.now) (statement_tree statement.now))
-        (statement_type_causes (map table_shape tables.now) (statement_tree statement.now))
-        (meant (map table_shape tables.now) (statement_tree statement.now)) result }
-    ensures entries { IfOk result (λ b. All (IsEntryOf tables.now) b.entries.items) }
-    ensures kinds { IfOk result (λ b. bound_kinds b ≡ kinds_of_answer (map table_shape tables.now) (statement_tree statement.now)) }
-    ensures safe { IfOk result (λ b. are_safe_cores b.select.cores.items ≡ true) }
+    requires many { length bound.now ≡ length (objects catalog.now).tables }
+    requires once { AreNamedOnce (objects catalog.now) }
+    ensures { BindsOver (objects catalog.now) (map attached bound.now) user.now (query_in (statement_tree statement.now)) result }
 {
-    bind_select(alloc, query_of(statement), tables)
+    let written = query_entries(alloc, query_of(statement))?;
+    check_rights(catalog, written.as_slice(), user)?;
+    let entries = placed_entries(alloc, catalog, bound, written.as_slice())?;
+    let tables = gathered(alloc, catalog, bound, written.as_slice())?;
+    let found = bind_views(alloc, statement, tables.as_slice(), user)?;
+    Ok(BoundQuery {
+        names: found.names,
+        entries,
+        select: found.select,
+        kinds: found.kinds,
+    })
 }
 
-/// What a statement means over the tables, or why it is refused (SQL:2016, 7.16 <query specification>).
+/// What a statement means over the tables of the catalogue, or why this user may not have it answered (SQL:2016, 7.16
+/// <query specification>).
 ///
-/// All names of the statement are looked up first: 42P01 where there is no such table or a qualifier names no visible entry, 42712 where
-/// two entries of a core have one name, 42703 where a name means no column and 42702 where it can mean several columns or outputs, 42601
-/// for `*` without FROM, 42P10 for an order key that is the position of no output, no output under DISTINCT, or none of a query with UNION
-/// ALL. Then its types are checked: 42804 where a condition is not boolean, 42883 where an operator or a function has no such operands,
-/// 42803 where a column or an aggregate stands where it may not in a query that groups, 22025 where a pattern of LIKE ends in a lone
-/// backslash, 0A000 for an ON that may fault; 42601 for cores of different widths, 42804 where their outputs are of different types. Of
-/// several causes of the first kind that stands any may be told; and 53200 where memory was refused.
-///
-/// There are no rights yet: each user may read each table.
+/// Each entry of FROM stands for the table of its name in the catalogue, and is read where `bound` says: a place for each table, in their
+/// order. 42704 where the user, the owner too, has no mapping on the server of one; then names and types as in `bind_views`, types
+/// where no cause of names or rights stands. It takes time by the entries, however many tables there are; and 53200 where memory was
+/// refused.
 pub fn bind(
     alloc: Global,
     statement: &Statement,
-    tables: &[TableView<'_>],
-    _user: &str,
+    catalog: &Catalog,
+    bound: &[BoundTable],
+    user: &str,
 ) -> Result<BoundQuery, Cause>
-    // What is answered means the statement.
-    ensures bound { IfOk result (λ b. IsBound (map table_shape tables.now) (statement_tree statement.now) b) }
-    // Its entries are the tables that they stand for.
-    ensures entries { IfOk result (λ b. All (IsEntryOf tables.now) b.entries.items) }
+    requires many { length bound.now ≡ length (objects catalog.now).tables }
+    requires once { AreNamedOnce (objects catalog.now) }
+    // What is answered has no cause against it.
+    ensures bindable { OnOk result (IsBindable (objects catalog.now) user.now (query_in (statement_tree statement.now))) }
+    // It means the statement.
+    ensures meant { IfOk result (λ b. IsMeant (meant_by (objects catalog.now) (query_in (statement_tree statement.now))) b) }
+    // Its entries are read where their tables are bound.
+    ensures places { IfOk result (λ b. ArePlaces (map attached bound.now)
+        (meant_by (objects catalog.now) (query_in (statement_tree statement.now))).entries (map entry_place b.entries.items)) }
     // They have the columns of their tables.
-    ensures widths { IfOk result (λ b. bound_widths b ≡ widths_of (map table_shape tables.now) (statement_tree statement.now)) }
+    ensures widths { IfOk result (λ b. bound_widths b
+        ≡ widths (query_scope (shapes (objects catalog.now)) (query_in (statement_tree statement.now)))) }
     // It tells the types of what each core answers.
-    ensures kinds { IfOk result (λ b. bound_kinds b ≡ kinds_of_answer (map table_shape tables.now) (statement_tree statement.now)) }
-    // It counts them from 0 through the chains of its cores, and a LEFT JOIN says how many columns its entry has.
-    ensures counts { IfOk result (λ b. FormCounts (bound_widths b) (form_of b.select)) }
-    // Each column is one of those in view of its core.
-    ensures view { IfOk result (λ b. FormWithin (bound_widths b) (form_of b.select)) }
-    // Its conjuncts compare columns of one type.
-    ensures alike { IfOk result (λ b. FormAlike (from_kinds (map table_shape tables.now) (statement_tree statement.now)) (form_of b.select)) }
+    ensures kinds { IfOk result (λ b. bound_kinds b
+        ≡ answer_types (shapes (objects catalog.now)) (query_in (statement_tree statement.now))) }
     // No ON of it may fault.
     ensures safe { IfOk result (λ b. are_safe_cores b.select.cores.items ≡ true) }
-    // A statement for which a cause of names or types stands is not answered.
-    ensures clear { OnOk result ((c : Cause) → BindCauses (map table_shape tables.now) (statement_tree statement.now) c → ⊥) }
-    // A refusal tells a cause that stands, one of names before one of types, or that memory was refused.
-    ensures refused { IfErr result (λ c. (c ≡ Cause.OutOfMemory)
-        ⊎ BindTells (map table_shape tables.now) (statement_tree statement.now) c) }
+    // A refusal tells a cause that stands, one of names or rights before one of types, or that memory was refused.
+    ensures refused { IfErr result (λ c. NotBound (objects catalog.now) user.now (query_in (statement_tree statement.now)) c) }
     // Where no cause stands, only memory can be refused.
-    ensures read { ((c : Cause) → BindCauses (map table_shape tables.now) (statement_tree statement.now) c → ⊥)
-        → IfErr result (λ c. c ≡ Cause.OutOfMemory) }
+    ensures read { ((c : AnyCause) → QueryNames (objects catalog.now) user.now (query_in (statement_tree statement.now)) c → ⊥)
+        → ((c : AnyCause) → QueryTypes (objects catalog.now) (query_in (statement_tree statement.now)) c → ⊥)
+        → IfErr result (λ c. c ≡ AnyCause.OutOfMemory) }
 {
-    bind_statement(alloc, statement, tables)
+    bind_over(alloc, statement, catalog, bound, user)
 }

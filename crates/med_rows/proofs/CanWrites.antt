@@ -9,8 +9,8 @@ use Rattle.fdw_api.specs.Calls.{NoScan}
 use Rattle.fdw_api.specs.Sound.{IsTableOf, IsSoundBox}
 use Rattle.med_exec.specs.Slots.{BoxAt}
 use Rattle.med_catalog.specs.Objects.{TableObject, Objects, table_named}
-use Rattle.bind_catalog.specs.Places.{Attached}
-use Rattle.bind_catalog.specs.Tables.{shapes}
+use Rattle.med_binder.specs.Places.{Attached}
+use Rattle.med_binder.specs.Tables.{shapes}
 use Rattle.med_write.specs.Form.{WriteForm, form_of}
 use Rattle.write_exec.specs.Writing.{IsTypedWrite, CanWrite}
 use Rattle.write_parts.specs.Meaning.{target_of, columns_in, write_meant}

@@ -16,9 +16,9 @@ use Rattle.med_exec.specs.Running.{AllServed, AllHonest}
 use Rattle.med_exec.proofs.Served.{box_inj}
 use Rattle.med_catalog.specs.Objects.{Objects}
 use Rattle.bind_names.specs.Meaning.{Meant}
-use Rattle.bind_catalog.specs.Places.{Attached}
-use Rattle.bind_catalog.specs.Queries.{meant_by}
-use Rattle.bind_catalog.specs.Tables.{shapes}
+use Rattle.med_binder.specs.Places.{Attached}
+use Rattle.med_binder.specs.Queries.{meant_by}
+use Rattle.med_binder.specs.Tables.{shapes}
 use Rattle.med_binder.specs.Binding.{IsMeant}
 use Rattle.med_binder.specs.declared.bound.BoundQuery.{BoundQuery}
 use Rattle.med_write.specs.declared.write.WrittenColumn.{WrittenColumn}

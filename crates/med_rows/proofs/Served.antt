@@ -11,7 +11,7 @@ use Rattle.med_exec.specs.Running.{AllServed, none_held}
 use Rattle.med_exec.proofs.Served.{ServedAlone, after_service, before_service, box_inj}
 use Rattle.med_syntax.specs.WriteTree.{WriteTree}
 use Rattle.med_catalog.specs.Objects.{Objects}
-use Rattle.bind_catalog.specs.Places.{Attached}
+use Rattle.med_binder.specs.Places.{Attached}
 use Rattle.med_rows.specs.Ready.{IsReady, IsUnread}
 
 was_there : (old new : List (Option BoxState)) → AllServed old new → (i : ℕ) (c : BoxState) → slice_get new i ≡ Some (Some c) → (b : BoxState) × (slice_get old i ≡ Some (Some b)) × ServedAlone b c

@@ -26,10 +26,10 @@ use Rattle.med_catalog.specs.Objects.{TableObject, Objects, table_named}
 use Rattle.bind_names.specs.Scope.{place_named, entry_place, entry_columns, query_entries, query_scope}
 use Rattle.bind_names.specs.Naming.{entry_causes, entered_causes, asked_causes, select_name_causes, once_known}
 use Rattle.bind_types.specs.Typing.{select_type_causes}
-use Rattle.bind_catalog.specs.Places.{Attached, IsPlaceOf, ArePlaces}
-use Rattle.bind_catalog.specs.Queries.{meant_by}
-use Rattle.bind_catalog.specs.Tables.{shapes}
-use Rattle.bind_catalog.proofs.Rows.{columns_there}
+use Rattle.med_binder.specs.Places.{Attached, IsPlaceOf, ArePlaces}
+use Rattle.med_binder.specs.Queries.{meant_by}
+use Rattle.med_binder.specs.Tables.{shapes}
+use Rattle.med_binder.proofs.Rows.{columns_there}
 use Rattle.med_binder.specs.Binding.{IsMeant}
 use Rattle.med_binder.specs.Counted.{bound_widths}
 use Rattle.med_binder.specs.Within.{widths}

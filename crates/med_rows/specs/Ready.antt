@@ -6,7 +6,7 @@ use Rattle.fdw_api.specs.Calls.{NoScan}
 use Rattle.fdw_api.specs.Sound.{IsTableOf, IsSoundBox}
 use Rattle.med_exec.specs.Slots.{BoxAt}
 use Rattle.med_catalog.specs.Objects.{TableObject, Objects}
-use Rattle.bind_catalog.specs.Places.{Attached}
+use Rattle.med_binder.specs.Places.{Attached}
 use Rattle.med_syntax.specs.WriteTree.{WriteTree}
 use Rattle.med_world.specs.Engine.{EachBox, IsUnstaged}
 use Rattle.med_world.specs.Writing.{IsTargetAt}

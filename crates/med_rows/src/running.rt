@@ -1,7 +1,7 @@
 //! Statements that write rows: bound, and done to the box of their table.
 ghost use Rattle.std.specs.Prelude.{◌≡◌, false, length, map, IfOk, IfErr};
-ghost use Rattle.bind_catalog.specs.Places.{attached};
-ghost use Rattle.bind_catalog.specs.Tables.{AreNamedOnce};
+ghost use Rattle.med_binder.specs.Places.{attached};
+ghost use Rattle.med_binder.specs.Tables.{AreNamedOnce};
 ghost use Rattle.med_catalog.specs.View.{objects};
 ghost use Rattle.med_exec.specs.Slots.{states};
 ghost use Rattle.med_world.specs.Writing.{WritesRows, WriteFails};
@@ -10,9 +10,9 @@ ghost use Rattle.write_laws.specs.Typed.{IsClean};
 ghost use Rattle.med_rows.specs.Ready.{IsReady, IsUnread};
 
 use crate::writing::write_rows;
-use bind_catalog::BoundTable;
 use bind_write::bind_write;
 use fdw_api::wishes::Wrapper2;
+use med_binder::BoundTable;
 use med_catalog::Catalog;
 use med_select::law::bound_queries_are_ready;
 use med_select::{is_large_query, run_query};

@@ -19,8 +19,8 @@ use Rattle.med_exec.specs.declared.running.Run.{Run}
 use Rattle.med_binder.specs.declared.bound.BoundQuery.{BoundQuery}
 use Rattle.med_value.specs.declared.cause.Cause.{Cause}
 use Rattle.med_catalog.specs.Objects.{Objects}
-use Rattle.bind_catalog.specs.Queries.{meant_by}
-use Rattle.bind_catalog.specs.Places.{Attached}
+use Rattle.med_binder.specs.Queries.{meant_by}
+use Rattle.med_binder.specs.Places.{Attached}
 use Rattle.med_world.specs.Altering.{cause_of}
 use Rattle.sql_meaning.specs.Sizes.{is_large_form}
 use Rattle.open_cursors.specs.Counted.{ReadsTables}
@@ -29,7 +29,7 @@ use Rattle.med_exec.specs.Starting.{AsksNone, ShowsAll, OpensScans}
 use Rattle.med_binder.specs.Counted.{bound_widths}
 use Rattle.med_binder.specs.Within.{widths}
 use Rattle.bind_names.specs.Scope.{query_scope}
-use Rattle.bind_catalog.specs.Tables.{shapes}
+use Rattle.med_binder.specs.Tables.{shapes}
 use Rattle.med_select.proofs.Selections.{ExpressionsIgnoreOrder, AnswersInAnyOrder, CausesInAnyOrder, IsBoundBy, steady, same_back, query_bound, entries_counted}
 
 -- what the run may give are answers in whatever order the rows of the entries come

@@ -26,10 +26,10 @@ use Rattle.med_binder.specs.declared.bound.BoundQuery.{BoundQuery}
 use Rattle.med_exec.specs.Counting.{BeginsScans}
 use Rattle.med_exec.specs.Slots.{BoxAt}
 use Rattle.med_catalog.specs.Objects.{TableObject, Objects, table_named}
-use Rattle.bind_catalog.specs.Places.{Attached, IsPlaceOf, ArePlaces}
-use Rattle.bind_catalog.specs.Queries.{meant_by, IsBindable}
-use Rattle.bind_catalog.specs.Tables.{shapes}
-use Rattle.bind_catalog.proofs.Rows.{columns_there}
+use Rattle.med_binder.specs.Places.{Attached, IsPlaceOf, ArePlaces}
+use Rattle.med_binder.specs.Queries.{meant_by, IsBindable}
+use Rattle.med_binder.specs.Tables.{shapes}
+use Rattle.med_binder.proofs.Rows.{columns_there}
 use Rattle.scan_loops.specs.Scans.{or_none, bound_in, bound_at}
 use Rattle.med_planner.specs.Premises.{IsOfKinds, AreOfKinds, SoundIsWide}
 use Rattle.med_exec.specs.BoundCounting.{scans_of, tables_in as tables_counted}

@@ -28,8 +28,8 @@ use Rattle.sql_meaning.specs.Causes.{query_of}
 use Rattle.sql_meaning.specs.Sizes.{is_large_form}
 use Rattle.med_syntax.specs.Tree.{Name}
 use Rattle.med_catalog.specs.Objects.{Objects}
-use Rattle.bind_catalog.specs.Queries.{meant_by, IsBindable}
-use Rattle.bind_catalog.specs.Places.{Attached, ArePlaces}
+use Rattle.med_binder.specs.Queries.{meant_by, IsBindable}
+use Rattle.med_binder.specs.Places.{Attached, ArePlaces}
 use Rattle.med_world.specs.Altering.{cause_of}
 use Rattle.med_world.specs.Selecting.{AnswersOver, Selects, SelectFails, run_fails, too_many}
 use Rattle.open_cursors.specs.Counted.{ReadsTables}

@@ -17,9 +17,9 @@ use Rattle.med_binder.specs.declared.bound.BoundQuery.{BoundQuery}
 use Rattle.med_exec.specs.Counting.{BeginsScans}
 use Rattle.med_exec.specs.Slots.{BoxAt}
 use Rattle.med_catalog.specs.Objects.{TableObject, Objects}
-use Rattle.bind_catalog.specs.Places.{Attached, ArePlaces}
-use Rattle.bind_catalog.specs.Queries.{meant_by}
-use Rattle.bind_catalog.specs.Tables.{shapes}
+use Rattle.med_binder.specs.Places.{Attached, ArePlaces}
+use Rattle.med_binder.specs.Queries.{meant_by}
+use Rattle.med_binder.specs.Tables.{shapes}
 use Rattle.med_exec.specs.BoundCounting.{scans_of}
 use Rattle.med_exec.specs.BoundRunning.{IsReady}
 use Rattle.open_cursors.specs.Counted.{ReadsTables}

@@ -4,7 +4,7 @@ ghost use Rattle.med_value.specs.declared.cause.Cause.TheVariants.{OutOfMemory};
 ghost use Rattle.med_syntax.specs.QueryTree.{EntryTree};
 ghost use Rattle.med_syntax.specs.QueryView.{statement_tree};
 ghost use Rattle.bind_names.specs.Seen.{seen_entry};
-ghost use Rattle.bind_catalog.specs.Looked.{query_in};
+ghost use Rattle.med_binder.specs.Looked.{query_in};
 ghost use Rattle.open_cursors.specs.Starting.{leases_of};
 
 use bind_names::query_entries;

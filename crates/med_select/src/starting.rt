@@ -1,7 +1,7 @@
 //! Queries of cursors: bound, and begun without a row being read from their runs.
-ghost use Rattle.bind_catalog.specs.Looked.{query_in};
-ghost use Rattle.bind_catalog.specs.Places.{attached};
-ghost use Rattle.bind_catalog.specs.Tables.{AreNamedOnce};
+ghost use Rattle.med_binder.specs.Looked.{query_in};
+ghost use Rattle.med_binder.specs.Places.{attached};
+ghost use Rattle.med_binder.specs.Tables.{AreNamedOnce};
 ghost use Rattle.med_catalog.specs.View.{objects};
 ghost use Rattle.med_exec.specs.Slots.{states};
 ghost use Rattle.med_select.specs.Ready.{AreReady};
@@ -14,8 +14,8 @@ use crate::law::bound_queries_are_ready;
 use crate::leasing::leased_tables;
 use crate::risk::is_risky_query;
 use crate::sizes::is_large_query;
-use bind_catalog::{BoundTable, bind};
 use fdw_api::wishes::Wrapper2;
+use med_binder::{BoundTable, bind};
 use med_catalog::Catalog;
 use med_exec::law::services_join;
 use med_exec::running::Run;

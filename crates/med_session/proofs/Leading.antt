@@ -7,7 +7,7 @@ use Rattle.med_syntax.specs.Tree.{Name}
 use Rattle.med_syntax.specs.QueryTree.{StatementTree, select}
 use Rattle.med_parser.specs.CommandTree.{CommandTree, on_data, on_rows, on_cursors, on_objects}
 use Rattle.med_syntax.specs.CursorTree.{declare, fetch, close}
-use Rattle.bind_catalog.specs.Looked.{query_in}
+use Rattle.med_binder.specs.Looked.{query_in}
 use Rattle.sql_meaning.specs.Requests.{AskedLine, opening, sql, bye}
 use Rattle.sql_meaning.specs.World.{World, Session}
 use Rattle.sql_meaning.specs.Picks.{Pick}

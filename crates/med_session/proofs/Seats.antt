@@ -3,7 +3,7 @@ use Rattle.std.proofs.Common.{◌≡◌, ℕ, ◌-◌, zero, suc, List, [], ◌�
 use Rattle.std.proofs.lemmas.List.{length-map, length-set}
 use Rattle.med_syntax.specs.CursorTree.{declare}
 use Rattle.med_syntax.specs.QueryTree.{StatementTree, select}
-use Rattle.bind_catalog.specs.Looked.{query_in}
+use Rattle.med_binder.specs.Looked.{query_in}
 use Rattle.open_cursors.specs.declared.cursors.Seat.{Seat}
 use Rattle.fdw_api.specs.State.{BoxState}
 use Rattle.med_exec.specs.Rests.{IsRunning}

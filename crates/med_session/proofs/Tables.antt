@@ -11,8 +11,8 @@ use Rattle.med_catalog.specs.Objects.{ServerObject, TableObject, Objects, server
 use Rattle.med_catalog.specs.Changes.{ObjectChange, new_server, new_table, no_table, no_server, changed, is_skipped, Asks, skips, makes}
 use Rattle.std.proofs.lemmas.List.{length-map, length_push}
 use Rattle.std.proofs.lemmas.Option.{slice_get-map}
-use Rattle.bind_catalog.specs.declared.bound.BoundTable.{BoundTable}
-use Rattle.bind_catalog.specs.Places.{Attached, attached}
+use Rattle.med_binder.specs.declared.bound_table.BoundTable.{BoundTable}
+use Rattle.med_binder.specs.Places.{Attached, attached}
 use Rattle.sql_meaning.specs.World.{is_taken, beside_without}
 use Rattle.med_world.specs.Engine.{Label, Shown, leased, IsNamedAt, IsStandingAt, IsServerAt, IsFirst, IsUnstaged, IsSound, with_change, Alters}
 use Rattle.med_value.specs.declared.cause.Cause.{Cause}

@@ -13,7 +13,7 @@ use Rattle.med_exec.specs.Pulling.{PullsNone}
 use Rattle.med_exec.specs.Running.{ServesRun, none_held}
 use Rattle.med_exec.specs.Rests.{held}
 use Rattle.med_catalog.specs.Objects.{Objects}
-use Rattle.bind_catalog.specs.Places.{Attached}
+use Rattle.med_binder.specs.Places.{Attached}
 use Rattle.open_cursors.specs.Open.{Opened, Seated, is_full, opened_named, without_named, with_run}
 use Rattle.open_cursors.specs.Starting.{Starts, StartFails}
 use Rattle.open_cursors.specs.Fetching.{GivesRows, GivesNone, HasRisen, PullsFetched, PullsEnded, cause_of}

@@ -3,7 +3,7 @@ use Rattle.std.specs.Prelude.{map, string_bytes}
 use Rattle.fdw_api.specs.State.{BoxState}
 use Rattle.med_exec.specs.Slots.{states}
 use Rattle.med_catalog.specs.View.{objects}
-use Rattle.bind_catalog.specs.Places.{attached}
+use Rattle.med_binder.specs.Places.{attached}
 use Rattle.open_cursors.specs.Open.{seats_shown}
 use Rattle.med_world.specs.Engine.{Label, Shown}
 use Rattle.med_session.specs.declared.sources.NamedSource.{NamedSource}

@@ -1,5 +1,5 @@
 //! Statements on objects: what the catalogue asks of them, and what the boxes of sources are asked for it.
-ghost use Rattle.bind_catalog.specs.Places.{attached};
+ghost use Rattle.med_binder.specs.Places.{attached};
 ghost use Rattle.med_syntax.specs.DdlView.{ddl_tree};
 ghost use Rattle.fdw_api.specs.Calls.{CanBind};
 ghost use Rattle.fdw_api.specs.State.{BoxState, IsIdle};

@@ -1,6 +1,6 @@
 //! Foreign tables that are bound in the boxes of their sources, or let go, and boxes that are dropped.
-ghost use Rattle.bind_catalog.specs.Places.{attached};
-ghost use Rattle.bind_catalog.specs.declared.bound.BoundTable.{BoundTable};
+ghost use Rattle.med_binder.specs.Places.{attached};
+ghost use Rattle.med_binder.specs.declared.bound_table.BoundTable.{BoundTable};
 ghost use Rattle.fdw_api.specs.Calls.{CanBind, CanUnbind, Unbinds};
 ghost use Rattle.fdw_api.specs.Kinds.{column_of, option_form};
 ghost use Rattle.fdw_api.specs.State.{IsIdle};
@@ -8,9 +8,9 @@ ghost use Rattle.med_exec.specs.Slots.{states, BoxAt, ChangesAt};
 ghost use Rattle.med_session.specs.Binding.{BindsLast, BindFails};
 ghost use Rattle.std.specs.Prelude.{◌≡◌, ◌<◌, None, Some, map, remove, slice_get, slice_set, length, IfErr, OnOk, OnErr};
 
-use bind_catalog::BoundTable;
 use fdw_api::interface::TableOption;
 use fdw_api::wishes::Wrapper2;
+use med_binder::BoundTable;
 use med_exec::slots::{bind_at, unbind_at};
 use med_select::cause_of;
 use med_value::{Cause, ColumnDef};

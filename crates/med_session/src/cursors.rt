@@ -3,9 +3,9 @@ ghost use Rattle.std.specs.Prelude.{◌≡◌, Contains, length, map, IfOk, OnOk
 ghost use Rattle.med_value.specs.Datum.{tuple};
 ghost use Rattle.med_syntax.specs.QueryView.{statement_tree};
 ghost use Rattle.med_syntax.specs.CursorView.{count_tree};
-ghost use Rattle.bind_catalog.specs.Looked.{query_in};
-ghost use Rattle.bind_catalog.specs.Places.{attached};
-ghost use Rattle.bind_catalog.specs.Tables.{AreNamedOnce};
+ghost use Rattle.med_binder.specs.Looked.{query_in};
+ghost use Rattle.med_binder.specs.Places.{attached};
+ghost use Rattle.med_binder.specs.Tables.{AreNamedOnce};
 ghost use Rattle.med_catalog.specs.View.{objects};
 ghost use Rattle.med_exec.specs.Slots.{states};
 ghost use Rattle.med_select.specs.Ready.{AreReady};
@@ -14,8 +14,8 @@ ghost use Rattle.open_cursors.specs.Open.{Opened, seated};
 ghost use Rattle.med_world.specs.Seats.{IsSoundSeat};
 ghost use Rattle.med_session.specs.Cursors.{Opens, OpensNone, Fetched, NotFetched, Ended, NotEnded, cause_in};
 
-use bind_catalog::BoundTable;
 use fdw_api::wishes::Wrapper2;
+use med_binder::BoundTable;
 use med_catalog::Catalog;
 use med_exec::law::{running_is_held, services_join};
 use med_select::{RowSet, Started, cause_of, start_select};

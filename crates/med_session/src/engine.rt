@@ -5,8 +5,8 @@ use crate::places::{close_seats, closed_sessions, is_open, put_seat, take_seat, 
 use crate::session::{NoRoom, Request, Sid};
 use crate::sources::NamedSource;
 use crate::users::is_user;
-use bind_catalog::BoundTable;
 use fdw_api::wishes::Wrapper2;
+use med_binder::BoundTable;
 use med_catalog::Catalog;
 use med_parser::{Command, one_tree, parse};
 use med_rows::run_write;

@@ -1,6 +1,6 @@
 //! Statements on cursors: DECLARE, FETCH and CLOSE in the session that asks them.
 ghost use Rattle.std.specs.Prelude.{ℕ, List, IsSome, string_bytes};
-ghost use Rattle.bind_catalog.specs.Looked.{query_in};
+ghost use Rattle.med_binder.specs.Looked.{query_in};
 ghost use Rattle.med_syntax.specs.CursorTree.{declare as declare_tree, fetch as fetch_tree, close as close_tree};
 ghost use Rattle.med_syntax.specs.CursorView.{count_tree, cursor_tree};
 ghost use Rattle.med_parser.specs.CommandTree.{on_cursors};

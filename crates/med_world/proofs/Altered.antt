@@ -14,7 +14,7 @@ use Rattle.fdw_api.specs.declared.interface.Fault.{Fault}
 use Rattle.med_exec.specs.Slots.{ChangesAt}
 use Rattle.med_catalog.specs.Objects.{ServerObject, TableObject, Objects, server_named}
 use Rattle.med_catalog.specs.Changes.{ObjectChange, new_table, no_server, no_table, changed}
-use Rattle.bind_catalog.specs.Places.{Attached}
+use Rattle.med_binder.specs.Places.{Attached}
 use Rattle.sql_meaning.specs.World.{World, Source, SourceState, standing, dropped, source_named, drop_source, drop_source_of, IsStanding, Serves, beside_without}
 use Rattle.sql_meaning.specs.Picks.{Pick, no_pick}
 use Rattle.sql_meaning.specs.Causes.{Reads, PicksEntry}

@@ -12,8 +12,8 @@ use Rattle.fdw_api.specs.State.{BoxState}
 use Rattle.med_binder.specs.Place.{Place}
 use Rattle.med_exec.specs.Running.{AllServed, SlotShows, IsUsedUp}
 use Rattle.bind_names.specs.Meaning.{Meant}
-use Rattle.bind_catalog.specs.Queries.{meant_by, IsBindable}
-use Rattle.bind_catalog.specs.Places.{ArePlaces}
+use Rattle.med_binder.specs.Queries.{meant_by, IsBindable}
+use Rattle.med_binder.specs.Places.{ArePlaces}
 use Rattle.sql_meaning.specs.Sizes.{is_large_form}
 use Rattle.sql_meaning.specs.Requests.{sql, IsSid}
 use Rattle.sql_meaning.specs.Picks.{no_pick}

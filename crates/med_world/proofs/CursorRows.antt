@@ -8,9 +8,9 @@ use Rattle.med_syntax.specs.QueryTree.{EntryTree, SelectTree, cores_of}
 use Rattle.fdw_api.specs.Kinds.{Held}
 use Rattle.bind_names.specs.Scope.{TableShape, place_named, query_entries, is_known, entry_place}
 use Rattle.bind_names.specs.Naming.{entry_causes, core_alias_causes, entered_causes, asked_causes, once_known}
-use Rattle.bind_catalog.specs.Tables.{shapes}
-use Rattle.bind_catalog.specs.Queries.{meant_by, IsBindable}
-use Rattle.bind_catalog.specs.Places.{Attached, IsPlaceOf, ArePlaces}
+use Rattle.med_binder.specs.Tables.{shapes}
+use Rattle.med_binder.specs.Queries.{meant_by, IsBindable}
+use Rattle.med_binder.specs.Places.{Attached, IsPlaceOf, ArePlaces}
 use Rattle.med_binder.specs.Place.{Place}
 use Rattle.med_exec.specs.declared.running.Run.{Run}
 use Rattle.open_cursors.specs.Open.{Opened, leases_table}

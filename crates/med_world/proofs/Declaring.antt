@@ -14,8 +14,8 @@ use Rattle.med_exec.specs.Rests.{held}
 use Rattle.med_parser.specs.CommandTree.{CommandTree, on_cursors}
 use Rattle.med_syntax.specs.CursorTree.{declare}
 use Rattle.bind_names.specs.Meaning.{Meant}
-use Rattle.bind_catalog.specs.Queries.{QueryNames, QueryTypes, meant_by, IsBindable, NotBound}
-use Rattle.bind_catalog.specs.Places.{ArePlaces}
+use Rattle.med_binder.specs.Queries.{QueryNames, QueryTypes, meant_by, IsBindable, NotBound}
+use Rattle.med_binder.specs.Places.{ArePlaces}
 use Rattle.med_catalog.specs.Objects.{Objects}
 use Rattle.open_cursors.specs.Open.{Seated, is_full, opened_named}
 use Rattle.med_query.specs.Form.{is_risky_form}

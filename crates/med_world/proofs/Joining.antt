@@ -6,7 +6,7 @@ use Rattle.fdw_api.specs.Kinds.{Held}
 use Rattle.fdw_api.specs.State.{BoxState, BoxTable, IsIdle, is_honest, table_of}
 use Rattle.fdw_api.specs.Sound.{IsSoundBox}
 use Rattle.med_catalog.specs.declared.kind.SourceKind.{SourceKind}
-use Rattle.bind_catalog.specs.Places.{Attached}
+use Rattle.med_binder.specs.Places.{Attached}
 use Rattle.med_value.specs.Limits.{source_limit}
 use Rattle.sql_meaning.specs.World.{World, Source, standing, with_source}
 use Rattle.med_world.specs.Engine.{Label, Shown, EachBox, EachTakes, TakesAs, IsNamedAt, IsAmong, IsSound, state_of, sources_of, RowsAgree, Agrees}

@@ -18,9 +18,9 @@ use Rattle.med_catalog.specs.Objects.{TableObject, Objects, table_named}
 use Rattle.med_catalog.specs.Rights.{mode_for}
 use Rattle.med_catalog.specs.declared.kind.Mode.{Mode}
 use Rattle.med_catalog.specs.DdlCauses.{DdlCauses}
-use Rattle.bind_catalog.specs.Tables.{shapes}
-use Rattle.bind_catalog.specs.Barred.{reading_causes, table_causes, query_right_causes}
-use Rattle.bind_catalog.specs.Queries.{QueryNames}
+use Rattle.med_binder.specs.Tables.{shapes}
+use Rattle.med_binder.specs.Barred.{reading_causes, table_causes, query_right_causes}
+use Rattle.med_binder.specs.Queries.{QueryNames}
 use Rattle.sql_meaning.specs.Causes.{phase}
 use Rattle.med_world.proofs.Kept.{asks_once}
 use Rattle.med_world.proofs.Objecting.{AreObjects}

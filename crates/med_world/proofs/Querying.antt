@@ -19,8 +19,8 @@ use Rattle.med_exec.specs.Slots.{BoxAt}
 use Rattle.med_exec.specs.Running.{SlotShows, HasFailed, HonestOver}
 use Rattle.bind_names.specs.Meaning.{Meant}
 use Rattle.med_catalog.specs.Objects.{Objects}
-use Rattle.bind_catalog.specs.Queries.{QueryNames, QueryTypes, meant_by, IsBindable, NotBound}
-use Rattle.bind_catalog.specs.Places.{Attached, IsPlaceOf, ArePlaces}
+use Rattle.med_binder.specs.Queries.{QueryNames, QueryTypes, meant_by, IsBindable, NotBound}
+use Rattle.med_binder.specs.Places.{Attached, IsPlaceOf, ArePlaces}
 use Rattle.sql_meaning.specs.Sizes.{is_large_form}
 use Rattle.sql_meaning.specs.Requests.{sql}
 use Rattle.med_parser.specs.CommandTree.{on_data}

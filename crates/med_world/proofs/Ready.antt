@@ -5,7 +5,7 @@ use Rattle.fdw_api.specs.State.{BoxState, BoxTable, table_of}
 use Rattle.fdw_api.specs.Calls.{CanBind, CanUnbind}
 use Rattle.med_exec.specs.Slots.{BoxAt}
 use Rattle.med_catalog.specs.Objects.{ServerObject, TableObject, Objects, server_named}
-use Rattle.bind_catalog.specs.Places.{Attached}
+use Rattle.med_binder.specs.Places.{Attached}
 use Rattle.med_world.specs.Engine.{Label, Shown, leased, IsServerAt, IsBoundAs, IsAmong, IsSound}
 use Rattle.med_world.proofs.Lists.{some_same}
 use Rattle.med_world.proofs.Faring.{same_box}

@@ -18,8 +18,8 @@ use Rattle.med_query.specs.Causes.{IsShownCause}
 use Rattle.med_planner.specs.Planned.{entry_rows}
 use Rattle.med_catalog.specs.Objects.{Objects}
 use Rattle.bind_names.specs.Meaning.{Meant}
-use Rattle.bind_catalog.specs.Places.{Attached}
-use Rattle.bind_catalog.specs.Queries.{meant_by}
+use Rattle.med_binder.specs.Places.{Attached}
+use Rattle.med_binder.specs.Queries.{meant_by}
 use Rattle.med_write.specs.declared.write.WriteFault.{WriteFault}
 use Rattle.med_write.specs.declared.write.WriteFault.TheVariants.{Evaluation, NotNull}
 use Rattle.med_write.specs.Form.{WriteForm}

@@ -23,9 +23,9 @@ use Rattle.med_exec.proofs.Served.{all_served}
 use Rattle.med_query.specs.Causes.{IsShownCause, wrong_cause}
 use Rattle.med_catalog.specs.Objects.{TableObject, Objects}
 use Rattle.bind_names.specs.Meaning.{Meant}
-use Rattle.bind_catalog.specs.Places.{Attached}
-use Rattle.bind_catalog.specs.Queries.{meant_by}
-use Rattle.bind_catalog.specs.Tables.{shapes}
+use Rattle.med_binder.specs.Places.{Attached}
+use Rattle.med_binder.specs.Queries.{meant_by}
+use Rattle.med_binder.specs.Tables.{shapes}
 use Rattle.med_write.specs.declared.write.WrittenColumn.{WrittenColumn}
 use Rattle.med_write.specs.Form.{WriteForm}
 use Rattle.med_write.specs.Writing.{chosen_by, choice_faults, rows_written, write_faults, write_lacks, changes_of}

@@ -17,7 +17,7 @@ use Rattle.med_exec.proofs.Served.{box_inj, before_service}
 use Rattle.med_exec.proofs.Leaving.{in_or_not, is_some_of, served_leaves, served_had, served_fresh}
 use Rattle.med_exec.proofs.Left.{run_goes_on, run_is_held, held_is_live}
 use Rattle.med_catalog.specs.Objects.{TableObject}
-use Rattle.bind_catalog.specs.Places.{Attached}
+use Rattle.med_binder.specs.Places.{Attached}
 use Rattle.open_cursors.specs.Open.{Opened, Seated, AreNamedApart, leases_table, seat_leases, any_leases, held_by, AreHeld, AreOwn, seat_cursors, all_cursors}
 use Rattle.med_world.specs.Seats.{seat_in, seat_of, IsSoundSeat, AreSoundSeats, IsOpenAt}
 use Rattle.med_world.specs.Engine.{Shown, leased, EachBox, IsAtRest, LeasesNumber, IsOwned, AreHeldOnce, IsUnstaged, KeepsScans, IsSound, Agrees}

@@ -14,7 +14,7 @@ use Rattle.med_exec.specs.Leaving.{KeepsScan, LeavesScan, LeavesRun}
 use Rattle.med_exec.proofs.Leaving.{is_some_of}
 use Rattle.med_catalog.specs.Objects.{TableObject}
 use Rattle.med_catalog.specs.Changes.{ObjectChange, new_table, no_table, no_server, changed, without}
-use Rattle.bind_catalog.specs.Places.{Attached}
+use Rattle.med_binder.specs.Places.{Attached}
 use Rattle.open_cursors.specs.Open.{Opened}
 use Rattle.sql_meaning.specs.World.{beside_without}
 use Rattle.med_world.specs.Seats.{IsOpenAt}

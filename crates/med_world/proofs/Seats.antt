@@ -8,7 +8,7 @@ use Rattle.med_syntax.specs.Tree.{Name}
 use Rattle.fdw_api.specs.Kinds.{Held}
 use Rattle.fdw_api.specs.State.{BoxState}
 use Rattle.med_exec.specs.Rests.{Rests}
-use Rattle.bind_catalog.specs.Places.{Attached}
+use Rattle.med_binder.specs.Places.{Attached}
 use Rattle.med_catalog.specs.Objects.{TableObject, Objects, table_named}
 use Rattle.med_catalog.specs.Changes.{new_table, no_table, without}
 use Rattle.open_cursors.specs.Open.{Opened, Seated, leases_table, seat_leases, any_leases}

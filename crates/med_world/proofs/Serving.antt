@@ -13,7 +13,7 @@ use Rattle.med_value.specs.Limits.{session_count}
 use Rattle.open_cursors.specs.Open.{Seated}
 use Rattle.med_world.specs.Seats.{AreSoundSeats}
 use Rattle.med_catalog.specs.Options.{table_settings, column_settings}
-use Rattle.bind_catalog.specs.Places.{Attached}
+use Rattle.med_binder.specs.Places.{Attached}
 use Rattle.sql_meaning.specs.World.{World, Source, SourceState, standing, dropped}
 use Rattle.med_world.specs.Engine.{Label, Shown, EachBox, KeepsScans, IsSound, state_of, sources_of, AreRowsOf, RowsAgree, Agrees, Rises, EachRises}
 use Rattle.med_world.proofs.Seats.{sessions_still}

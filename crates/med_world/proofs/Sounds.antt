@@ -12,7 +12,7 @@ use Rattle.med_exec.specs.Slots.{ChangesAt}
 use Rattle.med_catalog.specs.Objects.{ServerObject, TableObject, Objects, server_named}
 use Rattle.med_catalog.specs.Changes.{ObjectChange, new_table, no_table, no_server, changed}
 use Rattle.med_catalog.specs.Options.{table_settings, column_settings}
-use Rattle.bind_catalog.specs.Places.{Attached}
+use Rattle.med_binder.specs.Places.{Attached}
 use Rattle.sql_meaning.specs.World.{beside_without}
 use Rattle.med_world.specs.Engine.{Label, Shown, leased, EachTakes, EachBox, IsUnstaged, AreSound, IsServerAt, IsStandingAt, IsWrittenAs, IsBoundAs, IsAmong, IsSound, with_change, BindsTable, UnbindsTable, DropsBox}
 use Rattle.med_world.specs.Altering.{BindsInVain}

@@ -6,8 +6,8 @@ use Rattle.med_syntax.specs.Tree.{Name}
 use Rattle.fdw_api.specs.Kinds.{Held}
 use Rattle.fdw_api.specs.State.{BoxState}
 use Rattle.bind_names.specs.Scope.{place_from}
-use Rattle.bind_catalog.specs.Tables.{shape_of}
-use Rattle.bind_catalog.specs.Places.{Attached}
+use Rattle.med_binder.specs.Tables.{shape_of}
+use Rattle.med_binder.specs.Places.{Attached}
 use Rattle.med_catalog.specs.Objects.{TableObject}
 use Rattle.sql_meaning.specs.World.{Source, SourceState, rows_named, rows_with, with_state}
 use Rattle.med_world.specs.Engine.{Label, IsNamedAt, IsFirst, state_of, sources_of, AreRowsOf, RowsAgree}

@@ -16,7 +16,7 @@ use Rattle.med_write.specs.Writing.{rows_after}
 use Rattle.write_exec.proofs.WrittenRows.{rows_written}
 use Rattle.write_parts.specs.Meaning.{target_of}
 use Rattle.med_catalog.specs.Objects.{ServerObject, TableObject, Objects, server_named, table_named}
-use Rattle.bind_catalog.specs.Places.{Attached}
+use Rattle.med_binder.specs.Places.{Attached}
 use Rattle.sql_meaning.specs.World.{World, standing, rows_with, rows_named, holding_at, holds_at, with_state}
 use Rattle.sql_meaning.specs.Causes.{rows_held, IsTarget}
 use Rattle.sql_meaning.specs.Steps.{holding_after}

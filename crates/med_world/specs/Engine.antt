@@ -15,8 +15,8 @@ use Rattle.med_exec.specs.Rests.{held as scans_held, IsRunning}
 use Rattle.med_exec.specs.Pulling.{pulled_at, PullsAtMost, PullsNone, many_in}
 use Rattle.med_exec.specs.declared.running.Run.{Run}
 use Rattle.med_planner.specs.Plain.{IsPlainForm}
-use Rattle.bind_catalog.specs.Places.{Attached, ArePlaces}
-use Rattle.bind_catalog.specs.Queries.{meant_by}
+use Rattle.med_binder.specs.Places.{Attached, ArePlaces}
+use Rattle.med_binder.specs.Queries.{meant_by}
 use Rattle.med_value.specs.Limits.{session_count, source_limit}
 use Rattle.sql_meaning.specs.Requests.{AskedLine, sql, IsSid, IsUser}
 use Rattle.med_catalog.specs.declared.kind.SourceKind.{SourceKind}

@@ -16,8 +16,8 @@ use Rattle.med_planner.specs.Planned.{entry_rows}
 use Rattle.med_exec.specs.Running.{AllServed, HonestOver}
 use Rattle.open_cursors.specs.Counted.{ReadsTables}
 use Rattle.open_cursors.specs.Starting.{RunFails}
-use Rattle.bind_catalog.specs.Queries.{meant_by, IsBindable, NotBound}
-use Rattle.bind_catalog.specs.Places.{Attached, ArePlaces}
+use Rattle.med_binder.specs.Queries.{meant_by, IsBindable, NotBound}
+use Rattle.med_binder.specs.Places.{Attached, ArePlaces}
 use Rattle.med_catalog.specs.Objects.{Objects}
 use Rattle.sql_meaning.specs.Causes.{query_of}
 use Rattle.sql_meaning.specs.Sizes.{is_large_form}

@@ -13,9 +13,9 @@ use Rattle.med_exec.specs.Slots.{ChangesAt}
 use Rattle.med_exec.specs.Running.{AllServed, AllHonest}
 use Rattle.med_catalog.specs.Objects.{Objects}
 use Rattle.bind_names.specs.Scope.{place_named}
-use Rattle.bind_catalog.specs.Places.{Attached, ArePlaces}
-use Rattle.bind_catalog.specs.Queries.{meant_by}
-use Rattle.bind_catalog.specs.Tables.{shapes}
+use Rattle.med_binder.specs.Places.{Attached, ArePlaces}
+use Rattle.med_binder.specs.Queries.{meant_by}
+use Rattle.med_binder.specs.Tables.{shapes}
 use Rattle.med_write.specs.declared.write.WrittenColumn.{WrittenColumn}
 use Rattle.med_write.specs.Form.{WriteForm}
 use Rattle.write_exec.specs.Writing.{CanWrite, Writes, RefusesWrite}

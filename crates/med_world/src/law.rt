@@ -27,7 +27,7 @@ ghost use Rattle.med_catalog.specs.Objects.{TableObject, Objects};
 ghost use Rattle.med_catalog.specs.Changes.{ObjectChange, new_table, no_table, no_server, Asks};
 ghost use Rattle.med_catalog.specs.DdlCauses.{IsTold as IsToldBy, NoneStands, nothing_leased, ddl_rows};
 ghost use Rattle.med_catalog.specs.declared.kind.SourceKind.{SourceKind as AnyKind};
-ghost use Rattle.bind_catalog.specs.Places.{Attached};
+ghost use Rattle.med_binder.specs.Places.{Attached};
 ghost use Rattle.sql_meaning.specs.Causes.{IsTold};
 ghost use Rattle.sql_meaning.specs.Picks.{Pick};
 ghost use Rattle.med_value.specs.Limits.{session_count};

@@ -24,9 +24,9 @@ use Rattle.med_exec.specs.Running.{HonestOver, AllServed, ServesRun, SlotShows, 
 use Rattle.med_exec.specs.Rests.{Rests, held, IsRunning}
 use Rattle.med_exec.specs.Pulling.{PullsNone, GivesAsTheyCome}
 use Rattle.med_catalog.specs.Objects.{Objects}
-use Rattle.bind_catalog.specs.Queries.{meant_by, IsBindable, NotBound}
-use Rattle.bind_catalog.specs.Places.{Attached, ArePlaces}
-use Rattle.bind_catalog.specs.Tables.{shapes}
+use Rattle.med_binder.specs.Queries.{meant_by, IsBindable, NotBound}
+use Rattle.med_binder.specs.Places.{Attached, ArePlaces}
+use Rattle.med_binder.specs.Tables.{shapes}
 use Rattle.sql_meaning.specs.Sizes.{is_large_form}
 use Rattle.open_cursors.specs.Counted.{ReadsTables}
 -- of which tables the scans are that a run holds

@@ -2,7 +2,7 @@
 
 ghost use Rattle.std.specs.Prelude.{◌≡◌, length};
 
-use med_binder::{BoundQuery, TableView, bind};
+use med_binder::{BoundQuery, TableView, bind_views};
 use med_query::SelectCore;
 use med_syntax::{Chain, Core, Entry, Expr, Item, Select as Written, SetClause, Statement};
 use med_value::{Cause, ColumnDef, NoMemory};
@@ -81,7 +81,7 @@ pub fn asked(
         limit: None,
         offset: None,
     });
-    let bound = bind(alloc, &query, tables, "ann")?;
+    let bound = bind_views(alloc, &query, tables, "ann")?;
     let BoundQuery { select, .. } = bound;
     Ok(only_core(select.cores))
 }

@@ -2,7 +2,7 @@
 
 use crate::after::{After, copied};
 use crate::asking::{asked, items_of};
-use med_binder::{BoundQuery, TableView, bind};
+use med_binder::{BoundQuery, TableView, bind_views};
 use med_syntax::{Expr, Statement};
 use med_value::{Cause, ColumnDef, NoMemory, Row, Value};
 use plain_select::plain_answer;
@@ -85,7 +85,7 @@ pub fn rows_of_query(
     rows: &[Vec<Row>],
     after: &mut After,
 ) -> Result<Vec<Row>, Cause> {
-    let bound = bind(alloc, query, tables, "ann")?;
+    let bound = bind_views(alloc, query, tables, "ann")?;
     let entries = entry_rows(alloc, &bound, rows)?;
     match plain_answer(alloc, &bound.select, &entries) {
         Ok(answer) => Ok(answer),

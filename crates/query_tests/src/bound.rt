@@ -1,7 +1,7 @@
 //! Texts bound over the tables parts, orders and "Odd", and what is told of them.
 use crate::expect::{cut, same_text};
 use fdw_api::wishes::OrderKey;
-use med_binder::{BoundQuery, TableView, bind};
+use med_binder::{BoundQuery, TableView, bind_views};
 use med_parser::{Command, parse};
 use med_planner::{LoopOffer, offer_core, wish_of};
 use med_query::SelectCore;
@@ -87,7 +87,7 @@ fn bound(alloc: Global, text: &str) -> Result<Result<BoundQuery, Cause>, Fail> {
         table("orders", orders.as_slice()),
         table("Odd", odd.as_slice()),
     ];
-    Ok(bind(alloc, &statement, &tables, "ann"))
+    Ok(bind_views(alloc, &statement, &tables, "ann"))
 }
 
 /// What is told of a bound query.

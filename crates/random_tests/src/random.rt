@@ -16,7 +16,7 @@ use fdw_api::wishes::Wrapper2;
 use fed_cli::Ended;
 use fed_cli::serving::serve_engine;
 use list_wrapper::{ListTable, ListWrapper};
-use med_binder::{BoundQuery, TableView, bind};
+use med_binder::{BoundQuery, TableView, bind_views};
 use med_parser::{Command, parse};
 use med_session::{Engine, Request, Sid, SourceKind};
 use med_value::text::row_text;
@@ -305,7 +305,7 @@ fn bound(alloc: Global, query: &str) -> Result<BoundQuery, Fail> {
     let Command::Data(statement) = parse(alloc, query)? else {
         return Err(query.into());
     };
-    Ok(bind(alloc, &statement, &tables, "ann")?)
+    Ok(bind_views(alloc, &statement, &tables, "ann")?)
 }
 
 // The rows of each entry of FROM.

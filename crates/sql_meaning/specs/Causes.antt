@@ -26,8 +26,8 @@ use Rattle.write_parts.specs.Typing.{WriteTypes}
 use Rattle.med_catalog.specs.Objects.{TableObject, table_named}
 use Rattle.med_catalog.specs.Changes.{ObjectChange, new_server, new_table, Asks}
 use Rattle.med_catalog.specs.DdlCauses.{DdlCauses}
-use Rattle.bind_catalog.specs.Tables.{shapes}
-use Rattle.bind_catalog.specs.Queries.{meant_by, QueryNames, QueryTypes}
+use Rattle.med_binder.specs.Tables.{shapes}
+use Rattle.med_binder.specs.Queries.{meant_by, QueryNames, QueryTypes}
 use Rattle.med_parser.specs.CommandTree.{CommandTree, on_data, on_rows, on_cursors, on_objects}
 use Rattle.med_parser.specs.CommandGrammar.{HasCommand}
 use Rattle.med_value.specs.Limits.{cursor_limit}

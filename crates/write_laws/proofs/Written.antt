@@ -21,7 +21,7 @@ use Rattle.bind_names.specs.Meaning.{resolved, conditions_of}
 use Rattle.bind_types.specs.TreeTypes.{column_kinds}
 use Rattle.bind_types.specs.Typing.{core_types, answer_types, select_type_causes}
 use Rattle.med_catalog.specs.Objects.{Objects}
-use Rattle.bind_catalog.specs.Tables.{shapes}
+use Rattle.med_binder.specs.Tables.{shapes}
 use Rattle.write_parts.proofs.Lists.{left_empty, right_empty, empty_by}
 use Rattle.write_parts.specs.Meaning.{target_of, columns_in, scope_in, set_for, cells_meant, places_meant, row_meant, given_meant, write_meant}
 use Rattle.write_parts.specs.Naming.{set_values}

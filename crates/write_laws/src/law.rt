@@ -5,7 +5,7 @@ ghost use Rattle.med_value.specs.declared.cause.Cause.{Cause as AnyCause};
 ghost use Rattle.med_query.specs.Query.{Tables};
 ghost use Rattle.med_syntax.specs.WriteTree.{WriteTree};
 ghost use Rattle.med_catalog.specs.Objects.{Objects};
-ghost use Rattle.bind_catalog.specs.Tables.{shapes};
+ghost use Rattle.med_binder.specs.Tables.{shapes};
 ghost use Rattle.write_parts.specs.Meaning.{target_of, columns_in, write_meant};
 ghost use Rattle.bind_types.specs.TreeTypes.{column_kinds};
 ghost use Rattle.write_parts.specs.Typing.{WriteTypes};

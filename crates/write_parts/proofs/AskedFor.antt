@@ -23,9 +23,9 @@ use Rattle.med_binder.specs.Binding.{IsMeant}
 use Rattle.med_binder.specs.declared.bound.BoundQuery.{BoundQuery}
 use Rattle.med_binder.specs.Turns.{TellsInTurn}
 use Rattle.med_catalog.specs.Objects.{Objects}
-use Rattle.bind_catalog.specs.Barred.{query_right_causes}
-use Rattle.bind_catalog.specs.Tables.{shapes}
-use Rattle.bind_catalog.specs.Queries as queries
+use Rattle.med_binder.specs.Barred.{query_right_causes}
+use Rattle.med_binder.specs.Tables.{shapes}
+use Rattle.med_binder.specs.Queries as queries
 use Rattle.bind_types.proofs.OutputPlaces.{alone_fits}
 use Rattle.write_parts.specs.Typing.{asked_types}
 use Rattle.write_parts.specs.declared.asking.AskedValues.{AskedValues}

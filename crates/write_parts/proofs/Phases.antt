@@ -25,9 +25,9 @@ use Rattle.med_catalog.specs.Options.{repeats}
 use Rattle.med_catalog.specs.Rights.{mode_for}
 use Rattle.med_catalog.specs.declared.kind.Mode.{Mode}
 use Rattle.med_catalog.specs.declared.kind.Mode.TheVariants.{Read, Write}
-use Rattle.bind_catalog.specs.Barred.{writing_causes, table_causes, target_right_causes}
-use Rattle.bind_catalog.specs.Tables.{shapes}
-use Rattle.bind_catalog.proofs.Phases as of_query
+use Rattle.med_binder.specs.Barred.{writing_causes, table_causes, target_right_causes}
+use Rattle.med_binder.specs.Tables.{shapes}
+use Rattle.med_binder.proofs.Phases as of_query
 use Rattle.write_parts.specs.Meaning.{target_of, columns_in, scope_in, cells_meant, places_meant, row_meant}
 use Rattle.write_parts.specs.Naming.{target_causes, is_column, column_unknown, list_causes, named_causes, row_name_causes, insert_name_causes, set_names, set_values, write_name_causes, given_right_causes, read_right_causes, write_right_causes, WriteNames}
 use Rattle.write_parts.specs.Typing.{column_causes, cells_causes, asked_types, set_types, count_causes, type_at, row_fit_causes, length_causes, row_types, row_type_causes, rows_fit_causes, given_type_causes, write_type_causes, WriteTypes}

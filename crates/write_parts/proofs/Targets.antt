@@ -9,11 +9,11 @@ use Rattle.med_catalog.specs.Objects.{TableObject, Objects, table_named}
 use Rattle.med_catalog.specs.Rights.{mode_for}
 use Rattle.med_catalog.specs.declared.kind.Mode.{Mode}
 use Rattle.med_catalog.specs.declared.kind.Mode.TheVariants.{Read, Write}
-use Rattle.bind_catalog.specs.Barred.{reading_causes, writing_causes, table_causes, target_right_causes}
-use Rattle.bind_catalog.specs.Tables.{shapes, AreNamedOnce}
-use Rattle.bind_catalog.specs.Places.{attached, IsPlaceOf}
-use Rattle.bind_catalog.specs.declared.bound.BoundTable.{BoundTable}
-use Rattle.bind_catalog.proofs.Rows.{causes_missing, causes_there, columns_there, place_found, within_by}
+use Rattle.med_binder.specs.Barred.{reading_causes, writing_causes, table_causes, target_right_causes}
+use Rattle.med_binder.specs.Tables.{shapes, AreNamedOnce}
+use Rattle.med_binder.specs.Places.{attached, IsPlaceOf}
+use Rattle.med_binder.specs.declared.bound_table.BoundTable.{BoundTable}
+use Rattle.med_binder.proofs.Rows.{causes_missing, causes_there, columns_there, place_found, within_by}
 use Rattle.write_parts.specs.Meaning.{columns_in}
 use Rattle.write_parts.specs.Naming.{target_causes}
 

@@ -12,9 +12,9 @@ use Rattle.bind_names.specs.Meaning.{resolved, conditions_of}
 use Rattle.bind_names.specs.Telling.{TellsCause}
 use Rattle.med_binder.specs.Turns.{TellsInTurn}
 use Rattle.med_catalog.specs.Objects.{Objects, table_named}
-use Rattle.bind_catalog.specs.Barred.{reading_causes, table_causes, target_right_causes}
-use Rattle.bind_catalog.specs.Tables.{shapes}
-use Rattle.bind_catalog.specs.Places.{Attached, IsPlaceOf}
+use Rattle.med_binder.specs.Barred.{reading_causes, table_causes, target_right_causes}
+use Rattle.med_binder.specs.Tables.{shapes}
+use Rattle.med_binder.specs.Places.{Attached, IsPlaceOf}
 use Rattle.write_parts.specs.declared.target.Target.{Target}
 use Rattle.write_parts.specs.declared.asking.AskedValues.{AskedValues}
 use Rattle.write_parts.specs.Meaning.{columns_in, scope_in}

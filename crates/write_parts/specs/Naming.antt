@@ -12,8 +12,8 @@ use Rattle.bind_names.specs.Scope.{TableShape, place_named}
 use Rattle.bind_names.specs.Naming.{name_causes, condition_name_causes, entered_causes, asked_causes, once_known}
 use Rattle.med_catalog.specs.Objects.{Objects}
 use Rattle.med_catalog.specs.Options.{repeats}
-use Rattle.bind_catalog.specs.Barred.{query_right_causes, target_right_causes}
-use Rattle.bind_catalog.specs.Tables.{shapes}
+use Rattle.med_binder.specs.Barred.{query_right_causes, target_right_causes}
+use Rattle.med_binder.specs.Tables.{shapes}
 use Rattle.write_parts.specs.Meaning.{target_of, columns_in, scope_in}
 
 -- 42P01 where there is no such table

@@ -15,7 +15,7 @@ use Rattle.bind_names.specs.Meaning.{resolved, conditions_of}
 use Rattle.bind_types.specs.TreeTypes.{tree_type, column_kinds}
 use Rattle.bind_types.specs.Typing.{takes, unless, type_causes, condition_type_causes, no_aggregate, answer_types, select_type_causes}
 use Rattle.med_catalog.specs.Objects.{Objects}
-use Rattle.bind_catalog.specs.Tables.{shapes}
+use Rattle.med_binder.specs.Tables.{shapes}
 use Rattle.write_parts.specs.Meaning.{columns_in, scope_in, cells_meant, places_meant, row_meant}
 use Rattle.write_parts.specs.Naming.{set_values}
 

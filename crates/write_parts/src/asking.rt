@@ -8,13 +8,12 @@ ghost use Rattle.med_syntax.specs.QueryView.{entry_tree, item_tree, chain_tree, 
 ghost use Rattle.bind_names.specs.Telling.{Means, Passes};
 ghost use Rattle.bind_types.specs.Typing.{no_aggregate};
 ghost use Rattle.med_catalog.specs.View.{objects};
-ghost use Rattle.bind_catalog.specs.Tables.{AreNamedOnce};
+ghost use Rattle.med_binder.specs.Tables.{AreNamedOnce};
 ghost use Rattle.tri_expr.specs.Tree.{tree};
 ghost use Rattle.write_parts.specs.Asking.{item_for, from_for, query_for, AsksFor};
 
-use bind_catalog::{BoundTable, bind};
 use bind_names::any_has_aggregate;
-use med_binder::BoundQuery;
+use med_binder::{BoundQuery, BoundTable, bind};
 use med_catalog::Catalog;
 use med_query::SelectCore;
 use med_syntax::{Chain, Core, Entry, Expr as Written, Item, Select, Statement};

@@ -5,13 +5,13 @@ ghost use Rattle.std.specs.Prelude.{◌≡◌, map, length, IfOk};
 ghost use Rattle.med_value.specs.Column.{column_of};
 ghost use Rattle.bind_names.specs.Telling.{Passes};
 ghost use Rattle.med_catalog.specs.View.{objects};
-ghost use Rattle.bind_catalog.specs.Barred.{writing_causes};
-ghost use Rattle.bind_catalog.specs.Tables.{AreNamedOnce};
-ghost use Rattle.bind_catalog.specs.Places.{attached};
+ghost use Rattle.med_binder.specs.Barred.{writing_causes};
+ghost use Rattle.med_binder.specs.Tables.{AreNamedOnce};
+ghost use Rattle.med_binder.specs.Places.{attached};
 ghost use Rattle.write_parts.specs.Meaning.{written_column};
 ghost use Rattle.write_parts.specs.Asking.{FindsTarget};
 
-use bind_catalog::BoundTable;
+use med_binder::BoundTable;
 use med_catalog::{Catalog, Mode};
 use med_value::{Cause, ColumnDef, NoMemory, TableNo};
 use med_write::WrittenColumn;

@@ -1,7 +1,7 @@
 use Rattle.std.proofs.Common.{map}
 use Rattle.med_syntax.specs.WriteView.{write_tree}
 use Rattle.med_catalog.specs.View.{objects}
-use Rattle.bind_catalog.specs.Places.{attached}
+use Rattle.med_binder.specs.Places.{attached}
 use Rattle.bind_write.proofs.Writes.{answers_bindable, answers_meant, answers_refused, answers_memory}
 use Rattle.bind_write.proofs.binding.bind_write.Goals as goal
 

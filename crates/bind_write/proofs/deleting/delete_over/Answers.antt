@@ -4,9 +4,9 @@ use Rattle.med_syntax.specs.WriteTree.{delete}
 use Rattle.med_syntax.specs.WriteView.{delete_tree}
 use Rattle.med_catalog.specs.View.{objects}
 use Rattle.med_write.specs.Form.{delete_form}
-use Rattle.bind_catalog.specs.Barred.{target_right_causes}
-use Rattle.bind_catalog.specs.Tables.{shapes}
-use Rattle.bind_catalog.specs.Places.{attached}
+use Rattle.med_binder.specs.Barred.{target_right_causes}
+use Rattle.med_binder.specs.Tables.{shapes}
+use Rattle.med_binder.specs.Places.{attached}
 use Rattle.write_parts.specs.Meaning.{written_column}
 use Rattle.write_parts.specs.Naming.{target_causes}
 use Rattle.write_parts.specs.Typing.{types_of}

@@ -5,10 +5,10 @@ use Rattle.bind_types.specs.Kinds.{types_in}
 use Rattle.med_syntax.specs.WriteView.{names_tree}
 use Rattle.med_catalog.specs.View.{objects}
 use Rattle.bind_names.specs.Naming.{entered_causes}
-use Rattle.bind_catalog.specs.Barred.{target_right_causes, query_right_causes}
-use Rattle.bind_catalog.specs.Looked.{query_in}
-use Rattle.bind_catalog.specs.Tables.{shapes}
-use Rattle.bind_catalog.specs.Places.{attached}
+use Rattle.med_binder.specs.Barred.{target_right_causes, query_right_causes}
+use Rattle.med_binder.specs.Looked.{query_in}
+use Rattle.med_binder.specs.Tables.{shapes}
+use Rattle.med_binder.specs.Places.{attached}
 use Rattle.std.proofs.lemmas.List.Elements.{Contains-append_left}
 use Rattle.write_parts.specs.Meaning.{written_column, columns_in}
 use Rattle.write_parts.specs.Naming.{target_causes}

@@ -5,9 +5,9 @@ use Rattle.med_syntax.specs.WriteView.{names_tree, row_tree}
 use Rattle.med_catalog.specs.View.{objects}
 use Rattle.med_write.specs.Form.{trees_of}
 use Rattle.bind_names.proofs.Causes.{tells_same, none_of_two}
-use Rattle.bind_catalog.specs.Barred.{target_right_causes}
-use Rattle.bind_catalog.specs.Tables.{shapes}
-use Rattle.bind_catalog.specs.Places.{attached}
+use Rattle.med_binder.specs.Barred.{target_right_causes}
+use Rattle.med_binder.specs.Tables.{shapes}
+use Rattle.med_binder.specs.Places.{attached}
 use Rattle.bind_write.specs.Binding.{values_write}
 use Rattle.write_parts.specs.Meaning.{written_column, columns_in, row_meant}
 use Rattle.write_parts.specs.Naming.{target_causes, named_causes, row_name_causes, names_of}

@@ -4,8 +4,8 @@ use Rattle.med_value.specs.Column.{column_of}
 use Rattle.med_syntax.specs.QueryView.{statement_tree}
 use Rattle.med_syntax.specs.WriteView.{names_tree}
 use Rattle.med_catalog.specs.View.{objects}
-use Rattle.bind_catalog.specs.Looked.{query_in}
-use Rattle.bind_catalog.specs.Places.{attached}
+use Rattle.med_binder.specs.Looked.{query_in}
+use Rattle.med_binder.specs.Places.{attached}
 use Rattle.bind_write.proofs.Queries.{query_fine, query_list, late_clear, query_late, query_early}
 use Rattle.bind_write.proofs.querying.ask_query.Goals as goal
 

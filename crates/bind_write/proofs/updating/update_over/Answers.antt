@@ -8,9 +8,9 @@ use Rattle.tri_expr.specs.Tree.{tree}
 use Rattle.med_catalog.specs.View.{objects}
 use Rattle.bind_names.specs.Meaning.{resolved}
 use Rattle.bind_names.proofs.Causes.{tells_same}
-use Rattle.bind_catalog.specs.Barred.{target_right_causes}
-use Rattle.bind_catalog.specs.Tables.{shapes}
-use Rattle.bind_catalog.specs.Places.{attached}
+use Rattle.med_binder.specs.Barred.{target_right_causes}
+use Rattle.med_binder.specs.Tables.{shapes}
+use Rattle.med_binder.specs.Places.{attached}
 use Rattle.write_parts.specs.Meaning.{written_column, columns_in, scope_in}
 use Rattle.write_parts.specs.Naming.{target_causes, set_names}
 use Rattle.bind_types.specs.TreeTypes.{column_kinds}

@@ -1,21 +1,8 @@
-use Rattle.std.proofs.Common.{map}
+use Rattle.med_catalog.specs.View.{objects}
+use Rattle.med_binder.specs.Looked.{query_in}
 use Rattle.med_syntax.specs.QueryView.{statement_tree}
-use Rattle.bind_names.specs.Scope.{table_shape}
-use Rattle.med_binder.proofs.Binds.{binds_read}
-use Rattle.med_binder.proofs.Viewed.{binds_wide, binds_counted, binds_within, binds_alike}
+use Rattle.med_binder.proofs.OverCatalog.{only_memory}
 use Rattle.med_binder.proofs.binding.bind.Goals as goal
 
 pub returns-clause-read : goal.returns-clause-read
-returns-clause-read c = binds_read (map table_shape c.args.tables.now) (statement_tree c.args.statement.now) c.bind_statement.result c.bind_statement.ensures.binds
-
-pub returns-clause-widths : goal.returns-clause-widths
-returns-clause-widths c = binds_wide c.args.tables.now (statement_tree c.args.statement.now) c.bind_statement.result c.bind_statement.ensures.binds c.bind_statement.ensures.entries
-
-pub returns-clause-counts : goal.returns-clause-counts
-returns-clause-counts c = binds_counted c.args.tables.now (statement_tree c.args.statement.now) c.bind_statement.result c.bind_statement.ensures.binds c.bind_statement.ensures.entries
-
-pub returns-clause-view : goal.returns-clause-view
-returns-clause-view c = binds_within c.args.tables.now (statement_tree c.args.statement.now) c.bind_statement.result c.bind_statement.ensures.binds c.bind_statement.ensures.entries
-
-pub returns-clause-alike : goal.returns-clause-alike
-returns-clause-alike c = binds_alike c.args.tables.now (statement_tree c.args.statement.now) c.bind_statement.result c.bind_statement.ensures.binds
+returns-clause-read c = λ names types. only_memory (objects c.args.catalog.now) _ c.args.user.now (query_in (statement_tree c.args.statement.now)) c.bind_over.result names types c.bind_over.ensures

@@ -7,7 +7,7 @@ use Rattle.med_binder.specs.declared.bound.BoundQuery.{BoundQuery}
 use Rattle.med_exec.specs.Slots.{states}
 use Rattle.med_catalog.specs.Objects.{Objects}
 use Rattle.med_catalog.specs.View.{objects}
-use Rattle.bind_catalog.specs.Places.{Attached, attached}
+use Rattle.med_binder.specs.Places.{Attached, attached}
 use Rattle.bind_write.specs.Binding.{IsQueryOf}
 use Rattle.med_exec.specs.BoundRunning.{IsReady as IsBoundReady}
 use Rattle.sql_meaning.specs.Sizes.{is_large_form}

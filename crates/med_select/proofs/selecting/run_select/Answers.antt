@@ -5,8 +5,8 @@ use Rattle.med_query.specs.Form.{form_of}
 use Rattle.med_exec.specs.Slots.{states}
 use Rattle.med_syntax.specs.QueryView.{statement_tree}
 use Rattle.med_catalog.specs.View.{objects}
-use Rattle.bind_catalog.specs.Looked.{query_in}
-use Rattle.bind_catalog.specs.Places.{attached}
+use Rattle.med_binder.specs.Looked.{query_in}
+use Rattle.med_binder.specs.Places.{attached}
 use Rattle.med_world.specs.Selecting.{not_bound}
 use Rattle.med_exec.specs.BoundRunning.{IsReady}
 use Rattle.sql_meaning.specs.Sizes.{is_large_form}

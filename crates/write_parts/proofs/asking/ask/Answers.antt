@@ -7,11 +7,11 @@ use Rattle.bind_types.specs.Typing.{no_aggregate}
 use Rattle.tri_expr.specs.Tree.{tree}
 use Rattle.med_binder.specs.Binding.{IsMeant}
 use Rattle.med_catalog.specs.View.{objects}
-use Rattle.bind_catalog.specs.Looked.{query_in}
-use Rattle.bind_catalog.specs.Queries.{NotBound, IsBindable, meant_by}
+use Rattle.med_binder.specs.Looked.{query_in}
+use Rattle.med_binder.specs.Queries.{NotBound, IsBindable, meant_by}
 use Rattle.write_parts.specs.Asking.{query_for}
 use Rattle.med_query.specs.Form.{core_form}
-use Rattle.bind_catalog.specs.Tables.{shapes}
+use Rattle.med_binder.specs.Tables.{shapes}
 use Rattle.write_parts.proofs.AskedFor.{ask_told, aggregate_told, asked_is, one_core, first_items, values_meant}
 use Rattle.write_parts.proofs.asking.ask.Goals as goal
 

@@ -2,7 +2,7 @@ use Rattle.std.proofs.Common.{◌≡◌, ◌<◌, ◌-◌, ◌+◌, ◌∙◌, m
 use Rattle.std.proofs.lemmas.List.{length-map}
 use Rattle.med_exec.specs.Slots.{states}
 use Rattle.med_catalog.specs.View.{objects, table_of}
-use Rattle.bind_catalog.specs.Places.{attached}
+use Rattle.med_binder.specs.Places.{attached}
 use Rattle.med_world.specs.Engine.{IsServerAt}
 use Rattle.med_session.specs.Binding.{BindsLast}
 use Rattle.med_session.specs.Tables.{undone}

@@ -1,7 +1,7 @@
 use Rattle.std.proofs.Common.{◌<◌, ◌∙◌, map, length, string_bytes, ap}
 use Rattle.med_exec.specs.Slots.{states}
 use Rattle.med_catalog.specs.View.{objects}
-use Rattle.bind_catalog.specs.Places.{attached}
+use Rattle.med_binder.specs.Places.{attached}
 use Rattle.med_world.specs.Engine.{leased, IsFirst}
 use Rattle.med_session.specs.Shows.{shown}
 use Rattle.med_session.proofs.Tables.{first_at, removed_first, attached_at, removed_attached, get_within, bound_within, unbinds_by}

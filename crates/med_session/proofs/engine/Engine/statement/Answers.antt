@@ -6,7 +6,7 @@ use Rattle.med_parser.specs.declared.command.Command.{Command}
 use Rattle.med_syntax.specs.DdlView.{ddl_tree}
 use Rattle.med_syntax.specs.WriteView.{write_tree}
 use Rattle.med_syntax.specs.QueryView.{statement_tree}
-use Rattle.bind_catalog.specs.Looked.{query_in}
+use Rattle.med_binder.specs.Looked.{query_in}
 use Rattle.med_world.specs.Seats.{user_of}
 use Rattle.med_world.specs.Laws.{IsRead}
 use Rattle.sql_meaning.specs.Replies.{done}

@@ -1,5 +1,0 @@
-pub mod Seen
-pub mod Found
-pub mod Rows
-pub mod Phases
-pub mod Binds
