@@ -224,10 +224,10 @@ fn behind_unit(symbols: Symbols<'_>) -> Symbols<'_>
     if let Some(after) = behind_word("row", symbols) {
         return after;
     }
-    match behind_word("rows", symbols) {
-        Some(after) => after,
-        None => symbols,
+    if let Some(after) = behind_word("rows", symbols) {
+        return after;
     }
+    symbols
 }
 
 /// How many rows are left out, where OFFSET stands in front.
