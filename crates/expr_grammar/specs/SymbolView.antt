@@ -1,6 +1,5 @@
 -- Symbols without where they lie in memory.
 use Rattle.std.specs.Prelude.{List, map}
-use Rattle.std.specs.String.{string_bytes}
 use Rattle.expr_grammar.specs.declared.symbols.Symbol.{Symbol}
 use Rattle.expr_grammar.specs.declared.symbols.Symbol.TheVariants as s
 use Rattle.med_syntax.specs.Terminal.{Terminal}
@@ -24,9 +23,9 @@ terminal_of_symbol s.Null = t.Null
 terminal_of_symbol (s.Truth b) = t.Truth b
 terminal_of_symbol s.Unknown = t.Unknown
 terminal_of_symbol (s.Number n) = t.Num n
-terminal_of_symbol (s.Text x) = t.Text (string_bytes x)
-terminal_of_symbol (s.Name x) = t.Name (string_bytes x)
-terminal_of_symbol (s.Reserved x) = t.Reserved (string_bytes x)
+terminal_of_symbol (s.Text x) = t.Text x.now
+terminal_of_symbol (s.Name x) = t.Name x.now
+terminal_of_symbol (s.Reserved x) = t.Reserved x.now
 
 abbrev pub terminals_of : List Symbol → List Terminal
 terminals_of = map terminal_of_symbol

@@ -1,7 +1,6 @@
 //! The terminal symbols that tokens are in an expression.
 
 ghost use Rattle.std.specs.Prelude.{◌≡◌, ◌↔◌, IfOk, IsTrue, Any, false};
-ghost use Rattle.std.specs.String.{string_bytes};
 ghost use Rattle.med_lexer.specs.declared.Token.{Token};
 ghost use Rattle.med_lexer.specs.View.{shape_of};
 ghost use Rattle.med_syntax.specs.Terminal.{mark_terminal, plain_word, word_terminal};
@@ -16,7 +15,7 @@ use med_value::{Comparison, Operation};
 use std::alloc::{AllocError, Global};
 
 /// The symbol of a mark.
-fn mark_symbol(mark: Mark) -> Symbol
+fn mark_symbol(mark: Mark) -> Symbol<'static>
     ensures { terminal_of_symbol result ≡ mark_terminal mark }
 {
     match mark {
@@ -40,48 +39,47 @@ fn mark_symbol(mark: Mark) -> Symbol
 }
 
 /// The symbol of a word that no expression has as a keyword.
-fn plain_symbol(word: &String) -> Result<Symbol, AllocError>
-    ensures { IfOk result (λ s. terminal_of_symbol s ≡ plain_word (string_bytes word.now)) }
+fn plain_symbol(word: &str) -> Symbol<'_>
+    ensures { terminal_of_symbol result ≡ plain_word word.now }
 {
     if is_reserved(word) {
-        Ok(Symbol::Reserved(word.clone()?))
+        Symbol::Reserved(word)
     } else {
-        Ok(Symbol::Name(word.clone()?))
+        Symbol::Name(word)
     }
 }
 
 /// The symbol of a word that is not UNKNOWN behind IS.
-fn word_symbol(word: &String) -> Result<Symbol, AllocError>
-    ensures { IfOk result (λ s. terminal_of_symbol s ≡ word_terminal (string_bytes word.now)) }
+fn word_symbol(word: &str) -> Symbol<'_>
+    ensures { terminal_of_symbol result ≡ word_terminal word.now }
 {
-    let text = word.as_str();
-    if text == "and" {
-        Ok(Symbol::Joint(Joint::And))
-    } else if text == "or" {
-        Ok(Symbol::Joint(Joint::Or))
-    } else if text == "not" {
-        Ok(Symbol::Not)
-    } else if text == "between" {
-        Ok(Symbol::Between)
-    } else if text == "in" {
-        Ok(Symbol::In)
-    } else if text == "is" {
-        Ok(Symbol::Is)
-    } else if text == "like" {
-        Ok(Symbol::Like)
-    } else if text == "null" {
-        Ok(Symbol::Null)
-    } else if text == "true" {
-        Ok(Symbol::Truth(true))
-    } else if text == "false" {
-        Ok(Symbol::Truth(false))
+    if word == "and" {
+        Symbol::Joint(Joint::And)
+    } else if word == "or" {
+        Symbol::Joint(Joint::Or)
+    } else if word == "not" {
+        Symbol::Not
+    } else if word == "between" {
+        Symbol::Between
+    } else if word == "in" {
+        Symbol::In
+    } else if word == "is" {
+        Symbol::Is
+    } else if word == "like" {
+        Symbol::Like
+    } else if word == "null" {
+        Symbol::Null
+    } else if word == "true" {
+        Symbol::Truth(true)
+    } else if word == "false" {
+        Symbol::Truth(false)
     } else {
         plain_symbol(word)
     }
 }
 
 /// Whether UNKNOWN is a keyword behind the symbol. Before it the answer was the given one.
-pub fn follows_is(before: bool, symbol: &Symbol) -> bool
+pub fn follows_is(before: bool, symbol: &Symbol<'_>) -> bool
     ensures { result ≡ spec.follows before (terminal_of_symbol symbol.now) }
 {
     match symbol {
@@ -92,30 +90,30 @@ pub fn follows_is(before: bool, symbol: &Symbol) -> bool
 }
 
 /// The symbol of a token.
-pub fn symbol(behind_is: bool, kind: &TokenKind) -> Result<Symbol, AllocError>
+pub fn symbol(behind_is: bool, kind: &TokenKind) -> Symbol<'_>
     requires { spec.IsReadable (shape_of kind.now) }
-    ensures { IfOk result (λ s. terminal_of_symbol s ≡ spec.terminal_at behind_is (shape_of kind.now)) }
+    ensures { terminal_of_symbol result ≡ spec.terminal_at behind_is (shape_of kind.now) }
 {
     match kind {
-        TokenKind::Word(word) if behind_is && word.as_str() == "unknown" => Ok(Symbol::Unknown),
+        TokenKind::Word(word) if behind_is && word.as_str() == "unknown" => Symbol::Unknown,
         TokenKind::Word(word) => word_symbol(word),
-        TokenKind::Quoted(name) => Ok(Symbol::Name(name.clone()?)),
-        TokenKind::Literal(text) => Ok(Symbol::Text(text.clone()?)),
-        TokenKind::Number(digits) => Ok(Symbol::Number(number_value(digits).unwrap_or(0))),
-        TokenKind::Mark(mark) => Ok(mark_symbol(*mark)),
+        TokenKind::Quoted(name) => Symbol::Name(name),
+        TokenKind::Literal(text) => Symbol::Text(text),
+        TokenKind::Number(digits) => Symbol::Number(number_value(digits).unwrap_or(0)),
+        TokenKind::Mark(mark) => mark_symbol(*mark),
     }
 }
 
 /// The symbols of tokens, one by one.
-pub fn symbols_of(alloc: Global, tokens: &[Token]) -> Result<Vec<Symbol>, AllocError>
+pub fn symbols_of(alloc: Global, tokens: &[Token]) -> Result<Vec<Symbol<'_>>, AllocError>
     requires { spec.AreReadable (shapes_of tokens.now) }
     ensures { IfOk result (λ v. terminals_of v.items ≡ spec.terminals_at false (shapes_of tokens.now)) }
 {
-    let mut symbols = Vec::new(alloc);
+    let mut symbols = Vec::with_capacity(alloc, tokens.len())?;
     let mut behind_is = false;
     let mut left = tokens;
     while let [token, rest @ ..] = left {
-        let symbol = symbol(behind_is, &token.kind)?;
+        let symbol = symbol(behind_is, &token.kind);
         behind_is = follows_is(behind_is, &symbol);
         symbols.push(symbol)?;
         left = rest;

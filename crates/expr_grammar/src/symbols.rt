@@ -8,9 +8,9 @@ ghost use Rattle.expr_grammar.specs.SymbolView.{terminal_of_symbol, terminals_of
 use med_syntax::Joint;
 use med_value::{Comparison, Operation, Status};
 
-/// A terminal symbol of the grammar.
+/// A terminal symbol of the grammar, whose text is the token's.
 #[derive(Debug, Drop)]
-pub enum Symbol {
+pub enum Symbol<'a> {
     LeftParen,
     RightParen,
     Comma,
@@ -29,10 +29,20 @@ pub enum Symbol {
     Unknown,
     /// The value of digits, at most 2^63.
     Number(u64),
-    Text(String),
-    Name(String),
+    Text(&'a str),
+    Name(&'a str),
     /// A reserved word that no expression has.
-    Reserved(String),
+    Reserved(&'a str),
+}
+
+/// Symbols, one behind the other.
+pub type Symbols<'a> = &'a [Symbol<'a>];
+
+/// All of the symbols. A loop takes what it has not read by this one call, before its first round and in each.
+pub fn onward(symbols: Symbols<'_>) -> Symbols<'_>
+    ensures { result.now ≡ symbols.now }
+{
+    &symbols[..]
 }
 
 /// What parts the items of a list.
@@ -50,7 +60,7 @@ pub enum Level {
 }
 
 /// The symbols behind the separator, where it comes first.
-pub fn behind(separator: Separator, symbols: &[Symbol]) -> Option<&[Symbol]>
+pub fn behind(separator: Separator, symbols: Symbols<'_>) -> Option<Symbols<'_>>
     ensures { behind_of separator (terminals_of symbols.now) ≡ option_map (λ x. terminals_of x.now) result }
 {
     match (separator, symbols) {
@@ -62,7 +72,7 @@ pub fn behind(separator: Separator, symbols: &[Symbol]) -> Option<&[Symbol]>
 }
 
 /// The symbols behind a minus, where it comes first.
-pub fn behind_minus(symbols: &[Symbol]) -> Option<&[Symbol]>
+pub fn behind_minus(symbols: Symbols<'_>) -> Option<Symbols<'_>>
     ensures { behind_minus_of (terminals_of symbols.now) ≡ option_map (λ x. terminals_of x.now) result }
 {
     match symbols {
@@ -72,7 +82,7 @@ pub fn behind_minus(symbols: &[Symbol]) -> Option<&[Symbol]>
 }
 
 /// The operator of the level, where one comes first, and the symbols behind it.
-pub fn operator(level: Level, symbols: &[Symbol]) -> Option<(Operation, &[Symbol])>
+pub fn operator(level: Level, symbols: Symbols<'_>) -> Option<(Operation, Symbols<'_>)>
     ensures { operator_of level (terminals_of symbols.now) ≡ option_map (λ x. (x.0, terminals_of x.1.now)) result }
 {
     match (level, symbols) {
@@ -98,7 +108,7 @@ pub fn operator(level: Level, symbols: &[Symbol]) -> Option<(Operation, &[Symbol
 }
 
 /// What IS asks for, where the symbol is that.
-pub fn status(symbol: &Symbol) -> Option<Status>
+pub fn status(symbol: &Symbol<'_>) -> Option<Status>
     ensures { result ≡ reading.status_of (terminal_of_symbol symbol.now) }
 {
     match symbol {

@@ -4,20 +4,20 @@ ghost use Rattle.std.specs.Prelude.{◌≡◌};
 ghost use Rattle.expr_grammar.specs.ExprWeight as spec;
 ghost use Rattle.expr_grammar.specs.SymbolView.{terminal_of_symbol, terminals_of};
 
-use crate::symbols::Symbol;
+use crate::symbols::{Symbol, Symbols};
 
 /// Higher than any expression of few heavy symbols.
 pub const ROOM: u32 = 455;
 
 /// Whether an expression can get deeper without bound by such symbols.
-fn is_heavy(symbol: &Symbol) -> bool
+fn is_heavy(symbol: &Symbol<'_>) -> bool
     ensures { result ≡ spec.is_heavy (terminal_of_symbol symbol.now) }
 {
     matches!(symbol, Symbol::LeftParen | Symbol::Binary(_) | Symbol::Not)
 }
 
 /// How many symbols are heavy.
-pub fn weight(symbols: &[Symbol]) -> usize
+pub fn weight(symbols: Symbols<'_>) -> usize
     ensures { result ≡ spec.weight (terminals_of symbols.now) }
 {
     let mut heavy = 0;

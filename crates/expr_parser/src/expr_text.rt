@@ -15,7 +15,7 @@ ghost use Rattle.expr_grammar.specs.ExprAnswers.{ReadsAs};
 use expr_grammar::expr_symbols::{has_unreadable, symbols_of};
 use expr_grammar::number_range::is_in_range;
 use expr_grammar::refusal::{ReadFault, Refusal};
-use expr_grammar::symbols::Symbol;
+use expr_grammar::symbols::Symbols;
 use expr_grammar::token_list::{has_long_name, tokens_of};
 use expr_grammar::weighing::{ROOM, weight};
 use expr_reader::whole;
@@ -27,7 +27,7 @@ use std::alloc::Global;
 
 /// The expression that all of the symbols are, where it is no higher than the room.
 #[tactic(auto, unfolding(expr_grammar::specs::ExprReading::all_of))]
-fn all(alloc: Global, room: u32, symbols: &[Symbol]) -> Result<Expr, ReadFault>
+fn all(alloc: Global, room: u32, symbols: Symbols<'_>) -> Result<Expr, ReadFault>
     requires { room < 1000 }
     ensures { ReadsAs expr_tree result (all_of room (terminals_of symbols.now)) }
 {
@@ -41,7 +41,7 @@ fn all(alloc: Global, room: u32, symbols: &[Symbol]) -> Result<Expr, ReadFault>
 
 /// The expression that all of the symbols are. Where few of them are heavy, what is told to be too high is an expression.
 #[tactic(auto, unfolding(expr_grammar::specs::ExprWeight::bounded_of))]
-fn bounded(alloc: Global, symbols: &[Symbol]) -> Result<Expr, ReadFault>
+fn bounded(alloc: Global, symbols: Symbols<'_>) -> Result<Expr, ReadFault>
     ensures { ReadsAs expr_tree result (spec.bounded_of (terminals_of symbols.now)) }
 {
     match all(alloc, HEIGHT_LIMIT, symbols) {

@@ -12,7 +12,7 @@ use crate::build::operation;
 use crate::found::{Boxed, FoundExpr, within};
 use crate::operands::signed_here;
 use expr_grammar::refusal::ReadFault;
-use expr_grammar::symbols::{Level, Symbol, operator};
+use expr_grammar::symbols::{Level, Symbols, operator};
 use med_syntax::Expr;
 use med_value::Operation;
 use std::alloc::Global;
@@ -22,7 +22,7 @@ use std::alloc::Global;
 pub(crate) fn boxed_sum(
     alloc: Global,
     room: u32,
-    symbols: &[Symbol],
+    symbols: Symbols<'_>,
 ) -> Result<Boxed<'_>, ReadFault>
     requires some { 1 ≤ room }
     requires few { room < 1000 }
@@ -42,7 +42,7 @@ fn operand(
     alloc: Global,
     level: Level,
     room: u32,
-    symbols: &[Symbol],
+    symbols: Symbols<'_>,
 ) -> Result<FoundExpr<'_>, ReadFault>
     requires some { 1 ≤ room }
     requires few { room < 1000 }
@@ -61,7 +61,7 @@ pub(crate) fn chain(
     alloc: Global,
     level: Level,
     room: u32,
-    symbols: &[Symbol],
+    symbols: Symbols<'_>,
 ) -> Result<FoundExpr<'_>, ReadFault>
     requires some { 1 ≤ room }
     requires few { room < 1000 }

@@ -1,7 +1,6 @@
 //! Expressions of their parts.
 
 ghost use Rattle.std.specs.Prelude.{◌≡◌, IfOk, Some, None};
-ghost use Rattle.std.specs.String.{string_bytes};
 ghost use Rattle.med_syntax.specs.ExprTree as spec;
 ghost use Rattle.med_syntax.specs.ExprView.{expr_tree, expr_trees};
 
@@ -24,10 +23,10 @@ pub fn negative_number(n: u64) -> Expr
 }
 
 /// A text.
-pub fn text(text: &String) -> Result<Expr, AllocError>
-    ensures { IfOk result (λ x. expr_tree x ≡ spec.text (string_bytes text.now)) }
+pub fn text(alloc: Global, text: &str) -> Result<Expr, AllocError>
+    ensures { IfOk result (λ x. expr_tree x ≡ spec.text text.now) }
 {
-    Ok(Expr::Text(text.clone()?))
+    Ok(Expr::Text(String::from_str(alloc, text)?))
 }
 
 /// TRUE or FALSE.
@@ -45,41 +44,47 @@ pub fn null() -> Expr
 }
 
 /// A column without a qualifier.
-pub fn column(name: &String) -> Result<Expr, AllocError>
-    ensures { IfOk result (λ x. expr_tree x ≡ spec.column None (string_bytes name.now)) }
+pub fn column(alloc: Global, name: &str) -> Result<Expr, AllocError>
+    ensures { IfOk result (λ x. expr_tree x ≡ spec.column None name.now) }
 {
-    Ok(Expr::Column(None, name.clone()?))
+    Ok(Expr::Column(None, String::from_str(alloc, name)?))
 }
 
 /// A column behind its qualifier.
-pub fn column_of(qualifier: &String, name: &String) -> Result<Expr, AllocError>
-    ensures { IfOk result (λ x. expr_tree x ≡ spec.column (Some (string_bytes qualifier.now)) (string_bytes name.now)) }
+pub fn column_of(alloc: Global, qualifier: &str, name: &str) -> Result<Expr, AllocError>
+    ensures { IfOk result (λ x. expr_tree x ≡ spec.column (Some qualifier.now) name.now) }
 {
-    Ok(Expr::Column(Some(qualifier.clone()?), name.clone()?))
+    let qualifier = String::from_str(alloc, qualifier)?;
+    Ok(Expr::Column(Some(qualifier), String::from_str(alloc, name)?))
 }
 
 /// The call of a function with `*`.
-pub fn call_all(function: &String) -> Result<Expr, AllocError>
-    ensures { IfOk result (λ x. expr_tree x ≡ spec.call_all (string_bytes function.now)) }
+pub fn call_all(alloc: Global, function: &str) -> Result<Expr, AllocError>
+    ensures { IfOk result (λ x. expr_tree x ≡ spec.call_all function.now) }
 {
-    Ok(Expr::CallAll(function.clone()?))
+    Ok(Expr::CallAll(String::from_str(alloc, function)?))
 }
 
 /// The call of a function with no parts.
-pub fn call_of_nothing(alloc: Global, function: &String) -> Result<Expr, AllocError>
-    ensures { IfOk result (λ x. expr_tree x ≡ spec.call (string_bytes function.now) spec.none) }
+pub fn call_of_nothing(alloc: Global, function: &str) -> Result<Expr, AllocError>
+    ensures { IfOk result (λ x. expr_tree x ≡ spec.call function.now spec.none) }
 {
-    Ok(Expr::Call(function.clone()?, Vec::new(alloc)))
+    Ok(Expr::Call(String::from_str(alloc, function)?, Vec::new(alloc)))
 }
 
 /// The call of a function with these parts.
-pub fn call_of(function: &String, first: Box<Expr>, others: Vec<Expr>) -> Result<Expr, AllocError>
+pub fn call_of(
+    alloc: Global,
+    function: &str,
+    first: Box<Expr>,
+    others: Vec<Expr>,
+) -> Result<Expr, AllocError>
     ensures { IfOk result
-        (λ x. expr_tree x ≡ spec.call (string_bytes function.now) (spec.more (expr_tree first.value) (expr_trees others.items))) }
+        (λ x. expr_tree x ≡ spec.call function.now (spec.more (expr_tree first.value) (expr_trees others.items))) }
 {
     let mut parts = others;
     parts.insert(0, Box::into_inner(first))?;
-    Ok(Expr::Call(function.clone()?, parts))
+    Ok(Expr::Call(String::from_str(alloc, function)?, parts))
 }
 
 /// The expression in parentheses.
@@ -118,10 +123,15 @@ pub fn membership(negated: bool, e: Box<Expr>, first: Box<Expr>, others: Vec<Exp
 }
 
 /// The expression, perhaps NOT, LIKE the pattern.
-pub fn likeness(negated: bool, e: Box<Expr>, pattern: &String) -> Result<Expr, AllocError>
-    ensures { IfOk result (λ x. expr_tree x ≡ spec.like negated (expr_tree e.value) (string_bytes pattern.now)) }
+pub fn likeness(
+    alloc: Global,
+    negated: bool,
+    e: Box<Expr>,
+    pattern: &str,
+) -> Result<Expr, AllocError>
+    ensures { IfOk result (λ x. expr_tree x ≡ spec.like negated (expr_tree e.value) pattern.now) }
 {
-    Ok(Expr::Like(negated, e, pattern.clone()?))
+    Ok(Expr::Like(negated, e, String::from_str(alloc, pattern)?))
 }
 
 /// The comparison of the two.

@@ -13,14 +13,14 @@ use crate::build::{chained, inverted, test};
 use crate::found::{Boxed, FoundExpr, Items, within};
 use crate::predicates::compared;
 use expr_grammar::refusal::{ReadFault, Refusal};
-use expr_grammar::symbols::{Separator, Symbol, behind, status};
+use expr_grammar::symbols::{Separator, Symbol, Symbols, behind, onward, status};
 use med_syntax::{Expr, Joint};
 use std::alloc::Global;
 
 /// The expression that the symbols begin with, if it has room.
 #[cycle(reader)]
 #[tactic(auto, using(crate::proofs::ExprLoops::whole_some, crate::proofs::ExprLoops::whole_none))]
-pub fn whole(alloc: Global, room: u32, symbols: &[Symbol]) -> Result<FoundExpr<'_>, ReadFault>
+pub fn whole(alloc: Global, room: u32, symbols: Symbols<'_>) -> Result<FoundExpr<'_>, ReadFault>
     requires { room < 1000 }
     ensures { Answers room result ((reading.below room).whole (terminals_of symbols.now)) }
 {
@@ -35,7 +35,7 @@ pub fn whole(alloc: Global, room: u32, symbols: &[Symbol]) -> Result<FoundExpr<'
 pub(crate) fn boxed_whole(
     alloc: Global,
     room: u32,
-    symbols: &[Symbol],
+    symbols: Symbols<'_>,
 ) -> Result<Boxed<'_>, ReadFault>
     requires { room < 1000 }
     ensures { AnswersBoxed room result ((reading.below room).whole (terminals_of symbols.now)) }
@@ -55,7 +55,7 @@ fn joined(
     alloc: Global,
     joint: Joint,
     room: u32,
-    symbols: &[Symbol],
+    symbols: Symbols<'_>,
 ) -> Result<FoundExpr<'_>, ReadFault>
     requires some { 1 ≤ room }
     requires few { room < 1000 }
@@ -105,7 +105,7 @@ fn item(
     alloc: Global,
     separator: Separator,
     room: u32,
-    symbols: &[Symbol],
+    symbols: Symbols<'_>,
 ) -> Result<FoundExpr<'_>, ReadFault>
     requires some { 1 ≤ room }
     requires few { room < 1000 }
@@ -124,7 +124,7 @@ pub(crate) fn others(
     alloc: Global,
     separator: Separator,
     room: u32,
-    symbols: &[Symbol],
+    symbols: Symbols<'_>,
 ) -> Result<Items<'_>, ReadFault>
     requires some { 1 ≤ room }
     requires few { room < 1000 }
@@ -132,12 +132,12 @@ pub(crate) fn others(
 {
     let mut list = Vec::new(alloc);
     let mut highest: u32 = 0;
-    let mut rest = symbols;
+    let mut rest = onward(symbols);
     while let Some(after) = behind(separator, rest) {
         let next = item(alloc, separator, room, after)?;
         list.push(next.expr)?;
         highest = highest.max(next.height);
-        rest = next.rest;
+        rest = onward(next.rest);
     }
     Ok(Items {
         list,
@@ -149,7 +149,7 @@ pub(crate) fn others(
 // What AND stands between, if it has room.
 #[cycle(reader)]
 #[tactic(auto, using(crate::proofs::ExprLoops::negated_some, crate::proofs::ExprLoops::negated_none))]
-fn inversion(alloc: Global, room: u32, symbols: &[Symbol]) -> Result<FoundExpr<'_>, ReadFault>
+fn inversion(alloc: Global, room: u32, symbols: Symbols<'_>) -> Result<FoundExpr<'_>, ReadFault>
     requires { room < 1000 }
     ensures { Answers room result ((reading.below room).negated (terminals_of symbols.now)) }
 {
@@ -161,7 +161,11 @@ fn inversion(alloc: Global, room: u32, symbols: &[Symbol]) -> Result<FoundExpr<'
 
 // The same where there is room: perhaps behind NOT.
 #[cycle(reader)]
-fn inversion_here(alloc: Global, room: u32, symbols: &[Symbol]) -> Result<FoundExpr<'_>, ReadFault>
+fn inversion_here(
+    alloc: Global,
+    room: u32,
+    symbols: Symbols<'_>,
+) -> Result<FoundExpr<'_>, ReadFault>
     requires some { 1 ≤ room }
     requires few { room < 1000 }
     ensures { Answers room result (reading.negated_of (reading.below (room - 1)) room (terminals_of symbols.now)) }
@@ -182,7 +186,7 @@ fn inversion_here(alloc: Global, room: u32, symbols: &[Symbol]) -> Result<FoundE
 // A comparison, perhaps IS what follows.
 #[cycle(reader)]
 #[tactic(auto, unfolding(expr_grammar::specs::ExprReading::is_of))]
-fn checked(alloc: Global, room: u32, symbols: &[Symbol]) -> Result<FoundExpr<'_>, ReadFault>
+fn checked(alloc: Global, room: u32, symbols: Symbols<'_>) -> Result<FoundExpr<'_>, ReadFault>
     requires some { 1 ≤ room }
     requires few { room < 1000 }
     ensures { Answers room result (reading.is_of (reading.below (room - 1)) room (terminals_of symbols.now)) }
@@ -213,7 +217,7 @@ fn is_status(
     negated: bool,
     value: Box<Expr>,
     value_height: u32,
-    symbols: &[Symbol],
+    symbols: Symbols<'_>,
 ) -> Result<FoundExpr<'_>, ReadFault>
     requires few { room < 1000 }
     requires height { value_height ≡ spec_height (expr_tree value.value) }

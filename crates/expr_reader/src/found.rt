@@ -8,7 +8,7 @@ ghost use Rattle.expr_grammar.specs.SymbolView.{terminals_of};
 ghost use Rattle.expr_reader.specs.ReaderAnswers.{Answers};
 
 use expr_grammar::refusal::{ReadFault, Refusal};
-use expr_grammar::symbols::Symbol;
+use expr_grammar::symbols::Symbols;
 use med_syntax::Expr;
 
 /// An expression, its height, and the symbols behind it.
@@ -16,7 +16,7 @@ use med_syntax::Expr;
 pub struct FoundExpr<'a> {
     pub expr: Expr,
     pub height: u32,
-    pub rest: &'a [Symbol],
+    pub rest: Symbols<'a>,
 }
 
 /// A FoundExpr whose expression is in a box, where it waits for what follows.
@@ -24,7 +24,7 @@ pub struct FoundExpr<'a> {
 pub(crate) struct Boxed<'a> {
     pub(crate) expr: Box<Expr>,
     pub(crate) height: u32,
-    pub(crate) rest: &'a [Symbol],
+    pub(crate) rest: Symbols<'a>,
 }
 
 /// Expressions, the height of the highest, and the symbols behind them.
@@ -32,7 +32,7 @@ pub(crate) struct Boxed<'a> {
 pub(crate) struct Items<'a> {
     pub(crate) list: Vec<Expr>,
     pub(crate) highest: u32,
-    pub(crate) rest: &'a [Symbol],
+    pub(crate) rest: Symbols<'a>,
 }
 
 /// The expression, if it has room.
@@ -40,7 +40,7 @@ pub(crate) fn within(
     room: u32,
     expr: Expr,
     height: u32,
-    rest: &[Symbol],
+    rest: Symbols<'_>,
 ) -> Result<FoundExpr<'_>, ReadFault>
     requires { height ≡ spec_height (expr_tree expr) }
     ensures { Answers room result (reading.within room (expr_tree expr) (terminals_of rest.now)) }
@@ -53,7 +53,7 @@ pub(crate) fn within(
 }
 
 /// An expression without parts.
-pub(crate) fn leaf(expr: Expr, rest: &[Symbol]) -> FoundExpr<'_>
+pub(crate) fn leaf(expr: Expr, rest: Symbols<'_>) -> FoundExpr<'_>
     ensures expr { result.expr ≡ expr }
     ensures height { result.height ≡ 1 }
     ensures rest { result.rest.now ≡ rest.now }

@@ -1,7 +1,6 @@
 //! What the operators of a product stand between: literals, columns, calls and parentheses, perhaps behind a minus.
 
 ghost use Rattle.std.specs.Prelude.{◌≡◌, ◌≤◌, ◌<◌, ◌-◌};
-ghost use Rattle.std.specs.String.{string_bytes};
 ghost use Rattle.med_syntax.specs.ExprTree.{height as spec_height, highest as spec_highest};
 ghost use Rattle.expr_grammar.specs.ExprReading as reading;
 ghost use Rattle.med_syntax.specs.ExprView.{expr_tree, expr_trees};
@@ -16,7 +15,7 @@ use crate::build::{
 use crate::conditions::{boxed_whole, others};
 use crate::found::{FoundExpr, Items, leaf};
 use expr_grammar::refusal::{ReadFault, Refusal};
-use expr_grammar::symbols::{Separator, Symbol, behind_minus};
+use expr_grammar::symbols::{Separator, Symbol, Symbols, behind_minus};
 use med_syntax::Expr;
 use med_value::Operation;
 use std::alloc::Global;
@@ -24,7 +23,7 @@ use std::alloc::Global;
 // What the operators of a product stand between, if it has room.
 #[cycle(reader)]
 #[tactic(auto, using(crate::proofs::ExprLoops::signed_some, crate::proofs::ExprLoops::signed_none))]
-fn signed(alloc: Global, room: u32, symbols: &[Symbol]) -> Result<FoundExpr<'_>, ReadFault>
+fn signed(alloc: Global, room: u32, symbols: Symbols<'_>) -> Result<FoundExpr<'_>, ReadFault>
     requires { room < 1000 }
     ensures { Answers room result ((reading.below room).signed (terminals_of symbols.now)) }
 {
@@ -39,7 +38,7 @@ fn signed(alloc: Global, room: u32, symbols: &[Symbol]) -> Result<FoundExpr<'_>,
 pub(crate) fn signed_here(
     alloc: Global,
     room: u32,
-    symbols: &[Symbol],
+    symbols: Symbols<'_>,
 ) -> Result<FoundExpr<'_>, ReadFault>
     requires some { 1 ≤ room }
     requires few { room < 1000 }
@@ -53,7 +52,7 @@ pub(crate) fn signed_here(
 
 /// What stands behind a minus.
 #[cycle(reader)]
-fn minus(alloc: Global, room: u32, symbols: &[Symbol]) -> Result<FoundExpr<'_>, ReadFault>
+fn minus(alloc: Global, room: u32, symbols: Symbols<'_>) -> Result<FoundExpr<'_>, ReadFault>
     requires some { 1 ≤ room }
     requires few { room < 1000 }
     ensures { Answers room result (reading.after_minus (reading.below (room - 1)) (terminals_of symbols.now)) }
@@ -73,14 +72,14 @@ fn minus(alloc: Global, room: u32, symbols: &[Symbol]) -> Result<FoundExpr<'_>, 
 
 // A literal, a column, a call, or an expression in parentheses.
 #[cycle(reader)]
-fn primary(alloc: Global, room: u32, symbols: &[Symbol]) -> Result<FoundExpr<'_>, ReadFault>
+fn primary(alloc: Global, room: u32, symbols: Symbols<'_>) -> Result<FoundExpr<'_>, ReadFault>
     requires some { 1 ≤ room }
     requires few { room < 1000 }
     ensures { Answers room result (reading.primary_of (reading.below (room - 1)) (terminals_of symbols.now)) }
 {
     match symbols {
         [Symbol::Number(n), rest @ ..] => Ok(leaf(number(*n), rest)),
-        [Symbol::Text(value), rest @ ..] => Ok(leaf(text(value)?, rest)),
+        [Symbol::Text(value), rest @ ..] => Ok(leaf(text(alloc, value)?, rest)),
         [Symbol::Truth(value), rest @ ..] => Ok(leaf(truth(*value), rest)),
         [Symbol::Null, rest @ ..] => Ok(leaf(null(), rest)),
         [Symbol::Name(name), rest @ ..] => named(alloc, room, name, rest),
@@ -91,7 +90,7 @@ fn primary(alloc: Global, room: u32, symbols: &[Symbol]) -> Result<FoundExpr<'_>
 
 /// What stands in parentheses, behind the opening one.
 #[cycle(reader)]
-fn parens(alloc: Global, room: u32, symbols: &[Symbol]) -> Result<FoundExpr<'_>, ReadFault>
+fn parens(alloc: Global, room: u32, symbols: Symbols<'_>) -> Result<FoundExpr<'_>, ReadFault>
     requires some { 1 ≤ room }
     requires few { room < 1000 }
     ensures { Answers room result (parens_of (reading.below (room - 1)) (terminals_of symbols.now)) }
@@ -114,18 +113,21 @@ fn parens(alloc: Global, room: u32, symbols: &[Symbol]) -> Result<FoundExpr<'_>,
 fn named<'a>(
     alloc: Global,
     room: u32,
-    name: &String,
-    symbols: &'a [Symbol],
+    name: &str,
+    symbols: Symbols<'a>,
 ) -> Result<FoundExpr<'a>, ReadFault>
     requires some { 1 ≤ room }
     requires few { room < 1000 }
-    ensures { Answers room result (reading.named_after (reading.below (room - 1)) (string_bytes name.now) (terminals_of symbols.now)) }
+    ensures { Answers room result (reading.named_after (reading.below (room - 1)) name.now (terminals_of symbols.now)) }
 {
     match symbols {
         [Symbol::LeftParen, rest @ ..] => call(alloc, room, name, rest),
-        [Symbol::Dot, Symbol::Name(column), rest @ ..] => Ok(leaf(column_of(name, column)?, rest)),
+        [Symbol::Dot, Symbol::Name(column), rest @ ..] => Ok(leaf(
+            column_of(alloc, name, column)?,
+            rest,
+        )),
         [Symbol::Dot, ..] => Err(ReadFault::Refused(Refusal::Syntax)),
-        _ => Ok(leaf(column(name)?, symbols)),
+        _ => Ok(leaf(column(alloc, name)?, symbols)),
     }
 }
 
@@ -134,19 +136,19 @@ fn named<'a>(
 fn call<'a>(
     alloc: Global,
     room: u32,
-    function: &String,
-    symbols: &'a [Symbol],
+    function: &str,
+    symbols: Symbols<'a>,
 ) -> Result<FoundExpr<'a>, ReadFault>
     requires some { 1 ≤ room }
     requires few { room < 1000 }
-    ensures { Answers room result (reading.call_after (reading.below (room - 1)) (string_bytes function.now) (terminals_of symbols.now)) }
+    ensures { Answers room result (reading.call_after (reading.below (room - 1)) function.now (terminals_of symbols.now)) }
 {
     match symbols {
         [
             Symbol::Binary(Operation::Multiply),
             Symbol::RightParen,
             rest @ ..,
-        ] => { Ok(leaf(call_all(function)?, rest)) }
+        ] => { Ok(leaf(call_all(alloc, function)?, rest)) }
         [Symbol::Binary(Operation::Multiply), ..] => Err(ReadFault::Refused(Refusal::Syntax)),
         [Symbol::RightParen, rest @ ..] => Ok(leaf(call_of_nothing(alloc, function)?, rest)),
         _ => call_of_parts(alloc, room, function, symbols),
@@ -158,22 +160,23 @@ fn call<'a>(
 fn call_of_parts<'a>(
     alloc: Global,
     room: u32,
-    function: &String,
-    symbols: &'a [Symbol],
+    function: &str,
+    symbols: Symbols<'a>,
 ) -> Result<FoundExpr<'a>, ReadFault>
     requires some { 1 ≤ room }
     requires few { room < 1000 }
-    ensures { Answers room result (reading.parts_after (reading.below (room - 1)) (string_bytes function.now) (terminals_of symbols.now)) }
+    ensures { Answers room result (reading.parts_after (reading.below (room - 1)) function.now (terminals_of symbols.now)) }
 {
     let first = boxed_whole(alloc, room - 1, symbols)?;
     let others = others(alloc, Separator::Comma, room, first.rest)?;
-    call_made(room, function, first.expr, first.height, others)
+    call_made(alloc, room, function, first.expr, first.height, others)
 }
 
 /// The call of the function with these parts, where they are closed.
 fn call_made<'a>(
+    alloc: Global,
     room: u32,
-    function: &String,
+    function: &str,
     first: Box<Expr>,
     first_height: u32,
     others: Items<'a>,
@@ -183,14 +186,14 @@ fn call_made<'a>(
     requires highest { others.highest ≡ spec_highest (expr_trees others.list.items) }
     requires low { (first_height < room) × (others.highest < room) }
     ensures { Answers room result
-        (reading.closed_call (string_bytes function.now) (expr_tree first.value) (expr_trees others.entry.list.items)
+        (reading.closed_call function.now (expr_tree first.value) (expr_trees others.entry.list.items)
         (terminals_of others.entry.rest.now)) }
 {
     match others.rest {
         [Symbol::RightParen, rest @ ..] => {
             let height = 1 + first_height.max(others.highest);
             Ok(FoundExpr {
-                expr: call_of(function, first, others.list)?,
+                expr: call_of(alloc, function, first, others.list)?,
                 height,
                 rest,
             })

@@ -12,7 +12,7 @@ use crate::build::{between, comparison, likeness, membership};
 use crate::conditions::{boxed_whole, others};
 use crate::found::{Boxed, FoundExpr, within};
 use expr_grammar::refusal::{ReadFault, Refusal};
-use expr_grammar::symbols::{Level, Separator, Symbol};
+use expr_grammar::symbols::{Level, Separator, Symbol, Symbols};
 use med_syntax::{Expr, Joint};
 use med_value::Comparison;
 use std::alloc::Global;
@@ -23,7 +23,7 @@ use std::alloc::Global;
 pub(crate) fn compared(
     alloc: Global,
     room: u32,
-    symbols: &[Symbol],
+    symbols: Symbols<'_>,
 ) -> Result<FoundExpr<'_>, ReadFault>
     requires some { 1 ≤ room }
     requires few { room < 1000 }
@@ -68,7 +68,7 @@ fn comparison_made(
 // A sum, perhaps NOT, BETWEEN, IN or LIKE what follows.
 #[cycle(reader)]
 #[tactic(auto, unfolding(expr_grammar::specs::ExprReading::range_of))]
-fn ranged(alloc: Global, room: u32, symbols: &[Symbol]) -> Result<FoundExpr<'_>, ReadFault>
+fn ranged(alloc: Global, room: u32, symbols: Symbols<'_>) -> Result<FoundExpr<'_>, ReadFault>
     requires some { 1 ≤ room }
     requires few { room < 1000 }
     ensures { Answers room result (reading.range_of (reading.below (room - 1)) room (terminals_of symbols.now)) }
@@ -104,7 +104,7 @@ fn in_range(
     negated: bool,
     value: Box<Expr>,
     value_height: u32,
-    symbols: &[Symbol],
+    symbols: Symbols<'_>,
 ) -> Result<FoundExpr<'_>, ReadFault>
     requires some { 1 ≤ room }
     requires few { room < 1000 }
@@ -136,7 +136,7 @@ fn in_range(
         [Symbol::Like, after @ ..] => match after {
             [Symbol::Text(pattern), rest @ ..] => within(
                 room,
-                likeness(negated, value, pattern)?,
+                likeness(alloc, negated, value, pattern)?,
                 value_height + 1,
                 rest,
             ),
@@ -155,7 +155,7 @@ fn in_bounds(
     negated: bool,
     value: Box<Expr>,
     value_height: u32,
-    symbols: &[Symbol],
+    symbols: Symbols<'_>,
 ) -> Result<FoundExpr<'_>, ReadFault>
     requires some { 1 ≤ room }
     requires few { room < 1000 }
@@ -209,7 +209,7 @@ fn in_list(
     negated: bool,
     value: Box<Expr>,
     value_height: u32,
-    symbols: &[Symbol],
+    symbols: Symbols<'_>,
 ) -> Result<FoundExpr<'_>, ReadFault>
     requires some { 1 ≤ room }
     requires few { room < 1000 }

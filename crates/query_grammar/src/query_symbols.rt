@@ -7,7 +7,6 @@ ghost use Rattle.expr_grammar.specs.View.{shapes_of};
 ghost use Rattle.med_lexer.specs.View.{shape_of};
 ghost use Rattle.query_grammar.specs.QueryTerminals as spec;
 ghost use Rattle.std.specs.Prelude.{◌≡◌, IfOk, false};
-ghost use Rattle.std.specs.String.{string_bytes};
 
 use expr_grammar::expr_symbols::{follows_is, symbol};
 use expr_grammar::symbols::Symbol;
@@ -75,7 +74,7 @@ fn behind_reserved(ordering: bool, word: &str) -> Place
 }
 
 /// The place behind the symbol.
-fn behind_symbol(ordering: bool, symbol: &Symbol) -> Place
+fn behind_symbol(ordering: bool, symbol: &Symbol<'_>) -> Place
     ensures { result ≡ spec.behind_terminal ordering (terminal_of_symbol symbol.now) }
 {
     match symbol {
@@ -92,7 +91,7 @@ fn behind_symbol(ordering: bool, symbol: &Symbol) -> Place
 }
 
 /// The place behind the symbol at the place.
-fn place_behind(place: Place, symbol: &Symbol) -> Place
+fn place_behind(place: Place, symbol: &Symbol<'_>) -> Place
     ensures { result ≡ spec.place_behind place (terminal_of_symbol symbol.now) }
 {
     match (place, symbol) {
@@ -103,27 +102,27 @@ fn place_behind(place: Place, symbol: &Symbol) -> Place
 }
 
 /// The symbol of a token at the place.
-fn word_symbol(place: Place, behind_is: bool, kind: &TokenKind) -> Result<Symbol, AllocError>
+fn word_symbol(place: Place, behind_is: bool, kind: &TokenKind) -> Symbol<'_>
     requires { IsReadable (shape_of kind.now) }
-    ensures { IfOk result (λ s. terminal_of_symbol s ≡ spec.word_at place behind_is (shape_of kind.now)) }
+    ensures { terminal_of_symbol result ≡ spec.word_at place behind_is (shape_of kind.now) }
 {
     match kind {
-        TokenKind::Word(word) if is_keyword(place, word) => Ok(Symbol::Reserved(word.clone()?)),
+        TokenKind::Word(word) if is_keyword(place, word) => Symbol::Reserved(word),
         _ => symbol(behind_is, kind),
     }
 }
 
 /// The symbols of the tokens of a statement, one by one.
-pub fn words_of(alloc: Global, tokens: &[Token]) -> Result<Vec<Symbol>, AllocError>
+pub fn words_of(alloc: Global, tokens: &[Token]) -> Result<Vec<Symbol<'_>>, AllocError>
     requires { AreReadable (shapes_of tokens.now) }
     ensures { IfOk result (λ v. terminals_of v.items ≡ spec.words_at (Place.Before false) false (shapes_of tokens.now)) }
 {
-    let mut symbols = Vec::new(alloc);
+    let mut symbols = Vec::with_capacity(alloc, tokens.len())?;
     let mut place = Place::Before(false);
     let mut behind_is = false;
     let mut left = tokens;
     while let [token, rest @ ..] = left {
-        let symbol = word_symbol(place, behind_is, &token.kind)?;
+        let symbol = word_symbol(place, behind_is, &token.kind);
         place = place_behind(place, &symbol);
         behind_is = follows_is(behind_is, &symbol);
         symbols.push(symbol)?;

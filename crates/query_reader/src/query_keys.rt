@@ -10,14 +10,14 @@ ghost use Rattle.std.specs.String.{string_bytes};
 
 use crate::query_statement::{behind_two, behind_word};
 use expr_grammar::refusal::{ReadFault, Refusal};
-use expr_grammar::symbols::{Separator, Symbol, behind};
+use expr_grammar::symbols::{Separator, Symbol, Symbols, behind};
 use expr_reader::whole;
 use med_syntax::{Expr, GroupColumn, Limit, OrderKey};
 use std::alloc::Global;
 
 /// Whether the first word stands in front, and the symbols behind it, or behind the other word in its place.
 #[tactic(auto, unfolding(crate::specs::QueryReading::flag_of))]
-pub fn flag<'a>(one: &str, other: &str, symbols: &'a [Symbol]) -> (bool, &'a [Symbol])
+pub fn flag<'a>(one: &str, other: &str, symbols: Symbols<'a>) -> (bool, Symbols<'a>)
     ensures { reading.flag_of one.now other.now (terminals_of symbols.now) ≡ (result.0, terminals_of result.1.now) }
 {
     if let Some(after) = behind_word(one, symbols) {
@@ -32,7 +32,7 @@ pub fn flag<'a>(one: &str, other: &str, symbols: &'a [Symbol]) -> (bool, &'a [Sy
 // ---- GROUP BY
 
 /// The column at the front, and the symbols behind it.
-fn group(symbols: &[Symbol]) -> Result<(GroupColumn, &[Symbol]), ReadFault>
+fn group(alloc: Global, symbols: Symbols<'_>) -> Result<(GroupColumn, Symbols<'_>), ReadFault>
     ensures { ReadsAs (λ x. (group_tree x.0, terminals_of x.1.now)) result (reading.group_of (terminals_of symbols.now)) }
 {
     match symbols {
@@ -42,11 +42,11 @@ fn group(symbols: &[Symbol]) -> Result<(GroupColumn, &[Symbol]), ReadFault>
             Symbol::Name(name),
             rest @ ..,
         ] => {
-            let qualifier = Some(table.clone()?);
+            let qualifier = Some(String::from_str(alloc, table)?);
             Ok((
                 GroupColumn {
                     qualifier,
-                    name: name.clone()?,
+                    name: String::from_str(alloc, name)?,
                 },
                 rest,
             ))
@@ -54,7 +54,7 @@ fn group(symbols: &[Symbol]) -> Result<(GroupColumn, &[Symbol]), ReadFault>
         [Symbol::Name(name), rest @ ..] => Ok((
             GroupColumn {
                 qualifier: None,
-                name: name.clone()?,
+                name: String::from_str(alloc, name)?,
             },
             rest,
         )),
@@ -63,16 +63,19 @@ fn group(symbols: &[Symbol]) -> Result<(GroupColumn, &[Symbol]), ReadFault>
 }
 
 /// The columns at the front, with a comma between each two, and the symbols behind them.
-fn group_list(alloc: Global, symbols: &[Symbol]) -> Result<(Vec<GroupColumn>, &[Symbol]), ReadFault>
+fn group_list(
+    alloc: Global,
+    symbols: Symbols<'_>,
+) -> Result<(Vec<GroupColumn>, Symbols<'_>), ReadFault>
     ensures { ReadsAs (λ x. (map group_tree x.0.items, terminals_of x.1.now))
         result (reading.list_of reading.group_of (terminals_of symbols.now)) }
 {
     let mut list = Vec::new(alloc);
-    let (first, behind_first) = group(symbols)?;
+    let (first, behind_first) = group(alloc, symbols)?;
     list.push(first)?;
     let mut rest = behind_first;
     while let Some(after) = behind(Separator::Comma, rest) {
-        let (next, more) = group(after)?;
+        let (next, more) = group(alloc, after)?;
         list.push(next)?;
         rest = more;
     }
@@ -81,7 +84,10 @@ fn group_list(alloc: Global, symbols: &[Symbol]) -> Result<(Vec<GroupColumn>, &[
 
 /// The columns behind GROUP BY; none where it is not written.
 #[tactic(auto, unfolding(crate::specs::QueryReading::listed_of))]
-pub fn groups(alloc: Global, symbols: &[Symbol]) -> Result<(Vec<GroupColumn>, &[Symbol]), ReadFault>
+pub fn groups(
+    alloc: Global,
+    symbols: Symbols<'_>,
+) -> Result<(Vec<GroupColumn>, Symbols<'_>), ReadFault>
     ensures { ReadsAs (λ x. (map group_tree x.0.items, terminals_of x.1.now))
         result (reading.listed_of (codes "group" ∷ codes "by" ∷ []) reading.group_of (terminals_of symbols.now)) }
 {
@@ -95,7 +101,7 @@ pub fn groups(alloc: Global, symbols: &[Symbol]) -> Result<(Vec<GroupColumn>, &[
 
 /// Whether NULL comes first, where nothing says so as given, and the symbols behind NULLS FIRST or NULLS LAST.
 #[tactic(auto, unfolding(crate::specs::QueryReading::nulls_of))]
-fn nulls(absent: bool, symbols: &[Symbol]) -> (bool, &[Symbol])
+fn nulls(absent: bool, symbols: Symbols<'_>) -> (bool, Symbols<'_>)
     ensures { reading.nulls_of absent (terminals_of symbols.now) ≡ (result.0, terminals_of result.1.now) }
 {
     if let Some(after) = behind_two("nulls", "first", symbols) {
@@ -109,7 +115,7 @@ fn nulls(absent: bool, symbols: &[Symbol]) -> (bool, &[Symbol])
 
 /// The key of the expression, by what stands behind it.
 #[tactic(auto, unfolding(crate::specs::QueryReading::key_after))]
-fn directed(key: Expr, symbols: &[Symbol]) -> (OrderKey, &[Symbol])
+fn directed(key: Expr, symbols: Symbols<'_>) -> (OrderKey, Symbols<'_>)
     ensures { reading.key_after (expr_tree key) (terminals_of symbols.now) ≡ (key_tree result.0, terminals_of result.1.now) }
 {
     let (descending, rest) = flag("desc", "asc", symbols);
@@ -126,7 +132,7 @@ fn directed(key: Expr, symbols: &[Symbol]) -> (OrderKey, &[Symbol])
 
 /// The key at the front, and the symbols behind it.
 #[tactic(auto, unfolding(crate::specs::QueryReading::key_of))]
-fn key(alloc: Global, room: u32, symbols: &[Symbol]) -> Result<(OrderKey, &[Symbol]), ReadFault>
+fn key(alloc: Global, room: u32, symbols: Symbols<'_>) -> Result<(OrderKey, Symbols<'_>), ReadFault>
     requires { room < 1000 }
     ensures { ReadsAs (λ x. (key_tree x.0, terminals_of x.1.now)) result (reading.key_of room (terminals_of symbols.now)) }
 {
@@ -138,8 +144,8 @@ fn key(alloc: Global, room: u32, symbols: &[Symbol]) -> Result<(OrderKey, &[Symb
 fn key_list(
     alloc: Global,
     room: u32,
-    symbols: &[Symbol],
-) -> Result<(Vec<OrderKey>, &[Symbol]), ReadFault>
+    symbols: Symbols<'_>,
+) -> Result<(Vec<OrderKey>, Symbols<'_>), ReadFault>
     requires { room < 1000 }
     ensures { ReadsAs (λ x. (map key_tree x.0.items, terminals_of x.1.now))
         result (reading.list_of (reading.key_of room) (terminals_of symbols.now)) }
@@ -161,8 +167,8 @@ fn key_list(
 pub fn keys(
     alloc: Global,
     room: u32,
-    symbols: &[Symbol],
-) -> Result<(Vec<OrderKey>, &[Symbol]), ReadFault>
+    symbols: Symbols<'_>,
+) -> Result<(Vec<OrderKey>, Symbols<'_>), ReadFault>
     requires { room < 1000 }
     ensures { ReadsAs (λ x. (map key_tree x.0.items, terminals_of x.1.now))
         result (reading.listed_of (codes "order" ∷ codes "by" ∷ []) (reading.key_of room) (terminals_of symbols.now)) }
@@ -176,7 +182,7 @@ pub fn keys(
 // ---- LIMIT and OFFSET
 
 /// The number at the front, and the symbols behind it.
-fn number(symbols: &[Symbol]) -> Result<(u64, &[Symbol]), ReadFault>
+fn number(symbols: Symbols<'_>) -> Result<(u64, Symbols<'_>), ReadFault>
     ensures { ReadsAs (λ x. (x.0, terminals_of x.1.now)) result (reading.number_of (terminals_of symbols.now)) }
 {
     match symbols {
@@ -187,7 +193,7 @@ fn number(symbols: &[Symbol]) -> Result<(u64, &[Symbol]), ReadFault>
 
 /// The limit behind LIMIT.
 #[tactic(auto, unfolding(crate::specs::QueryReading::limit_at))]
-fn limit_at(symbols: &[Symbol]) -> Result<(Option<Limit>, &[Symbol]), ReadFault>
+fn limit_at(symbols: Symbols<'_>) -> Result<(Option<Limit>, Symbols<'_>), ReadFault>
     ensures { ReadsAs (λ x. (option_map limit_tree x.0, terminals_of x.1.now)) result (reading.limit_at (terminals_of symbols.now)) }
 {
     match behind_word("all", symbols) {
@@ -201,7 +207,7 @@ fn limit_at(symbols: &[Symbol]) -> Result<(Option<Limit>, &[Symbol]), ReadFault>
 
 /// The limit, where LIMIT stands in front.
 #[tactic(auto, unfolding(crate::specs::QueryReading::limit_of))]
-fn limit(symbols: &[Symbol]) -> Result<(Option<Limit>, &[Symbol]), ReadFault>
+fn limit(symbols: Symbols<'_>) -> Result<(Option<Limit>, Symbols<'_>), ReadFault>
     ensures { ReadsAs (λ x. (option_map limit_tree x.0, terminals_of x.1.now)) result (reading.limit_of (terminals_of symbols.now)) }
 {
     match behind_word("limit", symbols) {
@@ -212,21 +218,21 @@ fn limit(symbols: &[Symbol]) -> Result<(Option<Limit>, &[Symbol]), ReadFault>
 
 /// The symbols behind ROW or ROWS, where one of them stands in front.
 #[tactic(auto, unfolding(crate::specs::QueryReading::behind_unit))]
-fn behind_unit(symbols: &[Symbol]) -> &[Symbol]
+fn behind_unit(symbols: Symbols<'_>) -> Symbols<'_>
     ensures { reading.behind_unit (terminals_of symbols.now) ≡ terminals_of result.now }
 {
     if let Some(after) = behind_word("row", symbols) {
         return after;
     }
-    match behind_word("rows", symbols) {
-        Some(after) => after,
-        None => symbols,
+    if let Some(after) = behind_word("rows", symbols) {
+        return after;
     }
+    symbols
 }
 
 /// How many rows are left out, where OFFSET stands in front.
 #[tactic(auto, unfolding(crate::specs::QueryReading::offset_of))]
-fn offset(symbols: &[Symbol]) -> Result<(Option<u64>, &[Symbol]), ReadFault>
+fn offset(symbols: Symbols<'_>) -> Result<(Option<u64>, Symbols<'_>), ReadFault>
     ensures { ReadsAs (λ x. (x.0, terminals_of x.1.now)) result (reading.offset_of (terminals_of symbols.now)) }
 {
     match behind_word("offset", symbols) {
@@ -241,8 +247,8 @@ fn offset(symbols: &[Symbol]) -> Result<(Option<u64>, &[Symbol]), ReadFault>
 /// The limit that stands behind OFFSET, where there was none before it.
 fn limit_after(
     before: Option<Limit>,
-    symbols: &[Symbol],
-) -> Result<(Option<Limit>, &[Symbol]), ReadFault>
+    symbols: Symbols<'_>,
+) -> Result<(Option<Limit>, Symbols<'_>), ReadFault>
     ensures { ReadsAs (λ x. (option_map limit_tree x.0, terminals_of x.1.now))
         result (reading.limit_after (option_map limit_tree before) (terminals_of symbols.now)) }
 {
@@ -254,7 +260,7 @@ fn limit_after(
 
 /// LIMIT and OFFSET in either order, and the symbols behind them.
 #[tactic(auto, unfolding(crate::specs::QueryReading::limits_of))]
-pub fn limits(symbols: &[Symbol]) -> Result<(Option<Limit>, Option<u64>, &[Symbol]), ReadFault>
+pub fn limits(symbols: Symbols<'_>) -> Result<(Option<Limit>, Option<u64>, Symbols<'_>), ReadFault>
     ensures { ReadsAs (λ x. ((option_map limit_tree x.0, x.1), terminals_of x.2.now)) result
         (reading.limits_of (terminals_of symbols.now)) }
 {

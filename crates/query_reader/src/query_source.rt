@@ -10,7 +10,7 @@ ghost use Rattle.std.specs.String.{string_bytes};
 
 use crate::query_statement::{behind_three, behind_two, behind_word, name, perhaps_name};
 use expr_grammar::refusal::{ReadFault, Refusal};
-use expr_grammar::symbols::{Separator, Symbol, behind};
+use expr_grammar::symbols::{Separator, Symbols, behind, onward};
 use expr_reader::whole;
 use med_syntax::{Chain, Entry, Expr, Join};
 use std::alloc::Global;
@@ -25,31 +25,31 @@ pub enum JoinWay {
 
 /// The name that a table has in the statement, where it has one of its own.
 #[tactic(auto, unfolding(crate::specs::QueryReading::alias_after))]
-fn alias(symbols: &[Symbol]) -> Result<(Option<String>, &[Symbol]), ReadFault>
+fn alias(alloc: Global, symbols: Symbols<'_>) -> Result<(Option<String>, Symbols<'_>), ReadFault>
     ensures { ReadsAs (λ x. (option_map string_bytes x.0, terminals_of x.1.now)) result (reading.alias_after (terminals_of symbols.now)) }
 {
     match behind_word("as", symbols) {
         Some(after) => {
-            let (name, rest) = name(after)?;
+            let (name, rest) = name(alloc, after)?;
             Ok((Some(name), rest))
         }
-        None => perhaps_name(symbols),
+        None => perhaps_name(alloc, symbols),
     }
 }
 
 /// The entry at the front, and the symbols behind it.
 #[tactic(auto, unfolding(crate::specs::QueryReading::entry_of))]
-fn entry(symbols: &[Symbol]) -> Result<(Entry, &[Symbol]), ReadFault>
+fn entry(alloc: Global, symbols: Symbols<'_>) -> Result<(Entry, Symbols<'_>), ReadFault>
     ensures { ReadsAs (λ x. (entry_tree x.0, terminals_of x.1.now)) result (reading.entry_of (terminals_of symbols.now)) }
 {
-    let (table, rest) = name(symbols)?;
-    let (alias, rest) = alias(rest)?;
+    let (table, rest) = name(alloc, symbols)?;
+    let (alias, rest) = alias(alloc, rest)?;
     Ok((Entry { table, alias }, rest))
 }
 
 /// The join that the words in front begin, and the symbols behind them.
 #[tactic(auto, unfolding(crate::specs::QueryReading::join_words))]
-fn join_words(symbols: &[Symbol]) -> Option<(JoinWay, &[Symbol])>
+fn join_words(symbols: Symbols<'_>) -> Option<(JoinWay, Symbols<'_>)>
     ensures { reading.join_words (terminals_of symbols.now) ≡ option_map (λ x. (x.0, terminals_of x.1.now)) result }
 {
     if let Some(after) = behind_word("join", symbols) {
@@ -75,13 +75,13 @@ fn join_words(symbols: &[Symbol]) -> Option<(JoinWay, &[Symbol])>
 fn entry_on(
     alloc: Global,
     room: u32,
-    symbols: &[Symbol],
-) -> Result<(Entry, Expr, &[Symbol]), ReadFault>
+    symbols: Symbols<'_>,
+) -> Result<(Entry, Expr, Symbols<'_>), ReadFault>
     requires { room < 1000 }
     ensures { ReadsAs (λ x. ((entry_tree x.0, expr_tree x.1), terminals_of x.2.now)) result
         (reading.on_of room (terminals_of symbols.now)) }
 {
-    let (entry, rest) = entry(symbols)?;
+    let (entry, rest) = entry(alloc, symbols)?;
     match behind_word("on", rest) {
         Some(after) => {
             let found = whole(alloc, room, after)?;
@@ -96,8 +96,8 @@ fn join(
     alloc: Global,
     way: JoinWay,
     room: u32,
-    symbols: &[Symbol],
-) -> Result<(Join, &[Symbol]), ReadFault>
+    symbols: Symbols<'_>,
+) -> Result<(Join, Symbols<'_>), ReadFault>
     requires { room < 1000 }
     ensures { ReadsAs (λ x. (join_tree x.0, terminals_of x.1.now)) result (reading.join_of way room (terminals_of symbols.now)) }
 {
@@ -111,7 +111,7 @@ fn join(
             Ok((Join::Left(entry, on), rest))
         }
         JoinWay::Cross => {
-            let (entry, rest) = entry(symbols)?;
+            let (entry, rest) = entry(alloc, symbols)?;
             Ok((Join::Cross(entry), rest))
         }
     }
@@ -119,27 +119,31 @@ fn join(
 
 /// The joins at the front, and the symbols behind them.
 #[tactic(auto, unfolding(crate::specs::QueryReading::all_joins_of))]
-fn joins(alloc: Global, room: u32, symbols: &[Symbol]) -> Result<(Vec<Join>, &[Symbol]), ReadFault>
+fn joins(
+    alloc: Global,
+    room: u32,
+    symbols: Symbols<'_>,
+) -> Result<(Vec<Join>, Symbols<'_>), ReadFault>
     requires { room < 1000 }
     ensures { ReadsAs (λ x. (map join_tree x.0.items, terminals_of x.1.now)) result (reading.all_joins_of room (terminals_of symbols.now)) }
 {
     let mut list = Vec::new(alloc);
-    let mut rest = symbols;
+    let mut rest = onward(symbols);
     while let Some((way, after)) = join_words(rest) {
         let (next, more) = join(alloc, way, room, after)?;
         list.push(next)?;
-        rest = more;
+        rest = onward(more);
     }
     Ok((list, rest))
 }
 
 /// The entry at the front with its joins.
 #[tactic(auto, unfolding(crate::specs::QueryReading::source_of))]
-fn chain(alloc: Global, room: u32, symbols: &[Symbol]) -> Result<(Chain, &[Symbol]), ReadFault>
+fn chain(alloc: Global, room: u32, symbols: Symbols<'_>) -> Result<(Chain, Symbols<'_>), ReadFault>
     requires { room < 1000 }
     ensures { ReadsAs (λ x. (chain_tree x.0, terminals_of x.1.now)) result (reading.source_of room (terminals_of symbols.now)) }
 {
-    let (first, rest) = entry(symbols)?;
+    let (first, rest) = entry(alloc, symbols)?;
     let (joins, rest) = joins(alloc, room, rest)?;
     Ok((Chain { first, joins }, rest))
 }
@@ -148,8 +152,8 @@ fn chain(alloc: Global, room: u32, symbols: &[Symbol]) -> Result<(Chain, &[Symbo
 fn chain_list(
     alloc: Global,
     room: u32,
-    symbols: &[Symbol],
-) -> Result<(Vec<Chain>, &[Symbol]), ReadFault>
+    symbols: Symbols<'_>,
+) -> Result<(Vec<Chain>, Symbols<'_>), ReadFault>
     requires { room < 1000 }
     ensures { ReadsAs (λ x. (map chain_tree x.0.items, terminals_of x.1.now))
         result (reading.list_of (reading.source_of room) (terminals_of symbols.now)) }
@@ -171,8 +175,8 @@ fn chain_list(
 pub fn chains(
     alloc: Global,
     room: u32,
-    symbols: &[Symbol],
-) -> Result<(Vec<Chain>, &[Symbol]), ReadFault>
+    symbols: Symbols<'_>,
+) -> Result<(Vec<Chain>, Symbols<'_>), ReadFault>
     requires { room < 1000 }
     ensures { ReadsAs (λ x. (map chain_tree x.0.items, terminals_of x.1.now))
         result (reading.listed_of (codes "from" ∷ []) (reading.source_of room) (terminals_of symbols.now)) }

@@ -13,24 +13,24 @@ ghost use Rattle.std.specs.String.{string_bytes};
 use crate::query_keys::{flag, groups, keys, limits};
 use crate::query_source::chains;
 use expr_grammar::refusal::{ReadFault, Refusal};
-use expr_grammar::symbols::{Separator, Symbol, behind};
+use expr_grammar::symbols::{Separator, Symbol, Symbols, behind, onward};
 use expr_reader::whole;
 use med_syntax::{Core, Expr, Item, Joint, Select, Statement, is_reserved};
 use med_value::Operation;
 use std::alloc::Global;
 
 /// The symbols behind the keyword, where it comes first.
-pub fn behind_word<'a>(word: &str, symbols: &'a [Symbol]) -> Option<&'a [Symbol]>
+pub fn behind_word<'a>(word: &str, symbols: Symbols<'a>) -> Option<Symbols<'a>>
     ensures { reading.behind_word word.now (terminals_of symbols.now) ≡ option_map (λ x. terminals_of x.now) result }
 {
     match symbols {
-        [Symbol::Reserved(reserved), rest @ ..] if reserved.as_str() == word => Some(rest),
+        [Symbol::Reserved(reserved), rest @ ..] if *reserved == word => Some(rest),
         _ => None,
     }
 }
 
 /// The symbols behind two keywords, where they come first.
-pub fn behind_two<'a>(first: &str, second: &str, symbols: &'a [Symbol]) -> Option<&'a [Symbol]>
+pub fn behind_two<'a>(first: &str, second: &str, symbols: Symbols<'a>) -> Option<Symbols<'a>>
     ensures { reading.behind_words (first.now ∷ second.now ∷ []) (terminals_of symbols.now) ≡ option_map (λ x. terminals_of x.now) result }
 {
     match behind_word(first, symbols) {
@@ -44,8 +44,8 @@ pub fn behind_three<'a>(
     first: &str,
     second: &str,
     third: &str,
-    symbols: &'a [Symbol],
-) -> Option<&'a [Symbol]>
+    symbols: Symbols<'a>,
+) -> Option<Symbols<'a>>
     ensures { reading.behind_words (first.now ∷ second.now ∷ third.now ∷ []) (terminals_of symbols.now)
         ≡ option_map (λ x. terminals_of x.now) result }
 {
@@ -56,27 +56,30 @@ pub fn behind_three<'a>(
 }
 
 /// The name at the front, and the symbols behind it.
-pub fn name(symbols: &[Symbol]) -> Result<(String, &[Symbol]), ReadFault>
+pub fn name(alloc: Global, symbols: Symbols<'_>) -> Result<(String, Symbols<'_>), ReadFault>
     ensures { ReadsAs (λ x. (string_bytes x.0, terminals_of x.1.now)) result (reading.read_name (terminals_of symbols.now)) }
 {
     match symbols {
-        [Symbol::Name(name), rest @ ..] => Ok((name.clone()?, rest)),
+        [Symbol::Name(name), rest @ ..] => Ok((String::from_str(alloc, name)?, rest)),
         _ => Err(ReadFault::Refused(Refusal::Syntax)),
     }
 }
 
 /// The name at the front, where there is one.
-pub fn perhaps_name(symbols: &[Symbol]) -> Result<(Option<String>, &[Symbol]), ReadFault>
+pub fn perhaps_name(
+    alloc: Global,
+    symbols: Symbols<'_>,
+) -> Result<(Option<String>, Symbols<'_>), ReadFault>
     ensures { ReadsAs (λ x. (option_map string_bytes x.0, terminals_of x.1.now)) result (reading.perhaps_name (terminals_of symbols.now)) }
 {
     match symbols {
-        [Symbol::Name(name), rest @ ..] => Ok((Some(name.clone()?), rest)),
+        [Symbol::Name(name), rest @ ..] => Ok((Some(String::from_str(alloc, name)?), rest)),
         _ => Ok((None, symbols)),
     }
 }
 
 /// The word that the symbol is, or its name.
-fn word_of(symbol: &Symbol) -> Option<&str>
+fn word_of<'a>(symbol: &Symbol<'a>) -> Option<&'a str>
     ensures { label_of (terminal_of_symbol symbol.now) ≡ option_map (λ w. w.now) result }
 {
     match symbol {
@@ -90,14 +93,14 @@ fn word_of(symbol: &Symbol) -> Option<&str>
         Symbol::Null => Some("null"),
         Symbol::Truth(true) => Some("true"),
         Symbol::Truth(false) => Some("false"),
-        Symbol::Name(name) => Some(name.as_str()),
-        Symbol::Reserved(word) if is_reserved(word) => Some(word.as_str()),
+        Symbol::Name(name) => Some(*name),
+        Symbol::Reserved(word) if is_reserved(word) => Some(*word),
         _ => None,
     }
 }
 
 /// The label behind AS.
-fn label_at(alloc: Global, symbols: &[Symbol]) -> Result<(Option<String>, &[Symbol]), ReadFault>
+fn label_at(alloc: Global, symbols: Symbols<'_>) -> Result<(Option<String>, Symbols<'_>), ReadFault>
     ensures { ReadsAs (λ x. (option_map string_bytes x.0, terminals_of x.1.now)) result (reading.label_at (terminals_of symbols.now)) }
 {
     let [symbol, rest @ ..] = symbols else {
@@ -111,18 +114,18 @@ fn label_at(alloc: Global, symbols: &[Symbol]) -> Result<(Option<String>, &[Symb
 
 /// The label of an item: behind AS any word or a name, and else perhaps a name.
 #[tactic(auto, unfolding(crate::specs::QueryReading::label_after))]
-fn label(alloc: Global, symbols: &[Symbol]) -> Result<(Option<String>, &[Symbol]), ReadFault>
+fn label(alloc: Global, symbols: Symbols<'_>) -> Result<(Option<String>, Symbols<'_>), ReadFault>
     ensures { ReadsAs (λ x. (option_map string_bytes x.0, terminals_of x.1.now)) result (reading.label_after (terminals_of symbols.now)) }
 {
     match behind_word("as", symbols) {
         Some(after) => label_at(alloc, after),
-        None => perhaps_name(symbols),
+        None => perhaps_name(alloc, symbols),
     }
 }
 
 /// The expression at the front with its label.
 #[tactic(auto, unfolding(crate::specs::QueryReading::value_of))]
-fn value(alloc: Global, room: u32, symbols: &[Symbol]) -> Result<(Item, &[Symbol]), ReadFault>
+fn value(alloc: Global, room: u32, symbols: Symbols<'_>) -> Result<(Item, Symbols<'_>), ReadFault>
     requires { room < 1000 }
     ensures { ReadsAs (λ x. (item_tree x.0, terminals_of x.1.now)) result (reading.value_of room (terminals_of symbols.now)) }
 {
@@ -133,7 +136,7 @@ fn value(alloc: Global, room: u32, symbols: &[Symbol]) -> Result<(Item, &[Symbol
 
 /// The item at the front, and the symbols behind it.
 #[tactic(auto)]
-fn item(alloc: Global, room: u32, symbols: &[Symbol]) -> Result<(Item, &[Symbol]), ReadFault>
+fn item(alloc: Global, room: u32, symbols: Symbols<'_>) -> Result<(Item, Symbols<'_>), ReadFault>
     requires { room < 1000 }
     ensures { ReadsAs (λ x. (item_tree x.0, terminals_of x.1.now)) result (reading.item_of room (terminals_of symbols.now)) }
 {
@@ -144,13 +147,17 @@ fn item(alloc: Global, room: u32, symbols: &[Symbol]) -> Result<(Item, &[Symbol]
             Symbol::Dot,
             Symbol::Binary(Operation::Multiply),
             rest @ ..,
-        ] => Ok((Item::AllOf(name.clone()?), rest)),
+        ] => Ok((Item::AllOf(String::from_str(alloc, name)?), rest)),
         _ => value(alloc, room, symbols),
     }
 }
 
 /// The items at the front, with a comma between each two, and the symbols behind them.
-fn items(alloc: Global, room: u32, symbols: &[Symbol]) -> Result<(Vec<Item>, &[Symbol]), ReadFault>
+fn items(
+    alloc: Global,
+    room: u32,
+    symbols: Symbols<'_>,
+) -> Result<(Vec<Item>, Symbols<'_>), ReadFault>
     requires { room < 1000 }
     ensures { ReadsAs (λ x. (items_tree x.0.items, terminals_of x.1.now))
         result (reading.list_of (reading.item_of room) (terminals_of symbols.now)) }
@@ -173,8 +180,8 @@ fn clause<'a>(
     alloc: Global,
     room: u32,
     word: &str,
-    symbols: &'a [Symbol],
-) -> Result<(Option<Expr>, &'a [Symbol]), ReadFault>
+    symbols: Symbols<'a>,
+) -> Result<(Option<Expr>, Symbols<'a>), ReadFault>
     requires { room < 1000 }
     ensures { ReadsAs (λ x. (option_map expr_tree x.0, terminals_of x.1.now))
         result (reading.perhaps_of (word.now ∷ []) (below room).whole (terminals_of symbols.now)) }
@@ -194,8 +201,8 @@ fn quantified(
     alloc: Global,
     distinct: bool,
     room: u32,
-    symbols: &[Symbol],
-) -> Result<(Core, &[Symbol]), ReadFault>
+    symbols: Symbols<'_>,
+) -> Result<(Core, Symbols<'_>), ReadFault>
     requires { room < 1000 }
     ensures { ReadsAs (λ x. (core_tree x.0, terminals_of x.1.now)) result
         (reading.quantified_of distinct room (terminals_of symbols.now)) }
@@ -220,7 +227,11 @@ fn quantified(
 
 /// The core behind SELECT.
 #[tactic(auto, unfolding(crate::specs::QueryReading::selected_of))]
-fn selected(alloc: Global, room: u32, symbols: &[Symbol]) -> Result<(Core, &[Symbol]), ReadFault>
+fn selected(
+    alloc: Global,
+    room: u32,
+    symbols: Symbols<'_>,
+) -> Result<(Core, Symbols<'_>), ReadFault>
     requires { room < 1000 }
     ensures { ReadsAs (λ x. (core_tree x.0, terminals_of x.1.now)) result (reading.selected_of room (terminals_of symbols.now)) }
 {
@@ -230,7 +241,7 @@ fn selected(alloc: Global, room: u32, symbols: &[Symbol]) -> Result<(Core, &[Sym
 
 /// The core at the front, and the symbols behind it.
 #[tactic(auto, unfolding(crate::specs::QueryReading::core_of))]
-fn core(alloc: Global, room: u32, symbols: &[Symbol]) -> Result<(Core, &[Symbol]), ReadFault>
+fn core(alloc: Global, room: u32, symbols: Symbols<'_>) -> Result<(Core, Symbols<'_>), ReadFault>
     requires { room < 1000 }
     ensures { ReadsAs (λ x. (core_tree x.0, terminals_of x.1.now)) result (reading.core_of room (terminals_of symbols.now)) }
 {
@@ -241,24 +252,28 @@ fn core(alloc: Global, room: u32, symbols: &[Symbol]) -> Result<(Core, &[Symbol]
 }
 
 /// The cores at the front, each behind a UNION ALL, and the symbols behind them.
-fn unions(alloc: Global, room: u32, symbols: &[Symbol]) -> Result<(Vec<Core>, &[Symbol]), ReadFault>
+fn unions(
+    alloc: Global,
+    room: u32,
+    symbols: Symbols<'_>,
+) -> Result<(Vec<Core>, Symbols<'_>), ReadFault>
     requires { room < 1000 }
     ensures { ReadsAs (λ x. (map core_tree x.0.items, terminals_of x.1.now)) result
         (reading.all_unions_of room (terminals_of symbols.now)) }
 {
     let mut others = Vec::new(alloc);
-    let mut rest = symbols;
+    let mut rest = onward(symbols);
     while let Some(after) = behind_two("union", "all", rest) {
         let (next, more) = core(alloc, room, after)?;
         others.push(next)?;
-        rest = more;
+        rest = onward(more);
     }
     Ok((others, rest))
 }
 
 /// The query at the front, and the symbols behind it.
 #[tactic(auto, unfolding(crate::specs::QueryReading::seq, crate::specs::QueryReading::query_of))]
-fn query(alloc: Global, room: u32, symbols: &[Symbol]) -> Result<(Select, &[Symbol]), ReadFault>
+fn query(alloc: Global, room: u32, symbols: Symbols<'_>) -> Result<(Select, Symbols<'_>), ReadFault>
     requires { room < 1000 }
     ensures { ReadsAs (λ x. (select_tree x.0, terminals_of x.1.now)) result (reading.query_of room (terminals_of symbols.now)) }
 {
@@ -283,8 +298,8 @@ fn query(alloc: Global, room: u32, symbols: &[Symbol]) -> Result<(Select, &[Symb
 fn statement(
     alloc: Global,
     room: u32,
-    symbols: &[Symbol],
-) -> Result<(Statement, &[Symbol]), ReadFault>
+    symbols: Symbols<'_>,
+) -> Result<(Statement, Symbols<'_>), ReadFault>
     requires { room < 1000 }
     ensures { ReadsAs (λ x. (statement_tree x.0, terminals_of x.1.now)) result (reading.statement_of room (terminals_of symbols.now)) }
 {
@@ -293,7 +308,7 @@ fn statement(
 }
 
 /// Whether nothing is left but perhaps one semicolon.
-fn is_end(symbols: &[Symbol]) -> bool
+fn is_end(symbols: Symbols<'_>) -> bool
     ensures { result ≡ reading.is_end (terminals_of symbols.now) }
 {
     matches!(symbols, [] | [Symbol::Semicolon])
@@ -301,7 +316,7 @@ fn is_end(symbols: &[Symbol]) -> bool
 
 /// The statement that all of the symbols are, where no expression is higher than the room.
 #[tactic(auto, unfolding(crate::specs::QueryReading::line_of))]
-pub fn line(alloc: Global, room: u32, symbols: &[Symbol]) -> Result<Statement, ReadFault>
+pub fn line(alloc: Global, room: u32, symbols: Symbols<'_>) -> Result<Statement, ReadFault>
     requires { room < 1000 }
     ensures { ReadsAs statement_tree result (reading.line_of room (terminals_of symbols.now)) }
 {

@@ -11,7 +11,7 @@ ghost use Rattle.std.specs.Prelude.{false};
 
 use crate::query_statement::line;
 use expr_grammar::refusal::{ReadFault, Refusal};
-use expr_grammar::symbols::Symbol;
+use expr_grammar::symbols::Symbols;
 use expr_grammar::weighing::{ROOM, weight};
 use med_lexer::Token;
 use med_syntax::Statement;
@@ -21,7 +21,7 @@ use std::alloc::Global;
 
 /// The statement that all of the symbols are. Where few of them are heavy, what is told to be too high is a statement.
 #[tactic(auto, unfolding(crate::specs::QueryReading::bounded_line))]
-fn bounded(alloc: Global, symbols: &[Symbol]) -> Result<Statement, ReadFault>
+fn bounded(alloc: Global, symbols: Symbols<'_>) -> Result<Statement, ReadFault>
     ensures { ReadsAs statement_tree result (bounded_line (terminals_of symbols.now)) }
 {
     match line(alloc, HEIGHT_LIMIT, symbols) {

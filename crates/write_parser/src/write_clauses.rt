@@ -13,7 +13,7 @@ ghost use Rattle.med_syntax.specs.WriteView.{names_tree, set_tree, write_tree};
 use crate::write_lists::{columns, row_list, set_list};
 use crate::write_words::{behind_two, behind_word, entry, expr, name};
 use expr_grammar::refusal::{ReadFault, Refusal};
-use expr_grammar::symbols::Symbol;
+use expr_grammar::symbols::{Symbol, Symbols};
 use expr_grammar::weighing::{ROOM, weight};
 use med_syntax::{Delete, Expr, Given, Insert, SetClause, Update, WriteStatement};
 use med_value::limits::HEIGHT_LIMIT;
@@ -23,12 +23,12 @@ use std::alloc::Global;
 #[tactic(auto, unfolding(crate::specs::WriteReading::target_of))]
 fn target(
     alloc: Global,
-    symbols: &[Symbol],
-) -> Result<(String, Option<Vec<String>>, &[Symbol]), ReadFault>
+    symbols: Symbols<'_>,
+) -> Result<(String, Option<Vec<String>>, Symbols<'_>), ReadFault>
     ensures { ReadsAs (λ x. ((string_bytes x.0, option_map names_tree x.1), terminals_of x.2.now))
         result (reading.target_of (terminals_of symbols.now)) }
 {
-    let (table, rest) = name(symbols)?;
+    let (table, rest) = name(alloc, symbols)?;
     let (columns, rest) = columns(alloc, rest)?;
     Ok((table, columns, rest))
 }
@@ -37,8 +37,8 @@ fn target(
 #[tactic(auto, unfolding(crate::specs::WriteReading::query_at))]
 pub fn query_at(
     alloc: Global,
-    symbols: &[Symbol],
-) -> Result<(String, Option<Vec<String>>, &[Symbol]), ReadFault>
+    symbols: Symbols<'_>,
+) -> Result<(String, Option<Vec<String>>, Symbols<'_>), ReadFault>
     ensures { ReadsAs (λ x. ((string_bytes x.0, option_map names_tree x.1), terminals_of x.2.now))
         result (reading.query_at (terminals_of symbols.now)) }
 {
@@ -59,8 +59,8 @@ pub fn query_at(
 fn insert(
     alloc: Global,
     room: u32,
-    symbols: &[Symbol],
-) -> Result<(WriteStatement, &[Symbol]), ReadFault>
+    symbols: Symbols<'_>,
+) -> Result<(WriteStatement, Symbols<'_>), ReadFault>
     requires { room < 1000 }
     ensures { ReadsAs (λ x. (write_tree x.0, terminals_of x.1.now)) result (reading.insert_of room (terminals_of symbols.now)) }
 {
@@ -87,8 +87,8 @@ fn insert(
 fn condition(
     alloc: Global,
     room: u32,
-    symbols: &[Symbol],
-) -> Result<(Option<Expr>, &[Symbol]), ReadFault>
+    symbols: Symbols<'_>,
+) -> Result<(Option<Expr>, Symbols<'_>), ReadFault>
     requires { room < 1000 }
     ensures { ReadsAs (λ x. (option_map expr_tree x.0, terminals_of x.1.now)) result (reading.where_of room (terminals_of symbols.now)) }
 {
@@ -106,8 +106,8 @@ fn condition(
 fn sets(
     alloc: Global,
     room: u32,
-    symbols: &[Symbol],
-) -> Result<(Vec<SetClause>, Option<Expr>, &[Symbol]), ReadFault>
+    symbols: Symbols<'_>,
+) -> Result<(Vec<SetClause>, Option<Expr>, Symbols<'_>), ReadFault>
     requires { room < 1000 }
     ensures { ReadsAs (λ x. ((map set_tree x.0.items, option_map expr_tree x.1), terminals_of x.2.now))
         result (reading.sets_of room (terminals_of symbols.now)) }
@@ -122,12 +122,12 @@ fn sets(
 fn update(
     alloc: Global,
     room: u32,
-    symbols: &[Symbol],
-) -> Result<(WriteStatement, &[Symbol]), ReadFault>
+    symbols: Symbols<'_>,
+) -> Result<(WriteStatement, Symbols<'_>), ReadFault>
     requires { room < 1000 }
     ensures { ReadsAs (λ x. (write_tree x.0, terminals_of x.1.now)) result (reading.update_of room (terminals_of symbols.now)) }
 {
-    let (entry, rest) = entry(symbols)?;
+    let (entry, rest) = entry(alloc, symbols)?;
     match behind_word("set", rest) {
         None => Err(ReadFault::Refused(Refusal::Syntax)),
         Some(after) => {
@@ -149,12 +149,12 @@ fn update(
 fn delete(
     alloc: Global,
     room: u32,
-    symbols: &[Symbol],
-) -> Result<(WriteStatement, &[Symbol]), ReadFault>
+    symbols: Symbols<'_>,
+) -> Result<(WriteStatement, Symbols<'_>), ReadFault>
     requires { room < 1000 }
     ensures { ReadsAs (λ x. (write_tree x.0, terminals_of x.1.now)) result (reading.delete_of room (terminals_of symbols.now)) }
 {
-    let (entry, rest) = entry(symbols)?;
+    let (entry, rest) = entry(alloc, symbols)?;
     let (condition, rest) = condition(alloc, room, rest)?;
     Ok((WriteStatement::Delete(Delete { entry, condition }), rest))
 }
@@ -164,8 +164,8 @@ fn delete(
 fn plain(
     alloc: Global,
     room: u32,
-    symbols: &[Symbol],
-) -> Result<(WriteStatement, &[Symbol]), ReadFault>
+    symbols: Symbols<'_>,
+) -> Result<(WriteStatement, Symbols<'_>), ReadFault>
     requires { room < 1000 }
     ensures { ReadsAs (λ x. (write_tree x.0, terminals_of x.1.now)) result (reading.plain_of room (terminals_of symbols.now)) }
 {
@@ -182,7 +182,7 @@ fn plain(
 }
 
 /// Whether nothing is left but perhaps one semicolon.
-fn ends(symbols: &[Symbol]) -> bool
+fn ends(symbols: Symbols<'_>) -> bool
     ensures { result ≡ is_end (terminals_of symbols.now) }
 {
     matches!(symbols, [] | [Symbol::Semicolon])
@@ -190,7 +190,7 @@ fn ends(symbols: &[Symbol]) -> bool
 
 /// The statement without a query that all of the symbols are, where no expression is higher than the room.
 #[tactic(auto, unfolding(crate::specs::WriteReading::plain_line))]
-fn line(alloc: Global, room: u32, symbols: &[Symbol]) -> Result<WriteStatement, ReadFault>
+fn line(alloc: Global, room: u32, symbols: Symbols<'_>) -> Result<WriteStatement, ReadFault>
     requires { room < 1000 }
     ensures { ReadsAs write_tree result (reading.plain_line room (terminals_of symbols.now)) }
 {
@@ -203,7 +203,7 @@ fn line(alloc: Global, room: u32, symbols: &[Symbol]) -> Result<WriteStatement, 
 }
 
 /// Why symbols of few heavy ones are refused that have no room: they are a statement, or they are none.
-fn wide_fault(alloc: Global, symbols: &[Symbol]) -> ReadFault
+fn wide_fault(alloc: Global, symbols: Symbols<'_>) -> ReadFault
     ensures { ReadsAs write_tree (Err result) (again (reading.plain_line 455 (terminals_of symbols.now))) }
 {
     match line(alloc, ROOM, symbols) {
@@ -215,7 +215,7 @@ fn wide_fault(alloc: Global, symbols: &[Symbol]) -> ReadFault
 
 /// The statement without a query that all of the symbols are. Where few of them are heavy, what is told to be too high is a statement.
 #[tactic(auto, unfolding(crate::specs::WriteReading::bounded_plain))]
-pub fn bounded(alloc: Global, symbols: &[Symbol]) -> Result<WriteStatement, ReadFault>
+pub fn bounded(alloc: Global, symbols: Symbols<'_>) -> Result<WriteStatement, ReadFault>
     ensures { ReadsAs write_tree result (reading.bounded_plain (terminals_of symbols.now)) }
 {
     match line(alloc, HEIGHT_LIMIT, symbols) {

@@ -12,20 +12,20 @@ ghost use Rattle.med_syntax.specs.WriteView.{names_tree, row_tree, set_tree};
 
 use crate::write_words::{behind_left, behind_right, expr, name, set_at};
 use expr_grammar::refusal::{ReadFault, Refusal};
-use expr_grammar::symbols::{Separator, Symbol, behind};
+use expr_grammar::symbols::{Separator, Symbols, behind};
 use med_syntax::{Expr, SetClause};
 use std::alloc::Global;
 
 /// The names at the front, and the symbols behind them.
-fn name_list(alloc: Global, symbols: &[Symbol]) -> Result<(Vec<String>, &[Symbol]), ReadFault>
+fn name_list(alloc: Global, symbols: Symbols<'_>) -> Result<(Vec<String>, Symbols<'_>), ReadFault>
     ensures { ReadsAs (λ x. (map string_bytes x.0.items, terminals_of x.1.now)) result (list_of read_name (terminals_of symbols.now)) }
 {
     let mut list = Vec::new(alloc);
-    let (first, behind_first) = name(symbols)?;
+    let (first, behind_first) = name(alloc, symbols)?;
     list.push(first)?;
     let mut rest = behind_first;
     while let Some(after) = behind(Separator::Comma, rest) {
-        let (next, more) = name(after)?;
+        let (next, more) = name(alloc, after)?;
         list.push(next)?;
         rest = more;
     }
@@ -36,8 +36,8 @@ fn name_list(alloc: Global, symbols: &[Symbol]) -> Result<(Vec<String>, &[Symbol
 #[tactic(auto, unfolding(crate::specs::WriteReading::columns_of, crate::specs::WriteReading::inside))]
 pub fn columns(
     alloc: Global,
-    symbols: &[Symbol],
-) -> Result<(Option<Vec<String>>, &[Symbol]), ReadFault>
+    symbols: Symbols<'_>,
+) -> Result<(Option<Vec<String>>, Symbols<'_>), ReadFault>
     ensures { ReadsAs (λ x. (option_map names_tree x.0, terminals_of x.1.now)) result (reading.columns_of (terminals_of symbols.now)) }
 {
     match behind_left(symbols) {
@@ -54,8 +54,8 @@ pub fn columns(
 fn expr_list(
     alloc: Global,
     room: u32,
-    symbols: &[Symbol],
-) -> Result<(Vec<Expr>, &[Symbol]), ReadFault>
+    symbols: Symbols<'_>,
+) -> Result<(Vec<Expr>, Symbols<'_>), ReadFault>
     requires { room < 1000 }
     ensures { ReadsAs (λ x. (map expr_tree x.0.items, terminals_of x.1.now)) result
         (list_of (below room).whole (terminals_of symbols.now)) }
@@ -74,7 +74,11 @@ fn expr_list(
 
 /// The row at the front, in parentheses, and the symbols behind it.
 #[tactic(auto, unfolding(crate::specs::WriteReading::row_of, crate::specs::WriteReading::inside))]
-fn row(alloc: Global, room: u32, symbols: &[Symbol]) -> Result<(Vec<Expr>, &[Symbol]), ReadFault>
+fn row(
+    alloc: Global,
+    room: u32,
+    symbols: Symbols<'_>,
+) -> Result<(Vec<Expr>, Symbols<'_>), ReadFault>
     requires { room < 1000 }
     ensures { ReadsAs (λ x. (row_tree x.0, terminals_of x.1.now)) result (reading.row_of room (terminals_of symbols.now)) }
 {
@@ -92,8 +96,8 @@ fn row(alloc: Global, room: u32, symbols: &[Symbol]) -> Result<(Vec<Expr>, &[Sym
 pub fn row_list(
     alloc: Global,
     room: u32,
-    symbols: &[Symbol],
-) -> Result<(Vec<Vec<Expr>>, &[Symbol]), ReadFault>
+    symbols: Symbols<'_>,
+) -> Result<(Vec<Vec<Expr>>, Symbols<'_>), ReadFault>
     requires { room < 1000 }
     ensures { ReadsAs (λ x. (map row_tree x.0.items, terminals_of x.1.now)) result
         (list_of (reading.row_of room) (terminals_of symbols.now)) }
@@ -112,11 +116,15 @@ pub fn row_list(
 
 /// The column that is set at the front, with its value, and the symbols behind it.
 #[tactic(auto, unfolding(crate::specs::WriteReading::set_of))]
-fn set(alloc: Global, room: u32, symbols: &[Symbol]) -> Result<(SetClause, &[Symbol]), ReadFault>
+fn set(
+    alloc: Global,
+    room: u32,
+    symbols: Symbols<'_>,
+) -> Result<(SetClause, Symbols<'_>), ReadFault>
     requires { room < 1000 }
     ensures { ReadsAs (λ x. (set_tree x.0, terminals_of x.1.now)) result (reading.set_of room (terminals_of symbols.now)) }
 {
-    let (column, rest) = set_at(symbols)?;
+    let (column, rest) = set_at(alloc, symbols)?;
     let (value, rest) = expr(alloc, room, rest)?;
     Ok((SetClause { column, value }, rest))
 }
@@ -125,8 +133,8 @@ fn set(alloc: Global, room: u32, symbols: &[Symbol]) -> Result<(SetClause, &[Sym
 pub fn set_list(
     alloc: Global,
     room: u32,
-    symbols: &[Symbol],
-) -> Result<(Vec<SetClause>, &[Symbol]), ReadFault>
+    symbols: Symbols<'_>,
+) -> Result<(Vec<SetClause>, Symbols<'_>), ReadFault>
     requires { room < 1000 }
     ensures { ReadsAs (λ x. (map set_tree x.0.items, terminals_of x.1.now)) result
         (list_of (reading.set_of room) (terminals_of symbols.now)) }

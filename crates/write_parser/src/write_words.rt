@@ -11,24 +11,24 @@ ghost use Rattle.std.specs.String.{string_bytes};
 ghost use Rattle.write_parser.specs.WriteReading as reading;
 
 use expr_grammar::refusal::{ReadFault, Refusal};
-use expr_grammar::symbols::Symbol;
+use expr_grammar::symbols::{Symbol, Symbols};
 use expr_reader::whole;
 use med_syntax::{Entry, Expr};
 use med_value::Comparison;
 use std::alloc::Global;
 
 /// The symbols behind the keyword, where it comes first.
-pub fn behind_word<'a>(word: &str, symbols: &'a [Symbol]) -> Option<&'a [Symbol]>
+pub fn behind_word<'a>(word: &str, symbols: Symbols<'a>) -> Option<Symbols<'a>>
     ensures { query.behind_word word.now (terminals_of symbols.now) ≡ option_map (λ x. terminals_of x.now) result }
 {
     match symbols {
-        [Symbol::Reserved(reserved), rest @ ..] if reserved.as_str() == word => Some(rest),
+        [Symbol::Reserved(reserved), rest @ ..] if *reserved == word => Some(rest),
         _ => None,
     }
 }
 
 /// The symbols behind two keywords, where they come first.
-pub fn behind_two<'a>(first: &str, second: &str, symbols: &'a [Symbol]) -> Option<&'a [Symbol]>
+pub fn behind_two<'a>(first: &str, second: &str, symbols: Symbols<'a>) -> Option<Symbols<'a>>
     ensures { query.behind_words (first.now ∷ second.now ∷ []) (terminals_of symbols.now) ≡ option_map (λ x. terminals_of x.now) result }
 {
     match behind_word(first, symbols) {
@@ -38,7 +38,7 @@ pub fn behind_two<'a>(first: &str, second: &str, symbols: &'a [Symbol]) -> Optio
 }
 
 /// The symbols behind a left parenthesis, where it comes first.
-pub fn behind_left(symbols: &[Symbol]) -> Option<&[Symbol]>
+pub fn behind_left(symbols: Symbols<'_>) -> Option<Symbols<'_>>
     ensures { reading.behind_left (terminals_of symbols.now) ≡ option_map (λ x. terminals_of x.now) result }
 {
     match symbols {
@@ -48,7 +48,7 @@ pub fn behind_left(symbols: &[Symbol]) -> Option<&[Symbol]>
 }
 
 /// The symbols behind a right parenthesis, which has to come first.
-pub fn behind_right(symbols: &[Symbol]) -> Result<&[Symbol], ReadFault>
+pub fn behind_right(symbols: Symbols<'_>) -> Result<Symbols<'_>, ReadFault>
     ensures { ReadsAs (λ x. terminals_of x.now) result (reading.behind_right (terminals_of symbols.now)) }
 {
     match symbols {
@@ -58,51 +58,54 @@ pub fn behind_right(symbols: &[Symbol]) -> Result<&[Symbol], ReadFault>
 }
 
 /// The name at the front, and the symbols behind it.
-pub fn name(symbols: &[Symbol]) -> Result<(String, &[Symbol]), ReadFault>
+pub fn name(alloc: Global, symbols: Symbols<'_>) -> Result<(String, Symbols<'_>), ReadFault>
     ensures { ReadsAs (λ x. (string_bytes x.0, terminals_of x.1.now)) result (query.read_name (terminals_of symbols.now)) }
 {
     match symbols {
-        [Symbol::Name(name), rest @ ..] => Ok((name.clone()?, rest)),
+        [Symbol::Name(name), rest @ ..] => Ok((String::from_str(alloc, name)?, rest)),
         _ => Err(ReadFault::Refused(Refusal::Syntax)),
     }
 }
 
 /// The name at the front, where there is one.
-fn perhaps_name(symbols: &[Symbol]) -> Result<(Option<String>, &[Symbol]), ReadFault>
+fn perhaps_name(
+    alloc: Global,
+    symbols: Symbols<'_>,
+) -> Result<(Option<String>, Symbols<'_>), ReadFault>
     ensures { ReadsAs (λ x. (option_map string_bytes x.0, terminals_of x.1.now)) result (query.perhaps_name (terminals_of symbols.now)) }
 {
     match symbols {
-        [Symbol::Name(name), rest @ ..] => Ok((Some(name.clone()?), rest)),
+        [Symbol::Name(name), rest @ ..] => Ok((Some(String::from_str(alloc, name)?), rest)),
         _ => Ok((None, symbols)),
     }
 }
 
 /// The name that a table has in the statement, where it has one of its own.
 #[tactic(auto, unfolding(query_reader::specs::QueryReading::alias_after))]
-fn alias(symbols: &[Symbol]) -> Result<(Option<String>, &[Symbol]), ReadFault>
+fn alias(alloc: Global, symbols: Symbols<'_>) -> Result<(Option<String>, Symbols<'_>), ReadFault>
     ensures { ReadsAs (λ x. (option_map string_bytes x.0, terminals_of x.1.now)) result (query.alias_after (terminals_of symbols.now)) }
 {
     match behind_word("as", symbols) {
         Some(after) => {
-            let (name, rest) = name(after)?;
+            let (name, rest) = name(alloc, after)?;
             Ok((Some(name), rest))
         }
-        None => perhaps_name(symbols),
+        None => perhaps_name(alloc, symbols),
     }
 }
 
 /// The entry at the front, and the symbols behind it.
 #[tactic(auto, unfolding(query_reader::specs::QueryReading::entry_of))]
-pub fn entry(symbols: &[Symbol]) -> Result<(Entry, &[Symbol]), ReadFault>
+pub fn entry(alloc: Global, symbols: Symbols<'_>) -> Result<(Entry, Symbols<'_>), ReadFault>
     ensures { ReadsAs (λ x. (entry_tree x.0, terminals_of x.1.now)) result (query.entry_of (terminals_of symbols.now)) }
 {
-    let (table, rest) = name(symbols)?;
-    let (alias, rest) = alias(rest)?;
+    let (table, rest) = name(alloc, symbols)?;
+    let (alias, rest) = alias(alloc, rest)?;
     Ok((Entry { table, alias }, rest))
 }
 
 /// The column that a name and an equals sign at the front set, and the symbols behind them.
-pub fn set_at(symbols: &[Symbol]) -> Result<(String, &[Symbol]), ReadFault>
+pub fn set_at(alloc: Global, symbols: Symbols<'_>) -> Result<(String, Symbols<'_>), ReadFault>
     ensures { ReadsAs (λ x. (string_bytes x.0, terminals_of x.1.now)) result (reading.set_at (terminals_of symbols.now)) }
 {
     match symbols {
@@ -110,13 +113,17 @@ pub fn set_at(symbols: &[Symbol]) -> Result<(String, &[Symbol]), ReadFault>
             Symbol::Name(name),
             Symbol::Compare(Comparison::Equal),
             rest @ ..,
-        ] => Ok((name.clone()?, rest)),
+        ] => Ok((String::from_str(alloc, name)?, rest)),
         _ => Err(ReadFault::Refused(Refusal::Syntax)),
     }
 }
 
 /// The expression at the front, and the symbols behind it.
-pub fn expr(alloc: Global, room: u32, symbols: &[Symbol]) -> Result<(Expr, &[Symbol]), ReadFault>
+pub fn expr(
+    alloc: Global,
+    room: u32,
+    symbols: Symbols<'_>,
+) -> Result<(Expr, Symbols<'_>), ReadFault>
     requires { room < 1000 }
     ensures { ReadsAs (λ x. (expr_tree x.0, terminals_of x.1.now)) result ((below room).whole (terminals_of symbols.now)) }
 {

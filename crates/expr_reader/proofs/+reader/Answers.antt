@@ -1,13 +1,14 @@
 -- The goals of the parser that the search leaves.
-use Rattle.std.proofs.Common.{arith, ◌-◌, ap, subst, sym}
+use Rattle.std.proofs.Common.{arith, ◌-◌, ◌<◌, List, length, ap, subst, sym}
 use Rattle.std.proofs.lemmas.Result.{err_from_is_err_and}
+use Rattle.expr_grammar.specs.declared.symbols.Symbol.{Symbol}
 use Rattle.expr_grammar.specs.ExprReading.{Read, below}
 use Rattle.expr_reader.specs.ReaderAnswers.{Answers}
 use Rattle.med_syntax.specs.declared.expr.Expr.{Expr}
 use Rattle.med_syntax.specs.ExprTree.{binary}
 use Rattle.med_syntax.specs.ExprView.{expr_tree, expr_trees}
 use Rattle.expr_grammar.specs.SymbolView.{terminals_of}
-use Rattle.expr_reader.proofs.ExprLoops.{chain_preserved, chain_smaller, chain_failed, chain_failed_high, chain_end, others_smaller, others_preserved, others_failed, others_end, parts_low, signed_plain, signed_minus, operand_sum}
+use Rattle.expr_reader.proofs.ExprLoops.{OthersLoop, chain_preserved, chain_smaller, chain_failed, chain_failed_high, chain_end, others_smaller, others_preserved, others_failed, others_end, parts_low, signed_plain, signed_minus, operand_sum}
 use Rattle.expr_reader.proofs.+reader.Goals as goal
 
 pub arithmetic::chain-loop-op-smaller : goal.arithmetic::chain-loop-op-smaller
@@ -28,12 +29,14 @@ conditions::others-returns-in_err-next t c =
 
 pub conditions::others-loop-after-smaller : goal.conditions::others-loop-after-smaller
 conditions::others-loop-after-smaller t c =
-    others_smaller c.args.separator c.args.room (terminals_of c.loop-after.rest.now) (terminals_of c.in-Some.after.now) (expr_tree c.in_ok-next.next.expr) (terminals_of c.in_ok-next.next.rest.now) c.requires.some c.in-Some.ensures (c.in_ok-next.ensures).0
+    subst (λ (us : List Symbol). length (terminals_of us) < length (terminals_of c.loop-after.rest.now)) (sym c.onward-rest-in-Some.ensures)
+    (others_smaller c.args.separator c.args.room (terminals_of c.loop-after.rest.now) (terminals_of c.in-Some.after.now) (expr_tree c.in_ok-next.next.expr) (terminals_of c.in_ok-next.next.rest.now) c.requires.some c.in-Some.ensures (c.in_ok-next.ensures).0)
 
 pub conditions::others-loop-after-preserved : goal.conditions::others-loop-after-preserved
 conditions::others-loop-after-preserved t c =
-    others_preserved c.args.separator c.args.room (terminals_of c.args.symbols.now) c.loop-after.list.items c.push.new.self.items c.in_ok-next.next.expr c.loop-after.highest c.max-highest.result (terminals_of c.loop-after.rest.now) (terminals_of c.in-Some.after.now) c.in_ok-next.next.height (terminals_of c.in_ok-next.next.rest.now)
-    c.requires.some c.loop-after.invariant c.in-Some.ensures (c.in_ok-next.ensures).0 (c.in_ok-next.ensures).1 (c.in_ok-next.ensures).2 c.in_ok-push.ensures.items (omega (arith, c.max-highest.ensures))
+    subst (λ (us : List Symbol). OthersLoop c.args.separator c.args.room (terminals_of c.args.symbols.now) (expr_trees c.push.new.self.items) c.max-highest.result (terminals_of us)) (sym c.onward-rest-in-Some.ensures)
+    (others_preserved c.args.separator c.args.room (terminals_of c.args.symbols.now) c.loop-after.list.items c.push.new.self.items c.in_ok-next.next.expr c.loop-after.highest c.max-highest.result (terminals_of c.loop-after.rest.now) (terminals_of c.in-Some.after.now) c.in_ok-next.next.height (terminals_of c.in_ok-next.next.rest.now)
+    c.requires.some c.loop-after.invariant c.in-Some.ensures (c.in_ok-next.ensures).0 (c.in_ok-next.ensures).1 (c.in_ok-next.ensures).2 c.in_ok-push.ensures.items (omega (arith, c.max-highest.ensures)))
 
 pub conditions::others-returns : goal.conditions::others-returns
 conditions::others-returns t c =
@@ -57,7 +60,7 @@ operands::signed_here-returns-in-Some t c = rw (signed_minus (below (c.args.room
 
 pub operands::call_of_parts-call_made-requires-clause-low : goal.operands::call_of_parts-call_made-requires-clause-low
 operands::call_of_parts-call_made-requires-clause-low t c =
-    (omega (arith, c.requires.some, c.in_ok-first.ensures.2), parts_low c.args.room c.in_ok-others.others.highest (terminals_of c.in_ok-first.first.rest.now) (expr_trees c.in_ok-others.others.list.items) (terminals_of c.in_ok-others.others.rest.now) c.requires.some c.in_ok-others.ensures.0 c.in_ok-others.ensures.1)
+    (omega (arith, c.requires.1.1.0, c.in_ok-first.ensures.2), parts_low c.args.room c.in_ok-others.others.highest (terminals_of c.in_ok-first.first.rest.now) (expr_trees c.in_ok-others.others.list.items) (terminals_of c.in_ok-others.others.rest.now) c.requires.1.1.0 c.in_ok-others.ensures.0 c.in_ok-others.ensures.1)
 
 pub arithmetic::chain-returns-in_err-found-2 : goal.arithmetic::chain-returns-in_err-found-2
 arithmetic::chain-returns-in_err-found-2 t c =

@@ -1,14 +1,16 @@
-use Rattle.std.proofs.Common.{ap, List, Bor, map}
+use Rattle.std.proofs.Common.{ap, sym, subst, ◌<◌, List, Bor, length, map}
 use Rattle.std.proofs.lemmas.Result.{err_from_is_err_and}
 use Rattle.med_syntax.specs.declared.statement.Join.{Join}
 use Rattle.expr_grammar.specs.declared.symbols.Symbol.{Symbol}
 use Rattle.expr_grammar.specs.SymbolView.{terminals_of}
 use Rattle.med_syntax.specs.QueryView.{join_tree}
-use Rattle.query_reader.proofs.QueryLoop.{joins_start, joins_end, joins_failed, joins_more, joins_shorter}
+use Rattle.query_reader.proofs.QueryLoop.{JoinsLoop, joins_start, joins_end, joins_failed, joins_more, joins_shorter}
 use Rattle.query_reader.proofs.query_source.joins.Goals as goal
 
 pub loop-way-init : goal.loop-way-init
-loop-way-init c = joins_start c.args.room (terminals_of c.args.symbols.now) (map join_tree c.new-list.result.items) (ap (map join_tree) c.new-list.ensures.items)
+loop-way-init c =
+    subst (λ (us : List Symbol). JoinsLoop c.args.room (terminals_of c.args.symbols.now) (map join_tree c.new-list.result.items) (terminals_of us)) (sym c.onward-rest.ensures)
+    (joins_start c.args.room (terminals_of c.args.symbols.now) (map join_tree c.new-list.result.items) (ap (map join_tree) c.new-list.ensures.items))
 
 pub returns-in_err-next : goal.returns-in_err-next
 returns-in_err-next c =
@@ -18,11 +20,13 @@ returns-in_err-next c =
 
 pub loop-way-smaller : goal.loop-way-smaller
 loop-way-smaller c =
-    joins_shorter c.args.room (terminals_of c.loop-way.rest.now) (terminals_of c.in-Some.after.now) c.in-Some.way (join_tree c.in_ok-next.next) (terminals_of c.in_ok-next.more.now) c.in-Some.ensures c.in_ok-next.ensures
+    subst (λ (us : List Symbol). length (terminals_of us) < length (terminals_of c.loop-way.rest.now)) (sym c.onward-rest-in-Some.ensures)
+    (joins_shorter c.args.room (terminals_of c.loop-way.rest.now) (terminals_of c.in-Some.after.now) c.in-Some.way (join_tree c.in_ok-next.next) (terminals_of c.in_ok-next.more.now) c.in-Some.ensures c.in_ok-next.ensures)
 
 pub loop-way-preserved : goal.loop-way-preserved
 loop-way-preserved c =
-    joins_more c.args.room join_tree (terminals_of c.args.symbols.now) c.loop-way.list.items c.push.new.self.items c.in_ok-next.next (terminals_of c.loop-way.rest.now) (terminals_of c.in-Some.after.now) c.in-Some.way (terminals_of c.in_ok-next.more.now) c.loop-way.invariant c.in-Some.ensures c.in_ok-next.ensures c.in_ok-push.ensures.items
+    subst (λ (us : List Symbol). JoinsLoop c.args.room (terminals_of c.args.symbols.now) (map join_tree c.push.new.self.items) (terminals_of us)) (sym c.onward-rest-in-Some.ensures)
+    (joins_more c.args.room join_tree (terminals_of c.args.symbols.now) c.loop-way.list.items c.push.new.self.items c.in_ok-next.next (terminals_of c.loop-way.rest.now) (terminals_of c.in-Some.after.now) c.in-Some.way (terminals_of c.in_ok-next.more.now) c.loop-way.invariant c.in-Some.ensures c.in_ok-next.ensures c.in_ok-push.ensures.items)
 
 pub returns : goal.returns
 returns c = joins_end c.args.room (terminals_of c.args.symbols.now) (map join_tree c.loop-way.list.items) (terminals_of c.loop-way.rest.now) c.loop-way.invariant c.in_default.ensures
