@@ -1,5 +1,5 @@
 -- What is told in turn may be told.
-use Rattle.std.proofs.Common.{◌≡◌, ◌⊎◌, ℕ, List, [], ◌∷◌, length, Option, string_bytes, Result, Ok, Err, IfErr, Contains, inl, inr, arith, ap, sym, subst, ◌∙◌}
+use Rattle.std.proofs.Common.{◌≡◌, ◌⊎◌, ℕ, List, [], ◌∷◌, length, map, Option, string_bytes, Result, Ok, Err, IfOk, IfErr, All, Contains, inl, inr, arith, ap, sym, subst, ◌∙◌}
 use Rattle.std.proofs.lemmas.List.{length-map}
 use Rattle.med_value.specs.declared.cause.Cause.{Cause}
 use Rattle.med_value.specs.declared.cause.Cause.TheVariants.{OutOfMemory}
@@ -7,14 +7,15 @@ use Rattle.med_value.specs.declared.value.ColType.{ColType}
 use Rattle.med_syntax.specs.QueryTree.{SelectTree, StatementTree}
 use Rattle.med_query.specs.Form.{Form, form_of}
 use Rattle.bind_names.proofs.Causes.{tells_left, tells_right, none_of_two}
+use Rattle.med_binder.specs.declared.bound.BoundEntry.{BoundEntry}
 use Rattle.med_binder.specs.declared.bound.BoundQuery.{BoundQuery}
 use Rattle.bind_names.specs.Scope.{TableShape}
 use Rattle.bind_names.specs.Naming.{statement_name_causes}
 use Rattle.bind_types.specs.Typing.{written_type_causes, form_causes, union_causes, answer_types, output_type_causes, select_type_causes, statement_type_causes}
-use Rattle.bind_names.specs.Meaning.{Output, core_outputs, meant_in, meant}
-use Rattle.med_binder.specs.Binding.{IsMeant, bound_kinds, BindCauses, BindTells}
+use Rattle.bind_names.specs.Meaning.{Output, Meant, core_outputs, meant_in, meant}
+use Rattle.med_binder.specs.Binding.{AsksMeant, bound_kinds, BindCauses, BindTells}
 use Rattle.bind_names.specs.Telling.{TellsCause}
-use Rattle.med_binder.specs.Turns.{TellsInTurn, Binds}
+use Rattle.med_binder.specs.Turns.{TellsInTurn, Binds, BindsKnown}
 
 -- ---- one after the other
 
@@ -35,7 +36,7 @@ types_then names types c e t = record { told = types_told names types c e t.told
 -- ---- the outputs of the cores
 
 -- as many names as outputs of the first core
-pub widths_same : (tables : List TableShape) (q : SelectTree) (b : BoundQuery) (width : ℕ) (rows : List (List (Option ColType))) → IsMeant (meant_in tables q) b → bound_kinds b ≡ answer_types tables q
+pub widths_same : (tables : List TableShape) (q : SelectTree) (b : BoundQuery) (width : ℕ) (rows : List (List (Option ColType))) → AsksMeant (meant_in tables q) b → bound_kinds b ≡ answer_types tables q
     → width ≡ length b.names.items → rows ≡ bound_kinds b → union_causes width rows ≡ output_type_causes tables q
 widths_same tables q b width rows m k w r =
     let outs = core_outputs tables q.core in
@@ -46,13 +47,23 @@ pub outputs_told : (tables : List TableShape) (q : SelectTree) (causes : List Ca
 outputs_told tables q causes c e t =
     tells_right (written_type_causes tables q) _ c (tells_right (form_causes (meant_in tables q).form) _ c (subst (λ (xs : List Cause). TellsCause xs c) e t))
 
-pub form_told : (tables : List TableShape) (q : SelectTree) (b : BoundQuery) (c : Cause) → IsMeant (meant_in tables q) b → TellsCause (form_causes (form_of b.select)) c → TellsCause (select_type_causes tables q) c
+pub form_told : (tables : List TableShape) (q : SelectTree) (b : BoundQuery) (c : Cause) → AsksMeant (meant_in tables q) b → TellsCause (form_causes (form_of b.select)) c → TellsCause (select_type_causes tables q) c
 form_told tables q b c m t =
     tells_right (written_type_causes tables q) _ c (tells_left _ (output_type_causes tables q) c (subst (λ (f : Form). TellsCause (form_causes f) c) m.form t))
 
-pub types_clear : (tables : List TableShape) (q : SelectTree) (b : BoundQuery) (causes : List Cause) → IsMeant (meant_in tables q) b → written_type_causes tables q ≡ [] → form_causes (form_of b.select) ≡ [] → causes ≡ output_type_causes tables q
+pub types_clear : (tables : List TableShape) (q : SelectTree) (b : BoundQuery) (causes : List Cause) → AsksMeant (meant_in tables q) b → written_type_causes tables q ≡ [] → form_causes (form_of b.select) ≡ [] → causes ≡ output_type_causes tables q
     → causes ≡ [] → select_type_causes tables q ≡ []
 types_clear tables q b causes m w f e o = none_of_two _ _ w (none_of_two _ _ (ap form_causes (sym m.form) ∙ f) (sym e ∙ o))
+
+-- ---- over entries that are known
+
+pub binds_over : (names types : List Cause) (m : Meant) (es : List BoundEntry) (r : Result BoundQuery Cause) → map (λ (e : BoundEntry). e.place) es ≡ m.entries → BindsKnown names types m es r → Binds names types m r
+binds_over names types m es (Ok b) p h = (record { names = h.0.names; entries = ap (map (λ (e : BoundEntry). e.place)) h.1 ∙ p; form = h.0.form }, h.2, h.3)
+binds_over names types m es (Err c) p h = h
+
+pub entries_over : (P : BoundEntry → Type 0) (names types : List Cause) (m : Meant) (es : List BoundEntry) (r : Result BoundQuery Cause) → All P es → BindsKnown names types m es r → IfOk r (λ b. All P b.entries.items)
+entries_over P names types m es (Ok b) all h = subst (λ (xs : List BoundEntry). All P xs) (sym h.1) all
+entries_over P names types m es (Err c) all h = tt
 
 -- ---- the clauses
 

@@ -1,8 +1,7 @@
 -- Names of the cores of a query, looked up part by part.
-use Rattle.std.proofs.Common.{◌≡◌, ℕ, ◌+◌, ◌<◌, List, [], ◌∷◌, ◌++◌, map, flat_map, drop, length, get_or, refl, ap, sym, subst, ◌∙◌}
+use Rattle.std.proofs.Common.{◌≡◌, ℕ, ◌+◌, ◌<◌, List, [], ◌∷◌, ◌++◌, map, flat_map, drop, length, get_or, if◌then◌else◌, refl, ap, sym, subst, ◌∙◌}
 use Rattle.std.proofs.lemmas.List.{map-append}
 use Rattle.med_value.specs.declared.cause.Cause.{Cause}
-use Rattle.med_value.specs.declared.value.ColType.{ColType}
 use Rattle.med_syntax.specs.QueryTree.{ItemTree, GroupTree, CoreTree, SelectTree, cores_of}
 use Rattle.med_syntax.specs.QueryView.{core_tree}
 use Rattle.med_syntax.specs.declared.statement.Core.{Core}
@@ -10,15 +9,16 @@ use Rattle.tri_expr.specs.Tree.{Tree}
 use Rattle.med_query.specs.Form.{CoreForm}
 use Rattle.bind_names.specs.Scope.{TableShape, Scope, columns_of, entries_of, from_scope}
 use Rattle.bind_names.specs.Naming.{chain_name_causes, item_name_causes, condition_name_causes, group_name_causes, core_causes_in, core_asked_causes, order_causes_in, order_name_causes, asked_causes}
-use Rattle.bind_names.specs.Meaning.{Output, outputs_of, output_values, core_outputs, Sorting, sorting_in, core_meant, cores_meant}
+use Rattle.bind_names.specs.Meaning.{Output, outputs_of, output_values, core_outputs, is_empty, key_meant, key_place, Sorting, by_keys, by_places, keys_sorting, sorting_in, sorting_of, core_meant, cores_meant}
 use Rattle.bind_names.specs.Telling.{TellsCause}
 use Rattle.bind_names.proofs.Added.{added_after}
 use Rattle.bind_names.proofs.Causes.{tells_left, tells_right}
 use Rattle.bind_names.proofs.Parts.{drop_read}
 use Rattle.bind_types.specs.TreeTypes.{tree_type, column_kinds}
 use Rattle.bind_types.specs.Typing.{core_types}
-use Rattle.med_binder.specs.Looking.{IsAsked, core_with}
+use Rattle.med_binder.specs.Looking.{parts_causes, IsAsked, core_with, core_over, IsCompleted, IsResolved, Leaves}
 use Rattle.med_binder.specs.declared.cores.AskedCore.{AskedCore}
+use Rattle.med_binder.specs.declared.cores.ResolvedCore.{ResolvedCore}
 
 -- ---- what the first core says
 
@@ -72,20 +72,52 @@ having_told tables s q c t =
 pub core_told : (tables : List TableShape) (q : CoreTree) (s : Scope) (c : Cause) → s ≡ from_scope tables q.from → TellsCause (core_causes_in tables s q) c → TellsCause (core_asked_causes tables q) c
 core_told tables q s c e t = subst (λ (s : Scope). TellsCause (core_causes_in tables s q) c) e t
 
-pub core_clear : (tables : List TableShape) (q : CoreTree) (s : Scope) → s ≡ from_scope tables q.from → core_causes_in tables s q ≡ [] → core_asked_causes tables q ≡ []
-core_clear tables q s e h = ap (λ (s : Scope). core_causes_in tables s q) (sym e) ∙ h
+-- what its items ask, and all else that it asks
+pub core_clear : (tables : List TableShape) (q : CoreTree) (s : Scope) (items : List ItemTree) → s ≡ from_scope tables q.from → items ≡ q.items → flat_map (item_name_causes s) items ≡ [] → parts_causes tables s q ≡ []
+    → core_asked_causes tables q ≡ []
+core_clear tables q s items e i h k =
+    let rest = condition_name_causes s q.condition ++ (flat_map (group_name_causes s) q.groups ++ condition_name_causes s q.having) in
+    ap (λ (s : Scope). core_causes_in tables s q) (sym e)
+    ∙ ap (λ (xs : List Cause). flat_map (chain_name_causes tables) q.from ++ (xs ++ rest)) (ap (flat_map (item_name_causes s)) (sym i) ∙ h) ∙ k
 
-formed_in : (tables : List TableShape) (sorting : Sorting) (number : ℕ) (c : CoreTree) (a : AskedCore) → IsAsked tables (from_scope tables c.from) number c a → core_with c sorting a ≡ core_meant tables sorting number c
-formed_in tables sorting number c a h = rw (h.from, h.items, h.conditions, h.places, h.having) refl
+pub formed : (tables : List TableShape) (s : Scope) (number : ℕ) (c : CoreTree) (items keys : List Tree) (a : AskedCore) → IsAsked tables s number c a → core_with c items keys a ≡ core_over tables s number c items keys
+formed tables s number c items keys a h = rw (h.from, h.conditions, h.places, h.having) refl
 
-pub formed : (tables : List TableShape) (sorting : Sorting) (number : ℕ) (c : CoreTree) (s : Scope) (a : AskedCore) → s ≡ from_scope tables c.from → IsAsked tables s number c a → core_with c sorting a ≡ core_meant tables sorting number c
-formed tables sorting number c s a e h = formed_in tables sorting number c a (subst (λ (s : Scope). IsAsked tables s number c a) e h)
+pub core_same : (tables : List TableShape) (sorting : Sorting) (number : ℕ) (c : CoreTree) (s : Scope) (items keys : List Tree) → s ≡ from_scope tables c.from → items ≡ output_values (core_outputs tables c) → keys ≡ keys_sorting sorting items
+    → core_over tables s number c items keys ≡ core_meant tables sorting number c
+core_same tables sorting number c s items keys e i k =
+    ap (λ (s : Scope). core_over tables s number c items keys) e
+    ∙ ap (λ (ks : List Tree). core_over tables (from_scope tables c.from) number c items ks) k
+    ∙ ap (λ (is : List Tree). core_over tables (from_scope tables c.from) number c is (keys_sorting sorting is)) i
 
-pub types_same : (tables : List TableShape) (c : CoreTree) (s : Scope) (kinds : List ColType) (items : List Tree) → s ≡ from_scope tables c.from → kinds ≡ column_kinds (columns_of s) → items ≡ output_values (outputs_of s c.items)
-    → map (tree_type kinds) items ≡ core_types tables c
-types_same tables c s kinds items e k i =
-    ap (λ (ks : List ColType). map (tree_type ks) items) k ∙ ap (map (tree_type (column_kinds (columns_of s)))) i
-    ∙ ap (λ (s : Scope). map (tree_type (column_kinds (columns_of s))) (output_values (outputs_of s c.items))) e
+pub types_same : (tables : List TableShape) (c : CoreTree) (s : Scope) (items : List Tree) → s ≡ from_scope tables c.from → items ≡ output_values (core_outputs tables c) → map (tree_type (column_kinds (columns_of s))) items ≡ core_types tables c
+types_same tables c s items e i =
+    ap (λ (s : Scope). map (tree_type (column_kinds (columns_of s))) items) e ∙ ap (map (tree_type (column_kinds (columns_of (from_scope tables c.from))))) i
+
+-- a core that was completed is resolved
+pub completed_is : (tables : List TableShape) (sorting : Sorting) (number : ℕ) (c : CoreTree) (s : Scope) (written : List ItemTree) (items keys : List Tree) (r : ResolvedCore) → s ≡ from_scope tables c.from → written ≡ c.items
+    → flat_map (item_name_causes s) written ≡ [] → items ≡ output_values (core_outputs tables c) → keys ≡ keys_sorting sorting items → IsCompleted tables s number c items keys r → IsResolved tables sorting number c r
+completed_is tables sorting number c s written items keys r e w n i k h = record {
+  form = h.form ∙ core_same tables sorting number c s items keys e i k;
+  kinds = h.kinds ∙ types_same tables c s items e i;
+  clear = core_clear tables c s written e w n h.clear;
+}
+
+pub first_told : (tables : List TableShape) (q : SelectTree) (s : Scope) (c : Cause) → s ≡ from_scope tables q.core.from → TellsCause (core_causes_in tables s q.core) c → TellsCause (asked_causes tables q) c
+first_told tables q s c e t = tells_left _ (order_name_causes tables q) c (tells_left (core_asked_causes tables q.core) (flat_map (core_asked_causes tables) q.others) c (core_told tables q.core s c e t))
+
+-- ---- by what the others are sorted
+
+sorted_by_rest : (tables : List TableShape) (ks : List Tree) (ps : List ℕ) (rest : Sorting) (n : ℕ) (cs : List CoreTree) → Leaves (if is_empty cs then by_keys ks else by_places ps) rest
+    → cores_meant tables rest n cs ≡ cores_meant tables (if is_empty cs then by_keys ks else by_places ps) n cs
+sorted_by_rest tables ks ps rest n [] h = refl
+sorted_by_rest tables ks ps rest n (c ∷ cs) h = ap (λ (s : Sorting). cores_meant tables s n (c ∷ cs)) h
+
+pub others_sorted : (tables : List TableShape) (q : SelectTree) (rest : Sorting) (n : ℕ) → Leaves (sorting_of tables q) rest → cores_meant tables rest n q.others ≡ cores_meant tables (sorting_of tables q) n q.others
+others_sorted tables q rest n h =
+    let s = from_scope tables q.core.from in
+    let outs = core_outputs tables q.core in
+    sorted_by_rest tables (map (key_meant s outs) q.keys) (map (key_place outs) q.keys) rest n q.others h
 
 -- ---- one core after another
 

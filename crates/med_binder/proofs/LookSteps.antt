@@ -44,8 +44,8 @@ table_told tables q es c e t = known_tells (entered_causes tables q) _ c (tells_
 pub name_told : (tables : List TableShape) (q : SelectTree) (c : Cause) → TellsCause (flat_map core_alias_causes (cores_of q)) c → TellsCause (select_name_causes tables q) c
 name_told tables q c t = known_tells (entered_causes tables q) _ c (tells_right (flat_map (entry_causes tables) (query_entries q)) _ c t)
 
-pub entered_clear : (tables : List TableShape) (q : SelectTree) (es : List EntryTree) → es ≡ query_entries q → flat_map (entry_causes tables) es ≡ [] → flat_map core_alias_causes (cores_of q) ≡ [] → entered_causes tables q ≡ []
-entered_clear tables q es e k n = none_of_two _ _ (ap (flat_map (entry_causes tables)) (sym e) ∙ k) n
+pub entered_clear : (tables : List TableShape) (q : SelectTree) → flat_map (entry_causes tables) (query_entries q) ≡ [] → flat_map core_alias_causes (cores_of q) ≡ [] → entered_causes tables q ≡ []
+entered_clear tables q k n = none_of_two _ _ k n
 
 -- a name in what the first core says of the query
 pub head_told : (tables : List TableShape) (q : SelectTree) (c : Cause) → entered_causes tables q ≡ [] → TellsCause (asked_causes tables q) c → TellsCause (select_name_causes tables q) c

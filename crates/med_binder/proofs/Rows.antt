@@ -1,5 +1,7 @@
 -- The tables of a catalogue by their names, and as they are seen by entries.
 use Rattle.std.proofs.Common.{◌≡◌, ◌<◌, length, arith, ℕ, Bool, true, false, cond, List, [], ◌∷◌, ◌++◌, Option, Some, None, zero, suc, slice_get, subst, map, find, unwrap_or, bytes_eq, if◌then◌else◌, refl, sym, ap, ◌∙◌}
+use Rattle.std.proofs.lemmas.List.{map-append}
+use Rattle.bind_names.proofs.Added.{added_after}
 use Rattle.std.specs.Option.{option_map, is_some}
 use Rattle.std.specs.List.{IsDistinct, AllByRecursion}
 use Rattle.std.proofs.lemmas.Bool.{false≢true}
@@ -92,3 +94,10 @@ pub within_by : {X : Type 0} (xs : List X) (k : ℕ) (x : X) → slice_get xs k 
 within_by [] k x at = absurd cc
 within_by (y ∷ ys) zero x at = omega arith
 within_by (y ∷ ys) (suc k) x at = let r : k < length ys = within_by ys k x at in omega arith
+
+-- ---- one more is made of the next
+
+pub mapped_next : {X Y Z : Type 0} (f : X → Z) (g : Y → Z) (old new : List X) (x : X) (all rest more : List Y) (y : Y) → new ≡ old ++ x ∷ [] → rest ≡ y ∷ more → f x ≡ g y → map f old ++ map g rest ≡ map g all → map f new ++ map g more ≡ map g all
+mapped_next {Y = Y} f g old new x all rest more y e r h i =
+    added_after _ (map f old) (map f new) (g y ∷ []) (map g more) (ap (λ (ys : List Y). map f old ++ map g ys) (sym r) ∙ i)
+    (ap (map f) e ∙ map-append f old (x ∷ []) ∙ ap (λ z. map f old ++ z ∷ []) h)

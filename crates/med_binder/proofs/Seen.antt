@@ -36,7 +36,7 @@ module _ (small full : List TableShape) where
   scope_same [] h = refl
   scope_same (e ∷ es) h = ap (λ x. x ∷ map (entry_shape small) es) (shape_same e h.0) ∙ ap (λ xs. entry_shape full e ∷ xs) (scope_same es h.1)
 
-  causes_same : (es : List EntryTree) → SeesAll small full es → flat_map (entry_causes small) es ≡ flat_map (entry_causes full) es
+  pub causes_same : (es : List EntryTree) → SeesAll small full es → flat_map (entry_causes small) es ≡ flat_map (entry_causes full) es
   causes_same [] h = refl
   causes_same (e ∷ es) h =
       ap (λ (b : Bool). (if b then [] else UndefinedTable ∷ []) ++ flat_map (entry_causes small) es) h.0.known ∙ ap (λ xs. entry_causes full e ++ xs) (causes_same es h.1)

@@ -19,6 +19,11 @@ pub record IsMeant (m : Meant) (b : BoundQuery) : Type 0 where
   pub entries : map (λ (e : BoundEntry). e.place) b.entries.items ≡ m.entries
   pub form : form_of b.select ≡ m.form
 
+-- it has the names and the form of this one, whatever its entries are
+pub record AsksMeant (m : Meant) (b : BoundQuery) : Type 0 where
+  pub names : map string_bytes b.names.items ≡ m.names
+  pub form : form_of b.select ≡ m.form
+
 -- an entry is the table in its place
 pub record IsEntryOf (tables : List TableView) (e : BoundEntry) : Type 0 where
   pub table : TableView

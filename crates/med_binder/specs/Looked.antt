@@ -1,13 +1,12 @@
 -- What looking up the tables of FROM in a catalogue answers.
-use Rattle.std.specs.Prelude.{◌≡◌, ◌⊎◌, List, [], map, flat_map, length, Contains, true, Option, slice_get, Result, Ok, Err, Vec}
+use Rattle.std.specs.Prelude.{◌≡◌, ◌⊎◌, List, [], map, length, Contains, true, Option, slice_get, Result, Ok, Err}
 use Rattle.med_value.specs.declared.cause.Cause.{Cause}
 use Rattle.med_value.specs.declared.cause.Cause.TheVariants.{OutOfMemory}
 use Rattle.med_syntax.specs.Tree.{Name}
 use Rattle.med_syntax.specs.QueryTree.{EntryTree, SelectTree, StatementTree, select}
 use Rattle.med_query.specs.Select.{are_safe_cores}
 use Rattle.bind_names.specs.Scope.{TableShape, entry_place, entry_columns, query_scope}
-use Rattle.bind_names.specs.Naming.{entry_causes, select_name_causes}
-use Rattle.bind_names.specs.Telling.{TellsCause}
+use Rattle.bind_names.specs.Naming.{select_name_causes}
 use Rattle.bind_names.specs.declared.table.TableView.{TableView}
 use Rattle.bind_types.specs.Typing.{answer_types, select_type_causes}
 use Rattle.med_binder.specs.Binding.{IsMeant, bound_kinds}
@@ -43,19 +42,11 @@ pub record IsEntryAt (o : Objects) (bound : List Attached) (e : EntryTree) (b : 
   pub width : b.width ≡ length (entry_columns (shapes o) e)
   pub there : IsPlaceOf bound b.place (offered.entry_place b)
 
-abbrev pub PlacesEntry : Objects → List Attached → EntryTree → Result BoundEntry Cause → Type 0
-PlacesEntry o bound e (Ok b) = IsEntryAt o bound e b × (entry_causes (shapes o) e ≡ [])
-PlacesEntry o bound e (Err c) = TellsCause (entry_causes (shapes o) e) c
-
 -- of each entry
 pub record AreEntriesAt (o : Objects) (bound : List Attached) (es : List EntryTree) (bs : List BoundEntry) : Type 0 where
   pub places : map (λ (b : BoundEntry). b.place) bs ≡ map (entry_place (shapes o)) es
   pub widths : map (λ (b : BoundEntry). b.width) bs ≡ map (λ (e : EntryTree). length (entry_columns (shapes o) e)) es
   pub there : ArePlaces bound (map (λ (b : BoundEntry). b.place) bs) (map offered.entry_place bs)
-
-abbrev pub PlacesEntries : {A : Type 0} → Objects → List Attached → List EntryTree → Result (Vec BoundEntry A) Cause → Type 0
-PlacesEntries o bound es (Ok v) = AreEntriesAt o bound es v.items × (flat_map (entry_causes (shapes o)) es ≡ [])
-PlacesEntries o bound es (Err c) = TellsCause (flat_map (entry_causes (shapes o)) es) c
 
 -- the query, over entries with the columns of their tables, and no cause stands
 pub record IsBoundOver (o : Objects) (bound : List Attached) (user : Name) (q : SelectTree) (b : BoundQuery) : Type 0 where

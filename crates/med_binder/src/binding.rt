@@ -2,8 +2,7 @@
 
 ghost use Rattle.std.specs.Prelude.{◌≡◌, length, map, true, IfOk, OnOk, IfErr};
 ghost use Rattle.med_value.specs.declared.cause.Cause.{Cause as AnyCause};
-ghost use Rattle.med_syntax.specs.QueryTree.{select};
-ghost use Rattle.med_syntax.specs.QueryView.{select_tree, statement_tree};
+ghost use Rattle.med_syntax.specs.QueryView.{statement_tree};
 ghost use Rattle.med_query.specs.Select.{are_safe_cores};
 ghost use Rattle.bind_names.specs.Scope.{query_scope};
 ghost use Rattle.bind_types.specs.Typing.{answer_types};
@@ -19,29 +18,21 @@ ghost use Rattle.med_binder.specs.Looked.{query_in, BindsOver};
 
 use crate::bound::BoundQuery;
 use crate::bound_table::BoundTable;
-use crate::gathering::{gathered, placed_entries};
+use crate::gathering::gathered;
+use crate::query_binding::bind_known;
 use crate::rights::check_rights;
-use crate::view_binding::bind_views;
+use crate::view_binding::query_of;
 use bind_names::query_entries;
 use med_catalog::Catalog;
-use med_syntax::{Select, Statement};
+use med_syntax::Statement;
 use med_value::Cause;
 use std::alloc::Global;
 
-// The query that a statement is.
-fn query_of(statement: &Statement) -> &Select
-    ensures { statement_tree statement.now ≡ select (select_tree result.now) }
-{
-    match statement {
-        Statement::Select(query) => query,
-    }
-}
-
 // The query over the tables that its entries name.
-fn bind_over(
+fn bind_over<'a>(
     alloc: Global,
-    statement: &Statement,
-    catalog: &Catalog,
+    statement: &'a Statement,
+    catalog: &'a Catalog,
     bound: &[BoundTable],
     user: &str,
 ) -> Result<BoundQuery, Cause>
@@ -49,17 +40,12 @@ fn bind_over(
     requires once { AreNamedOnce (objects catalog.now) }
     ensures { BindsOver (objects catalog.now) (map attached bound.now) user.now (query_in (statement_tree statement.now)) result }
 {
-    let written = query_entries(alloc, query_of(statement))?;
+    let select = query_of(statement);
+    let written = query_entries(alloc, select)?;
     check_rights(catalog, written.as_slice(), user)?;
-    let entries = placed_entries(alloc, catalog, bound, written.as_slice())?;
-    let tables = gathered(alloc, catalog, bound, written.as_slice())?;
-    let found = bind_views(alloc, statement, tables.as_slice(), user)?;
-    Ok(BoundQuery {
-        names: found.names,
-        entries,
-        select: found.select,
-        kinds: found.kinds,
-    })
+    let found = gathered(alloc, catalog, bound, written.as_slice())?;
+    let entries = found.entries;
+    bind_known(alloc, select, found.tables.as_slice(), entries)
 }
 
 /// What a statement means over the tables of the catalogue, or why this user may not have it answered (SQL:2016, 7.16

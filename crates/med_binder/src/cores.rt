@@ -1,14 +1,14 @@
 //! The cores of a query, their names being resolved.
 #![tactic(auto, using(bind_names::proofs::Causes::tells_left, bind_names::proofs::Causes::tells_right, bind_names::proofs::Causes::tells_memory, bind_names::proofs::Causes::tells_one, bind_names::proofs::Causes::none_of_two))]
 
-ghost use Rattle.bind_names.specs.Scope.{entries_of as entries_in, scope_of as seen_as, table_shape};
+ghost use Rattle.bind_names.specs.Scope.{entries_of as entries_in, from_scope, scope_of as seen_as, table_shape};
 ghost use Rattle.bind_names.specs.Telling.{Means};
 ghost use Rattle.bind_query.specs.Resolving.{sorting_form};
 ghost use Rattle.bind_query.specs.Shown.{output_of};
-ghost use Rattle.med_binder.specs.Looking.{AddsCore, AddsCores, Asks, Assembles, Heads, ResolvesCore, ResolvesCores, Splits};
-ghost use Rattle.med_syntax.specs.QueryTree.{cores_of};
+ghost use Rattle.med_binder.specs.Looking.{AddsCore, AddsCores, Asks, Assembles, Begins, Completes, ResolvesCore, ResolvesOthers, Sorts, Splits};
 ghost use Rattle.med_syntax.specs.QueryView.{core_tree, select_tree};
-ghost use Rattle.std.specs.Prelude.{ℕ, ◌+◌, [], length, map};
+ghost use Rattle.std.specs.Prelude.{◌≡◌, ℕ, ◌+◌, [], length, map};
+ghost use Rattle.tri_expr.specs.Tree.{tree};
 
 use bind_names::{TableView, Visible, entries_of, from_in_view};
 use bind_query::grouping::grouping;
@@ -44,31 +44,28 @@ fn split(alloc: Global, outputs: Vec<Shown>) -> Result<Columns, Cause>
     Ok(Columns { names, items })
 }
 
-/// What the first core says of a query.
+// The keys of the first core, and by what the rows of the others are sorted.
 #[derive(Drop)]
-pub(crate) struct QueryHead {
-    /// The names of its outputs.
-    pub(crate) names: Vec<String>,
-    /// By what the rows of each core are sorted.
-    pub(crate) sorting: Sorting,
+struct SortedCore {
+    keys: Vec<Expr>,
+    others: Sorting,
 }
 
-/// What the first core says of a query, or why one of its items or a key of ORDER BY is refused.
-pub(crate) fn query_head(
-    alloc: Global,
-    tables: &[TableView<'_>],
-    select: &Select,
-) -> Result<QueryHead, Cause>
-    ensures { Heads (map table_shape tables.now) (select_tree select.now) result }
+// By what the rows of a first core with these items are sorted. Its keys are not copied.
+fn sorted(alloc: Global, sorting: Sorting, items: &[Expr]) -> Result<SortedCore, Cause>
+    ensures { Sorts (sorting_form sorting) (map tree items.now) result }
 {
-    let scope = from_in_view(alloc, tables, select.core.from.as_slice())?;
-    let outputs = outputs_of(alloc, scope.as_slice(), select.core.items.as_slice())?;
-    let sorting = sorting_for(alloc, scope.as_slice(), outputs.as_slice(), select)?;
-    let columns = split(alloc, outputs)?;
-    Ok(QueryHead {
-        names: columns.names,
-        sorting,
-    })
+    match sorting {
+        Sorting::Keys(keys) => Ok(SortedCore {
+            keys,
+            others: Sorting::Places(Vec::new(alloc)),
+        }),
+        Sorting::Places(places) => {
+            let others = Sorting::Places(places);
+            let keys = sorting_keys(alloc, &others, items)?;
+            Ok(SortedCore { keys, others })
+        }
+    }
 }
 
 // What is asked of the entries of a core, its names being resolved.
@@ -76,8 +73,6 @@ pub(crate) fn query_head(
 struct AskedCore {
     // FROM.
     from: Vec<JoinChain>,
-    // What is answered.
-    items: Vec<Expr>,
     // WHERE.
     conditions: Vec<Expr>,
     // GROUP BY.
@@ -97,14 +92,11 @@ fn ask(
     ensures { Asks (map table_shape tables.now) (seen_as scope.now) number (core_tree core.now) result }
 {
     let from = chains(alloc, tables, number, core.from.as_slice())?;
-    let outputs = outputs_of(alloc, scope, core.items.as_slice())?;
     let conditions_met = conditions(alloc, scope, &core.condition)?;
     let places = places(alloc, scope, core.groups.as_slice())?;
     let having = conditions(alloc, scope, &core.having)?;
-    let columns = split(alloc, outputs)?;
     Ok(AskedCore {
         from,
-        items: columns.items,
         conditions: conditions_met,
         places,
         having,
@@ -115,19 +107,18 @@ fn ask(
 fn assemble(
     alloc: Global,
     core: &Core,
-    sorting: &Sorting,
     asked: AskedCore,
+    items: Vec<Expr>,
+    keys: Vec<Expr>,
 ) -> Result<SelectCore, Cause>
-    ensures { Assembles (core_tree core.now) (sorting_form sorting.now) asked result }
+    ensures { Assembles (core_tree core.now) (map tree items.items) (map tree keys.items) asked result }
 {
     let AskedCore {
         from,
-        items,
         conditions,
         places,
         having,
     } = asked;
-    let keys = sorting_keys(alloc, sorting, items.as_slice())?;
     let grouping = grouping(
         alloc,
         core,
@@ -146,11 +137,74 @@ fn assemble(
     })
 }
 
-// A core, and the types of its outputs.
+/// A core, and the types of its outputs.
 #[derive(Drop)]
-struct ResolvedCore {
-    core: SelectCore,
-    kinds: Vec<Option<ColType>>,
+pub(crate) struct ResolvedCore {
+    /// The core.
+    pub(crate) core: SelectCore,
+    /// The types.
+    pub(crate) kinds: Vec<Option<ColType>>,
+}
+
+// A core that shows these items and is sorted by these keys, its first entry having this number, or why another name in it is refused.
+fn completed(
+    alloc: Global,
+    tables: &[TableView<'_>],
+    scope: &[Visible<'_>],
+    number: usize,
+    core: &Core,
+    items: Vec<Expr>,
+    keys: Vec<Expr>,
+) -> Result<ResolvedCore, Cause>
+    ensures { Completes (map table_shape tables.now) (seen_as scope.now) number (core_tree core.now)
+        (map tree items.items) (map tree keys.items) result }
+{
+    let asked = ask(alloc, tables, scope, number, core)?;
+    let seen = kinds_in_view(alloc, scope)?;
+    let kinds = kinds_of_all(alloc, seen.as_slice(), items.as_slice())?;
+    let core = assemble(alloc, core, asked, items, keys)?;
+    Ok(ResolvedCore { core, kinds })
+}
+
+/// The first core of a query, and what it says of the others.
+#[derive(Drop)]
+pub(crate) struct FirstCore {
+    /// The names of its outputs.
+    pub(crate) names: Vec<String>,
+    /// The core.
+    pub(crate) found: ResolvedCore,
+    /// By what the rows of the others are sorted.
+    pub(crate) sorting: Sorting,
+}
+
+/// The first core of a query, which has this in view, or why a name in it or a key of ORDER BY is refused. Its outputs are made once.
+pub(crate) fn first_core(
+    alloc: Global,
+    tables: &[TableView<'_>],
+    scope: &[Visible<'_>],
+    select: &Select,
+) -> Result<FirstCore, Cause>
+    requires { seen_as scope.now ≡ from_scope (map table_shape tables.now) (select_tree select.now).core.from }
+    ensures { Begins (map table_shape tables.now) (select_tree select.now) result }
+{
+    let outputs = outputs_of(alloc, scope, select.core.items.as_slice())?;
+    let sorting = sorting_for(alloc, scope, outputs.as_slice(), select)?;
+    let columns = split(alloc, outputs)?;
+    let by = sorted(alloc, sorting, columns.items.as_slice())?;
+    let found = completed(
+        alloc,
+        tables,
+        scope,
+        0,
+        &select.core,
+        columns.items,
+        by.keys,
+    )?;
+    Ok(FirstCore {
+        names: columns.names,
+        found,
+        sorting: by.others,
+    })
 }
 
 // A core whose first entry has this number, its names being resolved, or why one is refused.
@@ -164,11 +218,19 @@ fn resolved_core(
     ensures { ResolvesCore (map table_shape tables.now) (sorting_form sorting.now) number (core_tree core.now) result }
 {
     let scope = from_in_view(alloc, tables, core.from.as_slice())?;
-    let asked = ask(alloc, tables, scope.as_slice(), number, core)?;
-    let seen = kinds_in_view(alloc, scope.as_slice())?;
-    let kinds = kinds_of_all(alloc, seen.as_slice(), asked.items.as_slice())?;
-    let core = assemble(alloc, core, sorting, asked)?;
-    Ok(ResolvedCore { core, kinds })
+    let outputs = outputs_of(alloc, scope.as_slice(), core.items.as_slice())?;
+    let columns = split(alloc, outputs)?;
+    let keys = sorting_keys(alloc, sorting, columns.items.as_slice())?;
+    let found = completed(
+        alloc,
+        tables,
+        scope.as_slice(),
+        number,
+        core,
+        columns.items,
+        keys,
+    )?;
+    Ok(found)
 }
 
 // The number of the first entry behind those of a core.
@@ -227,27 +289,41 @@ fn push_cores(
     Ok(())
 }
 
-/// The cores of a query, whose entries are counted over all of them from 0, or why a name in one is refused.
-pub(crate) fn resolved_cores(
+// The cores behind the first.
+fn push_others(
     alloc: Global,
     tables: &[TableView<'_>],
     sorting: &Sorting,
     select: &Select,
+    out: &mut ResolvedCores,
+) -> Result<(), Cause>
+    ensures { AddsCores (map table_shape tables.now) (sorting_form sorting.now)
+        (0 + length (entries_in (select_tree select.now).core.from)) (select_tree select.now).others out.old out.new result }
+{
+    let others = select.others.as_slice();
+    if others.is_empty() {
+        return Ok(());
+    }
+    let next = after_core(alloc, 0, &select.core)?;
+    push_cores(alloc, tables, sorting, next, others, out)
+}
+
+/// The first core of a query and those behind it, whose entries are counted over all of them from 0, or why a name in one is refused.
+pub(crate) fn resolved_cores(
+    alloc: Global,
+    tables: &[TableView<'_>],
+    first: ResolvedCore,
+    sorting: &Sorting,
+    select: &Select,
 ) -> Result<ResolvedCores, Cause>
-    ensures { ResolvesCores (map table_shape tables.now) (sorting_form sorting.now) (cores_of (select_tree select.now)) result }
+    ensures { ResolvesOthers (map table_shape tables.now) (sorting_form sorting.now) (select_tree select.now) first result }
 {
     let mut out = ResolvedCores {
         cores: Vec::new(alloc),
         kinds: Vec::new(alloc),
     };
-    let next = push_core(alloc, tables, sorting, 0, &select.core, &mut out)?;
-    push_cores(
-        alloc,
-        tables,
-        sorting,
-        next,
-        select.others.as_slice(),
-        &mut out,
-    )?;
+    out.cores.push(first.core)?;
+    out.kinds.push(first.kinds)?;
+    push_others(alloc, tables, sorting, select, &mut out)?;
     Ok(out)
 }

@@ -10,7 +10,7 @@ ghost use Rattle.bind_names.specs.Telling.{Means};
 ghost use Rattle.med_catalog.specs.View.{objects};
 ghost use Rattle.med_binder.specs.Tables.{shapes, AreNamedOnce};
 ghost use Rattle.med_binder.specs.Places.{attached};
-ghost use Rattle.med_binder.specs.Looked.{PlacesEntry, PlacesEntries, gathered_shape, view_place, place_bound};
+ghost use Rattle.med_binder.specs.Looked.{IsEntryAt, AreEntriesAt, gathered_shape, view_place, place_bound};
 
 use crate::bound::BoundEntry;
 use crate::bound_table::BoundTable;
@@ -20,84 +20,83 @@ use med_syntax::Entry;
 use med_value::Cause;
 use std::alloc::Global;
 
-// The table that an entry stands for, and where its rows are.
-fn placed_entry(catalog: &Catalog, bound: &[BoundTable], entry: &Entry) -> Result<BoundEntry, Cause>
-    requires many { length bound.now ≡ length (objects catalog.now).tables }
-    requires once { AreNamedOnce (objects catalog.now) }
-    ensures { PlacesEntry (objects catalog.now) (map attached bound.now) (entry_tree entry.now) result }
-{
-    match catalog.table_at(entry.table.as_str()) {
-        None => Err(Cause::UndefinedTable),
-        Some((place, table)) => Ok(BoundEntry {
-            place,
-            source: bound[place].source,
-            table: bound[place].number,
-            width: table.columns.as_slice().len(),
-        }),
-    }
+// The table of an entry: under the name by which the entry has it, and where it stands and its rows are.
+#[derive(Clone, Copy)]
+struct FoundTable<'a> {
+    table: TableView<'a>,
+    entry: BoundEntry,
 }
 
-/// The tables that the entries stand for, and where their rows are: 42P01 where there is no such table.
-pub fn placed_entries(
-    alloc: Global,
-    catalog: &Catalog,
-    bound: &[BoundTable],
-    entries: &[&Entry],
-) -> Result<Vec<BoundEntry>, Cause>
-    requires many { length bound.now ≡ length (objects catalog.now).tables }
-    requires once { AreNamedOnce (objects catalog.now) }
-    ensures { PlacesEntries (objects catalog.now) (map attached bound.now) (map seen_entry entries.now) result }
-{
-    let mut out = Vec::new(alloc);
-    for entry in entries {
-        let found = placed_entry(catalog, bound, *entry)?;
-        out.push(found)?;
-    }
-    Ok(out)
-}
-
-// The table that an entry stands for, under the name by which the entry has it, and where its rows are.
-fn gathered_table<'a>(
+// The table that an entry stands for, looked up once.
+fn found_table<'a>(
     catalog: &'a Catalog,
     bound: &[BoundTable],
     entry: &'a Entry,
-) -> Result<TableView<'a>, Cause>
+) -> Result<FoundTable<'a>, Cause>
     requires many { length bound.now ≡ length (objects catalog.now).tables }
     requires once { AreNamedOnce (objects catalog.now) }
-    ensures table { Means table_shape (entry_causes (shapes (objects catalog.now)) (entry_tree entry.now))
+    ensures table { Means (λ f. table_shape f.table) (entry_causes (shapes (objects catalog.now)) (entry_tree entry.now))
         (gathered_shape (shapes (objects catalog.now)) (entry_tree entry.now)) result }
-    ensures place { IfOk result (λ t. Some (view_place t) ≡ place_bound (objects catalog.now) (map attached bound.now) (entry_tree entry.now)) }
+    ensures place { IfOk result (λ f. Some (view_place f.table)
+        ≡ place_bound (objects catalog.now) (map attached bound.now) (entry_tree entry.now)) }
+    ensures entry { IfOk result (λ f. IsEntryAt (objects catalog.now) (map attached bound.now) (entry_tree entry.now) f.entry) }
 {
     let name = entry.table.as_str();
     match catalog.table_at(name) {
         None => Err(Cause::UndefinedTable),
-        Some((place, table)) => Ok(TableView {
-            name,
-            columns: table.columns.as_slice(),
-            source: bound[place].source,
-            number: bound[place].number,
-        }),
+        Some((place, table)) => {
+            let columns = table.columns.as_slice();
+            let BoundTable { source, number } = bound[place];
+            Ok(FoundTable {
+                table: TableView {
+                    name,
+                    columns,
+                    source,
+                    number,
+                },
+                entry: BoundEntry {
+                    place,
+                    source,
+                    table: number,
+                    width: columns.len(),
+                },
+            })
+        }
     }
 }
 
-/// The tables that the entries stand for, once for each entry: 42P01 where there is no such table. Nothing of the catalogue is copied.
-pub fn gathered<'a>(
+/// The tables that entries stand for, once for each entry, and the entries themselves.
+#[derive(Drop)]
+pub(crate) struct GatheredTables<'a> {
+    /// The tables. Nothing of the catalogue is copied.
+    pub(crate) tables: Vec<TableView<'a>>,
+    /// Where each stands in the catalogue, and where its rows are.
+    pub(crate) entries: Vec<BoundEntry>,
+}
+
+/// The tables that the entries stand for, and where their rows are: 42P01 where there is no such table.
+pub(crate) fn gathered<'a>(
     alloc: Global,
     catalog: &'a Catalog,
     bound: &[BoundTable],
-    entries: &[&'a Entry],
-) -> Result<Vec<TableView<'a>>, Cause>
+    written: &[&'a Entry],
+) -> Result<GatheredTables<'a>, Cause>
     requires many { length bound.now ≡ length (objects catalog.now).tables }
     requires once { AreNamedOnce (objects catalog.now) }
-    ensures tables { Means (λ v. map table_shape v.items) (flat_map (entry_causes (shapes (objects catalog.now))) (map seen_entry entries.now))
-        (map (gathered_shape (shapes (objects catalog.now))) (map seen_entry entries.now)) result }
-    ensures places { IfOk result (λ v. map (λ t. Some (view_place t)) v.items
-        ≡ map (place_bound (objects catalog.now) (map attached bound.now)) (map seen_entry entries.now)) }
+    ensures tables { Means (λ g. map table_shape g.tables.items)
+        (flat_map (entry_causes (shapes (objects catalog.now))) (map seen_entry written.now))
+        (map (gathered_shape (shapes (objects catalog.now))) (map seen_entry written.now)) result }
+    ensures places { IfOk result (λ g. map (λ t. Some (view_place t)) g.tables.items
+        ≡ map (place_bound (objects catalog.now) (map attached bound.now)) (map seen_entry written.now)) }
+    ensures entries { IfOk result (λ g. AreEntriesAt (objects catalog.now) (map attached bound.now) (map seen_entry written.now)
+        g.entries.items) }
 {
-    let mut out = Vec::new(alloc);
-    for entry in entries {
-        let table = gathered_table(catalog, bound, *entry)?;
-        out.push(table)?;
+    let mut tables = Vec::new(alloc);
+    let mut entries = Vec::new(alloc);
+    for entry in written {
+        let found = found_table(catalog, bound, *entry)?;
+        tables.push(found.table)?;
+        entries.push(found.entry)?;
     }
-    Ok(out)
+    Ok(GatheredTables { tables, entries })
 }

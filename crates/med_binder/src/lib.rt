@@ -20,6 +20,7 @@ mod entries;
 mod gathering;
 pub mod law;
 mod look_up;
+mod query_binding;
 mod rights;
 mod view_binding;
 

@@ -2,17 +2,16 @@
 #![tactic(auto, using(bind_names::proofs::Causes::tells_left, bind_names::proofs::Causes::tells_right, bind_names::proofs::Causes::tells_memory, bind_names::proofs::Causes::tells_one, bind_names::proofs::Causes::none_of_two))]
 
 ghost use Rattle.bind_names.specs.Meaning.{rows_left};
-ghost use Rattle.bind_names.specs.Naming.{core_alias_causes};
+ghost use Rattle.bind_names.specs.Naming.{core_alias_causes, entry_causes};
+ghost use Rattle.bind_names.specs.Scope.{query_entries, table_shape};
 ghost use Rattle.bind_names.specs.Telling.{Passes};
 ghost use Rattle.med_binder.specs.Looking.{LooksUp};
-ghost use Rattle.med_syntax.specs.QueryTree.{cores_of};
 ghost use Rattle.med_syntax.specs.QueryView.{core_tree, select_tree, limit_tree};
-ghost use Rattle.std.specs.Prelude.{◌≡◌, map, flat_map, option_map, unwrap_or};
+ghost use Rattle.std.specs.Prelude.{◌≡◌, [], map, flat_map, option_map, unwrap_or};
 
-use crate::bound::BoundQuery;
-use crate::cores::{query_head, resolved_cores};
-use crate::entries::bound_entries;
-use bind_names::{TableView, check_names, from_in_view, query_entries};
+use crate::bound::{BoundEntry, BoundQuery};
+use crate::cores::{first_core, resolved_cores};
+use bind_names::{TableView, check_names, from_in_view};
 use bind_query::keys::directions;
 use med_query::Select as Resolved;
 use med_syntax::{Core, Limit, Select};
@@ -35,14 +34,6 @@ fn check_each_names(alloc: Global, tables: &[TableView<'_>], cores: &[Core]) -> 
         check_core_names(alloc, tables, core)?;
     }
     Ok(())
-}
-
-// The same of the cores of a query.
-fn check_entry_names(alloc: Global, tables: &[TableView<'_>], select: &Select) -> Result<(), Cause>
-    ensures { Passes (flat_map core_alias_causes (cores_of (select_tree select.now))) result }
-{
-    check_core_names(alloc, tables, &select.core)?;
-    check_each_names(alloc, tables, select.others.as_slice())
 }
 
 // How many rows LIMIT leaves at most: without it, and by ALL, there is no bound.
@@ -68,24 +59,27 @@ fn rows_skipped(offset: &Option<u64>) -> usize
     }
 }
 
-/// Looks the names of a query up: 42P01 where there is no such table or a qualifier names no visible entry, 42712 where two entries of a
-/// core have one name, 42703 where a name means no column, 42702 where it can mean several columns or outputs, 42601 for `*` without FROM,
-/// 42P10 for an order key that is the position of no output, that is no output under DISTINCT, or that is none of a query with UNION ALL.
-pub fn look_up(
+/// Looks the names of a query up whose tables are known, and which has these entries: 42P01 where a qualifier names no visible entry,
+/// 42712 where two entries of a core have one name, 42703 where a name means no column, 42702 where it can mean several columns or
+/// outputs, 42601 for `*` without FROM, 42P10 for an order key that is the position of no output, that is no output under DISTINCT, or
+/// that is none of a query with UNION ALL.
+pub(crate) fn look_up(
     alloc: Global,
     select: &Select,
     tables: &[TableView<'_>],
+    entries: Vec<BoundEntry>,
 ) -> Result<BoundQuery, Cause>
-    ensures { LooksUp tables.now (select_tree select.now) result }
+    requires { flat_map (entry_causes (map table_shape tables.now)) (query_entries (select_tree select.now)) ≡ [] }
+    ensures { LooksUp (map table_shape tables.now) (select_tree select.now) entries.items result }
 {
-    let written = query_entries(alloc, select)?;
-    let entries = bound_entries(alloc, tables, written.as_slice())?;
-    check_entry_names(alloc, tables, select)?;
-    let head = query_head(alloc, tables, select)?;
-    let found = resolved_cores(alloc, tables, &head.sorting, select)?;
+    let seen = from_in_view(alloc, tables, select.core.from.as_slice())?;
+    check_names(seen.as_slice())?;
+    check_each_names(alloc, tables, select.others.as_slice())?;
+    let first = first_core(alloc, tables, seen.as_slice(), select)?;
+    let found = resolved_cores(alloc, tables, first.found, &first.sorting, select)?;
     let directions = directions(alloc, select.keys.as_slice())?;
     Ok(BoundQuery {
-        names: head.names,
+        names: first.names,
         entries,
         select: Resolved {
             cores: found.cores,

@@ -1,4 +1,4 @@
-//! Statements to bound queries.
+//! Statements to bound queries over views of tables.
 
 ghost use Rattle.bind_names.specs.Meaning.{meant_in, meant};
 ghost use Rattle.bind_names.specs.Naming.{select_name_causes, statement_name_causes};
@@ -17,14 +17,14 @@ ghost use Rattle.med_value.specs.declared.cause.Cause.{Cause};
 ghost use Rattle.std.specs.Prelude.{◌≡◌, ◌⊎◌, map, true, All, IfOk, OnOk, IfErr};
 
 use crate::bound::BoundQuery;
-use crate::look_up::look_up;
-use bind_names::TableView;
-use bind_types::{check_form, check_outputs, check_written};
+use crate::entries::bound_entries;
+use crate::query_binding::bind_known;
+use bind_names::{TableView, query_entries};
 use med_syntax::{Select, Statement};
 use med_value::Cause;
 use std::alloc::Global;
 
-// A query over the tables: its names, then its types, then where its aggregates and columns stand, then the outputs of its cores.
+// A query over the tables: those of its entries, then all else.
 fn bind_select(
     alloc: Global,
     select: &Select,
@@ -37,15 +37,13 @@ fn bind_select(
     ensures kinds { IfOk result (λ b. bound_kinds b ≡ answer_types (map table_shape tables.now) (select_tree select.now)) }
     ensures safe { IfOk result (λ b. are_safe_cores b.select.cores.items ≡ true) }
 {
-    let bound = look_up(alloc, select, tables)?;
-    check_written(alloc, select, tables)?;
-    check_form(&bound.select)?;
-    check_outputs(bound.kinds.as_slice(), bound.names.len())?;
-    Ok(bound)
+    let written = query_entries(alloc, select)?;
+    let entries = bound_entries(alloc, tables, written.as_slice())?;
+    bind_known(alloc, select, tables, entries)
 }
 
-// The query that a statement is.
-fn query_of(statement: &Statement) -> &Select
+/// The query that a statement is.
+pub(crate) fn query_of(statement: &Statement) -> &Select
     ensures { statement_tree statement.now ≡ select (select_tree result.now) }
 {
     match statement {

@@ -1,14 +1,9 @@
 use Rattle.std.proofs.Common.{map, ap}
 use Rattle.std.proofs.lemmas.Result.{err_from_is_err_and}
-use Rattle.med_syntax.specs.QueryView.{item_tree, group_tree, core_tree}
+use Rattle.med_syntax.specs.QueryView.{group_tree, core_tree}
 use Rattle.bind_names.specs.Scope.{table_shape, scope_of}
-use Rattle.med_binder.proofs.CoreSteps.{item_told, condition_told, group_told, having_told}
+use Rattle.med_binder.proofs.CoreSteps.{condition_told, group_told, having_told}
 use Rattle.med_binder.proofs.cores.ask.Goals as goal
-
-pub returns-in_err-outputs : goal.returns-in_err-outputs
-returns-in_err-outputs c =
-    let p = err_from_is_err_and c.from_residual-in_err-outputs.result c.from_residual-in_err-outputs.ensures.1 in
-    rw (p.1, p.2) (item_told (map table_shape c.args.tables.now) (scope_of c.args.scope.now) (core_tree c.args.core.now) _ _ (ap (λ xs. map item_tree xs) c.as_slice-2.ensures.value) c.in_err-outputs.ensures)
 
 pub returns-in_err-conditions_met : goal.returns-in_err-conditions_met
 returns-in_err-conditions_met c =
@@ -18,7 +13,7 @@ returns-in_err-conditions_met c =
 pub returns-in_err-places : goal.returns-in_err-places
 returns-in_err-places c =
     let p = err_from_is_err_and c.from_residual-in_err-places.result c.from_residual-in_err-places.ensures.1 in
-    rw (p.1, p.2) (group_told (map table_shape c.args.tables.now) (scope_of c.args.scope.now) (core_tree c.args.core.now) _ _ (ap (λ xs. map group_tree xs) c.as_slice-3.ensures.value) c.in_err-places.ensures)
+    rw (p.1, p.2) (group_told (map table_shape c.args.tables.now) (scope_of c.args.scope.now) (core_tree c.args.core.now) _ _ (ap (λ xs. map group_tree xs) c.as_slice-2.ensures.value) c.in_err-places.ensures)
 
 pub returns-in_err-having : goal.returns-in_err-having
 returns-in_err-having c =

@@ -1,4 +1,4 @@
-use Rattle.std.proofs.Common.{◌∙◌, map, length, ap, sym, refl}
+use Rattle.std.proofs.Common.{◌∙◌, map, ap, sym, refl}
 use Rattle.med_syntax.specs.QueryView.{entry_tree}
 use Rattle.bind_names.specs.Scope.{table_shape, place_named}
 use Rattle.med_binder.proofs.EntrySteps.{entry_placed, entry_known}

@@ -1,44 +1,38 @@
-use Rattle.std.proofs.Common.{◌≡◌, length, map, ap, arith}
+use Rattle.std.proofs.Common.{map, flat_map, ap, sym, ◌∙◌}
 use Rattle.std.proofs.lemmas.Result.{err_from_is_err_and}
 use Rattle.med_syntax.specs.QueryView.{select_tree}
-use Rattle.bind_names.specs.Scope.{table_shape}
-use Rattle.bind_names.specs.Naming.{select_name_causes}
-use Rattle.bind_types.specs.Kinds.{types_in}
-use Rattle.bind_types.specs.Typing.{written_type_causes, select_type_causes}
-use Rattle.med_binder.proofs.Binds.{types_then, widths_same, outputs_told, form_told, types_clear}
-use Rattle.bind_names.proofs.Causes.{tells_left}
+use Rattle.bind_names.specs.Meaning.{meant_in}
+use Rattle.bind_names.specs.Naming.{entry_causes, select_name_causes}
+use Rattle.bind_names.specs.Scope.{table_shape, entry_place}
+use Rattle.bind_names.specs.Seen.{seen_entry}
+use Rattle.bind_types.specs.Typing.{select_type_causes}
+use Rattle.med_binder.specs.Binding.{IsEntryOf}
+use Rattle.med_binder.proofs.Binds.{names_first, binds_over, entries_over}
+use Rattle.med_binder.proofs.LookSteps.{table_told}
 use Rattle.med_binder.proofs.view_binding.bind_select.Goals as goal
 
-pub returns-in_err-check_written-clause-binds : goal.returns-in_err-check_written-clause-binds
-returns-in_err-check_written-clause-binds c =
+pub returns-in_err-entries-clause-binds : goal.returns-in_err-entries-clause-binds
+returns-in_err-entries-clause-binds c =
     let tables = map table_shape c.args.tables.now in
     let q = select_tree c.args.select.now in
-    let p = err_from_is_err_and c.from_residual-in_err-check_written.result c.from_residual-in_err-check_written.ensures.1 in
-    rw (p.1, p.2) (types_then (select_name_causes tables q) (select_type_causes tables q) _ c.in_ok-bound.ensures.clear
-    (tells_left (written_type_causes tables q) _ _ c.in_err-check_written.ensures))
+    let p = err_from_is_err_and c.from_residual-in_err-entries.result c.from_residual-in_err-entries.ensures.1 in
+    rw (p.1, p.2) (names_first (select_name_causes tables q) (select_type_causes tables q) _
+    (table_told tables q _ _ (ap (map seen_entry) c.as_slice.ensures.value ∙ c.in_ok-written.ensures.0) c.in_err-entries.ensures))
 
-pub returns-in_err-check_form-clause-binds : goal.returns-in_err-check_form-clause-binds
-returns-in_err-check_form-clause-binds c =
+pub bind_known-requires : goal.bind_known-requires
+bind_known-requires c =
     let tables = map table_shape c.args.tables.now in
-    let q = select_tree c.args.select.now in
-    let p = err_from_is_err_and c.from_residual-in_err-check_form.result c.from_residual-in_err-check_form.ensures.1 in
-    rw (p.1, p.2) (types_then (select_name_causes tables q) (select_type_causes tables q) _ c.in_ok-bound.ensures.clear (form_told tables q c.in_ok-bound.bound _ c.in_ok-bound.ensures.meant c.in_err-check_form.ensures.passes))
-
-pub returns-in_err-check_outputs-clause-binds : goal.returns-in_err-check_outputs-clause-binds
-returns-in_err-check_outputs-clause-binds c =
-    let tables = map table_shape c.args.tables.now in
-    let q = select_tree c.args.select.now in
-    let is = c.in_ok-bound.ensures in
-    let p = err_from_is_err_and c.from_residual-in_err-check_outputs.result c.from_residual-in_err-check_outputs.ensures.1 in
-    let wide : c.len.result ≡ length c.in_ok-bound.bound.names.items = omega arith in
-    let same = widths_same tables q c.in_ok-bound.bound _ _ is.meant is.kinds wide (ap (map types_in) c.as_slice.ensures.value) in
-    rw (p.1, p.2) (types_then (select_name_causes tables q) (select_type_causes tables q) _ is.clear (outputs_told tables q _ _ same c.in_err-check_outputs.ensures))
+    ap (flat_map (entry_causes tables)) (sym (ap (map seen_entry) c.as_slice.ensures.value ∙ c.in_ok-written.ensures.0)) ∙ c.in_ok-entries.ensures.1
 
 pub returns-clause-binds : goal.returns-clause-binds
 returns-clause-binds c =
     let tables = map table_shape c.args.tables.now in
     let q = select_tree c.args.select.now in
-    let is = c.in_ok-bound.ensures in
-    let wide : c.len.result ≡ length c.in_ok-bound.bound.names.items = omega arith in
-    let same = widths_same tables q c.in_ok-bound.bound _ _ is.meant is.kinds wide (ap (map types_in) c.as_slice.ensures.value) in
-    (is.meant, is.clear, types_clear tables q c.in_ok-bound.bound _ is.meant c.in_ok-check_written.ensures c.in_ok-check_form.ensures.passes same c.in_ok-check_outputs.ensures)
+    let e = ap (map seen_entry) c.as_slice.ensures.value ∙ c.in_ok-written.ensures.0 in
+    binds_over (select_name_causes tables q) (select_type_causes tables q) (meant_in tables q) _ c.bind_known.result (c.in_ok-entries.ensures.0.places ∙ ap (map (entry_place tables)) e) c.bind_known.ensures.binds
+
+pub returns-clause-entries : goal.returns-clause-entries
+returns-clause-entries c =
+    let tables = map table_shape c.args.tables.now in
+    let q = select_tree c.args.select.now in
+    entries_over (IsEntryOf c.args.tables.now) (select_name_causes tables q) (select_type_causes tables q) (meant_in tables q) _ c.bind_known.result c.in_ok-entries.ensures.0.each c.bind_known.ensures.binds

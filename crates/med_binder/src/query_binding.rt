@@ -1,0 +1,41 @@
+//! Queries over tables that are known, bound.
+
+ghost use Rattle.bind_names.specs.Meaning.{meant_in};
+ghost use Rattle.bind_names.specs.Naming.{entry_causes, select_name_causes};
+ghost use Rattle.bind_names.specs.Scope.{query_entries, table_shape};
+ghost use Rattle.bind_types.specs.Typing.{answer_types, select_type_causes};
+ghost use Rattle.med_binder.specs.Binding.{bound_kinds};
+ghost use Rattle.med_binder.specs.Turns.{BindsKnown};
+ghost use Rattle.med_query.specs.Select.{are_safe_cores};
+ghost use Rattle.med_syntax.specs.QueryView.{select_tree};
+ghost use Rattle.std.specs.Prelude.{◌≡◌, [], flat_map, map, true, IfOk};
+
+use crate::bound::{BoundEntry, BoundQuery};
+use crate::look_up::look_up;
+use bind_names::TableView;
+use bind_types::{check_form, check_outputs, check_written};
+use med_syntax::Select;
+use med_value::Cause;
+use std::alloc::Global;
+
+/// A query over tables that have each that its FROM names, and its entries: its names, then its types, then where its aggregates and
+/// columns stand, then the outputs of its cores.
+pub(crate) fn bind_known(
+    alloc: Global,
+    select: &Select,
+    tables: &[TableView<'_>],
+    entries: Vec<BoundEntry>,
+) -> Result<BoundQuery, Cause>
+    requires { flat_map (entry_causes (map table_shape tables.now)) (query_entries (select_tree select.now)) ≡ [] }
+    ensures binds { BindsKnown (select_name_causes (map table_shape tables.now) (select_tree select.now))
+        (select_type_causes (map table_shape tables.now) (select_tree select.now))
+        (meant_in (map table_shape tables.now) (select_tree select.now)) entries.items result }
+    ensures kinds { IfOk result (λ b. bound_kinds b ≡ answer_types (map table_shape tables.now) (select_tree select.now)) }
+    ensures safe { IfOk result (λ b. are_safe_cores b.select.cores.items ≡ true) }
+{
+    let bound = look_up(alloc, select, tables, entries)?;
+    check_written(alloc, select, tables)?;
+    check_form(&bound.select)?;
+    check_outputs(bound.kinds.as_slice(), bound.names.len())?;
+    Ok(bound)
+}
