@@ -13,3 +13,4 @@ mod numbers;
 pub mod outputs;
 mod resolve;
 pub mod sorting;
+pub mod values;

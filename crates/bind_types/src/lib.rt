@@ -11,9 +11,11 @@ mod forms;
 mod kinds;
 mod outputs;
 mod typing;
+mod values;
 
 pub use checks::check_written;
 pub use forms::check_form;
 pub use kinds::{kind_of, kinds_in_view, kinds_of, kinds_of_all};
 pub use outputs::check_outputs;
 pub use typing::takes;
+pub use values::{type_values, type_where};

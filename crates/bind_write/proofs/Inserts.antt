@@ -1,16 +1,11 @@
 -- INSERT over the tables of a catalogue.
-use Rattle.std.proofs.Common.{◌≡◌, ℕ, List, [], ◌++◌, Option, refl, sym, append-nil}
+use Rattle.std.proofs.Common.{◌≡◌, ℕ, List, Option, refl}
 use Rattle.med_value.specs.Column.{Column}
-use Rattle.med_value.specs.declared.cause.Cause.{Cause}
 use Rattle.med_syntax.specs.Tree.{Name}
 use Rattle.tri_expr.specs.Tree.{Tree}
-use Rattle.bind_names.specs.Naming.{once_known}
 use Rattle.med_write.specs.Form.{insert_form, values_form}
 use Rattle.write_parts.specs.Meaning.{places_meant}
 use Rattle.write_parts.specs.Typing.{rows_fit_causes}
-
-pub values_names : (known others names rights : List Cause) → known ≡ [] → others ≡ [] → rights ≡ [] → names ≡ once_known known (others ++ names) ++ (rights ++ [])
-values_names known others names rights k l r = rw (k, l, r) (sym (append-nil names))
 
 pub fits_same : (columns seen : List Column) (names : Option (List Name)) (rows ts : List (List Tree)) → seen ≡ columns → ts ≡ rows → rows_fit_causes seen names ts ≡ rows_fit_causes columns names rows
 fits_same columns seen names rows ts c r = rw (c, r) refl

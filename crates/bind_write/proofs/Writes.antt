@@ -1,13 +1,16 @@
 -- Writes over the tables of a catalogue.
-use Rattle.std.proofs.Common.{◌≡◌, ◌⊎◌, inl, inr, List, [], ◌∷◌, ◌++◌, map, flat_map, slice_get, Option, Some, Contains, Result, Ok, Err, IfOk, OnOk, IfErr, refl, sym, ap, ◌∙◌, arith}
+use Rattle.std.proofs.Common.{◌≡◌, ◌⊎◌, inl, inr, List, [], ◌∷◌, ◌++◌, map, slice_get, Option, Some, Contains, Result, Ok, Err, IfOk, OnOk, IfErr, refl, sym, ap, append-nil, ◌∙◌, arith}
 use Rattle.std.proofs.lemmas.List.Elements.{Contains-append_left, Contains-append_right}
+use Rattle.med_value.specs.Column.{column_of}
 use Rattle.med_value.specs.declared.cause.Cause.{Cause}
 use Rattle.med_value.specs.declared.cause.Cause.TheVariants.{OutOfMemory}
 use Rattle.med_syntax.specs.Tree.{Name}
 use Rattle.med_syntax.specs.ExprTree.{ExprTree}
 use Rattle.med_syntax.specs.QueryTree.{EntryTree}
 use Rattle.med_syntax.specs.WriteTree.{DeleteTree, WriteTree, delete}
-use Rattle.bind_names.specs.Naming.{once_known, name_causes, condition_name_causes}
+use Rattle.bind_names.specs.Naming.{once_known}
+use Rattle.bind_names.specs.Scope.{TableShape, Scope, scope_of, visible}
+use Rattle.bind_names.specs.declared.scope.Visible.{Visible}
 use Rattle.bind_names.specs.Telling.{TellsCause}
 use Rattle.med_binder.specs.Turns.{TellsInTurn}
 use Rattle.med_catalog.specs.Objects.{Objects}
@@ -16,15 +19,15 @@ use Rattle.med_binder.specs.Barred.{target_right_causes}
 use Rattle.med_binder.specs.Places.{Attached}
 use Rattle.med_binder.specs.Tables.{shapes}
 use Rattle.write_parts.specs.declared.target.Target.{Target}
+use Rattle.write_parts.specs.declared.values.BoundValues.{BoundValues}
 use Rattle.bind_write.specs.declared.bound.TableWrite.{TableWrite}
 use Rattle.write_parts.specs.Meaning.{target_of, columns_in, written_column, write_meant, scope_in}
 use Rattle.write_parts.specs.Naming.{target_causes, names_of, WriteNames}
-use Rattle.write_parts.specs.Typing.{types_of, WriteTypes}
+use Rattle.write_parts.specs.Typing.{asked_types, types_of, WriteTypes}
 use Rattle.bind_write.specs.Binding.{IsQueryOf, IsBoundWrite, IsBindable, IsMeantWrite, NotBound}
-use Rattle.write_parts.specs.Asking.{IsTarget, asked_names}
+use Rattle.write_parts.specs.Asking.{IsTarget, AreBound, value_names, view_of}
 use Rattle.bind_write.specs.Steps.{BindsWrite}
-use Rattle.write_parts.proofs.Lists.{none_in, of_two, names_left, in_turn_by}
-use Rattle.write_parts.proofs.Targets.{may_read}
+use Rattle.write_parts.proofs.Lists.{none_in, of_two, in_turn_by}
 
 once_left : (xs ys : List Cause) (c : Cause) → Contains xs c → Contains (once_known xs ys) c
 once_left [] ys c h = absurd (let within = h.1 in omega arith)
@@ -43,19 +46,26 @@ target_told known all asked rights more ts c f t = record { told = by t.told }
     by (inl e) = inl e
     by (inr h) = inr (inl (part (of_two known rights c h)))
 
--- a write of one entry: once its table and its list of columns are known, the names that are left are those of what is asked
-pub names_asked : (o : Objects) (bound : List Attached) (user : Name) (e : EntryTree) (t : Target) (others : List Cause) (es : List ExprTree) (condition : Option ExprTree)
-    → IsTarget o bound user e.table t → others ≡ []
-    → asked_names o user (Some e) es condition
-    ≡ once_known (target_causes (shapes o) e.table) (others ++ (flat_map (name_causes (scope_in (shapes o) e)) es ++ condition_name_causes (scope_in (shapes o) e) condition))
-    ++ (target_right_causes o user e.table ++ [])
-names_asked o bound user e t others es condition is none =
-    names_left (target_causes (shapes o) e.table) _ others (target_right_causes o user e.table) [] _ is.known none is.rights (may_read o user e.table is.rights) refl
+-- once the table and the list of columns are known and the rights are there, the names of the write are those of its expressions
+pub names_left : (known others names rights : List Cause) → known ≡ [] → others ≡ [] → rights ≡ [] → names ≡ once_known known (others ++ names) ++ (rights ++ [])
+names_left known others names rights k l r = rw (k, l, r) (sym (append-nil names))
+
+-- ---- expressions over the table
+
+-- what the entry brings into view is what WHERE and SET see
+pub scope_same : (o : Objects) (bound : List Attached) (user : Name) (e : EntryTree) (t : Target) (v : Visible) → IsTarget o bound user e.table t → visible v ≡ view_of e (map column_of t.columns.now) → scope_of (v ∷ []) ≡ scope_in (shapes o) e
+scope_same o bound user e t v is h = ap (λ (x : TableShape). x ∷ []) (h ∙ ap (view_of e) is.columns)
+
+pub told_over : (s seen : Scope) (es given : List ExprTree) (w : Option ExprTree) (c : Cause) → seen ≡ s → given ≡ es → TellsInTurn (value_names seen given w) (asked_types seen given w) c → TellsInTurn (value_names s es w) (asked_types s es w) c
+told_over s seen es given w c p q h = rw (sym p, sym q) h
+
+pub bound_over : (s seen : Scope) (es given : List ExprTree) (w : Option ExprTree) (v : BoundValues) → seen ≡ s → given ≡ es → AreBound seen given w v → AreBound s es w v
+bound_over s seen es given w v p q h = rw (sym p, sym q) h
 
 pub deleted_told : (o : Objects) (bound : List Attached) (user : Name) (d : DeleteTree) (t : Target) (c : Cause) → IsTarget o bound user d.entry.table t
-    → TellsInTurn (asked_names o user (Some d.entry) [] d.condition) (types_of o (delete d)) c → TellsInTurn (names_of o user (delete d)) (types_of o (delete d)) c
-deleted_told o bound user d t c is h = in_turn_by (asked_names o user (Some d.entry) [] d.condition) (names_of o user (delete d)) (types_of o (delete d)) (types_of o (delete d)) c
-    (names_asked o bound user d.entry t [] [] d.condition is refl) (λ x. x) h
+    → TellsInTurn (value_names (scope_in (shapes o) d.entry) [] d.condition) (types_of o (delete d)) c → TellsInTurn (names_of o user (delete d)) (types_of o (delete d)) c
+deleted_told o bound user d t c is h = in_turn_by (value_names (scope_in (shapes o) d.entry) [] d.condition) (names_of o user (delete d)) (types_of o (delete d)) (types_of o (delete d)) c
+    (names_left (target_causes (shapes o) d.entry.table) [] (value_names (scope_in (shapes o) d.entry) [] d.condition) (target_right_causes o user d.entry.table) is.known refl is.rights) (λ x. x) h
 
 pub write_is : (o : Objects) (bound : List Attached) (user : Name) (w : WriteTree) (t : Target) (r : TableWrite) → IsTarget o bound user (target_of w) t
     → r.place ≡ t.place → r.source ≡ t.source → r.table ≡ t.table → r.write.columns.items ≡ map written_column (columns_in (shapes o) (target_of w))

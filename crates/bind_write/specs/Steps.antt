@@ -1,20 +1,15 @@
 -- What the steps of binding a write answer.
-use Rattle.std.specs.Prelude.{◌≡◌, List, [], ◌∷◌, ◌++◌, map, flat_map, string_bytes, true, Option, Some, None, Result, Ok, Err, Vec, Contains}
+use Rattle.std.specs.Prelude.{◌≡◌, List, [], ◌++◌, map, string_bytes, true, Option, Result, Ok, Err}
 use Rattle.med_value.specs.Column.{Column}
 use Rattle.med_value.specs.declared.cause.Cause.{Cause}
 use Rattle.med_value.specs.declared.cause.Cause.TheVariants.{OutOfMemory}
 use Rattle.med_syntax.specs.Tree.{Name}
-use Rattle.med_syntax.specs.ExprTree.{ExprTree}
 use Rattle.med_syntax.specs.ExprView.{expr_tree}
 use Rattle.med_syntax.specs.QueryTree.{SelectTree}
 use Rattle.med_syntax.specs.WriteTree.{SetTree, WriteTree}
-use Rattle.tri_expr.specs.declared.expr.Expr.{Expr}
-use Rattle.tri_expr.specs.Tree.{Tree}
-use Rattle.med_write.specs.Form.{trees_of}
 use Rattle.med_query.specs.Select.{are_safe_cores}
 use Rattle.bind_names.specs.Naming.{entered_causes, asked_causes, once_known}
 use Rattle.bind_names.specs.Scope.{query_scope}
-use Rattle.bind_names.specs.Telling.{TellsCause}
 use Rattle.bind_types.specs.Typing.{answer_types, select_type_causes}
 use Rattle.med_binder.specs.Binding.{IsMeant, bound_kinds}
 use Rattle.med_binder.specs.Counted.{bound_widths}
@@ -27,9 +22,8 @@ use Rattle.med_binder.specs.Barred.{query_right_causes}
 use Rattle.med_binder.specs.Places.{Attached, ArePlaces}
 use Rattle.med_binder.specs.Queries.{meant_by}
 use Rattle.med_binder.specs.Tables.{shapes}
-use Rattle.write_parts.specs.Meaning.{row_meant}
-use Rattle.write_parts.specs.Naming.{named_causes, names_of, set_names, set_values, row_name_causes}
-use Rattle.write_parts.specs.Typing.{types_of, row_type_causes}
+use Rattle.write_parts.specs.Naming.{named_causes, names_of, set_names, set_values}
+use Rattle.write_parts.specs.Typing.{types_of}
 use Rattle.bind_write.specs.declared.bound.TableWrite.{TableWrite}
 use Rattle.bind_write.specs.declared.updating.SetList.{SetList}
 use Rattle.bind_write.specs.Binding.{IsBoundWrite}
@@ -50,29 +44,6 @@ pub record AreSets (sets : List SetTree) (s : SetList) : Type 0 where
 abbrev pub SplitsSets : List SetTree → Result SetList Cause → Type 0
 SplitsSets sets (Ok s) = AreSets sets s
 SplitsSets sets (Err c) = c ≡ OutOfMemory
-
--- ---- VALUES
-
--- a row with its names resolved, and no cause stands
-abbrev pub AsksRow : {A : Type 0} → List ExprTree → Result (Vec Expr A) Cause → Type 0
-AsksRow es (Ok v) = (trees_of v ≡ row_meant es) × (row_name_causes es ≡ []) × (row_type_causes es ≡ [])
-AsksRow es (Err c) = TellsInTurn (row_name_causes es) (row_type_causes es) c
-
--- one row more; or a cause of its types is answered, where none of its names stands; or one of its names is told
-abbrev pub GoesOnWith : List ExprTree → List (List Tree) → List (List Tree) → Result (Option Cause) Cause → Type 0
-GoesOnWith es old new (Ok None) = (new ≡ old ++ row_meant es ∷ []) × (row_name_causes es ≡ []) × (row_type_causes es ≡ [])
-GoesOnWith es old new (Ok (Some c)) = (row_name_causes es ≡ []) × Contains (row_type_causes es) c
-GoesOnWith es old new (Err c) = TellsCause (row_name_causes es) c
-
--- so far no cause of names stands; the rows are resolved, or a cause of types is at hand
-abbrev pub AreSoFar : List (List ExprTree) → List (List Tree) → Option Cause → Type 0
-AreSoFar rows out None = (out ≡ map row_meant rows) × (flat_map row_type_causes rows ≡ [])
-AreSoFar rows out (Some c) = Contains (flat_map row_type_causes rows) c
-
-abbrev pub AsksRows : {A B : Type 0} → List (List ExprTree) → Result (Vec (Vec Expr A) B) Cause → Type 0
-AsksRows rows (Ok v) =
-    (map trees_of v.items ≡ map row_meant rows) × (flat_map row_name_causes rows ≡ []) × (flat_map row_type_causes rows ≡ [])
-AsksRows rows (Err c) = TellsInTurn (flat_map row_name_causes rows) (flat_map row_type_causes rows) c
 
 -- ---- the query of an INSERT
 

@@ -15,7 +15,7 @@ use med_syntax::Delete;
 use med_value::Cause;
 use med_write::{BoundWrite, RowWrite};
 use std::alloc::Global;
-use write_parts::{ask, find_target, written_columns};
+use write_parts::{bind_values, find_target, table_in_view, written_columns};
 
 /// A DELETE over the tables of the catalogue, or why it is refused.
 pub(crate) fn delete_over(
@@ -32,8 +32,8 @@ pub(crate) fn delete_over(
     let Delete { entry, condition } = statement;
     let target = find_target(catalog, bound, user, entry.table.as_str())?;
     let columns = written_columns(alloc, target.columns)?;
-    let values = Vec::new(alloc);
-    let asked = ask(alloc, catalog, bound, user, Some(entry), values, condition)?;
+    let scope = [table_in_view(&entry, target.columns)];
+    let found = bind_values(alloc, &scope, &[], &condition)?;
     Ok(TableWrite {
         place: target.place,
         source: target.source,
@@ -41,7 +41,7 @@ pub(crate) fn delete_over(
         write: BoundWrite {
             columns,
             rows: RowWrite::Delete {
-                conditions: asked.conditions,
+                conditions: found.conditions,
             },
         },
         query: None,

@@ -14,7 +14,7 @@ ghost use Rattle.bind_write.specs.Steps.{BindsWrite};
 
 use crate::bound::TableWrite;
 use crate::querying::{ask_query, check_answer};
-use crate::values::{ask_rows, check_rows};
+use crate::values::{check_rows, resolve_rows};
 use med_binder::BoundTable;
 use med_catalog::Catalog;
 use med_syntax::{Expr as Written, Given, Insert, Statement};
@@ -28,7 +28,7 @@ fn values_over(
     alloc: Global,
     table: &str,
     names: &Option<Vec<String>>,
-    rows: Vec<Vec<Written>>,
+    rows: &[Vec<Written>],
     catalog: &Catalog,
     bound: &[BoundTable],
     user: &str,
@@ -36,12 +36,12 @@ fn values_over(
     requires many { length bound.now ≡ length (objects catalog.now).tables }
     requires once { AreNamedOnce (objects catalog.now) }
     ensures { BindsWrite (objects catalog.now) (map attached bound.now) user.now
-        (values_write table.now (option_map names_tree names.now) (map row_tree rows.items)) result }
+        (values_write table.now (option_map names_tree names.now) (map row_tree rows.now)) result }
 {
     let target = find_target(catalog, bound, user, table)?;
     check_named(target.columns, names)?;
-    let given = ask_rows(alloc, catalog, bound, user, rows)?;
-    check_rows(alloc, target.columns, names, given.as_slice())?;
+    let given = resolve_rows(alloc, rows)?;
+    check_rows(alloc, target.columns, names, rows, given.as_slice())?;
     Ok(TableWrite {
         place: target.place,
         source: target.source,
@@ -112,7 +112,7 @@ pub(crate) fn insert_over(
             alloc,
             table.as_str(),
             &columns,
-            rows,
+            rows.as_slice(),
             catalog,
             bound,
             user,

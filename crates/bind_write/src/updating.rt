@@ -23,7 +23,8 @@ use med_write::{BoundWrite, RowWrite};
 use std::alloc::Global;
 use tri_expr::Expr;
 use write_parts::{
-    ask, cell_kinds, check_cells, check_list, find_target, name_place, written_columns,
+    bind_values, cell_kinds, check_cells, check_list, find_target, name_place, table_in_view,
+    written_columns,
 };
 
 /// The columns of SET, and the expressions for them.
@@ -104,11 +105,12 @@ pub(crate) fn update_over(
     let target = find_target(catalog, bound, user, entry.table.as_str())?;
     let SetList { names, values } = split(alloc, sets)?;
     check_list(Cause::MisplacedName, target.columns, names.as_slice())?;
-    let asked = ask(alloc, catalog, bound, user, Some(entry), values, condition)?;
+    let scope = [table_in_view(&entry, target.columns)];
+    let found = bind_values(alloc, &scope, values.as_slice(), &condition)?;
     let cells = cells_for(
         alloc,
         names.as_slice(),
-        asked.values.as_slice(),
+        found.values.as_slice(),
         target.columns,
     )?;
     let kinds = kinds_of(alloc, target.columns)?;
@@ -121,7 +123,7 @@ pub(crate) fn update_over(
         write: BoundWrite {
             columns: written_columns(alloc, target.columns)?,
             rows: RowWrite::Update {
-                conditions: asked.conditions,
+                conditions: found.conditions,
                 cells,
             },
         },

@@ -1,97 +1,54 @@
 //! The rows of VALUES.
 #![tactic(auto, using(bind_names::proofs::Causes::tells_left, bind_names::proofs::Causes::tells_right, bind_names::proofs::Causes::tells_memory, bind_names::proofs::Causes::tells_one, bind_names::proofs::Causes::none_of_two))]
 
-ghost use Rattle.std.specs.Prelude.{◌≡◌, map, flat_map, length, option_map};
+ghost use Rattle.std.specs.Prelude.{◌≡◌, ◌++◌, map, flat_map, length, option_map};
 ghost use Rattle.std.specs.List.{list_all};
 ghost use Rattle.med_value.specs.Column.{column_of};
-ghost use Rattle.med_catalog.specs.View.{objects};
-ghost use Rattle.bind_names.specs.Telling.{Passes};
-ghost use Rattle.med_binder.specs.Tables.{AreNamedOnce};
+ghost use Rattle.bind_names.specs.Telling.{Means, Passes};
 ghost use Rattle.med_syntax.specs.WriteView.{row_tree, names_tree};
 ghost use Rattle.med_write.specs.Form.{trees_of};
-ghost use Rattle.write_parts.specs.Typing.{length_causes, row_fit_causes, row_types, rows_fit_causes};
-ghost use Rattle.bind_write.specs.Steps.{AsksRow, GoesOnWith, AsksRows};
+ghost use Rattle.write_parts.specs.Meaning.{row_meant};
+ghost use Rattle.write_parts.specs.Naming.{row_name_causes};
+ghost use Rattle.write_parts.specs.Typing.{length_causes, row_fit_causes, row_type_causes, row_types, rows_fit_causes};
 
+use bind_query::values::resolve_values;
 use bind_types::kinds_of_all;
-use med_binder::BoundTable;
-use med_catalog::Catalog;
 use med_syntax::Expr as Written;
 use med_value::{Cause, ColumnDef};
 use std::alloc::Global;
 use tri_expr::Expr;
-use write_parts::{ask, check_fit};
+use write_parts::{check_fit, check_types};
 
-// A row of VALUES, which sees no column.
-fn ask_row(
-    alloc: Global,
-    catalog: &Catalog,
-    bound: &[BoundTable],
-    user: &str,
-    row: Vec<Written>,
-) -> Result<Vec<Expr>, Cause>
-    requires many { length bound.now ≡ length (objects catalog.now).tables }
-    requires once { AreNamedOnce (objects catalog.now) }
-    ensures { AsksRow (row_tree row) result }
+/// The rows of VALUES, which see no column, with their names resolved; or why a name in one is refused.
+pub(crate) fn resolve_rows(alloc: Global, rows: &[Vec<Written>]) -> Result<Vec<Vec<Expr>>, Cause>
+    ensures { Means (λ v. map trees_of v.items) (flat_map row_name_causes (map row_tree rows.now))
+        (map row_meant (map row_tree rows.now)) result }
 {
-    let asked = ask(alloc, catalog, bound, user, None, row, None)?;
-    Ok(asked.values)
-}
-
-// One row more. Names are looked up in all rows before types are judged: so a cause of types is answered, and the next row can be asked.
-fn push_row(
-    alloc: Global,
-    catalog: &Catalog,
-    bound: &[BoundTable],
-    user: &str,
-    row: Vec<Written>,
-    out: &mut Vec<Vec<Expr>>,
-) -> Result<Option<Cause>, Cause>
-    requires many { length bound.now ≡ length (objects catalog.now).tables }
-    requires once { AreNamedOnce (objects catalog.now) }
-    ensures { GoesOnWith (row_tree row) (map trees_of out.old.items) (map trees_of out.new.items) result }
-{
-    match ask_row(alloc, catalog, bound, user, row) {
-        Ok(values) => {
-            out.push(values)?;
-            Ok(None)
-        }
-        Err(cause) => match cause.phase() {
-            None => Err(cause),
-            Some(phase) => {
-                if phase == 4 {
-                    Ok(Some(cause))
-                } else {
-                    Err(cause)
-                }
-            }
-        },
-    }
-}
-
-/// The rows of VALUES with their names resolved, or why they are refused: names before types.
-pub(crate) fn ask_rows(
-    alloc: Global,
-    catalog: &Catalog,
-    bound: &[BoundTable],
-    user: &str,
-    rows: Vec<Vec<Written>>,
-) -> Result<Vec<Vec<Expr>>, Cause>
-    requires many { length bound.now ≡ length (objects catalog.now).tables }
-    requires once { AreNamedOnce (objects catalog.now) }
-    ensures { AsksRows (map row_tree rows.items) result }
-{
-    let mut out = Vec::new(alloc);
-    let mut late = None;
+    let mut out = Vec::with_capacity(alloc, rows.len())?;
     for row in rows {
-        let found = push_row(alloc, catalog, bound, user, row, &mut out)?;
-        if found.is_some() {
-            late = found;
-        }
+        let values = resolve_values(alloc, &[], row.as_slice())?;
+        out.push(values)?;
     }
-    match late {
-        Some(cause) => Err(cause),
-        None => Ok(out),
+    Ok(out)
+}
+
+// Refuses a row by the types of its expressions, whose names are resolved.
+fn check_row_types(row: &Vec<Written>, values: &Vec<Expr>) -> Result<(), Cause>
+    requires { trees_of values.now ≡ row_meant (row_tree row.now) }
+    ensures { Passes (row_type_causes (row_tree row.now)) result }
+{
+    check_types(&[], row.as_slice(), &None, values.as_slice(), &[])
+}
+
+// The same of each row.
+fn check_each_types(rows: &[Vec<Written>], resolved: &[Vec<Expr>]) -> Result<(), Cause>
+    requires { map trees_of resolved.now ≡ map row_meant (map row_tree rows.now) }
+    ensures { Passes (flat_map row_type_causes (map row_tree rows.now)) result }
+{
+    for (place, row) in rows.iter().enumerate() {
+        check_row_types(row, &resolved[place])?;
     }
+    Ok(())
 }
 
 // Whether all rows are so long.
@@ -151,16 +108,21 @@ fn check_each(
     Ok(())
 }
 
+/// Refuses rows of VALUES by their types, once their names are resolved: a cause of the types of an expression, 42803 for an aggregate;
 /// 42601 for rows of different lengths, for more values than columns and for not as many as named columns; 42804 for a value of another
 /// type than its column's.
 pub(crate) fn check_rows(
     alloc: Global,
     columns: &[ColumnDef],
     names: &Option<Vec<String>>,
-    rows: &[Vec<Expr>],
+    rows: &[Vec<Written>],
+    resolved: &[Vec<Expr>],
 ) -> Result<(), Cause>
-    ensures { Passes (rows_fit_causes (map column_of columns.now) (option_map names_tree names.now) (map trees_of rows.now)) result }
+    requires { map trees_of resolved.now ≡ map row_meant (map row_tree rows.now) }
+    ensures { Passes (flat_map row_type_causes (map row_tree rows.now)
+        ++ rows_fit_causes (map column_of columns.now) (option_map names_tree names.now) (map trees_of resolved.now)) result }
 {
-    check_lengths(rows)?;
-    check_each(alloc, columns, names, rows)
+    check_each_types(rows, resolved)?;
+    check_lengths(resolved)?;
+    check_each(alloc, columns, names, resolved)
 }

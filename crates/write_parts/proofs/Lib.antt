@@ -1,5 +1,5 @@
 pub mod Lists
 pub mod Targets
-pub mod AskedFor
 pub mod Cells
+pub mod Expressions
 pub mod Phases

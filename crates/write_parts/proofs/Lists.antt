@@ -2,7 +2,6 @@
 use Rattle.std.proofs.Common.{◌≡◌, ◌⊎◌, inl, inr, zero, suc, List, [], ◌∷◌, ◌++◌, map, flat_map, Contains, refl, sym, ap, ◌∙◌, subst, arith}
 use Rattle.med_value.specs.declared.cause.Cause.{Cause}
 use Rattle.med_value.specs.declared.cause.Cause.TheVariants.{OutOfMemory}
-use Rattle.bind_names.specs.Naming.{once_known}
 use Rattle.bind_names.specs.Telling.{TellsCause}
 use Rattle.med_binder.specs.Turns.{TellsInTurn}
 
@@ -31,18 +30,10 @@ of_two (x ∷ xs) ys c (suc i, within, is) = by (of_two xs ys c (i, omega (arith
     by (inl (j, w, e)) = inl (suc j, omega (arith, w), e)
     by (inr k) = inr k
 
--- a map behind another, and parts that are one item each
+-- behind a map
 pub flat_over : {X Y Z : Type 0} (f : Y → List Z) (g : X → Y) (xs : List X) → flat_map f (map g xs) ≡ flat_map (λ x. f (g x)) xs
 flat_over f g [] = refl
 flat_over f g (x ∷ xs) = ap (λ zs. f (g x) ++ zs) (flat_over f g xs)
-
-pub map_over : {X Y Z : Type 0} (f : Y → Z) (g : X → Y) (xs : List X) → map f (map g xs) ≡ map (λ x. f (g x)) xs
-map_over f g [] = refl
-map_over f g (x ∷ xs) = ap (λ zs. f (g x) ∷ zs) (map_over f g xs)
-
-pub map_flat_ones : {X Y Z : Type 0} (f : Y → Z) (g : X → Y) (xs : List X) → map f (flat_map (λ x. g x ∷ []) xs) ≡ map (λ x. f (g x)) xs
-map_flat_ones f g [] = refl
-map_flat_ones f g (x ∷ xs) = ap (λ zs. f (g x) ∷ zs) (map_flat_ones f g xs)
 
 -- ---- what is told in turn
 
@@ -70,19 +61,3 @@ types_in_turn ns xs ts c e f t = record { told = by t.told }
     by : (c ≡ OutOfMemory) ⊎ Contains xs c → (c ≡ OutOfMemory) ⊎ (Contains ns c ⊎ ((ns ≡ []) × Contains ts c))
     by (inl h) = inl h
     by (inr h) = inr (inr (e, f c h))
-
-pub memory_in_turn : (ns ts : List Cause) (c : Cause) → c ≡ OutOfMemory → TellsInTurn ns ts c
-memory_in_turn ns ts c e = record { told = inl e }
-
--- only memory is told where nothing stands
-pub memory_alone : (c : Cause) → TellsCause [] c → c ≡ OutOfMemory
-memory_alone c t = by t.told
-  where
-    by : (c ≡ OutOfMemory) ⊎ Contains [] c → c ≡ OutOfMemory
-    by (inl e) = e
-    by (inr h) = absurd (none_in [] c refl h)
-
--- the names of a write, where its table and its list of columns are known and the rights are there
-pub names_left : (known names others rights more reading : List Cause) → known ≡ [] → others ≡ [] → rights ≡ [] → reading ≡ [] → more ≡ []
-    → once_known known names ++ reading ≡ once_known known (others ++ names) ++ (rights ++ more)
-names_left known names others rights more reading k l r d m = rw (k, l, r, d, m) refl

@@ -1,23 +1,23 @@
 -- Causes of names and rights are of phase 3, and causes of types of phase 4.
-use Rattle.std.proofs.Common.{◌≡◌, ◌⊎◌, inl, inr, ℕ, zero, suc, nat_eq, nat_le, Bool, true, false, not, if◌then◌else◌, length, List, [], ◌∷◌, ◌++◌, map, flat_map, Option, Some, None, unwrap_or, Contains, refl, sym, ap, ◌∙◌, subst, append-nil, arith}
+use Rattle.std.proofs.Common.{◌≡◌, ◌⊎◌, inl, inr, ℕ, zero, suc, nat_eq, nat_le, Bool, true, false, if◌then◌else◌, length, List, [], ◌∷◌, ◌++◌, map, flat_map, Option, Some, None, unwrap_or, Contains, refl, sym, ap, ◌∙◌, subst, arith}
 use Rattle.std.specs.Option.{is_some}
-use Rattle.std.specs.List.{list_all, list_any}
+use Rattle.std.specs.List.{list_all}
 use Rattle.std.proofs.lemmas.List.Elements.{Contains-append_left, Contains-append_right}
 use Rattle.med_value.specs.Causes.{phase_of}
 use Rattle.med_value.specs.Column.{Column}
 use Rattle.med_value.specs.declared.value.ColType.{ColType}
+use Rattle.med_value.specs.declared.value.ColType.TheVariants.{Bool as Truth}
 use Rattle.med_value.specs.declared.cause.Cause.{Cause}
 use Rattle.med_value.specs.declared.cause.Cause.TheVariants.{UndefinedTable, UndefinedColumn, UndefinedObject, NoPrivilege, DuplicateColumn, MisplacedName, Grouping, DatatypeMismatch, ValuesSyntax}
 use Rattle.med_syntax.specs.Tree.{Name}
 use Rattle.med_syntax.specs.ExprTree.{ExprTree}
-use Rattle.med_syntax.specs.QueryTree.{EntryTree, SelectTree, select}
+use Rattle.med_syntax.specs.QueryTree.{value, EntryTree, ChainTree, SelectTree, select}
 use Rattle.med_syntax.specs.WriteTree.{GivenTree, values, rows_of, InsertTree, WriteTree, insert, update, delete}
 use Rattle.tri_expr.specs.Tree.{Tree}
-use Rattle.bind_names.specs.Aggregates.{has_aggregate}
-use Rattle.bind_names.specs.Scope.{TableShape, Scope, place_named}
+use Rattle.bind_names.specs.Scope.{TableShape, Scope, from_scope, place_named}
 use Rattle.bind_names.specs.Meaning.{resolved, conditions_of}
-use Rattle.bind_names.specs.Naming.{name_causes, condition_name_causes, entered_causes, asked_causes, select_name_causes, once_known}
-use Rattle.bind_types.specs.Typing.{takes, unless, no_aggregate, type_causes, item_type_causes, condition_type_causes, answer_types, select_type_causes}
+use Rattle.bind_names.specs.Naming.{name_causes, chain_name_causes, condition_name_causes, entered_causes, asked_causes, once_known}
+use Rattle.bind_types.specs.Typing.{type_of, takes, unless, as_condition, no_aggregate, type_causes, chain_type_causes, condition_type_causes, answer_types, select_type_causes}
 use Rattle.med_binder.proofs.LawPhases.{names_are_of_phase, types_are_of_phase}
 use Rattle.med_catalog.specs.DdlCauses.{phase}
 use Rattle.med_catalog.specs.Objects.{TableObject, Objects, table_named}
@@ -31,64 +31,16 @@ use Rattle.med_binder.proofs.Phases as of_query
 use Rattle.write_parts.specs.Meaning.{target_of, columns_in, scope_in, cells_meant, places_meant, row_meant}
 use Rattle.write_parts.specs.Naming.{target_causes, is_column, column_unknown, list_causes, named_causes, row_name_causes, insert_name_causes, set_names, set_values, write_name_causes, given_right_causes, read_right_causes, write_right_causes, WriteNames}
 use Rattle.write_parts.specs.Typing.{column_causes, cells_causes, asked_types, set_types, count_causes, type_at, row_fit_causes, length_causes, row_types, row_type_causes, rows_fit_causes, given_type_causes, write_type_causes, WriteTypes}
-use Rattle.write_parts.specs.Asking.{scope_for, item_for, query_for}
-use Rattle.write_parts.proofs.Lists.{none_in, of_two, flat_over, right_empty}
-use Rattle.write_parts.proofs.AskedFor.{names_same, types_listed, unless_one}
-
--- ---- the rows of VALUES
-
--- a cause of names is of phase 3: those of a row are those of the query that has them
-row_query : (es : List ExprTree) → select_name_causes [] (query_for None es None) ≡ row_name_causes es
-row_query es = names_same [] None es None ∙ append-nil (row_name_causes es)
-
-pub row_phase : (es : List ExprTree) (c : Cause) → Contains (row_name_causes es) c → phase_of c ≡ Some 3
-row_phase es c h = names_are_of_phase [] (select (query_for None es None)) c (subst (λ xs. Contains xs c) (sym (row_query es)) h)
-
-one_is : (k c : Cause) → Contains (k ∷ []) c → c ≡ k
-one_is k c (zero, w, e) = sym e
-one_is k c (suc i, w, e) = absurd (omega (arith, w))
-
-aggregate_phase : (ts : List Tree) (c : Cause) → Contains (no_aggregate ts) c → phase_of c ≡ Some 4
-aggregate_phase ts c h = ap phase_of (one_is Grouping c (unless_one (not (list_any has_aggregate ts)) Grouping c h))
-
--- what is asked of one entry, or none
-asked_phase : (tables : List TableShape) (entry : Option EntryTree) (es : List ExprTree) (condition : Option ExprTree) (c : Cause) → Contains (asked_types (scope_for tables entry) es condition) c → phase_of c ≡ Some 4
-asked_phase tables entry es condition c h = by (of_two (flat_map (type_causes s) es) (condition_type_causes s condition ++ (C ++ D)) c h)
-  where
-    s : Scope
-    s = scope_for tables entry
-
-    C : List Cause
-    C = no_aggregate (conditions_of s condition)
-
-    D : List Cause
-    D = no_aggregate (map (resolved s) es)
-
-    written : Contains (flat_map (item_type_causes s) (map item_for es) ++ (condition_type_causes s condition ++ [])) c → phase_of c ≡ Some 4
-    written i = types_are_of_phase tables (select (query_for entry es condition)) c (subst (λ xs. Contains xs c) (sym (types_listed tables entry es condition))
-        (Contains-append_left (flat_map (item_type_causes s) (map item_for es) ++ (condition_type_causes s condition ++ [])) _ c i))
-
-    formed : Contains C c ⊎ Contains D c → phase_of c ≡ Some 4
-    formed (inl i) = aggregate_phase (conditions_of s condition) c i
-    formed (inr i) = aggregate_phase (map (resolved s) es) c i
-
-    rest : Contains (condition_type_causes s condition) c ⊎ Contains (C ++ D) c → phase_of c ≡ Some 4
-    rest (inl i) = written (Contains-append_right (flat_map (item_type_causes s) (map item_for es)) (condition_type_causes s condition ++ []) c
-        (Contains-append_left (condition_type_causes s condition) [] c i))
-    rest (inr i) = formed (of_two C D c i)
-
-    by : Contains (flat_map (type_causes s) es) c ⊎ Contains (condition_type_causes s condition ++ (C ++ D)) c → phase_of c ≡ Some 4
-    by (inl i) = written (Contains-append_left (flat_map (item_type_causes s) (map item_for es)) (condition_type_causes s condition ++ []) c
-        (subst (λ xs. Contains xs c) (sym (flat_over (item_type_causes s) item_for es)) i))
-    by (inr i) = rest (of_two (condition_type_causes s condition) (C ++ D) c i)
-
-pub row_types_phase : (es : List ExprTree) (c : Cause) → Contains (row_type_causes es) c → phase_of c ≡ Some 4
-row_types_phase es c h = asked_phase [] None es None c h
+use Rattle.write_parts.proofs.Lists.{none_in, of_two, right_empty}
 
 -- ---- lists of causes of one phase
 
 abbrev Are : ℕ → List Cause → Type 0
 Are n xs = (c : Cause) → Contains xs c → phase_of c ≡ Some n
+
+one_is : (k c : Cause) → Contains (k ∷ []) c → c ≡ k
+one_is k c (zero, w, e) = sym e
+one_is k c (suc i, w, e) = absurd (omega (arith, w))
 
 no_cause : (n : ℕ) → Are n []
 no_cause n c h = absurd (none_in [] c refl h)
@@ -119,6 +71,67 @@ first_part : (n : ℕ) (xs ys : List Cause) → Are n (once_known xs ys) → Are
 first_part n [] ys h = no_cause n
 first_part n (x ∷ xs) ys h = h
 
+pass_types : (b : Bool) (k : Cause) → phase_of k ≡ Some 4 → Are 4 (unless b k)
+pass_types b k e = either_part 4 b [] (k ∷ []) (no_cause 4) (one_cause 4 k e)
+
+-- ---- expressions over what FROM brings into view: their causes are those of the query that has one as its item
+
+abbrev item_query : List ChainTree → ExprTree → SelectTree
+item_query from e = record {
+  core = record { distinct = false; items = value e None ∷ []; from = from; condition = None; groups = []; having = None };
+  others = [];
+  keys = [];
+  limit = None;
+  offset = None;
+}
+
+named : (tables : List TableShape) (from : List ChainTree) (e : ExprTree) → entered_causes tables (item_query from e) ≡ [] → Are 3 (name_causes (from_scope tables from) e)
+named tables from e known c h =
+    names_are_of_phase tables (select (item_query from e)) c (subst (λ ks. Contains (once_known ks (asked_causes tables (item_query from e))) c) (sym known)
+    (Contains-append_left _ _ c (Contains-append_left _ _ c (Contains-append_right (flat_map (chain_name_causes tables) from) _ c (Contains-append_left _ _ c (Contains-append_left _ _ c h))))))
+
+typed : (tables : List TableShape) (from : List ChainTree) (e : ExprTree) → Are 4 (type_causes (from_scope tables from) e)
+typed tables from e c h =
+    types_are_of_phase tables (select (item_query from e)) c
+    (Contains-append_left _ _ c (Contains-append_left _ _ c (Contains-append_left _ _ c (Contains-append_right (flat_map (chain_type_causes tables) from) _ c (Contains-append_left _ _ c (Contains-append_left _ _ c h))))))
+
+condition_named : (tables : List TableShape) (from : List ChainTree) (condition : Option ExprTree) → ((e : ExprTree) → entered_causes tables (item_query from e) ≡ []) → Are 3 (condition_name_causes (from_scope tables from) condition)
+condition_named tables from None known = no_cause 3
+condition_named tables from (Some e) known = named tables from e (known e)
+
+condition_typed : (tables : List TableShape) (from : List ChainTree) (condition : Option ExprTree) → Are 4 (condition_type_causes (from_scope tables from) condition)
+condition_typed tables from None = no_cause 4
+condition_typed tables from (Some e) =
+    let t = type_of (from_scope tables from) e in
+    two_parts 4 (type_causes (from_scope tables from) e) (as_condition t) (typed tables from e) (pass_types (takes Truth t) DatatypeMismatch refl)
+
+asked_phase : (tables : List TableShape) (from : List ChainTree) (es : List ExprTree) (condition : Option ExprTree) → Are 4 (asked_types (from_scope tables from) es condition)
+asked_phase tables from es condition =
+    two_parts 4 (flat_map (type_causes s) es) (B ++ (C ++ D)) (many_parts 4 (type_causes s) (typed tables from) es)
+    (two_parts 4 B (C ++ D) (condition_typed tables from condition) (two_parts 4 C D (pass_types _ Grouping refl) (pass_types _ Grouping refl)))
+  where
+    s : Scope
+    s = from_scope tables from
+
+    B : List Cause
+    B = condition_type_causes s condition
+
+    C : List Cause
+    C = no_aggregate (conditions_of s condition)
+
+    D : List Cause
+    D = no_aggregate (map (resolved s) es)
+
+row_phase : (es : List ExprTree) → Are 3 (row_name_causes es)
+row_phase es = many_parts 3 (name_causes []) (λ e. named [] [] e refl) es
+
+row_types_phase : (es : List ExprTree) → Are 4 (row_type_causes es)
+row_types_phase es = asked_phase [] [] es None
+
+-- the one chain of an entry
+abbrev chain_of : EntryTree → List ChainTree
+chain_of e = record { first = e; joins = [] } ∷ []
+
 -- ---- names
 
 target_names : (tables : List TableShape) (name : Name) → Are 3 (target_causes tables name)
@@ -136,9 +149,12 @@ insert_list columns (Some names) = list_names DuplicateColumn columns names refl
 
 of_entry : (tables : List TableShape) (e : EntryTree) (es : List ExprTree) (condition : Option ExprTree) → target_causes tables e.table ≡ []
     → Are 3 (flat_map (name_causes (scope_in tables e)) es ++ condition_name_causes (scope_in tables e) condition)
-of_entry tables e es condition known c h =
-    names_are_of_phase tables (select (query_for (Some e) es condition)) c (subst (λ xs. Contains xs c)
-    (sym (names_same tables (Some e) es condition ∙ ap (λ ks. once_known ks (flat_map (name_causes (scope_in tables e)) es ++ condition_name_causes (scope_in tables e) condition)) known)) h)
+of_entry tables e es condition known =
+    two_parts 3 (flat_map (name_causes (scope_in tables e)) es) (condition_name_causes (scope_in tables e) condition)
+    (many_parts 3 (name_causes (scope_in tables e)) (λ x. named tables (chain_of e) x there) es) (condition_named tables (chain_of e) condition (λ x. there))
+  where
+    there : (target_causes tables e.table ++ []) ++ [] ≡ []
+    there = ap (λ ks. (ks ++ []) ++ []) known
 
 query_from : (tables : List TableShape) (q : SelectTree) → Are 3 (entered_causes tables q)
 query_from tables q = first_part 3 (entered_causes tables q) (asked_causes tables q) (names_are_of_phase tables (select q))
@@ -195,9 +211,6 @@ all_rights o user name t = two_parts 3 (target_right_causes o user name) (read_r
 
 -- ---- types
 
-pass_types : (b : Bool) (k : Cause) → phase_of k ≡ Some 4 → Are 4 (unless b k)
-pass_types b k e = either_part 4 b [] (k ∷ []) (no_cause 4) (one_cause 4 k e)
-
 column_types : (c : Column) (g : Option (Option ColType)) → Are 4 (column_causes c g)
 column_types c None = no_cause 4
 column_types c (Some t) = pass_types (takes c.kind t) DatatypeMismatch refl
@@ -235,8 +248,8 @@ all_types tables (update u) =
     let s = scope_in tables u.entry in
     let columns = columns_in tables u.entry.table in
     two_parts 4 (asked_types s (set_values u.sets) u.condition) (cells_causes columns (set_types columns (cells_meant s columns u.sets)))
-    (asked_phase tables (Some u.entry) (set_values u.sets) u.condition) (cells_types columns (set_types columns (cells_meant s columns u.sets)))
-all_types tables (delete d) = asked_phase tables (Some d.entry) [] d.condition
+    (asked_phase tables (chain_of u.entry) (set_values u.sets) u.condition) (cells_types columns (set_types columns (cells_meant s columns u.sets)))
+all_types tables (delete d) = asked_phase tables (chain_of d.entry) [] d.condition
 
 -- ---- the law
 

@@ -1,5 +1,5 @@
 -- The table that is written.
-use Rattle.std.proofs.Common.{◌≡◌, ◌<◌, ℕ, length, List, [], ◌∷◌, Option, Some, None, option_map, map, slice_get, slice_index_or, ap, sym, subst, refl, ◌∙◌}
+use Rattle.std.proofs.Common.{◌≡◌, ◌<◌, ℕ, length, List, [], ◌∷◌, Some, None, option_map, map, slice_get, slice_index_or, ap, sym, subst, refl, ◌∙◌}
 use Rattle.std.proofs.lemmas.Option.{slice_get-map, slice_get-get_or}
 use Rattle.med_value.specs.declared.cause.Cause.TheVariants.{UndefinedTable}
 use Rattle.med_syntax.specs.Tree.{Name}
@@ -7,9 +7,7 @@ use Rattle.med_syntax.specs.QueryTree.{EntryTree}
 use Rattle.bind_names.specs.Scope.{place_named}
 use Rattle.med_catalog.specs.Objects.{TableObject, Objects, table_named}
 use Rattle.med_catalog.specs.Rights.{mode_for}
-use Rattle.med_catalog.specs.declared.kind.Mode.{Mode}
-use Rattle.med_catalog.specs.declared.kind.Mode.TheVariants.{Read, Write}
-use Rattle.med_binder.specs.Barred.{reading_causes, writing_causes, table_causes, target_right_causes}
+use Rattle.med_binder.specs.Barred.{writing_causes, table_causes, target_right_causes}
 use Rattle.med_binder.specs.Tables.{shapes, AreNamedOnce}
 use Rattle.med_binder.specs.Places.{attached, IsPlaceOf}
 use Rattle.med_binder.specs.declared.bound_table.BoundTable.{BoundTable}
@@ -46,17 +44,3 @@ place_there bound place else within = record {
   source = refl;
   number = refl;
 }
-
--- ---- who may write may read
-
-reads_by : (m : Option Mode) → writing_causes m ≡ [] → reading_causes m ≡ []
-reads_by None h = absurd cc
-reads_by (Some Read) h = refl
-reads_by (Some Write) h = refl
-
-reads_table : (o : Objects) (user : Name) (r : Option TableObject) → table_causes writing_causes o user r ≡ [] → table_causes reading_causes o user r ≡ []
-reads_table o user None h = refl
-reads_table o user (Some t) h = reads_by (mode_for o user t.server) h
-
-pub may_read : (o : Objects) (user name : Name) → target_right_causes o user name ≡ [] → table_causes reading_causes o user (table_named o name) ≡ []
-may_read o user name h = reads_table o user (table_named o name) h

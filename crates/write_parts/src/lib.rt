@@ -3,18 +3,18 @@
 //! columns, and the types of what is written.
 //!
 //! `specs/Meaning.antt` says what a write means in terms of places, `specs/Naming.antt` which causes of names and rights stand against it,
-//! and `specs/Typing.antt` which of types. Expressions are bound as the query that has them as its items (`src/asking.rt`).
+//! and `specs/Typing.antt` which of types.
 #![tactic(auto)]
 
-mod asking;
 mod columns;
 mod kinds;
 pub mod law;
 mod places;
 mod target;
+mod values;
 
-pub use asking::{AskedValues, ask};
 pub use columns::{check_list, name_place};
 pub use kinds::{cell_kinds, check_cells};
 pub use places::{check_fit, check_named, places_for};
 pub use target::{Target, find_target, written_columns};
+pub use values::{BoundValues, bind_values, check_types, table_in_view};
