@@ -40,7 +40,7 @@ fn are_rows_in_range(rows: &[Vec<Expr>]) -> bool
 }
 
 /// Whether each number of what gives the rows is in range.
-#[tactic(auto, using(crate::proofs::WritingParts::query_in_range))]
+#[tactic(auto, using(crate::proofs::WriteParts::query_in_range))]
 fn is_given_in_range(given: &Given) -> bool
     ensures { result ≡ given_in_range (given_tree given.now) }
 {
