@@ -42,7 +42,7 @@ module _ (old : List (Option BoxState)) (bound : BoundQuery) (plan : LoopPlan) (
   stops fault new (loops_stop (box_stops (wants_memory e))) = lacks_memory e
   stops fault new (loops_stop (box_stops (box_breaks e failed))) = source_fails e failed
   stops fault new (loops_stop (numbers_out e used)) = numbers_end e used
-  stops fault new (query_shows c e tells) = query_tells c e (λ honest. subst (λ (q : Query). IsShownCause q db c) same (tells (p.over honest)))
+  stops fault new (query_shows c e of_run tells) = query_tells c e of_run (λ honest. subst (λ (q : Query). IsShownCause q db c) same (tells (p.over honest)))
 
   pub run_pulls : (new : List (Option BoxState)) → PullsAsAsked plan old new → PullsRows bound old new
   run_pulls new h = inr (record {

@@ -31,9 +31,10 @@ LeavesScan slot number old new =
 abbrev pub LeavesRun : Run → List (Option BoxState) → List (Option BoxState) → Type 0
 LeavesRun run old new = (slot number : ℕ) → Contains (held run slot) number → LeavesScan slot number old new
 
--- a run is good for its next row as it was, and may give just the rows that it could give before
+-- a run is good for its next row as it was, reads honest boxes where it did, and may then give just the rows that it could give before
 pub record GoesOn (run : Run) (old new : List (Option BoxState)) : Type 0 where
   pub running : IsRunning run new
+  pub honest : HonestFor (levels_in run) old → HonestFor (levels_in run) new
   pub rests : HonestFor (levels_in run) old → (rows : List Tuple) → Rests run old rows ↔ Rests run new rows
 
 -- each of these scans that is live before and after is of the table that it was of, with its columns' types

@@ -12,7 +12,7 @@ use Rattle.fdw_api.specs.State.{BoxState}
 use Rattle.fdw_api.specs.declared.interface.Fault.{Fault}
 use Rattle.med_binder.specs.Place.{entry_place}
 use Rattle.med_exec.specs.Slots.{BoxAt, ChangesAt}
-use Rattle.med_exec.specs.Running.{AllServed, AllHonest}
+use Rattle.med_exec.specs.Running.{AllServed, HonestOver}
 use Rattle.med_exec.proofs.Served.{box_inj}
 use Rattle.med_catalog.specs.Objects.{Objects}
 use Rattle.bind_names.specs.Meaning.{Meant}
@@ -35,7 +35,7 @@ use Rattle.sql_meaning.specs.Sizes.{is_large_form}
 use Rattle.open_cursors.specs.Counted.{ReadsTables}
 use Rattle.open_cursors.specs.Starting.{RunFails}
 use Rattle.med_world.specs.Selecting.{AnswersOver}
-use Rattle.med_world.specs.Writing.{GivesAnswer, FailsQuery, GivesRows, IsGiven, IsTargetAt, columns_for, form_for, DoesWrite, WritesRows, WriteFails, too_many, query_fails, box_refuses, rows_untyped}
+use Rattle.med_world.specs.Writing.{GivesAnswer, FailsQuery, IsUntyped, GivesRows, IsGiven, IsTargetAt, columns_for, form_for, DoesWrite, WritesRows, WriteFails, too_many, query_fails, box_refuses, rows_untyped}
 use Rattle.write_laws.specs.Typed.{IsClean}
 use Rattle.write_exec.specs.Fitting.{kinds_written, answer_fits}
 use Rattle.med_rows.specs.Ready.{IsReady, IsUnread}
@@ -174,13 +174,14 @@ typed_by o bound t w b answer is h test =
     (fits_typed (kinds_written w.write.columns.items) (places_for o bound t b h) answer (sym (test (places_for o bound t b h) (is.form ∙ form)))))
 
 pub untyped : WritesAreTyped → (o : Objects) (user : Name) (bound : List Attached) (t : WriteTree) (w : TableWrite) (b : BoundQuery) (old new : List (Option BoxState)) (answer : List Tuple) (leased : Bool) → leased ≡ false → IsReady o bound old → IsBindable o user t → IsClean t → IsMeantWrite o bound t w
-    → HasQuery o bound t b → ((m : Meant) → IsMeant m b → AnswersOver (query_of m) (map entry_place b.entries.items) old answer) → AllServed old new → IsTest w answer false → WriteFails o user bound t leased old SourceFault new
-untyped law o user bound t w b old new answer leased free ready bindable clean is h over served test = rows_untyped bindable free not_honest refl served
+    → HasQuery o bound t b → ((m : Meant) → IsMeant m b → AnswersOver (query_of m) (map entry_place b.entries.items) old answer) → is_large_form (query_form b.select) ≡ false → AllServed old new → IsTest w answer false → WriteFails o user bound t leased old SourceFault new
+untyped law o user bound t w b old new answer leased free ready bindable clean is h over few served test =
+    rows_untyped bindable free (of_its_query (λ q. IsUntyped o bound q old) o bound t b h (record { few = few_entries o bound t b h few; places = map entry_place b.entries.items; are = h.places; lies = not_honest })) refl served
   where
     form : write_meant (shapes o) t ≡ insert_form (places_for o bound t b h) answer_form
     form = form_asked o bound t b h
 
-    not_honest : AllHonest old → ⊥
+    not_honest : HonestOver (map entry_place b.entries.items) old → ⊥
     not_honest honest =
         let typed : IsTypedFor o t answer = typed_answer law o user bound t b old answer ready bindable clean h (over (meant_by o h.query) h.meant) honest in
         let fits = typed_fits (kinds_written w.write.columns.items) (places_for o bound t b h) answer

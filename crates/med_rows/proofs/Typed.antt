@@ -20,7 +20,7 @@ use Rattle.fdw_api.specs.State.{BoxState, rows_of as rows_in_box}
 use Rattle.fdw_api.specs.Sound.{IsTableOf}
 use Rattle.med_binder.specs.Place.{Place, entry_place as place_of}
 use Rattle.med_planner.specs.Planned.{rows_shown, entry_rows}
-use Rattle.med_exec.specs.Running.{AllHonest}
+use Rattle.med_exec.specs.Running.{HonestAt, HonestOver}
 use Rattle.med_exec.specs.Slots.{BoxAt}
 use Rattle.med_catalog.specs.Objects.{TableObject, Objects, table_named}
 use Rattle.bind_names.specs.Scope.{place_named, entry_place, entry_columns, query_entries, query_scope}
@@ -153,11 +153,11 @@ cells_fit kinds rows h = AllPass-from_list_all (row_fits kinds) (map (λ (r : Ta
 unknown_named : (o : Objects) (e : EntryTree) → place_named (shapes o) e.table ≡ None → entry_causes (shapes o) e ≡ [] → ⊥
 unknown_named o e none h = let x : UndefinedTable ∷ [] ≡ [] = sym (ap (λ (r : Option ℕ). if is_some r then [] else UndefinedTable ∷ []) none) ∙ h in absurd cc
 
-entry_at : (o : Objects) (bound : List Attached) (boxes : List (Option BoxState)) (e : EntryTree) (p : Place) (k : ℕ) → IsReady o bound boxes → AllHonest boxes → place_named (shapes o) e.table ≡ Some k → IsPlaceOf bound (entry_place (shapes o) e) p
+entry_at : (o : Objects) (bound : List Attached) (boxes : List (Option BoxState)) (e : EntryTree) (p : Place) (k : ℕ) → IsReady o bound boxes → HonestAt boxes p.source → place_named (shapes o) e.table ≡ Some k → IsPlaceOf bound (entry_place (shapes o) e) p
     → AllFit (column_kinds (entry_columns (shapes o) e)) (rows_shown (slice_get boxes p.source) p.table)
 entry_at o bound boxes e p k ready honest named at = subst (λ (cs : List Column). AllFit (column_kinds cs) (rows_shown (slice_get boxes p.source) p.table)) (sym (columns_there o e u.0 u.2))
     (subst (λ (rows : List Tuple). AllFit (kinds_of u.0.columns) rows) (sym shown) (subst (λ (ks : List ColType). AllFit ks (map (λ r. r.cells) (rows_in_box x.box at.at.number))) x.holds.2
-    (cells_fit x.holds.0.kinds (rows_in_box x.box at.at.number) ((ready.sound at.at.source x.box x.there).typed (honest at.at.source x.box x.there) at.at.number x.holds.0 x.holds.1))))
+    (cells_fit x.holds.0.kinds (rows_in_box x.box at.at.number) ((ready.sound at.at.source x.box x.there).typed (honest x.box (ap (slice_get boxes) at.source ∙ x.there)) at.at.number x.holds.0 x.holds.1))))
   where
     f : (j : ℕ) × (k ≡ 0 + j) × IsFirst e.table o.tables j
     f = first_from o.tables e.table 0 k named
@@ -174,7 +174,7 @@ entry_at o bound boxes e p k ready honest named at = subst (λ (cs : List Column
     shown : rows_shown (slice_get boxes p.source) p.table ≡ map (λ r. r.cells) (rows_in_box x.box at.at.number)
     shown = ap (λ (n : ℕ). rows_shown (slice_get boxes n) p.table) at.source ∙ ap (λ (b : Option (Option BoxState)). rows_shown b p.table) x.there ∙ ap (λ (n : ℕ). map (λ (r : TableRow). r.cells) (rows_in_box x.box n)) at.number
 
-entry_typed : (o : Objects) (bound : List Attached) (boxes : List (Option BoxState)) (e : EntryTree) (p : Place) → IsReady o bound boxes → AllHonest boxes → entry_causes (shapes o) e ≡ [] → IsPlaceOf bound (entry_place (shapes o) e) p
+entry_typed : (o : Objects) (bound : List Attached) (boxes : List (Option BoxState)) (e : EntryTree) (p : Place) → IsReady o bound boxes → HonestAt boxes p.source → entry_causes (shapes o) e ≡ [] → IsPlaceOf bound (entry_place (shapes o) e) p
     → AllFit (column_kinds (entry_columns (shapes o) e)) (rows_shown (slice_get boxes p.source) p.table)
 entry_typed o bound boxes e p ready honest known at = by (place_named (shapes o) e.table) refl
   where
@@ -182,15 +182,15 @@ entry_typed o bound boxes e p ready honest known at = by (place_named (shapes o)
     by None is = absurd (unknown_named o e is known)
     by (Some k) is = entry_at o bound boxes e p k ready honest is at
 
-entries_typed : (o : Objects) (bound : List Attached) (boxes : List (Option BoxState)) → IsReady o bound boxes → AllHonest boxes → (es : List EntryTree) (ps : List Place) → flat_map (entry_causes (shapes o)) es ≡ [] → ArePlaces bound (map (entry_place (shapes o)) es) ps
+entries_typed : (o : Objects) (bound : List Attached) (boxes : List (Option BoxState)) → IsReady o bound boxes → (es : List EntryTree) (ps : List Place) → HonestOver ps boxes → flat_map (entry_causes (shapes o)) es ≡ [] → ArePlaces bound (map (entry_place (shapes o)) es) ps
     → AreTyped (shapes o) es (entry_rows boxes ps)
-entries_typed o bound boxes ready honest [] ps known h number e at = absurd cc
-entries_typed o bound boxes ready honest (x ∷ es) [] known h number e at = absurd h
-entries_typed o bound boxes ready honest (x ∷ es) (p ∷ ps) known h zero e at =
+entries_typed o bound boxes ready [] ps honest known h number e at = absurd cc
+entries_typed o bound boxes ready (x ∷ es) [] honest known h number e at = absurd h
+entries_typed o bound boxes ready (x ∷ es) (p ∷ ps) honest known h zero e at =
     subst (λ (y : EntryTree). AllFit (column_kinds (entry_columns (shapes o) y)) (rows_shown (slice_get boxes p.source) p.table)) (some_same x e at)
-    (entry_typed o bound boxes x p ready honest (left_none (entry_causes (shapes o) x) (flat_map (entry_causes (shapes o)) es) known) h.0)
-entries_typed o bound boxes ready honest (x ∷ es) (p ∷ ps) known h (suc number) e at =
-    entries_typed o bound boxes ready honest es ps (right_none (entry_causes (shapes o) x) (flat_map (entry_causes (shapes o)) es) known) h.1 number e at
+    (entry_typed o bound boxes x p ready (honest p.source (zero, omega arith, refl)) (left_none (entry_causes (shapes o) x) (flat_map (entry_causes (shapes o)) es) known) h.0)
+entries_typed o bound boxes ready (x ∷ es) (p ∷ ps) honest known h (suc number) e at =
+    entries_typed o bound boxes ready es ps (λ slot has. let n = has.1 in honest slot (suc has.0, omega (arith, n), has.2)) (right_none (entry_causes (shapes o) x) (flat_map (entry_causes (shapes o)) es) known) h.1 number e at
 
 known_first : (known asked : List Cause) → once_known known asked ≡ [] → known ≡ []
 known_first [] asked h = refl
@@ -206,7 +206,7 @@ from_known o user i (rows_of r) q same h =
     (known_first (target_causes (shapes o) i.table ++ entered_causes (shapes o) r) _ (left_none _ _ h))))
 
 pub typed_answer : WritesAreTyped → (o : Objects) (user : Name) (bound : List Attached) (t : WriteTree) (b : BoundQuery) (boxes : List (Option BoxState)) (answer : List Tuple) → IsReady o bound boxes → IsBindable o user t → IsClean t → (h : HasQuery o bound t b)
-    → AnswersOver (query_of (meant_by o h.query)) (map place_of b.entries.items) boxes answer → AllHonest boxes → IsTypedFor o t answer
+    → AnswersOver (query_of (meant_by o h.query)) (map place_of b.entries.items) boxes answer → HonestOver (map place_of b.entries.items) boxes → IsTypedFor o t answer
 typed_answer law o user bound t b boxes answer ready is clean h over honest = law o t db answer is.types clean (subst (λ (x : WriteTree). IsGiven (shapes o) x db answer) h.is (subst (λ (g : GivenTree). IsAnswered (shapes o) g db answer) h.given (typed, shows)))
   where
     db : Tables
@@ -219,7 +219,7 @@ typed_answer law o user bound t b boxes answer ready is clean h over honest = la
     known = from_known o user h.inserts h.inserts.given h.query h.given (subst (λ (x : WriteTree). names_of o user x ≡ []) (sym h.is) none)
 
     typed : AreTyped (shapes o) (query_entries h.query) db
-    typed = entries_typed o bound boxes ready honest (query_entries h.query) (map place_of b.entries.items) known h.places
+    typed = entries_typed o bound boxes ready (query_entries h.query) (map place_of b.entries.items) honest known h.places
 
     shows : IsAnswer (query_of (meant_by o h.query)) db answer
-    shows = over.answers (λ slot has. honest slot) db (λ k. IsPermutation-refl (db k))
+    shows = over.answers honest db (λ k. IsPermutation-refl (db k))

@@ -8,7 +8,9 @@ use Rattle.med_planner.specs.Plain.{IsPlainForm, IsBareForm}
 use Rattle.med_query.specs.Laws.{IsSteady}
 use Rattle.med_query.specs.Query.{Query}
 use Rattle.med_query.specs.Select.{query_of as written_query}
+use Rattle.fdw_api.specs.Kinds.{is_of_run}
 use Rattle.fdw_api.specs.State.{BoxState}
+use Rattle.med_value.specs.Causes.{phase_of}
 use Rattle.fdw_api.specs.declared.interface.Fault.{Fault}
 use Rattle.med_binder.specs.Place.{Place, entry_place}
 use Rattle.med_query.specs.Causes.{IsShownCause}
@@ -44,8 +46,8 @@ stopped_over : CausesInAnyOrder → (q : Query) → IsSteady q → (places : Lis
 stopped_over law q is places fault old new (lacks_memory e) = no_memory (ap cause_of e)
 stopped_over law q is places fault old new (source_fails e failed) = box_fails (ap cause_of e) failed
 stopped_over law q is places fault old new (numbers_end e used) = numbers_out (ap cause_of e) used
-stopped_over law q is places fault old new (query_shows c e shows) =
-    shows_cause (λ honest db same. subst (λ (d : Cause). IsShownCause q db d) (sym (ap cause_of e)) (law q is (entry_rows old places) db same c (shows honest)))
+stopped_over law q is places fault old new (query_shows c e of_run shows) =
+    shows_cause (ap (λ (d : Cause). is_of_run (phase_of d)) (ap cause_of e) ∙ of_run) (λ honest db same. subst (λ (d : Cause). IsShownCause q db d) (sym (ap cause_of e)) (law q is (entry_rows old places) db same c (shows honest)))
 
 -- a query that was bound and may have a cursor
 pub record MayBegin (full : Bool) (b : BoundQuery) : Type 0 where

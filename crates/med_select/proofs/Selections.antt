@@ -13,7 +13,9 @@ use Rattle.med_query.specs.Form.{core_form, core_by, query_by, form_of}
 use Rattle.med_query.specs.Select.{query_of as written_query, core_of, groups_of}
 use Rattle.med_query.specs.Laws.{AllIgnoreOrder, IsSteadyCore, AreSteady, IsSteady, AnswersIgnoreOrder}
 use Rattle.med_query.specs.Query.{Query, Tables, SameRows, senses, having_of}
+use Rattle.fdw_api.specs.Kinds.{is_of_run}
 use Rattle.fdw_api.specs.State.{BoxState}
+use Rattle.med_value.specs.Causes.{phase_of}
 use Rattle.fdw_api.specs.declared.interface.Fault.{Fault}
 use Rattle.med_binder.specs.Place.{Place, entry_place}
 use Rattle.med_query.specs.Causes.{IsShownCause}
@@ -86,8 +88,8 @@ pub fails_over : CausesInAnyOrder → (q : Query) → IsSteady q → (places : L
 fails_over law q is places fault old new (lacks_memory e) = no_memory (ap cause_of e)
 fails_over law q is places fault old new (source_fails e failed) = box_fails (ap cause_of e) failed
 fails_over law q is places fault old new (numbers_end e used) = numbers_out (ap cause_of e) used
-fails_over law q is places fault old new (query_shows c e shows) =
-    shows_cause (λ honest db same. subst (λ (d : Cause). IsShownCause q db d) (sym (ap cause_of e)) (law q is (entry_rows old places) db same c (shows honest)))
+fails_over law q is places fault old new (query_shows c e of_run shows) =
+    shows_cause (ap (λ (d : Cause). is_of_run (phase_of d)) (ap cause_of e) ∙ of_run) (λ honest db same. subst (λ (d : Cause). IsShownCause q db d) (sym (ap cause_of e)) (law q is (entry_rows old places) db same c (shows honest)))
 
 -- ---- the whole
 

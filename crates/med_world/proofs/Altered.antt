@@ -1,5 +1,6 @@
 -- A change of objects that an engine makes leads each world that agrees to one that agrees.
 use Rattle.std.proofs.Common.{◌≡◌, ◌≢◌, ℕ, ◌⊎◌, true, false, cond, Bool, List, [], ◌∷◌, ◌++◌, Option, Some, None, slice_get, slice_set, length, map, refl, ap, sym, ◌∙◌, subst, zero, suc, inl, inr, eqb, arith, option_map, bytes_eq, IsPermutation}
+use Rattle.std.proofs.lemmas.Bool.{false≢true}
 use Rattle.std.proofs.lemmas.Bool.Decides.{eqb_tells}
 use Rattle.std.specs.List.{IsDistinct}
 use Rattle.std.proofs.lemmas.Option.{slice_get-map}
@@ -15,27 +16,25 @@ use Rattle.med_exec.specs.Slots.{ChangesAt}
 use Rattle.med_catalog.specs.Objects.{ServerObject, TableObject, Objects, server_named}
 use Rattle.med_catalog.specs.Changes.{ObjectChange, new_table, no_server, no_table, changed}
 use Rattle.med_binder.specs.Places.{Attached}
-use Rattle.sql_meaning.specs.World.{World, Source, SourceState, standing, dropped, source_named, drop_source, drop_source_of, IsStanding, Serves, beside_without}
+use Rattle.sql_meaning.specs.World.{World, Source, SourceState, standing, dropped, source_named, drop_source, drop_source_of, IsStanding, Serves, is_shared_state, is_shared_source, has_shared, is_shared_server, beside_without}
 use Rattle.sql_meaning.specs.Picks.{Pick, no_pick}
 use Rattle.sql_meaning.specs.Causes.{Reads, PicksEntry}
-use Rattle.sql_meaning.specs.Steps.{with_catalog, Changes}
-use Rattle.med_world.specs.Engine.{Label, Shown, leased, EachBox, IsSound, IsNamedAt, IsServerAt, IsBoundAs, state_of, sources_of, AreRowsOf, RowsAgree, Agrees, with_change, BindsTable, UnbindsTable, DropsBox}
+use Rattle.sql_meaning.specs.Steps.{with_catalog, HasRows, as_read, any_rows, Changes}
+use Rattle.med_world.specs.Engine.{Label, Shown, leased, IsSound, IsNamedAt, IsServerAt, IsBoundAs, state_of, sources_of, AreRowsOf, RowsAgree, Agrees, with_change, BindsTable, UnbindsTable, DropsBox}
 use Rattle.med_world.specs.Altering.{BindsInVain}
 use Rattle.med_world.proofs.Seats.{sessions_stay, sessions_still, leases_same, named_apart, pushed_stands, dropped_stands, many_rows}
 use Rattle.med_world.proofs.Scans.{all_stay, unleased_scan}
+use Rattle.med_world.proofs.States.{honest_state, shared_state, honest_since, same_state}
 use Rattle.med_world.proofs.ScansChanged.{left_itself, quiet_left, catalog_scans, bind_quiet, bind_scans, unbind_quiet, unbind_scans, refused_quiet, refused_scans, vain_quiet, vain_scans, drop_left, drop_scans, first_named}
 use Rattle.med_world.proofs.Lists.{some_same, none_some, same_bytes, other_bytes, one_place, zero≢suc, left_was}
 use Rattle.med_world.proofs.Faring.{Spares, that_is, vain_spares, refuses_spares, spares_itself, changes_by, binds_spares, unbinds_spares, was_there, set_other, same_box, left_box}
 
 -- ---- sources
 
-pub honest_spared : (only : ℕ → Type 0) (b c : BoxState) → Spares only b c → is_honest b → is_honest c
-honest_spared only b c k h = ap (λ n. n.honest) k.nature ∙ h
+state_spared : (only : ℕ → Type 0) (b c : BoxState) → Spares only b c → state_of (Some c) ≡ state_of (Some b)
+state_spared only b c k = same_state b c k.nature (λ honest r. ap (λ (f : Name → Holding). f r) (k.holdings honest))
 
-state_spared : (only : ℕ → Type 0) (b c : BoxState) → is_honest b → Spares only b c → state_of (Some c) ≡ state_of (Some b)
-state_spared only b c honest k = λ i. standing (k.nature i).kind (k.holdings honest i)
-
-sources_set : (labels : List Label) (old : List (Option BoxState)) (slot : ℕ) (b c : BoxState) → slice_get old slot ≡ Some (Some b) → state_of (Some c) ≡ state_of (Some b) → sources_of labels (slice_set old slot (Some c)) ≡ sources_of labels old
+pub sources_set : (labels : List Label) (old : List (Option BoxState)) (slot : ℕ) (b c : BoxState) → slice_get old slot ≡ Some (Some b) → state_of (Some c) ≡ state_of (Some b) → sources_of labels (slice_set old slot (Some c)) ≡ sources_of labels old
 sources_set [] old slot b c at e = refl
 sources_set (l ∷ ls) [] slot b c at e = absurd cc
 sources_set (l ∷ ls) (x ∷ xs) zero b c at e =
@@ -43,9 +42,9 @@ sources_set (l ∷ ls) (x ∷ xs) zero b c at e =
     ap (λ (s : SourceState). record { name = l.name; kind = l.kind; state = s } ∷ sources_of ls xs) (e ∙ sym (ap state_of x_is))
 sources_set (l ∷ ls) (x ∷ xs) (suc slot) b c at e = ap (λ (ss : List Source). record { name = l.name; kind = l.kind; state = state_of x } ∷ ss) (sources_set ls xs slot b c at e)
 
-sources_spared : (e : Shown) (new : List (Option BoxState)) (place : ℕ) (only : ℕ → Type 0) → EachBox is_honest e.boxes → ChangesAt e.boxes place (Spares only) new → sources_of e.labels new ≡ sources_of e.labels e.boxes
-sources_spared e new place only honest h =
-    ap (sources_of e.labels) h.slots ∙ sources_set e.labels e.boxes place h.before h.after h.there (state_spared only h.before h.after (honest place h.before h.there) h.change)
+sources_spared : (e : Shown) (new : List (Option BoxState)) (place : ℕ) (only : ℕ → Type 0) → ChangesAt e.boxes place (Spares only) new → sources_of e.labels new ≡ sources_of e.labels e.boxes
+sources_spared e new place only h =
+    ap (sources_of e.labels) h.slots ∙ sources_set e.labels e.boxes place h.before h.after h.there (state_spared only h.before h.after h.change)
 
 pub named_in : (labels : List Label) (place : ℕ) (name : Name) → IsNamedAt labels place name → slice_get (map (λ (l : Label). l.name) labels) place ≡ Some name
 named_in labels place name h = slice_get-map (λ (l : Label). l.name) labels place ∙ ap (option_map (λ (l : Label). l.name)) h.1 ∙ ap Some h.2
@@ -82,20 +81,20 @@ find_source (l ∷ ls) (x ∷ xs) name (suc place) b distinct h at =
     let other : l.name ≡ name → ⊥ = λ e. zero≢suc place (one_place (map (λ (k : Label). k.name) (l ∷ ls)) name zero (suc place) distinct (ap Some e) (named_in ls place name h)) in
     (rest.0, ap (λ c. cond c (Some s) (source_named name (sources_of ls xs))) (other_bytes l.name name other) ∙ rest.1, rest.2, rest.3)
 
-pub standing_at : (e : Shown) (w : World) (source : Name) (place : ℕ) (b : BoxState) → IsSound e → Agrees e w → IsNamedAt e.labels place source → slice_get e.boxes place ≡ Some (Some b) → IsStanding w source b.nature.kind b.content.holdings
-standing_at e w source place b sound h named there =
+pub standing_at : (e : Shown) (w : World) (source : Name) (place : ℕ) (b : BoxState) → IsSound e → Agrees e w → IsNamedAt e.labels place source → slice_get e.boxes place ≡ Some (Some b) → is_honest b → IsStanding w source b.nature.kind b.content.holdings
+standing_at e w source place b sound h named there honest =
     let s = find_source e.labels e.boxes source place (Some b) sound.source_names named there in
-    record { at = s.0; is = ap (source_named source) h.sources ∙ s.1; state = s.2 }
+    record { at = s.0; is = ap (source_named source) h.sources ∙ s.1; state = s.2 ∙ honest_state b honest }
 
 server_in : (e : Shown) (w : World) (server : Name) (at : ServerObject) → Agrees e w → server_named e.catalog server ≡ Some at → server_named w.catalog server ≡ Some at
 server_in e w server at h is = ap (λ (o : Objects). server_named o server) h.catalog ∙ is
 
 -- the source of the server serves in the world, as its box shows
-pub serves_at : (e : Shown) (w : World) (server : Name) (place : ℕ) (b : BoxState) → IsSound e → Agrees e w → IsServerAt e server place → slice_get e.boxes place ≡ Some (Some b) → Serves w server b.nature.kind b.content.holdings
-serves_at e w server place b sound h at there = record {
+pub serves_at : (e : Shown) (w : World) (server : Name) (place : ℕ) (b : BoxState) → IsSound e → Agrees e w → IsServerAt e server place → slice_get e.boxes place ≡ Some (Some b) → is_honest b → Serves w server b.nature.kind b.content.holdings
+serves_at e w server place b sound h at there honest = record {
   at = at.at;
   is = server_in e w server at.at h at.is;
-  stands = standing_at e w at.at.source place b sound h at.source there;
+  stands = standing_at e w at.at.source place b sound h at.source there honest;
 }
 
 -- a server serves by one kind and one store
@@ -116,33 +115,59 @@ one_kind w server k m f g a b =
     let st : standing k f ≡ standing m g = sym a.stands.state ∙ ap (λ (x : Source). x.state) s ∙ b.stands.state in
     cc
 
+-- ---- sources that are shared
+
+-- a server whose box is not honest has a shared source
+pub shared_at : (e : Shown) (w : World) (server : Name) (place : ℕ) (b : BoxState) → IsSound e → Agrees e w → IsServerAt e server place → slice_get e.boxes place ≡ Some (Some b) → b.nature.honest ≡ false → is_shared_server w server ≡ true
+shared_at e w server place b sound h at there lies =
+    let s = find_source e.labels e.boxes at.at.source place (Some b) sound.source_names at.source there in
+    ap (has_shared w.sources) (server_in e w server at.at h at.is)
+    ∙ ap is_shared_source (ap (source_named at.at.source) h.sources ∙ s.1) ∙ ap is_shared_state (s.2 ∙ shared_state b lies)
+
+-- and the box of one that is not shared is honest
+pub honest_at : (e : Shown) (w : World) (server : Name) (place : ℕ) (b : BoxState) → IsSound e → Agrees e w → IsServerAt e server place → slice_get e.boxes place ≡ Some (Some b) → is_shared_server w server ≡ false → is_honest b
+honest_at e w server place b sound h at there known = by b.nature.honest refl
+  where
+    by : (honest : Bool) → b.nature.honest ≡ honest → b.nature.honest ≡ true
+    by true is = is
+    by false is = absurd (false≢true (sym known ∙ shared_at e w server place b sound h at there is))
+
+-- a source that is shared serves with no holdings
+pub none_serves : (w : World) (server : Name) (kind : Kind) (holdings : Name → Holding) → is_shared_server w server ≡ true → Serves w server kind holdings → ⊥
+none_serves w server kind holdings is s = false≢true (sym known ∙ is)
+  where
+    known : is_shared_server w server ≡ false
+    known = ap (has_shared w.sources) s.is ∙ ap is_shared_source s.stands.is ∙ ap is_shared_state s.stands.state
+
 -- ---- rows
 
 -- the rows of a table are those of its box still, where the table is another one, or its slot
-row_spared : (old new : List (Option BoxState)) (place : ℕ) (only : ℕ → Type 0) (a : Attached) (rows : List Held) → EachBox is_honest old → ChangesAt old place (Spares only) new
+row_spared : (old new : List (Option BoxState)) (place : ℕ) (only : ℕ → Type 0) (a : Attached) (rows : List Held) → ChangesAt old place (Spares only) new
     → (a.source ≡ place → only a.number → ⊥) → AreRowsOf old a rows → AreRowsOf new a rows
-row_spared old new place only a rows honest h other r = split (eqb_tells a.source place)
+row_spared old new place only a rows h other r = split (eqb_tells a.source place)
   where
     split : ((eqb a.source place ≡ true) × (a.source ≡ place)) ⊎ ((eqb a.source place ≡ false) × (a.source ≢ place)) → AreRowsOf new a rows
     split (inl s) =
         let e : h.before ≡ r.box = same_box h.before r.box (sym h.there ∙ ap (slice_get old) (sym s.1) ∙ r.there) in
-        let same : rows_of h.after a.number ≡ rows_of h.before a.number = h.change.rows (honest place h.before h.there) a.number (other s.1) in
         record {
           box = h.after;
           there = ap (slice_get new) s.1 ∙ h.now;
-          holds = subst (λ (rs : List TableRow). IsPermutation (map held rs) rows) (sym (same ∙ ap (λ (b : BoxState). rows_of b a.number) e)) r.holds;
+          holds = λ honest.
+              let was = honest_since h.before h.after h.change.nature honest in
+              let same : rows_of h.after a.number ≡ rows_of h.before a.number = h.change.rows was a.number (other s.1) in
+              subst (λ (rs : List TableRow). IsPermutation (map held rs) rows) (sym (same ∙ ap (λ (b : BoxState). rows_of b a.number) e)) (r.holds (subst is_honest e was));
         }
     split (inr s) = record { box = r.box; there = h.others a.source s.1 ∙ r.there; holds = r.holds }
 
 -- those of all tables
-rows_spared : (old new : List (Option BoxState)) (place : ℕ) (only : ℕ → Type 0) → EachBox is_honest old → ChangesAt old place (Spares only) new → (bound : List Attached) (rows : List (List Held))
+rows_spared : (old new : List (Option BoxState)) (place : ℕ) (only : ℕ → Type 0) → ChangesAt old place (Spares only) new → (bound : List Attached) (rows : List (List Held))
     → ((k : ℕ) (a : Attached) → slice_get bound k ≡ Some a → a.source ≡ place → only a.number → ⊥) → RowsAgree old bound rows → RowsAgree new bound rows
-rows_spared old new place only honest h [] [] other r = tt
-rows_spared old new place only honest h [] (x ∷ xs) other r = absurd r
-rows_spared old new place only honest h (a ∷ more) [] other r = absurd r
-rows_spared old new place only honest h (a ∷ more) (x ∷ xs) other r = (
-  row_spared old new place only a x honest h (other zero a refl) r.0,
-  rows_spared old new place only honest h more xs (λ k. other (suc k)) r.1,
+rows_spared old new place only h [] [] other r = tt
+rows_spared old new place only h [] (x ∷ xs) other r = absurd r
+rows_spared old new place only h (a ∷ more) [] other r = absurd r
+rows_spared old new place only h (a ∷ more) (x ∷ xs) other r = (
+  row_spared old new place only a x h (other zero a refl) r.0,
+  rows_spared old new place only h more xs (λ k. other (suc k)) r.1,
 )
 
 rows_push : (boxes : List (Option BoxState)) (bound : List Attached) (rows : List (List Held)) (a : Attached) (r : List Held) → RowsAgree boxes bound rows → AreRowsOf boxes a r → RowsAgree boxes (bound ++ a ∷ []) (rows ++ r ∷ [])
@@ -167,7 +192,7 @@ rows_gone boxes name (t ∷ ts) (b ∷ bs) (x ∷ xs) h = split (bytes_eq name t
 
 -- one of the catalogue alone
 pub catalog_agrees : (e : Shown) (change : ObjectChange) (w : World) → (changed change w.catalog).tables ≡ w.catalog.tables → Agrees e w → Agrees (with_change e change) (with_catalog w change)
-catalog_agrees e change w tables h = record { honest = h.honest; catalog = ap (changed change) h.catalog; sources = h.sources; rows = h.rows; sessions = sessions_still e e.boxes w (with_catalog w change) refl tables refl (all_stay e e.boxes h.scans h.honest (left_itself e)) h; scans = catalog_scans e change (sym (ap (λ (o : Objects). (changed change o).tables) h.catalog) ∙ tables ∙ ap (λ (o : Objects). o.tables) h.catalog) h.scans }
+catalog_agrees e change w tables h = record { catalog = ap (changed change) h.catalog; sources = h.sources; rows = h.rows; sessions = sessions_still e e.boxes w (with_catalog w change) refl tables refl (all_stay e e.boxes h.scans (left_itself e)) h; scans = catalog_scans e change (sym (ap (λ (o : Objects). (changed change o).tables) h.catalog) ∙ tables ∙ ap (λ (o : Objects). o.tables) h.catalog) h.scans }
 
 -- a table that is bound has another number than a fresh one
 pub fresh_other : (e : Shown) (place number : ℕ) (b : BoxState) → IsSound e → length e.bound ≡ length e.catalog.tables → slice_get e.boxes place ≡ Some (Some b) → table_of b number ≡ None
@@ -184,37 +209,58 @@ has_table (t ∷ ts) [] k a many at = absurd cc
 has_table (t ∷ ts) (x ∷ xs) zero a many at = (t, refl)
 has_table (t ∷ ts) (x ∷ xs) (suc k) a many at = has_table ts xs k a (omega arith) at
 
+-- what is said of a table that is bound, by whether its box is honest
+record BoundIn (e : Shown) (t : TableObject) (w : World) (h : BoxState) (number : ℕ) : Type 0 where
+  pub pick : Pick
+  pub picked : PicksEntry w t pick
+  pub rows : List Held
+  pub has : HasRows w pick t rows
+  pub are : is_honest h → IsPermutation (map held (rows_of h number)) rows
+
+bound_in : (e : Shown) (t : TableObject) (w : World) (place number : ℕ) (b c : BoxState) → IsSound e → Agrees e w → IsServerAt e t.server place → slice_get e.boxes place ≡ Some (Some b) → Binds b t.remote t.columns t.settings number c → BoundIn e t w c number
+bound_in e t w place number b c sound agrees server there h = by b.nature.honest refl
+  where
+    by : (honest : Bool) → b.nature.honest ≡ honest → BoundIn e t w c number
+    by true honest = record {
+      pick = record no_pick { entry = h.entry };
+      picked = λ kind holdings s. subst (λ (f : Name → Holding). Picks (f t.remote) h.entry) (one_store w t.server b.nature.kind kind b.content.holdings holdings serves s) (h.picked honest);
+      rows = reading.rows;
+      has = as_read reading reads (h.no_cause honest) refl;
+      are = λ now. subst (λ (rs : List Held). IsPermutation (map held (rows_of c number)) rs) (h.rows honest) (IsPermutation-refl (map held (rows_of c number)));
+    }
+      where
+        reading : Reading
+        reading = b.nature.kind.reads t.columns t.settings h.entry
+
+        serves : Serves w t.server b.nature.kind b.content.holdings
+        serves = serves_at e w t.server place b sound agrees server there honest
+
+        reads : Reads w t h.entry reading
+        reads = record { kind = b.nature.kind; holdings = b.content.holdings; serves = serves; read = refl }
+    by false lies = record {
+      pick = no_pick;
+      picked = λ kind holdings s. absurd (none_serves w t.server kind holdings is_shared_there s);
+      rows = [];
+      has = any_rows is_shared_there;
+      are = λ honest. absurd (false≢true (sym lies ∙ honest_since b c h.nature honest));
+    }
+      where
+        is_shared_there : is_shared_server w t.server ≡ true
+        is_shared_there = shared_at e w t.server place b sound agrees server there lies
+
 -- a table is bound
 pub bind_agrees : (e n : Shown) (t : TableObject) (w : World) → IsSound e → (h : BindsTable e t n) → Agrees e w
     → (p : Pick) × PicksEntry w t p × ((after : World) × Changes w p (new_table t) after × Agrees n after)
-bind_agrees e n t w sound h agrees = (p, picked, (after, (reading, reads, no_cause, refl), subst (λ (x : Shown). Agrees x after) (sym h.is) agrees_after))
+bind_agrees e n t w sound h agrees = (x.pick, x.picked, (after, (x.rows, x.has, refl), subst (λ (y : Shown). Agrees y after) (sym h.is) agrees_after))
   where
     b : BoxState
     b = h.binds.before
 
-    honest : is_honest b
-    honest = agrees.honest h.place b h.binds.there
-
-    p : Pick
-    p = record no_pick { entry = h.binds.change.entry }
-
-    reading : Reading
-    reading = b.nature.kind.reads t.columns t.settings h.binds.change.entry
-
-    serves : Serves w t.server b.nature.kind b.content.holdings
-    serves = serves_at e w t.server h.place b sound agrees h.server h.binds.there
-
-    picked : PicksEntry w t p
-    picked kind holdings s = subst (λ (f : Name → Holding). Picks (f t.remote) h.binds.change.entry) (one_store w t.server b.nature.kind kind b.content.holdings holdings serves s) (h.binds.change.picked honest)
-
-    reads : Reads w t h.binds.change.entry reading
-    reads = record { kind = b.nature.kind; holdings = b.content.holdings; serves = serves; read = refl }
-
-    no_cause : reading.causes ≡ []
-    no_cause = h.binds.change.no_cause honest
+    x : BoundIn e t w h.binds.after h.number
+    x = bound_in e t w h.place h.number b h.binds.after sound agrees h.server h.binds.there h.binds.change
 
     after : World
-    after = record (with_catalog w (new_table t)) { rows = w.rows ++ reading.rows ∷ [] }
+    after = record (with_catalog w (new_table t)) { rows = w.rows ++ x.rows ∷ [] }
 
     new : List (Option BoxState)
     new = n.boxes
@@ -223,15 +269,11 @@ bind_agrees e n t w sound h agrees = (p, picked, (after, (reading, reads, no_cau
     spares = changes_by (λ x y. Binds x t.remote t.columns t.settings h.number y) (Spares (that_is h.number)) e.boxes new h.place (λ x y k. binds_spares x y t.remote t.columns t.settings h.number k) h.binds
 
     others : RowsAgree new e.bound w.rows
-    others = rows_spared e.boxes new h.place (that_is h.number) agrees.honest spares e.bound w.rows
+    others = rows_spared e.boxes new h.place (that_is h.number) spares e.bound w.rows
         (λ k a at. let u = has_table e.catalog.tables e.bound k a sound.many at in fresh_other e h.place h.number b sound sound.many h.binds.there h.binds.change.fresh k a u.0 u.1 at) agrees.rows
 
-    last : AreRowsOf new (record { source = h.place; number = h.number }) reading.rows
-    last = record {
-      box = h.binds.after;
-      there = h.binds.now;
-      holds = subst (λ (rs : List Held). IsPermutation (map held (rows_of h.binds.after h.number)) rs) (h.binds.change.rows honest) (IsPermutation-refl (map held (rows_of h.binds.after h.number)));
-    }
+    last : AreRowsOf new (record { source = h.place; number = h.number }) x.rows
+    last = record { box = h.binds.after; there = h.binds.now; holds = x.are }
 
     many : length w.rows ≡ length w.catalog.tables
     many = many_rows e.boxes e.bound w.rows agrees.rows ∙ sound.many ∙ ap (λ (o : Objects). length o.tables) (sym agrees.catalog)
@@ -241,12 +283,11 @@ bind_agrees e n t w sound h agrees = (p, picked, (after, (reading, reads, no_cau
 
     agrees_after : Agrees grown after
     agrees_after = record {
-      honest = λ i c at. let x = was_there (Spares (that_is h.number)) e.boxes new h.place i c (spares_itself (that_is h.number)) spares at in honest_spared (that_is h.number) x.0 c x.2 (agrees.honest i x.0 x.1);
       scans = bind_scans e n t sound h;
       catalog = ap (changed (new_table t)) agrees.catalog;
-      sources = agrees.sources ∙ sym (sources_spared e new h.place (that_is h.number) agrees.honest spares);
-      rows = rows_push new e.bound w.rows (record { source = h.place; number = h.number }) reading.rows others last;
-      sessions = sessions_stay e new w after refl (λ l taken x. pushed_stands w t reading.rows l many x) (all_stay e new sound.scans agrees.honest (quiet_left e new h.place (bind_quiet e n t sound h))) agrees;
+      sources = agrees.sources ∙ sym (sources_spared e new h.place (that_is h.number) spares);
+      rows = rows_push new e.bound w.rows (record { source = h.place; number = h.number }) x.rows others last;
+      sessions = sessions_stay e new w after refl (λ l taken y. pushed_stands w t x.rows l many y) (all_stay e new sound.scans (quiet_left e new h.place (bind_quiet e n t sound h))) agrees;
     }
 
 -- a table is unbound
@@ -277,19 +318,18 @@ unbind_agrees e n name w p sound free h agrees = (after, refl, subst (λ (x : Sh
     apart k a at here same = let was = left_was name e.catalog.tables e.bound h.place h.first k a at in was.2 (sound.bound_once was.0 h.place a h.at was.1 h.bound here same)
 
     kept : RowsAgree new left (beside_without name e.catalog.tables w.rows)
-    kept = rows_spared e.boxes new h.at.source (that_is h.at.number) agrees.honest spares left (beside_without name e.catalog.tables w.rows) apart gone
+    kept = rows_spared e.boxes new h.at.source (that_is h.at.number) spares left (beside_without name e.catalog.tables w.rows) apart gone
 
     shrunk : Shown
     shrunk = record (with_change e (no_table name)) { boxes = new; bound = left }
 
     agrees_after : Agrees shrunk after
     agrees_after = record {
-      honest = λ i c at. let x = was_there (Spares (that_is h.at.number)) e.boxes new h.at.source i c (spares_itself (that_is h.at.number)) spares at in honest_spared (that_is h.at.number) x.0 c x.2 (agrees.honest i x.0 x.1);
       scans = unbind_scans e n name sound free h none;
       catalog = ap (changed (no_table name)) agrees.catalog;
-      sources = agrees.sources ∙ sym (sources_spared e new h.at.source (that_is h.at.number) agrees.honest spares);
+      sources = agrees.sources ∙ sym (sources_spared e new h.at.source (that_is h.at.number) spares);
       rows = subst (λ (o : Objects). RowsAgree new left (beside_without name o.tables w.rows)) (sym agrees.catalog) kept;
-      sessions = sessions_stay e new w after refl (λ l taken x. dropped_stands w name l (named_apart w l.table name taken (ap (λ f. f name) (leases_same e w sound agrees) ∙ free)) x) (all_stay e new sound.scans agrees.honest (quiet_left e new h.at.source (unbind_quiet e n name sound free h none))) agrees;
+      sessions = sessions_stay e new w after refl (λ l taken x. dropped_stands w name l (named_apart w l.table name taken (ap (λ f. f name) (leases_same e w sound agrees) ∙ free)) x) (all_stay e new sound.scans (quiet_left e new h.at.source (unbind_quiet e n name sound free h none))) agrees;
     }
 
 -- a box is dropped
@@ -306,12 +346,11 @@ rows_elsewhere boxes place (a ∷ more) (x ∷ xs) other h = (
 -- a call that was refused changes no world
 pub refused_agrees : (e : Shown) (new : List (Option BoxState)) (place : ℕ) (fault : Fault) → ChangesAt e.boxes place (Refuses fault) new → (w : World) → Agrees e w → Agrees (record e { boxes = new }) w
 refused_agrees e new place fault h w agrees = record {
-  honest = λ i c at. let x = was_there (Spares nothing_at) e.boxes new place i c (spares_itself nothing_at) spares at in honest_spared nothing_at x.0 c x.2 (agrees.honest i x.0 x.1);
   scans = refused_scans e new place fault h agrees.scans;
   catalog = agrees.catalog;
-  sources = agrees.sources ∙ sym (sources_spared e new place nothing_at agrees.honest spares);
-  rows = rows_spared e.boxes new place nothing_at agrees.honest spares e.bound w.rows (λ k a at here only. only) agrees.rows;
-  sessions = sessions_still e new w w refl refl refl (all_stay e new agrees.scans agrees.honest (quiet_left e new place (refused_quiet e new place fault h))) agrees;
+  sources = agrees.sources ∙ sym (sources_spared e new place nothing_at spares);
+  rows = rows_spared e.boxes new place nothing_at spares e.bound w.rows (λ k a at here only. only) agrees.rows;
+  sessions = sessions_still e new w w refl refl refl (all_stay e new agrees.scans (quiet_left e new place (refused_quiet e new place fault h))) agrees;
 }
   where
     nothing_at : ℕ → Type 0
@@ -323,13 +362,12 @@ refused_agrees e new place fault h w agrees = record {
 -- nor does a bind that was undone
 pub vain_agrees : (e : Shown) (new : List (Option BoxState)) (t : TableObject) (place : ℕ) → IsSound e → ChangesAt e.boxes place (BindsInVain t) new → (w : World) → Agrees e w → Agrees (record e { boxes = new }) w
 vain_agrees e new t place sound h w agrees = record {
-  honest = λ i c at. let x = was_there (Spares only) e.boxes new place i c (spares_itself only) spares at in honest_spared only x.0 c x.2 (agrees.honest i x.0 x.1);
   scans = vain_scans e new t place sound h;
   catalog = agrees.catalog;
-  sources = agrees.sources ∙ sym (sources_spared e new place only agrees.honest spares);
-  rows = rows_spared e.boxes new place only agrees.honest spares e.bound w.rows
+  sources = agrees.sources ∙ sym (sources_spared e new place only spares);
+  rows = rows_spared e.boxes new place only spares e.bound w.rows
       (λ k a at. let u = has_table e.catalog.tables e.bound k a sound.many at in fresh_other e place h.change.number h.before sound sound.many h.there h.change.binds.fresh k a u.0 u.1 at) agrees.rows;
-  sessions = sessions_still e new w w refl refl refl (all_stay e new agrees.scans agrees.honest (quiet_left e new place (vain_quiet e new t place sound h))) agrees;
+  sessions = sessions_still e new w w refl refl refl (all_stay e new agrees.scans (quiet_left e new place (vain_quiet e new t place sound h))) agrees;
 }
   where
     only : ℕ → Type 0
@@ -362,10 +400,9 @@ drop_agrees e n name w p sound h agrees = (after, is, subst (λ (x : Shown). Agr
 
     agrees_after : Agrees shrunk after
     agrees_after = record {
-      honest = λ i c at. agrees.honest i c (left_box e.boxes h.place i h.box c h.there at);
       scans = drop_scans e h.place h.box h.there h.idle name sound.scans;
       catalog = ap (changed (no_server name)) agrees.catalog;
       sources = ap (drop_source h.server.at.source) agrees.sources ∙ sym (sources_dropped e.labels e.boxes h.place h.server.at.source (Some h.box) sound.source_names h.server.source h.there);
       rows = rows_elsewhere e.boxes h.place e.bound w.rows apart agrees.rows;
-      sessions = sessions_still e new w after refl refl refl (all_stay e new sound.scans agrees.honest (drop_left e h.place h.box h.there h.idle)) agrees;
+      sessions = sessions_still e new w after refl refl refl (all_stay e new sound.scans (drop_left e h.place h.box h.there h.idle)) agrees;
     }

@@ -51,10 +51,10 @@ lacks e sid text c is = subst (λ (d : Cause). Leads e sid (sql text) (refused d
 
 -- ---- a query
 
-pub selects : (e : Shown) (new : List (Option BoxState)) (sid : ℕ) (text : List ℕ) (user : Name) (q : SelectTree) (names : List Name) (given : List Tuple) → IsRead e sid text user (on_data (select q))
+pub selects : (e : Shown) (new : List (Option BoxState)) (sid : ℕ) (text : List ℕ) (user : Name) (q : SelectTree) (names : List Name) (given : List Tuple) → IsRead e sid text user (on_data (select q)) → IsSound e
     → Selects e.catalog user e.bound q e.boxes names given new → Leads e sid (sql text) (answered (codes "SELECT") names given) (with_boxes e new)
-selects e new sid text user q names given read h =
-    selects_leads e (with_boxes e new) sid text user q names given read h (serving_rises e.boxes new h.served) (serving_agrees e new h.served)
+selects e new sid text user q names given read sound h =
+    selects_leads e (with_boxes e new) sid text user q names given read sound h (serving_rises e.boxes new h.served) (serving_agrees e new h.served)
 
 back_to : (e : Shown) (new : List (Option BoxState)) (sid : ℕ) (text : List ℕ) (r : Reply) → new ≡ e.boxes → Leads e sid (sql text) r e → Leads e sid (sql text) r (with_boxes e new)
 back_to e new sid text r same h = subst (λ (x : List (Option BoxState)). Leads e sid (sql text) r (with_boxes e x)) (sym same) h
@@ -90,24 +90,24 @@ ends_leads e new sid text user q read b served h kept = record {
   );
 }
 
-run_leads : ArePhased → (e : Shown) (new : List (Option BoxState)) (sid : ℕ) (text : List ℕ) (user : Name) (q : SelectTree) (places : List Place) (c : Cause) → IsRead e sid text user (on_data (select q)) → IsBindable e.catalog user q
+run_leads : ArePhased → (e : Shown) (new : List (Option BoxState)) (sid : ℕ) (text : List ℕ) (user : Name) (q : SelectTree) (places : List Place) (c : Cause) → IsRead e sid text user (on_data (select q)) → IsSound e → IsBindable e.catalog user q
     → is_large_form (meant_by e.catalog q).form ≡ false → AllServed e.boxes new → ArePlaces e.bound (meant_by e.catalog q).entries places → RunFails (query_of (meant_by e.catalog q)) places c e.boxes new
     → Leads e sid (sql text) (refused c) (with_boxes e new)
-run_leads law e new sid text user q places c read b few served are (no_memory is) =
+run_leads law e new sid text user q places c read sound b few served are (no_memory is) =
     subst (λ (d : Cause). Leads e sid (sql text) (refused d) (with_boxes e new)) (sym is) (leads_memory e (with_boxes e new) sid (sql text) (asks_read e sid text user (on_data (select q)) (refused OutOfMemory) (with_boxes e new) read tt) tt (serving_rises e.boxes new served) (serving_agrees e new served))
-run_leads law e new sid text user q places c read b few served are (box_fails is h) =
+run_leads law e new sid text user q places c read sound b few served are (box_fails is h) =
     subst (λ (d : Cause). Leads e sid (sql text) (refused d) (with_boxes e new)) (sym is) (fails_leads e (with_boxes e new) sid text user q read b h (serving_rises e.boxes new served) (serving_agrees e new served))
-run_leads law e new sid text user q places c read b few served are (numbers_out is h) =
+run_leads law e new sid text user q places c read sound b few served are (numbers_out is h) =
     subst (λ (d : Cause). Leads e sid (sql text) (refused d) (with_boxes e new)) (sym is) (ends_leads e (with_boxes e new) sid text user q read b served h (serving_agrees e new served))
-run_leads law e new sid text user q places c read b few served are (shows_cause h) =
-    shows_run_leads e (with_boxes e new) sid text user q places c read b few are h (serving_rises e.boxes new served) (serving_agrees e new served)
+run_leads law e new sid text user q places c read sound b few served are (shows_cause of_run h) =
+    shows_run_leads e (with_boxes e new) sid text user q places c read sound b few are of_run h (serving_rises e.boxes new served) (serving_agrees e new served)
 
-pub select_fails : ArePhased → (e : Shown) (new : List (Option BoxState)) (sid : ℕ) (text : List ℕ) (user : Name) (q : SelectTree) (c : Cause) → IsRead e sid text user (on_data (select q)) → SelectFails e.catalog user e.bound q e.boxes c new
+pub select_fails : ArePhased → (e : Shown) (new : List (Option BoxState)) (sid : ℕ) (text : List ℕ) (user : Name) (q : SelectTree) (c : Cause) → IsRead e sid text user (on_data (select q)) → IsSound e → SelectFails e.catalog user e.bound q e.boxes c new
     → Leads e sid (sql text) (refused c) (with_boxes e new)
-select_fails law e new sid text user q c read (not_bound why same) = back_to e new sid text (refused c) same (not_bound_leads law e sid text user q c read why)
-select_fails law e new sid text user q c read (too_many b many is same) =
+select_fails law e new sid text user q c read sound (not_bound why same) = back_to e new sid text (refused c) same (not_bound_leads law e sid text user q c read why)
+select_fails law e new sid text user q c read sound (too_many b many is same) =
     back_to e new sid text (refused c) same (subst (λ (d : Cause). Leads e sid (sql text) (refused d) e) (sym is) (many_leads law e sid text user q read b many))
-select_fails law e new sid text user q c read (run_fails b few served places are h) = run_leads law e new sid text user q places c read b few served are h
+select_fails law e new sid text user q c read sound (run_fails b few served places are h) = run_leads law e new sid text user q places c read sound b few served are h
 
 -- soundness
 pub selects_sound : (e : Shown) (new : List (Option BoxState)) (user : Name) (q : SelectTree) (names : List Name) (given : List Tuple) → IsSound e → Selects e.catalog user e.bound q e.boxes names given new → IsSound (with_boxes e new)

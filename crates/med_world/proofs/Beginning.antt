@@ -58,7 +58,6 @@ empty_sound owner seats is_user closed = record {
 
 pub empty_agrees : (owner : Name) (seats : List (Option Seated)) → seats ≡ replicate session_count None → Agrees (empty_shown owner seats) (empty_world owner)
 empty_agrees owner seats closed = record {
-  honest = λ slot s at. absurd (no_box slot s at);
   catalog = refl;
   sources = refl;
   rows = tt;

@@ -11,7 +11,7 @@ use Rattle.fdw_api.specs.State.{Scan, BoxState, scan_of}
 use Rattle.fdw_api.specs.Sound.{IsTableOf}
 use Rattle.med_exec.specs.Slots.{BoxAt}
 use Rattle.med_exec.specs.declared.running.Run.{Run}
-use Rattle.med_exec.specs.Running.{Held as Scans, Served, ServesRun, AllHonest, none_held}
+use Rattle.med_exec.specs.Running.{Held as Scans, Served, ServesRun, none_held}
 use Rattle.med_exec.specs.Rests.{held}
 use Rattle.med_exec.specs.Leaving.{AreApart, LeavesRun}
 use Rattle.med_exec.proofs.Served.{serves_on}
@@ -34,7 +34,7 @@ use Rattle.med_world.specs.Laws.{IsRead, with_boxes}
 use Rattle.med_world.proofs.Lists.{some_same, none_some, same_bytes, bytes_same, bytes_other}
 use Rattle.med_world.proofs.Named.{place_of, at_place, map_place, found_place, found_passes}
 use Rattle.med_world.proofs.Faring.{same_box, set_same}
-use Rattle.med_world.proofs.Seats.{RestsStay, IsIn, place_there, here_first, here_later}
+use Rattle.med_world.proofs.Seats.{RestsStay, on_stays, IsIn, place_there, here_first, here_later}
 use Rattle.med_world.proofs.Scans.{apart_none, IsSpared, TurnsOn, Turned}
 use Rattle.med_world.proofs.CursorRows.{place_leased}
 use Rattle.med_world.proofs.Told.{pick_tree}
@@ -386,9 +386,9 @@ ended_left e new sid seat name o sound at here ends c has =
     served_leaves c.run (held o.run) none_held e.boxes new (ends_serve o.run e.boxes new ends)
     (apart_here e sid seat sound at o (has_of name seat.cursors o here) c r.0 (other_name name seat.cursors o c here r.1)) (apart_none (held c.run))
 
--- a run of this session that is left may give what it could
-pub here_stays : (e : Shown) (new : List (Option BoxState)) (sid : ℕ) (seat : Seated) (c : Opened) → IsSound e → seat_of e.seats sid ≡ Some seat → AllHonest e.boxes → Contains seat.cursors c → LeavesRun c.run e.boxes new → RestsStay e.boxes new c
-here_stays e new sid seat c sound at honest has left = (run_goes_on c.run e.boxes new (sound.scans.running (sid - 1) c (record { seat = seat; there = here_of e sid seat at; has = has })) left).rests (λ slot has. honest slot)
+-- a run of this session that is left goes on as it was
+pub here_stays : (e : Shown) (new : List (Option BoxState)) (sid : ℕ) (seat : Seated) (c : Opened) → IsSound e → seat_of e.seats sid ≡ Some seat → Contains seat.cursors c → LeavesRun c.run e.boxes new → RestsStay e.boxes new c
+here_stays e new sid seat c sound at has left = on_stays e.boxes new c (run_goes_on c.run e.boxes new (sound.scans.running (sid - 1) c (record { seat = seat; there = here_of e sid seat at; has = has })) left)
 
 pub left_here : (name : Name) (cursors : List Opened) (c : Opened) → Contains (without_named name cursors) c → Contains cursors c
 left_here name cursors c has = (left_in name cursors c has).0

@@ -3,12 +3,12 @@ use Rattle.std.proofs.Common.{◌≡◌, ℕ, ◌+◌, ◌<◌, ◌≤◌, List,
 use Rattle.std.specs.List.{IsDistinct}
 use Rattle.std.proofs.lemmas.List.{length_push, map-append}
 use Rattle.fdw_api.specs.Kinds.{Held}
-use Rattle.fdw_api.specs.State.{BoxState, BoxTable, IsIdle, is_honest, table_of}
+use Rattle.fdw_api.specs.State.{BoxState, BoxTable, IsIdle, table_of}
 use Rattle.fdw_api.specs.Sound.{IsSoundBox}
 use Rattle.med_catalog.specs.declared.kind.SourceKind.{SourceKind}
 use Rattle.med_binder.specs.Places.{Attached}
 use Rattle.med_value.specs.Limits.{source_limit}
-use Rattle.sql_meaning.specs.World.{World, Source, standing, with_source}
+use Rattle.sql_meaning.specs.World.{World, Source, with_source}
 use Rattle.med_world.specs.Engine.{Label, Shown, EachBox, EachTakes, TakesAs, IsNamedAt, IsAmong, IsSound, state_of, sources_of, RowsAgree, Agrees}
 use Rattle.med_world.specs.Adding.{HasSource, with_box, Adds}
 use Rattle.med_world.proofs.Lists.{some_same, none_some, push_before, push_cases, past}
@@ -108,15 +108,14 @@ rows_push boxes b (a ∷ more) [] h = h
 rows_push boxes b (a ∷ more) (r ∷ rs) h =
     (record { box = h.0.box; there = push_before boxes (Some b) a.source (Some h.0.box) h.0.there; holds = h.0.holds }, rows_push boxes b more rs h.1)
 
-added_agrees : (e : Shown) (name : List ℕ) (kind : SourceKind) (b : BoxState) → IsSound e → IsIdle b → (w : World) → Agrees e w → is_honest b → Agrees (with_box e name kind b) (with_source w name kind b.nature.kind b.content.holdings)
-added_agrees e name kind b sound idle w h honest =
+added_agrees : (e : Shown) (name : List ℕ) (kind : SourceKind) (b : BoxState) → IsSound e → IsIdle b → (w : World) → Agrees e w → Agrees (with_box e name kind b) (with_source w name kind (state_of (Some b)))
+added_agrees e name kind b sound idle w h =
     let l : Label = record { name = name; kind = kind } in
     record {
-      honest = each_push is_honest e.boxes b h.honest honest;
       catalog = h.catalog;
-      sources = ap (λ (ss : List Source). ss ++ record { name = name; kind = kind; state = standing b.nature.kind b.content.holdings } ∷ []) h.sources ∙ sym (sources_push e.labels e.boxes l b sound.places);
+      sources = ap (λ (ss : List Source). ss ++ record { name = name; kind = kind; state = state_of (Some b) } ∷ []) h.sources ∙ sym (sources_push e.labels e.boxes l b sound.places);
       rows = rows_push e.boxes b e.bound w.rows h.rows;
-      sessions = sessions_still e (e.boxes ++ Some b ∷ []) w (with_source w name kind b.nature.kind b.content.holdings) refl refl refl (all_stay e (e.boxes ++ Some b ∷ []) h.scans h.honest (add_left e (with_box e name kind b) b refl idle)) h;
+      sessions = sessions_still e (e.boxes ++ Some b ∷ []) w (with_source w name kind (state_of (Some b))) refl refl refl (all_stay e (e.boxes ++ Some b ∷ []) h.scans (add_left e (with_box e name kind b) b refl idle)) h;
       scans = add_scans e (with_box e name kind b) b refl idle refl refl refl h.scans;
     }
 
@@ -124,6 +123,6 @@ pub sound_of : IdleIsSound → (e n : Shown) (name : List ℕ) (kind : SourceKin
 sound_of law e n name kind b h sound idle takes = subst IsSound (sym h.is) (added_sound law e name kind b sound h.name_free h.room idle takes)
 
 pub agrees_of : (e n : Shown) (name : List ℕ) (kind : SourceKind) (b : BoxState) → Adds e name kind b n → IsSound e → IsIdle b
-    → (w : World) → Agrees e w → is_honest b → Agrees n (with_source w name kind b.nature.kind b.content.holdings)
-agrees_of e n name kind b h sound idle w agrees honest =
-    subst (λ (x : Shown). Agrees x (with_source w name kind b.nature.kind b.content.holdings)) (sym h.is) (added_agrees e name kind b sound idle w agrees honest)
+    → (w : World) → Agrees e w → Agrees n (with_source w name kind (state_of (Some b)))
+agrees_of e n name kind b h sound idle w agrees =
+    subst (λ (x : Shown). Agrees x (with_source w name kind (state_of (Some b)))) (sym h.is) (added_agrees e name kind b sound idle w agrees)

@@ -1,5 +1,5 @@
 -- Requests lead to their replies: what every request shares, sessions, and statements on objects.
-use Rattle.std.proofs.Common.{◌≡◌, ℕ, ◌+◌, ◌-◌, ◌^◌, ◌<◌, ◌≤◌, ◌⊎◌, min, true, false, List, [], Option, Some, None, option_map, refl, ap, sym, ◌∙◌, subst, arith, inl, inr}
+use Rattle.std.proofs.Common.{◌≡◌, ◌≢◌, ℕ, ◌+◌, ◌-◌, ◌^◌, ◌<◌, ◌≤◌, ◌⊎◌, min, cond, Bool, true, false, List, [], Option, Some, None, option_map, refl, ap, sym, ◌∙◌, subst, arith, inl, inr}
 use Rattle.std.proofs.lemmas.Bool.{false≢true, cases_lt}
 use Rattle.med_value.specs.declared.cause.Cause.{Cause}
 use Rattle.med_value.specs.declared.cause.Cause.TheVariants.{UnableToConnect, OutOfMemory, SourceFault}
@@ -16,23 +16,23 @@ use Rattle.med_catalog.specs.Changes.{changed, ObjectChange, nothing, new_wrappe
 use Rattle.med_catalog.specs.DdlCauses.{DdlCauses}
 use Rattle.sql_meaning.specs.Requests.{AskedLine, sql}
 use Rattle.med_parser.specs.CommandTree.{CommandTree, on_objects}
-use Rattle.sql_meaning.specs.Steps.{ddl_tag, Trouble, TakesMemory, with_catalog, Changes, Step, is_refused, is_done, lacks_memory, source_fails}
+use Rattle.sql_meaning.specs.Steps.{ddl_tag, Trouble, TakesMemory, with_catalog, Changes, Step, is_refused, is_done, lacks_memory, source_fails, shared_shows}
 use Rattle.sql_meaning.specs.Picks.{Pick, no_pick}
 use Rattle.open_cursors.specs.Open.{Seated}
 use Rattle.med_world.specs.Seats.{seat_of, SeatAgrees}
-use Rattle.sql_meaning.specs.World.{World, Cursor, Session, source_named, is_taken, IsFree, Serves}
-use Rattle.sql_meaning.specs.Causes.{Reads, SourceCauses, ObjectCauses, PicksEntry, IsPickOf, IsTold, NoneStands, NoneBeforeState, phase}
+use Rattle.sql_meaning.specs.World.{World, Cursor, Session, standing, shared, dropped, source_named, is_taken, IsFree, Serves, is_shared_server}
+use Rattle.sql_meaning.specs.Causes.{Reads, SourceCauses, ObjectCauses, TreeCauses, PicksEntry, IsPickOf, IsTold, NoneStands, NoneBeforeState, RestsOnShared, MayShow, phase}
 use Rattle.sql_meaning.specs.Replies.{done, refused}
-use Rattle.med_world.specs.Engine.{Rises, Shown, leased, IsSound, IsNamedAt, IsServerAt, Agrees, Befell, EachRises, AsksBoxes, Leads, with_change, Alters}
+use Rattle.med_world.specs.Engine.{Rises, Shown, leased, IsSound, IsNamedAt, IsServerAt, Agrees, Befell, EachRises, AsksBoxes, Leads, with_change, Alters, state_of}
 use Rattle.med_world.specs.Laws.{IsRead}
 use Rattle.med_world.specs.Altering.{IsFreeAt, IsAllowed, SourcesAllow, IsAltered}
 use Rattle.med_world.proofs.Faring.{changes_by, changes_rise, rises_itself, none_rises, drop_rises, binds_rises, unbinds_rises}
-use Rattle.med_world.proofs.Altered.{catalog_agrees, bind_agrees, unbind_agrees, drop_agrees, serves_at, one_store, find_source}
+use Rattle.med_world.proofs.Altered.{catalog_agrees, bind_agrees, unbind_agrees, drop_agrees, serves_at, shared_at, one_store, find_source}
 use Rattle.med_world.proofs.Lists.{some_same}
 use Rattle.med_world.proofs.Asks.{asks_refused, asks_read}
 use Rattle.med_world.proofs.Kept.{free_to_drop}
-use Rattle.med_world.proofs.Told.{IsKnownAs, told_tree, none_tree, before_tree, pick_tree}
-use Rattle.med_world.proofs.Objecting.{AreObjects, asks_same, causes_same, of_source, told_objects, told_bind, none_bind, source_phase}
+use Rattle.med_world.proofs.Told.{IsKnownAs, told_tree, none_tree, before_tree, run_before, pick_tree}
+use Rattle.med_world.proofs.Objecting.{AreObjects, asks_same, causes_same, of_source, told_objects, told_bind, none_made, none_shared, source_phase}
 
 -- ---- trouble
 
@@ -58,17 +58,26 @@ memory_befell : (old new : List (Option BoxState)) → Befell old new refused_me
 unfolding refused_memory
 memory_befell old new = record { source = λ e. absurd (false≢true e); numbers = λ e. absurd (false≢true e) }
 
--- a request that is refused by a cause, with the worlds as they were
-pub leads_refused : (e new : Shown) (sid : ℕ) (request : AskedLine) (c : Cause) → AsksBoxes e sid request (refused c) new → EachRises e.boxes new.boxes → ((w : World) → Agrees e w → Agrees new w)
-    → ((w : World) → Agrees e w → (p : Pick) × IsPickOf w sid request p × IsTold w sid p request c) → Leads e sid request (refused c) new
-leads_refused e new sid request c asks rises kept told = record {
+-- a request that is refused by a cause, with the worlds as they were: in each world a step leads to it, as where it is told
+pub leads_either : (e new : Shown) (sid : ℕ) (request : AskedLine) (c : Cause) → AsksBoxes e sid request (refused c) new → EachRises e.boxes new.boxes → ((w : World) → Agrees e w → Agrees new w)
+    → ((w : World) → Agrees e w → Step w sid request calm (refused c) w) → Leads e sid request (refused c) new
+leads_either e new sid request c asks rises kept step = record {
   trouble = calm;
   befell = calm_befell e.boxes new.boxes;
   asked = λ x. absurd (calm_unasked x);
   rises = rises;
   asks = asks;
-  step = λ w a. let t = told w a in (w, is_refused t.0 c t.1 t.2 refl refl, kept w a);
+  step = λ w a. (w, step w a, kept w a);
 }
+
+-- a cause that a shared source may show
+pub shared_step : (w : World) (sid : ℕ) (text : List ℕ) (s : Session) (tree : CommandTree) (c : Cause) → IsKnownAs w sid text s tree → RestsOnShared w s tree → MayShow tree c → ((p : Pick) (d : Cause) → TreeCauses w s p tree d → 5 < phase d)
+    → Step w sid (sql text) calm (refused c) w
+shared_step w sid text s tree c k rests may none = shared_shows s tree c k.is rests may (run_before w sid text s tree k none) refl refl
+
+pub leads_refused : (e new : Shown) (sid : ℕ) (request : AskedLine) (c : Cause) → AsksBoxes e sid request (refused c) new → EachRises e.boxes new.boxes → ((w : World) → Agrees e w → Agrees new w)
+    → ((w : World) → Agrees e w → (p : Pick) × IsPickOf w sid request p × IsTold w sid p request c) → Leads e sid request (refused c) new
+leads_refused e new sid request c asks rises kept told = leads_either e new sid request c asks rises kept (λ w a. let t = told w a in is_refused t.0 c t.1 t.2 refl refl)
 
 -- one for which memory was refused
 pub leads_memory : (e new : Shown) (sid : ℕ) (request : AskedLine) → AsksBoxes e sid request (refused OutOfMemory) new → TakesMemory request → EachRises e.boxes new.boxes → ((w : World) → Agrees e w → Agrees new w) → Leads e sid request (refused OutOfMemory) new
@@ -110,6 +119,14 @@ known e w sid text user tree a read = record {
 
 -- ---- a statement on objects that is done
 
+-- a source that has a box was not dropped
+still_there : (b : BoxState) → state_of (Some b) ≢ dropped
+still_there b = by b.nature.honest
+  where
+    by : (honest : Bool) → cond honest (standing b.nature.kind b.content.holdings) (shared b.nature.kind) ≢ dropped
+    by true e = cc
+    by false e = cc
+
 -- a free source of the engine is free in the world
 free_in : (e : Shown) (w : World) (s : ServerObject) (place : ℕ) → IsSound e → Agrees e w → IsFreeAt e s place → IsFree w s.source s.kind
 free_in e w s place sound h f =
@@ -119,9 +136,7 @@ free_in e w s place sound h f =
       at = x.0;
       is = ap (λ sources. source_named s.source sources) h.sources ∙ x.1;
       of_kind = x.3 ∙ f.stands.of_kind;
-      kind = f.stands.box.nature.kind;
-      holdings = f.stands.box.content.holdings;
-      state = x.2;
+      there = λ gone. still_there f.stands.box (sym x.2 ∙ gone);
       untaken = ap (λ (o : Objects). is_taken o s.source) h.catalog ∙ f.untaken;
     }
 
@@ -161,7 +176,7 @@ altering e n (new_table t) w sound h free allow is =
       after = b.2.0;
       changes = b.2.1;
       agrees = b.2.2;
-      clear = none_bind w t b.0 b.2.1.0 b.2.1.1 b.2.1.2;
+      clear = none_made w t b.0 b.2.1.0 b.2.1.1;
     }
 altering e n (no_table name) w sound h free allow is =
     let b = unbind_agrees e n name w no_pick sound (free name refl) is h in
@@ -288,16 +303,17 @@ taken_leads law e sid text user d s read sound allowed taken = leads_refused e e
 -- the box refuses the bind
 pub refused_leads : AreObjects → (e n : Shown) (sid : ℕ) (text : List ℕ) (user : Name) (d : DdlTree) (t : TableObject) (place : ℕ) (c : Cause) → IsRead e sid text user (on_objects d) → IsSound e → IsAllowed e user d (new_table t) → IsServerAt e t.server place
     → (h : ChangesAt e.boxes place (λ a b. RefusesBind a t.remote t.columns t.settings (Refused c) b) n.boxes) → EachRises e.boxes n.boxes → ((w : World) → Agrees e w → Agrees n w) → Leads e sid (sql text) (refused c) n
-refused_leads law e n sid text user d t place c read sound allowed server h rises kept = leads_refused e n sid (sql text) c (asks_read e sid text user (on_objects d) (refused c) n read tt) rises kept told
+refused_leads law e n sid text user d t place c read sound allowed server h rises kept =
+    leads_either e n sid (sql text) c (asks_read e sid text user (on_objects d) (refused c) n read tt) rises kept (λ w a. by w a b.nature.honest refl)
   where
-    told : (w : World) → Agrees e w → (p : Pick) × IsPickOf w sid (sql text) p × IsTold w sid p (sql text) c
-    told w a = (p, picks, told_tree w sid p text (session_in w sid user) (on_objects d) c k (inr (new_table t, asks, (reading, reads, because.2.stands))) least)
-      where
-        b : BoxState
-        b = h.before
+    b : BoxState
+    b = h.before
 
+    by : (w : World) → Agrees e w → (honest : Bool) → b.nature.honest ≡ honest → Step w sid (sql text) calm (refused c) w
+    by w a true honest = is_refused p c picks (told_tree w sid p text (session_in w sid user) (on_objects d) c k (inr (new_table t, asks, (reading, reads, because.2.stands))) least) refl refl
+      where
         because : (entry : Option Entry) × Picks (b.content.holdings t.remote) entry × IsLeast (b.nature.kind.reads t.columns t.settings entry).causes c
-        because = h.change.cause.1 (a.honest place b h.there)
+        because = h.change.cause.1 honest
 
         p : Pick
         p = record no_pick { entry = because.0 }
@@ -306,7 +322,7 @@ refused_leads law e n sid text user d t place c read sound allowed server h rise
         reading = b.nature.kind.reads t.columns t.settings because.0
 
         serves : Serves w t.server b.nature.kind b.content.holdings
-        serves = serves_at e w t.server place b sound a server h.there
+        serves = serves_at e w t.server place b sound a server h.there honest
 
         reads : Reads w t because.0 reading
         reads = record { kind = b.nature.kind; holdings = b.content.holdings; serves = serves; read = refl }
@@ -325,6 +341,11 @@ refused_leads law e n sid text user d t place c read sound allowed server h rise
 
         least : (x : Cause) → ObjectCauses w user p d x → phase c ≤ phase x
         least x y = told_bind w t p reading c reads because.2 x (of_source law e w user p d (new_table t) sound a allowed.asks allowed.clear x y)
+    by w a false lies = shared_step w sid text (session_in w sid user) (on_objects d) c (known e w sid text user (on_objects d) a read) (t, asks_same e w user d (new_table t) a allowed.asks, shares) h.change.cause.0
+        (λ p x y. absurd (none_shared w t p shares x (of_source law e w user p d (new_table t) sound a allowed.asks allowed.clear x y)))
+      where
+        shares : is_shared_server w t.server ≡ true
+        shares = shared_at e w t.server place b sound a server h.there lies
 
 count_cases : (a b : ℕ) → b ≡ min (a + 1) (2 ^ 64 - 1) → (a < b) ⊎ (b ≡ 2 ^ 64 - 1)
 count_cases a b e = split (cases_lt a b)

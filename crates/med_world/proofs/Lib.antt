@@ -4,7 +4,9 @@ pub mod Seats
 mod Kept
 pub mod Faring
 mod Told
+mod States
 mod Altered
+mod Sharing
 mod Objecting
 pub mod Asks
 mod Leading

@@ -7,17 +7,18 @@ use Rattle.med_value.specs.Causes.{phase_of}
 use Rattle.med_value.specs.declared.cause.Cause.{Cause}
 use Rattle.med_value.specs.declared.cause.Cause.TheVariants.{Protocol}
 use Rattle.med_syntax.specs.Tree.{Name}
-use Rattle.fdw_api.specs.Kinds.{Kind, Entry, Reading, is_late}
+use Rattle.fdw_api.specs.Kinds.{Kind, Entry, Held, Reading, is_late}
 use Rattle.fdw_api.specs.Calls.{IsLeast}
 use Rattle.med_syntax.specs.DdlTree.{DdlTree}
 use Rattle.med_catalog.specs.Objects.{TableObject, Objects}
 use Rattle.med_catalog.specs.Changes.{ObjectChange, nothing, new_wrapper, new_server, new_mapping, new_table, no_wrapper, no_server, no_mapping, no_table, Asks}
 use Rattle.med_catalog.specs.DdlCauses.{DdlCauses}
 use Rattle.sql_meaning.specs.Picks.{Pick}
-use Rattle.sql_meaning.specs.World.{World, is_leased}
+use Rattle.sql_meaning.specs.World.{World, is_shared_server, is_leased}
 use Rattle.sql_meaning.specs.Causes.{Reads, SourceCauses, ObjectCauses, phase}
 use Rattle.med_world.specs.Engine.{Shown, leased, IsSound, Agrees}
-use Rattle.med_world.proofs.Altered.{one_kind}
+use Rattle.sql_meaning.specs.Steps.{HasRows, as_read, any_rows}
+use Rattle.med_world.proofs.Altered.{one_kind, none_serves}
 use Rattle.med_world.proofs.Seats.{leases_same}
 
 -- ---- phases
@@ -114,3 +115,12 @@ none_bind w t p reading reads none x (other, is, has) = no_cause (subst (λ (cs 
   where
     no_cause : Contains [] x → ⊥
     no_cause h = let n = h.1 in omega arith
+
+-- no source that is shared shows one
+pub none_shared : (w : World) (t : TableObject) (p : Pick) → is_shared_server w t.server ≡ true → (x : Cause) → SourceCauses w p (new_table t) x → ⊥
+none_shared w t p shares x (reading, reads, has) = none_serves w t.server reads.kind reads.holdings shares reads.serves
+
+-- none does against a table that has its rows
+pub none_made : (w : World) (t : TableObject) (p : Pick) (rows : List Held) → HasRows w p t rows → (x : Cause) → SourceCauses w p (new_table t) x → ⊥
+none_made w t p rows (as_read reading reads none is) = none_bind w t p reading reads none
+none_made w t p rows (any_rows shares) = none_shared w t p shares

@@ -9,7 +9,7 @@ use Rattle.med_catalog.specs.Objects.{ServerObject, TableObject, Objects, server
 use Rattle.med_catalog.specs.Options.{text_of, remote_label}
 use Rattle.med_catalog.specs.Changes.{new_table, Makes, Asks, skips, makes}
 use Rattle.sql_meaning.specs.Picks.{Pick, no_pick}
-use Rattle.sql_meaning.specs.World.{World, Source, SourceState, standing, dropped, source_named, is_taken, IsFree, Serves}
+use Rattle.sql_meaning.specs.World.{World, Source, SourceState, standing, shared, dropped, source_named, is_taken, IsFree, Serves}
 use Rattle.sql_meaning.specs.Causes.{PicksEntry}
 use Rattle.med_world.specs.Engine.{Label, Shown, state_of, sources_of, Agrees}
 use Rattle.med_world.specs.Altering.{IsFreeAt}
@@ -27,6 +27,7 @@ picks_pick Unknown = tt
 
 abbrev in_state : SourceState → Name → Option Entry
 in_state (standing k f) remote = pick_of (f remote)
+in_state (shared k) remote = None
 in_state dropped remote = None
 
 abbrev entry_in : Option Source → Name → Option Entry
@@ -115,7 +116,7 @@ free_back e w s h none f = split at.box at.there at.state
     at = source_place e.labels e.boxes s.source f.at (ap (source_named s.source) (sym h.sources) ∙ f.is)
 
     split : (b : Option BoxState) → slice_get e.boxes at.place ≡ Some b → f.at.state ≡ state_of b → ⊥
-    split None there st = (let q : standing f.kind f.holdings ≡ dropped = sym f.state ∙ st in cc)
+    split None there st = f.there st
     split (Some box) there st = none at.place (record {
       stands = record { label = at.label; there = at.at; named = at.named; of_kind = sym at.kind ∙ f.of_kind; box = box; box_there = there };
       untaken = ap (λ (o : Objects). is_taken o s.source) (sym h.catalog) ∙ f.untaken;

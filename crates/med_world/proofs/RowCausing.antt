@@ -62,9 +62,9 @@ refused_phase w p t c h =
     sixth c (All-contains (λ x. is_of_run (phase_of x) ≡ true) (r.causes p.entry p.rows _) c (AllPass-from_list_all (λ x. is_of_run (phase_of x)) (r.causes p.entry p.rows _) (r.of_run p.entry p.rows _)) h.stands)
 
 pub write_run_phase : (w : World) (p : Pick) (t : WriteTree) (c : Cause) → WriteRun w p t c → phase c ≡ 6
-write_run_phase w p t c (has_fault Range h is) = ap phase is
-write_run_phase w p t c (has_fault Zero h is) = ap phase is
-write_run_phase w p t c (lacks_value h is) = ap phase is
+write_run_phase w p t c (has_fault unshared Range h is) = ap phase is
+write_run_phase w p t c (has_fault unshared Zero h is) = ap phase is
+write_run_phase w p t c (lacks_value unshared h is) = ap phase is
 write_run_phase w p t c (is_refused h) = refused_phase w p t c h
 write_run_phase w p t c (query_shows h) = of_query (λ q. _) (phase c ≡ 6) t (λ q x. run_phase w q c x) h
 

@@ -5,6 +5,9 @@ use Rattle.med_value.specs.declared.cause.Cause.{Cause}
 use Rattle.med_value.specs.declared.cause.Cause.TheVariants.{LimitExceeded, InUse}
 use Rattle.med_syntax.specs.Tree.{Name}
 use Rattle.med_syntax.specs.QueryTree.{SelectTree}
+use Rattle.med_parser.specs.CommandTree.{on_rows}
+use Rattle.med_value.specs.Causes.{phase_of}
+use Rattle.fdw_api.specs.Kinds.{is_of_run}
 use Rattle.med_syntax.specs.WriteTree.{GivenTree, values, rows_of, WriteTree, insert, update, delete}
 use Rattle.tri_expr.specs.declared.expr.Fault.TheVariants.{Range, Zero}
 use Rattle.tri_expr.specs.declared.expr.EvalFault.TheVariants.{OutOfRange, ZeroDivisor, NoMemory as WantsMemory}
@@ -31,26 +34,27 @@ use Rattle.write_parts.specs.Naming.{WriteNames}
 use Rattle.write_parts.specs.Typing.{WriteTypes}
 use Rattle.bind_write.specs.Binding.{IsBindable, NotBound}
 use Rattle.med_world.specs.Altering.{cause_of}
-use Rattle.sql_meaning.specs.Picks.{Pick, no_pick, PicksAnswer, has_none}
+use Rattle.sql_meaning.specs.Picks.{Pick, no_pick, has_none}
 use Rattle.sql_meaning.specs.World.{World, cells_of, rows_in}
-use Rattle.sql_meaning.specs.Causes.{query_of, entry_tables, meant_over, entries_in, QueryState, QueryRun, OfGiven, OfQuery, write_over, rows_held, WriteState, query_shows, IsRowPick, PicksWrite, phase}
+use Rattle.sql_meaning.specs.Causes.{query_of, entry_tables, meant_over, entries_in, reads_shared, QueryState, QueryRun, OfGiven, OfQuery, write_over, rows_held, writes_shared, WriteState, query_shows, IsRowPick, PicksWrite, MayShow, phase}
 use Rattle.sql_meaning.specs.Sizes.{is_large_form}
-use Rattle.sql_meaning.specs.Steps.{Writes}
+use Rattle.sql_meaning.specs.Steps.{Writes, WritesIn, is_written, is_unseen}
 use Rattle.med_world.specs.Engine.{Shown, leased, IsSound, Agrees}
 use Rattle.open_cursors.specs.Starting.{RunFails, no_memory, box_fails, numbers_out, shows_cause}
-use Rattle.med_world.specs.Writing.{FailsQuery, columns_for, form_for, IsTargetAt, WritesRows, RefusesRows, WriteFails, not_bound, in_use, too_many, query_fails, box_refuses, rows_untyped}
+use Rattle.med_world.specs.Writing.{FailsQuery, IsUntyped, columns_for, form_for, IsTargetAt, WritesRows, RefusesRows, WriteFails, not_bound, in_use, too_many, query_fails, box_refuses, rows_untyped}
 use Rattle.med_world.specs.Laws.{with_boxes}
-use Rattle.med_world.proofs.RowEnds.{RowsDoneIn, RowsDone, RowsToldIn, NoneBeforeRows, WhyNotDone, is_told, lacks_memory, source_fails, numbers_end, RowsNotDone}
+use Rattle.med_world.proofs.RowEnds.{RowsDoneIn, RowsDone, RowsToldIn, RestsIn, RowsRefusedIn, told_in, shared_in, NoneBeforeRows, WhyNotDone, is_told, lacks_memory, source_fails, numbers_end, RowsNotDone}
 use Rattle.med_world.proofs.Seats.{leases_same}
 use Rattle.med_world.proofs.Faring.{none_rises, rise_twice}
 use Rattle.med_world.proofs.Querying.{same_meant, same_entries, none_many}
 use Rattle.med_world.proofs.Serving.{serving_rises, serving_agrees, serving_sound}
 use Rattle.med_world.proofs.AnyRows.{count_same, read_same}
 use Rattle.med_world.proofs.WrittenBoxes.{refuses_served, has_failed}
-use Rattle.med_world.proofs.Written.{TargetIn, target_in, held_same, done_rises, done_sound, DoneIn, done_agrees}
+use Rattle.med_world.proofs.Written.{TargetIn, target_in, target_honest, target_shared, held_same, done_rises, done_sound, DoneIn, done_agrees, done_unseen}
+use Rattle.med_world.proofs.Sharing.{query_honest}
 use Rattle.med_world.proofs.TargetRows.{first_from, first_table}
 use Rattle.med_world.proofs.RowCausing.{of_query, WritesPhased, row_phase, row_from_types, row_from_state, row_from_run, none_row, writable_in, none_state, write_run_phase}
-use Rattle.med_world.proofs.RowPicks.{given_served, answer_picked, query_clear, query_few, form_same, RunsClear, RunShows, done_clear, kind_told, Shows, shows_told, some_write, fault_in, lack_in}
+use Rattle.med_world.proofs.RowPicks.{PicksOne, given_served, answer_picked, query_clear, query_few, form_same, RunsClear, RunShows, done_clear, unseen_clear, kind_told, Shows, shows_told, some_write, fault_in, lack_in}
 
 -- ---- done
 
@@ -70,57 +74,72 @@ rows_done e user t n new sound h = record { rises = rise_twice e.boxes h.now new
     mid_sound : IsSound mid
     mid_sound = serving_sound e h.now served sound
 
+    b : BoxState
+    b = h.writes.before
+
+    x : TargetIn mid t h.at b
+    x = target_in mid t h.at b mid_sound h.target h.writes.there
+
     each : (w : World) → Agrees e w → RowsDoneIn w user t n (with_boxes e new)
-    each w a = record {
-      pick = clear.pick;
-      picks = λ writable. clear.picks;
-      none = none_row w user clear.pick t (writable_in e w user t a h.bindable) (none_state e w t sound h.free a (query_few e w t h.answer h.now a h.given)) clear.none;
-      after = done.after;
-      writes = writes;
-      agrees = done.agrees;
-    }
+    each w a = by b.nature.honest refl
       where
         now : Agrees mid w
         now = serving_agrees e h.now served w a
 
-        clear : RunsClear w t h.answer
-        clear = done_clear mid w t h.answer h.at n new mid_sound h.target h.writes now (answer_picked e w t h.answer h.now a h.given) (query_clear e w t h.answer h.now a h.given)
+        picked : PicksOne w t h.answer
+        picked = answer_picked e w t h.answer h.now sound a h.given
 
-        done : DoneIn mid w t h.answer new
-        done = done_agrees mid w t h.answer h.at n new mid_sound h.free h.target h.writes now
+        query : (c : Cause) → OfQuery (λ q. QueryRun w q c) t → ⊥
+        query = query_clear e w t h.answer h.now sound a h.given
 
         form : form_for e.catalog t ≡ write_over w t
         form = form_same e w t a
 
-        b : BoxState
-        b = h.writes.before
-
-        x : TargetIn mid t h.at b
-        x = target_in mid t h.at b mid_sound h.target h.writes.there
-
         read : List GivenRow
         read = h.writes.change.writes.read
 
-        count : n ≡ count_of (write_over w t) (cells_of (rows_held w t)) clear.pick.answer
-        count =
-            h.writes.change.writes.many ∙ h.writes.change.writes.are_changes.many
-            ∙ count_same (form_for e.catalog t) h.answer (cells_given read) (cells_of (rows_held w t))
-            (read_same (form_for e.catalog t) (rows_in_box b h.at.number) read (rows_held w t) (h.writes.change.writes.are_read (now.honest h.at.source b h.writes.there)) (held_same mid w t h.at b now h.writes.there x))
-            ∙ ap (λ (m : WriteForm). count_of m (cells_of (rows_held w t)) h.answer) form
-            ∙ ap (λ (rows : List Tuple). count_of (write_over w t) (cells_of (rows_held w t)) rows) (sym clear.answer_is)
-
-        writes : Writes w clear.pick t n done.after
-        writes = record {
-          table = done.table;
-          kind = done.kind;
-          holdings = done.holdings;
-          target = done.target;
-          count = count;
-          rows = done.rows;
-          same = subst (λ (rows : List Tuple). IsPermutation (rows_after (done.kind.line done.table.columns done.table.settings) (write_over w t) rows (rows_held w t)) done.rows) (sym clear.answer_is)
-              (subst (λ (m : WriteForm). IsPermutation (rows_after (done.kind.line done.table.columns done.table.settings) m h.answer (rows_held w t)) done.rows) form done.same);
-          is = done.is;
+        done_in : (clear : RunsClear w t h.answer) (after : World) → WritesIn w clear.pick t n after → Agrees (with_boxes e new) after → RowsDoneIn w user t n (with_boxes e new)
+        done_in clear after writes agrees = record {
+          pick = clear.pick;
+          picks = λ writable. clear.picks;
+          none = none_row w user clear.pick t (writable_in e w user t a h.bindable) (none_state e w t sound h.free a (query_few e w t h.answer h.now a h.given)) clear.none;
+          after = after;
+          writes = writes;
+          agrees = agrees;
         }
+
+        by : (honest : Bool) → b.nature.honest ≡ honest → RowsDoneIn w user t n (with_boxes e new)
+        by false lies =
+            let shares = target_shared mid w t h.at b mid_sound now h.writes.there x lies in
+            done_in (unseen_clear w t h.answer shares picked query) w (is_unseen shares refl) (done_unseen mid w t h.answer h.at n new mid_sound h.free h.target h.writes now lies)
+        by true honest = done_in clear done.after (is_written writes) done.agrees
+          where
+            clear : RunsClear w t h.answer
+            clear = done_clear mid w t h.answer h.at n new mid_sound h.target h.writes now picked honest query
+
+            done : DoneIn mid w t h.answer new
+            done = done_agrees mid w t h.answer h.at n new mid_sound h.free h.target h.writes now honest
+
+            count : n ≡ count_of (write_over w t) (cells_of (rows_held w t)) clear.pick.answer
+            count =
+                h.writes.change.writes.many ∙ h.writes.change.writes.are_changes.many
+                ∙ count_same (form_for e.catalog t) h.answer (cells_given read) (cells_of (rows_held w t))
+                (read_same (form_for e.catalog t) (rows_in_box b h.at.number) read (rows_held w t) (h.writes.change.writes.are_read honest) (held_same mid w t h.at b now h.writes.there x honest))
+                ∙ ap (λ (m : WriteForm). count_of m (cells_of (rows_held w t)) h.answer) form
+                ∙ ap (λ (rows : List Tuple). count_of (write_over w t) (cells_of (rows_held w t)) rows) (sym clear.answer_is)
+
+            writes : Writes w clear.pick t n done.after
+            writes = record {
+              table = done.table;
+              kind = done.kind;
+              holdings = done.holdings;
+              target = done.target;
+              count = count;
+              rows = done.rows;
+              same = subst (λ (rows : List Tuple). IsPermutation (rows_after (done.kind.line done.table.columns done.table.settings) (write_over w t) rows (rows_held w t)) done.rows) (sym clear.answer_is)
+                  (subst (λ (m : WriteForm). IsPermutation (rows_after (done.kind.line done.table.columns done.table.settings) m h.answer (rows_held w t)) done.rows) form done.same);
+              is = done.is;
+            }
 
 pub rows_done_sound : (e : Shown) (user : Name) (t : WriteTree) (n : ℕ) (new : List (Option BoxState)) → IsSound e → WritesRows e.catalog user e.bound t (leased e (target_of t)) e.boxes n new → IsSound (with_boxes e new)
 rows_done_sound e user t n new sound h =
@@ -180,7 +199,7 @@ quiet e new user t c same why = subst (λ (boxes : List (Option BoxState)). Rows
 -- it is not bound
 not_bound_ends : WritesPhased → (e : Shown) (user : Name) (t : WriteTree) (c : Cause) → NotBound e.catalog user t c → WhyNotDone e user t c e
 not_bound_ends law e user t c (inl is) = lacks_memory is
-not_bound_ends law e user t c (inr (inl h)) = is_told told
+not_bound_ends law e user t c (inr (inl h)) = is_told (λ w a. told_in (told w a))
   where
     told : (w : World) → Agrees e w → RowsToldIn w user t c
     told w a =
@@ -191,7 +210,7 @@ not_bound_ends law e user t c (inr (inl h)) = is_told told
           stands = inl stands;
           least = λ d x. let p : phase c ≡ 3 = law.names e.catalog user t c h in let r : 3 ≤ phase d = row_phase law w user no_pick t d x in omega arith;
         }
-not_bound_ends law e user t c (inr (inr (h, none))) = is_told told
+not_bound_ends law e user t c (inr (inr (h, none))) = is_told (λ w a. told_in (told w a))
   where
     told : (w : World) → Agrees e w → RowsToldIn w user t c
     told w a =
@@ -206,7 +225,7 @@ not_bound_ends law e user t c (inr (inr (h, none))) = is_told told
 
 -- its query is larger than it may be
 many_end : (e : Shown) (user : Name) (t : WriteTree) → IsBindable e.catalog user t → OfQuery (λ q. is_large_form (meant_by e.catalog q).form ≡ true) t → WhyNotDone e user t LimitExceeded e
-many_end e user t b many = is_told told
+many_end e user t b many = is_told (λ w a. told_in (told w a))
   where
     told : (w : World) → Agrees e w → RowsToldIn w user t LimitExceeded
     told w a = record {
@@ -221,7 +240,7 @@ many_end e user t b many = is_told told
 
 -- a cursor reads its table
 use_end : (e : Shown) (user : Name) (t : WriteTree) → IsSound e → IsBindable e.catalog user t → leased e (target_of t) ≡ true → WhyNotDone e user t InUse e
-use_end e user t sound b taken = is_told told
+use_end e user t sound b taken = is_told (λ w a. told_in (told w a))
   where
     told : (w : World) → Agrees e w → RowsToldIn w user t InUse
     told w a =
@@ -242,27 +261,70 @@ target_box e t at sound target =
     let x = sound.tables_bound f.0 u.0 at u.1 (ap (slice_get e.bound) (sym same) ∙ target.there) in
     (x.box, x.there)
 
+-- whether a write rests on a shared source
+abbrev IsUnshared : World → WriteTree → Type 0
+IsUnshared w t = (writes_shared w t ≡ false) × ((q : SelectTree) → OfQuery (λ r. r ≡ q) t → reads_shared w q ≡ false)
+
+rests_or_not : (w : World) (t : WriteTree) → RestsIn w t ⊎ IsUnshared w t
+rests_or_not w t = by (writes_shared w t) refl
+  where
+    of_one : (q : SelectTree) (b : Bool) → reads_shared w q ≡ b → (reads_shared w q ≡ true) ⊎ ((s : SelectTree) → q ≡ s → reads_shared w s ≡ false)
+    of_one q true is = inl is
+    of_one q false is = inr (λ s same. ap (reads_shared w) (sym same) ∙ is)
+
+    of_given : (g : GivenTree) → OfGiven (λ q. reads_shared w q ≡ true) g ⊎ ((q : SelectTree) → OfGiven (λ r. r ≡ q) g → reads_shared w q ≡ false)
+    of_given (values rows) = inr (λ q x. absurd x)
+    of_given (rows_of q) = of_one q (reads_shared w q) refl
+
+    of_tree : (t : WriteTree) → OfQuery (λ q. reads_shared w q ≡ true) t ⊎ ((q : SelectTree) → OfQuery (λ r. r ≡ q) t → reads_shared w q ≡ false)
+    of_tree (insert i) = of_given i.given
+    of_tree (update u) = inr (λ q x. absurd x)
+    of_tree (delete d) = inr (λ q x. absurd x)
+
+    both : writes_shared w t ≡ false → OfQuery (λ q. reads_shared w q ≡ true) t ⊎ ((q : SelectTree) → OfQuery (λ r. r ≡ q) t → reads_shared w q ≡ false) → RestsIn w t ⊎ IsUnshared w t
+    both unshared (inl x) = inl (inr x)
+    both unshared (inr x) = inr (unshared, x)
+
+    by : (b : Bool) → writes_shared w t ≡ b → RestsIn w t ⊎ IsUnshared w t
+    by true is = inl (inl is)
+    by false is = both is (of_tree t)
+
+-- a cause that may be told of the run, and that stands where no source is shared
+ends_in : (e : Shown) (w : World) (user : Name) (t : WriteTree) (c : Cause) → IsSound e → leased e (target_of t) ≡ false → Agrees e w → IsBindable e.catalog user t → (OfQuery (λ q. (d : Cause) × QueryState w q d) t → ⊥) → MayShow (on_rows t) c
+    → (IsUnshared w t → RunShows w t c) → RowsRefusedIn w user t c
+ends_in e w user t c sound free a b few may shows = by (rests_or_not w t)
+  where
+    by : RestsIn w t ⊎ IsUnshared w t → RowsRefusedIn w user t c
+    by (inl rests) = shared_in rests may (λ p d x. let r : 6 ≤ phase d = row_from_run w user p t (writable_in e w user t a b) (none_state e w t sound free a few) d x in omega arith)
+    by (inr unshared) = told_in (told_run e w user t c sound free a b few (shows unshared))
+
 -- its query is not answered
 query_told : (e : Shown) (w : World) (t : WriteTree) (at : Attached) (q : SelectTree) (c : Cause) (new : List (Option BoxState)) → IsSound e → IsTargetAt e.catalog e.bound t at → Agrees e w → OfQuery (λ r. r ≡ q) t
-    → (h : FailsQuery e.catalog e.bound q e.boxes c new) → (HonestOver h.places e.boxes → (db : Tables) → SameRows (entry_rows e.boxes h.places) db → IsShownCause (query_of (meant_by e.catalog q)) db c) → RunShows w t c
-query_told e w t at q c new sound target_at a is h shows = record {
+    → (h : FailsQuery e.catalog e.bound q e.boxes c new) → (HonestOver h.places e.boxes → (db : Tables) → SameRows (entry_rows e.boxes h.places) db → IsShownCause (query_of (meant_by e.catalog q)) db c) → IsUnshared w t → RunShows w t c
+query_told e w t at q c new sound target_at a is h shows unshared = record {
   pick = p.0;
   picks = p.1;
   stands = query_shows (in_query (λ r. r ≡ q) (λ r. QueryRun w r c) t (λ r same. subst (λ (s : SelectTree). QueryRun w s c) (sym same) run) is);
 }
   where
-    run : QueryRun w q c
-    run = subst (λ (m : Meant). IsShownCause (query_of m) (entry_tables m.entries (rows_in w.rows)) c) (same_meant e w q a)
-        (shows (λ slot has. a.honest slot) (entry_tables (meant_by e.catalog q).entries (rows_in w.rows)) (same_entries e w q h.places a h.are))
+    honest : HonestOver h.places e.boxes
+    honest = query_honest e w q h.places sound a (unshared.1 q is) h.are
 
-    none_given : (s : SelectTree) → OfQuery (λ r. r ≡ s) t → PicksAnswer (query_of (meant_over w s)) (entries_in w s) []
-    none_given s same = has_none c (subst (λ (r : SelectTree). IsShownCause (query_of (meant_over w r)) (entries_in w r) c) (one_query t q s is same) run) refl
+    run : QueryRun w q c
+    run = (
+      unshared.1 q is,
+      subst (λ (m : Meant). IsShownCause (query_of m) (entry_tables m.entries (rows_in w.rows)) c) (same_meant e w q a)
+          (shows honest (entry_tables (meant_by e.catalog q).entries (rows_in w.rows)) (same_entries e w q h.places a h.are honest)),
+    )
+
+    none_given : PicksOne w t []
+    none_given s same unread = has_none c (subst (λ (r : SelectTree). IsShownCause (query_of (meant_over w r)) (entries_in w r) c) (one_query t q s is same) run.1) refl
 
     box : (b : BoxState) × (slice_get e.boxes at.source ≡ Some (Some b))
     box = target_box e t at sound target_at
 
     p : (p : Pick) × PicksWrite w t p × (p.answer ≡ [])
-    p = some_write e w t [] at box.0 sound target_at box.1 a none_given
+    p = some_write e w t [] at box.0 sound target_at box.1 a none_given unshared.0
 
 few_for : (e : Shown) (w : World) (t : WriteTree) (q : SelectTree) → Agrees e w → OfQuery (λ r. r ≡ q) t → is_large_form (meant_by e.catalog q).form ≡ false → OfQuery (λ r. (d : Cause) × QueryState w r d) t → ⊥
 few_for e w t q a is few h = of_query (λ r. ((d : Cause) × QueryState w r d) × OfQuery (λ s. s ≡ r) t) ⊥ t (λ r x. none_many e w q a few x.0.0 (subst (λ (s : SelectTree). QueryState w s x.0.0) (sym (one_query t q r is x.1)) x.0.1))
@@ -273,12 +335,12 @@ query_ends : (e : Shown) (new : List (Option BoxState)) (user : Name) (t : Write
 query_ends e new user t at q c sound free b target_at is h (no_memory e1) = lacks_memory e1
 query_ends e new user t at q c sound free b target_at is h (box_fails e1 s) = source_fails e1 s (none_early e user t b)
 query_ends e new user t at q c sound free b target_at is h (numbers_out e1 s) = numbers_end e1 s (none_early e user t b)
-query_ends e new user t at q c sound free b target_at is h (shows_cause s) = is_told (λ w a. told_run e w user t c sound free a b (few_for e w t q a is h.few) (query_told e w t at q c new sound target_at a is h s))
+query_ends e new user t at q c sound free b target_at is h (shows_cause of_run s) = is_told (λ w a. ends_in e w user t c sound free a b (few_for e w t q a is h.few) (inl of_run) (query_told e w t at q c new sound target_at a is h s))
 
 -- the box of its table refuses it
 one_box : (e : Shown) (w : World) (user : Name) (t : WriteTree) (c : Cause) (new : List (Option BoxState)) → IsSound e → leased e (target_of t) ≡ false → IsBindable e.catalog user t → (r : RefusesRows e.catalog e.bound t e.boxes c new) → Agrees e w
-    → RunShows w t c → RowsToldIn w user t c
-one_box e w user t c new sound free b r a shows = told_run e w user t c sound free a b (query_few e w t r.answer r.now a r.given) shows
+    → MayShow (on_rows t) c → (writes_shared w t ≡ false → RunShows w t c) → RowsRefusedIn w user t c
+one_box e w user t c new sound free b r a may shows = ends_in e w user t c sound free a b (query_few e w t r.answer r.now a r.given) may (λ unshared. shows unshared.0)
 
 mid_sound : (e : Shown) (t : WriteTree) (c : Cause) (new : List (Option BoxState)) → IsSound e → (r : RefusesRows e.catalog e.bound t e.boxes c new) → IsSound (with_boxes e r.now)
 mid_sound e t c new sound r = serving_sound e r.now (given_served e.catalog e.bound t e.boxes r.answer r.now r.given) sound
@@ -286,27 +348,34 @@ mid_sound e t c new sound r = serving_sound e r.now (given_served e.catalog e.bo
 mid_agrees : (e : Shown) (w : World) (t : WriteTree) (c : Cause) (new : List (Option BoxState)) → (r : RefusesRows e.catalog e.bound t e.boxes c new) → Agrees e w → Agrees (with_boxes e r.now) w
 mid_agrees e w t c new r a = serving_agrees e r.now (given_served e.catalog e.bound t e.boxes r.answer r.now r.given) w a
 
-shown_by : (e : Shown) (w : World) (user : Name) (t : WriteTree) (c : Cause) (new : List (Option BoxState)) → IsSound e → (r : RefusesRows e.catalog e.bound t e.boxes c new) → Agrees e w → (Agrees (with_boxes e r.now) w → Shows w t r.answer c) → RunShows w t c
-shown_by e w user t c new sound r a shows =
+-- where its source is not shared, the box is honest
+box_honest : (e : Shown) (w : World) (t : WriteTree) (c : Cause) (new : List (Option BoxState)) → IsSound e → (r : RefusesRows e.catalog e.bound t e.boxes c new) → Agrees (with_boxes e r.now) w → writes_shared w t ≡ false → is_honest r.refuses.before
+box_honest e w t c new sound r now unshared =
+    let m = mid_sound e t c new sound r in
+    target_honest (with_boxes e r.now) w t r.at r.refuses.before m now r.refuses.there (target_in (with_boxes e r.now) t r.at r.refuses.before m r.target r.refuses.there) unshared
+
+shown_by : (e : Shown) (w : World) (user : Name) (t : WriteTree) (c : Cause) (new : List (Option BoxState)) → IsSound e → (r : RefusesRows e.catalog e.bound t e.boxes c new) → Agrees e w
+    → (Agrees (with_boxes e r.now) w → is_honest r.refuses.before → Shows w t r.answer c) → writes_shared w t ≡ false → RunShows w t c
+shown_by e w user t c new sound r a shows unshared =
     let now = mid_agrees e w t c new r a in
-    shows_told (with_boxes e r.now) w t r.answer r.at r.refuses.before c (mid_sound e t c new sound r) r.target r.refuses.there now (shows now) (answer_picked e w t r.answer r.now a r.given)
+    shows_told (with_boxes e r.now) w t r.answer r.at r.refuses.before c (mid_sound e t c new sound r) r.target r.refuses.there now (shows now (box_honest e w t c new sound r now unshared)) (answer_picked e w t r.answer r.now sound a r.given) unshared
 
 -- what is told of a fault of the write
 fault_ends : (e : Shown) (user : Name) (t : WriteTree) (c : Cause) (new : List (Option BoxState)) (f : WriteFault) (read : List GivenRow) → IsSound e → leased e (target_of t) ≡ false → IsBindable e.catalog user t → (r : RefusesRows e.catalog e.bound t e.boxes c new)
     → r.fault ≡ write_refusal f → (is_honest r.refuses.before → AreRead (form_for e.catalog t) (rows_in_box r.refuses.before r.at.number) read) → IsWriteFault f (columns_for e.catalog t) (form_for e.catalog t) (cells_given read) r.answer → WhyNotDone e user t c (with_boxes e new)
 fault_ends e user t c new (Evaluation WantsMemory) read sound free b r is are h = lacks_memory (r.told ∙ ap cause_of is)
-fault_ends e user t c new (Evaluation OutOfRange) read sound free b r is are h = is_told (λ w a. one_box e w user t c new sound free b r a (shown_by e w user t c new sound r a (λ now. inl (
+fault_ends e user t c new (Evaluation OutOfRange) read sound free b r is are h = is_told (λ w a. one_box e w user t c new sound free b r a (inl (ap (λ (d : Cause). is_of_run (phase_of d)) (r.told ∙ ap cause_of is))) (shown_by e w user t c new sound r a (λ now honest. inl (
   Range,
-  fault_in (with_boxes e r.now) w t r.answer r.at r.refuses.before read Range (mid_sound e t c new sound r) r.target r.refuses.there now (are (now.honest r.at.source r.refuses.before r.refuses.there)) h,
+  fault_in (with_boxes e r.now) w t r.answer r.at r.refuses.before read Range (mid_sound e t c new sound r) r.target r.refuses.there now honest (are honest) h,
   r.told ∙ ap cause_of is,
 ))))
-fault_ends e user t c new (Evaluation ZeroDivisor) read sound free b r is are h = is_told (λ w a. one_box e w user t c new sound free b r a (shown_by e w user t c new sound r a (λ now. inl (
+fault_ends e user t c new (Evaluation ZeroDivisor) read sound free b r is are h = is_told (λ w a. one_box e w user t c new sound free b r a (inl (ap (λ (d : Cause). is_of_run (phase_of d)) (r.told ∙ ap cause_of is))) (shown_by e w user t c new sound r a (λ now honest. inl (
   Zero,
-  fault_in (with_boxes e r.now) w t r.answer r.at r.refuses.before read Zero (mid_sound e t c new sound r) r.target r.refuses.there now (are (now.honest r.at.source r.refuses.before r.refuses.there)) h,
+  fault_in (with_boxes e r.now) w t r.answer r.at r.refuses.before read Zero (mid_sound e t c new sound r) r.target r.refuses.there now honest (are honest) h,
   r.told ∙ ap cause_of is,
 ))))
-fault_ends e user t c new NotNull read sound free b r is are h = is_told (λ w a. one_box e w user t c new sound free b r a (shown_by e w user t c new sound r a (λ now. inr (
-  lack_in (with_boxes e r.now) w t r.answer r.at r.refuses.before read (mid_sound e t c new sound r) r.target r.refuses.there now (are (now.honest r.at.source r.refuses.before r.refuses.there)) h,
+fault_ends e user t c new NotNull read sound free b r is are h = is_told (λ w a. one_box e w user t c new sound free b r a (inl (ap (λ (d : Cause). is_of_run (phase_of d)) (r.told ∙ ap cause_of is))) (shown_by e w user t c new sound r a (λ now honest. inr (
+  lack_in (with_boxes e r.now) w t r.answer r.at r.refuses.before read (mid_sound e t c new sound r) r.target r.refuses.there now honest (are honest) h,
   r.told ∙ ap cause_of is,
 ))))
 
@@ -337,7 +406,7 @@ bars_end e user t c new sound free b r (box_fails_now is same) = source_fails (r
     shows : SlotShows e.boxes new HasFailed
     shows = source_shows e.boxes new (breaks_between none_held none_held none_held none_held e.boxes r.now new new Source (given_served e.catalog e.bound t e.boxes r.answer r.now r.given) (box_breaks refl here) (all_served new))
 bars_end e user t c new sound free b r (gives_twice is same lies) =
-    is_told (λ w a. absurd (lies ((mid_agrees e w t c new r a).honest r.at.source r.refuses.before r.refuses.there)))
+    is_told (λ w a. one_box e w user t c new sound free b r a (inr (r.told ∙ ap cause_of is)) (λ unshared. absurd (lies (box_honest e w t c new sound r (mid_agrees e w t c new r a) unshared))))
 bars_end e user t c new sound free b r (box_numbers_end is same at_end) = numbers_end (r.told ∙ ap cause_of is) shows (none_early e user t b)
   where
     shows : SlotShows e.boxes new IsUsedUp
@@ -352,14 +421,16 @@ bars_end e user t c new sound free b r (box_numbers_end is same at_end) = number
           shows = ap (λ (l : Ledger). l.next) r.refuses.change.ledger ∙ r.refuses.change.stays at_end;
         }
 bars_end e user t c new sound free b r (write_shows f read is same are h) = fault_ends e user t c new f read sound free b r is are h
-bars_end e user t c new sound free b r (kind_refuses d is same run stands) = is_told (λ w a. one_box e w user t c new sound free b r a (told w a))
+bars_end e user t c new sound free b r (kind_refuses d is same run stands) =
+    is_told (λ w a. one_box e w user t c new sound free b r a (inl (ap (λ (x : Cause). is_of_run (phase_of x)) (r.told ∙ ap cause_of is) ∙ run)) (told w a))
   where
-    told : (w : World) → Agrees e w → RunShows w t c
-    told w a =
+    told : (w : World) → Agrees e w → writes_shared w t ≡ false → RunShows w t c
+    told w a unshared =
         let now = mid_agrees e w t c new r a in
+        let honest = box_honest e w t c new sound r now unshared in
         kind_told (with_boxes e r.now) w t r.answer r.at r.refuses.before c (mid_sound e t c new sound r) r.target r.refuses.there now
-        (subst (λ (x : Cause). KindRefuses (columns_for e.catalog t) (form_for e.catalog t) r.answer r.refuses.before r.at.number x) (sym (r.told ∙ ap cause_of is))
-        (stands (now.honest r.at.source r.refuses.before r.refuses.there))) (answer_picked e w t r.answer r.now a r.given)
+        (subst (λ (x : Cause). KindRefuses (columns_for e.catalog t) (form_for e.catalog t) r.answer r.refuses.before r.at.number x) (sym (r.told ∙ ap cause_of is)) (stands honest))
+        (answer_picked e w t r.answer r.now sound a r.given) honest
 
 -- boxes that served agree with the same worlds
 serving_ends : (e : Shown) (new : List (Option BoxState)) (user : Name) (t : WriteTree) (c : Cause) → AllServed e.boxes new → WhyNotDone e user t c (with_boxes e new) → RowsNotDone e user t c (with_boxes e new)
@@ -377,7 +448,11 @@ rows_not_done law e user t c new sound (box_refuses b free r) =
     serving_ends e new user t c (all_on e.boxes r.now new (given_served e.catalog e.bound t e.boxes r.answer r.now r.given) (refused_served e t c new r)) (bars_end e user t c new sound free b r r.refuses.change.bars)
 rows_not_done law e user t c new sound (in_use b taken is same) =
     quiet e new user t c same (subst (λ (d : Cause). WhyNotDone e user t d e) (sym is) (use_end e user t sound b taken))
-rows_not_done law e user t c new sound (rows_untyped b free lies is served) = serving_ends e new user t c served (is_told (λ w a. absurd (lies a.honest)))
+rows_not_done law e user t c new sound (rows_untyped b free lies is served) = serving_ends e new user t c served (is_told (λ w a.
+    of_query (λ q. IsUntyped e.catalog e.bound q e.boxes × OfQuery (λ r. r ≡ q) t) (RowsRefusedIn w user t c) t
+    (λ q x. ends_in e w user t c sound free a b (few_for e w t q a x.1 x.0.few) (inr is)
+    (λ unshared. absurd (x.0.lies (query_honest e w q x.0.places sound a (unshared.1 q x.1) x.0.are))))
+    (linked (λ q. IsUntyped e.catalog e.bound q e.boxes) t lies)))
 
 pub rows_not_done_sound : (e : Shown) (user : Name) (t : WriteTree) (c : Cause) (new : List (Option BoxState)) → IsSound e → WriteFails e.catalog user e.bound t (leased e (target_of t)) e.boxes c new → IsSound (with_boxes e new)
 rows_not_done_sound e user t c new sound (not_bound why same) = subst (λ (boxes : List (Option BoxState)). IsSound (with_boxes e boxes)) (sym same) sound

@@ -12,15 +12,15 @@ use Rattle.med_exec.specs.Running.{SlotShows, HasFailed, IsUsedUp}
 use Rattle.sql_meaning.specs.Requests.{sql}
 use Rattle.sql_meaning.specs.World.{World}
 use Rattle.sql_meaning.specs.Replies.{done, refused}
-use Rattle.sql_meaning.specs.Steps.{is_done, source_fails as source_fails_step, numbers_end as numbers_end_step, write_tag}
+use Rattle.sql_meaning.specs.Steps.{Step, is_refused, is_done, source_fails as source_fails_step, numbers_end as numbers_end_step, write_tag}
 use Rattle.med_world.specs.Engine.{Shown, leased, IsSound, Agrees, EachRises, Leads}
 use Rattle.med_world.specs.Writing.{WritesRows, WriteFails}
 use Rattle.med_world.specs.Laws.{IsRead, with_boxes}
 use Rattle.med_world.proofs.Asks.{asks_read}
 use Rattle.med_world.proofs.Told.{told_tree, none_tree, before_tree, pick_tree}
-use Rattle.med_world.proofs.Leading.{calm, calm_befell, calm_unasked, session_in, known, leads_refused, leads_memory}
+use Rattle.med_world.proofs.Leading.{calm, calm_befell, calm_unasked, session_in, known, leads_either, leads_memory, shared_step}
 use Rattle.med_world.proofs.RowCausing.{WritesPhased}
-use Rattle.med_world.proofs.RowEnds.{RowsDone, NoneBeforeRows, WhyNotDone, is_told, lacks_memory, source_fails, numbers_end}
+use Rattle.med_world.proofs.RowEnds.{RowsDone, NoneBeforeRows, RowsRefusedIn, told_in, shared_in, WhyNotDone, is_told, lacks_memory, source_fails, numbers_end}
 use Rattle.med_world.proofs.RowLeads.{rows_done, rows_not_done}
 
 -- it is done, and answered by its tag
@@ -83,10 +83,13 @@ numbers_leads e new sid text user t read h none rises kept = record {
 }
 
 why_leads : (e new : Shown) (sid : ℕ) (text : List ℕ) (user : Name) (t : WriteTree) (c : Cause) → IsRead e sid text user (on_rows t) → EachRises e.boxes new.boxes → ((w : World) → Agrees e w → Agrees new w) → WhyNotDone e user t c new → Leads e sid (sql text) (refused c) new
-why_leads e new sid text user t c read rises kept (is_told told) = leads_refused e new sid (sql text) c (asks_read e sid text user (on_rows t) (refused c) new read tt) rises kept (λ w a.
-    let x = told w a in
-    let k = known e w sid text user (on_rows t) a read in
-    (x.pick, pick_tree w sid x.pick text (session_in w sid user) (on_rows t) k x.picks, told_tree w sid x.pick text (session_in w sid user) (on_rows t) c k x.stands x.least))
+why_leads e new sid text user t c read rises kept (is_told told) = leads_either e new sid (sql text) c (asks_read e sid text user (on_rows t) (refused c) new read tt) rises kept (λ w a. by w a (told w a))
+  where
+    by : (w : World) → Agrees e w → RowsRefusedIn w user t c → Step w sid (sql text) calm (refused c) w
+    by w a (told_in x) =
+        let k = known e w sid text user (on_rows t) a read in
+        is_refused x.pick c (pick_tree w sid x.pick text (session_in w sid user) (on_rows t) k x.picks) (told_tree w sid x.pick text (session_in w sid user) (on_rows t) c k x.stands x.least) refl refl
+    by w a (shared_in rests may none) = shared_step w sid text (session_in w sid user) (on_rows t) c (known e w sid text user (on_rows t) a read) rests may none
 why_leads e new sid text user t c read rises kept (lacks_memory is) =
     subst (λ (d : Cause). Leads e sid (sql text) (refused d) new) (sym is) (leads_memory e new sid (sql text) (asks_read e sid text user (on_rows t) (refused OutOfMemory) new read tt) tt rises kept)
 why_leads e new sid text user t c read rises kept (source_fails is h none) =

@@ -10,7 +10,7 @@ use Rattle.fdw_api.specs.State.{BoxState, BoxTable, Scan, table_of, scan_of, is_
 use Rattle.fdw_api.specs.Calls.{NoScan}
 use Rattle.fdw_api.specs.Sound.{IsTableOf}
 use Rattle.med_exec.specs.Slots.{BoxAt}
-use Rattle.med_exec.specs.Running.{Held, ServesRun, AllServed, AllHonest, none_held}
+use Rattle.med_exec.specs.Running.{Held, ServesRun, AllServed, none_held}
 use Rattle.med_exec.specs.Rests.{Rests, held, IsRunning, IsHeld}
 use Rattle.med_exec.specs.Leaving.{AreApart, LeavesRun, GoesOn}
 use Rattle.med_exec.proofs.Served.{box_inj, before_service}
@@ -25,7 +25,7 @@ use Rattle.med_world.specs.Laws.{with_boxes, with_seats}
 use Rattle.med_world.proofs.Lists.{some_same, none_some, bytes_other, each_at}
 use Rattle.med_world.proofs.Named.{place_of, at_place, map_place}
 use Rattle.med_world.proofs.Faring.{same_box, set_same, set_other}
-use Rattle.med_world.proofs.Seats.{RestsStay, AllStay, IsIn, place_there, any_at, here_first, here_later}
+use Rattle.med_world.proofs.Seats.{RestsStay, on_stays, AllStay, IsIn, place_there, any_at, here_first, here_later}
 
 none_in : (number : ℕ) → Contains [] number → ⊥
 none_in number h = let n = h.1 in omega arith
@@ -68,8 +68,8 @@ scans_kept e n same k unstaged left had leases = record {
     back : (place : ℕ) (c : Opened) → IsOpenAt n.seats place c → IsOpenAt e.seats place c
     back place c h = subst (λ (seats : List (Option Seated)). IsOpenAt seats place c) same h
 
-pub all_stay : (e : Shown) (new : List (Option BoxState)) → KeepsScans e → AllHonest e.boxes → AllLeft e new → AllStay e new
-all_stay e new k honest left j o is_open = (run_goes_on o.run e.boxes new (k.running j o is_open) (left j o is_open)).rests (λ slot has. honest slot)
+pub all_stay : (e : Shown) (new : List (Option BoxState)) → KeepsScans e → AllLeft e new → AllStay e new
+all_stay e new k left j o is_open = on_stays e.boxes new o (run_goes_on o.run e.boxes new (k.running j o is_open) (left j o is_open))
 
 -- ---- boxes that served runs
 
@@ -214,8 +214,8 @@ module _ (e : Shown) (place : ℕ) (seat : Option Seated) (new : List (Option Bo
   }
 
   -- what the runs of other sessions may still give stays
-  pub others_stay : AllHonest e.boxes → (j : ℕ) (c : Opened) → IsOpenAt e.seats j c → j ≢ place → RestsStay e.boxes new c
-  others_stay honest j c is_open ne = (spared_on j c is_open (t.others j c is_open ne)).rests (λ slot has. honest slot)
+  pub others_stay : (j : ℕ) (c : Opened) → IsOpenAt e.seats j c → j ≢ place → RestsStay e.boxes new c
+  others_stay j c is_open ne = on_stays e.boxes new c (spared_on j c is_open (t.others j c is_open ne))
 
 -- nothing is asked, where the session had no cursor and gets none
 pub quiet_turn : (e : Shown) (place : ℕ) (seat : Option Seated) → AllServed e.boxes e.boxes → ((c : Opened) → IsOpenAt e.seats place c → ⊥) → ((c : Opened) → IsIn seat c → ⊥) → Turned e place seat e.boxes

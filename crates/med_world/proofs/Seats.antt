@@ -7,7 +7,10 @@ use Rattle.med_value.specs.Datum.{Tuple}
 use Rattle.med_syntax.specs.Tree.{Name}
 use Rattle.fdw_api.specs.Kinds.{Held}
 use Rattle.fdw_api.specs.State.{BoxState}
+use Rattle.scan_loops.specs.Running.{HonestFor}
 use Rattle.med_exec.specs.Rests.{Rests}
+use Rattle.med_exec.specs.Pulling.{levels_in}
+use Rattle.med_exec.specs.Leaving.{GoesOn}
 use Rattle.med_binder.specs.Places.{Attached}
 use Rattle.med_catalog.specs.Objects.{TableObject, Objects, table_named}
 use Rattle.med_catalog.specs.Changes.{new_table, no_table, without}
@@ -23,9 +26,13 @@ use Rattle.med_world.proofs.Named.{place_of, at_place, find_fewer, still_found, 
 
 -- ---- runs over other boxes
 
--- what a cursor's run may give over the boxes before, it may give over those after, and the other way round
+-- Where a cursor's run reads honest boxes alone, it does so after, and what it may give over the boxes before, it may give over those
+-- after, and the other way round.
 abbrev pub RestsStay : List (Option BoxState) → List (Option BoxState) → Opened → Type 0
-RestsStay old new o = (rows : List Tuple) → Rests o.run old rows ↔ Rests o.run new rows
+RestsStay old new o = HonestFor (levels_in o.run) old → HonestFor (levels_in o.run) new × ((rows : List Tuple) → Rests o.run old rows ↔ Rests o.run new rows)
+
+pub on_stays : (old new : List (Option BoxState)) (o : Opened) → GoesOn o.run old new → RestsStay old new o
+on_stays old new o h honest = (h.honest honest, h.rests honest)
 
 -- an open cursor of this session
 abbrev pub IsIn : Option Seated → Opened → Type 0
@@ -111,11 +118,11 @@ leases_same e w sound a = λ i name. (ap (any_session (λ sid. leases name (w.se
         let is : IsSid (suc k) = (omega arith, omega (arith, few, many)) in
         seat_lease e.boxes w name (seat_of e.seats (suc k)) (w.sessions (suc k)) (a.sessions (suc k) is) ∙ ap (seat_leases name) (seat_there e.seats k seat at)
 
-left_false : (a b : Bool) → (a || b) ≡ false → a ≡ false
+pub left_false : (a b : Bool) → (a || b) ≡ false → a ≡ false
 left_false true b e = e
 left_false false b e = refl
 
-right_false : (a b : Bool) → (a || b) ≡ false → b ≡ false
+pub right_false : (a b : Bool) → (a || b) ≡ false → b ≡ false
 right_false true b e = absurd (false≢true (sym e))
 right_false false b e = e
 
@@ -143,8 +150,9 @@ cursor_stays old new w v o c on stay h = record {
   names = h.names;
   leases = h.leases;
   stand = λ l has. on l (reads_its c l has) (h.stand l has);
-  some = (h.some.0, (stay h.some.0).0 h.some.1);
-  answers = λ rows r. h.answers rows ((stay rows).1 r);
+  some = λ known. let r = h.some known in (r.0, ((stay (h.honest known)).1 r.0).0 r.1);
+  honest = λ known. (stay (h.honest known)).0;
+  answers = λ known rows r. h.answers known rows (((stay (h.honest known)).1 rows).1 r);
   bare = h.bare;
 }
 

@@ -14,9 +14,10 @@ use Rattle.open_cursors.specs.Open.{Seated}
 use Rattle.med_world.specs.Seats.{AreSoundSeats}
 use Rattle.med_catalog.specs.Options.{table_settings, column_settings}
 use Rattle.med_binder.specs.Places.{Attached}
-use Rattle.sql_meaning.specs.World.{World, Source, SourceState, standing, dropped}
+use Rattle.sql_meaning.specs.World.{World, Source, SourceState, dropped}
 use Rattle.med_world.specs.Engine.{Label, Shown, EachBox, KeepsScans, IsSound, state_of, sources_of, AreRowsOf, RowsAgree, Agrees, Rises, EachRises}
 use Rattle.med_world.proofs.Seats.{sessions_still}
+use Rattle.med_world.proofs.States.{honest_since, same_state}
 use Rattle.med_world.proofs.Scans.{serving_scans, all_left, all_stay}
 use Rattle.med_world.proofs.Faring.{no_box}
 use Rattle.med_world.proofs.Sounds.{standing_still, written_still}
@@ -69,45 +70,46 @@ serving_rises old new h = run_rises none_held none_held old new h
 
 -- ---- worlds
 
-pub served_honest : (f g : Scans) (old new : List (Option BoxState)) → ServesRun f g old new → EachBox is_honest old → EachBox is_honest new
-served_honest f g old new h honest i c at = let b = served_backward f g old new h i c at in ap (λ n. n.honest) b.2.nature ∙ honest i b.0 b.1
+state_served : (l m : List ℕ) (b c : BoxState) → Served l m b c → state_of (Some c) ≡ state_of (Some b)
+state_served l m b c k = same_state b c k.nature k.holdings
 
-state_served : (l m : List ℕ) (b c : BoxState) → is_honest b → Served l m b c → state_of (Some c) ≡ state_of (Some b)
-state_served l m b c honest k = λ i. standing (k.nature i).kind (λ r. k.holdings honest r i)
+pub sources_served : (f g : Scans) (labels : List Label) (old new : List (Option BoxState)) → ServesRun f g old new → sources_of labels new ≡ sources_of labels old
+sources_served f g [] old new h = refl
+sources_served f g (l ∷ ls) [] [] h = refl
+sources_served f g (l ∷ ls) [] (y ∷ ys) h = absurd h
+sources_served f g (l ∷ ls) (None ∷ xs) [] h = absurd h
+sources_served f g (l ∷ ls) (Some a ∷ xs) [] h = absurd h
+sources_served f g (l ∷ ls) (None ∷ xs) (Some y ∷ ys) h = absurd h
+sources_served f g (l ∷ ls) (Some a ∷ xs) (None ∷ ys) h = absurd h
+sources_served f g (l ∷ ls) (None ∷ xs) (None ∷ ys) h =
+    ap (λ (ss : List Source). record { name = l.name; kind = l.kind; state = dropped } ∷ ss) (sources_served (further f) (further g) ls xs ys h)
+sources_served f g (l ∷ ls) (Some a ∷ xs) (Some b ∷ ys) h =
+    ap (λ (s : SourceState). record { name = l.name; kind = l.kind; state = s } ∷ sources_of ls ys) (state_served (f 0) (g 0) a b h.0)
+    ∙ ap (λ (ss : List Source). record { name = l.name; kind = l.kind; state = state_of (Some a) } ∷ ss) (sources_served (further f) (further g) ls xs ys h.1)
 
-pub sources_served : (f g : Scans) (labels : List Label) (old new : List (Option BoxState)) → ServesRun f g old new → EachBox is_honest old → sources_of labels new ≡ sources_of labels old
-sources_served f g [] old new h honest = refl
-sources_served f g (l ∷ ls) [] [] h honest = refl
-sources_served f g (l ∷ ls) [] (y ∷ ys) h honest = absurd h
-sources_served f g (l ∷ ls) (None ∷ xs) [] h honest = absurd h
-sources_served f g (l ∷ ls) (Some a ∷ xs) [] h honest = absurd h
-sources_served f g (l ∷ ls) (None ∷ xs) (Some y ∷ ys) h honest = absurd h
-sources_served f g (l ∷ ls) (Some a ∷ xs) (None ∷ ys) h honest = absurd h
-sources_served f g (l ∷ ls) (None ∷ xs) (None ∷ ys) h honest =
-    ap (λ (ss : List Source). record { name = l.name; kind = l.kind; state = dropped } ∷ ss) (sources_served (further f) (further g) ls xs ys h (λ slot s at. honest (suc slot) s at))
-sources_served f g (l ∷ ls) (Some a ∷ xs) (Some b ∷ ys) h honest =
-    ap (λ (s : SourceState). record { name = l.name; kind = l.kind; state = s } ∷ sources_of ls ys) (state_served (f 0) (g 0) a b (honest 0 a refl) h.0)
-    ∙ ap (λ (ss : List Source). record { name = l.name; kind = l.kind; state = state_of (Some a) } ∷ ss) (sources_served (further f) (further g) ls xs ys h.1 (λ slot s at. honest (suc slot) s at))
-
-row_served : (f g : Scans) (old new : List (Option BoxState)) (a : Attached) (rows : List Held) → ServesRun f g old new → EachBox is_honest old → AreRowsOf old a rows → AreRowsOf new a rows
-row_served f g old new a rows h honest r =
+row_served : (f g : Scans) (old new : List (Option BoxState)) (a : Attached) (rows : List Held) → ServesRun f g old new → AreRowsOf old a rows → AreRowsOf new a rows
+row_served f g old new a rows h r =
     let now = served_onward f g old new h a.source r.box r.there in
-    record { box = now.0; there = now.1; holds = subst (λ (rs : List TableRow). IsPermutation (map held rs) rows) (sym (now.2.rows (honest a.source r.box r.there) a.number)) r.holds }
+    record {
+      box = now.0;
+      there = now.1;
+      holds = λ honest. let was = honest_since r.box now.0 now.2.nature honest in
+          subst (λ (rs : List TableRow). IsPermutation (map held rs) rows) (sym (now.2.rows was a.number)) (r.holds was);
+    }
 
-pub rows_served : (f g : Scans) (old new : List (Option BoxState)) → ServesRun f g old new → EachBox is_honest old → (bound : List Attached) (rows : List (List Held)) → RowsAgree old bound rows → RowsAgree new bound rows
-rows_served f g old new h honest [] [] r = tt
-rows_served f g old new h honest [] (x ∷ xs) r = absurd r
-rows_served f g old new h honest (a ∷ more) [] r = absurd r
-rows_served f g old new h honest (a ∷ more) (x ∷ xs) r = (row_served f g old new a x h honest r.0, rows_served f g old new h honest more xs r.1)
+pub rows_served : (f g : Scans) (old new : List (Option BoxState)) → ServesRun f g old new → (bound : List Attached) (rows : List (List Held)) → RowsAgree old bound rows → RowsAgree new bound rows
+rows_served f g old new h [] [] r = tt
+rows_served f g old new h [] (x ∷ xs) r = absurd r
+rows_served f g old new h (a ∷ more) [] r = absurd r
+rows_served f g old new h (a ∷ more) (x ∷ xs) r = (row_served f g old new a x h r.0, rows_served f g old new h more xs r.1)
 
 pub serving_agrees : (e : Shown) (new : List (Option BoxState)) → AllServed e.boxes new → (w : World) → Agrees e w → Agrees (record e { boxes = new }) w
 serving_agrees e new h w agrees = record {
-  honest = served_honest none_held none_held e.boxes new h agrees.honest;
   scans = serving_scans e new h agrees.scans;
   catalog = agrees.catalog;
-  sources = agrees.sources ∙ sym (sources_served none_held none_held e.labels e.boxes new h agrees.honest);
-  rows = rows_served none_held none_held e.boxes new h agrees.honest e.bound w.rows agrees.rows;
-  sessions = sessions_still e new w w refl refl refl (all_stay e new agrees.scans agrees.honest (all_left e new h)) agrees;
+  sources = agrees.sources ∙ sym (sources_served none_held none_held e.labels e.boxes new h);
+  rows = rows_served none_held none_held e.boxes new h e.bound w.rows agrees.rows;
+  sessions = sessions_still e new w w refl refl refl (all_stay e new agrees.scans (all_left e new h)) agrees;
 }
 
 -- ---- the engine

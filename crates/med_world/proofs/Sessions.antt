@@ -26,7 +26,7 @@ use Rattle.med_world.proofs.Seats.{IsIn, place_there, open_in, seat_stays, stand
 use Rattle.med_world.proofs.Scans.{apart_none, Turned, turned_scans, others_stay, quiet_turn, one_of, among, seat_own, all_own, seat_held, all_held, closed_rest, all_closed_scans}
 use Rattle.med_world.proofs.Lists.{some_same}
 use Rattle.med_world.proofs.Faring.{set_same, set_other, none_rises}
-use Rattle.med_world.proofs.Serving.{run_rises, served_honest, sources_served, rows_served, none_typed, run_sound}
+use Rattle.med_world.proofs.Serving.{run_rises, sources_served, rows_served, none_typed, run_sound}
 use Rattle.med_world.proofs.Asks.{asks_refused, asks_unread}
 use Rattle.med_world.proofs.Told.{told_protocol, told_bye}
 use Rattle.med_world.proofs.Leading.{calm, calm_befell, calm_unasked, leads_refused}
@@ -70,11 +70,10 @@ sid_within seats sid (one, most) long = omega (arith, long)
 pub turned_agrees : (e : Shown) (w : World) (new : List (Option BoxState)) (sid : ℕ) (seat : Option Seated) (s : Option Session) → IsSid sid → length e.seats ≡ session_count → Turned e (sid - 1) seat new
     → SeatAgrees new (with_session w sid s) seat s → Agrees e w → Agrees (with_boxes (with_seats e (slice_set e.seats (sid - 1) seat)) new) (with_session w sid s)
 turned_agrees e w new sid seat s is long t here a = record {
-  honest = served_honest t.first t.last e.boxes new t.serves a.honest;
   catalog = a.catalog;
   scans = turned_scans e (sid - 1) seat new (sid_within e.seats sid is long) a.scans t;
-  sources = a.sources ∙ sym (sources_served t.first t.last e.labels e.boxes new t.serves a.honest);
-  rows = rows_served t.first t.last e.boxes new t.serves a.honest e.bound w.rows a.rows;
+  sources = a.sources ∙ sym (sources_served t.first t.last e.labels e.boxes new t.serves);
+  rows = rows_served t.first t.last e.boxes new t.serves e.bound w.rows a.rows;
   sessions = λ k is_k. split k is_k (eqb_tells k sid);
 }
   where
@@ -90,7 +89,7 @@ turned_agrees e w new sid seat s is long t here a = record {
         subst (λ (b : Option Session). SeatAgrees new after (seat_of (slice_set e.seats (sid - 1) seat) k) b) (sym (ap (λ b. cond b s (w.sessions k)) other.0))
         (subst (λ (x : Option Seated). SeatAgrees new after x (w.sessions k)) (sym (seat_other e.seats sid k seat is is_k other.1))
         (seat_stays e.boxes new w after (seat_of e.seats k) (w.sessions k) (λ l e x. stands_still w after l refl refl x)
-        (λ o has. others_stay e (sid - 1) seat new (sid_within e.seats sid is long) a.scans t a.honest (k - 1) o (open_in e.seats k o has) (places_apart k sid is_k is other.1)) (a.sessions k is_k)))
+        (λ o has. others_stay e (sid - 1) seat new (sid_within e.seats sid is long) a.scans t (k - 1) o (open_in e.seats k o has) (places_apart k sid is_k is other.1)) (a.sessions k is_k)))
 
 none_some_seat : (s : Seated) → None ≡ Some s → ⊥
 none_some_seat s e = cc
@@ -262,11 +261,10 @@ closes_all e new seats closed ends = record {
   others = refl;
   rises = run_rises (held_by (all_cursors e.seats)) none_held e.boxes new ends;
   world = λ w a. record {
-    honest = served_honest (held_by (all_cursors e.seats)) none_held e.boxes new ends a.honest;
     catalog = a.catalog;
     scans = all_closed_scans e new seats ends (none_open seats closed) a.scans;
-    sources = a.sources ∙ sym (sources_served (held_by (all_cursors e.seats)) none_held e.labels e.boxes new ends a.honest);
-    rows = rows_served (held_by (all_cursors e.seats)) none_held e.boxes new ends a.honest e.bound w.rows a.rows;
+    sources = a.sources ∙ sym (sources_served (held_by (all_cursors e.seats)) none_held e.labels e.boxes new ends);
+    rows = rows_served (held_by (all_cursors e.seats)) none_held e.boxes new ends e.bound w.rows a.rows;
     sessions = λ sid is. all_shut new (without_sessions w) seats sid closed;
   };
 }

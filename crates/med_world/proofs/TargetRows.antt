@@ -52,7 +52,7 @@ rows_found boxes name (t ∷ ts) (b ∷ bs) (r ∷ rs) (suc k) a first h at =
 abbrev pub Stays : List (Option BoxState) → List (Option BoxState) → Attached → Type 0
 Stays old new a = (rows : List Held) → AreRowsOf old a rows → AreRowsOf new a rows
 
-rows_stay : (old new : List (Option BoxState)) (bound : List Attached) (rows : List (List Held)) → ((j : ℕ) (a : Attached) → slice_get bound j ≡ Some a → Stays old new a) → RowsAgree old bound rows → RowsAgree new bound rows
+pub rows_stay : (old new : List (Option BoxState)) (bound : List Attached) (rows : List (List Held)) → ((j : ℕ) (a : Attached) → slice_get bound j ≡ Some a → Stays old new a) → RowsAgree old bound rows → RowsAgree new bound rows
 rows_stay old new [] [] f h = tt
 rows_stay old new [] (r ∷ rs) f h = absurd h
 rows_stay old new (a ∷ bs) [] f h = absurd h

@@ -8,7 +8,7 @@ use Rattle.med_parser.specs.CommandTree.{CommandTree}
 use Rattle.med_parser.specs.CommandGrammar.{HasCommand}
 use Rattle.sql_meaning.specs.Picks.{Pick}
 use Rattle.sql_meaning.specs.World.{World, Session, IsOpen}
-use Rattle.sql_meaning.specs.Causes.{TreeCauses, IsStatementOf, Stands, phase, IsPick, IsPickOf, IsTold, NoneStands, NoneBeforeState}
+use Rattle.sql_meaning.specs.Causes.{TreeCauses, IsStatementOf, Stands, phase, IsPick, IsPickOf, IsTold, NoneStands, NoneBeforeState, NoneBeforeRun}
 use Rattle.med_world.proofs.Lists.{some_same}
 
 -- a cause of the phase of syntax is of phase 2
@@ -75,6 +75,9 @@ none_tree w sid p text s tree k none d x = none d (shown_by w sid p text s tree 
 
 pub before_tree : (w : World) (sid : ℕ) (text : List ℕ) (s : Session) (tree : CommandTree) → IsKnownAs w sid text s tree → ((p : Pick) (d : Cause) → TreeCauses w s p tree d → 4 < phase d) → NoneBeforeState w sid (sql text)
 before_tree w sid text s tree k late p d x = late p d (shown_by w sid p text s tree k d x)
+
+pub run_before : (w : World) (sid : ℕ) (text : List ℕ) (s : Session) (tree : CommandTree) → IsKnownAs w sid text s tree → ((p : Pick) (d : Cause) → TreeCauses w s p tree d → 5 < phase d) → NoneBeforeRun w sid (sql text)
+run_before w sid text s tree k late p d x = late p d (shown_by w sid p text s tree k d x)
 
 pub pick_tree : (w : World) (sid : ℕ) (p : Pick) (text : List ℕ) (s : Session) (tree : CommandTree) → IsKnownAs w sid text s tree → IsPick w s tree p → IsPickOf w sid (sql text) p
 pick_tree w sid p text s tree k h s2 t2 is formed =

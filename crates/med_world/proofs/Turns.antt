@@ -9,8 +9,11 @@ use Rattle.med_syntax.specs.Tree.{Name}
 use Rattle.med_query.specs.Query.{IsAnswer}
 use Rattle.fdw_api.specs.State.{BoxState}
 use Rattle.med_exec.specs.declared.running.Run.{Run}
-use Rattle.med_exec.specs.Running.{AllHonest, none_held}
-use Rattle.med_exec.specs.Pulling.{GivesAsTheyCome}
+use Rattle.med_exec.specs.Running.{none_held}
+use Rattle.med_exec.proofs.Served.{honest_in_still}
+use Rattle.scan_loops.specs.Running.{slots_of, HonestFor}
+use Rattle.scan_loops.specs.declared.levels.LoopLevel.{LoopLevel}
+use Rattle.med_exec.specs.Pulling.{levels_in, GivesAsTheyCome}
 use Rattle.med_exec.specs.Rests.{Rests, held}
 use Rattle.med_parser.specs.CommandTree.{on_cursors}
 use Rattle.med_syntax.specs.CursorTree.{CountTree, some_rows, all_rows, CursorTree, declare, fetch, close}
@@ -64,38 +67,39 @@ unknown e sid text seat name t of_open read at none = leads_refused e e sid (sql
 -- ---- FETCH
 
 -- the rows go on where those that were handed out end
-fetches : (old : List (Option BoxState)) (w : World) (asked : CountTree) (o : Opened) (c : Cursor) (rows : List Tuple) (after : Run) (new : List (Option BoxState)) → AllHonest old → GivesRows o.run asked old rows after new → CursorAgrees old w o c → Fetches c asked rows
-fetches old w (some_rows n) o c rows after new honest g a = split (g.enough (λ slot has. honest slot))
+fetches : (old : List (Option BoxState)) (w : World) (asked : CountTree) (o : Opened) (c : Cursor) (rows : List Tuple) (after : Run) (new : List (Option BoxState)) → GivesRows o.run asked old rows after new → CursorAgrees old w o c → c.shared ≡ false → Fetches c asked rows
+fetches old w (some_rows n) o c rows after new g a unshared = split (g.enough (a.honest unshared))
   where
     split : (length rows ≡ n) ⊎ ((length rows < n) × Rests o.run old rows) → Fetches c (some_rows n) rows
     split (inl many) =
-        let left = g.some (λ slot has. honest slot) in
+        let left = g.some (a.honest unshared) in
         record {
           left = left.0;
-          answers = subst (IsAnswer c.query (rows_leased c.reads)) (sym (append_assoc c.handed rows left.0)) (a.answers (rows ++ left.0) (g.gives (λ slot has. honest slot) left.0 left.1));
+          answers = subst (IsAnswer c.query (rows_leased c.reads)) (sym (append_assoc c.handed rows left.0)) (a.answers unshared (rows ++ left.0) (g.gives (a.honest unshared) left.0 left.1));
           enough = inl many;
         }
     split (inr all) = record {
       left = [];
-      answers = subst (IsAnswer c.query (rows_leased c.reads)) (sym (append-nil (c.handed ++ rows))) (a.answers rows all.1);
+      answers = subst (IsAnswer c.query (rows_leased c.reads)) (sym (append-nil (c.handed ++ rows))) (a.answers unshared rows all.1);
       enough = inr (all.0, refl);
     }
-fetches old w all_rows o c rows after new honest g a = record {
+fetches old w all_rows o c rows after new g a unshared = record {
   left = [];
-  answers = subst (IsAnswer c.query (rows_leased c.reads)) (sym (append-nil (c.handed ++ rows))) (a.answers rows (g.enough (λ slot has. honest slot)));
+  answers = subst (IsAnswer c.query (rows_leased c.reads)) (sym (append-nil (c.handed ++ rows))) (a.answers unshared rows (g.enough (a.honest unshared)));
   enough = refl;
 }
 
 -- the cursor of the world goes on with the engine's
-goes_on : (old new : List (Option BoxState)) (w v : World) (asked : CountTree) (o : Opened) (c : Cursor) (rows : List Tuple) (after : Run) (before count : ℕ) → v.catalog.tables ≡ w.catalog.tables → v.rows ≡ w.rows → AllHonest old → GivesRows o.run asked old rows after new
+goes_on : (old new : List (Option BoxState)) (w v : World) (asked : CountTree) (o : Opened) (c : Cursor) (rows : List Tuple) (after : Run) (before count : ℕ) → v.catalog.tables ≡ w.catalog.tables → v.rows ≡ w.rows → GivesRows o.run asked old rows after new
     → PullsFetched asked o.run old before after new count → CursorAgrees old w o c → CursorAgrees new v (record o { run = after }) (record c { handed = c.handed ++ rows })
-goes_on old new w v asked o c rows after before count tables same honest g p a = record {
+goes_on old new w v asked o c rows after before count tables same g p a = record {
   name = a.name;
   names = a.names;
   leases = a.leases;
   stand = λ l has. stands_still w v l tables same (a.stand l has);
-  some = g.some (λ slot has. honest slot);
-  answers = λ left r. subst (IsAnswer c.query (rows_leased c.reads)) (sym (append_assoc c.handed rows left)) (a.answers (rows ++ left) (g.gives (λ slot has. honest slot) left r));
+  some = λ unshared. g.some (a.honest unshared);
+  honest = λ unshared. subst (λ (ls : List LoopLevel). HonestFor ls new) (sym p.pulls.same) (honest_in_still (held o.run) (held after) (slots_of (levels_in o.run)) old new g.served (a.honest unshared));
+  answers = λ unshared left r. subst (IsAnswer c.query (rows_leased c.reads)) (sym (append_assoc c.handed rows left)) (a.answers unshared (rows ++ left) (g.gives (a.honest unshared) left r));
   bare = λ b. still_bare asked o.run after old new before count p (a.bare b);
 }
 
@@ -170,12 +174,12 @@ fetched e new sid text seat name asked o rows after count read at sound here g p
     turns : (w : World) → Agrees e w → Turns w sid (session_in w sid seat.user) (fetch asked name) (answered (codes "FETCH") o.names rows) (now w)
     turns w a =
         let f = found_at e w sid seat name o read.is_sid at a here in
-        (f.cursor, f.is, (rows, fetches e.boxes w asked o f.cursor rows after new a.honest g f.agrees, ap (λ (ns : List Name). answered (codes "FETCH") ns rows) (sym f.agrees.names), refl))
+        (f.cursor, f.is, (rows, fetches e.boxes w asked o f.cursor rows after new g f.agrees, ap (λ (ns : List Name). answered (codes "FETCH") ns rows) (sym f.agrees.names), refl))
 
     all : (w : World) → Agrees e w → CursorsAgree new (now w) (with_run name after seat.cursors) (map (hand_out name rows) (cursors_in (w.sessions sid)))
     all w a = one_turns e.boxes new w (now w) name after rows seat.cursors (cursors_in (w.sessions sid)) o (λ l taken x. stands_still w (now w) l refl refl x)
-        (λ c has ne. here_stays e new sid seat c sound at a.honest has (fetched_left e new sid seat name asked o rows after count sound at here g c has ne)) (old_seat e sid seat sound at).apart here
-        (λ c h. goes_on e.boxes new w (now w) asked o c rows after seat.asked count refl refl a.honest g pulls h) (cursors_at e w sid seat read.is_sid at a)
+        (λ c has ne. here_stays e new sid seat c sound at has (fetched_left e new sid seat name asked o rows after count sound at here g c has ne)) (old_seat e sid seat sound at).apart here
+        (λ c h. goes_on e.boxes new w (now w) asked o c rows after seat.asked count refl refl g pulls h) (cursors_at e w sid seat read.is_sid at a)
 
 -- ---- a cursor that is gone
 
@@ -185,7 +189,7 @@ gone_agrees e w new sid seat name o count is at sound here ends a =
     turned_agrees e w new sid (Some (record seat { cursors = without_named name seat.cursors; asked = count })) (Some (without_cursor (session_in w sid seat.user) name)) is sound.sessions (ended_turn e new sid seat name o count sound at here ends) (
       refl,
       cursors_stay e.boxes new w now (without_named name seat.cursors) (filter (λ c. not (is_cursor name c)) (cursors_in (w.sessions sid))) (λ l taken x. stands_still w now l refl refl x)
-          (λ c has. here_stays e new sid seat c sound at a.honest (left_here name seat.cursors c has) (ended_left e new sid seat name o sound at here ends c has))
+          (λ c has. here_stays e new sid seat c sound at (left_here name seat.cursors c has) (ended_left e new sid seat name o sound at here ends c has))
           (one_fewer e.boxes w name seat.cursors (cursors_in (w.sessions sid)) (cursors_at e w sid seat is at a)),
     ) a
   where

@@ -1,5 +1,6 @@
 -- A write that is done leads each world that agrees to one that agrees, and leaves an engine sound.
 use Rattle.std.proofs.Common.{◌≡◌, ◌≢◌, ℕ, ◌+◌, ◌⊎◌, true, false, List, Option, Some, is_some, map, slice_get, refl, ap, sym, ◌∙◌, subst, inl, inr, eqb, arith, bytes_eq, IsPermutation, if◌then◌else◌, Bool}
+use Rattle.std.proofs.lemmas.Bool.{false≢true}
 use Rattle.std.proofs.lemmas.Bool.Decides.{eqb_tells}
 use Rattle.std.proofs.lemmas.List.Sorted.{IsPermutation-trans}
 use Rattle.med_value.specs.Datum.{Tuple}
@@ -8,7 +9,7 @@ use Rattle.med_syntax.specs.WriteTree.{WriteTree}
 use Rattle.tri_expr.proofs.Shuffled.{Shuffled, back, to_swaps, from_swaps, same as same_shuffled}
 use Rattle.fdw_api.specs.Kinds.{Kind, Entry, Holding, Known, Unknown, Held, held}
 use Rattle.fdw_api.specs.Scan.{TableRow}
-use Rattle.fdw_api.specs.State.{BoxTable, BoxState, is_honest, table_of, scan_of, rows_of}
+use Rattle.fdw_api.specs.State.{Nature, BoxTable, BoxState, is_honest, table_of, scan_of, rows_of}
 use Rattle.fdw_api.specs.Calls.{NoScan}
 use Rattle.fdw_api.specs.Writes.{HoldsImage, Written}
 use Rattle.med_exec.specs.Slots.{ChangesAt}
@@ -17,22 +18,23 @@ use Rattle.write_exec.proofs.WrittenRows.{rows_written}
 use Rattle.write_parts.specs.Meaning.{target_of}
 use Rattle.med_catalog.specs.Objects.{ServerObject, TableObject, Objects, server_named, table_named}
 use Rattle.med_binder.specs.Places.{Attached}
-use Rattle.sql_meaning.specs.World.{World, standing, rows_with, rows_named, holding_at, holds_at, with_state}
-use Rattle.sql_meaning.specs.Causes.{rows_held, IsTarget}
+use Rattle.sql_meaning.specs.World.{World, standing, is_shared_server, is_shared, rows_with, rows_named, holding_at, holds_at, with_state}
+use Rattle.sql_meaning.specs.Causes.{rows_held, writes_shared, IsTarget}
 use Rattle.sql_meaning.specs.Steps.{holding_after}
 use Rattle.med_world.specs.Engine.{Shown, IsServerAt, IsWrittenAs, IsBoundAs, IsSound, IsFirst, state_of, sources_of, AreRowsOf, RowsAgree, Agrees, Rises, EachRises, leased}
 use Rattle.med_world.specs.Writing.{columns_for, form_for, IsTargetAt, DoesWrite}
 use Rattle.med_world.specs.Laws.{with_boxes}
-use Rattle.med_world.proofs.Seats.{sessions_stay, leases_same, named_apart, written_stands}
+use Rattle.med_world.proofs.Seats.{sessions_stay, sessions_still, leases_same, named_apart, written_stands}
 use Rattle.med_world.proofs.Scans.{leases_itself, all_stay, unleased_scan}
 use Rattle.med_world.proofs.ScansChanged.{IsQuiet, quiet_left, quiet_scans, first_named}
 use Rattle.med_world.proofs.Lists.{some_same, bytes_same, bytes_other}
 use Rattle.med_world.proofs.Faring.{same_box, changes_by, changes_rise, rises_itself, was_there, is_there}
-use Rattle.med_world.proofs.Altered.{serves_at}
+use Rattle.med_world.proofs.Altered.{sources_set, serves_at, shared_at, honest_at}
+use Rattle.med_world.proofs.States.{honest_state, honest_since, same_state}
 use Rattle.med_world.proofs.Sounds.{standing_still, written_still, takes_by, sound_changed, as_many}
 use Rattle.med_world.proofs.AnyRows.{after_same}
 use Rattle.med_world.proofs.WrittenBoxes.{KeepsBox, keeps_itself, written_keeps, written_rises, written_box_sound}
-use Rattle.med_world.proofs.TargetRows.{Stays, first_from, first_table, rows_found, rows_changed, sources_changed}
+use Rattle.med_world.proofs.TargetRows.{Stays, first_from, first_table, rows_found, rows_stay, rows_changed, sources_changed}
 
 -- ---- the table that is written, in its box
 
@@ -82,16 +84,26 @@ target_in e t at b sound target there = record {
     same = same_box x.box b (sym x.there ∙ there)
 
 -- in a world: the table, its source, and its rows
-pub target_world : (e : Shown) (w : World) (t : WriteTree) (at : Attached) (b : BoxState) → IsSound e → Agrees e w → slice_get e.boxes at.source ≡ Some (Some b) → (x : TargetIn e t at b) → IsTarget w t x.table b.nature.kind b.content.holdings
-target_world e w t at b sound a there x = record {
+pub target_world : (e : Shown) (w : World) (t : WriteTree) (at : Attached) (b : BoxState) → IsSound e → Agrees e w → slice_get e.boxes at.source ≡ Some (Some b) → (x : TargetIn e t at b) → is_honest b → IsTarget w t x.table b.nature.kind b.content.holdings
+target_world e w t at b sound a there x honest = record {
   there = ap (λ (o : Objects). table_named o (target_of t)) a.catalog ∙ x.named;
-  serves = serves_at e w x.table.server at.source b sound a x.server there;
+  serves = serves_at e w x.table.server at.source b sound a x.server there honest;
 }
 
-pub held_same : (e : Shown) (w : World) (t : WriteTree) (at : Attached) (b : BoxState) → Agrees e w → slice_get e.boxes at.source ≡ Some (Some b) → TargetIn e t at b → Shuffled (map held (rows_of b at.number)) (rows_held w t)
-held_same e w t at b a there x = from_swaps (map held (rows_of b at.number)) (rows_held w t)
+-- whether its source is shared
+shared_as : (e : Shown) (w : World) (t : WriteTree) (at : Attached) (b : BoxState) → Agrees e w → (x : TargetIn e t at b) → writes_shared w t ≡ is_shared_server w x.table.server
+shared_as e w t at b a x = ap (is_shared w) (ap (λ (o : Objects). table_named o (target_of t)) a.catalog ∙ x.named)
+
+pub target_honest : (e : Shown) (w : World) (t : WriteTree) (at : Attached) (b : BoxState) → IsSound e → Agrees e w → slice_get e.boxes at.source ≡ Some (Some b) → TargetIn e t at b → writes_shared w t ≡ false → is_honest b
+target_honest e w t at b sound a there x unshared = honest_at e w x.table.server at.source b sound a x.server there (sym (shared_as e w t at b a x) ∙ unshared)
+
+pub target_shared : (e : Shown) (w : World) (t : WriteTree) (at : Attached) (b : BoxState) → IsSound e → Agrees e w → slice_get e.boxes at.source ≡ Some (Some b) → TargetIn e t at b → b.nature.honest ≡ false → writes_shared w t ≡ true
+target_shared e w t at b sound a there x lies = shared_as e w t at b a x ∙ shared_at e w x.table.server at.source b sound a x.server there lies
+
+pub held_same : (e : Shown) (w : World) (t : WriteTree) (at : Attached) (b : BoxState) → Agrees e w → slice_get e.boxes at.source ≡ Some (Some b) → TargetIn e t at b → is_honest b → Shuffled (map held (rows_of b at.number)) (rows_held w t)
+held_same e w t at b a there x honest = from_swaps (map held (rows_of b at.number)) (rows_held w t)
     (subst (λ (o : Objects). IsPermutation (map held (rows_of b at.number)) (rows_named (target_of t) o.tables w.rows)) (sym a.catalog)
-    (subst (λ (s : BoxState). IsPermutation (map held (rows_of s at.number)) (rows_named (target_of t) e.catalog.tables w.rows)) same found.holds))
+    (subst (λ (s : BoxState). IsPermutation (map held (rows_of s at.number)) (rows_named (target_of t) e.catalog.tables w.rows)) same (found.holds (subst is_honest (sym same) honest))))
   where
     found : AreRowsOf e.boxes at (rows_named (target_of t) e.catalog.tables w.rows)
     found = rows_found e.boxes (target_of t) e.catalog.tables e.bound w.rows x.place at x.first a.rows x.there
@@ -102,17 +114,19 @@ held_same e w t at b a there x = from_swaps (map held (rows_of b at.number)) (ro
 -- ---- the rows of other tables
 
 stays_elsewhere : (old new : List (Option BoxState)) (P : BoxState → BoxState → Type 0) (slot number : ℕ) (c : Attached) → (h : ChangesAt old slot P new)
-    → ((u : ℕ) → u ≢ number → rows_of h.after u ≡ rows_of h.before u) → (c.source ≡ slot → c.number ≢ number) → Stays old new c
-stays_elsewhere old new P slot number c h kept other rows r = split (eqb_tells c.source slot)
+    → h.after.nature ≡ h.before.nature → (is_honest h.before → (u : ℕ) → u ≢ number → rows_of h.after u ≡ rows_of h.before u) → (is_honest h.before → c.source ≡ slot → c.number ≢ number) → Stays old new c
+stays_elsewhere old new P slot number c h nature kept other rows r = split (eqb_tells c.source slot)
   where
     split : ((eqb c.source slot ≡ true) × (c.source ≡ slot)) ⊎ ((eqb c.source slot ≡ false) × (c.source ≢ slot)) → AreRowsOf new c rows
     split (inl s) =
         let e : h.before ≡ r.box = same_box h.before r.box (sym h.there ∙ ap (slice_get old) (sym s.1) ∙ r.there) in
-        let same : rows_of h.after c.number ≡ rows_of r.box c.number = kept c.number (other s.1) ∙ ap (λ (b : BoxState). rows_of b c.number) e in
         record {
           box = h.after;
           there = ap (slice_get new) s.1 ∙ h.now;
-          holds = subst (λ (rs : List TableRow). IsPermutation (map held rs) rows) (sym same) r.holds;
+          holds = λ honest.
+              let was = honest_since h.before h.after nature honest in
+              let same : rows_of h.after c.number ≡ rows_of r.box c.number = kept was c.number (other was s.1) ∙ ap (λ (b : BoxState). rows_of b c.number) e in
+              subst (λ (rs : List TableRow). IsPermutation (map held rs) rows) (sym same) (r.holds (subst is_honest e was));
         }
     split (inr s) = record { box = r.box; there = h.others c.source s.1 ∙ r.there; holds = r.holds }
 
@@ -233,9 +247,6 @@ done_sound e t answer at count new sound free target h = record {
 bound_one : (a b : BoxTable) (o : Option BoxTable) → o ≡ Some a → o ≡ Some b → a ≡ b
 bound_one a b o p q = cc
 
-honest_kept : (b c : BoxState) → KeepsBox b c → is_honest b → is_honest c
-honest_kept b c k h = ap (λ n. n.honest) k.nature ∙ h
-
 -- the world after the write, and what it says
 pub record DoneIn (e : Shown) (w : World) (t : WriteTree) (answer : List Tuple) (new : List (Option BoxState)) : Type 0 where
   pub table : TableObject
@@ -252,8 +263,8 @@ pub record DoneIn (e : Shown) (w : World) (t : WriteTree) (answer : List Tuple) 
   }
   pub agrees : Agrees (with_boxes e new) after
 
-pub done_agrees : (e : Shown) (w : World) (t : WriteTree) (answer : List Tuple) (at : Attached) (count : ℕ) (new : List (Option BoxState)) → IsSound e → leased e (target_of t) ≡ false → IsTargetAt e.catalog e.bound t at → Done e t answer at count new → Agrees e w → DoneIn e w t answer new
-done_agrees e w t answer at count new sound free target_at h a = record {
+pub done_agrees : (e : Shown) (w : World) (t : WriteTree) (answer : List Tuple) (at : Attached) (count : ℕ) (new : List (Option BoxState)) → IsSound e → leased e (target_of t) ≡ false → IsTargetAt e.catalog e.bound t at → (h : Done e t answer at count new) → Agrees e w → is_honest h.before → DoneIn e w t answer new
+done_agrees e w t answer at count new sound free target_at h a honest = record {
   table = x.table;
   kind = b.nature.kind;
   holdings = b.content.holdings;
@@ -271,14 +282,14 @@ done_agrees e w t answer at count new sound free target_at h a = record {
     c : BoxState
     c = h.after
 
-    honest : is_honest b
-    honest = a.honest at.source b h.there
+    honest_now : is_honest c
+    honest_now = ap (λ (n : Nature). n.honest) h.change.writes.nature ∙ honest
 
     x : TargetIn e t at b
     x = target_in e t at b sound target_at h.there
 
     target : IsTarget w t x.table b.nature.kind b.content.holdings
-    target = target_world e w t at b sound a h.there x
+    target = target_world e w t at b sound a h.there x honest
 
     k : Written b (record { table = at.number; changes = h.change.writes.changes; broken = false }) c
     k = h.change.writes.content honest
@@ -299,7 +310,7 @@ done_agrees e w t answer at count new sound free target_at h a = record {
     same : IsPermutation (rows_after (b.nature.kind.line x.table.columns x.table.settings) (form_for e.catalog t) answer (rows_held w t)) rows
     same = subst (λ (line : Tuple → List (List ℕ)). IsPermutation (rows_after line (form_for e.catalog t) answer (rows_held w t)) rows) line_is
         (IsPermutation-trans (rows_after x.bound.line (form_for e.catalog t) answer (rows_held w t)) (rows_after x.bound.line (form_for e.catalog t) answer (map held (rows_of b at.number))) rows
-        (to_swaps (after_same x.bound.line (form_for e.catalog t) answer (rows_held w t) (map held (rows_of b at.number)) (back (held_same e w t at b a h.there x))))
+        (to_swaps (after_same x.bound.line (form_for e.catalog t) answer (rows_held w t) (map held (rows_of b at.number)) (back (held_same e w t at b a h.there x honest))))
         (subst (λ (rs : List Held). IsPermutation (rows_after x.bound.line (form_for e.catalog t) answer (map held (rows_of b at.number))) rs) (sym box_rows)
         (x.bound.arrangement.permutes (rows_after x.bound.line (form_for e.catalog t) answer (map held (rows_of b at.number))))))
 
@@ -329,7 +340,7 @@ done_agrees e w t answer at count new sound free target_at h a = record {
     holdings_are = holding_now x.table.remote now b.content.holdings c.content.holdings held_now (λ r other. k.leaves.holdings r (λ is. other (is ∙ remote_is)))
 
     state_is : state_of (Some c) ≡ holds_at x.table.remote now (state_of (Some b))
-    state_is = λ i. standing (h.change.writes.nature i).kind (holdings_are i)
+    state_is = honest_state c honest_now ∙ (λ i. standing (h.change.writes.nature i).kind (holdings_are i)) ∙ sym (ap (holds_at x.table.remote now) (honest_state b honest))
 
     source_is : target.serves.at.source ≡ x.server.at.source
     source_is = ap (λ (s : ServerObject). s.source) (some_same target.serves.at x.server.at (sym target.serves.is ∙ ap (λ (o : Objects). server_named o x.table.server) a.catalog ∙ x.server.is))
@@ -342,12 +353,12 @@ done_agrees e w t answer at count new sound free target_at h a = record {
 
     -- the rows of all tables
     here : AreRowsOf new at rows
-    here = record { box = c; there = h.now; holds = to_swaps (same_shuffled rows) }
+    here = record { box = c; there = h.now; holds = λ is. to_swaps (same_shuffled rows) }
 
     others : (j : ℕ) (d : Attached) → slice_get e.bound j ≡ Some d → j ≢ x.place → Stays e.boxes new d
     others j d at_d ne =
-        stays_elsewhere e.boxes new (λ b c. DoesWrite e.catalog t answer at.number count b c) at.source at.number d h (λ u other. k.leaves.rows u other)
-        (λ source number. ne (sound.bound_once j x.place d at at_d x.there source number))
+        stays_elsewhere e.boxes new (λ b c. DoesWrite e.catalog t answer at.number count b c) at.source at.number d h h.change.writes.nature (λ is u other. k.leaves.rows u other)
+        (λ is source number. ne (sound.bound_once j x.place d at at_d x.there source number))
 
     table_rows : RowsAgree new e.bound (rows_with (target_of t) rows e.catalog.tables w.rows)
     table_rows = rows_changed e.boxes new (target_of t) rows e.catalog.tables e.bound w.rows x.place at x.first x.there here others a.rows
@@ -357,10 +368,27 @@ done_agrees e w t answer at count new sound free target_at h a = record {
 
     agrees : Agrees (with_boxes e new) after
     agrees = record {
-      honest = λ i d at_d. let y = was_there KeepsBox e.boxes new at.source i d keeps_itself keeps at_d in honest_kept y.0 d y.2 (a.honest i y.0 y.1);
       scans = quiet_scans e (with_boxes e new) at.source refl sound.scans (done_quiet e t answer at count new sound free target_at h) (leases_itself e);
       catalog = a.catalog;
       sources = sources;
       rows = subst (λ (o : Objects). RowsAgree new e.bound (rows_with (target_of t) rows o.tables w.rows)) (sym a.catalog) table_rows;
-      sessions = sessions_stay e new w after refl (λ l taken y. written_stands w after (target_of t) rows l refl refl (named_apart w l.table (target_of t) taken (ap (λ f. f (target_of t)) (leases_same e w sound a) ∙ free)) y) (all_stay e new sound.scans a.honest (quiet_left e new at.source (done_quiet e t answer at count new sound free target_at h))) a;
+      sessions = sessions_stay e new w after refl (λ l taken y. written_stands w after (target_of t) rows l refl refl (named_apart w l.table (target_of t) taken (ap (λ f. f (target_of t)) (leases_same e w sound a) ∙ free)) y) (all_stay e new sound.scans (quiet_left e new at.source (done_quiet e t answer at count new sound free target_at h))) a;
     }
+
+-- where its source is shared the world stays as it was
+pub done_unseen : (e : Shown) (w : World) (t : WriteTree) (answer : List Tuple) (at : Attached) (count : ℕ) (new : List (Option BoxState)) → IsSound e → leased e (target_of t) ≡ false → IsTargetAt e.catalog e.bound t at → (h : Done e t answer at count new) → Agrees e w
+    → h.before.nature.honest ≡ false → Agrees (with_boxes e new) w
+done_unseen e w t answer at count new sound free target h a lies = record {
+  scans = quiet_scans e (with_boxes e new) at.source refl sound.scans quiet (leases_itself e);
+  catalog = a.catalog;
+  sources = a.sources ∙ sym (ap (sources_of e.labels) h.slots ∙ sources_set e.labels e.boxes at.source h.before h.after h.there (same_state h.before h.after h.change.writes.nature (λ honest r. absurd (untrue honest))));
+  rows = rows_stay e.boxes new e.bound w.rows
+      (λ j d at_d. stays_elsewhere e.boxes new (λ b c. DoesWrite e.catalog t answer at.number count b c) at.source at.number d h h.change.writes.nature (λ honest u other. absurd (untrue honest)) (λ honest same number. absurd (untrue honest))) a.rows;
+  sessions = sessions_still e new w w refl refl refl (all_stay e new sound.scans (quiet_left e new at.source quiet)) a;
+}
+  where
+    untrue : is_honest h.before → ⊥
+    untrue honest = false≢true (sym lies ∙ honest)
+
+    quiet : ChangesAt e.boxes at.source IsQuiet new
+    quiet = done_quiet e t answer at count new sound free target h

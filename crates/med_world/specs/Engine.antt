@@ -1,5 +1,5 @@
 -- What an engine shows, when its calls may be made, and when a world agrees with it.
-use Rattle.std.specs.Prelude.{◌≡◌, ◌<◌, ◌≤◌, ◌-◌, ◌^◌, ℕ, zero, suc, Bool, true, false, List, [], ◌∷◌, ◌++◌, map, length, Option, Some, None, min, slice_get, slice_set, Contains, IsPermutation, bytes_eq, IsSome}
+use Rattle.std.specs.Prelude.{◌≡◌, ◌<◌, ◌≤◌, ◌-◌, ◌^◌, ℕ, zero, suc, Bool, true, false, List, [], ◌∷◌, ◌++◌, map, length, Option, Some, None, cond, min, slice_get, slice_set, Contains, IsPermutation, bytes_eq, IsSome}
 use Rattle.std.specs.List.{IsDistinct}
 use Rattle.med_value.specs.declared.cause.Cause.{Cause}
 use Rattle.med_syntax.specs.Tree.{Name}
@@ -31,7 +31,7 @@ use Rattle.med_catalog.specs.Changes.{AreDeclared, ObjectChange, new_table, no_s
 use Rattle.open_cursors.specs.Counted.{ReadsTables}
 use Rattle.open_cursors.specs.Fetching.{HasRisen, PullsFetched}
 use Rattle.open_cursors.specs.Open.{Opened, Seated, leases_table, any_leases}
-use Rattle.sql_meaning.specs.World.{World, Cursor, Session, Source, SourceState, standing, dropped, with_session, without_sessions, beside_without}
+use Rattle.sql_meaning.specs.World.{World, Cursor, Session, Source, SourceState, standing, shared, dropped, with_session, without_sessions, beside_without}
 use Rattle.sql_meaning.specs.Cursors.{cursor_named, IsBareQuery}
 use Rattle.med_world.specs.Selecting.{PullsAgreed}
 use Rattle.open_cursors.specs.Starting.{OpensEach}
@@ -197,19 +197,19 @@ pub record IsSound (e : Shown) : Type 0 where
 
 -- ---- a world that agrees
 
--- what a world has of a source
+-- what a world has of a source: it is shared where its box is not honest
 abbrev pub state_of : Option BoxState → SourceState
 state_of None = dropped
-state_of (Some s) = standing s.nature.kind s.content.holdings
+state_of (Some s) = cond s.nature.honest (standing s.nature.kind s.content.holdings) (shared s.nature.kind)
 
 abbrev pub sources_of : List Label → List (Option BoxState) → List Source
 sources_of [] boxes = []
 sources_of (l ∷ ls) [] = []
 sources_of (l ∷ ls) (b ∷ bs) = record { name = l.name; kind = l.kind; state = state_of b } ∷ sources_of ls bs
 
--- the rows of a table are those that its box shows, in any order
+-- the rows of a table are those that its box shows, in any order, where that is honest
 abbrev pub AreRowsOf : List (Option BoxState) → Attached → List Held → Type 0
-AreRowsOf boxes a rows = BoxAt boxes a.source (λ s. IsPermutation (map held (rows_of s a.number)) rows)
+AreRowsOf boxes a rows = BoxAt boxes a.source (λ s. is_honest s → IsPermutation (map held (rows_of s a.number)) rows)
 
 abbrev pub RowsAgree : List (Option BoxState) → List Attached → List (List Held) → Type 0
 RowsAgree boxes [] [] = Unit {0}
@@ -217,9 +217,8 @@ RowsAgree boxes (a ∷ more) (r ∷ rs) = AreRowsOf boxes a r × RowsAgree boxes
 RowsAgree boxes [] (r ∷ rs) = ⊥
 RowsAgree boxes (a ∷ more) [] = ⊥
 
--- An engine stands for a world. Its boxes are honest, since of no other box the rows are known.
+-- An engine stands for a world.
 pub record Agrees (e : Shown) (w : World) : Type 0 where
-  pub honest : EachBox is_honest e.boxes
   pub catalog : w.catalog ≡ e.catalog
   pub sources : w.sources ≡ sources_of e.labels e.boxes
   pub rows : RowsAgree e.boxes e.bound w.rows

@@ -1,10 +1,11 @@
 -- What an engine has of its sessions and their cursors, and when a world's sessions agree with it.
-use Rattle.std.specs.Prelude.{◌≡◌, ◌-◌, ◌≤◌, ℕ, List, [], ◌∷◌, ◌++◌, map, length, Option, Some, None, IsSome, option_map, slice_get, Contains}
+use Rattle.std.specs.Prelude.{◌≡◌, ◌-◌, ◌≤◌, ℕ, false, List, [], ◌∷◌, ◌++◌, map, length, Option, Some, None, IsSome, option_map, slice_get, Contains}
 use Rattle.med_value.specs.Datum.{Tuple}
 use Rattle.med_syntax.specs.Tree.{Name}
 use Rattle.med_query.specs.Query.{IsAnswer}
 use Rattle.fdw_api.specs.State.{BoxState}
-use Rattle.med_exec.specs.Pulling.{GivesAsTheyCome}
+use Rattle.scan_loops.specs.Running.{HonestFor}
+use Rattle.med_exec.specs.Pulling.{levels_in, GivesAsTheyCome}
 use Rattle.med_exec.specs.Rests.{Rests}
 use Rattle.med_catalog.specs.Objects.{table_named}
 use Rattle.open_cursors.specs.Open.{Opened, Seated, AreNamedApart, opened_named}
@@ -70,16 +71,18 @@ pub record StillStands (w : World) (l : Leased) : Type 0 where
   pub there : IsSome (table_named w.catalog l.table)
   pub rows : l.rows ≡ cells_of (rows_named l.table w.catalog.tables w.rows)
 
--- The cursor of a world is the engine's: its names and tables are, which stand as they stood at DECLARE; and what it has handed out,
--- followed by any rows that its run may still give, is an answer over them. The run of one over all rows of one table shows them as they
--- come.
+-- The cursor of a world is the engine's: its names and tables are, which stand as they stood at DECLARE. Where the source of none of them is
+-- shared, its run reads honest boxes alone, and what it has handed out, followed by any rows that its run may still give, is an answer over
+-- them. The run of one over all rows of one table shows them as they come.
 pub record CursorAgrees (boxes : List (Option BoxState)) (w : World) (o : Opened) (c : Cursor) : Type 0 where
   pub name : c.name ≡ o.name
   pub names : c.names ≡ o.names
   pub leases : map (λ (l : Leased). l.table) c.reads ≡ o.leases
   pub stand : (l : Leased) → Contains c.reads l → StillStands w l
-  pub some : (rows : List Tuple) × Rests o.run boxes rows
-  pub answers : (rows : List Tuple) → Rests o.run boxes rows → IsAnswer c.query (rows_leased c.reads) (c.handed ++ rows)
+  pub some : c.shared ≡ false → (rows : List Tuple) × Rests o.run boxes rows
+  pub honest : c.shared ≡ false → HonestFor (levels_in o.run) boxes
+  pub answers : c.shared ≡ false → (rows : List Tuple) → Rests o.run boxes rows
+      → IsAnswer c.query (rows_leased c.reads) (c.handed ++ rows)
   pub bare : IsBareQuery c.query → GivesAsTheyCome o.run
 
 -- one cursor for each, in their order

@@ -10,7 +10,7 @@ use Rattle.fdw_api.specs.State.{BoxState}
 use Rattle.fdw_api.specs.declared.interface.Fault.{Fault}
 use Rattle.med_binder.specs.Place.{Place}
 use Rattle.med_exec.specs.Slots.{ChangesAt}
-use Rattle.med_exec.specs.Running.{AllServed, AllHonest}
+use Rattle.med_exec.specs.Running.{AllServed, HonestOver}
 use Rattle.med_catalog.specs.Objects.{Objects}
 use Rattle.bind_names.specs.Scope.{place_named}
 use Rattle.med_binder.specs.Places.{Attached, ArePlaces}
@@ -48,6 +48,13 @@ pub record FailsQuery (o : Objects) (bound : List Attached) (q : SelectTree) (ol
   pub places : List Place
   pub are : ArePlaces bound (meant_by o q).entries places
   pub fails : RunFails (query_of (meant_by o q)) places c old new
+
+-- a box of one of its tables is not honest, and it is no larger than it may be
+pub record IsUntyped (o : Objects) (bound : List Attached) (q : SelectTree) (old : List (Option BoxState)) : Type 0 where
+  pub few : is_large_form (meant_by o q).form ≡ false
+  pub places : List Place
+  pub are : ArePlaces bound (meant_by o q).entries places
+  pub lies : HonestOver places old → ⊥
 
 -- the rows that a write is given by a query: those of its answer; none where there is no query, and then no box is asked
 abbrev pub GivesRows : Objects → List Attached → GivenTree → List (Option BoxState) → List Tuple → List (Option BoxState) → Type 0
@@ -118,5 +125,5 @@ pub data WriteFails (o : Objects) (user : Name) (bound : List Attached) (t : Wri
       → OfQuery (λ q. FailsQuery o bound q old c new) t → WriteFails o user bound t leased old c new
   box_refuses : IsBindable o user t → leased ≡ false → RefusesRows o bound t old c new → WriteFails o user bound t leased old c new
   -- the rows of an INSERT's query are of other types than its sources say, which no honest box gives
-  rows_untyped : IsBindable o user t → leased ≡ false → (AllHonest old → ⊥) → c ≡ SourceFault → AllServed old new
+  rows_untyped : IsBindable o user t → leased ≡ false → OfQuery (λ q. IsUntyped o bound q old) t → c ≡ SourceFault → AllServed old new
       → WriteFails o user bound t leased old c new

@@ -15,7 +15,7 @@ ghost use Rattle.write_parts.specs.Meaning.{target_of};
 ghost use Rattle.med_syntax.specs.CursorTree.{CountTree, CursorTree, declare, fetch, close};
 ghost use Rattle.med_parser.specs.CommandTree.{CommandTree, on_data, on_rows, on_cursors, on_objects};
 ghost use Rattle.med_parser.specs.CommandCauses.{SyntaxCauses};
-ghost use Rattle.fdw_api.specs.State.{BoxState, IsIdle, is_honest};
+ghost use Rattle.fdw_api.specs.State.{BoxState, IsIdle};
 ghost use Rattle.fdw_api.specs.Calls.{CanBind, CanUnbind, NoScan};
 ghost use Rattle.med_exec.specs.Slots.{BoxAt};
 ghost use Rattle.med_exec.specs.Running.{ServesRun, none_held};
@@ -37,7 +37,7 @@ ghost use Rattle.sql_meaning.specs.Cursors.{rows_leased, Fetched, AreFetched, Is
 ghost use Rattle.sql_meaning.specs.Replies.{done, answered, refused};
 ghost use Rattle.sql_meaning.specs.Steps.{TakesMemory, write_tag, ddl_tag};
 ghost use Rattle.med_world.specs.Seats.{seat_of, user_of, new_seat};
-ghost use Rattle.med_world.specs.Engine.{Shown, leased, EachBox, IsAtRest, IsSound, IsServerAt, TakesAs, Agrees, Leads, Closes, ClosesAll};
+ghost use Rattle.med_world.specs.Engine.{Shown, leased, EachBox, IsAtRest, IsSound, IsServerAt, TakesAs, state_of, Agrees, Leads, Closes, ClosesAll};
 ghost use Rattle.med_world.specs.Turning.{new_opened, with_cursors, having_asked, IsOfOpen, Ends};
 ghost use Rattle.med_world.specs.Altering.{IsAllowed, IsAltered, NotAltered};
 ghost use Rattle.med_world.specs.Selecting.{Selects, SelectFails};
@@ -55,12 +55,12 @@ pub fn engines_begin()
         → Agrees (empty_shown owner seats) (empty_world owner) }
 {}
 
-/// A source that is added leaves an engine sound, and in agreement with the worlds that have it too.
+/// A source that is added leaves an engine sound, and in agreement with the worlds that have it too: shared where its box is not honest.
 pub fn sources_are_added()
     ensures sound { (e n : Shown) (name : List ℕ) (kind : AnyKind) (b : BoxState) → Adds e name kind b n → IsSound e → IsIdle b
         → TakesAs kind b → IsSound n }
     ensures agrees { (e n : Shown) (name : List ℕ) (kind : AnyKind) (b : BoxState) → Adds e name kind b n → IsSound e → IsIdle b
-        → (w : World) → Agrees e w → is_honest b → Agrees n (with_source w name kind b.nature.kind b.content.holdings) }
+        → (w : World) → Agrees e w → Agrees n (with_source w name kind (state_of (Some b))) }
 {
     tables_stay_sound();
 }
@@ -139,11 +139,11 @@ pub fn syntax_asks_no_pick()
 /// A query that is answered, or refused.
 pub fn queries_lead()
     ensures answered { (e : Shown) (new : List (Option BoxState)) (sid : ℕ) (text : List ℕ) (user : Name) (q : SelectTree)
-        (names : List Name) (given : List Tuple) → IsRead e sid text user (on_data (select q))
+        (names : List Name) (given : List Tuple) → IsRead e sid text user (on_data (select q)) → IsSound e
         → Selects e.catalog user e.bound q e.boxes names given new
         → Leads e sid (sql text) (answered (codes "SELECT") names given) (with_boxes e new) }
     ensures refused { (e : Shown) (new : List (Option BoxState)) (sid : ℕ) (text : List ℕ) (user : Name) (q : SelectTree) (c : AnyCause)
-        → IsRead e sid text user (on_data (select q)) → SelectFails e.catalog user e.bound q e.boxes c new
+        → IsRead e sid text user (on_data (select q)) → IsSound e → SelectFails e.catalog user e.bound q e.boxes c new
         → Leads e sid (sql text) (refused c) (with_boxes e new) }
     ensures answered_sound { (e : Shown) (new : List (Option BoxState)) (user : Name) (q : SelectTree) (names : List Name)
         (given : List Tuple) → IsSound e → Selects e.catalog user e.bound q e.boxes names given new → IsSound (with_boxes e new) }
@@ -179,7 +179,7 @@ pub fn cursors_lead()
         (with_cursors e sid seat (seat.cursors ++ new_opened name names q run ∷ []) new) }
     ensures not_declared { (e : Shown) (new : List (Option BoxState)) (sid : ℕ) (text : List ℕ) (seat : Seated) (name : Name)
         (q : SelectTree) (c : AnyCause) → IsRead e sid text seat.user (on_cursors (declare name (select q)))
-        → seat_of e.seats sid ≡ Some seat → opened_named name seat.cursors ≡ None
+        → seat_of e.seats sid ≡ Some seat → IsSound e → opened_named name seat.cursors ≡ None
         → StartFails e.catalog seat.user e.bound q (is_full seat.cursors) e.boxes c new
         → Leads e sid (sql text) (refused c) (with_boxes e new) }
     ensures exists { (e : Shown) (sid : ℕ) (text : List ℕ) (seat : Seated) (name : Name) (q : SelectTree)

@@ -2,6 +2,7 @@
 -- BeginForeignScan).
 use Rattle.std.specs.Prelude.{◌≡◌, ◌<◌, Bool, true, false, List, length, map, Option}
 use Rattle.med_value.specs.Datum.{Tuple}
+use Rattle.med_value.specs.Causes.{phase_of}
 use Rattle.med_value.specs.declared.cause.Cause.{Cause}
 use Rattle.med_value.specs.declared.cause.Cause.TheVariants.{FeatureNotSupported, LimitExceeded, OutOfMemory, SourceFault}
 use Rattle.med_syntax.specs.Tree.{Name}
@@ -10,6 +11,7 @@ use Rattle.bind_names.specs.Scope.{query_entries, query_scope}
 use Rattle.med_query.specs.Query.{Query, Tables, SameRows, IsAnswer}
 use Rattle.med_query.specs.Form.{form_of, query_by, is_risky_form}
 use Rattle.med_planner.specs.Plain.{IsPlainForm, IsBareForm}
+use Rattle.fdw_api.specs.Kinds.{is_of_run}
 use Rattle.fdw_api.specs.State.{BoxState}
 use Rattle.med_binder.specs.Place.{Place, entry_place}
 use Rattle.med_binder.specs.Counted.{bound_widths}
@@ -79,13 +81,13 @@ pub record Starts (o : Objects) (user : Name) (bound : List Attached) (q : Selec
   pub bare : IsBareForm (meant_by o q).form → GivesAsTheyCome run
   pub opens : OpensEach o q places run new
 
--- why the run of a query was not begun
+-- Why the run of a query was not begun. Where it shows the cause that is one of the run, of boxes that are honest at least.
 pub data RunFails (q : Query) (places : List Place) (c : Cause) (old new : List (Option BoxState)) : Type 0 where
   no_memory : c ≡ OutOfMemory → RunFails q places c old new
   box_fails : c ≡ SourceFault → SlotShows old new HasFailed → RunFails q places c old new
   numbers_out : c ≡ LimitExceeded → SlotShows old new IsUsedUp → RunFails q places c old new
-  shows_cause : (HonestOver places old → (db : Tables) → SameRows (entry_rows old places) db → IsShownCause q db c)
-      → RunFails q places c old new
+  shows_cause : is_of_run (phase_of c) ≡ true
+      → (HonestOver places old → (db : Tables) → SameRows (entry_rows old places) db → IsShownCause q db c) → RunFails q places c old new
 
 -- Why it was not begun. `full` says that the session has as many cursors as it may have.
 pub data StartFails (o : Objects) (user : Name) (bound : List Attached) (q : SelectTree) (full : Bool) (old : List (Option BoxState))

@@ -1,15 +1,16 @@
 -- The causes of refusal that stand for a request in a world: a set of causes, with no order of checks.
-use Rattle.std.specs.Prelude.{◌≡◌, ◌<◌, ◌≤◌, ◌⊎◌, ℕ, zero, suc, true, List, [], ◌∷◌, map, flat_map, length, Option, Some, None, IsSome, Contains, IsPermutation, unwrap_or}
+use Rattle.std.specs.Prelude.{◌≡◌, ◌<◌, ◌≤◌, ◌⊎◌, ℕ, zero, suc, Bool, true, false, List, [], ◌∷◌, map, flat_map, length, Option, Some, None, IsSome, Contains, IsPermutation, unwrap_or, slice_get}
+use Rattle.std.specs.List.{list_any}
 use Rattle.med_value.specs.Causes.{phase_of}
 use Rattle.med_value.specs.declared.cause.Cause.{Cause}
-use Rattle.med_value.specs.declared.cause.Cause.TheVariants.{Protocol, NoConnection, LimitExceeded, UnableToConnect, InUse, NotNull, DuplicateCursor, InvalidCursorName, FeatureNotSupported}
+use Rattle.med_value.specs.declared.cause.Cause.TheVariants.{Protocol, NoConnection, LimitExceeded, UnableToConnect, InUse, NotNull, DuplicateCursor, InvalidCursorName, FeatureNotSupported, SourceFault}
 use Rattle.med_syntax.specs.Tree.{Name}
 use Rattle.med_syntax.specs.QueryTree.{SelectTree, select}
 use Rattle.tri_expr.specs.declared.expr.Fault.{Fault as Wrong}
 use Rattle.tri_expr.specs.Verdict.{fault_list}
 use Rattle.med_query.specs.Query.{Query, Tables}
 use Rattle.med_query.specs.Form.{query_by, is_risky_form}
-use Rattle.fdw_api.specs.Kinds.{Kind, Entry, Holding, Held, Reading}
+use Rattle.fdw_api.specs.Kinds.{Kind, Entry, Holding, Held, Reading, is_late, is_of_run}
 use Rattle.fdw_api.specs.Calls.{Picks}
 use Rattle.med_parser.specs.CommandCauses.{SyntaxCauses}
 use Rattle.bind_names.specs.Meaning.{Meant}
@@ -33,7 +34,7 @@ use Rattle.med_parser.specs.CommandGrammar.{HasCommand}
 use Rattle.med_value.specs.Limits.{cursor_limit}
 use Rattle.sql_meaning.specs.Picks.{Pick, PicksAnswer, IsNumbering, as_given}
 use Rattle.sql_meaning.specs.Requests.{AskedLine, opening, sql, bye, IsUser}
-use Rattle.sql_meaning.specs.World.{World, Session, IsOpen, cells_of, rows_in, rows_named, IsFree, Serves, is_leased}
+use Rattle.sql_meaning.specs.World.{World, Session, IsOpen, cells_of, rows_in, rows_named, IsFree, Serves, is_shared_server, is_shared, is_leased}
 use Rattle.sql_meaning.specs.Cursors.{cursor_named}
 use Rattle.sql_meaning.specs.Sizes.{is_large_form}
 
@@ -67,9 +68,14 @@ entries_in w q = entry_tables (meant_over w q).entries (rows_in w.rows)
 abbrev pub QueryState : World → SelectTree → Cause → Type 0
 QueryState w q c = (is_large_form (meant_over w q).form ≡ true) × (c ≡ LimitExceeded)
 
--- Phase 6: the faults that the query shows over the rows of its entries, and 54000 where it groups too many of them.
+-- the source of one of the tables that it reads is shared
+abbrev pub reads_shared : World → SelectTree → Bool
+reads_shared w q = list_any (λ place. is_shared w (slice_get w.catalog.tables place)) (meant_over w q).entries
+
+-- Phase 6: the faults that the query shows over the rows of its entries, and 54000 where it groups too many of them. None stands where
+-- it reads a shared source.
 abbrev pub QueryRun : World → SelectTree → Cause → Type 0
-QueryRun w q c = IsShownCause (query_of (meant_over w q)) (entries_in w q) c
+QueryRun w q c = (reads_shared w q ≡ false) × IsShownCause (query_of (meant_over w q)) (entries_in w q) c
 
 abbrev pub SelectCauses : World → Name → SelectTree → Cause → Type 0
 SelectCauses w user q c = QueryNames w.catalog user q c ⊎ (QueryTypes w.catalog q c ⊎ (QueryState w q c ⊎ QueryRun w q c))
@@ -121,7 +127,11 @@ columns_over w t = map written_column (columns_in (shapes w.catalog) (target_of 
 abbrev pub rows_held : World → WriteTree → List Held
 rows_held w t = rows_named (target_of t) w.catalog.tables w.rows
 
--- the table that is written, and what its source is
+-- the source of the table that is written is shared
+abbrev pub writes_shared : World → WriteTree → Bool
+writes_shared w t = is_shared w (table_named w.catalog (target_of t))
+
+-- the table that is written, and what its source is, which is not shared
 pub record IsTarget (w : World) (t : WriteTree) (table : TableObject) (kind : Kind) (holdings : Name → Holding) : Type 0 where
   pub there : table_named w.catalog (target_of t) ≡ Some table
   pub serves : Serves w table.server kind holdings
@@ -137,12 +147,13 @@ pub record IsRefused (w : World) (p : Pick) (t : WriteTree) (c : Cause) : Type 0
   pub stands : Contains ((kind.refuses table.columns table.settings).causes p.entry p.rows (changes_of (write_over w t) p.answer p.read)) c
 
 -- Phase 6: 22003 and 22012 for a fault of WHERE on a row of the table, or of a cell that is written; 23502 for NULL in a NOT NULL column of
--- a row that is written; what the source's kind refuses; and what stands against the run of an INSERT's query.
+-- a row that is written; what the source's kind refuses; and what stands against the run of an INSERT's query. Of a table whose source is
+-- shared only the last can stand.
 pub data WriteRun (w : World) (p : Pick) (t : WriteTree) (c : Cause) : Type 0 where
-  has_fault : (f : Wrong) → Contains (write_faults (write_over w t) (cells_of (rows_held w t)) p.answer) f → c ≡ wrong_cause f
-      → WriteRun w p t c
-  lacks_value : write_lacks (columns_over w t) (write_over w t) (cells_of (rows_held w t)) p.answer ≡ true → c ≡ NotNull
-      → WriteRun w p t c
+  has_fault : writes_shared w t ≡ false → (f : Wrong) → Contains (write_faults (write_over w t) (cells_of (rows_held w t)) p.answer) f
+      → c ≡ wrong_cause f → WriteRun w p t c
+  lacks_value : writes_shared w t ≡ false → write_lacks (columns_over w t) (write_over w t) (cells_of (rows_held w t)) p.answer ≡ true
+      → c ≡ NotNull → WriteRun w p t c
   is_refused : IsRefused w p t c → WriteRun w p t c
   query_shows : OfQuery (λ q. QueryRun w q c) t → WriteRun w p t c
 
@@ -197,12 +208,13 @@ Stands w sid p request c = FrameCauses w sid request c ⊎ StatementCauses w sid
 abbrev pub PicksEntry : World → TableObject → Pick → Type 0
 PicksEntry w t p = (kind : Kind) (holdings : Name → Holding) → Serves w t.server kind holdings → Picks (holdings t.remote) p.entry
 
--- what is open of a write
+-- what is open of a write; of rows of which nothing is known, anything
 pub record PicksWrite (w : World) (t : WriteTree) (p : Pick) : Type 0 where
   pub entry : (table : TableObject) → table_named w.catalog (target_of t) ≡ Some table → PicksEntry w table p
-  pub rows : IsNumbering (rows_held w t) p.rows
+  pub rows : writes_shared w t ≡ false → IsNumbering (rows_held w t) p.rows
   pub read : IsPermutation (map as_given p.rows) p.read
-  pub answer : (q : SelectTree) → OfQuery (λ r. r ≡ q) t → PicksAnswer (query_of (meant_over w q)) (entries_in w q) p.answer
+  pub answer : (q : SelectTree) → OfQuery (λ r. r ≡ q) t → reads_shared w q ≡ false
+      → PicksAnswer (query_of (meant_over w q)) (entries_in w q) p.answer
 
 -- no cause of names, rights, types or state stands against the write
 abbrev pub IsWritable : World → Name → WriteTree → Type 0
@@ -243,6 +255,26 @@ pub record IsTold (w : World) (sid : ℕ) (p : Pick) (request : AskedLine) (c : 
 abbrev pub NoneStands : World → ℕ → Pick → AskedLine → Type 0
 NoneStands w sid p request = (c : Cause) → Stands w sid p request c → ⊥
 
--- no cause of phases 1 to 4 stands, whatever is picked
+-- no cause of phases 1 to 4 stands, whatever is picked, and none of phases 1 to 5
 abbrev pub NoneBeforeState : World → ℕ → AskedLine → Type 0
 NoneBeforeState w sid request = (p : Pick) (c : Cause) → Stands w sid p request c → 4 < phase c
+
+abbrev pub NoneBeforeRun : World → ℕ → AskedLine → Type 0
+NoneBeforeRun w sid request = (p : Pick) (c : Cause) → Stands w sid p request c → 5 < phase c
+
+-- ---- what rests on a shared source
+
+-- The statement reads or writes a table whose source is shared, or makes one.
+abbrev pub RestsOnShared : World → Session → CommandTree → Type 0
+RestsOnShared w s (on_data (select q)) = reads_shared w q ≡ true
+RestsOnShared w s (on_rows t) = (writes_shared w t ≡ true) ⊎ OfQuery (λ q. reads_shared w q ≡ true) t
+RestsOnShared w s (on_cursors (declare name (select q))) = reads_shared w q ≡ true
+RestsOnShared w s (on_cursors other) = ⊥
+RestsOnShared w s (on_objects d) = (t : TableObject) × Asks w.catalog s.user d (new_table t) × (is_shared_server w t.server ≡ true)
+
+-- What such a source may show against it: a cause of the run; against a table that is made also one of state; and of a write, that its
+-- rows cannot be told apart or are not of their columns' types, by HV000.
+abbrev pub MayShow : CommandTree → Cause → Type 0
+MayShow (on_rows t) c = (is_of_run (phase_of c) ≡ true) ⊎ (c ≡ SourceFault)
+MayShow (on_objects d) c = is_late (phase_of c) ≡ true
+MayShow other c = is_of_run (phase_of c) ≡ true

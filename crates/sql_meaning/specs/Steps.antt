@@ -19,8 +19,8 @@ use Rattle.med_parser.specs.CommandTree.{CommandTree, on_data, on_rows, on_curso
 use Rattle.sql_meaning.specs.Cursors.{cursor_named, with_cursor, without_cursor, with_handed, Fetches}
 use Rattle.sql_meaning.specs.Picks.{Pick}
 use Rattle.sql_meaning.specs.Requests.{AskedLine, opening, sql, bye}
-use Rattle.sql_meaning.specs.World.{World, Leased, Cursor, Session, cells_of, rows_named, beside_without, rows_with, drop_source_of, with_state, holds_at, with_session, new_session}
-use Rattle.sql_meaning.specs.Causes.{query_of, meant_over, entries_in, Reads, write_over, rows_held, IsTarget, IsStatementOf, IsPickOf, IsTold, NoneStands, NoneBeforeState}
+use Rattle.sql_meaning.specs.World.{World, Leased, Cursor, Session, cells_of, rows_named, is_shared_server, beside_without, rows_with, drop_source_of, with_state, holds_at, with_session, new_session}
+use Rattle.sql_meaning.specs.Causes.{query_of, meant_over, entries_in, reads_shared, Reads, write_over, rows_held, writes_shared, IsTarget, IsStatementOf, IsPickOf, IsTold, NoneStands, NoneBeforeState, NoneBeforeRun, RestsOnShared, MayShow}
 use Rattle.sql_meaning.specs.Replies.{Reply, done, answered, refused, rows_tag}
 
 -- What befell one request: a growth was refused; it is a FETCH and had asked its cursor for a row; a source failed; a box has given all its
@@ -39,22 +39,26 @@ TakesMemory bye = ⊥
 
 -- ---- what statements do
 
--- a query answers its output names, and an answer over the rows of the entries of its cores
+-- a query answers its output names, and an answer over the rows of the entries of its cores: any rows where it reads a shared source
 abbrev pub Answers : World → SelectTree → Reply → Type 0
 Answers w q reply =
     let m = meant_over w q in
-    (rows : List Tuple) × IsAnswer (query_of m) (entries_in w q) rows × (reply ≡ answered (codes "SELECT") m.names rows)
+    (rows : List Tuple) × (reads_shared w q ≡ false → IsAnswer (query_of m) (entries_in w q) rows) × (reply ≡ answered (codes "SELECT") m.names rows)
 
 -- the world with other objects
 abbrev pub with_catalog : World → ObjectChange → World
 with_catalog w change = record w { catalog = changed change w.catalog }
 
--- A new table has the rows that its source's kind reads from the entry; a table that goes takes its rows along; a server that goes drops
--- its source. Other changes are of the catalogue alone.
+-- the rows of a new table: those that its source's kind reads from the entry, against which no cause stands; any where it is shared
+pub data HasRows (w : World) (p : Pick) (t : TableObject) (rows : List Held) : Type 0 where
+  as_read : (reading : Reading) → Reads w t p.entry reading → reading.causes ≡ [] → rows ≡ reading.rows → HasRows w p t rows
+  any_rows : is_shared_server w t.server ≡ true → HasRows w p t rows
+
+-- A new table has its rows; a table that goes takes its rows along; a server that goes drops its source. Other changes are of the
+-- catalogue alone.
 abbrev pub Changes : World → Pick → ObjectChange → World → Type 0
 Changes w p (new_table t) new =
-    (reading : Reading) × Reads w t p.entry reading × (reading.causes ≡ [])
-    × (new ≡ record (with_catalog w (new_table t)) { rows = w.rows ++ reading.rows ∷ [] })
+    (rows : List Held) × HasRows w p t rows × (new ≡ record (with_catalog w (new_table t)) { rows = w.rows ++ rows ∷ [] })
 Changes w p (no_table name) new = new ≡ record (with_catalog w (no_table name)) { rows = beside_without name w.catalog.tables w.rows }
 Changes w p (no_server name) new =
     new ≡ record (with_catalog w (no_server name)) { sources = drop_source_of (server_named w.catalog name) w.sources }
@@ -86,9 +90,14 @@ write_tag (insert i) n = rows_tag (codes "INSERT 0") n
 write_tag (update u) n = rows_tag (codes "UPDATE") n
 write_tag (delete d) n = rows_tag (codes "DELETE") n
 
+-- A write of n rows changes the world so; where the source of its table is shared the world stays, as it says nothing of that table.
+pub data WritesIn (w : World) (p : Pick) (t : WriteTree) (n : ℕ) (new : World) : Type 0 where
+  is_written : Writes w p t n new → WritesIn w p t n new
+  is_unseen : writes_shared w t ≡ true → new ≡ w → WritesIn w p t n new
+
 -- a write is answered by its tag
 abbrev pub RowsDo : World → Pick → WriteTree → Reply → World → Type 0
-RowsDo w p t reply new = (n : ℕ) × (reply ≡ done (write_tag t n)) × Writes w p t n new
+RowsDo w p t reply new = (n : ℕ) × (reply ≡ done (write_tag t n)) × WritesIn w p t n new
 
 -- the tag of a statement on objects
 abbrev pub ddl_tag : DdlTree → List ℕ
@@ -109,15 +118,16 @@ leased_now w q =
 -- the cursor that DECLARE opens
 abbrev pub new_cursor : World → Name → SelectTree → Cursor
 new_cursor w name q =
-    let m = meant_over w q in record { name = name; names = m.names; query = query_of m; reads = leased_now w q; handed = [] }
+    let m = meant_over w q in
+    record { name = name; names = m.names; query = query_of m; reads = leased_now w q; shared = reads_shared w q; handed = [] }
 
 -- DECLARE opens a cursor over the tables as they stand. FETCH is answered by the output names and rows, which the cursor has then handed
--- out. CLOSE ends the cursor.
+-- out: any rows where a source is shared. CLOSE ends the cursor.
 abbrev pub Turns : World → ℕ → Session → CursorTree → Reply → World → Type 0
 Turns w sid s (declare name (select q)) reply new =
     (reply ≡ done (codes "DECLARE CURSOR")) × (new ≡ with_session w sid (Some (with_cursor s (new_cursor w name q))))
 Turns w sid s (fetch asked name) reply new =
-    (c : Cursor) × (cursor_named name s ≡ Some c) × ((rows : List Tuple) × Fetches c asked rows
+    (c : Cursor) × (cursor_named name s ≡ Some c) × ((rows : List Tuple) × (c.shared ≡ false → Fetches c asked rows)
     × (reply ≡ answered (codes "FETCH") c.names rows) × (new ≡ with_session w sid (Some (with_handed s name rows))))
 Turns w sid s (close name) reply new =
     (reply ≡ done (codes "CLOSE CURSOR")) × (new ≡ with_session w sid (Some (without_cursor s name)))
@@ -169,3 +179,6 @@ pub data Step (w : World) (sid : ℕ) (request : AskedLine) (t : Trouble) (reply
       → reply ≡ refused SourceFault → Loses w sid s tree new → Step w sid request t reply new
   numbers_end : t.numbers ≡ true → (s : Session) (tree : CommandTree) → IsStatementOf w sid request s tree → NoneBeforeState w sid request
       → MayBegin tree → reply ≡ refused LimitExceeded → new ≡ w → Step w sid request t reply new
+  -- over a shared source a cause may be told that this may show, unless one of phases 1 to 5 stands
+  shared_shows : (s : Session) (tree : CommandTree) (c : Cause) → IsStatementOf w sid request s tree → RestsOnShared w s tree
+      → MayShow tree c → NoneBeforeRun w sid request → reply ≡ refused c → new ≡ w → Step w sid request t reply new

@@ -1,6 +1,6 @@
 -- The world of the SQL meaning: the catalogue, sources, the rows of the foreign tables, and open sessions with their cursors. No box, scan
 -- or memory is in it.
-use Rattle.std.specs.Prelude.{◌≡◌, ℕ, zero, suc, Bool, false, ◌||◌, List, [], ◌∷◌, ◌++◌, Option, Some, None, IsSome, find, bytes_eq, map, cond, if◌then◌else◌}
+use Rattle.std.specs.Prelude.{◌≡◌, ◌≢◌, ℕ, zero, suc, Bool, true, false, ◌||◌, List, [], ◌∷◌, ◌++◌, Option, Some, None, IsSome, find, bytes_eq, map, cond, if◌then◌else◌}
 use Rattle.std.specs.List.{list_any}
 use Rattle.med_value.specs.Datum.{Tuple}
 use Rattle.med_syntax.specs.Tree.{Name}
@@ -13,9 +13,11 @@ use Rattle.med_value.specs.Limits.{session_count}
 
 -- ---- sources
 
--- A source stands, with what its kind means and what it stores under each remote name, or it was dropped and holds nothing.
+-- A source stands, with what its kind means and what it stores under each remote name. It is shared where others may write it too: it
+-- stands, and nothing is known of what it holds. Or it was dropped and holds nothing.
 pub data SourceState : Type 0 where
   standing : Kind → (Name → Holding) → SourceState
+  shared : Kind → SourceState
   dropped : SourceState
 
 -- A source (the external data that a foreign server of ISO/IEC 9075-9 manages). Dropped, it keeps its name and its place.
@@ -32,12 +34,13 @@ pub record Leased : Type 0 where
   pub rows : List Tuple
 
 -- A cursor (SQL:2016, <declare cursor>) of the session that has it: its name, its output names, its query, the tables that it reads, one
--- for each entry of FROM of each core, and the rows that it has handed out.
+-- for each entry of FROM of each core, whether the source of one of them is shared, and the rows that it has handed out.
 pub record Cursor : Type 0 where
   pub name : Name
   pub names : List Name
   pub query : Query
   pub reads : List Leased
+  pub shared : Bool
   pub handed : List Tuple
 
 -- a session that is open: its user and its cursors, which end with it
@@ -48,7 +51,7 @@ pub record Session : Type 0 where
 -- ---- the world
 
 -- Sources stand in the order in which they came. Each foreign table of the catalogue has its rows, in the order of the tables; the order of
--- the rows of a table means nothing.
+-- the rows of a table means nothing. The rows of a table whose source is shared mean nothing at all.
 pub record World : Type 0 where
   pub catalog : Objects
   pub sources : List Source
@@ -94,7 +97,7 @@ rows_with name now (t ∷ ts) (r ∷ rs) = cond (bytes_eq name t.name) (now ∷ 
 abbrev pub source_named : Name → List Source → Option Source
 source_named name sources = find (λ (s : Source). bytes_eq s.name name) sources
 
--- the source of this name stands, with this kind and these holdings
+-- the source of this name stands, with this kind and these holdings, and is not shared
 pub record IsStanding (w : World) (source : Name) (kind : Kind) (holdings : Name → Holding) : Type 0 where
   pub at : Source
   pub is : source_named source w.sources ≡ Some at
@@ -104,21 +107,43 @@ pub record IsStanding (w : World) (source : Name) (kind : Kind) (holdings : Name
 abbrev pub is_taken : Objects → Name → Bool
 is_taken o source = list_any (λ (s : ServerObject). bytes_eq source s.source) o.servers
 
--- A source that stands serves the server that has taken it, and is free where none has.
+-- A source that was not dropped serves the server that has taken it, and is free where none has.
 pub record IsFree (w : World) (source : Name) (handler : SourceKind) : Type 0 where
   pub at : Source
   pub is : source_named source w.sources ≡ Some at
   pub of_kind : at.kind ≡ handler
-  pub kind : Kind
-  pub holdings : Name → Holding
-  pub state : at.state ≡ standing kind holdings
+  pub there : at.state ≢ dropped
   pub untaken : is_taken w.catalog source ≡ false
 
--- the source of this server stands, with this kind and these holdings
+-- the source of this server stands, with this kind and these holdings, and is not shared
 pub record Serves (w : World) (server : Name) (kind : Kind) (holdings : Name → Holding) : Type 0 where
   pub at : ServerObject
   pub is : server_named w.catalog server ≡ Some at
   pub stands : IsStanding w at.source kind holdings
+
+-- ---- sources that are shared
+
+abbrev pub is_shared_state : SourceState → Bool
+is_shared_state (standing kind holdings) = false
+is_shared_state (shared kind) = true
+is_shared_state dropped = false
+
+-- a source that is there, that of a server, and that of the server of this name
+abbrev pub is_shared_source : Option Source → Bool
+is_shared_source None = false
+is_shared_source (Some s) = is_shared_state s.state
+
+abbrev pub has_shared : List Source → Option ServerObject → Bool
+has_shared sources None = false
+has_shared sources (Some s) = is_shared_source (source_named s.source sources)
+
+abbrev pub is_shared_server : World → Name → Bool
+is_shared_server w server = has_shared w.sources (server_named w.catalog server)
+
+-- a table whose source is shared, if there is the table: nothing is known of its rows
+abbrev pub is_shared : World → Option TableObject → Bool
+is_shared w None = false
+is_shared w (Some t) = is_shared_server w t.server
 
 -- ---- leases
 
@@ -159,6 +184,7 @@ holding_at remote now f r = if bytes_eq r remote then now else f r
 
 abbrev pub holds_at : Name → Holding → SourceState → SourceState
 holds_at remote now (standing kind f) = standing kind (holding_at remote now f)
+holds_at remote now (shared kind) = shared kind
 holds_at remote now dropped = dropped
 
 -- the session is this one, or closed, and its cursors gone with it
@@ -172,10 +198,9 @@ new_session user = record { user = user; cursors = [] }
 abbrev pub without_sessions : World → World
 without_sessions w = record w { sessions = λ sid. None }
 
--- one more source, that is free
-abbrev pub with_source : World → Name → SourceKind → Kind → (Name → Holding) → World
-with_source w name kind meaning holdings =
-    record w { sources = w.sources ++ record { name = name; kind = kind; state = standing meaning holdings } ∷ [] }
+-- one more source
+abbrev pub with_source : World → Name → SourceKind → SourceState → World
+with_source w name kind state = record w { sources = w.sources ++ record { name = name; kind = kind; state = state } ∷ [] }
 
 -- a catalogue of this owner's with nothing in it, no source, and every session closed
 abbrev pub empty_world : Name → World
