@@ -79,7 +79,8 @@ pub fn check_types(
     check_no_aggregate(values)
 }
 
-/// Expressions and a WHERE that see this, with their names resolved (SQL:2016, 14.11 <insert statement>, 14.14 <update statement: searched>).
+/// Expressions and a WHERE that see this, with their names resolved (SQL:2016, 14.9 <delete statement: searched>, 14.14 <update statement:
+/// searched>).
 ///
 /// # Errors
 ///
