@@ -8,7 +8,7 @@ from concurrent.futures import ThreadPoolExecutor
 
 # The longest first.
 TESTS = """run refused_memory launcher limits soak exchanged folders cut_streams shell like_sqlite schemas setup install pages random_objects random_files
-    connections random_writes leaving random_cursors tried"""
+    random_selects connections random_writes leaving random_cursors tried"""
 SCRIPTS = [*(f"tests/{it}" for it in TESTS.split()), "examples/run", "docs/draw"]
 SECONDS = 3600  # after which a script has failed
 

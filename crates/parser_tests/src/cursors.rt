@@ -39,7 +39,14 @@ fn cursors(rt: HostRuntime) -> Result<(), Fail> {
         FETCH 9223372036854775807 c => FETCH 9223372036854775807 FROM \"c\"\n\
         CLOSE c => CLOSE \"c\"\n\
         close \"C d\"; => CLOSE \"C d\"\n\
-        CLOSE close => CLOSE \"close\"",
+        CLOSE close => CLOSE \"close\"\n\
+        FETCH 5 IN \"C d\" => FETCH 5 FROM \"C d\"\n\
+        FETCH 0 c => FetchZero\n\
+        CLOSE => Syntax\n\
+        FETCH -1 c => Syntax\n\
+        DECLARE c SCROLL CURSOR FOR SELECT 1 => Syntax\n\
+        DECLARE c CURSOR FOR DELETE FROM t => Syntax\n\
+        DECLARE CURSOR FOR SELECT 1 => Syntax",
     )
 }
 
