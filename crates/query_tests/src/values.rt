@@ -1,8 +1,6 @@
 //! Values and rows: their copies and their text; and causes.
 use crate::rows::{Answer, assert_row, assert_rows};
-use med_value::{
-    Cause, ColType, ColumnDef, NoMemory, Row, Value, escaped_text, row_text,
-};
+use med_value::{Cause, ColType, ColumnDef, NoMemory, Row, Value, escaped_text, row_text};
 use std::alloc::{AllocError, Global};
 use std::test::Fail;
 

@@ -75,6 +75,10 @@ fn interrupted_flush_is_tried_again(rt: HostRuntime) -> Result<(), Fail> {
     let came = (write_front(&mut sink, b"a"), flush(&mut sink));
     same("written and flushed", &came, &(Ok(()), Ok(())))?;
     let counts = (sink.interruptions(), sink.flushed());
-    same("a fault", &(flush(&mut sink), counts), &(Err(GivenUp::Failed), (1, 1)))?;
+    same(
+        "a fault",
+        &(flush(&mut sink), counts),
+        &(Err(GivenUp::Failed), (1, 1)),
+    )?;
     same_text("written", sink.bytes(), b"a")
 }

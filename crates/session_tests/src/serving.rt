@@ -257,8 +257,8 @@ type Fed = (
 const FEDS: [Fed; 4] = [
     (0, Err(FeedFault::NoRoom), Err(FeedFault::Closed), 0, 0),
     (1, Err(FeedFault::NoRoom), Err(FeedFault::Closed), 9, 0),
-    (2, Ok(()), Err(FeedFault::NoRoom), 36, 1),
-    (3, Ok(()), Ok(()), 44, 1),
+    (2, Ok(()), Err(FeedFault::NoRoom), 35, 1),
+    (3, Ok(()), Ok(()), 43, 1),
 ];
 
 // Fails where two feeds end, answer or count otherwise, or leave a scan live.
