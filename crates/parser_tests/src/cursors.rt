@@ -1,7 +1,6 @@
 //! Statements on cursors read and written out.
 use crate::rows::assert_rows;
 use crate::statements::Printed;
-use crate::writes::Outcome;
 use std::test::Fail;
 
 #[test]
@@ -47,19 +46,5 @@ fn cursors(rt: HostRuntime) -> Result<(), Fail> {
         DECLARE c SCROLL CURSOR FOR SELECT 1 => Syntax\n\
         DECLARE c CURSOR FOR DELETE FROM t => Syntax\n\
         DECLARE CURSOR FOR SELECT 1 => Syntax",
-    )
-}
-
-// 64 is the height that is read; of a text that is no command 64 tokens that can deepen an expression are not too many.
-#[test]
-fn heights_of_cursors(rt: HostRuntime) -> Result<(), Fail> {
-    assert_rows::<Outcome>(
-        rt.alloc(),
-        &rt,
-        "1*DECLARE c CURSOR FOR SELECT 1\t63*+1 => read\n\
-        1*DECLARE c CURSOR FOR SELECT 1\t64*+1 => TooDeep\n\
-        1*DECLARE c CURSOR FOR SELECT 1\t40*, (-1) => read\n\
-        1*FETCH \t64*( => Syntax\n\
-        1*CLOSE c \t64*+ => Syntax",
     )
 }

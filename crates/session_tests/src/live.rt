@@ -2,6 +2,7 @@
 ghost use Rattle.med_session.specs.Engine.{IsSound};
 ghost use Rattle.med_session.specs.Shows.{shown};
 
+use crate::expect::same_text;
 use crate::served::{ask, engine_over, in_failing, new_list, request_of};
 use fdw_api::wishes::Wrapper2;
 use fed_setup::told::RunFault;
@@ -82,39 +83,43 @@ fn live_scans_are_those_of_open_cursors(rt: HostRuntime) -> Result<(), Fail> {
     leaves_each(alloc, &mut engine, &mut out)
 }
 
-// After how many calls the list fails once, what is asked, and what it counts then: the scans begun, those that are live, the rows given and the
-// faults. parts has three rows, of which id is 1, 2 and 3, and qty 10, NULL and 0. What the list takes over it does not give, and an inner scan looks
-// for what the row of the outer one has. Two calls bind the tables; then come the scan's begin, three rows and its end.
-const COUNTED: &str = "\
-99 | SELECT id FROM parts WHERE id = 2 | 1 0 1 0
-99 | SELECT id FROM parts WHERE 2 = id AND qty IS NULL | 1 0 1 0
-99 | SELECT id FROM parts WHERE qty IS NOT NULL ORDER BY id | 1 0 2 0
-99 | SELECT count(*) FROM parts WHERE qty > 10 | 1 0 0 0
-99 | SELECT id FROM parts WHERE qty + 1 > 10 | 1 0 3 0
-99 | SELECT id FROM parts WHERE id = 2 OR id = 3 | 1 0 3 0
-99 | SELECT id FROM parts LEFT JOIN orders ON part = id WHERE no IS NULL ORDER BY id | 2 0 5 0
-99 | SELECT name, n FROM parts JOIN orders ON part = id | 2 0 5 0
-99 | SELECT name, n FROM parts, orders WHERE part = id AND id = 1 | 2 0 3 0
-99 | SELECT count(*) FROM parts, orders | 2 0 12 0
-99 | SELECT a.id FROM parts a JOIN orders ON part = a.id JOIN parts b ON b.id = part | 3 0 7 0
-99 | SELECT id FROM parts LIMIT 1 | 1 0 1 0
-99 | SELECT id FROM parts LIMIT 1 OFFSET 1 | 1 0 2 0
-99 | SELECT id FROM parts LIMIT 0 | 1 0 0 0
-99 | SELECT id FROM parts ORDER BY qty + 1 LIMIT 1 | 1 0 3 0
-99 | SELECT DISTINCT id FROM parts ORDER BY id LIMIT 1 | 1 0 3 0
-99 | SELECT qty FROM parts GROUP BY qty ORDER BY qty LIMIT 1 | 1 0 3 0
-99 | SELECT id FROM parts ORDER BY id LIMIT 1 | 1 0 1 0
-99 | SELECT id FROM parts ORDER BY qty DESC, id LIMIT 1 OFFSET 2 | 1 0 3 0
-99 | SELECT id FROM parts ORDER BY id LIMIT 0 | 1 0 0 0
-99 | SELECT id FROM parts ORDER BY id DESC | 1 0 3 0
-99 | SELECT id FROM parts WHERE qty IS NOT NULL ORDER BY (name) NULLS FIRST LIMIT 1 | 1 0 1 0
-99 | SELECT id FROM parts WHERE id = 2 OR id = 3 ORDER BY id LIMIT 1 | 1 0 2 0
-2 | SELECT id, name FROM parts ORDER BY id;SELECT id, name FROM parts ORDER BY id | 1 0 3 1
-3 | SELECT id, name FROM parts ORDER BY id;SELECT id, name FROM parts ORDER BY id | 2 0 3 1
-4 | SELECT id, name FROM parts ORDER BY id;SELECT id, name FROM parts ORDER BY id | 2 0 4 1
-5 | SELECT id, name FROM parts ORDER BY id;SELECT id, name FROM parts ORDER BY id | 2 0 5 1
-6 | SELECT id, name FROM parts ORDER BY id;SELECT id, name FROM parts ORDER BY id | 2 0 6 1
-7 | SELECT id, name FROM parts ORDER BY id | 1 0 3 0
+// Rows `scans rows | query`: how many scans are begun, and how many rows these give. parts has three rows, of which id is 1, 2 and 3, and qty 10, NULL and
+// 0; orders has three, of which part is 1, 1 and 9. What the list takes over it does not give, and an inner scan looks for what the row of the outer one has.
+const PULLED: &str = "\
+1 1 | SELECT id FROM parts WHERE id = 2
+1 1 | SELECT id FROM parts WHERE 2 = id AND qty IS NULL
+1 2 | SELECT id FROM parts WHERE qty IS NOT NULL ORDER BY id
+1 0 | SELECT count(*) FROM parts WHERE qty > 10
+1 3 | SELECT id FROM parts WHERE qty + 1 > 10
+1 3 | SELECT id FROM parts WHERE id = 2 OR id = 3
+2 5 | SELECT id FROM parts LEFT JOIN orders ON part = id WHERE no IS NULL ORDER BY id
+2 5 | SELECT name, n FROM parts JOIN orders ON part = id
+2 3 | SELECT name, n FROM parts, orders WHERE part = id AND id = 1
+2 12 | SELECT count(*) FROM parts, orders
+3 7 | SELECT a.id FROM parts a JOIN orders ON part = a.id JOIN parts b ON b.id = part
+1 1 | SELECT id FROM parts LIMIT 1
+1 2 | SELECT id FROM parts LIMIT 1 OFFSET 1
+1 0 | SELECT id FROM parts LIMIT 0
+1 3 | SELECT id FROM parts ORDER BY qty + 1 LIMIT 1
+1 3 | SELECT DISTINCT id FROM parts ORDER BY id LIMIT 1
+1 3 | SELECT qty FROM parts GROUP BY qty ORDER BY qty LIMIT 1
+1 1 | SELECT id FROM parts ORDER BY id LIMIT 1
+1 3 | SELECT id FROM parts ORDER BY qty DESC, id LIMIT 1 OFFSET 2
+1 0 | SELECT id FROM parts ORDER BY id LIMIT 0
+1 3 | SELECT id FROM parts ORDER BY id DESC
+1 1 | SELECT id FROM parts WHERE qty IS NOT NULL ORDER BY (name) NULLS FIRST LIMIT 1
+1 2 | SELECT id FROM parts WHERE id = 2 OR id = 3 ORDER BY id LIMIT 1
+";
+
+// Rows `calls scans live rows faults | statements`, with a semicolon between two: after so many calls the list fails once. Two calls bind the tables; then
+// come the scan's begin, three rows and its end.
+const FAILING: &str = "\
+2 1 0 3 1 | SELECT id, name FROM parts ORDER BY id;SELECT id, name FROM parts ORDER BY id
+3 2 0 3 1 | SELECT id, name FROM parts ORDER BY id;SELECT id, name FROM parts ORDER BY id
+4 2 0 4 1 | SELECT id, name FROM parts ORDER BY id;SELECT id, name FROM parts ORDER BY id
+5 2 0 5 1 | SELECT id, name FROM parts ORDER BY id;SELECT id, name FROM parts ORDER BY id
+6 2 0 6 1 | SELECT id, name FROM parts ORDER BY id;SELECT id, name FROM parts ORDER BY id
+7 1 0 3 0 | SELECT id, name FROM parts ORDER BY id
 ";
 
 // Asks for statements with a semicolon between two, in session 1.
@@ -132,32 +137,39 @@ fn asks_all<W: Wrapper2>(
     Ok(())
 }
 
-// Fails where the list counts otherwise than a row says once the engine has answered.
-fn counts(alloc: Global, row: &str) -> Result<(), Fail> {
-    let (calls, rest) = row.split_once(" | ").ok_or(row)?;
-    let (statements, wanted) = rest.split_once(" | ").ok_or(row)?;
+// What a list that fails once, after so many calls, counts when statements were answered: the scans begun, those that are live, the rows given and the faults.
+fn counts(alloc: Global, calls: u64, statements: &str) -> Result<String, Fail> {
     let mut out = Vec::new(alloc);
-    let list = in_failing(new_list(alloc)?, calls.parse()?);
+    let list = in_failing(new_list(alloc)?, calls);
     let mut engine = engine_over(alloc, list)?;
     asks_all(&mut engine, "OPEN", &mut out)?;
     asks_all(&mut engine, statements, &mut out)?;
-    let Some(counts) = engine.counts("demo") else {
-        return Err(row.into());
-    };
-    let came = format!(in alloc;
+    let counts = engine.counts("demo").ok_or(statements)?;
+    Ok(format!(in alloc;
         "{} {} {} {}",
         counts.next, counts.live, counts.pulled, counts.faults
-    )?;
-    if came.as_str() == wanted {
-        return Ok(());
-    }
-    Err(Fail::new(format_args!("{row}: {came} came")))
+    )?)
 }
 
 #[test]
 fn queries_pull_what_they_need(rt: HostRuntime) -> Result<(), Fail> {
-    for row in COUNTED.lines() {
-        counts(rt.alloc(), row)?;
+    let alloc = rt.alloc();
+    for row in PULLED.lines() {
+        let (wanted, query) = row.split_once(" | ").ok_or(row)?;
+        let (scans, rows) = wanted.split_once(' ').ok_or(row)?;
+        let wanted = format!(in alloc; "{scans} 0 {rows} 0")?;
+        same_text(row, counts(alloc, 99, query)?.as_bytes(), wanted.as_bytes())?;
+    }
+    Ok(())
+}
+
+#[test]
+fn query_of_a_source_that_fails_is_refused_once(rt: HostRuntime) -> Result<(), Fail> {
+    for row in FAILING.lines() {
+        let (wanted, statements) = row.split_once(" | ").ok_or(row)?;
+        let (calls, wanted) = wanted.split_once(' ').ok_or(row)?;
+        let came = counts(rt.alloc(), calls.parse::<u64>()?, statements)?;
+        same_text(row, came.as_bytes(), wanted.as_bytes())?;
     }
     Ok(())
 }

@@ -6,7 +6,7 @@ ghost use Rattle.session_wire.specs.Servers.{handler_of};
 ghost use Rattle.std.specs.Prelude.{◌≡◌, ⊤, true, IfOk};
 
 use crate::expect::{same, same_text};
-use crate::served::{engine_over, new_list};
+use crate::list::demo_engine;
 use fed_cli::{Ended, StreamFault, serve_stream, serve_stream_within};
 use fed_replay::{ScriptFault, replay};
 use fed_setup::told::RunFault;
@@ -231,7 +231,7 @@ fn tight_server(
     ensures { IfOk result (λ server. IsSound (shown box_of (handler_of server).inner)) }
 {
     let handler = Tight {
-        inner: engine_over(alloc, new_list(alloc)?)?,
+        inner: demo_engine(alloc)?,
         before,
     };
     match Server::new(alloc, handler) {
@@ -314,7 +314,7 @@ const SCRIPTS: [(&[u8], Result<u64, ScriptFault>); 5] = [
 
 // What a script comes to over the demo list, and the reply to a user who opens session 64 after it.
 fn came(alloc: Global, script: &[u8]) -> Result<(Result<u64, ScriptFault>, Vec<u8>), Fail> {
-    let mut engine = engine_over(alloc, new_list(alloc)?)?;
+    let mut engine = demo_engine(alloc)?;
     let came = replay(alloc, &mut engine, "admin", script);
     let mut out = Vec::new(alloc);
     engine.request(Sid { number: 64 }, Request::Open("ann"), &mut out)?;
