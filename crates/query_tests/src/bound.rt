@@ -277,8 +277,8 @@ const CONDITIONS: &str = "\
 
 // Rows `places | query`.
 const ENTRIES: &str = "\
- | SELECT 1
 0 | SELECT 1 FROM parts
+ | SELECT 1
 1 | SELECT 1 FROM orders parts
 2 | SELECT 1 FROM \"Odd\"
 0 1 2 | SELECT 1 FROM parts, orders, \"Odd\"
