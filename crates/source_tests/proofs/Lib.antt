@@ -1,4 +1,3 @@
 mod CallLemmas
-mod GoingLemmas
 mod Known
 mod Writing

@@ -10,7 +10,6 @@ use Rattle.fdw_api.specs.declared.interface.Fault.{Fault}
 use Rattle.probe_wrapper.specs.declared.failing.Failure.TheVariants.{Before}
 use Rattle.probe_wrapper.specs.Counting.{counted}
 use Rattle.probe_wrapper.specs.Failing.{failed, staging_of}
-use Rattle.source_tests.specs.Going.{IsOrderTable, order_kinds}
 use Rattle.source_tests.specs.Writing.{IsWriting}
 
 some_inj : {A : Type 0} (a b : A) → Some a ≡ Some b → a ≡ b
@@ -86,10 +85,6 @@ closed_can_modify s u t kinds w c = record {
   no_scan = λ q scan is. w.no_scan q scan (sym (ap (λ z. finmap.get z.live q) c.ledger) ∙ is);
   not_staged = ap (λ z. z.staged) c.ledger;
 }
-
--- and its table is one of orders still
-pub closed_is_order_table : (s u : BoxState) (t : ℕ) → IsWriting s t order_kinds → Closes s true u → IsOrderTable u t
-closed_is_order_table s u t w c = (w.bound, ap (λ z. z.tables t) c.ledger ∙ w.is, w.kinds_are)
 
 -- wrappers round an idle wrapper are idle
 pub idle_counted : (s : BoxState) (pulled : ℕ) → IsIdle s → IsIdle (counted s pulled)
