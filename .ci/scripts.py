@@ -7,8 +7,8 @@ import json, os, runpy, subprocess, sys
 from concurrent.futures import ThreadPoolExecutor
 
 # The longest first.
-TESTS = """run refused_memory launcher limits soak exchanged folders cut_streams shell like_sqlite schemas setup install pages random_objects random_files
-    connections random_writes leaving random_cursors tried"""
+TESTS = """refused_memory run soak cut_streams folders limits like_sqlite shell pages exchanged schemas setup launcher random_files random_selects install
+    tried connections random_objects random_writes leaving random_cursors"""
 SCRIPTS = [*(f"tests/{it}" for it in TESTS.split()), "examples/run", "docs/draw"]
 SECONDS = 3600  # after which a script has failed
 

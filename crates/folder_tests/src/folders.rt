@@ -50,34 +50,49 @@ pub fn disk(alloc: Global, has_locks: bool, passes: Option<u64>) -> Result<Memor
     Ok(disk)
 }
 
+// What is put, and what is read then: nothing where no bytes are named.
+const ROWS: &str = "\
+read a=old a
+read b=old b
+read c
+put a=new
+put c=
+read a=new
+read b=old b
+read c=
+put a=newer
+read a=newer
+";
+
+// Does what a row says, and tells whether its bytes are there.
+fn does(alloc: Global, folder: &mut Folder<MemoryDisk>, row: &str) -> Result<bool, Fail> {
+    let (call, file) = row.split_once(' ').ok_or(row)?;
+    let (name, bytes) = match file.split_once('=') {
+        Some((name, bytes)) => (name, Some(bytes.as_bytes())),
+        None => (file, None),
+    };
+    if call == "put" {
+        folder.replace(alloc, name, bytes.unwrap_or(b""))?;
+        return Ok(true);
+    }
+    Ok(folder.read(alloc, name)?.as_deref() == bytes)
+}
+
 #[test]
 fn blobs_are_the_bytes_of_their_files(rt: HostRuntime) -> Result<(), Fail> {
-    let alloc = rt.alloc();
-    let mut folder = Folder::over(alloc, disk(alloc, true, None)?, "d")?;
-    assert!(rt; folder.read(alloc, "a")?.as_deref() == Some(b"old a".as_slice()));
-    assert!(rt; folder.read(alloc, "b")?.as_deref() == Some(b"old b".as_slice()));
-    assert!(rt; folder.read(alloc, "c")?.is_none());
-    folder.replace(alloc, "a", b"new")?;
-    folder.replace(alloc, "c", b"")?;
-    assert!(rt; folder.read(alloc, "a")?.as_deref() == Some(b"new".as_slice()));
-    assert!(rt; folder.read(alloc, "b")?.as_deref() == Some(b"old b".as_slice()));
-    assert!(rt; folder.read(alloc, "c")?.as_deref() == Some(b"".as_slice()));
-    folder.replace(alloc, "a", b"newer")?;
-    assert!(rt; folder.read(alloc, "a")?.as_deref() == Some(b"newer".as_slice()));
+    let mut folder = Folder::over(rt.alloc(), disk(rt.alloc(), true, None)?, "d")?;
+    for row in ROWS.lines() {
+        assert!(rt; does(rt.alloc(), &mut folder, row)?);
+    }
     assert_eq!(rt; folder.failures(), 0);
     Ok(())
 }
 
 #[test]
 fn a_call_that_fails_is_told_and_counted(rt: HostRuntime) -> Result<(), Fail> {
-    let alloc = rt.alloc();
-    let mut folder = Folder::over(alloc, disk(alloc, true, Some(0))?, "d")?;
-    assert!(rt;
-        folder
-            .read(alloc, "a")
-            .is_err_and(|fault| fault == BlobFault::Device)
-    );
-    assert_eq!(rt; folder.failures(), 1);
-    assert!(rt; folder.read(alloc, "a")?.as_deref() == Some(b"old a".as_slice()));
+    let mut folder = Folder::over(rt.alloc(), disk(rt.alloc(), true, Some(0))?, "d")?;
+    let fault = folder.read(rt.alloc(), "a").err();
+    assert!(rt; fault == Some(BlobFault::Device) && folder.failures() == 1);
+    assert!(rt; does(rt.alloc(), &mut folder, "read a=old a")?);
     Ok(())
 }

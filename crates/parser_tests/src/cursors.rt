@@ -1,7 +1,6 @@
 //! Statements on cursors read and written out.
 use crate::rows::assert_rows;
 use crate::statements::Printed;
-use crate::writes::Outcome;
 use std::test::Fail;
 
 #[test]
@@ -39,20 +38,13 @@ fn cursors(rt: HostRuntime) -> Result<(), Fail> {
         FETCH 9223372036854775807 c => FETCH 9223372036854775807 FROM \"c\"\n\
         CLOSE c => CLOSE \"c\"\n\
         close \"C d\"; => CLOSE \"C d\"\n\
-        CLOSE close => CLOSE \"close\"",
-    )
-}
-
-// 64 is the height that is read; of a text that is no command 64 tokens that can deepen an expression are not too many.
-#[test]
-fn heights_of_cursors(rt: HostRuntime) -> Result<(), Fail> {
-    assert_rows::<Outcome>(
-        rt.alloc(),
-        &rt,
-        "1*DECLARE c CURSOR FOR SELECT 1\t63*+1 => read\n\
-        1*DECLARE c CURSOR FOR SELECT 1\t64*+1 => TooDeep\n\
-        1*DECLARE c CURSOR FOR SELECT 1\t40*, (-1) => read\n\
-        1*FETCH \t64*( => Syntax\n\
-        1*CLOSE c \t64*+ => Syntax",
+        CLOSE close => CLOSE \"close\"\n\
+        FETCH 5 IN \"C d\" => FETCH 5 FROM \"C d\"\n\
+        FETCH 0 c => FetchZero\n\
+        CLOSE => Syntax\n\
+        FETCH -1 c => Syntax\n\
+        DECLARE c SCROLL CURSOR FOR SELECT 1 => Syntax\n\
+        DECLARE c CURSOR FOR DELETE FROM t => Syntax\n\
+        DECLARE CURSOR FOR SELECT 1 => Syntax",
     )
 }

@@ -1,5 +1,5 @@
 //! Expressions read and written out.
-use crate::rows::{Answer, assert_row, assert_rows, repeated};
+use crate::rows::{Answer, assert_row, assert_rows};
 use expr_parser::{expression, print_expression};
 use med_syntax::is_reserved;
 use std::alloc::Global;
@@ -184,80 +184,6 @@ fn trees(rt: HostRuntime) -> Result<(), Fail> {
         count(*) => CallAll(\"count\")\n\
         now() => Call(\"now\", [])\n\
         F(1, a) => Call(\"f\", [Number(1), Column(None, \"a\")])",
-    )
-}
-
-/// How the text of a row of parts is answered, and how long it is.
-struct Outcome;
-
-impl Answer for Outcome {
-    fn answer(alloc: Global, row: &str) -> Result<String, Fail> {
-        let text = repeated(alloc, row)?;
-        let length = text.len();
-        Ok(match expression(alloc, &text) {
-            Ok(_) => format!(in alloc; "read in {length} bytes")?,
-            Err(cause) => format!(in alloc; "{cause:?} in {length} bytes")?,
-        })
-    }
-}
-
-/// The same where a refusal may have any cause.
-struct Refusal;
-
-impl Answer for Refusal {
-    fn answer(alloc: Global, row: &str) -> Result<String, Fail> {
-        let text = repeated(alloc, row)?;
-        let word = if expression(alloc, &text).is_ok() {
-            "read"
-        } else {
-            "refused"
-        };
-        Ok(format!(in alloc; "{word} in {} bytes", text.len())?)
-    }
-}
-
-// 64 tokens that deepen may stand in what is no expression; a call of nothing and one of all are as high as a number.
-#[test]
-fn heights(rt: HostRuntime) -> Result<(), Fail> {
-    assert_rows::<Outcome>(
-        rt.alloc(),
-        &rt,
-        "63*(\t1*1\t63*) => read in 127 bytes\n\
-        64*(\t1*1\t64*) => TooDeep in 129 bytes\n\
-        64*(\t1*1 => Syntax in 65 bytes\n\
-        63*not \t1*a => read in 253 bytes\n\
-        64*not \t1*a => TooDeep in 257 bytes\n\
-        1*1\t63*+1 => read in 127 bytes\n\
-        1*1\t64*+1 => TooDeep in 129 bytes\n\
-        63*f(\t1*1\t63*) => read in 190 bytes\n\
-        64*f(\t1*1\t64*) => TooDeep in 193 bytes\n\
-        63*f(\t1*g()\t63*) => read in 192 bytes\n\
-        63*f(1, \t1*g(*)\t63*) => read in 382 bytes\n\
-        64*f(\t1*g(*)\t64*) => TooDeep in 196 bytes\n\
-        64*f(\t1*1 => Syntax in 129 bytes",
-    )
-}
-
-// A chain and a list are one node each.
-#[test]
-fn long_texts(rt: HostRuntime) -> Result<(), Fail> {
-    assert_rows::<Outcome>(
-        rt.alloc(),
-        &rt,
-        "1*a\t9000* and a => read in 54001 bytes\n\
-        1*a in (1\t9000*, a\t1*) => read in 27008 bytes\n\
-        1*f(1\t9000*, a\t1*) => read in 27004 bytes",
-    )
-}
-
-#[test]
-fn long_texts_that_are_refused(rt: HostRuntime) -> Result<(), Fail> {
-    assert_rows::<Refusal>(
-        rt.alloc(),
-        &rt,
-        "30000*(\t1*1 => refused in 30001 bytes\n\
-        1*1\t30000*+1 => refused in 60001 bytes\n\
-        15000*not \t1*a => refused in 60001 bytes",
     )
 }
 

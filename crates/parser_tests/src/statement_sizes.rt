@@ -50,6 +50,47 @@ fn long_texts(rt: HostRuntime) -> Result<(), Fail> {
     )
 }
 
+// 64 is the height that is read; of a text that is no expression, or no command, 64 tokens that can deepen one are not too many. A call of nothing and one of
+// all are as high as a number, a chain and a list are one node each, and many low expressions are no high one.
+#[test]
+fn heights(rt: HostRuntime) -> Result<(), Fail> {
+    assert_rows::<Outcome>(
+        rt.alloc(),
+        &rt,
+        "1*SELECT \t63*(\t1*1\t63*) => read in 134 bytes\n\
+        1*SELECT \t64*(\t1*1\t64*) => TooDeep in 136 bytes\n\
+        1*SELECT \t64*(\t1*1 => Syntax in 72 bytes\n\
+        1*SELECT \t63*not \t1*a => read in 260 bytes\n\
+        1*SELECT \t64*not \t1*a => TooDeep in 264 bytes\n\
+        1*SELECT \t1*1\t63*+1 => read in 134 bytes\n\
+        1*SELECT \t1*1\t64*+1 => TooDeep in 136 bytes\n\
+        1*SELECT \t63*f(\t1*1\t63*) => read in 197 bytes\n\
+        1*SELECT \t64*f(\t1*1\t64*) => TooDeep in 200 bytes\n\
+        1*SELECT \t63*f(\t1*g()\t63*) => read in 199 bytes\n\
+        1*SELECT \t63*f(1, \t1*g(*)\t63*) => read in 389 bytes\n\
+        1*SELECT \t64*f(\t1*g(*)\t64*) => TooDeep in 203 bytes\n\
+        1*SELECT \t64*f(\t1*1 => Syntax in 136 bytes\n\
+        1*SELECT \t1*a\t9000* and a => read in 54008 bytes\n\
+        1*SELECT \t1*a in (1\t9000*, a\t1*) => read in 27015 bytes\n\
+        1*SELECT \t1*f(1\t9000*, a\t1*) => read in 27011 bytes\n\
+        1*DELETE FROM t WHERE 1\t63*+1 => read in 147 bytes\n\
+        1*DELETE FROM t WHERE 1\t64*+1 => TooDeep in 149 bytes\n\
+        1*UPDATE t SET a = 1, b = 1\t64*+1 => TooDeep in 153 bytes\n\
+        1*UPDATE t SET a = 1\t63*+1\t1*, b = 1\t63*+1 => read in 277 bytes\n\
+        1*UPDATE t SET a = 1 WHERE 1\t64*+1 => TooDeep in 154 bytes\n\
+        1*INSERT INTO t VALUES (1\t63*+1\t1*) => read in 150 bytes\n\
+        1*INSERT INTO t VALUES (1), (1\t64*+1\t1*) => TooDeep in 157 bytes\n\
+        1*INSERT INTO t VALUES (1)\t1000*, (-1) => read in 6024 bytes\n\
+        1*INSERT INTO t SELECT 1\t63*+1 => read in 148 bytes\n\
+        1*INSERT INTO t SELECT 1\t64*+1 => TooDeep in 150 bytes\n\
+        1*DECLARE c CURSOR FOR SELECT 1\t63*+1 => read in 155 bytes\n\
+        1*DECLARE c CURSOR FOR SELECT 1\t64*+1 => TooDeep in 157 bytes\n\
+        1*DECLARE c CURSOR FOR SELECT 1\t40*, (-1) => read in 269 bytes\n\
+        1*FETCH \t64*( => Syntax in 70 bytes\n\
+        1*CLOSE c \t64*+ => Syntax in 72 bytes",
+    )
+}
+
 #[test]
 fn long_texts_that_are_refused(rt: HostRuntime) -> Result<(), Fail> {
     assert_rows::<Refusal>(
@@ -57,7 +98,10 @@ fn long_texts_that_are_refused(rt: HostRuntime) -> Result<(), Fail> {
         &rt,
         "1*SELECT \t1048569*( => refused in 1048576 bytes\n\
         1*SELECT a FROM t WHERE \t60000*( => refused in 60022 bytes\n\
-        1*SELECT \t16000*not  => refused in 64007 bytes",
+        1*SELECT \t16000*not  => refused in 64007 bytes\n\
+        1*SELECT \t30000*(\t1*1 => refused in 30008 bytes\n\
+        1*SELECT \t1*1\t30000*+1 => refused in 60008 bytes\n\
+        1*SELECT \t15000*not \t1*a => refused in 60008 bytes",
     )
 }
 

@@ -1,22 +1,7 @@
 //! Statements that write rows read and written out.
-use crate::rows::{Answer, assert_rows, repeated};
+use crate::rows::assert_rows;
 use crate::statements::Printed;
-use med_parser::parse;
-use std::alloc::Global;
 use std::test::Fail;
-
-/// How the text of a row of parts is answered.
-pub struct Outcome;
-
-impl Answer for Outcome {
-    fn answer(alloc: Global, row: &str) -> Result<String, Fail> {
-        let text = repeated(alloc, row)?;
-        Ok(match parse(alloc, &text) {
-            Ok(_) => String::from_str(alloc, "read")?,
-            Err(cause) => format!(in alloc; "{cause:?}")?,
-        })
-    }
-}
 
 #[test]
 fn inserts(rt: HostRuntime) -> Result<(), Fail> {
@@ -50,24 +35,5 @@ fn updates_and_deletes(rt: HostRuntime) -> Result<(), Fail> {
         DELETE FROM t => DELETE FROM \"t\"\n\
         delete from t where a in (1, 2) or b is null; => DELETE FROM \"t\" WHERE \"a\" IN ( 1 , 2 ) OR \"b\" IS NULL\n\
         DELETE FROM t AS u WHERE u.a LIKE 'x%' => DELETE FROM \"t\" AS \"u\" WHERE \"u\" . \"a\" LIKE 'x%'",
-    )
-}
-
-// 64 is the height that is read; many low expressions are no high one.
-#[test]
-fn heights_of_writes(rt: HostRuntime) -> Result<(), Fail> {
-    assert_rows::<Outcome>(
-        rt.alloc(),
-        &rt,
-        "1*DELETE FROM t WHERE 1\t63*+1 => read\n\
-        1*DELETE FROM t WHERE 1\t64*+1 => TooDeep\n\
-        1*UPDATE t SET a = 1, b = 1\t64*+1 => TooDeep\n\
-        1*UPDATE t SET a = 1\t63*+1\t1*, b = 1\t63*+1 => read\n\
-        1*UPDATE t SET a = 1 WHERE 1\t64*+1 => TooDeep\n\
-        1*INSERT INTO t VALUES (1\t63*+1\t1*) => read\n\
-        1*INSERT INTO t VALUES (1), (1\t64*+1\t1*) => TooDeep\n\
-        1*INSERT INTO t VALUES (1)\t1000*, (-1) => read\n\
-        1*INSERT INTO t SELECT 1\t63*+1 => read\n\
-        1*INSERT INTO t SELECT 1\t64*+1 => TooDeep",
     )
 }

@@ -90,48 +90,24 @@ fn bound(alloc: Global, text: &str) -> Result<Result<BoundQuery, Cause>, Fail> {
     Ok(bind_views(alloc, &statement, &tables, "ann"))
 }
 
-/// What is told of a bound query.
-#[derive(Clone, Copy)]
-pub enum Told {
-    /// That it is taken.
-    Taken,
-    /// The names of its answer.
-    Names,
-    /// The names of its answer, and the fields for the first row of its first entry's table.
-    Answer,
-    /// How many conditions it has, and whether that row meets them.
-    Conditions,
-    /// The place of its first table.
-    Table,
-    /// The places of the tables of its entries.
-    Entries,
-    /// The place of its first item's column.
-    Column,
-    /// How many keys it groups by, and how many arguments its aggregates have.
-    Groups,
-    /// Of each entry the columns that are read, and what its scan is offered.
-    Offers,
-    /// The order that is wished of its scan's rows, and how many of them are enough.
-    Wish,
-}
-
-fn tell(alloc: Global, told: Told, bound: &BoundQuery) -> Result<String, Fail> {
+// What is told of a bound query: the names of its answer and the fields for the first row of its first entry's table, or the fault of an item; how many
+// conditions it has, and whether that row meets them; the places of the tables of its entries; the place of its first item's column; how many keys it groups
+// by, and how many arguments its aggregates have; of each entry the columns that are read, and what its scan is offered; or the order that is wished of its
+// scan's rows, and how many of them are enough.
+fn tell(alloc: Global, told: &str, bound: &BoundQuery) -> Result<String, Fail> {
     match told {
-        Told::Taken => Ok("taken".to_string(alloc)?),
-        Told::Names => names_text(alloc, &bound.names),
-        Told::Answer => answer(alloc, bound),
-        Told::Conditions => conditions(alloc, bound),
-        Told::Table => table_place(alloc, bound),
-        Told::Entries => entries(alloc, bound),
-        Told::Column => first_column(alloc, bound),
-        Told::Groups => groups(alloc, bound),
-        Told::Offers => offers(alloc, bound),
-        Told::Wish => wish(alloc, bound),
+        "answer" => answer(alloc, bound),
+        "conditions" => conditions(alloc, bound),
+        "entries" => entries(alloc, bound),
+        "column" => first_column(alloc, bound),
+        "groups" => groups(alloc, bound),
+        "offers" => offers(alloc, bound),
+        _ => wish(alloc, bound),
     }
 }
 
-/// Fails at the first of the rows `wanted | query` where something else is told of its query, or another code of its refusal.
-pub fn each_tells(alloc: Global, told: Told, rows: &str) -> Result<(), Fail> {
+// Fails where something else is told of a query of the rows `wanted | query`, or another code of its refusal.
+fn each_tells(alloc: Global, told: &str, rows: &str) -> Result<(), Fail> {
     for row in rows.lines() {
         let (wanted, query) = cut(row)?;
         let came = match bound(alloc, query)? {
@@ -194,11 +170,6 @@ fn conditions(alloc: Global, bound: &BoundQuery) -> Result<String, Fail> {
     let count = core.conditions.len();
     let verdict = verdict(&core.conditions, &row, &[]);
     Ok(format!(in alloc; "{count} {verdict:?}")?)
-}
-
-fn table_place(alloc: Global, bound: &BoundQuery) -> Result<String, Fail> {
-    let place = place(bound);
-    Ok(format!(in alloc; "{place:?}")?)
 }
 
 fn entries(alloc: Global, bound: &BoundQuery) -> Result<String, Fail> {
@@ -268,4 +239,130 @@ fn wish(alloc: Global, bound: &BoundQuery) -> Result<String, Fail> {
     let limit = format!(in alloc; "{:?}", wish.limit)?;
     line.push_str(limit.as_str())?;
     Ok(line)
+}
+
+// Rows over a table that the program does not have: two of its columns have one name.
+const ODD: &str = "\
+B = t | SELECT \"B\" FROM \"Odd\"
+a a B = 1\tx\tt | SELECT * FROM \"Odd\" o
+42703 | SELECT b FROM \"Odd\"
+42702 | SELECT a FROM \"Odd\"
+42702 | SELECT \"Odd\".a FROM \"Odd\"
+42702 | SELECT o.a FROM \"Odd\" o
+42702 | SELECT \"B\" FROM \"Odd\" WHERE a = 1
+42712 | SELECT 1 FROM parts p, orders, \"Odd\" CROSS JOIN parts p
+42703 | SELECT 1 FROM parts JOIN orders ON a = 1 CROSS JOIN \"Odd\"
+42703 | SELECT 1 FROM parts, orders JOIN \"Odd\" ON id = 1
+42P01 | SELECT 1 FROM parts, orders JOIN \"Odd\" ON parts.id = 1
+0A000 | SELECT 1 FROM parts, orders JOIN \"Odd\" ON no / 2 = 1
+";
+
+// Rows `conditions Ok(verdict) | query`.
+const CONDITIONS: &str = "\
+0 Ok(true) | SELECT 1
+0 Ok(true) | SELECT 1 FROM parts
+1 Ok(false) | SELECT 1 WHERE FALSE
+1 Ok(false) | SELECT 1 WHERE NULL
+1 Ok(true) | SELECT 1 FROM parts WHERE live
+1 Ok(false) | SELECT 1 FROM parts WHERE id = 2
+2 Ok(true) | SELECT 1 FROM parts WHERE id = 1 AND live
+2 Ok(false) | SELECT 1 FROM parts WHERE id = 1 AND NOT live
+1 Ok(true) | SELECT 1 FROM parts WHERE id = 2 OR live
+4 Ok(true) | SELECT 1 FROM parts WHERE (id = 1 AND (live AND qty > 5)) AND name = 'bolt'
+2 Ok(true) | SELECT 1 FROM parts WHERE id BETWEEN 1 AND 2 AND live
+1 Ok(false) | SELECT 1 FROM parts p WHERE NOT (p.id = 1 AND p.live)
+3 Ok(true) | SELECT no FROM orders WHERE part = 1 AND n = 4 AND no = 10
+2 Ok(false) | SELECT no FROM orders WHERE part = 1 AND n = 10
+";
+
+// Rows `places | query`.
+const ENTRIES: &str = "\
+0 | SELECT 1 FROM parts
+ | SELECT 1
+1 | SELECT 1 FROM orders parts
+2 | SELECT 1 FROM \"Odd\"
+0 1 2 | SELECT 1 FROM parts, orders, \"Odd\"
+2 1 0 | SELECT 1 FROM \"Odd\" JOIN orders ON TRUE, parts
+1 1 0 | SELECT 1 FROM orders a LEFT JOIN orders b ON TRUE CROSS JOIN parts
+";
+
+// Rows `place | query` over parts and orders: parts has the places 0 to 3, orders 4 to 6.
+const COLUMNS: &str = "\
+4 | SELECT no FROM parts, orders
+5 | SELECT orders.part FROM parts, orders
+4 | SELECT o.* FROM parts p, orders o
+0 | SELECT p.* FROM parts p CROSS JOIN orders o
+6 | SELECT n FROM parts JOIN orders ON id = part
+5 | SELECT o.part FROM parts LEFT JOIN orders o ON id = o.part
+4 | SELECT b.part FROM orders a, orders b
+";
+
+// Rows `keys arguments | query`.
+const GROUPS: &str = "\
+0 0 | SELECT count(*) FROM parts
+0 0 | SELECT 1 FROM parts HAVING TRUE
+1 0 | SELECT name FROM parts GROUP BY name
+1 2 | SELECT sum(qty), max(id) FROM parts GROUP BY parts.name
+1 1 | SELECT name FROM parts GROUP BY name HAVING min(id) > 1
+2 1 | SELECT name FROM parts GROUP BY name, live ORDER BY count(id)
+2 0 | SELECT p.name FROM parts p, orders GROUP BY p.name, no
+";
+
+// Rows `offers | query`: of each entry the columns that are read, and the restrictions. The tables are parts (id, name, qty, live) and orders
+// (no, part, n).
+const OFFERS: &str = "\
+[] | SELECT count(*) FROM parts
+[1, 2] 2 Compare(Above, Constant(Int(5))) | SELECT name FROM parts WHERE qty > 5
+[2] 2 Compare(Above, Constant(Int(5))) | SELECT 1 FROM parts WHERE 5 < qty
+[0, 3] 3 IsNull | SELECT id FROM parts WHERE live IS NULL
+[0, 2] | SELECT id FROM parts WHERE qty + 1 > 2
+[0, 2] | SELECT id FROM parts WHERE qty > 1 OR qty IS NULL
+[0] / [0, 1, 2] 1 Compare(Equal, Parameter(0)) 2 IsNotNull | SELECT no FROM parts, orders WHERE part = id AND n IS NOT NULL
+[0, 2] 2 Compare(Below, Constant(Int(3))) / [0, 1] 1 Compare(Equal, Parameter(0)) \
+| SELECT no FROM parts p JOIN orders o ON p.qty < 3 AND o.part = p.id
+[0, 3] 3 IsNull / [0, 1, 2] 1 Compare(Equal, Parameter(0)) \
+| SELECT no FROM parts p LEFT JOIN orders o ON o.part = p.id WHERE o.n IS NULL AND p.live IS NULL
+[0, 2] / [1] 1 Compare(Equal, Parameter(0)) | SELECT 1 FROM parts p LEFT JOIN orders o ON o.part = p.id AND p.qty > 1
+";
+
+// Rows `wish | query`: the keys of the order that is wished, by the places of their columns, and how many rows are enough.
+const WISHES: &str = "\
+0 ASC NULLS LAST, None | SELECT name FROM parts ORDER BY id
+0 ASC NULLS LAST, Some(5) | SELECT id FROM parts ORDER BY id LIMIT 3 OFFSET 2
+2 DESC NULLS FIRST, 0 ASC NULLS LAST, Some(10) | SELECT id FROM parts ORDER BY qty DESC, id LIMIT 10
+1 ASC NULLS FIRST, Some(0) | SELECT id FROM parts ORDER BY (name) NULLS FIRST LIMIT 0
+0 ASC NULLS LAST, Some(2) | SELECT id AS x FROM parts ORDER BY x LIMIT 2
+0 ASC NULLS LAST, Some(2) | SELECT id FROM parts WHERE qty > 5 AND live IS NULL ORDER BY 1 LIMIT 2
+0 ASC NULLS LAST, None | SELECT id FROM parts WHERE qty > 5 OR live ORDER BY id LIMIT 2
+0 ASC NULLS LAST, None | SELECT id FROM parts ORDER BY id LIMIT ALL OFFSET 2
+0 ASC NULLS LAST, Some(18446744073709551614) | SELECT id FROM parts ORDER BY id LIMIT 9223372036854775807 OFFSET 9223372036854775807
+Some(1) | SELECT id FROM parts LIMIT 1
+None | SELECT id FROM parts WHERE name LIKE 'b%' LIMIT 1
+None | SELECT id FROM parts ORDER BY qty + 1 LIMIT 1
+None | SELECT id FROM parts ORDER BY id, qty IS NULL LIMIT 1
+None | SELECT id FROM parts WHERE 10 / qty = 1 ORDER BY id LIMIT 1
+None | SELECT qty + 1 FROM parts ORDER BY id LIMIT 1
+None | SELECT DISTINCT id FROM parts ORDER BY id LIMIT 1
+None | SELECT qty FROM parts GROUP BY qty ORDER BY qty LIMIT 1
+None | SELECT count(*) FROM parts LIMIT 1
+None | SELECT p.id FROM parts p, orders o ORDER BY p.id LIMIT 1
+None | SELECT 1 LIMIT 1
+";
+
+const TOLD: [(&str, &str); 7] = [
+    ("answer", ODD),
+    ("conditions", CONDITIONS),
+    ("entries", ENTRIES),
+    ("column", COLUMNS),
+    ("groups", GROUPS),
+    ("offers", OFFERS),
+    ("wish", WISHES),
+];
+
+#[test]
+fn queries_are_bound_and_offered(rt: HostRuntime) -> Result<(), Fail> {
+    for (told, rows) in TOLD {
+        each_tells(rt.alloc(), told, rows)?;
+    }
+    Ok(())
 }

@@ -1,15 +1,6 @@
 //! What came beside what was wanted.
-use std::fmt::Debug;
 use std::str::from_utf8;
 use std::test::Fail;
-
-/// Fails where another value came than was wanted.
-pub fn same<T: PartialEq + Debug>(case: &str, came: &T, wanted: &T) -> Result<(), Fail> {
-    if came == wanted {
-        return Ok(());
-    }
-    Err(Fail::new(format_args!("{case}: wanted {wanted:?}, came {came:?}")))
-}
 
 /// Fails where another text came than was wanted.
 pub fn same_text(case: &str, came: &[u8], wanted: &str) -> Result<(), Fail> {

@@ -1,22 +1,24 @@
-//! Tests of queries below the engine, by public functions alone: bound, offered to their sources, and answered, as far as the program's streams
-//! (`tests/`) cannot show it. They stand apart, so that no crate is proved a second time for its tests.
+//! Tests of values, expressions, restrictions and queries below the engine, by public functions alone: bound, and offered to their sources, as far as the
+//! program's streams (`tests/`) cannot show it. They stand apart, so that no crate is proved a second time for its tests.
 #![tactic(auto)]
 
 #[cfg(test)]
-mod answers;
-#[cfg(test)]
 mod bound;
 #[cfg(test)]
-mod bound_items;
-#[cfg(test)]
-mod bound_queries;
+mod build;
 #[cfg(test)]
 mod columns;
 #[cfg(test)]
 mod expect;
 #[cfg(test)]
-mod offers;
+mod expressions;
 #[cfg(test)]
-mod plain_answers;
+mod fits;
 #[cfg(test)]
-mod slots;
+mod laws;
+#[cfg(test)]
+mod restrictions;
+#[cfg(test)]
+mod rows;
+#[cfg(test)]
+mod values;

@@ -1,7 +1,0 @@
-use Rattle.med_session.specs.Engine.{IsSound}
-use Rattle.med_session.specs.Shows.{shown}
-use Rattle.cursor_tests.proofs.fetched.reads.Given as goal
-
--- the engine stays sound
-abbrev pub invariant-loop-row : goal.invariant-loop-row
-invariant-loop-row g l = IsSound (shown g.W.Wrapper.meaning l.engine)

@@ -1,2 +1,0 @@
-mod CallLemmas
-mod GoingLemmas

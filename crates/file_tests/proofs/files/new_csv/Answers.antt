@@ -1,4 +1,0 @@
-use Rattle.file_tests.proofs.files.new_csv.Goals as goal
-
-pub returns : goal.returns
-returns c = c.new.ensures.new.idle

@@ -1,7 +1,0 @@
-use Rattle.std.proofs.Common.{map}
-use Rattle.fdw_api.specs.Scan.{restriction_form}
-use Rattle.file_tests.specs.Going.{IsGoing}
-use Rattle.file_tests.proofs.random_formats.read_rounds.Given as goal
-
-abbrev pub invariant-loop-params : goal.invariant-loop-params
-invariant-loop-params g l = IsGoing (g.W.Wrapper.meaning l.source) l.ticket.number (map restriction_form l.reading.spec.now.offered.items)

@@ -1,0 +1,7 @@
+use Rattle.med_session.specs.Engine.{IsSound}
+use Rattle.med_session.specs.Shows.{shown}
+use Rattle.session_tests.proofs.blobs.replies_to_all.Given as goal
+
+-- the engine stays sound
+abbrev pub invariant-loop-row : goal.invariant-loop-row
+invariant-loop-row g l = IsSound (shown g.W.Wrapper.meaning l.engine)

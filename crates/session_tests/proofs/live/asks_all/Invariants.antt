@@ -1,0 +1,7 @@
+use Rattle.med_session.specs.Engine.{IsSound}
+use Rattle.med_session.specs.Shows.{shown}
+use Rattle.session_tests.proofs.live.asks_all.Given as goal
+
+-- the engine stays sound
+abbrev pub invariant-loop-text : goal.invariant-loop-text
+invariant-loop-text g l = IsSound (shown g.W.Wrapper.meaning l.engine)

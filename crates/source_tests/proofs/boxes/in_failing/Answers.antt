@@ -1,0 +1,10 @@
+use Rattle.std.proofs.Common.{◌∙◌, ap, subst, sym, []}
+use Rattle.fdw_api.specs.State.{BoxState, IsIdle}
+use Rattle.source_tests.proofs.Writing.{idle_failed}
+use Rattle.source_tests.proofs.boxes.in_failing.Goals as goal
+
+pub returns-clause-idle : goal.returns-clause-idle
+returns-clause-idle g c = subst (λ (s : BoxState). IsIdle s) (sym c.new.ensures.shows) (idle_failed (g.W.Wrapper.meaning c.args.inner) c.args.passes c.requires.idle)
+
+pub returns-clause-free : goal.returns-clause-free
+returns-clause-free g c = λ columns. ap (λ (s : BoxState). s.nature.kind.objections columns []) c.new.ensures.shows ∙ c.requires.free columns

@@ -1,0 +1,4 @@
+use Rattle.source_tests.proofs.files.new_csv.Goals as goal
+
+pub returns : goal.returns
+returns c = c.new.ensures.new.idle

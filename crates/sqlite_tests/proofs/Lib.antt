@@ -1,4 +1,0 @@
-mod CallLemmas
-mod GoingLemmas
-mod Known
-mod Writing

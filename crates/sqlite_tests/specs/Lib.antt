@@ -1,3 +1,0 @@
-pub mod Blank
-pub mod Going
-pub mod Writing
