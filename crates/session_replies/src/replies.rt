@@ -1,7 +1,7 @@
 //! Replies to requests, and their text.
-ghost use Rattle.std.specs.Prelude.{◌≡◌, ◌+◌, ◌≤◌, ◌++◌, ◌∷◌, [], ℕ, flat_map, length, map, IfOk, OnOk, string_bytes, vec_len, vec_capacity, codes, decimal};
+ghost use Rattle.std.specs.Prelude.{◌≡◌, ◌+◌, ◌≤◌, ◌++◌, ◌∷◌, ℕ, flat_map, length, map, OnOk, string_bytes, vec_len, vec_capacity, codes, decimal};
 ghost use Rattle.med_value.specs.Datum.{tuple};
-ghost use Rattle.med_value.specs.Text.{escaped_text};
+ghost use Rattle.med_value.specs.Text.{escaped_text, HasGrown};
 ghost use Rattle.sql_meaning.specs.Replies.{reply_text, done, answered, refused, header, line, row_line, tag_line, rows_tag};
 ghost use Rattle.med_syntax.specs.DdlView.{ddl_tree};
 ghost use Rattle.session_replies.specs.Outcomes.{HasRows, TellsReply, reply_of, word_text};
@@ -15,6 +15,9 @@ use med_syntax::{Ddl, WriteStatement};
 use med_value::text::{escaped_text, row_text};
 use med_value::{Cause, NoMemory, Row};
 use std::alloc::Global;
+
+/// The room that is taken first for the lines of a reply, which are made one after another.
+const LINE_ROOM: usize = 64;
 
 /// The statement that wrote rows, as its tag begins.
 #[derive(Clone, Copy, Debug, PartialEq, Eq)]
@@ -156,22 +159,23 @@ fn write_refusal(sid: u16, cause: Cause, out: &mut Vec<u8>)
     put(b"\n", out);
 }
 
-// Appends the number of a session, and what a line of it begins with.
-fn append_start(sid: u16, begins: &[u8], text: &mut Vec<u8>) -> Result<(), NoMemory>
-    ensures { OnOk result (text.new.items ≡ text.old.items ++ decimal sid ++ codes " " ++ begins.now) }
+// Begins a line of a session, in place of the line before it.
+fn begin_line(sid: u16, begins: &[u8], text: &mut Vec<u8>) -> Result<(), NoMemory>
+    ensures { OnOk result (text.new.items ≡ decimal sid ++ codes " " ++ begins.now) }
 {
     let mut buffer = Buffer::new();
+    text.clear();
     text.extend_from_slice(buffer.format(sid).as_bytes())?;
     text.push(b' ')?;
     text.extend_from_slice(begins)?;
     Ok(())
 }
 
-// Appends the line of output names.
-fn append_header(sid: u16, names: &[String], text: &mut Vec<u8>) -> Result<(), NoMemory>
-    ensures { OnOk result (text.new.items ≡ text.old.items ++ line sid (header (map string_bytes names.now))) }
+// Makes the line of output names, in place of the line before it.
+fn make_header(sid: u16, names: &[String], text: &mut Vec<u8>) -> Result<(), NoMemory>
+    ensures { OnOk result (text.new.items ≡ line sid (header (map string_bytes names.now))) }
 {
-    append_start(sid, b"H", text)?;
+    begin_line(sid, b"H", text)?;
     append_names(names, text)?;
     text.push(b'\n')?;
     Ok(())
@@ -188,11 +192,11 @@ fn append_names(names: &[String], text: &mut Vec<u8>) -> Result<(), NoMemory>
     Ok(())
 }
 
-// Appends the line of a row.
-fn append_row(sid: u16, row: &Row, text: &mut Vec<u8>) -> Result<(), NoMemory>
-    ensures { OnOk result (text.new.items ≡ text.old.items ++ line sid (row_line (tuple row.now))) }
+// Makes the line of a row, in place of the line before it.
+fn make_row(sid: u16, row: &Row, text: &mut Vec<u8>) -> Result<(), NoMemory>
+    ensures { OnOk result (text.new.items ≡ line sid (row_line (tuple row.now))) }
 {
-    append_start(sid, b"R", text)?;
+    begin_line(sid, b"R", text)?;
     if !row.cells.is_empty() {
         text.push(b'\t')?;
         row_text(row, text)?;
@@ -201,22 +205,12 @@ fn append_row(sid: u16, row: &Row, text: &mut Vec<u8>) -> Result<(), NoMemory>
     Ok(())
 }
 
-// Appends the lines of rows.
-fn append_rows(sid: u16, rows: &[Row], text: &mut Vec<u8>) -> Result<(), NoMemory>
-    ensures { OnOk result (text.new.items ≡ text.old.items ++ flat_map (λ row. line sid (row_line row)) (map tuple rows.now)) }
-{
-    for row in rows {
-        append_row(sid, row, text)?;
-    }
-    Ok(())
-}
-
-// Appends the tag of this word and so many rows.
-fn append_count(sid: u16, word: &[u8], count: usize, text: &mut Vec<u8>) -> Result<(), NoMemory>
-    ensures { OnOk result (text.new.items ≡ text.old.items ++ line sid (tag_line (rows_tag word.now count))) }
+// Makes the line of the tag of this word and so many rows, in place of the line before it.
+fn make_count(sid: u16, word: &[u8], count: usize, text: &mut Vec<u8>) -> Result<(), NoMemory>
+    ensures { OnOk result (text.new.items ≡ line sid (tag_line (rows_tag word.now count))) }
 {
     let mut buffer = Buffer::new();
-    append_start(sid, b"T ", text)?;
+    begin_line(sid, b"T ", text)?;
     text.extend_from_slice(word)?;
     text.push(b' ')?;
     text.extend_from_slice(buffer.format(count).as_bytes())?;
@@ -224,16 +218,44 @@ fn append_count(sid: u16, word: &[u8], count: usize, text: &mut Vec<u8>) -> Resu
     Ok(())
 }
 
-// The reply of rows, with the word of its tag.
-fn answer_text(alloc: Global, sid: u16, word: &[u8], set: &RowSet) -> Result<Vec<u8>, NoMemory>
-    ensures { IfOk result (λ text. text.items
-        ≡ reply_text sid (answered word.now (map string_bytes set.now.names.items) (map tuple set.now.rows.items))) }
+// Appends the lines of rows, each made in `text` first.
+fn append_rows(
+    sid: u16,
+    rows: &[Row],
+    text: &mut Vec<u8>,
+    out: &mut Vec<u8>,
+) -> Result<(), NoMemory>
+    ensures ok { OnOk result (out.new.items ≡ out.old.items ++ flat_map (λ row. line sid (row_line row)) (map tuple rows.now)) }
+    ensures grows { HasGrown out.old.items out.new.items }
+    ensures capacity { vec_capacity out.old ≤ vec_capacity out.new }
 {
-    let mut text = Vec::new(alloc);
-    append_header(sid, &set.names, &mut text)?;
-    append_rows(sid, &set.rows, &mut text)?;
-    append_count(sid, word, set.rows.len(), &mut text)?;
-    Ok(text)
+    for row in rows {
+        make_row(sid, row, text)?;
+        out.extend_from_slice(text)?;
+    }
+    Ok(())
+}
+
+// Appends the lines of a reply of rows, with the word of its tag. Where memory is refused, the lines before stand.
+fn append_answer(
+    alloc: Global,
+    sid: u16,
+    word: &[u8],
+    set: &RowSet,
+    out: &mut Vec<u8>,
+) -> Result<(), NoMemory>
+    ensures ok { OnOk result (out.new.items ≡ out.old.items
+        ++ reply_text sid (answered word.now (map string_bytes set.now.names.items) (map tuple set.now.rows.items))) }
+    ensures grows { HasGrown out.old.items out.new.items }
+    ensures capacity { vec_capacity out.old ≤ vec_capacity out.new }
+{
+    let mut text = Vec::with_capacity(alloc, LINE_ROOM)?;
+    make_header(sid, &set.names, &mut text)?;
+    out.extend_from_slice(&text)?;
+    append_rows(sid, &set.rows, &mut text, out)?;
+    make_count(sid, word, set.rows.len(), &mut text)?;
+    out.extend_from_slice(&text)?;
+    Ok(())
 }
 
 // Writes the reply of rows, or that memory was refused; and whether it told the rows.
@@ -242,11 +264,11 @@ fn write_answer(alloc: Global, sid: u16, word: &[u8], set: &RowSet, out: &mut Ve
     ensures { TellsReply sid (answered word.now (map string_bytes set.now.names.items) (map tuple set.now.rows.items)) result
         out.old.items out.new.items }
 {
-    if let Ok(text) = answer_text(alloc, sid, word, set) {
-        if out.extend_from_slice(&text).is_ok() {
-            return true;
-        }
+    let before = out.len();
+    if append_answer(alloc, sid, word, set, out).is_ok() {
+        return true;
     }
+    out.truncate(before);
     write_refusal(sid, Cause::OutOfMemory, out);
     false
 }
