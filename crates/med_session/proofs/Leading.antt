@@ -12,7 +12,7 @@ use Rattle.sql_meaning.specs.Requests.{AskedLine, opening, sql, bye}
 use Rattle.sql_meaning.specs.World.{World, Session}
 use Rattle.sql_meaning.specs.Picks.{Pick}
 use Rattle.sql_meaning.specs.Replies.{Reply, answered, refused, reply_text}
-use Rattle.sql_meaning.specs.Steps.{Trouble, TakesMemory, TreeDoes, Does, Step, is_refused, is_done, lacks_memory, fetch_lacks_memory, source_fails, numbers_end}
+use Rattle.sql_meaning.specs.Steps.{Trouble, TakesMemory, TreeDoes, Does, Step, is_refused, is_done, lacks_memory, fetch_lacks_memory, source_fails, numbers_end, shared_shows}
 use Rattle.med_world.specs.Engine.{Shown, Agrees, TreeAsks, Leads, IsAnswered}
 use Rattle.med_world.specs.Laws.{IsRead}
 use Rattle.med_select.specs.declared.selecting.RowSet.{RowSet}
@@ -51,6 +51,7 @@ rows_refused w sid request t names rows after new (lacks_memory m asked takes e 
 rows_refused w sid request t names rows after new (fetch_lacks_memory m asked s count name is e same) a = absurd (cc)
 rows_refused w sid request t names rows after new (source_fails m s tree is before e loses) a = absurd (cc)
 rows_refused w sid request t names rows after new (numbers_end m s tree is before may e same) a = absurd (cc)
+rows_refused w sid request t names rows after new (shared_shows s tree c is rests may before e same) a = absurd (cc)
 
 -- a statement that gave rows asked the boxes for no more than it may where it is refused
 rows_asked : (e : Shown) (sid : ℕ) (tree : CommandTree) (tag : List ℕ) (names : List Name) (rows : List Tuple) (new : Shown) → TreeAsks e sid tree (answered tag names rows) new → TreeAsks e sid tree (refused OutOfMemory) new

@@ -1,5 +1,5 @@
 //! Sources that are added, and handed back.
-ghost use Rattle.fdw_api.specs.State.{IsIdle, is_honest};
+ghost use Rattle.fdw_api.specs.State.{IsIdle};
 ghost use Rattle.med_exec.specs.Slots.{states};
 ghost use Rattle.med_session.specs.Shows.{label};
 ghost use Rattle.med_world.specs.Adding.{HasSource};
@@ -50,11 +50,11 @@ impl<W: Wrapper2> Engine<W> {
     ghost use Rattle.med_session.specs.Adding.{AddCause, AreCounts};
     ghost use Rattle.med_session.specs.Shows.{shown};
     ghost use Rattle.med_world.specs.Adding.{Adds};
-    ghost use Rattle.med_world.specs.Engine.{Shown, IsSound, Agrees, TakesAs, EachBox, IsAtRest, ClosesAll};
+    ghost use Rattle.med_world.specs.Engine.{Shown, IsSound, Agrees, TakesAs, EachBox, IsAtRest, ClosesAll, state_of};
     ghost use Rattle.sql_meaning.specs.World.{World, with_source};
 
     /// Adds a source under a name, any text, that HANDLER names by this kind. Its wrapper is to be idle: nothing bound, live or staged;
-    /// and it takes each table that the catalogue lets pass for this kind.
+    /// and it takes each table that the catalogue lets pass for this kind. In a world it is shared where its wrapper is not honest.
     ///
     /// # Errors
     ///
@@ -73,9 +73,8 @@ impl<W: Wrapper2> Engine<W> {
         requires takes { TakesAs kind (W.meaning wrapper) }
         ensures sound { IsSound (shown W.meaning self.new) }
         ensures added { OnOk result (Adds (shown W.meaning self.old) name.now kind (W.meaning wrapper) (shown W.meaning self.new)) }
-        ensures world { OnOk result ((w : World) → Agrees (shown W.meaning self.old) w → is_honest (W.meaning wrapper)
-            → Agrees (shown W.meaning self.new)
-            (with_source w name.now kind (W.meaning wrapper).nature.kind (W.meaning wrapper).content.holdings)) }
+        ensures world { OnOk result ((w : World) → Agrees (shown W.meaning self.old) w
+            → Agrees (shown W.meaning self.new) (with_source w name.now kind (state_of (Some (W.meaning wrapper))))) }
         ensures fault { IfErr result (λ back. AddCause (shown W.meaning self.old).labels name.now back.1) }
         ensures handed_back { IfErr result (λ back. W.meaning back.0 ≡ W.meaning wrapper) }
         ensures unchanged { OnErr result (shown W.meaning self.new ≡ shown W.meaning self.old) }

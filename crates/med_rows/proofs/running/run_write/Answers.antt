@@ -94,9 +94,10 @@ returns-then-not-fits-clause-err g c =
     let bound = map attached c.args.bound.now in
     let t = write_tree c.args.statement in
     let b = c.in-Some.query in
+    let few : is_large_form (form_of b.select) ≡ false = sym c.is_large_query.ensures ∙ c.if-is_large_query.false in
     untyped c.written_rows_are_typed.ensures o c.args.user.now bound t c.in-Ok.write b (states g.W.Wrapper.meaning c.args.slots.now.items) (states g.W.Wrapper.meaning c.run_query.new.slots.items)
     (map tuple c.in-Ok-run_query.rows.items) c.args.is_leased c.if-is_leased.false c.requires.ready c.in-Ok.ensures.bindable c.requires.clean c.in-Ok.ensures.meant
-    (query_there o bound t c.in-Ok.write.query b (sym c.take.ensures.value ∙ c.in-Some.is) c.in-Ok.ensures.meant.query) c.in-Ok-run_query.ensures.ok c.run_query.ensures.served
+    (query_there o bound t c.in-Ok.write.query b (sym c.take.ensures.value ∙ c.in-Some.is) c.in-Ok.ensures.meant.query) c.in-Ok-run_query.ensures.ok few c.run_query.ensures.served
     (λ places form. sym c.if-not-fits.true ∙ rw c.as_slice.ensures.value at c.fits.ensures places form)
 
 pub write_rows-requires-2 : goal.write_rows-requires-2

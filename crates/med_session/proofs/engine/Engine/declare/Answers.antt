@@ -67,5 +67,5 @@ returns-in-Err-clause-leads g c = λ text user read.
     (elim (rw c.deref.ensures.value at c.in-Err.ensures.err) as (λ _. Leads e sid (sql text) (refused c.in-Err.cause) (with_boxes e boxes)) [
       | is_taken told there kept ↦ rw (told, kept) (c.cursors_lead.ensures.exists e sid text seat _ _ asked is_open there)
       | no_memory told kept ↦ rw (told, kept) (c.sessions_lead.ensures.no_memory e sid (sql text) tt)
-      | not_started unknown fails ↦ c.cursors_lead.ensures.not_declared e boxes sid text seat _ _ c.in-Err.cause asked is_open unknown fails
+      | not_started unknown fails ↦ c.cursors_lead.ensures.not_declared e boxes sid text seat _ _ c.in-Err.cause asked is_open c.requires.sound unknown fails
     ])

@@ -51,7 +51,7 @@ returns-in-Ok-run_select-clause-leads g c =
       has = subst (λ (x : Command). HasCommand c.args.text.now (command_tree x)) c.in-Data.is c.in-Ok.ensures.found;
       one = c.one_tree.ensures c.args.text.now;
     } in
-    c.queries_lead.ensures.answered e _ c.args.sid.number c.args.text.now c.in-Some.user.now (query_in t) _ _ (read_query e c.args.sid.number c.args.text.now c.in-Some.user.now t read)
+    c.queries_lead.ensures.answered e _ c.args.sid.number c.args.text.now c.in-Some.user.now (query_in t) _ _ (read_query e c.args.sid.number c.args.text.now c.in-Some.user.now t read) c.requires
     (rw c.deref.ensures.value at c.in-Ok-run_select.ensures.ok)
 
 pub returns-in-Data-clause-sound : goal.returns-in-Data-clause-sound
@@ -69,7 +69,7 @@ returns-in-Data-clause-leads g c =
       has = subst (λ (x : Command). HasCommand c.args.text.now (command_tree x)) c.in-Data.is c.in-Ok.ensures.found;
       one = c.one_tree.ensures c.args.text.now;
     } in
-    c.queries_lead.ensures.refused e _ c.args.sid.number c.args.text.now c.in-Some.user.now (query_in t) _ (read_query e c.args.sid.number c.args.text.now c.in-Some.user.now t read)
+    c.queries_lead.ensures.refused e _ c.args.sid.number c.args.text.now c.in-Some.user.now (query_in t) _ (read_query e c.args.sid.number c.args.text.now c.in-Some.user.now t read) c.requires
     (rw c.deref.ensures.value at c.in-Err-run_select.ensures.err)
 
 pub returns-in-Ok-alter-clause-leads : goal.returns-in-Ok-alter-clause-leads
