@@ -1,23 +1,24 @@
-use Rattle.std.proofs.Common.{◌≤◌, ◌++◌, take, arith}
-use Rattle.csv.specs.Records.{fields_of}
+use Rattle.std.proofs.Common.{◌≤◌, ◌++◌, ◌∙◌, ap, sym, refl, arith}
+use Rattle.std.proofs.lemmas.List.{append-nil}
+use Rattle.csv.specs.Writing.{default_writer, row_text}
 use Rattle.csv_tables.specs.CsvRecords.{csv_text}
 use Rattle.csv_tables.specs.Flat.{header_in}
-use Rattle.csv_tables.specs.Tables.{records_of}
-use Rattle.csv_tables.proofs.Writing.{writes_as, text_next, text_whole, image_is}
+use Rattle.csv_tables.specs.Tables.{record_at}
+use Rattle.csv_tables.proofs.Writing.{text_next, text_whole}
 use Rattle.csv_tables.proofs.written.image_of.Goals as goal
+
+pub loop-at-init : goal.loop-at-init
+loop-at-init c = c.in_ok-image.ensures ∙ ap csv_text (sym (append-nil (header_in c.args.header.now)))
 
 pub loop-at-preserved : goal.loop-at-preserved
 loop-at-preserved c =
     let s = c.args.rows.now in
     let at = c.loop-at.at in
-    let line = c.record_at.new.row in
-    let text = csv_text (header_in c.args.header.now ++ take at (records_of s)) in
-    writes_as _ _ _ (c.in_ok-write_line-2.ensures text c.loop-at.invariant)
-    (text_next (header_in c.args.header.now) s at (fields_of line) c.loop-at-test.true c.in_ok-record_at.ensures)
+    c.in_ok-add_line.ensures ∙ ap (λ l. l ++ row_text default_writer (record_at s at)) c.loop-at.invariant
+    ∙ text_next (header_in c.args.header.now) s at (record_at s at) c.loop-at-test.true refl
 
-pub returns-in-Ok : goal.returns-in-Ok
-returns-in-Ok c =
+pub returns : goal.returns
+returns c =
     let s = c.args.rows.now in
-    let at = c.loop-at.at in
-    let past : s.count ≤ at = omega arith in
-    image_is _ c.loop-at.wtr c.in-Ok.image (writes_as _ _ _ c.loop-at.invariant (text_whole (header_in c.args.header.now) s at past)) c.in-Ok.ensures.ok
+    let past : s.count ≤ c.loop-at.at = omega arith in
+    c.loop-at.invariant ∙ text_whole (header_in c.args.header.now) s c.loop-at.at past
