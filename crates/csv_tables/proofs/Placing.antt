@@ -4,7 +4,6 @@ use Rattle.med_value.specs.Datum.{Tuple}
 use Rattle.fdw_api.specs.Scan.{RestrictionForm, TableRow, meets}
 use Rattle.fdw_api.specs.declared.scan.Agree.{Agree}
 use Rattle.fdw_api.specs.declared.scan.Agree.TheVariants.{Ignored, Hint, Exact}
-use Rattle.csv.specs.Records.{fields_of}
 use Rattle.csv_tables.specs.declared.table.CsvTable.{CsvTable}
 use Rattle.csv_tables.specs.CsvRecords.{Record}
 use Rattle.csv_tables.specs.Shapes.{Shape}

@@ -1,11 +1,11 @@
 -- Records that the writer writes as they stand in a text: those of which no field needs quotes, and which show a byte.
-use Rattle.std.proofs.Common.{◌≡◌, ℕ, zero, suc, ◌+◌, ◌<◌, Bool, true, false, ◌||◌, if◌then◌else◌, List, [], ◌∷◌, ◌++◌, length, take, get_or, nat_eq, nat_lt, ◌≤◌, ◌&&◌, refl, ap, sym, ◌∙◌, arith}
-use Rattle.std.specs.List.{flat_map, list_any}
+use Rattle.std.proofs.Common.{◌≡◌, ℕ, suc, ◌+◌, ◌<◌, Bool, true, false, if◌then◌else◌, List, [], ◌∷◌, ◌++◌, length, take, get_or, nat_eq, nat_lt, ◌≤◌, ◌&&◌, refl, ap, sym, ◌∙◌, arith}
+use Rattle.std.specs.List.{flat_map}
 use Rattle.std.proofs.lemmas.Bool.Decides.{nat_tests}
-use Rattle.std.proofs.lemmas.List.{append-nil, append_assoc, take_all, take_more}
+use Rattle.std.proofs.lemmas.List.{append-nil, append_assoc, take_more}
 use Rattle.csv.specs.Writing.{default_writer, needs_byte, needs_quotes, field_text, fields_text, is_blank, row_body, row_text}
 use Rattle.csv_tables.specs.CsvRecords.{Record}
-use Rattle.csv_tables.specs.Held.{ended, line_text, special, special_in, is_plain}
+use Rattle.csv_tables.specs.Held.{line_text, special, special_in, is_plain}
 
 special_both : (xs ys : List ℕ) → special_in (xs ++ ys) ≡ special_in xs + special_in ys
 special_both [] ys = omega arith

@@ -6,7 +6,6 @@ use Rattle.csv.specs.Writing.{default_writer, row_text, text_written, fields_wri
 use Rattle.csv.specs.declared.writer.Writer.{Writer}
 use Rattle.csv.specs.declared.writer.WriterBuilder.{WriterBuilder}
 use Rattle.csv.specs.declared.writer.QuoteStyle.TheVariants as style
-use Rattle.csv.specs.Records.{fields_of}
 use Rattle.csv_tables.specs.declared.table.Rows.{Rows}
 use Rattle.csv_tables.specs.CsvRecords.{Record, csv_text}
 use Rattle.csv_tables.specs.Tables.{record_at, records_of}

@@ -1,5 +1,4 @@
 use Rattle.std.proofs.Common.{◌≡◌, ◌≤◌, ◌∙◌, [], true, ap, sym, ℕ, length, arith}
-use Rattle.csv.specs.Records.{fields_of}
 use Rattle.csv_tables.specs.CsvRecords.{csv_records}
 use Rattle.csv_tables.specs.Content.{rows_so_far}
 use Rattle.csv_tables.specs.Flat.{cut_into, header_in}

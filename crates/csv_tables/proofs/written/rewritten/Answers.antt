@@ -1,11 +1,10 @@
 use Rattle.std.proofs.Common.{◌≡◌, ◌+◌, ◌-◌, ◌<◌, ◌≤◌, ◌∷◌, ◌++◌, [], ◌∙◌, sym, ap, length, take, drop, refl, arith, rules}
-use Rattle.std.proofs.lemmas.List.{append-nil, drop_all, nil_from_length}
+use Rattle.std.proofs.lemmas.List.{drop_all, nil_from_length}
 use Rattle.csv.specs.Records.{fields_of}
 use Rattle.staged_changes.specs.declared.fates.Fate.TheVariants.{Keep, Change as ChangeTo, Gone}
-use Rattle.csv_tables.specs.CsvRecords.{Record, is_whole}
 use Rattle.csv_tables.specs.Held.{held_of}
 use Rattle.csv_tables.specs.Tables.{records_of, record_at}
-use Rattle.csv_tables.specs.Rewriting.{is_wide, left_by, Gathers}
+use Rattle.csv_tables.specs.Rewriting.{left_by}
 use Rattle.csv_tables.proofs.Flat.{cut_drop, cut_length}
 use Rattle.csv_tables.proofs.Gathering.{wide_first, gathers_all, run_more, run_none}
 use Rattle.staged_changes.proofs.Weaves.{fate_on, fate_gone, fate_past, fates_end}
@@ -38,7 +37,7 @@ loop-fate-preserved-then-at-rows c =
               i.done.0,
               i.done.1,
               ap (λ l. l ++ left_by gs (drop (at + 1) rs)) (sym (run_more i.done.0 rs from at _ _ i.order next))
-              ∙ fate_on fields_of run _ _ _ _ (record_at s at) Keep fs gs i.done.2 e next refl,
+                  ∙ fate_on fields_of run _ _ _ _ (record_at s at) Keep fs gs i.done.2 e next refl,
             );
           })
       | in-Change+in_ok-gathered-in-Change+in_ok-gather-in-Change w ↦
@@ -58,7 +57,7 @@ loop-fate-preserved-then-at-rows c =
               done,
               g.rows s.width run (k.rows i.done.0 i.done.1) wide.0,
               ap (λ l. l ++ left_by gs (drop (at + 1) rs)) (sym (run_none done rs (at + 1)))
-              ∙ fate_on fields_of run _ _ _ _ (fields_of w.in-Change.new) (ChangeTo w.in-Change.new) fs gs i.done.2 e next refl,
+                  ∙ fate_on fields_of run _ _ _ _ (fields_of w.in-Change.new) (ChangeTo w.in-Change.new) fs gs i.done.2 e next refl,
             );
           })
       | in-Gone+in_ok-gathered-in-Gone w ↦
@@ -74,7 +73,7 @@ loop-fate-preserved-then-at-rows c =
               run,
               k.rows i.done.0 i.done.1,
               ap (λ l. l ++ left_by gs (drop (at + 1) rs)) (sym (run_none run rs (at + 1)))
-              ∙ fate_gone fields_of run _ _ _ _ fs gs i.done.2 e next,
+                  ∙ fate_gone fields_of run _ _ _ _ fs gs i.done.2 e next,
             );
           })
     ]

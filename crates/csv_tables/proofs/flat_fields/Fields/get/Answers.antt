@@ -1,4 +1,4 @@
-use Rattle.std.proofs.Common.{◌≡◌, ◌<◌, ◌≤◌, ◌∙◌, length, sym, ap, arith, rules}
+use Rattle.std.proofs.Common.{◌<◌, ◌≤◌, ◌∙◌, length, sym, ap, arith, rules}
 use Rattle.csv.proofs.RecordFacts.{field-bounds, field-none}
 use Rattle.csv_tables.specs.Held.{held_of}
 use Rattle.csv_tables.proofs.Moving.{held_size, held_field}

@@ -1,4 +1,4 @@
-use Rattle.std.proofs.Common.{◌≡◌, ◌≤◌, ◌∙◌, sym, ap, length, arith}
+use Rattle.std.proofs.Common.{◌≤◌, sym, ap, length, arith}
 use Rattle.csv_tables.specs.Held.{held_of}
 use Rattle.csv_tables.proofs.Moving.{held_size, prev_within, prev_order, text_range}
 use Rattle.csv_tables.proofs.flat_fields.Fields.text.Goals as goal

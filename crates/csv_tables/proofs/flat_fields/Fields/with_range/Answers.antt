@@ -1,5 +1,5 @@
-use Rattle.std.proofs.Common.{◌≡◌, ◌≤◌, ◌-◌, ◌++◌, ◌∙◌, [], sym, ap, map, take, drop, length, arith}
-use Rattle.csv.specs.Records.{fields_of, last_end, prev}
+use Rattle.std.proofs.Common.{◌≡◌, ◌≤◌, ◌-◌, ◌++◌, ◌∙◌, [], ap, map, take, drop, length, arith}
+use Rattle.csv.specs.Records.{last_end, prev}
 use Rattle.csv_tables.specs.Held.{held_of, moved}
 use Rattle.csv_tables.proofs.Moving.{held_size, closed, range_text, text_range, moved_rising, moved_fields, moved_last}
 use Rattle.csv_tables.proofs.flat_fields.Fields.with_range.Goals as goal

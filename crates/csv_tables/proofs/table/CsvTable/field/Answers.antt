@@ -1,5 +1,4 @@
 use Rattle.std.proofs.Common.{◌∙◌, arith}
-use Rattle.csv.specs.Records.{fields_of}
 use Rattle.csv_tables.proofs.Flat.{field_here, place_within}
 use Rattle.csv_tables.proofs.table.CsvTable.field.Goals as goal
 use Rattle.csv_tables.specs.Held.{held_of}

@@ -4,7 +4,6 @@ use Rattle.std.specs.String.{string_bytes}
 use Rattle.med_value.specs.Datum.{Datum, NoValue, datum}
 use Rattle.csv_tables.specs.Cells.{cell_of}
 use Rattle.csv_tables.specs.Tables.{fields_at}
-use Rattle.csv.specs.Records.{fields_of}
 use Rattle.csv_tables.proofs.Flat.{texts_take, texts_drop, text_of_slice}
 use Rattle.csv_tables.proofs.RowCells.{cell_none, cell_missing, cell_there, none_past}
 use Rattle.csv_tables.proofs.table.CsvTable.value.Goals as goal
