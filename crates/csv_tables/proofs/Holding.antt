@@ -1,18 +1,18 @@
 -- Records in a text in which each field has one byte behind it.
-use Rattle.std.proofs.Common.{◌≡◌, ℕ, zero, suc, ◌+◌, ◌*◌, ◌-◌, ◌<◌, ◌≤◌, Bool, true, false, ◌&&◌, nat_eq, List, [], ◌∷◌, ◌++◌, length, map, take, drop, Some, None, refl, ap, sym, ◌∙◌, arith}
+use Rattle.std.proofs.Common.{◌≡◌, ℕ, zero, suc, ◌+◌, ◌*◌, ◌-◌, ◌≤◌, Bool, true, false, ◌&&◌, nat_eq, List, [], ◌∷◌, ◌++◌, length, map, take, drop, Some, None, refl, ap, sym, ◌∙◌, arith}
 use Rattle.std.specs.List.{list_all, flat_map}
 use Rattle.std.specs.Str.{is_utf8}
 use Rattle.std.proofs.lemmas.Bool.Decides.{nat_tests}
-use Rattle.std.proofs.lemmas.List.{append-nil, append_assoc, map-append, length-append, length-drop, length_push, take_at, drop_at, flat_map_more}
+use Rattle.std.proofs.lemmas.List.{append-nil, append_assoc, map-append, length-append, length-map, length-drop, take_all, length_push, take_at, drop_at, flat_map_more}
 use native.Mathlib.Nat.{suc-mul}
 use Rattle.csv.specs.Records.{Row, field_at, fields_of}
 use Rattle.csv_tables.specs.declared.table.Rows.{Rows}
 use Rattle.csv_tables.specs.CsvRecords.{Record, is_whole}
-use Rattle.csv_tables.specs.Held.{but_last, held_of, end_of, ended, line_text}
+use Rattle.csv_tables.specs.Held.{but_last, held_of, end_of, ended}
 use Rattle.csv_tables.specs.Flat.{cut_into}
-use Rattle.csv_tables.specs.Tables.{records_of, record_at}
+use Rattle.csv_tables.specs.Tables.{records_of}
 use Rattle.csv_tables.proofs.FieldSteps.{field_next, field_end, field_less}
-use Rattle.csv_tables.proofs.Flat.{cut_drop, texts_take, texts_drop, texts_append}
+use Rattle.csv_tables.proofs.Flat.{texts_take, texts_drop, texts_append}
 
 both : (a b : Bool) → (a && b) ≡ true → (a ≡ true) × (b ≡ true)
 both true b e = (refl, e)
@@ -175,21 +175,18 @@ pub rows_range : (r : Rows) (from to : ℕ) → from ≤ to
 rows_range r from to le =
     ap (λ (l : Record). take (to * r.width - from * r.width) (drop (from * r.width) l)) r.lines ∙ range_lines r.width from to (records_of r) (rows_whole r) le
 
--- one record of a table
-pub rows_line : (r : Rows) (at : ℕ) → at < r.count
-    → flat_map (λ f. f) (take ((at + 1) * r.width - at * r.width) (drop (at * r.width) (fields_of r.fields))) ≡ line_text (record_at r at)
-rows_line r at lt =
-    let one : (at + 1) - at ≡ 1 = omega arith in
-    ap (flat_map (λ f. f)) (rows_range r at (at + 1) (omega arith)) ∙ ap (λ (k : ℕ). flat_map (λ f. f) (flat_map ended (take k (drop at (records_of r))))) one
-    ∙ ap (λ (l : List Record). flat_map (λ f. f) (flat_map ended (take 1 l))) (cut_drop at r.count r.width (held_of r.fields) lt)
-    ∙ ap (flat_map (λ f. f)) (append-nil (ended (record_at r at)))
+-- all fields of a text
+pub text_all : (r : Row) (size : ℕ) → size ≡ length (held_of r) → flat_map (λ f. f) (take (size - 0) (drop 0 (fields_of r))) ≡ flat_map (λ f. f) (fields_of r)
+text_all r size e =
+    let n = length-map (fields_of r) but_last in
+    ap (flat_map (λ f. f)) (take_all (size - 0) (fields_of r) (omega arith))
 
 -- records that stand in a text one after the other are held by it
 held_flat : (rs : List Record) → map but_last (flat_map ended rs) ≡ flat_map (λ r. r) rs
 held_flat [] = refl
 held_flat (r ∷ rs) = map-append but_last (ended r) (flat_map ended rs) ∙ ap (λ (l : Record). l ++ map but_last (flat_map ended rs)) (held_ended r) ∙ ap (λ (l : Record). r ++ l) (held_flat rs)
 
-width_is : (w : ℕ) (r : Record) → is_whole w r ≡ true → length r ≡ w
+pub width_is : (w : ℕ) (r : Record) → is_whole w r ≡ true → length r ≡ w
 width_is w r h = sym (length_ended r) ∙ wide w r h
 
 flat_size : (w : ℕ) (rs : List Record) → list_all (is_whole w) rs ≡ true → length rs * w ≡ length (flat_map (λ r. r) rs)

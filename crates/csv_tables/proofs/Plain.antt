@@ -1,11 +1,19 @@
 -- Records that the writer writes as they stand in a text: those of which no field needs quotes, and which show a byte.
-use Rattle.std.proofs.Common.{◌≡◌, ℕ, suc, ◌+◌, ◌<◌, Bool, true, false, if◌then◌else◌, List, [], ◌∷◌, ◌++◌, length, take, get_or, nat_eq, nat_lt, ◌≤◌, ◌&&◌, refl, ap, sym, ◌∙◌, arith}
-use Rattle.std.specs.List.{flat_map}
+use Rattle.std.proofs.Common.{◌≡◌, ℕ, suc, ◌+◌, ◌<◌, Bool, true, false, if◌then◌else◌, List, [], ◌∷◌, ◌++◌, length, take, get_or, nat_eq, ◌≤◌, ◌*◌, refl, ap, sym, ◌∙◌, subst, arith}
+use Rattle.std.specs.List.{flat_map, list_all}
 use Rattle.std.proofs.lemmas.Bool.Decides.{nat_tests}
 use Rattle.std.proofs.lemmas.List.{append-nil, append_assoc, take_more}
 use Rattle.csv.specs.Writing.{default_writer, needs_byte, needs_quotes, field_text, fields_text, is_blank, row_body, row_text}
-use Rattle.csv_tables.specs.CsvRecords.{Record}
-use Rattle.csv_tables.specs.Held.{line_text, special, special_in, is_plain}
+use Rattle.csv_tables.specs.CsvRecords.{Record, csv_text, is_whole}
+use Rattle.csv_tables.specs.Held.{ended, line_text, special, special_in}
+use Rattle.csv_tables.specs.declared.table.Rows.{Rows}
+use Rattle.csv.specs.Records.{fields_of}
+use native.Mathlib.Nat.{suc-mul}
+use Rattle.csv_tables.specs.Held.{held_of}
+use Rattle.csv_tables.specs.Tables.{records_of}
+use Rattle.csv_tables.proofs.Flat.{cut_length}
+use Rattle.csv_tables.proofs.Holding.{width_is, rows_whole}
+use Rattle.csv_tables.proofs.FieldSteps.{both}
 
 special_both : (xs ys : List ℕ) → special_in (xs ++ ys) ≡ special_in xs + special_in ys
 special_both [] ys = omega arith
@@ -90,21 +98,62 @@ plain_line (f ∷ g ∷ fs) e lt =
     let s = special_line (f ∷ g ∷ fs) in
     fields_shown f (g ∷ fs) (omega arith)
 
-pub plain_row : (width : ℕ) (r : Record) (line : List ℕ) → length r ≡ width → line ≡ line_text r → is_plain width line ≡ true → line ≡ row_text default_writer r
-plain_row width r line size e h =
-    let b = both (nat_lt 1 (length line)) (nat_eq (special_in line) width) h in
-    let lt : 1 < length line = above (length line) b.0 in
-    let n : special_in line ≡ width = same (special_in line) width b.1 in
-    let x = ap length e in
-    let y = ap special_in e in
-    e ∙ sym (plain_line r (omega arith) (omega arith))
+-- records that stand so one after the other
+lines_flat : (rows : List Record) → flat_map (λ f. f) (flat_map ended rows) ≡ flat_map line_text rows
+lines_flat [] = refl
+lines_flat (r ∷ rows) = flat_both (ended r) (flat_map ended rows) ∙ ap (λ (l : List ℕ). line_text r ++ l) (lines_flat rows)
   where
-    both : (a b : Bool) → (a && b) ≡ true → (a ≡ true) × (b ≡ true)
-    both true b e = (refl, e)
-    both false b e = absurd cc
+    flat_both : (xs ys : Record) → flat_map (λ f. f) (xs ++ ys) ≡ flat_map (λ f. f) xs ++ flat_map (λ f. f) ys
+    flat_both [] ys = refl
+    flat_both (x ∷ xs) ys = ap (λ (l : List ℕ). x ++ l) (flat_both xs ys) ∙ sym (append_assoc x (flat_map (λ f. f) xs) (flat_map (λ f. f) ys))
 
-    above : (n : ℕ) → nat_lt 1 n ≡ true → 1 < n
-    above n e = grind (arith, nat_tests)
+pub text_both : (xs ys : List Record) → csv_text (xs ++ ys) ≡ csv_text xs ++ csv_text ys
+text_both [] ys = refl
+text_both (x ∷ xs) ys = ap (λ (l : List ℕ). row_text default_writer x ++ l) (text_both xs ys) ∙ sym (append_assoc (row_text default_writer x) (csv_text xs) (csv_text ys))
 
+least : (w : ℕ) (rows : List Record) → list_all (is_whole w) rows ≡ true → length rows * w ≤ special_in (flat_map line_text rows)
+least w [] h = omega arith
+least w (r ∷ rows) h =
+    let b = both (is_whole w r) (list_all (is_whole w) rows) h in
+    let n = width_is w r b.0 in
+    let m : suc (length rows) * w ≡ length rows * w + w = suc-mul (length rows) w in
+    let s = special_both (line_text r) (flat_map line_text rows) in
+    let l = special_line r in
+    let i = least w rows b.1 in
+    subst (λ (k : ℕ). k ≤ special_in (flat_map line_text (r ∷ rows))) (sym m) (omega arith)
+
+all_plain : (w : ℕ) (rows : List Record) → 1 < w → list_all (is_whole w) rows ≡ true → special_in (flat_map line_text rows) ≡ length rows * w → csv_text rows ≡ flat_map line_text rows
+all_plain w [] lt h e = refl
+all_plain w (r ∷ rows) lt h e =
+    let b = both (is_whole w r) (list_all (is_whole w) rows) h in
+    let n = width_is w r b.0 in
+    let m : suc (length rows) * w ≡ length rows * w + w = suc-mul (length rows) w in
+    let s = special_both (line_text r) (flat_map line_text rows) in
+    let l = special_line r in
+    let i = least w rows b.1 in
+    let t : special_in (line_text r ++ flat_map line_text rows) ≡ length rows * w + w = e ∙ m in
+    let shows = special_size (line_text r) in
+    ap (λ (x : List ℕ). x ++ csv_text rows) (plain_line r (omega arith) (omega arith))
+    ∙ ap (λ (x : List ℕ). line_text r ++ x) (all_plain w rows lt b.1 (omega arith))
+  where
+    one : (t : Bool) → (if t then 1 else 0) ≤ 1
+    one true = omega arith
+    one false = omega arith
+
+    special_size : (text : List ℕ) → special_in text ≤ length text
+    special_size [] = omega arith
+    special_size (b ∷ bs) = let i = special_size bs in let o = one (needs_byte default_writer b) in omega arith
+
+pub plain_rows : (r : Rows) → 1 < r.width → (count size : ℕ) → nat_eq count size ≡ true → size ≡ length (held_of r.fields) → count ≡ special_in (flat_map (λ f. f) (fields_of r.fields))
+    → csv_text (records_of r) ≡ flat_map (λ f. f) (fields_of r.fields)
+plain_rows r lt count size is all counted =
+    let text : flat_map (λ f. f) (fields_of r.fields) ≡ flat_map line_text (records_of r) = ap (flat_map (λ f. f)) r.lines ∙ lines_flat (records_of r) in
+    let n : count ≡ size = same count size is in
+    let c = cut_length r.count r.width (held_of r.fields) in
+    let w = r.whole in
+    let rows : length (records_of r) * r.width ≡ r.count * r.width = ap (λ (k : ℕ). k * r.width) c in
+    let q = ap special_in text in
+    all_plain r.width (records_of r) lt (rows_whole r) (omega arith) ∙ sym text
+  where
     same : (m n : ℕ) → nat_eq m n ≡ true → m ≡ n
     same m n e = grind (arith, nat_tests)

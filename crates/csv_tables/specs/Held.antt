@@ -1,5 +1,5 @@
 -- Fields that are held in one text as they stand in a blob: each with one byte behind it, which ends it.
-use Rattle.std.specs.Prelude.{◌+◌, ◌-◌, ◌&&◌, ℕ, Bool, nat_eq, nat_lt, if◌then◌else◌, List, [], ◌∷◌, ◌++◌, length, map, take}
+use Rattle.std.specs.Prelude.{◌+◌, ◌-◌, ℕ, Bool, if◌then◌else◌, List, [], ◌∷◌, ◌++◌, length, map, take}
 use Rattle.std.specs.List.{flat_map}
 use Rattle.csv.specs.Machine.{line_feed}
 use Rattle.csv.specs.Records.{Row, fields_of}
@@ -35,11 +35,6 @@ special b = if needs_byte default_writer b then 1 else 0
 abbrev pub special_in : List ℕ → ℕ
 special_in [] = 0
 special_in (b ∷ bs) = special b + special_in bs
-
--- a record of this many fields that stands so is what the writer would write: no byte is set apart but those that end its fields, and it
--- shows one more
-abbrev pub is_plain : ℕ → List ℕ → Bool
-is_plain width line = nat_lt 1 (length line) && nat_eq (special_in line) width
 
 -- a place that is counted from `from`, counted from `to`
 abbrev pub moved : ℕ → ℕ → ℕ → ℕ

@@ -15,7 +15,7 @@ ghost use Rattle.csv_tables.specs.Cells.{line_of, record_cells, reads_as_null};
 ghost use Rattle.csv_tables.specs.CsvRecords.{Record, csv_text, is_whole};
 ghost use Rattle.csv_tables.specs.Shapes.{read_row, unless, hides_value, causes_behind};
 ghost use Rattle.csv_tables.specs.Content.{TellsCause};
-ghost use Rattle.csv_tables.specs.Held.{is_plain, special, special_in};
+ghost use Rattle.csv_tables.specs.Held.{special, special_in};
 ghost use Rattle.csv_tables.specs.Flat.{header_in};
 ghost use Rattle.csv_tables.specs.Tables.{shape_is, record_at, records_of};
 ghost use Rattle.csv_tables.specs.Rewriting.{is_wide, left_by, rows_left, Gathers, HasWritten, Rewrites, rows_in};
@@ -256,29 +256,35 @@ fn special_in(text: &[u8]) -> usize
     count
 }
 
-/// Whether a record that stands in this text is what the writer would write.
-fn is_plain(width: usize, line: &[u8]) -> bool
-    ensures { result ≡ is_plain width line.now }
+/// Whether the records of a table are what the writer would write as they stand: no byte is set apart but those that end the fields, of
+/// which each record has some, so that it shows a byte.
+fn are_plain(rows: &Rows) -> bool
+    ensures { result ≡ true → csv_text (records_of rows.now) ≡ flat_map (λ field. field) (fields_of rows.now.fields) }
 {
-    line.len() > 1 && special_in(line) == width
+    let size = rows.fields.len();
+    if rows.width < 2 {
+        return false;
+    }
+    special_in(rows.fields.text(0, size)) == size
 }
 
-/// Appends a record of a table as the writer writes it: the bytes that stand there where they are that.
-fn add_line(alloc: Global, image: &mut Vec<u8>, rows: &Rows, at: usize) -> Result<(), NoMemory>
-    requires { at < rows.now.count }
-    ensures { OnOk result (image.new.items ≡ image.old.items ++ row_text default_writer (record_at rows.now at)) }
+/// The blob of a header and rows, of which the writer writes each anew.
+fn image_anew(alloc: Global, header: &Option<ByteRecord>, rows: &Rows) -> Result<Vec<u8>, NoMemory>
+    ensures { IfOk result (λ image. image.items ≡ csv_text (header_in header.now ++ records_of rows.now)) }
 {
-    let _fields = rows.fields.len();
-    let line = rows.fields.text(at * rows.width, (at + 1) * rows.width);
-    if is_plain(rows.width, line) {
-        image.extend_from_slice(line)?;
-        return Ok(());
+    let mut wtr = Writer::from_writer(Vec::new(alloc));
+    if let Some(header) = header {
+        write_line(&mut wtr, header)?;
     }
-    let mut row = ByteRecord::new(alloc);
-    record_at(rows, at, &mut row)?;
-    let anew = line_anew(alloc, &row)?;
-    image.extend_from_slice(&anew)?;
-    Ok(())
+    let mut line = ByteRecord::new(alloc);
+    for at in 0..rows.count {
+        record_at(rows, at, &mut line)?;
+        write_line(&mut wtr, &line)?;
+    }
+    match wtr.into_inner() {
+        Ok(image) => Ok(image),
+        Err(_) => Err(NoMemory),
+    }
 }
 
 /// The blob of a header alone.
@@ -291,14 +297,15 @@ fn header_line(alloc: Global, header: &Option<ByteRecord>) -> Result<Vec<u8>, No
     }
 }
 
-/// The blob of a header and rows.
+/// The blob of a header and rows: the bytes that stand there where they are what the writer would write.
 fn image_of(alloc: Global, header: &Option<ByteRecord>, rows: &Rows) -> Result<Vec<u8>, NoMemory>
     ensures { IfOk result (λ image. image.items ≡ csv_text (header_in header.now ++ records_of rows.now)) }
 {
-    let mut image = header_line(alloc, header)?;
-    for at in 0..rows.count {
-        add_line(alloc, &mut image, rows, at)?;
+    if !are_plain(rows) {
+        return image_anew(alloc, header, rows);
     }
+    let mut image = header_line(alloc, header)?;
+    image.extend_from_slice(rows.fields.text(0, rows.fields.len()))?;
     Ok(image)
 }
 
