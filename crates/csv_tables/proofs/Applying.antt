@@ -29,6 +29,7 @@ use Rattle.csv_tables.specs.Rewriting.{left_by, rows_left, Gathers, Rewrites, ro
 use Rattle.csv_tables.proofs.Flat.{cut_length}
 use Rattle.csv_tables.proofs.Drafts.{told, under}
 use Rattle.csv_tables.proofs.Gathering.{left_kept}
+use Rattle.csv_tables.specs.Held.{held_of}
 
 pub origins : (shape : Shape) (rs : List Record) → map (λ r. r.origin) (map (read_row shape) rs) ≡ rs
 origins shape [] = refl
@@ -57,11 +58,11 @@ pub rows_made : (t : CsvTable) (fates : List (Fate ByteRecord)) (fresh : List By
     → map (read_row (shape_is t.layout)) (map fields_of fresh) ≡ flat_map (inserted (line_of (string_bytes t.layout.null))) changes
     → map (read_row (shape_is t.layout)) (left_by fates (records_of t.rows) ++ map fields_of fresh) ≡ rows_after (line_of (string_bytes t.layout.null)) (rows_in t) changes
 rows_made t fates fresh changes same new =
-    made (shape_is t.layout) (records_of t.rows) (map fields_of fresh) t.rows.count fates changes (cut_length t.rows.count t.rows.width (fields_of t.rows.fields)) (same (records_of t.rows)) new
+    made (shape_is t.layout) (records_of t.rows) (map fields_of fresh) t.rows.count fates changes (cut_length t.rows.count t.rows.width (held_of t.rows.fields)) (same (records_of t.rows)) new
 
 -- how many records were put together
 pub gathered_size : (width : ℕ) (rs : List Record) (g : Gathered) → Gathers width rs g → length rs ≡ g.count
-gathered_size width rs g h = sym (ap length h.rows_are) ∙ cut_length g.count width (fields_of g.fields)
+gathered_size width rs g h = h.count_is
 
 pub all_size : (width : ℕ) (rs : List Record) (g : Gathered) (fresh : List ByteRecord) → Gathers width rs g → length (rs ++ map fields_of fresh) ≡ g.count + length fresh
 all_size width rs g fresh h =

@@ -1,11 +1,11 @@
 -- Records taken in one after the other.
 use Rattle.std.proofs.Common.{◌≡◌, ℕ, zero, suc, ◌+◌, ◌*◌, ◌<◌, ◌≤◌, Bool, true, false, not, ◌&&◌, nat_eq, nat_le, nat_lt, List, [], ◌∷◌, ◌++◌, length, take, drop, Option, Some, None, is_some, Contains, refl, ap, sym, ◌∙◌, subst, arith}
-use Rattle.std.specs.List.{list_all}
+use Rattle.std.specs.List.{list_all, flat_map}
 use Rattle.std.proofs.lemmas.Bool.Decides.{nat_tests}
 use Rattle.std.proofs.lemmas.List.{take-append-le, drop-append-le, take_all, length-drop, length-append}
 use Rattle.std.proofs.lemmas.List.Elements.{Contains-append_left, Contains-append_right, Contains-push}
 use native.Mathlib.Nat.{suc-mul}
-use Rattle.csv.specs.Records.{fields_of, partial_of}
+use Rattle.csv.specs.Records.{Row, fields_of, partial_of}
 use Rattle.std.specs.Str.{is_utf8}
 use Rattle.csv_tables.specs.declared.content.Draft.{Draft}
 use Rattle.csv.specs.declared.record.ByteRecord.{ByteRecord}
@@ -16,6 +16,8 @@ use Rattle.csv_tables.specs.CsvRecords.{Record, csv_records, is_whole, body, hea
 use Rattle.csv_tables.specs.Shapes.{Shape, unless, content_causes, all_whole, all_readable}
 use Rattle.csv_tables.specs.Content.{IsDraft, reads, rows_so_far, records_so_far}
 use Rattle.csv_tables.specs.Flat.{cut_into, header_in}
+use Rattle.csv_tables.specs.Held.{held_of, ended}
+use Rattle.csv_tables.proofs.Holding.{held_grown, ended_more}
 
 no_fields : (fs : Record) → length fs ≡ 0 → fs ≡ []
 no_fields [] e = refl
@@ -167,18 +169,20 @@ joined [] ys r = refl
 joined (x ∷ xs) ys r = ap (λ (l : List Record). x ∷ l) (joined xs ys r)
 
 -- a row that is taken in
-pub row_drafted : (shape : Shape) (d e : Draft) (f : Record) → IsDraft shape d → e.header ≡ d.header → fields_of e.fields ≡ fields_of d.fields ++ f → partial_of e.fields ≡ [] → e.count ≡ d.count + 1 → d.count < 1000000 → Awaits shape d ≡ false → is_whole (length shape.kinds) f ≡ true → is_readable shape.null shape.kinds f ≡ true
+pub row_drafted : (shape : Shape) (d e : Draft) (f : Record) → IsDraft shape d → e.header ≡ d.header → fields_of e.fields ≡ fields_of d.fields ++ ended f → partial_of e.fields ≡ [] → e.count ≡ d.count + 1 → d.count < 1000000 → Awaits shape d ≡ false → is_whole (length shape.kinds) f ≡ true → is_readable shape.null shape.kinds f ≡ true
     → IsDraft shape e × (records_so_far shape e ≡ records_so_far shape d ++ f ∷ [])
-row_drafted shape d e f was eh ef ep ec few flag whole readable =
+row_drafted shape d e f was eh lines ep ec few flag whole readable =
+    let ef = held_grown d.fields e.fields f lines in
     let len = width_of (length shape.kinds) f whole in
     let rows : rows_so_far shape e ≡ rows_so_far shape d ++ f ∷ [] =
-    ap (λ (n : ℕ). cut_into n (length shape.kinds) (fields_of e.fields)) ec ∙ ap (cut_into (d.count + 1) (length shape.kinds)) ef ∙ cut_push d.count (length shape.kinds) (fields_of d.fields) f was.full len in
+    ap (λ (n : ℕ). cut_into n (length shape.kinds) (held_of e.fields)) ec ∙ ap (cut_into (d.count + 1) (length shape.kinds)) ef ∙ cut_push d.count (length shape.kinds) (held_of d.fields) f was.full len in
     let all : records_so_far shape e ≡ records_so_far shape d ++ f ∷ [] =
     ap (λ (l : List Record). header_in e.header ++ l) rows ∙ ap (λ (o : Option ByteRecord). header_in o ++ (rows_so_far shape d ++ f ∷ [])) eh ∙ joined (header_in d.header) (rows_so_far shape d) f in (
       record {
         columns = was.columns;
-        full = ap (λ (n : ℕ). n * length shape.kinds) ec ∙ full_push d.count (length shape.kinds) (fields_of d.fields) f was.full len ∙ sym (ap length ef);
+        full = ap (λ (n : ℕ). n * length shape.kinds) ec ∙ full_push d.count (length shape.kinds) (held_of d.fields) f was.full len ∙ sym (ap length ef);
         no_partial = ep;
+        lines = lines ∙ ap (λ (l : Record). l ++ ended f) was.lines ∙ sym (ended_more (rows_so_far shape d) f) ∙ ap (flat_map ended) (sym rows);
         few = omega arith;
         no_header = λ h. ap header_in eh ∙ was.no_header h;
         header_first = λ h z. absurd (not_first shape d flag h (sym (ap header_in eh) ∙ z));
@@ -201,15 +205,16 @@ pub header_drafted : (shape : Shape) (d e : Draft) (x : ByteRecord) (f : Record)
 header_drafted shape d e x f was eh ef es ec flag whole =
     let on = awaited shape.header d.header flag in
     let zero_rows : d.count ≡ 0 = was.header_first on.0 on.1 in
-    let rows : rows_so_far shape e ≡ [] = ap (λ (n : ℕ). cut_into n (length shape.kinds) (fields_of e.fields)) (ec ∙ zero_rows) in
-    let old : rows_so_far shape d ≡ [] = ap (λ (n : ℕ). cut_into n (length shape.kinds) (fields_of d.fields)) zero_rows in
+    let rows : rows_so_far shape e ≡ [] = ap (λ (n : ℕ). cut_into n (length shape.kinds) (held_of e.fields)) (ec ∙ zero_rows) in
+    let old : rows_so_far shape d ≡ [] = ap (λ (n : ℕ). cut_into n (length shape.kinds) (held_of d.fields)) zero_rows in
     let head : header_in e.header ≡ f ∷ [] = ap header_in eh ∙ ap (λ (r : Record). r ∷ []) ef in
     let all : records_so_far shape e ≡ f ∷ [] = ap (λ (l : List Record). header_in e.header ++ l) rows ∙ ap (λ (l : List Record). l ++ []) head in
     let before : records_so_far shape d ≡ [] = ap (λ (l : List Record). header_in d.header ++ l) old ∙ ap (λ (l : List Record). l ++ []) on.1 in (
       record {
         columns = was.columns;
-        full = ap (λ (n : ℕ). n * length shape.kinds) ec ∙ was.full ∙ sym (ap (λ (r : ByteRecord). length (fields_of r)) es);
-        no_partial = ap (λ (r : ByteRecord). partial_of r) es ∙ was.no_partial;
+        full = ap (λ (n : ℕ). n * length shape.kinds) ec ∙ was.full ∙ sym (ap (λ (r : Row). length (held_of r)) es);
+        no_partial = ap partial_of es ∙ was.no_partial;
+        lines = ap fields_of es ∙ was.lines ∙ ap (flat_map ended) (old ∙ sym rows);
         few = let w = was.few in omega arith;
         no_header = λ h. absurd (let t = on.0 in cc);
         header_first = λ h z. ec ∙ zero_rows;

@@ -1,5 +1,5 @@
 -- Going over the fields of a record.
-use Rattle.std.proofs.Common.{◌≡◌, ℕ, zero, suc, ◌+◌, ◌-◌, ◌<◌, ◌≤◌, Bool, true, false, ◌&&◌, List, [], ◌∷◌, ◌++◌, length, take, drop, Some, None, slice_get, is_some, Result, Ok, Err, refl, ap, sym, ◌∙◌, subst, arith}
+use Rattle.std.proofs.Common.{◌≡◌, ℕ, zero, suc, ◌+◌, ◌-◌, ◌<◌, ◌≤◌, Bool, true, false, ◌&&◌, List, [], ◌∷◌, length, take, drop, Some, None, slice_get, is_some, Result, Ok, Err, refl, ap, ◌∙◌, subst, arith}
 use Rattle.std.specs.List.{list_all}
 use Rattle.std.specs.Result.{MatchResult, is_err}
 use Rattle.std.specs.Str.{IsAscii, IsUtf8, is_utf8}
@@ -101,22 +101,6 @@ readable_none null (k ∷ ks) = refl
 
 pub fields_end : (null : List ℕ) (ks : List ColType) (fs : Record) (i : ℕ) → field_at fs i ≡ None → is_readable null (drop i ks) (drop i fs) ≡ true
 fields_end null ks fs i e = ap (is_readable null (drop i ks)) (field_end fs i e) ∙ readable_none null (drop i ks)
-
--- one more field of a record goes over
-pub pushed : (fs xs ys all : Record) (i : ℕ) (f : List ℕ) → field_at fs i ≡ Some f → xs ++ drop i fs ≡ all → ys ≡ xs ++ f ∷ [] → ys ++ drop (i + 1) fs ≡ all
-pushed fs xs ys all i f e inv is =
-    ap (λ (l : Record). l ++ drop (i + 1) fs) is ∙ regroup xs ∙ ap (λ (l : Record). xs ++ l) (sym (field_next fs i f e)) ∙ inv
-  where
-    regroup : (l : Record) → (l ++ f ∷ []) ++ drop (i + 1) fs ≡ l ++ (f ∷ drop (i + 1) fs)
-    regroup [] = refl
-    regroup (x ∷ l) = ap (λ (m : Record). x ∷ m) (regroup l)
-
-pub all_pushed : (fs xs all : Record) (i : ℕ) → field_at fs i ≡ None → xs ++ drop i fs ≡ all → xs ≡ all
-all_pushed fs xs all i e inv = sym (no_tail xs) ∙ sym (ap (λ (l : Record). xs ++ l) (field_end fs i e)) ∙ inv
-  where
-    no_tail : (l : Record) → l ++ [] ≡ l
-    no_tail [] = refl
-    no_tail (x ∷ l) = ap (λ (m : Record). x ∷ m) (no_tail l)
 
 pub utf8_read : {T E : Type 0} (f : List ℕ) (P : T → Type 0) (Q : E → Type 0) (r : Result T E) → MatchResult r (λ s. P s × IsUtf8 f) (λ e. (IsUtf8 f → ⊥) × Q e) → is_err r ≡ false → IsUtf8 f
 utf8_read f P Q (Ok s) m e = m.1

@@ -1,9 +1,10 @@
 -- Records that are put together, and what a write leaves of records.
-use Rattle.std.proofs.Common.{◌≡◌, ℕ, zero, suc, ◌+◌, ◌*◌, ◌<◌, ◌≤◌, Bool, true, false, ◌&&◌, nat_eq, List, [], ◌∷◌, ◌++◌, length, map, flat_map, replicate, take, drop, slice_set, refl, ap, sym, ◌∙◌, subst, arith}
+use Rattle.std.proofs.Common.{◌≡◌, ℕ, zero, suc, ◌+◌, ◌*◌, ◌-◌, ◌<◌, ◌≤◌, Bool, true, false, ◌&&◌, nat_eq, List, [], ◌∷◌, ◌++◌, length, map, flat_map, replicate, take, drop, slice_set, Result, refl, ap, sym, ◌∙◌, subst, arith}
 use Rattle.std.specs.List.{list_all}
+use Rattle.std.specs.Result.{IfOk}
 use Rattle.std.specs.Str.{is_utf8}
 use Rattle.std.proofs.lemmas.Bool.Decides.{nat_tests}
-use Rattle.std.proofs.lemmas.List.{length-drop, append_assoc}
+use Rattle.std.proofs.lemmas.List.{length-append, length-drop, length-take-le, length_push, append_assoc, drop-drop}
 use native.Mathlib.Nat.{mul-le-mul_right, suc-mul}
 use Rattle.csv.specs.Records.{fields_of, partial_of}
 use Rattle.csv.specs.declared.record.ByteRecord.{ByteRecord}
@@ -16,17 +17,21 @@ use Rattle.csv_tables.specs.declared.written.Gathered.{Gathered}
 use Rattle.csv_tables.specs.Cells.{line_of}
 use Rattle.csv_tables.specs.CsvRecords.{Record, is_whole}
 use Rattle.csv_tables.specs.Shapes.{Shape, read_row}
-use Rattle.csv_tables.specs.Flat.{cut_into}
 use Rattle.csv_tables.specs.declared.table.Rows.{Rows}
-use Rattle.csv_tables.specs.Tables.{numbered, record_at}
+use Rattle.csv_tables.specs.Tables.{numbered, record_at, records_of}
 use Rattle.csv_tables.specs.Rewriting.{is_wide, Gathers}
 use Rattle.staged_changes.proofs.Weaves.{left_from}
-use Rattle.csv_tables.proofs.Drafts.{cut_push, full_push}
-use Rattle.csv_tables.proofs.Flat.{texts_take, texts_drop, texts_append}
+use Rattle.csv_tables.proofs.Flat.{cut_length, texts_take, texts_drop}
+use Rattle.csv_tables.proofs.Holding.{ended_more, ended_both, whole_both, whole_take, whole_drop, rows_whole, rows_range}
+use Rattle.csv_tables.specs.Held.{held_of, ended}
 
 both : (a b : Bool) → (a && b) ≡ true → (a ≡ true) × (b ≡ true)
 both true b e = (refl, e)
 both false b e = absurd cc
+
+append_none : (l : List Record) → l ++ [] ≡ l
+append_none [] = refl
+append_none (r ∷ l) = ap (λ (m : List Record). r ∷ m) (append_none l)
 
 pub same_width : (width : ℕ) (f : Record) → is_whole width f ≡ true → length f ≡ width
 same_width width f e = equal (length f) width (both (nat_eq (length f) width) (list_all is_utf8 f) e).0
@@ -36,31 +41,70 @@ same_width width f e = equal (length f) width (both (nat_eq (length f) width) (l
 
 -- one more record
 pub gathers_more : (width : ℕ) (rows : List Record) (g h : Gathered) (f : Record) → Gathers width rows g → is_whole width f ≡ true
-    → fields_of h.fields ≡ fields_of g.fields ++ f → partial_of h.fields ≡ [] → h.count ≡ g.count + 1 → Gathers width (rows ++ f ∷ []) h
+    → fields_of h.fields ≡ fields_of g.fields ++ ended f → partial_of h.fields ≡ [] → h.count ≡ g.count + 1 → Gathers width (rows ++ f ∷ []) h
 gathers_more width rows g h f was wide ef ep ec =
-    let len = same_width width f wide in
+    let n = was.count_is in
+    let l = length_push rows f in
     record {
       no_partial = ep;
-      full = ap (λ (n : ℕ). n * width) ec ∙ full_push g.count width (fields_of g.fields) f was.full len ∙ sym (ap length ef);
-      rows_are = ap (λ (n : ℕ). cut_into n width (fields_of h.fields)) ec ∙ ap (cut_into (g.count + 1) width) ef
-          ∙ cut_push g.count width (fields_of g.fields) f was.full len ∙ ap (λ (l : List Record). l ++ f ∷ []) was.rows_are;
-      texts = ap (list_all is_utf8) ef ∙ texts_append (fields_of g.fields) f was.texts (both (nat_eq (length f) width) (list_all is_utf8 f) wide).1;
+      count_is = omega arith;
+      whole = whole_both width rows (f ∷ []) was.whole (rw wide refl);
+      lines = ef ∙ ap (λ (l : Record). l ++ ended f) was.lines ∙ sym (ended_more rows f);
     }
 
+-- records of a table behind others
+pub gathers_range : (r : Rows) (rows : List Record) (g h : Gathered) (from to : ℕ) → Gathers r.width rows g → from ≤ to → to ≤ r.count
+    → fields_of h.fields ≡ fields_of g.fields ++ take (to * r.width - from * r.width) (drop (from * r.width) (fields_of r.fields)) → partial_of h.fields ≡ []
+    → h.count ≡ g.count + (to - from) → Gathers r.width (rows ++ take (to - from) (drop from (records_of r))) h
+gathers_range r rows g h from to was order within ef ep ec =
+    let more = take (to - from) (drop from (records_of r)) in
+    let n = was.count_is in
+    let all = cut_length r.count r.width (held_of r.fields) in
+    let d = length-drop from (records_of r) in
+    let m : length more ≡ to - from = length-take-le (to - from) (drop from (records_of r)) (omega arith) in
+    let a = length-append rows more in
+    record {
+      no_partial = ep;
+      count_is = omega arith;
+      whole = whole_both r.width rows more was.whole (whole_take r.width (to - from) (drop from (records_of r)) (whole_drop r.width from (records_of r) (rows_whole r)));
+      lines = ef ∙ ap (λ (l : Record). l ++ take (to * r.width - from * r.width) (drop (from * r.width) (fields_of r.fields))) was.lines
+          ∙ ap (λ (l : Record). flat_map ended rows ++ l) (rows_range r from to order) ∙ sym (ended_both rows more);
+    }
+
+-- records that stand together from a place on: one more, and none
+pub run_more : (done rs : List Record) (from at : ℕ) (r : Record) (more : List Record) → from ≤ at → drop at rs ≡ r ∷ more
+    → (done ++ take (at - from) (drop from rs)) ++ r ∷ [] ≡ done ++ take ((at + 1) - from) (drop from rs)
+run_more done rs from at r more le e =
+    let there : from + (at - from) ≡ at = omega arith in
+    let n : (at + 1) - from ≡ suc (at - from) = omega arith in
+    append_assoc done (take (at - from) (drop from rs)) (r ∷ [])
+    ∙ ap (λ (l : List Record). done ++ l) (sym (one (drop from rs) (at - from) (drop-drop (at - from) from rs ∙ ap (λ (k : ℕ). drop k rs) there ∙ e))
+    ∙ ap (λ (k : ℕ). take k (drop from rs)) (sym n))
+  where
+    one : (l : List Record) (k : ℕ) → drop k l ≡ r ∷ more → take (suc k) l ≡ take k l ++ r ∷ []
+    one [] zero h = absurd cc
+    one [] (suc k) h = absurd cc
+    one (x ∷ l) zero h = let s : x ≡ r = cc in ap (λ (y : Record). y ∷ []) s
+    one (x ∷ l) (suc k) h = ap (λ (m : List Record). x ∷ m) (one l k h)
+
+pub run_none : (done rs : List Record) (at : ℕ) → done ≡ done ++ take (at - at) (drop at rs)
+run_none done rs at =
+    let z : at - at ≡ 0 = omega arith in
+    sym (append_none done) ∙ ap (λ (k : ℕ). done ++ take k (drop at rs)) (sym z)
+
 -- none as yet
-pub gathers_none : (width : ℕ) (r : ByteRecord) → fields_of r ≡ [] → partial_of r ≡ [] → Gathers width [] (record { fields = r; count = 0 })
-gathers_none width r ef ep = record { no_partial = ep; full = (let z : 0 * width ≡ 0 = omega arith in z ∙ sym (ap length ef)); rows_are = refl; texts = ap (list_all is_utf8) ef }
+pub gathers_none : (width : ℕ) (g : Gathered) → fields_of g.fields ≡ [] → partial_of g.fields ≡ [] → g.count ≡ 0 → Gathers width [] g
+gathers_none width g ef ep ec = record { no_partial = ep; count_is = sym ec; whole = refl; lines = ef }
 
 pub gathers_as : (width : ℕ) (xs ys : List Record) (g : Gathered) → Gathers width xs g → xs ≡ ys → Gathers width ys g
 gathers_as width xs ys g h e = subst (λ (l : List Record). Gathers width l g) e h
 
+pub gathers_all : {E : Type 0} (width : ℕ) (xs ys : List Record) (g : Result Gathered E) → IfOk g (λ g. Gathers width xs g) → xs ≡ ys → IfOk g (λ g. Gathers width ys g)
+gathers_all width xs ys g h e = subst (λ (l : List Record). IfOk g (λ g. Gathers width l g)) e h
+
 -- a step over fates
 pub wide_first : (width : ℕ) (f : Fate ByteRecord) (fs gs : List (Fate ByteRecord)) → fs ≡ f ∷ gs → list_all (is_wide width) fs ≡ true → (is_wide width f ≡ true) × (list_all (is_wide width) gs ≡ true)
 wide_first width f fs gs e h = both (is_wide width f) (list_all (is_wide width) gs) (sym (ap (list_all (is_wide width)) e) ∙ h)
-
-append_none : (l : List Record) → l ++ [] ≡ l
-append_none [] = refl
-append_none (r ∷ l) = ap (λ (m : List Record). r ∷ m) (append_none l)
 
 -- the new records, one after the other
 pub lines_first : (width : ℕ) (x : ByteRecord) (xs ys : List ByteRecord) → xs ≡ x ∷ ys → list_all (is_whole width) (map fields_of xs) ≡ true
@@ -99,11 +143,11 @@ pub record_width : (r : Rows) (at : ℕ) → at < r.count → is_whole r.width (
 record_width r at lt =
     let e : suc at * r.width ≡ at * r.width + r.width = suc-mul at r.width in
     let m : suc at * r.width ≤ r.count * r.width = mul-le-mul_right r.width (omega arith) in
-    let d = length-drop (at * r.width) (fields_of r.fields) in
+    let d = length-drop (at * r.width) (held_of r.fields) in
     let whole = r.whole in
-    let le : r.width ≤ length (drop (at * r.width) (fields_of r.fields)) = omega arith in
-    whole_is r.width (record_at r at) (length_taken r.width (drop (at * r.width) (fields_of r.fields)) le)
-    (texts_take r.width (drop (at * r.width) (fields_of r.fields)) (texts_drop (at * r.width) (fields_of r.fields) r.texts))
+    let le : r.width ≤ length (drop (at * r.width) (held_of r.fields)) = omega arith in
+    whole_is r.width (record_at r at) (length_taken r.width (drop (at * r.width) (held_of r.fields)) le)
+    (texts_take r.width (drop (at * r.width) (held_of r.fields)) (texts_drop (at * r.width) (held_of r.fields) r.texts))
   where
     length_taken : (w : ℕ) (fs : Record) → w ≤ length fs → length (take w fs) ≡ w
     length_taken zero fs h = refl

@@ -2,6 +2,9 @@ pub mod Integers
 pub mod ShortNumbers
 pub mod Fields
 pub mod Flat
+pub mod Holding
+pub mod Moving
+pub mod Plain
 pub mod RowCells
 pub mod ReadLaws
 pub mod FieldSteps

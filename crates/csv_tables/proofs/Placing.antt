@@ -4,7 +4,6 @@ use Rattle.med_value.specs.Datum.{Tuple}
 use Rattle.fdw_api.specs.Scan.{RestrictionForm, TableRow, meets}
 use Rattle.fdw_api.specs.declared.scan.Agree.{Agree}
 use Rattle.fdw_api.specs.declared.scan.Agree.TheVariants.{Ignored, Hint, Exact}
-use Rattle.csv.specs.Records.{fields_of}
 use Rattle.csv_tables.specs.declared.table.CsvTable.{CsvTable}
 use Rattle.csv_tables.specs.CsvRecords.{Record}
 use Rattle.csv_tables.specs.Shapes.{Shape}
@@ -12,6 +11,7 @@ use Rattle.csv_tables.specs.Tables.{shape_is, records_of, cells_at, fields_at, f
 use Rattle.csv_tables.specs.Rewriting.{rows_in}
 use Rattle.csv_tables.specs.Scans.{comes, may_meet}
 use Rattle.csv_tables.proofs.Flat.{cut_drop, cut_length}
+use Rattle.csv_tables.specs.Held.{held_of}
 
 passed : (b x : Bool) → (b && true) ≡ true → (b && x) ≡ x
 passed true x e = refl
@@ -50,7 +50,7 @@ here : (t : CsvTable) (at : ℕ) → at < t.rows.count → drop at (rows_in t) �
 here t at lt =
     let shape = shape_is t.layout in
     let rs = records_of t.rows in
-    from_zero shape at rs ∙ ap (numbered shape at) (cut_drop at t.rows.count t.rows.width (fields_of t.rows.fields) lt) ∙ ap (λ (l : List TableRow). row_at t at ∷ l) (sym (from_zero shape (at + 1) rs))
+    from_zero shape at rs ∙ ap (numbered shape at) (cut_drop at t.rows.count t.rows.width (held_of t.rows.fields) lt) ∙ ap (λ (l : List TableRow). row_at t at ∷ l) (sym (from_zero shape (at + 1) rs))
 
 first_of : (rows more : List TableRow) (at : ℕ) (x r : TableRow) → drop at rows ≡ x ∷ more → slice_get rows at ≡ Some r → x ≡ r
 first_of [] more zero x r e is = absurd cc
@@ -68,4 +68,4 @@ numbered_length shape n (r ∷ rs) = ap (λ (k : ℕ). suc k) (numbered_length s
 
 -- there are as many rows as records
 pub rows_count : (t : CsvTable) → length (rows_in t) ≡ t.rows.count
-rows_count t = numbered_length (shape_is t.layout) 0 (records_of t.rows) ∙ cut_length t.rows.count t.rows.width (fields_of t.rows.fields)
+rows_count t = numbered_length (shape_is t.layout) 0 (records_of t.rows) ∙ cut_length t.rows.count t.rows.width (held_of t.rows.fields)

@@ -6,12 +6,12 @@ use Rattle.csv.specs.Writing.{default_writer, row_text, text_written, fields_wri
 use Rattle.csv.specs.declared.writer.Writer.{Writer}
 use Rattle.csv.specs.declared.writer.WriterBuilder.{WriterBuilder}
 use Rattle.csv.specs.declared.writer.QuoteStyle.TheVariants as style
-use Rattle.csv.specs.Records.{fields_of}
 use Rattle.csv_tables.specs.declared.table.Rows.{Rows}
 use Rattle.csv_tables.specs.CsvRecords.{Record, csv_text}
 use Rattle.csv_tables.specs.Tables.{record_at, records_of}
 use Rattle.csv_tables.specs.Rewriting.{HasWritten}
 use Rattle.csv_tables.proofs.Flat.{cut_drop, cut_length}
+use Rattle.csv_tables.specs.Held.{held_of}
 
 appended : (o : Option (List ℕ)) (text more : List ℕ) → Appends (Some text) o more → o ≡ Some (text ++ more)
 appended None text more e = absurd e
@@ -62,7 +62,7 @@ rows_joined (x ∷ xs) ys r = ap (λ (l : List Record). x ∷ l) (rows_joined xs
 pub text_next : (header : List Record) (rows : Rows) (at : ℕ) (r : Record) → at < rows.count → r ≡ record_at rows at
     → csv_text (header ++ take at (records_of rows)) ++ row_text default_writer r ≡ csv_text (header ++ take (at + 1) (records_of rows))
 text_next header rows at r lt e =
-    let next = cut_drop at rows.count rows.width (fields_of rows.fields) lt in
+    let next = cut_drop at rows.count rows.width (held_of rows.fields) lt in
     let p : at + 1 ≡ suc at = omega arith in
     let t : take (at + 1) (records_of rows) ≡ take at (records_of rows) ++ record_at rows at ∷ [] = ap (λ (k : ℕ). take k (records_of rows)) p ∙ take_row (records_of rows) at _ _ next in
     ap (λ (x : Record). csv_text (header ++ take at (records_of rows)) ++ row_text default_writer x) e
@@ -72,7 +72,7 @@ text_next header rows at r lt e =
 
 pub text_whole : (header : List Record) (rows : Rows) (at : ℕ) → rows.count ≤ at → csv_text (header ++ take at (records_of rows)) ≡ csv_text (header ++ records_of rows)
 text_whole header rows at le =
-    let n = cut_length rows.count rows.width (fields_of rows.fields) in
+    let n = cut_length rows.count rows.width (held_of rows.fields) in
     let few : length (records_of rows) ≤ at = omega arith in
     ap (λ (l : List Record). csv_text (header ++ l)) (take_all at (records_of rows) few)
 

@@ -1,6 +1,6 @@
 -- How the records of a blob are read.
 use Rattle.std.specs.Prelude.{◌≡◌, ◌++◌, ◌*◌, ◌<◌, ◌≤◌, ℕ, Bool, true, false, not, ◌||◌, List, [], ◌∷◌, length, Option, Some, Contains}
-use Rattle.std.specs.List.{list_all}
+use Rattle.std.specs.List.{list_all, flat_map}
 use denote.Ref.{Bor}
 use Rattle.csv.specs.Reading.{Reached, Ready, default_config, has_failed, is_flexible, source_of, strip_bom}
 use Rattle.csv.specs.Records.{fields_of, partial_of}
@@ -15,6 +15,7 @@ use Rattle.csv_tables.specs.declared.content.Draft.{Draft}
 use Rattle.csv_tables.specs.Cells.{is_readable}
 use Rattle.csv_tables.specs.CsvRecords.{Record, csv_records, is_whole, heading, body}
 use Rattle.csv_tables.specs.Shapes.{Shape, content_causes}
+use Rattle.csv_tables.specs.Held.{held_of, ended}
 use Rattle.csv_tables.specs.Flat.{cut_into, header_in}
 
 abbrev pub SliceReader : Type 0
@@ -53,7 +54,7 @@ reads shape r = not (is_whole (length shape.kinds) r) || is_readable shape.null 
 
 -- the rows that were read so far, and all records
 abbrev pub rows_so_far : Shape → Draft → List Record
-rows_so_far shape d = cut_into d.count (length shape.kinds) (fields_of d.fields)
+rows_so_far shape d = cut_into d.count (length shape.kinds) (held_of d.fields)
 
 abbrev pub records_so_far : Shape → Draft → List Record
 records_so_far shape d = header_in d.header ++ rows_so_far shape d
@@ -61,8 +62,10 @@ records_so_far shape d = header_in d.header ++ rows_so_far shape d
 -- no cause stands for the records so far, of which the first is the header, if the table has one
 pub record IsDraft (shape : Shape) (d : Draft) : Type 0 where
   pub columns : 0 < length shape.kinds
-  pub full : d.count * length shape.kinds ≡ length (fields_of d.fields)
+  pub full : d.count * length shape.kinds ≡ length (held_of d.fields)
   pub no_partial : partial_of d.fields ≡ []
+  -- they stand one after the other as they do in a blob
+  pub lines : fields_of d.fields ≡ flat_map ended (rows_so_far shape d)
   pub few : d.count ≤ row_limit
   pub no_header : shape.header ≡ false → header_in d.header ≡ []
   pub header_first : shape.header ≡ true → header_in d.header ≡ [] → d.count ≡ 0

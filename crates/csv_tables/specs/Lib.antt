@@ -1,6 +1,7 @@
 pub mod Cells
 pub mod CsvRecords
 pub mod Shapes
+pub mod Held
 pub mod Flat
 pub mod Tables
 pub mod Content

@@ -1,8 +1,8 @@
 -- What the staged changes of a write make of the records of a table.
-use Rattle.std.specs.Prelude.{◌≡◌, ◌*◌, ℕ, ℤ, pos, negsuc, ◌^◌, Bool, true, false, List, [], ◌++◌, length, map, nat_lt, Some, Vec}
+use Rattle.std.specs.Prelude.{◌≡◌, ℕ, ℤ, pos, negsuc, ◌^◌, Bool, true, false, List, [], ◌++◌, length, map, nat_lt, Some, Vec}
 use Rattle.std.specs.Global.{Global}
 use Rattle.std.specs.String.{string_bytes}
-use Rattle.std.specs.List.{list_all}
+use Rattle.std.specs.List.{list_all, flat_map}
 use Rattle.std.specs.Str.{is_utf8}
 use Rattle.csv.specs.Records.{fields_of, partial_of}
 use Rattle.csv.specs.Writing.{default_writer, text_written, fields_written, has_written, writer_setup}
@@ -21,7 +21,8 @@ use Rattle.csv_tables.specs.declared.written.Written.{Written}
 use Rattle.csv_tables.specs.Cells.{line_of}
 use Rattle.csv_tables.specs.CsvRecords.{Record, csv_records, csv_text, heading, is_whole}
 use Rattle.csv_tables.specs.Shapes.{Shape, read_row, causes_behind}
-use Rattle.csv_tables.specs.Flat.{cut_into, header_in}
+use Rattle.csv_tables.specs.Held.{ended}
+use Rattle.csv_tables.specs.Flat.{header_in}
 use Rattle.csv_tables.specs.Tables.{shape_is, numbered, records_of}
 
 -- an integer from -2^63 to 2^63 - 1, and a text that is UTF-8: what a value of a program always is
@@ -52,9 +53,9 @@ rows_left shape = weaving.rows_left (line_of shape.null) (read_row shape) fields
 -- these records were put together, each of this many fields, and each field is UTF-8
 pub record Gathers (width : ℕ) (rows : List Record) (g : Gathered) : Type 0 where
   pub no_partial : partial_of g.fields ≡ []
-  pub full : g.count * width ≡ length (fields_of g.fields)
-  pub rows_are : cut_into g.count width (fields_of g.fields) ≡ rows
-  pub texts : list_all is_utf8 (fields_of g.fields) ≡ true
+  pub count_is : length rows ≡ g.count
+  pub whole : list_all (is_whole width) rows ≡ true
+  pub lines : fields_of g.fields ≡ flat_map ended rows
 
 -- a writer with the crate's defaults has written this text, and stands between two records
 pub record HasWritten (text : List ℕ) (w : Writer (Vec ℕ Global)) : Type 0 where

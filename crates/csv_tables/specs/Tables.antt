@@ -1,7 +1,7 @@
 -- The records and the cells of a CSV table.
 use Rattle.std.specs.Prelude.{◌+◌, ◌*◌, ℕ, zero, suc, List, [], ◌∷◌, length, map, take, drop}
 use Rattle.std.specs.String.{string_bytes}
-use Rattle.csv.specs.Records.{fields_of}
+use Rattle.csv_tables.specs.Held.{held_of}
 use Rattle.med_value.specs.Datum.{Tuple}
 use Rattle.fdw_api.specs.Scan.{TableRow}
 use Rattle.csv_tables.specs.declared.layout.Layout.{Layout}
@@ -17,7 +17,7 @@ shape_is l = record { kinds = l.kinds.items; names = map string_bytes l.names.it
 
 -- the records that a table holds
 abbrev pub records_of : Rows → List Record
-records_of r = cut_into r.count r.width (fields_of r.fields)
+records_of r = cut_into r.count r.width (held_of r.fields)
 
 -- rows with their places as ids, each with its record
 abbrev pub numbered : Shape → ℕ → List Record → List TableRow
@@ -26,7 +26,7 @@ numbered shape n (r ∷ rs) = record { id = n; cells = record_cells shape.null s
 
 -- the record at a place, and its cells in a table
 abbrev pub record_at : Rows → ℕ → Record
-record_at r at = take r.width (drop (at * r.width) (fields_of r.fields))
+record_at r at = take r.width (drop (at * r.width) (held_of r.fields))
 
 abbrev pub fields_at : CsvTable → ℕ → Record
 fields_at t at = record_at t.rows at

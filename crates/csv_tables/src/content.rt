@@ -8,6 +8,7 @@ ghost use Rattle.csv.specs.Records.{fields_of, partial_of};
 ghost use Rattle.csv_tables.specs.Cells.{is_readable};
 ghost use Rattle.csv_tables.specs.CsvRecords.{Record, csv_records, is_whole, heading};
 ghost use Rattle.csv_tables.specs.Shapes.{content_causes};
+ghost use Rattle.csv_tables.specs.Held.{held_of, end_of, ended};
 ghost use Rattle.csv_tables.specs.Flat.{header_in};
 ghost use Rattle.csv_tables.specs.Tables.{shape_is, records_of};
 ghost use Rattle.csv_tables.specs.Content.{HasRead, ReadsOn, TellsCause, IsDraft, IsContent, records_so_far};
@@ -88,21 +89,30 @@ fn are_texts(row: &ByteRecord) -> bool
     true
 }
 
+// The byte behind a field.
+#[inline(always)]
+fn end_of(last: bool) -> u8
+    ensures { result ≡ end_of last }
+{
+    if last { b'\n' } else { b',' }
+}
+
 /// Appends the fields of a record, one for each column and all of them UTF-8, if each is of its column's type: whether it is.
 fn take_fields(layout: &Layout, fields: &mut Fields, row: &ByteRecord) -> Result<bool, NoMemory>
     requires texts { list_all is_utf8 (fields_of row.now) ≡ true }
     requires width { length (fields_of row.now) ≡ length layout.now.kinds.items }
     requires partial { partial_of fields.old ≡ [] }
     ensures readable { IfOk result (λ b. b ≡ is_readable (string_bytes layout.now.null) layout.now.kinds.items (fields_of row.now)) }
-    ensures fields { IfOk result (λ b. b ≡ true → fields_of fields.new ≡ fields_of fields.old ++ fields_of row.now) }
+    ensures fields { IfOk result (λ b. b ≡ true → fields_of fields.new ≡ fields_of fields.old ++ ended (fields_of row.now)) }
     ensures partial { IfOk result (λ b. b ≡ true → partial_of fields.new ≡ []) }
 {
+    let count = row.len();
     let mut at = 0;
     while let Some(field) = row.get(at) {
         if !is_cell(&layout.null, layout.kinds[at], field) {
             return Ok(false);
         }
-        fields.push_field(field)?;
+        fields.push_field(field, end_of(at + 1 == count))?;
         at += 1;
     }
     Ok(true)
@@ -111,12 +121,13 @@ fn take_fields(layout: &Layout, fields: &mut Fields, row: &ByteRecord) -> Result
 /// Appends the fields of a record.
 pub(crate) fn push_fields(fields: &mut Fields, row: &ByteRecord) -> Result<(), NoMemory>
     requires { partial_of fields.old ≡ [] }
-    ensures fields { OnOk result (fields_of fields.new ≡ fields_of fields.old ++ fields_of row.now) }
+    ensures fields { OnOk result (fields_of fields.new ≡ fields_of fields.old ++ ended (fields_of row.now)) }
     ensures partial { OnOk result (partial_of fields.new ≡ []) }
 {
+    let count = row.len();
     let mut at = 0;
     while let Some(field) = row.get(at) {
-        fields.push_field(field)?;
+        fields.push_field(field, end_of(at + 1 == count))?;
         at += 1;
     }
     Ok(())
@@ -247,7 +258,7 @@ fn read_draft(alloc: Global, layout: &Layout, bytes: &[u8]) -> Result<Draft, Fau
 {
     let mut draft = Draft {
         header: None,
-        fields: Fields::with_room(alloc, bytes.len())?,
+        fields: Fields::with_room(alloc, bytes.len() + 1)?,
         count: 0,
     };
     let mut rdr = reader_of(alloc, bytes);

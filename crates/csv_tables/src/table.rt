@@ -1,10 +1,11 @@
 //! The records of a bound table.
 ghost use Rattle.std.specs.Prelude.{◌≡◌, ◌*◌, ◌^◌, ◌<◌, true, length, option_map, slice_get, IfOk};
-ghost use Rattle.std.specs.List.{list_all};
+ghost use Rattle.std.specs.List.{list_all, flat_map};
 ghost use Rattle.std.specs.Str.{is_utf8};
 ghost use Rattle.csv.specs.Records.{fields_of};
+ghost use Rattle.csv_tables.specs.Held.{held_of, ended};
 ghost use Rattle.csv_tables.specs.CsvRecords.{is_header};
-ghost use Rattle.csv_tables.specs.Flat.{header_in};
+ghost use Rattle.csv_tables.specs.Flat.{cut_into, header_in};
 
 use crate::cells::cell;
 use crate::flat_fields::Fields;
@@ -13,7 +14,7 @@ use csv::ByteRecord;
 use med_value::{NoMemory, Row, Value};
 use std::alloc::Global;
 
-/// Records of one number of fields, each of them UTF-8: the fields of all of them, one after the other.
+/// Records of one number of fields, each of them UTF-8: the fields of all of them, one after the other, as they stand in a blob.
 #[derive(Drop)]
 pub struct Rows {
     /// How many fields each record has.
@@ -21,9 +22,10 @@ pub struct Rows {
     pub fields: Fields,
     /// How many records they are.
     pub count: usize,
-    pub ghost whole: { count * width ≡ length (fields_of fields) },
+    pub ghost whole: { count * width ≡ length (held_of fields) },
     pub ghost small: { count < 2 ^ 64 },
-    pub ghost texts: { list_all is_utf8 (fields_of fields) ≡ true },
+    pub ghost texts: { list_all is_utf8 (held_of fields) ≡ true },
+    pub ghost lines: { fields_of fields ≡ flat_map ended (cut_into count width (held_of fields)) },
 }
 
 /// A bound table.

@@ -1,5 +1,5 @@
 //! What a kept write makes of the records of a table, and the blob as which they are written.
-ghost use Rattle.std.specs.Prelude.{◌≡◌, ◌++◌, ◌+◌, ◌^◌, ◌<◌, ◌≤◌, ℕ, List, [], ◌∷◌, true, false, not, length, map, flat_map, replicate, nat_lt, IfOk, IfErr, OnOk};
+ghost use Rattle.std.specs.Prelude.{◌≡◌, ◌++◌, ◌+◌, ◌-◌, ◌^◌, ◌<◌, ◌≤◌, ℕ, List, [], ◌∷◌, true, false, not, length, map, flat_map, replicate, take, drop, nat_lt, IfOk, IfErr, OnOk};
 ghost use Rattle.std.specs.List.{list_all, list_any};
 ghost use Rattle.std.specs.Str.{is_utf8};
 ghost use Rattle.std.specs.String.{string_bytes};
@@ -15,6 +15,7 @@ ghost use Rattle.csv_tables.specs.Cells.{line_of, record_cells, reads_as_null};
 ghost use Rattle.csv_tables.specs.CsvRecords.{Record, csv_text, is_whole};
 ghost use Rattle.csv_tables.specs.Shapes.{read_row, unless, hides_value, causes_behind};
 ghost use Rattle.csv_tables.specs.Content.{TellsCause};
+ghost use Rattle.csv_tables.specs.Held.{special, special_in};
 ghost use Rattle.csv_tables.specs.Flat.{header_in};
 ghost use Rattle.csv_tables.specs.Tables.{shape_is, record_at, records_of};
 ghost use Rattle.csv_tables.specs.Rewriting.{is_wide, left_by, rows_left, Gathers, HasWritten, Rewrites, rows_in};
@@ -110,21 +111,6 @@ fn sort_changes(
     Ok(Sorted { fates, fresh })
 }
 
-/// The fields of a record of a table.
-fn record_at(rows: &Rows, at: usize, row: &mut ByteRecord) -> Result<(), NoMemory>
-    requires { at < rows.now.count }
-    ensures { OnOk result (fields_of row.new ≡ record_at rows.now at) }
-{
-    let _fields = rows.fields.len();
-    row.clear();
-    for column in 0..rows.width {
-        if let Some(field) = rows.fields.get(at * rows.width + column) {
-            row.push_field(field)?;
-        }
-    }
-    Ok(())
-}
-
 /// Appends a record.
 fn gather(gathered: &mut Gathered, row: &ByteRecord) -> Result<(), NoMemory>
     requires partial { partial_of gathered.old.fields ≡ [] }
@@ -139,7 +125,27 @@ fn gather(gathered: &mut Gathered, row: &ByteRecord) -> Result<(), NoMemory>
     Ok(())
 }
 
-/// The old records that are left, as their fates say. One that a write leaves keeps its fields.
+/// Appends the records of a table from a place up to another, as they stand in its text.
+fn with_kept(gathered: Gathered, rows: &Rows, from: usize, to: usize) -> Result<Gathered, NoMemory>
+    requires order { from ≤ to }
+    requires within { to ≤ rows.now.count }
+    requires room { gathered.count + (to - from) < 2 ^ 64 }
+    requires partial { partial_of gathered.fields ≡ [] }
+    ensures count { IfOk result (λ g. g.count ≡ gathered.count + (to - from)) }
+    ensures partial { IfOk result (λ g. partial_of g.fields ≡ []) }
+    ensures rows { (done : List Record) → Gathers rows.now.width done gathered
+        → IfOk result (λ g. Gathers rows.now.width (done ++ take (to - from) (drop from (records_of rows.now))) g) }
+{
+    let Gathered { fields, count } = gathered;
+    let _fields = rows.fields.len();
+    let fields = fields.with_range(&rows.fields, from * rows.width, to * rows.width)?;
+    Ok(Gathered {
+        fields,
+        count: count + (to - from),
+    })
+}
+
+/// The old records that are left, as their fates say. Those that a write leaves are copied as they stand, as many as stand together at once.
 fn rewritten(alloc: Global, rows: &Rows, fates: Vec<Fate<ByteRecord>>) -> Result<Gathered, NoMemory>
     requires { list_all (is_wide rows.now.width) fates.items ≡ true }
     ensures { IfOk result (λ g. Gathers rows.now.width (left_by fates.items (records_of rows.now)) g) }
@@ -148,22 +154,26 @@ fn rewritten(alloc: Global, rows: &Rows, fates: Vec<Fate<ByteRecord>>) -> Result
         fields: Fields::new(alloc),
         count: 0,
     };
-    let mut old = ByteRecord::new(alloc);
+    let mut from = 0;
     let mut at = 0;
     for fate in fates {
         if at < rows.count {
             match fate {
-                Fate::Keep => {
-                    record_at(rows, at, &mut old)?;
-                    gather(&mut gathered, &old)?;
+                Fate::Keep => {}
+                Fate::Change(new) => {
+                    gathered = with_kept(gathered, rows, from, at)?;
+                    gather(&mut gathered, &new)?;
+                    from = at + 1;
                 }
-                Fate::Change(new) => gather(&mut gathered, &new)?,
-                Fate::Gone => {}
+                Fate::Gone => {
+                    gathered = with_kept(gathered, rows, from, at)?;
+                    from = at + 1;
+                }
             }
             at += 1;
         }
     }
-    Ok(gathered)
+    with_kept(gathered, rows, from, at)
 }
 
 /// Whether these are too many rows for a table.
@@ -198,8 +208,68 @@ fn write_line(wtr: &mut Writer<Vec<u8>>, row: &ByteRecord) -> Result<(), NoMemor
     Ok(())
 }
 
-/// The blob of a header and rows.
-fn image_of(alloc: Global, header: &Option<ByteRecord>, rows: &Rows) -> Result<Vec<u8>, NoMemory>
+/// The fields of a record of a table.
+fn record_at(rows: &Rows, at: usize, row: &mut ByteRecord) -> Result<(), NoMemory>
+    requires { at < rows.now.count }
+    ensures { OnOk result (fields_of row.new ≡ record_at rows.now at) }
+{
+    let _fields = rows.fields.len();
+    row.clear();
+    for column in 0..rows.width {
+        if let Some(field) = rows.fields.get(at * rows.width + column) {
+            row.push_field(field)?;
+        }
+    }
+    Ok(())
+}
+
+/// A record as the writer writes it.
+fn line_anew(alloc: Global, row: &ByteRecord) -> Result<Vec<u8>, NoMemory>
+    ensures { IfOk result (λ line. line.items ≡ row_text default_writer (fields_of row.now)) }
+{
+    let mut wtr = Writer::from_writer(Vec::new(alloc));
+    write_line(&mut wtr, row)?;
+    match wtr.into_inner() {
+        Ok(line) => Ok(line),
+        Err(_) => Err(NoMemory),
+    }
+}
+
+/// One for a byte that the writer sets apart, none for another.
+fn special(byte: u8) -> usize
+    ensures { result ≡ special byte }
+{
+    match byte {
+        b'\n' | b'\r' | b'"' | b',' => 1,
+        _ => 0,
+    }
+}
+
+/// How many bytes of a text the writer sets apart.
+fn special_in(text: &[u8]) -> usize
+    ensures { result ≡ special_in text.now }
+{
+    let mut count = 0;
+    for byte in text {
+        count += special(*byte);
+    }
+    count
+}
+
+/// Whether the records of a table are what the writer would write as they stand: no byte is set apart but those that end the fields, of
+/// which each record has some, so that it shows a byte.
+fn are_plain(rows: &Rows) -> bool
+    ensures { result ≡ true → csv_text (records_of rows.now) ≡ flat_map (λ field. field) (fields_of rows.now.fields) }
+{
+    let size = rows.fields.len();
+    if rows.width < 2 {
+        return false;
+    }
+    special_in(rows.fields.text(0, size)) == size
+}
+
+/// The blob of a header and rows, of which the writer writes each anew.
+fn image_anew(alloc: Global, header: &Option<ByteRecord>, rows: &Rows) -> Result<Vec<u8>, NoMemory>
     ensures { IfOk result (λ image. image.items ≡ csv_text (header_in header.now ++ records_of rows.now)) }
 {
     let mut wtr = Writer::from_writer(Vec::new(alloc));
@@ -215,6 +285,28 @@ fn image_of(alloc: Global, header: &Option<ByteRecord>, rows: &Rows) -> Result<V
         Ok(image) => Ok(image),
         Err(_) => Err(NoMemory),
     }
+}
+
+/// The blob of a header alone.
+fn header_line(alloc: Global, header: &Option<ByteRecord>) -> Result<Vec<u8>, NoMemory>
+    ensures { IfOk result (λ line. line.items ≡ csv_text (header_in header.now)) }
+{
+    match header {
+        Some(header) => line_anew(alloc, header),
+        None => Ok(Vec::new(alloc)),
+    }
+}
+
+/// The blob of a header and rows: the bytes that stand there where they are what the writer would write.
+fn image_of(alloc: Global, header: &Option<ByteRecord>, rows: &Rows) -> Result<Vec<u8>, NoMemory>
+    ensures { IfOk result (λ image. image.items ≡ csv_text (header_in header.now ++ records_of rows.now)) }
+{
+    if !are_plain(rows) {
+        return image_anew(alloc, header, rows);
+    }
+    let mut image = header_line(alloc, header)?;
+    image.extend_from_slice(rows.fields.text(0, rows.fields.len()))?;
+    Ok(image)
 }
 
 /// What changes make of a table, which itself stays as it is: its header and rows after them, and the blob in which they stand.

@@ -8,6 +8,7 @@ use Rattle.csv_tables.proofs.Flat.{cut_length}
 use Rattle.csv_tables.proofs.Gathering.{same_width}
 use Rattle.csv_tables.proofs.Drafts.{tells_format, tells_text, tells_rows, row_drafted}
 use Rattle.csv_tables.proofs.content.add_record.Goals as goal
+use Rattle.csv_tables.specs.Held.{held_of}
 
 pub returns-then-not-is_whole-clause-err : goal.returns-then-not-is_whole-clause-err
 returns-then-not-is_whole-clause-err c = λ bytes more is.
@@ -29,7 +30,7 @@ returns-then-draft-eq-ROW_LIMIT-clause-err c = λ bytes more is.
     let shape = shape_is c.args.layout.now in
     let d = c.args.draft.now in
     let flag : (shape.header && not (is_some d.header)) ≡ false = search rules in
-    let n = cut_length d.count (length shape.kinds) (fields_of d.fields) in
+    let n = cut_length d.count (length shape.kinds) (held_of d.fields) in
     tells_rows shape bytes d.header (rows_so_far shape d) (fields_of c.args.row.now) more is flag c.requires.no_header (omega arith)
 
 pub returns-clause-draft : goal.returns-clause-draft

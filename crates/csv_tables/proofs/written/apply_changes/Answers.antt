@@ -9,6 +9,7 @@ use Rattle.staged_changes.specs.Staged.{change_is}
 use Rattle.csv_tables.specs.Flat.{header_in}
 use Rattle.csv_tables.specs.Tables.{shape_is, records_of}
 use Rattle.csv_tables.specs.Rewriting.{left_by, rows_in}
+use Rattle.csv_tables.proofs.Holding.{holds_rows}
 use Rattle.csv_tables.proofs.Applying.{rows_made, gathered_size, all_size, tells_hidden, tells_many, tells_long, rewrites, not_many, many}
 use Rattle.csv_tables.proofs.written.apply_changes.Goals as goal
 
@@ -41,7 +42,8 @@ invariant_of-rows c =
     let size = all_size t.rows.width left c.in_ok-kept.kept s.fresh.items c.in_ok-kept.ensures in
     let count = gathered_size t.rows.width (left ++ map fields_of s.fresh.items) c.in_ok-fields.field-0 g in
     let few : c.in_ok-kept.kept.count + length s.fresh.items ≤ 1000000 = not_many _ (search rules) in
-    record { whole = g.full; small = omega arith; texts = g.texts }
+    let held = holds_rows t.rows.width _ (left ++ map fields_of s.fresh.items) c.in_ok-fields.field-0.fields g.count_is g.whole g.lines in
+    record { whole = held.full; small = omega arith; texts = held.texts; lines = held.lines }
 
 pub returns-then-len-gt-BYTE_LIMIT-clause-err : goal.returns-then-len-gt-BYTE_LIMIT-clause-err
 returns-then-len-gt-BYTE_LIMIT-clause-err c =
@@ -53,7 +55,8 @@ returns-then-len-gt-BYTE_LIMIT-clause-err c =
     let wide = ap (λ (w : ℕ). list_all (is_whole w) (map fields_of s.fresh.items)) t.sized ∙ c.in_ok-fates.ensures.fresh_wide in
     let g = c.in_ok-fields.ensures t.rows.width left c.in_ok-kept.ensures wide in
     let made = rows_made t s.fates.items s.fresh.items changes c.in_ok-fates.ensures.fates c.in_ok-fates.ensures.fresh in
-    let text = c.in_ok-image.ensures ∙ ap (λ (l : List Record). csv_text (header_in t.header ++ l)) g.rows_are in
+    let held = holds_rows t.rows.width _ rs c.in_ok-fields.field-0.fields g.count_is g.whole g.lines in
+    let text = c.in_ok-image.ensures ∙ ap (λ (l : List Record). csv_text (header_in t.header ++ l)) held.rows_are in
     let size = ap length text in
     let lt : 67108864 < length (csv_text (header_in t.header ++ rs)) = omega arith in
     tells_long (shape_is t.layout) (header_in t.header) rs (rows_in t) changes made lt
@@ -72,6 +75,7 @@ returns-clause-ok c =
     let below : c.in_ok-kept.kept.count + length s.fresh.items ≤ 1000000 = not_many _ (search rules) in
     let few : length rs ≤ 1000000 = omega arith in
     let small : length c.in_ok-image.image.items ≤ 67108864 = omega arith in
-    rewrites t changes _ rs made g.rows_are c.in_ok-fates.ensures.clear few c.in_ok-image.ensures small
+    let held = holds_rows t.rows.width _ rs c.in_ok-fields.field-0.fields g.count_is g.whole g.lines in
+    rewrites t changes _ rs made held.rows_are c.in_ok-fates.ensures.clear few c.in_ok-image.ensures small
     (ap (λ (b : List ℕ). heading t.layout.header (map string_bytes t.layout.names.items) (csv_records b)) (sym c.deref.ensures.value) ∙ sym c.in_ok-header.ensures)
     t.sized

@@ -4,12 +4,13 @@ use Rattle.csv_tables.specs.Tables.{record_at}
 use Rattle.csv_tables.proofs.Flat.{field_here, take_some, take_none}
 use Rattle.csv_tables.proofs.written.record_at.Goals.{in-Some+in_ok-push_field, in_default}
 use Rattle.csv_tables.proofs.written.record_at.Goals as goal
+use Rattle.csv_tables.specs.Held.{held_of}
 
 pub loop-column-preserved : goal.loop-column-preserved
 loop-column-preserved c =
     let s = c.args.rows.now in
     let i = c.loop-column.invariant in
-    let here = field_here c.args.at s.width c.loop-column.column (fields_of s.fields) c.loop-column-test.true in
+    let here = field_here c.args.at s.width c.loop-column.column (held_of s.fields) c.loop-column-test.true in
     elim c.match-get.branch [
       | in-Some+in_ok-push_field w ↦
           (let e : slice_get (record_at s c.args.at) c.loop-column.column ≡ Some w.in-Some.field.now = sym (w.in-Some.ensures.value ∙ here) in

@@ -1,6 +1,6 @@
 use Rattle.std.proofs.Common.{sym, ◌∙◌}
-use Rattle.csv.proofs.RecordFacts.{cut-length}
+use Rattle.csv_tables.proofs.Moving.{held_size}
 use Rattle.csv_tables.proofs.flat_fields.Fields.len.Goals as goal
 
 pub returns : goal.returns
-returns c = rw (← c.self.view_is) (c.len.ensures ∙ c.self.inside.ends.ok.0 ∙ sym (cut-length 0 c.self.inside.ends.items c.self.inside.bytes.items))
+returns c = rw (← c.self.view_is) (c.len.ensures ∙ c.self.inside.ends.ok.0 ∙ sym (held_size (record { bytes = c.self.inside.bytes.items; ends = c.self.inside.ends.items })))

@@ -1,7 +1,7 @@
 use Rattle.std.proofs.Common.{◌∙◌, arith}
-use Rattle.csv.specs.Records.{fields_of}
 use Rattle.csv_tables.proofs.Flat.{field_here, place_within}
 use Rattle.csv_tables.proofs.table.CsvTable.field.Goals as goal
+use Rattle.csv_tables.specs.Held.{held_of}
 
 pub overflow_mul-at : goal.overflow_mul-at
 overflow_mul-at c =
@@ -22,4 +22,4 @@ overflow_add-at c =
 pub returns : goal.returns
 returns c =
     let s = c.args.self.now.rows in
-    c.get.ensures.value ∙ field_here c.args.at s.width c.args.column (fields_of s.fields) (omega arith)
+    c.get.ensures.value ∙ field_here c.args.at s.width c.args.column (held_of s.fields) (omega arith)

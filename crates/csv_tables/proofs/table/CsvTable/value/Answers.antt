@@ -4,10 +4,10 @@ use Rattle.std.specs.String.{string_bytes}
 use Rattle.med_value.specs.Datum.{Datum, NoValue, datum}
 use Rattle.csv_tables.specs.Cells.{cell_of}
 use Rattle.csv_tables.specs.Tables.{fields_at}
-use Rattle.csv.specs.Records.{fields_of}
 use Rattle.csv_tables.proofs.Flat.{texts_take, texts_drop, text_of_slice}
 use Rattle.csv_tables.proofs.RowCells.{cell_none, cell_missing, cell_there, none_past}
 use Rattle.csv_tables.proofs.table.CsvTable.value.Goals as goal
+use Rattle.csv_tables.specs.Held.{held_of}
 
 pub returns-then-column-len : goal.returns-then-column-len
 returns-then-column-len c =
@@ -45,4 +45,4 @@ cell-requires c =
     let s = c.args.self.now in
     let r = s.rows in
     text_of_slice (fields_at s c.args.at) c.args.column c.in-Some.field.now
-    (texts_take r.width (drop (c.args.at * r.width) (fields_of r.fields)) (texts_drop (c.args.at * r.width) (fields_of r.fields) r.texts)) (sym c.in-Some.ensures)
+    (texts_take r.width (drop (c.args.at * r.width) (held_of r.fields)) (texts_drop (c.args.at * r.width) (held_of r.fields) r.texts)) (sym c.in-Some.ensures)
