@@ -6,7 +6,7 @@ use Rattle.fed_cli.proofs.program.run_asked.Goals as goal
 pub returns-in-Err : goal.returns-in-Err
 returns-in-Err g c =
     not_begun _ _ c.args.asked _ _ _ _ _ _ c.not_begun.ensures.came c.not_begun.ensures.sources
-    (λ trusted. by_script _ c.args.asked _ _ c.in-Err.refused.fault c.not_begun.ensures.script (c.in-Err.ensures.refused trusted)) refl refl
+    (by_script _ c.args.asked _ _ c.in-Err.refused.fault c.not_begun.ensures.script c.in-Err.ensures.refused) refl refl
 
 -- the input was served
 pub returns : goal.returns
@@ -14,14 +14,13 @@ returns g c = (
   _,
   c.told.ensures,
   c.in-Ok.ensures.read,
-  λ trusted.
-      let begun = c.in-Ok.ensures.begins trusted in
-      record {
-        world = begun.world;
-        engine = _;
-        begins = begun.begins;
-        agrees = begun.agrees;
-        serves = c.serve_engine-ended.ensures.worlds begun.world begun.agrees;
-      },
+  let begun = c.in-Ok.ensures.begins in
+  record {
+    world = begun.world;
+    engine = _;
+    begins = begun.begins;
+    agrees = begun.agrees;
+    serves = c.serve_engine-ended.ensures.worlds begun.world begun.agrees;
+  },
   c.serve_engine-ended.ensures.at_rest,
 )
