@@ -15,12 +15,12 @@ returns g c = (
   c.told.ensures,
   c.in-Ok.ensures.read,
   let begun = c.in-Ok.ensures.begins in
-  record {
-    world = begun.world;
-    engine = _;
-    begins = begun.begins;
-    agrees = begun.agrees;
-    serves = c.serve_engine-ended.ensures.worlds begun.world begun.agrees;
-  },
+      record {
+        world = begun.world;
+        engine = _;
+        begins = begun.begins;
+        agrees = begun.agrees;
+        serves = c.serve_engine-ended.ensures.worlds begun.world begun.agrees;
+      },
   c.serve_engine-ended.ensures.at_rest,
 )
