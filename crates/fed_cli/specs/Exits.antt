@@ -6,7 +6,6 @@ use Rattle.med_exec.specs.Slots.{states}
 use Rattle.med_session.specs.Engine.{EachBox, IsAtRest}
 use Rattle.med_session.specs.declared.adding.Sources.{Sources}
 use Rattle.fed_cli.specs.Answered.{ServesProgram}
-use Rattle.fed_words.specs.Places.{are_honest}
 use Rattle.fed_setup.specs.Setup.{Outside, BeginsNot, IsReadOf, list_asked}
 use Rattle.fed_stream.specs.Streams.{Stream, IsUntouched}
 use Rattle.fed_cli.specs.Told.{told_of, run_line}
@@ -23,17 +22,14 @@ use Rattle.fed_words.specs.declared.words.WordsFault.{WordsFault}
 use Rattle.fed_words.specs.declared.words.WordsFault.TheVariants.{Help, Usage, NoPath, BadName, NoMemory}
 
 -- A run came to this, and these bytes of its init file were read. Where no sources are handed back it did not begin: nothing was read or
--- written. Else the input was served. What was answered, and why it did not begin, is said where every source is honest: then standard
--- output got the replies alone.
+-- written. Else the input was served, and standard output got the replies alone.
 abbrev pub Runs : {W : Type 0} → Outside → (W → BoxState) → AskedRun → Came → Option (List ℕ) → Option (Sources W) → Stream → Stream → Type 0
 Runs outside meaning asked came script None input output =
-    (fault : RunFault) × (came ≡ Err fault) × (are_honest outside.honest (places_asked asked) ≡ true → BeginsNot outside asked script fault)
-    × IsUntouched input × IsUntouched output
+    (fault : RunFault) × (came ≡ Err fault) × BeginsNot outside asked script fault × IsUntouched input × IsUntouched output
 Runs outside meaning asked came script (Some sources) input output =
     (ended : Result Ended StreamFault) × (came ≡ told_of ended) × IsReadOf outside asked.init script
-    × (are_honest outside.honest (places_asked asked) ≡ true
-    → ServesProgram outside asked.owner.now (list_asked asked) (places_asked asked) script (states meaning sources.slots.items) input output
-    ended)
+    × ServesProgram outside asked.owner.now (list_asked asked) (places_asked asked) script (states meaning sources.slots.items) input output
+    ended
     × EachBox IsAtRest (states meaning sources.slots.items)
 
 -- A front of this text was written to a stream, and nothing else: all of it where it is told.

@@ -6,9 +6,8 @@ use Rattle.fdw_api.specs.State.{BoxState}
 use Rattle.med_exec.specs.Slots.{states}
 use Rattle.med_session.specs.Engine.{Shown, EachBox, IsAtRest, ClosesAll}
 use Rattle.med_session.specs.declared.adding.Sources.{Sources}
-use Rattle.fed_words.specs.Places.{are_honest}
 use Rattle.fed_words.specs.Told.{told_status}
-use Rattle.fed_words.specs.Words.{Reads, places_asked}
+use Rattle.fed_words.specs.Words.{Reads}
 use Rattle.fed_words.specs.declared.words.AskedRun.{AskedRun}
 use Rattle.fed_words.specs.declared.words.Service.TheVariants.{StandardInput, Connections}
 use Rattle.fed_words.specs.declared.words.WordsFault.{WordsFault}
@@ -48,14 +47,14 @@ abbrev pub WritesListened : Listened → Written → Option (List ℕ) → Optio
 WritesListened (Ok x) result held holds old new = (result ≡ Ok tt) × (holds ≡ held) × (new ≡ old)
 WritesListened (Err fault) result held holds old new = FrontWritten held holds old new result (listen_line (Err fault))
 
--- Connections to a port were served for what is asked, with this script, and it came to this: an engine with which the program begins,
--- where every source is honest, served them, and once its sessions are closed its boxes are the last ones. Standard error got the lines of
--- connections, and then the last one.
+-- Connections to a port were served for what is asked, with this script, and it came to this: an engine with which the program begins
+-- served them, and once its sessions are closed its boxes are the last ones. Standard error got the lines of connections, and then the last
+-- one.
 pub record ServesPort {R S : Type 0} (outside : Outside) (remaining : R → Option (List ℕ)) (contents : S → Option (List ℕ)) (asked : AskedRun)
     (script : Option (List ℕ)) (last : List (Option BoxState)) (port count : ℕ) (came : Listened) (is_told : Bool)
     (output errors : Stream) : Type 0 where
   pub engine : Shown
-  pub begins : are_honest outside.honest (places_asked asked) ≡ true → BeginsBy outside asked script engine
+  pub begins : BeginsBy outside asked script engine
   pub after : Shown
   pub between : Option (List ℕ)
   pub listened : Bool
@@ -75,7 +74,7 @@ script_of exit = option_map (λ v. v.items) exit.script
 pub data ServesAsked {W R S : Type 0} (outside : Outside) (meaning : W → BoxState) (remaining : R → Option (List ℕ))
     (contents : S → Option (List ℕ)) (asked : AskedRun) (port count : ℕ) (exit : Exit W) (output errors : Stream) : Type 0 where
   -- it did not begin, for this: nothing was listened to
-  has_not_begun : (fault : RunFault) → (are_honest outside.honest (places_asked asked) ≡ true → BeginsNot outside asked (script_of exit) fault)
+  has_not_begun : (fault : RunFault) → BeginsNot outside asked (script_of exit) fault
       → exit.sources ≡ None → IsUntouched output → exit.status ≡ run_status (Err fault) → TellsRun (Err fault) exit.is_told errors
       → ServesAsked outside meaning remaining contents asked port count exit output errors
   -- it did, and the sources are handed back

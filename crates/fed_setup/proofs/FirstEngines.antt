@@ -1,7 +1,7 @@
 -- The engine that a program begins with, and the demo list in it.
-use Rattle.std.proofs.Common.{◌≡◌, ◌≢◌, arith, ℕ, Bool, true, false, List, [], ◌∷◌, ◌++◌, ◌||◌, ◌&&◌, length, Option, Some, None, option_map, Result, Ok, Err, OnOk, IfErr, Bor, refl, sym, ap, ◌∙◌, subst, inl, inr}
+use Rattle.std.proofs.Common.{◌≡◌, ◌≢◌, arith, ℕ, Bool, true, false, ◌||◌, cond, List, [], ◌∷◌, ◌++◌, length, Option, Some, None, option_map, Result, Ok, Err, OnOk, IfErr, Bor, refl, sym, ap, ◌∙◌, subst, inl, inr}
 use Rattle.fdw_api.specs.Kinds.{Kind}
-use Rattle.fdw_api.specs.State.{BoxState, is_honest}
+use Rattle.fdw_api.specs.State.{BoxState}
 use Rattle.med_syntax.specs.DdlTree.{TableTree}
 use Rattle.med_value.specs.declared.cause.Cause.{Cause}
 use Rattle.med_value.specs.declared.cause.Cause.TheVariants.{InvalidOptionName}
@@ -12,8 +12,8 @@ use Rattle.med_catalog.specs.declared.kind.SourceKind.{SourceKind}
 use Rattle.med_catalog.specs.declared.kind.SourceKind.TheVariants.{List as Lists}
 use Rattle.med_catalog.specs.declared.kind.SourceKind.TheVariants as sources
 use Rattle.med_world.specs.Adding.{HasSource, Adds}
-use Rattle.med_world.specs.Engine.{Shown, Label, IsSound, Agrees, TakesAs, sources_of}
-use Rattle.sql_meaning.specs.World.{World, empty_world, with_source}
+use Rattle.med_world.specs.Engine.{Shown, Label, IsSound, Agrees, TakesAs, state_of, sources_of}
+use Rattle.sql_meaning.specs.World.{World, SourceState, standing, shared, empty_world, with_source}
 use Rattle.med_session.specs.Adding.{AddCause}
 use Rattle.med_session.specs.declared.adding.AddFault.{AddFault}
 use Rattle.med_session.specs.declared.adding.AddFault.TheVariants as adding
@@ -32,7 +32,7 @@ use Rattle.fed_setup.specs.Setup.{Outside, over, empty_scene, HasList, HasPlaces
 use Rattle.sqlite_wrapper.specs.Kinds.{sqlite_kind}
 use Rattle.sqlite_databases.specs.Found.{Images}
 use Rattle.source_kinds.specs.Databases.{by_path, is_memory}
-use Rattle.fed_words.specs.Places.{Place, place_of, source_kind, is_honest_place, are_honest}
+use Rattle.fed_words.specs.Places.{Place, place_of, source_kind, is_honest_place}
 use Rattle.fed_setup.specs.Told.{Came, added_of, setup_told}
 use Rattle.fed_words.specs.Words.{places_asked}
 use Rattle.fed_words.specs.declared.places.AskedPlace.{AskedPlace}
@@ -83,49 +83,58 @@ is_empty owner boxes none = ap (empty_over owner) none
 
 -- ---- the list is added
 
+-- what a world has of a source is by whether its box is honest
+abbrev state_if : BoxState → Bool → SourceState
+state_if s honest = cond honest (standing s.nature.kind s.content.holdings) (shared s.nature.kind)
+
 -- to a world over what an engine shows
 pub list_added : (old listed : Shown) (w : World) (name : List ℕ) (list : BoxState) → IsNewList list demo_list → Adds old name Lists list listed
-    → HasList (record { world = w; boxes = old.boxes }) name (record { world = with_source w name Lists list.nature.kind list.content.holdings; boxes = listed.boxes })
-list_added old listed w name list demo adds = record { list = list; is_demo = demo; world = refl; boxes = ap (λ (e : Shown). e.boxes) adds.is }
+    → HasList (record { world = w; boxes = old.boxes }) name (record { world = with_source w name Lists (state_of (Some list)); boxes = listed.boxes })
+list_added old listed w name list demo adds = record { list = list; is_demo = demo; world = ap (λ (h : Bool). with_source w name Lists (state_if list h)) demo.honest; boxes = ap (λ (e : Shown). e.boxes) adds.is }
 
 -- the list stands besides
 pub has_list : (old listed : Shown) (w : World) (name : List ℕ) (list : BoxState) → IsNewList list demo_list → Adds old name Lists list listed
-    → ((v : World) → Agrees old v → is_honest list → Agrees listed (with_source v name Lists list.nature.kind list.content.holdings)) → Agrees old w
+    → ((v : World) → Agrees old v → Agrees listed (with_source v name Lists (state_of (Some list)))) → Agrees old w
     → (after : World) × HasList (over old w) name (over listed after) × Agrees listed after
 has_list old listed w name list demo adds world agrees =
-    (with_source w name Lists list.nature.kind list.content.holdings, list_added old listed w name list demo adds, world w agrees demo.honest)
+    (with_source w name Lists (state_of (Some list)), list_added old listed w name list demo adds, world w agrees)
 
 -- ---- folders and databases are added
 
--- a new source that is honest
-database_is_honest : (honest memory : Bool) (images : Images) (path : List ℕ) (s : BoxState) → by_path honest images path memory s → (memory || honest) ≡ true → is_honest s
-database_is_honest honest true images path s h trusted = h.1.honest_is
-database_is_honest honest false images path s h trusted = h.1.honest_is ∙ trusted
+-- whether a new source is honest
+database_is_honest : (honest memory : Bool) (images : Images) (path : List ℕ) (s : BoxState) → by_path honest images path memory s → s.nature.honest ≡ (memory || honest)
+database_is_honest honest true images path s h = h.1.honest_is
+database_is_honest honest false images path s h = h.1.honest_is
 
 honest_at : (outside : Outside) (kind : PlaceKind) (name path : List ℕ) (s : BoxState) → IsNewAt outside kind path s
-    → is_honest_place outside.honest (record { kind = kind; name = name; path = path }) ≡ true → is_honest s
-honest_at outside Csv name path s h trusted = h.honest
-honest_at outside JsonLines name path s h trusted = h.honest
-honest_at outside Sqlite name path s h trusted = database_is_honest outside.honest (is_memory path) outside.databases path s h trusted
+    → s.nature.honest ≡ is_honest_place outside.honest (record { kind = kind; name = name; path = path })
+honest_at outside Csv name path s h = h.honest
+honest_at outside JsonLines name path s h = h.honest
+honest_at outside Sqlite name path s h = database_is_honest outside.honest (is_memory path) outside.databases path s h
 
 place_added_as : (outside : Outside) (old new : Shown) (place : Place) (s : BoxState) → IsNewPlace outside place s → Adds old place.name (source_kind place.kind) s new
-    → ((w : World) → Agrees old w → is_honest s → Agrees new (with_source w place.name (source_kind place.kind) s.nature.kind s.content.holdings))
+    → ((w : World) → Agrees old w → Agrees new (with_source w place.name (source_kind place.kind) (state_of (Some s))))
     → AddsPlace outside old place new
 place_added_as outside old new place s is_new adds world = record {
   labels = ap (λ (e : Shown). e.labels) adds.is;
   could = (adds.name_free, adds.room);
-  world = λ trusted w agrees. (
-    with_source w place.name (source_kind place.kind) s.nature.kind s.content.holdings,
-    record { box = s; is_new = is_new; world = refl; boxes = ap (λ (e : Shown). e.boxes) adds.is },
-    world w agrees (honest_at outside place.kind place.name place.path s is_new trusted),
+  world = λ w agrees. (
+    with_source w place.name (source_kind place.kind) (state_of (Some s)),
+    record {
+      box = s;
+      is_new = is_new;
+      world = ap (λ (h : Bool). with_source w place.name (source_kind place.kind) (state_if s h)) (honest_at outside place.kind place.name place.path s is_new);
+      boxes = ap (λ (e : Shown). e.boxes) adds.is;
+    },
+    world w agrees,
   );
 }
 
 pub place_added : (outside : Outside) (old new : Shown) (place : Place) (s : BoxState) (k : SourceKind) → k ≡ source_kind place.kind → IsNewPlace outside place s → Adds old place.name k s new
-    → ((w : World) → Agrees old w → is_honest s → Agrees new (with_source w place.name k s.nature.kind s.content.holdings))
+    → ((w : World) → Agrees old w → Agrees new (with_source w place.name k (state_of (Some s))))
     → AddsPlace outside old place new
 place_added outside old new place s k e is_new = subst
-    (λ q. Adds old place.name q s new → ((w : World) → Agrees old w → is_honest s → Agrees new (with_source w place.name q s.nature.kind s.content.holdings)) → AddsPlace outside old place new)
+    (λ q. Adds old place.name q s new → ((w : World) → Agrees old w → Agrees new (with_source w place.name q (state_of (Some s)))) → AddsPlace outside old place new)
     (sym e) (place_added_as outside old new place s is_new)
 
 -- what a new source takes, by the laws of its kind
@@ -142,18 +151,13 @@ place_takes outside Sqlite path s h csv jsonl sqlite = sqlite s (database_kind o
 
 -- of several the first is added, and then the others
 pub adds_none : (outside : Outside) (e : Shown) (all : List Place) → all ≡ [] → AddsPlaces outside e all e
-adds_none outside e all is = record { world = λ trusted w agrees. (w, subst (λ fs. HasPlaces outside (over e w) fs (over e w)) (sym is) refl, agrees) }
-
-both : (a b : Bool) → (a && b) ≡ true → (a ≡ true) × (b ≡ true)
-both true b e = (refl, e)
-both false b e = absurd cc
+adds_none outside e all is = record { world = λ w agrees. (w, subst (λ fs. HasPlaces outside (over e w) fs (over e w)) (sym is) refl, agrees) }
 
 pub adds_first : (outside : Outside) (old mid new : Shown) (f : Place) (all rest : List Place) → all ≡ f ∷ rest → AddsPlace outside old f mid → AddsPlaces outside mid rest new → AddsPlaces outside old all new
 adds_first outside old mid new f all rest is one more = record {
-  world = λ trusted w agrees.
-      let each = both (is_honest_place outside.honest f) (are_honest outside.honest rest) (subst (λ fs. are_honest outside.honest fs ≡ true) is trusted) in
-      let here = one.world each.0 w agrees in
-      let then = more.world each.1 here.0 here.2 in
+  world = λ w agrees.
+      let here = one.world w agrees in
+      let then = more.world here.0 here.2 in
       (then.0, subst (λ fs. HasPlaces outside (over old w) fs (over new then.0)) (sym is) (over mid here.0, here.1, then.1), then.2);
 }
 

@@ -1,12 +1,12 @@
 -- What a program begins with: the demo list, folders and databases as sources, the set-up of the list by a script, and the replay of its
 -- init file.
-use Rattle.std.specs.Prelude.{◌≡◌, ◌≢◌, ◌<◌, ◌⊎◌, ℕ, Bool, true, List, [], ◌∷◌, ◌++◌, length, Option, Some, None, option_map, Result, Ok, Err}
+use Rattle.std.specs.Prelude.{◌≡◌, ◌≢◌, ◌<◌, ◌⊎◌, ℕ, Bool, List, [], ◌∷◌, ◌++◌, length, Option, Some, None, option_map, cond, Result, Ok, Err}
 use Rattle.std.specs.Borrow.{Bor}
 use Rattle.fdw_api.specs.State.{BoxState}
 use Rattle.med_catalog.specs.declared.kind.SourceKind.TheVariants as kinds
 use Rattle.med_world.specs.Adding.{HasSource}
 use Rattle.med_world.specs.Engine.{Label, Shown, Agrees}
-use Rattle.sql_meaning.specs.World.{World, empty_world, with_source}
+use Rattle.sql_meaning.specs.World.{World, SourceState, standing, shared, empty_world, with_source}
 use Rattle.blob_store.specs.Drives.{Drive}
 use Rattle.blob_store.specs.Files.{folder_shelf}
 use Rattle.blob_store.specs.Known.{Sure}
@@ -22,7 +22,7 @@ use Rattle.fed_setup.specs.Demo.{demo_list, setup_script}
 use Rattle.fed_setup.specs.Inputs.{Inputs}
 use Rattle.source_kinds.specs.Databases.{IsNewDatabase}
 use Rattle.sqlite_databases.specs.Found.{Images}
-use Rattle.fed_words.specs.Places.{Place, source_kind, are_honest, is_honest_place}
+use Rattle.fed_words.specs.Places.{Place, source_kind, is_honest_place}
 use Rattle.fed_setup.specs.Told.{Came, replay_told}
 use Rattle.fed_words.specs.Words.{places_asked}
 use Rattle.fed_words.specs.declared.places.PlaceKind.{PlaceKind}
@@ -55,7 +55,7 @@ empty_scene owner = record { world = empty_world owner; boxes = [] }
 pub record HasList (old : Scene) (name : List ℕ) (new : Scene) : Type 0 where
   pub list : BoxState
   pub is_demo : IsNewList list demo_list
-  pub world : new.world ≡ with_source old.world name kinds.List list.nature.kind list.content.holdings
+  pub world : new.world ≡ with_source old.world name kinds.List (standing list.nature.kind list.content.holdings)
   pub boxes : new.boxes ≡ old.boxes ++ Some list ∷ []
 
 -- the list is the source of this name, and then the owner's replay of the set-up script comes to this, and leads there
@@ -82,11 +82,17 @@ IsNewAt outside Sqlite path s = IsNewDatabase outside.honest outside.databases p
 abbrev pub IsNewPlace : Outside → Place → BoxState → Type 0
 IsNewPlace outside place s = IsNewAt outside place.kind place.path s
 
+-- What a world has of a new source: it is shared where it is not honest, being a database in a file whose store may return other bytes than
+-- were written, and else it stands.
+abbrev pub new_state : Outside → Place → BoxState → SourceState
+new_state outside place s =
+    cond (is_honest_place outside.honest place) (standing s.nature.kind s.content.holdings) (shared s.nature.kind)
+
 -- the source of this name is what stands at this place, which is free, and its box stands last
 pub record HasPlace (outside : Outside) (old : Scene) (place : Place) (new : Scene) : Type 0 where
   pub box : BoxState
   pub is_new : IsNewPlace outside place box
-  pub world : new.world ≡ with_source old.world place.name (source_kind place.kind) box.nature.kind box.content.holdings
+  pub world : new.world ≡ with_source old.world place.name (source_kind place.kind) (new_state outside place box)
   pub boxes : new.boxes ≡ old.boxes ++ Some box ∷ []
 
 -- each of these is, in order
@@ -194,17 +200,16 @@ AddsNoDemo old owner labels name (faults.CannotReadInit told) = ⊥
 AddsNoDemo old owner labels name faults.InitNotText = ⊥
 AddsNoDemo old owner labels name (faults.InitLine number cause) = ⊥
 
--- An engine that stands for a world stands for the one with this source besides, where it is honest: its box stands last, and it could be
--- added.
+-- An engine that stands for a world stands for the one with this source besides: its box stands last, and it could be added.
 pub record AddsPlace (outside : Outside) (old : Shown) (place : Place) (new : Shown) : Type 0 where
   pub labels : new.labels ≡ old.labels ++ place_label place ∷ []
   pub could : CanBeAdded old.labels place
-  pub world : is_honest_place outside.honest place ≡ true → (w : World) → Agrees old w
+  pub world : (w : World) → Agrees old w
       → (after : World) × HasPlace outside (over old w) place (over new after) × Agrees new after
 
 -- the same of each of these, in order
 pub record AddsPlaces (outside : Outside) (old : Shown) (places : List Place) (new : Shown) : Type 0 where
-  pub world : are_honest outside.honest places ≡ true → (w : World) → Agrees old w
+  pub world : (w : World) → Agrees old w
       → (after : World) × HasPlaces outside (over old w) places (over new after) × Agrees new after
 
 -- the name of the list that is asked, if one is

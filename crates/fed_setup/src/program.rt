@@ -1,5 +1,5 @@
 //! What a program begins with.
-ghost use Rattle.std.specs.Prelude.{◌≡◌, List, true, [], ◌∷◌, ◌++◌, IfOk, IfErr, OnOk, option_map, map};
+ghost use Rattle.std.specs.Prelude.{◌≡◌, List, [], ◌∷◌, ◌++◌, IfOk, IfErr, OnOk, option_map, map};
 ghost use Rattle.med_session.specs.Requests.{IsUser};
 ghost use Rattle.med_session.specs.World.{World};
 ghost use Rattle.fdw_api.specs.State.{IsIdle};
@@ -9,7 +9,7 @@ ghost use Rattle.med_session.specs.Shows.{shown};
 ghost use Rattle.list_wrapper.specs.Lists.{IsNewList};
 ghost use Rattle.session_wire.specs.Worlds.{scene_of};
 ghost use Rattle.fed_setup.specs.Demo.{demo_list};
-ghost use Rattle.fed_words.specs.Places.{are_honest, place_of, source_kind};
+ghost use Rattle.fed_words.specs.Places.{place_of, source_kind};
 ghost use Rattle.fed_setup.specs.Setup.{Outside, HasDemo, HasList, IsFirst, HasNoFirst, AddsNoDemo, AddsPlace, AddsPlaces, AreNotAdded, IsNotAdded};
 ghost use Rattle.fed_setup.specs.Setup.{BeginsBy, BeginsNot, IsReadOf, IsNewPlace, IsSetUp, SetUpFails, HasListAsked, labels_before, list_asked, list_label};
 ghost use Rattle.fed_setup.specs.Told.{added_of};
@@ -224,12 +224,10 @@ fn first_engine<'a, V: AllocGlobal + Surroundings>(
 ) -> Result<Engine<V::Source>, RunFault<'a>>
     requires { IsUser asked.now.owner.now }
     ensures sound { IfOk result (λ engine. IsSound (shown V.Source.meaning engine)) }
-    ensures first { are_honest (V.outside rt.now).honest (places_asked asked.now) ≡ true
-        → IfOk result (λ engine. (w : World) × Agrees (shown V.Source.meaning engine) w
+    ensures first { IfOk result (λ engine. (w : World) × Agrees (shown V.Source.meaning engine) w
         × IsFirst (V.outside rt.now) asked.now.owner.now (list_asked asked.now)
         (places_asked asked.now) (scene_of V.Source.meaning engine w)) }
-    ensures refused { are_honest (V.outside rt.now).honest (places_asked asked.now) ≡ true
-        → IfErr result (HasNoFirst (V.outside rt.now) asked.now) }
+    ensures refused { IfErr result (HasNoFirst (V.outside rt.now) asked.now) }
 {
     let Ok(mut engine) = Engine::<V::Source>::new(rt.alloc(), asked.owner) else {
         return Err(RunFault::NoMemory);
@@ -278,11 +276,9 @@ pub fn begin<'a, V: AllocGlobal + Surroundings>(
     requires { IsUser asked.now.owner.now }
     ensures sound { IfOk result (λ begun. IsSound (shown V.Source.meaning begun.engine)) }
     ensures read { IfOk result (λ begun. IsReadOf (V.outside rt.now) asked.now.init (option_map (λ v. v.items) begun.script)) }
-    ensures begins { are_honest (V.outside rt.now).honest (places_asked asked.now) ≡ true
-        → IfOk result (λ begun. BeginsBy (V.outside rt.now) asked.now
+    ensures begins { IfOk result (λ begun. BeginsBy (V.outside rt.now) asked.now
         (option_map (λ v. v.items) begun.script) (shown V.Source.meaning begun.engine)) }
-    ensures refused { are_honest (V.outside rt.now).honest (places_asked asked.now) ≡ true
-        → IfErr result (λ refused. BeginsNot (V.outside rt.now) asked.now
+    ensures refused { IfErr result (λ refused. BeginsNot (V.outside rt.now) asked.now
         (option_map (λ v. v.items) refused.script) refused.fault) }
 {
     let mut engine = match first_engine(rt, asked) {

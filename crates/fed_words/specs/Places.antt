@@ -1,6 +1,6 @@
 -- The folders and databases that words name as sources, each by a value NAME=PATH.
 use Rattle.std.specs.Prelude.{◌≡◌, ◌≢◌, ◌==◌, ◌⊎◌, ◌||◌, ℕ, Bool, true, List, [], ◌∷◌}
-use Rattle.std.specs.List.{before_first, after_first, list_all}
+use Rattle.std.specs.List.{before_first, after_first}
 use Rattle.med_catalog.specs.declared.kind.SourceKind.{SourceKind}
 use Rattle.med_catalog.specs.declared.kind.SourceKind.TheVariants as sources
 use Rattle.source_kinds.specs.Databases.{is_memory}
@@ -35,9 +35,6 @@ is_honest_place honest f = by f.kind f.path
     by Csv path = true
     by JsonLines path = true
     by Sqlite path = is_memory path || honest
-
-abbrev pub are_honest : Bool → List Place → Bool
-are_honest honest places = list_all (is_honest_place honest) places
 
 -- What stands before the first `=` of a value, and what stands after it: all of the value and nothing, where it has no `=`.
 abbrev pub name_part : List ℕ → List ℕ

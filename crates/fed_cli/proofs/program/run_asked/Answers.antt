@@ -6,7 +6,7 @@ use Rattle.fed_cli.proofs.program.run_asked.Goals as goal
 pub returns-in-Err : goal.returns-in-Err
 returns-in-Err g c =
     not_begun _ _ c.args.asked _ _ _ _ _ _ c.not_begun.ensures.came c.not_begun.ensures.sources
-    (λ trusted. by_script _ c.args.asked _ _ c.in-Err.refused.fault c.not_begun.ensures.script (c.in-Err.ensures.refused trusted)) refl refl
+    (by_script _ c.args.asked _ _ c.in-Err.refused.fault c.not_begun.ensures.script c.in-Err.ensures.refused) refl refl
 
 -- the input was served
 pub returns : goal.returns
@@ -14,8 +14,7 @@ returns g c = (
   _,
   c.told.ensures,
   c.in-Ok.ensures.read,
-  λ trusted.
-      let begun = c.in-Ok.ensures.begins trusted in
+  let begun = c.in-Ok.ensures.begins in
       record {
         world = begun.world;
         engine = _;

@@ -8,7 +8,7 @@ use Rattle.fed_program.proofs.program.serve_asked.Goals as goal
 pub returns-in-Err : goal.returns-in-Err
 returns-in-Err g c =
     has_not_begun c.in-Err.refused.fault
-    (λ trusted. by_script _ c.args.asked _ _ c.in-Err.refused.fault c.not_begun.ensures.script (c.in-Err.ensures.refused trusted))
+    (by_script _ c.args.asked _ _ c.in-Err.refused.fault c.not_begun.ensures.script c.in-Err.ensures.refused)
     c.not_begun.ensures.sources refl c.not_begun.ensures.status c.not_begun.ensures.told
 
 -- connections were served

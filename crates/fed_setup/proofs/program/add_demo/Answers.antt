@@ -1,5 +1,6 @@
-use Rattle.std.proofs.Common.{◌∙◌, ℕ, Result, refl, subst}
+use Rattle.std.proofs.Common.{◌∙◌, ℕ, Some, Result, refl, subst}
 use Rattle.med_catalog.specs.declared.kind.SourceKind.TheVariants.{List as Lists}
+use Rattle.med_world.specs.Engine.{state_of}
 use Rattle.sql_meaning.specs.World.{with_source}
 use Rattle.session_wire.specs.Worlds.{scene_of}
 use Rattle.fed_replay.specs.declared.script.ScriptFault.{ScriptFault}
@@ -18,8 +19,8 @@ returns-clause-worlds g c = told_ok c.args.name c.replay.result c.setup_told.res
     let name = c.args.name.now in
     let owner = c.args.owner.now in
     let list = meaning c.args.list in
-    let listed = with_source w name Lists list.nature.kind list.content.holdings in
-    let led = c.replay.ensures.worlds listed (c.in-Ok.ensures.world w agrees c.requires.demo.honest) in
+    let listed = with_source w name Lists (state_of (Some list)) in
+    let led = c.replay.ensures.worlds listed (c.in-Ok.ensures.world w agrees) in
     let old = scene_of meaning c.args.engine.now w in
     let new = scene_of meaning c.replay.new.engine led.0 in
     let has = list_added _ _ w name list c.requires.demo c.in-Ok.ensures.added in
@@ -33,8 +34,8 @@ returns-clause-fault g c = told_err c.args.name c.replay.result c.setup_told.res
     let name = c.args.name.now in
     let owner = c.args.owner.now in
     let list = meaning c.args.list in
-    let listed = with_source w name Lists list.nature.kind list.content.holdings in
-    let led = c.replay.ensures.worlds listed (c.in-Ok.ensures.world w agrees c.requires.demo.honest) in
+    let listed = with_source w name Lists (state_of (Some list)) in
+    let led = c.replay.ensures.worlds listed (c.in-Ok.ensures.world w agrees) in
     let old = scene_of meaning c.args.engine.now w in
     let new = scene_of meaning c.replay.new.engine led.0 in
     let has = list_added _ _ w name list c.requires.demo c.in-Ok.ensures.added in

@@ -8,4 +8,4 @@ pub add_source-requires-clause-takes : goal.add_source-requires-clause-takes
 add_source-requires-clause-takes g c = subst (λ k. TakesAs k (g.W.Wrapper.meaning c.args.source)) (sym c.source_kind.ensures) c.requires.takes
 
 pub returns-clause-added : goal.returns-clause-added
-returns-clause-added g c = λ honest is_new. place_added honest _ _ (place_of c.args.place) _ _ c.source_kind.ensures is_new c.in-Ok.ensures.added c.in-Ok.ensures.world
+returns-clause-added g c = λ outside is_new. place_added outside _ _ (place_of c.args.place) _ _ c.source_kind.ensures is_new c.in-Ok.ensures.added c.in-Ok.ensures.world

@@ -12,26 +12,26 @@ add_asked_list-requires-clause-empty g c = (nothing_there _ c.args.asked.now.own
 
 -- a source was not added
 pub returns-in-Err-add_places-clause-refused : goal.returns-in-Err-add_places-clause-refused
-returns-in-Err-add_places-clause-refused g c = λ trusted.
+returns-in-Err-add_places-clause-refused g c =
     places_fail_as _ c.args.asked.now _ _ _ (ap (map place_of) c.deref.ensures.value) c.in-Ok-add_asked_list.ensures.labels c.in-Err-add_places.ensures.fault
 
 -- all were, and the list is set up
 pub returns-in-Ok-set_up-clause-first : goal.returns-in-Ok-set_up-clause-first
-returns-in-Ok-set_up-clause-first g c = λ trusted.
+returns-in-Ok-set_up-clause-first g c =
     let asked = c.args.asked.now in
     let owner = asked.owner.now in
     let nothing = nothing_there _ owner c.in-Ok.ensures.sound c.in-Ok.ensures.empty in
     let listed = c.in-Ok-add_asked_list.ensures.world (empty_world owner) c.in-Ok.ensures.empty in
-    let added = (adds_as _ _ _ _ _ (ap (map place_of) c.deref.ensures.value) c.in-Ok-add_places.ensures.added).world trusted listed.0 listed.2 in
+    let added = (adds_as _ _ _ _ _ (ap (map place_of) c.deref.ensures.value) c.in-Ok-add_places.ensures.added).world listed.0 listed.2 in
     let set = c.in-Ok-set_up.ensures.done added.0 added.2 in
     (set.0, set.2, first_made _ owner (list_asked asked) (places_asked asked) _ _ _ _ (is_empty owner _ nothing.1) listed.1 added.1 set.1)
 
 -- the list was not
 pub returns-clause-refused : goal.returns-clause-refused
-returns-clause-refused g c = λ trusted.
+returns-clause-refused g c =
     let asked = c.args.asked.now in
     let owner = asked.owner.now in
     let nothing = nothing_there _ owner c.in-Ok.ensures.sound c.in-Ok.ensures.empty in
     let listed = c.in-Ok-add_asked_list.ensures.world (empty_world owner) c.in-Ok.ensures.empty in
-    let added = (adds_as _ _ _ _ _ (ap (map place_of) c.deref.ensures.value) c.in-Ok-add_places.ensures.added).world trusted listed.0 listed.2 in
+    let added = (adds_as _ _ _ _ _ (ap (map place_of) c.deref.ensures.value) c.in-Ok-add_places.ensures.added).world listed.0 listed.2 in
     set_up_fails _ asked _ _ _ _ (is_empty owner _ nothing.1) listed.1 added.1 (c.in-Err-set_up.ensures.fault added.0 added.2)
