@@ -1,5 +1,5 @@
 -- A list takes each table that the catalogue lets pass.
-use Rattle.std.proofs.Common.{◌≡◌, ◌<◌, arith, Bool, true, false, List, [], ◌++◌, refl, ap, ◌∙◌}
+use Rattle.std.proofs.Common.{◌≡◌, arith, Bool, true, false, List, [], ◌++◌, refl, ap, ◌∙◌}
 use Rattle.fdw_api.specs.Kinds.{Column, OptionForm}
 use Rattle.fdw_api.specs.State.{BoxState}
 use Rattle.med_syntax.specs.DdlTree.{TableTree}

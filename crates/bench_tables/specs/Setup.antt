@@ -1,5 +1,5 @@
 -- A world with the tables that are measured: its owner made them, line after line.
-use Rattle.std.specs.Prelude.{◌≡◌, ℕ, List, [], ◌∷◌, ◌++◌, codes}
+use Rattle.std.specs.Prelude.{◌≡◌, ℕ, List, [], ◌∷◌, codes}
 use Rattle.fdw_api.specs.State.{BoxState}
 use Rattle.med_catalog.specs.declared.kind.SourceKind.TheVariants as kinds
 use Rattle.sql_meaning.specs.Requests.{AskedLine, opening, sql, bye}

@@ -12,7 +12,8 @@ returns-in-Ok-make_tables-clause-world c =
     let list = box_of c.in_ok-list.list in
     let is_bench = subst (λ (tables : List Listed). IsNewList list tables) c.in_ok-bench_tables.ensures c.in_ok-list.ensures.new in
     let listed = with_source (empty_world (codes "admin")) (codes "bench") kinds.List (standing list.nature.kind list.content.holdings) in
-    let first = stands _ _ _ _ list is_bench.honest (c.in-Ok-add_source.ensures.world (empty_world (codes "admin")) c.in-Ok.ensures.empty) in
+    let first = stands _ (empty_world (codes "admin")) (codes "bench") kinds.List list is_bench.honest
+    (c.in-Ok-add_source.ensures.world (empty_world (codes "admin")) c.in-Ok.ensures.empty) in
     let made = c.in-Ok-make_tables.ensures.world listed first in (
       made.0,
       record { list = list; is_bench = is_bench; made = made.1 },
