@@ -13,8 +13,9 @@ ghost use Rattle.fed_replay.specs.Engines.{EngineAnswers, EngineCloses, SceneAns
 
 use crate::lines::{is_blank, next_line};
 use fdw_api::wishes::Wrapper2;
-use med_session::{Engine, Outcome, Request, Sid};
+use med_session::{Engine, Request, Sid};
 use med_value::Cause;
+use session_replies::Outcome;
 use thiserror::Error;
 
 /// Why a replay ended before the end of its script.
