@@ -5,7 +5,7 @@ use Rattle.med_catalog.specs.declared.kind.SourceKind.TheVariants as kinds
 use Rattle.sql_meaning.specs.Requests.{AskedLine, opening, sql, bye}
 use Rattle.sql_meaning.specs.Replies.{Reply, reply_text}
 use Rattle.sql_meaning.specs.Steps.{Trouble, Step}
-use Rattle.sql_meaning.specs.World.{World, empty_world, with_source}
+use Rattle.sql_meaning.specs.World.{World, standing, empty_world, with_source}
 use Rattle.list_wrapper.specs.Lists.{IsNewList}
 use Rattle.bench_tables.specs.Tables.{bench_list}
 
@@ -49,4 +49,4 @@ pub record HasBench (count : ℕ) (w : World) : Type 0 where
   pub list : BoxState
   pub is_bench : IsNewList list (bench_list count)
   pub made : AnswersAll
-      (with_source (empty_world (codes "admin")) (codes "bench") kinds.List list.nature.kind list.content.holdings) set_up w
+      (with_source (empty_world (codes "admin")) (codes "bench") kinds.List (standing list.nature.kind list.content.holdings)) set_up w

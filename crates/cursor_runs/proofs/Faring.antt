@@ -5,6 +5,7 @@ use Rattle.med_value.specs.declared.cause.Cause.TheVariants.{Protocol, OutOfMemo
 use Rattle.med_syntax.specs.Tree.{Name}
 use Rattle.med_syntax.specs.QueryTree.{select}
 use Rattle.med_syntax.specs.CursorTree.{CursorTree, declare, fetch, close}
+use Rattle.med_syntax.specs.WriteTree.{WriteTree}
 use Rattle.med_catalog.specs.Changes.{ObjectChange, nothing, new_wrapper, new_server, new_mapping, new_table, no_wrapper, no_server, no_mapping, no_table}
 use Rattle.med_parser.specs.CommandTree.{CommandTree, on_data, on_rows, on_cursors, on_objects}
 use Rattle.med_parser.specs.CommandGrammar.{HasCommand}
@@ -14,7 +15,7 @@ use Rattle.sql_meaning.specs.Cursors.{cursor_named, with_cursor, without_cursor,
 use Rattle.sql_meaning.specs.Picks.{Pick}
 use Rattle.sql_meaning.specs.Replies.{Reply, done, reply_text}
 use Rattle.sql_meaning.specs.Causes.{NoneStands, IsStatementOf}
-use Rattle.sql_meaning.specs.Steps.{Trouble, new_cursor, Turns, Changes, TreeDoes, Does, Loses, Step, is_refused, is_done, lacks_memory, fetch_lacks_memory, source_fails, numbers_end}
+use Rattle.sql_meaning.specs.Steps.{Trouble, new_cursor, Turns, Changes, TreeDoes, Does, Loses, WritesIn, is_written, is_unseen, shared_shows, Step, is_refused, is_done, lacks_memory, fetch_lacks_memory, source_fails, numbers_end}
 use Rattle.med_world.proofs.Lists.{some_same, bytes_same, bytes_other, other_bytes}
 use Rattle.session_wire.specs.Frames.{IsFrame}
 use Rattle.session_wire.proofs.UniqueFrames.{one_frame}
@@ -30,7 +31,7 @@ Has w sid name o = (s : Session) × (w.sessions sid ≡ Some s) × (cursor_named
 -- nothing is said of it, and it is as before or gone; it handed out rows; or it ends
 pub data Fares (sid : ℕ) (name : Name) (e : Exchange) (o : Option Cursor) (new : World) : Type 0 where
   passes : (now : Option Cursor) → (now ≡ o) ⊎ (now ≡ None) → PassesBy sid name e → Has new sid name now → Fares sid name e o new
-  gives : (c : Cursor) → o ≡ Some c → (f : Fetched) → GivesRows sid name c.names e f → Fetches c f.asked f.rows
+  gives : (c : Cursor) → o ≡ Some c → (f : Fetched) → GivesRows sid name c.names e f → (c.shared ≡ false → Fetches c f.asked f.rows)
       → Has new sid name (Some (handing c f.rows)) → Fares sid name e o new
   ends : EndsCursor sid name e → Fares sid name e o new
 
@@ -56,7 +57,7 @@ changes_leave w p nothing new h = ap (λ (x : World). x.sessions) h
 changes_leave w p (new_wrapper x) new h = ap (λ (x : World). x.sessions) h
 changes_leave w p (new_server x) new h = ap (λ (x : World). x.sessions) h
 changes_leave w p (new_mapping n x) new h = ap (λ (x : World). x.sessions) h
-changes_leave w p (new_table t) new h = ap (λ (x : World). x.sessions) h.3
+changes_leave w p (new_table t) new h = ap (λ (x : World). x.sessions) h.2
 changes_leave w p (no_wrapper n) new h = ap (λ (x : World). x.sessions) h
 changes_leave w p (no_server n) new h = ap (λ (x : World). x.sessions) h
 changes_leave w p (no_mapping n m) new h = ap (λ (x : World). x.sessions) h
@@ -68,9 +69,13 @@ turns_else w n sid s (declare other (select q)) reply new apart h = ap (λ (x : 
 turns_else w n sid s (fetch asked other) reply new apart h = ap (λ (x : World). x.sessions sid) h.2.3 ∙ set_else w n sid _ apart
 turns_else w n sid s (close other) reply new apart h = ap (λ (x : World). x.sessions sid) h.1 ∙ set_else w n sid _ apart
 
+written_else : (w : World) (sid : ℕ) (p : Pick) (t : WriteTree) (n : ℕ) (new : World) → WritesIn w p t n new → new.sessions sid ≡ w.sessions sid
+written_else w sid p t n new (is_written h) = ap (λ (x : World). x.sessions sid) h.is
+written_else w sid p t n new (is_unseen shares same) = ap (λ (x : World). x.sessions sid) same
+
 tree_else : (w : World) (n sid : ℕ) (s : Session) (p : Pick) (tree : CommandTree) (reply : Reply) (new : World) → n ≢ sid → TreeDoes w n s p tree reply new → new.sessions sid ≡ w.sessions sid
 tree_else w n sid s p (on_data (select q)) reply new apart h = ap (λ (x : World). x.sessions sid) h.1
-tree_else w n sid s p (on_rows t) reply new apart h = ap (λ (x : World). x.sessions sid) h.2.is
+tree_else w n sid s p (on_rows t) reply new apart h = written_else w sid p t h.0 new h.2
 tree_else w n sid s p (on_cursors t) reply new apart h = turns_else w n sid s t reply new apart h
 tree_else w n sid s p (on_objects d) reply new apart h = ap (λ (f : ℕ → Option Session). f sid) (changes_leave w p h.1.0 new h.1.2)
 
@@ -94,6 +99,7 @@ step_else w n sid request t reply new apart (lacks_memory m a takes is same) = a
 step_else w n sid request t reply new apart (fetch_lacks_memory m a s asked name st is same) = ap (λ (x : World). x.sessions sid) same ∙ set_else w n sid _ apart
 step_else w n sid request t reply new apart (source_fails f s tree st none is loses) = loses_else w n sid s tree new apart loses
 step_else w n sid request t reply new apart (numbers_end f s tree st none may is same) = ap (λ (x : World). x.sessions sid) same
+step_else w n sid request t reply new apart (shared_shows s tree c st rests may none is same) = ap (λ (x : World). x.sessions sid) same
 
 -- ---- its own
 
@@ -167,7 +173,7 @@ turns_fare law w new sid name e o query s (close other) reply h at frame has tol
 tree_fares : OneTree → (w new : World) (sid : ℕ) (name : Name) (e : Exchange) (o : Option Cursor) (query : List ℕ) (s : Session) (p : Pick) (tree : CommandTree) (reply : Reply) → Has w sid name o → w.sessions sid ≡ Some s
     → IsFrame e.text sid (sql query) → HasCommand query tree → e.reply ≡ reply_text sid reply → TreeDoes w sid s p tree reply new → Fares sid name e o new
 tree_fares law w new sid name e o query s p (on_data (select q)) reply h at frame has told does = stays w new sid name e o h (ap (λ (x : World). x.sessions sid) does.1) (tree_passes law sid name e query (on_data (select q)) frame has (λ x. x))
-tree_fares law w new sid name e o query s p (on_rows t) reply h at frame has told does = stays w new sid name e o h (ap (λ (x : World). x.sessions sid) does.2.is) (tree_passes law sid name e query (on_rows t) frame has (λ x. x))
+tree_fares law w new sid name e o query s p (on_rows t) reply h at frame has told does = stays w new sid name e o h (written_else w sid p t does.0 new does.2) (tree_passes law sid name e query (on_rows t) frame has (λ x. x))
 tree_fares law w new sid name e o query s p (on_cursors t) reply h at frame has told does = turns_fare law w new sid name e o query s t reply h at frame has told does
 tree_fares law w new sid name e o query s p (on_objects d) reply h at frame has told does =
     stays w new sid name e o h (ap (λ (f : ℕ → Option Session). f sid) (changes_leave w p does.1.0 new does.1.2)) (tree_passes law sid name e query (on_objects d) frame has (λ x. x))
@@ -205,6 +211,8 @@ own_fares law w new sid name e o request t reply h frame told (source_fails f s 
     loses_fares w new sid name e o s tree h (open_in w sid request s tree st) loses (refused_passes sid name e SourceFault (told ∙ ap (reply_text sid) is))
 own_fares law w new sid name e o request t reply h frame told (numbers_end f s tree st none may is same) =
     stays w new sid name e o h (ap (λ (x : World). x.sessions sid) same) (refused_passes sid name e LimitExceeded (told ∙ ap (reply_text sid) is))
+own_fares law w new sid name e o request t reply h frame told (shared_shows s tree c st rests may none is same) =
+    stays w new sid name e o h (ap (λ (x : World). x.sessions sid) same) (refused_passes sid name e c (told ∙ ap (reply_text sid) is))
 
 pub step_fares : OneTree → (w new : World) (sid n : ℕ) (name : Name) (e : Exchange) (o : Option Cursor) (request : AskedLine) (t : Trouble) (reply : Reply) → Has w sid name o → IsFrame e.text n request → e.reply ≡ reply_text n reply
     → Step w n request t reply new → Fares sid name e o new

@@ -1,5 +1,5 @@
 -- A run of lines is a list of lines with their replies, and the FETCHes from a cursor among them give one answer.
-use Rattle.std.proofs.Common.{◌≡◌, ℕ, ◌⊎◌, List, [], ◌∷◌, ◌++◌, Option, Some, None, Contains, refl, ap, sym, ◌∙◌, subst, inl, inr, append_assoc}
+use Rattle.std.proofs.Common.{◌≡◌, ℕ, ◌⊎◌, false, List, [], ◌∷◌, ◌++◌, Option, Some, None, Contains, refl, ap, sym, ◌∙◌, subst, inl, inr, append_assoc}
 use Rattle.med_value.specs.Datum.{Tuple}
 use Rattle.med_syntax.specs.Tree.{Name}
 use Rattle.med_query.specs.Query.{IsAnswer}
@@ -44,11 +44,11 @@ front_list step old closed replies new h = ([], [], h.1, refl, h.0)
 -- those of a cursor that is there, or none
 abbrev pub Gave : Option Cursor → List Fetched → Type 0
 Gave None fs = fs ≡ []
-Gave (Some c) fs = AreFetched c fs
+Gave (Some c) fs = c.shared ≡ false → AreFetched c fs
 
 gave_none : (o : Option Cursor) (fs : List Fetched) → fs ≡ [] → Gave o fs
 gave_none None fs e = e
-gave_none (Some c) fs e = subst (AreFetched c) (sym e) tt
+gave_none (Some c) fs e = λ unshared. subst (AreFetched c) (sym e) tt
 
 -- the output names of a cursor that is there
 abbrev pub AreNames : Option Cursor → List Name → Type 0
@@ -84,7 +84,7 @@ gave law old new sid name names (e ∷ es) o h named x = split (answer_fares law
         let r = others (Some (handing c f.rows)) there same in (
           f ∷ r.0,
           inr (inr (f, r.0, subst (λ (ns : List Name). GivesRows sid name ns e f) same rows, r.1, refl)),
-          subst (λ (p : Option Cursor). Gave p (f ∷ r.0)) (sym is) (fetches, r.2),
+          subst (λ (p : Option Cursor). Gave p (f ∷ r.0)) (sym is) (λ unshared. (fetches unshared, r.2 unshared)),
         )
 
 -- ---- one answer
@@ -104,4 +104,4 @@ pub one_answer : OneTree → TheyJoin → (old new : Scene) (es : List Exchange)
     → old.world.sessions sid ≡ Some s → cursor_named c.name s ≡ Some c → c.handed ≡ [] → GivesOneAnswer sid c es
 one_answer law join old new es sid s c x at found none =
     let r = gave law old new sid c.name c.names es (Some c) (s, at, found) refl x in
-    record { fetched = r.0; are = r.1; begins = begun join c r.0 none r.2; all = λ f has last. join.all c f r.0 none r.2 has last }
+    record { fetched = r.0; are = r.1; begins = λ unshared. begun join c r.0 none (r.2 unshared); all = λ unshared f has last. join.all c f r.0 none (r.2 unshared) has last }

@@ -9,6 +9,7 @@ use Rattle.med_syntax.specs.QueryTree.{EntryTree, SelectTree, select}
 use Rattle.fdw_api.specs.Kinds.{Held}
 use Rattle.write_parts.specs.Meaning.{target_of}
 use Rattle.med_syntax.specs.CursorTree.{CursorTree, declare, fetch, close}
+use Rattle.med_syntax.specs.WriteTree.{WriteTree}
 use Rattle.med_catalog.specs.Objects.{TableObject, Objects}
 use Rattle.med_syntax.specs.DdlTree.{DdlTree, create_wrapper, create_server, create_mapping, create_table, drop_wrapper, drop_server, drop_table, drop_mapping}
 use Rattle.med_catalog.specs.DdlCauses.{DdlCauses, lease_rows, object_rows, ddl_rows}
@@ -22,7 +23,7 @@ use Rattle.sql_meaning.specs.Cursors.{cursor_named, is_cursor, handing}
 use Rattle.sql_meaning.specs.Picks.{Pick}
 use Rattle.sql_meaning.specs.Replies.{Reply}
 use Rattle.sql_meaning.specs.Causes.{NoneStands, TreeCauses}
-use Rattle.sql_meaning.specs.Steps.{Trouble, new_cursor, Turns, Changes, TreeDoes, Does, Loses, Step, is_refused, is_done, lacks_memory, fetch_lacks_memory, source_fails, numbers_end}
+use Rattle.sql_meaning.specs.Steps.{Trouble, new_cursor, Turns, Changes, TreeDoes, Does, Loses, WritesIn, is_written, is_unseen, shared_shows, Step, is_refused, is_done, lacks_memory, fetch_lacks_memory, source_fails, numbers_end}
 use Rattle.med_world.proofs.Lists.{some_same, same_bytes, bytes_same, none_some}
 use Rattle.med_world.proofs.Named.{found_place, place_of, at_place}
 use Rattle.med_world.proofs.Seats.{unleased}
@@ -127,7 +128,7 @@ changes_keep w p nothing new table rows apart h has = subst (λ (x : World). Has
 changes_keep w p (new_wrapper x) new table rows apart h has = subst (λ (x : World). HasRows x table rows) (sym h) has
 changes_keep w p (new_server x) new table rows apart h has = subst (λ (x : World). HasRows x table rows) (sym h) has
 changes_keep w p (new_mapping n x) new table rows apart h has = subst (λ (x : World). HasRows x table rows) (sym h) has
-changes_keep w p (new_table t) new table rows apart h has = subst (λ (x : World). HasRows x table rows) (sym h.3) (one_more table rows h.0.rows t w.catalog.tables w.rows has)
+changes_keep w p (new_table t) new table rows apart h has = subst (λ (x : World). HasRows x table rows) (sym h.2) (one_more table rows h.0 t w.catalog.tables w.rows has)
 changes_keep w p (no_wrapper n) new table rows apart h has = subst (λ (x : World). HasRows x table rows) (sym h) has
 changes_keep w p (no_server n) new table rows apart h has = subst (λ (x : World). HasRows x table rows) (sym h) has
 changes_keep w p (no_mapping n m) new table rows apart h has = subst (λ (x : World). HasRows x table rows) (sym h) has
@@ -138,12 +139,16 @@ turns_keep w sid s (declare name (select q)) reply new table rows h has = subst 
 turns_keep w sid s (fetch asked name) reply new table rows h has = subst (λ (x : World). HasRows x table rows) (sym h.2.3) has
 turns_keep w sid s (close name) reply new table rows h has = subst (λ (x : World). HasRows x table rows) (sym h.1) has
 
+written_keeps : (w : World) (p : Pick) (t : WriteTree) (n : ℕ) (new : World) (table : Name) (rows : List Held) → target_of t ≢ table → WritesIn w p t n new → HasRows w table rows → HasRows new table rows
+written_keeps w p t n new table rows apart (is_written h) has = subst (λ (x : World). HasRows x table rows) (sym h.is) (written table (target_of t) rows h.rows apart w.catalog.tables w.rows has)
+written_keeps w p t n new table rows apart (is_unseen shares same) has = by_same w new table rows same has
+
 tree_keeps : (w : World) (sid : ℕ) (s : Session) (p : Pick) (tree : CommandTree) (reply : Reply) (new : World) (table : Name) (rows : List Held) → is_leased w table ≡ true → ((c : Cause) → TreeCauses w s p tree c → ⊥)
     → TreeDoes w sid s p tree reply new → HasRows w table rows → HasRows new table rows
 tree_keeps w sid s p (on_data (select q)) reply new table rows leased none does has = by_same w new table rows does.1 has
 tree_keeps w sid s p (on_rows t) reply new table rows leased none does has =
     let apart = apart_of w (target_of t) table leased (λ taken. none InUse (inr (inr (inl (inl (refl, taken)))))) in
-    subst (λ (x : World). HasRows x table rows) (sym does.2.is) (written table (target_of t) rows does.2.rows apart w.catalog.tables w.rows has)
+    written_keeps w p t does.0 new table rows apart does.2 has
 tree_keeps w sid s p (on_cursors t) reply new table rows leased none does has = turns_keep w sid s t reply new table rows does has
 tree_keeps w sid s p (on_objects d) reply new table rows leased none does has =
     changes_keep w p does.1.0 new table rows
@@ -172,6 +177,7 @@ step_keeps w new sid request t reply table rows leased (lacks_memory m a takes i
 step_keeps w new sid request t reply table rows leased (fetch_lacks_memory m a s asked name st is same) has = subst (λ (x : World). HasRows x table rows) (sym same) has
 step_keeps w new sid request t reply table rows leased (source_fails f s tree st none is loses) has = loses_keep w sid s tree new table rows loses has
 step_keeps w new sid request t reply table rows leased (numbers_end f s tree st none may is same) has = by_same w new table rows same has
+step_keeps w new sid request t reply table rows leased (shared_shows s tree c st rests may none is same) has = by_same w new table rows same has
 
 answer_keeps : (old new : Scene) (e : Exchange) (table : Name) (rows : List Held) → is_leased old.world table ≡ true → IsAnswered SceneSteps old e.text e.reply new → HasRows old.world table rows → HasRows new.world table rows
 answer_keeps old new e table rows leased (inl k) has = let t = k.3 in step_keeps old.world new.world k.0 k.1 t.0 t.3.0 table rows leased t.3.2 has
@@ -223,6 +229,7 @@ declaring_keeps law w new sid name q query request t reply table rows asks comma
 declaring_keeps law w new sid name q query request t reply table rows asks command (fetch_lacks_memory m a s asked other st is same) has = subst (λ (x : World). HasRows x table rows) (sym same) has
 declaring_keeps law w new sid name q query request t reply table rows asks command (source_fails f s tree st none is loses) has = loses_keep w sid s tree new table rows loses has
 declaring_keeps law w new sid name q query request t reply table rows asks command (numbers_end f s tree st none may is same) has = by_same w new table rows same has
+declaring_keeps law w new sid name q query request t reply table rows asks command (shared_shows s tree c st rests may none is same) has = by_same w new table rows same has
 declaring_keeps law w new sid name q query request t reply table rows asks command (is_done p pick none does) has =
     let d = subst (λ (r : AskedLine). Does w sid p r reply new) asks does in
     let same : d.1 ≡ on_cursors (declare name (select q)) = law query d.1 (on_cursors (declare name (select q))) d.2.1 command in

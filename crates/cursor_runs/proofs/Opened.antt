@@ -11,7 +11,7 @@ use Rattle.sql_meaning.specs.World.{World, Cursor}
 use Rattle.sql_meaning.specs.Cursors.{cursor_named, with_cursor}
 use Rattle.sql_meaning.specs.Replies.{Reply, done, reply_text}
 use Rattle.sql_meaning.specs.Causes.{NoneStands, exists}
-use Rattle.sql_meaning.specs.Steps.{Trouble, new_cursor, Turns, TreeDoes, Does, Step, is_refused, is_done, lacks_memory, fetch_lacks_memory, source_fails, numbers_end}
+use Rattle.sql_meaning.specs.Steps.{Trouble, new_cursor, Turns, TreeDoes, Does, shared_shows, Step, is_refused, is_done, lacks_memory, fetch_lacks_memory, source_fails, numbers_end}
 use Rattle.med_world.proofs.Lists.{same_bytes}
 use Rattle.session_wire.specs.Run.{IsAnswered}
 use Rattle.session_wire.specs.Worlds.{Scene, SceneSteps}
@@ -36,6 +36,7 @@ opened law w new sid name q query request t reply asks has told (lacks_memory m 
 opened law w new sid name q query request t reply asks has told (fetch_lacks_memory m a s asked other st is same) = absurd (done_refused sid (codes "DECLARE CURSOR") OutOfMemory (sym (ap (reply_text sid) is) ∙ told))
 opened law w new sid name q query request t reply asks has told (source_fails f s tree st none is loses) = absurd (done_refused sid (codes "DECLARE CURSOR") SourceFault (sym (ap (reply_text sid) is) ∙ told))
 opened law w new sid name q query request t reply asks has told (numbers_end f s tree st none may is same) = absurd (done_refused sid (codes "DECLARE CURSOR") LimitExceeded (sym (ap (reply_text sid) is) ∙ told))
+opened law w new sid name q query request t reply asks has told (shared_shows s tree c st rests may none is same) = absurd (done_refused sid (codes "DECLARE CURSOR") c (sym (ap (reply_text sid) is) ∙ told))
 opened law w new sid name q query request t reply asks has told (is_done p pick none does) =
     let d = subst (λ (r : AskedLine). Does w sid p r reply new) asks does in
     let free = subst (λ (r : AskedLine). NoneStands w sid p r) asks none in

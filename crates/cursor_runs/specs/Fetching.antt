@@ -1,5 +1,5 @@
 -- What lines and their replies say of one session's cursor of one name.
-use Rattle.std.specs.Prelude.{◌≡◌, ◌⊎◌, ℕ, List, [], ◌∷◌, ◌++◌, codes, Contains}
+use Rattle.std.specs.Prelude.{◌≡◌, ◌⊎◌, ℕ, false, List, [], ◌∷◌, ◌++◌, codes, Contains}
 use Rattle.med_value.specs.Datum.{Tuple}
 use Rattle.med_value.specs.declared.cause.Cause.{Cause}
 use Rattle.med_syntax.specs.Tree.{Name}
@@ -51,9 +51,12 @@ AreFetchesOf sid name names (e ∷ es) fs =
     × (fs ≡ f ∷ others)))
 
 -- All rows that FETCHes from the session's cursor gave in these lines, joined, begin one answer to its query over its tables as they stood
--- at DECLARE; and are all of it once one FETCH gave fewer rows than it was asked for, or was asked for ALL.
+-- at DECLARE; and are all of it once one FETCH gave fewer rows than it was asked for, or was asked for ALL. Of a cursor that reads a shared
+-- source no row is known.
 pub record GivesOneAnswer (sid : ℕ) (c : Cursor) (es : List Exchange) : Type 0 where
   pub fetched : List Fetched
   pub are : AreFetchesOf sid c.name c.names es fetched
-  pub begins : (fetched ≡ []) ⊎ ((left : List Tuple) × IsAnswer c.query (rows_leased c.reads) (rows_fetched fetched ++ left))
-  pub all : (f : Fetched) → Contains fetched f → IsLast f.asked f.rows → IsAnswer c.query (rows_leased c.reads) (rows_fetched fetched)
+  pub begins : c.shared ≡ false
+      → (fetched ≡ []) ⊎ ((left : List Tuple) × IsAnswer c.query (rows_leased c.reads) (rows_fetched fetched ++ left))
+  pub all : c.shared ≡ false → (f : Fetched) → Contains fetched f → IsLast f.asked f.rows
+      → IsAnswer c.query (rows_leased c.reads) (rows_fetched fetched)

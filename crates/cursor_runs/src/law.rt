@@ -18,8 +18,9 @@ ghost use Rattle.cursor_runs.specs.Runs.{KeepsCursors};
 use med_parser::one_tree;
 use med_world::law::fetches_join;
 
-/// Among the lines of any sessions, the FETCHes from one session's cursor give one answer: from a scene in which the session has the cursor
-/// and it has handed nothing out, and from a DECLARE on that was done. Writes, statements on objects and other cursors may stand between.
+/// Among the lines of any sessions, the FETCHes from one session's cursor give one answer, where it reads no shared source: from a scene in
+/// which the session has the cursor and it has handed nothing out, and from a DECLARE on that was done. Writes, statements on objects and
+/// other cursors may stand between.
 pub fn fetches_give_one_answer()
     ensures open { (old new : Scene) (es : List Exchange) (sid : ℕ) (s : Session) (c : Cursor) → Exchanged SceneSteps old es new
         → old.world.sessions sid ≡ Some s → cursor_named c.name s ≡ Some c → c.handed ≡ [] → GivesOneAnswer sid c es }
@@ -43,9 +44,9 @@ pub fn leased_tables_stay()
 
 /// The law of leases: a run of the lines of all sessions is a list of lines with their replies, whose replies joined are those of the run;
 /// and at each DECLARE in it that was done, the rows that the FETCHes from its cursor gave, joined, begin one answer over the tables as
-/// they stood there, and are all of it once one FETCH gave fewer rows than it was asked for; and as long as the cursor is open, behind
-/// each line these tables have the rows that it reads. This holds of each list of lines with their replies that leads from scene to scene,
-/// whichever it is.
+/// they stood there, and are all of it once one FETCH gave fewer rows than it was asked for, where it reads no shared source; and as long
+/// as the cursor is open, behind each line these tables have the rows that it reads. This holds of each list of lines with their replies
+/// that leads from scene to scene, whichever it is.
 pub fn cursors_keep_their_tables()
     ensures each { (old new : Scene) (es : List Exchange) → Exchanged SceneSteps old es new → KeepsCursors old es new }
     ensures run { (old new : Scene) (lines : Lines) (replies : List ℕ) → Run SceneSteps SceneEnds old lines replies new
